@@ -1,0 +1,23 @@
+//! What every other crate speaks of: the numbers, names, plans and events of a run of locks, their
+//! limits, and in `specs/` the definitions that the contracts cite.
+//!
+//! - `numbers`: threads, locks, channels, classes and priorities.
+//! - `name`: the names that a script gives to them.
+//! - `sequence`: a list, as it stands in the types below.
+//! - `plan`: what a script says: locks, channels, threads with their operations, and a schedule.
+//! - `event`: what happened in a run, and why something was refused.
+//! - `limits`: the most of each.
+#![tactic(auto)]
+
+mod event;
+pub mod limits;
+mod name;
+mod numbers;
+mod plan;
+mod sequence;
+
+pub use event::{Busy, Entry, Event, Halted, Held, Refused, Reversal};
+pub use name::Name;
+pub use numbers::{ChanNo, ClassNo, LockNo, Prio, ThreadNo};
+pub use plan::{ChanDecl, Kind, LockDecl, Mode, Op, Plan, QueueName, Side, ThreadDecl};
+pub use sequence::Sequence;

@@ -1,0 +1,88 @@
+//! What a script says: its classes, locks and channels, its threads with their operations, and whose
+//! turns the scheduled run begins with.
+
+use crate::name::Name;
+use crate::numbers::{ChanNo, ClassNo, LockNo, Prio, ThreadNo};
+use crate::sequence::Sequence;
+
+/// The kind of a lock: a mutex (mutex(9)), a reader-writer lock (rwlock(9)) or a shared/exclusive lock
+/// (sx(9)).
+#[derive(Clone, Copy, Debug, PartialEq, Eq, Hash)]
+pub enum Kind {
+    Mtx,
+    Rw,
+    Sx,
+}
+
+/// How a lock is held or wanted. A mutex is held exclusively alone.
+#[derive(Clone, Copy, Debug, PartialEq, Eq, Hash)]
+pub enum Mode {
+    Excl,
+    Shared,
+}
+
+/// A side of a queue. Exclusive waiters wait on X and shared ones on S.
+#[derive(Clone, Copy, Debug, PartialEq, Eq, Hash)]
+pub enum Side {
+    X,
+    S,
+}
+
+/// What a queue of waiters belongs to: a lock, or a condition variable or channel.
+#[derive(Clone, Copy, Debug, PartialEq, Eq, Hash)]
+pub enum QueueName {
+    Lock(LockNo),
+    Chan(ChanNo),
+}
+
+/// A lock.
+#[derive(Clone, Copy, Debug)]
+pub struct LockDecl {
+    pub name: Name,
+    pub kind: Kind,
+    pub class: ClassNo,
+}
+
+/// A condition variable, where `cond` holds, or else a channel of msleep, with its lock.
+#[derive(Clone, Copy, Debug)]
+pub struct ChanDecl {
+    pub name: Name,
+    pub cond: bool,
+    pub lock: LockNo,
+}
+
+/// A thread: its base priority and its operations in order.
+#[derive(Drop, Debug)]
+pub struct ThreadDecl {
+    pub name: Name,
+    pub base: Prio,
+    pub ops: Sequence<Op>,
+}
+
+/// What a script says.
+#[derive(Drop, Debug)]
+pub struct Plan {
+    pub classes: Sequence<Name>,
+    pub locks: Sequence<LockDecl>,
+    pub chans: Sequence<ChanDecl>,
+    pub threads: Sequence<ThreadDecl>,
+    pub schedule: Sequence<ThreadNo>,
+}
+
+/// An operation of a thread. The past of a `Try` is the place behind the matching `EndTry`: there the
+/// thread goes on where the try fails.
+#[derive(Clone, Copy, Debug, PartialEq, Eq, Hash)]
+pub enum Op {
+    Take { l: LockNo, mode: Mode },
+    Try { l: LockNo, mode: Mode, past: u32 },
+    EndTry,
+    Release { l: LockNo },
+    Set { l: LockNo, key: u64, value: u64 },
+    Add { l: LockNo, key: u64, amount: u64 },
+    Get { l: LockNo, key: u64 },
+    Base { prio: Prio },
+    Show,
+    Sleep { c: ChanNo },
+    WakeOne { c: ChanNo },
+    WakeAll { c: ChanNo },
+}
