@@ -5,7 +5,8 @@ ghost use Rattle.std.specs.Cmp.Lexicographic.{pointwise, nat_list_eq_equiv};
 ghost use Rattle.std.specs.Cmp.{partial_equiv_from_equiv};
 ghost use Rattle.std.specs.Cmp.Rules.{hashing};
 ghost use Rattle.std.proofs.Common.{rules};
-ghost use Rattle.lock_model.specs.Names.{is_name, is_letter, is_name_byte};
+ghost use Rattle.std.specs.List.{list_all};
+ghost use Rattle.lock_model.specs.Names.{is_name, is_name_byte};
 
 use std::hash::{Hash, Hasher};
 use std::marker::Model;
@@ -67,10 +68,15 @@ fn is_spelling(bytes: &[u8]) -> bool
     match bytes.split_first() {
         None => false,
         Some((first, rest)) => {
-            let long = rest.len() >= NAME_BYTES;
-            !long && first.is_ascii_lowercase() && rest.iter().all(|b| is_name_byte(*b))
+            rest.len() < NAME_BYTES && first.is_ascii_lowercase() && are_name_bytes(rest)
         }
     }
+}
+
+fn are_name_bytes(bytes: &[u8]) -> bool
+    ensures { result ≡ list_all is_name_byte bytes.now }
+{
+    bytes.iter().all(|b| is_name_byte(*b))
 }
 
 fn is_name_byte(b: u8) -> bool
