@@ -1,9 +1,8 @@
 -- What `Name::of` makes is spelled as the bytes that it was given.
-use Rattle.std.proofs.Common.{◌≡◌, ℕ, ◌-◌, ◌+◌, ◌≤◌, ◌<◌, length, List, [], ◌∷◌, ◌++◌, take, drop, replicate, refl, Bool, true, false, IsTrue, ap, ◌∙◌, sym, arith, subst}
+use Rattle.std.proofs.Common.{◌≡◌, ℕ, ◌-◌, ◌+◌, ◌≤◌, length, List, [], ◌∷◌, ◌++◌, take, drop, replicate, refl, true, IsTrue, ap, ◌∙◌, sym, arith, subst}
 use Rattle.std.proofs.lemmas.List.{take_at, drop-replicate, length-replicate}
 use Rattle.lock_model.specs.Names.{is_name}
 use Rattle.lock_model.specs.Spelling.{IsSpelled}
-use Rattle.lock_model.specs.declared.name.Name.TheInside.{Inside}
 use Rattle.std.proofs.Common.{length-append}
 use Rattle.std.proofs.lemmas.Bool.Decides.{nat_tests}
 

@@ -1,2 +1,4 @@
 pub mod Names
 pub mod Spelling
+pub mod Words
+pub mod State

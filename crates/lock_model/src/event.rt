@@ -9,22 +9,68 @@ use crate::plan::Mode;
 /// queue. The held of a `Reversed` is the class of a held lock that forbids the lock that was wanted.
 #[derive(Clone, Copy, Debug, PartialEq, Eq, Hash)]
 pub enum Event {
-    Locked { l: LockNo, mode: Mode },
-    Tried { l: LockNo, mode: Mode },
-    Busy { l: LockNo, seen: u64 },
-    Unlocked { l: LockNo, mode: Mode },
-    Set { l: LockNo, key: u64, value: u64 },
-    Added { l: LockNo, key: u64, amount: u64 },
-    Got { l: LockNo, key: u64, found: Option<u64> },
-    Base { prio: Prio },
-    Shown { base: Prio, eff: Prio },
-    Sleeps { c: ChanNo },
-    Woke { c: ChanNo },
-    HaltedChan { c: ChanNo },
-    HaltedLock { l: LockNo },
-    WokeOne { c: ChanNo, woken: u64 },
-    WokeAll { c: ChanNo, woken: u64 },
-    Reversed { l: LockNo, held: ClassNo },
+    Locked {
+        l: LockNo,
+        mode: Mode,
+    },
+    Tried {
+        l: LockNo,
+        mode: Mode,
+    },
+    Busy {
+        l: LockNo,
+        seen: u64,
+    },
+    Unlocked {
+        l: LockNo,
+        mode: Mode,
+    },
+    Set {
+        l: LockNo,
+        key: u64,
+        value: u64,
+    },
+    Added {
+        l: LockNo,
+        key: u64,
+        amount: u64,
+    },
+    Got {
+        l: LockNo,
+        key: u64,
+        found: Option<u64>,
+    },
+    Base {
+        prio: Prio,
+    },
+    Shown {
+        base: Prio,
+        eff: Prio,
+    },
+    Sleeps {
+        c: ChanNo,
+    },
+    Woke {
+        c: ChanNo,
+    },
+    HaltedChan {
+        c: ChanNo,
+    },
+    HaltedLock {
+        l: LockNo,
+    },
+    WokeOne {
+        c: ChanNo,
+        woken: u64,
+    },
+    WokeAll {
+        c: ChanNo,
+        woken: u64,
+    },
+    Reversed {
+        l: LockNo,
+        held: ClassNo,
+    },
 }
 
 /// An event of a thread, with its ticket: its place in the one history of all threads, from 0.

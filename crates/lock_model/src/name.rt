@@ -8,10 +8,9 @@ ghost use Rattle.std.proofs.Common.{rules};
 ghost use Rattle.std.specs.List.{list_all};
 ghost use Rattle.lock_model.specs.Names.{is_name, is_name_byte};
 
+use crate::limits::NAME_BYTES;
 use std::hash::{Hash, Hasher};
 use std::marker::Model;
-
-use crate::limits::NAME_BYTES;
 
 /// A name: 1 to 16 bytes out of `a` to `z`, `0` to `9` and `_`, the first a letter.
 #[derive(Clone, Copy, Debug)]

@@ -1,7 +1,6 @@
-use Rattle.std.proofs.Common.{◌≡◌, ℕ, ◌≤◌, length, ◌++◌, arith, List, drop, replicate, refl, IsTrue, true, ap, ◌∙◌, sym, subst}
+use Rattle.std.proofs.Common.{◌≡◌, ℕ, length, ◌++◌, List, drop, replicate, true, ◌∙◌, sym, subst}
 use Rattle.lock_model.specs.Names.{is_name}
 use Rattle.lock_model.specs.Spelling.{IsSpelled}
-use Rattle.lock_model.specs.declared.name.Name.TheInside.{Inside}
 use Rattle.lock_model.proofs.Spelled.{spelled_by, length-spelling}
 use Rattle.lock_model.proofs.name.Name.of.Goals as goal
 

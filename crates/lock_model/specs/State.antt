@@ -1,0 +1,201 @@
+-- The state of a run as plain data: a column for each thing that a lock, a queue, a thread or a table has. Between two steps
+-- this is all there is to know. Columns range over all numbers; out of a plan's range they stay as they began.
+use Rattle.std.specs.Prelude.{ℕ, Bool, true, false, ◌&&◌, ◌==◌, if◌then◌else◌, List, [], Option, Some, None}
+use Rattle.lock_model.specs.Words.{Word, free_word}
+use Rattle.lock_model.specs.declared.plan.Kind.{Kind}
+use Rattle.lock_model.specs.declared.plan.Mode.{Mode}
+use Rattle.lock_model.specs.declared.plan.QueueName.{QueueName}
+use Rattle.lock_model.specs.declared.plan.QueueName.TheVariants.{Lock, Chan}
+use Rattle.lock_model.specs.declared.event.Entry.{Entry}
+
+-- why a waiter was taken off its queue
+pub data Cause : Type 0 where
+  BySignal : Cause
+  ByAbort : Cause
+
+-- what a thread's wait word says
+pub data Wait : Type 0 where
+  Running : Wait
+  Queued : Wait
+  Woken : QueueName → Cause → Wait
+
+-- a thread on a queue, and the priority by which the queue keeps it
+pub record Waiter : Type 0 where
+  pub thread : ℕ
+  pub kept : ℕ
+
+-- the two lists of a queue, each from its front
+pub record Lists : Type 0 where
+  pub exclusive : List Waiter
+  pub shared : List Waiter
+
+-- a thread that was taken off a queue and is still to be woken, with the turnstile or sleep queue that it takes back
+pub record Mark : Type 0 where
+  pub thread : ℕ
+  pub object : ℕ
+  pub queue : QueueName
+  pub cause : Cause
+
+-- where a thread's lending walk stands
+pub data Walk : Type 0 where
+  NoWalk : Walk
+  AtLock : ℕ → Walk
+  AtThread : ℕ → Walk
+
+-- a priority that a lock's waiters lend to its owner, with the number of the node that carries it
+pub record Loan : Type 0 where
+  pub number : ℕ
+  pub prio : ℕ
+
+pub data Hold : Type 0 where
+  NotHeld : Hold
+  Holds : Mode → Hold
+
+-- what a thread's last look at a lock saw
+pub record Look : Type 0 where
+  pub lock : ℕ
+  pub word : Word
+
+-- what a thread was answered and has yet to note in its log: its order was refused for a held class, or its sleep was ended
+pub data Note : Type 0 where
+  IsRefused : ℕ → Note
+  IsHalted : Note
+
+-- sleepers that a thread took off a channel and has yet to note in its log
+pub record Wake : Type 0 where
+  pub chan : ℕ
+  pub all : Bool
+  pub taken : List ℕ
+
+-- what a plan fixes: how many there are of each, and each lock's kind and class and each channel's lock
+pub record Config : Type 0 where
+  pub threads : ℕ
+  pub locks : ℕ
+  pub chans : ℕ
+  pub chains : ℕ
+  pub kind : ℕ → Kind
+  pub class : ℕ → ℕ
+  pub chan_lock : ℕ → ℕ
+  pub declared_base : ℕ → ℕ
+
+pub record State : Type 0 where
+  -- by lock: its word
+  pub word : ℕ → Word
+  -- by queue: its lists, its free list, its head and the head's owner. The queues of mutexes and rw locks are turnstiles, the others sleep queues
+  pub lists : QueueName → Lists
+  pub free_list : QueueName → List ℕ
+  pub head : QueueName → Option ℕ
+  pub owner : QueueName → Option ℕ
+  -- by thread: its record
+  pub base : ℕ → ℕ
+  pub effective : ℕ → ℕ
+  pub turnstile : ℕ → Option ℕ
+  pub sleep_queue : ℕ → Option ℕ
+  pub loan : ℕ → ℕ → Option Loan
+  pub named : ℕ → Option QueueName
+  -- by turnstile: whether its loan node is at home
+  pub loan_home : ℕ → Bool
+  -- by thread: its wait word
+  pub wait : ℕ → Wait
+  -- by thread: its share
+  pub held : ℕ → ℕ → Hold
+  pub wanted : ℕ → Option ℕ
+  pub called : ℕ → Option ℕ
+  pub walk : ℕ → Walk
+  pub marked : ℕ → List Mark
+  pub looks : ℕ → ℕ
+  pub looks_in_all : ℕ → ℕ
+  pub last_look : ℕ → Option Look
+  pub noted : ℕ → Option Note
+  pub unstamped : ℕ → Option Wake
+  pub counted_out : ℕ → ℕ
+  pub is_finder : ℕ → Bool
+  pub counted_in : ℕ → ℕ → ℕ
+  pub counted_first : ℕ → Bool
+  pub parked : ℕ → Bool
+  pub has_ended : ℕ → Bool
+  pub log : ℕ → List Entry
+  -- by thread and lock: whether a section of the lock began in the log since the thread gained it
+  pub has_begun : ℕ → ℕ → Bool
+  -- what is out, each by the thread that has it: turnstile chains, sleep chains, records, table cells and the class graph
+  pub turnstile_chain_with : ℕ → Option ℕ
+  pub sleep_chain_with : ℕ → Option ℕ
+  pub record_with : ℕ → Option ℕ
+  pub cell_with : ℕ → ℕ → Option ℕ
+  pub graph_with : Option ℕ
+  -- by lock and key: its table
+  pub table : ℕ → ℕ → Option ℕ
+  -- the next ticket, and the entries of all logs, the newest first
+  pub next : ℕ
+  pub history : List Entry
+  -- the edges of the class graph, the awake and the ended count, and the halt word
+  pub edges : List (ℕ × ℕ)
+  pub awake : ℕ
+  pub ended : ℕ
+  pub halted : Bool
+
+-- the column f with v at the place i
+unfoldable pub put : {A : Type 0} → (ℕ → A) → ℕ → A → ℕ → A
+put f i v j = if i == j then v else f j
+
+-- the same for a column with two places
+unfoldable pub put_at : {A : Type 0} → (ℕ → ℕ → A) → ℕ → ℕ → A → ℕ → ℕ → A
+put_at f i k v j l = if (i == j) && (k == l) then v else f j l
+
+abbrev pub is_queue : QueueName → QueueName → Bool
+is_queue (Lock l) (Lock k) = l.0 == k.0
+is_queue (Chan c) (Chan d) = c.0 == d.0
+is_queue (Lock l) (Chan d) = false
+is_queue (Chan c) (Lock k) = false
+
+-- the same for a column by queue
+unfoldable pub put_queue : {A : Type 0} → (QueueName → A) → QueueName → A → QueueName → A
+put_queue f q v r = if is_queue q r then v else f r
+
+-- how a run of a plan begins: every object at home, all locks free, all threads running and awake, no entry and empty tables
+unfoldable pub start_state : Config → State
+start_state c = record {
+  word = λ l. free_word;
+  lists = λ q. record { exclusive = []; shared = [] };
+  free_list = λ q. [];
+  head = λ q. None;
+  owner = λ q. None;
+  base = c.declared_base;
+  effective = c.declared_base;
+  turnstile = λ t. Some t;
+  sleep_queue = λ t. Some t;
+  loan = λ t l. None;
+  named = λ t. None;
+  loan_home = λ n. true;
+  wait = λ t. Running;
+  held = λ t l. NotHeld;
+  wanted = λ t. None;
+  called = λ t. None;
+  walk = λ t. NoWalk;
+  marked = λ t. [];
+  looks = λ t. 0;
+  looks_in_all = λ t. 0;
+  last_look = λ t. None;
+  noted = λ t. None;
+  unstamped = λ t. None;
+  counted_out = λ t. 0;
+  is_finder = λ t. false;
+  counted_in = λ t u. 0;
+  counted_first = λ t. false;
+  parked = λ t. false;
+  has_ended = λ t. false;
+  log = λ t. [];
+  has_begun = λ t l. false;
+  turnstile_chain_with = λ k. None;
+  sleep_chain_with = λ k. None;
+  record_with = λ t. None;
+  cell_with = λ l k. None;
+  graph_with = None;
+  table = λ l k. None;
+  next = 0;
+  history = [];
+  edges = [];
+  awake = c.threads;
+  ended = 0;
+  halted = false;
+}
