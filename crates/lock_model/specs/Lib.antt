@@ -2,3 +2,4 @@ pub mod Names
 pub mod Spelling
 pub mod Words
 pub mod State
+pub mod Script

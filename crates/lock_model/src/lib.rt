@@ -19,5 +19,5 @@ mod sequence;
 pub use event::{Busy, Entry, Event, Halted, Held, Refused, Reversal};
 pub use name::Name;
 pub use numbers::{ChanNo, ClassNo, LockNo, Prio, ThreadNo};
-pub use plan::{ChanDecl, Kind, LockDecl, Mode, Op, Plan, QueueName, Side, ThreadDecl};
+pub use plan::{ChanDecl, Declared, Kind, LockDecl, Mode, Op, Plan, QueueName, Side, ThreadDecl};
 pub use sequence::Sequence;

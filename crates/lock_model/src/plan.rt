@@ -35,6 +35,14 @@ pub enum QueueName {
     Chan(ChanNo),
 }
 
+/// What a name of a script stands for. Locks, channels and threads share one set of names.
+#[derive(Clone, Copy, Debug, PartialEq, Eq, Hash)]
+pub enum Declared {
+    Lock(LockNo),
+    Chan(ChanNo),
+    Thread(ThreadNo),
+}
+
 /// A lock.
 #[derive(Clone, Copy, Debug)]
 pub struct LockDecl {
