@@ -3,3 +3,4 @@ pub mod Spelling
 pub mod Words
 pub mod State
 pub mod Script
+pub mod Text
