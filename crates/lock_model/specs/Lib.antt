@@ -1,6 +1,12 @@
 pub mod Names
 pub mod Spelling
-pub mod Words
-pub mod State
+pub mod Plans
 pub mod Script
+pub mod Words
+pub mod Counts
+pub mod State
+pub mod History
+pub mod Moves
+pub mod Facts
 pub mod Text
+pub mod Run

@@ -114,6 +114,7 @@ pub record State : Type 0 where
   pub counted_first : ℕ → Bool
   pub parked : ℕ → Bool
   pub has_ended : ℕ → Bool
+  -- its log, the newest entry first
   pub log : ℕ → List Entry
   -- by thread and lock: whether a section of the lock began in the log since the thread gained it
   pub has_begun : ℕ → ℕ → Bool

@@ -1,8 +1,9 @@
 -- The text that a run prints: a line for each entry of the history, for each thread and for each key of the tables, and a last line
 -- that says how the run ended. A line is its words with one space between them, and byte 10. Numbers are decimal, and the words
 -- are those of the script.
-use Rattle.std.specs.Prelude.{ℕ, ◌/◌, ◌%◌, ◌==◌, Bool, true, if◌then◌else◌, List, [], ◌∷◌, ◌++◌, map, flat_map, codes, slice_get, unwrap_or, Option, Some, None, decimal}
+use Rattle.std.specs.Prelude.{ℕ, ◌/◌, ◌%◌, ◌==◌, if◌then◌else◌, List, [], ◌∷◌, ◌++◌, map, flat_map, codes, Option, Some, None, decimal}
 use Rattle.std.specs.List.{zip}
+pub use Rattle.lock_model.specs.Plans.{thread_name, lock_name, lock_kind, chan_name, is_cond, class_name}
 use Rattle.lock_model.specs.declared.plan.Kind.{Kind}
 use Rattle.lock_model.specs.declared.plan.Kind.TheVariants.{Mtx, Rw, Sx}
 use Rattle.lock_model.specs.declared.plan.Mode.{Mode}
@@ -12,27 +13,7 @@ use Rattle.lock_model.specs.declared.event.Entry.{Entry}
 use Rattle.lock_model.specs.declared.event.Event.{Event}
 use Rattle.lock_model.specs.declared.event.Event.TheVariants.{Locked, Tried, Busy, Unlocked, Set, Added, Got, Base, Shown, Sleeps, Woke, HaltedChan, HaltedLock, WokeOne, WokeAll, Reversed}
 
--- 1. Names
-
-abbrev pub thread_name : Plan → ℕ → List ℕ
-thread_name plan t = unwrap_or (slice_get (map (λ d. d.name) plan.threads) t) []
-
-abbrev pub lock_name : Plan → ℕ → List ℕ
-lock_name plan l = unwrap_or (slice_get (map (λ d. d.name) plan.locks) l) []
-
-abbrev pub lock_kind : Plan → ℕ → Kind
-lock_kind plan l = unwrap_or (slice_get (map (λ d. d.kind) plan.locks) l) Mtx
-
-abbrev pub chan_name : Plan → ℕ → List ℕ
-chan_name plan c = unwrap_or (slice_get (map (λ d. d.name) plan.chans) c) []
-
-abbrev pub is_cond : Plan → ℕ → Bool
-is_cond plan c = unwrap_or (slice_get (map (λ d. d.cond) plan.chans) c) true
-
-abbrev pub class_name : Plan → ℕ → List ℕ
-class_name plan k = unwrap_or (slice_get plan.classes k) []
-
--- 2. Words of an event
+-- 1. Words of an event
 
 -- how the words of a kind and mode begin: lock, rlock, wlock, slock, xlock
 abbrev pub mode_letter : Kind → Mode → List ℕ
@@ -81,7 +62,7 @@ event_words plan (WokeOne c woken) = chan_word plan c.0 (codes "signal") (codes 
 event_words plan (WokeAll c woken) = chan_word plan c.0 (codes "broadcast") (codes "wakeup") ∷ chan_name plan c.0 ∷ woken_words plan woken
 event_words plan (Reversed l held) = codes "reversed" ∷ lock_name plan l.0 ∷ class_name plan held.0 ∷ []
 
--- 3. Lines
+-- 2. Lines
 
 -- words, each behind a space
 abbrev pub spaced : List (List ℕ) → List ℕ
@@ -102,7 +83,7 @@ thread_line t = line_of (codes "thread") (t.0 ∷ codes "base" ∷ decimal t.1.0
 abbrev pub table_line : Plan → (ℕ × ℕ) × ℕ → List ℕ
 table_line plan row = line_of (codes "table") (lock_name plan row.0.0 ∷ decimal row.0.1 ∷ decimal row.1 ∷ [])
 
--- 4. The whole text
+-- 3. The whole text
 
 -- how a run ended: every thread has ended, nobody could go on, an order was refused, or the turns were used up
 pub data Ending : Type 0 where

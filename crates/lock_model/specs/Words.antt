@@ -76,8 +76,20 @@ is_owned Free = false
 is_owned (HeldBy t) = true
 is_owned (SharedBy n) = false
 
+-- the thread that holds the lock exclusively
+abbrev pub owner_of : Holder → Option ℕ
+owner_of Free = None
+owner_of (HeldBy t) = Some t
+owner_of (SharedBy n) = None
+
 abbrev pub shows_waiters : Word → Bool
 shows_waiters w = w.exclusive_waiters || w.shared_waiters
+
+-- threads that wait for a mutex or an rw lock block on a turnstile, and those for an sx lock on a sleep queue
+abbrev pub is_turnstile : Kind → Bool
+is_turnstile Mtx = true
+is_turnstile Rw = true
+is_turnstile Sx = false
 
 -- Whether a thread may gain the lock in the mode. An exclusive gain needs a free word. A shared one needs a word that isn't held
 -- exclusively, and readers of an rw lock go behind its shown writers. A mutex is never shared.
@@ -86,6 +98,13 @@ admits kind w Excl = is_free w.holder
 admits Mtx w Shared = false
 admits Rw w Shared = not (is_owned w.holder) && (is_free w.holder || not w.exclusive_waiters)
 admits Sx w Shared = not (is_owned w.holder)
+
+-- An exclusive gain of a mutex or an rw lock needs a word that shows no waiters: where it shows some, the gain is a claim. Any other
+-- gain keeps the waiters' bits.
+abbrev pub is_plain : Kind → Word → Mode → Bool
+is_plain kind w Shared = true
+is_plain Sx w Excl = true
+is_plain kind w Excl = not (shows_waiters w)
 
 -- 4. What a word becomes
 
