@@ -3,7 +3,7 @@ use Rattle.std.specs.Prelude.{◌≡◌, ◌≢◌, ℕ, ◌+◌, ◌<◌, ◌�
 use Rattle.std.specs.BTreeMap.{insert_entry}
 use Rattle.std.specs.FinMap.{entries}
 use Rattle.lock_model.specs.Words.{Word, word_of, free_word, gained, dropped}
-use Rattle.lock_model.specs.State.{State, Holds}
+use Rattle.lock_model.specs.State.{Config, State}
 use Rattle.lock_model.specs.History.{place_cmp, tables_of}
 use Rattle.lock_model.specs.declared.numbers.ThreadNo.{ThreadNo}
 use Rattle.lock_model.specs.declared.plan.Mode.TheVariants.{Excl}
@@ -51,7 +51,8 @@ Makes old t (Set l key value) new = SameWords old new × Notes old new t (event.
 Makes old t other new = Unit {0}
 
 -- the world's fields are the state's words, its history from the oldest entry, and the tables that this history leaves
-pub record Shows (w : World) (s : State) : Type 0 where
+pub record Shows (c : Config) (w : World) (s : State) : Type 0 where
+  pub size : length w.words.items ≡ c.locks
   pub word : (l : ℕ) → word_at w l ≡ s.word l
   pub history : w.history.items ≡ reverse s.history
   pub next : s.next ≡ length w.history.items
