@@ -1,6 +1,7 @@
 -- What a reader has made known, and how it goes on.
-use Rattle.std.specs.Prelude.{◌≡◌, ℕ, Option, Some, None, option_map, Result, Ok, Err}
+use Rattle.std.specs.Prelude.{◌≡◌, ℕ, List, [], ◌∷◌, ◌++◌, Option, Some, None, option_map, Result, Ok, Err}
 use Rattle.lock_model.specs.Script as script
+use Rattle.lock_model.specs.declared.plan.Declared.{Declared}
 use Rattle.lock_model.specs.Script.{Known}
 use Rattle.script_read.specs.declared.fault.ReadError.{ReadError}
 use Rattle.script_read.specs.declared.fault.ReadError.TheVariants.{Script, Memory}
@@ -23,6 +24,10 @@ known r = record {
   operations = r.operations;
   is_done = r.is_done;
 }
+
+-- with a name declared
+abbrev pub with_name : Known → List ℕ → Declared → Known
+with_name k name declared = record k { names = k.names ++ (name, declared) ∷ [] }
 
 -- Reading goes as judging does, save for want of memory: behind an `Ok` the reader has made known what is judged so, and
 -- `Script` comes where the judging finds a fault.

@@ -26,9 +26,11 @@ use lines::split_line;
 use lock_model::Plan;
 use reader::Reader;
 use std::alloc::Global;
+use words::is_word;
 
 /// The plan of a script. `Script` comes exactly where no plan is accepted for the bytes, and `Memory` only for
 /// want of memory.
+#[tactic(auto, unfolding(lock_model::specs::Script::plan_of_lines, lock_model::specs::Script::IsAccepted, lock_model::specs::Script::IsRefused))]
 pub fn read_script(alloc: Global, bytes: &[u8]) -> Result<Plan, ReadError>
     ensures accepted { IfOk result (IsAccepted bytes.now) }
     ensures refused { IfErr result (Refuses bytes.now) }
@@ -36,16 +38,10 @@ pub fn read_script(alloc: Global, bytes: &[u8]) -> Result<Plan, ReadError>
     let Some((header, lines)) = split_line(bytes) else {
         return Err(ReadError::Script(UNPLACED));
     };
-    if header != b"lockrun 1".as_slice() {
+    if !is_word(header, "lockrun 1") {
         return Err(ReadError::Script(UNPLACED));
     }
-    let mut reader = Reader::new(alloc);
-    let mut rest = lines;
-    while let Some((line, after)) = split_line(rest) {
-        reader.read_line(alloc, line)?;
-        rest = after;
-    }
-    reader.into_plan(alloc)
+    Reader::of_lines(alloc, lines)?.into_plan(alloc)
 }
 
 /// A source has at most one plan, and is not refused where it has one.

@@ -1,5 +1,5 @@
 //! Cutting a source into lines.
-ghost use Rattle.std.specs.Prelude.{◌≡◌, ℕ, ◌<◌, ◌++◌, ◌∷◌, [], length, IfSome, IfNone, MatchOption};
+ghost use Rattle.std.specs.Prelude.{◌≡◌, ℕ, ◌<◌, ◌++◌, ◌∷◌, [], length, IfSome, IfNone, MatchOption, position, ◌==◌};
 ghost use Rattle.lock_model.specs.Script.{lines_of};
 ghost use Rattle.script_read.specs.Reading.{Lacks};
 
@@ -12,7 +12,7 @@ pub fn split_line(bytes: &[u8]) -> Option<(&[u8], &[u8])>
         return None;
     }
     match split_at_byte(bytes, b'\n') {
-        Some(cut) => Some(cut),
+        Some((line, rest)) => Some((line, rest)),
         None => Some((bytes, &[])),
     }
 }
@@ -23,6 +23,12 @@ pub fn split_at_byte(bytes: &[u8], byte: u8) -> Option<(&[u8], &[u8])>
     ensures first { IfSome result (λ cut. Lacks byte cut.0.now) }
     ensures none { IfNone result (Lacks byte bytes.now) }
 {
-    let place = bytes.iter().position(|b| *b == byte)?;
+    let place = place_of(bytes, byte)?;
     Some((&bytes[..place], &bytes[place + 1..]))
+}
+
+fn place_of(bytes: &[u8], byte: u8) -> Option<usize>
+    ensures { result ≡ position (λ b. b == byte) bytes.now }
+{
+    bytes.iter().position(|b| *b == byte)
 }

@@ -1,11 +1,12 @@
 //! What the lines of a script have made known so far, and how each line adds to it.
 ghost use Rattle.std.specs.Prelude.{◌≡◌, ◌&&◌, is_none, position, option_and_then, option_map, if◌then◌else◌, Some, None};
-ghost use Rattle.lock_model.specs.Script.{nothing_known, declared_as, lock_named, is_new, judged, judged_line, judged_mutex, judged_begin, judged_end, judged_done, judged_lock, judged_unlock, judged_set, with_operation, holds_lock, is_empty, is_fit, is_printable, plan_when_done};
-ghost use Rattle.lock_model.specs.Names.{is_name};
+ghost use Rattle.lock_model.specs.Script.{nothing_known, declared_as, lock_named, is_new, judged, judged_line, judged_lines, lines_of, judged_mutex, judged_begin, judged_end, judged_done, judged_lock, judged_unlock, judged_set, with_operation, holds_lock, is_empty, is_fit, is_printable, plan_when_done};
+ghost use Rattle.std.specs.List.{list_all, list_any};
 ghost use Rattle.script_read.specs.Statements.{said};
-ghost use Rattle.script_read.specs.Readers.{known, Goes};
+ghost use Rattle.script_read.specs.Readers.{known, with_name, Goes};
 
 use crate::fault::{ReadError, UNPLACED};
+use crate::lines::split_line;
 use crate::numbers::{number_of, priority_of};
 use crate::statement::{Statement, statement_of};
 use indexmap::{IndexMap, IndexSet};
@@ -38,8 +39,8 @@ struct OpenThread {
 }
 
 impl Reader {
-    /// What the header makes known: nothing.
-    pub fn new(alloc: Global) -> Reader
+    // What the header makes known: nothing.
+    fn new(alloc: Global) -> Reader
         ensures { known result ≡ nothing_known }
     {
         Reader {
@@ -53,8 +54,22 @@ impl Reader {
         }
     }
 
-    /// Reads a line behind the header.
-    pub fn read_line(&mut self, alloc: Global, line: &[u8]) -> Result<(), ReadError>
+    /// What all lines behind the header make known.
+    #[tactic(auto, unfolding(lock_model::specs::Script::judged_lines))]
+    pub fn of_lines(alloc: Global, lines: &[u8]) -> Result<Reader, ReadError>
+        ensures { Goes known result (judged_lines nothing_known (lines_of lines.now)) }
+    {
+        let mut reader = Reader::new(alloc);
+        let mut rest = lines;
+        while let Some((line, after)) = split_line(rest) {
+            reader.read_line(alloc, line)?;
+            rest = after;
+        }
+        Ok(reader)
+    }
+
+    #[tactic(auto, unfolding(lock_model::specs::Script::judged_line))]
+    fn read_line(&mut self, alloc: Global, line: &[u8]) -> Result<(), ReadError>
         ensures { Goes (λ _. known self.new) result (judged_line (known self.old) line.now) }
     {
         if !is_fit(line) || self.is_done {
@@ -83,7 +98,7 @@ impl Reader {
     }
 
     fn obey(&mut self, alloc: Global, statement: Statement) -> Result<(), ReadError>
-        ensures { Goes (λ _. known self.new) result (judged (known self.old) (said statement)) }
+        ensures { Goes (λ _. known self.new) result (judged (known self.old) (said statement.entry)) }
     {
         match statement {
             Statement::Mutex { name, class } => self.mutex(name, class),
@@ -111,7 +126,7 @@ impl Reader {
             return Err(ReadError::Script(UNPLACED));
         }
         let lock = LockNo(self.locks.len() as u8);
-        self.names.insert(name, Declared::Lock(lock))?;
+        self.declare(name, Declared::Lock(lock))?;
         self.locks.push(LockDecl {
             name,
             kind: Kind::Mtx,
@@ -131,7 +146,7 @@ impl Reader {
             return Err(ReadError::Script(UNPLACED));
         };
         let thread = ThreadNo(self.threads.len() as u8);
-        self.names.insert(name, Declared::Thread(thread))?;
+        self.declare(name, Declared::Thread(thread))?;
         self.open_thread = Some(OpenThread {
             name,
             base,
@@ -176,16 +191,18 @@ impl Reader {
         let Some(l) = self.lock_named(lock) else {
             return Err(ReadError::Script(UNPLACED));
         };
-        let Some(thread) = &mut self.open_thread else {
-            return Err(ReadError::Script(UNPLACED));
-        };
-        if !thread.held.is_empty() {
-            return Err(ReadError::Script(UNPLACED));
+        match &mut self.open_thread {
+            Some(thread) => {
+                if !thread.held.is_empty() {
+                    return Err(ReadError::Script(UNPLACED));
+                }
+                let mode = Mode::Excl;
+                let by_try = false;
+                thread.held.push(Held { l, mode, by_try })?;
+                self.add(Op::Take { l, mode })
+            }
+            None => Err(ReadError::Script(UNPLACED)),
         }
-        let mode = Mode::Excl;
-        let by_try = false;
-        thread.held.push(Held { l, mode, by_try })?;
-        self.add(Op::Take { l, mode })
     }
 
     // `unlock L` releases a lock.
@@ -195,14 +212,16 @@ impl Reader {
         let Some(l) = self.lock_named(lock) else {
             return Err(ReadError::Script(UNPLACED));
         };
-        let Some(thread) = &mut self.open_thread else {
-            return Err(ReadError::Script(UNPLACED));
-        };
-        let Some(place) = place_of(l, &thread.held) else {
-            return Err(ReadError::Script(UNPLACED));
-        };
-        thread.held.remove(place);
-        self.add(Op::Release { l })
+        match &mut self.open_thread {
+            Some(thread) => {
+                let Some(place) = place_of(l, &thread.held) else {
+                    return Err(ReadError::Script(UNPLACED));
+                };
+                thread.held.remove(place);
+                self.add(Op::Release { l })
+            }
+            None => Err(ReadError::Script(UNPLACED)),
+        }
     }
 
     // `set L KEY VALUE` writes a key of a lock's table.
@@ -215,28 +234,27 @@ impl Reader {
         let (Some(key), Some(value)) = (number_of(key), number_of(value)) else {
             return Err(ReadError::Script(UNPLACED));
         };
-        let Some(thread) = &self.open_thread else {
-            return Err(ReadError::Script(UNPLACED));
-        };
-        if place_of(l, &thread.held).is_none() {
-            return Err(ReadError::Script(UNPLACED));
+        match &self.open_thread {
+            Some(thread) if holds(l, &thread.held) => self.add(Op::Set { l, key, value }),
+            _ => Err(ReadError::Script(UNPLACED)),
         }
-        self.add(Op::Set { l, key, value })
     }
 
     // Adds an operation to the open thread's.
     fn add(&mut self, op: Op) -> Result<(), ReadError>
         ensures { Goes (λ _. known self.new) result (option_and_then (λ t. with_operation (known self.old) t op t.held) (known self.old).open_thread) }
     {
-        let Some(thread) = &mut self.open_thread else {
-            return Err(ReadError::Script(UNPLACED));
-        };
         if self.operations >= limits::OPERATIONS {
             return Err(ReadError::Script(UNPLACED));
         }
-        thread.ops.push(op)?;
-        self.operations += 1;
-        Ok(())
+        match &mut self.open_thread {
+            Some(thread) => {
+                thread.ops.push(op)?;
+                self.operations += 1;
+                Ok(())
+            }
+            None => Err(ReadError::Script(UNPLACED)),
+        }
     }
 
     // Whether no thread has begun.
@@ -251,6 +269,15 @@ impl Reader {
         ensures { result ≡ (if is_new (known self.now) word.now then Some word.now else None) }
     {
         Name::of(word).filter(|name| !self.names.contains_key(name))
+    }
+
+    // Declares a new name.
+    fn declare(&mut self, name: Name, declared: Declared) -> Result<(), ReadError>
+        requires { declared_as (known self.old) name ≡ None }
+        ensures { Goes (λ _. known self.new) result (Some (with_name (known self.old) name declared)) }
+    {
+        self.names.insert(name, declared)?;
+        Ok(())
     }
 
     // The lock that a word names.
@@ -271,9 +298,29 @@ fn place_of(l: LockNo, held: &[Held]) -> Option<usize>
     held.iter().position(|h| h.l == l)
 }
 
+// Whether a lock is held.
+fn holds(l: LockNo, held: &[Held]) -> bool
+    ensures { result ≡ list_any (holds_lock l) held.now }
+{
+    held.iter().any(|h| h.l == l)
+}
+
 // Whether a line isn't too long, and each byte of it may stand in a script.
 fn is_fit(line: &[u8]) -> bool
     ensures { result ≡ is_fit line.now }
 {
-    line.len() <= limits::LINE_BYTES && line.iter().all(|b| (32..=126).contains(b))
+    line.len() <= limits::LINE_BYTES && are_printable(line)
+}
+
+fn are_printable(bytes: &[u8]) -> bool
+    ensures { result ≡ list_all is_printable bytes.now }
+{
+    bytes.iter().all(|b| is_printable(*b))
+}
+
+// From a space to `~`.
+fn is_printable(b: u8) -> bool
+    ensures { result ≡ is_printable b }
+{
+    b == b' ' || b.is_ascii_graphic()
 }

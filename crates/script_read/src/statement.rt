@@ -3,7 +3,7 @@ ghost use Rattle.std.specs.Prelude.{◌≡◌, [], ◌∷◌, option_map};
 ghost use Rattle.lock_model.specs.Script.{statement_of, statement_of_words};
 ghost use Rattle.script_read.specs.Statements.{said};
 
-use crate::words::split_word;
+use crate::words::{is_word, split_word};
 
 /// A line's meaning, with its words as they stand there.
 #[derive(Clone, Copy)]
@@ -57,39 +57,48 @@ pub fn statement_of(line: &[u8]) -> Option<Statement<'_>>
         return of_three_words(verb, first, second);
     };
     let (third, rest) = split_word(rest);
-    if third.is_empty() || rest.is_some() {
+    if third.is_empty() {
         return None;
     }
-    of_four_words(verb, first, second, third)
+    match rest {
+        None => of_four_words(verb, first, second, third),
+        Some(_) => None,
+    }
 }
 
 fn of_one_word(verb: &[u8]) -> Option<Statement<'_>>
     ensures { option_map said result ≡ statement_of_words (verb.now ∷ []) }
 {
-    match verb {
-        b"end" => Some(Statement::End),
-        b"done" => Some(Statement::Done),
-        _ => None,
+    if is_word(verb, "end") {
+        Some(Statement::End)
+    } else if is_word(verb, "done") {
+        Some(Statement::Done)
+    } else {
+        None
     }
 }
 
 fn of_two_words<'a>(verb: &[u8], lock: &'a [u8]) -> Option<Statement<'a>>
     ensures { option_map said result ≡ statement_of_words (verb.now ∷ lock.now ∷ []) }
 {
-    match verb {
-        b"lock" => Some(Statement::Lock { lock }),
-        b"unlock" => Some(Statement::Unlock { lock }),
-        _ => None,
+    if is_word(verb, "lock") {
+        Some(Statement::Lock { lock })
+    } else if is_word(verb, "unlock") {
+        Some(Statement::Unlock { lock })
+    } else {
+        None
     }
 }
 
 fn of_three_words<'a>(verb: &[u8], name: &'a [u8], other: &'a [u8]) -> Option<Statement<'a>>
     ensures { option_map said result ≡ statement_of_words (verb.now ∷ name.now ∷ other.now ∷ []) }
 {
-    match verb {
-        b"mutex" => Some(Statement::Mutex { name, class: other }),
-        b"thread" => Some(Statement::Thread { name, prio: other }),
-        _ => None,
+    if is_word(verb, "mutex") {
+        Some(Statement::Mutex { name, class: other })
+    } else if is_word(verb, "thread") {
+        Some(Statement::Thread { name, prio: other })
+    } else {
+        None
     }
 }
 
@@ -101,8 +110,9 @@ fn of_four_words<'a>(
 ) -> Option<Statement<'a>>
     ensures { option_map said result ≡ statement_of_words (verb.now ∷ lock.now ∷ key.now ∷ value.now ∷ []) }
 {
-    match verb {
-        b"set" => Some(Statement::Set { lock, key, value }),
-        _ => None,
+    if is_word(verb, "set") {
+        Some(Statement::Set { lock, key, value })
+    } else {
+        None
     }
 }

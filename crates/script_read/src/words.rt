@@ -1,6 +1,6 @@
 //! Cutting a line into words, with one space between them.
 ghost use Rattle.std.specs.Prelude.{◌≡◌, ◌∷◌, option_copied};
-ghost use Rattle.lock_model.specs.Script.{words_of};
+ghost use Rattle.lock_model.specs.Script.{words_of, is_same};
 ghost use Rattle.script_read.specs.Reading.{words_behind};
 
 use crate::lines::split_at_byte;
@@ -13,4 +13,11 @@ pub fn split_word(text: &[u8]) -> (&[u8], Option<&[u8]>)
         Some((word, rest)) => (word, Some(rest)),
         None => (text, None),
     }
+}
+
+/// Whether a word is that text.
+pub fn is_word(word: &[u8], text: &str) -> bool
+    ensures { result ≡ is_same word.now text.now }
+{
+    word == text.as_bytes()
 }
