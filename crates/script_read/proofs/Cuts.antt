@@ -118,4 +118,4 @@ says_nothing words h = by (list_any is_empty words)
 -- a line of more than four words says nothing
 pub too_many_words : (line w x y z rest : List ℕ) → words_of line ≡ w ∷ x ∷ y ∷ z ∷ words_of rest → statement_of line ≡ None
 too_many_words line w x y z rest e =
-    ap (λ (words : List (List ℕ)). if list_any is_empty words then None else statement_of_words words) e ∙ says_nothing _ (five_words w x y z rest)
+    ap (λ (words : List (List ℕ)). if list_any is_empty words then None else statement_of_words words) e ∙ says_nothing (w ∷ x ∷ y ∷ z ∷ words_of rest) (five_words w x y z rest)
