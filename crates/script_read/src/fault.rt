@@ -1,6 +1,6 @@
 //! Why a script wasn't read.
 ghost use Rattle.std.specs.Prelude.{◌≡◌, alloc_error};
-ghost use Rattle.script_read.specs.declared.fault.ReadError.TheVariants.{Memory};
+ghost use Rattle.script_read.specs.declared.fault.ReadError.TheVariants.{Script, Memory};
 
 use std::alloc::{AllocError, AllocFailed};
 use thiserror::Error;
@@ -23,6 +23,14 @@ pub enum ReadError {
 
 // Until lines and codes are told apart, every fault is told as this one.
 pub(crate) const UNPLACED: ScriptFault = ScriptFault { line: 0, code: 0 };
+
+impl From<ScriptFault> for ReadError {
+    ghost from_gives = { λ fault e. e ≡ Script fault };
+
+    fn from(fault: ScriptFault) -> ReadError {
+        ReadError::Script(fault)
+    }
+}
 
 impl From<AllocError> for ReadError {
     ghost from_gives = { λ _ e. e ≡ Memory alloc_error };

@@ -35,9 +35,7 @@ pub fn read_script(alloc: Global, bytes: &[u8]) -> Result<Plan, ReadError>
     ensures accepted { IfOk result (IsAccepted bytes.now) }
     ensures refused { IfErr result (Refuses bytes.now) }
 {
-    let Some((header, lines)) = split_line(bytes) else {
-        return Err(ReadError::Script(UNPLACED));
-    };
+    let (header, lines) = split_line(bytes).ok_or(UNPLACED)?;
     if !is_word(header, "lockrun 1") {
         return Err(ReadError::Script(UNPLACED));
     }

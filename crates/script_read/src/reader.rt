@@ -68,6 +68,7 @@ impl Reader {
         Ok(reader)
     }
 
+    // What a line behind the header adds.
     #[tactic(auto, unfolding(lock_model::specs::Script::judged_line))]
     fn read_line(&mut self, alloc: Global, line: &[u8]) -> Result<(), ReadError>
         ensures { Goes (λ _. known self.new) result (judged_line (known self.old) line.now) }
@@ -75,10 +76,8 @@ impl Reader {
         if !is_fit(line) || self.is_done {
             return Err(ReadError::Script(UNPLACED));
         }
-        match statement_of(line) {
-            Some(statement) => self.obey(alloc, statement),
-            None => Err(ReadError::Script(UNPLACED)),
-        }
+        let statement = statement_of(line).ok_or(UNPLACED)?;
+        self.apply(alloc, statement)
     }
 
     /// The plan, where `done` has come.
@@ -97,7 +96,8 @@ impl Reader {
         })
     }
 
-    fn obey(&mut self, alloc: Global, statement: Statement) -> Result<(), ReadError>
+    // What a statement adds, where it may stand there.
+    fn apply(&mut self, alloc: Global, statement: Statement) -> Result<(), ReadError>
         ensures { Goes (λ _. known self.new) result (judged (known self.old) (said statement.entry)) }
     {
         match statement {
@@ -118,9 +118,8 @@ impl Reader {
         if !self.is_before_threads() || self.locks.len() >= limits::LOCKS {
             return Err(ReadError::Script(UNPLACED));
         }
-        let (Some(name), Some(class)) = (self.new_name(name), Name::of(class)) else {
-            return Err(ReadError::Script(UNPLACED));
-        };
+        let name = self.new_name(name).ok_or(UNPLACED)?;
+        let class = Name::of(class).ok_or(UNPLACED)?;
         let (class, _) = self.classes.insert_full(class)?;
         if class >= limits::CLASSES {
             return Err(ReadError::Script(UNPLACED));
@@ -142,9 +141,8 @@ impl Reader {
         if !self.is_before_threads() {
             return Err(ReadError::Script(UNPLACED));
         }
-        let (Some(name), Some(base)) = (self.new_name(name), priority_of(prio)) else {
-            return Err(ReadError::Script(UNPLACED));
-        };
+        let name = self.new_name(name).ok_or(UNPLACED)?;
+        let base = priority_of(prio).ok_or(UNPLACED)?;
         let thread = ThreadNo(self.threads.len() as u8);
         self.declare(name, Declared::Thread(thread))?;
         self.open_thread = Some(OpenThread {
@@ -188,9 +186,7 @@ impl Reader {
     fn lock(&mut self, lock: &[u8]) -> Result<(), ReadError>
         ensures { Goes (λ _. known self.new) result (option_and_then (judged_lock (known self.old) lock.now) (known self.old).open_thread) }
     {
-        let Some(l) = self.lock_named(lock) else {
-            return Err(ReadError::Script(UNPLACED));
-        };
+        let l = self.lock_named(lock).ok_or(UNPLACED)?;
         match &mut self.open_thread {
             Some(thread) => {
                 if !thread.held.is_empty() {
@@ -209,14 +205,10 @@ impl Reader {
     fn unlock(&mut self, lock: &[u8]) -> Result<(), ReadError>
         ensures { Goes (λ _. known self.new) result (option_and_then (judged_unlock (known self.old) lock.now) (known self.old).open_thread) }
     {
-        let Some(l) = self.lock_named(lock) else {
-            return Err(ReadError::Script(UNPLACED));
-        };
+        let l = self.lock_named(lock).ok_or(UNPLACED)?;
         match &mut self.open_thread {
             Some(thread) => {
-                let Some(place) = place_of(l, &thread.held) else {
-                    return Err(ReadError::Script(UNPLACED));
-                };
+                let place = place_of(l, &thread.held).ok_or(UNPLACED)?;
                 thread.held.remove(place);
                 self.add(Op::Release { l })
             }
@@ -228,12 +220,9 @@ impl Reader {
     fn set(&mut self, lock: &[u8], key: &[u8], value: &[u8]) -> Result<(), ReadError>
         ensures { Goes (λ _. known self.new) result (option_and_then (judged_set (known self.old) lock.now key.now value.now) (known self.old).open_thread) }
     {
-        let Some(l) = self.lock_named(lock) else {
-            return Err(ReadError::Script(UNPLACED));
-        };
-        let (Some(key), Some(value)) = (number_of(key), number_of(value)) else {
-            return Err(ReadError::Script(UNPLACED));
-        };
+        let l = self.lock_named(lock).ok_or(UNPLACED)?;
+        let key = number_of(key).ok_or(UNPLACED)?;
+        let value = number_of(value).ok_or(UNPLACED)?;
         match &self.open_thread {
             Some(thread) if holds(l, &thread.held) => self.add(Op::Set { l, key, value }),
             _ => Err(ReadError::Script(UNPLACED)),
