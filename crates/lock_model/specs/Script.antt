@@ -1,8 +1,8 @@
 -- Which bytes are a script, and of which plan. A source is a list of lines, and each line is judged by what the lines before it
 -- have made known, and by nothing else. The judging goes in stages, and a line that fails one isn't judged by a later one:
 -- its bytes, its words, its place among the lines, and what it names. The grammar is this project's own.
-use Rattle.std.specs.Prelude.{◌≡◌, ℕ, suc, ◌+◌, ◌-◌, ◌*◌, ◌^◌, Bool, true, false, not, ◌&&◌, ◌==◌, nat_le, nat_lt, nat_eq, if◌then◌else◌, List, [], ◌∷◌, ◌++◌, length, fold, filter, position, unwrap_or, option_and_then, is_none, codes, Option, Some, None}
-use Rattle.std.specs.List.{list_all, list_any}
+use Rattle.std.specs.Prelude.{◌≡◌, ℕ, suc, ◌+◌, ◌-◌, ◌*◌, ◌^◌, Bool, true, false, not, ◌&&◌, ◌==◌, nat_le, nat_lt, nat_eq, if◌then◌else◌, List, [], ◌∷◌, ◌++◌, length, fold, position, remove, option_and_then, is_none, codes, Option, Some, None}
+use Rattle.std.specs.List.{list_all, list_any, position_or_len}
 use Rattle.std.specs.Map.{lookup}
 use Rattle.std.specs.Cmp.Lexicographic.{pointwise}
 use Rattle.lock_model.specs.Names.{is_name, is_digit}
@@ -130,15 +130,14 @@ nothing_known = record { names = []; classes = []; locks = []; threads = []; ope
 abbrev pub declared_as : Known → List ℕ → Option Declared
 declared_as k name = lookup (is_same name) k.names
 
-abbrev pub lock_of : Option Declared → Option ℕ
-lock_of None = None
-lock_of (Some (Lock l)) = Some l.0
-lock_of (Some (Chan c)) = None
-lock_of (Some (Thread t)) = None
+abbrev pub lock_of : Declared → Option LockNo
+lock_of (Lock l) = Some l
+lock_of (Chan c) = None
+lock_of (Thread t) = None
 
 -- the lock of that name
-abbrev pub lock_named : Known → List ℕ → Option ℕ
-lock_named k name = lock_of (declared_as k name)
+abbrev pub lock_named : Known → List ℕ → Option LockNo
+lock_named k name = if is_name name then option_and_then lock_of (declared_as k name) else None
 
 -- a name that may be declared
 abbrev pub is_new : Known → List ℕ → Bool
@@ -146,16 +145,13 @@ is_new k name = is_name name && is_none (declared_as k name)
 
 -- a class's number: that of its first use, or the next
 abbrev pub class_number : List (List ℕ) → List ℕ → ℕ
-class_number classes class = unwrap_or (position (is_same class) classes) (length classes)
+class_number classes class = position_or_len (is_same class) classes
 
 abbrev pub with_class : List (List ℕ) → List ℕ → List (List ℕ)
 with_class classes class = if list_any (is_same class) classes then classes else classes ++ class ∷ []
 
-abbrev pub holds_lock : ℕ → Held → Bool
-holds_lock l h = h.l.0 == l
-
-abbrev pub lock_no : ℕ → LockNo
-lock_no l = record { 0 = l }
+abbrev pub holds_lock : LockNo → Held → Bool
+holds_lock l h = h.l.0 == l.0
 
 -- 5. How a line is judged, by its place and by what it names
 
@@ -166,16 +162,12 @@ with_operation k t op held =
     then Some (record k { open_thread = Some (record t { ops = t.ops ++ op ∷ []; held = held }); operations = suc k.operations })
     else None
 
--- an operation on a lock that is declared
-abbrev pub with_lock : Known → List ℕ → (ℕ → Option Known) → Option Known
-with_lock k name judge = if is_name name then option_and_then judge (lock_named k name) else None
-
 -- `mutex NAME CLASS` stands before the first thread. Its name is new. There are at most 64 locks and 64 classes.
 abbrev pub judged_mutex : Known → List ℕ → List ℕ → Option Known
 judged_mutex k name class =
-    if is_none k.open_thread && is_empty k.threads && is_new k name && is_name class && nat_lt (length k.locks) 64
+    if is_none k.open_thread && is_empty k.threads && is_new k name && is_name class && nat_lt (length k.locks) 64 && nat_lt (class_number k.classes class) 64
     then Some (record k {
-      names = k.names ++ (name, Lock (lock_no (length k.locks))) ∷ [];
+      names = k.names ++ (name, Lock (record { 0 = length k.locks })) ∷ [];
       classes = with_class k.classes class;
       locks = k.locks ++ (record { name = name; kind = Mtx; class = record { 0 = class_number k.classes class } }) ∷ [];
     })
@@ -207,25 +199,23 @@ judged_done k = if is_none k.open_thread then Some (record k { is_done = true })
 
 -- `lock L` takes a lock. Until threads meet, a thread holds one lock at a time.
 abbrev pub judged_lock : Known → List ℕ → OpenThread → Option Known
-judged_lock k name t = with_lock k name (λ l.
+judged_lock k name t = option_and_then (λ l.
     if is_empty t.held
-    then with_operation k t (Take (lock_no l) Excl) (t.held ++ (record { l = lock_no l; mode = Excl; by_try = false }) ∷ [])
-    else None)
+    then with_operation k t (Take l Excl) (t.held ++ (record { l = l; mode = Excl; by_try = false }) ∷ [])
+    else None) (lock_named k name)
 
 -- `unlock L` releases a lock that is held
 abbrev pub judged_unlock : Known → List ℕ → OpenThread → Option Known
-judged_unlock k name t = with_lock k name (λ l.
-    if list_any (holds_lock l) t.held
-    then with_operation k t (Release (lock_no l)) (filter (λ h. not (holds_lock l h)) t.held)
-    else None)
+judged_unlock k name t =
+    option_and_then (λ l. option_and_then (λ i.
+    with_operation k t (Release l) (remove t.held i)) (position (holds_lock l) t.held)) (lock_named k name)
 
 -- `set L KEY VALUE` writes under a lock that is held
 abbrev pub judged_set : Known → List ℕ → List ℕ → List ℕ → OpenThread → Option Known
-judged_set k name key value t = with_lock k name (λ l.
-    if list_any (holds_lock l) t.held
-    then option_and_then (λ n. option_and_then (λ v.
-    with_operation k t (Set (lock_no l) n v) t.held) (number_of value)) (number_of key)
-    else None)
+judged_set k name key value t =
+    option_and_then (λ l. option_and_then (λ n. option_and_then (λ v.
+    if list_any (holds_lock l) t.held then with_operation k t (Set l n v) t.held else None
+    ) (number_of value)) (number_of key)) (lock_named k name)
 
 abbrev pub judged : Known → Statement → Option Known
 judged k (Mutex name class) = judged_mutex k name class

@@ -1,0 +1,121 @@
+-- How the front of a source is its first line, and the front of a line its first word.
+use Rattle.std.proofs.Common.{◌≡◌, if◌then◌else◌, ℕ, ◌-◌, drop, get_or, IfNone, add-one, one-add, drop-cons, length-drop, suc, ◌≤◌, nat_lt, cond, ◌+◌, Bool, true, false, not, ◌&&◌, ◌==◌, List, [], ◌∷◌, ◌++◌, length, take, Option, Some, None, position, refl, sym, ap, ◌∙◌, subst, arith, true≢false}
+use Rattle.std.proofs.lemmas.Bool.{false≢true, eqb-true}
+use Rattle.std.specs.List.{list_all, list_any, prefix_len}
+use Rattle.std.proofs.lemmas.Bool.Decides.{nat_tests}
+use Rattle.std.proofs.lemmas.Option.{cond_some}
+use Rattle.std.proofs.lemmas.List.{take_all, take-append-drop}
+use Rattle.std.proofs.lemmas.List.Quantifiers.{position-Some}
+use Rattle.lock_model.specs.Script.{lines_of, words_of, onto_first, is_empty, Statement, statement_of, statement_of_words}
+use Rattle.script_read.specs.Reading.{Lacks}
+
+-- what a byte string lacks, its first byte isn't, and the rest lacks it
+pub lacks-first : (byte b : ℕ) (bs : List ℕ) → Lacks byte (b ∷ bs) → ((b == byte) ≡ false) × Lacks byte bs
+lacks-first byte b bs h = by (b == byte) refl h
+  where
+    by : (t : Bool) → (b == byte) ≡ t → (not t && list_all (λ x. not (x == byte)) bs) ≡ true → ((b == byte) ≡ false) × Lacks byte bs
+    by true e h = absurd (false≢true h)
+    by false e h = (e, h)
+
+-- what stands before the first byte that fails a test passes it
+all_before : (p : ℕ → Bool) (bs : List ℕ) → list_all p (take (prefix_len p bs) bs) ≡ true
+all_before p [] = refl
+all_before p (b ∷ bs) = by (p b) refl (all_before p bs)
+  where
+    by : (t : Bool) → p b ≡ t → list_all p (take (prefix_len p bs) bs) ≡ true → list_all p (take (cond t (1 + prefix_len p bs) 0) (b ∷ bs)) ≡ true
+    by true e h = rw (one-add, e) h
+    by false e h = refl
+
+-- what stands before the first place of a byte lacks it
+pub lacks_before : (byte : ℕ) (bs : List ℕ) (i : ℕ) → position (λ b. b == byte) bs ≡ Some i → Lacks byte (take i bs)
+lacks_before byte bs i h =
+    let p = cond_some (nat_lt (prefix_len (λ b. not (b == byte)) bs) (length bs)) _ i h in
+    subst (λ (n : ℕ). Lacks byte (take n bs)) p.1 (all_before (λ b. not (b == byte)) bs)
+
+-- and bytes with no such place lack it
+pub lacks_all : (byte : ℕ) (bs : List ℕ) → position (λ b. b == byte) bs ≡ None → Lacks byte bs
+lacks_all byte bs h =
+    let n = prefix_len (λ b. not (b == byte)) bs in
+    let past : length bs ≤ n = grind (arith, nat_tests) in
+    subst (Lacks byte) (take_all n bs past) (all_before (λ b. not (b == byte)) bs)
+
+-- bytes are what stands before the first place of a byte, that byte, and what stands behind it
+pub cut_at : (byte : ℕ) (bs : List ℕ) (i : ℕ) → position (λ b. b == byte) bs ≡ Some i
+    → bs ≡ take i bs ++ byte ∷ take (length bs - (i + 1)) (drop (i + 1) bs)
+cut_at byte bs i h =
+    let p = position-Some (λ b. b == byte) bs i byte h in
+    let here : get_or bs i byte ≡ byte = eqb-true _ _ p.1 in
+    let rest : take (length bs - (i + 1)) (drop (i + 1) bs) ≡ drop (i + 1) bs = take_all _ _ (simp length-drop (omega arith)) in
+    let more : drop i bs ≡ byte ∷ drop (i + 1) bs = rw (add-one, drop-cons bs i byte p.0, here) refl in
+    sym (take-append-drop i bs) ∙ ap (λ (r : List ℕ). take i bs ++ r) (more ∙ ap (λ (r : List ℕ). byte ∷ r) (sym rest))
+
+-- where nothing was found, whatever the answer
+pub if_none : {A : Type 0} (r : Option A) (P : Type 0) → P → IfNone r P
+if_none None P p = p
+if_none (Some x) P p = tt
+
+-- 1. Lines
+
+lines-step : (b : ℕ) (bs line : List ℕ) (more : List (List ℕ)) → (b == 10) ≡ false → lines_of bs ≡ line ∷ more → lines_of (b ∷ bs) ≡ (b ∷ line) ∷ more
+lines-step b bs line more h e = rw (h, e) refl
+
+-- a line that ends
+pub lines-cut : (line rest : List ℕ) → Lacks 10 line → lines_of (line ++ 10 ∷ rest) ≡ line ∷ lines_of rest
+lines-cut [] rest h = refl
+lines-cut (b ∷ line) rest h =
+    let p = lacks-first 10 b line h in
+    lines-step b (line ++ 10 ∷ rest) line (lines_of rest) p.0 (lines-cut line rest p.1)
+
+-- a last line that doesn't end
+pub lines-last : (b : ℕ) (line : List ℕ) → Lacks 10 (b ∷ line) → lines_of (b ∷ line) ≡ (b ∷ line) ∷ []
+lines-last b [] h = rw ((lacks-first 10 b [] h).0) refl
+lines-last b (c ∷ line) h =
+    let p = lacks-first 10 b (c ∷ line) h in
+    lines-step b (c ∷ line) (c ∷ line) [] p.0 (lines-last c line p.1)
+
+pub lines-whole : (line : List ℕ) → (length line == 0) ≡ false → Lacks 10 line → lines_of line ≡ line ∷ []
+lines-whole [] n h = absurd (true≢false n)
+lines-whole (b ∷ line) n h = lines-last b line h
+
+-- 2. Words
+
+words-step : (b : ℕ) (bs word : List ℕ) (more : List (List ℕ)) → (b == 32) ≡ false → words_of bs ≡ word ∷ more → words_of (b ∷ bs) ≡ (b ∷ word) ∷ more
+words-step b bs word more h e = rw (h, e) refl
+
+-- a word with a space behind it
+pub words-cut : (word rest : List ℕ) → Lacks 32 word → words_of (word ++ 32 ∷ rest) ≡ word ∷ words_of rest
+words-cut [] rest h = refl
+words-cut (b ∷ word) rest h =
+    let p = lacks-first 32 b word h in
+    words-step b (word ++ 32 ∷ rest) word (words_of rest) p.0 (words-cut word rest p.1)
+
+-- a last word
+pub words-last : (word : List ℕ) → Lacks 32 word → words_of word ≡ word ∷ []
+words-last [] h = refl
+words-last (b ∷ word) h =
+    let p = lacks-first 32 b word h in
+    words-step b word word [] p.0 (words-last word p.1)
+
+first_of : (b : ℕ) (parts : List (List ℕ)) (w x y z : List ℕ) → statement_of_words (w ∷ x ∷ y ∷ z ∷ onto_first b parts) ≡ None
+first_of b [] w x y z = refl
+first_of b (part ∷ parts) w x y z = refl
+
+five_words : (w x y z rest : List ℕ) → statement_of_words (w ∷ x ∷ y ∷ z ∷ words_of rest) ≡ None
+five_words w x y z [] = refl
+five_words w x y z (b ∷ bs) = by (b == 32)
+  where
+    by : (t : Bool) → statement_of_words (w ∷ x ∷ y ∷ z ∷ (if t then [] ∷ words_of bs else onto_first b (words_of bs))) ≡ None
+    by true = refl
+    by false = first_of b (words_of bs) w x y z
+
+says_nothing : (words : List (List ℕ)) → statement_of_words words ≡ None → (if list_any is_empty words then None else statement_of_words words) ≡ None
+says_nothing words h = by (list_any is_empty words)
+  where
+    by : (t : Bool) → (if t then None else statement_of_words words) ≡ None
+    by true = refl
+    by false = h
+
+-- a line of more than four words says nothing
+pub too_many_words : (line w x y z rest : List ℕ) → words_of line ≡ w ∷ x ∷ y ∷ z ∷ words_of rest → statement_of line ≡ None
+too_many_words line w x y z rest e =
+    ap (λ (words : List (List ℕ)). if list_any is_empty words then None else statement_of_words words) e ∙ says_nothing (w ∷ x ∷ y ∷ z ∷ words_of rest) (five_words w x y z rest)

@@ -1,0 +1,11 @@
+use Rattle.std.proofs.Common.{◌≡◌}
+use Rattle.lock_model.specs.Script.{IsAccepted, IsRefused}
+use Rattle.script_read.proofs.one_plan_each.Goals as goal
+
+pub returns-clause-one : goal.returns-clause-one
+unfolding IsAccepted
+returns-clause-one c = λ bytes a b p q. cc (p, q)
+
+pub returns-clause-either : goal.returns-clause-either
+unfolding IsAccepted IsRefused
+returns-clause-either c = λ bytes a p q. cc (p, q)
