@@ -1,0 +1,69 @@
+//! A writer of std as a sink, which tells no bytes: what a real file, pipe or terminal took isn't known
+//! to a proof.
+ghost use Rattle.std.specs.Prelude.{◌≡◌, None, ◌<◌, ◌≤◌, length, IfOk, OnOk, OnErr, is_err};
+ghost use Rattle.std.specs.Io.KnownBytes.{Keeps, WriteAppends};
+
+use std::io::{ErrorKind, Write};
+
+use crate::failed::Failed;
+use crate::sink::Sink;
+
+/// A writer of std, with a count of its faults that starts at 0 and stops at the last value of a `u64`.
+#[derive(Drop, Debug)]
+pub struct StdSink<W> {
+    writer: W,
+    faults: u64,
+}
+
+impl<W: Write> StdSink<W> {
+    /// The writer, with no fault counted yet.
+    pub fn new(writer: W) -> StdSink<W>
+        ensures { ⟦<StdSink<W> as Sink>⟧.faults result ≡ 0 }
+    {
+        StdSink { writer, faults: 0 }
+    }
+}
+
+/// An error of the writer is a fault, and so is a write that takes nothing of a piece that isn't empty.
+/// A write that a signal interrupts is made again, up to 1,000 times, and is then a fault too.
+impl<W: Write> Sink for StdSink<W> {
+    ghost contents = { λ _. None };
+
+    ghost faults = { λ s. s.faults };
+
+    fn write(&mut self, from: &[u8]) -> Result<usize, Failed> {
+        let answer = write_again(&mut self.writer, from);
+        if answer.is_err() {
+            self.faults = self.faults.saturating_add(1);
+        }
+        answer
+    }
+
+    fn flush(&mut self) -> Result<(), Failed> {
+        if self.writer.flush().is_err() {
+            self.faults = self.faults.saturating_add(1);
+            return Err(Failed);
+        }
+        Ok(())
+    }
+}
+
+// How often an interrupted write is made, at most.
+const TRIES: u32 = 1000;
+
+// Writes, and again as long as a signal interrupts it.
+fn write_again<W: Write>(writer: &mut W, from: &[u8]) -> Result<usize, Failed>
+    ensures fits { IfOk result (λ n. n ≤ length from.now) }
+    ensures takes_some { IfOk result (λ n. 0 < length from.now → 0 < n) }
+    ensures bytes { WriteAppends (W.contents writer.old) (W.contents writer.new) result from.now }
+{
+    for _ in 0..TRIES {
+        match writer.write(from) {
+            Ok(0) if !from.is_empty() => return Err(Failed),
+            Ok(n) => return Ok(n),
+            Err(e) if e.kind() == ErrorKind::Interrupted => {}
+            Err(_) => return Err(Failed),
+        }
+    }
+    Err(Failed)
+}

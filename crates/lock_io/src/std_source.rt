@@ -1,0 +1,59 @@
+//! A reader of std as a source, which tells no bytes: what a real file, pipe or terminal holds isn't
+//! known to a proof.
+ghost use Rattle.std.specs.Prelude.{◌≡◌, None, ◌<◌, ◌≤◌, length, IfOk, OnOk, OnErr, is_err};
+ghost use Rattle.std.specs.Io.KnownBytes.{ReadConsumes};
+
+use std::io::{ErrorKind, Read};
+
+use crate::failed::Failed;
+use crate::source::Source;
+
+/// A reader of std, with a count of its faults that starts at 0 and stops at the last value of a `u64`.
+#[derive(Drop, Debug)]
+pub struct StdSource<R> {
+    reader: R,
+    faults: u64,
+}
+
+impl<R: Read> StdSource<R> {
+    /// The reader, with no fault counted yet.
+    pub fn new(reader: R) -> StdSource<R>
+        ensures { ⟦<StdSource<R> as Source>⟧.faults result ≡ 0 }
+    {
+        StdSource { reader, faults: 0 }
+    }
+}
+
+/// An error of the reader is a fault. A read that a signal interrupts is made again, up to 1,000 times,
+/// and is then a fault too.
+impl<R: Read> Source for StdSource<R> {
+    ghost remaining = { λ _. None };
+
+    ghost faults = { λ s. s.faults };
+
+    fn read(&mut self, into: &mut [u8]) -> Result<usize, Failed> {
+        let answer = read_again(&mut self.reader, into);
+        if answer.is_err() {
+            self.faults = self.faults.saturating_add(1);
+        }
+        answer
+    }
+}
+
+// How often an interrupted read is made, at most.
+const TRIES: u32 = 1000;
+
+// Reads, and again as long as a signal interrupts it.
+fn read_again<R: Read>(reader: &mut R, into: &mut [u8]) -> Result<usize, Failed>
+    ensures fits { IfOk result (λ n. n ≤ length into.new) }
+    ensures bytes { ReadConsumes (R.remaining reader.old) (R.remaining reader.new) result into.new }
+{
+    for _ in 0..TRIES {
+        match reader.read(into) {
+            Ok(n) => return Ok(n),
+            Err(e) if e.kind() == ErrorKind::Interrupted => {}
+            Err(_) => return Err(Failed),
+        }
+    }
+    Err(Failed)
+}
