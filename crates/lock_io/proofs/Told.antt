@@ -4,10 +4,6 @@ use Rattle.std.proofs.lemmas.List.{append-nil}
 use Rattle.std.proofs.Math.Seq.{take-add}
 use Rattle.std.specs.Io.KnownBytes.{prepend_known, append_known, IsAtEnd}
 
--- what one iteration of `read_all` keeps
-pub record IsTaken (old new : Option (List ℕ)) (front : List ℕ) : Type 0 where
-  pub told : old ≡ prepend_known front new
-
 -- nothing was taken yet
 pub taken_none : (o : Option (List ℕ)) → o ≡ prepend_known [] o
 taken_none None = refl

@@ -3,9 +3,8 @@ ghost use Rattle.std.specs.Prelude.{◌≡◌, ◌≤◌, ◌||◌, OnOk, OnErr,
 ghost use Rattle.lock_io.specs.Faults.{Rose};
 ghost use Rattle.lock_io.specs.Memory.{failed, is_due, passed, uncalled};
 
-use std::marker::Model;
-
 use crate::failed::Failed;
+use std::marker::Model;
 
 /// Which calls fail, how many there were, and how many of them failed.
 #[derive(Drop, Debug)]
@@ -51,6 +50,7 @@ impl Calls {
         }
         Ok(())
     }
+
     fn is_due(&self) -> bool
         ensures { result ≡ is_due self.now }
     {

@@ -5,12 +5,11 @@ ghost use Rattle.std.specs.Io.KnownBytes.{append_known};
 ghost use Rattle.lock_io.specs.Faults.{Rose};
 ghost use Rattle.lock_io.specs.Memory.{failed, is_due, is_refused, passed, uncalled};
 
-use std::alloc::{AllocError, Global};
-use std::marker::Model;
-
 use crate::calls::Calls;
 use crate::failed::Failed;
 use crate::sink::Sink;
+use std::alloc::{AllocError, Global};
+use std::marker::Model;
 
 /// Bytes in memory, written in pieces up to a limit.
 #[derive(Drop, Debug)]
@@ -29,7 +28,11 @@ impl Model for MemSink {
     ghost Value = { Store };
 
     ghost view = { λ s. record {
-        held = s.bytes.items; room = s.room; piece = s.piece; calls = s.calls } };
+      held = s.bytes.items;
+      room = s.room;
+      piece = s.piece;
+      calls = s.calls;
+    } };
 
     ghost invariant = { λ s. (vec_len s.bytes ≤ s.room) × (s.room ≤ vec_capacity s.bytes)
         × (1 ≤ s.piece) };
@@ -46,7 +49,11 @@ impl MemSink {
     ) -> Result<MemSink, AllocError>
         requires { 1 ≤ piece }
         ensures { IfOk result (λ sink. sink ≡ record {
-            held = []; room = room; piece = piece; calls = uncalled fails.items }) }
+          held = [];
+          room = room;
+          piece = piece;
+          calls = uncalled fails.items;
+        }) }
     {
         Ok(MemSink {
             bytes: Vec::with_capacity(alloc, room)?,
@@ -74,18 +81,16 @@ impl Sink for MemSink {
         ensures moves { IfOk result (λ n. n ≡ min self.old.piece
             (min (length from.now) (self.old.room - length self.old.held))) }
         ensures ok { IfOk result (λ n. self.new ≡ record self.old {
-            held = self.old.held ++ take n from.now; calls = passed self.old.calls }) }
+          held = self.old.held ++ take n from.now;
+          calls = passed self.old.calls;
+        }) }
         ensures err { OnErr result (self.new ≡ record self.old {
-            calls = failed self.old.calls }) }
+          calls = failed self.old.calls;
+        }) }
 
-        // What each sink promises.
-        ensures fits { IfOk result (λ n. n ≤ length from.now) }
+        // What each sink promises beside that.
         ensures takes_some { IfOk result (λ n. 0 < length from.now → 0 < n) }
-        ensures adds { IfOk result (λ n.
-            Some self.new.held ≡ append_known (Some self.old.held) (take n from.now)) }
-        ensures adds_none { OnErr result (Some self.new.held ≡ Some self.old.held) }
         ensures fault { OnErr result (Rose self.old.calls.faults self.new.calls.faults) }
-        ensures no_fault { OnOk result (self.new.calls.faults ≡ self.old.calls.faults) }
         ensures never_falls { self.old.calls.faults ≤ self.new.calls.faults }
     {
         let left = self.room - self.bytes.len();
@@ -98,14 +103,14 @@ impl Sink for MemSink {
     fn flush(&mut self) -> Result<(), Failed>
         ensures fails { is_err result ≡ is_due self.old.calls }
         ensures ok { OnOk result (self.new ≡ record self.old {
-            calls = passed self.old.calls }) }
+          calls = passed self.old.calls;
+        }) }
         ensures err { OnErr result (self.new ≡ record self.old {
-            calls = failed self.old.calls }) }
+          calls = failed self.old.calls;
+        }) }
 
-        // What each sink promises.
-        ensures keeps { Some self.new.held ≡ Some self.old.held }
+        // What each sink promises beside that.
         ensures fault { OnErr result (Rose self.old.calls.faults self.new.calls.faults) }
-        ensures no_fault { OnOk result (self.new.calls.faults ≡ self.old.calls.faults) }
         ensures never_falls { self.old.calls.faults ≤ self.new.calls.faults }
     {
         self.calls.count(false)

@@ -4,11 +4,10 @@ ghost use Rattle.std.specs.Io.KnownBytes.{IsAtEnd, prepend_known};
 ghost use Rattle.lock_io.specs.Faults.{Rose};
 ghost use Rattle.lock_io.specs.Memory.{failed, is_due, passed, uncalled};
 
-use std::marker::Model;
-
 use crate::calls::Calls;
 use crate::failed::Failed;
 use crate::source::Source;
+use std::marker::Model;
 
 /// Bytes in memory, read in pieces.
 #[derive(Drop, Debug)]
@@ -37,7 +36,10 @@ impl MemSource {
     pub fn new(bytes: Vec<u8>, piece: usize, fails: Vec<u32>) -> MemSource
         requires { 1 ≤ piece }
         ensures { result ≡ record {
-            left = bytes.items; piece = piece; calls = uncalled fails.items } }
+          left = bytes.items;
+          piece = piece;
+          calls = uncalled fails.items;
+        } }
     {
         MemSource {
             bytes,
@@ -59,19 +61,17 @@ impl Source for MemSource {
             n ≡ min self.old.piece (min (length into.old) (length self.old.left))) }
         ensures front { IfOk result (λ n. take n into.new ≡ take n self.old.left) }
         ensures ok { IfOk result (λ n. self.new ≡ record self.old {
-            left = drop n self.old.left; calls = passed self.old.calls }) }
+          left = drop n self.old.left;
+          calls = passed self.old.calls;
+        }) }
         ensures err { OnErr result (self.new ≡ record self.old {
-            calls = failed self.old.calls }) }
+          calls = failed self.old.calls;
+        }) }
 
-        // What each source promises.
-        ensures fits { IfOk result (λ n. n ≤ length into.new) }
-        ensures gives { IfOk result (λ n.
-            Some self.old.left ≡ prepend_known (take n into.new) (Some self.new.left)) }
+        // What each source promises beside that.
         ensures end { IfOk result (λ n.
             n ≡ 0 → 0 < length into.new → IsAtEnd (Some self.old.left)) }
-        ensures takes_none { OnErr result (Some self.new.left ≡ Some self.old.left) }
         ensures fault { OnErr result (Rose self.old.calls.faults self.new.calls.faults) }
-        ensures no_fault { OnOk result (self.new.calls.faults ≡ self.old.calls.faults) }
         ensures never_falls { self.old.calls.faults ≤ self.new.calls.faults }
     {
         self.calls.count(false)?;

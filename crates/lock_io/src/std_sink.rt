@@ -2,11 +2,12 @@
 //! to a proof.
 ghost use Rattle.std.specs.Prelude.{◌≡◌, None, ◌<◌, ◌≤◌, length, IfOk, OnOk, OnErr, is_err};
 ghost use Rattle.std.specs.Io.KnownBytes.{Keeps, WriteAppends};
-
-use std::io::{ErrorKind, Write};
+ghost use Rattle.lock_io.specs.Faults.{Rose};
+ghost use Rattle.lock_io.specs.StdEnds.{write_faults, writer_of};
 
 use crate::failed::Failed;
 use crate::sink::Sink;
+use std::io::{ErrorKind, Write};
 
 /// A writer of std, with a count of its faults that starts at 0 and stops at the last value of a `u64`.
 #[derive(Drop, Debug)]
@@ -18,7 +19,8 @@ pub struct StdSink<W> {
 impl<W: Write> StdSink<W> {
     /// The writer, with no fault counted yet.
     pub fn new(writer: W) -> StdSink<W>
-        ensures { ⟦<StdSink<W> as Sink>⟧.faults result ≡ 0 }
+        ensures writer { writer_of result ≡ writer }
+        ensures faults { write_faults result ≡ 0 }
     {
         StdSink { writer, faults: 0 }
     }
@@ -29,9 +31,17 @@ impl<W: Write> StdSink<W> {
 impl<W: Write> Sink for StdSink<W> {
     ghost contents = { λ _. None };
 
-    ghost faults = { λ s. s.faults };
+    ghost faults = { write_faults };
 
-    fn write(&mut self, from: &[u8]) -> Result<usize, Failed> {
+    fn write(&mut self, from: &[u8]) -> Result<usize, Failed>
+        ensures fits { IfOk result (λ n. n ≤ length from.now) }
+        ensures takes_some { IfOk result (λ n. 0 < length from.now → 0 < n) }
+        ensures bytes { WriteAppends (W.contents (writer_of self.old))
+            (W.contents (writer_of self.new)) result from.now }
+        ensures fault { OnErr result (Rose (write_faults self.old) (write_faults self.new)) }
+        ensures no_fault { OnOk result (write_faults self.new ≡ write_faults self.old) }
+        ensures never_falls { write_faults self.old ≤ write_faults self.new }
+    {
         let answer = write_again(&mut self.writer, from);
         if answer.is_err() {
             self.faults = self.faults.saturating_add(1);
@@ -39,7 +49,12 @@ impl<W: Write> Sink for StdSink<W> {
         answer
     }
 
-    fn flush(&mut self) -> Result<(), Failed> {
+    fn flush(&mut self) -> Result<(), Failed>
+        ensures bytes { Keeps (W.contents (writer_of self.old)) (W.contents (writer_of self.new)) }
+        ensures fault { OnErr result (Rose (write_faults self.old) (write_faults self.new)) }
+        ensures no_fault { OnOk result (write_faults self.new ≡ write_faults self.old) }
+        ensures never_falls { write_faults self.old ≤ write_faults self.new }
+    {
         if self.writer.flush().is_err() {
             self.faults = self.faults.saturating_add(1);
             return Err(Failed);

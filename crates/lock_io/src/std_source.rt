@@ -2,11 +2,12 @@
 //! known to a proof.
 ghost use Rattle.std.specs.Prelude.{◌≡◌, None, ◌<◌, ◌≤◌, length, IfOk, OnOk, OnErr, is_err};
 ghost use Rattle.std.specs.Io.KnownBytes.{ReadConsumes};
-
-use std::io::{ErrorKind, Read};
+ghost use Rattle.lock_io.specs.Faults.{Rose};
+ghost use Rattle.lock_io.specs.StdEnds.{read_faults, reader_of};
 
 use crate::failed::Failed;
 use crate::source::Source;
+use std::io::{ErrorKind, Read};
 
 /// A reader of std, with a count of its faults that starts at 0 and stops at the last value of a `u64`.
 #[derive(Drop, Debug)]
@@ -18,7 +19,8 @@ pub struct StdSource<R> {
 impl<R: Read> StdSource<R> {
     /// The reader, with no fault counted yet.
     pub fn new(reader: R) -> StdSource<R>
-        ensures { ⟦<StdSource<R> as Source>⟧.faults result ≡ 0 }
+        ensures reader { reader_of result ≡ reader }
+        ensures faults { read_faults result ≡ 0 }
     {
         StdSource { reader, faults: 0 }
     }
@@ -29,9 +31,16 @@ impl<R: Read> StdSource<R> {
 impl<R: Read> Source for StdSource<R> {
     ghost remaining = { λ _. None };
 
-    ghost faults = { λ s. s.faults };
+    ghost faults = { read_faults };
 
-    fn read(&mut self, into: &mut [u8]) -> Result<usize, Failed> {
+    fn read(&mut self, into: &mut [u8]) -> Result<usize, Failed>
+        ensures fits { IfOk result (λ n. n ≤ length into.new) }
+        ensures bytes { ReadConsumes (R.remaining (reader_of self.old))
+            (R.remaining (reader_of self.new)) result into.new }
+        ensures fault { OnErr result (Rose (read_faults self.old) (read_faults self.new)) }
+        ensures no_fault { OnOk result (read_faults self.new ≡ read_faults self.old) }
+        ensures never_falls { read_faults self.old ≤ read_faults self.new }
+    {
         let answer = read_again(&mut self.reader, into);
         if answer.is_err() {
             self.faults = self.faults.saturating_add(1);

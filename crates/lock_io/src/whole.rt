@@ -4,11 +4,10 @@ ghost use Rattle.std.specs.Io.KnownBytes.{IsAtEnd};
 ghost use Rattle.lock_io.specs.Faults.{Rose};
 ghost use Rattle.lock_io.specs.Whole.{AddsFront, MatchFault, TakesFront};
 
-use std::alloc::{AllocError, Global};
-
 use crate::failed::Failed;
 use crate::sink::Sink;
 use crate::source::Source;
+use std::alloc::{AllocError, Global};
 
 /// Why a source wasn't read to its end.
 #[derive(Clone, Copy, Debug, PartialEq, Eq)]
@@ -49,11 +48,13 @@ pub fn read_all<S: Source>(
     while text.len() <= limit {
         let wanted = (limit - text.len()).saturating_add(1).min(PIECE);
         text.reserve(wanted).map_err(ReadAllError::Memory)?;
-        let taken = source.read(&mut piece[..wanted]).map_err(ReadAllError::Fault)?;
+        let taken = source
+            .read(&mut piece[..wanted])
+            .map_err(ReadAllError::Fault)?;
         if taken == 0 {
             return Ok(text);
         }
-        text.extend_from_slice(&piece[..taken]).map_err(ReadAllError::Memory)?;
+        text.extend_from_slice(&piece[..taken]).unwrap();
     }
     Err(ReadAllError::TooBig)
 }
