@@ -1,5 +1,5 @@
 -- A source and a sink in memory, as contracts see them, and which of their calls fail. They are this project's own.
-use Rattle.std.specs.Prelude.{◌≡◌, ℕ, Bool, ◌&&◌, ◌==◌, nat_lt, List, [], length}
+use Rattle.std.specs.Prelude.{ℕ, Bool, ◌&&◌, ◌==◌, nat_lt, List, length}
 use Rattle.std.specs.List.{list_any}
 use Rattle.lock_io.specs.Faults.{one_more}
 

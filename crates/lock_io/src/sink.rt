@@ -15,7 +15,8 @@ pub trait Sink {
     ghost faults: { Self → ℕ };
 
     /// Writes the first bytes of the piece and answers how many it took: at least one of a piece that
-    /// isn't empty.
+    /// isn't empty. `Failed` adds no byte, and comes only where the count of faults rises or stands at
+    /// the last value of a `u64`; no other answer changes the count.
     fn write(&mut self, from: &[u8]) -> Result<usize, Failed>
         ensures fits { IfOk result (λ n. n ≤ length from.now) }
         ensures takes_some { IfOk result (λ n. 0 < length from.now → 0 < n) }
@@ -27,7 +28,7 @@ pub trait Sink {
         ensures no_fault { OnOk result (faults self.new ≡ faults self.old) }
         ensures never_falls { faults self.old ≤ faults self.new };
 
-    /// Hands on what was written and may still be held back.
+    /// Hands on what was written and may still be held back. `Failed` comes as in `write`.
     fn flush(&mut self) -> Result<(), Failed>
         ensures keeps { contents self.new ≡ contents self.old }
 

@@ -15,7 +15,9 @@ pub trait Source {
     ghost faults: { Self → ℕ };
 
     /// Reads the next bytes into the front of the piece and answers how many they are. What stands
-    /// behind them in the piece is left open. At a piece that isn't empty, 0 is the end.
+    /// behind them in the piece is left open. At a piece that isn't empty, 0 is the end. `Failed` takes
+    /// no byte, and comes only where the count of faults rises or stands at the last value of a `u64`;
+    /// no other answer changes the count.
     fn read(&mut self, into: &mut [u8]) -> Result<usize, Failed>
         ensures fits { IfOk result (λ n. n ≤ length into.new) }
         ensures gives { IfOk result (λ n.

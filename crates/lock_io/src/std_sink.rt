@@ -2,11 +2,12 @@
 //! to a proof.
 ghost use Rattle.std.specs.Prelude.{◌≡◌, None, ◌<◌, ◌≤◌, length, IfOk, OnOk, OnErr, is_err};
 ghost use Rattle.std.specs.Io.KnownBytes.{Keeps, WriteAppends};
-ghost use Rattle.lock_io.specs.Faults.{Rose};
+ghost use Rattle.lock_io.specs.Faults.{Rose, one_more};
 ghost use Rattle.lock_io.specs.StdEnds.{write_faults, writer_of};
 
 use crate::failed::Failed;
 use crate::sink::Sink;
+use crate::std_source::TRIES;
 use std::io::{ErrorKind, Write};
 
 /// A writer of std, with a count of its faults that starts at 0 and stops at the last value of a `u64`.
@@ -27,7 +28,8 @@ impl<W: Write> StdSink<W> {
 }
 
 /// An error of the writer is a fault, and so is a write that takes nothing of a piece that isn't empty.
-/// A write that a signal interrupts is made again, up to 1,000 times, and is then a fault too.
+/// A write that a signal interrupts is made again, up to 1,000 times, and is then a fault too. A flush is
+/// made once.
 impl<W: Write> Sink for StdSink<W> {
     ghost contents = { λ _. None };
 
@@ -38,6 +40,7 @@ impl<W: Write> Sink for StdSink<W> {
         ensures takes_some { IfOk result (λ n. 0 < length from.now → 0 < n) }
         ensures bytes { WriteAppends (W.contents (writer_of self.old))
             (W.contents (writer_of self.new)) result from.now }
+        ensures counts { OnErr result (write_faults self.new ≡ one_more (write_faults self.old)) }
         ensures fault { OnErr result (Rose (write_faults self.old) (write_faults self.new)) }
         ensures no_fault { OnOk result (write_faults self.new ≡ write_faults self.old) }
         ensures never_falls { write_faults self.old ≤ write_faults self.new }
@@ -51,6 +54,7 @@ impl<W: Write> Sink for StdSink<W> {
 
     fn flush(&mut self) -> Result<(), Failed>
         ensures bytes { Keeps (W.contents (writer_of self.old)) (W.contents (writer_of self.new)) }
+        ensures counts { OnErr result (write_faults self.new ≡ one_more (write_faults self.old)) }
         ensures fault { OnErr result (Rose (write_faults self.old) (write_faults self.new)) }
         ensures no_fault { OnOk result (write_faults self.new ≡ write_faults self.old) }
         ensures never_falls { write_faults self.old ≤ write_faults self.new }
@@ -62,9 +66,6 @@ impl<W: Write> Sink for StdSink<W> {
         Ok(())
     }
 }
-
-// How often an interrupted write is made, at most.
-const TRIES: u32 = 1000;
 
 // Writes, and again as long as a signal interrupts it.
 fn write_again<W: Write>(writer: &mut W, from: &[u8]) -> Result<usize, Failed>

@@ -2,7 +2,7 @@
 //! known to a proof.
 ghost use Rattle.std.specs.Prelude.{◌≡◌, None, ◌<◌, ◌≤◌, length, IfOk, OnOk, OnErr, is_err};
 ghost use Rattle.std.specs.Io.KnownBytes.{ReadConsumes};
-ghost use Rattle.lock_io.specs.Faults.{Rose};
+ghost use Rattle.lock_io.specs.Faults.{Rose, one_more};
 ghost use Rattle.lock_io.specs.StdEnds.{read_faults, reader_of};
 
 use crate::failed::Failed;
@@ -37,6 +37,7 @@ impl<R: Read> Source for StdSource<R> {
         ensures fits { IfOk result (λ n. n ≤ length into.new) }
         ensures bytes { ReadConsumes (R.remaining (reader_of self.old))
             (R.remaining (reader_of self.new)) result into.new }
+        ensures counts { OnErr result (read_faults self.new ≡ one_more (read_faults self.old)) }
         ensures fault { OnErr result (Rose (read_faults self.old) (read_faults self.new)) }
         ensures no_fault { OnOk result (read_faults self.new ≡ read_faults self.old) }
         ensures never_falls { read_faults self.old ≤ read_faults self.new }
@@ -49,8 +50,8 @@ impl<R: Read> Source for StdSource<R> {
     }
 }
 
-// How often an interrupted read is made, at most.
-const TRIES: u32 = 1000;
+// How often a call that is interrupted is made, at most.
+pub(crate) const TRIES: u32 = 1000;
 
 // Reads, and again as long as a signal interrupts it.
 fn read_again<R: Read>(reader: &mut R, into: &mut [u8]) -> Result<usize, Failed>

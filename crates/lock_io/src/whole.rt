@@ -25,7 +25,7 @@ const PIECE: usize = 4096;
 
 /// All bytes that the source has left, where they are at most `limit`. The reading stops at the first
 /// byte beyond that, and the answer is then `TooBig`. `Fault` comes only where the source failed, and
-/// `Memory` only where memory is wanting.
+/// `Memory` only where memory is wanting. Whatever the answer, at most `limit + 1` bytes were taken.
 pub fn read_all<S: Source>(
     alloc: Global,
     source: &mut S,
@@ -36,17 +36,22 @@ pub fn read_all<S: Source>(
     ensures end { OnOk result (IsAtEnd (S.remaining source.new)) }
     ensures within { IfOk result (λ text. vec_len text ≤ limit) }
 
-    ensures too_big { IsErrOf result ReadAllError.TooBig → IfSome (S.remaining source.old) (λ bytes.
-        (limit < length bytes) × (S.remaining source.new ≡ Some (drop (limit + 1) bytes))) }
+    ensures too_big { IsErrOf result ReadAllError.TooBig →
+        IfSome (S.remaining source.old) (λ bytes. limit < length bytes) }
+    ensures too_big_takes { IsErrOf result ReadAllError.TooBig → IfSome (S.remaining source.old)
+        (λ bytes. S.remaining source.new ≡ Some (drop (limit + 1) bytes)) }
 
+    // At each answer.
     ensures front { TakesFront (S.remaining source.old) (S.remaining source.new) (limit + 1) }
     ensures fault { MatchFault result (Rose (S.faults source.old) (S.faults source.new))
         (S.faults source.new ≡ S.faults source.old) }
+    ensures never_falls { S.faults source.old ≤ S.faults source.new }
 {
     let mut text = Vec::new(alloc);
     let mut piece = [0; PIECE];
     while text.len() <= limit {
         let wanted = (limit - text.len()).saturating_add(1).min(PIECE);
+        // The room comes first, so that no byte is taken that can't be kept.
         text.reserve(wanted).map_err(ReadAllError::Memory)?;
         let taken = source
             .read(&mut piece[..wanted])
@@ -67,6 +72,7 @@ pub fn write_all<K: Sink>(sink: &mut K, text: &[u8]) -> Result<(), Failed>
     ensures front { AddsFront (K.contents sink.old) (K.contents sink.new) text.now }
     ensures fault { OnErr result (Rose (K.faults sink.old) (K.faults sink.new)) }
     ensures no_fault { OnOk result (K.faults sink.new ≡ K.faults sink.old) }
+    ensures never_falls { K.faults sink.old ≤ K.faults sink.new }
 {
     let mut written = 0;
     while written < text.len() {
