@@ -1,0 +1,29 @@
+//! The outside of the program: where its script comes from and where its text goes.
+//!
+//! - `failed`: the one fault of a source or a sink.
+//! - `source`, `sink`: the traits, with the bytes that an end tells and its count of faults.
+//! - `whole`: reading a source to its end, and writing a whole text to a sink.
+//! - `mem_source`, `mem_sink`: ends in memory for tests, over `calls`, which lets chosen calls fail.
+//! - `std_source`, `std_sink`: a reader and a writer of std as ends of the program.
+#![tactic(auto)]
+
+mod calls;
+mod failed;
+mod mem_sink;
+mod mem_source;
+mod sink;
+mod source;
+mod std_sink;
+mod std_source;
+#[cfg(test)]
+mod tests;
+mod whole;
+
+pub use failed::Failed;
+pub use mem_sink::MemSink;
+pub use mem_source::MemSource;
+pub use sink::Sink;
+pub use source::Source;
+pub use std_sink::StdSink;
+pub use std_source::StdSource;
+pub use whole::{ReadAllError, read_all, write_all};
