@@ -1,6 +1,7 @@
 //! `lockrun step` reads a script from standard input, makes its scheduled run, and writes its text to standard output.
 #![tactic(auto)]
 
+mod answer;
 mod run;
 pub mod status;
 pub mod world;

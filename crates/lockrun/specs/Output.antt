@@ -1,0 +1,43 @@
+-- Which status and text belong to the words of a command line and to the bytes of a source, and which states the run goes through.
+use Rattle.std.specs.Prelude.{◌≡◌, ℕ, Bool, false, true, List, [], ◌∷◌, codes, reverse, Option, Some, None}
+use Rattle.std.specs.FinMap.{entries}
+use Rattle.lock_model.specs.Plans.{config_of}
+use Rattle.lock_model.specs.Script.{plan_of_lines, lines_of, is_same, IsAccepted}
+use Rattle.lock_model.specs.Run.{after_turns, scheduled_run}
+use Rattle.lock_model.specs.State.{State}
+use Rattle.lock_model.specs.Facts.{WordsMatchHolders}
+use Rattle.lock_model.specs.History.{tables_of}
+use Rattle.lock_model.specs.Text.{Outcome, Ending, IsDone, IsStuck, IsReversed, IsTooLong, text_of, fault_text}
+use Rattle.lock_model.specs.declared.plan.Plan.{Plan}
+use Rattle.lockrun.specs.declared.status.Status.{Status}
+use Rattle.lockrun.specs.declared.status.Status.TheVariants.{Done, BadScript, Stuck, Reversed, TooLong}
+
+-- chains of each sort, where the command line says nothing
+abbrev pub default_chains : ℕ
+default_chains = 16
+
+-- the words of the one form of the command line so far: step
+abbrev pub is_form : List (List ℕ) → Bool
+is_form [] = false
+is_form (word ∷ []) = is_same word (codes "step")
+is_form (word ∷ other ∷ words) = false
+
+abbrev pub status_of : Ending → Status
+status_of IsDone = Done
+status_of IsStuck = Stuck
+status_of IsReversed = Reversed
+status_of IsTooLong = TooLong
+
+abbrev pub output_of_plan : Option Plan → Status × List ℕ
+output_of_plan None = (BadScript, fault_text 0 0)
+output_of_plan (Some plan) = (status_of (scheduled_run plan default_chains).ending, text_of plan (scheduled_run plan default_chains))
+
+-- under step: the text of the scheduled run of a script, or the fault of a source that is none
+unfoldable pub output_of : List ℕ → Status × List ℕ
+output_of bytes = output_of_plan (plan_of_lines (lines_of bytes))
+
+-- after each number of turns the words match their holders, and the printed tables are what the printed history leaves
+pub record IsLawfulRun (plan : Plan) : Type 0 where
+  pub words : (n : ℕ) → WordsMatchHolders (config_of plan default_chains) (after_turns plan default_chains n).state.word (after_turns plan default_chains n).state.held
+  pub tables : (scheduled_run plan default_chains).tables ≡ entries (tables_of (reverse (scheduled_run plan default_chains).history))
+  pub done : (scheduled_run plan default_chains).ending ≡ IsDone
