@@ -1,5 +1,5 @@
 -- Which status and text belong to the words of a command line and to the bytes of a source, and which states the run goes through.
-use Rattle.std.specs.Prelude.{◌≡◌, ℕ, Bool, false, true, List, [], ◌∷◌, codes, reverse, Option, Some, None}
+use Rattle.std.specs.Prelude.{◌≡◌, ℕ, Bool, false, true, List, [], ◌∷◌, codes, reverse, Option, Some, None, IfSome, ◌++◌}
 use Rattle.std.specs.FinMap.{entries}
 use Rattle.lock_model.specs.Plans.{config_of}
 use Rattle.lock_model.specs.Script.{plan_of_lines, lines_of, is_same, IsAccepted}
@@ -10,7 +10,7 @@ use Rattle.lock_model.specs.History.{tables_of}
 use Rattle.lock_model.specs.Text.{Outcome, Ending, IsDone, IsStuck, IsReversed, IsTooLong, text_of, fault_text}
 use Rattle.lock_model.specs.declared.plan.Plan.{Plan}
 use Rattle.lockrun.specs.declared.status.Status.{Status}
-use Rattle.lockrun.specs.declared.status.Status.TheVariants.{Done, BadScript, Stuck, Reversed, TooLong}
+use Rattle.lockrun.specs.declared.status.Status.TheVariants.{Done, BadScript, ReadFault, WriteFault, NoMemory, Stuck, Reversed, TooLong, TooBig, Usage}
 
 -- chains of each sort, where the command line says nothing
 abbrev pub default_chains : ℕ
@@ -35,6 +35,27 @@ output_of_plan (Some plan) = (status_of (scheduled_run plan default_chains).endi
 -- under step: the text of the scheduled run of a script, or the fault of a source that is none
 unfoldable pub output_of : List ℕ → Status × List ℕ
 output_of bytes = output_of_plan (plan_of_lines (lines_of bytes))
+
+-- the status says that a whole text was written
+abbrev pub has_text : Status → Bool
+has_text Done = true
+has_text BadScript = true
+has_text ReadFault = false
+has_text WriteFault = false
+has_text NoMemory = false
+has_text Stuck = true
+has_text Reversed = true
+has_text TooLong = true
+has_text TooBig = false
+has_text Usage = false
+
+-- the most bytes of a script
+abbrev pub most_bytes : ℕ
+most_bytes = 1048576
+
+-- what is held behind a call that was to write the text: with it, or as it was
+abbrev pub Wrote : Option (List ℕ) → Option (List ℕ) → List ℕ → Type 0
+Wrote old new text = IfSome old (λ held. new ≡ Some (held ++ text))
 
 -- after each number of turns the words match their holders, and the printed tables are what the printed history leaves
 pub record IsLawfulRun (plan : Plan) : Type 0 where

@@ -4,6 +4,7 @@
 mod answer;
 mod run;
 pub mod status;
+pub mod top;
 pub mod world;
 
 fn main() {}

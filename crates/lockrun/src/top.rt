@@ -1,0 +1,75 @@
+//! The top call: the words of the command line and a source in, the text and a status out. The text is made whole before its first
+//! byte is written, and nothing is written where there is none.
+ghost use Rattle.std.specs.Prelude.{◌≡◌, ◌⊎◌, ◌<◌, ◌≤◌, ◌+◌, ◌↔◌, true, false, length, map, drop, Some, IfSome, IsTrue, List, ℕ};
+ghost use Rattle.std.specs.Io.KnownBytes.{IsAtEnd};
+ghost use Rattle.std.specs.String.{string_bytes};
+ghost use Rattle.lock_io.specs.Faults.{Rose};
+ghost use Rattle.lock_io.specs.Whole.{AddsFront};
+ghost use Rattle.lock_model.specs.Script.{IsAccepted};
+ghost use Rattle.lock_model.specs.declared.plan.Plan.{Plan};
+ghost use Rattle.lockrun.specs.Output.{is_form, has_text, most_bytes, output_of, Wrote, IsLawfulRun};
+
+use std::alloc::Global;
+
+use lock_io::{ReadAllError, Sink, Source, read_all, write_all};
+use lock_model::limits::SCRIPT_BYTES;
+
+use crate::answer::answer;
+use crate::status::Status;
+
+/// What the program does where no thread is started. The words are the command line without the program's name.
+pub fn lockrun_plain<S: Source, K: Sink>(
+    alloc: Global,
+    words: &[String],
+    source: &mut S,
+    sink: &mut K,
+) -> Status
+    // Usage comes exactly where the words are no form of the command line, and then nothing is read.
+    ensures usage { (result ≡ Status.Usage) ↔ (is_form (map string_bytes words.now) ≡ false) }
+    ensures usage_reads_nothing { result ≡ Status.Usage → S.remaining source.new ≡ S.remaining source.old }
+
+    // A status with a text: the source was read to its end, the text and the status are the one pair that belongs to its bytes,
+    // and nothing failed.
+    ensures read_whole { IsTrue (has_text result) → IsAtEnd (S.remaining source.new) }
+    ensures status { IsTrue (has_text result) → IfSome (S.remaining source.old) (λ bytes. result ≡ (output_of bytes).0) }
+    ensures text { IsTrue (has_text result) → IfSome (S.remaining source.old) (λ bytes.
+        Wrote (K.contents sink.old) (K.contents sink.new) (output_of bytes).1) }
+    ensures no_fault { IsTrue (has_text result) → (S.faults source.new ≡ S.faults source.old) × (K.faults sink.new ≡ K.faults sink.old) }
+    ensures lawful { (bytes : List ℕ) (plan : Plan) → IsAccepted bytes plan → IsLawfulRun plan }
+
+    // The causes of the others.
+    ensures read_fault { result ≡ Status.ReadFault → Rose (S.faults source.old) (S.faults source.new) }
+    ensures write_fault { result ≡ Status.WriteFault → Rose (K.faults sink.old) (K.faults sink.new) }
+    ensures write_fault_writes_a_front { result ≡ Status.WriteFault → IfSome (S.remaining source.old) (λ bytes.
+        AddsFront (K.contents sink.old) (K.contents sink.new) (output_of bytes).1) }
+    ensures too_big { result ≡ Status.TooBig → IfSome (S.remaining source.old) (λ bytes.
+        (most_bytes < length bytes) × (S.remaining source.new ≡ Some (drop (most_bytes + 1) bytes))) }
+    ensures nothing_written { has_text result ≡ false → (result ≡ Status.WriteFault) ⊎ (K.contents sink.new ≡ K.contents sink.old) }
+{
+    if !is_form(words) {
+        return Status::Usage;
+    }
+    let bytes = match read_all(alloc, source, SCRIPT_BYTES) {
+        Ok(bytes) => bytes,
+        Err(ReadAllError::Memory(_)) => return Status::NoMemory,
+        Err(ReadAllError::Fault(_)) => return Status::ReadFault,
+        Err(ReadAllError::TooBig) => return Status::TooBig,
+    };
+    let Ok((status, text)) = answer(alloc, &bytes) else {
+        return Status::NoMemory;
+    };
+    match write_all(sink, &text) {
+        Ok(()) => status,
+        Err(_) => Status::WriteFault,
+    }
+}
+
+// The one form so far: the single word `step`.
+fn is_form(words: &[String]) -> bool
+    ensures { result ≡ is_form (map string_bytes words.now) }
+{
+    match words {
+        [word] => word.as_str() == "step",
+        _ => false,
+    }
+}
