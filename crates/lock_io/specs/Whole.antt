@@ -1,5 +1,5 @@
 -- What reading a source to its end, or writing a whole text to a sink, does to the bytes that they tell.
-use Rattle.std.specs.Prelude.{◌≡◌, ℕ, ◌≤◌, List, length, take, Result, Ok, Err, Option}
+use Rattle.std.specs.Prelude.{◌≡◌, ℕ, ◌+◌, ◌≤◌, List, length, take, Result, Ok, Err, Option}
 use Rattle.std.specs.Io.KnownBytes.{prepend_known, append_known}
 use Rattle.lock_io.specs.declared.whole.ReadAllError.{ReadAllError}
 use Rattle.lock_io.specs.declared.whole.ReadAllError.TheVariants.{Memory, Fault, TooBig}
@@ -18,3 +18,10 @@ MatchFault (Err (Fault f)) P Q = P
 MatchFault (Err (Memory e)) P Q = Q
 MatchFault (Err TooBig) P Q = Q
 MatchFault (Ok x) P Q = Q
+
+-- how many bytes are taken at most: one more than the limit where the answer is `TooBig`
+abbrev pub most_taken : {T : Type 0} → Result T ReadAllError → ℕ → ℕ
+most_taken (Err TooBig) limit = limit + 1
+most_taken (Err (Memory e)) limit = limit
+most_taken (Err (Fault f)) limit = limit
+most_taken (Ok x) limit = limit

@@ -2,7 +2,7 @@
 ghost use Rattle.std.specs.Prelude.{◌≡◌, ℕ, ◌+◌, ◌<◌, ◌≤◌, ◌++◌, length, drop, IfOk, IfSome, OnOk, OnErr, IsErrOf, vec_len};
 ghost use Rattle.std.specs.Io.KnownBytes.{IsAtEnd};
 ghost use Rattle.lock_io.specs.Faults.{Rose};
-ghost use Rattle.lock_io.specs.Whole.{AddsFront, MatchFault, TakesFront};
+ghost use Rattle.lock_io.specs.Whole.{AddsFront, MatchFault, TakesFront, most_taken};
 
 use crate::failed::Failed;
 use crate::sink::Sink;
@@ -25,7 +25,8 @@ const PIECE: usize = 4096;
 
 /// All bytes that the source has left, where they are at most `limit`. The reading stops at the first
 /// byte beyond that, and the answer is then `TooBig`. `Fault` comes only where the source failed, and
-/// `Memory` only where memory is wanting. Whatever the answer, at most `limit + 1` bytes were taken.
+/// `Memory` only where memory is wanting. At
+/// `TooBig` exactly `limit + 1` bytes were taken, and at most `limit` at each other answer.
 pub fn read_all<S: Source>(
     alloc: Global,
     source: &mut S,
@@ -42,7 +43,8 @@ pub fn read_all<S: Source>(
         (λ bytes. S.remaining source.new ≡ Some (drop (limit + 1) bytes)) }
 
     // At each answer.
-    ensures front { TakesFront (S.remaining source.old) (S.remaining source.new) (limit + 1) }
+    ensures front { TakesFront (S.remaining source.old) (S.remaining source.new)
+        (most_taken result limit) }
     ensures fault { MatchFault result (Rose (S.faults source.old) (S.faults source.new))
         (S.faults source.new ≡ S.faults source.old) }
     ensures never_falls { S.faults source.old ≤ S.faults source.new }

@@ -160,8 +160,8 @@ mutex_sound k n name class h e =
       open_thread = not_open _ k.open_thread (none_is k.open_thread first.0);
     })
 
-no_more : {A : Type 0} → (n : ℕ) → length {A = A} [] ≤ n
-no_more n = omega arith
+no_more : (A : Type 0) (n : ℕ) → length {A = A} [] ≤ n
+no_more A n = omega arith
 
 begin_sound : (k n : Known) (name prio : List ℕ) → IsSound k → judged_begin k name prio ≡ Some n → IsSound n
 begin_sound k n name prio h e =
@@ -176,7 +176,7 @@ begin_sound k n name prio h e =
       locks = h.locks;
       operations = h.operations;
       threads = no_threads _ _ k.threads (empty_is k.threads first.1);
-      open_thread = record { first = empty_is k.threads first.1; fits = refl; one = no_more {A = Held} 1; few = no_more {A = Op} k.operations };
+      open_thread = record { first = empty_is k.threads first.1; fits = refl; one = no_more Held 1; few = no_more Op k.operations };
     } in
     subst IsSound (same_Some next n p.2) sound
 

@@ -2,3 +2,4 @@ pub mod Stands
 pub mod Shown
 pub mod Accepted
 pub mod Outcome
+pub mod Statuses

@@ -1,5 +1,5 @@
 -- Which status and text belong to the words of a command line and to the bytes of a source, and which states the run goes through.
-use Rattle.std.specs.Prelude.{◌≡◌, ℕ, Bool, false, true, List, [], ◌∷◌, codes, reverse, Option, Some, None, IfSome, ◌++◌}
+use Rattle.std.specs.Prelude.{◌≡◌, ℕ, Bool, false, true, List, [], ◌∷◌, codes, reverse, Option, Some, None, IfSome, ◌++◌, ◌<◌, ◌+◌, length, drop}
 use Rattle.std.specs.FinMap.{entries}
 use Rattle.lock_model.specs.Plans.{config_of}
 use Rattle.lock_model.specs.Script.{plan_of_lines, lines_of, is_same, IsAccepted}
@@ -49,9 +49,26 @@ has_text TooLong = true
 has_text TooBig = false
 has_text Usage = false
 
+-- the status says that some of a text may be written
+abbrev pub writes : Status → Bool
+writes Done = true
+writes BadScript = true
+writes ReadFault = false
+writes WriteFault = true
+writes NoMemory = false
+writes Stuck = true
+writes Reversed = true
+writes TooLong = true
+writes TooBig = false
+writes Usage = false
+
 -- the most bytes of a script
 abbrev pub most_bytes : ℕ
 most_bytes = 1048576
+
+-- one byte more than that was read, and no more
+abbrev pub TookTooMany : List ℕ → Option (List ℕ) → Type 0
+TookTooMany bytes new = (most_bytes < length bytes) × (new ≡ Some (drop (most_bytes + 1) bytes))
 
 -- what is held behind a call that was to write the text: with it, or as it was
 abbrev pub Wrote : Option (List ℕ) → Option (List ℕ) → List ℕ → Type 0

@@ -1,9 +1,9 @@
 //! What the program answers to a source that was read to its end: the status, and the whole text, made before its first byte is
 //! written.
-ghost use Rattle.std.specs.Prelude.{◌≡◌, IfOk, map};
+ghost use Rattle.std.specs.Prelude.{◌≡◌, IfOk, map, true};
 ghost use Rattle.lock_model.specs.Text.{text_of};
 ghost use Rattle.lock_model.specs.Run.{scheduled_run};
-ghost use Rattle.lockrun.specs.Output.{output_of, default_chains};
+ghost use Rattle.lockrun.specs.Output.{output_of, has_text, default_chains};
 ghost use Rattle.lockrun.specs.Straight.{IsStraight};
 
 use std::alloc::{AllocError, Global};
@@ -17,7 +17,8 @@ use crate::status::Status;
 
 /// The status and the text that belong to the bytes under `step`.
 pub fn answer(alloc: Global, bytes: &[u8]) -> Result<(Status, Vec<u8>), AllocError>
-    ensures { IfOk result (λ a. (a.0, a.1.items) ≡ output_of bytes.now) }
+    ensures pair { IfOk result (λ a. (a.0, a.1.items) ≡ output_of bytes.now) }
+    ensures has_text { IfOk result (λ a. has_text a.0 ≡ true) }
 {
     match read_script(alloc, bytes) {
         Ok(plan) => Ok((Status::Done, run_text(alloc, &plan)?)),

@@ -1,13 +1,13 @@
 //! The top call: the words of the command line and a source in, the text and a status out. The text is made whole before its first
 //! byte is written, and nothing is written where there is none.
-ghost use Rattle.std.specs.Prelude.{◌≡◌, ◌⊎◌, ◌<◌, ◌≤◌, ◌+◌, ◌↔◌, true, false, length, map, drop, Some, IfSome, IsTrue, List, ℕ};
+ghost use Rattle.std.specs.Prelude.{◌≡◌, ◌⊎◌, ◌≤◌, ◌↔◌, true, false, length, map, IfSome, List, ℕ};
 ghost use Rattle.std.specs.Io.KnownBytes.{IsAtEnd};
 ghost use Rattle.std.specs.String.{string_bytes};
 ghost use Rattle.lock_io.specs.Faults.{Rose};
 ghost use Rattle.lock_io.specs.Whole.{AddsFront};
 ghost use Rattle.lock_model.specs.Script.{IsAccepted};
 ghost use Rattle.lock_model.specs.declared.plan.Plan.{Plan};
-ghost use Rattle.lockrun.specs.Output.{is_form, has_text, most_bytes, output_of, Wrote, IsLawfulRun};
+ghost use Rattle.lockrun.specs.Output.{is_form, has_text, writes, most_bytes, TookTooMany, output_of, Wrote, IsLawfulRun};
 
 use std::alloc::Global;
 
@@ -28,23 +28,31 @@ pub fn lockrun_plain<S: Source, K: Sink>(
     ensures usage { (result ≡ Status.Usage) ↔ (is_form (map string_bytes words.now) ≡ false) }
     ensures usage_reads_nothing { result ≡ Status.Usage → S.remaining source.new ≡ S.remaining source.old }
 
-    // A status with a text: the source was read to its end, the text and the status are the one pair that belongs to its bytes,
-    // and nothing failed.
-    ensures read_whole { IsTrue (has_text result) → IsAtEnd (S.remaining source.new) }
-    ensures status { IsTrue (has_text result) → IfSome (S.remaining source.old) (λ bytes. result ≡ (output_of bytes).0) }
-    ensures text { IsTrue (has_text result) → IfSome (S.remaining source.old) (λ bytes.
+    // A status with a text: the source was read to its end, nothing failed, and the status and the text are the one pair that
+    // belongs to the bytes. Every state that the run of their plan goes through is lawful.
+    ensures read_whole { has_text result ≡ true → IsAtEnd (S.remaining source.new) }
+    ensures no_fault { has_text result ≡ true
+        → (S.faults source.new ≡ S.faults source.old) × (K.faults sink.new ≡ K.faults sink.old) }
+    ensures status { has_text result ≡ true
+        → IfSome (S.remaining source.old) (λ bytes. result ≡ (output_of bytes).0) }
+    ensures text { has_text result ≡ true → IfSome (S.remaining source.old) (λ bytes.
         Wrote (K.contents sink.old) (K.contents sink.new) (output_of bytes).1) }
-    ensures no_fault { IsTrue (has_text result) → (S.faults source.new ≡ S.faults source.old) × (K.faults sink.new ≡ K.faults sink.old) }
     ensures lawful { (bytes : List ℕ) (plan : Plan) → IsAccepted bytes plan → IsLawfulRun plan }
 
-    // The causes of the others.
+    // The causes of the other statuses, and what they leave.
     ensures read_fault { result ≡ Status.ReadFault → Rose (S.faults source.old) (S.faults source.new) }
+    ensures too_big { IfSome (S.remaining source.old) (λ bytes. (result ≡ Status.TooBig)
+        ↔ TookTooMany bytes (S.remaining source.new)) }
     ensures write_fault { result ≡ Status.WriteFault → Rose (K.faults sink.old) (K.faults sink.new) }
-    ensures write_fault_writes_a_front { result ≡ Status.WriteFault → IfSome (S.remaining source.old) (λ bytes.
+    ensures write_fault_front { result ≡ Status.WriteFault → IfSome (S.remaining source.old) (λ bytes.
         AddsFront (K.contents sink.old) (K.contents sink.new) (output_of bytes).1) }
-    ensures too_big { result ≡ Status.TooBig → IfSome (S.remaining source.old) (λ bytes.
-        (most_bytes < length bytes) × (S.remaining source.new ≡ Some (drop (most_bytes + 1) bytes))) }
-    ensures nothing_written { has_text result ≡ false → (result ≡ Status.WriteFault) ⊎ (K.contents sink.new ≡ K.contents sink.old) }
+    ensures nothing_written { writes result ≡ false → K.contents sink.new ≡ K.contents sink.old }
+
+    // Where nothing fails, a source that isn't too big gets the status of its bytes, save for want of memory.
+    ensures complete { is_form (map string_bytes words.now) ≡ true
+        → ¬ (Rose (S.faults source.old) (S.faults source.new)) → ¬ (Rose (K.faults sink.old) (K.faults sink.new))
+        → IfSome (S.remaining source.old) (λ bytes. length bytes ≤ most_bytes
+        → (result ≡ (output_of bytes).0) ⊎ (result ≡ Status.NoMemory)) }
 {
     if !is_form(words) {
         return Status::Usage;

@@ -7,11 +7,11 @@ use Rattle.lockrun.proofs.answer.answer.Goals as goal
 pub run_text-requires : goal.run_text-requires
 run_text-requires c = accepted_straight c.args.bytes.now c.in-Ok.plan c.in-Ok.ensures.accepted
 
-pub returns-in_ok-run_text-in-Ok : goal.returns-in_ok-run_text-in-Ok
-returns-in_ok-run_text-in-Ok c =
+pub returns-in_ok-run_text-in-Ok-clause-pair : goal.returns-in_ok-run_text-in-Ok-clause-pair
+returns-in_ok-run_text-in-Ok-clause-pair c =
     accepted_output c.args.bytes.now c.in-Ok.plan c.in_ok-run_text-in-Ok.field-0.items c.in-Ok.ensures.accepted c.in_ok-run_text-in-Ok.ensures
 
-pub returns-in_ok-text-in-Err-Script : goal.returns-in_ok-text-in-Err-Script
-returns-in_ok-text-in-Err-Script c =
+pub returns-in_ok-text-in-Err-Script-clause-pair : goal.returns-in_ok-text-in-Err-Script-clause-pair
+returns-in_ok-text-in-Err-Script-clause-pair c =
     let refused = subst (Refuses c.args.bytes.now) c.in-Err-Script.field-0-is c.in-Err-Script.ensures.refused in
     refused_output c.args.bytes.now c.in-Err-Script.fault c.in_ok-text-in-Err-Script.text.items refused c.in_ok-text-in-Err-Script.ensures

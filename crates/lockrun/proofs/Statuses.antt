@@ -1,0 +1,30 @@
+-- What the statuses of the top call say, as laws over plain bytes.
+use Rattle.std.proofs.Common.{◌≡◌, ℕ, suc, ◌+◌, ◌-◌, ◌<◌, ◌≤◌, ◌⊎◌, ◌↔◌, Bool, true, false, List, [], ◌++◌, length, drop, Option, Some, None, IfSome, refl, sym, ap, ◌∙◌, subst, arith, length-append, length-drop}
+use Rattle.std.specs.Io.KnownBytes.{prepend_known}
+use Rattle.std.proofs.lemmas.Option.{same_Some}
+use Rattle.lock_io.specs.Whole.{TakesFront}
+use Rattle.lock_model.specs.Script.{IsAccepted}
+use Rattle.lock_model.specs.declared.plan.Plan.{Plan}
+use Rattle.lockrun.specs.declared.status.Status.{Status}
+use Rattle.lockrun.specs.declared.status.Status.TheVariants.{TooBig}
+use Rattle.lockrun.specs.Output.{IsLawfulRun, TookTooMany, most_bytes}
+use Rattle.lockrun.proofs.Accepted.{accepted_straight}
+use Rattle.lockrun.proofs.Outcome.{lawful_run}
+
+pub accepted_lawful : (bytes : List ℕ) (plan : Plan) → IsAccepted bytes plan → IsLawfulRun plan
+accepted_lawful bytes plan accepted = lawful_run plan (accepted_straight bytes plan accepted)
+
+taken_lengths : (bytes front : List ℕ) (new : Option (List ℕ)) → Some bytes ≡ prepend_known front new → new ≡ Some (drop (most_bytes + 1) bytes) → length bytes ≡ length front + (length bytes - (most_bytes + 1))
+taken_lengths bytes front new e n =
+    let same : bytes ≡ front ++ drop (most_bytes + 1) bytes = same_Some _ _ (e ∙ ap (prepend_known front) n) in
+    ap length same ∙ length-append front (drop (most_bytes + 1) bytes) ∙ ap (λ (m : ℕ). length front + m) (length-drop (most_bytes + 1) bytes)
+
+-- where at most the most bytes were taken, not one more was
+pub took_no_more : (r : Status) (old new : Option (List ℕ)) → TakesFront old new most_bytes → (r ≡ TooBig → ⊥) → IfSome old (λ bytes. (r ≡ TooBig) ↔ TookTooMany bytes new)
+took_no_more r None new t no = tt
+took_no_more r (Some bytes) new t no = (λ e. absurd (no e), λ k. absurd (omega (arith, k.0, t.1, taken_lengths bytes t.0 new t.2 k.1)))
+
+-- where nothing was taken
+pub took_nothing : (r : Status) (old : Option (List ℕ)) → (r ≡ TooBig → ⊥) → IfSome old (λ bytes. (r ≡ TooBig) ↔ TookTooMany bytes old)
+took_nothing r None no = tt
+took_nothing r (Some bytes) no = took_no_more r (Some bytes) (Some bytes) ([], omega arith, refl) no
