@@ -1,4 +1,4 @@
-use Rattle.std.proofs.Common.{◌≡◌, ◌∷◌, ◌∙◌, sym, refl}
+use Rattle.std.proofs.Common.{◌≡◌, ◌∷◌, sym, refl}
 use Rattle.lock_model.specs.Script.{words_of}
 use Rattle.script_read.proofs.Cuts.{too_many_words}
 use Rattle.script_read.proofs.statement.statement_of.Goals as goal

@@ -1,4 +1,4 @@
-use Rattle.std.proofs.Common.{◌≡◌, ◌∙◌, ap}
+use Rattle.std.proofs.Common.{◌∙◌, ap}
 use Rattle.lock_model.specs.Script.{words_of}
 use Rattle.script_read.proofs.Cuts.{words-cut, words-last}
 use Rattle.script_read.proofs.words.split_word.Goals as goal
