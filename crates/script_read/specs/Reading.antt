@@ -1,5 +1,5 @@
 -- Words of this crate's contracts: cuts of a source, and when reading is refused.
-use Rattle.std.specs.Prelude.{◌≡◌, ℕ, Bool, true, not, ◌==◌, List, [], Option, Some, None}
+use Rattle.std.specs.Prelude.{◌≡◌, ℕ, true, not, ◌==◌, List, [], Option, Some, None}
 use Rattle.std.specs.List.{list_all}
 use Rattle.lock_model.specs.Script.{words_of, IsRefused}
 use Rattle.script_read.specs.declared.fault.ScriptFault.{ScriptFault}

@@ -187,18 +187,14 @@ impl Reader {
         ensures { Goes (λ _. known self.new) result (option_and_then (judged_lock (known self.old) lock.now) (known self.old).open_thread) }
     {
         let l = self.lock_named(lock).ok_or(UNPLACED)?;
-        match &mut self.open_thread {
-            Some(thread) => {
-                if !thread.held.is_empty() {
-                    return Err(ReadError::Script(UNPLACED));
-                }
-                let mode = Mode::Excl;
-                let by_try = false;
-                thread.held.push(Held { l, mode, by_try })?;
-                self.add(Op::Take { l, mode })
-            }
-            None => Err(ReadError::Script(UNPLACED)),
+        let thread = self.open_thread.as_mut().ok_or(UNPLACED)?;
+        if !thread.held.is_empty() {
+            return Err(ReadError::Script(UNPLACED));
         }
+        let mode = Mode::Excl;
+        let by_try = false;
+        thread.held.push(Held { l, mode, by_try })?;
+        self.add(Op::Take { l, mode })
     }
 
     // `unlock L` releases a lock.
@@ -206,14 +202,10 @@ impl Reader {
         ensures { Goes (λ _. known self.new) result (option_and_then (judged_unlock (known self.old) lock.now) (known self.old).open_thread) }
     {
         let l = self.lock_named(lock).ok_or(UNPLACED)?;
-        match &mut self.open_thread {
-            Some(thread) => {
-                let place = place_of(l, &thread.held).ok_or(UNPLACED)?;
-                thread.held.remove(place);
-                self.add(Op::Release { l })
-            }
-            None => Err(ReadError::Script(UNPLACED)),
-        }
+        let thread = self.open_thread.as_mut().ok_or(UNPLACED)?;
+        let place = place_held(l, &thread.held).ok_or(UNPLACED)?;
+        thread.held.remove(place);
+        self.add(Op::Release { l })
     }
 
     // `set L KEY VALUE` writes a key of a lock's table.
@@ -223,10 +215,11 @@ impl Reader {
         let l = self.lock_named(lock).ok_or(UNPLACED)?;
         let key = number_of(key).ok_or(UNPLACED)?;
         let value = number_of(value).ok_or(UNPLACED)?;
-        match &self.open_thread {
-            Some(thread) if holds(l, &thread.held) => self.add(Op::Set { l, key, value }),
-            _ => Err(ReadError::Script(UNPLACED)),
+        let thread = self.open_thread.as_ref().ok_or(UNPLACED)?;
+        if !holds(l, &thread.held) {
+            return Err(ReadError::Script(UNPLACED));
         }
+        self.add(Op::Set { l, key, value })
     }
 
     // Adds an operation to the open thread's.
@@ -236,14 +229,10 @@ impl Reader {
         if self.operations >= limits::OPERATIONS {
             return Err(ReadError::Script(UNPLACED));
         }
-        match &mut self.open_thread {
-            Some(thread) => {
-                thread.ops.push(op)?;
-                self.operations += 1;
-                Ok(())
-            }
-            None => Err(ReadError::Script(UNPLACED)),
-        }
+        let thread = self.open_thread.as_mut().ok_or(UNPLACED)?;
+        thread.ops.push(op)?;
+        self.operations += 1;
+        Ok(())
     }
 
     // Whether no thread has begun.
@@ -281,7 +270,7 @@ impl Reader {
 }
 
 // Where a lock stands among those that are held.
-fn place_of(l: LockNo, held: &[Held]) -> Option<usize>
+fn place_held(l: LockNo, held: &[Held]) -> Option<usize>
     ensures { result ≡ position (holds_lock l) held.now }
 {
     held.iter().position(|h| h.l == l)

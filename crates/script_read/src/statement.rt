@@ -35,31 +35,19 @@ pub enum Statement<'a> {
 pub fn statement_of(line: &[u8]) -> Option<Statement<'_>>
     ensures { option_map said result ≡ statement_of line.now }
 {
-    let (verb, rest) = split_word(line);
-    if verb.is_empty() {
-        return None;
-    }
+    let (verb, rest) = split_word(line)?;
     let Some(rest) = rest else {
         return of_one_word(verb);
     };
-    let (first, rest) = split_word(rest);
-    if first.is_empty() {
-        return None;
-    }
+    let (first, rest) = split_word(rest)?;
     let Some(rest) = rest else {
         return of_two_words(verb, first);
     };
-    let (second, rest) = split_word(rest);
-    if second.is_empty() {
-        return None;
-    }
+    let (second, rest) = split_word(rest)?;
     let Some(rest) = rest else {
         return of_three_words(verb, first, second);
     };
-    let (third, rest) = split_word(rest);
-    if third.is_empty() {
-        return None;
-    }
+    let (third, rest) = split_word(rest)?;
     match rest {
         None => of_four_words(verb, first, second, third),
         Some(_) => None,

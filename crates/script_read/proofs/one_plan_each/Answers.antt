@@ -1,4 +1,3 @@
-use Rattle.std.proofs.Common.{◌≡◌}
 use Rattle.lock_model.specs.Script.{IsAccepted, IsRefused}
 use Rattle.script_read.proofs.one_plan_each.Goals as goal
 

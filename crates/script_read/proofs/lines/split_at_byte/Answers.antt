@@ -1,4 +1,4 @@
-use Rattle.std.proofs.Common.{◌≡◌, ◌∙◌, sym}
+use Rattle.std.proofs.Common.{sym}
 use Rattle.script_read.proofs.Cuts.{cut_at, lacks_before, lacks_all, if_none}
 use Rattle.script_read.proofs.lines.split_at_byte.Goals as goal
 
