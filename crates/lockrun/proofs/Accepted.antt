@@ -37,9 +37,9 @@ below a b e = grind (arith, nat_tests)
 held_through-append : (n : ℕ) (h : Option ℕ) (xs ys : List Op) → held_through n h (xs ++ ys) ≡ option_and_then (λ m. held_through n m ys) (held_through n h xs)
 held_through-append n h [] ys = refl
 held_through-append n h (x ∷ xs) ys = elim (held_after n h x) as (λ o. option_and_then (λ m. held_through n m (xs ++ ys)) o ≡ option_and_then (λ m. held_through n m ys) (option_and_then (λ m. held_through n m xs) o)) [
-    | None ↦ refl
-    | Some m ↦ held_through-append n m xs ys
-  ]
+  | None ↦ refl
+  | Some m ↦ held_through-append n m xs ys
+]
 
 -- one operation more
 held_through-push : (n : ℕ) (h m : Option ℕ) (xs : List Op) (op : Op) (e : Option ℕ) → held_through n h xs ≡ Some m → held_after n m op ≡ Some e → held_through n h (xs ++ op ∷ []) ≡ Some e
@@ -76,9 +76,9 @@ are_within-push n (d ∷ es) e h p = (h.0, are_within-push n es e h.1 p)
 found_within : (n : ℕ) (p : List ℕ → Bool) (es : List (List ℕ × Declared)) (d : Declared) → AreWithin n es → lookup p es ≡ Some d → IsWithin n d
 found_within n p [] d h e = absurd (none-some d e)
 found_within n p (x ∷ es) d h e = elim (p x.0) as (λ b. cond b (Some x.1) (lookup p es) ≡ Some d → IsWithin n d) [
-    | true ↦ λ q. subst (IsWithin n) (same_Some x.1 d q) h.0
-    | false ↦ λ q. found_within n p es d h.1 q
-  ] e
+  | true ↦ λ q. subst (IsWithin n) (same_Some x.1 d q) h.0
+  | false ↦ λ q. found_within n p es d h.1 q
+] e
 
 -- 3. What the lines so far make known is sound
 

@@ -170,9 +170,9 @@ shows_made c w v s next (Some k) h' (WakeAll d) shows st e made m = absurd (none
 
 zeros_at : (n i : ℕ) → slice_index (replicate n 0) i ≡ 0
 zeros_at n i = elim (cases_lt i n) [
-    | inl l ↦ get_or-replicate n i 0 0 l
-    | inr l ↦ get_or-eq_default (replicate n 0) 0 (omega (arith, l, length-replicate {A = ℕ} n 0))
-  ]
+  | inl l ↦ get_or-replicate n i 0 0 l
+  | inr l ↦ get_or-eq_default (replicate n 0) 0 (omega (arith, l, length-replicate {A = ℕ} n 0))
+]
 
 -- how a run begins is shown by free words, no entry and empty tables
 pub shows_start : (plan : Plan) (chains : ℕ) (w : World) → w.words.items ≡ replicate (length plan.locks) 0 → w.history.items ≡ [] → w.tables.entries ≡ [] → Shows (config_of plan chains) w (after_turns plan chains 0).state

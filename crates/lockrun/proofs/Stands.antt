@@ -262,13 +262,15 @@ module _ (plan : Plan) (chains : ℕ) (straight : IsStraight plan) where
   goes_on n h a l =
       let f = fits_next n h a l in
       let m : IsMade c (after_turns plan chains n).state (next_op n) f.0 = made c _ h f.0 (next_op n) a.stands f.1 in
-      let t = turn_made n h f.0 a l f.1 m in
-      (f.0, record {
-        place = ap (λ (r : Run). r.place 0) t ∙ ap suc a.place;
-        tickets = ap (λ (r : Run). r.state.next) t ∙ m.ticket ∙ ap suc a.tickets;
-        stands = subst (λ (r : Run). Stands c r.state f.0) (sym t) m.stands;
-        rest = f.2;
-      })
+      let t = turn_made n h f.0 a l f.1 m in (
+        f.0,
+        record {
+          place = ap (λ (r : Run). r.place 0) t ∙ ap suc a.place;
+          tickets = ap (λ (r : Run). r.state.next) t ∙ m.ticket ∙ ap suc a.tickets;
+          stands = subst (λ (r : Run). Stands c r.state f.0) (sym t) m.stands;
+          rest = f.2;
+        },
+      )
 
   -- behind any number of turns up to that of the operations
   pub along : (n : ℕ) → n ≤ length ops → (h : Option ℕ) × IsAlong plan chains n h

@@ -21,10 +21,10 @@ taken_lengths bytes front new e n =
 
 -- where at most the most bytes were taken, not one more was
 pub took_no_more : (r : Status) (old new : Option (List ℕ)) → TakesFront old new most_bytes → (r ≡ TooBig → ⊥) → IfSome old (λ bytes. (r ≡ TooBig) ↔ TookTooMany bytes new)
-took_no_more r None new t no = tt
-took_no_more r (Some bytes) new t no = (λ e. absurd (no e), λ k. absurd (omega (arith, k.0, t.1, taken_lengths bytes t.0 new t.2 k.1)))
+took_no_more r None new t other = tt
+took_no_more r (Some bytes) new t other = (λ e. absurd (other e), λ k. absurd (omega (arith, k.0, t.1, taken_lengths bytes t.0 new t.2 k.1)))
 
 -- where nothing was taken
 pub took_nothing : (r : Status) (old : Option (List ℕ)) → (r ≡ TooBig → ⊥) → IfSome old (λ bytes. (r ≡ TooBig) ↔ TookTooMany bytes old)
-took_nothing r None no = tt
-took_nothing r (Some bytes) no = took_no_more r (Some bytes) (Some bytes) ([], omega arith, refl) no
+took_nothing r None other = tt
+took_nothing r (Some bytes) other = took_no_more r (Some bytes) (Some bytes) ([], omega arith, refl) other

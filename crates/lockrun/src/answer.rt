@@ -6,14 +6,12 @@ ghost use Rattle.lock_model.specs.Run.{scheduled_run};
 ghost use Rattle.lockrun.specs.Output.{output_of, has_text, default_chains};
 ghost use Rattle.lockrun.specs.Straight.{IsStraight};
 
-use std::alloc::{AllocError, Global};
-
+use crate::run::run;
+use crate::status::Status;
 use lock_history::{Last, print, print_fault};
 use lock_model::{Plan, Prio, ThreadDecl};
 use script_read::{ReadError, read_script};
-
-use crate::run::run;
-use crate::status::Status;
+use std::alloc::{AllocError, Global};
 
 /// The status and the text that belong to the bytes under `step`.
 pub fn answer(alloc: Global, bytes: &[u8]) -> Result<(Status, Vec<u8>), AllocError>
@@ -37,12 +35,22 @@ fn run_text(alloc: Global, plan: &Plan) -> Result<Vec<u8>, AllocError>
 {
     let world = run(alloc, plan)?;
     let finals = finals(alloc, plan.threads.as_slice())?;
-    print(alloc, plan, &world.history, &finals, &world.tables, Last::Done)
+    print(
+        alloc,
+        plan,
+        &world.history,
+        &finals,
+        &world.tables,
+        Last::Done,
+    )
 }
 
 // Each thread's base and effective priority in the end: nobody lends, so both are as declared.
 fn finals(alloc: Global, threads: &[ThreadDecl]) -> Result<Vec<(Prio, Prio)>, AllocError>
     ensures { IfOk result (λ pairs. pairs.items ≡ map (λ d. (d.base, d.base)) threads.now) }
 {
-    threads.iter().map(|thread| (thread.base, thread.base)).collect(alloc)
+    threads
+        .iter()
+        .map(|thread| (thread.base, thread.base))
+        .collect(alloc)
 }

@@ -1,10 +1,42 @@
-//! `lockrun step` reads a script from standard input, makes its scheduled run, and writes its text to standard output.
+//! `lockrun step` reads a script from standard input, makes its scheduled run, and writes its text to standard output. The exit
+//! code is the status.
+//!
+//! From the outside in:
+//! - `top`: the call that the program makes, with everything that is promised of it.
+//! - `status`: how it ends.
+//! - `answer`: the status and the text that belong to the bytes of a source.
+//! - `run`, `world`: the scheduled run of a plan, and what one operation does.
 #![tactic(auto)]
 
 mod answer;
 mod run;
 pub mod status;
+#[cfg(test)]
+mod tests;
 pub mod top;
 pub mod world;
 
-fn main() {}
+use crate::status::Status;
+use crate::top::lockrun_plain;
+use lock_io::{StdSink, StdSource};
+use std::process::ExitCode;
+use std::{env, io};
+
+fn main(rt: HostRuntime) -> ExitCode {
+    ExitCode::from(run_words(&rt) as u8)
+}
+
+// A word that is no text is no word of a command line.
+fn run_words(rt: &HostRuntime) -> Status {
+    let words = match env::args(rt) {
+        Ok(words) => words,
+        Err(e) if e.kind() == io::ErrorKind::OutOfMemory => return Status::NoMemory,
+        Err(_) => return Status::Usage,
+    };
+    let Ok(words) = words.skip(1).collect::<Vec<String>>(rt.alloc()) else {
+        return Status::NoMemory;
+    };
+    let mut source = StdSource::new(rt.reader());
+    let mut sink = StdSink::new(io::writer(rt));
+    lockrun_plain(rt.alloc(), &words, &mut source, &mut sink)
+}

@@ -5,12 +5,10 @@ ghost use Rattle.lock_model.specs.Run.{after_turns};
 ghost use Rattle.lockrun.specs.Straight.{IsStraight};
 ghost use Rattle.lockrun.specs.World.{Shows};
 
-use std::alloc::{AllocError, Global};
-
+use crate::world::World;
 use lock_model::limits::DEFAULT_CHAINS;
 use lock_model::{Op, Plan, ThreadNo};
-
-use crate::world::World;
+use std::alloc::{AllocError, Global};
 
 /// The world that the run ends with. It shows the state behind a turn for each operation.
 pub fn run(alloc: Global, plan: &Plan) -> Result<World, AllocError>

@@ -9,13 +9,11 @@ ghost use Rattle.lock_model.specs.Script.{IsAccepted};
 ghost use Rattle.lock_model.specs.declared.plan.Plan.{Plan};
 ghost use Rattle.lockrun.specs.Output.{is_form, has_text, writes, most_bytes, TookTooMany, output_of, Wrote, IsLawfulRun};
 
-use std::alloc::Global;
-
-use lock_io::{ReadAllError, Sink, Source, read_all, write_all};
-use lock_model::limits::SCRIPT_BYTES;
-
 use crate::answer::answer;
 use crate::status::Status;
+use lock_io::{ReadAllError, Sink, Source, read_all, write_all};
+use lock_model::limits::SCRIPT_BYTES;
+use std::alloc::Global;
 
 /// What the program does where no thread is started. The words are the command line without the program's name.
 pub fn lockrun_plain<S: Source, K: Sink>(

@@ -6,11 +6,10 @@ ghost use Rattle.lock_model.specs.Words.{free_word, gained, dropped};
 ghost use Rattle.lock_model.specs.History.{place_cmp};
 ghost use Rattle.lockrun.specs.World.{word_at, ChangesWord, Notes, SameWords, SameTables, HasRoom, CanMake, Makes};
 
-use std::alloc::{AllocError, Global};
-use std::collections::BTreeMap;
-
 use lock_model::{Entry, Event, LockNo, Mode, Op, ThreadNo};
 use lock_words::{dropped, gained};
+use std::alloc::{AllocError, Global};
+use std::collections::BTreeMap;
 
 /// The state of a scheduled run.
 #[derive(Drop)]
@@ -98,7 +97,11 @@ impl World {
         ensures tables { SameTables self.old self.new }
     {
         let ticket = self.history.len() as u32;
-        self.history.push(Entry { ticket, thread, event })?;
+        self.history.push(Entry {
+            ticket,
+            thread,
+            event,
+        })?;
         Ok(())
     }
 }

@@ -15,5 +15,5 @@ returns c =
     let finals = ap numbers_of pairs ∙ numbers_declared plan.threads in
     let tables = c.in_ok-world.world.tables.entries in
     let shown = ap (λ (h : List Entry). outcome h (numbers_of c.deref-2.result.now) tables IsDone) c.deref.ensures.value
-            ∙ outcome_shown plan 16 c.requires c.in_ok-world.world (numbers_of c.deref-2.result.now) c.in_ok-world.ensures finals in
+    ∙ outcome_shown plan 16 c.requires c.in_ok-world.world (numbers_of c.deref-2.result.now) c.in_ok-world.ensures finals in
     subst (λ (o : Outcome). IfOk c.print.result (λ text. text.items ≡ text_of plan o)) shown c.print.ensures

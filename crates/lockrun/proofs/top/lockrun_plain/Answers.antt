@@ -13,13 +13,13 @@ pub returns-in-Err-Memory-clause-lawful : goal.returns-in-Err-Memory-clause-lawf
 returns-in-Err-Memory-clause-lawful g c = accepted_lawful
 
 pub returns-in-Err-Memory-clause-too_big : goal.returns-in-Err-Memory-clause-too_big
-returns-in-Err-Memory-clause-too_big g c = took_no_more NoMemory (g.S.Source.remaining c.args.source.now) (g.S.Source.remaining c.read_all.new.source) c.in-Err-Memory.ensures.front (λ e. cc)
+returns-in-Err-Memory-clause-too_big g c = took_no_more NoMemory (g.S.Source.remaining c.args.source.now) (g.S.Source.remaining c.read_all.new.source) (rw c.in-Err-Memory.field-0-is at c.in-Err-Memory.ensures.front) (λ e. cc)
 
 pub returns-in-Err-Fault-clause-lawful : goal.returns-in-Err-Fault-clause-lawful
 returns-in-Err-Fault-clause-lawful g c = accepted_lawful
 
 pub returns-in-Err-Fault-clause-too_big : goal.returns-in-Err-Fault-clause-too_big
-returns-in-Err-Fault-clause-too_big g c = took_no_more ReadFault (g.S.Source.remaining c.args.source.now) (g.S.Source.remaining c.read_all.new.source) c.in-Err-Fault.ensures.front (λ e. cc)
+returns-in-Err-Fault-clause-too_big g c = took_no_more ReadFault (g.S.Source.remaining c.args.source.now) (g.S.Source.remaining c.read_all.new.source) (rw c.in-Err-Fault.field-0-is at c.in-Err-Fault.ensures.front) (λ e. cc)
 
 pub returns-in-Err-TooBig-clause-lawful : goal.returns-in-Err-TooBig-clause-lawful
 returns-in-Err-TooBig-clause-lawful g c = accepted_lawful
