@@ -3,7 +3,7 @@
 //! `lock_model`'s `specs/Text.antt` says which words.
 ghost use Rattle.std.specs.Prelude.{◌≡◌, ◌++◌, ◌∷◌, [], codes, decimal, map, flat_map, IfOk, OnOk};
 ghost use Rattle.std.specs.List.{zip};
-ghost use Rattle.lock_model.specs.Text.{text_of, fault_text, line_of, spaced, entry_line, thread_line, table_line, event_words, mode_letter, chan_word, or_dash, names_at_bits, found_word, ending_word, thread_name, lock_name, lock_kind, chan_name, is_cond, class_name};
+ghost use Rattle.lock_model.specs.Text.{text_of, fault_text, line_of, spaced, entry_line, thread_line, table_line, event_words, mode_letter, chan_word, woken_words, or_dash, names_at_bits, found_word, ending_word, thread_name, lock_name, lock_kind, chan_name, is_cond, class_name};
 ghost use Rattle.lock_history.specs.Endings.{ending_of, numbers_of};
 
 use itoa::Buffer;
@@ -159,16 +159,8 @@ fn push_event(out: &mut Vec<u8>, plan: &Plan, event: Event) -> Result<(), AllocE
             push_call(out, b"busy", lock_name(plan, l))?;
             push_number(out, seen)
         }
-        Event::Set { l, key, value } => {
-            push_call(out, b"set", lock_name(plan, l))?;
-            push_number(out, key)?;
-            push_number(out, value)
-        }
-        Event::Added { l, key, amount } => {
-            push_call(out, b"add", lock_name(plan, l))?;
-            push_number(out, key)?;
-            push_number(out, amount)
-        }
+        Event::Set { l, key, value } => push_edit(out, b"set", lock_name(plan, l), key, value),
+        Event::Added { l, key, amount } => push_edit(out, b"add", lock_name(plan, l), key, amount),
         Event::Got { l, key, found } => {
             push_call(out, b"get", lock_name(plan, l))?;
             push_number(out, key)?;
@@ -187,19 +179,29 @@ fn push_event(out: &mut Vec<u8>, plan: &Plan, event: Event) -> Result<(), AllocE
         Event::Woke { c } => push_call(out, b"woke", chan_name(plan, c)),
         Event::HaltedChan { c } => push_call(out, b"halted", chan_name(plan, c)),
         Event::HaltedLock { l } => push_call(out, b"halted", lock_name(plan, l)),
-        Event::WokeOne { c, woken } => {
-            push_chan(out, plan, c, b"signal", b"wakeup_one")?;
-            push_woken(out, plan.threads.as_slice(), woken)
-        }
-        Event::WokeAll { c, woken } => {
-            push_chan(out, plan, c, b"broadcast", b"wakeup")?;
-            push_woken(out, plan.threads.as_slice(), woken)
-        }
+        Event::WokeOne { c, woken } => push_waking(out, plan, c, b"signal", b"wakeup_one", woken),
+        Event::WokeAll { c, woken } => push_waking(out, plan, c, b"broadcast", b"wakeup", woken),
         Event::Reversed { l, held } => {
             push_call(out, b"reversed", lock_name(plan, l))?;
             push_word(out, class_name(plan, held))
         }
     }
+}
+
+// A change at a key of a lock's table.
+fn push_edit(
+    out: &mut Vec<u8>,
+    word: &[u8],
+    lock: &[u8],
+    key: u64,
+    amount: u64,
+) -> Result<(), AllocError>
+    ensures { OnOk result (out.new.items ≡ out.old.items
+        ++ spaced (word.now ∷ lock.now ∷ decimal key ∷ decimal amount ∷ [])) }
+{
+    push_call(out, word, lock)?;
+    push_number(out, key)?;
+    push_number(out, amount)
 }
 
 // A lock's word for a mode, as `trylock` or `runlock`, and the lock's name.
@@ -246,6 +248,23 @@ fn push_chan(
 {
     let word = if is_cond(plan, c) { on_cond } else { on_chan };
     push_call(out, word, chan_name(plan, c))
+}
+
+// A waking of a condition variable or a channel, and the threads that it took.
+fn push_waking(
+    out: &mut Vec<u8>,
+    plan: &Plan,
+    c: ChanNo,
+    on_cond: &[u8],
+    on_chan: &[u8],
+    woken: u64,
+) -> Result<(), AllocError>
+    ensures { OnOk result (out.new.items ≡ out.old.items ++ spaced (
+        chan_word plan.now c.0 on_cond.now on_chan.now ∷ chan_name plan.now c.0
+        ∷ woken_words plan.now woken)) }
+{
+    push_chan(out, plan, c, on_cond, on_chan)?;
+    push_woken(out, plan.threads.as_slice(), woken)
 }
 
 fn push_found(out: &mut Vec<u8>, found: Option<u64>) -> Result<(), AllocError>
