@@ -1,0 +1,4 @@
+pub mod Heads
+pub mod Kept
+pub mod Lookups
+pub mod Names

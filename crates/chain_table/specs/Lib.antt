@@ -1,0 +1,4 @@
+pub mod Chains
+pub mod Links
+pub mod Names
+pub mod Turnstiles

@@ -1,0 +1,19 @@
+//! Chains of a hash table: the heads of the queues that hash to one entry, linked through their own
+//! boxes, as the turnstile chains of subr_turnstile.c are.
+//!
+//! - `head`: what is linked.
+//! - `chain`: a chain, seen by contracts as a list of names with their heads.
+//! - `turnstiles`: turnstiles as heads.
+//! - `slot`: which chain a queue belongs to.
+#![tactic(auto)]
+
+mod chain;
+mod head;
+mod slot;
+#[cfg(test)]
+mod tests;
+mod turnstiles;
+
+pub use chain::Chain;
+pub use head::Head;
+pub use slot::slot_of;
