@@ -1,0 +1,71 @@
+-- The steps of threads, one case per kind. A step asks its guard, and its effect is computed.
+use Rattle.std.specs.Prelude.{◌≡◌, ℕ, Bool, List, Option}
+use Rattle.lock_model.specs.State.{Config, State, Cause, Mark}
+use Rattle.lock_model.specs.Moves.{MayLook, MayGain, MayDrop, MayStamp, MayReady, MayUnready, after_look, after_gain, after_drop, after_stamp, after_ready, after_unready}
+use Rattle.lock_model.specs.MovesOfQueues.{MayEnter, MayOpen, MayMark, MayResume, after_enter, after_open, after_mark, after_resume}
+use Rattle.lock_model.specs.MovesOfLoans.{MayClaim, MayLend, MayShift, MayEndWalk, after_claim, after_lend, after_shift, after_end_walk}
+use Rattle.lock_model.specs.MovesOfTurns.{Item, MayTake, MayGive, after_take, after_give}
+use Rattle.lock_model.specs.declared.plan.Mode.{Mode}
+use Rattle.lock_model.specs.declared.plan.QueueName.{QueueName}
+use Rattle.lock_model.specs.declared.event.Event.{Event}
+
+-- a step, with the thread that makes it first
+pub data Move : Type 0 where
+  Looks : ℕ → ℕ → Bool → Move
+  TakesTurn : ℕ → Item → Move
+  GivesTurn : ℕ → Item → Move
+  Gains : ℕ → ℕ → Mode → Move
+  Drops : ℕ → ℕ → Mode → Move
+  Stamps : ℕ → Event → Move
+  Readies : ℕ → Move
+  Unreadies : ℕ → Move
+  Enters : ℕ → ℕ → Mode → ℕ → Move
+  Opens : ℕ → ℕ → Mode → Move
+  Marks : ℕ → Mark → List Mark → Move
+  Resumes : ℕ → QueueName → Cause → Move
+  Claims : ℕ → ℕ → ℕ → Move
+  Lends : ℕ → ℕ → ℕ → ℕ → Move
+  Shifts : ℕ → ℕ → ℕ → Move
+  EndsWalk : ℕ → Move
+
+-- what a step asks of the state
+abbrev pub May : Config → State → Move → Type 0
+May c s (Looks t l in_round) = MayLook c s t l in_round
+May c s (TakesTurn t i) = MayTake c s t i
+May c s (GivesTurn t i) = MayGive c s t i
+May c s (Gains t l mode) = MayGain c s t l mode
+May c s (Drops t l mode) = MayDrop c s t l mode
+May c s (Stamps t e) = MayStamp c s t e
+May c s (Readies t) = MayReady c s t
+May c s (Unreadies t) = MayUnready c s t
+May c s (Enters t l mode x) = MayEnter c s t l mode x
+May c s (Opens t l mode) = MayOpen c s t l mode
+May c s (Marks t m ms) = MayMark c s t m ms
+May c s (Resumes t q cause) = MayResume c s t q cause
+May c s (Claims t l h) = MayClaim c s t l h
+May c s (Lends t l o h) = MayLend c s t l o h
+May c s (Shifts t o l) = MayShift c s t o l
+May c s (EndsWalk t) = MayEndWalk c s t
+
+-- what a step makes of the state
+abbrev pub after : Config → State → Move → State
+after c s (Looks t l in_round) = after_look s t l in_round
+after c s (TakesTurn t i) = after_take s t i
+after c s (GivesTurn t i) = after_give s i
+after c s (Gains t l mode) = after_gain s t l mode
+after c s (Drops t l mode) = after_drop s t l
+after c s (Stamps t e) = after_stamp c s t e
+after c s (Readies t) = after_ready s t
+after c s (Unreadies t) = after_unready s t
+after c s (Enters t l mode x) = after_enter s t l mode x
+after c s (Opens t l mode) = after_open c s t l
+after c s (Marks t m ms) = after_mark c s t m ms
+after c s (Resumes t q cause) = after_resume c s t q cause
+after c s (Claims t l h) = after_claim c s t l h
+after c s (Lends t l o h) = after_lend c s t l o h
+after c s (Shifts t o l) = after_shift s t o l
+after c s (EndsWalk t) = after_end_walk s t
+
+-- n comes from s by one step
+abbrev pub Step : Config → State → State → Type 0
+Step c s n = (m : Move) × May c s m × (n ≡ after c s m)
