@@ -1,1 +1,4 @@
 pub mod Kit
+pub mod Words
+pub mod Owners
+pub mod Gain

@@ -1,11 +1,11 @@
 -- A lawful state: the facts that hold between any two steps, in groups.
 use Rattle.lock_model.specs.State.{Config, State}
-use Rattle.lock_model.specs.History.{TicketsRun, SectionsExclude, EditsInSections, ReadsReplay, ShownIsExplained}
-pub use Rattle.lock_model.specs.FactsOfQueues.{OneTurnstileEach, OneSleepQueueEach, OneNodeEach, TurnstileIsLent, SleepQueueIsLent, HeadsFitWaiters, BitsShowWaiters, ListsAscend, MutexWaitersAreExclusive}
-pub use Rattle.lock_model.specs.FactsOfWaits.{StandsOnce, OnlyThreadsStand, StandingIsQueued, QueuedHasRecord, StandingWants, WokenWants, CalledWants, StandingIsUncalled, WokenIsUncalled, FreeWordHasCalled, FreeMutexShowsNone}
-pub use Rattle.lock_model.specs.FactsOfWords.{WordsMatchHolders, OnlyThreadsHold}
-pub use Rattle.lock_model.specs.FactsOfLoans.{EffectiveIsLeast, OwnersHold, ChannelsHaveNoOwner, LoansAreLeast, LoansAreWithOwners, LoansAreOnHeads, KeptIsEffective, EffectiveIsKnown, LoansAreKnown, KeptIsKnown}
-pub use Rattle.lock_model.specs.FactsOfBooks.{NextIsNew, LogsAreParts, TablesReplay, BasesReplay, SectionsAreHeld, OutIsNarrow}
+unfoldable pub use Rattle.lock_model.specs.History.{TicketsRun, SectionsExclude, EditsInSections, ReadsReplay, ShownIsExplained}
+unfoldable pub use Rattle.lock_model.specs.FactsOfQueues.{OneTurnstileEach, OneSleepQueueEach, OneNodeEach, TurnstileIsLent, SleepQueueIsLent, HeadsFitWaiters, BitsShowWaiters, ListsAscend, MutexWaitersAreExclusive}
+unfoldable pub use Rattle.lock_model.specs.FactsOfWaits.{StandsOnce, OnlyThreadsStand, StandingIsQueued, QueuedHasRecord, StandingWants, WokenWants, CalledWants, StandingIsUncalled, WokenIsUncalled, FreeWordHasCalled, FreeMutexShowsNone}
+unfoldable pub use Rattle.lock_model.specs.FactsOfWords.{WordsMatchHolders, OnlyThreadsHold}
+unfoldable pub use Rattle.lock_model.specs.FactsOfLoans.{EffectiveIsLeast, OwnersHold, ChannelsHaveNoOwner, LoansAreLeast, LoansAreWithOwners, LoansAreOnHeads, KeptIsEffective, EffectiveIsKnown, LoansAreKnown, KeptIsKnown}
+unfoldable pub use Rattle.lock_model.specs.FactsOfBooks.{NextIsNew, LogsAreParts, TablesReplay, BasesReplay, SectionsAreHeld, OutIsNarrow}
 
 pub record Lawful (c : Config) (s : State) : Type 0 where
   -- places, heads, bits and lists
