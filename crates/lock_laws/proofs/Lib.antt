@@ -2,3 +2,5 @@ pub mod Kit
 pub mod Words
 pub mod Owners
 pub mod Gain
+pub mod Drop
+pub mod Waits
