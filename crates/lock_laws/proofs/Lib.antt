@@ -4,3 +4,4 @@ pub mod Owners
 pub mod Gain
 pub mod Drop
 pub mod Waits
+pub mod Turns
