@@ -1,6 +1,8 @@
 pub mod Kit
 pub mod Words
 pub mod Owners
+pub mod Queues
+pub mod Lending
 pub mod Gain
 pub mod Drop
 pub mod Waits
