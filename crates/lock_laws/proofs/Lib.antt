@@ -7,3 +7,5 @@ pub mod Gain
 pub mod Drop
 pub mod Waits
 pub mod Turns
+pub mod Tables
+pub mod Sections
