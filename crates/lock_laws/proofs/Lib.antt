@@ -9,3 +9,5 @@ pub mod Waits
 pub mod Turns
 pub mod Tables
 pub mod Sections
+pub mod Shown
+pub mod Stamp
