@@ -160,3 +160,15 @@ one_same n = ap one (eq-eqb n n refl)
 pub at_option_one : (n : ℕ) (o : Option ℕ) → 1 ≤ at_option n o → o ≡ Some n
 at_option_one n None l = absurd (omega arith)
 at_option_one n (Some m) l = elim (cases_eq n m) [ inl e ↦ ap Some (sym e) | inr e ↦ let z : one (eqb n m) ≡ 0 = ap one (ne_eqb n m e) in absurd (omega arith) ]
+
+-- 4. Queues
+
+number_of : Option QueueName → ℕ
+number_of None = 0
+number_of (Some (Lock l)) = l.0
+number_of (Some (Chan d)) = 0
+
+-- a lock is known by its queue
+pub same_lock : (l k : ℕ) → ◌≡◌ {A = Option QueueName} (Some (lock_queue l)) (Some (lock_queue k)) → l ≡ k
+unfolding number_of
+same_lock l k e = ap number_of e

@@ -11,3 +11,4 @@ pub mod Tables
 pub mod Sections
 pub mod Shown
 pub mod Stamp
+pub mod Enter

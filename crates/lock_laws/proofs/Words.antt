@@ -134,3 +134,16 @@ matches-drop c w v held t l Shared lt n e m =
 pub matches-claim : (c : Config) (w : Word) (held : ℕ → ℕ → Hold) (t l : ℕ) → t < c.threads → is_free w.holder ≡ true → held t l ≡ NotHeld
     → WordMatchesHolders c w l held → WordMatchesHolders c (claimed w t) l (put_at held t l (Holds Excl))
 matches-claim c w held t l lt a n m = matches-gain c Mtx w held t l Excl lt a n m
+
+-- 5. Waiters' bits
+
+pub entered_holder : (w : Word) (side : Side) → (entered w side).holder ≡ w.holder
+entered_holder w X = refl
+entered_holder w S = refl
+
+pub matches_same : (c : Config) (w v : Word) (l : ℕ) (held : ℕ → ℕ → Hold) → v.holder ≡ w.holder → WordMatchesHolders c w l held → WordMatchesHolders c v l held
+matches_same c w v l held e m = record {
+  owner = λ t. m.owner t ∙ ap (owns t) (sym e);
+  sharers_are_counted = m.sharers_are_counted ∙ ap sharers (sym e);
+  some_sharer = λ x. m.some_sharer (sym e ∙ x);
+}
