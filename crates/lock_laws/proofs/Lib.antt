@@ -12,3 +12,4 @@ pub mod Sections
 pub mod Shown
 pub mod Stamp
 pub mod Enter
+pub mod Nodes
