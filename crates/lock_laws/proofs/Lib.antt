@@ -13,3 +13,4 @@ pub mod Shown
 pub mod Stamp
 pub mod Enter
 pub mod Nodes
+pub mod Open
