@@ -1,9 +1,10 @@
 -- Laws of columns and of sums that each law of a kind uses.
 use Rattle.std.proofs.Common.{◌≡◌, ℕ, zero, suc, ◌+◌, ◌<◌, ◌≤◌, Bool, true, false, cond, eqb, Option, Some, None, refl, sym, ap, inl, inr, arith, eq-eqb, ◌∙◌, subst, ◌&&◌}
-use Rattle.std.proofs.lemmas.Bool.{ne_eqb, cases_eq}
+use Rattle.std.proofs.lemmas.Bool.{ne_eqb, cases_eq, eqb-true}
 use Rattle.lock_model.specs.Counts.{sum_below, one, at_option}
-use Rattle.lock_model.specs.State.{put, put_at, put_queue}
+use Rattle.lock_model.specs.State.{put, put_at, put_queue, is_queue}
 use Rattle.lock_model.specs.Queues.{lock_queue, chan_queue}
+use Rattle.lock_model.specs.FactsOfWaits.{at_queue}
 use Rattle.lock_model.specs.declared.plan.QueueName.{QueueName}
 use Rattle.lock_model.specs.declared.plan.QueueName.TheVariants.{Lock, Chan}
 
@@ -172,3 +173,21 @@ number_of (Some (Chan d)) = 0
 pub same_lock : (l k : ℕ) → ◌≡◌ {A = Option QueueName} (Some (lock_queue l)) (Some (lock_queue k)) → l ≡ k
 unfolding number_of
 same_lock l k e = ap number_of e
+
+pub is_queue_same : (q : QueueName) → is_queue q q ≡ true
+is_queue_same (Lock l) = eq-eqb l.0 l.0 refl
+is_queue_same (Chan d) = eq-eqb d.0 d.0 refl
+
+pub is_queue_true : (q r : QueueName) → is_queue q r ≡ true → q ≡ r
+is_queue_true (Lock l) (Lock k) e = ap lock_queue (eqb-true l.0 k.0 e)
+is_queue_true (Chan d) (Chan e) x = ap chan_queue (eqb-true d.0 e.0 x)
+is_queue_true (Lock l) (Chan d) e = absurd cc
+is_queue_true (Chan d) (Lock l) e = absurd cc
+
+pub at_queue_one : (q : QueueName) (o : Option QueueName) → 1 ≤ at_queue q o → o ≡ Some q
+at_queue_one q None l = absurd (omega arith)
+at_queue_one q (Some r) l = go (is_queue q r) refl l
+  where
+    go : (b : Bool) → is_queue q r ≡ b → 1 ≤ one b → Some r ≡ Some q
+    go true e i = ap Some (sym (is_queue_true q r e))
+    go false e i = absurd (omega arith)

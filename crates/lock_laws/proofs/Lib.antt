@@ -14,3 +14,5 @@ pub mod Stamp
 pub mod Enter
 pub mod Nodes
 pub mod Open
+pub mod Mark
+pub mod Resume

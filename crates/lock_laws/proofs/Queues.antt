@@ -9,7 +9,7 @@ use Rattle.lock_model.specs.FactsOfWaits.{times_marked, calls_marked}
 use Rattle.lock_model.specs.declared.plan.Side.{Side}
 use Rattle.lock_model.specs.declared.plan.Side.TheVariants.{X, S}
 use Rattle.lock_model.specs.declared.plan.QueueName.{QueueName}
-use Rattle.lock_model.specs.declared.plan.QueueName.TheVariants.{Lock, Chan}
+use Rattle.lock_laws.proofs.Kit.{is_queue_same}
 
 pub times_waiting-insert : (t : ℕ) (w : Waiter) (ws : List Waiter) → times_waiting t (insert w ws) ≡ one (eqb t w.thread) + times_waiting t ws
 times_waiting-insert t w [] = refl
@@ -79,10 +79,6 @@ stands-less S q t = omega arith
 pub waiting-less : (m : Side) (q : Lists) → waiting (with_list m [] q) + length (list_of m q) ≡ waiting q
 waiting-less X q = omega arith
 waiting-less S q = omega arith
-
-is_queue_same : (q : QueueName) → is_queue q q ≡ true
-is_queue_same (Lock l) = eq-eqb l.0 l.0 refl
-is_queue_same (Chan d) = eq-eqb d.0 d.0 refl
 
 dealt_none : (q : QueueName) (ws : List Waiter) → dealt q ws [] None ≡ []
 dealt_none q [] = refl
