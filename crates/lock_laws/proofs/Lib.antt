@@ -16,3 +16,6 @@ pub mod Nodes
 pub mod Open
 pub mod Mark
 pub mod Resume
+pub mod Claim
+pub mod Lend
+pub mod Shift

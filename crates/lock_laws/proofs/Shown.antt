@@ -59,17 +59,17 @@ base_known c (e ∷ es) t lt =
 
 -- 3. What a thread shows
 
-owner_from : (turnstile : Bool) (x : Option ℕ) (y : Holder) (t : ℕ) → owner_if turnstile x y ≡ Some t → (turnstile ≡ true) × (owner_of y ≡ Some t)
+pub owner_from : (turnstile : Bool) (x : Option ℕ) (y : Holder) (t : ℕ) → owner_if turnstile x y ≡ Some t → (turnstile ≡ true) × (owner_of y ≡ Some t)
 owner_from turnstile None y t e = absurd cc
 owner_from true (Some x) y t e = (refl, e)
 owner_from false (Some x) y t e = absurd cc
 
-exclusive_is : (x : Hold) → is_exclusive x ≡ true → x ≡ Holds Excl
+pub exclusive_is : (x : Hold) → is_exclusive x ≡ true → x ≡ Holds Excl
 exclusive_is NotHeld e = absurd cc
 exclusive_is (Holds Excl) e = refl
 exclusive_is (Holds Shared) e = absurd cc
 
-owner-owns : (t : ℕ) (x : Holder) → owner_of x ≡ Some t → owns t x ≡ true
+pub owner-owns : (t : ℕ) (x : Holder) → owner_of x ≡ Some t → owns t x ≡ true
 owner-owns t Free e = absurd cc
 owner-owns t (HeldBy u) e = eq-eqb t u (let y : u ≡ t = cc in sym y)
 owner-owns t (SharedBy n) e = absurd cc
