@@ -19,3 +19,5 @@ pub mod Resume
 pub mod Claim
 pub mod Lend
 pub mod Shift
+pub mod Start
+pub mod Steps
