@@ -19,5 +19,7 @@ pub mod Resume
 pub mod Claim
 pub mod Lend
 pub mod Shift
-pub mod Start
+pub mod StateAtStart
 pub mod Steps
+pub mod Best
+pub mod Derived

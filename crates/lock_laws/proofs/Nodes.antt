@@ -121,7 +121,7 @@ loan_of_known c es q h k x e = least_known c es q x.prio k (sym (prio_loan_of h 
 -- A loan is put on the node of a head
 
 module _ (c : Config) (s : State) (h : Lawful c s) where
-  some_waiting : (l y : ℕ) → s.head (lock_queue l) ≡ Some y → 1 ≤ waiting (s.lists (lock_queue l))
+  pub some_waiting : (l y : ℕ) → s.head (lock_queue l) ≡ Some y → 1 ≤ waiting (s.lists (lock_queue l))
   unfolding HeadsFitWaiters
   some_waiting l y e = let a = ap some e in omega (arith, (h.heads_fit_waiters (lock_queue l)).balanced)
 

@@ -73,7 +73,7 @@ all_match-put c word held t l v b h here k =
 
 -- 3. What the words say of a lock that is held
 
-owns_is : (t : ℕ) (x : Holder) → owns t x ≡ true → x ≡ HeldBy t
+pub owns_is : (t : ℕ) (x : Holder) → owns t x ≡ true → x ≡ HeldBy t
 owns_is t Free e = absurd cc
 owns_is t (HeldBy u) e = ap HeldBy (sym (eqb-true t u e))
 owns_is t (SharedBy n) e = absurd cc

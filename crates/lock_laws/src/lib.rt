@@ -1,16 +1,15 @@
 //! The laws of a lawful state, over definitions alone: functions with empty bodies whose contracts are theorems.
-//! Both engines of the product, the scheduled run and the threads, stand on them.
+//! Both engines of the product, the scheduled run and the threads, stand on them: each shows only which steps it
+//! makes, and these laws do the rest.
 //!
-//! - the state at the start of a plan is lawful;
-//! - each step of a thread keeps each fact of a lawful state;
-//! - where no walk is under way and nobody waits in a cycle, each effective priority is the best behind it.
+//! - `start`: the state at the start of a plan is lawful, and so is each state that steps reach from there.
+//! - `kinds`: each kind of step keeps each fact of a lawful state.
+//! - `priorities`: where no walk is under way and nobody waits in a cycle, each effective priority is the best
+//!   behind it.
+//! - `books`: the table of a lock is what the history leaves.
 #![tactic(auto)]
 
-ghost use Rattle.lock_model.specs.State.{Config, State};
-ghost use Rattle.lock_model.specs.Facts.{Lawful};
-ghost use Rattle.lock_model.specs.Steps.{Move, May, after, Step};
-
-/// The empty law.
-pub fn nothing() -> bool {
-    true
-}
+pub mod books;
+pub mod kinds;
+pub mod priorities;
+pub mod start;

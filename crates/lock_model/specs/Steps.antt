@@ -1,6 +1,6 @@
 -- The steps of threads, one case per kind. A step asks its guard, and its effect is computed.
 use Rattle.std.specs.Prelude.{◌≡◌, ℕ, Bool, List, Option}
-use Rattle.lock_model.specs.State.{Config, State, Cause, Mark}
+use Rattle.lock_model.specs.State.{Config, State, Cause, Mark, start_state}
 use Rattle.lock_model.specs.Moves.{MayLook, MayGain, MayDrop, MayStamp, MayReady, MayUnready, after_look, after_gain, after_drop, after_stamp, after_ready, after_unready}
 use Rattle.lock_model.specs.MovesOfQueues.{MayEnter, MayOpen, MayMark, MayResume, after_enter, after_open, after_mark, after_resume}
 use Rattle.lock_model.specs.MovesOfLoans.{MayClaim, MayLend, MayShift, MayEndWalk, after_claim, after_lend, after_shift, after_end_walk}
@@ -69,3 +69,8 @@ after c s (EndsWalk t) = after_end_walk s t
 -- n comes from s by one step
 abbrev pub Step : Config → State → State → Type 0
 Step c s n = (m : Move) × May c s m × (n ≡ after c s m)
+
+-- the states that steps reach from the start
+pub data IsReached (c : Config) : State → Type 0 where
+  begins : IsReached c (start_state c)
+  goes_on : {s n : State} → IsReached c s → Step c s n → IsReached c n
