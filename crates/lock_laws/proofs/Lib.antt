@@ -23,3 +23,4 @@ pub mod StateAtStart
 pub mod Steps
 pub mod Best
 pub mod Derived
+pub mod Block

@@ -4,7 +4,7 @@ ghost use Rattle.std.specs.Prelude.{ℕ, Bool, List};
 ghost use Rattle.lock_model.specs.State.{Config, State, Cause, Mark};
 ghost use Rattle.lock_model.specs.Facts.{Lawful};
 ghost use Rattle.lock_model.specs.Moves.{MayLook, MayGain, MayDrop, MayStamp, MayReady, MayUnready, after_look, after_gain, after_drop, after_stamp, after_ready, after_unready};
-ghost use Rattle.lock_model.specs.MovesOfQueues.{MayEnter, MayOpen, MayMark, MayResume, after_enter, after_open, after_mark, after_resume};
+ghost use Rattle.lock_model.specs.MovesOfQueues.{MayEnter, MayBlock, MayOpen, MayMark, MayResume, after_enter, after_block, after_open, after_mark, after_resume};
 ghost use Rattle.lock_model.specs.MovesOfLoans.{MayClaim, MayLend, MayShift, MayEndWalk, after_claim, after_lend, after_shift, after_end_walk};
 ghost use Rattle.lock_model.specs.MovesOfTurns.{Item, MayTake, MayGive, after_take, after_give};
 ghost use Rattle.lock_model.specs.declared.plan.Mode.{Mode};
@@ -62,6 +62,12 @@ pub fn unreadies_keep()
 /// A thread that stands on a turnstile, with its own lent, keeps each fact.
 pub fn enters_keep()
     ensures { (c : Config) (s : State) (t l : ℕ) (mode : Mode) (x : ℕ) → MayEnter c s t l mode x → Lawful c s → Lawful c (after_enter s t l mode x) }
+{
+}
+
+/// A running thread that is made ready and stands on a turnstile in one turn of the scheduled run keeps each fact.
+pub fn blocks_keep()
+    ensures { (c : Config) (s : State) (t l : ℕ) (mode : Mode) (x : ℕ) → MayBlock c s t l mode x → Lawful c s → Lawful c (after_block s t l mode x) }
 {
 }
 

@@ -8,9 +8,9 @@ pub mod State
 pub mod History
 pub mod Queues
 pub mod Moves
+pub mod MovesOfTurns
 pub mod MovesOfQueues
 pub mod MovesOfLoans
-pub mod MovesOfTurns
 pub mod Steps
 pub mod FactsOfQueues
 pub mod FactsOfWaits

@@ -3,7 +3,8 @@
 use Rattle.std.specs.Prelude.{◌≡◌, ◌≢◌, ◌⊎◌, ℕ, ◌<◌, Bool, true, false, if◌then◌else◌, List, [], ◌∷◌, Option, Some, None}
 use Rattle.lock_model.specs.Words.{Holder, Free, HeldBy, SharedBy, admits, is_free, is_turnstile, without_one, shows_waiters, owner_of, entered, opened, side_woken}
 use Rattle.lock_model.specs.History.{open_in}
-use Rattle.lock_model.specs.Moves.{effective_of}
+use Rattle.lock_model.specs.Moves.{effective_of, after_ready}
+use Rattle.lock_model.specs.MovesOfTurns.{Item, item_with}
 use Rattle.lock_model.specs.State.{Config, State, Hold, NotHeld, Holds, Wait, Running, Queued, Woken, Cause, BySignal, ByAbort, Waiter, Lists, Mark, Walk, NoWalk, AtLock, AtThread, Note, IsHalted, Loan, put, put_at, put_queue}
 use Rattle.lock_model.specs.Queues.{lock_queue, is_turnstile_queue, side_of, list_of, with_list, insert, head_with, free_with, dealt, free_after, head_after}
 use Rattle.lock_model.specs.declared.plan.Kind.{Kind}
@@ -59,6 +60,24 @@ after_enter s t l mode x =
       walk = put s.walk t (walk_in l (s.word l).holder);
       last_look = put s.last_look t None;
     }
+
+-- The same in one turn of the scheduled run, where nothing is out: a running thread is made ready and enters at once.
+
+pub record MayBlock (c : Config) (s : State) (t l : ℕ) (mode : Mode) (x : ℕ) : Type 0 where
+  pub thread : t < c.threads
+  pub lock : l < c.locks
+  pub turnstile : is_turnstile (c.kind l) ≡ true
+  pub mutex : c.kind l ≡ Mtx → mode ≡ Excl
+  pub held : is_free (s.word l).holder ≡ false
+  pub refused : admits (c.kind l) (s.word l) mode ≡ false
+  pub running : s.wait t ≡ Running
+  pub own : s.turnstile t ≡ Some x
+  pub wants : (s.wanted t ≡ Some l) ⊎ (s.wanted t ≡ None)
+  pub no_walk : s.walk t ≡ NoWalk
+  pub nothing_out : (i : Item) → item_with s i ≡ None
+
+unfoldable pub after_block : State → ℕ → ℕ → Mode → ℕ → State
+after_block s t l mode x = after_enter (after_ready s t) t l mode x
 
 -- 2. An open: the last holder's release where waiters are shown. One whole side goes to the marked list with its turnstiles; the loan
 -- for the lock goes home, and the turnstile that stays has no owner. The thread may stand on a sleep queue, but on no turnstile

@@ -1,6 +1,7 @@
 -- What lies behind turn words, and the steps that take it out of its home and give it back.
 use Rattle.std.specs.Prelude.{◌≡◌, ◌≢◌, ℕ, ◌<◌, Bool, true, false, ◌&&◌, ◌==◌, Option, Some, None, ⊤}
 use Rattle.lock_model.specs.State.{Config, State, Queued, put, put_at}
+use Rattle.lock_model.specs.Moves.{is_woken}
 
 -- what a thread may have out: a chain of turnstiles or of sleep queues, a thread's record, a cell of a lock's table, the class graph
 pub data Item : Type 0 where
@@ -42,12 +43,18 @@ IsItem c (RecordOf t) = t < c.threads
 IsItem c (CellOf l k) = l < c.locks
 IsItem c ClassGraph = ⊤
 
+-- the class graph is taken only by a thread that is on no queue, in no marked list and not woken
+abbrev pub MayCheckOrders : State → ℕ → Item → Type 0
+MayCheckOrders s t ClassGraph = (s.named t ≡ None) × (is_woken (s.wait t) ≡ false)
+MayCheckOrders s t other = ⊤
+
 -- the item is home, and goes together with all that the thread has out
 pub record MayTake (c : Config) (s : State) (t : ℕ) (i : Item) : Type 0 where
   pub thread : t < c.threads
   pub item : IsItem c i
   pub home : item_with s i ≡ None
   pub together : (j : Item) → item_with s j ≡ Some t → (go_together i j ≡ true) × (go_together j i ≡ true)
+  pub orders : MayCheckOrders s t i
 
 -- an item with its turn: out, where it goes to a thread, else home
 abbrev pub with_turn : State → Item → Option ℕ → State
