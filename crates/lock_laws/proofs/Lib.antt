@@ -24,3 +24,4 @@ pub mod Steps
 pub mod Best
 pub mod Derived
 pub mod Block
+mod Rows

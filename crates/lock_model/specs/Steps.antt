@@ -1,5 +1,5 @@
 -- The steps of threads, one case per kind. A step asks its guard, and its effect is computed.
-use Rattle.std.specs.Prelude.{◌≡◌, ◌⊎◌, ℕ, ◌%◌, Bool, true, if◌then◌else◌, List, Option, Some, ⊤}
+use Rattle.std.specs.Prelude.{◌≡◌, ◌⊎◌, ℕ, ◌%◌, Bool, true, if◌then◌else◌, List, [], ◌∷◌, Option, Some, ⊤}
 use Rattle.lock_model.specs.State.{Config, State, Cause, Mark, Walk, NoWalk, AtLock, AtThread, start_state}
 use Rattle.lock_model.specs.Words.{is_turnstile}
 use Rattle.lock_model.specs.Moves.{MayLook, MayGain, MayDrop, MayStamp, MayReady, MayUnready, after_look, after_gain, after_drop, after_stamp, after_ready, after_unready}
@@ -127,3 +127,13 @@ FloorStep c s n = (m : Move) × May c s m × HasOut c s m × (n ≡ after c s m)
 pub data IsReached (c : Config) : State → Type 0 where
   begins : IsReached c (start_state c)
   goes_on : {s n : State} → IsReached c s → Step c s n → IsReached c n
+
+-- the state after the steps of a list, made in order
+abbrev pub after_all : Config → State → List Move → State
+after_all c s [] = s
+after_all c s (m ∷ ms) = after_all c (after c s m) ms
+
+-- whether each step of a list may be made where it comes
+abbrev pub MayAll : Config → State → List Move → Type 0
+MayAll c s [] = ⊤
+MayAll c s (m ∷ ms) = May c s m × MayAll c (after c s m) ms
