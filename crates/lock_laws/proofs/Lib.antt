@@ -24,4 +24,5 @@ pub mod Steps
 pub mod Best
 pub mod Derived
 pub mod Block
-mod Rows
+pub mod Rows
+mod Guards

@@ -17,13 +17,13 @@ use Rattle.lock_model.specs.declared.plan.Mode.{Mode}
 use Rattle.lock_model.specs.declared.plan.Mode.TheVariants.{Excl, Shared}
 use Rattle.lock_model.specs.declared.event.Event.TheVariants.{Locked, Busy, Unlocked}
 
-at : {A : Type 0} → List A → A → ℕ → A
+unfoldable pub at : {A : Type 0} → List A → A → ℕ → A
 at [] d n = d
 at (x ∷ xs) d zero = x
 at (x ∷ xs) d (suc n) = at xs d n
 
 -- a plan of locks of one kind, and the base priorities of its threads
-plan : Kind → ℕ → List ℕ → Config
+unfoldable pub plan : Kind → ℕ → List ℕ → Config
 plan kind locks bases = record {
   threads = length bases;
   locks = locks;
@@ -36,18 +36,18 @@ plan kind locks bases = record {
 }
 
 -- a thread takes a lock
-takes : ℕ → ℕ → Mode → List Move
+unfoldable pub takes : ℕ → ℕ → Mode → List Move
 takes t l mode = Gains t l mode ∷ Stamps t (Locked (record { 0 = l }) mode) ∷ []
 
 -- a thread stands on a lock's turnstile with its own turnstile x
-blocks : ℕ → ℕ → Mode → ℕ → List Move
+unfoldable pub blocks : ℕ → ℕ → Mode → ℕ → List Move
 blocks t l mode x = TakesTurn t (RecordOf t) ∷ Readies t ∷ Enters t l mode x ∷ GivesTurn t (RecordOf t) ∷ []
 
 -- a thread releases a lock, and a side is woken
-opens : ℕ → ℕ → Mode → List Move
+unfoldable pub opens : ℕ → ℕ → Mode → List Move
 opens t l mode = Stamps t (Unlocked (record { 0 = l }) mode) ∷ Opens t l mode ∷ []
 
-mark : ℕ → ℕ → ℕ → Mark
+unfoldable pub mark : ℕ → ℕ → ℕ → Mark
 mark u x l = record { thread = u; object = x; queue = lock_queue l; cause = BySignal }
 
 -- the waiter t with the kept priority p
@@ -56,13 +56,13 @@ waits t p = record { thread = t; kept = p }
 
 -- 1. Lending and handing back: p of priority 100 owns the lock, and q of priority 50 waits
 
-lending : Config
+unfoldable pub lending : Config
 lending = plan Mtx 1 (100 ∷ 50 ∷ [])
 
-lent : List Move
+unfoldable pub lent : List Move
 lent = takes 0 0 Excl ++ blocks 1 0 Excl 1 ++ Lends 1 0 0 1 ∷ []
 
-handed_back : List Move
+unfoldable pub handed_back : List Move
 handed_back = lent ++ opens 0 0 Excl ++ Marks 0 (mark 1 1 0) [] ∷ Resumes 1 (lock_queue 0) BySignal ∷ takes 1 0 Excl
 
 -- q is the head and stands alone; p has its priority, and the walk has ended
