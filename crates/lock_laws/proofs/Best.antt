@@ -10,12 +10,12 @@ use Rattle.lock_model.specs.Moves.{prio_of}
 use Rattle.lock_model.specs.Queues.{lock_queue, times_waiting, stands, waiting, least_kept, least_of_two, least_of}
 use Rattle.lock_model.specs.Facts.{Lawful, KeptIsEffective, LoansAreLeast, LoansAreWithOwners, OwnersHold, HeadsFitWaiters, EffectiveIsLeast, StandsOnce, OnlyThreadsStand, StandingWants, WordsMatchHolders}
 use Rattle.lock_model.specs.FactsOfWords.{owns}
-use Rattle.lock_model.specs.FactsOfLoans.{Each, EachOf, IsKept, owner_if}
+use Rattle.lock_model.specs.FactsOfLoans.{Each, EachOf, IsKept, owner_if, walks_at_lock, walks_at_thread, at_lock, at_thread}
 use Rattle.lock_model.specs.Best.{is_behind, IsBehind, best_within, best_behind, WaitsFor, WaitsAlong, HasCycle, NobodyWalks}
 use Rattle.lock_model.specs.declared.plan.Mode.{Mode}
 use Rattle.lock_model.specs.declared.plan.Mode.TheVariants.{Excl, Shared}
 use Rattle.lock_model.specs.declared.plan.QueueName.{QueueName}
-use Rattle.lock_laws.proofs.Kit.{at_queue_one}
+use Rattle.lock_laws.proofs.Kit.{at_queue_one, sum_below-zero}
 use Rattle.lock_laws.proofs.Lending.{least-le_base}
 use Rattle.lock_laws.proofs.Shown.{true-any_below, owner_from, owner-owns, exclusive_is}
 use Rattle.lock_laws.proofs.Words.{owns_is}
@@ -135,20 +135,20 @@ times_waiting-le u (w ∷ ws) = let r = times_waiting-le u ws in elim (cases_Boo
 -- 3. Who is behind whom
 
 module _ (c : Config) (s : State) where
-  abbrev at_lock : ℕ → ℕ → ℕ → Bool
-  at_lock u t l = is_turnstile (c.kind l) && (owns t (s.word l).holder && leb 1 (stands u (s.lists (lock_queue l))))
+  abbrev behind_lock : ℕ → ℕ → ℕ → Bool
+  behind_lock u t l = is_turnstile (c.kind l) && (owns t (s.word l).holder && leb 1 (stands u (s.lists (lock_queue l))))
 
   behind_at : (u t : ℕ) → is_behind c s u t ≡ true → (l : ℕ) × (l < c.locks) × (is_turnstile (c.kind l) ≡ true) × (owns t (s.word l).holder ≡ true) × (1 ≤ stands u (s.lists (lock_queue l)))
   unfolding is_behind
   behind_at u t e =
-      let r = any_below-true c.locks (at_lock u t) e in
+      let r = any_below-true c.locks (behind_lock u t) e in
       let x = and_parts (is_turnstile (c.kind r.0)) (owns t (s.word r.0).holder && leb 1 (stands u (s.lists (lock_queue r.0)))) r.2 in
       let y = and_parts (owns t (s.word r.0).holder) (leb 1 (stands u (s.lists (lock_queue r.0)))) x.1 in
       (r.0, r.1, x.0, y.0, leb-true 1 (stands u (s.lists (lock_queue r.0))) y.1)
 
   behind_from : (u t l : ℕ) → l < c.locks → is_turnstile (c.kind l) ≡ true → owns t (s.word l).holder ≡ true → 1 ≤ stands u (s.lists (lock_queue l)) → is_behind c s u t ≡ true
   unfolding is_behind
-  behind_from u t l lt i o k = true-any_below c.locks (at_lock u t) l lt (rw (i, o) (le-leb 1 (stands u (s.lists (lock_queue l))) k))
+  behind_from u t l lt i o k = true-any_below c.locks (behind_lock u t) l lt (rw (i, o) (le-leb 1 (stands u (s.lists (lock_queue l))) k))
 
   -- each thread of a list is behind the one before it, and the first is behind t
   abbrev IsChain : ℕ → List ℕ → Type 0
@@ -244,13 +244,21 @@ module _ (c : Config) (s : State) (h : Lawful c s) where
       h.owners_hold l ∙ rw (i, x.1, a) refl
 
 module _ (c : Config) (s : State) (h : Lawful c s) (still : NobodyWalks c s) where
+  none_at_lock : (l : ℕ) → walks_at_lock c s.walk l ≡ 0
+  unfolding walks_at_lock
+  none_at_lock l = sum_below-zero c.threads (λ t. at_lock l (s.walk t)) (λ t i. ap (at_lock l) (still t i))
+
+  none_at_thread : (o : ℕ) → walks_at_thread c s.walk o ≡ 0
+  unfolding walks_at_thread
+  none_at_thread o = sum_below-zero c.threads (λ t. at_thread o (s.walk t)) (λ t i. ap (at_thread o) (still t i))
+
   exact : (l : ℕ) → is_turnstile (c.kind l) ≡ true → EachOf (λ w. w.kept ≡ s.effective w.thread) (s.lists (lock_queue l))
   unfolding KeptIsEffective
   exact l i = (go (s.lists (lock_queue l)).exclusive (h.kept_is_effective l i).0, go (s.lists (lock_queue l)).shared (h.kept_is_effective l i).1)
     where
       go : (ws : List Waiter) → Each (IsKept c s.walk s.effective) ws → Each (λ w. w.kept ≡ s.effective w.thread) ws
       go [] e = tt
-      go (w ∷ ws) e = (e.0 (still.at_threads w.thread), go ws e.1)
+      go (w ∷ ws) e = (e.0 (none_at_thread w.thread), go ws e.1)
 
   abbrev from_behind : ℕ → ℕ → Option ℕ
   from_behind t u = cond (is_behind c s u t) (Some (s.effective u)) None
@@ -265,7 +273,7 @@ module _ (c : Config) (s : State) (h : Lawful c s) (still : NobodyWalks c s) whe
             let r = behind_at c s u t y in
             let o = owner-here c s h t r.0 u r.2 r.4 r.3 in
             let w = least_of-le s.effective u (s.lists (lock_queue r.0)) (exact r.0 r.2) r.4 in
-            let v = least-le c.locks (λ l. prio_of (s.loan t l)) (s.base t) r.0 w.0 r.1 (h.loans_are_least r.0 t o (still.at_locks r.0) ∙ w.1) in
+            let v = least-le c.locks (λ l. prio_of (s.loan t l)) (s.base t) r.0 w.0 r.1 (h.loans_are_least r.0 t o (none_at_lock r.0) ∙ w.1) in
             let x : Some (s.effective u) ≡ Some p = rw y at e in
             let x2 : s.effective u ≡ p = cc in
             let w2 = w.2 in
@@ -287,7 +295,7 @@ module _ (c : Config) (s : State) (h : Lawful c s) (still : NobodyWalks c s) whe
       go l p lt (Some y) z e =
           let o = h.loans_are_with_owners t l y z in
           let k = owner_from (is_turnstile (c.kind l)) (s.head (lock_queue l)) (s.word l).holder t (sym (h.owners_hold l) ∙ o) in
-          let x = sym (h.loans_are_least l t o (still.at_locks l)) ∙ ap prio_of z ∙ e in
+          let x = sym (h.loans_are_least l t o (none_at_lock l)) ∙ ap prio_of z ∙ e in
           let r = least_of-is s.effective (s.lists (lock_queue l)) p (exact l k.0) x in
           let b = behind_from c s r.0 t l lt k.0 (owner-owns t (s.word l).holder k.1) r.1 in
           let v = least-le c.threads (from_behind t) (s.base t) r.0 (s.effective r.0) (inside c s h r.0 l r.1) (rw b refl) in

@@ -11,7 +11,7 @@ use Rattle.lock_model.specs.declared.plan.Mode.{Mode}
 use Rattle.lock_model.specs.declared.plan.QueueName.{QueueName}
 use Rattle.lock_laws.proofs.Kit.{put_same, put_other, each_place}
 use Rattle.lock_laws.proofs.Turns.{take_lawful, give_lawful}
-use Rattle.lock_laws.proofs.Waits.{ready_lawful}
+use Rattle.lock_laws.proofs.OwnWaits.{ready_lawful}
 use Rattle.lock_laws.proofs.Enter as enter
 
 module _ (c : Config) (s : State) (t l : ℕ) (mode : Mode) (x : ℕ) (g : MayBlock c s t l mode x) (h : Lawful c s) where

@@ -5,7 +5,7 @@ pub mod Queues
 pub mod Lending
 pub mod Gain
 pub mod Drop
-pub mod Waits
+pub mod OwnWaits
 pub mod Turns
 pub mod Tables
 pub mod Sections

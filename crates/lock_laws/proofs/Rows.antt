@@ -5,7 +5,7 @@ use Rattle.lock_model.specs.Counts.{sum_below, least}
 use Rattle.lock_model.specs.Words.{word_of, bits_of}
 use Rattle.lock_model.specs.State.{Config, State, Waiter, Mark, BySignal, NoWalk, AtLock, AtThread, start_state, put, put_at, put_queue}
 use Rattle.lock_model.specs.History.{sections_in}
-use Rattle.lock_model.specs.Queues.{lock_queue}
+use Rattle.lock_model.specs.Queues.{lock_queue, stands}
 use Rattle.lock_model.specs.Moves.{after_look, after_gain, after_drop, after_stamp, after_ready, after_unready}
 use Rattle.lock_model.specs.MovesOfQueues.{after_enter, after_open, after_mark, after_resume}
 use Rattle.lock_model.specs.MovesOfLoans.{after_claim, after_lend, after_shift, after_end_walk}
@@ -110,6 +110,11 @@ first_hop_is s e = rw e (refl, refl, refl)
 last_hop_is : (s : State) → s ≡ after_all owners (start_state owners) (first_hop ++ Shifts 2 1 0 ∷ Lends 2 0 0 1 ∷ []) → (s.walk 2 ≡ NoWalk) × (s.effective 0 ≡ 50) × (s.lists (lock_queue 0) ≡ record { exclusive = waits 1 50 ∷ []; shared = [] })
 unfolding owners first_hop start_state after_look after_gain after_stamp after_drop after_take after_give after_ready after_enter after_open after_mark after_resume after_claim after_lend after_shift after_end_walk put put_at put_queue least sum_below at plan takes blocks opens mark
 last_hop_is s e = rw e (refl, refl, refl)
+
+-- Where t1 releases a before the second hop, t2 is marked and stands on no queue, so t3's walk ends there
+owner_gone_is : (s : State) → s ≡ after_all owners (start_state owners) (first_hop ++ opens 0 0 Excl) → (s.walk 2 ≡ AtThread 1) × (s.named 1 ≡ Some (lock_queue 0)) × (s.marked 0 ≡ mark 1 1 0 ∷ []) × (stands 1 (s.lists (lock_queue 0)) ≡ 0) × (s.effective 0 ≡ 200)
+unfolding owners first_hop start_state after_look after_gain after_stamp after_drop after_take after_give after_ready after_enter after_open after_mark after_resume after_claim after_lend after_shift after_end_walk put put_at put_queue least sum_below at plan takes blocks opens mark
+owner_gone_is s e = rw e (refl, refl, refl, refl, refl)
 
 -- 4. Two loans: o of 200 owns a and b; p of 60 waits for a, q of 40 for b
 

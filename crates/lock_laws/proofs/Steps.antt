@@ -3,7 +3,7 @@ use Rattle.std.proofs.Common.{subst, sym}
 use Rattle.lock_model.specs.State.{Config, State}
 use Rattle.lock_model.specs.Facts.{Lawful}
 use Rattle.lock_model.specs.Steps.{Move, Looks, TakesTurn, GivesTurn, Gains, Drops, Stamps, Readies, Unreadies, Enters, Opens, Marks, Resumes, Claims, Lends, Shifts, EndsWalk, May, after, Step, IsReached, begins, goes_on}
-use Rattle.lock_laws.proofs.Waits.{look_lawful, ready_lawful, unready_lawful}
+use Rattle.lock_laws.proofs.OwnWaits.{look_lawful, ready_lawful, unready_lawful}
 use Rattle.lock_laws.proofs.Turns.{take_lawful, give_lawful}
 use Rattle.lock_laws.proofs.StateAtStart as start
 use Rattle.lock_laws.proofs.Gain as gain

@@ -6,6 +6,7 @@
 //! - `kinds`: each kind of step keeps each fact of a lawful state.
 //! - `priorities`: where no walk is under way and nobody waits in a cycle, each effective priority is the best
 //!   behind it.
+//! - `waits`: a thread stands at most once, on one queue, and a lock's word shows it.
 //! - `books`: the table of a lock is what the history leaves.
 #![tactic(auto)]
 
@@ -13,3 +14,4 @@ pub mod books;
 pub mod kinds;
 pub mod priorities;
 pub mod start;
+pub mod waits;

@@ -1,11 +1,10 @@
 -- The best priority behind a thread, and cycles of waiting threads.
-use Rattle.std.specs.Prelude.{◌≡◌, ◌≢◌, ℕ, zero, suc, Bool, true, false, ◌&&◌, nat_le, if◌then◌else◌, List, [], ◌∷◌, ◌++◌, Option, Some, None, ⊤}
+use Rattle.std.specs.Prelude.{◌≡◌, ◌≢◌, ℕ, zero, suc, ◌<◌, Bool, true, false, ◌&&◌, nat_le, if◌then◌else◌, List, [], ◌∷◌, ◌++◌, Option, Some, None, ⊤}
 use Rattle.lock_model.specs.Counts.{any_below, least}
 use Rattle.lock_model.specs.Words.{is_turnstile}
-use Rattle.lock_model.specs.State.{Config, State, NotHeld}
+use Rattle.lock_model.specs.State.{Config, State, NotHeld, NoWalk}
 use Rattle.lock_model.specs.Queues.{lock_queue, stands}
 use Rattle.lock_model.specs.FactsOfWords.{owns}
-use Rattle.lock_model.specs.FactsOfLoans.{walks_at_lock, walks_at_thread}
 
 -- whether u stands on the turnstile of a lock whose word is held by t
 unfoldable pub is_behind : Config → State → ℕ → ℕ → Bool
@@ -37,6 +36,5 @@ abbrev pub HasCycle : State → Type 0
 HasCycle s = (t : ℕ) × ((us : List ℕ) × WaitsAlong s t (us ++ t ∷ []))
 
 -- no walk is under way
-pub record NobodyWalks (c : Config) (s : State) : Type 0 where
-  pub at_locks : (l : ℕ) → walks_at_lock c s.walk l ≡ 0
-  pub at_threads : (t : ℕ) → walks_at_thread c s.walk t ≡ 0
+abbrev pub NobodyWalks : Config → State → Type 0
+NobodyWalks c s = (t : ℕ) → t < c.threads → s.walk t ≡ NoWalk
