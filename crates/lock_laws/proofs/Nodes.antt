@@ -1,5 +1,5 @@
 -- Laws of loan nodes and of known priorities, where one loan is changed.
-use Rattle.std.proofs.Common.{◌≡◌, ℕ, ◌+◌, ◌<◌, ◌≤◌, Bool, true, false, eqb, ltb, min, List, [], ◌∷◌, length, Option, Some, None, refl, sym, ap, inl, inr, arith, ◌∙◌, subst}
+use Rattle.std.proofs.Common.{◌≡◌, ℕ, ◌+◌, ◌<◌, ◌≤◌, Bool, true, false, ◌&&◌, eqb, ltb, min, List, [], ◌∷◌, length, Option, Some, None, refl, sym, ap, inl, inr, arith, ◌∙◌, subst}
 use Rattle.std.proofs.lemmas.Bool.{ne_eqb, cases_eq}
 use Rattle.lock_model.specs.Counts.{one, some, at_option, sum_below, least, lower}
 use Rattle.lock_model.specs.Words.{is_turnstile}
@@ -12,7 +12,7 @@ use Rattle.lock_model.specs.Facts.{Lawful, OneTurnstileEach, OneNodeEach, HeadsF
 use Rattle.lock_model.specs.FactsOfQueues.{only, turnstile_places, at_loan, loans_on}
 use Rattle.lock_model.specs.FactsOfLoans.{Each, EachOf, IsKnown}
 use Rattle.lock_model.specs.declared.event.Entry.{Entry}
-use Rattle.lock_laws.proofs.Kit.{put_same, put_other, put_at_same, put_at_other, put_at_beside, sum_below-same, sum_below-change, sum_below-two, sum_below-zero, one_same}
+use Rattle.lock_laws.proofs.Kit.{put_same, put_other, put_at_same, put_at_other, put_at_beside, sum_below-same, sum_below-change, sum_below-two, sum_below-zero, sum_below-at, one_same}
 use Rattle.lock_laws.proofs.Lending.{by_least}
 use Rattle.lock_laws.proofs.Shown.{base_known, lent_held}
 
@@ -28,6 +28,16 @@ loans_on-put c loan t l v n lt lk =
     let d : at_loan n (put_at loan t l v t l) ≡ at_loan n v = ap (at_loan n) (put_at_same loan t l v) in
     omega arith
 
+-- where a loan is on a node, the node is a turnstile's, and it is out
+on_loan : (b home : Bool) (k : ℕ) → one (b && home) + k ≡ one b → 1 ≤ k → (b ≡ true) × (k ≡ 1)
+on_loan true true k e l = absurd (omega arith)
+on_loan true false k e l = (refl, omega arith)
+on_loan false home k e l = absurd (omega arith)
+
+-- a node with a loan less is at home
+returned : (b home : Bool) (k m : ℕ) → one (b && home) + k ≡ one b → m + 1 ≡ k + 0 → one (b && true) + m ≡ one b
+returned b home k m e f = let r = on_loan b home k e (omega arith) in rw (r.0) (let z = r.1 in omega arith)
+
 -- a loan that goes home brings its node back
 pub node_returned : (c : Config) (home : ℕ → Bool) (loan : ℕ → ℕ → Option Loan) (t l : ℕ) → t < c.threads → l < c.locks → OneNodeEach c home loan → OneNodeEach c (home_after home (loan t l)) (put_at loan t l None)
 unfolding OneNodeEach
@@ -36,12 +46,16 @@ node_returned c home loan t l lt lk h n = go (loan t l) refl
     a : loans_on c (put_at loan t l None) n + at_loan n (loan t l) ≡ loans_on c loan n + 0
     a = loans_on-put c loan t l None n lt lk
 
-    go : (o : Option Loan) → loan t l ≡ o → one (home_after home o n) + loans_on c (put_at loan t l None) n ≡ 1
+    go : (o : Option Loan) → loan t l ≡ o → one (ltb n c.threads && home_after home o n) + loans_on c (put_at loan t l None) n ≡ one (ltb n c.threads)
     go None y = let b = ap (at_loan n) y in omega (arith, a, h n)
     go (Some x) y =
         let b = ap (at_loan n) y in
         elim (cases_eq x.number n) [
-          | inl e ↦ rw (← e, put_same home x.number true) (let d = one_same x.number in let f = rw (← e) at b in let k = h x.number in let m = rw (← e) at a in omega arith)
+          | inl e ↦
+              let d = one_same x.number in
+              let f = rw (← e) at b in
+              let m = rw (← e) at a in
+              rw (← e, put_same home x.number true) (returned (ltb x.number c.threads) (home x.number) (loans_on c loan x.number) (loans_on c (put_at loan t l None) x.number) (h x.number) (omega arith))
           | inr e ↦ rw (put_other home x.number true n e) (let d : at_loan n (Some x) ≡ 0 = ap one (ne_eqb n x.number (λ i. e (sym i))) in omega (arith, a, h n))
         ]
 
@@ -162,23 +176,42 @@ module _ (c : Config) (s : State) (h : Lawful c s) where
   abbrev lent : ℕ → ℕ → Option Loan
   lent l y = loan_of y (least_of (s.lists (lock_queue l)))
 
+  -- a head is a thread's turnstile
+  head_inside : (l y : ℕ) → l < c.locks → is_turnstile (c.kind l) ≡ true → s.head (lock_queue l) ≡ Some y → ltb y c.threads ≡ true
+  unfolding OneTurnstileEach turnstile_places
+  head_inside l y lt t e =
+      let f : ℕ → ℕ = λ j. only (is_turnstile (c.kind j)) (at_option y (s.head (lock_queue j))) in
+      let a = sum_below-at c.locks f l lt in
+      let b : f l ≡ 1 = rw (t, e) (one_same y) in
+      is_one (ltb y c.threads) (omega (arith, h.one_turnstile_each y))
+    where
+      is_one : (b : Bool) → 1 ≤ one b → b ≡ true
+      is_one true k = refl
+      is_one false k = absurd (omega arith)
+
   pub node_lent : (o l y : ℕ) → o < c.threads → l < c.locks → is_turnstile (c.kind l) ≡ true → s.head (lock_queue l) ≡ Some y
       → ((u : ℕ) (x : Loan) → s.loan u l ≡ Some x → u ≡ o)
-      → OneNodeEach c (put s.loan_home y false) (put_at s.loan o l (loan_of y (least_of (s.lists (lock_queue l)))))
+      → OneNodeEach c (put s.loan_home y false) (put_at s.loan o l (lent l y))
   unfolding OneNodeEach LoansAreOnHeads
   node_lent o l y lo lt t e mine n = go (s.loan o l) refl
     where
       changed : loans_on c (put_at s.loan o l (lent l y)) n + at_loan n (s.loan o l) ≡ loans_on c s.loan n + one (eqb n y)
       changed = let a = loans_on-put c s.loan o l (lent l y) n lo lt in let b = on_node y (s.lists (lock_queue l)) n (some_waiting l y e) in omega arith
 
-      go : (x : Option Loan) → s.loan o l ≡ x → one (put s.loan_home y false n) + loans_on c (put_at s.loan o l (lent l y)) n ≡ 1
+      elsewhere : (y ≡ n → ⊥) → at_loan n (s.loan o l) ≡ 0 → one (ltb n c.threads && put s.loan_home y false n) + loans_on c (put_at s.loan o l (lent l y)) n ≡ one (ltb n c.threads)
+      elsewhere i z = rw (put_other s.loan_home y false n i) (let d : one (eqb n y) ≡ 0 = ap one (ne_eqb n y (λ j. i (sym j))) in omega (arith, changed, h.one_node_each n))
+
+      go : (x : Option Loan) → s.loan o l ≡ x → one (ltb n c.threads && put s.loan_home y false n) + loans_on c (put_at s.loan o l (lent l y)) n ≡ one (ltb n c.threads)
       go None z =
           let a = ap (at_loan n) z in
           elim (cases_eq y n) [
             | inl i ↦
                 let b = node_at_home l y lt t e (λ u x w. let m = mine u x w in let f : None ≡ Some x = sym z ∙ ap (λ j. s.loan j l) (sym m) ∙ w in cc) in
-                rw (← i, put_same s.loan_home y false) (let d = one_same y in let f = rw (← i) at changed in let f2 = rw (← i) at a in omega arith)
-            | inr i ↦ rw (put_other s.loan_home y false n i) (let d : one (eqb n y) ≡ 0 = ap one (ne_eqb n y (λ j. i (sym j))) in omega (arith, changed, h.one_node_each n))
+                let d = one_same y in
+                let f = rw (← i) at changed in
+                let f2 = rw (← i) at a in
+                rw (← i, put_same s.loan_home y false, head_inside l y lt t e) (omega arith)
+            | inr i ↦ elsewhere i a
           ]
       go (Some x) z =
           let k : y ≡ x.number = (let m = sym e ∙ h.loans_are_on_heads o l x z in cc) in
@@ -189,6 +222,9 @@ module _ (c : Config) (s : State) (h : Lawful c s) where
                 let d = loans_on-put c s.loan o l None y lo lt in
                 let a3 = rw (← i) at a2 in
                 let f = one_same y in
-                rw (← i, put_same s.loan_home y false) (let m = rw (← i) at changed in let p = h.one_node_each y in omega arith)
-            | inr i ↦ rw (put_other s.loan_home y false n i) (omega (arith, changed, h.one_node_each n))
+                let m = rw (← i) at changed in
+                let r = on_loan (ltb y c.threads) (s.loan_home y) (loans_on c s.loan y) (h.one_node_each y) (omega arith) in
+                let r1 = r.1 in
+                rw (← i, put_same s.loan_home y false, r.0) (omega arith)
+            | inr i ↦ let d : one (eqb n y) ≡ 0 = ap one (ne_eqb n y (λ j. i (sym j))) in elsewhere i (a2 ∙ d)
           ]

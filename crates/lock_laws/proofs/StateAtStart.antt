@@ -1,5 +1,5 @@
 -- The state at the start of a plan is lawful.
-use Rattle.std.proofs.Common.{◌≡◌, ℕ, zero, suc, ◌+◌, ◌<◌, Bool, true, false, not, eqb, ltb, [], Option, Some, None, refl, sym, ap, arith, inl, inr, eq-eqb}
+use Rattle.std.proofs.Common.{◌≡◌, ℕ, zero, suc, ◌+◌, ◌<◌, Bool, true, false, ◌&&◌, not, eqb, ltb, [], Option, Some, None, refl, sym, ap, arith, inl, inr, eq-eqb}
 use Rattle.std.proofs.lemmas.Bool.{ne_eqb, cases_eq, cases_lt, lt-ltb, le-ltb}
 use Rattle.lock_model.specs.Counts.{sum_below, one, least, at_option}
 use Rattle.lock_model.specs.Words.{is_turnstile}
@@ -61,7 +61,11 @@ module _ (c : Config) where
   unfolding start_state OneNodeEach loans_on
   one_node n =
       let a = sum_below-zero c.threads (λ t. sum_below c.locks (λ l. 0)) (λ t i. sum_below-zero c.locks (λ l. 0) (λ l j. refl)) in
-      omega arith
+      home (ltb n c.threads) (sum_below c.threads (λ t. sum_below c.locks (λ l. 0))) a
+    where
+      home : (b : Bool) (k : ℕ) → k ≡ 0 → one (b && true) + k ≡ one b
+      home true k e = omega arith
+      home false k e = omega arith
 
   narrow : OutIsNarrow s.turnstile_chain_with s.sleep_chain_with s.record_with s.cell_with s.graph_with
   unfolding start_state OutIsNarrow

@@ -57,9 +57,9 @@ at_loan n (Some loan) = one (n == loan.number)
 unfoldable pub loans_on : Config → (ℕ → ℕ → Option Loan) → ℕ → ℕ
 loans_on c loan n = sum_below c.threads (λ t. sum_below c.locks (λ l. at_loan n (loan t l)))
 
--- each loan node is in exactly one place, its turnstile or a record
+-- each turnstile's loan node is in exactly one place, its turnstile or a record, and no other number is in any
 unfoldable pub OneNodeEach : Config → (ℕ → Bool) → (ℕ → ℕ → Option Loan) → Type 0
-OneNodeEach c loan_home loan = (n : ℕ) → one (loan_home n) + loans_on c loan n ≡ 1
+OneNodeEach c loan_home loan = (n : ℕ) → one (nat_lt n c.threads && loan_home n) + loans_on c loan n ≡ one (nat_lt n c.threads)
 
 -- a thread's turnstile is at home, or its record names a turnstile
 unfoldable pub TurnstileIsLent : Config → (ℕ → Option ℕ) → (ℕ → Option QueueName) → Type 0
