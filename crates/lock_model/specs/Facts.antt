@@ -4,6 +4,7 @@ unfoldable pub use Rattle.lock_model.specs.History.{TicketsRun, SectionsExclude,
 unfoldable pub use Rattle.lock_model.specs.FactsOfQueues.{OneTurnstileEach, OneSleepQueueEach, OneNodeEach, TurnstileIsLent, SleepQueueIsLent, HeadsFitWaiters, BitsShowWaiters, ListsAscend, MutexWaitersAreExclusive}
 unfoldable pub use Rattle.lock_model.specs.FactsOfWaits.{StandsOnce, OnlyThreadsStand, StandingIsQueued, QueuedHasRecord, StandingWants, WokenWants, CalledWants, StandingIsUncalled, WokenIsUncalled, FreeWordHasCalled, FreeMutexShowsNone}
 unfoldable pub use Rattle.lock_model.specs.FactsOfWords.{WordsMatchHolders, OnlyThreadsHold}
+pub use Rattle.lock_model.specs.FactsOfWords.{WordMatchesHolders, owns, shares}
 unfoldable pub use Rattle.lock_model.specs.FactsOfLoans.{EffectiveIsLeast, OwnersHold, ChannelsHaveNoOwner, LoansAreLeast, LoansAreWithOwners, LoansAreOnHeads, KeptIsEffective, EffectiveIsKnown, LoansAreKnown, KeptIsKnown}
 unfoldable pub use Rattle.lock_model.specs.FactsOfBooks.{NextIsNew, LogsAreParts, TablesReplay, BasesReplay, SectionsAreHeld, OutIsNarrow}
 
