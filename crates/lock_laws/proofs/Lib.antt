@@ -26,3 +26,4 @@ pub mod Derived
 pub mod Block
 pub mod Rows
 mod Guards
+pub mod Props

@@ -107,8 +107,3 @@ module _ (c : Config) (s : State) (h : Lawful c s) where
     lent = λ q. subst (IsKnown c s.history) (sym a.its_effective) (h.effective_is_known t lt);
   }
   asks_shown t lt other a = tt
-
-
-
-
-
