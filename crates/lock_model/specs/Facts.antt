@@ -1,37 +1,60 @@
--- The facts of a lawful state. A fact reads the columns that it names, and no others, so that a step which leaves these alone keeps it.
-use Rattle.std.specs.Prelude.{◌≡◌, ◌≢◌, ℕ, Bool, false, ◌==◌, List, Option}
-use Rattle.lock_model.specs.Counts.{sum_below}
-use Rattle.lock_model.specs.Words.{Word, Holder, Free, HeldBy, SharedBy, sharers}
-use Rattle.lock_model.specs.History.{value_at, is_exclusive}
-use Rattle.lock_model.specs.State.{Config, Hold, NotHeld, Holds}
-use Rattle.lock_model.specs.declared.plan.Mode.TheVariants.{Excl, Shared}
-use Rattle.lock_model.specs.declared.event.Entry.{Entry}
+-- A lawful state: the facts that hold between any two steps, in groups.
+use Rattle.lock_model.specs.State.{Config, State}
+unfoldable pub use Rattle.lock_model.specs.History.{TicketsRun, SectionsExclude, EditsInSections, ReadsReplay, ShownIsExplained}
+unfoldable pub use Rattle.lock_model.specs.FactsOfQueues.{OneTurnstileEach, OneSleepQueueEach, OneNodeEach, TurnstileIsLent, SleepQueueIsLent, HeadsFitWaiters, BitsShowWaiters, ListsAscend, MutexWaitersAreExclusive}
+unfoldable pub use Rattle.lock_model.specs.FactsOfWaits.{StandsOnce, OnlyThreadsStand, StandingIsQueued, QueuedHasRecord, StandingWants, WokenWants, CalledWants, StandingIsUncalled, WokenIsUncalled, FreeWordHasCalled, FreeMutexShowsNone}
+unfoldable pub use Rattle.lock_model.specs.FactsOfWords.{WordsMatchHolders, OnlyThreadsHold}
+pub use Rattle.lock_model.specs.FactsOfWords.{WordMatchesHolders, owns, shares}
+unfoldable pub use Rattle.lock_model.specs.FactsOfLoans.{EffectiveIsLeast, OwnersHold, ChannelsHaveNoOwner, LoansAreLeast, LoansAreWithOwners, LoansAreOnHeads, KeptIsEffective, EffectiveIsKnown, LoansAreKnown, KeptIsKnown}
+unfoldable pub use Rattle.lock_model.specs.FactsOfBooks.{NextIsNew, LogsAreParts, TablesReplay, BasesReplay, SectionsAreHeld, OutIsNarrow}
 
--- 1. Words
-
-abbrev pub owns : ℕ → Holder → Bool
-owns t Free = false
-owns t (HeldBy u) = t == u
-owns t (SharedBy n) = false
-
--- 1 where the lock is held shared
-abbrev pub shares : Hold → ℕ
-shares NotHeld = 0
-shares (Holds Excl) = 0
-shares (Holds Shared) = 1
-
--- a word is held by a thread exactly where that thread holds the lock exclusively, and shared by exactly as many as hold it shared;
--- a number of sharers is at least 1, so every other word is free and nobody holds it
-pub record WordMatchesHolders (c : Config) (word : Word) (held : ℕ → Hold) : Type 0 where
-  pub owner : (t : ℕ) → is_exclusive (held t) ≡ owns t word.holder
-  pub sharers_are_counted : sum_below c.threads (λ t. shares (held t)) ≡ sharers word.holder
-  pub some_sharer : word.holder ≢ SharedBy 0
-
-unfoldable pub WordsMatchHolders : Config → (ℕ → Word) → (ℕ → ℕ → Hold) → Type 0
-WordsMatchHolders c word held = (l : ℕ) → WordMatchesHolders c (word l) (λ t. held t l)
-
--- 2. Books
-
--- each table is what the history leaves
-unfoldable pub TablesReplay : (ℕ → ℕ → Option ℕ) → List Entry → Type 0
-TablesReplay table history = (l k : ℕ) → table l k ≡ value_at history l k
+pub record Lawful (c : Config) (s : State) : Type 0 where
+  -- places, heads, bits and lists
+  pub one_turnstile_each : OneTurnstileEach c s.turnstile s.head s.free_list s.marked
+  pub one_sleep_queue_each : OneSleepQueueEach c s.sleep_queue s.head s.free_list s.marked
+  pub one_node_each : OneNodeEach c s.loan_home s.loan
+  pub turnstile_is_lent : TurnstileIsLent c s.turnstile s.named
+  pub sleep_queue_is_lent : SleepQueueIsLent c s.sleep_queue s.named
+  pub heads_fit_waiters : HeadsFitWaiters s.lists s.free_list s.head s.owner
+  pub bits_show_waiters : BitsShowWaiters s.word s.lists
+  pub lists_ascend : ListsAscend c s.lists
+  pub mutex_waiters_are_exclusive : MutexWaitersAreExclusive c s.lists
+  -- standing, wanting and calling
+  pub stands_once : StandsOnce c s.lists s.marked s.named
+  pub only_threads_stand : OnlyThreadsStand c s.named
+  pub standing_is_queued : StandingIsQueued s.named s.wait
+  pub queued_has_record : QueuedHasRecord s.wait s.named s.record_with
+  pub standing_wants : StandingWants s.named s.wanted
+  pub woken_wants : WokenWants s.wait s.wanted
+  pub called_wants : CalledWants s.called s.wanted
+  pub standing_is_uncalled : StandingIsUncalled s.named s.called
+  pub woken_is_uncalled : WokenIsUncalled s.wait s.called
+  pub free_word_has_called : FreeWordHasCalled c s.word s.marked s.wait s.called
+  pub free_mutex_shows_none : FreeMutexShowsNone c s.word
+  -- words and holders
+  pub words_match_holders : WordsMatchHolders c s.word s.held
+  pub only_threads_hold : OnlyThreadsHold c s.held
+  -- priorities
+  pub effective_is_least : EffectiveIsLeast c s.effective s.base s.loan
+  pub owners_hold : OwnersHold c s.owner s.head s.word
+  pub channels_have_no_owner : ChannelsHaveNoOwner s.owner
+  pub loans_are_least : LoansAreLeast c s.owner s.walk s.loan s.lists
+  pub loans_are_with_owners : LoansAreWithOwners s.loan s.owner
+  pub loans_are_on_heads : LoansAreOnHeads s.loan s.head
+  pub kept_is_effective : KeptIsEffective c s.walk s.effective s.lists
+  pub effective_is_known : EffectiveIsKnown c s.effective s.history
+  pub loans_are_known : LoansAreKnown c s.loan s.history
+  pub kept_is_known : KeptIsKnown c s.lists s.history
+  -- books
+  pub next_is_new : NextIsNew s.next s.history
+  pub logs_are_parts : LogsAreParts s.log s.history
+  pub tables_replay_logs : TablesReplay s.table s.history
+  pub bases_replay : BasesReplay c s.base s.history
+  pub sections_are_held : SectionsAreHeld c s.history s.held
+  pub tickets_run : TicketsRun s.history
+  pub sections_exclude : SectionsExclude c s.history
+  pub edits_in_sections : EditsInSections c s.history
+  pub reads_replay : ReadsReplay s.history
+  pub shown_is_explained : ShownIsExplained c s.history
+  -- what is out
+  pub out_is_narrow : OutIsNarrow s.turnstile_chain_with s.sleep_chain_with s.record_with s.cell_with s.graph_with

@@ -78,6 +78,12 @@ pub record Begins (c : Config) (s : State) (t l : ℕ) (section : Hold) : Type 0
   pub held : s.held t l ≡ section
   pub closed : open_in c s.history t l ≡ NotHeld
 
+-- after a wait a section begins where the lock is held again as it was before the sleep
+pub record Returns (c : Config) (s : State) (t l : ℕ) : Type 0 where
+  pub held : s.held t l ≡ left_in c s.history t l
+  pub holds : s.held t l ≢ NotHeld
+  pub closed : open_in c s.history t l ≡ NotHeld
+
 -- the last look saw the lock with the word, and the word does not admit the mode
 pub record SawBusy (c : Config) (s : State) (t l : ℕ) (word : Word) (mode : Mode) : Type 0 where
   pub looked : s.last_look t ≡ Some (record { lock = l; word = word })
@@ -111,8 +117,8 @@ Asks c s t (Got l k found) = (open_in c s.history t l.0 ≢ NotHeld) × (found �
 Asks c s t (Base p) = ⊤
 Asks c s t (Shown base effective) = ShowsOwn c s t base.0 effective.0
 Asks c s t (Sleeps d) = open_in c s.history t (c.chan_lock d.0) ≢ NotHeld
-Asks c s t (Woke d) = Begins c s t (c.chan_lock d.0) (left_in c s.history t (c.chan_lock d.0))
-Asks c s t (HaltedChan d) = Begins c s t (c.chan_lock d.0) (left_in c s.history t (c.chan_lock d.0)) × (s.noted t ≡ Some IsHalted)
+Asks c s t (Woke d) = Returns c s t (c.chan_lock d.0)
+Asks c s t (HaltedChan d) = Returns c s t (c.chan_lock d.0) × (s.noted t ≡ Some IsHalted)
 Asks c s t (HaltedLock l) = s.noted t ≡ Some IsHalted
 Asks c s t (WokeOne d woken) = IsTheWake (s.unstamped t) d.0 false woken
 Asks c s t (WokeAll d woken) = IsTheWake (s.unstamped t) d.0 true woken

@@ -1,0 +1,195 @@
+-- A claim keeps each fact.
+use Rattle.std.proofs.Common.{◌≡◌, ℕ, ◌+◌, ◌<◌, ◌≤◌, Bool, true, false, Option, Some, None, refl, sym, ap, inl, inr, arith, eq-eqb, ◌∙◌}
+use Rattle.std.proofs.lemmas.Bool.{cases_eq}
+use Rattle.lock_model.specs.Counts.{at_option}
+use Rattle.lock_model.specs.Words.{Free, HeldBy, is_turnstile, owner_of, claimed}
+use Rattle.lock_model.specs.State.{State, Config, Waiter, Loan, NotHeld, Holds, put, put_at, put_queue}
+use Rattle.lock_model.specs.Moves.{prio_of}
+use Rattle.lock_model.specs.MovesOfLoans.{MayClaim, after_claim, loan_of}
+use Rattle.lock_model.specs.Queues.{lock_queue, chan_queue, stands, least_of}
+use Rattle.lock_model.specs.Facts.{Lawful, OneNodeEach, HeadsFitWaiters, BitsShowWaiters, StandsOnce, StandingWants, WokenWants, CalledWants, StandingIsUncalled, WokenIsUncalled, FreeWordHasCalled, FreeMutexShowsNone, WordsMatchHolders, OnlyThreadsHold, EffectiveIsLeast, OwnersHold, ChannelsHaveNoOwner, LoansAreLeast, LoansAreWithOwners, LoansAreOnHeads, KeptIsEffective, EffectiveIsKnown, LoansAreKnown, KeptIsKnown, SectionsAreHeld}
+use Rattle.lock_model.specs.FactsOfQueues.{HeadFits}
+use Rattle.lock_model.specs.FactsOfWaits.{callers}
+use Rattle.lock_model.specs.FactsOfLoans.{owner_if, IsKnown}
+use Rattle.lock_model.specs.declared.plan.Mode.TheVariants.{Excl}
+use Rattle.lock_model.specs.declared.plan.QueueName.{QueueName}
+use Rattle.lock_laws.proofs.Kit.{columns, put_same, put_other, put_at_same, put_at_other, put_at_beside, put_lock_same, put_lock_other, sum_below-put, each_queue}
+use Rattle.lock_laws.proofs.Words.{free_is, all_match-put, matches-claim}
+use Rattle.lock_laws.proofs.Lending.{each_of-elsewhere, effective-put}
+use Rattle.lock_laws.proofs.Nodes.{prio_loan_of, number_loan_of, loan_of_known, node_lent, loan_known, changed_known}
+
+head_keeps : (o p : Option ℕ) (h : Option ℕ) (x : ℕ) → h ≡ Some x → h ≡ None → p ≡ None
+head_keeps o p h x e f = absurd (let z : Some x ≡ None = sym e ∙ f in cc)
+
+no_owner_here : (b : Bool) (x : Option ℕ) (t : ℕ) → owner_if b x Free ≡ Some t → ⊥
+no_owner_here b None t e = cc
+no_owner_here true (Some x) t e = cc
+no_owner_here false (Some x) t e = cc
+
+owner_claimed : (b : Bool) (h : Option ℕ) (x t : ℕ) → b ≡ true → h ≡ Some x → Some t ≡ owner_if b h (HeldBy t)
+owner_claimed b h x t e f = rw (e, f) refl
+
+module _ (c : Config) (s : State) (t l x : ℕ) (g : MayClaim c s t l x) (h : Lawful c s) where
+  abbrev n : State
+  n = after_claim c s t l x
+
+  abbrev q : QueueName
+  q = lock_queue l
+
+  abbrev new : Option Loan
+  new = loan_of x (least_of (s.lists q))
+
+  turnstile : is_turnstile (c.kind l) ≡ true
+  turnstile = rw g.kind refl
+
+  -- nobody has a loan for a free lock
+  no_loans : (u : ℕ) (y : Loan) → s.loan u l ≡ Some y → ⊥
+  unfolding LoansAreWithOwners OwnersHold
+  no_loans u y e =
+      let a = sym (h.owners_hold l) ∙ h.loans_are_with_owners u l y e in
+      let b = rw (free_is (s.word l).holder g.free) at a in
+      no_owner_here (is_turnstile (c.kind l)) (s.head q) u b
+
+  nodes : OneNodeEach c n.loan_home n.loan
+  unfolding after_claim
+  nodes = node_lent c s h t l x g.thread g.lock turnstile g.head (λ u y e. absurd (no_loans u y e))
+
+  -- 1. The queue
+
+  heads_of_locks : (k : ℕ) → HeadFits (n.lists (lock_queue k)) (n.free_list (lock_queue k)) (n.head (lock_queue k)) (n.owner (lock_queue k))
+  unfolding after_claim HeadsFitWaiters
+  heads_of_locks k =
+      elim (cases_eq l k) [
+        | inl e ↦ rw (← e, put_lock_same s.owner l (Some t)) (record { balanced = (h.heads_fit_waiters q).balanced; no_free = (h.heads_fit_waiters q).no_free; no_owner = head_keeps None (Some t) (s.head q) x g.head })
+        | inr e ↦ rw (put_lock_other s.owner l (Some t) k e) (h.heads_fit_waiters (lock_queue k))
+      ]
+
+  heads : HeadsFitWaiters n.lists n.free_list n.head n.owner
+  unfolding after_claim HeadsFitWaiters put_queue
+  heads = each_queue (λ r. HeadFits (n.lists r) (n.free_list r) (n.head r) (n.owner r)) heads_of_locks (λ d. h.heads_fit_waiters (chan_queue d))
+
+  bits : BitsShowWaiters n.word n.lists
+  unfolding after_claim BitsShowWaiters
+  bits k = grind (arith, columns, h.bits_show_waiters k)
+
+  -- 2. Wanting and calling
+
+  standing_wants : StandingWants n.named n.wanted
+  unfolding after_claim StandingWants
+  standing_wants u k = grind (arith, columns, h.standing_wants u k)
+
+  woken_wants : WokenWants n.wait n.wanted
+  unfolding after_claim WokenWants
+  woken_wants u k = grind (arith, columns, h.woken_wants u k)
+
+  called_wants : CalledWants n.called n.wanted
+  unfolding after_claim CalledWants
+  called_wants u k = grind (arith, columns, h.called_wants u k)
+
+  standing_uncalled : StandingIsUncalled n.named n.called
+  unfolding after_claim StandingIsUncalled
+  standing_uncalled u r = grind (arith, columns, h.standing_is_uncalled u r)
+
+  woken_uncalled : WokenIsUncalled n.wait n.called
+  unfolding after_claim WokenIsUncalled
+  woken_uncalled u = grind (arith, columns, h.woken_is_uncalled u)
+
+  called : FreeWordHasCalled c n.word n.marked n.wait n.called
+  unfolding after_claim FreeWordHasCalled callers CalledWants
+  called k =
+      let a = sum_below-put c.threads (at_option k) s.called t None g.thread in
+      grind (arith, columns, h.free_word_has_called k, h.called_wants t)
+
+  free_mutex : FreeMutexShowsNone c n.word
+  unfolding after_claim FreeMutexShowsNone
+  free_mutex k e = grind (arith, columns, h.free_mutex_shows_none k e)
+
+  -- 3. Words and owners
+
+  holders : WordsMatchHolders c n.word n.held
+  unfolding after_claim WordsMatchHolders
+  holders = all_match-put c s.word s.held t l _ (Holds Excl) h.words_match_holders (matches-claim c (s.word l) s.held t l g.thread g.free g.unheld (h.words_match_holders l))
+
+  threads_hold : OnlyThreadsHold c n.held
+  unfolding after_claim OnlyThreadsHold
+  threads_hold u k m = grind (arith, columns, h.only_threads_hold u k m, g.thread)
+
+  owners : OwnersHold c n.owner n.head n.word
+  unfolding after_claim OwnersHold
+  owners k =
+      elim (cases_eq l k) [
+        | inl e ↦ rw (← e) (simp (put_same, put_lock_same) (owner_claimed (is_turnstile (c.kind l)) (s.head q) x t turnstile g.head))
+        | inr e ↦ rw (put_other s.word l (claimed (s.word l) t) k e, put_lock_other s.owner l (Some t) k e) (h.owners_hold k)
+      ]
+
+  channels : ChannelsHaveNoOwner n.owner
+  unfolding after_claim ChannelsHaveNoOwner put_queue
+  channels d = h.channels_have_no_owner d
+
+  sections : SectionsAreHeld c n.history n.held
+  unfolding after_claim SectionsAreHeld
+  sections u k m = grind (arith, columns, h.sections_are_held u k m, g.unheld)
+
+  -- 4. Loans and kept priorities
+
+  least : EffectiveIsLeast c n.effective n.base n.loan
+  unfolding after_claim
+  least = effective-put c s.effective s.base s.loan t l new h.effective_is_least
+
+  loans_least : LoansAreLeast c n.owner n.walk n.loan n.lists
+  unfolding after_claim LoansAreLeast
+  loans_least k o e w =
+      elim (cases_eq l k) [
+        | inl i ↦
+            let j : t ≡ o = (let y = sym (put_lock_same s.owner l (Some t)) ∙ ap (λ z. put_queue s.owner q (Some t) (lock_queue z)) i ∙ e in cc) in
+            rw (← i, ← j, put_at_same s.loan t l new) (prio_loan_of x (least_of (s.lists q)))
+        | inr i ↦ rw (put_at_beside s.loan t l new o k i) (h.loans_are_least k o (sym (put_lock_other s.owner l (Some t) k i) ∙ e) w)
+      ]
+
+  -- a loan for the lock is the new one
+  only_new : (u : ℕ) (y : Loan) → put_at s.loan t l new u l ≡ Some y → (t ≡ u) × (new ≡ Some y)
+  only_new u y e =
+      elim (cases_eq t u) [
+        | inl i ↦ (i, sym (put_at_same s.loan t l new) ∙ ap (λ z. put_at s.loan t l new z l) i ∙ e)
+        | inr i ↦ absurd (no_loans u y (sym (put_at_other s.loan t l new u l i) ∙ e))
+      ]
+
+  loans_owned : LoansAreWithOwners n.loan n.owner
+  unfolding after_claim LoansAreWithOwners
+  loans_owned u k y e =
+      elim (cases_eq l k) [
+        | inl i ↦ let r = only_new u y (ap (put_at s.loan t l new u) i ∙ e) in rw (← i, put_lock_same s.owner l (Some t)) (ap Some r.0)
+        | inr i ↦ rw (put_lock_other s.owner l (Some t) k i) (h.loans_are_with_owners u k y (sym (put_at_beside s.loan t l new u k i) ∙ e))
+      ]
+
+  loans_on_heads : LoansAreOnHeads n.loan n.head
+  unfolding after_claim LoansAreOnHeads
+  loans_on_heads u k y e =
+      elim (cases_eq l k) [
+        | inl i ↦ let r = only_new u y (ap (put_at s.loan t l new u) i ∙ e) in rw (← i) (g.head ∙ ap Some (number_loan_of x (least_of (s.lists q)) y r.1))
+        | inr i ↦ h.loans_are_on_heads u k y (sym (put_at_beside s.loan t l new u k i) ∙ e)
+      ]
+
+  nowhere : (k : ℕ) → stands t (s.lists (lock_queue k)) ≡ 0
+  unfolding StandsOnce
+  nowhere k = grind (arith, h.stands_once t (lock_queue k), g.unnamed)
+
+  kept : KeptIsEffective c n.walk n.effective n.lists
+  unfolding after_claim KeptIsEffective
+  kept k i = each_of-elsewhere c s.walk s.effective t _ (s.lists (lock_queue k)) (nowhere k) (h.kept_is_effective k i)
+
+  new_known : (y : Loan) → new ≡ Some y → IsKnown c s.history y.prio
+  unfolding KeptIsKnown
+  new_known y e = loan_of_known c s.history (s.lists q) x (h.kept_is_known l turnstile) y e
+
+  effective_known : EffectiveIsKnown c n.effective n.history
+  unfolding after_claim
+  effective_known = changed_known c s h t l new g.thread new_known
+
+  loans_known : LoansAreKnown c n.loan n.history
+  unfolding after_claim
+  loans_known = loan_known c s h t l new new_known
+
+  pub lawful : Lawful c n
+  unfolding after_claim
+  lawful = assumption (nodes, heads, bits, standing_wants, woken_wants, called_wants, standing_uncalled, woken_uncalled, called, free_mutex, holders, threads_hold, owners, channels, sections, least, loans_least, loans_owned, loans_on_heads, kept, effective_known, loans_known)

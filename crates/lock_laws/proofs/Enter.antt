@@ -1,0 +1,248 @@
+-- An enter keeps each fact.
+use Rattle.std.proofs.Common.{◌≡◌, ℕ, ◌+◌, ◌<◌, ◌≤◌, Bool, true, false, not, eqb, List, [], Option, Some, None, refl, sym, ap, inl, inr, arith, ◌∙◌}
+use Rattle.std.proofs.lemmas.Bool.{cases_eq}
+use Rattle.lock_model.specs.Counts.{one, some, times, at_option, sum_below}
+use Rattle.lock_model.specs.Words.{Holder, Free, HeldBy, SharedBy, is_turnstile, owner_of, entered}
+use Rattle.lock_model.specs.State.{State, Config, Waiter, Lists, put_queue}
+use Rattle.lock_model.specs.MovesOfQueues.{MayEnter, after_enter, walk_in, owner_with}
+use Rattle.lock_model.specs.Queues.{lock_queue, chan_queue, is_turnstile_queue, side_of, list_of, with_list, stands, waiting, insert, head_with, free_with}
+use Rattle.lock_model.specs.Facts.{Lawful, OneTurnstileEach, OneSleepQueueEach, TurnstileIsLent, SleepQueueIsLent, HeadsFitWaiters, BitsShowWaiters, ListsAscend, MutexWaitersAreExclusive, StandsOnce, OnlyThreadsStand, StandingIsQueued, QueuedHasRecord, StandingWants, WokenWants, CalledWants, StandingIsUncalled, WokenIsUncalled, FreeWordHasCalled, FreeMutexShowsNone, WordsMatchHolders, OwnersHold, ChannelsHaveNoOwner, LoansAreLeast, LoansAreWithOwners, LoansAreOnHeads, KeptIsEffective, EffectiveIsKnown, KeptIsKnown}
+use Rattle.lock_model.specs.FactsOfQueues.{only, turnstile_places, sleep_queue_places, HeadFits}
+use Rattle.lock_model.specs.FactsOfWaits.{callers, times_marked, at_queue}
+use Rattle.lock_model.specs.FactsOfWords.{WordMatchesHolders}
+use Rattle.lock_model.specs.FactsOfLoans.{IsKept, IsKnown, EachOf, walks_at_lock, walks_at_thread, at_lock, at_thread, owner_if}
+use Rattle.lock_model.specs.declared.plan.Mode.{Mode}
+use Rattle.lock_model.specs.declared.plan.Side.{Side}
+use Rattle.lock_model.specs.declared.plan.QueueName.{QueueName}
+use Rattle.lock_laws.proofs.Kit.{columns, put_same, put_other, put_lock_same, put_lock_other, sum_below-put, sum_below-put_lock, at_put, at_put_lock, each_queue, same_lock, one_same}
+use Rattle.lock_laws.proofs.Words.{entered_holder, matches_same}
+use Rattle.lock_laws.proofs.Queues.{stands-more, waiting-more, ascends-insert, is_empty-insert}
+use Rattle.lock_laws.proofs.Lending.{each_of-map, each_of-more}
+
+-- the object that is lent goes to the head or the free list
+lent_object : (n x : ℕ) (head : Option ℕ) (free : List ℕ) → at_option n (head_with head x) + times n (free_with head x free) ≡ one (eqb n x) + (at_option n head + times n free)
+lent_object n x None free = omega arith
+lent_object n x (Some h) free = omega arith
+
+-- a walk that begins at a lock is at no thread
+walk_nowhere : (o l : ℕ) (x : Holder) → at_thread o (walk_in l x) ≡ 0
+walk_nowhere o l Free = refl
+walk_nowhere o l (HeldBy u) = refl
+walk_nowhere o l (SharedBy k) = refl
+
+-- a walk begins at a lock whose turnstile has an owner
+walk_there : (turnstile : Bool) (l : ℕ) (h o : Option ℕ) (y : Holder) (u : ℕ) → turnstile ≡ true → o ≡ owner_if turnstile h y → owner_with h o y ≡ Some u → 1 ≤ at_lock l (walk_in l y)
+walk_there false l h o y u e f i = absurd cc
+walk_there true l None o Free u e f i = absurd cc
+walk_there true l None o (HeldBy v) u e f i = omega (arith, one_same l)
+walk_there true l None o (SharedBy m) u e f i = absurd cc
+walk_there true l (Some x) o Free u e f i = absurd (let z : None ≡ Some u = sym f ∙ i in cc)
+walk_there true l (Some x) o (HeldBy v) u e f i = omega (arith, one_same l)
+walk_there true l (Some x) o (SharedBy m) u e f i = absurd (let z : None ≡ Some u = sym f ∙ i in cc)
+
+head_fits : (side : Side) (w : Waiter) (q : Lists) (xs : List ℕ) (h o : Option ℕ) (x : ℕ) (y : Holder) → HeadFits q xs h o → HeadFits (with_list side (insert w (list_of side q)) q) (free_with h x xs) (head_with h x) (owner_with h o y)
+head_fits side w q xs h o x y f = grind (arith, waiting-more side w q, f.balanced, f.no_free)
+
+owner_entered : (turnstile : Bool) (h o : Option ℕ) (x : ℕ) (y : Holder) → turnstile ≡ true → o ≡ owner_if turnstile h y → owner_with h o y ≡ owner_if turnstile (head_with h x) y
+owner_entered true None o x y e f = refl
+owner_entered true (Some i) o x y e f = f
+owner_entered false h o x y e f = absurd cc
+
+module _ (c : Config) (s : State) (t l : ℕ) (mode : Mode) (x : ℕ) (g : MayEnter c s t l mode x) (h : Lawful c s) where
+  abbrev n : State
+  n = after_enter s t l mode x
+
+  abbrev q : QueueName
+  q = lock_queue l
+
+  abbrev new : Waiter
+  new = record { thread = t; kept = s.effective t }
+
+  abbrev lists : Lists
+  lists = with_list (side_of mode) (insert new (list_of (side_of mode) (s.lists q))) (s.lists q)
+
+  -- 1. Places
+
+  one_turnstile : OneTurnstileEach c n.turnstile n.head n.free_list n.marked
+  unfolding after_enter OneTurnstileEach turnstile_places
+  one_turnstile k =
+      let a = sum_below-put c.threads (at_option k) s.turnstile t None g.thread in
+      let b = sum_below-put_lock c.locks (λ j o. only (is_turnstile (c.kind j)) (at_option k o)) s.head l (head_with (s.head q) x) g.lock in
+      let d = sum_below-put_lock c.locks (λ j o. only (is_turnstile (c.kind j)) (times k o)) s.free_list l (free_with (s.head q) x (s.free_list q)) g.lock in
+      let e = ap (at_option k) g.own in
+      let f = lent_object k x (s.head q) (s.free_list q) in
+      let b2 = rw g.turnstile at b in
+      let d2 = rw g.turnstile at d in
+      omega (arith, h.one_turnstile_each k)
+
+  one_sleep_queue : OneSleepQueueEach c n.sleep_queue n.head n.free_list n.marked
+  unfolding after_enter OneSleepQueueEach sleep_queue_places put_queue
+  one_sleep_queue k =
+      let b = sum_below-put_lock c.locks (λ j o. only (not (is_turnstile (c.kind j))) (at_option k o)) s.head l (head_with (s.head q) x) g.lock in
+      let d = sum_below-put_lock c.locks (λ j o. only (not (is_turnstile (c.kind j))) (times k o)) s.free_list l (free_with (s.head q) x (s.free_list q)) g.lock in
+      let b2 = rw g.turnstile at b in
+      let d2 = rw g.turnstile at d in
+      omega (arith, h.one_sleep_queue_each k)
+
+  turnstile_lent : TurnstileIsLent c n.turnstile n.named
+  unfolding after_enter TurnstileIsLent
+  turnstile_lent u = grind (arith, columns, h.turnstile_is_lent u)
+
+  sleep_queue_lent : SleepQueueIsLent c n.sleep_queue n.named
+  unfolding after_enter SleepQueueIsLent
+  sleep_queue_lent u = grind (arith, columns, h.sleep_queue_is_lent u)
+
+  -- 2. The queue
+
+  heads_of_locks : (k : ℕ) → HeadFits (n.lists (lock_queue k)) (n.free_list (lock_queue k)) (n.head (lock_queue k)) (n.owner (lock_queue k))
+  unfolding after_enter HeadsFitWaiters
+  heads_of_locks k =
+      elim (cases_eq l k) [
+        | inl e ↦ rw (← e) (simp put_lock_same (head_fits (side_of mode) new (s.lists q) (s.free_list q) (s.head q) (s.owner q) x (s.word l).holder (h.heads_fit_waiters q)))
+        | inr e ↦ rw (put_lock_other s.lists l lists k e, put_lock_other s.free_list l (free_with (s.head q) x (s.free_list q)) k e, put_lock_other s.head l (head_with (s.head q) x) k e, put_lock_other s.owner l (owner_with (s.head q) (s.owner q) (s.word l).holder) k e) (h.heads_fit_waiters (lock_queue k))
+      ]
+
+  heads : HeadsFitWaiters n.lists n.free_list n.head n.owner
+  unfolding after_enter HeadsFitWaiters put_queue
+  heads = each_queue (λ r. HeadFits (n.lists r) (n.free_list r) (n.head r) (n.owner r)) heads_of_locks (λ d. h.heads_fit_waiters (chan_queue d))
+
+  bits : BitsShowWaiters n.word n.lists
+  unfolding after_enter BitsShowWaiters
+  bits k = grind (arith, columns, h.bits_show_waiters k, is_empty-insert)
+
+  ascend : ListsAscend c n.lists
+  unfolding after_enter ListsAscend
+  ascend k e = grind (arith, columns, h.lists_ascend k e, ascends-insert)
+
+  mutex_waiters : MutexWaitersAreExclusive c n.lists
+  unfolding after_enter MutexWaitersAreExclusive
+  mutex_waiters k e = grind (arith, columns, h.mutex_waiters_are_exclusive k e, g.mutex)
+
+  -- 3. Standing, wanting and calling
+
+  stand_at_lock : (u k : ℕ) → stands u (n.lists (lock_queue k)) + sum_below c.threads (λ v. times_marked u (lock_queue k) (n.marked v)) ≡ at_queue (lock_queue k) (n.named u)
+  unfolding after_enter StandsOnce
+  stand_at_lock u k = grind (arith, columns, h.stands_once u (lock_queue k), stands-more)
+
+  stand_at_chan : (u d : ℕ) → stands u (n.lists (chan_queue d)) + sum_below c.threads (λ v. times_marked u (chan_queue d) (n.marked v)) ≡ at_queue (chan_queue d) (n.named u)
+  unfolding after_enter StandsOnce
+  stand_at_chan u d = grind (arith, columns, h.stands_once u (chan_queue d))
+
+  stand : StandsOnce c n.lists n.marked n.named
+  unfolding after_enter StandsOnce
+  stand u = each_queue (λ r. stands u (n.lists r) + sum_below c.threads (λ v. times_marked u r (n.marked v)) ≡ at_queue r (n.named u)) (stand_at_lock u) (stand_at_chan u)
+
+  threads_stand : OnlyThreadsStand c n.named
+  unfolding after_enter OnlyThreadsStand
+  threads_stand u r = grind (arith, columns, h.only_threads_stand u r, g.thread)
+
+  standing_queued : StandingIsQueued n.named n.wait
+  unfolding after_enter StandingIsQueued
+  standing_queued u r = grind (arith, columns, h.standing_is_queued u r)
+
+  has_record : QueuedHasRecord n.wait n.named n.record_with
+  unfolding after_enter QueuedHasRecord
+  has_record u = grind (arith, columns, h.queued_has_record u)
+
+  standing_wants : StandingWants n.named n.wanted
+  unfolding after_enter StandingWants
+  standing_wants u k = grind (arith, columns, h.standing_wants u k, same_lock l k)
+
+  woken_wants : WokenWants n.wait n.wanted
+  unfolding after_enter WokenWants
+  woken_wants u k = grind (arith, columns, h.woken_wants u k)
+
+  called_wants : CalledWants n.called n.wanted
+  unfolding after_enter CalledWants
+  called_wants u k = grind (arith, columns, h.called_wants u k)
+
+  standing_uncalled : StandingIsUncalled n.named n.called
+  unfolding after_enter StandingIsUncalled
+  standing_uncalled u r = grind (arith, columns, h.standing_is_uncalled u r)
+
+  woken_uncalled : WokenIsUncalled n.wait n.called
+  unfolding after_enter WokenIsUncalled
+  woken_uncalled u = grind (arith, columns, h.woken_is_uncalled u)
+
+  called : FreeWordHasCalled c n.word n.marked n.wait n.called
+  unfolding after_enter FreeWordHasCalled callers CalledWants
+  called k =
+      let a = sum_below-put c.threads (at_option k) s.called t None g.thread in
+      let e = entered_holder (s.word l) (side_of mode) in
+      grind (arith, columns, h.free_word_has_called k, h.called_wants)
+
+  free_mutex : FreeMutexShowsNone c n.word
+  unfolding after_enter FreeMutexShowsNone
+  free_mutex k e =
+      let f = entered_holder (s.word l) (side_of mode) in
+      grind (arith, columns, h.free_mutex_shows_none k e)
+
+  -- 4. Words and owners
+
+  holders : WordsMatchHolders c n.word n.held
+  unfolding after_enter WordsMatchHolders
+  holders = at_put (λ k w. WordMatchesHolders c w k s.held) s.word l _ (matches_same c (s.word l) _ l s.held (entered_holder (s.word l) (side_of mode)) (h.words_match_holders l)) (λ k ne. h.words_match_holders k)
+
+  owners : OwnersHold c n.owner n.head n.word
+  unfolding after_enter OwnersHold
+  owners k =
+      elim (cases_eq l k) [
+        | inl e ↦ rw (← e) (simp (put_same, put_lock_same, entered_holder) (owner_entered (is_turnstile (c.kind l)) (s.head q) (s.owner q) x (s.word l).holder g.turnstile (h.owners_hold l)))
+        | inr e ↦ rw (put_other s.word l (entered (s.word l) (side_of mode)) k e, put_lock_other s.head l (head_with (s.head q) x) k e, put_lock_other s.owner l (owner_with (s.head q) (s.owner q) (s.word l).holder) k e) (h.owners_hold k)
+      ]
+
+  channels : ChannelsHaveNoOwner n.owner
+  unfolding after_enter ChannelsHaveNoOwner put_queue
+  channels d = h.channels_have_no_owner d
+
+  -- 5. Loans and kept priorities
+
+  loans_least : LoansAreLeast c n.owner n.walk n.loan n.lists
+  unfolding after_enter LoansAreLeast walks_at_lock OwnersHold
+  loans_least k o e w =
+      let a = sum_below-put c.threads (at_lock k) s.walk t (walk_in l (s.word l).holder) g.thread in
+      let b = ap (at_lock k) g.no_walk in
+      elim (cases_eq l k) [
+        | inl i ↦
+            let f = sym (put_lock_same s.owner l (owner_with (s.head q) (s.owner q) (s.word l).holder)) ∙ (let y = rw (← i) at e in y) in
+            let d = walk_there (is_turnstile (c.kind l)) l (s.head q) (s.owner q) (s.word l).holder o g.turnstile (h.owners_hold l) f in
+            let d2 = ap (λ j. at_lock j (walk_in l (s.word l).holder)) i in
+            absurd (omega arith)
+        | inr i ↦
+            let f = sym (put_lock_other s.owner l (owner_with (s.head q) (s.owner q) (s.word l).holder) k i) ∙ e in
+            rw (put_lock_other s.lists l lists k i) (h.loans_are_least k o f (omega arith))
+      ]
+
+  loans_owned : LoansAreWithOwners n.loan n.owner
+  unfolding after_enter LoansAreWithOwners OwnersHold
+  loans_owned u k p = grind (arith, columns, h.loans_are_with_owners u k p, h.owners_hold l)
+
+  loans_on_heads : LoansAreOnHeads n.loan n.head
+  unfolding after_enter LoansAreOnHeads
+  loans_on_heads u k p = grind (arith, columns, h.loans_are_on_heads u k p)
+
+  same_walks : (o : ℕ) → walks_at_thread c n.walk o ≡ walks_at_thread c s.walk o
+  unfolding after_enter walks_at_thread
+  same_walks o =
+      let a = sum_below-put c.threads (at_thread o) s.walk t (walk_in l (s.word l).holder) g.thread in
+      let b = ap (at_thread o) g.no_walk in
+      let d = walk_nowhere o l (s.word l).holder in
+      omega arith
+
+  kept : KeptIsEffective c n.walk n.effective n.lists
+  unfolding after_enter KeptIsEffective
+  kept =
+      let P : Waiter → Type 0 = IsKept c s.walk s.effective in
+      let Q : Waiter → Type 0 = IsKept c n.walk s.effective in
+      let move : (k : ℕ) → is_turnstile (c.kind k) ≡ true → EachOf Q (s.lists (lock_queue k)) = λ k i. each_of-map P Q (s.lists (lock_queue k)) (λ w j p e. p (sym (same_walks w.thread) ∙ e)) (h.kept_is_effective k i) in
+      at_put_lock (λ k r. is_turnstile (c.kind k) ≡ true → EachOf Q r) s.lists l lists (λ i. each_of-more Q (side_of mode) new (s.lists q) (λ e. refl) (move l i)) (λ k ne. move k)
+
+  kept_known : KeptIsKnown c n.lists n.history
+  unfolding after_enter KeptIsKnown EffectiveIsKnown
+  kept_known =
+      let P : Waiter → Type 0 = λ w. IsKnown c s.history w.kept in
+      at_put_lock (λ k r. is_turnstile (c.kind k) ≡ true → EachOf P r) s.lists l lists (λ i. each_of-more P (side_of mode) new (s.lists q) (h.effective_is_known t g.thread) (h.kept_is_known l i)) (λ k ne. h.kept_is_known k)
+
+  pub lawful : Lawful c n
+  unfolding after_enter
+  lawful = assumption (one_turnstile, one_sleep_queue, turnstile_lent, sleep_queue_lent, heads, bits, ascend, mutex_waiters, stand, threads_stand, standing_queued, has_record, standing_wants, woken_wants, called_wants, standing_uncalled, woken_uncalled, called, free_mutex, holders, owners, channels, loans_least, loans_owned, loans_on_heads, kept, kept_known)

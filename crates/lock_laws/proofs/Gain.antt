@@ -1,0 +1,75 @@
+-- A gain keeps each fact.
+use Rattle.std.proofs.Common.{◌≡◌, ℕ, None, arith, ◌∙◌}
+use Rattle.lock_model.specs.Counts.{at_option}
+use Rattle.lock_model.specs.Words.{is_turnstile}
+use Rattle.lock_model.specs.Queues.{lock_queue}
+use Rattle.lock_model.specs.State.{State, Config, Holds}
+use Rattle.lock_model.specs.Moves.{MayGain, after_gain}
+use Rattle.lock_model.specs.Facts.{Lawful, BitsShowWaiters, HeadsFitWaiters, StandingWants, WokenWants, CalledWants, StandingIsUncalled, WokenIsUncalled, FreeWordHasCalled, FreeMutexShowsNone, WordsMatchHolders, OnlyThreadsHold, OwnersHold, SectionsAreHeld}
+use Rattle.lock_model.specs.FactsOfWaits.{callers}
+use Rattle.lock_model.specs.FactsOfLoans.{owner_if}
+use Rattle.lock_model.specs.declared.plan.Mode.{Mode}
+use Rattle.lock_laws.proofs.Kit.{columns, at_put, sum_below-put}
+use Rattle.lock_laws.proofs.Words.{all_match-put, matches-gain}
+use Rattle.lock_laws.proofs.Owners.{owner_gained}
+
+module _ (c : Config) (s : State) (t l : ℕ) (mode : Mode) (g : MayGain c s t l mode) (h : Lawful c s) where
+  abbrev n : State
+  n = after_gain s t l mode
+
+  bits : BitsShowWaiters n.word n.lists
+  unfolding after_gain BitsShowWaiters
+  bits k = grind (arith, columns, h.bits_show_waiters k)
+
+  standing_wants : StandingWants n.named n.wanted
+  unfolding after_gain StandingWants
+  standing_wants u k = grind (arith, columns, h.standing_wants u k)
+
+  woken_wants : WokenWants n.wait n.wanted
+  unfolding after_gain WokenWants
+  woken_wants u k = grind (arith, columns, h.woken_wants u k)
+
+  called_wants : CalledWants n.called n.wanted
+  unfolding after_gain CalledWants
+  called_wants u k = grind (arith, columns, h.called_wants u k)
+
+  standing_uncalled : StandingIsUncalled n.named n.called
+  unfolding after_gain StandingIsUncalled
+  standing_uncalled u q = grind (arith, columns, h.standing_is_uncalled u q)
+
+  woken_uncalled : WokenIsUncalled n.wait n.called
+  unfolding after_gain WokenIsUncalled
+  woken_uncalled u = grind (arith, columns, h.woken_is_uncalled u)
+
+  called : FreeWordHasCalled c n.word n.marked n.wait n.called
+  unfolding after_gain FreeWordHasCalled callers CalledWants
+  called k =
+      let a = sum_below-put c.threads (at_option k) s.called t None g.thread in
+      grind (arith, columns, h.free_word_has_called k, h.called_wants t)
+
+  free_mutex : FreeMutexShowsNone c n.word
+  unfolding after_gain FreeMutexShowsNone
+  free_mutex k e = grind (arith, columns, h.free_mutex_shows_none k e)
+
+  holders : WordsMatchHolders c n.word n.held
+  unfolding after_gain WordsMatchHolders
+  holders = all_match-put c s.word s.held t l _ (Holds mode) h.words_match_holders (matches-gain c (c.kind l) (s.word l) s.held t l mode g.thread g.admitted g.unheld (h.words_match_holders l))
+
+  threads_hold : OnlyThreadsHold c n.held
+  unfolding after_gain OnlyThreadsHold
+  threads_hold u k m = grind (arith, columns, h.only_threads_hold u k m, g.thread)
+
+  owners : OwnersHold c n.owner n.head n.word
+  unfolding after_gain OwnersHold BitsShowWaiters HeadsFitWaiters
+  owners =
+      at_put (λ k w. s.owner (lock_queue k) ≡ owner_if (is_turnstile (c.kind k)) (s.head (lock_queue k)) w.holder) s.word l _
+      (h.owners_hold l ∙ owner_gained (c.kind l) (s.word l) (s.lists (lock_queue l)) (s.free_list (lock_queue l)) (s.head (lock_queue l)) (s.owner (lock_queue l)) t mode g.admitted g.plainly (h.bits_show_waiters l) (h.heads_fit_waiters (lock_queue l)))
+      (λ k ne. h.owners_hold k)
+
+  sections : SectionsAreHeld c n.history n.held
+  unfolding after_gain SectionsAreHeld
+  sections u k m = grind (arith, columns, h.sections_are_held u k m, g.unheld)
+
+  pub lawful : Lawful c n
+  unfolding after_gain
+  lawful = assumption (bits, standing_wants, woken_wants, called_wants, standing_uncalled, woken_uncalled, called, free_mutex, holders, threads_hold, owners, sections)

@@ -1,0 +1,186 @@
+-- Laws of loans, of kept priorities and of walks.
+use Rattle.std.proofs.Common.{◌≡◌, ◌≢◌, ℕ, zero, suc, ◌+◌, ◌<◌, ◌≤◌, true, false, cond, eqb, leb, min, List, [], ◌∷◌, length, Option, Some, None, refl, sym, ap, inl, inr, arith, eq-eqb, ◌∙◌}
+use Rattle.std.proofs.lemmas.Bool.{ne_eqb, cases_eq}
+use Rattle.lock_model.specs.Counts.{one, some, least, lower, is_empty}
+use Rattle.lock_model.specs.State.{Config, Waiter, Lists, Loan, Walk, put, put_at}
+use Rattle.lock_model.specs.Moves.{effective_of, prio_of}
+use Rattle.lock_model.specs.Queues.{list_of, with_list, times_waiting, stands, waiting, insert, without, reinsert, with_kept}
+use Rattle.lock_model.specs.FactsOfQueues.{Ascends}
+use Rattle.lock_model.specs.FactsOfLoans.{Each, EachOf, IsKept, EffectiveIsLeast}
+use Rattle.lock_model.specs.declared.plan.Side.{Side}
+use Rattle.lock_model.specs.declared.plan.Side.TheVariants.{X, S}
+use Rattle.lock_laws.proofs.Kit.{put_same, put_other, put_at_same, put_at_other, put_at_beside, each_place}
+use Rattle.lock_laws.proofs.Queues.{times_waiting-insert, length-insert, ascends-insert, ascends-tail, ascends-cons, Below}
+
+-- 1. The least
+
+pub least-same : (n : ℕ) (f g : ℕ → Option ℕ) (d : ℕ) → ((j : ℕ) → f j ≡ g j) → least n f d ≡ least n g d
+unfolding least
+least-same zero f g d h = refl
+least-same (suc n) f g d h = let a = h n in let b = least-same n f g d h in cc
+
+pub least-le_base : (n : ℕ) (f : ℕ → Option ℕ) (d : ℕ) → least n f d ≤ d
+unfolding least
+least-le_base zero f d = omega arith
+least-le_base (suc n) f d = grind (arith, least-le_base n f d)
+
+-- the least is the base, or it is one of the others
+pub by_least : (P : ℕ → Type 0) (n : ℕ) (f : ℕ → Option ℕ) (d : ℕ) → P d → ((j p : ℕ) → j < n → f j ≡ Some p → P p) → P (least n f d)
+unfolding least
+by_least P zero f d b o = b
+by_least P (suc n) f d b o = go (f n) (λ p e. o n p (omega arith) e) (least n f d) (by_least P n f d b (λ j p l e. o j p (omega arith) e))
+  where
+    go : (x : Option ℕ) → ((p : ℕ) → x ≡ Some p → P p) → (m : ℕ) → P m → P (lower x m)
+    go None k m q = q
+    go (Some p) k m q = elim (cases_eq (min p m) p) [ inl e ↦ rw e (k p refl) | inr e ↦ let z : min p m ≡ m = omega arith in rw z q ]
+
+-- 2. Effective priorities
+
+-- a loan of one thread is changed, and its effective priority is made anew
+pub effective-put : (c : Config) (effective base : ℕ → ℕ) (loan : ℕ → ℕ → Option Loan) (t l : ℕ) (v : Option Loan) → EffectiveIsLeast c effective base loan
+    → EffectiveIsLeast c (put effective t (effective_of c (put (loan t) l v) (base t))) base (put_at loan t l v)
+unfolding EffectiveIsLeast
+effective-put c effective base loan t l v h =
+    each_place t (λ u. put effective t (effective_of c (put (loan t) l v) (base t)) u ≡ effective_of c (put_at loan t l v u) (base u))
+    (put_same effective t (effective_of c (put (loan t) l v) (base t))
+    ∙ least-same c.locks (λ k. prio_of (put (loan t) l v k)) (λ k. prio_of (put_at loan t l v t k)) (base t)
+    (each_place l (λ k. prio_of (put (loan t) l v k) ≡ prio_of (put_at loan t l v t k)) (ap prio_of (put_same (loan t) l v ∙ sym (put_at_same loan t l v))) (λ k ne. ap prio_of (put_other (loan t) l v k ne ∙ sym (put_at_beside loan t l v t k ne)))))
+    (λ u ne. put_other effective t (effective_of c (put (loan t) l v) (base t)) u ne ∙ h u
+    ∙ least-same c.locks (λ k. prio_of (loan u k)) (λ k. prio_of (put_at loan t l v u k)) (base u) (λ k. ap prio_of (sym (put_at_other loan t l v u k ne))))
+
+-- the same with a new base
+pub effective-base : (c : Config) (effective base : ℕ → ℕ) (loan : ℕ → ℕ → Option Loan) (t p : ℕ) → EffectiveIsLeast c effective base loan
+    → EffectiveIsLeast c (put effective t (effective_of c (loan t) p)) (put base t p) loan
+unfolding EffectiveIsLeast
+effective-base c effective base loan t p h =
+    each_place t (λ u. put effective t (effective_of c (loan t) p) u ≡ effective_of c (loan u) (put base t p u))
+    (rw (put_same effective t (effective_of c (loan t) p), put_same base t p) refl)
+    (λ u ne. rw (put_other effective t (effective_of c (loan t) p) u ne, put_other base t p u ne) (h u))
+
+-- 3. Facts of each waiter
+
+pub each-map : (P Q : Waiter → Type 0) (ws : List Waiter) → ((w : Waiter) → 1 ≤ times_waiting w.thread ws → P w → Q w) → Each P ws → Each Q ws
+each-map P Q [] f e = tt
+each-map P Q (w ∷ ws) f e =
+    let a : one (eqb w.thread w.thread) ≡ 1 = ap one (eq-eqb w.thread w.thread refl) in
+    (f w (omega arith) e.0, each-map P Q ws (λ v l p. f v (omega arith) p) e.1)
+
+pub each-insert : (P : Waiter → Type 0) (w : Waiter) (ws : List Waiter) → P w → Each P ws → Each P (insert w ws)
+each-insert P w [] p e = (p, tt)
+each-insert P w (v ∷ vs) p e =
+    elim (leb v.kept w.kept) as (λ b. Each P (cond b (v ∷ insert w vs) (w ∷ v ∷ vs))) [
+      | true ↦ (e.0, each-insert P w vs p e.1)
+      | false ↦ (p, e)
+    ]
+
+each-without : (P : Waiter → Type 0) (t : ℕ) (ws : List Waiter) → Each P ws → Each P (without t ws)
+each-without P t [] e = tt
+each-without P t (w ∷ ws) e = elim (eqb t w.thread) as (λ b. Each P (cond b ws (w ∷ without t ws))) [ true ↦ e.1 | false ↦ (e.0, each-without P t ws e.1) ]
+
+-- the entry that is taken out is counted again by the one that is put in
+times_waiting-without : (u t : ℕ) (ws : List Waiter) → 1 ≤ times_waiting t ws → times_waiting u (without t ws) + one (eqb u t) ≡ times_waiting u ws
+times_waiting-without u t [] l = absurd (omega arith)
+times_waiting-without u t (w ∷ ws) l =
+    elim (cases_eq t w.thread) [
+      | inl e ↦ rw (← e, eq-eqb t t refl) (omega arith)
+      | inr e ↦ rw (ne_eqb t w.thread e) (let z : one (eqb t w.thread) ≡ 0 = ap one (ne_eqb t w.thread e) in omega (arith, times_waiting-without u t ws (omega arith)))
+    ]
+
+length-without : (t : ℕ) (ws : List Waiter) → 1 ≤ times_waiting t ws → suc (length (without t ws)) ≡ length ws
+length-without t [] l = absurd (omega arith)
+length-without t (w ∷ ws) l =
+    elim (cases_eq t w.thread) [
+      | inl e ↦ rw (← e, eq-eqb t t refl) refl
+      | inr e ↦ rw (ne_eqb t w.thread e) (let z : one (eqb t w.thread) ≡ 0 = ap one (ne_eqb t w.thread e) in omega (arith, length-without t ws (omega arith)))
+    ]
+
+below-without : (v : Waiter) (t : ℕ) (ws : List Waiter) → Below v ws → Ascends ws → Below v (without t ws)
+below-without v t [] b a = tt
+below-without v t (w ∷ []) b a = elim (eqb t w.thread) as (λ x. Below v (cond x [] (w ∷ []))) [ true ↦ tt | false ↦ b ]
+below-without v t (w ∷ u ∷ us) b a = elim (eqb t w.thread) as (λ x. Below v (cond x (u ∷ us) (w ∷ without t (u ∷ us)))) [ true ↦ omega arith | false ↦ b ]
+
+ascends-without : (t : ℕ) (ws : List Waiter) → Ascends ws → Ascends (without t ws)
+ascends-without t [] a = tt
+ascends-without t (w ∷ ws) a =
+    let b = ascends-tail w ws a in
+    elim (eqb t w.thread) as (λ x. Ascends (cond x ws (w ∷ without t ws))) [
+      | true ↦ b.1
+      | false ↦ ascends-cons w (without t ws) (below-without w t ws b.0 b.1) (ascends-without t ws b.1)
+    ]
+
+-- what holds of a list where nothing is put in, and of one where the entry is put in anew
+by_reinsert : (P : List Waiter → Type 0) (t p : ℕ) (ws : List Waiter) → (times_waiting t ws ≡ 0 → P ws) → (1 ≤ times_waiting t ws → P (insert (record { thread = t; kept = p }) (without t ws))) → P (reinsert t p ws)
+by_reinsert P t p ws none some =
+    elim (cases_eq (times_waiting t ws) 0) [
+      | inl e ↦ rw (eq-eqb (times_waiting t ws) 0 e) (none e)
+      | inr e ↦ rw (ne_eqb (times_waiting t ws) 0 e) (some (omega arith))
+    ]
+
+pub times_waiting-reinsert : (u t p : ℕ) (ws : List Waiter) → times_waiting u (reinsert t p ws) ≡ times_waiting u ws
+times_waiting-reinsert u t p ws =
+    by_reinsert (λ x. times_waiting u x ≡ times_waiting u ws) t p ws (λ e. refl)
+    (λ l. omega (arith, times_waiting-insert u (record { thread = t; kept = p }) (without t ws), times_waiting-without u t ws l))
+
+pub length-reinsert : (t p : ℕ) (ws : List Waiter) → length (reinsert t p ws) ≡ length ws
+length-reinsert t p ws =
+    by_reinsert (λ x. length x ≡ length ws) t p ws (λ e. refl)
+    (λ l. omega (arith, length-insert (record { thread = t; kept = p }) (without t ws), length-without t ws l))
+
+is_empty-length : (ws vs : List Waiter) → length ws ≡ length vs → is_empty ws ≡ is_empty vs
+is_empty-length [] [] e = refl
+is_empty-length (w ∷ ws) (v ∷ vs) e = refl
+is_empty-length [] (v ∷ vs) e = absurd (omega arith)
+is_empty-length (w ∷ ws) [] e = absurd (omega arith)
+
+pub is_empty-reinsert : (t p : ℕ) (ws : List Waiter) → is_empty (reinsert t p ws) ≡ is_empty ws
+is_empty-reinsert t p ws = is_empty-length (reinsert t p ws) ws (length-reinsert t p ws)
+
+pub ascends-reinsert : (t p : ℕ) (ws : List Waiter) → Ascends ws → Ascends (reinsert t p ws)
+ascends-reinsert t p ws a = by_reinsert Ascends t p ws (λ e. a) (λ l. ascends-insert (record { thread = t; kept = p }) (without t ws) (ascends-without t ws a))
+
+-- the others are as they were
+each-without-other : (P : Waiter → Type 0) (t : ℕ) (ws : List Waiter) → times_waiting t ws ≤ 1 → Each (λ w. w.thread ≢ t → P w) ws → 1 ≤ times_waiting t ws → Each P (without t ws)
+each-without-other P t [] m e l = tt
+each-without-other P t (w ∷ ws) m e l =
+    elim (cases_eq t w.thread) [
+      | inl x ↦ rw (← x, eq-eqb t t refl)
+          (let z : one (eqb t w.thread) ≡ 1 = ap one (eq-eqb t w.thread x) in
+          each-map (λ v. v.thread ≢ t → P v) P ws (λ v k f. f (λ y. let q : times_waiting v.thread ws ≡ times_waiting t ws = ap (λ i. times_waiting i ws) y in absurd (omega arith))) e.1)
+      | inr x ↦ rw (ne_eqb t w.thread x)
+          (let z : one (eqb t w.thread) ≡ 0 = ap one (ne_eqb t w.thread x) in
+          (e.0 (λ y. x (sym y)), each-without-other P t ws (omega arith) e.1 (omega arith)))
+    ]
+
+pub each-reinsert : (P : Waiter → Type 0) (t p : ℕ) (ws : List Waiter) → times_waiting t ws ≤ 1 → P (record { thread = t; kept = p }) → Each (λ w. w.thread ≢ t → P w) ws → Each P (reinsert t p ws)
+each-reinsert P t p ws m here e =
+    by_reinsert (Each P) t p ws
+    (λ z. each-map (λ v. v.thread ≢ t → P v) P ws (λ v k f. f (λ y. let q : times_waiting v.thread ws ≡ times_waiting t ws = ap (λ i. times_waiting i ws) y in absurd (omega arith))) e)
+    (λ l. each-insert P (record { thread = t; kept = p }) (without t ws) here (each-without-other P t ws m e l))
+
+-- The same of both lists of each queue
+
+pub each_of-map : (P Q : Waiter → Type 0) (q : Lists) → ((w : Waiter) → 1 ≤ stands w.thread q → P w → Q w) → EachOf P q → EachOf Q q
+each_of-map P Q q f e = (each-map P Q q.exclusive (λ w l. f w (omega arith)) e.0, each-map P Q q.shared (λ w l. f w (omega arith)) e.1)
+
+pub each_of-more : (P : Waiter → Type 0) (m : Side) (w : Waiter) (q : Lists) → P w → EachOf P q → EachOf P (with_list m (insert w (list_of m q)) q)
+each_of-more P X w q p e = (each-insert P w q.exclusive p e.0, e.1)
+each_of-more P S w q p e = (e.0, each-insert P w q.shared p e.1)
+
+pub each_of-less : (P : Waiter → Type 0) (m : Side) (q : Lists) → EachOf P q → EachOf P (with_list m [] q)
+each_of-less P X q e = (tt, e.1)
+each_of-less P S q e = (e.0, tt)
+
+pub each_of-kept : (P : Waiter → Type 0) (t p : ℕ) (q : Lists) → stands t q ≤ 1 → P (record { thread = t; kept = p }) → EachOf (λ w. w.thread ≢ t → P w) q → EachOf P (with_kept t p q)
+each_of-kept P t p q m here e = (each-reinsert P t p q.exclusive (omega arith) here e.0, each-reinsert P t p q.shared (omega arith) here e.1)
+
+pub stands-kept : (u t p : ℕ) (q : Lists) → stands u (with_kept t p q) ≡ stands u q
+stands-kept u t p q = omega (arith, times_waiting-reinsert u t p q.exclusive, times_waiting-reinsert u t p q.shared)
+
+pub waiting-kept : (t p : ℕ) (q : Lists) → waiting (with_kept t p q) ≡ waiting q
+waiting-kept t p q = omega (arith, length-reinsert t p q.exclusive, length-reinsert t p q.shared)
+
+-- the effective priority of a thread that doesn't stand here is changed
+pub each_of-elsewhere : (c : Config) (walk : ℕ → Walk) (effective : ℕ → ℕ) (t v : ℕ) (q : Lists) → stands t q ≡ 0 → EachOf (IsKept c walk effective) q → EachOf (IsKept c walk (put effective t v)) q
+each_of-elsewhere c walk effective t v q z =
+    each_of-map (IsKept c walk effective) (IsKept c walk (put effective t v)) q
+    (λ w k p e. p e ∙ sym (put_other effective t v w.thread (λ x. let y : stands t q ≡ stands w.thread q = ap (λ i. stands i q) x in absurd (omega arith))))

@@ -1,0 +1,74 @@
+-- Looks, and the steps on a thread's own wait word that put it on no queue, keep each fact.
+use Rattle.std.proofs.Common.{◌≡◌, ℕ, Bool, None, arith, ap}
+use Rattle.lock_model.specs.State.{State, Config, Running, Queued}
+use Rattle.lock_model.specs.Moves.{MayLook, MayReady, MayUnready, after_look, after_ready, after_unready}
+use Rattle.lock_model.specs.Facts.{Lawful, StandingIsQueued, QueuedHasRecord, WokenWants, WokenIsUncalled, FreeWordHasCalled}
+use Rattle.lock_model.specs.FactsOfWaits.{callers, calls_woken}
+use Rattle.lock_laws.proofs.Kit.{columns, sum_below-put}
+
+module _ (c : Config) (s : State) (t l : ℕ) (in_round : Bool) (g : MayLook c s t l in_round) (h : Lawful c s) where
+  pub look_lawful : Lawful c (after_look s t l in_round)
+  unfolding after_look
+  look_lawful = assumption h
+
+module _ (c : Config) (s : State) (t : ℕ) (g : MayReady c s t) (h : Lawful c s) where
+  abbrev n : State
+  n = after_ready s t
+
+  queued : StandingIsQueued n.named n.wait
+  unfolding after_ready StandingIsQueued
+  queued u q = grind (arith, columns, h.standing_is_queued u q)
+
+  has_record : QueuedHasRecord n.wait n.named n.record_with
+  unfolding after_ready QueuedHasRecord
+  has_record u = grind (arith, columns, h.queued_has_record u, g.record_out)
+
+  woken_wants : WokenWants n.wait n.wanted
+  unfolding after_ready WokenWants
+  woken_wants u k = grind (arith, columns, h.woken_wants u k)
+
+  woken_uncalled : WokenIsUncalled n.wait n.called
+  unfolding after_ready WokenIsUncalled
+  woken_uncalled u = grind (arith, columns, h.woken_is_uncalled u)
+
+  called : FreeWordHasCalled c n.word n.marked n.wait n.called
+  unfolding after_ready FreeWordHasCalled callers
+  called k =
+      let a = sum_below-put c.threads (calls_woken k) s.wait t Queued g.thread in
+      let b = ap (calls_woken k) g.running in
+      omega (arith, h.free_word_has_called k)
+
+  pub ready_lawful : Lawful c n
+  unfolding after_ready
+  ready_lawful = assumption (queued, has_record, woken_wants, woken_uncalled, called)
+
+module _ (c : Config) (s : State) (t : ℕ) (g : MayUnready c s t) (h : Lawful c s) where
+  abbrev m : State
+  m = after_unready s t
+
+  back_queued : StandingIsQueued m.named m.wait
+  unfolding after_unready StandingIsQueued
+  back_queued u q = grind (arith, columns, h.standing_is_queued u q)
+
+  back_has_record : QueuedHasRecord m.wait m.named m.record_with
+  unfolding after_unready QueuedHasRecord
+  back_has_record u = grind (arith, columns, h.queued_has_record u)
+
+  back_woken_wants : WokenWants m.wait m.wanted
+  unfolding after_unready WokenWants
+  back_woken_wants u k = grind (arith, columns, h.woken_wants u k)
+
+  back_woken_uncalled : WokenIsUncalled m.wait m.called
+  unfolding after_unready WokenIsUncalled
+  back_woken_uncalled u = grind (arith, columns, h.woken_is_uncalled u)
+
+  back_called : FreeWordHasCalled c m.word m.marked m.wait m.called
+  unfolding after_unready FreeWordHasCalled callers
+  back_called k =
+      let a = sum_below-put c.threads (calls_woken k) s.wait t Running g.thread in
+      let b = ap (calls_woken k) g.queued in
+      omega (arith, h.free_word_has_called k)
+
+  pub unready_lawful : Lawful c m
+  unfolding after_unready
+  unready_lawful = assumption (back_queued, back_has_record, back_woken_wants, back_woken_uncalled, back_called)

@@ -1,0 +1,95 @@
+-- A resume keeps each fact.
+use Rattle.std.proofs.Common.{◌≡◌, ℕ, ◌+◌, ◌<◌, ◌≤◌, Bool, true, false, cond, eqb, Option, Some, None, refl, sym, ap, inl, inr, arith, ◌∙◌}
+use Rattle.std.proofs.lemmas.Bool.{cases_eq}
+use Rattle.lock_model.specs.Counts.{one, at_option, sum_below}
+use Rattle.lock_model.specs.State.{State, Config, Wait, Running, Queued, Woken, Cause, BySignal, ByAbort, put}
+use Rattle.lock_model.specs.Moves.{is_woken}
+use Rattle.lock_model.specs.MovesOfQueues.{MayResume, after_resume, called_after, wanted_after, is_taking_back}
+use Rattle.lock_model.specs.Facts.{Lawful, StandingIsQueued, QueuedHasRecord, StandingWants, WokenWants, CalledWants, StandingIsUncalled, WokenIsUncalled, FreeWordHasCalled}
+use Rattle.lock_model.specs.FactsOfWaits.{callers, calls_woken}
+use Rattle.lock_model.specs.declared.plan.QueueName.{QueueName}
+use Rattle.lock_model.specs.declared.plan.QueueName.TheVariants.{Lock, Chan}
+use Rattle.lock_laws.proofs.Kit.{columns, put_same, put_other, sum_below-put}
+
+-- a thread that its wait word calls for a lock is called by its share after the resume
+called_still : (k : ℕ) (q : QueueName) (cause : Cause) (o : Option ℕ) → o ≡ None → calls_woken k (Woken q cause) + at_option k o ≤ at_option k (called_after q cause o)
+called_still k (Lock l) BySignal o e = rw e (grind arith)
+called_still k (Lock l) ByAbort o e = rw e (grind arith)
+called_still k (Chan d) BySignal o e = rw e (grind arith)
+called_still k (Chan d) ByAbort o e = rw e (grind arith)
+
+module _ (c : Config) (s : State) (t : ℕ) (q : QueueName) (cause : Cause) (g : MayResume c s t q cause) (h : Lawful c s) where
+  abbrev n : State
+  n = after_resume c s t q cause
+
+  uncalled : s.called t ≡ None
+  unfolding WokenIsUncalled
+  uncalled = h.woken_is_uncalled t (ap is_woken g.woken)
+
+  unnamed : (r : QueueName) → s.named t ≡ Some r → ⊥
+  unfolding StandingIsQueued
+  unnamed r e = let z = ap is_woken (sym g.woken ∙ h.standing_is_queued t r e) in cc
+
+  standing_queued : StandingIsQueued n.named n.wait
+  unfolding after_resume StandingIsQueued
+  standing_queued u r e =
+      elim (cases_eq t u) [
+        | inl i ↦ absurd (unnamed r (ap s.named i ∙ e))
+        | inr i ↦ rw (put_other s.wait t Running u i) (h.standing_is_queued u r e)
+      ]
+
+  has_record : QueuedHasRecord n.wait n.named n.record_with
+  unfolding after_resume QueuedHasRecord
+  has_record u = grind (arith, columns, h.queued_has_record u)
+
+  standing_wants : StandingWants n.named n.wanted
+  unfolding after_resume StandingWants
+  standing_wants u k e =
+      elim (cases_eq t u) [
+        | inl i ↦ absurd (unnamed _ (ap s.named i ∙ e))
+        | inr i ↦ rw (put_other s.wanted t (wanted_after c q cause (is_taking_back (s.log t)) (s.wanted t)) u i) (h.standing_wants u k e)
+      ]
+
+  woken_wants : WokenWants n.wait n.wanted
+  unfolding after_resume WokenWants
+  woken_wants u k = grind (arith, columns, h.woken_wants u k)
+
+  by_cause : (k : ℕ) (r : QueueName) (a : Cause) → s.wait t ≡ Woken r a → called_after r a (s.called t) ≡ Some k → wanted_after c r a (is_taking_back (s.log t)) (s.wanted t) ≡ Some k
+  unfolding WokenWants
+  by_cause k (Lock l) BySignal e f = h.woken_wants t l.0 e ∙ f
+  by_cause k (Lock l) ByAbort e f = absurd (let z : None ≡ Some k = sym uncalled ∙ f in cc)
+  by_cause k (Chan d) BySignal e f = absurd (let z : None ≡ Some k = sym uncalled ∙ f in cc)
+  by_cause k (Chan d) ByAbort e f = absurd (let z : None ≡ Some k = sym uncalled ∙ f in cc)
+
+  called_wants : CalledWants n.called n.wanted
+  unfolding after_resume CalledWants
+  called_wants u k e =
+      elim (cases_eq t u) [
+        | inl i ↦ rw (← i, put_same s.wanted t (wanted_after c q cause (is_taking_back (s.log t)) (s.wanted t))) (by_cause k q cause g.woken (sym (put_same s.called t (called_after q cause (s.called t))) ∙ ap (put s.called t (called_after q cause (s.called t))) i ∙ e))
+        | inr i ↦ rw (put_other s.wanted t (wanted_after c q cause (is_taking_back (s.log t)) (s.wanted t)) u i) (h.called_wants u k (sym (put_other s.called t (called_after q cause (s.called t)) u i) ∙ e))
+      ]
+
+  standing_uncalled : StandingIsUncalled n.named n.called
+  unfolding after_resume StandingIsUncalled
+  standing_uncalled u r e =
+      elim (cases_eq t u) [
+        | inl i ↦ absurd (unnamed r (ap s.named i ∙ e))
+        | inr i ↦ rw (put_other s.called t (called_after q cause (s.called t)) u i) (h.standing_is_uncalled u r e)
+      ]
+
+  woken_uncalled : WokenIsUncalled n.wait n.called
+  unfolding after_resume WokenIsUncalled
+  woken_uncalled u = grind (arith, columns, h.woken_is_uncalled u)
+
+  called : FreeWordHasCalled c n.word n.marked n.wait n.called
+  unfolding after_resume FreeWordHasCalled callers
+  called k =
+      let d = sum_below-put c.threads (at_option k) s.called t (called_after q cause (s.called t)) g.thread in
+      let b = sum_below-put c.threads (calls_woken k) s.wait t Running g.thread in
+      let e = ap (calls_woken k) g.woken in
+      let f = called_still k q cause (s.called t) uncalled in
+      omega (arith, h.free_word_has_called k)
+
+  pub lawful : Lawful c n
+  unfolding after_resume
+  lawful = assumption (standing_queued, has_record, standing_wants, woken_wants, called_wants, standing_uncalled, woken_uncalled, called)

@@ -1,0 +1,69 @@
+-- Laws of sections: who has one open holds the lock, and no two that exclude each other are open.
+use Rattle.std.proofs.Common.{◌≡◌, ◌≢◌, ℕ, ◌+◌, ◌<◌, ◌≤◌, Bool, true, false, cond, eqb, List, ◌∷◌, Option, Some, None, refl, sym, ap, inl, inr, arith, ◌∙◌}
+use Rattle.std.proofs.lemmas.Bool.{cases_eq}
+use Rattle.lock_model.specs.Words.{Word, Holder, Free, HeldBy, SharedBy, sharers}
+use Rattle.lock_model.specs.State.{Config, State, Hold, NotHeld, Holds}
+use Rattle.lock_model.specs.History.{Sections, sections_in, sections_by, open_in, left_in, begun_by, ends, replaced, sleeps_with, IsAlone, IsInSection, IsReplayed, value_at}
+use Rattle.lock_model.specs.Moves.{Asks, Begins, SawBusy, ShowsOwn}
+use Rattle.lock_model.specs.Facts.{Lawful, SectionsAreHeld, OnlyThreadsHold, TablesReplay}
+use Rattle.lock_model.specs.declared.plan.Mode.{Mode}
+use Rattle.lock_model.specs.declared.plan.Mode.TheVariants.{Excl, Shared}
+use Rattle.lock_model.specs.declared.event.Event.{Event}
+use Rattle.lock_model.specs.declared.event.Event.TheVariants.{Locked, Tried, Busy, Unlocked, Set, Added, Got, Base, Shown, Sleeps, Woke, HaltedChan, HaltedLock, WokeOne, WokeAll, Reversed}
+use Rattle.lock_model.specs.declared.event.Entry.{Entry}
+use Rattle.lock_laws.proofs.Words.{owner_is, has_sharer}
+
+module _ (c : Config) (s : State) (h : Lawful c s) where
+  -- two threads hold a lock only where both share it
+  pub apart : (t u l : ℕ) (mode : Mode) → s.held t l ≡ Holds Excl → s.held u l ≡ Holds mode → t ≡ u
+  unfolding OnlyThreadsHold
+  apart t u l Excl e f = let a = owner_is c s t l h e in let b = owner_is c s u l h f in cc
+  apart t u l Shared e f =
+      let a = ap sharers (owner_is c s t l h e) in
+      let b = has_sharer c s u l h (h.only_threads_hold u l Shared f) f in
+      absurd (omega arith)
+
+  -- a section may begin where the lock is held in its mode and the thread has none open
+  pub alone : (t l : ℕ) (mode : Mode) → s.held t l ≡ Holds mode → open_in c s.history t l ≡ NotHeld → IsAlone c s.history l mode
+  unfolding SectionsAreHeld
+  alone t l Shared e f = λ u x.
+      let a = apart u t l Shared (h.sections_are_held u l Excl x) e in
+      let b : open_in c s.history t l ≡ Holds Excl = rw (← a) x in
+      absurd (let z : NotHeld ≡ Holds Excl = sym f ∙ b in cc)
+  alone t l Excl e f = λ u. go u (open_in c s.history u l) refl
+    where
+      go : (u : ℕ) (x : Hold) → open_in c s.history u l ≡ x → x ≡ NotHeld
+      go u NotHeld y = refl
+      go u (Holds m) y =
+          let a = apart t u l m e (h.sections_are_held u l m y) in
+          let b : open_in c s.history t l ≡ Holds m = rw a y in
+          absurd (let z : NotHeld ≡ Holds m = sym f ∙ b in cc)
+
+  -- what an event needs where it begins a section
+  pub begins_held : (t : ℕ) (e : Event) → Asks c s t e → (l : ℕ) (mode : Mode) → begun_by c e (left_in c s.history t l) l ≡ Holds mode → (s.held t l ≡ Holds mode) × (open_in c s.history t l ≡ NotHeld)
+  begins_held t (Locked k m) a l mode e = grind (arith, a.held, a.closed)
+  begins_held t (Tried k m) a l mode e = grind (arith, a.held, a.closed)
+  begins_held t (Woke d) a l mode e = grind (arith, a.held, a.closed)
+  begins_held t (HaltedChan d) a l mode e = grind (arith, a.0.held, a.0.closed)
+  begins_held t other a l mode e = absurd (let z : NotHeld ≡ Holds mode = e in cc)
+
+  -- the section that is open after an event is of a lock that is held
+  pub sections_held : (t : ℕ) (e : Event) → Asks c s t e → (l : ℕ) (mode : Mode) → (sections_by c e l (sections_in c s.history t l)).now ≡ Holds mode → s.held t l ≡ Holds mode
+  unfolding SectionsAreHeld
+  sections_held t e a l mode x = go (begun_by c e (left_in c s.history t l) l) refl (ends c e l) x
+    where
+      go : (b : Hold) → begun_by c e (left_in c s.history t l) l ≡ b → (z : Bool) → replaced b (cond z NotHeld (open_in c s.history t l)) ≡ Holds mode → s.held t l ≡ Holds mode
+      go (Holds m) y z w = let r = begins_held t e a l m y in r.0 ∙ w
+      go NotHeld y true w = absurd cc
+      go NotHeld y false w = h.sections_are_held t l mode w
+
+  pub asks_section : (t : ℕ) (e : Event) → Asks c s t e → IsInSection c e s.history t
+  asks_section t (Set l k v) a = a
+  asks_section t (Added l k v) a = a
+  asks_section t (Got l k v) a = a.0
+  asks_section t other a = tt
+
+  pub asks_replayed : (t : ℕ) (e : Event) → Asks c s t e → IsReplayed e s.history
+  unfolding TablesReplay
+  asks_replayed t (Got l k v) a = a.1 ∙ h.tables_replay_logs l.0 k
+  asks_replayed t other a = tt

@@ -1,0 +1,179 @@
+-- A hop of a walk at a thread, and the end of a walk, keep each fact.
+use Rattle.std.proofs.Common.{◌≡◌, ◌≢◌, ℕ, ◌+◌, ◌<◌, ◌≤◌, Bool, true, false, eqb, List, Option, Some, None, refl, sym, ap, inl, inr, arith, ◌∙◌}
+use Rattle.std.proofs.lemmas.Bool.{cases_eq, ne_eqb}
+use Rattle.lock_model.specs.Counts.{one, sum_below}
+use Rattle.lock_model.specs.Words.{is_turnstile}
+use Rattle.lock_model.specs.State.{State, Config, Waiter, Lists, Walk, NoWalk, AtLock, AtThread, put_queue, is_queue}
+use Rattle.lock_model.specs.Moves.{prio_of}
+use Rattle.lock_model.specs.MovesOfLoans.{MayShift, MayEndWalk, IsAtEnd, after_shift, after_end_walk, walk_up}
+use Rattle.lock_model.specs.Queues.{lock_queue, chan_queue, stands, least_of, with_kept}
+use Rattle.lock_model.specs.Facts.{Lawful, HeadsFitWaiters, BitsShowWaiters, ListsAscend, MutexWaitersAreExclusive, StandsOnce, OnlyThreadsStand, LoansAreLeast, KeptIsEffective, EffectiveIsKnown, KeptIsKnown}
+use Rattle.lock_model.specs.FactsOfQueues.{HeadFits}
+use Rattle.lock_model.specs.FactsOfWaits.{times_marked, at_queue}
+use Rattle.lock_model.specs.FactsOfLoans.{IsKept, IsKnown, EachOf, walks_at_lock, walks_at_thread, at_lock, at_thread}
+use Rattle.lock_model.specs.declared.plan.QueueName.{QueueName}
+use Rattle.lock_laws.proofs.Kit.{columns, put_lock_same, put_lock_other, sum_below-put, at_put_lock, each_queue, at_queue_one, one_same}
+use Rattle.lock_laws.proofs.Lending.{each_of-map, each_of-kept, stands-kept, waiting-kept, ascends-reinsert, is_empty-reinsert}
+
+head_fits : (t p : ℕ) (q : Lists) (xs : List ℕ) (h o : Option ℕ) → HeadFits q xs h o → HeadFits (with_kept t p q) xs h o
+head_fits t p q xs h o f = record { balanced = f.balanced ∙ sym (waiting-kept t p q); no_free = f.no_free; no_owner = f.no_owner }
+
+at_thread-walk_up : (o l : ℕ) (x : Option ℕ) → at_thread o (walk_up l x) ≡ 0
+at_thread-walk_up o l None = refl
+at_thread-walk_up o l (Some y) = refl
+
+walk_up-there : (l : ℕ) (x : Option ℕ) (u : ℕ) → x ≡ Some u → at_lock l (walk_up l x) ≡ 1
+walk_up-there l None u e = absurd cc
+walk_up-there l (Some y) u e = one_same l
+
+module _ (c : Config) (s : State) (t o l : ℕ) (g : MayShift c s t o l) (h : Lawful c s) where
+  abbrev n : State
+  n = after_shift s t o l
+
+  abbrev q : QueueName
+  q = lock_queue l
+
+  abbrev lists : Lists
+  lists = with_kept o (s.effective o) (s.lists q)
+
+  heads_of_locks : (k : ℕ) → HeadFits (n.lists (lock_queue k)) (n.free_list (lock_queue k)) (n.head (lock_queue k)) (n.owner (lock_queue k))
+  unfolding after_shift HeadsFitWaiters
+  heads_of_locks k =
+      elim (cases_eq l k) [
+        | inl e ↦ rw (← e, put_lock_same s.lists l lists) (head_fits o (s.effective o) (s.lists q) (s.free_list q) (s.head q) (s.owner q) (h.heads_fit_waiters q))
+        | inr e ↦ rw (put_lock_other s.lists l lists k e) (h.heads_fit_waiters (lock_queue k))
+      ]
+
+  heads : HeadsFitWaiters n.lists n.free_list n.head n.owner
+  unfolding after_shift HeadsFitWaiters put_queue
+  heads = each_queue (λ r. HeadFits (n.lists r) (n.free_list r) (n.head r) (n.owner r)) heads_of_locks (λ d. h.heads_fit_waiters (chan_queue d))
+
+  bits : BitsShowWaiters n.word n.lists
+  unfolding after_shift BitsShowWaiters
+  bits k = grind (arith, columns, h.bits_show_waiters k, is_empty-reinsert)
+
+  ascend : ListsAscend c n.lists
+  unfolding after_shift ListsAscend
+  ascend k e = grind (arith, columns, h.lists_ascend k e, ascends-reinsert)
+
+  mutex_waiters : MutexWaitersAreExclusive c n.lists
+  unfolding after_shift MutexWaitersAreExclusive
+  mutex_waiters k e = grind (arith, columns, h.mutex_waiters_are_exclusive k e)
+
+  stand_at_lock : (u k : ℕ) → stands u (n.lists (lock_queue k)) + sum_below c.threads (λ v. times_marked u (lock_queue k) (n.marked v)) ≡ at_queue (lock_queue k) (n.named u)
+  unfolding after_shift StandsOnce
+  stand_at_lock u k =
+      elim (cases_eq l k) [
+        | inl e ↦ rw (← e, put_lock_same s.lists l lists) (omega (arith, stands-kept u o (s.effective o) (s.lists q), h.stands_once u q))
+        | inr e ↦ rw (put_lock_other s.lists l lists k e) (h.stands_once u (lock_queue k))
+      ]
+
+  stand : StandsOnce c n.lists n.marked n.named
+  unfolding after_shift StandsOnce put_queue
+  stand u = each_queue (λ r. stands u (n.lists r) + sum_below c.threads (λ v. times_marked u r (n.marked v)) ≡ at_queue r (n.named u)) (stand_at_lock u) (λ d. h.stands_once u (chan_queue d))
+
+  loans_least : LoansAreLeast c n.owner n.walk n.loan n.lists
+  unfolding after_shift LoansAreLeast walks_at_lock
+  loans_least k u e w =
+      let a = sum_below-put c.threads (at_lock k) s.walk t (walk_up l (s.owner q)) g.thread in
+      let b = ap (at_lock k) g.walks in
+      elim (cases_eq l k) [
+        | inl i ↦
+            let d = walk_up-there l (s.owner q) u (ap (λ j. s.owner (lock_queue j)) i ∙ e) in
+            let d2 = ap (λ j. at_lock j (walk_up l (s.owner q))) i in
+            absurd (omega arith)
+        | inr i ↦ rw (put_lock_other s.lists l lists k i) (h.loans_are_least k u e (omega arith))
+      ]
+
+  still : (w : Waiter) → w.thread ≢ o → IsKept c s.walk s.effective w → IsKept c n.walk s.effective w
+  unfolding after_shift walks_at_thread
+  still w ne kept none =
+      let a = sum_below-put c.threads (at_thread w.thread) s.walk t (walk_up l (s.owner q)) g.thread in
+      let d = ap (at_thread w.thread) g.walks in
+      let f : one (eqb w.thread o) ≡ 0 = ap one (ne_eqb w.thread o ne) in
+      kept (omega arith)
+
+  once : stands o (s.lists q) ≤ 1
+  unfolding StandsOnce
+  once = let a = ap (at_queue q) g.named in let b = one_le (is_queue q q) in omega (arith, h.stands_once o q)
+    where
+      one_le : (b : Bool) → one b ≤ 1
+      one_le true = omega arith
+      one_le false = omega arith
+
+  elsewhere : (k : ℕ) → (l ≡ k → ⊥) → stands o (s.lists (lock_queue k)) ≡ 0
+  unfolding StandsOnce
+  elsewhere k ne = let a = ap (at_queue (lock_queue k)) g.named in let b : one (eqb k l) ≡ 0 = ap one (ne_eqb k l (λ j. ne (sym j))) in omega (arith, h.stands_once o (lock_queue k))
+
+  kept : KeptIsEffective c n.walk n.effective n.lists
+  unfolding after_shift KeptIsEffective
+  kept =
+      let P : Waiter → Type 0 = IsKept c s.walk s.effective in
+      let Q : Waiter → Type 0 = IsKept c n.walk s.effective in
+      at_put_lock (λ k r. is_turnstile (c.kind k) ≡ true → EachOf Q r) s.lists l lists
+      (λ i. each_of-kept Q o (s.effective o) (s.lists q) once (λ e. refl) (each_of-map P (λ w. w.thread ≢ o → Q w) (s.lists q) (λ w k p ne. still w ne p) (h.kept_is_effective l i)))
+      (λ k ne i. each_of-map P Q (s.lists (lock_queue k)) (λ w j p. still w (λ x. let y : stands w.thread (s.lists (lock_queue k)) ≡ stands o (s.lists (lock_queue k)) = ap (λ r. stands r (s.lists (lock_queue k))) x in absurd (omega (arith, elsewhere k ne))) p) (h.kept_is_effective k i))
+
+  kept_known : KeptIsKnown c n.lists n.history
+  unfolding after_shift KeptIsKnown EffectiveIsKnown OnlyThreadsStand
+  kept_known =
+      let P : Waiter → Type 0 = λ w. IsKnown c s.history w.kept in
+      at_put_lock (λ k r. is_turnstile (c.kind k) ≡ true → EachOf P r) s.lists l lists
+      (λ i. each_of-kept P o (s.effective o) (s.lists q) once (h.effective_is_known o (h.only_threads_stand o q g.named)) (each_of-map P (λ w. w.thread ≢ o → P w) (s.lists q) (λ w k p ne. p) (h.kept_is_known l i)))
+      (λ k ne. h.kept_is_known k)
+
+  pub lawful : Lawful c n
+  unfolding after_shift
+  lawful = assumption (heads, bits, ascend, mutex_waiters, stand, loans_least, kept, kept_known)
+
+-- The end of a walk
+
+module _ (c : Config) (s : State) (t : ℕ) (g : MayEndWalk c s t) (h : Lawful c s) where
+  abbrev m : State
+  m = after_end_walk s t
+
+  end_loans_least : LoansAreLeast c m.owner m.walk m.loan m.lists
+  unfolding after_end_walk LoansAreLeast walks_at_lock
+  end_loans_least l u e w = go (s.walk t) refl g.there
+    where
+      a : sum_below c.threads (λ j. at_lock l (m.walk j)) + at_lock l (s.walk t) ≡ sum_below c.threads (λ j. at_lock l (s.walk j)) + 0
+      a = sum_below-put c.threads (at_lock l) s.walk t NoWalk g.thread
+
+      go : (x : Walk) → s.walk t ≡ x → IsAtEnd c s x → prio_of (s.loan u l) ≡ least_of (s.lists (lock_queue l))
+      go NoWalk y z = absurd z
+      go (AtLock k) y z =
+          let b = ap (at_lock l) y in
+          elim (cases_eq l k) [
+            | inl i ↦ absurd (let f : None ≡ Some u = sym z ∙ ap (λ j. s.owner (lock_queue j)) (sym i) ∙ e in cc)
+            | inr i ↦ let f : one (eqb l k) ≡ 0 = ap one (ne_eqb l k i) in h.loans_are_least l u e (omega (arith, a))
+          ]
+      go (AtThread o) y z = let b = ap (at_lock l) y in h.loans_are_least l u e (omega (arith, a))
+
+  end_still : (l : ℕ) → is_turnstile (c.kind l) ≡ true → (w : Waiter) → 1 ≤ stands w.thread (s.lists (lock_queue l)) → IsKept c s.walk s.effective w → IsKept c m.walk s.effective w
+  unfolding after_end_walk walks_at_thread StandsOnce
+  end_still l i w p kept none = go (s.walk t) refl g.there
+    where
+      a : sum_below c.threads (λ j. at_thread w.thread (m.walk j)) + at_thread w.thread (s.walk t) ≡ sum_below c.threads (λ j. at_thread w.thread (s.walk j)) + 0
+      a = sum_below-put c.threads (at_thread w.thread) s.walk t NoWalk g.thread
+
+      go : (x : Walk) → s.walk t ≡ x → IsAtEnd c s x → w.kept ≡ s.effective w.thread
+      go NoWalk y z = absurd z
+      go (AtLock k) y z = let b = ap (at_thread w.thread) y in kept (omega (arith, a))
+      go (AtThread o) y z =
+          let b = ap (at_thread w.thread) y in
+          elim (cases_eq w.thread o) [
+            | inl j ↦
+                let d = at_queue_one (lock_queue l) (s.named w.thread) (omega (arith, h.stands_once w.thread (lock_queue l))) in
+                let f = z l i (ap s.named (sym j) ∙ d) in
+                let r = ap (λ v. stands v (s.lists (lock_queue l))) j in
+                absurd (omega arith)
+            | inr j ↦ let f : one (eqb w.thread o) ≡ 0 = ap one (ne_eqb w.thread o j) in kept (omega (arith, a))
+          ]
+
+  end_kept : KeptIsEffective c m.walk m.effective m.lists
+  unfolding after_end_walk KeptIsEffective
+  end_kept l i = each_of-map (IsKept c s.walk s.effective) (IsKept c m.walk s.effective) (s.lists (lock_queue l)) (end_still l i) (h.kept_is_effective l i)
+
+  pub end_lawful : Lawful c m
+  unfolding after_end_walk
+  end_lawful = assumption (end_loans_least, end_kept)

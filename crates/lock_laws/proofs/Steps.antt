@@ -1,0 +1,43 @@
+-- Each step keeps the state lawful.
+use Rattle.std.proofs.Common.{subst, sym}
+use Rattle.lock_model.specs.State.{Config, State}
+use Rattle.lock_model.specs.Facts.{Lawful}
+use Rattle.lock_model.specs.Steps.{Move, Looks, TakesTurn, GivesTurn, Gains, Drops, Stamps, Readies, Unreadies, Enters, Opens, Marks, Resumes, Claims, Lends, Shifts, EndsWalk, May, after, Step, IsReached, begins, goes_on}
+use Rattle.lock_laws.proofs.OwnWaits.{look_lawful, ready_lawful, unready_lawful}
+use Rattle.lock_laws.proofs.Turns.{take_lawful, give_lawful}
+use Rattle.lock_laws.proofs.StateAtStart as start
+use Rattle.lock_laws.proofs.Gain as gain
+use Rattle.lock_laws.proofs.Drop as drop
+use Rattle.lock_laws.proofs.Stamp as stamp
+use Rattle.lock_laws.proofs.Enter as enter
+use Rattle.lock_laws.proofs.Open as opening
+use Rattle.lock_laws.proofs.Mark as mark
+use Rattle.lock_laws.proofs.Resume as resume
+use Rattle.lock_laws.proofs.Claim as claim
+use Rattle.lock_laws.proofs.Lend as lend
+use Rattle.lock_laws.proofs.Shift as shift
+
+pub keeps : (c : Config) (s : State) (m : Move) → May c s m → Lawful c s → Lawful c (after c s m)
+keeps c s (Looks t l in_round) g h = look_lawful c s t l in_round g h
+keeps c s (TakesTurn t i) g h = take_lawful c s t i g h
+keeps c s (GivesTurn t i) g h = give_lawful c s t i g h
+keeps c s (Gains t l mode) g h = gain.lawful c s t l mode g h
+keeps c s (Drops t l mode) g h = drop.lawful c s t l mode g h
+keeps c s (Stamps t e) g h = stamp.lawful c s t e g h
+keeps c s (Readies t) g h = ready_lawful c s t g h
+keeps c s (Unreadies t) g h = unready_lawful c s t g h
+keeps c s (Enters t l mode x) g h = enter.lawful c s t l mode x g h
+keeps c s (Opens t l mode) g h = opening.lawful c s t l mode g h
+keeps c s (Marks t m ms) g h = mark.lawful c s t m ms g h
+keeps c s (Resumes t q cause) g h = resume.lawful c s t q cause g h
+keeps c s (Claims t l x) g h = claim.lawful c s t l x g h
+keeps c s (Lends t l o x) g h = lend.lawful c s t l o x g h
+keeps c s (Shifts t o l) g h = shift.lawful c s t o l g h
+keeps c s (EndsWalk t) g h = shift.end_lawful c s t g h
+
+pub step_keeps : (c : Config) (s n : State) → Step c s n → Lawful c s → Lawful c n
+step_keeps c s n p h = subst (Lawful c) (sym p.2) (keeps c s p.0 p.1 h)
+
+pub reached_lawful : (c : Config) (s : State) → IsReached c s → Lawful c s
+reached_lawful c s begins = start.lawful c
+reached_lawful c n (goes_on {s} r p) = step_keeps c s n p (reached_lawful c s r)

@@ -1,0 +1,104 @@
+-- Taking something out of its home, and giving it back, keep each fact.
+use Rattle.std.proofs.Common.{◌≡◌, ◌⊎◌, ℕ, true, ◌&&◌, Option, Some, None, arith, ap, refl, sym, inl, inr, ◌∙◌, subst, eq-eqb}
+use Rattle.std.proofs.lemmas.Bool.{cases_eq}
+use Rattle.lock_model.specs.State.{State, Config, put, put_at}
+use Rattle.lock_model.specs.MovesOfTurns.{Item, TurnstileChain, SleepChain, RecordOf, CellOf, ClassGraph, MayTake, MayGive, after_take, after_give, with_turn, item_with, go_together}
+use Rattle.lock_model.specs.Facts.{Lawful, QueuedHasRecord, OutIsNarrow}
+use Rattle.lock_laws.proofs.Kit.{columns, put_same, put_other, put_at_same, put_at_other, put_at_beside}
+
+by_place : (f : ℕ → Option ℕ) (i : ℕ) (o : Option ℕ) (j t : ℕ) → put f i o j ≡ Some t → ((i ≡ j) × (o ≡ Some t)) ⊎ (f j ≡ Some t)
+by_place f i o j t e = elim (cases_eq i j) [ inl x ↦ inl (x, sym (put_same f i o) ∙ ap (put f i o) x ∙ e) | inr x ↦ inr (sym (put_other f i o j x) ∙ e) ]
+
+by_cell : (f : ℕ → ℕ → Option ℕ) (i k : ℕ) (o : Option ℕ) (j l t : ℕ) → put_at f i k o j l ≡ Some t → ((i ≡ j) × (k ≡ l) × (o ≡ Some t)) ⊎ (f j l ≡ Some t)
+by_cell f i k o j l t e =
+    elim (cases_eq i j) [
+      | inl x ↦ elim (cases_eq k l) [
+        | inl y ↦ inl (x, y, sym (put_at_same f i k o) ∙ ap (λ a. put_at f i k o a k) x ∙ ap (put_at f i k o j) y ∙ e)
+        | inr y ↦ inr (sym (put_at_beside f i k o j l y) ∙ e)
+      ]
+      | inr x ↦ inr (sym (put_at_other f i k o j l x) ∙ e)
+    ]
+
+-- what a thread has out after an item has changed its place is that item, or was out before
+changed : (s : State) (i : Item) (o : Option ℕ) (j : Item) (t : ℕ) → item_with (with_turn s i o) j ≡ Some t → ((i ≡ j) × (o ≡ Some t)) ⊎ (item_with s j ≡ Some t)
+changed s (TurnstileChain a) o (TurnstileChain b) t e = elim (by_place s.turnstile_chain_with a o b t e) [ inl x ↦ inl (ap TurnstileChain x.0, x.1) | inr x ↦ inr x ]
+changed s (SleepChain a) o (SleepChain b) t e = elim (by_place s.sleep_chain_with a o b t e) [ inl x ↦ inl (ap SleepChain x.0, x.1) | inr x ↦ inr x ]
+changed s (RecordOf a) o (RecordOf b) t e = elim (by_place s.record_with a o b t e) [ inl x ↦ inl (ap RecordOf x.0, x.1) | inr x ↦ inr x ]
+changed s (CellOf a k) o (CellOf b l) t e = elim (by_cell s.cell_with a k o b l t e) [ inl x ↦ inl ((λ i. CellOf (x.0 i) (x.1 i)), x.2) | inr x ↦ inr x ]
+changed s ClassGraph o ClassGraph t e = inl (refl, e)
+changed s (TurnstileChain a) o (SleepChain b) t e = inr e
+changed s (TurnstileChain a) o (RecordOf b) t e = inr e
+changed s (TurnstileChain a) o (CellOf b l) t e = inr e
+changed s (TurnstileChain a) o ClassGraph t e = inr e
+changed s (SleepChain a) o (TurnstileChain b) t e = inr e
+changed s (SleepChain a) o (RecordOf b) t e = inr e
+changed s (SleepChain a) o (CellOf b l) t e = inr e
+changed s (SleepChain a) o ClassGraph t e = inr e
+changed s (RecordOf a) o (TurnstileChain b) t e = inr e
+changed s (RecordOf a) o (SleepChain b) t e = inr e
+changed s (RecordOf a) o (CellOf b l) t e = inr e
+changed s (RecordOf a) o ClassGraph t e = inr e
+changed s (CellOf a k) o (TurnstileChain b) t e = inr e
+changed s (CellOf a k) o (SleepChain b) t e = inr e
+changed s (CellOf a k) o (RecordOf b) t e = inr e
+changed s (CellOf a k) o ClassGraph t e = inr e
+changed s ClassGraph o (TurnstileChain b) t e = inr e
+changed s ClassGraph o (SleepChain b) t e = inr e
+changed s ClassGraph o (RecordOf b) t e = inr e
+changed s ClassGraph o (CellOf b l) t e = inr e
+
+with_itself : (i : Item) → go_together i i ≡ true
+with_itself (TurnstileChain a) = eq-eqb a a refl
+with_itself (SleepChain a) = eq-eqb a a refl
+with_itself (RecordOf a) = eq-eqb a a refl
+with_itself (CellOf a k) = rw (eq-eqb a a refl, eq-eqb k k refl) refl
+with_itself ClassGraph = refl
+
+abbrev Narrow : State → Type 0
+Narrow s = OutIsNarrow s.turnstile_chain_with s.sleep_chain_with s.record_with s.cell_with s.graph_with
+
+taken_narrow : (c : Config) (s : State) (t : ℕ) (i : Item) → MayTake c s t i → Narrow s → Narrow (with_turn s i (Some t))
+unfolding OutIsNarrow
+taken_narrow c s t i g h u j k p q =
+    elim (changed s i (Some t) j u p) [
+      | inl x ↦ elim (changed s i (Some t) k u q) [
+        | inl y ↦ subst (λ a. go_together a k ≡ true) x.0 (subst (λ a. go_together i a ≡ true) y.0 (with_itself i))
+        | inr y ↦ subst (λ a. go_together a k ≡ true) x.0 ((g.together k (y ∙ sym x.1)).0)
+      ]
+      | inr x ↦ elim (changed s i (Some t) k u q) [
+        | inl y ↦ subst (λ a. go_together j a ≡ true) y.0 ((g.together j (x ∙ sym y.1)).1)
+        | inr y ↦ h u j k x y
+      ]
+    ]
+
+given_narrow : (s : State) (i : Item) → Narrow s → Narrow (with_turn s i None)
+unfolding OutIsNarrow
+given_narrow s i h u j k p q =
+    elim (changed s i None j u p) [
+      | inl x ↦ absurd (let e = x.1 in cc)
+      | inr x ↦ elim (changed s i None k u q) [ inl y ↦ absurd (let e = y.1 in cc) | inr y ↦ h u j k x y ]
+    ]
+
+taken_record : (c : Config) (s : State) (t v : ℕ) → MayTake c s t (RecordOf v) → Lawful c s → QueuedHasRecord s.wait s.named (put s.record_with v (Some t))
+unfolding QueuedHasRecord
+taken_record c s t v g h u = grind (arith, columns, h.queued_has_record u, g.home)
+
+given_record : (c : Config) (s : State) (t v : ℕ) → MayGive c s t (RecordOf v) → Lawful c s → QueuedHasRecord s.wait s.named (put s.record_with v None)
+unfolding QueuedHasRecord
+given_record c s t v g h u = grind (arith, columns, h.queued_has_record u, g.out, g.done)
+
+pub take_lawful : (c : Config) (s : State) (t : ℕ) (i : Item) → MayTake c s t i → Lawful c s → Lawful c (after_take s t i)
+unfolding after_take
+take_lawful c s t (TurnstileChain k) g h = assumption (h, taken_narrow c s t (TurnstileChain k) g h.out_is_narrow)
+take_lawful c s t (SleepChain k) g h = assumption (h, taken_narrow c s t (SleepChain k) g h.out_is_narrow)
+take_lawful c s t (RecordOf v) g h = assumption (h, taken_narrow c s t (RecordOf v) g h.out_is_narrow, taken_record c s t v g h)
+take_lawful c s t (CellOf l k) g h = assumption (h, taken_narrow c s t (CellOf l k) g h.out_is_narrow)
+take_lawful c s t ClassGraph g h = assumption (h, taken_narrow c s t ClassGraph g h.out_is_narrow)
+
+pub give_lawful : (c : Config) (s : State) (t : ℕ) (i : Item) → MayGive c s t i → Lawful c s → Lawful c (after_give s i)
+unfolding after_give
+give_lawful c s t (TurnstileChain k) g h = assumption (h, given_narrow s (TurnstileChain k) h.out_is_narrow)
+give_lawful c s t (SleepChain k) g h = assumption (h, given_narrow s (SleepChain k) h.out_is_narrow)
+give_lawful c s t (RecordOf v) g h = assumption (h, given_narrow s (RecordOf v) h.out_is_narrow, given_record c s t v g h)
+give_lawful c s t (CellOf l k) g h = assumption (h, given_narrow s (CellOf l k) h.out_is_narrow)
+give_lawful c s t ClassGraph g h = absurd g.done

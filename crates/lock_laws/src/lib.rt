@@ -1,0 +1,17 @@
+//! The laws of a lawful state, over definitions alone: functions with empty bodies whose contracts are theorems.
+//! Both engines of the product, the scheduled run and the threads, stand on them: each shows only which steps it
+//! makes, and these laws do the rest.
+//!
+//! - `start`: the state at the start of a plan is lawful, and so is each state that steps reach from there.
+//! - `kinds`: each kind of step keeps each fact of a lawful state.
+//! - `priorities`: where no walk is under way and nobody waits in a cycle, each effective priority is the best
+//!   behind it.
+//! - `waits`: a thread stands at most once, on one queue, and a lock's word shows it.
+//! - `books`: the table of a lock is what the history leaves.
+#![tactic(auto)]
+
+pub mod books;
+pub mod kinds;
+pub mod priorities;
+pub mod start;
+pub mod waits;

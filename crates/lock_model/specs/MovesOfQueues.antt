@@ -1,0 +1,179 @@
+-- Steps that put a thread on a turnstile and take it off again: what each asks of the state, and what it makes of it.
+-- Sleep queues, of sx locks and channels, come as further cases.
+use Rattle.std.specs.Prelude.{◌≡◌, ◌≢◌, ◌⊎◌, ℕ, ◌<◌, Bool, true, false, if◌then◌else◌, List, [], ◌∷◌, Option, Some, None}
+use Rattle.lock_model.specs.Words.{Holder, Free, HeldBy, SharedBy, admits, is_free, is_turnstile, without_one, shows_waiters, owner_of, entered, opened, side_woken}
+use Rattle.lock_model.specs.History.{open_in}
+use Rattle.lock_model.specs.Moves.{effective_of, after_ready}
+use Rattle.lock_model.specs.MovesOfTurns.{Item, item_with}
+use Rattle.lock_model.specs.State.{Config, State, Hold, NotHeld, Holds, Wait, Running, Queued, Woken, Cause, BySignal, ByAbort, Waiter, Lists, Mark, Walk, NoWalk, AtLock, AtThread, Note, IsHalted, Loan, put, put_at, put_queue}
+use Rattle.lock_model.specs.Queues.{lock_queue, is_turnstile_queue, side_of, list_of, with_list, insert, head_with, free_with, dealt, free_after, head_after}
+use Rattle.lock_model.specs.declared.plan.Kind.{Kind}
+use Rattle.lock_model.specs.declared.plan.Kind.TheVariants.{Mtx, Rw, Sx}
+use Rattle.lock_model.specs.declared.plan.Mode.{Mode}
+use Rattle.lock_model.specs.declared.plan.Mode.TheVariants.{Excl, Shared}
+use Rattle.lock_model.specs.declared.plan.Side.{Side}
+use Rattle.lock_model.specs.declared.plan.QueueName.{QueueName}
+use Rattle.lock_model.specs.declared.plan.QueueName.TheVariants.{Lock, Chan}
+use Rattle.lock_model.specs.declared.event.Event.{Event}
+use Rattle.lock_model.specs.declared.event.Event.TheVariants.{Sleeps}
+use Rattle.lock_model.specs.declared.event.Entry.{Entry}
+
+-- 1. An enter: the word is held and does not admit, and the thread, made ready, stands on the lock's turnstile with its own turnstile x
+
+pub record MayEnter (c : Config) (s : State) (t l : ℕ) (mode : Mode) (x : ℕ) : Type 0 where
+  pub thread : t < c.threads
+  pub lock : l < c.locks
+  pub turnstile : is_turnstile (c.kind l) ≡ true
+  pub mutex : c.kind l ≡ Mtx → mode ≡ Excl
+  pub held : is_free (s.word l).holder ≡ false
+  pub refused : admits (c.kind l) (s.word l) mode ≡ false
+  pub queued : s.wait t ≡ Queued
+  pub unnamed : s.named t ≡ None
+  pub own : s.turnstile t ≡ Some x
+  pub wants : (s.wanted t ≡ Some l) ⊎ (s.wanted t ≡ None)
+  pub no_walk : s.walk t ≡ NoWalk
+
+-- the owner of a turnstile's head: that of the first waiter's enter is the word's exclusive holder
+abbrev pub owner_with : Option ℕ → Option ℕ → Holder → Option ℕ
+owner_with None o h = owner_of h
+owner_with (Some x) o h = o
+
+-- a walk begins at a lock that is held exclusively
+abbrev pub walk_in : ℕ → Holder → Walk
+walk_in l Free = NoWalk
+walk_in l (HeldBy u) = AtLock l
+walk_in l (SharedBy n) = NoWalk
+
+unfoldable pub after_enter : State → ℕ → ℕ → Mode → ℕ → State
+after_enter s t l mode x =
+    let q : QueueName = lock_queue l in
+    record s {
+      word = put s.word l (entered (s.word l) (side_of mode));
+      lists = put_queue s.lists q (with_list (side_of mode) (insert (record { thread = t; kept = s.effective t }) (list_of (side_of mode) (s.lists q))) (s.lists q));
+      free_list = put_queue s.free_list q (free_with (s.head q) x (s.free_list q));
+      head = put_queue s.head q (head_with (s.head q) x);
+      owner = put_queue s.owner q (owner_with (s.head q) (s.owner q) (s.word l).holder);
+      turnstile = put s.turnstile t None;
+      named = put s.named t (Some q);
+      wanted = put s.wanted t (Some l);
+      called = put s.called t None;
+      walk = put s.walk t (walk_in l (s.word l).holder);
+      last_look = put s.last_look t None;
+    }
+
+-- The same in one turn of the scheduled run, where nothing is out: a running thread is made ready and enters at once.
+
+pub record MayBlock (c : Config) (s : State) (t l : ℕ) (mode : Mode) (x : ℕ) : Type 0 where
+  pub thread : t < c.threads
+  pub lock : l < c.locks
+  pub turnstile : is_turnstile (c.kind l) ≡ true
+  pub mutex : c.kind l ≡ Mtx → mode ≡ Excl
+  pub held : is_free (s.word l).holder ≡ false
+  pub refused : admits (c.kind l) (s.word l) mode ≡ false
+  pub running : s.wait t ≡ Running
+  pub own : s.turnstile t ≡ Some x
+  pub wants : (s.wanted t ≡ Some l) ⊎ (s.wanted t ≡ None)
+  pub no_walk : s.walk t ≡ NoWalk
+  pub nothing_out : (i : Item) → item_with s i ≡ None
+
+unfoldable pub after_block : State → ℕ → ℕ → Mode → ℕ → State
+after_block s t l mode x = after_enter (after_ready s t) t l mode x
+
+-- 2. An open: the last holder's release where waiters are shown. One whole side goes to the marked list with its turnstiles; the loan
+-- for the lock goes home, and the turnstile that stays has no owner. The thread may stand on a sleep queue, but on no turnstile
+
+pub record MayOpen (c : Config) (s : State) (t l : ℕ) (mode : Mode) : Type 0 where
+  pub thread : t < c.threads
+  pub lock : l < c.locks
+  pub turnstile : is_turnstile (c.kind l) ≡ true
+  pub held : s.held t l ≡ Holds mode
+  pub last : is_free (without_one (s.word l).holder) ≡ true
+  pub shown : shows_waiters (s.word l) ≡ true
+  pub unmarked : s.marked t ≡ []
+  pub off_turnstiles : (k : ℕ) → s.named t ≡ Some (lock_queue k) → is_turnstile (c.kind k) ≡ false
+  pub closed : open_in c s.history t l ≡ NotHeld
+  pub begun : s.has_begun t l ≡ true
+
+-- the loan's node goes back to its turnstile
+abbrev pub home_after : (ℕ → Bool) → Option Loan → ℕ → Bool
+home_after home None = home
+home_after home (Some loan) = put home loan.number true
+
+unfoldable pub after_open : Config → State → ℕ → ℕ → State
+after_open c s t l =
+    let q : QueueName = lock_queue l in
+    let side : Side = side_woken (c.kind l) (s.word l) in
+    let ws : List Waiter = list_of side (s.lists q) in
+    record s {
+      word = put s.word l (opened (c.kind l) (s.word l));
+      lists = put_queue s.lists q (with_list side [] (s.lists q));
+      free_list = put_queue s.free_list q (free_after ws (s.free_list q));
+      head = put_queue s.head q (head_after ws (s.free_list q) (s.head q));
+      owner = put_queue s.owner q None;
+      held = put_at s.held t l NotHeld;
+      loan = put_at s.loan t l None;
+      loan_home = home_after s.loan_home (s.loan t l);
+      effective = put s.effective t (effective_of c (put (s.loan t) l None) (s.base t));
+      marked = put s.marked t (dealt q ws (s.free_list q) (s.head q));
+      last_look = put s.last_look t None;
+    }
+
+-- 3. A mark: the first of the marked list gets its object back and is woken
+
+pub record MayMark (c : Config) (s : State) (t : ℕ) (m : Mark) (ms : List Mark) : Type 0 where
+  pub thread : t < c.threads
+  pub marked : s.marked t ≡ m ∷ ms
+
+unfoldable pub after_mark : Config → State → ℕ → Mark → List Mark → State
+after_mark c s t m ms = record s {
+  turnstile = if is_turnstile_queue c m.queue then put s.turnstile m.thread (Some m.object) else s.turnstile;
+  sleep_queue = if is_turnstile_queue c m.queue then s.sleep_queue else put s.sleep_queue m.thread (Some m.object);
+  named = put s.named m.thread None;
+  wait = put s.wait m.thread (Woken m.queue m.cause);
+  marked = put s.marked t ms;
+  counted_first = put s.counted_first t false;
+}
+
+-- 4. A resume: a woken thread runs again. After a signal from a lock's queue it is called for that lock. An abort ends the wanting of a
+-- lock and is noted, but in a taking back after a wait it only lets the thread look again. After a wake from a channel the lock of
+-- the wait is wanted
+
+pub record MayResume (c : Config) (s : State) (t : ℕ) (q : QueueName) (cause : Cause) : Type 0 where
+  pub thread : t < c.threads
+  pub woken : s.wait t ≡ Woken q cause
+
+-- a thread takes a lock back from its Sleeps entry until its next one
+abbrev pub is_sleep : Event → Bool
+is_sleep (Sleeps d) = true
+is_sleep other = false
+
+abbrev pub is_taking_back : List Entry → Bool
+is_taking_back [] = false
+is_taking_back (e ∷ es) = is_sleep e.event
+
+abbrev pub called_after : QueueName → Cause → Option ℕ → Option ℕ
+called_after (Lock l) BySignal called = Some l.0
+called_after other cause called = called
+
+abbrev pub wanted_after : Config → QueueName → Cause → Bool → Option ℕ → Option ℕ
+wanted_after c (Lock l) BySignal back wanted = wanted
+wanted_after c (Lock l) ByAbort back wanted = if back then wanted else None
+wanted_after c (Chan d) cause back wanted = Some (c.chan_lock d.0)
+
+abbrev pub noted_after : QueueName → Cause → Bool → Option Note → Option Note
+noted_after q BySignal back noted = noted
+noted_after (Lock l) ByAbort back noted = if back then noted else Some IsHalted
+noted_after (Chan d) ByAbort back noted = Some IsHalted
+
+unfoldable pub after_resume : Config → State → ℕ → QueueName → Cause → State
+after_resume c s t q cause =
+    let back : Bool = is_taking_back (s.log t) in
+    record s {
+      wait = put s.wait t Running;
+      called = put s.called t (called_after q cause (s.called t));
+      wanted = put s.wanted t (wanted_after c q cause back (s.wanted t));
+      noted = put s.noted t (noted_after q cause back (s.noted t));
+      looks = put s.looks t 0;
+      is_finder = put s.is_finder t false;
+      parked = put s.parked t false;
+    }

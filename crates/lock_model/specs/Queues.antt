@@ -1,0 +1,130 @@
+-- The two lists of a queue and what is done with them: who stands where, the rule of insertion, how woken waiters get their
+-- objects back, and the least kept priority.
+use Rattle.std.specs.Prelude.{◌≡◌, ℕ, zero, suc, ◌+◌, ◌≤◌, Bool, true, false, not, ◌&&◌, ◌==◌, nat_le, if◌then◌else◌, List, [], ◌∷◌, length, Option, Some, None, ⊤}
+use Rattle.lock_model.specs.Counts.{one, lower}
+use Rattle.lock_model.specs.Words.{is_turnstile}
+use Rattle.lock_model.specs.State.{Config, Waiter, Lists, Mark, Cause, BySignal}
+use Rattle.lock_model.specs.declared.plan.Mode.{Mode}
+use Rattle.lock_model.specs.declared.plan.Mode.TheVariants.{Excl, Shared}
+use Rattle.lock_model.specs.declared.plan.Side.{Side}
+use Rattle.lock_model.specs.declared.plan.Side.TheVariants.{X, S}
+use Rattle.lock_model.specs.declared.plan.QueueName.{QueueName}
+use Rattle.lock_model.specs.declared.plan.QueueName.TheVariants.{Lock, Chan}
+
+-- 1. Names of queues
+
+-- the queue of a lock
+abbrev pub lock_queue : ℕ → QueueName
+lock_queue l = Lock (record { 0 = l })
+
+-- the queue of a condition variable or channel
+abbrev pub chan_queue : ℕ → QueueName
+chan_queue d = Chan (record { 0 = d })
+
+-- the queues of mutexes and rw locks are turnstiles, all others are sleep queues
+abbrev pub is_turnstile_queue : Config → QueueName → Bool
+is_turnstile_queue c (Lock l) = is_turnstile (c.kind l.0)
+is_turnstile_queue c (Chan d) = false
+
+abbrev pub names_turnstile : Config → Option QueueName → Bool
+names_turnstile c None = false
+names_turnstile c (Some q) = is_turnstile_queue c q
+
+abbrev pub names_sleep_queue : Config → Option QueueName → Bool
+names_sleep_queue c None = false
+names_sleep_queue c (Some q) = not (is_turnstile_queue c q)
+
+-- 2. Sides
+
+-- exclusive waiters wait on X and shared ones on S
+abbrev pub side_of : Mode → Side
+side_of Excl = X
+side_of Shared = S
+
+abbrev pub list_of : Side → Lists → List Waiter
+list_of X q = q.exclusive
+list_of S q = q.shared
+
+abbrev pub with_list : Side → List Waiter → Lists → Lists
+with_list X ws q = record q { exclusive = ws }
+with_list S ws q = record q { shared = ws }
+
+-- 3. Who stands
+
+-- how often a thread stands in a list
+abbrev pub times_waiting : ℕ → List Waiter → ℕ
+times_waiting t [] = 0
+times_waiting t (w ∷ ws) = one (t == w.thread) + times_waiting t ws
+
+-- how often a thread stands on a queue
+abbrev pub stands : ℕ → Lists → ℕ
+stands t q = times_waiting t q.exclusive + times_waiting t q.shared
+
+-- how many waiters a queue has
+abbrev pub waiting : Lists → ℕ
+waiting q = length q.exclusive + length q.shared
+
+-- 4. A waiter more
+
+-- before the first whose number is greater, so behind its equals
+abbrev pub insert : Waiter → List Waiter → List Waiter
+insert w [] = w ∷ []
+insert w (v ∷ vs) = if nat_le v.kept w.kept then v ∷ insert w vs else w ∷ v ∷ vs
+
+-- the head, where the object x is lent: the first waiter's object becomes it
+abbrev pub head_with : Option ℕ → ℕ → Option ℕ
+head_with None x = Some x
+head_with (Some h) x = Some h
+
+-- the free list, where the object x is lent: each later waiter's object goes to its front
+abbrev pub free_with : Option ℕ → ℕ → List ℕ → List ℕ
+free_with None x xs = xs
+free_with (Some h) x xs = x ∷ xs
+
+-- 5. Waiters taken off a queue
+
+-- Their marks, in queue order. Each gets the first free object, and the last of all the head.
+abbrev pub dealt : QueueName → List Waiter → List ℕ → Option ℕ → List Mark
+dealt q [] xs h = []
+dealt q (w ∷ ws) (x ∷ xs) h = record { thread = w.thread; object = x; queue = q; cause = BySignal } ∷ dealt q ws xs h
+dealt q (w ∷ ws) [] (Some h) = record { thread = w.thread; object = h; queue = q; cause = BySignal } ∷ dealt q ws [] None
+dealt q (w ∷ ws) [] None = []
+
+-- the free list that is left
+abbrev pub free_after : List Waiter → List ℕ → List ℕ
+free_after [] xs = xs
+free_after (w ∷ ws) [] = []
+free_after (w ∷ ws) (x ∷ xs) = free_after ws xs
+
+-- the head that is left
+abbrev pub head_after : List Waiter → List ℕ → Option ℕ → Option ℕ
+head_after [] xs h = h
+head_after (w ∷ ws) [] h = None
+head_after (w ∷ ws) (x ∷ xs) h = head_after ws xs h
+
+-- 6. Kept priorities
+
+abbrev pub least_kept : List Waiter → Option ℕ
+least_kept [] = None
+least_kept (w ∷ ws) = Some (lower (least_kept ws) w.kept)
+
+abbrev pub least_of_two : Option ℕ → Option ℕ → Option ℕ
+least_of_two None o = o
+least_of_two (Some p) o = Some (lower o p)
+
+-- the least kept priority of both lists
+abbrev pub least_of : Lists → Option ℕ
+least_of q = least_of_two (least_kept q.exclusive) (least_kept q.shared)
+
+-- a list without the thread's entry
+abbrev pub without : ℕ → List Waiter → List Waiter
+without t [] = []
+without t (w ∷ ws) = if t == w.thread then ws else w ∷ without t ws
+
+-- a list in which the thread's entry, where it has one, is inserted anew with the priority
+abbrev pub reinsert : ℕ → ℕ → List Waiter → List Waiter
+reinsert t p ws = if times_waiting t ws == 0 then ws else insert (record { thread = t; kept = p }) (without t ws)
+
+-- the same in both lists
+abbrev pub with_kept : ℕ → ℕ → Lists → Lists
+with_kept t p q = record { exclusive = reinsert t p q.exclusive; shared = reinsert t p q.shared }

@@ -1,0 +1,139 @@
+-- The steps of threads, one case per kind. A step asks its guard, and its effect is computed.
+use Rattle.std.specs.Prelude.{◌≡◌, ◌⊎◌, ℕ, ◌%◌, Bool, true, if◌then◌else◌, List, [], ◌∷◌, Option, Some, ⊤}
+use Rattle.lock_model.specs.State.{Config, State, Cause, Mark, Walk, NoWalk, AtLock, AtThread, start_state}
+use Rattle.lock_model.specs.Words.{is_turnstile}
+use Rattle.lock_model.specs.Moves.{MayLook, MayGain, MayDrop, MayStamp, MayReady, MayUnready, after_look, after_gain, after_drop, after_stamp, after_ready, after_unready}
+use Rattle.lock_model.specs.MovesOfQueues.{MayEnter, MayOpen, MayMark, MayResume, after_enter, after_open, after_mark, after_resume}
+use Rattle.lock_model.specs.MovesOfLoans.{MayClaim, MayLend, MayShift, MayEndWalk, after_claim, after_lend, after_shift, after_end_walk}
+use Rattle.lock_model.specs.MovesOfTurns.{Item, TurnstileChain, SleepChain, RecordOf, CellOf, item_with, MayTake, MayGive, after_take, after_give}
+use Rattle.lock_model.specs.declared.plan.Mode.{Mode}
+use Rattle.lock_model.specs.declared.plan.QueueName.{QueueName}
+use Rattle.lock_model.specs.declared.event.Event.{Event}
+use Rattle.lock_model.specs.declared.event.Event.TheVariants.{Set, Added, Got, Base, Shown, Sleeps, WokeOne, WokeAll}
+
+-- a step, with the thread that makes it first
+pub data Move : Type 0 where
+  Looks : ℕ → ℕ → Bool → Move
+  TakesTurn : ℕ → Item → Move
+  GivesTurn : ℕ → Item → Move
+  Gains : ℕ → ℕ → Mode → Move
+  Drops : ℕ → ℕ → Mode → Move
+  Stamps : ℕ → Event → Move
+  Readies : ℕ → Move
+  Unreadies : ℕ → Move
+  Enters : ℕ → ℕ → Mode → ℕ → Move
+  Opens : ℕ → ℕ → Mode → Move
+  Marks : ℕ → Mark → List Mark → Move
+  Resumes : ℕ → QueueName → Cause → Move
+  Claims : ℕ → ℕ → ℕ → Move
+  Lends : ℕ → ℕ → ℕ → ℕ → Move
+  Shifts : ℕ → ℕ → ℕ → Move
+  EndsWalk : ℕ → Move
+
+-- what a step asks of the state
+abbrev pub May : Config → State → Move → Type 0
+May c s (Looks t l in_round) = MayLook c s t l in_round
+May c s (TakesTurn t i) = MayTake c s t i
+May c s (GivesTurn t i) = MayGive c s t i
+May c s (Gains t l mode) = MayGain c s t l mode
+May c s (Drops t l mode) = MayDrop c s t l mode
+May c s (Stamps t e) = MayStamp c s t e
+May c s (Readies t) = MayReady c s t
+May c s (Unreadies t) = MayUnready c s t
+May c s (Enters t l mode x) = MayEnter c s t l mode x
+May c s (Opens t l mode) = MayOpen c s t l mode
+May c s (Marks t m ms) = MayMark c s t m ms
+May c s (Resumes t q cause) = MayResume c s t q cause
+May c s (Claims t l h) = MayClaim c s t l h
+May c s (Lends t l o h) = MayLend c s t l o h
+May c s (Shifts t o l) = MayShift c s t o l
+May c s (EndsWalk t) = MayEndWalk c s t
+
+-- what a step makes of the state
+abbrev pub after : Config → State → Move → State
+after c s (Looks t l in_round) = after_look s t l in_round
+after c s (TakesTurn t i) = after_take s t i
+after c s (GivesTurn t i) = after_give s i
+after c s (Gains t l mode) = after_gain s t l mode
+after c s (Drops t l mode) = after_drop s t l
+after c s (Stamps t e) = after_stamp c s t e
+after c s (Readies t) = after_ready s t
+after c s (Unreadies t) = after_unready s t
+after c s (Enters t l mode x) = after_enter s t l mode x
+after c s (Opens t l mode) = after_open c s t l
+after c s (Marks t m ms) = after_mark c s t m ms
+after c s (Resumes t q cause) = after_resume c s t q cause
+after c s (Claims t l h) = after_claim c s t l h
+after c s (Lends t l o h) = after_lend c s t l o h
+after c s (Shifts t o l) = after_shift s t o l
+after c s (EndsWalk t) = after_end_walk s t
+
+-- What must be out with a thread of a running floor while it makes a step of the kind: a lock's chain, a record, a cell or a sleep chain.
+
+-- the chain in which the lock's queue stands
+abbrev pub chain_of : Config → ℕ → Item
+chain_of c l = if is_turnstile (c.kind l) then TurnstileChain (l % c.chains) else SleepChain (l % c.chains)
+
+abbrev pub HasItem : State → ℕ → Item → Type 0
+HasItem s t i = item_with s i ≡ Some t
+
+abbrev pub HasSomeChain : State → ℕ → Type 0
+HasSomeChain s t = (k : ℕ) × (HasItem s t (TurnstileChain k) ⊎ HasItem s t (SleepChain k))
+
+-- a cell for an edit or a read, the own record for Base and Shown, the channel's chain for a sleep or a wake
+abbrev pub HasOutForEntry : Config → State → ℕ → Event → Type 0
+HasOutForEntry c s t (Set l k v) = HasItem s t (CellOf l.0 k)
+HasOutForEntry c s t (Added l k n) = HasItem s t (CellOf l.0 k)
+HasOutForEntry c s t (Got l k v) = HasItem s t (CellOf l.0 k)
+HasOutForEntry c s t (Base p) = HasItem s t (RecordOf t)
+HasOutForEntry c s t (Shown b e) = HasItem s t (RecordOf t)
+HasOutForEntry c s t (Sleeps d) = HasItem s t (SleepChain (d.0 % c.chains))
+HasOutForEntry c s t (WokeOne d woken) = HasItem s t (SleepChain (d.0 % c.chains))
+HasOutForEntry c s t (WokeAll d woken) = HasItem s t (SleepChain (d.0 % c.chains))
+HasOutForEntry c s t other = ⊤
+
+abbrev pub HasOutForEnd : Config → State → ℕ → Walk → Type 0
+HasOutForEnd c s t NoWalk = ⊤
+HasOutForEnd c s t (AtLock l) = HasItem s t (chain_of c l)
+HasOutForEnd c s t (AtThread o) = HasItem s t (RecordOf o)
+
+abbrev pub HasOut : Config → State → Move → Type 0
+HasOut c s (Looks t l in_round) = ⊤
+HasOut c s (TakesTurn t i) = ⊤
+HasOut c s (GivesTurn t i) = HasItem s t i
+HasOut c s (Gains t l mode) = ⊤
+HasOut c s (Drops t l mode) = ⊤
+HasOut c s (Stamps t e) = HasOutForEntry c s t e
+HasOut c s (Readies t) = HasSomeChain s t × HasItem s t (RecordOf t)
+HasOut c s (Unreadies t) = HasSomeChain s t × HasItem s t (RecordOf t)
+HasOut c s (Enters t l mode x) = HasItem s t (chain_of c l) × HasItem s t (RecordOf t)
+HasOut c s (Opens t l mode) = HasItem s t (chain_of c l) × HasItem s t (RecordOf t)
+HasOut c s (Marks t m ms) = HasItem s t (RecordOf m.thread)
+HasOut c s (Resumes t q cause) = ⊤
+HasOut c s (Claims t l h) = HasItem s t (chain_of c l) × HasItem s t (RecordOf t)
+HasOut c s (Lends t l o h) = HasItem s t (chain_of c l) × HasItem s t (RecordOf o)
+HasOut c s (Shifts t o l) = HasItem s t (chain_of c l) × HasItem s t (RecordOf o)
+HasOut c s (EndsWalk t) = HasOutForEnd c s t (s.walk t)
+
+-- n comes from s by one step
+abbrev pub Step : Config → State → State → Type 0
+Step c s n = (m : Move) × May c s m × (n ≡ after c s m)
+
+-- n comes from s by one step of a thread of a running floor
+abbrev pub FloorStep : Config → State → State → Type 0
+FloorStep c s n = (m : Move) × May c s m × HasOut c s m × (n ≡ after c s m)
+
+-- the states that steps reach from the start
+pub data IsReached (c : Config) : State → Type 0 where
+  begins : IsReached c (start_state c)
+  goes_on : {s n : State} → IsReached c s → Step c s n → IsReached c n
+
+-- the state after the steps of a list, made in order
+abbrev pub after_all : Config → State → List Move → State
+after_all c s [] = s
+after_all c s (m ∷ ms) = after_all c (after c s m) ms
+
+-- whether each step of a list may be made where it comes
+abbrev pub MayAll : Config → State → List Move → Type 0
+MayAll c s [] = ⊤
+MayAll c s (m ∷ ms) = May c s m × MayAll c (after c s m) ms
