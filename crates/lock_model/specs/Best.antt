@@ -1,5 +1,5 @@
 -- The best priority behind a thread, and cycles of waiting threads.
-use Rattle.std.specs.Prelude.{◌≡◌, ◌≢◌, ℕ, zero, suc, ◌<◌, Bool, true, false, ◌&&◌, nat_le, if◌then◌else◌, List, [], ◌∷◌, ◌++◌, Option, Some, None, ⊤}
+use Rattle.std.specs.Prelude.{◌≡◌, ◌≢◌, ℕ, zero, suc, ◌<◌, Bool, true, ◌&&◌, nat_le, if◌then◌else◌, List, [], ◌∷◌, ◌++◌, Some, None, ⊤}
 use Rattle.lock_model.specs.Counts.{any_below, least}
 use Rattle.lock_model.specs.Words.{is_turnstile}
 use Rattle.lock_model.specs.State.{Config, State, NotHeld, NoWalk}

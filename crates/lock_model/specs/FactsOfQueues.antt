@@ -1,12 +1,11 @@
 -- Facts of queues: where turnstiles, sleep queues and loan nodes are, heads and free lists, waiters' bits, and the order of lists.
 -- A fact reads the columns that it names, and no others, so that a step which leaves these alone keeps it.
-use Rattle.std.specs.Prelude.{◌≡◌, ℕ, ◌+◌, ◌<◌, ◌≤◌, Bool, true, false, not, ◌&&◌, ◌==◌, nat_lt, List, [], ◌∷◌, length, Option, Some, None, ⊤}
+use Rattle.std.specs.Prelude.{◌≡◌, ℕ, ◌+◌, ◌≤◌, Bool, true, false, not, ◌&&◌, ◌==◌, nat_lt, List, [], ◌∷◌, length, Option, Some, None, ⊤}
 use Rattle.lock_model.specs.Counts.{sum_below, one, some, at_option, times, is_empty}
 use Rattle.lock_model.specs.Words.{Word, is_turnstile}
-use Rattle.lock_model.specs.State.{Config, Waiter, Lists, Mark, Loan, is_queue}
+use Rattle.lock_model.specs.State.{Config, Waiter, Lists, Mark, Loan}
 use Rattle.lock_model.specs.Queues.{lock_queue, chan_queue, is_turnstile_queue, names_turnstile, names_sleep_queue, waiting}
-use Rattle.lock_model.specs.declared.plan.Kind.{Kind}
-use Rattle.lock_model.specs.declared.plan.Kind.TheVariants.{Mtx, Rw, Sx}
+use Rattle.lock_model.specs.declared.plan.Kind.TheVariants.{Mtx}
 use Rattle.lock_model.specs.declared.plan.QueueName.{QueueName}
 
 -- 1. Places

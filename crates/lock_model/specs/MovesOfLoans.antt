@@ -1,12 +1,11 @@
 -- Steps that lend priority: a claim, and the hops of a walk. What each asks of the state, and what it makes of it.
-use Rattle.std.specs.Prelude.{◌≡◌, ◌≢◌, ◌⊎◌, ℕ, ◌<◌, Bool, true, false, not, ◌&&◌, ◌==◌, if◌then◌else◌, Option, Some, None}
+use Rattle.std.specs.Prelude.{◌≡◌, ◌⊎◌, ℕ, ◌<◌, Bool, true, false, not, ◌&&◌, ◌==◌, Option, Some, None}
 use Rattle.lock_model.specs.Words.{is_free, is_turnstile, shows_waiters, claimed}
 use Rattle.lock_model.specs.Moves.{is_woken, effective_of}
-use Rattle.lock_model.specs.State.{Config, State, Hold, NotHeld, Holds, Walk, NoWalk, AtLock, AtThread, Loan, put, put_at, put_queue}
+use Rattle.lock_model.specs.State.{Config, State, NotHeld, Holds, Walk, NoWalk, AtLock, AtThread, Loan, put, put_at, put_queue}
 use Rattle.lock_model.specs.Queues.{lock_queue, names_turnstile, stands, least_of, with_kept}
 use Rattle.lock_model.specs.declared.plan.Kind.TheVariants.{Rw}
 use Rattle.lock_model.specs.declared.plan.Mode.TheVariants.{Excl}
-use Rattle.lock_model.specs.declared.plan.QueueName.{QueueName}
 
 -- the loan that the node of the turnstile h carries
 abbrev pub loan_of : ℕ → Option ℕ → Option Loan

@@ -1,16 +1,15 @@
 -- Steps that put a thread on a turnstile and take it off again: what each asks of the state, and what it makes of it.
 -- Sleep queues, of sx locks and channels, come as further cases.
-use Rattle.std.specs.Prelude.{◌≡◌, ◌≢◌, ◌⊎◌, ℕ, ◌<◌, Bool, true, false, if◌then◌else◌, List, [], ◌∷◌, Option, Some, None}
+use Rattle.std.specs.Prelude.{◌≡◌, ◌⊎◌, ℕ, ◌<◌, Bool, true, false, if◌then◌else◌, List, [], ◌∷◌, Option, Some, None}
 use Rattle.lock_model.specs.Words.{Holder, Free, HeldBy, SharedBy, admits, is_free, is_turnstile, without_one, shows_waiters, owner_of, entered, opened, side_woken}
 use Rattle.lock_model.specs.History.{open_in}
 use Rattle.lock_model.specs.Moves.{effective_of, after_ready}
 use Rattle.lock_model.specs.MovesOfTurns.{Item, item_with}
-use Rattle.lock_model.specs.State.{Config, State, Hold, NotHeld, Holds, Wait, Running, Queued, Woken, Cause, BySignal, ByAbort, Waiter, Lists, Mark, Walk, NoWalk, AtLock, AtThread, Note, IsHalted, Loan, put, put_at, put_queue}
+use Rattle.lock_model.specs.State.{Config, State, NotHeld, Holds, Running, Queued, Woken, Cause, BySignal, ByAbort, Waiter, Mark, Walk, NoWalk, AtLock, Note, IsHalted, Loan, put, put_at, put_queue}
 use Rattle.lock_model.specs.Queues.{lock_queue, is_turnstile_queue, side_of, list_of, with_list, insert, head_with, free_with, dealt, free_after, head_after}
-use Rattle.lock_model.specs.declared.plan.Kind.{Kind}
-use Rattle.lock_model.specs.declared.plan.Kind.TheVariants.{Mtx, Rw, Sx}
+use Rattle.lock_model.specs.declared.plan.Kind.TheVariants.{Mtx}
 use Rattle.lock_model.specs.declared.plan.Mode.{Mode}
-use Rattle.lock_model.specs.declared.plan.Mode.TheVariants.{Excl, Shared}
+use Rattle.lock_model.specs.declared.plan.Mode.TheVariants.{Excl}
 use Rattle.lock_model.specs.declared.plan.Side.{Side}
 use Rattle.lock_model.specs.declared.plan.QueueName.{QueueName}
 use Rattle.lock_model.specs.declared.plan.QueueName.TheVariants.{Lock, Chan}

@@ -1,5 +1,5 @@
 -- The steps of threads, one case per kind. A step asks its guard, and its effect is computed.
-use Rattle.std.specs.Prelude.{◌≡◌, ◌⊎◌, ℕ, ◌%◌, Bool, true, if◌then◌else◌, List, [], ◌∷◌, Option, Some, ⊤}
+use Rattle.std.specs.Prelude.{◌≡◌, ◌⊎◌, ℕ, ◌%◌, Bool, if◌then◌else◌, List, [], ◌∷◌, Some, ⊤}
 use Rattle.lock_model.specs.State.{Config, State, Cause, Mark, Walk, NoWalk, AtLock, AtThread, start_state}
 use Rattle.lock_model.specs.Words.{is_turnstile}
 use Rattle.lock_model.specs.Moves.{MayLook, MayGain, MayDrop, MayStamp, MayReady, MayUnready, after_look, after_gain, after_drop, after_stamp, after_ready, after_unready}
