@@ -10,6 +10,7 @@ use Rattle.lock_model.specs.FactsOfWords.{owns}
 unfoldable pub is_behind : Config → State → ℕ → ℕ → Bool
 is_behind c s u t = any_below c.locks (λ l. is_turnstile (c.kind l) && (owns t (s.word l).holder && nat_le 1 (stands u (s.lists (lock_queue l)))))
 
+-- u is behind t
 abbrev pub IsBehind : Config → State → ℕ → ℕ → Type 0
 IsBehind c s u t = is_behind c s u t ≡ true
 

@@ -76,6 +76,7 @@ pub record HeadFits (lists : Lists) (free : List ℕ) (head owner : Option ℕ) 
   pub no_free : head ≡ None → free ≡ []
   pub no_owner : head ≡ None → owner ≡ None
 
+-- that of each queue
 unfoldable pub HeadsFitWaiters : (QueueName → Lists) → (QueueName → List ℕ) → (QueueName → Option ℕ) → (QueueName → Option ℕ) → Type 0
 HeadsFitWaiters lists free_list head owner = (q : QueueName) → HeadFits (lists q) (free_list q) (head q) (owner q)
 
@@ -86,11 +87,13 @@ pub record ShowsItsWaiters (w : Word) (lists : Lists) : Type 0 where
   pub exclusive : w.exclusive_waiters ≡ not (is_empty lists.exclusive)
   pub shared : w.shared_waiters ≡ not (is_empty lists.shared)
 
+-- that of each lock
 unfoldable pub BitsShowWaiters : (ℕ → Word) → (QueueName → Lists) → Type 0
 BitsShowWaiters word lists = (l : ℕ) → ShowsItsWaiters (word l) (lists (lock_queue l))
 
 -- 4. Lists
 
+-- kept priorities ascend from the front
 abbrev pub Ascends : List Waiter → Type 0
 Ascends [] = ⊤
 Ascends (w ∷ []) = ⊤

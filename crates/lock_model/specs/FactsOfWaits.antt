@@ -60,6 +60,7 @@ WokenIsUncalled wait called = (t : ℕ) → is_woken (wait t) ≡ true → calle
 
 -- 3. Calling
 
+-- whether a waiter was taken off by a signal
 abbrev pub is_signal : Cause → Bool
 is_signal BySignal = true
 is_signal ByAbort = false
