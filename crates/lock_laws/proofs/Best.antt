@@ -1,20 +1,18 @@
 -- Where no walk is under way and nobody waits in a cycle, each effective priority is the best behind it.
-use Rattle.std.proofs.Common.{◌≡◌, ◌≢◌, ℕ, zero, suc, ◌+◌, ◌<◌, ◌≤◌, Bool, true, false, cond, eqb, leb, min, List, [], ◌∷◌, ◌++◌, length, Option, Some, None, refl, sym, ap, inl, inr, arith, eq-eqb, ◌∙◌, ◌&&◌, ◌||◌, append_assoc, subst}
-use Rattle.std.proofs.lemmas.Bool.{eqb-true, ne_eqb, cases_eq, cases_Bool, leb-true, le-leb, or_cases, and_parts, and_from}
+use Rattle.std.proofs.Common.{◌≡◌, ℕ, zero, suc, ◌<◌, ◌≤◌, Bool, true, false, cond, eqb, leb, min, List, [], ◌∷◌, ◌++◌, length, Option, Some, None, refl, sym, ap, inl, inr, arith, eq-eqb, ◌∙◌, ◌&&◌, append_assoc, subst}
+use Rattle.std.proofs.lemmas.Bool.{ne_eqb, cases_eq, cases_Bool, leb-true, le-leb, or_cases, and_parts}
 use Rattle.std.proofs.lemmas.Map.Steps.{length-le_from_distinct_below}
 use Rattle.std.specs.List.{IsDistinct, AllByRecursion, list_any}
 use Rattle.lock_model.specs.Counts.{any_below, least, lower, some}
-use Rattle.lock_model.specs.Words.{Holder, Free, HeldBy, SharedBy, is_turnstile, owner_of}
-use Rattle.lock_model.specs.State.{State, Config, Waiter, Lists, Loan, Hold, NotHeld, Holds}
+use Rattle.lock_model.specs.Words.{is_turnstile}
+use Rattle.lock_model.specs.State.{State, Config, Waiter, Lists, Loan, NotHeld, Holds}
 use Rattle.lock_model.specs.Moves.{prio_of}
-use Rattle.lock_model.specs.Queues.{lock_queue, times_waiting, stands, waiting, least_kept, least_of_two, least_of}
+use Rattle.lock_model.specs.Queues.{lock_queue, times_waiting, stands, least_kept, least_of_two, least_of}
 use Rattle.lock_model.specs.Facts.{Lawful, KeptIsEffective, LoansAreLeast, LoansAreWithOwners, OwnersHold, HeadsFitWaiters, EffectiveIsLeast, StandsOnce, OnlyThreadsStand, StandingWants, WordsMatchHolders}
 use Rattle.lock_model.specs.FactsOfWords.{owns}
-use Rattle.lock_model.specs.FactsOfLoans.{Each, EachOf, IsKept, owner_if, walks_at_lock, walks_at_thread, at_lock, at_thread}
-use Rattle.lock_model.specs.Best.{is_behind, IsBehind, best_within, best_behind, WaitsFor, WaitsAlong, HasCycle, NobodyWalks}
-use Rattle.lock_model.specs.declared.plan.Mode.{Mode}
-use Rattle.lock_model.specs.declared.plan.Mode.TheVariants.{Excl, Shared}
-use Rattle.lock_model.specs.declared.plan.QueueName.{QueueName}
+use Rattle.lock_model.specs.FactsOfLoans.{Each, EachOf, IsKept, walks_at_lock, walks_at_thread, at_lock, at_thread}
+use Rattle.lock_model.specs.Best.{is_behind, best_within, best_behind, WaitsFor, WaitsAlong, HasCycle, NobodyWalks}
+use Rattle.lock_model.specs.declared.plan.Mode.TheVariants.{Excl}
 use Rattle.lock_laws.proofs.Kit.{at_queue_one, sum_below-zero}
 use Rattle.lock_laws.proofs.Lending.{least-le_base}
 use Rattle.lock_laws.proofs.Shown.{true-any_below, owner_from, owner-owns, exclusive_is}

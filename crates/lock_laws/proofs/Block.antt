@@ -1,11 +1,10 @@
 -- A thread that is made ready and enters in one turn keeps each fact.
-use Rattle.std.proofs.Common.{◌≡◌, ℕ, Option, Some, None, refl, sym, ap, inl, inr, ◌∙◌, subst}
-use Rattle.std.proofs.lemmas.Bool.{cases_eq}
+use Rattle.std.proofs.Common.{◌≡◌, ℕ, Option, Some, None, refl, sym, ◌∙◌, subst}
 use Rattle.lock_model.specs.State.{Config, State, Queued, put}
 use Rattle.lock_model.specs.Queues.{lock_queue}
 use Rattle.lock_model.specs.Moves.{MayReady, after_ready}
 use Rattle.lock_model.specs.MovesOfQueues.{MayBlock, MayEnter, after_enter, after_block}
-use Rattle.lock_model.specs.MovesOfTurns.{Item, RecordOf, MayTake, MayGive, after_take, after_give, item_with}
+use Rattle.lock_model.specs.MovesOfTurns.{RecordOf, MayTake, MayGive, after_take, after_give}
 use Rattle.lock_model.specs.Facts.{Lawful, StandingIsQueued}
 use Rattle.lock_model.specs.declared.plan.Mode.{Mode}
 use Rattle.lock_model.specs.declared.plan.QueueName.{QueueName}

@@ -1,10 +1,9 @@
 -- A claim keeps each fact.
-use Rattle.std.proofs.Common.{◌≡◌, ℕ, ◌+◌, ◌<◌, ◌≤◌, Bool, true, false, Option, Some, None, refl, sym, ap, inl, inr, arith, eq-eqb, ◌∙◌}
+use Rattle.std.proofs.Common.{◌≡◌, ℕ, Bool, true, false, Option, Some, None, refl, sym, ap, inl, inr, arith, ◌∙◌}
 use Rattle.std.proofs.lemmas.Bool.{cases_eq}
 use Rattle.lock_model.specs.Counts.{at_option}
-use Rattle.lock_model.specs.Words.{Free, HeldBy, is_turnstile, owner_of, claimed}
-use Rattle.lock_model.specs.State.{State, Config, Waiter, Loan, NotHeld, Holds, put, put_at, put_queue}
-use Rattle.lock_model.specs.Moves.{prio_of}
+use Rattle.lock_model.specs.Words.{Free, HeldBy, is_turnstile, claimed}
+use Rattle.lock_model.specs.State.{State, Config, Loan, Holds, put_at, put_queue}
 use Rattle.lock_model.specs.MovesOfLoans.{MayClaim, after_claim, loan_of}
 use Rattle.lock_model.specs.Queues.{lock_queue, chan_queue, stands, least_of}
 use Rattle.lock_model.specs.Facts.{Lawful, OneNodeEach, HeadsFitWaiters, BitsShowWaiters, StandsOnce, StandingWants, WokenWants, CalledWants, StandingIsUncalled, WokenIsUncalled, FreeWordHasCalled, FreeMutexShowsNone, WordsMatchHolders, OnlyThreadsHold, EffectiveIsLeast, OwnersHold, ChannelsHaveNoOwner, LoansAreLeast, LoansAreWithOwners, LoansAreOnHeads, KeptIsEffective, EffectiveIsKnown, LoansAreKnown, KeptIsKnown, SectionsAreHeld}

@@ -8,7 +8,6 @@ use Rattle.lock_model.specs.History.{value_at}
 use Rattle.lock_model.specs.Facts.{Lawful, BitsShowWaiters, StandsOnce, StandingIsQueued, StandingWants, LoansAreOnHeads, TablesReplay}
 use Rattle.lock_model.specs.FactsOfWaits.{at_queue}
 use Rattle.lock_model.specs.Best.{best_behind, HasCycle, NobodyWalks}
-use Rattle.lock_model.specs.declared.plan.Mode.{Mode}
 use Rattle.lock_model.specs.declared.plan.Mode.TheVariants.{Excl}
 use Rattle.lock_model.specs.declared.plan.QueueName.{QueueName}
 use Rattle.lock_laws.proofs.Kit.{at_queue_one}

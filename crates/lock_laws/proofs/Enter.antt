@@ -1,11 +1,11 @@
 -- An enter keeps each fact.
-use Rattle.std.proofs.Common.{◌≡◌, ℕ, ◌+◌, ◌<◌, ◌≤◌, Bool, true, false, not, eqb, List, [], Option, Some, None, refl, sym, ap, inl, inr, arith, ◌∙◌}
+use Rattle.std.proofs.Common.{◌≡◌, ℕ, ◌+◌, ◌≤◌, Bool, true, false, not, eqb, List, Option, Some, None, refl, sym, ap, inl, inr, arith, ◌∙◌}
 use Rattle.std.proofs.lemmas.Bool.{cases_eq}
-use Rattle.lock_model.specs.Counts.{one, some, times, at_option, sum_below}
-use Rattle.lock_model.specs.Words.{Holder, Free, HeldBy, SharedBy, is_turnstile, owner_of, entered}
+use Rattle.lock_model.specs.Counts.{one, times, at_option, sum_below}
+use Rattle.lock_model.specs.Words.{Holder, Free, HeldBy, SharedBy, is_turnstile, entered}
 use Rattle.lock_model.specs.State.{State, Config, Waiter, Lists, put_queue}
 use Rattle.lock_model.specs.MovesOfQueues.{MayEnter, after_enter, walk_in, owner_with}
-use Rattle.lock_model.specs.Queues.{lock_queue, chan_queue, is_turnstile_queue, side_of, list_of, with_list, stands, waiting, insert, head_with, free_with}
+use Rattle.lock_model.specs.Queues.{lock_queue, chan_queue, side_of, list_of, with_list, stands, insert, head_with, free_with}
 use Rattle.lock_model.specs.Facts.{Lawful, OneTurnstileEach, OneSleepQueueEach, TurnstileIsLent, SleepQueueIsLent, HeadsFitWaiters, BitsShowWaiters, ListsAscend, MutexWaitersAreExclusive, StandsOnce, OnlyThreadsStand, StandingIsQueued, QueuedHasRecord, StandingWants, WokenWants, CalledWants, StandingIsUncalled, WokenIsUncalled, FreeWordHasCalled, FreeMutexShowsNone, WordsMatchHolders, OwnersHold, ChannelsHaveNoOwner, LoansAreLeast, LoansAreWithOwners, LoansAreOnHeads, KeptIsEffective, EffectiveIsKnown, KeptIsKnown}
 use Rattle.lock_model.specs.FactsOfQueues.{only, turnstile_places, sleep_queue_places, HeadFits}
 use Rattle.lock_model.specs.FactsOfWaits.{callers, times_marked, at_queue}

@@ -1,18 +1,17 @@
 -- A hop of a walk at a lock keeps each fact.
-use Rattle.std.proofs.Common.{◌≡◌, ℕ, ◌+◌, ◌<◌, ◌≤◌, Bool, true, false, not, eqb, ◌&&◌, Option, Some, None, refl, sym, ap, inl, inr, arith, ◌∙◌}
+use Rattle.std.proofs.Common.{◌≡◌, ℕ, ◌<◌, ◌≤◌, Bool, true, false, not, eqb, ◌&&◌, Option, Some, refl, sym, ap, inl, inr, arith, ◌∙◌}
 use Rattle.std.proofs.lemmas.Bool.{cases_eq, ne_eqb}
 use Rattle.lock_model.specs.Counts.{one}
-use Rattle.lock_model.specs.Words.{is_turnstile, owner_of}
-use Rattle.lock_model.specs.State.{State, Config, Waiter, Loan, Holds, Walk, put, put_at}
-use Rattle.lock_model.specs.Moves.{prio_of, effective_of}
+use Rattle.lock_model.specs.Words.{is_turnstile}
+use Rattle.lock_model.specs.State.{State, Config, Waiter, Loan, Holds, put, put_at}
+use Rattle.lock_model.specs.Moves.{effective_of}
 use Rattle.lock_model.specs.MovesOfLoans.{MayLend, after_lend, loan_of, walk_to}
 use Rattle.lock_model.specs.Queues.{lock_queue, names_turnstile, stands, least_of}
 use Rattle.lock_model.specs.Facts.{Lawful, OneNodeEach, StandsOnce, WordsMatchHolders, OnlyThreadsHold, EffectiveIsLeast, OwnersHold, LoansAreLeast, LoansAreWithOwners, LoansAreOnHeads, KeptIsEffective, EffectiveIsKnown, LoansAreKnown, KeptIsKnown}
-use Rattle.lock_model.specs.FactsOfWaits.{at_queue}
 use Rattle.lock_model.specs.FactsOfLoans.{IsKept, IsKnown, walks_at_lock, walks_at_thread, at_lock, at_thread}
 use Rattle.lock_model.specs.declared.plan.Mode.TheVariants.{Excl}
 use Rattle.lock_model.specs.declared.plan.QueueName.{QueueName}
-use Rattle.lock_laws.proofs.Kit.{columns, put_same, put_other, put_at_same, put_at_other, put_at_beside, sum_below-put, at_queue_one, one_same}
+use Rattle.lock_laws.proofs.Kit.{columns, put_at_same, put_at_other, put_at_beside, sum_below-put, at_queue_one}
 use Rattle.lock_laws.proofs.Lending.{each_of-map, effective-put}
 use Rattle.lock_laws.proofs.Shown.{owner_from, owner-owns, exclusive_is}
 use Rattle.lock_laws.proofs.Nodes.{prio_loan_of, number_loan_of, loan_of_known, node_lent, loan_known, changed_known}

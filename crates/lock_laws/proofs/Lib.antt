@@ -27,3 +27,5 @@ pub mod Block
 pub mod Rows
 mod Guards
 pub mod Props
+pub mod Sleepers
+pub mod EnterSleep

@@ -1,14 +1,13 @@
 -- A mark keeps each fact.
-use Rattle.std.proofs.Common.{◌≡◌, ℕ, ◌+◌, ◌<◌, ◌≤◌, Bool, true, false, not, cond, eqb, nat_lt, ◌&&◌, List, [], ◌∷◌, Option, Some, None, refl, sym, ap, inl, inr, arith, eq-eqb, ◌∙◌}
+use Rattle.std.proofs.Common.{◌≡◌, ℕ, ◌+◌, ◌<◌, Bool, true, false, not, cond, eqb, nat_lt, ◌&&◌, List, Option, Some, None, refl, ap, inl, inr, arith, eq-eqb, ◌∙◌}
 use Rattle.std.proofs.lemmas.Bool.{cases_eq}
-use Rattle.lock_model.specs.Counts.{one, some, at_option, sum_below}
-use Rattle.lock_model.specs.State.{State, Config, Wait, Queued, Woken, Mark, put, is_queue}
+use Rattle.lock_model.specs.Counts.{one, some, at_option}
+use Rattle.lock_model.specs.State.{State, Config, Woken, Mark, put, is_queue}
 use Rattle.lock_model.specs.MovesOfQueues.{MayMark, after_mark}
 use Rattle.lock_model.specs.Queues.{is_turnstile_queue, names_turnstile, names_sleep_queue}
 use Rattle.lock_model.specs.Facts.{Lawful, OneTurnstileEach, OneSleepQueueEach, TurnstileIsLent, SleepQueueIsLent, StandsOnce, OnlyThreadsStand, StandingIsQueued, QueuedHasRecord, StandingWants, WokenWants, StandingIsUncalled, WokenIsUncalled, FreeWordHasCalled}
 use Rattle.lock_model.specs.FactsOfQueues.{turnstile_places, sleep_queue_places, times_object}
 use Rattle.lock_model.specs.FactsOfWaits.{callers, calls_marked, calls_woken, times_marked}
-use Rattle.lock_model.specs.declared.plan.QueueName.{QueueName}
 use Rattle.lock_laws.proofs.Kit.{columns, put_same, put_other, sum_below-put, sum_below-at, is_queue_same, at_queue_one}
 
 no_object : (o : Option ℕ) (b : Bool) → b ≡ true → some o + one b ≡ 1 → o ≡ None

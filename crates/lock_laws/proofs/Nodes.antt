@@ -1,7 +1,7 @@
 -- Laws of loan nodes and of known priorities, where one loan is changed.
 use Rattle.std.proofs.Common.{◌≡◌, ℕ, ◌+◌, ◌<◌, ◌≤◌, Bool, true, false, ◌&&◌, eqb, ltb, min, List, [], ◌∷◌, length, Option, Some, None, refl, sym, ap, inl, inr, arith, ◌∙◌, subst}
 use Rattle.std.proofs.lemmas.Bool.{ne_eqb, cases_eq}
-use Rattle.lock_model.specs.Counts.{one, some, at_option, sum_below, least, lower}
+use Rattle.lock_model.specs.Counts.{one, some, at_option, sum_below, lower}
 use Rattle.lock_model.specs.Words.{is_turnstile}
 use Rattle.lock_model.specs.State.{Config, State, Waiter, Lists, Loan, put, put_at}
 use Rattle.lock_model.specs.Moves.{effective_of, prio_of}

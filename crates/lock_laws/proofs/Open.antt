@@ -1,12 +1,11 @@
 -- An open keeps each fact.
-use Rattle.std.proofs.Common.{◌≡◌, ℕ, ◌+◌, ◌<◌, ◌≤◌, Bool, true, false, not, eqb, List, [], length, Option, Some, None, refl, sym, ap, inl, inr, arith, ◌∙◌}
+use Rattle.std.proofs.Common.{◌≡◌, ℕ, ◌+◌, ◌≤◌, Bool, true, false, not, List, [], length, Option, Some, None, refl, sym, ap, inl, inr, arith, ◌∙◌}
 use Rattle.std.proofs.lemmas.Bool.{cases_eq, ne_eqb}
 use Rattle.lock_model.specs.Counts.{one, some, times, at_option, sum_below, is_empty}
-use Rattle.lock_model.specs.Words.{Word, Holder, Free, HeldBy, SharedBy, is_turnstile, shows_waiters, without_one, opened, unshown, side_woken}
-use Rattle.lock_model.specs.State.{State, Config, Waiter, Lists, Loan, Mark, Hold, NotHeld, Holds, put, put_at, put_queue}
+use Rattle.lock_model.specs.Words.{Word, Free, is_turnstile, shows_waiters, without_one, opened, unshown, side_woken}
+use Rattle.lock_model.specs.State.{State, Config, Waiter, Lists, Loan, Mark, NotHeld, put, put_at, put_queue}
 use Rattle.lock_model.specs.MovesOfQueues.{MayOpen, after_open}
-use Rattle.lock_model.specs.Moves.{effective_of}
-use Rattle.lock_model.specs.Queues.{lock_queue, chan_queue, list_of, with_list, stands, waiting, dealt, free_after, head_after}
+use Rattle.lock_model.specs.Queues.{lock_queue, chan_queue, list_of, with_list, stands, dealt, free_after, head_after}
 use Rattle.lock_model.specs.Facts.{Lawful, OneTurnstileEach, OneSleepQueueEach, OneNodeEach, HeadsFitWaiters, BitsShowWaiters, ListsAscend, MutexWaitersAreExclusive, StandsOnce, FreeWordHasCalled, FreeMutexShowsNone, WordsMatchHolders, OnlyThreadsHold, EffectiveIsLeast, OwnersHold, ChannelsHaveNoOwner, LoansAreLeast, LoansAreWithOwners, LoansAreOnHeads, KeptIsEffective, EffectiveIsKnown, LoansAreKnown, KeptIsKnown, SectionsAreHeld}
 use Rattle.lock_model.specs.FactsOfQueues.{only, times_object, turnstile_places, sleep_queue_places, HeadFits, ShowsItsWaiters}
 use Rattle.lock_model.specs.FactsOfWaits.{callers, calls_marked, times_marked, at_queue}
@@ -18,7 +17,7 @@ use Rattle.lock_model.specs.declared.plan.Side.{Side}
 use Rattle.lock_model.specs.declared.plan.Side.TheVariants.{X, S}
 use Rattle.lock_model.specs.declared.plan.QueueName.{QueueName}
 use Rattle.lock_model.specs.declared.plan.QueueName.TheVariants.{Lock, Chan}
-use Rattle.lock_laws.proofs.Kit.{columns, put_same, put_other, put_at_same, put_at_other, put_at_beside, put_lock_same, put_lock_other, sum_below-put, sum_below-put_lock, at_put, at_put_lock, each_queue}
+use Rattle.lock_laws.proofs.Kit.{columns, put_same, put_other, put_at_same, put_at_other, put_at_beside, put_lock_same, put_lock_other, sum_below-put, sum_below-put_lock, at_put_lock, each_queue}
 use Rattle.lock_laws.proofs.Words.{free_is, all_match-put, matches-drop}
 use Rattle.lock_laws.proofs.Queues.{stands-less, waiting-less, turnstiles-dealt, sleep_queues-dealt, times_marked-dealt, times_marked-elsewhere, calls-dealt, length-after, headless-after}
 use Rattle.lock_laws.proofs.Lending.{each_of-elsewhere, each_of-less, effective-put}

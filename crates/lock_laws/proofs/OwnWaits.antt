@@ -1,5 +1,5 @@
 -- Looks, and the steps on a thread's own wait word that put it on no queue, keep each fact.
-use Rattle.std.proofs.Common.{◌≡◌, ℕ, Bool, None, arith, ap}
+use Rattle.std.proofs.Common.{ℕ, Bool, arith, ap}
 use Rattle.lock_model.specs.State.{State, Config, Running, Queued}
 use Rattle.lock_model.specs.Moves.{MayLook, MayReady, MayUnready, after_look, after_ready, after_unready}
 use Rattle.lock_model.specs.Facts.{Lawful, StandingIsQueued, QueuedHasRecord, WokenWants, WokenIsUncalled, FreeWordHasCalled}

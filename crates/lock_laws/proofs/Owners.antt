@@ -1,16 +1,15 @@
 -- Laws of the owners of turnstiles: what a word's new holder means for them.
-use Rattle.std.proofs.Common.{◌≡◌, ℕ, ◌+◌, Bool, true, false, not, ◌||◌, List, [], ◌∷◌, length, Option, Some, None, refl, sym, ap, arith, ◌∙◌}
-use Rattle.lock_model.specs.Counts.{some, is_empty}
-use Rattle.lock_model.specs.Words.{Word, Holder, Free, HeldBy, SharedBy, sharers, is_free, is_owned, admits, is_plain, is_drop, gained, dropped, without_one, shows_waiters, is_turnstile, owner_of}
+use Rattle.std.proofs.Common.{◌≡◌, ℕ, ◌+◌, Bool, true, false, not, ◌||◌, List, [], ◌∷◌, length, Option, Some, None, refl, arith}
+use Rattle.lock_model.specs.Counts.{is_empty}
+use Rattle.lock_model.specs.Words.{Word, Holder, Free, HeldBy, SharedBy, is_owned, admits, is_plain, is_drop, gained, dropped, without_one, shows_waiters, is_turnstile, owner_of}
 use Rattle.lock_model.specs.State.{Lists, Waiter}
-use Rattle.lock_model.specs.Queues.{waiting}
 use Rattle.lock_model.specs.FactsOfQueues.{ShowsItsWaiters, HeadFits}
 use Rattle.lock_model.specs.FactsOfLoans.{owner_if}
 use Rattle.lock_model.specs.declared.plan.Kind.{Kind}
 use Rattle.lock_model.specs.declared.plan.Kind.TheVariants.{Mtx, Rw, Sx}
 use Rattle.lock_model.specs.declared.plan.Mode.{Mode}
 use Rattle.lock_model.specs.declared.plan.Mode.TheVariants.{Excl, Shared}
-use Rattle.lock_laws.proofs.Words.{free_is, admits_unowned}
+use Rattle.lock_laws.proofs.Words.{admits_unowned}
 
 -- where a head stands waiters are shown
 pub head_shows : (w : Word) (q : Lists) (xs : List ℕ) (x : ℕ) (o : Option ℕ) → ShowsItsWaiters w q → HeadFits q xs (Some x) o → shows_waiters w ≡ true

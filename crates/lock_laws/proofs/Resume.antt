@@ -1,8 +1,8 @@
 -- A resume keeps each fact.
-use Rattle.std.proofs.Common.{◌≡◌, ℕ, ◌+◌, ◌<◌, ◌≤◌, Bool, true, false, cond, eqb, Option, Some, None, refl, sym, ap, inl, inr, arith, ◌∙◌}
+use Rattle.std.proofs.Common.{◌≡◌, ℕ, ◌+◌, ◌≤◌, Option, Some, None, sym, ap, inl, inr, arith, ◌∙◌}
 use Rattle.std.proofs.lemmas.Bool.{cases_eq}
-use Rattle.lock_model.specs.Counts.{one, at_option, sum_below}
-use Rattle.lock_model.specs.State.{State, Config, Wait, Running, Queued, Woken, Cause, BySignal, ByAbort, put}
+use Rattle.lock_model.specs.Counts.{at_option}
+use Rattle.lock_model.specs.State.{State, Config, Running, Woken, Cause, BySignal, ByAbort, put}
 use Rattle.lock_model.specs.Moves.{is_woken}
 use Rattle.lock_model.specs.MovesOfQueues.{MayResume, after_resume, called_after, wanted_after, is_taking_back}
 use Rattle.lock_model.specs.Facts.{Lawful, StandingIsQueued, QueuedHasRecord, StandingWants, WokenWants, CalledWants, StandingIsUncalled, WokenIsUncalled, FreeWordHasCalled}

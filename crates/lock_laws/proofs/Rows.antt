@@ -1,16 +1,15 @@
 -- Worked runs, replayed on the definitions: what queues, records and words hold after the steps is what the runs print.
 -- Locks, threads and turnstiles are numbered in the order of their declaration, and a turnstile has the number of its thread.
-use Rattle.std.proofs.Common.{◌≡◌, ℕ, zero, suc, Bool, true, false, cond, List, [], ◌∷◌, ◌++◌, length, Option, Some, None, refl}
+use Rattle.std.proofs.Common.{◌≡◌, ℕ, zero, suc, true, false, List, [], ◌∷◌, ◌++◌, length, Some, None, refl}
 use Rattle.lock_model.specs.Counts.{sum_below, least}
 use Rattle.lock_model.specs.Words.{word_of, bits_of}
-use Rattle.lock_model.specs.State.{Config, State, Waiter, Mark, BySignal, NoWalk, AtLock, AtThread, start_state, put, put_at, put_queue}
-use Rattle.lock_model.specs.History.{sections_in}
+use Rattle.lock_model.specs.State.{Config, State, Waiter, Mark, BySignal, NoWalk, AtThread, start_state, put, put_at, put_queue}
 use Rattle.lock_model.specs.Queues.{lock_queue, stands}
-use Rattle.lock_model.specs.Moves.{after_look, after_gain, after_drop, after_stamp, after_ready, after_unready}
+use Rattle.lock_model.specs.Moves.{after_look, after_gain, after_drop, after_stamp, after_ready}
 use Rattle.lock_model.specs.MovesOfQueues.{after_enter, after_open, after_mark, after_resume}
 use Rattle.lock_model.specs.MovesOfLoans.{after_claim, after_lend, after_shift, after_end_walk}
 use Rattle.lock_model.specs.MovesOfTurns.{RecordOf, after_take, after_give}
-use Rattle.lock_model.specs.Steps.{Move, Looks, TakesTurn, GivesTurn, Gains, Drops, Stamps, Readies, Enters, Opens, Marks, Resumes, Claims, Lends, Shifts, EndsWalk, after_all}
+use Rattle.lock_model.specs.Steps.{Move, Looks, TakesTurn, GivesTurn, Gains, Stamps, Readies, Enters, Opens, Marks, Resumes, Claims, Lends, Shifts, after_all}
 use Rattle.lock_model.specs.declared.plan.Kind.{Kind}
 use Rattle.lock_model.specs.declared.plan.Kind.TheVariants.{Mtx, Rw}
 use Rattle.lock_model.specs.declared.plan.Mode.{Mode}

@@ -1,16 +1,14 @@
 -- Laws of sections: who has one open holds the lock, and no two that exclude each other are open.
-use Rattle.std.proofs.Common.{◌≡◌, ◌≢◌, ℕ, ◌+◌, ◌<◌, ◌≤◌, Bool, true, false, cond, eqb, List, ◌∷◌, Option, Some, None, refl, sym, ap, inl, inr, arith, ◌∙◌}
-use Rattle.std.proofs.lemmas.Bool.{cases_eq}
-use Rattle.lock_model.specs.Words.{Word, Holder, Free, HeldBy, SharedBy, sharers}
+use Rattle.std.proofs.Common.{◌≡◌, ℕ, Bool, true, false, cond, refl, sym, ap, arith, ◌∙◌}
+use Rattle.lock_model.specs.Words.{sharers}
 use Rattle.lock_model.specs.State.{Config, State, Hold, NotHeld, Holds}
-use Rattle.lock_model.specs.History.{Sections, sections_in, sections_by, open_in, left_in, begun_by, ends, replaced, sleeps_with, IsAlone, IsInSection, IsReplayed, value_at}
-use Rattle.lock_model.specs.Moves.{Asks, Begins, SawBusy, ShowsOwn}
+use Rattle.lock_model.specs.History.{sections_in, sections_by, open_in, left_in, begun_by, ends, replaced, IsAlone, IsInSection, IsReplayed}
+use Rattle.lock_model.specs.Moves.{Asks}
 use Rattle.lock_model.specs.Facts.{Lawful, SectionsAreHeld, OnlyThreadsHold, TablesReplay}
 use Rattle.lock_model.specs.declared.plan.Mode.{Mode}
 use Rattle.lock_model.specs.declared.plan.Mode.TheVariants.{Excl, Shared}
 use Rattle.lock_model.specs.declared.event.Event.{Event}
-use Rattle.lock_model.specs.declared.event.Event.TheVariants.{Locked, Tried, Busy, Unlocked, Set, Added, Got, Base, Shown, Sleeps, Woke, HaltedChan, HaltedLock, WokeOne, WokeAll, Reversed}
-use Rattle.lock_model.specs.declared.event.Entry.{Entry}
+use Rattle.lock_model.specs.declared.event.Event.TheVariants.{Locked, Tried, Set, Added, Got, Woke, HaltedChan}
 use Rattle.lock_laws.proofs.Words.{owner_is, has_sharer}
 
 module _ (c : Config) (s : State) (h : Lawful c s) where

@@ -1,11 +1,11 @@
 -- Laws of priorities that are known, and of those that a thread shows.
-use Rattle.std.proofs.Common.{◌≡◌, ◌≢◌, ℕ, zero, suc, ◌+◌, ◌<◌, ◌≤◌, Bool, true, false, cond, eqb, ◌&&◌, ◌||◌, List, [], ◌∷◌, Option, Some, None, refl, sym, ap, inl, inr, arith, eq-eqb, ◌∙◌, subst}
-use Rattle.std.proofs.lemmas.Bool.{cases_eq, cases_Bool}
-use Rattle.lock_model.specs.Counts.{any_below, least, lower}
-use Rattle.lock_model.specs.Words.{Word, Holder, Free, HeldBy, SharedBy, is_turnstile, owner_of}
+use Rattle.std.proofs.Common.{◌≡◌, ℕ, zero, suc, ◌<◌, Bool, true, false, cond, eqb, ◌&&◌, ◌||◌, List, [], ◌∷◌, Option, Some, None, refl, sym, ap, inl, inr, arith, eq-eqb, ◌∙◌, subst}
+use Rattle.std.proofs.lemmas.Bool.{cases_eq}
+use Rattle.lock_model.specs.Counts.{any_below}
+use Rattle.lock_model.specs.Words.{Holder, Free, HeldBy, SharedBy, is_turnstile, owner_of}
 use Rattle.lock_model.specs.State.{Config, State, Loan, Hold, NotHeld, Holds}
-use Rattle.lock_model.specs.History.{is_known, has_base, sets_base, base_in, base_by, open_in, owns_in, is_exclusive, IsExplained, IsShown}
-use Rattle.lock_model.specs.Moves.{Asks, ShowsOwn, prio_of, effective_of, base_after}
+use Rattle.lock_model.specs.History.{has_base, sets_base, base_in, base_by, open_in, owns_in, is_exclusive, IsShown}
+use Rattle.lock_model.specs.Moves.{Asks, prio_of}
 use Rattle.lock_model.specs.Queues.{lock_queue}
 use Rattle.lock_model.specs.Facts.{Lawful, BasesReplay, EffectiveIsLeast, EffectiveIsKnown, LoansAreWithOwners, OwnersHold, WordsMatchHolders}
 use Rattle.lock_model.specs.FactsOfWords.{owns}

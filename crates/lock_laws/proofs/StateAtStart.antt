@@ -1,7 +1,7 @@
 -- The state at the start of a plan is lawful.
-use Rattle.std.proofs.Common.{◌≡◌, ℕ, zero, suc, ◌+◌, ◌<◌, Bool, true, false, ◌&&◌, not, eqb, ltb, [], Option, Some, None, refl, sym, ap, arith, inl, inr, eq-eqb}
+use Rattle.std.proofs.Common.{◌≡◌, ℕ, zero, suc, ◌+◌, Bool, true, false, ◌&&◌, not, eqb, ltb, [], Some, None, refl, sym, arith, inl, inr, eq-eqb}
 use Rattle.std.proofs.lemmas.Bool.{ne_eqb, cases_eq, cases_lt, lt-ltb, le-ltb}
-use Rattle.lock_model.specs.Counts.{sum_below, one, least, at_option}
+use Rattle.lock_model.specs.Counts.{sum_below, one, least}
 use Rattle.lock_model.specs.Words.{is_turnstile}
 use Rattle.lock_model.specs.State.{State, Config, start_state}
 use Rattle.lock_model.specs.History.{tables_of, value_at, sections_in}

@@ -1,9 +1,8 @@
 -- The table of a lock after an entry is what the history leaves, the entry included.
-use Rattle.std.proofs.Common.{◌≡◌, ℕ, Bool, true, false, cond, eqb, ◌&&◌, List, ◌∷◌, Option, Some, None, refl, sym, ap, inl, inr, arith, eq-eqb, ◌∙◌, Ordering, Equal, nat_cmp, is_eq}
-use Rattle.std.proofs.lemmas.Bool.{ne_eqb, cases_eq, eqb-true}
-use Rattle.std.specs.Cmp.{IsTotalOrder, nat_cmp_total, nat_cmp_is, on_total, then_total, tied_then}
+use Rattle.std.proofs.Common.{◌≡◌, ℕ, cond, eqb, ◌&&◌, List, ◌∷◌, Option, Some, refl, sym, ap, arith, ◌∙◌, nat_cmp, is_eq}
+use Rattle.std.specs.Cmp.{IsTotalOrder, nat_cmp_total, on_total, then_total, tied_then}
 use Rattle.std.specs.Ordering.{eq_by_cmp}
-use Rattle.std.specs.FinMap.{FinMap, get, insert, get-insert, nat_cmp-IsAntisymmetric}
+use Rattle.std.specs.FinMap.{FinMap, get, insert, get-insert}
 use Rattle.lock_model.specs.State.{put_at}
 use Rattle.lock_model.specs.History.{place_cmp, added, edited, tables_of, value_at}
 use Rattle.lock_model.specs.Moves.{table_after}

@@ -1,5 +1,5 @@
 -- Taking something out of its home, and giving it back, keep each fact.
-use Rattle.std.proofs.Common.{◌≡◌, ◌⊎◌, ℕ, true, ◌&&◌, Option, Some, None, arith, ap, refl, sym, inl, inr, ◌∙◌, subst, eq-eqb}
+use Rattle.std.proofs.Common.{◌≡◌, ◌⊎◌, ℕ, true, Option, Some, None, arith, ap, refl, sym, inl, inr, ◌∙◌, subst, eq-eqb}
 use Rattle.std.proofs.lemmas.Bool.{cases_eq}
 use Rattle.lock_model.specs.State.{State, Config, put, put_at}
 use Rattle.lock_model.specs.MovesOfTurns.{Item, TurnstileChain, SleepChain, RecordOf, CellOf, ClassGraph, MayTake, MayGive, after_take, after_give, with_turn, item_with, go_together}

@@ -1,16 +1,14 @@
 -- Laws of lock words, and of the words and holders of one lock.
-use Rattle.std.proofs.Common.{◌≡◌, ◌≢◌, ℕ, suc, ◌+◌, ◌<◌, ◌≤◌, Bool, true, false, not, ◌&&◌, ◌||◌, eqb, Option, Some, None, refl, sym, ap, inl, inr, arith, ◌∙◌}
+use Rattle.std.proofs.Common.{◌≡◌, ◌≢◌, ℕ, ◌+◌, ◌<◌, ◌≤◌, true, false, eqb, refl, sym, ap, inl, inr, arith, ◌∙◌}
 use Rattle.std.proofs.lemmas.Bool.{ne_eqb, cases_eq, eqb-true}
-use Rattle.lock_model.specs.Counts.{sum_below, is_empty}
-use Rattle.lock_model.specs.Words.{Word, Holder, Free, HeldBy, SharedBy, sharers, is_free, is_owned, admits, is_plain, is_drop, gained, dropped, opened, claimed, entered, without_one, with_bit, unshown, shows_waiters, side_woken, is_turnstile}
+use Rattle.lock_model.specs.Counts.{sum_below}
+use Rattle.lock_model.specs.Words.{Word, Holder, Free, HeldBy, SharedBy, sharers, is_free, is_owned, admits, gained, claimed, entered, without_one}
 use Rattle.lock_model.specs.History.{is_exclusive}
-use Rattle.lock_model.specs.State.{Config, State, Lists, Hold, NotHeld, Holds, put, put_at}
-use Rattle.lock_model.specs.Queues.{list_of, side_of}
+use Rattle.lock_model.specs.State.{Config, State, Hold, NotHeld, Holds, put, put_at}
 use Rattle.lock_model.specs.Facts.{Lawful, WordsMatchHolders}
 use Rattle.lock_model.specs.FactsOfWords.{WordMatchesHolders, owns, shares}
-use Rattle.lock_model.specs.FactsOfQueues.{ShowsItsWaiters}
 use Rattle.lock_model.specs.declared.plan.Kind.{Kind}
-use Rattle.lock_model.specs.declared.plan.Kind.TheVariants.{Mtx, Rw, Sx}
+use Rattle.lock_model.specs.declared.plan.Kind.TheVariants.{Mtx}
 use Rattle.lock_model.specs.declared.plan.Mode.{Mode}
 use Rattle.lock_model.specs.declared.plan.Mode.TheVariants.{Excl, Shared}
 use Rattle.lock_model.specs.declared.plan.Side.{Side}

@@ -11,87 +11,87 @@ ghost use Rattle.lock_model.specs.declared.plan.Mode.{Mode};
 ghost use Rattle.lock_model.specs.declared.plan.QueueName.{QueueName};
 ghost use Rattle.lock_model.specs.declared.event.Event.{Event};
 
-/// A look at a lock word keeps each fact.
+/// Each fact is kept where a thread looks at a lock word.
 pub fn looks_keep()
     ensures { (c : Config) (s : State) (t l : ℕ) (in_round : Bool) → MayLook c s t l in_round → Lawful c s → Lawful c (after_look s t l in_round) }
 {}
 
-/// Taking something out of its home keeps each fact.
+/// Each fact is kept where a thread takes a chain, a record, a table cell or the class graph out.
 pub fn takes_keep()
     ensures { (c : Config) (s : State) (t : ℕ) (i : Item) → MayTake c s t i → Lawful c s → Lawful c (after_take s t i) }
 {}
 
-/// Giving something back keeps each fact.
+/// Each fact is kept where a thread gives something back.
 pub fn gives_keep()
     ensures { (c : Config) (s : State) (t : ℕ) (i : Item) → MayGive c s t i → Lawful c s → Lawful c (after_give s i) }
 {}
 
-/// A gain of a lock keeps each fact.
+/// Each fact is kept where a thread gains a lock.
 pub fn gains_keep()
     ensures { (c : Config) (s : State) (t l : ℕ) (mode : Mode) → MayGain c s t l mode → Lawful c s → Lawful c (after_gain s t l mode) }
 {}
 
-/// A release that leaves another holder or no waiter keeps each fact.
+/// Each fact is kept where a release leaves another holder, or no waiter is shown.
 pub fn drops_keep()
     ensures { (c : Config) (s : State) (t l : ℕ) (mode : Mode) → MayDrop c s t l mode → Lawful c s → Lawful c (after_drop s t l) }
 {}
 
-/// An entry of the history keeps each fact.
+/// Each fact is kept where a thread adds an entry to the history.
 pub fn stamps_keep()
     ensures { (c : Config) (s : State) (t : ℕ) (e : Event) → MayStamp c s t e → Lawful c s → Lawful c (after_stamp c s t e) }
 {}
 
-/// A thread that is about to stand on a queue keeps each fact.
+/// Each fact is kept where a thread makes itself ready to stand on a queue.
 pub fn readies_keep()
     ensures { (c : Config) (s : State) (t : ℕ) → MayReady c s t → Lawful c s → Lawful c (after_ready s t) }
 {}
 
-/// A thread that runs again without having stood keeps each fact.
+/// Each fact is kept where such a thread runs again without having stood.
 pub fn unreadies_keep()
     ensures { (c : Config) (s : State) (t : ℕ) → MayUnready c s t → Lawful c s → Lawful c (after_unready s t) }
 {}
 
-/// A thread that stands on a turnstile, with its own lent, keeps each fact.
+/// Each fact is kept where a thread blocks on a turnstile and lends its own.
 pub fn enters_keep()
     ensures { (c : Config) (s : State) (t l : ℕ) (mode : Mode) (x : ℕ) → MayEnter c s t l mode x → Lawful c s → Lawful c (after_enter s t l mode x) }
 {}
 
-/// A running thread that is made ready and stands on a turnstile in one turn of the scheduled run keeps each fact.
+/// Each fact is kept where a running thread is made ready and blocks in one turn of the scheduled run.
 pub fn blocks_keep()
     ensures { (c : Config) (s : State) (t l : ℕ) (mode : Mode) (x : ℕ) → MayBlock c s t l mode x → Lawful c s → Lawful c (after_block s t l mode x) }
 {}
 
-/// A release that wakes a side keeps each fact.
+/// Each fact is kept where a release takes a side of waiters off.
 pub fn opens_keep()
     ensures { (c : Config) (s : State) (t l : ℕ) (mode : Mode) → MayOpen c s t l mode → Lawful c s → Lawful c (after_open c s t l) }
 {}
 
-/// The waking of the first of a marked list keeps each fact.
+/// Each fact is kept where the first of a marked list gets its object back and is woken.
 pub fn marks_keep()
     ensures { (c : Config) (s : State) (t : ℕ) (m : Mark) (ms : List Mark) → MayMark c s t m ms → Lawful c s → Lawful c (after_mark c s t m ms) }
 {}
 
-/// A woken thread that runs again keeps each fact.
+/// Each fact is kept where a woken thread runs again.
 pub fn resumes_keep()
     ensures { (c : Config) (s : State) (t : ℕ) (q : QueueName) (cause : Cause) → MayResume c s t q cause → Lawful c s → Lawful c (after_resume c s t q cause) }
 {}
 
-/// An exclusive gain of a free rw lock over shown waiters keeps each fact.
+/// Each fact is kept where a thread gains a free rw lock exclusively over shown waiters.
 pub fn claims_keep()
     ensures { (c : Config) (s : State) (t l h : ℕ) → MayClaim c s t l h → Lawful c s → Lawful c (after_claim c s t l h) }
 {}
 
-/// A hop of a walk at a lock keeps each fact.
+/// Each fact is kept where a walk at a lock lends to the owner.
 pub fn lends_keep()
     ensures { (c : Config) (s : State) (t l o h : ℕ) → MayLend c s t l o h → Lawful c s → Lawful c (after_lend c s t l o h) }
 {}
 
-/// A hop of a walk at a thread keeps each fact.
+/// Each fact is kept where a walk at a thread sorts its entry anew.
 pub fn shifts_keep()
     ensures { (c : Config) (s : State) (t o l : ℕ) → MayShift c s t o l → Lawful c s → Lawful c (after_shift s t o l) }
 {}
 
-/// The end of a walk keeps each fact.
+/// Each fact is kept where a walk ends.
 pub fn ends_of_walks_keep()
     ensures { (c : Config) (s : State) (t : ℕ) → MayEndWalk c s t → Lawful c s → Lawful c (after_end_walk s t) }
 {}

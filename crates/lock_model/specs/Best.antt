@@ -1,5 +1,5 @@
 -- The best priority behind a thread, and cycles of waiting threads.
-use Rattle.std.specs.Prelude.{◌≡◌, ◌≢◌, ℕ, zero, suc, ◌<◌, Bool, true, false, ◌&&◌, nat_le, if◌then◌else◌, List, [], ◌∷◌, ◌++◌, Option, Some, None, ⊤}
+use Rattle.std.specs.Prelude.{◌≡◌, ◌≢◌, ℕ, zero, suc, ◌<◌, Bool, true, ◌&&◌, nat_le, if◌then◌else◌, List, [], ◌∷◌, ◌++◌, Some, None, ⊤}
 use Rattle.lock_model.specs.Counts.{any_below, least}
 use Rattle.lock_model.specs.Words.{is_turnstile}
 use Rattle.lock_model.specs.State.{Config, State, NotHeld, NoWalk}
@@ -10,6 +10,7 @@ use Rattle.lock_model.specs.FactsOfWords.{owns}
 unfoldable pub is_behind : Config → State → ℕ → ℕ → Bool
 is_behind c s u t = any_below c.locks (λ l. is_turnstile (c.kind l) && (owns t (s.word l).holder && nat_le 1 (stands u (s.lists (lock_queue l)))))
 
+-- u is behind t
 abbrev pub IsBehind : Config → State → ℕ → ℕ → Type 0
 IsBehind c s u t = is_behind c s u t ≡ true
 

@@ -32,6 +32,7 @@ abbrev pub times : ℕ → List ℕ → ℕ
 times n [] = 0
 times n (m ∷ ms) = one (n == m) + times n ms
 
+-- whether a list has no item
 abbrev pub is_empty : {A : Type 0} → List A → Bool
 is_empty [] = true
 is_empty (x ∷ xs) = false

@@ -8,6 +8,7 @@ pub use Rattle.lock_model.specs.FactsOfWords.{WordMatchesHolders, owns, shares}
 unfoldable pub use Rattle.lock_model.specs.FactsOfLoans.{EffectiveIsLeast, OwnersHold, ChannelsHaveNoOwner, LoansAreLeast, LoansAreWithOwners, LoansAreOnHeads, KeptIsEffective, EffectiveIsKnown, LoansAreKnown, KeptIsKnown}
 unfoldable pub use Rattle.lock_model.specs.FactsOfBooks.{NextIsNew, LogsAreParts, TablesReplay, BasesReplay, SectionsAreHeld, OutIsNarrow}
 
+-- a state in which all of these hold
 pub record Lawful (c : Config) (s : State) : Type 0 where
   -- places, heads, bits and lists
   pub one_turnstile_each : OneTurnstileEach c s.turnstile s.head s.free_list s.marked

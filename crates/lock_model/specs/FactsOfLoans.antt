@@ -11,11 +11,13 @@ use Rattle.lock_model.specs.declared.event.Entry.{Entry}
 
 -- 1. Walks
 
+-- 1 where a walk is at the lock
 abbrev pub at_lock : ℕ → Walk → ℕ
 at_lock l NoWalk = 0
 at_lock l (AtLock k) = one (l == k)
 at_lock l (AtThread t) = 0
 
+-- 1 where a walk is at the thread
 abbrev pub at_thread : ℕ → Walk → ℕ
 at_thread t NoWalk = 0
 at_thread t (AtLock k) = 0
@@ -65,6 +67,7 @@ LoansAreOnHeads loan head = (t l : ℕ) (x : Loan) → loan t l ≡ Some x → h
 
 -- 4. Kept priorities
 
+-- of each waiter of a list
 abbrev pub Each : (Waiter → Type 0) → List Waiter → Type 0
 Each P [] = ⊤
 Each P (w ∷ ws) = P w × Each P ws
@@ -73,6 +76,7 @@ Each P (w ∷ ws) = P w × Each P ws
 abbrev pub EachOf : (Waiter → Type 0) → Lists → Type 0
 EachOf P q = Each P q.exclusive × Each P q.shared
 
+-- a kept priority is the thread's effective priority, where no walk is at the thread
 abbrev pub IsKept : Config → (ℕ → Walk) → (ℕ → ℕ) → Waiter → Type 0
 IsKept c walk effective w = walks_at_thread c walk w.thread ≡ 0 → w.kept ≡ effective w.thread
 
@@ -82,14 +86,18 @@ KeptIsEffective c walk effective lists = (l : ℕ) → is_turnstile (c.kind l) �
 
 -- 5. Where priorities come from: each is, or was, some thread's base
 
+-- p is, or was, the base priority of some thread
 abbrev pub IsKnown : Config → List Entry → ℕ → Type 0
 IsKnown c history p = is_known c history p ≡ true
 
+-- each effective priority is known
 unfoldable pub EffectiveIsKnown : Config → (ℕ → ℕ) → List Entry → Type 0
 EffectiveIsKnown c effective history = (t : ℕ) → t < c.threads → IsKnown c history (effective t)
 
+-- so is each loan
 unfoldable pub LoansAreKnown : Config → (ℕ → ℕ → Option Loan) → List Entry → Type 0
 LoansAreKnown c loan history = (t l : ℕ) (x : Loan) → loan t l ≡ Some x → IsKnown c history x.prio
 
+-- and each kept priority
 unfoldable pub KeptIsKnown : Config → (QueueName → Lists) → List Entry → Type 0
 KeptIsKnown c lists history = (l : ℕ) → is_turnstile (c.kind l) ≡ true → EachOf (λ w. IsKnown c history w.kept) (lists (lock_queue l))

@@ -1,12 +1,11 @@
 -- Facts of queues: where turnstiles, sleep queues and loan nodes are, heads and free lists, waiters' bits, and the order of lists.
 -- A fact reads the columns that it names, and no others, so that a step which leaves these alone keeps it.
-use Rattle.std.specs.Prelude.{◌≡◌, ℕ, ◌+◌, ◌<◌, ◌≤◌, Bool, true, false, not, ◌&&◌, ◌==◌, nat_lt, List, [], ◌∷◌, length, Option, Some, None, ⊤}
+use Rattle.std.specs.Prelude.{◌≡◌, ℕ, ◌+◌, ◌≤◌, Bool, true, false, not, ◌&&◌, ◌==◌, nat_lt, List, [], ◌∷◌, length, Option, Some, None, ⊤}
 use Rattle.lock_model.specs.Counts.{sum_below, one, some, at_option, times, is_empty}
 use Rattle.lock_model.specs.Words.{Word, is_turnstile}
-use Rattle.lock_model.specs.State.{Config, Waiter, Lists, Mark, Loan, is_queue}
+use Rattle.lock_model.specs.State.{Config, Waiter, Lists, Mark, Loan}
 use Rattle.lock_model.specs.Queues.{lock_queue, chan_queue, is_turnstile_queue, names_turnstile, names_sleep_queue, waiting}
-use Rattle.lock_model.specs.declared.plan.Kind.{Kind}
-use Rattle.lock_model.specs.declared.plan.Kind.TheVariants.{Mtx, Rw, Sx}
+use Rattle.lock_model.specs.declared.plan.Kind.TheVariants.{Mtx}
 use Rattle.lock_model.specs.declared.plan.QueueName.{QueueName}
 
 -- 1. Places
@@ -77,6 +76,7 @@ pub record HeadFits (lists : Lists) (free : List ℕ) (head owner : Option ℕ) 
   pub no_free : head ≡ None → free ≡ []
   pub no_owner : head ≡ None → owner ≡ None
 
+-- that of each queue
 unfoldable pub HeadsFitWaiters : (QueueName → Lists) → (QueueName → List ℕ) → (QueueName → Option ℕ) → (QueueName → Option ℕ) → Type 0
 HeadsFitWaiters lists free_list head owner = (q : QueueName) → HeadFits (lists q) (free_list q) (head q) (owner q)
 
@@ -87,11 +87,13 @@ pub record ShowsItsWaiters (w : Word) (lists : Lists) : Type 0 where
   pub exclusive : w.exclusive_waiters ≡ not (is_empty lists.exclusive)
   pub shared : w.shared_waiters ≡ not (is_empty lists.shared)
 
+-- that of each lock
 unfoldable pub BitsShowWaiters : (ℕ → Word) → (QueueName → Lists) → Type 0
 BitsShowWaiters word lists = (l : ℕ) → ShowsItsWaiters (word l) (lists (lock_queue l))
 
 -- 4. Lists
 
+-- kept priorities ascend from the front
 abbrev pub Ascends : List Waiter → Type 0
 Ascends [] = ⊤
 Ascends (w ∷ []) = ⊤

@@ -1,11 +1,10 @@
 -- Facts of waiting threads: where they stand, what they want, and who is called for a free lock.
-use Rattle.std.specs.Prelude.{◌≡◌, ◌≢◌, ℕ, ◌+◌, ◌<◌, ◌≤◌, Bool, true, false, ◌&&◌, ◌==◌, List, [], ◌∷◌, Option, Some, None}
+use Rattle.std.specs.Prelude.{◌≡◌, ℕ, ◌+◌, ◌<◌, ◌≤◌, Bool, true, false, ◌&&◌, ◌==◌, List, [], ◌∷◌, Option, Some, None}
 use Rattle.lock_model.specs.Counts.{sum_below, one, at_option}
-use Rattle.lock_model.specs.Words.{Word, Holder, Free, HeldBy, SharedBy, is_free, shows_waiters}
+use Rattle.lock_model.specs.Words.{Word, Holder, Free, HeldBy, SharedBy, shows_waiters}
 use Rattle.lock_model.specs.State.{Config, Wait, Running, Queued, Woken, Cause, BySignal, ByAbort, Lists, Mark, is_queue}
 use Rattle.lock_model.specs.Moves.{is_woken}
 use Rattle.lock_model.specs.Queues.{lock_queue, stands}
-use Rattle.lock_model.specs.declared.plan.Kind.{Kind}
 use Rattle.lock_model.specs.declared.plan.Kind.TheVariants.{Mtx}
 use Rattle.lock_model.specs.declared.plan.QueueName.{QueueName}
 
@@ -61,6 +60,7 @@ WokenIsUncalled wait called = (t : ℕ) → is_woken (wait t) ≡ true → calle
 
 -- 3. Calling
 
+-- whether a waiter was taken off by a signal
 abbrev pub is_signal : Cause → Bool
 is_signal BySignal = true
 is_signal ByAbort = false

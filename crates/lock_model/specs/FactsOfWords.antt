@@ -1,5 +1,5 @@
 -- Facts of lock words and of their holders.
-use Rattle.std.specs.Prelude.{◌≡◌, ◌≢◌, ℕ, ◌<◌, Bool, true, false, ◌==◌}
+use Rattle.std.specs.Prelude.{◌≡◌, ◌≢◌, ℕ, ◌<◌, Bool, false, ◌==◌}
 use Rattle.lock_model.specs.Counts.{sum_below}
 use Rattle.lock_model.specs.Words.{Word, Holder, Free, HeldBy, SharedBy, sharers}
 use Rattle.lock_model.specs.History.{is_exclusive}
@@ -7,6 +7,7 @@ use Rattle.lock_model.specs.State.{Config, Hold, NotHeld, Holds}
 use Rattle.lock_model.specs.declared.plan.Mode.{Mode}
 use Rattle.lock_model.specs.declared.plan.Mode.TheVariants.{Excl, Shared}
 
+-- whether a word is held exclusively by t
 abbrev pub owns : ℕ → Holder → Bool
 owns t Free = false
 owns t (HeldBy u) = t == u
@@ -25,6 +26,7 @@ pub record WordMatchesHolders (c : Config) (word : Word) (l : ℕ) (held : ℕ �
   pub sharers_are_counted : sum_below c.threads (λ t. shares (held t l)) ≡ sharers word.holder
   pub some_sharer : word.holder ≢ SharedBy 0
 
+-- that of each lock
 unfoldable pub WordsMatchHolders : Config → (ℕ → Word) → (ℕ → ℕ → Hold) → Type 0
 WordsMatchHolders c word held = (l : ℕ) → WordMatchesHolders c (word l) l held
 

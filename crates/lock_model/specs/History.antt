@@ -64,6 +64,7 @@ abbrev pub sleeps_with : Config → Event → ℕ → Bool
 sleeps_with c (Sleeps d) l = c.chan_lock d.0 == l
 sleeps_with c other l = false
 
+-- the section that an event begins, or else the one before
 abbrev pub replaced : Hold → Hold → Hold
 replaced (Holds mode) before = Holds mode
 replaced NotHeld before = before
@@ -75,6 +76,7 @@ sections_by c e l before = record {
   left = if sleeps_with c e l then before.now else before.left;
 }
 
+-- a thread's sections of a lock behind a history
 unfoldable pub sections_in : Config → List Entry → ℕ → ℕ → Sections
 sections_in c [] t l = record { now = NotHeld; left = NotHeld }
 sections_in c (e ∷ es) t l = if e.thread.0 == t then sections_by c e.event l (sections_in c es t l) else sections_in c es t l
@@ -94,6 +96,7 @@ abbrev pub entries_of : List Entry → ℕ → List Entry
 entries_of [] t = []
 entries_of (e ∷ es) t = if e.thread.0 == t then e ∷ entries_of es t else entries_of es t
 
+-- a thread's base priority after an event of its own
 abbrev pub base_by : Event → ℕ → ℕ
 base_by (Base p) before = p.0
 base_by other before = before
@@ -103,6 +106,7 @@ abbrev pub base_in : Config → List Entry → ℕ → ℕ
 base_in c [] t = c.declared_base t
 base_in c (e ∷ es) t = if e.thread.0 == t then base_by e.event (base_in c es t) else base_in c es t
 
+-- whether an event sets a base priority to p
 abbrev pub sets_base : Event → ℕ → Bool
 sets_base (Base q) p = q.0 == p
 sets_base other p = false
@@ -145,6 +149,7 @@ unfoldable pub EditsInSections : Config → List Entry → Type 0
 EditsInSections c [] = ⊤
 EditsInSections c (e ∷ es) = IsInSection c e.event es e.thread.0 × EditsInSections c es
 
+-- what a read shows
 abbrev pub IsReplayed : Event → List Entry → Type 0
 IsReplayed (Got l k v) es = v ≡ value_at es l.0 k
 IsReplayed other es = ⊤
@@ -154,6 +159,7 @@ unfoldable pub ReadsReplay : List Entry → Type 0
 ReadsReplay [] = ⊤
 ReadsReplay (e ∷ es) = IsReplayed e.event es × ReadsReplay es
 
+-- whether the lock is held exclusively
 abbrev pub is_exclusive : Hold → Bool
 is_exclusive NotHeld = false
 is_exclusive (Holds Excl) = true
@@ -171,6 +177,7 @@ pub record IsExplained (c : Config) (es : List Entry) (t base effective : ℕ) :
   pub owns : effective < base → owns_in c es t ≡ true
   pub lent : effective < base → is_known c es effective ≡ true
 
+-- what a thread shows of its priorities
 abbrev pub IsShown : Config → Event → List Entry → ℕ → Type 0
 IsShown c (Shown base effective) es t = IsExplained c es t base.0 effective.0
 IsShown c other es t = ⊤

@@ -10,6 +10,7 @@ pub mod Queues
 pub mod Moves
 pub mod MovesOfTurns
 pub mod MovesOfQueues
+pub mod MovesOfSleeps
 pub mod MovesOfLoans
 pub mod Steps
 pub mod FactsOfQueues

@@ -11,6 +11,7 @@ use Rattle.lock_model.specs.declared.event.Event.{Event}
 use Rattle.lock_model.specs.declared.event.Event.TheVariants.{Locked, Tried, Busy, Unlocked, Set, Added, Got, Base, Shown, Sleeps, Woke, HaltedChan, HaltedLock, WokeOne, WokeAll, Reversed}
 use Rattle.lock_model.specs.declared.event.Entry.{Entry}
 
+-- whether a wait word says Woken
 abbrev pub is_woken : Wait → Bool
 is_woken Running = false
 is_woken Queued = false
@@ -18,11 +19,13 @@ is_woken (Woken q cause) = true
 
 -- 1. A look at a lock word. In an acquiring round outside the lock's chain it counts as one of at most 100
 
+-- what a look asks
 pub record MayLook (c : Config) (s : State) (t l : ℕ) (in_round : Bool) : Type 0 where
   pub thread : t < c.threads
   pub lock : l < c.locks
   pub room : in_round ≡ true → s.looks t < 100
 
+-- the share has the lock and the word as what its last look saw
 unfoldable pub after_look : State → ℕ → ℕ → Bool → State
 after_look s t l in_round = record s {
   looks = put s.looks t (if in_round then suc (s.looks t) else s.looks t);
@@ -33,6 +36,7 @@ after_look s t l in_round = record s {
 -- 2. A gain: the word admits the mode, and the lock is the wanted one, or none is wanted. The thread is on no queue, in no marked
 -- list and not woken
 
+-- what a gain asks
 pub record MayGain (c : Config) (s : State) (t l : ℕ) (mode : Mode) : Type 0 where
   pub thread : t < c.threads
   pub lock : l < c.locks
@@ -43,6 +47,7 @@ pub record MayGain (c : Config) (s : State) (t l : ℕ) (mode : Mode) : Type 0 w
   pub unwoken : is_woken (s.wait t) ≡ false
   pub wants : (s.wanted t ≡ Some l) ⊎ (s.wanted t ≡ None)
 
+-- the lock is held, and no longer wanted or called for
 unfoldable pub after_gain : State → ℕ → ℕ → Mode → State
 after_gain s t l mode = record s {
   word = put s.word l (gained (s.word l) t mode);
@@ -56,6 +61,7 @@ after_gain s t l mode = record s {
 
 -- 3. A drop: a release where another shared holder stays or no waiter is shown. No section of the lock is open, and one began
 
+-- what a drop asks
 pub record MayDrop (c : Config) (s : State) (t l : ℕ) (mode : Mode) : Type 0 where
   pub thread : t < c.threads
   pub lock : l < c.locks
@@ -64,6 +70,7 @@ pub record MayDrop (c : Config) (s : State) (t l : ℕ) (mode : Mode) : Type 0 w
   pub closed : open_in c s.history t l ≡ NotHeld
   pub begun : s.has_begun t l ≡ true
 
+-- the lock is not held
 unfoldable pub after_drop : State → ℕ → ℕ → State
 after_drop s t l = record s {
   word = put s.word l (dropped (s.word l));
@@ -124,12 +131,14 @@ Asks c s t (WokeOne d woken) = IsTheWake (s.unstamped t) d.0 false woken
 Asks c s t (WokeAll d woken) = IsTheWake (s.unstamped t) d.0 true woken
 Asks c s t (Reversed l held) = s.noted t ≡ Some (IsRefused held.0)
 
+-- what a stamp asks; the thread is on no queue, in no marked list and not woken
 pub record MayStamp (c : Config) (s : State) (t : ℕ) (e : Event) : Type 0 where
   pub thread : t < c.threads
   pub unnamed : s.named t ≡ None
   pub unwoken : is_woken (s.wait t) ≡ false
   pub asks : Asks c s t e
 
+-- the priority of a loan, where there is one
 abbrev pub prio_of : Option Loan → Option ℕ
 prio_of None = None
 prio_of (Some loan) = Some loan.prio
@@ -138,19 +147,23 @@ prio_of (Some loan) = Some loan.prio
 abbrev pub effective_of : Config → (ℕ → Option Loan) → ℕ → ℕ
 effective_of c loan base = least c.locks (λ l. prio_of (loan l)) base
 
+-- base priorities after an event of thread t
 abbrev pub base_after : Event → ℕ → (ℕ → ℕ) → ℕ → ℕ
 base_after (Base p) t base = put base t p.0
 base_after other t base = base
 
+-- effective priorities after an event of thread t
 abbrev pub effective_after : Config → Event → ℕ → (ℕ → ℕ → Option Loan) → (ℕ → ℕ) → ℕ → ℕ
 effective_after c (Base p) t loan effective = put effective t (effective_of c (loan t) p.0)
 effective_after c other t loan effective = effective
 
+-- the tables after an event
 abbrev pub table_after : Event → (ℕ → ℕ → Option ℕ) → ℕ → ℕ → Option ℕ
 table_after (Set l k v) table = put_at table l.0 k (Some v)
 table_after (Added l k n) table = put_at table l.0 k (Some (added (table l.0 k) n))
 table_after other table = table
 
+-- whether a section began since the gain, after an event of thread t
 abbrev pub begun_after : Config → Event → ℕ → (ℕ → ℕ → Bool) → ℕ → ℕ → Bool
 begun_after c (Locked l mode) t has_begun = put_at has_begun t l.0 true
 begun_after c (Tried l mode) t has_begun = put_at has_begun t l.0 true
@@ -158,18 +171,22 @@ begun_after c (Woke d) t has_begun = put_at has_begun t (c.chan_lock d.0) true
 begun_after c (HaltedChan d) t has_begun = put_at has_begun t (c.chan_lock d.0) true
 begun_after c other t has_begun = has_begun
 
+-- looks after an event
 abbrev pub looks_after : Event → ℕ → ℕ
 looks_after (Busy l seen) looks = 0
 looks_after other looks = looks
 
+-- the wake that is not noted yet, after an event
 abbrev pub unstamped_after : Event → Option Wake → Option Wake
 unstamped_after (WokeOne d woken) wake = None
 unstamped_after (WokeAll d woken) wake = None
 unstamped_after other wake = wake
 
+-- the entry that a stamp makes
 abbrev pub entry_of : State → ℕ → Event → Entry
 entry_of s t e = record { ticket = s.next; thread = record { 0 = t }; event = e }
 
+-- the entry is in the log and the history, and the base or the table is as it says
 unfoldable pub after_stamp : Config → State → ℕ → Event → State
 after_stamp c s t e = record s {
   base = base_after e t s.base;
@@ -187,18 +204,22 @@ after_stamp c s t e = record s {
 
 -- 5. A thread's wait word: made ready to stand on a queue, or running again where it stands on none
 
+-- what it asks to be made ready
 pub record MayReady (c : Config) (s : State) (t : ℕ) : Type 0 where
   pub thread : t < c.threads
   pub running : s.wait t ≡ Running
   pub record_out : s.record_with t ≡ Some t
 
+-- the wait word says Queued
 unfoldable pub after_ready : State → ℕ → State
 after_ready s t = record s { wait = put s.wait t Queued }
 
+-- what it asks to run again
 pub record MayUnready (c : Config) (s : State) (t : ℕ) : Type 0 where
   pub thread : t < c.threads
   pub queued : s.wait t ≡ Queued
   pub unnamed : s.named t ≡ None
 
+-- the wait word says Running
 unfoldable pub after_unready : State → ℕ → State
 after_unready s t = record s { wait = put s.wait t Running }

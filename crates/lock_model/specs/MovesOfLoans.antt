@@ -1,12 +1,11 @@
 -- Steps that lend priority: a claim, and the hops of a walk. What each asks of the state, and what it makes of it.
-use Rattle.std.specs.Prelude.{◌≡◌, ◌≢◌, ◌⊎◌, ℕ, ◌<◌, Bool, true, false, not, ◌&&◌, ◌==◌, if◌then◌else◌, Option, Some, None}
+use Rattle.std.specs.Prelude.{◌≡◌, ◌⊎◌, ℕ, ◌<◌, Bool, true, false, not, ◌&&◌, ◌==◌, Option, Some, None}
 use Rattle.lock_model.specs.Words.{is_free, is_turnstile, shows_waiters, claimed}
 use Rattle.lock_model.specs.Moves.{is_woken, effective_of}
-use Rattle.lock_model.specs.State.{Config, State, Hold, NotHeld, Holds, Walk, NoWalk, AtLock, AtThread, Loan, put, put_at, put_queue}
+use Rattle.lock_model.specs.State.{Config, State, NotHeld, Holds, Walk, NoWalk, AtLock, AtThread, Loan, put, put_at, put_queue}
 use Rattle.lock_model.specs.Queues.{lock_queue, names_turnstile, stands, least_of, with_kept}
 use Rattle.lock_model.specs.declared.plan.Kind.TheVariants.{Rw}
 use Rattle.lock_model.specs.declared.plan.Mode.TheVariants.{Excl}
-use Rattle.lock_model.specs.declared.plan.QueueName.{QueueName}
 
 -- the loan that the node of the turnstile h carries
 abbrev pub loan_of : ℕ → Option ℕ → Option Loan
@@ -16,6 +15,7 @@ loan_of h (Some p) = Some (record { number = h; prio = p })
 -- 1. A claim: an exclusive gain of a free rw lock that shows waiters. The thread is the owner of the turnstile h, and its loan is the
 -- least kept priority of both lists
 
+-- what a claim asks
 pub record MayClaim (c : Config) (s : State) (t l h : ℕ) : Type 0 where
   pub thread : t < c.threads
   pub lock : l < c.locks
@@ -28,6 +28,7 @@ pub record MayClaim (c : Config) (s : State) (t l h : ℕ) : Type 0 where
   pub unwoken : is_woken (s.wait t) ≡ false
   pub wants : (s.wanted t ≡ Some l) ⊎ (s.wanted t ≡ None)
 
+-- the lock is held, and the thread is owner with a loan
 unfoldable pub after_claim : Config → State → ℕ → ℕ → ℕ → State
 after_claim c s t l h =
     let new : Option Loan = loan_of h (least_of (s.lists (lock_queue l))) in
@@ -48,6 +49,7 @@ after_claim c s t l h =
 -- 2. A walk at a lock: the owner's loan becomes the least kept priority of both lists. The walk goes on to the owner where its effective
 -- priority changed and its record names a turnstile
 
+-- what a hop at a lock asks
 pub record MayLend (c : Config) (s : State) (t l o h : ℕ) : Type 0 where
   pub thread : t < c.threads
   pub lock : l < c.locks
@@ -55,10 +57,12 @@ pub record MayLend (c : Config) (s : State) (t l o h : ℕ) : Type 0 where
   pub head : s.head (lock_queue l) ≡ Some h
   pub owned : s.owner (lock_queue l) ≡ Some o
 
+-- a walk to the thread o, or its end
 abbrev pub walk_to : ℕ → Bool → Walk
 walk_to o true = AtThread o
 walk_to o false = NoWalk
 
+-- the loan is the least kept priority, and the walk goes on or ends
 unfoldable pub after_lend : Config → State → ℕ → ℕ → ℕ → ℕ → State
 after_lend c s t l o h =
     let new : Option Loan = loan_of h (least_of (s.lists (lock_queue l))) in
@@ -73,6 +77,7 @@ after_lend c s t l o h =
 -- 3. A walk at a thread that stands on a turnstile: its entry is inserted anew with its effective priority, and the walk goes on to that
 -- lock where the turnstile has an owner
 
+-- what a hop at a thread asks
 pub record MayShift (c : Config) (s : State) (t o l : ℕ) : Type 0 where
   pub thread : t < c.threads
   pub turnstile : is_turnstile (c.kind l) ≡ true
@@ -80,10 +85,12 @@ pub record MayShift (c : Config) (s : State) (t o l : ℕ) : Type 0 where
   pub named : s.named o ≡ Some (lock_queue l)
   pub stands : 0 < stands o (s.lists (lock_queue l))
 
+-- a walk to the lock, where its turnstile has an owner
 abbrev pub walk_up : ℕ → Option ℕ → Walk
 walk_up l None = NoWalk
 walk_up l (Some o) = AtLock l
 
+-- the entry is inserted anew, and the walk goes on or ends
 unfoldable pub after_shift : State → ℕ → ℕ → ℕ → State
 after_shift s t o l = record s {
   lists = put_queue s.lists (lock_queue l) (with_kept o (s.effective o) (s.lists (lock_queue l)));
@@ -92,14 +99,17 @@ after_shift s t o l = record s {
 
 -- 4. The end of a walk: at a lock whose turnstile has no owner, or at a thread that stands on no turnstile
 
+-- whether a walk has nothing to do where it stands
 abbrev pub IsAtEnd : Config → State → Walk → Type 0
 IsAtEnd c s NoWalk = ⊥
 IsAtEnd c s (AtLock l) = s.owner (lock_queue l) ≡ None
 IsAtEnd c s (AtThread o) = (l : ℕ) → is_turnstile (c.kind l) ≡ true → s.named o ≡ Some (lock_queue l) → stands o (s.lists (lock_queue l)) ≡ 0
 
+-- what the end of a walk asks
 pub record MayEndWalk (c : Config) (s : State) (t : ℕ) : Type 0 where
   pub thread : t < c.threads
   pub there : IsAtEnd c s (s.walk t)
 
+-- no walk is under way
 unfoldable pub after_end_walk : State → ℕ → State
 after_end_walk s t = record s { walk = put s.walk t NoWalk }

@@ -1,16 +1,15 @@
 -- Steps that put a thread on a turnstile and take it off again: what each asks of the state, and what it makes of it.
 -- Sleep queues, of sx locks and channels, come as further cases.
-use Rattle.std.specs.Prelude.{◌≡◌, ◌≢◌, ◌⊎◌, ℕ, ◌<◌, Bool, true, false, if◌then◌else◌, List, [], ◌∷◌, Option, Some, None}
+use Rattle.std.specs.Prelude.{◌≡◌, ◌⊎◌, ℕ, ◌<◌, Bool, true, false, if◌then◌else◌, List, [], ◌∷◌, Option, Some, None}
 use Rattle.lock_model.specs.Words.{Holder, Free, HeldBy, SharedBy, admits, is_free, is_turnstile, without_one, shows_waiters, owner_of, entered, opened, side_woken}
 use Rattle.lock_model.specs.History.{open_in}
 use Rattle.lock_model.specs.Moves.{effective_of, after_ready}
 use Rattle.lock_model.specs.MovesOfTurns.{Item, item_with}
-use Rattle.lock_model.specs.State.{Config, State, Hold, NotHeld, Holds, Wait, Running, Queued, Woken, Cause, BySignal, ByAbort, Waiter, Lists, Mark, Walk, NoWalk, AtLock, AtThread, Note, IsHalted, Loan, put, put_at, put_queue}
+use Rattle.lock_model.specs.State.{Config, State, NotHeld, Holds, Running, Queued, Woken, Cause, BySignal, ByAbort, Waiter, Mark, Walk, NoWalk, AtLock, Note, IsHalted, Loan, put, put_at, put_queue}
 use Rattle.lock_model.specs.Queues.{lock_queue, is_turnstile_queue, side_of, list_of, with_list, insert, head_with, free_with, dealt, free_after, head_after}
-use Rattle.lock_model.specs.declared.plan.Kind.{Kind}
-use Rattle.lock_model.specs.declared.plan.Kind.TheVariants.{Mtx, Rw, Sx}
+use Rattle.lock_model.specs.declared.plan.Kind.TheVariants.{Mtx}
 use Rattle.lock_model.specs.declared.plan.Mode.{Mode}
-use Rattle.lock_model.specs.declared.plan.Mode.TheVariants.{Excl, Shared}
+use Rattle.lock_model.specs.declared.plan.Mode.TheVariants.{Excl}
 use Rattle.lock_model.specs.declared.plan.Side.{Side}
 use Rattle.lock_model.specs.declared.plan.QueueName.{QueueName}
 use Rattle.lock_model.specs.declared.plan.QueueName.TheVariants.{Lock, Chan}
@@ -20,6 +19,7 @@ use Rattle.lock_model.specs.declared.event.Entry.{Entry}
 
 -- 1. An enter: the word is held and does not admit, and the thread, made ready, stands on the lock's turnstile with its own turnstile x
 
+-- what an enter asks
 pub record MayEnter (c : Config) (s : State) (t l : ℕ) (mode : Mode) (x : ℕ) : Type 0 where
   pub thread : t < c.threads
   pub lock : l < c.locks
@@ -44,6 +44,7 @@ walk_in l Free = NoWalk
 walk_in l (HeldBy u) = AtLock l
 walk_in l (SharedBy n) = NoWalk
 
+-- the thread stands on its side, its turnstile is lent, and its walk begins
 unfoldable pub after_enter : State → ℕ → ℕ → Mode → ℕ → State
 after_enter s t l mode x =
     let q : QueueName = lock_queue l in
@@ -63,6 +64,7 @@ after_enter s t l mode x =
 
 -- The same in one turn of the scheduled run, where nothing is out: a running thread is made ready and enters at once.
 
+-- what it asks
 pub record MayBlock (c : Config) (s : State) (t l : ℕ) (mode : Mode) (x : ℕ) : Type 0 where
   pub thread : t < c.threads
   pub lock : l < c.locks
@@ -76,12 +78,14 @@ pub record MayBlock (c : Config) (s : State) (t l : ℕ) (mode : Mode) (x : ℕ)
   pub no_walk : s.walk t ≡ NoWalk
   pub nothing_out : (i : Item) → item_with s i ≡ None
 
+-- the state after both
 unfoldable pub after_block : State → ℕ → ℕ → Mode → ℕ → State
 after_block s t l mode x = after_enter (after_ready s t) t l mode x
 
 -- 2. An open: the last holder's release where waiters are shown. One whole side goes to the marked list with its turnstiles; the loan
 -- for the lock goes home, and the turnstile that stays has no owner. The thread may stand on a sleep queue, but on no turnstile
 
+-- what an open asks
 pub record MayOpen (c : Config) (s : State) (t l : ℕ) (mode : Mode) : Type 0 where
   pub thread : t < c.threads
   pub lock : l < c.locks
@@ -99,6 +103,7 @@ abbrev pub home_after : (ℕ → Bool) → Option Loan → ℕ → Bool
 home_after home None = home
 home_after home (Some loan) = put home loan.number true
 
+-- the word is free, and the woken side is in the marked list
 unfoldable pub after_open : Config → State → ℕ → ℕ → State
 after_open c s t l =
     let q : QueueName = lock_queue l in
@@ -120,10 +125,12 @@ after_open c s t l =
 
 -- 3. A mark: the first of the marked list gets its object back and is woken
 
+-- what a mark asks
 pub record MayMark (c : Config) (s : State) (t : ℕ) (m : Mark) (ms : List Mark) : Type 0 where
   pub thread : t < c.threads
   pub marked : s.marked t ≡ m ∷ ms
 
+-- the first marked thread has its object back and is woken
 unfoldable pub after_mark : Config → State → ℕ → Mark → List Mark → State
 after_mark c s t m ms = record s {
   turnstile = if is_turnstile_queue c m.queue then put s.turnstile m.thread (Some m.object) else s.turnstile;
@@ -138,6 +145,7 @@ after_mark c s t m ms = record s {
 -- lock and is noted, but in a taking back after a wait it only lets the thread look again. After a wake from a channel the lock of
 -- the wait is wanted
 
+-- what a resume asks
 pub record MayResume (c : Config) (s : State) (t : ℕ) (q : QueueName) (cause : Cause) : Type 0 where
   pub thread : t < c.threads
   pub woken : s.wait t ≡ Woken q cause
@@ -147,24 +155,29 @@ abbrev pub is_sleep : Event → Bool
 is_sleep (Sleeps d) = true
 is_sleep other = false
 
+-- whether a log's newest entry is a Sleeps entry
 abbrev pub is_taking_back : List Entry → Bool
 is_taking_back [] = false
 is_taking_back (e ∷ es) = is_sleep e.event
 
+-- the lock that the thread is called for
 abbrev pub called_after : QueueName → Cause → Option ℕ → Option ℕ
 called_after (Lock l) BySignal called = Some l.0
 called_after other cause called = called
 
+-- the lock that the thread wants
 abbrev pub wanted_after : Config → QueueName → Cause → Bool → Option ℕ → Option ℕ
 wanted_after c (Lock l) BySignal back wanted = wanted
 wanted_after c (Lock l) ByAbort back wanted = if back then wanted else None
 wanted_after c (Chan d) cause back wanted = Some (c.chan_lock d.0)
 
+-- what the thread has yet to note
 abbrev pub noted_after : QueueName → Cause → Bool → Option Note → Option Note
 noted_after q BySignal back noted = noted
 noted_after (Lock l) ByAbort back noted = if back then noted else Some IsHalted
 noted_after (Chan d) ByAbort back noted = Some IsHalted
 
+-- the thread runs, and is called or halted as it was woken
 unfoldable pub after_resume : Config → State → ℕ → QueueName → Cause → State
 after_resume c s t q cause =
     let back : Bool = is_taking_back (s.log t) in

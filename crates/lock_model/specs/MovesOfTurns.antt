@@ -19,6 +19,7 @@ out_with turnstile_chain sleep_chain of cell graph (RecordOf t) = of t
 out_with turnstile_chain sleep_chain of cell graph (CellOf l k) = cell l k
 out_with turnstile_chain sleep_chain of cell graph ClassGraph = graph
 
+-- the same of a state
 abbrev pub item_with : State → Item → Option ℕ
 item_with s = out_with s.turnstile_chain_with s.sleep_chain_with s.record_with s.cell_with s.graph_with
 
@@ -64,6 +65,7 @@ with_turn s (RecordOf t) o = record s { record_with = put s.record_with t o }
 with_turn s (CellOf l k) o = record s { cell_with = put_at s.cell_with l k o }
 with_turn s ClassGraph o = record s { graph_with = o }
 
+-- the item is out with the thread
 unfoldable pub after_take : State → ℕ → Item → State
 after_take s t i = with_turn s i (Some t)
 
@@ -76,10 +78,12 @@ IsDoneWith s t (RecordOf u) = u ≡ t → s.wait t ≡ Queued → s.named t ≢ 
 IsDoneWith s t (CellOf l k) = ⊤
 IsDoneWith s t ClassGraph = ⊥
 
+-- what it asks to give an item back
 pub record MayGive (c : Config) (s : State) (t : ℕ) (i : Item) : Type 0 where
   pub thread : t < c.threads
   pub out : item_with s i ≡ Some t
   pub done : IsDoneWith s t i
 
+-- the item is home
 unfoldable pub after_give : State → Item → State
 after_give s i = with_turn s i None

@@ -1,9 +1,9 @@
 -- The two lists of a queue and what is done with them: who stands where, the rule of insertion, how woken waiters get their
 -- objects back, and the least kept priority.
-use Rattle.std.specs.Prelude.{◌≡◌, ℕ, zero, suc, ◌+◌, ◌≤◌, Bool, true, false, not, ◌&&◌, ◌==◌, nat_le, if◌then◌else◌, List, [], ◌∷◌, length, Option, Some, None, ⊤}
+use Rattle.std.specs.Prelude.{ℕ, ◌+◌, Bool, false, not, ◌==◌, nat_le, if◌then◌else◌, List, [], ◌∷◌, length, Option, Some, None}
 use Rattle.lock_model.specs.Counts.{one, lower}
 use Rattle.lock_model.specs.Words.{is_turnstile}
-use Rattle.lock_model.specs.State.{Config, Waiter, Lists, Mark, Cause, BySignal}
+use Rattle.lock_model.specs.State.{Config, Waiter, Lists, Mark, BySignal}
 use Rattle.lock_model.specs.declared.plan.Mode.{Mode}
 use Rattle.lock_model.specs.declared.plan.Mode.TheVariants.{Excl, Shared}
 use Rattle.lock_model.specs.declared.plan.Side.{Side}
@@ -26,10 +26,12 @@ abbrev pub is_turnstile_queue : Config → QueueName → Bool
 is_turnstile_queue c (Lock l) = is_turnstile (c.kind l.0)
 is_turnstile_queue c (Chan d) = false
 
+-- whether a turnstile is named
 abbrev pub names_turnstile : Config → Option QueueName → Bool
 names_turnstile c None = false
 names_turnstile c (Some q) = is_turnstile_queue c q
 
+-- whether a sleep queue is named
 abbrev pub names_sleep_queue : Config → Option QueueName → Bool
 names_sleep_queue c None = false
 names_sleep_queue c (Some q) = not (is_turnstile_queue c q)
@@ -41,10 +43,12 @@ abbrev pub side_of : Mode → Side
 side_of Excl = X
 side_of Shared = S
 
+-- the list of a side
 abbrev pub list_of : Side → Lists → List Waiter
 list_of X q = q.exclusive
 list_of S q = q.shared
 
+-- the queue with another list on a side
 abbrev pub with_list : Side → List Waiter → Lists → Lists
 with_list X ws q = record q { exclusive = ws }
 with_list S ws q = record q { shared = ws }
@@ -104,10 +108,12 @@ head_after (w ∷ ws) (x ∷ xs) h = head_after ws xs h
 
 -- 6. Kept priorities
 
+-- the least kept priority of a list
 abbrev pub least_kept : List Waiter → Option ℕ
 least_kept [] = None
 least_kept (w ∷ ws) = Some (lower (least_kept ws) w.kept)
 
+-- the lesser of two numbers that may be there
 abbrev pub least_of_two : Option ℕ → Option ℕ → Option ℕ
 least_of_two None o = o
 least_of_two (Some p) o = Some (lower o p)

@@ -1,5 +1,5 @@
 -- The steps of threads, one case per kind. A step asks its guard, and its effect is computed.
-use Rattle.std.specs.Prelude.{◌≡◌, ◌⊎◌, ℕ, ◌%◌, Bool, true, if◌then◌else◌, List, [], ◌∷◌, Option, Some, ⊤}
+use Rattle.std.specs.Prelude.{◌≡◌, ◌⊎◌, ℕ, ◌%◌, Bool, if◌then◌else◌, List, [], ◌∷◌, Some, ⊤}
 use Rattle.lock_model.specs.State.{Config, State, Cause, Mark, Walk, NoWalk, AtLock, AtThread, start_state}
 use Rattle.lock_model.specs.Words.{is_turnstile}
 use Rattle.lock_model.specs.Moves.{MayLook, MayGain, MayDrop, MayStamp, MayReady, MayUnready, after_look, after_gain, after_drop, after_stamp, after_ready, after_unready}
@@ -13,20 +13,32 @@ use Rattle.lock_model.specs.declared.event.Event.TheVariants.{Set, Added, Got, B
 
 -- a step, with the thread that makes it first
 pub data Move : Type 0 where
+  -- the lock, and whether it counts in an acquiring round
   Looks : ℕ → ℕ → Bool → Move
+  -- the item
   TakesTurn : ℕ → Item → Move
   GivesTurn : ℕ → Item → Move
+  -- the lock and the mode
   Gains : ℕ → ℕ → Mode → Move
   Drops : ℕ → ℕ → Mode → Move
+  -- the event
   Stamps : ℕ → Event → Move
+  -- the own wait word
   Readies : ℕ → Move
   Unreadies : ℕ → Move
+  -- the lock, the mode and the own turnstile
   Enters : ℕ → ℕ → Mode → ℕ → Move
+  -- the lock and the mode in which it was held
   Opens : ℕ → ℕ → Mode → Move
+  -- the first mark and the others
   Marks : ℕ → Mark → List Mark → Move
+  -- the queue and the cause of the wake
   Resumes : ℕ → QueueName → Cause → Move
+  -- the lock and the head of its turnstile
   Claims : ℕ → ℕ → ℕ → Move
+  -- the lock, the owner of its turnstile and the head
   Lends : ℕ → ℕ → ℕ → ℕ → Move
+  -- the thread at which the walk is, and the lock for which it waits
   Shifts : ℕ → ℕ → ℕ → Move
   EndsWalk : ℕ → Move
 
@@ -74,9 +86,11 @@ after c s (EndsWalk t) = after_end_walk s t
 abbrev pub chain_of : Config → ℕ → Item
 chain_of c l = if is_turnstile (c.kind l) then TurnstileChain (l % c.chains) else SleepChain (l % c.chains)
 
+-- the thread has the item out
 abbrev pub HasItem : State → ℕ → Item → Type 0
 HasItem s t i = item_with s i ≡ Some t
 
+-- the thread has some chain out
 abbrev pub HasSomeChain : State → ℕ → Type 0
 HasSomeChain s t = (k : ℕ) × (HasItem s t (TurnstileChain k) ⊎ HasItem s t (SleepChain k))
 
@@ -92,11 +106,13 @@ HasOutForEntry c s t (WokeOne d woken) = HasItem s t (SleepChain (d.0 % c.chains
 HasOutForEntry c s t (WokeAll d woken) = HasItem s t (SleepChain (d.0 % c.chains))
 HasOutForEntry c s t other = ⊤
 
+-- what the end of a walk needs where it stands
 abbrev pub HasOutForEnd : Config → State → ℕ → Walk → Type 0
 HasOutForEnd c s t NoWalk = ⊤
 HasOutForEnd c s t (AtLock l) = HasItem s t (chain_of c l)
 HasOutForEnd c s t (AtThread o) = HasItem s t (RecordOf o)
 
+-- what each kind of step needs out
 abbrev pub HasOut : Config → State → Move → Type 0
 HasOut c s (Looks t l in_round) = ⊤
 HasOut c s (TakesTurn t i) = ⊤

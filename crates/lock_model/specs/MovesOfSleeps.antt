@@ -1,0 +1,76 @@
+-- Steps that put a thread on a sleep queue, of an sx lock or of a condition variable or channel, and take sleepers off again.
+use Rattle.std.specs.Prelude.{◌≡◌, ◌⊎◌, ℕ, ◌<◌, Bool, true, false, ◌==◌, nat_lt, if◌then◌else◌, List, [], ◌∷◌, ◌++◌, map, Option, Some, None}
+use Rattle.lock_model.specs.Words.{admits, is_free, is_turnstile, without_one, shows_waiters, entered, opened, side_woken}
+use Rattle.lock_model.specs.History.{open_in}
+use Rattle.lock_model.specs.State.{Config, State, NotHeld, Holds, Queued, Waiter, Lists, Wake, put, put_at, put_queue}
+use Rattle.lock_model.specs.Queues.{lock_queue, chan_queue, side_of, list_of, with_list, head_with, free_with, dealt, free_after, head_after, without}
+use Rattle.lock_model.specs.declared.plan.Mode.{Mode}
+use Rattle.lock_model.specs.declared.plan.Side.{Side}
+use Rattle.lock_model.specs.declared.plan.QueueName.{QueueName}
+use Rattle.lock_model.specs.declared.event.Event.{Event}
+use Rattle.lock_model.specs.declared.event.Event.TheVariants.{Sleeps}
+use Rattle.lock_model.specs.declared.event.Entry.{Entry}
+
+-- 1. An enter on an sx lock: as on a turnstile, but the thread stands at the tail, ranked by its base priority, and lends no priority
+
+-- what it asks
+pub record MayEnterSleep (c : Config) (s : State) (t l : ℕ) (mode : Mode) (x : ℕ) : Type 0 where
+  pub thread : t < c.threads
+  pub lock : l < c.locks
+  pub sleeps : is_turnstile (c.kind l) ≡ false
+  pub held : is_free (s.word l).holder ≡ false
+  pub refused : admits (c.kind l) (s.word l) mode ≡ false
+  pub queued : s.wait t ≡ Queued
+  pub unnamed : s.named t ≡ None
+  pub own : s.sleep_queue t ≡ Some x
+  pub wants : (s.wanted t ≡ Some l) ⊎ (s.wanted t ≡ None)
+
+-- a list with one more at its tail
+abbrev pub with_last : Waiter → List Waiter → List Waiter
+with_last w ws = ws ++ w ∷ []
+
+-- the thread stands at the tail of its side, and its sleep queue is lent
+unfoldable pub after_enter_sleep : State → ℕ → ℕ → Mode → ℕ → State
+after_enter_sleep s t l mode x =
+    let q : QueueName = lock_queue l in
+    record s {
+      word = put s.word l (entered (s.word l) (side_of mode));
+      lists = put_queue s.lists q (with_list (side_of mode) (with_last (record { thread = t; kept = s.base t }) (list_of (side_of mode) (s.lists q))) (s.lists q));
+      free_list = put_queue s.free_list q (free_with (s.head q) x (s.free_list q));
+      head = put_queue s.head q (head_with (s.head q) x);
+      sleep_queue = put s.sleep_queue t None;
+      named = put s.named t (Some q);
+      wanted = put s.wanted t (Some l);
+      called = put s.called t None;
+      last_look = put s.last_look t None;
+    }
+
+-- 2. An open of an sx lock: as of a turnstile lock, without loans
+
+-- what it asks
+pub record MayOpenSleep (c : Config) (s : State) (t l : ℕ) (mode : Mode) : Type 0 where
+  pub thread : t < c.threads
+  pub lock : l < c.locks
+  pub sleeps : is_turnstile (c.kind l) ≡ false
+  pub held : s.held t l ≡ Holds mode
+  pub last : is_free (without_one (s.word l).holder) ≡ true
+  pub shown : shows_waiters (s.word l) ≡ true
+  pub unmarked : s.marked t ≡ []
+  pub closed : open_in c s.history t l ≡ NotHeld
+  pub begun : s.has_begun t l ≡ true
+
+-- the word is free, and the woken side is in the marked list
+unfoldable pub after_open_sleep : Config → State → ℕ → ℕ → State
+after_open_sleep c s t l =
+    let q : QueueName = lock_queue l in
+    let side : Side = side_woken (c.kind l) (s.word l) in
+    let ws : List Waiter = list_of side (s.lists q) in
+    record s {
+      word = put s.word l (opened (c.kind l) (s.word l));
+      lists = put_queue s.lists q (with_list side [] (s.lists q));
+      free_list = put_queue s.free_list q (free_after ws (s.free_list q));
+      head = put_queue s.head q (head_after ws (s.free_list q) (s.head q));
+      held = put_at s.held t l NotHeld;
+      marked = put s.marked t (dealt q ws (s.free_list q) (s.head q));
+      last_look = put s.last_look t None;
+    }
