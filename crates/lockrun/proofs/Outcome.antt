@@ -26,7 +26,8 @@ use Rattle.lockrun.specs.declared.status.Status.{Status}
 use Rattle.lockrun.specs.declared.status.Status.TheVariants.{Done, BadScript}
 use Rattle.lockrun.specs.Output.{IsLawfulRun, default_chains, output_of, output_of_plan, status_of}
 use Rattle.lockrun.proofs.Accepted.{accepted_straight}
-use Rattle.lockrun.proofs.Stands.{along, words_match_always}
+use Rattle.lockrun.proofs.Stands.{along, reached_always}
+use Rattle.lock_laws.proofs.Steps.{reached_lawful}
 
 -- with at most one thread, what holds of the first holds of all
 all_first : (ts : List ThreadDecl) (p : ℕ → Bool) → length ts ≤ 1 → p 0 ≡ true → list_all p (range_with_len 0 (length ts)) ≡ true
@@ -77,7 +78,7 @@ module _ (plan : Plan) (chains : ℕ) (straight : IsStraight plan) where
 pub lawful_run : (plan : Plan) → IsStraight plan → IsLawfulRun plan
 unfolding scheduled_run
 lawful_run plan straight = record {
-  words = words_match_always plan default_chains straight;
+  states = λ n. reached_lawful (config_of plan default_chains) (after_turns plan default_chains n).state (reached_always plan default_chains straight n);
   tables = ap (λ (h : List Entry). entries (tables_of h)) (sym (reverse-reverse (after_turns plan default_chains (length (operations_of plan 0))).state.history));
   done = ends_done plan default_chains straight;
 }

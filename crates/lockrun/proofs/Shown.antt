@@ -33,7 +33,7 @@ use Rattle.lock_model.specs.declared.event.Event.TheVariants as event
 use Rattle.lockrun.specs.declared.world.World.{World}
 use Rattle.lockrun.specs.World.{word_at, ChangesWord, Notes, SameTables, SameWords, Shows, CanMake, Makes, HasRoom}
 use Rattle.lockrun.specs.Straight.{held_after, IsStraight}
-use Rattle.lockrun.proofs.Stands.{Stands, below_locks, hold_by, word_by, IsAlong, IsMade, along, made, turn_made, fits_next}
+use Rattle.lockrun.proofs.Stands.{Stands, below_locks, hold_by, word_by, IsAlong, IsMade, along, made, turn_made, fits_next, some_thread}
 
 -- 1. Tables
 
@@ -208,7 +208,7 @@ module _ (plan : Plan) (chains : ℕ) (straight : IsStraight plan) (n : ℕ) (l 
       let a = along plan chains straight n (omega arith) in
       let f = fits_next plan chains straight n a.0 a.1 l in
       let op : Op = get_or (operations_of plan 0) n EndTry in
-      let next : IsMade c (state n) op f.0 = made c (state n) a.0 f.0 op a.1.stands f.1 in
+      let next : IsMade c (state n) op f.0 = made c (some_thread plan chains straight n l) (state n) a.0 f.0 op a.1.stands f.1 in
       let t = turn_made plan chains straight n a.0 f.0 a.1 l f.1 next in
       subst (λ (r : Run). Shows c v r.state) (sym t) (shows_made c w v (state n) next.next a.0 f.0 op shows a.1.stands f.1 next.made m)
 

@@ -1,17 +1,20 @@
 -- What the states of a straight run are: the one lock that is held, if any, has the word of its holder, and all others are free.
-use Rattle.std.proofs.Common.{◌≡◌, ℕ, zero, suc, ◌+◌, ◌<◌, ◌≤◌, Bool, true, false, cond, eqb, List, [], ◌∷◌, ◌++◌, length, drop, get_or, slice_get, Option, Some, None, option_and_then, refl, sym, ap, subst, ◌∙◌, arith, inl, inr, add-zero, ◌-◌, unwrap_or, nat_lt, ◌&&◌}
-use Rattle.std.proofs.lemmas.Option.{option_and_then_some, slice_get-get_or, slice_get_past, cond_some, none-some}
+use Rattle.std.proofs.Common.{◌≡◌, ℕ, zero, suc, ◌+◌, ◌<◌, ◌≤◌, Bool, true, false, cond, eqb, List, [], ◌∷◌, ◌++◌, length, drop, get_or, slice_get, Option, Some, None, option_and_then, refl, sym, ap, subst, ◌∙◌, arith, inl, inr, add-zero, ◌-◌, unwrap_or, map, nat_lt, ◌&&◌}
+use Rattle.std.proofs.lemmas.Option.{option_and_then_some, slice_get-get_or, slice_get_past, cond_some, none-some, same_Some}
 use Rattle.std.proofs.lemmas.Bool.Decides.{nat_tests}
 use Rattle.std.proofs.lemmas.Bool.{eqb-true, eq-eqb, ne_eqb, cases_eq, cases_lt}
 use Rattle.std.proofs.Math.Seq.{drop-cons}
 use Rattle.lock_model.specs.Plans.{config_of, operations_of}
-use Rattle.lock_model.specs.Words.{Word, SharedBy, free_word, gained, sharers, is_free, dropped, admits}
-use Rattle.lock_model.specs.Counts.{sum_below}
-use Rattle.lock_model.specs.State.{Config, State, Hold, NotHeld, Holds, put, put_at, start_state}
-use Rattle.lock_model.specs.Moves.{after_gain, after_drop, after_stamp}
-use Rattle.lock_model.specs.Facts.{WordsMatchHolders, owns, shares}
-use Rattle.lock_model.specs.History.{is_exclusive}
+use Rattle.lock_model.specs.Words.{Word, free_word, gained, is_free, is_plain, is_drop, dropped, admits}
+use Rattle.lock_model.specs.State.{Config, State, Hold, NotHeld, Holds, Running, put, put_at, start_state}
+use Rattle.lock_model.specs.Moves.{MayGain, MayDrop, MayStamp, is_woken, after_gain, after_drop, after_stamp}
+use Rattle.lock_model.specs.History.{open_in, sections_in, replaced}
+use Rattle.lock_model.specs.Steps.{IsReached, goes_on, Gains, Drops, Stamps}
+use Rattle.lock_model.specs.Steps as steps
 use Rattle.lock_model.specs.Run.{Run, turn_of, after_turns, after_operation, after_take, after_release, after_next, with_made}
+use Rattle.lock_model.specs.declared.plan.Kind.{Kind}
+use Rattle.lock_model.specs.declared.plan.Kind.TheVariants.{Mtx, Rw, Sx}
+use Rattle.lock_model.specs.declared.plan.ThreadDecl.{ThreadDecl}
 use Rattle.lock_model.specs.declared.plan.Plan.{Plan}
 use Rattle.lock_model.specs.declared.numbers.LockNo.{LockNo}
 use Rattle.lock_model.specs.declared.plan.Mode.TheVariants.{Excl, Shared}
@@ -34,64 +37,35 @@ hold_by true true = Holds Excl
 hold_by true false = NotHeld
 hold_by false is_first = NotHeld
 
--- the state of a run whose one thread holds just this lock
+-- the state of a run whose one thread holds just this lock, and wants and waits for nothing
 pub record Stands (c : Config) (s : State) (h : Option ℕ) : Type 0 where
   pub word : (l : ℕ) → s.word l ≡ word_by (is_at h l)
   pub held : (t l : ℕ) → s.held t l ≡ hold_by (is_at h l) (eqb 0 t)
+  pub sections : (l : ℕ) → open_in c s.history 0 l ≡ hold_by (is_at h l) true
+  pub begun : (k : ℕ) → h ≡ Some k → s.has_begun 0 k ≡ true
+  pub within : (k : ℕ) → h ≡ Some k → k < c.locks
+  pub named : (t : ℕ) → s.named t ≡ None
+  pub wait : (t : ℕ) → s.wait t ≡ Running
+  pub wanted : (t : ℕ) → s.wanted t ≡ None
   pub base : (t : ℕ) → s.base t ≡ c.declared_base t
   pub effective : (t : ℕ) → s.effective t ≡ c.declared_base t
-  pub within : (k : ℕ) → h ≡ Some k → k < c.locks
 
 pub start_stands : (c : Config) → Stands c (start_state c) None
-unfolding start_state
-start_stands c = record { word = λ l. refl; held = λ t l. refl; base = λ t. refl; effective = λ t. refl; within = λ k e. absurd (none-some k e) }
+unfolding start_state sections_in
+start_stands c = record {
+  word = λ l. refl;
+  held = λ t l. refl;
+  sections = λ l. refl;
+  begun = λ k e. absurd (none-some k e);
+  within = λ k e. absurd (none-some k e);
+  named = λ t. refl;
+  wait = λ t. refl;
+  wanted = λ t. refl;
+  base = λ t. refl;
+  effective = λ t. refl;
+}
 
--- 1. Words match their holders
-
-sum_below-none : (n : ℕ) (f : ℕ → ℕ) → ((t : ℕ) → f t ≡ 0) → sum_below n f ≡ 0
-unfolding sum_below
-sum_below-none zero f h = refl
-sum_below-none (suc n) f h = let rest = sum_below-none n f h in let here = h n in omega arith
-
-first_either_way : (t : ℕ) → eqb 0 t ≡ eqb t 0
-first_either_way t = elim (cases_eq 0 t) [ inl e ↦ eq-eqb 0 t e ∙ sym (eq-eqb t 0 (sym e)) | inr e ↦ ne_eqb 0 t e ∙ sym (ne_eqb t 0 (λ d. e (sym d))) ]
-
-owner_when : (b d : Bool) → is_exclusive (hold_by b d) ≡ cond b d false
-owner_when true true = refl
-owner_when true false = refl
-owner_when false d = refl
-
-owns_when : (b : Bool) (t : ℕ) → owns t (word_by b).holder ≡ cond b (eqb t 0) false
-owns_when true t = refl
-owns_when false t = refl
-
-owner_by : (b : Bool) (t : ℕ) → is_exclusive (hold_by b (eqb 0 t)) ≡ owns t (word_by b).holder
-owner_by b t = owner_when b (eqb 0 t) ∙ ap (λ (d : Bool). cond b d false) (first_either_way t) ∙ sym (owns_when b t)
-
-shares_none : (b d : Bool) → shares (hold_by b d) ≡ 0
-shares_none true true = refl
-shares_none true false = refl
-shares_none false d = refl
-
-sharers_none : (b : Bool) → sharers (word_by b).holder ≡ 0
-sharers_none true = refl
-sharers_none false = refl
-
-never_none_shared : (b : Bool) → (word_by b).holder ≡ SharedBy 0 → ⊥
-never_none_shared true e = cc
-never_none_shared false e = cc
-
-pub words_match : (c : Config) (s : State) (h : Option ℕ) → Stands c s h → WordsMatchHolders c s.word s.held
-unfolding WordsMatchHolders
-words_match c s h st l =
-    let b : Bool = is_at h l in
-    record {
-      owner = λ t. ap is_exclusive (st.held t l) ∙ owner_by b t ∙ ap (λ (w : Word). owns t w.holder) (sym (st.word l));
-      sharers_are_counted = sum_below-none c.threads (λ t. shares (s.held t l)) (λ t. ap shares (st.held t l) ∙ shares_none b (eqb 0 t)) ∙ sym (sharers_none b) ∙ ap (λ (w : Word). sharers w.holder) (sym (st.word l));
-      some_sharer = λ e. never_none_shared b (ap (λ (w : Word). w.holder) (sym (st.word l)) ∙ e);
-    }
-
--- 2. An operation that fits can be made, and leaves the lock that it says
+-- 1. An operation that fits can be made, and leaves the lock that it says
 
 -- the state behind an operation, and what it is
 pub record IsMade (c : Config) (s : State) (op : Op) (h : Option ℕ) : Type 0 where
@@ -99,6 +73,7 @@ pub record IsMade (c : Config) (s : State) (op : Op) (h : Option ℕ) : Type 0 w
   pub made : after_operation c s 0 op ≡ Some next
   pub stands : Stands c next h
   pub ticket : next.next ≡ suc s.next
+  pub reached : IsReached c s → IsReached c next
 
 -- one place after a gain or a drop of the lock, where b says whether it is that lock's and d whether it is the thread's
 gained_word : (b : Bool) (here there : Word) → here ≡ word_by false → there ≡ word_by false → cond b (gained here 0 Excl) there ≡ word_by b
@@ -121,29 +96,70 @@ dropped_hold true false x p = p
 dropped_hold false true x p = p
 dropped_hold false false x p = p
 
+none_wanted : (d : Bool) (x : Option ℕ) → x ≡ None → cond d None x ≡ None
+none_wanted true x p = refl
+none_wanted false x p = p
+
+-- the section of a lock behind an entry for that lock, where b says whether it is that lock
+opened_section : (b : Bool) (x : Hold) → x ≡ NotHeld → replaced (cond b (Holds Excl) NotHeld) x ≡ hold_by b true
+opened_section true x p = refl
+opened_section false x p = p
+
+closed_section : (b : Bool) (x : Hold) → x ≡ hold_by b true → cond b NotHeld x ≡ NotHeld
+closed_section true x p = refl
+closed_section false x p = p
+
+same_lock : (l k : ℕ) (P : ℕ → Type 0) → Some l ≡ Some k → P l → P k
+same_lock l k P e p = subst P (same_Some l k e) p
+
+begun_here : (has_begun : ℕ → ℕ → Bool) (l : ℕ) → put_at has_begun 0 l true 0 l ≡ true
+unfolding put_at
+begun_here has_begun l = ap (λ (b : Bool). cond b true (has_begun 0 l)) (eq-eqb l l refl)
+
 take_stands : (c : Config) (s : State) (l : LockNo) → l.0 < c.locks → Stands c s None → Stands c (after_take c s 0 l Excl) (Some l.0)
-unfolding after_gain after_stamp put put_at
+unfolding after_gain after_stamp put put_at sections_in
 take_stands c s l below st = record {
-  within = λ k e. subst (λ (j : ℕ). j < c.locks) (ap (λ (o : Option ℕ). unwrap_or o 0) e) below;
   word = λ k. gained_word (eqb l.0 k) (s.word l.0) (s.word k) (st.word l.0) (st.word k);
   held = λ t k. gained_hold (eqb 0 t) (eqb l.0 k) (s.held t k) (st.held t k);
+  sections = λ k. opened_section (eqb l.0 k) (open_in c s.history 0 k) (st.sections k);
+  begun = λ k e. same_lock l.0 k (λ j. (after_take c s 0 l Excl).has_begun 0 j ≡ true) e (begun_here (after_gain s 0 l.0 Excl).has_begun l.0);
+  within = λ k e. same_lock l.0 k (λ j. j < c.locks) e below;
+  named = st.named;
+  wait = st.wait;
+  wanted = λ t. none_wanted (eqb 0 t) (s.wanted t) (st.wanted t);
   base = st.base;
   effective = st.effective;
 }
 
 release_stands : (c : Config) (s : State) (l : LockNo) → Stands c s (Some l.0) → Stands c (after_drop (after_stamp c s 0 (event.Unlocked l Excl)) 0 l.0) None
-unfolding after_drop after_stamp put put_at
+unfolding after_drop after_stamp put put_at sections_in
 release_stands c s l st = record {
-  within = λ k e. absurd (none-some k e);
   word = λ k. dropped_word (eqb l.0 k) (s.word l.0) (s.word k) (st.word l.0 ∙ ap word_by (eq-eqb l.0 l.0 refl)) (st.word k);
   held = λ t k. dropped_hold (eqb 0 t) (eqb l.0 k) (s.held t k) (st.held t k);
+  sections = λ k. closed_section (eqb l.0 k) (open_in c s.history 0 k) (st.sections k);
+  begun = λ k e. absurd (none-some k e);
+  within = λ k e. absurd (none-some k e);
+  named = st.named;
+  wait = st.wait;
+  wanted = st.wanted;
   base = st.base;
   effective = st.effective;
 }
 
 set_stands : (c : Config) (s : State) (h : Option ℕ) (l : LockNo) (key value : ℕ) → Stands c s h → Stands c (after_stamp c s 0 (event.Set l key value)) h
-unfolding after_stamp
-set_stands c s h l key value st = record { word = st.word; held = st.held; base = st.base; effective = st.effective; within = st.within }
+unfolding after_stamp sections_in
+set_stands c s h l key value st = record {
+  word = st.word;
+  held = st.held;
+  sections = st.sections;
+  begun = st.begun;
+  within = st.within;
+  named = st.named;
+  wait = st.wait;
+  wanted = st.wanted;
+  base = st.base;
+  effective = st.effective;
+}
 
 take_ticket : (c : Config) (s : State) (l : LockNo) → (after_take c s 0 l Excl).next ≡ suc s.next
 unfolding after_gain after_stamp
@@ -161,22 +177,83 @@ set_ticket c s l key value = refl
 admits_free : (c : Config) (s : State) (l : ℕ) → s.word l ≡ word_by false → admits (c.kind l) (s.word l) Excl ≡ true
 admits_free c s l e = ap (λ (w : Word). is_free w.holder) e
 
+plain_free : (kind : Kind) → is_plain kind (word_by false) Excl ≡ true
+plain_free Mtx = refl
+plain_free Rw = refl
+plain_free Sx = refl
+
+-- the operations are steps that the thread may make
+module _ (c : Config) (s : State) (some_thread : 0 < c.threads) where
+  take_reached : (l : LockNo) → l.0 < c.locks → Stands c s None → IsReached c s → IsReached c (after_take c s 0 l Excl)
+  unfolding after_gain put_at
+  take_reached l below st r =
+      let gain : MayGain c s 0 l.0 Excl = record {
+        thread = some_thread;
+        lock = below;
+        admitted = admits_free c s l.0 (st.word l.0);
+        plainly = ap (λ (w : Word). is_plain (c.kind l.0) w Excl) (st.word l.0) ∙ plain_free (c.kind l.0);
+        unheld = st.held 0 l.0;
+        unnamed = st.named 0;
+        unwoken = ap is_woken (st.wait 0);
+        wants = inr (st.wanted 0);
+      } in
+      let stamp : MayStamp c (after_gain s 0 l.0 Excl) 0 (event.Locked l Excl) = record {
+        thread = some_thread;
+        unnamed = st.named 0;
+        unwoken = ap is_woken (st.wait 0);
+        asks = record { held = ap (λ (b : Bool). cond b (Holds Excl) (s.held 0 l.0)) (eq-eqb l.0 l.0 refl); closed = st.sections l.0 };
+      } in
+      goes_on (goes_on r (Gains 0 l.0 Excl, gain, refl)) (Stamps 0 (event.Locked l Excl), stamp, refl)
+
+  section_here : (l : LockNo) → Stands c s (Some l.0) → open_in c s.history 0 l.0 ≡ Holds Excl
+  section_here l st = st.sections l.0 ∙ ap (λ (b : Bool). hold_by b true) (eq-eqb l.0 l.0 refl)
+
+  release_reached : (l : LockNo) → Stands c s (Some l.0) → IsReached c s → IsReached c (after_drop (after_stamp c s 0 (event.Unlocked l Excl)) 0 l.0)
+  unfolding after_stamp sections_in
+  release_reached l st r =
+      let stamp : MayStamp c s 0 (event.Unlocked l Excl) = record {
+        thread = some_thread;
+        unnamed = st.named 0;
+        unwoken = ap is_woken (st.wait 0);
+        asks = section_here l st;
+      } in
+      let drop : MayDrop c (after_stamp c s 0 (event.Unlocked l Excl)) 0 l.0 Excl = record {
+        thread = some_thread;
+        lock = st.within l.0 refl;
+        held = st.held 0 l.0 ∙ ap (λ (b : Bool). hold_by b true) (eq-eqb l.0 l.0 refl);
+        stays = ap is_drop (st.word l.0 ∙ ap word_by (eq-eqb l.0 l.0 refl));
+        closed = ap (λ (b : Bool). cond b NotHeld (open_in c s.history 0 l.0)) (eq-eqb l.0 l.0 refl);
+        begun = st.begun l.0 refl;
+      } in
+      goes_on (goes_on r (Stamps 0 (event.Unlocked l Excl), stamp, refl)) (Drops 0 l.0 Excl, drop, refl)
+
+  set_reached : (l : LockNo) (key value : ℕ) → Stands c s (Some l.0) → IsReached c s → IsReached c (after_stamp c s 0 (event.Set l key value))
+  set_reached l key value st r =
+      let stamp : MayStamp c s 0 (event.Set l key value) = record {
+        thread = some_thread;
+        unnamed = st.named 0;
+        unwoken = ap is_woken (st.wait 0);
+        asks = section_here l st;
+      } in
+      goes_on r (Stamps 0 (event.Set l key value), stamp, refl)
+
 released : (c : Config) (s : State) (l : LockNo) (x : Hold) → x ≡ Holds Excl → after_release c s 0 l x ≡ Some (after_drop (after_stamp c s 0 (event.Unlocked l Excl)) 0 l.0)
 released c s l x e = ap (after_release c s 0 l) e
 
 pub below_locks : (n l : ℕ) → nat_lt l n ≡ true → l < n
 below_locks n l e = grind (arith, nat_tests)
 
-pub made : (c : Config) (s : State) (h h' : Option ℕ) (op : Op) → Stands c s h → held_after c.locks h op ≡ Some h' → IsMade c s op h'
-made c s None h' (Take l Excl) st e =
+pub made : (c : Config) → 0 < c.threads → (s : State) (h h' : Option ℕ) (op : Op) → Stands c s h → held_after c.locks h op ≡ Some h' → IsMade c s op h'
+made c some_thread s None h' (Take l Excl) st e =
     let q : Some l.0 ≡ h' = (cond_some (nat_lt l.0 c.locks) (Some l.0) h' e).1 in
     record {
       next = after_take c s 0 l Excl;
       made = ap (λ b. cond b (Some (after_take c s 0 l Excl)) None) (admits_free c s l.0 (st.word l.0));
       stands = subst (Stands c (after_take c s 0 l Excl)) q (take_stands c s l (below_locks c.locks l.0 (cond_some (nat_lt l.0 c.locks) (Some l.0) h' e).0) st);
       ticket = take_ticket c s l;
+      reached = take_reached c s some_thread l (below_locks c.locks l.0 (cond_some (nat_lt l.0 c.locks) (Some l.0) h' e).0) st;
     }
-made c s (Some k) h' (Release l) st e =
+made c some_thread s (Some k) h' (Release l) st e =
     let q : None ≡ h' = (cond_some (eqb k l.0) None h' e).1 in
     let same : k ≡ l.0 = eqb-true k l.0 (cond_some (eqb k l.0) None h' e).0 in
     let at : Stands c s (Some l.0) = subst (λ (j : ℕ). Stands c s (Some j)) same st in
@@ -186,8 +263,9 @@ made c s (Some k) h' (Release l) st e =
       made = released c s l (s.held 0 l.0) (at.held 0 l.0 ∙ ap (λ (b : Bool). hold_by b true) (eq-eqb l.0 l.0 refl));
       stands = subst (Stands c next) q (release_stands c s l at);
       ticket = release_ticket c s l;
+      reached = release_reached c s some_thread l at;
     }
-made c s (Some k) h' (Set l key value) st e =
+made c some_thread s (Some k) h' (Set l key value) st e =
     let q : Some k ≡ h' = (cond_some (eqb k l.0) (Some k) h' e).1 in
     let next : State = after_stamp c s 0 (event.Set l key value) in
     record {
@@ -195,38 +273,44 @@ made c s (Some k) h' (Set l key value) st e =
       made = refl;
       stands = subst (Stands c next) q (set_stands c s (Some k) l key value st);
       ticket = set_ticket c s l key value;
+      reached = set_reached c s some_thread l key value (subst (λ (j : ℕ). Stands c s (Some j)) (eqb-true k l.0 (cond_some (eqb k l.0) (Some k) h' e).0) st);
     }
-made c s None h' (Take l Shared) st e = absurd (none-some h' e)
-made c s (Some k) h' (Take l m) st e = absurd (none-some h' e)
-made c s None h' (Release l) st e = absurd (none-some h' e)
-made c s None h' (Set l key value) st e = absurd (none-some h' e)
-made c s None h' (Try l m past) st e = absurd (none-some h' e)
-made c s (Some k) h' (Try l m past) st e = absurd (none-some h' e)
-made c s None h' EndTry st e = absurd (none-some h' e)
-made c s (Some k) h' EndTry st e = absurd (none-some h' e)
-made c s None h' (Add l key amount) st e = absurd (none-some h' e)
-made c s (Some k) h' (Add l key amount) st e = absurd (none-some h' e)
-made c s None h' (Get l key) st e = absurd (none-some h' e)
-made c s (Some k) h' (Get l key) st e = absurd (none-some h' e)
-made c s None h' (Base prio) st e = absurd (none-some h' e)
-made c s (Some k) h' (Base prio) st e = absurd (none-some h' e)
-made c s None h' Show st e = absurd (none-some h' e)
-made c s (Some k) h' Show st e = absurd (none-some h' e)
-made c s None h' (Sleep d) st e = absurd (none-some h' e)
-made c s (Some k) h' (Sleep d) st e = absurd (none-some h' e)
-made c s None h' (WakeOne d) st e = absurd (none-some h' e)
-made c s (Some k) h' (WakeOne d) st e = absurd (none-some h' e)
-made c s None h' (WakeAll d) st e = absurd (none-some h' e)
-made c s (Some k) h' (WakeAll d) st e = absurd (none-some h' e)
+made c some_thread s None h' (Take l Shared) st e = absurd (none-some h' e)
+made c some_thread s (Some k) h' (Take l m) st e = absurd (none-some h' e)
+made c some_thread s None h' (Release l) st e = absurd (none-some h' e)
+made c some_thread s None h' (Set l key value) st e = absurd (none-some h' e)
+made c some_thread s None h' (Try l m past) st e = absurd (none-some h' e)
+made c some_thread s (Some k) h' (Try l m past) st e = absurd (none-some h' e)
+made c some_thread s None h' EndTry st e = absurd (none-some h' e)
+made c some_thread s (Some k) h' EndTry st e = absurd (none-some h' e)
+made c some_thread s None h' (Add l key amount) st e = absurd (none-some h' e)
+made c some_thread s (Some k) h' (Add l key amount) st e = absurd (none-some h' e)
+made c some_thread s None h' (Get l key) st e = absurd (none-some h' e)
+made c some_thread s (Some k) h' (Get l key) st e = absurd (none-some h' e)
+made c some_thread s None h' (Base prio) st e = absurd (none-some h' e)
+made c some_thread s (Some k) h' (Base prio) st e = absurd (none-some h' e)
+made c some_thread s None h' Show st e = absurd (none-some h' e)
+made c some_thread s (Some k) h' Show st e = absurd (none-some h' e)
+made c some_thread s None h' (Sleep d) st e = absurd (none-some h' e)
+made c some_thread s (Some k) h' (Sleep d) st e = absurd (none-some h' e)
+made c some_thread s None h' (WakeOne d) st e = absurd (none-some h' e)
+made c some_thread s (Some k) h' (WakeOne d) st e = absurd (none-some h' e)
+made c some_thread s None h' (WakeAll d) st e = absurd (none-some h' e)
+made c some_thread s (Some k) h' (WakeAll d) st e = absurd (none-some h' e)
 
--- 3. The states of a run of a straight plan
+-- 2. The states of a run of a straight plan
 
 -- where a run is behind a number of turns: the lock held then, from which the operations to come lead to none
 pub record IsAlong (plan : Plan) (chains n : ℕ) (h : Option ℕ) : Type 0 where
   pub place : (after_turns plan chains n).place 0 ≡ n
   pub tickets : (after_turns plan chains n).state.next ≡ n
   pub stands : Stands (config_of plan chains) (after_turns plan chains n).state h
+  pub reached : IsReached (config_of plan chains) (after_turns plan chains n).state
   pub rest : held_through (length plan.locks) h (drop n (operations_of plan 0)) ≡ Some None
+
+threads_of_operations : (ts : List ThreadDecl) (n : ℕ) → n < length (unwrap_or (slice_get (map (λ d. d.ops) ts) 0) []) → 0 < length ts
+threads_of_operations [] n l = absurd (omega arith)
+threads_of_operations (t ∷ ts) n l = omega arith
 
 module _ (plan : Plan) (chains : ℕ) (straight : IsStraight plan) where
   abbrev pub ops : List Op
@@ -237,7 +321,11 @@ module _ (plan : Plan) (chains : ℕ) (straight : IsStraight plan) where
 
   pub begins : IsAlong plan chains 0 None
   unfolding after_turns start_state
-  begins = record { place = refl; tickets = refl; stands = start_stands c; rest = straight.fits }
+  begins = record { place = refl; tickets = refl; stands = start_stands c; reached = steps.begins; rest = straight.fits }
+
+  -- a thread that has an operation is there
+  pub some_thread : (n : ℕ) → n < length ops → 0 < c.threads
+  some_thread n l = threads_of_operations plan.threads n l
 
   -- the operation of the next turn
   abbrev pub next_op : ℕ → Op
@@ -257,17 +345,18 @@ module _ (plan : Plan) (chains : ℕ) (straight : IsStraight plan) where
       let split : drop n ops ≡ next_op n ∷ drop (suc n) ops = drop-cons ops n EndTry l in
       option_and_then_some _ _ _ (ap (held_through (length plan.locks) h) (sym split) ∙ a.rest) (λ h' e rest. (h', e, rest))
 
-  goes_on : (n : ℕ) (h : Option ℕ) → IsAlong plan chains n h → n < length ops → (h' : Option ℕ) × IsAlong plan chains (suc n) h'
+  one_more : (n : ℕ) (h : Option ℕ) → IsAlong plan chains n h → n < length ops → (h' : Option ℕ) × IsAlong plan chains (suc n) h'
   unfolding put
-  goes_on n h a l =
+  one_more n h a l =
       let f = fits_next n h a l in
-      let m : IsMade c (after_turns plan chains n).state (next_op n) f.0 = made c _ h f.0 (next_op n) a.stands f.1 in
+      let m : IsMade c (after_turns plan chains n).state (next_op n) f.0 = made c (some_thread n l) _ h f.0 (next_op n) a.stands f.1 in
       let t = turn_made n h f.0 a l f.1 m in (
         f.0,
         record {
           place = ap (λ (r : Run). r.place 0) t ∙ ap suc a.place;
           tickets = ap (λ (r : Run). r.state.next) t ∙ m.ticket ∙ ap suc a.tickets;
           stands = subst (λ (r : Run). Stands c r.state f.0) (sym t) m.stands;
+        reached = subst (λ (r : Run). IsReached c r.state) (sym t) (m.reached a.reached);
           rest = f.2;
         },
       )
@@ -275,7 +364,7 @@ module _ (plan : Plan) (chains : ℕ) (straight : IsStraight plan) where
   -- behind any number of turns up to that of the operations
   pub along : (n : ℕ) → n ≤ length ops → (h : Option ℕ) × IsAlong plan chains n h
   along zero l = (None, begins)
-  along (suc n) l = let a = along n (omega arith) in goes_on n a.0 a.1 (omega arith)
+  along (suc n) l = let a = along n (omega arith) in one_more n a.0 a.1 (omega arith)
 
   -- behind the last operation the state stays
   pub after_end : (k : ℕ) → after_turns plan chains (length ops + k) ≡ after_turns plan chains (length ops)
@@ -288,13 +377,12 @@ module _ (plan : Plan) (chains : ℕ) (straight : IsStraight plan) where
       let more : length ops + suc k ≡ suc (length ops + k) = omega arith in
       ap (after_turns plan chains) more ∙ ap (λ (x : Run). turn_of plan chains x 0) (after_end k) ∙ ap (λ (o : Option Op). after_next c r 0 o) none
 
-  -- after each number of turns the words match their holders
-  pub words_match_always : (n : ℕ) → WordsMatchHolders c (after_turns plan chains n).state.word (after_turns plan chains n).state.held
-  words_match_always n = elim (cases_lt (length ops) n) [
+  -- each state is one that steps reach
+  pub reached_always : (n : ℕ) → IsReached c (after_turns plan chains n).state
+  reached_always n = elim (cases_lt (length ops) n) [
     | inl l ↦
-        let P : Run → Type 0 = λ r. WordsMatchHolders c r.state.word r.state.held in
         let a = along (length ops) (omega arith) in
         let gap : length ops + (n - length ops) ≡ n = omega arith in
-        subst P (sym (ap (after_turns plan chains) (sym gap) ∙ after_end (n - length ops))) (words_match c _ a.0 a.1.stands)
-    | inr l ↦ let a = along n (omega arith) in words_match c _ a.0 a.1.stands
+        subst (λ (r : Run). IsReached c r.state) (sym (ap (after_turns plan chains) (sym gap) ∙ after_end (n - length ops))) a.1.reached
+    | inr l ↦ let a = along n (omega arith) in a.1.reached
   ]

@@ -5,7 +5,7 @@ use Rattle.lock_model.specs.Plans.{config_of}
 use Rattle.lock_model.specs.Script.{plan_of_lines, lines_of, is_same, IsAccepted}
 use Rattle.lock_model.specs.Run.{after_turns, scheduled_run}
 use Rattle.lock_model.specs.State.{State}
-use Rattle.lock_model.specs.Facts.{WordsMatchHolders}
+use Rattle.lock_model.specs.Facts.{Lawful}
 use Rattle.lock_model.specs.History.{tables_of}
 use Rattle.lock_model.specs.Text.{Outcome, Ending, IsDone, IsStuck, IsReversed, IsTooLong, text_of, fault_text}
 use Rattle.lock_model.specs.declared.plan.Plan.{Plan}
@@ -74,8 +74,8 @@ TookTooMany bytes new = (most_bytes < length bytes) × (new ≡ Some (drop (most
 abbrev pub Wrote : Option (List ℕ) → Option (List ℕ) → List ℕ → Type 0
 Wrote old new text = IfSome old (λ held. new ≡ Some (held ++ text))
 
--- after each number of turns the words match their holders, and the printed tables are what the printed history leaves
+-- after each number of turns the state is lawful, and the printed tables are what the printed history leaves
 pub record IsLawfulRun (plan : Plan) : Type 0 where
-  pub words : (n : ℕ) → WordsMatchHolders (config_of plan default_chains) (after_turns plan default_chains n).state.word (after_turns plan default_chains n).state.held
+  pub states : (n : ℕ) → Lawful (config_of plan default_chains) (after_turns plan default_chains n).state
   pub tables : (scheduled_run plan default_chains).tables ≡ entries (tables_of (reverse (scheduled_run plan default_chains).history))
   pub done : (scheduled_run plan default_chains).ending ≡ IsDone
