@@ -1,6 +1,6 @@
 -- Laws of lists in which sleepers stand in order of arrival.
-use Rattle.std.proofs.Common.{◌≡◌, ℕ, suc, ◌+◌, ◌≤◌, true, false, eqb, List, [], ◌∷◌, ◌++◌, length, Option, Some, None, refl, arith}
-use Rattle.lock_model.specs.Counts.{one, some, is_empty}
+use Rattle.std.proofs.Common.{◌≡◌, ℕ, suc, ◌+◌, false, eqb, List, [], ◌∷◌, length, refl, arith}
+use Rattle.lock_model.specs.Counts.{one, is_empty}
 use Rattle.lock_model.specs.State.{Waiter, Lists}
 use Rattle.lock_model.specs.Queues.{list_of, with_list, times_waiting, stands, waiting}
 use Rattle.lock_model.specs.MovesOfSleeps.{with_last}

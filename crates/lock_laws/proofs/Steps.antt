@@ -2,7 +2,7 @@
 use Rattle.std.proofs.Common.{subst, sym}
 use Rattle.lock_model.specs.State.{Config, State}
 use Rattle.lock_model.specs.Facts.{Lawful}
-use Rattle.lock_model.specs.Steps.{Move, Looks, TakesTurn, GivesTurn, Gains, Drops, Stamps, Readies, Unreadies, Enters, Opens, Marks, Resumes, Claims, Lends, Shifts, EndsWalk, May, after, Step, IsReached, begins, goes_on}
+use Rattle.lock_model.specs.Steps.{Move, Looks, TakesTurn, GivesTurn, Gains, Drops, Stamps, Readies, Unreadies, Enters, Opens, Marks, Resumes, Claims, Lends, Shifts, EndsWalk, May, after, Step, IsReachable, begins, goes_on}
 use Rattle.lock_laws.proofs.OwnWaits.{look_lawful, ready_lawful, unready_lawful}
 use Rattle.lock_laws.proofs.Turns.{take_lawful, give_lawful}
 use Rattle.lock_laws.proofs.StateAtStart as start
@@ -38,6 +38,6 @@ keeps c s (EndsWalk t) g h = shift.end_lawful c s t g h
 pub step_keeps : (c : Config) (s n : State) → Step c s n → Lawful c s → Lawful c n
 step_keeps c s n p h = subst (Lawful c) (sym p.2) (keeps c s p.0 p.1 h)
 
-pub reached_lawful : (c : Config) (s : State) → IsReached c s → Lawful c s
+pub reached_lawful : (c : Config) (s : State) → IsReachable c s → Lawful c s
 reached_lawful c s begins = start.lawful c
 reached_lawful c n (goes_on {s} r p) = step_keeps c s n p (reached_lawful c s r)

@@ -2,7 +2,7 @@
 
 ghost use Rattle.lock_model.specs.State.{Config, State, start_state};
 ghost use Rattle.lock_model.specs.Facts.{Lawful};
-ghost use Rattle.lock_model.specs.Steps.{Move, May, after, Step, IsReached};
+ghost use Rattle.lock_model.specs.Steps.{Move, May, after, Step, IsReachable};
 
 /// The state at the start of a plan is lawful.
 pub fn start_is_lawful()
@@ -21,5 +21,5 @@ pub fn steps_keep()
 
 /// Each state that steps reach from the start is lawful.
 pub fn reached_is_lawful()
-    ensures { (c : Config) (s : State) → IsReached c s → Lawful c s }
+    ensures { (c : Config) (s : State) → IsReachable c s → Lawful c s }
 {}

@@ -4,7 +4,9 @@ use Rattle.std.specs.Prelude.{◌≡◌, ◌≢◌, ◌⊎◌, ℕ, suc, ◌+◌
 use Rattle.lock_model.specs.Counts.{least}
 use Rattle.lock_model.specs.Words.{Word, word_of, admits, is_plain, gained, dropped, is_drop}
 use Rattle.lock_model.specs.History.{added, open_in, left_in}
-use Rattle.lock_model.specs.State.{Config, State, Hold, NotHeld, Holds, Wait, Running, Queued, Woken, IsRefused, IsHalted, Loan, Wake, put, put_at}
+use Rattle.lock_model.specs.State.{Config, State, Hold, NotHeld, Holds, Wait, Running, Queued, Woken, OrderRefused, SleepHalted, Loan, Wake, put, put_at}
+use Rattle.lock_model.specs.declared.plan.Kind.TheVariants.{Mtx}
+use Rattle.lock_model.specs.declared.plan.QueueName.TheVariants.{Lock, Chan}
 use Rattle.lock_model.specs.declared.plan.Mode.{Mode}
 use Rattle.lock_model.specs.declared.plan.Mode.TheVariants.{Excl}
 use Rattle.lock_model.specs.declared.event.Event.{Event}
@@ -91,10 +93,12 @@ pub record Returns (c : Config) (s : State) (t l : ℕ) : Type 0 where
   pub holds : s.held t l ≢ NotHeld
   pub closed : open_in c s.history t l ≡ NotHeld
 
--- the last look saw the lock with the word, and the word does not admit the mode
+-- The last look saw the lock with the word, and the word does not admit the mode, so it is held. Which mode was tried, the entry does
+-- not say
 pub record SawBusy (c : Config) (s : State) (t l : ℕ) (word : Word) (mode : Mode) : Type 0 where
   pub looked : s.last_look t ≡ Some (record { lock = l; word = word })
   pub refused : admits (c.kind l) word mode ≡ false
+  pub mutex : c.kind l ≡ Mtx → mode ≡ Excl
 
 -- the own priorities, shown while the sections of all held locks are open
 pub record ShowsOwn (c : Config) (s : State) (t base effective : ℕ) : Type 0 where
@@ -124,12 +128,12 @@ Asks c s t (Got l k found) = (open_in c s.history t l.0 ≢ NotHeld) × (found �
 Asks c s t (Base p) = ⊤
 Asks c s t (Shown base effective) = ShowsOwn c s t base.0 effective.0
 Asks c s t (Sleeps d) = open_in c s.history t (c.chan_lock d.0) ≢ NotHeld
-Asks c s t (Woke d) = Returns c s t (c.chan_lock d.0)
-Asks c s t (HaltedChan d) = Returns c s t (c.chan_lock d.0) × (s.noted t ≡ Some IsHalted)
-Asks c s t (HaltedLock l) = s.noted t ≡ Some IsHalted
+Asks c s t (Woke d) = Returns c s t (c.chan_lock d.0) × (s.woken_from t ≡ Some d.0)
+Asks c s t (HaltedChan d) = Returns c s t (c.chan_lock d.0) × (s.noted t ≡ Some (SleepHalted (Chan d)))
+Asks c s t (HaltedLock l) = s.noted t ≡ Some (SleepHalted (Lock l))
 Asks c s t (WokeOne d woken) = IsTheWake (s.unstamped t) d.0 false woken
 Asks c s t (WokeAll d woken) = IsTheWake (s.unstamped t) d.0 true woken
-Asks c s t (Reversed l held) = s.noted t ≡ Some (IsRefused held.0)
+Asks c s t (Reversed l held) = s.noted t ≡ Some (OrderRefused l.0 held.0)
 
 -- what a stamp asks; the thread is on no queue, in no marked list and not woken
 pub record MayStamp (c : Config) (s : State) (t : ℕ) (e : Event) : Type 0 where
@@ -182,6 +186,12 @@ unstamped_after (WokeOne d woken) wake = None
 unstamped_after (WokeAll d woken) wake = None
 unstamped_after other wake = wake
 
+-- the channel from which the thread was woken by a signal since its last sleep, after an event
+abbrev pub woken_from_after : Event → Option ℕ → Option ℕ
+woken_from_after (Sleeps d) woken_from = None
+woken_from_after (Woke d) woken_from = None
+woken_from_after other woken_from = woken_from
+
 -- the entry that a stamp makes
 abbrev pub entry_of : State → ℕ → Event → Entry
 entry_of s t e = record { ticket = s.next; thread = record { 0 = t }; event = e }
@@ -195,6 +205,7 @@ after_stamp c s t e = record s {
   last_look = put s.last_look t None;
   noted = put s.noted t None;
   unstamped = put s.unstamped t (unstamped_after e (s.unstamped t));
+  woken_from = put s.woken_from t (woken_from_after e (s.woken_from t));
   log = put s.log t (entry_of s t e ∷ s.log t);
   has_begun = begun_after c e t s.has_begun;
   table = table_after e s.table;

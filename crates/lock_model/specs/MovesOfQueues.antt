@@ -5,7 +5,7 @@ use Rattle.lock_model.specs.Words.{Holder, Free, HeldBy, SharedBy, admits, is_fr
 use Rattle.lock_model.specs.History.{open_in}
 use Rattle.lock_model.specs.Moves.{effective_of, after_ready}
 use Rattle.lock_model.specs.MovesOfTurns.{Item, item_with}
-use Rattle.lock_model.specs.State.{Config, State, NotHeld, Holds, Running, Queued, Woken, Cause, BySignal, ByAbort, Waiter, Mark, Walk, NoWalk, AtLock, Note, IsHalted, Loan, put, put_at, put_queue}
+use Rattle.lock_model.specs.State.{Config, State, NotHeld, Holds, Running, Queued, Woken, Cause, BySignal, ByAbort, Waiter, Mark, Walk, NoWalk, AtLock, Note, SleepHalted, Loan, put, put_at, put_queue}
 use Rattle.lock_model.specs.Queues.{lock_queue, is_turnstile_queue, side_of, list_of, with_list, insert, head_with, free_with, dealt, free_after, head_after}
 use Rattle.lock_model.specs.declared.plan.Kind.TheVariants.{Mtx}
 use Rattle.lock_model.specs.declared.plan.Mode.{Mode}
@@ -174,8 +174,14 @@ wanted_after c (Chan d) cause back wanted = Some (c.chan_lock d.0)
 -- what the thread has yet to note
 abbrev pub noted_after : QueueName → Cause → Bool → Option Note → Option Note
 noted_after q BySignal back noted = noted
-noted_after (Lock l) ByAbort back noted = if back then noted else Some IsHalted
-noted_after (Chan d) ByAbort back noted = Some IsHalted
+noted_after (Lock l) ByAbort back noted = if back then noted else Some (SleepHalted (Lock l))
+noted_after (Chan d) ByAbort back noted = Some (SleepHalted (Chan d))
+
+-- the channel from which the thread was woken by a signal since its last sleep, after the resume
+abbrev pub woken_from_by : QueueName → Cause → Option ℕ → Option ℕ
+woken_from_by (Lock l) cause woken_from = woken_from
+woken_from_by (Chan d) BySignal woken_from = Some d.0
+woken_from_by (Chan d) ByAbort woken_from = woken_from
 
 -- the thread runs, and is called or halted as it was woken
 unfoldable pub after_resume : Config → State → ℕ → QueueName → Cause → State
@@ -186,6 +192,7 @@ after_resume c s t q cause =
       called = put s.called t (called_after q cause (s.called t));
       wanted = put s.wanted t (wanted_after c q cause back (s.wanted t));
       noted = put s.noted t (noted_after q cause back (s.noted t));
+      woken_from = put s.woken_from t (woken_from_by q cause (s.woken_from t));
       looks = put s.looks t 0;
       is_finder = put s.is_finder t false;
       parked = put s.parked t false;

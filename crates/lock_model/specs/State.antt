@@ -58,8 +58,10 @@ pub record Look : Type 0 where
 
 -- what a thread was answered and has yet to note in its log: its order was refused for a held class, or its sleep was ended
 pub data Note : Type 0 where
-  IsRefused : ℕ → Note
-  IsHalted : Note
+  -- the lock that was wanted, and the held class
+  OrderRefused : ℕ → ℕ → Note
+  -- the queue on which the thread slept
+  SleepHalted : QueueName → Note
 
 -- sleepers that a thread took off a channel and has yet to note in its log
 pub record Wake : Type 0 where
@@ -107,6 +109,8 @@ pub record State : Type 0 where
   pub looks_in_all : ℕ → ℕ
   pub last_look : ℕ → Option Look
   pub noted : ℕ → Option Note
+  -- the channel from which it was woken by a signal since its last sleep
+  pub woken_from : ℕ → Option ℕ
   pub unstamped : ℕ → Option Wake
   pub counted_out : ℕ → ℕ
   pub is_finder : ℕ → Bool
@@ -178,6 +182,7 @@ start_state c = record {
   looks_in_all = λ t. 0;
   last_look = λ t. None;
   noted = λ t. None;
+  woken_from = λ t. None;
   unstamped = λ t. None;
   counted_out = λ t. 0;
   is_finder = λ t. false;

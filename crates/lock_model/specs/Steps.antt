@@ -1,12 +1,14 @@
 -- The steps of threads, one case per kind. A step asks its guard, and its effect is computed.
-use Rattle.std.specs.Prelude.{◌≡◌, ◌⊎◌, ℕ, ◌%◌, Bool, if◌then◌else◌, List, [], ◌∷◌, Some, ⊤}
-use Rattle.lock_model.specs.State.{Config, State, Cause, Mark, Walk, NoWalk, AtLock, AtThread, start_state}
-use Rattle.lock_model.specs.Words.{is_turnstile}
+use Rattle.std.specs.Prelude.{◌≡◌, ◌⊎◌, ℕ, ◌%◌, Bool, true, false, not, ◌&&◌, ◌==◌, if◌then◌else◌, List, [], ◌∷◌, Option, Some, None, ⊤}
+use Rattle.lock_model.specs.State.{Config, State, Hold, NotHeld, Holds, Cause, Mark, Walk, NoWalk, AtLock, AtThread, start_state}
+use Rattle.lock_model.specs.Words.{Word, is_turnstile, admits}
+use Rattle.lock_model.specs.Queues.{lock_queue}
 use Rattle.lock_model.specs.Moves.{MayLook, MayGain, MayDrop, MayStamp, MayReady, MayUnready, after_look, after_gain, after_drop, after_stamp, after_ready, after_unready}
 use Rattle.lock_model.specs.MovesOfQueues.{MayEnter, MayOpen, MayMark, MayResume, after_enter, after_open, after_mark, after_resume}
 use Rattle.lock_model.specs.MovesOfLoans.{MayClaim, MayLend, MayShift, MayEndWalk, after_claim, after_lend, after_shift, after_end_walk}
 use Rattle.lock_model.specs.MovesOfTurns.{Item, TurnstileChain, SleepChain, RecordOf, CellOf, item_with, MayTake, MayGive, after_take, after_give}
 use Rattle.lock_model.specs.declared.plan.Mode.{Mode}
+use Rattle.lock_model.specs.declared.plan.Mode.TheVariants.{Excl}
 use Rattle.lock_model.specs.declared.plan.QueueName.{QueueName}
 use Rattle.lock_model.specs.declared.event.Event.{Event}
 use Rattle.lock_model.specs.declared.event.Event.TheVariants.{Set, Added, Got, Base, Shown, Sleeps, WokeOne, WokeAll}
@@ -80,6 +82,15 @@ after c s (Lends t l o h) = after_lend c s t l o h
 after c s (Shifts t o l) = after_shift s t o l
 after c s (EndsWalk t) = after_end_walk s t
 
+abbrev pub is_unheld : Hold → Bool
+is_unheld NotHeld = true
+is_unheld (Holds mode) = false
+
+-- whether the option is the thread
+abbrev pub is_with : ℕ → Option ℕ → Bool
+is_with t None = false
+is_with t (Some u) = t == u
+
 -- What must be out with a thread of a running floor while it makes a step of the kind: a lock's chain, a record, a cell or a sleep chain.
 
 -- the chain in which the lock's queue stands
@@ -110,7 +121,7 @@ HasOutForEntry c s t other = ⊤
 abbrev pub HasOutForEnd : Config → State → ℕ → Walk → Type 0
 HasOutForEnd c s t NoWalk = ⊤
 HasOutForEnd c s t (AtLock l) = HasItem s t (chain_of c l)
-HasOutForEnd c s t (AtThread o) = HasItem s t (RecordOf o)
+HasOutForEnd c s t (AtThread o) = HasItem s t (RecordOf o) × ((l : ℕ) → is_turnstile (c.kind l) ≡ true → s.named o ≡ Some (lock_queue l) → HasItem s t (chain_of c l))
 
 -- what each kind of step needs out
 abbrev pub HasOut : Config → State → Move → Type 0
@@ -135,14 +146,31 @@ HasOut c s (EndsWalk t) = HasOutForEnd c s t (s.walk t)
 abbrev pub Step : Config → State → State → Type 0
 Step c s n = (m : Move) × May c s m × (n ≡ after c s m)
 
+-- whether a load of the lock's word counts as a look of an acquiring round outside the lock's chain
+abbrev pub counts_as_look : Config → State → ℕ → ℕ → Bool
+counts_as_look c s t l = is_unheld (s.held t l) && not (is_with t (item_with s (chain_of c l)))
+
+-- what a thread with the lock's chain out saw last at the lock admits the mode
+abbrev pub SawAdmitting : Config → State → ℕ → ℕ → Mode → Type 0
+SawAdmitting c s t l mode = (w : Word) → HasItem s t (chain_of c l) → s.last_look t ≡ Some (record { lock = l; word = w }) → admits (c.kind l) w mode ≡ true
+
+-- What a thread of a running floor must have seen. An enter is an exchange from the word that the last look saw; and where a look in the
+-- lock's chain saw a word that doesn't admit, the thread enters and does not gain, until it looks again.
+abbrev pub HasSeen : Config → State → Move → Type 0
+HasSeen c s (Looks t l in_round) = in_round ≡ counts_as_look c s t l
+HasSeen c s (Gains t l mode) = SawAdmitting c s t l mode
+HasSeen c s (Claims t l h) = SawAdmitting c s t l Excl
+HasSeen c s (Enters t l mode x) = s.last_look t ≡ Some (record { lock = l; word = s.word l })
+HasSeen c s other = ⊤
+
 -- n comes from s by one step of a thread of a running floor
 abbrev pub FloorStep : Config → State → State → Type 0
-FloorStep c s n = (m : Move) × May c s m × HasOut c s m × (n ≡ after c s m)
+FloorStep c s n = (m : Move) × May c s m × HasOut c s m × HasSeen c s m × (n ≡ after c s m)
 
 -- the states that steps reach from the start
-pub data IsReached (c : Config) : State → Type 0 where
-  begins : IsReached c (start_state c)
-  goes_on : {s n : State} → IsReached c s → Step c s n → IsReached c n
+pub data IsReachable (c : Config) : State → Type 0 where
+  begins : IsReachable c (start_state c)
+  goes_on : {s n : State} → IsReachable c s → Step c s n → IsReachable c n
 
 -- the state after the steps of a list, made in order
 abbrev pub after_all : Config → State → List Move → State

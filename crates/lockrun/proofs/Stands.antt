@@ -9,7 +9,7 @@ use Rattle.lock_model.specs.Words.{Word, free_word, gained, is_free, is_plain, i
 use Rattle.lock_model.specs.State.{Config, State, Hold, NotHeld, Holds, Running, put, put_at, start_state}
 use Rattle.lock_model.specs.Moves.{MayGain, MayDrop, MayStamp, is_woken, after_gain, after_drop, after_stamp}
 use Rattle.lock_model.specs.History.{open_in, sections_in, replaced}
-use Rattle.lock_model.specs.Steps.{IsReached, goes_on, Gains, Drops, Stamps}
+use Rattle.lock_model.specs.Steps.{IsReachable, goes_on, Gains, Drops, Stamps}
 use Rattle.lock_model.specs.Steps as steps
 use Rattle.lock_model.specs.Run.{Run, turn_of, after_turns, after_operation, after_take, after_release, after_next, with_made}
 use Rattle.lock_model.specs.declared.plan.Kind.{Kind}
@@ -73,7 +73,7 @@ pub record IsMade (c : Config) (s : State) (op : Op) (h : Option ℕ) : Type 0 w
   pub made : after_operation c s 0 op ≡ Some next
   pub stands : Stands c next h
   pub ticket : next.next ≡ suc s.next
-  pub reached : IsReached c s → IsReached c next
+  pub reached : IsReachable c s → IsReachable c next
 
 -- one place after a gain or a drop of the lock, where b says whether it is that lock's and d whether it is the thread's
 gained_word : (b : Bool) (here there : Word) → here ≡ word_by false → there ≡ word_by false → cond b (gained here 0 Excl) there ≡ word_by b
@@ -184,7 +184,7 @@ plain_free Sx = refl
 
 -- the operations are steps that the thread may make
 module _ (c : Config) (s : State) (some_thread : 0 < c.threads) where
-  take_reached : (l : LockNo) → l.0 < c.locks → Stands c s None → IsReached c s → IsReached c (after_take c s 0 l Excl)
+  take_reached : (l : LockNo) → l.0 < c.locks → Stands c s None → IsReachable c s → IsReachable c (after_take c s 0 l Excl)
   unfolding after_gain put_at
   take_reached l below st r =
       let gain : MayGain c s 0 l.0 Excl = record {
@@ -208,7 +208,7 @@ module _ (c : Config) (s : State) (some_thread : 0 < c.threads) where
   section_here : (l : LockNo) → Stands c s (Some l.0) → open_in c s.history 0 l.0 ≡ Holds Excl
   section_here l st = st.sections l.0 ∙ ap (λ (b : Bool). hold_by b true) (eq-eqb l.0 l.0 refl)
 
-  release_reached : (l : LockNo) → Stands c s (Some l.0) → IsReached c s → IsReached c (after_drop (after_stamp c s 0 (event.Unlocked l Excl)) 0 l.0)
+  release_reached : (l : LockNo) → Stands c s (Some l.0) → IsReachable c s → IsReachable c (after_drop (after_stamp c s 0 (event.Unlocked l Excl)) 0 l.0)
   unfolding after_stamp sections_in
   release_reached l st r =
       let stamp : MayStamp c s 0 (event.Unlocked l Excl) = record {
@@ -227,7 +227,7 @@ module _ (c : Config) (s : State) (some_thread : 0 < c.threads) where
       } in
       goes_on (goes_on r (Stamps 0 (event.Unlocked l Excl), stamp, refl)) (Drops 0 l.0 Excl, drop, refl)
 
-  set_reached : (l : LockNo) (key value : ℕ) → Stands c s (Some l.0) → IsReached c s → IsReached c (after_stamp c s 0 (event.Set l key value))
+  set_reached : (l : LockNo) (key value : ℕ) → Stands c s (Some l.0) → IsReachable c s → IsReachable c (after_stamp c s 0 (event.Set l key value))
   set_reached l key value st r =
       let stamp : MayStamp c s 0 (event.Set l key value) = record {
         thread = some_thread;
@@ -305,7 +305,7 @@ pub record IsAlong (plan : Plan) (chains n : ℕ) (h : Option ℕ) : Type 0 wher
   pub place : (after_turns plan chains n).place 0 ≡ n
   pub tickets : (after_turns plan chains n).state.next ≡ n
   pub stands : Stands (config_of plan chains) (after_turns plan chains n).state h
-  pub reached : IsReached (config_of plan chains) (after_turns plan chains n).state
+  pub reached : IsReachable (config_of plan chains) (after_turns plan chains n).state
   pub rest : held_through (length plan.locks) h (drop n (operations_of plan 0)) ≡ Some None
 
 threads_of_operations : (ts : List ThreadDecl) (n : ℕ) → n < length (unwrap_or (slice_get (map (λ d. d.ops) ts) 0) []) → 0 < length ts
@@ -356,7 +356,7 @@ module _ (plan : Plan) (chains : ℕ) (straight : IsStraight plan) where
           place = ap (λ (r : Run). r.place 0) t ∙ ap suc a.place;
           tickets = ap (λ (r : Run). r.state.next) t ∙ m.ticket ∙ ap suc a.tickets;
           stands = subst (λ (r : Run). Stands c r.state f.0) (sym t) m.stands;
-        reached = subst (λ (r : Run). IsReached c r.state) (sym t) (m.reached a.reached);
+        reached = subst (λ (r : Run). IsReachable c r.state) (sym t) (m.reached a.reached);
           rest = f.2;
         },
       )
@@ -378,11 +378,11 @@ module _ (plan : Plan) (chains : ℕ) (straight : IsStraight plan) where
       ap (after_turns plan chains) more ∙ ap (λ (x : Run). turn_of plan chains x 0) (after_end k) ∙ ap (λ (o : Option Op). after_next c r 0 o) none
 
   -- each state is one that steps reach
-  pub reached_always : (n : ℕ) → IsReached c (after_turns plan chains n).state
+  pub reached_always : (n : ℕ) → IsReachable c (after_turns plan chains n).state
   reached_always n = elim (cases_lt (length ops) n) [
     | inl l ↦
         let a = along (length ops) (omega arith) in
         let gap : length ops + (n - length ops) ≡ n = omega arith in
-        subst (λ (r : Run). IsReached c r.state) (sym (ap (after_turns plan chains) (sym gap) ∙ after_end (n - length ops))) a.1.reached
+        subst (λ (r : Run). IsReachable c r.state) (sym (ap (after_turns plan chains) (sym gap) ∙ after_end (n - length ops))) a.1.reached
     | inr l ↦ let a = along n (omega arith) in a.1.reached
   ]
