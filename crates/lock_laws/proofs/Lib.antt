@@ -29,3 +29,4 @@ mod Guards
 pub mod Props
 pub mod Sleepers
 pub mod EnterSleep
+pub mod OpenSleep
