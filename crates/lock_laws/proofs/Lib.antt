@@ -30,3 +30,4 @@ pub mod Props
 pub mod Sleepers
 pub mod EnterSleep
 pub mod OpenSleep
+pub mod Sleep
