@@ -1,12 +1,12 @@
 -- An enter on an sx lock keeps each fact.
-use Rattle.std.proofs.Common.{◌≡◌, ℕ, ◌+◌, ◌≤◌, Bool, true, false, not, eqb, List, Option, Some, None, refl, sym, ap, inl, inr, arith, ◌∙◌}
+use Rattle.std.proofs.Common.{◌≡◌, ℕ, ◌+◌, Bool, true, false, not, eqb, List, Option, Some, None, refl, sym, ap, inl, inr, arith, ◌∙◌}
 use Rattle.std.proofs.lemmas.Bool.{cases_eq}
 use Rattle.lock_model.specs.Counts.{one, times, at_option, sum_below}
-use Rattle.lock_model.specs.Words.{Holder, Free, HeldBy, SharedBy, is_turnstile, entered}
+use Rattle.lock_model.specs.Words.{Holder, is_turnstile, entered}
 use Rattle.lock_model.specs.State.{State, Config, Waiter, Lists, put, put_queue}
 use Rattle.lock_model.specs.MovesOfSleeps.{MayEnterSleep, after_enter_sleep, with_last}
-use Rattle.lock_model.specs.Queues.{lock_queue, chan_queue, side_of, list_of, with_list, stands, insert, head_with, free_with}
-use Rattle.lock_model.specs.Facts.{Lawful, OneTurnstileEach, OneSleepQueueEach, TurnstileIsLent, SleepQueueIsLent, HeadsFitWaiters, BitsShowWaiters, ListsAscend, MutexWaitersAreExclusive, StandsOnce, OnlyThreadsStand, StandingIsQueued, QueuedHasRecord, StandingWants, WokenWants, CalledWants, StandingIsUncalled, WokenIsUncalled, FreeWordHasCalled, FreeMutexShowsNone, WordsMatchHolders, OwnersHold, ChannelsHaveNoOwner, LoansAreLeast, LoansAreWithOwners, LoansAreOnHeads, KeptIsEffective, EffectiveIsKnown, KeptIsKnown}
+use Rattle.lock_model.specs.Queues.{lock_queue, chan_queue, side_of, list_of, with_list, stands, head_with, free_with}
+use Rattle.lock_model.specs.Facts.{Lawful, OneTurnstileEach, OneSleepQueueEach, TurnstileIsLent, SleepQueueIsLent, HeadsFitWaiters, BitsShowWaiters, ListsAscend, MutexWaitersAreExclusive, StandsOnce, OnlyThreadsStand, StandingIsQueued, QueuedHasRecord, StandingWants, WokenWants, CalledWants, StandingIsUncalled, WokenIsUncalled, FreeWordHasCalled, FreeMutexShowsNone, WordsMatchHolders, OwnersHold, LoansAreLeast, LoansAreWithOwners, LoansAreOnHeads, KeptIsEffective, KeptIsKnown}
 use Rattle.lock_model.specs.FactsOfQueues.{only, turnstile_places, sleep_queue_places, HeadFits}
 use Rattle.lock_model.specs.FactsOfWaits.{callers, times_marked, at_queue}
 use Rattle.lock_model.specs.FactsOfWords.{WordMatchesHolders}
@@ -14,7 +14,7 @@ use Rattle.lock_model.specs.FactsOfLoans.{owner_if}
 use Rattle.lock_model.specs.declared.plan.Mode.{Mode}
 use Rattle.lock_model.specs.declared.plan.Side.{Side}
 use Rattle.lock_model.specs.declared.plan.QueueName.{QueueName}
-use Rattle.lock_laws.proofs.Kit.{columns, put_same, put_other, put_lock_same, put_lock_other, sum_below-put, sum_below-put_lock, at_put, at_put_lock, each_queue, same_lock, one_same}
+use Rattle.lock_laws.proofs.Kit.{columns, put_other, put_lock_same, put_lock_other, sum_below-put, sum_below-put_lock, at_put, each_queue, same_lock}
 use Rattle.lock_laws.proofs.Words.{entered_holder, matches_same}
 use Rattle.lock_laws.proofs.Sleepers.{stands-last, waiting-last, is_empty-last}
 

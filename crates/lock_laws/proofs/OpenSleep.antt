@@ -3,21 +3,20 @@ use Rattle.std.proofs.Common.{◌≡◌, ℕ, ◌+◌, ◌≤◌, Bool, true, fa
 use Rattle.std.proofs.lemmas.Bool.{cases_eq, ne_eqb}
 use Rattle.lock_model.specs.Counts.{one, some, times, at_option, sum_below, is_empty}
 use Rattle.lock_model.specs.Words.{Word, Holder, Free, is_turnstile, shows_waiters, without_one, opened, unshown, side_woken}
-use Rattle.lock_model.specs.State.{State, Config, Waiter, Lists, Loan, Mark, NotHeld, put, put_at, put_queue}
+use Rattle.lock_model.specs.State.{State, Config, Waiter, Lists, Mark, NotHeld, put, put_queue}
 use Rattle.lock_model.specs.MovesOfSleeps.{MayOpenSleep, after_open_sleep}
 use Rattle.lock_model.specs.Queues.{lock_queue, chan_queue, list_of, with_list, stands, dealt, free_after, head_after}
-use Rattle.lock_model.specs.Facts.{Lawful, OneTurnstileEach, OneSleepQueueEach, OneNodeEach, HeadsFitWaiters, BitsShowWaiters, ListsAscend, MutexWaitersAreExclusive, StandsOnce, FreeWordHasCalled, FreeMutexShowsNone, WordsMatchHolders, OnlyThreadsHold, EffectiveIsLeast, OwnersHold, ChannelsHaveNoOwner, LoansAreLeast, LoansAreWithOwners, LoansAreOnHeads, KeptIsEffective, EffectiveIsKnown, LoansAreKnown, KeptIsKnown, SectionsAreHeld}
+use Rattle.lock_model.specs.Facts.{Lawful, OneTurnstileEach, OneSleepQueueEach, HeadsFitWaiters, BitsShowWaiters, ListsAscend, MutexWaitersAreExclusive, StandsOnce, FreeWordHasCalled, FreeMutexShowsNone, WordsMatchHolders, OnlyThreadsHold, OwnersHold, LoansAreLeast, LoansAreWithOwners, LoansAreOnHeads, KeptIsEffective, KeptIsKnown, SectionsAreHeld}
 use Rattle.lock_model.specs.FactsOfQueues.{only, times_object, turnstile_places, sleep_queue_places, HeadFits, ShowsItsWaiters}
 use Rattle.lock_model.specs.FactsOfWaits.{callers, calls_marked, times_marked, at_queue}
-use Rattle.lock_model.specs.FactsOfLoans.{IsKept, IsKnown, EachOf, owner_if}
+use Rattle.lock_model.specs.FactsOfLoans.{owner_if}
 use Rattle.lock_model.specs.declared.plan.Kind.{Kind}
 use Rattle.lock_model.specs.declared.plan.Kind.TheVariants.{Mtx, Rw, Sx}
 use Rattle.lock_model.specs.declared.plan.Mode.{Mode}
 use Rattle.lock_model.specs.declared.plan.Side.{Side}
 use Rattle.lock_model.specs.declared.plan.Side.TheVariants.{X, S}
 use Rattle.lock_model.specs.declared.plan.QueueName.{QueueName}
-use Rattle.lock_model.specs.declared.plan.QueueName.TheVariants.{Lock, Chan}
-use Rattle.lock_laws.proofs.Kit.{columns, put_same, put_other, put_at_same, put_at_other, put_at_beside, put_lock_same, put_lock_other, sum_below-put, sum_below-put_lock, at_put_lock, each_queue}
+use Rattle.lock_laws.proofs.Kit.{columns, put_same, put_other, put_lock_same, put_lock_other, sum_below-put, sum_below-put_lock, each_queue}
 use Rattle.lock_laws.proofs.Words.{free_is, all_match-put, matches-drop}
 use Rattle.lock_laws.proofs.Queues.{stands-less, waiting-less, no_turnstiles-dealt, all_sleep_queues-dealt, times_marked-dealt, times_marked-elsewhere, calls-dealt, length-after, headless-after}
 

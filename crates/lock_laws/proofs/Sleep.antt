@@ -1,10 +1,10 @@
 -- An add to a channel, and a wake there, keep each fact.
-use Rattle.std.proofs.Common.{◌≡◌, ℕ, ◌+◌, ◌≤◌, Bool, true, false, eqb, List, [], length, Option, Some, None, refl, sym, ap, inl, inr, arith, ◌∙◌}
+use Rattle.std.proofs.Common.{◌≡◌, ℕ, ◌+◌, ◌≤◌, Bool, true, false, eqb, List, length, Option, Some, None, refl, sym, ap, inl, inr, arith, ◌∙◌}
 use Rattle.std.proofs.lemmas.Bool.{cases_eq, ne_eqb}
 use Rattle.lock_model.specs.Counts.{one, some, times, at_option, sum_below}
-use Rattle.lock_model.specs.State.{State, Config, Waiter, Lists, Mark, put, put_queue}
+use Rattle.lock_model.specs.State.{State, Config, Waiter, Lists, Mark, put_queue}
 use Rattle.lock_model.specs.MovesOfSleeps.{MayAdd, MayWake, after_add, after_wake, with_last, taken_off, left_on}
-use Rattle.lock_model.specs.Queues.{lock_queue, chan_queue, stands, waiting, head_with, free_with, dealt, free_after, head_after}
+use Rattle.lock_model.specs.Queues.{lock_queue, chan_queue, stands, head_with, free_with, dealt, free_after, head_after}
 use Rattle.lock_model.specs.Facts.{Lawful, OneTurnstileEach, OneSleepQueueEach, TurnstileIsLent, SleepQueueIsLent, HeadsFitWaiters, BitsShowWaiters, ListsAscend, MutexWaitersAreExclusive, StandsOnce, OnlyThreadsStand, StandingIsQueued, QueuedHasRecord, StandingWants, CalledWants, StandingIsUncalled, FreeWordHasCalled, OwnersHold, ChannelsHaveNoOwner, LoansAreLeast, LoansAreOnHeads, KeptIsEffective, KeptIsKnown}
 use Rattle.lock_model.specs.FactsOfQueues.{turnstile_places, sleep_queue_places, times_object, HeadFits}
 use Rattle.lock_model.specs.FactsOfWaits.{callers, calls_marked, times_marked, at_queue}
