@@ -42,6 +42,14 @@ pub put_lock_chan : {A : Type 0} (f : QueueName → A) (l : ℕ) (v : A) (d : �
 unfolding put_queue
 put_lock_chan f l v d = refl
 
+pub put_chan_same : {A : Type 0} (f : QueueName → A) (d : ℕ) (v : A) → put_queue f (chan_queue d) v (chan_queue d) ≡ v
+unfolding put_queue
+put_chan_same f d v = ap (λ b. cond b v (f (chan_queue d))) (eq-eqb d d refl)
+
+pub put_chan_other : {A : Type 0} (f : QueueName → A) (d : ℕ) (v : A) (k : ℕ) → (d ≡ k → ⊥) → put_queue f (chan_queue d) v (chan_queue k) ≡ f (chan_queue k)
+unfolding put_queue
+put_chan_other f d v k h = ap (λ b. cond b v (f (chan_queue k))) (ne_eqb d k h)
+
 -- what an entry of a changed column is
 pub ruleset columns = (put_same, put_other, put_at_same, put_at_other, put_at_beside, put_lock_same, put_lock_other, put_lock_chan)
 
@@ -120,6 +128,12 @@ pub sum_below-put_lock : {A : Type 0} (n : ℕ) (g : ℕ → A → ℕ) (f : Que
 sum_below-put_lock n g f i v l =
     let e : g i (put_queue f (lock_queue i) v (lock_queue i)) ≡ g i v = ap (g i) (put_lock_same f i v) in
     omega (arith, sum_below-change n (λ j. g j (put_queue f (lock_queue i) v (lock_queue j))) (λ j. g j (f (lock_queue j))) i l (λ j h. ap (g j) (put_lock_other f i v j h)))
+
+pub sum_below-put_chan : {A : Type 0} (n : ℕ) (g : A → ℕ) (f : QueueName → A) (i : ℕ) (v : A) → i < n
+    → sum_below n (λ j. g (put_queue f (chan_queue i) v (chan_queue j))) + g (f (chan_queue i)) ≡ sum_below n (λ j. g (f (chan_queue j))) + g v
+sum_below-put_chan n g f i v l =
+    let e : g (put_queue f (chan_queue i) v (chan_queue i)) ≡ g v = ap g (put_chan_same f i v) in
+    omega (arith, sum_below-change n (λ j. g (put_queue f (chan_queue i) v (chan_queue j))) (λ j. g (f (chan_queue j))) i l (λ j h. ap g (put_chan_other f i v j h)))
 
 -- an entry is at most the sum
 pub sum_below-at : (n : ℕ) (f : ℕ → ℕ) (i : ℕ) → i < n → f i ≤ sum_below n f

@@ -78,7 +78,7 @@ each-without P t [] e = tt
 each-without P t (w ∷ ws) e = elim (eqb t w.thread) as (λ b. Each P (cond b ws (w ∷ without t ws))) [ true ↦ e.1 | false ↦ (e.0, each-without P t ws e.1) ]
 
 -- the entry that is taken out is counted again by the one that is put in
-times_waiting-without : (u t : ℕ) (ws : List Waiter) → 1 ≤ times_waiting t ws → times_waiting u (without t ws) + one (eqb u t) ≡ times_waiting u ws
+pub times_waiting-without : (u t : ℕ) (ws : List Waiter) → 1 ≤ times_waiting t ws → times_waiting u (without t ws) + one (eqb u t) ≡ times_waiting u ws
 times_waiting-without u t [] l = absurd (omega arith)
 times_waiting-without u t (w ∷ ws) l =
     elim (cases_eq t w.thread) [
@@ -86,7 +86,7 @@ times_waiting-without u t (w ∷ ws) l =
       | inr e ↦ rw (ne_eqb t w.thread e) (let z : one (eqb t w.thread) ≡ 0 = ap one (ne_eqb t w.thread e) in omega (arith, times_waiting-without u t ws (omega arith)))
     ]
 
-length-without : (t : ℕ) (ws : List Waiter) → 1 ≤ times_waiting t ws → suc (length (without t ws)) ≡ length ws
+pub length-without : (t : ℕ) (ws : List Waiter) → 1 ≤ times_waiting t ws → suc (length (without t ws)) ≡ length ws
 length-without t [] l = absurd (omega arith)
 length-without t (w ∷ ws) l =
     elim (cases_eq t w.thread) [

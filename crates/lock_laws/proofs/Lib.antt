@@ -29,3 +29,5 @@ mod Guards
 pub mod Props
 pub mod Sleepers
 pub mod EnterSleep
+pub mod OpenSleep
+pub mod Sleep

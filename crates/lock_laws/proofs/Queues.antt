@@ -98,6 +98,19 @@ sleep_queues-dealt c n q e (w ∷ ws) [] None = refl
 sleep_queues-dealt c n q e (w ∷ ws) [] (Some h) = rw (dealt_none q ws, e) refl
 sleep_queues-dealt c n q e (w ∷ ws) (x ∷ xs) h = rw e (omega (arith, sleep_queues-dealt c n q e ws xs h))
 
+-- the same of a sleep queue's waiters
+pub all_sleep_queues-dealt : (c : Config) (n : ℕ) (q : QueueName) → is_turnstile_queue c q ≡ false → (ws : List Waiter) (xs : List ℕ) (h : Option ℕ) → times_object c false n (dealt q ws xs h) + (times n (free_after ws xs) + at_option n (head_after ws xs h)) ≡ times n xs + at_option n h
+all_sleep_queues-dealt c n q e [] xs h = omega arith
+all_sleep_queues-dealt c n q e (w ∷ ws) [] None = omega arith
+all_sleep_queues-dealt c n q e (w ∷ ws) [] (Some h) = rw (dealt_none q ws, e) (omega arith)
+all_sleep_queues-dealt c n q e (w ∷ ws) (x ∷ xs) h = rw e (omega (arith, all_sleep_queues-dealt c n q e ws xs h))
+
+pub no_turnstiles-dealt : (c : Config) (n : ℕ) (q : QueueName) → is_turnstile_queue c q ≡ false → (ws : List Waiter) (xs : List ℕ) (h : Option ℕ) → times_object c true n (dealt q ws xs h) ≡ 0
+no_turnstiles-dealt c n q e [] xs h = refl
+no_turnstiles-dealt c n q e (w ∷ ws) [] None = refl
+no_turnstiles-dealt c n q e (w ∷ ws) [] (Some h) = rw (dealt_none q ws, e) refl
+no_turnstiles-dealt c n q e (w ∷ ws) (x ∷ xs) h = rw e (omega (arith, no_turnstiles-dealt c n q e ws xs h))
+
 -- each waiter that is taken off has one mark, where there are objects enough
 pub times_marked-dealt : (t : ℕ) (q : QueueName) (ws : List Waiter) (xs : List ℕ) (h : Option ℕ) → length ws ≤ length xs + some h → times_marked t q (dealt q ws xs h) ≡ times_waiting t ws
 times_marked-dealt t q [] xs h p = refl

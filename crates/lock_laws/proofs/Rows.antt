@@ -4,17 +4,18 @@ use Rattle.std.proofs.Common.{◌≡◌, ℕ, zero, suc, true, false, List, [], 
 use Rattle.lock_model.specs.Counts.{sum_below, least}
 use Rattle.lock_model.specs.Words.{word_of, bits_of}
 use Rattle.lock_model.specs.State.{Config, State, Waiter, Mark, BySignal, NoWalk, AtThread, start_state, put, put_at, put_queue}
-use Rattle.lock_model.specs.Queues.{lock_queue, stands}
+use Rattle.lock_model.specs.Queues.{lock_queue, chan_queue, stands}
 use Rattle.lock_model.specs.Moves.{after_look, after_gain, after_drop, after_stamp, after_ready}
 use Rattle.lock_model.specs.MovesOfQueues.{after_enter, after_open, after_mark, after_resume}
+use Rattle.lock_model.specs.MovesOfSleeps.{after_enter_sleep, after_open_sleep, after_add, after_wake}
 use Rattle.lock_model.specs.MovesOfLoans.{after_claim, after_lend, after_shift, after_end_walk}
 use Rattle.lock_model.specs.MovesOfTurns.{RecordOf, after_take, after_give}
-use Rattle.lock_model.specs.Steps.{Move, Looks, TakesTurn, GivesTurn, Gains, Stamps, Readies, Enters, Opens, Marks, Resumes, Claims, Lends, Shifts, after_all}
+use Rattle.lock_model.specs.Steps.{Move, Looks, TakesTurn, GivesTurn, Gains, Stamps, Readies, Enters, Opens, Marks, Resumes, Claims, Lends, Shifts, after_all, EntersSleepQueue, OpensSleepQueue, Adds, Wakes, Drops}
 use Rattle.lock_model.specs.declared.plan.Kind.{Kind}
-use Rattle.lock_model.specs.declared.plan.Kind.TheVariants.{Mtx, Rw}
+use Rattle.lock_model.specs.declared.plan.Kind.TheVariants.{Mtx, Rw, Sx}
 use Rattle.lock_model.specs.declared.plan.Mode.{Mode}
 use Rattle.lock_model.specs.declared.plan.Mode.TheVariants.{Excl, Shared}
-use Rattle.lock_model.specs.declared.event.Event.TheVariants.{Locked, Busy, Unlocked}
+use Rattle.lock_model.specs.declared.event.Event.TheVariants.{Locked, Busy, Unlocked, Sleeps, WokeOne}
 
 unfoldable pub at : {A : Type 0} → List A → A → ℕ → A
 at [] d n = d
@@ -170,3 +171,29 @@ tried_is s e = rw e (refl, refl)
 exchanged_is : (s : State) → s ≡ after_all behind (start_state behind) (tried ++ opens 0 0 Shared ++ Marks 0 (mark 1 2 0) [] ∷ Resumes 1 (lock_queue 0) BySignal ∷ Claims 1 0 1 ∷ Stamps 1 (Locked (record { 0 = 0 }) Excl) ∷ opens 1 0 Excl ++ Marks 1 (mark 2 1 0) [] ∷ []) → (s.turnstile 1 ≡ Some 2) × (s.turnstile 2 ≡ Some 1) × (s.head (lock_queue 0) ≡ None) × (s.effective 1 ≡ 90)
 unfolding behind tried start_state after_look after_gain after_stamp after_drop after_take after_give after_ready after_enter after_open after_mark after_resume after_claim after_lend after_shift after_end_walk put put_at put_queue least sum_below at plan takes blocks opens mark
 exchanged_is s e = rw e (refl, refl, refl, refl)
+
+-- 7. An exclusive release of an sx lock: o owns, x of 50 waits to own, y of 60 to share
+
+exclusive : Config
+exclusive = plan Sx 1 (100 ∷ 50 ∷ 60 ∷ [])
+
+sleeps : ℕ → ℕ → Mode → ℕ → List Move
+sleeps t l mode x = TakesTurn t (RecordOf t) ∷ Readies t ∷ EntersSleepQueue t l mode x ∷ GivesTurn t (RecordOf t) ∷ []
+
+-- the shared waiter is woken first, and the head stays with x
+shared_first_is : (s : State) → s ≡ after_all exclusive (start_state exclusive) (takes 0 0 Excl ++ sleeps 1 0 Excl 1 ++ sleeps 2 0 Shared 2 ++ Stamps 0 (Unlocked (record { 0 = 0 }) Excl) ∷ OpensSleepQueue 0 0 Excl ∷ []) → (s.head (lock_queue 0) ≡ Some 1) × (s.free_list (lock_queue 0) ≡ []) × (s.lists (lock_queue 0) ≡ record { exclusive = waits 1 50 ∷ []; shared = [] }) × (s.marked 0 ≡ mark 2 2 0 ∷ []) × (s.effective 0 ≡ 100)
+unfolding exclusive sleeps start_state after_look after_gain after_stamp after_drop after_take after_give after_ready after_enter after_open after_mark after_resume after_claim after_lend after_shift after_end_walk after_enter_sleep after_open_sleep after_add after_wake put put_at put_queue least sum_below at plan takes blocks opens mark
+shared_first_is s e = rw e (refl, refl, refl, refl, refl)
+
+-- 8. Signals: a and b of 100 sleep on a condition variable, and a came first
+
+signals : Config
+signals = record (plan Mtx 1 (100 ∷ 100 ∷ 50 ∷ [])) { chans = 1 }
+
+goes_to_sleep : ℕ → List Move
+goes_to_sleep t = takes t 0 Excl ++ TakesTurn t (RecordOf t) ∷ Readies t ∷ Stamps t (Sleeps (record { 0 = 0 })) ∷ Adds t 0 t ∷ GivesTurn t (RecordOf t) ∷ Drops t 0 Excl ∷ []
+
+-- of equals the one that has slept longest is signalled; it takes the free object, and the head stays with b
+signalled_is : (s : State) → s ≡ after_all signals (start_state signals) (goes_to_sleep 0 ++ goes_to_sleep 1 ++ Wakes 2 0 false ∷ Stamps 2 (WokeOne (record { 0 = 0 }) 1) ∷ []) → (s.marked 2 ≡ record { thread = 0; object = 1; queue = chan_queue 0; cause = BySignal } ∷ []) × (s.head (chan_queue 0) ≡ Some 0) × (s.lists (chan_queue 0) ≡ record { exclusive = waits 1 100 ∷ []; shared = [] }) × (s.unstamped 2 ≡ None)
+unfolding signals goes_to_sleep start_state after_look after_gain after_stamp after_drop after_take after_give after_ready after_enter after_open after_mark after_resume after_claim after_lend after_shift after_end_walk after_enter_sleep after_open_sleep after_add after_wake put put_at put_queue least sum_below at plan takes blocks opens mark
+signalled_is s e = rw e (refl, refl, refl, refl)

@@ -2,7 +2,7 @@
 use Rattle.std.proofs.Common.{subst, sym}
 use Rattle.lock_model.specs.State.{Config, State}
 use Rattle.lock_model.specs.Facts.{Lawful}
-use Rattle.lock_model.specs.Steps.{Move, Looks, TakesTurn, GivesTurn, Gains, Drops, Stamps, Readies, Unreadies, Enters, Opens, Marks, Resumes, Claims, Lends, Shifts, EndsWalk, May, after, Step, IsReachable, begins, goes_on}
+use Rattle.lock_model.specs.Steps.{Move, Looks, TakesTurn, GivesTurn, Gains, Drops, Stamps, Readies, Unreadies, Enters, Opens, EntersSleepQueue, OpensSleepQueue, Adds, Wakes, Marks, Resumes, Claims, Lends, Shifts, EndsWalk, May, after, Step, IsReachable, begins, goes_on}
 use Rattle.lock_laws.proofs.OwnWaits.{look_lawful, ready_lawful, unready_lawful}
 use Rattle.lock_laws.proofs.Turns.{take_lawful, give_lawful}
 use Rattle.lock_laws.proofs.StateAtStart as start
@@ -11,6 +11,9 @@ use Rattle.lock_laws.proofs.Drop as drop
 use Rattle.lock_laws.proofs.Stamp as stamp
 use Rattle.lock_laws.proofs.Enter as enter
 use Rattle.lock_laws.proofs.Open as opening
+use Rattle.lock_laws.proofs.EnterSleep as enter_sleep
+use Rattle.lock_laws.proofs.OpenSleep as open_sleep
+use Rattle.lock_laws.proofs.Sleep.{add_lawful, wake_lawful}
 use Rattle.lock_laws.proofs.Mark as mark
 use Rattle.lock_laws.proofs.Resume as resume
 use Rattle.lock_laws.proofs.Claim as claim
@@ -28,6 +31,10 @@ keeps c s (Readies t) g h = ready_lawful c s t g h
 keeps c s (Unreadies t) g h = unready_lawful c s t g h
 keeps c s (Enters t l mode x) g h = enter.lawful c s t l mode x g h
 keeps c s (Opens t l mode) g h = opening.lawful c s t l mode g h
+keeps c s (EntersSleepQueue t l mode x) g h = enter_sleep.lawful c s t l mode x g h
+keeps c s (OpensSleepQueue t l mode) g h = open_sleep.lawful c s t l mode g h
+keeps c s (Adds t d x) g h = add_lawful c s t d x g h
+keeps c s (Wakes t d all) g h = wake_lawful c s t d all g h
 keeps c s (Marks t m ms) g h = mark.lawful c s t m ms g h
 keeps c s (Resumes t q cause) g h = resume.lawful c s t q cause g h
 keeps c s (Claims t l x) g h = claim.lawful c s t l x g h

@@ -6,6 +6,7 @@ ghost use Rattle.lock_model.specs.Facts.{Lawful};
 ghost use Rattle.lock_model.specs.Moves.{MayLook, MayGain, MayDrop, MayStamp, MayReady, MayUnready, after_look, after_gain, after_drop, after_stamp, after_ready, after_unready};
 ghost use Rattle.lock_model.specs.MovesOfQueues.{MayEnter, MayBlock, MayOpen, MayMark, MayResume, after_enter, after_block, after_open, after_mark, after_resume};
 ghost use Rattle.lock_model.specs.MovesOfLoans.{MayClaim, MayLend, MayShift, MayEndWalk, after_claim, after_lend, after_shift, after_end_walk};
+ghost use Rattle.lock_model.specs.MovesOfSleeps.{MayEnterSleep, MayOpenSleep, MayAdd, MayWake, after_enter_sleep, after_open_sleep, after_add, after_wake};
 ghost use Rattle.lock_model.specs.MovesOfTurns.{Item, MayTake, MayGive, after_take, after_give};
 ghost use Rattle.lock_model.specs.declared.plan.Mode.{Mode};
 ghost use Rattle.lock_model.specs.declared.plan.QueueName.{QueueName};
@@ -64,6 +65,26 @@ pub fn blocks_keep()
 /// Each fact is kept where a release takes a side of waiters off.
 pub fn opens_keep()
     ensures { (c : Config) (s : State) (t l : ℕ) (mode : Mode) → MayOpen c s t l mode → Lawful c s → Lawful c (after_open c s t l) }
+{}
+
+/// Each fact is kept where a thread blocks on an sx lock and lends its sleep queue.
+pub fn enters_sleep_queue_keep()
+    ensures { (c : Config) (s : State) (t l : ℕ) (mode : Mode) (x : ℕ) → MayEnterSleep c s t l mode x → Lawful c s → Lawful c (after_enter_sleep s t l mode x) }
+{}
+
+/// Each fact is kept where a release of an sx lock takes a side of waiters off.
+pub fn opens_sleep_queue_keep()
+    ensures { (c : Config) (s : State) (t l : ℕ) (mode : Mode) → MayOpenSleep c s t l mode → Lawful c s → Lawful c (after_open_sleep c s t l) }
+{}
+
+/// Each fact is kept where a thread sleeps on a condition variable or channel.
+pub fn adds_keep()
+    ensures { (c : Config) (s : State) (t d x : ℕ) → MayAdd c s t d x → Lawful c s → Lawful c (after_add s t d x) }
+{}
+
+/// Each fact is kept where the best sleeper of a channel, or all, are taken off.
+pub fn wakes_keep()
+    ensures { (c : Config) (s : State) (t d : ℕ) (all : Bool) → MayWake c s t d all → Lawful c s → Lawful c (after_wake s t d all) }
 {}
 
 /// Each fact is kept where the first of a marked list gets its object back and is woken.

@@ -74,3 +74,86 @@ after_open_sleep c s t l =
       marked = put s.marked t (dealt q ws (s.free_list q) (s.head q));
       last_look = put s.last_look t None;
     }
+
+-- 3. An add: a thread sleeps on a channel, behind its Sleeps entry, which is the newest of its log. It wants nothing
+
+-- whether the newest entry is a Sleeps entry on the channel
+abbrev pub sleeps_on : ℕ → Event → Bool
+sleeps_on d (Sleeps e) = e.0 == d
+sleeps_on d other = false
+
+abbrev pub has_slept : ℕ → List Entry → Bool
+has_slept d [] = false
+has_slept d (e ∷ es) = sleeps_on d e.event
+
+-- what it asks
+pub record MayAdd (c : Config) (s : State) (t d x : ℕ) : Type 0 where
+  pub thread : t < c.threads
+  pub chan : d < c.chans
+  pub queued : s.wait t ≡ Queued
+  pub unnamed : s.named t ≡ None
+  pub own : s.sleep_queue t ≡ Some x
+  pub wants : s.wanted t ≡ None
+  pub slept : has_slept d (s.log t) ≡ true
+
+-- the thread stands at the tail of the exclusive side, and its sleep queue is lent
+unfoldable pub after_add : State → ℕ → ℕ → ℕ → State
+after_add s t d x =
+    let q : QueueName = chan_queue d in
+    record s {
+      lists = put_queue s.lists q (record (s.lists q) { exclusive = with_last (record { thread = t; kept = s.base t }) (s.lists q).exclusive });
+      free_list = put_queue s.free_list q (free_with (s.head q) x (s.free_list q));
+      head = put_queue s.head q (head_with (s.head q) x);
+      sleep_queue = put s.sleep_queue t None;
+      named = put s.named t (Some q);
+    }
+
+-- 4. A wake: the best sleeper of a channel, or all, go to the marked list
+
+-- the better of a sleeper and the best behind it: of equals the one that has slept longest
+abbrev pub better : Waiter → Option Waiter → Waiter
+better w None = w
+better w (Some v) = if nat_lt v.kept w.kept then v else w
+
+-- the most important sleeper
+abbrev pub best_of : List Waiter → Option Waiter
+best_of [] = None
+best_of (w ∷ ws) = Some (better w (best_of ws))
+
+abbrev pub one_or_none : Option Waiter → List Waiter
+one_or_none None = []
+one_or_none (Some w) = w ∷ []
+
+abbrev pub without_best : Option Waiter → List Waiter → List Waiter
+without_best None ws = ws
+without_best (Some w) ws = without w.thread ws
+
+-- who is taken off
+abbrev pub taken_off : Bool → List Waiter → List Waiter
+taken_off true ws = ws
+taken_off false ws = one_or_none (best_of ws)
+
+-- who stays
+abbrev pub left_on : Bool → List Waiter → List Waiter
+left_on true ws = []
+left_on false ws = without_best (best_of ws) ws
+
+-- what it asks
+pub record MayWake (c : Config) (s : State) (t d : ℕ) (all : Bool) : Type 0 where
+  pub thread : t < c.threads
+  pub chan : d < c.chans
+  pub unmarked : s.marked t ≡ []
+  pub stamped : s.unstamped t ≡ None
+
+-- those that were taken off are in the marked list, and the wake is to be noted
+unfoldable pub after_wake : State → ℕ → ℕ → Bool → State
+after_wake s t d all =
+    let q : QueueName = chan_queue d in
+    let ws : List Waiter = taken_off all (s.lists q).exclusive in
+    record s {
+      lists = put_queue s.lists q (record (s.lists q) { exclusive = left_on all (s.lists q).exclusive });
+      free_list = put_queue s.free_list q (free_after ws (s.free_list q));
+      head = put_queue s.head q (head_after ws (s.free_list q) (s.head q));
+      marked = put s.marked t (dealt q ws (s.free_list q) (s.head q));
+      unstamped = put s.unstamped t (Some (record { chan = d; all = all; taken = map (λ w. w.thread) ws }));
+    }

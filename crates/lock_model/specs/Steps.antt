@@ -5,6 +5,7 @@ use Rattle.lock_model.specs.Words.{Word, is_turnstile, admits}
 use Rattle.lock_model.specs.Queues.{lock_queue}
 use Rattle.lock_model.specs.Moves.{MayLook, MayGain, MayDrop, MayStamp, MayReady, MayUnready, after_look, after_gain, after_drop, after_stamp, after_ready, after_unready}
 use Rattle.lock_model.specs.MovesOfQueues.{MayEnter, MayOpen, MayMark, MayResume, after_enter, after_open, after_mark, after_resume}
+use Rattle.lock_model.specs.MovesOfSleeps.{MayEnterSleep, MayOpenSleep, MayAdd, MayWake, after_enter_sleep, after_open_sleep, after_add, after_wake}
 use Rattle.lock_model.specs.MovesOfLoans.{MayClaim, MayLend, MayShift, MayEndWalk, after_claim, after_lend, after_shift, after_end_walk}
 use Rattle.lock_model.specs.MovesOfTurns.{Item, TurnstileChain, SleepChain, RecordOf, CellOf, item_with, MayTake, MayGive, after_take, after_give}
 use Rattle.lock_model.specs.declared.plan.Mode.{Mode}
@@ -32,6 +33,13 @@ pub data Move : Type 0 where
   Enters : ℕ → ℕ → Mode → ℕ → Move
   -- the lock and the mode in which it was held
   Opens : ℕ → ℕ → Mode → Move
+  -- the same of an sx lock, with the own sleep queue
+  EntersSleepQueue : ℕ → ℕ → Mode → ℕ → Move
+  OpensSleepQueue : ℕ → ℕ → Mode → Move
+  -- the channel and the own sleep queue
+  Adds : ℕ → ℕ → ℕ → Move
+  -- the channel, and whether all sleepers are taken off
+  Wakes : ℕ → ℕ → Bool → Move
   -- the first mark and the others
   Marks : ℕ → Mark → List Mark → Move
   -- the queue and the cause of the wake
@@ -56,6 +64,10 @@ May c s (Readies t) = MayReady c s t
 May c s (Unreadies t) = MayUnready c s t
 May c s (Enters t l mode x) = MayEnter c s t l mode x
 May c s (Opens t l mode) = MayOpen c s t l mode
+May c s (EntersSleepQueue t l mode x) = MayEnterSleep c s t l mode x
+May c s (OpensSleepQueue t l mode) = MayOpenSleep c s t l mode
+May c s (Adds t d x) = MayAdd c s t d x
+May c s (Wakes t d all) = MayWake c s t d all
 May c s (Marks t m ms) = MayMark c s t m ms
 May c s (Resumes t q cause) = MayResume c s t q cause
 May c s (Claims t l h) = MayClaim c s t l h
@@ -75,6 +87,10 @@ after c s (Readies t) = after_ready s t
 after c s (Unreadies t) = after_unready s t
 after c s (Enters t l mode x) = after_enter s t l mode x
 after c s (Opens t l mode) = after_open c s t l
+after c s (EntersSleepQueue t l mode x) = after_enter_sleep s t l mode x
+after c s (OpensSleepQueue t l mode) = after_open_sleep c s t l
+after c s (Adds t d x) = after_add s t d x
+after c s (Wakes t d all) = after_wake s t d all
 after c s (Marks t m ms) = after_mark c s t m ms
 after c s (Resumes t q cause) = after_resume c s t q cause
 after c s (Claims t l h) = after_claim c s t l h
@@ -135,6 +151,10 @@ HasOut c s (Readies t) = HasSomeChain s t × HasItem s t (RecordOf t)
 HasOut c s (Unreadies t) = HasSomeChain s t × HasItem s t (RecordOf t)
 HasOut c s (Enters t l mode x) = HasItem s t (chain_of c l) × HasItem s t (RecordOf t)
 HasOut c s (Opens t l mode) = HasItem s t (chain_of c l) × HasItem s t (RecordOf t)
+HasOut c s (EntersSleepQueue t l mode x) = HasItem s t (chain_of c l) × HasItem s t (RecordOf t)
+HasOut c s (OpensSleepQueue t l mode) = HasItem s t (chain_of c l) × HasItem s t (RecordOf t)
+HasOut c s (Adds t d x) = HasItem s t (SleepChain (d % c.chains)) × HasItem s t (RecordOf t)
+HasOut c s (Wakes t d all) = HasItem s t (SleepChain (d % c.chains))
 HasOut c s (Marks t m ms) = HasItem s t (RecordOf m.thread)
 HasOut c s (Resumes t q cause) = ⊤
 HasOut c s (Claims t l h) = HasItem s t (chain_of c l) × HasItem s t (RecordOf t)

@@ -1,0 +1,285 @@
+-- An add to a channel, and a wake there, keep each fact.
+use Rattle.std.proofs.Common.{◌≡◌, ℕ, ◌+◌, ◌≤◌, Bool, true, false, eqb, List, length, Option, Some, None, refl, sym, ap, inl, inr, arith, ◌∙◌}
+use Rattle.std.proofs.lemmas.Bool.{cases_eq, ne_eqb}
+use Rattle.lock_model.specs.Counts.{one, some, times, at_option, sum_below}
+use Rattle.lock_model.specs.State.{State, Config, Waiter, Lists, Mark, put_queue}
+use Rattle.lock_model.specs.MovesOfSleeps.{MayAdd, MayWake, after_add, after_wake, with_last, taken_off, left_on}
+use Rattle.lock_model.specs.Queues.{lock_queue, chan_queue, stands, head_with, free_with, dealt, free_after, head_after}
+use Rattle.lock_model.specs.Facts.{Lawful, OneTurnstileEach, OneSleepQueueEach, TurnstileIsLent, SleepQueueIsLent, HeadsFitWaiters, BitsShowWaiters, ListsAscend, MutexWaitersAreExclusive, StandsOnce, OnlyThreadsStand, StandingIsQueued, QueuedHasRecord, StandingWants, CalledWants, StandingIsUncalled, FreeWordHasCalled, OwnersHold, ChannelsHaveNoOwner, LoansAreLeast, LoansAreOnHeads, KeptIsEffective, KeptIsKnown}
+use Rattle.lock_model.specs.FactsOfQueues.{turnstile_places, sleep_queue_places, times_object, HeadFits}
+use Rattle.lock_model.specs.FactsOfWaits.{callers, calls_marked, times_marked, at_queue}
+use Rattle.lock_model.specs.declared.plan.QueueName.{QueueName}
+use Rattle.lock_laws.proofs.Kit.{columns, put_chan_same, put_chan_other, put_same, put_other, sum_below-put, sum_below-put_chan, each_queue}
+use Rattle.lock_laws.proofs.Queues.{no_turnstiles-dealt, all_sleep_queues-dealt, times_marked-dealt, times_marked-elsewhere, length-after, headless-after}
+use Rattle.lock_laws.proofs.Sleepers.{times_waiting-last, length-last, times-taken, length-taken}
+
+-- the object that is lent goes to the head or the free list
+lent_object : (n x : ℕ) (head : Option ℕ) (free : List ℕ) → at_option n (head_with head x) + times n (free_with head x free) ≡ one (eqb n x) + (at_option n head + times n free)
+lent_object n x None free = omega arith
+lent_object n x (Some h) free = omega arith
+
+added_fits : (w : Waiter) (q : Lists) (xs : List ℕ) (h o : Option ℕ) (x : ℕ) → HeadFits q xs h o → HeadFits (record q { exclusive = with_last w q.exclusive }) (free_with h x xs) (head_with h x) o
+added_fits w q xs h o x f = grind (arith, length-last w q.exclusive, f.balanced, f.no_free)
+
+taken_fits : (all : Bool) (q : Lists) (xs : List ℕ) (h o : Option ℕ) → o ≡ None → HeadFits q xs h o → HeadFits (record q { exclusive = left_on all q.exclusive }) (free_after (taken_off all q.exclusive) xs) (head_after (taken_off all q.exclusive) xs h) o
+taken_fits all q xs h o z f =
+    let b = length-taken all q.exclusive in
+    let e : length (taken_off all q.exclusive) ≤ length xs + some h = omega (arith, f.balanced) in
+    record {
+      balanced = omega (arith, length-after (taken_off all q.exclusive) xs h e, f.balanced);
+      no_free = headless-after (taken_off all q.exclusive) xs h f.no_free;
+      no_owner = λ x. z;
+    }
+
+-- 1. An add
+
+module _ (c : Config) (s : State) (t d x : ℕ) (g : MayAdd c s t d x) (h : Lawful c s) where
+  abbrev n : State
+  n = after_add s t d x
+
+  abbrev q : QueueName
+  q = chan_queue d
+
+  abbrev new : Waiter
+  new = record { thread = t; kept = s.base t }
+
+  abbrev lists : Lists
+  lists = record (s.lists q) { exclusive = with_last new (s.lists q).exclusive }
+
+  one_turnstile : OneTurnstileEach c n.turnstile n.head n.free_list n.marked
+  unfolding after_add OneTurnstileEach turnstile_places put_queue
+  one_turnstile k = h.one_turnstile_each k
+
+  one_sleep_queue : OneSleepQueueEach c n.sleep_queue n.head n.free_list n.marked
+  unfolding after_add OneSleepQueueEach sleep_queue_places put_queue
+  one_sleep_queue k =
+      let a = sum_below-put c.threads (at_option k) s.sleep_queue t None g.thread in
+      let b = sum_below-put_chan c.chans (at_option k) s.head d (head_with (s.head q) x) g.chan in
+      let i = sum_below-put_chan c.chans (times k) s.free_list d (free_with (s.head q) x (s.free_list q)) g.chan in
+      let e = ap (at_option k) g.own in
+      let f = lent_object k x (s.head q) (s.free_list q) in
+      omega (arith, h.one_sleep_queue_each k)
+
+  turnstile_lent : TurnstileIsLent c n.turnstile n.named
+  unfolding after_add TurnstileIsLent
+  turnstile_lent u = grind (arith, columns, h.turnstile_is_lent u)
+
+  sleep_queue_lent : SleepQueueIsLent c n.sleep_queue n.named
+  unfolding after_add SleepQueueIsLent
+  sleep_queue_lent u = grind (arith, columns, h.sleep_queue_is_lent u)
+
+  heads_of_chans : (k : ℕ) → HeadFits (n.lists (chan_queue k)) (n.free_list (chan_queue k)) (n.head (chan_queue k)) (n.owner (chan_queue k))
+  unfolding after_add HeadsFitWaiters
+  heads_of_chans k =
+      elim (cases_eq d k) [
+        | inl e ↦ rw (← e) (simp put_chan_same (added_fits new (s.lists q) (s.free_list q) (s.head q) (s.owner q) x (h.heads_fit_waiters q)))
+        | inr e ↦ rw (put_chan_other s.lists d lists k e, put_chan_other s.free_list d (free_with (s.head q) x (s.free_list q)) k e, put_chan_other s.head d (head_with (s.head q) x) k e) (h.heads_fit_waiters (chan_queue k))
+      ]
+
+  heads : HeadsFitWaiters n.lists n.free_list n.head n.owner
+  unfolding after_add HeadsFitWaiters put_queue
+  heads = each_queue (λ r. HeadFits (n.lists r) (n.free_list r) (n.head r) (n.owner r)) (λ l. h.heads_fit_waiters (lock_queue l)) heads_of_chans
+
+  bits : BitsShowWaiters n.word n.lists
+  unfolding after_add BitsShowWaiters put_queue
+  bits l = h.bits_show_waiters l
+
+  ascend : ListsAscend c n.lists
+  unfolding after_add ListsAscend put_queue
+  ascend l = h.lists_ascend l
+
+  mutex_waiters : MutexWaitersAreExclusive c n.lists
+  unfolding after_add MutexWaitersAreExclusive put_queue
+  mutex_waiters l = h.mutex_waiters_are_exclusive l
+
+  stand_at_lock : (u l : ℕ) → stands u (s.lists (lock_queue l)) + sum_below c.threads (λ v. times_marked u (lock_queue l) (s.marked v)) ≡ at_queue (lock_queue l) (n.named u)
+  unfolding after_add StandsOnce
+  stand_at_lock u l = grind (arith, columns, h.stands_once u (lock_queue l))
+
+  stand_at_chan : (u k : ℕ) → stands u (n.lists (chan_queue k)) + sum_below c.threads (λ v. times_marked u (chan_queue k) (n.marked v)) ≡ at_queue (chan_queue k) (n.named u)
+  unfolding after_add StandsOnce
+  stand_at_chan u k =
+      elim (cases_eq d k) [
+        | inl e ↦ rw (← e, put_chan_same s.lists d lists) (let a = times_waiting-last u new (s.lists q).exclusive in grind (arith, put_same, put_other, h.stands_once u q))
+        | inr e ↦ rw (put_chan_other s.lists d lists k e) (let a = ne_eqb k d (λ i. e (sym i)) in grind (arith, put_same, put_other, h.stands_once u (chan_queue k)))
+      ]
+
+  stand : StandsOnce c n.lists n.marked n.named
+  unfolding after_add StandsOnce put_queue
+  stand u = each_queue (λ r. stands u (n.lists r) + sum_below c.threads (λ v. times_marked u r (n.marked v)) ≡ at_queue r (n.named u)) (stand_at_lock u) (stand_at_chan u)
+
+  threads_stand : OnlyThreadsStand c n.named
+  unfolding after_add OnlyThreadsStand
+  threads_stand u r = grind (arith, columns, h.only_threads_stand u r, g.thread)
+
+  standing_queued : StandingIsQueued n.named n.wait
+  unfolding after_add StandingIsQueued
+  standing_queued u r = grind (arith, columns, h.standing_is_queued u r)
+
+  has_record : QueuedHasRecord n.wait n.named n.record_with
+  unfolding after_add QueuedHasRecord
+  has_record u = grind (arith, columns, h.queued_has_record u)
+
+  standing_wants : StandingWants n.named n.wanted
+  unfolding after_add StandingWants
+  standing_wants u l = grind (arith, columns, h.standing_wants u l)
+
+  uncalled : s.called t ≡ None
+  unfolding CalledWants
+  uncalled = go (s.called t) refl
+    where
+      go : (o : Option ℕ) → s.called t ≡ o → o ≡ None
+      go None e = refl
+      go (Some l) e = absurd (let z : None ≡ Some l = sym g.wants ∙ h.called_wants t l e in cc)
+
+  standing_uncalled : StandingIsUncalled n.named n.called
+  unfolding after_add StandingIsUncalled
+  standing_uncalled u r = grind (arith, columns, h.standing_is_uncalled u r, uncalled)
+
+  owners : OwnersHold c n.owner n.head n.word
+  unfolding after_add OwnersHold put_queue
+  owners l = h.owners_hold l
+
+  loans_least : LoansAreLeast c n.owner n.walk n.loan n.lists
+  unfolding after_add LoansAreLeast put_queue
+  loans_least l = h.loans_are_least l
+
+  loans_on_heads : LoansAreOnHeads n.loan n.head
+  unfolding after_add LoansAreOnHeads put_queue
+  loans_on_heads u l = h.loans_are_on_heads u l
+
+  kept : KeptIsEffective c n.walk n.effective n.lists
+  unfolding after_add KeptIsEffective put_queue
+  kept l = h.kept_is_effective l
+
+  kept_known : KeptIsKnown c n.lists n.history
+  unfolding after_add KeptIsKnown put_queue
+  kept_known l = h.kept_is_known l
+
+  pub add_lawful : Lawful c n
+  unfolding after_add
+  add_lawful = assumption (one_turnstile, one_sleep_queue, turnstile_lent, sleep_queue_lent, heads, bits, ascend, mutex_waiters, stand, threads_stand, standing_queued, has_record, standing_wants, standing_uncalled, owners, loans_least, loans_on_heads, kept, kept_known)
+
+-- 2. A wake
+
+module _ (c : Config) (s : State) (t d : ℕ) (all : Bool) (g : MayWake c s t d all) (h : Lawful c s) where
+  abbrev m : State
+  m = after_wake s t d all
+
+  abbrev r : QueueName
+  r = chan_queue d
+
+  abbrev woken : List Waiter
+  woken = taken_off all (s.lists r).exclusive
+
+  abbrev stay : Lists
+  stay = record (s.lists r) { exclusive = left_on all (s.lists r).exclusive }
+
+  abbrev marks : List Mark
+  marks = dealt r woken (s.free_list r) (s.head r)
+
+  fits : length woken ≤ length (s.free_list r) + some (s.head r)
+  unfolding HeadsFitWaiters
+  fits = omega (arith, length-taken all (s.lists r).exclusive, (h.heads_fit_waiters r).balanced)
+
+  wake_one_turnstile : OneTurnstileEach c m.turnstile m.head m.free_list m.marked
+  unfolding after_wake OneTurnstileEach turnstile_places put_queue
+  wake_one_turnstile k =
+      let a = sum_below-put c.threads (times_object c true k) s.marked t marks g.thread in
+      let e = ap (times_object c true k) g.unmarked in
+      let f = no_turnstiles-dealt c k r refl woken (s.free_list r) (s.head r) in
+      omega (arith, h.one_turnstile_each k)
+
+  wake_one_sleep_queue : OneSleepQueueEach c m.sleep_queue m.head m.free_list m.marked
+  unfolding after_wake OneSleepQueueEach sleep_queue_places put_queue
+  wake_one_sleep_queue k =
+      let b = sum_below-put_chan c.chans (at_option k) s.head d (head_after woken (s.free_list r) (s.head r)) g.chan in
+      let i = sum_below-put_chan c.chans (times k) s.free_list d (free_after woken (s.free_list r)) g.chan in
+      let a = sum_below-put c.threads (times_object c false k) s.marked t marks g.thread in
+      let e = ap (times_object c false k) g.unmarked in
+      let f = all_sleep_queues-dealt c k r refl woken (s.free_list r) (s.head r) in
+      omega (arith, h.one_sleep_queue_each k)
+
+  wake_heads_of_chans : (k : ℕ) → HeadFits (m.lists (chan_queue k)) (m.free_list (chan_queue k)) (m.head (chan_queue k)) (m.owner (chan_queue k))
+  unfolding after_wake HeadsFitWaiters ChannelsHaveNoOwner
+  wake_heads_of_chans k =
+      elim (cases_eq d k) [
+        | inl e ↦ rw (← e) (simp put_chan_same (taken_fits all (s.lists r) (s.free_list r) (s.head r) (s.owner r) (h.channels_have_no_owner d) (h.heads_fit_waiters r)))
+        | inr e ↦ rw (put_chan_other s.lists d stay k e, put_chan_other s.free_list d (free_after woken (s.free_list r)) k e, put_chan_other s.head d (head_after woken (s.free_list r) (s.head r)) k e) (h.heads_fit_waiters (chan_queue k))
+      ]
+
+  wake_heads : HeadsFitWaiters m.lists m.free_list m.head m.owner
+  unfolding after_wake HeadsFitWaiters put_queue
+  wake_heads = each_queue (λ i. HeadFits (m.lists i) (m.free_list i) (m.head i) (m.owner i)) (λ l. h.heads_fit_waiters (lock_queue l)) wake_heads_of_chans
+
+  wake_bits : BitsShowWaiters m.word m.lists
+  unfolding after_wake BitsShowWaiters put_queue
+  wake_bits l = h.bits_show_waiters l
+
+  wake_ascend : ListsAscend c m.lists
+  unfolding after_wake ListsAscend put_queue
+  wake_ascend l = h.lists_ascend l
+
+  wake_mutex_waiters : MutexWaitersAreExclusive c m.lists
+  unfolding after_wake MutexWaitersAreExclusive put_queue
+  wake_mutex_waiters l = h.mutex_waiters_are_exclusive l
+
+  wake_stand_at_lock : (u l : ℕ) → stands u (s.lists (lock_queue l)) + sum_below c.threads (λ v. times_marked u (lock_queue l) (m.marked v)) ≡ at_queue (lock_queue l) (s.named u)
+  unfolding after_wake StandsOnce
+  wake_stand_at_lock u l =
+      let a = sum_below-put c.threads (times_marked u (lock_queue l)) s.marked t marks g.thread in
+      let e = ap (times_marked u (lock_queue l)) g.unmarked in
+      let f = times_marked-elsewhere u (lock_queue l) r refl woken (s.free_list r) (s.head r) in
+      omega (arith, h.stands_once u (lock_queue l))
+
+  wake_stand_at_chan : (u k : ℕ) → stands u (m.lists (chan_queue k)) + sum_below c.threads (λ v. times_marked u (chan_queue k) (m.marked v)) ≡ at_queue (chan_queue k) (s.named u)
+  unfolding after_wake StandsOnce
+  wake_stand_at_chan u k =
+      let a = sum_below-put c.threads (times_marked u (chan_queue k)) s.marked t marks g.thread in
+      let e = ap (times_marked u (chan_queue k)) g.unmarked in
+      elim (cases_eq d k) [
+        | inl i ↦
+            let b = times-taken u all (s.lists r).exclusive in
+            let f = times_marked-dealt u r woken (s.free_list r) (s.head r) fits in
+            let a2 = rw (← i) at a in
+            let e2 = rw (← i) at e in
+            rw (← i, put_chan_same s.lists d stay) (omega (arith, h.stands_once u r))
+        | inr i ↦
+            let f = times_marked-elsewhere u (chan_queue k) r (ne_eqb k d (λ j. i (sym j))) woken (s.free_list r) (s.head r) in
+            rw (put_chan_other s.lists d stay k i) (omega (arith, h.stands_once u (chan_queue k)))
+      ]
+
+  wake_stand : StandsOnce c m.lists m.marked m.named
+  unfolding after_wake StandsOnce put_queue
+  wake_stand u = each_queue (λ i. stands u (m.lists i) + sum_below c.threads (λ v. times_marked u i (m.marked v)) ≡ at_queue i (m.named u)) (wake_stand_at_lock u) (wake_stand_at_chan u)
+
+  wake_called : FreeWordHasCalled c m.word m.marked m.wait m.called
+  unfolding after_wake FreeWordHasCalled callers
+  wake_called l =
+      let a = sum_below-put c.threads (calls_marked l) s.marked t marks g.thread in
+      let e = ap (calls_marked l) g.unmarked in
+      omega (arith, h.free_word_has_called l)
+
+  wake_owners : OwnersHold c m.owner m.head m.word
+  unfolding after_wake OwnersHold put_queue
+  wake_owners l = h.owners_hold l
+
+  wake_loans_least : LoansAreLeast c m.owner m.walk m.loan m.lists
+  unfolding after_wake LoansAreLeast put_queue
+  wake_loans_least l = h.loans_are_least l
+
+  wake_loans_on_heads : LoansAreOnHeads m.loan m.head
+  unfolding after_wake LoansAreOnHeads put_queue
+  wake_loans_on_heads u l = h.loans_are_on_heads u l
+
+  wake_kept : KeptIsEffective c m.walk m.effective m.lists
+  unfolding after_wake KeptIsEffective put_queue
+  wake_kept l = h.kept_is_effective l
+
+  wake_kept_known : KeptIsKnown c m.lists m.history
+  unfolding after_wake KeptIsKnown put_queue
+  wake_kept_known l = h.kept_is_known l
+
+  pub wake_lawful : Lawful c m
+  unfolding after_wake
+  wake_lawful = assumption (wake_one_turnstile, wake_one_sleep_queue, wake_heads, wake_bits, wake_ascend, wake_mutex_waiters, wake_stand, wake_called, wake_owners, wake_loans_least, wake_loans_on_heads, wake_kept, wake_kept_known)
