@@ -1,9 +1,7 @@
 -- The places of a list inside a turnstile, and the waiters that callers see there.
-use Rattle.std.proofs.Common.{◌≡◌, ℕ, ◌+◌, ◌≤◌, ◌<◌, nat_eq, nat_lt, Bool, true, false, cond, List, [], ◌∷◌, length, map, refl, sym, ap, ◌∙◌, arith, None, Some}
-use Rattle.std.proofs.lemmas.Grind.{common_steps}
-use Rattle.lock_model.specs.State.{Waiter as Waiting}
+use Rattle.std.proofs.Common.{◌≡◌, ℕ, nat_eq, nat_lt, true, false, cond, List, [], ◌∷◌, map, refl, ap, None, Some}
 use Rattle.turnstile_core.specs.Seen.{Place}
-use Rattle.turnstile_core.specs.Lists.{insert, is_in, without, dealt}
+use Rattle.turnstile_core.specs.Lists.{insert, without, dealt}
 use Rattle.turnstile_core.specs.Inside.{waiting, HoldNone}
 use Rattle.turnstile_core.specs.Queues.{insert_place, without_place, dealt_places}
 

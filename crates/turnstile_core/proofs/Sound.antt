@@ -1,14 +1,13 @@
 -- What is true of a turnstile's fields stays true where waiters come and go.
-use Rattle.std.proofs.Common.{◌≡◌, ◌≢◌, ℕ, zero, suc, ◌+◌, ◌-◌, ◌≤◌, ◌<◌, Bool, true, false, List, [], ◌∷◌, ◌++◌, length, map, drop, take, None, Some, IfNone, IfSome, refl, sym, ap, ◌∙◌, subst, arith, length-append, append-nil}
+use Rattle.std.proofs.Common.{◌≡◌, ◌≢◌, ℕ, zero, suc, ◌≤◌, true, false, List, [], ◌∷◌, ◌++◌, length, map, drop, None, Some, IfNone, IfSome, refl, sym, ap, ◌∙◌, subst, arith, length-append, append-nil}
 use Rattle.std.specs.declared.option.Option.{Option}
 use Rattle.std.specs.declared.boxed.Box.{Box}
-use Rattle.std.specs.List.{take-map, drop-map}
+use Rattle.std.specs.List.{drop-map}
 use Rattle.std.proofs.lemmas.List.{length-map}
-use Rattle.lock_model.specs.State.{Waiter as Waiting}
 use Rattle.lock_model.specs.declared.plan.Side.TheVariants.{X, S}
 use Rattle.turnstile_core.specs.Seen.{Place, Waiter, Contents, idle_contents}
 use Rattle.turnstile_core.specs.Linked.{linked_places}
-use Rattle.turnstile_core.specs.Lists.{insert, is_in, without}
+use Rattle.turnstile_core.specs.Lists.{is_in}
 use Rattle.turnstile_core.specs.Changes.{all_waiters, waits, joined, left_by, moved, IsWellFormed}
 use Rattle.turnstile_core.specs.Inside.{waiting, seen_contents, AllIdle, HoldNone, IsSound}
 use Rattle.turnstile_core.specs.Queues.{insert_place, without_place}

@@ -1,12 +1,12 @@
 -- Each change of a turnstile keeps its lists in order and its free list one shorter than they are together.
-use Rattle.std.proofs.Common.{◌≡◌, ◌≢◌, ℕ, zero, suc, ◌+◌, ◌-◌, ◌≤◌, ◌<◌, nat_eq, Bool, true, false, ◌||◌, cond, List, [], ◌∷◌, ◌++◌, length, drop, refl, sym, ap, ◌∙◌, subst, arith, length-drop}
+use Rattle.std.proofs.Common.{◌≡◌, ◌≢◌, ℕ, zero, suc, ◌+◌, ◌≤◌, ◌<◌, nat_eq, Bool, true, false, ◌||◌, cond, List, [], ◌∷◌, ◌++◌, length, drop, refl, subst, arith, length-drop}
 use Rattle.std.proofs.lemmas.Bool.{eqb-true}
 use Rattle.lock_model.specs.State.{Waiter as Waiting}
 use Rattle.lock_model.specs.declared.plan.Side.{Side}
 use Rattle.lock_model.specs.declared.plan.Side.TheVariants.{X, S}
 use Rattle.turnstile_core.specs.Seen.{Contents}
 use Rattle.turnstile_core.specs.Lists.{insert, is_in, without}
-use Rattle.turnstile_core.specs.Changes.{waiters, all_waiters, waits, joined, left_by, moved, Ascends, times_in, IsWellFormed}
+use Rattle.turnstile_core.specs.Changes.{waiters, all_waiters, waits, joined, left_by, Ascends, times_in, IsWellFormed}
 use Rattle.turnstile_core.proofs.Lists.{length-insert, length-without, times-insert, times-without, times-absent, ascends-insert, ascends-without}
 
 -- neither, where not one of the two

@@ -1,5 +1,5 @@
 -- What each call makes of a turnstile.
-use Rattle.std.specs.Prelude.{◌≡◌, ℕ, ◌+◌, ◌-◌, ◌≤◌, Bool, ◌||◌, if◌then◌else◌, List, [], ◌∷◌, ◌++◌, length, map, take, drop, Option, None, Some, option_map, ◌==◌}
+use Rattle.std.specs.Prelude.{◌≡◌, ℕ, ◌+◌, ◌-◌, ◌≤◌, Bool, ◌||◌, if◌then◌else◌, List, [], ◌∷◌, ◌++◌, length, map, take, drop, Option, Some, option_map, ◌==◌}
 use Rattle.std.specs.List.{AllByRecursion}
 use Rattle.lock_model.specs.State.{Waiter as Waiting}
 use Rattle.lock_model.specs.declared.plan.Side.{Side}

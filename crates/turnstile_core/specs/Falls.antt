@@ -1,9 +1,8 @@
 -- The number of Sizes falls from a box to those inside it.
-use Rattle.std.specs.Prelude.{◌≡◌, ℕ, ◌+◌, ◌*◌, ◌≤◌, List, [], ◌∷◌, map, length, None, Some}
-use Rattle.std.proofs.Common.{arith, sym, ap}
+use Rattle.std.specs.Prelude.{◌≡◌, ◌*◌, ◌≤◌, List, [], ◌∷◌, length, None, Some}
+use Rattle.std.proofs.Common.{arith, ap}
 use Rattle.std.proofs.lemmas.List.{length-map}
-use Rattle.turnstile_core.specs.Seen.{Contents, idle_contents}
-use Rattle.turnstile_core.specs.Linked.{linked_places, linked_contents}
+use Rattle.turnstile_core.specs.Seen.{Contents}
 use Rattle.turnstile_core.specs.Inside.{queue_places, free_contents, AllIdle, waiting, seen_turnstile, IsSound}
 use Rattle.turnstile_core.specs.Sizes.{contents_size, linked_size, free_size, queue_size, turnstile_size}
 use Rattle.turnstile_core.specs.declared.queue.Queue.TheInside.{Inside as InQueue}

@@ -1,6 +1,6 @@
-use Rattle.std.proofs.Common.{◌≡◌, ◌||◌, ℕ, Bool, true, false, List, None, map, ap, ◌∙◌, subst, sym, refl}
-use Rattle.turnstile_core.specs.Seen.{Turnstile, Waiter, Place}
-use Rattle.turnstile_core.specs.Inside.{seen_turnstile, seen_contents, IsSound}
+use Rattle.std.proofs.Common.{◌≡◌, List, ap, ◌∙◌, subst, sym}
+use Rattle.turnstile_core.specs.Seen.{Waiter, Place}
+use Rattle.turnstile_core.specs.Inside.{IsSound}
 use Rattle.turnstile_core.specs.declared.turnstile.Turnstile.TheInside.{Inside}
 use Rattle.turnstile_core.proofs.Sound.{sound_moved_exclusive, sound_moved_shared, seen_moved_exclusive, seen_moved_shared}
 use Rattle.turnstile_core.proofs.turnstile.Turnstile.adjust.Goals as goal

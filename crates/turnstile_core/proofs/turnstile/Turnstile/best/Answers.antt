@@ -1,10 +1,8 @@
-use Rattle.std.proofs.Common.{◌≡◌, ℕ, min, List, [], ◌∷◌, ◌++◌, map, Some, None, option_map, ap, ◌∙◌, subst, sym, refl}
-use Rattle.std.specs.declared.option.Option.{Option}
-use Rattle.lock_model.specs.State.{Waiter as Waiting}
-use Rattle.turnstile_core.specs.Seen.{Turnstile, Place}
-use Rattle.turnstile_core.specs.Changes.{best, Ascends}
+use Rattle.std.proofs.Common.{◌≡◌, ℕ, min, List, [], ◌∷◌, ◌++◌, map, Some, None, option_map, ap, ◌∙◌, sym, refl}
+use Rattle.turnstile_core.specs.Seen.{Place}
+use Rattle.turnstile_core.specs.Changes.{Ascends}
 use Rattle.turnstile_core.specs.Lists.{least}
-use Rattle.turnstile_core.specs.Inside.{waiting, seen_contents, seen_turnstile}
+use Rattle.turnstile_core.specs.Inside.{waiting}
 use Rattle.turnstile_core.specs.Queues.{first_kept}
 use Rattle.turnstile_core.proofs.Best.{numbers, best_of_one, best_of_first, best_of_both}
 use Rattle.turnstile_core.proofs.turnstile.Turnstile.best.Goals as goal

@@ -1,12 +1,11 @@
-use Rattle.std.proofs.Common.{◌≡◌, ℕ, List, [], ◌++◌, length, map, take, drop, ap, ◌∙◌, subst, sym, refl, append-nil}
+use Rattle.std.proofs.Common.{◌≡◌, List, [], length, map, drop, ap, ◌∙◌, subst, sym}
 use Rattle.std.proofs.lemmas.List.{length-map}
 use Rattle.std.proofs.Math.Seq.{take-length}
 use Rattle.lock_model.specs.declared.plan.Side.{Side}
 use Rattle.lock_model.specs.declared.plan.Side.TheVariants.{X, S}
-use Rattle.turnstile_core.specs.Seen.{Turnstile, Place, Contents}
-use Rattle.turnstile_core.specs.Lists.{dealt}
+use Rattle.turnstile_core.specs.Seen.{Place, Contents}
 use Rattle.turnstile_core.specs.Changes.{waiters, left_by, taken, IsWellFormed}
-use Rattle.turnstile_core.specs.Inside.{waiting, seen_contents, seen_turnstile}
+use Rattle.turnstile_core.specs.Inside.{waiting, seen_contents}
 use Rattle.turnstile_core.specs.Queues.{dealt_places}
 use Rattle.turnstile_core.specs.declared.turnstile.Turnstile.TheInside.{Inside}
 use Rattle.turnstile_core.proofs.Places.{seen-dealt}

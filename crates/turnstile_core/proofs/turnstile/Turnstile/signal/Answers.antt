@@ -1,4 +1,4 @@
-use Rattle.std.proofs.Common.{◌≡◌, ◌++◌, length, ap, ◌∙◌, subst, sym}
+use Rattle.std.proofs.Common.{◌++◌, ap, ◌∙◌, sym}
 use Rattle.turnstile_core.specs.Linked.{linked_places}
 use Rattle.turnstile_core.proofs.Sound.{first_split, left_exclusive, left_shared}
 use Rattle.turnstile_core.proofs.turnstile.Turnstile.signal.Goals as goal

@@ -1,8 +1,7 @@
-use Rattle.std.proofs.Common.{◌≡◌, ◌≢◌, ℕ, [], false, None, ap, ◌∙◌, subst, sym, refl}
-use Rattle.lock_model.specs.State.{Waiter as Waiting}
+use Rattle.std.proofs.Common.{◌≡◌, ◌≢◌, ℕ, [], false, ap, ◌∙◌, subst, sym}
 use Rattle.turnstile_core.specs.Seen.{Turnstile, Waiter}
 use Rattle.turnstile_core.specs.Changes.{all_waiters, waits}
-use Rattle.turnstile_core.specs.Inside.{waiting, seen_contents, seen_turnstile}
+use Rattle.turnstile_core.specs.Inside.{seen_contents, seen_turnstile}
 use Rattle.turnstile_core.specs.declared.turnstile.Turnstile.TheInside.{Inside}
 use Rattle.turnstile_core.proofs.Sound.{sound_joined_exclusive, sound_joined_shared, seen_joined_exclusive, seen_joined_shared}
 use Rattle.turnstile_core.proofs.turnstile.Turnstile.wait.Goals as goal

@@ -1,0 +1,2 @@
+pub mod OneEach
+pub mod ByLock
