@@ -1,13 +1,12 @@
 -- An accepted script's plan is straight: its one thread takes a lock that is declared, edits under it, and gives it back.
-use Rattle.std.proofs.Common.{◌≡◌, ℕ, zero, suc, ◌+◌, ◌<◌, ◌≤◌, Bool, true, false, not, ◌&&◌, ◌||◌, cond, eqb, nat_lt, List, [], ◌∷◌, ◌++◌, length, Option, Some, None, option_and_then, refl, sym, ap, subst, ◌∙◌, arith, length-append, add-zero}
+use Rattle.std.proofs.Common.{◌≡◌, ℕ, suc, ◌+◌, ◌<◌, ◌≤◌, Bool, true, false, not, ◌||◌, cond, nat_lt, List, [], ◌∷◌, ◌++◌, length, Option, Some, None, option_and_then, refl, sym, ap, subst, ◌∙◌, arith, length-append}
 use Rattle.std.specs.Prelude.{◌==◌, is_none, position, remove, unwrap_or, map, slice_get}
-use Rattle.std.specs.List.{list_any, list_all}
+use Rattle.std.specs.List.{list_any}
 use Rattle.std.specs.Map.{lookup}
 use Rattle.std.proofs.lemmas.Option.{option_and_then_some, cond_some, none-some, same_Some}
-use Rattle.std.proofs.lemmas.Bool.{eqb-true, eq-eqb, and_parts}
+use Rattle.std.proofs.lemmas.Bool.{and_parts}
 use Rattle.std.proofs.lemmas.Bool.Decides.{nat_tests}
 use Rattle.lock_model.specs.Script.{Known, OpenThread, nothing_known, Statement, Mutex, Begin, End, Done, DoLock, DoUnlock, DoSet, judged, judged_line, judged_lines, judged_mutex, judged_begin, judged_end, judged_done, judged_lock, judged_unlock, judged_set, with_operation, lock_named, lock_of, declared_as, holds_lock, is_empty, plan_of, plan_when_done, plan_of_lines, lines_of, IsAccepted, is_same, statement_of, number_of, priority_of, class_number}
-use Rattle.lock_model.specs.Plans.{operations_of}
 use Rattle.lock_model.specs.declared.plan.Declared.{Declared}
 use Rattle.lock_model.specs.declared.plan.Declared.TheVariants.{Lock, Chan, Thread}
 use Rattle.lock_model.specs.declared.plan.Kind.TheVariants.{Mtx}

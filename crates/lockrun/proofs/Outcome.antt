@@ -1,14 +1,13 @@
 -- What a straight run leaves to be printed, and that its states are lawful.
-use Rattle.std.proofs.Common.{◌≡◌, ℕ, ◌+◌, ◌≤◌, Bool, true, false, cond, eqb, List, [], ◌∷◌, length, map, reverse, slice_get, unwrap_or, refl, sym, ap, ◌∙◌, arith, ◌&&◌}
+use Rattle.std.proofs.Common.{◌≡◌, ℕ, ◌≤◌, Bool, true, cond, List, [], ◌∷◌, length, map, reverse, slice_get, unwrap_or, refl, sym, ap, ◌∙◌, arith, ◌&&◌}
 use Rattle.std.specs.Prelude.{◌==◌}
 use Rattle.std.proofs.lemmas.Bool.{eq-eqb}
 use Rattle.std.proofs.lemmas.List.{reverse-reverse}
 use Rattle.std.specs.List.{list_all, range_with_len}
 use Rattle.std.specs.FinMap.{entries}
-use Rattle.lock_model.specs.Plans.{config_of, operations_of, declared_base}
-use Rattle.lock_model.specs.State.{Config, State}
+use Rattle.lock_model.specs.Plans.{config_of, operations_of}
 use Rattle.lock_model.specs.History.{tables_of}
-use Rattle.lock_model.specs.Run.{Run, after_turns, scheduled_run, outcome_of, ending_of, threads_of}
+use Rattle.lock_model.specs.Run.{Run, after_turns, scheduled_run, outcome_of, ending_of}
 use Rattle.lock_model.specs.Text.{Outcome, Ending, IsDone, IsStuck, text_of, fault_text}
 use Rattle.lock_model.specs.declared.plan.Plan.{Plan}
 use Rattle.lock_model.specs.declared.plan.ThreadDecl.{ThreadDecl}

@@ -1,22 +1,20 @@
 -- A world that shows a state shows, behind an operation of thread 0, what the operation makes of the state.
-use Rattle.std.proofs.Common.{◌≡◌, ℕ, suc, ◌+◌, Bool, true, false, cond, eqb, List, [], ◌∷◌, ◌++◌, length, reverse, slice_index, replicate, Option, Some, None, refl, sym, ap, ◌∙◌, arith, length-append, inl, inr, subst, unwrap_or, get_or, nat_lt, ◌<◌}
+use Rattle.std.proofs.Common.{◌≡◌, ℕ, suc, ◌+◌, Bool, true, cond, eqb, List, [], ◌∷◌, ◌++◌, length, reverse, slice_index, replicate, Option, Some, None, refl, sym, ap, ◌∙◌, arith, length-append, inl, inr, subst, unwrap_or, get_or, nat_lt, ◌<◌}
 use Rattle.std.proofs.lemmas.Grind.{reverse_onto}
 use Rattle.std.proofs.lemmas.List.{length-replicate, nil_from_length, get_or-replicate}
 use Rattle.std.proofs.lemmas.Bool.{cases_eq, cases_lt, eq-eqb, ne_eqb, eqb-true}
 use Rattle.std.proofs.Math.ListN.{get_or-eq_default}
-use Rattle.std.proofs.lemmas.Bool.Decides.{nat_tests}
 use Rattle.std.proofs.lemmas.Option.{cond_some, none-some}
 use Rattle.std.proofs.lemmas.Cmp.{on_total, then_total}
 use Rattle.std.specs.Cmp.{IsTotalOrder, nat_cmp_total}
-use Rattle.std.specs.declared.cmp.Ordering.{Ordering}
 use Rattle.std.specs.declared.cmp.Ordering.TheVariants.{Less, Equal, Greater}
 use Rattle.std.specs.BTreeMap.{insert_entry}
-use Rattle.std.specs.FinMap.{FinMap, entries, insert, entries-insert, len-entries, len-empty, put as put_entry}
+use Rattle.std.specs.FinMap.{FinMap, entries, entries-insert, len-entries, len-empty, put as put_entry}
 use Rattle.std.specs.Ordering.{match_ordering}
 use Rattle.std.specs.FinMap.Entries.{by_order}
 use Rattle.lock_model.specs.Words.{Word, word_of, gained, dropped, admits}
 use Rattle.lock_model.specs.State.{Config, State, Holds, put, start_state}
-use Rattle.lock_model.specs.History.{place_cmp, tables_of, edited}
+use Rattle.lock_model.specs.History.{place_cmp, tables_of}
 use Rattle.lock_model.specs.Moves.{after_gain, after_drop, after_stamp, entry_of}
 use Rattle.lock_model.specs.Run.{Run, after_take, after_release, after_operation, after_turns}
 use Rattle.lock_model.specs.Plans.{config_of, operations_of}
@@ -33,7 +31,7 @@ use Rattle.lock_model.specs.declared.event.Event.TheVariants as event
 use Rattle.lockrun.specs.declared.world.World.{World}
 use Rattle.lockrun.specs.World.{word_at, ChangesWord, Notes, SameTables, SameWords, Shows, CanMake, Makes, HasRoom}
 use Rattle.lockrun.specs.Straight.{held_after, IsStraight}
-use Rattle.lockrun.proofs.Stands.{Stands, below_locks, hold_by, word_by, IsAlong, IsMade, along, made, turn_made, fits_next, some_thread}
+use Rattle.lockrun.proofs.Stands.{Stands, below_locks, hold_by, word_by, IsMade, along, made, turn_made, fits_next, some_thread}
 
 -- 1. Tables
 

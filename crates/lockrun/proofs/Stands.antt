@@ -1,8 +1,8 @@
 -- What the states of a straight run are: the one lock that is held, if any, has the word of its holder, and all others are free.
-use Rattle.std.proofs.Common.{◌≡◌, ℕ, zero, suc, ◌+◌, ◌<◌, ◌≤◌, Bool, true, false, cond, eqb, List, [], ◌∷◌, ◌++◌, length, drop, get_or, slice_get, Option, Some, None, option_and_then, refl, sym, ap, subst, ◌∙◌, arith, inl, inr, add-zero, ◌-◌, unwrap_or, map, nat_lt, ◌&&◌}
+use Rattle.std.proofs.Common.{◌≡◌, ℕ, zero, suc, ◌+◌, ◌<◌, ◌≤◌, Bool, true, false, cond, eqb, List, [], ◌∷◌, length, drop, get_or, slice_get, Option, Some, None, refl, sym, ap, subst, ◌∙◌, arith, inl, inr, add-zero, ◌-◌, unwrap_or, map, nat_lt, ◌&&◌}
 use Rattle.std.proofs.lemmas.Option.{option_and_then_some, slice_get-get_or, slice_get_past, cond_some, none-some, same_Some}
 use Rattle.std.proofs.lemmas.Bool.Decides.{nat_tests}
-use Rattle.std.proofs.lemmas.Bool.{eqb-true, eq-eqb, ne_eqb, cases_eq, cases_lt}
+use Rattle.std.proofs.lemmas.Bool.{eqb-true, eq-eqb, cases_lt}
 use Rattle.std.proofs.Math.Seq.{drop-cons}
 use Rattle.lock_model.specs.Plans.{config_of, operations_of}
 use Rattle.lock_model.specs.Words.{Word, free_word, gained, is_free, is_plain, is_drop, dropped, admits}
@@ -356,7 +356,7 @@ module _ (plan : Plan) (chains : ℕ) (straight : IsStraight plan) where
           place = ap (λ (r : Run). r.place 0) t ∙ ap suc a.place;
           tickets = ap (λ (r : Run). r.state.next) t ∙ m.ticket ∙ ap suc a.tickets;
           stands = subst (λ (r : Run). Stands c r.state f.0) (sym t) m.stands;
-        reached = subst (λ (r : Run). IsReachable c r.state) (sym t) (m.reached a.reached);
+          reached = subst (λ (r : Run). IsReachable c r.state) (sym t) (m.reached a.reached);
           rest = f.2;
         },
       )

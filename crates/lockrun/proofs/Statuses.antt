@@ -1,5 +1,5 @@
 -- What the statuses of the top call say, as laws over plain bytes.
-use Rattle.std.proofs.Common.{◌≡◌, ℕ, suc, ◌+◌, ◌-◌, ◌<◌, ◌≤◌, ◌⊎◌, ◌↔◌, Bool, true, false, List, [], ◌++◌, length, drop, Option, Some, None, IfSome, refl, sym, ap, ◌∙◌, subst, arith, length-append, length-drop}
+use Rattle.std.proofs.Common.{◌≡◌, ℕ, ◌+◌, ◌-◌, ◌↔◌, List, [], ◌++◌, length, drop, Option, Some, None, IfSome, refl, ap, ◌∙◌, arith, length-append, length-drop}
 use Rattle.std.specs.Io.KnownBytes.{prepend_known}
 use Rattle.std.proofs.lemmas.Option.{same_Some}
 use Rattle.lock_io.specs.Whole.{TakesFront}

@@ -2,12 +2,11 @@
 use Rattle.std.specs.Prelude.{◌≡◌, ℕ, Bool, false, true, List, [], ◌∷◌, codes, reverse, Option, Some, None, IfSome, ◌++◌, ◌<◌, ◌+◌, length, drop}
 use Rattle.std.specs.FinMap.{entries}
 use Rattle.lock_model.specs.Plans.{config_of}
-use Rattle.lock_model.specs.Script.{plan_of_lines, lines_of, is_same, IsAccepted}
+use Rattle.lock_model.specs.Script.{plan_of_lines, lines_of, is_same}
 use Rattle.lock_model.specs.Run.{after_turns, scheduled_run}
-use Rattle.lock_model.specs.State.{State}
 use Rattle.lock_model.specs.Facts.{Lawful}
 use Rattle.lock_model.specs.History.{tables_of}
-use Rattle.lock_model.specs.Text.{Outcome, Ending, IsDone, IsStuck, IsReversed, IsTooLong, text_of, fault_text}
+use Rattle.lock_model.specs.Text.{Ending, IsDone, IsStuck, IsReversed, IsTooLong, text_of, fault_text}
 use Rattle.lock_model.specs.declared.plan.Plan.{Plan}
 use Rattle.lockrun.specs.declared.status.Status.{Status}
 use Rattle.lockrun.specs.declared.status.Status.TheVariants.{Done, BadScript, ReadFault, WriteFault, NoMemory, Stuck, Reversed, TooLong, TooBig, Usage}

@@ -1,8 +1,7 @@
 -- Plans of one thread that never waits: it takes one lock at a time, edits under it, and gives it back.
-use Rattle.std.specs.Prelude.{◌≡◌, ℕ, ◌≤◌, Bool, true, false, ◌==◌, nat_lt, if◌then◌else◌, List, [], ◌∷◌, length, option_and_then, Option, Some, None}
+use Rattle.std.specs.Prelude.{◌≡◌, ℕ, ◌≤◌, ◌==◌, nat_lt, if◌then◌else◌, List, [], ◌∷◌, length, option_and_then, Option, Some, None}
 use Rattle.lock_model.specs.Plans.{operations_of}
-use Rattle.lock_model.specs.declared.plan.Mode.{Mode}
-use Rattle.lock_model.specs.declared.plan.Mode.TheVariants.{Excl, Shared}
+use Rattle.lock_model.specs.declared.plan.Mode.TheVariants.{Excl}
 use Rattle.lock_model.specs.declared.plan.Op.{Op}
 use Rattle.lock_model.specs.declared.plan.Op.TheVariants.{Take, Release, Set}
 use Rattle.lock_model.specs.declared.plan.Plan.{Plan}

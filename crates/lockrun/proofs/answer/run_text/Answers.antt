@@ -1,8 +1,6 @@
-use Rattle.std.proofs.Common.{◌≡◌, ℕ, List, map, IfOk, ap, ◌∙◌, subst}
+use Rattle.std.proofs.Common.{◌≡◌, List, map, IfOk, ap, ◌∙◌, subst}
 use Rattle.lock_model.specs.Text.{text_of, Outcome, IsDone}
-use Rattle.lock_model.specs.Run.{scheduled_run}
 use Rattle.lock_model.specs.declared.numbers.Prio.{Prio}
-use Rattle.lock_model.specs.declared.plan.ThreadDecl.{ThreadDecl}
 use Rattle.lock_model.specs.declared.event.Entry.{Entry}
 use Rattle.lock_history.specs.Endings.{numbers_of}
 use Rattle.lockrun.proofs.Outcome.{outcome, outcome_shown, numbers_declared}

@@ -1,4 +1,3 @@
-use Rattle.std.proofs.Common.{◌≡◌}
 use Rattle.lockrun.specs.declared.status.Status.TheVariants.{Usage, NoMemory, ReadFault}
 use Rattle.lockrun.proofs.Statuses.{accepted_lawful, took_no_more, took_nothing}
 use Rattle.lockrun.proofs.top.lockrun_plain.Goals as goal
