@@ -2,7 +2,7 @@
 use Rattle.std.specs.Prelude.{◌≡◌, ◌⊎◌, ℕ, ◌<◌, Bool, true, false, ◌==◌, nat_lt, if◌then◌else◌, List, [], ◌∷◌, ◌++◌, map, Option, Some, None}
 use Rattle.lock_model.specs.Words.{admits, is_free, is_turnstile, without_one, shows_waiters, entered, opened, side_woken}
 use Rattle.lock_model.specs.History.{open_in}
-use Rattle.lock_model.specs.State.{Config, State, NotHeld, Holds, Queued, Waiter, Lists, Wake, put, put_at, put_queue}
+use Rattle.lock_model.specs.State.{Config, State, NotHeld, Holds, Queued, Waiter, put, put_at, put_queue}
 use Rattle.lock_model.specs.Queues.{lock_queue, chan_queue, side_of, list_of, with_list, head_with, free_with, dealt, free_after, head_after, without}
 use Rattle.lock_model.specs.declared.plan.Mode.{Mode}
 use Rattle.lock_model.specs.declared.plan.Side.{Side}
