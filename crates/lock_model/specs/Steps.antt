@@ -181,6 +181,7 @@ HasSeen c s (Looks t l in_round) = in_round ≡ counts_as_look c s t l
 HasSeen c s (Gains t l mode) = SawAdmitting c s t l mode
 HasSeen c s (Claims t l h) = SawAdmitting c s t l Excl
 HasSeen c s (Enters t l mode x) = s.last_look t ≡ Some (record { lock = l; word = s.word l })
+HasSeen c s (EntersSleepQueue t l mode x) = s.last_look t ≡ Some (record { lock = l; word = s.word l })
 HasSeen c s other = ⊤
 
 -- n comes from s by one step of a thread of a running floor
