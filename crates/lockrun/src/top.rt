@@ -1,10 +1,10 @@
 //! The top call: the words of the command line and a source in, the text and a status out. The text is made whole before its first
 //! byte is written, and nothing is written where there is none.
-ghost use Rattle.std.specs.Prelude.{◌≡◌, ◌⊎◌, ◌≤◌, ◌↔◌, true, false, length, map, IfSome, List, ℕ};
+ghost use Rattle.std.specs.Prelude.{◌≡◌, ◌⊎◌, ◌≤◌, ◌+◌, ◌↔◌, true, false, length, map, IfSome, List, ℕ};
 ghost use Rattle.std.specs.Io.KnownBytes.{IsAtEnd};
 ghost use Rattle.std.specs.String.{string_bytes};
 ghost use Rattle.lock_io.specs.Faults.{Rose};
-ghost use Rattle.lock_io.specs.Whole.{AddsFront};
+ghost use Rattle.lock_io.specs.Whole.{AddsFront, TakesFront};
 ghost use Rattle.lock_model.specs.Script.{IsAccepted};
 ghost use Rattle.lock_model.specs.declared.plan.Plan.{Plan};
 ghost use Rattle.lockrun.specs.Output.{is_form, has_text, writes, most_bytes, TookTooMany, output_of, Wrote, IsLawfulRun};
@@ -25,6 +25,9 @@ pub fn lockrun_plain<S: Source, K: Sink>(
     // Usage comes exactly where the words are no form of the command line, and then nothing is read.
     ensures usage { (result ≡ Status.Usage) ↔ (is_form (map string_bytes words.now) ≡ false) }
     ensures usage_reads_nothing { result ≡ Status.Usage → S.remaining source.new ≡ S.remaining source.old }
+
+    // No answer takes more from the source than the one byte that shows that it is too big.
+    ensures reads_at_most { TakesFront (S.remaining source.old) (S.remaining source.new) (most_bytes + 1) }
 
     // A status with a text: the source was read to its end, nothing failed, and the status and the text are the one pair that
     // belongs to the bytes. Every state that the run of their plan goes through is lawful.
