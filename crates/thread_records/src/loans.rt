@@ -20,32 +20,48 @@ pub(crate) fn least(loans: &Option<Box<Loan>>, base: Prio) -> Prio
     }
 }
 
-/// Sets the priority of the loan for a lock.
-pub(crate) fn set(loans: &mut Option<Box<Loan>>, l: LockNo, prio: Prio)
-    ensures { linked_terms loans.new ≡ with_prio l.0 prio.0 (linked_terms loans.old) }
+/// Sets the priority of the loan for a lock, and gives the least of a priority and those of the loans then.
+pub(crate) fn set(loans: &mut Option<Box<Loan>>, l: LockNo, prio: Prio, base: Prio) -> Prio
+    ensures changed { linked_terms loans.new ≡ with_prio l.0 prio.0 (linked_terms loans.old) }
+    ensures least { result.0 ≡ least_with base.0 (prios (linked_terms loans.new)) }
 {
-    if let Some(first) = loans {
-        let loan: &mut Loan = first;
-        if loan.l == l {
-            loan.prio = prio;
-        } else {
-            set(&mut loan.next, l, prio);
+    match loans {
+        None => base,
+        Some(first) => {
+            let loan: &mut Loan = first;
+            let behind = if loan.l == l {
+                loan.prio = prio;
+                least(&loan.next, base)
+            } else {
+                set(&mut loan.next, l, prio, base)
+            };
+            Prio(loan.prio.0.min(behind.0))
         }
     }
 }
 
-/// Takes the loan for a lock.
-pub(crate) fn take(loans: &mut Option<Box<Loan>>, l: LockNo) -> Option<Box<Loan>>
-    ensures taken { option_map (λ b. b.value) result ≡ option_map alone (loan_for l.0 (linked_terms loans.old)) }
+/// Takes the loan for a lock, and gives the least of a priority and those of the loans that stay.
+pub(crate) fn take(
+    loans: &mut Option<Box<Loan>>,
+    l: LockNo,
+    base: Prio,
+) -> (Option<Box<Loan>>, Prio)
+    ensures taken { option_map (λ b. b.value) result.0 ≡ option_map alone (loan_for l.0 (linked_terms loans.old)) }
     ensures left { linked_terms loans.new ≡ without_loan l.0 (linked_terms loans.old) }
+    ensures least { result.1.0 ≡ least_with base.0 (prios (linked_terms loans.new)) }
 {
-    let mut first = loans.take()?;
+    let Some(mut first) = loans.take() else {
+        return (None, base);
+    };
     let loan: &mut Loan = &mut first;
     if loan.l == l {
-        *loans = loan.next.take();
-        return Some(first);
+        let behind = loan.next.take();
+        let least = least(&behind, base);
+        *loans = behind;
+        return (Some(first), least);
     }
-    let found = take(&mut loan.next, l);
+    let (found, behind) = take(&mut loan.next, l, base);
+    let least = Prio(loan.prio.0.min(behind.0));
     *loans = Some(first);
-    found
+    (found, least)
 }

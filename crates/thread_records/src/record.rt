@@ -102,8 +102,7 @@ impl ThreadRec {
         requires { has_loan l.0 self.old.loans ≡ true }
         ensures { self.new ≡ with_loans (with_prio l.0 prio.0 self.old.loans) self.old }
     {
-        loans::set(&mut self.loans, l, prio);
-        self.eff = loans::least(&self.loans, self.base);
+        self.eff = loans::set(&mut self.loans, l, prio, self.base);
     }
 
     /// Takes the loan for a lock. `None` comes exactly where none stands.
@@ -111,8 +110,8 @@ impl ThreadRec {
         ensures taken { option_map (λ b. b.value) result ≡ option_map alone (loan_for l.0 self.old.loans) }
         ensures left { self.new ≡ with_loans (without_loan l.0 self.old.loans) self.old }
     {
-        let loan = loans::take(&mut self.loans, l);
-        self.eff = loans::least(&self.loans, self.base);
+        let (loan, least) = loans::take(&mut self.loans, l, self.base);
+        self.eff = least;
         loan
     }
 
