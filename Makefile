@@ -1,5 +1,5 @@
 # What a newcomer types. `rt` is the toolchain's command.
-SCRIPT ?= examples/first.script
+SCRIPT ?= examples/blocking.script
 
 .PHONY: step proved examples bench
 

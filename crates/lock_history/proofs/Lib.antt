@@ -1,0 +1,4 @@
+pub mod Merged
+mod Placed
+pub mod Places
+mod Slots

@@ -2,8 +2,8 @@
 use Rattle.std.specs.Prelude.{ℕ, List, map}
 use Rattle.lock_model.specs.declared.numbers.Prio.{Prio}
 use Rattle.lock_model.specs.Text.{Ending, IsDone, IsStuck, IsReversed, IsTooLong}
-use Rattle.lock_history.specs.declared.text.Last.{Last}
-use Rattle.lock_history.specs.declared.text.Last.TheVariants.{Done, Stuck, Reversed, TooLong}
+use Rattle.lock_history.specs.declared.outcome.Last.{Last}
+use Rattle.lock_history.specs.declared.outcome.Last.TheVariants.{Done, Stuck, Reversed, TooLong}
 
 -- how a run ended
 abbrev pub ending_of : Last → Ending

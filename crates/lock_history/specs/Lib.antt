@@ -1,1 +1,4 @@
+pub mod Books
 pub mod Endings
+pub mod Outcomes
+pub mod Tickets

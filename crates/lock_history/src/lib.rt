@@ -1,6 +1,29 @@
-//! The text of a run, and that of a fault in a script.
+//! The books of a run, and its printed text.
+//!
+//! - `log`: entries of one thread, in memory that was taken beforehand.
+//! - `history`: the entries of all threads, in order of their tickets.
+//! - `tables`: the value at each key of a lock's table.
+//! - `merging`: the history that logs make.
+//! - `replaying`: the tables that a history leaves.
+//! - `outcome`: what a run leaves to be printed.
+//! - `text`: the printed text of a run, and that of a fault in a script.
 #![tactic(auto)]
 
+mod history;
+mod log;
+mod merging;
+mod outcome;
+mod replaying;
+mod tables;
 mod text;
 
-pub use text::{Last, print, print_fault};
+pub use history::History;
+pub use log::Log;
+pub use merging::merge;
+pub use outcome::{Last, Outcome, QueueLine};
+pub use replaying::replay;
+pub use tables::Tables;
+pub use text::{print, print_fault};
+
+#[cfg(test)]
+mod tests;

@@ -51,7 +51,7 @@ unfolding least
 least-same_below zero f g d h = refl
 least-same_below (suc n) f g d h = let a = h n (omega arith) in let b = least-same_below n f g d (λ j l. h j (omega arith)) in cc
 
-any_below-true : (n : ℕ) (f : ℕ → Bool) → any_below n f ≡ true → (j : ℕ) × (j < n) × (f j ≡ true)
+pub any_below-true : (n : ℕ) (f : ℕ → Bool) → any_below n f ≡ true → (j : ℕ) × (j < n) × (f j ≡ true)
 unfolding any_below
 any_below-true zero f e = absurd cc
 any_below-true (suc n) f e =

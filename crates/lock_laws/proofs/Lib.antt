@@ -25,9 +25,27 @@ pub mod Best
 pub mod Derived
 pub mod Block
 pub mod Rows
+pub mod HeldLists
+pub mod OnTrack
+pub mod TurnsOfWalks
+pub mod TurnsOfWaits
+pub mod TurnsOfLocks
+pub mod TurnsOfNotes
+pub mod Turning
+pub mod AtTurn
+pub mod OtherThreads
 mod Guards
 pub mod Props
 pub mod Sleepers
 pub mod EnterSleep
 pub mod OpenSleep
 pub mod Sleep
+pub mod Standing
+pub mod HeadsAndNodes
+pub mod HeadsOfWaiters
+pub mod NodesOfHeads
+pub mod Sums
+pub mod Beyond
+pub mod AcceptedLists
+pub mod Accepted
+pub mod WordsAndHeads

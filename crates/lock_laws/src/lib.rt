@@ -8,10 +8,16 @@
 //!   behind it.
 //! - `waits`: a thread stands at most once, on one queue, and a lock's word shows it.
 //! - `books`: the table of a lock is what the history leaves.
+//! - `objects`: where turnstiles, loan nodes and waiters are.
+//! - `scripts`: each script's plan is proper: its operations fit what their threads hold.
+//! - `runs`: each state of a scheduled run of a proper plan is lawful.
 #![tactic(auto)]
 
 pub mod books;
 pub mod kinds;
+pub mod objects;
 pub mod priorities;
+pub mod runs;
+pub mod scripts;
 pub mod start;
 pub mod waits;

@@ -1,1 +1,2 @@
+mod NamedKeys
 mod Spelled

@@ -6,6 +6,7 @@ pub mod Words
 pub mod Counts
 pub mod State
 pub mod History
+pub mod Operations
 pub mod Queues
 pub mod Moves
 pub mod MovesOfTurns
@@ -22,3 +23,4 @@ pub mod Facts
 pub mod Best
 pub mod Text
 pub mod Run
+pub mod Keys

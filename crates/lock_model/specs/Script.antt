@@ -14,9 +14,10 @@ use Rattle.lock_model.specs.declared.plan.LockDecl.{LockDecl}
 use Rattle.lock_model.specs.declared.plan.ThreadDecl.{ThreadDecl}
 use Rattle.lock_model.specs.declared.plan.Plan.{Plan}
 use Rattle.lock_model.specs.declared.plan.Op.{Op}
-use Rattle.lock_model.specs.declared.plan.Op.TheVariants.{Take, Release, Set}
+use Rattle.lock_model.specs.declared.plan.Op.TheVariants.{Take, Release, Set, Add, Get, Base, Show}
 use Rattle.lock_model.specs.declared.event.Held.{Held}
 use Rattle.lock_model.specs.declared.numbers.LockNo.{LockNo}
+use Rattle.lock_model.specs.declared.numbers.ThreadNo.{ThreadNo}
 
 -- 1. Lines and words
 
@@ -73,27 +74,47 @@ pub data Statement : Type 0 where
   -- a name and a priority
   Begin : List ℕ → List ℕ → Statement
   End : Statement
+  -- one thread or more
+  Schedule : List (List ℕ) → Statement
   Done : Statement
   -- a lock
   DoLock : List ℕ → Statement
   DoUnlock : List ℕ → Statement
   -- a lock, a key and a value
   DoSet : List ℕ → List ℕ → List ℕ → Statement
+  -- a lock, a key and an amount
+  DoAdd : List ℕ → List ℕ → List ℕ → Statement
+  -- a lock and a key
+  DoGet : List ℕ → List ℕ → Statement
+  -- a priority
+  DoPrio : List ℕ → Statement
+  DoShow : Statement
+
+abbrev pub statement_of_one : List ℕ → Option Statement
+statement_of_one w =
+    if is_same w (codes "end") then Some End else
+    (if is_same w (codes "done") then Some Done else
+    (if is_same w (codes "show") then Some DoShow else None))
+
+-- a word with others behind it
+abbrev pub statement_of_more : List ℕ → List ℕ → List (List ℕ) → Option Statement
+statement_of_more w a [] =
+    if is_same w (codes "lock") then Some (DoLock a) else
+    (if is_same w (codes "unlock") then Some (DoUnlock a) else
+    (if is_same w (codes "prio") then Some (DoPrio a) else None))
+statement_of_more w a (b ∷ []) =
+    if is_same w (codes "mutex") then Some (Mutex a b) else
+    (if is_same w (codes "thread") then Some (Begin a b) else
+    (if is_same w (codes "get") then Some (DoGet a b) else None))
+statement_of_more w a (b ∷ c ∷ []) =
+    if is_same w (codes "set") then Some (DoSet a b c) else
+    (if is_same w (codes "add") then Some (DoAdd a b c) else None)
+statement_of_more w a (b ∷ c ∷ d ∷ more) = None
 
 abbrev pub statement_of_words : List (List ℕ) → Option Statement
 statement_of_words [] = None
-statement_of_words (w ∷ []) =
-    if is_same w (codes "end") then Some End else
-    (if is_same w (codes "done") then Some Done else None)
-statement_of_words (w ∷ a ∷ []) =
-    if is_same w (codes "lock") then Some (DoLock a) else
-    (if is_same w (codes "unlock") then Some (DoUnlock a) else None)
-statement_of_words (w ∷ a ∷ b ∷ []) =
-    if is_same w (codes "mutex") then Some (Mutex a b) else
-    (if is_same w (codes "thread") then Some (Begin a b) else None)
-statement_of_words (w ∷ a ∷ b ∷ c ∷ []) =
-    if is_same w (codes "set") then Some (DoSet a b c) else None
-statement_of_words (w ∷ a ∷ b ∷ c ∷ d ∷ more) = None
+statement_of_words (w ∷ []) = statement_of_one w
+statement_of_words (w ∷ a ∷ more) = if is_same w (codes "schedule") then Some (Schedule (a ∷ more)) else statement_of_more w a more
 
 abbrev pub is_empty : {A : Type 0} → List A → Bool
 is_empty [] = true
@@ -118,6 +139,7 @@ pub record Known : Type 0 where
   pub classes : List (List ℕ)
   pub locks : List LockDecl
   pub threads : List ThreadDecl
+  pub schedule : List ThreadNo
   pub open_thread : Option OpenThread
   -- operations of all threads
   pub operations : ℕ
@@ -125,7 +147,7 @@ pub record Known : Type 0 where
 
 -- what the header makes known
 abbrev pub nothing_known : Known
-nothing_known = record { names = []; classes = []; locks = []; threads = []; open_thread = None; operations = 0; is_done = false }
+nothing_known = record { names = []; classes = []; locks = []; threads = []; schedule = []; open_thread = None; operations = 0; is_done = false }
 
 abbrev pub declared_as : Known → List ℕ → Option Declared
 declared_as k name = lookup (is_same name) k.names
@@ -138,6 +160,15 @@ lock_of (Thread t) = None
 -- the lock of that name
 abbrev pub lock_named : Known → List ℕ → Option LockNo
 lock_named k name = if is_name name then option_and_then lock_of (declared_as k name) else None
+
+abbrev pub thread_of : Declared → Option ThreadNo
+thread_of (Lock l) = None
+thread_of (Chan c) = None
+thread_of (Thread t) = Some t
+
+-- the thread of that name
+abbrev pub thread_named : Known → List ℕ → Option ThreadNo
+thread_named k name = if is_name name then option_and_then thread_of (declared_as k name) else None
 
 -- a name that may be declared
 abbrev pub is_new : Known → List ℕ → Bool
@@ -173,10 +204,10 @@ judged_mutex k name class =
     })
     else None
 
--- `thread NAME PRIO` begins a thread. Its name is new. Until a schedule may choose between threads there is one.
+-- `thread NAME PRIO` begins a thread. Its name is new. There are at most 32 threads.
 abbrev pub judged_begin : Known → List ℕ → List ℕ → Option Known
 judged_begin k name prio =
-    if is_none k.open_thread && is_empty k.threads && is_new k name
+    if is_none k.open_thread && is_new k name && nat_lt (length k.threads) 32
     then option_and_then (λ p. Some (record k {
       names = k.names ++ (name, Thread (record { 0 = length k.threads })) ∷ [];
       open_thread = Some (record { name = name; base = p; ops = []; held = [] });
@@ -193,14 +224,26 @@ judged_end k t =
     })
     else None
 
+-- the schedule with the threads of those names behind it; it has at most 100,000 entries
+abbrev pub with_scheduled : Known → List (List ℕ) → Option Known
+with_scheduled k [] = Some k
+with_scheduled k (name ∷ names) =
+    option_and_then (λ t.
+    if nat_lt (length k.schedule) 100000 then with_scheduled (record k { schedule = k.schedule ++ t ∷ [] }) names else None
+    ) (thread_named k name)
+
+-- `schedule NAME ..` stands outside a thread, and names threads that have ended
+abbrev pub judged_schedule : Known → List (List ℕ) → Option Known
+judged_schedule k names = if is_none k.open_thread then with_scheduled k names else None
+
 -- `done` stands outside a thread
 abbrev pub judged_done : Known → Option Known
 judged_done k = if is_none k.open_thread then Some (record k { is_done = true }) else None
 
--- `lock L` takes a lock. Until threads meet, a thread holds one lock at a time.
+-- `lock L` takes a lock that isn't held. A thread holds at most 8 locks.
 abbrev pub judged_lock : Known → List ℕ → OpenThread → Option Known
 judged_lock k name t = option_and_then (λ l.
-    if is_empty t.held
+    if not (list_any (holds_lock l) t.held) && nat_lt (length t.held) 8
     then with_operation k t (Take l Excl) (t.held ++ (record { l = l; mode = Excl; by_try = false }) ∷ [])
     else None) (lock_named k name)
 
@@ -217,14 +260,41 @@ judged_set k name key value t =
     if list_any (holds_lock l) t.held then with_operation k t (Set l n v) t.held else None
     ) (number_of value)) (number_of key)) (lock_named k name)
 
+-- `add L KEY AMOUNT` adds under a lock that is held
+abbrev pub judged_add : Known → List ℕ → List ℕ → List ℕ → OpenThread → Option Known
+judged_add k name key amount t =
+    option_and_then (λ l. option_and_then (λ n. option_and_then (λ a.
+    if list_any (holds_lock l) t.held then with_operation k t (Add l n a) t.held else None
+    ) (number_of amount)) (number_of key)) (lock_named k name)
+
+-- `get L KEY` reads under a lock that is held
+abbrev pub judged_get : Known → List ℕ → List ℕ → OpenThread → Option Known
+judged_get k name key t =
+    option_and_then (λ l. option_and_then (λ n.
+    if list_any (holds_lock l) t.held then with_operation k t (Get l n) t.held else None
+    ) (number_of key)) (lock_named k name)
+
+-- `prio PRIO` changes the own base priority
+abbrev pub judged_prio : Known → List ℕ → OpenThread → Option Known
+judged_prio k prio t = option_and_then (λ p. with_operation k t (Base (record { 0 = p })) t.held) (priority_of prio)
+
+-- `show` notes the own priorities
+abbrev pub judged_show : Known → OpenThread → Option Known
+judged_show k t = with_operation k t Show t.held
+
 abbrev pub judged : Known → Statement → Option Known
 judged k (Mutex name class) = judged_mutex k name class
 judged k (Begin name prio) = judged_begin k name prio
 judged k End = option_and_then (judged_end k) k.open_thread
+judged k (Schedule names) = judged_schedule k names
 judged k Done = judged_done k
 judged k (DoLock name) = option_and_then (judged_lock k name) k.open_thread
 judged k (DoUnlock name) = option_and_then (judged_unlock k name) k.open_thread
 judged k (DoSet name key value) = option_and_then (judged_set k name key value) k.open_thread
+judged k (DoAdd name key amount) = option_and_then (judged_add k name key amount) k.open_thread
+judged k (DoGet name key) = option_and_then (judged_get k name key) k.open_thread
+judged k (DoPrio prio) = option_and_then (judged_prio k prio) k.open_thread
+judged k DoShow = option_and_then (judged_show k) k.open_thread
 
 -- what is known behind a line, or nothing where the line has a fault. Behind `done` no line has a meaning.
 unfoldable pub judged_line : Known → List ℕ → Option Known
@@ -237,7 +307,7 @@ judged_lines k (line ∷ lines) = option_and_then (λ n. judged_lines n lines) (
 -- 6. Scripts
 
 abbrev pub plan_of : Known → Plan
-plan_of k = record { classes = k.classes; locks = k.locks; chans = []; threads = k.threads; schedule = [] }
+plan_of k = record { classes = k.classes; locks = k.locks; chans = []; threads = k.threads; schedule = k.schedule }
 
 abbrev pub plan_when_done : Known → Option Plan
 plan_when_done k = if k.is_done then Some (plan_of k) else None

@@ -1,7 +1,8 @@
 -- The steps of threads, one case per kind. A step asks its guard, and its effect is computed.
 use Rattle.std.specs.Prelude.{◌≡◌, ◌⊎◌, ℕ, ◌%◌, Bool, true, false, not, ◌&&◌, ◌==◌, if◌then◌else◌, List, [], ◌∷◌, Option, Some, None, ⊤}
-use Rattle.lock_model.specs.State.{Config, State, Hold, NotHeld, Holds, Cause, Mark, Walk, NoWalk, AtLock, AtThread, start_state}
+use Rattle.lock_model.specs.State.{Config, State, Cause, Mark, Walk, NoWalk, AtLock, AtThread, start_state}
 use Rattle.lock_model.specs.Words.{Word, is_turnstile, admits}
+use Rattle.lock_model.specs.Operations.{is_unheld}
 use Rattle.lock_model.specs.Queues.{lock_queue}
 use Rattle.lock_model.specs.Moves.{MayLook, MayGain, MayDrop, MayStamp, MayReady, MayUnready, after_look, after_gain, after_drop, after_stamp, after_ready, after_unready}
 use Rattle.lock_model.specs.MovesOfQueues.{MayEnter, MayOpen, MayMark, MayResume, after_enter, after_open, after_mark, after_resume}
@@ -97,10 +98,6 @@ after c s (Claims t l h) = after_claim c s t l h
 after c s (Lends t l o h) = after_lend c s t l o h
 after c s (Shifts t o l) = after_shift s t o l
 after c s (EndsWalk t) = after_end_walk s t
-
-abbrev pub is_unheld : Hold → Bool
-is_unheld NotHeld = true
-is_unheld (Holds mode) = false
 
 -- whether the option is the thread
 abbrev pub is_with : ℕ → Option ℕ → Bool

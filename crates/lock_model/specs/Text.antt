@@ -1,6 +1,6 @@
--- The text that a run prints: a line for each entry of the history, for each thread and for each key of the tables, and a last line
--- that says how the run ended. A line is its words with one space between them, and byte 10. Numbers are decimal, and the words
--- are those of the script.
+-- The text that a run prints: a line for each entry of the history, for each queue that isn't empty, for each thread and for each key of
+-- the tables, and a last line that says how the run ended. A line is its words with one space between them, and byte 10. Numbers are
+-- decimal, and the words are those of the script.
 use Rattle.std.specs.Prelude.{ℕ, ◌/◌, ◌%◌, ◌==◌, if◌then◌else◌, List, [], ◌∷◌, ◌++◌, map, flat_map, codes, Option, Some, None, decimal}
 use Rattle.std.specs.List.{zip}
 pub use Rattle.lock_model.specs.Plans.{thread_name, lock_name, lock_kind, chan_name, is_cond, class_name}
@@ -9,6 +9,9 @@ use Rattle.lock_model.specs.declared.plan.Kind.TheVariants.{Mtx, Rw, Sx}
 use Rattle.lock_model.specs.declared.plan.Mode.{Mode}
 use Rattle.lock_model.specs.declared.plan.Mode.TheVariants.{Excl, Shared}
 use Rattle.lock_model.specs.declared.plan.Plan.{Plan}
+use Rattle.lock_model.specs.declared.plan.QueueName.{QueueName}
+use Rattle.lock_model.specs.declared.plan.QueueName.TheVariants as queue
+use Rattle.lock_model.specs.State.{Waiter}
 use Rattle.lock_model.specs.declared.event.Entry.{Entry}
 use Rattle.lock_model.specs.declared.event.Event.{Event}
 use Rattle.lock_model.specs.declared.event.Event.TheVariants.{Locked, Tried, Busy, Unlocked, Set, Added, Got, Base, Shown, Sleeps, Woke, HaltedChan, HaltedLock, WokeOne, WokeAll, Reversed}
@@ -75,6 +78,37 @@ line_of first others = first ++ spaced others ++ 10 ∷ []
 abbrev pub entry_line : Plan → Entry → List ℕ
 entry_line plan e = line_of (decimal e.ticket) (thread_name plan e.thread.0 ∷ event_words plan e.event)
 
+-- a queue that isn't empty in the end: the slot of its chain, the thread whose object is its head, those whose objects are on its free
+-- list, the first of it first, and who waits on either side, from the front
+pub record QueueLine : Type 0 where
+  pub queue : QueueName
+  pub slot : ℕ
+  pub head : ℕ
+  pub free : List ℕ
+  pub exclusive : List Waiter
+  pub shared : List Waiter
+
+-- the lock, condition variable or channel whose queue it is
+abbrev pub queue_word : Plan → QueueName → List ℕ
+queue_word plan (queue.Lock l) = lock_name plan l.0
+queue_word plan (queue.Chan c) = chan_name plan c.0
+
+-- a waiter and its kept priority, joined by `@`
+abbrev pub waiter_word : Plan → Waiter → List ℕ
+waiter_word plan w = thread_name plan w.thread ++ 64 ∷ decimal w.kept
+
+-- items joined by commas, or a dash where there is none
+abbrev pub joined : List (List ℕ) → List ℕ
+joined [] = codes "-"
+joined (item ∷ items) = item ++ flat_map (λ other. 44 ∷ other) items
+
+abbrev pub queue_line : Plan → QueueLine → List ℕ
+queue_line plan q = line_of (codes "queue") (
+    queue_word plan q.queue ∷ codes "slot" ∷ decimal q.slot ∷ codes "head" ∷ thread_name plan q.head
+    ∷ codes "free" ∷ joined (map (thread_name plan) q.free)
+    ∷ codes "excl" ∷ joined (map (waiter_word plan) q.exclusive)
+    ∷ codes "shared" ∷ joined (map (waiter_word plan) q.shared) ∷ [])
+
 -- a thread's base and effective priority in the end
 abbrev pub thread_line : List ℕ × (ℕ × ℕ) → List ℕ
 thread_line t = line_of (codes "thread") (t.0 ∷ codes "base" ∷ decimal t.1.0 ∷ codes "eff" ∷ decimal t.1.1 ∷ [])
@@ -98,10 +132,11 @@ ending_word IsStuck = codes "stuck"
 ending_word IsReversed = codes "reversed"
 ending_word IsTooLong = codes "toolong"
 
--- what a run leaves to be printed: the entries in order of their tickets, each thread's base and effective priority, and the keys
--- that are present with their values, by lock and then by key
+-- what a run leaves to be printed: the entries in order of their tickets, the queues that aren't empty, locks by number and then channels
+-- by number, each thread's base and effective priority, and the keys that are present with their values, by lock and then by key
 pub record Outcome : Type 0 where
   pub history : List Entry
+  pub queues : List QueueLine
   pub finals : List (ℕ × ℕ)
   pub tables : List ((ℕ × ℕ) × ℕ)
   pub ending : Ending
@@ -109,9 +144,10 @@ pub record Outcome : Type 0 where
 unfoldable pub text_of : Plan → Outcome → List ℕ
 text_of plan o =
     flat_map (entry_line plan) o.history
+    ++ (flat_map (queue_line plan) o.queues
     ++ (flat_map thread_line (zip (map (λ d. d.name) plan.threads) o.finals)
     ++ (flat_map (table_line plan) o.tables
-    ++ line_of (ending_word o.ending) []))
+    ++ line_of (ending_word o.ending) [])))
 
 -- the text for a source that is no script
 abbrev pub fault_text : ℕ → ℕ → List ℕ

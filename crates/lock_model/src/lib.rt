@@ -6,6 +6,7 @@
 //! - `sequence`: a list, as it stands in the types below.
 //! - `plan`: what a script says: locks, channels, threads with their operations, and a schedule.
 //! - `event`: what happened in a run, and why something was refused.
+//! - `turn`: what a turn of the scheduled run answers.
 //! - `limits`: the most of each.
 #![tactic(auto)]
 
@@ -15,9 +16,11 @@ mod name;
 mod numbers;
 mod plan;
 mod sequence;
+mod turn;
 
 pub use event::{Busy, Entry, Event, Halted, Held, Refused, Reversal};
 pub use name::Name;
 pub use numbers::{ChanNo, ClassNo, LockNo, Prio, ThreadNo};
 pub use plan::{ChanDecl, Declared, Kind, LockDecl, Mode, Op, Plan, QueueName, Side, ThreadDecl};
 pub use sequence::Sequence;
+pub use turn::{StepKind, Turn};

@@ -1,5 +1,2 @@
-pub mod Stands
-pub mod Shown
-pub mod Accepted
 pub mod Outcome
 pub mod Statuses

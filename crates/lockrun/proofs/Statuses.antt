@@ -8,11 +8,11 @@ use Rattle.lock_model.specs.declared.plan.Plan.{Plan}
 use Rattle.lockrun.specs.declared.status.Status.{Status}
 use Rattle.lockrun.specs.declared.status.Status.TheVariants.{TooBig}
 use Rattle.lockrun.specs.Output.{IsLawfulRun, TookTooMany, most_bytes}
-use Rattle.lockrun.proofs.Accepted.{accepted_straight}
+use Rattle.lock_laws.proofs.Accepted.{accepted_proper}
 use Rattle.lockrun.proofs.Outcome.{lawful_run}
 
 pub accepted_lawful : (bytes : List ℕ) (plan : Plan) → IsAccepted bytes plan → IsLawfulRun plan
-accepted_lawful bytes plan accepted = lawful_run plan (accepted_straight bytes plan accepted)
+accepted_lawful bytes plan accepted = lawful_run plan (accepted_proper bytes plan accepted)
 
 taken_lengths : (bytes front : List ℕ) (new : Option (List ℕ)) → Some bytes ≡ prepend_known front new → new ≡ Some (drop (most_bytes + 1) bytes) → length bytes ≡ length front + (length bytes - (most_bytes + 1))
 taken_lengths bytes front new e n =

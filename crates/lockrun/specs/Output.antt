@@ -3,7 +3,8 @@ use Rattle.std.specs.Prelude.{◌≡◌, ℕ, Bool, false, true, List, [], ◌�
 use Rattle.std.specs.FinMap.{entries}
 use Rattle.lock_model.specs.Plans.{config_of}
 use Rattle.lock_model.specs.Script.{plan_of_lines, lines_of, is_same}
-use Rattle.lock_model.specs.Run.{after_turns, scheduled_run}
+use Rattle.lock_model.specs.Run.{course_after, scheduled_run}
+use Rattle.lock_model.specs.Best.{best_behind, HasCycle, NobodyWalks}
 use Rattle.lock_model.specs.Facts.{Lawful}
 use Rattle.lock_model.specs.History.{tables_of}
 use Rattle.lock_model.specs.Text.{Ending, IsDone, IsStuck, IsReversed, IsTooLong, text_of, fault_text}
@@ -14,6 +15,10 @@ use Rattle.lockrun.specs.declared.status.Status.TheVariants.{Done, BadScript, Re
 -- chains of each sort, where the command line says nothing
 abbrev pub default_chains : ℕ
 default_chains = 16
+
+-- turns of a run, where the command line says nothing
+abbrev pub default_turns : ℕ
+default_turns = 1000000
 
 -- the words of the one form of the command line so far: step
 abbrev pub is_form : List (List ℕ) → Bool
@@ -29,7 +34,7 @@ status_of IsTooLong = TooLong
 
 abbrev pub output_of_plan : Option Plan → Status × List ℕ
 output_of_plan None = (BadScript, fault_text 0 0)
-output_of_plan (Some plan) = (status_of (scheduled_run plan default_chains).ending, text_of plan (scheduled_run plan default_chains))
+output_of_plan (Some plan) = (status_of (scheduled_run plan default_chains default_turns).ending, text_of plan (scheduled_run plan default_chains default_turns))
 
 -- under step: the text of the scheduled run of a script, or the fault of a source that is none
 unfoldable pub output_of : List ℕ → Status × List ℕ
@@ -73,8 +78,15 @@ TookTooMany bytes new = (most_bytes < length bytes) × (new ≡ Some (drop (most
 abbrev pub Wrote : Option (List ℕ) → Option (List ℕ) → List ℕ → Type 0
 Wrote old new text = IfSome old (λ held. new ≡ Some (held ++ text))
 
--- after each number of turns the state is lawful, and the printed tables are what the printed history leaves
+-- The state after so many turns is lawful; and where no walk is under way and nobody waits in a cycle, each thread's effective priority is
+-- the best behind it.
+pub record IsLawfulState (plan : Plan) (n : ℕ) : Type 0 where
+  pub lawful : Lawful (config_of plan default_chains) (course_after plan default_chains n).run.state
+  pub best : (t : ℕ) → t < length plan.threads → NobodyWalks (config_of plan default_chains) (course_after plan default_chains n).run.state
+      → (HasCycle (course_after plan default_chains n).run.state → ⊥)
+      → (course_after plan default_chains n).run.state.effective t ≡ best_behind (config_of plan default_chains) (course_after plan default_chains n).run.state t
+
+-- so is the state after each number of turns, and the printed tables are what the printed history leaves
 pub record IsLawfulRun (plan : Plan) : Type 0 where
-  pub states : (n : ℕ) → Lawful (config_of plan default_chains) (after_turns plan default_chains n).state
-  pub tables : (scheduled_run plan default_chains).tables ≡ entries (tables_of (reverse (scheduled_run plan default_chains).history))
-  pub done : (scheduled_run plan default_chains).ending ≡ IsDone
+  pub states : (n : ℕ) → IsLawfulState plan n
+  pub tables : (scheduled_run plan default_chains default_turns).tables ≡ entries (tables_of (reverse (scheduled_run plan default_chains default_turns).history))

@@ -1,17 +1,17 @@
 //! What the program answers to a source that was read to its end: the status, and the whole text, made before its first byte is
 //! written.
-ghost use Rattle.std.specs.Prelude.{◌≡◌, IfOk, map, true};
-ghost use Rattle.lock_model.specs.Text.{text_of};
-ghost use Rattle.lock_model.specs.Run.{scheduled_run};
-ghost use Rattle.lockrun.specs.Output.{output_of, has_text, default_chains};
-ghost use Rattle.lockrun.specs.Straight.{IsStraight};
+ghost use Rattle.std.specs.Prelude.{◌≡◌, IfOk, Some, true};
+ghost use Rattle.lock_model.specs.Operations.{IsProper};
+ghost use Rattle.lock_history.specs.Endings.{ending_of};
+ghost use Rattle.lockrun.specs.Output.{output_of, output_of_plan, status_of, has_text};
 
-use crate::run::run;
 use crate::status::Status;
 use lock_history::{Last, print, print_fault};
-use lock_model::{Plan, Prio, ThreadDecl};
+use lock_model::Plan;
+use lock_model::limits::{DEFAULT_CHAINS, TURNS};
 use script_read::{ReadError, read_script};
 use std::alloc::{AllocError, Global};
+use step_world::run_schedule;
 
 /// The status and the text that belong to the bytes under `step`.
 pub fn answer(alloc: Global, bytes: &[u8]) -> Result<(Status, Vec<u8>), AllocError>
@@ -19,7 +19,7 @@ pub fn answer(alloc: Global, bytes: &[u8]) -> Result<(Status, Vec<u8>), AllocErr
     ensures has_text { IfOk result (λ a. has_text a.0 ≡ true) }
 {
     match read_script(alloc, bytes) {
-        Ok(plan) => Ok((Status::Done, run_text(alloc, &plan)?)),
+        Ok(plan) => of_plan(alloc, &plan),
         Err(ReadError::Script(fault)) => {
             let text = print_fault(alloc, fault.line, fault.code)?;
             Ok((Status::BadScript, text))
@@ -28,29 +28,26 @@ pub fn answer(alloc: Global, bytes: &[u8]) -> Result<(Status, Vec<u8>), AllocErr
     }
 }
 
-// The text of the scheduled run of the plan.
-fn run_text(alloc: Global, plan: &Plan) -> Result<Vec<u8>, AllocError>
-    requires { IsStraight plan.now }
-    ensures { IfOk result (λ text. text.items ≡ text_of plan.now (scheduled_run plan.now default_chains)) }
+// Those of the scheduled run of a plan.
+fn of_plan(alloc: Global, plan: &Plan) -> Result<(Status, Vec<u8>), AllocError>
+    requires { IsProper plan.now }
+    ensures pair { IfOk result (λ a. (a.0, a.1.items) ≡ output_of_plan (Some plan.now)) }
+    ensures has_text { IfOk result (λ a. has_text a.0 ≡ true) }
 {
-    let world = run(alloc, plan)?;
-    let finals = finals(alloc, plan.threads.as_slice())?;
-    print(
-        alloc,
-        plan,
-        &world.history,
-        &finals,
-        &world.tables,
-        Last::Done,
-    )
+    let outcome = run_schedule(alloc, plan, DEFAULT_CHAINS, TURNS)?;
+    let text = print(alloc, plan, &outcome)?;
+    Ok((status_of(outcome.last), text))
 }
 
-// Each thread's base and effective priority in the end: nobody lends, so both are as declared.
-fn finals(alloc: Global, threads: &[ThreadDecl]) -> Result<Vec<(Prio, Prio)>, AllocError>
-    ensures { IfOk result (λ pairs. pairs.items ≡ map (λ d. (d.base, d.base)) threads.now) }
+// The status of a run by how it ended.
+fn status_of(last: Last) -> Status
+    ensures status { result ≡ status_of (ending_of last) }
+    ensures has_text { has_text result ≡ true }
 {
-    threads
-        .iter()
-        .map(|thread| (thread.base, thread.base))
-        .collect(alloc)
+    match last {
+        Last::Done => Status::Done,
+        Last::Stuck => Status::Stuck,
+        Last::Reversed => Status::Reversed,
+        Last::TooLong => Status::TooLong,
+    }
 }

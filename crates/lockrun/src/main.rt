@@ -5,16 +5,13 @@
 //! - `top`: the call that the program makes, with everything that is promised of it.
 //! - `status`: how it ends.
 //! - `answer`: the status and the text that belong to the bytes of a source.
-//! - `run`, `world`: the scheduled run of a plan, and what one operation does.
 #![tactic(auto)]
 
 mod answer;
-mod run;
 pub mod status;
 #[cfg(test)]
 mod tests;
 pub mod top;
-pub mod world;
 
 use crate::status::Status;
 use crate::top::lockrun_plain;

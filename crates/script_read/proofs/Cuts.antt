@@ -1,12 +1,12 @@
 -- How the front of a source is its first line, and the front of a line its first word.
-use Rattle.std.proofs.Common.{◌≡◌, if◌then◌else◌, ℕ, ◌-◌, drop, get_or, IfNone, add-one, one-add, drop-cons, length-drop, ◌≤◌, nat_lt, cond, ◌+◌, Bool, true, false, not, ◌&&◌, ◌==◌, List, [], ◌∷◌, ◌++◌, length, take, Option, Some, None, position, refl, sym, ap, ◌∙◌, subst, arith, true≢false}
+use Rattle.std.proofs.Common.{◌≡◌, if◌then◌else◌, ℕ, ◌-◌, drop, get_or, IfNone, add-one, one-add, drop-cons, length-drop, ◌≤◌, nat_lt, cond, ◌+◌, Bool, true, false, not, ◌&&◌, ◌==◌, List, [], ◌∷◌, ◌++◌, length, take, codes, Option, Some, None, position, refl, sym, ap, ◌∙◌, subst, arith, true≢false}
 use Rattle.std.proofs.lemmas.Bool.{false≢true, eqb-true}
 use Rattle.std.specs.List.{list_all, list_any, prefix_len}
 use Rattle.std.proofs.lemmas.Bool.Decides.{nat_tests}
 use Rattle.std.proofs.lemmas.Option.{cond_some}
 use Rattle.std.proofs.lemmas.List.{take_all, take-append-drop}
 use Rattle.std.proofs.lemmas.List.Quantifiers.{position-Some}
-use Rattle.lock_model.specs.Script.{lines_of, words_of, onto_first, is_empty, statement_of, statement_of_words}
+use Rattle.lock_model.specs.Script.{lines_of, words_of, onto_first, is_same, is_empty, Schedule, statement_of, statement_of_words, statement_of_more}
 use Rattle.script_read.specs.Reading.{Lacks}
 
 -- what a byte string lacks, its first byte isn't, and the rest lacks it
@@ -96,15 +96,15 @@ words-last (b ∷ word) h =
     let p = lacks-first 32 b word h in
     words-step b word word [] p.0 (words-last word p.1)
 
-first_of : (b : ℕ) (parts : List (List ℕ)) (w x y z : List ℕ) → statement_of_words (w ∷ x ∷ y ∷ z ∷ onto_first b parts) ≡ None
+first_of : (b : ℕ) (parts : List (List ℕ)) (w x y z : List ℕ) → statement_of_more w x (y ∷ z ∷ onto_first b parts) ≡ None
 first_of b [] w x y z = refl
 first_of b (part ∷ parts) w x y z = refl
 
-five_words : (w x y z rest : List ℕ) → statement_of_words (w ∷ x ∷ y ∷ z ∷ words_of rest) ≡ None
+five_words : (w x y z rest : List ℕ) → statement_of_more w x (y ∷ z ∷ words_of rest) ≡ None
 five_words w x y z [] = refl
 five_words w x y z (b ∷ bs) = by (b == 32)
   where
-    by : (t : Bool) → statement_of_words (w ∷ x ∷ y ∷ z ∷ (if t then [] ∷ words_of bs else onto_first b (words_of bs))) ≡ None
+    by : (t : Bool) → statement_of_more w x (y ∷ z ∷ (if t then [] ∷ words_of bs else onto_first b (words_of bs))) ≡ None
     by true = refl
     by false = first_of b (words_of bs) w x y z
 
@@ -115,7 +115,29 @@ says_nothing words h = by (list_any is_empty words)
     by true = refl
     by false = h
 
--- a line of more than four words says nothing
-pub too_many_words : (line w x y z rest : List ℕ) → words_of line ≡ w ∷ x ∷ y ∷ z ∷ words_of rest → statement_of line ≡ None
-too_many_words line w x y z rest e =
-    ap (λ (words : List (List ℕ)). if list_any is_empty words then None else statement_of_words words) e ∙ says_nothing (w ∷ x ∷ y ∷ z ∷ words_of rest) (five_words w x y z rest)
+-- a line of more than four words says nothing, save where it is a schedule
+pub too_many_words : (line w x y z rest : List ℕ) → words_of line ≡ w ∷ x ∷ y ∷ z ∷ words_of rest → is_same w (codes "schedule") ≡ false → statement_of line ≡ None
+too_many_words line w x y z rest e other =
+    ap (λ (words : List (List ℕ)). if list_any is_empty words then None else statement_of_words words) e
+    ∙ says_nothing (w ∷ x ∷ y ∷ z ∷ words_of rest) (rw other (five_words w x y z rest))
+
+some_words : (parts : List (List ℕ)) (w : List ℕ) → is_empty parts ≡ false → is_same w (codes "schedule") ≡ true → statement_of_words (w ∷ parts) ≡ Some (Schedule parts)
+some_words [] w n h = absurd (true≢false n)
+some_words (part ∷ parts) w n h = rw h refl
+
+-- a text has a word
+has_word : (bs : List ℕ) → is_empty (words_of bs) ≡ false
+has_word [] = refl
+has_word (b ∷ bs) = by (b == 32) (words_of bs)
+  where
+    by : (t : Bool) (parts : List (List ℕ)) → is_empty (if t then [] ∷ parts else onto_first b parts) ≡ false
+    by true parts = refl
+    by false [] = refl
+    by false (part ∷ parts) = refl
+
+-- a schedule names all the words behind its first one
+pub schedule_of_words : (line w rest : List ℕ) → words_of line ≡ w ∷ words_of rest → is_empty w ≡ false → is_same w (codes "schedule") ≡ true
+    → statement_of line ≡ (if list_any is_empty (words_of rest) then None else Some (Schedule (words_of rest)))
+schedule_of_words line w rest e filled h =
+    ap (λ (words : List (List ℕ)). if list_any is_empty words then None else statement_of_words words) e
+    ∙ (rw (filled, some_words (words_of rest) w (has_word rest) h) refl)

@@ -20,6 +20,7 @@ known r = record {
   classes = r.classes.keys;
   locks = r.locks.items;
   threads = r.threads.items;
+  schedule = r.schedule.items;
   open_thread = option_map thread_of r.open_thread;
   operations = r.operations;
   is_done = r.is_done;

@@ -1,6 +1,6 @@
 //! What the lines of a script have made known so far, and how each line adds to it.
-ghost use Rattle.std.specs.Prelude.{◌≡◌, ◌&&◌, is_none, position, option_and_then, option_map, if◌then◌else◌, Some, None};
-ghost use Rattle.lock_model.specs.Script.{nothing_known, declared_as, lock_named, is_new, judged, judged_line, judged_lines, lines_of, judged_mutex, judged_begin, judged_end, judged_done, judged_lock, judged_unlock, judged_set, with_operation, holds_lock, is_empty, is_fit, is_printable, plan_when_done};
+ghost use Rattle.std.specs.Prelude.{◌≡◌, ◌&&◌, is_none, position, option_and_then, option_map, if◌then◌else◌, Some, None, [], ◌∷◌};
+ghost use Rattle.lock_model.specs.Script.{nothing_known, declared_as, lock_named, is_new, judged, judged_line, judged_lines, lines_of, judged_mutex, judged_begin, judged_end, judged_schedule, with_scheduled, judged_done, judged_lock, judged_unlock, judged_set, judged_add, judged_get, judged_prio, judged_show, with_operation, thread_named, words_of, holds_lock, is_empty, is_fit, is_printable, plan_when_done};
 ghost use Rattle.std.specs.List.{list_all, list_any};
 ghost use Rattle.script_read.specs.Statements.{said};
 ghost use Rattle.script_read.specs.Readers.{known, with_name, Goes};
@@ -9,6 +9,7 @@ use crate::fault::{ReadError, UNPLACED};
 use crate::lines::split_line;
 use crate::numbers::{number_of, priority_of};
 use crate::statement::{Statement, statement_of};
+use crate::words::cut_word;
 use indexmap::{IndexMap, IndexSet};
 use lock_model::{
     ClassNo, Declared, Held, Kind, LockDecl, LockNo, Mode, Name, Op, Plan, Prio, Sequence,
@@ -23,6 +24,7 @@ pub struct Reader {
     classes: IndexSet<Name>,
     locks: Vec<LockDecl>,
     threads: Vec<ThreadDecl>,
+    schedule: Vec<ThreadNo>,
     open_thread: Option<OpenThread>,
     // Operations of all threads.
     operations: usize,
@@ -48,6 +50,7 @@ impl Reader {
             classes: IndexSet::new(alloc),
             locks: Vec::new(alloc),
             threads: Vec::new(alloc),
+            schedule: Vec::new(alloc),
             open_thread: None,
             operations: 0,
             is_done: false,
@@ -92,7 +95,7 @@ impl Reader {
             locks: Sequence::from_vec(self.locks),
             chans: Sequence::from_vec(Vec::new(alloc)),
             threads: Sequence::from_vec(self.threads),
-            schedule: Sequence::from_vec(Vec::new(alloc)),
+            schedule: Sequence::from_vec(self.schedule),
         })
     }
 
@@ -104,10 +107,15 @@ impl Reader {
             Statement::Mutex { name, class } => self.mutex(name, class),
             Statement::Thread { name, prio } => self.thread(alloc, name, prio),
             Statement::End => self.end(),
+            Statement::Schedule { names } => self.schedule(names),
             Statement::Done => self.done(),
             Statement::Lock { lock } => self.lock(lock),
             Statement::Unlock { lock } => self.unlock(lock),
             Statement::Set { lock, key, value } => self.set(lock, key, value),
+            Statement::Add { lock, key, amount } => self.add(lock, key, amount),
+            Statement::Get { lock, key } => self.get(lock, key),
+            Statement::Prio { prio } => self.prio(prio),
+            Statement::Show => self.show(),
         }
     }
 
@@ -138,7 +146,7 @@ impl Reader {
     fn thread(&mut self, alloc: Global, name: &[u8], prio: &[u8]) -> Result<(), ReadError>
         ensures { Goes (λ _. known self.new) result (judged_begin (known self.old) name.now prio.now) }
     {
-        if !self.is_before_threads() {
+        if self.open_thread.is_some() || self.threads.len() >= limits::THREADS {
             return Err(ReadError::Script(UNPLACED));
         }
         let name = self.new_name(name).ok_or(UNPLACED)?;
@@ -171,6 +179,34 @@ impl Reader {
         }
     }
 
+    // `schedule NAME ..` lets each of those threads have a turn, behind the turns of earlier lines.
+    fn schedule(&mut self, names: &[u8]) -> Result<(), ReadError>
+        ensures { Goes (λ _. known self.new) result (judged_schedule (known self.old) (words_of names.now)) }
+    {
+        if self.open_thread.is_some() {
+            return Err(ReadError::Script(UNPLACED));
+        }
+        let mut rest = Some(names);
+        while let Some(text) = rest {
+            let (name, behind) = cut_word(text);
+            self.schedule_one(name)?;
+            rest = behind;
+        }
+        Ok(())
+    }
+
+    // Lets a thread have a turn, behind all turns so far.
+    fn schedule_one(&mut self, name: &[u8]) -> Result<(), ReadError>
+        ensures { Goes (λ _. known self.new) result (with_scheduled (known self.old) (name.now ∷ [])) }
+    {
+        let thread = self.thread_named(name).ok_or(UNPLACED)?;
+        if self.schedule.len() >= limits::SCHEDULE {
+            return Err(ReadError::Script(UNPLACED));
+        }
+        self.schedule.push(thread)?;
+        Ok(())
+    }
+
     // `done` ends the script.
     fn done(&mut self) -> Result<(), ReadError>
         ensures { Goes (λ _. known self.new) result (judged_done (known self.old)) }
@@ -188,13 +224,13 @@ impl Reader {
     {
         let l = self.lock_named(lock).ok_or(UNPLACED)?;
         let thread = self.open_thread.as_mut().ok_or(UNPLACED)?;
-        if !thread.held.is_empty() {
+        if holds(l, &thread.held) || thread.held.len() >= limits::HELD {
             return Err(ReadError::Script(UNPLACED));
         }
         let mode = Mode::Excl;
         let by_try = false;
         thread.held.push(Held { l, mode, by_try })?;
-        self.add(Op::Take { l, mode })
+        self.add_operation(Op::Take { l, mode })
     }
 
     // `unlock L` releases a lock.
@@ -205,25 +241,55 @@ impl Reader {
         let thread = self.open_thread.as_mut().ok_or(UNPLACED)?;
         let place = place_held(l, &thread.held).ok_or(UNPLACED)?;
         thread.held.remove(place);
-        self.add(Op::Release { l })
+        self.add_operation(Op::Release { l })
     }
 
     // `set L KEY VALUE` writes a key of a lock's table.
     fn set(&mut self, lock: &[u8], key: &[u8], value: &[u8]) -> Result<(), ReadError>
         ensures { Goes (λ _. known self.new) result (option_and_then (judged_set (known self.old) lock.now key.now value.now) (known self.old).open_thread) }
     {
-        let l = self.lock_named(lock).ok_or(UNPLACED)?;
+        let l = self.held_lock(lock).ok_or(UNPLACED)?;
         let key = number_of(key).ok_or(UNPLACED)?;
         let value = number_of(value).ok_or(UNPLACED)?;
-        let thread = self.open_thread.as_ref().ok_or(UNPLACED)?;
-        if !holds(l, &thread.held) {
-            return Err(ReadError::Script(UNPLACED));
-        }
-        self.add(Op::Set { l, key, value })
+        self.add_operation(Op::Set { l, key, value })
+    }
+
+    // `add L KEY AMOUNT` adds to a key of a lock's table.
+    fn add(&mut self, lock: &[u8], key: &[u8], amount: &[u8]) -> Result<(), ReadError>
+        ensures { Goes (λ _. known self.new) result (option_and_then (judged_add (known self.old) lock.now key.now amount.now) (known self.old).open_thread) }
+    {
+        let l = self.held_lock(lock).ok_or(UNPLACED)?;
+        let key = number_of(key).ok_or(UNPLACED)?;
+        let amount = number_of(amount).ok_or(UNPLACED)?;
+        self.add_operation(Op::Add { l, key, amount })
+    }
+
+    // `get L KEY` reads a key of a lock's table.
+    fn get(&mut self, lock: &[u8], key: &[u8]) -> Result<(), ReadError>
+        ensures { Goes (λ _. known self.new) result (option_and_then (judged_get (known self.old) lock.now key.now) (known self.old).open_thread) }
+    {
+        let l = self.held_lock(lock).ok_or(UNPLACED)?;
+        let key = number_of(key).ok_or(UNPLACED)?;
+        self.add_operation(Op::Get { l, key })
+    }
+
+    // `prio PRIO` changes the thread's base priority.
+    fn prio(&mut self, prio: &[u8]) -> Result<(), ReadError>
+        ensures { Goes (λ _. known self.new) result (option_and_then (judged_prio (known self.old) prio.now) (known self.old).open_thread) }
+    {
+        let prio = priority_of(prio).ok_or(UNPLACED)?;
+        self.add_operation(Op::Base { prio })
+    }
+
+    // `show` notes the thread's priorities.
+    fn show(&mut self) -> Result<(), ReadError>
+        ensures { Goes (λ _. known self.new) result (option_and_then (judged_show (known self.old)) (known self.old).open_thread) }
+    {
+        self.add_operation(Op::Show)
     }
 
     // Adds an operation to the open thread's.
-    fn add(&mut self, op: Op) -> Result<(), ReadError>
+    fn add_operation(&mut self, op: Op) -> Result<(), ReadError>
         ensures { Goes (λ _. known self.new) result (option_and_then (λ t. with_operation (known self.old) t op t.held) (known self.old).open_thread) }
     {
         if self.operations >= limits::OPERATIONS {
@@ -258,12 +324,30 @@ impl Reader {
         Ok(())
     }
 
+    // The lock that a word names, where the open thread holds it.
+    fn held_lock(&self, word: &[u8]) -> Option<LockNo>
+        ensures { result ≡ option_and_then (λ t. option_and_then (λ l. if list_any (holds_lock l) t.held then Some l else None) (lock_named (known self.now) word.now)) (known self.now).open_thread }
+    {
+        let thread = self.open_thread.as_ref()?;
+        self.lock_named(word).filter(|l| holds(*l, &thread.held))
+    }
+
     // The lock that a word names.
     fn lock_named(&self, word: &[u8]) -> Option<LockNo>
         ensures { result ≡ lock_named (known self.now) word.now }
     {
         match self.names.get(&Name::of(word)?)? {
             Declared::Lock(l) => Some(*l),
+            _ => None,
+        }
+    }
+
+    // The thread that a word names.
+    fn thread_named(&self, word: &[u8]) -> Option<ThreadNo>
+        ensures { result ≡ thread_named (known self.now) word.now }
+    {
+        match self.names.get(&Name::of(word)?)? {
+            Declared::Thread(t) => Some(*t),
             _ => None,
         }
     }

@@ -19,13 +19,29 @@ pub fn split_word(text: &[u8]) -> Option<(&[u8], Option<&[u8]>)>
     Some((word, rest))
 }
 
-fn cut_word(text: &[u8]) -> (&[u8], Option<&[u8]>)
+/// The first word, which may be empty, and what stands behind the space after it, if there is one.
+pub fn cut_word(text: &[u8]) -> (&[u8], Option<&[u8]>)
     ensures { words_of text.now ≡ result.0.now ∷ words_behind (option_copied result.1) }
 {
     match split_at_byte(text, b' ') {
         Some((word, rest)) => (word, Some(rest)),
         None => (text, None),
     }
+}
+
+/// Whether a word of the text is empty.
+pub fn has_empty_word(text: &[u8]) -> bool
+    ensures { result ≡ list_any is_empty (words_of text.now) }
+{
+    let mut rest = Some(text);
+    while let Some(text) = rest {
+        let (word, behind) = cut_word(text);
+        if word.is_empty() {
+            return true;
+        }
+        rest = behind;
+    }
+    false
 }
 
 /// Whether a word is that text.

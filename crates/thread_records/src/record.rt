@@ -115,6 +115,13 @@ impl ThreadRec {
         loan
     }
 
+    /// The thread that the record is of.
+    pub fn thread(&self) -> ThreadNo
+        ensures { result.0 ≡ self.now.thread }
+    {
+        self.thread
+    }
+
     /// The base priority.
     pub fn base(&self) -> Prio
         ensures { result.0 ≡ self.now.base }

@@ -1,6 +1,6 @@
 //! The waiters that were taken off a turnstile. The thread that wakes keeps this list, where FreeBSD
 //! has a pending list in the turnstile.
-ghost use Rattle.std.specs.Prelude.{◌≡◌, [], ◌∷◌, IfNone, IfSome};
+ghost use Rattle.std.specs.Prelude.{◌≡◌, ◌↔◌, [], ◌∷◌, IsTrue, IfNone, IfSome};
 ghost use Rattle.turnstile_core.specs.Seen.{IsLeft};
 ghost use Rattle.turnstile_core.specs.Lists.{with_last, LastHasNone};
 
@@ -30,6 +30,22 @@ impl Taken {
         ensures { result ≡ queue }
     {
         Taken { queue }
+    }
+
+    /// No waiters.
+    pub fn empty() -> Taken
+        ensures { result ≡ [] }
+    {
+        Taken {
+            queue: Queue::empty(),
+        }
+    }
+
+    /// Whether no waiter is left.
+    pub fn is_empty(&self) -> bool
+        ensures { IsTrue result ↔ self.now ≡ [] }
+    {
+        self.queue.is_empty()
     }
 
     /// Makes the head idle and gives it to the last waiter, which has none.

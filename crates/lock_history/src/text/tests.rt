@@ -1,6 +1,10 @@
 // Printed texts, written out by hand.
 use super::*;
-use lock_model::{ChanDecl, LockDecl, Name, Sequence};
+use crate::history::History;
+use crate::outcome::QueueLine;
+use lock_model::{
+    ChanDecl, ChanNo, ClassNo, Event, Kind, LockDecl, Mode, Name, QueueName, Sequence, ThreadNo,
+};
 use std::process::Abort;
 use std::test::Fail;
 
@@ -66,6 +70,20 @@ fn entry(ticket: u32, thread: u8, event: Event) -> Entry {
     }
 }
 
+// A run that leaves entries and nothing else.
+fn left(alloc: Global, entries: &[Entry]) -> Result<Outcome, Fail> {
+    if entries.len() > 9 {
+        Err("too many entries")?;
+    }
+    Ok(Outcome {
+        history: History::from_vec(entries.to_vec(alloc)?),
+        queues: Sequence::from_vec(Vec::new(alloc)),
+        finals: Sequence::from_vec(Vec::new(alloc)),
+        tables: Tables::none(alloc),
+        last: Last::Done,
+    })
+}
+
 fn locked(l: u8, mode: Mode) -> Event {
     Event::Locked { l: LockNo(l), mode }
 }
@@ -82,14 +100,7 @@ fn check_words(rt: &(impl Alloc<A = Global> + Abort), cases: &[(Event, &str)]) -
     let alloc = rt.alloc();
     let plan = plan(alloc)?;
     for (event, words) in cases {
-        let text = print(
-            alloc,
-            &plan,
-            &[entry(0, 0, *event)],
-            &[],
-            &BTreeMap::new(alloc),
-            Last::Done,
-        )?;
+        let text = print(alloc, &plan, &left(alloc, &[entry(0, 0, *event)])?)?;
         let want = format!(in alloc; "0 t {words}\nok\n")?;
         assert_eq!(rt; text.as_slice(), want.as_bytes(), "{words}");
     }
@@ -220,16 +231,10 @@ fn text_of_a_small_run(rt: HostRuntime) -> Result<(), Fail> {
         ),
         entry(2, 0, unlocked(0, Mode::Excl)),
     ];
-    let mut tables = BTreeMap::new(alloc);
-    tables.insert((0, 1), 5)?;
-    let text = print(
-        alloc,
-        &plan,
-        &history,
-        &[(Prio(100), Prio(100))],
-        &tables,
-        Last::Done,
-    )?;
+    let mut out = left(alloc, &history)?;
+    out.tables.set(m, 1, 5)?;
+    out.finals = Sequence::from_vec(vec![in alloc; (Prio(100), Prio(100))]?);
+    let text = print(alloc, &plan, &out)?;
     let want =
         "0 t lock m\n1 t set m 1 5\n2 t unlock m\nthread t base 100 eff 100\ntable m 1 5\nok\n";
     assert_eq!(rt; text.as_slice(), want.as_bytes());
@@ -241,17 +246,17 @@ fn text_of_a_small_run(rt: HostRuntime) -> Result<(), Fail> {
 fn order_of_lines(rt: HostRuntime) -> Result<(), Fail> {
     let alloc = rt.alloc();
     let plan = plan(alloc)?;
-    let mut tables = BTreeMap::new(alloc);
+    let mut out = left(alloc, &[entry(41, 1, Event::Base { prio: Prio(50) })])?;
     for (l, key, value) in [(2, 0, 8), (0, 10, 7), (0, 9, 255)] {
-        tables.insert((l, key), value)?;
+        out.tables.set(LockNo(l), key, value)?;
     }
-    let finals = [
+    out.finals = Sequence::from_vec(vec![in alloc;
         (Prio(255), Prio(0)),
         (Prio(50), Prio(50)),
         (Prio(7), Prio(6)),
-    ];
-    let history = [entry(41, 1, Event::Base { prio: Prio(50) })];
-    let text = print(alloc, &plan, &history, &finals, &tables, Last::Stuck)?;
+    ]?);
+    out.last = Last::Stuck;
+    let text = print(alloc, &plan, &out)?;
     let want = "41 u prio 50\nthread t base 255 eff 0\nthread u base 50 eff 50\n\
         thread sixteen_bytes_xy base 7 eff 6\ntable m 9 255\ntable m 10 7\ntable s 0 8\nstuck\n";
     assert_eq!(rt; text.as_slice(), want.as_bytes());
@@ -268,7 +273,9 @@ fn last_lines_and_faults(rt: HostRuntime) -> Result<(), Fail> {
         (Last::Reversed, "reversed\n"),
         (Last::TooLong, "toolong\n"),
     ] {
-        let text = print(alloc, &plan, &[], &[], &BTreeMap::new(alloc), last)?;
+        let mut out = left(alloc, &[])?;
+        out.last = last;
+        let text = print(alloc, &plan, &out)?;
         assert_eq!(rt; text.as_slice(), want.as_bytes());
     }
     for (line, code, want) in [
@@ -279,5 +286,74 @@ fn last_lines_and_faults(rt: HostRuntime) -> Result<(), Fail> {
         let text = print_fault(alloc, line, code)?;
         assert_eq!(rt; text.as_slice(), want.as_bytes());
     }
+    Ok(())
+}
+
+fn waiters(alloc: Global, waiters: &[(u8, u8)]) -> Result<Sequence<(ThreadNo, Prio)>, Fail> {
+    let mut seen = Vec::new(alloc);
+    for (t, p) in waiters {
+        seen.push((ThreadNo(*t), Prio(*p)))?;
+    }
+    Ok(Sequence::from_vec(seen))
+}
+
+fn queue(
+    alloc: Global,
+    q: QueueName,
+    head: u8,
+    free: &[u8],
+    excl: &[(u8, u8)],
+    shared: &[(u8, u8)],
+) -> Result<QueueLine, Fail> {
+    let mut objects = Vec::new(alloc);
+    for t in free {
+        objects.push(ThreadNo(*t))?;
+    }
+    Ok(QueueLine {
+        q,
+        slot: 0,
+        head: ThreadNo(head),
+        free: Sequence::from_vec(objects),
+        excl: waiters(alloc, excl)?,
+        shared: waiters(alloc, shared)?,
+    })
+}
+
+// Locks m and d, and threads q, a, b, c, r1 and r2.
+fn plan_of_queues(alloc: Global) -> Result<Plan, Fail> {
+    let mut threads = Vec::new(alloc);
+    for spelling in ["q", "a", "b", "c", "r1", "r2"] {
+        threads.push(thread(alloc, spelling)?)?;
+    }
+    Ok(Plan {
+        classes: Sequence::from_vec(vec![in alloc; name("k")?]?),
+        locks: Sequence::from_vec(vec![in alloc;
+            lock("m", Kind::Mtx, 0)?,
+            lock("d", Kind::Rw, 0)?,
+        ]?),
+        chans: Sequence::from_vec(vec![in alloc; chan("v", true)?]?),
+        threads: Sequence::from_vec(threads),
+        schedule: Sequence::from_vec(Vec::new(alloc)),
+    })
+}
+
+#[test]
+fn lines_of_queues(rt: HostRuntime) -> Result<(), Fail> {
+    let alloc = rt.alloc();
+    let plan = plan_of_queues(alloc)?;
+    let (m, d) = (QueueName::Lock(LockNo(0)), QueueName::Lock(LockNo(1)));
+    let mut queues = Vec::new(alloc);
+    queues.push(queue(alloc, m, 0, &[], &[(0, 50)], &[])?)?;
+    queues.push(queue(alloc, m, 1, &[3, 2], &[(2, 50), (3, 50), (1, 100)], &[])?)?;
+    queues.push(queue(alloc, d, 4, &[5], &[], &[(5, 80), (4, 90)])?)?;
+    queues.push(queue(alloc, QueueName::Chan(ChanNo(0)), 1, &[], &[], &[(1, 0)])?)?;
+    let mut out = left(alloc, &[])?;
+    out.queues = Sequence::from_vec(queues);
+    let text = print(alloc, &plan, &out)?;
+    let want = "queue m slot 0 head q free - excl q@50 shared -\n\
+        queue m slot 0 head a free c,b excl b@50,c@50,a@100 shared -\n\
+        queue d slot 0 head r1 free r2 excl - shared r2@80,r1@90\n\
+        queue v slot 0 head a free - excl - shared a@0\nok\n";
+    assert_eq!(rt; text.as_slice(), want.as_bytes());
     Ok(())
 }

@@ -1,15 +1,16 @@
-use Rattle.std.proofs.Common.{subst}
+use Rattle.std.proofs.Common.{◌≡◌, ℕ, List, IfOk, subst}
+use Rattle.lock_laws.proofs.Accepted.{accepted_proper}
 use Rattle.script_read.specs.Reading.{Refuses}
-use Rattle.lockrun.proofs.Accepted.{accepted_straight}
+use Rattle.lockrun.specs.declared.status.Status.{Status}
 use Rattle.lockrun.proofs.Outcome.{accepted_output, refused_output}
 use Rattle.lockrun.proofs.answer.answer.Goals as goal
 
-pub run_text-requires : goal.run_text-requires
-run_text-requires c = accepted_straight c.args.bytes.now c.in-Ok.plan c.in-Ok.ensures.accepted
+pub of_plan-requires : goal.of_plan-requires
+of_plan-requires c = accepted_proper c.args.bytes.now c.in-Ok.plan c.in-Ok.ensures.accepted
 
-pub returns-in_ok-run_text-in-Ok-clause-pair : goal.returns-in_ok-run_text-in-Ok-clause-pair
-returns-in_ok-run_text-in-Ok-clause-pair c =
-    accepted_output c.args.bytes.now c.in-Ok.plan c.in_ok-run_text-in-Ok.field-0.items c.in-Ok.ensures.accepted c.in_ok-run_text-in-Ok.ensures
+pub returns-in-Ok-clause-pair : goal.returns-in-Ok-clause-pair
+returns-in-Ok-clause-pair c =
+    subst (λ (o : Status × List ℕ). IfOk c.of_plan.result (λ a. (a.0, a.1.items) ≡ o)) (accepted_output c.args.bytes.now c.in-Ok.plan c.in-Ok.ensures.accepted) c.of_plan.ensures.pair
 
 pub returns-in_ok-text-in-Err-Script-clause-pair : goal.returns-in_ok-text-in-Err-Script-clause-pair
 returns-in_ok-text-in-Err-Script-clause-pair c =

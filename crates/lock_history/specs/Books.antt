@@ -1,0 +1,39 @@
+-- A log and tables, as contracts see them.
+use Rattle.std.specs.Prelude.{ℕ, List, [], ◌∷◌, Option, Some, None, refl}
+use Rattle.std.specs.Coded.{Coded, code_by, coded×, coded_list, coded_ℕ}
+use Rattle.std.specs.FinMap.{FinMap, code, from_sorted}
+use Rattle.lock_model.specs.History.{place_cmp}
+use Rattle.lock_model.specs.declared.event.Entry.{Entry}
+use Rattle.lock_model.specs.declared.numbers.LockNo.{LockNo}
+
+-- the entries of a log, and how many more it has room for
+pub record Book : Type 0 where
+  pub entries : List Entry
+  pub spare : ℕ
+
+-- the keys that tables have room for, by lock and then by key, and the value at each that is present
+pub record Slots : Type 0 where
+  pub places : List (ℕ × ℕ)
+  pub present : FinMap place_cmp ℕ
+
+abbrev pub slots_code : Coded Slots
+slots_code =
+    code_by (List (ℕ × ℕ) × FinMap place_cmp ℕ) (coded× (coded_list (coded× coded_ℕ coded_ℕ)) (code (coded× coded_ℕ coded_ℕ) coded_ℕ)) (λ s. (s.places, s.present)) (λ p. record { places = p.0; present = p.1 }) (λ _. refl)
+
+-- an entry, where it has a value, and the entries behind it
+abbrev pub filled_on : ℕ × ℕ → Option ℕ → List ((ℕ × ℕ) × ℕ) → List ((ℕ × ℕ) × ℕ)
+filled_on place None rows = rows
+filled_on place (Some value) rows = (place, value) ∷ rows
+
+-- the entries that have a value
+abbrev pub filled : List ((ℕ × ℕ) × Option ℕ) → List ((ℕ × ℕ) × ℕ)
+filled [] = []
+filled (slot ∷ slots) = filled_on slot.0 slot.1 (filled slots)
+
+-- the map of the entries that have a value
+abbrev pub present_of : List ((ℕ × ℕ) × Option ℕ) → FinMap place_cmp ℕ
+present_of slots = from_sorted (filled slots)
+
+-- a lock, a key and a value, as a map has them
+abbrev pub row_seen : LockNo × ℕ × ℕ → (ℕ × ℕ) × ℕ
+row_seen r = ((r.0.0, r.1), r.2)

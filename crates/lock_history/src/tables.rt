@@ -1,0 +1,147 @@
+//! Tables of locks: the value at each key of a lock's table, with room for fixed keys.
+ghost use Rattle.std.specs.Prelude.{◌≡◌, ℕ, ◌||◌, ◌&&◌, ◌==◌, ◌↔◌, [], OnOk, IfOk, IsTrue, is_some, option_to_list};
+ghost use Rattle.std.specs.Option.{option_map};
+ghost use Rattle.std.specs.List.{Contains, list_any, slice_get};
+ghost use Rattle.std.specs.BTreeMap as tree;
+ghost use Rattle.std.specs.FinMap.{empty, get, insert, entries};
+ghost use Rattle.lock_model.specs.History.{place_cmp};
+ghost use Rattle.lock_model.specs.Keys.{op_names, plan_names};
+ghost use Rattle.lock_history.specs.Books.{filled, row_seen};
+
+use lock_model::{LockNo, Op, Plan};
+use std::alloc::{AllocError, Global};
+use std::collections::BTreeMap;
+use std::marker::Model;
+
+/// The values at the keys of the locks' tables. A key is present where it has a value, and gets one only
+/// where there is room for it.
+#[derive(Drop, Debug)]
+pub struct Tables {
+    // A value or none at each key that there is room for, by lock and then by key.
+    slots: BTreeMap<(u8, u64), Option<u64>>,
+}
+
+impl Model for Tables {
+    ghost use Rattle.std.specs.BTreeMap.{IsOrdered, keys};
+    ghost use Rattle.lock_model.specs.History.{place_cmp};
+    ghost use Rattle.lock_history.specs.Books.{Slots, slots_code, present_of};
+
+    ghost Value = { Slots };
+
+    ghost coded = { slots_code };
+
+    ghost view = { λ t. record {
+      places = keys t.slots;
+      present = present_of t.slots.entries;
+    } };
+
+    ghost invariant = { λ t. IsOrdered place_cmp t.slots };
+}
+
+impl Tables {
+    /// Tables with room for each key that an operation of the plan names, and no key present. It fails
+    /// where memory runs out.
+    pub fn make(alloc: Global, plan: &Plan) -> Result<Tables, AllocError>
+        ensures empty { IfOk result (λ t. t.present ≡ empty) }
+        ensures room { IfOk result (λ t. (l key : ℕ) →
+            Contains t.places (l, key) ↔ IsTrue (plan_names plan.now l key)) }
+    {
+        let mut slots = BTreeMap::new(alloc);
+        for thread in plan.threads.as_slice() {
+            add_slots(&mut slots, thread.ops.as_slice())?;
+        }
+        Ok(Tables { slots })
+    }
+
+    /// Sets a key that there is room for, and leaves the others. It takes no memory, and time in the
+    /// logarithm of the keys.
+    pub fn put(&mut self, l: LockNo, key: u64, value: u64)
+        requires { Contains self.old.places (l.0, key) }
+        ensures places { self.new.places ≡ self.old.places }
+        ensures present { self.new.present ≡ insert self.old.present (l.0, key) value }
+    {
+        // The key has its slot, so that only the value in it is replaced.
+        let put: Result<_, _> = self.slots.insert((l.0, key), Some(value));
+        let _before = put.unwrap();
+    }
+
+    /// The value at a key, in time in the logarithm of the keys. There is none exactly where the key is
+    /// absent.
+    pub fn get(&self, l: LockNo, key: u64) -> Option<u64>
+        ensures { result ≡ get self.now.present (l.0, key) }
+    {
+        match self.slots.get(&(l.0, key)) {
+            Some(slot) => *slot,
+            None => None,
+        }
+    }
+
+    /// The key at a place among those that are present, by lock and then by key, and its value. There is
+    /// none exactly past the end. It walks the keys up to there.
+    pub fn at(&self, i: u32) -> Option<(LockNo, u64, u64)>
+        ensures { option_map row_seen result ≡ slice_get (entries self.now.present) i }
+    {
+        let mut left = i;
+        for ((l, key), slot) in self.slots() {
+            if let Some(value) = slot {
+                if left == 0 {
+                    return Some((LockNo(*l), *key, *value));
+                }
+                left -= 1;
+            }
+        }
+        None
+    }
+
+    // No key, and no room.
+    pub(crate) fn none(alloc: Global) -> Tables
+        ensures { result.present ≡ empty }
+    {
+        Tables {
+            slots: BTreeMap::new(alloc),
+        }
+    }
+
+    // Sets a key, with room made where there was none.
+    pub(crate) fn set(&mut self, l: LockNo, key: u64, value: u64) -> Result<(), AllocError>
+        ensures { OnOk result (self.new.present ≡ insert self.old.present (l.0, key) value) }
+    {
+        self.slots.insert((l.0, key), Some(value))?;
+        Ok(())
+    }
+
+    // A value or none at each key that there is room for.
+    pub(crate) fn slots(&self) -> &BTreeMap<(u8, u64), Option<u64>>
+        ensures { entries self.now.present ≡ filled result.now.entries }
+    {
+        &self.slots
+    }
+}
+
+// Room for the keys that operations name, in a map that has no value yet.
+fn add_slots(slots: &mut BTreeMap<(u8, u64), Option<u64>>, ops: &[Op]) -> Result<(), AllocError>
+    requires empty { filled slots.old.entries ≡ [] }
+    requires ordered { tree.IsOrdered place_cmp slots.old }
+    ensures ordered { tree.IsOrdered place_cmp slots.new }
+    ensures empty { OnOk result (filled slots.new.entries ≡ []) }
+    ensures room { OnOk result ((l key : ℕ) → is_some (tree.get place_cmp slots.new (l, key))
+        ≡ (is_some (tree.get place_cmp slots.old (l, key)) || list_any (op_names l key) ops.now)) }
+{
+    for op in ops {
+        if let Some(place) = named_place(*op) {
+            slots.insert(place, None)?;
+        }
+    }
+    Ok(())
+}
+
+// The lock and key that an operation names.
+fn named_place(op: Op) -> Option<(u8, u64)>
+    ensures { (l key : ℕ) → list_any (λ p. (p.0 == l) && (p.1 == key)) (option_to_list result)
+        ≡ op_names l key op }
+{
+    match op {
+        Op::Set { l, key, .. } | Op::Add { l, key, .. } | Op::Get { l, key } => Some((l.0, key)),
+        _ => None,
+    }
+}

@@ -1,0 +1,169 @@
+// The words of an event, behind the thread's name on an entry's line.
+ghost use Rattle.std.specs.Prelude.{◌≡◌, ◌++◌, ◌∷◌, [], decimal, map, OnOk};
+ghost use Rattle.lock_model.specs.Text.{spaced, event_words, mode_letter, chan_word, woken_words, or_dash, names_at_bits, found_word, lock_name, lock_kind, chan_name};
+
+use super::words::{
+    chan_name, class_name, is_cond, lock_kind, lock_name, push_call, push_number, push_word,
+};
+use lock_model::{ChanNo, Event, Kind, LockNo, Mode, Plan, ThreadDecl};
+use std::alloc::AllocError;
+
+pub(super) fn push_event(out: &mut Vec<u8>, plan: &Plan, event: Event) -> Result<(), AllocError>
+    ensures { OnOk result (out.new.items
+        ≡ out.old.items ++ spaced (event_words plan.now event)) }
+{
+    match event {
+        Event::Locked { l, mode } => push_mode(out, plan, b"", l, mode, b"lock"),
+        Event::Tried { l, mode } => push_mode(out, plan, b"try", l, mode, b"lock"),
+        Event::Unlocked { l, mode } => push_mode(out, plan, b"", l, mode, b"unlock"),
+        Event::Busy { l, seen } => {
+            push_call(out, b"busy", lock_name(plan, l))?;
+            push_number(out, seen)
+        }
+        Event::Set { l, key, value } => push_edit(out, b"set", lock_name(plan, l), key, value),
+        Event::Added { l, key, amount } => push_edit(out, b"add", lock_name(plan, l), key, amount),
+        Event::Got { l, key, found } => {
+            push_call(out, b"get", lock_name(plan, l))?;
+            push_number(out, key)?;
+            push_found(out, found)
+        }
+        Event::Base { prio } => {
+            push_word(out, b"prio")?;
+            push_number(out, u64::from(prio.0))
+        }
+        Event::Shown { base, eff } => {
+            push_word(out, b"show")?;
+            push_number(out, u64::from(base.0))?;
+            push_number(out, u64::from(eff.0))
+        }
+        Event::Sleeps { c } => push_chan(out, plan, c, b"wait", b"msleep"),
+        Event::Woke { c } => push_call(out, b"woke", chan_name(plan, c)),
+        Event::HaltedChan { c } => push_call(out, b"halted", chan_name(plan, c)),
+        Event::HaltedLock { l } => push_call(out, b"halted", lock_name(plan, l)),
+        Event::WokeOne { c, woken } => push_waking(out, plan, c, b"signal", b"wakeup_one", woken),
+        Event::WokeAll { c, woken } => push_waking(out, plan, c, b"broadcast", b"wakeup", woken),
+        Event::Reversed { l, held } => {
+            push_call(out, b"reversed", lock_name(plan, l))?;
+            push_word(out, class_name(plan, held))
+        }
+    }
+}
+
+// A change at a key of a lock's table.
+fn push_edit(
+    out: &mut Vec<u8>,
+    word: &[u8],
+    lock: &[u8],
+    key: u64,
+    amount: u64,
+) -> Result<(), AllocError>
+    ensures { OnOk result (out.new.items ≡ out.old.items
+        ++ spaced (word.now ∷ lock.now ∷ decimal key ∷ decimal amount ∷ [])) }
+{
+    push_call(out, word, lock)?;
+    push_number(out, key)?;
+    push_number(out, amount)
+}
+
+// A lock's word for a mode, as `trylock` or `runlock`, and the lock's name.
+fn push_mode(
+    out: &mut Vec<u8>,
+    plan: &Plan,
+    before: &[u8],
+    l: LockNo,
+    mode: Mode,
+    behind: &[u8],
+) -> Result<(), AllocError>
+    ensures { OnOk result (out.new.items ≡ out.old.items ++ spaced (
+        (before.now ++ mode_letter (lock_kind plan.now l.0) mode ++ behind.now)
+        ∷ lock_name plan.now l.0 ∷ [])) }
+{
+    push_word(out, before)?;
+    out.extend_from_slice(mode_letter(lock_kind(plan, l), mode))?;
+    out.extend_from_slice(behind)?;
+    push_word(out, lock_name(plan, l))
+}
+
+fn mode_letter(kind: Kind, mode: Mode) -> &'static [u8]
+    ensures { result.now ≡ mode_letter kind mode }
+{
+    match (kind, mode) {
+        (Kind::Mtx, _) => b"",
+        (Kind::Rw, Mode::Excl) => b"w",
+        (Kind::Rw, Mode::Shared) => b"r",
+        (Kind::Sx, Mode::Excl) => b"x",
+        (Kind::Sx, Mode::Shared) => b"s",
+    }
+}
+
+// The word for a condition variable, or else for a channel, and its name.
+fn push_chan(
+    out: &mut Vec<u8>,
+    plan: &Plan,
+    c: ChanNo,
+    on_cond: &[u8],
+    on_chan: &[u8],
+) -> Result<(), AllocError>
+    ensures { OnOk result (out.new.items ≡ out.old.items ++ spaced (
+        chan_word plan.now c.0 on_cond.now on_chan.now ∷ chan_name plan.now c.0 ∷ [])) }
+{
+    let word = if is_cond(plan, c) { on_cond } else { on_chan };
+    push_call(out, word, chan_name(plan, c))
+}
+
+// A waking of a condition variable or a channel, and the threads that it took.
+fn push_waking(
+    out: &mut Vec<u8>,
+    plan: &Plan,
+    c: ChanNo,
+    on_cond: &[u8],
+    on_chan: &[u8],
+    woken: u64,
+) -> Result<(), AllocError>
+    ensures { OnOk result (out.new.items ≡ out.old.items ++ spaced (
+        chan_word plan.now c.0 on_cond.now on_chan.now ∷ chan_name plan.now c.0
+        ∷ woken_words plan.now woken)) }
+{
+    push_chan(out, plan, c, on_cond, on_chan)?;
+    push_woken(out, plan.threads.as_slice(), woken)
+}
+
+fn push_found(out: &mut Vec<u8>, found: Option<u64>) -> Result<(), AllocError>
+    ensures { OnOk result (out.new.items ≡ out.old.items ++ 32 ∷ found_word found) }
+{
+    match found {
+        Some(value) => push_number(out, value),
+        None => push_word(out, b"-"),
+    }
+}
+
+// The names of the threads whose bits are set, or a dash where there is none.
+fn push_woken(out: &mut Vec<u8>, threads: &[ThreadDecl], woken: u64) -> Result<(), AllocError>
+    ensures { OnOk result (out.new.items ≡ out.old.items
+        ++ spaced (or_dash (names_at_bits (map (λ d. d.name) threads.now) woken))) }
+{
+    let before = out.len();
+    push_names_at_bits(out, threads, woken)?;
+    if out.len() == before {
+        push_word(out, b"-")?;
+    }
+    Ok(())
+}
+
+fn push_names_at_bits(
+    out: &mut Vec<u8>,
+    threads: &[ThreadDecl],
+    woken: u64,
+) -> Result<(), AllocError>
+    ensures { OnOk result (out.new.items ≡ out.old.items
+        ++ spaced (names_at_bits (map (λ d. d.name) threads.now) woken)) }
+{
+    let mut bits = woken;
+    for thread in threads {
+        if bits % 2 == 1 {
+            push_word(out, thread.name.as_bytes())?;
+        }
+        bits /= 2;
+    }
+    Ok(())
+}

@@ -1,0 +1,56 @@
+-- Where the loan node of a turnstile with an owner is, and which loans there are beside one that is made.
+use Rattle.std.proofs.Common.{◌≡◌, ◌≢◌, ℕ, ◌<◌, ◌≤◌, Bool, true, false, Option, Some, None, refl, sym, ap, ◌∙◌, arith, eq-eqb}
+use Rattle.lock_model.specs.Words.{is_turnstile}
+use Rattle.lock_model.specs.Moves.{prio_of}
+use Rattle.lock_model.specs.State.{Config, State, Loan, put, put_at}
+use Rattle.lock_model.specs.Queues.{lock_queue}
+use Rattle.lock_model.specs.Facts.{Lawful, LoansAreOnHeads}
+use Rattle.lock_laws.proofs.Kit.{put_other}
+use Rattle.lock_laws.proofs.HeadsAndNodes.{head_lock, heads_apart, loan_lock, loan_out, owned_home}
+
+-- 1. Nodes
+
+-- the number of a loan's node
+abbrev pub number_of : Option Loan → Option ℕ
+number_of None = None
+number_of (Some x) = Some x.number
+
+-- the number of a turnstile's node where that is out
+abbrev pub out_of : Bool → ℕ → Option ℕ
+out_of true n = None
+out_of false n = Some n
+
+-- the node of a turnstile with an owner carries the owner's loan for the lock, or is at home
+pub node_carries : (c : Config) (s : State) (l o h : ℕ) → Lawful c s → l < c.locks → is_turnstile (c.kind l) ≡ true → s.head (lock_queue l) ≡ Some h → s.owner (lock_queue l) ≡ Some o
+    → number_of (s.loan o l) ≡ out_of (s.loan_home h) h
+unfolding LoansAreOnHeads
+node_carries c s l o h lawful lt k e w = go (s.loan o l) refl
+  where
+    go : (x : Option Loan) → s.loan o l ≡ x → number_of x ≡ out_of (s.loan_home h) h
+    go None i = sym (ap (λ b. out_of b h) (owned_home c s l h o lawful lt k e w i))
+    go (Some x) i =
+        let n : x.number ≡ h = (let a = sym (lawful.loans_are_on_heads o l x i) ∙ e in cc) in
+        let away : s.loan_home h ≡ false = ap s.loan_home (sym n) ∙ loan_out c s o l x lawful i in
+        ap Some n ∙ sym (ap (λ b. out_of b h) away)
+
+-- the nodes of other locks' heads have other numbers
+pub other_head : (c : Config) (s : State) (l k h x : ℕ) → Lawful c s → is_turnstile (c.kind l) ≡ true → is_turnstile (c.kind k) ≡ true → k ≢ l
+    → s.head (lock_queue l) ≡ Some h → s.head (lock_queue k) ≡ Some x → h ≢ x
+other_head c s l k h x lawful lk kk n e f i =
+    let g : s.head (lock_queue k) ≡ Some h = f ∙ ap Some (sym i) in
+    n (sym (heads_apart c s l k h lawful (head_lock c s l h lawful lk e) (head_lock c s k h lawful kk g) lk kk e g))
+
+-- 2. Loans by lock
+
+-- the row of a thread in a column with two places
+pub put_at_row : {A : Type 0} (f : ℕ → ℕ → A) (i k : ℕ) (v : A) (l : ℕ) → put_at f i k v i l ≡ put (f i) k v l
+unfolding put_at put
+put_at_row f i k v l = rw (eq-eqb i i refl) refl
+
+-- nothing is lent for numbers that no lock has
+pub unlent_beyond : (c : Config) (s : State) (o l : ℕ) (v : Option Loan) → Lawful c s → l < c.locks → (k : ℕ) → c.locks ≤ k → prio_of (put (s.loan o) l v k) ≡ None
+unlent_beyond c s o l v lawful lt k above = ap prio_of (put_other (s.loan o) l v k (λ e. omega (arith, e))) ∙ go (s.loan o k) refl
+  where
+    go : (x : Option Loan) → s.loan o k ≡ x → prio_of x ≡ None
+    go None e = refl
+    go (Some x) e = let a = loan_lock c s o k x lawful e in absurd (omega arith)

@@ -1,0 +1,126 @@
+-- What a lawful state's word of a lock can be, and what its waiters say of its head.
+use Rattle.std.proofs.Common.{◌≡◌, ◌≢◌, ℕ, zero, suc, ◌+◌, ◌<◌, ◌≤◌, true, false, not, ◌||◌, List, [], ◌∷◌, length, Option, Some, None, refl, sym, ap, arith, eq-eqb, ◌∙◌}
+use Rattle.std.proofs.lemmas.Option.{same_Some}
+use Rattle.lock_model.specs.Counts.{some, is_empty}
+use Rattle.lock_model.specs.Words.{Holder, Free, HeldBy, SharedBy, IsPossible, sharers, is_turnstile, owner_of, shows_waiters}
+use Rattle.lock_model.specs.State.{Config, State, Waiter, Loan, Hold, NotHeld, Holds}
+use Rattle.lock_model.specs.Queues.{lock_queue, waiting}
+use Rattle.lock_model.specs.Facts.{Lawful, HeadsFitWaiters, BitsShowWaiters, MutexWaitersAreExclusive, WordsMatchHolders, OnlyThreadsHold, OwnersHold, LoansAreOnHeads}
+use Rattle.lock_model.specs.FactsOfWords.{owns, shares}
+use Rattle.lock_model.specs.FactsOfLoans.{owner_if}
+use Rattle.lock_model.specs.MovesOfQueues.{home_after}
+use Rattle.lock_model.specs.declared.plan.Kind.TheVariants.{Mtx}
+use Rattle.lock_model.specs.declared.plan.Mode.TheVariants.{Excl, Shared}
+use Rattle.lock_model.specs.declared.plan.QueueName.{QueueName}
+use Rattle.lock_laws.proofs.HeadsAndNodes.{heads_apart, head_lock, loan_out, owned_home}
+use Rattle.lock_laws.proofs.Kit.{put_other}
+use Rattle.lock_laws.proofs.Shown.{exclusive_is}
+use Rattle.lock_laws.proofs.Sums.{sum_below-most}
+use Rattle.lock_laws.proofs.Words.{owner_is}
+
+-- 1. Words
+
+shares_one : (h : Hold) → shares h ≤ 1
+shares_one NotHeld = omega arith
+shares_one (Holds Excl) = omega arith
+shares_one (Holds Shared) = omega arith
+
+module _ (c : Config) (s : State) (l : ℕ) (h : Lawful c s) where
+  -- an owner is one of the plan's threads, and so is each of those that share
+  pub possible_holder : c.threads ≤ 64 → IsPossible (s.word l).holder
+  unfolding WordsMatchHolders OnlyThreadsHold
+  possible_holder few = go (s.word l).holder refl
+    where
+      go : (x : Holder) → (s.word l).holder ≡ x → IsPossible x
+      go Free e = tt
+      go (HeldBy u) e =
+          let own = exclusive_is (s.held u l) ((h.words_match_holders l).owner u ∙ ap (owns u) e ∙ eq-eqb u u refl) in
+          omega (arith, few, h.only_threads_hold u l Excl own)
+      go (SharedBy zero) e = absurd ((h.words_match_holders l).some_sharer e)
+      go (SharedBy (suc n)) e =
+          let count : _ ≡ suc n = (h.words_match_holders l).sharers_are_counted ∙ ap sharers e in
+          (omega arith, omega (arith, few, count, sum_below-most c.threads (λ t. shares (s.held t l)) (λ t. shares_one (s.held t l))))
+
+-- 2. Heads
+
+-- a queue has no waiter and no free turnstile
+pub record IsBare (s : State) (q : QueueName) : Type 0 where
+  pub no_exclusive : (s.lists q).exclusive ≡ []
+  pub no_shared : (s.lists q).shared ≡ []
+  pub no_free : s.free_list q ≡ []
+
+none_in : {A : Type 0} (xs : List A) → length xs ≡ 0 → xs ≡ []
+none_in [] e = refl
+none_in (x ∷ xs) e = absurd (omega arith)
+
+-- that is so where it has no head
+pub headless_bare : (c : Config) (s : State) (q : QueueName) → Lawful c s → s.head q ≡ None → IsBare s q
+unfolding HeadsFitWaiters
+headless_bare c s q h e =
+    let f = h.heads_fit_waiters q in
+    let free = f.no_free e in
+    let count : 0 + 0 ≡ waiting (s.lists q) = sym (ap (λ xs. length xs + some (s.head q)) free ∙ ap (λ o. 0 + some o) e) ∙ f.balanced in
+    record { no_exclusive = none_in (s.lists q).exclusive (omega arith); no_shared = none_in (s.lists q).shared (omega arith); no_free = free }
+
+-- a queue has a head and exclusive waiters alone, one more than free turnstiles
+pub record IsAwaited (s : State) (q : QueueName) : Type 0 where
+  pub head : ℕ
+  pub is_head : s.head q ≡ Some head
+  pub one_more : length (s.lists q).exclusive ≡ suc (length (s.free_list q))
+  pub no_shared : (s.lists q).shared ≡ []
+
+-- that is so where a mutex shows waiters
+module _ (c : Config) (s : State) (l : ℕ) (h : Lawful c s) (k : c.kind l ≡ Mtx) (e : shows_waiters (s.word l) ≡ true) where
+  abbrev q : QueueName
+  q = lock_queue l
+
+  none_shared : (s.lists q).shared ≡ []
+  unfolding MutexWaitersAreExclusive
+  none_shared = h.mutex_waiters_are_exclusive l k
+
+  some_wait : (a b : List Waiter) → (not (is_empty a) || not (is_empty b)) ≡ true → b ≡ [] → 1 ≤ length a
+  some_wait [] b x y = let z : (false || false) ≡ true = sym (ap (λ bs. false || not (is_empty bs)) y) ∙ x in absurd cc
+  some_wait (w ∷ a) b x y = omega arith
+
+  one_waits : 1 ≤ length (s.lists q).exclusive
+  unfolding BitsShowWaiters
+  one_waits =
+      let b = h.bits_show_waiters l in
+      some_wait (s.lists q).exclusive (s.lists q).shared (sym (ap (λ x. x || (s.word l).shared_waiters) b.exclusive ∙ ap (λ x. not (is_empty (s.lists q).exclusive) || x) b.shared) ∙ e) none_shared
+
+  pub shown_awaited : IsAwaited s q
+  unfolding HeadsFitWaiters
+  shown_awaited = go (s.head q) refl
+    where
+      go : (o : Option ℕ) → s.head q ≡ o → IsAwaited s q
+      go None i = let b = headless_bare c s q h i in absurd (omega (arith, one_waits, ap length b.no_exclusive))
+      go (Some x) i =
+          let f = (h.heads_fit_waiters q).balanced in
+          record { head = x; is_head = i; one_more = omega (arith, f, ap some i, ap length none_shared); no_shared = none_shared }
+
+-- 3. A release of a lock with a head
+
+module _ (c : Config) (s : State) (t l : ℕ) (h : Lawful c s) (lock : l < c.locks) (k : is_turnstile (c.kind l) ≡ true) (held : s.held t l ≡ Holds Excl) where
+  releasing_owner : (x : ℕ) → s.head (lock_queue l) ≡ Some x → s.owner (lock_queue l) ≡ Some t
+  unfolding OwnersHold
+  releasing_owner x e = h.owners_hold l ∙ ap (λ b. owner_if b (s.head (lock_queue l)) (s.word l).holder) k ∙ ap (λ o. owner_if true o (s.word l).holder) e ∙ ap owner_of (owner_is c s t l h held)
+
+  -- the head's node is out where its thread has the loan
+  pub lent_out : (x : ℕ) (y : Loan) → s.head (lock_queue l) ≡ Some x → s.loan t l ≡ Some y → (x ≡ y.number) × (s.loan_home x ≡ false)
+  unfolding LoansAreOnHeads
+  lent_out x y e f =
+      let same : x ≡ y.number = same_Some x y.number (sym e ∙ h.loans_are_on_heads t l y f) in
+      (same, ap s.loan_home same ∙ loan_out c s t l y h f)
+
+  -- and at home where it has none
+  pub unlent_home : (x : ℕ) → s.head (lock_queue l) ≡ Some x → s.loan t l ≡ None → s.loan_home x ≡ true
+  unlent_home x e none = owned_home c s l x t h lock k e (releasing_owner x e) none
+
+  -- the nodes of the other locks' heads stay where they are
+  pub home_elsewhere : (j z : ℕ) → j ≢ l → is_turnstile (c.kind j) ≡ true → s.head (lock_queue j) ≡ Some z → home_after s.loan_home (s.loan t l) z ≡ s.loan_home z
+  unfolding LoansAreOnHeads
+  home_elsewhere j z d kj e = go (s.loan t l) refl
+    where
+      go : (o : Option Loan) → s.loan t l ≡ o → home_after s.loan_home o z ≡ s.loan_home z
+      go None f = refl
+      go (Some y) f = put_other s.loan_home y.number true z (λ i. d (heads_apart c s j l z h (head_lock c s j z h kj e) lock kj k e (h.loans_are_on_heads t l y f ∙ ap Some i)))

@@ -1,0 +1,5 @@
+use Rattle.lock_laws.proofs.Turning as law
+use Rattle.lock_laws.proofs.runs.entries_are_operations.Goals as goal
+
+pub returns : goal.returns
+returns c = law.entries_below

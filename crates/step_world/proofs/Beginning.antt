@@ -1,0 +1,145 @@
+-- How the objects of a run begin: the threads are new, and the machine shows the run's start.
+use Rattle.std.proofs.Common.{◌≡◌, ℕ, ◌<◌, List, [], ◌∷◌, ◌++◌, length, map, get_or, slice_get, replicate, Some, IsSome, unwrap_or, option_map, refl, sym, ap, ◌∙◌, inl, inr, arith, IsTrue, Contains}
+use Rattle.std.specs.FinMap.{empty}
+use Rattle.std.proofs.lemmas.Bool.{cases_eq}
+use Rattle.std.proofs.lemmas.List.{get_or_push, get_or_append_left, length_push, get_or-replicate, length-replicate}
+use Rattle.std.proofs.lemmas.List.Elements.{All-nil}
+use Rattle.std.proofs.lemmas.Option.{slice_get-get_or, slice_get-map, slice_get_within, slice_get_cases, same_Some}
+use Rattle.lock_model.specs.History.{tables_of}
+use Rattle.lock_model.specs.Keys.{plan_names}
+use Rattle.lock_model.specs.Operations.{IsProper, operations_in_all, hold_in}
+use Rattle.lock_model.specs.Plans.{config_of, declared_base}
+use Rattle.lock_model.specs.Queues.{lock_queue}
+use Rattle.lock_model.specs.Run.{start_run}
+use Rattle.lock_model.specs.State.{Config, start_state}
+use Rattle.lock_model.specs.Words.{word_of, free_word}
+use Rattle.lock_model.specs.declared.numbers.LockNo.{LockNo}
+use Rattle.lock_model.specs.declared.plan.Plan.{Plan}
+use Rattle.lock_model.specs.declared.plan.ThreadDecl.{ThreadDecl}
+use Rattle.thread_records.specs.Loans.{loan_for, loans_for}
+use Rattle.thread_records.specs.Records.{Record}
+use Rattle.turnstile_core.specs.Seen.{Place}
+use Rattle.step_world.specs.Runs.{AreNew, ShowsRun}
+use Rattle.step_world.specs.Shows.{Shows, ShowsWords, ShowsThread, ShowsThreads, wait_of, walk_of, loan_of, mark_of, holds_of}
+use Rattle.step_world.specs.Steps.{aside}
+use Rattle.step_world.specs.Threads.{IsNew}
+use Rattle.step_world.specs.declared.machine.Machine.{Machine}
+use Rattle.step_world.specs.declared.thread.Thread.{Thread}
+
+-- 1. Threads
+
+-- the item behind a list,
+slice_get-pushed : {A : Type 0} (xs : List A) (x : A) → slice_get (xs ++ x ∷ []) (length xs) ≡ Some x
+slice_get-pushed xs x = slice_get-get_or (xs ++ x ∷ []) (length xs) x (omega (arith, length_push xs x)) ∙ ap Some (get_or_push xs x x (length xs) refl)
+
+-- and those in front of it
+slice_get-in_front : {A : Type 0} (xs : List A) (x : A) (i : ℕ) → i < length xs → slice_get (xs ++ x ∷ []) i ≡ slice_get xs i
+slice_get-in_front xs x i l =
+    slice_get-get_or (xs ++ x ∷ []) i x (omega (arith, length_push xs x)) ∙ ap Some (get_or_append_left xs (x ∷ []) x i l) ∙ sym (slice_get-get_or xs i x l)
+
+-- each thread is new
+abbrev pub EachIsNew : List ThreadDecl → List Thread → Type 0
+EachIsNew decls ths = (t : ℕ) (th : Thread) (d : ThreadDecl) → slice_get ths t ≡ Some th → slice_get decls t ≡ Some d → IsNew t d.base.0 th
+
+-- one thread more
+pub new_pushed : (decls : List ThreadDecl) (ths : List Thread) (n : ℕ) (th : Thread) (d : ThreadDecl) → length ths ≡ n → slice_get decls n ≡ Some d → IsNew n d.base.0 th
+    → EachIsNew decls ths → EachIsNew decls (ths ++ th ∷ [])
+new_pushed decls ths n th d long at new each t u e is_u is_e =
+    elim (cases_eq t n) [
+      | inl i ↦
+          let same_thread : th ≡ u = same_Some th u (sym (slice_get-pushed ths th) ∙ ap (slice_get (ths ++ th ∷ [])) (long ∙ sym i) ∙ is_u) in
+          let same_decl : d ≡ e = same_Some d e (sym at ∙ ap (slice_get decls) (sym i) ∙ is_e) in
+          rw (i, ← same_thread, ← same_decl) new
+      | inr ne ↦ each t u e (sym (slice_get-in_front ths th t (omega (arith, length_push ths th, slice_get_within (ths ++ th ∷ []) t u is_u))) ∙ is_u) is_e
+    ]
+
+-- 2. The machine
+
+-- what a new thread shows
+shown : (plan : Plan) (chains : ℕ) (t : ℕ) (th : Thread) (d : ThreadDecl) → slice_get plan.threads t ≡ Some d → IsNew t d.base.0 th → ShowsThread th (start_state (config_of plan chains)) t
+unfolding start_state
+shown plan chains t th d at new =
+    let base : d.base.0 ≡ declared_base plan t = sym (ap (λ o. unwrap_or o 0) (slice_get-map (λ (e : ThreadDecl). e.base.0) plan.threads t ∙ ap (option_map (λ (e : ThreadDecl). e.base.0)) at)) in
+    record {
+      number = ap (λ (r : Record). r.thread) new.its_record;
+      base = ap (λ (r : Record). r.base) new.its_record ∙ base;
+      effective = ap (λ (r : Record). r.effective) new.its_record ∙ base;
+      turnstile = ap (λ (r : Record). r.turnstile) new.its_record;
+      loans = λ l. ap (λ (r : Record). option_map loan_of (loan_for l r.loans)) new.its_record;
+      one_loan_each = λ l. omega (arith, ap (λ (r : Record). loans_for l r.loans) new.its_record);
+      named = ap (λ (r : Record). r.on) new.its_record;
+      wait = ap wait_of new.running;
+      walk = ap walk_of new.no_walk;
+      wanted = ap (option_map (λ (l : LockNo). l.0)) new.wants_none;
+      held = λ l. ap (λ hs. hold_in hs l) new.holds_none;
+      held_once = λ l. omega (arith, ap (λ hs. holds_of l hs) new.holds_none);
+      held_room = new.held_room;
+      marked = ap (map (mark_of (lock_queue th.marked_from.0))) new.unmarked;
+      filled = rw new.unmarked (All-nil (λ (p : Place). IsSome p.turnstile));
+    }
+
+-- the declaration of a thread
+decl_of : (decls : List ThreadDecl) (ths : List Thread) (t : ℕ) → AreNew decls ths → t < length ths → (d : ThreadDecl) × (slice_get decls t ≡ Some d)
+decl_of decls ths t new l =
+    elim ((slice_get_cases decls t).1) [
+      | inl h ↦ (h.0, h.2)
+      | inr h ↦ absurd (omega (arith, h.0, l, new.number))
+    ]
+
+-- the objects at the begin
+pub record IsBegun (plan : Plan) (m : Machine) : Type 0 where
+  pub free : m.words.items ≡ replicate (length plan.locks) 0
+  pub no_queue : m.chain ≡ []
+  pub new : AreNew plan.threads m.threads.items
+  pub no_entry : m.log.entries ≡ []
+  pub room : m.log.spare ≡ operations_in_all plan
+  pub no_key : m.tables.present ≡ empty
+  pub keys : (l key : ℕ) → IsTrue (plan_names plan l key) → Contains m.tables.places (l, key)
+
+module _ (plan : Plan) (m : Machine) (chains : ℕ) (p : IsProper plan) (b : IsBegun plan m) where
+  abbrev c : Config
+  c = config_of plan chains
+
+  words : ShowsWords m.words.items c (λ l. free_word)
+  words = record {
+    locks = ap (λ (ws : List ℕ). length ws) b.free ∙ length-replicate (length plan.locks) 0;
+    word = λ l i. ap (λ (ws : List ℕ). word_of (get_or ws l 0)) b.free ∙ ap word_of (get_or-replicate (length plan.locks) l 0 0 i);
+  }
+
+  threads : ShowsThreads m.threads.items c (start_state c)
+  threads = record {
+    threads = b.new.number;
+    thread = λ t th e.
+        let d = decl_of plan.threads m.threads.items t b.new (slice_get_within m.threads.items t th e) in
+        shown plan chains t th d.0 d.1 (b.new.each t th d.0 e d.1);
+  }
+
+  shows : Shows c m (start_state c)
+  unfolding start_state tables_of
+  shows = record {
+    within = record { few_locks = p.locks; few_threads = p.threads; mutexes = p.mutexes };
+    words = words;
+    queues = λ l. rw b.no_queue refl;
+    threads = threads;
+    history = b.no_entry;
+    tables = b.no_key;
+  }
+
+  its_aside : (t : ℕ) → t < length plan.threads → aside m t ≡ Some (record { place = 0; held = [] })
+  its_aside t l =
+      elim ((slice_get_cases m.threads.items t).1) [
+        | inl h ↦
+            let d = decl_of plan.threads m.threads.items t b.new h.1 in
+            let new = b.new.each t h.0 d.0 h.2 d.1 in
+            rw (h.2, new.at_begin, new.holds_none) refl
+        | inr h ↦ absurd (omega (arith, h.0, l, b.new.number))
+      ]
+
+  pub begun : ShowsRun plan chains m (start_run c)
+  unfolding start_state
+  begun = record {
+    shows = shows;
+    aside = its_aside;
+    room = rw (b.no_entry, b.room) (omega arith);
+    keys = b.keys;
+  }

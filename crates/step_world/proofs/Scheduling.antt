@@ -1,0 +1,95 @@
+-- The course of a run: when it is over, and how it goes on.
+use Rattle.std.proofs.Common.{◌≡◌, ℕ, zero, suc, ◌+◌, ◌<◌, ◌≤◌, Bool, true, false, ◌&&◌, nat_eq, cond, not, List, [], ◌∷◌, ◌++◌, length, map, filter, drop, refl, sym, ap, ◌∙◌, inl, inr, arith}
+use Rattle.std.proofs.lemmas.Bool.{cases_eq, eq-eqb, ne_eqb}
+use Rattle.std.specs.List.{range_with_len}
+use Rattle.std.proofs.lemmas.List.{length-map, length-drop, append-nil, drop_all}
+use Rattle.std.proofs.lemmas.List.Elements.{All-from_get_or, filter-append}
+use Rattle.std.proofs.lemmas.List.Folds.{list_all_at}
+use Rattle.std.proofs.lemmas.List.FromFn.{length-range_with_len, get_or-range_with_len}
+use Rattle.std.proofs.lemmas.List.Sums.{list_all-from_AllPass}
+use Rattle.lock_model.specs.Counts.{is_empty}
+use Rattle.lock_model.specs.Run as run
+use Rattle.lock_model.specs.Run.{Run, is_stuck, is_over, go_on, course_after, all_ended, has_ended, threads_of, round_of, with_turn, after_turn}
+use Rattle.lock_model.specs.declared.plan.Plan.{Plan}
+use Rattle.lock_model.specs.declared.numbers.ThreadNo.{ThreadNo}
+
+-- 1. Who still comes
+
+empty_is : {A : Type 0} (xs : List A) → is_empty xs ≡ nat_eq (length xs) 0
+empty_is [] = refl
+empty_is (x ∷ xs) = sym (ne_eqb (length (x ∷ xs)) 0 (λ e. omega (arith, e)))
+
+-- nobody comes exactly where all have had their turn
+pub none_left : (ts : List ThreadNo) (n : ℕ) → n ≤ length ts → is_empty (map {B = ℕ} (λ t. t.0) (drop n ts)) ≡ nat_eq n (length ts)
+none_left ts n l =
+    let rest = length-map (drop n ts) (λ (t : ThreadNo). t.0) ∙ length-drop n ts in
+    empty_is (map {B = ℕ} (λ t. t.0) (drop n ts))
+    ∙ elim (cases_eq n (length ts)) [
+      | inl e ↦ eq-eqb (length (map {B = ℕ} (λ t. t.0) (drop n ts))) 0 (omega (arith, rest, e)) ∙ sym (eq-eqb n (length ts) e)
+      | inr e ↦ ne_eqb (length (map {B = ℕ} (λ t. t.0) (drop n ts))) 0 (λ z. omega (arith, rest, e, z, l)) ∙ sym (ne_eqb n (length ts) e)
+    ]
+
+-- so a course is stuck where all of an idle round have had their turn
+pub stuck_is : (k : run.Course) (ts : List ThreadNo) (n : ℕ) (idle : Bool) → k.coming ≡ map (λ t. t.0) (drop n ts) → n ≤ length ts → k.idle ≡ idle → is_stuck k ≡ (nat_eq n (length ts) && idle)
+stuck_is k ts n idle coming within same = ap (λ (xs : List ℕ). is_empty xs && k.idle) coming ∙ ap (λ (b : Bool). b && k.idle) (none_left ts n within) ∙ ap (λ (b : Bool). nat_eq n (length ts) && b) same
+
+-- 2. Who has ended
+
+-- one that hasn't ended settles it,
+pub one_runs : (plan : Plan) (chains : ℕ) (r : Run) (t : ℕ) → t < length plan.threads → has_ended plan chains r t ≡ false → all_ended plan chains r ≡ false
+one_runs plan chains r t l e =
+    let n = length plan.threads in
+    list_all_at (has_ended plan chains r) (threads_of plan) t 0 (omega (arith, l, length-range_with_len 0 n)) (ap (has_ended plan chains r) (get_or-range_with_len 0 n t 0 l ∙ omega arith) ∙ e)
+
+-- and else all have
+pub none_runs : (plan : Plan) (chains : ℕ) (r : Run) → ((t : ℕ) → t < length plan.threads → has_ended plan chains r t ≡ true) → all_ended plan chains r ≡ true
+none_runs plan chains r each =
+    let n = length plan.threads in
+    list_all-from_AllPass (has_ended plan chains r) (threads_of plan) (All-from_get_or (λ t. has_ended plan chains r t ≡ true) (threads_of plan) 0 (λ i l.
+    let below : i < n = omega (arith, l, length-range_with_len 0 n) in
+    ap (has_ended plan chains r) (get_or-range_with_len 0 n i 0 below ∙ omega arith) ∙ each i below))
+
+-- 3. Rounds
+
+range_more : (a n : ℕ) → range_with_len a (suc n) ≡ range_with_len a n ++ (a + n) ∷ []
+range_more a zero = ap (λ (b : ℕ). b ∷ []) (omega arith)
+range_more a (suc n) = ap (λ (xs : List ℕ). a ∷ xs) (range_more (a + 1) n ∙ ap (λ (b : ℕ). range_with_len (a + 1) n ++ b ∷ []) (omega arith))
+
+-- those of the first threads that haven't ended
+abbrev pub round_below : Plan → ℕ → Run → ℕ → List ℕ
+round_below plan chains r n = filter (λ t. not (has_ended plan chains r t)) (range_with_len 0 n)
+
+round_more : (plan : Plan) (chains : ℕ) (r : Run) (n : ℕ) (b : Bool) → has_ended plan chains r n ≡ b → round_below plan chains r (n + 1) ≡ round_below plan chains r n ++ cond (not b) (n ∷ []) []
+round_more plan chains r n b e =
+    let p : ℕ → Bool = λ t. not (has_ended plan chains r t) in
+    let next : n + 1 ≡ suc n = omega arith in
+    let here : 0 + n ≡ n = omega arith in
+    ap (λ (m : ℕ). filter p (range_with_len 0 m)) next ∙ ap (filter p) (range_more 0 n)
+    ∙ filter-append p (range_with_len 0 n) ((0 + n) ∷ []) ∙ ap (λ (m : ℕ). round_below plan chains r n ++ cond (p m) (m ∷ []) []) here
+    ∙ ap (λ (c : Bool). round_below plan chains r n ++ cond (not c) (n ∷ []) []) e
+
+-- a thread that has ended isn't of the round,
+pub round_stays : (plan : Plan) (chains : ℕ) (r : Run) (n : ℕ) → has_ended plan chains r n ≡ true → round_below plan chains r (n + 1) ≡ round_below plan chains r n
+round_stays plan chains r n e = round_more plan chains r n true e ∙ append-nil (round_below plan chains r n)
+
+-- and another is
+pub round_grows : (plan : Plan) (chains : ℕ) (r : Run) (n : ℕ) → has_ended plan chains r n ≡ false → round_below plan chains r (n + 1) ≡ round_below plan chains r n ++ n ∷ []
+round_grows plan chains r n e = round_more plan chains r n false e
+
+-- 4. Turns
+
+-- nobody comes any more
+pub none_comes : (ts : List ThreadNo) (n : ℕ) → n ≡ length ts → map {B = ℕ} (λ t. t.0) (drop n ts) ≡ []
+none_comes ts n e = ap (map {B = ℕ} (λ (t : ThreadNo). t.0)) (drop_all n ts (omega (arith, e)))
+
+-- then the first of a round has its turn,
+pub round_begins : (plan : Plan) (chains : ℕ) (k : run.Course) → k.coming ≡ [] → with_turn plan chains k.run (round_of plan chains k.run) true ≡ after_turn plan chains k k.coming
+round_begins plan chains k e = ap (after_turn plan chains k) (sym e)
+
+-- and else the first that comes
+pub one_comes : (plan : Plan) (chains : ℕ) (k : run.Course) → is_empty k.coming ≡ false → with_turn plan chains k.run k.coming k.idle ≡ after_turn plan chains k k.coming
+one_comes plan chains k e = go k.coming e
+  where
+    go : (ts : List ℕ) → is_empty ts ≡ false → with_turn plan chains k.run ts k.idle ≡ after_turn plan chains k ts
+    go [] e = absurd cc
+    go (t ∷ ts) e = refl

@@ -1,0 +1,13 @@
+use Rattle.std.proofs.Common.{refl}
+use Rattle.step_world.proofs.Kit.{aside_stays, read}
+use Rattle.step_world.proofs.Ending.{walk_ended, walked}
+use Rattle.step_world.proofs.machine.Machine.end_walk.Goals as goal
+
+pub returns-clause-step : goal.returns-clause-step
+returns-clause-step c k s h lawful g =
+    rw c.from.ensures (walk_ended c.args.self.now k s c.args.t.0 c.index_mut.result.now (read c.args.self.now k s c.args.t.0 c.from.result c.index_mut.result.now c.from.ensures h g.thread c.index_mut.ensures.value) h g)
+
+pub returns-clause-aside : goal.returns-clause-aside
+returns-clause-aside c =
+    let m = c.requires.may in
+    rw c.from.ensures (aside_stays c.args.self.now.threads.items c.args.t.0 (walked c.index_mut.result.now) c.index_mut.result.now (read c.args.self.now m.0 m.1 c.args.t.0 c.from.result c.index_mut.result.now c.from.ensures m.2 m.4.thread c.index_mut.ensures.value) refl)

@@ -1,0 +1,20 @@
+use Rattle.std.proofs.Common.{◌<◌, length, List, sym, ap, subst, ◌∙◌}
+use Rattle.lock_model.specs.Plans.{config_of}
+use Rattle.lock_model.specs.declared.plan.Op.{Op}
+use Rattle.step_world.specs.Threads.{thread_has_ended}
+use Rattle.step_world.specs.Worlds.{World}
+use Rattle.step_world.proofs.Ends.{ends_as_said}
+use Rattle.step_world.proofs.Kit.{read}
+use Rattle.step_world.proofs.world.World.has_ended.Goals as goal
+
+pub returns : goal.returns
+returns c =
+    let w = c.self.inside in
+    let plan = w.plan.now in
+    let t = c.args.t.0 in
+    let th = c.index.result.now in
+    let within : t < length plan.threads = subst (λ (v : World). t < length v.plan.threads) (sym c.self.view_is) c.requires in
+    rw (← c.self.view_is) (λ r h.
+    c.has_ended.ensures
+    ∙ ap (λ (ops : List Op). thread_has_ended (length ops) th) c.operations.ensures
+    ∙ ends_as_said plan w.chains w.machine r t th h within (read w.machine (config_of plan w.chains) r.state t c.from.result th c.from.ensures h.shows.shows within c.index.ensures))

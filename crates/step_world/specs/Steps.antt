@@ -1,0 +1,59 @@
+-- What a method of a machine promises: where the objects show a lawful state in which a step may be made, they show the state behind it.
+use Rattle.std.specs.Prelude.{◌≡◌, ℕ, ◌<◌, ◌==◌, if◌then◌else◌, List, length, slice_get, option_map, Option, IfSome}
+use Rattle.std.specs.List.{Contains}
+use Rattle.lock_model.specs.State.{Config, State}
+use Rattle.lock_model.specs.Facts.{Lawful}
+use Rattle.lock_model.specs.declared.event.Event.{Event}
+use Rattle.lock_model.specs.declared.event.Event.TheVariants.{Set, Added}
+use Rattle.lock_model.specs.declared.event.Held.{Held}
+use Rattle.step_world.specs.declared.thread.Thread.{Thread}
+use Rattle.step_world.specs.declared.machine.Machine.{Machine}
+use Rattle.step_world.specs.Shows.{Shows}
+
+-- 1. Steps
+
+-- the machine shows a lawful state in which the step may be made
+abbrev pub May : Machine → (Config → State → Type 0) → Type 0
+May m guard = (c : Config) × (s : State) × Shows c m s × Lawful c s × guard c s
+
+-- whatever lawful state it showed in which the step may be made, it shows the state behind it
+abbrev pub Makes : Machine → Machine → (Config → State → Type 0) → (Config → State → State) → Type 0
+Makes old new guard effect = (c : Config) (s : State) → Shows c old s → Lawful c s → guard c s → Shows c new (effect c s)
+
+-- 2. What no column tells: how far each thread is, and the list of what it holds in order of acquisition
+
+pub record Aside : Type 0 where
+  pub place : ℕ
+  pub held : List Held
+
+abbrev pub aside_of : Thread → Aside
+aside_of th = record { place = th.place; held = th.held.items }
+
+-- of one thread
+abbrev pub aside : Machine → ℕ → Option Aside
+aside m t = option_map aside_of (slice_get m.threads.items t)
+
+-- this of all threads stays
+abbrev pub KeepsAsides : Machine → Machine → Type 0
+KeepsAsides old new = (u : ℕ) → aside new u ≡ aside old u
+
+-- that of one thread changes, and that of the others stays
+abbrev pub ChangesAside : Machine → Machine → ℕ → (Aside → Aside) → Type 0
+ChangesAside old new t f = (u : ℕ) → aside new u ≡ (if u == t then option_map f (aside old u) else aside old u)
+
+-- fewer locks than a thread may hold
+abbrev pub HoldsFew : Machine → ℕ → Type 0
+HoldsFew m t = IfSome (aside m t) (λ a. length a.held < 8)
+
+-- 3. Room
+
+-- no entry is made, and no table changes
+pub record KeepsBooks (old new : Machine) : Type 0 where
+  pub log : new.log ≡ old.log
+  pub tables : new.tables ≡ old.tables
+
+-- there is room for the key that an event edits
+abbrev pub HasKey : Machine → Event → Type 0
+HasKey m (Set l key value) = Contains m.tables.places (l.0, key)
+HasKey m (Added l key amount) = Contains m.tables.places (l.0, key)
+HasKey m other = Unit {0}

@@ -1,0 +1,29 @@
+-- A thread of the machine at its begin and at its end.
+use Rattle.std.specs.Prelude.{◌≡◌, ℕ, ◌≤◌, Bool, true, false, ◌&&◌, nat_le, [], None}
+use Rattle.std.specs.Vec.{vec_capacity}
+use Rattle.lock_model.specs.Counts.{is_empty}
+use Rattle.thread_records.specs.Records.{made}
+use Rattle.prio_lending.specs.declared.walk.Walk as walks
+use Rattle.prio_lending.specs.declared.walk.Walk.TheVariants as walk
+use Rattle.step_world.specs.declared.thread.Thread.{Thread}
+use Rattle.step_world.specs.declared.thread.Wait.TheVariants.{Running}
+
+-- it runs, has all its objects at home, and has made no operation
+pub record IsNew (t base : ℕ) (th : Thread) : Type 0 where
+  pub its_record : th.record.value ≡ made t base
+  pub running : th.wait ≡ Running
+  pub no_walk : th.walk ≡ walk.None
+  pub wants_none : th.wanted ≡ None
+  pub holds_none : th.held.items ≡ []
+  pub held_room : 8 ≤ vec_capacity th.held
+  pub unmarked : th.marked ≡ []
+  pub at_begin : th.place ≡ 0
+
+abbrev pub has_no_walk : walks.Walk → Bool
+has_no_walk walk.None = true
+has_no_walk (walk.AtLock l) = false
+has_no_walk (walk.AtThread t) = false
+
+-- whether it has so many operations behind it, owes nothing and holds nothing
+abbrev pub thread_has_ended : ℕ → Thread → Bool
+thread_has_ended operations th = nat_le operations th.place && has_no_walk th.walk && is_empty th.marked && is_empty th.held.items

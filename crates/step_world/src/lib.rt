@@ -1,0 +1,25 @@
+//! The scheduled run: one thread of control gives the threads of a plan their turns, and each turn is made on the very objects that block
+//! threads in FreeBSD: lock words, turnstiles in chains, and the records of threads.
+//!
+//! A turn is the first row that fits of a table (`lock_model`'s `specs/Run.antt`): a thread first makes its lending walk, then wakes
+//! those that it took off a queue, then waits, resumes, or makes its next operation. Between two turns the state is lawful; `lock_laws`
+//! shows that of the table, and this crate shows that its objects follow the table.
+//!
+//! - `world`: the world and its turns. After `World::make` no turn takes memory.
+//! - `schedule`: the run by a plan's schedule and then in rounds, to its outcome.
+//! - `machine`: the objects, and the steps that a turn is made of: `locks` (gains and releases), `queues` (blocking and waking), `walks`
+//!   (lending) and `notes` (entries of the history).
+//! - `thread`: what the machine keeps of a thread.
+//! - `outcome`: what is printed of a run.
+#![tactic(auto)]
+
+mod machine;
+mod outcome;
+mod schedule;
+mod thread;
+mod turns;
+mod world;
+
+pub use lock_model::{StepKind, Turn};
+pub use schedule::run_schedule;
+pub use world::World;

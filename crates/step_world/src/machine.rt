@@ -1,0 +1,88 @@
+//! The objects of a scheduled run: lock words, the chain of the turnstiles that are lent to locks, the threads, the history so far and the
+//! tables. Each method is one step of a thread, or of two in one turn, by the definitions of `lock_model`'s `specs/Moves..`.
+ghost use Rattle.std.specs.Prelude.{◌≡◌, ◌<◌, ◌+◌, ◌^◌, suc, ℕ, map, sum, length, IfOk, IfSome};
+ghost use Rattle.lock_model.specs.Operations.{IsProper, operations_in_all};
+ghost use Rattle.lock_model.specs.Plans.{config_of};
+ghost use Rattle.lock_model.specs.Run.{start_run};
+ghost use Rattle.lock_model.specs.State.{Config, State};
+ghost use Rattle.step_world.specs.Runs.{ShowsRun, AreNew};
+ghost use Rattle.step_world.specs.Shows.{Shows};
+ghost use Rattle.step_world.specs.Steps.{aside, ChangesAside, KeepsBooks};
+
+use crate::thread::Thread;
+use chain_table::Chain;
+use lock_history::{Log, Tables};
+use lock_model::{Plan, ThreadDecl, ThreadNo};
+use std::alloc::{AllocError, Global};
+use turnstile_core::Turnstile;
+
+mod locks;
+mod notes;
+mod queues;
+mod walks;
+
+/// The objects between two steps.
+#[derive(Drop)]
+pub struct Machine {
+    /// By lock: its word.
+    pub words: Vec<u64>,
+    /// The turnstiles that are lent to locks. There is one chain, whatever the number of slots.
+    pub chain: Chain<Turnstile>,
+    /// By thread.
+    pub threads: Vec<Thread>,
+    /// The entries so far, in order of their tickets.
+    pub log: Log,
+    /// What the locks protect.
+    pub tables: Tables,
+}
+
+impl Machine {
+    /// All objects at home, all locks free, and memory for every entry that the plan's operations can make.
+    pub fn make(alloc: Global, plan: &Plan) -> Result<Machine, AllocError>
+        requires { IsProper plan.now }
+        ensures { IfOk result (λ m. (chains : ℕ) → ShowsRun plan.now chains m (start_run (config_of plan.now chains))) }
+    {
+        Ok(Machine {
+            words: vec![in alloc; 0; plan.locks.as_slice().len()]?,
+            chain: Chain::empty(),
+            threads: make_threads(alloc, plan.threads.as_slice())?,
+            log: Log::make(alloc, count_operations(plan.threads.as_slice()))?,
+            tables: Tables::make(alloc, plan)?,
+        })
+    }
+
+    /// The thread has its operation behind it.
+    pub fn end_operation(&mut self, t: ThreadNo)
+        requires thread { t.0 < length self.old.threads.items }
+        requires within { IfSome (aside self.old t.0) (λ a. a.place < 20000) }
+        ensures shows { (c : Config) (s : State) → Shows c self.old s → Shows c self.new s }
+        ensures aside { ChangesAside self.old self.new t.0 (λ a. record a { place = suc a.place }) }
+        ensures books { KeepsBooks self.old self.new }
+    {
+        self.threads[usize::from(t.0)].place += 1;
+    }
+}
+
+// The threads of a plan at their begin.
+fn make_threads(alloc: Global, decls: &[ThreadDecl]) -> Result<Vec<Thread>, AllocError>
+    requires { length decls.now < 2 ^ 8 }
+    ensures { IfOk result (λ threads. AreNew decls.now threads.items) }
+{
+    let mut threads = Vec::with_capacity(alloc, decls.len())?;
+    for (t, decl) in decls.iter().enumerate() {
+        threads.push(Thread::make(alloc, ThreadNo(t as u8), decl.base)?)?;
+    }
+    Ok(threads)
+}
+
+// The operations of all threads. Each makes one entry.
+fn count_operations(decls: &[ThreadDecl]) -> u32
+    requires { sum (map (λ d. length d.ops) decls.now) < 2 ^ 32 }
+    ensures { result ≡ sum (map (λ d. length d.ops) decls.now) }
+{
+    let mut all = 0;
+    for decl in decls {
+        all += decl.ops.as_slice().len() as u32;
+    }
+    all
+}

@@ -1,0 +1,49 @@
+//! Entries of the history.
+ghost use Rattle.std.specs.Prelude.{◌≡◌, ◌≤◌, ◌<◌, ◌+◌, length};
+ghost use Rattle.lock_model.specs.History.{edited};
+ghost use Rattle.lock_model.specs.Moves.{MayStamp, after_stamp};
+ghost use Rattle.step_world.specs.Bases.{HasBaseAfter};
+ghost use Rattle.step_world.specs.Steps.{May, Makes, KeepsAsides, HasKey};
+
+use super::Machine;
+use lock_model::{Entry, Event, ThreadNo};
+
+impl Machine {
+    /// Makes an entry with the next ticket, and what the entry says of a table or of the thread's base priority.
+    pub fn stamp(&mut self, t: ThreadNo, event: Event)
+        requires may { May self.old (λ c s. MayStamp c s t.0 event) }
+        requires room { 1 ≤ self.old.log.spare }
+        requires key { HasKey self.old event }
+        ensures step { Makes self.old self.new (λ c s. MayStamp c s t.0 event) (λ c s. after_stamp c s t.0 event) }
+        ensures aside { KeepsAsides self.old self.new }
+        ensures places { self.new.tables.places ≡ self.old.tables.places }
+        ensures room { length self.new.log.entries + self.new.log.spare ≡ length self.old.log.entries + self.old.log.spare }
+    {
+        self.edit(t, event);
+        let ticket = self.log.len();
+        self.log.put(Entry {
+            ticket,
+            thread: t,
+            event,
+        });
+    }
+
+    // Changes what an event changes beside the history.
+    fn edit(&mut self, t: ThreadNo, event: Event)
+        requires thread { t.0 < length self.old.threads.items }
+        requires key { HasKey self.old event }
+        ensures tables { self.new.tables ≡ record self.old.tables { present = edited event self.old.tables.present } }
+        ensures threads { HasBaseAfter event t.0 self.old.threads.items self.new.threads.items }
+        ensures others { self.new ≡ record self.old { threads = self.new.threads; tables = self.new.tables } }
+    {
+        match event {
+            Event::Set { l, key, value } => self.tables.put(l, key, value),
+            Event::Added { l, key, amount } => {
+                let before = self.tables.get(l, key).unwrap_or(0);
+                self.tables.put(l, key, before.wrapping_add(amount));
+            }
+            Event::Base { prio } => self.threads[usize::from(t.0)].record.set_base(prio),
+            _ => {}
+        }
+    }
+}

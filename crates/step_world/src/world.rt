@@ -1,0 +1,113 @@
+//! The world of a scheduled run, and its turns.
+ghost use Rattle.std.specs.Prelude.{◌≡◌, ◌≤◌, ◌<◌, length, IfOk};
+ghost use Rattle.lock_model.specs.Facts.{Lawful};
+ghost use Rattle.lock_model.specs.Operations.{IsProper};
+ghost use Rattle.lock_model.specs.Plans.{config_of};
+ghost use Rattle.lock_model.specs.Run.{Run, start_run, turn_of, has_ended};
+ghost use Rattle.step_world.specs.Worlds.{Shows};
+
+use crate::machine::Machine;
+use crate::turns::{operations, turn};
+use lock_model::{Plan, ThreadNo, Turn};
+use std::alloc::{AllocError, Global};
+use std::marker::Model;
+
+/// A scheduled run between two turns. Its state is lawful: it shows a run of its plan that is on track.
+#[derive(Drop)]
+pub struct World<'p> {
+    plan: &'p Plan,
+    chains: u32,
+    machine: Machine,
+}
+
+impl<'p> Model for World<'p> {
+    ghost use Rattle.step_world.specs.Worlds.{World as Seen, IsSound};
+    ghost use Rattle.step_world.specs.contracts.machine.Machine as machines;
+    ghost use Rattle.std.specs.Coded.{codes};
+
+    ghost Value = { Seen };
+
+    ghost coded = { Prim.hlevel (codes, machines.the_row.coded) };
+
+    ghost view = { λ w. record {
+      plan = w.plan.now;
+      chains = w.chains;
+      machine = w.machine;
+    } };
+
+    ghost invariant = { λ w. IsSound (record {
+      plan = w.plan.now;
+      chains = w.chains;
+      machine = w.machine;
+    }) };
+}
+
+impl<'p> World<'p> {
+    /// The beginning of a run, with all memory that its turns will need. There are 1 to 64 chains of each sort. The plan is one that some
+    /// script gives.
+    pub fn make(alloc: Global, plan: &'p Plan, chains: u32) -> Result<World<'p>, AllocError>
+        requires proper { IsProper plan.now }
+        requires some_chains { 1 ≤ chains }
+        requires few_chains { chains ≤ 64 }
+        ensures plan { IfOk result (λ w. w.plan ≡ plan.now) }
+        ensures chains { IfOk result (λ w. w.chains ≡ chains) }
+        ensures begins { IfOk result (λ w. Shows w (start_run (config_of plan.now chains))) }
+    {
+        let machine = Machine::make(alloc, plan)?;
+        Ok(World {
+            plan,
+            chains,
+            machine,
+        })
+    }
+
+    /// Makes one turn of a thread, which the plan declares. `Ended` comes exactly where the thread has ended, and `Idle` exactly where it
+    /// is queued and owes nothing; both change nothing. It takes no memory.
+    pub fn turn(&mut self, t: ThreadNo) -> Turn
+        requires { t.0 < length self.old.plan.threads }
+        ensures plan { self.new.plan ≡ self.old.plan }
+        ensures chains { self.new.chains ≡ self.old.chains }
+        ensures answer { (r : Run) → Shows self.old r → result ≡ (turn_of self.old.plan self.old.chains r t.0).answer }
+        ensures turn { (r : Run) → Shows self.old r → Shows self.new (turn_of self.old.plan self.old.chains r t.0).run }
+        ensures lawful { (r : Run) × Shows self.new r × Lawful (config_of self.new.plan self.new.chains) r.state }
+    {
+        let world: &mut World<'p> = self;
+        turn(&mut world.machine, world.plan, t)
+    }
+
+    /// Whether a thread, which the plan declares, has ended: its operations are done, it owes nothing and holds nothing.
+    pub fn has_ended(&self, t: ThreadNo) -> bool
+        requires { t.0 < length self.now.plan.threads }
+        ensures { (r : Run) → Shows self.now r → result ≡ has_ended self.now.plan self.now.chains r t.0 }
+    {
+        self.machine.threads[usize::from(t.0)].has_ended(operations(self.plan, t))
+    }
+
+    /// The number of threads.
+    pub fn threads(&self) -> u8
+        ensures number { result ≡ length self.now.plan.threads }
+    {
+        self.machine.threads.len() as u8
+    }
+
+    /// The number of chains of each sort.
+    pub(crate) fn chains(&self) -> u32
+        ensures { result ≡ self.now.chains }
+    {
+        self.chains
+    }
+
+    /// The objects, to be told of.
+    pub(crate) fn machine(&self) -> &Machine
+        ensures { result.now ≡ self.now.machine }
+    {
+        &self.machine
+    }
+
+    /// The objects.
+    pub(crate) fn into_machine(self) -> Machine
+        ensures { result ≡ self.entry.machine }
+    {
+        self.machine
+    }
+}
