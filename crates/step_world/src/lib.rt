@@ -7,6 +7,7 @@
 //!
 //! - `world`: the world and its turns. After `World::make` no turn takes memory.
 //! - `schedule`: the run by a plan's schedule and then in rounds, to its outcome.
+//! - `turns`: the table, one function a row: which steps a thread makes in its turn.
 //! - `machine`: the objects, and the steps that a turn is made of: `locks` (gains and releases), `queues` (blocking and waking), `walks`
 //!   (lending) and `notes` (entries of the history).
 //! - `thread`: what the machine keeps of a thread.
