@@ -3,17 +3,18 @@ use Rattle.std.proofs.Common.{◌≡◌, ℕ, zero, suc, ◌<◌, ◌≤◌, Boo
 use Rattle.std.proofs.lemmas.Bool.{ne_eqb, cases_eq, cases_Bool, leb-true, le-leb, or_cases, and_parts}
 use Rattle.std.proofs.lemmas.Map.Steps.{length-le_from_distinct_below}
 use Rattle.std.specs.List.{IsDistinct, AllByRecursion, list_any}
-use Rattle.lock_model.specs.Counts.{any_below, least, lower, some}
+use Rattle.lock_model.specs.Counts.{any_below, least, lower}
 use Rattle.lock_model.specs.Words.{is_turnstile}
 use Rattle.lock_model.specs.State.{State, Config, Waiter, Lists, Loan, NotHeld, Holds}
 use Rattle.lock_model.specs.Moves.{prio_of}
 use Rattle.lock_model.specs.Queues.{lock_queue, times_waiting, stands, least_kept, least_of_two, least_of}
-use Rattle.lock_model.specs.Facts.{Lawful, KeptIsEffective, LoansAreLeast, LoansAreWithOwners, OwnersHold, HeadsFitWaiters, EffectiveIsLeast, StandsOnce, OnlyThreadsStand, StandingWants, WordsMatchHolders}
+use Rattle.lock_model.specs.Facts.{Lawful, KeptIsEffective, LoansAreLeast, LoansAreWithOwners, OwnersHold, EffectiveIsLeast, StandsOnce, OnlyThreadsStand, StandingWants, WordsMatchHolders}
 use Rattle.lock_model.specs.FactsOfWords.{owns}
 use Rattle.lock_model.specs.FactsOfLoans.{Each, EachOf, IsKept, walks_at_lock, walks_at_thread, at_lock, at_thread}
 use Rattle.lock_model.specs.Best.{is_behind, best_within, best_behind, WaitsFor, WaitsAlong, HasCycle, NobodyWalks}
 use Rattle.lock_model.specs.declared.plan.Mode.TheVariants.{Excl}
 use Rattle.lock_laws.proofs.Kit.{at_queue_one, sum_below-zero}
+use Rattle.lock_laws.proofs.HeadsOfWaiters.{standing_head}
 use Rattle.lock_laws.proofs.Lending.{least-le_base}
 use Rattle.lock_laws.proofs.Shown.{true-any_below, owner_from, owner-owns, exclusive_is}
 use Rattle.lock_laws.proofs.Words.{owns_is}
@@ -126,10 +127,6 @@ least_of-is k q p e l = go (least_kept q.exclusive) (least_kept q.shared) refl r
         let m : min b a ≡ p = cc in
         elim (cases_eq a p) [ inl v ↦ left a x v | inr v ↦ right b y (omega arith) ]
 
-times_waiting-le : (u : ℕ) (ws : List Waiter) → times_waiting u ws ≤ length ws
-times_waiting-le u [] = omega arith
-times_waiting-le u (w ∷ ws) = let r = times_waiting-le u ws in elim (cases_Bool (eqb u w.thread)) [ inl e ↦ rw e (omega arith) | inr e ↦ rw e (omega arith) ]
-
 -- 3. Who is behind whom
 
 module _ (c : Config) (s : State) where
@@ -220,24 +217,10 @@ module _ (c : Config) (s : State) (h : Lawful c s) where
   no_loop : (HasCycle s → ⊥) → Loop c s → ⊥
   no_loop free p = free (p.0, along p.0 p.0 p.1.0 [] p.1.1 tt)
 
-  some_head : (l u : ℕ) → 1 ≤ stands u (s.lists (lock_queue l)) → (x : ℕ) × (s.head (lock_queue l) ≡ Some x)
-  unfolding HeadsFitWaiters
-  some_head l u k = go (s.head (lock_queue l)) refl
-    where
-      go : (o : Option ℕ) → s.head (lock_queue l) ≡ o → (x : ℕ) × (o ≡ Some x)
-      go None e =
-          let a = times_waiting-le u (s.lists (lock_queue l)).exclusive in
-          let b = times_waiting-le u (s.lists (lock_queue l)).shared in
-          let d = ap length ((h.heads_fit_waiters (lock_queue l)).no_free e) in
-          let f = ap some e in
-          let i = (h.heads_fit_waiters (lock_queue l)).balanced in
-          absurd (omega arith)
-      go (Some x) e = (x, refl)
-
   owner-here : (t l u : ℕ) → is_turnstile (c.kind l) ≡ true → 1 ≤ stands u (s.lists (lock_queue l)) → owns t (s.word l).holder ≡ true → s.owner (lock_queue l) ≡ Some t
   unfolding OwnersHold
   owner-here t l u i k e =
-      let x = some_head l u k in
+      let x = standing_head c s u (lock_queue l) h k in
       let a = owns_is t (s.word l).holder e in
       h.owners_hold l ∙ rw (i, x.1, a) refl
 

@@ -1,6 +1,6 @@
 -- Where the turnstiles and the loan nodes of a lawful state are, and who owns a head.
 use Rattle.std.proofs.Common.{◌≡◌, ℕ, ◌+◌, ◌<◌, ◌≤◌, Bool, true, false, ltb, ◌&&◌, Option, Some, None, refl, sym, ap, inl, inr, arith, ◌∙◌}
-use Rattle.std.proofs.lemmas.Bool.{ne_eqb, cases_eq, cases_lt}
+use Rattle.std.proofs.lemmas.Bool.{ne_eqb, cases_lt}
 use Rattle.lock_model.specs.Counts.{sum_below, one, at_option}
 use Rattle.lock_model.specs.Words.{is_turnstile}
 use Rattle.lock_model.specs.State.{Config, State, Loan, Holds}
@@ -8,9 +8,9 @@ use Rattle.lock_model.specs.Queues.{lock_queue}
 use Rattle.lock_model.specs.Facts.{Lawful, OneTurnstileEach, OneNodeEach, OwnersHold, LoansAreWithOwners, LoansAreOnHeads, WordsMatchHolders, OnlyThreadsHold}
 use Rattle.lock_model.specs.FactsOfQueues.{only, turnstile_places, at_loan, loans_on}
 use Rattle.lock_model.specs.declared.plan.Mode.TheVariants.{Excl}
-use Rattle.lock_laws.proofs.Kit.{sum_below-two, sum_below-zero, sum_below-at, one_same}
+use Rattle.lock_laws.proofs.Kit.{sum_below-zero, sum_below-at, one_same}
 use Rattle.lock_laws.proofs.Beyond.{beyond_none}
-use Rattle.lock_laws.proofs.Nodes.{some_waiting}
+use Rattle.lock_laws.proofs.Nodes.{some_waiting, heads_differ, head_inside}
 use Rattle.lock_laws.proofs.Shown.{owner_from, exclusive_is, owner-owns, lent_held}
 
 -- 1. Owners
@@ -43,12 +43,7 @@ home_once s x t e = rw e (one_same x)
 
 pub heads_apart : (c : Config) (s : State) (l k x : ℕ) → Lawful c s → l < c.locks → k < c.locks → is_turnstile (c.kind l) ≡ true → is_turnstile (c.kind k) ≡ true
     → s.head (lock_queue l) ≡ Some x → s.head (lock_queue k) ≡ Some x → l ≡ k
-unfolding OneTurnstileEach turnstile_places
-heads_apart c s l k x h lt kt tl tk el ek =
-    elim (cases_eq l k) [
-      | inl i ↦ i
-      | inr i ↦ absurd (let a = sum_below-two c.locks (at_head c s x) l k lt kt i in omega (arith, h.one_turnstile_each x, head_once c s x l tl el, head_once c s x k tk ek, one_le (ltb x c.threads)))
-    ]
+heads_apart c s l k x h lt kt tl tk el ek = heads_differ c s h l k x lt kt tl tk el ek
 
 pub heads_out : (c : Config) (s : State) (t l x : ℕ) → Lawful c s → t < c.threads → l < c.locks → is_turnstile (c.kind l) ≡ true → s.turnstile t ≡ Some x → s.head (lock_queue l) ≡ Some x → ⊥
 unfolding OneTurnstileEach turnstile_places
@@ -61,18 +56,12 @@ is_one : (b : Bool) → 1 ≤ one b → b ≡ true
 is_one true l = refl
 is_one false l = absurd (omega arith)
 
--- a turnstile at home is a thread's, and so is a head
+-- a turnstile at home is a thread's
 home_inside : (c : Config) (s : State) (t x : ℕ) → Lawful c s → t < c.threads → s.turnstile t ≡ Some x → ltb x c.threads ≡ true
 unfolding OneTurnstileEach turnstile_places
 home_inside c s t x h lt e =
     let a = sum_below-at c.threads (λ u. at_option x (s.turnstile u)) t lt in
     is_one (ltb x c.threads) (omega (arith, h.one_turnstile_each x, home_once s x t e))
-
-head_inside : (c : Config) (s : State) (l x : ℕ) → Lawful c s → l < c.locks → is_turnstile (c.kind l) ≡ true → s.head (lock_queue l) ≡ Some x → ltb x c.threads ≡ true
-unfolding OneTurnstileEach turnstile_places
-head_inside c s l x h lt k e =
-    let a = sum_below-at c.locks (at_head c s x) l lt in
-    is_one (ltb x c.threads) (omega (arith, h.one_turnstile_each x, head_once c s x l k e))
 
 -- 3. Loan nodes
 
@@ -104,7 +93,7 @@ node_home c s t x h lt e =
 -- the node of a head is at home where nobody has a loan for its lock
 unlent_home : (c : Config) (s : State) (l x : ℕ) → Lawful c s → l < c.locks → is_turnstile (c.kind l) ≡ true → s.head (lock_queue l) ≡ Some x → ((u : ℕ) (y : Loan) → s.loan u l ≡ Some y → ⊥) → s.loan_home x ≡ true
 unlent_home c s l x h lt k e none =
-    unused_home c s x h (head_inside c s l x h lt k e) (λ u i y j f n. let r = loan_head c s u i y h f in let d = heads_apart c s l i x h lt j k r.0 e (r.1 ∙ ap Some (sym n)) in none u y (ap (s.loan u) d ∙ f))
+    unused_home c s x h (head_inside c s h l x lt k e) (λ u i y j f n. let r = loan_head c s u i y h f in let d = heads_apart c s l i x h lt j k r.0 e (r.1 ∙ ap Some (sym n)) in none u y (ap (s.loan u) d ∙ f))
 
 pub owned_home : (c : Config) (s : State) (l x o : ℕ) → Lawful c s → l < c.locks → is_turnstile (c.kind l) ≡ true
     → s.head (lock_queue l) ≡ Some x → s.owner (lock_queue l) ≡ Some o → s.loan o l ≡ None → s.loan_home x ≡ true

@@ -140,7 +140,7 @@ module _ (c : Config) (s : State) (h : Lawful c s) where
   some_waiting l y e = let a = ap some e in omega (arith, (h.heads_fit_waiters (lock_queue l)).balanced)
 
   -- two turnstiles have different heads
-  heads_differ : (l k y : ℕ) → l < c.locks → k < c.locks → is_turnstile (c.kind l) ≡ true → is_turnstile (c.kind k) ≡ true → s.head (lock_queue l) ≡ Some y → s.head (lock_queue k) ≡ Some y → l ≡ k
+  pub heads_differ : (l k y : ℕ) → l < c.locks → k < c.locks → is_turnstile (c.kind l) ≡ true → is_turnstile (c.kind k) ≡ true → s.head (lock_queue l) ≡ Some y → s.head (lock_queue k) ≡ Some y → l ≡ k
   unfolding OneTurnstileEach turnstile_places
   heads_differ l k y lt kt tl tk el ek =
       elim (cases_eq l k) [
@@ -177,7 +177,7 @@ module _ (c : Config) (s : State) (h : Lawful c s) where
   lent l y = loan_of y (least_of (s.lists (lock_queue l)))
 
   -- a head is a thread's turnstile
-  head_inside : (l y : ℕ) → l < c.locks → is_turnstile (c.kind l) ≡ true → s.head (lock_queue l) ≡ Some y → ltb y c.threads ≡ true
+  pub head_inside : (l y : ℕ) → l < c.locks → is_turnstile (c.kind l) ≡ true → s.head (lock_queue l) ≡ Some y → ltb y c.threads ≡ true
   unfolding OneTurnstileEach turnstile_places
   head_inside l y lt t e =
       let f : ℕ → ℕ = λ j. only (is_turnstile (c.kind j)) (at_option y (s.head (lock_queue j))) in

@@ -1,5 +1,5 @@
 -- A thread takes a lock that is free, and puts one down that it holds.
-use Rattle.std.proofs.Common.{◌≡◌, ◌≢◌, ℕ, suc, ◌+◌, ◌<◌, ◌≤◌, Bool, true, false, not, cond, nat_lt, List, [], ◌∷◌, ◌++◌, length, get_or, slice_get, Some, None, refl, sym, ap, subst, ◌∙◌, arith, inl, inr, position, eq-eqb}
+use Rattle.std.proofs.Common.{◌≡◌, ◌≢◌, ℕ, ◌+◌, ◌<◌, ◌≤◌, true, false, not, cond, nat_lt, List, [], ◌∷◌, ◌++◌, length, get_or, slice_get, Some, None, refl, sym, ap, subst, ◌∙◌, arith, inl, inr, position, eq-eqb}
 use Rattle.std.specs.Prelude.{◌==◌, remove, IfSome, option_map}
 use Rattle.std.specs.Global.{Vec}
 use Rattle.std.specs.List.{position_or_len}
@@ -20,6 +20,7 @@ use Rattle.lock_model.specs.declared.numbers.LockNo.{LockNo}
 use Rattle.lock_model.specs.declared.event.Held.{Held}
 use Rattle.lock_laws.proofs.Kit.{put_same, put_other, put_at_same, put_at_other, put_at_beside}
 use Rattle.lock_laws.proofs.Words.{owner_is}
+use Rattle.lock_laws.proofs.AcceptedLists.{removed_is}
 use Rattle.lock_laws.proofs.HeldLists.{Apart, hold_in-push, hold_in-without}
 use Rattle.lock_words.specs.Views.{IsHeldIn}
 use Rattle.step_world.specs.declared.machine.Machine.{Machine}
@@ -30,24 +31,12 @@ use Rattle.step_world.proofs.Kit.{SameAt, thread_changed, word_changed}
 
 -- 1. The list without a lock
 
-removed_at : (l : LockNo) (hs : List Held) → position_or_len (holds_lock l) hs < length hs → remove hs (position_or_len (holds_lock l) hs) ≡ without_lock l.0 hs
-removed_at l [] e = absurd (omega arith)
-removed_at l (h ∷ hs) e =
-    let n = position_or_len (holds_lock l) hs in
-    let place : Bool → ℕ = λ b. cond (not b) (1 + n) 0 in
-    elim (h.l.0 == l.0) as (λ b. place b < length (h ∷ hs) → remove (h ∷ hs) (place b) ≡ cond b hs (h ∷ without_lock l.0 hs)) [
-      | true ↦ λ q. refl
-      | false ↦ λ q.
-          let next : suc n ≡ 1 + n = omega arith in
-          subst (λ m. remove (h ∷ hs) m ≡ h ∷ without_lock l.0 hs) next (ap (λ gs. h ∷ gs) (removed_at l hs (omega arith)))
-    ] e
-
 -- the lock is taken out at its place
 pub taken_out : (l : LockNo) (hs : List Held) (i : ℕ) → position (holds_lock l) hs ≡ Some i → remove hs i ≡ without_lock l.0 hs
 taken_out l hs i e =
     let n = position_or_len (holds_lock l) hs in
     let f = cond_some (nat_lt n (length hs)) n i e in
-    subst (λ (k : ℕ). remove hs k ≡ without_lock l.0 hs) f.1 (removed_at l hs (ltb-true n (length hs) f.0))
+    subst (λ (k : ℕ). remove hs k ≡ without_lock l.0 hs) f.1 (removed_is l hs (ltb-true n (length hs) f.0)).1
 
 -- and where it has no place, the list has it not
 has_none : (l : LockNo) (hs : List Held) → length hs ≤ position_or_len (holds_lock l) hs → hs ≡ without_lock l.0 hs

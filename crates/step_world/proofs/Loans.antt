@@ -1,8 +1,10 @@
 -- What a thread's list of loans says by lock.
-use Rattle.std.proofs.Common.{◌≡◌, ◌≢◌, ℕ, zero, suc, ◌<◌, ◌≤◌, eqb, cond, List, [], ◌∷◌, Option, None, Some, option_map, inl, inr, refl, sym, ap, ◌∙◌, arith, eq-eqb}
+use Rattle.std.proofs.Common.{◌≡◌, ◌≢◌, ℕ, ◌≤◌, eqb, cond, List, [], ◌∷◌, Option, None, Some, option_map, inl, inr, refl, sym, ap, ◌∙◌, arith, eq-eqb}
 use Rattle.std.specs.Option.{is_some}
 use Rattle.std.proofs.lemmas.Bool.{ne_eqb, cases_eq, cases_lt}
-use Rattle.lock_model.specs.Counts.{lower, least}
+use Rattle.lock_model.specs.Counts.{least}
+use Rattle.lock_laws.proofs.Best.{least-le, least-above}
+use Rattle.lock_laws.proofs.Lending.{least-le_base}
 use Rattle.turnstile_core.specs.Seen.{Terms}
 use Rattle.turnstile_core.specs.Lists.{least_with}
 use Rattle.thread_records.specs.Loans.{prios, has_loan, loan_for, without_loan, loans_for}
@@ -71,44 +73,13 @@ least_with-above base m (t ∷ ts) one each le =
 
 -- 4. The least of a base and a column
 
-lower-le : (o : Option ℕ) (d p : ℕ) → o ≡ Some p → lower o d ≤ p
-lower-le None d p e = absurd cc
-lower-le (Some q) d p e = let same : q ≡ p = cc in omega arith
-
-lower-le_rest : (o : Option ℕ) (d : ℕ) → lower o d ≤ d
-lower-le_rest None d = omega arith
-lower-le_rest (Some q) d = omega arith
-
-lower-above : (o : Option ℕ) (d m : ℕ) → ((p : ℕ) → o ≡ Some p → m ≤ p) → m ≤ d → m ≤ lower o d
-lower-above None d m each le = le
-lower-above (Some q) d m each le = let here = each q refl in omega arith
-
-least-le_base : (n : ℕ) (f : ℕ → Option ℕ) (base : ℕ) → least n f base ≤ base
-unfolding least
-least-le_base zero f base = omega arith
-least-le_base (suc n) f base = omega (arith, lower-le_rest (f n) (least n f base), least-le_base n f base)
-
-least-le : (n : ℕ) (f : ℕ → Option ℕ) (base l p : ℕ) → l < n → f l ≡ Some p → least n f base ≤ p
-unfolding least
-least-le zero f base l p k e = absurd (omega arith)
-least-le (suc n) f base l p k e =
-    elim (cases_eq l n) [
-      | inl same ↦ lower-le (f n) (least n f base) p (ap f (sym same) ∙ e)
-      | inr other ↦ omega (arith, least-le n f base l p (omega arith) e, lower-le_rest (f n) (least n f base))
-    ]
-
-least-above : (n : ℕ) (f : ℕ → Option ℕ) (base m : ℕ) → ((l p : ℕ) → f l ≡ Some p → m ≤ p) → m ≤ base → m ≤ least n f base
-unfolding least
-least-above zero f base m each le = le
-least-above (suc n) f base m each le = lower-above (f n) (least n f base) m (each n) (least-above n f base m each le)
-
 -- The least of a base and the loans is that of a column with what is lent for each lock below n, where nothing is lent for others
 pub least_with-by_lock : (n base : ℕ) (loans : List Terms) (f : ℕ → Option ℕ)
     → ((l : ℕ) → option_map (λ t. t.prio) (loan_for l loans) ≡ f l) → ((l : ℕ) → n ≤ l → f l ≡ None) → ((l : ℕ) → loans_for l loans ≤ 1)
     → least_with base (prios loans) ≡ least n f base
 least_with-by_lock n base loans f same above one =
     let down : least_with base (prios loans) ≤ least n f base =
-    least-above n f base (least_with base (prios loans)) (λ l p e. least_with-le base loans l p (same l ∙ e)) (least_with-le_base base loans) in
+    least-above n f base (least_with base (prios loans)) (λ l p k e. least_with-le base loans l p (same l ∙ e)) (least_with-le_base base loans) in
     let up : least n f base ≤ least_with base (prios loans) =
     least_with-above base (least n f base) loans one
     (λ l p e. elim (cases_lt l n) [
