@@ -168,7 +168,13 @@ fn threads_that_block(rt: HostRuntime) -> Result<(), Fail> {
         "lockrun 1\nmutex m k\nthread p 0\nlock m\nget m 1\nset m 1 18446744073709551615\nadd m 1 2\nget m 1\nunlock m\nend\ndone\n";
     let wraps_text =
         "0 p lock m\n1 p get m 1 -\n2 p set m 1 18446744073709551615\n3 p add m 1 2\n4 p get m 1 1\n5 p unlock m\nthread p base 0 eff 0\ntable m 1 1\nok\n";
-    let table: [Case; 7] = [
+    let lent_text =
+        "0 p lock m\n1 p show 100 50\n2 p unlock m\n3 q lock m\n4 q add m 1 3\n5 q unlock m\nthread p base 100 eff 100\nthread q base 50 eff 50\ntable m 1 3\nok\n";
+    let ties_text =
+        "0 o lock m\n1 o show 200 50\n2 o unlock m\n3 b lock m\n4 b unlock m\n5 c lock m\n6 c unlock m\n7 a lock m\n8 a unlock m\nthread o base 200 eff 200\nthread a base 100 eff 100\nthread b base 50 eff 50\nthread c base 50 eff 50\nok\n";
+    let table: [Case; 9] = [
+        (STEP, LENT, NEVER, NEVER, Status::Done, lent_text),
+        (STEP, TIES, NEVER, NEVER, Status::Done, ties_text),
         (STEP, BLOCKING, NEVER, NEVER, Status::Done, BLOCKING_TEXT),
         (STEP, STUCK, NEVER, NEVER, Status::Stuck, STUCK_TEXT),
         (STEP, chain, NEVER, NEVER, Status::Done, chain_text),
@@ -183,14 +189,15 @@ fn threads_that_block(rt: HostRuntime) -> Result<(), Fail> {
     Ok(())
 }
 
+const TIES: &str =
+    "lockrun 1\nmutex m k\nthread o 200\nlock m\nshow\nunlock m\nend\nthread a 100\nlock m\nunlock m\nend\nthread b 50\nlock m\nunlock m\nend\nthread c 50\nlock m\nunlock m\nend\nschedule o a a b b c c\ndone\n";
+
 const LENT: &str =
     "lockrun 1\nmutex m a\nthread p 100\nlock m\nshow\nunlock m\nend\nthread q 50\nlock m\nadd m 1 3\nunlock m\nend\nschedule p q q p p p q\ndone\n";
 
 // Runs that are cut off behind so many turns: a first waiter, a loan that was made, and equals in order of arrival.
 #[test]
 fn runs_that_are_too_long(rt: HostRuntime) -> Result<(), Fail> {
-    let ties =
-        "lockrun 1\nmutex m k\nthread o 200\nlock m\nshow\nunlock m\nend\nthread a 100\nlock m\nunlock m\nend\nthread b 50\nlock m\nunlock m\nend\nthread c 50\nlock m\nunlock m\nend\nschedule o a a b b c c\ndone\n";
     cut_off(
         &rt,
         BLOCKING,
@@ -205,7 +212,7 @@ fn runs_that_are_too_long(rt: HostRuntime) -> Result<(), Fail> {
     )?;
     cut_off(
         &rt,
-        ties,
+        TIES,
         7,
         "0 o lock m\nqueue m slot 0 head a free c,b excl b@50,c@50,a@100 shared -\nthread o base 200 eff 50\nthread a base 100 eff 100\nthread b base 50 eff 50\nthread c base 50 eff 50\ntoolong\n",
     )
