@@ -61,8 +61,8 @@ impl<'p> World<'p> {
         })
     }
 
-    /// Makes one turn of a thread, which the plan declares. `Ended` comes exactly where the thread has ended, and `Idle` exactly where it
-    /// is queued and owes nothing; both change nothing. It takes no memory.
+    /// Makes one turn of a thread, which the plan declares: the first row of the table that fits, with its answer. `Ended` comes where the
+    /// thread has ended, and `Idle` where it is queued and owes nothing; both change nothing. It takes no memory.
     pub fn turn(&mut self, t: ThreadNo) -> Turn
         requires { t.0 < length self.old.plan.threads }
         ensures plan { self.new.plan ≡ self.old.plan }
