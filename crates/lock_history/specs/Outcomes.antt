@@ -3,7 +3,7 @@ use Rattle.std.specs.Prelude.{ℕ, List, ◌∷◌, map, flat_map}
 use Rattle.std.specs.FinMap.{entries}
 use Rattle.lock_model.specs.declared.numbers.Prio.{Prio}
 use Rattle.lock_model.specs.declared.numbers.ThreadNo.{ThreadNo}
-use Rattle.lock_model.specs.State.{Waiter}
+use Rattle.lock_model.specs.Queues.{Waiter}
 use Rattle.lock_model.specs.Text as text
 use Rattle.lock_history.specs.Endings.{ending_of, numbers_of}
 use Rattle.lock_history.specs.declared.outcome.Outcome.{Outcome}

@@ -8,9 +8,8 @@ use Rattle.std.proofs.lemmas.Bool.Decides.{nat_tests}
 use Rattle.std.proofs.lemmas.List.{map-append}
 use Rattle.std.proofs.lemmas.List.Sums.{sum_by-append}
 use Rattle.std.proofs.lemmas.List.Elements.{All-cons, All-head, All-tail}
-use Rattle.lock_model.specs.State.{Holds}
-use Rattle.lock_model.specs.History.{is_exclusive}
-use Rattle.lock_model.specs.Operations.{is_unheld, hold_in, without_lock, held_behind, held_through}
+use Rattle.lock_model.specs.Holds.{Holds, is_exclusive, is_unheld}
+use Rattle.lock_model.specs.Operations.{hold_in, without_lock, held_behind, held_through}
 use Rattle.lock_model.specs.Script.{holds_lock, is_empty}
 use Rattle.lock_model.specs.declared.plan.Mode.TheVariants.{Excl}
 use Rattle.lock_model.specs.declared.plan.Op.{Op}

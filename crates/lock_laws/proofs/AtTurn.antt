@@ -2,14 +2,15 @@
 use Rattle.std.proofs.Common.{◌≡◌, ◌⊎◌, ℕ, zero, suc, ◌+◌, ◌<◌, ◌≤◌, true, not, ◌||◌, List, [], ◌∷◌, length, Option, Some, None, refl, sym, ap, inl, inr, arith, eq-eqb, ◌∙◌}
 use Rattle.lock_model.specs.Counts.{some, sum_below}
 use Rattle.lock_model.specs.Words.{Holder, Free, HeldBy, SharedBy, IsPossible, IsWellFormed, is_turnstile, owner_of, is_free, without_one, shows_waiters, is_drop}
-use Rattle.lock_model.specs.History.{is_exclusive}
+use Rattle.lock_model.specs.Holds.{is_exclusive, Hold, NotHeld, Holds}
 use Rattle.lock_model.specs.Plans.{operations_of}
 use Rattle.lock_model.specs.Operations.{IsProper}
-use Rattle.lock_model.specs.State.{Config, State, Hold, NotHeld, Holds, Waiter}
-use Rattle.lock_model.specs.Queues.{lock_queue, stands, times_waiting}
-use Rattle.lock_model.specs.Facts.{Lawful, TurnstileIsLent, WordsMatchHolders, OnlyThreadsHold, OnlyThreadsStand, HeadsFitWaiters, OwnersHold}
-use Rattle.lock_model.specs.FactsOfWords.{owns, shares}
-use Rattle.lock_model.specs.Run.{Run}
+use Rattle.lock_model.specs.Config.{Config}
+use Rattle.lock_state.specs.State.{State}
+use Rattle.lock_model.specs.Queues.{Waiter, lock_queue, stands, times_waiting}
+use Rattle.lock_state.specs.Facts.{Lawful, TurnstileIsLent, WordsMatchHolders, OnlyThreadsHold, OnlyThreadsStand, HeadsFitWaiters, OwnersHold}
+use Rattle.lock_state.specs.Facts.Words.{owns, shares}
+use Rattle.lock_state.specs.Run.{Run}
 use Rattle.lock_model.specs.declared.plan.Mode.TheVariants.{Excl, Shared}
 use Rattle.lock_model.specs.declared.plan.Plan.{Plan}
 use Rattle.lock_model.specs.declared.plan.QueueName.{QueueName}
@@ -57,7 +58,7 @@ drop_where_none_shown c s t l h e = go (s.word l).holder (sym ((h.words_match_ho
 -- 2. Objects
 
 -- a thread that stands on no queue has its turnstile
-pub has_turnstile : (c : Config) (s : State) (t : ℕ) → Lawful c s → s.named t ≡ None → (x : ℕ) × (s.turnstile t ≡ Some x)
+pub has_turnstile : (c : Config) (s : State) (t : ℕ) → Lawful c s → s.blocked_on t ≡ None → (x : ℕ) × (s.turnstile t ≡ Some x)
 unfolding TurnstileIsLent
 has_turnstile c s t h e = go (s.turnstile t) refl
   where
@@ -105,11 +106,11 @@ no_owner_found c s l h k e = go (s.head (lock_queue l)) refl
     go (Some y) f = inr (sym (h.owners_hold l ∙ rw (k, f) refl) ∙ e)
 
 -- the record of a number beyond the plan's threads names nothing
-pub beyond_unnamed : (c : Config) (s : State) (t : ℕ) → Lawful c s → c.threads ≤ t → s.named t ≡ None
+pub beyond_unnamed : (c : Config) (s : State) (t : ℕ) → Lawful c s → c.threads ≤ t → s.blocked_on t ≡ None
 unfolding OnlyThreadsStand
-beyond_unnamed c s t h l = go (s.named t) refl
+beyond_unnamed c s t h l = go (s.blocked_on t) refl
   where
-    go : (o : Option QueueName) → s.named t ≡ o → o ≡ None
+    go : (o : Option QueueName) → s.blocked_on t ≡ o → o ≡ None
     go None e = refl
     go (Some q) e = absurd (let a = h.only_threads_stand t q e in omega (arith, a))
 

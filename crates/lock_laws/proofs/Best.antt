@@ -5,13 +5,15 @@ use Rattle.std.proofs.lemmas.Map.Steps.{length-le_from_distinct_below}
 use Rattle.std.specs.List.{IsDistinct, AllByRecursion, list_any}
 use Rattle.lock_model.specs.Counts.{any_below, least, lower}
 use Rattle.lock_model.specs.Words.{is_turnstile}
-use Rattle.lock_model.specs.State.{State, Config, Waiter, Lists, Loan, NotHeld, Holds}
-use Rattle.lock_model.specs.Moves.{prio_of}
-use Rattle.lock_model.specs.Queues.{lock_queue, times_waiting, stands, least_kept, least_of_two, least_of}
-use Rattle.lock_model.specs.Facts.{Lawful, KeptIsEffective, LoansAreLeast, LoansAreWithOwners, OwnersHold, EffectiveIsLeast, StandsOnce, OnlyThreadsStand, StandingWants, WordsMatchHolders}
-use Rattle.lock_model.specs.FactsOfWords.{owns}
-use Rattle.lock_model.specs.FactsOfLoans.{Each, EachOf, IsKept, walks_at_lock, walks_at_thread, at_lock, at_thread}
-use Rattle.lock_model.specs.Best.{is_behind, best_within, best_behind, WaitsFor, WaitsAlong, HasCycle, NobodyWalks}
+use Rattle.lock_state.specs.State.{State, Loan}
+use Rattle.lock_model.specs.Config.{Config}
+use Rattle.lock_model.specs.Queues.{Waiter, Lists, lock_queue, times_waiting, stands, least_kept, least_of_two, least_of}
+use Rattle.lock_model.specs.Holds.{NotHeld, Holds}
+use Rattle.lock_state.specs.Steps.LockWords.{prio_of}
+use Rattle.lock_state.specs.Facts.{Lawful, KeptIsEffective, LoansAreLeast, LoansAreWithOwners, OwnersHold, EffectiveIsLeast, StandsOnce, OnlyThreadsStand, StandingWants, WordsMatchHolders}
+use Rattle.lock_state.specs.Facts.Words.{owns}
+use Rattle.lock_state.specs.Facts.Loans.{Each, EachOf, IsKept, walks_at_lock, walks_at_thread, at_lock, at_thread}
+use Rattle.lock_state.specs.Best.{is_behind, best_within, best_behind, WaitsFor, WaitsAlong, HasCycle, NobodyWalks}
 use Rattle.lock_model.specs.declared.plan.Mode.TheVariants.{Excl}
 use Rattle.lock_laws.proofs.Kit.{at_queue_one, sum_below-zero}
 use Rattle.lock_laws.proofs.HeadsOfWaiters.{standing_head}
@@ -191,9 +193,9 @@ module _ (c : Config) (s : State) where
 -- 5. One level
 
 module _ (c : Config) (s : State) (h : Lawful c s) where
-  named_here : (u l : ℕ) → 1 ≤ stands u (s.lists (lock_queue l)) → s.named u ≡ Some (lock_queue l)
+  named_here : (u l : ℕ) → 1 ≤ stands u (s.lists (lock_queue l)) → s.blocked_on u ≡ Some (lock_queue l)
   unfolding StandsOnce
-  named_here u l k = at_queue_one (lock_queue l) (s.named u) (omega (arith, h.stands_once u (lock_queue l)))
+  named_here u l k = at_queue_one (lock_queue l) (s.blocked_on u) (omega (arith, h.stands_once u (lock_queue l)))
 
   inside : (u l : ℕ) → 1 ≤ stands u (s.lists (lock_queue l)) → u < c.threads
   unfolding OnlyThreadsStand

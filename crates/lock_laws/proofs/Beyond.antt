@@ -3,11 +3,12 @@ use Rattle.std.proofs.Common.{◌≡◌, ℕ, suc, ◌+◌, ◌<◌, ◌≤◌, 
 use Rattle.std.proofs.lemmas.Bool.{ne_eqb, cases_eq, lt-ltb}
 use Rattle.lock_model.specs.Counts.{sum_below, one, some, at_option, times}
 use Rattle.lock_model.specs.Words.{is_turnstile}
-use Rattle.lock_model.specs.State.{Config, State, Mark, is_queue}
-use Rattle.lock_model.specs.Queues.{lock_queue, is_turnstile_queue, names_turnstile, times_waiting, stands, waiting}
-use Rattle.lock_model.specs.Facts.{Lawful, OneTurnstileEach, TurnstileIsLent, HeadsFitWaiters, StandsOnce, OnlyThreadsStand}
-use Rattle.lock_model.specs.FactsOfQueues.{only, turnstile_places, times_object}
-use Rattle.lock_model.specs.FactsOfWaits.{times_marked, at_queue}
+use Rattle.lock_model.specs.Config.{Config}
+use Rattle.lock_state.specs.State.{State}
+use Rattle.lock_model.specs.Queues.{Mark, is_queue, lock_queue, is_turnstile_queue, names_turnstile, times_waiting, stands, waiting}
+use Rattle.lock_state.specs.Facts.{Lawful, OneTurnstileEach, TurnstileIsLent, HeadsFitWaiters, StandsOnce, OnlyThreadsStand}
+use Rattle.lock_state.specs.Facts.Queues.{only, turnstile_places, times_object}
+use Rattle.lock_state.specs.Facts.Waits.{times_marked, at_queue}
 use Rattle.lock_model.specs.declared.plan.QueueName.{QueueName}
 use Rattle.lock_model.specs.declared.plan.QueueName.TheVariants.{Lock, Chan}
 use Rattle.lock_laws.proofs.Kit.{sum_below-same, sum_below-zero, is_queue_same, same_lock, one_same}
@@ -58,14 +59,14 @@ module _ (c : Config) (s : State) (h : Lawful c s) where
   marks u = sum_below c.threads (λ t. times u (marked_threads c (s.marked t)))
 
   -- a thread whose record names no turnstile neither stands at one nor is marked with one
-  unnamed : (m u : ℕ) → names_turnstile c (s.named u) ≡ false → standing m u + marks u ≡ 0
+  unnamed : (m u : ℕ) → names_turnstile c (s.blocked_on u) ≡ false → standing m u + marks u ≡ 0
   unnamed m u e =
       let a = sum_below-zero m (λ k. only (is_turnstile (c.kind k)) (stands u (s.lists (lock_queue k)))) (λ k l. stand k (is_turnstile (c.kind k)) refl) in
       let b = sum_below-zero c.threads (λ t. times u (marked_threads c (s.marked t))) mark in
       omega arith
     where
-      other : (q : QueueName) → s.named u ≡ Some q → is_turnstile_queue c q ≡ true → ⊥
-      other q n k = let a : names_turnstile c (s.named u) ≡ true = rw (n, k) refl in let z : true ≡ false = sym a ∙ e in cc
+      other : (q : QueueName) → s.blocked_on u ≡ Some q → is_turnstile_queue c q ≡ true → ⊥
+      other q n k = let a : names_turnstile c (s.blocked_on u) ≡ true = rw (n, k) refl in let z : true ≡ false = sym a ∙ e in cc
 
       stand : (k : ℕ) (b : Bool) → is_turnstile (c.kind k) ≡ b → only b (stands u (s.lists (lock_queue k))) ≡ 0
       stand k false i = refl
@@ -75,13 +76,13 @@ module _ (c : Config) (s : State) (h : Lawful c s) where
       mark t l = zero_unless (times u (marked_threads c (s.marked t))) (λ a. let r = marked_from c u (s.marked t) a in other r.0 (times_named c s u t r.0 h l r.2) r.1)
 
   -- one whose record names a turnstile does so once
-  named_once : (m u x : ℕ) → s.named u ≡ Some (lock_queue x) → standing m u + marks u ≤ 1
+  named_once : (m u x : ℕ) → s.blocked_on u ≡ Some (lock_queue x) → standing m u + marks u ≤ 1
   unfolding StandsOnce
   named_once m u x e =
       let a = sum_below-single m (λ k. only (is_turnstile (c.kind k)) (stands u (s.lists (lock_queue k)))) x stand in
       let b = only-le (is_turnstile (c.kind x)) (stands u (s.lists (lock_queue x))) in
       let d = sum_below-le c.threads (λ t. times u (marked_threads c (s.marked t))) (λ t. times_marked u (lock_queue x) (s.marked t)) (λ t l. marked_at c u (lock_queue x) (s.marked t) (mark t l)) in
-      let f : at_queue (lock_queue x) (s.named u) ≡ 1 = rw e (one_same x) in
+      let f : at_queue (lock_queue x) (s.blocked_on u) ≡ 1 = rw e (one_same x) in
       omega (arith, h.stands_once u (lock_queue x))
     where
       stand : (k : ℕ) → (x ≡ k → ⊥) → only (is_turnstile (c.kind k)) (stands u (s.lists (lock_queue k))) ≡ 0
@@ -94,13 +95,13 @@ module _ (c : Config) (s : State) (h : Lawful c s) where
 
   placed_once : (m u : ℕ) → some (s.turnstile u) + standing m u + marks u ≤ 1
   unfolding TurnstileIsLent
-  placed_once m u = go (s.named u) refl (names_turnstile c (s.named u)) refl
+  placed_once m u = go (s.blocked_on u) refl (names_turnstile c (s.blocked_on u)) refl
     where
-      go : (o : Option QueueName) → s.named u ≡ o → (b : Bool) → names_turnstile c o ≡ b → some (s.turnstile u) + standing m u + marks u ≤ 1
+      go : (o : Option QueueName) → s.blocked_on u ≡ o → (b : Bool) → names_turnstile c o ≡ b → some (s.turnstile u) + standing m u + marks u ≤ 1
       go o e false k = let a = unnamed m u (rw e k) in omega (arith, h.turnstile_is_lent u)
       go (Some (Lock x)) e true k =
           let a = named_once m u x.0 e in
-          let b : one (names_turnstile c (s.named u)) ≡ 1 = rw (e, k) refl in
+          let b : one (names_turnstile c (s.blocked_on u)) ≡ 1 = rw (e, k) refl in
           omega (arith, h.turnstile_is_lent u)
       go (Some (Chan d)) e true k = absurd cc
       go None e true k = absurd cc

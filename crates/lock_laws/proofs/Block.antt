@@ -1,15 +1,16 @@
 -- A thread that is made ready and enters in one turn keeps each fact.
 use Rattle.std.proofs.Common.{◌≡◌, ℕ, Option, Some, None, refl, sym, ◌∙◌, subst}
-use Rattle.lock_model.specs.State.{Config, State, Queued, put}
+use Rattle.lock_model.specs.Config.{Config}
+use Rattle.lock_state.specs.State.{State, Queued, put}
 use Rattle.lock_model.specs.Queues.{lock_queue}
-use Rattle.lock_model.specs.Moves.{MayReady, after_ready}
-use Rattle.lock_model.specs.MovesOfQueues.{MayBlock, MayEnter, after_enter, after_block}
-use Rattle.lock_model.specs.MovesOfTurns.{RecordOf, MayTake, MayGive, after_take, after_give}
-use Rattle.lock_model.specs.Facts.{Lawful, StandingIsQueued}
+use Rattle.lock_state.specs.Steps.LockWords.{MayReady, after_ready}
+use Rattle.lock_state.specs.Steps.Turnstiles.{MayBlock, MayEnter, after_enter, after_block}
+use Rattle.lock_state.specs.Steps.Items.{RecordOf, MayTake, MayGive, after_take, after_give}
+use Rattle.lock_state.specs.Facts.{Lawful, StandingIsQueued}
 use Rattle.lock_model.specs.declared.plan.Mode.{Mode}
 use Rattle.lock_model.specs.declared.plan.QueueName.{QueueName}
 use Rattle.lock_laws.proofs.Kit.{put_same, put_other, each_place}
-use Rattle.lock_laws.proofs.Turns.{take_lawful, give_lawful}
+use Rattle.lock_laws.proofs.Items.{take_lawful, give_lawful}
 use Rattle.lock_laws.proofs.OwnWaits.{ready_lawful}
 use Rattle.lock_laws.proofs.Enter as enter
 
@@ -23,11 +24,11 @@ module _ (c : Config) (s : State) (t l : ℕ) (mode : Mode) (x : ℕ) (g : MayBl
   abbrev entered : State
   entered = after_enter ready t l mode x
 
-  unnamed : s.named t ≡ None
+  unnamed : s.blocked_on t ≡ None
   unfolding StandingIsQueued
-  unnamed = go (s.named t) refl
+  unnamed = go (s.blocked_on t) refl
     where
-      go : (o : Option QueueName) → s.named t ≡ o → o ≡ None
+      go : (o : Option QueueName) → s.blocked_on t ≡ o → o ≡ None
       go None e = refl
       go (Some q) e = absurd (let z = sym g.running ∙ h.standing_is_queued t q e in cc)
 
@@ -56,7 +57,7 @@ module _ (c : Config) (s : State) (t l : ℕ) (mode : Mode) (x : ℕ) (g : MayBl
 
   may_give : MayGive c entered t (RecordOf t)
   unfolding after_take after_ready after_enter
-  may_give = record { thread = g.thread; out = put_same s.record_with t (Some t); done = λ e w n. let z : Some (lock_queue l) ≡ None = sym (put_same s.named t (Some (lock_queue l))) ∙ n in cc }
+  may_give = record { thread = g.thread; out = put_same s.record_with t (Some t); done = λ e w n. let z : Some (lock_queue l) ≡ None = sym (put_same s.blocked_on t (Some (lock_queue l))) ∙ n in cc }
 
   there : Lawful c (after_give entered (RecordOf t))
   there = give_lawful c entered t (RecordOf t) may_give (enter.lawful c ready t l mode x may_enter (ready_lawful c taken t may_ready (take_lawful c s t (RecordOf t) may_take h)))

@@ -3,13 +3,15 @@ use Rattle.std.proofs.Common.{◌≡◌, ℕ, Bool, true, false, Option, Some, N
 use Rattle.std.proofs.lemmas.Bool.{cases_eq}
 use Rattle.lock_model.specs.Counts.{at_option}
 use Rattle.lock_model.specs.Words.{Free, HeldBy, is_turnstile, claimed}
-use Rattle.lock_model.specs.State.{State, Config, Loan, Holds, put_at, put_queue}
-use Rattle.lock_model.specs.MovesOfLoans.{MayClaim, after_claim, loan_of}
+use Rattle.lock_state.specs.State.{State, Loan, put_at, put_queue}
+use Rattle.lock_model.specs.Config.{Config}
+use Rattle.lock_model.specs.Holds.{Holds}
+use Rattle.lock_state.specs.Steps.Lending.{MayClaim, after_claim, loan_of}
 use Rattle.lock_model.specs.Queues.{lock_queue, chan_queue, stands, least_of}
-use Rattle.lock_model.specs.Facts.{Lawful, OneNodeEach, HeadsFitWaiters, BitsShowWaiters, StandsOnce, StandingWants, WokenWants, CalledWants, StandingIsUncalled, WokenIsUncalled, FreeWordHasCalled, FreeMutexShowsNone, WordsMatchHolders, OnlyThreadsHold, EffectiveIsLeast, OwnersHold, ChannelsHaveNoOwner, LoansAreLeast, LoansAreWithOwners, LoansAreOnHeads, KeptIsEffective, EffectiveIsKnown, LoansAreKnown, KeptIsKnown, SectionsAreHeld}
-use Rattle.lock_model.specs.FactsOfQueues.{HeadFits}
-use Rattle.lock_model.specs.FactsOfWaits.{callers}
-use Rattle.lock_model.specs.FactsOfLoans.{owner_if, IsKnown}
+use Rattle.lock_state.specs.Facts.{Lawful, OneNodeEach, HeadsFitWaiters, BitsShowWaiters, StandsOnce, StandingWants, WokenWants, CalledWants, StandingIsUncalled, WokenIsUncalled, FreeWordHasCalled, FreeMutexShowsNone, WordsMatchHolders, OnlyThreadsHold, EffectiveIsLeast, OwnersHold, ChannelsHaveNoOwner, LoansAreLeast, LoansAreWithOwners, LoansAreOnHeads, KeptIsEffective, EffectiveIsKnown, LoansAreKnown, KeptIsKnown, SectionsAreHeld}
+use Rattle.lock_state.specs.Facts.Queues.{HeadFits}
+use Rattle.lock_state.specs.Facts.Waits.{callers}
+use Rattle.lock_state.specs.Facts.Loans.{owner_if, IsKnown}
 use Rattle.lock_model.specs.declared.plan.Mode.TheVariants.{Excl}
 use Rattle.lock_model.specs.declared.plan.QueueName.{QueueName}
 use Rattle.lock_laws.proofs.Kit.{columns, put_same, put_other, put_at_same, put_at_other, put_at_beside, put_lock_same, put_lock_other, sum_below-put, each_queue}
@@ -73,7 +75,7 @@ module _ (c : Config) (s : State) (t l x : ℕ) (g : MayClaim c s t l x) (h : La
 
   -- 2. Wanting and calling
 
-  standing_wants : StandingWants n.named n.wanted
+  standing_wants : StandingWants n.blocked_on n.wanted
   unfolding after_claim StandingWants
   standing_wants u k = grind (arith, columns, h.standing_wants u k)
 
@@ -85,7 +87,7 @@ module _ (c : Config) (s : State) (t l x : ℕ) (g : MayClaim c s t l x) (h : La
   unfolding after_claim CalledWants
   called_wants u k = grind (arith, columns, h.called_wants u k)
 
-  standing_uncalled : StandingIsUncalled n.named n.called
+  standing_uncalled : StandingIsUncalled n.blocked_on n.called
   unfolding after_claim StandingIsUncalled
   standing_uncalled u r = grind (arith, columns, h.standing_is_uncalled u r)
 

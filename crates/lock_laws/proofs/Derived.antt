@@ -2,12 +2,14 @@
 use Rattle.std.proofs.Common.{◌≡◌, ◌≢◌, ℕ, ◌+◌, ◌<◌, ◌≤◌, Bool, true, false, not, List, [], ◌∷◌, Option, Some, None, refl, sym, ap, arith, ◌∙◌}
 use Rattle.lock_model.specs.Counts.{one, is_empty}
 use Rattle.lock_model.specs.Words.{is_turnstile, shows_waiters}
-use Rattle.lock_model.specs.State.{Config, State, Queued, Waiter, Loan, Hold, NotHeld, Holds, is_queue}
-use Rattle.lock_model.specs.Queues.{lock_queue, times_waiting, stands, waiting}
+use Rattle.lock_model.specs.Config.{Config}
+use Rattle.lock_state.specs.State.{State, Queued, Loan}
+use Rattle.lock_model.specs.Queues.{Waiter, is_queue, lock_queue, times_waiting, stands, waiting}
+use Rattle.lock_model.specs.Holds.{Hold, NotHeld, Holds}
 use Rattle.lock_model.specs.History.{value_at}
-use Rattle.lock_model.specs.Facts.{Lawful, BitsShowWaiters, StandsOnce, StandingIsQueued, StandingWants, LoansAreOnHeads, TablesReplay}
-use Rattle.lock_model.specs.FactsOfWaits.{at_queue}
-use Rattle.lock_model.specs.Best.{best_behind, HasCycle, NobodyWalks}
+use Rattle.lock_state.specs.Facts.{Lawful, BitsShowWaiters, StandsOnce, StandingIsQueued, StandingWants, LoansAreOnHeads, TablesReplay}
+use Rattle.lock_state.specs.Facts.Waits.{at_queue}
+use Rattle.lock_state.specs.Best.{best_behind, HasCycle, NobodyWalks}
 use Rattle.lock_model.specs.declared.plan.Mode.TheVariants.{Excl}
 use Rattle.lock_model.specs.declared.plan.QueueName.{QueueName}
 use Rattle.lock_laws.proofs.Kit.{at_queue_one}
@@ -45,13 +47,13 @@ at_most_one q (Some r) = one_le (is_queue q r)
 -- a thread stands at most once, and on one queue
 pub once : (c : Config) (s : State) (t : ℕ) (q : QueueName) → Lawful c s → stands t (s.lists q) ≤ 1
 unfolding StandsOnce
-once c s t q h = let a = at_most_one q (s.named t) in omega (arith, h.stands_once t q)
+once c s t q h = let a = at_most_one q (s.blocked_on t) in omega (arith, h.stands_once t q)
 
 pub one_queue : (c : Config) (s : State) (t : ℕ) (q r : QueueName) → Lawful c s → 1 ≤ stands t (s.lists q) → 1 ≤ stands t (s.lists r) → q ≡ r
 unfolding StandsOnce
 one_queue c s t q r h a b =
-    let x = at_queue_one q (s.named t) (omega (arith, h.stands_once t q)) in
-    let y = at_queue_one r (s.named t) (omega (arith, h.stands_once t r)) in
+    let x = at_queue_one q (s.blocked_on t) (omega (arith, h.stands_once t q)) in
+    let y = at_queue_one r (s.blocked_on t) (omega (arith, h.stands_once t r)) in
     let z : ◌≡◌ {A = Option QueueName} (Some q) (Some r) = sym x ∙ y in
     queue_of q r z
   where
@@ -66,7 +68,7 @@ one_queue c s t q r h a b =
 pub shown : (c : Config) (s : State) (t l : ℕ) → Lawful c s → 1 ≤ stands t (s.lists (lock_queue l)) → (s.wait t ≡ Queued) × (s.wanted t ≡ Some l) × (shows_waiters (s.word l) ≡ true)
 unfolding StandsOnce StandingIsQueued StandingWants BitsShowWaiters
 shown c s t l h a =
-    let x = at_queue_one (lock_queue l) (s.named t) (omega (arith, h.stands_once t (lock_queue l))) in
+    let x = at_queue_one (lock_queue l) (s.blocked_on t) (omega (arith, h.stands_once t (lock_queue l))) in
     (h.standing_is_queued t (lock_queue l) x, h.standing_wants t l x, go (s.lists (lock_queue l)).exclusive (s.lists (lock_queue l)).shared (h.bits_show_waiters l).exclusive (h.bits_show_waiters l).shared a)
   where
     go : (x y : List Waiter) → (s.word l).exclusive_waiters ≡ not (is_empty x) → (s.word l).shared_waiters ≡ not (is_empty y) → 1 ≤ times_waiting t x + times_waiting t y → shows_waiters (s.word l) ≡ true

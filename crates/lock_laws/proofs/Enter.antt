@@ -3,14 +3,15 @@ use Rattle.std.proofs.Common.{◌≡◌, ℕ, ◌+◌, ◌≤◌, Bool, true, fa
 use Rattle.std.proofs.lemmas.Bool.{cases_eq}
 use Rattle.lock_model.specs.Counts.{one, times, at_option, sum_below}
 use Rattle.lock_model.specs.Words.{Holder, Free, HeldBy, SharedBy, is_turnstile, entered}
-use Rattle.lock_model.specs.State.{State, Config, Waiter, Lists, put_queue}
-use Rattle.lock_model.specs.MovesOfQueues.{MayEnter, after_enter, walk_in, owner_with}
-use Rattle.lock_model.specs.Queues.{lock_queue, chan_queue, side_of, list_of, with_list, stands, insert, head_with, free_with}
-use Rattle.lock_model.specs.Facts.{Lawful, OneTurnstileEach, OneSleepQueueEach, TurnstileIsLent, SleepQueueIsLent, HeadsFitWaiters, BitsShowWaiters, ListsAscend, MutexWaitersAreExclusive, StandsOnce, OnlyThreadsStand, StandingIsQueued, QueuedHasRecord, StandingWants, WokenWants, CalledWants, StandingIsUncalled, WokenIsUncalled, FreeWordHasCalled, FreeMutexShowsNone, WordsMatchHolders, OwnersHold, ChannelsHaveNoOwner, LoansAreLeast, LoansAreWithOwners, LoansAreOnHeads, KeptIsEffective, EffectiveIsKnown, KeptIsKnown}
-use Rattle.lock_model.specs.FactsOfQueues.{only, turnstile_places, sleep_queue_places, HeadFits}
-use Rattle.lock_model.specs.FactsOfWaits.{callers, times_marked, at_queue}
-use Rattle.lock_model.specs.FactsOfWords.{WordMatchesHolders}
-use Rattle.lock_model.specs.FactsOfLoans.{IsKept, IsKnown, EachOf, walks_at_lock, walks_at_thread, at_lock, at_thread, owner_if}
+use Rattle.lock_state.specs.State.{State, put_queue}
+use Rattle.lock_model.specs.Config.{Config}
+use Rattle.lock_model.specs.Queues.{Waiter, Lists, lock_queue, chan_queue, side_of, list_of, with_list, stands, insert, head_with, free_with}
+use Rattle.lock_state.specs.Steps.Turnstiles.{MayEnter, after_enter, walk_in, owner_with}
+use Rattle.lock_state.specs.Facts.{Lawful, OneTurnstileEach, OneSleepQueueEach, TurnstileIsLent, SleepQueueIsLent, HeadsFitWaiters, BitsShowWaiters, ListsAscend, MutexWaitersAreExclusive, StandsOnce, OnlyThreadsStand, StandingIsQueued, QueuedHasRecord, StandingWants, WokenWants, CalledWants, StandingIsUncalled, WokenIsUncalled, FreeWordHasCalled, FreeMutexShowsNone, WordsMatchHolders, OwnersHold, ChannelsHaveNoOwner, LoansAreLeast, LoansAreWithOwners, LoansAreOnHeads, KeptIsEffective, EffectiveIsKnown, KeptIsKnown}
+use Rattle.lock_state.specs.Facts.Queues.{only, turnstile_places, sleep_queue_places, HeadFits}
+use Rattle.lock_state.specs.Facts.Waits.{callers, times_marked, at_queue}
+use Rattle.lock_state.specs.Facts.Words.{WordMatchesHolders}
+use Rattle.lock_state.specs.Facts.Loans.{IsKept, IsKnown, EachOf, walks_at_lock, walks_at_thread, at_lock, at_thread, owner_if}
 use Rattle.lock_model.specs.declared.plan.Mode.{Mode}
 use Rattle.lock_model.specs.declared.plan.Side.{Side}
 use Rattle.lock_model.specs.declared.plan.QueueName.{QueueName}
@@ -84,11 +85,11 @@ module _ (c : Config) (s : State) (t l : ℕ) (mode : Mode) (x : ℕ) (g : MayEn
       let d2 = rw g.turnstile at d in
       omega (arith, h.one_sleep_queue_each k)
 
-  turnstile_lent : TurnstileIsLent c n.turnstile n.named
+  turnstile_lent : TurnstileIsLent c n.turnstile n.blocked_on
   unfolding after_enter TurnstileIsLent
   turnstile_lent u = grind (arith, columns, h.turnstile_is_lent u)
 
-  sleep_queue_lent : SleepQueueIsLent c n.sleep_queue n.named
+  sleep_queue_lent : SleepQueueIsLent c n.sleep_queue n.blocked_on
   unfolding after_enter SleepQueueIsLent
   sleep_queue_lent u = grind (arith, columns, h.sleep_queue_is_lent u)
 
@@ -120,31 +121,31 @@ module _ (c : Config) (s : State) (t l : ℕ) (mode : Mode) (x : ℕ) (g : MayEn
 
   -- 3. Standing, wanting and calling
 
-  stand_at_lock : (u k : ℕ) → stands u (n.lists (lock_queue k)) + sum_below c.threads (λ v. times_marked u (lock_queue k) (n.marked v)) ≡ at_queue (lock_queue k) (n.named u)
+  stand_at_lock : (u k : ℕ) → stands u (n.lists (lock_queue k)) + sum_below c.threads (λ v. times_marked u (lock_queue k) (n.marked v)) ≡ at_queue (lock_queue k) (n.blocked_on u)
   unfolding after_enter StandsOnce
   stand_at_lock u k = grind (arith, columns, h.stands_once u (lock_queue k), stands-more)
 
-  stand_at_chan : (u d : ℕ) → stands u (n.lists (chan_queue d)) + sum_below c.threads (λ v. times_marked u (chan_queue d) (n.marked v)) ≡ at_queue (chan_queue d) (n.named u)
+  stand_at_chan : (u d : ℕ) → stands u (n.lists (chan_queue d)) + sum_below c.threads (λ v. times_marked u (chan_queue d) (n.marked v)) ≡ at_queue (chan_queue d) (n.blocked_on u)
   unfolding after_enter StandsOnce
   stand_at_chan u d = grind (arith, columns, h.stands_once u (chan_queue d))
 
-  stand : StandsOnce c n.lists n.marked n.named
+  stand : StandsOnce c n.lists n.marked n.blocked_on
   unfolding after_enter StandsOnce
-  stand u = each_queue (λ r. stands u (n.lists r) + sum_below c.threads (λ v. times_marked u r (n.marked v)) ≡ at_queue r (n.named u)) (stand_at_lock u) (stand_at_chan u)
+  stand u = each_queue (λ r. stands u (n.lists r) + sum_below c.threads (λ v. times_marked u r (n.marked v)) ≡ at_queue r (n.blocked_on u)) (stand_at_lock u) (stand_at_chan u)
 
-  threads_stand : OnlyThreadsStand c n.named
+  threads_stand : OnlyThreadsStand c n.blocked_on
   unfolding after_enter OnlyThreadsStand
   threads_stand u r = grind (arith, columns, h.only_threads_stand u r, g.thread)
 
-  standing_queued : StandingIsQueued n.named n.wait
+  standing_queued : StandingIsQueued n.blocked_on n.wait
   unfolding after_enter StandingIsQueued
   standing_queued u r = grind (arith, columns, h.standing_is_queued u r)
 
-  has_record : QueuedHasRecord n.wait n.named n.record_with
+  has_record : QueuedHasRecord n.wait n.blocked_on n.record_with
   unfolding after_enter QueuedHasRecord
   has_record u = grind (arith, columns, h.queued_has_record u)
 
-  standing_wants : StandingWants n.named n.wanted
+  standing_wants : StandingWants n.blocked_on n.wanted
   unfolding after_enter StandingWants
   standing_wants u k = grind (arith, columns, h.standing_wants u k, same_lock l k)
 
@@ -156,7 +157,7 @@ module _ (c : Config) (s : State) (t l : ℕ) (mode : Mode) (x : ℕ) (g : MayEn
   unfolding after_enter CalledWants
   called_wants u k = grind (arith, columns, h.called_wants u k)
 
-  standing_uncalled : StandingIsUncalled n.named n.called
+  standing_uncalled : StandingIsUncalled n.blocked_on n.called
   unfolding after_enter StandingIsUncalled
   standing_uncalled u r = grind (arith, columns, h.standing_is_uncalled u r)
 

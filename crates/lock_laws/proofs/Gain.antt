@@ -3,11 +3,13 @@ use Rattle.std.proofs.Common.{◌≡◌, ℕ, None, arith, ◌∙◌}
 use Rattle.lock_model.specs.Counts.{at_option}
 use Rattle.lock_model.specs.Words.{is_turnstile}
 use Rattle.lock_model.specs.Queues.{lock_queue}
-use Rattle.lock_model.specs.State.{State, Config, Holds}
-use Rattle.lock_model.specs.Moves.{MayGain, after_gain}
-use Rattle.lock_model.specs.Facts.{Lawful, BitsShowWaiters, HeadsFitWaiters, StandingWants, WokenWants, CalledWants, StandingIsUncalled, WokenIsUncalled, FreeWordHasCalled, FreeMutexShowsNone, WordsMatchHolders, OnlyThreadsHold, OwnersHold, SectionsAreHeld}
-use Rattle.lock_model.specs.FactsOfWaits.{callers}
-use Rattle.lock_model.specs.FactsOfLoans.{owner_if}
+use Rattle.lock_state.specs.State.{State}
+use Rattle.lock_model.specs.Config.{Config}
+use Rattle.lock_model.specs.Holds.{Holds}
+use Rattle.lock_state.specs.Steps.LockWords.{MayGain, after_gain}
+use Rattle.lock_state.specs.Facts.{Lawful, BitsShowWaiters, HeadsFitWaiters, StandingWants, WokenWants, CalledWants, StandingIsUncalled, WokenIsUncalled, FreeWordHasCalled, FreeMutexShowsNone, WordsMatchHolders, OnlyThreadsHold, OwnersHold, SectionsAreHeld}
+use Rattle.lock_state.specs.Facts.Waits.{callers}
+use Rattle.lock_state.specs.Facts.Loans.{owner_if}
 use Rattle.lock_model.specs.declared.plan.Mode.{Mode}
 use Rattle.lock_laws.proofs.Kit.{columns, at_put, sum_below-put}
 use Rattle.lock_laws.proofs.Words.{all_match-put, matches-gain}
@@ -21,7 +23,7 @@ module _ (c : Config) (s : State) (t l : ℕ) (mode : Mode) (g : MayGain c s t l
   unfolding after_gain BitsShowWaiters
   bits k = grind (arith, columns, h.bits_show_waiters k)
 
-  standing_wants : StandingWants n.named n.wanted
+  standing_wants : StandingWants n.blocked_on n.wanted
   unfolding after_gain StandingWants
   standing_wants u k = grind (arith, columns, h.standing_wants u k)
 
@@ -33,7 +35,7 @@ module _ (c : Config) (s : State) (t l : ℕ) (mode : Mode) (g : MayGain c s t l
   unfolding after_gain CalledWants
   called_wants u k = grind (arith, columns, h.called_wants u k)
 
-  standing_uncalled : StandingIsUncalled n.named n.called
+  standing_uncalled : StandingIsUncalled n.blocked_on n.called
   unfolding after_gain StandingIsUncalled
   standing_uncalled u q = grind (arith, columns, h.standing_is_uncalled u q)
 

@@ -1,13 +1,13 @@
 -- The guards can be met: each step of a whole worked run may be made where it comes.
 use Rattle.std.proofs.Common.{◌≡◌, Some, None, refl, inr, arith}
 use Rattle.lock_model.specs.Counts.{sum_below, least}
-use Rattle.lock_model.specs.State.{start_state, put, put_at, put_queue}
+use Rattle.lock_state.specs.State.{start_state, put, put_at, put_queue}
 use Rattle.lock_model.specs.History.{sections_in}
-use Rattle.lock_model.specs.Moves.{after_look, after_gain, after_drop, after_stamp, after_ready}
-use Rattle.lock_model.specs.MovesOfQueues.{after_enter, after_open, after_mark, after_resume}
-use Rattle.lock_model.specs.MovesOfLoans.{after_claim, after_lend, after_shift, after_end_walk}
-use Rattle.lock_model.specs.MovesOfTurns.{Item, out_with, TurnstileChain, SleepChain, RecordOf, CellOf, ClassGraph, after_take, after_give}
-use Rattle.lock_model.specs.Steps.{MayAll}
+use Rattle.lock_state.specs.Steps.LockWords.{after_look, after_gain, after_drop, after_stamp, after_ready}
+use Rattle.lock_state.specs.Steps.Turnstiles.{after_enter, after_open, after_mark, after_resume}
+use Rattle.lock_state.specs.Steps.Lending.{after_claim, after_lend, after_shift, after_end_walk}
+use Rattle.lock_state.specs.Steps.Items.{Item, out_with, TurnstileChain, SleepChain, RecordOf, CellOf, ClassGraph, after_take, after_give}
+use Rattle.lock_state.specs.Steps.{MayAll}
 use Rattle.lock_laws.proofs.Rows.{lending, lent, at, plan, takes, blocks, opens, mark}
 
 -- q's turns and p's up to the loan

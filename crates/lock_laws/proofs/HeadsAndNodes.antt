@@ -3,10 +3,12 @@ use Rattle.std.proofs.Common.{◌≡◌, ℕ, ◌+◌, ◌<◌, ◌≤◌, Bool,
 use Rattle.std.proofs.lemmas.Bool.{ne_eqb, cases_lt}
 use Rattle.lock_model.specs.Counts.{sum_below, one, at_option}
 use Rattle.lock_model.specs.Words.{is_turnstile}
-use Rattle.lock_model.specs.State.{Config, State, Loan, Holds}
+use Rattle.lock_model.specs.Config.{Config}
+use Rattle.lock_state.specs.State.{State, Loan}
+use Rattle.lock_model.specs.Holds.{Holds}
 use Rattle.lock_model.specs.Queues.{lock_queue}
-use Rattle.lock_model.specs.Facts.{Lawful, OneTurnstileEach, OneNodeEach, OwnersHold, LoansAreWithOwners, LoansAreOnHeads, WordsMatchHolders, OnlyThreadsHold}
-use Rattle.lock_model.specs.FactsOfQueues.{only, turnstile_places, at_loan, loans_on}
+use Rattle.lock_state.specs.Facts.{Lawful, OneTurnstileEach, OneNodeEach, OwnersHold, LoansAreWithOwners, LoansAreOnHeads, WordsMatchHolders, OnlyThreadsHold}
+use Rattle.lock_state.specs.Facts.Queues.{only, turnstile_places, at_loan, loans_on}
 use Rattle.lock_model.specs.declared.plan.Mode.TheVariants.{Excl}
 use Rattle.lock_laws.proofs.Kit.{sum_below-zero, sum_below-at, one_same}
 use Rattle.lock_laws.proofs.Beyond.{beyond_none}

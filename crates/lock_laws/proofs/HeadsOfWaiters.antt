@@ -1,10 +1,11 @@
 -- A queue of a lawful state on which a thread stands has a head.
 use Rattle.std.proofs.Common.{◌≡◌, ℕ, ◌<◌, ◌≤◌, eqb, List, [], ◌∷◌, length, Option, Some, None, inl, inr, refl, ap, arith}
 use Rattle.std.proofs.lemmas.Bool.{cases_Bool}
-use Rattle.lock_model.specs.State.{Config, State, Waiter, Lists}
-use Rattle.lock_model.specs.Queues.{times_waiting, stands}
-use Rattle.lock_model.specs.Facts.{Lawful, HeadsFitWaiters}
-use Rattle.lock_model.specs.FactsOfQueues.{HeadFits}
+use Rattle.lock_model.specs.Config.{Config}
+use Rattle.lock_state.specs.State.{State}
+use Rattle.lock_model.specs.Queues.{Waiter, Lists, times_waiting, stands}
+use Rattle.lock_state.specs.Facts.{Lawful, HeadsFitWaiters}
+use Rattle.lock_state.specs.Facts.Queues.{HeadFits}
 use Rattle.lock_model.specs.declared.plan.QueueName.{QueueName}
 
 times_waiting-le : (u : ℕ) (ws : List Waiter) → times_waiting u ws ≤ length ws

@@ -3,9 +3,8 @@ use Rattle.std.proofs.Common.{◌≡◌, ◌≢◌, ℕ, zero, suc, ◌<◌, Boo
 use Rattle.std.proofs.lemmas.Bool.{ne_eqb, cases_eq, eqb-false, ltb-true, and_parts}
 use Rattle.std.proofs.lemmas.Option.{none-some, same_Some, cond_some, option_and_then_some}
 use Rattle.std.specs.Prelude.{unwrap_or, ⊤}
-use Rattle.lock_model.specs.State.{Hold, NotHeld, Holds}
-use Rattle.lock_model.specs.History.{is_exclusive}
-use Rattle.lock_model.specs.Operations.{is_unheld, hold_in, without_lock, held_behind, held_through, held_of}
+use Rattle.lock_model.specs.Holds.{Hold, NotHeld, Holds, is_exclusive, is_unheld}
+use Rattle.lock_model.specs.Operations.{hold_in, without_lock, held_behind, held_through, held_of}
 use Rattle.lock_model.specs.declared.plan.Mode.{Mode}
 use Rattle.lock_model.specs.declared.plan.Mode.TheVariants.{Excl, Shared}
 use Rattle.lock_model.specs.declared.plan.Op.{Op}

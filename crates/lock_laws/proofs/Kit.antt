@@ -2,9 +2,9 @@
 use Rattle.std.proofs.Common.{◌≡◌, ℕ, zero, suc, ◌+◌, ◌<◌, ◌≤◌, Bool, true, false, cond, eqb, Option, Some, None, refl, sym, ap, inl, inr, arith, eq-eqb, subst, ◌&&◌}
 use Rattle.std.proofs.lemmas.Bool.{ne_eqb, cases_eq, eqb-true}
 use Rattle.lock_model.specs.Counts.{sum_below, one, at_option}
-use Rattle.lock_model.specs.State.{put, put_at, put_queue, is_queue}
-use Rattle.lock_model.specs.Queues.{lock_queue, chan_queue}
-use Rattle.lock_model.specs.FactsOfWaits.{at_queue}
+use Rattle.lock_state.specs.State.{put, put_at, put_queue}
+use Rattle.lock_model.specs.Queues.{is_queue, lock_queue, chan_queue}
+use Rattle.lock_state.specs.Facts.Waits.{at_queue}
 use Rattle.lock_model.specs.declared.plan.QueueName.{QueueName}
 use Rattle.lock_model.specs.declared.plan.QueueName.TheVariants.{Lock, Chan}
 

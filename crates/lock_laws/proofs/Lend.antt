@@ -3,12 +3,14 @@ use Rattle.std.proofs.Common.{◌≡◌, ℕ, ◌<◌, ◌≤◌, Bool, true, fa
 use Rattle.std.proofs.lemmas.Bool.{cases_eq, ne_eqb}
 use Rattle.lock_model.specs.Counts.{one}
 use Rattle.lock_model.specs.Words.{is_turnstile}
-use Rattle.lock_model.specs.State.{State, Config, Waiter, Loan, Holds, put, put_at}
-use Rattle.lock_model.specs.Moves.{effective_of}
-use Rattle.lock_model.specs.MovesOfLoans.{MayLend, after_lend, loan_of, walk_to}
-use Rattle.lock_model.specs.Queues.{lock_queue, names_turnstile, stands, least_of}
-use Rattle.lock_model.specs.Facts.{Lawful, OneNodeEach, StandsOnce, WordsMatchHolders, OnlyThreadsHold, EffectiveIsLeast, OwnersHold, LoansAreLeast, LoansAreWithOwners, LoansAreOnHeads, KeptIsEffective, EffectiveIsKnown, LoansAreKnown, KeptIsKnown}
-use Rattle.lock_model.specs.FactsOfLoans.{IsKept, IsKnown, walks_at_lock, walks_at_thread, at_lock, at_thread}
+use Rattle.lock_state.specs.State.{State, Loan, put, put_at}
+use Rattle.lock_model.specs.Config.{Config}
+use Rattle.lock_model.specs.Queues.{Waiter, lock_queue, names_turnstile, stands, least_of}
+use Rattle.lock_model.specs.Holds.{Holds}
+use Rattle.lock_state.specs.Steps.LockWords.{effective_of}
+use Rattle.lock_state.specs.Steps.Lending.{MayLend, after_lend, loan_of, walk_to}
+use Rattle.lock_state.specs.Facts.{Lawful, OneNodeEach, StandsOnce, WordsMatchHolders, OnlyThreadsHold, EffectiveIsLeast, OwnersHold, LoansAreLeast, LoansAreWithOwners, LoansAreOnHeads, KeptIsEffective, EffectiveIsKnown, LoansAreKnown, KeptIsKnown}
+use Rattle.lock_state.specs.Facts.Loans.{IsKept, IsKnown, walks_at_lock, walks_at_thread, at_lock, at_thread}
 use Rattle.lock_model.specs.declared.plan.Mode.TheVariants.{Excl}
 use Rattle.lock_model.specs.declared.plan.QueueName.{QueueName}
 use Rattle.lock_laws.proofs.Kit.{columns, put_at_same, put_at_other, put_at_beside, sum_below-put, at_queue_one}
@@ -34,7 +36,7 @@ module _ (c : Config) (s : State) (t l o x : ℕ) (g : MayLend c s t l o x) (h :
   e = effective_of c (put (s.loan o) l new) (s.base o)
 
   abbrev goes : Bool
-  goes = not (eqb e (s.effective o)) && names_turnstile c (s.named o)
+  goes = not (eqb e (s.effective o)) && names_turnstile c (s.blocked_on o)
 
   owned : (is_turnstile (c.kind l) ≡ true) × (s.held o l ≡ Holds Excl)
   unfolding OwnersHold WordsMatchHolders
@@ -96,9 +98,9 @@ module _ (c : Config) (s : State) (t l o x : ℕ) (g : MayLend c s t l o x) (h :
       ]
 
   -- where the owner stands on a turnstile, its record names it
-  names : (k : ℕ) → is_turnstile (c.kind k) ≡ true → 1 ≤ stands o (s.lists (lock_queue k)) → names_turnstile c (s.named o) ≡ true
+  names : (k : ℕ) → is_turnstile (c.kind k) ≡ true → 1 ≤ stands o (s.lists (lock_queue k)) → names_turnstile c (s.blocked_on o) ≡ true
   unfolding StandsOnce
-  names k i p = let a = at_queue_one (lock_queue k) (s.named o) (omega (arith, h.stands_once o (lock_queue k))) in rw a i
+  names k i p = let a = at_queue_one (lock_queue k) (s.blocked_on o) (omega (arith, h.stands_once o (lock_queue k))) in rw a i
 
   -- the owner's entry keeps its effective priority, or a walk goes to the owner
   still : (k : ℕ) → is_turnstile (c.kind k) ≡ true → (w : Waiter) → 1 ≤ stands w.thread (s.lists (lock_queue k)) → IsKept c s.walk s.effective w → IsKept c n.walk n.effective w

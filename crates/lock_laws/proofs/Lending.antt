@@ -2,11 +2,12 @@
 use Rattle.std.proofs.Common.{◌≡◌, ◌≢◌, ℕ, zero, suc, ◌+◌, ◌<◌, ◌≤◌, true, false, cond, eqb, leb, min, List, [], ◌∷◌, length, Option, Some, None, refl, sym, ap, inl, inr, arith, eq-eqb, ◌∙◌}
 use Rattle.std.proofs.lemmas.Bool.{ne_eqb, cases_eq}
 use Rattle.lock_model.specs.Counts.{one, some, least, lower, is_empty}
-use Rattle.lock_model.specs.State.{Config, Waiter, Lists, Loan, Walk, put, put_at}
-use Rattle.lock_model.specs.Moves.{effective_of, prio_of}
-use Rattle.lock_model.specs.Queues.{list_of, with_list, times_waiting, stands, waiting, insert, without, reinsert, with_kept}
-use Rattle.lock_model.specs.FactsOfQueues.{Ascends}
-use Rattle.lock_model.specs.FactsOfLoans.{Each, EachOf, IsKept, EffectiveIsLeast}
+use Rattle.lock_model.specs.Config.{Config}
+use Rattle.lock_model.specs.Queues.{Waiter, Lists, list_of, with_list, times_waiting, stands, waiting, insert, without, reinsert, with_kept}
+use Rattle.lock_state.specs.State.{Loan, Walk, put, put_at}
+use Rattle.lock_state.specs.Steps.LockWords.{effective_of, prio_of}
+use Rattle.lock_state.specs.Facts.Queues.{Ascends}
+use Rattle.lock_state.specs.Facts.Loans.{Each, EachOf, IsKept, EffectiveIsLeast}
 use Rattle.lock_model.specs.declared.plan.Side.{Side}
 use Rattle.lock_model.specs.declared.plan.Side.TheVariants.{X, S}
 use Rattle.lock_laws.proofs.Kit.{put_same, put_other, put_at_same, put_at_other, put_at_beside, each_place}

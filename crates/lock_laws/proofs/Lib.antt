@@ -6,7 +6,7 @@ pub mod Lending
 pub mod Gain
 pub mod Drop
 pub mod OwnWaits
-pub mod Turns
+pub mod Items
 pub mod Tables
 pub mod Sections
 pub mod Shown

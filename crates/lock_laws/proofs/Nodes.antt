@@ -3,14 +3,15 @@ use Rattle.std.proofs.Common.{◌≡◌, ℕ, ◌+◌, ◌<◌, ◌≤◌, Bool,
 use Rattle.std.proofs.lemmas.Bool.{ne_eqb, cases_eq}
 use Rattle.lock_model.specs.Counts.{one, some, at_option, sum_below, lower}
 use Rattle.lock_model.specs.Words.{is_turnstile}
-use Rattle.lock_model.specs.State.{Config, State, Waiter, Lists, Loan, put, put_at}
-use Rattle.lock_model.specs.Moves.{effective_of, prio_of}
-use Rattle.lock_model.specs.MovesOfQueues.{home_after}
-use Rattle.lock_model.specs.MovesOfLoans.{loan_of}
-use Rattle.lock_model.specs.Queues.{lock_queue, waiting, least_kept, least_of_two, least_of}
-use Rattle.lock_model.specs.Facts.{Lawful, OneTurnstileEach, OneNodeEach, HeadsFitWaiters, LoansAreOnHeads, EffectiveIsKnown, LoansAreKnown, BasesReplay}
-use Rattle.lock_model.specs.FactsOfQueues.{only, turnstile_places, at_loan, loans_on}
-use Rattle.lock_model.specs.FactsOfLoans.{Each, EachOf, IsKnown}
+use Rattle.lock_model.specs.Config.{Config}
+use Rattle.lock_state.specs.State.{State, Loan, put, put_at}
+use Rattle.lock_model.specs.Queues.{Waiter, Lists, lock_queue, waiting, least_kept, least_of_two, least_of}
+use Rattle.lock_state.specs.Steps.LockWords.{effective_of, prio_of}
+use Rattle.lock_state.specs.Steps.Turnstiles.{home_after}
+use Rattle.lock_state.specs.Steps.Lending.{loan_of}
+use Rattle.lock_state.specs.Facts.{Lawful, OneTurnstileEach, OneNodeEach, HeadsFitWaiters, LoansAreOnHeads, EffectiveIsKnown, LoansAreKnown, BasesReplay}
+use Rattle.lock_state.specs.Facts.Queues.{only, turnstile_places, at_loan, loans_on}
+use Rattle.lock_state.specs.Facts.Loans.{Each, EachOf, IsKnown}
 use Rattle.lock_model.specs.declared.event.Entry.{Entry}
 use Rattle.lock_laws.proofs.Kit.{put_same, put_other, put_at_same, put_at_other, put_at_beside, sum_below-same, sum_below-change, sum_below-two, sum_below-zero, sum_below-at, one_same}
 use Rattle.lock_laws.proofs.Lending.{by_least}

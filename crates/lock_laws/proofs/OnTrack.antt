@@ -5,12 +5,14 @@ use Rattle.std.proofs.lemmas.Option.{same_Some, slice_get_within}
 use Rattle.lock_model.specs.Counts.{sum_below}
 use Rattle.lock_model.specs.Plans.{config_of, operations_of}
 use Rattle.lock_model.specs.Operations.{IsProper, hold_in, held_behind, held_of}
-use Rattle.lock_model.specs.State.{Config, State, NotHeld, Running, put, put_at}
+use Rattle.lock_model.specs.Config.{Config}
+use Rattle.lock_state.specs.State.{State, Running, put, put_at}
+use Rattle.lock_model.specs.Holds.{NotHeld}
 use Rattle.lock_model.specs.History.{open_in, sections_in, sections_by}
-use Rattle.lock_model.specs.Moves.{after_stamp}
-use Rattle.lock_model.specs.MovesOfTurns.{Item, item_with}
-use Rattle.lock_model.specs.Facts.{Lawful, StandingIsQueued}
-use Rattle.lock_model.specs.Run.{Run}
+use Rattle.lock_state.specs.Steps.LockWords.{after_stamp}
+use Rattle.lock_state.specs.Steps.Items.{Item, item_with}
+use Rattle.lock_state.specs.Facts.{Lawful, StandingIsQueued}
+use Rattle.lock_state.specs.Run.{Run}
 use Rattle.lock_model.specs.declared.plan.Op.{Op}
 use Rattle.lock_model.specs.declared.plan.Op.TheVariants.{Take}
 use Rattle.lock_model.specs.declared.plan.Mode.{Mode}
@@ -100,11 +102,11 @@ taken (Take l mode) = l.0
 taken other = 0
 
 module _ (plan : Plan) (chains : ℕ) (r : Run) (t : ℕ) (p : IsProper plan) (k : IsOnTrack plan chains r) where
-  pub unnamed : r.state.wait t ≡ Running → r.state.named t ≡ None
+  pub unnamed : r.state.wait t ≡ Running → r.state.blocked_on t ≡ None
   unfolding StandingIsQueued
-  unnamed running = go (r.state.named t) refl
+  unnamed running = go (r.state.blocked_on t) refl
     where
-      go : (o : Option QueueName) → r.state.named t ≡ o → o ≡ None
+      go : (o : Option QueueName) → r.state.blocked_on t ≡ o → o ≡ None
       go None e = refl
       go (Some q) e = absurd (let z = sym running ∙ k.lawful.standing_is_queued t q e in cc)
 

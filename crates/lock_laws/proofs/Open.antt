@@ -3,13 +3,15 @@ use Rattle.std.proofs.Common.{◌≡◌, ℕ, ◌+◌, ◌≤◌, Bool, true, fa
 use Rattle.std.proofs.lemmas.Bool.{cases_eq, ne_eqb}
 use Rattle.lock_model.specs.Counts.{one, some, times, at_option, sum_below, is_empty}
 use Rattle.lock_model.specs.Words.{Word, Free, is_turnstile, shows_waiters, without_one, opened, unshown, side_woken}
-use Rattle.lock_model.specs.State.{State, Config, Waiter, Lists, Loan, Mark, NotHeld, put, put_at, put_queue}
-use Rattle.lock_model.specs.MovesOfQueues.{MayOpen, after_open}
-use Rattle.lock_model.specs.Queues.{lock_queue, chan_queue, list_of, with_list, stands, dealt, free_after, head_after}
-use Rattle.lock_model.specs.Facts.{Lawful, OneTurnstileEach, OneSleepQueueEach, OneNodeEach, HeadsFitWaiters, BitsShowWaiters, ListsAscend, MutexWaitersAreExclusive, StandsOnce, FreeWordHasCalled, FreeMutexShowsNone, WordsMatchHolders, OnlyThreadsHold, EffectiveIsLeast, OwnersHold, ChannelsHaveNoOwner, LoansAreLeast, LoansAreWithOwners, LoansAreOnHeads, KeptIsEffective, EffectiveIsKnown, LoansAreKnown, KeptIsKnown, SectionsAreHeld}
-use Rattle.lock_model.specs.FactsOfQueues.{only, times_object, turnstile_places, sleep_queue_places, HeadFits, ShowsItsWaiters}
-use Rattle.lock_model.specs.FactsOfWaits.{callers, calls_marked, times_marked, at_queue}
-use Rattle.lock_model.specs.FactsOfLoans.{IsKept, IsKnown, EachOf, owner_if}
+use Rattle.lock_state.specs.State.{State, Loan, put, put_at, put_queue}
+use Rattle.lock_model.specs.Config.{Config}
+use Rattle.lock_model.specs.Queues.{Waiter, Lists, Mark, lock_queue, chan_queue, list_of, with_list, stands, dealt, free_after, head_after}
+use Rattle.lock_model.specs.Holds.{NotHeld}
+use Rattle.lock_state.specs.Steps.Turnstiles.{MayOpen, after_open}
+use Rattle.lock_state.specs.Facts.{Lawful, OneTurnstileEach, OneSleepQueueEach, OneNodeEach, HeadsFitWaiters, BitsShowWaiters, ListsAscend, MutexWaitersAreExclusive, StandsOnce, FreeWordHasCalled, FreeMutexShowsNone, WordsMatchHolders, OnlyThreadsHold, EffectiveIsLeast, OwnersHold, ChannelsHaveNoOwner, LoansAreLeast, LoansAreWithOwners, LoansAreOnHeads, KeptIsEffective, EffectiveIsKnown, LoansAreKnown, KeptIsKnown, SectionsAreHeld}
+use Rattle.lock_state.specs.Facts.Queues.{only, times_object, turnstile_places, sleep_queue_places, HeadFits, ShowsItsWaiters}
+use Rattle.lock_state.specs.Facts.Waits.{callers, calls_marked, times_marked, at_queue}
+use Rattle.lock_state.specs.Facts.Loans.{IsKept, IsKnown, EachOf, owner_if}
 use Rattle.lock_model.specs.declared.plan.Kind.{Kind}
 use Rattle.lock_model.specs.declared.plan.Kind.TheVariants.{Mtx, Rw, Sx}
 use Rattle.lock_model.specs.declared.plan.Mode.{Mode}
@@ -136,7 +138,7 @@ module _ (c : Config) (s : State) (t l : ℕ) (mode : Mode) (g : MayOpen c s t l
 
   -- 3. Standing and calling
 
-  stand_at_lock : (u k : ℕ) → stands u (n.lists (lock_queue k)) + sum_below c.threads (λ v. times_marked u (lock_queue k) (n.marked v)) ≡ at_queue (lock_queue k) (n.named u)
+  stand_at_lock : (u k : ℕ) → stands u (n.lists (lock_queue k)) + sum_below c.threads (λ v. times_marked u (lock_queue k) (n.marked v)) ≡ at_queue (lock_queue k) (n.blocked_on u)
   unfolding after_open StandsOnce
   stand_at_lock u k =
       let a = sum_below-put c.threads (times_marked u (lock_queue k)) s.marked t marks g.thread in
@@ -153,7 +155,7 @@ module _ (c : Config) (s : State) (t l : ℕ) (mode : Mode) (g : MayOpen c s t l
             rw (put_lock_other s.lists l (with_list side [] (s.lists q)) k i) (omega (arith, h.stands_once u (lock_queue k)))
       ]
 
-  stand_at_chan : (u d : ℕ) → stands u (n.lists (chan_queue d)) + sum_below c.threads (λ v. times_marked u (chan_queue d) (n.marked v)) ≡ at_queue (chan_queue d) (n.named u)
+  stand_at_chan : (u d : ℕ) → stands u (n.lists (chan_queue d)) + sum_below c.threads (λ v. times_marked u (chan_queue d) (n.marked v)) ≡ at_queue (chan_queue d) (n.blocked_on u)
   unfolding after_open StandsOnce put_queue
   stand_at_chan u d =
       let a = sum_below-put c.threads (times_marked u (chan_queue d)) s.marked t marks g.thread in
@@ -161,9 +163,9 @@ module _ (c : Config) (s : State) (t l : ℕ) (mode : Mode) (g : MayOpen c s t l
       let f = times_marked-elsewhere u (chan_queue d) q refl woken (s.free_list q) (s.head q) in
       omega (arith, h.stands_once u (chan_queue d))
 
-  stand : StandsOnce c n.lists n.marked n.named
+  stand : StandsOnce c n.lists n.marked n.blocked_on
   unfolding after_open StandsOnce
-  stand u = each_queue (λ r. stands u (n.lists r) + sum_below c.threads (λ v. times_marked u r (n.marked v)) ≡ at_queue r (n.named u)) (stand_at_lock u) (stand_at_chan u)
+  stand u = each_queue (λ r. stands u (n.lists r) + sum_below c.threads (λ v. times_marked u r (n.marked v)) ≡ at_queue r (n.blocked_on u)) (stand_at_lock u) (stand_at_chan u)
 
   called : FreeWordHasCalled c n.word n.marked n.wait n.called
   unfolding after_open FreeWordHasCalled callers
@@ -252,9 +254,9 @@ module _ (c : Config) (s : State) (t l : ℕ) (mode : Mode) (g : MayOpen c s t l
 
   nowhere : (k : ℕ) → is_turnstile (c.kind k) ≡ true → stands t (s.lists (lock_queue k)) ≡ 0
   unfolding StandsOnce
-  nowhere k i = let a = off (s.named t) refl in omega (arith, h.stands_once t (lock_queue k))
+  nowhere k i = let a = off (s.blocked_on t) refl in omega (arith, h.stands_once t (lock_queue k))
     where
-      off : (o : Option QueueName) → s.named t ≡ o → at_queue (lock_queue k) o ≡ 0
+      off : (o : Option QueueName) → s.blocked_on t ≡ o → at_queue (lock_queue k) o ≡ 0
       off None y = refl
       off (Some (Chan d)) y = refl
       off (Some (Lock j)) y = elim (cases_eq k j.0) [

@@ -3,13 +3,15 @@ use Rattle.std.proofs.Common.{◌≡◌, ℕ, ◌+◌, ◌≤◌, Bool, true, fa
 use Rattle.std.proofs.lemmas.Bool.{cases_eq, ne_eqb}
 use Rattle.lock_model.specs.Counts.{one, some, times, at_option, sum_below, is_empty}
 use Rattle.lock_model.specs.Words.{Word, Holder, Free, is_turnstile, shows_waiters, without_one, opened, unshown, side_woken}
-use Rattle.lock_model.specs.State.{State, Config, Waiter, Lists, Mark, NotHeld, put, put_queue}
-use Rattle.lock_model.specs.MovesOfSleeps.{MayOpenSleep, after_open_sleep}
-use Rattle.lock_model.specs.Queues.{lock_queue, chan_queue, list_of, with_list, stands, dealt, free_after, head_after}
-use Rattle.lock_model.specs.Facts.{Lawful, OneTurnstileEach, OneSleepQueueEach, HeadsFitWaiters, BitsShowWaiters, ListsAscend, MutexWaitersAreExclusive, StandsOnce, FreeWordHasCalled, FreeMutexShowsNone, WordsMatchHolders, OnlyThreadsHold, OwnersHold, LoansAreLeast, LoansAreWithOwners, LoansAreOnHeads, KeptIsEffective, KeptIsKnown, SectionsAreHeld}
-use Rattle.lock_model.specs.FactsOfQueues.{only, times_object, turnstile_places, sleep_queue_places, HeadFits, ShowsItsWaiters}
-use Rattle.lock_model.specs.FactsOfWaits.{callers, calls_marked, times_marked, at_queue}
-use Rattle.lock_model.specs.FactsOfLoans.{owner_if}
+use Rattle.lock_state.specs.State.{State, put, put_queue}
+use Rattle.lock_model.specs.Config.{Config}
+use Rattle.lock_model.specs.Queues.{Waiter, Lists, Mark, lock_queue, chan_queue, list_of, with_list, stands, dealt, free_after, head_after}
+use Rattle.lock_model.specs.Holds.{NotHeld}
+use Rattle.lock_state.specs.Steps.SleepQueues.{MayOpenSleep, after_open_sleep}
+use Rattle.lock_state.specs.Facts.{Lawful, OneTurnstileEach, OneSleepQueueEach, HeadsFitWaiters, BitsShowWaiters, ListsAscend, MutexWaitersAreExclusive, StandsOnce, FreeWordHasCalled, FreeMutexShowsNone, WordsMatchHolders, OnlyThreadsHold, OwnersHold, LoansAreLeast, LoansAreWithOwners, LoansAreOnHeads, KeptIsEffective, KeptIsKnown, SectionsAreHeld}
+use Rattle.lock_state.specs.Facts.Queues.{only, times_object, turnstile_places, sleep_queue_places, HeadFits, ShowsItsWaiters}
+use Rattle.lock_state.specs.Facts.Waits.{callers, calls_marked, times_marked, at_queue}
+use Rattle.lock_state.specs.Facts.Loans.{owner_if}
 use Rattle.lock_model.specs.declared.plan.Kind.{Kind}
 use Rattle.lock_model.specs.declared.plan.Kind.TheVariants.{Mtx, Rw, Sx}
 use Rattle.lock_model.specs.declared.plan.Mode.{Mode}
@@ -136,7 +138,7 @@ module _ (c : Config) (s : State) (t l : ℕ) (mode : Mode) (g : MayOpenSleep c 
 
   -- 3. Standing and calling
 
-  stand_at_lock : (u k : ℕ) → stands u (n.lists (lock_queue k)) + sum_below c.threads (λ v. times_marked u (lock_queue k) (n.marked v)) ≡ at_queue (lock_queue k) (n.named u)
+  stand_at_lock : (u k : ℕ) → stands u (n.lists (lock_queue k)) + sum_below c.threads (λ v. times_marked u (lock_queue k) (n.marked v)) ≡ at_queue (lock_queue k) (n.blocked_on u)
   unfolding after_open_sleep StandsOnce
   stand_at_lock u k =
       let a = sum_below-put c.threads (times_marked u (lock_queue k)) s.marked t marks g.thread in
@@ -153,7 +155,7 @@ module _ (c : Config) (s : State) (t l : ℕ) (mode : Mode) (g : MayOpenSleep c 
             rw (put_lock_other s.lists l (with_list side [] (s.lists q)) k i) (omega (arith, h.stands_once u (lock_queue k)))
       ]
 
-  stand_at_chan : (u d : ℕ) → stands u (n.lists (chan_queue d)) + sum_below c.threads (λ v. times_marked u (chan_queue d) (n.marked v)) ≡ at_queue (chan_queue d) (n.named u)
+  stand_at_chan : (u d : ℕ) → stands u (n.lists (chan_queue d)) + sum_below c.threads (λ v. times_marked u (chan_queue d) (n.marked v)) ≡ at_queue (chan_queue d) (n.blocked_on u)
   unfolding after_open_sleep StandsOnce put_queue
   stand_at_chan u d =
       let a = sum_below-put c.threads (times_marked u (chan_queue d)) s.marked t marks g.thread in
@@ -161,9 +163,9 @@ module _ (c : Config) (s : State) (t l : ℕ) (mode : Mode) (g : MayOpenSleep c 
       let f = times_marked-elsewhere u (chan_queue d) q refl woken (s.free_list q) (s.head q) in
       omega (arith, h.stands_once u (chan_queue d))
 
-  stand : StandsOnce c n.lists n.marked n.named
+  stand : StandsOnce c n.lists n.marked n.blocked_on
   unfolding after_open_sleep StandsOnce
-  stand u = each_queue (λ r. stands u (n.lists r) + sum_below c.threads (λ v. times_marked u r (n.marked v)) ≡ at_queue r (n.named u)) (stand_at_lock u) (stand_at_chan u)
+  stand u = each_queue (λ r. stands u (n.lists r) + sum_below c.threads (λ v. times_marked u r (n.marked v)) ≡ at_queue r (n.blocked_on u)) (stand_at_lock u) (stand_at_chan u)
 
   called : FreeWordHasCalled c n.word n.marked n.wait n.called
   unfolding after_open_sleep FreeWordHasCalled callers

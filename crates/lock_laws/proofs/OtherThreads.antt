@@ -3,13 +3,14 @@ use Rattle.std.proofs.Common.{◌≡◌, ◌≢◌, ℕ, suc, Bool, true, false,
 use Rattle.lock_model.specs.Counts.{any_below, is_empty}
 use Rattle.lock_model.specs.Words.{admits, is_drop, is_turnstile, owner_of}
 use Rattle.lock_model.specs.Plans.{config_of, operations_of}
-use Rattle.lock_model.specs.Operations.{is_unheld}
-use Rattle.lock_model.specs.Queues.{lock_queue, stands}
-use Rattle.lock_model.specs.State.{Config, State, Hold, NotHeld, Holds, Wait, Running, Queued, Woken, Walk, NoWalk, AtLock, AtThread, Mark, Cause}
-use Rattle.lock_model.specs.Moves.{after_gain, after_drop, after_stamp, after_ready}
-use Rattle.lock_model.specs.MovesOfQueues.{after_block, after_enter, after_open, after_mark, after_resume}
-use Rattle.lock_model.specs.MovesOfLoans.{after_lend, after_shift, after_end_walk}
-use Rattle.lock_model.specs.Run.{Run, is_walking, turn_of, has_ended, nothing, made, ended, blocks, takes, releases, notes, operates, walks_at_lock, walks_at_thread, by_wait, by_marked, by_walk}
+use Rattle.lock_model.specs.Holds.{is_unheld, Hold, NotHeld, Holds}
+use Rattle.lock_model.specs.Queues.{lock_queue, stands, Mark, Cause}
+use Rattle.lock_model.specs.Config.{Config}
+use Rattle.lock_state.specs.State.{State, Wait, Running, Queued, Woken, Walk, NoWalk, AtLock, AtThread}
+use Rattle.lock_state.specs.Steps.LockWords.{after_gain, after_drop, after_stamp, after_ready}
+use Rattle.lock_state.specs.Steps.Turnstiles.{after_block, after_enter, after_open, after_mark, after_resume}
+use Rattle.lock_state.specs.Steps.Lending.{after_lend, after_shift, after_end_walk}
+use Rattle.lock_state.specs.Run.{Run, is_walking, turn_of, has_ended, nothing, made, ended, blocks, takes, releases, notes, operates, walks_at_lock, walks_at_thread, by_wait, by_marked, by_walk}
 use Rattle.lock_model.specs.declared.numbers.LockNo.{LockNo}
 use Rattle.lock_model.specs.declared.plan.Mode.{Mode}
 use Rattle.lock_model.specs.declared.plan.Op.{Op}
@@ -168,7 +169,7 @@ module _ (c : Config) (r : Run) (t u : ℕ) (ne : t ≡ u → ⊥) where
 
   walks : (plan : Plan) (w : Walk) → SameOf u r (by_walk plan c r t w).run
   walks plan (AtLock l) = at_lock l (owner_of (s.word l).holder) (s.head (lock_queue l))
-  walks plan (AtThread o) = at_thread o (s.named o)
+  walks plan (AtThread o) = at_thread o (s.blocked_on o)
   walks plan NoWalk = marks plan (s.marked t)
 
 turned : (plan : Plan) (chains : ℕ) (r : Run) (t u : ℕ) → (t ≡ u → ⊥) → SameOf u r (turn_of plan chains r t).run

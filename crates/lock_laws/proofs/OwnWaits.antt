@@ -1,9 +1,10 @@
 -- Looks, and the steps on a thread's own wait word that put it on no queue, keep each fact.
 use Rattle.std.proofs.Common.{ℕ, Bool, arith, ap}
-use Rattle.lock_model.specs.State.{State, Config, Running, Queued}
-use Rattle.lock_model.specs.Moves.{MayLook, MayReady, MayUnready, after_look, after_ready, after_unready}
-use Rattle.lock_model.specs.Facts.{Lawful, StandingIsQueued, QueuedHasRecord, WokenWants, WokenIsUncalled, FreeWordHasCalled}
-use Rattle.lock_model.specs.FactsOfWaits.{callers, calls_woken}
+use Rattle.lock_state.specs.State.{State, Running, Queued}
+use Rattle.lock_model.specs.Config.{Config}
+use Rattle.lock_state.specs.Steps.LockWords.{MayLook, MayReady, MayUnready, after_look, after_ready, after_unready}
+use Rattle.lock_state.specs.Facts.{Lawful, StandingIsQueued, QueuedHasRecord, WokenWants, WokenIsUncalled, FreeWordHasCalled}
+use Rattle.lock_state.specs.Facts.Waits.{callers, calls_woken}
 use Rattle.lock_laws.proofs.Kit.{columns, sum_below-put}
 
 module _ (c : Config) (s : State) (t l : ℕ) (in_round : Bool) (g : MayLook c s t l in_round) (h : Lawful c s) where
@@ -15,11 +16,11 @@ module _ (c : Config) (s : State) (t : ℕ) (g : MayReady c s t) (h : Lawful c s
   abbrev n : State
   n = after_ready s t
 
-  queued : StandingIsQueued n.named n.wait
+  queued : StandingIsQueued n.blocked_on n.wait
   unfolding after_ready StandingIsQueued
   queued u q = grind (arith, columns, h.standing_is_queued u q)
 
-  has_record : QueuedHasRecord n.wait n.named n.record_with
+  has_record : QueuedHasRecord n.wait n.blocked_on n.record_with
   unfolding after_ready QueuedHasRecord
   has_record u = grind (arith, columns, h.queued_has_record u, g.record_out)
 
@@ -46,11 +47,11 @@ module _ (c : Config) (s : State) (t : ℕ) (g : MayUnready c s t) (h : Lawful c
   abbrev m : State
   m = after_unready s t
 
-  back_queued : StandingIsQueued m.named m.wait
+  back_queued : StandingIsQueued m.blocked_on m.wait
   unfolding after_unready StandingIsQueued
   back_queued u q = grind (arith, columns, h.standing_is_queued u q)
 
-  back_has_record : QueuedHasRecord m.wait m.named m.record_with
+  back_has_record : QueuedHasRecord m.wait m.blocked_on m.record_with
   unfolding after_unready QueuedHasRecord
   back_has_record u = grind (arith, columns, h.queued_has_record u)
 

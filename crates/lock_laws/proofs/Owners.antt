@@ -2,9 +2,9 @@
 use Rattle.std.proofs.Common.{◌≡◌, ℕ, ◌+◌, Bool, true, false, not, ◌||◌, List, [], ◌∷◌, length, Option, Some, None, refl, arith}
 use Rattle.lock_model.specs.Counts.{is_empty}
 use Rattle.lock_model.specs.Words.{Word, Holder, Free, HeldBy, SharedBy, is_owned, admits, is_plain, is_drop, gained, dropped, without_one, shows_waiters, is_turnstile, owner_of}
-use Rattle.lock_model.specs.State.{Lists, Waiter}
-use Rattle.lock_model.specs.FactsOfQueues.{ShowsItsWaiters, HeadFits}
-use Rattle.lock_model.specs.FactsOfLoans.{owner_if}
+use Rattle.lock_model.specs.Queues.{Lists, Waiter}
+use Rattle.lock_state.specs.Facts.Queues.{ShowsItsWaiters, HeadFits}
+use Rattle.lock_state.specs.Facts.Loans.{owner_if}
 use Rattle.lock_model.specs.declared.plan.Kind.{Kind}
 use Rattle.lock_model.specs.declared.plan.Kind.TheVariants.{Mtx, Rw, Sx}
 use Rattle.lock_model.specs.declared.plan.Mode.{Mode}

@@ -1,11 +1,13 @@
 -- A state is lawful in one way, so a ghost field or a model's invariant may keep it.
 use Rattle.std.proofs.Common.{ℕ, List, [], ◌∷◌}
 use Rattle.std.proofs.Props.{props}
-use Rattle.lock_model.specs.State.{Config, State, Waiter}
+use Rattle.lock_model.specs.Config.{Config}
+use Rattle.lock_state.specs.State.{State}
+use Rattle.lock_model.specs.Queues.{Waiter}
 use Rattle.lock_model.specs.History.{IsAlone, IsInSection, IsReplayed, IsShown}
-use Rattle.lock_model.specs.Facts.{Lawful, OneTurnstileEach, OneSleepQueueEach, OneNodeEach, TurnstileIsLent, SleepQueueIsLent, HeadsFitWaiters, BitsShowWaiters, ListsAscend, MutexWaitersAreExclusive, StandsOnce, OnlyThreadsStand, StandingIsQueued, QueuedHasRecord, StandingWants, WokenWants, CalledWants, StandingIsUncalled, WokenIsUncalled, FreeWordHasCalled, FreeMutexShowsNone, WordsMatchHolders, OnlyThreadsHold, EffectiveIsLeast, OwnersHold, ChannelsHaveNoOwner, LoansAreLeast, LoansAreWithOwners, LoansAreOnHeads, KeptIsEffective, EffectiveIsKnown, LoansAreKnown, KeptIsKnown, NextIsNew, LogsAreParts, TablesReplay, BasesReplay, SectionsAreHeld, OutIsNarrow, TicketsRun, SectionsExclude, EditsInSections, ReadsReplay, ShownIsExplained}
-use Rattle.lock_model.specs.FactsOfQueues.{Ascends}
-use Rattle.lock_model.specs.FactsOfLoans.{Each}
+use Rattle.lock_state.specs.Facts.{Lawful, OneTurnstileEach, OneSleepQueueEach, OneNodeEach, TurnstileIsLent, SleepQueueIsLent, HeadsFitWaiters, BitsShowWaiters, ListsAscend, MutexWaitersAreExclusive, StandsOnce, OnlyThreadsStand, StandingIsQueued, QueuedHasRecord, StandingWants, WokenWants, CalledWants, StandingIsUncalled, WokenIsUncalled, FreeWordHasCalled, FreeMutexShowsNone, WordsMatchHolders, OnlyThreadsHold, EffectiveIsLeast, OwnersHold, ChannelsHaveNoOwner, LoansAreLeast, LoansAreWithOwners, LoansAreOnHeads, KeptIsEffective, EffectiveIsKnown, LoansAreKnown, KeptIsKnown, NextIsNew, LogsAreParts, TablesReplay, BasesReplay, SectionsAreHeld, OutIsNarrow, TicketsRun, SectionsExclude, EditsInSections, ReadsReplay, ShownIsExplained}
+use Rattle.lock_state.specs.Facts.Queues.{Ascends}
+use Rattle.lock_state.specs.Facts.Loans.{Each}
 use Rattle.lock_model.specs.declared.plan.Mode.{Mode}
 use Rattle.lock_model.specs.declared.plan.Mode.TheVariants.{Excl, Shared}
 use Rattle.lock_model.specs.declared.event.Event.{Event}

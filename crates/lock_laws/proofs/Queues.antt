@@ -2,10 +2,10 @@
 use Rattle.std.proofs.Common.{◌≡◌, ℕ, suc, ◌+◌, ◌≤◌, true, false, cond, eqb, leb, List, [], ◌∷◌, length, Option, Some, None, refl, inl, inr, arith, eq-eqb}
 use Rattle.std.proofs.lemmas.Bool.{cases_Bool, leb-true, leb-false}
 use Rattle.lock_model.specs.Counts.{one, some, times, at_option, is_empty}
-use Rattle.lock_model.specs.State.{Config, Waiter, Lists, is_queue}
-use Rattle.lock_model.specs.Queues.{is_turnstile_queue, lock_queue, list_of, with_list, times_waiting, stands, waiting, insert, dealt, free_after, head_after}
-use Rattle.lock_model.specs.FactsOfQueues.{Ascends, times_object}
-use Rattle.lock_model.specs.FactsOfWaits.{times_marked, calls_marked}
+use Rattle.lock_model.specs.Config.{Config}
+use Rattle.lock_model.specs.Queues.{Waiter, Lists, is_queue, is_turnstile_queue, lock_queue, list_of, with_list, times_waiting, stands, waiting, insert, dealt, free_after, head_after}
+use Rattle.lock_state.specs.Facts.Queues.{Ascends, times_object}
+use Rattle.lock_state.specs.Facts.Waits.{times_marked, calls_marked}
 use Rattle.lock_model.specs.declared.plan.Side.{Side}
 use Rattle.lock_model.specs.declared.plan.Side.TheVariants.{X, S}
 use Rattle.lock_model.specs.declared.plan.QueueName.{QueueName}

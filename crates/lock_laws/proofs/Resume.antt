@@ -2,11 +2,13 @@
 use Rattle.std.proofs.Common.{◌≡◌, ℕ, ◌+◌, ◌≤◌, Option, Some, None, sym, ap, inl, inr, arith, ◌∙◌}
 use Rattle.std.proofs.lemmas.Bool.{cases_eq}
 use Rattle.lock_model.specs.Counts.{at_option}
-use Rattle.lock_model.specs.State.{State, Config, Running, Woken, Cause, BySignal, ByAbort, put}
-use Rattle.lock_model.specs.Moves.{is_woken}
-use Rattle.lock_model.specs.MovesOfQueues.{MayResume, after_resume, called_after, wanted_after, is_taking_back}
-use Rattle.lock_model.specs.Facts.{Lawful, StandingIsQueued, QueuedHasRecord, StandingWants, WokenWants, CalledWants, StandingIsUncalled, WokenIsUncalled, FreeWordHasCalled}
-use Rattle.lock_model.specs.FactsOfWaits.{callers, calls_woken}
+use Rattle.lock_state.specs.State.{State, Running, Woken, put}
+use Rattle.lock_model.specs.Config.{Config}
+use Rattle.lock_model.specs.Queues.{Cause, BySignal, ByAbort}
+use Rattle.lock_state.specs.Steps.LockWords.{is_woken}
+use Rattle.lock_state.specs.Steps.Turnstiles.{MayResume, after_resume, called_after, wanted_after, is_taking_back}
+use Rattle.lock_state.specs.Facts.{Lawful, StandingIsQueued, QueuedHasRecord, StandingWants, WokenWants, CalledWants, StandingIsUncalled, WokenIsUncalled, FreeWordHasCalled}
+use Rattle.lock_state.specs.Facts.Waits.{callers, calls_woken}
 use Rattle.lock_model.specs.declared.plan.QueueName.{QueueName}
 use Rattle.lock_model.specs.declared.plan.QueueName.TheVariants.{Lock, Chan}
 use Rattle.lock_laws.proofs.Kit.{columns, put_same, put_other, sum_below-put}
@@ -26,27 +28,27 @@ module _ (c : Config) (s : State) (t : ℕ) (q : QueueName) (cause : Cause) (g :
   unfolding WokenIsUncalled
   uncalled = h.woken_is_uncalled t (ap is_woken g.woken)
 
-  unnamed : (r : QueueName) → s.named t ≡ Some r → ⊥
+  unnamed : (r : QueueName) → s.blocked_on t ≡ Some r → ⊥
   unfolding StandingIsQueued
   unnamed r e = let z = ap is_woken (sym g.woken ∙ h.standing_is_queued t r e) in cc
 
-  standing_queued : StandingIsQueued n.named n.wait
+  standing_queued : StandingIsQueued n.blocked_on n.wait
   unfolding after_resume StandingIsQueued
   standing_queued u r e =
       elim (cases_eq t u) [
-        | inl i ↦ absurd (unnamed r (ap s.named i ∙ e))
+        | inl i ↦ absurd (unnamed r (ap s.blocked_on i ∙ e))
         | inr i ↦ rw (put_other s.wait t Running u i) (h.standing_is_queued u r e)
       ]
 
-  has_record : QueuedHasRecord n.wait n.named n.record_with
+  has_record : QueuedHasRecord n.wait n.blocked_on n.record_with
   unfolding after_resume QueuedHasRecord
   has_record u = grind (arith, columns, h.queued_has_record u)
 
-  standing_wants : StandingWants n.named n.wanted
+  standing_wants : StandingWants n.blocked_on n.wanted
   unfolding after_resume StandingWants
   standing_wants u k e =
       elim (cases_eq t u) [
-        | inl i ↦ absurd (unnamed _ (ap s.named i ∙ e))
+        | inl i ↦ absurd (unnamed _ (ap s.blocked_on i ∙ e))
         | inr i ↦ rw (put_other s.wanted t (wanted_after c q cause (is_taking_back (s.log t)) (s.wanted t)) u i) (h.standing_wants u k e)
       ]
 
@@ -69,11 +71,11 @@ module _ (c : Config) (s : State) (t : ℕ) (q : QueueName) (cause : Cause) (g :
         | inr i ↦ rw (put_other s.wanted t (wanted_after c q cause (is_taking_back (s.log t)) (s.wanted t)) u i) (h.called_wants u k (sym (put_other s.called t (called_after q cause (s.called t)) u i) ∙ e))
       ]
 
-  standing_uncalled : StandingIsUncalled n.named n.called
+  standing_uncalled : StandingIsUncalled n.blocked_on n.called
   unfolding after_resume StandingIsUncalled
   standing_uncalled u r e =
       elim (cases_eq t u) [
-        | inl i ↦ absurd (unnamed r (ap s.named i ∙ e))
+        | inl i ↦ absurd (unnamed r (ap s.blocked_on i ∙ e))
         | inr i ↦ rw (put_other s.called t (called_after q cause (s.called t)) u i) (h.standing_is_uncalled u r e)
       ]
 

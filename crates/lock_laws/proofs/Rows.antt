@@ -3,14 +3,15 @@
 use Rattle.std.proofs.Common.{◌≡◌, ℕ, zero, suc, true, false, List, [], ◌∷◌, ◌++◌, length, Some, None, refl}
 use Rattle.lock_model.specs.Counts.{sum_below, least}
 use Rattle.lock_model.specs.Words.{word_of, bits_of}
-use Rattle.lock_model.specs.State.{Config, State, Waiter, Mark, BySignal, NoWalk, AtThread, start_state, put, put_at, put_queue}
-use Rattle.lock_model.specs.Queues.{lock_queue, chan_queue, stands}
-use Rattle.lock_model.specs.Moves.{after_look, after_gain, after_drop, after_stamp, after_ready}
-use Rattle.lock_model.specs.MovesOfQueues.{after_enter, after_open, after_mark, after_resume}
-use Rattle.lock_model.specs.MovesOfSleeps.{after_enter_sleep, after_open_sleep, after_add, after_wake}
-use Rattle.lock_model.specs.MovesOfLoans.{after_claim, after_lend, after_shift, after_end_walk}
-use Rattle.lock_model.specs.MovesOfTurns.{RecordOf, after_take, after_give}
-use Rattle.lock_model.specs.Steps.{Move, Looks, TakesTurn, GivesTurn, Gains, Stamps, Readies, Enters, Opens, Marks, Resumes, Claims, Lends, Shifts, after_all, EntersSleepQueue, OpensSleepQueue, Adds, Wakes, Drops}
+use Rattle.lock_model.specs.Config.{Config}
+use Rattle.lock_state.specs.State.{State, NoWalk, AtThread, start_state, put, put_at, put_queue}
+use Rattle.lock_model.specs.Queues.{Waiter, Mark, BySignal, lock_queue, chan_queue, stands}
+use Rattle.lock_state.specs.Steps.LockWords.{after_look, after_gain, after_drop, after_stamp, after_ready}
+use Rattle.lock_state.specs.Steps.Turnstiles.{after_enter, after_open, after_mark, after_resume}
+use Rattle.lock_state.specs.Steps.SleepQueues.{after_enter_sleep, after_open_sleep, after_add, after_wake}
+use Rattle.lock_state.specs.Steps.Lending.{after_claim, after_lend, after_shift, after_end_walk}
+use Rattle.lock_state.specs.Steps.Items.{RecordOf, after_take, after_give}
+use Rattle.lock_state.specs.Steps.{Step, Looks, TakesItem, GivesItem, Gains, Stamps, Readies, Enters, Opens, Marks, Resumes, Claims, Lends, Shifts, after_all, EntersSleepQueue, OpensSleepQueue, Adds, Wakes, Drops}
 use Rattle.lock_model.specs.declared.plan.Kind.{Kind}
 use Rattle.lock_model.specs.declared.plan.Kind.TheVariants.{Mtx, Rw, Sx}
 use Rattle.lock_model.specs.declared.plan.Mode.{Mode}
@@ -36,15 +37,15 @@ plan kind locks bases = record {
 }
 
 -- a thread takes a lock
-unfoldable pub takes : ℕ → ℕ → Mode → List Move
+unfoldable pub takes : ℕ → ℕ → Mode → List Step
 takes t l mode = Gains t l mode ∷ Stamps t (Locked (record { 0 = l }) mode) ∷ []
 
 -- a thread stands on a lock's turnstile with its own turnstile x
-unfoldable pub blocks : ℕ → ℕ → Mode → ℕ → List Move
-blocks t l mode x = TakesTurn t (RecordOf t) ∷ Readies t ∷ Enters t l mode x ∷ GivesTurn t (RecordOf t) ∷ []
+unfoldable pub blocks : ℕ → ℕ → Mode → ℕ → List Step
+blocks t l mode x = TakesItem t (RecordOf t) ∷ Readies t ∷ Enters t l mode x ∷ GivesItem t (RecordOf t) ∷ []
 
 -- a thread releases a lock, and a side is woken
-unfoldable pub opens : ℕ → ℕ → Mode → List Move
+unfoldable pub opens : ℕ → ℕ → Mode → List Step
 opens t l mode = Stamps t (Unlocked (record { 0 = l }) mode) ∷ Opens t l mode ∷ []
 
 unfoldable pub mark : ℕ → ℕ → ℕ → Mark
@@ -59,10 +60,10 @@ waits t p = record { thread = t; kept = p }
 unfoldable pub lending : Config
 lending = plan Mtx 1 (100 ∷ 50 ∷ [])
 
-unfoldable pub lent : List Move
+unfoldable pub lent : List Step
 lent = takes 0 0 Excl ++ blocks 1 0 Excl 1 ++ Lends 1 0 0 1 ∷ []
 
-unfoldable pub handed_back : List Move
+unfoldable pub handed_back : List Step
 handed_back = lent ++ opens 0 0 Excl ++ Marks 0 (mark 1 1 0) [] ∷ Resumes 1 (lock_queue 0) BySignal ∷ takes 1 0 Excl
 
 -- q is the head and stands alone; p has its priority, and the walk has ended
@@ -80,7 +81,7 @@ handed_back_is s e = rw e (refl, refl, refl, refl, refl)
 ties : Config
 ties = plan Mtx 1 (200 ∷ 100 ∷ 50 ∷ 50 ∷ [])
 
-tied : List Move
+tied : List Step
 tied = takes 0 0 Excl ++ blocks 1 0 Excl 1 ++ Lends 1 0 0 1 ∷ blocks 2 0 Excl 2 ++ Lends 2 0 0 1 ∷ blocks 3 0 Excl 3 ++ Lends 3 0 0 1 ∷ []
 
 -- equals stand in order of arrival, and the free list gives out what was put last
@@ -98,7 +99,7 @@ dealt_is s e = rw e (refl, refl, refl)
 owners : Config
 owners = plan Mtx 2 (200 ∷ 150 ∷ 50 ∷ [])
 
-first_hop : List Move
+first_hop : List Step
 first_hop = takes 0 0 Excl ++ takes 1 1 Excl ++ blocks 1 0 Excl 1 ++ Lends 1 0 0 1 ∷ blocks 2 1 Excl 2 ++ Lends 2 1 1 2 ∷ []
 
 -- t3's walk stands at t2, and t1 has t2's own priority yet
@@ -112,7 +113,7 @@ unfolding owners first_hop start_state after_look after_gain after_stamp after_d
 last_hop_is s e = rw e (refl, refl, refl)
 
 -- Where t1 releases a before the second hop, t2 is marked and stands on no queue, so t3's walk ends there
-owner_gone_is : (s : State) → s ≡ after_all owners (start_state owners) (first_hop ++ opens 0 0 Excl) → (s.walk 2 ≡ AtThread 1) × (s.named 1 ≡ Some (lock_queue 0)) × (s.marked 0 ≡ mark 1 1 0 ∷ []) × (stands 1 (s.lists (lock_queue 0)) ≡ 0) × (s.effective 0 ≡ 200)
+owner_gone_is : (s : State) → s ≡ after_all owners (start_state owners) (first_hop ++ opens 0 0 Excl) → (s.walk 2 ≡ AtThread 1) × (s.blocked_on 1 ≡ Some (lock_queue 0)) × (s.marked 0 ≡ mark 1 1 0 ∷ []) × (stands 1 (s.lists (lock_queue 0)) ≡ 0) × (s.effective 0 ≡ 200)
 unfolding owners first_hop start_state after_look after_gain after_stamp after_drop after_take after_give after_ready after_enter after_open after_mark after_resume after_claim after_lend after_shift after_end_walk put put_at put_queue least sum_below at plan takes blocks opens mark
 owner_gone_is s e = rw e (refl, refl, refl, refl, refl)
 
@@ -121,7 +122,7 @@ owner_gone_is s e = rw e (refl, refl, refl, refl, refl)
 loans : Config
 loans = plan Mtx 2 (200 ∷ 60 ∷ 40 ∷ [])
 
-two_loans : List Move
+two_loans : List Step
 two_loans = takes 0 0 Excl ++ takes 0 1 Excl ++ blocks 1 0 Excl 1 ++ Lends 1 0 0 1 ∷ blocks 2 1 Excl 2 ++ Lends 2 1 0 2 ∷ []
 
 two_loans_are : (s : State) → s ≡ after_all loans (start_state loans) two_loans → s.effective 0 ≡ 40
@@ -141,7 +142,7 @@ no_loan_is s e = rw e refl
 readers : ℕ → Config
 readers n = plan Rw 1 (100 ∷ 90 ∷ 80 ∷ 70 ∷ n ∷ [])
 
-woken_writer : List Move
+woken_writer : List Step
 woken_writer = takes 0 0 Excl ++ blocks 1 0 Shared 1 ++ Lends 1 0 0 1 ∷ blocks 2 0 Shared 2 ++ Lends 2 0 0 1 ∷ blocks 3 0 Excl 3 ++ Lends 3 0 0 1 ∷ opens 0 0 Excl
 
 -- a reader gains before the woken writer
@@ -159,7 +160,7 @@ claimed_is s e = rw e (refl, refl, refl, refl)
 behind : Config
 behind = plan Rw 1 (100 ∷ 90 ∷ 80 ∷ [])
 
-tried : List Move
+tried : List Step
 tried = takes 0 0 Shared ++ blocks 1 0 Excl 1 ++ Looks 2 0 false ∷ Stamps 2 (Busy (record { 0 = 0 }) 9) ∷ blocks 2 0 Shared 2
 
 -- the try saw the word that stands in its entry
@@ -177,8 +178,8 @@ exchanged_is s e = rw e (refl, refl, refl, refl)
 exclusive : Config
 exclusive = plan Sx 1 (100 ∷ 50 ∷ 60 ∷ [])
 
-sleeps : ℕ → ℕ → Mode → ℕ → List Move
-sleeps t l mode x = TakesTurn t (RecordOf t) ∷ Readies t ∷ EntersSleepQueue t l mode x ∷ GivesTurn t (RecordOf t) ∷ []
+sleeps : ℕ → ℕ → Mode → ℕ → List Step
+sleeps t l mode x = TakesItem t (RecordOf t) ∷ Readies t ∷ EntersSleepQueue t l mode x ∷ GivesItem t (RecordOf t) ∷ []
 
 -- the shared waiter is woken first, and the head stays with x
 shared_first_is : (s : State) → s ≡ after_all exclusive (start_state exclusive) (takes 0 0 Excl ++ sleeps 1 0 Excl 1 ++ sleeps 2 0 Shared 2 ++ Stamps 0 (Unlocked (record { 0 = 0 }) Excl) ∷ OpensSleepQueue 0 0 Excl ∷ []) → (s.head (lock_queue 0) ≡ Some 1) × (s.free_list (lock_queue 0) ≡ []) × (s.lists (lock_queue 0) ≡ record { exclusive = waits 1 50 ∷ []; shared = [] }) × (s.marked 0 ≡ mark 2 2 0 ∷ []) × (s.effective 0 ≡ 100)
@@ -190,8 +191,8 @@ shared_first_is s e = rw e (refl, refl, refl, refl, refl)
 signals : Config
 signals = record (plan Mtx 1 (100 ∷ 100 ∷ 50 ∷ [])) { chans = 1 }
 
-goes_to_sleep : ℕ → List Move
-goes_to_sleep t = takes t 0 Excl ++ TakesTurn t (RecordOf t) ∷ Readies t ∷ Stamps t (Sleeps (record { 0 = 0 })) ∷ Adds t 0 t ∷ GivesTurn t (RecordOf t) ∷ Drops t 0 Excl ∷ []
+goes_to_sleep : ℕ → List Step
+goes_to_sleep t = takes t 0 Excl ++ TakesItem t (RecordOf t) ∷ Readies t ∷ Stamps t (Sleeps (record { 0 = 0 })) ∷ Adds t 0 t ∷ GivesItem t (RecordOf t) ∷ Drops t 0 Excl ∷ []
 
 -- of equals the one that has slept longest is signalled; it takes the free object, and the head stays with b
 signalled_is : (s : State) → s ≡ after_all signals (start_state signals) (goes_to_sleep 0 ++ goes_to_sleep 1 ++ Wakes 2 0 false ∷ Stamps 2 (WokeOne (record { 0 = 0 }) 1) ∷ []) → (s.marked 2 ≡ record { thread = 0; object = 1; queue = chan_queue 0; cause = BySignal } ∷ []) × (s.head (chan_queue 0) ≡ Some 0) × (s.lists (chan_queue 0) ≡ record { exclusive = waits 1 100 ∷ []; shared = [] }) × (s.unstamped 2 ≡ None)

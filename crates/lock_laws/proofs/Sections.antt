@@ -1,10 +1,12 @@
 -- Laws of sections: who has one open holds the lock, and no two that exclude each other are open.
 use Rattle.std.proofs.Common.{◌≡◌, ℕ, Bool, true, false, cond, refl, sym, ap, arith, ◌∙◌}
 use Rattle.lock_model.specs.Words.{sharers}
-use Rattle.lock_model.specs.State.{Config, State, Hold, NotHeld, Holds}
+use Rattle.lock_model.specs.Config.{Config}
+use Rattle.lock_state.specs.State.{State}
+use Rattle.lock_model.specs.Holds.{Hold, NotHeld, Holds}
 use Rattle.lock_model.specs.History.{sections_in, sections_by, open_in, left_in, begun_by, ends, replaced, IsAlone, IsInSection, IsReplayed}
-use Rattle.lock_model.specs.Moves.{Asks}
-use Rattle.lock_model.specs.Facts.{Lawful, SectionsAreHeld, OnlyThreadsHold, TablesReplay}
+use Rattle.lock_state.specs.Steps.LockWords.{Asks}
+use Rattle.lock_state.specs.Facts.{Lawful, SectionsAreHeld, OnlyThreadsHold, TablesReplay}
 use Rattle.lock_model.specs.declared.plan.Mode.{Mode}
 use Rattle.lock_model.specs.declared.plan.Mode.TheVariants.{Excl, Shared}
 use Rattle.lock_model.specs.declared.event.Event.{Event}

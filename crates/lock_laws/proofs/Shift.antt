@@ -3,14 +3,15 @@ use Rattle.std.proofs.Common.{◌≡◌, ◌≢◌, ℕ, ◌+◌, ◌≤◌, Boo
 use Rattle.std.proofs.lemmas.Bool.{cases_eq, ne_eqb}
 use Rattle.lock_model.specs.Counts.{one, sum_below}
 use Rattle.lock_model.specs.Words.{is_turnstile}
-use Rattle.lock_model.specs.State.{State, Config, Waiter, Lists, Walk, NoWalk, AtLock, AtThread, put_queue, is_queue}
-use Rattle.lock_model.specs.Moves.{prio_of}
-use Rattle.lock_model.specs.MovesOfLoans.{MayShift, MayEndWalk, IsAtEnd, after_shift, after_end_walk, walk_up}
-use Rattle.lock_model.specs.Queues.{lock_queue, chan_queue, stands, least_of, with_kept}
-use Rattle.lock_model.specs.Facts.{Lawful, HeadsFitWaiters, BitsShowWaiters, ListsAscend, MutexWaitersAreExclusive, StandsOnce, OnlyThreadsStand, LoansAreLeast, KeptIsEffective, EffectiveIsKnown, KeptIsKnown}
-use Rattle.lock_model.specs.FactsOfQueues.{HeadFits}
-use Rattle.lock_model.specs.FactsOfWaits.{times_marked, at_queue}
-use Rattle.lock_model.specs.FactsOfLoans.{IsKept, IsKnown, EachOf, walks_at_lock, walks_at_thread, at_lock, at_thread}
+use Rattle.lock_state.specs.State.{State, Walk, NoWalk, AtLock, AtThread, put_queue}
+use Rattle.lock_model.specs.Config.{Config}
+use Rattle.lock_model.specs.Queues.{Waiter, Lists, is_queue, lock_queue, chan_queue, stands, least_of, with_kept}
+use Rattle.lock_state.specs.Steps.LockWords.{prio_of}
+use Rattle.lock_state.specs.Steps.Lending.{MayShift, MayEndWalk, IsAtEnd, after_shift, after_end_walk, walk_up}
+use Rattle.lock_state.specs.Facts.{Lawful, HeadsFitWaiters, BitsShowWaiters, ListsAscend, MutexWaitersAreExclusive, StandsOnce, OnlyThreadsStand, LoansAreLeast, KeptIsEffective, EffectiveIsKnown, KeptIsKnown}
+use Rattle.lock_state.specs.Facts.Queues.{HeadFits}
+use Rattle.lock_state.specs.Facts.Waits.{times_marked, at_queue}
+use Rattle.lock_state.specs.Facts.Loans.{IsKept, IsKnown, EachOf, walks_at_lock, walks_at_thread, at_lock, at_thread}
 use Rattle.lock_model.specs.declared.plan.QueueName.{QueueName}
 use Rattle.lock_laws.proofs.Kit.{columns, put_lock_same, put_lock_other, sum_below-put, at_put_lock, each_queue, at_queue_one, one_same}
 use Rattle.lock_laws.proofs.Lending.{each_of-map, each_of-kept, stands-kept, waiting-kept, ascends-reinsert, is_empty-reinsert}
@@ -60,7 +61,7 @@ module _ (c : Config) (s : State) (t o l : ℕ) (g : MayShift c s t o l) (h : La
   unfolding after_shift MutexWaitersAreExclusive
   mutex_waiters k e = grind (arith, columns, h.mutex_waiters_are_exclusive k e)
 
-  stand_at_lock : (u k : ℕ) → stands u (n.lists (lock_queue k)) + sum_below c.threads (λ v. times_marked u (lock_queue k) (n.marked v)) ≡ at_queue (lock_queue k) (n.named u)
+  stand_at_lock : (u k : ℕ) → stands u (n.lists (lock_queue k)) + sum_below c.threads (λ v. times_marked u (lock_queue k) (n.marked v)) ≡ at_queue (lock_queue k) (n.blocked_on u)
   unfolding after_shift StandsOnce
   stand_at_lock u k =
       elim (cases_eq l k) [
@@ -68,9 +69,9 @@ module _ (c : Config) (s : State) (t o l : ℕ) (g : MayShift c s t o l) (h : La
         | inr e ↦ rw (put_lock_other s.lists l lists k e) (h.stands_once u (lock_queue k))
       ]
 
-  stand : StandsOnce c n.lists n.marked n.named
+  stand : StandsOnce c n.lists n.marked n.blocked_on
   unfolding after_shift StandsOnce put_queue
-  stand u = each_queue (λ r. stands u (n.lists r) + sum_below c.threads (λ v. times_marked u r (n.marked v)) ≡ at_queue r (n.named u)) (stand_at_lock u) (λ d. h.stands_once u (chan_queue d))
+  stand u = each_queue (λ r. stands u (n.lists r) + sum_below c.threads (λ v. times_marked u r (n.marked v)) ≡ at_queue r (n.blocked_on u)) (stand_at_lock u) (λ d. h.stands_once u (chan_queue d))
 
   loans_least : LoansAreLeast c n.owner n.walk n.loan n.lists
   unfolding after_shift LoansAreLeast walks_at_lock
@@ -95,7 +96,7 @@ module _ (c : Config) (s : State) (t o l : ℕ) (g : MayShift c s t o l) (h : La
 
   once : stands o (s.lists q) ≤ 1
   unfolding StandsOnce
-  once = let a = ap (at_queue q) g.named in let b = one_le (is_queue q q) in omega (arith, h.stands_once o q)
+  once = let a = ap (at_queue q) g.blocked_on in let b = one_le (is_queue q q) in omega (arith, h.stands_once o q)
     where
       one_le : (b : Bool) → one b ≤ 1
       one_le true = omega arith
@@ -103,7 +104,7 @@ module _ (c : Config) (s : State) (t o l : ℕ) (g : MayShift c s t o l) (h : La
 
   elsewhere : (k : ℕ) → (l ≡ k → ⊥) → stands o (s.lists (lock_queue k)) ≡ 0
   unfolding StandsOnce
-  elsewhere k ne = let a = ap (at_queue (lock_queue k)) g.named in let b : one (eqb k l) ≡ 0 = ap one (ne_eqb k l (λ j. ne (sym j))) in omega (arith, h.stands_once o (lock_queue k))
+  elsewhere k ne = let a = ap (at_queue (lock_queue k)) g.blocked_on in let b : one (eqb k l) ≡ 0 = ap one (ne_eqb k l (λ j. ne (sym j))) in omega (arith, h.stands_once o (lock_queue k))
 
   kept : KeptIsEffective c n.walk n.effective n.lists
   unfolding after_shift KeptIsEffective
@@ -119,7 +120,7 @@ module _ (c : Config) (s : State) (t o l : ℕ) (g : MayShift c s t o l) (h : La
   kept_known =
       let P : Waiter → Type 0 = λ w. IsKnown c s.history w.kept in
       at_put_lock (λ k r. is_turnstile (c.kind k) ≡ true → EachOf P r) s.lists l lists
-      (λ i. each_of-kept P o (s.effective o) (s.lists q) once (h.effective_is_known o (h.only_threads_stand o q g.named)) (each_of-map P (λ w. w.thread ≢ o → P w) (s.lists q) (λ w k p ne. p) (h.kept_is_known l i)))
+      (λ i. each_of-kept P o (s.effective o) (s.lists q) once (h.effective_is_known o (h.only_threads_stand o q g.blocked_on)) (each_of-map P (λ w. w.thread ≢ o → P w) (s.lists q) (λ w k p ne. p) (h.kept_is_known l i)))
       (λ k ne. h.kept_is_known k)
 
   pub lawful : Lawful c n
@@ -163,8 +164,8 @@ module _ (c : Config) (s : State) (t : ℕ) (g : MayEndWalk c s t) (h : Lawful c
           let b = ap (at_thread w.thread) y in
           elim (cases_eq w.thread o) [
             | inl j ↦
-                let d = at_queue_one (lock_queue l) (s.named w.thread) (omega (arith, h.stands_once w.thread (lock_queue l))) in
-                let f = z l i (ap s.named (sym j) ∙ d) in
+                let d = at_queue_one (lock_queue l) (s.blocked_on w.thread) (omega (arith, h.stands_once w.thread (lock_queue l))) in
+                let f = z l i (ap s.blocked_on (sym j) ∙ d) in
                 let r = ap (λ v. stands v (s.lists (lock_queue l))) j in
                 absurd (omega arith)
             | inr j ↦ let f : one (eqb w.thread o) ≡ 0 = ap one (ne_eqb w.thread o j) in kept (omega (arith, a))

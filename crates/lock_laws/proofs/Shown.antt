@@ -3,13 +3,15 @@ use Rattle.std.proofs.Common.{◌≡◌, ℕ, zero, suc, ◌<◌, Bool, true, fa
 use Rattle.std.proofs.lemmas.Bool.{cases_eq}
 use Rattle.lock_model.specs.Counts.{any_below}
 use Rattle.lock_model.specs.Words.{Holder, Free, HeldBy, SharedBy, is_turnstile, owner_of}
-use Rattle.lock_model.specs.State.{Config, State, Loan, Hold, NotHeld, Holds}
-use Rattle.lock_model.specs.History.{has_base, sets_base, base_in, base_by, open_in, owns_in, is_exclusive, IsShown}
-use Rattle.lock_model.specs.Moves.{Asks, prio_of}
+use Rattle.lock_model.specs.Config.{Config}
+use Rattle.lock_state.specs.State.{State, Loan}
+use Rattle.lock_model.specs.Holds.{Hold, NotHeld, Holds, is_exclusive}
+use Rattle.lock_model.specs.History.{has_base, sets_base, base_in, base_by, open_in, owns_in, IsShown}
+use Rattle.lock_state.specs.Steps.LockWords.{Asks, prio_of}
 use Rattle.lock_model.specs.Queues.{lock_queue}
-use Rattle.lock_model.specs.Facts.{Lawful, BasesReplay, EffectiveIsLeast, EffectiveIsKnown, LoansAreWithOwners, OwnersHold, WordsMatchHolders}
-use Rattle.lock_model.specs.FactsOfWords.{owns}
-use Rattle.lock_model.specs.FactsOfLoans.{owner_if, IsKnown}
+use Rattle.lock_state.specs.Facts.{Lawful, BasesReplay, EffectiveIsLeast, EffectiveIsKnown, LoansAreWithOwners, OwnersHold, WordsMatchHolders}
+use Rattle.lock_state.specs.Facts.Words.{owns}
+use Rattle.lock_state.specs.Facts.Loans.{owner_if, IsKnown}
 use Rattle.lock_model.specs.declared.plan.Mode.{Mode}
 use Rattle.lock_model.specs.declared.plan.Mode.TheVariants.{Excl, Shared}
 use Rattle.lock_model.specs.declared.event.Event.{Event}

@@ -2,12 +2,13 @@
 use Rattle.std.proofs.Common.{◌≡◌, ℕ, ◌+◌, ◌≤◌, Bool, true, false, eqb, List, length, Option, Some, None, refl, sym, ap, inl, inr, arith, ◌∙◌}
 use Rattle.std.proofs.lemmas.Bool.{cases_eq, ne_eqb}
 use Rattle.lock_model.specs.Counts.{one, some, times, at_option, sum_below}
-use Rattle.lock_model.specs.State.{State, Config, Waiter, Lists, Mark, put_queue}
-use Rattle.lock_model.specs.MovesOfSleeps.{MayAdd, MayWake, after_add, after_wake, with_last, taken_off, left_on}
-use Rattle.lock_model.specs.Queues.{lock_queue, chan_queue, stands, head_with, free_with, dealt, free_after, head_after}
-use Rattle.lock_model.specs.Facts.{Lawful, OneTurnstileEach, OneSleepQueueEach, TurnstileIsLent, SleepQueueIsLent, HeadsFitWaiters, BitsShowWaiters, ListsAscend, MutexWaitersAreExclusive, StandsOnce, OnlyThreadsStand, StandingIsQueued, QueuedHasRecord, StandingWants, CalledWants, StandingIsUncalled, FreeWordHasCalled, OwnersHold, ChannelsHaveNoOwner, LoansAreLeast, LoansAreOnHeads, KeptIsEffective, KeptIsKnown}
-use Rattle.lock_model.specs.FactsOfQueues.{turnstile_places, sleep_queue_places, times_object, HeadFits}
-use Rattle.lock_model.specs.FactsOfWaits.{callers, calls_marked, times_marked, at_queue}
+use Rattle.lock_state.specs.State.{State, put_queue}
+use Rattle.lock_model.specs.Config.{Config}
+use Rattle.lock_model.specs.Queues.{Waiter, Lists, Mark, lock_queue, chan_queue, stands, head_with, free_with, dealt, free_after, head_after}
+use Rattle.lock_state.specs.Steps.SleepQueues.{MayAdd, MayWake, after_add, after_wake, with_last, taken_off, left_on}
+use Rattle.lock_state.specs.Facts.{Lawful, OneTurnstileEach, OneSleepQueueEach, TurnstileIsLent, SleepQueueIsLent, HeadsFitWaiters, BitsShowWaiters, ListsAscend, MutexWaitersAreExclusive, StandsOnce, OnlyThreadsStand, StandingIsQueued, QueuedHasRecord, StandingWants, CalledWants, StandingIsUncalled, FreeWordHasCalled, OwnersHold, ChannelsHaveNoOwner, LoansAreLeast, LoansAreOnHeads, KeptIsEffective, KeptIsKnown}
+use Rattle.lock_state.specs.Facts.Queues.{turnstile_places, sleep_queue_places, times_object, HeadFits}
+use Rattle.lock_state.specs.Facts.Waits.{callers, calls_marked, times_marked, at_queue}
 use Rattle.lock_model.specs.declared.plan.QueueName.{QueueName}
 use Rattle.lock_laws.proofs.Kit.{columns, put_chan_same, put_chan_other, put_same, put_other, sum_below-put, sum_below-put_chan, each_queue}
 use Rattle.lock_laws.proofs.Queues.{no_turnstiles-dealt, all_sleep_queues-dealt, times_marked-dealt, times_marked-elsewhere, length-after, headless-after}
@@ -60,11 +61,11 @@ module _ (c : Config) (s : State) (t d x : ℕ) (g : MayAdd c s t d x) (h : Lawf
       let f = lent_object k x (s.head q) (s.free_list q) in
       omega (arith, h.one_sleep_queue_each k)
 
-  turnstile_lent : TurnstileIsLent c n.turnstile n.named
+  turnstile_lent : TurnstileIsLent c n.turnstile n.blocked_on
   unfolding after_add TurnstileIsLent
   turnstile_lent u = grind (arith, columns, h.turnstile_is_lent u)
 
-  sleep_queue_lent : SleepQueueIsLent c n.sleep_queue n.named
+  sleep_queue_lent : SleepQueueIsLent c n.sleep_queue n.blocked_on
   unfolding after_add SleepQueueIsLent
   sleep_queue_lent u = grind (arith, columns, h.sleep_queue_is_lent u)
 
@@ -92,11 +93,11 @@ module _ (c : Config) (s : State) (t d x : ℕ) (g : MayAdd c s t d x) (h : Lawf
   unfolding after_add MutexWaitersAreExclusive put_queue
   mutex_waiters l = h.mutex_waiters_are_exclusive l
 
-  stand_at_lock : (u l : ℕ) → stands u (s.lists (lock_queue l)) + sum_below c.threads (λ v. times_marked u (lock_queue l) (s.marked v)) ≡ at_queue (lock_queue l) (n.named u)
+  stand_at_lock : (u l : ℕ) → stands u (s.lists (lock_queue l)) + sum_below c.threads (λ v. times_marked u (lock_queue l) (s.marked v)) ≡ at_queue (lock_queue l) (n.blocked_on u)
   unfolding after_add StandsOnce
   stand_at_lock u l = grind (arith, columns, h.stands_once u (lock_queue l))
 
-  stand_at_chan : (u k : ℕ) → stands u (n.lists (chan_queue k)) + sum_below c.threads (λ v. times_marked u (chan_queue k) (n.marked v)) ≡ at_queue (chan_queue k) (n.named u)
+  stand_at_chan : (u k : ℕ) → stands u (n.lists (chan_queue k)) + sum_below c.threads (λ v. times_marked u (chan_queue k) (n.marked v)) ≡ at_queue (chan_queue k) (n.blocked_on u)
   unfolding after_add StandsOnce
   stand_at_chan u k =
       elim (cases_eq d k) [
@@ -104,23 +105,23 @@ module _ (c : Config) (s : State) (t d x : ℕ) (g : MayAdd c s t d x) (h : Lawf
         | inr e ↦ rw (put_chan_other s.lists d lists k e) (let a = ne_eqb k d (λ i. e (sym i)) in grind (arith, put_same, put_other, h.stands_once u (chan_queue k)))
       ]
 
-  stand : StandsOnce c n.lists n.marked n.named
+  stand : StandsOnce c n.lists n.marked n.blocked_on
   unfolding after_add StandsOnce put_queue
-  stand u = each_queue (λ r. stands u (n.lists r) + sum_below c.threads (λ v. times_marked u r (n.marked v)) ≡ at_queue r (n.named u)) (stand_at_lock u) (stand_at_chan u)
+  stand u = each_queue (λ r. stands u (n.lists r) + sum_below c.threads (λ v. times_marked u r (n.marked v)) ≡ at_queue r (n.blocked_on u)) (stand_at_lock u) (stand_at_chan u)
 
-  threads_stand : OnlyThreadsStand c n.named
+  threads_stand : OnlyThreadsStand c n.blocked_on
   unfolding after_add OnlyThreadsStand
   threads_stand u r = grind (arith, columns, h.only_threads_stand u r, g.thread)
 
-  standing_queued : StandingIsQueued n.named n.wait
+  standing_queued : StandingIsQueued n.blocked_on n.wait
   unfolding after_add StandingIsQueued
   standing_queued u r = grind (arith, columns, h.standing_is_queued u r)
 
-  has_record : QueuedHasRecord n.wait n.named n.record_with
+  has_record : QueuedHasRecord n.wait n.blocked_on n.record_with
   unfolding after_add QueuedHasRecord
   has_record u = grind (arith, columns, h.queued_has_record u)
 
-  standing_wants : StandingWants n.named n.wanted
+  standing_wants : StandingWants n.blocked_on n.wanted
   unfolding after_add StandingWants
   standing_wants u l = grind (arith, columns, h.standing_wants u l)
 
@@ -132,7 +133,7 @@ module _ (c : Config) (s : State) (t d x : ℕ) (g : MayAdd c s t d x) (h : Lawf
       go None e = refl
       go (Some l) e = absurd (let z : None ≡ Some l = sym g.wants ∙ h.called_wants t l e in cc)
 
-  standing_uncalled : StandingIsUncalled n.named n.called
+  standing_uncalled : StandingIsUncalled n.blocked_on n.called
   unfolding after_add StandingIsUncalled
   standing_uncalled u r = grind (arith, columns, h.standing_is_uncalled u r, uncalled)
 
@@ -224,7 +225,7 @@ module _ (c : Config) (s : State) (t d : ℕ) (all : Bool) (g : MayWake c s t d 
   unfolding after_wake MutexWaitersAreExclusive put_queue
   wake_mutex_waiters l = h.mutex_waiters_are_exclusive l
 
-  wake_stand_at_lock : (u l : ℕ) → stands u (s.lists (lock_queue l)) + sum_below c.threads (λ v. times_marked u (lock_queue l) (m.marked v)) ≡ at_queue (lock_queue l) (s.named u)
+  wake_stand_at_lock : (u l : ℕ) → stands u (s.lists (lock_queue l)) + sum_below c.threads (λ v. times_marked u (lock_queue l) (m.marked v)) ≡ at_queue (lock_queue l) (s.blocked_on u)
   unfolding after_wake StandsOnce
   wake_stand_at_lock u l =
       let a = sum_below-put c.threads (times_marked u (lock_queue l)) s.marked t marks g.thread in
@@ -232,7 +233,7 @@ module _ (c : Config) (s : State) (t d : ℕ) (all : Bool) (g : MayWake c s t d 
       let f = times_marked-elsewhere u (lock_queue l) r refl woken (s.free_list r) (s.head r) in
       omega (arith, h.stands_once u (lock_queue l))
 
-  wake_stand_at_chan : (u k : ℕ) → stands u (m.lists (chan_queue k)) + sum_below c.threads (λ v. times_marked u (chan_queue k) (m.marked v)) ≡ at_queue (chan_queue k) (s.named u)
+  wake_stand_at_chan : (u k : ℕ) → stands u (m.lists (chan_queue k)) + sum_below c.threads (λ v. times_marked u (chan_queue k) (m.marked v)) ≡ at_queue (chan_queue k) (s.blocked_on u)
   unfolding after_wake StandsOnce
   wake_stand_at_chan u k =
       let a = sum_below-put c.threads (times_marked u (chan_queue k)) s.marked t marks g.thread in
@@ -249,9 +250,9 @@ module _ (c : Config) (s : State) (t d : ℕ) (all : Bool) (g : MayWake c s t d 
             rw (put_chan_other s.lists d stay k i) (omega (arith, h.stands_once u (chan_queue k)))
       ]
 
-  wake_stand : StandsOnce c m.lists m.marked m.named
+  wake_stand : StandsOnce c m.lists m.marked m.blocked_on
   unfolding after_wake StandsOnce put_queue
-  wake_stand u = each_queue (λ i. stands u (m.lists i) + sum_below c.threads (λ v. times_marked u i (m.marked v)) ≡ at_queue i (m.named u)) (wake_stand_at_lock u) (wake_stand_at_chan u)
+  wake_stand u = each_queue (λ i. stands u (m.lists i) + sum_below c.threads (λ v. times_marked u i (m.marked v)) ≡ at_queue i (m.blocked_on u)) (wake_stand_at_lock u) (wake_stand_at_chan u)
 
   wake_called : FreeWordHasCalled c m.word m.marked m.wait m.called
   unfolding after_wake FreeWordHasCalled callers

@@ -1,9 +1,8 @@
 -- Laws of lists in which sleepers stand in order of arrival.
 use Rattle.std.proofs.Common.{◌≡◌, ℕ, suc, ◌+◌, ◌≤◌, Bool, true, false, cond, eqb, nat_lt, List, [], ◌∷◌, length, Option, Some, None, refl, ap, arith, eq-eqb}
 use Rattle.lock_model.specs.Counts.{one, is_empty}
-use Rattle.lock_model.specs.State.{Waiter, Lists}
-use Rattle.lock_model.specs.Queues.{list_of, with_list, times_waiting, stands, waiting}
-use Rattle.lock_model.specs.MovesOfSleeps.{with_last, better, best_of, one_or_none, without_best, taken_off, left_on}
+use Rattle.lock_model.specs.Queues.{Waiter, Lists, list_of, with_list, times_waiting, stands, waiting}
+use Rattle.lock_state.specs.Steps.SleepQueues.{with_last, better, best_of, one_or_none, without_best, taken_off, left_on}
 use Rattle.lock_model.specs.declared.plan.Side.{Side}
 use Rattle.lock_model.specs.declared.plan.Side.TheVariants.{X, S}
 use Rattle.lock_laws.proofs.Lending.{times_waiting-without, length-without}

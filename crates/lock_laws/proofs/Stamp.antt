@@ -2,12 +2,14 @@
 use Rattle.std.proofs.Common.{◌≡◌, ℕ, suc, Bool, true, false, cond, eqb, ◌||◌, ◌∷◌, Option, Some, None, refl, ap, inl, inr, arith, eq-eqb, ◌∙◌, subst}
 use Rattle.std.proofs.lemmas.Bool.{ne_eqb, cases_eq, eqb-true}
 use Rattle.lock_model.specs.Counts.{any_below}
-use Rattle.lock_model.specs.State.{State, Config, Holds, Loan, put}
+use Rattle.lock_state.specs.State.{State, Loan, put}
+use Rattle.lock_model.specs.Config.{Config}
+use Rattle.lock_model.specs.Holds.{Holds}
 use Rattle.lock_model.specs.History.{base_in, base_by, sections_in, sections_by, entries_of}
-use Rattle.lock_model.specs.Moves.{MayStamp, after_stamp, base_after, effective_after, effective_of, prio_of, entry_of}
+use Rattle.lock_state.specs.Steps.LockWords.{MayStamp, after_stamp, base_after, effective_after, effective_of, prio_of, entry_of}
 use Rattle.lock_model.specs.Queues.{lock_queue, stands}
-use Rattle.lock_model.specs.Facts.{Lawful, StandsOnce, EffectiveIsLeast, KeptIsEffective, EffectiveIsKnown, LoansAreKnown, KeptIsKnown, NextIsNew, LogsAreParts, TablesReplay, BasesReplay, SectionsAreHeld, TicketsRun, SectionsExclude, EditsInSections, ReadsReplay, ShownIsExplained}
-use Rattle.lock_model.specs.FactsOfLoans.{IsKnown}
+use Rattle.lock_state.specs.Facts.{Lawful, StandsOnce, EffectiveIsLeast, KeptIsEffective, EffectiveIsKnown, LoansAreKnown, KeptIsKnown, NextIsNew, LogsAreParts, TablesReplay, BasesReplay, SectionsAreHeld, TicketsRun, SectionsExclude, EditsInSections, ReadsReplay, ShownIsExplained}
+use Rattle.lock_state.specs.Facts.Loans.{IsKnown}
 use Rattle.lock_model.specs.declared.event.Event.{Event}
 use Rattle.lock_model.specs.declared.event.Event.TheVariants.{Base}
 use Rattle.lock_model.specs.declared.event.Entry.{Entry}

@@ -2,38 +2,39 @@
 use Rattle.std.proofs.Common.{◌≡◌, ℕ, ◌<◌, ◌≤◌, true, List, ◌∷◌, Option, Some, None, refl, sym, arith, eq-eqb, ◌∙◌}
 use Rattle.lock_model.specs.Counts.{some, one}
 use Rattle.lock_model.specs.Words.{is_turnstile}
-use Rattle.lock_model.specs.State.{Config, State, Mark}
-use Rattle.lock_model.specs.Queues.{lock_queue, is_turnstile_queue, names_turnstile, stands}
-use Rattle.lock_model.specs.Facts.{Lawful, TurnstileIsLent, StandsOnce, OnlyThreadsStand}
-use Rattle.lock_model.specs.FactsOfWaits.{times_marked}
+use Rattle.lock_model.specs.Config.{Config}
+use Rattle.lock_state.specs.State.{State}
+use Rattle.lock_model.specs.Queues.{Mark, lock_queue, is_turnstile_queue, names_turnstile, stands}
+use Rattle.lock_state.specs.Facts.{Lawful, TurnstileIsLent, StandsOnce, OnlyThreadsStand}
+use Rattle.lock_state.specs.Facts.Waits.{times_marked}
 use Rattle.lock_model.specs.declared.plan.QueueName.{QueueName}
 use Rattle.lock_laws.proofs.Kit.{sum_below-at, is_queue_same, at_queue_one}
 use Rattle.lock_laws.proofs.Sums.{zero_unless}
 
 -- the record of a thread that stands on a queue names it
-pub standing_named : (c : Config) (s : State) (t : ℕ) (q : QueueName) → Lawful c s → 1 ≤ stands t (s.lists q) → s.named t ≡ Some q
+pub standing_named : (c : Config) (s : State) (t : ℕ) (q : QueueName) → Lawful c s → 1 ≤ stands t (s.lists q) → s.blocked_on t ≡ Some q
 unfolding StandsOnce
-standing_named c s t q h a = at_queue_one q (s.named t) (omega (arith, h.stands_once t q))
+standing_named c s t q h a = at_queue_one q (s.blocked_on t) (omega (arith, h.stands_once t q))
 
 -- so does that of a thread with a mark from there
-pub times_named : (c : Config) (s : State) (t u : ℕ) (q : QueueName) → Lawful c s → u < c.threads → 1 ≤ times_marked t q (s.marked u) → s.named t ≡ Some q
+pub times_named : (c : Config) (s : State) (t u : ℕ) (q : QueueName) → Lawful c s → u < c.threads → 1 ≤ times_marked t q (s.marked u) → s.blocked_on t ≡ Some q
 unfolding StandsOnce
 times_named c s t u q h lt a =
     let b = sum_below-at c.threads (λ v. times_marked t q (s.marked v)) u lt in
-    at_queue_one q (s.named t) (omega (arith, h.stands_once t q))
+    at_queue_one q (s.blocked_on t) (omega (arith, h.stands_once t q))
 
 -- where the record names a turnstile, the thread's own is out
-pub named_out : (c : Config) (s : State) (t : ℕ) (q : QueueName) → Lawful c s → s.named t ≡ Some q → is_turnstile_queue c q ≡ true → s.turnstile t ≡ None
+pub named_out : (c : Config) (s : State) (t : ℕ) (q : QueueName) → Lawful c s → s.blocked_on t ≡ Some q → is_turnstile_queue c q ≡ true → s.turnstile t ≡ None
 unfolding TurnstileIsLent
 named_out c s t q h e k =
-    let a : one (names_turnstile c (s.named t)) ≡ 1 = rw (e, k) refl in
+    let a : one (names_turnstile c (s.blocked_on t)) ≡ 1 = rw (e, k) refl in
     none_there (s.turnstile t) (omega (arith, h.turnstile_is_lent t))
   where
     none_there : (o : Option ℕ) → some o ≡ 0 → o ≡ None
     none_there None z = refl
     none_there (Some x) z = absurd (omega arith)
 
-pub marked_named : (c : Config) (s : State) (t : ℕ) (m : Mark) (ms : List Mark) → Lawful c s → t < c.threads → s.marked t ≡ m ∷ ms → s.named m.thread ≡ Some m.queue
+pub marked_named : (c : Config) (s : State) (t : ℕ) (m : Mark) (ms : List Mark) → Lawful c s → t < c.threads → s.marked t ≡ m ∷ ms → s.blocked_on m.thread ≡ Some m.queue
 marked_named c s t m ms h lt e = times_named c s m.thread t m.queue h lt (rw (e, is_queue_same m.queue, eq-eqb m.thread m.thread refl) (omega arith))
 
 pub marked_thread : (c : Config) (s : State) (t : ℕ) (m : Mark) (ms : List Mark) → Lawful c s → t < c.threads → s.marked t ≡ m ∷ ms → m.thread < c.threads

@@ -3,12 +3,13 @@ use Rattle.std.proofs.Common.{◌≡◌, ℕ, zero, suc, ◌+◌, Bool, true, fa
 use Rattle.std.proofs.lemmas.Bool.{ne_eqb, cases_eq, cases_lt, lt-ltb, le-ltb}
 use Rattle.lock_model.specs.Counts.{sum_below, one, least}
 use Rattle.lock_model.specs.Words.{is_turnstile}
-use Rattle.lock_model.specs.State.{State, Config, start_state}
+use Rattle.lock_state.specs.State.{State, start_state}
+use Rattle.lock_model.specs.Config.{Config}
 use Rattle.lock_model.specs.History.{tables_of, value_at, sections_in}
-use Rattle.lock_model.specs.MovesOfTurns.{Item, TurnstileChain, SleepChain, RecordOf, CellOf, ClassGraph, item_with}
-use Rattle.lock_model.specs.Facts.{Lawful, OneTurnstileEach, OneSleepQueueEach, OneNodeEach, TurnstileIsLent, SleepQueueIsLent, HeadsFitWaiters, BitsShowWaiters, ListsAscend, MutexWaitersAreExclusive, StandsOnce, OnlyThreadsStand, StandingIsQueued, QueuedHasRecord, StandingWants, WokenWants, CalledWants, StandingIsUncalled, WokenIsUncalled, FreeWordHasCalled, FreeMutexShowsNone, WordsMatchHolders, OnlyThreadsHold, EffectiveIsLeast, OwnersHold, ChannelsHaveNoOwner, LoansAreLeast, LoansAreWithOwners, LoansAreOnHeads, KeptIsEffective, EffectiveIsKnown, LoansAreKnown, KeptIsKnown, NextIsNew, LogsAreParts, TablesReplay, BasesReplay, SectionsAreHeld, OutIsNarrow, TicketsRun, SectionsExclude, EditsInSections, ReadsReplay, ShownIsExplained}
-use Rattle.lock_model.specs.FactsOfQueues.{only, turnstile_places, sleep_queue_places, loans_on}
-use Rattle.lock_model.specs.FactsOfWaits.{callers}
+use Rattle.lock_state.specs.Steps.Items.{Item, TurnstileChain, SleepChain, RecordOf, CellOf, ClassGraph, item_with}
+use Rattle.lock_state.specs.Facts.{Lawful, OneTurnstileEach, OneSleepQueueEach, OneNodeEach, TurnstileIsLent, SleepQueueIsLent, HeadsFitWaiters, BitsShowWaiters, ListsAscend, MutexWaitersAreExclusive, StandsOnce, OnlyThreadsStand, StandingIsQueued, QueuedHasRecord, StandingWants, WokenWants, CalledWants, StandingIsUncalled, WokenIsUncalled, FreeWordHasCalled, FreeMutexShowsNone, WordsMatchHolders, OnlyThreadsHold, EffectiveIsLeast, OwnersHold, ChannelsHaveNoOwner, LoansAreLeast, LoansAreWithOwners, LoansAreOnHeads, KeptIsEffective, EffectiveIsKnown, LoansAreKnown, KeptIsKnown, NextIsNew, LogsAreParts, TablesReplay, BasesReplay, SectionsAreHeld, OutIsNarrow, TicketsRun, SectionsExclude, EditsInSections, ReadsReplay, ShownIsExplained}
+use Rattle.lock_state.specs.Facts.Queues.{only, turnstile_places, sleep_queue_places, loans_on}
+use Rattle.lock_state.specs.Facts.Waits.{callers}
 use Rattle.std.specs.FinMap.{get-empty}
 use Rattle.lock_model.specs.History.{place_cmp}
 use Rattle.lock_laws.proofs.Kit.{sum_below-zero}

@@ -1,10 +1,11 @@
 -- Each step keeps the state lawful.
 use Rattle.std.proofs.Common.{subst, sym}
-use Rattle.lock_model.specs.State.{Config, State}
-use Rattle.lock_model.specs.Facts.{Lawful}
-use Rattle.lock_model.specs.Steps.{Move, Looks, TakesTurn, GivesTurn, Gains, Drops, Stamps, Readies, Unreadies, Enters, Opens, EntersSleepQueue, OpensSleepQueue, Adds, Wakes, Marks, Resumes, Claims, Lends, Shifts, EndsWalk, May, after, Step, IsReachable, begins, goes_on}
+use Rattle.lock_model.specs.Config.{Config}
+use Rattle.lock_state.specs.State.{State}
+use Rattle.lock_state.specs.Facts.{Lawful}
+use Rattle.lock_state.specs.Steps.{Step, Looks, TakesItem, GivesItem, Gains, Drops, Stamps, Readies, Unreadies, Enters, Opens, EntersSleepQueue, OpensSleepQueue, Adds, Wakes, Marks, Resumes, Claims, Lends, Shifts, EndsWalk, May, after, IsStep, IsReachable, begins, goes_on}
 use Rattle.lock_laws.proofs.OwnWaits.{look_lawful, ready_lawful, unready_lawful}
-use Rattle.lock_laws.proofs.Turns.{take_lawful, give_lawful}
+use Rattle.lock_laws.proofs.Items.{take_lawful, give_lawful}
 use Rattle.lock_laws.proofs.StateAtStart as start
 use Rattle.lock_laws.proofs.Gain as gain
 use Rattle.lock_laws.proofs.Drop as drop
@@ -20,10 +21,10 @@ use Rattle.lock_laws.proofs.Claim as claim
 use Rattle.lock_laws.proofs.Lend as lend
 use Rattle.lock_laws.proofs.Shift as shift
 
-pub keeps : (c : Config) (s : State) (m : Move) → May c s m → Lawful c s → Lawful c (after c s m)
+pub keeps : (c : Config) (s : State) (m : Step) → May c s m → Lawful c s → Lawful c (after c s m)
 keeps c s (Looks t l in_round) g h = look_lawful c s t l in_round g h
-keeps c s (TakesTurn t i) g h = take_lawful c s t i g h
-keeps c s (GivesTurn t i) g h = give_lawful c s t i g h
+keeps c s (TakesItem t i) g h = take_lawful c s t i g h
+keeps c s (GivesItem t i) g h = give_lawful c s t i g h
 keeps c s (Gains t l mode) g h = gain.lawful c s t l mode g h
 keeps c s (Drops t l mode) g h = drop.lawful c s t l mode g h
 keeps c s (Stamps t e) g h = stamp.lawful c s t e g h
@@ -42,7 +43,7 @@ keeps c s (Lends t l o x) g h = lend.lawful c s t l o x g h
 keeps c s (Shifts t o l) g h = shift.lawful c s t o l g h
 keeps c s (EndsWalk t) g h = shift.end_lawful c s t g h
 
-pub step_keeps : (c : Config) (s n : State) → Step c s n → Lawful c s → Lawful c n
+pub step_keeps : (c : Config) (s n : State) → IsStep c s n → Lawful c s → Lawful c n
 step_keeps c s n p h = subst (Lawful c) (sym p.2) (keeps c s p.0 p.1 h)
 
 pub reached_lawful : (c : Config) (s : State) → IsReachable c s → Lawful c s

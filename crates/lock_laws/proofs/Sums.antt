@@ -2,9 +2,9 @@
 use Rattle.std.proofs.Common.{◌≡◌, ℕ, zero, suc, ◌+◌, ◌<◌, ◌≤◌, Bool, true, false, cond, eqb, List, [], ◌∷◌, length, Option, Some, None, refl, sym, ap, inl, inr, arith}
 use Rattle.std.proofs.lemmas.Bool.{ne_eqb, cases_eq, cases_lt}
 use Rattle.lock_model.specs.Counts.{sum_below, one, some, at_option, times}
-use Rattle.lock_model.specs.State.{Config, Waiter, Mark}
-use Rattle.lock_model.specs.Queues.{is_turnstile_queue, times_waiting}
-use Rattle.lock_model.specs.FactsOfQueues.{only, times_object}
+use Rattle.lock_model.specs.Config.{Config}
+use Rattle.lock_model.specs.Queues.{Waiter, Mark, is_turnstile_queue, times_waiting}
+use Rattle.lock_state.specs.Facts.Queues.{only, times_object}
 use Rattle.lock_laws.proofs.Kit.{sum_below-zero, sum_below-at, sum_below-same, one_same}
 
 -- 1. Sums

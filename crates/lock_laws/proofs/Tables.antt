@@ -3,9 +3,9 @@ use Rattle.std.proofs.Common.{◌≡◌, ℕ, cond, eqb, ◌&&◌, List, ◌∷�
 use Rattle.std.specs.Cmp.{IsTotalOrder, nat_cmp_total, on_total, then_total, tied_then}
 use Rattle.std.specs.Ordering.{eq_by_cmp}
 use Rattle.std.specs.FinMap.{FinMap, get, insert, get-insert}
-use Rattle.lock_model.specs.State.{put_at}
+use Rattle.lock_state.specs.State.{put_at}
 use Rattle.lock_model.specs.History.{place_cmp, added, edited, tables_of, value_at}
-use Rattle.lock_model.specs.Moves.{table_after}
+use Rattle.lock_state.specs.Steps.LockWords.{table_after}
 use Rattle.lock_model.specs.declared.event.Event.{Event}
 use Rattle.lock_model.specs.declared.event.Event.TheVariants.{Set, Added}
 use Rattle.lock_model.specs.declared.event.Entry.{Entry}

@@ -9,11 +9,12 @@ use Rattle.lock_model.specs.Counts.{sum_below}
 use Rattle.lock_model.specs.Plans.{config_of, operations_of}
 use Rattle.lock_model.specs.Operations.{IsProper, operations_in_all}
 use Rattle.lock_model.specs.Words.{owner_of}
-use Rattle.lock_model.specs.Queues.{lock_queue}
-use Rattle.lock_model.specs.State.{Config, State, Wait, Running, Queued, Woken, Walk, NoWalk, AtLock, AtThread, Mark, start_state}
+use Rattle.lock_model.specs.Queues.{lock_queue, Mark}
+use Rattle.lock_model.specs.Config.{Config}
+use Rattle.lock_state.specs.State.{State, Wait, Running, Queued, Woken, Walk, NoWalk, AtLock, AtThread, start_state}
 use Rattle.lock_model.specs.History.{sections_in}
-use Rattle.lock_model.specs.MovesOfTurns.{Item, TurnstileChain, SleepChain, RecordOf, CellOf, ClassGraph, item_with}
-use Rattle.lock_model.specs.Run.{Run, Course, start_run, turn_of, after_turns, course_after, has_ended, nothing, operates, by_wait, by_marked, by_walk, round_of, threads_of, with_turn, after_turn, go_on, is_over}
+use Rattle.lock_state.specs.Steps.Items.{Item, TurnstileChain, SleepChain, RecordOf, CellOf, ClassGraph, item_with}
+use Rattle.lock_state.specs.Run.{Run, Course, start_run, turn_of, after_turns, course_after, has_ended, nothing, operates, by_wait, by_marked, by_walk, round_of, threads_of, with_turn, after_turn, go_on, is_over}
 use Rattle.lock_model.specs.declared.plan.Op.{Op}
 use Rattle.lock_model.specs.declared.plan.Op.TheVariants.{Take, Release, Set, Add, Get, Base, Show}
 use Rattle.lock_model.specs.declared.plan.Plan.{Plan}
@@ -83,7 +84,7 @@ module _ (plan : Plan) (chains : ℕ) (r : Run) (t : ℕ) (p : IsProper plan) (k
 
   walked : (w : Walk) → s.walk t ≡ w → IsOnTrack plan chains (by_walk plan c r t w).run
   walked (AtLock l) e = walks.at_lock plan chains r t p k lt l (owner_of (s.word l).holder) (s.head (lock_queue l)) e refl refl
-  walked (AtThread o) e = walks.at_thread plan chains r t p k lt o (s.named o) e refl
+  walked (AtThread o) e = walks.at_thread plan chains r t p k lt o (s.blocked_on o) e refl
   walked NoWalk e = marked e (s.marked t) refl
 
   pub turned : IsOnTrack plan chains (turn_of plan chains r t).run

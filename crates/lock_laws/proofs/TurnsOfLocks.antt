@@ -6,15 +6,17 @@ use Rattle.lock_model.specs.Counts.{one}
 use Rattle.lock_model.specs.Words.{Word, is_free, is_plain, is_turnstile, is_drop, without_one, shows_waiters, admits, side_woken}
 use Rattle.lock_model.specs.Plans.{config_of, operations_of}
 use Rattle.lock_model.specs.Operations.{IsProper, hold_in, without_lock}
-use Rattle.lock_model.specs.State.{Config, State, Hold, NotHeld, Holds, Running, Queued, NoWalk, Waiter, Mark, BySignal, put, put_at}
+use Rattle.lock_model.specs.Config.{Config}
+use Rattle.lock_state.specs.State.{State, Running, Queued, NoWalk, put, put_at}
+use Rattle.lock_model.specs.Holds.{Hold, NotHeld, Holds}
+use Rattle.lock_model.specs.Queues.{Waiter, Mark, BySignal, lock_queue, list_of, dealt}
 use Rattle.lock_model.specs.History.{open_in, replaced}
-use Rattle.lock_model.specs.Queues.{lock_queue, list_of, dealt}
-use Rattle.lock_model.specs.Moves.{MayGain, MayDrop, MayStamp, is_woken, after_gain, after_drop, after_stamp}
-use Rattle.lock_model.specs.MovesOfQueues.{MayBlock, MayOpen, after_block, after_enter, after_open}
-use Rattle.lock_model.specs.Moves.{after_ready}
-use Rattle.lock_model.specs.Facts.{FreeMutexShowsNone}
-use Rattle.lock_model.specs.FactsOfWaits.{busy}
-use Rattle.lock_model.specs.Run.{Run, ended, blocks, takes, releases}
+use Rattle.lock_state.specs.Steps.LockWords.{MayGain, MayDrop, MayStamp, is_woken, after_gain, after_drop, after_stamp}
+use Rattle.lock_state.specs.Steps.Turnstiles.{MayBlock, MayOpen, after_block, after_enter, after_open}
+use Rattle.lock_state.specs.Steps.LockWords.{after_ready}
+use Rattle.lock_state.specs.Facts.{FreeMutexShowsNone}
+use Rattle.lock_state.specs.Facts.Waits.{busy}
+use Rattle.lock_state.specs.Run.{Run, ended, blocks, takes, releases}
 use Rattle.lock_model.specs.declared.plan.Kind.{Kind}
 use Rattle.lock_model.specs.declared.plan.Kind.TheVariants.{Mtx}
 use Rattle.lock_model.specs.declared.plan.Mode.{Mode}

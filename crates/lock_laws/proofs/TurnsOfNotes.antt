@@ -2,11 +2,13 @@
 use Rattle.std.proofs.Common.{◌≡◌, ◌≢◌, ℕ, ◌<◌, Bool, true, false, cond, List, length, Some, None, refl, sym, ap, ◌∙◌}
 use Rattle.std.proofs.lemmas.Option.{none-some, same_Some, cond_some}
 use Rattle.lock_model.specs.Plans.{config_of}
-use Rattle.lock_model.specs.Operations.{IsProper, is_unheld, hold_in}
-use Rattle.lock_model.specs.State.{Config, State, NotHeld, Holds, Running}
-use Rattle.lock_model.specs.History.{Sections, is_exclusive, sections_by, sections_in, open_in}
-use Rattle.lock_model.specs.Moves.{Asks, MayStamp, is_woken, begun_after, after_stamp}
-use Rattle.lock_model.specs.Run.{Run, notes}
+use Rattle.lock_model.specs.Operations.{IsProper, hold_in}
+use Rattle.lock_model.specs.Holds.{is_unheld, NotHeld, Holds, is_exclusive}
+use Rattle.lock_model.specs.Config.{Config}
+use Rattle.lock_state.specs.State.{State, Running}
+use Rattle.lock_model.specs.History.{Sections, sections_by, sections_in, open_in}
+use Rattle.lock_state.specs.Steps.LockWords.{Asks, MayStamp, is_woken, begun_after, after_stamp}
+use Rattle.lock_state.specs.Run.{Run, notes}
 use Rattle.lock_model.specs.declared.numbers.LockNo.{LockNo}
 use Rattle.lock_model.specs.declared.numbers.Prio.{Prio}
 use Rattle.lock_model.specs.declared.plan.Mode.TheVariants.{Excl}

@@ -3,9 +3,11 @@ use Rattle.std.proofs.Common.{◌≡◌, ℕ, ◌<◌, List, ◌∷◌, length, 
 use Rattle.std.proofs.lemmas.List.Elements.{All-head, All-tail}
 use Rattle.lock_model.specs.Plans.{config_of, operations_of}
 use Rattle.lock_model.specs.Operations.{IsProper}
-use Rattle.lock_model.specs.State.{Config, State, Running, Woken, Mark, Cause, BySignal, ByAbort, put}
-use Rattle.lock_model.specs.MovesOfQueues.{after_mark, after_resume}
-use Rattle.lock_model.specs.Run.{Run}
+use Rattle.lock_model.specs.Config.{Config}
+use Rattle.lock_state.specs.State.{State, Running, Woken, put}
+use Rattle.lock_model.specs.Queues.{Mark, Cause, BySignal, ByAbort}
+use Rattle.lock_state.specs.Steps.Turnstiles.{after_mark, after_resume}
+use Rattle.lock_state.specs.Run.{Run}
 use Rattle.lock_model.specs.declared.plan.Op.TheVariants.{Take}
 use Rattle.lock_model.specs.declared.plan.Mode.TheVariants.{Excl}
 use Rattle.lock_model.specs.declared.plan.Plan.{Plan}

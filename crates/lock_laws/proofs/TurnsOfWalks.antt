@@ -5,12 +5,13 @@ use Rattle.lock_model.specs.Counts.{some}
 use Rattle.lock_model.specs.Words.{is_turnstile, owner_of}
 use Rattle.lock_model.specs.Plans.{config_of}
 use Rattle.lock_model.specs.Operations.{IsProper}
-use Rattle.lock_model.specs.State.{Config, State, Waiter, Walk, AtLock, AtThread}
-use Rattle.lock_model.specs.Queues.{lock_queue, stands, times_waiting}
-use Rattle.lock_model.specs.MovesOfLoans.{MayLend, MayShift, MayEndWalk, IsAtEnd, after_lend, after_shift, after_end_walk}
-use Rattle.lock_model.specs.Facts.{HeadsFitWaiters, MutexWaitersAreExclusive, OwnersHold}
-use Rattle.lock_model.specs.FactsOfLoans.{owner_if}
-use Rattle.lock_model.specs.Run.{Run, made, walks_at_lock, walks_at_thread}
+use Rattle.lock_model.specs.Config.{Config}
+use Rattle.lock_state.specs.State.{State, Walk, AtLock, AtThread}
+use Rattle.lock_model.specs.Queues.{Waiter, lock_queue, stands, times_waiting}
+use Rattle.lock_state.specs.Steps.Lending.{MayLend, MayShift, MayEndWalk, IsAtEnd, after_lend, after_shift, after_end_walk}
+use Rattle.lock_state.specs.Facts.{HeadsFitWaiters, MutexWaitersAreExclusive, OwnersHold}
+use Rattle.lock_state.specs.Facts.Loans.{owner_if}
+use Rattle.lock_state.specs.Run.{Run, made, walks_at_lock, walks_at_thread}
 use Rattle.lock_model.specs.declared.plan.Mode.TheVariants.{Excl}
 use Rattle.lock_model.specs.declared.plan.Op.TheVariants.{Take}
 use Rattle.lock_model.specs.declared.plan.Plan.{Plan}
@@ -125,10 +126,10 @@ module _ (plan : Plan) (chains : ℕ) (r : Run) (t : ℕ) (p : IsProper plan) (k
   }
 
   -- a thread that stands on no turnstile
-  pub off : (o : ℕ) (q : Option QueueName) → s.named o ≡ q → ((l : ℕ) → q ≡ Some (lock_queue l) → stands o (s.lists (lock_queue l)) ≡ 0) → IsAtEnd c s (AtThread o)
+  pub off : (o : ℕ) (q : Option QueueName) → s.blocked_on o ≡ q → ((l : ℕ) → q ≡ Some (lock_queue l) → stands o (s.lists (lock_queue l)) ≡ 0) → IsAtEnd c s (AtThread o)
   off o q e f = λ l i j. f l (sym e ∙ j)
 
-  pub at_thread : (o : ℕ) (q : Option QueueName) → s.walk t ≡ AtThread o → s.named o ≡ q → IsOnTrack plan chains (walks_at_thread c r t o q).run
+  pub at_thread : (o : ℕ) (q : Option QueueName) → s.walk t ≡ AtThread o → s.blocked_on o ≡ q → IsOnTrack plan chains (walks_at_thread c r t o q).run
   at_thread o (Some (Lock l)) w e = go (is_turnstile (c.kind l.0) && nat_lt 0 (stands o (s.lists (lock_queue l.0)))) refl
     where
       none_stands : (is_turnstile (c.kind l.0) && nat_lt 0 (stands o (s.lists (lock_queue l.0)))) ≡ false → stands o (s.lists (lock_queue l.0)) ≡ 0
@@ -136,7 +137,7 @@ module _ (plan : Plan) (chains : ℕ) (r : Run) (t : ℕ) (p : IsProper plan) (k
 
       go : (b : Bool) → (is_turnstile (c.kind l.0) && nat_lt 0 (stands o (s.lists (lock_queue l.0)))) ≡ b
           → IsOnTrack plan chains (cond b (made Shift (after_shift s t o l.0) r) (made WalkEnd (after_end_walk s t) r)).run
-      go true i = shifted o l.0 (record { thread = lt; turnstile = turnstile l.0; walks = w; named = e; stands = ltb-true 0 (stands o (s.lists (lock_queue l.0))) (and_parts (is_turnstile (c.kind l.0)) (nat_lt 0 (stands o (s.lists (lock_queue l.0)))) i).1 })
+      go true i = shifted o l.0 (record { thread = lt; turnstile = turnstile l.0; walks = w; blocked_on = e; stands = ltb-true 0 (stands o (s.lists (lock_queue l.0))) (and_parts (is_turnstile (c.kind l.0)) (nat_lt 0 (stands o (s.lists (lock_queue l.0)))) i).1 })
       go false i = walk_ended (ends (AtThread o) w (off o (Some (Lock l)) e (λ m j. subst (λ x. stands o (s.lists (lock_queue x)) ≡ 0) (same_lock l.0 m j) (none_stands i))))
   at_thread o (Some (Chan d)) w e = walk_ended (ends (AtThread o) w (off o (Some (Chan d)) e (λ l i. absurd cc)))
   at_thread o None w e = walk_ended (ends (AtThread o) w (off o None e (λ l i. absurd (let z : None ≡ Some (lock_queue l) = i in cc))))

@@ -3,10 +3,11 @@ use Rattle.std.proofs.Common.{◌≡◌, ◌≢◌, ℕ, ◌+◌, ◌<◌, ◌�
 use Rattle.std.proofs.lemmas.Bool.{ne_eqb, cases_eq, eqb-true}
 use Rattle.lock_model.specs.Counts.{sum_below}
 use Rattle.lock_model.specs.Words.{Word, Holder, Free, HeldBy, SharedBy, sharers, is_free, is_owned, admits, gained, claimed, entered, without_one}
-use Rattle.lock_model.specs.History.{is_exclusive}
-use Rattle.lock_model.specs.State.{Config, State, Hold, NotHeld, Holds, put, put_at}
-use Rattle.lock_model.specs.Facts.{Lawful, WordsMatchHolders}
-use Rattle.lock_model.specs.FactsOfWords.{WordMatchesHolders, owns, shares}
+use Rattle.lock_model.specs.Holds.{is_exclusive, Hold, NotHeld, Holds}
+use Rattle.lock_model.specs.Config.{Config}
+use Rattle.lock_state.specs.State.{State, put, put_at}
+use Rattle.lock_state.specs.Facts.{Lawful, WordsMatchHolders}
+use Rattle.lock_state.specs.Facts.Words.{WordMatchesHolders, owns, shares}
 use Rattle.lock_model.specs.declared.plan.Kind.{Kind}
 use Rattle.lock_model.specs.declared.plan.Kind.TheVariants.{Mtx}
 use Rattle.lock_model.specs.declared.plan.Mode.{Mode}

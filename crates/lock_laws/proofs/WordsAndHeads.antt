@@ -3,12 +3,14 @@ use Rattle.std.proofs.Common.{◌≡◌, ◌≢◌, ℕ, zero, suc, ◌+◌, ◌
 use Rattle.std.proofs.lemmas.Option.{same_Some}
 use Rattle.lock_model.specs.Counts.{some, is_empty}
 use Rattle.lock_model.specs.Words.{Holder, Free, HeldBy, SharedBy, IsPossible, sharers, is_turnstile, owner_of, shows_waiters}
-use Rattle.lock_model.specs.State.{Config, State, Waiter, Loan, Hold, NotHeld, Holds}
-use Rattle.lock_model.specs.Queues.{lock_queue, waiting}
-use Rattle.lock_model.specs.Facts.{Lawful, HeadsFitWaiters, BitsShowWaiters, MutexWaitersAreExclusive, WordsMatchHolders, OnlyThreadsHold, OwnersHold, LoansAreOnHeads}
-use Rattle.lock_model.specs.FactsOfWords.{owns, shares}
-use Rattle.lock_model.specs.FactsOfLoans.{owner_if}
-use Rattle.lock_model.specs.MovesOfQueues.{home_after}
+use Rattle.lock_model.specs.Config.{Config}
+use Rattle.lock_state.specs.State.{State, Loan}
+use Rattle.lock_model.specs.Queues.{Waiter, lock_queue, waiting}
+use Rattle.lock_model.specs.Holds.{Hold, NotHeld, Holds}
+use Rattle.lock_state.specs.Facts.{Lawful, HeadsFitWaiters, BitsShowWaiters, MutexWaitersAreExclusive, WordsMatchHolders, OnlyThreadsHold, OwnersHold, LoansAreOnHeads}
+use Rattle.lock_state.specs.Facts.Words.{owns, shares}
+use Rattle.lock_state.specs.Facts.Loans.{owner_if}
+use Rattle.lock_state.specs.Steps.Turnstiles.{home_after}
 use Rattle.lock_model.specs.declared.plan.Kind.TheVariants.{Mtx}
 use Rattle.lock_model.specs.declared.plan.Mode.TheVariants.{Excl, Shared}
 use Rattle.lock_model.specs.declared.plan.QueueName.{QueueName}

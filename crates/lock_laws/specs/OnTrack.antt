@@ -4,11 +4,13 @@ use Rattle.std.specs.List.{All}
 use Rattle.lock_model.specs.Plans.{config_of, operations_of}
 use Rattle.lock_model.specs.Counts.{sum_below}
 use Rattle.lock_model.specs.Operations.{hold_in, held_of}
-use Rattle.lock_model.specs.State.{NotHeld, Wait, Running, Queued, Woken, Cause, BySignal, ByAbort}
+use Rattle.lock_model.specs.Holds.{NotHeld}
+use Rattle.lock_state.specs.State.{Wait, Running, Queued, Woken}
+use Rattle.lock_model.specs.Queues.{Cause, BySignal, ByAbort}
 use Rattle.lock_model.specs.History.{open_in}
-use Rattle.lock_model.specs.MovesOfTurns.{Item, item_with}
-use Rattle.lock_model.specs.Facts.{Lawful}
-use Rattle.lock_model.specs.Run.{Run}
+use Rattle.lock_state.specs.Steps.Items.{Item, item_with}
+use Rattle.lock_state.specs.Facts.{Lawful}
+use Rattle.lock_state.specs.Run.{Run}
 use Rattle.lock_model.specs.declared.plan.Op.TheVariants.{Take}
 use Rattle.lock_model.specs.declared.plan.Mode.TheVariants.{Excl}
 use Rattle.lock_model.specs.declared.plan.Plan.{Plan}

@@ -1,9 +1,11 @@
 //! Tables and the history.
 
 ghost use Rattle.std.specs.Prelude.{◌≡◌, ◌≢◌, ℕ};
-ghost use Rattle.lock_model.specs.State.{Config, State, Holds, NotHeld};
+ghost use Rattle.lock_model.specs.Config.{Config};
+ghost use Rattle.lock_state.specs.State.{State};
+ghost use Rattle.lock_model.specs.Holds.{Holds, NotHeld};
 ghost use Rattle.lock_model.specs.History.{value_at};
-ghost use Rattle.lock_model.specs.Facts.{Lawful};
+ghost use Rattle.lock_state.specs.Facts.{Lawful};
 ghost use Rattle.lock_model.specs.declared.plan.Mode.{Mode};
 ghost use Rattle.lock_model.specs.declared.plan.Mode.TheVariants.{Excl};
 

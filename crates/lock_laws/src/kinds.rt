@@ -1,13 +1,15 @@
 //! Each kind of step keeps each fact of a lawful state.
 
 ghost use Rattle.std.specs.Prelude.{ℕ, Bool, List};
-ghost use Rattle.lock_model.specs.State.{Config, State, Cause, Mark};
-ghost use Rattle.lock_model.specs.Facts.{Lawful};
-ghost use Rattle.lock_model.specs.Moves.{MayLook, MayGain, MayDrop, MayStamp, MayReady, MayUnready, after_look, after_gain, after_drop, after_stamp, after_ready, after_unready};
-ghost use Rattle.lock_model.specs.MovesOfQueues.{MayEnter, MayBlock, MayOpen, MayMark, MayResume, after_enter, after_block, after_open, after_mark, after_resume};
-ghost use Rattle.lock_model.specs.MovesOfLoans.{MayClaim, MayLend, MayShift, MayEndWalk, after_claim, after_lend, after_shift, after_end_walk};
-ghost use Rattle.lock_model.specs.MovesOfSleeps.{MayEnterSleep, MayOpenSleep, MayAdd, MayWake, after_enter_sleep, after_open_sleep, after_add, after_wake};
-ghost use Rattle.lock_model.specs.MovesOfTurns.{Item, MayTake, MayGive, after_take, after_give};
+ghost use Rattle.lock_model.specs.Config.{Config};
+ghost use Rattle.lock_state.specs.State.{State};
+ghost use Rattle.lock_model.specs.Queues.{Cause, Mark};
+ghost use Rattle.lock_state.specs.Facts.{Lawful};
+ghost use Rattle.lock_state.specs.Steps.LockWords.{MayLook, MayGain, MayDrop, MayStamp, MayReady, MayUnready, after_look, after_gain, after_drop, after_stamp, after_ready, after_unready};
+ghost use Rattle.lock_state.specs.Steps.Turnstiles.{MayEnter, MayBlock, MayOpen, MayMark, MayResume, after_enter, after_block, after_open, after_mark, after_resume};
+ghost use Rattle.lock_state.specs.Steps.Lending.{MayClaim, MayLend, MayShift, MayEndWalk, after_claim, after_lend, after_shift, after_end_walk};
+ghost use Rattle.lock_state.specs.Steps.SleepQueues.{MayEnterSleep, MayOpenSleep, MayAdd, MayWake, after_enter_sleep, after_open_sleep, after_add, after_wake};
+ghost use Rattle.lock_state.specs.Steps.Items.{Item, MayTake, MayGive, after_take, after_give};
 ghost use Rattle.lock_model.specs.declared.plan.Mode.{Mode};
 ghost use Rattle.lock_model.specs.declared.plan.QueueName.{QueueName};
 ghost use Rattle.lock_model.specs.declared.event.Event.{Event};

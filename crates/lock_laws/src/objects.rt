@@ -1,10 +1,12 @@
 //! Where turnstiles, loan nodes and waiters are: what those who move the objects need to know.
 
 ghost use Rattle.std.specs.Prelude.{◌≡◌, ◌≢◌, ℕ, ◌<◌, ◌≤◌, true, false, Some, None, List, [], ◌∷◌};
-ghost use Rattle.lock_model.specs.State.{Config, State, Loan, Mark, Holds};
+ghost use Rattle.lock_model.specs.Config.{Config};
+ghost use Rattle.lock_state.specs.State.{State, Loan};
+ghost use Rattle.lock_model.specs.Queues.{Mark, lock_queue, is_turnstile_queue, stands, waiting};
+ghost use Rattle.lock_model.specs.Holds.{Holds};
 ghost use Rattle.lock_model.specs.Words.{is_turnstile};
-ghost use Rattle.lock_model.specs.Queues.{lock_queue, is_turnstile_queue, stands, waiting};
-ghost use Rattle.lock_model.specs.Facts.{Lawful};
+ghost use Rattle.lock_state.specs.Facts.{Lawful};
 ghost use Rattle.lock_model.specs.declared.plan.Mode.TheVariants.{Excl};
 ghost use Rattle.lock_model.specs.declared.plan.QueueName.{QueueName};
 
@@ -56,7 +58,7 @@ pub fn home_stands_nowhere()
 /// A thread in a marked list is one of the plan's, and its turnstile is out.
 pub fn marked_are_out()
     ensures thread { (c : Config) (s : State) (t : ℕ) (m : Mark) (ms : List Mark) → Lawful c s → t < c.threads → s.marked t ≡ m ∷ ms → m.thread < c.threads }
-    ensures named { (c : Config) (s : State) (t : ℕ) (m : Mark) (ms : List Mark) → Lawful c s → t < c.threads → s.marked t ≡ m ∷ ms → s.named m.thread ≡ Some m.queue }
+    ensures blocked_on { (c : Config) (s : State) (t : ℕ) (m : Mark) (ms : List Mark) → Lawful c s → t < c.threads → s.marked t ≡ m ∷ ms → s.blocked_on m.thread ≡ Some m.queue }
     ensures turnstile { (c : Config) (s : State) (t : ℕ) (m : Mark) (ms : List Mark) → Lawful c s → t < c.threads → s.marked t ≡ m ∷ ms
         → is_turnstile_queue c m.queue ≡ true → s.turnstile m.thread ≡ None }
 {}

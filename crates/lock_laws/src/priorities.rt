@@ -1,11 +1,13 @@
 //! Effective priorities and loans.
 
 ghost use Rattle.std.specs.Prelude.{◌≡◌, ℕ, ◌<◌, ◌≤◌, true, Some};
-ghost use Rattle.lock_model.specs.State.{Config, State, Loan, Holds};
+ghost use Rattle.lock_model.specs.Config.{Config};
+ghost use Rattle.lock_state.specs.State.{State, Loan};
+ghost use Rattle.lock_model.specs.Holds.{Holds};
 ghost use Rattle.lock_model.specs.Words.{is_turnstile};
 ghost use Rattle.lock_model.specs.Queues.{lock_queue, waiting};
-ghost use Rattle.lock_model.specs.Facts.{Lawful};
-ghost use Rattle.lock_model.specs.Best.{best_behind, HasCycle, NobodyWalks};
+ghost use Rattle.lock_state.specs.Facts.{Lawful};
+ghost use Rattle.lock_state.specs.Best.{best_behind, HasCycle, NobodyWalks};
 ghost use Rattle.lock_model.specs.declared.plan.Mode.TheVariants.{Excl};
 
 /// Where no walk is under way and nobody waits in a cycle, each thread's effective priority is the best behind it.

@@ -2,10 +2,10 @@
 
 ghost use Rattle.std.specs.Prelude.{◌≡◌, ◌≢◌, ℕ, ◌<◌, List, length};
 ghost use Rattle.std.specs.List.{All};
-ghost use Rattle.lock_model.specs.Facts.{Lawful};
+ghost use Rattle.lock_state.specs.Facts.{Lawful};
 ghost use Rattle.lock_model.specs.Operations.{IsProper, operations_in_all};
 ghost use Rattle.lock_model.specs.Plans.{config_of, operations_of};
-ghost use Rattle.lock_model.specs.Run.{Run, start_run, turn_of, after_turns, course_after, has_ended};
+ghost use Rattle.lock_state.specs.Run.{Run, start_run, turn_of, after_turns, course_after, has_ended};
 ghost use Rattle.lock_model.specs.declared.plan.Plan as plans;
 ghost use Rattle.lock_laws.specs.OnTrack.{IsOnTrack};
 

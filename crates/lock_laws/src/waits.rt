@@ -1,10 +1,11 @@
 //! Where waiting threads stand.
 
 ghost use Rattle.std.specs.Prelude.{◌≡◌, ℕ, ◌≤◌, true, Some};
-ghost use Rattle.lock_model.specs.State.{Config, State, Queued};
+ghost use Rattle.lock_model.specs.Config.{Config};
+ghost use Rattle.lock_state.specs.State.{State, Queued};
 ghost use Rattle.lock_model.specs.Words.{shows_waiters};
 ghost use Rattle.lock_model.specs.Queues.{lock_queue, stands};
-ghost use Rattle.lock_model.specs.Facts.{Lawful};
+ghost use Rattle.lock_state.specs.Facts.{Lawful};
 ghost use Rattle.lock_model.specs.declared.plan.QueueName.{QueueName};
 
 /// A thread stands at most once on a queue.

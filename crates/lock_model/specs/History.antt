@@ -5,7 +5,8 @@ use Rattle.std.specs.declared.cmp.Ordering.{Ordering}
 use Rattle.std.specs.Ordering.{nat_cmp, ordering_then}
 use Rattle.std.specs.FinMap.{FinMap, empty, get, insert}
 use Rattle.lock_model.specs.Counts.{any_below}
-use Rattle.lock_model.specs.State.{Config, Hold, NotHeld, Holds}
+use Rattle.lock_model.specs.Config.{Config}
+use Rattle.lock_model.specs.Holds.{Hold, NotHeld, Holds, is_exclusive}
 use Rattle.lock_model.specs.Words.{is_turnstile}
 use Rattle.lock_model.specs.declared.plan.Mode.{Mode}
 use Rattle.lock_model.specs.declared.plan.Mode.TheVariants.{Excl, Shared}
@@ -158,12 +159,6 @@ IsReplayed other es = ⊤
 unfoldable pub ReadsReplay : List Entry → Type 0
 ReadsReplay [] = ⊤
 ReadsReplay (e ∷ es) = IsReplayed e.event es × ReadsReplay es
-
--- whether the lock is held exclusively
-abbrev pub is_exclusive : Hold → Bool
-is_exclusive NotHeld = false
-is_exclusive (Holds Excl) = true
-is_exclusive (Holds Shared) = false
 
 -- whether the thread has an exclusive section of a mutex or an rw lock open
 abbrev pub owns_in : Config → List Entry → ℕ → Bool

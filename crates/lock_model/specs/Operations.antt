@@ -2,8 +2,7 @@
 -- plan is such a plan.
 use Rattle.std.specs.Prelude.{◌≡◌, ℕ, ◌≤◌, ◌<◌, Bool, true, false, ◌&&◌, ◌==◌, nat_lt, if◌then◌else◌, List, [], ◌∷◌, ◌++◌, length, map, sum, take, option_and_then, unwrap_or, Option, Some, None}
 use Rattle.std.specs.List.{All}
-use Rattle.lock_model.specs.State.{Hold, NotHeld, Holds}
-use Rattle.lock_model.specs.History.{is_exclusive}
+use Rattle.lock_model.specs.Holds.{Hold, NotHeld, Holds, is_unheld, is_exclusive}
 use Rattle.lock_model.specs.Plans.{lock_kind, operations_of}
 use Rattle.lock_model.specs.declared.plan.Kind.TheVariants.{Mtx}
 use Rattle.lock_model.specs.declared.plan.Mode.TheVariants.{Excl}
@@ -13,11 +12,6 @@ use Rattle.lock_model.specs.declared.plan.Plan.{Plan}
 use Rattle.lock_model.specs.declared.event.Held.{Held}
 
 -- 1. Lists of held locks, in order of acquisition
-
--- whether a lock is not held
-abbrev pub is_unheld : Hold → Bool
-is_unheld NotHeld = true
-is_unheld (Holds mode) = false
 
 -- how a lock is held
 abbrev pub hold_in : List Held → ℕ → Hold

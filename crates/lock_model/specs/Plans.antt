@@ -1,6 +1,6 @@
 -- What a plan says of a thread, a lock, a channel and a class by its number, with a default out of the plan's range.
 use Rattle.std.specs.Prelude.{ℕ, Bool, true, List, [], map, length, slice_get, unwrap_or}
-use Rattle.lock_model.specs.State.{Config}
+use Rattle.lock_model.specs.Config.{Config}
 use Rattle.lock_model.specs.declared.plan.Kind.{Kind}
 use Rattle.lock_model.specs.declared.plan.Kind.TheVariants.{Mtx}
 use Rattle.lock_model.specs.declared.plan.Op.{Op}

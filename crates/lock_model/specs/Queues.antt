@@ -3,7 +3,7 @@
 use Rattle.std.specs.Prelude.{ℕ, ◌+◌, Bool, false, not, ◌==◌, nat_le, if◌then◌else◌, List, [], ◌∷◌, length, Option, Some, None}
 use Rattle.lock_model.specs.Counts.{one, lower}
 use Rattle.lock_model.specs.Words.{is_turnstile}
-use Rattle.lock_model.specs.State.{Config, Waiter, Lists, Mark, BySignal}
+use Rattle.lock_model.specs.Config.{Config}
 use Rattle.lock_model.specs.declared.plan.Mode.{Mode}
 use Rattle.lock_model.specs.declared.plan.Mode.TheVariants.{Excl, Shared}
 use Rattle.lock_model.specs.declared.plan.Side.{Side}
@@ -11,7 +11,36 @@ use Rattle.lock_model.specs.declared.plan.Side.TheVariants.{X, S}
 use Rattle.lock_model.specs.declared.plan.QueueName.{QueueName}
 use Rattle.lock_model.specs.declared.plan.QueueName.TheVariants.{Lock, Chan}
 
--- 1. Names of queues
+-- 1. Queues and their waiters
+
+-- why a waiter was taken off its queue
+pub data Cause : Type 0 where
+  BySignal : Cause
+  ByAbort : Cause
+
+-- a thread on a queue, and the priority by which the queue keeps it
+pub record Waiter : Type 0 where
+  pub thread : ℕ
+  pub kept : ℕ
+
+-- the two lists of a queue, each from its front
+pub record Lists : Type 0 where
+  pub exclusive : List Waiter
+  pub shared : List Waiter
+
+-- a thread that was taken off a queue and is still to be woken, with the turnstile or sleep queue that it takes back
+pub record Mark : Type 0 where
+  pub thread : ℕ
+  pub object : ℕ
+  pub queue : QueueName
+  pub cause : Cause
+
+-- whether two names are of the same queue
+abbrev pub is_queue : QueueName → QueueName → Bool
+is_queue (Lock l) (Lock k) = l.0 == k.0
+is_queue (Chan c) (Chan d) = c.0 == d.0
+is_queue (Lock l) (Chan d) = false
+is_queue (Chan c) (Lock k) = false
 
 -- the queue of a lock
 abbrev pub lock_queue : ℕ → QueueName

@@ -5,7 +5,7 @@ use Rattle.std.specs.FinMap.{entries}
 use Rattle.lock_model.specs.Operations.{IsProper}
 use Rattle.lock_model.specs.Plans.{config_of}
 use Rattle.lock_model.specs.History.{tables_of}
-use Rattle.lock_model.specs.Run.{course_after, scheduled_run}
+use Rattle.lock_state.specs.Run.{course_after, scheduled_run}
 use Rattle.lock_model.specs.Script.{IsAccepted, IsRefused}
 use Rattle.lock_model.specs.Text.{fault_text}
 use Rattle.lock_model.specs.declared.plan.Plan.{Plan}

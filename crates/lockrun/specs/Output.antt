@@ -3,9 +3,9 @@ use Rattle.std.specs.Prelude.{◌≡◌, ℕ, Bool, false, true, List, [], ◌�
 use Rattle.std.specs.FinMap.{entries}
 use Rattle.lock_model.specs.Plans.{config_of}
 use Rattle.lock_model.specs.Script.{plan_of_lines, lines_of, is_same}
-use Rattle.lock_model.specs.Run.{course_after, scheduled_run}
-use Rattle.lock_model.specs.Best.{best_behind, HasCycle, NobodyWalks}
-use Rattle.lock_model.specs.Facts.{Lawful}
+use Rattle.lock_state.specs.Run.{course_after, scheduled_run}
+use Rattle.lock_state.specs.Best.{best_behind, HasCycle, NobodyWalks}
+use Rattle.lock_state.specs.Facts.{Lawful}
 use Rattle.lock_model.specs.History.{tables_of}
 use Rattle.lock_model.specs.Text.{Ending, IsDone, IsStuck, IsReversed, IsTooLong, text_of, fault_text}
 use Rattle.lock_model.specs.declared.plan.Plan.{Plan}

@@ -10,8 +10,9 @@ use Rattle.lock_model.specs.Keys.{plan_names}
 use Rattle.lock_model.specs.Operations.{IsProper, operations_in_all, hold_in}
 use Rattle.lock_model.specs.Plans.{config_of, declared_base}
 use Rattle.lock_model.specs.Queues.{lock_queue}
-use Rattle.lock_model.specs.Run.{start_run}
-use Rattle.lock_model.specs.State.{Config, start_state}
+use Rattle.lock_state.specs.Run.{start_run}
+use Rattle.lock_model.specs.Config.{Config}
+use Rattle.lock_state.specs.State.{start_state}
 use Rattle.lock_model.specs.Words.{word_of, free_word}
 use Rattle.lock_model.specs.declared.numbers.LockNo.{LockNo}
 use Rattle.lock_model.specs.declared.plan.Plan.{Plan}
@@ -19,9 +20,9 @@ use Rattle.lock_model.specs.declared.plan.ThreadDecl.{ThreadDecl}
 use Rattle.thread_records.specs.Loans.{loan_for, loans_for}
 use Rattle.thread_records.specs.Records.{Record}
 use Rattle.turnstile_core.specs.Seen.{Place}
-use Rattle.step_world.specs.Runs.{AreNew, ShowsRun}
-use Rattle.step_world.specs.Shows.{Shows, ShowsWords, ShowsThread, ShowsThreads, wait_of, walk_of, loan_of, mark_of, holds_of}
-use Rattle.step_world.specs.Steps.{aside}
+use Rattle.step_world.specs.Runs.{AreNew, RepresentsRun}
+use Rattle.step_world.specs.Represents.{Represents, RepresentsWords, RepresentsThread, RepresentsThreads, wait_of, walk_of, loan_of, mark_of, holds_of}
+use Rattle.step_world.specs.Steps.{progress}
 use Rattle.step_world.specs.Threads.{IsNew}
 use Rattle.step_world.specs.declared.machine.Machine.{Machine}
 use Rattle.step_world.specs.declared.thread.Thread.{Thread}
@@ -56,7 +57,7 @@ new_pushed decls ths n th d long at new each t u e is_u is_e =
 -- 2. The machine
 
 -- what a new thread shows
-shown : (plan : Plan) (chains : ℕ) (t : ℕ) (th : Thread) (d : ThreadDecl) → slice_get plan.threads t ≡ Some d → IsNew t d.base.0 th → ShowsThread th (start_state (config_of plan chains)) t
+shown : (plan : Plan) (chains : ℕ) (t : ℕ) (th : Thread) (d : ThreadDecl) → slice_get plan.threads t ≡ Some d → IsNew t d.base.0 th → RepresentsThread th (start_state (config_of plan chains)) t
 unfolding start_state
 shown plan chains t th d at new =
     let base : d.base.0 ≡ declared_base plan t = sym (ap (λ o. unwrap_or o 0) (slice_get-map (λ (e : ThreadDecl). e.base.0) plan.threads t ∙ ap (option_map (λ (e : ThreadDecl). e.base.0)) at)) in
@@ -67,7 +68,7 @@ shown plan chains t th d at new =
       turnstile = ap (λ (r : Record). r.turnstile) new.its_record;
       loans = λ l. ap (λ (r : Record). option_map loan_of (loan_for l r.loans)) new.its_record;
       one_loan_each = λ l. omega (arith, ap (λ (r : Record). loans_for l r.loans) new.its_record);
-      named = ap (λ (r : Record). r.on) new.its_record;
+      blocked_on = ap (λ (r : Record). r.on) new.its_record;
       wait = ap wait_of new.running;
       walk = ap walk_of new.no_walk;
       wanted = ap (option_map (λ (l : LockNo). l.0)) new.wants_none;
@@ -100,13 +101,13 @@ module _ (plan : Plan) (m : Machine) (chains : ℕ) (p : IsProper plan) (b : IsB
   abbrev c : Config
   c = config_of plan chains
 
-  words : ShowsWords m.words.items c (λ l. free_word)
+  words : RepresentsWords m.words.items c (λ l. free_word)
   words = record {
     locks = ap (λ (ws : List ℕ). length ws) b.free ∙ length-replicate (length plan.locks) 0;
     word = λ l i. ap (λ (ws : List ℕ). word_of (get_or ws l 0)) b.free ∙ ap word_of (get_or-replicate (length plan.locks) l 0 0 i);
   }
 
-  threads : ShowsThreads m.threads.items c (start_state c)
+  threads : RepresentsThreads m.threads.items c (start_state c)
   threads = record {
     threads = b.new.number;
     thread = λ t th e.
@@ -114,7 +115,7 @@ module _ (plan : Plan) (m : Machine) (chains : ℕ) (p : IsProper plan) (b : IsB
         shown plan chains t th d.0 d.1 (b.new.each t th d.0 e d.1);
   }
 
-  shows : Shows c m (start_state c)
+  shows : Represents c m (start_state c)
   unfolding start_state tables_of
   shows = record {
     within = record { few_locks = p.locks; few_threads = p.threads; mutexes = p.mutexes };
@@ -125,7 +126,7 @@ module _ (plan : Plan) (m : Machine) (chains : ℕ) (p : IsProper plan) (b : IsB
     tables = b.no_key;
   }
 
-  its_aside : (t : ℕ) → t < length plan.threads → aside m t ≡ Some (record { place = 0; held = [] })
+  its_aside : (t : ℕ) → t < length plan.threads → progress m t ≡ Some (record { place = 0; held = [] })
   its_aside t l =
       elim ((slice_get_cases m.threads.items t).1) [
         | inl h ↦
@@ -135,11 +136,11 @@ module _ (plan : Plan) (m : Machine) (chains : ℕ) (p : IsProper plan) (b : IsB
         | inr h ↦ absurd (omega (arith, h.0, l, b.new.number))
       ]
 
-  pub begun : ShowsRun plan chains m (start_run c)
+  pub begun : RepresentsRun plan chains m (start_run c)
   unfolding start_state
   begun = record {
     shows = shows;
-    aside = its_aside;
+    progress = its_aside;
     room = rw (b.no_entry, b.room) (omega arith);
     keys = b.keys;
   }

@@ -5,11 +5,12 @@ use Rattle.std.proofs.lemmas.Option.{same_Some}
 use Rattle.std.specs.Vec.{with_item}
 use Rattle.std.specs.Box.{with_value}
 use Rattle.lock_model.specs.Words.{Holder, Free, HeldBy, SharedBy, IsPossible, word_of, entered, owner_of}
-use Rattle.lock_model.specs.State.{Config, State, Queued, Waiter, Lists}
-use Rattle.lock_model.specs.Facts.{Lawful}
-use Rattle.lock_model.specs.Moves.{after_ready}
-use Rattle.lock_model.specs.MovesOfQueues.{MayBlock, after_enter, after_block, owner_with, walk_in}
-use Rattle.lock_model.specs.Queues.{lock_queue, stands, waiting, insert, head_with, free_with}
+use Rattle.lock_model.specs.Config.{Config}
+use Rattle.lock_state.specs.State.{State, Queued}
+use Rattle.lock_model.specs.Queues.{Waiter, Lists, lock_queue, stands, waiting, insert, head_with, free_with}
+use Rattle.lock_state.specs.Facts.{Lawful}
+use Rattle.lock_state.specs.Steps.LockWords.{after_ready}
+use Rattle.lock_state.specs.Steps.Turnstiles.{MayBlock, after_enter, after_block, owner_with, walk_in}
 use Rattle.lock_model.specs.declared.numbers.ThreadNo.{ThreadNo}
 use Rattle.lock_model.specs.declared.plan.Mode.TheVariants.{Excl}
 use Rattle.lock_model.specs.declared.plan.Side.TheVariants.{X}
@@ -28,7 +29,7 @@ use Rattle.step_world.specs.declared.machine.Machine.{Machine}
 use Rattle.step_world.specs.declared.thread.Thread.{Thread}
 use Rattle.prio_lending.specs.declared.walk.Walk as walks
 use Rattle.step_world.specs.declared.thread.Wait.TheVariants as wait
-use Rattle.step_world.specs.Shows.{Shows, ShowsThread, ShowsHead, ShowsQueue, ShowsQueues, loan_of, walk_of}
+use Rattle.step_world.specs.Represents.{Represents, RepresentsThread, RepresentsHead, RepresentsQueue, RepresentsQueues, loan_of, walk_of}
 use Rattle.step_world.proofs.Kit.{SameAt, thread_changed, word_changed}
 use Rattle.step_world.proofs.KitOfQueues.{SameQueue, queues_placed}
 use Rattle.step_world.proofs.Lists.{insert-same, waits-counted}
@@ -52,17 +53,17 @@ walk_begins l (Some t) (HeldBy u) e = refl
 
 -- 2. What is read
 
-module _ (m : Machine) (c : Config) (s : State) (l : ℕ) (h : Shows c m s) where
+module _ (m : Machine) (c : Config) (s : State) (l : ℕ) (h : Represents c m s) where
   -- the word that was read can be
   pub possible_read : (i w : ℕ) → i ≡ l → l < c.locks → w ≡ get_or m.words.items i w → Lawful c s → IsPossible (word_of w).holder
   possible_read i w e lt is lawful = subst (λ v. IsPossible v.holder) (sym (word_read m.words.items c s.word l i w e h.words lt is)) (possible_holder c s l lawful (omega (arith, h.within.few_threads)))
 
   -- the head that is found shows the queue, and where none is found the queue has none
-  pub head_seen : (hd : Turnstile) → Some hd ≡ head_of (lock_queue l) m.chain → ShowsHead hd.contents s.lists s.free_list s.head s.owner s.loan_home (lock_queue l)
-  head_seen hd e = subst (λ o. ShowsQueue o s.lists s.free_list s.head s.owner s.loan_home (lock_queue l)) (sym e) (h.queues l)
+  pub head_seen : (hd : Turnstile) → Some hd ≡ head_of (lock_queue l) m.chain → RepresentsHead hd.contents s.lists s.free_list s.head s.owner s.loan_home (lock_queue l)
+  head_seen hd e = subst (λ o. RepresentsQueue o s.lists s.free_list s.head s.owner s.loan_home (lock_queue l)) (sym e) (h.queues l)
 
   pub no_head_seen : None ≡ head_of (lock_queue l) m.chain → s.head (lock_queue l) ≡ None
-  no_head_seen e = subst (λ o. ShowsQueue o s.lists s.free_list s.head s.owner s.loan_home (lock_queue l)) (sym e) (h.queues l)
+  no_head_seen e = subst (λ o. RepresentsQueue o s.lists s.free_list s.head s.owner s.loan_home (lock_queue l)) (sym e) (h.queues l)
 
 -- a head that has its name is placed under it
 pub placed_as : (q : QueueName) (hd : Turnstile) (chain old : List (QueueName × Turnstile)) → name_of hd.contents ≡ Some q → IfSome (name_of hd.contents) (λ r. chain ≡ (r, hd) ∷ old) → chain ≡ (q, hd) ∷ old
@@ -74,7 +75,7 @@ placed_as q hd chain old e placed = subst (λ o. IfSome o (λ r. chain ≡ (r, h
 abbrev pub lent_record : ℕ → Record → Record
 lent_record l r = record r { turnstile = None; on = Some (lock_queue l) }
 
-module _ (m : Machine) (c : Config) (s : State) (t l x : ℕ) (h : Shows c m s) (lawful : Lawful c s) (g : MayBlock c s t l Excl x) where
+module _ (m : Machine) (c : Config) (s : State) (t l x : ℕ) (h : Represents c m s) (lawful : Lawful c s) (g : MayBlock c s t l Excl x) where
   abbrev n : State
   n = after_block s t l Excl x
 
@@ -89,7 +90,7 @@ module _ (m : Machine) (c : Config) (s : State) (t l x : ℕ) (h : Shows c m s) 
     effective = refl;
     turnstile = put_other s.turnstile t None u (λ e. d (sym e));
     loan = λ k. refl;
-    named = put_other s.named t (Some q) u (λ e. d (sym e));
+    blocked_on = put_other s.blocked_on t (Some q) u (λ e. d (sym e));
     wait = put_other s.wait t Queued u (λ e. d (sym e));
     walk = put_other s.walk t (walk_in l (s.word l).holder) u (λ e. d (sym e));
     wanted = put_other s.wanted t (Some l) u (λ e. d (sym e));
@@ -100,7 +101,7 @@ module _ (m : Machine) (c : Config) (s : State) (t l x : ℕ) (h : Shows c m s) 
   -- the thread stands on the queue and walks
   pub thread_blocks : (th : Thread) (v : Record) (w : walks.Walk) (o : Option ThreadNo) → slice_get m.threads.items t ≡ Some th → owner_seen o ≡ owner_of (s.word l).holder
       → v ≡ lent_record l th.record.value → w ≡ walk_up l (is_some o)
-      → ShowsThread (record th { «record» = with_value th.record v; wait = wait.Queued; walk = w; wanted = Some (record { 0 = l }) }) n t
+      → RepresentsThread (record th { «record» = with_value th.record v; wait = wait.Queued; walk = w; wanted = Some (record { 0 = l }) }) n t
   unfolding after_block after_enter after_ready
   thread_blocks th v w o at owner rec walk =
       let old = h.threads.thread t th at in
@@ -111,7 +112,7 @@ module _ (m : Machine) (c : Config) (s : State) (t l x : ℕ) (h : Shows c m s) 
         turnstile = ap (λ r. r.turnstile) rec ∙ sym (put_same s.turnstile t None);
         loans = λ k. ap (λ r. option_map loan_of (loan_for k r.loans)) rec ∙ old.loans k;
         one_loan_each = λ k. subst (λ (r : Record). loans_for k r.loans ≤ 1) (sym rec) (old.one_loan_each k);
-        named = ap (λ r. r.on) rec ∙ sym (put_same s.named t (Some q));
+        blocked_on = ap (λ r. r.on) rec ∙ sym (put_same s.blocked_on t (Some q));
         wait = sym (put_same s.wait t Queued);
         walk = ap walk_of walk ∙ walk_begins l o (s.word l).holder owner ∙ sym (put_same s.walk t (walk_in l (s.word l).holder));
         wanted = sym (put_same s.wanted t (Some l));
@@ -141,7 +142,7 @@ module _ (m : Machine) (c : Config) (s : State) (t l x : ℕ) (h : Shows c m s) 
 
   -- the first waiter's turnstile becomes the head
   pub head_begins : (o : Option ThreadNo) → owner_seen o ≡ owner_of (s.word l).holder → s.head q ≡ None
-      → ShowsHead (record (begun l waiter X (idle_contents x)) { owner = owner_seen o }) n.lists n.free_list n.head n.owner n.loan_home q
+      → RepresentsHead (record (begun l waiter X (idle_contents x)) { owner = owner_seen o }) n.lists n.free_list n.head n.owner n.loan_home q
   unfolding after_block after_enter after_ready
   head_begins o owner none =
       let b = headless_bare c s q lawful none in
@@ -154,8 +155,8 @@ module _ (m : Machine) (c : Config) (s : State) (t l x : ℕ) (h : Shows c m s) 
       }
 
   -- a later one's goes to the head's free list
-  pub head_joined : (hd : Contents) → ShowsHead hd s.lists s.free_list s.head s.owner s.loan_home q
-      → ShowsHead (joined x waiter X hd) n.lists n.free_list n.head n.owner n.loan_home q
+  pub head_joined : (hd : Contents) → RepresentsHead hd s.lists s.free_list s.head s.owner s.loan_home q
+      → RepresentsHead (joined x waiter X hd) n.lists n.free_list n.head n.owner n.loan_home q
   unfolding after_block after_enter after_ready
   head_joined hd old = record {
     head = put_lock_same s.head l (head_with (s.head q) x) ∙ ap (λ y. head_with y x) old.head;
@@ -180,21 +181,21 @@ module _ (m : Machine) (c : Config) (s : State) (t l x : ℕ) (h : Shows c m s) 
   pub first_shown : (th : Thread) (o : Option ThreadNo) (v : Turnstile) (u p : ℕ) (hd : Contents) → slice_get m.threads.items t ≡ Some th → owner_seen o ≡ owner_of (s.word l).holder
       → option_map idle th.record.value.turnstile ≡ Some v → u ≡ th.record.value.thread → p ≡ th.record.value.effective → None ≡ head_of q m.chain
       → hd ≡ record (begun l (record { thread = u; kept = p }) X v.contents) { owner = owner_seen o }
-      → ShowsHead hd n.lists n.free_list n.head n.owner n.loan_home q
+      → RepresentsHead hd n.lists n.free_list n.head n.owner n.loan_home q
   first_shown th o v u p hd at owner own number prio none is =
       let made : hd ≡ record (begun l waiter X (idle_contents x)) { owner = owner_seen o } =
       is ∙ ap (λ w. let b : Contents = record (begun l w X v.contents) { owner = owner_seen o } in b) (waiter_is th u p at number prio)
       ∙ ap (λ b. let d : Contents = record (begun l waiter X b) { owner = owner_seen o } in d) (own_is th v at own) in
-      subst (λ (d : Contents). ShowsHead d n.lists n.free_list n.head n.owner n.loan_home q) (sym made) (head_begins o owner (no_head_seen m c s l h none))
+      subst (λ (d : Contents). RepresentsHead d n.lists n.free_list n.head n.owner n.loan_home q) (sym made) (head_begins o owner (no_head_seen m c s l h none))
 
   pub behind_shown : (th : Thread) (v : Turnstile) (u p : ℕ) (old : Turnstile) (hd : Contents) → slice_get m.threads.items t ≡ Some th
       → option_map idle th.record.value.turnstile ≡ Some v → u ≡ th.record.value.thread → p ≡ th.record.value.effective → Some old ≡ head_of q m.chain
       → hd ≡ joined v.contents.number (record { thread = u; kept = p }) X old.contents
-      → ShowsHead hd n.lists n.free_list n.head n.owner n.loan_home q
+      → RepresentsHead hd n.lists n.free_list n.head n.owner n.loan_home q
   behind_shown th v u p old hd at own number prio some is =
       let made : hd ≡ joined x waiter X old.contents =
       is ∙ ap (λ w. joined v.contents.number w X old.contents) (waiter_is th u p at number prio) ∙ ap (λ (b : Contents). joined b.number waiter X old.contents) (own_is th v at own) in
-      subst (λ (d : Contents). ShowsHead d n.lists n.free_list n.head n.owner n.loan_home q) (sym made) (head_joined old.contents (head_seen m c s l h old some))
+      subst (λ (d : Contents). RepresentsHead d n.lists n.free_list n.head n.owner n.loan_home q) (sym made) (head_joined old.contents (head_seen m c s l h old some))
 
   -- the thread has its turnstile
   pub has_own : (th : Thread) → slice_get m.threads.items t ≡ Some th → IsSome th.record.value.turnstile
@@ -217,13 +218,13 @@ module _ (m : Machine) (c : Config) (s : State) (t l x : ℕ) (h : Shows c m s) 
   -- 5. The machine
 
   pub blocked : (w : ℕ) (chain : List (QueueName × Turnstile)) (hd : Turnstile) (new : Thread) → word_of w ≡ entered (s.word l) X
-      → chain ≡ (q, hd) ∷ without q m.chain → ShowsHead hd.contents n.lists n.free_list n.head n.owner n.loan_home q → ShowsThread new n t
-      → Shows c (record m { words = with_item m.words l w; chain = chain; threads = with_item m.threads t new }) n
+      → chain ≡ (q, hd) ∷ without q m.chain → RepresentsHead hd.contents n.lists n.free_list n.head n.owner n.loan_home q → RepresentsThread new n t
+      → Represents c (record m { words = with_item m.words l w; chain = chain; threads = with_item m.threads t new }) n
   unfolding after_block after_enter after_ready
   blocked w chain hd new word is head thread = record {
     within = h.within;
     words = word_changed m.words.items c s.word l w (entered (s.word l) X) h.words g.lock word;
-    queues = subst (λ chain'. ShowsQueues chain' n.lists n.free_list n.head n.owner n.loan_home) (sym is) (queues_placed m.chain s n l h.queues others_queue hd head);
+    queues = subst (λ chain'. RepresentsQueues chain' n.lists n.free_list n.head n.owner n.loan_home) (sym is) (queues_placed m.chain s n l h.queues others_queue hd head);
     threads = thread_changed m.threads.items c s n t new h.threads g.thread thread others;
     history = h.history;
     tables = h.tables;

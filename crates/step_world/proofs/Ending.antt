@@ -2,13 +2,14 @@
 use Rattle.std.proofs.Common.{◌≡◌, ◌≢◌, ℕ, ◌+◌, ◌<◌, List, length, get_or, slice_get, Some, refl, sym, ap, ◌∙◌}
 use Rattle.std.proofs.lemmas.Option.{slice_get_read}
 use Rattle.std.specs.Vec.{with_item}
-use Rattle.lock_model.specs.State.{Config, State, NoWalk}
-use Rattle.lock_model.specs.MovesOfLoans.{MayEndWalk, after_end_walk}
+use Rattle.lock_model.specs.Config.{Config}
+use Rattle.lock_state.specs.State.{State, NoWalk}
+use Rattle.lock_state.specs.Steps.Lending.{MayEndWalk, after_end_walk}
 use Rattle.lock_laws.proofs.Kit.{put_same, put_other}
 use Rattle.prio_lending.specs.declared.walk.Walk.TheVariants as walk
 use Rattle.step_world.specs.declared.machine.Machine.{Machine}
 use Rattle.step_world.specs.declared.thread.Thread.{Thread}
-use Rattle.step_world.specs.Shows.{Shows}
+use Rattle.step_world.specs.Represents.{Represents}
 use Rattle.step_world.proofs.Kit.{SameAt, thread_changed}
 
 -- 1. Operations
@@ -27,7 +28,7 @@ stays_same s u = record {
   effective = refl;
   turnstile = refl;
   loan = λ l. refl;
-  named = refl;
+  blocked_on = refl;
   wait = refl;
   walk = refl;
   wanted = refl;
@@ -36,7 +37,7 @@ stays_same s u = record {
 }
 
 pub operation_ended : (m : Machine) (c : Config) (s : State) (t : ℕ) (th : Thread) → slice_get m.threads.items t ≡ Some th → t < c.threads
-    → Shows c m s → Shows c (record m { threads = with_item m.threads t (further th) }) s
+    → Represents c m s → Represents c (record m { threads = with_item m.threads t (further th) }) s
 operation_ended m c s t th at k h =
     let old = h.threads.thread t th at in
     record {
@@ -50,7 +51,7 @@ operation_ended m c s t th at k h =
         turnstile = old.turnstile;
         loans = old.loans;
         one_loan_each = old.one_loan_each;
-        named = old.named;
+        blocked_on = old.blocked_on;
         wait = old.wait;
         walk = old.walk;
         wanted = old.wanted;
@@ -77,7 +78,7 @@ others s t u n = record {
   effective = refl;
   turnstile = refl;
   loan = λ l. refl;
-  named = refl;
+  blocked_on = refl;
   wait = refl;
   walk = put_other s.walk t NoWalk u (λ e. n (sym e));
   wanted = refl;
@@ -86,7 +87,7 @@ others s t u n = record {
 }
 
 pub walk_ended : (m : Machine) (c : Config) (s : State) (t : ℕ) (th : Thread) → slice_get m.threads.items t ≡ Some th
-    → Shows c m s → MayEndWalk c s t → Shows c (record m { threads = with_item m.threads t (walked th) }) (after_end_walk s t)
+    → Represents c m s → MayEndWalk c s t → Represents c (record m { threads = with_item m.threads t (walked th) }) (after_end_walk s t)
 unfolding after_end_walk
 walk_ended m c s t th at h g =
     let old = h.threads.thread t th at in
@@ -101,7 +102,7 @@ walk_ended m c s t th at h g =
         turnstile = old.turnstile;
         loans = old.loans;
         one_loan_each = old.one_loan_each;
-        named = old.named;
+        blocked_on = old.blocked_on;
         wait = old.wait;
         walk = sym (put_same s.walk t NoWalk);
         wanted = old.wanted;

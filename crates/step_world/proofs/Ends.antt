@@ -5,9 +5,9 @@ use Rattle.std.proofs.lemmas.Bool.{cases_Bool, not_from_false}
 use Rattle.std.proofs.lemmas.Option.{same_Some}
 use Rattle.lock_model.specs.Plans.{config_of, operations_of}
 use Rattle.lock_model.specs.Counts.{any_below, is_empty}
-use Rattle.lock_model.specs.Operations.{is_unheld, hold_in, held_through, held_of}
-use Rattle.lock_model.specs.State.{Hold, Holds}
-use Rattle.lock_model.specs.Run.{Run, is_walking, has_ended, holds_none}
+use Rattle.lock_model.specs.Holds.{is_unheld, Hold, Holds}
+use Rattle.lock_model.specs.Operations.{hold_in, held_through, held_of}
+use Rattle.lock_state.specs.Run.{Run, is_walking, has_ended, holds_none}
 use Rattle.lock_model.specs.declared.plan.Op.{Op}
 use Rattle.lock_model.specs.declared.plan.Plan.{Plan}
 use Rattle.lock_model.specs.declared.event.Held.{Held}
@@ -18,9 +18,9 @@ use Rattle.prio_lending.specs.declared.walk.Walk as walks
 use Rattle.prio_lending.specs.declared.walk.Walk.TheVariants as walk
 use Rattle.step_world.specs.declared.machine.Machine.{Machine}
 use Rattle.step_world.specs.declared.thread.Thread.{Thread}
-use Rattle.step_world.specs.Shows.{walk_of}
+use Rattle.step_world.specs.Represents.{walk_of}
 use Rattle.step_world.specs.Threads.{has_no_walk, thread_has_ended}
-use Rattle.step_world.specs.Steps.{aside_of}
+use Rattle.step_world.specs.Steps.{progress_of}
 use Rattle.step_world.specs.Runs.{IsRunOf}
 
 -- 1. What is held
@@ -72,8 +72,8 @@ neither false b c d = refl
 
 -- the thread of a run is as far as the run says, and holds what its operations lead to
 pub aside_is : (plan : Plan) (chains : ℕ) (m : Machine) (r : Run) (t : ℕ) (th : Thread) → IsRunOf plan chains m r → t < length plan.threads → slice_get m.threads.items t ≡ Some th
-    → aside_of th ≡ record { place = r.place t; held = held_of (length plan.locks) (operations_of plan t) (r.place t) }
-aside_is plan chains m r t th h lt e = same_Some (aside_of th) _ (sym (ap (option_map aside_of) e) ∙ h.shows.aside t lt)
+    → progress_of th ≡ record { place = r.place t; held = held_of (length plan.locks) (operations_of plan t) (r.place t) }
+aside_is plan chains m r t th h lt e = same_Some (progress_of th) _ (sym (ap (option_map progress_of) e) ∙ h.shows.progress t lt)
 
 pub ends_as_said : (plan : Plan) (chains : ℕ) (m : Machine) (r : Run) (t : ℕ) (th : Thread) → IsRunOf plan chains m r → t < length plan.threads → slice_get m.threads.items t ≡ Some th
     → thread_has_ended (length (operations_of plan t)) th ≡ has_ended plan chains r t

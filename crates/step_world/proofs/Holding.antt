@@ -8,11 +8,13 @@ use Rattle.std.proofs.lemmas.Bool.{ltb-true, cases_eq, ne_eqb}
 use Rattle.std.proofs.lemmas.Bool.Decides.{nat_tests}
 use Rattle.std.proofs.lemmas.List.{get_or_read}
 use Rattle.std.proofs.lemmas.Option.{cond_some}
-use Rattle.lock_model.specs.Facts.{Lawful}
-use Rattle.lock_model.specs.Moves.{MayGain, after_gain, MayDrop, after_drop}
+use Rattle.lock_state.specs.Facts.{Lawful}
+use Rattle.lock_state.specs.Steps.LockWords.{MayGain, after_gain, MayDrop, after_drop}
 use Rattle.lock_model.specs.Operations.{hold_in, without_lock}
 use Rattle.lock_model.specs.Script.{holds_lock}
-use Rattle.lock_model.specs.State.{Config, State, Hold, NotHeld, Holds, put_at}
+use Rattle.lock_model.specs.Config.{Config}
+use Rattle.lock_state.specs.State.{State, put_at}
+use Rattle.lock_model.specs.Holds.{Hold, NotHeld, Holds}
 use Rattle.lock_model.specs.Words as words
 use Rattle.lock_model.specs.Words.{Word, word_of}
 use Rattle.lock_model.specs.declared.plan.Mode.TheVariants.{Excl}
@@ -25,8 +27,8 @@ use Rattle.lock_laws.proofs.HeldLists.{Apart, hold_in-push, hold_in-without}
 use Rattle.lock_words.specs.Views.{IsHeldIn}
 use Rattle.step_world.specs.declared.machine.Machine.{Machine}
 use Rattle.step_world.specs.declared.thread.Thread.{Thread}
-use Rattle.step_world.specs.Shows.{Shows, ShowsWords, ShowsThread, holds_of}
-use Rattle.step_world.specs.Steps.{HoldsFew, aside_of}
+use Rattle.step_world.specs.Represents.{Represents, RepresentsWords, RepresentsThread, holds_of}
+use Rattle.step_world.specs.Steps.{HoldsFew, progress_of}
 use Rattle.step_world.proofs.Kit.{SameAt, thread_changed, word_changed}
 
 -- 1. The list without a lock
@@ -130,13 +132,13 @@ column_without held t l hs once shows k =
 -- 4. What is read
 
 -- the word that was read at the place of a number
-pub word_read : (ws : List ℕ) (c : Config) (column : ℕ → Word) (l i w : ℕ) → i ≡ l → ShowsWords ws c column → l < c.locks → w ≡ get_or ws i w → word_of w ≡ column l
+pub word_read : (ws : List ℕ) (c : Config) (column : ℕ → Word) (l i w : ℕ) → i ≡ l → RepresentsWords ws c column → l < c.locks → w ≡ get_or ws i w → word_of w ≡ column l
 word_read ws c column l i w e h k is = ap word_of (get_or_read ws l w (subst (λ n. l < n) (sym h.locks) k) (is ∙ ap (λ (j : ℕ). get_or ws j w) e) 0) ∙ h.word l k
 
 -- there is room for one lock more
-pub room_left : (m : Machine) (s : State) (t : ℕ) (th : Thread) → slice_get m.threads.items t ≡ Some th → HoldsFew m t → ShowsThread th s t → vec_len th.held < vec_capacity th.held
+pub room_left : (m : Machine) (s : State) (t : ℕ) (th : Thread) → slice_get m.threads.items t ≡ Some th → HoldsFew m t → RepresentsThread th s t → vec_len th.held < vec_capacity th.held
 room_left m s t th at few h =
-    let fewer : length th.held.items < 8 = subst (λ o. IfSome (option_map aside_of o) (λ a. length a.held < 8)) at few in
+    let fewer : length th.held.items < 8 = subst (λ o. IfSome (option_map progress_of o) (λ a. length a.held < 8)) at few in
     omega (arith, th.held.ok.0, h.held_room)
 
 -- 5. A gain
@@ -156,7 +158,7 @@ gain_of_others s t l u n = record {
   effective = refl;
   turnstile = refl;
   loan = λ k. refl;
-  named = refl;
+  blocked_on = refl;
   wait = refl;
   walk = refl;
   wanted = put_other s.wanted t None u (λ e. n (sym e));
@@ -166,7 +168,7 @@ gain_of_others s t l u n = record {
 
 pub lock_gained : (m : Machine) (c : Config) (s : State) (t : ℕ) (l : LockNo) (w : ℕ) (th : Thread) (held : Vec Held) → slice_get m.threads.items t ≡ Some th
     → word_of w ≡ words.gained (s.word l.0) t Excl → held.items ≡ th.held.items ++ entry_of l ∷ [] → vec_capacity held ≡ vec_capacity th.held
-    → Shows c m s → MayGain c s t l.0 Excl → Shows c (record m { words = with_item m.words l.0 w; threads = with_item m.threads t (holding held th) }) (after_gain s t l.0 Excl)
+    → Represents c m s → MayGain c s t l.0 Excl → Represents c (record m { words = with_item m.words l.0 w; threads = with_item m.threads t (holding held th) }) (after_gain s t l.0 Excl)
 unfolding after_gain
 lock_gained m c s t l w th held at new items room h g =
     let old = h.threads.thread t th at in
@@ -181,7 +183,7 @@ lock_gained m c s t l w th held at new items room h g =
         turnstile = old.turnstile;
         loans = old.loans;
         one_loan_each = old.one_loan_each;
-        named = old.named;
+        blocked_on = old.blocked_on;
         wait = old.wait;
         walk = old.walk;
         wanted = sym (put_same s.wanted t None);
@@ -198,7 +200,7 @@ lock_gained m c s t l w th held at new items room h g =
 -- 6. A drop
 
 -- the word that was read at a lock that a thread holds
-pub owner_read : (m : Machine) (c : Config) (s : State) (t l i w : ℕ) → i ≡ l → Shows c m s → Lawful c s → l < c.locks → s.held t l ≡ Holds Excl → w ≡ get_or m.words.items i w → (word_of w).holder ≡ words.HeldBy t
+pub owner_read : (m : Machine) (c : Config) (s : State) (t l i w : ℕ) → i ≡ l → Represents c m s → Lawful c s → l < c.locks → s.held t l ≡ Holds Excl → w ≡ get_or m.words.items i w → (word_of w).holder ≡ words.HeldBy t
 owner_read m c s t l i w e h lawful k held is = ap (λ x. x.holder) (word_read m.words.items c s.word l i w e h.words k is) ∙ owner_is c s t l lawful held
 
 pub owned_well_formed : (w t : ℕ) → (word_of w).holder ≡ words.HeldBy t → t ≤ 63 → words.IsWellFormed (word_of w)
@@ -218,7 +220,7 @@ drop_of_others s t l u n = record {
   effective = refl;
   turnstile = refl;
   loan = λ k. refl;
-  named = refl;
+  blocked_on = refl;
   wait = refl;
   walk = refl;
   wanted = refl;
@@ -228,7 +230,7 @@ drop_of_others s t l u n = record {
 
 pub lock_dropped : (m : Machine) (c : Config) (s : State) (t l w : ℕ) (th new : Thread) → slice_get m.threads.items t ≡ Some th
     → word_of w ≡ words.dropped (s.word l) → new ≡ left_with new.held th → new.held.items ≡ without_lock l th.held.items → vec_capacity new.held ≡ vec_capacity th.held
-    → Shows c m s → MayDrop c s t l Excl → Shows c (record m { words = with_item m.words l w; threads = with_item m.threads t new }) (after_drop s t l)
+    → Represents c m s → MayDrop c s t l Excl → Represents c (record m { words = with_item m.words l w; threads = with_item m.threads t new }) (after_drop s t l)
 unfolding after_drop
 lock_dropped m c s t l w th new at word same items room h g =
     let old = h.threads.thread t th at in
@@ -236,14 +238,14 @@ lock_dropped m c s t l w th new at word same items room h g =
       within = h.within;
       words = word_changed m.words.items c s.word l w (words.dropped (s.word l)) h.words g.lock word;
       queues = h.queues;
-      threads = thread_changed m.threads.items c s (after_drop s t l) t new h.threads g.thread (subst (λ (o : Thread). ShowsThread o (after_drop s t l) t) (sym same) (record {
+      threads = thread_changed m.threads.items c s (after_drop s t l) t new h.threads g.thread (subst (λ (o : Thread). RepresentsThread o (after_drop s t l) t) (sym same) (record {
         number = old.number;
         base = old.base;
         effective = old.effective;
         turnstile = old.turnstile;
         loans = old.loans;
         one_loan_each = old.one_loan_each;
-        named = old.named;
+        blocked_on = old.blocked_on;
         wait = old.wait;
         walk = old.walk;
         wanted = old.wanted;

@@ -4,12 +4,13 @@ use Rattle.std.proofs.lemmas.Bool.{cases_eq, cases_lt, eq-eqb, ne_eqb}
 use Rattle.std.proofs.lemmas.List.{get_or-set_same, get_or-set_other, length-set}
 use Rattle.std.proofs.lemmas.Option.{slice_get-get_or, slice_get_within, slice_get_past, slice_get_read, same_Some}
 use Rattle.lock_model.specs.Words.{Word, word_of}
-use Rattle.lock_model.specs.State.{Config, State, put}
+use Rattle.lock_model.specs.Config.{Config}
+use Rattle.lock_state.specs.State.{State, put}
 use Rattle.lock_laws.proofs.Kit.{put_same, put_other}
 use Rattle.step_world.specs.declared.thread.Thread.{Thread}
-use Rattle.step_world.specs.Steps.{Aside, aside_of}
+use Rattle.step_world.specs.Steps.{Progress, progress_of}
 use Rattle.step_world.specs.declared.machine.Machine.{Machine}
-use Rattle.step_world.specs.Shows.{Shows, ShowsWords, ShowsThread, ShowsThreads}
+use Rattle.step_world.specs.Represents.{Represents, RepresentsWords, RepresentsThread, RepresentsThreads}
 
 -- 1. Lists
 
@@ -33,14 +34,14 @@ pub record SameAt (s n : State) (u : ℕ) : Type 0 where
   pub effective : n.effective u ≡ s.effective u
   pub turnstile : n.turnstile u ≡ s.turnstile u
   pub loan : (l : ℕ) → n.loan u l ≡ s.loan u l
-  pub named : n.named u ≡ s.named u
+  pub blocked_on : n.blocked_on u ≡ s.blocked_on u
   pub wait : n.wait u ≡ s.wait u
   pub walk : n.walk u ≡ s.walk u
   pub wanted : n.wanted u ≡ s.wanted u
   pub held : (l : ℕ) → n.held u l ≡ s.held u l
   pub marked : n.marked u ≡ s.marked u
 
-pub stays : (th : Thread) (s n : State) (u : ℕ) → SameAt s n u → ShowsThread th s u → ShowsThread th n u
+pub stays : (th : Thread) (s n : State) (u : ℕ) → SameAt s n u → RepresentsThread th s u → RepresentsThread th n u
 stays th s n u e h = record {
   number = h.number;
   base = h.base ∙ sym e.base;
@@ -48,7 +49,7 @@ stays th s n u e h = record {
   turnstile = h.turnstile ∙ sym e.turnstile;
   loans = λ l. h.loans l ∙ sym (e.loan l);
   one_loan_each = h.one_loan_each;
-  named = h.named ∙ sym e.named;
+  blocked_on = h.blocked_on ∙ sym e.blocked_on;
   wait = h.wait ∙ sym e.wait;
   walk = h.walk ∙ sym e.walk;
   wanted = h.wanted ∙ sym e.wanted;
@@ -60,23 +61,23 @@ stays th s n u e h = record {
 }
 
 -- one thread changes, and of the others the columns stay
-pub thread_changed : (ths : List Thread) (c : Config) (s n : State) (t : ℕ) (th : Thread) → ShowsThreads ths c s → t < c.threads → ShowsThread th n t → ((u : ℕ) → u ≢ t → SameAt s n u) → ShowsThreads (slice_set ths t th) c n
+pub thread_changed : (ths : List Thread) (c : Config) (s n : State) (t : ℕ) (th : Thread) → RepresentsThreads ths c s → t < c.threads → RepresentsThread th n t → ((u : ℕ) → u ≢ t → SameAt s n u) → RepresentsThreads (slice_set ths t th) c n
 thread_changed ths c s n t th h l new same = record {
   threads = length-set ths t th ∙ h.threads;
   thread = λ u old e. elim (cases_eq u t) [
-    | inl i ↦ subst (λ (v : ℕ). ShowsThread old n v) (sym i) (subst (λ (o : Thread). ShowsThread o n t) (same_Some th old (sym (set_same ths t th (rw h.threads l)) ∙ ap (slice_get (slice_set ths t th)) (sym i) ∙ e)) new)
+    | inl i ↦ subst (λ (v : ℕ). RepresentsThread old n v) (sym i) (subst (λ (o : Thread). RepresentsThread o n t) (same_Some th old (sym (set_same ths t th (rw h.threads l)) ∙ ap (slice_get (slice_set ths t th)) (sym i) ∙ e)) new)
     | inr i ↦ stays old s n u (same u i) (h.thread u old (sym (set_other ths t u th i) ∙ e))
   ];
 }
 
 -- no column of a thread changes
-pub threads_stay : (ths : List Thread) (c : Config) (s n : State) → ShowsThreads ths c s → ((u : ℕ) → SameAt s n u) → ShowsThreads ths c n
+pub threads_stay : (ths : List Thread) (c : Config) (s n : State) → RepresentsThreads ths c s → ((u : ℕ) → SameAt s n u) → RepresentsThreads ths c n
 threads_stay ths c s n h same = record { threads = h.threads; thread = λ u th e. stays th s n u (same u) (h.thread u th e) }
 
 -- 3. Words
 
 -- one word changes
-pub word_changed : (ws : List ℕ) (c : Config) (column : ℕ → Word) (l w : ℕ) (v : Word) → ShowsWords ws c column → l < c.locks → word_of w ≡ v → ShowsWords (slice_set ws l w) c (put column l v)
+pub word_changed : (ws : List ℕ) (c : Config) (column : ℕ → Word) (l w : ℕ) (v : Word) → RepresentsWords ws c column → l < c.locks → word_of w ≡ v → RepresentsWords (slice_set ws l w) c (put column l v)
 word_changed ws c column l w v h i e = record {
   locks = length-set ws l w ∙ h.locks;
   word = λ k j. elim (cases_eq k l) [
@@ -88,8 +89,8 @@ word_changed ws c column l w v h i e = record {
 -- 4. What no column tells
 
 -- one thread changes
-pub aside_changed : (ths : List Thread) (t : ℕ) (th old : Thread) (f : Aside → Aside) → slice_get ths t ≡ Some old → aside_of th ≡ f (aside_of old)
-    → (u : ℕ) → option_map aside_of (slice_get (slice_set ths t th) u) ≡ (if u == t then option_map f (option_map aside_of (slice_get ths u)) else option_map aside_of (slice_get ths u))
+pub aside_changed : (ths : List Thread) (t : ℕ) (th old : Thread) (f : Progress → Progress) → slice_get ths t ≡ Some old → progress_of th ≡ f (progress_of old)
+    → (u : ℕ) → option_map progress_of (slice_get (slice_set ths t th) u) ≡ (if u == t then option_map f (option_map progress_of (slice_get ths u)) else option_map progress_of (slice_get ths u))
 aside_changed ths t th old f e same u =
     elim (cases_eq u t) [
       | inl i ↦ rw (i, eq-eqb t t refl, set_same ths t th (slice_get_within ths t old e), e) (ap Some same)
@@ -97,8 +98,8 @@ aside_changed ths t th old f e same u =
     ]
 
 -- and what is aside of it stays
-pub aside_stays : (ths : List Thread) (t : ℕ) (th old : Thread) → slice_get ths t ≡ Some old → aside_of th ≡ aside_of old
-    → (u : ℕ) → option_map aside_of (slice_get (slice_set ths t th) u) ≡ option_map aside_of (slice_get ths u)
+pub aside_stays : (ths : List Thread) (t : ℕ) (th old : Thread) → slice_get ths t ≡ Some old → progress_of th ≡ progress_of old
+    → (u : ℕ) → option_map progress_of (slice_get (slice_set ths t th) u) ≡ option_map progress_of (slice_get ths u)
 aside_stays ths t th old e same u =
     elim (cases_eq u t) [
       | inl i ↦ rw (i, set_same ths t th (slice_get_within ths t old e), e) (ap Some same)
@@ -110,5 +111,5 @@ pub thread_at : (ths : List Thread) (t : ℕ) (d : Thread) → t < length ths �
 thread_at ths t d l = slice_get-get_or ths t d l
 
 -- the thread that was read at the place of a number
-pub read : (m : Machine) (c : Config) (s : State) (t i : ℕ) (th : Thread) → i ≡ t → Shows c m s → t < c.threads → th ≡ get_or m.threads.items i th → slice_get m.threads.items t ≡ Some th
+pub read : (m : Machine) (c : Config) (s : State) (t i : ℕ) (th : Thread) → i ≡ t → Represents c m s → t < c.threads → th ≡ get_or m.threads.items i th → slice_get m.threads.items t ≡ Some th
 read m c s t i th e h l is = slice_get_read m.threads.items c.threads t th (sym h.threads.threads) l (is ∙ ap (λ (j : ℕ). get_or m.threads.items j th) e)

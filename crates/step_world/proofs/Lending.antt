@@ -5,19 +5,20 @@ use Rattle.std.specs.Box.{with_value}
 use Rattle.std.specs.Vec.{with_item}
 use Rattle.std.proofs.lemmas.Bool.{cases_eq}
 use Rattle.std.proofs.lemmas.Option.{slice_get_read, same_Some}
-use Rattle.lock_model.specs.Moves.{prio_of, effective_of}
-use Rattle.lock_model.specs.MovesOfLoans.{MayLend, after_lend}
-use Rattle.lock_model.specs.MovesOfLoans as moves
-use Rattle.lock_model.specs.Queues.{lock_queue, names_turnstile, least_of, waiting}
+use Rattle.lock_state.specs.Steps.LockWords.{prio_of, effective_of}
+use Rattle.lock_state.specs.Steps.Lending.{MayLend, after_lend}
+use Rattle.lock_state.specs.Steps.Lending as moves
+use Rattle.lock_model.specs.Queues.{lock_queue, names_turnstile, least_of, waiting, Lists}
 use Rattle.lock_model.specs.Words.{is_turnstile}
-use Rattle.lock_model.specs.State.{Config, State, Lists, Loan, put, put_at}
+use Rattle.lock_model.specs.Config.{Config}
+use Rattle.lock_state.specs.State.{State, Loan, put, put_at}
 use Rattle.lock_model.specs.declared.plan.QueueName.{QueueName}
 use Rattle.lock_model.specs.declared.plan.QueueName.TheVariants.{Lock, Chan}
 use Rattle.lock_laws.proofs.Kit.{put_same, put_other, put_at_same, put_at_other, put_at_beside}
 use Rattle.lock_laws.proofs.HeadsAndNodes.{owner_thread}
 use Rattle.lock_laws.proofs.Nodes.{some_waiting}
 use Rattle.lock_laws.proofs.NodesOfHeads.{number_of, out_of, node_carries, other_head, put_at_row, unlent_beyond}
-use Rattle.lock_model.specs.Facts.{Lawful}
+use Rattle.lock_state.specs.Facts.{Lawful}
 use Rattle.turnstile_core.specs.Seen.{Contents, Turnstile, Terms}
 use Rattle.turnstile_core.specs.Changes.{best, name_of, all_waiters}
 use Rattle.thread_records.specs.Loans.{loan_for}
@@ -28,9 +29,9 @@ use Rattle.prio_lending.specs.Hops as hops
 use Rattle.prio_lending.specs.declared.walk.Walk.{Walk}
 use Rattle.step_world.specs.declared.machine.Machine.{Machine}
 use Rattle.step_world.specs.declared.thread.Thread.{Thread}
-use Rattle.step_world.specs.Shows.{Shows, ShowsHead, ShowsQueue, ShowsQueues, ShowsThread, ShowsThreads, walk_of}
-use Rattle.step_world.specs.Shows as shows
-use Rattle.step_world.specs.Steps.{KeepsAsides}
+use Rattle.step_world.specs.Represents.{Represents, RepresentsHead, RepresentsQueue, RepresentsQueues, RepresentsThread, RepresentsThreads, walk_of}
+use Rattle.step_world.specs.Represents as shows
+use Rattle.step_world.specs.Steps.{KeepsProgress}
 use Rattle.step_world.proofs.Kit.{SameAt, thread_changed, aside_stays}
 use Rattle.step_world.proofs.KitOfQueues.{SameQueue, queues_placed}
 use Rattle.step_world.proofs.Lists.{best-is}
@@ -92,7 +93,7 @@ module _ (c : Config) (s : State) (l o h : ℕ) where
     effective = put_other s.effective o effective u (λ e. n (sym e));
     turnstile = refl;
     loan = λ k. put_at_other s.loan o l loan u k (λ e. n (sym e));
-    named = refl;
+    blocked_on = refl;
     wait = refl;
     walk = refl;
     wanted = refl;
@@ -108,7 +109,7 @@ module _ (c : Config) (s : State) (l o h : ℕ) where
       effective = refl;
       turnstile = refl;
       loan = λ k. refl;
-      named = refl;
+      blocked_on = refl;
       wait = refl;
       walk = put_other s.walk t _ u (λ e. n (sym e));
       wanted = refl;
@@ -116,7 +117,7 @@ module _ (c : Config) (s : State) (l o h : ℕ) where
       marked = refl;
     }
 
-    walks : (w : Thread) (b : Walk) → walk_of b ≡ moves.walk_to o (not (effective == s.effective o) && names_turnstile c (s.named o)) → ShowsThread w lent_state t → ShowsThread (record w { walk = b }) (after_lend c s t l o h) t
+    walks : (w : Thread) (b : Walk) → walk_of b ≡ moves.walk_to o (not (effective == s.effective o) && names_turnstile c (s.blocked_on o)) → RepresentsThread w lent_state t → RepresentsThread (record w { walk = b }) (after_lend c s t l o h) t
     unfolding after_lend
     walks w b e shown = record {
       number = shown.number;
@@ -125,7 +126,7 @@ module _ (c : Config) (s : State) (l o h : ℕ) where
       turnstile = shown.turnstile;
       loans = shown.loans;
       one_loan_each = shown.one_loan_each;
-      named = shown.named;
+      blocked_on = shown.blocked_on;
       wait = shown.wait;
       walk = e ∙ sym (put_same s.walk t _);
       wanted = shown.wanted;
@@ -139,8 +140,8 @@ module _ (c : Config) (s : State) (l o h : ℕ) where
 -- 3. The owner's record
 
 module _ {c : Config} {s : State} {l o h : ℕ} {d e : Turnstile} {th : Thread} {n : Record} {on_turnstile : Bool} {walk : Walk}
-    (lawful : Lawful c s) (within : l < c.locks) (head : ShowsHead d.contents s.lists s.free_list s.head s.owner s.loan_home (lock_queue l)) (its_head : s.head (lock_queue l) ≡ Some h)
-    (at_lock : d.contents.lock ≡ Some l) (owner : ShowsThread th s o) (lends : Lent d e th.record.value n on_turnstile walk) where
+    (lawful : Lawful c s) (within : l < c.locks) (head : RepresentsHead d.contents s.lists s.free_list s.head s.owner s.loan_home (lock_queue l)) (its_head : s.head (lock_queue l) ≡ Some h)
+    (at_lock : d.contents.lock ≡ Some l) (owner : RepresentsThread th s o) (lends : Lent d e th.record.value n on_turnstile walk) where
   its_number : d.contents.number ≡ h
   its_number = same_Some d.contents.number h (sym head.head ∙ its_head)
 
@@ -170,7 +171,7 @@ module _ {c : Config} {s : State} {l o h : ℕ} {d e : Turnstile} {th : Thread} 
       (unlent_beyond c s o l (loan c s l o h) lawful within) lends.well_formed.one_loan_each
       ∙ ap (effective_of c (put (s.loan o) l (loan c s l o h))) (ap (λ (r : Record). r.base) lends.owner ∙ owner.base)
 
-  owner_shown : ShowsThread (record th { «record» = with_value th.record n }) (lent_state c s l o h) o
+  owner_shown : RepresentsThread (record th { «record» = with_value th.record n }) (lent_state c s l o h) o
   owner_shown = record {
     number = ap (λ (r : Record). r.thread) lends.owner ∙ owner.number;
     base = ap (λ (r : Record). r.base) lends.owner ∙ owner.base;
@@ -178,7 +179,7 @@ module _ {c : Config} {s : State} {l o h : ℕ} {d e : Turnstile} {th : Thread} 
     turnstile = ap (λ (r : Record). r.turnstile) lends.owner ∙ owner.turnstile;
     loans = loans_shown;
     one_loan_each = lends.well_formed.one_loan_each;
-    named = ap (λ (r : Record). r.on) lends.owner ∙ owner.named;
+    blocked_on = ap (λ (r : Record). r.on) lends.owner ∙ owner.blocked_on;
     wait = owner.wait;
     walk = owner.walk;
     wanted = owner.wanted;
@@ -189,7 +190,7 @@ module _ {c : Config} {s : State} {l o h : ℕ} {d e : Turnstile} {th : Thread} 
     filled = owner.filled;
   }
 
-  goes_on : on_turnstile ≡ names_turnstile c (s.named o) → walk_of walk ≡ moves.walk_to o (not (effective c s l o h == s.effective o) && names_turnstile c (s.named o))
+  goes_on : on_turnstile ≡ names_turnstile c (s.blocked_on o) → walk_of walk ≡ moves.walk_to o (not (effective c s l o h == s.effective o) && names_turnstile c (s.blocked_on o))
   goes_on stands =
       ap walk_of lends.answer ∙ walk_shown th.record.value.thread (not (n.effective == th.record.value.effective) && on_turnstile)
       ∙ rw (owner.number, owner.effective, effective_is, stands) refl
@@ -204,7 +205,7 @@ out_shown : (b : Bool) (n : ℕ) → out_of b n ≡ (if b then None else Some n)
 out_shown true n = refl
 out_shown false n = refl
 
-module _ {m : Machine} {c : Config} {s : State} {t l o h : ℕ} (shown : Shows c m s) (lawful : Lawful c s) (g : MayLend c s t l o h) where
+module _ {m : Machine} {c : Config} {s : State} {t l o h : ℕ} (shown : Represents c m s) (lawful : Lawful c s) (g : MayLend c s t l o h) where
   abbrev queue : QueueName
   queue = lock_queue l
 
@@ -216,11 +217,11 @@ module _ {m : Machine} {c : Config} {s : State} {t l o h : ℕ} (shown : Shows c
 
   -- the chain has a turnstile for the lock
   pub some_head : head_of queue m.chain ≡ None → ⊥
-  some_head e = let none = subst (λ (x : Option Turnstile). ShowsQueue x s.lists s.free_list s.head s.owner s.loan_home queue) e (shown.queues l) in let some = g.head in cc
+  some_head e = let none = subst (λ (x : Option Turnstile). RepresentsQueue x s.lists s.free_list s.head s.owner s.loan_home queue) e (shown.queues l) in let some = g.head in cc
 
   module _ {d : Turnstile} (there : head_of queue m.chain ≡ Some d) where
-    its_head : ShowsHead d.contents s.lists s.free_list s.head s.owner s.loan_home queue
-    its_head = subst (λ (x : Option Turnstile). ShowsQueue x s.lists s.free_list s.head s.owner s.loan_home queue) there (shown.queues l)
+    its_head : RepresentsHead d.contents s.lists s.free_list s.head s.owner s.loan_home queue
+    its_head = subst (λ (x : Option Turnstile). RepresentsQueue x s.lists s.free_list s.head s.owner s.loan_home queue) there (shown.queues l)
 
     -- somebody waits
     pub some_wait : all_waiters d.contents ≡ [] → ⊥
@@ -230,7 +231,7 @@ module _ {m : Machine} {c : Config} {s : State} {t l o h : ℕ} (shown : Shows c
         omega (arith, length-append d.contents.exclusive d.contents.shared, n, w)
 
     -- the turnstile's node carries what the owner is lent for the lock, or is at home
-    node_shown : (th : Thread) → ShowsThread th s o → carrier_for l th.record.value.loans ≡ node_out d.contents
+    node_shown : (th : Thread) → RepresentsThread th s o → carrier_for l th.record.value.loans ≡ node_out d.contents
     node_shown th owner =
         carrier_shown (loan_for l th.record.value.loans) ∙ ap number_of (owner.loans l) ∙ node_carries c s l o h lawful g.lock (is_turnstile_lock l) g.head g.owned
         ∙ ap (λ i. out_of (s.loan_home i) i) (sym (same_Some d.contents.number h (sym its_head.head ∙ g.head)))
@@ -241,7 +242,7 @@ module _ {m : Machine} {c : Config} {s : State} {t l o h : ℕ} (shown : Shows c
       is_owner = sym its_head.owner ∙ g.owned ∙ ap Some (sym (shown.threads.thread o th at).number)
 
       pub has_node : name_of d.contents ≡ Some queue → IfSome d.contents.lock (λ k. carrier_for k th.record.value.loans ≡ node_out d.contents)
-      has_node named = subst (λ (x : Option ℕ). IfSome x (λ k. carrier_for k th.record.value.loans ≡ node_out d.contents)) (sym (lock_named d.contents.lock l named)) (node_shown th (shown.threads.thread o th at))
+      has_node blocked_on = subst (λ (x : Option ℕ). IfSome x (λ k. carrier_for k th.record.value.loans ≡ node_out d.contents)) (sym (lock_named d.contents.lock l blocked_on)) (node_shown th (shown.threads.thread o th at))
 
   -- other turnstiles and their queues stay
   other_queues : (k : ℕ) → k ≢ l → SameQueue s (after_lend c s t l o h) (lock_queue k)
@@ -255,8 +256,8 @@ module _ {m : Machine} {c : Config} {s : State} {t l o h : ℕ} (shown : Shows c
   }
 
   -- the lock's has its loan node out
-  node_is_out : (b : Contents) → ShowsHead b s.lists s.free_list s.head s.owner s.loan_home queue
-      → ShowsHead (record b { loan_home = false }) s.lists s.free_list s.head s.owner (put s.loan_home h false) queue
+  node_is_out : (b : Contents) → RepresentsHead b s.lists s.free_list s.head s.owner s.loan_home queue
+      → RepresentsHead (record b { loan_home = false }) s.lists s.free_list s.head s.owner (put s.loan_home h false) queue
   node_is_out b head = record {
     head = head.head;
     lists = head.lists;
@@ -265,25 +266,25 @@ module _ {m : Machine} {c : Config} {s : State} {t l o h : ℕ} (shown : Shows c
     loan_home = ap (put s.loan_home h false) (same_Some b.number h (sym head.head ∙ g.head)) ∙ put_same s.loan_home h false;
   }
 
-  module _ {d e : Turnstile} {n : Record} {on_turnstile : Bool} {walk : Walk} {th : Thread} (there : head_of queue m.chain ≡ Some d) (named : name_of d.contents ≡ Some queue) (at : slice_get m.threads.items o ≡ Some th) (lends : Lent d e th.record.value n on_turnstile walk) where
+  module _ {d e : Turnstile} {n : Record} {on_turnstile : Bool} {walk : Walk} {th : Thread} (there : head_of queue m.chain ≡ Some d) (blocked_on : name_of d.contents ≡ Some queue) (at : slice_get m.threads.items o ≡ Some th) (lends : Lent d e th.record.value n on_turnstile walk) where
     abbrev owner_then : Thread
     owner_then = record th { «record» = with_value th.record n }
 
     queues_shown : (rest chain : List (QueueName × Turnstile)) → rest ≡ without queue m.chain → IfSome (name_of e.contents) (λ q. chain ≡ (q, e) ∷ rest)
-        → ShowsQueues chain s.lists s.free_list s.head s.owner (put s.loan_home h false)
+        → RepresentsQueues chain s.lists s.free_list s.head s.owner (put s.loan_home h false)
     unfolding after_lend
     queues_shown rest chain others placed =
-        let its_name : name_of e.contents ≡ Some queue = ap name_of lends.contents ∙ named in
+        let its_name : name_of e.contents ≡ Some queue = ap name_of lends.contents ∙ blocked_on in
         let chain_is : chain ≡ (queue, e) ∷ without queue m.chain =
         subst (λ (x : Option QueueName). IfSome x (λ q. chain ≡ (q, e) ∷ rest)) its_name placed ∙ ap (λ r. (queue, e) ∷ r) others in
-        let made = subst (λ (b : Contents). ShowsHead b s.lists s.free_list s.head s.owner (put s.loan_home h false) queue) (sym lends.contents) (node_is_out d.contents (its_head there)) in
-        subst (λ (x : List (QueueName × Turnstile)). ShowsQueues x s.lists s.free_list s.head s.owner (put s.loan_home h false)) (sym chain_is)
+        let made = subst (λ (b : Contents). RepresentsHead b s.lists s.free_list s.head s.owner (put s.loan_home h false) queue) (sym lends.contents) (node_is_out d.contents (its_head there)) in
+        subst (λ (x : List (QueueName × Turnstile)). RepresentsQueues x s.lists s.free_list s.head s.owner (put s.loan_home h false)) (sym chain_is)
         (queues_placed m.chain s (after_lend c s t l o h) l shown.queues other_queues e made)
 
-    lent_shown : ShowsThreads (slice_set m.threads.items o owner_then) c (lent_state c s l o h)
+    lent_shown : RepresentsThreads (slice_set m.threads.items o owner_then) c (lent_state c s l o h)
     lent_shown =
         thread_changed m.threads.items c s (lent_state c s l o h) o owner_then shown.threads is_thread
-        (owner_shown lawful g.lock (its_head there) g.head (lock_named d.contents.lock l named) (shown.threads.thread o th at) lends) (not_lent c s l o h)
+        (owner_shown lawful g.lock (its_head there) g.head (lock_named d.contents.lock l blocked_on) (shown.threads.thread o th at) lends) (not_lent c s l o h)
 
     -- the walking thread, which may be the owner, is read behind the first change
     pub read_behind : (i j : ℕ) (w : Thread) → j ≡ o → i ≡ t → w ≡ get_or (slice_set m.threads.items j owner_then) i w → slice_get (slice_set m.threads.items o owner_then) t ≡ Some w
@@ -292,11 +293,11 @@ module _ {m : Machine} {c : Config} {s : State} {t l o h : ℕ} (shown : Shows c
 
     pub lend_shown : {w : Thread} (rest chain : List (QueueName × Turnstile)) → slice_get (slice_set m.threads.items o owner_then) t ≡ Some w → on_turnstile ≡ names_turnstile c th.record.value.on
         → rest ≡ without queue m.chain → IfSome (name_of e.contents) (λ q. chain ≡ (q, e) ∷ rest)
-        → Shows c (record m { chain = chain; threads = with_item (with_item m.threads o owner_then) t (record w { walk = walk }) }) (after_lend c s t l o h)
+        → Represents c (record m { chain = chain; threads = with_item (with_item m.threads o owner_then) t (record w { walk = walk }) }) (after_lend c s t l o h)
     unfolding after_lend
     lend_shown {w = w} rest chain behind stands others placed =
         let owner = shown.threads.thread o th at in
-        let on = goes_on lawful g.lock (its_head there) g.head (lock_named d.contents.lock l named) owner lends (stands ∙ ap (names_turnstile c) owner.named) in
+        let on = goes_on lawful g.lock (its_head there) g.head (lock_named d.contents.lock l blocked_on) owner lends (stands ∙ ap (names_turnstile c) owner.blocked_on) in
         record {
           within = shown.within;
           words = shown.words;
@@ -310,7 +311,7 @@ module _ {m : Machine} {c : Config} {s : State} {t l o h : ℕ} (shown : Shows c
 -- what no column tells stays
 pub asides_stay : (m : Machine) (t o : ℕ) (th w : Thread) (n : Record) (walk : Walk) (chain : List (QueueName × Turnstile)) → slice_get m.threads.items o ≡ Some th
     → slice_get (slice_set m.threads.items o (record th { «record» = with_value th.record n })) t ≡ Some w
-    → KeepsAsides m (record m { chain = chain; threads = with_item (with_item m.threads o (record th { «record» = with_value th.record n })) t (record w { walk = walk }) })
+    → KeepsProgress m (record m { chain = chain; threads = with_item (with_item m.threads o (record th { «record» = with_value th.record n })) t (record w { walk = walk }) })
 asides_stay m t o th w n walk chain at behind u =
     aside_stays (slice_set m.threads.items o (record th { «record» = with_value th.record n })) t (record w { walk = walk }) w behind refl u
     ∙ aside_stays m.threads.items o (record th { «record» = with_value th.record n }) th at refl u

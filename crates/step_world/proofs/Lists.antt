@@ -8,8 +8,7 @@ use Rattle.std.proofs.lemmas.List.{drop_all}
 use Rattle.std.proofs.lemmas.List.Elements.{All-nil, All-cons}
 use Rattle.std.proofs.lemmas.Bool.{cases_eq, cases_lt, ne_eqb, lt-ltb, le-ltb, ltb-true, ltb-false, le-leb, lt-leb}
 use Rattle.lock_model.specs.Counts.{one, lower}
-use Rattle.lock_model.specs.State.{Waiter, Lists, Mark, BySignal}
-use Rattle.lock_model.specs.Queues.{times_waiting, stands, reinsert, with_kept, free_after, head_after, least_kept, least_of_two, least_of}
+use Rattle.lock_model.specs.Queues.{Waiter, Lists, Mark, BySignal, times_waiting, stands, reinsert, with_kept, free_after, head_after, least_kept, least_of_two, least_of}
 use Rattle.lock_model.specs.Queues as state
 use Rattle.lock_model.specs.declared.plan.QueueName.{QueueName}
 use Rattle.lock_model.specs.declared.plan.Side.{Side}

@@ -4,11 +4,12 @@ use Rattle.std.specs.Box.{with_value}
 use Rattle.std.specs.Vec.{with_item}
 use Rattle.std.proofs.lemmas.Option.{slice_get_read}
 use Rattle.std.proofs.lemmas.List.Elements.{All-head, All-tail, All-same}
-use Rattle.lock_model.specs.State.{Config, State, Mark, put}
-use Rattle.lock_model.specs.Facts.{Lawful}
+use Rattle.lock_model.specs.Config.{Config}
+use Rattle.lock_state.specs.State.{State, put}
+use Rattle.lock_model.specs.Queues.{Mark, lock_queue, is_turnstile_queue}
+use Rattle.lock_state.specs.Facts.{Lawful}
 use Rattle.lock_model.specs.Words.{is_turnstile}
-use Rattle.lock_model.specs.MovesOfQueues.{MayMark, after_mark}
-use Rattle.lock_model.specs.Queues.{lock_queue, is_turnstile_queue}
+use Rattle.lock_state.specs.Steps.Turnstiles.{MayMark, after_mark}
 use Rattle.lock_model.specs.declared.plan.QueueName.{QueueName}
 use Rattle.lock_model.specs.declared.plan.Kind.TheVariants.{Mtx}
 use Rattle.lock_model.specs.declared.numbers.LockNo.{LockNo}
@@ -19,8 +20,8 @@ use Rattle.thread_records.specs.Records.{Record}
 use Rattle.step_world.specs.declared.machine.Machine.{Machine}
 use Rattle.step_world.specs.declared.thread.Thread.{Thread}
 use Rattle.step_world.specs.declared.thread.Wait.TheVariants as wait
-use Rattle.step_world.specs.Shows.{Shows, ShowsThread, ShowsThreads, mark_of}
-use Rattle.step_world.specs.Steps.{KeepsAsides}
+use Rattle.step_world.specs.Represents.{Represents, RepresentsThread, RepresentsThreads, mark_of}
+use Rattle.step_world.specs.Steps.{KeepsProgress}
 use Rattle.step_world.proofs.Kit.{SameAt, thread_changed, aside_stays}
 
 -- 1. The objects
@@ -57,7 +58,7 @@ module _ (c : Config) (s : State) (t : ℕ) (l : LockNo) (p : Place) (ms : List 
     effective = refl;
     turnstile = refl;
     loan = λ k. refl;
-    named = refl;
+    blocked_on = refl;
     wait = refl;
     walk = refl;
     wanted = refl;
@@ -72,7 +73,7 @@ module _ (c : Config) (s : State) (t : ℕ) (l : LockNo) (p : Place) (ms : List 
     effective = refl;
     turnstile = rw k (put_other s.turnstile p.thread _ u (λ e. n (sym e)));
     loan = λ k. refl;
-    named = put_other s.named p.thread None u (λ e. n (sym e));
+    blocked_on = put_other s.blocked_on p.thread None u (λ e. n (sym e));
     wait = put_other s.wait p.thread _ u (λ e. n (sym e));
     walk = refl;
     wanted = refl;
@@ -80,7 +81,7 @@ module _ (c : Config) (s : State) (t : ℕ) (l : LockNo) (p : Place) (ms : List 
     marked = refl;
   }
 
-  marks : (th : Thread) (ps : List Place) → ShowsThread th s t → th.marked ≡ p ∷ ps → map (mark_of (lock_queue th.marked_from.0)) ps ≡ ms → ShowsThread (with_marked th ps) shorter t
+  marks : (th : Thread) (ps : List Place) → RepresentsThread th s t → th.marked ≡ p ∷ ps → map (mark_of (lock_queue th.marked_from.0)) ps ≡ ms → RepresentsThread (with_marked th ps) shorter t
   marks th ps h e same = record {
     number = h.number;
     base = h.base;
@@ -88,7 +89,7 @@ module _ (c : Config) (s : State) (t : ℕ) (l : LockNo) (p : Place) (ms : List 
     turnstile = h.turnstile;
     loans = h.loans;
     one_loan_each = h.one_loan_each;
-    named = h.named;
+    blocked_on = h.blocked_on;
     wait = h.wait;
     walk = h.walk;
     wanted = h.wanted;
@@ -99,7 +100,7 @@ module _ (c : Config) (s : State) (t : ℕ) (l : LockNo) (p : Place) (ms : List 
     filled = All-tail (λ q. IsSome q.turnstile) p ps (All-same (λ q. IsSome q.turnstile) (p ∷ ps) th.marked (sym e) h.filled);
   }
 
-  wakes : (w : Thread) → c.kind l.0 ≡ Mtx → IsSome p.turnstile → ShowsThread w shorter p.thread → ShowsThread (woken w p.turnstile l) after p.thread
+  wakes : (w : Thread) → c.kind l.0 ≡ Mtx → IsSome p.turnstile → RepresentsThread w shorter p.thread → RepresentsThread (woken w p.turnstile l) after p.thread
   unfolding after_mark
   wakes w k has h = record {
     number = h.number;
@@ -108,7 +109,7 @@ module _ (c : Config) (s : State) (t : ℕ) (l : LockNo) (p : Place) (ms : List 
     turnstile = rw k (its_turnstile p.turnstile has ∙ sym (put_same s.turnstile p.thread _));
     loans = h.loans;
     one_loan_each = h.one_loan_each;
-    named = sym (put_same s.named p.thread None);
+    blocked_on = sym (put_same s.blocked_on p.thread None);
     wait = sym (put_same s.wait p.thread _);
     walk = h.walk;
     wanted = h.wanted;
@@ -121,7 +122,7 @@ module _ (c : Config) (s : State) (t : ℕ) (l : LockNo) (p : Place) (ms : List 
 
 -- 3. A machine that makes both
 
-module _ {m : Machine} {c : Config} {s : State} {t : ℕ} {th : Thread} {p : Place} {ps : List Place} {k : Mark} {ks : List Mark} (h : Shows c m s) (lawful : Lawful c s) (g : MayMark c s t k ks) (at : slice_get m.threads.items t ≡ Some th) (is : th.marked ≡ p ∷ ps) where
+module _ {m : Machine} {c : Config} {s : State} {t : ℕ} {th : Thread} {p : Place} {ps : List Place} {k : Mark} {ks : List Mark} (h : Represents c m s) (lawful : Lawful c s) (g : MayMark c s t k ks) (at : slice_get m.threads.items t ≡ Some th) (is : th.marked ≡ p ∷ ps) where
   abbrev queue : QueueName
   queue = lock_queue th.marked_from.0
 
@@ -145,7 +146,7 @@ module _ {m : Machine} {c : Config} {s : State} {t : ℕ} {th : Thread} {p : Pla
   pub has_turnstile : IsSome p.turnstile
   has_turnstile = All-head (λ q. IsSome q.turnstile) p ps (All-same (λ q. IsSome q.turnstile) (p ∷ ps) th.marked (sym is) (h.threads.thread t th at).filled)
 
-  first_changed : ShowsThreads (slice_set m.threads.items t (with_marked th ps)) c (shorter c s t th.marked_from p ks)
+  first_changed : RepresentsThreads (slice_set m.threads.items t (with_marked th ps)) c (shorter c s t th.marked_from p ks)
   first_changed =
       thread_changed m.threads.items c s (shorter c s t th.marked_from p ks) t (with_marked th ps) h.threads g.thread (marks c s t th.marked_from p ks th ps (h.threads.thread t th at) is others_marks) (not_marking c s t th.marked_from p ks)
 
@@ -161,13 +162,13 @@ module _ {m : Machine} {c : Config} {s : State} {t : ℕ} {th : Thread} {p : Pla
     pub own : p.thread ≡ w.record.value.thread
     own = sym (first_changed.thread p.thread w there).number
 
-    pub marked_shown : Shows c (record m { threads = with_item (with_item m.threads t (with_marked th ps)) p.thread (woken w p.turnstile th.marked_from) }) (after_mark c s t k ks)
+    pub marked_shown : Represents c (record m { threads = with_item (with_item m.threads t (with_marked th ps)) p.thread (woken w p.turnstile th.marked_from) }) (after_mark c s t k ks)
     unfolding after_mark
     marked_shown = record {
       within = h.within;
       words = h.words;
       queues = h.queues;
-      threads = subst (λ (x : Mark). ShowsThreads (slice_set (slice_set m.threads.items t (with_marked th ps)) p.thread (woken w p.turnstile th.marked_from)) c (after_mark c s t x ks)) its_mark
+      threads = subst (λ (x : Mark). RepresentsThreads (slice_set (slice_set m.threads.items t (with_marked th ps)) p.thread (woken w p.turnstile th.marked_from)) c (after_mark c s t x ks)) its_mark
           (thread_changed (slice_set m.threads.items t (with_marked th ps)) c (shorter c s t th.marked_from p ks) (after c s t th.marked_from p ks) p.thread (woken w p.turnstile th.marked_from) first_changed is_thread
           (wakes c s t th.marked_from p ks w (h.within.mutexes th.marked_from.0) has_turnstile (first_changed.thread p.thread w there)) (not_marked c s t th.marked_from p ks (h.within.mutexes th.marked_from.0)));
       history = h.history;
@@ -175,12 +176,12 @@ module _ {m : Machine} {c : Config} {s : State} {t : ℕ} {th : Thread} {p : Pla
     }
 
 -- a thread with a mark has a marked list
-pub some_marked : (m : Machine) (c : Config) (s : State) (t : ℕ) (th : Thread) (k : Mark) (ks : List Mark) → slice_get m.threads.items t ≡ Some th → th.marked ≡ [] → Shows c m s → MayMark c s t k ks → ⊥
+pub some_marked : (m : Machine) (c : Config) (s : State) (t : ℕ) (th : Thread) (k : Mark) (ks : List Mark) → slice_get m.threads.items t ≡ Some th → th.marked ≡ [] → Represents c m s → MayMark c s t k ks → ⊥
 some_marked m c s t th k ks at none h g =
     let e : [] ≡ k ∷ ks = ap (map (mark_of (lock_queue th.marked_from.0))) (sym none) ∙ (h.threads.thread t th at).marked ∙ g.marked in cc
 
 -- what no column tells stays
 pub asides_stay : (m : Machine) (t i : ℕ) (th w : Thread) (ps : List Place) (x : Option ℕ) (l : LockNo) → slice_get m.threads.items t ≡ Some th → slice_get (slice_set m.threads.items t (with_marked th ps)) i ≡ Some w
-    → KeepsAsides m (record m { threads = with_item (with_item m.threads t (with_marked th ps)) i (woken w x l) })
+    → KeepsProgress m (record m { threads = with_item (with_item m.threads t (with_marked th ps)) i (woken w x l) })
 asides_stay m t i th w ps x l at there u =
     aside_stays (slice_set m.threads.items t (with_marked th ps)) i (woken w x l) w there refl u ∙ aside_stays m.threads.items t (with_marked th ps) th at refl u

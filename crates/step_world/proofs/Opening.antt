@@ -7,13 +7,15 @@ use Rattle.std.specs.Box.{with_value}
 use Rattle.std.proofs.lemmas.Bool.{cases_eq}
 use Rattle.std.proofs.lemmas.List.{drop_all}
 use Rattle.lock_model.specs.Words.{HeldBy, word_of, is_free, is_owned, is_turnstile, opened, side_woken}
-use Rattle.lock_model.specs.State.{Config, State, NotHeld, Lists, Loan, put, put_at}
-use Rattle.lock_model.specs.Facts.{Lawful, BitsShowWaiters}
+use Rattle.lock_model.specs.Config.{Config}
+use Rattle.lock_state.specs.State.{State, Loan, put, put_at}
+use Rattle.lock_model.specs.Holds.{NotHeld}
+use Rattle.lock_model.specs.Queues.{Lists, lock_queue, list_of, dealt, head_after}
+use Rattle.lock_state.specs.Facts.{Lawful, BitsShowWaiters}
 use Rattle.lock_model.specs.Counts.{is_empty}
-use Rattle.lock_model.specs.Moves.{prio_of, effective_of}
-use Rattle.lock_model.specs.MovesOfQueues.{MayOpen, after_open}
+use Rattle.lock_state.specs.Steps.LockWords.{prio_of, effective_of}
+use Rattle.lock_state.specs.Steps.Turnstiles.{MayOpen, after_open}
 use Rattle.lock_model.specs.Operations.{hold_in, without_lock}
-use Rattle.lock_model.specs.Queues.{lock_queue, list_of, dealt, head_after}
 use Rattle.lock_model.specs.declared.plan.Kind.TheVariants.{Mtx}
 use Rattle.lock_model.specs.declared.plan.Mode.TheVariants.{Excl}
 use Rattle.lock_model.specs.declared.plan.Side.TheVariants.{X}
@@ -34,7 +36,7 @@ use Rattle.chain_table.specs.Turnstiles.{bare, behind}
 use Rattle.chain_table.specs.Chains.{head_of, without}
 use Rattle.step_world.specs.declared.machine.Machine.{Machine}
 use Rattle.step_world.specs.declared.thread.Thread.{Thread}
-use Rattle.step_world.specs.Shows.{Shows, ShowsThread, ShowsHead, ShowsQueues, wait_of, walk_of, loan_of, mark_of, holds_of}
+use Rattle.step_world.specs.Represents.{Represents, RepresentsThread, RepresentsHead, RepresentsQueues, wait_of, walk_of, loan_of, mark_of, holds_of}
 use Rattle.step_world.proofs.Kit.{SameAt, thread_changed, word_changed}
 use Rattle.step_world.proofs.KitOfQueues.{SameQueue, queues_gone}
 use Rattle.step_world.proofs.Loans.{loan_for-dropped, loan_for-others, least_with-by_lock}
@@ -86,7 +88,7 @@ settled_of l r d = record d { owner = None; loan_home = is_some (loan_for l r.lo
 pub settles : (l : ℕ) (r0 r : Record) (hd0 hd sv : Turnstile) → r0 ≡ r → hd0 ≡ hd → sv ≡ with_contents (settled_of l r0 hd0.contents) hd0 → sv ≡ with_contents (settled_of l r hd.contents) hd
 settles l r0 r hd0 hd sv e f is = is ∙ ap (λ (o : Record). with_contents (settled_of l o hd0.contents) hd0) e ∙ ap (λ (v : Turnstile). with_contents (settled_of l r v.contents) v) f
 
-module _ (m : Machine) (c : Config) (s : State) (t l : ℕ) (h : Shows c m s) (lawful : Lawful c s) (g : MayOpen c s t l Excl) where
+module _ (m : Machine) (c : Config) (s : State) (t l : ℕ) (h : Represents c m s) (lawful : Lawful c s) (g : MayOpen c s t l Excl) where
   abbrev n : State
   n = after_open c s t l
 
@@ -131,7 +133,7 @@ module _ (m : Machine) (c : Config) (s : State) (t l : ℕ) (h : Shows c m s) (l
   not_headless none = let e : None ≡ Some awaited.head = sym (no_head_seen m c s l h none) ∙ awaited.is_head in cc
 
   module _ (hd : Turnstile) (some : Some hd ≡ head_of q m.chain) where
-    old_head : ShowsHead hd.contents s.lists s.free_list s.head s.owner s.loan_home q
+    old_head : RepresentsHead hd.contents s.lists s.free_list s.head s.owner s.loan_home q
     old_head = head_seen m c s l h hd some
 
     -- it has exclusive waiters alone, one more than free turnstiles
@@ -215,7 +217,7 @@ module _ (m : Machine) (c : Config) (s : State) (t l : ℕ) (h : Shows c m s) (l
       -- the thread has put the lock and its loan down, and has the woken to mark
       pub thread_opens : (p : Thread) (v : Record) (ws : List Place) → p ≡ left_with p.held th → p.held.items ≡ without_lock l th.held.items → vec_capacity p.held ≡ vec_capacity th.held
           → v ≡ with_loans (without_loan l loans) th.record.value → ws ≡ with_last hd.contents.number (box.dealt hd.contents.exclusive hd.contents.free)
-          → ShowsThread (record p { «record» = with_value p.record v; marked = ws; marked_from = record { 0 = l } }) n t
+          → RepresentsThread (record p { «record» = with_value p.record v; marked = ws; marked_from = record { 0 = l } }) n t
       unfolding after_open
       thread_opens p v ws same items room rec woken =
           let old = h.threads.thread t th at in
@@ -228,7 +230,7 @@ module _ (m : Machine) (c : Config) (s : State) (t l : ℕ) (h : Shows c m s) (l
             turnstile = ap (λ r. r.turnstile) rec ∙ old.turnstile;
             loans = λ k. ap (λ r. option_map loan_of (loan_for k r.loans)) rec ∙ loans_left l loans (s.loan t) old.loans old.one_loan_each k ∙ sym (row_put s.loan t l None k);
             one_loan_each = λ k. one_each_without l loans v.loans (ap (λ r. r.loans) rec) old.one_loan_each k;
-            named = ap (λ r. r.on) rec ∙ old.named;
+            blocked_on = ap (λ r. r.on) rec ∙ old.blocked_on;
             wait = ap (λ (o : Thread). wait_of o.wait) same ∙ old.wait;
             walk = ap (λ (o : Thread). walk_of o.walk) same ∙ old.walk;
             wanted = ap (λ (o : Thread). option_map (λ j. j.0) o.wanted) same ∙ old.wanted;
@@ -257,7 +259,7 @@ module _ (m : Machine) (c : Config) (s : State) (t l : ℕ) (h : Shows c m s) (l
         effective = put_other s.effective t _ u (λ e. d (sym e));
         turnstile = refl;
         loan = λ k. put_at_other s.loan t l None u k (λ e. d (sym e));
-        named = refl;
+        blocked_on = refl;
         wait = refl;
         walk = refl;
         wanted = refl;
@@ -276,13 +278,13 @@ module _ (m : Machine) (c : Config) (s : State) (t l : ℕ) (h : Shows c m s) (l
       }
 
       pub opens : (v : ℕ) (chain : List (QueueName × Turnstile)) (new : Thread) → word_of v ≡ opened (c.kind l) (s.word l)
-          → chain ≡ without q m.chain → head_of q chain ≡ None → ShowsThread new n t
-          → Shows c (record m { words = with_item m.words l v; chain = chain; threads = with_item m.threads t new }) n
+          → chain ≡ without q m.chain → head_of q chain ≡ None → RepresentsThread new n t
+          → Represents c (record m { words = with_item m.words l v; chain = chain; threads = with_item m.threads t new }) n
       unfolding after_open
       opens v chain new word is gone thread = record {
         within = h.within;
         words = word_changed m.words.items c s.word l v (opened (c.kind l) (s.word l)) h.words g.lock word;
-        queues = subst (λ chain'. ShowsQueues chain' n.lists n.free_list n.head n.owner n.loan_home) (sym is) (queues_gone m.chain s n l h.queues others_queue (ap (head_of q) (sym is) ∙ gone) no_head_left);
+        queues = subst (λ chain'. RepresentsQueues chain' n.lists n.free_list n.head n.owner n.loan_home) (sym is) (queues_gone m.chain s n l h.queues others_queue (ap (head_of q) (sym is) ∙ gone) no_head_left);
         threads = thread_changed m.threads.items c s n t new h.threads g.thread thread others;
         history = h.history;
         tables = h.tables;

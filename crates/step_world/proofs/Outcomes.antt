@@ -2,12 +2,13 @@
 use Rattle.std.proofs.Common.{◌≡◌, ℕ, suc, ◌+◌, ◌≤◌, true, List, [], ◌∷◌, ◌++◌, length, map, flat_map, slice_get, Option, Some, None, IfSome, refl, ap, sym, ◌∙◌, arith}
 use Rattle.std.specs.List.{range_with_len}
 use Rattle.std.proofs.lemmas.List.{append-nil}
-use Rattle.lock_model.specs.Facts.{Lawful, HeadsFitWaiters}
+use Rattle.lock_state.specs.Facts.{Lawful, HeadsFitWaiters}
 use Rattle.lock_model.specs.Operations.{IsProper}
 use Rattle.lock_model.specs.Plans.{config_of}
 use Rattle.lock_model.specs.Queues.{lock_queue, chan_queue, waiting}
-use Rattle.lock_model.specs.Run.{Run, line_of_queue, queue_lines, threads_of}
-use Rattle.lock_model.specs.State.{Config, State}
+use Rattle.lock_state.specs.Run.{Run, line_of_queue, queue_lines, threads_of}
+use Rattle.lock_model.specs.Config.{Config}
+use Rattle.lock_state.specs.State.{State}
 use Rattle.lock_model.specs.Text.{QueueLine}
 use Rattle.lock_model.specs.Words.{is_turnstile}
 use Rattle.lock_model.specs.declared.plan.Plan.{Plan}
@@ -17,18 +18,18 @@ use Rattle.chain_table.specs.Chains.{head_of}
 use Rattle.step_world.specs.declared.machine.Machine.{Machine}
 use Rattle.step_world.specs.declared.thread.Thread.{Thread}
 use Rattle.step_world.specs.Outcomes.{line_at, lines_below, finals_of, IsShort}
-use Rattle.step_world.specs.Runs.{ShowsRun}
-use Rattle.step_world.specs.Shows.{ShowsQueue}
+use Rattle.step_world.specs.Runs.{RepresentsRun}
+use Rattle.step_world.specs.Represents.{RepresentsQueue}
 
 -- 1. Queues
 
 -- the line of a lock's queue, by the turnstile that is lent to the lock
-line_is : (c : Config) (s : State) (l : ℕ) (o : Option Turnstile) → ShowsQueue o s.lists s.free_list s.head s.owner s.loan_home (lock_queue l) → line_at c.chains l o ≡ line_of_queue c s (lock_queue l) l (s.head (lock_queue l))
+line_is : (c : Config) (s : State) (l : ℕ) (o : Option Turnstile) → RepresentsQueue o s.lists s.free_list s.head s.owner s.loan_home (lock_queue l) → line_at c.chains l o ≡ line_of_queue c s (lock_queue l) l (s.head (lock_queue l))
 line_is c s l None h = ap (line_of_queue c s (lock_queue l) l) (sym h)
 line_is c s l (Some t) h = rw (h.head, h.lists, h.free) refl
 
 -- A proper plan has no channels, so these are all lines
-pub lines_are : (plan : Plan) (chains : ℕ) (m : Machine) (r : Run) → IsProper plan → ShowsRun plan chains m r → lines_below chains m (length m.words.items) ≡ queue_lines (config_of plan chains) r.state
+pub lines_are : (plan : Plan) (chains : ℕ) (m : Machine) (r : Run) → IsProper plan → RepresentsRun plan chains m r → lines_below chains m (length m.words.items) ≡ queue_lines (config_of plan chains) r.state
 lines_are plan chains m r proper h =
     let c = config_of plan chains in
     let s = r.state in
@@ -49,7 +50,7 @@ by_number (x ∷ xs) f g a same =
     let others = by_number xs f g (a + 1) (λ t y e. same (suc t) y e ∙ ap g (omega arith)) in
     ap (λ y. y ∷ map f xs) first ∙ ap (λ ys. g a ∷ ys) others
 
-pub finals_are : (plan : Plan) (chains : ℕ) (m : Machine) (r : Run) → ShowsRun plan chains m r → finals_of m ≡ map (λ t. (r.state.base t, r.state.effective t)) (threads_of plan)
+pub finals_are : (plan : Plan) (chains : ℕ) (m : Machine) (r : Run) → RepresentsRun plan chains m r → finals_of m ≡ map (λ t. (r.state.base t, r.state.effective t)) (threads_of plan)
 finals_are plan chains m r h =
     let pair : ℕ → ℕ × ℕ = λ t. (r.state.base t, r.state.effective t) in
     by_number m.threads.items (λ th. (th.record.value.base, th.record.value.effective)) pair 0 (λ t th e. let shown = h.shows.threads.thread t th e in rw (shown.base, shown.effective) (ap pair (omega arith)))
@@ -58,7 +59,7 @@ finals_are plan chains m r h =
 -- 3. Lengths
 
 -- where few wait on a queue, its turnstile's lists are short, and its free list is shorter than both
-short_is : (s : State) (c : Config) (l : ℕ) (o : Option Turnstile) → ShowsQueue o s.lists s.free_list s.head s.owner s.loan_home (lock_queue l) → Lawful c s → waiting (s.lists (lock_queue l)) ≤ 32 → IfSome o (λ h. IsShort h.contents)
+short_is : (s : State) (c : Config) (l : ℕ) (o : Option Turnstile) → RepresentsQueue o s.lists s.free_list s.head s.owner s.loan_home (lock_queue l) → Lawful c s → waiting (s.lists (lock_queue l)) ≤ 32 → IfSome o (λ h. IsShort h.contents)
 unfolding HeadsFitWaiters
 short_is s c l None h lawful few = tt
 short_is s c l (Some t) h lawful few =
@@ -68,7 +69,7 @@ short_is s c l (Some t) h lawful few =
     let free : length t.contents.free ≤ 32 = rw h.free at spare in
     record { exclusive = omega (arith, both); shared = omega (arith, both); free = omega (arith, free) }
 
-pub all_short : (plan : Plan) (chains : ℕ) (m : Machine) (r : Run) → ShowsRun plan chains m r → Lawful (config_of plan chains) r.state → (l : ℕ) → IfSome (head_of (lock_queue l) m.chain) (λ h. IsShort h.contents)
+pub all_short : (plan : Plan) (chains : ℕ) (m : Machine) (r : Run) → RepresentsRun plan chains m r → Lawful (config_of plan chains) r.state → (l : ℕ) → IfSome (head_of (lock_queue l) m.chain) (λ h. IsShort h.contents)
 all_short plan chains m r h lawful l =
     let c = config_of plan chains in
     let turnstile : is_turnstile (c.kind l) ≡ true = ap is_turnstile (h.shows.within.mutexes l) in

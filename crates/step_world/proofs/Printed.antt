@@ -4,8 +4,8 @@ use Rattle.std.specs.FinMap.{entries}
 use Rattle.lock_model.specs.History.{tables_of}
 use Rattle.lock_model.specs.Operations.{IsProper}
 use Rattle.lock_model.specs.Plans.{config_of}
-use Rattle.lock_model.specs.Run as run
-use Rattle.lock_model.specs.Run.{Run, outcome_of, queue_lines, threads_of}
+use Rattle.lock_state.specs.Run as run
+use Rattle.lock_state.specs.Run.{Run, outcome_of, queue_lines, threads_of}
 use Rattle.lock_model.specs.declared.plan.Plan.{Plan}
 use Rattle.lock_history.specs.Tickets.{InOrder}
 use Rattle.lock_history.specs.Endings.{ending_of, numbers_of}

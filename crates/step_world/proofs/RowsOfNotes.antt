@@ -7,11 +7,13 @@ use Rattle.std.proofs.lemmas.Map.Keys.{any_passes_from_place}
 use Rattle.lock_model.specs.Plans.{config_of, operations_of}
 use Rattle.lock_model.specs.Keys.{op_names, plan_names}
 use Rattle.lock_model.specs.Operations.{IsProper, held_of}
-use Rattle.lock_model.specs.State.{Config, State, Hold, NotHeld, Holds, Running}
+use Rattle.lock_model.specs.Config.{Config}
+use Rattle.lock_state.specs.State.{State, Running}
+use Rattle.lock_model.specs.Holds.{Hold, NotHeld, Holds}
 use Rattle.lock_model.specs.Words.{admits, is_drop}
-use Rattle.lock_model.specs.Moves.{MayStamp, after_gain, after_drop, after_stamp}
-use Rattle.lock_model.specs.MovesOfQueues.{after_open}
-use Rattle.lock_model.specs.Run.{Run, Made, ended, blocks, takes, releases, operates, notes}
+use Rattle.lock_state.specs.Steps.LockWords.{MayStamp, after_gain, after_drop, after_stamp}
+use Rattle.lock_state.specs.Steps.Turnstiles.{after_open}
+use Rattle.lock_state.specs.Run.{Run, Made, ended, blocks, takes, releases, operates, notes}
 use Rattle.lock_model.specs.declared.numbers.LockNo.{LockNo}
 use Rattle.lock_model.specs.declared.plan.Mode.{Mode}
 use Rattle.lock_model.specs.declared.plan.Op.{Op}
@@ -27,9 +29,9 @@ use Rattle.lock_model.specs.declared.turn.Turn.{Turn}
 use Rattle.lock_model.specs.declared.turn.Turn.TheVariants.{Did, Idle}
 use Rattle.lock_laws.proofs.TurnsOfNotes as noting
 use Rattle.step_world.specs.declared.machine.Machine.{Machine}
-use Rattle.step_world.specs.Shows.{Shows}
-use Rattle.step_world.specs.Steps.{May, HasKey, aside}
-use Rattle.step_world.specs.Runs.{ShowsRun, IsRunOf, IsNote, HasRun}
+use Rattle.step_world.specs.Represents.{Represents}
+use Rattle.step_world.specs.Steps.{May, HasKey, progress}
+use Rattle.step_world.specs.Runs.{RepresentsRun, IsRunOf, IsNote, HasRun}
 use Rattle.step_world.proofs.Turning.{Stamps, EndsOperation, of_books, room_on, changed_at, changed_other, ended as run_behind, has_room, place_within, is_thread}
 
 -- 1. Keys
@@ -38,8 +40,8 @@ abbrev op_same : ℕ → ℕ → ℕ → ℕ → Bool
 op_same k n l key = (k == l) && (n == key)
 
 -- an operation of the thread that names a key
-pub named : (plan : Plan) (t place l key : ℕ) (op : Op) → slice_get (operations_of plan t) place ≡ Some op → op_names l key op ≡ true → IsTrue (plan_names plan l key)
-named plan t place l key op e i = go (slice_get plan.threads t) refl
+pub blocked_on : (plan : Plan) (t place l key : ℕ) (op : Op) → slice_get (operations_of plan t) place ≡ Some op → op_names l key op ≡ true → IsTrue (plan_names plan l key)
+blocked_on plan t place l key op e i = go (slice_get plan.threads t) refl
   where
     test : ThreadDecl → Bool
     test d = list_any (op_names l key) d.ops
@@ -111,7 +113,7 @@ module _ (plan : Plan) (chains : ℕ) (m : Machine) (r : Run) (t : ℕ) (p : IsP
     fits_by e n key = record { may = noting.may_note plan chains r t p h.on_track lt running e n.asks; same = n.same; key = key }
 
     has_key : (l : LockNo) (key : ℕ) (op : Op) → Next op → op_names l.0 key op ≡ true → Contains m.tables.places (l.0, key)
-    has_key l key op next i = h.shows.keys l.0 key (named plan t (r.place t) l.0 key op next i)
+    has_key l key op next i = h.shows.keys l.0 key (blocked_on plan t (r.place t) l.0 key op next i)
 
     fits : (op : Op) (e : Event) → Next op → operates c r t (Some op) ≡ notes c r t e → Fits e
     fits (Set l key value) e next i =
@@ -146,17 +148,17 @@ module _ (plan : Plan) (m : Machine) (t : ℕ) (e : Event) (p : IsProper plan) (
   key = fit.key
 
   module _ (m1 : Machine) (a : Stamps m m1 t e) where
-    stamped : Shows its m1 (after_stamp its q.1.state t e)
+    stamped : Represents its m1 (after_stamp its q.1.state t e)
     stamped = a.step its q.1.state q.2.shows.shows q.2.on_track.lawful fit.may
 
     pub thread : t < length m1.threads.items
     thread = is_thread its m1 (after_stamp its q.1.state t e) t stamped lt
 
-    pub within : IfSome (aside m1 t) (λ x. x.place < 20000)
-    within = place_within plan q.0 m q.1 t p q.2 lt left m1 _ (a.aside t ∙ q.2.shows.aside t lt)
+    pub within : IfSome (progress m1 t) (λ x. x.place < 20000)
+    within = place_within plan q.0 m q.1 t p q.2 lt left m1 _ (a.progress t ∙ q.2.shows.progress t lt)
 
-    pub noted : (m2 : Machine) → EndsOperation m1 m2 t → ShowsRun plan q.0 m2 (notes its q.1 t e).run
+    pub noted : (m2 : Machine) → EndsOperation m1 m2 t → RepresentsRun plan q.0 m2 (notes its q.1 t e).run
     noted m2 b = run_behind plan q.0 m q.1 q.2.shows m2 t (after_stamp its q.1.state t e) (b.shows its (after_stamp its q.1.state t e) stamped)
-        (changed_at m1 m2 t (λ x. record x { place = suc x.place }) _ b.aside (a.aside t ∙ q.2.shows.aside t lt) ∙ ap (λ (hs : List Held). Some (record { place = suc (q.1.place t); held = hs })) fit.same)
-        (λ u ne. changed_other m1 m2 t (λ x. record x { place = suc x.place }) u b.aside ne ∙ a.aside u)
+        (changed_at m1 m2 t (λ x. record x { place = suc x.place }) _ b.progress (a.progress t ∙ q.2.shows.progress t lt) ∙ ap (λ (hs : List Held). Some (record { place = suc (q.1.place t); held = hs })) fit.same)
+        (λ u ne. changed_other m1 m2 t (λ x. record x { place = suc x.place }) u b.progress ne ∙ a.progress u)
         (room_on m m1 m2 a.room (of_books m1 m2 b.books))

@@ -4,9 +4,9 @@ use Rattle.std.specs.FinMap.{get}
 use Rattle.std.proofs.lemmas.Option.{none-some}
 use Rattle.lock_model.specs.Plans.{config_of}
 use Rattle.lock_model.specs.Operations.{IsProper}
-use Rattle.lock_model.specs.State.{Config}
+use Rattle.lock_model.specs.Config.{Config}
 use Rattle.lock_model.specs.History.{value_at}
-use Rattle.lock_model.specs.Run.{Run, operates, notes, nothing}
+use Rattle.lock_state.specs.Run.{Run, operates, notes, nothing}
 use Rattle.lock_model.specs.declared.numbers.LockNo.{LockNo}
 use Rattle.lock_model.specs.declared.numbers.Prio.{Prio}
 use Rattle.lock_model.specs.declared.plan.Mode.{Mode}

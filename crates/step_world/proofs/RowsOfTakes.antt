@@ -3,12 +3,13 @@ use Rattle.std.proofs.Common.{◌≡◌, ℕ, suc, ◌<◌, ◌≤◌, Bool, tru
 use Rattle.std.specs.Prelude.{IfSome, vec_len}
 use Rattle.lock_model.specs.Plans.{config_of, operations_of}
 use Rattle.lock_model.specs.Operations.{IsProper}
-use Rattle.lock_model.specs.State.{Config, State}
+use Rattle.lock_model.specs.Config.{Config}
+use Rattle.lock_state.specs.State.{State}
 use Rattle.lock_model.specs.Words.{word_of, IsWellFormed, admits, is_free}
-use Rattle.lock_model.specs.Moves.{MayGain, after_gain, MayStamp, after_stamp}
-use Rattle.lock_model.specs.MovesOfQueues.{MayBlock, after_block}
-use Rattle.lock_model.specs.Facts.{Lawful}
-use Rattle.lock_model.specs.Run.{Run, ended, blocks, takes}
+use Rattle.lock_state.specs.Steps.LockWords.{MayGain, after_gain, MayStamp, after_stamp}
+use Rattle.lock_state.specs.Steps.Turnstiles.{MayBlock, after_block}
+use Rattle.lock_state.specs.Facts.{Lawful}
+use Rattle.lock_state.specs.Run.{Run, ended, blocks, takes}
 use Rattle.lock_model.specs.declared.numbers.LockNo.{LockNo}
 use Rattle.lock_model.specs.declared.plan.Mode.TheVariants.{Excl}
 use Rattle.lock_model.specs.declared.plan.Op.TheVariants.{Take}
@@ -23,21 +24,21 @@ use Rattle.lock_laws.proofs.Gain as gain
 use Rattle.lock_laws.proofs.TurnsOfLocks as locks
 use Rattle.lock_laws.proofs.AtTurn.{well_formed as word_well_formed, has_turnstile}
 use Rattle.step_world.specs.declared.machine.Machine.{Machine}
-use Rattle.step_world.specs.Shows.{Shows}
-use Rattle.step_world.specs.Steps.{Aside, aside, May, Makes, KeepsAsides, ChangesAside, KeepsBooks, HoldsFew}
+use Rattle.step_world.specs.Represents.{Represents}
+use Rattle.step_world.specs.Steps.{Progress, progress, May, Makes, KeepsProgress, ChangesProgress, KeepsBooks, HoldsFew}
 use Rattle.step_world.specs.Runs.{IsAtOperation, HasRun}
 use Rattle.step_world.proofs.Turning.{IsRow, Stamps, EndsOperation, of_books, room_on, changed_at, changed_other, stepped, ended as run_behind, has_room, place_within, is_thread, is_word, word_is}
 
 -- what a gain promises,
 pub record Gains (m n : Machine) (t : ℕ) (l : LockNo) : Type 0 where
   pub step : Makes m n (λ c s. MayGain c s t l.0 Excl) (λ c s. after_gain s t l.0 Excl)
-  pub aside : ChangesAside m n t (λ a. record a { held = a.held ++ (record { l = l; mode = Excl; by_try = false }) ∷ [] })
+  pub progress : ChangesProgress m n t (λ a. record a { held = a.held ++ (record { l = l; mode = Excl; by_try = false }) ∷ [] })
   pub books : KeepsBooks m n
 
 -- and a block
 pub record Blocks (m n : Machine) (t : ℕ) (l : LockNo) : Type 0 where
   pub step : (x : ℕ) → Makes m n (λ c s. MayBlock c s t l.0 Excl x) (λ c s. after_block s t l.0 Excl x)
-  pub aside : KeepsAsides m n
+  pub progress : KeepsProgress m n
   pub books : KeepsBooks m n
 
 module _ (plan : Plan) (m : Machine) (t : ℕ) (l : LockNo) (p : IsProper plan) (lt : t < length plan.threads) (q : HasRun plan m (λ chains r. IsAtOperation plan r t (Take l Excl))) where
@@ -79,7 +80,7 @@ module _ (plan : Plan) (m : Machine) (t : ℕ) (l : LockNo) (p : IsProper plan) 
       may_gain = (c, s, q.2.shows.shows, q.2.on_track.lawful, gain_may)
 
       pub few : HoldsFew m t
-      few = subst (λ o. IfSome o (λ (a : Aside). length a.held < 8)) (sym (q.2.shows.aside t lt)) finds.few
+      few = subst (λ o. IfSome o (λ (a : Progress). length a.held < 8)) (sym (q.2.shows.progress t lt)) finds.few
 
       module _ (m1 : Machine) (a : Gains m m1 t l) where
         abbrev gained : State
@@ -88,14 +89,14 @@ module _ (plan : Plan) (m : Machine) (t : ℕ) (l : LockNo) (p : IsProper plan) 
         gained_lawful : Lawful c gained
         gained_lawful = gain.lawful c s t l.0 Excl gain_may q.2.on_track.lawful
 
-        gained_shown : Shows c m1 gained
+        gained_shown : Represents c m1 gained
         gained_shown = a.step c s q.2.shows.shows q.2.on_track.lawful gain_may
 
         stamp_may : MayStamp c gained t (event.Locked l Excl)
         stamp_may = locks.may_stamp plan q.0 r t p q.2.on_track lt l q.3.running q.3.next
 
-        own : aside m1 t ≡ Some (record { place = r.place t; held = behind plan q.0 r t p q.2.on_track })
-        own = changed_at m m1 t (λ x. record x { held = x.held ++ (record { l = l; mode = Excl; by_try = false }) ∷ [] }) _ a.aside (q.2.shows.aside t lt)
+        own : progress m1 t ≡ Some (record { place = r.place t; held = behind plan q.0 r t p q.2.on_track })
+        own = changed_at m m1 t (λ x. record x { held = x.held ++ (record { l = l; mode = Excl; by_try = false }) ∷ [] }) _ a.progress (q.2.shows.progress t lt)
             ∙ ap (λ (hs : List Held). Some (record { place = r.place t; held = hs })) finds.behind
 
         pub may_stamp : May m1 (λ c s. MayStamp c s t (event.Locked l Excl))
@@ -108,21 +109,21 @@ module _ (plan : Plan) (m : Machine) (t : ℕ) (l : LockNo) (p : IsProper plan) 
           abbrev noted : State
           noted = after_stamp c gained t (event.Locked l Excl)
 
-          noted_shown : Shows c m2 noted
+          noted_shown : Represents c m2 noted
           noted_shown = b.step c gained gained_shown gained_lawful stamp_may
 
           pub thread : t < length m2.threads.items
           thread = is_thread c m2 noted t noted_shown lt
 
-          pub within : IfSome (aside m2 t) (λ x. x.place < 20000)
-          within = place_within plan q.0 m r t p q.2 lt left m2 _ (b.aside t ∙ own)
+          pub within : IfSome (progress m2 t) (λ x. x.place < 20000)
+          within = place_within plan q.0 m r t p q.2 lt left m2 _ (b.progress t ∙ own)
 
           pub taken : (m3 : Machine) → EndsOperation m2 m3 t → IsRow plan q.0 m3 (Did kinds.Gain) (takes c r t l Excl)
           taken m3 e = subst (λ b. IsRow plan q.0 m3 (Did kinds.Gain) (cond b (ended kinds.Gain noted r t) (blocks r t l.0 Excl (s.turnstile t)))) (sym (admitted true free)) (
             refl,
             run_behind plan q.0 m r q.2.shows m3 t noted (e.shows c noted noted_shown)
-                (changed_at m2 m3 t (λ x. record x { place = suc x.place }) _ e.aside (b.aside t ∙ own))
-                (λ u ne. changed_other m2 m3 t (λ x. record x { place = suc x.place }) u e.aside ne ∙ b.aside u ∙ changed_other m m1 t (λ x. record x { held = x.held ++ (record { l = l; mode = Excl; by_try = false }) ∷ [] }) u a.aside ne)
+                (changed_at m2 m3 t (λ x. record x { place = suc x.place }) _ e.progress (b.progress t ∙ own))
+                (λ u ne. changed_other m2 m3 t (λ x. record x { place = suc x.place }) u e.progress ne ∙ b.progress u ∙ changed_other m m1 t (λ x. record x { held = x.held ++ (record { l = l; mode = Excl; by_try = false }) ∷ [] }) u a.progress ne)
                 (room_on m m1 m3 (of_books m m1 a.books) (room_on m1 m2 m3 b.room (of_books m2 m3 e.books))),
           )
 
@@ -141,4 +142,4 @@ module _ (plan : Plan) (m : Machine) (t : ℕ) (l : LockNo) (p : IsProper plan) 
       pub blocked : (m1 : Machine) → Blocks m m1 t l → IsRow plan q.0 m1 (Did kinds.Enter) (takes c r t l Excl)
       blocked m1 a = subst (λ b. IsRow plan q.0 m1 (Did kinds.Enter) (cond b (ended kinds.Gain (after_stamp c (after_gain s t l.0 Excl) t (event.Locked l Excl)) r t) (blocks r t l.0 Excl (s.turnstile t)))) (sym (admitted false held))
           (subst (λ o. IsRow plan q.0 m1 (Did kinds.Enter) (blocks r t l.0 Excl o)) (sym home.1)
-          (refl, stepped plan q.0 m r q.2.shows m1 (after_block s t l.0 Excl home.0) (a.step home.0 c s q.2.shows.shows q.2.on_track.lawful block_may) a.aside (of_books m m1 a.books)))
+          (refl, stepped plan q.0 m r q.2.shows m1 (after_block s t l.0 Excl home.0) (a.step home.0 c s q.2.shows.shows q.2.on_track.lawful block_may) a.progress (of_books m m1 a.books)))

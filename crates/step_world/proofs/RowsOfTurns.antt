@@ -1,11 +1,12 @@
 -- Which row of the table a turn is, by what the thread's objects say.
 use Rattle.std.proofs.Common.{◌≡◌, ℕ, ◌<◌, Bool, true, false, cond, List, [], ◌∷◌, length, map, get_or, slice_get, Some, refl, sym, ap, subst, ◌∙◌}
 use Rattle.lock_model.specs.Plans.{config_of, operations_of}
-use Rattle.lock_model.specs.State.{Config, State, NoWalk, AtLock, AtThread, Mark}
+use Rattle.lock_model.specs.Config.{Config}
+use Rattle.lock_state.specs.State.{State, NoWalk, AtLock, AtThread}
+use Rattle.lock_model.specs.Queues.{Mark, lock_queue}
 use Rattle.lock_model.specs.Words.{owner_of}
-use Rattle.lock_model.specs.Queues.{lock_queue}
-use Rattle.lock_model.specs.MovesOfQueues.{MayMark, after_mark}
-use Rattle.lock_model.specs.Run.{Run, has_ended, nothing, turn_of, by_walk, by_marked, by_wait, walks_at_lock, walks_at_thread}
+use Rattle.lock_state.specs.Steps.Turnstiles.{MayMark, after_mark}
+use Rattle.lock_state.specs.Run.{Run, has_ended, nothing, turn_of, by_walk, by_marked, by_wait, walks_at_lock, walks_at_thread}
 use Rattle.lock_model.specs.declared.numbers.LockNo.{LockNo}
 use Rattle.lock_model.specs.declared.numbers.ThreadNo.{ThreadNo}
 use Rattle.lock_model.specs.declared.plan.Op.{Op}
@@ -17,9 +18,9 @@ use Rattle.turnstile_core.specs.Seen.{Place}
 use Rattle.prio_lending.specs.declared.walk.Walk.TheVariants as walk
 use Rattle.step_world.specs.declared.machine.Machine.{Machine}
 use Rattle.step_world.specs.declared.thread.Thread.{Thread}
-use Rattle.step_world.specs.Shows.{ShowsThread, walk_of, mark_of}
+use Rattle.step_world.specs.Represents.{RepresentsThread, walk_of, mark_of}
 use Rattle.step_world.specs.Threads.{thread_has_ended}
-use Rattle.step_world.specs.Steps.{May, Makes, KeepsAsides, KeepsBooks}
+use Rattle.step_world.specs.Steps.{May, Makes, KeepsProgress, KeepsBooks}
 use Rattle.step_world.specs.Runs.{IsRunOf, IsFree}
 use Rattle.step_world.proofs.Kit.{read}
 use Rattle.step_world.proofs.Ends.{ends_as_said}
@@ -28,7 +29,7 @@ use Rattle.step_world.proofs.Turning.{IsRow, of_books, stepped}
 -- what a mark promises
 pub record Marks (m n : Machine) (t : ℕ) : Type 0 where
   pub step : (x : Mark) (xs : List Mark) → Makes m n (λ c s. MayMark c s t x xs) (λ c s. after_mark c s t x xs)
-  pub aside : KeepsAsides m n
+  pub progress : KeepsProgress m n
   pub books : KeepsBooks m n
 
 module _ (plan : Plan) (chains : ℕ) (m : Machine) (r : Run) (t : ℕ) (th : Thread) (lt : t < length plan.threads) (h : IsRunOf plan chains m r) (i : ℕ) (same_number : i ≡ t) (got : th ≡ get_or m.threads.items i th) where
@@ -41,7 +42,7 @@ module _ (plan : Plan) (chains : ℕ) (m : Machine) (r : Run) (t : ℕ) (th : Th
   is : slice_get m.threads.items t ≡ Some th
   is = read m c s t i th same_number h.shows.shows lt got
 
-  its : ShowsThread th s t
+  its : RepresentsThread th s t
   its = h.shows.shows.threads.thread t th is
 
   -- 1. Whether it has ended
@@ -73,7 +74,7 @@ module _ (plan : Plan) (chains : ℕ) (m : Machine) (r : Run) (t : ℕ) (th : Th
     pub row_at_lock : (l : LockNo) → th.walk ≡ walk.AtLock l → IsRow plan chains n answer (walks_at_lock c r t l.0 (owner_of (s.word l.0).holder) (s.head (lock_queue l.0))) → IsRow plan chains n answer (by_walk plan c r t (s.walk t))
     row_at_lock l e x = subst (λ w. IsRow plan chains n answer (by_walk plan c r t w)) (sym (at_lock l e)) x
 
-    pub row_at_thread : (o : ThreadNo) → th.walk ≡ walk.AtThread o → IsRow plan chains n answer (walks_at_thread c r t o.0 (s.named o.0)) → IsRow plan chains n answer (by_walk plan c r t (s.walk t))
+    pub row_at_thread : (o : ThreadNo) → th.walk ≡ walk.AtThread o → IsRow plan chains n answer (walks_at_thread c r t o.0 (s.blocked_on o.0)) → IsRow plan chains n answer (by_walk plan c r t (s.walk t))
     row_at_thread o e x = subst (λ w. IsRow plan chains n answer (by_walk plan c r t w)) (sym (at_thread o e)) x
 
   -- 3. Its marked list, where it has no walk
@@ -108,4 +109,4 @@ module _ (plan : Plan) (chains : ℕ) (m : Machine) (r : Run) (t : ℕ) (th : Th
 
       pub marked : (n : Machine) → Marks m n t → IsRow plan chains n (Did kinds.Mark) (by_walk plan c r t (s.walk t))
       marked n a = by_list n (Did kinds.Mark) (first.0 ∷ first.1) first.2
-          (refl, stepped plan chains m r h.shows n (after_mark c s t first.0 first.1) (a.step first.0 first.1 c s h.shows.shows h.on_track.lawful mark_may) a.aside (of_books m n a.books))
+          (refl, stepped plan chains m r h.shows n (after_mark c s t first.0 first.1) (a.step first.0 first.1 c s h.shows.shows h.on_track.lawful mark_may) a.progress (of_books m n a.books))

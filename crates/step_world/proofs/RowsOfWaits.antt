@@ -2,10 +2,11 @@
 use Rattle.std.proofs.Common.{◌≡◌, ℕ, ◌<◌, ◌≤◌, List, length, get_or, slice_get, Option, Some, None, refl, sym, ap, subst, ◌∙◌}
 use Rattle.std.proofs.lemmas.Option.{slice_get_read, slice_get_past}
 use Rattle.lock_model.specs.Plans.{config_of, operations_of}
-use Rattle.lock_model.specs.State.{Config, State, Running, Woken, Cause, BySignal}
-use Rattle.lock_model.specs.Queues.{lock_queue}
-use Rattle.lock_model.specs.MovesOfQueues.{MayResume, after_resume}
-use Rattle.lock_model.specs.Run.{Run, operates, by_wait}
+use Rattle.lock_model.specs.Config.{Config}
+use Rattle.lock_state.specs.State.{State, Running, Woken}
+use Rattle.lock_model.specs.Queues.{Cause, BySignal, lock_queue}
+use Rattle.lock_state.specs.Steps.Turnstiles.{MayResume, after_resume}
+use Rattle.lock_state.specs.Run.{Run, operates, by_wait}
 use Rattle.lock_model.specs.declared.numbers.LockNo.{LockNo}
 use Rattle.lock_model.specs.declared.plan.Op.{Op}
 use Rattle.lock_model.specs.declared.plan.Plan.{Plan}
@@ -16,8 +17,8 @@ use Rattle.lock_model.specs.declared.turn.Turn.TheVariants.{Did, Idle}
 use Rattle.step_world.specs.declared.machine.Machine.{Machine}
 use Rattle.step_world.specs.declared.thread.Thread.{Thread}
 use Rattle.step_world.specs.declared.thread.Wait.TheVariants as wait
-use Rattle.step_world.specs.Shows.{wait_of}
-use Rattle.step_world.specs.Steps.{May, Makes, KeepsAsides, KeepsBooks}
+use Rattle.step_world.specs.Represents.{wait_of}
+use Rattle.step_world.specs.Steps.{May, Makes, KeepsProgress, KeepsBooks}
 use Rattle.step_world.specs.Runs.{IsRunOf, IsFree, IsAtOperation}
 use Rattle.step_world.proofs.Kit.{read}
 use Rattle.step_world.proofs.Ends.{aside_is}
@@ -26,7 +27,7 @@ use Rattle.step_world.proofs.Turning.{IsRow, of_books, stepped}
 -- what a resume promises
 pub record Resumes (m n : Machine) (t : ℕ) : Type 0 where
   pub step : (q : QueueName) (cause : Cause) → Makes m n (λ c s. MayResume c s t q cause) (λ c s. after_resume c s t q cause)
-  pub aside : KeepsAsides m n
+  pub progress : KeepsProgress m n
   pub books : KeepsBooks m n
 
 module _ (plan : Plan) (chains : ℕ) (m : Machine) (r : Run) (t : ℕ) (th : Thread) (lt : t < length plan.threads) (h : IsRunOf plan chains m r) (i : ℕ) (same_number : i ≡ t) (got : th ≡ get_or m.threads.items i th) where
@@ -61,7 +62,7 @@ module _ (plan : Plan) (chains : ℕ) (m : Machine) (r : Run) (t : ℕ) (th : Th
 
     pub resumed : (n : Machine) → Resumes m n t → IsRow plan chains n (Did kinds.Resume) (by_wait plan c r t (s.wait t))
     resumed n a = subst (λ w. IsRow plan chains n (Did kinds.Resume) (by_wait plan c r t w)) (sym woken)
-        (refl, stepped plan chains m r h.shows n (after_resume c s t (lock_queue l.0) BySignal) (a.step (lock_queue l.0) BySignal c s h.shows.shows h.on_track.lawful resume_may) a.aside (of_books m n a.books))
+        (refl, stepped plan chains m r h.shows n (after_resume c s t (lock_queue l.0) BySignal) (a.step (lock_queue l.0) BySignal c s h.shows.shows h.on_track.lawful resume_may) a.progress (of_books m n a.books))
 
   -- 3. A running one
 

@@ -8,8 +8,8 @@ use Rattle.std.proofs.lemmas.List.Folds.{list_all_at}
 use Rattle.std.proofs.lemmas.List.FromFn.{length-range_with_len, get_or-range_with_len}
 use Rattle.std.proofs.lemmas.List.Sums.{list_all-from_AllPass}
 use Rattle.lock_model.specs.Counts.{is_empty}
-use Rattle.lock_model.specs.Run as run
-use Rattle.lock_model.specs.Run.{Run, is_stuck, is_over, go_on, course_after, all_ended, has_ended, threads_of, round_of, with_turn, after_turn}
+use Rattle.lock_state.specs.Run as run
+use Rattle.lock_state.specs.Run.{Run, is_stuck, is_over, go_on, course_after, all_ended, has_ended, threads_of, round_of, with_turn, after_turn}
 use Rattle.lock_model.specs.declared.plan.Plan.{Plan}
 use Rattle.lock_model.specs.declared.numbers.ThreadNo.{ThreadNo}
 

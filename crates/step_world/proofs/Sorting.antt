@@ -3,10 +3,11 @@ use Rattle.std.proofs.Common.{◌≡◌, ◌≢◌, ℕ, ◌+◌, ◌<◌, ◌�
 use Rattle.std.specs.Option.{is_some}
 use Rattle.std.specs.Vec.{with_item}
 use Rattle.std.proofs.lemmas.Bool.{lt-ltb}
-use Rattle.lock_model.specs.State.{Config, State, Lists}
-use Rattle.lock_model.specs.Facts.{Lawful}
-use Rattle.lock_model.specs.MovesOfLoans.{MayShift, after_shift, walk_up}
-use Rattle.lock_model.specs.Queues.{lock_queue, stands, with_kept}
+use Rattle.lock_model.specs.Config.{Config}
+use Rattle.lock_state.specs.State.{State}
+use Rattle.lock_model.specs.Queues.{Lists, lock_queue, stands, with_kept}
+use Rattle.lock_state.specs.Facts.{Lawful}
+use Rattle.lock_state.specs.Steps.Lending.{MayShift, after_shift, walk_up}
 use Rattle.lock_model.specs.declared.plan.QueueName.{QueueName}
 use Rattle.lock_laws.proofs.Kit.{put_same, put_other, put_lock_same, put_lock_other}
 use Rattle.lock_laws.proofs.Standing.{standing_thread}
@@ -20,7 +21,7 @@ use Rattle.prio_lending.specs.Hops.{with_contents}
 use Rattle.prio_lending.specs.Hops as hops
 use Rattle.step_world.specs.declared.machine.Machine.{Machine}
 use Rattle.step_world.specs.declared.thread.Thread.{Thread}
-use Rattle.step_world.specs.Shows.{Shows, ShowsHead, ShowsQueues, ShowsThread, walk_of}
+use Rattle.step_world.specs.Represents.{Represents, RepresentsHead, RepresentsQueues, RepresentsThread, walk_of}
 use Rattle.step_world.proofs.Kit.{SameAt, thread_changed}
 use Rattle.step_world.proofs.HeadsInChains.{IsHead, found}
 use Rattle.step_world.proofs.KitOfQueues.{SameQueue, queues_placed}
@@ -39,7 +40,7 @@ not_walking s t o l u n = record {
   effective = refl;
   turnstile = refl;
   loan = λ k. refl;
-  named = refl;
+  blocked_on = refl;
   wait = refl;
   walk = put_other s.walk t _ u (λ e. n (sym e));
   wanted = refl;
@@ -47,7 +48,7 @@ not_walking s t o l u n = record {
   marked = refl;
 }
 
-walks : (s : State) (t o l : ℕ) (w : Thread) (b : Bool) → b ≡ is_some (s.owner (lock_queue l)) → ShowsThread w s t → ShowsThread (record w { walk = hops.walk_up l b }) (after_shift s t o l) t
+walks : (s : State) (t o l : ℕ) (w : Thread) (b : Bool) → b ≡ is_some (s.owner (lock_queue l)) → RepresentsThread w s t → RepresentsThread (record w { walk = hops.walk_up l b }) (after_shift s t o l) t
 unfolding after_shift
 walks s t o l w b e h = record {
   number = h.number;
@@ -56,7 +57,7 @@ walks s t o l w b e h = record {
   turnstile = h.turnstile;
   loans = h.loans;
   one_loan_each = h.one_loan_each;
-  named = h.named;
+  blocked_on = h.blocked_on;
   wait = h.wait;
   walk = ap (λ d. walk_of (hops.walk_up l d)) e ∙ walk_same l (s.owner (lock_queue l)) ∙ sym (put_same s.walk t _);
   wanted = h.wanted;
@@ -79,7 +80,7 @@ other_queues s t o l k n = record {
 
 -- 2. The turnstile with the waiter at its new place
 
-module _ {m : Machine} {c : Config} {s : State} {t o l : ℕ} (h : Shows c m s) (lawful : Lawful c s) (g : MayShift c s t o l) where
+module _ {m : Machine} {c : Config} {s : State} {t o l : ℕ} (h : Represents c m s) (lawful : Lawful c s) (g : MayShift c s t o l) where
   abbrev queue : QueueName
   queue = lock_queue l
 
@@ -98,7 +99,7 @@ module _ {m : Machine} {c : Config} {s : State} {t o l : ℕ} (h : Shows c m s) 
   waits_once : (u : ℕ) → times_in u box.exclusive + times_in u box.shared ≤ 1
   waits_once u = omega (arith, times_in-same u box.exclusive, times_in-same u box.shared, subst (λ (q : Lists). stands u q ≤ 1) head_there.2.lists (laws.once c s u queue lawful))
 
-  sorted_box : ShowsHead (moved o (s.effective o) box) (after_shift s t o l).lists s.free_list s.head s.owner s.loan_home queue
+  sorted_box : RepresentsHead (moved o (s.effective o) box) (after_shift s t o l).lists s.free_list s.head s.owner s.loan_home queue
   unfolding after_shift
   sorted_box =
       let old = head_there.2 in
@@ -131,13 +132,13 @@ module _ {m : Machine} {c : Config} {s : State} {t o l : ℕ} (h : Shows c m s) 
           ∙ ap (λ u. (queue, with_contents (moved u r.effective box) head_there.0) ∷ without queue m.chain) its_thread
           ∙ ap (λ p. (queue, with_contents (moved o p box) head_there.0) ∷ without queue m.chain) its_effective
 
-      queues_shown : ShowsQueues chain (after_shift s t o l).lists s.free_list s.head s.owner s.loan_home
+      queues_shown : RepresentsQueues chain (after_shift s t o l).lists s.free_list s.head s.owner s.loan_home
       unfolding after_shift
       queues_shown =
-          subst (λ (x : List (QueueName × Turnstile)). ShowsQueues x (after_shift s t o l).lists s.free_list s.head s.owner s.loan_home) (sym chain_is)
+          subst (λ (x : List (QueueName × Turnstile)). RepresentsQueues x (after_shift s t o l).lists s.free_list s.head s.owner s.loan_home) (sym chain_is)
           (queues_placed m.chain s (after_shift s t o l) l h.queues (other_queues s t o l) (with_contents (moved o (s.effective o) box) head_there.0) sorted_box)
 
-      pub sorted_shown : Shows c (record m { chain = chain; threads = with_item m.threads t (record w { walk = hops.walk_up l owned }) }) (after_shift s t o l)
+      pub sorted_shown : Represents c (record m { chain = chain; threads = with_item m.threads t (record w { walk = hops.walk_up l owned }) }) (after_shift s t o l)
       unfolding after_shift
       sorted_shown = record {
         within = h.within;

@@ -2,10 +2,11 @@
 use Rattle.std.proofs.Common.{◌≡◌, ◌≢◌, ℕ, ◌<◌, ◌≤◌, List, [], ◌∷◌, ◌++◌, length, reverse, slice_get, slice_set, Option, Some, None, option_map, refl, sym, ap, subst, ◌∙◌, arith}
 use Rattle.std.proofs.lemmas.List.{reverse-append, length-reverse}
 use Rattle.std.specs.Box.{with_value}
-use Rattle.lock_model.specs.Facts.{Lawful, NextIsNew}
+use Rattle.lock_state.specs.Facts.{Lawful, NextIsNew}
 use Rattle.lock_model.specs.History.{edited, tables_of}
-use Rattle.lock_model.specs.Moves.{MayStamp, after_stamp, effective_of, prio_of, entry_of}
-use Rattle.lock_model.specs.State.{Config, State, Loan}
+use Rattle.lock_state.specs.Steps.LockWords.{MayStamp, after_stamp, effective_of, prio_of, entry_of}
+use Rattle.lock_model.specs.Config.{Config}
+use Rattle.lock_state.specs.State.{State, Loan}
 use Rattle.lock_model.specs.declared.numbers.Prio.{Prio}
 use Rattle.lock_model.specs.declared.numbers.ThreadNo.{ThreadNo}
 use Rattle.lock_model.specs.declared.event.Entry.{Entry}
@@ -20,8 +21,8 @@ use Rattle.thread_records.specs.Records.{Record, with_base}
 use Rattle.step_world.specs.declared.machine.Machine.{Machine}
 use Rattle.step_world.specs.declared.thread.Thread.{Thread}
 use Rattle.step_world.specs.Bases.{HasNewBase, HasBaseAfter}
-use Rattle.step_world.specs.Shows.{Shows, ShowsWords, ShowsQueues, ShowsThread, ShowsThreads, loan_of}
-use Rattle.step_world.specs.Steps.{aside_of}
+use Rattle.step_world.specs.Represents.{Represents, RepresentsWords, RepresentsQueues, RepresentsThread, RepresentsThreads, loan_of}
+use Rattle.step_world.specs.Steps.{progress_of}
 use Rattle.step_world.proofs.Kit.{SameAt, thread_changed, threads_stay, aside_stays}
 use Rattle.step_world.proofs.Loans.{least_with-by_lock}
 
@@ -48,7 +49,7 @@ prio_seen None = refl
 prio_seen (Some t) = refl
 
 -- the least of a base and the record's loans is that of the base and the column's
-effective_seen : (c : Config) (s : State) (th : Thread) (t p : ℕ) → Lawful c s → ShowsThread th s t → least_with p (prios th.record.value.loans) ≡ effective_of c (s.loan t) p
+effective_seen : (c : Config) (s : State) (th : Thread) (t p : ℕ) → Lawful c s → RepresentsThread th s t → least_with p (prios th.record.value.loans) ≡ effective_of c (s.loan t) p
 effective_seen c s th t p lawful h =
     least_with-by_lock c.locks p th.record.value.loans (λ l. prio_of (s.loan t l)) (λ l. prio_seen (loan_for l th.record.value.loans) ∙ ap prio_of (h.loans l)) (λ l above. none l above (s.loan t l) refl) h.one_loan_each
   where
@@ -69,7 +70,7 @@ module _ (c : Config) (s : State) (t : ℕ) (p : Prio) where
     effective = put_other s.effective t _ u (λ e. ne (sym e));
     turnstile = refl;
     loan = λ l. refl;
-    named = refl;
+    blocked_on = refl;
     wait = refl;
     walk = refl;
     wanted = refl;
@@ -77,16 +78,16 @@ module _ (c : Config) (s : State) (t : ℕ) (p : Prio) where
     marked = refl;
   }
 
-  based : (b r : Thread) → Lawful c s → ShowsThread b s t → r.record.value ≡ with_base p.0 b.record.value → r ≡ record b { «record» = r.record } → ShowsThread r n t
+  based : (b r : Thread) → Lawful c s → RepresentsThread b s t → r.record.value ≡ with_base p.0 b.record.value → r ≡ record b { «record» = r.record } → RepresentsThread r n t
   unfolding after_stamp
-  based b r lawful old is same = subst (λ (o : Thread). ShowsThread o n t) (sym same) (record {
+  based b r lawful old is same = subst (λ (o : Thread). RepresentsThread o n t) (sym same) (record {
     number = ap (λ (v : Record). v.thread) is ∙ old.number;
     base = ap (λ (v : Record). v.base) is ∙ sym (put_same s.base t p.0);
     effective = ap (λ (v : Record). v.effective) is ∙ effective_seen c s b t p.0 lawful old ∙ sym (put_same s.effective t _);
     turnstile = ap (λ (v : Record). v.turnstile) is ∙ old.turnstile;
     loans = λ l. ap (λ (v : Record). option_map loan_of (loan_for l v.loans)) is ∙ old.loans l;
     one_loan_each = λ l. subst (λ (v : Record). loans_for l v.loans ≤ 1) (sym is) (old.one_loan_each l);
-    named = ap (λ (v : Record). v.on) is ∙ old.named;
+    blocked_on = ap (λ (v : Record). v.on) is ∙ old.blocked_on;
     wait = old.wait;
     walk = old.walk;
     wanted = old.wanted;
@@ -97,19 +98,19 @@ module _ (c : Config) (s : State) (t : ℕ) (p : Prio) where
     filled = old.filled;
   })
 
-  based_all : (old new : List Thread) → HasNewBase p.0 t old new → t < c.threads → Lawful c s → ShowsThreads old c s → ShowsThreads new c n
+  based_all : (old new : List Thread) → HasNewBase p.0 t old new → t < c.threads → Lawful c s → RepresentsThreads old c s → RepresentsThreads new c n
   based_all old new h lt lawful shows =
-      subst (λ (ths : List Thread). ShowsThreads ths c n) (sym h.is) (thread_changed old c s n t h.behind shows lt (based h.before h.behind lawful (shows.thread t h.before h.was) h.its_record h.others) others)
+      subst (λ (ths : List Thread). RepresentsThreads ths c n) (sym h.is) (thread_changed old c s n t h.behind shows lt (based h.before h.behind lawful (shows.thread t h.before h.was) h.its_record h.others) others)
 
-noted_all : (c : Config) (s : State) (t : ℕ) (e : Event) (old new : List Thread) → HasBaseAfter e t old new → t < c.threads → Lawful c s → ShowsThreads old c s → ShowsThreads new c (after_stamp c s t e)
+noted_all : (c : Config) (s : State) (t : ℕ) (e : Event) (old new : List Thread) → HasBaseAfter e t old new → t < c.threads → Lawful c s → RepresentsThreads old c s → RepresentsThreads new c (after_stamp c s t e)
 unfolding after_stamp
 noted_all c s t (Base p) old new h lt lawful shows = based_all c s t p old new h lt lawful shows
-noted_all c s t other old new h lt lawful shows = subst (λ (ths : List Thread). ShowsThreads ths c (after_stamp c s t other)) (sym h) (threads_stay old c s (after_stamp c s t other) shows (λ u. record {
+noted_all c s t other old new h lt lawful shows = subst (λ (ths : List Thread). RepresentsThreads ths c (after_stamp c s t other)) (sym h) (threads_stay old c s (after_stamp c s t other) shows (λ u. record {
   base = refl;
   effective = refl;
   turnstile = refl;
   loan = λ l. refl;
-  named = refl;
+  blocked_on = refl;
   wait = refl;
   walk = refl;
   wanted = refl;
@@ -118,9 +119,9 @@ noted_all c s t other old new h lt lawful shows = subst (λ (ths : List Thread).
 }))
 
 -- what no column tells of a thread stays
-pub asides_kept : (e : Event) (t : ℕ) (old new : List Thread) → HasBaseAfter e t old new → (u : ℕ) → option_map aside_of (slice_get new u) ≡ option_map aside_of (slice_get old u)
-asides_kept (Base p) t old new h u = ap (λ (ths : List Thread). option_map aside_of (slice_get ths u)) h.is ∙ aside_stays old t h.behind h.before h.was (ap aside_of h.others) u
-asides_kept other t old new h u = ap (λ (ths : List Thread). option_map aside_of (slice_get ths u)) h
+pub asides_kept : (e : Event) (t : ℕ) (old new : List Thread) → HasBaseAfter e t old new → (u : ℕ) → option_map progress_of (slice_get new u) ≡ option_map progress_of (slice_get old u)
+asides_kept (Base p) t old new h u = ap (λ (ths : List Thread). option_map progress_of (slice_get ths u)) h.is ∙ aside_stays old t h.behind h.before h.was (ap progress_of h.others) u
+asides_kept other t old new h u = ap (λ (ths : List Thread). option_map progress_of (slice_get ths u)) h
 
 -- 3. The history
 
@@ -134,12 +135,12 @@ history_seen log s t e ticket shows is new =
 pub stamped : (m n : Machine) (c : Config) (s : State) (t : ThreadNo) (e : Event) (ticket : ℕ) → n ≡ record m { threads = n.threads; log = n.log; tables = n.tables }
     → HasBaseAfter e t.0 m.threads.items n.threads.items → n.tables.present ≡ edited e m.tables.present
     → n.log.entries ≡ m.log.entries ++ (record { ticket = ticket; thread = t; event = e }) ∷ [] → ticket ≡ length m.log.entries
-    → Shows c m s → Lawful c s → MayStamp c s t.0 e → Shows c n (after_stamp c s t.0 e)
+    → Represents c m s → Lawful c s → MayStamp c s t.0 e → Represents c n (after_stamp c s t.0 e)
 unfolding after_stamp tables_of
 stamped m n c s t e ticket same threads tables log is h lawful g = record {
   within = h.within;
-  words = subst (λ (k : Machine). ShowsWords k.words.items c s.word) (sym same) h.words;
-  queues = subst (λ (k : Machine). ShowsQueues k.chain s.lists s.free_list s.head s.owner s.loan_home) (sym same) h.queues;
+  words = subst (λ (k : Machine). RepresentsWords k.words.items c s.word) (sym same) h.words;
+  queues = subst (λ (k : Machine). RepresentsQueues k.chain s.lists s.free_list s.head s.owner s.loan_home) (sym same) h.queues;
   threads = noted_all c s t.0 e m.threads.items n.threads.items threads g.thread lawful h.threads;
   history = log ∙ history_seen m.log.entries s t e ticket h.history is lawful.next_is_new;
   tables = tables ∙ ap (edited e) h.tables;

@@ -1,6 +1,6 @@
 -- A course after so many turns: one turn more, and a run that is over.
 use Rattle.std.proofs.Common.{◌≡◌, ℕ, zero, suc, ◌+◌, ◌-◌, ◌≤◌, Bool, true, false, cond, add-one, ap, ◌∙◌, arith}
-use Rattle.lock_model.specs.Run.{is_over, go_on, after_turn, start_course, course_after}
+use Rattle.lock_state.specs.Run.{is_over, go_on, after_turn, start_course, course_after}
 use Rattle.lock_model.specs.declared.plan.Plan.{Plan}
 use Rattle.step_world.specs.declared.schedule.Course.{Course}
 use Rattle.step_world.specs.Courses.{IsCourse}

@@ -1,15 +1,17 @@
 -- A woken thread runs again.
 use Rattle.std.proofs.Common.{◌≡◌, ◌≢◌, ℕ, slice_get, Some, refl, sym, subst, ◌∙◌}
 use Rattle.std.specs.Vec.{with_item}
-use Rattle.lock_model.specs.State.{Config, State, Wait, Running, Queued, Woken, Cause}
-use Rattle.lock_model.specs.MovesOfQueues.{MayResume, after_resume, wanted_after, is_taking_back}
+use Rattle.lock_model.specs.Config.{Config}
+use Rattle.lock_state.specs.State.{State, Wait, Running, Queued, Woken}
+use Rattle.lock_model.specs.Queues.{Cause}
+use Rattle.lock_state.specs.Steps.Turnstiles.{MayResume, after_resume, wanted_after, is_taking_back}
 use Rattle.lock_model.specs.declared.plan.QueueName.{QueueName}
 use Rattle.lock_laws.proofs.Kit.{put_same, put_other}
 use Rattle.step_world.specs.declared.machine.Machine.{Machine}
 use Rattle.step_world.specs.declared.thread.Thread.{Thread}
 use Rattle.step_world.specs.declared.thread.Wait as waits
 use Rattle.step_world.specs.declared.thread.Wait.TheVariants as wait
-use Rattle.step_world.specs.Shows.{Shows, wait_of}
+use Rattle.step_world.specs.Represents.{Represents, wait_of}
 use Rattle.step_world.proofs.Kit.{SameAt, thread_changed}
 
 -- the thread with a wait word that says Running
@@ -23,7 +25,7 @@ others c s t q cause u n = record {
   effective = refl;
   turnstile = refl;
   loan = λ l. refl;
-  named = refl;
+  blocked_on = refl;
   wait = put_other s.wait t Running u (λ e. n (sym e));
   walk = refl;
   wanted = put_other s.wanted t _ u (λ e. n (sym e));
@@ -43,7 +45,7 @@ still_wants c s t q cause wait.Running e back = absurd (cc)
 still_wants c s t q cause wait.Queued e back = absurd (cc)
 
 pub resumed : (m : Machine) (c : Config) (s : State) (t : ℕ) (th : Thread) (q : QueueName) (cause : Cause) → slice_get m.threads.items t ≡ Some th
-    → Shows c m s → MayResume c s t q cause → Shows c (record m { threads = with_item m.threads t (running th) }) (after_resume c s t q cause)
+    → Represents c m s → MayResume c s t q cause → Represents c (record m { threads = with_item m.threads t (running th) }) (after_resume c s t q cause)
 unfolding after_resume
 resumed m c s t th q cause at h g =
     let old = h.threads.thread t th at in
@@ -58,7 +60,7 @@ resumed m c s t th q cause at h g =
         turnstile = old.turnstile;
         loans = old.loans;
         one_loan_each = old.one_loan_each;
-        named = old.named;
+        blocked_on = old.blocked_on;
         wait = sym (put_same s.wait t Running);
         walk = old.walk;
         wanted = old.wanted ∙ sym (still_wants c s t q cause th.wait (old.wait ∙ g.woken) (is_taking_back (s.log t))) ∙ sym (put_same s.wanted t _);

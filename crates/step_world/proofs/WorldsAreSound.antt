@@ -2,15 +2,15 @@
 use Rattle.std.proofs.Common.{ℕ, ◌<◌, length}
 use Rattle.lock_model.specs.Operations.{IsProper}
 use Rattle.lock_model.specs.Plans.{config_of}
-use Rattle.lock_model.specs.Run.{Run, start_run, turn_of}
+use Rattle.lock_state.specs.Run.{Run, start_run, turn_of}
 use Rattle.lock_model.specs.declared.plan.Plan.{Plan}
 use Rattle.lock_model.specs.declared.turn.Turn.{Turn}
 use Rattle.lock_laws.proofs.Turning.{begins, stays}
-use Rattle.step_world.specs.Runs.{ShowsRun, IsRunOf, Follows}
+use Rattle.step_world.specs.Runs.{RepresentsRun, IsRunOf, Follows}
 use Rattle.step_world.specs.declared.machine.Machine.{Machine}
 
 -- what a machine shows at the begin
-pub at_begin : (plan : Plan) (chains : ℕ) (m : Machine) → IsProper plan → ShowsRun plan chains m (start_run (config_of plan chains)) → IsRunOf plan chains m (start_run (config_of plan chains))
+pub at_begin : (plan : Plan) (chains : ℕ) (m : Machine) → IsProper plan → RepresentsRun plan chains m (start_run (config_of plan chains)) → IsRunOf plan chains m (start_run (config_of plan chains))
 at_begin plan chains m p h = record { shows = h; on_track = begins plan chains p }
 
 -- and behind a turn

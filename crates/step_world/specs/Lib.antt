@@ -1,4 +1,4 @@
-pub mod Shows
+pub mod Represents
 pub mod Threads
 pub mod Bases
 pub mod Steps

@@ -1,49 +1,50 @@
 -- What a method of a machine promises: where the objects show a lawful state in which a step may be made, they show the state behind it.
 use Rattle.std.specs.Prelude.{◌≡◌, ℕ, ◌<◌, ◌==◌, if◌then◌else◌, List, length, slice_get, option_map, Option, IfSome}
 use Rattle.std.specs.List.{Contains}
-use Rattle.lock_model.specs.State.{Config, State}
-use Rattle.lock_model.specs.Facts.{Lawful}
+use Rattle.lock_model.specs.Config.{Config}
+use Rattle.lock_state.specs.State.{State}
+use Rattle.lock_state.specs.Facts.{Lawful}
 use Rattle.lock_model.specs.declared.event.Event.{Event}
 use Rattle.lock_model.specs.declared.event.Event.TheVariants.{Set, Added}
 use Rattle.lock_model.specs.declared.event.Held.{Held}
 use Rattle.step_world.specs.declared.thread.Thread.{Thread}
 use Rattle.step_world.specs.declared.machine.Machine.{Machine}
-use Rattle.step_world.specs.Shows.{Shows}
+use Rattle.step_world.specs.Represents.{Represents}
 
 -- 1. Steps
 
 -- the machine shows a lawful state in which the step may be made
 abbrev pub May : Machine → (Config → State → Type 0) → Type 0
-May m guard = (c : Config) × (s : State) × Shows c m s × Lawful c s × guard c s
+May m guard = (c : Config) × (s : State) × Represents c m s × Lawful c s × guard c s
 
 -- whatever lawful state it showed in which the step may be made, it shows the state behind it
 abbrev pub Makes : Machine → Machine → (Config → State → Type 0) → (Config → State → State) → Type 0
-Makes old new guard effect = (c : Config) (s : State) → Shows c old s → Lawful c s → guard c s → Shows c new (effect c s)
+Makes old new guard effect = (c : Config) (s : State) → Represents c old s → Lawful c s → guard c s → Represents c new (effect c s)
 
 -- 2. What no column tells: how far each thread is, and the list of what it holds in order of acquisition
 
-pub record Aside : Type 0 where
+pub record Progress : Type 0 where
   pub place : ℕ
   pub held : List Held
 
-abbrev pub aside_of : Thread → Aside
-aside_of th = record { place = th.place; held = th.held.items }
+abbrev pub progress_of : Thread → Progress
+progress_of th = record { place = th.place; held = th.held.items }
 
 -- of one thread
-abbrev pub aside : Machine → ℕ → Option Aside
-aside m t = option_map aside_of (slice_get m.threads.items t)
+abbrev pub progress : Machine → ℕ → Option Progress
+progress m t = option_map progress_of (slice_get m.threads.items t)
 
 -- this of all threads stays
-abbrev pub KeepsAsides : Machine → Machine → Type 0
-KeepsAsides old new = (u : ℕ) → aside new u ≡ aside old u
+abbrev pub KeepsProgress : Machine → Machine → Type 0
+KeepsProgress old new = (u : ℕ) → progress new u ≡ progress old u
 
 -- that of one thread changes, and that of the others stays
-abbrev pub ChangesAside : Machine → Machine → ℕ → (Aside → Aside) → Type 0
-ChangesAside old new t f = (u : ℕ) → aside new u ≡ (if u == t then option_map f (aside old u) else aside old u)
+abbrev pub ChangesProgress : Machine → Machine → ℕ → (Progress → Progress) → Type 0
+ChangesProgress old new t f = (u : ℕ) → progress new u ≡ (if u == t then option_map f (progress old u) else progress old u)
 
 -- fewer locks than a thread may hold
 abbrev pub HoldsFew : Machine → ℕ → Type 0
-HoldsFew m t = IfSome (aside m t) (λ a. length a.held < 8)
+HoldsFew m t = IfSome (progress m t) (λ a. length a.held < 8)
 
 -- 3. Room
 

@@ -1,7 +1,7 @@
 -- What a world is seen as, and which run of its plan it shows.
 use Rattle.std.specs.Prelude.{ℕ, ◌≤◌}
 use Rattle.lock_model.specs.Operations.{IsProper}
-use Rattle.lock_model.specs.Run.{Run}
+use Rattle.lock_state.specs.Run.{Run}
 use Rattle.lock_model.specs.declared.plan.Plan.{Plan}
 use Rattle.step_world.specs.declared.machine.Machine.{Machine}
 use Rattle.step_world.specs.Runs.{IsRunOf}
@@ -13,12 +13,12 @@ pub record World : Type 0 where
   pub machine : Machine
 
 -- the world shows the run, which is on track: so its state is lawful
-abbrev pub Shows : World → Run → Type 0
-Shows w r = IsRunOf w.plan w.chains w.machine r
+abbrev pub Represents : World → Run → Type 0
+Represents w r = IsRunOf w.plan w.chains w.machine r
 
 -- what is true of each world: its plan is proper, and it shows a run on track
 pub record IsSound (w : World) : Type 0 where
   pub proper : IsProper w.plan
   pub some_chains : 1 ≤ w.chains
   pub few_chains : w.chains ≤ 64
-  pub run : (r : Run) × Shows w r
+  pub run : (r : Run) × Represents w r

@@ -3,11 +3,12 @@
 ghost use Rattle.std.specs.Prelude.{◌≡◌, ◌<◌, ◌+◌, ◌^◌, suc, ℕ, map, sum, length, IfOk, IfSome};
 ghost use Rattle.lock_model.specs.Operations.{IsProper, operations_in_all};
 ghost use Rattle.lock_model.specs.Plans.{config_of};
-ghost use Rattle.lock_model.specs.Run.{start_run};
-ghost use Rattle.lock_model.specs.State.{Config, State};
-ghost use Rattle.step_world.specs.Runs.{ShowsRun, AreNew};
-ghost use Rattle.step_world.specs.Shows.{Shows};
-ghost use Rattle.step_world.specs.Steps.{aside, ChangesAside, KeepsBooks};
+ghost use Rattle.lock_state.specs.Run.{start_run};
+ghost use Rattle.lock_model.specs.Config.{Config};
+ghost use Rattle.lock_state.specs.State.{State};
+ghost use Rattle.step_world.specs.Runs.{RepresentsRun, AreNew};
+ghost use Rattle.step_world.specs.Represents.{Represents};
+ghost use Rattle.step_world.specs.Steps.{progress, ChangesProgress, KeepsBooks};
 
 use crate::thread::Thread;
 use chain_table::Chain;
@@ -40,7 +41,7 @@ impl Machine {
     /// All objects at home, all locks free, and memory for every entry that the plan's operations can make.
     pub fn make(alloc: Global, plan: &Plan) -> Result<Machine, AllocError>
         requires { IsProper plan.now }
-        ensures { IfOk result (λ m. (chains : ℕ) → ShowsRun plan.now chains m (start_run (config_of plan.now chains))) }
+        ensures { IfOk result (λ m. (chains : ℕ) → RepresentsRun plan.now chains m (start_run (config_of plan.now chains))) }
     {
         Ok(Machine {
             words: vec![in alloc; 0; plan.locks.as_slice().len()]?,
@@ -54,9 +55,9 @@ impl Machine {
     /// The thread has its operation behind it.
     pub fn end_operation(&mut self, t: ThreadNo)
         requires thread { t.0 < length self.old.threads.items }
-        requires within { IfSome (aside self.old t.0) (λ a. a.place < 20000) }
-        ensures shows { (c : Config) (s : State) → Shows c self.old s → Shows c self.new s }
-        ensures aside { ChangesAside self.old self.new t.0 (λ a. record a { place = suc a.place }) }
+        requires within { IfSome (progress self.old t.0) (λ a. a.place < 20000) }
+        ensures shows { (c : Config) (s : State) → Represents c self.old s → Represents c self.new s }
+        ensures progress { ChangesProgress self.old self.new t.0 (λ a. record a { place = suc a.place }) }
         ensures books { KeepsBooks self.old self.new }
     {
         self.threads[usize::from(t.0)].place += 1;

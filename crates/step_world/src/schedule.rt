@@ -4,12 +4,12 @@ ghost use Rattle.std.specs.List.{All};
 ghost use Rattle.lock_history.specs.Endings.{ending_of};
 ghost use Rattle.lock_history.specs.Outcomes.{outcome_seen};
 ghost use Rattle.lock_model.specs.Operations.{IsProper};
-ghost use Rattle.lock_model.specs.Run as run;
-ghost use Rattle.lock_model.specs.Run.{start_course, course_after, after_turn, with_turn, is_over, is_stuck, all_ended, round_of, scheduled_run, outcome_of};
-ghost use Rattle.lock_model.specs.Run.{ending_of as ending_of_course};
+ghost use Rattle.lock_state.specs.Run as run;
+ghost use Rattle.lock_state.specs.Run.{start_course, course_after, after_turn, with_turn, is_over, is_stuck, all_ended, round_of, scheduled_run, outcome_of};
+ghost use Rattle.lock_state.specs.Run.{ending_of as ending_of_course};
 ghost use Rattle.lock_model.specs.declared.plan.Plan as plans;
 ghost use Rattle.step_world.specs.Courses.{IsCourse, IsUnderWay};
-ghost use Rattle.step_world.specs.Worlds.{Shows};
+ghost use Rattle.step_world.specs.Worlds.{Represents};
 
 use crate::outcome::{finals, queue_lines};
 use crate::world::World;
@@ -166,7 +166,7 @@ impl<'p> Course<'p> {
 
 // Whether all threads have ended.
 fn all_ended(world: &World<'_>) -> bool
-    ensures { (r : run.Run) → Shows world.now r → result ≡ all_ended world.now.plan world.now.chains r }
+    ensures { (r : run.Run) → Represents world.now r → result ≡ all_ended world.now.plan world.now.chains r }
 {
     for t in 0..world.threads() {
         if !world.has_ended(ThreadNo(t)) {
@@ -178,7 +178,7 @@ fn all_ended(world: &World<'_>) -> bool
 
 // A round goes over the threads that haven't ended, by number.
 fn put_round(world: &World<'_>, coming: &mut Vec<ThreadNo>) -> Result<(), AllocError>
-    ensures round { OnOk result ((r : run.Run) → Shows world.now r → map (λ t. t.0) coming.new.items ≡ round_of world.now.plan world.now.chains r) }
+    ensures round { OnOk result ((r : run.Run) → Represents world.now r → map (λ t. t.0) coming.new.items ≡ round_of world.now.plan world.now.chains r) }
     ensures threads { OnOk result (All (λ t. t.0 < length world.now.plan.threads) coming.new.items) }
 {
     coming.clear();

@@ -1,14 +1,15 @@
 //! The table of turns: which steps a thread makes when it has its turn. Each function is a row, or the operations of one sort, and follows the
 //! definition of the same name in `lock_model`'s `specs/Run.antt`.
 ghost use Rattle.std.specs.Prelude.{◌≡◌, ◌<◌, [], length, slice_get, Some, ℕ, nat_lt, option_map, MatchOption};
-ghost use Rattle.lock_model.specs.Facts.{Lawful};
+ghost use Rattle.lock_state.specs.Facts.{Lawful};
 ghost use Rattle.lock_model.specs.Operations.{IsProper};
 ghost use Rattle.lock_model.specs.Plans.{config_of, operations_of};
-ghost use Rattle.lock_model.specs.Run.{Run, turn_of, has_ended, by_walk, by_wait, operates, takes, releases, notes, walks_at_lock, walks_at_thread};
-ghost use Rattle.lock_model.specs.State.{Config, State, Running, NoWalk, AtLock, AtThread};
+ghost use Rattle.lock_state.specs.Run.{Run, turn_of, has_ended, by_walk, by_wait, operates, takes, releases, notes, walks_at_lock, walks_at_thread};
+ghost use Rattle.lock_model.specs.Config.{Config};
+ghost use Rattle.lock_state.specs.State.{State, Running, NoWalk, AtLock, AtThread};
 ghost use Rattle.lock_model.specs.Words.{word_of, IsWellFormed, shows_waiters, owner_of};
 ghost use Rattle.lock_model.specs.Queues.{lock_queue, stands};
-ghost use Rattle.step_world.specs.Shows.{Shows};
+ghost use Rattle.step_world.specs.Represents.{Represents};
 ghost use Rattle.step_world.specs.Runs.{HasRun, Follows, IsAtOperation, IsFree, IsNote, IsNowhere};
 
 use crate::machine::Machine;
@@ -64,7 +65,7 @@ fn walk_at_lock(machine: &mut Machine, plan: &Plan, t: ThreadNo, l: LockNo) -> T
 
 // The owner of the turnstile that is lent to a lock.
 fn owner_at(machine: &Machine, l: LockNo) -> Option<ThreadNo>
-    ensures { (c : Config) (s : State) → Shows c machine.now s → Lawful c s
+    ensures { (c : Config) (s : State) → Represents c machine.now s → Lawful c s
         → option_map (λ o. o.0) result ≡ s.owner (lock_queue l.0) }
 {
     match machine.chain.find(QueueName::Lock(l)) {
@@ -79,7 +80,7 @@ fn walk_at_thread(machine: &mut Machine, plan: &Plan, t: ThreadNo, o: ThreadNo) 
     requires thread { t.0 < length plan.now.threads }
     requires run { HasRun plan.now machine.old (λ chains r. r.state.walk t.0 ≡ AtThread o.0) }
     ensures { Follows plan.now machine.old machine.new result (λ chains r. r.state.walk t.0 ≡ AtThread o.0)
-        (λ chains r. walks_at_thread (config_of plan.now chains) r t.0 o.0 (r.state.named o.0)) }
+        (λ chains r. walks_at_thread (config_of plan.now chains) r t.0 o.0 (r.state.blocked_on o.0)) }
 {
     match stands_at(machine, o) {
         Some(l) => {
@@ -95,11 +96,11 @@ fn walk_at_thread(machine: &mut Machine, plan: &Plan, t: ThreadNo, o: ThreadNo) 
 
 // The lock on whose turnstile a thread stands.
 fn stands_at(machine: &Machine, o: ThreadNo) -> Option<LockNo>
-    ensures { (c : Config) (s : State) → Shows c machine.now s → Lawful c s → MatchOption result
+    ensures { (c : Config) (s : State) → Represents c machine.now s → Lawful c s → MatchOption result
         (IsNowhere s o.0)
-        (λ l. (s.named o.0 ≡ Some (lock_queue l.0)) × (0 < stands o.0 (s.lists (lock_queue l.0)))) }
+        (λ l. (s.blocked_on o.0 ≡ Some (lock_queue l.0)) × (0 < stands o.0 (s.lists (lock_queue l.0)))) }
 {
-    match named(machine, o) {
+    match blocked_on(machine, o) {
         Some(QueueName::Lock(l)) => { if waits(machine, o, l) { Some(l) } else { None } }
         Some(QueueName::Chan(_)) => None,
         None => None,
@@ -107,8 +108,8 @@ fn stands_at(machine: &Machine, o: ThreadNo) -> Option<LockNo>
 }
 
 // The queue that a thread's record names. There is none where the plan has no such thread.
-fn named(machine: &Machine, o: ThreadNo) -> Option<QueueName>
-    ensures { (c : Config) (s : State) → Shows c machine.now s → Lawful c s → result ≡ s.named o.0 }
+fn blocked_on(machine: &Machine, o: ThreadNo) -> Option<QueueName>
+    ensures { (c : Config) (s : State) → Represents c machine.now s → Lawful c s → result ≡ s.blocked_on o.0 }
 {
     match machine.threads.as_slice().get(usize::from(o.0)) {
         Some(thread) => thread.record.on(),
@@ -118,7 +119,7 @@ fn named(machine: &Machine, o: ThreadNo) -> Option<QueueName>
 
 // Whether a thread stands on the turnstile that is lent to a lock.
 fn waits(machine: &Machine, o: ThreadNo, l: LockNo) -> bool
-    ensures { (c : Config) (s : State) → Shows c machine.now s → Lawful c s
+    ensures { (c : Config) (s : State) → Represents c machine.now s → Lawful c s
         → result ≡ nat_lt 0 (stands o.0 (s.lists (lock_queue l.0))) }
 {
     match machine.chain.find(QueueName::Lock(l)) {

@@ -1,10 +1,10 @@
 //! The world of a scheduled run, and its turns.
 ghost use Rattle.std.specs.Prelude.{◌≡◌, ◌≤◌, ◌<◌, length, IfOk};
-ghost use Rattle.lock_model.specs.Facts.{Lawful};
+ghost use Rattle.lock_state.specs.Facts.{Lawful};
 ghost use Rattle.lock_model.specs.Operations.{IsProper};
 ghost use Rattle.lock_model.specs.Plans.{config_of};
-ghost use Rattle.lock_model.specs.Run.{Run, start_run, turn_of, has_ended};
-ghost use Rattle.step_world.specs.Worlds.{Shows};
+ghost use Rattle.lock_state.specs.Run.{Run, start_run, turn_of, has_ended};
+ghost use Rattle.step_world.specs.Worlds.{Represents};
 
 use crate::machine::Machine;
 use crate::turns::{operations, turn};
@@ -51,7 +51,7 @@ impl<'p> World<'p> {
         requires few_chains { chains ≤ 64 }
         ensures plan { IfOk result (λ w. w.plan ≡ plan.now) }
         ensures chains { IfOk result (λ w. w.chains ≡ chains) }
-        ensures begins { IfOk result (λ w. Shows w (start_run (config_of plan.now chains))) }
+        ensures begins { IfOk result (λ w. Represents w (start_run (config_of plan.now chains))) }
     {
         let machine = Machine::make(alloc, plan)?;
         Ok(World {
@@ -67,9 +67,9 @@ impl<'p> World<'p> {
         requires { t.0 < length self.old.plan.threads }
         ensures plan { self.new.plan ≡ self.old.plan }
         ensures chains { self.new.chains ≡ self.old.chains }
-        ensures answer { (r : Run) → Shows self.old r → result ≡ (turn_of self.old.plan self.old.chains r t.0).answer }
-        ensures turn { (r : Run) → Shows self.old r → Shows self.new (turn_of self.old.plan self.old.chains r t.0).run }
-        ensures lawful { (r : Run) × Shows self.new r × Lawful (config_of self.new.plan self.new.chains) r.state }
+        ensures answer { (r : Run) → Represents self.old r → result ≡ (turn_of self.old.plan self.old.chains r t.0).answer }
+        ensures turn { (r : Run) → Represents self.old r → Represents self.new (turn_of self.old.plan self.old.chains r t.0).run }
+        ensures lawful { (r : Run) × Represents self.new r × Lawful (config_of self.new.plan self.new.chains) r.state }
     {
         let world: &mut World<'p> = self;
         turn(&mut world.machine, world.plan, t)
@@ -78,7 +78,7 @@ impl<'p> World<'p> {
     /// Whether a thread, which the plan declares, has ended: its operations are done, it owes nothing and holds nothing.
     pub fn has_ended(&self, t: ThreadNo) -> bool
         requires { t.0 < length self.now.plan.threads }
-        ensures { (r : Run) → Shows self.now r → result ≡ has_ended self.now.plan self.now.chains r t.0 }
+        ensures { (r : Run) → Represents self.now r → result ≡ has_ended self.now.plan self.now.chains r t.0 }
     {
         self.machine.threads[usize::from(t.0)].has_ended(operations(self.plan, t))
     }

@@ -1,6 +1,6 @@
 -- In a list that ascends the first waiter has the least number.
 use Rattle.std.proofs.Common.{◌≡◌, ℕ, ◌≤◌, min, List, [], ◌∷◌, ◌++◌, map, Some, refl, ap, ◌∙◌, arith}
-use Rattle.lock_model.specs.State.{Waiter as Waiting}
+use Rattle.lock_model.specs.Queues.{Waiter as Waiting}
 use Rattle.turnstile_core.specs.Lists.{least_with, least}
 use Rattle.turnstile_core.specs.Changes.{Ascends}
 use Rattle.turnstile_core.proofs.Lists.{AtLeast}

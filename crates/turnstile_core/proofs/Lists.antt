@@ -3,7 +3,7 @@ use Rattle.std.proofs.Common.{◌≡◌, ℕ, ◌+◌, ◌≤◌, nat_eq, nat_lt
 use Rattle.std.specs.List.{AllByRecursion}
 use Rattle.std.proofs.lemmas.Bool.{ltb-true, ltb-false}
 use Rattle.std.proofs.lemmas.Grind.{common_steps}
-use Rattle.lock_model.specs.State.{Waiter as Waiting}
+use Rattle.lock_model.specs.Queues.{Waiter as Waiting}
 use Rattle.turnstile_core.specs.Lists.{insert, is_in, without}
 use Rattle.turnstile_core.specs.Changes.{Ascends, times_in}
 

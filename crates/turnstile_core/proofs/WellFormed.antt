@@ -1,7 +1,7 @@
 -- Each change of a turnstile keeps its lists in order and its free list one shorter than they are together.
 use Rattle.std.proofs.Common.{◌≡◌, ◌≢◌, ℕ, zero, suc, ◌+◌, ◌≤◌, ◌<◌, nat_eq, Bool, true, false, ◌||◌, cond, List, [], ◌∷◌, ◌++◌, length, drop, refl, subst, arith, length-drop}
 use Rattle.std.proofs.lemmas.Bool.{eqb-true}
-use Rattle.lock_model.specs.State.{Waiter as Waiting}
+use Rattle.lock_model.specs.Queues.{Waiter as Waiting}
 use Rattle.lock_model.specs.declared.plan.Side.{Side}
 use Rattle.lock_model.specs.declared.plan.Side.TheVariants.{X, S}
 use Rattle.turnstile_core.specs.Seen.{Contents}

@@ -1,7 +1,7 @@
 -- How the boxes of a turnstile are seen, and what is true of them.
 use Rattle.std.specs.Prelude.{◌≡◌, List, [], map, None, IfSome, is_some, option_map}
 use Rattle.std.specs.List.{AllByRecursion}
-use Rattle.lock_model.specs.State.{Waiter as Waiting}
+use Rattle.lock_model.specs.Queues.{Waiter as Waiting}
 use Rattle.turnstile_core.specs.Seen.{Place, Waiter, Contents, Turnstile, idle, idle_contents}
 use Rattle.turnstile_core.specs.Changes.{IsWellFormed}
 use Rattle.turnstile_core.specs.Linked.{linked_places, linked_contents, number_in}

@@ -1,7 +1,7 @@
 -- What is done to the lists of a turnstile (FreeBSD's subr_turnstile.c). A smaller priority number is more important.
 use Rattle.std.specs.Prelude.{◌≡◌, ℕ, ◌==◌, Bool, nat_lt, if◌then◌else◌, min, List, [], ◌∷◌, Option, None, Some, IsSome}
 use Rattle.std.specs.List.{list_any}
-use Rattle.lock_model.specs.State.{Waiter as Waiting}
+use Rattle.lock_model.specs.Queues.{Waiter as Waiting}
 use Rattle.turnstile_core.specs.Seen.{Place}
 
 -- a waiter put before the first one whose number is greater, so that equals stay in order of arrival

@@ -1,6 +1,6 @@
 -- Turnstiles, waiters and loans as their callers see them.
 use Rattle.std.specs.Prelude.{◌≡◌, ℕ, Bool, true, List, [], Option, None}
-use Rattle.lock_model.specs.State.{Waiter as Waiting}
+use Rattle.lock_model.specs.Queues.{Waiter as Waiting}
 
 -- who waits, by the priority that is kept for it, and the number of the turnstile that it takes back, or none
 pub record Place : Type 0 where

@@ -1,9 +1,9 @@
 //! Entries of the history.
 ghost use Rattle.std.specs.Prelude.{◌≡◌, ◌≤◌, ◌<◌, ◌+◌, length};
 ghost use Rattle.lock_model.specs.History.{edited};
-ghost use Rattle.lock_model.specs.Moves.{MayStamp, after_stamp};
+ghost use Rattle.lock_state.specs.Steps.LockWords.{MayStamp, after_stamp};
 ghost use Rattle.step_world.specs.Bases.{HasBaseAfter};
-ghost use Rattle.step_world.specs.Steps.{May, Makes, KeepsAsides, HasKey};
+ghost use Rattle.step_world.specs.Steps.{May, Makes, KeepsProgress, HasKey};
 
 use super::Machine;
 use lock_model::{Entry, Event, ThreadNo};
@@ -15,7 +15,7 @@ impl Machine {
         requires room { 1 ≤ self.old.log.spare }
         requires key { HasKey self.old event }
         ensures step { Makes self.old self.new (λ c s. MayStamp c s t.0 event) (λ c s. after_stamp c s t.0 event) }
-        ensures aside { KeepsAsides self.old self.new }
+        ensures progress { KeepsProgress self.old self.new }
         ensures places { self.new.tables.places ≡ self.old.tables.places }
         ensures room { length self.new.log.entries + self.new.log.spare ≡ length self.old.log.entries + self.old.log.spare }
     {

@@ -1,14 +1,14 @@
 //! Blocking on a turnstile, and waking from it.
 ghost use Rattle.std.specs.Prelude.{◌≡◌, ℕ, option_map, is_some, List, []};
-ghost use Rattle.lock_model.specs.State.{Mark, Cause};
-ghost use Rattle.lock_model.specs.MovesOfQueues.{MayBlock, after_block, MayOpen, after_open, MayMark, after_mark, MayResume, after_resume};
+ghost use Rattle.lock_model.specs.Queues.{Mark, Cause};
+ghost use Rattle.lock_state.specs.Steps.Turnstiles.{MayBlock, after_block, MayOpen, after_open, MayMark, after_mark, MayResume, after_resume};
 ghost use Rattle.lock_model.specs.Words.{word_of, IsWellFormed, owner_of};
 ghost use Rattle.lock_model.specs.Operations.{without_lock};
 ghost use Rattle.lock_model.specs.declared.plan.QueueName as names;
 ghost use Rattle.turnstile_core.specs.Seen.{idle, IsEmpty};
 ghost use Rattle.turnstile_core.specs.Changes.{begun};
 ghost use Rattle.prio_lending.specs.Hops.{walk_up};
-ghost use Rattle.step_world.specs.Steps.{May, Makes, KeepsAsides, ChangesAside, KeepsBooks};
+ghost use Rattle.step_world.specs.Steps.{May, Makes, KeepsProgress, ChangesProgress, KeepsBooks};
 
 use super::Machine;
 use crate::thread::Wait;
@@ -23,7 +23,7 @@ impl Machine {
     pub fn block(&mut self, t: ThreadNo, l: LockNo)
         requires may { May self.old (λ c s. (x : ℕ) × MayBlock c s t.0 l.0 Mode.Excl x) }
         ensures step { (x : ℕ) → Makes self.old self.new (λ c s. MayBlock c s t.0 l.0 Mode.Excl x) (λ c s. after_block s t.0 l.0 Mode.Excl x) }
-        ensures aside { KeepsAsides self.old self.new }
+        ensures progress { KeepsProgress self.old self.new }
         ensures books { KeepsBooks self.old self.new }
     {
         let i = usize::from(l.0);
@@ -50,7 +50,7 @@ impl Machine {
     pub fn open(&mut self, t: ThreadNo, l: LockNo)
         requires may { May self.old (λ c s. MayOpen c s t.0 l.0 Mode.Excl) }
         ensures step { Makes self.old self.new (λ c s. MayOpen c s t.0 l.0 Mode.Excl) (λ c s. after_open c s t.0 l.0) }
-        ensures aside { ChangesAside self.old self.new t.0 (λ a. record a { held = without_lock l.0 a.held }) }
+        ensures progress { ChangesProgress self.old self.new t.0 (λ a. record a { held = without_lock l.0 a.held }) }
         ensures books { KeepsBooks self.old self.new }
     {
         let i = usize::from(l.0);
@@ -76,7 +76,7 @@ impl Machine {
     pub fn mark(&mut self, t: ThreadNo)
         requires may { May self.old (λ c s. (m : Mark) × (ms : List Mark) × MayMark c s t.0 m ms) }
         ensures step { (m : Mark) (ms : List Mark) → Makes self.old self.new (λ c s. MayMark c s t.0 m ms) (λ c s. after_mark c s t.0 m ms) }
-        ensures aside { KeepsAsides self.old self.new }
+        ensures progress { KeepsProgress self.old self.new }
         ensures books { KeepsBooks self.old self.new }
     {
         let thread = &mut self.threads[usize::from(t.0)];
@@ -93,7 +93,7 @@ impl Machine {
     pub fn resume(&mut self, t: ThreadNo)
         requires may { May self.old (λ c s. (q : names.QueueName) × (cause : Cause) × MayResume c s t.0 q cause) }
         ensures step { (q : names.QueueName) (cause : Cause) → Makes self.old self.new (λ c s. MayResume c s t.0 q cause) (λ c s. after_resume c s t.0 q cause) }
-        ensures aside { KeepsAsides self.old self.new }
+        ensures progress { KeepsProgress self.old self.new }
         ensures books { KeepsBooks self.old self.new }
     {
         self.threads[usize::from(t.0)].wait = Wait::Running;

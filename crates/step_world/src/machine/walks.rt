@@ -2,10 +2,10 @@
 ghost use Rattle.std.specs.Prelude.{◌≡◌, ℕ, IfSome, is_some};
 ghost use Rattle.chain_table.specs.Chains.{head_of};
 ghost use Rattle.lock_model.specs.Queues.{names_turnstile};
-ghost use Rattle.lock_model.specs.State.{Config};
-ghost use Rattle.lock_model.specs.MovesOfLoans.{MayLend, after_lend, MayShift, after_shift, MayEndWalk, after_end_walk};
+ghost use Rattle.lock_model.specs.Config.{Config};
+ghost use Rattle.lock_state.specs.Steps.Lending.{MayLend, after_lend, MayShift, after_shift, MayEndWalk, after_end_walk};
 ghost use Rattle.lock_model.specs.declared.plan.Kind.TheVariants.{Mtx};
-ghost use Rattle.step_world.specs.Steps.{May, Makes, KeepsAsides, KeepsBooks};
+ghost use Rattle.step_world.specs.Steps.{May, Makes, KeepsProgress, KeepsBooks};
 
 use super::Machine;
 use chain_table::Chain;
@@ -19,7 +19,7 @@ impl Machine {
     pub fn lend_to(&mut self, t: ThreadNo, l: LockNo, owner: ThreadNo)
         requires may { May self.old (λ c s. (h : ℕ) × MayLend c s t.0 l.0 owner.0 h) }
         ensures step { (h : ℕ) → Makes self.old self.new (λ c s. MayLend c s t.0 l.0 owner.0 h) (λ c s. after_lend c s t.0 l.0 owner.0 h) }
-        ensures aside { KeepsAsides self.old self.new }
+        ensures progress { KeepsProgress self.old self.new }
         ensures books { KeepsBooks self.old self.new }
     {
         let Some(mut head) = self.chain.unplace(QueueName::Lock(l)) else {
@@ -36,7 +36,7 @@ impl Machine {
     pub fn sort_anew(&mut self, t: ThreadNo, o: ThreadNo, l: LockNo)
         requires may { May self.old (λ c s. MayShift c s t.0 o.0 l.0) }
         ensures step { Makes self.old self.new (λ c s. MayShift c s t.0 o.0 l.0) (λ c s. after_shift s t.0 o.0 l.0) }
-        ensures aside { KeepsAsides self.old self.new }
+        ensures progress { KeepsProgress self.old self.new }
         ensures books { KeepsBooks self.old self.new }
     {
         let owned = has_owner(&self.chain, l);
@@ -49,7 +49,7 @@ impl Machine {
     pub fn end_walk(&mut self, t: ThreadNo)
         requires may { May self.old (λ c s. MayEndWalk c s t.0) }
         ensures step { Makes self.old self.new (λ c s. MayEndWalk c s t.0) (λ c s. after_end_walk s t.0) }
-        ensures aside { KeepsAsides self.old self.new }
+        ensures progress { KeepsProgress self.old self.new }
         ensures books { KeepsBooks self.old self.new }
     {
         self.threads[usize::from(t.0)].walk = Walk::None;

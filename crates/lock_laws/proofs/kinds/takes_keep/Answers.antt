@@ -1,4 +1,4 @@
-use Rattle.lock_laws.proofs.Turns as kind
+use Rattle.lock_laws.proofs.Items as kind
 use Rattle.lock_laws.proofs.kinds.takes_keep.Goals as goal
 
 pub returns : goal.returns

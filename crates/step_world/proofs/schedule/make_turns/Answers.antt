@@ -1,5 +1,5 @@
 use Rattle.std.proofs.Common.{◌≡◌, ℕ, subst, sym, ◌∙◌, arith}
-use Rattle.lock_model.specs.Run.{after_turn, course_after}
+use Rattle.lock_state.specs.Run.{after_turn, course_after}
 use Rattle.step_world.specs.Courses.{IsCourse}
 use Rattle.step_world.proofs.TurnsOfCourses.{one_more, stays_over, starts}
 use Rattle.step_world.proofs.schedule.make_turns.Goals as goal

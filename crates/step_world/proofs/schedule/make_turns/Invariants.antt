@@ -1,5 +1,5 @@
 use Rattle.std.proofs.Common.{◌≤◌, ◌-◌, ℕ}
-use Rattle.lock_model.specs.Run.{start_course, course_after}
+use Rattle.lock_state.specs.Run.{start_course, course_after}
 use Rattle.lock_model.specs.declared.plan.Plan as plans
 use Rattle.step_world.specs.Courses.{IsCourse, IsUnderWay}
 use Rattle.step_world.proofs.schedule.make_turns.Given as goal

@@ -1,7 +1,7 @@
 use Rattle.std.proofs.Common.{◌≡◌, ℕ, Result, Ok, Err, IfOk}
 use Rattle.lock_model.specs.Operations.{IsProper}
-use Rattle.lock_model.specs.Run as run
-use Rattle.lock_model.specs.Run.{course_after, outcome_of, scheduled_run}
+use Rattle.lock_state.specs.Run as run
+use Rattle.lock_state.specs.Run.{course_after, outcome_of, scheduled_run}
 use Rattle.lock_model.specs.declared.plan.Plan.{Plan}
 use Rattle.lock_history.specs.Outcomes.{outcome_seen}
 use Rattle.lock_history.specs.declared.outcome.Outcome.{Outcome}

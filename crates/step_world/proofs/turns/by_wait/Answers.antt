@@ -25,7 +25,7 @@ returns-in-Queued c chains r h f = rows.queued c.args.plan.now chains c.args.mac
 pub returns-in-Woken : goal.returns-in-Woken
 returns-in-Woken c chains r h f =
     let a = c.resume.ensures in
-    rows.resumed c.args.plan.now chains c.args.machine.now r c.args.t.0 c.index-thread.result.now c.requires.thread h c.from.result c.from.ensures c.index-thread.ensures c.in-Woken.field-0 c.in-Woken.is c.resume.new.self (record { step = a.step; aside = a.aside; books = a.books })
+    rows.resumed c.args.plan.now chains c.args.machine.now r c.args.t.0 c.index-thread.result.now c.requires.thread h c.from.result c.from.ensures c.index-thread.ensures c.in-Woken.field-0 c.in-Woken.is c.resume.new.self (record { step = a.step; progress = a.progress; books = a.books })
 
 pub returns-in-Some : goal.returns-in-Some
 returns-in-Some c chains r h f =

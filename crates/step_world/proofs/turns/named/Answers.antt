@@ -1,6 +1,6 @@
 use Rattle.std.proofs.Common.{ap, ◌∙◌}
 use Rattle.step_world.proofs.RowsOfWalks.{named_at, none_named_at}
-use Rattle.step_world.proofs.turns.named.Goals as goal
+use Rattle.step_world.proofs.turns.blocked_on.Goals as goal
 
 pub returns-in-Some : goal.returns-in-Some
 returns-in-Some c k s shown h =

@@ -15,13 +15,13 @@ pub end_operation-requires-clause-thread : goal.end_operation-requires-clause-th
 end_operation-requires-clause-thread c =
     let e = c.stamp.ensures in
     rows.thread c.args.plan.now c.args.machine.now c.args.t.0 c.args.event c.requires.proper c.requires.thread c.requires.run c.stamp.new.self
-    (record { step = e.step; aside = e.aside; room = record { room = e.room; places = e.places } })
+    (record { step = e.step; progress = e.progress; room = record { room = e.room; places = e.places } })
 
 pub end_operation-requires-clause-within : goal.end_operation-requires-clause-within
 end_operation-requires-clause-within c =
     let e = c.stamp.ensures in
     rows.within c.args.plan.now c.args.machine.now c.args.t.0 c.args.event c.requires.proper c.requires.thread c.requires.run c.stamp.new.self
-    (record { step = e.step; aside = e.aside; room = record { room = e.room; places = e.places } })
+    (record { step = e.step; progress = e.progress; room = record { room = e.room; places = e.places } })
 
 pub returns : goal.returns
 returns c chains r h n =
@@ -29,6 +29,6 @@ returns c chains r h n =
     let x = c.end_operation.ensures in (
       refl,
       rows.noted c.args.plan.now c.args.machine.now c.args.t.0 c.args.event c.requires.proper c.requires.thread (chains, r, h, n) c.stamp.new.self
-          (record { step = e.step; aside = e.aside; room = record { room = e.room; places = e.places } }) c.end_operation.new.self
-          (record { shows = x.shows; aside = x.aside; books = x.books }),
+          (record { step = e.step; progress = e.progress; room = record { room = e.room; places = e.places } }) c.end_operation.new.self
+          (record { shows = x.shows; progress = x.progress; books = x.books }),
     )

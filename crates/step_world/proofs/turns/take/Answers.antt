@@ -21,29 +21,29 @@ pub stamp-requires-clause-may : goal.stamp-requires-clause-may
 stamp-requires-clause-may c =
     let a = c.gain.ensures in
     rows.may_stamp c.args.plan.now c.args.machine.now c.args.t.0 c.args.l c.requires.proper c.requires.thread c.requires.run c.index.result.now (rw c.from.ensures at c.index.ensures) (sym c.admits.ensures ∙ c.if-admits.true)
-    c.gain.new.self (record { step = a.step; aside = a.aside; books = a.books })
+    c.gain.new.self (record { step = a.step; progress = a.progress; books = a.books })
 
 pub stamp-requires-clause-room : goal.stamp-requires-clause-room
 stamp-requires-clause-room c =
     let a = c.gain.ensures in
     rows.room c.args.plan.now c.args.machine.now c.args.t.0 c.args.l c.requires.proper c.requires.thread c.requires.run c.index.result.now (rw c.from.ensures at c.index.ensures) (sym c.admits.ensures ∙ c.if-admits.true)
-    c.gain.new.self (record { step = a.step; aside = a.aside; books = a.books })
+    c.gain.new.self (record { step = a.step; progress = a.progress; books = a.books })
 
 pub end_operation-requires-clause-thread : goal.end_operation-requires-clause-thread
 end_operation-requires-clause-thread c =
     let a = c.gain.ensures in
     let b = c.stamp.ensures in
     rows.thread c.args.plan.now c.args.machine.now c.args.t.0 c.args.l c.requires.proper c.requires.thread c.requires.run c.index.result.now (rw c.from.ensures at c.index.ensures) (sym c.admits.ensures ∙ c.if-admits.true)
-    c.gain.new.self (record { step = a.step; aside = a.aside; books = a.books })
-    c.stamp.new.self (record { step = b.step; aside = b.aside; room = record { room = b.room; places = b.places } })
+    c.gain.new.self (record { step = a.step; progress = a.progress; books = a.books })
+    c.stamp.new.self (record { step = b.step; progress = b.progress; room = record { room = b.room; places = b.places } })
 
 pub end_operation-requires-clause-within : goal.end_operation-requires-clause-within
 end_operation-requires-clause-within c =
     let a = c.gain.ensures in
     let b = c.stamp.ensures in
     rows.within c.args.plan.now c.args.machine.now c.args.t.0 c.args.l c.requires.proper c.requires.thread c.requires.run c.index.result.now (rw c.from.ensures at c.index.ensures) (sym c.admits.ensures ∙ c.if-admits.true)
-    c.gain.new.self (record { step = a.step; aside = a.aside; books = a.books })
-    c.stamp.new.self (record { step = b.step; aside = b.aside; room = record { room = b.room; places = b.places } })
+    c.gain.new.self (record { step = a.step; progress = a.progress; books = a.books })
+    c.stamp.new.self (record { step = b.step; progress = b.progress; room = record { room = b.room; places = b.places } })
 
 pub block-requires : goal.block-requires
 block-requires c = record {
@@ -56,12 +56,12 @@ returns-then-admits c chains r h n =
     let b = c.stamp.ensures in
     let e = c.end_operation.ensures in
     rows.taken c.args.plan.now c.args.machine.now c.args.t.0 c.args.l c.requires.proper c.requires.thread (chains, r, h, n) c.index.result.now (rw c.from.ensures at c.index.ensures) (sym c.admits.ensures ∙ c.if-admits.true)
-    c.gain.new.self (record { step = a.step; aside = a.aside; books = a.books })
-    c.stamp.new.self (record { step = b.step; aside = b.aside; room = record { room = b.room; places = b.places } })
-    c.end_operation.new.self (record { shows = e.shows; aside = e.aside; books = e.books })
+    c.gain.new.self (record { step = a.step; progress = a.progress; books = a.books })
+    c.stamp.new.self (record { step = b.step; progress = b.progress; room = record { room = b.room; places = b.places } })
+    c.end_operation.new.self (record { shows = e.shows; progress = e.progress; books = e.books })
 
 pub returns-else-admits : goal.returns-else-admits
 returns-else-admits c chains r h n =
     let a = c.block.ensures in
     rows.blocked c.args.plan.now c.args.machine.now c.args.t.0 c.args.l c.requires.proper c.requires.thread (chains, r, h, n) c.index.result.now (rw c.from.ensures at c.index.ensures) (sym c.admits.ensures ∙ c.if-admits.false)
-    c.block.new.self (record { step = a.step; aside = a.aside; books = a.books })
+    c.block.new.self (record { step = a.step; progress = a.progress; books = a.books })

@@ -55,4 +55,4 @@ returns-else-is_empty c chains r h u =
     let a = c.mark.ensures in
     rows.goes_on c.args.plan.now chains c.args.machine.now r c.args.t.0 c.index-thread.result.now c.requires.thread h c.from.result c.from.ensures c.index-thread.ensures
     c.operations.result.now c.operations.ensures (sym c.has_ended.ensures ∙ c.if-has_ended.false) c.mark.new.self _
-    (rows.marked c.args.plan.now chains c.args.machine.now r c.args.t.0 c.index-thread.result.now c.requires.thread h c.from.result c.from.ensures c.index-thread.ensures c.in-None.is (iff_false c.is_empty.ensures c.if-is_empty.false) c.mark.new.self (record { step = a.step; aside = a.aside; books = a.books }))
+    (rows.marked c.args.plan.now chains c.args.machine.now r c.args.t.0 c.index-thread.result.now c.requires.thread h c.from.result c.from.ensures c.index-thread.ensures c.in-None.is (iff_false c.is_empty.ensures c.if-is_empty.false) c.mark.new.self (record { step = a.step; progress = a.progress; books = a.books }))

@@ -16,10 +16,10 @@ pub returns-in-Some : goal.returns-in-Some
 returns-in-Some c chains r h w =
     let a = c.lend_to.ensures in
     rows.lent c.args.plan.now chains c.args.machine.now r c.args.t.0 c.requires.proper c.requires.thread h c.args.l w c.in-Some.owner (c.in-Some.ensures (config_of c.args.plan.now chains) r.state h.shows.shows h.on_track.lawful)
-    c.lend_to.new.self (record { step = a.step; aside = a.aside; books = a.books })
+    c.lend_to.new.self (record { step = a.step; progress = a.progress; books = a.books })
 
 pub returns-in-None : goal.returns-in-None
 returns-in-None c chains r h w =
     let a = c.end_walk.ensures in
     rows.ended_at_lock c.args.plan.now chains c.args.machine.now r c.args.t.0 c.requires.proper c.requires.thread h c.args.l w (c.in-None.ensures (config_of c.args.plan.now chains) r.state h.shows.shows h.on_track.lawful)
-    c.end_walk.new.self (record { step = a.step; aside = a.aside; books = a.books })
+    c.end_walk.new.self (record { step = a.step; progress = a.progress; books = a.books })

@@ -18,10 +18,10 @@ returns-in-Some c chains r h w =
     let there = c.in-Some.ensures (config_of c.args.plan.now chains) r.state h.shows.shows h.on_track.lawful in
     let a = c.sort_anew.ensures in
     rows.shifted c.args.plan.now chains c.args.machine.now r c.args.t.0 c.requires.proper c.requires.thread h c.args.o w c.in-Some.l there.0 there.1
-    c.sort_anew.new.self (record { step = a.step; aside = a.aside; books = a.books })
+    c.sort_anew.new.self (record { step = a.step; progress = a.progress; books = a.books })
 
 pub returns-in-None : goal.returns-in-None
 returns-in-None c chains r h w =
     let a = c.end_walk.ensures in
     rows.ended_at_thread c.args.plan.now chains c.args.machine.now r c.args.t.0 c.requires.proper c.requires.thread h c.args.o w (c.in-None.ensures (config_of c.args.plan.now chains) r.state h.shows.shows h.on_track.lawful)
-    c.end_walk.new.self (record { step = a.step; aside = a.aside; books = a.books })
+    c.end_walk.new.self (record { step = a.step; progress = a.progress; books = a.books })

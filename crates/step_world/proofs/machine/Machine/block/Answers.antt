@@ -1,14 +1,14 @@
 use Rattle.std.proofs.Common.{◌≡◌, ◌∷◌, Some, None, option_map, refl, sym, ap, ◌∙◌}
 use Rattle.lock_model.specs.Words.{entered, owner_of}
-use Rattle.lock_model.specs.State.{State}
-use Rattle.lock_model.specs.MovesOfQueues.{after_block}
+use Rattle.lock_state.specs.State.{State}
+use Rattle.lock_state.specs.Steps.Turnstiles.{after_block}
 use Rattle.lock_model.specs.Queues.{lock_queue}
 use Rattle.lock_model.specs.declared.plan.Mode.TheVariants.{Excl}
 use Rattle.lock_model.specs.declared.plan.Side.TheVariants.{X}
 use Rattle.turnstile_core.specs.Seen.{Turnstile, idle}
 use Rattle.turnstile_core.specs.Changes.{name_of, joined}
 use Rattle.thread_records.specs.Records.{Record}
-use Rattle.step_world.specs.Shows.{ShowsHead}
+use Rattle.step_world.specs.Represents.{RepresentsHead}
 use Rattle.step_world.proofs.Kit.{aside_stays, read}
 use Rattle.step_world.proofs.Holding.{word_read}
 use Rattle.step_world.proofs.Blocking.{possible_read, has_own, has_waiter, is_absent, placed_as, first_shown, behind_shown, thread_blocks, blocked}
@@ -55,11 +55,11 @@ returns-clause-step c x k s h lawful g =
     let owner = c.owner_of-owner.ensures ∙ ap (λ w. owner_of w.holder) (word_read m.words.items k s.word l c.from-i.result c.index.result.now c.from-i.ensures h.words g.lock c.index.ensures) in
     let word = c.entered.ensures.word ∙ ap (λ w. entered w X) (word_read m.words.items k s.word l c.from-i.result c.index-2.result.now c.from-i.ensures h.words g.lock c.index-2.ensures) in
     let lent = c.lend_turnstile-own.ensures.left ∙ ap (λ (r : Record). let v : Record = record r { turnstile = None } in v) c.deref_mut.ensures.value in
-    let named = c.set_on.ensures ∙ ap (λ (r : Record). let v : Record = record r { on = Some (lock_queue l) } in v) (c.deref_mut-2.ensures.value ∙ lent) in
+    let blocked_on = c.set_on.ensures ∙ ap (λ (r : Record). let v : Record = record r { on = Some (lock_queue l) } in v) (c.deref_mut-2.ensures.value ∙ lent) in
     let own = ap (λ (r : Record). option_map idle r.turnstile) (sym c.deref_mut.ensures.value) ∙ c.lend_turnstile-own.ensures.turnstile in
     let number = c.lend_turnstile-own.ensures.node ∙ ap (λ (r : Record). r.thread) c.deref_mut.ensures.value in
     let prio = c.eff-prio.ensures.value ∙ ap (λ (r : Record). r.effective) c.deref.ensures in
-    let shown : (name_of c.match-unplace.head.value.contents ≡ Some (lock_queue l)) × ShowsHead c.match-unplace.head.value.contents n.lists n.free_list n.head n.owner n.loan_home (lock_queue l) =
+    let shown : (name_of c.match-unplace.head.value.contents ≡ Some (lock_queue l)) × RepresentsHead c.match-unplace.head.value.contents n.lists n.free_list n.head n.owner n.loan_home (lock_queue l) =
     elim c.match-unplace.branch [
       | in-None w ↦
           let is = ap (λ b. b.value.contents) w.head-is ∙ w.first_waiter-head.ensures.contents in (
@@ -71,16 +71,16 @@ returns-clause-step c x k s h lawful g =
           let is =
           ap (λ b. b.value.contents) w.head-is ∙ w.wait.ensures.contents
           ∙ ap (λ (h' : Turnstile). joined c.lend_turnstile-own.result.0.value.contents.number (record { thread = c.lend_turnstile-own.result.1.value.place.thread; kept = c.eff-prio.result.0 }) X h'.contents) w.deref_mut-in-Some.ensures.value in (
-            ap name_of is ∙ w.in-Some.ensures.named,
+            ap name_of is ∙ w.in-Some.ensures.blocked_on,
             behind_shown m k s t l x h lawful g th c.lend_turnstile-own.result.0.value c.lend_turnstile-own.result.1.value.place.thread c.eff-prio.result.0 old c.match-unplace.head.value.contents at own number prio w.in-Some.ensures.taken is,
           )
     ] in
     let chain = placed_as (lock_queue l) c.match-unplace.head.value c.place.new.self c.unplace.new.self shown.0 c.place.ensures.placed ∙ ap (λ chain. (lock_queue l, c.match-unplace.head.value) ∷ chain) c.unplace.ensures.others in
-    let thread = thread_blocks m k s t l x h lawful g th c.set_on.new.self c.walk_from-thread.result c.owner_of-owner.result at owner named c.walk_from-thread.ensures in
+    let thread = thread_blocks m k s t l x h lawful g th c.set_on.new.self c.walk_from-thread.result c.owner_of-owner.result at owner blocked_on c.walk_from-thread.ensures in
     rw (c.from-i.ensures, c.from.ensures) (blocked m k s t l x h lawful g c.entered.result c.place.new.self c.match-unplace.head.value _ word chain shown.1 thread)
 
-pub returns-clause-aside : goal.returns-clause-aside
-returns-clause-aside c =
+pub returns-clause-progress : goal.returns-clause-progress
+returns-clause-progress c =
     let m = c.requires.may in
     let th = c.index_mut-thread.result.now in
     let at = read c.args.self.now m.0 m.1 c.args.t.0 c.from.result th c.from.ensures m.2 m.4.1.thread c.index_mut-thread.ensures.value in

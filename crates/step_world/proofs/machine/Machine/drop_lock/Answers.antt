@@ -1,7 +1,7 @@
 use Rattle.std.proofs.Common.{ap, ◌∙◌, arith, ◌≤◌}
 use Rattle.lock_model.specs.Operations.{without_lock}
 use Rattle.lock_model.specs.Words.{dropped}
-use Rattle.step_world.specs.Steps.{Aside, aside_of}
+use Rattle.step_world.specs.Steps.{Progress, progress_of}
 use Rattle.step_world.proofs.Kit.{aside_changed, read}
 use Rattle.step_world.proofs.Holding.{lock_dropped, word_read, owner_read, owned_well_formed, owned_held}
 use Rattle.step_world.proofs.machine.Machine.drop_lock.Goals as goal
@@ -24,9 +24,9 @@ returns-clause-step c k s h lawful g =
     let word = word_read c.args.self.now.words.items k s.word c.args.l.0 c.from-i.result c.index.result.now c.from-i.ensures h.words g.lock c.index.ensures in
     rw (c.from.ensures, c.from-i.ensures) (lock_dropped c.args.self.now k s c.args.t.0 c.args.l.0 c.dropped.result th c.put_down.new.self at (c.dropped.ensures.word ∙ ap dropped word) c.put_down.ensures.others c.put_down.ensures.held c.put_down.ensures.room h g)
 
-pub returns-clause-aside : goal.returns-clause-aside
-returns-clause-aside c =
+pub returns-clause-progress : goal.returns-clause-progress
+returns-clause-progress c =
     let m = c.requires.may in
     let th = c.index_mut-2.result.now in
     let at = read c.args.self.now m.0 m.1 c.args.t.0 c.from.result th c.from.ensures m.2 m.4.thread c.index_mut-2.ensures.value in
-    rw c.from.ensures (aside_changed c.args.self.now.threads.items c.args.t.0 c.put_down.new.self th (λ (a : Aside). record a { held = without_lock c.args.l.0 a.held }) at (ap aside_of c.put_down.ensures.others ∙ ap (λ hs. record { place = th.place; held = hs }) c.put_down.ensures.held))
+    rw c.from.ensures (aside_changed c.args.self.now.threads.items c.args.t.0 c.put_down.new.self th (λ (a : Progress). record a { held = without_lock c.args.l.0 a.held }) at (ap progress_of c.put_down.ensures.others ∙ ap (λ hs. record { place = th.place; held = hs }) c.put_down.ensures.held))

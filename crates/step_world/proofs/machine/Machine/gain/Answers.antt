@@ -1,7 +1,7 @@
 use Rattle.std.proofs.Common.{◌++◌, ◌∷◌, [], ap, ◌∙◌}
 use Rattle.lock_model.specs.Words.{gained}
 use Rattle.lock_model.specs.declared.plan.Mode.TheVariants.{Excl}
-use Rattle.step_world.specs.Steps.{Aside}
+use Rattle.step_world.specs.Steps.{Progress}
 use Rattle.step_world.proofs.Kit.{aside_changed, read}
 use Rattle.step_world.proofs.Holding.{lock_gained, holding, entry_of, word_read, room_left}
 use Rattle.step_world.proofs.machine.Machine.gain.Goals as goal
@@ -20,8 +20,8 @@ returns-clause-step c k s h lawful g =
     let word = word_read c.args.self.now.words.items k s.word c.args.l.0 c.from-i.result c.index.result.now c.from-i.ensures h.words g.lock c.index.ensures in
     rw (c.from.ensures, c.from-i.ensures) (lock_gained c.args.self.now k s c.args.t.0 c.args.l c.gained.result th c.push_reserved.new.self at (c.gained.ensures.word ∙ ap (λ w. gained w c.args.t.0 Excl) word) c.push_reserved.ensures.items c.push_reserved.ensures.capacity h g)
 
-pub returns-clause-aside : goal.returns-clause-aside
-returns-clause-aside c =
+pub returns-clause-progress : goal.returns-clause-progress
+returns-clause-progress c =
     let m = c.requires.may in
     let th = c.index_mut-thread.result.now in
-    rw c.from.ensures (aside_changed c.args.self.now.threads.items c.args.t.0 (holding c.push_reserved.new.self th) th (λ (a : Aside). record a { held = a.held ++ entry_of c.args.l ∷ [] }) (read c.args.self.now m.0 m.1 c.args.t.0 c.from.result th c.from.ensures m.2 m.4.thread c.index_mut-thread.ensures.value) (ap (λ hs. record { place = th.place; held = hs }) c.push_reserved.ensures.items))
+    rw c.from.ensures (aside_changed c.args.self.now.threads.items c.args.t.0 (holding c.push_reserved.new.self th) th (λ (a : Progress). record a { held = a.held ++ entry_of c.args.l ∷ [] }) (read c.args.self.now m.0 m.1 c.args.t.0 c.from.result th c.from.ensures m.2 m.4.thread c.index_mut-thread.ensures.value) (ap (λ hs. record { place = th.place; held = hs }) c.push_reserved.ensures.items))

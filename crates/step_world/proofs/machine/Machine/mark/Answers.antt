@@ -41,8 +41,8 @@ returns-in-Some-clause-step c k ks d s h lawful g =
     let its_record = c.set_on.ensures ∙ ap (λ (r : Record). record r { on = None }) (c.deref_mut-in-Some.ensures.value ∙ c.take_back.ensures ∙ ap (λ (r : Record). record r { turnstile = c.in-Some.node.value.place.turnstile }) c.deref_mut.ensures.value) in
     rw (c.from.ensures, its_record, number) (marked_shown h lawful g at c.in-Some.ensures.some.0 there)
 
-pub returns-in-Some-clause-aside : goal.returns-in-Some-clause-aside
-returns-in-Some-clause-aside c =
+pub returns-in-Some-clause-progress : goal.returns-in-Some-clause-progress
+returns-in-Some-clause-progress c =
     let x = c.requires.may in
     let at = read c.args.self.now x.0 x.1 c.args.t.0 c.from.result c.index_mut-thread.result.now c.from.ensures x.2 x.4.2.thread c.index_mut-thread.ensures.value in
     let number = c.from-in-Some.ensures ∙ c.thread.ensures ∙ ap (λ v. v.place.thread) c.deref.ensures in

@@ -11,7 +11,7 @@ use Rattle.chain_table.specs.Chains.{head_of}
 use Rattle.lock_model.specs.Queues.{lock_queue}
 use Rattle.prio_lending.specs.Hops.{carrier_for, node_out}
 use Rattle.step_world.specs.declared.thread.Thread.{Thread}
-use Rattle.step_world.specs.Steps.{Aside, aside_of}
+use Rattle.step_world.specs.Steps.{Progress, progress_of}
 use Rattle.step_world.proofs.Kit.{aside_changed, read}
 use Rattle.step_world.proofs.Holding.{word_read}
 use Rattle.step_world.proofs.Blocking.{possible_read}
@@ -45,8 +45,8 @@ returns-in_default-clause-step c =
     let m = c.requires.may in
     absurd (not_headless c.args.self.now m.0 m.1 c.args.t.0 c.args.l.0 m.2 m.3 m.4 c.in_default.ensures.taken)
 
-pub returns-in_default-clause-aside : goal.returns-in_default-clause-aside
-returns-in_default-clause-aside c =
+pub returns-in_default-clause-progress : goal.returns-in_default-clause-progress
+returns-in_default-clause-progress c =
     let m = c.requires.may in
     absurd (not_headless c.args.self.now m.0 m.1 c.args.t.0 c.args.l.0 m.2 m.3 m.4 c.in_default.ensures.taken)
 
@@ -78,12 +78,12 @@ fill_last-requires-clause-left c =
     let is_settled = settles c.args.l.0 c.deref_mut-2.result.now th.record.value c.deref_mut.result.now hd sv rec c.deref_mut.ensures.value (c.deref_mut-3.ensures.value ∙ c.settle_release.ensures.head) in
     is_left c.args.self.now m.0 m.1 c.args.t.0 c.args.l.0 m.2 m.3 m.4 hd c.in-Some.ensures.taken th at sv c.broadcast-waiters.new.self is_settled c.broadcast-waiters.ensures.contents c.broadcast-waiters.ensures.next c.in-Some.ensures.bare
 
-pub returns-clause-aside : goal.returns-clause-aside
-returns-clause-aside c =
+pub returns-clause-progress : goal.returns-clause-progress
+returns-clause-progress c =
     let m = c.requires.may in
     let th = c.index_mut-thread.result.now in
     let at = read c.args.self.now m.0 m.1 c.args.t.0 c.from.result th c.from.ensures m.2 m.4.thread c.index_mut-thread.ensures.value in
-    rw c.from.ensures (aside_changed c.args.self.now.threads.items c.args.t.0 _ th (λ a. record a { held = without_lock c.args.l.0 a.held }) at (ap aside_of (ap (λ (o : Thread). record o { held = c.put_down.new.self.held }) c.put_down.ensures.others) ∙ ap (λ hs. let a : Aside = record { place = th.place; held = hs } in a) c.put_down.ensures.held))
+    rw c.from.ensures (aside_changed c.args.self.now.threads.items c.args.t.0 _ th (λ a. record a { held = without_lock c.args.l.0 a.held }) at (ap progress_of (ap (λ (o : Thread). record o { held = c.put_down.new.self.held }) c.put_down.ensures.others) ∙ ap (λ hs. let a : Progress = record { place = th.place; held = hs } in a) c.put_down.ensures.held))
 
 pub returns-clause-step : goal.returns-clause-step
 returns-clause-step c k s h lawful g =

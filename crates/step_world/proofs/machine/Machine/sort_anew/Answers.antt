@@ -20,8 +20,8 @@ returns-clause-step c d s h lawful g =
     let there = read c.args.self.now d s c.args.o.0 c.from.result c.index-sorted.result.now c.from.ensures h (is_thread h lawful g) c.index-sorted.ensures in
     rw (c.from-2.ensures, c.shift-walk.ensures.answer) (sorted_shown h lawful g c.deref.result.now there c.deref.ensures c.has_owner-owned.result c.shift-walk.new.chain at c.has_owner-owned.ensures c.shift-walk.ensures.chain)
 
-pub returns-clause-aside : goal.returns-clause-aside
-returns-clause-aside c =
+pub returns-clause-progress : goal.returns-clause-progress
+returns-clause-progress c =
     let x = c.requires.may in
     let at = read c.args.self.now x.0 x.1 c.args.t.0 c.from-2.result c.index_mut.result.now c.from-2.ensures x.2 x.4.thread c.index_mut.ensures.value in
     rw c.from-2.ensures (aside_stays c.args.self.now.threads.items c.args.t.0 _ c.index_mut.result.now at refl)

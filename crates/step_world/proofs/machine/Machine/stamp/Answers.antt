@@ -21,8 +21,8 @@ returns-clause-step c k s h lawful g =
     let ticket = c.len-ticket.ensures.len ∙ ap (λ (n : Machine). length n.log.entries) kept in
     stamped c.args.self.now (record c.edit.new.self { log = c.put.new.self }) k s c.args.t c.args.event c.len-ticket.result (ap (λ (n : Machine). record n { log = c.put.new.self }) kept) c.edit.ensures.threads (ap (λ x. x.present) c.edit.ensures.tables) entries ticket h lawful g
 
-pub returns-clause-aside : goal.returns-clause-aside
-returns-clause-aside c = asides_kept c.args.event c.args.t.0 c.args.self.now.threads.items c.edit.new.self.threads.items c.edit.ensures.threads
+pub returns-clause-progress : goal.returns-clause-progress
+returns-clause-progress c = asides_kept c.args.event c.args.t.0 c.args.self.now.threads.items c.edit.new.self.threads.items c.edit.ensures.threads
 
 pub returns-clause-places : goal.returns-clause-places
 returns-clause-places c = ap (λ x. x.places) c.edit.ensures.tables

@@ -1,8 +1,8 @@
 use Rattle.std.proofs.Common.{◌≡◌, ℕ, true, sym, ap, subst, ◌∙◌}
 use Rattle.std.proofs.lemmas.Bool.{ne_eqb}
 use Rattle.lock_model.specs.Counts.{is_empty}
-use Rattle.lock_model.specs.Run as run
-use Rattle.lock_model.specs.Run.{with_turn, after_turn, round_of}
+use Rattle.lock_state.specs.Run as run
+use Rattle.lock_state.specs.Run.{with_turn, after_turn, round_of}
 use Rattle.lock_model.specs.declared.plan.Plan.{Plan}
 use Rattle.step_world.specs.Courses.{IsCourse}
 use Rattle.step_world.specs.declared.schedule.Course.{Course}

@@ -1,6 +1,6 @@
 use Rattle.std.proofs.Common.{sym, subst, ◌<◌, length}
 use Rattle.step_world.specs.Worlds.{World}
-use Rattle.lock_model.specs.Run.{Run, turn_of}
+use Rattle.lock_state.specs.Run.{Run, turn_of}
 use Rattle.step_world.proofs.WorldsAreSound.{behind_turn}
 use Rattle.step_world.proofs.world.World.turn.Goals as goal
 

@@ -1,8 +1,10 @@
 -- Steps that lend priority: a claim, and the hops of a walk. What each asks of the state, and what it makes of it.
 use Rattle.std.specs.Prelude.{◌≡◌, ◌⊎◌, ℕ, ◌<◌, Bool, true, false, not, ◌&&◌, ◌==◌, Option, Some, None}
 use Rattle.lock_model.specs.Words.{is_free, is_turnstile, shows_waiters, claimed}
-use Rattle.lock_model.specs.Moves.{is_woken, effective_of}
-use Rattle.lock_model.specs.State.{Config, State, NotHeld, Holds, Walk, NoWalk, AtLock, AtThread, Loan, put, put_at, put_queue}
+use Rattle.lock_state.specs.Steps.LockWords.{is_woken, effective_of}
+use Rattle.lock_model.specs.Config.{Config}
+use Rattle.lock_state.specs.State.{State, Walk, NoWalk, AtLock, AtThread, Loan, put, put_at, put_queue}
+use Rattle.lock_model.specs.Holds.{NotHeld, Holds}
 use Rattle.lock_model.specs.Queues.{lock_queue, names_turnstile, stands, least_of, with_kept}
 use Rattle.lock_model.specs.declared.plan.Kind.TheVariants.{Rw}
 use Rattle.lock_model.specs.declared.plan.Mode.TheVariants.{Excl}
@@ -24,7 +26,7 @@ pub record MayClaim (c : Config) (s : State) (t l h : ℕ) : Type 0 where
   pub shown : shows_waiters (s.word l) ≡ true
   pub head : s.head (lock_queue l) ≡ Some h
   pub unheld : s.held t l ≡ NotHeld
-  pub unnamed : s.named t ≡ None
+  pub unnamed : s.blocked_on t ≡ None
   pub unwoken : is_woken (s.wait t) ≡ false
   pub wants : (s.wanted t ≡ Some l) ⊎ (s.wanted t ≡ None)
 
@@ -71,7 +73,7 @@ after_lend c s t l o h =
       loan = put_at s.loan o l new;
       loan_home = put s.loan_home h false;
       effective = put s.effective o e;
-      walk = put s.walk t (walk_to o (not (e == s.effective o) && names_turnstile c (s.named o)));
+      walk = put s.walk t (walk_to o (not (e == s.effective o) && names_turnstile c (s.blocked_on o)));
     }
 
 -- 3. A walk at a thread that stands on a turnstile: its entry is inserted anew with its effective priority, and the walk goes on to that
@@ -82,7 +84,7 @@ pub record MayShift (c : Config) (s : State) (t o l : ℕ) : Type 0 where
   pub thread : t < c.threads
   pub turnstile : is_turnstile (c.kind l) ≡ true
   pub walks : s.walk t ≡ AtThread o
-  pub named : s.named o ≡ Some (lock_queue l)
+  pub blocked_on : s.blocked_on o ≡ Some (lock_queue l)
   pub stands : 0 < stands o (s.lists (lock_queue l))
 
 -- a walk to the lock, where its turnstile has an owner
@@ -103,7 +105,7 @@ after_shift s t o l = record s {
 abbrev pub IsAtEnd : Config → State → Walk → Type 0
 IsAtEnd c s NoWalk = ⊥
 IsAtEnd c s (AtLock l) = s.owner (lock_queue l) ≡ None
-IsAtEnd c s (AtThread o) = (l : ℕ) → is_turnstile (c.kind l) ≡ true → s.named o ≡ Some (lock_queue l) → stands o (s.lists (lock_queue l)) ≡ 0
+IsAtEnd c s (AtThread o) = (l : ℕ) → is_turnstile (c.kind l) ≡ true → s.blocked_on o ≡ Some (lock_queue l) → stands o (s.lists (lock_queue l)) ≡ 0
 
 -- what the end of a walk asks
 pub record MayEndWalk (c : Config) (s : State) (t : ℕ) : Type 0 where

@@ -4,11 +4,12 @@ use Rattle.std.specs.Prelude.{◌≡◌, ℕ, ◌+◌, ◌==◌, if◌then◌els
 use Rattle.std.specs.List.{All}
 use Rattle.std.specs.Vec.{vec_capacity}
 use Rattle.lock_model.specs.Words.{Word, word_of}
-use Rattle.lock_model.specs.State as state
-use Rattle.lock_model.specs.State.{Config, State, Lists, Loan, Mark, BySignal}
+use Rattle.lock_state.specs.State as state
+use Rattle.lock_model.specs.Config.{Config}
+use Rattle.lock_state.specs.State.{State, Loan}
+use Rattle.lock_model.specs.Queues.{Lists, Mark, BySignal, lock_queue}
 use Rattle.lock_model.specs.History.{tables_of}
 use Rattle.lock_model.specs.Operations.{hold_in}
-use Rattle.lock_model.specs.Queues.{lock_queue}
 use Rattle.lock_model.specs.declared.plan.Kind.TheVariants.{Mtx}
 use Rattle.lock_model.specs.declared.plan.QueueName.{QueueName}
 use Rattle.lock_model.specs.declared.event.Held.{Held}
@@ -25,7 +26,7 @@ use Rattle.step_world.specs.declared.machine.Machine.{Machine}
 -- 1. Words
 
 -- each lock has a word, which says what the column says
-pub record ShowsWords (words : List ℕ) (c : Config) (column : ℕ → Word) : Type 0 where
+pub record RepresentsWords (words : List ℕ) (c : Config) (column : ℕ → Word) : Type 0 where
   pub locks : length words ≡ c.locks
   pub word : (l : ℕ) → l < c.locks → word_of (get_or words l 0) ≡ column l
 
@@ -33,7 +34,7 @@ pub record ShowsWords (words : List ℕ) (c : Config) (column : ℕ → Word) : 
 
 -- the turnstile that is lent to a lock says of its queue what the columns say: of lists, free lists, heads and owners by queue, and of loan
 -- nodes by turnstile
-pub record ShowsHead (h : Contents) (ls : QueueName → Lists) (fs : QueueName → List ℕ) (hs os : QueueName → Option ℕ) (homes : ℕ → Bool) (q : QueueName) : Type 0 where
+pub record RepresentsHead (h : Contents) (ls : QueueName → Lists) (fs : QueueName → List ℕ) (hs os : QueueName → Option ℕ) (homes : ℕ → Bool) (q : QueueName) : Type 0 where
   pub head : hs q ≡ Some h.number
   pub lists : ls q ≡ record { exclusive = h.exclusive; shared = h.shared }
   pub free : fs q ≡ h.free
@@ -41,13 +42,13 @@ pub record ShowsHead (h : Contents) (ls : QueueName → Lists) (fs : QueueName �
   pub loan_home : homes h.number ≡ h.loan_home
 
 -- and where none is lent, the lock's queue has no head
-abbrev pub ShowsQueue : Option Turnstile → (QueueName → Lists) → (QueueName → List ℕ) → (QueueName → Option ℕ) → (QueueName → Option ℕ) → (ℕ → Bool) → QueueName → Type 0
-ShowsQueue None ls fs hs os homes q = hs q ≡ None
-ShowsQueue (Some h) ls fs hs os homes q = ShowsHead h.contents ls fs hs os homes q
+abbrev pub RepresentsQueue : Option Turnstile → (QueueName → Lists) → (QueueName → List ℕ) → (QueueName → Option ℕ) → (QueueName → Option ℕ) → (ℕ → Bool) → QueueName → Type 0
+RepresentsQueue None ls fs hs os homes q = hs q ≡ None
+RepresentsQueue (Some h) ls fs hs os homes q = RepresentsHead h.contents ls fs hs os homes q
 
 -- the chain has a head for each lock of which the columns say that it has one
-abbrev pub ShowsQueues : List (QueueName × Turnstile) → (QueueName → Lists) → (QueueName → List ℕ) → (QueueName → Option ℕ) → (QueueName → Option ℕ) → (ℕ → Bool) → Type 0
-ShowsQueues chain ls fs hs os homes = (l : ℕ) → ShowsQueue (head_of (lock_queue l) chain) ls fs hs os homes (lock_queue l)
+abbrev pub RepresentsQueues : List (QueueName × Turnstile) → (QueueName → Lists) → (QueueName → List ℕ) → (QueueName → Option ℕ) → (QueueName → Option ℕ) → (ℕ → Bool) → Type 0
+RepresentsQueues chain ls fs hs os homes = (l : ℕ) → RepresentsQueue (head_of (lock_queue l) chain) ls fs hs os homes (lock_queue l)
 
 -- 3. Threads
 
@@ -77,14 +78,14 @@ holds_of l [] = 0
 holds_of l (h ∷ hs) = (if h.l.0 == l then 1 else 0) + holds_of l hs
 
 -- the objects of a thread say of it what the columns say
-pub record ShowsThread (th : Thread) (s : State) (t : ℕ) : Type 0 where
+pub record RepresentsThread (th : Thread) (s : State) (t : ℕ) : Type 0 where
   pub number : th.record.value.thread ≡ t
   pub base : th.record.value.base ≡ s.base t
   pub effective : th.record.value.effective ≡ s.effective t
   pub turnstile : th.record.value.turnstile ≡ s.turnstile t
   pub loans : (l : ℕ) → option_map loan_of (loan_for l th.record.value.loans) ≡ s.loan t l
   pub one_loan_each : (l : ℕ) → loans_for l th.record.value.loans ≤ 1
-  pub named : th.record.value.on ≡ s.named t
+  pub blocked_on : th.record.value.on ≡ s.blocked_on t
   pub wait : wait_of th.wait ≡ s.wait t
   pub walk : walk_of th.walk ≡ s.walk t
   pub wanted : option_map (λ l. l.0) th.wanted ≡ s.wanted t
@@ -96,9 +97,9 @@ pub record ShowsThread (th : Thread) (s : State) (t : ℕ) : Type 0 where
   pub filled : All (λ p. IsSome p.turnstile) th.marked
 
 -- so those of each thread of the plan
-pub record ShowsThreads (ths : List Thread) (c : Config) (s : State) : Type 0 where
+pub record RepresentsThreads (ths : List Thread) (c : Config) (s : State) : Type 0 where
   pub threads : length ths ≡ c.threads
-  pub thread : (t : ℕ) (th : Thread) → slice_get ths t ≡ Some th → ShowsThread th s t
+  pub thread : (t : ℕ) (th : Thread) → slice_get ths t ≡ Some th → RepresentsThread th s t
 
 -- 4. The machine
 
@@ -108,10 +109,10 @@ pub record IsWithin (c : Config) : Type 0 where
   pub few_threads : c.threads ≤ 32
   pub mutexes : (l : ℕ) → c.kind l ≡ Mtx
 
-pub record Shows (c : Config) (m : Machine) (s : State) : Type 0 where
+pub record Represents (c : Config) (m : Machine) (s : State) : Type 0 where
   pub within : IsWithin c
-  pub words : ShowsWords m.words.items c s.word
-  pub queues : ShowsQueues m.chain s.lists s.free_list s.head s.owner s.loan_home
-  pub threads : ShowsThreads m.threads.items c s
+  pub words : RepresentsWords m.words.items c s.word
+  pub queues : RepresentsQueues m.chain s.lists s.free_list s.head s.owner s.loan_home
+  pub threads : RepresentsThreads m.threads.items c s
   pub history : m.log.entries ≡ reverse s.history
   pub tables : m.tables.present ≡ tables_of s.history

@@ -2,9 +2,11 @@
 use Rattle.std.specs.Prelude.{◌≡◌, ◌≢◌, ℕ, zero, suc, ◌<◌, Bool, true, ◌&&◌, nat_le, if◌then◌else◌, List, [], ◌∷◌, ◌++◌, Some, None, ⊤}
 use Rattle.lock_model.specs.Counts.{any_below, least}
 use Rattle.lock_model.specs.Words.{is_turnstile}
-use Rattle.lock_model.specs.State.{Config, State, NotHeld, NoWalk}
+use Rattle.lock_model.specs.Config.{Config}
+use Rattle.lock_state.specs.State.{State, NoWalk}
+use Rattle.lock_model.specs.Holds.{NotHeld}
 use Rattle.lock_model.specs.Queues.{lock_queue, stands}
-use Rattle.lock_model.specs.FactsOfWords.{owns}
+use Rattle.lock_state.specs.Facts.Words.{owns}
 
 -- whether u stands on the turnstile of a lock whose word is held by t
 unfoldable pub is_behind : Config → State → ℕ → ℕ → Bool

@@ -1,9 +1,10 @@
 -- Taking something out of its home, and giving it back, keep each fact.
 use Rattle.std.proofs.Common.{◌≡◌, ◌⊎◌, ℕ, true, Option, Some, None, arith, ap, refl, sym, inl, inr, ◌∙◌, subst, eq-eqb}
 use Rattle.std.proofs.lemmas.Bool.{cases_eq}
-use Rattle.lock_model.specs.State.{State, Config, put, put_at}
-use Rattle.lock_model.specs.MovesOfTurns.{Item, TurnstileChain, SleepChain, RecordOf, CellOf, ClassGraph, MayTake, MayGive, after_take, after_give, with_turn, item_with, go_together}
-use Rattle.lock_model.specs.Facts.{Lawful, QueuedHasRecord, OutIsNarrow}
+use Rattle.lock_state.specs.State.{State, put, put_at}
+use Rattle.lock_model.specs.Config.{Config}
+use Rattle.lock_state.specs.Steps.Items.{Item, TurnstileChain, SleepChain, RecordOf, CellOf, ClassGraph, MayTake, MayGive, after_take, after_give, with_item, item_with, go_together}
+use Rattle.lock_state.specs.Facts.{Lawful, QueuedHasRecord, OutIsNarrow}
 use Rattle.lock_laws.proofs.Kit.{columns, put_same, put_other, put_at_same, put_at_other, put_at_beside}
 
 by_place : (f : ℕ → Option ℕ) (i : ℕ) (o : Option ℕ) (j t : ℕ) → put f i o j ≡ Some t → ((i ≡ j) × (o ≡ Some t)) ⊎ (f j ≡ Some t)
@@ -20,7 +21,7 @@ by_cell f i k o j l t e =
     ]
 
 -- what a thread has out after an item has changed its place is that item, or was out before
-changed : (s : State) (i : Item) (o : Option ℕ) (j : Item) (t : ℕ) → item_with (with_turn s i o) j ≡ Some t → ((i ≡ j) × (o ≡ Some t)) ⊎ (item_with s j ≡ Some t)
+changed : (s : State) (i : Item) (o : Option ℕ) (j : Item) (t : ℕ) → item_with (with_item s i o) j ≡ Some t → ((i ≡ j) × (o ≡ Some t)) ⊎ (item_with s j ≡ Some t)
 changed s (TurnstileChain a) o (TurnstileChain b) t e = elim (by_place s.turnstile_chain_with a o b t e) [ inl x ↦ inl (ap TurnstileChain x.0, x.1) | inr x ↦ inr x ]
 changed s (SleepChain a) o (SleepChain b) t e = elim (by_place s.sleep_chain_with a o b t e) [ inl x ↦ inl (ap SleepChain x.0, x.1) | inr x ↦ inr x ]
 changed s (RecordOf a) o (RecordOf b) t e = elim (by_place s.record_with a o b t e) [ inl x ↦ inl (ap RecordOf x.0, x.1) | inr x ↦ inr x ]
@@ -57,7 +58,7 @@ with_itself ClassGraph = refl
 abbrev Narrow : State → Type 0
 Narrow s = OutIsNarrow s.turnstile_chain_with s.sleep_chain_with s.record_with s.cell_with s.graph_with
 
-taken_narrow : (c : Config) (s : State) (t : ℕ) (i : Item) → MayTake c s t i → Narrow s → Narrow (with_turn s i (Some t))
+taken_narrow : (c : Config) (s : State) (t : ℕ) (i : Item) → MayTake c s t i → Narrow s → Narrow (with_item s i (Some t))
 unfolding OutIsNarrow
 taken_narrow c s t i g h u j k p q =
     elim (changed s i (Some t) j u p) [
@@ -71,7 +72,7 @@ taken_narrow c s t i g h u j k p q =
       ]
     ]
 
-given_narrow : (s : State) (i : Item) → Narrow s → Narrow (with_turn s i None)
+given_narrow : (s : State) (i : Item) → Narrow s → Narrow (with_item s i None)
 unfolding OutIsNarrow
 given_narrow s i h u j k p q =
     elim (changed s i None j u p) [
@@ -79,11 +80,11 @@ given_narrow s i h u j k p q =
       | inr x ↦ elim (changed s i None k u q) [ inl y ↦ absurd (let e = y.1 in cc) | inr y ↦ h u j k x y ]
     ]
 
-taken_record : (c : Config) (s : State) (t v : ℕ) → MayTake c s t (RecordOf v) → Lawful c s → QueuedHasRecord s.wait s.named (put s.record_with v (Some t))
+taken_record : (c : Config) (s : State) (t v : ℕ) → MayTake c s t (RecordOf v) → Lawful c s → QueuedHasRecord s.wait s.blocked_on (put s.record_with v (Some t))
 unfolding QueuedHasRecord
 taken_record c s t v g h u = grind (arith, columns, h.queued_has_record u, g.home)
 
-given_record : (c : Config) (s : State) (t v : ℕ) → MayGive c s t (RecordOf v) → Lawful c s → QueuedHasRecord s.wait s.named (put s.record_with v None)
+given_record : (c : Config) (s : State) (t v : ℕ) → MayGive c s t (RecordOf v) → Lawful c s → QueuedHasRecord s.wait s.blocked_on (put s.record_with v None)
 unfolding QueuedHasRecord
 given_record c s t v g h u = grind (arith, columns, h.queued_has_record u, g.out, g.done)
 

@@ -4,7 +4,9 @@ use Rattle.std.specs.Prelude.{◌≡◌, ◌≢◌, ◌⊎◌, ℕ, suc, ◌+◌
 use Rattle.lock_model.specs.Counts.{least}
 use Rattle.lock_model.specs.Words.{Word, word_of, admits, is_plain, gained, dropped, is_drop}
 use Rattle.lock_model.specs.History.{added, open_in, left_in}
-use Rattle.lock_model.specs.State.{Config, State, Hold, NotHeld, Holds, Wait, Running, Queued, Woken, OrderRefused, SleepHalted, Loan, Wake, put, put_at}
+use Rattle.lock_model.specs.Config.{Config}
+use Rattle.lock_state.specs.State.{State, Wait, Running, Queued, Woken, OrderRefused, SleepHalted, Loan, Wake, put, put_at}
+use Rattle.lock_model.specs.Holds.{Hold, NotHeld, Holds}
 use Rattle.lock_model.specs.declared.plan.Kind.TheVariants.{Mtx}
 use Rattle.lock_model.specs.declared.plan.QueueName.TheVariants.{Lock, Chan}
 use Rattle.lock_model.specs.declared.plan.Mode.{Mode}
@@ -45,7 +47,7 @@ pub record MayGain (c : Config) (s : State) (t l : ℕ) (mode : Mode) : Type 0 w
   pub admitted : admits (c.kind l) (s.word l) mode ≡ true
   pub plainly : is_plain (c.kind l) (s.word l) mode ≡ true
   pub unheld : s.held t l ≡ NotHeld
-  pub unnamed : s.named t ≡ None
+  pub unnamed : s.blocked_on t ≡ None
   pub unwoken : is_woken (s.wait t) ≡ false
   pub wants : (s.wanted t ≡ Some l) ⊎ (s.wanted t ≡ None)
 
@@ -138,7 +140,7 @@ Asks c s t (Reversed l held) = s.noted t ≡ Some (OrderRefused l.0 held.0)
 -- what a stamp asks; the thread is on no queue, in no marked list and not woken
 pub record MayStamp (c : Config) (s : State) (t : ℕ) (e : Event) : Type 0 where
   pub thread : t < c.threads
-  pub unnamed : s.named t ≡ None
+  pub unnamed : s.blocked_on t ≡ None
   pub unwoken : is_woken (s.wait t) ≡ false
   pub asks : Asks c s t e
 
@@ -229,7 +231,7 @@ after_ready s t = record s { wait = put s.wait t Queued }
 pub record MayUnready (c : Config) (s : State) (t : ℕ) : Type 0 where
   pub thread : t < c.threads
   pub queued : s.wait t ≡ Queued
-  pub unnamed : s.named t ≡ None
+  pub unnamed : s.blocked_on t ≡ None
 
 -- the wait word says Running
 unfoldable pub after_unready : State → ℕ → State

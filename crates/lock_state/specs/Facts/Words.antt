@@ -2,8 +2,8 @@
 use Rattle.std.specs.Prelude.{◌≡◌, ◌≢◌, ℕ, ◌<◌, Bool, false, ◌==◌}
 use Rattle.lock_model.specs.Counts.{sum_below}
 use Rattle.lock_model.specs.Words.{Word, Holder, Free, HeldBy, SharedBy, sharers}
-use Rattle.lock_model.specs.History.{is_exclusive}
-use Rattle.lock_model.specs.State.{Config, Hold, NotHeld, Holds}
+use Rattle.lock_model.specs.Holds.{is_exclusive, Hold, NotHeld, Holds}
+use Rattle.lock_model.specs.Config.{Config}
 use Rattle.lock_model.specs.declared.plan.Mode.{Mode}
 use Rattle.lock_model.specs.declared.plan.Mode.TheVariants.{Excl, Shared}
 

@@ -3,9 +3,10 @@ use Rattle.std.specs.Prelude.{◌≡◌, ℕ, ◌<◌, Bool, true, false, ◌==�
 use Rattle.lock_model.specs.Counts.{sum_below, one}
 use Rattle.lock_model.specs.Words.{Word, Holder, is_turnstile, owner_of}
 use Rattle.lock_model.specs.History.{is_known}
-use Rattle.lock_model.specs.Moves.{prio_of, effective_of}
-use Rattle.lock_model.specs.State.{Config, Waiter, Lists, Loan, Walk, NoWalk, AtLock, AtThread}
-use Rattle.lock_model.specs.Queues.{lock_queue, chan_queue, least_of}
+use Rattle.lock_state.specs.Steps.LockWords.{prio_of, effective_of}
+use Rattle.lock_model.specs.Config.{Config}
+use Rattle.lock_model.specs.Queues.{Waiter, Lists, lock_queue, chan_queue, least_of}
+use Rattle.lock_state.specs.State.{Loan, Walk, NoWalk, AtLock, AtThread}
 use Rattle.lock_model.specs.declared.plan.QueueName.{QueueName}
 use Rattle.lock_model.specs.declared.event.Entry.{Entry}
 

@@ -3,8 +3,9 @@
 use Rattle.std.specs.Prelude.{◌≡◌, ℕ, ◌+◌, ◌≤◌, Bool, true, false, not, ◌&&◌, ◌==◌, nat_lt, List, [], ◌∷◌, length, Option, Some, None, ⊤}
 use Rattle.lock_model.specs.Counts.{sum_below, one, some, at_option, times, is_empty}
 use Rattle.lock_model.specs.Words.{Word, is_turnstile}
-use Rattle.lock_model.specs.State.{Config, Waiter, Lists, Mark, Loan}
-use Rattle.lock_model.specs.Queues.{lock_queue, chan_queue, is_turnstile_queue, names_turnstile, names_sleep_queue, waiting}
+use Rattle.lock_model.specs.Config.{Config}
+use Rattle.lock_model.specs.Queues.{Waiter, Lists, Mark, lock_queue, chan_queue, is_turnstile_queue, names_turnstile, names_sleep_queue, waiting}
+use Rattle.lock_state.specs.State.{Loan}
 use Rattle.lock_model.specs.declared.plan.Kind.TheVariants.{Mtx}
 use Rattle.lock_model.specs.declared.plan.QueueName.{QueueName}
 
@@ -62,11 +63,11 @@ OneNodeEach c loan_home loan = (n : ℕ) → one (nat_lt n c.threads && loan_hom
 
 -- a thread's turnstile is at home, or its record names a turnstile
 unfoldable pub TurnstileIsLent : Config → (ℕ → Option ℕ) → (ℕ → Option QueueName) → Type 0
-TurnstileIsLent c turnstile named = (t : ℕ) → some (turnstile t) + one (names_turnstile c (named t)) ≡ 1
+TurnstileIsLent c turnstile blocked_on = (t : ℕ) → some (turnstile t) + one (names_turnstile c (blocked_on t)) ≡ 1
 
 -- a thread's sleep queue is at home, or its record names a sleep queue
 unfoldable pub SleepQueueIsLent : Config → (ℕ → Option ℕ) → (ℕ → Option QueueName) → Type 0
-SleepQueueIsLent c sleep_queue named = (t : ℕ) → some (sleep_queue t) + one (names_sleep_queue c (named t)) ≡ 1
+SleepQueueIsLent c sleep_queue blocked_on = (t : ℕ) → some (sleep_queue t) + one (names_sleep_queue c (blocked_on t)) ≡ 1
 
 -- 2. Heads
 

@@ -2,39 +2,17 @@
 -- this is all there is to know. Columns range over all numbers; out of a plan's range they stay as they began.
 use Rattle.std.specs.Prelude.{ℕ, Bool, true, false, ◌&&◌, ◌==◌, if◌then◌else◌, List, [], Option, Some, None}
 use Rattle.lock_model.specs.Words.{Word, free_word}
-use Rattle.lock_model.specs.declared.plan.Kind.{Kind}
-use Rattle.lock_model.specs.declared.plan.Mode.{Mode}
+use Rattle.lock_model.specs.Config.{Config}
+use Rattle.lock_model.specs.Holds.{Hold, NotHeld}
+use Rattle.lock_model.specs.Queues.{Cause, Lists, Mark, is_queue}
 use Rattle.lock_model.specs.declared.plan.QueueName.{QueueName}
-use Rattle.lock_model.specs.declared.plan.QueueName.TheVariants.{Lock, Chan}
 use Rattle.lock_model.specs.declared.event.Entry.{Entry}
-
--- why a waiter was taken off its queue
-pub data Cause : Type 0 where
-  BySignal : Cause
-  ByAbort : Cause
 
 -- what a thread's wait word says
 pub data Wait : Type 0 where
   Running : Wait
   Queued : Wait
   Woken : QueueName → Cause → Wait
-
--- a thread on a queue, and the priority by which the queue keeps it
-pub record Waiter : Type 0 where
-  pub thread : ℕ
-  pub kept : ℕ
-
--- the two lists of a queue, each from its front
-pub record Lists : Type 0 where
-  pub exclusive : List Waiter
-  pub shared : List Waiter
-
--- a thread that was taken off a queue and is still to be woken, with the turnstile or sleep queue that it takes back
-pub record Mark : Type 0 where
-  pub thread : ℕ
-  pub object : ℕ
-  pub queue : QueueName
-  pub cause : Cause
 
 -- where a thread's lending walk stands
 pub data Walk : Type 0 where
@@ -46,10 +24,6 @@ pub data Walk : Type 0 where
 pub record Loan : Type 0 where
   pub number : ℕ
   pub prio : ℕ
-
-pub data Hold : Type 0 where
-  NotHeld : Hold
-  Holds : Mode → Hold
 
 -- what a thread's last look at a lock saw
 pub record Look : Type 0 where
@@ -69,17 +43,6 @@ pub record Wake : Type 0 where
   pub all : Bool
   pub taken : List ℕ
 
--- what a plan fixes: how many there are of each, and each lock's kind and class and each channel's lock
-pub record Config : Type 0 where
-  pub threads : ℕ
-  pub locks : ℕ
-  pub chans : ℕ
-  pub chains : ℕ
-  pub kind : ℕ → Kind
-  pub class : ℕ → ℕ
-  pub chan_lock : ℕ → ℕ
-  pub declared_base : ℕ → ℕ
-
 pub record State : Type 0 where
   -- by lock: its word
   pub word : ℕ → Word
@@ -94,7 +57,7 @@ pub record State : Type 0 where
   pub turnstile : ℕ → Option ℕ
   pub sleep_queue : ℕ → Option ℕ
   pub loan : ℕ → ℕ → Option Loan
-  pub named : ℕ → Option QueueName
+  pub blocked_on : ℕ → Option QueueName
   -- by turnstile: whether its loan node is at home
   pub loan_home : ℕ → Bool
   -- by thread: its wait word
@@ -147,12 +110,6 @@ put f i v j = if i == j then v else f j
 unfoldable pub put_at : {A : Type 0} → (ℕ → ℕ → A) → ℕ → ℕ → A → ℕ → ℕ → A
 put_at f i k v j l = if (i == j) && (k == l) then v else f j l
 
-abbrev pub is_queue : QueueName → QueueName → Bool
-is_queue (Lock l) (Lock k) = l.0 == k.0
-is_queue (Chan c) (Chan d) = c.0 == d.0
-is_queue (Lock l) (Chan d) = false
-is_queue (Chan c) (Lock k) = false
-
 -- the same for a column by queue
 unfoldable pub put_queue : {A : Type 0} → (QueueName → A) → QueueName → A → QueueName → A
 put_queue f q v r = if is_queue q r then v else f r
@@ -170,7 +127,7 @@ start_state c = record {
   turnstile = λ t. Some t;
   sleep_queue = λ t. Some t;
   loan = λ t l. None;
-  named = λ t. None;
+  blocked_on = λ t. None;
   loan_home = λ n. true;
   wait = λ t. Running;
   held = λ t l. NotHeld;

@@ -1,7 +1,8 @@
 -- What lies behind turn words, and the steps that take it out of its home and give it back.
 use Rattle.std.specs.Prelude.{◌≡◌, ◌≢◌, ℕ, ◌<◌, Bool, true, false, ◌&&◌, ◌==◌, Option, Some, None, ⊤}
-use Rattle.lock_model.specs.State.{Config, State, Queued, put, put_at}
-use Rattle.lock_model.specs.Moves.{is_woken}
+use Rattle.lock_model.specs.Config.{Config}
+use Rattle.lock_state.specs.State.{State, Queued, put, put_at}
+use Rattle.lock_state.specs.Steps.LockWords.{is_woken}
 
 -- what a thread may have out: a chain of turnstiles or of sleep queues, a thread's record, a cell of a lock's table, the class graph
 pub data Item : Type 0 where
@@ -46,7 +47,7 @@ IsItem c ClassGraph = ⊤
 
 -- the class graph is taken only by a thread that is on no queue, in no marked list and not woken
 abbrev pub MayCheckOrders : State → ℕ → Item → Type 0
-MayCheckOrders s t ClassGraph = (s.named t ≡ None) × (is_woken (s.wait t) ≡ false)
+MayCheckOrders s t ClassGraph = (s.blocked_on t ≡ None) × (is_woken (s.wait t) ≡ false)
 MayCheckOrders s t other = ⊤
 
 -- the item is home, and goes together with all that the thread has out
@@ -58,23 +59,23 @@ pub record MayTake (c : Config) (s : State) (t : ℕ) (i : Item) : Type 0 where
   pub orders : MayCheckOrders s t i
 
 -- an item with its turn: out, where it goes to a thread, else home
-abbrev pub with_turn : State → Item → Option ℕ → State
-with_turn s (TurnstileChain k) o = record s { turnstile_chain_with = put s.turnstile_chain_with k o }
-with_turn s (SleepChain k) o = record s { sleep_chain_with = put s.sleep_chain_with k o }
-with_turn s (RecordOf t) o = record s { record_with = put s.record_with t o }
-with_turn s (CellOf l k) o = record s { cell_with = put_at s.cell_with l k o }
-with_turn s ClassGraph o = record s { graph_with = o }
+abbrev pub with_item : State → Item → Option ℕ → State
+with_item s (TurnstileChain k) o = record s { turnstile_chain_with = put s.turnstile_chain_with k o }
+with_item s (SleepChain k) o = record s { sleep_chain_with = put s.sleep_chain_with k o }
+with_item s (RecordOf t) o = record s { record_with = put s.record_with t o }
+with_item s (CellOf l k) o = record s { cell_with = put_at s.cell_with l k o }
+with_item s ClassGraph o = record s { graph_with = o }
 
 -- the item is out with the thread
 unfoldable pub after_take : State → ℕ → Item → State
-after_take s t i = with_turn s i (Some t)
+after_take s t i = with_item s i (Some t)
 
 -- A thread gives back what it has out: its own record only where it isn't about to stand on a queue, a sleep chain only where its wake
 -- is noted. The class graph goes home by steps of its own.
 abbrev pub IsDoneWith : State → ℕ → Item → Type 0
 IsDoneWith s t (TurnstileChain k) = ⊤
 IsDoneWith s t (SleepChain k) = s.unstamped t ≡ None
-IsDoneWith s t (RecordOf u) = u ≡ t → s.wait t ≡ Queued → s.named t ≢ None
+IsDoneWith s t (RecordOf u) = u ≡ t → s.wait t ≡ Queued → s.blocked_on t ≢ None
 IsDoneWith s t (CellOf l k) = ⊤
 IsDoneWith s t ClassGraph = ⊥
 
@@ -86,4 +87,4 @@ pub record MayGive (c : Config) (s : State) (t : ℕ) (i : Item) : Type 0 where
 
 -- the item is home
 unfoldable pub after_give : State → Item → State
-after_give s i = with_turn s i None
+after_give s i = with_item s i None

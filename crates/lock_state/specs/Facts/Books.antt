@@ -1,8 +1,9 @@
 -- Facts of logs, tables and the history, and of what is out.
 use Rattle.std.specs.Prelude.{◌≡◌, ℕ, true, List, length, Option, Some}
 use Rattle.lock_model.specs.History.{value_at, open_in, base_in, entries_of}
-use Rattle.lock_model.specs.MovesOfTurns.{Item, out_with, go_together}
-use Rattle.lock_model.specs.State.{Config, Hold, Holds}
+use Rattle.lock_state.specs.Steps.Items.{Item, out_with, go_together}
+use Rattle.lock_model.specs.Config.{Config}
+use Rattle.lock_model.specs.Holds.{Hold, Holds}
 use Rattle.lock_model.specs.declared.plan.Mode.{Mode}
 use Rattle.lock_model.specs.declared.event.Entry.{Entry}
 

@@ -3,10 +3,12 @@
 use Rattle.std.specs.Prelude.{◌≡◌, ◌⊎◌, ℕ, ◌<◌, Bool, true, false, if◌then◌else◌, List, [], ◌∷◌, Option, Some, None}
 use Rattle.lock_model.specs.Words.{Holder, Free, HeldBy, SharedBy, admits, is_free, is_turnstile, without_one, shows_waiters, owner_of, entered, opened, side_woken}
 use Rattle.lock_model.specs.History.{open_in}
-use Rattle.lock_model.specs.Moves.{effective_of, after_ready}
-use Rattle.lock_model.specs.MovesOfTurns.{Item, item_with}
-use Rattle.lock_model.specs.State.{Config, State, NotHeld, Holds, Running, Queued, Woken, Cause, BySignal, ByAbort, Waiter, Mark, Walk, NoWalk, AtLock, Note, SleepHalted, Loan, put, put_at, put_queue}
-use Rattle.lock_model.specs.Queues.{lock_queue, is_turnstile_queue, side_of, list_of, with_list, insert, head_with, free_with, dealt, free_after, head_after}
+use Rattle.lock_state.specs.Steps.LockWords.{effective_of, after_ready}
+use Rattle.lock_state.specs.Steps.Items.{Item, item_with}
+use Rattle.lock_model.specs.Config.{Config}
+use Rattle.lock_state.specs.State.{State, Running, Queued, Woken, Walk, NoWalk, AtLock, Note, SleepHalted, Loan, put, put_at, put_queue}
+use Rattle.lock_model.specs.Holds.{NotHeld, Holds}
+use Rattle.lock_model.specs.Queues.{Cause, BySignal, ByAbort, Waiter, Mark, lock_queue, is_turnstile_queue, side_of, list_of, with_list, insert, head_with, free_with, dealt, free_after, head_after}
 use Rattle.lock_model.specs.declared.plan.Kind.TheVariants.{Mtx}
 use Rattle.lock_model.specs.declared.plan.Mode.{Mode}
 use Rattle.lock_model.specs.declared.plan.Mode.TheVariants.{Excl}
@@ -28,7 +30,7 @@ pub record MayEnter (c : Config) (s : State) (t l : ℕ) (mode : Mode) (x : ℕ)
   pub held : is_free (s.word l).holder ≡ false
   pub refused : admits (c.kind l) (s.word l) mode ≡ false
   pub queued : s.wait t ≡ Queued
-  pub unnamed : s.named t ≡ None
+  pub unnamed : s.blocked_on t ≡ None
   pub own : s.turnstile t ≡ Some x
   pub wants : (s.wanted t ≡ Some l) ⊎ (s.wanted t ≡ None)
   pub no_walk : s.walk t ≡ NoWalk
@@ -55,7 +57,7 @@ after_enter s t l mode x =
       head = put_queue s.head q (head_with (s.head q) x);
       owner = put_queue s.owner q (owner_with (s.head q) (s.owner q) (s.word l).holder);
       turnstile = put s.turnstile t None;
-      named = put s.named t (Some q);
+      blocked_on = put s.blocked_on t (Some q);
       wanted = put s.wanted t (Some l);
       called = put s.called t None;
       walk = put s.walk t (walk_in l (s.word l).holder);
@@ -94,7 +96,7 @@ pub record MayOpen (c : Config) (s : State) (t l : ℕ) (mode : Mode) : Type 0 w
   pub last : is_free (without_one (s.word l).holder) ≡ true
   pub shown : shows_waiters (s.word l) ≡ true
   pub unmarked : s.marked t ≡ []
-  pub off_turnstiles : (k : ℕ) → s.named t ≡ Some (lock_queue k) → is_turnstile (c.kind k) ≡ false
+  pub off_turnstiles : (k : ℕ) → s.blocked_on t ≡ Some (lock_queue k) → is_turnstile (c.kind k) ≡ false
   pub closed : open_in c s.history t l ≡ NotHeld
   pub begun : s.has_begun t l ≡ true
 
@@ -135,7 +137,7 @@ unfoldable pub after_mark : Config → State → ℕ → Mark → List Mark → 
 after_mark c s t m ms = record s {
   turnstile = if is_turnstile_queue c m.queue then put s.turnstile m.thread (Some m.object) else s.turnstile;
   sleep_queue = if is_turnstile_queue c m.queue then s.sleep_queue else put s.sleep_queue m.thread (Some m.object);
-  named = put s.named m.thread None;
+  blocked_on = put s.blocked_on m.thread None;
   wait = put s.wait m.thread (Woken m.queue m.cause);
   marked = put s.marked t ms;
   counted_first = put s.counted_first t false;

@@ -1,12 +1,18 @@
 -- A lawful state: the facts that hold between any two steps, in groups.
-use Rattle.lock_model.specs.State.{Config, State}
+pub mod Queues
+pub mod Waits
+pub mod Words
+pub mod Loans
+pub mod Books
+use Rattle.lock_model.specs.Config.{Config}
+use Rattle.lock_state.specs.State.{State}
 unfoldable pub use Rattle.lock_model.specs.History.{TicketsRun, SectionsExclude, EditsInSections, ReadsReplay, ShownIsExplained}
-unfoldable pub use Rattle.lock_model.specs.FactsOfQueues.{OneTurnstileEach, OneSleepQueueEach, OneNodeEach, TurnstileIsLent, SleepQueueIsLent, HeadsFitWaiters, BitsShowWaiters, ListsAscend, MutexWaitersAreExclusive}
-unfoldable pub use Rattle.lock_model.specs.FactsOfWaits.{StandsOnce, OnlyThreadsStand, StandingIsQueued, QueuedHasRecord, StandingWants, WokenWants, CalledWants, StandingIsUncalled, WokenIsUncalled, FreeWordHasCalled, FreeMutexShowsNone}
-unfoldable pub use Rattle.lock_model.specs.FactsOfWords.{WordsMatchHolders, OnlyThreadsHold}
-pub use Rattle.lock_model.specs.FactsOfWords.{WordMatchesHolders, owns, shares}
-unfoldable pub use Rattle.lock_model.specs.FactsOfLoans.{EffectiveIsLeast, OwnersHold, ChannelsHaveNoOwner, LoansAreLeast, LoansAreWithOwners, LoansAreOnHeads, KeptIsEffective, EffectiveIsKnown, LoansAreKnown, KeptIsKnown}
-unfoldable pub use Rattle.lock_model.specs.FactsOfBooks.{NextIsNew, LogsAreParts, TablesReplay, BasesReplay, SectionsAreHeld, OutIsNarrow}
+unfoldable pub use Rattle.lock_state.specs.Facts.Queues.{OneTurnstileEach, OneSleepQueueEach, OneNodeEach, TurnstileIsLent, SleepQueueIsLent, HeadsFitWaiters, BitsShowWaiters, ListsAscend, MutexWaitersAreExclusive}
+unfoldable pub use Rattle.lock_state.specs.Facts.Waits.{StandsOnce, OnlyThreadsStand, StandingIsQueued, QueuedHasRecord, StandingWants, WokenWants, CalledWants, StandingIsUncalled, WokenIsUncalled, FreeWordHasCalled, FreeMutexShowsNone}
+unfoldable pub use Rattle.lock_state.specs.Facts.Words.{WordsMatchHolders, OnlyThreadsHold}
+pub use Rattle.lock_state.specs.Facts.Words.{WordMatchesHolders, owns, shares}
+unfoldable pub use Rattle.lock_state.specs.Facts.Loans.{EffectiveIsLeast, OwnersHold, ChannelsHaveNoOwner, LoansAreLeast, LoansAreWithOwners, LoansAreOnHeads, KeptIsEffective, EffectiveIsKnown, LoansAreKnown, KeptIsKnown}
+unfoldable pub use Rattle.lock_state.specs.Facts.Books.{NextIsNew, LogsAreParts, TablesReplay, BasesReplay, SectionsAreHeld, OutIsNarrow}
 
 -- a state in which all of these hold
 pub record Lawful (c : Config) (s : State) : Type 0 where
@@ -14,21 +20,21 @@ pub record Lawful (c : Config) (s : State) : Type 0 where
   pub one_turnstile_each : OneTurnstileEach c s.turnstile s.head s.free_list s.marked
   pub one_sleep_queue_each : OneSleepQueueEach c s.sleep_queue s.head s.free_list s.marked
   pub one_node_each : OneNodeEach c s.loan_home s.loan
-  pub turnstile_is_lent : TurnstileIsLent c s.turnstile s.named
-  pub sleep_queue_is_lent : SleepQueueIsLent c s.sleep_queue s.named
+  pub turnstile_is_lent : TurnstileIsLent c s.turnstile s.blocked_on
+  pub sleep_queue_is_lent : SleepQueueIsLent c s.sleep_queue s.blocked_on
   pub heads_fit_waiters : HeadsFitWaiters s.lists s.free_list s.head s.owner
   pub bits_show_waiters : BitsShowWaiters s.word s.lists
   pub lists_ascend : ListsAscend c s.lists
   pub mutex_waiters_are_exclusive : MutexWaitersAreExclusive c s.lists
   -- standing, wanting and calling
-  pub stands_once : StandsOnce c s.lists s.marked s.named
-  pub only_threads_stand : OnlyThreadsStand c s.named
-  pub standing_is_queued : StandingIsQueued s.named s.wait
-  pub queued_has_record : QueuedHasRecord s.wait s.named s.record_with
-  pub standing_wants : StandingWants s.named s.wanted
+  pub stands_once : StandsOnce c s.lists s.marked s.blocked_on
+  pub only_threads_stand : OnlyThreadsStand c s.blocked_on
+  pub standing_is_queued : StandingIsQueued s.blocked_on s.wait
+  pub queued_has_record : QueuedHasRecord s.wait s.blocked_on s.record_with
+  pub standing_wants : StandingWants s.blocked_on s.wanted
   pub woken_wants : WokenWants s.wait s.wanted
   pub called_wants : CalledWants s.called s.wanted
-  pub standing_is_uncalled : StandingIsUncalled s.named s.called
+  pub standing_is_uncalled : StandingIsUncalled s.blocked_on s.called
   pub woken_is_uncalled : WokenIsUncalled s.wait s.called
   pub free_word_has_called : FreeWordHasCalled c s.word s.marked s.wait s.called
   pub free_mutex_shows_none : FreeMutexShowsNone c s.word

@@ -6,13 +6,14 @@ use Rattle.std.specs.FinMap.{entries}
 use Rattle.lock_model.specs.Plans.{config_of, operations_of}
 use Rattle.lock_model.specs.Counts.{any_below, is_empty}
 use Rattle.lock_model.specs.Words.{admits, is_drop, is_turnstile, owner_of}
-use Rattle.lock_model.specs.State.{Config, State, Hold, NotHeld, Holds, Wait, Running, Queued, Woken, Walk, NoWalk, AtLock, AtThread, Mark, start_state, put}
-use Rattle.lock_model.specs.Operations.{is_unheld}
-use Rattle.lock_model.specs.Queues.{lock_queue, chan_queue, stands}
+use Rattle.lock_model.specs.Config.{Config}
+use Rattle.lock_state.specs.State.{State, Wait, Running, Queued, Woken, Walk, NoWalk, AtLock, AtThread, start_state, put}
+use Rattle.lock_model.specs.Holds.{Hold, NotHeld, Holds, is_unheld}
+use Rattle.lock_model.specs.Queues.{Mark, lock_queue, chan_queue, stands}
 use Rattle.lock_model.specs.History.{tables_of}
-use Rattle.lock_model.specs.Moves.{after_gain, after_drop, after_stamp}
-use Rattle.lock_model.specs.MovesOfQueues.{after_block, after_open, after_mark, after_resume}
-use Rattle.lock_model.specs.MovesOfLoans.{after_lend, after_shift, after_end_walk}
+use Rattle.lock_state.specs.Steps.LockWords.{after_gain, after_drop, after_stamp}
+use Rattle.lock_state.specs.Steps.Turnstiles.{after_block, after_open, after_mark, after_resume}
+use Rattle.lock_state.specs.Steps.Lending.{after_lend, after_shift, after_end_walk}
 use Rattle.lock_model.specs.Text.{Outcome, QueueLine, Ending, IsDone, IsStuck, IsTooLong}
 use Rattle.lock_model.specs.declared.numbers.LockNo.{LockNo}
 use Rattle.lock_model.specs.declared.plan.Mode.{Mode}
@@ -139,7 +140,7 @@ by_marked plan c r t [] = by_wait plan c r t (r.state.wait t)
 -- a walk goes before the marked list
 abbrev pub by_walk : Plan → Config → Run → ℕ → Walk → Made
 by_walk plan c r t (AtLock l) = walks_at_lock c r t l (owner_of (r.state.word l).holder) (r.state.head (lock_queue l))
-by_walk plan c r t (AtThread o) = walks_at_thread c r t o (r.state.named o)
+by_walk plan c r t (AtThread o) = walks_at_thread c r t o (r.state.blocked_on o)
 by_walk plan c r t NoWalk = by_marked plan c r t (r.state.marked t)
 
 -- a turn of a thread

@@ -2,8 +2,10 @@
 use Rattle.std.specs.Prelude.{◌≡◌, ◌⊎◌, ℕ, ◌<◌, Bool, true, false, ◌==◌, nat_lt, if◌then◌else◌, List, [], ◌∷◌, ◌++◌, map, Option, Some, None}
 use Rattle.lock_model.specs.Words.{admits, is_free, is_turnstile, without_one, shows_waiters, entered, opened, side_woken}
 use Rattle.lock_model.specs.History.{open_in}
-use Rattle.lock_model.specs.State.{Config, State, NotHeld, Holds, Queued, Waiter, put, put_at, put_queue}
-use Rattle.lock_model.specs.Queues.{lock_queue, chan_queue, side_of, list_of, with_list, head_with, free_with, dealt, free_after, head_after, without}
+use Rattle.lock_model.specs.Config.{Config}
+use Rattle.lock_state.specs.State.{State, Queued, put, put_at, put_queue}
+use Rattle.lock_model.specs.Holds.{NotHeld, Holds}
+use Rattle.lock_model.specs.Queues.{Waiter, lock_queue, chan_queue, side_of, list_of, with_list, head_with, free_with, dealt, free_after, head_after, without}
 use Rattle.lock_model.specs.declared.plan.Mode.{Mode}
 use Rattle.lock_model.specs.declared.plan.Side.{Side}
 use Rattle.lock_model.specs.declared.plan.QueueName.{QueueName}
@@ -21,7 +23,7 @@ pub record MayEnterSleep (c : Config) (s : State) (t l : ℕ) (mode : Mode) (x :
   pub held : is_free (s.word l).holder ≡ false
   pub refused : admits (c.kind l) (s.word l) mode ≡ false
   pub queued : s.wait t ≡ Queued
-  pub unnamed : s.named t ≡ None
+  pub unnamed : s.blocked_on t ≡ None
   pub own : s.sleep_queue t ≡ Some x
   pub wants : (s.wanted t ≡ Some l) ⊎ (s.wanted t ≡ None)
 
@@ -39,7 +41,7 @@ after_enter_sleep s t l mode x =
       free_list = put_queue s.free_list q (free_with (s.head q) x (s.free_list q));
       head = put_queue s.head q (head_with (s.head q) x);
       sleep_queue = put s.sleep_queue t None;
-      named = put s.named t (Some q);
+      blocked_on = put s.blocked_on t (Some q);
       wanted = put s.wanted t (Some l);
       called = put s.called t None;
       last_look = put s.last_look t None;
@@ -91,7 +93,7 @@ pub record MayAdd (c : Config) (s : State) (t d x : ℕ) : Type 0 where
   pub thread : t < c.threads
   pub chan : d < c.chans
   pub queued : s.wait t ≡ Queued
-  pub unnamed : s.named t ≡ None
+  pub unnamed : s.blocked_on t ≡ None
   pub own : s.sleep_queue t ≡ Some x
   pub wants : s.wanted t ≡ None
   pub slept : has_slept d (s.log t) ≡ true
@@ -105,7 +107,7 @@ after_add s t d x =
       free_list = put_queue s.free_list q (free_with (s.head q) x (s.free_list q));
       head = put_queue s.head q (head_with (s.head q) x);
       sleep_queue = put s.sleep_queue t None;
-      named = put s.named t (Some q);
+      blocked_on = put s.blocked_on t (Some q);
     }
 
 -- 4. A wake: the best sleeper of a channel, or all, go to the marked list

@@ -1,14 +1,20 @@
 -- The steps of threads, one case per kind. A step asks its guard, and its effect is computed.
+pub mod LockWords
+pub mod Items
+pub mod Turnstiles
+pub mod SleepQueues
+pub mod Lending
 use Rattle.std.specs.Prelude.{◌≡◌, ◌⊎◌, ℕ, ◌%◌, Bool, true, false, not, ◌&&◌, ◌==◌, if◌then◌else◌, List, [], ◌∷◌, Option, Some, None, ⊤}
-use Rattle.lock_model.specs.State.{Config, State, Cause, Mark, Walk, NoWalk, AtLock, AtThread, start_state}
+use Rattle.lock_model.specs.Config.{Config}
+use Rattle.lock_state.specs.State.{State, Walk, NoWalk, AtLock, AtThread, start_state}
+use Rattle.lock_model.specs.Queues.{Cause, Mark, lock_queue}
 use Rattle.lock_model.specs.Words.{Word, is_turnstile, admits}
-use Rattle.lock_model.specs.Operations.{is_unheld}
-use Rattle.lock_model.specs.Queues.{lock_queue}
-use Rattle.lock_model.specs.Moves.{MayLook, MayGain, MayDrop, MayStamp, MayReady, MayUnready, after_look, after_gain, after_drop, after_stamp, after_ready, after_unready}
-use Rattle.lock_model.specs.MovesOfQueues.{MayEnter, MayOpen, MayMark, MayResume, after_enter, after_open, after_mark, after_resume}
-use Rattle.lock_model.specs.MovesOfSleeps.{MayEnterSleep, MayOpenSleep, MayAdd, MayWake, after_enter_sleep, after_open_sleep, after_add, after_wake}
-use Rattle.lock_model.specs.MovesOfLoans.{MayClaim, MayLend, MayShift, MayEndWalk, after_claim, after_lend, after_shift, after_end_walk}
-use Rattle.lock_model.specs.MovesOfTurns.{Item, TurnstileChain, SleepChain, RecordOf, CellOf, item_with, MayTake, MayGive, after_take, after_give}
+use Rattle.lock_model.specs.Holds.{is_unheld}
+use Rattle.lock_state.specs.Steps.LockWords.{MayLook, MayGain, MayDrop, MayStamp, MayReady, MayUnready, after_look, after_gain, after_drop, after_stamp, after_ready, after_unready}
+use Rattle.lock_state.specs.Steps.Turnstiles.{MayEnter, MayOpen, MayMark, MayResume, after_enter, after_open, after_mark, after_resume}
+use Rattle.lock_state.specs.Steps.SleepQueues.{MayEnterSleep, MayOpenSleep, MayAdd, MayWake, after_enter_sleep, after_open_sleep, after_add, after_wake}
+use Rattle.lock_state.specs.Steps.Lending.{MayClaim, MayLend, MayShift, MayEndWalk, after_claim, after_lend, after_shift, after_end_walk}
+use Rattle.lock_state.specs.Steps.Items.{Item, TurnstileChain, SleepChain, RecordOf, CellOf, item_with, MayTake, MayGive, after_take, after_give}
 use Rattle.lock_model.specs.declared.plan.Mode.{Mode}
 use Rattle.lock_model.specs.declared.plan.Mode.TheVariants.{Excl}
 use Rattle.lock_model.specs.declared.plan.QueueName.{QueueName}
@@ -16,48 +22,48 @@ use Rattle.lock_model.specs.declared.event.Event.{Event}
 use Rattle.lock_model.specs.declared.event.Event.TheVariants.{Set, Added, Got, Base, Shown, Sleeps, WokeOne, WokeAll}
 
 -- a step, with the thread that makes it first
-pub data Move : Type 0 where
+pub data Step : Type 0 where
   -- the lock, and whether it counts in an acquiring round
-  Looks : ℕ → ℕ → Bool → Move
+  Looks : ℕ → ℕ → Bool → Step
   -- the item
-  TakesTurn : ℕ → Item → Move
-  GivesTurn : ℕ → Item → Move
+  TakesItem : ℕ → Item → Step
+  GivesItem : ℕ → Item → Step
   -- the lock and the mode
-  Gains : ℕ → ℕ → Mode → Move
-  Drops : ℕ → ℕ → Mode → Move
+  Gains : ℕ → ℕ → Mode → Step
+  Drops : ℕ → ℕ → Mode → Step
   -- the event
-  Stamps : ℕ → Event → Move
+  Stamps : ℕ → Event → Step
   -- the own wait word
-  Readies : ℕ → Move
-  Unreadies : ℕ → Move
+  Readies : ℕ → Step
+  Unreadies : ℕ → Step
   -- the lock, the mode and the own turnstile
-  Enters : ℕ → ℕ → Mode → ℕ → Move
+  Enters : ℕ → ℕ → Mode → ℕ → Step
   -- the lock and the mode in which it was held
-  Opens : ℕ → ℕ → Mode → Move
+  Opens : ℕ → ℕ → Mode → Step
   -- the same of an sx lock, with the own sleep queue
-  EntersSleepQueue : ℕ → ℕ → Mode → ℕ → Move
-  OpensSleepQueue : ℕ → ℕ → Mode → Move
+  EntersSleepQueue : ℕ → ℕ → Mode → ℕ → Step
+  OpensSleepQueue : ℕ → ℕ → Mode → Step
   -- the channel and the own sleep queue
-  Adds : ℕ → ℕ → ℕ → Move
+  Adds : ℕ → ℕ → ℕ → Step
   -- the channel, and whether all sleepers are taken off
-  Wakes : ℕ → ℕ → Bool → Move
+  Wakes : ℕ → ℕ → Bool → Step
   -- the first mark and the others
-  Marks : ℕ → Mark → List Mark → Move
+  Marks : ℕ → Mark → List Mark → Step
   -- the queue and the cause of the wake
-  Resumes : ℕ → QueueName → Cause → Move
+  Resumes : ℕ → QueueName → Cause → Step
   -- the lock and the head of its turnstile
-  Claims : ℕ → ℕ → ℕ → Move
+  Claims : ℕ → ℕ → ℕ → Step
   -- the lock, the owner of its turnstile and the head
-  Lends : ℕ → ℕ → ℕ → ℕ → Move
+  Lends : ℕ → ℕ → ℕ → ℕ → Step
   -- the thread at which the walk is, and the lock for which it waits
-  Shifts : ℕ → ℕ → ℕ → Move
-  EndsWalk : ℕ → Move
+  Shifts : ℕ → ℕ → ℕ → Step
+  EndsWalk : ℕ → Step
 
 -- what a step asks of the state
-abbrev pub May : Config → State → Move → Type 0
+abbrev pub May : Config → State → Step → Type 0
 May c s (Looks t l in_round) = MayLook c s t l in_round
-May c s (TakesTurn t i) = MayTake c s t i
-May c s (GivesTurn t i) = MayGive c s t i
+May c s (TakesItem t i) = MayTake c s t i
+May c s (GivesItem t i) = MayGive c s t i
 May c s (Gains t l mode) = MayGain c s t l mode
 May c s (Drops t l mode) = MayDrop c s t l mode
 May c s (Stamps t e) = MayStamp c s t e
@@ -77,10 +83,10 @@ May c s (Shifts t o l) = MayShift c s t o l
 May c s (EndsWalk t) = MayEndWalk c s t
 
 -- what a step makes of the state
-abbrev pub after : Config → State → Move → State
+abbrev pub after : Config → State → Step → State
 after c s (Looks t l in_round) = after_look s t l in_round
-after c s (TakesTurn t i) = after_take s t i
-after c s (GivesTurn t i) = after_give s i
+after c s (TakesItem t i) = after_take s t i
+after c s (GivesItem t i) = after_give s i
 after c s (Gains t l mode) = after_gain s t l mode
 after c s (Drops t l mode) = after_drop s t l
 after c s (Stamps t e) = after_stamp c s t e
@@ -134,13 +140,13 @@ HasOutForEntry c s t other = ⊤
 abbrev pub HasOutForEnd : Config → State → ℕ → Walk → Type 0
 HasOutForEnd c s t NoWalk = ⊤
 HasOutForEnd c s t (AtLock l) = HasItem s t (chain_of c l)
-HasOutForEnd c s t (AtThread o) = HasItem s t (RecordOf o) × ((l : ℕ) → is_turnstile (c.kind l) ≡ true → s.named o ≡ Some (lock_queue l) → HasItem s t (chain_of c l))
+HasOutForEnd c s t (AtThread o) = HasItem s t (RecordOf o) × ((l : ℕ) → is_turnstile (c.kind l) ≡ true → s.blocked_on o ≡ Some (lock_queue l) → HasItem s t (chain_of c l))
 
 -- what each kind of step needs out
-abbrev pub HasOut : Config → State → Move → Type 0
+abbrev pub HasOut : Config → State → Step → Type 0
 HasOut c s (Looks t l in_round) = ⊤
-HasOut c s (TakesTurn t i) = ⊤
-HasOut c s (GivesTurn t i) = HasItem s t i
+HasOut c s (TakesItem t i) = ⊤
+HasOut c s (GivesItem t i) = HasItem s t i
 HasOut c s (Gains t l mode) = ⊤
 HasOut c s (Drops t l mode) = ⊤
 HasOut c s (Stamps t e) = HasOutForEntry c s t e
@@ -160,8 +166,8 @@ HasOut c s (Shifts t o l) = HasItem s t (chain_of c l) × HasItem s t (RecordOf 
 HasOut c s (EndsWalk t) = HasOutForEnd c s t (s.walk t)
 
 -- n comes from s by one step
-abbrev pub Step : Config → State → State → Type 0
-Step c s n = (m : Move) × May c s m × (n ≡ after c s m)
+abbrev pub IsStep : Config → State → State → Type 0
+IsStep c s n = (m : Step) × May c s m × (n ≡ after c s m)
 
 -- whether a load of the lock's word counts as a look of an acquiring round outside the lock's chain
 abbrev pub counts_as_look : Config → State → ℕ → ℕ → Bool
@@ -173,7 +179,7 @@ SawAdmitting c s t l mode = (w : Word) → HasItem s t (chain_of c l) → s.last
 
 -- What a thread of a running floor must have seen. An enter is an exchange from the word that the last look saw; and where a look in the
 -- lock's chain saw a word that doesn't admit, the thread enters and does not gain, until it looks again.
-abbrev pub HasSeen : Config → State → Move → Type 0
+abbrev pub HasSeen : Config → State → Step → Type 0
 HasSeen c s (Looks t l in_round) = in_round ≡ counts_as_look c s t l
 HasSeen c s (Gains t l mode) = SawAdmitting c s t l mode
 HasSeen c s (Claims t l h) = SawAdmitting c s t l Excl
@@ -182,20 +188,20 @@ HasSeen c s (EntersSleepQueue t l mode x) = s.last_look t ≡ Some (record { loc
 HasSeen c s other = ⊤
 
 -- n comes from s by one step of a thread of a running floor
-abbrev pub FloorStep : Config → State → State → Type 0
-FloorStep c s n = (m : Move) × May c s m × HasOut c s m × HasSeen c s m × (n ≡ after c s m)
+abbrev pub IsFloorStep : Config → State → State → Type 0
+IsFloorStep c s n = (m : Step) × May c s m × HasOut c s m × HasSeen c s m × (n ≡ after c s m)
 
 -- the states that steps reach from the start
 pub data IsReachable (c : Config) : State → Type 0 where
   begins : IsReachable c (start_state c)
-  goes_on : {s n : State} → IsReachable c s → Step c s n → IsReachable c n
+  goes_on : {s n : State} → IsReachable c s → IsStep c s n → IsReachable c n
 
 -- the state after the steps of a list, made in order
-abbrev pub after_all : Config → State → List Move → State
+abbrev pub after_all : Config → State → List Step → State
 after_all c s [] = s
 after_all c s (m ∷ ms) = after_all c (after c s m) ms
 
 -- whether each step of a list may be made where it comes
-abbrev pub MayAll : Config → State → List Move → Type 0
+abbrev pub MayAll : Config → State → List Step → Type 0
 MayAll c s [] = ⊤
 MayAll c s (m ∷ ms) = May c s m × MayAll c (after c s m) ms

@@ -2,9 +2,10 @@
 use Rattle.std.specs.Prelude.{◌≡◌, ℕ, ◌+◌, ◌<◌, ◌≤◌, Bool, true, false, ◌&&◌, ◌==◌, List, [], ◌∷◌, Option, Some, None}
 use Rattle.lock_model.specs.Counts.{sum_below, one, at_option}
 use Rattle.lock_model.specs.Words.{Word, Holder, Free, HeldBy, SharedBy, shows_waiters}
-use Rattle.lock_model.specs.State.{Config, Wait, Running, Queued, Woken, Cause, BySignal, ByAbort, Lists, Mark, is_queue}
-use Rattle.lock_model.specs.Moves.{is_woken}
-use Rattle.lock_model.specs.Queues.{lock_queue, stands}
+use Rattle.lock_model.specs.Config.{Config}
+use Rattle.lock_state.specs.State.{Wait, Running, Queued, Woken}
+use Rattle.lock_model.specs.Queues.{Cause, BySignal, ByAbort, Lists, Mark, is_queue, lock_queue, stands}
+use Rattle.lock_state.specs.Steps.LockWords.{is_woken}
 use Rattle.lock_model.specs.declared.plan.Kind.TheVariants.{Mtx}
 use Rattle.lock_model.specs.declared.plan.QueueName.{QueueName}
 
@@ -22,25 +23,25 @@ at_queue q (Some r) = one (is_queue q r)
 
 -- a thread stands once on the queue that its record names, or is once in a marked list from there, and it is on no other
 unfoldable pub StandsOnce : Config → (QueueName → Lists) → (ℕ → List Mark) → (ℕ → Option QueueName) → Type 0
-StandsOnce c lists marked named = (t : ℕ) (q : QueueName) → stands t (lists q) + sum_below c.threads (λ u. times_marked t q (marked u)) ≡ at_queue q (named t)
+StandsOnce c lists marked blocked_on = (t : ℕ) (q : QueueName) → stands t (lists q) + sum_below c.threads (λ u. times_marked t q (marked u)) ≡ at_queue q (blocked_on t)
 
 -- only the plan's threads stand on queues
 unfoldable pub OnlyThreadsStand : Config → (ℕ → Option QueueName) → Type 0
-OnlyThreadsStand c named = (t : ℕ) (q : QueueName) → named t ≡ Some q → t < c.threads
+OnlyThreadsStand c blocked_on = (t : ℕ) (q : QueueName) → blocked_on t ≡ Some q → t < c.threads
 
 -- a thread whose record names a queue is Queued
 unfoldable pub StandingIsQueued : (ℕ → Option QueueName) → (ℕ → Wait) → Type 0
-StandingIsQueued named wait = (t : ℕ) (q : QueueName) → named t ≡ Some q → wait t ≡ Queued
+StandingIsQueued blocked_on wait = (t : ℕ) (q : QueueName) → blocked_on t ≡ Some q → wait t ≡ Queued
 
 -- a Queued thread whose record names no queue is about to stand on one, and has its own record out
 unfoldable pub QueuedHasRecord : (ℕ → Wait) → (ℕ → Option QueueName) → (ℕ → Option ℕ) → Type 0
-QueuedHasRecord wait named record_with = (t : ℕ) → wait t ≡ Queued → named t ≡ None → record_with t ≡ Some t
+QueuedHasRecord wait blocked_on record_with = (t : ℕ) → wait t ≡ Queued → blocked_on t ≡ None → record_with t ≡ Some t
 
 -- 2. Wanting
 
 -- a thread that stands on a lock's queue, or is in a marked list from there, wants that lock
 unfoldable pub StandingWants : (ℕ → Option QueueName) → (ℕ → Option ℕ) → Type 0
-StandingWants named wanted = (t l : ℕ) → named t ≡ Some (lock_queue l) → wanted t ≡ Some l
+StandingWants blocked_on wanted = (t l : ℕ) → blocked_on t ≡ Some (lock_queue l) → wanted t ≡ Some l
 
 -- a thread that was woken by a signal from a lock's queue wants that lock
 unfoldable pub WokenWants : (ℕ → Wait) → (ℕ → Option ℕ) → Type 0
@@ -52,7 +53,7 @@ CalledWants called wanted = (t l : ℕ) → called t ≡ Some l → wanted t ≡
 
 -- a thread that stands on a queue does not say that it is called
 unfoldable pub StandingIsUncalled : (ℕ → Option QueueName) → (ℕ → Option ℕ) → Type 0
-StandingIsUncalled named called = (t : ℕ) (q : QueueName) → named t ≡ Some q → called t ≡ None
+StandingIsUncalled blocked_on called = (t : ℕ) (q : QueueName) → blocked_on t ≡ Some q → called t ≡ None
 
 -- nor does one that is woken, until it resumes
 unfoldable pub WokenIsUncalled : (ℕ → Wait) → (ℕ → Option ℕ) → Type 0

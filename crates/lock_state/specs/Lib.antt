@@ -1,0 +1,5 @@
+pub mod State
+pub mod Steps
+pub mod Facts
+pub mod Best
+pub mod Run
