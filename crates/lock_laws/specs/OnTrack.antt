@@ -1,5 +1,5 @@
 -- What is true of a scheduled run between two turns: its state is lawful, and each thread is where its operations have led it.
-use Rattle.std.specs.Prelude.{◌≡◌, ◌≢◌, ℕ, ◌≤◌, length, slice_get, Some, None, true}
+use Rattle.std.specs.Prelude.{◌≡◌, ◌≢◌, ℕ, ◌≤◌, Bool, true, false, List, length, slice_get, Some, None}
 use Rattle.std.specs.List.{All}
 use Rattle.lock_model.specs.Plans.{config_of, operations_of}
 use Rattle.lock_model.specs.Counts.{sum_below}
@@ -7,9 +7,12 @@ use Rattle.lock_model.specs.Operations.{hold_in, held_of}
 use Rattle.lock_model.specs.Holds.{NotHeld}
 use Rattle.lock_state.specs.State.{Wait, Running, Queued, Woken}
 use Rattle.lock_model.specs.Queues.{Cause, BySignal, ByAbort}
-use Rattle.lock_model.specs.History.{open_in}
-use Rattle.lock_state.specs.Steps.Items.{Item, item_with}
-use Rattle.lock_state.specs.Facts.{Lawful}
+use Rattle.lock_model.specs.History.{open_in, entries_of}
+use Rattle.lock_model.specs.Law.{LeadsTo, Before}
+use Rattle.lock_model.specs.declared.event.Entry.{Entry}
+use Rattle.lock_model.specs.declared.event.Event.{Event}
+use Rattle.lock_model.specs.declared.event.Event.TheVariants.{Locked, Tried, Busy, Unlocked, Set, Added, Got, Base, Shown, Sleeps, Woke, HaltedChan, HaltedLock, WokeOne, WokeAll, Reversed}
+use Rattle.lock_state.specs.Facts.{LawfulTurn}
 use Rattle.lock_state.specs.Run.{Run}
 use Rattle.lock_model.specs.declared.plan.Op.TheVariants.{Take}
 use Rattle.lock_model.specs.declared.plan.Mode.TheVariants.{Excl}
@@ -29,21 +32,48 @@ WokenByCall Running = Unit {0}
 WokenByCall Queued = Unit {0}
 WokenByCall (Woken q cause) = IsCall q cause
 
-pub record IsOnTrack (plan : Plan) (chains : ℕ) (r : Run) : Type 0 where
-  pub lawful : Lawful (config_of plan chains) r.state
-  -- between two turns nobody has anything out
-  pub nothing_out : (i : Item) → item_with r.state i ≡ None
+-- whether an event is of a sleep, a wake or a halt
+abbrev pub is_of_sleep : Event → Bool
+is_of_sleep (Locked l mode) = false
+is_of_sleep (Tried l mode) = false
+is_of_sleep (Busy l seen) = false
+is_of_sleep (Unlocked l mode) = false
+is_of_sleep (Set l k v) = false
+is_of_sleep (Added l k n) = false
+is_of_sleep (Got l k found) = false
+is_of_sleep (Base p) = false
+is_of_sleep (Shown b e) = false
+is_of_sleep (Sleeps d) = true
+is_of_sleep (Woke d) = true
+is_of_sleep (HaltedChan d) = true
+is_of_sleep (HaltedLock l) = true
+is_of_sleep (WokeOne d woken) = true
+is_of_sleep (WokeAll d woken) = true
+is_of_sleep (Reversed l held) = false
+
+-- no entry of a history is
+abbrev pub SleepsNobody : List Entry → Type 0
+SleepsNobody history = All (λ e. is_of_sleep e.event ≡ false) history
+
+pub record IsOnTrack (plan : Plan) (r : Run) : Type 0 where
+  -- its state is lawful, nobody has anything out, and each Queued thread stands on a queue or is in a marked list
+  pub lawful : LawfulTurn (config_of plan) r.state
   -- no thread has more operations behind it than it has
-  pub within : (t : ℕ) → r.place t ≤ length (operations_of plan t)
-  -- and each of these has made one entry
-  pub entries : length r.state.history ≡ sum_below (length plan.threads) r.place
+  pub within : (t : ℕ) → r.next_op t ≤ length (operations_of plan t)
+  -- and each of these has made one entry, which follows the operations
+  pub entries : length r.state.history ≡ sum_below (length plan.threads) r.next_op
+  pub follows : (t : ℕ) → LeadsTo (config_of plan).kind (length plan.locks) (operations_of plan t) (entries_of r.state.history t) (Before (r.next_op t))
+  -- no sleeper and no halt is noted, until waits come
+  pub no_sleeps : SleepsNobody r.state.history
   -- each thread holds what its operations so far lead to
-  pub holds : (t l : ℕ) → r.state.held t l ≡ hold_in (held_of (length plan.locks) (operations_of plan t) (r.place t)) l
+  pub holds : (t l : ℕ) → r.state.held t l ≡ hold_in (held_of (length plan.locks) (operations_of plan t) (r.next_op t)) l
   -- and has just these sections open
-  pub sections : (t l : ℕ) → open_in (config_of plan chains) r.state.history t l ≡ r.state.held t l
+  pub sections : (t l : ℕ) → open_in (config_of plan) r.state.history t l ≡ r.state.held t l
   pub begun : (t l : ℕ) → r.state.held t l ≢ NotHeld → r.state.has_begun t l ≡ true
   -- a lock is wanted by the thread's next operation
-  pub wants : (t l : ℕ) → r.state.wanted t ≡ Some l → slice_get (operations_of plan t) (r.place t) ≡ Some (Take (record { 0 = l }) Excl)
+  pub wants : (t l : ℕ) → r.state.wanted t ≡ Some l → slice_get (operations_of plan t) (r.next_op t) ≡ Some (Take (record { 0 = l }) Excl)
   -- waiters are taken off and woken to try for a lock again
   pub woken : (t : ℕ) → WokenByCall (r.state.wait t)
   pub marked : (t : ℕ) → All (λ m. IsCall m.queue m.cause) (r.state.marked t)
+  -- each wake is noted
+  pub stamped : (t : ℕ) → r.state.unstamped t ≡ None

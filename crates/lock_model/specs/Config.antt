@@ -7,7 +7,6 @@ pub record Config : Type 0 where
   pub threads : ℕ
   pub locks : ℕ
   pub chans : ℕ
-  pub chains : ℕ
   pub kind : ℕ → Kind
   pub class : ℕ → ℕ
   pub chan_lock : ℕ → ℕ

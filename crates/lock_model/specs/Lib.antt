@@ -9,5 +9,6 @@ pub mod Holds
 pub mod Queues
 pub mod History
 pub mod Operations
+pub mod Law
 pub mod Text
 pub mod Keys

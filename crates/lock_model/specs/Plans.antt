@@ -38,13 +38,12 @@ lock_class plan l = unwrap_or (slice_get (map (λ d. d.class.0) plan.locks) l) 0
 abbrev pub chan_lock : Plan → ℕ → ℕ
 chan_lock plan c = unwrap_or (slice_get (map (λ d. d.lock.0) plan.chans) c) 0
 
--- what the plan fixes for a run with so many chains of each sort
-abbrev pub config_of : Plan → ℕ → Config
-config_of plan chains = record {
+-- what the plan fixes for a run
+abbrev pub config_of : Plan → Config
+config_of plan = record {
   threads = length plan.threads;
   locks = length plan.locks;
   chans = length plan.chans;
-  chains = chains;
   kind = lock_kind plan;
   class = lock_class plan;
   chan_lock = chan_lock plan;

@@ -8,11 +8,11 @@ use Rattle.lock_model.specs.Config.{Config}
 use Rattle.lock_state.specs.State.{State}
 unfoldable pub use Rattle.lock_model.specs.History.{TicketsRun, SectionsExclude, EditsInSections, ReadsReplay, ShownIsExplained}
 unfoldable pub use Rattle.lock_state.specs.Facts.Queues.{OneTurnstileEach, OneSleepQueueEach, OneNodeEach, TurnstileIsLent, SleepQueueIsLent, HeadsFitWaiters, BitsShowWaiters, ListsAscend, MutexWaitersAreExclusive}
-unfoldable pub use Rattle.lock_state.specs.Facts.Waits.{StandsOnce, OnlyThreadsStand, StandingIsQueued, QueuedHasRecord, StandingWants, WokenWants, CalledWants, StandingIsUncalled, WokenIsUncalled, FreeWordHasCalled, FreeMutexShowsNone}
+unfoldable pub use Rattle.lock_state.specs.Facts.Waits.{StandsOnce, OnlyThreadsStand, StandingIsQueued, QueuedHasRecord, QueuedStands, StandingWants, WokenWants, CalledWants, StandingIsUncalled, WokenIsUncalled, FreeWordHasCalled, FreeMutexShowsNone}
 unfoldable pub use Rattle.lock_state.specs.Facts.Words.{WordsMatchHolders, OnlyThreadsHold}
 pub use Rattle.lock_state.specs.Facts.Words.{WordMatchesHolders, owns, shares}
 unfoldable pub use Rattle.lock_state.specs.Facts.Loans.{EffectiveIsLeast, OwnersHold, ChannelsHaveNoOwner, LoansAreLeast, LoansAreWithOwners, LoansAreOnHeads, KeptIsEffective, EffectiveIsKnown, LoansAreKnown, KeptIsKnown}
-unfoldable pub use Rattle.lock_state.specs.Facts.Books.{NextIsNew, LogsAreParts, TablesReplay, BasesReplay, SectionsAreHeld, OutIsNarrow}
+unfoldable pub use Rattle.lock_state.specs.Facts.Books.{NextIsNew, LogsAreParts, TablesReplay, BasesReplay, SectionsAreHeld, OutIsNarrow, NothingIsOut}
 
 -- a state in which all of these hold
 pub record Lawful (c : Config) (s : State) : Type 0 where
@@ -30,7 +30,6 @@ pub record Lawful (c : Config) (s : State) : Type 0 where
   pub stands_once : StandsOnce c s.lists s.marked s.blocked_on
   pub only_threads_stand : OnlyThreadsStand c s.blocked_on
   pub standing_is_queued : StandingIsQueued s.blocked_on s.wait
-  pub queued_has_record : QueuedHasRecord s.wait s.blocked_on s.record_with
   pub standing_wants : StandingWants s.blocked_on s.wanted
   pub woken_wants : WokenWants s.wait s.wanted
   pub called_wants : CalledWants s.called s.wanted
@@ -65,3 +64,14 @@ pub record Lawful (c : Config) (s : State) : Type 0 where
   pub shown_is_explained : ShownIsExplained c s.history
   -- what is out
   pub out_is_narrow : OutIsNarrow s.turnstile_chain_with s.sleep_chain_with s.record_with s.cell_with s.graph_with
+
+-- A state between two steps of a running floor: lawful, and a thread that is Queued and about to stand on a queue has its own record out.
+pub record LawfulFloor (c : Config) (s : State) : Type 0 where
+  pub lawful : Lawful c s
+  pub queued_has_record : QueuedHasRecord s.wait s.blocked_on s.record_with
+
+-- A state between two turns of a scheduled run: lawful, nothing is out, and each Queued thread stands on a queue or is in a marked list.
+pub record LawfulTurn (c : Config) (s : State) : Type 0 where
+  pub lawful : Lawful c s
+  pub nothing_out : NothingIsOut s.turnstile_chain_with s.sleep_chain_with s.record_with s.cell_with s.graph_with
+  pub queued_stands : QueuedStands s.wait s.blocked_on

@@ -43,6 +43,55 @@ pub record Wake : Type 0 where
   pub all : Bool
   pub taken : List ℕ
 
+-- an acquiring round of a running thread: the lock that it seeks, whether it is a try's, and whether the lock's chain was taken in it
+pub record Round : Type 0 where
+  pub lock : ℕ
+  pub by_try : Bool
+  pub in_chain : Bool
+
+-- a lock that a thread holds, and whether a try gained it
+pub record HeldLock : Type 0 where
+  pub lock : ℕ
+  pub by_try : Bool
+
+-- Where a thread of a running floor is with its counting. Awake: it is counted among those that are awake. Asleep: it counted itself out,
+-- and somebody was left. Last: its counting out left nobody. Halting: it counted itself in after that. Aborting: it has aborted a sleeper
+-- since. SelfAborted: one that it aborted and woke was itself
+pub data Phase : Type 0 where
+  Awake : Phase
+  Asleep : Phase
+  Last : Phase
+  Halting : Phase
+  Aborting : Phase
+  SelfAborted : Phase
+
+-- whether it is parked: from its counting out until it resumes, or counts itself in
+abbrev pub is_parked : Phase → Bool
+is_parked Awake = false
+is_parked Asleep = true
+is_parked Last = true
+is_parked Halting = false
+is_parked Aborting = false
+is_parked SelfAborted = false
+
+-- whether its last counting out left nobody awake, and it hasn't resumed since
+abbrev pub found_nobody_awake : Phase → Bool
+found_nobody_awake Awake = false
+found_nobody_awake Asleep = false
+found_nobody_awake Last = true
+found_nobody_awake Halting = true
+found_nobody_awake Aborting = true
+found_nobody_awake SelfAborted = true
+
+-- whether it is a finder: nobody else is awake, until its first abort or its next counting out
+abbrev pub is_finder : Phase → Bool
+is_finder Awake = false
+is_finder Asleep = false
+is_finder Last = true
+is_finder Halting = true
+is_finder Aborting = false
+is_finder SelfAborted = false
+
 pub record State : Type 0 where
   -- by lock: its word
   pub word : ℕ → Word
@@ -64,22 +113,30 @@ pub record State : Type 0 where
   pub wait : ℕ → Wait
   -- by thread: its share
   pub held : ℕ → ℕ → Hold
+  -- the locks that it holds, the one gained last first
+  pub held_locks : ℕ → List HeldLock
   pub wanted : ℕ → Option ℕ
+  -- the lock of a take that was admitted, or of a wait from which it was woken, whose entry is still to come
+  pub taking : ℕ → Option ℕ
   pub called : ℕ → Option ℕ
   pub walk : ℕ → Walk
   pub marked : ℕ → List Mark
   pub looks : ℕ → ℕ
   pub looks_in_all : ℕ → ℕ
   pub last_look : ℕ → Option Look
+  -- what it saw last since it took or gave back a chain
+  pub seen_in_section : ℕ → Option Look
+  -- the acquiring round under way
+  pub round : ℕ → Option Round
   pub noted : ℕ → Option Note
-  -- the channel from which it was woken by a signal since its last sleep
+  -- the channel from which it was woken by a signal since its last entry
   pub woken_from : ℕ → Option ℕ
   pub unstamped : ℕ → Option Wake
   pub counted_out : ℕ → ℕ
-  pub is_finder : ℕ → Bool
   pub counted_in : ℕ → ℕ → ℕ
-  pub counted_first : ℕ → Bool
-  pub parked : ℕ → Bool
+  -- whom it counted in and has yet to wake
+  pub counting : ℕ → Option ℕ
+  pub phase : ℕ → Phase
   pub has_ended : ℕ → Bool
   -- its log, the newest entry first
   pub log : ℕ → List Entry
@@ -131,21 +188,24 @@ start_state c = record {
   loan_home = λ n. true;
   wait = λ t. Running;
   held = λ t l. NotHeld;
+  held_locks = λ t. [];
   wanted = λ t. None;
+  taking = λ t. None;
   called = λ t. None;
   walk = λ t. NoWalk;
   marked = λ t. [];
   looks = λ t. 0;
   looks_in_all = λ t. 0;
   last_look = λ t. None;
+  seen_in_section = λ t. None;
+  round = λ t. None;
   noted = λ t. None;
   woken_from = λ t. None;
   unstamped = λ t. None;
   counted_out = λ t. 0;
-  is_finder = λ t. false;
   counted_in = λ t u. 0;
-  counted_first = λ t. false;
-  parked = λ t. false;
+  counting = λ t. None;
+  phase = λ t. Awake;
   has_ended = λ t. false;
   log = λ t. [];
   has_begun = λ t l. false;

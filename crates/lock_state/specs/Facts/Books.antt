@@ -1,5 +1,5 @@
 -- Facts of logs, tables and the history, and of what is out.
-use Rattle.std.specs.Prelude.{◌≡◌, ℕ, true, List, length, Option, Some}
+use Rattle.std.specs.Prelude.{◌≡◌, ℕ, true, List, length, Option, Some, None}
 use Rattle.lock_model.specs.History.{value_at, open_in, base_in, entries_of}
 use Rattle.lock_state.specs.Steps.Items.{Item, out_with, go_together}
 use Rattle.lock_model.specs.Config.{Config}
@@ -31,3 +31,7 @@ SectionsAreHeld c history held = (t l : ℕ) (mode : Mode) → open_in c history
 unfoldable pub OutIsNarrow : (ℕ → Option ℕ) → (ℕ → Option ℕ) → (ℕ → Option ℕ) → (ℕ → ℕ → Option ℕ) → Option ℕ → Type 0
 OutIsNarrow turnstile_chain sleep_chain of cell graph =
     (t : ℕ) (i j : Item) → out_with turnstile_chain sleep_chain of cell graph i ≡ Some t → out_with turnstile_chain sleep_chain of cell graph j ≡ Some t → go_together i j ≡ true
+
+-- nothing is out
+unfoldable pub NothingIsOut : (ℕ → Option ℕ) → (ℕ → Option ℕ) → (ℕ → Option ℕ) → (ℕ → ℕ → Option ℕ) → Option ℕ → Type 0
+NothingIsOut turnstile_chain sleep_chain of cell graph = (i : Item) → out_with turnstile_chain sleep_chain of cell graph i ≡ None

@@ -1,5 +1,5 @@
 -- Facts of waiting threads: where they stand, what they want, and who is called for a free lock.
-use Rattle.std.specs.Prelude.{◌≡◌, ℕ, ◌+◌, ◌<◌, ◌≤◌, Bool, true, false, ◌&&◌, ◌==◌, List, [], ◌∷◌, Option, Some, None}
+use Rattle.std.specs.Prelude.{◌≡◌, ◌≢◌, ℕ, ◌+◌, ◌<◌, ◌≤◌, Bool, true, false, ◌&&◌, ◌==◌, List, [], ◌∷◌, Option, Some, None}
 use Rattle.lock_model.specs.Counts.{sum_below, one, at_option}
 use Rattle.lock_model.specs.Words.{Word, Holder, Free, HeldBy, SharedBy, shows_waiters}
 use Rattle.lock_model.specs.Config.{Config}
@@ -36,6 +36,10 @@ StandingIsQueued blocked_on wait = (t : ℕ) (q : QueueName) → blocked_on t �
 -- a Queued thread whose record names no queue is about to stand on one, and has its own record out
 unfoldable pub QueuedHasRecord : (ℕ → Wait) → (ℕ → Option QueueName) → (ℕ → Option ℕ) → Type 0
 QueuedHasRecord wait blocked_on record_with = (t : ℕ) → wait t ≡ Queued → blocked_on t ≡ None → record_with t ≡ Some t
+
+-- between two turns of a scheduled run, a Queued thread's record names the queue on which it stands, or from which it is in a marked list
+unfoldable pub QueuedStands : (ℕ → Wait) → (ℕ → Option QueueName) → Type 0
+QueuedStands wait blocked_on = (t : ℕ) → wait t ≡ Queued → blocked_on t ≢ None
 
 -- 2. Wanting
 

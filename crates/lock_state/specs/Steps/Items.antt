@@ -1,8 +1,8 @@
 -- What lies behind turn words, and the steps that take it out of its home and give it back.
-use Rattle.std.specs.Prelude.{◌≡◌, ◌≢◌, ℕ, ◌<◌, Bool, true, false, ◌&&◌, ◌==◌, Option, Some, None, ⊤}
+use Rattle.std.specs.Prelude.{◌≡◌, ◌≢◌, ℕ, ◌<◌, Bool, true, false, not, ◌&&◌, ◌==◌, if◌then◌else◌, Option, Some, None, ⊤}
 use Rattle.lock_model.specs.Config.{Config}
-use Rattle.lock_state.specs.State.{State, Queued, put, put_at}
-use Rattle.lock_state.specs.Steps.LockWords.{is_woken}
+use Rattle.lock_state.specs.State.{State, Queued, Look, Round, put, put_at}
+use Rattle.lock_state.specs.Steps.LockWords.{IsActing, is_taking_back}
 
 -- what a thread may have out: a chain of turnstiles or of sleep queues, a thread's record, a cell of a lock's table, the class graph
 pub data Item : Type 0 where
@@ -37,44 +37,103 @@ go_together (RecordOf t) (TurnstileChain i) = true
 go_together (RecordOf t) (SleepChain i) = true
 go_together other another = false
 
--- the items of a plan
-abbrev pub IsItem : Config → Item → Type 0
-IsItem c (TurnstileChain k) = k < c.chains
-IsItem c (SleepChain k) = k < c.chains
-IsItem c (RecordOf t) = t < c.threads
-IsItem c (CellOf l k) = l < c.locks
-IsItem c ClassGraph = ⊤
-
 -- the class graph is taken only by a thread that is on no queue, in no marked list and not woken
 abbrev pub MayCheckOrders : State → ℕ → Item → Type 0
-MayCheckOrders s t ClassGraph = (s.blocked_on t ≡ None) × (is_woken (s.wait t) ≡ false)
-MayCheckOrders s t other = ⊤
+MayCheckOrders s t (TurnstileChain k) = ⊤
+MayCheckOrders s t (SleepChain k) = ⊤
+MayCheckOrders s t (RecordOf u) = ⊤
+MayCheckOrders s t (CellOf l k) = ⊤
+MayCheckOrders s t ClassGraph = IsActing s t
 
--- the item is home, and goes together with all that the thread has out
+-- what it asks to take an item: it is home, and goes together with all that the thread has out
 pub record MayTake (c : Config) (s : State) (t : ℕ) (i : Item) : Type 0 where
   pub thread : t < c.threads
-  pub item : IsItem c i
   pub home : item_with s i ≡ None
   pub together : (j : Item) → item_with s j ≡ Some t → (go_together i j ≡ true) × (go_together j i ≡ true)
   pub orders : MayCheckOrders s t i
 
--- an item with its turn: out, where it goes to a thread, else home
-abbrev pub with_item : State → Item → Option ℕ → State
-with_item s (TurnstileChain k) o = record s { turnstile_chain_with = put s.turnstile_chain_with k o }
-with_item s (SleepChain k) o = record s { sleep_chain_with = put s.sleep_chain_with k o }
-with_item s (RecordOf t) o = record s { record_with = put s.record_with t o }
-with_item s (CellOf l k) o = record s { cell_with = put_at s.cell_with l k o }
-with_item s ClassGraph o = record s { graph_with = o }
+-- who has what out, once an item goes to a thread, or home
+abbrev pub turnstile_chains_after : Item → Option ℕ → (ℕ → Option ℕ) → ℕ → Option ℕ
+turnstile_chains_after (TurnstileChain k) o f = put f k o
+turnstile_chains_after (SleepChain k) o f = f
+turnstile_chains_after (RecordOf u) o f = f
+turnstile_chains_after (CellOf l k) o f = f
+turnstile_chains_after ClassGraph o f = f
+
+abbrev pub sleep_chains_after : Item → Option ℕ → (ℕ → Option ℕ) → ℕ → Option ℕ
+sleep_chains_after (TurnstileChain k) o f = f
+sleep_chains_after (SleepChain k) o f = put f k o
+sleep_chains_after (RecordOf u) o f = f
+sleep_chains_after (CellOf l k) o f = f
+sleep_chains_after ClassGraph o f = f
+
+abbrev pub records_after : Item → Option ℕ → (ℕ → Option ℕ) → ℕ → Option ℕ
+records_after (TurnstileChain k) o f = f
+records_after (SleepChain k) o f = f
+records_after (RecordOf u) o f = put f u o
+records_after (CellOf l k) o f = f
+records_after ClassGraph o f = f
+
+abbrev pub cells_after : Item → Option ℕ → (ℕ → ℕ → Option ℕ) → ℕ → ℕ → Option ℕ
+cells_after (TurnstileChain k) o f = f
+cells_after (SleepChain k) o f = f
+cells_after (RecordOf u) o f = f
+cells_after (CellOf l k) o f = put_at f l k o
+cells_after ClassGraph o f = f
+
+abbrev pub graph_after : Item → Option ℕ → Option ℕ → Option ℕ
+graph_after (TurnstileChain k) o g = g
+graph_after (SleepChain k) o g = g
+graph_after (RecordOf u) o g = g
+graph_after (CellOf l k) o g = g
+graph_after ClassGraph o g = o
+
+abbrev pub is_chain : Item → Bool
+is_chain (TurnstileChain k) = true
+is_chain (SleepChain k) = true
+is_chain (RecordOf u) = false
+is_chain (CellOf l k) = false
+is_chain ClassGraph = false
+
+-- an acquiring round in which a chain is taken
+abbrev pub in_its_chain : Option Round → Option Round
+in_its_chain None = None
+in_its_chain (Some r) = Some (record r { in_chain = true })
+
+-- Where a chain is taken or given back, a thread has seen nothing under it yet.
+abbrev pub seen_after : Bool → Option Look → Option Look
+seen_after is_chain seen = if is_chain then None else seen
 
 -- the item is out with the thread
 unfoldable pub after_take : State → ℕ → Item → State
-after_take s t i = with_item s i (Some t)
+after_take s t i = record s {
+  turnstile_chain_with = turnstile_chains_after i (Some t) s.turnstile_chain_with;
+  sleep_chain_with = sleep_chains_after i (Some t) s.sleep_chain_with;
+  record_with = records_after i (Some t) s.record_with;
+  cell_with = cells_after i (Some t) s.cell_with;
+  graph_with = graph_after i (Some t) s.graph_with;
+  seen_in_section = put s.seen_in_section t (seen_after (is_chain i) (s.seen_in_section t));
+  round = put s.round t (if is_chain i then in_its_chain (s.round t) else s.round t);
+}
 
--- A thread gives back what it has out: its own record only where it isn't about to stand on a queue, a sleep chain only where its wake
--- is noted. The class graph goes home by steps of its own.
+-- the round under way has taken its lock's chain, and is none of a try's
+abbrev pub is_bound : Option Round → Bool
+is_bound None = false
+is_bound (Some r) = not r.by_try && r.in_chain
+
+-- A thread that was made ready sleeps in its log, and doesn't stand on its channel yet.
+pub record IsOnItsWay (s : State) (t : ℕ) : Type 0 where
+  pub queued : s.wait t ≡ Queued
+  pub nowhere : s.blocked_on t ≡ None
+  pub wants : s.wanted t ≡ None
+  pub slept : is_taking_back (s.log t) ≡ true
+
+-- A thread gives back what it has out: its own record only where it isn't about to stand on a queue; a chain that a blocking call's round
+-- took only after a gain, a claim or an enter, which end the round; a sleep chain only where its wake is noted, and where it isn't on its
+-- way to a channel. The class graph goes home by steps of its own.
 abbrev pub IsDoneWith : State → ℕ → Item → Type 0
-IsDoneWith s t (TurnstileChain k) = ⊤
-IsDoneWith s t (SleepChain k) = s.unstamped t ≡ None
+IsDoneWith s t (TurnstileChain k) = is_bound (s.round t) ≡ false
+IsDoneWith s t (SleepChain k) = (is_bound (s.round t) ≡ false) × (s.unstamped t ≡ None) × (IsOnItsWay s t → ⊥)
 IsDoneWith s t (RecordOf u) = u ≡ t → s.wait t ≡ Queued → s.blocked_on t ≢ None
 IsDoneWith s t (CellOf l k) = ⊤
 IsDoneWith s t ClassGraph = ⊥
@@ -86,5 +145,12 @@ pub record MayGive (c : Config) (s : State) (t : ℕ) (i : Item) : Type 0 where
   pub done : IsDoneWith s t i
 
 -- the item is home
-unfoldable pub after_give : State → Item → State
-after_give s i = with_item s i None
+unfoldable pub after_give : State → ℕ → Item → State
+after_give s t i = record s {
+  turnstile_chain_with = turnstile_chains_after i None s.turnstile_chain_with;
+  sleep_chain_with = sleep_chains_after i None s.sleep_chain_with;
+  record_with = records_after i None s.record_with;
+  cell_with = cells_after i None s.cell_with;
+  graph_with = graph_after i None s.graph_with;
+  seen_in_section = put s.seen_in_section t (seen_after (is_chain i) (s.seen_in_section t));
+}

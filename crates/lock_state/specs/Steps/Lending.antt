@@ -1,9 +1,10 @@
 -- Steps that lend priority: a claim, and the hops of a walk. What each asks of the state, and what it makes of it.
-use Rattle.std.specs.Prelude.{◌≡◌, ◌⊎◌, ℕ, ◌<◌, Bool, true, false, not, ◌&&◌, ◌==◌, Option, Some, None}
+use Rattle.std.specs.Prelude.{◌≡◌, ◌⊎◌, ℕ, ◌<◌, Bool, true, false, not, ◌&&◌, ◌==◌, ◌∷◌, Option, Some, None}
 use Rattle.lock_model.specs.Words.{is_free, is_turnstile, shows_waiters, claimed}
-use Rattle.lock_state.specs.Steps.LockWords.{is_woken, effective_of}
+use Rattle.lock_state.specs.Steps.LockWords.{IsActing, effective_of}
+use Rattle.lock_state.specs.Steps.Turnstiles.{walk_up}
 use Rattle.lock_model.specs.Config.{Config}
-use Rattle.lock_state.specs.State.{State, Walk, NoWalk, AtLock, AtThread, Loan, put, put_at, put_queue}
+use Rattle.lock_state.specs.State.{State, Walk, NoWalk, AtLock, AtThread, Loan, HeldLock, put, put_at, put_queue}
 use Rattle.lock_model.specs.Holds.{NotHeld, Holds}
 use Rattle.lock_model.specs.Queues.{lock_queue, names_turnstile, stands, least_of, with_kept}
 use Rattle.lock_model.specs.declared.plan.Kind.TheVariants.{Rw}
@@ -26,18 +27,18 @@ pub record MayClaim (c : Config) (s : State) (t l h : ℕ) : Type 0 where
   pub shown : shows_waiters (s.word l) ≡ true
   pub head : s.head (lock_queue l) ≡ Some h
   pub unheld : s.held t l ≡ NotHeld
-  pub unnamed : s.blocked_on t ≡ None
-  pub unwoken : is_woken (s.wait t) ≡ false
+  pub acting : IsActing s t
   pub wants : (s.wanted t ≡ Some l) ⊎ (s.wanted t ≡ None)
 
 -- the lock is held, and the thread is owner with a loan
-unfoldable pub after_claim : Config → State → ℕ → ℕ → ℕ → State
-after_claim c s t l h =
+unfoldable pub after_claim : Config → State → ℕ → ℕ → ℕ → Bool → State
+after_claim c s t l h by_try =
     let new : Option Loan = loan_of h (least_of (s.lists (lock_queue l))) in
     record s {
       word = put s.word l (claimed (s.word l) t);
       owner = put_queue s.owner (lock_queue l) (Some t);
       held = put_at s.held t l (Holds Excl);
+      held_locks = put s.held_locks t (record { lock = l; by_try = by_try } ∷ s.held_locks t);
       wanted = put s.wanted t None;
       called = put s.called t None;
       loan = put_at s.loan t l new;
@@ -45,6 +46,8 @@ after_claim c s t l h =
       effective = put s.effective t (effective_of c (put (s.loan t) l new) (s.base t));
       looks = put s.looks t 0;
       last_look = put s.last_look t None;
+      seen_in_section = put s.seen_in_section t None;
+      round = put s.round t None;
       has_begun = put_at s.has_begun t l false;
     }
 
@@ -86,11 +89,6 @@ pub record MayShift (c : Config) (s : State) (t o l : ℕ) : Type 0 where
   pub walks : s.walk t ≡ AtThread o
   pub blocked_on : s.blocked_on o ≡ Some (lock_queue l)
   pub stands : 0 < stands o (s.lists (lock_queue l))
-
--- a walk to the lock, where its turnstile has an owner
-abbrev pub walk_up : ℕ → Option ℕ → Walk
-walk_up l None = NoWalk
-walk_up l (Some o) = AtLock l
 
 -- the entry is inserted anew, and the walk goes on or ends
 unfoldable pub after_shift : State → ℕ → ℕ → ℕ → State

@@ -1,11 +1,11 @@
 -- Steps of one thread on lock words, tickets and its own wait word: what each asks of the state (May..), and what it makes of it
 -- (after_..). Only the named columns change.
-use Rattle.std.specs.Prelude.{◌≡◌, ◌≢◌, ◌⊎◌, ℕ, suc, ◌+◌, ◌^◌, ◌<◌, Bool, true, false, if◌then◌else◌, List, [], ◌∷◌, Option, Some, None, ⊤}
+use Rattle.std.specs.Prelude.{◌≡◌, ◌≢◌, ◌⊎◌, ℕ, suc, ◌+◌, ◌^◌, ◌<◌, Bool, true, false, ◌==◌, if◌then◌else◌, List, [], ◌∷◌, Option, Some, None, ⊤}
 use Rattle.lock_model.specs.Counts.{least}
 use Rattle.lock_model.specs.Words.{Word, word_of, admits, is_plain, gained, dropped, is_drop}
 use Rattle.lock_model.specs.History.{added, open_in, left_in}
 use Rattle.lock_model.specs.Config.{Config}
-use Rattle.lock_state.specs.State.{State, Wait, Running, Queued, Woken, OrderRefused, SleepHalted, Loan, Wake, put, put_at}
+use Rattle.lock_state.specs.State.{State, Wait, Running, Queued, Woken, OrderRefused, SleepHalted, Loan, Wake, Look, Round, HeldLock, put, put_at}
 use Rattle.lock_model.specs.Holds.{Hold, NotHeld, Holds}
 use Rattle.lock_model.specs.declared.plan.Kind.TheVariants.{Mtx}
 use Rattle.lock_model.specs.declared.plan.QueueName.TheVariants.{Lock, Chan}
@@ -21,7 +21,53 @@ is_woken Running = false
 is_woken Queued = false
 is_woken (Woken q cause) = true
 
--- 1. A look at a lock word. In an acquiring round outside the lock's chain it counts as one of at most 100
+abbrev pub is_sleep : Event → Bool
+is_sleep (Sleeps d) = true
+is_sleep other = false
+
+-- whether a log's newest entry is a Sleeps entry: a thread that goes on behind it takes its lock back
+abbrev pub is_taking_back : List Entry → Bool
+is_taking_back [] = false
+is_taking_back (e ∷ es) = is_sleep e.event
+
+-- the thread is on no queue, in no marked list and not woken
+pub record IsActing (s : State) (t : ℕ) : Type 0 where
+  pub unnamed : s.blocked_on t ≡ None
+  pub unwoken : is_woken (s.wait t) ≡ false
+
+-- each held lock's section is open
+abbrev pub AllOpen : Config → State → ℕ → Type 0
+AllOpen c s t = (l : ℕ) (mode : Mode) → s.held t l ≡ Holds mode → open_in c s.history t l ≡ Holds mode
+
+-- the lock is the one that the thread gained last, by a try or by a blocking call
+pub record IsGainedLast (s : State) (t l : ℕ) (by_try : Bool) : Type 0 where
+  pub others : List HeldLock
+  pub last : s.held_locks t ≡ record { lock = l; by_try = by_try } ∷ others
+
+-- 1. The begin of an acquiring round: a blocking call or a try seeks a lock. A resume of a thread that wants a lock begins one too
+
+-- what it asks
+pub record MaySeek (c : Config) (s : State) (t l : ℕ) (by_try : Bool) : Type 0 where
+  pub thread : t < c.threads
+  pub lock : l < c.locks
+  pub unheld : s.held t l ≡ NotHeld
+  pub acting : IsActing s t
+  pub wants : (s.wanted t ≡ Some l) ⊎ (s.wanted t ≡ None)
+  pub tries_want_nothing : by_try ≡ true → s.wanted t ≡ None
+  pub no_round : s.round t ≡ None
+
+-- the round of a lock, before its chain was taken
+abbrev pub round_of : ℕ → Bool → Round
+round_of l by_try = record { lock = l; by_try = by_try; in_chain = false }
+
+-- the round is under way, without a look
+unfoldable pub after_seek : State → ℕ → ℕ → Bool → State
+after_seek s t l by_try = record s {
+  looks = put s.looks t 0;
+  round = put s.round t (Some (round_of l by_try));
+}
+
+-- 2. A look at a lock word. In an acquiring round outside the lock's chain it counts as one of at most 100
 
 -- what a look asks
 pub record MayLook (c : Config) (s : State) (t l : ℕ) (in_round : Bool) : Type 0 where
@@ -35,9 +81,10 @@ after_look s t l in_round = record s {
   looks = put s.looks t (if in_round then suc (s.looks t) else s.looks t);
   looks_in_all = put s.looks_in_all t (suc (s.looks_in_all t));
   last_look = put s.last_look t (Some (record { lock = l; word = s.word l }));
+  seen_in_section = put s.seen_in_section t (Some (record { lock = l; word = s.word l }));
 }
 
--- 2. A gain: the word admits the mode, and the lock is the wanted one, or none is wanted. The thread is on no queue, in no marked
+-- 3. A gain: the word admits the mode, and the lock is the wanted one, or none is wanted. The thread is on no queue, in no marked
 -- list and not woken
 
 -- what a gain asks
@@ -47,23 +94,25 @@ pub record MayGain (c : Config) (s : State) (t l : ℕ) (mode : Mode) : Type 0 w
   pub admitted : admits (c.kind l) (s.word l) mode ≡ true
   pub plainly : is_plain (c.kind l) (s.word l) mode ≡ true
   pub unheld : s.held t l ≡ NotHeld
-  pub unnamed : s.blocked_on t ≡ None
-  pub unwoken : is_woken (s.wait t) ≡ false
+  pub acting : IsActing s t
   pub wants : (s.wanted t ≡ Some l) ⊎ (s.wanted t ≡ None)
 
--- the lock is held, and no longer wanted or called for
-unfoldable pub after_gain : State → ℕ → ℕ → Mode → State
-after_gain s t l mode = record s {
+-- the lock is held, and no longer wanted or called for; the round has ended
+unfoldable pub after_gain : State → ℕ → ℕ → Mode → Bool → State
+after_gain s t l mode by_try = record s {
   word = put s.word l (gained (s.word l) t mode);
   held = put_at s.held t l (Holds mode);
+  held_locks = put s.held_locks t (record { lock = l; by_try = by_try } ∷ s.held_locks t);
   wanted = put s.wanted t None;
   called = put s.called t None;
   looks = put s.looks t 0;
   last_look = put s.last_look t None;
+  seen_in_section = put s.seen_in_section t None;
+  round = put s.round t None;
   has_begun = put_at s.has_begun t l false;
 }
 
--- 3. A drop: a release where another shared holder stays or no waiter is shown. No section of the lock is open, and one began
+-- 4. A drop: a release where another shared holder stays or no waiter is shown. No section of the lock is open, and one began
 
 -- what a drop asks
 pub record MayDrop (c : Config) (s : State) (t l : ℕ) (mode : Mode) : Type 0 where
@@ -74,15 +123,22 @@ pub record MayDrop (c : Config) (s : State) (t l : ℕ) (mode : Mode) : Type 0 w
   pub closed : open_in c s.history t l ≡ NotHeld
   pub begun : s.has_begun t l ≡ true
 
+-- the held locks without one
+abbrev pub without_held : ℕ → List HeldLock → List HeldLock
+without_held l [] = []
+without_held l (h ∷ hs) = if l == h.lock then without_held l hs else h ∷ without_held l hs
+
 -- the lock is not held
 unfoldable pub after_drop : State → ℕ → ℕ → State
 after_drop s t l = record s {
   word = put s.word l (dropped (s.word l));
   held = put_at s.held t l NotHeld;
+  held_locks = put s.held_locks t (without_held l (s.held_locks t));
   last_look = put s.last_look t None;
+  seen_in_section = put s.seen_in_section t None;
 }
 
--- 4. A stamp: one entry with the next ticket
+-- 5. A stamp: one entry with the next ticket
 
 -- a section begins where the lock is held in its mode and no section of the lock is open
 pub record Begins (c : Config) (s : State) (t l : ℕ) (section : Hold) : Type 0 where
@@ -95,9 +151,10 @@ pub record Returns (c : Config) (s : State) (t l : ℕ) : Type 0 where
   pub holds : s.held t l ≢ NotHeld
   pub closed : open_in c s.history t l ≡ NotHeld
 
--- The last look saw the lock with the word, and the word does not admit the mode, so it is held. Which mode was tried, the entry does
--- not say
+-- The thread doesn't hold the lock, its last look saw the lock with the word, and the word does not admit the mode, so it is held.
+-- Which mode was tried, the entry does not say
 pub record SawBusy (c : Config) (s : State) (t l : ℕ) (word : Word) (mode : Mode) : Type 0 where
+  pub unheld : s.held t l ≡ NotHeld
   pub looked : s.last_look t ≡ Some (record { lock = l; word = word })
   pub refused : admits (c.kind l) word mode ≡ false
   pub mutex : c.kind l ≡ Mtx → mode ≡ Excl
@@ -107,6 +164,14 @@ pub record ShowsOwn (c : Config) (s : State) (t base effective : ℕ) : Type 0 w
   pub its_base : base ≡ s.base t
   pub its_effective : effective ≡ s.effective t
   pub sections : (l : ℕ) (mode : Mode) → s.held t l ≡ Holds mode → open_in c s.history t l ≡ Holds mode
+
+-- a thread that was made ready goes to sleep on a channel with the lock that it gained last, by a blocking call. It wants nothing
+pub record GoesToSleep (c : Config) (s : State) (t d : ℕ) : Type 0 where
+  pub chan : d < c.chans
+  pub queued : s.wait t ≡ Queued
+  pub wants : s.wanted t ≡ None
+  pub opened : open_in c s.history t (c.chan_lock d) ≢ NotHeld
+  pub last : IsGainedLast s t (c.chan_lock d) false
 
 -- the threads as a set of bits
 abbrev pub bits_of_threads : List ℕ → ℕ
@@ -120,8 +185,8 @@ IsTheWake (Some wake) d all woken = (wake.chan ≡ d) × (wake.all ≡ all) × (
 
 -- what each event asks. A thread sleeps with the lock of its channel, and wakes with that lock held as it was
 abbrev pub Asks : Config → State → ℕ → Event → Type 0
-Asks c s t (Locked l mode) = Begins c s t l.0 (Holds mode)
-Asks c s t (Tried l mode) = Begins c s t l.0 (Holds mode)
+Asks c s t (Locked l mode) = Begins c s t l.0 (Holds mode) × IsGainedLast s t l.0 false
+Asks c s t (Tried l mode) = Begins c s t l.0 (Holds mode) × IsGainedLast s t l.0 true
 Asks c s t (Busy l seen) = (mode : Mode) × SawBusy c s t l.0 (word_of seen) mode
 Asks c s t (Unlocked l mode) = open_in c s.history t l.0 ≡ Holds mode
 Asks c s t (Set l k v) = open_in c s.history t l.0 ≡ Holds Excl
@@ -129,10 +194,10 @@ Asks c s t (Added l k n) = open_in c s.history t l.0 ≡ Holds Excl
 Asks c s t (Got l k found) = (open_in c s.history t l.0 ≢ NotHeld) × (found ≡ s.table l.0 k)
 Asks c s t (Base p) = ⊤
 Asks c s t (Shown base effective) = ShowsOwn c s t base.0 effective.0
-Asks c s t (Sleeps d) = open_in c s.history t (c.chan_lock d.0) ≢ NotHeld
+Asks c s t (Sleeps d) = GoesToSleep c s t d.0
 Asks c s t (Woke d) = Returns c s t (c.chan_lock d.0) × (s.woken_from t ≡ Some d.0)
 Asks c s t (HaltedChan d) = Returns c s t (c.chan_lock d.0) × (s.noted t ≡ Some (SleepHalted (Chan d)))
-Asks c s t (HaltedLock l) = s.noted t ≡ Some (SleepHalted (Lock l))
+Asks c s t (HaltedLock l) = (s.noted t ≡ Some (SleepHalted (Lock l))) × (s.held t l.0 ≡ NotHeld)
 Asks c s t (WokeOne d woken) = IsTheWake (s.unstamped t) d.0 false woken
 Asks c s t (WokeAll d woken) = IsTheWake (s.unstamped t) d.0 true woken
 Asks c s t (Reversed l held) = s.noted t ≡ Some (OrderRefused l.0 held.0)
@@ -140,8 +205,7 @@ Asks c s t (Reversed l held) = s.noted t ≡ Some (OrderRefused l.0 held.0)
 -- what a stamp asks; the thread is on no queue, in no marked list and not woken
 pub record MayStamp (c : Config) (s : State) (t : ℕ) (e : Event) : Type 0 where
   pub thread : t < c.threads
-  pub unnamed : s.blocked_on t ≡ None
-  pub unwoken : is_woken (s.wait t) ≡ false
+  pub acting : IsActing s t
   pub asks : Asks c s t e
 
 -- the priority of a loan, where there is one
@@ -182,17 +246,24 @@ abbrev pub looks_after : Event → ℕ → ℕ
 looks_after (Busy l seen) looks = 0
 looks_after other looks = looks
 
+-- the acquiring round after an event: a failed try has ended
+abbrev pub round_after : Event → Option Round → Option Round
+round_after (Busy l seen) round = None
+round_after other round = round
+
 -- the wake that is not noted yet, after an event
 abbrev pub unstamped_after : Event → Option Wake → Option Wake
 unstamped_after (WokeOne d woken) wake = None
 unstamped_after (WokeAll d woken) wake = None
 unstamped_after other wake = wake
 
--- the channel from which the thread was woken by a signal since its last sleep, after an event
-abbrev pub woken_from_after : Event → Option ℕ → Option ℕ
-woken_from_after (Sleeps d) woken_from = None
-woken_from_after (Woke d) woken_from = None
-woken_from_after other woken_from = woken_from
+-- the lock that is being taken, after an event: the entry of a take, or of a wait that has ended, is made
+abbrev pub taking_after : Event → Option ℕ → Option ℕ
+taking_after (Locked l mode) taking = None
+taking_after (HaltedLock l) taking = None
+taking_after (Woke d) taking = None
+taking_after (HaltedChan d) taking = None
+taking_after other taking = taking
 
 -- the entry that a stamp makes
 abbrev pub entry_of : State → ℕ → Event → Entry
@@ -205,9 +276,11 @@ after_stamp c s t e = record s {
   effective = effective_after c e t s.loan s.effective;
   looks = put s.looks t (looks_after e (s.looks t));
   last_look = put s.last_look t None;
+  round = put s.round t (round_after e (s.round t));
   noted = put s.noted t None;
+  taking = put s.taking t (taking_after e (s.taking t));
   unstamped = put s.unstamped t (unstamped_after e (s.unstamped t));
-  woken_from = put s.woken_from t (woken_from_after e (s.woken_from t));
+  woken_from = put s.woken_from t None;
   log = put s.log t (entry_of s t e ∷ s.log t);
   has_begun = begun_after c e t s.has_begun;
   table = table_after e s.table;
@@ -215,13 +288,12 @@ after_stamp c s t e = record s {
   history = entry_of s t e ∷ s.history;
 }
 
--- 5. A thread's wait word: made ready to stand on a queue, or running again where it stands on none
+-- 6. A thread's wait word: made ready to stand on a queue, or running again where it stands on none
 
 -- what it asks to be made ready
 pub record MayReady (c : Config) (s : State) (t : ℕ) : Type 0 where
   pub thread : t < c.threads
   pub running : s.wait t ≡ Running
-  pub record_out : s.record_with t ≡ Some t
 
 -- the wait word says Queued
 unfoldable pub after_ready : State → ℕ → State

@@ -3,7 +3,8 @@ use Rattle.std.specs.Prelude.{◌≡◌, ◌⊎◌, ℕ, ◌<◌, Bool, true, fa
 use Rattle.lock_model.specs.Words.{admits, is_free, is_turnstile, without_one, shows_waiters, entered, opened, side_woken}
 use Rattle.lock_model.specs.History.{open_in}
 use Rattle.lock_model.specs.Config.{Config}
-use Rattle.lock_state.specs.State.{State, Queued, put, put_at, put_queue}
+use Rattle.lock_state.specs.Steps.LockWords.{AllOpen, without_held}
+use Rattle.lock_state.specs.State.{State, Queued, NoWalk, put, put_at, put_queue}
 use Rattle.lock_model.specs.Holds.{NotHeld, Holds}
 use Rattle.lock_model.specs.Queues.{Waiter, lock_queue, chan_queue, side_of, list_of, with_list, head_with, free_with, dealt, free_after, head_after, without}
 use Rattle.lock_model.specs.declared.plan.Mode.{Mode}
@@ -26,6 +27,8 @@ pub record MayEnterSleep (c : Config) (s : State) (t l : ℕ) (mode : Mode) (x :
   pub unnamed : s.blocked_on t ≡ None
   pub own : s.sleep_queue t ≡ Some x
   pub wants : (s.wanted t ≡ Some l) ⊎ (s.wanted t ≡ None)
+  pub no_walk : s.walk t ≡ NoWalk
+  pub sections : AllOpen c s t
 
 -- a list with one more at its tail
 abbrev pub with_last : Waiter → List Waiter → List Waiter
@@ -44,6 +47,8 @@ after_enter_sleep s t l mode x =
       blocked_on = put s.blocked_on t (Some q);
       wanted = put s.wanted t (Some l);
       called = put s.called t None;
+      round = put s.round t None;
+      seen_in_section = put s.seen_in_section t None;
       last_look = put s.last_look t None;
     }
 
@@ -73,8 +78,10 @@ after_open_sleep c s t l =
       free_list = put_queue s.free_list q (free_after ws (s.free_list q));
       head = put_queue s.head q (head_after ws (s.free_list q) (s.head q));
       held = put_at s.held t l NotHeld;
+      held_locks = put s.held_locks t (without_held l (s.held_locks t));
       marked = put s.marked t (dealt q ws (s.free_list q) (s.head q));
       last_look = put s.last_look t None;
+      seen_in_section = put s.seen_in_section t None;
     }
 
 -- 3. An add: a thread sleeps on a channel, behind its Sleeps entry, which is the newest of its log. It wants nothing
@@ -97,6 +104,7 @@ pub record MayAdd (c : Config) (s : State) (t d x : ℕ) : Type 0 where
   pub own : s.sleep_queue t ≡ Some x
   pub wants : s.wanted t ≡ None
   pub slept : has_slept d (s.log t) ≡ true
+  pub unwoken : s.woken_from t ≡ None
 
 -- the thread stands at the tail of the exclusive side, and its sleep queue is lent
 unfoldable pub after_add : State → ℕ → ℕ → ℕ → State

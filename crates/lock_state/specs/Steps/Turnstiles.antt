@@ -1,12 +1,10 @@
 -- Steps that put a thread on a turnstile and take it off again: what each asks of the state, and what it makes of it.
--- Sleep queues, of sx locks and channels, come as further cases.
-use Rattle.std.specs.Prelude.{◌≡◌, ◌⊎◌, ℕ, ◌<◌, Bool, true, false, if◌then◌else◌, List, [], ◌∷◌, Option, Some, None}
-use Rattle.lock_model.specs.Words.{Holder, Free, HeldBy, SharedBy, admits, is_free, is_turnstile, without_one, shows_waiters, owner_of, entered, opened, side_woken}
+use Rattle.std.specs.Prelude.{◌≡◌, ◌⊎◌, ℕ, ◌<◌, Bool, true, false, ◌==◌, if◌then◌else◌, List, [], ◌∷◌, Option, Some, None, ⊤}
+use Rattle.lock_model.specs.Words.{Holder, admits, is_free, is_turnstile, without_one, shows_waiters, owner_of, entered, opened, side_woken}
 use Rattle.lock_model.specs.History.{open_in}
-use Rattle.lock_state.specs.Steps.LockWords.{effective_of, after_ready}
-use Rattle.lock_state.specs.Steps.Items.{Item, item_with}
+use Rattle.lock_state.specs.Steps.LockWords.{AllOpen, is_taking_back, effective_of, without_held, round_of}
 use Rattle.lock_model.specs.Config.{Config}
-use Rattle.lock_state.specs.State.{State, Running, Queued, Woken, Walk, NoWalk, AtLock, Note, SleepHalted, Loan, put, put_at, put_queue}
+use Rattle.lock_state.specs.State.{State, Running, Queued, Woken, Walk, NoWalk, AtLock, Note, SleepHalted, Loan, Round, Phase, Awake, SelfAborted, put, put_at, put_queue}
 use Rattle.lock_model.specs.Holds.{NotHeld, Holds}
 use Rattle.lock_model.specs.Queues.{Cause, BySignal, ByAbort, Waiter, Mark, lock_queue, is_turnstile_queue, side_of, list_of, with_list, insert, head_with, free_with, dealt, free_after, head_after}
 use Rattle.lock_model.specs.declared.plan.Kind.TheVariants.{Mtx}
@@ -15,9 +13,6 @@ use Rattle.lock_model.specs.declared.plan.Mode.TheVariants.{Excl}
 use Rattle.lock_model.specs.declared.plan.Side.{Side}
 use Rattle.lock_model.specs.declared.plan.QueueName.{QueueName}
 use Rattle.lock_model.specs.declared.plan.QueueName.TheVariants.{Lock, Chan}
-use Rattle.lock_model.specs.declared.event.Event.{Event}
-use Rattle.lock_model.specs.declared.event.Event.TheVariants.{Sleeps}
-use Rattle.lock_model.specs.declared.event.Entry.{Entry}
 
 -- 1. An enter: the word is held and does not admit, and the thread, made ready, stands on the lock's turnstile with its own turnstile x
 
@@ -34,17 +29,17 @@ pub record MayEnter (c : Config) (s : State) (t l : ℕ) (mode : Mode) (x : ℕ)
   pub own : s.turnstile t ≡ Some x
   pub wants : (s.wanted t ≡ Some l) ⊎ (s.wanted t ≡ None)
   pub no_walk : s.walk t ≡ NoWalk
+  pub sections : AllOpen c s t
 
 -- the owner of a turnstile's head: that of the first waiter's enter is the word's exclusive holder
 abbrev pub owner_with : Option ℕ → Option ℕ → Holder → Option ℕ
 owner_with None o h = owner_of h
 owner_with (Some x) o h = o
 
--- a walk begins at a lock that is held exclusively
-abbrev pub walk_in : ℕ → Holder → Walk
-walk_in l Free = NoWalk
-walk_in l (HeldBy u) = AtLock l
-walk_in l (SharedBy n) = NoWalk
+-- a walk to the lock, where there is an owner to lend to
+abbrev pub walk_up : ℕ → Option ℕ → Walk
+walk_up l None = NoWalk
+walk_up l (Some o) = AtLock l
 
 -- the thread stands on its side, its turnstile is lent, and its walk begins
 unfoldable pub after_enter : State → ℕ → ℕ → Mode → ℕ → State
@@ -60,29 +55,11 @@ after_enter s t l mode x =
       blocked_on = put s.blocked_on t (Some q);
       wanted = put s.wanted t (Some l);
       called = put s.called t None;
-      walk = put s.walk t (walk_in l (s.word l).holder);
+      round = put s.round t None;
+      seen_in_section = put s.seen_in_section t None;
+      walk = put s.walk t (walk_up l (owner_of (s.word l).holder));
       last_look = put s.last_look t None;
     }
-
--- The same in one turn of the scheduled run, where nothing is out: a running thread is made ready and enters at once.
-
--- what it asks
-pub record MayBlock (c : Config) (s : State) (t l : ℕ) (mode : Mode) (x : ℕ) : Type 0 where
-  pub thread : t < c.threads
-  pub lock : l < c.locks
-  pub turnstile : is_turnstile (c.kind l) ≡ true
-  pub mutex : c.kind l ≡ Mtx → mode ≡ Excl
-  pub held : is_free (s.word l).holder ≡ false
-  pub refused : admits (c.kind l) (s.word l) mode ≡ false
-  pub running : s.wait t ≡ Running
-  pub own : s.turnstile t ≡ Some x
-  pub wants : (s.wanted t ≡ Some l) ⊎ (s.wanted t ≡ None)
-  pub no_walk : s.walk t ≡ NoWalk
-  pub nothing_out : (i : Item) → item_with s i ≡ None
-
--- the state after both
-unfoldable pub after_block : State → ℕ → ℕ → Mode → ℕ → State
-after_block s t l mode x = after_enter (after_ready s t) t l mode x
 
 -- 2. An open: the last holder's release where waiters are shown. One whole side goes to the marked list with its turnstiles; the loan
 -- for the lock goes home, and the turnstile that stays has no owner. The thread may stand on a sleep queue, but on no turnstile
@@ -118,11 +95,13 @@ after_open c s t l =
       head = put_queue s.head q (head_after ws (s.free_list q) (s.head q));
       owner = put_queue s.owner q None;
       held = put_at s.held t l NotHeld;
+      held_locks = put s.held_locks t (without_held l (s.held_locks t));
       loan = put_at s.loan t l None;
       loan_home = home_after s.loan_home (s.loan t l);
       effective = put s.effective t (effective_of c (put (s.loan t) l None) (s.base t));
       marked = put s.marked t (dealt q ws (s.free_list q) (s.head q));
       last_look = put s.last_look t None;
+      seen_in_section = put s.seen_in_section t None;
     }
 
 -- 3. A mark: the first of the marked list gets its object back and is woken
@@ -131,6 +110,11 @@ after_open c s t l =
 pub record MayMark (c : Config) (s : State) (t : ℕ) (m : Mark) (ms : List Mark) : Type 0 where
   pub thread : t < c.threads
   pub marked : s.marked t ≡ m ∷ ms
+  pub stamped : s.unstamped t ≡ None
+
+-- a thread that wakes itself has aborted itself
+abbrev pub phase_marked : ℕ → ℕ → Phase → Phase
+phase_marked t u phase = if t == u then SelfAborted else phase
 
 -- the first marked thread has its object back and is woken
 unfoldable pub after_mark : Config → State → ℕ → Mark → List Mark → State
@@ -140,27 +124,24 @@ after_mark c s t m ms = record s {
   blocked_on = put s.blocked_on m.thread None;
   wait = put s.wait m.thread (Woken m.queue m.cause);
   marked = put s.marked t ms;
-  counted_first = put s.counted_first t false;
+  counting = put s.counting t None;
+  phase = put s.phase t (phase_marked t m.thread (s.phase t));
 }
 
 -- 4. A resume: a woken thread runs again. After a signal from a lock's queue it is called for that lock. An abort ends the wanting of a
 -- lock and is noted, but in a taking back after a wait it only lets the thread look again. After a wake from a channel the lock of
 -- the wait is wanted
 
+-- a thread that was woken from a channel has released the lock of its wait
+abbrev pub HasReleased : Config → State → ℕ → QueueName → Type 0
+HasReleased c s t (Lock l) = ⊤
+HasReleased c s t (Chan d) = s.held t (c.chan_lock d.0) ≡ NotHeld
+
 -- what a resume asks
 pub record MayResume (c : Config) (s : State) (t : ℕ) (q : QueueName) (cause : Cause) : Type 0 where
   pub thread : t < c.threads
   pub woken : s.wait t ≡ Woken q cause
-
--- a thread takes a lock back from its Sleeps entry until its next one
-abbrev pub is_sleep : Event → Bool
-is_sleep (Sleeps d) = true
-is_sleep other = false
-
--- whether a log's newest entry is a Sleeps entry
-abbrev pub is_taking_back : List Entry → Bool
-is_taking_back [] = false
-is_taking_back (e ∷ es) = is_sleep e.event
+  pub released : HasReleased c s t q
 
 -- the lock that the thread is called for
 abbrev pub called_after : QueueName → Cause → Option ℕ → Option ℕ
@@ -172,6 +153,16 @@ abbrev pub wanted_after : Config → QueueName → Cause → Bool → Option ℕ
 wanted_after c (Lock l) BySignal back wanted = wanted
 wanted_after c (Lock l) ByAbort back wanted = if back then wanted else None
 wanted_after c (Chan d) cause back wanted = Some (c.chan_lock d.0)
+
+-- the lock whose take, or whose taking back after a wait, is still to be noted
+abbrev pub taking_by : Config → QueueName → Option ℕ → Option ℕ
+taking_by c (Lock l) taking = taking
+taking_by c (Chan d) taking = Some (c.chan_lock d.0)
+
+-- an acquiring round of the lock that is wanted begins
+abbrev pub round_for : Option ℕ → Option Round
+round_for None = None
+round_for (Some l) = Some (round_of l false)
 
 -- what the thread has yet to note
 abbrev pub noted_after : QueueName → Cause → Bool → Option Note → Option Note
@@ -194,8 +185,9 @@ after_resume c s t q cause =
       called = put s.called t (called_after q cause (s.called t));
       wanted = put s.wanted t (wanted_after c q cause back (s.wanted t));
       noted = put s.noted t (noted_after q cause back (s.noted t));
+      taking = put s.taking t (taking_by c q (s.taking t));
       woken_from = put s.woken_from t (woken_from_by q cause (s.woken_from t));
       looks = put s.looks t 0;
-      is_finder = put s.is_finder t false;
-      parked = put s.parked t false;
+      round = put s.round t (round_for (wanted_after c q cause back (s.wanted t)));
+      phase = put s.phase t Awake;
     }
