@@ -4,8 +4,8 @@ use Rattle.std.proofs.lemmas.List.Elements.{All-head, All-tail}
 use Rattle.std.proofs.lemmas.Map.Entries.{lookup_head, lookup_tail}
 use Rattle.lock_model.specs.declared.plan.QueueName.{QueueName}
 use Rattle.chain_table.specs.Chains.{entry_of, entries_of, head_of, without, IsNamed}
-use Rattle.chain_table.specs.Names.{is_same}
-use Rattle.chain_table.proofs.Names.{Decides-is_same}
+use Rattle.lock_model.specs.Queues.{is_queue}
+use Rattle.chain_table.proofs.Names.{Decides-is_queue}
 
 not_true : (b : Bool) → (b ≡ true → ⊥) → b ≡ false
 not_true true h = absurd (h refl)
@@ -30,27 +30,27 @@ module _ {H : Type 0} (name_of : H → Option QueueName) where
   named_rest h hs n = All-tail (λ e. name_of e.1 ≡ Some e.0) (entry_of name_of h) (entries_of name_of hs) n
 
   -- ---- the first head has the name that is sought
-  is_same_found : (q : QueueName) (h : H) → name_of h ≡ Some q → is_same q (entry_of name_of h).0 ≡ true
-  is_same_found q h e = (Decides-is_same q (entry_of name_of h).0).1 (sym (ap (λ (o : Option QueueName). unwrap_or o q) e) ∙ rw e refl)
+  is_queue_found : (q : QueueName) (h : H) → name_of h ≡ Some q → is_queue q (entry_of name_of h).0 ≡ true
+  is_queue_found q h e = (Decides-is_queue q (entry_of name_of h).0).1 (sym (ap (λ (o : Option QueueName). unwrap_or o q) e) ∙ rw e refl)
 
   pub head_of_found : (q : QueueName) (h : H) (hs : List H) → name_of h ≡ Some q → head_of q (entries_of name_of (h ∷ hs)) ≡ Some h
-  head_of_found q h hs e = lookup_head (is_same q) (entry_of name_of h) (entries_of name_of hs) (is_same_found q h e)
+  head_of_found q h hs e = lookup_head (is_queue q) (entry_of name_of h) (entries_of name_of hs) (is_queue_found q h e)
 
   pub without_found : (q : QueueName) (h : H) (hs : List H) → name_of h ≡ Some q → without q (entries_of name_of (h ∷ hs)) ≡ entries_of name_of hs
-  without_found q h hs e = rw (is_same_found q h e) refl
+  without_found q h hs e = rw (is_queue_found q h e) refl
 
   -- ---- it has another
-  is_same_passed : (q : QueueName) (h : H) → name_of h ≡ Some (entry_of name_of h).0 → (name_of h ≡ Some q → ⊥) → is_same q (entry_of name_of h).0 ≡ false
-  is_same_passed q h named other = not_true _ (λ t. other (named ∙ ap Some (sym ((Decides-is_same q (entry_of name_of h).0).0 t))))
+  is_queue_passed : (q : QueueName) (h : H) → name_of h ≡ Some (entry_of name_of h).0 → (name_of h ≡ Some q → ⊥) → is_queue q (entry_of name_of h).0 ≡ false
+  is_queue_passed q h named other = not_true _ (λ t. other (named ∙ ap Some (sym ((Decides-is_queue q (entry_of name_of h).0).0 t))))
 
   pub head_of_passed : (q : QueueName) (h : H) (hs behind rest : List H) → hs ≡ h ∷ behind → rest ≡ behind → IsNamed name_of (entries_of name_of hs) → (name_of h ≡ Some q → ⊥) → head_of q (entries_of name_of rest) ≡ head_of q (entries_of name_of hs)
   head_of_passed q h hs behind rest e f n other =
-      let here = is_same_passed q h (named_first h behind (rw e at n)) other in
-      rw (e, f) (sym (lookup_tail (is_same q) (entry_of name_of h) (entries_of name_of behind) here))
+      let here = is_queue_passed q h (named_first h behind (rw e at n)) other in
+      rw (e, f) (sym (lookup_tail (is_queue q) (entry_of name_of h) (entries_of name_of behind) here))
 
   pub without_passed : (q : QueueName) (h : H) (hs behind rest : List H) → hs ≡ h ∷ behind → rest ≡ behind → IsNamed name_of (entries_of name_of hs) → (name_of h ≡ Some q → ⊥) → entry_of name_of h ∷ without q (entries_of name_of rest) ≡ without q (entries_of name_of hs)
   without_passed q h hs behind rest e f n other =
-      let here = is_same_passed q h (named_first h behind (rw e at n)) other in
+      let here = is_queue_passed q h (named_first h behind (rw e at n)) other in
       rw (e, f, here) refl
 
   -- a head and another that differs from it in the link have one name

@@ -6,7 +6,7 @@ use Rattle.std.specs.declared.boxed.Box.{Box}
 use Rattle.std.specs.declared.alloc.Global.{Global}
 use Rattle.lock_model.specs.declared.plan.QueueName.{QueueName}
 use Rattle.lock_model.specs.declared.plan.QueueName.TheVariants.{Lock}
-use Rattle.chain_table.specs.Names.{is_same}
+use Rattle.lock_model.specs.Queues.{is_queue}
 
 -- the heads that a link leads to, each without its link
 abbrev pub heads_of : {H : Type 0} → (H → H) → (H → List H) → Option (Box H Global) → List H
@@ -23,11 +23,11 @@ entries_of name_of hs = map (entry_of name_of) hs
 
 -- the head of that name
 abbrev pub head_of : {H : Type 0} → QueueName → List (QueueName × H) → Option H
-head_of q chain = lookup (is_same q) chain
+head_of q chain = lookup (is_queue q) chain
 
 -- the chain without the head of that name
 abbrev pub without : {H : Type 0} → QueueName → List (QueueName × H) → List (QueueName × H)
-without q chain = remove_entry (is_same q) chain
+without q chain = remove_entry (is_queue q) chain
 
 -- each name is that of its head
 abbrev pub IsNamed : {H : Type 0} → (H → Option QueueName) → List (QueueName × H) → Type 0
@@ -35,6 +35,6 @@ IsNamed name_of chain = All (λ e. name_of e.1 ≡ Some e.0) chain
 
 -- names differ, and each is that of its head, which has no link
 pub record IsChain {H : Type 0} (name_of : H → Option QueueName) (behind : H → List H) (chain : List (QueueName × H)) : Type 0 where
-  pub distinct : IsDistinct is_same (keys_of chain)
+  pub distinct : IsDistinct is_queue (keys_of chain)
   pub named : IsNamed name_of chain
   pub bare : All (λ e. behind e.1 ≡ []) chain

@@ -1,4 +1,3 @@
 pub mod Chains
 pub mod Links
-pub mod Names
 pub mod Turnstiles

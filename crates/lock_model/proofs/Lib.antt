@@ -1,2 +1,3 @@
 mod NamedKeys
 mod Spelled
+pub mod Lists

@@ -42,6 +42,11 @@ abbrev pub lower : Option ℕ → ℕ → ℕ
 lower None d = d
 lower (Some p) d = min p d
 
+-- the least of d and the numbers of a list
+abbrev pub least_with : ℕ → List ℕ → ℕ
+least_with d [] = d
+least_with d (n ∷ ns) = min n (least_with d ns)
+
 -- the least of d and the numbers that f has below n
 unfoldable pub least : ℕ → (ℕ → Option ℕ) → ℕ → ℕ
 least zero f d = d

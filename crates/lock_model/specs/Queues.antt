@@ -1,6 +1,6 @@
 -- The two lists of a queue and what is done with them: who stands where, the rule of insertion, how woken waiters get their
 -- objects back, and the least kept priority.
-use Rattle.std.specs.Prelude.{ℕ, ◌+◌, Bool, false, not, ◌==◌, nat_le, if◌then◌else◌, List, [], ◌∷◌, length, Option, Some, None}
+use Rattle.std.specs.Prelude.{ℕ, ◌+◌, ◌≤◌, Bool, false, not, ◌==◌, nat_le, if◌then◌else◌, List, [], ◌∷◌, length, drop, Option, Some, None, ⊤}
 use Rattle.lock_model.specs.Counts.{one, lower}
 use Rattle.lock_model.specs.Words.{is_turnstile}
 use Rattle.lock_model.specs.Config.{Config}
@@ -116,18 +116,26 @@ free_with (Some h) x xs = x ∷ xs
 
 -- 5. Waiters taken off a queue
 
+-- What each takes back, in queue order: the first free object that is left, and behind these the head, where there is one.
+abbrev pub handed_out : List Waiter → List ℕ → Option ℕ → List (Waiter × Option ℕ)
+handed_out [] xs h = []
+handed_out (w ∷ ws) (x ∷ xs) h = (w, Some x) ∷ handed_out ws xs h
+handed_out (w ∷ ws) [] h = (w, h) ∷ handed_out ws [] None
+
+-- the marks of waiters that a signal takes off a queue, up to the first that takes nothing back
+abbrev pub marks : QueueName → List (Waiter × Option ℕ) → List Mark
+marks q [] = []
+marks q ((w, None) ∷ ds) = []
+marks q ((w, Some x) ∷ ds) =
+    record { thread = w.thread; object = x; queue = q; cause = BySignal } ∷ marks q ds
+
 -- Their marks, in queue order. Each gets the first free object, and the last of all the head.
 abbrev pub dealt : QueueName → List Waiter → List ℕ → Option ℕ → List Mark
-dealt q [] xs h = []
-dealt q (w ∷ ws) (x ∷ xs) h = record { thread = w.thread; object = x; queue = q; cause = BySignal } ∷ dealt q ws xs h
-dealt q (w ∷ ws) [] (Some h) = record { thread = w.thread; object = h; queue = q; cause = BySignal } ∷ dealt q ws [] None
-dealt q (w ∷ ws) [] None = []
+dealt q ws xs h = marks q (handed_out ws xs h)
 
 -- the free list that is left
 abbrev pub free_after : List Waiter → List ℕ → List ℕ
-free_after [] xs = xs
-free_after (w ∷ ws) [] = []
-free_after (w ∷ ws) (x ∷ xs) = free_after ws xs
+free_after ws xs = drop (length ws) xs
 
 -- the head that is left
 abbrev pub head_after : List Waiter → List ℕ → Option ℕ → Option ℕ
@@ -136,6 +144,12 @@ head_after (w ∷ ws) [] h = None
 head_after (w ∷ ws) (x ∷ xs) h = head_after ws xs h
 
 -- 6. Kept priorities
+
+-- kept priorities ascend from the front
+abbrev pub Ascends : List Waiter → Type 0
+Ascends [] = ⊤
+Ascends (w ∷ []) = ⊤
+Ascends (w ∷ v ∷ ws) = (w.kept ≤ v.kept) × Ascends (v ∷ ws)
 
 -- the least kept priority of a list
 abbrev pub least_kept : List Waiter → Option ℕ

@@ -5,6 +5,7 @@ use Rattle.std.specs.Prelude.{◌≡◌, ℕ, suc, ◌+◌, ◌-◌, ◌*◌, �
 use Rattle.std.specs.List.{list_all, list_any, position_or_len}
 use Rattle.std.specs.Map.{lookup}
 use Rattle.std.specs.Cmp.Lexicographic.{pointwise}
+pub use Rattle.lock_model.specs.Counts.{is_empty}
 use Rattle.lock_model.specs.Names.{is_name, is_digit}
 use Rattle.lock_model.specs.declared.plan.Declared.{Declared}
 use Rattle.lock_model.specs.declared.plan.Declared.TheVariants.{Lock, Chan, Thread}
@@ -115,10 +116,6 @@ abbrev pub statement_of_words : List (List ℕ) → Option Statement
 statement_of_words [] = None
 statement_of_words (w ∷ []) = statement_of_one w
 statement_of_words (w ∷ a ∷ more) = if is_same w (codes "schedule") then Some (Schedule (a ∷ more)) else statement_of_more w a more
-
-abbrev pub is_empty : {A : Type 0} → List A → Bool
-is_empty [] = true
-is_empty (x ∷ xs) = false
 
 -- no word may be empty
 abbrev pub statement_of : List ℕ → Option Statement

@@ -1,6 +1,7 @@
 -- A lock word as what it means, its 64 bits, and the tables of what a word admits and becomes.
 -- The kinds are those of mutex(9), rwlock(9) and sx(9). The tables' exact form is this project's own.
 use Rattle.std.specs.Prelude.{ℕ, zero, suc, ◌+◌, ◌*◌, ◌/◌, ◌%◌, ◌≤◌, Bool, true, false, not, ◌&&◌, ◌||◌, ◌==◌, if◌then◌else◌, Option, Some, None}
+use Rattle.lock_model.specs.Counts.{one}
 use Rattle.lock_model.specs.declared.plan.Kind.{Kind}
 use Rattle.lock_model.specs.declared.plan.Kind.TheVariants.{Mtx, Rw, Sx}
 use Rattle.lock_model.specs.declared.plan.Mode.{Mode}
@@ -47,13 +48,9 @@ holder_bits Free = 0
 holder_bits (HeldBy t) = 8 * t + 4
 holder_bits (SharedBy n) = 8 * n
 
-abbrev pub bit : Bool → ℕ
-bit true = 1
-bit false = 0
-
 -- the 64 bits of a word
 abbrev pub bits_of : Word → ℕ
-bits_of w = holder_bits w.holder + 2 * bit w.shared_waiters + bit w.exclusive_waiters
+bits_of w = holder_bits w.holder + 2 * one w.shared_waiters + one w.exclusive_waiters
 
 -- an owner is at most 63, and from 1 to 64 threads share
 abbrev pub IsPossible : Holder → Type 0

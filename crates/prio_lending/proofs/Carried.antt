@@ -1,27 +1,27 @@
 -- The loan that an owner has for a lock, before and after a hop.
-use Rattle.std.proofs.Common.{◌≡◌, ◌≢◌, ℕ, nat_eq, true, false, cond, List, [], ◌∷◌, Option, Some, None, IfSome, option_map, map, refl, sym, ap, ◌∙◌}
+use Rattle.std.proofs.Common.{◌≡◌, ◌≢◌, ℕ, nat_eq, true, false, cond, List, [], ◌∷◌, ◌++◌, Option, Some, None, IfSome, option_map, map, refl, sym, ap, ◌∙◌}
 use Rattle.std.specs.Option.{is_some}
 use Rattle.std.proofs.lemmas.Bool.{eqb-true, ne_eqb}
-use Rattle.lock_model.specs.Queues.{Waiter as Waiting}
+use Rattle.lock_model.specs.Queues.{Waiter as Waiting, least_kept, least_of_two, lock_queue}
 use Rattle.lock_model.specs.declared.numbers.LockNo.{LockNo}
 use Rattle.lock_model.specs.declared.plan.QueueName.TheVariants.{Lock}
 use Rattle.turnstile_core.specs.Seen.{Contents, Terms, Loan}
-use Rattle.turnstile_core.specs.Lists.{least}
 use Rattle.turnstile_core.specs.Changes.{all_waiters, name_of, best}
 use Rattle.thread_records.specs.Loans.{has_loan, loan_for, alone, with_prio}
 use Rattle.thread_records.proofs.ByLock.{has_is_some, loan_set, others_set}
 use Rattle.prio_lending.specs.Hops.{carrier_for, node_out}
 
 -- ---- the head
-some_least : (ws : List Waiting) → None ≡ least (map (λ w. w.kept) ws) → ws ≡ []
-some_least [] e = refl
-some_least (w ∷ ws) e = cc
+some_least : (xs ys : List Waiting) → None ≡ least_of_two (least_kept xs) (least_kept ys) → xs ++ ys ≡ []
+some_least [] [] e = refl
+some_least [] (y ∷ ys) e = cc
+some_least (x ∷ xs) ys e = cc
 
 -- a head with a waiter has a best priority
 pub has_best : (c : Contents) → all_waiters c ≢ [] → None ≡ best c → ⊥
-has_best c ne e = ne (some_least (all_waiters c) e)
+has_best c ne e = ne (some_least c.exclusive c.shared e)
 
-lock_in : (o : Option ℕ) (l : LockNo) → Some (Lock l) ≡ option_map (λ n. Lock (record { 0 = n })) o → o ≡ Some l.0
+lock_in : (o : Option ℕ) (l : LockNo) → Some (Lock l) ≡ option_map lock_queue o → o ≡ Some l.0
 lock_in None l e = cc
 lock_in (Some n) l e = cc
 

@@ -2,7 +2,7 @@
 use Rattle.std.specs.Prelude.{◌≡◌, ℕ, ◌≤◌, List, [], Option, None, Some}
 use Rattle.lock_model.specs.declared.plan.QueueName.{QueueName}
 use Rattle.turnstile_core.specs.Seen.{Terms}
-use Rattle.turnstile_core.specs.Lists.{least_with}
+use Rattle.lock_model.specs.Counts.{least_with}
 use Rattle.thread_records.specs.Loans.{prios, loans_for}
 
 -- a thread's priorities, the number of the turnstile that is at home with its node, its loans, the newest first, and the

@@ -1,6 +1,6 @@
 //! The loans of a record, linked by `next`.
 ghost use Rattle.std.specs.Prelude.{◌≡◌, ◌==◌, [], option_map, find};
-ghost use Rattle.turnstile_core.specs.Lists.{least_with};
+ghost use Rattle.lock_model.specs.Counts.{least_with};
 ghost use Rattle.turnstile_core.specs.Linked.{linked_terms};
 ghost use Rattle.thread_records.specs.Loans.{prios, loan_for, alone, with_prio, without_loan};
 

@@ -1,5 +1,3 @@
-pub mod Lists
-pub mod Places
 pub mod WellFormed
 pub mod Best
 pub mod Dealt

@@ -1,45 +1,62 @@
 -- What is true of a turnstile's fields stays true where waiters come and go.
-use Rattle.std.proofs.Common.{◌≡◌, ◌≢◌, ℕ, zero, suc, ◌≤◌, true, false, List, [], ◌∷◌, ◌++◌, length, map, drop, None, Some, IfNone, IfSome, refl, sym, ap, ◌∙◌, subst, arith, length-append, append-nil}
+use Rattle.std.proofs.Common.{◌≡◌, ◌≢◌, ℕ, zero, suc, ◌+◌, ◌≤◌, ◌<◌, false, List, [], ◌∷◌, ◌++◌, length, map, drop, None, Some, IfNone, IfSome, refl, sym, ap, ◌∙◌, subst, arith, length-append, append-nil}
 use Rattle.std.specs.declared.option.Option.{Option}
 use Rattle.std.specs.declared.boxed.Box.{Box}
 use Rattle.std.specs.List.{drop-map}
 use Rattle.std.proofs.lemmas.List.{length-map}
+use Rattle.lock_model.specs.Queues.{Waiter as Waiting, times_waiting, insert, without, reinsert}
 use Rattle.lock_model.specs.declared.plan.Side.TheVariants.{X, S}
 use Rattle.turnstile_core.specs.Seen.{Place, Waiter, Contents, idle_contents}
 use Rattle.turnstile_core.specs.Linked.{linked_places}
-use Rattle.turnstile_core.specs.Lists.{is_in}
 use Rattle.turnstile_core.specs.Changes.{all_waiters, waits, joined, left_by, moved, IsWellFormed}
 use Rattle.turnstile_core.specs.Inside.{waiting, seen_contents, AllIdle, HoldNone, IsSound}
-use Rattle.turnstile_core.specs.Queues.{insert_place, without_place}
 use Rattle.turnstile_core.specs.declared.turnstile.Turnstile.TheInside.{Inside}
-use Rattle.turnstile_core.proofs.Places.{seen-insert, seen-without, hold_none-insert, hold_none-without}
-use Rattle.turnstile_core.proofs.WellFormed.{joined_well, left_well, moved_exclusive_well, moved_shared_well}
+use Rattle.turnstile_core.proofs.WellFormed.{joined_well, left_well, moved_well, reinsert-present, reinsert-absent}
+
+-- the node w of a thread, with the priority k: by way of a reference, x and then y
+
+pub waiting_kept : (w x y : Waiter) (k t : ℕ) → x ≡ w → y ≡ record x { place = record x.place { kept = k } } → w.place.thread ≡ t → waiting y.place ≡ record { thread = t; kept = k }
+waiting_kept w x y k t e f h = rw (f, e, h)
+
+pub none_kept : (w x y : Waiter) (k : ℕ) → x ≡ w → y ≡ record x { place = record x.place { kept = k } } → w.place.turnstile ≡ None → y.place.turnstile ≡ None
+none_kept w x y k e f h = rw (f, e) h
 
 -- a waiter more
 
-pub seen_joined_exclusive : (a : Inside) (p : Place) (o : Contents) (es : List Place) (fs : List Contents) → es ≡ insert_place p a.exclusive → fs ≡ o ∷ a.free → seen_contents (record a { exclusive = es; free = fs }) ≡ joined o.number (waiting p) X (seen_contents a)
-seen_joined_exclusive a p o es fs e f = rw (e, f, seen-insert)
+abbrev numbers : List Contents → List ℕ
+numbers cs = map (λ c. c.number) cs
 
-pub seen_joined_shared : (a : Inside) (p : Place) (o : Contents) (es : List Place) (fs : List Contents) → es ≡ insert_place p a.shared → fs ≡ o ∷ a.free → seen_contents (record a { shared = es; free = fs }) ≡ joined o.number (waiting p) S (seen_contents a)
-seen_joined_shared a p o es fs e f = rw (e, f, seen-insert)
+abbrev with_exclusive : Contents → List Waiting → List ℕ → Contents
+with_exclusive c ws xs = record c { exclusive = ws; free = xs }
 
-pub sound_joined_exclusive : (a : Inside) (p : Place) (o : Contents) (es : List Place) (fs : List Contents) → es ≡ insert_place p a.exclusive → fs ≡ o ∷ a.free → o ≡ idle_contents o.number → p.turnstile ≡ None
+abbrev with_shared : Contents → List Waiting → List ℕ → Contents
+with_shared c ws xs = record c { shared = ws; free = xs }
+
+pub seen_joined_exclusive : (a : Inside) (p : Place) (o : Contents) (es : List Place) (fs : List Contents) → map waiting es ≡ insert (waiting p) (map waiting a.exclusive) → fs ≡ o ∷ a.free
+    → seen_contents (record a { exclusive = es; free = fs }) ≡ joined o.number (waiting p) X (seen_contents a)
+seen_joined_exclusive a p o es fs e f = ap (λ ws. with_exclusive (seen_contents a) ws (numbers fs)) e ∙ ap (λ cs. with_exclusive (seen_contents a) (insert (waiting p) (map waiting a.exclusive)) (numbers cs)) f
+
+pub seen_joined_shared : (a : Inside) (p : Place) (o : Contents) (es : List Place) (fs : List Contents) → map waiting es ≡ insert (waiting p) (map waiting a.shared) → fs ≡ o ∷ a.free
+    → seen_contents (record a { shared = es; free = fs }) ≡ joined o.number (waiting p) S (seen_contents a)
+seen_joined_shared a p o es fs e f = ap (λ ws. with_shared (seen_contents a) ws (numbers fs)) e ∙ ap (λ cs. with_shared (seen_contents a) (insert (waiting p) (map waiting a.shared)) (numbers cs)) f
+
+pub sound_joined_exclusive : (a : Inside) (p : Place) (o : Contents) (es : List Place) (fs : List Contents) → map waiting es ≡ insert (waiting p) (map waiting a.exclusive) → fs ≡ o ∷ a.free → o ≡ idle_contents o.number → HoldNone es
     → all_waiters (seen_contents a) ≢ [] → waits p.thread (seen_contents a) ≡ false → IsSound a → IsSound (record a { exclusive = es; free = fs })
 sound_joined_exclusive a p o es fs e f idle none ne absent s = record {
   well_formed = subst IsWellFormed (sym (seen_joined_exclusive a p o es fs e f)) (joined_well o.number (waiting p) X (seen_contents a) ne absent s.well_formed);
   free_idle = subst AllIdle (sym f) (idle, s.free_idle);
-  exclusive_hold_none = subst HoldNone (sym e) (hold_none-insert p a.exclusive none s.exclusive_hold_none);
+  exclusive_hold_none = none;
   shared_hold_none = s.shared_hold_none;
   own_loan = s.own_loan;
 }
 
-pub sound_joined_shared : (a : Inside) (p : Place) (o : Contents) (es : List Place) (fs : List Contents) → es ≡ insert_place p a.shared → fs ≡ o ∷ a.free → o ≡ idle_contents o.number → p.turnstile ≡ None
+pub sound_joined_shared : (a : Inside) (p : Place) (o : Contents) (es : List Place) (fs : List Contents) → map waiting es ≡ insert (waiting p) (map waiting a.shared) → fs ≡ o ∷ a.free → o ≡ idle_contents o.number → HoldNone es
     → all_waiters (seen_contents a) ≢ [] → waits p.thread (seen_contents a) ≡ false → IsSound a → IsSound (record a { shared = es; free = fs })
 sound_joined_shared a p o es fs e f idle none ne absent s = record {
   well_formed = subst IsWellFormed (sym (seen_joined_shared a p o es fs e f)) (joined_well o.number (waiting p) S (seen_contents a) ne absent s.well_formed);
   free_idle = subst AllIdle (sym f) (idle, s.free_idle);
   exclusive_hold_none = s.exclusive_hold_none;
-  shared_hold_none = subst HoldNone (sym e) (hold_none-insert p a.shared none s.shared_hold_none);
+  shared_hold_none = none;
   own_loan = s.own_loan;
 }
 
@@ -90,39 +107,45 @@ pub first_split : {Z : Type 0} (o : Option (Box Waiter Z)) (old new : List Place
 first_split None old new n s = n.0 ∙ sym n.1
 first_split (Some b) old new n s = rw s.1 s.0
 
--- a waiter moved: the node q of the thread t, with the priority k
+-- a waiter moved: the thread t, with the priority k
 
-moved_node : (p q : Place) (t k : ℕ) → p ≡ record q { kept = k } → q.thread ≡ t → waiting p ≡ record { thread = t; kept = k }
-moved_node p q t k e f = rw (e, f)
+-- a list from which the thread was taken and into which it was put again
+abbrev pub Anew : ℕ → ℕ → List Waiting → Place → List Place → List Place → Type 0
+Anew t k ws p rest es = (waiting p ≡ record { thread = t; kept = k }) × (map waiting rest ≡ without t ws) × (map waiting es ≡ insert (waiting p) (map waiting rest)) × (0 < times_waiting t ws)
 
-pub seen_moved_exclusive : (a : Inside) (p q : Place) (t k : ℕ) (rest es : List Place) → p ≡ record q { kept = k } → q.thread ≡ t → rest ≡ without_place t a.exclusive → es ≡ insert_place p rest → is_in t (map waiting a.exclusive) ≡ true
-    → seen_contents (record a { exclusive = es }) ≡ moved t k (seen_contents a)
-seen_moved_exclusive a p q t k rest es e f r i h = rw (h, i, r, seen-insert, seen-without, moved_node p q t k e f)
+reinserted : (t k : ℕ) (ws : List Waiting) (p : Place) (rest es : List Place) → Anew t k ws p rest es → map waiting es ≡ reinsert t k ws
+reinserted t k ws p rest es h = h.2 ∙ ap (λ w. insert w (map waiting rest)) h.0 ∙ ap (insert (record { thread = t; kept = k })) h.1 ∙ sym (reinsert-present t k ws h.3)
 
-pub seen_moved_shared : (a : Inside) (p q : Place) (t k : ℕ) (rest es : List Place) → p ≡ record q { kept = k } → q.thread ≡ t → rest ≡ without_place t a.shared → es ≡ insert_place p rest → is_in t (map waiting a.exclusive) ≡ false
-    → seen_contents (record a { shared = es }) ≡ moved t k (seen_contents a)
-seen_moved_shared a p q t k rest es e f r i h = rw (h, i, r, seen-insert, seen-without, moved_node p q t k e f)
+abbrev with_both : Contents → List Waiting → List Waiting → Contents
+with_both c ws vs = record c { exclusive = ws; shared = vs }
 
-holds_none : (p q : Place) (k : ℕ) (rest es all : List Place) (t : ℕ) → p ≡ record q { kept = k } → q.turnstile ≡ None → rest ≡ without_place t all → es ≡ insert_place p rest → HoldNone all → HoldNone es
-holds_none p q k rest es all t e n r i h = rw (i, r) (hold_none-insert p _ (ap (λ (z : Place). z.turnstile) e ∙ n) (hold_none-without t all h))
+pub seen_moved_exclusive : (a : Inside) (p : Place) (t k : ℕ) (rest es : List Place) → Anew t k (map waiting a.exclusive) p rest es → IsSound a → seen_contents (record a { exclusive = es }) ≡ moved t k (seen_contents a)
+seen_moved_exclusive a p t k rest es h s =
+    let none : times_waiting t (map waiting a.shared) ≡ 0 = let once = s.well_formed.once t in let here = h.3 in omega arith in
+    ap (λ ws. with_both (seen_contents a) ws (map waiting a.shared)) (reinserted t k (map waiting a.exclusive) p rest es h)
+    ∙ ap (λ vs. with_both (seen_contents a) (reinsert t k (map waiting a.exclusive)) vs) (sym (reinsert-absent t k (map waiting a.shared) none))
 
-pub sound_moved_exclusive : (a : Inside) (p q : Place) (t k : ℕ) (rest es : List Place) → p ≡ record q { kept = k } → q.thread ≡ t → q.turnstile ≡ None → rest ≡ without_place t a.exclusive → es ≡ insert_place p rest → is_in t (map waiting a.exclusive) ≡ true
-    → IsSound a → IsSound (record a { exclusive = es })
-sound_moved_exclusive a p q t k rest es e f n r i h s = record {
-  well_formed = rw (i, r, seen-insert, seen-without, moved_node p q t k e f) (moved_exclusive_well (record { thread = t; kept = k }) (seen_contents a) h s.well_formed);
+pub seen_moved_shared : (a : Inside) (p : Place) (t k : ℕ) (rest es : List Place) → Anew t k (map waiting a.shared) p rest es → IsSound a → seen_contents (record a { shared = es }) ≡ moved t k (seen_contents a)
+seen_moved_shared a p t k rest es h s =
+    let none : times_waiting t (map waiting a.exclusive) ≡ 0 = let once = s.well_formed.once t in let here = h.3 in omega arith in
+    ap (λ vs. with_both (seen_contents a) (map waiting a.exclusive) vs) (reinserted t k (map waiting a.shared) p rest es h)
+    ∙ ap (λ ws. with_both (seen_contents a) ws (reinsert t k (map waiting a.shared))) (sym (reinsert-absent t k (map waiting a.exclusive) none))
+
+pub sound_moved_exclusive : (a : Inside) (p : Place) (t k : ℕ) (rest es : List Place) → Anew t k (map waiting a.exclusive) p rest es → HoldNone es → IsSound a → IsSound (record a { exclusive = es })
+sound_moved_exclusive a p t k rest es h n s = record {
+  well_formed = subst IsWellFormed (sym (seen_moved_exclusive a p t k rest es h s)) (moved_well t k (seen_contents a) s.well_formed);
   free_idle = s.free_idle;
-  exclusive_hold_none = holds_none p q k rest es a.exclusive t e n r i s.exclusive_hold_none;
+  exclusive_hold_none = n;
   shared_hold_none = s.shared_hold_none;
   own_loan = s.own_loan;
 }
 
-pub sound_moved_shared : (a : Inside) (p q : Place) (t k : ℕ) (rest es : List Place) → p ≡ record q { kept = k } → q.thread ≡ t → q.turnstile ≡ None → rest ≡ without_place t a.shared → es ≡ insert_place p rest → is_in t (map waiting a.shared) ≡ true
-    → IsSound a → IsSound (record a { shared = es })
-sound_moved_shared a p q t k rest es e f n r i h s = record {
-  well_formed = rw (i, r, seen-insert, seen-without, moved_node p q t k e f) (moved_shared_well (record { thread = t; kept = k }) (seen_contents a) h s.well_formed);
+pub sound_moved_shared : (a : Inside) (p : Place) (t k : ℕ) (rest es : List Place) → Anew t k (map waiting a.shared) p rest es → HoldNone es → IsSound a → IsSound (record a { shared = es })
+sound_moved_shared a p t k rest es h n s = record {
+  well_formed = subst IsWellFormed (sym (seen_moved_shared a p t k rest es h s)) (moved_well t k (seen_contents a) s.well_formed);
   free_idle = s.free_idle;
   exclusive_hold_none = s.exclusive_hold_none;
-  shared_hold_none = holds_none p q k rest es a.shared t e n r i s.shared_hold_none;
+  shared_hold_none = n;
   own_loan = s.own_loan;
 }
 

@@ -6,4 +6,3 @@ pub mod Loans
 pub mod Inside
 pub mod Sizes
 pub mod Falls
-pub mod Queues

@@ -1,10 +1,10 @@
 //! A list of waiters that are linked by `next`.
-ghost use Rattle.std.specs.Prelude.{◌≡◌, ◌↔◌, true, false, [], ◌∷◌, length, map, drop, None, IfNone, IfSome, option_map, slice_get, IsTrue};
+ghost use Rattle.std.specs.Prelude.{◌≡◌, ◌↔◌, ◌<◌, nat_lt, [], ◌∷◌, length, map, drop, None, IfNone, IfSome, option_map, slice_get, IsTrue};
+ghost use Rattle.lock_model.specs.Queues.{times_waiting, insert, without, handed_out, least_kept, Ascends};
 ghost use Rattle.turnstile_core.specs.Seen.{idle};
 ghost use Rattle.turnstile_core.specs.Inside.{waiting, AllIdle, HoldNone};
 ghost use Rattle.turnstile_core.specs.Linked.{linked_places};
-ghost use Rattle.turnstile_core.specs.Lists.{is_in, with_last};
-ghost use Rattle.turnstile_core.specs.Queues.{insert_place, first_kept, without_place, dealt_places};
+ghost use Rattle.turnstile_core.specs.Lists.{place, with_last};
 
 use crate::free_list::FreeList;
 use crate::turnstile::Turnstile;
@@ -61,19 +61,20 @@ impl Queue {
     /// Puts a node with nothing behind it before the first one whose number is greater.
     pub(crate) fn insert(&mut self, mut node: Box<Waiter>)
         requires { node.value.next ≡ [] }
-        ensures { self.new ≡ insert_place node.value.place self.old }
+        ensures inserted { map waiting self.new ≡ insert (waiting node.value.place) (map waiting self.old) }
+        ensures hold_none { node.value.place.turnstile ≡ None → HoldNone self.old → HoldNone self.new }
     {
         match self.first.take() {
             None => self.first = Some(node),
             Some(mut first) => {
                 let waiter: &mut Waiter = &mut node;
                 let other: &mut Waiter = &mut first;
-                if waiter.kept < other.kept {
-                    waiter.next.first = Some(first);
-                    self.first = Some(node);
-                } else {
+                if other.kept <= waiter.kept {
                     other.next.insert(node);
                     self.first = Some(first);
+                } else {
+                    waiter.next.first = Some(first);
+                    self.first = Some(node);
                 }
             }
         }
@@ -92,14 +93,15 @@ impl Queue {
 
     /// Takes the node of a thread.
     pub(crate) fn remove(&mut self, t: ThreadNo) -> Option<Box<Waiter>>
-        ensures none { IfNone result ((is_in t.0 (map waiting self.old) ≡ false) × (self.new ≡ self.old)) }
-        ensures some { IfSome result (λ b. (is_in t.0 (map waiting self.old) ≡ true) × (b.value.next ≡ []) × (b.value.place.thread ≡ t.0)) }
-        ensures left { self.new ≡ without_place t.0 self.old }
+        ensures none { IfNone result ((times_waiting t.0 (map waiting self.old) ≡ 0) × (self.new ≡ self.old)) }
+        ensures some { IfSome result (λ b. (0 < times_waiting t.0 (map waiting self.old)) × (b.value.next ≡ []) × (b.value.place.thread ≡ t.0)) }
+        ensures left { map waiting self.new ≡ without t.0 (map waiting self.old) }
         ensures holds_none { HoldNone self.old → IfSome result (λ b. b.value.place.turnstile ≡ None) }
+        ensures hold_none { HoldNone self.old → HoldNone self.new }
     {
         let mut first = self.first.take()?;
         let other: &mut Waiter = &mut first;
-        if other.thread == t {
+        if t == other.thread {
             *self = mem::replace(&mut other.next, Queue::empty());
             return Some(first);
         }
@@ -111,7 +113,7 @@ impl Queue {
     /// Gives each waiter in turn the first turnstile of the free list.
     pub(crate) fn deal(&mut self, free: &mut FreeList)
         requires { AllIdle free.old }
-        ensures dealt { self.new ≡ dealt_places self.old (map (λ c. c.number) free.old) }
+        ensures dealt { self.new ≡ map place (handed_out (map waiting self.old) (map (λ c. c.number) free.old) None) }
         ensures left { free.new ≡ drop (length self.old) free.old }
     {
         if let Some(first) = &mut self.first {
@@ -137,13 +139,13 @@ impl Queue {
     }
 
     pub(crate) fn contains(&self, t: ThreadNo) -> bool
-        ensures { result ≡ is_in t.0 (map waiting self.now) }
+        ensures { result ≡ nat_lt 0 (times_waiting t.0 (map waiting self.now)) }
     {
         match &self.first {
             None => false,
             Some(first) => {
                 let waiter: &Waiter = first;
-                waiter.thread == t || waiter.next.contains(t)
+                t == waiter.thread || waiter.next.contains(t)
             }
         }
     }
@@ -165,9 +167,11 @@ impl Queue {
         }
     }
 
-    /// The kept priority of the first waiter.
-    pub(crate) fn first_kept(&self) -> Option<Prio>
-        ensures { option_map (λ p. p.0) result ≡ first_kept self.now }
+    /// The least kept priority, which is that of the first waiter.
+    #[tactic(auto, using(crate::proofs::Best::first_is_least))]
+    pub(crate) fn least_kept(&self) -> Option<Prio>
+        requires { Ascends (map waiting self.now) }
+        ensures { option_map (λ p. p.0) result ≡ least_kept (map waiting self.now) }
     {
         match &self.first {
             None => None,

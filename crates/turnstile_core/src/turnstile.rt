@@ -166,10 +166,10 @@ impl Turnstile {
     pub fn best(&self) -> Option<Prio>
         ensures { option_map (λ p. p.0) result ≡ best self.now.contents }
     {
-        match (self.exclusive.first_kept(), self.shared.first_kept()) {
+        match (self.exclusive.least_kept(), self.shared.least_kept()) {
             (None, shared) => shared,
             (exclusive, None) => exclusive,
-            (Some(exclusive), Some(shared)) => Some(Prio(exclusive.0.min(shared.0))),
+            (Some(exclusive), Some(shared)) => Some(Prio(shared.0.min(exclusive.0))),
         }
     }
 

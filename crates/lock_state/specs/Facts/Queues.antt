@@ -1,10 +1,11 @@
 -- Facts of queues: where turnstiles, sleep queues and loan nodes are, heads and free lists, waiters' bits, and the order of lists.
 -- A fact reads the columns that it names, and no others, so that a step which leaves these alone keeps it.
-use Rattle.std.specs.Prelude.{◌≡◌, ℕ, ◌+◌, ◌≤◌, Bool, true, false, not, ◌&&◌, ◌==◌, nat_lt, List, [], ◌∷◌, length, Option, Some, None, ⊤}
+use Rattle.std.specs.Prelude.{◌≡◌, ℕ, ◌+◌, Bool, true, false, not, ◌&&◌, ◌==◌, nat_lt, List, [], ◌∷◌, length, Option, Some, None}
 use Rattle.lock_model.specs.Counts.{sum_below, one, some, at_option, times, is_empty}
 use Rattle.lock_model.specs.Words.{Word, is_turnstile}
 use Rattle.lock_model.specs.Config.{Config}
-use Rattle.lock_model.specs.Queues.{Waiter, Lists, Mark, lock_queue, chan_queue, is_turnstile_queue, names_turnstile, names_sleep_queue, waiting}
+use Rattle.lock_model.specs.Queues.{Lists, Mark, lock_queue, chan_queue, is_turnstile_queue, names_turnstile, names_sleep_queue, waiting}
+pub use Rattle.lock_model.specs.Queues.{Ascends}
 use Rattle.lock_state.specs.State.{Loan}
 use Rattle.lock_model.specs.declared.plan.Kind.TheVariants.{Mtx}
 use Rattle.lock_model.specs.declared.plan.QueueName.{QueueName}
@@ -93,12 +94,6 @@ unfoldable pub BitsShowWaiters : (ℕ → Word) → (QueueName → Lists) → Ty
 BitsShowWaiters word lists = (l : ℕ) → ShowsItsWaiters (word l) (lists (lock_queue l))
 
 -- 4. Lists
-
--- kept priorities ascend from the front
-abbrev pub Ascends : List Waiter → Type 0
-Ascends [] = ⊤
-Ascends (w ∷ []) = ⊤
-Ascends (w ∷ v ∷ ws) = (w.kept ≤ v.kept) × Ascends (v ∷ ws)
 
 -- each list of a turnstile ascends by kept priority
 unfoldable pub ListsAscend : Config → (QueueName → Lists) → Type 0

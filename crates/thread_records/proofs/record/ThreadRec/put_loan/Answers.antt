@@ -1,6 +1,6 @@
 use Rattle.std.proofs.Common.{◌≡◌, ℕ, ◌≤◌, List, false, min, ap, subst, sym, ◌∙◌}
 use Rattle.turnstile_core.specs.Seen.{Terms}
-use Rattle.turnstile_core.specs.Lists.{least_with}
+use Rattle.lock_model.specs.Counts.{least_with}
 use Rattle.turnstile_core.specs.Linked.{linked_terms}
 use Rattle.thread_records.specs.Loans.{prios, has_loan, loans_for}
 use Rattle.thread_records.proofs.OneEach.{one_each_more}

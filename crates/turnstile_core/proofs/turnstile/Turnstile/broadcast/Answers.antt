@@ -1,14 +1,14 @@
-use Rattle.std.proofs.Common.{◌≡◌, List, [], length, map, drop, ap, ◌∙◌, subst, sym}
+use Rattle.std.proofs.Common.{◌≡◌, List, [], None, length, map, drop, ap, ◌∙◌, subst, sym}
 use Rattle.std.proofs.lemmas.List.{length-map}
 use Rattle.std.proofs.Math.Seq.{take-length}
 use Rattle.lock_model.specs.declared.plan.Side.{Side}
 use Rattle.lock_model.specs.declared.plan.Side.TheVariants.{X, S}
 use Rattle.turnstile_core.specs.Seen.{Place, Contents}
+use Rattle.lock_model.specs.Queues.{handed_out}
+use Rattle.turnstile_core.specs.Lists.{place}
 use Rattle.turnstile_core.specs.Changes.{waiters, left_by, taken, IsWellFormed}
 use Rattle.turnstile_core.specs.Inside.{waiting, seen_contents}
-use Rattle.turnstile_core.specs.Queues.{dealt_places}
 use Rattle.turnstile_core.specs.declared.turnstile.Turnstile.TheInside.{Inside}
-use Rattle.turnstile_core.proofs.Places.{seen-dealt}
 use Rattle.turnstile_core.proofs.Dealt.{others_taken, last_is}
 use Rattle.turnstile_core.proofs.Sound.{whole_split, left_exclusive, left_shared, seen_left_exclusive, seen_left_shared}
 use Rattle.turnstile_core.proofs.turnstile.Turnstile.broadcast.Goals as goal
@@ -23,8 +23,8 @@ invariant_of-self c = elim c.match-side.branch [
 ]
 
 -- all are dealt to
-all_dealt : (a m : Inside) (side : Side) (ps : List Place) → m.free ≡ a.free → map waiting ps ≡ waiters side (seen_contents a) → dealt_places ps (map (λ c. c.number) m.free) ≡ taken (length (waiters side (seen_contents a))) side (seen_contents a)
-all_dealt a m side ps f e = rw (f, ← e, take-length, seen-dealt)
+all_dealt : (a m : Inside) (side : Side) (ps : List Place) → m.free ≡ a.free → map waiting ps ≡ waiters side (seen_contents a) → map place (handed_out (map waiting ps) (map (λ c. c.number) m.free) None) ≡ taken (length (waiters side (seen_contents a))) side (seen_contents a)
+all_dealt a m side ps f e = rw f (ap (λ ws. map place (handed_out ws (map (λ (c : Contents). c.number) a.free) None)) (e ∙ sym (take-length (waiters side (seen_contents a)))))
 
 pub returns-clause-taken : goal.returns-clause-taken
 returns-clause-taken c = rw (← c.self.view_is) (c.of.ensures ∙ (c.deal.ensures.dealt ∙ elim c.match-side.branch [
