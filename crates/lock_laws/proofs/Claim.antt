@@ -30,9 +30,9 @@ no_owner_here false (Some x) t e = cc
 owner_claimed : (b : Bool) (h : Option ℕ) (x t : ℕ) → b ≡ true → h ≡ Some x → Some t ≡ owner_if b h (HeldBy t)
 owner_claimed b h x t e f = rw (e, f) refl
 
-module _ (c : Config) (s : State) (t l x : ℕ) (g : MayClaim c s t l x) (h : Lawful c s) where
+module _ (c : Config) (s : State) (t l x : ℕ) (by_try : Bool) (g : MayClaim c s t l x) (h : Lawful c s) where
   abbrev n : State
-  n = after_claim c s t l x
+  n = after_claim c s t l x by_try
 
   abbrev q : QueueName
   q = lock_queue l
@@ -173,7 +173,7 @@ module _ (c : Config) (s : State) (t l x : ℕ) (g : MayClaim c s t l x) (h : La
 
   nowhere : (k : ℕ) → stands t (s.lists (lock_queue k)) ≡ 0
   unfolding StandsOnce
-  nowhere k = grind (arith, h.stands_once t (lock_queue k), g.unnamed)
+  nowhere k = grind (arith, h.stands_once t (lock_queue k), g.acting.unnamed)
 
   kept : KeptIsEffective c n.walk n.effective n.lists
   unfolding after_claim KeptIsEffective

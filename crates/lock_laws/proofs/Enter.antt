@@ -2,12 +2,12 @@
 use Rattle.std.proofs.Common.{◌≡◌, ℕ, ◌+◌, ◌≤◌, Bool, true, false, not, eqb, List, Option, Some, None, refl, sym, ap, inl, inr, arith, ◌∙◌}
 use Rattle.std.proofs.lemmas.Bool.{cases_eq}
 use Rattle.lock_model.specs.Counts.{one, times, at_option, sum_below}
-use Rattle.lock_model.specs.Words.{Holder, Free, HeldBy, SharedBy, is_turnstile, entered}
+use Rattle.lock_model.specs.Words.{Holder, is_turnstile, entered, owner_of}
 use Rattle.lock_state.specs.State.{State, put_queue}
 use Rattle.lock_model.specs.Config.{Config}
 use Rattle.lock_model.specs.Queues.{Waiter, Lists, lock_queue, chan_queue, side_of, list_of, with_list, stands, insert, head_with, free_with}
-use Rattle.lock_state.specs.Steps.Turnstiles.{MayEnter, after_enter, walk_in, owner_with}
-use Rattle.lock_state.specs.Facts.{Lawful, OneTurnstileEach, OneSleepQueueEach, TurnstileIsLent, SleepQueueIsLent, HeadsFitWaiters, BitsShowWaiters, ListsAscend, MutexWaitersAreExclusive, StandsOnce, OnlyThreadsStand, StandingIsQueued, QueuedHasRecord, StandingWants, WokenWants, CalledWants, StandingIsUncalled, WokenIsUncalled, FreeWordHasCalled, FreeMutexShowsNone, WordsMatchHolders, OwnersHold, ChannelsHaveNoOwner, LoansAreLeast, LoansAreWithOwners, LoansAreOnHeads, KeptIsEffective, EffectiveIsKnown, KeptIsKnown}
+use Rattle.lock_state.specs.Steps.Turnstiles.{MayEnter, after_enter, walk_up, owner_with}
+use Rattle.lock_state.specs.Facts.{Lawful, OneTurnstileEach, OneSleepQueueEach, TurnstileIsLent, SleepQueueIsLent, HeadsFitWaiters, BitsShowWaiters, ListsAscend, MutexWaitersAreExclusive, StandsOnce, OnlyThreadsStand, StandingIsQueued, StandingWants, WokenWants, CalledWants, StandingIsUncalled, WokenIsUncalled, FreeWordHasCalled, FreeMutexShowsNone, WordsMatchHolders, OwnersHold, ChannelsHaveNoOwner, LoansAreLeast, LoansAreWithOwners, LoansAreOnHeads, KeptIsEffective, EffectiveIsKnown, KeptIsKnown}
 use Rattle.lock_state.specs.Facts.Queues.{only, turnstile_places, sleep_queue_places, HeadFits}
 use Rattle.lock_state.specs.Facts.Waits.{callers, times_marked, at_queue}
 use Rattle.lock_state.specs.Facts.Words.{WordMatchesHolders}
@@ -18,28 +18,18 @@ use Rattle.lock_model.specs.declared.plan.QueueName.{QueueName}
 use Rattle.lock_laws.proofs.Kit.{columns, put_same, put_other, put_lock_same, put_lock_other, sum_below-put, sum_below-put_lock, at_put, at_put_lock, each_queue, same_lock, one_same}
 use Rattle.lock_laws.proofs.Words.{entered_holder, matches_same}
 use Rattle.lock_laws.proofs.Queues.{stands-more, waiting-more, ascends-insert, is_empty-insert}
-use Rattle.lock_laws.proofs.Lending.{each_of-map, each_of-more}
+use Rattle.lock_laws.proofs.Lending.{at_thread-walk_up, walk_up-there, each_of-map, each_of-more}
 
 -- the object that is lent goes to the head or the free list
 lent_object : (n x : ℕ) (head : Option ℕ) (free : List ℕ) → at_option n (head_with head x) + times n (free_with head x free) ≡ one (eqb n x) + (at_option n head + times n free)
 lent_object n x None free = omega arith
 lent_object n x (Some h) free = omega arith
 
--- a walk that begins at a lock is at no thread
-walk_nowhere : (o l : ℕ) (x : Holder) → at_thread o (walk_in l x) ≡ 0
-walk_nowhere o l Free = refl
-walk_nowhere o l (HeldBy u) = refl
-walk_nowhere o l (SharedBy k) = refl
-
--- a walk begins at a lock whose turnstile has an owner
-walk_there : (turnstile : Bool) (l : ℕ) (h o : Option ℕ) (y : Holder) (u : ℕ) → turnstile ≡ true → o ≡ owner_if turnstile h y → owner_with h o y ≡ Some u → 1 ≤ at_lock l (walk_in l y)
-walk_there false l h o y u e f i = absurd cc
-walk_there true l None o Free u e f i = absurd cc
-walk_there true l None o (HeldBy v) u e f i = omega (arith, one_same l)
-walk_there true l None o (SharedBy m) u e f i = absurd cc
-walk_there true l (Some x) o Free u e f i = absurd (let z : None ≡ Some u = sym f ∙ i in cc)
-walk_there true l (Some x) o (HeldBy v) u e f i = omega (arith, one_same l)
-walk_there true l (Some x) o (SharedBy m) u e f i = absurd (let z : None ≡ Some u = sym f ∙ i in cc)
+-- where the turnstile has an owner after an enter, the word is held exclusively by that thread
+owner_there : (turnstile : Bool) (h o : Option ℕ) (y : Holder) (u : ℕ) → turnstile ≡ true → o ≡ owner_if turnstile h y → owner_with h o y ≡ Some u → owner_of y ≡ Some u
+owner_there false h o y u e f i = absurd cc
+owner_there true None o y u e f i = i
+owner_there true (Some x) o y u e f i = sym f ∙ i
 
 head_fits : (side : Side) (w : Waiter) (q : Lists) (xs : List ℕ) (h o : Option ℕ) (x : ℕ) (y : Holder) → HeadFits q xs h o → HeadFits (with_list side (insert w (list_of side q)) q) (free_with h x xs) (head_with h x) (owner_with h o y)
 head_fits side w q xs h o x y f = grind (arith, waiting-more side w q, f.balanced, f.no_free)
@@ -141,10 +131,6 @@ module _ (c : Config) (s : State) (t l : ℕ) (mode : Mode) (x : ℕ) (g : MayEn
   unfolding after_enter StandingIsQueued
   standing_queued u r = grind (arith, columns, h.standing_is_queued u r)
 
-  has_record : QueuedHasRecord n.wait n.blocked_on n.record_with
-  unfolding after_enter QueuedHasRecord
-  has_record u = grind (arith, columns, h.queued_has_record u)
-
   standing_wants : StandingWants n.blocked_on n.wanted
   unfolding after_enter StandingWants
   standing_wants u k = grind (arith, columns, h.standing_wants u k, same_lock l k)
@@ -201,13 +187,13 @@ module _ (c : Config) (s : State) (t l : ℕ) (mode : Mode) (x : ℕ) (g : MayEn
   loans_least : LoansAreLeast c n.owner n.walk n.loan n.lists
   unfolding after_enter LoansAreLeast walks_at_lock OwnersHold
   loans_least k o e w =
-      let a = sum_below-put c.threads (at_lock k) s.walk t (walk_in l (s.word l).holder) g.thread in
+      let a = sum_below-put c.threads (at_lock k) s.walk t (walk_up l (owner_of (s.word l).holder)) g.thread in
       let b = ap (at_lock k) g.no_walk in
       elim (cases_eq l k) [
         | inl i ↦
             let f = sym (put_lock_same s.owner l (owner_with (s.head q) (s.owner q) (s.word l).holder)) ∙ (let y = rw (← i) at e in y) in
-            let d = walk_there (is_turnstile (c.kind l)) l (s.head q) (s.owner q) (s.word l).holder o g.turnstile (h.owners_hold l) f in
-            let d2 = ap (λ j. at_lock j (walk_in l (s.word l).holder)) i in
+            let d = walk_up-there l (owner_of (s.word l).holder) o (owner_there (is_turnstile (c.kind l)) (s.head q) (s.owner q) (s.word l).holder o g.turnstile (h.owners_hold l) f) in
+            let d2 = ap (λ j. at_lock j (walk_up l (owner_of (s.word l).holder))) i in
             absurd (omega arith)
         | inr i ↦
             let f = sym (put_lock_other s.owner l (owner_with (s.head q) (s.owner q) (s.word l).holder) k i) ∙ e in
@@ -225,9 +211,9 @@ module _ (c : Config) (s : State) (t l : ℕ) (mode : Mode) (x : ℕ) (g : MayEn
   same_walks : (o : ℕ) → walks_at_thread c n.walk o ≡ walks_at_thread c s.walk o
   unfolding after_enter walks_at_thread
   same_walks o =
-      let a = sum_below-put c.threads (at_thread o) s.walk t (walk_in l (s.word l).holder) g.thread in
+      let a = sum_below-put c.threads (at_thread o) s.walk t (walk_up l (owner_of (s.word l).holder)) g.thread in
       let b = ap (at_thread o) g.no_walk in
-      let d = walk_nowhere o l (s.word l).holder in
+      let d = at_thread-walk_up o l (owner_of (s.word l).holder) in
       omega arith
 
   kept : KeptIsEffective c n.walk n.effective n.lists
@@ -246,4 +232,4 @@ module _ (c : Config) (s : State) (t l : ℕ) (mode : Mode) (x : ℕ) (g : MayEn
 
   pub lawful : Lawful c n
   unfolding after_enter
-  lawful = assumption (one_turnstile, one_sleep_queue, turnstile_lent, sleep_queue_lent, heads, bits, ascend, mutex_waiters, stand, threads_stand, standing_queued, has_record, standing_wants, woken_wants, called_wants, standing_uncalled, woken_uncalled, called, free_mutex, holders, owners, channels, loans_least, loans_owned, loans_on_heads, kept, kept_known)
+  lawful = assumption (one_turnstile, one_sleep_queue, turnstile_lent, sleep_queue_lent, heads, bits, ascend, mutex_waiters, stand, threads_stand, standing_queued, standing_wants, woken_wants, called_wants, standing_uncalled, woken_uncalled, called, free_mutex, holders, owners, channels, loans_least, loans_owned, loans_on_heads, kept, kept_known)

@@ -7,7 +7,7 @@ use Rattle.lock_state.specs.State.{State, put, put_queue}
 use Rattle.lock_model.specs.Config.{Config}
 use Rattle.lock_model.specs.Queues.{Waiter, Lists, lock_queue, chan_queue, side_of, list_of, with_list, stands, head_with, free_with}
 use Rattle.lock_state.specs.Steps.SleepQueues.{MayEnterSleep, after_enter_sleep, with_last}
-use Rattle.lock_state.specs.Facts.{Lawful, OneTurnstileEach, OneSleepQueueEach, TurnstileIsLent, SleepQueueIsLent, HeadsFitWaiters, BitsShowWaiters, ListsAscend, MutexWaitersAreExclusive, StandsOnce, OnlyThreadsStand, StandingIsQueued, QueuedHasRecord, StandingWants, WokenWants, CalledWants, StandingIsUncalled, WokenIsUncalled, FreeWordHasCalled, FreeMutexShowsNone, WordsMatchHolders, OwnersHold, LoansAreLeast, LoansAreWithOwners, LoansAreOnHeads, KeptIsEffective, KeptIsKnown}
+use Rattle.lock_state.specs.Facts.{Lawful, OneTurnstileEach, OneSleepQueueEach, TurnstileIsLent, SleepQueueIsLent, HeadsFitWaiters, BitsShowWaiters, ListsAscend, MutexWaitersAreExclusive, StandsOnce, OnlyThreadsStand, StandingIsQueued, StandingWants, WokenWants, CalledWants, StandingIsUncalled, WokenIsUncalled, FreeWordHasCalled, FreeMutexShowsNone, WordsMatchHolders, OwnersHold, LoansAreLeast, LoansAreWithOwners, LoansAreOnHeads, KeptIsEffective, KeptIsKnown}
 use Rattle.lock_state.specs.Facts.Queues.{only, turnstile_places, sleep_queue_places, HeadFits}
 use Rattle.lock_state.specs.Facts.Waits.{callers, times_marked, at_queue}
 use Rattle.lock_state.specs.Facts.Words.{WordMatchesHolders}
@@ -131,10 +131,6 @@ module _ (c : Config) (s : State) (t l : ℕ) (mode : Mode) (x : ℕ) (g : MayEn
   unfolding after_enter_sleep StandingIsQueued
   standing_queued u r = grind (arith, columns, h.standing_is_queued u r)
 
-  has_record : QueuedHasRecord n.wait n.blocked_on n.record_with
-  unfolding after_enter_sleep QueuedHasRecord
-  has_record u = grind (arith, columns, h.queued_has_record u)
-
   standing_wants : StandingWants n.blocked_on n.wanted
   unfolding after_enter_sleep StandingWants
   standing_wants u k = grind (arith, columns, h.standing_wants u k, same_lock l k)
@@ -215,4 +211,4 @@ module _ (c : Config) (s : State) (t l : ℕ) (mode : Mode) (x : ℕ) (g : MayEn
 
   pub lawful : Lawful c n
   unfolding after_enter_sleep
-  lawful = assumption (one_turnstile, one_sleep_queue, turnstile_lent, sleep_queue_lent, heads, bits, ascend, mutex_waiters, stand, threads_stand, standing_queued, has_record, standing_wants, woken_wants, called_wants, standing_uncalled, woken_uncalled, called, free_mutex, holders, owners, loans_least, loans_on_heads, kept, kept_known)
+  lawful = assumption (one_turnstile, one_sleep_queue, turnstile_lent, sleep_queue_lent, heads, bits, ascend, mutex_waiters, stand, threads_stand, standing_queued, standing_wants, woken_wants, called_wants, standing_uncalled, woken_uncalled, called, free_mutex, holders, owners, loans_least, loans_on_heads, kept, kept_known)

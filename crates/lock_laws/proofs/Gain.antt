@@ -1,5 +1,5 @@
 -- A gain keeps each fact.
-use Rattle.std.proofs.Common.{◌≡◌, ℕ, None, arith, ◌∙◌}
+use Rattle.std.proofs.Common.{◌≡◌, ℕ, Bool, None, arith, ◌∙◌}
 use Rattle.lock_model.specs.Counts.{at_option}
 use Rattle.lock_model.specs.Words.{is_turnstile}
 use Rattle.lock_model.specs.Queues.{lock_queue}
@@ -15,9 +15,9 @@ use Rattle.lock_laws.proofs.Kit.{columns, at_put, sum_below-put}
 use Rattle.lock_laws.proofs.Words.{all_match-put, matches-gain}
 use Rattle.lock_laws.proofs.Owners.{owner_gained}
 
-module _ (c : Config) (s : State) (t l : ℕ) (mode : Mode) (g : MayGain c s t l mode) (h : Lawful c s) where
+module _ (c : Config) (s : State) (t l : ℕ) (mode : Mode) (by_try : Bool) (g : MayGain c s t l mode) (h : Lawful c s) where
   abbrev n : State
-  n = after_gain s t l mode
+  n = after_gain s t l mode by_try
 
   bits : BitsShowWaiters n.word n.lists
   unfolding after_gain BitsShowWaiters

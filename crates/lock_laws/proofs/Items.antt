@@ -3,9 +3,9 @@ use Rattle.std.proofs.Common.{◌≡◌, ◌⊎◌, ℕ, true, Option, Some, Non
 use Rattle.std.proofs.lemmas.Bool.{cases_eq}
 use Rattle.lock_state.specs.State.{State, put, put_at}
 use Rattle.lock_model.specs.Config.{Config}
-use Rattle.lock_state.specs.Steps.Items.{Item, TurnstileChain, SleepChain, RecordOf, CellOf, ClassGraph, MayTake, MayGive, after_take, after_give, with_item, item_with, go_together}
-use Rattle.lock_state.specs.Facts.{Lawful, QueuedHasRecord, OutIsNarrow}
-use Rattle.lock_laws.proofs.Kit.{columns, put_same, put_other, put_at_same, put_at_other, put_at_beside}
+use Rattle.lock_state.specs.Steps.Items.{Item, TurnstileChain, SleepChain, RecordOf, CellOf, ClassGraph, MayTake, MayGive, after_take, after_give, item_with, out_with, go_together, turnstile_chains_after, sleep_chains_after, records_after, cells_after, graph_after}
+use Rattle.lock_state.specs.Facts.{Lawful, OutIsNarrow}
+use Rattle.lock_laws.proofs.Kit.{put_same, put_other, put_at_same, put_at_other, put_at_beside}
 
 by_place : (f : ℕ → Option ℕ) (i : ℕ) (o : Option ℕ) (j t : ℕ) → put f i o j ≡ Some t → ((i ≡ j) × (o ≡ Some t)) ⊎ (f j ≡ Some t)
 by_place f i o j t e = elim (cases_eq i j) [ inl x ↦ inl (x, sym (put_same f i o) ∙ ap (put f i o) x ∙ e) | inr x ↦ inr (sym (put_other f i o j x) ∙ e) ]
@@ -20,8 +20,12 @@ by_cell f i k o j l t e =
       | inr x ↦ inr (sym (put_at_other f i k o j l x) ∙ e)
     ]
 
+-- who has an item out, once the item i goes to a thread, or home
+abbrev pub with_then : State → Item → Option ℕ → Item → Option ℕ
+with_then s i o = out_with (turnstile_chains_after i o s.turnstile_chain_with) (sleep_chains_after i o s.sleep_chain_with) (records_after i o s.record_with) (cells_after i o s.cell_with) (graph_after i o s.graph_with)
+
 -- what a thread has out after an item has changed its place is that item, or was out before
-changed : (s : State) (i : Item) (o : Option ℕ) (j : Item) (t : ℕ) → item_with (with_item s i o) j ≡ Some t → ((i ≡ j) × (o ≡ Some t)) ⊎ (item_with s j ≡ Some t)
+pub changed : (s : State) (i : Item) (o : Option ℕ) (j : Item) (t : ℕ) → with_then s i o j ≡ Some t → ((i ≡ j) × (o ≡ Some t)) ⊎ (item_with s j ≡ Some t)
 changed s (TurnstileChain a) o (TurnstileChain b) t e = elim (by_place s.turnstile_chain_with a o b t e) [ inl x ↦ inl (ap TurnstileChain x.0, x.1) | inr x ↦ inr x ]
 changed s (SleepChain a) o (SleepChain b) t e = elim (by_place s.sleep_chain_with a o b t e) [ inl x ↦ inl (ap SleepChain x.0, x.1) | inr x ↦ inr x ]
 changed s (RecordOf a) o (RecordOf b) t e = elim (by_place s.record_with a o b t e) [ inl x ↦ inl (ap RecordOf x.0, x.1) | inr x ↦ inr x ]
@@ -55,10 +59,10 @@ with_itself (RecordOf a) = eq-eqb a a refl
 with_itself (CellOf a k) = rw (eq-eqb a a refl, eq-eqb k k refl) refl
 with_itself ClassGraph = refl
 
-abbrev Narrow : State → Type 0
-Narrow s = OutIsNarrow s.turnstile_chain_with s.sleep_chain_with s.record_with s.cell_with s.graph_with
+abbrev Narrow : State → Item → Option ℕ → Type 0
+Narrow s i o = OutIsNarrow (turnstile_chains_after i o s.turnstile_chain_with) (sleep_chains_after i o s.sleep_chain_with) (records_after i o s.record_with) (cells_after i o s.cell_with) (graph_after i o s.graph_with)
 
-taken_narrow : (c : Config) (s : State) (t : ℕ) (i : Item) → MayTake c s t i → Narrow s → Narrow (with_item s i (Some t))
+taken_narrow : (c : Config) (s : State) (t : ℕ) (i : Item) → MayTake c s t i → Lawful c s → Narrow s i (Some t)
 unfolding OutIsNarrow
 taken_narrow c s t i g h u j k p q =
     elim (changed s i (Some t) j u p) [
@@ -68,38 +72,22 @@ taken_narrow c s t i g h u j k p q =
       ]
       | inr x ↦ elim (changed s i (Some t) k u q) [
         | inl y ↦ subst (λ a. go_together j a ≡ true) y.0 ((g.together j (x ∙ sym y.1)).1)
-        | inr y ↦ h u j k x y
+        | inr y ↦ h.out_is_narrow u j k x y
       ]
     ]
 
-given_narrow : (s : State) (i : Item) → Narrow s → Narrow (with_item s i None)
+given_narrow : (c : Config) (s : State) (i : Item) → Lawful c s → Narrow s i None
 unfolding OutIsNarrow
-given_narrow s i h u j k p q =
+given_narrow c s i h u j k p q =
     elim (changed s i None j u p) [
       | inl x ↦ absurd (let e = x.1 in cc)
-      | inr x ↦ elim (changed s i None k u q) [ inl y ↦ absurd (let e = y.1 in cc) | inr y ↦ h u j k x y ]
+      | inr x ↦ elim (changed s i None k u q) [ inl y ↦ absurd (let e = y.1 in cc) | inr y ↦ h.out_is_narrow u j k x y ]
     ]
-
-taken_record : (c : Config) (s : State) (t v : ℕ) → MayTake c s t (RecordOf v) → Lawful c s → QueuedHasRecord s.wait s.blocked_on (put s.record_with v (Some t))
-unfolding QueuedHasRecord
-taken_record c s t v g h u = grind (arith, columns, h.queued_has_record u, g.home)
-
-given_record : (c : Config) (s : State) (t v : ℕ) → MayGive c s t (RecordOf v) → Lawful c s → QueuedHasRecord s.wait s.blocked_on (put s.record_with v None)
-unfolding QueuedHasRecord
-given_record c s t v g h u = grind (arith, columns, h.queued_has_record u, g.out, g.done)
 
 pub take_lawful : (c : Config) (s : State) (t : ℕ) (i : Item) → MayTake c s t i → Lawful c s → Lawful c (after_take s t i)
 unfolding after_take
-take_lawful c s t (TurnstileChain k) g h = assumption (h, taken_narrow c s t (TurnstileChain k) g h.out_is_narrow)
-take_lawful c s t (SleepChain k) g h = assumption (h, taken_narrow c s t (SleepChain k) g h.out_is_narrow)
-take_lawful c s t (RecordOf v) g h = assumption (h, taken_narrow c s t (RecordOf v) g h.out_is_narrow, taken_record c s t v g h)
-take_lawful c s t (CellOf l k) g h = assumption (h, taken_narrow c s t (CellOf l k) g h.out_is_narrow)
-take_lawful c s t ClassGraph g h = assumption (h, taken_narrow c s t ClassGraph g h.out_is_narrow)
+take_lawful c s t i g h = assumption (h, taken_narrow c s t i g h)
 
-pub give_lawful : (c : Config) (s : State) (t : ℕ) (i : Item) → MayGive c s t i → Lawful c s → Lawful c (after_give s i)
+pub give_lawful : (c : Config) (s : State) (t : ℕ) (i : Item) → MayGive c s t i → Lawful c s → Lawful c (after_give s t i)
 unfolding after_give
-give_lawful c s t (TurnstileChain k) g h = assumption (h, given_narrow s (TurnstileChain k) h.out_is_narrow)
-give_lawful c s t (SleepChain k) g h = assumption (h, given_narrow s (SleepChain k) h.out_is_narrow)
-give_lawful c s t (RecordOf v) g h = assumption (h, given_narrow s (RecordOf v) h.out_is_narrow, given_record c s t v g h)
-give_lawful c s t (CellOf l k) g h = assumption (h, given_narrow s (CellOf l k) h.out_is_narrow)
-give_lawful c s t ClassGraph g h = absurd g.done
+give_lawful c s t i g h = assumption (h, given_narrow c s i h)

@@ -7,10 +7,11 @@ use Rattle.lock_model.specs.Queues.{Waiter, Lists, list_of, with_list, times_wai
 use Rattle.lock_state.specs.State.{Loan, Walk, put, put_at}
 use Rattle.lock_state.specs.Steps.LockWords.{effective_of, prio_of}
 use Rattle.lock_state.specs.Facts.Queues.{Ascends}
-use Rattle.lock_state.specs.Facts.Loans.{Each, EachOf, IsKept, EffectiveIsLeast}
+use Rattle.lock_state.specs.Steps.Turnstiles.{walk_up}
+use Rattle.lock_state.specs.Facts.Loans.{Each, EachOf, IsKept, EffectiveIsLeast, at_lock, at_thread}
 use Rattle.lock_model.specs.declared.plan.Side.{Side}
 use Rattle.lock_model.specs.declared.plan.Side.TheVariants.{X, S}
-use Rattle.lock_laws.proofs.Kit.{put_same, put_other, put_at_same, put_at_other, put_at_beside, each_place}
+use Rattle.lock_laws.proofs.Kit.{put_same, put_other, put_at_same, put_at_other, put_at_beside, each_place, one_same}
 use Rattle.lock_laws.proofs.Queues.{times_waiting-insert, length-insert, ascends-insert, ascends-tail, ascends-cons, Below}
 
 -- 1. The least
@@ -185,3 +186,13 @@ pub each_of-elsewhere : (c : Config) (walk : ℕ → Walk) (effective : ℕ → 
 each_of-elsewhere c walk effective t v q z =
     each_of-map (IsKept c walk effective) (IsKept c walk (put effective t v)) q
     (λ w k p e. p e ∙ sym (put_other effective t v w.thread (λ x. let y : stands t q ≡ stands w.thread q = ap (λ i. stands i q) x in absurd (omega arith))))
+
+-- 4. A walk goes on to the lock where there is an owner to lend to
+
+pub at_thread-walk_up : (o l : ℕ) (x : Option ℕ) → at_thread o (walk_up l x) ≡ 0
+at_thread-walk_up o l None = refl
+at_thread-walk_up o l (Some y) = refl
+
+pub walk_up-there : (l : ℕ) (x : Option ℕ) (u : ℕ) → x ≡ Some u → at_lock l (walk_up l x) ≡ 1
+walk_up-there l None u e = absurd cc
+walk_up-there l (Some y) u e = one_same l

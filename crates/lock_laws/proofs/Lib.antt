@@ -23,7 +23,6 @@ pub mod StateAtStart
 pub mod Steps
 pub mod Best
 pub mod Derived
-pub mod Block
 pub mod Rows
 pub mod HeldLists
 pub mod OnTrack

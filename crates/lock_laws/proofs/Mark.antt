@@ -6,7 +6,7 @@ use Rattle.lock_state.specs.State.{State, Woken, put}
 use Rattle.lock_model.specs.Config.{Config}
 use Rattle.lock_model.specs.Queues.{Mark, is_queue, is_turnstile_queue, names_turnstile, names_sleep_queue}
 use Rattle.lock_state.specs.Steps.Turnstiles.{MayMark, after_mark}
-use Rattle.lock_state.specs.Facts.{Lawful, OneTurnstileEach, OneSleepQueueEach, TurnstileIsLent, SleepQueueIsLent, StandsOnce, OnlyThreadsStand, StandingIsQueued, QueuedHasRecord, StandingWants, WokenWants, StandingIsUncalled, WokenIsUncalled, FreeWordHasCalled}
+use Rattle.lock_state.specs.Facts.{Lawful, OneTurnstileEach, OneSleepQueueEach, TurnstileIsLent, SleepQueueIsLent, StandsOnce, OnlyThreadsStand, StandingIsQueued, StandingWants, WokenWants, StandingIsUncalled, WokenIsUncalled, FreeWordHasCalled}
 use Rattle.lock_state.specs.Facts.Queues.{turnstile_places, sleep_queue_places, times_object}
 use Rattle.lock_state.specs.Facts.Waits.{callers, calls_marked, calls_woken, times_marked}
 use Rattle.lock_laws.proofs.Kit.{columns, put_same, put_other, sum_below-put, sum_below-at, is_queue_same, at_queue_one}
@@ -137,10 +137,6 @@ module _ (c : Config) (s : State) (t : ℕ) (m : Mark) (ms : List Mark) (g : May
   unfolding after_mark StandingIsQueued
   standing_queued v q = grind (arith, columns, h.standing_is_queued v q)
 
-  has_record : QueuedHasRecord n.wait n.blocked_on n.record_with
-  unfolding after_mark QueuedHasRecord
-  has_record v = grind (arith, columns, h.queued_has_record v)
-
   standing_wants : StandingWants n.blocked_on n.wanted
   unfolding after_mark StandingWants
   standing_wants v k = grind (arith, columns, h.standing_wants v k)
@@ -168,4 +164,4 @@ module _ (c : Config) (s : State) (t : ℕ) (m : Mark) (ms : List Mark) (g : May
 
   pub lawful : Lawful c n
   unfolding after_mark
-  lawful = assumption (one_turnstile, one_sleep_queue, turnstile_lent, sleep_queue_lent, stand, threads_stand, standing_queued, has_record, standing_wants, woken_wants, standing_uncalled, woken_uncalled, called)
+  lawful = assumption (one_turnstile, one_sleep_queue, turnstile_lent, sleep_queue_lent, stand, threads_stand, standing_queued, standing_wants, woken_wants, standing_uncalled, woken_uncalled, called)

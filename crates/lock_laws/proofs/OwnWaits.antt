@@ -1,11 +1,16 @@
--- Looks, and the steps on a thread's own wait word that put it on no queue, keep each fact.
+-- The begin of a round, looks, and the steps on a thread's own wait word that put it on no queue, keep each fact.
 use Rattle.std.proofs.Common.{ℕ, Bool, arith, ap}
 use Rattle.lock_state.specs.State.{State, Running, Queued}
 use Rattle.lock_model.specs.Config.{Config}
-use Rattle.lock_state.specs.Steps.LockWords.{MayLook, MayReady, MayUnready, after_look, after_ready, after_unready}
-use Rattle.lock_state.specs.Facts.{Lawful, StandingIsQueued, QueuedHasRecord, WokenWants, WokenIsUncalled, FreeWordHasCalled}
+use Rattle.lock_state.specs.Steps.LockWords.{MaySeek, MayLook, MayReady, MayUnready, after_seek, after_look, after_ready, after_unready}
+use Rattle.lock_state.specs.Facts.{Lawful, StandingIsQueued, WokenWants, WokenIsUncalled, FreeWordHasCalled}
 use Rattle.lock_state.specs.Facts.Waits.{callers, calls_woken}
 use Rattle.lock_laws.proofs.Kit.{columns, sum_below-put}
+
+module _ (c : Config) (s : State) (t l : ℕ) (by_try : Bool) (g : MaySeek c s t l by_try) (h : Lawful c s) where
+  pub seek_lawful : Lawful c (after_seek s t l by_try)
+  unfolding after_seek
+  seek_lawful = assumption h
 
 module _ (c : Config) (s : State) (t l : ℕ) (in_round : Bool) (g : MayLook c s t l in_round) (h : Lawful c s) where
   pub look_lawful : Lawful c (after_look s t l in_round)
@@ -19,10 +24,6 @@ module _ (c : Config) (s : State) (t : ℕ) (g : MayReady c s t) (h : Lawful c s
   queued : StandingIsQueued n.blocked_on n.wait
   unfolding after_ready StandingIsQueued
   queued u q = grind (arith, columns, h.standing_is_queued u q)
-
-  has_record : QueuedHasRecord n.wait n.blocked_on n.record_with
-  unfolding after_ready QueuedHasRecord
-  has_record u = grind (arith, columns, h.queued_has_record u, g.record_out)
 
   woken_wants : WokenWants n.wait n.wanted
   unfolding after_ready WokenWants
@@ -41,7 +42,7 @@ module _ (c : Config) (s : State) (t : ℕ) (g : MayReady c s t) (h : Lawful c s
 
   pub ready_lawful : Lawful c n
   unfolding after_ready
-  ready_lawful = assumption (queued, has_record, woken_wants, woken_uncalled, called)
+  ready_lawful = assumption (queued, woken_wants, woken_uncalled, called)
 
 module _ (c : Config) (s : State) (t : ℕ) (g : MayUnready c s t) (h : Lawful c s) where
   abbrev m : State
@@ -50,10 +51,6 @@ module _ (c : Config) (s : State) (t : ℕ) (g : MayUnready c s t) (h : Lawful c
   back_queued : StandingIsQueued m.blocked_on m.wait
   unfolding after_unready StandingIsQueued
   back_queued u q = grind (arith, columns, h.standing_is_queued u q)
-
-  back_has_record : QueuedHasRecord m.wait m.blocked_on m.record_with
-  unfolding after_unready QueuedHasRecord
-  back_has_record u = grind (arith, columns, h.queued_has_record u)
 
   back_woken_wants : WokenWants m.wait m.wanted
   unfolding after_unready WokenWants
@@ -72,4 +69,4 @@ module _ (c : Config) (s : State) (t : ℕ) (g : MayUnready c s t) (h : Lawful c
 
   pub unready_lawful : Lawful c m
   unfolding after_unready
-  unready_lawful = assumption (back_queued, back_has_record, back_woken_wants, back_woken_uncalled, back_called)
+  unready_lawful = assumption (back_queued, back_woken_wants, back_woken_uncalled, back_called)

@@ -5,9 +5,9 @@ use Rattle.lock_model.specs.Counts.{at_option}
 use Rattle.lock_state.specs.State.{State, Running, Woken, put}
 use Rattle.lock_model.specs.Config.{Config}
 use Rattle.lock_model.specs.Queues.{Cause, BySignal, ByAbort}
-use Rattle.lock_state.specs.Steps.LockWords.{is_woken}
-use Rattle.lock_state.specs.Steps.Turnstiles.{MayResume, after_resume, called_after, wanted_after, is_taking_back}
-use Rattle.lock_state.specs.Facts.{Lawful, StandingIsQueued, QueuedHasRecord, StandingWants, WokenWants, CalledWants, StandingIsUncalled, WokenIsUncalled, FreeWordHasCalled}
+use Rattle.lock_state.specs.Steps.LockWords.{is_woken, is_taking_back}
+use Rattle.lock_state.specs.Steps.Turnstiles.{MayResume, after_resume, called_after, wanted_after}
+use Rattle.lock_state.specs.Facts.{Lawful, StandingIsQueued, StandingWants, WokenWants, CalledWants, StandingIsUncalled, WokenIsUncalled, FreeWordHasCalled}
 use Rattle.lock_state.specs.Facts.Waits.{callers, calls_woken}
 use Rattle.lock_model.specs.declared.plan.QueueName.{QueueName}
 use Rattle.lock_model.specs.declared.plan.QueueName.TheVariants.{Lock, Chan}
@@ -39,10 +39,6 @@ module _ (c : Config) (s : State) (t : ℕ) (q : QueueName) (cause : Cause) (g :
         | inl i ↦ absurd (unnamed r (ap s.blocked_on i ∙ e))
         | inr i ↦ rw (put_other s.wait t Running u i) (h.standing_is_queued u r e)
       ]
-
-  has_record : QueuedHasRecord n.wait n.blocked_on n.record_with
-  unfolding after_resume QueuedHasRecord
-  has_record u = grind (arith, columns, h.queued_has_record u)
 
   standing_wants : StandingWants n.blocked_on n.wanted
   unfolding after_resume StandingWants
@@ -94,4 +90,4 @@ module _ (c : Config) (s : State) (t : ℕ) (q : QueueName) (cause : Cause) (g :
 
   pub lawful : Lawful c n
   unfolding after_resume
-  lawful = assumption (standing_queued, has_record, standing_wants, woken_wants, called_wants, standing_uncalled, woken_uncalled, called)
+  lawful = assumption (standing_queued, standing_wants, woken_wants, called_wants, standing_uncalled, woken_uncalled, called)

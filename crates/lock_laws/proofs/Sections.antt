@@ -41,8 +41,8 @@ module _ (c : Config) (s : State) (h : Lawful c s) where
 
   -- what an event needs where it begins a section
   pub begins_held : (t : ℕ) (e : Event) → Asks c s t e → (l : ℕ) (mode : Mode) → begun_by c e (left_in c s.history t l) l ≡ Holds mode → (s.held t l ≡ Holds mode) × (open_in c s.history t l ≡ NotHeld)
-  begins_held t (Locked k m) a l mode e = grind (arith, a.held, a.closed)
-  begins_held t (Tried k m) a l mode e = grind (arith, a.held, a.closed)
+  begins_held t (Locked k m) a l mode e = grind (arith, a.0.held, a.0.closed)
+  begins_held t (Tried k m) a l mode e = grind (arith, a.0.held, a.0.closed)
   begins_held t (Woke d) a l mode e = grind (arith, a.0.held, a.0.closed)
   begins_held t (HaltedChan d) a l mode e = grind (arith, a.0.held, a.0.closed)
   begins_held t other a l mode e = absurd (let z : NotHeld ≡ Holds mode = e in cc)

@@ -7,25 +7,18 @@ use Rattle.lock_state.specs.State.{State, Walk, NoWalk, AtLock, AtThread, put_qu
 use Rattle.lock_model.specs.Config.{Config}
 use Rattle.lock_model.specs.Queues.{Waiter, Lists, is_queue, lock_queue, chan_queue, stands, least_of, with_kept}
 use Rattle.lock_state.specs.Steps.LockWords.{prio_of}
-use Rattle.lock_state.specs.Steps.Lending.{MayShift, MayEndWalk, IsAtEnd, after_shift, after_end_walk, walk_up}
+use Rattle.lock_state.specs.Steps.Lending.{MayShift, MayEndWalk, IsAtEnd, after_shift, after_end_walk}
+use Rattle.lock_state.specs.Steps.Turnstiles.{walk_up}
 use Rattle.lock_state.specs.Facts.{Lawful, HeadsFitWaiters, BitsShowWaiters, ListsAscend, MutexWaitersAreExclusive, StandsOnce, OnlyThreadsStand, LoansAreLeast, KeptIsEffective, EffectiveIsKnown, KeptIsKnown}
 use Rattle.lock_state.specs.Facts.Queues.{HeadFits}
 use Rattle.lock_state.specs.Facts.Waits.{times_marked, at_queue}
 use Rattle.lock_state.specs.Facts.Loans.{IsKept, IsKnown, EachOf, walks_at_lock, walks_at_thread, at_lock, at_thread}
 use Rattle.lock_model.specs.declared.plan.QueueName.{QueueName}
 use Rattle.lock_laws.proofs.Kit.{columns, put_lock_same, put_lock_other, sum_below-put, at_put_lock, each_queue, at_queue_one, one_same}
-use Rattle.lock_laws.proofs.Lending.{each_of-map, each_of-kept, stands-kept, waiting-kept, ascends-reinsert, is_empty-reinsert}
+use Rattle.lock_laws.proofs.Lending.{at_thread-walk_up, walk_up-there, each_of-map, each_of-kept, stands-kept, waiting-kept, ascends-reinsert, is_empty-reinsert}
 
 head_fits : (t p : ℕ) (q : Lists) (xs : List ℕ) (h o : Option ℕ) → HeadFits q xs h o → HeadFits (with_kept t p q) xs h o
 head_fits t p q xs h o f = record { balanced = f.balanced ∙ sym (waiting-kept t p q); no_free = f.no_free; no_owner = f.no_owner }
-
-at_thread-walk_up : (o l : ℕ) (x : Option ℕ) → at_thread o (walk_up l x) ≡ 0
-at_thread-walk_up o l None = refl
-at_thread-walk_up o l (Some y) = refl
-
-walk_up-there : (l : ℕ) (x : Option ℕ) (u : ℕ) → x ≡ Some u → at_lock l (walk_up l x) ≡ 1
-walk_up-there l None u e = absurd cc
-walk_up-there l (Some y) u e = one_same l
 
 module _ (c : Config) (s : State) (t o l : ℕ) (g : MayShift c s t o l) (h : Lawful c s) where
   abbrev n : State

@@ -6,7 +6,7 @@ use Rattle.lock_state.specs.State.{State, put_queue}
 use Rattle.lock_model.specs.Config.{Config}
 use Rattle.lock_model.specs.Queues.{Waiter, Lists, Mark, lock_queue, chan_queue, stands, head_with, free_with, dealt, free_after, head_after}
 use Rattle.lock_state.specs.Steps.SleepQueues.{MayAdd, MayWake, after_add, after_wake, with_last, taken_off, left_on}
-use Rattle.lock_state.specs.Facts.{Lawful, OneTurnstileEach, OneSleepQueueEach, TurnstileIsLent, SleepQueueIsLent, HeadsFitWaiters, BitsShowWaiters, ListsAscend, MutexWaitersAreExclusive, StandsOnce, OnlyThreadsStand, StandingIsQueued, QueuedHasRecord, StandingWants, CalledWants, StandingIsUncalled, FreeWordHasCalled, OwnersHold, ChannelsHaveNoOwner, LoansAreLeast, LoansAreOnHeads, KeptIsEffective, KeptIsKnown}
+use Rattle.lock_state.specs.Facts.{Lawful, OneTurnstileEach, OneSleepQueueEach, TurnstileIsLent, SleepQueueIsLent, HeadsFitWaiters, BitsShowWaiters, ListsAscend, MutexWaitersAreExclusive, StandsOnce, OnlyThreadsStand, StandingIsQueued, StandingWants, CalledWants, StandingIsUncalled, FreeWordHasCalled, OwnersHold, ChannelsHaveNoOwner, LoansAreLeast, LoansAreOnHeads, KeptIsEffective, KeptIsKnown}
 use Rattle.lock_state.specs.Facts.Queues.{turnstile_places, sleep_queue_places, times_object, HeadFits}
 use Rattle.lock_state.specs.Facts.Waits.{callers, calls_marked, times_marked, at_queue}
 use Rattle.lock_model.specs.declared.plan.QueueName.{QueueName}
@@ -117,10 +117,6 @@ module _ (c : Config) (s : State) (t d x : ℕ) (g : MayAdd c s t d x) (h : Lawf
   unfolding after_add StandingIsQueued
   standing_queued u r = grind (arith, columns, h.standing_is_queued u r)
 
-  has_record : QueuedHasRecord n.wait n.blocked_on n.record_with
-  unfolding after_add QueuedHasRecord
-  has_record u = grind (arith, columns, h.queued_has_record u)
-
   standing_wants : StandingWants n.blocked_on n.wanted
   unfolding after_add StandingWants
   standing_wants u l = grind (arith, columns, h.standing_wants u l)
@@ -159,7 +155,7 @@ module _ (c : Config) (s : State) (t d x : ℕ) (g : MayAdd c s t d x) (h : Lawf
 
   pub add_lawful : Lawful c n
   unfolding after_add
-  add_lawful = assumption (one_turnstile, one_sleep_queue, turnstile_lent, sleep_queue_lent, heads, bits, ascend, mutex_waiters, stand, threads_stand, standing_queued, has_record, standing_wants, standing_uncalled, owners, loans_least, loans_on_heads, kept, kept_known)
+  add_lawful = assumption (one_turnstile, one_sleep_queue, turnstile_lent, sleep_queue_lent, heads, bits, ascend, mutex_waiters, stand, threads_stand, standing_queued, standing_wants, standing_uncalled, owners, loans_least, loans_on_heads, kept, kept_known)
 
 -- 2. A wake
 

@@ -48,7 +48,7 @@ module _ (c : Config) (s : State) (t : ℕ) (e : Event) (g : MayStamp c s t e) (
 
   nowhere : (l : ℕ) → stands t (s.lists (lock_queue l)) ≡ 0
   unfolding StandsOnce
-  nowhere l = grind (arith, h.stands_once t (lock_queue l), g.unnamed)
+  nowhere l = grind (arith, h.stands_once t (lock_queue l), g.acting.unnamed)
 
   kept : KeptIsEffective c n.walk n.effective n.lists
   unfolding after_stamp KeptIsEffective

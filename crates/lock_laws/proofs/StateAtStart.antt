@@ -7,7 +7,7 @@ use Rattle.lock_state.specs.State.{State, start_state}
 use Rattle.lock_model.specs.Config.{Config}
 use Rattle.lock_model.specs.History.{tables_of, value_at, sections_in}
 use Rattle.lock_state.specs.Steps.Items.{Item, TurnstileChain, SleepChain, RecordOf, CellOf, ClassGraph, item_with}
-use Rattle.lock_state.specs.Facts.{Lawful, OneTurnstileEach, OneSleepQueueEach, OneNodeEach, TurnstileIsLent, SleepQueueIsLent, HeadsFitWaiters, BitsShowWaiters, ListsAscend, MutexWaitersAreExclusive, StandsOnce, OnlyThreadsStand, StandingIsQueued, QueuedHasRecord, StandingWants, WokenWants, CalledWants, StandingIsUncalled, WokenIsUncalled, FreeWordHasCalled, FreeMutexShowsNone, WordsMatchHolders, OnlyThreadsHold, EffectiveIsLeast, OwnersHold, ChannelsHaveNoOwner, LoansAreLeast, LoansAreWithOwners, LoansAreOnHeads, KeptIsEffective, EffectiveIsKnown, LoansAreKnown, KeptIsKnown, NextIsNew, LogsAreParts, TablesReplay, BasesReplay, SectionsAreHeld, OutIsNarrow, TicketsRun, SectionsExclude, EditsInSections, ReadsReplay, ShownIsExplained}
+use Rattle.lock_state.specs.Facts.{Lawful, OneTurnstileEach, OneSleepQueueEach, OneNodeEach, TurnstileIsLent, SleepQueueIsLent, HeadsFitWaiters, BitsShowWaiters, ListsAscend, MutexWaitersAreExclusive, StandsOnce, OnlyThreadsStand, StandingIsQueued, StandingWants, WokenWants, CalledWants, StandingIsUncalled, WokenIsUncalled, FreeWordHasCalled, FreeMutexShowsNone, WordsMatchHolders, OnlyThreadsHold, EffectiveIsLeast, OwnersHold, ChannelsHaveNoOwner, LoansAreLeast, LoansAreWithOwners, LoansAreOnHeads, KeptIsEffective, EffectiveIsKnown, LoansAreKnown, KeptIsKnown, NextIsNew, LogsAreParts, TablesReplay, BasesReplay, SectionsAreHeld, OutIsNarrow, TicketsRun, SectionsExclude, EditsInSections, ReadsReplay, ShownIsExplained}
 use Rattle.lock_state.specs.Facts.Queues.{only, turnstile_places, sleep_queue_places, loans_on}
 use Rattle.lock_state.specs.Facts.Waits.{callers}
 use Rattle.std.specs.FinMap.{get-empty}
@@ -80,7 +80,7 @@ module _ (c : Config) where
       none ClassGraph t e = cc
 
   pub lawful : Lawful c s
-  unfolding start_state TurnstileIsLent SleepQueueIsLent HeadsFitWaiters BitsShowWaiters ListsAscend MutexWaitersAreExclusive StandsOnce OnlyThreadsStand StandingIsQueued QueuedHasRecord StandingWants WokenWants CalledWants StandingIsUncalled WokenIsUncalled FreeWordHasCalled callers FreeMutexShowsNone WordsMatchHolders OnlyThreadsHold EffectiveIsLeast OwnersHold ChannelsHaveNoOwner LoansAreLeast LoansAreWithOwners LoansAreOnHeads KeptIsEffective EffectiveIsKnown LoansAreKnown KeptIsKnown NextIsNew LogsAreParts TablesReplay value_at tables_of BasesReplay SectionsAreHeld sections_in TicketsRun SectionsExclude EditsInSections ReadsReplay ShownIsExplained
+  unfolding start_state TurnstileIsLent SleepQueueIsLent HeadsFitWaiters BitsShowWaiters ListsAscend MutexWaitersAreExclusive StandsOnce OnlyThreadsStand StandingIsQueued StandingWants WokenWants CalledWants StandingIsUncalled WokenIsUncalled FreeWordHasCalled callers FreeMutexShowsNone WordsMatchHolders OnlyThreadsHold EffectiveIsLeast OwnersHold ChannelsHaveNoOwner LoansAreLeast LoansAreWithOwners LoansAreOnHeads KeptIsEffective EffectiveIsKnown LoansAreKnown KeptIsKnown NextIsNew LogsAreParts TablesReplay value_at tables_of BasesReplay SectionsAreHeld sections_in TicketsRun SectionsExclude EditsInSections ReadsReplay ShownIsExplained
   lawful =
       let z = sum_below-zero c.threads (λ t. 0) (λ t i. refl) in
       record {
@@ -96,7 +96,6 @@ module _ (c : Config) where
         stands_once = λ t q. omega arith;
         only_threads_stand = λ t q e. absurd cc;
         standing_is_queued = λ t q e. absurd cc;
-        queued_has_record = λ t e f. absurd cc;
         standing_wants = λ t l e. absurd cc;
         woken_wants = λ t l e. absurd cc;
         called_wants = λ t l e. absurd cc;

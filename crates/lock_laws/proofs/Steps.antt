@@ -1,10 +1,10 @@
--- Each step keeps the state lawful.
-use Rattle.std.proofs.Common.{subst, sym}
+-- Each step, of whatever kind, keeps the state lawful, and so does each list of steps.
+use Rattle.std.proofs.Common.{List, [], ◌∷◌, subst, sym, refl}
 use Rattle.lock_model.specs.Config.{Config}
 use Rattle.lock_state.specs.State.{State}
 use Rattle.lock_state.specs.Facts.{Lawful}
-use Rattle.lock_state.specs.Steps.{Step, Looks, TakesItem, GivesItem, Gains, Drops, Stamps, Readies, Unreadies, Enters, Opens, EntersSleepQueue, OpensSleepQueue, Adds, Wakes, Marks, Resumes, Claims, Lends, Shifts, EndsWalk, May, after, IsStep, IsReachable, begins, goes_on}
-use Rattle.lock_laws.proofs.OwnWaits.{look_lawful, ready_lawful, unready_lawful}
+use Rattle.lock_state.specs.Steps.{Step, Seeks, Looks, TakesItem, GivesItem, Gains, Drops, Stamps, Readies, Unreadies, Enters, Opens, EntersSleepQueue, OpensSleepQueue, Adds, Wakes, Marks, Resumes, Claims, Lends, Shifts, EndsWalk, May, MayAll, after, after_all, IsStep, IsReachable, begins, goes_on}
+use Rattle.lock_laws.proofs.OwnWaits.{seek_lawful, look_lawful, ready_lawful, unready_lawful}
 use Rattle.lock_laws.proofs.Items.{take_lawful, give_lawful}
 use Rattle.lock_laws.proofs.StateAtStart as start
 use Rattle.lock_laws.proofs.Gain as gain
@@ -21,15 +21,16 @@ use Rattle.lock_laws.proofs.Claim as claim
 use Rattle.lock_laws.proofs.Lend as lend
 use Rattle.lock_laws.proofs.Shift as shift
 
-pub keeps : (c : Config) (s : State) (m : Step) → May c s m → Lawful c s → Lawful c (after c s m)
+pub keeps : (c : Config) (s : State) (step : Step) → May c s step → Lawful c s → Lawful c (after c s step)
+keeps c s (Seeks t l by_try) g h = seek_lawful c s t l by_try g h
 keeps c s (Looks t l in_round) g h = look_lawful c s t l in_round g h
 keeps c s (TakesItem t i) g h = take_lawful c s t i g h
 keeps c s (GivesItem t i) g h = give_lawful c s t i g h
-keeps c s (Gains t l mode) g h = gain.lawful c s t l mode g h
+keeps c s (Gains t l mode by_try) g h = gain.lawful c s t l mode by_try g h
 keeps c s (Drops t l mode) g h = drop.lawful c s t l mode g h
 keeps c s (Stamps t e) g h = stamp.lawful c s t e g h
-keeps c s (Readies t) g h = ready_lawful c s t g h
-keeps c s (Unreadies t) g h = unready_lawful c s t g h
+keeps c s (Readies t q) g h = ready_lawful c s t g h
+keeps c s (Unreadies t q) g h = unready_lawful c s t g h
 keeps c s (Enters t l mode x) g h = enter.lawful c s t l mode x g h
 keeps c s (Opens t l mode) g h = opening.lawful c s t l mode g h
 keeps c s (EntersSleepQueue t l mode x) g h = enter_sleep.lawful c s t l mode x g h
@@ -38,10 +39,15 @@ keeps c s (Adds t d x) g h = add_lawful c s t d x g h
 keeps c s (Wakes t d all) g h = wake_lawful c s t d all g h
 keeps c s (Marks t m ms) g h = mark.lawful c s t m ms g h
 keeps c s (Resumes t q cause) g h = resume.lawful c s t q cause g h
-keeps c s (Claims t l x) g h = claim.lawful c s t l x g h
+keeps c s (Claims t l x by_try) g h = claim.lawful c s t l x by_try g h
 keeps c s (Lends t l o x) g h = lend.lawful c s t l o x g h
 keeps c s (Shifts t o l) g h = shift.lawful c s t o l g h
 keeps c s (EndsWalk t) g h = shift.end_lawful c s t g h
+
+-- so does each list of steps that may be made
+pub all_keep : (c : Config) (s : State) (steps : List Step) → MayAll c s steps → Lawful c s → Lawful c (after_all c s steps)
+all_keep c s [] g h = h
+all_keep c s (step ∷ steps) g h = all_keep c (after c s step) steps g.1 (keeps c s step g.0 h)
 
 pub step_keeps : (c : Config) (s n : State) → IsStep c s n → Lawful c s → Lawful c n
 step_keeps c s n p h = subst (Lawful c) (sym p.2) (keeps c s p.0 p.1 h)
@@ -49,3 +55,8 @@ step_keeps c s n p h = subst (Lawful c) (sym p.2) (keeps c s p.0 p.1 h)
 pub reached_lawful : (c : Config) (s : State) → IsReachable c s → Lawful c s
 reached_lawful c s begins = start.lawful c
 reached_lawful c n (goes_on {s} r p) = step_keeps c s n p (reached_lawful c s r)
+
+-- the state behind a list of steps that may be made is reachable
+pub all_reach : (c : Config) (s : State) (steps : List Step) → MayAll c s steps → IsReachable c s → IsReachable c (after_all c s steps)
+all_reach c s [] g r = r
+all_reach c s (step ∷ steps) g r = all_reach c (after c s step) steps g.1 (goes_on r (step, g.0, refl))

@@ -1,26 +1,22 @@
 //! From the start of a plan to each state that a run comes to.
 
+ghost use Rattle.std.specs.Prelude.{List};
 ghost use Rattle.lock_model.specs.Config.{Config};
 ghost use Rattle.lock_state.specs.State.{State, start_state};
 ghost use Rattle.lock_state.specs.Facts.{Lawful};
-ghost use Rattle.lock_state.specs.Steps.{Step, May, after, IsStep, IsReachable};
+ghost use Rattle.lock_state.specs.Steps.{Step, MayAll, after_all, IsReachable};
 
 /// The state at the start of a plan is lawful.
 pub fn start_is_lawful()
     ensures { (c : Config) → Lawful c (start_state c) }
 {}
 
-/// Each step of a thread, of whatever kind, keeps a state lawful.
-pub fn moves_keep()
-    ensures { (c : Config) (s : State) (m : Step) → May c s m → Lawful c s → Lawful c (after c s m) }
-{}
-
-/// A state that comes from a lawful one by a step is lawful.
-pub fn steps_keep()
-    ensures { (c : Config) (s n : State) → IsStep c s n → Lawful c s → Lawful c n }
-{}
-
 /// Each state that steps reach from the start is lawful.
 pub fn reached_is_lawful()
     ensures { (c : Config) (s : State) → IsReachable c s → Lawful c s }
+{}
+
+/// From a reachable state a list of steps that may be made leads to a reachable one.
+pub fn steps_reach()
+    ensures { (c : Config) (s : State) (steps : List Step) → MayAll c s steps → IsReachable c s → IsReachable c (after_all c s steps) }
 {}

@@ -1,5 +1,5 @@
 use Rattle.lock_laws.proofs.Steps as law
-use Rattle.lock_laws.proofs.start.moves_keep.Goals as goal
+use Rattle.lock_laws.proofs.kinds.steps_keep.Goals as goal
 
 pub returns : goal.returns
 returns c = law.keeps

@@ -1,5 +1,0 @@
-use Rattle.lock_laws.proofs.Steps as law
-use Rattle.lock_laws.proofs.start.steps_keep.Goals as goal
-
-pub returns : goal.returns
-returns c = law.step_keeps
