@@ -32,7 +32,6 @@ use Rattle.step_world.specs.declared.thread.Wait.TheVariants as wait
 use Rattle.step_world.specs.Represents.{Represents, RepresentsThread, RepresentsHead, RepresentsQueue, RepresentsQueues, loan_of, walk_of}
 use Rattle.step_world.proofs.Kit.{SameAt, thread_changed, word_changed}
 use Rattle.step_world.proofs.KitOfQueues.{SameQueue, queues_placed}
-use Rattle.step_world.proofs.Lists.{insert-same, waits-counted}
 use Rattle.step_world.proofs.Holding.{word_read}
 use Rattle.lock_laws.proofs.WordsAndHeads.{possible_holder, headless_bare}
 
@@ -160,7 +159,7 @@ module _ (m : Machine) (c : Config) (s : State) (t l x : ℕ) (h : Represents c 
   unfolding after_block after_enter after_ready
   head_joined hd old = record {
     head = put_lock_same s.head l (head_with (s.head q) x) ∙ ap (λ y. head_with y x) old.head;
-    lists = put_lock_same s.lists l _ ∙ ap (λ ls. let r : Lists = record { exclusive = insert waiter ls.exclusive; shared = ls.shared } in r) old.lists ∙ ap (λ ws. let r : Lists = record { exclusive = ws; shared = hd.shared } in r) (sym (insert-same waiter hd.exclusive));
+    lists = put_lock_same s.lists l _ ∙ ap (λ ls. let r : Lists = record { exclusive = insert waiter ls.exclusive; shared = ls.shared } in r) old.lists;
     free = put_lock_same s.free_list l (free_with (s.head q) x (s.free_list q)) ∙ ap (λ y. free_with y x (s.free_list q)) old.head ∙ ap (λ ys. x ∷ ys) old.free;
     owner = put_lock_same s.owner l (owner_with (s.head q) (s.owner q) (s.word l).holder) ∙ ap (λ y. owner_with y (s.owner q) (s.word l).holder) old.head ∙ old.owner;
     loan_home = old.loan_home;
@@ -213,7 +212,7 @@ module _ (m : Machine) (c : Config) (s : State) (t l x : ℕ) (h : Represents c 
   pub is_absent : (th : Thread) (u : ℕ) (hd : Turnstile) → slice_get m.threads.items t ≡ Some th → u ≡ th.record.value.thread → Some hd ≡ head_of q m.chain → waits u hd.contents ≡ false
   is_absent th u hd at number some =
       let old = head_seen m c s l h hd some in
-      ap (λ i. waits i hd.contents) (number ∙ (h.threads.thread t th at).number) ∙ waits-counted t hd.contents ∙ ap (ltb 0) (ap (stands t) (sym old.lists) ∙ home_nowhere c s t l x lawful g.own g.turnstile)
+      ap (λ i. waits i hd.contents) (number ∙ (h.threads.thread t th at).number) ∙ ap (ltb 0) (ap (stands t) (sym old.lists) ∙ home_nowhere c s t l x lawful g.own g.turnstile)
 
   -- 5. The machine
 

@@ -34,7 +34,6 @@ use Rattle.step_world.specs.Represents as shows
 use Rattle.step_world.specs.Steps.{KeepsProgress}
 use Rattle.step_world.proofs.Kit.{SameAt, thread_changed, aside_stays}
 use Rattle.step_world.proofs.KitOfQueues.{SameQueue, queues_placed}
-use Rattle.step_world.proofs.Lists.{best-is}
 use Rattle.step_world.proofs.Loans.{least_with-by_lock}
 
 -- 1. What is lent
@@ -151,7 +150,7 @@ module _ {c : Config} {s : State} {l o h : ℕ} {d e : Turnstile} {th : Thread} 
   loan_here : option_map shows.loan_of (loan_for l n.loans) ≡ loan c s l o h
   loan_here =
       ap (option_map shows.loan_of) here ∙ loan_made d.contents.number l (best d.contents)
-      ∙ ap (moves.loan_of d.contents.number) (best-is d.contents ∙ ap (λ (q : Lists). least_of q) (sym head.lists))
+      ∙ ap (moves.loan_of d.contents.number) (ap (λ (q : Lists). least_of q) (sym head.lists))
       ∙ ap (λ i. moves.loan_of i (least_of (s.lists (lock_queue l)))) its_number
 
   loans_shown : (k : ℕ) → option_map shows.loan_of (loan_for k n.loans) ≡ put_at s.loan o l (loan c s l o h) o k

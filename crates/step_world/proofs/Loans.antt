@@ -6,7 +6,7 @@ use Rattle.lock_model.specs.Counts.{least}
 use Rattle.lock_laws.proofs.Best.{least-le, least-above}
 use Rattle.lock_laws.proofs.Lending.{least-le_base}
 use Rattle.turnstile_core.specs.Seen.{Terms}
-use Rattle.turnstile_core.specs.Lists.{least_with}
+use Rattle.lock_model.specs.Counts.{least_with}
 use Rattle.thread_records.specs.Loans.{prios, has_loan, loan_for, without_loan, loans_for}
 use Rattle.thread_records.proofs.ByLock.{has_is_some, loan_dropped, others_dropped}
 

@@ -12,7 +12,7 @@ use Rattle.lock_state.specs.State.{State, Loan, put, put_at}
 use Rattle.lock_model.specs.Holds.{NotHeld}
 use Rattle.lock_model.specs.Queues.{Lists, lock_queue, list_of, dealt, head_after}
 use Rattle.lock_state.specs.Facts.{Lawful, BitsShowWaiters}
-use Rattle.lock_model.specs.Counts.{is_empty}
+use Rattle.lock_model.specs.Counts.{is_empty, least_with}
 use Rattle.lock_state.specs.Steps.LockWords.{prio_of, effective_of}
 use Rattle.lock_state.specs.Steps.Turnstiles.{MayOpen, after_open}
 use Rattle.lock_model.specs.Operations.{hold_in, without_lock}
@@ -24,8 +24,7 @@ use Rattle.lock_laws.proofs.Kit.{put_same, put_other, put_at_same, put_at_other,
 use Rattle.lock_laws.proofs.HeadsAndNodes.{loan_lock}
 use Rattle.lock_laws.proofs.Words.{owner_is}
 use Rattle.turnstile_core.specs.Seen.{Contents, Turnstile, Terms, Place, IsLeft}
-use Rattle.turnstile_core.specs.Lists.{with_last, least_with}
-use Rattle.turnstile_core.specs.Lists as box
+use Rattle.turnstile_core.specs.Lists.{with_last}
 use Rattle.turnstile_core.specs.Changes.{waiters, all_waiters, left_by, taken}
 use Rattle.thread_records.specs.Records.{Record, with_loans}
 use Rattle.thread_records.specs.Loans.{prios, loan_for, loans_for, without_loan}
@@ -40,7 +39,7 @@ use Rattle.step_world.specs.Represents.{Represents, RepresentsThread, Represents
 use Rattle.step_world.proofs.Kit.{SameAt, thread_changed, word_changed}
 use Rattle.step_world.proofs.KitOfQueues.{SameQueue, queues_gone}
 use Rattle.step_world.proofs.Loans.{loan_for-dropped, loan_for-others, least_with-by_lock}
-use Rattle.step_world.proofs.Lists.{marks-dealt_last, turnstiles-dealt_last, head_after-none, taken-whole, left_by-whole}
+use Rattle.step_world.proofs.Lists.{places, marks-dealt_last, turnstiles-dealt_last, head_after-none, taken-whole, left_by-whole}
 use Rattle.step_world.proofs.Holding.{left_with, column_without, once_without}
 use Rattle.step_world.proofs.Blocking.{head_seen, no_head_seen}
 use Rattle.lock_laws.proofs.WordsAndHeads.{IsAwaited, shown_awaited, lent_out, unlent_home, home_elsewhere}
@@ -202,7 +201,7 @@ module _ (m : Machine) (c : Config) (s : State) (t l : ℕ) (h : Represents c m 
 
         -- the woken, each with its turnstile
         pub woken_are : (tk ws : List Place) → tk ≡ taken (length (waiters X sv.contents)) X sv.contents → ws ≡ with_last tv.contents.number tk
-            → ws ≡ with_last hd.contents.number (box.dealt hd.contents.exclusive hd.contents.free)
+            → ws ≡ with_last hd.contents.number (places hd.contents.exclusive hd.contents.free)
         woken_are tk ws took is =
             is ∙ ap (λ (d : Contents). with_last d.number tk) emptied
             ∙ ap (with_last hd.contents.number) (took ∙ ap (λ (v : Turnstile). taken (length (waiters X v.contents)) X v.contents) is_settled ∙ taken-whole X settled)
@@ -216,7 +215,7 @@ module _ (m : Machine) (c : Config) (s : State) (t l : ℕ) (h : Represents c m 
 
       -- the thread has put the lock and its loan down, and has the woken to mark
       pub thread_opens : (p : Thread) (v : Record) (ws : List Place) → p ≡ left_with p.held th → p.held.items ≡ without_lock l th.held.items → vec_capacity p.held ≡ vec_capacity th.held
-          → v ≡ with_loans (without_loan l loans) th.record.value → ws ≡ with_last hd.contents.number (box.dealt hd.contents.exclusive hd.contents.free)
+          → v ≡ with_loans (without_loan l loans) th.record.value → ws ≡ with_last hd.contents.number (places hd.contents.exclusive hd.contents.free)
           → RepresentsThread (record p { «record» = with_value p.record v; marked = ws; marked_from = record { 0 = l } }) n t
       unfolding after_open
       thread_opens p v ws same items room rec woken =

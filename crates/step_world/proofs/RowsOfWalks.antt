@@ -28,7 +28,6 @@ use Rattle.step_world.specs.declared.thread.Thread.{Thread}
 use Rattle.step_world.specs.Represents.{Represents, RepresentsQueue, RepresentsHead}
 use Rattle.step_world.specs.Steps.{May, Makes, KeepsProgress, KeepsBooks}
 use Rattle.step_world.specs.Runs.{IsRunOf, IsNowhere}
-use Rattle.step_world.proofs.Lists.{waits-counted}
 use Rattle.step_world.proofs.Turning.{IsRow, of_books, stepped}
 
 -- 1. What is read at a lock and at a thread
@@ -49,7 +48,7 @@ module _ (m : Machine) (c : Config) (s : State) (shown : Represents c m s) (h : 
   pub waits_at : (l t : ℕ) (x : Turnstile) → Some x ≡ head_of (lock_queue l) m.chain → waits t x.contents ≡ ltb 0 (stands t (s.lists (lock_queue l)))
   waits_at l t x e =
       let head : RepresentsHead x.contents s.lists s.free_list s.head s.owner s.loan_home (lock_queue l) = at (Some x) l e in
-      waits-counted t x.contents ∙ ap (λ q. ltb 0 (stands t q)) (sym head.lists)
+      ap (λ q. ltb 0 (stands t q)) (sym head.lists)
 
   pub none_waits_at : (l t : ℕ) → None ≡ head_of (lock_queue l) m.chain → false ≡ ltb 0 (stands t (s.lists (lock_queue l)))
   none_waits_at l t e = sym (ap (ltb 0) (at_turn.none_stands c s (lock_queue l) t h (at None l e)))

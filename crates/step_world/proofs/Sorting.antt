@@ -14,7 +14,7 @@ use Rattle.lock_laws.proofs.Standing.{standing_thread}
 use Rattle.lock_laws.proofs.HeadsOfWaiters.{standing_head}
 use Rattle.lock_laws.proofs.Derived as laws
 use Rattle.turnstile_core.specs.Seen.{Contents, Turnstile}
-use Rattle.turnstile_core.specs.Changes.{waits, moved, times_in}
+use Rattle.turnstile_core.specs.Changes.{waits, moved}
 use Rattle.thread_records.specs.Records.{Record}
 use Rattle.chain_table.specs.Chains.{head_of, without}
 use Rattle.prio_lending.specs.Hops.{with_contents}
@@ -25,7 +25,6 @@ use Rattle.step_world.specs.Represents.{Represents, RepresentsHead, RepresentsQu
 use Rattle.step_world.proofs.Kit.{SameAt, thread_changed}
 use Rattle.step_world.proofs.HeadsInChains.{IsHead, found}
 use Rattle.step_world.proofs.KitOfQueues.{SameQueue, queues_placed}
-use Rattle.step_world.proofs.Lists.{times_in-same, waits-counted, moved-lists, moved-number, moved-free, moved-owner, moved-loan_home}
 
 -- 1. The state
 
@@ -94,21 +93,18 @@ module _ {m : Machine} {c : Config} {s : State} {t o l : ℕ} (h : Represents c 
   box = head_there.0.contents
 
   it_waits : waits o box ≡ true
-  it_waits = waits-counted o box ∙ ap (λ (q : Lists). ltb 0 (stands o q)) (sym head_there.2.lists) ∙ lt-ltb 0 (stands o (s.lists queue)) g.stands
-
-  waits_once : (u : ℕ) → times_in u box.exclusive + times_in u box.shared ≤ 1
-  waits_once u = omega (arith, times_in-same u box.exclusive, times_in-same u box.shared, subst (λ (q : Lists). stands u q ≤ 1) head_there.2.lists (laws.once c s u queue lawful))
+  it_waits = ap (λ (q : Lists). ltb 0 (stands o q)) (sym head_there.2.lists) ∙ lt-ltb 0 (stands o (s.lists queue)) g.stands
 
   sorted_box : RepresentsHead (moved o (s.effective o) box) (after_shift s t o l).lists s.free_list s.head s.owner s.loan_home queue
   unfolding after_shift
   sorted_box =
       let old = head_there.2 in
       record {
-        head = old.head ∙ ap Some (sym (moved-number o (s.effective o) box));
-        lists = put_lock_same s.lists l _ ∙ ap (with_kept o (s.effective o)) old.lists ∙ sym (moved-lists o (s.effective o) box waits_once it_waits);
-        free = old.free ∙ sym (moved-free o (s.effective o) box);
-        owner = old.owner ∙ sym (moved-owner o (s.effective o) box);
-        loan_home = ap s.loan_home (moved-number o (s.effective o) box) ∙ old.loan_home ∙ sym (moved-loan_home o (s.effective o) box);
+        head = old.head;
+        lists = put_lock_same s.lists l _ ∙ ap (with_kept o (s.effective o)) old.lists;
+        free = old.free;
+        owner = old.owner;
+        loan_home = old.loan_home;
       }
 
   -- by the record of the thread that is sorted

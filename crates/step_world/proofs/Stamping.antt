@@ -14,7 +14,7 @@ use Rattle.lock_model.specs.declared.event.Event.{Event}
 use Rattle.lock_model.specs.declared.event.Event.TheVariants.{Base}
 use Rattle.lock_laws.proofs.HeadsAndNodes.{loan_lock}
 use Rattle.lock_laws.proofs.Kit.{put_same, put_other}
-use Rattle.turnstile_core.specs.Lists.{least_with}
+use Rattle.lock_model.specs.Counts.{least_with}
 use Rattle.turnstile_core.specs.Seen.{Terms}
 use Rattle.thread_records.specs.Loans.{prios, loan_for, loans_for}
 use Rattle.thread_records.specs.Records.{Record, with_base}

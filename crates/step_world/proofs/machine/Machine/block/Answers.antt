@@ -71,7 +71,7 @@ returns-clause-step c x k s h lawful g =
           let is =
           ap (λ b. b.value.contents) w.head-is ∙ w.wait.ensures.contents
           ∙ ap (λ (h' : Turnstile). joined c.lend_turnstile-own.result.0.value.contents.number (record { thread = c.lend_turnstile-own.result.1.value.place.thread; kept = c.eff-prio.result.0 }) X h'.contents) w.deref_mut-in-Some.ensures.value in (
-            ap name_of is ∙ w.in-Some.ensures.blocked_on,
+            ap name_of is ∙ w.in-Some.ensures.named,
             behind_shown m k s t l x h lawful g th c.lend_turnstile-own.result.0.value c.lend_turnstile-own.result.1.value.place.thread c.eff-prio.result.0 old c.match-unplace.head.value.contents at own number prio w.in-Some.ensures.taken is,
           )
     ] in

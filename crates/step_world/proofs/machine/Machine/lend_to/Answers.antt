@@ -28,7 +28,7 @@ pub lend-walk-requires-clause-node : goal.lend-walk-requires-clause-node
 lend-walk-requires-clause-node c =
     let x = c.requires.may in
     let at = read c.args.self.now x.0 x.1 c.args.owner.0 c.from.result c.index_mut-lent.result.now c.from.ensures x.2 (is_thread x.2 x.3 x.4.1) c.index_mut-lent.ensures.value in
-    rw (c.deref_mut.ensures.value, c.deref_mut-2.ensures.value) (has_node x.2 x.3 x.4.1 (sym c.in-Some.ensures.taken) at c.in-Some.ensures.blocked_on)
+    rw (c.deref_mut.ensures.value, c.deref_mut-2.ensures.value) (has_node x.2 x.3 x.4.1 (sym c.in-Some.ensures.taken) at c.in-Some.ensures.named)
 
 pub returns-clause-step : goal.returns-clause-step
 returns-clause-step c k d s h lawful g =
@@ -43,9 +43,9 @@ returns-clause-step c k d s h lawful g =
       well_formed = c.lend-walk.ensures.well_formed;
       answer = c.lend-walk.ensures.answer;
     }) in
-    let behind = read_behind h lawful g there c.in-Some.ensures.blocked_on at lends c.from-2.result c.from.result c.index_mut.result.now c.from.ensures c.from-2.ensures c.index_mut.ensures.value in
+    let behind = read_behind h lawful g there c.in-Some.ensures.named at lends c.from-2.result c.from.result c.index_mut.result.now c.from.ensures c.from-2.ensures c.index_mut.ensures.value in
     let stands = c.stands_on_turnstile-on_turnstile.ensures d h.within.mutexes ∙ ap (λ (r : Record). names_turnstile d r.on) c.deref.ensures in
-    rw (c.from.ensures, c.from-2.ensures) (lend_shown h lawful g there c.in-Some.ensures.blocked_on at lends c.unplace.new.self c.place.new.self behind stands c.unplace.ensures.others c.place.ensures.placed)
+    rw (c.from.ensures, c.from-2.ensures) (lend_shown h lawful g there c.in-Some.ensures.named at lends c.unplace.new.self c.place.new.self behind stands c.unplace.ensures.others c.place.ensures.placed)
 
 pub returns-clause-progress : goal.returns-clause-progress
 returns-clause-progress c =
@@ -61,5 +61,5 @@ returns-clause-progress c =
       well_formed = c.lend-walk.ensures.well_formed;
       answer = c.lend-walk.ensures.answer;
     }) in
-    let behind = read_behind x.2 x.3 x.4.1 there c.in-Some.ensures.blocked_on at lends c.from-2.result c.from.result c.index_mut.result.now c.from.ensures c.from-2.ensures c.index_mut.ensures.value in
+    let behind = read_behind x.2 x.3 x.4.1 there c.in-Some.ensures.named at lends c.from-2.result c.from.result c.index_mut.result.now c.from.ensures c.from-2.ensures c.index_mut.ensures.value in
     rw (c.from.ensures, c.from-2.ensures) (asides_stay c.args.self.now c.args.t.0 c.args.owner.0 c.index_mut-lent.result.now c.index_mut.result.now c.lend-walk.new.owner c.lend-walk.result c.place.new.self at behind)
