@@ -26,6 +26,7 @@ pub mod Derived
 pub mod Block
 pub mod Rows
 pub mod HeldLists
+pub mod Follows
 pub mod OnTrack
 pub mod TurnsOfWalks
 pub mod TurnsOfWaits
