@@ -25,6 +25,7 @@ pub mod Best
 pub mod Derived
 pub mod Rows
 pub mod HeldLists
+pub mod Follows
 pub mod OnTrack
 pub mod TurnsOfWalks
 pub mod TurnsOfWaits
