@@ -52,3 +52,4 @@ pub mod FloorSteps
 pub mod Looks
 pub mod OwnEntries
 pub mod Rounds
+pub mod OneQueue
