@@ -49,3 +49,8 @@ pub mod Beyond
 pub mod AcceptedLists
 pub mod Accepted
 pub mod WordsAndHeads
+pub mod FloorSteps
+pub mod Looks
+pub mod OwnEntries
+pub mod Rounds
+pub mod OneQueue
