@@ -12,7 +12,7 @@ use Rattle.lock_state.specs.State.{State, Wait, Running, Queued, Woken, Walk, No
 use Rattle.lock_model.specs.Holds.{Hold, NotHeld, Holds, is_unheld}
 use Rattle.lock_model.specs.Queues.{Mark, lock_queue, chan_queue, stands}
 use Rattle.lock_model.specs.History.{tables_of}
-use Rattle.lock_model.specs.Text.{Outcome, QueueLine, Ending, IsDone, IsStuck, IsTooLong}
+use Rattle.lock_model.specs.Text.{Outcome, QueueLine, Ending, IsDone, IsStuck, IsReversed, IsTooLong}
 use Rattle.lock_model.specs.declared.numbers.LockNo.{LockNo}
 use Rattle.lock_model.specs.declared.plan.Mode.{Mode}
 use Rattle.lock_model.specs.declared.plan.Mode.TheVariants.{Excl}
@@ -233,6 +233,13 @@ course_after plan (suc n) = go_on plan (course_after plan n)
 -- Done where all threads have ended, Stuck where a whole round was idle, and else the turns were used up
 abbrev pub ending_of : Plan → Course → Ending
 ending_of plan k = if all_ended plan k.run then IsDone else (if is_stuck k then IsStuck else IsTooLong)
+
+-- whether a run ended stuck or too long
+abbrev pub is_cut_short : Ending → Bool
+is_cut_short IsDone = false
+is_cut_short IsStuck = true
+is_cut_short IsReversed = false
+is_cut_short IsTooLong = true
 
 -- the line of a queue that has a head, with its slot: the number of its lock or channel modulo the number of chains
 abbrev pub line_of_queue : ℕ → State → QueueName → ℕ → Option ℕ → List QueueLine
