@@ -1,5 +1,5 @@
 -- Each run of a proper plan has a legal history, and a whole one where all threads have ended.
-use Rattle.std.proofs.Common.{◌≡◌, ℕ, zero, suc, ◌+◌, ◌<◌, ◌≤◌, Bool, true, false, cond, ◌||◌, List, [], ◌∷◌, length, reverse, map, All, refl, sym, ap, inl, inr, arith, eqb, ◌∙◌, subst}
+use Rattle.std.proofs.Common.{◌≡◌, ℕ, zero, suc, ◌+◌, ◌<◌, ◌≤◌, Bool, true, false, cond, ◌||◌, List, [], ◌∷◌, length, map, All, refl, sym, ap, inl, inr, arith, eqb, ◌∙◌, subst}
 use Rattle.std.specs.Prelude.{not, ◌&&◌, nat_le, unwrap_or}
 use Rattle.std.specs.List.{list_all, range_with_len}
 use Rattle.std.proofs.lemmas.Bool.{cases_eq, cases_lt, and_parts, leb-true}
@@ -9,14 +9,14 @@ use Rattle.std.proofs.lemmas.Option.{slice_get_past}
 use Rattle.lock_model.specs.Config.{Config}
 use Rattle.lock_model.specs.Operations.{IsProper}
 use Rattle.lock_model.specs.Plans.{config_of, operations_of}
-use Rattle.lock_model.specs.Text.{Outcome, Ending, IsDone, IsStuck, IsTooLong}
+use Rattle.lock_model.specs.Text.{IsDone, IsStuck, IsTooLong}
 use Rattle.lock_model.specs.Law.{IsLegal, Before, EntriesFollowOperations, FitsSleepers, passes_over, is_passed_over, WakingsNameSleepers, is_halt, HaltsOnlyWhenRunning}
 use Rattle.lock_model.specs.declared.plan.Plan.{Plan}
 use Rattle.lock_model.specs.declared.plan.ThreadDecl.{ThreadDecl}
 use Rattle.lock_model.specs.declared.event.Entry.{Entry}
 use Rattle.lock_model.specs.declared.event.Event.{Event}
 use Rattle.lock_model.specs.declared.event.Event.TheVariants.{Locked, Tried, Busy, Unlocked, Set, Added, Got, Base, Shown, Sleeps, Woke, HaltedChan, HaltedLock, WokeOne, WokeAll, Reversed}
-use Rattle.lock_state.specs.Run.{Run, Course, has_ended, owes, holds_none, all_ended, after_turns, course_after, is_stuck, ending_of, is_cut_short, scheduled_run}
+use Rattle.lock_state.specs.Run.{Run, Course, has_ended, owes, holds_none, all_ended, after_turns, course_after, is_stuck, ending_of, is_cut_short, HasLegalHistory, scheduled_run}
 use Rattle.lock_laws.specs.OnTrack.{IsOnTrack, SleepsNobody, is_of_sleep}
 use Rattle.lock_laws.proofs.Turning.{behind_turns, behind_course}
 
@@ -135,6 +135,6 @@ pub courses_are_legal : (plan : Plan) (n : ℕ) → IsProper plan → IsLegal pl
 courses_are_legal plan n p =
     legal_on_track plan (course_after plan n).run (is_cut_short (ending_of plan (course_after plan n))) (behind_course plan n p) (not_cut plan (course_after plan n))
 
-pub outcomes_are_legal : (plan : Plan) (chains turns : ℕ) → IsProper plan → IsLegal plan false (is_cut_short (scheduled_run plan chains turns).ending) (reverse (scheduled_run plan chains turns).history)
+pub outcomes_are_legal : (plan : Plan) (chains turns : ℕ) → IsProper plan → HasLegalHistory plan (scheduled_run plan chains turns)
 unfolding scheduled_run
 outcomes_are_legal plan chains turns p = rw (reverse-reverse (course_after plan turns).run.state.history) (courses_are_legal plan turns p)

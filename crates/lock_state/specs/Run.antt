@@ -12,6 +12,7 @@ use Rattle.lock_state.specs.State.{State, Wait, Running, Queued, Woken, Walk, No
 use Rattle.lock_model.specs.Holds.{Hold, NotHeld, Holds, is_unheld}
 use Rattle.lock_model.specs.Queues.{Mark, lock_queue, chan_queue, stands}
 use Rattle.lock_model.specs.History.{tables_of}
+use Rattle.lock_model.specs.Law.{IsLegal}
 use Rattle.lock_model.specs.Text.{Outcome, QueueLine, Ending, IsDone, IsStuck, IsReversed, IsTooLong}
 use Rattle.lock_model.specs.declared.numbers.LockNo.{LockNo}
 use Rattle.lock_model.specs.declared.plan.Mode.{Mode}
@@ -268,6 +269,10 @@ outcome_of plan chains k = record {
   tables = entries (tables_of k.run.state.history);
   ending = ending_of plan k;
 }
+
+-- what is printed has a legal history, and a whole one unless the run ended stuck or too long
+abbrev pub HasLegalHistory : Plan → Outcome → Type 0
+HasLegalHistory plan o = IsLegal plan false (is_cut_short o.ending) (reverse o.history)
 
 -- the scheduled run of a plan with so many chains, and at most so many turns
 unfoldable pub scheduled_run : Plan → ℕ → ℕ → Outcome
