@@ -32,6 +32,7 @@ pub mod TurnsOfWaits
 pub mod TurnsOfLocks
 pub mod TurnsOfNotes
 pub mod Turning
+pub mod LegalRuns
 pub mod AtTurn
 pub mod OtherThreads
 mod Guards

@@ -29,7 +29,6 @@ plan kind locks bases = record {
   threads = length bases;
   locks = locks;
   chans = 0;
-  chains = 16;
   kind = λ l. kind;
   class = λ l. l;
   chan_lock = λ d. 0;
@@ -38,11 +37,11 @@ plan kind locks bases = record {
 
 -- a thread takes a lock
 unfoldable pub takes : ℕ → ℕ → Mode → List Step
-takes t l mode = Gains t l mode ∷ Stamps t (Locked (record { 0 = l }) mode) ∷ []
+takes t l mode = Gains t l mode false ∷ Stamps t (Locked (record { 0 = l }) mode) ∷ []
 
 -- a thread stands on a lock's turnstile with its own turnstile x
 unfoldable pub blocks : ℕ → ℕ → Mode → ℕ → List Step
-blocks t l mode x = TakesItem t (RecordOf t) ∷ Readies t ∷ Enters t l mode x ∷ GivesItem t (RecordOf t) ∷ []
+blocks t l mode x = TakesItem t (RecordOf t) ∷ Readies t (lock_queue l) ∷ Enters t l mode x ∷ GivesItem t (RecordOf t) ∷ []
 
 -- a thread releases a lock, and a side is woken
 unfoldable pub opens : ℕ → ℕ → Mode → List Step
@@ -151,7 +150,7 @@ unfolding readers woken_writer start_state after_look after_gain after_stamp aft
 gained_is s e = rw e (refl, refl, refl, refl, refl)
 
 -- a writer claims before it: the owner, the loan and the word
-claimed_is : (s : State) → s ≡ after_all (readers 95) (start_state (readers 95)) (woken_writer ++ Claims 4 0 1 ∷ []) → (s.owner (lock_queue 0) ≡ Some 4) × (s.effective 4 ≡ 80) × (s.base 4 ≡ 95) × (bits_of (s.word 0) ≡ 38)
+claimed_is : (s : State) → s ≡ after_all (readers 95) (start_state (readers 95)) (woken_writer ++ Claims 4 0 1 false ∷ []) → (s.owner (lock_queue 0) ≡ Some 4) × (s.effective 4 ≡ 80) × (s.base 4 ≡ 95) × (bits_of (s.word 0) ≡ 38)
 unfolding readers woken_writer start_state after_look after_gain after_stamp after_drop after_take after_give after_ready after_enter after_open after_mark after_resume after_claim after_lend after_shift after_end_walk put put_at put_queue least sum_below at plan takes blocks opens mark
 claimed_is s e = rw e (refl, refl, refl, refl)
 
@@ -169,7 +168,7 @@ unfolding behind start_state after_look after_gain after_stamp after_drop after_
 tried_is s e = rw e (refl, refl)
 
 -- at the end w has turnstile n, and n has turnstile w
-exchanged_is : (s : State) → s ≡ after_all behind (start_state behind) (tried ++ opens 0 0 Shared ++ Marks 0 (mark 1 2 0) [] ∷ Resumes 1 (lock_queue 0) BySignal ∷ Claims 1 0 1 ∷ Stamps 1 (Locked (record { 0 = 0 }) Excl) ∷ opens 1 0 Excl ++ Marks 1 (mark 2 1 0) [] ∷ []) → (s.turnstile 1 ≡ Some 2) × (s.turnstile 2 ≡ Some 1) × (s.head (lock_queue 0) ≡ None) × (s.effective 1 ≡ 90)
+exchanged_is : (s : State) → s ≡ after_all behind (start_state behind) (tried ++ opens 0 0 Shared ++ Marks 0 (mark 1 2 0) [] ∷ Resumes 1 (lock_queue 0) BySignal ∷ Claims 1 0 1 false ∷ Stamps 1 (Locked (record { 0 = 0 }) Excl) ∷ opens 1 0 Excl ++ Marks 1 (mark 2 1 0) [] ∷ []) → (s.turnstile 1 ≡ Some 2) × (s.turnstile 2 ≡ Some 1) × (s.head (lock_queue 0) ≡ None) × (s.effective 1 ≡ 90)
 unfolding behind tried start_state after_look after_gain after_stamp after_drop after_take after_give after_ready after_enter after_open after_mark after_resume after_claim after_lend after_shift after_end_walk put put_at put_queue least sum_below at plan takes blocks opens mark
 exchanged_is s e = rw e (refl, refl, refl, refl)
 
@@ -179,7 +178,7 @@ exclusive : Config
 exclusive = plan Sx 1 (100 ∷ 50 ∷ 60 ∷ [])
 
 sleeps : ℕ → ℕ → Mode → ℕ → List Step
-sleeps t l mode x = TakesItem t (RecordOf t) ∷ Readies t ∷ EntersSleepQueue t l mode x ∷ GivesItem t (RecordOf t) ∷ []
+sleeps t l mode x = TakesItem t (RecordOf t) ∷ Readies t (lock_queue l) ∷ EntersSleepQueue t l mode x ∷ GivesItem t (RecordOf t) ∷ []
 
 -- the shared waiter is woken first, and the head stays with x
 shared_first_is : (s : State) → s ≡ after_all exclusive (start_state exclusive) (takes 0 0 Excl ++ sleeps 1 0 Excl 1 ++ sleeps 2 0 Shared 2 ++ Stamps 0 (Unlocked (record { 0 = 0 }) Excl) ∷ OpensSleepQueue 0 0 Excl ∷ []) → (s.head (lock_queue 0) ≡ Some 1) × (s.free_list (lock_queue 0) ≡ []) × (s.lists (lock_queue 0) ≡ record { exclusive = waits 1 50 ∷ []; shared = [] }) × (s.marked 0 ≡ mark 2 2 0 ∷ []) × (s.effective 0 ≡ 100)
@@ -192,7 +191,7 @@ signals : Config
 signals = record (plan Mtx 1 (100 ∷ 100 ∷ 50 ∷ [])) { chans = 1 }
 
 goes_to_sleep : ℕ → List Step
-goes_to_sleep t = takes t 0 Excl ++ TakesItem t (RecordOf t) ∷ Readies t ∷ Stamps t (Sleeps (record { 0 = 0 })) ∷ Adds t 0 t ∷ GivesItem t (RecordOf t) ∷ Drops t 0 Excl ∷ []
+goes_to_sleep t = takes t 0 Excl ++ TakesItem t (RecordOf t) ∷ Readies t (chan_queue 0) ∷ Stamps t (Sleeps (record { 0 = 0 })) ∷ Adds t 0 t ∷ GivesItem t (RecordOf t) ∷ Drops t 0 Excl ∷ []
 
 -- of equals the one that has slept longest is signalled; it takes the free object, and the head stays with b
 signalled_is : (s : State) → s ≡ after_all signals (start_state signals) (goes_to_sleep 0 ++ goes_to_sleep 1 ++ Wakes 2 0 false ∷ Stamps 2 (WokeOne (record { 0 = 0 }) 1) ∷ []) → (s.marked 2 ≡ record { thread = 0; object = 1; queue = chan_queue 0; cause = BySignal } ∷ []) × (s.head (chan_queue 0) ≡ Some 0) × (s.lists (chan_queue 0) ≡ record { exclusive = waits 1 100 ∷ []; shared = [] }) × (s.unstamped 2 ≡ None)

@@ -12,11 +12,13 @@
 //! - `objects`: where turnstiles, loan nodes and waiters are.
 //! - `scripts`: each script's plan is proper: its operations fit what their threads hold.
 //! - `runs`: each state of a scheduled run of a proper plan is lawful.
+//! - `legal`: each history of such a run is legal.
 #![tactic(auto)]
 
 pub mod books;
 pub mod floor;
 pub mod kinds;
+pub mod legal;
 pub mod objects;
 pub mod priorities;
 pub mod runs;

@@ -1,10 +1,10 @@
 -- The law of a history: what is true of the entries of every run of a plan, however its threads' steps came. A history is a list of
 -- entries, the newest first. The parts that speak of tables, sections and priorities stand in `History`.
-use Rattle.std.specs.Prelude.{◌≡◌, ◌≢◌, ℕ, suc, ◌/◌, ◌%◌, ◌^◌, Bool, true, false, not, ◌&&◌, ◌||◌, ◌==◌, nat_lt, if◌then◌else◌, List, [], ◌∷◌, length, reverse, slice_get, Option, Some, None, ⊤}
+use Rattle.std.specs.Prelude.{◌≡◌, ℕ, suc, ◌/◌, ◌%◌, ◌^◌, Bool, true, false, not, ◌&&◌, ◌||◌, ◌==◌, nat_lt, if◌then◌else◌, List, [], ◌∷◌, length, reverse, slice_get, Option, Some, ⊤}
 use Rattle.lock_model.specs.Counts.{any_below}
 use Rattle.lock_model.specs.Config.{Config}
-use Rattle.lock_model.specs.Holds.{Hold, Holds}
-use Rattle.lock_model.specs.Words.{word_of, IsWellFormed, admits}
+use Rattle.lock_model.specs.Holds.{Holds}
+use Rattle.lock_model.specs.Words.{word_of, IsWellFormed, is_free, admits}
 use Rattle.lock_model.specs.Plans.{config_of, operations_of}
 use Rattle.lock_model.specs.Operations.{held_of, hold_in}
 unfoldable pub use Rattle.lock_model.specs.History.{TicketsRun, SectionsExclude, EditsInSections, ReadsReplay, ShownIsExplained}
@@ -43,7 +43,7 @@ pub data Gives (kind : ℕ → Kind) (held : List Held) (n : ℕ) : Op → Event
   is_reversed : (l : LockNo) (mode : Mode) (class : ClassNo) → Gives kind held n (op.Take l mode) (Reversed l class) (Cut (reverse held))
   is_halted : (l : LockNo) (mode : Mode) → kind l.0 ≡ Sx → Gives kind held n (op.Take l mode) (HaltedLock l) (Cut (reverse held))
   tries : (l : LockNo) (mode : Mode) (past : ℕ) → Gives kind held n (op.Try l mode past) (Tried l mode) (Before (suc n))
-  finds_busy : (l : LockNo) (mode : Mode) (past seen : ℕ) → IsWellFormed (word_of seen) → admits (kind l.0) (word_of seen) mode ≡ false → Gives kind held n (op.Try l mode past) (Busy l seen) (Before past)
+  finds_busy : (l : LockNo) (mode : Mode) (past seen : ℕ) → IsWellFormed (word_of seen) → is_free (word_of seen).holder ≡ false → admits (kind l.0) (word_of seen) mode ≡ false → Gives kind held n (op.Try l mode past) (Busy l seen) (Before past)
   unlocks : (l : LockNo) (mode : Mode) → hold_in held l.0 ≡ Holds mode → Gives kind held n (op.Release l) (Unlocked l mode) (Before (suc n))
   sets : (l : LockNo) (key value : ℕ) → Gives kind held n (op.Set l key value) (Set l key value) (Before (suc n))
   adds : (l : LockNo) (key amount : ℕ) → Gives kind held n (op.Add l key amount) (Added l key amount) (Before (suc n))
@@ -160,11 +160,12 @@ unfoldable pub HaltsOnlyWhenRunning : Bool → List Entry → Type 0
 HaltsOnlyWhenRunning is_run [] = ⊤
 HaltsOnlyWhenRunning is_run (e ∷ es) = (is_run ≡ false → is_halt e.event ≡ false) × HaltsOnlyWhenRunning is_run es
 
--- 4. The law. Is_run says whether threads ran, or the run was a scheduled one; cut_short whether a scheduled run ended stuck or too long
+-- 4. The law. Is_run says whether threads ran, or the run was a scheduled one; cut_short whether a scheduled run ended stuck or too long.
+-- Threads that ran come to their end
 
 pub record IsLegal (plan : Plan) (is_run cut_short : Bool) (history : List Entry) : Type 0 where
   pub tickets_run : TicketsRun history
-  pub entries_follow_operations : EntriesFollowOperations plan cut_short history
+  pub entries_follow_operations : EntriesFollowOperations plan (not is_run && cut_short) history
   pub sections_exclude : SectionsExclude (config_of plan) history
   pub edits_in_sections : EditsInSections (config_of plan) history
   pub reads_replay : ReadsReplay history

@@ -12,7 +12,8 @@ use Rattle.lock_state.specs.State.{State, Wait, Running, Queued, Woken, Walk, No
 use Rattle.lock_model.specs.Holds.{Hold, NotHeld, Holds, is_unheld}
 use Rattle.lock_model.specs.Queues.{Mark, lock_queue, chan_queue, stands}
 use Rattle.lock_model.specs.History.{tables_of}
-use Rattle.lock_model.specs.Text.{Outcome, QueueLine, Ending, IsDone, IsStuck, IsTooLong}
+use Rattle.lock_model.specs.Law.{IsLegal}
+use Rattle.lock_model.specs.Text.{Outcome, QueueLine, Ending, IsDone, IsStuck, IsReversed, IsTooLong}
 use Rattle.lock_model.specs.declared.numbers.LockNo.{LockNo}
 use Rattle.lock_model.specs.declared.plan.Mode.{Mode}
 use Rattle.lock_model.specs.declared.plan.Mode.TheVariants.{Excl}
@@ -234,6 +235,13 @@ course_after plan (suc n) = go_on plan (course_after plan n)
 abbrev pub ending_of : Plan → Course → Ending
 ending_of plan k = if all_ended plan k.run then IsDone else (if is_stuck k then IsStuck else IsTooLong)
 
+-- whether a run ended stuck or too long
+abbrev pub is_cut_short : Ending → Bool
+is_cut_short IsDone = false
+is_cut_short IsStuck = true
+is_cut_short IsReversed = false
+is_cut_short IsTooLong = true
+
 -- the line of a queue that has a head, with its slot: the number of its lock or channel modulo the number of chains
 abbrev pub line_of_queue : ℕ → State → QueueName → ℕ → Option ℕ → List QueueLine
 line_of_queue chains s q n None = []
@@ -261,6 +269,10 @@ outcome_of plan chains k = record {
   tables = entries (tables_of k.run.state.history);
   ending = ending_of plan k;
 }
+
+-- what is printed has a legal history, and a whole one unless the run ended stuck or too long
+abbrev pub HasLegalHistory : Plan → Outcome → Type 0
+HasLegalHistory plan o = IsLegal plan false (is_cut_short o.ending) (reverse o.history)
 
 -- the scheduled run of a plan with so many chains, and at most so many turns
 unfoldable pub scheduled_run : Plan → ℕ → ℕ → Outcome

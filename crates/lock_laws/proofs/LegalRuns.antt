@@ -1,0 +1,140 @@
+-- Each run of a proper plan has a legal history, and a whole one where all threads have ended.
+use Rattle.std.proofs.Common.{◌≡◌, ℕ, zero, suc, ◌+◌, ◌<◌, ◌≤◌, Bool, true, false, cond, ◌||◌, List, [], ◌∷◌, length, map, All, refl, sym, ap, inl, inr, arith, eqb, ◌∙◌, subst}
+use Rattle.std.specs.Prelude.{not, ◌&&◌, nat_le, unwrap_or}
+use Rattle.std.specs.List.{list_all, range_with_len}
+use Rattle.std.proofs.lemmas.Bool.{cases_eq, cases_lt, and_parts, leb-true}
+use Rattle.std.proofs.lemmas.List.{reverse-reverse, length-map}
+use Rattle.std.proofs.lemmas.List.Elements.{All-head, All-tail}
+use Rattle.std.proofs.lemmas.Option.{slice_get_past}
+use Rattle.lock_model.specs.Config.{Config}
+use Rattle.lock_model.specs.Operations.{IsProper}
+use Rattle.lock_model.specs.Plans.{config_of, operations_of}
+use Rattle.lock_model.specs.Text.{IsDone, IsStuck, IsTooLong}
+use Rattle.lock_model.specs.Law.{IsLegal, Before, EntriesFollowOperations, FitsSleepers, passes_over, is_passed_over, WakingsNameSleepers, is_halt, HaltsOnlyWhenRunning}
+use Rattle.lock_model.specs.declared.plan.Plan.{Plan}
+use Rattle.lock_model.specs.declared.plan.ThreadDecl.{ThreadDecl}
+use Rattle.lock_model.specs.declared.event.Entry.{Entry}
+use Rattle.lock_model.specs.declared.event.Event.{Event}
+use Rattle.lock_model.specs.declared.event.Event.TheVariants.{Locked, Tried, Busy, Unlocked, Set, Added, Got, Base, Shown, Sleeps, Woke, HaltedChan, HaltedLock, WokeOne, WokeAll, Reversed}
+use Rattle.lock_state.specs.Run.{Run, Course, has_ended, owes, holds_none, all_ended, after_turns, course_after, is_stuck, ending_of, is_cut_short, HasLegalHistory, scheduled_run}
+use Rattle.lock_laws.specs.OnTrack.{IsOnTrack, SleepsNobody, is_of_sleep}
+use Rattle.lock_laws.proofs.Turning.{behind_turns, behind_course}
+
+-- 1. Histories without a sleep: no waking names a thread or passes over one, and nobody was halted
+
+record IsQuiet (e : Event) : Type 0 where
+  fits : (es : List Entry) (t : ℕ) → FitsSleepers e es t
+  passes_nobody : (c : Config) (es : List Entry) (t : ℕ) → passes_over c es e t ≡ false
+  no_halt : is_halt e ≡ false
+
+quiet : (e : Event) → is_of_sleep e ≡ false → IsQuiet e
+quiet (Locked l mode) f = record { fits = λ es t. tt; passes_nobody = λ c es t. refl; no_halt = refl }
+quiet (Tried l mode) f = record { fits = λ es t. tt; passes_nobody = λ c es t. refl; no_halt = refl }
+quiet (Busy l seen) f = record { fits = λ es t. tt; passes_nobody = λ c es t. refl; no_halt = refl }
+quiet (Unlocked l mode) f = record { fits = λ es t. tt; passes_nobody = λ c es t. refl; no_halt = refl }
+quiet (Set l key value) f = record { fits = λ es t. tt; passes_nobody = λ c es t. refl; no_halt = refl }
+quiet (Added l key amount) f = record { fits = λ es t. tt; passes_nobody = λ c es t. refl; no_halt = refl }
+quiet (Got l key found) f = record { fits = λ es t. tt; passes_nobody = λ c es t. refl; no_halt = refl }
+quiet (Base prio) f = record { fits = λ es t. tt; passes_nobody = λ c es t. refl; no_halt = refl }
+quiet (Shown base effective) f = record { fits = λ es t. tt; passes_nobody = λ c es t. refl; no_halt = refl }
+quiet (Reversed l held) f = record { fits = λ es t. tt; passes_nobody = λ c es t. refl; no_halt = refl }
+quiet (Sleeps d) f = absurd cc
+quiet (Woke d) f = absurd cc
+quiet (HaltedChan d) f = absurd cc
+quiet (HaltedLock l) f = absurd cc
+quiet (WokeOne d woken) f = absurd cc
+quiet (WokeAll d woken) f = absurd cc
+
+-- the newest entry is of no sleep, and so are the others
+first_quiet : (e : Entry) (es : List Entry) → SleepsNobody (e ∷ es) → IsQuiet e.event
+first_quiet e es a = quiet e.event (All-head (λ (x : Entry). is_of_sleep x.event ≡ false) e es a)
+
+others_quiet : (e : Entry) (es : List Entry) → SleepsNobody (e ∷ es) → SleepsNobody es
+others_quiet e es a = All-tail (λ (x : Entry). is_of_sleep x.event ≡ false) e es a
+
+nobody_passed : (c : Config) (es : List Entry) (t : ℕ) → SleepsNobody es → is_passed_over c es t ≡ false
+unfolding is_passed_over
+nobody_passed c [] t a = refl
+nobody_passed c (e ∷ es) t a = go (eqb e.thread.0 t) (passes_over c es e.event t) (is_passed_over c es t) ((first_quiet e es a).passes_nobody c es t) (nobody_passed c es t (others_quiet e es a))
+  where
+    go : (own now before : Bool) → now ≡ false → before ≡ false → cond own false (now || before) ≡ false
+    go true now before i j = refl
+    go false now before i j = rw (i, j) refl
+
+wakings : (c : Config) (es : List Entry) → SleepsNobody es → WakingsNameSleepers c es
+unfolding WakingsNameSleepers
+wakings c [] a = tt
+wakings c (e ∷ es) a = (
+  (first_quiet e es a).fits es e.thread.0,
+  (λ i. absurd (let z : false ≡ true = sym (nobody_passed c es e.thread.0 (others_quiet e es a)) ∙ i in cc)),
+  wakings c es (others_quiet e es a),
+)
+
+halts : (es : List Entry) → SleepsNobody es → HaltsOnlyWhenRunning false es
+unfolding HaltsOnlyWhenRunning
+halts [] a = tt
+halts (e ∷ es) a = ((λ i. (first_quiet e es a).no_halt), halts es (others_quiet e es a))
+
+-- 2. The end of a run: each thread has made all its operations
+
+passes_at : (f : ℕ → Bool) (a n t : ℕ) → list_all f (range_with_len a n) ≡ true → a ≤ t → t < a + n → f t ≡ true
+passes_at f a zero t e i l = absurd (omega arith)
+passes_at f a (suc n) t e i l =
+    let parts = and_parts (f a) (list_all f (range_with_len (a + 1) n)) e in
+    elim (cases_eq a t) [
+      | inl j ↦ subst (λ m. f m ≡ true) j parts.0
+      | inr j ↦ passes_at f (a + 1) n t parts.1 (omega (arith, j)) (omega arith)
+    ]
+
+-- a number that is no thread's has no operations
+no_operations : (plan : Plan) (t : ℕ) → length plan.threads ≤ t → length (operations_of plan t) ≡ 0
+no_operations plan t i = ap (λ o. length (unwrap_or o [])) (slice_get_past (map (λ (d : ThreadDecl). d.ops) plan.threads) t (omega (arith, i, length-map plan.threads (λ (d : ThreadDecl). d.ops))))
+
+all_made : (plan : Plan) (r : Run) (t : ℕ) → all_ended plan r ≡ true → length (operations_of plan t) ≤ r.next_op t
+unfolding has_ended
+all_made plan r t e = elim (cases_lt t (length plan.threads)) [
+  | inl i ↦
+      let ended : has_ended plan r t ≡ true = passes_at (has_ended plan r) 0 (length plan.threads) t e (omega arith) (omega (arith, i)) in
+      let first = and_parts (nat_le (length (operations_of plan t)) (r.next_op t) && not (owes r.state t)) (holds_none (config_of plan) r.state t) ended in
+      leb-true (length (operations_of plan t)) (r.next_op t) (and_parts (nat_le (length (operations_of plan t)) (r.next_op t)) (not (owes r.state t)) first.0).0
+  | inr i ↦ omega (arith, no_operations plan t i)
+]
+
+-- 3. The law
+
+legal_on_track : (plan : Plan) (r : Run) (cut_short : Bool) → IsOnTrack plan r → (cut_short ≡ false → all_ended plan r ≡ true) → IsLegal plan false cut_short r.state.history
+unfolding EntriesFollowOperations
+legal_on_track plan r cut_short k whole = record {
+  tickets_run = k.lawful.lawful.tickets_run;
+  entries_follow_operations = λ t. record {
+    place = Before (r.next_op t);
+    leads = k.follows t;
+    whole = λ e. omega (arith, k.within t, all_made plan r t (whole e));
+  };
+  sections_exclude = k.lawful.lawful.sections_exclude;
+  edits_in_sections = k.lawful.lawful.edits_in_sections;
+  reads_replay = k.lawful.lawful.reads_replay;
+  wakings_name_sleepers = wakings (config_of plan) r.state.history k.no_sleeps;
+  halts_only_when_running = halts r.state.history k.no_sleeps;
+  shown_is_explained = k.lawful.lawful.shown_is_explained;
+}
+
+pub runs_are_legal : (plan : Plan) (turns : List ℕ) → IsProper plan → All (λ t. t < length plan.threads) turns → IsLegal plan false true (after_turns plan turns).state.history
+runs_are_legal plan turns p a = legal_on_track plan (after_turns plan turns) true (behind_turns plan turns p a) (λ e. absurd cc)
+
+-- a run that wasn't cut short has come to the end of all its threads
+not_cut : (plan : Plan) (k : Course) → is_cut_short (ending_of plan k) ≡ false → all_ended plan k.run ≡ true
+not_cut plan k e = go (all_ended plan k.run) (is_stuck k) e
+  where
+    go : (ended stuck : Bool) → is_cut_short (cond ended IsDone (cond stuck IsStuck IsTooLong)) ≡ false → ended ≡ true
+    go true stuck e = refl
+    go false true e = absurd cc
+    go false false e = absurd cc
+
+pub courses_are_legal : (plan : Plan) (n : ℕ) → IsProper plan → IsLegal plan false (is_cut_short (ending_of plan (course_after plan n))) (course_after plan n).run.state.history
+courses_are_legal plan n p =
+    legal_on_track plan (course_after plan n).run (is_cut_short (ending_of plan (course_after plan n))) (behind_course plan n p) (not_cut plan (course_after plan n))
+
+pub outcomes_are_legal : (plan : Plan) (chains turns : ℕ) → IsProper plan → HasLegalHistory plan (scheduled_run plan chains turns)
+unfolding scheduled_run
+outcomes_are_legal plan chains turns p = rw (reverse-reverse (course_after plan turns).run.state.history) (courses_are_legal plan turns p)
