@@ -1,5 +1,5 @@
 -- An enter keeps each fact.
-use Rattle.std.proofs.Common.{◌≡◌, ℕ, ◌+◌, ◌≤◌, Bool, true, false, not, eqb, List, Option, Some, None, refl, sym, ap, inl, inr, arith, ◌∙◌}
+use Rattle.std.proofs.Common.{◌≡◌, ℕ, ◌+◌, Bool, true, false, not, eqb, List, Option, Some, None, refl, sym, ap, inl, inr, arith, ◌∙◌}
 use Rattle.std.proofs.lemmas.Bool.{cases_eq}
 use Rattle.lock_model.specs.Counts.{one, times, at_option, sum_below}
 use Rattle.lock_model.specs.Words.{Holder, is_turnstile, entered, owner_of}
@@ -15,7 +15,7 @@ use Rattle.lock_state.specs.Facts.Loans.{IsKept, IsKnown, EachOf, walks_at_lock,
 use Rattle.lock_model.specs.declared.plan.Mode.{Mode}
 use Rattle.lock_model.specs.declared.plan.Side.{Side}
 use Rattle.lock_model.specs.declared.plan.QueueName.{QueueName}
-use Rattle.lock_laws.proofs.Kit.{columns, put_same, put_other, put_lock_same, put_lock_other, sum_below-put, sum_below-put_lock, at_put, at_put_lock, each_queue, same_lock, one_same}
+use Rattle.lock_laws.proofs.Kit.{columns, put_same, put_other, put_lock_same, put_lock_other, sum_below-put, sum_below-put_lock, at_put, at_put_lock, each_queue, same_lock}
 use Rattle.lock_laws.proofs.Words.{entered_holder, matches_same}
 use Rattle.lock_laws.proofs.Queues.{stands-more, waiting-more, ascends-insert, is_empty-insert}
 use Rattle.lock_laws.proofs.Lending.{at_thread-walk_up, walk_up-there, each_of-map, each_of-more}

@@ -1,5 +1,5 @@
 -- Taking something out of its home, and giving it back, keep each fact.
-use Rattle.std.proofs.Common.{◌≡◌, ◌⊎◌, ℕ, true, Option, Some, None, arith, ap, refl, sym, inl, inr, ◌∙◌, subst, eq-eqb}
+use Rattle.std.proofs.Common.{◌≡◌, ◌⊎◌, ℕ, true, Option, Some, None, ap, refl, sym, inl, inr, ◌∙◌, subst, eq-eqb}
 use Rattle.std.proofs.lemmas.Bool.{cases_eq}
 use Rattle.lock_state.specs.State.{State, put, put_at}
 use Rattle.lock_model.specs.Config.{Config}
@@ -7,50 +7,59 @@ use Rattle.lock_state.specs.Steps.Items.{Item, TurnstileChain, SleepChain, Recor
 use Rattle.lock_state.specs.Facts.{Lawful, OutIsNarrow}
 use Rattle.lock_laws.proofs.Kit.{put_same, put_other, put_at_same, put_at_other, put_at_beside}
 
-by_place : (f : ℕ → Option ℕ) (i : ℕ) (o : Option ℕ) (j t : ℕ) → put f i o j ≡ Some t → ((i ≡ j) × (o ≡ Some t)) ⊎ (f j ≡ Some t)
-by_place f i o j t e = elim (cases_eq i j) [ inl x ↦ inl (x, sym (put_same f i o) ∙ ap (put f i o) x ∙ e) | inr x ↦ inr (sym (put_other f i o j x) ∙ e) ]
+by_place : (f : ℕ → Option ℕ) (i : ℕ) (o : Option ℕ) (j : ℕ) → (i ≡ j) ⊎ (put f i o j ≡ f j)
+by_place f i o j = elim (cases_eq i j) [ inl x ↦ inl x | inr x ↦ inr (put_other f i o j x) ]
 
-by_cell : (f : ℕ → ℕ → Option ℕ) (i k : ℕ) (o : Option ℕ) (j l t : ℕ) → put_at f i k o j l ≡ Some t → ((i ≡ j) × (k ≡ l) × (o ≡ Some t)) ⊎ (f j l ≡ Some t)
-by_cell f i k o j l t e =
+by_cell : (f : ℕ → ℕ → Option ℕ) (i k : ℕ) (o : Option ℕ) (j l : ℕ) → ((i ≡ j) × (k ≡ l)) ⊎ (put_at f i k o j l ≡ f j l)
+by_cell f i k o j l =
     elim (cases_eq i j) [
-      | inl x ↦ elim (cases_eq k l) [
-        | inl y ↦ inl (x, y, sym (put_at_same f i k o) ∙ ap (λ a. put_at f i k o a k) x ∙ ap (put_at f i k o j) y ∙ e)
-        | inr y ↦ inr (sym (put_at_beside f i k o j l y) ∙ e)
-      ]
-      | inr x ↦ inr (sym (put_at_other f i k o j l x) ∙ e)
+      | inl x ↦ elim (cases_eq k l) [ inl y ↦ inl (x, y) | inr y ↦ inr (put_at_beside f i k o j l y) ]
+      | inr x ↦ inr (put_at_other f i k o j l x)
     ]
 
 -- who has an item out, once the item i goes to a thread, or home
 abbrev pub with_then : State → Item → Option ℕ → Item → Option ℕ
 with_then s i o = out_with (turnstile_chains_after i o s.turnstile_chain_with) (sleep_chains_after i o s.sleep_chain_with) (records_after i o s.record_with) (cells_after i o s.cell_with) (graph_after i o s.graph_with)
 
--- what a thread has out after an item has changed its place is that item, or was out before
+-- the item is where it went,
+pub at_itself : (s : State) (i : Item) (o : Option ℕ) → with_then s i o i ≡ o
+at_itself s (TurnstileChain a) o = put_same s.turnstile_chain_with a o
+at_itself s (SleepChain a) o = put_same s.sleep_chain_with a o
+at_itself s (RecordOf a) o = put_same s.record_with a o
+at_itself s (CellOf a k) o = put_at_same s.cell_with a k o
+at_itself s ClassGraph o = refl
+
+-- and another where it was
+pub beside : (s : State) (i : Item) (o : Option ℕ) (j : Item) → (i ≡ j) ⊎ (with_then s i o j ≡ item_with s j)
+beside s (TurnstileChain a) o (TurnstileChain b) = elim (by_place s.turnstile_chain_with a o b) [ inl x ↦ inl (ap TurnstileChain x) | inr x ↦ inr x ]
+beside s (SleepChain a) o (SleepChain b) = elim (by_place s.sleep_chain_with a o b) [ inl x ↦ inl (ap SleepChain x) | inr x ↦ inr x ]
+beside s (RecordOf a) o (RecordOf b) = elim (by_place s.record_with a o b) [ inl x ↦ inl (ap RecordOf x) | inr x ↦ inr x ]
+beside s (CellOf a k) o (CellOf b l) = elim (by_cell s.cell_with a k o b l) [ inl x ↦ inl (λ i. CellOf (x.0 i) (x.1 i)) | inr x ↦ inr x ]
+beside s ClassGraph o ClassGraph = inl refl
+beside s (TurnstileChain a) o (SleepChain b) = inr refl
+beside s (TurnstileChain a) o (RecordOf b) = inr refl
+beside s (TurnstileChain a) o (CellOf b l) = inr refl
+beside s (TurnstileChain a) o ClassGraph = inr refl
+beside s (SleepChain a) o (TurnstileChain b) = inr refl
+beside s (SleepChain a) o (RecordOf b) = inr refl
+beside s (SleepChain a) o (CellOf b l) = inr refl
+beside s (SleepChain a) o ClassGraph = inr refl
+beside s (RecordOf a) o (TurnstileChain b) = inr refl
+beside s (RecordOf a) o (SleepChain b) = inr refl
+beside s (RecordOf a) o (CellOf b l) = inr refl
+beside s (RecordOf a) o ClassGraph = inr refl
+beside s (CellOf a k) o (TurnstileChain b) = inr refl
+beside s (CellOf a k) o (SleepChain b) = inr refl
+beside s (CellOf a k) o (RecordOf b) = inr refl
+beside s (CellOf a k) o ClassGraph = inr refl
+beside s ClassGraph o (TurnstileChain b) = inr refl
+beside s ClassGraph o (SleepChain b) = inr refl
+beside s ClassGraph o (RecordOf b) = inr refl
+beside s ClassGraph o (CellOf b l) = inr refl
+
+-- what a thread has out then is that item, or was out before
 pub changed : (s : State) (i : Item) (o : Option ℕ) (j : Item) (t : ℕ) → with_then s i o j ≡ Some t → ((i ≡ j) × (o ≡ Some t)) ⊎ (item_with s j ≡ Some t)
-changed s (TurnstileChain a) o (TurnstileChain b) t e = elim (by_place s.turnstile_chain_with a o b t e) [ inl x ↦ inl (ap TurnstileChain x.0, x.1) | inr x ↦ inr x ]
-changed s (SleepChain a) o (SleepChain b) t e = elim (by_place s.sleep_chain_with a o b t e) [ inl x ↦ inl (ap SleepChain x.0, x.1) | inr x ↦ inr x ]
-changed s (RecordOf a) o (RecordOf b) t e = elim (by_place s.record_with a o b t e) [ inl x ↦ inl (ap RecordOf x.0, x.1) | inr x ↦ inr x ]
-changed s (CellOf a k) o (CellOf b l) t e = elim (by_cell s.cell_with a k o b l t e) [ inl x ↦ inl ((λ i. CellOf (x.0 i) (x.1 i)), x.2) | inr x ↦ inr x ]
-changed s ClassGraph o ClassGraph t e = inl (refl, e)
-changed s (TurnstileChain a) o (SleepChain b) t e = inr e
-changed s (TurnstileChain a) o (RecordOf b) t e = inr e
-changed s (TurnstileChain a) o (CellOf b l) t e = inr e
-changed s (TurnstileChain a) o ClassGraph t e = inr e
-changed s (SleepChain a) o (TurnstileChain b) t e = inr e
-changed s (SleepChain a) o (RecordOf b) t e = inr e
-changed s (SleepChain a) o (CellOf b l) t e = inr e
-changed s (SleepChain a) o ClassGraph t e = inr e
-changed s (RecordOf a) o (TurnstileChain b) t e = inr e
-changed s (RecordOf a) o (SleepChain b) t e = inr e
-changed s (RecordOf a) o (CellOf b l) t e = inr e
-changed s (RecordOf a) o ClassGraph t e = inr e
-changed s (CellOf a k) o (TurnstileChain b) t e = inr e
-changed s (CellOf a k) o (SleepChain b) t e = inr e
-changed s (CellOf a k) o (RecordOf b) t e = inr e
-changed s (CellOf a k) o ClassGraph t e = inr e
-changed s ClassGraph o (TurnstileChain b) t e = inr e
-changed s ClassGraph o (SleepChain b) t e = inr e
-changed s ClassGraph o (RecordOf b) t e = inr e
-changed s ClassGraph o (CellOf b l) t e = inr e
+changed s i o j t e = elim (beside s i o j) [ inl x ↦ inl (x, sym (at_itself s i o) ∙ ap (with_then s i o) x ∙ e) | inr x ↦ inr (sym x ∙ e) ]
 
 with_itself : (i : Item) → go_together i i ≡ true
 with_itself (TurnstileChain a) = eq-eqb a a refl

@@ -50,3 +50,7 @@ pub mod Beyond
 pub mod AcceptedLists
 pub mod Accepted
 pub mod WordsAndHeads
+pub mod FloorSteps
+pub mod Looks
+pub mod OwnEntries
+pub mod Rounds

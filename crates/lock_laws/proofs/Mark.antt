@@ -22,7 +22,7 @@ module _ (c : Config) (s : State) (t : ℕ) (m : Mark) (ms : List Mark) (g : May
   abbrev u : ℕ
   u = m.thread
 
-  blocked_on : s.blocked_on u ≡ Some m.queue
+  pub blocked_on : s.blocked_on u ≡ Some m.queue
   unfolding StandsOnce
   blocked_on =
       let a = sum_below-at c.threads (λ v. times_marked u m.queue (s.marked v)) t g.thread in

@@ -28,7 +28,7 @@ module _ (c : Config) (s : State) (t : ℕ) (q : QueueName) (cause : Cause) (g :
   unfolding WokenIsUncalled
   uncalled = h.woken_is_uncalled t (ap is_woken g.woken)
 
-  unnamed : (r : QueueName) → s.blocked_on t ≡ Some r → ⊥
+  pub unnamed : (r : QueueName) → s.blocked_on t ≡ Some r → ⊥
   unfolding StandingIsQueued
   unnamed r e = let z = ap is_woken (sym g.woken ∙ h.standing_is_queued t r e) in cc
 

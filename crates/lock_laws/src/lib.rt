@@ -3,11 +3,12 @@
 //! makes, and these laws do the rest.
 //!
 //! - `start`: the state at the start of a plan is lawful, and so is each state that steps reach from there.
-//! - `kinds`: each kind of step keeps each fact of a lawful state.
+//! - `kinds`: each kind of step keeps each fact of a lawful state, and so does each list of steps.
+//! - `floor`: what the steps of a running floor keep beside: own records, acquiring rounds and their chains, looks.
 //! - `priorities`: where no walk is under way and nobody waits in a cycle, each effective priority is the best
 //!   behind it.
 //! - `waits`: a thread stands at most once, on one queue, and a lock's word shows it.
-//! - `books`: the table of a lock is what the history leaves.
+//! - `books`: the table of a lock is what the history leaves, and what a stamp of each class of event keeps.
 //! - `objects`: where turnstiles, loan nodes and waiters are.
 //! - `scripts`: each script's plan is proper: its operations fit what their threads hold.
 //! - `runs`: each state of a scheduled run of a proper plan is lawful.
@@ -15,6 +16,7 @@
 #![tactic(auto)]
 
 pub mod books;
+pub mod floor;
 pub mod kinds;
 pub mod legal;
 pub mod objects;

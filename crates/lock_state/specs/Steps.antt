@@ -230,6 +230,12 @@ abbrev pub FitsRound : Option Round → ℕ → Bool → Type 0
 FitsRound None l by_try = by_try ≡ true
 FitsRound (Some r) l by_try = (r.lock ≡ l) × (r.by_try ≡ by_try)
 
+-- in an acquiring round the one entry is that of a try which found the round's lock busy
+abbrev pub NotesInRound : Option Round → Event → Type 0
+NotesInRound None e = ⊤
+NotesInRound (Some r) (Busy l seen) = (r.lock ≡ l.0) × (r.by_try ≡ true)
+NotesInRound (Some r) other = ⊥
+
 -- what the thread saw last at the lock under the chain that it has out admits the mode
 abbrev pub SawAdmitting : ℕ → Config → State → ℕ → ℕ → Mode → Type 0
 SawAdmitting chains c s t l mode = (w : Word) → HasItem s t (chain_of chains c l) → s.seen_in_section t ≡ Some (record { lock = l; word = w }) → admits (c.kind l) w mode ≡ true
@@ -239,7 +245,8 @@ pub record EntersFromLook (s : State) (t l : ℕ) : Type 0 where
   pub saw : s.last_look t ≡ Some (record { lock = l; word = s.word l })
   pub round : s.round t ≡ Some (record { lock = l; by_try = false; in_chain = true })
 
--- Where a look in the lock's chain saw a word that doesn't admit, the thread enters and does not gain, until it looks again.
+-- Where a look in the lock's chain saw a word that doesn't admit, the thread enters and does not gain, until it looks again. A thread
+-- sleeps on a channel outside its rounds.
 abbrev pub HasSeen : ℕ → Config → State → Step → Type 0
 HasSeen chains c s (Seeks t l by_try) = ⊤
 HasSeen chains c s (Looks t l in_round) = in_round ≡ counts_as_look chains c s t l
@@ -247,14 +254,14 @@ HasSeen chains c s (TakesItem t i) = ⊤
 HasSeen chains c s (GivesItem t i) = ⊤
 HasSeen chains c s (Gains t l mode by_try) = FitsRound (s.round t) l by_try × SawAdmitting chains c s t l mode
 HasSeen chains c s (Drops t l mode) = ⊤
-HasSeen chains c s (Stamps t e) = ⊤
+HasSeen chains c s (Stamps t e) = NotesInRound (s.round t) e
 HasSeen chains c s (Readies t q) = ⊤
 HasSeen chains c s (Unreadies t q) = ⊤
 HasSeen chains c s (Enters t l mode x) = EntersFromLook s t l
 HasSeen chains c s (Opens t l mode) = ⊤
 HasSeen chains c s (EntersSleepQueue t l mode x) = EntersFromLook s t l
 HasSeen chains c s (OpensSleepQueue t l mode) = ⊤
-HasSeen chains c s (Adds t d x) = ⊤
+HasSeen chains c s (Adds t d x) = s.round t ≡ None
 HasSeen chains c s (Wakes t d all) = ⊤
 HasSeen chains c s (Marks t m ms) = ⊤
 HasSeen chains c s (Resumes t q cause) = ⊤

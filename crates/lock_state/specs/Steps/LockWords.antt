@@ -233,6 +233,63 @@ table_after (Set l k v) table = put_at table l.0 k (Some v)
 table_after (Added l k n) table = put_at table l.0 k (Some (added (table l.0 k) n))
 table_after other table = table
 
+-- whether an event changes a base priority
+abbrev pub changes_base : Event → Bool
+changes_base (Locked l mode) = false
+changes_base (Tried l mode) = false
+changes_base (Busy l seen) = false
+changes_base (Unlocked l mode) = false
+changes_base (Set l k v) = false
+changes_base (Added l k n) = false
+changes_base (Got l k found) = false
+changes_base (Base p) = true
+changes_base (Shown b e) = false
+changes_base (Sleeps d) = false
+changes_base (Woke d) = false
+changes_base (HaltedChan d) = false
+changes_base (HaltedLock l) = false
+changes_base (WokeOne d woken) = false
+changes_base (WokeAll d woken) = false
+changes_base (Reversed l held) = false
+
+-- whether it changes a table
+abbrev pub changes_table : Event → Bool
+changes_table (Locked l mode) = false
+changes_table (Tried l mode) = false
+changes_table (Busy l seen) = false
+changes_table (Unlocked l mode) = false
+changes_table (Set l k v) = true
+changes_table (Added l k n) = true
+changes_table (Got l k found) = false
+changes_table (Base p) = false
+changes_table (Shown b e) = false
+changes_table (Sleeps d) = false
+changes_table (Woke d) = false
+changes_table (HaltedChan d) = false
+changes_table (HaltedLock l) = false
+changes_table (WokeOne d woken) = false
+changes_table (WokeAll d woken) = false
+changes_table (Reversed l held) = false
+
+-- whether it begins or ends a section of a lock
+abbrev pub changes_sections : Event → Bool
+changes_sections (Locked l mode) = true
+changes_sections (Tried l mode) = true
+changes_sections (Busy l seen) = false
+changes_sections (Unlocked l mode) = true
+changes_sections (Set l k v) = false
+changes_sections (Added l k n) = false
+changes_sections (Got l k found) = false
+changes_sections (Base p) = false
+changes_sections (Shown b e) = false
+changes_sections (Sleeps d) = true
+changes_sections (Woke d) = true
+changes_sections (HaltedChan d) = true
+changes_sections (HaltedLock l) = false
+changes_sections (WokeOne d woken) = false
+changes_sections (WokeAll d woken) = false
+changes_sections (Reversed l held) = false
+
 -- whether a section began since the gain, after an event of thread t
 abbrev pub begun_after : Config → Event → ℕ → (ℕ → ℕ → Bool) → ℕ → ℕ → Bool
 begun_after c (Locked l mode) t has_begun = put_at has_begun t l.0 true

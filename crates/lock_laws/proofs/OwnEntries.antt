@@ -1,0 +1,68 @@
+-- The sections behind a history are those behind the thread's own entries, and an event changes only what its class says.
+use Rattle.std.proofs.Common.{◌≡◌, ℕ, Bool, true, false, cond, eqb, Option, List, [], ◌∷◌, refl, ap}
+use Rattle.lock_model.specs.Config.{Config}
+use Rattle.lock_model.specs.History.{Sections, sections_in, sections_by, entries_of, open_in}
+use Rattle.lock_model.specs.declared.event.Event.{Event}
+use Rattle.lock_model.specs.declared.event.Event.TheVariants.{Locked, Tried, Unlocked, Set, Added, Base, Sleeps, Woke, HaltedChan}
+use Rattle.lock_model.specs.declared.event.Entry.{Entry}
+use Rattle.lock_state.specs.State.{State, Loan}
+use Rattle.lock_state.specs.Steps.LockWords.{after_stamp, base_after, effective_after, table_after, changes_base, changes_table, changes_sections}
+
+-- 1. Own entries
+
+pub own_sections : (c : Config) (es : List Entry) (t l : ℕ) → sections_in c es t l ≡ sections_in c (entries_of es t) t l
+unfolding sections_in
+own_sections c [] t l = refl
+own_sections c (e ∷ es) t l = go (own_sections c es t l) (eqb e.thread.0 t) refl
+  where
+    go : sections_in c es t l ≡ sections_in c (entries_of es t) t l → (b : Bool) → eqb e.thread.0 t ≡ b → cond b (sections_by c e.event l (sections_in c es t l)) (sections_in c es t l) ≡ sections_in c (cond b (e ∷ entries_of es t) (entries_of es t)) t l
+    go h true x = rw x (ap (sections_by c e.event l) h)
+    go h false x = h
+
+pub own_section : (c : Config) (es : List Entry) (t l : ℕ) → open_in c es t l ≡ open_in c (entries_of es t) t l
+own_section c es t l = ap (λ x. x.now) (own_sections c es t l)
+
+-- 2. Classes of events
+
+same_base : (e : Event) (t : ℕ) (base : ℕ → ℕ) → changes_base e ≡ false → base_after e t base ≡ base
+same_base (Base p) t base x = absurd cc
+same_base other t base x = refl
+
+same_effective : (c : Config) (e : Event) (t : ℕ) (loan : ℕ → ℕ → Option Loan) (effective : ℕ → ℕ) → changes_base e ≡ false → effective_after c e t loan effective ≡ effective
+same_effective c (Base p) t loan effective x = absurd cc
+same_effective c other t loan effective x = refl
+
+same_table : (e : Event) (table : ℕ → ℕ → Option ℕ) → changes_table e ≡ false → table_after e table ≡ table
+same_table (Set l k v) table x = absurd cc
+same_table (Added l k n) table x = absurd cc
+same_table other table x = refl
+
+same_sections : (c : Config) (e : Event) (l : ℕ) (before : Sections) → changes_sections e ≡ false → sections_by c e l before ≡ before
+same_sections c (Locked k mode) l before x = absurd cc
+same_sections c (Tried k mode) l before x = absurd cc
+same_sections c (Unlocked k mode) l before x = absurd cc
+same_sections c (Sleeps d) l before x = absurd cc
+same_sections c (Woke d) l before x = absurd cc
+same_sections c (HaltedChan d) l before x = absurd cc
+same_sections c other l before x = refl
+
+module _ (c : Config) (s : State) (t : ℕ) (e : Event) where
+  pub bases_stay : changes_base e ≡ false → (after_stamp c s t e).base ≡ s.base
+  unfolding after_stamp
+  bases_stay x = same_base e t s.base x
+
+  pub effective_stays : changes_base e ≡ false → (after_stamp c s t e).effective ≡ s.effective
+  unfolding after_stamp
+  effective_stays x = same_effective c e t s.loan s.effective x
+
+  pub tables_stay : changes_table e ≡ false → (after_stamp c s t e).table ≡ s.table
+  unfolding after_stamp
+  tables_stay x = same_table e s.table x
+
+  pub sections_stay : (u l : ℕ) → changes_sections e ≡ false → sections_in c (after_stamp c s t e).history u l ≡ sections_in c s.history u l
+  unfolding after_stamp sections_in
+  sections_stay u l x = go (eqb t u)
+    where
+      go : (b : Bool) → cond b (sections_by c e l (sections_in c s.history u l)) (sections_in c s.history u l) ≡ sections_in c s.history u l
+      go true = same_sections c e l (sections_in c s.history u l) x
+      go false = refl

@@ -1,0 +1,43 @@
+//! What a running floor keeps beside: its threads make each step under the guards of a floor, with what they have
+//! out and what they have seen.
+
+ghost use Rattle.std.specs.Prelude.{◌≡◌, ◌≤◌, ◌⊎◌, ℕ};
+ghost use Rattle.lock_model.specs.Config.{Config};
+ghost use Rattle.lock_state.specs.State.{State, start_state};
+ghost use Rattle.lock_state.specs.Facts.{Lawful, LawfulFloor};
+ghost use Rattle.lock_state.specs.Steps.{Step, May, HasSeen, after, IsReachable, IsFloorStep};
+ghost use Rattle.lock_laws.specs.Rounds.{IsBoundTo, LawfulRounds, EndsRound};
+
+/// The state at the start of a plan is one of a running floor,
+pub fn floors_begin()
+    ensures { (c : Config) → LawfulFloor c (start_state c) }
+{}
+
+/// and each step of a thread of the floor keeps it so.
+pub fn floor_steps_keep()
+    ensures { (chains : ℕ) (c : Config) (s n : State) → IsFloorStep chains c s n → LawfulFloor c s → LawfulFloor c n }
+{}
+
+/// A thread that took its lock's chain in a blocking call's round has the chain out, and who is in a round acts:
+/// at the start nobody is in one,
+pub fn rounds_begin()
+    ensures { (chains : ℕ) (c : Config) → LawfulRounds chains c (start_state c) }
+{}
+
+/// and each step of the floor keeps it so.
+pub fn rounds_keep_their_chain()
+    ensures { (chains : ℕ) (c : Config) (s n : State) → IsFloorStep chains c s n → Lawful c s
+        → LawfulRounds chains c s → LawfulRounds chains c n }
+{}
+
+/// Such a round goes on with each step, until the thread gains the lock or comes to stand on its queue. So its chain
+/// goes home only after that.
+pub fn rounds_end_with_their_lock()
+    ensures { (chains : ℕ) (c : Config) (s : State) (step : Step) (t l : ℕ) → May c s step → HasSeen chains c s step
+        → LawfulRounds chains c s → IsBoundTo s t l → IsBoundTo (after c s step) t l ⊎ EndsRound step t l }
+{}
+
+/// In an acquiring round a thread makes at most 100 looks.
+pub fn looks_are_few()
+    ensures { (c : Config) (s : State) (t : ℕ) → IsReachable c s → s.looks t ≤ 100 }
+{}
