@@ -1,22 +1,23 @@
 -- An enter on an sx lock keeps each fact.
 use Rattle.std.proofs.Common.{◌≡◌, ℕ, ◌+◌, Bool, true, false, not, eqb, List, Option, Some, None, refl, sym, ap, inl, inr, arith, ◌∙◌}
 use Rattle.std.proofs.lemmas.Bool.{cases_eq}
-use Rattle.lock_model.specs.Counts.{one, times, at_option, sum_below}
+use Rattle.lock_model.specs.Counts.{one, times, at_option}
 use Rattle.lock_model.specs.Words.{Holder, is_turnstile, entered}
 use Rattle.lock_state.specs.State.{State, put, put_queue}
 use Rattle.lock_model.specs.Config.{Config}
-use Rattle.lock_model.specs.Queues.{Waiter, Lists, lock_queue, chan_queue, side_of, list_of, with_list, stands, head_with, free_with}
+use Rattle.lock_model.specs.Queues.{Waiter, Lists, lock_queue, side_of, list_of, with_list, head_with, free_with}
 use Rattle.lock_state.specs.Steps.SleepQueues.{MayEnterSleep, after_enter_sleep, with_last}
 use Rattle.lock_state.specs.Facts.{Lawful, OneTurnstileEach, OneSleepQueueEach, TurnstileIsLent, SleepQueueIsLent, HeadsFitWaiters, BitsShowWaiters, ListsAscend, MutexWaitersAreExclusive, StandsOnce, OnlyThreadsStand, StandingIsQueued, StandingWants, WokenWants, CalledWants, StandingIsUncalled, WokenIsUncalled, FreeWordHasCalled, FreeMutexShowsNone, WordsMatchHolders, OwnersHold, LoansAreLeast, LoansAreWithOwners, LoansAreOnHeads, KeptIsEffective, KeptIsKnown}
 use Rattle.lock_state.specs.Facts.Queues.{only, turnstile_places, sleep_queue_places, HeadFits}
-use Rattle.lock_state.specs.Facts.Waits.{callers, times_marked, at_queue}
+use Rattle.lock_state.specs.Facts.Waits.{callers}
 use Rattle.lock_state.specs.Facts.Words.{WordMatchesHolders}
 use Rattle.lock_state.specs.Facts.Loans.{owner_if}
 use Rattle.lock_model.specs.declared.plan.Mode.{Mode}
 use Rattle.lock_model.specs.declared.plan.Side.{Side}
 use Rattle.lock_model.specs.declared.plan.QueueName.{QueueName}
-use Rattle.lock_laws.proofs.Kit.{columns, put_other, put_lock_same, put_lock_other, sum_below-put, sum_below-put_lock, at_put, each_queue, same_lock}
+use Rattle.lock_laws.proofs.Kit.{columns, put_other, put_lock_other, sum_below-put, sum_below-put_lock, at_put, same_lock}
 use Rattle.lock_laws.proofs.Words.{entered_holder, matches_same}
+use Rattle.lock_laws.proofs.OneQueue.{heads_put_owned, stand_more}
 use Rattle.lock_laws.proofs.Sleepers.{stands-last, waiting-last, is_empty-last}
 
 -- the object that is lent goes to the head or the free list
@@ -81,17 +82,9 @@ module _ (c : Config) (s : State) (t l : ℕ) (mode : Mode) (x : ℕ) (g : MayEn
 
   -- 2. The queue
 
-  heads_of_locks : (k : ℕ) → HeadFits (n.lists (lock_queue k)) (n.free_list (lock_queue k)) (n.head (lock_queue k)) (n.owner (lock_queue k))
-  unfolding after_enter_sleep HeadsFitWaiters
-  heads_of_locks k =
-      elim (cases_eq l k) [
-        | inl e ↦ rw (← e) (simp put_lock_same (head_fits (side_of mode) new (s.lists q) (s.free_list q) (s.head q) (s.owner q) x (h.heads_fit_waiters q)))
-        | inr e ↦ rw (put_lock_other s.lists l lists k e, put_lock_other s.free_list l (free_with (s.head q) x (s.free_list q)) k e, put_lock_other s.head l (head_with (s.head q) x) k e) (h.heads_fit_waiters (lock_queue k))
-      ]
-
   heads : HeadsFitWaiters n.lists n.free_list n.head n.owner
-  unfolding after_enter_sleep HeadsFitWaiters put_queue
-  heads = each_queue (λ r. HeadFits (n.lists r) (n.free_list r) (n.head r) (n.owner r)) heads_of_locks (λ d. h.heads_fit_waiters (chan_queue d))
+  unfolding after_enter_sleep HeadsFitWaiters
+  heads = heads_put_owned c s h q lists _ _ (head_fits (side_of mode) new (s.lists q) (s.free_list q) (s.head q) (s.owner q) x (h.heads_fit_waiters q))
 
   bits : BitsShowWaiters n.word n.lists
   unfolding after_enter_sleep BitsShowWaiters
@@ -111,17 +104,9 @@ module _ (c : Config) (s : State) (t l : ℕ) (mode : Mode) (x : ℕ) (g : MayEn
 
   -- 3. Standing, wanting and calling
 
-  stand_at_lock : (u k : ℕ) → stands u (n.lists (lock_queue k)) + sum_below c.threads (λ v. times_marked u (lock_queue k) (n.marked v)) ≡ at_queue (lock_queue k) (n.blocked_on u)
-  unfolding after_enter_sleep StandsOnce
-  stand_at_lock u k = grind (arith, columns, h.stands_once u (lock_queue k), stands-last)
-
-  stand_at_chan : (u d : ℕ) → stands u (n.lists (chan_queue d)) + sum_below c.threads (λ v. times_marked u (chan_queue d) (n.marked v)) ≡ at_queue (chan_queue d) (n.blocked_on u)
-  unfolding after_enter_sleep StandsOnce
-  stand_at_chan u d = grind (arith, columns, h.stands_once u (chan_queue d))
-
   stand : StandsOnce c n.lists n.marked n.blocked_on
-  unfolding after_enter_sleep StandsOnce
-  stand u = each_queue (λ r. stands u (n.lists r) + sum_below c.threads (λ v. times_marked u r (n.marked v)) ≡ at_queue r (n.blocked_on u)) (stand_at_lock u) (stand_at_chan u)
+  unfolding after_enter_sleep
+  stand = stand_more c s h q lists t g.unnamed (stands-last (side_of mode) new (s.lists q))
 
   threads_stand : OnlyThreadsStand c n.blocked_on
   unfolding after_enter_sleep OnlyThreadsStand

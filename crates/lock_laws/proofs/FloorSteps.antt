@@ -9,8 +9,8 @@ use Rattle.lock_state.specs.Steps.LockWords.{after_seek, after_look, after_gain,
 use Rattle.lock_state.specs.Steps.Turnstiles.{after_enter, after_open, after_mark, after_resume}
 use Rattle.lock_state.specs.Steps.SleepQueues.{after_enter_sleep, after_open_sleep, after_add, after_wake}
 use Rattle.lock_state.specs.Steps.Lending.{after_claim, after_lend, after_shift, after_end_walk}
-use Rattle.lock_state.specs.Steps.Items.{TurnstileChain, SleepChain, RecordOf, CellOf, ClassGraph, after_take, after_give}
-use Rattle.lock_state.specs.Steps.{Step, Seeks, Looks, TakesItem, GivesItem, Gains, Drops, Stamps, Readies, Unreadies, Enters, Opens, EntersSleepQueue, OpensSleepQueue, Adds, Wakes, Marks, Resumes, Claims, Lends, Shifts, EndsWalk, May, after, HasOut, IsFloorStep}
+use Rattle.lock_state.specs.Steps.Items.{RecordOf, after_take, after_give}
+use Rattle.lock_state.specs.Steps.{Step, TakesItem, GivesItem, Readies, Unreadies, Enters, EntersSleepQueue, Adds, Marks, Resumes, May, after, HasOut, IsFloorStep}
 use Rattle.lock_laws.proofs.Kit.{columns}
 use Rattle.lock_laws.proofs.Steps.{keeps}
 use Rattle.lock_laws.proofs.StateAtStart as start
@@ -43,35 +43,16 @@ module _ (s : State) (h : QueuedHasRecord s.wait s.blocked_on s.record_with) whe
 record_kept : (chains : ℕ) (c : Config) (s : State) (step : Step) → May c s step → HasOut chains c s step → QueuedHasRecord s.wait s.blocked_on s.record_with
     → QueuedHasRecord (after c s step).wait (after c s step).blocked_on (after c s step).record_with
 unfolding after_seek after_look after_gain after_drop after_stamp after_ready after_unready after_enter after_open after_mark after_resume after_enter_sleep after_open_sleep after_add after_wake after_claim after_lend after_shift after_end_walk after_take after_give
-record_kept chains c s (Seeks t l by_try) g o h = h
-record_kept chains c s (Looks t l in_round) g o h = h
-record_kept chains c s (TakesItem t (TurnstileChain k)) g o h = h
-record_kept chains c s (TakesItem t (SleepChain k)) g o h = h
 record_kept chains c s (TakesItem t (RecordOf v)) g o h = taken s h t v g.home
-record_kept chains c s (TakesItem t (CellOf l k)) g o h = h
-record_kept chains c s (TakesItem t ClassGraph) g o h = h
-record_kept chains c s (GivesItem t (TurnstileChain k)) g o h = h
-record_kept chains c s (GivesItem t (SleepChain k)) g o h = h
 record_kept chains c s (GivesItem t (RecordOf v)) g o h = given s h t v g.out g.done
-record_kept chains c s (GivesItem t (CellOf l k)) g o h = h
-record_kept chains c s (GivesItem t ClassGraph) g o h = h
-record_kept chains c s (Gains t l mode by_try) g o h = h
-record_kept chains c s (Drops t l mode) g o h = h
-record_kept chains c s (Stamps t e) g o h = h
 record_kept chains c s (Readies t q) g o h = ready s h t o.1
 record_kept chains c s (Unreadies t q) g o h = runs s h t
 record_kept chains c s (Enters t l mode x) g o h = stands s h t _
-record_kept chains c s (Opens t l mode) g o h = h
 record_kept chains c s (EntersSleepQueue t l mode x) g o h = stands s h t _
-record_kept chains c s (OpensSleepQueue t l mode) g o h = h
 record_kept chains c s (Adds t d x) g o h = stands s h t _
-record_kept chains c s (Wakes t d all) g o h = h
 record_kept chains c s (Marks t m ms) g o h = woken s h m.thread m.queue m.cause
 record_kept chains c s (Resumes t q cause) g o h = runs s h t
-record_kept chains c s (Claims t l x by_try) g o h = h
-record_kept chains c s (Lends t l o x) g out h = h
-record_kept chains c s (Shifts t o l) g out h = h
-record_kept chains c s (EndsWalk t) g o h = h
+record_kept chains c s other g o h = h
 
 pub begins : (c : Config) → LawfulFloor c (start_state c)
 unfolding start_state QueuedHasRecord

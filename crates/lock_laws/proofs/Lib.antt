@@ -54,3 +54,4 @@ pub mod FloorSteps
 pub mod Looks
 pub mod OwnEntries
 pub mod Rounds
+pub mod OneQueue

@@ -9,7 +9,7 @@ use Rattle.lock_state.specs.Steps.Turnstiles.{after_enter, after_open, after_mar
 use Rattle.lock_state.specs.Steps.SleepQueues.{after_enter_sleep, after_open_sleep, after_add, after_wake}
 use Rattle.lock_state.specs.Steps.Lending.{after_claim, after_lend, after_shift, after_end_walk}
 use Rattle.lock_state.specs.Steps.Items.{after_take, after_give}
-use Rattle.lock_state.specs.Steps.{Step, Seeks, Looks, TakesItem, GivesItem, Gains, Drops, Stamps, Readies, Unreadies, Enters, Opens, EntersSleepQueue, OpensSleepQueue, Adds, Wakes, Marks, Resumes, Claims, Lends, Shifts, EndsWalk, May, after, IsReachable, begins, goes_on}
+use Rattle.lock_state.specs.Steps.{Step, Seeks, Looks, Gains, Stamps, Resumes, Claims, May, after, IsReachable, begins, goes_on}
 use Rattle.lock_laws.proofs.Kit.{at_put}
 
 AreFew : (ℕ → ℕ) → Type 0
@@ -31,25 +31,11 @@ kept : (c : Config) (s : State) (step : Step) → May c s step → AreFew s.look
 unfolding AreFew after_seek after_look after_gain after_drop after_stamp after_ready after_unready after_enter after_open after_mark after_resume after_enter_sleep after_open_sleep after_add after_wake after_claim after_lend after_shift after_end_walk after_take after_give
 kept c s (Seeks t l by_try) g h = changed s.looks t 0 (omega arith) h
 kept c s (Looks t l in_round) g h = changed s.looks t _ (one_more in_round (s.looks t) g.room (h t)) h
-kept c s (TakesItem t i) g h = h
-kept c s (GivesItem t i) g h = h
 kept c s (Gains t l mode by_try) g h = changed s.looks t 0 (omega arith) h
-kept c s (Drops t l mode) g h = h
 kept c s (Stamps t e) g h = changed s.looks t _ (noted e (s.looks t) (h t)) h
-kept c s (Readies t q) g h = h
-kept c s (Unreadies t q) g h = h
-kept c s (Enters t l mode x) g h = h
-kept c s (Opens t l mode) g h = h
-kept c s (EntersSleepQueue t l mode x) g h = h
-kept c s (OpensSleepQueue t l mode) g h = h
-kept c s (Adds t d x) g h = h
-kept c s (Wakes t d all) g h = h
-kept c s (Marks t m ms) g h = h
 kept c s (Resumes t q cause) g h = changed s.looks t 0 (omega arith) h
 kept c s (Claims t l x by_try) g h = changed s.looks t 0 (omega arith) h
-kept c s (Lends t l o x) g h = h
-kept c s (Shifts t o l) g h = h
-kept c s (EndsWalk t) g h = h
+kept c s other g h = h
 
 at_start : (c : Config) → AreFew (start_state c).looks
 unfolding AreFew start_state

@@ -1,16 +1,16 @@
 -- An open of an sx lock keeps each fact.
 use Rattle.std.proofs.Common.{◌≡◌, ℕ, ◌+◌, ◌≤◌, Bool, true, false, not, List, [], length, Option, Some, None, refl, sym, ap, inl, inr, arith, ◌∙◌}
-use Rattle.std.proofs.lemmas.Bool.{cases_eq, ne_eqb}
-use Rattle.lock_model.specs.Counts.{one, some, times, at_option, sum_below, is_empty}
+use Rattle.std.proofs.lemmas.Bool.{cases_eq}
+use Rattle.lock_model.specs.Counts.{one, some, times, at_option, is_empty}
 use Rattle.lock_model.specs.Words.{Word, Holder, Free, is_turnstile, shows_waiters, without_one, opened, unshown, side_woken}
 use Rattle.lock_state.specs.State.{State, put, put_queue}
 use Rattle.lock_model.specs.Config.{Config}
-use Rattle.lock_model.specs.Queues.{Waiter, Lists, Mark, lock_queue, chan_queue, list_of, with_list, stands, dealt, free_after, head_after}
+use Rattle.lock_model.specs.Queues.{Waiter, Lists, Mark, lock_queue, list_of, with_list, dealt, free_after, head_after}
 use Rattle.lock_model.specs.Holds.{NotHeld}
 use Rattle.lock_state.specs.Steps.SleepQueues.{MayOpenSleep, after_open_sleep}
 use Rattle.lock_state.specs.Facts.{Lawful, OneTurnstileEach, OneSleepQueueEach, HeadsFitWaiters, BitsShowWaiters, ListsAscend, MutexWaitersAreExclusive, StandsOnce, FreeWordHasCalled, FreeMutexShowsNone, WordsMatchHolders, OnlyThreadsHold, OwnersHold, LoansAreLeast, LoansAreWithOwners, LoansAreOnHeads, KeptIsEffective, KeptIsKnown, SectionsAreHeld}
 use Rattle.lock_state.specs.Facts.Queues.{only, times_object, turnstile_places, sleep_queue_places, HeadFits, ShowsItsWaiters}
-use Rattle.lock_state.specs.Facts.Waits.{callers, calls_marked, times_marked, at_queue}
+use Rattle.lock_state.specs.Facts.Waits.{callers, calls_marked}
 use Rattle.lock_state.specs.Facts.Loans.{owner_if}
 use Rattle.lock_model.specs.declared.plan.Kind.{Kind}
 use Rattle.lock_model.specs.declared.plan.Kind.TheVariants.{Mtx, Rw, Sx}
@@ -18,9 +18,10 @@ use Rattle.lock_model.specs.declared.plan.Mode.{Mode}
 use Rattle.lock_model.specs.declared.plan.Side.{Side}
 use Rattle.lock_model.specs.declared.plan.Side.TheVariants.{X, S}
 use Rattle.lock_model.specs.declared.plan.QueueName.{QueueName}
-use Rattle.lock_laws.proofs.Kit.{columns, put_same, put_other, put_lock_same, put_lock_other, sum_below-put, sum_below-put_lock, each_queue}
+use Rattle.lock_laws.proofs.Kit.{columns, put_same, put_other, put_lock_same, put_lock_other, sum_below-put, sum_below-put_lock}
 use Rattle.lock_laws.proofs.Words.{free_is, all_match-put, matches-drop}
-use Rattle.lock_laws.proofs.Queues.{stands-less, waiting-less, no_turnstiles-dealt, all_sleep_queues-dealt, times_marked-dealt, times_marked-elsewhere, calls-dealt, length-after, headless-after}
+use Rattle.lock_laws.proofs.OneQueue.{heads_put_owned, stand_less}
+use Rattle.lock_laws.proofs.Queues.{stands-less, waiting-less, no_turnstiles-dealt, all_sleep_queues-dealt, calls-dealt, length-after, headless-after}
 
 -- the woken side isn't empty
 side_shown : (kind : Kind) (w : Word) (q : Lists) → is_turnstile kind ≡ false → ShowsItsWaiters w q → shows_waiters w ≡ true → is_empty (list_of (side_woken kind w) q) ≡ false
@@ -108,17 +109,9 @@ module _ (c : Config) (s : State) (t l : ℕ) (mode : Mode) (g : MayOpenSleep c 
 
   -- 2. The queue
 
-  heads_of_locks : (k : ℕ) → HeadFits (n.lists (lock_queue k)) (n.free_list (lock_queue k)) (n.head (lock_queue k)) (n.owner (lock_queue k))
-  unfolding after_open_sleep HeadsFitWaiters
-  heads_of_locks k =
-      elim (cases_eq l k) [
-        | inl e ↦ rw (← e) (simp put_lock_same (head_fits side (s.lists q) (s.free_list q) (s.head q) (s.owner q) unowned (h.heads_fit_waiters q)))
-        | inr e ↦ rw (put_lock_other s.lists l (with_list side [] (s.lists q)) k e, put_lock_other s.free_list l (free_after woken (s.free_list q)) k e, put_lock_other s.head l (head_after woken (s.free_list q) (s.head q)) k e) (h.heads_fit_waiters (lock_queue k))
-      ]
-
   heads : HeadsFitWaiters n.lists n.free_list n.head n.owner
-  unfolding after_open_sleep HeadsFitWaiters put_queue
-  heads = each_queue (λ r. HeadFits (n.lists r) (n.free_list r) (n.head r) (n.owner r)) heads_of_locks (λ d. h.heads_fit_waiters (chan_queue d))
+  unfolding after_open_sleep HeadsFitWaiters
+  heads = heads_put_owned c s h q (with_list side [] (s.lists q)) _ _ (head_fits side (s.lists q) (s.free_list q) (s.head q) (s.owner q) unowned (h.heads_fit_waiters q))
 
   bits : BitsShowWaiters n.word n.lists
   unfolding after_open_sleep BitsShowWaiters
@@ -138,34 +131,9 @@ module _ (c : Config) (s : State) (t l : ℕ) (mode : Mode) (g : MayOpenSleep c 
 
   -- 3. Standing and calling
 
-  stand_at_lock : (u k : ℕ) → stands u (n.lists (lock_queue k)) + sum_below c.threads (λ v. times_marked u (lock_queue k) (n.marked v)) ≡ at_queue (lock_queue k) (n.blocked_on u)
-  unfolding after_open_sleep StandsOnce
-  stand_at_lock u k =
-      let a = sum_below-put c.threads (times_marked u (lock_queue k)) s.marked t marks g.thread in
-      let e = ap (times_marked u (lock_queue k)) g.unmarked in
-      elim (cases_eq l k) [
-        | inl i ↦
-            let b = stands-less side (s.lists q) u in
-            let d = times_marked-dealt u q woken (s.free_list q) (s.head q) fits in
-            let a2 = rw (← i) at a in
-            let e2 = rw (← i) at e in
-            rw (← i, put_lock_same s.lists l (with_list side [] (s.lists q))) (omega (arith, h.stands_once u q))
-        | inr i ↦
-            let f = times_marked-elsewhere u (lock_queue k) q (ne_eqb k l (λ j. i (sym j))) woken (s.free_list q) (s.head q) in
-            rw (put_lock_other s.lists l (with_list side [] (s.lists q)) k i) (omega (arith, h.stands_once u (lock_queue k)))
-      ]
-
-  stand_at_chan : (u d : ℕ) → stands u (n.lists (chan_queue d)) + sum_below c.threads (λ v. times_marked u (chan_queue d) (n.marked v)) ≡ at_queue (chan_queue d) (n.blocked_on u)
-  unfolding after_open_sleep StandsOnce put_queue
-  stand_at_chan u d =
-      let a = sum_below-put c.threads (times_marked u (chan_queue d)) s.marked t marks g.thread in
-      let e = ap (times_marked u (chan_queue d)) g.unmarked in
-      let f = times_marked-elsewhere u (chan_queue d) q refl woken (s.free_list q) (s.head q) in
-      omega (arith, h.stands_once u (chan_queue d))
-
   stand : StandsOnce c n.lists n.marked n.blocked_on
-  unfolding after_open_sleep StandsOnce
-  stand u = each_queue (λ r. stands u (n.lists r) + sum_below c.threads (λ v. times_marked u r (n.marked v)) ≡ at_queue r (n.blocked_on u)) (stand_at_lock u) (stand_at_chan u)
+  unfolding after_open_sleep
+  stand = stand_less c s h q (with_list side [] (s.lists q)) t g.thread g.unmarked woken fits (stands-less side (s.lists q))
 
   called : FreeWordHasCalled c n.word n.marked n.wait n.called
   unfolding after_open_sleep FreeWordHasCalled callers

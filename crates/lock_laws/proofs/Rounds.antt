@@ -14,7 +14,7 @@ use Rattle.lock_state.specs.Steps.Turnstiles.{round_for, after_enter, after_open
 use Rattle.lock_state.specs.Steps.SleepQueues.{after_enter_sleep, after_open_sleep, after_add, after_wake}
 use Rattle.lock_state.specs.Steps.Lending.{after_claim, after_lend, after_shift, after_end_walk}
 use Rattle.lock_state.specs.Steps.Items.{Item, TurnstileChain, SleepChain, MayTake, MayGive, IsDoneWith, item_with, is_chain, is_bound, in_its_chain, after_take, after_give}
-use Rattle.lock_state.specs.Steps.{Step, Seeks, Looks, TakesItem, GivesItem, Gains, Drops, Stamps, Readies, Unreadies, Enters, Opens, EntersSleepQueue, OpensSleepQueue, Adds, Wakes, Marks, Resumes, Claims, Lends, Shifts, EndsWalk, May, after, chain_of, IsOfRound, FitsRound, NotesInRound, HasOut, HasSeen, IsFloorStep}
+use Rattle.lock_state.specs.Steps.{Step, Seeks, TakesItem, GivesItem, Gains, Stamps, Readies, Unreadies, Enters, EntersSleepQueue, Adds, Marks, Resumes, Claims, May, after, chain_of, IsOfRound, FitsRound, NotesInRound, HasOut, HasSeen, IsFloorStep}
 use Rattle.lock_laws.specs.Rounds.{IsBoundTo, bound_to, BoundHasChain, RoundsAreActing, LawfulRounds, EndsRound}
 use Rattle.lock_laws.proofs.Kit.{columns, put_same, put_other}
 use Rattle.lock_laws.proofs.Items.{with_then, at_itself, beside}
@@ -118,26 +118,15 @@ chain_kept : (chains : ℕ) (c : Config) (s : State) (step : Step) → May c s s
     → BoundHasChain chains c (after c s step).round (item_with (after c s step))
 unfolding after_seek after_look after_gain after_drop after_stamp after_ready after_unready after_enter after_open after_mark after_resume after_enter_sleep after_open_sleep after_add after_wake after_claim after_lend after_shift after_end_walk after_take after_give
 chain_kept chains c s (Seeks t l by_try) g o x h = round_put chains c s h t (Some (round_of l by_try)) (λ k. no_bound_sought k l by_try)
-chain_kept chains c s (Looks t l in_round) g o x h = h
 chain_kept chains c s (TakesItem t i) g o x h = taken chains c s h t i g o.1 (is_chain i) refl
 chain_kept chains c s (GivesItem t i) g o x h = given chains c s h t i g
 chain_kept chains c s (Gains t l mode by_try) g o x h = round_put chains c s h t None no_bound_none
-chain_kept chains c s (Drops t l mode) g o x h = h
 chain_kept chains c s (Stamps t e) g o x h = round_put chains c s h t (round_after e (s.round t)) (λ k. no_bound_noted (s.round t) e k x)
-chain_kept chains c s (Readies t q) g o x h = h
-chain_kept chains c s (Unreadies t q) g o x h = h
 chain_kept chains c s (Enters t l mode y) g o x h = round_put chains c s h t None no_bound_none
-chain_kept chains c s (Opens t l mode) g o x h = h
 chain_kept chains c s (EntersSleepQueue t l mode y) g o x h = round_put chains c s h t None no_bound_none
-chain_kept chains c s (OpensSleepQueue t l mode) g o x h = h
-chain_kept chains c s (Adds t d y) g o x h = h
-chain_kept chains c s (Wakes t d all) g o x h = h
-chain_kept chains c s (Marks t m ms) g o x h = h
 chain_kept chains c s (Resumes t q cause) g o x h = round_put chains c s h t _ (λ k. no_bound_resumed k _)
 chain_kept chains c s (Claims t l y by_try) g o x h = round_put chains c s h t None no_bound_none
-chain_kept chains c s (Lends t l u y) g o x h = h
-chain_kept chains c s (Shifts t u l) g o x h = h
-chain_kept chains c s (EndsWalk t) g o x h = h
+chain_kept chains c s other g o x h = h
 
 -- 2. Who is in a round acts
 
@@ -206,20 +195,14 @@ acting_kept : (chains : ℕ) (c : Config) (s : State) (step : Step) → May c s 
     → RoundsAreActing (after c s step).round (after c s step).blocked_on (after c s step).wait
 unfolding RoundsAreActing after_seek after_look after_gain after_drop after_stamp after_ready after_unready after_enter after_open after_mark after_resume after_enter_sleep after_open_sleep after_add after_wake after_claim after_lend after_shift after_end_walk after_take after_give
 acting_kept chains c s (Seeks t l by_try) g x w h = acting_put s h t (Some (round_of l by_try)) (λ r e. (g.acting.unnamed, g.acting.unwoken))
-acting_kept chains c s (Looks t l in_round) g x w h = h
 acting_kept chains c s (TakesItem t i) g x w h = acting_put s h t _ (λ r e. let p = in_chain_of (is_chain i) (s.round t) r e in h t p.0 p.1)
-acting_kept chains c s (GivesItem t i) g x w h = h
 acting_kept chains c s (Gains t l mode by_try) g x w h = acting_put s h t None (λ r e. absurd cc)
-acting_kept chains c s (Drops t l mode) g x w h = h
 acting_kept chains c s (Stamps t e) g x w h = acting_put s h t (round_after e (s.round t)) (λ r f. let p = noted_of e (s.round t) r f in h t p.0 p.1)
 acting_kept chains c s (Readies t q) g x w h = acting_ready s h t
 acting_kept chains c s (Unreadies t q) g x w h = acting_unready s h t
 acting_kept chains c s (Enters t l mode y) g x w h = acting_stands s h t _
-acting_kept chains c s (Opens t l mode) g x w h = h
 acting_kept chains c s (EntersSleepQueue t l mode y) g x w h = acting_stands s h t _
-acting_kept chains c s (OpensSleepQueue t l mode) g x w h = h
 acting_kept chains c s (Adds t d y) g x w h = acting_sleeps s h t _ x
-acting_kept chains c s (Wakes t d all) g x w h = h
 acting_kept chains c s (Marks t m ms) g x w h = acting_marked s h m.thread m.queue m.cause (mark.blocked_on c s t m ms g w)
 acting_kept chains c s (Resumes t q cause) g x w h = acting_resumed s h t _ (nowhere (s.blocked_on t) (resume.unnamed c s t q cause g w))
   where
@@ -227,9 +210,7 @@ acting_kept chains c s (Resumes t q cause) g x w h = acting_resumed s h t _ (now
     nowhere None f = refl
     nowhere (Some r) f = absurd (f r refl)
 acting_kept chains c s (Claims t l y by_try) g x w h = acting_put s h t None (λ r e. absurd cc)
-acting_kept chains c s (Lends t l u y) g x w h = h
-acting_kept chains c s (Shifts t u l) g x w h = h
-acting_kept chains c s (EndsWalk t) g x w h = h
+acting_kept chains c s other g x w h = h
 
 -- 3. Both
 
@@ -268,27 +249,15 @@ entered_bound (Some r) l k e f = sym (ap lock_of f) ∙ ap lock_of e
 pub ends : (chains : ℕ) (c : Config) (s : State) (step : Step) (t l : ℕ) → May c s step → HasSeen chains c s step → LawfulRounds chains c s → IsBoundTo s t l → IsBoundTo (after c s step) t l ⊎ EndsRound step t l
 unfolding RoundsAreActing after_seek after_look after_gain after_drop after_stamp after_ready after_unready after_enter after_open after_mark after_resume after_enter_sleep after_open_sleep after_add after_wake after_claim after_lend after_shift after_end_walk after_take after_give
 ends chains c s (Seeks u k by_try) t l g x h e = left s u t l _ ⊥ e (λ i. let z : None ≡ Some (bound_to l) = sym g.no_round ∙ ap s.round i ∙ e in cc)
-ends chains c s (Looks u k in_round) t l g x h e = inl e
 ends chains c s (TakesItem u i) t l g x h e =
     inl (elim (cases_eq u t) [
       | inl y ↦ ap (put s.round u _) (sym y) ∙ put_same s.round u _ ∙ taken_bound (is_chain i) (s.round u) l (ap s.round y ∙ e)
       | inr y ↦ put_other s.round u _ t y ∙ e
     ])
-ends chains c s (GivesItem u i) t l g x h e = inl e
 ends chains c s (Gains u k mode by_try) t l g x h e = left s u t l _ _ e (λ i. (i, fits_bound (s.round u) l k by_try (ap s.round i ∙ e) x.0))
-ends chains c s (Drops u k mode) t l g x h e = inl e
 ends chains c s (Stamps u k) t l g x h e = left s u t l _ ⊥ e (λ i. nothing_noted (s.round u) k l (ap s.round i ∙ e) x)
-ends chains c s (Readies u q) t l g x h e = inl e
-ends chains c s (Unreadies u q) t l g x h e = inl e
 ends chains c s (Enters u k mode y) t l g x h e = left s u t l _ _ e (λ i. (i, entered_bound (s.round u) l k (ap s.round i ∙ e) x.round))
-ends chains c s (Opens u k mode) t l g x h e = inl e
 ends chains c s (EntersSleepQueue u k mode y) t l g x h e = left s u t l _ _ e (λ i. (i, entered_bound (s.round u) l k (ap s.round i ∙ e) x.round))
-ends chains c s (OpensSleepQueue u k mode) t l g x h e = inl e
-ends chains c s (Adds u d y) t l g x h e = inl e
-ends chains c s (Wakes u d all) t l g x h e = inl e
-ends chains c s (Marks u m ms) t l g x h e = inl e
 ends chains c s (Resumes u q cause) t l g x h e = left s u t l _ ⊥ e (λ i. let z : false ≡ true = sym ((h.rounds_are_acting u (bound_to l) (ap s.round i ∙ e)).1) ∙ ap is_woken g.woken in cc)
 ends chains c s (Claims u k y by_try) t l g x h e = left s u t l _ _ e (λ i. (i, fits_bound (s.round u) l k by_try (ap s.round i ∙ e) x.0))
-ends chains c s (Lends u k o y) t l g x h e = inl e
-ends chains c s (Shifts u o k) t l g x h e = inl e
-ends chains c s (EndsWalk u) t l g x h e = inl e
+ends chains c s other t l g x h e = inl e

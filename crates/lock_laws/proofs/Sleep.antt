@@ -1,18 +1,19 @@
 -- An add to a channel, and a wake there, keep each fact.
-use Rattle.std.proofs.Common.{◌≡◌, ℕ, ◌+◌, ◌≤◌, Bool, true, false, eqb, List, length, Option, Some, None, refl, sym, ap, inl, inr, arith, ◌∙◌}
-use Rattle.std.proofs.lemmas.Bool.{cases_eq, ne_eqb}
-use Rattle.lock_model.specs.Counts.{one, some, times, at_option, sum_below}
+use Rattle.std.proofs.Common.{◌≡◌, ℕ, ◌+◌, ◌≤◌, Bool, true, false, eqb, List, length, Option, Some, None, refl, sym, ap, arith, ◌∙◌}
+use Rattle.lock_model.specs.Counts.{one, some, times, at_option}
 use Rattle.lock_state.specs.State.{State, put_queue}
 use Rattle.lock_model.specs.Config.{Config}
-use Rattle.lock_model.specs.Queues.{Waiter, Lists, Mark, lock_queue, chan_queue, stands, head_with, free_with, dealt, free_after, head_after}
+use Rattle.lock_model.specs.Queues.{Waiter, Lists, Mark, chan_queue, stands, times_waiting, head_with, free_with, dealt, free_after, head_after}
 use Rattle.lock_state.specs.Steps.SleepQueues.{MayAdd, MayWake, after_add, after_wake, with_last, taken_off, left_on}
 use Rattle.lock_state.specs.Facts.{Lawful, OneTurnstileEach, OneSleepQueueEach, TurnstileIsLent, SleepQueueIsLent, HeadsFitWaiters, BitsShowWaiters, ListsAscend, MutexWaitersAreExclusive, StandsOnce, OnlyThreadsStand, StandingIsQueued, StandingWants, CalledWants, StandingIsUncalled, FreeWordHasCalled, OwnersHold, ChannelsHaveNoOwner, LoansAreLeast, LoansAreOnHeads, KeptIsEffective, KeptIsKnown}
 use Rattle.lock_state.specs.Facts.Queues.{turnstile_places, sleep_queue_places, times_object, HeadFits}
-use Rattle.lock_state.specs.Facts.Waits.{callers, calls_marked, times_marked, at_queue}
+use Rattle.lock_state.specs.Facts.Waits.{callers, calls_marked}
 use Rattle.lock_model.specs.declared.plan.QueueName.{QueueName}
-use Rattle.lock_laws.proofs.Kit.{columns, put_chan_same, put_chan_other, put_same, put_other, sum_below-put, sum_below-put_chan, each_queue}
-use Rattle.lock_laws.proofs.Queues.{no_turnstiles-dealt, all_sleep_queues-dealt, times_marked-dealt, times_marked-elsewhere, length-after, headless-after}
-use Rattle.lock_laws.proofs.Sleepers.{times_waiting-last, length-last, times-taken, length-taken}
+use Rattle.lock_model.specs.declared.plan.Side.TheVariants.{X}
+use Rattle.lock_laws.proofs.Kit.{columns, sum_below-put, sum_below-put_chan}
+use Rattle.lock_laws.proofs.OneQueue.{heads_put_owned, stand_more, stand_less}
+use Rattle.lock_laws.proofs.Queues.{no_turnstiles-dealt, all_sleep_queues-dealt, length-after, headless-after}
+use Rattle.lock_laws.proofs.Sleepers.{stands-last, length-last, times-taken, length-taken}
 
 -- the object that is lent goes to the head or the free list
 lent_object : (n x : ℕ) (head : Option ℕ) (free : List ℕ) → at_option n (head_with head x) + times n (free_with head x free) ≡ one (eqb n x) + (at_option n head + times n free)
@@ -69,17 +70,9 @@ module _ (c : Config) (s : State) (t d x : ℕ) (g : MayAdd c s t d x) (h : Lawf
   unfolding after_add SleepQueueIsLent
   sleep_queue_lent u = grind (arith, columns, h.sleep_queue_is_lent u)
 
-  heads_of_chans : (k : ℕ) → HeadFits (n.lists (chan_queue k)) (n.free_list (chan_queue k)) (n.head (chan_queue k)) (n.owner (chan_queue k))
-  unfolding after_add HeadsFitWaiters
-  heads_of_chans k =
-      elim (cases_eq d k) [
-        | inl e ↦ rw (← e) (simp put_chan_same (added_fits new (s.lists q) (s.free_list q) (s.head q) (s.owner q) x (h.heads_fit_waiters q)))
-        | inr e ↦ rw (put_chan_other s.lists d lists k e, put_chan_other s.free_list d (free_with (s.head q) x (s.free_list q)) k e, put_chan_other s.head d (head_with (s.head q) x) k e) (h.heads_fit_waiters (chan_queue k))
-      ]
-
   heads : HeadsFitWaiters n.lists n.free_list n.head n.owner
-  unfolding after_add HeadsFitWaiters put_queue
-  heads = each_queue (λ r. HeadFits (n.lists r) (n.free_list r) (n.head r) (n.owner r)) (λ l. h.heads_fit_waiters (lock_queue l)) heads_of_chans
+  unfolding after_add HeadsFitWaiters
+  heads = heads_put_owned c s h q lists _ _ (added_fits new (s.lists q) (s.free_list q) (s.head q) (s.owner q) x (h.heads_fit_waiters q))
 
   bits : BitsShowWaiters n.word n.lists
   unfolding after_add BitsShowWaiters put_queue
@@ -93,21 +86,9 @@ module _ (c : Config) (s : State) (t d x : ℕ) (g : MayAdd c s t d x) (h : Lawf
   unfolding after_add MutexWaitersAreExclusive put_queue
   mutex_waiters l = h.mutex_waiters_are_exclusive l
 
-  stand_at_lock : (u l : ℕ) → stands u (s.lists (lock_queue l)) + sum_below c.threads (λ v. times_marked u (lock_queue l) (s.marked v)) ≡ at_queue (lock_queue l) (n.blocked_on u)
-  unfolding after_add StandsOnce
-  stand_at_lock u l = grind (arith, columns, h.stands_once u (lock_queue l))
-
-  stand_at_chan : (u k : ℕ) → stands u (n.lists (chan_queue k)) + sum_below c.threads (λ v. times_marked u (chan_queue k) (n.marked v)) ≡ at_queue (chan_queue k) (n.blocked_on u)
-  unfolding after_add StandsOnce
-  stand_at_chan u k =
-      elim (cases_eq d k) [
-        | inl e ↦ rw (← e, put_chan_same s.lists d lists) (let a = times_waiting-last u new (s.lists q).exclusive in grind (arith, put_same, put_other, h.stands_once u q))
-        | inr e ↦ rw (put_chan_other s.lists d lists k e) (let a = ne_eqb k d (λ i. e (sym i)) in grind (arith, put_same, put_other, h.stands_once u (chan_queue k)))
-      ]
-
   stand : StandsOnce c n.lists n.marked n.blocked_on
-  unfolding after_add StandsOnce put_queue
-  stand u = each_queue (λ r. stands u (n.lists r) + sum_below c.threads (λ v. times_marked u r (n.marked v)) ≡ at_queue r (n.blocked_on u)) (stand_at_lock u) (stand_at_chan u)
+  unfolding after_add
+  stand = stand_more c s h q lists t g.unnamed (stands-last X new (s.lists q))
 
   threads_stand : OnlyThreadsStand c n.blocked_on
   unfolding after_add OnlyThreadsStand
@@ -197,17 +178,9 @@ module _ (c : Config) (s : State) (t d : ℕ) (all : Bool) (g : MayWake c s t d 
       let f = all_sleep_queues-dealt c k r refl woken (s.free_list r) (s.head r) in
       omega (arith, h.one_sleep_queue_each k)
 
-  wake_heads_of_chans : (k : ℕ) → HeadFits (m.lists (chan_queue k)) (m.free_list (chan_queue k)) (m.head (chan_queue k)) (m.owner (chan_queue k))
-  unfolding after_wake HeadsFitWaiters ChannelsHaveNoOwner
-  wake_heads_of_chans k =
-      elim (cases_eq d k) [
-        | inl e ↦ rw (← e) (simp put_chan_same (taken_fits all (s.lists r) (s.free_list r) (s.head r) (s.owner r) (h.channels_have_no_owner d) (h.heads_fit_waiters r)))
-        | inr e ↦ rw (put_chan_other s.lists d stay k e, put_chan_other s.free_list d (free_after woken (s.free_list r)) k e, put_chan_other s.head d (head_after woken (s.free_list r) (s.head r)) k e) (h.heads_fit_waiters (chan_queue k))
-      ]
-
   wake_heads : HeadsFitWaiters m.lists m.free_list m.head m.owner
-  unfolding after_wake HeadsFitWaiters put_queue
-  wake_heads = each_queue (λ i. HeadFits (m.lists i) (m.free_list i) (m.head i) (m.owner i)) (λ l. h.heads_fit_waiters (lock_queue l)) wake_heads_of_chans
+  unfolding after_wake HeadsFitWaiters ChannelsHaveNoOwner
+  wake_heads = heads_put_owned c s h r stay _ _ (taken_fits all (s.lists r) (s.free_list r) (s.head r) (s.owner r) (h.channels_have_no_owner d) (h.heads_fit_waiters r))
 
   wake_bits : BitsShowWaiters m.word m.lists
   unfolding after_wake BitsShowWaiters put_queue
@@ -221,34 +194,12 @@ module _ (c : Config) (s : State) (t d : ℕ) (all : Bool) (g : MayWake c s t d 
   unfolding after_wake MutexWaitersAreExclusive put_queue
   wake_mutex_waiters l = h.mutex_waiters_are_exclusive l
 
-  wake_stand_at_lock : (u l : ℕ) → stands u (s.lists (lock_queue l)) + sum_below c.threads (λ v. times_marked u (lock_queue l) (m.marked v)) ≡ at_queue (lock_queue l) (s.blocked_on u)
-  unfolding after_wake StandsOnce
-  wake_stand_at_lock u l =
-      let a = sum_below-put c.threads (times_marked u (lock_queue l)) s.marked t marks g.thread in
-      let e = ap (times_marked u (lock_queue l)) g.unmarked in
-      let f = times_marked-elsewhere u (lock_queue l) r refl woken (s.free_list r) (s.head r) in
-      omega (arith, h.stands_once u (lock_queue l))
-
-  wake_stand_at_chan : (u k : ℕ) → stands u (m.lists (chan_queue k)) + sum_below c.threads (λ v. times_marked u (chan_queue k) (m.marked v)) ≡ at_queue (chan_queue k) (s.blocked_on u)
-  unfolding after_wake StandsOnce
-  wake_stand_at_chan u k =
-      let a = sum_below-put c.threads (times_marked u (chan_queue k)) s.marked t marks g.thread in
-      let e = ap (times_marked u (chan_queue k)) g.unmarked in
-      elim (cases_eq d k) [
-        | inl i ↦
-            let b = times-taken u all (s.lists r).exclusive in
-            let f = times_marked-dealt u r woken (s.free_list r) (s.head r) fits in
-            let a2 = rw (← i) at a in
-            let e2 = rw (← i) at e in
-            rw (← i, put_chan_same s.lists d stay) (omega (arith, h.stands_once u r))
-        | inr i ↦
-            let f = times_marked-elsewhere u (chan_queue k) r (ne_eqb k d (λ j. i (sym j))) woken (s.free_list r) (s.head r) in
-            rw (put_chan_other s.lists d stay k i) (omega (arith, h.stands_once u (chan_queue k)))
-      ]
+  less : (u : ℕ) → stands u stay + times_waiting u woken ≡ stands u (s.lists r)
+  less u = omega (arith, times-taken u all (s.lists r).exclusive)
 
   wake_stand : StandsOnce c m.lists m.marked m.blocked_on
-  unfolding after_wake StandsOnce put_queue
-  wake_stand u = each_queue (λ i. stands u (m.lists i) + sum_below c.threads (λ v. times_marked u i (m.marked v)) ≡ at_queue i (m.blocked_on u)) (wake_stand_at_lock u) (wake_stand_at_chan u)
+  unfolding after_wake
+  wake_stand = stand_less c s h r stay t g.thread g.unmarked woken fits less
 
   wake_called : FreeWordHasCalled c m.word m.marked m.wait m.called
   unfolding after_wake FreeWordHasCalled callers
