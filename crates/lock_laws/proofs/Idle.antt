@@ -15,7 +15,7 @@ use Rattle.lock_model.specs.Queues.{Mark, stands}
 use Rattle.lock_state.specs.State.{State, Queued}
 use Rattle.lock_state.specs.Facts.{LawfulTurn, QueuedStands, StandsOnce}
 use Rattle.lock_state.specs.Facts.Waits.{times_marked, at_queue}
-use Rattle.lock_state.specs.Run.{Run, Row, Course, turn_of, run_behind, run_after, has_ended, owes, is_walking, holds_none, round_of, threads_of, with_turn, after_turn, go_on, is_over, is_stuck, is_idle, course_after}
+use Rattle.lock_state.specs.Run.{Run, Row, Course, nothing, turn_of, run_behind, run_after, has_ended, owes, is_walking, holds_none, round_of, threads_of, with_turn, after_turn, go_on, is_over, is_stuck, is_idle, course_after}
 use Rattle.lock_model.specs.declared.plan.Plan.{Plan}
 use Rattle.lock_model.specs.declared.plan.QueueName.{QueueName}
 use Rattle.lock_model.specs.declared.turn.StepKind.{StepKind}
@@ -64,85 +64,66 @@ ended_unmarked plan r t e =
     go (m ∷ ms) true i = absurd cc
     go (m ∷ ms) false i = absurd cc
 
-module _ (plan : Plan) (r : Run) (t : ℕ) (p : IsProper plan) (k : IsOnTrack plan r) where
-  -- an idle row is of a thread that sleeps
-  idle : (row : Row) → table.Fits plan r t row → row.answer ≡ Idle → IsSleeping plan r t
-  idle _ (table.is_over e) i = absurd cc
-  idle _ (table.lends l o h w e f) i = absurd cc
-  idle _ (table.ends_at_lock l w e) i = absurd cc
-  idle _ (table.shifts o l w e f) i = absurd cc
-  idle _ (table.ends_at_thread o w f) i = absurd cc
-  idle _ (table.marks m ms w e) i = absurd cc
-  idle _ (table.is_queued e f q) i = record { going = e; queued = q; no_walk = f.no_walk; unmarked = f.unmarked }
-  idle _ (table.resumes q cause f e) i = absurd cc
-  idle _ (table.gains l mode a e) i = absurd cc
-  idle _ (table.enters l mode a e) i = absurd cc
-  idle _ (table.drops l a e) i = absurd cc
-  idle _ (table.opens l a e) i = absurd cc
-  idle _ (table.makes_entry op e a n) i = absurd cc
-  idle _ (table.has_no_operation e a) i = absurd (let z = sym e ∙ no_operation_left plan r t p k a in cc)
-  idle _ (table.is_not_run op a e) i = absurd (none-some _ (sym (e (length plan.locks) _) ∙ fit plan r t p op a.next))
+-- what a row answers: that the thread has ended, that it is idle, and then it sleeps in a proper plan's run on track, or what it did
+data Answers (plan : Plan) (r : Run) (t : ℕ) (row : Row) : Type 0 where
+  ended : row ≡ nothing Ended → has_ended plan r t ≡ true → Answers plan r t row
+  idles : row ≡ nothing Idle → (IsProper plan → IsOnTrack plan r → IsSleeping plan r t) → Answers plan r t row
+  acts : (kind : StepKind) → row.answer ≡ Did kind → Answers plan r t row
+
+module _ (plan : Plan) (r : Run) (t : ℕ) where
+  answered : (row : Row) → table.Fits plan r t row → Answers plan r t row
+  answered _ (table.is_over e) = ended refl e
+  answered _ (table.lends l o h w e f) = acts _ refl
+  answered _ (table.ends_at_lock l w e) = acts _ refl
+  answered _ (table.shifts o l w e f) = acts _ refl
+  answered _ (table.ends_at_thread o w f) = acts _ refl
+  answered _ (table.marks m ms w e) = acts _ refl
+  answered _ (table.is_queued e f q) = idles refl (λ p k. record { going = e; queued = q; no_walk = f.no_walk; unmarked = f.unmarked })
+  answered _ (table.resumes q cause f e) = acts _ refl
+  answered _ (table.gains l mode i e) = acts _ refl
+  answered _ (table.enters l mode i e) = acts _ refl
+  answered _ (table.drops l i e) = acts _ refl
+  answered _ (table.opens l i e) = acts _ refl
+  answered _ (table.makes_entry op e i n) = acts _ refl
+  answered _ (table.has_no_operation e i) = idles refl (λ p k. absurd (let z = sym e ∙ no_operation_left plan r t p k i in cc))
+  answered _ (table.is_not_run op i e) = idles refl (λ p k. absurd (none-some _ (sym (e (length plan.locks) _) ∙ fit plan r t p op i.next)))
+
+  answer : Answers plan r t (turn_of plan r t)
+  answer = answered (turn_of plan r t) (table.fits plan r t)
+
+  where_idle : (row : Row) → Answers plan r t row → IsProper plan → IsOnTrack plan r → row.answer ≡ Idle → IsSleeping plan r t
+  where_idle row (ended f e) p k i = absurd (let z = ap (λ (x : Row). x.answer) (sym f) ∙ i in cc)
+  where_idle row (idles f sleeps) p k i = sleeps p k
+  where_idle row (acts kind e) p k i = absurd (let z = sym e ∙ i in cc)
 
   sleeping : IsSleeping plan r t → (turn_of plan r t).answer ≡ Idle
   unfolding turn_of
   sleeping z = rw (z.going, z.no_walk, z.unmarked, z.queued) refl
 
-  idle_here : (turn_of plan r t).answer ≡ Idle ↔ IsSleeping plan r t
-  idle_here = (idle (turn_of plan r t) (table.fits plan r t), sleeping)
-
-pub idle_exactly : (plan : Plan) (r : Run) (t : ℕ) → IsProper plan → IsOnTrack plan r → (turn_of plan r t).answer ≡ Idle ↔ IsSleeping plan r t
-idle_exactly plan r t p k = idle_here plan r t p k
-
--- a row that does something
-does_something : (kind : StepKind) → (Did kind ≡ Idle) ⊎ (Did kind ≡ Ended) → ⊥
-does_something kind (inl e) = absurd cc
-does_something kind (inr e) = absurd cc
-
-module _ (plan : Plan) (r : Run) (t : ℕ) where
-  over : (row : Row) → table.Fits plan r t row → row.answer ≡ Ended → has_ended plan r t ≡ true
-  over _ (table.is_over e) i = e
-  over _ (table.lends l o h w e f) i = absurd cc
-  over _ (table.ends_at_lock l w e) i = absurd cc
-  over _ (table.shifts o l w e f) i = absurd cc
-  over _ (table.ends_at_thread o w f) i = absurd cc
-  over _ (table.marks m ms w e) i = absurd cc
-  over _ (table.is_queued e f q) i = absurd cc
-  over _ (table.resumes q cause f e) i = absurd cc
-  over _ (table.gains l mode a e) i = absurd cc
-  over _ (table.enters l mode a e) i = absurd cc
-  over _ (table.drops l a e) i = absurd cc
-  over _ (table.opens l a e) i = absurd cc
-  over _ (table.makes_entry op e a n) i = absurd cc
-  over _ (table.has_no_operation e a) i = absurd cc
-  over _ (table.is_not_run op a e) i = absurd cc
+  over : (row : Row) → Answers plan r t row → row.answer ≡ Ended → has_ended plan r t ≡ true
+  over row (ended f e) i = e
+  over row (idles f sleeps) i = absurd (let z = ap (λ (x : Row). x.answer) (sym f) ∙ i in cc)
+  over row (acts kind e) i = absurd (let z = sym e ∙ i in cc)
 
   over_answer : has_ended plan r t ≡ true → (turn_of plan r t).answer ≡ Ended
   unfolding turn_of
   over_answer e = rw e refl
 
-  same_run : (row : Row) → table.Fits plan r t row → (row.answer ≡ Idle) ⊎ (row.answer ≡ Ended) → run_after (config_of plan) r t row ≡ r
-  same_run _ (table.is_over e) i = refl
-  same_run _ (table.lends l o h w e f) i = absurd (does_something _ i)
-  same_run _ (table.ends_at_lock l w e) i = absurd (does_something _ i)
-  same_run _ (table.shifts o l w e f) i = absurd (does_something _ i)
-  same_run _ (table.ends_at_thread o w f) i = absurd (does_something _ i)
-  same_run _ (table.marks m ms w e) i = absurd (does_something _ i)
-  same_run _ (table.is_queued e f q) i = refl
-  same_run _ (table.resumes q cause f e) i = absurd (does_something _ i)
-  same_run _ (table.gains l mode a e) i = absurd (does_something _ i)
-  same_run _ (table.enters l mode a e) i = absurd (does_something _ i)
-  same_run _ (table.drops l a e) i = absurd (does_something _ i)
-  same_run _ (table.opens l a e) i = absurd (does_something _ i)
-  same_run _ (table.makes_entry op e a n) i = absurd (does_something _ i)
-  same_run _ (table.has_no_operation e a) i = refl
-  same_run _ (table.is_not_run op a e) i = refl
+  same_run : (row : Row) → Answers plan r t row → (row.answer ≡ Idle) ⊎ (row.answer ≡ Ended) → run_after (config_of plan) r t row ≡ r
+  same_run row (ended f e) i = ap (run_after (config_of plan) r t) f
+  same_run row (idles f sleeps) i = ap (run_after (config_of plan) r t) f
+  same_run row (acts kind e) (inl i) = absurd (let z = sym e ∙ i in cc)
+  same_run row (acts kind e) (inr i) = absurd (let z = sym e ∙ i in cc)
+
+pub idle_exactly : (plan : Plan) (r : Run) (t : ℕ) → IsProper plan → IsOnTrack plan r → (turn_of plan r t).answer ≡ Idle ↔ IsSleeping plan r t
+idle_exactly plan r t p k = (where_idle plan r t (turn_of plan r t) (answer plan r t) p k, sleeping plan r t)
 
 pub ended_exactly : (plan : Plan) (r : Run) (t : ℕ) → (turn_of plan r t).answer ≡ Ended ↔ has_ended plan r t ≡ true
-ended_exactly plan r t = (over plan r t (turn_of plan r t) (table.fits plan r t), over_answer plan r t)
+ended_exactly plan r t = (over plan r t (turn_of plan r t) (answer plan r t), over_answer plan r t)
 
 pub changes_nothing : (plan : Plan) (r : Run) (t : ℕ) → ((turn_of plan r t).answer ≡ Idle) ⊎ ((turn_of plan r t).answer ≡ Ended) → run_behind plan r t ≡ r
 unfolding run_behind
-changes_nothing plan r t e = same_run plan r t (turn_of plan r t) (table.fits plan r t) e
+changes_nothing plan r t e = same_run plan r t (turn_of plan r t) (answer plan r t) e
 
 -- 2. A round
 

@@ -6,9 +6,9 @@ use Rattle.lock_model.specs.Counts.{sum_below}
 use Rattle.lock_model.specs.Plans.{config_of, operations_of}
 use Rattle.lock_model.specs.Operations.{IsProper, hold_in, held_behind, held_of}
 use Rattle.lock_model.specs.Config.{Config}
-use Rattle.lock_model.specs.Holds.{NotHeld}
+use Rattle.lock_model.specs.Holds.{Hold, NotHeld}
 use Rattle.lock_model.specs.History.{open_in, sections_in, sections_by}
-use Rattle.lock_model.specs.Queues.{Lists}
+use Rattle.lock_model.specs.Queues.{Lists, Mark}
 use Rattle.lock_state.specs.State.{State, Running, Walk, Loan, Wake, put, put_at}
 use Rattle.lock_state.specs.Steps.LockWords.{IsActing, is_woken, unstamped_after, after_stamp}
 use Rattle.lock_state.specs.Facts.{Lawful, NothingIsOut, QueuedStands, StandingIsQueued}
@@ -21,6 +21,7 @@ use Rattle.lock_model.specs.declared.plan.Plan.{Plan}
 use Rattle.lock_model.specs.declared.plan.QueueName.{QueueName}
 use Rattle.lock_model.specs.declared.numbers.LockNo.{LockNo}
 use Rattle.lock_model.specs.declared.event.Event.{Event}
+use Rattle.lock_model.specs.declared.event.Entry.{Entry}
 use Rattle.lock_model.specs.declared.event.Held.{Held}
 use Rattle.lock_laws.specs.OnTrack.{IsOnTrack, IsCall, WokenByCall}
 use Rattle.lock_laws.proofs.Kit.{at_put, put_same, put_other, sum_below-put}
@@ -76,28 +77,31 @@ still plan r k walk loan loan_home effective lists = record {
   stamped = k.stamped;
 }
 
--- a state behind the end of an operation of t, the thread's next one, which made one entry; nobody's waiting has changed
-pub record EndsWell (plan : Plan) (r : Run) (t : ℕ) (s : State) : Type 0 where
-  pub nothing_out : NothingIsOut s.turnstile_chain_with s.sleep_chain_with s.record_with s.cell_with s.graph_with
-  pub wait : s.wait ≡ r.state.wait
-  pub blocked_on : s.blocked_on ≡ r.state.blocked_on
+-- what the end of an operation of t, its next one, leaves in the columns that it changes; it made one entry
+pub record EndsWell (plan : Plan) (r : Run) (t : ℕ) (history : List Entry) (held : ℕ → ℕ → Hold) (has_begun : ℕ → ℕ → Bool) (wanted : ℕ → Option ℕ) (marked : ℕ → List Mark) (unstamped : ℕ → Option Wake) : Type 0 where
   pub left : r.next_op t < length (operations_of plan t)
-  pub entry : length s.history ≡ suc (length r.state.history)
-  pub own_holds : (l : ℕ) → s.held t l ≡ hold_in (held_of (length plan.locks) (operations_of plan t) (suc (r.next_op t))) l
-  pub other_holds : (u l : ℕ) → (t ≡ u → ⊥) → s.held u l ≡ r.state.held u l
-  pub sections : (u l : ℕ) → open_in (config_of plan) s.history u l ≡ s.held u l
-  pub begun : (u l : ℕ) → s.held u l ≢ NotHeld → s.has_begun u l ≡ true
-  pub own_wants : s.wanted t ≡ None
-  pub other_wants : (u : ℕ) → (t ≡ u → ⊥) → s.wanted u ≡ r.state.wanted u
-  pub marked : (u : ℕ) → All (λ m. IsCall m.queue m.cause) (s.marked u)
-  pub stamped : (u : ℕ) → s.unstamped u ≡ None
+  pub entry : length history ≡ suc (length r.state.history)
+  pub own_holds : (l : ℕ) → held t l ≡ hold_in (held_of (length plan.locks) (operations_of plan t) (suc (r.next_op t))) l
+  pub other_holds : (u l : ℕ) → (t ≡ u → ⊥) → held u l ≡ r.state.held u l
+  pub sections : (u l : ℕ) → open_in (config_of plan) history u l ≡ held u l
+  pub begun : (u l : ℕ) → held u l ≢ NotHeld → has_begun u l ≡ true
+  pub own_wants : wanted t ≡ None
+  pub other_wants : (u : ℕ) → (t ≡ u → ⊥) → wanted u ≡ r.state.wanted u
+  pub calls : (u : ℕ) → All (λ m. IsCall m.queue m.cause) (marked u)
+  pub stamped : (u : ℕ) → unstamped u ≡ None
+
+-- nobody's waiting changes, and nothing goes out
+pub record LeavesWaits (s n : State) : Type 0 where
+  pub wait : n.wait ≡ s.wait
+  pub blocked_on : n.blocked_on ≡ s.blocked_on
+  pub nothing_out : NothingIsOut n.turnstile_chain_with n.sleep_chain_with n.record_with n.cell_with n.graph_with
 
 -- with its thread at the next operation
-pub goes_on : (plan : Plan) (r : Run) (t : ℕ) (s : State) → IsOnTrack plan r → t < length plan.threads → EndsWell plan r t s
-    → KeepsTrack plan (record { state = s; next_op = put r.next_op t (suc (r.next_op t)) })
-goes_on plan r t s k lt w = record {
-  nothing_out = w.nothing_out;
-  queued_stands = rw (w.wait, w.blocked_on) k.lawful.queued_stands;
+pub goes_on : (plan : Plan) (r : Run) (t : ℕ) (s : State) → IsOnTrack plan r → t < length plan.threads → LeavesWaits r.state s
+    → EndsWell plan r t s.history s.held s.has_begun s.wanted s.marked s.unstamped → KeepsTrack plan (record { state = s; next_op = put r.next_op t (suc (r.next_op t)) })
+goes_on plan r t s k lt still w = record {
+  nothing_out = still.nothing_out;
+  queued_stands = rw (still.wait, still.blocked_on) k.lawful.queued_stands;
   within = at_put (λ v n. n ≤ length (operations_of plan v)) r.next_op t (suc (r.next_op t)) w.left (λ v ne. k.within v);
   entries =
       let risen : sum_below (length plan.threads) next_op + r.next_op t ≡ sum_below (length plan.threads) r.next_op + suc (r.next_op t) = sum_below-put (length plan.threads) (λ n. n) r.next_op t (suc (r.next_op t)) lt in
@@ -110,8 +114,8 @@ goes_on plan r t s k lt w = record {
   wants = λ u l. at_put (λ v n. s.wanted v ≡ Some l → slice_get (operations_of plan v) n ≡ Some (Take (record { 0 = l }) Excl)) r.next_op t (suc (r.next_op t))
       (λ e. absurd (let z : None ≡ Some l = sym w.own_wants ∙ e in cc))
       (λ v ne e. k.wants v l (sym (w.other_wants v ne) ∙ e)) u;
-  woken = λ u. rw w.wait (k.woken u);
-  marked = w.marked;
+  woken = λ u. rw still.wait (k.woken u);
+  marked = w.calls;
   stamped = w.stamped;
 }
   where

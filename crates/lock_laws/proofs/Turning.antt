@@ -24,7 +24,7 @@ use Rattle.lock_laws.proofs.Kit.{sum_below-zero}
 use Rattle.lock_laws.proofs.Steps.{all_keep, all_reach}
 use Rattle.lock_laws.proofs.StateAtStart as start
 use Rattle.lock_laws.proofs.Follows.{followed, still_no_sleeps}
-use Rattle.lock_laws.proofs.OnTrack.{KeepsTrack, still, goes_on as at_end, fit}
+use Rattle.lock_laws.proofs.OnTrack.{KeepsTrack, still, fit}
 use Rattle.lock_laws.proofs.Table as table
 use Rattle.lock_laws.proofs.TurnsOfWalks as walks
 use Rattle.lock_laws.proofs.TurnsOfWaits as waits
@@ -85,15 +85,15 @@ module _ (plan : Plan) (r : Run) (t : ℕ) (p : IsProper plan) (k : IsOnTrack pl
   made _ (table.marks m ms w e) = record { may = (waits.may_mark plan r t k lt m ms e, tt); keeps = waits.marked plan r t k lt m ms e }
   made _ (table.is_queued e f i) = record { may = tt; keeps = unmoved }
   made _ (table.resumes q cause f e) = record { may = (waits.may_resume plan r t k lt q cause e, tt); keeps = waits.resumed plan r t k lt q cause e }
-  made _ (table.gains l Excl i e) = record { may = locks.may_gain_all plan r t p k lt l i e; keeps = at_end plan r t _ k lt (locks.gained plan r t p k lt l i) }
+  made _ (table.gains l Excl i e) = record { may = locks.may_gain_all plan r t p k lt l i e; keeps = locks.gained plan r t p k lt l i }
   made _ (table.gains l Shared i e) = absurd (none-some _ (fit plan r t p (Take l Shared) i.next))
   made _ (table.enters l Excl i e) = record { may = locks.may_block_all plan r t p k lt l i e; keeps = locks.blocked plan r t p k lt l i }
   made _ (table.enters l Shared i e) = absurd (none-some _ (fit plan r t p (Take l Shared) i.next))
-  made _ (table.drops l i e) = record { may = locks.may_drop_all plan r t p k lt l i e; keeps = at_end plan r t _ k lt (locks.dropped plan r t p k lt l i) }
-  made _ (table.opens l i e) = record { may = locks.may_open_all plan r t p k lt l i e; keeps = at_end plan r t _ k lt (locks.opened plan r t p k lt l i) }
+  made _ (table.drops l i e) = record { may = locks.may_drop_all plan r t p k lt l i e; keeps = locks.dropped plan r t p k lt l i }
+  made _ (table.opens l i e) = record { may = locks.may_open_all plan r t p k lt l i e; keeps = locks.opened plan r t p k lt l i }
   made _ (table.makes_entry op e i n) =
       let noted = noting.is_noted plan r t p k lt op e n i.next in
-      record { may = (noting.may_note plan r t p k lt op e i.running noted, tt); keeps = at_end plan r t _ k lt (noting.noted plan r t p k lt op e i.next noted) }
+      record { may = (noting.may_note plan r t p k lt op e i.running noted, tt); keeps = noting.noted plan r t p k lt op e i.next noted }
   made _ (table.has_no_operation e i) = record { may = tt; keeps = unmoved }
   made _ (table.is_not_run op i e) = record { may = tt; keeps = unmoved }
 

@@ -17,7 +17,7 @@ use Rattle.lock_state.specs.Steps.LockWords.{is_woken, MayGain, MayDrop, MayStam
 use Rattle.lock_state.specs.Steps.Turnstiles.{MayEnter, MayOpen, after_enter, after_open}
 use Rattle.lock_state.specs.Facts.{FreeMutexShowsNone, QueuedStands}
 use Rattle.lock_state.specs.Facts.Waits.{busy}
-use Rattle.lock_state.specs.Run.{Run, blocks, mode_held, run_after}
+use Rattle.lock_state.specs.Run.{Run, ends, blocks, mode_held, run_after}
 use Rattle.lock_model.specs.declared.plan.Kind.{Kind}
 use Rattle.lock_model.specs.declared.plan.Kind.TheVariants.{Mtx}
 use Rattle.lock_model.specs.declared.plan.Mode.{Mode}
@@ -25,6 +25,7 @@ use Rattle.lock_model.specs.declared.plan.Mode.TheVariants.{Excl}
 use Rattle.lock_model.specs.declared.plan.Op.TheVariants.{Take, Release}
 use Rattle.lock_model.specs.declared.plan.Plan.{Plan}
 use Rattle.lock_model.specs.declared.numbers.LockNo.{LockNo}
+use Rattle.lock_model.specs.declared.turn.StepKind.TheVariants as kind
 use Rattle.lock_model.specs.declared.event.Event.TheVariants as event
 use Rattle.lock_model.specs.declared.event.Held.{Held}
 use Rattle.lock_laws.specs.OnTrack.{IsOnTrack, IsCall, WokenByCall}
@@ -32,7 +33,7 @@ use Rattle.lock_laws.proofs.Kit.{columns, at_put, put_same, put_other, put_at_sa
 use Rattle.lock_laws.proofs.Words.{free_is}
 use Rattle.lock_laws.proofs.HeldLists.{TakeFits, take_fits, release_fits, hold_in-push, hold_in-without}
 use Rattle.lock_laws.proofs.AtTurn.{has_turnstile}
-use Rattle.lock_laws.proofs.OnTrack.{KeepsTrack, EndsWell, put_at_own, own_section, other_section, stamped_behind, unnamed, acting, before, behind, Next, left, fit, are_locks, wants_none, wants_this}
+use Rattle.lock_laws.proofs.OnTrack.{KeepsTrack, EndsWell, goes_on, put_at_own, own_section, other_section, stamped_behind, unnamed, acting, before, behind, Next, left, fit, are_locks, wants_none, wants_this}
 use Rattle.lock_laws.proofs.Table.{IsAt}
 
 -- a word of a mutex that is not held shows no waiters
@@ -97,7 +98,7 @@ module _ (plan : Plan) (r : Run) (t : ℕ) (p : IsProper plan) (k : IsOnTrack pl
       thread = lt;
       lock = finds.lock;
       admitted = e;
-      plainly = ap (λ (kind : Kind). is_plain kind (s.word l.0) Excl) (p.mutexes l.0) ∙ plain_mutex (s.word l.0) (k.lawful.lawful.free_mutex_shows_none l.0 (p.mutexes l.0)) e;
+      plainly = ap (λ (x : Kind). is_plain x (s.word l.0) Excl) (p.mutexes l.0) ∙ plain_mutex (s.word l.0) (k.lawful.lawful.free_mutex_shows_none l.0 (p.mutexes l.0)) e;
       unheld = k.holds t l.0 ∙ finds.unheld;
       acting = acting plan r t k i.running;
       wants = wants_this plan r t k l Excl i.next;
@@ -139,12 +140,9 @@ module _ (plan : Plan) (r : Run) (t : ℕ) (p : IsProper plan) (k : IsOnTrack pl
     unfolding after_gain after_stamp
     gained_begun u j = grind (arith, columns, k.begun u j)
 
-    pub gained : EndsWell plan r t noted_state
+    pub gained : KeepsTrack plan (run_after c r t (ends r t kind.Gain (Gains t l.0 Excl false ∷ Stamps t (event.Locked l Excl) ∷ [])))
     unfolding after_gain after_stamp
-    gained = record {
-      nothing_out = k.lawful.nothing_out;
-      wait = refl;
-      blocked_on = refl;
+    gained = goes_on plan r t noted_state k lt (record { wait = refl; blocked_on = refl; nothing_out = k.lawful.nothing_out }) (record {
       left = left plan r t (Take l Excl) i.next;
       entry = refl;
       own_holds = gained_holds;
@@ -153,9 +151,9 @@ module _ (plan : Plan) (r : Run) (t : ℕ) (p : IsProper plan) (k : IsOnTrack pl
       begun = gained_begun;
       own_wants = put_same s.wanted t None;
       other_wants = put_other s.wanted t None;
-      marked = k.marked;
+      calls = k.marked;
       stamped = stamped_behind plan r t (event.Locked l Excl) k (λ w. refl);
-    }
+    })
 
     -- a block
 
@@ -277,12 +275,10 @@ module _ (plan : Plan) (r : Run) (t : ℕ) (p : IsProper plan) (k : IsOnTrack pl
     abbrev AreCalls : List Mark → Type 0
     AreCalls ms = All (λ m. IsCall m.queue m.cause) ms
 
-    pub dropped : EndsWell plan r t (after_drop released_state t l.0)
-    unfolding after_drop after_stamp
-    dropped = record {
-      nothing_out = k.lawful.nothing_out;
-      wait = refl;
-      blocked_on = refl;
+    -- whatever becomes of the marked lists
+    released : (marked : ℕ → List Mark) → ((u : ℕ) → AreCalls (marked u)) → EndsWell plan r t released_state.history (put_at s.held t l.0 NotHeld) s.has_begun s.wanted marked released_state.unstamped
+    unfolding after_stamp
+    released marked calls = record {
       left = left plan r t (Release l) i.next;
       entry = refl;
       own_holds = released_holds;
@@ -291,24 +287,15 @@ module _ (plan : Plan) (r : Run) (t : ℕ) (p : IsProper plan) (k : IsOnTrack pl
       begun = released_begun;
       own_wants = wants_none plan r t k (Release l) i.next refl;
       other_wants = λ u ne. refl;
-      marked = k.marked;
+      calls = calls;
       stamped = stamped_behind plan r t (event.Unlocked l mode) k (λ w. refl);
     }
 
-    pub opened : EndsWell plan r t (after_open c released_state t l.0)
+    pub dropped : KeepsTrack plan (run_after c r t (ends r t kind.Drop (Stamps t (event.Unlocked l mode) ∷ Drops t l.0 mode ∷ [])))
+    unfolding after_drop after_stamp
+    dropped = goes_on plan r t _ k lt (record { wait = refl; blocked_on = refl; nothing_out = k.lawful.nothing_out }) (released s.marked k.marked)
+
+    pub opened : KeepsTrack plan (run_after c r t (ends r t kind.OpenUp (Stamps t (event.Unlocked l mode) ∷ Opens t l.0 mode ∷ [])))
     unfolding after_open after_stamp
-    opened = record {
-      nothing_out = k.lawful.nothing_out;
-      wait = refl;
-      blocked_on = refl;
-      left = left plan r t (Release l) i.next;
-      entry = refl;
-      own_holds = released_holds;
-      other_holds = put_at_other s.held t l.0 NotHeld;
-      sections = released_sections;
-      begun = released_begun;
-      own_wants = wants_none plan r t k (Release l) i.next refl;
-      other_wants = λ u ne. refl;
-      marked = at_put (λ v ms. AreCalls ms) s.marked t _ (dealt_calls l.0 (list_of (side_woken (c.kind l.0) (s.word l.0)) (s.lists (lock_queue l.0))) (s.free_list (lock_queue l.0)) (s.head (lock_queue l.0))) (λ v ne. k.marked v);
-      stamped = stamped_behind plan r t (event.Unlocked l mode) k (λ w. refl);
-    }
+    opened = goes_on plan r t _ k lt (record { wait = refl; blocked_on = refl; nothing_out = k.lawful.nothing_out })
+        (released _ (at_put (λ v ms. AreCalls ms) s.marked t _ (dealt_calls l.0 (list_of (side_woken (c.kind l.0) (s.word l.0)) (s.lists (lock_queue l.0))) (s.free_list (lock_queue l.0)) (s.head (lock_queue l.0))) (λ v ne. k.marked v)))

@@ -8,7 +8,7 @@ use Rattle.lock_model.specs.Config.{Config}
 use Rattle.lock_model.specs.History.{Sections, sections_by, sections_in, open_in}
 use Rattle.lock_state.specs.State.{State, Running, Wake}
 use Rattle.lock_state.specs.Steps.LockWords.{Asks, MayStamp, begun_after, unstamped_after, after_stamp}
-use Rattle.lock_state.specs.Run.{Run}
+use Rattle.lock_state.specs.Run.{Run, notes, run_after}
 use Rattle.lock_model.specs.declared.plan.Mode.TheVariants.{Excl}
 use Rattle.lock_model.specs.declared.plan.Op.{Op}
 use Rattle.lock_model.specs.declared.plan.Op.TheVariants as operation
@@ -19,7 +19,7 @@ use Rattle.lock_model.specs.declared.event.Held.{Held}
 use Rattle.lock_laws.specs.OnTrack.{IsOnTrack}
 use Rattle.lock_laws.proofs.Kit.{each_place}
 use Rattle.lock_laws.proofs.HeldLists.{exclusive_is, held_is}
-use Rattle.lock_laws.proofs.OnTrack.{EndsWell, own_section, other_section, stamped_behind, acting, before, behind, Next, left, fit, is_take, wants_none}
+use Rattle.lock_laws.proofs.OnTrack.{KeepsTrack, goes_on, own_section, other_section, stamped_behind, acting, before, behind, Next, left, fit, is_take, wants_none}
 use Rattle.lock_laws.proofs.Table.{Notes, sets, adds, gets, changes_base, shows}
 
 -- an operation that fits and leaves what is held
@@ -80,12 +80,9 @@ module _ (plan : Plan) (r : Run) (t : ℕ) (p : IsProper plan) (k : IsOnTrack pl
   pub may_note : (op : Op) (e : Event) → s.wait t ≡ Running → IsNoted plan r t op e → MayStamp c s t e
   may_note op e running n = record { thread = lt; acting = acting plan r t k running; asks = n.asks }
 
-  pub noted : (op : Op) (e : Event) → Next plan r t op → IsNoted plan r t op e → EndsWell plan r t (after_stamp c s t e)
+  pub noted : (op : Op) (e : Event) → Next plan r t op → IsNoted plan r t op e → KeepsTrack plan (run_after c r t (notes r t e))
   unfolding after_stamp
-  noted op e next n = record {
-    nothing_out = k.lawful.nothing_out;
-    wait = refl;
-    blocked_on = refl;
+  noted op e next n = goes_on plan r t (after_stamp c s t e) k lt (record { wait = refl; blocked_on = refl; nothing_out = k.lawful.nothing_out }) (record {
     left = left plan r t op next;
     entry = refl;
     own_holds = λ l. k.holds t l ∙ ap (λ (hs : List Held). hold_in hs l) n.same;
@@ -96,6 +93,6 @@ module _ (plan : Plan) (r : Run) (t : ℕ) (p : IsProper plan) (k : IsOnTrack pl
     begun = λ u l x. ap (λ (f : ℕ → ℕ → Bool). f u l) (n.same_begun t s.has_begun) ∙ k.begun u l x;
     own_wants = wants_none plan r t k op next n.no_take;
     other_wants = λ u ne. refl;
-    marked = k.marked;
+    calls = k.marked;
     stamped = stamped_behind plan r t e k n.no_wake;
-  }
+  })
