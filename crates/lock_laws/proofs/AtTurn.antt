@@ -1,24 +1,17 @@
--- What a turn finds in a lawful state: words that can be, a turnstile at home, and places that the operations bound.
+-- What a turn finds in a lawful state: words that can be, and objects where they are.
 use Rattle.std.proofs.Common.{◌≡◌, ◌⊎◌, ℕ, zero, suc, ◌+◌, ◌<◌, ◌≤◌, true, not, ◌||◌, List, [], ◌∷◌, length, Option, Some, None, refl, sym, ap, inl, inr, arith, eq-eqb, ◌∙◌}
 use Rattle.lock_model.specs.Counts.{some, sum_below}
 use Rattle.lock_model.specs.Words.{Holder, Free, HeldBy, SharedBy, IsPossible, IsWellFormed, is_turnstile, owner_of, is_free, without_one, shows_waiters, is_drop}
 use Rattle.lock_model.specs.Holds.{is_exclusive, Hold, NotHeld, Holds}
-use Rattle.lock_model.specs.Plans.{operations_of}
-use Rattle.lock_model.specs.Operations.{IsProper}
 use Rattle.lock_model.specs.Config.{Config}
 use Rattle.lock_state.specs.State.{State}
 use Rattle.lock_model.specs.Queues.{Waiter, lock_queue, stands, times_waiting}
 use Rattle.lock_state.specs.Facts.{Lawful, TurnstileIsLent, WordsMatchHolders, OnlyThreadsHold, OnlyThreadsStand, HeadsFitWaiters, OwnersHold}
 use Rattle.lock_state.specs.Facts.Words.{owns, shares}
-use Rattle.lock_state.specs.Run.{Run}
 use Rattle.lock_model.specs.declared.plan.Mode.TheVariants.{Excl, Shared}
-use Rattle.lock_model.specs.declared.plan.Plan.{Plan}
 use Rattle.lock_model.specs.declared.plan.QueueName.{QueueName}
-use Rattle.lock_laws.specs.OnTrack.{IsOnTrack}
-use Rattle.lock_laws.proofs.Kit.{sum_below-at}
 use Rattle.lock_laws.proofs.Sums.{sum_below-most}
 use Rattle.lock_laws.proofs.HeldLists.{exclusive_is}
-use Rattle.lock_laws.proofs.Turning.{entries_below}
 
 -- 1. Words
 
@@ -113,11 +106,3 @@ beyond_unnamed c s t h l = go (s.blocked_on t) refl
     go : (o : Option QueueName) → s.blocked_on t ≡ o → o ≡ None
     go None e = refl
     go (Some q) e = absurd (let a = h.only_threads_stand t q e in omega (arith, a))
-
--- 3. Places
-
--- the operation that is left is not the last that can be
-pub place_below : (plan : Plan) (chains : ℕ) (r : Run) (t : ℕ) → IsProper plan → IsOnTrack plan chains r → t < length plan.threads
-    → r.place t < length (operations_of plan t) → r.place t < 20000
-place_below plan chains r t p k lt left =
-    omega (arith, p.operations, k.entries, sum_below-at (length plan.threads) r.place t lt, entries_below plan chains r t p k lt left)

@@ -25,7 +25,9 @@ pub mod Best
 pub mod Derived
 pub mod Rows
 pub mod HeldLists
+pub mod Table
 pub mod Follows
+pub mod Entries
 pub mod OnTrack
 pub mod TurnsOfWalks
 pub mod TurnsOfWaits
@@ -33,6 +35,7 @@ pub mod TurnsOfLocks
 pub mod TurnsOfNotes
 pub mod Turning
 pub mod LegalRuns
+pub mod Idle
 pub mod AtTurn
 pub mod OtherThreads
 mod Guards

@@ -1,4 +1,4 @@
--- A running thread at its next operation: what is known there, and what the end of the operation leaves.
+-- What a turn leaves true of a run beside its lawful state, and what is known of a thread at its next operation.
 use Rattle.std.proofs.Common.{◌≡◌, ◌≢◌, ◌⊎◌, ℕ, suc, ◌+◌, ◌<◌, ◌≤◌, Bool, true, false, cond, eqb, ◌&&◌, List, [], length, All, slice_get, Option, Some, None, refl, sym, ap, inl, inr, eq-eqb, arith, ◌∙◌}
 use Rattle.std.proofs.lemmas.Bool.{ne_eqb}
 use Rattle.std.proofs.lemmas.Option.{same_Some, slice_get_within}
@@ -6,12 +6,12 @@ use Rattle.lock_model.specs.Counts.{sum_below}
 use Rattle.lock_model.specs.Plans.{config_of, operations_of}
 use Rattle.lock_model.specs.Operations.{IsProper, hold_in, held_behind, held_of}
 use Rattle.lock_model.specs.Config.{Config}
-use Rattle.lock_state.specs.State.{State, Running, put, put_at}
-use Rattle.lock_model.specs.Holds.{NotHeld}
+use Rattle.lock_model.specs.Holds.{Hold, NotHeld}
 use Rattle.lock_model.specs.History.{open_in, sections_in, sections_by}
-use Rattle.lock_state.specs.Steps.LockWords.{after_stamp}
-use Rattle.lock_state.specs.Steps.Items.{Item, item_with}
-use Rattle.lock_state.specs.Facts.{Lawful, StandingIsQueued}
+use Rattle.lock_model.specs.Queues.{Lists, Mark}
+use Rattle.lock_state.specs.State.{State, Running, Walk, Loan, Wake, put, put_at}
+use Rattle.lock_state.specs.Steps.LockWords.{IsActing, is_woken, unstamped_after, after_stamp}
+use Rattle.lock_state.specs.Facts.{Lawful, NothingIsOut, QueuedStands, StandingIsQueued}
 use Rattle.lock_state.specs.Run.{Run}
 use Rattle.lock_model.specs.declared.plan.Op.{Op}
 use Rattle.lock_model.specs.declared.plan.Op.TheVariants.{Take}
@@ -21,9 +21,10 @@ use Rattle.lock_model.specs.declared.plan.Plan.{Plan}
 use Rattle.lock_model.specs.declared.plan.QueueName.{QueueName}
 use Rattle.lock_model.specs.declared.numbers.LockNo.{LockNo}
 use Rattle.lock_model.specs.declared.event.Event.{Event}
+use Rattle.lock_model.specs.declared.event.Entry.{Entry}
 use Rattle.lock_model.specs.declared.event.Held.{Held}
 use Rattle.lock_laws.specs.OnTrack.{IsOnTrack, IsCall, WokenByCall}
-use Rattle.lock_laws.proofs.Kit.{put_same, put_other, each_place, sum_below-put}
+use Rattle.lock_laws.proofs.Kit.{at_put, put_same, put_other, sum_below-put}
 use Rattle.lock_laws.proofs.HeldLists.{AreLocks, next_fits, held_are_locks}
 
 -- 1. Columns and sections
@@ -43,53 +44,88 @@ pub other_section : (c : Config) (s : State) (t : ℕ) (e : Event) (u l : ℕ) �
 unfolding after_stamp sections_in
 other_section c s t e u l n = ap (λ b. (cond b (sections_by c e l (sections_in c s.history u l)) (sections_in c s.history u l)).now) (ne_eqb t u n)
 
--- 2. The end of an operation
+-- 2. What a turn leaves true, beside a lawful state whose entries follow the operations
 
--- a state behind the end of the operation of t
-pub record EndsWell (plan : Plan) (chains : ℕ) (r : Run) (t : ℕ) (s : State) : Type 0 where
-  pub lawful : Lawful (config_of plan chains) s
-  pub nothing_out : (i : Item) → item_with s i ≡ None
-  pub own_holds : (l : ℕ) → s.held t l ≡ hold_in (held_of (length plan.locks) (operations_of plan t) (suc (r.place t))) l
-  pub other_holds : (u l : ℕ) → (t ≡ u → ⊥) → s.held u l ≡ r.state.held u l
-  pub sections : (u l : ℕ) → open_in (config_of plan chains) s.history u l ≡ s.held u l
-  pub begun : (u l : ℕ) → s.held u l ≢ NotHeld → s.has_begun u l ≡ true
-  pub own_wants : s.wanted t ≡ None
-  pub other_wants : (u : ℕ) → (t ≡ u → ⊥) → s.wanted u ≡ r.state.wanted u
-  pub woken : (u : ℕ) → WokenByCall (s.wait u)
-  pub marked : (u : ℕ) → All (λ m. IsCall m.queue m.cause) (s.marked u)
-  -- the operation was the thread's next, and made one entry
-  pub left : r.place t < length (operations_of plan t)
-  pub entry : length s.history ≡ suc (length r.state.history)
+pub record KeepsTrack (plan : Plan) (n : Run) : Type 0 where
+  pub nothing_out : NothingIsOut n.state.turnstile_chain_with n.state.sleep_chain_with n.state.record_with n.state.cell_with n.state.graph_with
+  pub queued_stands : QueuedStands n.state.wait n.state.blocked_on
+  pub within : (t : ℕ) → n.next_op t ≤ length (operations_of plan t)
+  pub entries : length n.state.history ≡ sum_below (length plan.threads) n.next_op
+  pub holds : (t l : ℕ) → n.state.held t l ≡ hold_in (held_of (length plan.locks) (operations_of plan t) (n.next_op t)) l
+  pub sections : (t l : ℕ) → open_in (config_of plan) n.state.history t l ≡ n.state.held t l
+  pub begun : (t l : ℕ) → n.state.held t l ≢ NotHeld → n.state.has_begun t l ≡ true
+  pub wants : (t l : ℕ) → n.state.wanted t ≡ Some l → slice_get (operations_of plan t) (n.next_op t) ≡ Some (Take (record { 0 = l }) Excl)
+  pub woken : (t : ℕ) → WokenByCall (n.state.wait t)
+  pub marked : (t : ℕ) → All (λ m. IsCall m.queue m.cause) (n.state.marked t)
+  pub stamped : (t : ℕ) → n.state.unstamped t ≡ None
 
--- with its thread at the next place
-pub goes_on : (plan : Plan) (chains : ℕ) (r : Run) (t : ℕ) (s : State) → IsProper plan → IsOnTrack plan chains r → t < length plan.threads → EndsWell plan chains r t s
-    → IsOnTrack plan chains (record { state = s; place = put r.place t (suc (r.place t)) })
-goes_on plan chains r t s p k lt w = record {
-  lawful = w.lawful;
-  nothing_out = w.nothing_out;
-  within = λ u. each_place t (λ v. place v ≤ length (operations_of plan v))
-      (rw (put_same r.place t (suc (r.place t))) w.left)
-      (λ v ne. rw (put_other r.place t (suc (r.place t)) v ne) (k.within v)) u;
+-- a turn that changes walks, loans and priorities alone
+pub still : (plan : Plan) (r : Run) → IsOnTrack plan r
+    → (walk : ℕ → Walk) (loan : ℕ → ℕ → Option Loan) (loan_home : ℕ → Bool) (effective : ℕ → ℕ) (lists : QueueName → Lists)
+    → KeepsTrack plan (record r { state = record r.state { walk = walk; loan = loan; loan_home = loan_home; effective = effective; lists = lists } })
+still plan r k walk loan loan_home effective lists = record {
+  nothing_out = k.lawful.nothing_out;
+  queued_stands = k.lawful.queued_stands;
+  within = k.within;
+  entries = k.entries;
+  holds = k.holds;
+  sections = k.sections;
+  begun = k.begun;
+  wants = k.wants;
+  woken = k.woken;
+  marked = k.marked;
+  stamped = k.stamped;
+}
+
+-- what the end of an operation of t, its next one, leaves in the columns that it changes; it made one entry
+pub record EndsWell (plan : Plan) (r : Run) (t : ℕ) (history : List Entry) (held : ℕ → ℕ → Hold) (has_begun : ℕ → ℕ → Bool) (wanted : ℕ → Option ℕ) (marked : ℕ → List Mark) (unstamped : ℕ → Option Wake) : Type 0 where
+  pub left : r.next_op t < length (operations_of plan t)
+  pub entry : length history ≡ suc (length r.state.history)
+  pub own_holds : (l : ℕ) → held t l ≡ hold_in (held_of (length plan.locks) (operations_of plan t) (suc (r.next_op t))) l
+  pub other_holds : (u l : ℕ) → (t ≡ u → ⊥) → held u l ≡ r.state.held u l
+  pub sections : (u l : ℕ) → open_in (config_of plan) history u l ≡ held u l
+  pub begun : (u l : ℕ) → held u l ≢ NotHeld → has_begun u l ≡ true
+  pub own_wants : wanted t ≡ None
+  pub other_wants : (u : ℕ) → (t ≡ u → ⊥) → wanted u ≡ r.state.wanted u
+  pub calls : (u : ℕ) → All (λ m. IsCall m.queue m.cause) (marked u)
+  pub stamped : (u : ℕ) → unstamped u ≡ None
+
+-- nobody's waiting changes, and nothing goes out
+pub record LeavesWaits (s n : State) : Type 0 where
+  pub wait : n.wait ≡ s.wait
+  pub blocked_on : n.blocked_on ≡ s.blocked_on
+  pub nothing_out : NothingIsOut n.turnstile_chain_with n.sleep_chain_with n.record_with n.cell_with n.graph_with
+
+-- with its thread at the next operation
+pub goes_on : (plan : Plan) (r : Run) (t : ℕ) (s : State) → IsOnTrack plan r → t < length plan.threads → LeavesWaits r.state s
+    → EndsWell plan r t s.history s.held s.has_begun s.wanted s.marked s.unstamped → KeepsTrack plan (record { state = s; next_op = put r.next_op t (suc (r.next_op t)) })
+goes_on plan r t s k lt still w = record {
+  nothing_out = still.nothing_out;
+  queued_stands = rw (still.wait, still.blocked_on) k.lawful.queued_stands;
+  within = at_put (λ v n. n ≤ length (operations_of plan v)) r.next_op t (suc (r.next_op t)) w.left (λ v ne. k.within v);
   entries =
-      let risen : sum_below (length plan.threads) place + r.place t ≡ sum_below (length plan.threads) r.place + suc (r.place t) = sum_below-put (length plan.threads) (λ n. n) r.place t (suc (r.place t)) lt in
+      let risen : sum_below (length plan.threads) next_op + r.next_op t ≡ sum_below (length plan.threads) r.next_op + suc (r.next_op t) = sum_below-put (length plan.threads) (λ n. n) r.next_op t (suc (r.next_op t)) lt in
       omega (arith, risen, w.entry, k.entries);
-  holds = λ u l. each_place t (λ v. s.held v l ≡ hold_in (held_of n (operations_of plan v) (place v)) l)
-      (rw (put_same r.place t (suc (r.place t))) (w.own_holds l))
-      (λ v ne. rw (put_other r.place t (suc (r.place t)) v ne) (w.other_holds v l ne ∙ k.holds v l)) u;
+  holds = λ u l. at_put (λ v n. s.held v l ≡ hold_in (held_of (length plan.locks) (operations_of plan v) n) l) r.next_op t (suc (r.next_op t))
+      (w.own_holds l)
+      (λ v ne. w.other_holds v l ne ∙ k.holds v l) u;
   sections = w.sections;
   begun = w.begun;
-  wants = λ u l. each_place t (λ v. s.wanted v ≡ Some l → slice_get (operations_of plan v) (place v) ≡ Some (Take (record { 0 = l }) Excl))
+  wants = λ u l. at_put (λ v n. s.wanted v ≡ Some l → slice_get (operations_of plan v) n ≡ Some (Take (record { 0 = l }) Excl)) r.next_op t (suc (r.next_op t))
       (λ e. absurd (let z : None ≡ Some l = sym w.own_wants ∙ e in cc))
-      (λ v ne e. rw (put_other r.place t (suc (r.place t)) v ne) (k.wants v l (sym (w.other_wants v ne) ∙ e))) u;
-  woken = w.woken;
-  marked = w.marked;
+      (λ v ne e. k.wants v l (sym (w.other_wants v ne) ∙ e)) u;
+  woken = λ u. rw still.wait (k.woken u);
+  marked = w.calls;
+  stamped = w.stamped;
 }
   where
-    n : ℕ
-    n = length plan.locks
+    next_op : ℕ → ℕ
+    next_op = put r.next_op t (suc (r.next_op t))
 
-    place : ℕ → ℕ
-    place = put r.place t (suc (r.place t))
+-- no wake is left to note behind an entry that notes none
+pub stamped_behind : (plan : Plan) (r : Run) (t : ℕ) (e : Event) → IsOnTrack plan r → ((w : Option Wake) → unstamped_after e w ≡ w)
+    → (u : ℕ) → put r.state.unstamped t (unstamped_after e (r.state.unstamped t)) u ≡ None
+stamped_behind plan r t e k same = at_put (λ v w. w ≡ None) r.state.unstamped t (unstamped_after e (r.state.unstamped t)) (same (r.state.unstamped t) ∙ k.stamped t) (λ v ne. k.stamped v)
 
 -- 3. What is known at the operation of a running thread
 
@@ -101,39 +137,43 @@ abbrev taken : Op → ℕ
 taken (Take l mode) = l.0
 taken other = 0
 
-module _ (plan : Plan) (chains : ℕ) (r : Run) (t : ℕ) (p : IsProper plan) (k : IsOnTrack plan chains r) where
+-- what it holds before and behind the operation
+abbrev pub before : Plan → Run → ℕ → List Held
+before plan r t = held_of (length plan.locks) (operations_of plan t) (r.next_op t)
+
+abbrev pub behind : Plan → Run → ℕ → List Held
+behind plan r t = held_of (length plan.locks) (operations_of plan t) (suc (r.next_op t))
+
+-- its next operation
+abbrev pub Next : Plan → Run → ℕ → Op → Type 0
+Next plan r t op = slice_get (operations_of plan t) (r.next_op t) ≡ Some op
+
+-- it was left to make
+pub left : (plan : Plan) (r : Run) (t : ℕ) (op : Op) → Next plan r t op → r.next_op t < length (operations_of plan t)
+left plan r t op e = slice_get_within (operations_of plan t) (r.next_op t) op e
+
+module _ (plan : Plan) (r : Run) (t : ℕ) (p : IsProper plan) where
+  pub are_locks : AreLocks (length plan.locks) (before plan r t)
+  are_locks = held_are_locks (length plan.locks) (operations_of plan t) [] (p.fits t) (r.next_op t)
+
+  -- the operation fits what is held
+  pub fit : (op : Op) → Next plan r t op → held_behind (length plan.locks) op (before plan r t) ≡ Some (behind plan r t)
+  fit op e = next_fits (length plan.locks) (operations_of plan t) [] (p.fits t) (r.next_op t) op e
+
+module _ (plan : Plan) (r : Run) (t : ℕ) (k : IsOnTrack plan r) where
   pub unnamed : r.state.wait t ≡ Running → r.state.blocked_on t ≡ None
   unfolding StandingIsQueued
   unnamed running = go (r.state.blocked_on t) refl
     where
       go : (o : Option QueueName) → r.state.blocked_on t ≡ o → o ≡ None
       go None e = refl
-      go (Some q) e = absurd (let z = sym running ∙ k.lawful.standing_is_queued t q e in cc)
+      go (Some q) e = absurd (let z = sym running ∙ k.lawful.lawful.standing_is_queued t q e in cc)
 
-  -- what it holds before and behind the operation
-  abbrev pub before : List Held
-  before = held_of (length plan.locks) (operations_of plan t) (r.place t)
-
-  abbrev pub behind : List Held
-  behind = held_of (length plan.locks) (operations_of plan t) (suc (r.place t))
-
-  pub are_locks : AreLocks (length plan.locks) before
-  are_locks = held_are_locks (length plan.locks) (operations_of plan t) [] (p.fits t) (r.place t)
-
-  -- the operation
-  abbrev pub Next : Op → Type 0
-  Next op = slice_get (operations_of plan t) (r.place t) ≡ Some op
-
-  -- it was left to make
-  pub left : (op : Op) → Next op → r.place t < length (operations_of plan t)
-  left op e = slice_get_within (operations_of plan t) (r.place t) op e
-
-  -- and fits what is held
-  pub fit : (op : Op) → Next op → held_behind (length plan.locks) op before ≡ Some behind
-  fit op e = next_fits (length plan.locks) (operations_of plan t) [] (p.fits t) (r.place t) op e
+  pub acting : r.state.wait t ≡ Running → IsActing r.state t
+  acting running = record { unnamed = unnamed running; unwoken = ap is_woken running }
 
   -- it wants nothing, unless the operation is a take
-  pub wants_none : (op : Op) → Next op → is_take op ≡ false → r.state.wanted t ≡ None
+  pub wants_none : (op : Op) → Next plan r t op → is_take op ≡ false → r.state.wanted t ≡ None
   wants_none op e f = go (r.state.wanted t) refl
     where
       go : (o : Option ℕ) → r.state.wanted t ≡ o → o ≡ None
@@ -141,7 +181,7 @@ module _ (plan : Plan) (chains : ℕ) (r : Run) (t : ℕ) (p : IsProper plan) (k
       go (Some l) i = absurd (let z = sym f ∙ ap is_take (same_Some op (Take (record { 0 = l }) Excl) (sym e ∙ k.wants t l i)) in cc)
 
   -- and a take's lock at most
-  pub wants_this : (l : LockNo) (mode : Mode) → Next (Take l mode) → (r.state.wanted t ≡ Some l.0) ⊎ (r.state.wanted t ≡ None)
+  pub wants_this : (l : LockNo) (mode : Mode) → Next plan r t (Take l mode) → (r.state.wanted t ≡ Some l.0) ⊎ (r.state.wanted t ≡ None)
   wants_this l mode e = go (r.state.wanted t) refl
     where
       go : (o : Option ℕ) → r.state.wanted t ≡ o → (o ≡ Some l.0) ⊎ (o ≡ None)

@@ -1,42 +1,40 @@
--- The turns of a thread that takes or releases a lock leave the run on track.
-use Rattle.std.proofs.Common.{◌≡◌, ◌≢◌, ℕ, ◌<◌, ◌≤◌, Bool, true, false, not, cond, eqb, ◌&&◌, ◌||◌, List, [], ◌∷◌, length, All, slice_get, Option, Some, None, refl, sym, ap, arith, eq-eqb, ◌∙◌}
+-- The turns of a thread that takes or releases a lock: their steps may be made, and they leave the run on track.
+use Rattle.std.proofs.Common.{◌≡◌, ◌≢◌, ℕ, suc, ◌<◌, ◌≤◌, Bool, true, false, not, cond, eqb, ◌&&◌, ◌||◌, List, [], ◌∷◌, length, All, slice_get, Option, Some, None, refl, sym, ap, arith, eq-eqb, ◌∙◌}
+use Rattle.std.specs.Prelude.{unwrap_or}
 use Rattle.std.proofs.lemmas.List.Elements.{All-nil, All-cons}
-use Rattle.std.proofs.lemmas.Option.{none-some, same_Some}
+use Rattle.std.proofs.lemmas.Option.{same_Some}
 use Rattle.lock_model.specs.Counts.{one}
 use Rattle.lock_model.specs.Words.{Word, is_free, is_plain, is_turnstile, is_drop, without_one, shows_waiters, admits, side_woken}
 use Rattle.lock_model.specs.Plans.{config_of, operations_of}
 use Rattle.lock_model.specs.Operations.{IsProper, hold_in, without_lock}
 use Rattle.lock_model.specs.Config.{Config}
-use Rattle.lock_state.specs.State.{State, Running, Queued, NoWalk, put, put_at}
 use Rattle.lock_model.specs.Holds.{Hold, NotHeld, Holds}
 use Rattle.lock_model.specs.Queues.{Waiter, Mark, BySignal, lock_queue, list_of, dealt}
 use Rattle.lock_model.specs.History.{open_in, replaced}
-use Rattle.lock_state.specs.Steps.LockWords.{MayGain, MayDrop, MayStamp, is_woken, after_gain, after_drop, after_stamp}
-use Rattle.lock_state.specs.Steps.Turnstiles.{MayBlock, MayOpen, after_block, after_enter, after_open}
-use Rattle.lock_state.specs.Steps.LockWords.{after_ready}
-use Rattle.lock_state.specs.Facts.{FreeMutexShowsNone}
+use Rattle.lock_state.specs.State.{State, Queued, put, put_at}
+use Rattle.lock_state.specs.Steps.{Step, Gains, Stamps, Drops, Opens, MayAll}
+use Rattle.lock_state.specs.Steps.LockWords.{is_woken, MayGain, MayDrop, MayStamp, MayReady, after_gain, after_drop, after_stamp, after_ready}
+use Rattle.lock_state.specs.Steps.Turnstiles.{MayEnter, MayOpen, after_enter, after_open}
+use Rattle.lock_state.specs.Facts.{FreeMutexShowsNone, QueuedStands}
 use Rattle.lock_state.specs.Facts.Waits.{busy}
-use Rattle.lock_state.specs.Run.{Run, ended, blocks, takes, releases}
+use Rattle.lock_state.specs.Run.{Run, ends, blocks, mode_held, run_after}
 use Rattle.lock_model.specs.declared.plan.Kind.{Kind}
 use Rattle.lock_model.specs.declared.plan.Kind.TheVariants.{Mtx}
 use Rattle.lock_model.specs.declared.plan.Mode.{Mode}
-use Rattle.lock_model.specs.declared.plan.Mode.TheVariants.{Excl, Shared}
+use Rattle.lock_model.specs.declared.plan.Mode.TheVariants.{Excl}
 use Rattle.lock_model.specs.declared.plan.Op.TheVariants.{Take, Release}
 use Rattle.lock_model.specs.declared.plan.Plan.{Plan}
-use Rattle.lock_model.specs.declared.turn.StepKind.TheVariants.{Gain, Drop, OpenUp}
 use Rattle.lock_model.specs.declared.numbers.LockNo.{LockNo}
+use Rattle.lock_model.specs.declared.turn.StepKind.TheVariants as kind
 use Rattle.lock_model.specs.declared.event.Event.TheVariants as event
 use Rattle.lock_model.specs.declared.event.Held.{Held}
 use Rattle.lock_laws.specs.OnTrack.{IsOnTrack, IsCall, WokenByCall}
-use Rattle.lock_laws.proofs.Kit.{columns, put_same, put_other, put_at_same, put_at_other, each_place}
+use Rattle.lock_laws.proofs.Kit.{columns, at_put, put_same, put_other, put_at_same, put_at_other, each_place}
 use Rattle.lock_laws.proofs.Words.{free_is}
-use Rattle.lock_laws.proofs.Gain as gain
-use Rattle.lock_laws.proofs.Stamp as stamp
-use Rattle.lock_laws.proofs.Drop as drop
-use Rattle.lock_laws.proofs.Open as opening
-use Rattle.lock_laws.proofs.Block as block
 use Rattle.lock_laws.proofs.HeldLists.{TakeFits, take_fits, release_fits, hold_in-push, hold_in-without}
-use Rattle.lock_laws.proofs.OnTrack.{EndsWell, goes_on, put_at_own, own_section, other_section, unnamed, before, behind, are_locks, Next, left, fit, wants_none, wants_this}
+use Rattle.lock_laws.proofs.AtTurn.{has_turnstile}
+use Rattle.lock_laws.proofs.OnTrack.{KeepsTrack, EndsWell, goes_on, put_at_own, own_section, other_section, stamped_behind, unnamed, acting, before, behind, Next, left, fit, are_locks, wants_none, wants_this}
+use Rattle.lock_laws.proofs.Table.{IsAt}
 
 -- a word of a mutex that is not held shows no waiters
 plain_mutex : (w : Word) → one (shows_waiters w) ≤ busy w.holder → is_free w.holder ≡ true → is_plain Mtx w Excl ≡ true
@@ -71,9 +69,14 @@ still_unheld : (b : Bool) (x : Hold) → x ≡ NotHeld → cond b NotHeld x ≡ 
 still_unheld true x e = refl
 still_unheld false x e = e
 
-module _ (plan : Plan) (chains : ℕ) (r : Run) (t : ℕ) (p : IsProper plan) (k : IsOnTrack plan chains r) (lt : t < length plan.threads) where
+-- a hold that is one
+its_mode : (h : Hold) → h ≢ NotHeld → h ≡ Holds (mode_held h)
+its_mode NotHeld n = absurd (n refl)
+its_mode (Holds mode) n = refl
+
+module _ (plan : Plan) (r : Run) (t : ℕ) (p : IsProper plan) (k : IsOnTrack plan r) (lt : t < length plan.threads) where
   abbrev c : Config
-  c = config_of plan chains
+  c = config_of plan
 
   abbrev s : State
   s = r.state
@@ -81,17 +84,13 @@ module _ (plan : Plan) (chains : ℕ) (r : Run) (t : ℕ) (p : IsProper plan) (k
   turnstile : (l : ℕ) → is_turnstile (c.kind l) ≡ true
   turnstile l = ap is_turnstile (p.mutexes l)
 
-  -- 1. A gain and its entry
+  -- 1. A take
 
-  module _ (l : LockNo) (running : s.wait t ≡ Running) (next : Next plan chains r t p k (Take l Excl)) where
-    pub finds : TakeFits (length plan.locks) l (before plan chains r t p k) (behind plan chains r t p k)
-    finds = take_fits (length plan.locks) l _ _ (fit plan chains r t p k (Take l Excl) next)
+  module _ (l : LockNo) (i : IsAt plan r t (Some (Take l Excl))) where
+    pub finds : TakeFits (length plan.locks) l (before plan r t) (behind plan r t)
+    finds = take_fits (length plan.locks) l _ _ (fit plan r t p (Take l Excl) i.next)
 
-    abbrev pub gained_state : State
-    gained_state = after_gain s t l.0 Excl
-
-    abbrev noted_state : State
-    noted_state = after_stamp c gained_state t (event.Locked l Excl)
+    -- a gain and its entry
 
     pub may_gain : admits (c.kind l.0) (s.word l.0) Excl ≡ true → MayGain c s t l.0 Excl
     unfolding FreeMutexShowsNone
@@ -99,21 +98,28 @@ module _ (plan : Plan) (chains : ℕ) (r : Run) (t : ℕ) (p : IsProper plan) (k
       thread = lt;
       lock = finds.lock;
       admitted = e;
-      plainly = ap (λ (kind : Kind). is_plain kind (s.word l.0) Excl) (p.mutexes l.0) ∙ plain_mutex (s.word l.0) (k.lawful.free_mutex_shows_none l.0 (p.mutexes l.0)) e;
+      plainly = ap (λ (x : Kind). is_plain x (s.word l.0) Excl) (p.mutexes l.0) ∙ plain_mutex (s.word l.0) (k.lawful.lawful.free_mutex_shows_none l.0 (p.mutexes l.0)) e;
       unheld = k.holds t l.0 ∙ finds.unheld;
-      unnamed = unnamed plan chains r t p k running;
-      unwoken = ap is_woken running;
-      wants = wants_this plan chains r t p k l Excl next;
+      acting = acting plan r t k i.running;
+      wants = wants_this plan r t k l Excl i.next;
     }
+
+    abbrev pub gained_state : State
+    gained_state = after_gain s t l.0 Excl false
 
     pub may_stamp : MayStamp c gained_state t (event.Locked l Excl)
     unfolding after_gain
     may_stamp = record {
       thread = lt;
-      unnamed = unnamed plan chains r t p k running;
-      unwoken = ap is_woken running;
-      asks = record { held = put_at_same s.held t l.0 (Holds Excl); closed = k.sections t l.0 ∙ k.holds t l.0 ∙ finds.unheld };
+      acting = record { unnamed = unnamed plan r t k i.running; unwoken = ap is_woken i.running };
+      asks = (record { held = put_at_same s.held t l.0 (Holds Excl); closed = k.sections t l.0 ∙ k.holds t l.0 ∙ finds.unheld }, record { others = s.held_locks t; last = put_same s.held_locks t _ });
     }
+
+    pub may_gain_all : admits (c.kind l.0) (s.word l.0) Excl ≡ true → MayAll c s (Gains t l.0 Excl false ∷ Stamps t (event.Locked l Excl) ∷ [])
+    may_gain_all e = (may_gain e, (may_stamp, tt))
+
+    abbrev noted_state : State
+    noted_state = after_stamp c gained_state t (event.Locked l Excl)
 
     gained_sections : (u j : ℕ) → open_in c noted_state.history u j ≡ noted_state.held u j
     unfolding after_gain after_stamp
@@ -121,98 +127,99 @@ module _ (plan : Plan) (chains : ℕ) (r : Run) (t : ℕ) (p : IsProper plan) (k
         (own_section c gained_state t (event.Locked l Excl) j ∙ gained_section (eqb l.0 j) Excl (open_in c s.history t j) (s.held t j) (k.sections t j) ∙ sym (put_at_own s.held t l.0 (Holds Excl) j))
         (λ v ne. other_section c gained_state t (event.Locked l Excl) v j ne ∙ k.sections v j ∙ sym (put_at_other s.held t l.0 (Holds Excl) v j ne)) u
 
-    gained_holds : (j : ℕ) → noted_state.held t j ≡ hold_in (behind plan chains r t p k) j
+    gained_holds : (j : ℕ) → noted_state.held t j ≡ hold_in (behind plan r t) j
     unfolding after_gain after_stamp
     gained_holds j =
         let x : Held = record { l = l; mode = Excl; by_try = false } in
         put_at_own s.held t l.0 (Holds Excl) j
         ∙ ap (cond (eqb l.0 j) (Holds Excl)) (k.holds t j)
-        ∙ sym (hold_in-push (before plan chains r t p k) x j finds.unheld)
+        ∙ sym (hold_in-push (before plan r t) x j finds.unheld)
         ∙ ap (λ (hs : List Held). hold_in hs j) finds.behind
 
     gained_begun : (u j : ℕ) → noted_state.held u j ≢ NotHeld → noted_state.has_begun u j ≡ true
     unfolding after_gain after_stamp
     gained_begun u j = grind (arith, columns, k.begun u j)
 
-    gained : admits (c.kind l.0) (s.word l.0) Excl ≡ true → EndsWell plan chains r t noted_state
+    pub gained : KeepsTrack plan (run_after c r t (ends r t kind.Gain (Gains t l.0 Excl false ∷ Stamps t (event.Locked l Excl) ∷ [])))
     unfolding after_gain after_stamp
-    gained e = record {
-      lawful = stamp.lawful c gained_state t (event.Locked l Excl) may_stamp (gain.lawful c s t l.0 Excl (may_gain e) k.lawful);
-      nothing_out = k.nothing_out;
+    gained = goes_on plan r t noted_state k lt (record { wait = refl; blocked_on = refl; nothing_out = k.lawful.nothing_out }) (record {
+      left = left plan r t (Take l Excl) i.next;
+      entry = refl;
       own_holds = gained_holds;
       other_holds = put_at_other s.held t l.0 (Holds Excl);
       sections = gained_sections;
       begun = gained_begun;
       own_wants = put_same s.wanted t None;
       other_wants = put_other s.wanted t None;
-      woken = k.woken;
-      marked = k.marked;
-      left = left plan chains r t p k (Take l Excl) next;
-      entry = refl;
-    }
+      calls = k.marked;
+      stamped = stamped_behind plan r t (event.Locked l Excl) k (λ w. refl);
+    })
 
-    -- 2. A block
+    -- a block
 
-    pub may_block : (x : ℕ) → admits (c.kind l.0) (s.word l.0) Excl ≡ false → s.turnstile t ≡ Some x → s.walk t ≡ NoWalk → MayBlock c s t l.0 Excl x
-    may_block x e f w = record {
+    own_turnstile : s.turnstile t ≡ Some (unwrap_or (s.turnstile t) t)
+    own_turnstile = let x = has_turnstile c s t k.lawful.lawful (unnamed plan r t k i.running) in rw x.1 refl
+
+    pub may_ready : MayReady c s t
+    may_ready = record { thread = lt; running = i.running }
+
+    pub may_enter : admits (c.kind l.0) (s.word l.0) Excl ≡ false → MayEnter c (after_ready s t) t l.0 Excl (unwrap_or (s.turnstile t) t)
+    unfolding after_ready
+    may_enter e = record {
       thread = lt;
       lock = finds.lock;
       turnstile = turnstile l.0;
       mutex = λ z. refl;
       held = e;
       refused = e;
-      running = running;
-      own = f;
-      wants = wants_this plan chains r t p k l Excl next;
-      no_walk = w;
-      nothing_out = k.nothing_out;
+      queued = put_same s.wait t Queued;
+      unnamed = unnamed plan r t k i.running;
+      own = own_turnstile;
+      wants = wants_this plan r t k l Excl i.next;
+      no_walk = i.free.no_walk;
+      sections = λ j mode f. k.sections t j ∙ f;
     }
 
-    blocked : (x : ℕ) → MayBlock c s t l.0 Excl x → IsOnTrack plan chains (record r { state = after_block s t l.0 Excl x })
-    unfolding after_block after_enter after_ready
-    blocked x g = record {
-      lawful = block.lawful c s t l.0 Excl x g k.lawful;
-      nothing_out = k.nothing_out;
+    pub may_block_all : admits (c.kind l.0) (s.word l.0) Excl ≡ false → MayAll c s (blocks r t l Excl).steps
+    may_block_all e = (may_ready, (may_enter e, tt))
+
+    pub blocked : KeepsTrack plan (run_after c r t (blocks r t l Excl))
+    unfolding after_enter after_ready QueuedStands
+    blocked = record {
+      nothing_out = k.lawful.nothing_out;
+      queued_stands = λ u. each_place t (λ v. put s.wait t Queued v ≡ Queued → put s.blocked_on t (Some (lock_queue l.0)) v ≢ None)
+          (λ e n. let z : Some (lock_queue l.0) ≡ None = sym (put_same s.blocked_on t (Some (lock_queue l.0))) ∙ n in cc)
+          (λ v ne. rw (put_other s.wait t Queued v ne, put_other s.blocked_on t (Some (lock_queue l.0)) v ne) (k.lawful.queued_stands v)) u;
       within = k.within;
       entries = k.entries;
       holds = k.holds;
       sections = k.sections;
       begun = k.begun;
-      wants = λ u j. each_place t (λ v. put s.wanted t (Some l.0) v ≡ Some j → slice_get (operations_of plan v) (r.place v) ≡ Some (Take (record { 0 = j }) Excl))
-          (λ f. next ∙ ap (λ (m : ℕ). Some (Take (record { 0 = m }) Excl)) (same_Some l.0 j (sym (put_same s.wanted t (Some l.0)) ∙ f)))
-          (λ v ne f. k.wants v j (sym (put_other s.wanted t (Some l.0) v ne) ∙ f)) u;
-      woken = λ u. each_place t (λ v. WokenByCall (put s.wait t Queued v)) (rw (put_same s.wait t Queued) tt) (λ v ne. rw (put_other s.wait t Queued v ne) (k.woken v)) u;
+      wants = λ u j. at_put (λ v w. w ≡ Some j → slice_get (operations_of plan v) (r.next_op v) ≡ Some (Take (record { 0 = j }) Excl)) s.wanted t (Some l.0)
+          (λ f. i.next ∙ ap (λ (m : ℕ). Some (Take (record { 0 = m }) Excl)) (same_Some l.0 j f))
+          (λ v ne. k.wants v j) u;
+      woken = at_put (λ v w. WokenByCall w) s.wait t Queued tt (λ v ne. k.woken v);
       marked = k.marked;
+      stamped = k.stamped;
     }
 
-  pub taken : (l : LockNo) (mode : Mode) → s.wait t ≡ Running → s.walk t ≡ NoWalk → Next plan chains r t p k (Take l mode) → IsOnTrack plan chains (takes c r t l mode).run
-  taken l Shared running w next = absurd (none-some _ (fit plan chains r t p k (Take l Shared) next))
-  taken l Excl running w next = go (admits (c.kind l.0) (s.word l.0) Excl) refl
-    where
-      by_turnstile : admits (c.kind l.0) (s.word l.0) Excl ≡ false → (o : Option ℕ) → s.turnstile t ≡ o → IsOnTrack plan chains (blocks r t l.0 Excl o).run
-      by_turnstile e None f = k
-      by_turnstile e (Some x) f = blocked l running next x (may_block l running next x e f w)
+  -- 2. A release
 
-      go : (b : Bool) → admits (c.kind l.0) (s.word l.0) Excl ≡ b → IsOnTrack plan chains (cond b (ended Gain (noted_state l running next) r t) (blocks r t l.0 Excl (s.turnstile t))).run
-      go true e = goes_on plan chains r t (noted_state l running next) p k lt (gained l running next e)
-      go false e = by_turnstile e (s.turnstile t) refl
+  module _ (l : LockNo) (i : IsAt plan r t (Some (Release l))) where
+    abbrev mode : Mode
+    mode = mode_held (s.held t l.0)
 
-  -- 3. A release
+    pub release_finds : (hold_in (before plan r t) l.0 ≢ NotHeld) × (without_lock l.0 (before plan r t) ≡ behind plan r t)
+    release_finds = release_fits (length plan.locks) l _ _ (fit plan r t p (Release l) i.next)
 
-  pub release_finds : (l : LockNo) → Next plan chains r t p k (Release l) → (hold_in (before plan chains r t p k) l.0 ≢ NotHeld) × (without_lock l.0 (before plan chains r t p k) ≡ behind plan chains r t p k)
-  release_finds l next = release_fits (length plan.locks) l _ _ (fit plan chains r t p k (Release l) next)
-
-  module _ (l : LockNo) (mode : Mode) (running : s.wait t ≡ Running) (next : Next plan chains r t p k (Release l)) (held : s.held t l.0 ≡ Holds mode) where
-    abbrev pub released_state : State
-    released_state = after_stamp c s t (event.Unlocked l mode)
+    pub held : s.held t l.0 ≡ Holds mode
+    held = its_mode (s.held t l.0) (λ z. release_finds.0 (sym (k.holds t l.0) ∙ z))
 
     pub may_note : MayStamp c s t (event.Unlocked l mode)
-    may_note = record {
-      thread = lt;
-      unnamed = unnamed plan chains r t p k running;
-      unwoken = ap is_woken running;
-      asks = k.sections t l.0 ∙ held;
-    }
+    may_note = record { thread = lt; acting = acting plan r t k i.running; asks = k.sections t l.0 ∙ held }
+
+    abbrev pub released_state : State
+    released_state = after_stamp c s t (event.Unlocked l mode)
 
     -- the section is closed
     closed : open_in c released_state.history t l.0 ≡ NotHeld
@@ -223,19 +230,19 @@ module _ (plan : Plan) (chains : ℕ) (r : Run) (t : ℕ) (p : IsProper plan) (k
         (own_section c s t (event.Unlocked l mode) j ∙ ap (cond (eqb l.0 j) NotHeld) (k.sections t j) ∙ sym (put_at_own s.held t l.0 NotHeld j))
         (λ v ne. other_section c s t (event.Unlocked l mode) v j ne ∙ k.sections v j ∙ sym (put_at_other s.held t l.0 NotHeld v j ne)) u
 
-    released_holds : (j : ℕ) → put_at s.held t l.0 NotHeld t j ≡ hold_in (behind plan chains r t p k) j
+    released_holds : (j : ℕ) → put_at s.held t l.0 NotHeld t j ≡ hold_in (behind plan r t) j
     released_holds j =
         put_at_own s.held t l.0 NotHeld j
         ∙ ap (cond (eqb l.0 j) NotHeld) (k.holds t j)
-        ∙ sym (hold_in-without l.0 (before plan chains r t p k) j (are_locks plan chains r t p k).apart)
-        ∙ ap (λ (hs : List Held). hold_in hs j) (release_finds l next).1
+        ∙ sym (hold_in-without l.0 (before plan r t) j (are_locks plan r t p).apart)
+        ∙ ap (λ (hs : List Held). hold_in hs j) release_finds.1
 
     released_begun : (u j : ℕ) → put_at s.held t l.0 NotHeld u j ≢ NotHeld → s.has_begun u j ≡ true
     unfolding put_at
     released_begun u j n = k.begun u j (λ z. n (still_unheld (eqb t u && eqb l.0 j) (s.held u j) z))
 
     pub is_lock : l.0 < c.locks
-    is_lock = (are_locks plan chains r t p k).within l.0 (release_finds l next).0
+    is_lock = (are_locks plan r t p).within l.0 release_finds.0
 
     has_begun : s.has_begun t l.0 ≡ true
     has_begun = k.begun t l.0 (λ z. let y : NotHeld ≡ Holds mode = sym z ∙ held in cc)
@@ -244,67 +251,51 @@ module _ (plan : Plan) (chains : ℕ) (r : Run) (t : ℕ) (p : IsProper plan) (k
     unfolding after_stamp
     may_drop e = record { thread = lt; lock = is_lock; held = held; stays = e; closed = closed; begun = has_begun }
 
-    pub may_open : is_drop (s.word l.0) ≡ false → s.marked t ≡ [] → MayOpen c released_state t l.0 mode
+    pub may_drop_all : is_drop (s.word l.0) ≡ true → MayAll c s (Stamps t (event.Unlocked l mode) ∷ Drops t l.0 mode ∷ [])
+    may_drop_all e = (may_note, (may_drop e, tt))
+
+    pub may_open : is_drop (s.word l.0) ≡ false → MayOpen c released_state t l.0 mode
     unfolding after_stamp
-    may_open e f = record {
+    may_open e = record {
       thread = lt;
       lock = is_lock;
       turnstile = turnstile l.0;
       held = held;
       last = (open_finds (s.word l.0) e).0;
       shown = (open_finds (s.word l.0) e).1;
-      unmarked = f;
-      off_turnstiles = λ j i. absurd (let z : None ≡ Some (lock_queue j) = sym (unnamed plan chains r t p k running) ∙ i in cc);
+      unmarked = i.free.unmarked;
+      off_turnstiles = λ j f. absurd (let z : None ≡ Some (lock_queue j) = sym (unnamed plan r t k i.running) ∙ f in cc);
       closed = closed;
       begun = has_begun;
     }
 
-    dropped : is_drop (s.word l.0) ≡ true → EndsWell plan chains r t (after_drop released_state t l.0)
+    pub may_open_all : is_drop (s.word l.0) ≡ false → MayAll c s (Stamps t (event.Unlocked l mode) ∷ Opens t l.0 mode ∷ [])
+    may_open_all e = (may_note, (may_open e, tt))
+
+    abbrev AreCalls : List Mark → Type 0
+    AreCalls ms = All (λ m. IsCall m.queue m.cause) ms
+
+    -- whatever becomes of the marked lists
+    released : (marked : ℕ → List Mark) → ((u : ℕ) → AreCalls (marked u)) → EndsWell plan r t released_state.history (put_at s.held t l.0 NotHeld) s.has_begun s.wanted marked released_state.unstamped
+    unfolding after_stamp
+    released marked calls = record {
+      left = left plan r t (Release l) i.next;
+      entry = refl;
+      own_holds = released_holds;
+      other_holds = put_at_other s.held t l.0 NotHeld;
+      sections = released_sections;
+      begun = released_begun;
+      own_wants = wants_none plan r t k (Release l) i.next refl;
+      other_wants = λ u ne. refl;
+      calls = calls;
+      stamped = stamped_behind plan r t (event.Unlocked l mode) k (λ w. refl);
+    }
+
+    pub dropped : KeepsTrack plan (run_after c r t (ends r t kind.Drop (Stamps t (event.Unlocked l mode) ∷ Drops t l.0 mode ∷ [])))
     unfolding after_drop after_stamp
-    dropped e = record {
-      lawful = drop.lawful c released_state t l.0 mode (may_drop e) (stamp.lawful c s t (event.Unlocked l mode) may_note k.lawful);
-      nothing_out = k.nothing_out;
-      own_holds = released_holds;
-      other_holds = put_at_other s.held t l.0 NotHeld;
-      sections = released_sections;
-      begun = released_begun;
-      own_wants = wants_none plan chains r t p k (Release l) next refl;
-      other_wants = λ u ne. refl;
-      woken = k.woken;
-      marked = k.marked;
-      left = left plan chains r t p k (Release l) next;
-      entry = refl;
-    }
+    dropped = goes_on plan r t _ k lt (record { wait = refl; blocked_on = refl; nothing_out = k.lawful.nothing_out }) (released s.marked k.marked)
 
-    opened : is_drop (s.word l.0) ≡ false → s.marked t ≡ [] → EndsWell plan chains r t (after_open c released_state t l.0)
+    pub opened : KeepsTrack plan (run_after c r t (ends r t kind.OpenUp (Stamps t (event.Unlocked l mode) ∷ Opens t l.0 mode ∷ [])))
     unfolding after_open after_stamp
-    opened e f = record {
-      lawful = opening.lawful c released_state t l.0 mode (may_open e f) (stamp.lawful c s t (event.Unlocked l mode) may_note k.lawful);
-      nothing_out = k.nothing_out;
-      own_holds = released_holds;
-      other_holds = put_at_other s.held t l.0 NotHeld;
-      sections = released_sections;
-      begun = released_begun;
-      own_wants = wants_none plan chains r t p k (Release l) next refl;
-      other_wants = λ u ne. refl;
-      woken = k.woken;
-      marked = λ u. each_place t (λ v. All (λ (m : Mark). IsCall m.queue m.cause) (put s.marked t marks v))
-          (rw (put_same s.marked t marks) (dealt_calls l.0 woken_waiters (s.free_list (lock_queue l.0)) (s.head (lock_queue l.0))))
-          (λ v ne. rw (put_other s.marked t marks v ne) (k.marked v)) u;
-      left = left plan chains r t p k (Release l) next;
-      entry = refl;
-    }
-      where
-        woken_waiters : List Waiter
-        woken_waiters = list_of (side_woken (c.kind l.0) (s.word l.0)) (s.lists (lock_queue l.0))
-
-        marks : List Mark
-        marks = dealt (lock_queue l.0) woken_waiters (s.free_list (lock_queue l.0)) (s.head (lock_queue l.0))
-
-  pub released : (l : LockNo) (h : Hold) → s.wait t ≡ Running → s.marked t ≡ [] → Next plan chains r t p k (Release l) → s.held t l.0 ≡ h → IsOnTrack plan chains (releases c r t l h).run
-  released l NotHeld running m next e = k
-  released l (Holds mode) running m next e = go (is_drop (s.word l.0)) refl
-    where
-      go : (b : Bool) → is_drop (s.word l.0) ≡ b → IsOnTrack plan chains (cond b (ended Drop (after_drop (released_state l mode running next e) t l.0) r t) (ended OpenUp (after_open c (released_state l mode running next e) t l.0) r t)).run
-      go true i = goes_on plan chains r t (after_drop (released_state l mode running next e) t l.0) p k lt (dropped l mode running next e i)
-      go false i = goes_on plan chains r t (after_open c (released_state l mode running next e) t l.0) p k lt (opened l mode running next e i m)
+    opened = goes_on plan r t _ k lt (record { wait = refl; blocked_on = refl; nothing_out = k.lawful.nothing_out })
+        (released _ (at_put (λ v ms. AreCalls ms) s.marked t _ (dealt_calls l.0 (list_of (side_woken (c.kind l.0) (s.word l.0)) (s.lists (lock_queue l.0))) (s.free_list (lock_queue l.0)) (s.head (lock_queue l.0))) (λ v ne. k.marked v)))

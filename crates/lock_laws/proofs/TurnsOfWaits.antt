@@ -1,26 +1,27 @@
--- The turns of a thread with a marked list, and of a woken one, leave the run on track.
-use Rattle.std.proofs.Common.{◌≡◌, ℕ, ◌<◌, List, ◌∷◌, length, All, slice_get, Some, sym, ◌∙◌, subst}
+-- The turns of a thread with a marked list, and of a woken one: their steps may be made, and they leave the run on track.
+use Rattle.std.proofs.Common.{◌≡◌, ◌≢◌, ℕ, ◌<◌, List, [], ◌∷◌, length, All, slice_get, Option, Some, None, sym, ◌∙◌, subst}
 use Rattle.std.proofs.lemmas.List.Elements.{All-head, All-tail}
 use Rattle.lock_model.specs.Plans.{config_of, operations_of}
-use Rattle.lock_model.specs.Operations.{IsProper}
 use Rattle.lock_model.specs.Config.{Config}
-use Rattle.lock_state.specs.State.{State, Running, Woken, put}
 use Rattle.lock_model.specs.Queues.{Mark, Cause, BySignal, ByAbort}
-use Rattle.lock_state.specs.Steps.Turnstiles.{after_mark, after_resume}
-use Rattle.lock_state.specs.Run.{Run}
+use Rattle.lock_state.specs.State.{State, Wait, Queued, Running, Woken, put}
+use Rattle.lock_state.specs.Steps.{Step, Marks, Resumes}
+use Rattle.lock_state.specs.Steps.Turnstiles.{MayMark, MayResume, HasReleased, after_mark, after_resume}
+use Rattle.lock_state.specs.Facts.{QueuedStands}
+use Rattle.lock_state.specs.Run.{Run, does, run_after}
 use Rattle.lock_model.specs.declared.plan.Op.TheVariants.{Take}
 use Rattle.lock_model.specs.declared.plan.Mode.TheVariants.{Excl}
 use Rattle.lock_model.specs.declared.plan.Plan.{Plan}
 use Rattle.lock_model.specs.declared.plan.QueueName.{QueueName}
 use Rattle.lock_model.specs.declared.plan.QueueName.TheVariants.{Lock, Chan}
+use Rattle.lock_model.specs.declared.turn.StepKind.TheVariants as kind
 use Rattle.lock_laws.specs.OnTrack.{IsOnTrack, IsCall, WokenByCall}
-use Rattle.lock_laws.proofs.Kit.{put_same, put_other, each_place}
-use Rattle.lock_laws.proofs.Mark as mark
-use Rattle.lock_laws.proofs.Resume as resume
+use Rattle.lock_laws.proofs.Kit.{at_put, put_same, put_other, each_place}
+use Rattle.lock_laws.proofs.OnTrack.{KeepsTrack}
 
-module _ (plan : Plan) (chains : ℕ) (r : Run) (t : ℕ) (p : IsProper plan) (k : IsOnTrack plan chains r) (lt : t < length plan.threads) where
+module _ (plan : Plan) (r : Run) (t : ℕ) (k : IsOnTrack plan r) (lt : t < length plan.threads) where
   abbrev c : Config
-  c = config_of plan chains
+  c = config_of plan
 
   abbrev s : State
   s = r.state
@@ -30,23 +31,25 @@ module _ (plan : Plan) (chains : ℕ) (r : Run) (t : ℕ) (p : IsProper plan) (k
 
   -- 1. A mark
 
-  pub marked : (m : Mark) (ms : List Mark) → s.marked t ≡ m ∷ ms → IsOnTrack plan chains (record r { state = after_mark c s t m ms })
-  unfolding after_mark
+  pub may_mark : (m : Mark) (ms : List Mark) → s.marked t ≡ m ∷ ms → MayMark c s t m ms
+  may_mark m ms e = record { thread = lt; marked = e; stamped = k.stamped t }
+
+  pub marked : (m : Mark) (ms : List Mark) → s.marked t ≡ m ∷ ms → KeepsTrack plan (run_after c r t (does kind.Mark (Marks t m ms ∷ [])))
+  unfolding after_mark QueuedStands
   marked m ms e = record {
-    lawful = mark.lawful c s t m ms (record { thread = lt; marked = e }) k.lawful;
-    nothing_out = k.nothing_out;
+    nothing_out = k.lawful.nothing_out;
+    queued_stands = λ u. each_place m.thread (λ v. put s.wait m.thread (Woken m.queue m.cause) v ≡ Queued → put s.blocked_on m.thread None v ≢ None)
+        (λ i. absurd (let z : Woken m.queue m.cause ≡ Queued = sym (put_same s.wait m.thread (Woken m.queue m.cause)) ∙ i in cc))
+        (λ v ne. rw (put_other s.wait m.thread (Woken m.queue m.cause) v ne, put_other s.blocked_on m.thread None v ne) (k.lawful.queued_stands v)) u;
     within = k.within;
     entries = k.entries;
     holds = k.holds;
     sections = k.sections;
     begun = k.begun;
     wants = k.wants;
-    woken = λ u. each_place m.thread (λ v. WokenByCall (put s.wait m.thread (Woken m.queue m.cause) v))
-        (rw (put_same s.wait m.thread (Woken m.queue m.cause)) (All-head (λ m. IsCall m.queue m.cause) m ms all))
-        (λ v ne. rw (put_other s.wait m.thread (Woken m.queue m.cause) v ne) (k.woken v)) u;
-    marked = λ u. each_place t (λ v. AreCalls (put s.marked t ms v))
-        (rw (put_same s.marked t ms) (All-tail (λ m. IsCall m.queue m.cause) m ms all))
-        (λ v ne. rw (put_other s.marked t ms v ne) (k.marked v)) u;
+    woken = at_put (λ v w. WokenByCall w) s.wait m.thread (Woken m.queue m.cause) (All-head (λ m. IsCall m.queue m.cause) m ms all) (λ v ne. k.woken v);
+    marked = at_put (λ v list. AreCalls list) s.marked t ms (All-tail (λ m. IsCall m.queue m.cause) m ms all) (λ v ne. k.marked v);
+    stamped = k.stamped;
   }
     where
       all : AreCalls (m ∷ ms)
@@ -54,24 +57,30 @@ module _ (plan : Plan) (chains : ℕ) (r : Run) (t : ℕ) (p : IsProper plan) (k
 
   -- 2. A resume
 
-  by_call : (q : QueueName) (cause : Cause) → s.wait t ≡ Woken q cause → IsCall q cause → IsOnTrack plan chains (record r { state = after_resume c s t q cause })
-  unfolding after_resume
-  by_call (Lock l) BySignal e i = record {
-    lawful = resume.lawful c s t (Lock l) BySignal (record { thread = lt; woken = e }) k.lawful;
-    nothing_out = k.nothing_out;
+  pub may_resume : (q : QueueName) (cause : Cause) → s.wait t ≡ Woken q cause → MayResume c s t q cause
+  may_resume q cause e = record { thread = lt; woken = e; released = released q cause (subst WokenByCall e (k.woken t)) }
+    where
+      released : (x : QueueName) (y : Cause) → IsCall x y → HasReleased c s t x
+      released (Lock l) y i = tt
+      released (Chan d) y i = absurd i
+
+  called : (q : QueueName) (cause : Cause) → IsCall q cause → KeepsTrack plan (run_after c r t (does kind.Resume (Resumes t q cause ∷ [])))
+  unfolding after_resume QueuedStands
+  called (Lock l) BySignal i = record {
+    nothing_out = k.lawful.nothing_out;
+    queued_stands = at_put (λ v w. w ≡ Queued → s.blocked_on v ≢ None) s.wait t Running (λ e. absurd cc) (λ v ne. k.lawful.queued_stands v);
     within = k.within;
     entries = k.entries;
     holds = k.holds;
     sections = k.sections;
     begun = k.begun;
-    wants = λ u j. each_place t (λ v. put s.wanted t (s.wanted t) v ≡ Some j → slice_get (operations_of plan v) (r.place v) ≡ Some (Take (record { 0 = j }) Excl))
-        (λ f. k.wants t j (sym (put_same s.wanted t (s.wanted t)) ∙ f))
-        (λ v ne f. k.wants v j (sym (put_other s.wanted t (s.wanted t) v ne) ∙ f)) u;
-    woken = λ u. each_place t (λ v. WokenByCall (put s.wait t Running v)) (rw (put_same s.wait t Running) tt) (λ v ne. rw (put_other s.wait t Running v ne) (k.woken v)) u;
+    wants = λ u j. at_put (λ v w. w ≡ Some j → slice_get (operations_of plan v) (r.next_op v) ≡ Some (Take (record { 0 = j }) Excl)) s.wanted t (s.wanted t) (k.wants t j) (λ v ne. k.wants v j) u;
+    woken = at_put (λ v w. WokenByCall w) s.wait t Running tt (λ v ne. k.woken v);
     marked = k.marked;
+    stamped = k.stamped;
   }
-  by_call (Lock l) ByAbort e i = absurd i
-  by_call (Chan d) cause e i = absurd i
+  called (Lock l) ByAbort i = absurd i
+  called (Chan d) cause i = absurd i
 
-  pub resumed : (q : QueueName) (cause : Cause) → s.wait t ≡ Woken q cause → IsOnTrack plan chains (record r { state = after_resume c s t q cause })
-  resumed q cause e = by_call q cause e (subst WokenByCall e (k.woken t))
+  pub resumed : (q : QueueName) (cause : Cause) → s.wait t ≡ Woken q cause → KeepsTrack plan (run_after c r t (does kind.Resume (Resumes t q cause ∷ [])))
+  resumed q cause e = called q cause (subst WokenByCall e (k.woken t))

@@ -1,11 +1,11 @@
 -- What is true of a scheduled run between two turns: its state is lawful, and each thread is where its operations have led it.
-use Rattle.std.specs.Prelude.{◌≡◌, ◌≢◌, ℕ, ◌≤◌, Bool, true, false, List, length, slice_get, Some, None}
+use Rattle.std.specs.Prelude.{◌≡◌, ◌≢◌, ℕ, ◌≤◌, Bool, true, false, List, [], length, slice_get, Some, None}
 use Rattle.std.specs.List.{All}
 use Rattle.lock_model.specs.Plans.{config_of, operations_of}
 use Rattle.lock_model.specs.Counts.{sum_below}
 use Rattle.lock_model.specs.Operations.{hold_in, held_of}
 use Rattle.lock_model.specs.Holds.{NotHeld}
-use Rattle.lock_state.specs.State.{Wait, Running, Queued, Woken}
+use Rattle.lock_state.specs.State.{Wait, Running, Queued, Woken, NoWalk}
 use Rattle.lock_model.specs.Queues.{Cause, BySignal, ByAbort}
 use Rattle.lock_model.specs.History.{open_in, entries_of}
 use Rattle.lock_model.specs.Law.{LeadsTo, Before}
@@ -13,7 +13,7 @@ use Rattle.lock_model.specs.declared.event.Entry.{Entry}
 use Rattle.lock_model.specs.declared.event.Event.{Event}
 use Rattle.lock_model.specs.declared.event.Event.TheVariants.{Locked, Tried, Busy, Unlocked, Set, Added, Got, Base, Shown, Sleeps, Woke, HaltedChan, HaltedLock, WokeOne, WokeAll, Reversed}
 use Rattle.lock_state.specs.Facts.{LawfulTurn}
-use Rattle.lock_state.specs.Run.{Run}
+use Rattle.lock_state.specs.Run.{Run, has_ended}
 use Rattle.lock_model.specs.declared.plan.Op.TheVariants.{Take}
 use Rattle.lock_model.specs.declared.plan.Mode.TheVariants.{Excl}
 use Rattle.lock_model.specs.declared.plan.Plan.{Plan}
@@ -77,3 +77,10 @@ pub record IsOnTrack (plan : Plan) (r : Run) : Type 0 where
   pub marked : (t : ℕ) → All (λ m. IsCall m.queue m.cause) (r.state.marked t)
   -- each wake is noted
   pub stamped : (t : ℕ) → r.state.unstamped t ≡ None
+
+-- a thread that sleeps: it hasn't ended, its wait word says Queued, and it owes no walk and has no marked list
+pub record IsSleeping (plan : Plan) (r : Run) (t : ℕ) : Type 0 where
+  pub going : has_ended plan r t ≡ false
+  pub queued : r.state.wait t ≡ Queued
+  pub no_walk : r.state.walk t ≡ NoWalk
+  pub unmarked : r.state.marked t ≡ []

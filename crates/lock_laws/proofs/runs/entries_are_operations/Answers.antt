@@ -1,4 +1,4 @@
-use Rattle.lock_laws.proofs.Turning as law
+use Rattle.lock_laws.proofs.Entries as law
 use Rattle.lock_laws.proofs.runs.entries_are_operations.Goals as goal
 
 pub returns : goal.returns

@@ -1,0 +1,152 @@
+-- The table of turns, row by row: each row with what the thread is found at where that row is the first that fits. What is proved of a turn
+-- is proved by these cases.
+use Rattle.std.proofs.Common.{◌≡◌, ◌⊎◌, ℕ, Bool, true, false, cond, ◌&&◌, ltb, List, [], ◌∷◌, slice_get, Option, Some, None, refl, sym, ap, inl, inr, arith, ◌∙◌}
+use Rattle.lock_model.specs.Plans.{config_of, operations_of}
+use Rattle.lock_model.specs.Operations.{held_behind}
+use Rattle.lock_model.specs.Words.{admits, is_drop, is_turnstile, owner_of}
+use Rattle.lock_model.specs.Holds.{Hold}
+use Rattle.lock_model.specs.Queues.{Mark, Cause, lock_queue, stands}
+use Rattle.lock_model.specs.Config.{Config}
+use Rattle.lock_state.specs.State.{State, Wait, Running, Queued, Woken, Walk, NoWalk, AtLock, AtThread}
+use Rattle.lock_state.specs.Steps.{Step, Gains, Drops, Stamps, Opens, Marks, Resumes, Lends, Shifts, EndsWalk}
+use Rattle.lock_state.specs.Run.{Run, Row, turn_of, has_ended, nothing, does, ends, blocks, notes, takes, releases, mode_held, operates, by_wait, by_marked, by_walk, walks_at_lock, walks_at_thread}
+use Rattle.lock_model.specs.declared.numbers.LockNo.{LockNo}
+use Rattle.lock_model.specs.declared.numbers.Prio.{Prio}
+use Rattle.lock_model.specs.declared.plan.Mode.{Mode}
+use Rattle.lock_model.specs.declared.plan.Op.{Op}
+use Rattle.lock_model.specs.declared.plan.Op.TheVariants.{Take, Try, EndTry, Release, Set, Add, Get, Base, Show, Sleep, WakeOne, WakeAll}
+use Rattle.lock_model.specs.declared.plan.Plan.{Plan}
+use Rattle.lock_model.specs.declared.plan.QueueName.{QueueName}
+use Rattle.lock_model.specs.declared.plan.QueueName.TheVariants.{Lock, Chan}
+use Rattle.lock_model.specs.declared.turn.StepKind.TheVariants as kind
+use Rattle.lock_model.specs.declared.turn.Turn.TheVariants.{Idle, Ended}
+use Rattle.lock_model.specs.declared.event.Event.{Event}
+use Rattle.lock_model.specs.declared.event.Held.{Held}
+use Rattle.lock_model.specs.declared.event.Event.TheVariants as event
+
+-- a thread that has neither a walk nor a marked list
+pub record OwesNothing (r : Run) (t : ℕ) : Type 0 where
+  pub no_walk : r.state.walk t ≡ NoWalk
+  pub unmarked : r.state.marked t ≡ []
+
+-- a running thread at its next operation, where it has one left
+pub record IsAt (plan : Plan) (r : Run) (t : ℕ) (o : Option Op) : Type 0 where
+  pub running : r.state.wait t ≡ Running
+  pub free : OwesNothing r t
+  pub next : slice_get (operations_of plan t) (r.next_op t) ≡ o
+
+-- the entry of an operation that only makes one
+pub data Notes (r : Run) (t : ℕ) : Op → Event → Type 0 where
+  sets : (l : LockNo) (key value : ℕ) → Notes r t (Set l key value) (event.Set l key value)
+  adds : (l : LockNo) (key amount : ℕ) → Notes r t (Add l key amount) (event.Added l key amount)
+  gets : (l : LockNo) (key : ℕ) → Notes r t (Get l key) (event.Got l key (r.state.table l.0 key))
+  changes_base : (prio : Prio) → Notes r t (Base prio) (event.Base prio)
+  shows : Notes r t Show (event.Shown (record { 0 = r.state.base t }) (record { 0 = r.state.effective t }))
+
+-- whether a thread stands on the lock's turnstile
+abbrev pub stands_at : Plan → Run → ℕ → ℕ → Bool
+stands_at plan r o l = is_turnstile ((config_of plan).kind l) && ltb 0 (stands o (r.state.lists (lock_queue l)))
+
+-- the first row that fits a thread
+pub data Fits (plan : Plan) (r : Run) (t : ℕ) : Row → Type 0 where
+  is_over : has_ended plan r t ≡ true → Fits plan r t (nothing Ended)
+  lends : (l o h : ℕ) → r.state.walk t ≡ AtLock l → owner_of (r.state.word l).holder ≡ Some o → r.state.head (lock_queue l) ≡ Some h
+      → Fits plan r t (does kind.Lend (Lends t l o h ∷ []))
+  ends_at_lock : (l : ℕ) → r.state.walk t ≡ AtLock l → (owner_of (r.state.word l).holder ≡ None) ⊎ (r.state.head (lock_queue l) ≡ None)
+      → Fits plan r t (does kind.WalkEnd (EndsWalk t ∷ []))
+  shifts : (o : ℕ) (l : LockNo) → r.state.walk t ≡ AtThread o → r.state.blocked_on o ≡ Some (Lock l) → stands_at plan r o l.0 ≡ true
+      → Fits plan r t (does kind.Shift (Shifts t o l.0 ∷ []))
+  ends_at_thread : (o : ℕ) → r.state.walk t ≡ AtThread o → ((l : LockNo) → r.state.blocked_on o ≡ Some (Lock l) → stands_at plan r o l.0 ≡ false)
+      → Fits plan r t (does kind.WalkEnd (EndsWalk t ∷ []))
+  marks : (m : Mark) (ms : List Mark) → r.state.walk t ≡ NoWalk → r.state.marked t ≡ m ∷ ms → Fits plan r t (does kind.Mark (Marks t m ms ∷ []))
+  is_queued : has_ended plan r t ≡ false → OwesNothing r t → r.state.wait t ≡ Queued → Fits plan r t (nothing Idle)
+  resumes : (q : QueueName) (cause : Cause) → OwesNothing r t → r.state.wait t ≡ Woken q cause → Fits plan r t (does kind.Resume (Resumes t q cause ∷ []))
+  gains : (l : LockNo) (mode : Mode) → IsAt plan r t (Some (Take l mode)) → admits ((config_of plan).kind l.0) (r.state.word l.0) mode ≡ true
+      → Fits plan r t (ends r t kind.Gain (Gains t l.0 mode false ∷ Stamps t (event.Locked l mode) ∷ []))
+  enters : (l : LockNo) (mode : Mode) → IsAt plan r t (Some (Take l mode)) → admits ((config_of plan).kind l.0) (r.state.word l.0) mode ≡ false
+      → Fits plan r t (blocks r t l mode)
+  drops : (l : LockNo) → IsAt plan r t (Some (Release l)) → is_drop (r.state.word l.0) ≡ true
+      → Fits plan r t (ends r t kind.Drop (Stamps t (event.Unlocked l (mode_held (r.state.held t l.0))) ∷ Drops t l.0 (mode_held (r.state.held t l.0)) ∷ []))
+  opens : (l : LockNo) → IsAt plan r t (Some (Release l)) → is_drop (r.state.word l.0) ≡ false
+      → Fits plan r t (ends r t kind.OpenUp (Stamps t (event.Unlocked l (mode_held (r.state.held t l.0))) ∷ Opens t l.0 (mode_held (r.state.held t l.0)) ∷ []))
+  makes_entry : (op : Op) (e : Event) → IsAt plan r t (Some op) → Notes r t op e → Fits plan r t (notes r t e)
+  -- no thread of a proper plan comes to these two
+  has_no_operation : has_ended plan r t ≡ false → IsAt plan r t None → Fits plan r t (nothing Idle)
+  is_not_run : (op : Op) → IsAt plan r t (Some op) → ((locks : ℕ) (held : List Held) → held_behind locks op held ≡ None) → Fits plan r t (nothing Idle)
+
+module _ (plan : Plan) (r : Run) (t : ℕ) where
+  abbrev c : Config
+  c = config_of plan
+
+  abbrev s : State
+  s = r.state
+
+  at_lock : (l : ℕ) (o h : Option ℕ) → s.walk t ≡ AtLock l → owner_of (s.word l).holder ≡ o → s.head (lock_queue l) ≡ h → Fits plan r t (walks_at_lock t l o h)
+  at_lock l (Some o) (Some h) w e f = lends l o h w e f
+  at_lock l (Some o) None w e f = ends_at_lock l w (inr f)
+  at_lock l None h w e f = ends_at_lock l w (inl e)
+
+  at_thread : (o : ℕ) (q : Option QueueName) → s.walk t ≡ AtThread o → s.blocked_on o ≡ q → Fits plan r t (walks_at_thread c r t o q)
+  at_thread o (Some (Lock l)) w e = go (stands_at plan r o l.0) refl
+    where
+      go : (b : Bool) → stands_at plan r o l.0 ≡ b → Fits plan r t (cond b (does kind.Shift (Shifts t o l.0 ∷ [])) (does kind.WalkEnd (EndsWalk t ∷ [])))
+      go true i = shifts o l w e i
+      go false i = ends_at_thread o w (λ k j. grind (arith, e, j, i))
+  at_thread o (Some (Chan d)) w e = ends_at_thread o w (λ l j. absurd (let z = sym e ∙ j in cc))
+  at_thread o None w e = ends_at_thread o w (λ l j. absurd (let z = sym e ∙ j in cc))
+
+  module _ (going : has_ended plan r t ≡ false) where
+    taken : (l : LockNo) (mode : Mode) → IsAt plan r t (Some (Take l mode)) → Fits plan r t (takes c r t l mode)
+    taken l mode i = go (admits (c.kind l.0) (s.word l.0) mode) refl
+      where
+        go : (b : Bool) → admits (c.kind l.0) (s.word l.0) mode ≡ b → Fits plan r t (cond b (ends r t kind.Gain (Gains t l.0 mode false ∷ Stamps t (event.Locked l mode) ∷ [])) (blocks r t l mode))
+        go true e = gains l mode i e
+        go false e = enters l mode i e
+
+    released : (l : LockNo) → IsAt plan r t (Some (Release l)) → Fits plan r t (releases r t l (mode_held (s.held t l.0)))
+    released l i = go (is_drop (s.word l.0)) refl
+      where
+        mode : Mode
+        mode = mode_held (s.held t l.0)
+
+        go : (b : Bool) → is_drop (s.word l.0) ≡ b
+            → Fits plan r t (cond b (ends r t kind.Drop (Stamps t (event.Unlocked l mode) ∷ Drops t l.0 mode ∷ [])) (ends r t kind.OpenUp (Stamps t (event.Unlocked l mode) ∷ Opens t l.0 mode ∷ [])))
+        go true e = drops l i e
+        go false e = opens l i e
+
+    operated : (o : Option Op) → IsAt plan r t o → Fits plan r t (operates c r t o)
+    operated None i = has_no_operation going i
+    operated (Some (Take l mode)) i = taken l mode i
+    operated (Some (Try l mode past)) i = is_not_run (Try l mode past) i (λ n held. refl)
+    operated (Some EndTry) i = is_not_run EndTry i (λ n held. refl)
+    operated (Some (Release l)) i = released l i
+    operated (Some (Set l key value)) i = makes_entry (Set l key value) (event.Set l key value) i (sets l key value)
+    operated (Some (Add l key amount)) i = makes_entry (Add l key amount) (event.Added l key amount) i (adds l key amount)
+    operated (Some (Get l key)) i = makes_entry (Get l key) (event.Got l key (s.table l.0 key)) i (gets l key)
+    operated (Some (Base prio)) i = makes_entry (Base prio) (event.Base prio) i (changes_base prio)
+    operated (Some Show) i = makes_entry Show (event.Shown (record { 0 = s.base t }) (record { 0 = s.effective t })) i shows
+    operated (Some (Sleep d)) i = is_not_run (Sleep d) i (λ n held. refl)
+    operated (Some (WakeOne d)) i = is_not_run (WakeOne d) i (λ n held. refl)
+    operated (Some (WakeAll d)) i = is_not_run (WakeAll d) i (λ n held. refl)
+
+    waited : OwesNothing r t → (w : Wait) → s.wait t ≡ w → Fits plan r t (by_wait plan r t w)
+    waited f Queued e = is_queued going f e
+    waited f (Woken q cause) e = resumes q cause f e
+    waited f Running e = operated (slice_get (operations_of plan t) (r.next_op t)) (record { running = e; free = f; next = refl })
+
+    marked : s.walk t ≡ NoWalk → (ms : List Mark) → s.marked t ≡ ms → Fits plan r t (by_marked plan r t ms)
+    marked w (m ∷ ms) e = marks m ms w e
+    marked w [] e = waited (record { no_walk = w; unmarked = e }) (s.wait t) refl
+
+    walked : (w : Walk) → s.walk t ≡ w → Fits plan r t (by_walk plan r t w)
+    walked (AtLock l) e = at_lock l (owner_of (s.word l).holder) (s.head (lock_queue l)) e refl refl
+    walked (AtThread o) e = at_thread o (s.blocked_on o) e refl
+    walked NoWalk e = marked e (s.marked t) refl
+
+  pub fits : Fits plan r t (turn_of plan r t)
+  unfolding turn_of
+  fits = go (has_ended plan r t) refl
+    where
+      go : (b : Bool) → has_ended plan r t ≡ b → Fits plan r t (cond b (nothing Ended) (by_walk plan r t (s.walk t)))
+      go true e = is_over e
+      go false e = walked e (s.walk t) refl
