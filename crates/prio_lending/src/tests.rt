@@ -31,14 +31,6 @@ fn owned_head(alloc: Global) -> Result<Box<Turnstile>, AllocError>
     Ok(head)
 }
 
-/// Where a walk goes from lock 0 to its owner, of base 100, and the priority that the owner then has.
-fn lent_once(alloc: Global, on_turnstile: bool) -> Result<(Walk, Prio), AllocError> {
-    let mut head = owned_head(alloc)?;
-    let mut owner = ThreadRec::make(alloc, ThreadNo(7), Prio(100))?;
-    let walk = lend(&mut head, &mut owner, on_turnstile);
-    Ok((walk, owner.eff()))
-}
-
 /// The head after its owner, of base 100, was lent to and released the lock, with the owner's priority then.
 fn settled_head(alloc: Global) -> Result<(Box<Turnstile>, Prio), AllocError>
     ensures lock { IfOk result (λ r. r.0.value.contents.lock ≡ Some 0) }
@@ -59,29 +51,6 @@ fn exclusive(chain: &Chain<Turnstile>) -> [Option<(u8, u8)>; 4] {
     };
     let at = |i| head.waiter_at(Side::X, i).map(|w| (w.0.0, w.1.0));
     [at(0), at(1), at(2), at(3)]
-}
-
-#[test]
-fn lends_the_best(rt: HostRuntime) -> Result<(), Fail> {
-    assert_eq!(rt;
-        lent_once(rt.alloc(), true)?,
-        (Walk::AtThread(ThreadNo(7)), Prio(50))
-    );
-    assert_eq!(rt; lent_once(rt.alloc(), false)?, (Walk::None, Prio(50)));
-    Ok(())
-}
-
-#[test]
-fn lends_the_same_again(rt: HostRuntime) -> Result<(), Fail> {
-    let mut head = owned_head(rt.alloc())?;
-    let mut owner = ThreadRec::make(rt.alloc(), ThreadNo(7), Prio(100))?;
-    assert_eq!(rt;
-        lend(&mut head, &mut owner, true),
-        Walk::AtThread(ThreadNo(7))
-    );
-    assert_eq!(rt; lend(&mut head, &mut owner, true), Walk::None);
-    assert_eq!(rt; owner.eff(), Prio(50));
-    Ok(())
 }
 
 #[test]

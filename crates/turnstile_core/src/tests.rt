@@ -69,40 +69,6 @@ fn waits_and_wakes(rt: HostRuntime) -> Result<(), Fail> {
 }
 
 #[test]
-fn is_inserted_anew(rt: HostRuntime) -> Result<(), Fail> {
-    let mut head = three_waiters(rt.alloc())?;
-    head.adjust(ThreadNo(0), Prio(20));
-    assert_eq!(rt;
-        exclusive(&head),
-        [Some((0, 20)), Some((1, 50)), Some((2, 50)), None]
-    );
-    head.adjust(ThreadNo(1), Prio(50));
-    assert_eq!(rt;
-        exclusive(&head),
-        [Some((0, 20)), Some((2, 50)), Some((1, 50)), None]
-    );
-    Ok(())
-}
-
-#[test]
-fn lends_its_loan_node(rt: HostRuntime) -> Result<(), Fail> {
-    let mut head = three_waiters(rt.alloc())?;
-    assert_eq!(rt; head.owner(), None);
-    head.claim(ThreadNo(7));
-    assert_eq!(rt; head.owner(), Some(ThreadNo(7)));
-    let loan = head.take_loan();
-    assert!(rt; head.take_loan().is_none());
-    if let Some(loan) = loan {
-        assert_eq!(rt; loan.number, ThreadNo(0));
-        head.put_home(loan);
-    }
-    head.disown();
-    assert_eq!(rt; head.owner(), None);
-    assert!(rt; head.take_loan().is_some());
-    Ok(())
-}
-
-#[test]
 fn passes_between_threads(rt: HostRuntime) {
     fn passes<T: Send>() {}
     passes::<Box<Turnstile>>();
