@@ -3,8 +3,8 @@ ghost use Rattle.std.specs.Prelude.{◌≡◌};
 
 use super::*;
 use lock_model::{
-    ChanDecl, ChanNo, ClassNo, Entry, Event, Kind, LockDecl, LockNo, Name, Op, Plan, Prio, Sequence,
-    ThreadDecl, ThreadNo,
+    ChanDecl, ChanNo, ClassNo, Entry, Event, Kind, LockDecl, LockNo, Name, Op, Plan, Prio,
+    Sequence, ThreadDecl, ThreadNo,
 };
 use std::alloc::Global;
 use std::test::Fail;
@@ -142,7 +142,10 @@ fn a_log_and_its_history(rt: HostRuntime) -> Result<(), Fail> {
     log.put(first);
     assert_eq!(rt; (log.len(), log.spare()), (1, 1));
     let history = History::of_log(log);
-    assert_eq!(rt; (history.len(), history.at(0), history.at(1)), (1, Some(first), None));
+    assert_eq!(rt;
+        (history.len(), history.at(0), history.at(1)),
+        (1, Some(first), None)
+    );
     assert_eq!(rt; replay(alloc, &history)?.at(0), Some((LockNo(0), 1, 5)));
     Ok(())
 }

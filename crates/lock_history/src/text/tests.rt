@@ -16,37 +16,19 @@ const V: ChanNo = ChanNo(0);
 
 const H: ChanNo = ChanNo(1);
 
-const fn locked(l: LockNo, mode: Mode) -> Event {
-    Event::Locked { l, mode }
-}
-
-const fn tried(l: LockNo, mode: Mode) -> Event {
-    Event::Tried { l, mode }
-}
-
-const fn unlocked(l: LockNo, mode: Mode) -> Event {
-    Event::Unlocked { l, mode }
-}
-
 const MOST: u64 = u64::MAX;
 
-// Each kind of event, with its words behind the thread's name.
+// A lock and a mode, with the words of its gain, of a try that gains it, and of its release.
+const MODES: &[(LockNo, Mode, &str, &str, &str)] = &[
+    (M, Mode::Excl, " lock m", " trylock m", " unlock m"),
+    (W, Mode::Shared, " rlock w", " tryrlock w", " runlock w"),
+    (W, Mode::Excl, " wlock w", " trywlock w", " wunlock w"),
+    (S, Mode::Shared, " slock s", " tryslock s", " sunlock s"),
+    (S, Mode::Excl, " xlock s", " tryxlock s", " xunlock s"),
+];
+
+// Each other kind of event, with its words.
 const WORDS: &[(Event, &str)] = &[
-    (locked(M, Mode::Excl), " lock m"),
-    (locked(W, Mode::Shared), " rlock w"),
-    (locked(W, Mode::Excl), " wlock w"),
-    (locked(S, Mode::Shared), " slock s"),
-    (locked(S, Mode::Excl), " xlock s"),
-    (tried(M, Mode::Excl), " trylock m"),
-    (tried(W, Mode::Shared), " tryrlock w"),
-    (tried(W, Mode::Excl), " trywlock w"),
-    (tried(S, Mode::Shared), " tryslock s"),
-    (tried(S, Mode::Excl), " tryxlock s"),
-    (unlocked(M, Mode::Excl), " unlock m"),
-    (unlocked(W, Mode::Shared), " runlock w"),
-    (unlocked(W, Mode::Excl), " wunlock w"),
-    (unlocked(S, Mode::Shared), " sunlock s"),
-    (unlocked(S, Mode::Excl), " xunlock s"),
     (Event::Busy { l: W, seen: 29 }, " busy w 29"),
     (
         Event::Set {
@@ -112,13 +94,35 @@ const WORDS: &[(Event, &str)] = &[
     ),
 ];
 
+fn words(alloc: Global, plan: &Plan, event: Event) -> Result<Vec<u8>, Fail> {
+    let mut text = Vec::new(alloc);
+    push_event(&mut text, plan, event)?;
+    Ok(text)
+}
+
+#[test]
+fn words_of_modes(rt: HostRuntime) -> Result<(), Fail> {
+    let alloc = rt.alloc();
+    let plan = plan(alloc)?;
+    for (l, mode, locked, tried, unlocked) in MODES {
+        let (l, mode) = (*l, *mode);
+        let text = words(alloc, &plan, Event::Locked { l, mode })?;
+        assert_eq!(rt; text.as_slice(), locked.as_bytes());
+        let text = words(alloc, &plan, Event::Tried { l, mode })?;
+        assert_eq!(rt; text.as_slice(), tried.as_bytes());
+        let text = words(alloc, &plan, Event::Unlocked { l, mode })?;
+        assert_eq!(rt; text.as_slice(), unlocked.as_bytes());
+    }
+    Ok(())
+}
+
 #[test]
 fn words_of_events(rt: HostRuntime) -> Result<(), Fail> {
-    let plan = plan(rt.alloc())?;
-    for (event, words) in WORDS {
-        let mut text = Vec::new(rt.alloc());
-        push_event(&mut text, &plan, *event)?;
-        assert_eq!(rt; text.as_slice(), words.as_bytes());
+    let alloc = rt.alloc();
+    let plan = plan(alloc)?;
+    for (event, want) in WORDS {
+        let text = words(alloc, &plan, *event)?;
+        assert_eq!(rt; text.as_slice(), want.as_bytes());
     }
     Ok(())
 }
@@ -140,7 +144,7 @@ fn last_lines_and_faults(rt: HostRuntime) -> Result<(), Fail> {
     Ok(())
 }
 
-// A queue of u, whose object is the head, and of the threads behind it.
+// A queue whose head is u's object.
 fn queue(
     alloc: Global,
     q: QueueName,
@@ -162,7 +166,10 @@ const ENTRIES: &[Entry] = &[
     Entry {
         ticket: 0,
         thread: ThreadNo(0),
-        event: locked(M, Mode::Excl),
+        event: Event::Locked {
+            l: M,
+            mode: Mode::Excl,
+        },
     },
     Entry {
         ticket: 41,
@@ -171,13 +178,26 @@ const ENTRIES: &[Entry] = &[
     },
 ];
 
-const WAITERS: &[(ThreadNo, Prio)] = &[(ThreadNo(2), Prio(6)), (ThreadNo(1), Prio(50))];
+const WRITERS: &[(ThreadNo, Prio)] = &[
+    (ThreadNo(2), Prio(6)),
+    (ThreadNo(0), Prio(50)),
+    (ThreadNo(1), Prio(100)),
+];
 
-const FINALS: &[(Prio, Prio)] = &[(Prio(255), Prio(0)), (Prio(50), Prio(50)), (Prio(7), Prio(6))];
+const READERS: &[(ThreadNo, Prio)] = &[(ThreadNo(0), Prio(80)), (ThreadNo(1), Prio(90))];
+
+const SLEEPER: &[(ThreadNo, Prio)] = &[(ThreadNo(1), Prio(0))];
+
+const FINALS: &[(Prio, Prio)] = &[
+    (Prio(255), Prio(0)),
+    (Prio(50), Prio(50)),
+    (Prio(7), Prio(6)),
+];
 
 const TEXT: &str = "0 t lock m\n41 u prio 50\n\
-    queue m slot 0 head u free sixteen_bytes_xy,t excl sixteen_bytes_xy@6,u@50 shared -\n\
-    queue v slot 0 head u free - excl - shared sixteen_bytes_xy@6,u@50\n\
+    queue m slot 0 head u free sixteen_bytes_xy,t excl sixteen_bytes_xy@6,t@50,u@100 shared -\n\
+    queue w slot 0 head u free t excl - shared t@80,u@90\n\
+    queue v slot 0 head u free - excl u@0 shared -\n\
     thread t base 255 eff 0\nthread u base 50 eff 50\nthread sixteen_bytes_xy base 7 eff 6\n\
     table m 9 255\ntable m 10 7\ntable s 0 8\nstuck\n";
 
@@ -189,12 +209,13 @@ fn text_of_a_run(rt: HostRuntime) -> Result<(), Fail> {
     tables.set(S, 0, 8)?;
     tables.set(M, 10, 7)?;
     tables.set(M, 9, 255)?;
-    let free = &[ThreadNo(2), ThreadNo(0)];
+    let (t, long) = (ThreadNo(0), ThreadNo(2));
     let out = Outcome {
         history: History::from_vec(Vec::from_slice(alloc, ENTRIES)?),
         queues: Sequence::from_vec(vec![in alloc;
-            queue(alloc, QueueName::Lock(M), free, WAITERS, &[])?,
-            queue(alloc, QueueName::Chan(V), &[], &[], WAITERS)?,
+            queue(alloc, QueueName::Lock(M), &[long, t], WRITERS, &[])?,
+            queue(alloc, QueueName::Lock(W), &[t], &[], READERS)?,
+            queue(alloc, QueueName::Chan(V), &[], SLEEPER, &[])?,
         ]?),
         finals: Sequence::from_vec(Vec::from_slice(alloc, FINALS)?),
         tables,
