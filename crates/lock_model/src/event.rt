@@ -1,6 +1,9 @@
 //! What happened in a run: events, and entries of the history with their tickets; what a thread holds;
 //! and the refusals of the calls that take locks.
 
+ghost use Rattle.std.specs.Prelude.{◌≡◌, ◌==◌};
+ghost use Rattle.std.specs.List.{position};
+
 use crate::numbers::{ChanNo, ClassNo, LockNo, Prio, ThreadNo};
 use crate::plan::Mode;
 
@@ -77,6 +80,13 @@ pub struct Held {
     pub l: LockNo,
     pub mode: Mode,
     pub by_try: bool,
+}
+
+/// Where a lock stands among those that a thread holds, from 0. There is no place exactly where it isn't held.
+pub fn place_held(l: LockNo, held: &[Held]) -> Option<usize>
+    ensures { result ≡ position (λ h. h.l.0 == l.0) held.now }
+{
+    held.iter().position(|h| h.l == l)
 }
 
 /// A lock order that was refused: a lock of class `wanted` behind one of class `held`.

@@ -18,17 +18,113 @@ const H: ChanNo = ChanNo(1);
 
 const MOST: u64 = u64::MAX;
 
-// A lock and a mode, with the words of its gain, of a try that gains it, and of its release.
-const MODES: &[(LockNo, Mode, &str, &str, &str)] = &[
-    (M, Mode::Excl, " lock m", " trylock m", " unlock m"),
-    (W, Mode::Shared, " rlock w", " tryrlock w", " runlock w"),
-    (W, Mode::Excl, " wlock w", " trywlock w", " wunlock w"),
-    (S, Mode::Shared, " slock s", " tryslock s", " sunlock s"),
-    (S, Mode::Excl, " xlock s", " tryxlock s", " xunlock s"),
-];
-
-// Each other kind of event, with its words.
+// Each kind of event, with its words behind the thread's name.
 const WORDS: &[(Event, &str)] = &[
+    (
+        Event::Locked {
+            l: M,
+            mode: Mode::Excl,
+        },
+        " lock m",
+    ),
+    (
+        Event::Locked {
+            l: W,
+            mode: Mode::Shared,
+        },
+        " rlock w",
+    ),
+    (
+        Event::Locked {
+            l: W,
+            mode: Mode::Excl,
+        },
+        " wlock w",
+    ),
+    (
+        Event::Locked {
+            l: S,
+            mode: Mode::Shared,
+        },
+        " slock s",
+    ),
+    (
+        Event::Locked {
+            l: S,
+            mode: Mode::Excl,
+        },
+        " xlock s",
+    ),
+    (
+        Event::Tried {
+            l: M,
+            mode: Mode::Excl,
+        },
+        " trylock m",
+    ),
+    (
+        Event::Tried {
+            l: W,
+            mode: Mode::Shared,
+        },
+        " tryrlock w",
+    ),
+    (
+        Event::Tried {
+            l: W,
+            mode: Mode::Excl,
+        },
+        " trywlock w",
+    ),
+    (
+        Event::Tried {
+            l: S,
+            mode: Mode::Shared,
+        },
+        " tryslock s",
+    ),
+    (
+        Event::Tried {
+            l: S,
+            mode: Mode::Excl,
+        },
+        " tryxlock s",
+    ),
+    (
+        Event::Unlocked {
+            l: M,
+            mode: Mode::Excl,
+        },
+        " unlock m",
+    ),
+    (
+        Event::Unlocked {
+            l: W,
+            mode: Mode::Shared,
+        },
+        " runlock w",
+    ),
+    (
+        Event::Unlocked {
+            l: W,
+            mode: Mode::Excl,
+        },
+        " wunlock w",
+    ),
+    (
+        Event::Unlocked {
+            l: S,
+            mode: Mode::Shared,
+        },
+        " sunlock s",
+    ),
+    (
+        Event::Unlocked {
+            l: S,
+            mode: Mode::Excl,
+        },
+        " xunlock s",
+    ),
     (Event::Busy { l: W, seen: 29 }, " busy w 29"),
     (
         Event::Set {
@@ -101,22 +197,6 @@ fn words(alloc: Global, plan: &Plan, event: Event) -> Result<Vec<u8>, Fail> {
 }
 
 #[test]
-fn words_of_modes(rt: HostRuntime) -> Result<(), Fail> {
-    let alloc = rt.alloc();
-    let plan = plan(alloc)?;
-    for (l, mode, locked, tried, unlocked) in MODES {
-        let (l, mode) = (*l, *mode);
-        let text = words(alloc, &plan, Event::Locked { l, mode })?;
-        assert_eq!(rt; text.as_slice(), locked.as_bytes());
-        let text = words(alloc, &plan, Event::Tried { l, mode })?;
-        assert_eq!(rt; text.as_slice(), tried.as_bytes());
-        let text = words(alloc, &plan, Event::Unlocked { l, mode })?;
-        assert_eq!(rt; text.as_slice(), unlocked.as_bytes());
-    }
-    Ok(())
-}
-
-#[test]
 fn words_of_events(rt: HostRuntime) -> Result<(), Fail> {
     let alloc = rt.alloc();
     let plan = plan(alloc)?;
@@ -142,24 +222,6 @@ fn last_lines_and_faults(rt: HostRuntime) -> Result<(), Fail> {
     let text = print_fault(rt.alloc(), 12, 20)?;
     assert_eq!(rt; text.as_slice(), b"line 12 code 20\n".as_slice());
     Ok(())
-}
-
-// A queue whose head is u's object.
-fn queue(
-    alloc: Global,
-    q: QueueName,
-    free: &[ThreadNo],
-    excl: &[(ThreadNo, Prio)],
-    shared: &[(ThreadNo, Prio)],
-) -> Result<QueueLine, Fail> {
-    Ok(QueueLine {
-        q,
-        slot: 0,
-        head: ThreadNo(1),
-        free: Sequence::from_vec(Vec::from_slice(alloc, free)?),
-        excl: Sequence::from_vec(Vec::from_slice(alloc, excl)?),
-        shared: Sequence::from_vec(Vec::from_slice(alloc, shared)?),
-    })
 }
 
 const ENTRIES: &[Entry] = &[
@@ -188,6 +250,54 @@ const READERS: &[(ThreadNo, Prio)] = &[(ThreadNo(0), Prio(80)), (ThreadNo(1), Pr
 
 const SLEEPER: &[(ThreadNo, Prio)] = &[(ThreadNo(1), Prio(0))];
 
+// A queue whose head is the object of u: what it belongs to, its free list, and its waiters on either side.
+type Queue = (
+    QueueName,
+    &'static [ThreadNo],
+    &'static [(ThreadNo, Prio)],
+    &'static [(ThreadNo, Prio)],
+);
+
+const QUEUES: &[Queue] = &[
+    (
+        QueueName::Lock(M),
+        &[ThreadNo(2), ThreadNo(0)],
+        WRITERS,
+        &[],
+    ),
+    (QueueName::Lock(W), &[ThreadNo(0)], &[], READERS),
+    (QueueName::Chan(V), &[], SLEEPER, &[]),
+];
+
+fn queue(alloc: Global, (q, free, excl, shared): Queue) -> Result<QueueLine, Fail> {
+    Ok(QueueLine {
+        q,
+        slot: 0,
+        head: ThreadNo(1),
+        free: Sequence::from_vec(Vec::from_slice(alloc, free)?),
+        excl: Sequence::from_vec(Vec::from_slice(alloc, excl)?),
+        shared: Sequence::from_vec(Vec::from_slice(alloc, shared)?),
+    })
+}
+
+fn queues(alloc: Global) -> Result<Sequence<QueueLine>, Fail> {
+    let mut queues = Vec::new(alloc);
+    for line in QUEUES {
+        queues.push(queue(alloc, *line)?)?;
+    }
+    Ok(Sequence::from_vec(queues))
+}
+
+const ROWS: &[(LockNo, u64, u64)] = &[(S, 0, 8), (M, 10, 7), (M, 9, 255)];
+
+fn tables(alloc: Global) -> Result<Tables, Fail> {
+    let mut tables = Tables::none(alloc);
+    for (l, key, value) in ROWS {
+        tables.set(*l, *key, *value)?;
+    }
+    Ok(tables)
+}
+
 const FINALS: &[(Prio, Prio)] = &[
     (Prio(255), Prio(0)),
     (Prio(50), Prio(50)),
@@ -201,27 +311,21 @@ const TEXT: &str = "0 t lock m\n41 u prio 50\n\
     thread t base 255 eff 0\nthread u base 50 eff 50\nthread sixteen_bytes_xy base 7 eff 6\n\
     table m 9 255\ntable m 10 7\ntable s 0 8\nstuck\n";
 
+fn left(alloc: Global) -> Result<Outcome, Fail> {
+    Ok(Outcome {
+        history: History::from_vec(Vec::from_slice(alloc, ENTRIES)?),
+        queues: queues(alloc)?,
+        finals: Sequence::from_vec(Vec::from_slice(alloc, FINALS)?),
+        tables: tables(alloc)?,
+        last: Last::Stuck,
+    })
+}
+
 // Threads stand in order of declaration, and keys by lock and then by number.
 #[test]
 fn text_of_a_run(rt: HostRuntime) -> Result<(), Fail> {
     let alloc = rt.alloc();
-    let mut tables = Tables::none(alloc);
-    tables.set(S, 0, 8)?;
-    tables.set(M, 10, 7)?;
-    tables.set(M, 9, 255)?;
-    let (t, long) = (ThreadNo(0), ThreadNo(2));
-    let out = Outcome {
-        history: History::from_vec(Vec::from_slice(alloc, ENTRIES)?),
-        queues: Sequence::from_vec(vec![in alloc;
-            queue(alloc, QueueName::Lock(M), &[long, t], WRITERS, &[])?,
-            queue(alloc, QueueName::Lock(W), &[t], &[], READERS)?,
-            queue(alloc, QueueName::Chan(V), &[], SLEEPER, &[])?,
-        ]?),
-        finals: Sequence::from_vec(Vec::from_slice(alloc, FINALS)?),
-        tables,
-        last: Last::Stuck,
-    };
-    let text = print(alloc, &plan(alloc)?, &out)?;
+    let text = print(alloc, &plan(alloc)?, &left(alloc)?)?;
     assert_eq!(rt; text.as_slice(), TEXT.as_bytes());
     Ok(())
 }
