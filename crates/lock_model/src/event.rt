@@ -16,17 +16,37 @@ use crate::plan::Mode;
 #[derive(Clone, Copy, Debug, PartialEq, Eq, Hash)]
 pub enum Event {
     /// The thread gained the lock that it asked for, and its section begins.
-    Locked { l: LockNo, mode: Mode },
+    Locked {
+        l: LockNo,
+        mode: Mode,
+    },
     /// The thread's try gained the lock, and its section begins.
-    Tried { l: LockNo, mode: Mode },
+    Tried {
+        l: LockNo,
+        mode: Mode,
+    },
     /// The thread's try failed: it saw the lock word `seen`, which doesn't admit it.
-    Busy { l: LockNo, seen: u64 },
+    Busy {
+        l: LockNo,
+        seen: u64,
+    },
     /// The thread released the lock, which it held in that mode, and its section ends.
-    Unlocked { l: LockNo, mode: Mode },
+    Unlocked {
+        l: LockNo,
+        mode: Mode,
+    },
     /// The thread set a key of the lock's table.
-    Set { l: LockNo, key: u64, value: u64 },
+    Set {
+        l: LockNo,
+        key: u64,
+        value: u64,
+    },
     /// The thread added an amount to the value at a key of the lock's table, modulo 2^64.
-    Added { l: LockNo, key: u64, amount: u64 },
+    Added {
+        l: LockNo,
+        key: u64,
+        amount: u64,
+    },
     /// The thread read a key of the lock's table, and found the value or none.
     Got {
         l: LockNo,
@@ -34,28 +54,50 @@ pub enum Event {
         found: Option<u64>,
     },
     /// The thread's base priority was set.
-    Base { prio: Prio },
+    Base {
+        prio: Prio,
+    },
     /// The thread was told its base and its effective priority.
-    Shown { base: Prio, eff: Prio },
+    Shown {
+        base: Prio,
+        eff: Prio,
+    },
     /// The thread went to sleep on a condition variable or channel, and its section of that one's lock ends.
-    Sleeps { c: ChanNo },
+    Sleeps {
+        c: ChanNo,
+    },
     /// The thread was woken from its sleep and holds the lock again, in the mode that it slept with.
-    Woke { c: ChanNo },
+    Woke {
+        c: ChanNo,
+    },
     /// The thread's sleep on a condition variable or channel was ended because every live thread slept. It
     /// holds the lock again, in the mode that it slept with.
-    HaltedChan { c: ChanNo },
+    HaltedChan {
+        c: ChanNo,
+    },
     /// The thread's sleep for a lock of sx(9) was ended because every live thread slept. It doesn't hold the
     /// lock.
-    HaltedLock { l: LockNo },
+    HaltedLock {
+        l: LockNo,
+    },
     /// The thread woke the most important of those that slept on a condition variable or channel: in `woken`
     /// that thread's bit alone is set, and none where nobody slept.
-    WokeOne { c: ChanNo, woken: u64 },
+    WokeOne {
+        c: ChanNo,
+        woken: u64,
+    },
     /// The thread woke all that slept on a condition variable or channel: bit t of `woken` is set exactly for
     /// each thread t that was taken off its queue.
-    WokeAll { c: ChanNo, woken: u64 },
+    WokeAll {
+        c: ChanNo,
+        woken: u64,
+    },
     /// The order of locks forbids the lock that the thread asked for: it holds one of class `held`. It doesn't
     /// get the lock, and releases those that it holds.
-    Reversed { l: LockNo, held: ClassNo },
+    Reversed {
+        l: LockNo,
+        held: ClassNo,
+    },
 }
 
 /// An event of a thread, with its ticket: its place in the one history of all threads, from 0.
