@@ -18,7 +18,8 @@ use Rattle.std.proofs.lemmas.Map.Keys.{sorted_head, sorted_tail}
 use Rattle.std.proofs.lemmas.Map.Views.{btree_map_contains_key_iff}
 use Rattle.std.proofs.lemmas.List.Folds.{list_any_more}
 use Rattle.lock_model.specs.History.{place_cmp}
-use Rattle.lock_model.specs.Keys.{op_names}
+use Rattle.lock_model.specs.Keys as naming
+use Rattle.lock_model.specs.Keys.{place_of, op_names}
 use Rattle.lock_model.specs.declared.plan.Op.{Op}
 use Rattle.lock_history.specs.Books.{filled, filled_on, present_of}
 use Rattle.lock_history.proofs.Places.{place_total, place_exact}
@@ -117,7 +118,7 @@ some_or : (b : Bool) (w x : Option (Option ℕ)) → is_some w ≡ true → is_s
 some_or true w x e = e
 some_or false w x e = refl
 
-or_step : (t s u q : Bool) → (t || false) ≡ q → (t || (s || u)) ≡ (s || (u || q))
+or_step : (t s u q : Bool) → t ≡ q → (t || (s || u)) ≡ (s || (u || q))
 or_step true true u q e = refl
 or_step true false true q e = refl
 or_step true false false q e = e
@@ -130,45 +131,30 @@ module _ (l key : ℕ) where
   abbrev pub has_room : BTreeMap (ℕ × ℕ) (Option ℕ) → Bool
   has_room m = is_some (tree.get place_cmp m (l, key))
 
-  abbrev pub is_the_place : ℕ × ℕ → Bool
-  is_the_place p = eqb p.0 l && eqb p.1 key
-
   -- one operation more, and room where it names a place
   pub room_more : (start m n : BTreeMap (ℕ × ℕ) (Option ℕ)) (p : ℕ × ℕ) (ops : List Op) (i : ℕ) (d : Op) → i < length ops
-      → has_room m ≡ (has_room start || list_any (op_names l key) (take i ops)) → Updates place_cmp m n p (Some None) → list_any is_the_place (p ∷ []) ≡ op_names l key (get_or ops i d)
+      → has_room m ≡ (has_room start || list_any (op_names l key) (take i ops)) → Updates place_cmp m n p (Some None) → Some p ≡ place_of (get_or ops i d)
       → has_room n ≡ (has_room start || list_any (op_names l key) (take (i + 1) ops))
   room_more start m n p ops i d lt before u named =
       let q = op_names l key in
       ap is_some (u.0 (l, key)) ∙ some_or _ (Some None) _ refl
-      ∙ ap (λ b. b || has_room m) (tied p.0 p.1 l key) ∙ ap (λ b. is_the_place p || b) before
-      ∙ or_step (is_the_place p) (has_room start) (list_any q (take i ops)) (q (get_or ops i d)) named
+      ∙ ap (λ b. b || has_room m) (tied p.0 p.1 l key) ∙ ap (λ b. naming.is_at l key (Some p) || b) before
+      ∙ or_step (naming.is_at l key (Some p)) (has_room start) (list_any q (take i ops)) (q (get_or ops i d)) (ap (naming.is_at l key) named)
       ∙ ap (λ b. has_room start || b) (sym (list_any_more q ops i d lt))
 
   -- the same where it names none
   pub room_same : (start m n : BTreeMap (ℕ × ℕ) (Option ℕ)) (ops : List Op) (i : ℕ) (d : Op) → i < length ops
-      → has_room m ≡ (has_room start || list_any (op_names l key) (take i ops)) → n ≡ m → list_any is_the_place [] ≡ op_names l key (get_or ops i d)
+      → has_room m ≡ (has_room start || list_any (op_names l key) (take i ops)) → n ≡ m → None ≡ place_of (get_or ops i d)
       → has_room n ≡ (has_room start || list_any (op_names l key) (take (i + 1) ops))
   room_same start m n ops i d lt before same named =
       let q = op_names l key in
       ap has_room same ∙ before
-      ∙ or_step false (has_room start) (list_any q (take i ops)) (q (get_or ops i d)) named
+      ∙ or_step false (has_room start) (list_any q (take i ops)) (q (get_or ops i d)) (ap (naming.is_at l key) named)
       ∙ ap (λ b. has_room start || b) (sym (list_any_more q ops i d lt))
 
 -- a place that stands among the keys is found
 pub is_found : (m : BTreeMap (ℕ × ℕ) (Option ℕ)) (k : ℕ × ℕ) → Contains (tree.keys m) k → is_some (tree.get place_cmp m k) ≡ true
 is_found m k h = (btree_map_contains_key_iff place_total place_exact m k).1 h
 
--- an insert at such a place succeeds, and leaves the keys
-pub put_succeeds : {X E : Type 0} (r : Result X E) (m : BTreeMap (ℕ × ℕ) (Option ℕ)) (k : ℕ × ℕ) → Contains (tree.keys m) k → OnErr r (tree.get place_cmp m k ≡ None) → IsOk r
-put_succeeds (Ok x) m k h none = refl
-put_succeeds (Err e) m k h none = absurd (false≢true (ap is_some (sym none) ∙ is_found m k h))
-
-pub keys_stayed : {E : Type 0} (r : Result (Option (Option ℕ)) E) (x : Option (Option ℕ)) (m n : BTreeMap (ℕ × ℕ) (Option ℕ)) (k : ℕ × ℕ) → Contains (tree.keys m) k → r ≡ Ok x
-    → IfOk r (λ old. old ≡ tree.get place_cmp m k) → IfOk r (λ old. IsSome old → tree.keys n ≡ tree.keys m) → tree.keys n ≡ tree.keys m
-keys_stayed (Ok y) x m n k h e old stay = stay (ap is_some old ∙ is_found m k h)
-keys_stayed (Err y) x m n k h e old stay = absurd (cc)
-
--- what a call ensured where it succeeded
-pub on_ok : {X E : Type 0} (r : Result X E) (x : X) (P : Type 0) → r ≡ Ok x → OnOk r P → P
-on_ok (Ok y) x P e h = h
-on_ok (Err y) x P e h = absurd (cc)
+pub isnt_absent : (m : BTreeMap (ℕ × ℕ) (Option ℕ)) (k : ℕ × ℕ) → Contains (tree.keys m) k → tree.get place_cmp m k ≡ None → ⊥
+isnt_absent m k h none = false≢true (ap is_some (sym none) ∙ is_found m k h)

@@ -1,10 +1,19 @@
 //! The history of a run: its entries, in order of their tickets.
 ghost use Rattle.std.specs.Prelude.{◌≡◌, ◌^◌, ◌<◌, ◌==◌, length, slice_get, vec_len};
+ghost use Rattle.lock_history.specs.Tickets.{InOrder};
 
+use crate::log::Log;
 use lock_model::Entry;
 use std::marker::Model;
 
 /// A history, fewer than 2^32 entries long.
+///
+/// ```
+/// let history = History::of_log(log);
+/// for entry in history.as_slice() {
+///     tables.edit(entry.event)?;
+/// }
+/// ```
 #[derive(Drop, Debug)]
 pub struct History {
     entries: Vec<Entry>,
@@ -27,6 +36,15 @@ impl History {
         ensures { result ≡ entries.items }
     {
         History { entries }
+    }
+
+    /// The history of a run that keeps one log for all threads, in order of the tickets, which run from 0. It
+    /// takes the log's memory over, and copies nothing. `merge` makes the history of many logs.
+    pub fn of_log(log: Log) -> History
+        requires { InOrder log.entries }
+        ensures { result ≡ log.entries }
+    {
+        History::from_vec(log.into_entries())
     }
 
     /// How many entries it has.

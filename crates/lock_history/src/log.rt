@@ -1,11 +1,17 @@
 //! A log of entries whose memory was taken when it was made, so that an entry is added without taking any.
-ghost use Rattle.std.specs.Prelude.{◌≡◌, ◌+◌, ◌-◌, ◌^◌, ◌<◌, ◌≤◌, ◌==◌, ◌++◌, ◌∷◌, [], length, IfOk};
+ghost use Rattle.std.specs.Prelude.{◌≡◌, ◌+◌, ◌-◌, ◌^◌, ◌<◌, ◌≤◌, ◌==◌, ◌++◌, ◌∷◌, [], length, vec_len, IfOk};
 
 use lock_model::Entry;
 use std::alloc::{AllocError, Global};
 use std::marker::Model;
 
 /// A log of entries, with room for so many more.
+///
+/// ```
+/// let mut log = Log::make(alloc, 1)?;
+/// log.put(Entry { ticket: 0, thread: ThreadNo(0), event: Event::Base { prio: Prio(50) } });
+/// assert_eq!(rt; (log.len(), log.spare()), (1, 0));
+/// ```
 #[derive(Drop, Debug)]
 pub struct Log {
     entries: Vec<Entry>,
@@ -81,5 +87,14 @@ impl Log {
         ensures { result.now ≡ self.now.entries }
     {
         &self.entries
+    }
+
+    // The entries, in the memory that was taken for them.
+    pub(crate) fn into_entries(self) -> Vec<Entry>
+        ensures entries { result.items ≡ self.entries }
+        ensures bound { vec_len result < 2 ^ 32 }
+    {
+        let _spare = self.spare;
+        self.entries
     }
 }

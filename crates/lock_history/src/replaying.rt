@@ -1,10 +1,9 @@
 //! The tables that a history leaves.
-ghost use Rattle.std.specs.Prelude.{◌≡◌, reverse, IfOk, OnOk};
-ghost use Rattle.lock_model.specs.History.{tables_of, edited};
+ghost use Rattle.std.specs.Prelude.{◌≡◌, reverse, IfOk};
+ghost use Rattle.lock_model.specs.History.{tables_of};
 
 use crate::history::History;
 use crate::tables::Tables;
-use lock_model::Event;
 use std::alloc::{AllocError, Global};
 
 /// The tables that a history leaves: the edits of its entries, in order, begun with empty tables. It fails
@@ -15,20 +14,7 @@ pub fn replay(alloc: Global, history: &History) -> Result<Tables, AllocError>
 {
     let mut tables = Tables::none(alloc);
     for entry in history.as_slice() {
-        edit(&mut tables, entry.event)?;
+        tables.edit(entry.event)?;
     }
     Ok(tables)
-}
-
-fn edit(tables: &mut Tables, event: Event) -> Result<(), AllocError>
-    ensures { OnOk result (tables.new.present ≡ edited event tables.old.present) }
-{
-    match event {
-        Event::Set { l, key, value } => tables.set(l, key, value),
-        Event::Added { l, key, amount } => {
-            let before = tables.get(l, key).unwrap_or(0);
-            tables.set(l, key, before.wrapping_add(amount))
-        }
-        _ => Ok(()),
-    }
 }

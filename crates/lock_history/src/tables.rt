@@ -1,20 +1,25 @@
 //! Tables of locks: the value at each key of a lock's table, with room for fixed keys.
-ghost use Rattle.std.specs.Prelude.{◌≡◌, ℕ, ◌||◌, ◌&&◌, ◌==◌, ◌↔◌, [], OnOk, IfOk, IsTrue, is_some, option_to_list};
+ghost use Rattle.std.specs.Prelude.{◌≡◌, ℕ, ◌||◌, ◌↔◌, [], OnOk, IfOk, IsOk, IsTrue, is_some};
 ghost use Rattle.std.specs.Option.{option_map};
 ghost use Rattle.std.specs.List.{Contains, list_any, slice_get};
 ghost use Rattle.std.specs.BTreeMap as tree;
 ghost use Rattle.std.specs.FinMap.{empty, get, insert, entries};
-ghost use Rattle.lock_model.specs.History.{place_cmp};
+ghost use Rattle.lock_model.specs.History.{place_cmp, edited};
 ghost use Rattle.lock_model.specs.Keys.{op_names, plan_names};
-ghost use Rattle.lock_history.specs.Books.{filled, row_seen};
+ghost use Rattle.lock_history.specs.Books.{filled, row_seen, HasRoom};
 
-use lock_model::{LockNo, Op, Plan};
+use lock_model::{Event, LockNo, Op, Plan};
 use std::alloc::{AllocError, Global};
 use std::collections::BTreeMap;
 use std::marker::Model;
 
-/// The values at the keys of the locks' tables. A key is present where it has a value, and gets one only
-/// where there is room for it.
+/// The values at the keys of the locks' tables. A key is present where it has a value.
+///
+/// ```
+/// let mut tables = Tables::make(alloc, &plan)?;
+/// tables.put(LockNo(0), 7, 1);
+/// assert_eq!(rt; tables.get(LockNo(0), 7), Some(1));
+/// ```
 #[derive(Drop, Debug)]
 pub struct Tables {
     // A value or none at each key that there is room for, by lock and then by key.
@@ -60,9 +65,38 @@ impl Tables {
         ensures places { self.new.places ≡ self.old.places }
         ensures present { self.new.present ≡ insert self.old.present (l.0, key) value }
     {
-        // The key has its slot, so that only the value in it is replaced.
-        let put: Result<_, _> = self.slots.insert((l.0, key), Some(value));
-        let _before = put.unwrap();
+        self.set(l, key, value).unwrap();
+    }
+
+    /// Makes the change that an event says: it sets the key of a `Set`, adds to that of an `Added`, where an
+    /// absent key counts as 0, and changes nothing at any other event. It takes memory only for a key that
+    /// there is no room for, and fails only where that runs out. It takes time in the logarithm of the keys.
+    pub fn edit(&mut self, event: Event) -> Result<(), AllocError>
+        ensures present { OnOk result (self.new.present ≡ edited event self.old.present) }
+        ensures succeeds { HasRoom self.old.places event → IsOk result }
+        ensures places { HasRoom self.old.places event → self.new.places ≡ self.old.places }
+    {
+        match event {
+            Event::Set { l, key, value } => self.set(l, key, value),
+            Event::Added { l, key, amount } => {
+                let before = self.get(l, key).unwrap_or(0);
+                self.set(l, key, before.wrapping_add(amount))
+            }
+            Event::Locked { .. }
+            | Event::Tried { .. }
+            | Event::Busy { .. }
+            | Event::Unlocked { .. }
+            | Event::Got { .. }
+            | Event::Base { .. }
+            | Event::Shown { .. }
+            | Event::Sleeps { .. }
+            | Event::Woke { .. }
+            | Event::HaltedChan { .. }
+            | Event::HaltedLock { .. }
+            | Event::WokeOne { .. }
+            | Event::WokeAll { .. }
+            | Event::Reversed { .. } => Ok(()),
+        }
     }
 
     /// The value at a key, in time in the logarithm of the keys. There is none exactly where the key is
@@ -104,7 +138,11 @@ impl Tables {
 
     // Sets a key, with room made where there was none.
     pub(crate) fn set(&mut self, l: LockNo, key: u64, value: u64) -> Result<(), AllocError>
-        ensures { OnOk result (self.new.present ≡ insert self.old.present (l.0, key) value) }
+        ensures present { OnOk result
+            (self.new.present ≡ insert self.old.present (l.0, key) value) }
+        ensures succeeds { Contains self.old.places (l.0, key) → IsOk result }
+        ensures places { Contains self.old.places (l.0, key)
+            → self.new.places ≡ self.old.places }
     {
         self.slots.insert((l.0, key), Some(value))?;
         Ok(())
@@ -128,20 +166,9 @@ fn add_slots(slots: &mut BTreeMap<(u8, u64), Option<u64>>, ops: &[Op]) -> Result
         ≡ (is_some (tree.get place_cmp slots.old (l, key)) || list_any (op_names l key) ops.now)) }
 {
     for op in ops {
-        if let Some(place) = named_place(*op) {
-            slots.insert(place, None)?;
+        if let Some((l, key)) = op.place() {
+            slots.insert((l.0, key), None)?;
         }
     }
     Ok(())
-}
-
-// The lock and key that an operation names.
-fn named_place(op: Op) -> Option<(u8, u64)>
-    ensures { (l key : ℕ) → list_any (λ p. (p.0 == l) && (p.1 == key)) (option_to_list result)
-        ≡ op_names l key op }
-{
-    match op {
-        Op::Set { l, key, .. } | Op::Add { l, key, .. } | Op::Get { l, key } => Some((l.0, key)),
-        _ => None,
-    }
 }

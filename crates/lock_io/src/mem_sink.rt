@@ -12,6 +12,11 @@ use std::alloc::{AllocError, Global};
 use std::marker::Model;
 
 /// Bytes in memory, written in pieces up to a limit.
+///
+/// ```
+/// let mut sink = MemSink::new(alloc, 100, 3, Vec::new(alloc))?; // no call fails
+/// let written = write_all(&mut sink, b"ok");
+/// ```
 #[derive(Drop, Debug)]
 pub struct MemSink {
     // Its memory was taken by `new`, so that a write takes none.

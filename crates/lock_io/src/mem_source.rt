@@ -10,6 +10,11 @@ use crate::source::Source;
 use std::marker::Model;
 
 /// Bytes in memory, read in pieces.
+///
+/// ```
+/// let bytes = Vec::from_slice(alloc, b"done")?;
+/// let mut source = MemSource::new(bytes, 3, vec![in alloc; 1]?); // its second read fails
+/// ```
 #[derive(Drop, Debug)]
 pub struct MemSource {
     bytes: Vec<u8>,

@@ -7,6 +7,11 @@ ghost use Rattle.lock_io.specs.Faults.{Rose};
 use crate::failed::Failed;
 
 /// A sink for bytes, which counts its faults.
+///
+/// ```
+/// let taken = sink.write(b"ok")?;
+/// sink.flush()?;
+/// ```
 pub trait Sink {
     // The bytes that it holds, where the sink tells them.
     ghost contents: { Self → Option (List ℕ) };

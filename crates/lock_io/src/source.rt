@@ -7,6 +7,11 @@ ghost use Rattle.lock_io.specs.Faults.{Rose};
 use crate::failed::Failed;
 
 /// A source of bytes, which counts its faults.
+///
+/// ```
+/// let mut piece = [0; 512];
+/// let taken = source.read(&mut piece)?;
+/// ```
 pub trait Source {
     // The bytes that are left, where the source tells them.
     ghost remaining: { Self → Option (List ℕ) };

@@ -11,6 +11,11 @@ use crate::std_source::TRIES;
 use std::io::{ErrorKind, Write};
 
 /// A writer of std, with a count of its faults that starts at 0 and stops at the last value of a `u64`.
+///
+/// ```
+/// let mut sink = StdSink::new(stdout);
+/// let written = write_all(&mut sink, b"ok");
+/// ```
 #[derive(Drop, Debug)]
 pub struct StdSink<W> {
     writer: W,

@@ -10,6 +10,11 @@ use crate::source::Source;
 use std::io::{ErrorKind, Read};
 
 /// A reader of std, with a count of its faults that starts at 0 and stops at the last value of a `u64`.
+///
+/// ```
+/// let mut source = StdSource::new(stdin);
+/// let script = read_all(alloc, &mut source, 1_000);
+/// ```
 #[derive(Drop, Debug)]
 pub struct StdSource<R> {
     reader: R,

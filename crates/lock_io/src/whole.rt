@@ -10,6 +10,10 @@ use crate::source::Source;
 use std::alloc::{AllocError, Global};
 
 /// Why a source wasn't read to its end.
+///
+/// ```
+/// let why = ReadAllError::TooBig;
+/// ```
 #[derive(Clone, Copy, Debug, PartialEq, Eq)]
 pub enum ReadAllError {
     /// Memory was wanting.
@@ -25,8 +29,8 @@ const PIECE: usize = 4096;
 
 /// All bytes that the source has left, where they are at most `limit`. The reading stops at the first
 /// byte beyond that, and the answer is then `TooBig`. `Fault` comes only where the source failed, and
-/// `Memory` only where memory is wanting. At
-/// `TooBig` exactly `limit + 1` bytes were taken, and at most `limit` at each other answer.
+/// `Memory` only where memory is wanting. At `TooBig` exactly `limit + 1` bytes were taken, and at most
+/// `limit` at each other answer.
 pub fn read_all<S: Source>(
     alloc: Global,
     source: &mut S,

@@ -1,72 +1,99 @@
 //! What happened in a run: events, and entries of the history with their tickets; what a thread holds;
 //! and the refusals of the calls that take locks.
 
+ghost use Rattle.std.specs.Prelude.{◌≡◌, ◌==◌};
+ghost use Rattle.std.specs.List.{position};
+
 use crate::numbers::{ChanNo, ClassNo, LockNo, Prio, ThreadNo};
 use crate::plan::Mode;
 
-/// What a thread did, or what was answered to it. The seen of a `Busy` is the lock word that was found.
-/// In the woken of `WokeOne` and `WokeAll` bit t is set exactly for each thread that was taken off the
-/// queue. The held of a `Reversed` is the class of a held lock that forbids the lock that was wanted.
+/// What a thread did, or what was answered to it. A section of a lock begins where the thread gains it, and
+/// ends where the thread releases it or sleeps with it.
+///
+/// ```
+/// let event = Event::Set { l: LockNo(0), key: 7, value: 1 };
+/// ```
 #[derive(Clone, Copy, Debug, PartialEq, Eq, Hash)]
 pub enum Event {
+    /// The thread gained the lock that it asked for, and its section begins.
     Locked {
         l: LockNo,
         mode: Mode,
     },
+    /// The thread's try gained the lock, and its section begins.
     Tried {
         l: LockNo,
         mode: Mode,
     },
+    /// The thread's try failed: it saw the lock word `seen`, which doesn't admit it.
     Busy {
         l: LockNo,
         seen: u64,
     },
+    /// The thread released the lock, which it held in that mode, and its section ends.
     Unlocked {
         l: LockNo,
         mode: Mode,
     },
+    /// The thread set a key of the lock's table.
     Set {
         l: LockNo,
         key: u64,
         value: u64,
     },
+    /// The thread added an amount to the value at a key of the lock's table, modulo 2^64.
     Added {
         l: LockNo,
         key: u64,
         amount: u64,
     },
+    /// The thread read a key of the lock's table, and found the value or none.
     Got {
         l: LockNo,
         key: u64,
         found: Option<u64>,
     },
+    /// The thread's base priority was set.
     Base {
         prio: Prio,
     },
+    /// The thread was told its base and its effective priority.
     Shown {
         base: Prio,
         eff: Prio,
     },
+    /// The thread went to sleep on a condition variable or channel, and its section of that one's lock ends.
     Sleeps {
         c: ChanNo,
     },
+    /// The thread was woken from its sleep and holds the lock again, in the mode that it slept with.
     Woke {
         c: ChanNo,
     },
+    /// The thread's sleep on a condition variable or channel was ended because every live thread slept. It
+    /// holds the lock again, in the mode that it slept with.
     HaltedChan {
         c: ChanNo,
     },
+    /// The thread's sleep for a lock of sx(9) was ended because every live thread slept. It doesn't hold the
+    /// lock.
     HaltedLock {
         l: LockNo,
     },
+    /// The thread woke the most important of those that slept on a condition variable or channel: in `woken`
+    /// that thread's bit alone is set, and none where nobody slept.
     WokeOne {
         c: ChanNo,
         woken: u64,
     },
+    /// The thread woke all that slept on a condition variable or channel: bit t of `woken` is set exactly for
+    /// each thread t that was taken off its queue.
     WokeAll {
         c: ChanNo,
         woken: u64,
     },
+    /// The order of locks forbids the lock that the thread asked for: it holds one of class `held`. It doesn't
+    /// get the lock, and releases those that it holds.
     Reversed {
         l: LockNo,
         held: ClassNo,
@@ -74,6 +101,10 @@ pub enum Event {
 }
 
 /// An event of a thread, with its ticket: its place in the one history of all threads, from 0.
+///
+/// ```
+/// let entry = Entry { ticket: 0, thread: ThreadNo(0), event: Event::Base { prio: Prio(50) } };
+/// ```
 #[derive(Clone, Copy, Debug, PartialEq, Eq, Hash)]
 pub struct Entry {
     pub ticket: u32,
@@ -82,6 +113,10 @@ pub struct Entry {
 }
 
 /// A lock that a thread holds, and whether a try gained it.
+///
+/// ```
+/// let held = Held { l: LockNo(0), mode: Mode::Excl, by_try: false };
+/// ```
 #[derive(Clone, Copy, Debug, PartialEq, Eq, Hash)]
 pub struct Held {
     pub l: LockNo,
@@ -89,7 +124,18 @@ pub struct Held {
     pub by_try: bool,
 }
 
+/// Where a lock stands among those that a thread holds, from 0. There is no place exactly where it isn't held.
+pub fn place_held(l: LockNo, held: &[Held]) -> Option<usize>
+    ensures { result ≡ position (λ h. h.l.0 == l.0) held.now }
+{
+    held.iter().position(|h| h.l == l)
+}
+
 /// A lock order that was refused: a lock of class `wanted` behind one of class `held`.
+///
+/// ```
+/// let reversal = Reversal { held: ClassNo(1), wanted: ClassNo(0) };
+/// ```
 #[derive(Clone, Copy, Debug, PartialEq, Eq, Hash)]
 pub struct Reversal {
     pub held: ClassNo,
@@ -97,17 +143,31 @@ pub struct Reversal {
 }
 
 /// A sleep that was ended because every live thread slept.
+///
+/// ```
+/// let halted = Halted;
+/// ```
 #[derive(Clone, Copy, Debug, PartialEq, Eq, Hash)]
 pub struct Halted;
 
-/// Why a lock that may sleep without bound wasn't gained.
+/// Why a lock of sx(9), whose waiters may sleep without bound, wasn't gained.
+///
+/// ```
+/// let refused = Refused::Halted(Halted);
+/// ```
 #[derive(Clone, Copy, Debug, PartialEq, Eq, Hash)]
 pub enum Refused {
+    /// The order of locks forbids it.
     Reversal(Reversal),
+    /// The thread slept for it, and that sleep was ended because every live thread slept.
     Halted(Halted),
 }
 
 /// A try that failed, with the lock word that it saw.
+///
+/// ```
+/// let busy = Busy { seen: 4 };
+/// ```
 #[derive(Clone, Copy, Debug, PartialEq, Eq, Hash)]
 pub struct Busy {
     pub seen: u64,

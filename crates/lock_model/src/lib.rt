@@ -18,7 +18,7 @@ mod plan;
 mod sequence;
 mod turn;
 
-pub use event::{Busy, Entry, Event, Halted, Held, Refused, Reversal};
+pub use event::{Busy, Entry, Event, Halted, Held, Refused, Reversal, place_held};
 pub use name::Name;
 pub use numbers::{ChanNo, ClassNo, LockNo, Prio, ThreadNo};
 pub use plan::{ChanDecl, Declared, Kind, LockDecl, Mode, Op, Plan, QueueName, Side, ThreadDecl};

@@ -13,6 +13,10 @@ use std::hash::{Hash, Hasher};
 use std::marker::Model;
 
 /// A name: 1 to 16 bytes out of `a` to `z`, `0` to `9` and `_`, the first a letter.
+///
+/// ```
+/// let name = Name::of(b"free_list").ok_or("not a name")?;
+/// ```
 #[derive(Clone, Copy, Debug)]
 pub struct Name {
     // The spelling, and 0 behind it.

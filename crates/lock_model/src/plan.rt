@@ -1,54 +1,100 @@
 //! What a script says: its classes, locks and channels, its threads with their operations, and whose
 //! turns the scheduled run begins with.
-ghost use Rattle.std.specs.Prelude.{◌≡◌, ℕ, ◌↔◌, ◌||◌, ◌==◌, IsTrue, IfOk, OnOk, option_to_list};
+ghost use Rattle.std.specs.Prelude.{◌≡◌, ℕ, ◌↔◌, ◌||◌, ◌==◌, IsTrue, IfOk, OnOk, option_map, option_to_list};
 ghost use Rattle.std.specs.List.{Contains, list_any};
 ghost use Rattle.std.specs.List.Sorted.{IsStrictlyIncreasing};
-ghost use Rattle.lock_model.specs.Keys.{op_names, plan_names};
+ghost use Rattle.lock_model.specs.Keys.{place_of, op_names, plan_names};
+ghost use Rattle.lock_model.specs.Plans.{operations_of};
 
 use crate::name::Name;
 use crate::numbers::{ChanNo, ClassNo, LockNo, Prio, ThreadNo};
 use crate::sequence::Sequence;
 use std::alloc::{AllocError, Global};
 
-/// The kind of a lock: a mutex (mutex(9)), a reader-writer lock (rwlock(9)) or a shared/exclusive lock
-/// (sx(9)).
+/// The kind of a lock. It decides who may hold it together, on what its waiters block, and whom a release
+/// wakes.
+///
+/// ```
+/// let kind = Kind::Rw;
+/// ```
 #[derive(Clone, Copy, Debug, PartialEq, Eq, Hash)]
 pub enum Kind {
+    /// A mutex, as mutex(9) has it: one thread holds it, whose waiters block on a turnstile and lend it their
+    /// priority.
     Mtx,
+    /// A reader-writer lock, as rwlock(9) has it: one writer, or readers together. Its waiters block on a
+    /// turnstile, and they lend to a writer but to no reader. Readers go behind writers that wait.
     Rw,
+    /// A shared/exclusive lock, as sx(9) has it. It may be held across a sleep of any length, so its waiters
+    /// sleep on a sleep queue and lend nothing.
     Sx,
 }
 
-/// How a lock is held or wanted. A mutex is held exclusively alone.
+/// How a lock is held or wanted.
+///
+/// ```
+/// let write = Op::Take { l: LockNo(0), mode: Mode::Excl };
+/// ```
 #[derive(Clone, Copy, Debug, PartialEq, Eq, Hash)]
 pub enum Mode {
+    /// By one thread alone: a mutex, the write lock of a reader-writer lock, the exclusive lock of sx(9).
     Excl,
+    /// Together with others that share it: the read lock of a reader-writer lock, the shared lock of sx(9). A
+    /// mutex is never shared.
     Shared,
 }
 
-/// A side of a queue. Exclusive waiters wait on X and shared ones on S.
+/// A side of a lock's queue: waiters for either mode stand in a list of their own, and a bit of the lock word
+/// shows whether there are some.
+///
+/// ```
+/// let side = Side::X;
+/// ```
 #[derive(Clone, Copy, Debug, PartialEq, Eq, Hash)]
 pub enum Side {
+    /// That of the threads that want the lock exclusively. Sleepers on a channel stand here too.
     X,
+    /// That of the threads that want to share the lock.
     S,
 }
 
-/// What a queue of waiters belongs to: a lock, or a condition variable or channel.
+/// What a queue of waiters belongs to.
+///
+/// ```
+/// let queue = QueueName::Lock(LockNo(0));
+/// ```
 #[derive(Clone, Copy, Debug, PartialEq, Eq, Hash)]
 pub enum QueueName {
+    /// A lock: threads that block on it stand in its queue.
     Lock(LockNo),
+    /// A condition variable or a channel: threads that sleep on it stand in its queue.
     Chan(ChanNo),
 }
 
 /// What a name of a script stands for. Locks, channels and threads share one set of names.
+///
+/// ```
+/// let declared = Declared::Thread(ThreadNo(0));
+/// ```
 #[derive(Clone, Copy, Debug, PartialEq, Eq, Hash)]
 pub enum Declared {
+    /// A lock.
     Lock(LockNo),
+    /// A condition variable or a channel.
     Chan(ChanNo),
+    /// A thread.
     Thread(ThreadNo),
 }
 
-/// A lock.
+/// A lock, as a script declares it.
+///
+/// ```
+/// let lock = LockDecl {
+///     name: Name::of(b"inodes").ok_or("not a name")?,
+///     kind: Kind::Sx,
+///     class: ClassNo(0),
+/// };
+/// ```
 #[derive(Clone, Copy, Debug)]
 pub struct LockDecl {
     pub name: Name,
@@ -56,7 +102,16 @@ pub struct LockDecl {
     pub class: ClassNo,
 }
 
-/// A condition variable, where `cond` holds, or else a channel of msleep, with its lock.
+/// What threads sleep on: a condition variable of condvar(9), where `cond` holds, or else a channel of
+/// msleep(9). A sleep gives up its lock and gets it back.
+///
+/// ```
+/// let condition = ChanDecl {
+///     name: Name::of(b"not_empty").ok_or("not a name")?,
+///     cond: true,
+///     lock: LockNo(0),
+/// };
+/// ```
 #[derive(Clone, Copy, Debug)]
 pub struct ChanDecl {
     pub name: Name,
@@ -65,6 +120,14 @@ pub struct ChanDecl {
 }
 
 /// A thread: its base priority and its operations in order.
+///
+/// ```
+/// let writer = ThreadDecl {
+///     name: Name::of(b"writer").ok_or("not a name")?,
+///     base: Prio(100),
+///     ops: Sequence::from_vec(vec![in alloc; Op::Show]?),
+/// };
+/// ```
 #[derive(Drop, Debug)]
 pub struct ThreadDecl {
     pub name: Name,
@@ -72,7 +135,13 @@ pub struct ThreadDecl {
     pub ops: Sequence<Op>,
 }
 
-/// What a script says.
+/// What a script says. A lock, a channel, a thread and a class is named by its place in its list; the
+/// schedule says whose turns the scheduled run begins with.
+///
+/// ```
+/// let keys = plan.keys_of(alloc, LockNo(0))?;
+/// let first = plan.operations_of(ThreadNo(0)).first();
+/// ```
 #[derive(Drop, Debug)]
 pub struct Plan {
     pub classes: Sequence<Name>,
@@ -82,22 +151,64 @@ pub struct Plan {
     pub schedule: Sequence<ThreadNo>,
 }
 
-/// An operation of a thread. The past of a `Try` is the place behind the matching `EndTry`: there the
-/// thread goes on where the try fails.
+/// An operation of a thread.
+///
+/// ```
+/// let ops = [
+///     Op::Take { l: LockNo(0), mode: Mode::Excl },
+///     Op::Add { l: LockNo(0), key: 7, amount: 1 },
+///     Op::Release { l: LockNo(0) },
+/// ];
+/// ```
 #[derive(Clone, Copy, Debug, PartialEq, Eq, Hash)]
 pub enum Op {
+    /// Takes a lock in a mode, and blocks as long as the lock word doesn't admit it.
     Take { l: LockNo, mode: Mode },
+    /// Takes a lock in a mode where its word admits it, and else skips the block that ends at the matching
+    /// `EndTry`, whose next operation has the number `past`. It never blocks.
     Try { l: LockNo, mode: Mode, past: u32 },
+    /// Ends the block of a try. It takes no turn and makes no entry.
     EndTry,
+    /// Releases a lock, in the mode in which the thread holds it.
     Release { l: LockNo },
+    /// Sets a key of the table of a lock that the thread holds exclusively.
     Set { l: LockNo, key: u64, value: u64 },
+    /// Adds to the value at a key of the table of a lock that the thread holds exclusively, modulo 2^64. An
+    /// absent key counts as 0.
     Add { l: LockNo, key: u64, amount: u64 },
+    /// Reads a key of the table of a lock that the thread holds.
     Get { l: LockNo, key: u64 },
+    /// Sets the thread's base priority.
     Base { prio: Prio },
+    /// Shows the thread's base and effective priority.
     Show,
+    /// Gives up the lock of the condition variable or channel, sleeps on it until a thread wakes it, and takes
+    /// the lock again in the same mode.
     Sleep { c: ChanNo },
+    /// Wakes the most important of those that sleep on the condition variable or channel.
     WakeOne { c: ChanNo },
+    /// Wakes all that sleep on the condition variable or channel.
     WakeAll { c: ChanNo },
+}
+
+impl Op {
+    /// The lock and the key of its table that the operation sets, adds to or reads.
+    pub fn place(self) -> Option<(LockNo, u64)>
+        ensures { option_map (λ p. (p.0.0, p.1)) result ≡ place_of self }
+    {
+        match self {
+            Op::Set { l, key, .. } | Op::Add { l, key, .. } | Op::Get { l, key } => Some((l, key)),
+            Op::Take { .. }
+            | Op::Try { .. }
+            | Op::EndTry
+            | Op::Release { .. }
+            | Op::Base { .. }
+            | Op::Show
+            | Op::Sleep { .. }
+            | Op::WakeOne { .. }
+            | Op::WakeAll { .. } => None,
+        }
+    }
 }
 
 impl Plan {
@@ -115,6 +226,16 @@ impl Plan {
         keys.sort_unstable();
         keys.dedup();
         Ok(keys)
+    }
+
+    /// The operations of a thread, in order. There is none where the plan has no thread of that number.
+    pub fn operations_of(&self, t: ThreadNo) -> &[Op]
+        ensures { result.now ≡ operations_of self.now t.0 }
+    {
+        match self.threads.as_slice().get(usize::from(t.0)) {
+            Some(thread) => thread.ops.as_slice(),
+            None => &[],
+        }
     }
 }
 
@@ -135,10 +256,8 @@ fn push_keys(keys: &mut Vec<u64>, ops: &[Op], l: LockNo) -> Result<(), AllocErro
 fn named_key(op: Op, l: LockNo) -> Option<u64>
     ensures { (key : ℕ) → list_any (λ k. k == key) (option_to_list result) ≡ op_names l.0 key op }
 {
-    match op {
-        Op::Set { l: at, key, .. } | Op::Add { l: at, key, .. } | Op::Get { l: at, key } => {
-            if at == l { Some(key) } else { None }
-        }
-        _ => None,
+    match op.place() {
+        Some((at, key)) if at == l => Some(key),
+        Some(_) | None => None,
     }
 }

@@ -5,6 +5,10 @@ ghost use Rattle.std.specs.Prelude.{◌≡◌, length};
 use std::marker::Model;
 
 /// A list of items. It is made of a `Vec` and gives it back, and neither takes memory.
+///
+/// ```
+/// let schedule = Sequence::from_vec(vec![in alloc; ThreadNo(1), ThreadNo(0)]?);
+/// ```
 #[derive(Drop, Debug)]
 pub struct Sequence<T> {
     items: Vec<T>,

@@ -5,8 +5,8 @@
 //! A call is one row of a table in `lock_model`'s `specs/Words.antt`, read off the bits.
 #![tactic(auto)]
 
-ghost use Rattle.std.specs.Prelude.{◌≡◌, ◌≤◌, ◌/◌, ◌%◌, ◌==◌, true, false};
-ghost use Rattle.lock_model.specs.Words.{word_of, bits_of, IsWellFormed, admits, gained, dropped, entered, unshown, opened, side_opened, side_woken, claimed, without_one, is_drop, is_free, is_owned};
+ghost use Rattle.std.specs.Prelude.{◌≡◌, ◌≤◌, ◌/◌, ◌%◌, ◌==◌, true, false, option_map};
+ghost use Rattle.lock_model.specs.Words.{word_of, bits_of, IsWellFormed, admits, gained, dropped, entered, unshown, opened, side_opened, side_woken, claimed, without_one, is_drop, is_free, is_owned, owner_of, shows_waiters};
 ghost use Rattle.lock_words.specs.Views.{word_of_view, MayGain, IsHeldIn};
 
 use lock_model::{Kind, Mode, Side, ThreadNo};
@@ -20,14 +20,25 @@ const EXCLUSIVE: u64 = 4;
 const ONE: u64 = 8;
 
 /// Who holds a lock.
+///
+/// ```
+/// let hold = Hold::Shared(2);
+/// ```
 #[derive(Clone, Copy, Debug, PartialEq, Eq)]
 pub enum Hold {
+    /// Nobody.
     Free,
+    /// One thread, exclusively.
     Excl(ThreadNo),
+    /// So many threads, which share it.
     Shared(u32),
 }
 
 /// What a lock word says: its holder, and whether exclusive and shared waiters are shown.
+///
+/// ```
+/// let two_readers = WordView { hold: Hold::Shared(2), xw: true, sw: false };
+/// ```
 #[derive(Clone, Copy, Debug, PartialEq, Eq)]
 pub struct WordView {
     pub hold: Hold,
@@ -68,6 +79,34 @@ pub fn encode(v: WordView) -> u64
         Hold::Shared(n) => ONE * u64::from(n),
     };
     holder + SHARED_WAITERS * u64::from(v.sw) + EXCLUSIVE_WAITERS * u64::from(v.xw)
+}
+
+/// The thread that holds the lock exclusively. There is none exactly where nobody does.
+pub fn owner_of(w: u64) -> Option<ThreadNo>
+    requires { IsWellFormed (word_of w) }
+    ensures { option_map (λ t. t.0) result ≡ owner_of (word_of w).holder }
+{
+    if is_exclusive(w) {
+        Some(ThreadNo((w / ONE) as u8))
+    } else {
+        None
+    }
+}
+
+/// Whether the word shows waiters, of either side.
+pub fn shows_waiters(w: u64) -> bool
+    ensures { result ≡ shows_waiters (word_of w) }
+{
+    w % EXCLUSIVE != 0
+}
+
+/// Whether a release of the held word only takes one holder off: another shared holder stays, or no waiter is
+/// shown. Else it opens the lock and wakes waiters.
+pub fn is_drop(w: u64) -> bool
+    ensures { result ≡ is_drop (word_of w) }
+{
+    let is_shared_on = !is_exclusive(w) && w / ONE > 1;
+    is_shared_on || !shows_waiters(w)
 }
 
 /// Whether a thread may gain a lock of that kind in that mode. A mutex is asked for exclusively alone.
@@ -150,9 +189,10 @@ pub fn opened(kind: Kind, w: u64) -> (u64, Option<Side>)
     ensures side { result.1 ≡ side_opened kind (word_of w) }
 {
     let side = side_woken(kind, w);
-    let waiters = w % EXCLUSIVE;
-    let shown = waiters != 0;
-    (unshown(waiters, side), shown.then_some(side))
+    (
+        unshown(w % EXCLUSIVE, side),
+        shows_waiters(w).then_some(side),
+    )
 }
 
 fn side_woken(kind: Kind, w: u64) -> Side
@@ -186,34 +226,4 @@ fn is_exclusive(w: u64) -> bool
 }
 
 #[cfg(test)]
-mod tests {
-    use super::*;
-
-    // The worked words of the format: free, held by thread 0, held by thread 3 with writers shown, held by two readers with
-    // both shown, and free with readers shown.
-    #[test]
-    fn worked_words(rt: HostRuntime) {
-        let view = |hold, xw, sw| WordView { hold, xw, sw };
-        assert_eq!(rt; decode(0), view(Hold::Free, false, false));
-        assert_eq!(rt; decode(4), view(Hold::Excl(ThreadNo(0)), false, false));
-        assert_eq!(rt; decode(29), view(Hold::Excl(ThreadNo(3)), true, false));
-        assert_eq!(rt; decode(19), view(Hold::Shared(2), true, true));
-        assert_eq!(rt; decode(2), view(Hold::Free, false, true));
-        assert_eq!(rt; encode(view(Hold::Excl(ThreadNo(3)), true, false)), 29);
-        assert_eq!(rt; encode(view(Hold::Shared(2), true, true)), 19);
-    }
-
-    // One lock word from gain to claim.
-    #[test]
-    fn steps_of_a_word(rt: HostRuntime) {
-        assert!(rt; admits(Kind::Rw, 0, Mode::Shared));
-        assert_eq!(rt; gained(0, ThreadNo(0), Mode::Shared), 8);
-        assert_eq!(rt; entered(8, Side::X), 9);
-        assert!(rt; !admits(Kind::Rw, 9, Mode::Shared));
-        assert_eq!(rt; entered(9, Side::S), 11);
-        assert_eq!(rt; opened(Kind::Rw, 11), (2, Some(Side::X)));
-        assert_eq!(rt; claimed(2, ThreadNo(4)), 38);
-        assert_eq!(rt; unshown(38, Side::S), 36);
-        assert_eq!(rt; dropped(36, Mode::Excl), 0);
-    }
-}
+mod tests;
