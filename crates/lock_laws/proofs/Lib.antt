@@ -38,7 +38,6 @@ pub mod LegalRuns
 pub mod Idle
 pub mod AtTurn
 pub mod OtherThreads
-mod Guards
 pub mod Props
 pub mod Sleepers
 pub mod EnterSleep
