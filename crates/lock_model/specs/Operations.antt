@@ -1,6 +1,6 @@
 -- Which operations of a thread fit what it holds, and the plans whose threads' operations fit from their begin to their end. Each script's
 -- plan is such a plan.
-use Rattle.std.specs.Prelude.{◌≡◌, ℕ, ◌≤◌, ◌<◌, Bool, true, false, ◌&&◌, ◌==◌, nat_lt, if◌then◌else◌, List, [], ◌∷◌, ◌++◌, length, map, sum, take, option_and_then, unwrap_or, Option, Some, None}
+use Rattle.std.specs.Prelude.{◌≡◌, ℕ, ◌≤◌, ◌<◌, false, ◌&&◌, ◌==◌, nat_lt, if◌then◌else◌, List, [], ◌∷◌, ◌++◌, length, map, sum, take, option_and_then, unwrap_or, Option, Some, None}
 use Rattle.std.specs.List.{All}
 use Rattle.lock_model.specs.Holds.{Hold, NotHeld, Holds, is_unheld, is_exclusive}
 use Rattle.lock_model.specs.Plans.{lock_kind, operations_of}
