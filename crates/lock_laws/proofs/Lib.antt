@@ -58,3 +58,5 @@ pub mod Looks
 pub mod OwnEntries
 pub mod Rounds
 pub mod OneQueue
+pub mod Alike
+pub mod SxQueue
