@@ -8,13 +8,14 @@ use Rattle.lock_model.specs.Config.{Config}
 use Rattle.lock_model.specs.Holds.{Holds}
 use Rattle.lock_state.specs.Steps.Lending.{MayClaim, after_claim, loan_of}
 use Rattle.lock_model.specs.Queues.{lock_queue, chan_queue, stands, least_of}
-use Rattle.lock_state.specs.Facts.{Lawful, OneNodeEach, HeadsFitWaiters, BitsShowWaiters, StandsOnce, StandingWants, WokenWants, CalledWants, StandingIsUncalled, WokenIsUncalled, FreeWordHasCalled, FreeMutexShowsNone, WordsMatchHolders, OnlyThreadsHold, EffectiveIsLeast, OwnersHold, ChannelsHaveNoOwner, LoansAreLeast, LoansAreWithOwners, LoansAreOnHeads, KeptIsEffective, EffectiveIsKnown, LoansAreKnown, KeptIsKnown, SectionsAreHeld}
+use Rattle.lock_state.specs.Facts.{Lawful, OneNodeEach, HeadsFitWaiters, BitsShowWaiters, StandsOnce, CalledWants, FreeWordHasCalled, FreeMutexShowsNone, WordsMatchHolders, EffectiveIsLeast, OwnersHold, ChannelsHaveNoOwner, LoansAreLeast, LoansAreWithOwners, LoansAreOnHeads, KeptIsEffective, EffectiveIsKnown, LoansAreKnown, KeptIsKnown}
 use Rattle.lock_state.specs.Facts.Queues.{HeadFits}
 use Rattle.lock_state.specs.Facts.Waits.{callers}
 use Rattle.lock_state.specs.Facts.Loans.{owner_if, IsKnown}
 use Rattle.lock_model.specs.declared.plan.Mode.TheVariants.{Excl}
 use Rattle.lock_model.specs.declared.plan.QueueName.{QueueName}
 use Rattle.lock_laws.proofs.Kit.{columns, put_same, put_other, put_at_same, put_at_other, put_at_beside, put_lock_same, put_lock_other, sum_below-put, each_queue}
+use Rattle.lock_laws.proofs.Alike.{gained_lock}
 use Rattle.lock_laws.proofs.Words.{free_is, all_match-put, matches-claim}
 use Rattle.lock_laws.proofs.Lending.{each_of-elsewhere, effective-put}
 use Rattle.lock_laws.proofs.Nodes.{prio_loan_of, number_loan_of, loan_of_known, node_lent, loan_known, changed_known}
@@ -75,26 +76,6 @@ module _ (c : Config) (s : State) (t l x : ℕ) (by_try : Bool) (g : MayClaim c 
 
   -- 2. Wanting and calling
 
-  standing_wants : StandingWants n.blocked_on n.wanted
-  unfolding after_claim StandingWants
-  standing_wants u k = grind (arith, columns, h.standing_wants u k)
-
-  woken_wants : WokenWants n.wait n.wanted
-  unfolding after_claim WokenWants
-  woken_wants u k = grind (arith, columns, h.woken_wants u k)
-
-  called_wants : CalledWants n.called n.wanted
-  unfolding after_claim CalledWants
-  called_wants u k = grind (arith, columns, h.called_wants u k)
-
-  standing_uncalled : StandingIsUncalled n.blocked_on n.called
-  unfolding after_claim StandingIsUncalled
-  standing_uncalled u r = grind (arith, columns, h.standing_is_uncalled u r)
-
-  woken_uncalled : WokenIsUncalled n.wait n.called
-  unfolding after_claim WokenIsUncalled
-  woken_uncalled u = grind (arith, columns, h.woken_is_uncalled u)
-
   called : FreeWordHasCalled c n.word n.marked n.wait n.called
   unfolding after_claim FreeWordHasCalled callers CalledWants
   called k =
@@ -111,10 +92,6 @@ module _ (c : Config) (s : State) (t l x : ℕ) (by_try : Bool) (g : MayClaim c 
   unfolding after_claim WordsMatchHolders
   holders = all_match-put c s.word s.held t l _ (Holds Excl) h.words_match_holders (matches-claim c (s.word l) s.held t l g.thread g.free g.unheld (h.words_match_holders l))
 
-  threads_hold : OnlyThreadsHold c n.held
-  unfolding after_claim OnlyThreadsHold
-  threads_hold u k m = grind (arith, columns, h.only_threads_hold u k m, g.thread)
-
   owners : OwnersHold c n.owner n.head n.word
   unfolding after_claim OwnersHold
   owners k =
@@ -126,10 +103,6 @@ module _ (c : Config) (s : State) (t l x : ℕ) (by_try : Bool) (g : MayClaim c 
   channels : ChannelsHaveNoOwner n.owner
   unfolding after_claim ChannelsHaveNoOwner put_queue
   channels d = h.channels_have_no_owner d
-
-  sections : SectionsAreHeld c n.history n.held
-  unfolding after_claim SectionsAreHeld
-  sections u k m = grind (arith, columns, h.sections_are_held u k m, g.unheld)
 
   -- 4. Loans and kept priorities
 
@@ -193,4 +166,4 @@ module _ (c : Config) (s : State) (t l x : ℕ) (by_try : Bool) (g : MayClaim c 
 
   pub lawful : Lawful c n
   unfolding after_claim
-  lawful = assumption (nodes, heads, bits, standing_wants, woken_wants, called_wants, standing_uncalled, woken_uncalled, called, free_mutex, holders, threads_hold, owners, channels, sections, least, loans_least, loans_owned, loans_on_heads, kept, effective_known, loans_known)
+  lawful = assumption (nodes, heads, bits, called, free_mutex, holders, owners, channels, least, loans_least, loans_owned, loans_on_heads, kept, effective_known, loans_known, gained_lock c s t l Excl g.thread g.unheld g.acting h)

@@ -1,30 +1,24 @@
 -- An enter keeps each fact.
-use Rattle.std.proofs.Common.{◌≡◌, ℕ, ◌+◌, Bool, true, false, not, eqb, List, Option, Some, None, refl, sym, ap, inl, inr, arith, ◌∙◌}
+use Rattle.std.proofs.Common.{◌≡◌, ℕ, Bool, true, false, not, List, Option, Some, None, refl, sym, ap, inl, inr, arith, ◌∙◌}
 use Rattle.std.proofs.lemmas.Bool.{cases_eq}
-use Rattle.lock_model.specs.Counts.{one, times, at_option}
+use Rattle.lock_model.specs.Counts.{times, at_option}
 use Rattle.lock_model.specs.Words.{Holder, is_turnstile, entered, owner_of}
 use Rattle.lock_state.specs.State.{State, put_queue}
 use Rattle.lock_model.specs.Config.{Config}
 use Rattle.lock_model.specs.Queues.{Waiter, Lists, lock_queue, side_of, list_of, with_list, insert, head_with, free_with}
 use Rattle.lock_state.specs.Steps.Turnstiles.{MayEnter, after_enter, walk_up, owner_with}
-use Rattle.lock_state.specs.Facts.{Lawful, OneTurnstileEach, OneSleepQueueEach, TurnstileIsLent, SleepQueueIsLent, HeadsFitWaiters, BitsShowWaiters, ListsAscend, MutexWaitersAreExclusive, StandsOnce, OnlyThreadsStand, StandingIsQueued, StandingWants, WokenWants, CalledWants, StandingIsUncalled, WokenIsUncalled, FreeWordHasCalled, FreeMutexShowsNone, WordsMatchHolders, OwnersHold, ChannelsHaveNoOwner, LoansAreLeast, LoansAreWithOwners, LoansAreOnHeads, KeptIsEffective, EffectiveIsKnown, KeptIsKnown}
+use Rattle.lock_state.specs.Facts.{Lawful, OneTurnstileEach, OneSleepQueueEach, TurnstileIsLent, SleepQueueIsLent, HeadsFitWaiters, BitsShowWaiters, ListsAscend, MutexWaitersAreExclusive, StandsOnce, OwnersHold, ChannelsHaveNoOwner, LoansAreLeast, LoansAreWithOwners, LoansAreOnHeads, KeptIsEffective, EffectiveIsKnown, KeptIsKnown}
 use Rattle.lock_state.specs.Facts.Queues.{only, turnstile_places, sleep_queue_places, HeadFits}
-use Rattle.lock_state.specs.Facts.Waits.{callers}
-use Rattle.lock_state.specs.Facts.Words.{WordMatchesHolders}
 use Rattle.lock_state.specs.Facts.Loans.{IsKept, IsKnown, EachOf, walks_at_lock, walks_at_thread, at_lock, at_thread, owner_if}
 use Rattle.lock_model.specs.declared.plan.Mode.{Mode}
 use Rattle.lock_model.specs.declared.plan.Side.{Side}
 use Rattle.lock_model.specs.declared.plan.QueueName.{QueueName}
-use Rattle.lock_laws.proofs.Kit.{columns, put_same, put_other, put_lock_same, put_lock_other, sum_below-put, sum_below-put_lock, at_put, at_put_lock, same_lock}
-use Rattle.lock_laws.proofs.Words.{entered_holder, matches_same}
+use Rattle.lock_laws.proofs.Kit.{columns, put_same, put_other, put_lock_same, put_lock_other, sum_below-put, sum_below-put_lock, at_put_lock}
+use Rattle.lock_laws.proofs.Alike.{entered_lock}
+use Rattle.lock_laws.proofs.Words.{entered_holder}
 use Rattle.lock_laws.proofs.Queues.{stands-more, waiting-more, ascends-insert, is_empty-insert}
-use Rattle.lock_laws.proofs.OneQueue.{heads_put, stand_more}
+use Rattle.lock_laws.proofs.OneQueue.{lent_object, heads_put, stand_more}
 use Rattle.lock_laws.proofs.Lending.{at_thread-walk_up, walk_up-there, each_of-map, each_of-more}
-
--- the object that is lent goes to the head or the free list
-lent_object : (n x : ℕ) (head : Option ℕ) (free : List ℕ) → at_option n (head_with head x) + times n (free_with head x free) ≡ one (eqb n x) + (at_option n head + times n free)
-lent_object n x None free = omega arith
-lent_object n x (Some h) free = omega arith
 
 -- where the turnstile has an owner after an enter, the word is held exclusively by that thread
 owner_there : (turnstile : Bool) (h o : Option ℕ) (y : Holder) (u : ℕ) → turnstile ≡ true → o ≡ owner_if turnstile h y → owner_with h o y ≡ Some u → owner_of y ≡ Some u
@@ -108,52 +102,7 @@ module _ (c : Config) (s : State) (t l : ℕ) (mode : Mode) (x : ℕ) (g : MayEn
   unfolding after_enter
   stand = stand_more c s h q lists t g.unnamed (stands-more (side_of mode) new (s.lists q))
 
-  threads_stand : OnlyThreadsStand c n.blocked_on
-  unfolding after_enter OnlyThreadsStand
-  threads_stand u r = grind (arith, columns, h.only_threads_stand u r, g.thread)
-
-  standing_queued : StandingIsQueued n.blocked_on n.wait
-  unfolding after_enter StandingIsQueued
-  standing_queued u r = grind (arith, columns, h.standing_is_queued u r)
-
-  standing_wants : StandingWants n.blocked_on n.wanted
-  unfolding after_enter StandingWants
-  standing_wants u k = grind (arith, columns, h.standing_wants u k, same_lock l k)
-
-  woken_wants : WokenWants n.wait n.wanted
-  unfolding after_enter WokenWants
-  woken_wants u k = grind (arith, columns, h.woken_wants u k)
-
-  called_wants : CalledWants n.called n.wanted
-  unfolding after_enter CalledWants
-  called_wants u k = grind (arith, columns, h.called_wants u k)
-
-  standing_uncalled : StandingIsUncalled n.blocked_on n.called
-  unfolding after_enter StandingIsUncalled
-  standing_uncalled u r = grind (arith, columns, h.standing_is_uncalled u r)
-
-  woken_uncalled : WokenIsUncalled n.wait n.called
-  unfolding after_enter WokenIsUncalled
-  woken_uncalled u = grind (arith, columns, h.woken_is_uncalled u)
-
-  called : FreeWordHasCalled c n.word n.marked n.wait n.called
-  unfolding after_enter FreeWordHasCalled callers CalledWants
-  called k =
-      let a = sum_below-put c.threads (at_option k) s.called t None g.thread in
-      let e = entered_holder (s.word l) (side_of mode) in
-      grind (arith, columns, h.free_word_has_called k, h.called_wants)
-
-  free_mutex : FreeMutexShowsNone c n.word
-  unfolding after_enter FreeMutexShowsNone
-  free_mutex k e =
-      let f = entered_holder (s.word l) (side_of mode) in
-      grind (arith, columns, h.free_mutex_shows_none k e)
-
   -- 4. Words and owners
-
-  holders : WordsMatchHolders c n.word n.held
-  unfolding after_enter WordsMatchHolders
-  holders = at_put (λ k w. WordMatchesHolders c w k s.held) s.word l _ (matches_same c (s.word l) _ l s.held (entered_holder (s.word l) (side_of mode)) (h.words_match_holders l)) (λ k ne. h.words_match_holders k)
 
   owners : OwnersHold c n.owner n.head n.word
   unfolding after_enter OwnersHold
@@ -217,4 +166,4 @@ module _ (c : Config) (s : State) (t l : ℕ) (mode : Mode) (x : ℕ) (g : MayEn
 
   pub lawful : Lawful c n
   unfolding after_enter
-  lawful = assumption (one_turnstile, one_sleep_queue, turnstile_lent, sleep_queue_lent, heads, bits, ascend, mutex_waiters, stand, threads_stand, standing_queued, standing_wants, woken_wants, called_wants, standing_uncalled, woken_uncalled, called, free_mutex, holders, owners, channels, loans_least, loans_owned, loans_on_heads, kept, kept_known)
+  lawful = assumption (one_turnstile, one_sleep_queue, turnstile_lent, sleep_queue_lent, heads, bits, ascend, mutex_waiters, stand, owners, channels, loans_least, loans_owned, loans_on_heads, kept, kept_known, entered_lock c s t l (side_of mode) g.thread g.held g.queued g.wants h)

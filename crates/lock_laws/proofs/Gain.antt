@@ -7,11 +7,12 @@ use Rattle.lock_state.specs.State.{State}
 use Rattle.lock_model.specs.Config.{Config}
 use Rattle.lock_model.specs.Holds.{Holds}
 use Rattle.lock_state.specs.Steps.LockWords.{MayGain, after_gain}
-use Rattle.lock_state.specs.Facts.{Lawful, BitsShowWaiters, HeadsFitWaiters, StandingWants, WokenWants, CalledWants, StandingIsUncalled, WokenIsUncalled, FreeWordHasCalled, FreeMutexShowsNone, WordsMatchHolders, OnlyThreadsHold, OwnersHold, SectionsAreHeld}
+use Rattle.lock_state.specs.Facts.{Lawful, BitsShowWaiters, HeadsFitWaiters, CalledWants, FreeWordHasCalled, FreeMutexShowsNone, WordsMatchHolders, OwnersHold}
 use Rattle.lock_state.specs.Facts.Waits.{callers}
 use Rattle.lock_state.specs.Facts.Loans.{owner_if}
 use Rattle.lock_model.specs.declared.plan.Mode.{Mode}
 use Rattle.lock_laws.proofs.Kit.{columns, at_put, sum_below-put}
+use Rattle.lock_laws.proofs.Alike.{gained_lock}
 use Rattle.lock_laws.proofs.Words.{all_match-put, matches-gain}
 use Rattle.lock_laws.proofs.Owners.{owner_gained}
 
@@ -22,26 +23,6 @@ module _ (c : Config) (s : State) (t l : ℕ) (mode : Mode) (by_try : Bool) (g :
   bits : BitsShowWaiters n.word n.lists
   unfolding after_gain BitsShowWaiters
   bits k = grind (arith, columns, h.bits_show_waiters k)
-
-  standing_wants : StandingWants n.blocked_on n.wanted
-  unfolding after_gain StandingWants
-  standing_wants u k = grind (arith, columns, h.standing_wants u k)
-
-  woken_wants : WokenWants n.wait n.wanted
-  unfolding after_gain WokenWants
-  woken_wants u k = grind (arith, columns, h.woken_wants u k)
-
-  called_wants : CalledWants n.called n.wanted
-  unfolding after_gain CalledWants
-  called_wants u k = grind (arith, columns, h.called_wants u k)
-
-  standing_uncalled : StandingIsUncalled n.blocked_on n.called
-  unfolding after_gain StandingIsUncalled
-  standing_uncalled u q = grind (arith, columns, h.standing_is_uncalled u q)
-
-  woken_uncalled : WokenIsUncalled n.wait n.called
-  unfolding after_gain WokenIsUncalled
-  woken_uncalled u = grind (arith, columns, h.woken_is_uncalled u)
 
   called : FreeWordHasCalled c n.word n.marked n.wait n.called
   unfolding after_gain FreeWordHasCalled callers CalledWants
@@ -57,10 +38,6 @@ module _ (c : Config) (s : State) (t l : ℕ) (mode : Mode) (by_try : Bool) (g :
   unfolding after_gain WordsMatchHolders
   holders = all_match-put c s.word s.held t l _ (Holds mode) h.words_match_holders (matches-gain c (c.kind l) (s.word l) s.held t l mode g.thread g.admitted g.unheld (h.words_match_holders l))
 
-  threads_hold : OnlyThreadsHold c n.held
-  unfolding after_gain OnlyThreadsHold
-  threads_hold u k m = grind (arith, columns, h.only_threads_hold u k m, g.thread)
-
   owners : OwnersHold c n.owner n.head n.word
   unfolding after_gain OwnersHold BitsShowWaiters HeadsFitWaiters
   owners =
@@ -68,10 +45,6 @@ module _ (c : Config) (s : State) (t l : ℕ) (mode : Mode) (by_try : Bool) (g :
       (h.owners_hold l ∙ owner_gained (c.kind l) (s.word l) (s.lists (lock_queue l)) (s.free_list (lock_queue l)) (s.head (lock_queue l)) (s.owner (lock_queue l)) t mode g.admitted g.plainly (h.bits_show_waiters l) (h.heads_fit_waiters (lock_queue l)))
       (λ k ne. h.owners_hold k)
 
-  sections : SectionsAreHeld c n.history n.held
-  unfolding after_gain SectionsAreHeld
-  sections u k m = grind (arith, columns, h.sections_are_held u k m, g.unheld)
-
   pub lawful : Lawful c n
   unfolding after_gain
-  lawful = assumption (bits, standing_wants, woken_wants, called_wants, standing_uncalled, woken_uncalled, called, free_mutex, holders, threads_hold, owners, sections)
+  lawful = assumption (bits, called, free_mutex, holders, owners, gained_lock c s t l mode g.thread g.unheld g.acting h)

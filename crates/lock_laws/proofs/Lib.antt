@@ -57,3 +57,5 @@ pub mod Looks
 pub mod OwnEntries
 pub mod Rounds
 pub mod OneQueue
+pub mod Alike
+pub mod SxQueue

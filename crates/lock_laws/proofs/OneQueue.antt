@@ -1,9 +1,9 @@
 -- One queue changes, of a lock or of a channel: what each step that puts a thread there, or takes some off, has in common.
 use Rattle.std.proofs.Common.{◌≡◌, ℕ, ◌+◌, ◌<◌, ◌≤◌, Bool, true, false, cond, eqb, List, [], length, Option, Some, None, refl, sym, ap, arith, eq-eqb, ◌∙◌, subst}
 use Rattle.std.proofs.lemmas.Bool.{ne_eqb}
-use Rattle.lock_model.specs.Counts.{one, some, sum_below}
+use Rattle.lock_model.specs.Counts.{one, some, times, at_option, sum_below}
 use Rattle.lock_model.specs.Config.{Config}
-use Rattle.lock_model.specs.Queues.{Waiter, Lists, is_queue, stands, times_waiting, dealt}
+use Rattle.lock_model.specs.Queues.{Waiter, Lists, is_queue, stands, times_waiting, dealt, head_with, free_with}
 use Rattle.lock_model.specs.declared.plan.QueueName.{QueueName}
 use Rattle.lock_model.specs.declared.plan.QueueName.TheVariants.{Lock, Chan}
 use Rattle.lock_state.specs.State.{State, put, put_queue}
@@ -18,6 +18,11 @@ other_queue (Lock l) (Lock k) e = ne_eqb k.0 l.0 (λ i. let z : true ≡ false =
 other_queue (Chan l) (Chan k) e = ne_eqb k.0 l.0 (λ i. let z : true ≡ false = sym (eq-eqb l.0 k.0 (sym i)) ∙ e in cc)
 other_queue (Lock l) (Chan d) e = refl
 other_queue (Chan d) (Lock l) e = refl
+
+-- the object that is lent goes to the head or the free list
+pub lent_object : (n x : ℕ) (head : Option ℕ) (free : List ℕ) → at_option n (head_with head x) + times n (free_with head x free) ≡ one (eqb n x) + (at_option n head + times n free)
+lent_object n x None free = omega arith
+lent_object n x (Some h) free = omega arith
 
 -- a fact of each queue and its entry, by the queue that is changed and the others
 pub at_put_queue : {A : Type 0} (P : QueueName → A → Type 0) (f : QueueName → A) (q : QueueName) (v : A) → P q v → ((r : QueueName) → is_queue q r ≡ false → P r (f r)) → (r : QueueName) → P r (put_queue f q v r)

@@ -2,27 +2,25 @@
 use Rattle.std.proofs.Common.{◌≡◌, ℕ, ◌+◌, ◌≤◌, Bool, true, false, not, List, [], length, Option, Some, None, refl, sym, ap, inl, inr, arith, ◌∙◌}
 use Rattle.std.proofs.lemmas.Bool.{cases_eq, ne_eqb}
 use Rattle.lock_model.specs.Counts.{one, some, times, at_option, is_empty}
-use Rattle.lock_model.specs.Words.{Word, Free, is_turnstile, shows_waiters, without_one, opened, unshown, side_woken}
-use Rattle.lock_state.specs.State.{State, Loan, put, put_at, put_queue}
+use Rattle.lock_model.specs.Words.{Word, Free, is_turnstile, shows_waiters, opened, side_woken}
+use Rattle.lock_state.specs.State.{State, Loan, put_at, put_queue}
 use Rattle.lock_model.specs.Config.{Config}
 use Rattle.lock_model.specs.Queues.{Waiter, Lists, Mark, lock_queue, list_of, with_list, stands, dealt, free_after, head_after}
-use Rattle.lock_model.specs.Holds.{NotHeld}
 use Rattle.lock_state.specs.Steps.Turnstiles.{MayOpen, after_open}
-use Rattle.lock_state.specs.Facts.{Lawful, OneTurnstileEach, OneSleepQueueEach, OneNodeEach, HeadsFitWaiters, BitsShowWaiters, ListsAscend, MutexWaitersAreExclusive, StandsOnce, FreeWordHasCalled, FreeMutexShowsNone, WordsMatchHolders, OnlyThreadsHold, EffectiveIsLeast, OwnersHold, ChannelsHaveNoOwner, LoansAreLeast, LoansAreWithOwners, LoansAreOnHeads, KeptIsEffective, EffectiveIsKnown, LoansAreKnown, KeptIsKnown, SectionsAreHeld}
+use Rattle.lock_state.specs.Facts.{Lawful, OneTurnstileEach, OneSleepQueueEach, OneNodeEach, HeadsFitWaiters, BitsShowWaiters, ListsAscend, MutexWaitersAreExclusive, StandsOnce, FreeMutexShowsNone, EffectiveIsLeast, OwnersHold, ChannelsHaveNoOwner, LoansAreLeast, LoansAreWithOwners, LoansAreOnHeads, KeptIsEffective, EffectiveIsKnown, LoansAreKnown, KeptIsKnown}
 use Rattle.lock_state.specs.Facts.Queues.{only, times_object, turnstile_places, sleep_queue_places, HeadFits, ShowsItsWaiters}
-use Rattle.lock_state.specs.Facts.Waits.{callers, calls_marked, at_queue}
+use Rattle.lock_state.specs.Facts.Waits.{at_queue}
 use Rattle.lock_state.specs.Facts.Loans.{IsKept, IsKnown, EachOf, owner_if}
 use Rattle.lock_model.specs.declared.plan.Kind.{Kind}
 use Rattle.lock_model.specs.declared.plan.Kind.TheVariants.{Mtx, Rw, Sx}
 use Rattle.lock_model.specs.declared.plan.Mode.{Mode}
 use Rattle.lock_model.specs.declared.plan.Side.{Side}
-use Rattle.lock_model.specs.declared.plan.Side.TheVariants.{X, S}
 use Rattle.lock_model.specs.declared.plan.QueueName.{QueueName}
 use Rattle.lock_model.specs.declared.plan.QueueName.TheVariants.{Lock, Chan}
 use Rattle.lock_laws.proofs.Kit.{columns, put_same, put_other, put_at_same, put_at_other, put_at_beside, put_lock_same, put_lock_other, sum_below-put, sum_below-put_lock, at_put_lock}
-use Rattle.lock_laws.proofs.Words.{free_is, all_match-put, matches-drop}
+use Rattle.lock_laws.proofs.Alike.{opened_lock}
 use Rattle.lock_laws.proofs.OneQueue.{heads_put, stand_less}
-use Rattle.lock_laws.proofs.Queues.{stands-less, waiting-less, turnstiles-dealt, sleep_queues-dealt, calls-dealt, length-after, headless-after}
+use Rattle.lock_laws.proofs.Queues.{stands-less, waiting-less, turnstiles-dealt, sleep_queues-dealt, length-after, headless-after}
 use Rattle.lock_laws.proofs.Lending.{each_of-elsewhere, each_of-less, effective-put}
 use Rattle.lock_laws.proofs.Sections.{apart}
 use Rattle.lock_laws.proofs.Shown.{lent_held}
@@ -33,10 +31,6 @@ side_shown : (kind : Kind) (w : Word) (q : Lists) → is_turnstile kind ≡ true
 side_shown Mtx w q t i e m = let z = m refl in grind (arith, i.exclusive, i.shared)
 side_shown Rw w q t i e m = grind (arith, i.exclusive, i.shared)
 side_shown Sx w q t i e m = absurd cc
-
-bits_opened : (side : Side) (w : Word) (q : Lists) → ShowsItsWaiters w q → ShowsItsWaiters (record (unshown w side) { holder = Free }) (with_list side [] q)
-bits_opened X w q i = record { exclusive = refl; shared = i.shared }
-bits_opened S w q i = record { exclusive = i.exclusive; shared = refl }
 
 head_fits : (side : Side) (q : Lists) (xs : List ℕ) (h o : Option ℕ) → HeadFits q xs h o → HeadFits (with_list side [] q) (free_after (list_of side q) xs) (head_after (list_of side q) xs h) None
 head_fits side q xs h o f =
@@ -113,14 +107,6 @@ module _ (c : Config) (s : State) (t l : ℕ) (mode : Mode) (g : MayOpen c s t l
   unfolding after_open HeadsFitWaiters
   heads = heads_put c s h q (with_list side [] (s.lists q)) _ _ _ (head_fits side (s.lists q) (s.free_list q) (s.head q) (s.owner q) (h.heads_fit_waiters q))
 
-  bits : BitsShowWaiters n.word n.lists
-  unfolding after_open BitsShowWaiters
-  bits k =
-      elim (cases_eq l k) [
-        | inl e ↦ rw (← e, put_same s.word l (opened (c.kind l) (s.word l)), put_lock_same s.lists l (with_list side [] (s.lists q))) (bits_opened side (s.word l) (s.lists q) (h.bits_show_waiters l))
-        | inr e ↦ rw (put_other s.word l (opened (c.kind l) (s.word l)) k e, put_lock_other s.lists l (with_list side [] (s.lists q)) k e) (h.bits_show_waiters k)
-      ]
-
   ascend : ListsAscend c n.lists
   unfolding after_open ListsAscend
   ascend k e = grind (arith, columns, h.lists_ascend k e)
@@ -135,38 +121,11 @@ module _ (c : Config) (s : State) (t l : ℕ) (mode : Mode) (g : MayOpen c s t l
   unfolding after_open
   stand = stand_less c s h q (with_list side [] (s.lists q)) t g.thread g.unmarked woken fits (stands-less side (s.lists q))
 
-  called : FreeWordHasCalled c n.word n.marked n.wait n.called
-  unfolding after_open FreeWordHasCalled callers
-  called k =
-      let a = sum_below-put c.threads (calls_marked k) s.marked t marks g.thread in
-      let e = ap (calls_marked k) g.unmarked in
-      elim (cases_eq l k) [
-        | inl i ↦
-            let d = calls-dealt l woken (s.free_list q) (s.head q) fits some_woken in
-            let a2 = rw (← i) at a in
-            let e2 = rw (← i) at e in
-            let f = one_le (shows_waiters (put s.word l (opened (c.kind l) (s.word l)) l)) in
-            rw (← i) (omega arith)
-        | inr i ↦ rw (put_other s.word l (opened (c.kind l) (s.word l)) k i) (omega (arith, h.free_word_has_called k))
-      ]
-    where
-      one_le : (b : Bool) → one b ≤ 1
-      one_le true = omega arith
-      one_le false = omega arith
-
   free_mutex : FreeMutexShowsNone c n.word
   unfolding after_open FreeMutexShowsNone BitsShowWaiters MutexWaitersAreExclusive
   free_mutex k e = grind (arith, columns, h.free_mutex_shows_none k e, h.bits_show_waiters k, h.mutex_waiters_are_exclusive k e)
 
   -- 4. Words and owners
-
-  holders : WordsMatchHolders c n.word n.held
-  unfolding after_open WordsMatchHolders
-  holders = all_match-put c s.word s.held t l _ NotHeld h.words_match_holders (matches-drop c (s.word l) _ s.held t l mode g.thread g.held (sym (free_is (without_one (s.word l).holder) g.last)) (h.words_match_holders l))
-
-  threads_hold : OnlyThreadsHold c n.held
-  unfolding after_open OnlyThreadsHold
-  threads_hold u k m = grind (arith, columns, h.only_threads_hold u k m)
 
   owners : OwnersHold c n.owner n.head n.word
   unfolding after_open OwnersHold
@@ -179,10 +138,6 @@ module _ (c : Config) (s : State) (t l : ℕ) (mode : Mode) (g : MayOpen c s t l
   channels : ChannelsHaveNoOwner n.owner
   unfolding after_open ChannelsHaveNoOwner put_queue
   channels d = h.channels_have_no_owner d
-
-  sections : SectionsAreHeld c n.history n.held
-  unfolding after_open SectionsAreHeld
-  sections u k m = grind (arith, columns, h.sections_are_held u k m, g.closed)
 
   -- 5. Loans and kept priorities
 
@@ -255,4 +210,4 @@ module _ (c : Config) (s : State) (t l : ℕ) (mode : Mode) (g : MayOpen c s t l
 
   pub lawful : Lawful c n
   unfolding after_open
-  lawful = assumption (one_turnstile, one_sleep_queue, nodes, heads, bits, ascend, mutex_waiters, stand, called, free_mutex, holders, threads_hold, owners, channels, sections, least, loans_least, loans_owned, loans_on_heads, kept, effective_known, loans_known, kept_known)
+  lawful = assumption (one_turnstile, one_sleep_queue, nodes, heads, ascend, mutex_waiters, stand, free_mutex, owners, channels, least, loans_least, loans_owned, loans_on_heads, kept, effective_known, loans_known, kept_known, opened_lock c s t l mode g.thread g.held g.last g.unmarked g.closed h fits some_woken)

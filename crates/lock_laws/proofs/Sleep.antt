@@ -1,6 +1,6 @@
 -- An add to a channel, and a wake there, keep each fact.
-use Rattle.std.proofs.Common.{◌≡◌, ℕ, ◌+◌, ◌≤◌, Bool, true, false, eqb, List, length, Option, Some, None, refl, sym, ap, arith, ◌∙◌}
-use Rattle.lock_model.specs.Counts.{one, some, times, at_option}
+use Rattle.std.proofs.Common.{◌≡◌, ℕ, ◌+◌, ◌≤◌, Bool, true, false, List, length, Option, Some, None, refl, sym, ap, arith, ◌∙◌}
+use Rattle.lock_model.specs.Counts.{some, times, at_option}
 use Rattle.lock_state.specs.State.{State, put_queue}
 use Rattle.lock_model.specs.Config.{Config}
 use Rattle.lock_model.specs.Queues.{Waiter, Lists, Mark, chan_queue, stands, times_waiting, head_with, free_with, dealt, free_after, head_after}
@@ -11,14 +11,9 @@ use Rattle.lock_state.specs.Facts.Waits.{callers, calls_marked}
 use Rattle.lock_model.specs.declared.plan.QueueName.{QueueName}
 use Rattle.lock_model.specs.declared.plan.Side.TheVariants.{X}
 use Rattle.lock_laws.proofs.Kit.{columns, sum_below-put, sum_below-put_chan}
-use Rattle.lock_laws.proofs.OneQueue.{heads_put_owned, stand_more, stand_less}
+use Rattle.lock_laws.proofs.OneQueue.{lent_object, heads_put_owned, stand_more, stand_less}
 use Rattle.lock_laws.proofs.Queues.{no_turnstiles-dealt, all_sleep_queues-dealt, length-after, headless-after}
 use Rattle.lock_laws.proofs.Sleepers.{stands-last, length-last, times-taken, length-taken}
-
--- the object that is lent goes to the head or the free list
-lent_object : (n x : ℕ) (head : Option ℕ) (free : List ℕ) → at_option n (head_with head x) + times n (free_with head x free) ≡ one (eqb n x) + (at_option n head + times n free)
-lent_object n x None free = omega arith
-lent_object n x (Some h) free = omega arith
 
 added_fits : (w : Waiter) (q : Lists) (xs : List ℕ) (h o : Option ℕ) (x : ℕ) → HeadFits q xs h o → HeadFits (record q { exclusive = with_last w q.exclusive }) (free_with h x xs) (head_with h x) o
 added_fits w q xs h o x f = grind (arith, length-last w q.exclusive, f.balanced, f.no_free)
