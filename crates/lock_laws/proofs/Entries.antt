@@ -1,4 +1,5 @@
--- Each operation that is behind a thread has made one entry, so the entries of a run are fewer than the operations while one is left.
+-- Each operation that is behind a thread has made one entry, so the entries of a run are fewer than the operations while
+-- one is left.
 use Rattle.std.proofs.Common.{◌≡◌, ℕ, zero, suc, ◌+◌, ◌<◌, ◌≤◌, List, [], ◌∷◌, length, slice_get, refl, sym, ap, inl, inr, arith, ◌∙◌, subst, map}
 use Rattle.std.specs.Prelude.{unwrap_or}
 use Rattle.std.specs.List.{sum_by}

@@ -1,5 +1,5 @@
--- A turn of the scheduled run makes no entry and leaves its thread's next operation, or it makes the one entry that this operation gives and
--- goes on to the next. So each thread's entries follow its operations behind the turn as before.
+-- A turn of the scheduled run makes no entry and leaves its thread's next operation, or it makes the one entry that this
+-- operation gives and goes on to the next. So each thread's entries follow its operations behind the turn as before.
 use Rattle.std.proofs.Common.{◌≡◌, ℕ, suc, ◌<◌, false, List, [], ◌∷◌, length, slice_get, Some, None, refl, sym, eq-eqb, ◌∙◌}
 use Rattle.std.proofs.lemmas.Bool.{ne_eqb}
 use Rattle.std.proofs.lemmas.List.Elements.{All-cons}
@@ -21,7 +21,7 @@ use Rattle.lock_state.specs.Steps.LockWords.{entry_of, after_gain, after_drop, a
 use Rattle.lock_state.specs.Steps.Turnstiles.{after_enter, after_open, after_mark, after_resume}
 use Rattle.lock_state.specs.Steps.Lending.{after_lend, after_shift, after_end_walk}
 use Rattle.lock_state.specs.Run.{Run, Row, mode_held, turn_of, run_behind}
-use Rattle.lock_laws.specs.OnTrack.{IsOnTrack, SleepsNobody, is_of_sleep}
+use Rattle.lock_laws.specs.OnTrack.{IsOnTrack, IsAtOperation, SleepsNobody, is_of_sleep}
 use Rattle.lock_laws.proofs.Kit.{put_same, put_other, each_place}
 use Rattle.lock_laws.proofs.TurnsOfLocks.{held}
 use Rattle.lock_laws.proofs.Table as table
@@ -72,7 +72,7 @@ module _ (plan : Plan) (r : Run) (t : ℕ) (p : IsProper plan) (k : IsOnTrack pl
   gives _ _ table.shows = (law.shows (record { 0 = s.base t }) (record { 0 = s.effective t }), refl)
 
   -- a release is of a lock that is held
-  unlocks : (l : LockNo) → table.IsAt plan r t (Some (Release l)) → GivesNext plan r t (Release l) (event.Unlocked l (mode_held (s.held t l.0)))
+  unlocks : (l : LockNo) → IsAtOperation plan r t (Some (Release l)) → GivesNext plan r t (Release l) (event.Unlocked l (mode_held (s.held t l.0)))
   unlocks l i = law.unlocks l (mode_held (s.held t l.0)) (sym (k.holds t l.0) ∙ held plan r t p k lt l i)
 
   made : (row : Row) → table.Fits plan r t row → Makes plan r t row

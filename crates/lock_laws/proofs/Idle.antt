@@ -1,5 +1,5 @@
--- A turn is idle exactly where its thread sleeps, and ended exactly where the thread has ended; it then changes nothing. So a round that
--- was idle throughout leaves each thread that hasn't ended on a queue.
+-- A turn is idle exactly where its thread sleeps, and ended exactly where the thread has ended; it then changes nothing.
+-- So a round that was idle throughout leaves each thread that hasn't ended on a queue.
 use Rattle.std.proofs.Common.{◌≡◌, ◌≢◌, ◌⊎◌, ◌↔◌, ℕ, zero, suc, ◌+◌, ◌<◌, ◌≤◌, Bool, true, false, not, cond, ◌&&◌, ◌||◌, nat_le, List, [], ◌∷◌, length, take, filter, slice_get, Option, Some, None, refl, sym, ap, inl, inr, arith, ◌∙◌, subst}
 use Rattle.std.specs.Prelude.{unwrap_or}
 use Rattle.std.specs.List.{range_with_len}
@@ -22,7 +22,7 @@ use Rattle.lock_model.specs.declared.turn.StepKind.{StepKind}
 use Rattle.lock_model.specs.declared.turn.Turn.{Turn}
 use Rattle.lock_model.specs.declared.turn.Turn.TheVariants.{Did, Idle, Ended}
 use Rattle.lock_model.specs.declared.event.Held.{Held}
-use Rattle.lock_laws.specs.OnTrack.{IsOnTrack, IsSleeping}
+use Rattle.lock_laws.specs.OnTrack.{IsOnTrack, IsAtOperation, IsSleeping}
 use Rattle.lock_laws.proofs.Kit.{sum_below-zero, is_queue_same}
 use Rattle.lock_laws.proofs.OnTrack.{fit}
 use Rattle.lock_laws.proofs.Turning.{behind_course}
@@ -45,7 +45,7 @@ nowhere-any_below zero f h = refl
 nowhere-any_below (suc n) f h = rw (h n) (nowhere-any_below n f h)
 
 -- so it has ended, where it owes nothing
-no_operation_left : (plan : Plan) (r : Run) (t : ℕ) → IsProper plan → IsOnTrack plan r → table.IsAt plan r t None → has_ended plan r t ≡ true
+no_operation_left : (plan : Plan) (r : Run) (t : ℕ) → IsProper plan → IsOnTrack plan r → IsAtOperation plan r t None → has_ended plan r t ≡ true
 unfolding has_ended
 no_operation_left plan r t p k i =
     let made : nat_le (length (operations_of plan t)) (r.next_op t) ≡ true = le-leb (length (operations_of plan t)) (r.next_op t) (none_left plan r t i.next) in
@@ -201,9 +201,9 @@ stands_there c s t h unmarked e = go (s.blocked_on t) refl
         let named : at_queue q (s.blocked_on t) ≡ 1 = ap (at_queue q) f ∙ ap one (is_queue_same q) in
         (q, omega (arith, none, named, h.lawful.stands_once t q))
 
-pub stuck_sleeps : (plan : Plan) (n : ℕ) → IsProper plan → is_stuck (course_after plan n) ≡ true → (t : ℕ) → t < length plan.threads → has_ended plan (course_after plan n).run t ≡ false
+pub stuck_sleeps : (plan : Plan) (n t : ℕ) → IsProper plan → is_stuck (course_after plan n) ≡ true → t < length plan.threads → has_ended plan (course_after plan n).run t ≡ false
     → IsSleeping plan (course_after plan n).run t × ((q : QueueName) × (stands t ((course_after plan n).run.state.lists q) ≡ 1))
-stuck_sleeps plan n p stuck t lt going = (asleep t lt going, stands_there (config_of plan) r.state t (behind_course plan n p).lawful unmarked (asleep t lt going).queued)
+stuck_sleeps plan n t p stuck lt going = (asleep t lt going, stands_there (config_of plan) r.state t (behind_course plan n p).lawful unmarked (asleep t lt going).queued)
   where
     k : Course
     k = course_after plan n

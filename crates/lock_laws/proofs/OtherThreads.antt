@@ -1,5 +1,5 @@
--- A step of a thread leaves the walk, the marked list and the holds of each other thread. So a turn of a thread leaves whether another
--- has ended.
+-- A step of a thread leaves the walk, the marked list and the holds of each other thread. So a turn of a thread leaves
+-- whether another has ended.
 use Rattle.std.proofs.Common.{◌≡◌, ◌≢◌, ℕ, Bool, true, false, not, ◌&&◌, ◌||◌, nat_le, List, [], ◌∷◌, length, Option, Some, None, refl, sym, ap, ◌∙◌}
 use Rattle.std.specs.Prelude.{⊤}
 use Rattle.lock_model.specs.Counts.{any_below, is_empty}
@@ -129,4 +129,4 @@ unfolding run_behind
 ends_no_other plan r t u n =
     let other : t ≡ u → ⊥ = λ e. n (sym e) in
     same_end plan u r (run_after (config_of plan) r t (turn_of plan r t)) (other_next r.next_op t u (turn_of plan r t).next other)
-        (all_leave (config_of plan) r.state t u (turn_of plan r t).steps other (steps_are_own plan r t (turn_of plan r t) (table.fits plan r t)))
+    (all_leave (config_of plan) r.state t u (turn_of plan r t).steps other (steps_are_own plan r t (turn_of plan r t) (table.fits plan r t)))

@@ -1,6 +1,8 @@
--- The table of turns, row by row: each row with what the thread is found at where that row is the first that fits. What is proved of a turn
--- is proved by these cases.
-use Rattle.std.proofs.Common.{◌≡◌, ◌⊎◌, ℕ, Bool, true, false, cond, ◌&&◌, ltb, List, [], ◌∷◌, slice_get, Option, Some, None, refl, sym, ap, inl, inr, arith, ◌∙◌}
+-- The table of turns, row by row: each row with what the thread is found at where that row is the first that fits.
+-- What is proved of a turn is proved by these cases.
+use Rattle.std.proofs.Common.{◌≡◌, ◌⊎◌, ℕ, Bool, true, false, cond, ◌&&◌, ltb, nat_le, List, [], ◌∷◌, length, slice_get, Option, Some, None, refl, sym, ap, inl, inr, arith, ◌∙◌}
+use Rattle.std.proofs.lemmas.Bool.{lt-leb}
+use Rattle.std.proofs.lemmas.Option.{slice_get_within}
 use Rattle.lock_model.specs.Plans.{config_of, operations_of}
 use Rattle.lock_model.specs.Operations.{held_behind}
 use Rattle.lock_model.specs.Words.{admits, is_drop, is_turnstile, owner_of}
@@ -9,7 +11,7 @@ use Rattle.lock_model.specs.Queues.{Mark, Cause, lock_queue, stands}
 use Rattle.lock_model.specs.Config.{Config}
 use Rattle.lock_state.specs.State.{State, Wait, Running, Queued, Woken, Walk, NoWalk, AtLock, AtThread}
 use Rattle.lock_state.specs.Steps.{Step, Gains, Drops, Stamps, Opens, Marks, Resumes, Lends, Shifts, EndsWalk}
-use Rattle.lock_state.specs.Run.{Run, Row, turn_of, has_ended, nothing, does, ends, blocks, notes, takes, releases, mode_held, operates, by_wait, by_marked, by_walk, walks_at_lock, walks_at_thread}
+use Rattle.lock_state.specs.Run.{Run, Row, turn_of, has_ended, owes, holds_none, nothing, does, ends, blocks, notes, takes, releases, mode_held, operates, by_wait, by_marked, by_walk, walks_at_lock, walks_at_thread}
 use Rattle.lock_model.specs.declared.numbers.LockNo.{LockNo}
 use Rattle.lock_model.specs.declared.numbers.Prio.{Prio}
 use Rattle.lock_model.specs.declared.plan.Mode.{Mode}
@@ -23,17 +25,9 @@ use Rattle.lock_model.specs.declared.turn.Turn.TheVariants.{Idle, Ended}
 use Rattle.lock_model.specs.declared.event.Event.{Event}
 use Rattle.lock_model.specs.declared.event.Held.{Held}
 use Rattle.lock_model.specs.declared.event.Event.TheVariants as event
+use Rattle.lock_laws.specs.OnTrack.{OwesNothing, IsAtOperation}
 
--- a thread that has neither a walk nor a marked list
-pub record OwesNothing (r : Run) (t : ℕ) : Type 0 where
-  pub no_walk : r.state.walk t ≡ NoWalk
-  pub unmarked : r.state.marked t ≡ []
-
--- a running thread at its next operation, where it has one left
-pub record IsAt (plan : Plan) (r : Run) (t : ℕ) (o : Option Op) : Type 0 where
-  pub running : r.state.wait t ≡ Running
-  pub free : OwesNothing r t
-  pub next : slice_get (operations_of plan t) (r.next_op t) ≡ o
+-- 1. The rows
 
 -- the entry of an operation that only makes one
 pub data Notes (r : Run) (t : ℕ) : Op → Event → Type 0 where
@@ -61,18 +55,18 @@ pub data Fits (plan : Plan) (r : Run) (t : ℕ) : Row → Type 0 where
   marks : (m : Mark) (ms : List Mark) → r.state.walk t ≡ NoWalk → r.state.marked t ≡ m ∷ ms → Fits plan r t (does kind.Mark (Marks t m ms ∷ []))
   is_queued : has_ended plan r t ≡ false → OwesNothing r t → r.state.wait t ≡ Queued → Fits plan r t (nothing Idle)
   resumes : (q : QueueName) (cause : Cause) → OwesNothing r t → r.state.wait t ≡ Woken q cause → Fits plan r t (does kind.Resume (Resumes t q cause ∷ []))
-  gains : (l : LockNo) (mode : Mode) → IsAt plan r t (Some (Take l mode)) → admits ((config_of plan).kind l.0) (r.state.word l.0) mode ≡ true
+  gains : (l : LockNo) (mode : Mode) → IsAtOperation plan r t (Some (Take l mode)) → admits ((config_of plan).kind l.0) (r.state.word l.0) mode ≡ true
       → Fits plan r t (ends r t kind.Gain (Gains t l.0 mode false ∷ Stamps t (event.Locked l mode) ∷ []))
-  enters : (l : LockNo) (mode : Mode) → IsAt plan r t (Some (Take l mode)) → admits ((config_of plan).kind l.0) (r.state.word l.0) mode ≡ false
+  enters : (l : LockNo) (mode : Mode) → IsAtOperation plan r t (Some (Take l mode)) → admits ((config_of plan).kind l.0) (r.state.word l.0) mode ≡ false
       → Fits plan r t (blocks r t l mode)
-  drops : (l : LockNo) → IsAt plan r t (Some (Release l)) → is_drop (r.state.word l.0) ≡ true
+  drops : (l : LockNo) → IsAtOperation plan r t (Some (Release l)) → is_drop (r.state.word l.0) ≡ true
       → Fits plan r t (ends r t kind.Drop (Stamps t (event.Unlocked l (mode_held (r.state.held t l.0))) ∷ Drops t l.0 (mode_held (r.state.held t l.0)) ∷ []))
-  opens : (l : LockNo) → IsAt plan r t (Some (Release l)) → is_drop (r.state.word l.0) ≡ false
+  opens : (l : LockNo) → IsAtOperation plan r t (Some (Release l)) → is_drop (r.state.word l.0) ≡ false
       → Fits plan r t (ends r t kind.OpenUp (Stamps t (event.Unlocked l (mode_held (r.state.held t l.0))) ∷ Opens t l.0 (mode_held (r.state.held t l.0)) ∷ []))
-  makes_entry : (op : Op) (e : Event) → IsAt plan r t (Some op) → Notes r t op e → Fits plan r t (notes r t e)
+  makes_entry : (op : Op) (e : Event) → IsAtOperation plan r t (Some op) → Notes r t op e → Fits plan r t (notes r t e)
   -- no thread of a proper plan comes to these two
-  has_no_operation : has_ended plan r t ≡ false → IsAt plan r t None → Fits plan r t (nothing Idle)
-  is_not_run : (op : Op) → IsAt plan r t (Some op) → ((locks : ℕ) (held : List Held) → held_behind locks op held ≡ None) → Fits plan r t (nothing Idle)
+  has_no_operation : has_ended plan r t ≡ false → IsAtOperation plan r t None → Fits plan r t (nothing Idle)
+  is_not_run : (op : Op) → IsAtOperation plan r t (Some op) → ((locks : ℕ) (held : List Held) → held_behind locks op held ≡ None) → Fits plan r t (nothing Idle)
 
 module _ (plan : Plan) (r : Run) (t : ℕ) where
   abbrev c : Config
@@ -96,14 +90,14 @@ module _ (plan : Plan) (r : Run) (t : ℕ) where
   at_thread o None w e = ends_at_thread o w (λ l j. absurd (let z = sym e ∙ j in cc))
 
   module _ (going : has_ended plan r t ≡ false) where
-    taken : (l : LockNo) (mode : Mode) → IsAt plan r t (Some (Take l mode)) → Fits plan r t (takes c r t l mode)
+    taken : (l : LockNo) (mode : Mode) → IsAtOperation plan r t (Some (Take l mode)) → Fits plan r t (takes c r t l mode)
     taken l mode i = go (admits (c.kind l.0) (s.word l.0) mode) refl
       where
         go : (b : Bool) → admits (c.kind l.0) (s.word l.0) mode ≡ b → Fits plan r t (cond b (ends r t kind.Gain (Gains t l.0 mode false ∷ Stamps t (event.Locked l mode) ∷ [])) (blocks r t l mode))
         go true e = gains l mode i e
         go false e = enters l mode i e
 
-    released : (l : LockNo) → IsAt plan r t (Some (Release l)) → Fits plan r t (releases r t l (mode_held (s.held t l.0)))
+    released : (l : LockNo) → IsAtOperation plan r t (Some (Release l)) → Fits plan r t (releases r t l (mode_held (s.held t l.0)))
     released l i = go (is_drop (s.word l.0)) refl
       where
         mode : Mode
@@ -114,7 +108,7 @@ module _ (plan : Plan) (r : Run) (t : ℕ) where
         go true e = drops l i e
         go false e = opens l i e
 
-    operated : (o : Option Op) → IsAt plan r t o → Fits plan r t (operates c r t o)
+    operated : (o : Option Op) → IsAtOperation plan r t o → Fits plan r t (operates c r t o)
     operated None i = has_no_operation going i
     operated (Some (Take l mode)) i = taken l mode i
     operated (Some (Try l mode past)) i = is_not_run (Try l mode past) i (λ n held. refl)
@@ -150,3 +144,40 @@ module _ (plan : Plan) (r : Run) (t : ℕ) where
       go : (b : Bool) → has_ended plan r t ≡ b → Fits plan r t (cond b (nothing Ended) (by_walk plan r t (s.walk t)))
       go true e = is_over e
       go false e = walked e (s.walk t) refl
+
+  -- 2. A row is found
+
+  found : has_ended plan r t ≡ false → turn_of plan r t ≡ by_walk plan r t (s.walk t)
+  unfolding turn_of
+  found going = rw going refl
+
+  -- a thread that owes something hasn't ended, nor has one with an operation left
+  owing : owes s t ≡ true → has_ended plan r t ≡ false
+  unfolding has_ended
+  owing e = rw e (go (nat_le (length (operations_of plan t)) (r.next_op t)))
+    where
+      go : (a : Bool) → (a && false && holds_none c s t) ≡ false
+      go true = refl
+      go false = refl
+
+  pub left_going : (op : Op) → slice_get (operations_of plan t) (r.next_op t) ≡ Some op → has_ended plan r t ≡ false
+  unfolding has_ended
+  left_going op e = rw (lt-leb (length (operations_of plan t)) (r.next_op t) (slice_get_within (operations_of plan t) (r.next_op t) op e)) refl
+
+  -- a walk,
+  pub walks_from_lock : (l : ℕ) → s.walk t ≡ AtLock l → turn_of plan r t ≡ walks_at_lock t l (owner_of (s.word l).holder) (s.head (lock_queue l))
+  walks_from_lock l w = found (owing (rw w refl)) ∙ rw w refl
+
+  pub walks_from_thread : (o : ℕ) → s.walk t ≡ AtThread o → turn_of plan r t ≡ walks_at_thread c r t o (s.blocked_on o)
+  walks_from_thread o w = found (owing (rw w refl)) ∙ rw w refl
+
+  -- a marked list,
+  pub marks_first : (m : Mark) (ms : List Mark) → s.walk t ≡ NoWalk → s.marked t ≡ m ∷ ms → turn_of plan r t ≡ does kind.Mark (Marks t m ms ∷ [])
+  marks_first m ms w e = found (owing (rw (w, e) refl)) ∙ rw (w, e) refl
+
+  -- a thread that owes nothing, and its operation
+  pub goes_by_wait : has_ended plan r t ≡ false → OwesNothing r t → turn_of plan r t ≡ by_wait plan r t (s.wait t)
+  goes_by_wait going f = found going ∙ rw (f.no_walk, f.unmarked) refl
+
+  pub makes_operation : (op : Op) → IsAtOperation plan r t (Some op) → turn_of plan r t ≡ operates c r t (Some op)
+  makes_operation op i = goes_by_wait (left_going op i.next) i.free ∙ rw (i.running, i.next) refl

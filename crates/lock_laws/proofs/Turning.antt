@@ -1,6 +1,6 @@
--- Each step of a turn of a proper plan's thread may be made, and the turn leaves the run on track. So each run is on track, and each of
--- its states is one that steps reach.
-use Rattle.std.proofs.Common.{◌≡◌, ℕ, zero, suc, ◌+◌, ◌<◌, ◌≤◌, Bool, true, false, not, cond, List, [], ◌∷◌, length, All, Option, Some, None, refl, sym, arith}
+-- Each step of a turn of a proper plan's thread may be made, and the turn leaves the run on track. So each run is on
+-- track, and each of its states is one that steps reach.
+use Rattle.std.proofs.Common.{◌≡◌, ℕ, zero, suc, ◌+◌, ◌<◌, ◌≤◌, Bool, true, false, not, cond, List, [], ◌∷◌, length, All, Option, Some, None, refl, sym, arith, subst}
 use Rattle.std.specs.List.{range_with_len}
 use Rattle.std.proofs.lemmas.Option.{none-some}
 use Rattle.std.proofs.lemmas.List.Elements.{All-nil, All-cons, All-head, All-tail, All-map, All-filter}
@@ -129,6 +129,10 @@ module _ (plan : Plan) (r : Run) (t : ℕ) (p : IsProper plan) (k : IsOnTrack pl
 
 pub turns_may : (plan : Plan) (r : Run) (t : ℕ) → IsProper plan → IsOnTrack plan r → t < length plan.threads → MayAll (config_of plan) r.state (turn_of plan r t).steps
 turns_may plan r t p k lt = may_all plan r t p k lt
+
+-- so may those of the row that it is
+pub row_may : (plan : Plan) (r : Run) (t : ℕ) (row : Row) → IsProper plan → IsOnTrack plan r → t < length plan.threads → turn_of plan r t ≡ row → MayAll (config_of plan) r.state row.steps
+row_may plan r t row p k lt e = subst (λ (x : Row). MayAll (config_of plan) r.state x.steps) e (turns_may plan r t p k lt)
 
 pub stays : (plan : Plan) (r : Run) (t : ℕ) → IsProper plan → IsOnTrack plan r → t < length plan.threads → IsOnTrack plan (run_behind plan r t)
 stays plan r t p k lt = turned plan r t p k lt

@@ -28,13 +28,12 @@ use Rattle.lock_model.specs.declared.numbers.LockNo.{LockNo}
 use Rattle.lock_model.specs.declared.turn.StepKind.TheVariants as kind
 use Rattle.lock_model.specs.declared.event.Event.TheVariants as event
 use Rattle.lock_model.specs.declared.event.Held.{Held}
-use Rattle.lock_laws.specs.OnTrack.{IsOnTrack, IsCall, WokenByCall}
+use Rattle.lock_laws.specs.OnTrack.{IsOnTrack, IsAtOperation, IsCall, WokenByCall}
 use Rattle.lock_laws.proofs.Kit.{columns, at_put, put_same, put_other, put_at_same, put_at_other, each_place}
 use Rattle.lock_laws.proofs.Words.{free_is}
 use Rattle.lock_laws.proofs.HeldLists.{TakeFits, take_fits, release_fits, hold_in-push, hold_in-without}
 use Rattle.lock_laws.proofs.AtTurn.{has_turnstile}
 use Rattle.lock_laws.proofs.OnTrack.{KeepsTrack, EndsWell, goes_on, put_at_own, own_section, other_section, stamped_behind, unnamed, acting, before, behind, Next, left, fit, are_locks, wants_none, wants_this}
-use Rattle.lock_laws.proofs.Table.{IsAt}
 
 -- a word of a mutex that is not held shows no waiters
 plain_mutex : (w : Word) → one (shows_waiters w) ≤ busy w.holder → is_free w.holder ≡ true → is_plain Mtx w Excl ≡ true
@@ -86,7 +85,7 @@ module _ (plan : Plan) (r : Run) (t : ℕ) (p : IsProper plan) (k : IsOnTrack pl
 
   -- 1. A take
 
-  module _ (l : LockNo) (i : IsAt plan r t (Some (Take l Excl))) where
+  module _ (l : LockNo) (i : IsAtOperation plan r t (Some (Take l Excl))) where
     pub finds : TakeFits (length plan.locks) l (before plan r t) (behind plan r t)
     finds = take_fits (length plan.locks) l _ _ (fit plan r t p (Take l Excl) i.next)
 
@@ -205,7 +204,7 @@ module _ (plan : Plan) (r : Run) (t : ℕ) (p : IsProper plan) (k : IsOnTrack pl
 
   -- 2. A release
 
-  module _ (l : LockNo) (i : IsAt plan r t (Some (Release l))) where
+  module _ (l : LockNo) (i : IsAtOperation plan r t (Some (Release l))) where
     abbrev mode : Mode
     mode = mode_held (s.held t l.0)
 

@@ -1,5 +1,6 @@
--- What is true of a scheduled run between two turns: its state is lawful, and each thread is where its operations have led it.
-use Rattle.std.specs.Prelude.{◌≡◌, ◌≢◌, ℕ, ◌≤◌, Bool, true, false, List, [], length, slice_get, Some, None}
+-- What is true of a scheduled run between two turns: its state is lawful, and each thread is where its operations have
+-- led it.
+use Rattle.std.specs.Prelude.{◌≡◌, ◌≢◌, ℕ, ◌≤◌, Bool, true, false, List, [], length, slice_get, Option, Some, None}
 use Rattle.std.specs.List.{All}
 use Rattle.lock_model.specs.Plans.{config_of, operations_of}
 use Rattle.lock_model.specs.Counts.{sum_below}
@@ -14,6 +15,7 @@ use Rattle.lock_model.specs.declared.event.Event.{Event}
 use Rattle.lock_model.specs.declared.event.Event.TheVariants.{Locked, Tried, Busy, Unlocked, Set, Added, Got, Base, Shown, Sleeps, Woke, HaltedChan, HaltedLock, WokeOne, WokeAll, Reversed}
 use Rattle.lock_state.specs.Facts.{LawfulTurn}
 use Rattle.lock_state.specs.Run.{Run, has_ended}
+use Rattle.lock_model.specs.declared.plan.Op.{Op}
 use Rattle.lock_model.specs.declared.plan.Op.TheVariants.{Take}
 use Rattle.lock_model.specs.declared.plan.Mode.TheVariants.{Excl}
 use Rattle.lock_model.specs.declared.plan.Plan.{Plan}
@@ -62,21 +64,35 @@ pub record IsOnTrack (plan : Plan) (r : Run) : Type 0 where
   pub within : (t : ℕ) → r.next_op t ≤ length (operations_of plan t)
   -- and each of these has made one entry, which follows the operations
   pub entries : length r.state.history ≡ sum_below (length plan.threads) r.next_op
-  pub follows : (t : ℕ) → LeadsTo (config_of plan).kind (length plan.locks) (operations_of plan t) (entries_of r.state.history t) (Before (r.next_op t))
+  pub follows : (t : ℕ) → LeadsTo (config_of plan).kind (length plan.locks) (operations_of plan t)
+      (entries_of r.state.history t) (Before (r.next_op t))
   -- no sleeper and no halt is noted, until waits come
   pub no_sleeps : SleepsNobody r.state.history
   -- each thread holds what its operations so far lead to
-  pub holds : (t l : ℕ) → r.state.held t l ≡ hold_in (held_of (length plan.locks) (operations_of plan t) (r.next_op t)) l
+  pub holds : (t l : ℕ) → r.state.held t l
+      ≡ hold_in (held_of (length plan.locks) (operations_of plan t) (r.next_op t)) l
   -- and has just these sections open
   pub sections : (t l : ℕ) → open_in (config_of plan) r.state.history t l ≡ r.state.held t l
   pub begun : (t l : ℕ) → r.state.held t l ≢ NotHeld → r.state.has_begun t l ≡ true
   -- a lock is wanted by the thread's next operation
-  pub wants : (t l : ℕ) → r.state.wanted t ≡ Some l → slice_get (operations_of plan t) (r.next_op t) ≡ Some (Take (record { 0 = l }) Excl)
+  pub wants : (t l : ℕ) → r.state.wanted t ≡ Some l
+      → slice_get (operations_of plan t) (r.next_op t) ≡ Some (Take (record { 0 = l }) Excl)
   -- waiters are taken off and woken to try for a lock again
   pub woken : (t : ℕ) → WokenByCall (r.state.wait t)
   pub marked : (t : ℕ) → All (λ m. IsCall m.queue m.cause) (r.state.marked t)
   -- each wake is noted
   pub stamped : (t : ℕ) → r.state.unstamped t ≡ None
+
+-- a thread that has neither a walk nor a marked list
+pub record OwesNothing (r : Run) (t : ℕ) : Type 0 where
+  pub no_walk : r.state.walk t ≡ NoWalk
+  pub unmarked : r.state.marked t ≡ []
+
+-- a running thread at its next operation, where it has one left
+pub record IsAtOperation (plan : Plan) (r : Run) (t : ℕ) (o : Option Op) : Type 0 where
+  pub running : r.state.wait t ≡ Running
+  pub free : OwesNothing r t
+  pub next : slice_get (operations_of plan t) (r.next_op t) ≡ o
 
 -- a thread that sleeps: it hasn't ended, its wait word says Queued, and it owes no walk and has no marked list
 pub record IsSleeping (plan : Plan) (r : Run) (t : ℕ) : Type 0 where
