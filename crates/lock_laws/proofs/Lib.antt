@@ -24,6 +24,7 @@ pub mod Steps
 pub mod Best
 pub mod Derived
 pub mod Rows
+pub mod Histories
 pub mod HeldLists
 pub mod Table
 pub mod Follows
