@@ -1,5 +1,5 @@
 -- Tables as the map of the places that have a value: what it holds at a place, and after a change of one.
-use Rattle.std.proofs.Common.{◌≡◌, ℕ, ◌+◌, ◌<◌, length, take, get_or, Bool, true, false, cond, ◌||◌, ◌&&◌, List, [], ◌∷◌, Option, Some, None, IsSome, is_some, T, refl, sym, ap, subst, ◌∙◌, arith, is_eq, is_lt, eqb, Result, Ok, Err, OnErr, OnOk, IfOk, IsOk}
+use Rattle.std.proofs.Common.{◌≡◌, ℕ, ◌+◌, ◌<◌, length, take, get_or, Bool, true, false, cond, ◌||◌, ◌&&◌, List, [], ◌∷◌, Option, Some, None, is_some, T, refl, sym, ap, subst, ◌∙◌, arith, is_eq, is_lt, eqb}
 use Rattle.std.specs.Cmp.{tied_then, eq_by_cmp_equiv}
 use Rattle.std.specs.declared.cmp.Ordering.{Ordering}
 use Rattle.std.specs.declared.cmp.Ordering.TheVariants.{Less, Equal, Greater}
