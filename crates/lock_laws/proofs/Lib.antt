@@ -39,6 +39,7 @@ pub mod LegalRuns
 pub mod Idle
 pub mod AtTurn
 pub mod OtherThreads
+mod FloorGuards
 pub mod Props
 pub mod Sleepers
 pub mod EnterSleep
