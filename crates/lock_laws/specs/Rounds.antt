@@ -1,4 +1,4 @@
--- Acquiring rounds of a running floor: a blocking call that took its lock's chain keeps the chain until it gains, claims or enters.
+-- Acquiring rounds of a running floor: a blocking call that took its lock's chain keeps it until it gains, claims or enters.
 use Rattle.std.specs.Prelude.{◌≡◌, ℕ, true, false, Option, Some, None}
 use Rattle.lock_model.specs.Config.{Config}
 use Rattle.lock_state.specs.State.{State, Wait, Round}
@@ -17,7 +17,8 @@ IsBoundTo s t l = s.round t ≡ Some (bound_to l)
 
 -- a thread in such a round has the lock's chain out
 unfoldable pub BoundHasChain : ℕ → Config → (ℕ → Option Round) → (Item → Option ℕ) → Type 0
-BoundHasChain chains c round out = (t l : ℕ) → round t ≡ Some (bound_to l) → out (chain_of chains c l) ≡ Some t
+BoundHasChain chains c round out =
+    (t l : ℕ) → round t ≡ Some (bound_to l) → out (chain_of chains c l) ≡ Some t
 
 -- a thread in a round is on no queue, in no marked list and not woken
 unfoldable pub RoundsAreActing : (ℕ → Option Round) → (ℕ → Option QueueName) → (ℕ → Wait) → Type 0

@@ -15,7 +15,8 @@ pub fn floors_begin()
 
 /// and each step of a thread of the floor keeps it so.
 pub fn floor_steps_keep()
-    ensures { (chains : ℕ) (c : Config) (s n : State) → IsFloorStep chains c s n → LawfulFloor c s → LawfulFloor c n }
+    ensures { (chains : ℕ) (c : Config) (s n : State)
+        → IsFloorStep chains c s n → LawfulFloor c s → LawfulFloor c n }
 {}
 
 /// A thread that took its lock's chain in a blocking call's round has the chain out, and who is in a round acts:
@@ -26,15 +27,17 @@ pub fn rounds_begin()
 
 /// and each step of the floor keeps it so.
 pub fn rounds_keep_their_chain()
-    ensures { (chains : ℕ) (c : Config) (s n : State) → IsFloorStep chains c s n → Lawful c s
+    ensures { (chains : ℕ) (c : Config) (s n : State)
+        → IsFloorStep chains c s n → Lawful c s
         → LawfulRounds chains c s → LawfulRounds chains c n }
 {}
 
 /// Such a round goes on with each step, until the thread gains the lock or comes to stand on its queue. So its chain
 /// goes home only after that.
 pub fn rounds_end_with_their_lock()
-    ensures { (chains : ℕ) (c : Config) (s : State) (step : Step) (t l : ℕ) → May c s step → HasSeen chains c s step
-        → LawfulRounds chains c s → IsBoundTo s t l → IsBoundTo (after c s step) t l ⊎ EndsRound step t l }
+    ensures { (chains : ℕ) (c : Config) (s : State) (step : Step) (t l : ℕ)
+        → May c s step → HasSeen chains c s step → LawfulRounds chains c s
+        → IsBoundTo s t l → IsBoundTo (after c s step) t l ⊎ EndsRound step t l }
 {}
 
 /// In an acquiring round a thread makes at most 100 looks.

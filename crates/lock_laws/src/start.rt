@@ -18,5 +18,6 @@ pub fn reached_is_lawful()
 
 /// From a reachable state a list of steps that may be made leads to a reachable one.
 pub fn steps_reach()
-    ensures { (c : Config) (s : State) (steps : List Step) → MayAll c s steps → IsReachable c s → IsReachable c (after_all c s steps) }
+    ensures { (c : Config) (s : State) (steps : List Step)
+        → MayAll c s steps → IsReachable c s → IsReachable c (after_all c s steps) }
 {}
