@@ -16,7 +16,8 @@ use Rattle.lock_model.specs.declared.plan.QueueName.{QueueName}
 use Rattle.lock_laws.proofs.Kit.{columns, put_same, put_other, put_lock_same, put_lock_other, sum_below-put, sum_below-put_lock, at_put_lock}
 use Rattle.lock_laws.proofs.Alike.{entered_lock}
 use Rattle.lock_laws.proofs.Words.{entered_holder}
-use Rattle.lock_laws.proofs.Queues.{stands-more, waiting-more, ascends-insert, is_empty-insert}
+use Rattle.lock_laws.proofs.Queues.{stands-more, waiting-more, is_empty-insert}
+use Rattle.lock_model.proofs.Lists.{ascends-insert}
 use Rattle.lock_laws.proofs.OneQueue.{lent_object, heads_put, stand_more}
 use Rattle.lock_laws.proofs.Lending.{at_thread-walk_up, walk_up-there, each_of-map, each_of-more}
 

@@ -1,18 +1,17 @@
 -- Laws of loans, of kept priorities and of walks.
-use Rattle.std.proofs.Common.{◌≡◌, ◌≢◌, ℕ, zero, suc, ◌+◌, ◌<◌, ◌≤◌, true, false, cond, eqb, leb, min, List, [], ◌∷◌, length, Option, Some, None, refl, sym, ap, inl, inr, arith, eq-eqb, ◌∙◌}
+use Rattle.std.proofs.Common.{◌≡◌, ◌≢◌, ℕ, zero, suc, ◌<◌, ◌≤◌, true, false, cond, eqb, leb, min, List, [], ◌∷◌, length, Option, Some, None, refl, sym, ap, inl, inr, arith, eq-eqb, ◌∙◌}
 use Rattle.std.proofs.lemmas.Bool.{ne_eqb, cases_eq}
-use Rattle.lock_model.specs.Counts.{one, some, least, lower, is_empty}
+use Rattle.lock_model.specs.Counts.{one, least, lower, is_empty}
 use Rattle.lock_model.specs.Config.{Config}
 use Rattle.lock_model.specs.Queues.{Waiter, Lists, list_of, with_list, times_waiting, stands, waiting, insert, without, reinsert, with_kept}
 use Rattle.lock_state.specs.State.{Loan, Walk, put, put_at}
 use Rattle.lock_state.specs.Steps.LockWords.{effective_of, prio_of}
-use Rattle.lock_state.specs.Facts.Queues.{Ascends}
 use Rattle.lock_state.specs.Steps.Turnstiles.{walk_up}
 use Rattle.lock_state.specs.Facts.Loans.{Each, EachOf, IsKept, EffectiveIsLeast, at_lock, at_thread}
 use Rattle.lock_model.specs.declared.plan.Side.{Side}
 use Rattle.lock_model.specs.declared.plan.Side.TheVariants.{X, S}
 use Rattle.lock_laws.proofs.Kit.{put_same, put_other, put_at_same, put_at_other, put_at_beside, each_place, one_same}
-use Rattle.lock_laws.proofs.Queues.{times_waiting-insert, length-insert, ascends-insert, ascends-tail, ascends-cons, Below}
+use Rattle.lock_model.proofs.Lists.{times_waiting-reinsert, length-reinsert, by_reinsert}
 
 -- 1. The least
 
@@ -79,55 +78,6 @@ each-without : (P : Waiter → Type 0) (t : ℕ) (ws : List Waiter) → Each P w
 each-without P t [] e = tt
 each-without P t (w ∷ ws) e = elim (eqb t w.thread) as (λ b. Each P (cond b ws (w ∷ without t ws))) [ true ↦ e.1 | false ↦ (e.0, each-without P t ws e.1) ]
 
--- the entry that is taken out is counted again by the one that is put in
-pub times_waiting-without : (u t : ℕ) (ws : List Waiter) → 1 ≤ times_waiting t ws → times_waiting u (without t ws) + one (eqb u t) ≡ times_waiting u ws
-times_waiting-without u t [] l = absurd (omega arith)
-times_waiting-without u t (w ∷ ws) l =
-    elim (cases_eq t w.thread) [
-      | inl e ↦ rw (← e, eq-eqb t t refl) (omega arith)
-      | inr e ↦ rw (ne_eqb t w.thread e) (let z : one (eqb t w.thread) ≡ 0 = ap one (ne_eqb t w.thread e) in omega (arith, times_waiting-without u t ws (omega arith)))
-    ]
-
-pub length-without : (t : ℕ) (ws : List Waiter) → 1 ≤ times_waiting t ws → suc (length (without t ws)) ≡ length ws
-length-without t [] l = absurd (omega arith)
-length-without t (w ∷ ws) l =
-    elim (cases_eq t w.thread) [
-      | inl e ↦ rw (← e, eq-eqb t t refl) refl
-      | inr e ↦ rw (ne_eqb t w.thread e) (let z : one (eqb t w.thread) ≡ 0 = ap one (ne_eqb t w.thread e) in omega (arith, length-without t ws (omega arith)))
-    ]
-
-below-without : (v : Waiter) (t : ℕ) (ws : List Waiter) → Below v ws → Ascends ws → Below v (without t ws)
-below-without v t [] b a = tt
-below-without v t (w ∷ []) b a = elim (eqb t w.thread) as (λ x. Below v (cond x [] (w ∷ []))) [ true ↦ tt | false ↦ b ]
-below-without v t (w ∷ u ∷ us) b a = elim (eqb t w.thread) as (λ x. Below v (cond x (u ∷ us) (w ∷ without t (u ∷ us)))) [ true ↦ omega arith | false ↦ b ]
-
-ascends-without : (t : ℕ) (ws : List Waiter) → Ascends ws → Ascends (without t ws)
-ascends-without t [] a = tt
-ascends-without t (w ∷ ws) a =
-    let b = ascends-tail w ws a in
-    elim (eqb t w.thread) as (λ x. Ascends (cond x ws (w ∷ without t ws))) [
-      | true ↦ b.1
-      | false ↦ ascends-cons w (without t ws) (below-without w t ws b.0 b.1) (ascends-without t ws b.1)
-    ]
-
--- what holds of a list where nothing is put in, and of one where the entry is put in anew
-by_reinsert : (P : List Waiter → Type 0) (t p : ℕ) (ws : List Waiter) → (times_waiting t ws ≡ 0 → P ws) → (1 ≤ times_waiting t ws → P (insert (record { thread = t; kept = p }) (without t ws))) → P (reinsert t p ws)
-by_reinsert P t p ws none some =
-    elim (cases_eq (times_waiting t ws) 0) [
-      | inl e ↦ rw (eq-eqb (times_waiting t ws) 0 e) (none e)
-      | inr e ↦ rw (ne_eqb (times_waiting t ws) 0 e) (some (omega arith))
-    ]
-
-pub times_waiting-reinsert : (u t p : ℕ) (ws : List Waiter) → times_waiting u (reinsert t p ws) ≡ times_waiting u ws
-times_waiting-reinsert u t p ws =
-    by_reinsert (λ x. times_waiting u x ≡ times_waiting u ws) t p ws (λ e. refl)
-    (λ l. omega (arith, times_waiting-insert u (record { thread = t; kept = p }) (without t ws), times_waiting-without u t ws l))
-
-pub length-reinsert : (t p : ℕ) (ws : List Waiter) → length (reinsert t p ws) ≡ length ws
-length-reinsert t p ws =
-    by_reinsert (λ x. length x ≡ length ws) t p ws (λ e. refl)
-    (λ l. omega (arith, length-insert (record { thread = t; kept = p }) (without t ws), length-without t ws l))
-
 is_empty-length : (ws vs : List Waiter) → length ws ≡ length vs → is_empty ws ≡ is_empty vs
 is_empty-length [] [] e = refl
 is_empty-length (w ∷ ws) (v ∷ vs) e = refl
@@ -136,9 +86,6 @@ is_empty-length (w ∷ ws) [] e = absurd (omega arith)
 
 pub is_empty-reinsert : (t p : ℕ) (ws : List Waiter) → is_empty (reinsert t p ws) ≡ is_empty ws
 is_empty-reinsert t p ws = is_empty-length (reinsert t p ws) ws (length-reinsert t p ws)
-
-pub ascends-reinsert : (t p : ℕ) (ws : List Waiter) → Ascends ws → Ascends (reinsert t p ws)
-ascends-reinsert t p ws a = by_reinsert Ascends t p ws (λ e. a) (λ l. ascends-insert (record { thread = t; kept = p }) (without t ws) (ascends-without t ws a))
 
 -- the others are as they were
 each-without-other : (P : Waiter → Type 0) (t : ℕ) (ws : List Waiter) → times_waiting t ws ≤ 1 → Each (λ w. w.thread ≢ t → P w) ws → 1 ≤ times_waiting t ws → Each P (without t ws)

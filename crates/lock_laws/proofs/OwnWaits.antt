@@ -1,11 +1,13 @@
 -- The begin of a round, looks, and the steps on a thread's own wait word that put it on no queue, keep each fact.
-use Rattle.std.proofs.Common.{ℕ, Bool, arith, ap}
-use Rattle.lock_state.specs.State.{State, Running, Queued}
+use Rattle.std.proofs.Common.{◌≡◌, ℕ, ◌<◌, Bool, false, Some, None, refl, sym, ap, inl, inr, arith, ◌∙◌}
+use Rattle.std.proofs.lemmas.Bool.{cases_eq}
+use Rattle.lock_state.specs.State.{State, Wait, Running, Queued, Woken, put}
 use Rattle.lock_model.specs.Config.{Config}
-use Rattle.lock_state.specs.Steps.LockWords.{MaySeek, MayLook, MayReady, MayUnready, after_seek, after_look, after_ready, after_unready}
+use Rattle.lock_state.specs.Steps.LockWords.{is_woken, MaySeek, MayLook, MayReady, MayUnready, after_seek, after_look, after_ready, after_unready}
 use Rattle.lock_state.specs.Facts.{Lawful, StandingIsQueued, WokenWants, WokenIsUncalled, FreeWordHasCalled}
 use Rattle.lock_state.specs.Facts.Waits.{callers, calls_woken}
-use Rattle.lock_laws.proofs.Kit.{columns, sum_below-put}
+use Rattle.lock_model.specs.declared.plan.QueueName.{QueueName}
+use Rattle.lock_laws.proofs.Kit.{columns, put_same, put_other, sum_below-put}
 
 module _ (c : Config) (s : State) (t l : ℕ) (by_try : Bool) (g : MaySeek c s t l by_try) (h : Lawful c s) where
   pub seek_lawful : Lawful c (after_seek s t l by_try)
@@ -17,56 +19,40 @@ module _ (c : Config) (s : State) (t l : ℕ) (in_round : Bool) (g : MayLook c s
   unfolding after_look
   look_lawful = assumption h
 
-module _ (c : Config) (s : State) (t : ℕ) (g : MayReady c s t) (h : Lawful c s) where
-  abbrev n : State
-  n = after_ready s t
+calls_none : (k : ℕ) (w : Wait) → is_woken w ≡ false → calls_woken k w ≡ 0
+calls_none k Running e = refl
+calls_none k Queued e = refl
+calls_none k (Woken q cause) e = absurd cc
 
-  queued : StandingIsQueued n.blocked_on n.wait
-  unfolding after_ready StandingIsQueued
-  queued u q = grind (arith, columns, h.standing_is_queued u q)
+-- a thread that isn't woken gets another wait word
+module _ (c : Config) (s : State) (t : ℕ) (v : Wait) (thread : t < c.threads) (was : is_woken (s.wait t) ≡ false) (is : is_woken v ≡ false) (stands : (q : QueueName) → s.blocked_on t ≡ Some q → v ≡ Queued) (h : Lawful c s) where
+  queued : StandingIsQueued s.blocked_on (put s.wait t v)
+  unfolding StandingIsQueued
+  queued u q e = elim (cases_eq t u) [ inl i ↦ rw (← i, put_same s.wait t v) (stands q (ap s.blocked_on i ∙ e)) | inr i ↦ rw (put_other s.wait t v u i) (h.standing_is_queued u q e) ]
 
-  woken_wants : WokenWants n.wait n.wanted
-  unfolding after_ready WokenWants
+  woken_wants : WokenWants (put s.wait t v) s.wanted
+  unfolding WokenWants
   woken_wants u k = grind (arith, columns, h.woken_wants u k)
 
-  woken_uncalled : WokenIsUncalled n.wait n.called
-  unfolding after_ready WokenIsUncalled
+  woken_uncalled : WokenIsUncalled (put s.wait t v) s.called
+  unfolding WokenIsUncalled
   woken_uncalled u = grind (arith, columns, h.woken_is_uncalled u)
 
-  called : FreeWordHasCalled c n.word n.marked n.wait n.called
-  unfolding after_ready FreeWordHasCalled callers
+  called : FreeWordHasCalled c s.word s.marked (put s.wait t v) s.called
+  unfolding FreeWordHasCalled callers
   called k =
-      let a = sum_below-put c.threads (calls_woken k) s.wait t Queued g.thread in
-      let b = ap (calls_woken k) g.running in
+      let a = sum_below-put c.threads (calls_woken k) s.wait t v thread in
+      let b = calls_none k (s.wait t) was in
+      let d = calls_none k v is in
       omega (arith, h.free_word_has_called k)
 
-  pub ready_lawful : Lawful c n
-  unfolding after_ready
-  ready_lawful = assumption (queued, woken_wants, woken_uncalled, called)
+  waits_lawful : Lawful c (record s { wait = put s.wait t v })
+  waits_lawful = assumption (queued, woken_wants, woken_uncalled, called)
 
-module _ (c : Config) (s : State) (t : ℕ) (g : MayUnready c s t) (h : Lawful c s) where
-  abbrev m : State
-  m = after_unready s t
+pub ready_lawful : (c : Config) (s : State) (t : ℕ) → MayReady c s t → Lawful c s → Lawful c (after_ready s t)
+unfolding after_ready
+ready_lawful c s t g h = waits_lawful c s t Queued g.thread (ap is_woken g.running) refl (λ q e. refl) h
 
-  back_queued : StandingIsQueued m.blocked_on m.wait
-  unfolding after_unready StandingIsQueued
-  back_queued u q = grind (arith, columns, h.standing_is_queued u q)
-
-  back_woken_wants : WokenWants m.wait m.wanted
-  unfolding after_unready WokenWants
-  back_woken_wants u k = grind (arith, columns, h.woken_wants u k)
-
-  back_woken_uncalled : WokenIsUncalled m.wait m.called
-  unfolding after_unready WokenIsUncalled
-  back_woken_uncalled u = grind (arith, columns, h.woken_is_uncalled u)
-
-  back_called : FreeWordHasCalled c m.word m.marked m.wait m.called
-  unfolding after_unready FreeWordHasCalled callers
-  back_called k =
-      let a = sum_below-put c.threads (calls_woken k) s.wait t Running g.thread in
-      let b = ap (calls_woken k) g.queued in
-      omega (arith, h.free_word_has_called k)
-
-  pub unready_lawful : Lawful c m
-  unfolding after_unready
-  unready_lawful = assumption (back_queued, back_woken_wants, back_woken_uncalled, back_called)
+pub unready_lawful : (c : Config) (s : State) (t : ℕ) → MayUnready c s t → Lawful c s → Lawful c (after_unready s t)
+unfolding after_unready
+unready_lawful c s t g h = waits_lawful c s t Running g.thread (ap is_woken g.queued) refl (λ q e. absurd (let z : None ≡ Some q = sym g.unnamed ∙ e in cc)) h

@@ -1,64 +1,19 @@
 -- Laws of the lists of a queue.
-use Rattle.std.proofs.Common.{◌≡◌, ℕ, suc, ◌+◌, ◌≤◌, true, false, cond, eqb, leb, List, [], ◌∷◌, length, Option, Some, None, refl, inl, inr, arith, eq-eqb}
-use Rattle.std.proofs.lemmas.Bool.{cases_Bool, leb-true, leb-false}
+use Rattle.std.proofs.Common.{◌≡◌, ℕ, suc, ◌+◌, ◌≤◌, true, false, cond, eqb, leb, List, [], ◌∷◌, length, Option, Some, None, refl, arith, eq-eqb}
 use Rattle.lock_model.specs.Counts.{one, some, times, at_option, is_empty}
 use Rattle.lock_model.specs.Config.{Config}
 use Rattle.lock_model.specs.Queues.{Waiter, Lists, is_queue, is_turnstile_queue, lock_queue, list_of, with_list, times_waiting, stands, waiting, insert, dealt, free_after, head_after}
-use Rattle.lock_state.specs.Facts.Queues.{Ascends, times_object}
+use Rattle.lock_state.specs.Facts.Queues.{times_object}
 use Rattle.lock_state.specs.Facts.Waits.{times_marked, calls_marked}
 use Rattle.lock_model.specs.declared.plan.Side.{Side}
 use Rattle.lock_model.specs.declared.plan.Side.TheVariants.{X, S}
 use Rattle.lock_model.specs.declared.plan.QueueName.{QueueName}
+use Rattle.lock_model.proofs.Lists.{times_waiting-insert, length-insert}
 use Rattle.lock_laws.proofs.Kit.{is_queue_same}
-
-pub times_waiting-insert : (t : ℕ) (w : Waiter) (ws : List Waiter) → times_waiting t (insert w ws) ≡ one (eqb t w.thread) + times_waiting t ws
-times_waiting-insert t w [] = refl
-times_waiting-insert t w (v ∷ vs) =
-    let i = times_waiting-insert t w vs in
-    elim (leb v.kept w.kept) as (λ b. times_waiting t (cond b (v ∷ insert w vs) (w ∷ v ∷ vs)) ≡ one (eqb t w.thread) + (one (eqb t v.thread) + times_waiting t vs)) [
-      | true ↦ omega arith
-      | false ↦ refl
-    ]
-
-pub length-insert : (w : Waiter) (ws : List Waiter) → length (insert w ws) ≡ suc (length ws)
-length-insert w [] = refl
-length-insert w (v ∷ vs) =
-    let i = length-insert w vs in
-    elim (leb v.kept w.kept) as (λ b. length (cond b (v ∷ insert w vs) (w ∷ v ∷ vs)) ≡ suc (suc (length vs))) [
-      | true ↦ omega arith
-      | false ↦ refl
-    ]
 
 pub is_empty-insert : (w : Waiter) (ws : List Waiter) → is_empty (insert w ws) ≡ false
 is_empty-insert w [] = refl
 is_empty-insert w (v ∷ vs) = elim (leb v.kept w.kept) as (λ b. is_empty (cond b (v ∷ insert w vs) (w ∷ v ∷ vs)) ≡ false) [ true ↦ refl | false ↦ refl ]
-
--- with one more waiter in front, that isn't behind the first
-abbrev pub Below : Waiter → List Waiter → Type 0
-Below v [] = Unit {0}
-Below v (w ∷ ws) = v.kept ≤ w.kept
-
-below-insert : (v w : Waiter) (ws : List Waiter) → v.kept ≤ w.kept → Below v ws → Below v (insert w ws)
-below-insert v w [] l b = l
-below-insert v w (u ∷ us) l b = elim (leb u.kept w.kept) as (λ x. Below v (cond x (u ∷ insert w us) (w ∷ u ∷ us))) [ true ↦ b | false ↦ l ]
-
-pub ascends-cons : (v : Waiter) (ws : List Waiter) → Below v ws → Ascends ws → Ascends (v ∷ ws)
-ascends-cons v [] b a = tt
-ascends-cons v (w ∷ ws) b a = (b, a)
-
-pub ascends-tail : (v : Waiter) (ws : List Waiter) → Ascends (v ∷ ws) → Below v ws × Ascends ws
-ascends-tail v [] a = (tt, tt)
-ascends-tail v (w ∷ ws) a = a
-
-pub ascends-insert : (w : Waiter) (ws : List Waiter) → Ascends ws → Ascends (insert w ws)
-ascends-insert w [] a = tt
-ascends-insert w (v ∷ vs) a =
-    let b = ascends-tail v vs a in
-    let i = ascends-insert w vs b.1 in
-    elim (cases_Bool (leb v.kept w.kept)) [
-      | inl e ↦ rw e (ascends-cons v (insert w vs) (below-insert v w vs (leb-true v.kept w.kept e) b.0) i)
-      | inr e ↦ rw e (let l : w.kept ≤ v.kept = omega (arith, leb-false v.kept w.kept e) in (l, a))
-    ]
 
 -- 1. One more waiter on a side
 

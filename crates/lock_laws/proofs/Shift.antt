@@ -15,7 +15,8 @@ use Rattle.lock_state.specs.Facts.Waits.{times_marked, at_queue}
 use Rattle.lock_state.specs.Facts.Loans.{IsKept, IsKnown, EachOf, walks_at_lock, walks_at_thread, at_lock, at_thread}
 use Rattle.lock_model.specs.declared.plan.QueueName.{QueueName}
 use Rattle.lock_laws.proofs.Kit.{columns, put_lock_same, put_lock_other, sum_below-put, at_put_lock, each_queue, at_queue_one}
-use Rattle.lock_laws.proofs.Lending.{walk_up-there, each_of-map, each_of-kept, stands-kept, waiting-kept, ascends-reinsert, is_empty-reinsert}
+use Rattle.lock_laws.proofs.Lending.{walk_up-there, each_of-map, each_of-kept, stands-kept, waiting-kept, is_empty-reinsert}
+use Rattle.lock_model.proofs.Lists.{ascends-reinsert}
 
 head_fits : (t p : ℕ) (q : Lists) (xs : List ℕ) (h o : Option ℕ) → HeadFits q xs h o → HeadFits (with_kept t p q) xs h o
 head_fits t p q xs h o f = record { balanced = f.balanced ∙ sym (waiting-kept t p q); no_free = f.no_free; no_owner = f.no_owner }

@@ -28,6 +28,30 @@ taken_fits all q xs h o z f =
       no_owner = λ x. z;
     }
 
+-- a change on a channel's queue leaves what is said of locks and their queues
+record ChanStays (c : Config) (s : State) (d : ℕ) (lists : Lists) (head : Option ℕ) : Type 0 where
+  pub bits : BitsShowWaiters s.word (put_queue s.lists (chan_queue d) lists)
+  pub ascend : ListsAscend c (put_queue s.lists (chan_queue d) lists)
+  pub mutex_waiters : MutexWaitersAreExclusive c (put_queue s.lists (chan_queue d) lists)
+  pub owners : OwnersHold c s.owner (put_queue s.head (chan_queue d) head) s.word
+  pub loans_least : LoansAreLeast c s.owner s.walk s.loan (put_queue s.lists (chan_queue d) lists)
+  pub loans_on_heads : LoansAreOnHeads s.loan (put_queue s.head (chan_queue d) head)
+  pub kept : KeptIsEffective c s.walk s.effective (put_queue s.lists (chan_queue d) lists)
+  pub kept_known : KeptIsKnown c (put_queue s.lists (chan_queue d) lists) s.history
+
+chan_stays : (c : Config) (s : State) (d : ℕ) (lists : Lists) (head : Option ℕ) → Lawful c s → ChanStays c s d lists head
+unfolding put_queue BitsShowWaiters ListsAscend MutexWaitersAreExclusive OwnersHold LoansAreLeast LoansAreOnHeads KeptIsEffective KeptIsKnown
+chan_stays c s d lists head h = record {
+  bits = λ l. h.bits_show_waiters l;
+  ascend = λ l. h.lists_ascend l;
+  mutex_waiters = λ l. h.mutex_waiters_are_exclusive l;
+  owners = λ l. h.owners_hold l;
+  loans_least = λ l. h.loans_are_least l;
+  loans_on_heads = λ u l. h.loans_are_on_heads u l;
+  kept = λ l. h.kept_is_effective l;
+  kept_known = λ l. h.kept_is_known l;
+}
+
 -- 1. An add
 
 module _ (c : Config) (s : State) (t d x : ℕ) (g : MayAdd c s t d x) (h : Lawful c s) where
@@ -69,18 +93,6 @@ module _ (c : Config) (s : State) (t d x : ℕ) (g : MayAdd c s t d x) (h : Lawf
   unfolding after_add HeadsFitWaiters
   heads = heads_put_owned c s h q lists _ _ (added_fits new (s.lists q) (s.free_list q) (s.head q) (s.owner q) x (h.heads_fit_waiters q))
 
-  bits : BitsShowWaiters n.word n.lists
-  unfolding after_add BitsShowWaiters put_queue
-  bits l = h.bits_show_waiters l
-
-  ascend : ListsAscend c n.lists
-  unfolding after_add ListsAscend put_queue
-  ascend l = h.lists_ascend l
-
-  mutex_waiters : MutexWaitersAreExclusive c n.lists
-  unfolding after_add MutexWaitersAreExclusive put_queue
-  mutex_waiters l = h.mutex_waiters_are_exclusive l
-
   stand : StandsOnce c n.lists n.marked n.blocked_on
   unfolding after_add
   stand = stand_more c s h q lists t g.unnamed (stands-last X new (s.lists q))
@@ -109,29 +121,9 @@ module _ (c : Config) (s : State) (t d x : ℕ) (g : MayAdd c s t d x) (h : Lawf
   unfolding after_add StandingIsUncalled
   standing_uncalled u r = grind (arith, columns, h.standing_is_uncalled u r, uncalled)
 
-  owners : OwnersHold c n.owner n.head n.word
-  unfolding after_add OwnersHold put_queue
-  owners l = h.owners_hold l
-
-  loans_least : LoansAreLeast c n.owner n.walk n.loan n.lists
-  unfolding after_add LoansAreLeast put_queue
-  loans_least l = h.loans_are_least l
-
-  loans_on_heads : LoansAreOnHeads n.loan n.head
-  unfolding after_add LoansAreOnHeads put_queue
-  loans_on_heads u l = h.loans_are_on_heads u l
-
-  kept : KeptIsEffective c n.walk n.effective n.lists
-  unfolding after_add KeptIsEffective put_queue
-  kept l = h.kept_is_effective l
-
-  kept_known : KeptIsKnown c n.lists n.history
-  unfolding after_add KeptIsKnown put_queue
-  kept_known l = h.kept_is_known l
-
   pub add_lawful : Lawful c n
   unfolding after_add
-  add_lawful = assumption (one_turnstile, one_sleep_queue, turnstile_lent, sleep_queue_lent, heads, bits, ascend, mutex_waiters, stand, threads_stand, standing_queued, standing_wants, standing_uncalled, owners, loans_least, loans_on_heads, kept, kept_known)
+  add_lawful = assumption (one_turnstile, one_sleep_queue, turnstile_lent, sleep_queue_lent, heads, stand, threads_stand, standing_queued, standing_wants, standing_uncalled, chan_stays c s d lists (head_with (s.head q) x) h)
 
 -- 2. A wake
 
@@ -177,18 +169,6 @@ module _ (c : Config) (s : State) (t d : ℕ) (all : Bool) (g : MayWake c s t d 
   unfolding after_wake HeadsFitWaiters ChannelsHaveNoOwner
   wake_heads = heads_put_owned c s h r stay _ _ (taken_fits all (s.lists r) (s.free_list r) (s.head r) (s.owner r) (h.channels_have_no_owner d) (h.heads_fit_waiters r))
 
-  wake_bits : BitsShowWaiters m.word m.lists
-  unfolding after_wake BitsShowWaiters put_queue
-  wake_bits l = h.bits_show_waiters l
-
-  wake_ascend : ListsAscend c m.lists
-  unfolding after_wake ListsAscend put_queue
-  wake_ascend l = h.lists_ascend l
-
-  wake_mutex_waiters : MutexWaitersAreExclusive c m.lists
-  unfolding after_wake MutexWaitersAreExclusive put_queue
-  wake_mutex_waiters l = h.mutex_waiters_are_exclusive l
-
   less : (u : ℕ) → stands u stay + times_waiting u woken ≡ stands u (s.lists r)
   less u = omega (arith, times-taken u all (s.lists r).exclusive)
 
@@ -203,26 +183,6 @@ module _ (c : Config) (s : State) (t d : ℕ) (all : Bool) (g : MayWake c s t d 
       let e = ap (calls_marked l) g.unmarked in
       omega (arith, h.free_word_has_called l)
 
-  wake_owners : OwnersHold c m.owner m.head m.word
-  unfolding after_wake OwnersHold put_queue
-  wake_owners l = h.owners_hold l
-
-  wake_loans_least : LoansAreLeast c m.owner m.walk m.loan m.lists
-  unfolding after_wake LoansAreLeast put_queue
-  wake_loans_least l = h.loans_are_least l
-
-  wake_loans_on_heads : LoansAreOnHeads m.loan m.head
-  unfolding after_wake LoansAreOnHeads put_queue
-  wake_loans_on_heads u l = h.loans_are_on_heads u l
-
-  wake_kept : KeptIsEffective c m.walk m.effective m.lists
-  unfolding after_wake KeptIsEffective put_queue
-  wake_kept l = h.kept_is_effective l
-
-  wake_kept_known : KeptIsKnown c m.lists m.history
-  unfolding after_wake KeptIsKnown put_queue
-  wake_kept_known l = h.kept_is_known l
-
   pub wake_lawful : Lawful c m
   unfolding after_wake
-  wake_lawful = assumption (wake_one_turnstile, wake_one_sleep_queue, wake_heads, wake_bits, wake_ascend, wake_mutex_waiters, wake_stand, wake_called, wake_owners, wake_loans_least, wake_loans_on_heads, wake_kept, wake_kept_known)
+  wake_lawful = assumption (wake_one_turnstile, wake_one_sleep_queue, wake_heads, wake_stand, wake_called, chan_stays c s d stay (head_after woken (s.free_list r) (s.head r)) h)

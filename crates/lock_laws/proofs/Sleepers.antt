@@ -5,7 +5,7 @@ use Rattle.lock_model.specs.Queues.{Waiter, Lists, list_of, with_list, times_wai
 use Rattle.lock_state.specs.Steps.SleepQueues.{with_last, better, best_of, one_or_none, without_best, taken_off, left_on}
 use Rattle.lock_model.specs.declared.plan.Side.{Side}
 use Rattle.lock_model.specs.declared.plan.Side.TheVariants.{X, S}
-use Rattle.lock_laws.proofs.Lending.{times_waiting-without, length-without}
+use Rattle.lock_model.proofs.Lists.{times_waiting-without, length-without}
 
 pub times_waiting-last : (t : ℕ) (w : Waiter) (ws : List Waiter) → times_waiting t (with_last w ws) ≡ one (eqb t w.thread) + times_waiting t ws
 times_waiting-last t w [] = refl
