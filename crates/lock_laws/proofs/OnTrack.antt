@@ -11,7 +11,7 @@ use Rattle.lock_model.specs.History.{open_in, sections_in, sections_by}
 use Rattle.lock_model.specs.Queues.{Lists, Mark}
 use Rattle.lock_state.specs.State.{State, Running, Walk, Loan, Wake, put, put_at}
 use Rattle.lock_state.specs.Steps.LockWords.{IsActing, is_woken, unstamped_after, after_stamp}
-use Rattle.lock_state.specs.Facts.{Lawful, NothingIsOut, QueuedStands, StandingIsQueued}
+use Rattle.lock_state.specs.Facts.{NothingIsOut, QueuedStands, StandingIsQueued}
 use Rattle.lock_state.specs.Run.{Run}
 use Rattle.lock_model.specs.declared.plan.Op.{Op}
 use Rattle.lock_model.specs.declared.plan.Op.TheVariants.{Take}
@@ -24,7 +24,7 @@ use Rattle.lock_model.specs.declared.event.Event.{Event}
 use Rattle.lock_model.specs.declared.event.Entry.{Entry}
 use Rattle.lock_model.specs.declared.event.Held.{Held}
 use Rattle.lock_laws.specs.OnTrack.{IsOnTrack, IsCall, WokenByCall}
-use Rattle.lock_laws.proofs.Kit.{at_put, put_same, put_other, sum_below-put}
+use Rattle.lock_laws.proofs.Kit.{at_put, sum_below-put}
 use Rattle.lock_laws.proofs.HeldLists.{AreLocks, next_fits, held_are_locks}
 
 -- 1. Columns and sections

@@ -1,6 +1,6 @@
 -- Each step of a turn of a proper plan's thread may be made, and the turn leaves the run on track. So each run is on
 -- track, and each of its states is one that steps reach.
-use Rattle.std.proofs.Common.{◌≡◌, ℕ, zero, suc, ◌+◌, ◌<◌, ◌≤◌, Bool, true, false, not, cond, List, [], ◌∷◌, length, All, Option, Some, None, refl, sym, arith, subst}
+use Rattle.std.proofs.Common.{◌≡◌, ℕ, zero, suc, ◌+◌, ◌<◌, ◌≤◌, Bool, true, false, not, cond, List, [], ◌∷◌, length, All, refl, sym, arith, subst}
 use Rattle.std.specs.List.{range_with_len}
 use Rattle.std.proofs.lemmas.Option.{none-some}
 use Rattle.std.proofs.lemmas.List.Elements.{All-nil, All-cons, All-head, All-tail, All-map, All-filter}
@@ -8,12 +8,12 @@ use Rattle.lock_model.specs.Plans.{config_of}
 use Rattle.lock_model.specs.Operations.{IsProper}
 use Rattle.lock_model.specs.Queues.{Mark}
 use Rattle.lock_model.specs.Config.{Config}
-use Rattle.lock_model.specs.History.{sections_in, entries_of}
+use Rattle.lock_model.specs.History.{sections_in}
 use Rattle.lock_model.specs.Law.{begins as leads_nowhere}
 use Rattle.lock_model.specs.declared.event.Entry.{Entry}
 use Rattle.lock_state.specs.State.{State, start_state}
 use Rattle.lock_state.specs.Steps.{MayAll, IsReachable, begins}
-use Rattle.lock_state.specs.Steps.Items.{Item, TurnstileChain, SleepChain, RecordOf, CellOf, ClassGraph}
+use Rattle.lock_state.specs.Steps.Items.{TurnstileChain, SleepChain, RecordOf, CellOf, ClassGraph}
 use Rattle.lock_state.specs.Facts.{Lawful, NothingIsOut, QueuedStands}
 use Rattle.lock_state.specs.Run.{Run, Row, Course, start_run, turn_of, run_after, run_behind, after_turns, course_after, has_ended, round_of, threads_of, with_turn, after_turn, go_on, is_over}
 use Rattle.lock_model.specs.declared.plan.Mode.TheVariants.{Excl, Shared}

@@ -8,7 +8,7 @@ use Rattle.lock_model.specs.Operations.{IsProper}
 use Rattle.lock_model.specs.Config.{Config}
 use Rattle.lock_model.specs.Queues.{Waiter, lock_queue, stands, times_waiting}
 use Rattle.lock_state.specs.State.{State, Walk, AtLock, AtThread}
-use Rattle.lock_state.specs.Steps.{Step, Lends, Shifts, EndsWalk, MayAll}
+use Rattle.lock_state.specs.Steps.{Lends, Shifts, EndsWalk}
 use Rattle.lock_state.specs.Steps.Lending.{MayLend, MayShift, MayEndWalk, IsAtEnd, after_lend, after_shift, after_end_walk}
 use Rattle.lock_state.specs.Facts.{HeadsFitWaiters, MutexWaitersAreExclusive, OwnersHold}
 use Rattle.lock_state.specs.Facts.Loans.{owner_if}
