@@ -81,7 +81,7 @@ module _ (plan : Plan) (r : Run) (t : ℕ) (p : IsProper plan) (k : IsOnTrack pl
 
   pub noted : (op : Op) (e : Event) → Next plan r t op → IsNoted plan r t op e → KeepsTrack plan (run_after c r t (notes r t e))
   unfolding after_stamp
-  noted op e next n = goes_on plan r t (after_stamp c s t e) k lt (record { wait = refl; blocked_on = refl; nothing_out = k.lawful.nothing_out }) (record {
+  noted op e next n = goes_on plan r t (after_stamp c s t e) k lt k.lawful.nothing_out refl refl (record {
     left = left plan r t op next;
     entry = refl;
     own_holds = λ l. k.holds t l ∙ ap (λ (hs : List Held). hold_in hs l) n.same;
