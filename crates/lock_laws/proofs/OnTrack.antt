@@ -8,10 +8,10 @@ use Rattle.lock_model.specs.Operations.{IsProper, hold_in, held_behind, held_of}
 use Rattle.lock_model.specs.Config.{Config}
 use Rattle.lock_model.specs.Holds.{Hold, NotHeld}
 use Rattle.lock_model.specs.History.{open_in, sections_in, sections_by}
-use Rattle.lock_model.specs.Queues.{Lists, Mark}
-use Rattle.lock_state.specs.State.{State, Running, Walk, Loan, Wake, put, put_at}
+use Rattle.lock_model.specs.Queues.{Mark}
+use Rattle.lock_state.specs.State.{State, Wait, Running, Wake, put, put_at}
 use Rattle.lock_state.specs.Steps.LockWords.{IsActing, is_woken, unstamped_after, after_stamp}
-use Rattle.lock_state.specs.Facts.{Lawful, NothingIsOut, QueuedStands, StandingIsQueued}
+use Rattle.lock_state.specs.Facts.{NothingIsOut, QueuedStands, StandingIsQueued}
 use Rattle.lock_state.specs.Run.{Run}
 use Rattle.lock_model.specs.declared.plan.Op.{Op}
 use Rattle.lock_model.specs.declared.plan.Op.TheVariants.{Take}
@@ -24,7 +24,7 @@ use Rattle.lock_model.specs.declared.event.Event.{Event}
 use Rattle.lock_model.specs.declared.event.Entry.{Entry}
 use Rattle.lock_model.specs.declared.event.Held.{Held}
 use Rattle.lock_laws.specs.OnTrack.{IsOnTrack, IsCall, WokenByCall}
-use Rattle.lock_laws.proofs.Kit.{at_put, put_same, put_other, sum_below-put}
+use Rattle.lock_laws.proofs.Kit.{at_put, sum_below-put}
 use Rattle.lock_laws.proofs.HeldLists.{AreLocks, next_fits, held_are_locks}
 
 -- 1. Columns and sections
@@ -44,38 +44,44 @@ pub other_section : (c : Config) (s : State) (t : ℕ) (e : Event) (u l : ℕ) �
 unfolding after_stamp sections_in
 other_section c s t e u l n = ap (λ b. (cond b (sections_by c e l (sections_in c s.history u l)) (sections_in c s.history u l)).now) (ne_eqb t u n)
 
--- 2. What a turn leaves true, beside a lawful state whose entries follow the operations
+-- 2. What a turn leaves true, beside a lawful state whose entries follow the operations, by the columns that it reads
+
+-- each thread's entries, holds and sections are those of its operations so far, and each wake is noted
+pub record AreMade (plan : Plan) (next_op : ℕ → ℕ) (history : List Entry) (held : ℕ → ℕ → Hold) (has_begun : ℕ → ℕ → Bool) (unstamped : ℕ → Option Wake) : Type 0 where
+  pub within : (t : ℕ) → next_op t ≤ length (operations_of plan t)
+  pub entries : length history ≡ sum_below (length plan.threads) next_op
+  pub holds : (t l : ℕ) → held t l ≡ hold_in (held_of (length plan.locks) (operations_of plan t) (next_op t)) l
+  pub sections : (t l : ℕ) → open_in (config_of plan) history t l ≡ held t l
+  pub begun : (t l : ℕ) → held t l ≢ NotHeld → has_begun t l ≡ true
+  pub stamped : (t : ℕ) → unstamped t ≡ None
+
+-- each thread waits for the lock of its next operation, and each wake is a call for one
+pub record AreWaiting (plan : Plan) (next_op : ℕ → ℕ) (wait : ℕ → Wait) (blocked_on : ℕ → Option QueueName) (wanted : ℕ → Option ℕ) (marked : ℕ → List Mark) : Type 0 where
+  pub stands : QueuedStands wait blocked_on
+  pub wants : (t l : ℕ) → wanted t ≡ Some l → slice_get (operations_of plan t) (next_op t) ≡ Some (Take (record { 0 = l }) Excl)
+  pub woken : (t : ℕ) → WokenByCall (wait t)
+  pub calls : (t : ℕ) → All (λ m. IsCall m.queue m.cause) (marked t)
+
+abbrev pub AllMade : Plan → Run → Type 0
+AllMade plan n = AreMade plan n.next_op n.state.history n.state.held n.state.has_begun n.state.unstamped
+
+abbrev pub AllWaiting : Plan → Run → Type 0
+AllWaiting plan n = AreWaiting plan n.next_op n.state.wait n.state.blocked_on n.state.wanted n.state.marked
+
+abbrev pub NoneOut : State → Type 0
+NoneOut n = NothingIsOut n.turnstile_chain_with n.sleep_chain_with n.record_with n.cell_with n.graph_with
 
 pub record KeepsTrack (plan : Plan) (n : Run) : Type 0 where
-  pub nothing_out : NothingIsOut n.state.turnstile_chain_with n.state.sleep_chain_with n.state.record_with n.state.cell_with n.state.graph_with
-  pub queued_stands : QueuedStands n.state.wait n.state.blocked_on
-  pub within : (t : ℕ) → n.next_op t ≤ length (operations_of plan t)
-  pub entries : length n.state.history ≡ sum_below (length plan.threads) n.next_op
-  pub holds : (t l : ℕ) → n.state.held t l ≡ hold_in (held_of (length plan.locks) (operations_of plan t) (n.next_op t)) l
-  pub sections : (t l : ℕ) → open_in (config_of plan) n.state.history t l ≡ n.state.held t l
-  pub begun : (t l : ℕ) → n.state.held t l ≢ NotHeld → n.state.has_begun t l ≡ true
-  pub wants : (t l : ℕ) → n.state.wanted t ≡ Some l → slice_get (operations_of plan t) (n.next_op t) ≡ Some (Take (record { 0 = l }) Excl)
-  pub woken : (t : ℕ) → WokenByCall (n.state.wait t)
-  pub marked : (t : ℕ) → All (λ m. IsCall m.queue m.cause) (n.state.marked t)
-  pub stamped : (t : ℕ) → n.state.unstamped t ≡ None
+  pub out : NoneOut n.state
+  pub made : AllMade plan n
+  pub waiting : AllWaiting plan n
 
--- a turn that changes walks, loans and priorities alone
-pub still : (plan : Plan) (r : Run) → IsOnTrack plan r
-    → (walk : ℕ → Walk) (loan : ℕ → ℕ → Option Loan) (loan_home : ℕ → Bool) (effective : ℕ → ℕ) (lists : QueueName → Lists)
-    → KeepsTrack plan (record r { state = record r.state { walk = walk; loan = loan; loan_home = loan_home; effective = effective; lists = lists } })
-still plan r k walk loan loan_home effective lists = record {
-  nothing_out = k.lawful.nothing_out;
-  queued_stands = k.lawful.queued_stands;
-  within = k.within;
-  entries = k.entries;
-  holds = k.holds;
-  sections = k.sections;
-  begun = k.begun;
-  wants = k.wants;
-  woken = k.woken;
-  marked = k.marked;
-  stamped = k.stamped;
-}
+-- a run on track does so
+pub all_made : (plan : Plan) (r : Run) → IsOnTrack plan r → AllMade plan r
+all_made plan r k = record { within = k.within; entries = k.entries; holds = k.holds; sections = k.sections; begun = k.begun; stamped = k.stamped }
+
+pub all_waiting : (plan : Plan) (r : Run) → IsOnTrack plan r → AllWaiting plan r
+all_waiting plan r k = record { stands = k.lawful.queued_stands; wants = k.wants; woken = k.woken; calls = k.marked }
 
 -- what the end of an operation of t, its next one, leaves in the columns that it changes; it made one entry
 pub record EndsWell (plan : Plan) (r : Run) (t : ℕ) (history : List Entry) (held : ℕ → ℕ → Hold) (has_begun : ℕ → ℕ → Bool) (wanted : ℕ → Option ℕ) (marked : ℕ → List Mark) (unstamped : ℕ → Option Wake) : Type 0 where
@@ -90,33 +96,31 @@ pub record EndsWell (plan : Plan) (r : Run) (t : ℕ) (history : List Entry) (he
   pub calls : (u : ℕ) → All (λ m. IsCall m.queue m.cause) (marked u)
   pub stamped : (u : ℕ) → unstamped u ≡ None
 
--- nobody's waiting changes, and nothing goes out
-pub record LeavesWaits (s n : State) : Type 0 where
-  pub wait : n.wait ≡ s.wait
-  pub blocked_on : n.blocked_on ≡ s.blocked_on
-  pub nothing_out : NothingIsOut n.turnstile_chain_with n.sleep_chain_with n.record_with n.cell_with n.graph_with
-
--- with its thread at the next operation
-pub goes_on : (plan : Plan) (r : Run) (t : ℕ) (s : State) → IsOnTrack plan r → t < length plan.threads → LeavesWaits r.state s
+-- with its thread at the next operation, where nobody's waiting has changed
+pub goes_on : (plan : Plan) (r : Run) (t : ℕ) (s : State) → IsOnTrack plan r → t < length plan.threads → NoneOut s → s.wait ≡ r.state.wait → s.blocked_on ≡ r.state.blocked_on
     → EndsWell plan r t s.history s.held s.has_begun s.wanted s.marked s.unstamped → KeepsTrack plan (record { state = s; next_op = put r.next_op t (suc (r.next_op t)) })
-goes_on plan r t s k lt still w = record {
-  nothing_out = still.nothing_out;
-  queued_stands = rw (still.wait, still.blocked_on) k.lawful.queued_stands;
-  within = at_put (λ v n. n ≤ length (operations_of plan v)) r.next_op t (suc (r.next_op t)) w.left (λ v ne. k.within v);
-  entries =
-      let risen : sum_below (length plan.threads) next_op + r.next_op t ≡ sum_below (length plan.threads) r.next_op + suc (r.next_op t) = sum_below-put (length plan.threads) (λ n. n) r.next_op t (suc (r.next_op t)) lt in
-      omega (arith, risen, w.entry, k.entries);
-  holds = λ u l. at_put (λ v n. s.held v l ≡ hold_in (held_of (length plan.locks) (operations_of plan v) n) l) r.next_op t (suc (r.next_op t))
-      (w.own_holds l)
-      (λ v ne. w.other_holds v l ne ∙ k.holds v l) u;
-  sections = w.sections;
-  begun = w.begun;
-  wants = λ u l. at_put (λ v n. s.wanted v ≡ Some l → slice_get (operations_of plan v) n ≡ Some (Take (record { 0 = l }) Excl)) r.next_op t (suc (r.next_op t))
-      (λ e. absurd (let z : None ≡ Some l = sym w.own_wants ∙ e in cc))
-      (λ v ne e. k.wants v l (sym (w.other_wants v ne) ∙ e)) u;
-  woken = λ u. rw still.wait (k.woken u);
-  marked = w.calls;
-  stamped = w.stamped;
+goes_on plan r t s k lt out wait blocked_on w = record {
+  out = out;
+  made = record {
+    within = at_put (λ v n. n ≤ length (operations_of plan v)) r.next_op t (suc (r.next_op t)) w.left (λ v ne. k.within v);
+    entries =
+        let risen : sum_below (length plan.threads) next_op + r.next_op t ≡ sum_below (length plan.threads) r.next_op + suc (r.next_op t) = sum_below-put (length plan.threads) (λ n. n) r.next_op t (suc (r.next_op t)) lt in
+        omega (arith, risen, w.entry, k.entries);
+    holds = λ u l. at_put (λ v n. s.held v l ≡ hold_in (held_of (length plan.locks) (operations_of plan v) n) l) r.next_op t (suc (r.next_op t))
+        (w.own_holds l)
+        (λ v ne. w.other_holds v l ne ∙ k.holds v l) u;
+    sections = w.sections;
+    begun = w.begun;
+    stamped = w.stamped;
+  };
+  waiting = record {
+    stands = rw (wait, blocked_on) k.lawful.queued_stands;
+    wants = λ u l. at_put (λ v n. s.wanted v ≡ Some l → slice_get (operations_of plan v) n ≡ Some (Take (record { 0 = l }) Excl)) r.next_op t (suc (r.next_op t))
+        (λ e. absurd (let z : None ≡ Some l = sym w.own_wants ∙ e in cc))
+        (λ v ne e. k.wants v l (sym (w.other_wants v ne) ∙ e)) u;
+    woken = λ u. rw wait (k.woken u);
+    calls = w.calls;
+  };
 }
   where
     next_op : ℕ → ℕ

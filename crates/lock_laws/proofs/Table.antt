@@ -1,16 +1,15 @@
 -- The table of turns, row by row: each row with what the thread is found at where that row is the first that fits.
 -- What is proved of a turn is proved by these cases.
-use Rattle.std.proofs.Common.{◌≡◌, ◌⊎◌, ℕ, Bool, true, false, cond, ◌&&◌, ltb, nat_le, List, [], ◌∷◌, length, slice_get, Option, Some, None, refl, sym, ap, inl, inr, arith, ◌∙◌}
+use Rattle.std.proofs.Common.{◌≡◌, ◌⊎◌, ℕ, Bool, true, false, cond, ◌&&◌, ltb, nat_le, List, [], ◌∷◌, length, slice_get, Option, Some, None, refl, sym, inl, inr, arith, ◌∙◌}
 use Rattle.std.proofs.lemmas.Bool.{lt-leb}
 use Rattle.std.proofs.lemmas.Option.{slice_get_within}
 use Rattle.lock_model.specs.Plans.{config_of, operations_of}
 use Rattle.lock_model.specs.Operations.{held_behind}
 use Rattle.lock_model.specs.Words.{admits, is_drop, is_turnstile, owner_of}
-use Rattle.lock_model.specs.Holds.{Hold}
 use Rattle.lock_model.specs.Queues.{Mark, Cause, lock_queue, stands}
 use Rattle.lock_model.specs.Config.{Config}
 use Rattle.lock_state.specs.State.{State, Wait, Running, Queued, Woken, Walk, NoWalk, AtLock, AtThread}
-use Rattle.lock_state.specs.Steps.{Step, Gains, Drops, Stamps, Opens, Marks, Resumes, Lends, Shifts, EndsWalk}
+use Rattle.lock_state.specs.Steps.{Gains, Drops, Stamps, Opens, Marks, Resumes, Lends, Shifts, EndsWalk}
 use Rattle.lock_state.specs.Run.{Run, Row, turn_of, has_ended, owes, holds_none, nothing, does, ends, blocks, notes, takes, releases, mode_held, operates, by_wait, by_marked, by_walk, walks_at_lock, walks_at_thread}
 use Rattle.lock_model.specs.declared.numbers.LockNo.{LockNo}
 use Rattle.lock_model.specs.declared.numbers.Prio.{Prio}

@@ -1,6 +1,6 @@
 -- Each step of a turn of a proper plan's thread may be made, and the turn leaves the run on track. So each run is on
 -- track, and each of its states is one that steps reach.
-use Rattle.std.proofs.Common.{◌≡◌, ℕ, zero, suc, ◌+◌, ◌<◌, ◌≤◌, Bool, true, false, not, cond, List, [], ◌∷◌, length, All, Option, Some, None, refl, sym, arith, subst}
+use Rattle.std.proofs.Common.{◌≡◌, ℕ, zero, suc, ◌+◌, ◌<◌, ◌≤◌, Bool, true, false, not, cond, List, [], ◌∷◌, length, All, refl, sym, arith, subst}
 use Rattle.std.specs.List.{range_with_len}
 use Rattle.std.proofs.lemmas.Option.{none-some}
 use Rattle.std.proofs.lemmas.List.Elements.{All-nil, All-cons, All-head, All-tail, All-map, All-filter}
@@ -8,12 +8,12 @@ use Rattle.lock_model.specs.Plans.{config_of}
 use Rattle.lock_model.specs.Operations.{IsProper}
 use Rattle.lock_model.specs.Queues.{Mark}
 use Rattle.lock_model.specs.Config.{Config}
-use Rattle.lock_model.specs.History.{sections_in, entries_of}
+use Rattle.lock_model.specs.History.{sections_in}
 use Rattle.lock_model.specs.Law.{begins as leads_nowhere}
 use Rattle.lock_model.specs.declared.event.Entry.{Entry}
 use Rattle.lock_state.specs.State.{State, start_state}
 use Rattle.lock_state.specs.Steps.{MayAll, IsReachable, begins}
-use Rattle.lock_state.specs.Steps.Items.{Item, TurnstileChain, SleepChain, RecordOf, CellOf, ClassGraph}
+use Rattle.lock_state.specs.Steps.Items.{TurnstileChain, SleepChain, RecordOf, CellOf, ClassGraph}
 use Rattle.lock_state.specs.Facts.{Lawful, NothingIsOut, QueuedStands}
 use Rattle.lock_state.specs.Run.{Run, Row, Course, start_run, turn_of, run_after, run_behind, after_turns, course_after, has_ended, round_of, threads_of, with_turn, after_turn, go_on, is_over}
 use Rattle.lock_model.specs.declared.plan.Mode.TheVariants.{Excl, Shared}
@@ -24,7 +24,7 @@ use Rattle.lock_laws.proofs.Kit.{sum_below-zero}
 use Rattle.lock_laws.proofs.Steps.{all_keep, all_reach}
 use Rattle.lock_laws.proofs.StateAtStart as start
 use Rattle.lock_laws.proofs.Follows.{followed, still_no_sleeps}
-use Rattle.lock_laws.proofs.OnTrack.{KeepsTrack, still, fit}
+use Rattle.lock_laws.proofs.OnTrack.{KeepsTrack, all_made, all_waiting, fit}
 use Rattle.lock_laws.proofs.Table as table
 use Rattle.lock_laws.proofs.TurnsOfWalks as walks
 use Rattle.lock_laws.proofs.TurnsOfWaits as waits
@@ -74,7 +74,7 @@ module _ (plan : Plan) (r : Run) (t : ℕ) (p : IsProper plan) (k : IsOnTrack pl
 
   -- a turn that does nothing
   unmoved : KeepsTrack plan r
-  unmoved = still plan r k s.walk s.loan s.loan_home s.effective s.lists
+  unmoved = record { out = k.lawful.nothing_out; made = all_made plan r k; waiting = all_waiting plan r k }
 
   made : (row : Row) → table.Fits plan r t row → IsMade plan r t row
   made _ (table.is_over e) = record { may = tt; keeps = unmoved }
@@ -113,18 +113,18 @@ module _ (plan : Plan) (r : Run) (t : ℕ) (p : IsProper plan) (k : IsOnTrack pl
 
   pub turned : IsOnTrack plan (run_behind plan r t)
   turned = record {
-    lawful = record { lawful = lawful; nothing_out = kept.nothing_out; queued_stands = kept.queued_stands };
-    within = kept.within;
-    entries = kept.entries;
+    lawful = record { lawful = lawful; nothing_out = kept.out; queued_stands = kept.waiting.stands };
+    within = kept.made.within;
+    entries = kept.made.entries;
     follows = followed plan r t p k lt;
     no_sleeps = still_no_sleeps plan r t p k lt;
-    holds = kept.holds;
-    sections = kept.sections;
-    begun = kept.begun;
-    wants = kept.wants;
-    woken = kept.woken;
-    marked = kept.marked;
-    stamped = kept.stamped;
+    holds = kept.made.holds;
+    sections = kept.made.sections;
+    begun = kept.made.begun;
+    wants = kept.waiting.wants;
+    woken = kept.waiting.woken;
+    marked = kept.waiting.calls;
+    stamped = kept.made.stamped;
   }
 
 pub turns_may : (plan : Plan) (r : Run) (t : ℕ) → IsProper plan → IsOnTrack plan r → t < length plan.threads → MayAll (config_of plan) r.state (turn_of plan r t).steps

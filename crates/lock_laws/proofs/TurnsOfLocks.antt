@@ -1,5 +1,5 @@
 -- The turns of a thread that takes or releases a lock: their steps may be made, and they leave the run on track.
-use Rattle.std.proofs.Common.{◌≡◌, ◌≢◌, ℕ, suc, ◌<◌, ◌≤◌, Bool, true, false, not, cond, eqb, ◌&&◌, ◌||◌, List, [], ◌∷◌, length, All, slice_get, Option, Some, None, refl, sym, ap, arith, eq-eqb, ◌∙◌}
+use Rattle.std.proofs.Common.{◌≡◌, ◌≢◌, ℕ, ◌<◌, ◌≤◌, Bool, true, false, not, cond, eqb, ◌&&◌, ◌||◌, List, [], ◌∷◌, length, All, slice_get, Option, Some, None, refl, sym, ap, arith, eq-eqb, ◌∙◌}
 use Rattle.std.specs.Prelude.{unwrap_or}
 use Rattle.std.proofs.lemmas.List.Elements.{All-nil, All-cons}
 use Rattle.std.proofs.lemmas.Option.{same_Some}
@@ -12,7 +12,7 @@ use Rattle.lock_model.specs.Holds.{Hold, NotHeld, Holds}
 use Rattle.lock_model.specs.Queues.{Waiter, Mark, BySignal, lock_queue, list_of, dealt}
 use Rattle.lock_model.specs.History.{open_in, replaced}
 use Rattle.lock_state.specs.State.{State, Queued, put, put_at}
-use Rattle.lock_state.specs.Steps.{Step, Gains, Stamps, Drops, Opens, MayAll}
+use Rattle.lock_state.specs.Steps.{Gains, Stamps, Drops, Opens, MayAll}
 use Rattle.lock_state.specs.Steps.LockWords.{is_woken, MayGain, MayDrop, MayStamp, MayReady, after_gain, after_drop, after_stamp, after_ready}
 use Rattle.lock_state.specs.Steps.Turnstiles.{MayEnter, MayOpen, after_enter, after_open}
 use Rattle.lock_state.specs.Facts.{FreeMutexShowsNone, QueuedStands}
@@ -33,7 +33,7 @@ use Rattle.lock_laws.proofs.Kit.{columns, at_put, put_same, put_other, put_at_sa
 use Rattle.lock_laws.proofs.Words.{free_is}
 use Rattle.lock_laws.proofs.HeldLists.{TakeFits, take_fits, release_fits, hold_in-push, hold_in-without}
 use Rattle.lock_laws.proofs.AtTurn.{has_turnstile}
-use Rattle.lock_laws.proofs.OnTrack.{KeepsTrack, EndsWell, goes_on, put_at_own, own_section, other_section, stamped_behind, unnamed, acting, before, behind, Next, left, fit, are_locks, wants_none, wants_this}
+use Rattle.lock_laws.proofs.OnTrack.{KeepsTrack, all_made, EndsWell, goes_on, put_at_own, own_section, other_section, stamped_behind, unnamed, acting, before, behind, left, fit, are_locks, wants_none, wants_this}
 
 -- a word of a mutex that is not held shows no waiters
 plain_mutex : (w : Word) → one (shows_waiters w) ≤ busy w.holder → is_free w.holder ≡ true → is_plain Mtx w Excl ≡ true
@@ -141,7 +141,7 @@ module _ (plan : Plan) (r : Run) (t : ℕ) (p : IsProper plan) (k : IsOnTrack pl
 
     pub gained : KeepsTrack plan (run_after c r t (ends r t kind.Gain (Gains t l.0 Excl false ∷ Stamps t (event.Locked l Excl) ∷ [])))
     unfolding after_gain after_stamp
-    gained = goes_on plan r t noted_state k lt (record { wait = refl; blocked_on = refl; nothing_out = k.lawful.nothing_out }) (record {
+    gained = goes_on plan r t noted_state k lt k.lawful.nothing_out refl refl (record {
       left = left plan r t (Take l Excl) i.next;
       entry = refl;
       own_holds = gained_holds;
@@ -185,21 +185,18 @@ module _ (plan : Plan) (r : Run) (t : ℕ) (p : IsProper plan) (k : IsOnTrack pl
     pub blocked : KeepsTrack plan (run_after c r t (blocks r t l Excl))
     unfolding after_enter after_ready QueuedStands
     blocked = record {
-      nothing_out = k.lawful.nothing_out;
-      queued_stands = λ u. each_place t (λ v. put s.wait t Queued v ≡ Queued → put s.blocked_on t (Some (lock_queue l.0)) v ≢ None)
-          (λ e n. let z : Some (lock_queue l.0) ≡ None = sym (put_same s.blocked_on t (Some (lock_queue l.0))) ∙ n in cc)
-          (λ v ne. rw (put_other s.wait t Queued v ne, put_other s.blocked_on t (Some (lock_queue l.0)) v ne) (k.lawful.queued_stands v)) u;
-      within = k.within;
-      entries = k.entries;
-      holds = k.holds;
-      sections = k.sections;
-      begun = k.begun;
-      wants = λ u j. at_put (λ v w. w ≡ Some j → slice_get (operations_of plan v) (r.next_op v) ≡ Some (Take (record { 0 = j }) Excl)) s.wanted t (Some l.0)
-          (λ f. i.next ∙ ap (λ (m : ℕ). Some (Take (record { 0 = m }) Excl)) (same_Some l.0 j f))
-          (λ v ne. k.wants v j) u;
-      woken = at_put (λ v w. WokenByCall w) s.wait t Queued tt (λ v ne. k.woken v);
-      marked = k.marked;
-      stamped = k.stamped;
+      out = k.lawful.nothing_out;
+      made = all_made plan r k;
+      waiting = record {
+        stands = λ u. each_place t (λ v. put s.wait t Queued v ≡ Queued → put s.blocked_on t (Some (lock_queue l.0)) v ≢ None)
+            (λ e n. let z : Some (lock_queue l.0) ≡ None = sym (put_same s.blocked_on t (Some (lock_queue l.0))) ∙ n in cc)
+            (λ v ne. rw (put_other s.wait t Queued v ne, put_other s.blocked_on t (Some (lock_queue l.0)) v ne) (k.lawful.queued_stands v)) u;
+        wants = λ u j. at_put (λ v w. w ≡ Some j → slice_get (operations_of plan v) (r.next_op v) ≡ Some (Take (record { 0 = j }) Excl)) s.wanted t (Some l.0)
+            (λ f. i.next ∙ ap (λ (m : ℕ). Some (Take (record { 0 = m }) Excl)) (same_Some l.0 j f))
+            (λ v ne. k.wants v j) u;
+        woken = at_put (λ v w. WokenByCall w) s.wait t Queued tt (λ v ne. k.woken v);
+        calls = k.marked;
+      };
     }
 
   -- 2. A release
@@ -292,9 +289,9 @@ module _ (plan : Plan) (r : Run) (t : ℕ) (p : IsProper plan) (k : IsOnTrack pl
 
     pub dropped : KeepsTrack plan (run_after c r t (ends r t kind.Drop (Stamps t (event.Unlocked l mode) ∷ Drops t l.0 mode ∷ [])))
     unfolding after_drop after_stamp
-    dropped = goes_on plan r t _ k lt (record { wait = refl; blocked_on = refl; nothing_out = k.lawful.nothing_out }) (released s.marked k.marked)
+    dropped = goes_on plan r t _ k lt k.lawful.nothing_out refl refl (released s.marked k.marked)
 
     pub opened : KeepsTrack plan (run_after c r t (ends r t kind.OpenUp (Stamps t (event.Unlocked l mode) ∷ Opens t l.0 mode ∷ [])))
     unfolding after_open after_stamp
-    opened = goes_on plan r t _ k lt (record { wait = refl; blocked_on = refl; nothing_out = k.lawful.nothing_out })
+    opened = goes_on plan r t _ k lt k.lawful.nothing_out refl refl
         (released _ (at_put (λ v ms. AreCalls ms) s.marked t _ (dealt_calls l.0 (list_of (side_woken (c.kind l.0) (s.word l.0)) (s.lists (lock_queue l.0))) (s.free_list (lock_queue l.0)) (s.head (lock_queue l.0))) (λ v ne. k.marked v)))

@@ -1,5 +1,5 @@
 -- The turns of a thread whose operation only makes an entry: the entry may be made, and the run stays on track.
-use Rattle.std.proofs.Common.{◌≡◌, ◌≢◌, ℕ, ◌<◌, Bool, true, false, cond, List, [], ◌∷◌, length, Option, Some, None, refl, sym, ap, ◌∙◌}
+use Rattle.std.proofs.Common.{◌≡◌, ◌≢◌, ℕ, ◌<◌, Bool, true, false, cond, List, length, Option, Some, None, refl, sym, ap, ◌∙◌}
 use Rattle.std.proofs.lemmas.Option.{none-some, same_Some, cond_some}
 use Rattle.lock_model.specs.Plans.{config_of}
 use Rattle.lock_model.specs.Operations.{IsProper, hold_in}
@@ -14,7 +14,6 @@ use Rattle.lock_model.specs.declared.plan.Op.{Op}
 use Rattle.lock_model.specs.declared.plan.Op.TheVariants as operation
 use Rattle.lock_model.specs.declared.plan.Plan.{Plan}
 use Rattle.lock_model.specs.declared.event.Event.{Event}
-use Rattle.lock_model.specs.declared.event.Event.TheVariants as event
 use Rattle.lock_model.specs.declared.event.Held.{Held}
 use Rattle.lock_laws.specs.OnTrack.{IsOnTrack}
 use Rattle.lock_laws.proofs.Kit.{each_place}
@@ -82,7 +81,7 @@ module _ (plan : Plan) (r : Run) (t : ℕ) (p : IsProper plan) (k : IsOnTrack pl
 
   pub noted : (op : Op) (e : Event) → Next plan r t op → IsNoted plan r t op e → KeepsTrack plan (run_after c r t (notes r t e))
   unfolding after_stamp
-  noted op e next n = goes_on plan r t (after_stamp c s t e) k lt (record { wait = refl; blocked_on = refl; nothing_out = k.lawful.nothing_out }) (record {
+  noted op e next n = goes_on plan r t (after_stamp c s t e) k lt k.lawful.nothing_out refl refl (record {
     left = left plan r t op next;
     entry = refl;
     own_holds = λ l. k.holds t l ∙ ap (λ (hs : List Held). hold_in hs l) n.same;

@@ -8,7 +8,7 @@ use Rattle.lock_model.specs.Operations.{IsProper}
 use Rattle.lock_model.specs.Config.{Config}
 use Rattle.lock_model.specs.Queues.{Waiter, lock_queue, stands, times_waiting}
 use Rattle.lock_state.specs.State.{State, Walk, AtLock, AtThread}
-use Rattle.lock_state.specs.Steps.{Step, Lends, Shifts, EndsWalk, MayAll}
+use Rattle.lock_state.specs.Steps.{Lends, Shifts, EndsWalk}
 use Rattle.lock_state.specs.Steps.Lending.{MayLend, MayShift, MayEndWalk, IsAtEnd, after_lend, after_shift, after_end_walk}
 use Rattle.lock_state.specs.Facts.{HeadsFitWaiters, MutexWaitersAreExclusive, OwnersHold}
 use Rattle.lock_state.specs.Facts.Loans.{owner_if}
@@ -23,7 +23,7 @@ use Rattle.lock_laws.specs.OnTrack.{IsOnTrack}
 use Rattle.lock_laws.proofs.Kit.{one_same}
 use Rattle.lock_laws.proofs.Derived.{shown}
 use Rattle.lock_laws.proofs.HeldLists.{take_fits}
-use Rattle.lock_laws.proofs.OnTrack.{KeepsTrack, still, fit, before, behind}
+use Rattle.lock_laws.proofs.OnTrack.{KeepsTrack, all_made, all_waiting, fit, before, behind}
 use Rattle.lock_laws.proofs.Table.{stands_at}
 
 -- some thread stands on a queue without shared waiters that has a head
@@ -66,7 +66,7 @@ module _ (plan : Plan) (r : Run) (t : ℕ) (p : IsProper plan) (k : IsOnTrack pl
 
   pub lent : (l o h : ℕ) → KeepsTrack plan (run_after c r t (does kind.Lend (Lends t l o h ∷ [])))
   unfolding after_lend
-  lent l o h = still plan r k _ _ _ _ _
+  lent l o h = record { out = k.lawful.nothing_out; made = all_made plan r k; waiting = all_waiting plan r k }
 
   -- a walk with nothing to do
   pub may_end : (w : Walk) → s.walk t ≡ w → IsAtEnd c s w → MayEndWalk c s t
@@ -82,7 +82,7 @@ module _ (plan : Plan) (r : Run) (t : ℕ) (p : IsProper plan) (k : IsOnTrack pl
 
   pub walk_ended : KeepsTrack plan (run_after c r t (does kind.WalkEnd (EndsWalk t ∷ [])))
   unfolding after_end_walk
-  walk_ended = still plan r k _ _ _ _ _
+  walk_ended = record { out = k.lawful.nothing_out; made = all_made plan r k; waiting = all_waiting plan r k }
 
   -- 2. A walk at a thread
 
@@ -97,7 +97,7 @@ module _ (plan : Plan) (r : Run) (t : ℕ) (p : IsProper plan) (k : IsOnTrack pl
 
   pub shifted : (o l : ℕ) → KeepsTrack plan (run_after c r t (does kind.Shift (Shifts t o l ∷ [])))
   unfolding after_shift
-  shifted o l = still plan r k _ _ _ _ _
+  shifted o l = record { out = k.lawful.nothing_out; made = all_made plan r k; waiting = all_waiting plan r k }
 
   pub may_end_at_thread : (o : ℕ) → s.walk t ≡ AtThread o → ((l : LockNo) → s.blocked_on o ≡ Some (Lock l) → stands_at plan r o l.0 ≡ false) → MayEndWalk c s t
   may_end_at_thread o w off = may_end (AtThread o) w (λ l i j.

@@ -19,7 +19,7 @@ pub fn runs_are_legal()
 pub fn courses_are_legal()
     ensures { (plan : plans.Plan) (n : ℕ) → IsProper plan
         → IsLegal plan false (is_cut_short (ending_of plan (course_after plan n)))
-            (course_after plan n).run.state.history }
+        (course_after plan n).run.state.history }
 {}
 
 /// So is the history that is printed, which begins with the oldest entry.
