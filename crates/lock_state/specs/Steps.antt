@@ -14,7 +14,7 @@ use Rattle.lock_state.specs.Steps.LockWords.{MaySeek, MayLook, MayGain, MayDrop,
 use Rattle.lock_state.specs.Steps.Turnstiles.{MayEnter, MayOpen, MayMark, MayResume, after_enter, after_open, after_mark, after_resume}
 use Rattle.lock_state.specs.Steps.SleepQueues.{MayEnterSleep, MayOpenSleep, MayAdd, MayWake, after_enter_sleep, after_open_sleep, after_add, after_wake}
 use Rattle.lock_state.specs.Steps.Lending.{MayClaim, MayLend, MayShift, MayEndWalk, after_claim, after_lend, after_shift, after_end_walk}
-use Rattle.lock_state.specs.Steps.Items.{Item, TurnstileChain, SleepChain, RecordOf, CellOf, ClassGraph, item_with, is_chain, MayTake, MayGive, after_take, after_give}
+use Rattle.lock_state.specs.Steps.Items.{Item, TurnstileChain, SleepChain, RecordOf, CellOf, ClassGraph, item_with, is_chain, IsOnItsWay, MayTake, MayGive, after_take, after_give}
 use Rattle.lock_model.specs.declared.plan.Mode.{Mode}
 use Rattle.lock_model.specs.declared.plan.Mode.TheVariants.{Excl}
 use Rattle.lock_model.specs.declared.plan.QueueName.{QueueName}
@@ -240,13 +240,16 @@ NotesInRound (Some r) other = ⊥
 abbrev pub SawAdmitting : ℕ → Config → State → ℕ → ℕ → Mode → Type 0
 SawAdmitting chains c s t l mode = (w : Word) → HasItem s t (chain_of chains c l) → s.seen_in_section t ≡ Some (record { lock = l; word = w }) → admits (c.kind l) w mode ≡ true
 
--- an enter is an exchange from the word that the last look saw, in a blocking call's round that has taken the lock's chain
+-- an enter is an exchange from the word that the last look saw, in a blocking call's round that has taken the lock's chain. It is not made
+-- by a thread on its way to a channel
 pub record EntersFromLook (s : State) (t l : ℕ) : Type 0 where
   pub saw : s.last_look t ≡ Some (record { lock = l; word = s.word l })
   pub round : s.round t ≡ Some (record { lock = l; by_try = false; in_chain = true })
+  pub off : IsOnItsWay s t → ⊥
 
 -- Where a look in the lock's chain saw a word that doesn't admit, the thread enters and does not gain, until it looks again. A thread
--- sleeps on a channel outside its rounds.
+-- sleeps on a channel outside its rounds, where it has no wake to note; between its Sleeps entry and its add it neither enters a lock's
+-- queue nor runs again.
 abbrev pub HasSeen : ℕ → Config → State → Step → Type 0
 HasSeen chains c s (Seeks t l by_try) = ⊤
 HasSeen chains c s (Looks t l in_round) = in_round ≡ counts_as_look chains c s t l
@@ -256,12 +259,12 @@ HasSeen chains c s (Gains t l mode by_try) = FitsRound (s.round t) l by_try × S
 HasSeen chains c s (Drops t l mode) = ⊤
 HasSeen chains c s (Stamps t e) = NotesInRound (s.round t) e
 HasSeen chains c s (Readies t q) = ⊤
-HasSeen chains c s (Unreadies t q) = ⊤
+HasSeen chains c s (Unreadies t q) = IsOnItsWay s t → ⊥
 HasSeen chains c s (Enters t l mode x) = EntersFromLook s t l
 HasSeen chains c s (Opens t l mode) = ⊤
 HasSeen chains c s (EntersSleepQueue t l mode x) = EntersFromLook s t l
 HasSeen chains c s (OpensSleepQueue t l mode) = ⊤
-HasSeen chains c s (Adds t d x) = s.round t ≡ None
+HasSeen chains c s (Adds t d x) = (s.round t ≡ None) × (s.unstamped t ≡ None)
 HasSeen chains c s (Wakes t d all) = ⊤
 HasSeen chains c s (Marks t m ms) = ⊤
 HasSeen chains c s (Resumes t q cause) = ⊤
