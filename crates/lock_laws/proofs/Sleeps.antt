@@ -3,3 +3,5 @@ pub mod Bits
 pub mod Entries
 pub mod Marks
 pub mod Unnoted
+pub mod Named
+pub mod Signals
