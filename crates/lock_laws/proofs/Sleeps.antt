@@ -5,3 +5,4 @@ pub mod Marks
 pub mod Unnoted
 pub mod Named
 pub mod Signals
+pub mod Standing
