@@ -6,3 +6,5 @@ pub mod Unnoted
 pub mod Named
 pub mod Signals
 pub mod Standing
+pub mod Best
+pub mod Order
