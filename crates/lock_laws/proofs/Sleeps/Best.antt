@@ -21,6 +21,13 @@ each_at P u (w ∷ ws) e l = elim (cases_eq u w.thread) [
   | inr x ↦ each_at P u ws e.1 (let z : one (eqb u w.thread) ≡ 0 = ap one (ne_eqb u w.thread x) in omega arith)
 ]
 
+pub each_all : (P : Waiter → Type 0) (ws : List Waiter) → ((w : Waiter) → 1 ≤ times_waiting w.thread ws → P w) → Each P ws
+each_all P ws f = each-map (λ w. Unit {0}) P ws (λ w i u. f w i) (units ws)
+  where
+    units : (ws : List Waiter) → Each (λ w. Unit {0}) ws
+    units [] = tt
+    units (w ∷ ws) = (tt, units ws)
+
 each_two : (P Q R : Waiter → Type 0) (ws : List Waiter) → ((w : Waiter) → P w → Q w → R w) → Each P ws → Each Q ws → Each R ws
 each_two P Q R [] f p q = tt
 each_two P Q R (w ∷ ws) f p q = (f w p.0 q.0, each_two P Q R ws f p.1 q.1)

@@ -23,7 +23,7 @@ use Rattle.lock_laws.specs.Sleepers.{SleepersFit}
 use Rattle.lock_laws.proofs.Kit.{put_same, put_other, put_chan_same, put_chan_other, sum_below-zero}
 use Rattle.lock_laws.proofs.Lending.{each-map}
 use Rattle.lock_laws.proofs.Standing.{standing_named}
-use Rattle.lock_laws.proofs.Sleeps.Best.{each-last, each-left, in_order-last, in_order-left, in_order-map}
+use Rattle.lock_laws.proofs.Sleeps.Best.{each_all, each-last, each-left, in_order-last, in_order-left, in_order-map}
 use Rattle.lock_laws.proofs.Sleeps.Entries.{slept_asleep, still_asleep, up_to_own, up_to_other, up_to_most}
 use Rattle.lock_laws.proofs.Sleeps.Marks.{none_noted, signals_nowhere}
 use Rattle.lock_laws.proofs.Sleeps.Standing.{has_its_chain, marked_awake}
@@ -41,6 +41,18 @@ stands_apart c s t d u l n i x =
     let a : s.blocked_on u ≡ Some (chan_queue d) = standing_named c s u (chan_queue d) l (omega arith) in
     let z : None ≡ Some (chan_queue d) = sym n ∙ ap s.blocked_on x ∙ a in
     cc
+
+-- who names no queue after another's enter or add named none before
+elsewhere : (s : State) (t u : ℕ) (q : QueueName) → put s.blocked_on t (Some q) u ≡ None → s.blocked_on u ≡ None
+elsewhere s t u q b = elim (cases_eq t u) [
+  | inl x ↦ absurd (let f : Some q ≡ None = sym (put_same s.blocked_on t (Some q)) ∙ ap (put s.blocked_on t (Some q)) x ∙ b in cc)
+  | inr x ↦ sym (put_other s.blocked_on t (Some q) u x) ∙ b
+]
+
+-- an entry leaves another thread's base priority
+others_base : (e : Event) (t : ℕ) (base : ℕ → ℕ) (u : ℕ) → t ≢ u → base_after e t base u ≡ base u
+others_base (Base p) t base u ne = put_other base t p.0 u ne
+others_base other t base u ne = refl
 
 module _ (chains : ℕ) (c : Config) (s : State) (l : Lawful c s) (h : SleepersFit chains c s) where
   -- who is added sleeps in the history
@@ -62,17 +74,7 @@ module _ (chains : ℕ) (c : Config) (s : State) (l : Lawful c s) (h : SleepersF
   unfolding SleepersInOrder LatecomersAreLater put_queue after_seek after_look after_gain after_drop after_stamp after_ready after_unready after_enter after_open after_mark after_resume after_enter_sleep after_open_sleep after_add after_wake after_claim after_lend after_shift after_end_walk after_take after_give
   order_kept (Stamps t e) g = λ d.
       let ws : List Waiter = (s.lists (chan_queue d)).exclusive in
-      in_order-map s.history (entry_of s t e ∷ s.history) ws (everybody d t e g) (h.sleepers_in_order d)
-    where
-      all_of : (P : Waiter → Type 0) (ws : List Waiter) → ((w : Waiter) → 1 ≤ times_waiting w.thread ws → P w) → Each P ws
-      all_of P ws f = each-map (λ w. Unit {0}) P ws (λ w i u. f w i) (units ws)
-        where
-          units : (ws : List Waiter) → Each (λ w. Unit {0}) ws
-          units [] = tt
-          units (w ∷ ws) = (tt, units ws)
-
-      everybody : (d t : ℕ) (e : Event) → MayStamp c s t e → Each (λ w. entries_up_to (entry_of s t e ∷ s.history) w.thread ≡ entries_up_to s.history w.thread) (s.lists (chan_queue d)).exclusive
-      everybody d t e g = all_of (λ w. entries_up_to (entry_of s t e ∷ s.history) w.thread ≡ entries_up_to s.history w.thread) (s.lists (chan_queue d)).exclusive (λ w i. up_to_other c (entry_of s t e) s.history w.thread (stands_apart c s t d w.thread l g.acting.unnamed i))
+      in_order-map s.history (entry_of s t e ∷ s.history) ws (each_all (λ w. entries_up_to (entry_of s t e ∷ s.history) w.thread ≡ entries_up_to s.history w.thread) ws (λ w i. up_to_other c (entry_of s t e) s.history w.thread (stands_apart c s t d w.thread l g.acting.unnamed i))) (h.sleepers_in_order d)
   order_kept (Adds t k x) g =
       let new : Waiter = record { thread = t; kept = s.base t } in
       at_put_chan (λ d q. InOrder s.history q.exclusive) s.lists k (record (s.lists (chan_queue k)) { exclusive = with_last new (s.lists (chan_queue k)).exclusive })
@@ -83,3 +85,66 @@ module _ (chains : ℕ) (c : Config) (s : State) (l : Lawful c s) (h : SleepersF
       (in_order-left s.history all (s.lists (chan_queue k)).exclusive (h.sleepers_in_order k))
       h.sleepers_in_order
   order_kept other g = h.sleepers_in_order
+
+  -- 2. Latecomers
+
+  pub later_kept : (step : Step) → May c s step → HasOut chains c s step → LatecomersAreLater (after c s step).history (after c s step).blocked_on (after c s step).lists
+  unfolding LatecomersAreLater put_queue after_seek after_look after_gain after_drop after_stamp after_ready after_unready after_enter after_open after_mark after_resume after_enter_sleep after_open_sleep after_add after_wake after_claim after_lend after_shift after_end_walk after_take after_give
+  later_kept (Stamps t e) g o = λ u d a b.
+      let es : List Entry = s.history in
+      let ws : List Waiter = (s.lists (chan_queue d)).exclusive in
+      elim (cases_eq t u) [
+        | inl x ↦ each_all (λ w. entries_up_to (entry_of s t e ∷ es) w.thread < entries_up_to (entry_of s t e ∷ es) u) ws (λ w i.
+            let p = up_to_other c (entry_of s t e) es w.thread (stands_apart c s t d w.thread l g.acting.unnamed i) in
+            let q = up_to_own c (entry_of s t e) es u x in
+            omega (arith, up_to_most es w.thread))
+        | inr x ↦ each-map (λ w. entries_up_to es w.thread < entries_up_to es u) (λ w. entries_up_to (entry_of s t e ∷ es) w.thread < entries_up_to (entry_of s t e ∷ es) u) ws (λ w i r.
+            let p = up_to_other c (entry_of s t e) es w.thread (stands_apart c s t d w.thread l g.acting.unnamed i) in
+            let q = up_to_other c (entry_of s t e) es u x in
+            omega arith)
+            (h.latecomers_are_later u d (still_asleep c (entry_of s t e) es u x d a) b)
+      ]
+  later_kept (Enters t k mode y) g o = λ u d a b. h.latecomers_are_later u d a (elsewhere s t u (lock_queue k) b)
+  later_kept (EntersSleepQueue t k mode y) g o = λ u d a b. h.latecomers_are_later u d a (elsewhere s t u (lock_queue k) b)
+  later_kept (Adds t k y) g o = λ u d a b.
+      let new : Waiter = record { thread = t; kept = s.base t } in
+      let n : s.blocked_on u ≡ None = elsewhere s t u (chan_queue k) b in
+      elim (cases_eq k d) [
+        | inl x ↦ absurd (
+            let z : Some t ≡ Some u = sym o.0 ∙ ap (λ i. s.sleep_chain_with (i % chains)) x ∙ has_its_chain chains c s l h u d a n in
+            let same : t ≡ u = cc in
+            let f : Some (chan_queue k) ≡ None = sym (put_same s.blocked_on t (Some (chan_queue k))) ∙ ap (put s.blocked_on t (Some (chan_queue k))) same ∙ b in
+            cc)
+        | inr x ↦ rw (put_chan_other s.lists k (record (s.lists (chan_queue k)) { exclusive = with_last new (s.lists (chan_queue k)).exclusive }) d x) (h.latecomers_are_later u d a n)
+      ]
+  later_kept (Wakes t k all) g o = λ u d a b.
+      at_put_chan (λ i q. is_asleep s.history i u ≡ true → Each (λ w. entries_up_to s.history w.thread < entries_up_to s.history u) q.exclusive) s.lists k (record (s.lists (chan_queue k)) { exclusive = left_on all (s.lists (chan_queue k)).exclusive })
+      (λ x. each-left (λ w. entries_up_to s.history w.thread < entries_up_to s.history u) all (s.lists (chan_queue k)).exclusive (h.latecomers_are_later u k x b))
+      (λ i x. h.latecomers_are_later u i x b) d a
+  later_kept (Marks t m ms) g o = λ u d a b. elim (cases_eq m.thread u) [
+    | inl z ↦ absurd (marked_awake chains c s l h t m ms g d (ap (is_asleep s.history d) z ∙ a))
+    | inr z ↦ h.latecomers_are_later u d a (sym (put_other s.blocked_on m.thread None u z) ∙ b)
+  ]
+  later_kept other g o = h.latecomers_are_later
+
+  -- 3. Kept priorities, and sides
+
+  pub base_kept : (step : Step) → May c s step → SleepersKeepBase (after c s step).base (after c s step).lists
+  unfolding SleepersKeepBase put_queue after_seek after_look after_gain after_drop after_stamp after_ready after_unready after_enter after_open after_mark after_resume after_enter_sleep after_open_sleep after_add after_wake after_claim after_lend after_shift after_end_walk after_take after_give
+  base_kept (Stamps t e) g = λ d. each-map (λ w. w.kept ≡ s.base w.thread) (λ w. w.kept ≡ base_after e t s.base w.thread) (s.lists (chan_queue d)).exclusive (λ w i p. p ∙ sym (others_base e t s.base w.thread (stands_apart c s t d w.thread l g.acting.unnamed i))) (h.sleepers_keep_base d)
+  base_kept (Adds t k x) g =
+      let new : Waiter = record { thread = t; kept = s.base t } in
+      at_put_chan (λ d q. Each (λ w. w.kept ≡ s.base w.thread) q.exclusive) s.lists k (record (s.lists (chan_queue k)) { exclusive = with_last new (s.lists (chan_queue k)).exclusive })
+      (each-last (λ w. w.kept ≡ s.base w.thread) new (s.lists (chan_queue k)).exclusive refl (h.sleepers_keep_base k))
+      h.sleepers_keep_base
+  base_kept (Wakes t k all) g =
+      at_put_chan (λ d q. Each (λ w. w.kept ≡ s.base w.thread) q.exclusive) s.lists k (record (s.lists (chan_queue k)) { exclusive = left_on all (s.lists (chan_queue k)).exclusive })
+      (each-left (λ w. w.kept ≡ s.base w.thread) all (s.lists (chan_queue k)).exclusive (h.sleepers_keep_base k))
+      h.sleepers_keep_base
+  base_kept other g = h.sleepers_keep_base
+
+  pub sides_kept : (step : Step) → SleepersAreExclusive (after c s step).lists
+  unfolding SleepersAreExclusive put_queue after_seek after_look after_gain after_drop after_stamp after_ready after_unready after_enter after_open after_mark after_resume after_enter_sleep after_open_sleep after_add after_wake after_claim after_lend after_shift after_end_walk after_take after_give
+  sides_kept (Adds t k x) = at_put_chan (λ d q. q.shared ≡ []) s.lists k (record (s.lists (chan_queue k)) { exclusive = with_last (record { thread = t; kept = s.base t }) (s.lists (chan_queue k)).exclusive }) (h.sleepers_are_exclusive k) h.sleepers_are_exclusive
+  sides_kept (Wakes t k all) = at_put_chan (λ d q. q.shared ≡ []) s.lists k (record (s.lists (chan_queue k)) { exclusive = left_on all (s.lists (chan_queue k)).exclusive }) (h.sleepers_are_exclusive k) h.sleepers_are_exclusive
+  sides_kept other = h.sleepers_are_exclusive
