@@ -8,3 +8,4 @@ pub mod Signals
 pub mod Standing
 pub mod Best
 pub mod Order
+pub mod Fair

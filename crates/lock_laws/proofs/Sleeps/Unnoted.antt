@@ -112,7 +112,7 @@ module _ (c : Config) (s : State) (t d : ℕ) (all : Bool) (g : MayWake c s t d 
   abbrev ms : List Mark
   ms = dealt (chan_queue d) ws (s.free_list (chan_queue d)) (s.head (chan_queue d))
 
-  abbrev now : Wake
+  abbrev pub now : Wake
   now = record { chan = d; all = all; taken = map (λ w. w.thread) ws }
 
   pub fits : length ws ≤ length (s.free_list (chan_queue d)) + some (s.head (chan_queue d))
