@@ -10,6 +10,7 @@ pub mod Best
 pub mod Order
 pub mod Fair
 pub mod Waking
+pub mod Found
 use Rattle.std.proofs.Common.{◌≡◌, ℕ, true, refl, sym, arith, subst}
 use Rattle.lock_model.specs.Config.{Config}
 use Rattle.lock_model.specs.Law.{is_asleep, is_named, is_passed_over, WakingsNameSleepers}
@@ -18,13 +19,13 @@ use Rattle.lock_state.specs.Facts.{LawfulFloor}
 use Rattle.lock_state.specs.Steps.{Step, May, HasOut, HasSeen, after, IsFloorStep}
 use Rattle.lock_laws.specs.Sleepers.{SleepersFit, NamedAreWoken, MarksAreSignals, WokenBySignal, NoSleepIsHalted, SleepersSlept, SleepersWantNothing, SleepersAreUnwoken, AsleepStandThere, AsleepAreOnTheirWay, SleepersInOrder, LatecomersAreLater, SleepersKeepBase, SleepersAreExclusive, UnnotedAreMarked, UnnotedHasChain, UnnotedIsFair, NobodyIsPassedOver}
 use Rattle.lock_laws.proofs.Kit.{sum_below-zero}
-use Rattle.lock_laws.proofs.Sleeps.Unnoted.{marked_kept}
-use Rattle.lock_laws.proofs.Sleeps.Named.{named_kept}
-use Rattle.lock_laws.proofs.Sleeps.Signals.{signals_kept, causes_kept, notes_kept}
-use Rattle.lock_laws.proofs.Sleeps.Standing.{slept_kept, nothing_kept, unwoken_kept, there_kept, way_kept}
-use Rattle.lock_laws.proofs.Sleeps.Order.{order_kept, later_kept, base_kept, sides_kept}
-use Rattle.lock_laws.proofs.Sleeps.Fair.{chain_kept, fair_kept}
-use Rattle.lock_laws.proofs.Sleeps.Waking.{nobody_kept, law_kept}
+use Rattle.lock_laws.proofs.SleepFacts.Unnoted.{marked_kept}
+use Rattle.lock_laws.proofs.SleepFacts.Named.{named_kept}
+use Rattle.lock_laws.proofs.SleepFacts.Signals.{signals_kept, causes_kept, notes_kept}
+use Rattle.lock_laws.proofs.SleepFacts.Standing.{slept_kept, nothing_kept, unwoken_kept, there_kept, way_kept}
+use Rattle.lock_laws.proofs.SleepFacts.Order.{order_kept, later_kept, base_kept, sides_kept}
+use Rattle.lock_laws.proofs.SleepFacts.Fair.{chain_kept, fair_kept}
+use Rattle.lock_laws.proofs.SleepFacts.Waking.{nobody_kept, law_kept}
 
 pub begins : (chains : ℕ) (c : Config) → SleepersFit chains c (start_state c)
 unfolding start_state NamedAreWoken MarksAreSignals WokenBySignal NoSleepIsHalted SleepersSlept SleepersWantNothing SleepersAreUnwoken AsleepStandThere AsleepAreOnTheirWay SleepersInOrder LatecomersAreLater SleepersKeepBase SleepersAreExclusive UnnotedAreMarked UnnotedHasChain UnnotedIsFair WakingsNameSleepers NobodyIsPassedOver is_asleep is_named is_passed_over

@@ -24,14 +24,14 @@ use Rattle.lock_state.specs.Facts.Sleeps.{signals, signals_noted, NamedAreWoken,
 use Rattle.lock_laws.specs.Sleepers.{SleepersFit}
 use Rattle.lock_laws.proofs.Kit.{sum_below-at, sum_below-zero, is_queue_same}
 use Rattle.lock_laws.proofs.Standing.{times_named}
-use Rattle.lock_laws.proofs.Sleeps.Bits.{no_bits}
-use Rattle.lock_laws.proofs.Sleeps.Best.{each_at}
-use Rattle.lock_laws.proofs.Sleeps.Entries.{asleep_unnamed, passed_own, passed_other}
-use Rattle.lock_laws.proofs.Sleeps.Fair.{its_thread}
-use Rattle.lock_laws.proofs.Sleeps.Marks.{marks_signal, same_queue}
-use Rattle.lock_laws.proofs.Sleeps.Named.{named_is}
-use Rattle.lock_laws.proofs.Sleeps.Standing.{has_its_chain}
-use Rattle.lock_laws.proofs.Sleeps.Unnoted.{taken_asleep}
+use Rattle.lock_laws.proofs.SleepFacts.Bits.{no_bits}
+use Rattle.lock_laws.proofs.SleepFacts.Best.{each_at}
+use Rattle.lock_laws.proofs.SleepFacts.Entries.{asleep_unnamed, passed_own, passed_other}
+use Rattle.lock_laws.proofs.SleepFacts.Fair.{its_thread}
+use Rattle.lock_laws.proofs.SleepFacts.Marks.{marks_signal, same_queue}
+use Rattle.lock_laws.proofs.SleepFacts.Named.{named_is}
+use Rattle.lock_laws.proofs.SleepFacts.Standing.{has_its_chain}
+use Rattle.lock_laws.proofs.SleepFacts.Unnoted.{taken_asleep}
 
 any_below-none : (n : ℕ) (f : ℕ → Bool) → ((j : ℕ) → f j ≡ false) → any_below n f ≡ false
 unfolding any_below
