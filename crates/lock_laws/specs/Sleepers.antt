@@ -1,5 +1,5 @@
 -- Sleepers of a running floor: the channels' queues fit the entries of the history, and each waking takes whom it may.
-use Rattle.std.specs.Prelude.{◌≡◌, ◌⊎◌, ℕ, ◌%◌, ◌≤◌, Option, Some, None}
+use Rattle.std.specs.Prelude.{◌≡◌, ◌⊎◌, ℕ, ◌%◌, ◌≤◌, Some}
 use Rattle.lock_model.specs.Config.{Config}
 use Rattle.lock_model.specs.Law.{WakingsNameSleepers}
 use Rattle.lock_model.specs.Queues.{chan_queue, stands}

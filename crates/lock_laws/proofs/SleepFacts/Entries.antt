@@ -1,8 +1,8 @@
 -- What an entry changes of who sleeps behind a history, who was named, and whose sleep is longer.
-use Rattle.std.proofs.Common.{◌≡◌, ◌≢◌, ℕ, suc, ◌<◌, ◌≤◌, Bool, true, false, not, cond, eqb, nat_lt, ◌&&◌, ◌||◌, List, [], ◌∷◌, length, refl, sym, ap, inl, inr, arith, eq-eqb, ◌∙◌, subst}
-use Rattle.std.proofs.lemmas.Bool.{cases_eq, eqb-true, ne_eqb}
+use Rattle.std.proofs.Common.{◌≡◌, ◌≢◌, ℕ, suc, ◌≤◌, Bool, true, false, not, cond, eqb, ◌&&◌, ◌||◌, List, [], ◌∷◌, length, refl, sym, arith, eq-eqb, ◌∙◌}
+use Rattle.std.proofs.lemmas.Bool.{eqb-true, ne_eqb}
 use Rattle.lock_model.specs.Config.{Config}
-use Rattle.lock_model.specs.History.{entries_of, base_in, base_by}
+use Rattle.lock_model.specs.History.{entries_of, base_in}
 use Rattle.lock_model.specs.Law.{is_asleep, is_named, is_passed_over, entries_up_to, wakes, sleeps_on, passes_over, goes_before}
 use Rattle.lock_model.specs.declared.event.Event.{Event}
 use Rattle.lock_model.specs.declared.event.Event.TheVariants.{Sleeps}

@@ -1,19 +1,17 @@
 -- A wake that is not noted yet keeps the channel's chain, and leaves nobody whom it should have taken.
-use Rattle.std.proofs.Common.{◌≡◌, ◌≢◌, ℕ, ◌+◌, ◌%◌, ◌<◌, ◌≤◌, Bool, true, false, eqb, List, [], ◌∷◌, map, Option, Some, None, refl, sym, ap, inl, inr, arith, eq-eqb, ◌∙◌, subst}
+use Rattle.std.proofs.Common.{◌≡◌, ◌≢◌, ℕ, ◌%◌, ◌<◌, ◌≤◌, Bool, true, false, List, [], ◌∷◌, Option, Some, None, refl, sym, ap, inl, inr, arith, eq-eqb, ◌∙◌, subst}
 use Rattle.std.proofs.lemmas.Bool.{cases_eq}
 use Rattle.lock_model.specs.Config.{Config}
-use Rattle.lock_model.specs.Counts.{one, times}
+use Rattle.lock_model.specs.Counts.{times}
 use Rattle.lock_model.specs.History.{base_in}
 use Rattle.lock_model.specs.Law.{goes_before}
-use Rattle.lock_model.specs.Queues.{Waiter, Lists, chan_queue, times_waiting}
-use Rattle.lock_model.specs.declared.plan.QueueName.{QueueName}
+use Rattle.lock_model.specs.Queues.{Waiter, Lists, chan_queue}
 use Rattle.lock_model.specs.declared.event.Event.{Event}
 use Rattle.lock_model.specs.declared.event.Event.TheVariants.{WokeOne, WokeAll}
-use Rattle.lock_model.specs.declared.event.Entry.{Entry}
 use Rattle.lock_state.specs.State.{State, Wake, put, put_queue}
 use Rattle.lock_state.specs.Steps.LockWords.{entry_of, unstamped_after, after_seek, after_look, after_gain, after_drop, after_stamp, after_ready, after_unready}
 use Rattle.lock_state.specs.Steps.Turnstiles.{after_enter, after_open, after_mark, after_resume}
-use Rattle.lock_state.specs.Steps.SleepQueues.{with_last, taken_off, left_on, after_enter_sleep, after_open_sleep, after_add, after_wake}
+use Rattle.lock_state.specs.Steps.SleepQueues.{with_last, left_on, after_enter_sleep, after_open_sleep, after_add, after_wake}
 use Rattle.lock_state.specs.Steps.Lending.{after_claim, after_lend, after_shift, after_end_walk}
 use Rattle.lock_state.specs.Steps.Items.{after_take, after_give}
 use Rattle.lock_state.specs.Steps.{Step, TakesItem, GivesItem, Stamps, Adds, Wakes, May, HasOut, HasSeen, after}
@@ -78,9 +76,11 @@ module _ (chains : ℕ) (c : Config) (s : State) (l : Lawful c s) (h : SleepersF
     stamped_fair true us i p = p
     stamped_fair false [] i p = p
     stamped_fair false (u ∷ us) i p =
-        let k : 1 ≤ times u w.taken = rw (← i, eq-eqb u u refl) (omega arith) in
-        (p.0, each-map (λ x. goes_before c s.history x.thread u ≡ false) (λ x. goes_before c (entry_of s t e ∷ s.history) x.thread u ≡ false) list
-            (λ x j q. goes_before_other c (entry_of s t e) s.history x.thread u (stands_apart c s t w.chan x.thread l unnamed j) (apart u k) ∙ q) p.1)
+        let k : 1 ≤ times u w.taken = rw (← i, eq-eqb u u refl) (omega arith) in (
+          p.0,
+          each-map (λ x. goes_before c s.history x.thread u ≡ false) (λ x. goes_before c (entry_of s t e ∷ s.history) x.thread u ≡ false) list
+              (λ x j q. goes_before_other c (entry_of s t e) s.history x.thread u (stands_apart c s t w.chan x.thread l unnamed j) (apart u k) ∙ q) p.1,
+        )
 
   pub fair_kept : (step : Step) → May c s step → HasOut chains c s step → HasSeen chains c s step → UnnotedIsFair c (after c s step).history (after c s step).unstamped (after c s step).lists
   unfolding UnnotedIsFair SleepersInOrder SleepersKeepBase BasesReplay put_queue after_seek after_look after_gain after_drop after_stamp after_ready after_unready after_enter after_open after_mark after_resume after_enter_sleep after_open_sleep after_add after_wake after_claim after_lend after_shift after_end_walk after_take after_give
@@ -100,7 +100,7 @@ module _ (chains : ℕ) (c : Config) (s : State) (l : Lawful c s) (h : SleepersF
             let z : now c s t d all g l ≡ w = wake_is c s t d all g l w (ap (put s.unstamped t (Some (now c s t d all g l))) y ∙ f) in
             let k : Each (λ q. q.kept ≡ base_in c s.history q.thread) ws = each-map (λ q. q.kept ≡ s.base q.thread) (λ q. q.kept ≡ base_in c s.history q.thread) ws (λ q i p. p ∙ l.bases_replay q.thread) (h.sleepers_keep_base d) in
             subst (λ q. LeavesNobodyBefore c s.history q.all q.taken (put_queue s.lists (chan_queue d) stay (chan_queue q.chan)).exclusive) z
-                (rw (put_chan_same s.lists d stay) (wake_fair c s.history all ws (h.sleepers_in_order d) k))
+            (rw (put_chan_same s.lists d stay) (wake_fair c s.history all ws (h.sleepers_in_order d) k))
         | inr y ↦
             let i : s.unstamped v ≡ Some w = sym (put_other s.unstamped t (Some (now c s t d all g l)) v y) ∙ f in
             elim (cases_eq d w.chan) [

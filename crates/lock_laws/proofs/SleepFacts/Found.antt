@@ -1,8 +1,8 @@
 -- Who stands on a channel's queue sleeps in the history, and who sleeps in the history is found there, or with the channel's chain.
-use Rattle.std.proofs.Common.{◌≡◌, ℕ, zero, suc, ◌+◌, ◌%◌, ◌<◌, ◌≤◌, Bool, true, false, Option, Some, None, refl, sym, ap, inl, inr, arith, ◌∙◌, subst}
+use Rattle.std.proofs.Common.{◌≡◌, ℕ, zero, suc, ◌%◌, ◌<◌, ◌≤◌, Bool, true, false, Option, Some, None, refl, sym, ap, inl, inr, arith, ◌∙◌}
 use Rattle.std.proofs.lemmas.Bool.{cases_eq}
 use Rattle.lock_model.specs.Config.{Config}
-use Rattle.lock_model.specs.Counts.{sum_below, one, some, times}
+use Rattle.lock_model.specs.Counts.{sum_below, one, some}
 use Rattle.lock_model.specs.Law.{is_asleep, is_named}
 use Rattle.lock_model.specs.Queues.{chan_queue, stands}
 use Rattle.lock_model.specs.declared.plan.QueueName.{QueueName}

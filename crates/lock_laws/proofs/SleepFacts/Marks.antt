@@ -2,7 +2,7 @@
 use Rattle.std.proofs.Common.{◌≡◌, ℕ, ◌+◌, ◌<◌, ◌≤◌, Bool, true, false, cond, eqb, ◌&&◌, List, [], ◌∷◌, map, length, Option, Some, None, refl, sym, ap, inl, inr, arith, eq-eqb, ◌∙◌}
 use Rattle.std.proofs.lemmas.Bool.{cases_eq, ne_eqb}
 use Rattle.lock_model.specs.Config.{Config}
-use Rattle.lock_model.specs.Counts.{sum_below, one, some, times}
+use Rattle.lock_model.specs.Counts.{one, some, times}
 use Rattle.lock_model.specs.Queues.{Waiter, Mark, is_queue, lock_queue, chan_queue, dealt, times_waiting}
 use Rattle.lock_model.specs.declared.plan.QueueName.{QueueName}
 use Rattle.lock_model.specs.declared.plan.QueueName.TheVariants.{Lock, Chan}
@@ -10,7 +10,7 @@ use Rattle.lock_state.specs.State.{State, Wake, Woken}
 use Rattle.lock_state.specs.Facts.{Lawful, StandsOnce}
 use Rattle.lock_state.specs.Facts.Waits.{is_signal, times_marked, at_queue}
 use Rattle.lock_state.specs.Facts.Sleeps.{is_chan, signals, signals_noted, is_signalled, AreSignals}
-use Rattle.lock_laws.proofs.Kit.{sum_below-at, sum_below-two, is_queue_same, is_queue_true}
+use Rattle.lock_laws.proofs.Kit.{sum_below-at, sum_below-two, is_queue_same}
 use Rattle.lock_laws.proofs.Standing.{times_named}
 
 -- 1. Those that are dealt

@@ -1,10 +1,10 @@
 -- A thread that a waking named since its last entry is, once, in a marked list or woken, or has resumed.
-use Rattle.std.proofs.Common.{◌≡◌, ◌≢◌, ℕ, ◌+◌, ◌<◌, ◌≤◌, Bool, true, false, cond, eqb, ◌||◌, List, [], ◌∷◌, map, length, Option, Some, None, refl, sym, ap, inl, inr, arith, eq-eqb, ◌∙◌, subst}
+use Rattle.std.proofs.Common.{◌≡◌, ℕ, ◌+◌, ◌<◌, ◌≤◌, Bool, true, false, cond, eqb, ◌||◌, List, [], ◌∷◌, Option, Some, None, refl, sym, ap, inl, inr, arith, eq-eqb, ◌∙◌}
 use Rattle.std.proofs.lemmas.Bool.{cases_eq, ne_eqb}
 use Rattle.lock_model.specs.Config.{Config}
 use Rattle.lock_model.specs.Counts.{sum_below, one, some, times}
 use Rattle.lock_model.specs.Law.{is_named, has_bit, wakes}
-use Rattle.lock_model.specs.Queues.{Cause, BySignal, ByAbort, Waiter, Mark, lock_queue, chan_queue, dealt}
+use Rattle.lock_model.specs.Queues.{Cause, BySignal, ByAbort, Mark, lock_queue}
 use Rattle.lock_model.specs.declared.plan.QueueName.{QueueName}
 use Rattle.lock_model.specs.declared.plan.QueueName.TheVariants.{Lock, Chan}
 use Rattle.lock_model.specs.declared.event.Event.{Event}
@@ -12,7 +12,7 @@ use Rattle.lock_model.specs.declared.event.Event.TheVariants.{WokeOne, WokeAll}
 use Rattle.lock_state.specs.State.{State, Wait, Running, Queued, Woken, Wake, put}
 use Rattle.lock_state.specs.Steps.LockWords.{MayStamp, IsTheWake, bits_of_threads, entry_of, unstamped_after, is_woken, after_seek, after_look, after_gain, after_drop, after_stamp, after_ready, after_unready}
 use Rattle.lock_state.specs.Steps.Turnstiles.{MayMark, MayResume, woken_from_by, after_enter, after_open, after_mark, after_resume}
-use Rattle.lock_state.specs.Steps.SleepQueues.{MayWake, after_enter_sleep, after_open_sleep, after_add, after_wake, taken_off}
+use Rattle.lock_state.specs.Steps.SleepQueues.{after_enter_sleep, after_open_sleep, after_add, after_wake}
 use Rattle.lock_state.specs.Steps.Lending.{after_claim, after_lend, after_shift, after_end_walk}
 use Rattle.lock_state.specs.Steps.Items.{after_take, after_give}
 use Rattle.lock_state.specs.Steps.{Step, Stamps, Readies, Unreadies, Opens, OpensSleepQueue, Wakes, Marks, Resumes, May, after}

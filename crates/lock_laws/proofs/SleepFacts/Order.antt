@@ -1,18 +1,18 @@
 -- Sleepers stand on a channel's queue in the order of their sleeps, each with its base priority, and who is on its way comes last.
-use Rattle.std.proofs.Common.{◌≡◌, ◌≢◌, ℕ, suc, ◌+◌, ◌%◌, ◌<◌, ◌≤◌, Bool, true, false, List, [], ◌∷◌, length, Option, Some, None, refl, sym, ap, inl, inr, arith, ◌∙◌, subst}
+use Rattle.std.proofs.Common.{◌≡◌, ◌≢◌, ℕ, ◌%◌, ◌<◌, ◌≤◌, Bool, true, false, List, [], ◌∷◌, Some, None, refl, sym, ap, inl, inr, arith, ◌∙◌, subst}
 use Rattle.std.proofs.lemmas.Bool.{cases_eq}
 use Rattle.lock_model.specs.Config.{Config}
-use Rattle.lock_model.specs.Counts.{sum_below, one, some}
+use Rattle.lock_model.specs.Counts.{one, some}
 use Rattle.lock_model.specs.Law.{is_asleep, is_named, entries_up_to}
-use Rattle.lock_model.specs.Queues.{Waiter, Lists, Mark, lock_queue, chan_queue, stands, times_waiting}
+use Rattle.lock_model.specs.Queues.{Waiter, Lists, lock_queue, chan_queue, times_waiting}
 use Rattle.lock_model.specs.declared.plan.QueueName.{QueueName}
 use Rattle.lock_model.specs.declared.event.Event.{Event}
 use Rattle.lock_model.specs.declared.event.Event.TheVariants.{Base}
 use Rattle.lock_model.specs.declared.event.Entry.{Entry}
 use Rattle.lock_state.specs.State.{State, put, put_queue}
-use Rattle.lock_state.specs.Steps.LockWords.{MayStamp, entry_of, base_after, after_seek, after_look, after_gain, after_drop, after_stamp, after_ready, after_unready}
+use Rattle.lock_state.specs.Steps.LockWords.{entry_of, base_after, after_seek, after_look, after_gain, after_drop, after_stamp, after_ready, after_unready}
 use Rattle.lock_state.specs.Steps.Turnstiles.{after_enter, after_open, after_mark, after_resume}
-use Rattle.lock_state.specs.Steps.SleepQueues.{MayAdd, MayWake, has_slept, with_last, left_on, after_enter_sleep, after_open_sleep, after_add, after_wake}
+use Rattle.lock_state.specs.Steps.SleepQueues.{MayAdd, has_slept, with_last, left_on, after_enter_sleep, after_open_sleep, after_add, after_wake}
 use Rattle.lock_state.specs.Steps.Lending.{after_claim, after_lend, after_shift, after_end_walk}
 use Rattle.lock_state.specs.Steps.Items.{after_take, after_give}
 use Rattle.lock_state.specs.Steps.{Step, Stamps, Enters, EntersSleepQueue, Adds, Wakes, Marks, May, HasOut, after}

@@ -1,28 +1,26 @@
 -- Who stands on a channel's queue sleeps behind its Sleeps entry and wants nothing, and who sleeps stands there or is on its way.
-use Rattle.std.proofs.Common.{◌≡◌, ◌≢◌, ℕ, ◌+◌, ◌%◌, ◌<◌, ◌≤◌, Bool, true, false, eqb, ◌&&◌, List, [], ◌∷◌, Option, Some, None, refl, sym, ap, inl, inr, arith, eq-eqb, ◌∙◌, subst}
+use Rattle.std.proofs.Common.{◌≡◌, ◌≢◌, ℕ, ◌%◌, ◌≤◌, true, List, ◌∷◌, Option, Some, None, refl, sym, ap, inl, inr, arith, eq-eqb, ◌∙◌, subst}
 use Rattle.std.proofs.lemmas.Bool.{cases_eq, eqb-true}
 use Rattle.lock_model.specs.Config.{Config}
-use Rattle.lock_model.specs.Counts.{sum_below, one, some}
-use Rattle.lock_model.specs.History.{entries_of}
-use Rattle.lock_model.specs.Law.{is_asleep, is_named, sleeps_on}
-use Rattle.lock_model.specs.Queues.{Cause, BySignal, Mark, lock_queue, chan_queue}
+use Rattle.lock_model.specs.Counts.{one}
+use Rattle.lock_model.specs.Law.{is_asleep, sleeps_on}
+use Rattle.lock_model.specs.Queues.{BySignal, Mark, lock_queue, chan_queue}
 use Rattle.lock_model.specs.declared.plan.QueueName.{QueueName}
 use Rattle.lock_model.specs.declared.plan.QueueName.TheVariants.{Lock, Chan}
 use Rattle.lock_model.specs.declared.event.Event.{Event}
 use Rattle.lock_model.specs.declared.event.Event.TheVariants.{Sleeps}
-use Rattle.lock_model.specs.declared.event.Entry.{Entry}
-use Rattle.lock_state.specs.State.{State, Wait, Running, Queued, Woken, put}
+use Rattle.lock_state.specs.State.{State, Running, Queued, Woken, put}
 use Rattle.lock_state.specs.Steps.LockWords.{MayStamp, entry_of, after_seek, after_look, after_gain, after_drop, after_stamp, after_ready, after_unready}
-use Rattle.lock_state.specs.Steps.Turnstiles.{MayMark, MayResume, after_enter, after_open, after_mark, after_resume}
-use Rattle.lock_state.specs.Steps.SleepQueues.{MayAdd, has_slept, after_enter_sleep, after_open_sleep, after_add, after_wake}
+use Rattle.lock_state.specs.Steps.Turnstiles.{MayMark, after_enter, after_open, after_mark, after_resume}
+use Rattle.lock_state.specs.Steps.SleepQueues.{has_slept, after_enter_sleep, after_open_sleep, after_add, after_wake}
 use Rattle.lock_state.specs.Steps.Lending.{after_claim, after_lend, after_shift, after_end_walk}
 use Rattle.lock_state.specs.Steps.Items.{Item, SleepChain, IsOnItsWay, IsDoneWith, MayTake, MayGive, item_with, sleep_chains_after, after_take, after_give}
-use Rattle.lock_state.specs.Steps.{Step, Seeks, TakesItem, GivesItem, Gains, Stamps, Readies, Unreadies, Enters, EntersSleepQueue, Adds, Marks, Resumes, Claims, May, HasOut, HasOutForEntry, HasSeen, after}
-use Rattle.lock_state.specs.Facts.{Lawful, StandingIsQueued, LogsAreParts}
-use Rattle.lock_state.specs.Facts.Sleeps.{signals, signals_noted, is_signalled, AreSignals, NamedAreWoken, MarksAreSignals, SleepersSlept, SleepersWantNothing, SleepersAreUnwoken, AsleepStandThere, AsleepAreOnTheirWay}
+use Rattle.lock_state.specs.Steps.{Step, TakesItem, GivesItem, Gains, Stamps, Readies, Unreadies, Enters, EntersSleepQueue, Adds, Marks, Resumes, Claims, May, HasOut, HasOutForEntry, HasSeen, after}
+use Rattle.lock_state.specs.Facts.{Lawful, LogsAreParts}
+use Rattle.lock_state.specs.Facts.Sleeps.{signals, signals_noted, AreSignals, NamedAreWoken, MarksAreSignals, SleepersSlept, SleepersWantNothing, SleepersAreUnwoken, AsleepStandThere, AsleepAreOnTheirWay}
 use Rattle.lock_laws.specs.Sleepers.{SleepersFit}
 use Rattle.lock_laws.proofs.Kit.{columns, put_same, put_other, sum_below-at}
-use Rattle.lock_laws.proofs.Items.{beside, at_itself, with_then}
+use Rattle.lock_laws.proofs.Items.{beside}
 use Rattle.lock_laws.proofs.Mark as mark
 use Rattle.lock_laws.proofs.Resume as resume
 use Rattle.lock_laws.proofs.SleepFacts.Entries.{asleep_slept, asleep_unnamed, one_channel, slept_back, asleep_own, still_asleep}
@@ -194,14 +192,22 @@ module _ (chains : ℕ) (c : Config) (s : State) (l : Lawful c s) (h : SleepersF
     | inl y ↦ subst (λ v. (s.wait v ≡ Queued) × (s.wanted v ≡ None) × (s.sleep_chain_with (d % chains) ≡ Some v)) y (goes_to t e g o d (sym (asleep_own c (entry_of s t e) s.history t refl d) ∙ ap (is_asleep (entry_of s t e ∷ s.history) d) y ∙ a))
     | inr y ↦ h.asleep_are_on_their_way u d (still_asleep c (entry_of s t e) s.history u y d a) b
   ]
-  way_kept (Readies t q) g o x = λ u d a b. let p = h.asleep_are_on_their_way u d a b in (elim (cases_eq t u) [
-    | inl y ↦ ap (put s.wait t Queued) (sym y) ∙ put_same s.wait t Queued
-    | inr y ↦ put_other s.wait t Queued u y ∙ p.0
-  ], p.1, p.2)
-  way_kept (Unreadies t q) g o x = λ u d a b. let p = h.asleep_are_on_their_way u d a b in (elim (cases_eq t u) [
-    | inl y ↦ absurd (x (on_its_way t d (ap (is_asleep s.history d) y ∙ a) (ap s.blocked_on y ∙ b)))
-    | inr y ↦ put_other s.wait t Running u y ∙ p.0
-  ], p.1, p.2)
+  way_kept (Readies t q) g o x = λ u d a b. let p = h.asleep_are_on_their_way u d a b in (
+    elim (cases_eq t u) [
+      | inl y ↦ ap (put s.wait t Queued) (sym y) ∙ put_same s.wait t Queued
+      | inr y ↦ put_other s.wait t Queued u y ∙ p.0
+    ],
+    p.1,
+    p.2,
+  )
+  way_kept (Unreadies t q) g o x = λ u d a b. let p = h.asleep_are_on_their_way u d a b in (
+    elim (cases_eq t u) [
+      | inl y ↦ absurd (x (on_its_way t d (ap (is_asleep s.history d) y ∙ a) (ap s.blocked_on y ∙ b)))
+      | inr y ↦ put_other s.wait t Running u y ∙ p.0
+    ],
+    p.1,
+    p.2,
+  )
   way_kept (Gains t k mode by_try) g o x = λ u d a b. let p = h.asleep_are_on_their_way u d a b in (p.0, none_put s.wanted t u p.1, p.2)
   way_kept (Claims t k y by_try) g o x = λ u d a b. let p = h.asleep_are_on_their_way u d a b in (p.0, none_put s.wanted t u p.1, p.2)
   way_kept (Enters t k mode y) g o x = λ u d a b. elim (cases_eq t u) [

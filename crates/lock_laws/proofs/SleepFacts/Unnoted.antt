@@ -1,12 +1,10 @@
 -- A wake that is not noted yet: whom it took is in its thread's marked list, and sleeps on in the history until the wake is noted.
-use Rattle.std.proofs.Common.{◌≡◌, ℕ, ◌+◌, ◌<◌, ◌≤◌, Bool, true, false, List, [], ◌∷◌, map, length, Option, Some, None, refl, sym, ap, inl, inr, arith, ◌∙◌, subst}
+use Rattle.std.proofs.Common.{◌≡◌, ℕ, ◌+◌, ◌<◌, ◌≤◌, Bool, true, false, List, [], map, length, Option, Some, None, refl, sym, ap, inl, inr, arith, ◌∙◌, subst}
 use Rattle.std.proofs.lemmas.Bool.{cases_eq}
 use Rattle.lock_model.specs.Config.{Config}
-use Rattle.lock_model.specs.Counts.{sum_below, one, some, times}
-use Rattle.lock_model.specs.History.{entries_of}
+use Rattle.lock_model.specs.Counts.{one, some, times}
 use Rattle.lock_model.specs.Law.{is_asleep, is_named}
-use Rattle.lock_model.specs.Queues.{Waiter, Mark, lock_queue, chan_queue, dealt, times_waiting}
-use Rattle.lock_model.specs.declared.plan.QueueName.{QueueName}
+use Rattle.lock_model.specs.Queues.{Waiter, Mark, lock_queue, chan_queue, dealt}
 use Rattle.lock_model.specs.declared.event.Event.{Event}
 use Rattle.lock_model.specs.declared.event.Event.TheVariants.{WokeOne, WokeAll}
 use Rattle.lock_state.specs.State.{State, Wake, put}

@@ -1,15 +1,14 @@
 -- Each entry of a waking, and of a woken thread, fits the sleepers behind the history, and nobody is passed over.
-use Rattle.std.proofs.Common.{◌≡◌, ◌≢◌, ℕ, zero, suc, ◌+◌, ◌%◌, ◌<◌, ◌≤◌, Bool, true, false, not, eqb, ◌&&◌, ◌||◌, List, [], ◌∷◌, Option, Some, None, refl, sym, ap, inl, inr, arith, eq-eqb, ◌∙◌, subst}
+use Rattle.std.proofs.Common.{◌≡◌, ◌≢◌, ℕ, zero, suc, ◌+◌, ◌%◌, ◌<◌, ◌≤◌, Bool, true, false, not, eqb, ◌&&◌, List, [], ◌∷◌, Option, Some, None, refl, sym, ap, inl, inr, arith, eq-eqb, ◌∙◌, subst}
 use Rattle.std.proofs.lemmas.Bool.{cases_eq, ne_eqb}
 use Rattle.lock_model.specs.Config.{Config}
-use Rattle.lock_model.specs.Counts.{sum_below, any_below, one, some, times}
+use Rattle.lock_model.specs.Counts.{any_below, one, some, times}
 use Rattle.lock_model.specs.Law.{is_asleep, is_named, has_bit, passes_over, goes_before, comes_before_named, FitsSleepers, WakingsNameSleepers}
-use Rattle.lock_model.specs.Queues.{Waiter, chan_queue, stands, times_waiting}
+use Rattle.lock_model.specs.Queues.{chan_queue, times_waiting}
 use Rattle.lock_model.specs.declared.plan.QueueName.{QueueName}
 use Rattle.lock_model.specs.declared.plan.QueueName.TheVariants.{Lock, Chan}
 use Rattle.lock_model.specs.declared.event.Event.{Event}
 use Rattle.lock_model.specs.declared.event.Event.TheVariants.{Woke, HaltedChan, WokeOne, WokeAll}
-use Rattle.lock_model.specs.declared.event.Entry.{Entry}
 use Rattle.lock_state.specs.State.{State, Wake}
 use Rattle.lock_state.specs.Steps.LockWords.{MayStamp, IsTheWake, bits_of_threads, entry_of, after_seek, after_look, after_gain, after_drop, after_stamp, after_ready, after_unready}
 use Rattle.lock_state.specs.Steps.Turnstiles.{after_enter, after_open, after_mark, after_resume}
@@ -18,7 +17,6 @@ use Rattle.lock_state.specs.Steps.Lending.{after_claim, after_lend, after_shift,
 use Rattle.lock_state.specs.Steps.Items.{after_take, after_give}
 use Rattle.lock_state.specs.Steps.{Step, Stamps, May, after}
 use Rattle.lock_state.specs.Facts.{Lawful, StandsOnce}
-use Rattle.lock_state.specs.Facts.Loans.{Each}
 use Rattle.lock_state.specs.Facts.Waits.{times_marked, at_queue}
 use Rattle.lock_state.specs.Facts.Sleeps.{signals, signals_noted, NamedAreWoken, MarksAreSignals, NoSleepIsHalted, AsleepStandThere, SleepersAreExclusive, UnnotedAreMarked, UnnotedHasChain, LeavesNobodyBefore, UnnotedIsFair, NobodyIsPassedOver}
 use Rattle.lock_laws.specs.Sleepers.{SleepersFit}
@@ -168,7 +166,7 @@ module _ (chains : ℕ) (c : Config) (s : State) (l : Lawful c s) (h : SleepersF
   fits_one t d woken lt None e a = absurd a
   fits_one t d woken lt (Some w) e a =
       subst (λ k. ((u : ℕ) → has_bit u k ≡ true → is_asleep s.history d u ≡ true) × ((u v : ℕ) → has_bit u k ≡ true → has_bit v k ≡ true → u ≡ v)) (sym a.2)
-          (λ u b. subst (λ k. is_asleep s.history k u ≡ true) a.0 (named_asleep t lt w e u b), one_named t lt w e a.1)
+      (λ u b. subst (λ k. is_asleep s.history k u ≡ true) a.0 (named_asleep t lt w e u b), one_named t lt w e a.1)
 
   fits_all : (t d woken : ℕ) → t < c.threads → (o : Option Wake) → s.unstamped t ≡ o → IsTheWake o d true woken → (u : ℕ) → has_bit u woken ≡ true → is_asleep s.history d u ≡ true
   fits_all t d woken lt None e a u b = absurd a
@@ -186,13 +184,13 @@ module _ (chains : ℕ) (c : Config) (s : State) (l : Lawful c s) (h : SleepersF
   over_one t d woken lt u ne None e a = absurd a
   over_one t d woken lt u ne (Some w) e a =
       subst (λ k. (is_asleep s.history d u && not (has_bit u k) && comes_before_named c s.history k u) ≡ false) (sym a.2)
-          (subst (λ k. (is_asleep s.history k u && not (has_bit u (bits_of_threads w.taken)) && comes_before_named c s.history (bits_of_threads w.taken) u) ≡ false) a.0 (one_fair t lt w e a.1 u ne))
+      (subst (λ k. (is_asleep s.history k u && not (has_bit u (bits_of_threads w.taken)) && comes_before_named c s.history (bits_of_threads w.taken) u) ≡ false) a.0 (one_fair t lt w e a.1 u ne))
 
   over_all : (t d woken : ℕ) → t < c.threads → (u : ℕ) → t ≢ u → (o : Option Wake) → s.unstamped t ≡ o → IsTheWake o d true woken → (is_asleep s.history d u && not (has_bit u woken)) ≡ false
   over_all t d woken lt u ne None e a = absurd a
   over_all t d woken lt u ne (Some w) e a =
       subst (λ k. (is_asleep s.history d u && not (has_bit u k)) ≡ false) (sym a.2)
-          (subst (λ k. (is_asleep s.history k u && not (has_bit u (bits_of_threads w.taken))) ≡ false) a.0 (all_named t lt w e a.1 u ne))
+      (subst (λ k. (is_asleep s.history k u && not (has_bit u (bits_of_threads w.taken))) ≡ false) a.0 (all_named t lt w e a.1 u ne))
 
   over_nobody : (t : ℕ) (e : Event) → MayStamp c s t e → (u : ℕ) → t ≢ u → passes_over c s.history e u ≡ false
   over_nobody t (WokeOne d woken) g u ne = over_one t d.0 woken g.thread u ne (s.unstamped t) refl g.asks
