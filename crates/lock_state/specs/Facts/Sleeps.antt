@@ -7,7 +7,7 @@ use Rattle.lock_model.specs.Queues.{Cause, BySignal, Waiter, Lists, Mark, chan_q
 use Rattle.lock_model.specs.declared.plan.QueueName.{QueueName}
 use Rattle.lock_model.specs.declared.plan.QueueName.TheVariants.{Lock, Chan}
 use Rattle.lock_model.specs.declared.event.Entry.{Entry}
-use Rattle.lock_state.specs.State.{State, Wait, Running, Queued, Woken, Wake, Note, OrderRefused, SleepHalted}
+use Rattle.lock_state.specs.State.{Wait, Running, Queued, Woken, Wake, Note, SleepHalted}
 use Rattle.lock_state.specs.Steps.SleepQueues.{has_slept}
 use Rattle.lock_state.specs.Facts.Loans.{Each}
 use Rattle.lock_state.specs.Facts.Waits.{is_signal, times_marked}
