@@ -9,8 +9,8 @@ use Rattle.lock_state.specs.Facts.{Lawful}
 use Rattle.lock_model.specs.History.{tables_of}
 use Rattle.lock_model.specs.Text.{Ending, IsDone, IsStuck, IsReversed, IsTooLong, text_of, fault_text}
 use Rattle.lock_model.specs.declared.plan.Plan.{Plan}
-use Rattle.lockrun.specs.declared.status.Status.{Status}
-use Rattle.lockrun.specs.declared.status.Status.TheVariants.{Done, BadScript, ReadFault, WriteFault, NoMemory, Stuck, Reversed, TooLong, TooBig, Usage}
+use Rattle.lock_top.specs.declared.status.Status.{Status}
+use Rattle.lock_top.specs.declared.status.Status.TheVariants.{Done, BadScript, ReadFault, WriteFault, NoMemory, Stuck, Reversed, TooLong, TooBig, Usage}
 
 -- chains of each sort, where the command line says nothing
 abbrev pub default_chains : ℕ

@@ -3,7 +3,7 @@
 ghost use Rattle.std.specs.Prelude.{◌≡◌, IfOk, Some, true};
 ghost use Rattle.lock_model.specs.Operations.{IsProper};
 ghost use Rattle.lock_history.specs.Endings.{ending_of};
-ghost use Rattle.lockrun.specs.Output.{output_of, output_of_plan, status_of, has_text};
+ghost use Rattle.lock_top.specs.Output.{output_of, output_of_plan, status_of, has_text};
 
 use crate::status::Status;
 use lock_history::{Last, print, print_fault};

@@ -1,6 +1,6 @@
-use Rattle.lockrun.specs.declared.status.Status.TheVariants.{Usage, NoMemory, ReadFault}
-use Rattle.lockrun.proofs.Statuses.{accepted_lawful, took_no_more, took_nothing}
-use Rattle.lockrun.proofs.top.lockrun_plain.Goals as goal
+use Rattle.lock_top.specs.declared.status.Status.TheVariants.{Usage, NoMemory, ReadFault}
+use Rattle.lock_top.proofs.Statuses.{accepted_lawful, took_no_more, took_nothing}
+use Rattle.lock_top.proofs.top.lockrun_plain.Goals as goal
 
 pub returns-then-not-is_form-clause-lawful : goal.returns-then-not-is_form-clause-lawful
 returns-then-not-is_form-clause-lawful g c = accepted_lawful

@@ -5,11 +5,11 @@ use Rattle.std.proofs.lemmas.Option.{same_Some}
 use Rattle.lock_io.specs.Whole.{TakesFront}
 use Rattle.lock_model.specs.Script.{IsAccepted}
 use Rattle.lock_model.specs.declared.plan.Plan.{Plan}
-use Rattle.lockrun.specs.declared.status.Status.{Status}
-use Rattle.lockrun.specs.declared.status.Status.TheVariants.{TooBig}
-use Rattle.lockrun.specs.Output.{IsLawfulRun, TookTooMany, most_bytes}
+use Rattle.lock_top.specs.declared.status.Status.{Status}
+use Rattle.lock_top.specs.declared.status.Status.TheVariants.{TooBig}
+use Rattle.lock_top.specs.Output.{IsLawfulRun, TookTooMany, most_bytes}
 use Rattle.lock_laws.proofs.Accepted.{accepted_proper}
-use Rattle.lockrun.proofs.Outcome.{lawful_run}
+use Rattle.lock_top.proofs.Outcome.{lawful_run}
 
 pub accepted_lawful : (bytes : List ℕ) (plan : Plan) → IsAccepted bytes plan → IsLawfulRun plan
 accepted_lawful bytes plan accepted = lawful_run plan (accepted_proper bytes plan accepted)

@@ -1,9 +1,9 @@
 use Rattle.std.proofs.Common.{◌≡◌, ℕ, List, IfOk, subst}
 use Rattle.lock_laws.proofs.Accepted.{accepted_proper}
 use Rattle.script_read.specs.Reading.{Refuses}
-use Rattle.lockrun.specs.declared.status.Status.{Status}
-use Rattle.lockrun.proofs.Outcome.{accepted_output, refused_output}
-use Rattle.lockrun.proofs.answer.answer.Goals as goal
+use Rattle.lock_top.specs.declared.status.Status.{Status}
+use Rattle.lock_top.proofs.Outcome.{accepted_output, refused_output}
+use Rattle.lock_top.proofs.answer.answer.Goals as goal
 
 pub of_plan-requires : goal.of_plan-requires
 of_plan-requires c = accepted_proper c.args.bytes.now c.in-Ok.plan c.in-Ok.ensures.accepted

@@ -15,9 +15,9 @@ use Rattle.lock_laws.proofs.Turning.{behind_course}
 use Rattle.script_read.specs.declared.fault.ScriptFault.{ScriptFault}
 use Rattle.script_read.specs.declared.fault.ReadError.TheVariants.{Script}
 use Rattle.script_read.specs.Reading.{Refuses}
-use Rattle.lockrun.specs.declared.status.Status.{Status}
-use Rattle.lockrun.specs.declared.status.Status.TheVariants.{BadScript}
-use Rattle.lockrun.specs.Output.{IsLawfulRun, IsLawfulState, default_chains, default_turns, output_of, output_of_plan}
+use Rattle.lock_top.specs.declared.status.Status.{Status}
+use Rattle.lock_top.specs.declared.status.Status.TheVariants.{BadScript}
+use Rattle.lock_top.specs.Output.{IsLawfulRun, IsLawfulState, default_chains, default_turns, output_of, output_of_plan}
 
 -- each state of the run of a proper plan is lawful
 lawful_state : (plan : Plan) (n : ℕ) → IsProper plan → IsLawfulState plan n

@@ -7,7 +7,7 @@ ghost use Rattle.lock_io.specs.Faults.{Rose};
 ghost use Rattle.lock_io.specs.Whole.{AddsFront, TakesFront};
 ghost use Rattle.lock_model.specs.Script.{IsAccepted};
 ghost use Rattle.lock_model.specs.declared.plan.Plan.{Plan};
-ghost use Rattle.lockrun.specs.Output.{is_form, has_text, writes, most_bytes, TookTooMany, output_of, Wrote, IsLawfulRun};
+ghost use Rattle.lock_top.specs.Output.{is_form, has_text, writes, most_bytes, TookTooMany, output_of, Wrote, IsLawfulRun};
 
 use crate::answer::answer;
 use crate::status::Status;
@@ -28,26 +28,26 @@ pub fn lockrun_plain<S: Source, K: Sink>(
 
     // No answer takes more from the source than the one byte that shows that it is too big.
     ensures reads_at_most { TakesFront (S.remaining source.old) (S.remaining source.new) (most_bytes + 1) }
+    ensures too_big { IfSome (S.remaining source.old) (λ bytes. (result ≡ Status.TooBig)
+        ↔ TookTooMany bytes (S.remaining source.new)) }
 
-    // A status with a text: the source was read to its end, nothing failed, and the status and the text are the one pair that
-    // belongs to the bytes. Every state that the run of their plan goes through is lawful.
-    ensures read_whole { has_text result ≡ true → IsAtEnd (S.remaining source.new) }
-    ensures no_fault { has_text result ≡ true
-        → (S.faults source.new ≡ S.faults source.old) × (K.faults sink.new ≡ K.faults sink.old) }
+    // Each end's count of faults rises at the status that tells of it, and stays at every other.
+    ensures read_fault { result ≡ Status.ReadFault → Rose (S.faults source.old) (S.faults source.new) }
+    ensures no_read_fault { ¬ (result ≡ Status.ReadFault) → S.faults source.new ≡ S.faults source.old }
+    ensures write_fault { result ≡ Status.WriteFault → Rose (K.faults sink.old) (K.faults sink.new) }
+    ensures no_write_fault { ¬ (result ≡ Status.WriteFault) → K.faults sink.new ≡ K.faults sink.old }
+
+    // A text is written only where the source was read to its end. The status and the text are the one pair that belongs to the
+    // bytes; at WriteFault a front of that text was added. Every state that the run of their plan goes through is lawful.
+    ensures read_whole { writes result ≡ true → IsAtEnd (S.remaining source.new) }
     ensures status { has_text result ≡ true
         → IfSome (S.remaining source.old) (λ bytes. result ≡ (output_of bytes).0) }
     ensures text { has_text result ≡ true → IfSome (S.remaining source.old) (λ bytes.
         Wrote (K.contents sink.old) (K.contents sink.new) (output_of bytes).1) }
-    ensures lawful { (bytes : List ℕ) (plan : Plan) → IsAccepted bytes plan → IsLawfulRun plan }
-
-    // The causes of the other statuses, and what they leave.
-    ensures read_fault { result ≡ Status.ReadFault → Rose (S.faults source.old) (S.faults source.new) }
-    ensures too_big { IfSome (S.remaining source.old) (λ bytes. (result ≡ Status.TooBig)
-        ↔ TookTooMany bytes (S.remaining source.new)) }
-    ensures write_fault { result ≡ Status.WriteFault → Rose (K.faults sink.old) (K.faults sink.new) }
     ensures write_fault_front { result ≡ Status.WriteFault → IfSome (S.remaining source.old) (λ bytes.
         AddsFront (K.contents sink.old) (K.contents sink.new) (output_of bytes).1) }
     ensures nothing_written { writes result ≡ false → K.contents sink.new ≡ K.contents sink.old }
+    ensures lawful { (bytes : List ℕ) (plan : Plan) → IsAccepted bytes plan → IsLawfulRun plan }
 
     // Where nothing fails, a source that isn't too big gets the status of its bytes, save for want of memory.
     ensures complete { is_form (map string_bytes words.now) ≡ true
