@@ -1,12 +1,15 @@
--- Which status and text belong to the words of a command line and to the bytes of a source, and which states the run goes through.
+-- Which status and text belong to the words of a command line and to the bytes of a source, and which states the run
+-- goes through.
 use Rattle.std.specs.Prelude.{◌≡◌, ℕ, Bool, false, true, List, [], ◌∷◌, codes, reverse, Option, Some, None, IfSome, ◌++◌, ◌<◌, ◌+◌, length, drop}
-use Rattle.std.specs.FinMap.{entries}
+use Rattle.std.specs.FinMap.{FinMap, entries, get}
+use Rattle.lock_model.specs.Config.{Config}
 use Rattle.lock_model.specs.Plans.{config_of}
 use Rattle.lock_model.specs.Script.{plan_of_lines, lines_of, is_same}
 use Rattle.lock_state.specs.Run.{course_after, scheduled_run}
+use Rattle.lock_state.specs.State.{State}
 use Rattle.lock_state.specs.Best.{best_behind, HasCycle, NobodyWalks}
 use Rattle.lock_state.specs.Facts.{Lawful}
-use Rattle.lock_model.specs.History.{tables_of}
+use Rattle.lock_model.specs.History.{place_cmp, tables_of}
 use Rattle.lock_model.specs.Text.{Ending, IsDone, IsStuck, IsReversed, IsTooLong, text_of, fault_text}
 use Rattle.lock_model.specs.declared.plan.Plan.{Plan}
 use Rattle.lock_top.specs.declared.status.Status.{Status}
@@ -32,13 +35,20 @@ status_of IsStuck = Stuck
 status_of IsReversed = Reversed
 status_of IsTooLong = TooLong
 
-abbrev pub output_of_plan : Option Plan → Status × List ℕ
-output_of_plan None = (BadScript, fault_text 0 0)
-output_of_plan (Some plan) = (status_of (scheduled_run plan default_chains default_turns).ending, text_of plan (scheduled_run plan default_chains default_turns))
+-- the status and the text of the scheduled run of a plan
+abbrev pub output_of_plan : Plan → Status × List ℕ
+output_of_plan plan =
+    (status_of (scheduled_run plan default_chains default_turns).ending,
+      text_of plan (scheduled_run plan default_chains default_turns))
+
+-- those of a plan, and where there is none the line of a fault
+abbrev pub output_of_reading : Option Plan → Status × List ℕ
+output_of_reading None = (BadScript, fault_text 0 0)
+output_of_reading (Some plan) = output_of_plan plan
 
 -- under step: the text of the scheduled run of a script, or the fault of a source that is none
 unfoldable pub output_of : List ℕ → Status × List ℕ
-output_of bytes = output_of_plan (plan_of_lines (lines_of bytes))
+output_of bytes = output_of_reading (plan_of_lines (lines_of bytes))
 
 -- the status says that a whole text was written
 abbrev pub has_text : Status → Bool
@@ -78,15 +88,31 @@ TookTooMany bytes new = (most_bytes < length bytes) × (new ≡ Some (drop (most
 abbrev pub Wrote : Option (List ℕ) → Option (List ℕ) → List ℕ → Type 0
 Wrote old new text = IfSome old (λ held. new ≡ Some (held ++ text))
 
--- The state after so many turns is lawful; and where no walk is under way and nobody waits in a cycle, each thread's effective priority is
--- the best behind it.
-pub record IsLawfulState (plan : Plan) (n : ℕ) : Type 0 where
-  pub lawful : Lawful (config_of plan default_chains) (course_after plan default_chains n).run.state
-  pub best : (t : ℕ) → t < length plan.threads → NobodyWalks (config_of plan default_chains) (course_after plan default_chains n).run.state
-      → (HasCycle (course_after plan default_chains n).run.state → ⊥)
-      → (course_after plan default_chains n).run.state.effective t ≡ best_behind (config_of plan default_chains) (course_after plan default_chains n).run.state t
+-- what a plan fixes for its run
+abbrev pub run_config : Plan → Config
+run_config plan = config_of plan default_chains
 
--- so is the state after each number of turns, and the printed tables are what the printed history leaves
+-- the state behind so many turns of a plan's run
+abbrev pub state_behind : Plan → ℕ → State
+state_behind plan n = (course_after plan default_chains n).run.state
+
+-- A state is lawful; and where no walk is under way and nobody waits in a cycle, each of so many threads' effective
+-- priority is the best behind it.
+pub record IsLawfulState (c : Config) (s : State) : Type 0 where
+  pub lawful : Lawful c s
+  pub best : (t : ℕ) → t < c.threads → NobodyWalks c s → (HasCycle s → ⊥)
+      → s.effective t ≡ best_behind c s t
+
+-- rows of keys and values are a state's tables: one for each key that has a value, ascending
+abbrev pub TellsTables : State → List ((ℕ × ℕ) × ℕ) → Type 0
+TellsTables s rows =
+    (m : FinMap place_cmp ℕ) × (rows ≡ entries m) × ((l k : ℕ) → get m (l, k) ≡ s.table l k)
+
+-- The state behind each number of turns is lawful. The printed tables are those of the last state, and what the printed
+-- history leaves.
 pub record IsLawfulRun (plan : Plan) : Type 0 where
-  pub states : (n : ℕ) → IsLawfulState plan n
-  pub tables : (scheduled_run plan default_chains default_turns).tables ≡ entries (tables_of (reverse (scheduled_run plan default_chains default_turns).history))
+  pub states : (n : ℕ) → IsLawfulState (run_config plan) (state_behind plan n)
+  pub tables : TellsTables (state_behind plan default_turns)
+      (scheduled_run plan default_chains default_turns).tables
+  pub replay : (scheduled_run plan default_chains default_turns).tables
+      ≡ entries (tables_of (reverse (scheduled_run plan default_chains default_turns).history))

@@ -1,6 +1,6 @@
 //! What the program answers to a source that was read to its end: the status, and the whole text, made before its first byte is
 //! written.
-ghost use Rattle.std.specs.Prelude.{◌≡◌, IfOk, Some, true};
+ghost use Rattle.std.specs.Prelude.{◌≡◌, IfOk, true};
 ghost use Rattle.lock_model.specs.Operations.{IsProper};
 ghost use Rattle.lock_history.specs.Endings.{ending_of};
 ghost use Rattle.lock_top.specs.Output.{output_of, output_of_plan, status_of, has_text};
@@ -31,7 +31,7 @@ pub fn answer(alloc: Global, bytes: &[u8]) -> Result<(Status, Vec<u8>), AllocErr
 // Those of the scheduled run of a plan.
 fn of_plan(alloc: Global, plan: &Plan) -> Result<(Status, Vec<u8>), AllocError>
     requires { IsProper plan.now }
-    ensures pair { IfOk result (λ a. (a.0, a.1.items) ≡ output_of_plan (Some plan.now)) }
+    ensures pair { IfOk result (λ a. (a.0, a.1.items) ≡ output_of_plan plan.now) }
     ensures has_text { IfOk result (λ a. has_text a.0 ≡ true) }
 {
     let outcome = run_schedule(alloc, plan, DEFAULT_CHAINS, TURNS)?;
