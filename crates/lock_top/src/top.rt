@@ -16,6 +16,7 @@ use lock_model::limits::SCRIPT_BYTES;
 use std::alloc::Global;
 
 /// What the program does where no thread is started. The words are the command line without the program's name.
+#[tactic(auto, using(crate::proofs::Statuses::accepted_lawful))]
 pub fn lockrun_plain<S: Source, K: Sink>(
     alloc: Global,
     words: &[String],
