@@ -5,8 +5,6 @@ use Rattle.std.proofs.lemmas.Option.{same_Some}
 use Rattle.lock_io.specs.Whole.{TakesFront}
 use Rattle.lock_model.specs.Script.{IsAccepted}
 use Rattle.lock_model.specs.declared.plan.Plan.{Plan}
-use Rattle.lock_top.specs.declared.status.Status.{Status}
-use Rattle.lock_top.specs.declared.status.Status.TheVariants.{TooBig}
 use Rattle.lock_top.specs.Output.{IsLawfulRun, TookTooMany, most_bytes}
 use Rattle.lock_laws.proofs.Accepted.{accepted_proper}
 use Rattle.lock_top.proofs.Outcome.{lawful_run}
@@ -19,12 +17,12 @@ taken_lengths bytes front new e n =
     let same : bytes ≡ front ++ drop (most_bytes + 1) bytes = same_Some _ _ (e ∙ ap (prepend_known front) n) in
     ap length same ∙ length-append front (drop (most_bytes + 1) bytes) ∙ ap (λ (m : ℕ). length front + m) (length-drop (most_bytes + 1) bytes)
 
--- where at most the most bytes were taken, not one more was
-pub took_no_more : (r : Status) (old new : Option (List ℕ)) → TakesFront old new most_bytes → (r ≡ TooBig → ⊥) → IfSome old (λ bytes. (r ≡ TooBig) ↔ TookTooMany bytes new)
-took_no_more r None new t other = tt
-took_no_more r (Some bytes) new t other = (λ e. absurd (other e), λ k. absurd (omega (arith, k.0, t.1, taken_lengths bytes t.0 new t.2 k.1)))
+-- where at most the most bytes were taken, not one more was; TooBig is then false
+pub took_no_more : (TooBig : Type 0) (old new : Option (List ℕ)) → TakesFront old new most_bytes → (TooBig → ⊥) → IfSome old (λ bytes. TooBig ↔ TookTooMany bytes new)
+took_no_more TooBig None new t other = tt
+took_no_more TooBig (Some bytes) new t other = (λ e. absurd (other e), λ k. absurd (omega (arith, k.0, t.1, taken_lengths bytes t.0 new t.2 k.1)))
 
 -- where nothing was taken
-pub took_nothing : (r : Status) (old : Option (List ℕ)) → (r ≡ TooBig → ⊥) → IfSome old (λ bytes. (r ≡ TooBig) ↔ TookTooMany bytes old)
-took_nothing r None other = tt
-took_nothing r (Some bytes) other = took_no_more r (Some bytes) (Some bytes) ([], omega arith, refl) other
+pub took_nothing : (TooBig : Type 0) (old : Option (List ℕ)) → (TooBig → ⊥) → IfSome old (λ bytes. TooBig ↔ TookTooMany bytes old)
+took_nothing TooBig None other = tt
+took_nothing TooBig (Some bytes) other = took_no_more TooBig (Some bytes) (Some bytes) ([], omega arith, refl) other

@@ -37,9 +37,10 @@ status_of IsTooLong = TooLong
 
 -- the status and the text of the scheduled run of a plan
 abbrev pub output_of_plan : Plan → Status × List ℕ
-output_of_plan plan =
-    (status_of (scheduled_run plan default_chains default_turns).ending,
-      text_of plan (scheduled_run plan default_chains default_turns))
+output_of_plan plan = (
+  status_of (scheduled_run plan default_chains default_turns).ending,
+  text_of plan (scheduled_run plan default_chains default_turns),
+)
 
 -- those of a plan, and where there is none the line of a fault
 abbrev pub output_of_reading : Option Plan → Status × List ℕ
@@ -75,6 +76,19 @@ writes Reversed = true
 writes TooLong = true
 writes TooBig = false
 writes Usage = false
+
+-- the status says why the source wasn't read to its end
+abbrev pub tells_of_reading : Status → Bool
+tells_of_reading Done = false
+tells_of_reading BadScript = false
+tells_of_reading ReadFault = true
+tells_of_reading WriteFault = false
+tells_of_reading NoMemory = true
+tells_of_reading Stuck = false
+tells_of_reading Reversed = false
+tells_of_reading TooLong = false
+tells_of_reading TooBig = true
+tells_of_reading Usage = false
 
 -- the most bytes of a script
 abbrev pub most_bytes : ℕ

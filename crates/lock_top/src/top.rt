@@ -1,13 +1,13 @@
 //! The top call: the words of the command line and a source in, the text and a status out. The text is made whole before its first
 //! byte is written, and nothing is written where there is none.
-ghost use Rattle.std.specs.Prelude.{◌≡◌, ◌⊎◌, ◌≤◌, ◌+◌, ◌↔◌, true, false, length, map, IfSome, List, ℕ};
+ghost use Rattle.std.specs.Prelude.{◌≡◌, ◌⊎◌, ◌≤◌, ◌+◌, ◌↔◌, true, false, length, map, IfErr, IfOk, IfSome, IsErrOf, OnOk, List, ℕ};
 ghost use Rattle.std.specs.Io.KnownBytes.{IsAtEnd};
 ghost use Rattle.std.specs.String.{string_bytes};
 ghost use Rattle.lock_io.specs.Faults.{Rose};
 ghost use Rattle.lock_io.specs.Whole.{AddsFront, TakesFront};
 ghost use Rattle.lock_model.specs.Script.{IsAccepted};
 ghost use Rattle.lock_model.specs.declared.plan.Plan.{Plan};
-ghost use Rattle.lock_top.specs.Output.{is_form, has_text, writes, most_bytes, TookTooMany, output_of, Wrote, IsLawfulRun};
+ghost use Rattle.lock_top.specs.Output.{is_form, has_text, writes, tells_of_reading, most_bytes, TookTooMany, output_of, Wrote, IsLawfulRun};
 
 use crate::answer::answer;
 use crate::status::Status;
@@ -59,16 +59,46 @@ pub fn lockrun_plain<S: Source, K: Sink>(
     if !is_form(words) {
         return Status::Usage;
     }
-    let bytes = match read_all(alloc, source, SCRIPT_BYTES) {
+    let bytes = match read_bytes(alloc, source) {
         Ok(bytes) => bytes,
-        Err(ReadAllError::Memory(_)) => return Status::NoMemory,
-        Err(ReadAllError::Fault(_)) => return Status::ReadFault,
-        Err(ReadAllError::TooBig) => return Status::TooBig,
+        Err(status) => return status,
     };
     let Ok((status, text)) = answer(alloc, &bytes) else {
         return Status::NoMemory;
     };
-    match write_all(sink, &text) {
+    write_text(sink, status, &text)
+}
+
+// All bytes of the source, or the status that tells why they weren't read.
+fn read_bytes<S: Source>(alloc: Global, source: &mut S) -> Result<Vec<u8>, Status>
+    ensures bytes { IfOk result (λ text.
+        IfSome (S.remaining source.old) (λ bytes. text.items ≡ bytes)) }
+    ensures read_whole { OnOk result (IsAtEnd (S.remaining source.new)) }
+    ensures statuses { IfErr result (λ status. tells_of_reading status ≡ true) }
+    ensures reads_at_most { TakesFront (S.remaining source.old) (S.remaining source.new) (most_bytes + 1) }
+    ensures too_big { IfSome (S.remaining source.old) (λ bytes. IsErrOf result Status.TooBig
+        ↔ TookTooMany bytes (S.remaining source.new)) }
+    ensures fault { IsErrOf result Status.ReadFault → Rose (S.faults source.old) (S.faults source.new) }
+    ensures no_fault { ¬ (IsErrOf result Status.ReadFault) → S.faults source.new ≡ S.faults source.old }
+{
+    match read_all(alloc, source, SCRIPT_BYTES) {
+        Ok(bytes) => Ok(bytes),
+        Err(ReadAllError::Memory(_)) => Err(Status::NoMemory),
+        Err(ReadAllError::Fault(_)) => Err(Status::ReadFault),
+        Err(ReadAllError::TooBig) => Err(Status::TooBig),
+    }
+}
+
+// Writes the text, and answers its status, or that the sink failed.
+fn write_text<K: Sink>(sink: &mut K, status: Status, text: &[u8]) -> Status
+    requires { has_text status ≡ true }
+    ensures status { (result ≡ status) ⊎ (result ≡ Status.WriteFault) }
+    ensures written { has_text result ≡ true → Wrote (K.contents sink.old) (K.contents sink.new) text.now }
+    ensures front { AddsFront (K.contents sink.old) (K.contents sink.new) text.now }
+    ensures fault { result ≡ Status.WriteFault → Rose (K.faults sink.old) (K.faults sink.new) }
+    ensures no_fault { ¬ (result ≡ Status.WriteFault) → K.faults sink.new ≡ K.faults sink.old }
+{
+    match write_all(sink, text) {
         Ok(()) => status,
         Err(_) => Status::WriteFault,
     }
