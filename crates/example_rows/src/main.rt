@@ -1,5 +1,6 @@
-//! Runs each example of `data/` that standard input names, through the top call over memory, and says its status and whether its
-//! text is as written. So an example is two files and a line each in `stdin` and `stdout`, and costs no proof.
+//! Runs each example of `data/` that standard input names, through the top call over memory, and says its status and
+//! whether its text is as written. So an example is two files and a line each in `stdin` and `stdout`, and costs no
+//! proof.
 #![tactic(auto)]
 
 use lock_io::{MemSink, MemSource};
@@ -19,7 +20,8 @@ fn main(rt: HostRuntime) -> anyhow::Result<()> {
     Ok(())
 }
 
-// The line is the name of an example and the words of its command line. `NAME.script` is the source, and `NAME.out` the text.
+// The line is the name of an example and the words of its command line. `NAME.script` is the source, and `NAME.out` the
+// text.
 fn run_example(rt: &HostRuntime, line: &str) -> anyhow::Result<()> {
     let alloc = rt.alloc();
     let (name, command) = line.split_once(' ').unwrap_or((line, ""));

@@ -11,34 +11,37 @@ use Rattle.lock_model.specs.Text.{fault_text}
 use Rattle.lock_model.specs.declared.plan.Plan.{Plan}
 use Rattle.lock_model.specs.declared.event.Entry.{Entry}
 use Rattle.lock_laws.proofs.Derived.{effective, tables}
+use Rattle.lock_laws.proofs.LegalRuns.{outcomes_are_legal}
 use Rattle.lock_laws.proofs.Turning.{behind_course}
+use Rattle.lock_model.specs.Plans.{config_of}
 use Rattle.script_read.specs.declared.fault.ScriptFault.{ScriptFault}
 use Rattle.script_read.specs.declared.fault.ReadError.TheVariants.{Script}
 use Rattle.script_read.specs.Reading.{Refuses}
 use Rattle.lock_top.specs.declared.status.Status.{Status}
 use Rattle.lock_top.specs.declared.status.Status.TheVariants.{BadScript}
-use Rattle.lock_top.specs.Output.{IsLawfulRun, IsLawfulState, TellsTables, default_chains, default_turns, output_of, output_of_plan, output_of_reading, run_config, state_behind}
+use Rattle.lock_top.specs.Output.{IsLawfulRun, IsLawfulState, TellsTables, default_chains, default_turns, output_of, output_of_plan, output_of_reading, state_behind}
 
 -- each state of the run of a proper plan is lawful
-lawful_state : (plan : Plan) (n : ℕ) → IsProper plan → IsLawfulState (run_config plan) (state_behind plan n)
+lawful_state : (plan : Plan) (n : ℕ) → IsProper plan → IsLawfulState (config_of plan) (state_behind plan n)
 lawful_state plan n proper =
-    let on = behind_course plan default_chains n proper in
+    let on = behind_course plan n proper in
     record {
       lawful = on.lawful;
-      best = λ t within still no_cycle. effective (run_config plan) (state_behind plan n) t on.lawful still no_cycle within;
+      best = λ t within still no_cycle. effective (config_of plan) (state_behind plan n) t on.lawful.lawful still no_cycle within;
     }
 
 -- a lawful state's tables are what its history leaves
-last_tables : (plan : Plan) → Lawful (run_config plan) (state_behind plan default_turns) → TellsTables (state_behind plan default_turns) (scheduled_run plan default_chains default_turns).tables
+last_tables : (plan : Plan) → Lawful (config_of plan) (state_behind plan default_turns) → TellsTables (state_behind plan default_turns) (scheduled_run plan default_chains default_turns).tables
 unfolding scheduled_run value_at
 last_tables plan lawful =
-    (tables_of (state_behind plan default_turns).history, refl, λ l k. sym (tables (run_config plan) (state_behind plan default_turns) l k lawful))
+    (tables_of (state_behind plan default_turns).history, refl, λ l k. sym (tables (config_of plan) (state_behind plan default_turns) l k lawful))
 
 pub lawful_run : (plan : Plan) → IsProper plan → IsLawfulRun plan
 unfolding scheduled_run
 lawful_run plan proper = record {
   states = λ n. lawful_state plan n proper;
-  tables = last_tables plan (lawful_state plan default_turns proper).lawful;
+  legal = outcomes_are_legal plan default_chains default_turns proper;
+  tables = last_tables plan (lawful_state plan default_turns proper).lawful.lawful;
   replay = ap (λ (h : List Entry). entries (tables_of h)) (sym (reverse-reverse (state_behind plan default_turns).history));
 }
 

@@ -5,10 +5,10 @@ use Rattle.std.specs.FinMap.{FinMap, entries, get}
 use Rattle.lock_model.specs.Config.{Config}
 use Rattle.lock_model.specs.Plans.{config_of}
 use Rattle.lock_model.specs.Script.{plan_of_lines, lines_of, is_same}
-use Rattle.lock_state.specs.Run.{course_after, scheduled_run}
+use Rattle.lock_state.specs.Run.{HasLegalHistory, course_after, scheduled_run}
 use Rattle.lock_state.specs.State.{State}
 use Rattle.lock_state.specs.Best.{best_behind, HasCycle, NobodyWalks}
-use Rattle.lock_state.specs.Facts.{Lawful}
+use Rattle.lock_state.specs.Facts.{LawfulTurn}
 use Rattle.lock_model.specs.History.{place_cmp, tables_of}
 use Rattle.lock_model.specs.Text.{Ending, IsDone, IsStuck, IsReversed, IsTooLong, text_of, fault_text}
 use Rattle.lock_model.specs.declared.plan.Plan.{Plan}
@@ -102,18 +102,14 @@ TookTooMany bytes new = (most_bytes < length bytes) × (new ≡ Some (drop (most
 abbrev pub Wrote : Option (List ℕ) → Option (List ℕ) → List ℕ → Type 0
 Wrote old new text = IfSome old (λ held. new ≡ Some (held ++ text))
 
--- what a plan fixes for its run
-abbrev pub run_config : Plan → Config
-run_config plan = config_of plan default_chains
-
 -- the state behind so many turns of a plan's run
 abbrev pub state_behind : Plan → ℕ → State
-state_behind plan n = (course_after plan default_chains n).run.state
+state_behind plan n = (course_after plan n).run.state
 
--- A state is lawful; and where no walk is under way and nobody waits in a cycle, each of so many threads' effective
--- priority is the best behind it.
+-- A state between two turns is lawful; and where no walk is under way and nobody waits in a cycle, each thread's
+-- effective priority is the best behind it.
 pub record IsLawfulState (c : Config) (s : State) : Type 0 where
-  pub lawful : Lawful c s
+  pub lawful : LawfulTurn c s
   pub best : (t : ℕ) → t < c.threads → NobodyWalks c s → (HasCycle s → ⊥)
       → s.effective t ≡ best_behind c s t
 
@@ -122,10 +118,11 @@ abbrev pub TellsTables : State → List ((ℕ × ℕ) × ℕ) → Type 0
 TellsTables s rows =
     (m : FinMap place_cmp ℕ) × (rows ≡ entries m) × ((l k : ℕ) → get m (l, k) ≡ s.table l k)
 
--- The state behind each number of turns is lawful. The printed tables are those of the last state, and what the printed
--- history leaves.
+-- The state behind each number of turns is lawful. The printed history is legal; the printed tables are those of the
+-- last state, and what the printed history leaves.
 pub record IsLawfulRun (plan : Plan) : Type 0 where
-  pub states : (n : ℕ) → IsLawfulState (run_config plan) (state_behind plan n)
+  pub states : (n : ℕ) → IsLawfulState (config_of plan) (state_behind plan n)
+  pub legal : HasLegalHistory plan (scheduled_run plan default_chains default_turns)
   pub tables : TellsTables (state_behind plan default_turns)
       (scheduled_run plan default_chains default_turns).tables
   pub replay : (scheduled_run plan default_chains default_turns).tables

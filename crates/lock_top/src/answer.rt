@@ -1,5 +1,5 @@
-//! What the program answers to a source that was read to its end: the status, and the whole text, made before its first byte is
-//! written.
+//! What the program answers to a source that was read to its end: the status, and the whole text, made before its first
+//! byte is written.
 ghost use Rattle.std.specs.Prelude.{◌≡◌, IfOk, true};
 ghost use Rattle.lock_model.specs.Operations.{IsProper};
 ghost use Rattle.lock_history.specs.Endings.{ending_of};

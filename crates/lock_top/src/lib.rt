@@ -1,5 +1,5 @@
-//! What the program `lockrun` does, as a library: words and a source in, a status and a text out. A program, or a face for other
-//! languages, picks up its words and its streams and calls this.
+//! What the program `lockrun` does, as a library: words and a source in, a status and a text out. A program, or a face
+//! for other languages, picks up its words and its streams and calls this.
 //!
 //! From the outside in:
 //! - `top`: the call, with everything that is promised of it.

@@ -1,4 +1,5 @@
-//! What no file of `example_rows` can say: ends that fail, a source that is too big, runs that are cut off, and the answers of turns.
+//! What no file of `example_rows` can say: ends that fail, a source that is too big, runs that are cut off, and the
+//! answers of turns.
 ghost use Rattle.std.specs.Prelude.{IfOk};
 ghost use Rattle.lock_model.specs.Operations.{IsProper};
 
@@ -12,8 +13,8 @@ use std::alloc::Global;
 use std::test::Fail;
 use step_world::{World, run_schedule};
 
-// A call: the words; the source, and how many bytes `a` stand behind it; at which call, from 0, the source and the sink fail. And
-// what it is to give: the status, and what the sink holds then. Both ends move 4 bytes a call.
+// A call: the words; the source, and how many bytes `a` stand behind it; at which call, from 0, the source and the sink
+// fail. And what it is to give: the status, and what the sink holds then. Both ends move 4 bytes a call.
 type Case = (
     &'static str,
     &'static str,
@@ -32,7 +33,8 @@ const FIRST: &str = "lockrun 1\nmutex m a\nthread t 100\nlock m\nset m 1 5\nunlo
 const FIRST_TEXT: &str =
     "0 t lock m\n1 t set m 1 5\n2 t unlock m\nthread t base 100 eff 100\ntable m 1 5\nok\n";
 
-// A source that fails at its first call tells whether it was read at all, and call 1 of a sink behind `ok` is its flush.
+// A source that fails at its first call tells whether it was read at all, and call 1 of a sink behind `ok` is its
+// flush.
 const CASES: &[Case] = &[
     ("step", FIRST, 0, NEVER, NEVER, Status::Done, FIRST_TEXT),
     ("step", FIRST, 0, NEVER, 2, Status::WriteFault, "0 t lock"),

@@ -1,5 +1,5 @@
-//! The top call: the words of the command line and a source in, the text and a status out. The text is made whole before its first
-//! byte is written, and nothing is written where there is none.
+//! The top call: the words of the command line and a source in, the text and a status out. The text is made whole
+//! before its first byte is written, and nothing is written where there is none.
 ghost use Rattle.std.specs.Prelude.{◌≡◌, ◌⊎◌, ◌≤◌, ◌+◌, ◌↔◌, true, false, length, map, IfErr, IfOk, IfSome, IsErrOf, OnOk, List, ℕ};
 ghost use Rattle.std.specs.Io.KnownBytes.{IsAtEnd};
 ghost use Rattle.std.specs.String.{string_bytes};
@@ -38,8 +38,9 @@ pub fn lockrun_plain<S: Source, K: Sink>(
     ensures write_fault { result ≡ Status.WriteFault → Rose (K.faults sink.old) (K.faults sink.new) }
     ensures no_write_fault { ¬ (result ≡ Status.WriteFault) → K.faults sink.new ≡ K.faults sink.old }
 
-    // A text is written only where the source was read to its end. The status and the text are the one pair that belongs to the
-    // bytes; at WriteFault a front of that text was added. Every state that the run of their plan goes through is lawful.
+    // A text is written only where the source was read to its end. The status and the text are the one pair that
+    // belongs to the bytes; at WriteFault a front of that text was added. Every state that the run of their plan goes
+    // through is lawful.
     ensures read_whole { writes result ≡ true → IsAtEnd (S.remaining source.new) }
     ensures status { has_text result ≡ true
         → IfSome (S.remaining source.old) (λ bytes. result ≡ (output_of bytes).0) }

@@ -1,6 +1,6 @@
-//! `lockrun step` reads a script from standard input, makes its scheduled run, and writes its text to standard output. The exit
-//! code is the status. What it does, and what is promised of it, stands in the library `lock_top`; here the words and the streams
-//! are picked up.
+//! `lockrun step` reads a script from standard input, makes its scheduled run, and writes its text to standard output.
+//! The exit code is the status. What it does, and what is promised of it, stands in the library `lock_top`; here the
+//! words and the streams are picked up.
 #![tactic(auto)]
 
 use lock_io::{StdSink, StdSource};
