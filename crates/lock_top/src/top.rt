@@ -15,7 +15,9 @@ use lock_io::{ReadAllError, Sink, Source, read_all, write_all};
 use lock_model::limits::SCRIPT_BYTES;
 use std::alloc::Global;
 
-/// What the program does where no thread is started. The words are the command line without the program's name.
+/// What the program does where no thread is started: it reads a script from the source, makes the script's scheduled run,
+/// and writes the run's text to the sink. The words are the command line without the program's name; the one form so far
+/// is the single word `step`. It takes memory until the text is made, and none from then on.
 #[tactic(auto, using(crate::proofs::Statuses::accepted_lawful))]
 pub fn lockrun_plain<S: Source, K: Sink>(
     alloc: Global,
