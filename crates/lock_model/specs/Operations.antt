@@ -21,6 +21,9 @@ use Rattle.lock_model.specs.declared.numbers.ChanNo.{ChanNo}
 
 -- 1. Lists of held locks, in order of acquisition
 
+abbrev pub holds_lock : LockNo → Held → Bool
+holds_lock l h = h.l.0 == l.0
+
 -- how a lock is held
 abbrev pub hold_in : List Held → ℕ → Hold
 hold_in [] l = NotHeld

@@ -12,7 +12,7 @@ abbrev pub test : ℕ → Bool → Test
 test code passes = record { passes = passes; code = code }
 
 -- the smallest code of the tests that fail
-abbrev pub least_code : List Test → Option ℕ
+unfoldable pub least_code : List Test → Option ℕ
 least_code [] = None
 least_code (t ∷ ts) = if t.passes then least_code ts else Some (lower (least_code ts) t.code)
 

@@ -94,18 +94,23 @@ with_class classes class = if list_any (is_same class) classes then classes else
 
 -- 3. Operations
 
--- with a lock's number and two numbers
-abbrev pub with_numbers : (LockNo → ℕ → ℕ → Op) → Option LockNo → Option ℕ → Option ℕ → Option Op
-with_numbers f (Some l) (Some n) (Some m) = Some (f l n m)
-with_numbers f l n m = None
+-- of a lock and a key, where both are readable
+abbrev pub with_key : (LockNo → ℕ → Op) → Option LockNo → Option ℕ → Option Op
+with_key f (Some l) (Some key) = Some (f l key)
+with_key f l key = None
+
+-- the same with a value or an amount
+abbrev pub with_number : (LockNo → ℕ → ℕ → Op) → Option LockNo → Option ℕ → Option ℕ → Option Op
+with_number f l key (Some n) = with_key (λ l key. f l key n) l key
+with_number f l key None = None
 
 -- the operation that words say, where each of them is readable
 abbrev pub op_of : Known → Operation → Option Op
 op_of k (say.Take kind mode name) = option_map (λ l. Take l mode) (lock_named k name)
 op_of k (say.Release kind mode name) = option_map (λ l. Release l) (lock_named k name)
-op_of k (say.Set name key value) = with_numbers Set (lock_named k name) (number_of key) (number_of value)
-op_of k (say.Add name key amount) = with_numbers Add (lock_named k name) (number_of key) (number_of amount)
-op_of k (say.Get name key) = with_numbers (λ l n m. Get l n) (lock_named k name) (number_of key) (Some 0)
+op_of k (say.Set name key value) = with_number Set (lock_named k name) (number_of key) (number_of value)
+op_of k (say.Add name key amount) = with_number Add (lock_named k name) (number_of key) (number_of amount)
+op_of k (say.Get name key) = with_key Get (lock_named k name) (number_of key)
 op_of k (say.Prio prio) = option_map (λ p. Base (record { 0 = p })) (priority_of prio)
 op_of k say.Show = Some Show
 
