@@ -31,13 +31,22 @@ Tells reading (Ok plan) = reading ≡ Reads plan
 Tells reading (Err (Script fault)) = reading ≡ Faulty fault.line fault.code
 Tells reading (Err (Memory e)) = Unit {0}
 
+-- why a line wasn't read, with its number
+abbrev pub told_at : ℕ → LineError → ReadError
+told_at n (line.Fault code) = Script (record { line = n; code = code.0 })
+told_at n (line.Memory e) = Memory e
+
 -- a test answers the fault that there is
 abbrev pub Finds : {X : Type 0} → Option ℕ → Result X Code → Type 0
 Finds fault (Ok x) = fault ≡ None
 Finds fault (Err code) = fault ≡ Some code.0
 
+-- a line wasn't read for its fault, or for want of memory
+abbrev pub FailsBy : Option ℕ → LineError → Type 0
+FailsBy fault (line.Fault code) = fault ≡ Some code.0
+FailsBy fault (line.Memory e) = Unit {0}
+
 -- A line is read as its fault says, save for want of memory: where it has none, what is known behind it is what it teaches.
 abbrev pub Goes : {X : Type 0} → Option ℕ → Known → Known → Result X LineError → Type 0
 Goes fault taught known (Ok x) = (fault ≡ None) × (taught ≡ known)
-Goes fault taught known (Err (line.Fault code)) = fault ≡ Some code.0
-Goes fault taught known (Err (line.Memory e)) = Unit {0}
+Goes fault taught known (Err e) = FailsBy fault e

@@ -2,6 +2,7 @@
 ghost use Rattle.std.specs.Prelude.{◌≡◌, Ok, Err, if◌then◌else◌, alloc_error};
 ghost use Rattle.script_read.specs.declared.fault.LineError.TheVariants as line;
 ghost use Rattle.script_read.specs.declared.fault.ReadError.TheVariants.{Script, Memory};
+ghost use Rattle.script_read.specs.Reading.{told_at};
 
 use std::alloc::{AllocError, AllocFailed};
 use thiserror::Error;
@@ -76,7 +77,9 @@ pub(crate) enum LineError {
 
 impl LineError {
     /// The same, of the line with that number.
-    pub fn at(self, line: u32) -> ReadError {
+    pub fn at(self, line: u32) -> ReadError
+        ensures { result ≡ told_at line self }
+    {
         match self {
             LineError::Fault(code) => ReadError::Script(ScriptFault { line, code: code.0 }),
             LineError::Memory(e) => ReadError::Memory(e),

@@ -1,5 +1,7 @@
 //! What the lines of a script have made known so far, and what each line adds to it. A line is tested first, and then learnt; behind a
 //! fault nothing is read, so what is known then doesn't matter.
+#![tactic(auto, using(lock_model::proofs::LeastCodes::least_is_first))]
+
 ghost use Rattle.std.specs.Prelude.{◌≡◌, ◌<◌, None, Some, [], ◌∷◌, OnOk};
 ghost use Rattle.lock_model.specs.Limits.{most_operations};
 ghost use Rattle.lock_model.specs.Operations.{held_behind};
@@ -15,6 +17,7 @@ ghost use Rattle.script_read.specs.Statements.{meant, meant_operation};
 
 use crate::fault::{Code, LineError, ReadError, ScriptFault, test};
 use crate::lines::split_line;
+use crate::reader::stages::{has_meaning, test_bytes};
 use crate::statement::{Operation, Statement};
 use crate::words::cut_word;
 use indexmap::{IndexMap, IndexSet};
@@ -230,4 +233,3 @@ impl Reader {
         Ok(())
     }
 }
-

@@ -22,7 +22,7 @@ byte_tests line = test 18 (nat_le (length line) most_line_bytes) ∷ test 19 (li
 
 -- a line says nothing, or says something behind `done`
 abbrev pub word_tests : Known → List ℕ → List Test
-word_tests k line = test 2 (is_some (statement_of line) && not k.is_done) ∷ []
+word_tests k line = test 2 (not k.is_done && is_some (statement_of line)) ∷ []
 
 -- 2. Place
 

@@ -1,15 +1,19 @@
 //! The tests that a line has to pass, stage by stage, in the order of their codes. Each answers the code of the first that fails, or what the
 //! line's words stand for.
-ghost use Rattle.std.specs.Prelude.{◌≡◌, ◌∷◌, ◌<◌, [], Some, None, Ok, Err, IfOk, if◌then◌else◌, length};
+#![tactic(auto, using(lock_model::proofs::LeastCodes::least_is_first))]
+
+ghost use Rattle.std.specs.Prelude.{◌≡◌, ◌∷◌, ◌<◌, [], Some, None, Ok, Err, IfOk, if◌then◌else◌, length, nat_lt, ok_or};
 ghost use Rattle.std.specs.List.{list_all};
 ghost use Rattle.lock_model.specs.Limits.{most_operations};
 ghost use Rattle.lock_model.specs.Names.{is_name};
 ghost use Rattle.lock_model.specs.Operations.{is_of_kind, may_be_held};
 ghost use Rattle.lock_model.specs.Script.Faults.{byte_tests, word_tests, name_tests, tests_in_thread, is_before_threads};
 ghost use Rattle.lock_model.specs.Script.Learning.{declared_as, lock_named, thread_named, class_number, op_of};
-ghost use Rattle.lock_model.specs.Script.Lines.{has_meaning, is_printable, words_of};
+ghost use Rattle.lock_model.specs.Script.Lines.{has_meaning, is_printable, words_of, priority_of};
 ghost use Rattle.lock_model.specs.Script.Statements.{Declares, Begins, Schedules, Take, Release, Set, Add, Get, Prio, Show, statement_of};
 ghost use Rattle.lock_model.specs.Tests.{least_code};
+ghost use Rattle.lock_model.specs.declared.plan.Kind.TheVariants.{Sx};
+ghost use Rattle.lock_model.specs.declared.plan.Op.TheVariants as operation;
 ghost use Rattle.script_read.specs.Reading.{Finds};
 ghost use Rattle.script_read.specs.Readers.{known, thread_of};
 ghost use Rattle.script_read.specs.Statements.{meant, meant_operation};
@@ -27,7 +31,13 @@ pub fn test_bytes(line: &[u8]) -> Result<(), Code>
     ensures { Finds (least_code (byte_tests line.now)) result }
 {
     test(Code::LENGTH, line.len() <= limits::LINE_BYTES)?;
-    test(Code::BYTE, line.iter().all(|b| is_printable(*b)))
+    test(Code::BYTE, are_printable(line))
+}
+
+fn are_printable(bytes: &[u8]) -> bool
+    ensures { result ≡ list_all is_printable bytes.now }
+{
+    bytes.iter().all(|b| is_printable(*b))
 }
 
 // From a space to `~`.
@@ -80,7 +90,9 @@ impl Reader {
     fn class_number(&self, class: Name) -> usize
         ensures { result ≡ class_number (known self.now).classes class }
     {
-        self.classes.get_index_of(&class).unwrap_or(self.classes.len())
+        self.classes
+            .get_index_of(&class)
+            .unwrap_or(self.classes.len())
     }
 
     /// What a thread's first line says: its name and its priority.
@@ -103,22 +115,27 @@ impl Reader {
     {
         let mut are_names = true;
         let mut are_threads = true;
-        let mut count: usize = 0;
+        // How many more there is room for, if there is.
+        let mut room = limits::SCHEDULE.checked_sub(self.schedule.len());
         let mut rest = Some(names);
         while let Some(text) = rest {
             let (name, behind) = cut_word(text);
             are_names = are_names && spelled(name).is_ok();
             are_threads = are_threads && self.thread_named(name).is_ok();
-            count += 1;
+            room = room.and_then(|n| n.checked_sub(1));
             rest = behind;
         }
         test(Code::SPELLING, are_names)?;
         test(Code::UNDECLARED, are_threads)?;
-        test(Code::LIMIT, self.schedule.len() + count <= limits::SCHEDULE)
+        test(Code::LIMIT, room.is_some())
     }
 
     /// The operation that the words say, where it fits what the open thread holds.
-    pub fn test_operation(&self, thread: &OpenThread, operation: Operation) -> Result<Op, Code>
+    pub(super) fn test_operation(
+        &self,
+        thread: &OpenThread,
+        operation: Operation,
+    ) -> Result<Op, Code>
         ensures fault { Finds (least_code (tests_in_thread (known self.now) (meant_operation operation.entry) (thread_of thread.now))) result }
         ensures said { IfOk result (λ op. op_of (known self.now) (meant_operation operation.entry) ≡ Some op) }
         ensures few { IfOk result (λ op. (known self.now).operations < most_operations) }
@@ -148,7 +165,13 @@ impl Reader {
     }
 
     // `lock L` and its like take a lock.
-    fn test_take(&self, thread: &OpenThread, kind: Kind, mode: Mode, lock: &[u8]) -> Result<Op, Code>
+    fn test_take(
+        &self,
+        thread: &OpenThread,
+        kind: Kind,
+        mode: Mode,
+        lock: &[u8],
+    ) -> Result<Op, Code>
         ensures fault { Finds (least_code (tests_in_thread (known self.now) (Take kind mode lock.now) (thread_of thread.now))) result }
         ensures said { IfOk result (λ op. op_of (known self.now) (Take kind mode lock.now) ≡ Some op) }
         ensures few { IfOk result (λ op. (known self.now).operations < most_operations) }
@@ -156,14 +179,26 @@ impl Reader {
         let l = self.lock_named(lock)?;
         self.test_room()?;
         test(Code::LIMIT, thread.held.len() < limits::HELD)?;
-        test(Code::KIND, self.is_of_kind(kind, l) && self.may_be_held(mode, l))?;
+        test(
+            Code::KIND,
+            self.is_of_kind(kind, l) && self.may_be_held(mode, l),
+        )?;
         test(Code::HELD, mode_of(&thread.held, l).is_none())?;
-        test(Code::UNDER_OTHERS, !self.is_of_kind(Kind::Sx, l) || self.are_sx(&thread.held))?;
+        test(
+            Code::UNDER_OTHERS,
+            !self.is_of_kind(Kind::Sx, l) || self.are_sx(&thread.held),
+        )?;
         Ok(Op::Take { l, mode })
     }
 
     // `unlock L` and its like release a lock.
-    fn test_release(&self, thread: &OpenThread, kind: Kind, mode: Mode, lock: &[u8]) -> Result<Op, Code>
+    fn test_release(
+        &self,
+        thread: &OpenThread,
+        kind: Kind,
+        mode: Mode,
+        lock: &[u8],
+    ) -> Result<Op, Code>
         ensures fault { Finds (least_code (tests_in_thread (known self.now) (Release kind mode lock.now) (thread_of thread.now))) result }
         ensures said { IfOk result (λ op. op_of (known self.now) (Release kind mode lock.now) ≡ Some op) }
         ensures few { IfOk result (λ op. (known self.now).operations < most_operations) }
@@ -178,9 +213,15 @@ impl Reader {
     }
 
     // `set L KEY VALUE` and `add L KEY AMOUNT` change a lock's table: the lock and the two numbers.
-    fn test_edit(&self, thread: &OpenThread, lock: &[u8], key: &[u8], number: &[u8]) -> Result<(LockNo, u64, u64), Code>
+    fn test_edit(
+        &self,
+        thread: &OpenThread,
+        lock: &[u8],
+        key: &[u8],
+        number: &[u8],
+    ) -> Result<(LockNo, u64, u64), Code>
         ensures fault { Finds (least_code (tests_in_thread (known self.now) (Set lock.now key.now number.now) (thread_of thread.now))) result }
-        ensures said { IfOk result (λ r. op_of (known self.now) (Set lock.now key.now number.now) ≡ Some (op.Set r.0 r.1 r.2)) }
+        ensures said { IfOk result (λ r. op_of (known self.now) (Set lock.now key.now number.now) ≡ Some (operation.Set r.0 r.1 r.2)) }
         ensures few { IfOk result (λ op. (known self.now).operations < most_operations) }
     {
         let l = self.lock_named(lock)?;
@@ -236,7 +277,9 @@ impl Reader {
     fn is_of_kind(&self, kind: Kind, l: LockNo) -> bool
         ensures { result ≡ is_of_kind (known self.now).locks kind l }
     {
-        self.locks.get(usize::from(l.0)).is_some_and(|lock| lock.kind == kind)
+        self.locks
+            .get(usize::from(l.0))
+            .is_some_and(|lock| lock.kind == kind)
     }
 
     // Whether a lock can be held in that mode.
