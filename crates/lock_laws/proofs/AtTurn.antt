@@ -1,5 +1,5 @@
 -- What a turn finds in a lawful state: words that can be, and objects where they are.
-use Rattle.std.proofs.Common.{◌≡◌, ◌⊎◌, ℕ, zero, suc, ◌+◌, ◌<◌, ◌≤◌, true, not, ◌||◌, List, [], ◌∷◌, length, Option, Some, None, refl, sym, ap, inl, inr, arith, eq-eqb, ◌∙◌}
+use Rattle.std.proofs.Common.{◌≡◌, ◌⊎◌, ℕ, zero, suc, ◌+◌, ◌≤◌, true, not, ◌||◌, List, [], ◌∷◌, length, Option, Some, None, refl, sym, ap, inl, inr, arith, eq-eqb, ◌∙◌}
 use Rattle.lock_model.specs.Counts.{some, sum_below}
 use Rattle.lock_model.specs.Words.{Holder, Free, HeldBy, SharedBy, IsPossible, IsWellFormed, is_turnstile, owner_of, is_free, without_one, shows_waiters, is_drop}
 use Rattle.lock_model.specs.Holds.{is_exclusive, Hold, NotHeld, Holds}

@@ -1,6 +1,6 @@
 -- A turn of the scheduled run makes no entry and leaves its thread's next operation, or it makes the one entry that this
 -- operation gives and goes on to the next. So each thread's entries follow its operations behind the turn as before.
-use Rattle.std.proofs.Common.{◌≡◌, ℕ, suc, ◌<◌, false, List, [], ◌∷◌, length, slice_get, Some, None, refl, sym, eq-eqb, ◌∙◌}
+use Rattle.std.proofs.Common.{◌≡◌, ℕ, suc, ◌<◌, false, List, ◌∷◌, length, slice_get, Some, None, refl, sym, eq-eqb, ◌∙◌}
 use Rattle.std.proofs.lemmas.Bool.{ne_eqb}
 use Rattle.std.proofs.lemmas.List.Elements.{All-cons}
 use Rattle.lock_model.specs.Plans.{config_of, operations_of}

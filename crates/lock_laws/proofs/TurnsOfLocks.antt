@@ -1,5 +1,5 @@
 -- The turns of a thread that takes or releases a lock: their steps may be made, and they leave the run on track.
-use Rattle.std.proofs.Common.{◌≡◌, ◌≢◌, ℕ, suc, ◌<◌, ◌≤◌, Bool, true, false, not, cond, eqb, ◌&&◌, ◌||◌, List, [], ◌∷◌, length, All, slice_get, Option, Some, None, refl, sym, ap, arith, eq-eqb, ◌∙◌}
+use Rattle.std.proofs.Common.{◌≡◌, ◌≢◌, ℕ, ◌<◌, ◌≤◌, Bool, true, false, not, cond, eqb, ◌&&◌, ◌||◌, List, [], ◌∷◌, length, All, slice_get, Option, Some, None, refl, sym, ap, arith, eq-eqb, ◌∙◌}
 use Rattle.std.specs.Prelude.{unwrap_or}
 use Rattle.std.proofs.lemmas.List.Elements.{All-nil, All-cons}
 use Rattle.std.proofs.lemmas.Option.{same_Some}
@@ -12,7 +12,7 @@ use Rattle.lock_model.specs.Holds.{Hold, NotHeld, Holds}
 use Rattle.lock_model.specs.Queues.{Waiter, Mark, BySignal, lock_queue, list_of, dealt}
 use Rattle.lock_model.specs.History.{open_in, replaced}
 use Rattle.lock_state.specs.State.{State, Queued, put, put_at}
-use Rattle.lock_state.specs.Steps.{Step, Gains, Stamps, Drops, Opens, MayAll}
+use Rattle.lock_state.specs.Steps.{Gains, Stamps, Drops, Opens, MayAll}
 use Rattle.lock_state.specs.Steps.LockWords.{is_woken, MayGain, MayDrop, MayStamp, MayReady, after_gain, after_drop, after_stamp, after_ready}
 use Rattle.lock_state.specs.Steps.Turnstiles.{MayEnter, MayOpen, after_enter, after_open}
 use Rattle.lock_state.specs.Facts.{FreeMutexShowsNone, QueuedStands}
@@ -33,7 +33,7 @@ use Rattle.lock_laws.proofs.Kit.{columns, at_put, put_same, put_other, put_at_sa
 use Rattle.lock_laws.proofs.Words.{free_is}
 use Rattle.lock_laws.proofs.HeldLists.{TakeFits, take_fits, release_fits, hold_in-push, hold_in-without}
 use Rattle.lock_laws.proofs.AtTurn.{has_turnstile}
-use Rattle.lock_laws.proofs.OnTrack.{KeepsTrack, EndsWell, goes_on, put_at_own, own_section, other_section, stamped_behind, unnamed, acting, before, behind, Next, left, fit, are_locks, wants_none, wants_this}
+use Rattle.lock_laws.proofs.OnTrack.{KeepsTrack, EndsWell, goes_on, put_at_own, own_section, other_section, stamped_behind, unnamed, acting, before, behind, left, fit, are_locks, wants_none, wants_this}
 
 -- a word of a mutex that is not held shows no waiters
 plain_mutex : (w : Word) → one (shows_waiters w) ≤ busy w.holder → is_free w.holder ≡ true → is_plain Mtx w Excl ≡ true
@@ -87,7 +87,7 @@ module _ (plan : Plan) (r : Run) (t : ℕ) (p : IsProper plan) (k : IsOnTrack pl
 
   module _ (l : LockNo) (i : IsAtOperation plan r t (Some (Take l Excl))) where
     pub finds : TakeFits (length plan.locks) l (before plan r t) (behind plan r t)
-    finds = take_fits (length plan.locks) l _ _ (fit plan r t p (Take l Excl) i.next)
+    finds = take_fits plan p l _ _ (fit plan r t p (Take l Excl) i.next)
 
     -- a gain and its entry
 
@@ -209,7 +209,7 @@ module _ (plan : Plan) (r : Run) (t : ℕ) (p : IsProper plan) (k : IsOnTrack pl
     mode = mode_held (s.held t l.0)
 
     pub release_finds : (hold_in (before plan r t) l.0 ≢ NotHeld) × (without_lock l.0 (before plan r t) ≡ behind plan r t)
-    release_finds = release_fits (length plan.locks) l _ _ (fit plan r t p (Release l) i.next)
+    release_finds = release_fits plan p l _ _ (fit plan r t p (Release l) i.next)
 
     pub held : s.held t l.0 ≡ Holds mode
     held = its_mode (s.held t l.0) (λ z. release_finds.0 (sym (k.holds t l.0) ∙ z))

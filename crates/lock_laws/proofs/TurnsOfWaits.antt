@@ -1,11 +1,11 @@
 -- The turns of a thread with a marked list, and of a woken one: their steps may be made, and they leave the run on track.
-use Rattle.std.proofs.Common.{◌≡◌, ◌≢◌, ℕ, ◌<◌, List, [], ◌∷◌, length, All, slice_get, Option, Some, None, sym, ◌∙◌, subst}
+use Rattle.std.proofs.Common.{◌≡◌, ◌≢◌, ℕ, ◌<◌, List, [], ◌∷◌, length, All, slice_get, Some, None, sym, ◌∙◌, subst}
 use Rattle.std.proofs.lemmas.List.Elements.{All-head, All-tail}
 use Rattle.lock_model.specs.Plans.{config_of, operations_of}
 use Rattle.lock_model.specs.Config.{Config}
 use Rattle.lock_model.specs.Queues.{Mark, Cause, BySignal, ByAbort}
-use Rattle.lock_state.specs.State.{State, Wait, Queued, Running, Woken, put}
-use Rattle.lock_state.specs.Steps.{Step, Marks, Resumes}
+use Rattle.lock_state.specs.State.{State, Queued, Running, Woken, put}
+use Rattle.lock_state.specs.Steps.{Marks, Resumes}
 use Rattle.lock_state.specs.Steps.Turnstiles.{MayMark, MayResume, HasReleased, after_mark, after_resume}
 use Rattle.lock_state.specs.Facts.{QueuedStands}
 use Rattle.lock_state.specs.Run.{Run, does, run_after}
