@@ -1,5 +1,5 @@
 -- Reading goes by a line's number as it is told.
-use Rattle.std.proofs.Common.{◌≡◌, ℕ, suc, min, ◌≤◌, Bool, if◌then◌else◌, List, [], ◌∷◌, Option, Some, None, Err, refl, sym, ap, ◌∙◌, arith}
+use Rattle.std.proofs.Common.{◌≡◌, ℕ, suc, ◌≤◌, if◌then◌else◌, List, [], ◌∷◌, Option, Some, None, Err, refl, sym, ap, ◌∙◌, arith}
 use Rattle.lock_model.specs.Limits.{greatest_line}
 use Rattle.lock_model.specs.Script.{Reading, Reads, Faulty, told, plan_of, faulty_or, reading_from}
 use Rattle.lock_model.specs.Script.Faults.{line_fault, behind_line}

@@ -1,5 +1,4 @@
 -- What a statement and a first word of the code say, as the definition has them.
-use Rattle.std.specs.Prelude.{ℕ, List}
 use Rattle.lock_model.specs.Script.Lines.{words_of}
 use Rattle.lock_model.specs.Script.Statements as script
 use Rattle.lock_model.specs.declared.plan.Kind.TheVariants.{Mtx}

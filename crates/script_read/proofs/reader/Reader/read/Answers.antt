@@ -1,4 +1,4 @@
-use Rattle.std.proofs.Common.{◌≡◌, sym, ◌∙◌, arith}
+use Rattle.std.proofs.Common.{◌∙◌, arith}
 use Rattle.lock_model.specs.Script.Lines.{lines_of}
 use Rattle.script_read.specs.Readers.{known}
 use Rattle.script_read.proofs.ToldLines.{next_reading, error_tells}

@@ -1,4 +1,4 @@
-use Rattle.std.proofs.Common.{◌≡◌, sym, ◌∙◌, arith}
+use Rattle.std.proofs.Common.{sym, ◌∙◌, arith}
 use Rattle.script_read.specs.Readers.{known}
 use Rattle.script_read.specs.Statements.{meant}
 use Rattle.script_read.proofs.LineStages.{bytes_fault, no_fault, nothing_learned, words_fault, later_fault, learned_behind}

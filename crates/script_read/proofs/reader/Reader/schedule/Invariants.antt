@@ -1,5 +1,5 @@
-use Rattle.std.proofs.Common.{◌≡◌, ◌++◌, option_copied, length}
-use Rattle.lock_model.specs.Script.Learning.{learned, threads_named}
+use Rattle.std.proofs.Common.{◌≡◌, option_copied, length}
+use Rattle.lock_model.specs.Script.Learning.{learned}
 use Rattle.lock_model.specs.Script.Lines.{words_of}
 use Rattle.lock_model.specs.Script.Statements.{Schedules}
 use Rattle.script_read.specs.Reading.{words_behind}
