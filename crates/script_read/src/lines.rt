@@ -1,6 +1,6 @@
 //! Cutting a source into lines.
 ghost use Rattle.std.specs.Prelude.{◌≡◌, ℕ, ◌<◌, ◌++◌, ◌∷◌, [], length, IfSome, IfNone, MatchOption, position, ◌==◌};
-ghost use Rattle.lock_model.specs.Script.{lines_of};
+ghost use Rattle.lock_model.specs.Script.Lines.{lines_of};
 ghost use Rattle.script_read.specs.Reading.{Lacks};
 
 /// The first line and the bytes behind its end. `None` comes where no bytes are left.
