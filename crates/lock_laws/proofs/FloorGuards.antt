@@ -86,7 +86,7 @@ entering_may = (
                     (
                       record { thread = omega arith; lock = omega arith; turnstile = refl; mutex = λ e. refl; held = refl; refused = refl; queued = refl; unnamed = refl; own = refl; wants = inr refl; no_walk = refl; sections = λ l mode e. absurd cc },
                       (refl, refl),
-                      record { saw = refl; round = refl },
+                      record { saw = refl; round = refl; off = λ o. let z : false ≡ true = o.slept in cc },
                       -- both go home
                       (
                         record { thread = omega arith; out = refl; done = λ e w n. cc },

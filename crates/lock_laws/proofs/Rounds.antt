@@ -202,7 +202,7 @@ acting_kept chains c s (Readies t q) g x w h = acting_ready s h t
 acting_kept chains c s (Unreadies t q) g x w h = acting_unready s h t
 acting_kept chains c s (Enters t l mode y) g x w h = acting_stands s h t _
 acting_kept chains c s (EntersSleepQueue t l mode y) g x w h = acting_stands s h t _
-acting_kept chains c s (Adds t d y) g x w h = acting_sleeps s h t _ x.0
+acting_kept chains c s (Adds t d y) g x w h = acting_sleeps s h t _ x.no_round
 acting_kept chains c s (Marks t m ms) g x w h = acting_marked s h m.thread m.queue m.cause (mark.blocked_on c s t m ms g w)
 acting_kept chains c s (Resumes t q cause) g x w h = acting_resumed s h t _ (nowhere (s.blocked_on t) (resume.unnamed c s t q cause g w))
   where

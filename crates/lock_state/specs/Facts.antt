@@ -4,6 +4,7 @@ pub mod Waits
 pub mod Words
 pub mod Loans
 pub mod Books
+pub mod Sleeps
 use Rattle.lock_model.specs.Config.{Config}
 use Rattle.lock_state.specs.State.{State}
 unfoldable pub use Rattle.lock_model.specs.History.{TicketsRun, SectionsExclude, EditsInSections, ReadsReplay, ShownIsExplained}

@@ -275,13 +275,22 @@ pub record LooksInRound (chains : ℕ) (c : Config) (s : State) (t l : ℕ) (in_
   pub counts : in_round ≡ counts_as_look chains c s t l
   pub in_chain : is_bound (s.round t) ≡ true → seeks l (s.round t) ≡ true
 
--- an enter is an exchange from the word that the last look saw, in a blocking call's round that has taken the lock's chain
+-- a sleep on a channel begins outside the thread's rounds, with no wake to note and no halt
+pub record SleepsInTurn (s : State) (t : ℕ) : Type 0 where
+  pub no_round : s.round t ≡ None
+  pub stamped : s.unstamped t ≡ None
+  pub unnoted : s.noted t ≡ None
+
+-- an enter is an exchange from the word that the last look saw, in a blocking call's round that has taken the lock's chain. It is not made
+-- by a thread on its way to a channel
 pub record EntersFromLook (s : State) (t l : ℕ) : Type 0 where
   pub saw : s.last_look t ≡ Some (record { lock = l; word = s.word l })
   pub round : s.round t ≡ Some (record { lock = l; by_try = false; in_chain = true })
+  pub off : IsOnItsWay s t → ⊥
 
 -- Where a look in the lock's chain saw a word that doesn't admit, the thread enters and does not gain, until it looks again. A thread
--- sleeps on a channel outside its rounds, once it has noted that it sleeps.
+-- sleeps on a channel outside its rounds, where it has no wake to note; between its Sleeps entry and its add it neither enters a lock's
+-- queue nor runs again.
 abbrev pub HasSeen : ℕ → Config → State → Step → Type 0
 HasSeen chains c s (Seeks t l by_try) = ⊤
 HasSeen chains c s (Looks t l in_round) = LooksInRound chains c s t l in_round
@@ -296,7 +305,7 @@ HasSeen chains c s (Enters t l mode x) = EntersFromLook s t l
 HasSeen chains c s (Opens t l mode) = ⊤
 HasSeen chains c s (EntersSleepQueue t l mode x) = EntersFromLook s t l
 HasSeen chains c s (OpensSleepQueue t l mode) = ⊤
-HasSeen chains c s (Adds t d x) = (s.round t ≡ None) × (s.noted t ≡ None)
+HasSeen chains c s (Adds t d x) = SleepsInTurn s t
 HasSeen chains c s (Wakes t d all) = ⊤
 HasSeen chains c s (Marks t m ms) = ⊤
 HasSeen chains c s (Resumes t q cause) = ⊤
