@@ -21,6 +21,11 @@ use Rattle.lock_model.specs.declared.numbers.ThreadNo.{ThreadNo}
 
 -- 1. What is known
 
+-- a try's block that is open: what the thread held before the try, and the place of the try among its operations
+pub record Block : Type 0 where
+  pub before : List Held
+  pub opened_at : ℕ
+
 -- a thread whose `end` hasn't come
 pub record OpenThread : Type 0 where
   pub name : List ℕ
@@ -29,7 +34,7 @@ pub record OpenThread : Type 0 where
   -- what it holds behind its lines so far, in order of acquisition
   pub held : List Held
   -- what it held before the try of each open block, the innermost first
-  pub blocks : List (List Held)
+  pub blocks : List Block
 
 pub record Known : Type 0 where
   -- what each name stands for, in order of declaration
