@@ -33,7 +33,7 @@ pub record OpenThread : Type 0 where
   pub ops : List Op
   -- what it holds behind its lines so far, in order of acquisition
   pub held : List Held
-  -- what it held before the try of each open block, the innermost first
+  -- its open blocks, the innermost first
   pub blocks : List Block
 
 pub record Known : Type 0 where
