@@ -1,5 +1,5 @@
 -- Where a lock stands among those that a thread holds: there it is taken out, and the hold of that place is the lock's.
-use Rattle.std.proofs.Common.{◌≡◌, ℕ, suc, ◌+◌, ◌<◌, ◌≤◌, Bool, true, false, not, cond, nat_lt, List, [], ◌∷◌, length, get_or, Option, Some, None, refl, ap, subst, one-add, ◌∙◌, arith}
+use Rattle.std.proofs.Common.{◌≡◌, ℕ, suc, ◌+◌, ◌<◌, ◌≤◌, true, false, not, cond, nat_lt, List, [], ◌∷◌, length, get_or, Some, None, refl, ap, subst, arith}
 use Rattle.std.specs.Prelude.{◌==◌, remove, position}
 use Rattle.std.specs.List.{position_or_len}
 use Rattle.std.proofs.lemmas.Bool.{ltb-true}
