@@ -57,9 +57,9 @@ new_pushed decls ths n th d long at new each t u e is_u is_e =
 -- 2. The machine
 
 -- what a new thread shows
-shown : (plan : Plan) (chains : ℕ) (t : ℕ) (th : Thread) (d : ThreadDecl) → slice_get plan.threads t ≡ Some d → IsNew t d.base.0 th → RepresentsThread th (start_state (config_of plan chains)) t
+shown : (plan : Plan) (t : ℕ) (th : Thread) (d : ThreadDecl) → slice_get plan.threads t ≡ Some d → IsNew t d.base.0 th → RepresentsThread th (start_state (config_of plan)) t
 unfolding start_state
-shown plan chains t th d at new =
+shown plan t th d at new =
     let base : d.base.0 ≡ declared_base plan t = sym (ap (λ o. unwrap_or o 0) (slice_get-map (λ (e : ThreadDecl). e.base.0) plan.threads t ∙ ap (option_map (λ (e : ThreadDecl). e.base.0)) at)) in
     record {
       number = ap (λ (r : Record). r.thread) new.its_record;
@@ -97,9 +97,9 @@ pub record IsBegun (plan : Plan) (m : Machine) : Type 0 where
   pub no_key : m.tables.present ≡ empty
   pub keys : (l key : ℕ) → IsTrue (plan_names plan l key) → Contains m.tables.places (l, key)
 
-module _ (plan : Plan) (m : Machine) (chains : ℕ) (p : IsProper plan) (b : IsBegun plan m) where
+module _ (plan : Plan) (m : Machine) (p : IsProper plan) (b : IsBegun plan m) where
   abbrev c : Config
-  c = config_of plan chains
+  c = config_of plan
 
   words : RepresentsWords m.words.items c (λ l. free_word)
   words = record {
@@ -112,7 +112,7 @@ module _ (plan : Plan) (m : Machine) (chains : ℕ) (p : IsProper plan) (b : IsB
     threads = b.new.number;
     thread = λ t th e.
         let d = decl_of plan.threads m.threads.items t b.new (slice_get_within m.threads.items t th e) in
-        shown plan chains t th d.0 d.1 (b.new.each t th d.0 e d.1);
+        shown plan t th d.0 d.1 (b.new.each t th d.0 e d.1);
   }
 
   shows : Represents c m (start_state c)
@@ -126,7 +126,7 @@ module _ (plan : Plan) (m : Machine) (chains : ℕ) (p : IsProper plan) (b : IsB
     tables = b.no_key;
   }
 
-  its_aside : (t : ℕ) → t < length plan.threads → progress m t ≡ Some (record { place = 0; held = [] })
+  its_aside : (t : ℕ) → t < length plan.threads → progress m t ≡ Some (record { next_op = 0; held = [] })
   its_aside t l =
       elim ((slice_get_cases m.threads.items t).1) [
         | inl h ↦
@@ -136,7 +136,7 @@ module _ (plan : Plan) (m : Machine) (chains : ℕ) (p : IsProper plan) (b : IsB
         | inr h ↦ absurd (omega (arith, h.0, l, b.new.number))
       ]
 
-  pub begun : RepresentsRun plan chains m (start_run c)
+  pub begun : RepresentsRun plan m (start_run c)
   unfolding start_state
   begun = record {
     shows = shows;

@@ -4,13 +4,13 @@ use Rattle.std.specs.Option.{IfSome}
 use Rattle.std.proofs.lemmas.Option.{same_Some}
 use Rattle.std.specs.Vec.{with_item}
 use Rattle.std.specs.Box.{with_value}
-use Rattle.lock_model.specs.Words.{Holder, Free, HeldBy, SharedBy, IsPossible, word_of, entered, owner_of}
+use Rattle.lock_model.specs.Words.{IsPossible, word_of, entered, owner_of, is_free}
 use Rattle.lock_model.specs.Config.{Config}
 use Rattle.lock_state.specs.State.{State, Queued}
 use Rattle.lock_model.specs.Queues.{Waiter, Lists, lock_queue, stands, waiting, insert, head_with, free_with}
 use Rattle.lock_state.specs.Facts.{Lawful}
 use Rattle.lock_state.specs.Steps.LockWords.{after_ready}
-use Rattle.lock_state.specs.Steps.Turnstiles.{MayBlock, after_enter, after_block, owner_with, walk_in}
+use Rattle.lock_state.specs.Steps.Turnstiles.{MayEnter, after_enter, owner_with, walk_up as walk_column}
 use Rattle.lock_model.specs.declared.numbers.ThreadNo.{ThreadNo}
 use Rattle.lock_model.specs.declared.plan.Mode.TheVariants.{Excl}
 use Rattle.lock_model.specs.declared.plan.Side.TheVariants.{X}
@@ -42,13 +42,11 @@ abbrev pub owner_seen : Option ThreadNo → Option ℕ
 owner_seen o = option_map (λ t. t.0) o
 
 -- a walk begins where the columns say
-pub walk_begins : (l : ℕ) (o : Option ThreadNo) (x : Holder) → owner_seen o ≡ owner_of x → walk_of (walk_up l (is_some o)) ≡ walk_in l x
-walk_begins l None Free e = refl
-walk_begins l None (SharedBy n) e = refl
-walk_begins l None (HeldBy u) e = absurd cc
-walk_begins l (Some t) Free e = absurd cc
-walk_begins l (Some t) (SharedBy n) e = absurd cc
-walk_begins l (Some t) (HeldBy u) e = refl
+pub walk_begins : (l : ℕ) (o : Option ThreadNo) (x : Option ℕ) → owner_seen o ≡ x → walk_of (walk_up l (is_some o)) ≡ walk_column l x
+walk_begins l None None e = refl
+walk_begins l None (Some u) e = absurd cc
+walk_begins l (Some t) None e = absurd cc
+walk_begins l (Some t) (Some u) e = refl
 
 -- 2. What is read
 
@@ -74,16 +72,20 @@ placed_as q hd chain old e placed = subst (λ o. IfSome o (λ r. chain ≡ (r, h
 abbrev pub lent_record : ℕ → Record → Record
 lent_record l r = record r { turnstile = None; on = Some (lock_queue l) }
 
-module _ (m : Machine) (c : Config) (s : State) (t l x : ℕ) (h : Represents c m s) (lawful : Lawful c s) (g : MayBlock c s t l Excl x) where
+module _ (m : Machine) (c : Config) (s : State) (t l x : ℕ) (h : Represents c m s) (lawful : Lawful c s) (g : MayEnter c (after_ready s t) t l Excl x) where
   abbrev n : State
-  n = after_block s t l Excl x
+  n = after_enter (after_ready s t) t l Excl x
 
   abbrev q : QueueName
   q = lock_queue l
 
+  own_home : s.turnstile t ≡ Some x
+  unfolding after_ready
+  own_home = g.own
+
   -- of the other threads the columns stay
   others : (u : ℕ) → u ≢ t → SameAt s n u
-  unfolding after_block after_enter after_ready
+  unfolding after_enter after_ready
   others u d = record {
     base = refl;
     effective = refl;
@@ -91,7 +93,7 @@ module _ (m : Machine) (c : Config) (s : State) (t l x : ℕ) (h : Represents c 
     loan = λ k. refl;
     blocked_on = put_other s.blocked_on t (Some q) u (λ e. d (sym e));
     wait = put_other s.wait t Queued u (λ e. d (sym e));
-    walk = put_other s.walk t (walk_in l (s.word l).holder) u (λ e. d (sym e));
+    walk = put_other s.walk t (walk_column l (owner_of (s.word l).holder)) u (λ e. d (sym e));
     wanted = put_other s.wanted t (Some l) u (λ e. d (sym e));
     held = λ k. refl;
     marked = refl;
@@ -101,7 +103,7 @@ module _ (m : Machine) (c : Config) (s : State) (t l x : ℕ) (h : Represents c 
   pub thread_blocks : (th : Thread) (v : Record) (w : walks.Walk) (o : Option ThreadNo) → slice_get m.threads.items t ≡ Some th → owner_seen o ≡ owner_of (s.word l).holder
       → v ≡ lent_record l th.record.value → w ≡ walk_up l (is_some o)
       → RepresentsThread (record th { «record» = with_value th.record v; wait = wait.Queued; walk = w; wanted = Some (record { 0 = l }) }) n t
-  unfolding after_block after_enter after_ready
+  unfolding after_enter after_ready
   thread_blocks th v w o at owner rec walk =
       let old = h.threads.thread t th at in
       record {
@@ -113,7 +115,7 @@ module _ (m : Machine) (c : Config) (s : State) (t l x : ℕ) (h : Represents c 
         one_loan_each = λ k. subst (λ (r : Record). loans_for k r.loans ≤ 1) (sym rec) (old.one_loan_each k);
         blocked_on = ap (λ r. r.on) rec ∙ sym (put_same s.blocked_on t (Some q));
         wait = sym (put_same s.wait t Queued);
-        walk = ap walk_of walk ∙ walk_begins l o (s.word l).holder owner ∙ sym (put_same s.walk t (walk_in l (s.word l).holder));
+        walk = ap walk_of walk ∙ walk_begins l o (owner_of (s.word l).holder) owner ∙ sym (put_same s.walk t (walk_column l (owner_of (s.word l).holder)));
         wanted = sym (put_same s.wanted t (Some l));
         held = old.held;
         held_once = old.held_once;
@@ -122,11 +124,16 @@ module _ (m : Machine) (c : Config) (s : State) (t l x : ℕ) (h : Represents c 
         filled = old.filled;
       }
 
+  -- the lock is held
+  pub held_read : (i w : ℕ) → i ≡ l → w ≡ get_or m.words.items i w → is_free (word_of w).holder ≡ false
+  unfolding after_ready
+  held_read i w e is = subst (λ v. is_free v.holder ≡ false) (sym (word_read m.words.items c s.word l i w e h.words g.lock is)) g.held
+
   -- 4. The queue
 
   -- those of the other queues stay
   others_queue : (k : ℕ) → k ≢ l → SameQueue s n (lock_queue k)
-  unfolding after_block after_enter after_ready
+  unfolding after_enter after_ready
   others_queue k d = record {
     head = put_lock_other s.head l (head_with (s.head q) x) k (λ e. d (sym e));
     lists = put_lock_other s.lists l _ k (λ e. d (sym e));
@@ -142,7 +149,7 @@ module _ (m : Machine) (c : Config) (s : State) (t l x : ℕ) (h : Represents c 
   -- the first waiter's turnstile becomes the head
   pub head_begins : (o : Option ThreadNo) → owner_seen o ≡ owner_of (s.word l).holder → s.head q ≡ None
       → RepresentsHead (record (begun l waiter X (idle_contents x)) { owner = owner_seen o }) n.lists n.free_list n.head n.owner n.loan_home q
-  unfolding after_block after_enter after_ready
+  unfolding after_enter after_ready
   head_begins o owner none =
       let b = headless_bare c s q lawful none in
       record {
@@ -150,13 +157,13 @@ module _ (m : Machine) (c : Config) (s : State) (t l x : ℕ) (h : Represents c 
         lists = put_lock_same s.lists l _ ∙ ap (λ ws. let r : Lists = record { exclusive = insert waiter ws; shared = (s.lists q).shared } in r) b.no_exclusive ∙ ap (λ ws. let r : Lists = record { exclusive = waiter ∷ []; shared = ws } in r) b.no_shared;
         free = put_lock_same s.free_list l (free_with (s.head q) x (s.free_list q)) ∙ ap (λ y. free_with y x (s.free_list q)) none ∙ b.no_free;
         owner = put_lock_same s.owner l (owner_with (s.head q) (s.owner q) (s.word l).holder) ∙ ap (λ y. owner_with y (s.owner q) (s.word l).holder) none ∙ sym owner;
-        loan_home = node_home c s t x lawful g.thread g.own;
+        loan_home = node_home c s t x lawful g.thread own_home;
       }
 
   -- a later one's goes to the head's free list
   pub head_joined : (hd : Contents) → RepresentsHead hd s.lists s.free_list s.head s.owner s.loan_home q
       → RepresentsHead (joined x waiter X hd) n.lists n.free_list n.head n.owner n.loan_home q
-  unfolding after_block after_enter after_ready
+  unfolding after_enter after_ready
   head_joined hd old = record {
     head = put_lock_same s.head l (head_with (s.head q) x) ∙ ap (λ y. head_with y x) old.head;
     lists = put_lock_same s.lists l _ ∙ ap (λ ls. let r : Lists = record { exclusive = insert waiter ls.exclusive; shared = ls.shared } in r) old.lists;
@@ -175,7 +182,7 @@ module _ (m : Machine) (c : Config) (s : State) (t l x : ℕ) (h : Represents c 
   own_is : (th : Thread) (v : Turnstile) → slice_get m.threads.items t ≡ Some th → option_map idle th.record.value.turnstile ≡ Some v → v.contents ≡ idle_contents x
   own_is th v at own =
       let old = h.threads.thread t th at in
-      ap (λ (w : Turnstile). w.contents) (same_Some v (idle x) (sym own ∙ ap (option_map idle) (old.turnstile ∙ g.own)))
+      ap (λ (w : Turnstile). w.contents) (same_Some v (idle x) (sym own ∙ ap (option_map idle) (old.turnstile ∙ own_home)))
 
   pub first_shown : (th : Thread) (o : Option ThreadNo) (v : Turnstile) (u p : ℕ) (hd : Contents) → slice_get m.threads.items t ≡ Some th → owner_seen o ≡ owner_of (s.word l).holder
       → option_map idle th.record.value.turnstile ≡ Some v → u ≡ th.record.value.thread → p ≡ th.record.value.effective → None ≡ head_of q m.chain
@@ -198,7 +205,7 @@ module _ (m : Machine) (c : Config) (s : State) (t l x : ℕ) (h : Represents c 
 
   -- the thread has its turnstile
   pub has_own : (th : Thread) → slice_get m.threads.items t ≡ Some th → IsSome th.record.value.turnstile
-  has_own th at = ap is_some ((h.threads.thread t th at).turnstile ∙ g.own)
+  has_own th at = ap is_some ((h.threads.thread t th at).turnstile ∙ own_home)
 
   -- what a further waiter needs: the head has one, and the thread isn't there yet
   pub has_waiter : (hd : Turnstile) → Some hd ≡ head_of q m.chain → all_waiters hd.contents ≢ []
@@ -212,14 +219,14 @@ module _ (m : Machine) (c : Config) (s : State) (t l x : ℕ) (h : Represents c 
   pub is_absent : (th : Thread) (u : ℕ) (hd : Turnstile) → slice_get m.threads.items t ≡ Some th → u ≡ th.record.value.thread → Some hd ≡ head_of q m.chain → waits u hd.contents ≡ false
   is_absent th u hd at number some =
       let old = head_seen m c s l h hd some in
-      ap (λ i. waits i hd.contents) (number ∙ (h.threads.thread t th at).number) ∙ ap (ltb 0) (ap (stands t) (sym old.lists) ∙ home_nowhere c s t l x lawful g.own g.turnstile)
+      ap (λ i. waits i hd.contents) (number ∙ (h.threads.thread t th at).number) ∙ ap (ltb 0) (ap (stands t) (sym old.lists) ∙ home_nowhere c s t l x lawful own_home g.turnstile)
 
   -- 5. The machine
 
   pub blocked : (w : ℕ) (chain : List (QueueName × Turnstile)) (hd : Turnstile) (new : Thread) → word_of w ≡ entered (s.word l) X
       → chain ≡ (q, hd) ∷ without q m.chain → RepresentsHead hd.contents n.lists n.free_list n.head n.owner n.loan_home q → RepresentsThread new n t
       → Represents c (record m { words = with_item m.words l w; chain = chain; threads = with_item m.threads t new }) n
-  unfolding after_block after_enter after_ready
+  unfolding after_enter after_ready
   blocked w chain hd new word is head thread = record {
     within = h.within;
     words = word_changed m.words.items c s.word l w (entered (s.word l) X) h.words g.lock word;

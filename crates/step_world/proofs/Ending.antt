@@ -20,7 +20,7 @@ read_at ths t i th e l is = slice_get_read ths (length ths) t th refl l (is ∙ 
 
 -- the thread with one operation more behind it
 abbrev pub further : Thread → Thread
-further th = record th { place = th.place + 1 }
+further th = record th { next_op = th.next_op + 1 }
 
 stays_same : (s : State) (u : ℕ) → SameAt s s u
 stays_same s u = record {

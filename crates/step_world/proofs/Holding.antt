@@ -151,7 +151,7 @@ holding held th = record th { wanted = None; held = held }
 abbrev pub entry_of : LockNo → Held
 entry_of l = record { l = l; mode = Excl; by_try = false }
 
-gain_of_others : (s : State) (t l u : ℕ) → u ≢ t → SameAt s (after_gain s t l Excl) u
+gain_of_others : (s : State) (t l u : ℕ) → u ≢ t → SameAt s (after_gain s t l Excl false) u
 unfolding after_gain
 gain_of_others s t l u n = record {
   base = refl;
@@ -168,7 +168,7 @@ gain_of_others s t l u n = record {
 
 pub lock_gained : (m : Machine) (c : Config) (s : State) (t : ℕ) (l : LockNo) (w : ℕ) (th : Thread) (held : Vec Held) → slice_get m.threads.items t ≡ Some th
     → word_of w ≡ words.gained (s.word l.0) t Excl → held.items ≡ th.held.items ++ entry_of l ∷ [] → vec_capacity held ≡ vec_capacity th.held
-    → Represents c m s → MayGain c s t l.0 Excl → Represents c (record m { words = with_item m.words l.0 w; threads = with_item m.threads t (holding held th) }) (after_gain s t l.0 Excl)
+    → Represents c m s → MayGain c s t l.0 Excl → Represents c (record m { words = with_item m.words l.0 w; threads = with_item m.threads t (holding held th) }) (after_gain s t l.0 Excl false)
 unfolding after_gain
 lock_gained m c s t l w th held at new items room h g =
     let old = h.threads.thread t th at in
@@ -176,7 +176,7 @@ lock_gained m c s t l w th held at new items room h g =
       within = h.within;
       words = word_changed m.words.items c s.word l.0 w (words.gained (s.word l.0) t Excl) h.words g.lock new;
       queues = h.queues;
-      threads = thread_changed m.threads.items c s (after_gain s t l.0 Excl) t (holding held th) h.threads g.thread (record {
+      threads = thread_changed m.threads.items c s (after_gain s t l.0 Excl false) t (holding held th) h.threads g.thread (record {
         number = old.number;
         base = old.base;
         effective = old.effective;

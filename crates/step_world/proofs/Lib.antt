@@ -20,7 +20,6 @@ pub mod RowsOfNotes
 pub mod RowsOfTakes
 pub mod RowsOfReleases
 pub mod RowsOfOperations
-pub mod RowsOfWaits
 pub mod WorldsAreSound
 pub mod RowsOfWalks
 pub mod RowsOfTurns

@@ -7,7 +7,8 @@ use Rattle.lock_model.specs.Config.{Config}
 use Rattle.lock_state.specs.State.{State}
 use Rattle.lock_model.specs.Queues.{Lists, lock_queue, stands, with_kept}
 use Rattle.lock_state.specs.Facts.{Lawful}
-use Rattle.lock_state.specs.Steps.Lending.{MayShift, after_shift, walk_up}
+use Rattle.lock_state.specs.Steps.Lending.{MayShift, after_shift}
+use Rattle.lock_state.specs.Steps.Turnstiles.{walk_up}
 use Rattle.lock_model.specs.declared.plan.QueueName.{QueueName}
 use Rattle.lock_laws.proofs.Kit.{put_same, put_other, put_lock_same, put_lock_other}
 use Rattle.lock_laws.proofs.Standing.{standing_thread}

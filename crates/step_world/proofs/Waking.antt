@@ -4,7 +4,8 @@ use Rattle.std.specs.Vec.{with_item}
 use Rattle.lock_model.specs.Config.{Config}
 use Rattle.lock_state.specs.State.{State, Wait, Running, Queued, Woken}
 use Rattle.lock_model.specs.Queues.{Cause}
-use Rattle.lock_state.specs.Steps.Turnstiles.{MayResume, after_resume, wanted_after, is_taking_back}
+use Rattle.lock_state.specs.Steps.Turnstiles.{MayResume, after_resume, wanted_after}
+use Rattle.lock_state.specs.Steps.LockWords.{is_taking_back}
 use Rattle.lock_model.specs.declared.plan.QueueName.{QueueName}
 use Rattle.lock_laws.proofs.Kit.{put_same, put_other}
 use Rattle.step_world.specs.declared.machine.Machine.{Machine}

@@ -34,7 +34,7 @@ pub struct Thread {
     pub marked: Taken,
     pub marked_from: LockNo,
     /// How many of its operations are behind it.
-    pub place: usize,
+    pub next_op: usize,
 }
 
 impl Thread {
@@ -50,7 +50,7 @@ impl Thread {
             held: Vec::with_capacity(alloc, HELD)?,
             marked: Taken::empty(),
             marked_from: LockNo(0),
-            place: 0,
+            next_op: 0,
         })
     }
 
@@ -58,7 +58,7 @@ impl Thread {
     pub fn has_ended(&self, ops: &[Op]) -> bool
         ensures { result ≡ thread_has_ended (length ops.now) self.now }
     {
-        self.place >= ops.len()
+        self.next_op >= ops.len()
             && self.walk == Walk::None
             && self.marked.is_empty()
             && self.held.is_empty()

@@ -1,6 +1,7 @@
 //! Gains, and releases of locks that show no waiters.
 ghost use Rattle.std.specs.Prelude.{◌++◌, [], ◌∷◌, false};
-ghost use Rattle.lock_state.specs.Steps.LockWords.{MayGain, after_gain, MayDrop, after_drop};
+ghost use Rattle.lock_state.specs.Steps.{Gains, Drops};
+ghost use Rattle.lock_state.specs.Steps.LockWords.{MayGain, MayDrop};
 ghost use Rattle.lock_model.specs.Operations.{without_lock};
 ghost use Rattle.step_world.specs.Steps.{May, Makes, ChangesProgress, KeepsBooks, HoldsFew};
 
@@ -13,7 +14,7 @@ impl Machine {
     pub fn gain(&mut self, t: ThreadNo, l: LockNo)
         requires may { May self.old (λ c s. MayGain c s t.0 l.0 Mode.Excl) }
         requires room { HoldsFew self.old t.0 }
-        ensures step { Makes self.old self.new (λ c s. MayGain c s t.0 l.0 Mode.Excl) (λ c s. after_gain s t.0 l.0 Mode.Excl) }
+        ensures step { Makes self.old self.new (Gains t.0 l.0 Mode.Excl false) }
         ensures progress { ChangesProgress self.old self.new t.0 (λ a. record a { held = a.held ++ (record { l = l; mode = Mode.Excl; by_try = false }) ∷ [] }) }
         ensures books { KeepsBooks self.old self.new }
     {
@@ -31,7 +32,7 @@ impl Machine {
     /// The thread releases a mutex whose word shows no waiters.
     pub fn drop_lock(&mut self, t: ThreadNo, l: LockNo)
         requires may { May self.old (λ c s. MayDrop c s t.0 l.0 Mode.Excl) }
-        ensures step { Makes self.old self.new (λ c s. MayDrop c s t.0 l.0 Mode.Excl) (λ c s. after_drop s t.0 l.0) }
+        ensures step { Makes self.old self.new (Drops t.0 l.0 Mode.Excl) }
         ensures progress { ChangesProgress self.old self.new t.0 (λ a. record a { held = without_lock l.0 a.held }) }
         ensures books { KeepsBooks self.old self.new }
     {

@@ -1,19 +1,19 @@
 //! Blocking on a turnstile, and waking from it.
-ghost use Rattle.std.specs.Prelude.{◌≡◌, ℕ, option_map, is_some, List, []};
+ghost use Rattle.std.specs.Prelude.{◌≡◌, ℕ, option_map, is_some, List, [], ◌∷◌};
 ghost use Rattle.lock_model.specs.Queues.{Mark, Cause};
-ghost use Rattle.lock_state.specs.Steps.Turnstiles.{MayBlock, after_block, MayOpen, after_open, MayMark, after_mark, MayResume, after_resume};
-ghost use Rattle.lock_model.specs.Words.{word_of, IsWellFormed, owner_of};
+ghost use Rattle.lock_state.specs.Steps.{MayAll, Readies, Enters, Opens, Marks, Resumes};
+ghost use Rattle.lock_state.specs.Steps.Turnstiles.{MayOpen, MayMark, MayResume};
 ghost use Rattle.lock_model.specs.Operations.{without_lock};
 ghost use Rattle.lock_model.specs.declared.plan.QueueName as names;
 ghost use Rattle.turnstile_core.specs.Seen.{idle, IsEmpty};
 ghost use Rattle.turnstile_core.specs.Changes.{begun};
 ghost use Rattle.prio_lending.specs.Hops.{walk_up};
-ghost use Rattle.step_world.specs.Steps.{May, Makes, KeepsProgress, ChangesProgress, KeepsBooks};
+ghost use Rattle.step_world.specs.Steps.{May, Makes, MakesAll, KeepsProgress, ChangesProgress, KeepsBooks};
 
 use super::Machine;
 use crate::thread::Wait;
 use lock_model::{Kind, LockNo, Mode, Prio, QueueName, Side, ThreadNo};
-use lock_words::{Hold, decode, entered, opened};
+use lock_words::{entered, opened, owner_of};
 use prio_lending::{Walk, settle_release};
 use turnstile_core::{Turnstile, Waiter};
 
@@ -21,8 +21,10 @@ impl Machine {
     /// The thread blocks on a mutex that is held: its turnstile becomes the head for the lock, or goes to the free list of the head that
     /// stands there, and its lending walk begins at the lock.
     pub fn block(&mut self, t: ThreadNo, l: LockNo)
-        requires may { May self.old (λ c s. (x : ℕ) × MayBlock c s t.0 l.0 Mode.Excl x) }
-        ensures step { (x : ℕ) → Makes self.old self.new (λ c s. MayBlock c s t.0 l.0 Mode.Excl x) (λ c s. after_block s t.0 l.0 Mode.Excl x) }
+        requires may { May self.old (λ c s. (x : ℕ)
+            × MayAll c s (Readies t.0 (QueueName.Lock l) ∷ Enters t.0 l.0 Mode.Excl x ∷ [])) }
+        ensures steps { (x : ℕ) → MakesAll self.old self.new
+            (Readies t.0 (QueueName.Lock l) ∷ Enters t.0 l.0 Mode.Excl x ∷ []) }
         ensures progress { KeepsProgress self.old self.new }
         ensures books { KeepsBooks self.old self.new }
     {
@@ -49,7 +51,7 @@ impl Machine {
     /// The thread releases a mutex whose word shows waiters: they are taken off the queue, to be woken, and what they lent it goes home.
     pub fn open(&mut self, t: ThreadNo, l: LockNo)
         requires may { May self.old (λ c s. MayOpen c s t.0 l.0 Mode.Excl) }
-        ensures step { Makes self.old self.new (λ c s. MayOpen c s t.0 l.0 Mode.Excl) (λ c s. after_open c s t.0 l.0) }
+        ensures step { Makes self.old self.new (Opens t.0 l.0 Mode.Excl) }
         ensures progress { ChangesProgress self.old self.new t.0 (λ a. record a { held = without_lock l.0 a.held }) }
         ensures books { KeepsBooks self.old self.new }
     {
@@ -75,7 +77,7 @@ impl Machine {
     /// The first of the thread's marked list gets its turnstile back and is woken.
     pub fn mark(&mut self, t: ThreadNo)
         requires may { May self.old (λ c s. (m : Mark) × (ms : List Mark) × MayMark c s t.0 m ms) }
-        ensures step { (m : Mark) (ms : List Mark) → Makes self.old self.new (λ c s. MayMark c s t.0 m ms) (λ c s. after_mark c s t.0 m ms) }
+        ensures step { (m : Mark) (ms : List Mark) → Makes self.old self.new (Marks t.0 m ms) }
         ensures progress { KeepsProgress self.old self.new }
         ensures books { KeepsBooks self.old self.new }
     {
@@ -92,7 +94,7 @@ impl Machine {
     /// A woken thread runs again.
     pub fn resume(&mut self, t: ThreadNo)
         requires may { May self.old (λ c s. (q : names.QueueName) × (cause : Cause) × MayResume c s t.0 q cause) }
-        ensures step { (q : names.QueueName) (cause : Cause) → Makes self.old self.new (λ c s. MayResume c s t.0 q cause) (λ c s. after_resume c s t.0 q cause) }
+        ensures step { (q : names.QueueName) (cause : Cause) → Makes self.old self.new (Resumes t.0 q cause) }
         ensures progress { KeepsProgress self.old self.new }
         ensures books { KeepsBooks self.old self.new }
     {
@@ -129,15 +131,4 @@ fn first_waiter(
         own.claim(owner);
     }
     own
-}
-
-// The thread that holds a lock exclusively.
-fn owner_of(word: u64) -> Option<ThreadNo>
-    requires { IsWellFormed (word_of word) }
-    ensures { option_map (λ t. t.0) result ≡ owner_of (word_of word).holder }
-{
-    match decode(word).hold {
-        Hold::Excl(owner) => Some(owner),
-        Hold::Free | Hold::Shared(_) => None,
-    }
 }

@@ -3,7 +3,8 @@ ghost use Rattle.std.specs.Prelude.{◌≡◌, ℕ, IfSome, is_some};
 ghost use Rattle.chain_table.specs.Chains.{head_of};
 ghost use Rattle.lock_model.specs.Queues.{names_turnstile};
 ghost use Rattle.lock_model.specs.Config.{Config};
-ghost use Rattle.lock_state.specs.Steps.Lending.{MayLend, after_lend, MayShift, after_shift, MayEndWalk, after_end_walk};
+ghost use Rattle.lock_state.specs.Steps.{Lends, Shifts, EndsWalk};
+ghost use Rattle.lock_state.specs.Steps.Lending.{MayLend, MayShift, MayEndWalk};
 ghost use Rattle.lock_model.specs.declared.plan.Kind.TheVariants.{Mtx};
 ghost use Rattle.step_world.specs.Steps.{May, Makes, KeepsProgress, KeepsBooks};
 
@@ -18,7 +19,7 @@ impl Machine {
     /// The thread's walk stands at a lock, whose turnstile has that owner: the owner is lent the best priority of those who wait.
     pub fn lend_to(&mut self, t: ThreadNo, l: LockNo, owner: ThreadNo)
         requires may { May self.old (λ c s. (h : ℕ) × MayLend c s t.0 l.0 owner.0 h) }
-        ensures step { (h : ℕ) → Makes self.old self.new (λ c s. MayLend c s t.0 l.0 owner.0 h) (λ c s. after_lend c s t.0 l.0 owner.0 h) }
+        ensures step { (h : ℕ) → Makes self.old self.new (Lends t.0 l.0 owner.0 h) }
         ensures progress { KeepsProgress self.old self.new }
         ensures books { KeepsBooks self.old self.new }
     {
@@ -35,7 +36,7 @@ impl Machine {
     /// The thread's walk stands at a thread that waits for a lock: that one is sorted anew among those who wait.
     pub fn sort_anew(&mut self, t: ThreadNo, o: ThreadNo, l: LockNo)
         requires may { May self.old (λ c s. MayShift c s t.0 o.0 l.0) }
-        ensures step { Makes self.old self.new (λ c s. MayShift c s t.0 o.0 l.0) (λ c s. after_shift s t.0 o.0 l.0) }
+        ensures step { Makes self.old self.new (Shifts t.0 o.0 l.0) }
         ensures progress { KeepsProgress self.old self.new }
         ensures books { KeepsBooks self.old self.new }
     {
@@ -48,7 +49,7 @@ impl Machine {
     /// The thread's walk has nothing to do where it stands, and ends.
     pub fn end_walk(&mut self, t: ThreadNo)
         requires may { May self.old (λ c s. MayEndWalk c s t.0) }
-        ensures step { Makes self.old self.new (λ c s. MayEndWalk c s t.0) (λ c s. after_end_walk s t.0) }
+        ensures step { Makes self.old self.new (EndsWalk t.0) }
         ensures progress { KeepsProgress self.old self.new }
         ensures books { KeepsBooks self.old self.new }
     {

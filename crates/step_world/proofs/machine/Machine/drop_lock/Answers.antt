@@ -29,4 +29,4 @@ returns-clause-progress c =
     let m = c.requires.may in
     let th = c.index_mut-2.result.now in
     let at = read c.args.self.now m.0 m.1 c.args.t.0 c.from.result th c.from.ensures m.2 m.4.thread c.index_mut-2.ensures.value in
-    rw c.from.ensures (aside_changed c.args.self.now.threads.items c.args.t.0 c.put_down.new.self th (λ (a : Progress). record a { held = without_lock c.args.l.0 a.held }) at (ap progress_of c.put_down.ensures.others ∙ ap (λ hs. record { place = th.place; held = hs }) c.put_down.ensures.held))
+    rw c.from.ensures (aside_changed c.args.self.now.threads.items c.args.t.0 c.put_down.new.self th (λ (a : Progress). record a { held = without_lock c.args.l.0 a.held }) at (ap progress_of c.put_down.ensures.others ∙ ap (λ hs. record { next_op = th.next_op; held = hs }) c.put_down.ensures.held))

@@ -24,4 +24,4 @@ pub returns-clause-progress : goal.returns-clause-progress
 returns-clause-progress c =
     let m = c.requires.may in
     let th = c.index_mut-thread.result.now in
-    rw c.from.ensures (aside_changed c.args.self.now.threads.items c.args.t.0 (holding c.push_reserved.new.self th) th (λ (a : Progress). record a { held = a.held ++ entry_of c.args.l ∷ [] }) (read c.args.self.now m.0 m.1 c.args.t.0 c.from.result th c.from.ensures m.2 m.4.thread c.index_mut-thread.ensures.value) (ap (λ hs. record { place = th.place; held = hs }) c.push_reserved.ensures.items))
+    rw c.from.ensures (aside_changed c.args.self.now.threads.items c.args.t.0 (holding c.push_reserved.new.self th) th (λ (a : Progress). record a { held = a.held ++ entry_of c.args.l ∷ [] }) (read c.args.self.now m.0 m.1 c.args.t.0 c.from.result th c.from.ensures m.2 m.4.thread c.index_mut-thread.ensures.value) (ap (λ hs. record { next_op = th.next_op; held = hs }) c.push_reserved.ensures.items))

@@ -83,7 +83,7 @@ returns-clause-progress c =
     let m = c.requires.may in
     let th = c.index_mut-thread.result.now in
     let at = read c.args.self.now m.0 m.1 c.args.t.0 c.from.result th c.from.ensures m.2 m.4.thread c.index_mut-thread.ensures.value in
-    rw c.from.ensures (aside_changed c.args.self.now.threads.items c.args.t.0 _ th (λ a. record a { held = without_lock c.args.l.0 a.held }) at (ap progress_of (ap (λ (o : Thread). record o { held = c.put_down.new.self.held }) c.put_down.ensures.others) ∙ ap (λ hs. let a : Progress = record { place = th.place; held = hs } in a) c.put_down.ensures.held))
+    rw c.from.ensures (aside_changed c.args.self.now.threads.items c.args.t.0 _ th (λ a. record a { held = without_lock c.args.l.0 a.held }) at (ap progress_of (ap (λ (o : Thread). record o { held = c.put_down.new.self.held }) c.put_down.ensures.others) ∙ ap (λ hs. let a : Progress = record { next_op = th.next_op; held = hs } in a) c.put_down.ensures.held))
 
 pub returns-clause-step : goal.returns-clause-step
 returns-clause-step c k s h lawful g =
