@@ -17,11 +17,13 @@ use Rattle.lock_model.specs.Words.{word_of, free_word}
 use Rattle.lock_model.specs.declared.numbers.LockNo.{LockNo}
 use Rattle.lock_model.specs.declared.plan.Plan.{Plan}
 use Rattle.lock_model.specs.declared.plan.ThreadDecl.{ThreadDecl}
-use Rattle.thread_records.specs.Loans.{loan_for, loans_for}
-use Rattle.thread_records.specs.Records.{Record}
+use Rattle.thread_records.specs.Loans.{loans_for}
+use Rattle.thread_records.specs.Records.{Record, made}
 use Rattle.turnstile_core.specs.Seen.{Place}
 use Rattle.step_world.specs.Runs.{AreNew, RepresentsRun}
-use Rattle.step_world.specs.Represents.{Represents, RepresentsWords, RepresentsThread, RepresentsThreads, wait_of, walk_of, loan_of, mark_of, holds_of}
+use Rattle.lock_objects.specs.Held.{holds_of}
+use Rattle.lock_objects.specs.Represents.{columns_of, mark_of, walk_of}
+use Rattle.step_world.specs.Represents.{Represents, RepresentsWords, RepresentsThread, RepresentsThreads, wait_of}
 use Rattle.step_world.specs.Steps.{progress}
 use Rattle.step_world.specs.Threads.{IsNew}
 use Rattle.step_world.specs.declared.machine.Machine.{Machine}
@@ -62,21 +64,18 @@ unfolding start_state
 shown plan t th d at new =
     let base : d.base.0 ≡ declared_base plan t = sym (ap (λ o. unwrap_or o 0) (slice_get-map (λ (e : ThreadDecl). e.base.0) plan.threads t ∙ ap (option_map (λ (e : ThreadDecl). e.base.0)) at)) in
     record {
-      number = ap (λ (r : Record). r.thread) new.its_record;
-      base = ap (λ (r : Record). r.base) new.its_record ∙ base;
-      effective = ap (λ (r : Record). r.effective) new.its_record ∙ base;
-      turnstile = ap (λ (r : Record). r.turnstile) new.its_record;
-      loans = λ l. ap (λ (r : Record). option_map loan_of (loan_for l r.loans)) new.its_record;
+      columns = λ i. record {
+        its_record = (ap columns_of new.its_record ∙ (λ j. record (columns_of (made t d.base.0)) { base = base j; effective = base j })) i;
+        wait = wait_of (new.running i);
+        walk = walk_of (new.no_walk i);
+        wanted = option_map (λ (l : LockNo). l.0) (new.wants_none i);
+        held = hold_in (new.holds_none i);
+        marked = map (mark_of th.marked_from) (new.unmarked i);
+      };
       one_loan_each = λ l. omega (arith, ap (λ (r : Record). loans_for l r.loans) new.its_record);
-      blocked_on = ap (λ (r : Record). r.on) new.its_record;
-      wait = ap wait_of new.running;
-      walk = ap walk_of new.no_walk;
-      wanted = ap (option_map (λ (l : LockNo). l.0)) new.wants_none;
-      held = λ l. ap (λ hs. hold_in hs l) new.holds_none;
-      held_once = λ l. omega (arith, ap (λ hs. holds_of l hs) new.holds_none);
-      held_room = new.held_room;
-      marked = ap (map (mark_of (lock_queue th.marked_from.0))) new.unmarked;
-      filled = rw new.unmarked (All-nil (λ (p : Place). IsSome p.turnstile));
+      held = record { once = λ l. omega (arith, ap (λ hs. holds_of l hs) new.holds_none); room = new.held_room };
+      marked = record { filled = rw new.unmarked (All-nil (λ (p : Place). IsSome p.turnstile)); off = λ some. absurd (some new.unmarked) };
+      woken = rw new.running tt;
     }
 
 -- the declaration of a thread
@@ -120,7 +119,7 @@ module _ (plan : Plan) (m : Machine) (p : IsProper plan) (b : IsBegun plan m) wh
   shows = record {
     within = record { few_locks = p.locks; few_threads = p.threads; mutexes = p.mutexes };
     words = words;
-    queues = λ l. rw b.no_queue refl;
+    queues = record { lock = λ l k. rw b.no_queue refl };
     threads = threads;
     history = b.no_entry;
     tables = b.no_key;

@@ -18,7 +18,7 @@ use Rattle.prio_lending.specs.declared.walk.Walk as walks
 use Rattle.prio_lending.specs.declared.walk.Walk.TheVariants as walk
 use Rattle.step_world.specs.declared.machine.Machine.{Machine}
 use Rattle.step_world.specs.declared.thread.Thread.{Thread}
-use Rattle.step_world.specs.Represents.{walk_of}
+use Rattle.lock_objects.specs.Represents.{walk_of}
 use Rattle.step_world.specs.Threads.{has_no_walk, thread_has_ended}
 use Rattle.step_world.specs.Steps.{progress_of}
 use Rattle.step_world.specs.Runs.{IsRunOf, progress_in}
@@ -85,8 +85,8 @@ ends_as_said plan m r t th h lt e =
     let hs : List Held = held_of n (operations_of plan t) (r.next_op t) in
     let next : th.next_op ≡ r.next_op t = ap (λ x. x.next_op) a in
     let held : th.held.items ≡ hs = ap (λ x. x.held) a in
-    let its_walk : has_no_walk th.walk ≡ not (is_walking (r.state.walk t)) = no_walk th.walk ∙ ap (λ w. not (is_walking w)) old.walk in
-    let its_marked : is_empty th.marked ≡ is_empty (r.state.marked t) = same_empty _ th.marked ∙ ap is_empty old.marked in
+    let its_walk : has_no_walk th.walk ≡ not (is_walking (r.state.walk t)) = no_walk th.walk ∙ ap (λ w. not (is_walking w)) (ap (λ x. x.walk) old.columns) in
+    let its_marked : is_empty th.marked ≡ is_empty (r.state.marked t) = same_empty _ th.marked ∙ ap is_empty (ap (λ x. x.marked) old.columns) in
     let same : r.state.held t ≡ hold_in hs = λ i l. h.on_track.holds t l i in
     let its_held : is_empty th.held.items ≡ holds_none (config_of plan) r.state t =
     ap is_empty held ∙ none_where_empty n hs (are_locks n (operations_of plan t) (r.next_op t)) ∙ sym (ap (none_held_by n) same) in

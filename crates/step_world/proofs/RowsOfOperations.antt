@@ -65,5 +65,5 @@ module _ {plan : Plan} {m : Machine} {r : Run} {t : ℕ} {op : Op} (p : IsProper
   pub shown : {th : Thread} {base effective : Prio} → op ≡ Show → slice_get m.threads.items t ≡ Some th → base.0 ≡ th.record.value.base → effective.0 ≡ th.record.value.effective → IsNote plan r t (event.Shown base effective)
   shown {th} {base} {effective} e is b f =
       let old = h.shows.shows.threads.thread t th is in
-      subst (λ (n : ℕ). IsNote plan r t (event.Shown (record { 0 = n }) effective)) (sym (b ∙ old.base))
-      (subst (λ (n : ℕ). IsNote plan r t (event.Shown (record { 0 = r.state.base t }) (record { 0 = n }))) (sym (f ∙ old.effective)) (is_note p lt h (is_at e at) shows))
+      subst (λ (n : ℕ). IsNote plan r t (event.Shown (record { 0 = n }) effective)) (sym (b ∙ ap (λ x. x.its_record.base) old.columns))
+      (subst (λ (n : ℕ). IsNote plan r t (event.Shown (record { 0 = r.state.base t }) (record { 0 = n }))) (sym (f ∙ ap (λ x. x.its_record.effective) old.columns)) (is_note p lt h (is_at e at) shows))

@@ -22,7 +22,8 @@ use Rattle.prio_lending.specs.declared.walk.Walk.TheVariants as walk
 use Rattle.step_world.specs.declared.machine.Machine.{Machine}
 use Rattle.step_world.specs.declared.thread.Thread.{Thread}
 use Rattle.step_world.specs.declared.thread.Wait.TheVariants as wait
-use Rattle.step_world.specs.Represents.{RepresentsThread, walk_of, wait_of, mark_of}
+use Rattle.lock_objects.specs.Represents.{walk_of, mark_of}
+use Rattle.step_world.specs.Represents.{RepresentsThread, wait_of}
 use Rattle.step_world.specs.Threads.{thread_has_ended}
 use Rattle.step_world.specs.Steps.{May, Makes, KeepsProgress, KeepsBooks}
 use Rattle.step_world.specs.Runs.{IsRunOf, IsTurn, IsFree, progress_in}
@@ -32,7 +33,7 @@ use Rattle.step_world.proofs.Turning.{IsTurning, of_books, begins, may_next, ste
 
 -- the thread that was read at the place of a number
 pub here : {plan : Plan} {m : Machine} {r : Run} {t i : ℕ} {th : Thread} → IsRunOf plan m r → t < length plan.threads → i ≡ t → th ≡ get_or m.threads.items i th → slice_get m.threads.items t ≡ Some th
-here {plan} {m} {r} {t} {i} {th} h lt same got = read m (config_of plan) r.state t i th same h.shows.shows lt got
+here {plan} {m} {r} {t} {i} {th} h lt same got = read t i th h.shows.shows.threads lt same got
 
 module _ {plan : Plan} {m : Machine} {r : Run} {t : ℕ} {th : Thread} (p : IsProper plan) (lt : t < length plan.threads) (h : IsRunOf plan m r) (is : slice_get m.threads.items t ≡ Some th) where
   abbrev s : State
@@ -53,19 +54,19 @@ module _ {plan : Plan} {m : Machine} {r : Run} {t : ℕ} {th : Thread} (p : IsPr
   -- 2. Its walk
 
   pub at_lock : (l : LockNo) → th.walk ≡ walk.AtLock l → s.walk t ≡ AtLock l.0
-  at_lock l e = sym its.walk ∙ ap walk_of e
+  at_lock l e = sym (ap (λ x. x.walk) its.columns) ∙ ap walk_of e
 
   pub at_thread : (o : ThreadNo) → th.walk ≡ walk.AtThread o → s.walk t ≡ AtThread o.0
-  at_thread o e = sym its.walk ∙ ap walk_of e
+  at_thread o e = sym (ap (λ x. x.walk) its.columns) ∙ ap walk_of e
 
   -- 3. Its marked list, where it has no walk
 
   module _ (e : th.walk ≡ walk.None) where
     no_walk : s.walk t ≡ NoWalk
-    no_walk = sym its.walk ∙ ap walk_of e
+    no_walk = sym (ap (λ x. x.walk) its.columns) ∙ ap walk_of e
 
     pub is_free : th.marked ≡ [] → has_ended plan r t ≡ false → IsFree plan r t
-    is_free none going = record { going = going; owes = record { no_walk = no_walk; unmarked = sym its.marked ∙ ap (map (mark_of (lock_queue th.marked_from.0))) none } }
+    is_free none going = record { going = going; owes = record { no_walk = no_walk; unmarked = sym (ap (λ x. x.marked) its.columns) ∙ ap (map (mark_of th.marked_from)) none } }
 
     module _ (some : th.marked ≡ [] → ⊥) where
       first : (x : Mark) × (xs : List Mark) × (s.marked t ≡ x ∷ xs)
@@ -73,7 +74,7 @@ module _ {plan : Plan} {m : Machine} {r : Run} {t : ℕ} {th : Thread} (p : IsPr
         where
           go : (ps : List Place) → th.marked ≡ ps → (x : Mark) × (xs : List Mark) × (s.marked t ≡ x ∷ xs)
           go [] f = absurd (some f)
-          go (p ∷ ps) f = (mark_of (lock_queue th.marked_from.0) p, map (mark_of (lock_queue th.marked_from.0)) ps, sym its.marked ∙ ap (map (mark_of (lock_queue th.marked_from.0))) f)
+          go (p ∷ ps) f = (mark_of th.marked_from p, map (mark_of th.marked_from) ps, sym (ap (λ x. x.marked) its.columns) ∙ ap (map (mark_of th.marked_from)) f)
 
       row : turn_of plan r t ≡ does kinds.Mark (Marks t first.0 first.1 ∷ [])
       row = marks_first plan r t first.0 first.1 no_walk first.2
@@ -90,24 +91,24 @@ module _ {plan : Plan} {m : Machine} {r : Run} {t : ℕ} {th : Thread} (p : IsPr
   -- 4. Its wait word, where it owes nothing
 
   waits_as : (w : Wait) → wait_of th.wait ≡ w → s.wait t ≡ w
-  waits_as w e = sym its.wait ∙ e
+  waits_as w e = sym (ap (λ x. x.wait) its.columns) ∙ e
 
   module _ (free : IsFree plan r t) where
     pub queued : th.wait ≡ wait.Queued → IsTurn plan r t m Idle
     queued e = still plan r t Idle (goes_by_wait plan r t free.going free.owes ∙ rw (waits_as _ (ap wait_of e)) refl) h.shows
 
-    module _ {l : LockNo} (e : th.wait ≡ wait.Woken l) where
-      resumes : turn_of plan r t ≡ does kinds.Resume (Resumes t (lock_queue l.0) BySignal ∷ [])
+    module _ {w : QueueName} (e : th.wait ≡ wait.Woken w) where
+      resumes : turn_of plan r t ≡ does kinds.Resume (Resumes t (w) BySignal ∷ [])
       resumes = goes_by_wait plan r t free.going free.owes ∙ rw (waits_as _ (ap wait_of e)) refl
 
-      resuming : IsTurning plan r t m s (progress_in plan r t) (Resumes t (lock_queue l.0) BySignal ∷ [])
-      resuming = begins (does kinds.Resume (Resumes t (lock_queue l.0) BySignal ∷ [])) p lt h resumes
+      resuming : IsTurning plan r t m s (progress_in plan r t) (Resumes t (w) BySignal ∷ [])
+      resuming = begins (does kinds.Resume (Resumes t (w) BySignal ∷ [])) p lt h resumes
 
       pub may_resume : May m (λ c s. (q : QueueName) × (cause : Cause) × MayMake c s (Resumes t q cause))
-      may_resume = (config_of plan, s, resuming.shows, resuming.lawful, (lock_queue l.0, BySignal, resuming.may.0))
+      may_resume = (config_of plan, s, resuming.shows, resuming.lawful, (w, BySignal, resuming.may.0))
 
       pub resumed : {n : Machine} → ((q : QueueName) (cause : Cause) → Makes m n (Resumes t q cause)) → KeepsProgress m n → KeepsBooks m n → IsTurn plan r t n (Did kinds.Resume)
-      resumed makes kept books = done kinds.Resume (Resumes t (lock_queue l.0) BySignal ∷ []) resumes (stepped resuming (makes (lock_queue l.0) BySignal) kept (of_books books))
+      resumed makes kept books = done kinds.Resume (Resumes t (w) BySignal ∷ []) resumes (stepped resuming (makes (w) BySignal) kept (of_books books))
 
     module _ (e : th.wait ≡ wait.Running) {ops : List Op} (same : ops ≡ operations_of plan t) where
       at_next : (o : Option Op) → slice_get ops th.next_op ≡ o → IsAtOperation plan r t o

@@ -25,7 +25,8 @@ use Rattle.lock_laws.proofs.Table.{walks_from_lock, walks_from_thread}
 use Rattle.lock_laws.proofs.AtTurn as at_turn
 use Rattle.step_world.specs.declared.machine.Machine.{Machine}
 use Rattle.step_world.specs.declared.thread.Thread.{Thread}
-use Rattle.step_world.specs.Represents.{Represents, RepresentsQueue, RepresentsHead}
+use Rattle.lock_objects.specs.Represents.{RepresentsQueue, RepresentsHead, queue_in}
+use Rattle.step_world.specs.Represents.{Represents}
 use Rattle.step_world.specs.Steps.{May, Makes, KeepsProgress, KeepsBooks}
 use Rattle.step_world.specs.Runs.{IsRunOf, IsTurn, IsNowhere, progress_in}
 use Rattle.step_world.proofs.Turning.{IsTurning, of_books, begins, may_next, stepped, done}
@@ -34,21 +35,21 @@ use Rattle.step_world.proofs.Turning.{IsTurning, of_books, begins, may_next, ste
 
 module _ (m : Machine) (c : Config) (s : State) (shown : Represents c m s) (h : Lawful c s) where
   abbrev At : Option Turnstile → ℕ → Type 0
-  At o l = RepresentsQueue o s.lists s.free_list s.head s.owner s.loan_home (lock_queue l)
+  At o l = RepresentsQueue o (queue_in s (lock_queue l)) s.loan_home
 
   at : (o : Option Turnstile) (l : ℕ) → o ≡ head_of (lock_queue l) m.chain → At o l
-  at o l e = subst (λ x. At x l) (sym e) (shown.queues l)
+  at o l e = subst (λ x. At x l) (sym e) (shown.queues.lock l (ap is_turnstile (shown.within.mutexes l)))
 
   pub owner_at : (l : ℕ) (x : Turnstile) → Some x ≡ head_of (lock_queue l) m.chain → x.contents.owner ≡ s.owner (lock_queue l)
-  owner_at l x e = let head : RepresentsHead x.contents s.lists s.free_list s.head s.owner s.loan_home (lock_queue l) = at (Some x) l e in sym head.owner
+  owner_at l x e = let head : RepresentsHead x.contents (queue_in s (lock_queue l)) s.loan_home = at (Some x) l e in sym (ap (λ v. v.owner) head.queue)
 
   pub no_owner_at : (l : ℕ) → None ≡ head_of (lock_queue l) m.chain → None ≡ s.owner (lock_queue l)
   no_owner_at l e = sym (at_turn.no_owner c s (lock_queue l) h (at None l e))
 
   pub waits_at : (l t : ℕ) (x : Turnstile) → Some x ≡ head_of (lock_queue l) m.chain → waits t x.contents ≡ ltb 0 (stands t (s.lists (lock_queue l)))
   waits_at l t x e =
-      let head : RepresentsHead x.contents s.lists s.free_list s.head s.owner s.loan_home (lock_queue l) = at (Some x) l e in
-      ap (λ q. ltb 0 (stands t q)) (sym head.lists)
+      let head : RepresentsHead x.contents (queue_in s (lock_queue l)) s.loan_home = at (Some x) l e in
+      ap (λ q. ltb 0 (stands t q)) (sym (ap (λ v. v.lists) head.queue))
 
   pub none_waits_at : (l t : ℕ) → None ≡ head_of (lock_queue l) m.chain → false ≡ ltb 0 (stands t (s.lists (lock_queue l)))
   none_waits_at l t e = sym (ap (ltb 0) (at_turn.none_stands c s (lock_queue l) t h (at None l e)))
@@ -56,7 +57,7 @@ module _ (m : Machine) (c : Config) (s : State) (shown : Represents c m s) (h : 
   pub named_at : (ths : List Thread) (i t : ℕ) (th : Thread) → ths ≡ m.threads.items → i ≡ t → i < length ths → th ≡ get_or ths i th → th.record.value.on ≡ s.blocked_on t
   named_at ths i t th e j l is =
       let there : slice_get m.threads.items t ≡ Some th = ap (λ x. slice_get x t) (sym e) ∙ ap (slice_get ths) (sym j) ∙ slice_get_read ths (length ths) i th refl l is in
-      (shown.threads.thread t th there).blocked_on
+      ap (λ x. x.its_record.blocked_on) (shown.threads.thread t th there).columns
 
   pub none_named_at : (t : ℕ) → length m.threads.items ≤ t → None ≡ s.blocked_on t
   none_named_at t l = sym (at_turn.beyond_unnamed c s t h (omega (arith, shown.threads.threads, l)))

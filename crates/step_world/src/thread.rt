@@ -6,18 +6,18 @@ ghost use Rattle.lock_model.specs.Script.{holds_lock};
 ghost use Rattle.step_world.specs.Threads.{IsNew, thread_has_ended};
 
 use lock_model::limits::HELD;
-use lock_model::{Held, LockNo, Op, Prio, ThreadNo};
+use lock_model::{Held, LockNo, Op, Prio, QueueName, ThreadNo};
 use prio_lending::Walk;
 use std::alloc::{AllocError, Global};
 use thread_records::ThreadRec;
 use turnstile_core::Taken;
 
-/// Whether a thread runs, stands on a queue or is about to be taken off it, or was woken from a lock's queue.
+/// Whether a thread runs, stands on a queue or is about to be taken off it, or was woken from one.
 #[derive(Clone, Copy, Debug, PartialEq, Eq)]
 pub enum Wait {
     Running,
     Queued,
-    Woken(LockNo),
+    Woken(QueueName),
 }
 
 /// A thread between two steps.
@@ -30,9 +30,9 @@ pub struct Thread {
     pub wanted: Option<LockNo>,
     /// The locks that it holds, in order of acquisition. There is room for as many as a thread may hold.
     pub held: Vec<Held>,
-    /// The waiters that it took off a lock's queue and has yet to wake, and that lock.
+    /// The waiters that it took off a queue and has yet to wake, and that queue.
     pub marked: Taken,
-    pub marked_from: LockNo,
+    pub marked_from: QueueName,
     /// How many of its operations are behind it.
     pub next_op: usize,
 }
@@ -49,7 +49,7 @@ impl Thread {
             wanted: None,
             held: Vec::with_capacity(alloc, HELD)?,
             marked: Taken::empty(),
-            marked_from: LockNo(0),
+            marked_from: QueueName::Lock(LockNo(0)),
             next_op: 0,
         })
     }

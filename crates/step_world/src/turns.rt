@@ -189,12 +189,12 @@ fn take(machine: &mut Machine, plan: &Plan, t: ThreadNo, l: LockNo) -> Turn
 {
     let mode = Mode::Excl;
     if admits(Kind::Mtx, machine.words[usize::from(l.0)], mode) {
-        machine.gain(t, l);
+        machine.gain(t, l, mode);
         machine.stamp(t, Event::Locked { l, mode });
         machine.end_operation(t);
         Turn::Did(StepKind::Gain)
     } else {
-        machine.block(t, l);
+        machine.block(t, l, mode);
         Turn::Did(StepKind::Enter)
     }
 }
@@ -211,11 +211,11 @@ fn release(machine: &mut Machine, plan: &Plan, t: ThreadNo, l: LockNo) -> Turn
     let drops = is_drop(machine.words[usize::from(l.0)]);
     machine.stamp(t, Event::Unlocked { l, mode });
     if drops {
-        machine.drop_lock(t, l);
+        machine.drop_lock(t, l, mode);
         machine.end_operation(t);
         Turn::Did(StepKind::Drop)
     } else {
-        machine.open(t, l);
+        machine.open(t, l, Kind::Mtx);
         machine.end_operation(t);
         Turn::Did(StepKind::OpenUp)
     }

@@ -16,7 +16,7 @@ one_further th = ap (λ (p : ℕ). one_at p th) (add-one th.next_op)
 
 pub returns-clause-shows : goal.returns-clause-shows
 returns-clause-shows c k s h =
-    rw c.from.ensures (operation_ended c.args.self.now k s c.args.t.0 c.index_mut.result.now (read_at c.args.self.now.threads.items c.args.t.0 c.from.result c.index_mut.result.now c.from.ensures c.requires.thread c.index_mut.ensures.value) (subst (λ (n : ℕ). c.args.t.0 < n) h.threads.threads c.requires.thread) h)
+    rw c.from.ensures (operation_ended c.index_mut.result.now (read_at c.args.self.now.threads.items c.args.t.0 c.from.result c.index_mut.result.now c.from.ensures c.requires.thread c.index_mut.ensures.value) (subst (λ (n : ℕ). c.args.t.0 < n) h.threads.threads c.requires.thread) h)
 
 pub returns-clause-progress : goal.returns-clause-progress
 returns-clause-progress c =
