@@ -27,7 +27,7 @@ lawful_state plan n proper =
     let on = behind_course plan n proper in
     record {
       lawful = on.lawful;
-      best = λ t within still no_cycle. effective (config_of plan) (state_behind plan n) t on.lawful.lawful still no_cycle within;
+      best = λ still no_cycle t within. effective (config_of plan) (state_behind plan n) t on.lawful.lawful still no_cycle within;
     }
 
 -- a lawful state's tables are what its history leaves

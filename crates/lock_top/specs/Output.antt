@@ -7,11 +7,11 @@ use Rattle.lock_model.specs.Plans.{config_of}
 use Rattle.lock_model.specs.Script.{plan_of_lines, lines_of, is_same}
 use Rattle.lock_state.specs.Run.{HasLegalHistory, course_after, scheduled_run}
 use Rattle.lock_state.specs.State.{State}
-use Rattle.lock_state.specs.Best.{best_behind, HasCycle, NobodyWalks}
 use Rattle.lock_state.specs.Facts.{LawfulTurn}
 use Rattle.lock_model.specs.History.{place_cmp, tables_of}
 use Rattle.lock_model.specs.Text.{Ending, IsDone, IsStuck, IsReversed, IsTooLong, text_of, fault_text}
 use Rattle.lock_model.specs.declared.plan.Plan.{Plan}
+use Rattle.step_world.specs.Worlds.{HasBest}
 use Rattle.lock_top.specs.declared.status.Status.{Status}
 use Rattle.lock_top.specs.declared.status.Status.TheVariants.{Done, BadScript, ReadFault, WriteFault, NoMemory, Stuck, Reversed, TooLong, TooBig, Usage}
 
@@ -110,8 +110,7 @@ state_behind plan n = (course_after plan n).run.state
 -- effective priority is the best behind it.
 pub record IsLawfulState (c : Config) (s : State) : Type 0 where
   pub lawful : LawfulTurn c s
-  pub best : (t : ℕ) → t < c.threads → NobodyWalks c s → (HasCycle s → ⊥)
-      → s.effective t ≡ best_behind c s t
+  pub best : HasBest c s
 
 -- rows of keys and values are a state's tables: one for each key that has a value, ascending
 abbrev pub TellsTables : State → List ((ℕ × ℕ) × ℕ) → Type 0
