@@ -1,4 +1,5 @@
--- The most of each thing that one script and one run may have, as `limits` of the code has it. They are this project's own.
+-- The most of each thing that one script and one run may have, as `limits` of the code has it. They are this project's
+-- own.
 use Rattle.std.specs.Prelude.{ℕ, ◌-◌, ◌^◌}
 use Rattle.lock_model.specs.declared.limits.TheConstants.{THREADS, LOCKS, CHANNELS, CLASSES, HELD, OPEN_TRIES, OPERATIONS, SCHEDULE, LINE_BYTES, NAME_BYTES, SCRIPT_BYTES, TURNS}
 

@@ -1,5 +1,5 @@
--- What operations do to the list of locks that a thread holds, which operations fit it, and the plans whose threads' operations fit from
--- their begin to their end. Each script's plan is such a plan.
+-- What operations do to the list of locks that a thread holds, which operations fit it, and the plans whose threads'
+-- operations fit from their begin to their end. Each script's plan is such a plan.
 use Rattle.std.specs.Prelude.{◌≡◌, ℕ, ◌≤◌, ◌<◌, Bool, true, false, not, ◌&&◌, ◌||◌, ◌==◌, nat_lt, if◌then◌else◌, List, [], ◌∷◌, ◌++◌, length, map, sum, take, fold, option_map, slice_get, Option, Some}
 use Rattle.std.specs.List.{All, list_all, list_any}
 use Rattle.lock_model.specs.Holds.{Hold, NotHeld, Holds, is_unheld, is_exclusive}
@@ -40,7 +40,8 @@ is_last l [] = false
 is_last l (h ∷ []) = h.l.0 == l && not h.by_try
 is_last l (h ∷ g ∷ hs) = is_last l (g ∷ hs)
 
--- What a thread holds behind an operation. A wait leaves the list as it is, and the lines of a try's block are read with its lock held.
+-- What a thread holds behind an operation. A wait leaves the list as it is, and the lines of a try's block are read
+-- with its lock held.
 abbrev pub held_behind : Op → List Held → List Held
 held_behind (Take l mode) held = held ++ (record { l = l; mode = mode; by_try = false }) ∷ []
 held_behind (Try l mode past) held = held ++ (record { l = l; mode = mode; by_try = true }) ∷ []
@@ -79,8 +80,8 @@ abbrev pub may_be_held : List LockDecl → Mode → LockNo → Bool
 may_be_held locks Excl l = nat_lt l.0 (length locks)
 may_be_held locks Shared l = is_of_kind locks Rw l || is_of_kind locks Sx l
 
--- A take or a try: there is room for a lock more; the lock's kind has that mode; it isn't held; and no mutex or rw lock is held where it is
--- an sx lock.
+-- A take or a try: there is room for a lock more; the lock's kind has that mode; it isn't held; and no mutex or rw lock
+-- is held where it is an sx lock.
 abbrev pub gaining_tests : List LockDecl → LockNo → Mode → List Held → List Test
 gaining_tests locks l mode held =
     test 7 (nat_lt (length held) most_held)
@@ -121,13 +122,15 @@ operation_tests locks chans (Get l key) held = held_test l held ∷ []
 operation_tests locks chans (Base prio) held = []
 operation_tests locks chans Show held = []
 operation_tests locks chans (Sleep c) held =
-    channel_test chans c ∷ where_some (λ (d : ChanDecl). wait_tests locks d.lock held) (slice_get chans c.0)
+    channel_test chans c
+    ∷ where_some (λ (d : ChanDecl). wait_tests locks d.lock held) (slice_get chans c.0)
 operation_tests locks chans (WakeOne c) held = channel_test chans c ∷ []
 operation_tests locks chans (WakeAll c) held = channel_test chans c ∷ []
 
 -- each operation passes its tests on what those before it lead to, and nothing is held in the end
 pub record Fit (locks : List LockDecl) (chans : List ChanDecl) (ops : List Op) : Type 0 where
-  pub each : (n : ℕ) (op : Op) → slice_get ops n ≡ Some op → Passes (operation_tests locks chans op (held_of (length locks) ops n))
+  pub each : (n : ℕ) (op : Op) → slice_get ops n ≡ Some op
+      → Passes (operation_tests locks chans op (held_of (length locks) ops n))
   pub released : held_of (length locks) ops (length ops) ≡ []
 
 -- 3. Plans

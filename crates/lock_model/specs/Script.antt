@@ -1,5 +1,6 @@
--- Which bytes are a script, and of which plan, and where the others have their first fault. A source is a list of lines, and each line is
--- judged by what the lines before it have made known, and by nothing else. The grammar is this project's own.
+-- Which bytes are a script, and of which plan, and where the others have their first fault. A source is a list of
+-- lines, and each line is judged by what the lines before it have made known, and by nothing else. The grammar is this
+-- project's own.
 pub mod Lines
 pub mod Statements
 pub mod Learning
@@ -21,7 +22,13 @@ abbrev pub told : ℕ → ℕ
 told n = min n greatest_line
 
 abbrev pub plan_of : Known → Plan
-plan_of k = record { classes = k.classes; locks = k.locks; chans = k.chans; threads = k.threads; schedule = k.schedule }
+plan_of k = record {
+  classes = k.classes;
+  locks = k.locks;
+  chans = k.chans;
+  threads = k.threads;
+  schedule = k.schedule;
+}
 
 -- a fault of line n, or what is read where it has none
 abbrev pub faulty_or : ℕ → Option ℕ → Reading → Reading
@@ -31,7 +38,8 @@ faulty_or n None r = r
 -- the lines from line n on; a source that ends without `done` lacks a line
 unfoldable pub reading_from : ℕ → Known → List (List ℕ) → Reading
 reading_from n k [] = if k.is_done then Reads (plan_of k) else Faulty (told n) 17
-reading_from n k (line ∷ lines) = faulty_or n (line_fault k line) (reading_from (suc n) (behind_line k line) lines)
+reading_from n k (line ∷ lines) =
+    faulty_or n (line_fault k line) (reading_from (suc n) (behind_line k line) lines)
 
 -- all lines; the first one is the header
 unfoldable pub reading_of_lines : List (List ℕ) → Reading

@@ -1,5 +1,5 @@
--- Tests with codes, in stages. What fails a test of one stage is not tried by a later one, and within a stage the smallest code of those
--- that fail counts.
+-- Tests with codes, in stages. What fails a test of one stage is not tried by a later one, and within a stage the
+-- smallest code of those that fail counts.
 use Rattle.std.specs.Prelude.{◌≡◌, ℕ, Bool, if◌then◌else◌, List, [], ◌∷◌, Option, Some, None}
 use Rattle.lock_model.specs.Counts.{lower}
 

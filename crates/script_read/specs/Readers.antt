@@ -10,7 +10,13 @@ use Rattle.script_read.specs.declared.reader.OpenThread.{OpenThread}
 
 -- the thread that a reader is in; no word opens a block yet
 abbrev pub thread_of : OpenThread → script.OpenThread
-thread_of t = record { name = t.name; base = t.base.0; ops = t.ops.items; held = t.held.items; blocks = [] }
+thread_of t = record {
+  name = t.name;
+  base = t.base.0;
+  ops = t.ops.items;
+  held = t.held.items;
+  blocks = [];
+}
 
 -- what a reader has made known; no word declares a channel yet
 abbrev pub known : Reader → Known

@@ -1,5 +1,5 @@
-//! Reading a script: from its bytes to the plan that it says, or to its first fault. Which bytes are a script and of which plan, and which
-//! fault the others have, is the definition `reading_of` of `lock_model`.
+//! Reading a script: from its bytes to the plan that it says, or to its first fault. Which bytes are a script and of
+//! which plan, and which fault the others have, is the definition `reading_of` of `lock_model`.
 //!
 //! - `lines` and `words` cut a source into lines, and a line into words.
 //! - `numbers` reads numbers and priorities.
@@ -28,8 +28,8 @@ use reader::Reader;
 use std::alloc::Global;
 use words::is_word;
 
-/// The plan of a script. `Script` tells the first faulty line and its code, exactly where the bytes are no script, and `Memory` comes only
-/// for want of memory.
+/// The plan of a script. `Script` tells the first faulty line and its code, exactly where the bytes are no script, and
+/// `Memory` comes only for want of memory.
 #[tactic(auto, unfolding(lock_model::specs::Script::reading_of_lines, lock_model::specs::Script::reading_of, lock_model::specs::Script::IsAccepted, lock_model::specs::Script::IsFaulty))]
 pub fn read_script(alloc: Global, bytes: &[u8]) -> Result<Plan, ReadError>
     ensures accepted { IfOk result (IsAccepted bytes.now) }
@@ -43,8 +43,10 @@ pub fn read_script(alloc: Global, bytes: &[u8]) -> Result<Plan, ReadError>
 
 /// A source has at most one plan, or else one first fault, and not both.
 pub fn one_plan_each()
-    ensures one { (bytes : List ℕ) (a b : plans.Plan) → IsAccepted bytes a → IsAccepted bytes b → a ≡ b }
-    ensures either { (bytes : List ℕ) (a : plans.Plan) (line code : ℕ) → IsAccepted bytes a → IsFaulty bytes line code → ⊥ }
+    ensures one { (bytes : List ℕ) (a b : plans.Plan)
+        → IsAccepted bytes a → IsAccepted bytes b → a ≡ b }
+    ensures either { (bytes : List ℕ) (a : plans.Plan) (line code : ℕ)
+        → IsAccepted bytes a → IsFaulty bytes line code → ⊥ }
 {}
 
 #[cfg(test)]

@@ -1,17 +1,15 @@
-//! What the lines of a script have made known so far, and what each line adds to it. A line is tested first, and then learnt; behind a
-//! fault nothing is read, so what is known then doesn't matter.
+//! What the lines of a script have made known so far, and what each line adds to it. A line is tested first, and then
+//! learnt; behind a fault nothing is read, so what is known then doesn't matter.
 #![tactic(auto, using(lock_model::proofs::LeastCodes::least_is_first))]
 
-ghost use Rattle.std.specs.Prelude.{◌≡◌, ◌<◌, None, Some, [], ◌∷◌, OnOk};
+ghost use Rattle.std.specs.Prelude.{◌≡◌, ◌<◌, None, Some, [], OnOk};
 ghost use Rattle.lock_model.specs.Limits.{most_operations};
-ghost use Rattle.lock_model.specs.Operations.{held_behind};
 ghost use Rattle.lock_model.specs.Script.{reading_from};
-ghost use Rattle.lock_model.specs.Script.Faults.{line_fault, behind_line, statement_stages};
-ghost use Rattle.lock_model.specs.Script.Learning.{nothing_known, declared_as, learned, threads_named, with_operation};
+ghost use Rattle.lock_model.specs.Script.Faults.{line_fault, behind_line};
+ghost use Rattle.lock_model.specs.Script.Learning.{nothing_known, declared_as, with_operation};
 ghost use Rattle.lock_model.specs.Script.Lines.{lines_of, words_of};
 ghost use Rattle.lock_model.specs.Script.Statements.{Declares, Begins, Ends, Schedules, IsDone, Operates};
-ghost use Rattle.lock_model.specs.Tests.{first_fault};
-ghost use Rattle.script_read.specs.Reading.{Goes, Tells};
+ghost use Rattle.script_read.specs.Reading.{Goes, GoesBy, Tells};
 ghost use Rattle.script_read.specs.Readers.{known, with_name};
 ghost use Rattle.script_read.specs.Statements.{meant, meant_operation};
 
@@ -106,7 +104,8 @@ impl Reader {
 
     // Reads a line behind the header.
     fn read_line(&mut self, alloc: Global, line: &[u8]) -> Result<(), LineError>
-        ensures { Goes (line_fault (known self.old) line.now) (behind_line (known self.old) line.now) (known self.new) result }
+        ensures { Goes (line_fault (known self.old) line.now) (behind_line (known self.old) line.now)
+            (known self.new) result }
     {
         test_bytes(line)?;
         if !has_meaning(line) {
@@ -118,7 +117,7 @@ impl Reader {
 
     // Reads what a line says.
     fn apply(&mut self, alloc: Global, statement: Statement) -> Result<(), LineError>
-        ensures { Goes (first_fault (statement_stages (known self.old) (Some (meant statement.entry)))) (learned (known self.old) (meant statement.entry)) (known self.new) result }
+        ensures { GoesBy (known self.old) (meant statement.entry) (known self.new) result }
     {
         match statement {
             Statement::Lock { kind, name, class } => self.lock(kind, name, class),
@@ -132,7 +131,7 @@ impl Reader {
 
     // `mutex NAME CLASS` declares a lock.
     fn lock(&mut self, kind: Kind, name: &[u8], class: &[u8]) -> Result<(), LineError>
-        ensures { Goes (first_fault (statement_stages (known self.old) (Some (Declares kind name.now class.now)))) (learned (known self.old) (Declares kind name.now class.now)) (known self.new) result }
+        ensures { GoesBy (known self.old) (Declares kind name.now class.now) (known self.new) result }
     {
         test(Code::LATE, self.is_before_threads())?;
         let (name, class) = self.test_lock(kind, name, class)?;
@@ -146,7 +145,7 @@ impl Reader {
 
     // `thread NAME PRIO` begins a thread.
     fn thread(&mut self, alloc: Global, name: &[u8], prio: &[u8]) -> Result<(), LineError>
-        ensures { Goes (first_fault (statement_stages (known self.old) (Some (Begins name.now prio.now)))) (learned (known self.old) (Begins name.now prio.now)) (known self.new) result }
+        ensures { GoesBy (known self.old) (Begins name.now prio.now) (known self.new) result }
     {
         test(Code::INSIDE, self.open_thread.is_none())?;
         let (name, base) = self.test_thread(name, prio)?;
@@ -163,7 +162,7 @@ impl Reader {
 
     // `end` ends the open thread.
     fn end(&mut self) -> Result<(), LineError>
-        ensures { Goes (first_fault (statement_stages (known self.old) (Some Ends))) (learned (known self.old) Ends) (known self.new) result }
+        ensures { GoesBy (known self.old) Ends (known self.new) result }
     {
         let thread = self.open_thread.take().ok_or(Code::OUTSIDE)?;
         test(Code::STILL_HELD, thread.held.is_empty())?;
@@ -177,7 +176,7 @@ impl Reader {
 
     // `schedule NAME ..` lets each of those threads have a turn, behind the turns of earlier lines.
     fn schedule(&mut self, names: &[u8]) -> Result<(), LineError>
-        ensures { Goes (first_fault (statement_stages (known self.old) (Some (Schedules (words_of names.now))))) (learned (known self.old) (Schedules (words_of names.now))) (known self.new) result }
+        ensures { GoesBy (known self.old) (Schedules (words_of names.now)) (known self.new) result }
     {
         test(Code::INSIDE, self.open_thread.is_none())?;
         self.test_schedule(names)?;
@@ -194,7 +193,7 @@ impl Reader {
 
     // `done` ends the script.
     fn done(&mut self) -> Result<(), LineError>
-        ensures { Goes (first_fault (statement_stages (known self.old) (Some IsDone))) (learned (known self.old) IsDone) (known self.new) result }
+        ensures { GoesBy (known self.old) IsDone (known self.new) result }
     {
         test(Code::INSIDE, self.open_thread.is_none())?;
         self.is_done = true;
@@ -203,7 +202,7 @@ impl Reader {
 
     // An operation of the open thread.
     fn operation(&mut self, operation: Operation) -> Result<(), LineError>
-        ensures { Goes (first_fault (statement_stages (known self.old) (Some (Operates (meant_operation operation.entry))))) (learned (known self.old) (Operates (meant_operation operation.entry))) (known self.new) result }
+        ensures { GoesBy (known self.old) (Operates (meant_operation operation.entry)) (known self.new) result }
     {
         let thread = self.open_thread.as_ref().ok_or(Code::OUTSIDE)?;
         let op = self.test_operation(thread, operation)?;
@@ -223,7 +222,8 @@ impl Reader {
     // Adds an operation to the open thread's.
     fn add_operation(&mut self, op: Op) -> Result<(), AllocError>
         requires { (known self.old).operations < most_operations }
-        ensures { OnOk result (known self.new ≡ with_operation (known self.old) (known self.old).open_thread (Some op)) }
+        ensures { OnOk result (known self.new
+            ≡ with_operation (known self.old) (known self.old).open_thread (Some op)) }
     {
         if let Some(thread) = self.open_thread.as_mut() {
             held::hold_behind(&mut thread.held, op)?;

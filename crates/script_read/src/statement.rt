@@ -127,7 +127,8 @@ fn verb_of(word: &[u8]) -> Option<Verb>
 impl Verb {
     // What it says with what stands behind it.
     fn with_words<'a>(self, rest: Option<&'a [u8]>) -> Option<Statement<'a>>
-        ensures { option_map meant result ≡ said (form self) (words_behind (option_copied rest.entry)) }
+        ensures { option_map meant result
+            ≡ said (form self) (words_behind (option_copied rest.entry)) }
     {
         match self {
             Verb::Mutex => {
@@ -175,7 +176,8 @@ impl Verb {
 
 // A statement that has no word behind its first one.
 fn no_word<'a>(rest: Option<&[u8]>, statement: Statement<'a>) -> Option<Statement<'a>>
-    ensures { option_map meant result ≡ said (Alone (meant statement.entry)) (words_behind (option_copied rest.entry)) }
+    ensures { option_map meant result
+        ≡ said (Alone (meant statement.entry)) (words_behind (option_copied rest.entry)) }
 {
     match rest {
         None => Some(statement),
@@ -186,7 +188,8 @@ fn no_word<'a>(rest: Option<&[u8]>, statement: Statement<'a>) -> Option<Statemen
 // The one word behind the first.
 fn one_word(rest: Option<&[u8]>) -> Option<&[u8]>
     ensures { (f : List ℕ → script.Statement) →
-        option_map (λ w. f w.now) result ≡ said (WithOne f) (words_behind (option_copied rest.entry)) }
+        option_map (λ w. f w.now) result
+        ≡ said (WithOne f) (words_behind (option_copied rest.entry)) }
 {
     let (word, behind) = cut_word(rest?);
     match behind {
@@ -198,7 +201,8 @@ fn one_word(rest: Option<&[u8]>) -> Option<&[u8]>
 // The two words behind the first.
 fn two_words(rest: Option<&[u8]>) -> Option<(&[u8], &[u8])>
     ensures { (f : List ℕ → List ℕ → script.Statement) →
-        option_map (λ p. f p.0.now p.1.now) result ≡ said (WithTwo f) (words_behind (option_copied rest.entry)) }
+        option_map (λ p. f p.0.now p.1.now) result
+        ≡ said (WithTwo f) (words_behind (option_copied rest.entry)) }
 {
     let (first, behind) = cut_word(rest?);
     let second = one_word(behind)?;
@@ -208,7 +212,8 @@ fn two_words(rest: Option<&[u8]>) -> Option<(&[u8], &[u8])>
 // The three words behind the first.
 fn three_words(rest: Option<&[u8]>) -> Option<(&[u8], &[u8], &[u8])>
     ensures { (f : List ℕ → List ℕ → List ℕ → script.Statement) →
-        option_map (λ p. f p.0.now p.1.now p.2.now) result ≡ said (WithThree f) (words_behind (option_copied rest.entry)) }
+        option_map (λ p. f p.0.now p.1.now p.2.now) result
+        ≡ said (WithThree f) (words_behind (option_copied rest.entry)) }
 {
     let (first, behind) = cut_word(rest?);
     let (second, third) = two_words(behind)?;

@@ -130,7 +130,8 @@ const FAULTS: [(&str, u32, u8); 29] = [
     ("lockrun 1;mutex m a;thread t 1;lock m;end;done;", 5, 14),
 ];
 
-// A text, another one with each number below a bound behind it and a third behind that, and a last one; and the fault of it all.
+// A text, another one with each number below a bound behind it and a third behind that, and a last one; and the fault
+// of it all.
 const LIMITS: [(&str, &str, u32, &str, &str, u32, u8); 4] = [
     ("lockrun 1;", "mutex m", 65, " a;", "done;", 66, 7),
     ("lockrun 1;", "thread t", 33, " 1;end;", "done;", 66, 7),

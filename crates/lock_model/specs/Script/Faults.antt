@@ -1,6 +1,6 @@
--- The tests that a line has to pass, by stages: its bytes, its words, its place among the lines, and what it names. The codes are this
--- project's own.
-use Rattle.std.specs.Prelude.{ℕ, ◌+◌, Bool, true, false, not, ◌&&◌, nat_le, nat_lt, is_some, is_none, if◌then◌else◌, List, [], ◌∷◌, ◌++◌, length, option_map, unwrap_or, Option, Some, None}
+-- The tests that a line has to pass, by stages: its bytes, its words, its place among the lines, and what it names.
+-- The codes are this project's own.
+use Rattle.std.specs.Prelude.{ℕ, ◌+◌, Bool, true, false, not, ◌&&◌, nat_le, nat_lt, is_some, is_none, if◌then◌else◌, List, [], ◌∷◌, ◌++◌, length, Option, Some, None}
 use Rattle.std.specs.List.{list_all}
 use Rattle.lock_model.specs.Counts.{is_empty}
 use Rattle.lock_model.specs.Holds.{Hold, NotHeld, Holds}
@@ -11,6 +11,8 @@ use Rattle.lock_model.specs.Tests.{Test, test, first_fault, where_some}
 use Rattle.lock_model.specs.Script.Lines.{is_printable, has_meaning, number_of, priority_of}
 use Rattle.lock_model.specs.Script.Statements.{Statement, Declares, Begins, Ends, Schedules, IsDone, Operates, Operation, Take, Release, Set, Add, Get, Prio, Show, statement_of}
 use Rattle.lock_model.specs.Script.Learning.{Known, OpenThread, declared_as, lock_named, thread_named, class_number, op_of, learned}
+use Rattle.lock_model.specs.declared.numbers.LockNo.{LockNo}
+use Rattle.lock_model.specs.declared.plan.Kind.{Kind}
 use Rattle.lock_model.specs.declared.plan.Mode.{Mode}
 use Rattle.lock_model.specs.declared.plan.Mode.TheVariants.{Excl, Shared}
 
@@ -18,7 +20,8 @@ use Rattle.lock_model.specs.declared.plan.Mode.TheVariants.{Excl, Shared}
 
 -- a line is too long, or has a byte that may not stand in a script
 abbrev pub byte_tests : List ℕ → List Test
-byte_tests line = test 18 (nat_le (length line) most_line_bytes) ∷ test 19 (list_all is_printable line) ∷ []
+byte_tests line =
+    test 18 (nat_le (length line) most_line_bytes) ∷ test 19 (list_all is_printable line) ∷ []
 
 -- a line says nothing, or says something behind `done`
 abbrev pub word_tests : Known → List ℕ → List Test
@@ -34,13 +37,14 @@ abbrev pub is_before_threads : Known → Bool
 is_before_threads k = is_none k.open_thread && is_empty k.threads
 
 -- a try's block is open
-abbrev pub is_in_block : Known → Bool
-is_in_block k = not (is_empty (unwrap_or (option_map (λ (t : OpenThread). t.blocks) k.open_thread) []))
+abbrev pub is_in_block : Option OpenThread → Bool
+is_in_block None = false
+is_in_block (Some t) = not (is_empty t.blocks)
 
 abbrev pub place_tests : Known → Statement → List Test
 place_tests k (Declares kind name class) = test 16 (is_before_threads k) ∷ []
 place_tests k (Begins name prio) = test 17 (not (is_inside k)) ∷ []
-place_tests k Ends = test 15 (is_inside k) ∷ test 17 (not (is_in_block k)) ∷ []
+place_tests k Ends = test 15 (is_inside k) ∷ test 17 (not (is_in_block k.open_thread)) ∷ []
 place_tests k (Schedules names) = test 17 (not (is_inside k)) ∷ []
 place_tests k IsDone = test 17 (not (is_inside k)) ∷ []
 place_tests k (Operates o) = test 15 (is_inside k) ∷ []
@@ -80,20 +84,32 @@ is_other Excl (Holds Shared) = true
 is_other Shared (Holds Excl) = true
 is_other Shared (Holds Shared) = false
 
--- Tests of an operation's words. A lock is used as its kind asks, and released in the mode in which it is held.
+-- a lock is of another kind than its operation
+abbrev pub of_kind : Known → Kind → LockNo → Test
+of_kind k kind l = test 8 (is_of_kind k.locks kind l)
+
+-- a lock is released that is held in the other mode
+abbrev pub held_so : OpenThread → Mode → LockNo → Test
+held_so t mode l = test 10 (not (is_other mode (hold_in t.held l.0)))
+
+-- tests of an operation's words, and of how it uses its lock
 abbrev pub operation_words : Known → OpenThread → Operation → List Test
 operation_words k t (Take kind mode name) =
-    spelled name ∷ names_lock k name ∷ where_some (λ l. test 8 (is_of_kind k.locks kind l) ∷ []) (lock_named k name)
+    spelled name ∷ names_lock k name
+    ∷ where_some (λ l. of_kind k kind l ∷ []) (lock_named k name)
 operation_words k t (Release kind mode name) =
     spelled name ∷ names_lock k name
-    ∷ where_some (λ l. test 8 (is_of_kind k.locks kind l) ∷ test 10 (not (is_other mode (hold_in t.held l.0))) ∷ []) (lock_named k name)
-operation_words k t (Set name key value) = spelled name ∷ names_lock k name ∷ reads_number key ∷ reads_number value ∷ []
-operation_words k t (Add name key amount) = spelled name ∷ names_lock k name ∷ reads_number key ∷ reads_number amount ∷ []
-operation_words k t (Get name key) = spelled name ∷ names_lock k name ∷ reads_number key ∷ []
+    ∷ where_some (λ l. of_kind k kind l ∷ held_so t mode l ∷ []) (lock_named k name)
+operation_words k t (Set name key value) =
+    spelled name ∷ names_lock k name ∷ reads_number key ∷ reads_number value ∷ []
+operation_words k t (Add name key amount) =
+    spelled name ∷ names_lock k name ∷ reads_number key ∷ reads_number amount ∷ []
+operation_words k t (Get name key) =
+    spelled name ∷ names_lock k name ∷ reads_number key ∷ []
 operation_words k t (Prio prio) = reads_priority prio ∷ []
 operation_words k t Show = []
 
--- tests of an operation: of its words, of how many there are, and of the operation that they say against what the thread holds
+-- tests of an operation: of its words, of how many there are, and of what they say against what the thread holds
 abbrev pub tests_in_thread : Known → Operation → OpenThread → List Test
 tests_in_thread k o t =
     operation_words k t o ++ has_room most_operations k.operations
@@ -104,7 +120,8 @@ name_tests k (Declares kind name class) =
     spelled name ∷ spelled class ∷ undeclared k name ∷ has_room most_locks (length k.locks)
     ∷ has_room most_classes (class_number k.classes class) ∷ []
 name_tests k (Begins name prio) =
-    spelled name ∷ undeclared k name ∷ reads_priority prio ∷ has_room most_threads (length k.threads) ∷ []
+    spelled name ∷ undeclared k name ∷ reads_priority prio
+    ∷ has_room most_threads (length k.threads) ∷ []
 name_tests k Ends = where_some (λ (t : OpenThread). test 14 (is_empty t.held) ∷ []) k.open_thread
 name_tests k (Schedules names) =
     test 3 (list_all is_name names)

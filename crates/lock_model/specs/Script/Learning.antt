@@ -16,6 +16,7 @@ use Rattle.lock_model.specs.declared.plan.ThreadDecl.{ThreadDecl}
 use Rattle.lock_model.specs.declared.plan.Op.{Op}
 use Rattle.lock_model.specs.declared.plan.Op.TheVariants.{Take, Release, Set, Add, Get, Base, Show}
 use Rattle.lock_model.specs.declared.event.Held.{Held}
+use Rattle.lock_model.specs.declared.numbers.ClassNo.{ClassNo}
 use Rattle.lock_model.specs.declared.numbers.LockNo.{LockNo}
 use Rattle.lock_model.specs.declared.numbers.ThreadNo.{ThreadNo}
 
@@ -95,7 +96,8 @@ abbrev pub class_number : List (List ℕ) → List ℕ → ℕ
 class_number classes class = position_or_len (is_same class) classes
 
 abbrev pub with_class : List (List ℕ) → List ℕ → List (List ℕ)
-with_class classes class = if list_any (is_same class) classes then classes else classes ++ class ∷ []
+with_class classes class =
+    if list_any (is_same class) classes then classes else classes ++ class ∷ []
 
 -- 3. Operations
 
@@ -113,20 +115,26 @@ with_number f l key None = None
 abbrev pub op_of : Known → Operation → Option Op
 op_of k (say.Take kind mode name) = option_map (λ l. Take l mode) (lock_named k name)
 op_of k (say.Release kind mode name) = option_map (λ l. Release l) (lock_named k name)
-op_of k (say.Set name key value) = with_number Set (lock_named k name) (number_of key) (number_of value)
-op_of k (say.Add name key amount) = with_number Add (lock_named k name) (number_of key) (number_of amount)
+op_of k (say.Set name key value) =
+    with_number Set (lock_named k name) (number_of key) (number_of value)
+op_of k (say.Add name key amount) =
+    with_number Add (lock_named k name) (number_of key) (number_of amount)
 op_of k (say.Get name key) = with_key Get (lock_named k name) (number_of key)
 op_of k (say.Prio prio) = option_map (λ p. Base (record { 0 = p })) (priority_of prio)
 op_of k say.Show = Some Show
 
 -- 4. What a line adds
 
+-- the class of that name
+abbrev pub class_named : Known → List ℕ → ClassNo
+class_named k class = record { 0 = class_number k.classes class }
+
 -- a lock of a class, which is declared by its first use
 abbrev pub with_lock : Known → Kind → List ℕ → List ℕ → Known
 with_lock k kind name class = record k {
   names = k.names ++ (name, Lock (record { 0 = length k.locks })) ∷ [];
   classes = with_class k.classes class;
-  locks = k.locks ++ (record { name = name; kind = kind; class = record { 0 = class_number k.classes class } }) ∷ [];
+  locks = k.locks ++ (record { name = name; kind = kind; class = class_named k class }) ∷ [];
 }
 
 -- a thread that begins

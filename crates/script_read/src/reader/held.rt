@@ -40,7 +40,8 @@ pub fn hold_behind(held: &mut Vec<Held>, op: Op) -> Result<(), AllocError>
 }
 
 fn gain(held: &mut Vec<Held>, l: LockNo, mode: Mode, by_try: bool) -> Result<(), AllocError>
-    ensures { OnOk result (held.new.items ≡ held.old.items ++ (record { l = l; mode = mode; by_try = by_try }) ∷ []) }
+    ensures { OnOk result (held.new.items
+        ≡ held.old.items ++ (record { l = l; mode = mode; by_try = by_try }) ∷ []) }
 {
     held.push(Held { l, mode, by_try })?;
     Ok(())

@@ -1,20 +1,20 @@
-//! The tests that a line has to pass, stage by stage, in the order of their codes. Each answers the code of the first that fails, or what the
-//! line's words stand for.
+//! The tests that a line has to pass, stage by stage, in the order of their codes. Each answers the code of the first
+//! that fails, or what the line's words stand for.
 #![tactic(auto, using(lock_model::proofs::LeastCodes::least_is_first))]
 
-ghost use Rattle.std.specs.Prelude.{◌≡◌, ◌∷◌, ◌<◌, [], Some, None, Ok, Err, IfOk, if◌then◌else◌, length, nat_lt, ok_or};
+ghost use Rattle.std.specs.Prelude.{◌≡◌, ◌∷◌, ◌<◌, [], Some, None, Ok, Err, IfOk, if◌then◌else◌, length, nat_lt};
 ghost use Rattle.std.specs.List.{list_all};
-ghost use Rattle.lock_model.specs.Limits.{most_operations};
+ghost use Rattle.lock_model.specs.Limits.{most_classes, most_locks, most_operations, most_threads};
 ghost use Rattle.lock_model.specs.Names.{is_name};
 ghost use Rattle.lock_model.specs.Operations.{is_of_kind, may_be_held};
-ghost use Rattle.lock_model.specs.Script.Faults.{byte_tests, word_tests, name_tests, tests_in_thread, is_before_threads};
+ghost use Rattle.lock_model.specs.Script.Faults.{byte_tests, word_tests, is_before_threads};
 ghost use Rattle.lock_model.specs.Script.Learning.{declared_as, lock_named, thread_named, class_number, op_of};
 ghost use Rattle.lock_model.specs.Script.Lines.{has_meaning, is_printable, words_of, priority_of};
 ghost use Rattle.lock_model.specs.Script.Statements.{Declares, Begins, Schedules, Take, Release, Set, Add, Get, Prio, Show, statement_of};
 ghost use Rattle.lock_model.specs.Tests.{least_code};
 ghost use Rattle.lock_model.specs.declared.plan.Kind.TheVariants.{Sx};
 ghost use Rattle.lock_model.specs.declared.plan.Op.TheVariants as operation;
-ghost use Rattle.script_read.specs.Reading.{Finds};
+ghost use Rattle.script_read.specs.Reading.{Finds, name_fault, named, operation_fault};
 ghost use Rattle.script_read.specs.Readers.{known, thread_of};
 ghost use Rattle.script_read.specs.Statements.{meant, meant_operation};
 
@@ -73,10 +73,12 @@ impl Reader {
 
     /// What a lock's declaration names: the lock and its class.
     pub fn test_lock(&self, kind: Kind, name: &[u8], class: &[u8]) -> Result<(Name, Name), Code>
-        ensures fault { Finds (least_code (name_tests (known self.now) (Declares kind name.now class.now))) result }
+        ensures fault { Finds (name_fault (known self.now)
+            (Declares kind name.now class.now)) result }
         ensures names { IfOk result (λ r. (r.0 ≡ name.now) × (r.1 ≡ class.now)) }
         ensures new { IfOk result (λ r. declared_as (known self.now) name.now ≡ None) }
-        ensures few { IfOk result (λ r. (length (known self.now).locks < 64) × (class_number (known self.now).classes class.now < 64)) }
+        ensures few { IfOk result (λ r. (length (known self.now).locks < most_locks)
+            × (class_number (known self.now).classes class.now < most_classes)) }
     {
         let name = spelled(name)?;
         let class = spelled(class)?;
@@ -97,10 +99,10 @@ impl Reader {
 
     /// What a thread's first line says: its name and its priority.
     pub fn test_thread(&self, name: &[u8], prio: &[u8]) -> Result<(Name, Prio), Code>
-        ensures fault { Finds (least_code (name_tests (known self.now) (Begins name.now prio.now))) result }
+        ensures fault { Finds (name_fault (known self.now) (Begins name.now prio.now)) result }
         ensures says { IfOk result (λ r. (r.0 ≡ name.now) × (priority_of prio.now ≡ Some r.1.0)) }
         ensures new { IfOk result (λ r. declared_as (known self.now) name.now ≡ None) }
-        ensures few { IfOk result (λ r. length (known self.now).threads < 32) }
+        ensures few { IfOk result (λ r. length (known self.now).threads < most_threads) }
     {
         let name = spelled(name)?;
         test(Code::DECLARED, !self.names.contains_key(&name))?;
@@ -111,7 +113,7 @@ impl Reader {
 
     /// What a schedule names. The whole line has the smallest code of all its names.
     pub fn test_schedule(&self, names: &[u8]) -> Result<(), Code>
-        ensures { Finds (least_code (name_tests (known self.now) (Schedules (words_of names.now)))) result }
+        ensures { Finds (name_fault (known self.now) (Schedules (words_of names.now))) result }
     {
         let mut are_names = true;
         let mut are_threads = true;
@@ -136,8 +138,10 @@ impl Reader {
         thread: &OpenThread,
         operation: Operation,
     ) -> Result<Op, Code>
-        ensures fault { Finds (least_code (tests_in_thread (known self.now) (meant_operation operation.entry) (thread_of thread.now))) result }
-        ensures said { IfOk result (λ op. op_of (known self.now) (meant_operation operation.entry) ≡ Some op) }
+        ensures fault { Finds (operation_fault (known self.now) (meant_operation operation.entry)
+            (thread_of thread.now)) result }
+        ensures said { IfOk result (λ op. op_of (known self.now) (meant_operation operation.entry)
+            ≡ Some op) }
         ensures few { IfOk result (λ op. (known self.now).operations < most_operations) }
     {
         match operation {
@@ -172,8 +176,10 @@ impl Reader {
         mode: Mode,
         lock: &[u8],
     ) -> Result<Op, Code>
-        ensures fault { Finds (least_code (tests_in_thread (known self.now) (Take kind mode lock.now) (thread_of thread.now))) result }
-        ensures said { IfOk result (λ op. op_of (known self.now) (Take kind mode lock.now) ≡ Some op) }
+        ensures fault { Finds (operation_fault (known self.now) (Take kind mode lock.now)
+            (thread_of thread.now)) result }
+        ensures said { IfOk result (λ op. op_of (known self.now) (Take kind mode lock.now)
+            ≡ Some op) }
         ensures few { IfOk result (λ op. (known self.now).operations < most_operations) }
     {
         let l = self.lock_named(lock)?;
@@ -199,8 +205,10 @@ impl Reader {
         mode: Mode,
         lock: &[u8],
     ) -> Result<Op, Code>
-        ensures fault { Finds (least_code (tests_in_thread (known self.now) (Release kind mode lock.now) (thread_of thread.now))) result }
-        ensures said { IfOk result (λ op. op_of (known self.now) (Release kind mode lock.now) ≡ Some op) }
+        ensures fault { Finds (operation_fault (known self.now) (Release kind mode lock.now)
+            (thread_of thread.now)) result }
+        ensures said { IfOk result (λ op. op_of (known self.now) (Release kind mode lock.now)
+            ≡ Some op) }
         ensures few { IfOk result (λ op. (known self.now).operations < most_operations) }
     {
         let l = self.lock_named(lock)?;
@@ -220,8 +228,10 @@ impl Reader {
         key: &[u8],
         number: &[u8],
     ) -> Result<(LockNo, u64, u64), Code>
-        ensures fault { Finds (least_code (tests_in_thread (known self.now) (Set lock.now key.now number.now) (thread_of thread.now))) result }
-        ensures said { IfOk result (λ r. op_of (known self.now) (Set lock.now key.now number.now) ≡ Some (operation.Set r.0 r.1 r.2)) }
+        ensures fault { Finds (operation_fault (known self.now) (Set lock.now key.now number.now)
+            (thread_of thread.now)) result }
+        ensures said { IfOk result (λ r. op_of (known self.now) (Set lock.now key.now number.now)
+            ≡ Some (operation.Set r.0 r.1 r.2)) }
         ensures few { IfOk result (λ op. (known self.now).operations < most_operations) }
     {
         let l = self.lock_named(lock)?;
@@ -235,7 +245,8 @@ impl Reader {
 
     // `get L KEY` reads a key of a lock's table.
     fn test_get(&self, thread: &OpenThread, lock: &[u8], key: &[u8]) -> Result<Op, Code>
-        ensures fault { Finds (least_code (tests_in_thread (known self.now) (Get lock.now key.now) (thread_of thread.now))) result }
+        ensures fault { Finds (operation_fault (known self.now) (Get lock.now key.now)
+            (thread_of thread.now)) result }
         ensures said { IfOk result (λ op. op_of (known self.now) (Get lock.now key.now) ≡ Some op) }
         ensures few { IfOk result (λ op. (known self.now).operations < most_operations) }
     {
@@ -248,14 +259,15 @@ impl Reader {
 
     // There is room for an operation more.
     fn test_room(&self) -> Result<(), Code>
-        ensures { result ≡ (if nat_lt (known self.now).operations most_operations then Ok tt else Err (record { 0 = 7 })) }
+        ensures { result ≡ (if nat_lt (known self.now).operations most_operations
+            then Ok tt else Err (record { 0 = 7 })) }
     {
         test(Code::LIMIT, self.operations < limits::OPERATIONS)
     }
 
     // The lock that a word names.
     fn lock_named(&self, word: &[u8]) -> Result<LockNo, Code>
-        ensures { result ≡ (if is_name word.now then ok_or (lock_named (known self.now) word.now) (record { 0 = 5 }) else Err (record { 0 = 3 })) }
+        ensures { result ≡ named word.now (lock_named (known self.now) word.now) }
     {
         match self.names.get(&spelled(word)?) {
             Some(Declared::Lock(l)) => Ok(*l),
@@ -265,7 +277,7 @@ impl Reader {
 
     /// The thread that a word names.
     pub fn thread_named(&self, word: &[u8]) -> Result<ThreadNo, Code>
-        ensures { result ≡ (if is_name word.now then ok_or (thread_named (known self.now) word.now) (record { 0 = 5 }) else Err (record { 0 = 3 })) }
+        ensures { result ≡ named word.now (thread_named (known self.now) word.now) }
     {
         match self.names.get(&spelled(word)?) {
             Some(Declared::Thread(t)) => Ok(*t),
