@@ -122,7 +122,7 @@ LeavesNobodyBefore c es false (u ∷ us) ws = (us ≡ []) × Each (λ w. goes_be
 
 -- it took whom it may
 unfoldable pub UnnotedIsFair : Config → List Entry → (ℕ → Option Wake) → (QueueName → Lists) → Type 0
-UnnotedIsFair c history unstamped lists = (t : ℕ) (w : Wake) → unstamped t ≡ Some w → LeavesNobodyBefore c history w.all w.taken (lists (chan_queue w.chan)).exclusive
+UnnotedIsFair c history unstamped lists = (t : ℕ) (w : Wake) → t < c.threads → unstamped t ≡ Some w → LeavesNobodyBefore c history w.all w.taken (lists (chan_queue w.chan)).exclusive
 
 -- 6. Nobody is passed over by a waking: as with the aborts, until there are halts
 unfoldable pub NobodyIsPassedOver : Config → List Entry → Type 0
