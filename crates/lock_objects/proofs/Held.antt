@@ -6,41 +6,15 @@ use Rattle.std.proofs.lemmas.Bool.{ltb-true, cases_eq, ne_eqb}
 use Rattle.std.proofs.lemmas.Bool.Decides.{nat_tests}
 use Rattle.std.proofs.lemmas.Option.{cond_some}
 use Rattle.lock_model.specs.Operations.{hold_in, without_lock}
-use Rattle.lock_model.specs.Script.{holds_lock}
 use Rattle.lock_model.specs.Holds.{Hold, NotHeld, Holds}
 use Rattle.lock_model.specs.declared.numbers.LockNo.{LockNo}
 use Rattle.lock_model.specs.declared.event.Held.{Held}
 use Rattle.lock_state.specs.State.{put_at}
 use Rattle.lock_laws.proofs.Kit.{put_at_same, put_at_beside}
-use Rattle.lock_laws.proofs.AcceptedLists.{removed_is}
 use Rattle.lock_laws.proofs.HeldLists.{Apart, hold_in-push, hold_in-without}
 use Rattle.lock_objects.specs.Held.{holds_of}
 
--- 1. The list without a lock
-
--- the lock is taken out at its place
-pub taken_out : (l : LockNo) (hs : List Held) (i : ℕ) → position (holds_lock l) hs ≡ Some i → remove hs i ≡ without_lock l.0 hs
-taken_out l hs i e =
-    let n = position_or_len (holds_lock l) hs in
-    let f = cond_some (nat_lt n (length hs)) n i e in
-    subst (λ (k : ℕ). remove hs k ≡ without_lock l.0 hs) f.1 (removed_is l hs (ltb-true n (length hs) f.0)).1
-
--- and where it has no place, the list has it not
-has_none : (l : LockNo) (hs : List Held) → length hs ≤ position_or_len (holds_lock l) hs → hs ≡ without_lock l.0 hs
-has_none l [] e = refl
-has_none l (h ∷ hs) e =
-    elim (h.l.0 == l.0) as (λ b. length (h ∷ hs) ≤ cond (not b) (1 + position_or_len (holds_lock l) hs) 0 → h ∷ hs ≡ cond b hs (h ∷ without_lock l.0 hs)) [
-      | true ↦ λ q. absurd (omega arith)
-      | false ↦ λ q. ap (λ gs. h ∷ gs) (has_none l hs (omega arith))
-    ] e
-
-pub none_taken : (l : LockNo) (hs : List Held) → position (holds_lock l) hs ≡ None → hs ≡ without_lock l.0 hs
-none_taken l hs e = has_none l hs (above (position_or_len (holds_lock l) hs) (length hs) e)
-  where
-    above : (n k : ℕ) → cond (nat_lt n k) (Some n) None ≡ None → k ≤ n
-    above n k e = grind (arith, nat_tests)
-
--- 2. Each lock once
+-- 1. Each lock once
 
 counted : (k l : ℕ) → k ≡ l → cond {A = ℕ} (k == l) 1 0 ≡ 1
 counted k l e = ap (λ b. cond b 1 0) (eq-eqb k l e)
@@ -96,7 +70,7 @@ holds_of-without k l (h ∷ hs) =
 pub once_without : (l : ℕ) (hs : List Held) → ((k : ℕ) → holds_of k hs ≤ 1) → (k : ℕ) → holds_of k (without_lock l hs) ≤ 1
 once_without l hs once k = omega (arith, holds_of-without k l hs, once k)
 
--- 3. The column of what is held
+-- 2. The column of what is held
 
 pub column_push : (held : ℕ → ℕ → Hold) (t : ℕ) (hs : List Held) (x : Held) → held t x.l.0 ≡ NotHeld → ((l : ℕ) → hold_in hs l ≡ held t l) → (l : ℕ) → hold_in (hs ++ x ∷ []) l ≡ put_at held t x.l.0 (Holds x.mode) t l
 column_push held t hs x new shows l =
