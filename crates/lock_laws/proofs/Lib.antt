@@ -61,4 +61,4 @@ pub mod Rounds
 pub mod OneQueue
 pub mod Alike
 pub mod SxQueue
-pub mod Sleeps
+pub mod SleepFacts

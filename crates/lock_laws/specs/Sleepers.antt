@@ -1,8 +1,10 @@
 -- Sleepers of a running floor: the channels' queues fit the entries of the history, and each waking takes whom it may.
-use Rattle.std.specs.Prelude.{ℕ}
+use Rattle.std.specs.Prelude.{◌≡◌, ◌⊎◌, ℕ, ◌%◌, ◌≤◌, Option, Some, None}
 use Rattle.lock_model.specs.Config.{Config}
 use Rattle.lock_model.specs.Law.{WakingsNameSleepers}
-use Rattle.lock_state.specs.State.{State}
+use Rattle.lock_model.specs.Queues.{chan_queue, stands}
+use Rattle.lock_state.specs.State.{State, Wake}
+use Rattle.lock_state.specs.Facts.Waits.{times_marked}
 unfoldable pub use Rattle.lock_state.specs.Facts.Sleeps.{NamedAreWoken, MarksAreSignals, WokenBySignal, NoSleepIsHalted, SleepersSlept, SleepersWantNothing, SleepersAreUnwoken, AsleepStandThere, AsleepAreOnTheirWay, SleepersInOrder, LatecomersAreLater, SleepersKeepBase, SleepersAreExclusive, UnnotedAreMarked, UnnotedHasChain, UnnotedIsFair, NobodyIsPassedOver}
 
 -- a state in which the facts of sleepers hold
@@ -31,3 +33,14 @@ pub record SleepersFit (chains : ℕ) (c : Config) (s : State) : Type 0 where
   -- the law of the history
   pub wakings_name_sleepers : WakingsNameSleepers c s.history
   pub nobody_is_passed_over : NobodyIsPassedOver c s.history
+
+-- a thread took another off a channel, has yet to note that, and has the channel's chain
+pub record WasTakenBy (chains : ℕ) (s : State) (t d v : ℕ) : Type 0 where
+  pub chain : s.sleep_chain_with (d % chains) ≡ Some v
+  pub marked : 1 ≤ times_marked t (chan_queue d) (s.marked v)
+  pub wake : Wake
+  pub unnoted : s.unstamped v ≡ Some wake
+
+-- a thread stands on a channel's queue, or has the channel's chain, or was taken off by a thread that has it
+abbrev pub IsWithChannel : ℕ → State → ℕ → ℕ → Type 0
+IsWithChannel chains s t d = (1 ≤ stands t (s.lists (chan_queue d))) ⊎ ((s.sleep_chain_with (d % chains) ≡ Some t) ⊎ ((v : ℕ) × WasTakenBy chains s t d v))

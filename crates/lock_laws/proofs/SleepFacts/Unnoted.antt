@@ -24,8 +24,8 @@ use Rattle.lock_laws.proofs.Kit.{put_same, put_other, sum_below-zero}
 use Rattle.lock_laws.proofs.Queues.{times_marked-dealt, times_marked-elsewhere}
 use Rattle.lock_laws.proofs.Sleepers.{length-taken}
 use Rattle.lock_laws.proofs.Standing.{times_named}
-use Rattle.lock_laws.proofs.Sleeps.Entries.{slept_asleep}
-use Rattle.lock_laws.proofs.Sleeps.Marks.{no_signals_of_lock, signals-dealt, times-map, none_noted, signals_named, marked_once, marked_nowhere_else}
+use Rattle.lock_laws.proofs.SleepFacts.Entries.{slept_asleep}
+use Rattle.lock_laws.proofs.SleepFacts.Marks.{no_signals_of_lock, signals-dealt, times-map, none_noted, signals_named, marked_once, marked_nowhere_else}
 
 -- 1. Whom it took
 

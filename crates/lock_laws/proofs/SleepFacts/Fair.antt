@@ -23,11 +23,11 @@ use Rattle.lock_state.specs.Facts.Sleeps.{LeavesNobodyBefore, SleepersInOrder, S
 use Rattle.lock_laws.specs.Sleepers.{SleepersFit}
 use Rattle.lock_laws.proofs.Kit.{put_same, put_other, put_chan_same, put_chan_other}
 use Rattle.lock_laws.proofs.Lending.{each-map}
-use Rattle.lock_laws.proofs.Sleeps.Best.{wake_fair}
-use Rattle.lock_laws.proofs.Sleeps.Entries.{goes_before_other}
-use Rattle.lock_laws.proofs.Sleeps.Order.{stands_apart}
-use Rattle.lock_laws.proofs.Sleeps.Standing.{taken, given}
-use Rattle.lock_laws.proofs.Sleeps.Unnoted.{now, wake_is, taken_named}
+use Rattle.lock_laws.proofs.SleepFacts.Best.{wake_fair}
+use Rattle.lock_laws.proofs.SleepFacts.Entries.{goes_before_other}
+use Rattle.lock_laws.proofs.SleepFacts.Order.{stands_apart}
+use Rattle.lock_laws.proofs.SleepFacts.Standing.{taken, given}
+use Rattle.lock_laws.proofs.SleepFacts.Unnoted.{now, wake_is, taken_named}
 
 still : (e : Event) (o : Option Wake) (w : Wake) → unstamped_after e o ≡ Some w → o ≡ Some w
 still (WokeOne d k) o w x = absurd cc

@@ -21,10 +21,10 @@ use Rattle.lock_state.specs.Facts.Sleeps.{signals, signals_noted, is_signalled, 
 use Rattle.lock_laws.specs.Sleepers.{SleepersFit}
 use Rattle.lock_laws.proofs.Kit.{columns, put_same, put_other, sum_below-zero, sum_below-change}
 use Rattle.lock_laws.proofs.Mark as mark
-use Rattle.lock_laws.proofs.Sleeps.Bits.{bit_of}
-use Rattle.lock_laws.proofs.Sleeps.Entries.{named_own, named_other}
-use Rattle.lock_laws.proofs.Sleeps.Marks.{no_signals_of_lock, none_noted, one_mark, signals_nowhere}
-use Rattle.lock_laws.proofs.Sleeps.Unnoted.{taken_once, taken_unnamed}
+use Rattle.lock_laws.proofs.SleepFacts.Bits.{bit_of}
+use Rattle.lock_laws.proofs.SleepFacts.Entries.{named_own, named_other}
+use Rattle.lock_laws.proofs.SleepFacts.Marks.{no_signals_of_lock, none_noted, one_mark, signals_nowhere}
+use Rattle.lock_laws.proofs.SleepFacts.Unnoted.{taken_once, taken_unnamed}
 
 one_most : (b : Bool) → one b ≤ 1
 one_most true = omega arith

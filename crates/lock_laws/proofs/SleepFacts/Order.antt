@@ -23,10 +23,10 @@ use Rattle.lock_laws.specs.Sleepers.{SleepersFit}
 use Rattle.lock_laws.proofs.Kit.{put_same, put_other, put_chan_same, put_chan_other, sum_below-zero}
 use Rattle.lock_laws.proofs.Lending.{each-map}
 use Rattle.lock_laws.proofs.Standing.{standing_named}
-use Rattle.lock_laws.proofs.Sleeps.Best.{each_all, each-last, each-left, in_order-last, in_order-left, in_order-map}
-use Rattle.lock_laws.proofs.Sleeps.Entries.{slept_asleep, still_asleep, up_to_own, up_to_other, up_to_most}
-use Rattle.lock_laws.proofs.Sleeps.Marks.{none_noted, signals_nowhere}
-use Rattle.lock_laws.proofs.Sleeps.Standing.{has_its_chain, marked_awake}
+use Rattle.lock_laws.proofs.SleepFacts.Best.{each_all, each-last, each-left, in_order-last, in_order-left, in_order-map}
+use Rattle.lock_laws.proofs.SleepFacts.Entries.{slept_asleep, still_asleep, up_to_own, up_to_other, up_to_most}
+use Rattle.lock_laws.proofs.SleepFacts.Marks.{none_noted, signals_nowhere}
+use Rattle.lock_laws.proofs.SleepFacts.Standing.{has_its_chain, marked_awake}
 
 -- a fact of each channel and its queue, where one changes
 pub at_put_chan : (P : ℕ → Lists → Type 0) (f : QueueName → Lists) (k : ℕ) (v : Lists) → P k v → ((d : ℕ) → P d (f (chan_queue d))) → (d : ℕ) → P d (put_queue f (chan_queue k) v (chan_queue d))

@@ -25,7 +25,7 @@ use Rattle.lock_laws.proofs.Kit.{columns, put_same, put_other, sum_below-at}
 use Rattle.lock_laws.proofs.Items.{beside, at_itself, with_then}
 use Rattle.lock_laws.proofs.Mark as mark
 use Rattle.lock_laws.proofs.Resume as resume
-use Rattle.lock_laws.proofs.Sleeps.Entries.{asleep_slept, asleep_unnamed, one_channel, slept_back, asleep_own, still_asleep}
+use Rattle.lock_laws.proofs.SleepFacts.Entries.{asleep_slept, asleep_unnamed, one_channel, slept_back, asleep_own, still_asleep}
 
 number_of : Option QueueName → ℕ
 number_of None = 0

@@ -14,7 +14,7 @@ use Rattle.lock_state.specs.Steps.Items.{after_take, after_give}
 use Rattle.lock_state.specs.Steps.{Step, Stamps, Readies, Unreadies, Opens, OpensSleepQueue, Wakes, Marks, Resumes, May, after}
 use Rattle.lock_state.specs.Facts.Sleeps.{AreSignals, MarksAreSignals, WokenBySignal, NoSleepIsHalted}
 use Rattle.lock_laws.proofs.Kit.{at_put, put_same, put_other}
-use Rattle.lock_laws.proofs.Sleeps.Marks.{all_signals-dealt}
+use Rattle.lock_laws.proofs.SleepFacts.Marks.{all_signals-dealt}
 
 -- 1. Marks
 

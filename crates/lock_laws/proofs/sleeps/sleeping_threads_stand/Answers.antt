@@ -1,0 +1,5 @@
+use Rattle.lock_laws.proofs.SleepFacts.Found as law
+use Rattle.lock_laws.proofs.sleeps.sleeping_threads_stand.Goals as goal
+
+pub returns : goal.returns
+returns c = law.found
