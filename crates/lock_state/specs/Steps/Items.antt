@@ -1,7 +1,8 @@
 -- What lies behind turn words, and the steps that take it out of its home and give it back.
 use Rattle.std.specs.Prelude.{◌≡◌, ◌≢◌, ℕ, ◌<◌, Bool, true, false, not, ◌&&◌, ◌==◌, if◌then◌else◌, Option, Some, None, ⊤}
 use Rattle.lock_model.specs.Config.{Config}
-use Rattle.lock_state.specs.State.{State, Queued, Look, Round, put, put_at}
+use Rattle.lock_state.specs.State.{State, Queued, SleepHalted, Look, Round, put, put_at}
+use Rattle.lock_model.specs.declared.plan.QueueName.{QueueName}
 use Rattle.lock_state.specs.Steps.LockWords.{IsActing, is_taking_back}
 
 -- what a thread may have out: a chain of turnstiles or of sleep queues, a thread's record, a cell of a lock's table, the class graph
@@ -121,14 +122,14 @@ abbrev pub is_bound : Option Round → Bool
 is_bound None = false
 is_bound (Some r) = not r.by_try && r.in_chain
 
--- a thread that was made ready sleeps in its log, wasn't woken since, and doesn't stand on its channel yet
+-- a thread that was made ready sleeps in its log, wasn't woken or halted since, and doesn't stand on its channel yet
 pub record IsOnItsWay (s : State) (t : ℕ) : Type 0 where
   pub queued : s.wait t ≡ Queued
   pub nowhere : s.blocked_on t ≡ None
   pub wants : s.wanted t ≡ None
   pub slept : is_taking_back (s.log t) ≡ true
   pub unwoken : s.woken_from t ≡ None
-  pub unnoted : s.noted t ≡ None
+  pub unhalted : (q : QueueName) → s.noted t ≡ Some (SleepHalted q) → ⊥
 
 -- the thread isn't about to stand on a queue
 abbrev pub IsSettled : State → ℕ → Type 0
