@@ -20,7 +20,7 @@ use Rattle.lock_state.specs.Steps.Items.{Item, SleepChain, IsOnItsWay, IsDoneWit
 use Rattle.lock_state.specs.Steps.{Step, Seeks, TakesItem, GivesItem, Gains, Stamps, Readies, Unreadies, Enters, EntersSleepQueue, Adds, Marks, Resumes, Claims, May, HasOut, HasOutForEntry, HasSeen, after}
 use Rattle.lock_state.specs.Facts.{Lawful, StandingIsQueued, LogsAreParts}
 use Rattle.lock_state.specs.Facts.Sleeps.{signals, signals_noted, is_signalled, AreSignals, NamedAreWoken, MarksAreSignals, SleepersSlept, SleepersWantNothing, SleepersAreUnwoken, AsleepStandThere, AsleepAreOnTheirWay}
-use Rattle.lock_laws.specs.Sleepers.{SleepersFit}
+use Rattle.lock_laws.specs.Sleepers.{SleepersFit, NoSleepIsHalted}
 use Rattle.lock_laws.proofs.Kit.{columns, put_same, put_other, sum_below-at}
 use Rattle.lock_laws.proofs.Items.{beside, at_itself, with_then}
 use Rattle.lock_laws.proofs.Mark as mark
