@@ -1,22 +1,38 @@
-# What a newcomer types. `rt` is the toolchain's command.
+# What a newcomer types. `rt` is the toolchain's command; README.md says where it comes from.
+SHELL := bash
 SCRIPT ?= examples/blocking.script
+LOCKRUN := crates/lockrun/out/lockrun
 
-.PHONY: step proved examples bench
+.DEFAULT_GOAL := help
+.PHONY: help step proved examples bench
+
+# Says what there is to type.
+help:
+	@echo 'make step SCRIPT=PATH     builds lockrun without any proof and runs a script; without SCRIPT, $(SCRIPT)'
+	@echo 'make proved SCRIPT=PATH   proves lockrun and all below it, makes $(LOCKRUN), and runs a script'
+	@echo 'make examples             runs each example by the proved program; stops at the first that is not as written'
+	@echo 'make bench                times long scripts by the proved program, and adds the figures to bench/results.md'
+	@echo 'rt ci                     the gate: proves every crate, tries the edits that must fail, runs tests and programs'
+	@echo 'A script may end with a status other than 0; make then says Error and that number.'
 
 # Builds lockrun without any proof and runs one script.
 step:
-	@cd crates/lockrun && rt try -- step < $(abspath $(SCRIPT))
+	@script=$$(realpath -e -- "$(SCRIPT)") && cd crates/lockrun && rt try -- step < "$$script"
 
-# Proves lockrun and all below it, and makes the program crates/lockrun/out/lockrun.
+# Proves lockrun and all below it, makes the program, and runs one script.
 proved:
-	cd crates/lockrun && rt run -- step < $(abspath $(SCRIPT))
+	@script=$$(realpath -e -- "$(SCRIPT)") && cd crates/lockrun && rt run -- step < "$$script"
 
-# Runs each example by the proved program, and compares what it prints.
+# Runs each example by the proved program, and stops at the first whose status or text is not as written.
 examples:
-	@for script in examples/*.script; do \
-	  crates/lockrun/out/lockrun step < $$script | cmp - $${script%.script}.out && echo "$$script: as written"; \
-	done
+	@[ -x $(LOCKRUN) ] || { echo 'first: make proved' >&2; exit 1; }
+	@text=$$(mktemp) && trap 'rm -f "$$text"' EXIT && while read -r name words; do \
+	  status=0; $(LOCKRUN) $${words%%:*} < "examples/$$name.script" > "$$text" || status=$$?; \
+	  [ "$${words#*: }" = "status $$status, as written" ] || { echo "$$name: the status is $$status" >&2; exit 1; }; \
+	  diff "examples/$$name.out" "$$text" || { echo "$$name: the text differs" >&2; exit 1; }; \
+	  echo "$$name: status $$status, as written"; \
+	done < crates/example_rows/stdout
 
-# Times two long scripts by the proved program.
+# Times long scripts by the proved program.
 bench:
 	@bench/run

@@ -1,83 +1,151 @@
 -- An accepted script's plan is proper: it keeps the limits, its schedule names its threads, and the operations of each thread fit what the
--- thread holds.
-use Rattle.std.proofs.Common.{◌≡◌, ℕ, ◌+◌, ◌<◌, ◌≤◌, Bool, true, false, cond, List, [], ◌∷◌, ◌++◌, length, Option, Some, None, refl, sym, ap, subst, ◌∙◌, arith, length-append}
-use Rattle.std.specs.Prelude.{position, remove, map, sum}
-use Rattle.std.specs.List.{All}
+-- thread holds. Each line that has no fault keeps what is known sound.
+use Rattle.std.proofs.Common.{◌≡◌, ℕ, suc, ◌+◌, ◌<◌, ◌≤◌, Bool, true, false, not, cond, List, [], ◌∷◌, ◌++◌, length, take, Option, Some, None, refl, sym, ap, subst, ◌∙◌, arith, length-append}
+use Rattle.std.specs.Prelude.{map, sum, codes, option_and_then, option_map, option_to_list, is_none}
+use Rattle.std.specs.List.{All, list_any}
 use Rattle.std.specs.Map.{lookup}
-use Rattle.std.proofs.lemmas.Option.{cond_some, none-some, same_Some}
-use Rattle.std.proofs.lemmas.Bool.{and_parts}
-use Rattle.std.proofs.lemmas.List.Elements.{All-nil, All-head, All-tail, All-same, All-push, All-weaker}
-use Rattle.lock_model.specs.Operations.{without_lock, held_behind, held_through, IsProper}
-use Rattle.lock_model.specs.Script.{Known, OpenThread, nothing_known, Statement, Mutex, Begin, End, Schedule, Done, DoLock, DoUnlock, DoSet, DoAdd, DoGet, DoPrio, DoShow, judged, judged_line, judged_lines, judged_mutex, judged_begin, judged_end, judged_schedule, with_scheduled, judged_done, judged_lock, judged_unlock, judged_set, judged_add, judged_get, judged_prio, judged_show, with_operation, lock_named, lock_of, thread_named, thread_of, declared_as, holds_lock, plan_of, plan_when_done, plan_of_lines, lines_of, IsAccepted, is_same, statement_of, number_of, priority_of, class_number}
+use Rattle.std.proofs.lemmas.Option.{none-some, same_Some, option_and_then_some}
+use Rattle.std.proofs.lemmas.Bool.{and_parts, ltb-true, leb-true}
+use Rattle.std.proofs.lemmas.List.{take_all}
+use Rattle.std.proofs.lemmas.List.Folds.{list_any-append}
+use Rattle.std.proofs.lemmas.List.Elements.{All-nil, All-cons, All-head, All-tail, All-same, All-push, All-weaker, All-append}
+use Rattle.lock_model.specs.Limits.{most_threads, most_locks, most_operations, most_scheduled}
+use Rattle.lock_model.specs.Counts.{is_empty}
+use Rattle.lock_model.specs.Names.{is_name}
+use Rattle.lock_model.specs.Plans.{operations_of}
+use Rattle.lock_model.specs.Operations.{held_behind, held_through, operation_tests, is_try, Fit, IsProper}
+use Rattle.lock_model.specs.Tests.{test, Passes, where_some, first_fault}
+use Rattle.lock_model.proofs.LeastCodes.{passed, passed_both}
+use Rattle.lock_model.specs.Script.{Reading, Reads, Faulty, told, plan_of, faulty_or, reading_from, reading_of_lines, reading_of, IsAccepted}
+use Rattle.lock_model.specs.Script.Lines.{lines_of, words_of, is_same, has_meaning, priority_of, number_of}
+use Rattle.lock_model.specs.Script.Statements.{Statement, Declares, Begins, Ends, Schedules, IsDone, Operates, Operation, Form, Alone, WithOne, WithTwo, WithThree, WithSome, forms, form_of, said, said_by, statement_of}
+use Rattle.lock_model.specs.Script.Statements as say
+use Rattle.lock_model.specs.Script.Learning.{Known, OpenThread, nothing_known, learned, with_lock, with_thread, with_end, with_operation, op_of, with_key, with_number, lock_named, thread_named, threads_named, thread_of, declared_as, class_number}
+use Rattle.lock_model.specs.Script.Faults.{byte_tests, word_tests, place_tests, name_tests, statement_stages, line_fault, behind_line, learned_from, operation_words, tests_in_thread, has_room}
 use Rattle.lock_model.specs.declared.plan.Declared.{Declared}
 use Rattle.lock_model.specs.declared.plan.Declared.TheVariants.{Lock, Chan, Thread}
+use Rattle.lock_model.specs.declared.plan.Kind.{Kind}
 use Rattle.lock_model.specs.declared.plan.Kind.TheVariants.{Mtx}
-use Rattle.lock_model.specs.declared.plan.Mode.TheVariants.{Excl}
 use Rattle.lock_model.specs.declared.plan.ThreadDecl.{ThreadDecl}
 use Rattle.lock_model.specs.declared.plan.LockDecl.{LockDecl}
+use Rattle.lock_model.specs.declared.plan.ChanDecl.{ChanDecl}
 use Rattle.lock_model.specs.declared.numbers.LockNo.{LockNo}
 use Rattle.lock_model.specs.declared.numbers.ThreadNo.{ThreadNo}
 use Rattle.lock_model.specs.declared.plan.Plan.{Plan}
 use Rattle.lock_model.specs.declared.plan.Op.{Op}
 use Rattle.lock_model.specs.declared.plan.Op.TheVariants.{Take, Release, Set, Add, Get, Base, Show}
-use Rattle.lock_model.specs.declared.event.Held.{Held}
-use Rattle.lock_laws.proofs.AcceptedLists.{none_is, empty_is, below, guard, then_some, sum_push, read_all, AreExclusive, held_is, taken_is, exclusive_is, exclusive_without, removed_is, held_through-push}
+use Rattle.lock_laws.proofs.AcceptedLists.{none_is, empty_is, stages_pass, sum_push, read_all, held_through-push, EachPasses, each_push}
 
--- 1. Names
+-- 1. Names of threads
 
--- the number of a declared lock or thread is below how many there are
-abbrev IsWithin : ℕ → ℕ → Declared → Type 0
-IsWithin locks threads (Lock l) = l.0 < locks
-IsWithin locks threads (Chan c) = Unit {0}
-IsWithin locks threads (Thread t) = t.0 < threads
+-- the number of a declared thread is below how many have begun
+abbrev IsWithin : ℕ → Declared → Type 0
+IsWithin n (Lock l) = Unit {0}
+IsWithin n (Chan c) = Unit {0}
+IsWithin n (Thread t) = t.0 < n
 
-abbrev AreWithin : ℕ → ℕ → List (List ℕ × Declared) → Type 0
-AreWithin locks threads es = All (λ e. IsWithin locks threads e.1) es
+abbrev AreWithin : ℕ → List (List ℕ × Declared) → Type 0
+AreWithin n es = All (λ e. IsWithin n e.1) es
 
-within_more : (n m i j : ℕ) → n ≤ m → i ≤ j → (d : Declared) → IsWithin n i d → IsWithin m j d
-within_more n m i j l k (Lock a) h = omega arith
-within_more n m i j l k (Chan c) h = tt
-within_more n m i j l k (Thread t) h = omega arith
+within_more : (n m : ℕ) → n ≤ m → (d : Declared) → IsWithin n d → IsWithin m d
+within_more n m l (Lock a) h = tt
+within_more n m l (Chan c) h = tt
+within_more n m l (Thread t) h = omega arith
 
-are_within-more : (n m i j : ℕ) → n ≤ m → i ≤ j → (es : List (List ℕ × Declared)) → AreWithin n i es → AreWithin m j es
-are_within-more n m i j l k es h = All-weaker (λ e. IsWithin n i e.1) (λ e. IsWithin m j e.1) (λ e. within_more n m i j l k e.1) es h
-
--- a name that is declared takes the next number
-are_within-lock : (n m : ℕ) (es : List (List ℕ × Declared)) (name : List ℕ) → AreWithin n m es → AreWithin (n + 1) m (es ++ (name, Lock (record { 0 = n })) ∷ [])
-are_within-lock n m es name h = All-push (λ e. IsWithin (n + 1) m e.1) es (name, Lock (record { 0 = n })) (are_within-more n (n + 1) m m (omega arith) (omega arith) es h) (omega arith)
-
-are_within-thread : (n m : ℕ) (es : List (List ℕ × Declared)) (name : List ℕ) → AreWithin n m es → AreWithin n (m + 1) (es ++ (name, Thread (record { 0 = m })) ∷ [])
-are_within-thread n m es name h = All-push (λ e. IsWithin n (m + 1) e.1) es (name, Thread (record { 0 = m })) (are_within-more n n m (m + 1) (omega arith) (omega arith) es h) (omega arith)
-
-found_within : (n m : ℕ) (p : List ℕ → Bool) (es : List (List ℕ × Declared)) (d : Declared) → AreWithin n m es → lookup p es ≡ Some d → IsWithin n m d
-found_within n m p [] d h e = absurd (none-some d e)
-found_within n m p (x ∷ es) d h e = elim (p x.0) as (λ b. cond b (Some x.1) (lookup p es) ≡ Some d → IsWithin n m d) [
-  | true ↦ λ q. subst (IsWithin n m) (same_Some x.1 d q) (All-head (λ e. IsWithin n m e.1) x es h)
-  | false ↦ λ q. found_within n m p es d (All-tail (λ e. IsWithin n m e.1) x es h) q
+found_within : (n : ℕ) (p : List ℕ → Bool) (es : List (List ℕ × Declared)) (d : Declared) → AreWithin n es → lookup p es ≡ Some d → IsWithin n d
+found_within n p [] d h e = absurd (none-some d e)
+found_within n p (x ∷ es) d h e = elim (p x.0) as (λ b. cond b (Some x.1) (lookup p es) ≡ Some d → IsWithin n d) [
+  | true ↦ λ q. subst (IsWithin n) (same_Some x.1 d q) (All-head (λ e. IsWithin n e.1) x es h)
+  | false ↦ λ q. found_within n p es d (All-tail (λ e. IsWithin n e.1) x es h) q
 ] e
 
--- a declared lock is one of the plan's
-lock_is_within : (n m : ℕ) (d : Declared) (l : LockNo) → IsWithin n m d → lock_of d ≡ Some l → l.0 < n
-lock_is_within n m (Lock a) l h e = subst (λ (k : LockNo). k.0 < n) (same_Some a l e) h
-lock_is_within n m (Chan a) l h e = absurd (none-some l e)
-lock_is_within n m (Thread a) l h e = absurd (none-some l e)
+thread_is_within : (n : ℕ) (d : Declared) (t : ThreadNo) → IsWithin n d → thread_of d ≡ Some t → t.0 < n
+thread_is_within n (Lock a) t h e = absurd (none-some t e)
+thread_is_within n (Chan a) t h e = absurd (none-some t e)
+thread_is_within n (Thread a) t h e = subst (λ (k : ThreadNo). k.0 < n) (same_Some a t e) h
 
--- and so is a declared thread
-thread_is_within : (n m : ℕ) (d : Declared) (t : ThreadNo) → IsWithin n m d → thread_of d ≡ Some t → t.0 < m
-thread_is_within n m (Lock a) t h e = absurd (none-some t e)
-thread_is_within n m (Chan a) t h e = absurd (none-some t e)
-thread_is_within n m (Thread a) t h e = subst (λ (k : ThreadNo). k.0 < m) (same_Some a t e) h
+guarded : {A : Type 0} (b : Bool) (x : Option A) (y : A) → cond b x None ≡ Some y → x ≡ Some y
+guarded true x y e = e
+guarded false x y e = absurd (none-some y e)
 
--- 2. What the lines so far make known is sound
+named_within : (n : ℕ) (k : Known) (name : List ℕ) → AreWithin n k.names → All (λ t. t.0 < n) (option_to_list (thread_named k name))
+named_within n k name h = go (thread_named k name) refl
+  where
+    go : (o : Option ThreadNo) → thread_named k name ≡ o → All (λ t. t.0 < n) (option_to_list o)
+    go None e = All-nil (λ (t : ThreadNo). t.0 < n)
+    go (Some t) e =
+        let named = guarded (is_name name) (option_and_then thread_of (declared_as k name)) t e in
+        All-cons (λ (t : ThreadNo). t.0 < n) t [] (option_and_then_some thread_of (declared_as k name) t named (λ d f g. thread_is_within n d t (found_within n (is_same name) k.names d h f) g)) (All-nil (λ (t : ThreadNo). t.0 < n))
+
+-- 2. Locks of a script are mutexes
+
+abbrev IsOfMutexes : Statement → Type 0
+IsOfMutexes (Declares kind name class) = kind ≡ Mtx
+IsOfMutexes (Begins name prio) = Unit {0}
+IsOfMutexes Ends = Unit {0}
+IsOfMutexes (Schedules names) = Unit {0}
+IsOfMutexes IsDone = Unit {0}
+IsOfMutexes (Operates o) = Unit {0}
+
+abbrev FormsMutexes : Form → Type 0
+FormsMutexes (Alone s) = IsOfMutexes s
+FormsMutexes (WithOne f) = (a : List ℕ) → IsOfMutexes (f a)
+FormsMutexes (WithTwo f) = (a b : List ℕ) → IsOfMutexes (f a b)
+FormsMutexes (WithThree f) = (a b c : List ℕ) → IsOfMutexes (f a b c)
+FormsMutexes (WithSome f) = (words : List (List ℕ)) → IsOfMutexes (f words)
+
+abbrev AllFormMutexes : List (List ℕ × Form) → Type 0
+AllFormMutexes [] = Unit {0}
+AllFormMutexes (e ∷ es) = FormsMutexes e.1 × AllFormMutexes es
+
+found_form : (p : List ℕ → Bool) (es : List (List ℕ × Form)) (form : Form) → AllFormMutexes es → lookup p es ≡ Some form → FormsMutexes form
+found_form p [] form h e = absurd (none-some form e)
+found_form p (x ∷ es) form h e = elim (p x.0) as (λ b. cond b (Some x.1) (lookup p es) ≡ Some form → FormsMutexes form) [
+  | true ↦ λ q. subst FormsMutexes (same_Some x.1 form q) h.0
+  | false ↦ λ q. found_form p es form h.1 q
+] e
+
+all_forms : AllFormMutexes forms
+all_forms =
+    ((λ a b. refl), ((λ a b. tt), (tt, ((λ ws. tt), (tt, ((λ a. tt), ((λ a. tt), ((λ a b c. tt), ((λ a b c. tt), ((λ a b. tt), ((λ a. tt), (tt, tt))))))))))))
+
+said_mutexes : (form : Form) (words : List (List ℕ)) (s : Statement) → FormsMutexes form → said form words ≡ Some s → IsOfMutexes s
+said_mutexes (Alone x) [] s h e = subst IsOfMutexes (same_Some x s e) h
+said_mutexes (Alone x) (a ∷ ws) s h e = absurd (none-some s e)
+said_mutexes (WithOne f) [] s h e = absurd (none-some s e)
+said_mutexes (WithOne f) (a ∷ []) s h e = subst IsOfMutexes (same_Some (f a) s e) (h a)
+said_mutexes (WithOne f) (a ∷ b ∷ ws) s h e = absurd (none-some s e)
+said_mutexes (WithTwo f) [] s h e = absurd (none-some s e)
+said_mutexes (WithTwo f) (a ∷ []) s h e = absurd (none-some s e)
+said_mutexes (WithTwo f) (a ∷ b ∷ []) s h e = subst IsOfMutexes (same_Some (f a b) s e) (h a b)
+said_mutexes (WithTwo f) (a ∷ b ∷ c ∷ ws) s h e = absurd (none-some s e)
+said_mutexes (WithThree f) [] s h e = absurd (none-some s e)
+said_mutexes (WithThree f) (a ∷ []) s h e = absurd (none-some s e)
+said_mutexes (WithThree f) (a ∷ b ∷ []) s h e = absurd (none-some s e)
+said_mutexes (WithThree f) (a ∷ b ∷ c ∷ []) s h e = subst IsOfMutexes (same_Some (f a b c) s e) (h a b c)
+said_mutexes (WithThree f) (a ∷ b ∷ c ∷ d ∷ ws) s h e = absurd (none-some s e)
+said_mutexes (WithSome f) [] s h e = absurd (none-some s e)
+said_mutexes (WithSome f) (a ∷ ws) s h e = subst IsOfMutexes (same_Some (f (a ∷ ws)) s e) (h (a ∷ ws))
+
+words_mutexes : (words : List (List ℕ)) (s : Statement) → said_by words ≡ Some s → IsOfMutexes s
+words_mutexes [] s e = absurd (none-some s e)
+words_mutexes (w ∷ words) s e = option_and_then_some (λ form. said form words) (form_of w) s e (λ form f g. said_mutexes form words s (found_form (is_same w) forms form all_forms f) g)
+
+line_mutexes : (b : Bool) (words : List (List ℕ)) (s : Statement) → cond b None (said_by words) ≡ Some s → IsOfMutexes s
+line_mutexes true words s e = absurd (none-some s e)
+line_mutexes false words s e = words_mutexes words s e
+
+-- 3. What the lines so far make known is sound
 
 -- what the open thread's lines say fits what it holds
-record IsSoundOpen (locks : ℕ) (t : OpenThread) : Type 0 where
-  fits : held_through locks t.ops [] ≡ Some t.held
-  exclusive : AreExclusive t.held
+record IsSoundOpen (locks : List LockDecl) (chans : List ChanDecl) (t : OpenThread) : Type 0 where
+  each : EachPasses locks chans t.ops []
+  held : held_through t.ops [] ≡ t.held
+  no_try : list_any is_try t.ops ≡ false
 
-abbrev OpenIsSound : ℕ → Option OpenThread → Type 0
-OpenIsSound locks None = Unit {0}
-OpenIsSound locks (Some t) = IsSoundOpen locks t
+abbrev OpenIsSound : List LockDecl → List ChanDecl → Option OpenThread → Type 0
+OpenIsSound locks chans None = Unit {0}
+OpenIsSound locks chans (Some t) = IsSoundOpen locks chans t
 
 -- threads that have begun and not ended, and their operations
 abbrev opened : Option OpenThread → ℕ
@@ -92,20 +160,22 @@ operations_of_open (Some t) = length t.ops
 abbrev begun : Known → ℕ
 begun k = length k.threads + opened k.open_thread
 
--- a thread that has ended holds nothing behind its operations
-abbrev IsWhole : ℕ → ThreadDecl → Type 0
-IsWhole locks d = held_through locks d.ops [] ≡ Some []
+-- a thread that has ended fits from its begin to its end
+record IsWhole (locks : List LockDecl) (chans : List ChanDecl) (ops : List Op) : Type 0 where
+  fit : Fit locks chans ops
+  no_try : list_any is_try ops ≡ false
 
 record IsSound (k : Known) : Type 0 where
-  names : AreWithin (length k.locks) (begun k) k.names
-  locks : length k.locks ≤ 64
+  names : AreWithin (begun k) k.names
+  locks : length k.locks ≤ most_locks
   mutexes : All (λ d. d.kind ≡ Mtx) k.locks
-  threads : begun k ≤ 32
-  fit : All (IsWhole (length k.locks)) k.threads
-  open_thread : OpenIsSound (length k.locks) k.open_thread
-  operations : k.operations ≤ 20000
+  chans : k.chans ≡ []
+  threads : begun k ≤ most_threads
+  whole : All (λ d. IsWhole k.locks k.chans d.ops) k.threads
+  open_thread : OpenIsSound k.locks k.chans k.open_thread
+  operations : k.operations ≤ most_operations
   counted : sum (map (λ d. length d.ops) k.threads) + operations_of_open k.open_thread ≡ k.operations
-  scheduled : length k.schedule ≤ 100000
+  scheduled : length k.schedule ≤ most_scheduled
   schedule : All (λ t. t.0 < length k.threads) k.schedule
 
 nothing_sound : IsSound nothing_known
@@ -113,8 +183,9 @@ nothing_sound = record {
   names = All-nil _;
   locks = omega arith;
   mutexes = All-nil _;
+  chans = refl;
   threads = omega arith;
-  fit = All-nil _;
+  whole = All-nil _;
   open_thread = tt;
   operations = omega arith;
   counted = omega arith;
@@ -122,258 +193,223 @@ nothing_sound = record {
   schedule = All-nil _;
 }
 
-open_sound : (k : Known) (t : OpenThread) → IsSound k → k.open_thread ≡ Some t → IsSoundOpen (length k.locks) t
-open_sound k t h e = subst (OpenIsSound (length k.locks)) e h.open_thread
+-- 4. Each statement keeps that
 
-not_open : (n : ℕ) (o : Option OpenThread) → o ≡ None → OpenIsSound n o
-not_open n o e = subst (OpenIsSound n) (sym e) tt
+-- where no thread is open
+not_open : (locks : List LockDecl) (chans : List ChanDecl) (o : Option OpenThread) → o ≡ None → OpenIsSound locks chans o
+not_open locks chans o e = subst (OpenIsSound locks chans) (sym e) tt
 
-lock_within : (k : Known) (name : List ℕ) (l : LockNo) → IsSound k → lock_named k name ≡ Some l → l.0 < length k.locks
-lock_within k name l h e =
-    let named = guard _ _ l e in
-    let found = then_some lock_of (declared_as k name) l named.1 in
-    lock_is_within (length k.locks) (begun k) found.0 l (found_within (length k.locks) (begun k) (is_same name) k.names found.0 h.names found.1) found.2
+none_begun : (k : Known) → k.open_thread ≡ None → begun k ≡ length k.threads
+none_begun k none = let e = ap (λ o. length k.threads + opened o) none in omega arith
 
-thread_within : (k : Known) (name : List ℕ) (t : ThreadNo) → IsSound k → thread_named k name ≡ Some t → t.0 < begun k
-thread_within k name t h e =
-    let named = guard _ _ t e in
-    let found = then_some thread_of (declared_as k name) t named.1 in
-    thread_is_within (length k.locks) (begun k) found.0 t (found_within (length k.locks) (begun k) (is_same name) k.names found.0 h.names found.1) found.2
+not_inside : (o : Option OpenThread) → not (not (is_none o)) ≡ true → o ≡ None
+not_inside None e = refl
+not_inside (Some t) e = absurd cc
 
--- 3. Each line keeps that
-
-mutex_sound : (k n : Known) (name class : List ℕ) → IsSound k → judged_mutex k name class ≡ Some n → IsSound n
-mutex_sound k n name class h e =
-    let q = cond_some _ _ n e in
-    let fifth = and_parts _ _ q.0 in
-    let fourth = and_parts _ _ fifth.0 in
-    let third = and_parts _ _ fourth.0 in
-    let second = and_parts _ _ third.0 in
-    let first = and_parts _ _ second.0 in
-    let lock : LockDecl = record { name = name; kind = Mtx; class = record { 0 = class_number k.classes class } } in
-    let more : List LockDecl = k.locks ++ lock ∷ [] in
-    let size : length more ≡ length k.locks + 1 = length-append k.locks _ in
-    let room : length k.locks < 64 = below (length k.locks) 64 fourth.1 in
-    let declared : List (List ℕ × Declared) = k.names ++ (name, Lock (record { 0 = length k.locks })) ∷ [] in
-    subst IsSound q.1 (record {
-      names = subst (λ m. AreWithin m (begun k) declared) (sym size) (are_within-lock (length k.locks) (begun k) k.names name h.names);
-      locks = omega (arith, size, room);
-      mutexes = All-push (λ d. d.kind ≡ Mtx) k.locks lock h.mutexes refl;
+lock_sound : (k : Known) (kind : Kind) (name class : List ℕ) → kind ≡ Mtx → IsSound k → Passes (place_tests k (Declares kind name class)) → Passes (name_tests k (Declares kind name class)) → IsSound (with_lock k kind name class)
+lock_sound k kind name class mutex h place names =
+    let before = and_parts _ _ (passed _ _ place).0 in
+    let room = (passed _ _ (passed _ _ (passed _ _ (passed _ _ names).1).1).1).0 in
+    let lock : LockDecl = record { name = name; kind = kind; class = record { 0 = class_number k.classes class } } in
+    let size : length (k.locks ++ lock ∷ []) ≡ length k.locks + 1 = length-append k.locks _ in
+    let few : length k.locks < most_locks = ltb-true (length k.locks) most_locks room in
+    record {
+      names = All-push (λ e. IsWithin (begun k) e.1) k.names (name, Lock (record { 0 = length k.locks })) h.names tt;
+      locks = omega (arith, size, few);
+      mutexes = All-push (λ d. d.kind ≡ Mtx) k.locks lock h.mutexes mutex;
+      chans = h.chans;
       threads = h.threads;
-      fit = All-same (IsWhole (length more)) k.threads [] (empty_is k.threads first.1) (All-nil (IsWhole (length more)));
-      open_thread = not_open (length more) k.open_thread (none_is k.open_thread first.0);
+      whole = All-same (λ d. IsWhole (k.locks ++ lock ∷ []) k.chans d.ops) k.threads [] (empty_is k.threads before.1) (All-nil _);
+      open_thread = not_open (k.locks ++ lock ∷ []) k.chans k.open_thread (none_is k.open_thread before.0);
       operations = h.operations;
       counted = h.counted;
       scheduled = h.scheduled;
       schedule = h.schedule;
-    })
+    }
 
--- where no thread is open
-none_begun : (k : Known) → k.open_thread ≡ None → begun k ≡ length k.threads
-none_begun k none = let e = ap (λ o. length k.threads + opened o) none in omega arith
-
-begin_sound : (k n : Known) (name prio : List ℕ) → IsSound k → judged_begin k name prio ≡ Some n → IsSound n
-begin_sound k n name prio h e =
-    let q = guard _ _ n e in
-    let third = and_parts _ _ q.0 in
-    let first = and_parts _ _ third.0 in
-    let p = then_some _ (priority_of prio) n q.1 in
-    let started : OpenThread = record { name = name; base = p.0; ops = []; held = [] } in
-    let next : Known = record k { names = k.names ++ (name, Thread (record { 0 = length k.threads })) ∷ []; open_thread = Some started } in
-    let none : k.open_thread ≡ None = none_is k.open_thread first.0 in
-    let ended : AreWithin (length k.locks) (length k.threads) k.names = subst (λ m. AreWithin (length k.locks) m k.names) (none_begun k none) h.names in
+thread_sound : (k : Known) (name : List ℕ) (base : ℕ) → IsSound k → k.open_thread ≡ None → length k.threads < most_threads → IsSound (with_thread k name base)
+thread_sound k name base h none few =
+    let n : ℕ = length k.threads in
+    let before : begun k ≡ n = none_begun k none in
     let nothing : operations_of_open k.open_thread ≡ 0 = ap operations_of_open none in
-    let room : length k.threads < 32 = below (length k.threads) 32 third.1 in
-    let sound : IsSound next = record {
-      names = are_within-thread (length k.locks) (length k.threads) k.names name ended;
+    record {
+      names = All-push (λ e. IsWithin (n + 1) e.1) k.names (name, Thread (record { 0 = n })) (All-weaker (λ e. IsWithin (begun k) e.1) (λ e. IsWithin (n + 1) e.1) (λ e. within_more (begun k) (n + 1) (omega (arith, before)) e.1) k.names h.names) (omega arith);
       locks = h.locks;
       mutexes = h.mutexes;
-      threads = omega (arith, room);
-      fit = h.fit;
-      open_thread = record { fits = refl; exclusive = All-nil _ };
+      chans = h.chans;
+      threads = omega (arith, few);
+      whole = h.whole;
+      open_thread = record { each = λ m o e. absurd (none-some o e); held = refl; no_try = refl };
       operations = h.operations;
       counted = omega (arith, nothing, h.counted);
       scheduled = h.scheduled;
       schedule = h.schedule;
-    } in
-    subst IsSound (same_Some next n p.2) sound
+    }
 
-end_sound : (k n : Known) (t : OpenThread) → IsSound k → k.open_thread ≡ Some t → judged_end k t ≡ Some n → IsSound n
-end_sound k n t h o e =
-    let q = cond_some _ _ n e in
-    let s = open_sound k t h o in
-    let none : t.held ≡ [] = empty_is t.held q.0 in
+end_sound : (k : Known) (t : OpenThread) → IsSound k → k.open_thread ≡ Some t → t.held ≡ [] → IsSound (with_end k (Some t))
+end_sound k t h o none =
+    let s = subst (OpenIsSound k.locks k.chans) o h.open_thread in
     let done : ThreadDecl = record { name = t.name; base = record { 0 = t.base }; ops = t.ops } in
     let size : length (k.threads ++ done ∷ []) ≡ length k.threads + 1 = length-append k.threads _ in
     let before : begun k ≡ length k.threads + 1 = ap (λ o. length k.threads + opened o) o in
     let its : operations_of_open k.open_thread ≡ length t.ops = ap operations_of_open o in
     let in_all = sum_push (λ (d : ThreadDecl). length d.ops) k.threads done in
     let same : begun k ≡ length (k.threads ++ done ∷ []) + 0 = omega (arith, size, before) in
-    subst IsSound q.1 (record {
-      names = subst (λ m. AreWithin (length k.locks) m k.names) same h.names;
+    let released : held_through (take (length t.ops) t.ops) [] ≡ [] = ap (λ os. held_through os []) (take_all (length t.ops) t.ops (omega arith)) ∙ s.held ∙ none in
+    record {
+      names = subst (λ m. AreWithin m k.names) same h.names;
       locks = h.locks;
       mutexes = h.mutexes;
+      chans = h.chans;
       threads = omega (arith, same, h.threads);
-      fit = All-push (IsWhole (length k.locks)) k.threads done h.fit (s.fits ∙ ap (λ hs. Some hs) none);
+      whole = All-push (λ d. IsWhole k.locks k.chans d.ops) k.threads done h.whole (record { fit = record { each = s.each; released = released }; no_try = s.no_try });
       open_thread = tt;
       operations = h.operations;
       counted = omega (arith, in_all, its, h.counted);
       scheduled = h.scheduled;
       schedule = All-weaker (λ t. t.0 < length k.threads) (λ t. t.0 < length (k.threads ++ done ∷ [])) (λ t b. omega (arith, size, b)) k.schedule h.schedule;
-    })
+    }
 
--- the schedule names threads that have ended
-scheduled_sound : (k n : Known) (names : List (List ℕ)) → IsSound k → k.open_thread ≡ None → with_scheduled k names ≡ Some n → IsSound n
-scheduled_sound k n [] h none e = subst IsSound (same_Some k n e) h
-scheduled_sound k n (name ∷ names) h none e =
-    let t = then_some _ (thread_named k name) n e in
-    let q = guard _ _ n t.2 in
-    let size : length (k.schedule ++ t.0 ∷ []) ≡ length k.schedule + 1 = length-append k.schedule _ in
-    let room : length k.schedule < 100000 = below (length k.schedule) 100000 q.0 in
-    let within : t.0.0 < length k.threads = subst (λ m. t.0.0 < m) (none_begun k none) (thread_within k name t.0 h t.1) in
-    scheduled_sound (record k { schedule = k.schedule ++ t.0 ∷ [] }) n names (record {
-      names = h.names;
-      locks = h.locks;
-      mutexes = h.mutexes;
-      threads = h.threads;
-      fit = h.fit;
-      open_thread = h.open_thread;
-      operations = h.operations;
-      counted = h.counted;
-      scheduled = omega (arith, size, room);
-      schedule = All-push (λ t. t.0 < length k.threads) k.schedule t.0 h.schedule within;
-    }) none q.1
+-- the schedule names threads that have begun
+threads_within : (n : ℕ) (k : Known) (names : List (List ℕ)) → AreWithin n k.names → All (λ t. t.0 < n) (threads_named k names)
+threads_within n k [] h = All-nil _
+threads_within n k (name ∷ names) h = All-append (λ t. t.0 < n) (option_to_list (thread_named k name)) (threads_named k names) (named_within n k name h) (threads_within n k names h)
 
-schedule_sound : (k n : Known) (names : List (List ℕ)) → IsSound k → judged_schedule k names ≡ Some n → IsSound n
-schedule_sound k n names h e =
-    let q = guard _ _ n e in
-    scheduled_sound k n names h (none_is k.open_thread q.0) q.1
+one_at_most : {A : Type 0} (o : Option A) → length (option_to_list o) ≤ 1
+one_at_most None = omega arith
+one_at_most (Some x) = omega arith
 
-done_sound : (k n : Known) → IsSound k → judged_done k ≡ Some n → IsSound n
-done_sound k n h e =
-    let q = cond_some _ _ n e in
-    subst IsSound q.1 (record {
-      names = h.names;
-      locks = h.locks;
-      mutexes = h.mutexes;
-      threads = h.threads;
-      fit = h.fit;
-      open_thread = h.open_thread;
-      operations = h.operations;
-      counted = h.counted;
-      scheduled = h.scheduled;
-      schedule = h.schedule;
-    })
+threads_few : (k : Known) (names : List (List ℕ)) → length (threads_named k names) ≤ length names
+threads_few k [] = omega arith
+threads_few k (name ∷ names) = omega (arith, length-append (option_to_list (thread_named k name)) (threads_named k names), one_at_most (thread_named k name), threads_few k names)
 
--- an operation that fits what is held
-operation_sound : (k n : Known) (t : OpenThread) (op : Op) (held : List Held) → IsSound k → k.open_thread ≡ Some t → held_behind (length k.locks) op t.held ≡ Some held → AreExclusive held → with_operation k t op held ≡ Some n → IsSound n
-operation_sound k n t op held h o fits exclusive e =
-    let q = cond_some _ _ n e in
-    let s = open_sound k t h o in
-    let few : k.operations < 20000 = below k.operations 20000 q.0 in
+schedule_sound : (k : Known) (names : List (List ℕ)) → IsSound k → k.open_thread ≡ None → length k.schedule + length names ≤ most_scheduled → IsSound (learned k (Schedules names))
+schedule_sound k names h none few = record {
+  names = h.names;
+  locks = h.locks;
+  mutexes = h.mutexes;
+  chans = h.chans;
+  threads = h.threads;
+  whole = h.whole;
+  open_thread = h.open_thread;
+  operations = h.operations;
+  counted = h.counted;
+  scheduled = omega (arith, length-append k.schedule (threads_named k names), threads_few k names, few);
+  schedule = All-append (λ t. t.0 < length k.threads) k.schedule (threads_named k names) h.schedule (threads_within (length k.threads) k names (subst (λ m. AreWithin m k.names) (none_begun k none) h.names));
+}
+
+-- of a lock and numbers
+keyed : (f : LockNo → ℕ → Op) → ((l : LockNo) (n : ℕ) → is_try (f l n) ≡ false) → (op : Op) (l : Option LockNo) (n : Option ℕ) → with_key f l n ≡ Some op → is_try op ≡ false
+keyed f never op (Some l) (Some n) e = sym (ap is_try (same_Some (f l n) op e)) ∙ never l n
+keyed f never op (Some l) None e = absurd (none-some op e)
+keyed f never op None n e = absurd (none-some op e)
+
+edits : (f : LockNo → ℕ → ℕ → Op) → ((l : LockNo) (n m : ℕ) → is_try (f l n m) ≡ false) → (op : Op) (l : Option LockNo) (n m : Option ℕ) → with_number f l n m ≡ Some op → is_try op ≡ false
+edits f never op l n (Some m) e = keyed (λ l n. f l n m) (λ l n. never l n m) op l n e
+edits f never op l n None e = absurd (none-some op e)
+
+-- no words say a try
+no_try_said : (k : Known) (o : Operation) (op : Op) → op_of k o ≡ Some op → is_try op ≡ false
+no_try_said k (say.Take kind mode name) op e = go (lock_named k name) e
+  where
+    go : (o : Option LockNo) → option_map (λ l. Take l mode) o ≡ Some op → is_try op ≡ false
+    go None e = absurd (none-some op e)
+    go (Some l) e = sym (ap is_try (same_Some (Take l mode) op e))
+no_try_said k (say.Release kind mode name) op e = go (lock_named k name) e
+  where
+    go : (o : Option LockNo) → option_map (λ l. Release l) o ≡ Some op → is_try op ≡ false
+    go None e = absurd (none-some op e)
+    go (Some l) e = sym (ap is_try (same_Some (Release l) op e))
+no_try_said k (say.Set name key value) op e = edits Set (λ l n m. refl) op (lock_named k name) (number_of key) (number_of value) e
+no_try_said k (say.Add name key amount) op e = edits Add (λ l n m. refl) op (lock_named k name) (number_of key) (number_of amount) e
+no_try_said k (say.Get name key) op e = keyed Get (λ l n. refl) op (lock_named k name) (number_of key) e
+no_try_said k (say.Prio prio) op e = go (priority_of prio) e
+  where
+    go : (o : Option ℕ) → option_map (λ p. Base (record { 0 = p })) o ≡ Some op → is_try op ≡ false
+    go None e = absurd (none-some op e)
+    go (Some p) e = sym (ap is_try (same_Some (Base (record { 0 = p })) op e))
+no_try_said k say.Show op e = sym (ap is_try (same_Some Show op e))
+
+-- one operation more of the open thread
+operation_sound : (k : Known) (t : OpenThread) (op : Op) → IsSound k → k.open_thread ≡ Some t → k.operations < most_operations → is_try op ≡ false → Passes (operation_tests k.locks k.chans op t.held) → IsSound (with_operation k (Some t) (Some op))
+operation_sound k t op h o few no_try passes =
+    let s = subst (OpenIsSound k.locks k.chans) o h.open_thread in
     let size : length (t.ops ++ op ∷ []) ≡ length t.ops + 1 = length-append t.ops _ in
     let before : begun k ≡ length k.threads + 1 = ap (λ o. length k.threads + opened o) o in
     let its : operations_of_open k.open_thread ≡ length t.ops = ap operations_of_open o in
-    subst IsSound q.1 (record {
-      names = subst (λ m. AreWithin (length k.locks) m k.names) before h.names;
+    record {
+      names = subst (λ m. AreWithin m k.names) before h.names;
       locks = h.locks;
       mutexes = h.mutexes;
+      chans = h.chans;
       threads = omega (arith, before, h.threads);
-      fit = h.fit;
-      open_thread = record { fits = held_through-push (length k.locks) t.ops op [] t.held held s.fits fits; exclusive = exclusive };
+      whole = h.whole;
+      open_thread = record {
+        each = each_push k.locks k.chans t.ops op [] s.each (rw s.held passes);
+        held = held_through-push t.ops op [] ∙ ap (held_behind op) s.held;
+        no_try = list_any-append is_try t.ops (op ∷ []) ∙ rw (s.no_try, no_try) refl;
+      };
       operations = omega (arith, few);
       counted = omega (arith, size, its, h.counted);
       scheduled = h.scheduled;
       schedule = h.schedule;
-    })
+    }
 
-lock_sound : (k n : Known) (name : List ℕ) (t : OpenThread) → IsSound k → k.open_thread ≡ Some t → judged_lock k name t ≡ Some n → IsSound n
-lock_sound k n name t h o e =
-    let l = then_some _ (lock_named k name) n e in
-    let q = guard _ _ n l.2 in
-    let tests = and_parts _ _ q.0 in
-    let s = open_sound k t h o in
-    let holds : Held = record { l = l.0; mode = Excl; by_try = false } in
-    let fits : held_behind (length k.locks) (Take l.0 Excl) t.held ≡ Some (t.held ++ holds ∷ []) = taken_is (length k.locks) l.0 t.held (lock_within k name l.0 h l.1) tests.0 tests.1 in
-    operation_sound k n t (Take l.0 Excl) (t.held ++ holds ∷ []) h o fits (All-push (λ g. g.mode ≡ Excl) t.held holds s.exclusive refl) q.1
+-- an operation's line
+said_sound : (k : Known) (o : Operation) → IsSound k → (x : Option OpenThread) → k.open_thread ≡ x → Passes (where_some (tests_in_thread k o) x) → IsSound (with_operation k x (op_of k o))
+said_sound k o h None e passes = h
+said_sound k o h (Some t) e passes =
+    let later = passed_both (operation_words k t o) (has_room most_operations k.operations ∷ where_some (λ op. operation_tests k.locks k.chans op t.held) (op_of k o)) passes in
+    let room = passed _ _ later.1 in
+    go (op_of k o) refl (ltb-true k.operations most_operations room.0) room.1
+  where
+    go : (x : Option Op) → op_of k o ≡ x → k.operations < most_operations → Passes (where_some (λ op. operation_tests k.locks k.chans op t.held) x) → IsSound (with_operation k (Some t) x)
+    go None f few q = h
+    go (Some op) f few q = operation_sound k t op h e few (no_try_said k o op f) q
 
-unlock_sound : (k n : Known) (name : List ℕ) (t : OpenThread) → IsSound k → k.open_thread ≡ Some t → judged_unlock k name t ≡ Some n → IsSound n
-unlock_sound k n name t h o e =
-    let l = then_some _ (lock_named k name) n e in
-    let i = then_some _ (position (holds_lock l.0) t.held) n l.2 in
-    let s = open_sound k t h o in
-    let place = cond_some _ _ i.0 i.1 in
-    let r = removed_is l.0 t.held (below _ _ place.0) in
-    let left : without_lock l.0.0 t.held ≡ remove t.held i.0 = sym r.1 ∙ ap (remove t.held) place.1 in
-    let fits : held_behind (length k.locks) (Release l.0) t.held ≡ Some (remove t.held i.0) = rw (held_is l.0 t.held r.0) (ap (λ hs. Some hs) left) in
-    operation_sound k n t (Release l.0) (remove t.held i.0) h o fits (subst AreExclusive left (exclusive_without l.0.0 t.held s.exclusive)) i.2
+statement_sound : (k : Known) (s : Statement) → IsOfMutexes s → IsSound k → Passes (place_tests k s) → Passes (name_tests k s) → IsSound (learned k s)
+statement_sound k (Declares kind name class) m h place names = lock_sound k kind name class m h place names
+statement_sound k (Begins name prio) m h place names =
+    let room = (passed _ _ (passed _ _ (passed _ _ (passed _ _ names).1).1).1).0 in
+    thread_sound k name _ h (not_inside k.open_thread (passed _ _ place).0) (ltb-true (length k.threads) most_threads room)
+statement_sound k Ends m h place names = go k.open_thread refl names
+  where
+    go : (o : Option OpenThread) → k.open_thread ≡ o → Passes (where_some (λ (t : OpenThread). test 14 (is_empty t.held) ∷ []) o) → IsSound (with_end k o)
+    go None e q = h
+    go (Some t) e q = end_sound k t h e (empty_is t.held (passed _ _ q).0)
+statement_sound k (Schedules names) m h place tests =
+    let room = (passed _ _ (passed _ _ (passed _ _ tests).1).1).0 in
+    schedule_sound k names h (not_inside k.open_thread (passed _ _ place).0) (leb-true (length k.schedule + length names) most_scheduled room)
+statement_sound k IsDone m h place names = record {
+  names = h.names;
+  locks = h.locks;
+  mutexes = h.mutexes;
+  chans = h.chans;
+  threads = h.threads;
+  whole = h.whole;
+  open_thread = h.open_thread;
+  operations = h.operations;
+  counted = h.counted;
+  scheduled = h.scheduled;
+  schedule = h.schedule;
+}
+statement_sound k (Operates o) m h place names = said_sound k o h k.open_thread refl names
 
-set_sound : (k n : Known) (name key value : List ℕ) (t : OpenThread) → IsSound k → k.open_thread ≡ Some t → judged_set k name key value t ≡ Some n → IsSound n
-set_sound k n name key value t h o e =
-    let l = then_some _ (lock_named k name) n e in
-    let i = then_some _ (number_of key) n l.2 in
-    let v = then_some _ (number_of value) n i.2 in
-    let q = guard _ _ n v.2 in
-    let s = open_sound k t h o in
-    operation_sound k n t (Set l.0 i.0 v.0) t.held h o (rw (exclusive_is l.0 t.held s.exclusive q.0) refl) s.exclusive q.1
+-- 5. Lines and scripts
 
-add_sound : (k n : Known) (name key amount : List ℕ) (t : OpenThread) → IsSound k → k.open_thread ≡ Some t → judged_add k name key amount t ≡ Some n → IsSound n
-add_sound k n name key amount t h o e =
-    let l = then_some _ (lock_named k name) n e in
-    let i = then_some _ (number_of key) n l.2 in
-    let a = then_some _ (number_of amount) n i.2 in
-    let q = guard _ _ n a.2 in
-    let s = open_sound k t h o in
-    operation_sound k n t (Add l.0 i.0 a.0) t.held h o (rw (exclusive_is l.0 t.held s.exclusive q.0) refl) s.exclusive q.1
+line_sound : (k : Known) (line : List ℕ) → IsSound k → line_fault k line ≡ None → IsSound (behind_line k line)
+unfolding line_fault behind_line
+line_sound k line h e = meaning (has_meaning line) (stages_pass (byte_tests line) _ e).1
+  where
+    says : (s : Option Statement) → statement_of line ≡ s → first_fault (statement_stages k s) ≡ None → IsSound (learned_from k s)
+    says None f q = h
+    says (Some s) f q =
+        let p = stages_pass (place_tests k s) (name_tests k s ∷ []) q in
+        statement_sound k s (line_mutexes (list_any is_empty (words_of line)) (words_of line) s f) h p.0 (stages_pass (name_tests k s) [] p.1).0
 
-get_sound : (k n : Known) (name key : List ℕ) (t : OpenThread) → IsSound k → k.open_thread ≡ Some t → judged_get k name key t ≡ Some n → IsSound n
-get_sound k n name key t h o e =
-    let l = then_some _ (lock_named k name) n e in
-    let i = then_some _ (number_of key) n l.2 in
-    let q = guard _ _ n i.2 in
-    let s = open_sound k t h o in
-    operation_sound k n t (Get l.0 i.0) t.held h o (rw (held_is l.0 t.held q.0) refl) s.exclusive q.1
-
-prio_sound : (k n : Known) (prio : List ℕ) (t : OpenThread) → IsSound k → k.open_thread ≡ Some t → judged_prio k prio t ≡ Some n → IsSound n
-prio_sound k n prio t h o e =
-    let p = then_some _ (priority_of prio) n e in
-    let s = open_sound k t h o in
-    operation_sound k n t (Base (record { 0 = p.0 })) t.held h o refl s.exclusive p.2
-
-show_sound : (k n : Known) (t : OpenThread) → IsSound k → k.open_thread ≡ Some t → judged_show k t ≡ Some n → IsSound n
-show_sound k n t h o e =
-    let s = open_sound k t h o in
-    operation_sound k n t Show t.held h o refl s.exclusive e
-
-statement_sound : (k n : Known) (s : Statement) → IsSound k → judged k s ≡ Some n → IsSound n
-statement_sound k n (Mutex name class) h e = mutex_sound k n name class h e
-statement_sound k n (Begin name prio) h e = begin_sound k n name prio h e
-statement_sound k n End h e = let t = then_some (judged_end k) k.open_thread n e in end_sound k n t.0 h t.1 t.2
-statement_sound k n (Schedule names) h e = schedule_sound k n names h e
-statement_sound k n Done h e = done_sound k n h e
-statement_sound k n (DoLock name) h e = let t = then_some (judged_lock k name) k.open_thread n e in lock_sound k n name t.0 h t.1 t.2
-statement_sound k n (DoUnlock name) h e = let t = then_some (judged_unlock k name) k.open_thread n e in unlock_sound k n name t.0 h t.1 t.2
-statement_sound k n (DoSet name key value) h e = let t = then_some (judged_set k name key value) k.open_thread n e in set_sound k n name key value t.0 h t.1 t.2
-statement_sound k n (DoAdd name key amount) h e = let t = then_some (judged_add k name key amount) k.open_thread n e in add_sound k n name key amount t.0 h t.1 t.2
-statement_sound k n (DoGet name key) h e = let t = then_some (judged_get k name key) k.open_thread n e in get_sound k n name key t.0 h t.1 t.2
-statement_sound k n (DoPrio prio) h e = let t = then_some (judged_prio k prio) k.open_thread n e in prio_sound k n prio t.0 h t.1 t.2
-statement_sound k n DoShow h e = let t = then_some (judged_show k) k.open_thread n e in show_sound k n t.0 h t.1 t.2
-
-line_sound : (k n : Known) (line : List ℕ) → IsSound k → judged_line k line ≡ Some n → IsSound n
-unfolding judged_line
-line_sound k n line h e =
-    let q = guard _ _ n e in
-    let s = then_some (judged k) (statement_of line) n q.1 in
-    statement_sound k n s.0 h s.2
-
-lines_sound : (k n : Known) (lines : List (List ℕ)) → IsSound k → judged_lines k lines ≡ Some n → IsSound n
-unfolding judged_lines
-lines_sound k n [] h e = subst IsSound (same_Some k n e) h
-lines_sound k n (line ∷ lines) h e =
-    let s = then_some (λ m. judged_lines m lines) (judged_line k line) n e in
-    lines_sound s.0 n lines (line_sound k s.0 line h s.1) s.2
-
--- 4. Scripts
+    meaning : (b : Bool) → first_fault (cond b (word_tests k line ∷ statement_stages k (statement_of line)) []) ≡ None → IsSound (cond b (learned_from k (statement_of line)) k)
+    meaning true q = says (statement_of line) refl (stages_pass (word_tests k line) _ q).1
+    meaning false q = h
 
 sound_proper : (k : Known) → IsSound k → IsProper (plan_of k)
 sound_proper k h = record {
@@ -383,20 +419,45 @@ sound_proper k h = record {
   scheduled = h.scheduled;
   schedule = h.schedule;
   mutexes = read_all (λ c. c ≡ Mtx) (λ (d : LockDecl). d.kind) Mtx k.locks h.mutexes refl;
-  no_channel = refl;
-  fits = read_all (λ ops. held_through (length k.locks) ops [] ≡ Some []) (λ (d : ThreadDecl). d.ops) [] k.threads h.fit refl;
+  no_channel = h.chans;
+  no_try = λ t. (whole t).no_try;
+  fits = λ t. (whole t).fit;
 }
+  where
+    nothing : IsWhole k.locks k.chans []
+    nothing = record { fit = record { each = λ n o e. absurd (none-some o e); released = refl }; no_try = refl }
 
-lines_proper : (lines : List (List ℕ)) (plan : Plan) → plan_of_lines lines ≡ Some plan → IsProper plan
-unfolding plan_of_lines
-lines_proper [] plan e = absurd (none-some plan e)
-lines_proper (header ∷ lines) plan e =
-    let q = guard _ _ plan e in
-    let s = then_some plan_when_done (judged_lines nothing_known lines) plan q.1 in
-    let d = cond_some _ _ plan s.2 in
-    subst IsProper d.1 (sound_proper s.0 (lines_sound nothing_known s.0 lines nothing_sound s.1))
+    whole : (t : ℕ) → IsWhole k.locks k.chans (operations_of (plan_of k) t)
+    whole = read_all (IsWhole k.locks k.chans) (λ (d : ThreadDecl). d.ops) [] k.threads h.whole nothing
+
+same_plan : (a b : Plan) → Reads a ≡ Reads b → a ≡ b
+same_plan a b e = cc
+
+-- a fault is no plan
+faulty-reads : (n : ℕ) (fault : Option ℕ) (r : Reading) (plan : Plan) → faulty_or n fault r ≡ Reads plan → (fault ≡ None) × (r ≡ Reads plan)
+faulty-reads n None r plan e = (refl, e)
+faulty-reads n (Some code) r plan e = absurd (cc)
+
+lines_proper : (n : ℕ) (k : Known) (lines : List (List ℕ)) (plan : Plan) → IsSound k → reading_from n k lines ≡ Reads plan → IsProper plan
+unfolding reading_from
+lines_proper n k [] plan h e = go k.is_done e
+  where
+    go : (b : Bool) → cond b (Reads (plan_of k)) (Faulty (told n) 17) ≡ Reads plan → IsProper plan
+    go true q = subst IsProper (same_plan (plan_of k) plan q) (sound_proper k h)
+    go false q = absurd cc
+lines_proper n k (line ∷ lines) plan h e =
+    let q = faulty-reads n (line_fault k line) _ plan e in
+    lines_proper (suc n) (behind_line k line) lines plan (line_sound k line h q.0) q.1
 
 -- the plan of a script is proper
 pub accepted_proper : (bytes : List ℕ) (plan : Plan) → IsAccepted bytes plan → IsProper plan
-unfolding IsAccepted
-accepted_proper bytes plan e = lines_proper (lines_of bytes) plan e
+unfolding IsAccepted reading_of reading_of_lines
+accepted_proper bytes plan e = go (lines_of bytes) e
+  where
+    go : (lines : List (List ℕ)) → reading_of_lines lines ≡ Reads plan → IsProper plan
+    go [] e = absurd cc
+    go (header ∷ lines) e = by (is_same header (codes "lockrun 1")) e
+      where
+        by : (b : Bool) → cond b (reading_from 2 nothing_known lines) (Faulty 1 1) ≡ Reads plan → IsProper plan
+        by true q = lines_proper 2 nothing_known lines plan nothing_sound q
+        by false q = absurd cc

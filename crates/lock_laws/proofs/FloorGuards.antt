@@ -48,15 +48,15 @@ entering_may = (
   (
     record { thread = omega arith; lock = omega arith; room = λ e. omega arith },
     tt,
-    refl,
+    record { counts = refl; in_chain = λ e. absurd cc },
     (
       record { thread = omega arith; lock = omega arith; admitted = refl; plainly = refl; unheld = refl; acting = record { unnamed = refl; unwoken = refl }; wants = inr refl },
       tt,
-      ((refl, refl), λ w i e. absurd cc),
+      record { fits = (refl, refl); in_round = λ e i. absurd cc; saw = λ w i e. absurd cc },
       (
         record { thread = omega arith; acting = record { unnamed = refl; unwoken = refl }; asks = (record { held = refl; closed = refl }, record { others = []; last = refl }) },
         tt,
-        tt,
+        record { in_round = tt; asleep = λ e. absurd cc; wakes = λ e. absurd (e refl) },
         -- q seeks it and looks outside its chain
         (
           record { thread = omega arith; lock = omega arith; unheld = refl; acting = record { unnamed = refl; unwoken = refl }; wants = inr refl; tries_want_nothing = λ e. absurd cc; no_round = refl },
@@ -65,7 +65,7 @@ entering_may = (
           (
             record { thread = omega arith; lock = omega arith; room = λ e. omega arith },
             tt,
-            refl,
+            record { counts = refl; in_chain = λ e. absurd cc },
             -- it takes the chain and its own record, looks again and enters
             (
               record { thread = omega arith; home = refl; together = λ j e. absurd (none_out j 1 e); orders = tt },
@@ -78,7 +78,7 @@ entering_may = (
                 (
                   record { thread = omega arith; lock = omega arith; room = λ e. absurd cc },
                   tt,
-                  refl,
+                  record { counts = refl; in_chain = λ e. refl },
                   (
                     record { thread = omega arith; running = refl },
                     (refl, refl),
@@ -93,7 +93,7 @@ entering_may = (
                         refl,
                         tt,
                         (
-                          record { thread = omega arith; out = refl; done = refl },
+                          record { thread = omega arith; out = refl; done = (refl, λ w n. cc) },
                           refl,
                           tt,
                           tt,

@@ -1,14 +1,26 @@
 -- Laws of lists of held locks, and of what a thread's operations in order lead to.
-use Rattle.std.proofs.Common.{◌≡◌, ◌≢◌, ℕ, zero, suc, ◌<◌, Bool, true, false, cond, eqb, nat_lt, ◌&&◌, List, [], ◌∷◌, ◌++◌, length, take, slice_get, Some, None, refl, sym, ap, inl, inr, eq-eqb, ◌∙◌, subst}
-use Rattle.std.proofs.lemmas.Bool.{ne_eqb, cases_eq, eqb-false, ltb-true, and_parts}
-use Rattle.std.proofs.lemmas.Option.{none-some, same_Some, cond_some, option_and_then_some}
-use Rattle.std.specs.Prelude.{unwrap_or, ⊤}
+use Rattle.std.proofs.Common.{◌≡◌, ◌≢◌, ℕ, zero, suc, ◌<◌, Bool, true, false, not, cond, eqb, ltb, ◌≤◌, ◌||◌, map, arith, List, [], ◌∷◌, ◌++◌, length, take, slice_get, Option, Some, None, option_map, refl, sym, ap, inl, inr, eq-eqb, ◌∙◌, subst}
+use Rattle.std.specs.Prelude.{⊤, unwrap_or}
+use Rattle.std.specs.List.{list_any}
+use Rattle.std.proofs.lemmas.Bool.{ne_eqb, cases_eq, eqb-false, ltb-true}
+use Rattle.std.proofs.lemmas.List.{take_all}
+use Rattle.std.proofs.lemmas.Option.{none-some, same_Some, slice_get-map}
 use Rattle.lock_model.specs.Holds.{Hold, NotHeld, Holds, is_exclusive, is_unheld}
-use Rattle.lock_model.specs.Operations.{hold_in, without_lock, held_behind, held_through, held_of}
+use Rattle.lock_model.specs.Limits.{most_held}
+use Rattle.lock_model.specs.Operations.{hold_in, without_lock, held_behind, held_through, held_of, is_kind, is_of_kind, is_try, gaining_tests, operation_tests, IsProper}
+use Rattle.lock_model.specs.Plans.{operations_of}
+use Rattle.lock_model.specs.Tests.{Passes}
+use Rattle.lock_model.proofs.LeastCodes.{passed}
+use Rattle.lock_model.specs.declared.plan.Kind.{Kind}
+use Rattle.lock_model.specs.declared.plan.Kind.TheVariants.{Mtx, Rw, Sx}
+use Rattle.lock_model.specs.declared.plan.LockDecl.{LockDecl}
+use Rattle.lock_model.specs.declared.plan.ChanDecl.{ChanDecl}
+use Rattle.lock_model.specs.declared.numbers.ChanNo.{ChanNo}
 use Rattle.lock_model.specs.declared.plan.Mode.{Mode}
 use Rattle.lock_model.specs.declared.plan.Mode.TheVariants.{Excl, Shared}
 use Rattle.lock_model.specs.declared.plan.Op.{Op}
-use Rattle.lock_model.specs.declared.plan.Op.TheVariants.{Take, Release, Set, Add, Get, Base, Show}
+use Rattle.lock_model.specs.declared.plan.Op.TheVariants.{Take, Try, EndTry, Release, Set, Add, Get, Base, Show, Sleep, WakeOne, WakeAll}
+use Rattle.lock_model.specs.declared.plan.Plan.{Plan}
 use Rattle.lock_model.specs.declared.event.Held.{Held}
 use Rattle.lock_model.specs.declared.numbers.LockNo.{LockNo}
 
@@ -81,7 +93,7 @@ apart-without l (h ∷ hs) a =
       | inr e ↦ rw (ne_eqb h.l.0 l e) (hold_in-without l hs h.l.0 a.1 ∙ rw (ne_eqb l h.l.0 (λ j. e (sym j))) a.0, apart-without l hs a.1)
     ]
 
--- 2. What operations lead to
+-- 2. Lists of locks
 
 -- a list of locks below n, each once and exclusively
 pub record AreLocks (n : ℕ) (hs : List Held) : Type 0 where
@@ -92,110 +104,188 @@ pub record AreLocks (n : ℕ) (hs : List Held) : Type 0 where
 pub none_held : (n : ℕ) → AreLocks n []
 none_held n = record { apart = tt; exclusive = λ l e. absurd (e refl); within = λ l e. absurd (e refl) }
 
--- what a take that fits finds
-pub record TakeFits (n : ℕ) (l : LockNo) (hs xs : List Held) : Type 0 where
-  pub lock : l.0 < n
-  pub unheld : hold_in hs l.0 ≡ NotHeld
-  pub few : length hs < 8
-  pub behind : hs ++ (record { l = l; mode = Excl; by_try = false }) ∷ [] ≡ xs
-
-pub take_fits : (n : ℕ) (l : LockNo) (hs xs : List Held) → held_behind n (Take l Excl) hs ≡ Some xs → TakeFits n l hs xs
-take_fits n l hs xs e =
-    let f = cond_some (nat_lt l.0 n && is_unheld (hold_in hs l.0) && nat_lt (length hs) 8) (hs ++ (record { l = l; mode = Excl; by_try = false }) ∷ []) xs e in
-    let a = and_parts (nat_lt l.0 n && is_unheld (hold_in hs l.0)) (nat_lt (length hs) 8) f.0 in
-    let b = and_parts (nat_lt l.0 n) (is_unheld (hold_in hs l.0)) a.0 in
-    record { lock = ltb-true l.0 n b.0; unheld = unheld_is (hold_in hs l.0) b.1; few = ltb-true (length hs) 8 a.1; behind = f.1 }
-
--- and a release
-pub release_fits : (n : ℕ) (l : LockNo) (hs xs : List Held) → held_behind n (Release l) hs ≡ Some xs → (hold_in hs l.0 ≢ NotHeld) × (without_lock l.0 hs ≡ xs)
-release_fits n l hs xs e = go (is_unheld (hold_in hs l.0)) refl e
-  where
-    go : (b : Bool) → is_unheld (hold_in hs l.0) ≡ b → cond b None (Some (without_lock l.0 hs)) ≡ Some xs → (hold_in hs l.0 ≢ NotHeld) × (without_lock l.0 hs ≡ xs)
-    go true i f = absurd (none-some xs f)
-    go false i f = (held_is (hold_in hs l.0) i, same_Some (without_lock l.0 hs) xs f)
-
-behind_take : (n : ℕ) (l : LockNo) (hs xs : List Held) → held_behind n (Take l Excl) hs ≡ Some xs → AreLocks n hs → AreLocks n xs
-behind_take n l hs xs e a =
-    let f = take_fits n l hs xs e in
-    let x : Held = record { l = l; mode = Excl; by_try = false } in
-    subst (AreLocks n) f.behind (record {
-      apart = apart-push hs x f.unheld a.apart;
-      exclusive = λ k i. elim (cases_eq l.0 k) [
-        | inl j ↦ hold_in-push hs x k f.unheld ∙ rw (eq-eqb l.0 k j) refl
-        | inr j ↦ hold_in-push hs x k f.unheld ∙ rw (ne_eqb l.0 k j) (a.exclusive k (λ z. i (hold_in-push hs x k f.unheld ∙ rw (ne_eqb l.0 k j) z)))
-      ];
-      within = λ k i. elim (cases_eq l.0 k) [
-        | inl j ↦ subst (λ m. m < n) j f.lock
-        | inr j ↦ a.within k (λ z. i (hold_in-push hs x k f.unheld ∙ rw (ne_eqb l.0 k j) z))
-      ];
-    })
-
-behind_release : (n : ℕ) (l : LockNo) (hs xs : List Held) → held_behind n (Release l) hs ≡ Some xs → AreLocks n hs → AreLocks n xs
-behind_release n l hs xs e a = subst (AreLocks n) (release_fits n l hs xs e).1 (record {
-  apart = apart-without l.0 hs a.apart;
-  exclusive = λ k i. elim (cases_eq l.0 k) [
-    | inl j ↦ absurd (i (hold_in-without l.0 hs k a.apart ∙ rw (eq-eqb l.0 k j) refl))
-    | inr j ↦ hold_in-without l.0 hs k a.apart ∙ rw (ne_eqb l.0 k j) (a.exclusive k (λ z. i (hold_in-without l.0 hs k a.apart ∙ rw (ne_eqb l.0 k j) z)))
+one_gained : (n : ℕ) (x : Held) (hs : List Held) → x.l.0 < n → x.mode ≡ Excl → hold_in hs x.l.0 ≡ NotHeld → AreLocks n hs → AreLocks n (hs ++ x ∷ [])
+one_gained n x hs lock mode unheld a = record {
+  apart = apart-push hs x unheld a.apart;
+  exclusive = λ k i. elim (cases_eq x.l.0 k) [
+    | inl j ↦ hold_in-push hs x k unheld ∙ rw (eq-eqb x.l.0 k j, mode) refl
+    | inr j ↦ hold_in-push hs x k unheld ∙ rw (ne_eqb x.l.0 k j) (a.exclusive k (λ z. i (hold_in-push hs x k unheld ∙ rw (ne_eqb x.l.0 k j) z)))
   ];
-  within = λ k i. a.within k (λ z. i (hold_in-without l.0 hs k a.apart ∙ at_most (eqb l.0 k) (hold_in hs k) z));
-})
+  within = λ k i. elim (cases_eq x.l.0 k) [
+    | inl j ↦ subst (λ m. m < n) j lock
+    | inr j ↦ a.within k (λ z. i (hold_in-push hs x k unheld ∙ rw (ne_eqb x.l.0 k j) z))
+  ];
+}
+
+one_released : (n l : ℕ) (hs : List Held) → AreLocks n hs → AreLocks n (without_lock l hs)
+one_released n l hs a = record {
+  apart = apart-without l hs a.apart;
+  exclusive = λ k i. elim (cases_eq l k) [
+    | inl j ↦ absurd (i (hold_in-without l hs k a.apart ∙ rw (eq-eqb l k j) refl))
+    | inr j ↦ hold_in-without l hs k a.apart ∙ rw (ne_eqb l k j) (a.exclusive k (λ z. i (hold_in-without l hs k a.apart ∙ rw (ne_eqb l k j) z)))
+  ];
+  within = λ k i. a.within k (λ z. i (hold_in-without l hs k a.apart ∙ at_most (eqb l k) (hold_in hs k) z));
+}
   where
     at_most : (b : Bool) (x : Hold) → x ≡ NotHeld → cond b NotHeld x ≡ NotHeld
     at_most true x z = refl
     at_most false x z = z
 
-same_held : (n : ℕ) (b : Bool) (hs xs : List Held) → cond b (Some hs) None ≡ Some xs → AreLocks n hs → AreLocks n xs
-same_held n b hs xs e a = subst (AreLocks n) (cond_some b hs xs e).1 a
+-- 3. What an operation that fits finds and leaves
 
-same_held_else : (n : ℕ) (b : Bool) (hs xs : List Held) → cond b None (Some hs) ≡ Some xs → AreLocks n hs → AreLocks n xs
-same_held_else n true hs xs e a = absurd (none-some xs e)
-same_held_else n false hs xs e a = subst (AreLocks n) (same_Some hs xs e) a
+-- the operation passes its tests on the one list, and leads to the other
+pub record Leads (plan : Plan) (op : Op) (hs xs : List Held) : Type 0 where
+  pub passes : Passes (operation_tests plan.locks plan.chans op hs)
+  pub behind : held_behind op hs ≡ xs
 
-behind : (n : ℕ) (op : Op) (hs xs : List Held) → held_behind n op hs ≡ Some xs → AreLocks n hs → AreLocks n xs
-behind n (Take l Excl) hs xs e a = behind_take n l hs xs e a
-behind n (Release l) hs xs e a = behind_release n l hs xs e a
-behind n (Set l key value) hs xs e a = same_held n (is_exclusive (hold_in hs l.0)) hs xs e a
-behind n (Add l key amount) hs xs e a = same_held n (is_exclusive (hold_in hs l.0)) hs xs e a
-behind n (Get l key) hs xs e a = same_held_else n (is_unheld (hold_in hs l.0)) hs xs e a
-behind n (Base prio) hs xs e a = subst (AreLocks n) (same_Some hs xs e) a
-behind n Show hs xs e a = subst (AreLocks n) (same_Some hs xs e) a
-behind n other hs xs e a = absurd (none-some xs e)
+-- a gain: its lock is one of the plan's and not held, and there is room for it
+pub record GainFits (n : ℕ) (l : LockNo) (mode : Mode) (hs : List Held) : Type 0 where
+  pub lock : l.0 < n
+  pub exclusively : mode ≡ Excl
+  pub unheld : hold_in hs l.0 ≡ NotHeld
+  pub few : length hs < most_held
 
-pub through : (n : ℕ) (ops : List Op) (hs xs : List Held) → held_through n ops hs ≡ Some xs → AreLocks n hs → AreLocks n xs
-through n [] hs xs e a = subst (AreLocks n) (same_Some hs xs e) a
-through n (op ∷ ops) hs xs e a = option_and_then_some (held_through n ops) (held_behind n op hs) xs e (λ ys f g. through n ops ys xs g (behind n op hs ys f a))
+-- the same of a take, with what it leaves
+pub record TakeFits (n : ℕ) (l : LockNo) (hs xs : List Held) : Type 0 where
+  pub lock : l.0 < n
+  pub unheld : hold_in hs l.0 ≡ NotHeld
+  pub few : length hs < most_held
+  pub behind : hs ++ (record { l = l; mode = Excl; by_try = false }) ∷ [] ≡ xs
 
--- 3. The list behind the first operations, where all of them fit
+module _ (plan : Plan) (p : IsProper plan) where
+  -- there is no lock but mutexes
+  no_other_kind : (l : LockNo) → is_of_kind plan.locks Rw l ≡ false × is_of_kind plan.locks Sx l ≡ false
+  no_other_kind l = go (option_map (λ (d : LockDecl). d.kind) (slice_get plan.locks l.0)) (sym (slice_get-map (λ (d : LockDecl). d.kind) plan.locks l.0))
+    where
+      go : (o : Option Kind) → o ≡ slice_get (map (λ (d : LockDecl). d.kind) plan.locks) l.0 → is_kind Rw o ≡ false × is_kind Sx o ≡ false
+      go None e = (refl, refl)
+      go (Some Mtx) e = (refl, refl)
+      go (Some Rw) e = absurd (let z = ap (λ (o : Option Kind). unwrap_or o Mtx) e ∙ p.mutexes l.0 in cc)
+      go (Some Sx) e = absurd (let z = ap (λ (o : Option Kind). unwrap_or o Mtx) e ∙ p.mutexes l.0 in cc)
 
--- the first p operations lead to a list, from which the others lead on
-pub record Leads (n : ℕ) (ops : List Op) (hs : List Held) (p : ℕ) : Type 0 where
-  pub list : List Held
-  pub here : held_through n (take p ops) hs ≡ Some list
-  pub next : (op : Op) → slice_get ops p ≡ Some op → (ys : List Held) × (held_behind n op list ≡ Some ys) × (held_through n (take (suc p) ops) hs ≡ Some ys)
+  gain_fits : (l : LockNo) (mode : Mode) (hs : List Held) → Passes (gaining_tests plan.locks l mode hs) → GainFits (length plan.locks) l mode hs
+  gain_fits l Excl hs e =
+      let room = passed _ _ e in
+      let kind = passed _ _ room.1 in
+      let free = passed _ _ kind.1 in
+      record { lock = ltb-true l.0 (length plan.locks) kind.0; exclusively = refl; unheld = unheld_is (hold_in hs l.0) free.0; few = ltb-true (length hs) most_held room.0 }
+  gain_fits l Shared hs e =
+      let kind = passed _ _ (passed _ _ e).1 in
+      let other = no_other_kind l in
+      absurd (let z : (false || false) ≡ true = rw (other.0, other.1) at kind.0 in cc)
 
-leads : (n : ℕ) (ops : List Op) (hs xs : List Held) (p : ℕ) → held_through n ops hs ≡ Some xs → Leads n ops hs p
-leads n [] hs xs zero e = record { list = hs; here = refl; next = λ op i. absurd (none-some op i) }
-leads n [] hs xs (suc p) e = record { list = hs; here = refl; next = λ op i. absurd (none-some op i) }
-leads n (op ∷ ops) hs xs zero e = option_and_then_some (held_through n ops) (held_behind n op hs) xs e (λ ys f g. record {
-  list = hs;
-  here = refl;
-  next = λ o i. let j : held_behind n o hs ≡ Some ys = rw (← same_Some op o i) f in (ys, j, rw f refl);
-})
-leads n (op ∷ ops) hs xs (suc p) e = option_and_then_some (held_through n ops) (held_behind n op hs) xs e (λ ys f g.
-    let r = leads n ops ys xs p g in
-    record { list = r.list; here = rw f r.here; next = λ o i. let z = r.next o i in (z.0, z.1, rw f z.2) })
+  pub take_fits : (l : LockNo) (hs xs : List Held) → Leads plan (Take l Excl) hs xs → TakeFits (length plan.locks) l hs xs
+  take_fits l hs xs f =
+      let g = gain_fits l Excl hs f.passes in
+      record { lock = g.lock; unheld = g.unheld; few = g.few; behind = f.behind }
 
-module _ (n : ℕ) (ops : List Op) (xs : List Held) (fits : held_through n ops [] ≡ Some xs) where
-  first_fit : (p : ℕ) → held_through n (take p ops) [] ≡ Some (held_of n ops p)
-  first_fit p = let r = leads n ops [] xs p fits in r.here ∙ sym (ap (λ o. Some (unwrap_or o [])) r.here)
+  pub never_shared : (l : LockNo) (hs xs : List Held) → Leads plan (Take l Shared) hs xs → ⊥
+  never_shared l hs xs f = let z = (gain_fits l Shared hs f.passes).exclusively in cc
 
-  pub held_are_locks : (p : ℕ) → AreLocks n (held_of n ops p)
-  held_are_locks p = through n (take p ops) [] (held_of n ops p) (first_fit p) (none_held n)
+  pub release_fits : (l : LockNo) (hs xs : List Held) → Leads plan (Release l) hs xs → (hold_in hs l.0 ≢ NotHeld) × (without_lock l.0 hs ≡ xs)
+  release_fits l hs xs f = (λ z. let t = (passed _ _ f.passes).0 in let u = ap (λ (x : Hold). not (is_unheld x)) z in cc, f.behind)
 
-  pub next_fits : (p : ℕ) (op : Op) → slice_get ops p ≡ Some op → held_behind n op (held_of n ops p) ≡ Some (held_of n ops (suc p))
-  next_fits p op e =
-      let r = leads n ops [] xs p fits in
-      let f = r.next op e in
-      let here : held_of n ops p ≡ r.list = ap (λ o. unwrap_or o []) r.here in
-      let there : held_of n ops (suc p) ≡ f.0 = ap (λ o. unwrap_or o []) f.2 in
-      rw (here, there) f.1
+  leads_locks : (n : ℕ) (op : Op) (hs xs : List Held) → n ≡ length plan.locks → Leads plan op hs xs → AreLocks n hs → AreLocks n xs
+  leads_locks n op hs xs same f a = subst (AreLocks n) f.behind (go op f.passes)
+    where
+      gained : (l : LockNo) (mode : Mode) (by_try : Bool) → Passes (gaining_tests plan.locks l mode hs) → AreLocks n (hs ++ (record { l = l; mode = mode; by_try = by_try }) ∷ [])
+      gained l mode by_try e = let g = gain_fits l mode hs e in one_gained n (record { l = l; mode = mode; by_try = by_try }) hs (rw same g.lock) g.exclusively g.unheld a
+
+      go : (o : Op) → Passes (operation_tests plan.locks plan.chans o hs) → AreLocks n (held_behind o hs)
+      go (Take l mode) e = gained l mode false e
+      go (Try l mode past) e = gained l mode true e
+      go EndTry e = a
+      go (Release l) e = one_released n l.0 hs a
+      go (Set l key value) e = a
+      go (Add l key amount) e = a
+      go (Get l key) e = a
+      go (Base prio) e = a
+      go Show e = a
+      go (Sleep c) e = a
+      go (WakeOne c) e = a
+      go (WakeAll c) e = a
+
+-- 4. What a thread's first operations lead to
+
+-- one operation more
+held_through-next : (ops : List Op) (hs : List Held) (n : ℕ) (op : Op) → slice_get ops n ≡ Some op → held_through (take (suc n) ops) hs ≡ held_behind op (held_through (take n ops) hs)
+held_through-next [] hs n op e = absurd (none-some op e)
+held_through-next (o ∷ ops) hs zero op e = ap (λ (x : Op). held_behind x hs) (same_Some o op e)
+held_through-next (o ∷ ops) hs (suc n) op e = held_through-next ops (held_behind o hs) n op e
+
+-- and none
+held_through-past : (ops : List Op) (hs : List Held) (n : ℕ) → slice_get ops n ≡ None → held_through (take (suc n) ops) hs ≡ held_through (take n ops) hs
+held_through-past [] hs zero e = refl
+held_through-past [] hs (suc n) e = refl
+held_through-past (o ∷ ops) hs zero e = absurd (none-some o (sym e))
+held_through-past (o ∷ ops) hs (suc n) e = held_through-past ops (held_behind o hs) n e
+
+-- whether a turn runs the operation, until tries, waits and wakes come
+abbrev pub is_run : Op → Bool
+is_run (Take l mode) = true
+is_run (Try l mode past) = false
+is_run EndTry = false
+is_run (Release l) = true
+is_run (Set l key value) = true
+is_run (Add l key amount) = true
+is_run (Get l key) = true
+is_run (Base prio) = true
+is_run Show = true
+is_run (Sleep c) = false
+is_run (WakeOne c) = false
+is_run (WakeAll c) = false
+
+or_false : (a b : Bool) → (a || b) ≡ false → (a ≡ false) × (b ≡ false)
+or_false true b e = absurd cc
+or_false false b e = (refl, e)
+
+module _ (plan : Plan) (p : IsProper plan) (t : ℕ) where
+  abbrev ops : List Op
+  ops = operations_of plan t
+
+  abbrev held : ℕ → List Held
+  held n = held_of (length plan.locks) ops n
+
+  -- a thread's next operation passes its tests, and leads on
+  pub next_leads : (n : ℕ) (op : Op) → slice_get ops n ≡ Some op → Leads plan op (held n) (held (suc n))
+  next_leads n op e = record { passes = (p.fits t).each n op e; behind = sym (held_through-next ops [] n op e) }
+
+  pub held_are_locks : (n : ℕ) → AreLocks (length plan.locks) (held n)
+  held_are_locks zero = none_held (length plan.locks)
+  held_are_locks (suc n) = go (slice_get ops n) refl (held_are_locks n)
+    where
+      go : (o : Option Op) → slice_get ops n ≡ o → AreLocks (length plan.locks) (held n) → AreLocks (length plan.locks) (held (suc n))
+      go (Some op) e a = leads_locks plan p (length plan.locks) op (held n) (held (suc n)) refl (next_leads n op e) a
+      go None e a = subst (AreLocks (length plan.locks)) (sym (held_through-past ops [] n e)) a
+
+  -- behind all of them nothing is held
+  pub held_none : (n : ℕ) → length ops ≤ n → held n ≡ []
+  held_none n l = ap (λ (os : List Op). held_through os []) (take_all n ops l ∙ sym (take_all (length ops) ops (omega arith))) ∙ (p.fits t).released
+
+  -- 5. Which operations a proper plan has
+
+  no_channel : (c : ChanNo) → (ltb c.0 (length plan.chans)) ≡ true → ⊥
+  no_channel c e = let z = ap (λ (cs : List ChanDecl). ltb c.0 (length cs)) p.no_channel in absurd (omega (arith, ltb-true c.0 (length plan.chans) e, ap (λ (cs : List ChanDecl). length cs) p.no_channel))
+
+  is_none_of : (op : Op) (os : List Op) (n : ℕ) → slice_get os n ≡ Some op → list_any is_try os ≡ false → is_try op ≡ false
+  is_none_of op [] n e f = absurd (none-some op e)
+  is_none_of op (o ∷ os) zero e f = sym (ap is_try (same_Some o op e)) ∙ (or_false (is_try o) (list_any is_try os) f).0
+  is_none_of op (o ∷ os) (suc n) e f = is_none_of op os n e (or_false (is_try o) (list_any is_try os) f).1
+
+  -- no thread comes to a try or to a channel
+  pub runs_next : (n : ℕ) (op : Op) → slice_get ops n ≡ Some op → is_run op ≡ true
+  runs_next n op e = go op (is_none_of op ops n e (p.no_try t)) (next_leads n op e).passes
+    where
+      go : (o : Op) → is_try o ≡ false → Passes (operation_tests plan.locks plan.chans o (held n)) → is_run o ≡ true
+      go (Take l mode) f q = refl
+      go (Try l mode past) f q = absurd cc
+      go EndTry f q = absurd cc
+      go (Release l) f q = refl
+      go (Set l key value) f q = refl
+      go (Add l key amount) f q = refl
+      go (Get l key) f q = refl
+      go (Base prio) f q = refl
+      go Show f q = refl
+      go (Sleep c) f q = absurd (no_channel c (passed _ _ q).0)
+      go (WakeOne c) f q = absurd (no_channel c (passed _ _ q).0)
+      go (WakeAll c) f q = absurd (no_channel c (passed _ _ q).0)

@@ -1,10 +1,12 @@
 -- Worked histories, held against the law of a history: what it lets through and what it refuses. The plans that are run so far have no tries,
 -- sleepers and halts, so nothing else here notices when these parts of the law are turned.
-use Rattle.std.proofs.Common.{◌≡◌, ℕ, zero, suc, true, false, List, [], ◌∷◌, refl, arith}
+use Rattle.std.proofs.Common.{◌≡◌, ℕ, zero, suc, true, false, List, [], ◌∷◌, slice_get, Some, refl, sym, ap, subst, arith, ◌∙◌}
+use Rattle.std.proofs.lemmas.Option.{same_Some}
 use Rattle.lock_model.specs.Config.{Config}
 use Rattle.lock_model.specs.Law as law
-use Rattle.lock_model.specs.Law.{LeadsTo, Before, Asleep, Cut, has_bit, is_asleep, is_named, entries_up_to, is_passed_over, WakingsNameSleepers, HaltsOnlyWhenRunning}
+use Rattle.lock_model.specs.Law.{LeadsTo, Gives, Place, Before, Asleep, Cut, has_bit, is_asleep, is_named, entries_up_to, is_passed_over, WakingsNameSleepers, HaltsOnlyWhenRunning}
 use Rattle.lock_model.specs.Counts.{any_below}
+use Rattle.lock_model.specs.Operations.{held_of}
 use Rattle.lock_model.specs.declared.numbers.LockNo.{LockNo}
 use Rattle.lock_model.specs.declared.numbers.ChanNo.{ChanNo}
 use Rattle.lock_model.specs.declared.plan.Kind.{Kind}
@@ -41,6 +43,42 @@ busy = entry 0 0 (Busy (lock 0) 12)
 busy_goes_on : LeadsTo kind 1 tries (busy ∷ []) (Before 3)
 unfolding busy tries
 busy_goes_on = law.goes_on busy law.begins refl (law.finds_busy (lock 0) Excl 3 12 (omega arith) refl refl)
+
+-- and nowhere else
+abbrev number : Place → ℕ
+number (Before n) = n
+number (Asleep n) = n
+number (Cut hs) = 0
+
+abbrev past_of : Op → ℕ
+past_of (Try l mode past) = past
+past_of other = 0
+
+begins_at : (p : Place) → LeadsTo kind 1 tries [] p → p ≡ Before 0
+unfolding tries
+begins_at p law.begins = refl
+begins_at p (law.skips_endtry {n = n} w e) =
+    let z : n ≡ 0 = ap number (begins_at (Before n) w) in
+    let f : slice_get tries 0 ≡ Some EndTry = subst (λ m. slice_get tries m ≡ Some EndTry) z e in
+    absurd cc
+
+given_busy : (held : List Held) (n : ℕ) (o : Op) (p : Place) → Gives kind held n o (Busy (lock 0) 12) p → p ≡ Before (past_of o)
+given_busy held n o p (law.finds_busy l mode past seen well_formed is_held refused) = refl
+
+busy_goes_only_on : (p : Place) → LeadsTo kind 1 tries (busy ∷ []) p → p ≡ Before 3
+unfolding tries busy
+busy_goes_only_on p (law.goes_on {n = n} {o = o} e w i g) =
+    let z : n ≡ 0 = ap number (begins_at (Before n) w) in
+    let f : slice_get tries 0 ≡ Some o = subst (λ m. slice_get tries m ≡ Some o) z i in
+    let d : p ≡ Before (past_of o) = given_busy (held_of 1 tries n) n o p g in
+    d ∙ sym (ap (λ x. Before (past_of x)) (same_Some (Try (lock 0) Excl 3) o f))
+busy_goes_only_on p (law.skips_endtry {n = n} w i) =
+    let z : n ≡ 3 = ap number (busy_goes_only_on (Before n) w) in
+    let f : slice_get tries 3 ≡ Some EndTry = subst (λ m. slice_get tries m ≡ Some EndTry) z i in
+    absurd cc
+busy_goes_only_on p (law.wakes_up e w i x) = absurd cc
+busy_goes_only_on p (law.is_woken_by_a_halt e w i x) = absurd cc
+busy_goes_only_on p (law.gives_back e w x) = absurd cc
 
 abbrev own : Event
 own = Shown (record { 0 = 100 }) (record { 0 = 100 })

@@ -5,11 +5,10 @@ use Rattle.std.specs.Prelude.{unwrap_or}
 use Rattle.std.specs.List.{range_with_len}
 use Rattle.std.proofs.lemmas.Bool.{cases_eq, and_parts, le-leb}
 use Rattle.std.proofs.lemmas.Option.{none-some, slice_get_cases}
-use Rattle.std.proofs.lemmas.List.{take_all}
 use Rattle.lock_model.specs.Counts.{any_below, is_empty, one}
 use Rattle.lock_model.specs.Config.{Config}
 use Rattle.lock_model.specs.Plans.{config_of, operations_of}
-use Rattle.lock_model.specs.Operations.{IsProper, hold_in, held_through}
+use Rattle.lock_model.specs.Operations.{IsProper, hold_in}
 use Rattle.lock_model.specs.Holds.{Hold, NotHeld, is_unheld}
 use Rattle.lock_model.specs.Queues.{Mark, stands}
 use Rattle.lock_state.specs.State.{State, Queued}
@@ -24,7 +23,7 @@ use Rattle.lock_model.specs.declared.turn.Turn.TheVariants.{Did, Idle, Ended}
 use Rattle.lock_model.specs.declared.event.Held.{Held}
 use Rattle.lock_laws.specs.OnTrack.{IsOnTrack, IsAtOperation, IsSleeping}
 use Rattle.lock_laws.proofs.Kit.{sum_below-zero, is_queue_same}
-use Rattle.lock_laws.proofs.OnTrack.{fit}
+use Rattle.lock_laws.proofs.HeldLists.{held_none, runs_next}
 use Rattle.lock_laws.proofs.Turning.{behind_course}
 use Rattle.lock_laws.proofs.Table as table
 
@@ -36,8 +35,7 @@ none_left plan r t e = elim (slice_get_cases (operations_of plan t) (r.next_op t
 
 holds_nothing : (plan : Plan) (r : Run) (t : ℕ) → IsProper plan → IsOnTrack plan r → slice_get (operations_of plan t) (r.next_op t) ≡ None → (l : ℕ) → r.state.held t l ≡ NotHeld
 holds_nothing plan r t p k e l =
-    let all : held_through (length plan.locks) (take (r.next_op t) (operations_of plan t)) [] ≡ Some [] = ap (λ ops. held_through (length plan.locks) ops []) (take_all (r.next_op t) (operations_of plan t) (none_left plan r t e)) ∙ p.fits t in
-    k.holds t l ∙ ap (λ (o : Option (List Held)). hold_in (unwrap_or o []) l) all
+    k.holds t l ∙ ap (λ (hs : List Held). hold_in hs l) (held_none plan p t (r.next_op t) (none_left plan r t e))
 
 nowhere-any_below : (n : ℕ) (f : ℕ → Bool) → ((j : ℕ) → f j ≡ false) → any_below n f ≡ false
 unfolding any_below
@@ -86,7 +84,7 @@ module _ (plan : Plan) (r : Run) (t : ℕ) where
   answered _ (table.opens l i e) = acts _ refl
   answered _ (table.makes_entry op e i n) = acts _ refl
   answered _ (table.has_no_operation e i) = idles refl (λ p k. absurd (let z = sym e ∙ no_operation_left plan r t p k i in cc))
-  answered _ (table.is_not_run op i e) = idles refl (λ p k. absurd (none-some _ (sym (e (length plan.locks) _) ∙ fit plan r t p op i.next)))
+  answered _ (table.is_not_run op i e) = idles refl (λ p k. absurd (let z = sym e ∙ runs_next plan p t (r.next_op t) op i.next in cc))
 
   answer : Answers plan r t (turn_of plan r t)
   answer = answered (turn_of plan r t) (table.fits plan r t)

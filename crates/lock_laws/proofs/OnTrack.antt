@@ -1,10 +1,10 @@
 -- What a turn leaves true of a run beside its lawful state, and what is known of a thread at its next operation.
-use Rattle.std.proofs.Common.{◌≡◌, ◌≢◌, ◌⊎◌, ℕ, suc, ◌+◌, ◌<◌, ◌≤◌, Bool, true, false, cond, eqb, ◌&&◌, List, [], length, All, slice_get, Option, Some, None, refl, sym, ap, inl, inr, eq-eqb, arith, ◌∙◌}
+use Rattle.std.proofs.Common.{◌≡◌, ◌≢◌, ◌⊎◌, ℕ, suc, ◌+◌, ◌<◌, ◌≤◌, Bool, true, false, cond, eqb, ◌&&◌, List, length, All, slice_get, Option, Some, None, refl, sym, ap, inl, inr, eq-eqb, arith, ◌∙◌}
 use Rattle.std.proofs.lemmas.Bool.{ne_eqb}
 use Rattle.std.proofs.lemmas.Option.{same_Some, slice_get_within}
 use Rattle.lock_model.specs.Counts.{sum_below}
 use Rattle.lock_model.specs.Plans.{config_of, operations_of}
-use Rattle.lock_model.specs.Operations.{IsProper, hold_in, held_behind, held_of}
+use Rattle.lock_model.specs.Operations.{IsProper, hold_in, held_of}
 use Rattle.lock_model.specs.Config.{Config}
 use Rattle.lock_model.specs.Holds.{Hold, NotHeld}
 use Rattle.lock_model.specs.History.{open_in, sections_in, sections_by}
@@ -25,7 +25,7 @@ use Rattle.lock_model.specs.declared.event.Entry.{Entry}
 use Rattle.lock_model.specs.declared.event.Held.{Held}
 use Rattle.lock_laws.specs.OnTrack.{IsOnTrack, IsCall, WokenByCall}
 use Rattle.lock_laws.proofs.Kit.{at_put, sum_below-put}
-use Rattle.lock_laws.proofs.HeldLists.{AreLocks, next_fits, held_are_locks}
+use Rattle.lock_laws.proofs.HeldLists.{AreLocks, Leads, next_leads, held_are_locks}
 
 -- 1. Columns and sections
 
@@ -158,11 +158,11 @@ left plan r t op e = slice_get_within (operations_of plan t) (r.next_op t) op e
 
 module _ (plan : Plan) (r : Run) (t : ℕ) (p : IsProper plan) where
   pub are_locks : AreLocks (length plan.locks) (before plan r t)
-  are_locks = held_are_locks (length plan.locks) (operations_of plan t) [] (p.fits t) (r.next_op t)
+  are_locks = held_are_locks plan p t (r.next_op t)
 
   -- the operation fits what is held
-  pub fit : (op : Op) → Next plan r t op → held_behind (length plan.locks) op (before plan r t) ≡ Some (behind plan r t)
-  fit op e = next_fits (length plan.locks) (operations_of plan t) [] (p.fits t) (r.next_op t) op e
+  pub fit : (op : Op) → Next plan r t op → Leads plan op (before plan r t) (behind plan r t)
+  fit op e = next_leads plan p t (r.next_op t) op e
 
 module _ (plan : Plan) (r : Run) (t : ℕ) (k : IsOnTrack plan r) where
   pub unnamed : r.state.wait t ≡ Running → r.state.blocked_on t ≡ None

@@ -27,7 +27,7 @@ use Rattle.lock_laws.proofs.Shown.{lent_held}
 use Rattle.lock_laws.proofs.Nodes.{node_returned, loan_known, changed_known}
 
 -- the woken side isn't empty
-side_shown : (kind : Kind) (w : Word) (q : Lists) → is_turnstile kind ≡ true → ShowsItsWaiters w q → shows_waiters w ≡ true → (kind ≡ Mtx → q.shared ≡ []) → is_empty (list_of (side_woken kind w) q) ≡ false
+pub side_shown : (kind : Kind) (w : Word) (q : Lists) → is_turnstile kind ≡ true → ShowsItsWaiters w q → shows_waiters w ≡ true → (kind ≡ Mtx → q.shared ≡ []) → is_empty (list_of (side_woken kind w) q) ≡ false
 side_shown Mtx w q t i e m = let z = m refl in grind (arith, i.exclusive, i.shared)
 side_shown Rw w q t i e m = grind (arith, i.exclusive, i.shared)
 side_shown Sx w q t i e m = absurd cc

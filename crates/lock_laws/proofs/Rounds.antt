@@ -81,7 +81,7 @@ module _ (chains : ℕ) (c : Config) (s : State) (h : BoundHasChain chains c s.r
   unbound t l d = go (is_turnstile (c.kind l)) d
     where
       go : (b : Bool) → IsDoneWith s t (cond b (TurnstileChain (l % chains)) (SleepChain (l % chains))) → is_bound (s.round t) ≡ false
-      go true d = d
+      go true d = d.0
       go false d = d.0
 
   given : (t : ℕ) (i : Item) → MayGive c s t i → BoundHasChain chains c s.round (with_then s i None)
@@ -121,7 +121,7 @@ chain_kept chains c s (Seeks t l by_try) g o x h = round_put chains c s h t (Som
 chain_kept chains c s (TakesItem t i) g o x h = taken chains c s h t i g o.1 (is_chain i) refl
 chain_kept chains c s (GivesItem t i) g o x h = given chains c s h t i g
 chain_kept chains c s (Gains t l mode by_try) g o x h = round_put chains c s h t None no_bound_none
-chain_kept chains c s (Stamps t e) g o x h = round_put chains c s h t (round_after e (s.round t)) (λ k. no_bound_noted (s.round t) e k x)
+chain_kept chains c s (Stamps t e) g o x h = round_put chains c s h t (round_after e (s.round t)) (λ k. no_bound_noted (s.round t) e k x.in_round)
 chain_kept chains c s (Enters t l mode y) g o x h = round_put chains c s h t None no_bound_none
 chain_kept chains c s (EntersSleepQueue t l mode y) g o x h = round_put chains c s h t None no_bound_none
 chain_kept chains c s (Resumes t q cause) g o x h = round_put chains c s h t _ (λ k. no_bound_resumed k _)
@@ -202,7 +202,7 @@ acting_kept chains c s (Readies t q) g x w h = acting_ready s h t
 acting_kept chains c s (Unreadies t q) g x w h = acting_unready s h t
 acting_kept chains c s (Enters t l mode y) g x w h = acting_stands s h t _
 acting_kept chains c s (EntersSleepQueue t l mode y) g x w h = acting_stands s h t _
-acting_kept chains c s (Adds t d y) g x w h = acting_sleeps s h t _ x.0
+acting_kept chains c s (Adds t d y) g x w h = acting_sleeps s h t _ x.no_round
 acting_kept chains c s (Marks t m ms) g x w h = acting_marked s h m.thread m.queue m.cause (mark.blocked_on c s t m ms g w)
 acting_kept chains c s (Resumes t q cause) g x w h = acting_resumed s h t _ (nowhere (s.blocked_on t) (resume.unnamed c s t q cause g w))
   where
@@ -254,10 +254,10 @@ ends chains c s (TakesItem u i) t l g x h e =
       | inl y ↦ ap (put s.round u _) (sym y) ∙ put_same s.round u _ ∙ taken_bound (is_chain i) (s.round u) l (ap s.round y ∙ e)
       | inr y ↦ put_other s.round u _ t y ∙ e
     ])
-ends chains c s (Gains u k mode by_try) t l g x h e = left s u t l _ _ e (λ i. (i, fits_bound (s.round u) l k by_try (ap s.round i ∙ e) x.0))
-ends chains c s (Stamps u k) t l g x h e = left s u t l _ ⊥ e (λ i. nothing_noted (s.round u) k l (ap s.round i ∙ e) x)
+ends chains c s (Gains u k mode by_try) t l g x h e = left s u t l _ _ e (λ i. (i, fits_bound (s.round u) l k by_try (ap s.round i ∙ e) x.fits))
+ends chains c s (Stamps u k) t l g x h e = left s u t l _ ⊥ e (λ i. nothing_noted (s.round u) k l (ap s.round i ∙ e) x.in_round)
 ends chains c s (Enters u k mode y) t l g x h e = left s u t l _ _ e (λ i. (i, entered_bound (s.round u) l k (ap s.round i ∙ e) x.round))
 ends chains c s (EntersSleepQueue u k mode y) t l g x h e = left s u t l _ _ e (λ i. (i, entered_bound (s.round u) l k (ap s.round i ∙ e) x.round))
 ends chains c s (Resumes u q cause) t l g x h e = left s u t l _ ⊥ e (λ i. let z : false ≡ true = sym ((h.rounds_are_acting u (bound_to l) (ap s.round i ∙ e)).1) ∙ ap is_woken g.woken in cc)
-ends chains c s (Claims u k y by_try) t l g x h e = left s u t l _ _ e (λ i. (i, fits_bound (s.round u) l k by_try (ap s.round i ∙ e) x.0))
+ends chains c s (Claims u k y by_try) t l g x h e = left s u t l _ _ e (λ i. (i, fits_bound (s.round u) l k by_try (ap s.round i ∙ e) x.fits))
 ends chains c s other t l g x h e = inl e

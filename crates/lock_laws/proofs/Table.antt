@@ -4,7 +4,6 @@ use Rattle.std.proofs.Common.{◌≡◌, ◌⊎◌, ℕ, Bool, true, false, cond
 use Rattle.std.proofs.lemmas.Bool.{lt-leb}
 use Rattle.std.proofs.lemmas.Option.{slice_get_within}
 use Rattle.lock_model.specs.Plans.{config_of, operations_of}
-use Rattle.lock_model.specs.Operations.{held_behind}
 use Rattle.lock_model.specs.Words.{admits, is_drop, is_turnstile, owner_of}
 use Rattle.lock_model.specs.Queues.{Mark, Cause, lock_queue, stands}
 use Rattle.lock_model.specs.Config.{Config}
@@ -22,9 +21,9 @@ use Rattle.lock_model.specs.declared.plan.QueueName.TheVariants.{Lock, Chan}
 use Rattle.lock_model.specs.declared.turn.StepKind.TheVariants as kind
 use Rattle.lock_model.specs.declared.turn.Turn.TheVariants.{Idle, Ended}
 use Rattle.lock_model.specs.declared.event.Event.{Event}
-use Rattle.lock_model.specs.declared.event.Held.{Held}
 use Rattle.lock_model.specs.declared.event.Event.TheVariants as event
 use Rattle.lock_laws.specs.OnTrack.{OwesNothing, IsAtOperation}
+use Rattle.lock_laws.proofs.HeldLists.{is_run}
 
 -- 1. The rows
 
@@ -65,7 +64,7 @@ pub data Fits (plan : Plan) (r : Run) (t : ℕ) : Row → Type 0 where
   makes_entry : (op : Op) (e : Event) → IsAtOperation plan r t (Some op) → Notes r t op e → Fits plan r t (notes r t e)
   -- no thread of a proper plan comes to these two
   has_no_operation : has_ended plan r t ≡ false → IsAtOperation plan r t None → Fits plan r t (nothing Idle)
-  is_not_run : (op : Op) → IsAtOperation plan r t (Some op) → ((locks : ℕ) (held : List Held) → held_behind locks op held ≡ None) → Fits plan r t (nothing Idle)
+  is_not_run : (op : Op) → IsAtOperation plan r t (Some op) → is_run op ≡ false → Fits plan r t (nothing Idle)
 
 module _ (plan : Plan) (r : Run) (t : ℕ) where
   abbrev c : Config
@@ -110,17 +109,17 @@ module _ (plan : Plan) (r : Run) (t : ℕ) where
     operated : (o : Option Op) → IsAtOperation plan r t o → Fits plan r t (operates c r t o)
     operated None i = has_no_operation going i
     operated (Some (Take l mode)) i = taken l mode i
-    operated (Some (Try l mode past)) i = is_not_run (Try l mode past) i (λ n held. refl)
-    operated (Some EndTry) i = is_not_run EndTry i (λ n held. refl)
+    operated (Some (Try l mode past)) i = is_not_run (Try l mode past) i refl
+    operated (Some EndTry) i = is_not_run EndTry i refl
     operated (Some (Release l)) i = released l i
     operated (Some (Set l key value)) i = makes_entry (Set l key value) (event.Set l key value) i (sets l key value)
     operated (Some (Add l key amount)) i = makes_entry (Add l key amount) (event.Added l key amount) i (adds l key amount)
     operated (Some (Get l key)) i = makes_entry (Get l key) (event.Got l key (s.table l.0 key)) i (gets l key)
     operated (Some (Base prio)) i = makes_entry (Base prio) (event.Base prio) i (changes_base prio)
     operated (Some Show) i = makes_entry Show (event.Shown (record { 0 = s.base t }) (record { 0 = s.effective t })) i shows
-    operated (Some (Sleep d)) i = is_not_run (Sleep d) i (λ n held. refl)
-    operated (Some (WakeOne d)) i = is_not_run (WakeOne d) i (λ n held. refl)
-    operated (Some (WakeAll d)) i = is_not_run (WakeAll d) i (λ n held. refl)
+    operated (Some (Sleep d)) i = is_not_run (Sleep d) i refl
+    operated (Some (WakeOne d)) i = is_not_run (WakeOne d) i refl
+    operated (Some (WakeAll d)) i = is_not_run (WakeAll d) i refl
 
     waited : OwesNothing r t → (w : Wait) → s.wait t ≡ w → Fits plan r t (by_wait plan r t w)
     waited f Queued e = is_queued going f e

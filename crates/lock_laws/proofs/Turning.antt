@@ -2,7 +2,6 @@
 -- track, and each of its states is one that steps reach.
 use Rattle.std.proofs.Common.{◌≡◌, ℕ, zero, suc, ◌+◌, ◌<◌, ◌≤◌, Bool, true, false, not, cond, List, [], ◌∷◌, length, All, refl, sym, arith, subst}
 use Rattle.std.specs.List.{range_with_len}
-use Rattle.std.proofs.lemmas.Option.{none-some}
 use Rattle.std.proofs.lemmas.List.Elements.{All-nil, All-cons, All-head, All-tail, All-map, All-filter}
 use Rattle.lock_model.specs.Plans.{config_of}
 use Rattle.lock_model.specs.Operations.{IsProper}
@@ -25,6 +24,7 @@ use Rattle.lock_laws.proofs.Steps.{all_keep, all_reach}
 use Rattle.lock_laws.proofs.StateAtStart as start
 use Rattle.lock_laws.proofs.Follows.{followed, still_no_sleeps}
 use Rattle.lock_laws.proofs.OnTrack.{KeepsTrack, all_made, all_waiting, fit}
+use Rattle.lock_laws.proofs.HeldLists.{never_shared}
 use Rattle.lock_laws.proofs.Table as table
 use Rattle.lock_laws.proofs.TurnsOfWalks as walks
 use Rattle.lock_laws.proofs.TurnsOfWaits as waits
@@ -86,9 +86,9 @@ module _ (plan : Plan) (r : Run) (t : ℕ) (p : IsProper plan) (k : IsOnTrack pl
   made _ (table.is_queued e f i) = record { may = tt; keeps = unmoved }
   made _ (table.resumes q cause f e) = record { may = (waits.may_resume plan r t k lt q cause e, tt); keeps = waits.resumed plan r t k lt q cause e }
   made _ (table.gains l Excl i e) = record { may = locks.may_gain_all plan r t p k lt l i e; keeps = locks.gained plan r t p k lt l i }
-  made _ (table.gains l Shared i e) = absurd (none-some _ (fit plan r t p (Take l Shared) i.next))
+  made _ (table.gains l Shared i e) = absurd (never_shared plan p l _ _ (fit plan r t p (Take l Shared) i.next))
   made _ (table.enters l Excl i e) = record { may = locks.may_block_all plan r t p k lt l i e; keeps = locks.blocked plan r t p k lt l i }
-  made _ (table.enters l Shared i e) = absurd (none-some _ (fit plan r t p (Take l Shared) i.next))
+  made _ (table.enters l Shared i e) = absurd (never_shared plan p l _ _ (fit plan r t p (Take l Shared) i.next))
   made _ (table.drops l i e) = record { may = locks.may_drop_all plan r t p k lt l i e; keeps = locks.dropped plan r t p k lt l i }
   made _ (table.opens l i e) = record { may = locks.may_open_all plan r t p k lt l i e; keeps = locks.opened plan r t p k lt l i }
   made _ (table.makes_entry op e i n) =

@@ -87,7 +87,7 @@ module _ (plan : Plan) (r : Run) (t : ℕ) (p : IsProper plan) (k : IsOnTrack pl
 
   module _ (l : LockNo) (i : IsAtOperation plan r t (Some (Take l Excl))) where
     pub finds : TakeFits (length plan.locks) l (before plan r t) (behind plan r t)
-    finds = take_fits (length plan.locks) l _ _ (fit plan r t p (Take l Excl) i.next)
+    finds = take_fits plan p l _ _ (fit plan r t p (Take l Excl) i.next)
 
     -- a gain and its entry
 
@@ -206,7 +206,7 @@ module _ (plan : Plan) (r : Run) (t : ℕ) (p : IsProper plan) (k : IsOnTrack pl
     mode = mode_held (s.held t l.0)
 
     pub release_finds : (hold_in (before plan r t) l.0 ≢ NotHeld) × (without_lock l.0 (before plan r t) ≡ behind plan r t)
-    release_finds = release_fits (length plan.locks) l _ _ (fit plan r t p (Release l) i.next)
+    release_finds = release_fits plan p l _ _ (fit plan r t p (Release l) i.next)
 
     pub held : s.held t l.0 ≡ Holds mode
     held = its_mode (s.held t l.0) (λ z. release_finds.0 (sym (k.holds t l.0) ∙ z))

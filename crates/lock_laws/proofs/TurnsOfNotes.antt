@@ -1,6 +1,7 @@
 -- The turns of a thread whose operation only makes an entry: the entry may be made, and the run stays on track.
-use Rattle.std.proofs.Common.{◌≡◌, ◌≢◌, ℕ, ◌<◌, Bool, true, false, cond, List, length, Option, Some, None, refl, sym, ap, ◌∙◌}
+use Rattle.std.proofs.Common.{◌≡◌, ◌≢◌, ℕ, ◌<◌, Bool, true, false, not, cond, List, length, Option, Some, None, refl, sym, ap, ◌∙◌}
 use Rattle.std.proofs.lemmas.Option.{none-some, same_Some, cond_some}
+use Rattle.lock_model.proofs.LeastCodes.{passed}
 use Rattle.lock_model.specs.Plans.{config_of}
 use Rattle.lock_model.specs.Operations.{IsProper, hold_in}
 use Rattle.lock_model.specs.Holds.{is_unheld, NotHeld, Holds, is_exclusive}
@@ -21,10 +22,9 @@ use Rattle.lock_laws.proofs.HeldLists.{exclusive_is, held_is}
 use Rattle.lock_laws.proofs.OnTrack.{KeepsTrack, goes_on, own_section, other_section, stamped_behind, acting, before, behind, Next, left, fit, is_take, wants_none}
 use Rattle.lock_laws.proofs.Table.{Notes, sets, adds, gets, changes_base, shows}
 
--- an operation that fits and leaves what is held
-same_elsewhere : (b : Bool) (hs xs : List Held) → cond b None (Some hs) ≡ Some xs → (b ≡ false) × (hs ≡ xs)
-same_elsewhere true hs xs e = absurd (none-some xs e)
-same_elsewhere false hs xs e = (refl, same_Some hs xs e)
+not_true : (b : Bool) → not b ≡ true → b ≡ false
+not_true true e = absurd cc
+not_true false e = refl
 
 -- an operation that leaves what is held and whose entry the sections allow; it begins and ends no section, and notes no wake
 pub record IsNoted (plan : Plan) (r : Run) (t : ℕ) (op : Op) (e : Event) : Type 0 where
@@ -45,9 +45,6 @@ module _ (plan : Plan) (r : Run) (t : ℕ) (p : IsProper plan) (k : IsOnTrack pl
   abbrev held_before : List Held
   held_before = before plan r t
 
-  abbrev held_behind_it : List Held
-  held_behind_it = behind plan r t
-
   -- a section that is open exclusively, and one that is open
   open_exclusive : (l : ℕ) → is_exclusive (hold_in held_before l) ≡ true → open_in c s.history t l ≡ Holds Excl
   open_exclusive l e = k.sections t l ∙ k.holds t l ∙ exclusive_is (hold_in held_before l) e
@@ -57,18 +54,18 @@ module _ (plan : Plan) (r : Run) (t : ℕ) (p : IsProper plan) (k : IsOnTrack pl
 
   pub is_noted : (op : Op) (e : Event) → Notes r t op e → Next plan r t op → IsNoted plan r t op e
   is_noted _ _ (sets l key value) next =
-      let f = cond_some (is_exclusive (hold_in held_before l.0)) held_before held_behind_it (fit plan r t p (operation.Set l key value) next) in
-      record { same = f.1; asks = open_exclusive l.0 f.0; no_take = refl; same_sections = λ j x. refl; same_begun = λ u g. refl; no_wake = λ w. refl }
+      let f = fit plan r t p (operation.Set l key value) next in
+      record { same = f.behind; asks = open_exclusive l.0 (passed _ _ (passed _ _ f.passes).1).0; no_take = refl; same_sections = λ j x. refl; same_begun = λ u g. refl; no_wake = λ w. refl }
   is_noted _ _ (adds l key amount) next =
-      let f = cond_some (is_exclusive (hold_in held_before l.0)) held_before held_behind_it (fit plan r t p (operation.Add l key amount) next) in
-      record { same = f.1; asks = open_exclusive l.0 f.0; no_take = refl; same_sections = λ j x. refl; same_begun = λ u g. refl; no_wake = λ w. refl }
+      let f = fit plan r t p (operation.Add l key amount) next in
+      record { same = f.behind; asks = open_exclusive l.0 (passed _ _ (passed _ _ f.passes).1).0; no_take = refl; same_sections = λ j x. refl; same_begun = λ u g. refl; no_wake = λ w. refl }
   is_noted _ _ (gets l key) next =
-      let f = same_elsewhere (is_unheld (hold_in held_before l.0)) held_before held_behind_it (fit plan r t p (operation.Get l key) next) in
-      record { same = f.1; asks = (some_open l.0 f.0, refl); no_take = refl; same_sections = λ j x. refl; same_begun = λ u g. refl; no_wake = λ w. refl }
+      let f = fit plan r t p (operation.Get l key) next in
+      record { same = f.behind; asks = (some_open l.0 (not_true (is_unheld (hold_in held_before l.0)) (passed _ _ f.passes).0), refl); no_take = refl; same_sections = λ j x. refl; same_begun = λ u g. refl; no_wake = λ w. refl }
   is_noted _ _ (changes_base prio) next =
-      record { same = same_Some held_before held_behind_it (fit plan r t p (operation.Base prio) next); asks = tt; no_take = refl; same_sections = λ j x. refl; same_begun = λ u g. refl; no_wake = λ w. refl }
+      record { same = (fit plan r t p (operation.Base prio) next).behind; asks = tt; no_take = refl; same_sections = λ j x. refl; same_begun = λ u g. refl; no_wake = λ w. refl }
   is_noted _ _ shows next = record {
-    same = same_Some held_before held_behind_it (fit plan r t p operation.Show next);
+    same = (fit plan r t p operation.Show next).behind;
     asks = record { its_base = refl; its_effective = refl; sections = λ l mode e. k.sections t l ∙ e };
     no_take = refl;
     same_sections = λ j x. refl;

@@ -52,7 +52,7 @@ module _ (plan : Plan) (r : Run) (t : ℕ) (p : IsProper plan) (k : IsOnTrack pl
       let m = ap length (k.lawful.lawful.mutex_waiters_are_exclusive l (p.mutexes l)) in
       let w = someone (s.lists (lock_queue l)).exclusive (length (s.free_list (lock_queue l))) (omega (arith, f.balanced)) in
       let wanted = (shown c s w.0 l k.lawful.lawful (omega (arith, w.1))).1 in
-      (take_fits (length plan.locks) (record { 0 = l }) (before plan r w.0) (behind plan r w.0) (fit plan r w.0 p (Take (record { 0 = l }) Excl) (k.wants w.0 l wanted))).lock
+      (take_fits plan p (record { 0 = l }) (before plan r w.0) (behind plan r w.0) (fit plan r w.0 p (Take (record { 0 = l }) Excl) (k.wants w.0 l wanted))).lock
 
   pub may_lend : (l o h : ℕ) → s.walk t ≡ AtLock l → owner_of (s.word l).holder ≡ Some o → s.head (lock_queue l) ≡ Some h → MayLend c s t l o h
   unfolding OwnersHold

@@ -1,3 +1,5 @@
 mod NamedKeys
 mod Spelled
 pub mod Lists
+pub mod LeastCodes
+pub mod HeldLocks

@@ -160,7 +160,7 @@ unfoldable pub HaltsOnlyWhenRunning : Bool → List Entry → Type 0
 HaltsOnlyWhenRunning is_run [] = ⊤
 HaltsOnlyWhenRunning is_run (e ∷ es) = (is_run ≡ false → is_halt e.event ≡ false) × HaltsOnlyWhenRunning is_run es
 
--- 4. The law. Is_run says whether threads ran, or the run was a scheduled one; cut_short whether a scheduled run ended stuck or too long.
+-- 4. The law, but for what it says of lock orders, of the causes of halts, and of busy words. Is_run says whether threads ran, or the run was a scheduled one; cut_short whether a scheduled run ended stuck or too long.
 -- Threads that ran come to their end
 
 pub record IsLegal (plan : Plan) (is_run cut_short : Bool) (history : List Entry) : Type 0 where

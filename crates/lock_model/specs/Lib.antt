@@ -1,3 +1,5 @@
+pub mod Limits
+pub mod Tests
 pub mod Names
 pub mod Spelling
 pub mod Config

@@ -1,17 +1,28 @@
--- Which operations of a thread fit what it holds, and the plans whose threads' operations fit from their begin to their end. Each script's
--- plan is such a plan.
-use Rattle.std.specs.Prelude.{◌≡◌, ℕ, ◌≤◌, ◌<◌, false, ◌&&◌, ◌==◌, nat_lt, if◌then◌else◌, List, [], ◌∷◌, ◌++◌, length, map, sum, take, option_and_then, unwrap_or, Option, Some, None}
-use Rattle.std.specs.List.{All}
+-- What operations do to the list of locks that a thread holds, which operations fit it, and the plans whose threads'
+-- operations fit from their begin to their end. Each script's plan is such a plan.
+use Rattle.std.specs.Prelude.{◌≡◌, ℕ, ◌≤◌, ◌<◌, Bool, true, false, not, ◌&&◌, ◌||◌, ◌==◌, nat_lt, if◌then◌else◌, List, [], ◌∷◌, ◌++◌, length, map, sum, take, fold, option_map, slice_get, Option, Some}
+use Rattle.std.specs.List.{All, list_all, list_any}
 use Rattle.lock_model.specs.Holds.{Hold, NotHeld, Holds, is_unheld, is_exclusive}
+use Rattle.lock_model.specs.Limits.{most_threads, most_locks, most_held, most_operations, most_scheduled}
 use Rattle.lock_model.specs.Plans.{lock_kind, operations_of}
-use Rattle.lock_model.specs.declared.plan.Kind.TheVariants.{Mtx}
-use Rattle.lock_model.specs.declared.plan.Mode.TheVariants.{Excl}
+use Rattle.lock_model.specs.Tests.{Test, test, where_some, Passes}
+use Rattle.lock_model.specs.declared.plan.Kind.{Kind}
+use Rattle.lock_model.specs.declared.plan.Kind.TheVariants.{Mtx, Rw, Sx}
+use Rattle.lock_model.specs.declared.plan.Mode.{Mode}
+use Rattle.lock_model.specs.declared.plan.Mode.TheVariants.{Excl, Shared}
+use Rattle.lock_model.specs.declared.plan.LockDecl.{LockDecl}
+use Rattle.lock_model.specs.declared.plan.ChanDecl.{ChanDecl}
 use Rattle.lock_model.specs.declared.plan.Op.{Op}
-use Rattle.lock_model.specs.declared.plan.Op.TheVariants.{Take, Release, Set, Add, Get, Base, Show}
+use Rattle.lock_model.specs.declared.plan.Op.TheVariants.{Take, Try, EndTry, Release, Set, Add, Get, Base, Show, Sleep, WakeOne, WakeAll}
 use Rattle.lock_model.specs.declared.plan.Plan.{Plan}
 use Rattle.lock_model.specs.declared.event.Held.{Held}
+use Rattle.lock_model.specs.declared.numbers.LockNo.{LockNo}
+use Rattle.lock_model.specs.declared.numbers.ChanNo.{ChanNo}
 
 -- 1. Lists of held locks, in order of acquisition
+
+abbrev pub holds_lock : LockNo → Held → Bool
+holds_lock l h = h.l.0 == l.0
 
 -- how a lock is held
 abbrev pub hold_in : List Held → ℕ → Hold
@@ -23,31 +34,104 @@ abbrev pub without_lock : ℕ → List Held → List Held
 without_lock l [] = []
 without_lock l (h ∷ hs) = if h.l.0 == l then hs else h ∷ without_lock l hs
 
--- 2. Operations
+-- the lock was gained last, and not by a try
+abbrev pub is_last : ℕ → List Held → Bool
+is_last l [] = false
+is_last l (h ∷ []) = h.l.0 == l && not h.by_try
+is_last l (h ∷ g ∷ hs) = is_last l (g ∷ hs)
 
--- What a thread holds behind an operation, or nothing where the operation does not fit what it holds before: a lock is taken where it isn't
--- held, released where it is, edited under an exclusive hold and read under any. A thread holds at most 8 locks.
-abbrev pub held_behind : ℕ → Op → List Held → Option (List Held)
-held_behind locks (Take l Excl) held =
-    if nat_lt l.0 locks && is_unheld (hold_in held l.0) && nat_lt (length held) 8
-    then Some (held ++ (record { l = l; mode = Excl; by_try = false }) ∷ [])
-    else None
-held_behind locks (Release l) held = if is_unheld (hold_in held l.0) then None else Some (without_lock l.0 held)
-held_behind locks (Set l key value) held = if is_exclusive (hold_in held l.0) then Some held else None
-held_behind locks (Add l key amount) held = if is_exclusive (hold_in held l.0) then Some held else None
-held_behind locks (Get l key) held = if is_unheld (hold_in held l.0) then None else Some held
-held_behind locks (Base prio) held = Some held
-held_behind locks Show held = Some held
-held_behind locks other held = None
+-- What a thread holds behind an operation. A wait leaves the list as it is, and the lines of a try's block are read
+-- with its lock held.
+abbrev pub held_behind : Op → List Held → List Held
+held_behind (Take l mode) held = held ++ (record { l = l; mode = mode; by_try = false }) ∷ []
+held_behind (Try l mode past) held = held ++ (record { l = l; mode = mode; by_try = true }) ∷ []
+held_behind EndTry held = held
+held_behind (Release l) held = without_lock l.0 held
+held_behind (Set l key value) held = held
+held_behind (Add l key amount) held = held
+held_behind (Get l key) held = held
+held_behind (Base prio) held = held
+held_behind Show held = held
+held_behind (Sleep c) held = held
+held_behind (WakeOne c) held = held
+held_behind (WakeAll c) held = held
 
 -- the same behind operations in order
-abbrev pub held_through : ℕ → List Op → List Held → Option (List Held)
-held_through locks [] held = Some held
-held_through locks (op ∷ ops) held = option_and_then (held_through locks ops) (held_behind locks op held)
+abbrev pub held_through : List Op → List Held → List Held
+held_through ops held = fold (λ hs op. held_behind op hs) held ops
 
--- what a thread holds behind the first n of its operations, where they fit
+-- what a thread holds behind the first n of its operations
 abbrev pub held_of : ℕ → List Op → ℕ → List Held
-held_of locks ops n = unwrap_or (held_through locks (take n ops) []) []
+held_of locks ops n = held_through (take n ops) []
+
+-- 2. Which operations fit what is held
+
+abbrev pub is_kind : Kind → Option Kind → Bool
+is_kind Mtx (Some Mtx) = true
+is_kind Rw (Some Rw) = true
+is_kind Sx (Some Sx) = true
+is_kind kind other = false
+
+abbrev pub is_of_kind : List LockDecl → Kind → LockNo → Bool
+is_of_kind locks kind l = is_kind kind (option_map (λ d. d.kind) (slice_get locks l.0))
+
+-- a mutex is held exclusively alone
+abbrev pub may_be_held : List LockDecl → Mode → LockNo → Bool
+may_be_held locks Excl l = nat_lt l.0 (length locks)
+may_be_held locks Shared l = is_of_kind locks Rw l || is_of_kind locks Sx l
+
+-- A take or a try: there is room for a lock more; the lock's kind has that mode; it isn't held; and no mutex or rw lock
+-- is held where it is an sx lock.
+abbrev pub gaining_tests : List LockDecl → LockNo → Mode → List Held → List Test
+gaining_tests locks l mode held =
+    test 7 (nat_lt (length held) most_held)
+    ∷ test 8 (may_be_held locks mode l)
+    ∷ test 9 (is_unheld (hold_in held l.0))
+    ∷ test 12 (not (is_of_kind locks Sx l) || list_all (λ h. is_of_kind locks Sx h.l) held)
+    ∷ []
+
+-- the lock is held
+abbrev pub held_test : LockNo → List Held → Test
+held_test l held = test 11 (not (is_unheld (hold_in held l.0)))
+
+-- a change of a lock's table: it is held, and exclusively
+abbrev pub edit_tests : LockNo → List Held → List Test
+edit_tests l held = held_test l held ∷ test 20 (is_exclusive (hold_in held l.0)) ∷ []
+
+-- a wait with a lock: it is held; no other mutex or rw lock is; and it was gained last, and not by a try
+abbrev pub wait_tests : List LockDecl → LockNo → List Held → List Test
+wait_tests locks l held =
+    held_test l held
+    ∷ test 12 (list_all (λ h. h.l.0 == l.0 || is_of_kind locks Sx h.l) held)
+    ∷ test 13 (is_last l.0 held)
+    ∷ []
+
+-- the channel is declared
+abbrev pub channel_test : List ChanDecl → ChanNo → Test
+channel_test chans c = test 5 (nat_lt c.0 (length chans))
+
+-- the tests of an operation, by what the thread holds
+abbrev pub operation_tests : List LockDecl → List ChanDecl → Op → List Held → List Test
+operation_tests locks chans (Take l mode) held = gaining_tests locks l mode held
+operation_tests locks chans (Try l mode past) held = gaining_tests locks l mode held
+operation_tests locks chans EndTry held = []
+operation_tests locks chans (Release l) held = held_test l held ∷ []
+operation_tests locks chans (Set l key value) held = edit_tests l held
+operation_tests locks chans (Add l key amount) held = edit_tests l held
+operation_tests locks chans (Get l key) held = held_test l held ∷ []
+operation_tests locks chans (Base prio) held = []
+operation_tests locks chans Show held = []
+operation_tests locks chans (Sleep c) held =
+    channel_test chans c
+    ∷ where_some (λ (d : ChanDecl). wait_tests locks d.lock held) (slice_get chans c.0)
+operation_tests locks chans (WakeOne c) held = channel_test chans c ∷ []
+operation_tests locks chans (WakeAll c) held = channel_test chans c ∷ []
+
+-- each operation passes its tests on what those before it lead to, and nothing is held in the end
+pub record Fit (locks : List LockDecl) (chans : List ChanDecl) (ops : List Op) : Type 0 where
+  pub each : (n : ℕ) (op : Op) → slice_get ops n ≡ Some op
+      → Passes (operation_tests locks chans op (held_of (length locks) ops n))
+  pub released : held_of (length locks) ops (length ops) ≡ []
 
 -- 3. Plans
 
@@ -55,14 +139,29 @@ held_of locks ops n = unwrap_or (held_through locks (take n ops) []) []
 abbrev pub operations_in_all : Plan → ℕ
 operations_in_all plan = sum (map (λ d. length d.ops) plan.threads)
 
+abbrev pub is_try : Op → Bool
+is_try (Take l mode) = false
+is_try (Try l mode past) = true
+is_try EndTry = true
+is_try (Release l) = false
+is_try (Set l key value) = false
+is_try (Add l key amount) = false
+is_try (Get l key) = false
+is_try (Base prio) = false
+is_try Show = false
+is_try (Sleep c) = false
+is_try (WakeOne c) = false
+is_try (WakeAll c) = false
+
 -- each thread begins and ends with nothing held, and its operations fit in between; the limits of a script are kept
 pub record IsProper (plan : Plan) : Type 0 where
-  pub threads : length plan.threads ≤ 32
-  pub locks : length plan.locks ≤ 64
-  pub operations : operations_in_all plan ≤ 20000
-  pub scheduled : length plan.schedule ≤ 100000
+  pub threads : length plan.threads ≤ most_threads
+  pub locks : length plan.locks ≤ most_locks
+  pub operations : operations_in_all plan ≤ most_operations
+  pub scheduled : length plan.schedule ≤ most_scheduled
   pub schedule : All (λ t. t.0 < length plan.threads) plan.schedule
-  -- until the other kinds of lock and the channels come
+  -- Until the other kinds of lock, the channels and the tries come. With tries, a block has to be closed by its endtry, and a try go on there
   pub mutexes : (l : ℕ) → lock_kind plan l ≡ Mtx
   pub no_channel : plan.chans ≡ []
-  pub fits : (t : ℕ) → held_through (length plan.locks) (operations_of plan t) [] ≡ Some []
+  pub no_try : (t : ℕ) → list_any is_try (operations_of plan t) ≡ false
+  pub fits : (t : ℕ) → Fit plan.locks plan.chans (operations_of plan t)

@@ -95,7 +95,8 @@ walks_at_thread c r t o None = does WalkEnd (EndsWalk t ∷ [])
 abbrev pub blocks : Run → ℕ → LockNo → Mode → Row
 blocks r t l mode = does Enter (Readies t (Lock l) ∷ Enters t l.0 mode (unwrap_or (r.state.turnstile t) t) ∷ [])
 
--- A take gains the lock and notes it where the word admits the mode; else the thread blocks, and takes again when it has been woken.
+-- A take gains the lock and notes it where the word admits the mode; else the thread blocks, and takes again when it has been woken. So far
+-- plans have mutexes alone, whose gains are never claims.
 abbrev pub takes : Config → Run → ℕ → LockNo → Mode → Row
 takes c r t l mode =
     if admits (c.kind l.0) (r.state.word l.0) mode

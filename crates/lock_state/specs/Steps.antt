@@ -5,22 +5,24 @@ pub mod Items
 pub mod Turnstiles
 pub mod SleepQueues
 pub mod Lending
-use Rattle.std.specs.Prelude.{◌≡◌, ◌⊎◌, ℕ, ◌%◌, Bool, true, false, not, ◌&&◌, ◌==◌, if◌then◌else◌, List, [], ◌∷◌, Option, Some, None, ⊤, ◌<◌}
+use Rattle.std.specs.Prelude.{◌≡◌, ◌≢◌, ◌⊎◌, ℕ, ◌%◌, Bool, true, false, not, ◌&&◌, ◌==◌, if◌then◌else◌, List, [], ◌∷◌, Option, Some, None, ⊤, ◌<◌}
 use Rattle.lock_model.specs.Config.{Config}
 use Rattle.lock_state.specs.State.{State, Walk, NoWalk, AtLock, AtThread, Round, start_state}
 use Rattle.lock_model.specs.Queues.{Cause, Mark, lock_queue}
 use Rattle.lock_model.specs.Words.{Word, is_turnstile, admits}
-use Rattle.lock_state.specs.Steps.LockWords.{MaySeek, MayLook, MayGain, MayDrop, MayStamp, MayReady, MayUnready, after_seek, after_look, after_gain, after_drop, after_stamp, after_ready, after_unready}
+use Rattle.lock_state.specs.Steps.LockWords.{is_taking_back, MaySeek, MayLook, MayGain, MayDrop, MayStamp, MayReady, MayUnready, after_seek, after_look, after_gain, after_drop, after_stamp, after_ready, after_unready}
 use Rattle.lock_state.specs.Steps.Turnstiles.{MayEnter, MayOpen, MayMark, MayResume, after_enter, after_open, after_mark, after_resume}
 use Rattle.lock_state.specs.Steps.SleepQueues.{MayEnterSleep, MayOpenSleep, MayAdd, MayWake, after_enter_sleep, after_open_sleep, after_add, after_wake}
 use Rattle.lock_state.specs.Steps.Lending.{MayClaim, MayLend, MayShift, MayEndWalk, after_claim, after_lend, after_shift, after_end_walk}
-use Rattle.lock_state.specs.Steps.Items.{Item, TurnstileChain, SleepChain, RecordOf, CellOf, ClassGraph, item_with, is_chain, IsOnItsWay, MayTake, MayGive, after_take, after_give}
+use Rattle.lock_state.specs.Steps.Items.{Item, TurnstileChain, SleepChain, RecordOf, CellOf, ClassGraph, item_with, is_chain, is_bound, IsOnItsWay, MayTake, MayGive, after_take, after_give}
 use Rattle.lock_model.specs.declared.plan.Mode.{Mode}
 use Rattle.lock_model.specs.declared.plan.Mode.TheVariants.{Excl}
 use Rattle.lock_model.specs.declared.plan.QueueName.{QueueName}
 use Rattle.lock_model.specs.declared.plan.QueueName.TheVariants.{Lock, Chan}
 use Rattle.lock_model.specs.declared.event.Event.{Event}
 use Rattle.lock_model.specs.declared.event.Event.TheVariants.{Locked, Tried, Busy, Unlocked, Set, Added, Got, Base, Shown, Sleeps, Woke, HaltedChan, HaltedLock, WokeOne, WokeAll, Reversed}
+
+-- 1. Steps
 
 -- a step, with the thread that makes it first
 pub data Step : Type 0 where
@@ -185,7 +187,7 @@ abbrev pub IsOfRound : ℕ → Config → Option Round → Item → Type 0
 IsOfRound chains c None i = ⊤
 IsOfRound chains c (Some r) i = is_chain i ≡ true → i ≡ chain_of chains c r.lock
 
--- what each kind of step needs out. A thread is made ready under the chain of the queue that it goes to
+-- what each kind of step needs out. A thread is made ready under the chain of the queue that it goes to, and resumes with nothing out
 abbrev pub HasOut : ℕ → Config → State → Step → Type 0
 HasOut chains c s (Seeks t l by_try) = HasItem s t (chain_of chains c l) → ⊥
 HasOut chains c s (Looks t l in_round) = ⊤
@@ -203,7 +205,7 @@ HasOut chains c s (OpensSleepQueue t l mode) = HasItem s t (chain_of chains c l)
 HasOut chains c s (Adds t d x) = HasItem s t (SleepChain (d % chains)) × HasItem s t (RecordOf t)
 HasOut chains c s (Wakes t d all) = HasItem s t (SleepChain (d % chains))
 HasOut chains c s (Marks t m ms) = HasItem s t (RecordOf m.thread)
-HasOut chains c s (Resumes t q cause) = ⊤
+HasOut chains c s (Resumes t q cause) = ((i : Item) → HasItem s t i → ⊥) × (s.walk t ≡ NoWalk)
 HasOut chains c s (Claims t l h by_try) = HasItem s t (chain_of chains c l) × HasItem s t (RecordOf t)
 HasOut chains c s (Lends t l o h) = HasItem s t (chain_of chains c l) × HasItem s t (RecordOf o)
 HasOut chains c s (Shifts t o l) = HasItem s t (chain_of chains c l) × HasItem s t (RecordOf o)
@@ -236,9 +238,48 @@ NotesInRound None e = ⊤
 NotesInRound (Some r) (Busy l seen) = (r.lock ≡ l.0) × (r.by_try ≡ true)
 NotesInRound (Some r) other = ⊥
 
+-- whether an event ends a sleep
+abbrev pub ends_sleep : Event → Bool
+ends_sleep (Woke d) = true
+ends_sleep (HaltedChan d) = true
+ends_sleep other = false
+
+-- whether an event is a waking
+abbrev pub is_waking : Event → Bool
+is_waking (WokeOne d woken) = true
+is_waking (WokeAll d woken) = true
+is_waking other = false
+
+-- The next entry behind Sleeps ends that sleep, and the next one behind a wake is its waking.
+pub record NotesInTurn (s : State) (t : ℕ) (e : Event) : Type 0 where
+  pub in_round : NotesInRound (s.round t) e
+  pub asleep : is_taking_back (s.log t) ≡ true → ends_sleep e ≡ true
+  pub wakes : s.unstamped t ≢ None → is_waking e ≡ true
+
 -- what the thread saw last at the lock under the chain that it has out admits the mode
 abbrev pub SawAdmitting : ℕ → Config → State → ℕ → ℕ → Mode → Type 0
 SawAdmitting chains c s t l mode = (w : Word) → HasItem s t (chain_of chains c l) → s.seen_in_section t ≡ Some (record { lock = l; word = w }) → admits (c.kind l) w mode ≡ true
+
+-- under the lock's chain a gain is of a round
+abbrev pub IsInRound : ℕ → Config → State → ℕ → ℕ → Type 0
+IsInRound chains c s t l = s.round t ≡ None → HasItem s t (chain_of chains c l) → ⊥
+
+-- what a gain needs to have seen, and its round
+pub record GainsFromLook (chains : ℕ) (c : Config) (s : State) (t l : ℕ) (mode : Mode) (by_try : Bool) : Type 0 where
+  pub fits : FitsRound (s.round t) l by_try
+  pub in_round : IsInRound chains c s t l
+  pub saw : SawAdmitting chains c s t l mode
+
+-- a look in a round that has taken its chain is at the round's lock
+pub record LooksInRound (chains : ℕ) (c : Config) (s : State) (t l : ℕ) (in_round : Bool) : Type 0 where
+  pub counts : in_round ≡ counts_as_look chains c s t l
+  pub in_chain : is_bound (s.round t) ≡ true → seeks l (s.round t) ≡ true
+
+-- a sleep on a channel begins outside the thread's rounds, with no wake to note and no halt
+pub record SleepsInTurn (s : State) (t : ℕ) : Type 0 where
+  pub no_round : s.round t ≡ None
+  pub stamped : s.unstamped t ≡ None
+  pub unnoted : s.noted t ≡ None
 
 -- an enter is an exchange from the word that the last look saw, in a blocking call's round that has taken the lock's chain. It is not made
 -- by a thread on its way to a channel
@@ -252,23 +293,23 @@ pub record EntersFromLook (s : State) (t l : ℕ) : Type 0 where
 -- queue nor runs again.
 abbrev pub HasSeen : ℕ → Config → State → Step → Type 0
 HasSeen chains c s (Seeks t l by_try) = ⊤
-HasSeen chains c s (Looks t l in_round) = in_round ≡ counts_as_look chains c s t l
+HasSeen chains c s (Looks t l in_round) = LooksInRound chains c s t l in_round
 HasSeen chains c s (TakesItem t i) = ⊤
 HasSeen chains c s (GivesItem t i) = ⊤
-HasSeen chains c s (Gains t l mode by_try) = FitsRound (s.round t) l by_try × SawAdmitting chains c s t l mode
+HasSeen chains c s (Gains t l mode by_try) = GainsFromLook chains c s t l mode by_try
 HasSeen chains c s (Drops t l mode) = ⊤
-HasSeen chains c s (Stamps t e) = NotesInRound (s.round t) e
+HasSeen chains c s (Stamps t e) = NotesInTurn s t e
 HasSeen chains c s (Readies t q) = ⊤
 HasSeen chains c s (Unreadies t q) = IsOnItsWay s t → ⊥
 HasSeen chains c s (Enters t l mode x) = EntersFromLook s t l
 HasSeen chains c s (Opens t l mode) = ⊤
 HasSeen chains c s (EntersSleepQueue t l mode x) = EntersFromLook s t l
 HasSeen chains c s (OpensSleepQueue t l mode) = ⊤
-HasSeen chains c s (Adds t d x) = (s.round t ≡ None) × (s.unstamped t ≡ None)
+HasSeen chains c s (Adds t d x) = SleepsInTurn s t
 HasSeen chains c s (Wakes t d all) = ⊤
 HasSeen chains c s (Marks t m ms) = ⊤
 HasSeen chains c s (Resumes t q cause) = ⊤
-HasSeen chains c s (Claims t l h by_try) = FitsRound (s.round t) l by_try × SawAdmitting chains c s t l Excl
+HasSeen chains c s (Claims t l h by_try) = GainsFromLook chains c s t l Excl by_try
 HasSeen chains c s (Lends t l o h) = ⊤
 HasSeen chains c s (Shifts t o l) = ⊤
 HasSeen chains c s (EndsWalk t) = ⊤
@@ -298,11 +339,11 @@ EndsTake c (WokeOne d woken) l = ⊥
 EndsTake c (WokeAll d woken) l = ⊥
 EndsTake c (Reversed k held) l = ⊥
 
--- whether the thread takes a lock
+-- the thread takes no lock
 abbrev pub TakesNothing : State → ℕ → Type 0
 TakesNothing s t = s.taking t ≡ None
 
--- what each kind asks. A blocking call seeks the lock that it takes, and looks at it in its round alone; an enter is of the wanted lock; a
+-- What each kind asks; it comes into use with the steps that admit takes. A blocking call seeks the lock that it takes, and looks at it in its round alone; an enter is of the wanted lock; a
 -- release isn't of a thread that takes; and the next entry of one that takes ends its take
 abbrev pub IsAdmitted : Config → State → Step → Type 0
 IsAdmitted c s (Seeks t l by_try) = by_try ≡ false → s.wanted t ≡ Some l

@@ -1,21 +1,10 @@
-//! `lockrun step` reads a script from standard input, makes its scheduled run, and writes its text to standard output. The exit
-//! code is the status.
-//!
-//! From the outside in:
-//! - `top`: the call that the program makes, with everything that is promised of it.
-//! - `status`: how it ends.
-//! - `answer`: the status and the text that belong to the bytes of a source.
+//! `lockrun step` reads a script from standard input, makes its scheduled run, and writes its text to standard output.
+//! The exit code is the status. What it does, and what is promised of it, stands in the library `lock_top`; here the
+//! words and the streams are picked up.
 #![tactic(auto)]
 
-mod answer;
-pub mod status;
-#[cfg(test)]
-mod tests;
-pub mod top;
-
-use crate::status::Status;
-use crate::top::lockrun_plain;
 use lock_io::{StdSink, StdSource};
+use lock_top::{Status, lockrun_plain};
 use std::process::ExitCode;
 use std::{env, io};
 

@@ -1,12 +1,13 @@
 -- How the front of a source is its first line, and the front of a line its first word.
-use Rattle.std.proofs.Common.{◌≡◌, if◌then◌else◌, ℕ, ◌-◌, drop, get_or, IfNone, add-one, one-add, drop-cons, length-drop, ◌≤◌, nat_lt, cond, ◌+◌, Bool, true, false, not, ◌&&◌, ◌==◌, List, [], ◌∷◌, ◌++◌, length, take, codes, Option, Some, None, position, refl, sym, ap, ◌∙◌, subst, arith, true≢false}
+use Rattle.std.proofs.Common.{◌≡◌, if◌then◌else◌, ℕ, ◌-◌, drop, get_or, IfNone, add-one, one-add, drop-cons, length-drop, ◌≤◌, nat_lt, cond, ◌+◌, Bool, true, false, not, ◌&&◌, ◌==◌, List, [], ◌∷◌, ◌++◌, length, take, Option, Some, None, position, refl, sym, ap, ◌∙◌, subst, arith, true≢false}
 use Rattle.std.proofs.lemmas.Bool.{false≢true, eqb-true}
-use Rattle.std.specs.List.{list_all, list_any, prefix_len}
+use Rattle.std.specs.List.{list_all, prefix_len}
 use Rattle.std.proofs.lemmas.Bool.Decides.{nat_tests}
 use Rattle.std.proofs.lemmas.Option.{cond_some}
 use Rattle.std.proofs.lemmas.List.{take_all, take-append-drop}
 use Rattle.std.proofs.lemmas.List.Quantifiers.{position-Some}
-use Rattle.lock_model.specs.Script.{lines_of, words_of, onto_first, is_same, is_empty, Schedule, statement_of, statement_of_words, statement_of_more}
+use Rattle.lock_model.specs.Script.Lines.{lines_of, words_of, onto_first}
+use Rattle.lock_model.specs.Script.Statements.{Statement, Alone, WithOne, WithTwo, WithThree, WithSome, said}
 use Rattle.script_read.specs.Reading.{Lacks}
 
 -- what a byte string lacks, its first byte isn't, and the rest lacks it
@@ -96,48 +97,36 @@ words-last (b ∷ word) h =
     let p = lacks-first 32 b word h in
     words-step b word word [] p.0 (words-last word p.1)
 
-first_of : (b : ℕ) (parts : List (List ℕ)) (w x y z : List ℕ) → statement_of_more w x (y ∷ z ∷ onto_first b parts) ≡ None
-first_of b [] w x y z = refl
-first_of b (part ∷ parts) w x y z = refl
-
-five_words : (w x y z rest : List ℕ) → statement_of_more w x (y ∷ z ∷ words_of rest) ≡ None
-five_words w x y z [] = refl
-five_words w x y z (b ∷ bs) = by (b == 32)
-  where
-    by : (t : Bool) → statement_of_more w x (y ∷ z ∷ (if t then [] ∷ words_of bs else onto_first b (words_of bs))) ≡ None
-    by true = refl
-    by false = first_of b (words_of bs) w x y z
-
-says_nothing : (words : List (List ℕ)) → statement_of_words words ≡ None → (if list_any is_empty words then None else statement_of_words words) ≡ None
-says_nothing words h = by (list_any is_empty words)
-  where
-    by : (t : Bool) → (if t then None else statement_of_words words) ≡ None
-    by true = refl
-    by false = h
-
--- a line of more than four words says nothing, save where it is a schedule
-pub too_many_words : (line w x y z rest : List ℕ) → words_of line ≡ w ∷ x ∷ y ∷ z ∷ words_of rest → is_same w (codes "schedule") ≡ false → statement_of line ≡ None
-too_many_words line w x y z rest e other =
-    ap (λ (words : List (List ℕ)). if list_any is_empty words then None else statement_of_words words) e
-    ∙ says_nothing (w ∷ x ∷ y ∷ z ∷ words_of rest) (rw other (five_words w x y z rest))
-
-some_words : (parts : List (List ℕ)) (w : List ℕ) → is_empty parts ≡ false → is_same w (codes "schedule") ≡ true → statement_of_words (w ∷ parts) ≡ Some (Schedule parts)
-some_words [] w n h = absurd (true≢false n)
-some_words (part ∷ parts) w n h = rw h refl
+-- 3. What stands behind a first word
 
 -- a text has a word
-has_word : (bs : List ℕ) → is_empty (words_of bs) ≡ false
-has_word [] = refl
-has_word (b ∷ bs) = by (b == 32) (words_of bs)
+words_are : (bs : List ℕ) → (w : List ℕ) × (ws : List (List ℕ)) × (words_of bs ≡ w ∷ ws)
+words_are [] = ([], [], refl)
+words_are (b ∷ bs) = by (b == 32) (words_of bs)
   where
-    by : (t : Bool) (parts : List (List ℕ)) → is_empty (if t then [] ∷ parts else onto_first b parts) ≡ false
-    by true parts = refl
-    by false [] = refl
-    by false (part ∷ parts) = refl
+    by : (t : Bool) (parts : List (List ℕ)) → (w : List ℕ) × (ws : List (List ℕ)) × ((if t then [] ∷ parts else onto_first b parts) ≡ w ∷ ws)
+    by true parts = ([], parts, refl)
+    by false [] = (b ∷ [], [], refl)
+    by false (part ∷ parts) = (b ∷ part, parts, refl)
 
--- a schedule names all the words behind its first one
-pub schedule_of_words : (line w rest : List ℕ) → words_of line ≡ w ∷ words_of rest → is_empty w ≡ false → is_same w (codes "schedule") ≡ true
-    → statement_of line ≡ (if list_any is_empty (words_of rest) then None else Some (Schedule (words_of rest)))
-schedule_of_words line w rest e filled h =
-    ap (λ (words : List (List ℕ)). if list_any is_empty words then None else statement_of_words words) e
-    ∙ (rw (filled, some_words (words_of rest) w (has_word rest) h) refl)
+-- one too many, behind a word that stands alone or has one behind it
+pub alone_more : (s : Statement) (bs : List ℕ) → None ≡ said (Alone s) (words_of bs)
+alone_more s bs = let w = words_are bs in ap (said (Alone s)) (sym w.2)
+
+pub one_more : (f : List ℕ → Statement) (w bs : List ℕ) → None ≡ said (WithOne f) (w ∷ words_of bs)
+one_more f w bs = let v = words_are bs in ap (λ (ws : List (List ℕ)). said (WithOne f) (w ∷ ws)) (sym v.2)
+
+pub some_more : (f : List (List ℕ) → Statement) (bs : List ℕ) → Some (f (words_of bs)) ≡ said (WithSome f) (words_of bs)
+some_more f bs = let w = words_are bs in rw w.2 refl
+
+-- the first of two words, and of three
+pub two_more : (f : List ℕ → List ℕ → Statement) (w : List ℕ) (ws : List (List ℕ)) → said (WithOne (f w)) ws ≡ said (WithTwo f) (w ∷ ws)
+two_more f w [] = refl
+two_more f w (a ∷ []) = refl
+two_more f w (a ∷ b ∷ ws) = refl
+
+pub three_more : (f : List ℕ → List ℕ → List ℕ → Statement) (w : List ℕ) (ws : List (List ℕ)) → said (WithTwo (f w)) ws ≡ said (WithThree f) (w ∷ ws)
+three_more f w [] = refl
+three_more f w (a ∷ []) = refl
+three_more f w (a ∷ b ∷ []) = refl
+three_more f w (a ∷ b ∷ c ∷ ws) = refl

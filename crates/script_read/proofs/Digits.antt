@@ -5,7 +5,7 @@ use Rattle.std.proofs.lemmas.Bool.Decides.{nat_tests}
 use Rattle.std.proofs.lemmas.List.{take-append-drop}
 use Rattle.std.proofs.lemmas.List.Sums.{fold_more}
 use Rattle.lock_model.specs.Names.{is_digit}
-use Rattle.lock_model.specs.Script.{digits_value, is_numeral, number_of}
+use Rattle.lock_model.specs.Script.Lines.{digits_value, is_numeral, number_of}
 
 -- a number with these digits behind it
 abbrev digits_from : ℕ → List ℕ → ℕ

@@ -1,2 +1,5 @@
 mod Cuts
 mod Digits
+mod LineStages
+mod Rooms
+mod ToldLines

@@ -1,11 +1,12 @@
 //! Cutting a source into lines.
 ghost use Rattle.std.specs.Prelude.{◌≡◌, ℕ, ◌<◌, ◌++◌, ◌∷◌, [], length, IfSome, IfNone, MatchOption, position, ◌==◌};
-ghost use Rattle.lock_model.specs.Script.{lines_of};
+ghost use Rattle.lock_model.specs.Script.Lines.{lines_of};
 ghost use Rattle.script_read.specs.Reading.{Lacks};
 
 /// The first line and the bytes behind its end. `None` comes where no bytes are left.
 pub fn split_line(bytes: &[u8]) -> Option<(&[u8], &[u8])>
-    ensures lines { MatchOption result (lines_of bytes.now ≡ []) (λ cut. lines_of bytes.now ≡ cut.0.now ∷ lines_of cut.1.now) }
+    ensures lines { MatchOption result (lines_of bytes.now ≡ [])
+        (λ cut. lines_of bytes.now ≡ cut.0.now ∷ lines_of cut.1.now) }
     ensures shorter { IfSome result (λ cut. length cut.1.now < length bytes.now) }
 {
     if bytes.is_empty() {

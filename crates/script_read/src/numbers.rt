@@ -1,6 +1,6 @@
 //! Reading numbers: decimal digits without a sign and without leading zeros.
 ghost use Rattle.std.specs.Prelude.{◌≡◌, option_map};
-ghost use Rattle.lock_model.specs.Script.{number_of, priority_of};
+ghost use Rattle.lock_model.specs.Script.Lines.{number_of, priority_of};
 
 use lock_model::Prio;
 

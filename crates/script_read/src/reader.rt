@@ -1,21 +1,32 @@
-//! What the lines of a script have made known so far, and how each line adds to it.
-ghost use Rattle.std.specs.Prelude.{◌≡◌, ◌&&◌, is_none, position, option_and_then, option_map, if◌then◌else◌, Some, None, [], ◌∷◌};
-ghost use Rattle.lock_model.specs.Script.{nothing_known, declared_as, lock_named, is_new, judged, judged_line, judged_lines, lines_of, judged_mutex, judged_begin, judged_end, judged_schedule, with_scheduled, judged_done, judged_lock, judged_unlock, judged_set, judged_add, judged_get, judged_prio, judged_show, with_operation, thread_named, words_of, holds_lock, is_empty, is_fit, is_printable, plan_when_done};
-ghost use Rattle.std.specs.List.{list_all, list_any};
-ghost use Rattle.script_read.specs.Statements.{said};
-ghost use Rattle.script_read.specs.Readers.{known, with_name, Goes};
+//! What the lines of a script have made known so far, and what each line adds to it. A line is tested first, and then
+//! learnt; behind a fault nothing is read, so what is known then doesn't matter.
+#![tactic(auto, using(lock_model::proofs::LeastCodes::least_is_first))]
 
-use crate::fault::{ReadError, UNPLACED};
+ghost use Rattle.std.specs.Prelude.{◌≡◌, ◌<◌, None, Some, [], OnOk};
+ghost use Rattle.lock_model.specs.Limits.{most_operations};
+ghost use Rattle.lock_model.specs.Script.{reading_from};
+ghost use Rattle.lock_model.specs.Script.Faults.{line_fault, behind_line};
+ghost use Rattle.lock_model.specs.Script.Learning.{nothing_known, declared_as, with_operation};
+ghost use Rattle.lock_model.specs.Script.Lines.{lines_of, words_of};
+ghost use Rattle.lock_model.specs.Script.Statements.{Declares, Begins, Ends, Schedules, IsDone, Operates};
+ghost use Rattle.script_read.specs.Reading.{Goes, GoesBy, Tells};
+ghost use Rattle.script_read.specs.Readers.{known, with_name};
+ghost use Rattle.script_read.specs.Statements.{meant, meant_operation};
+
+use crate::fault::{Code, LineError, ReadError, ScriptFault, test};
 use crate::lines::split_line;
-use crate::numbers::{number_of, priority_of};
-use crate::statement::{Statement, statement_of};
+use crate::reader::stages::{has_meaning, test_bytes};
+use crate::statement::{Operation, Statement};
 use crate::words::cut_word;
 use indexmap::{IndexMap, IndexSet};
 use lock_model::{
-    ClassNo, Declared, Held, Kind, LockDecl, LockNo, Mode, Name, Op, Plan, Prio, Sequence,
-    ThreadDecl, ThreadNo, limits,
+    ClassNo, Declared, Held, Kind, LockDecl, LockNo, Name, Op, Plan, Prio, Sequence, ThreadDecl,
+    ThreadNo,
 };
-use std::alloc::Global;
+use std::alloc::{AllocError, Global};
+
+mod held;
+mod stages;
 
 /// What is known behind some lines.
 #[derive(Drop)]
@@ -57,38 +68,30 @@ impl Reader {
         }
     }
 
-    /// What all lines behind the header make known.
-    #[tactic(auto, unfolding(lock_model::specs::Script::judged_lines))]
-    pub fn of_lines(alloc: Global, lines: &[u8]) -> Result<Reader, ReadError>
-        ensures { Goes known result (judged_lines nothing_known (lines_of lines.now)) }
+    /// Reads all lines behind the header.
+    pub fn read(alloc: Global, lines: &[u8]) -> Result<Plan, ReadError>
+        ensures { Tells (reading_from 2 nothing_known (lines_of lines.now)) result }
     {
         let mut reader = Reader::new(alloc);
+        let mut number: u32 = 2;
         let mut rest = lines;
         while let Some((line, after)) = split_line(rest) {
-            reader.read_line(alloc, line)?;
+            if let Err(e) = reader.read_line(alloc, line) {
+                return Err(e.at(number));
+            }
+            number = number.saturating_add(1);
             rest = after;
         }
-        Ok(reader)
+        reader.into_plan(alloc, number)
     }
 
-    // What a line behind the header adds.
-    #[tactic(auto, unfolding(lock_model::specs::Script::judged_line))]
-    fn read_line(&mut self, alloc: Global, line: &[u8]) -> Result<(), ReadError>
-        ensures { Goes (λ _. known self.new) result (judged_line (known self.old) line.now) }
-    {
-        if !is_fit(line) || self.is_done {
-            return Err(ReadError::Script(UNPLACED));
-        }
-        let statement = statement_of(line).ok_or(UNPLACED)?;
-        self.apply(alloc, statement)
-    }
-
-    /// The plan, where `done` has come.
-    pub fn into_plan(self, alloc: Global) -> Result<Plan, ReadError>
-        ensures { Goes (λ plan. plan) result (plan_when_done (known self)) }
+    // The plan, where `done` has come; else the line with that number is lacking.
+    #[tactic(auto, unfolding(lock_model::specs::Script::reading_from))]
+    fn into_plan(self, alloc: Global, number: u32) -> Result<Plan, ReadError>
+        ensures { Tells (reading_from number (known self) []) result }
     {
         if !self.is_done {
-            return Err(ReadError::Script(UNPLACED));
+            return Err(LineError::Fault(Code::INSIDE).at(number));
         }
         Ok(Plan {
             classes: Sequence::from_vec(Vec::from_slice(alloc, self.classes.as_slice())?),
@@ -99,58 +102,53 @@ impl Reader {
         })
     }
 
-    // What a statement adds, where it may stand there.
-    fn apply(&mut self, alloc: Global, statement: Statement) -> Result<(), ReadError>
-        ensures { Goes (λ _. known self.new) result (judged (known self.old) (said statement.entry)) }
+    // Reads a line behind the header.
+    fn read_line(&mut self, alloc: Global, line: &[u8]) -> Result<(), LineError>
+        ensures { Goes (line_fault (known self.old) line.now) (behind_line (known self.old) line.now)
+            (known self.new) result }
+    {
+        test_bytes(line)?;
+        if !has_meaning(line) {
+            return Ok(());
+        }
+        let statement = self.test_words(line)?;
+        self.apply(alloc, statement)
+    }
+
+    // Reads what a line says.
+    fn apply(&mut self, alloc: Global, statement: Statement) -> Result<(), LineError>
+        ensures { GoesBy (known self.old) (meant statement.entry) (known self.new) result }
     {
         match statement {
-            Statement::Mutex { name, class } => self.mutex(name, class),
+            Statement::Lock { kind, name, class } => self.lock(kind, name, class),
             Statement::Thread { name, prio } => self.thread(alloc, name, prio),
             Statement::End => self.end(),
             Statement::Schedule { names } => self.schedule(names),
             Statement::Done => self.done(),
-            Statement::Lock { lock } => self.lock(lock),
-            Statement::Unlock { lock } => self.unlock(lock),
-            Statement::Set { lock, key, value } => self.set(lock, key, value),
-            Statement::Add { lock, key, amount } => self.add(lock, key, amount),
-            Statement::Get { lock, key } => self.get(lock, key),
-            Statement::Prio { prio } => self.prio(prio),
-            Statement::Show => self.show(),
+            Statement::Operation(operation) => self.operation(operation),
         }
     }
 
     // `mutex NAME CLASS` declares a lock.
-    fn mutex(&mut self, name: &[u8], class: &[u8]) -> Result<(), ReadError>
-        ensures { Goes (λ _. known self.new) result (judged_mutex (known self.old) name.now class.now) }
+    fn lock(&mut self, kind: Kind, name: &[u8], class: &[u8]) -> Result<(), LineError>
+        ensures { GoesBy (known self.old) (Declares kind name.now class.now) (known self.new) result }
     {
-        if !self.is_before_threads() || self.locks.len() >= limits::LOCKS {
-            return Err(ReadError::Script(UNPLACED));
-        }
-        let name = self.new_name(name).ok_or(UNPLACED)?;
-        let class = Name::of(class).ok_or(UNPLACED)?;
+        test(Code::LATE, self.is_before_threads())?;
+        let (name, class) = self.test_lock(kind, name, class)?;
         let (class, _) = self.classes.insert_full(class)?;
-        if class >= limits::CLASSES {
-            return Err(ReadError::Script(UNPLACED));
-        }
         let lock = LockNo(self.locks.len() as u8);
         self.declare(name, Declared::Lock(lock))?;
-        self.locks.push(LockDecl {
-            name,
-            kind: Kind::Mtx,
-            class: ClassNo(class as u8),
-        })?;
+        let class = ClassNo(class as u8);
+        self.locks.push(LockDecl { name, kind, class })?;
         Ok(())
     }
 
     // `thread NAME PRIO` begins a thread.
-    fn thread(&mut self, alloc: Global, name: &[u8], prio: &[u8]) -> Result<(), ReadError>
-        ensures { Goes (λ _. known self.new) result (judged_begin (known self.old) name.now prio.now) }
+    fn thread(&mut self, alloc: Global, name: &[u8], prio: &[u8]) -> Result<(), LineError>
+        ensures { GoesBy (known self.old) (Begins name.now prio.now) (known self.new) result }
     {
-        if self.open_thread.is_some() || self.threads.len() >= limits::THREADS {
-            return Err(ReadError::Script(UNPLACED));
-        }
-        let name = self.new_name(name).ok_or(UNPLACED)?;
-        let base = priority_of(prio).ok_or(UNPLACED)?;
+        test(Code::INSIDE, self.open_thread.is_none())?;
+        let (name, base) = self.test_thread(name, prio)?;
         let thread = ThreadNo(self.threads.len() as u8);
         self.declare(name, Declared::Thread(thread))?;
         self.open_thread = Some(OpenThread {
@@ -163,226 +161,75 @@ impl Reader {
     }
 
     // `end` ends the open thread.
-    fn end(&mut self) -> Result<(), ReadError>
-        ensures { Goes (λ _. known self.new) result (option_and_then (judged_end (known self.old)) (known self.old).open_thread) }
+    fn end(&mut self) -> Result<(), LineError>
+        ensures { GoesBy (known self.old) Ends (known self.new) result }
     {
-        match self.open_thread.take() {
-            Some(thread) if thread.held.is_empty() => {
-                self.threads.push(ThreadDecl {
-                    name: thread.name,
-                    base: thread.base,
-                    ops: Sequence::from_vec(thread.ops),
-                })?;
-                Ok(())
-            }
-            _ => Err(ReadError::Script(UNPLACED)),
-        }
+        let thread = self.open_thread.take().ok_or(Code::OUTSIDE)?;
+        test(Code::STILL_HELD, thread.held.is_empty())?;
+        self.threads.push(ThreadDecl {
+            name: thread.name,
+            base: thread.base,
+            ops: Sequence::from_vec(thread.ops),
+        })?;
+        Ok(())
     }
 
     // `schedule NAME ..` lets each of those threads have a turn, behind the turns of earlier lines.
-    fn schedule(&mut self, names: &[u8]) -> Result<(), ReadError>
-        ensures { Goes (λ _. known self.new) result (judged_schedule (known self.old) (words_of names.now)) }
+    fn schedule(&mut self, names: &[u8]) -> Result<(), LineError>
+        ensures { GoesBy (known self.old) (Schedules (words_of names.now)) (known self.new) result }
     {
-        if self.open_thread.is_some() {
-            return Err(ReadError::Script(UNPLACED));
-        }
+        test(Code::INSIDE, self.open_thread.is_none())?;
+        self.test_schedule(names)?;
         let mut rest = Some(names);
         while let Some(text) = rest {
             let (name, behind) = cut_word(text);
-            self.schedule_one(name)?;
+            if let Ok(thread) = self.thread_named(name) {
+                self.schedule.push(thread)?;
+            }
             rest = behind;
         }
         Ok(())
     }
 
-    // Lets a thread have a turn, behind all turns so far.
-    fn schedule_one(&mut self, name: &[u8]) -> Result<(), ReadError>
-        ensures { Goes (λ _. known self.new) result (with_scheduled (known self.old) (name.now ∷ [])) }
-    {
-        let thread = self.thread_named(name).ok_or(UNPLACED)?;
-        if self.schedule.len() >= limits::SCHEDULE {
-            return Err(ReadError::Script(UNPLACED));
-        }
-        self.schedule.push(thread)?;
-        Ok(())
-    }
-
     // `done` ends the script.
-    fn done(&mut self) -> Result<(), ReadError>
-        ensures { Goes (λ _. known self.new) result (judged_done (known self.old)) }
+    fn done(&mut self) -> Result<(), LineError>
+        ensures { GoesBy (known self.old) IsDone (known self.new) result }
     {
-        if self.open_thread.is_some() {
-            return Err(ReadError::Script(UNPLACED));
-        }
+        test(Code::INSIDE, self.open_thread.is_none())?;
         self.is_done = true;
         Ok(())
     }
 
-    // `lock L` takes a lock.
-    fn lock(&mut self, lock: &[u8]) -> Result<(), ReadError>
-        ensures { Goes (λ _. known self.new) result (option_and_then (judged_lock (known self.old) lock.now) (known self.old).open_thread) }
+    // An operation of the open thread.
+    fn operation(&mut self, operation: Operation) -> Result<(), LineError>
+        ensures { GoesBy (known self.old) (Operates (meant_operation operation.entry)) (known self.new) result }
     {
-        let l = self.lock_named(lock).ok_or(UNPLACED)?;
-        let thread = self.open_thread.as_mut().ok_or(UNPLACED)?;
-        if holds(l, &thread.held) || thread.held.len() >= limits::HELD {
-            return Err(ReadError::Script(UNPLACED));
-        }
-        let mode = Mode::Excl;
-        let by_try = false;
-        thread.held.push(Held { l, mode, by_try })?;
-        self.add_operation(Op::Take { l, mode })
-    }
-
-    // `unlock L` releases a lock.
-    fn unlock(&mut self, lock: &[u8]) -> Result<(), ReadError>
-        ensures { Goes (λ _. known self.new) result (option_and_then (judged_unlock (known self.old) lock.now) (known self.old).open_thread) }
-    {
-        let l = self.lock_named(lock).ok_or(UNPLACED)?;
-        let thread = self.open_thread.as_mut().ok_or(UNPLACED)?;
-        let place = place_held(l, &thread.held).ok_or(UNPLACED)?;
-        thread.held.remove(place);
-        self.add_operation(Op::Release { l })
-    }
-
-    // `set L KEY VALUE` writes a key of a lock's table.
-    fn set(&mut self, lock: &[u8], key: &[u8], value: &[u8]) -> Result<(), ReadError>
-        ensures { Goes (λ _. known self.new) result (option_and_then (judged_set (known self.old) lock.now key.now value.now) (known self.old).open_thread) }
-    {
-        let l = self.held_lock(lock).ok_or(UNPLACED)?;
-        let key = number_of(key).ok_or(UNPLACED)?;
-        let value = number_of(value).ok_or(UNPLACED)?;
-        self.add_operation(Op::Set { l, key, value })
-    }
-
-    // `add L KEY AMOUNT` adds to a key of a lock's table.
-    fn add(&mut self, lock: &[u8], key: &[u8], amount: &[u8]) -> Result<(), ReadError>
-        ensures { Goes (λ _. known self.new) result (option_and_then (judged_add (known self.old) lock.now key.now amount.now) (known self.old).open_thread) }
-    {
-        let l = self.held_lock(lock).ok_or(UNPLACED)?;
-        let key = number_of(key).ok_or(UNPLACED)?;
-        let amount = number_of(amount).ok_or(UNPLACED)?;
-        self.add_operation(Op::Add { l, key, amount })
-    }
-
-    // `get L KEY` reads a key of a lock's table.
-    fn get(&mut self, lock: &[u8], key: &[u8]) -> Result<(), ReadError>
-        ensures { Goes (λ _. known self.new) result (option_and_then (judged_get (known self.old) lock.now key.now) (known self.old).open_thread) }
-    {
-        let l = self.held_lock(lock).ok_or(UNPLACED)?;
-        let key = number_of(key).ok_or(UNPLACED)?;
-        self.add_operation(Op::Get { l, key })
-    }
-
-    // `prio PRIO` changes the thread's base priority.
-    fn prio(&mut self, prio: &[u8]) -> Result<(), ReadError>
-        ensures { Goes (λ _. known self.new) result (option_and_then (judged_prio (known self.old) prio.now) (known self.old).open_thread) }
-    {
-        let prio = priority_of(prio).ok_or(UNPLACED)?;
-        self.add_operation(Op::Base { prio })
-    }
-
-    // `show` notes the thread's priorities.
-    fn show(&mut self) -> Result<(), ReadError>
-        ensures { Goes (λ _. known self.new) result (option_and_then (judged_show (known self.old)) (known self.old).open_thread) }
-    {
-        self.add_operation(Op::Show)
-    }
-
-    // Adds an operation to the open thread's.
-    fn add_operation(&mut self, op: Op) -> Result<(), ReadError>
-        ensures { Goes (λ _. known self.new) result (option_and_then (λ t. with_operation (known self.old) t op t.held) (known self.old).open_thread) }
-    {
-        if self.operations >= limits::OPERATIONS {
-            return Err(ReadError::Script(UNPLACED));
-        }
-        let thread = self.open_thread.as_mut().ok_or(UNPLACED)?;
-        thread.ops.push(op)?;
-        self.operations += 1;
+        let thread = self.open_thread.as_ref().ok_or(Code::OUTSIDE)?;
+        let op = self.test_operation(thread, operation)?;
+        self.add_operation(op)?;
         Ok(())
     }
 
-    // Whether no thread has begun.
-    fn is_before_threads(&self) -> bool
-        ensures { result ≡ (is_none (known self.now).open_thread && is_empty (known self.now).threads) }
-    {
-        self.open_thread.is_none() && self.threads.is_empty()
-    }
-
-    // The name that a word spells, where it may be declared.
-    fn new_name(&self, word: &[u8]) -> Option<Name>
-        ensures { result ≡ (if is_new (known self.now) word.now then Some word.now else None) }
-    {
-        Name::of(word).filter(|name| !self.names.contains_key(name))
-    }
-
     // Declares a new name.
-    fn declare(&mut self, name: Name, declared: Declared) -> Result<(), ReadError>
+    fn declare(&mut self, name: Name, declared: Declared) -> Result<(), AllocError>
         requires { declared_as (known self.old) name ≡ None }
-        ensures { Goes (λ _. known self.new) result (Some (with_name (known self.old) name declared)) }
+        ensures { OnOk result (known self.new ≡ with_name (known self.old) name declared) }
     {
         self.names.insert(name, declared)?;
         Ok(())
     }
 
-    // The lock that a word names, where the open thread holds it.
-    fn held_lock(&self, word: &[u8]) -> Option<LockNo>
-        ensures { result ≡ option_and_then (λ t. option_and_then (λ l. if list_any (holds_lock l) t.held then Some l else None) (lock_named (known self.now) word.now)) (known self.now).open_thread }
+    // Adds an operation to the open thread's.
+    fn add_operation(&mut self, op: Op) -> Result<(), AllocError>
+        requires { (known self.old).operations < most_operations }
+        ensures { OnOk result (known self.new
+            ≡ with_operation (known self.old) (known self.old).open_thread (Some op)) }
     {
-        let thread = self.open_thread.as_ref()?;
-        self.lock_named(word).filter(|l| holds(*l, &thread.held))
-    }
-
-    // The lock that a word names.
-    fn lock_named(&self, word: &[u8]) -> Option<LockNo>
-        ensures { result ≡ lock_named (known self.now) word.now }
-    {
-        match self.names.get(&Name::of(word)?)? {
-            Declared::Lock(l) => Some(*l),
-            _ => None,
+        if let Some(thread) = self.open_thread.as_mut() {
+            held::hold_behind(&mut thread.held, op)?;
+            thread.ops.push(op)?;
+            self.operations += 1;
         }
+        Ok(())
     }
-
-    // The thread that a word names.
-    fn thread_named(&self, word: &[u8]) -> Option<ThreadNo>
-        ensures { result ≡ thread_named (known self.now) word.now }
-    {
-        match self.names.get(&Name::of(word)?)? {
-            Declared::Thread(t) => Some(*t),
-            _ => None,
-        }
-    }
-}
-
-// Where a lock stands among those that are held.
-fn place_held(l: LockNo, held: &[Held]) -> Option<usize>
-    ensures { result ≡ position (holds_lock l) held.now }
-{
-    held.iter().position(|h| h.l == l)
-}
-
-// Whether a lock is held.
-fn holds(l: LockNo, held: &[Held]) -> bool
-    ensures { result ≡ list_any (holds_lock l) held.now }
-{
-    held.iter().any(|h| h.l == l)
-}
-
-// Whether a line isn't too long, and each byte of it may stand in a script.
-fn is_fit(line: &[u8]) -> bool
-    ensures { result ≡ is_fit line.now }
-{
-    line.len() <= limits::LINE_BYTES && are_printable(line)
-}
-
-fn are_printable(bytes: &[u8]) -> bool
-    ensures { result ≡ list_all is_printable bytes.now }
-{
-    bytes.iter().all(|b| is_printable(*b))
-}
-
-// From a space to `~`.
-fn is_printable(b: u8) -> bool
-    ensures { result ≡ is_printable b }
-{
-    b == b' ' || b.is_ascii_graphic()
 }

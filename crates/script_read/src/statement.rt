@@ -1,32 +1,25 @@
-//! What a line says, by its first word and the number of its words.
-ghost use Rattle.std.specs.Prelude.{◌≡◌, [], ◌∷◌, Some, None, option_map, if◌then◌else◌};
-ghost use Rattle.std.specs.List.{list_any};
-ghost use Rattle.lock_model.specs.Script.{Schedule, statement_of, statement_of_one, statement_of_more, words_of, is_empty};
-ghost use Rattle.script_read.specs.Statements.{said};
+//! What a line says, by its first word and the number of words behind it.
+ghost use Rattle.std.specs.Prelude.{◌≡◌, ℕ, List, option_map, option_copied};
+ghost use Rattle.lock_model.specs.Script.Statements as script;
+ghost use Rattle.lock_model.specs.Script.Statements.{Alone, WithOne, WithTwo, WithThree, WithSome, form_of, said, statement_of};
+ghost use Rattle.script_read.specs.Reading.{words_behind};
+ghost use Rattle.script_read.specs.Statements.{form, meant};
+ghost use Rattle.lock_model.specs.Script.Lines.{words_of};
 
-use crate::words::{has_empty_word, is_word, split_word};
+use crate::words::{cut_word, has_empty_word, is_word};
+use lock_model::{Kind, Mode};
 
-/// A line's meaning, with its words as they stand there.
+/// An operation, with its words as they stand there.
 #[derive(Clone, Copy)]
-pub enum Statement<'a> {
-    Mutex {
-        name: &'a [u8],
-        class: &'a [u8],
-    },
-    Thread {
-        name: &'a [u8],
-        prio: &'a [u8],
-    },
-    End,
-    /// The words behind the first one, with one space between them. None is empty.
-    Schedule {
-        names: &'a [u8],
-    },
-    Done,
-    Lock {
+pub enum Operation<'a> {
+    Take {
+        kind: Kind,
+        mode: Mode,
         lock: &'a [u8],
     },
-    Unlock {
+    Release {
+        kind: Kind,
+        mode: Mode,
         lock: &'a [u8],
     },
     Set {
@@ -49,108 +42,180 @@ pub enum Statement<'a> {
     Show,
 }
 
-/// What a line says. `None` comes where a word is empty, the first word unknown or their number wrong.
+/// A line's meaning, with its words as they stand there.
+#[derive(Clone, Copy)]
+pub enum Statement<'a> {
+    Lock {
+        kind: Kind,
+        name: &'a [u8],
+        class: &'a [u8],
+    },
+    Thread {
+        name: &'a [u8],
+        prio: &'a [u8],
+    },
+    End,
+    /// The words behind the first one, with one space between them.
+    Schedule {
+        names: &'a [u8],
+    },
+    Done,
+    Operation(Operation<'a>),
+}
+
+/// A first word.
+#[derive(Clone, Copy)]
+enum Verb {
+    Mutex,
+    Thread,
+    End,
+    Schedule,
+    Done,
+    Lock,
+    Unlock,
+    Set,
+    Add,
+    Get,
+    Prio,
+    Show,
+}
+
+/// What a line says. `None` comes where a word is empty, the first word unknown or the number of words wrong.
 pub fn statement_of(line: &[u8]) -> Option<Statement<'_>>
-    ensures { option_map said result ≡ statement_of line.now }
+    ensures { option_map meant result ≡ statement_of line.now }
 {
-    let (verb, rest) = split_word(line)?;
-    let Some(rest) = rest else {
-        return of_one_word(verb);
-    };
-    if is_word(verb, "schedule") {
-        return of_schedule(rest);
+    if has_empty_word(line) {
+        return None;
     }
-    let (first, rest) = split_word(rest)?;
-    let Some(rest) = rest else {
-        return of_two_words(verb, first);
-    };
-    let (second, rest) = split_word(rest)?;
-    let Some(rest) = rest else {
-        return of_three_words(verb, first, second);
-    };
-    let (third, rest) = split_word(rest)?;
+    let (word, rest) = cut_word(line);
+    verb_of(word)?.with_words(rest)
+}
+
+// The first word that it is, if it is known.
+fn verb_of(word: &[u8]) -> Option<Verb>
+    ensures { option_map form result ≡ form_of word.now }
+{
+    if is_word(word, "mutex") {
+        Some(Verb::Mutex)
+    } else if is_word(word, "thread") {
+        Some(Verb::Thread)
+    } else if is_word(word, "end") {
+        Some(Verb::End)
+    } else if is_word(word, "schedule") {
+        Some(Verb::Schedule)
+    } else if is_word(word, "done") {
+        Some(Verb::Done)
+    } else if is_word(word, "lock") {
+        Some(Verb::Lock)
+    } else if is_word(word, "unlock") {
+        Some(Verb::Unlock)
+    } else if is_word(word, "set") {
+        Some(Verb::Set)
+    } else if is_word(word, "add") {
+        Some(Verb::Add)
+    } else if is_word(word, "get") {
+        Some(Verb::Get)
+    } else if is_word(word, "prio") {
+        Some(Verb::Prio)
+    } else if is_word(word, "show") {
+        Some(Verb::Show)
+    } else {
+        None
+    }
+}
+
+impl Verb {
+    // What it says with what stands behind it.
+    fn with_words<'a>(self, rest: Option<&'a [u8]>) -> Option<Statement<'a>>
+        ensures { option_map meant result
+            ≡ said (form self) (words_behind (option_copied rest.entry)) }
+    {
+        match self {
+            Verb::Mutex => {
+                let (name, class) = two_words(rest)?;
+                let kind = Kind::Mtx;
+                Some(Statement::Lock { kind, name, class })
+            }
+            Verb::Thread => {
+                let (name, prio) = two_words(rest)?;
+                Some(Statement::Thread { name, prio })
+            }
+            Verb::End => no_word(rest, Statement::End),
+            Verb::Schedule => Some(Statement::Schedule { names: rest? }),
+            Verb::Done => no_word(rest, Statement::Done),
+            Verb::Lock => {
+                let lock = one_word(rest)?;
+                let (kind, mode) = (Kind::Mtx, Mode::Excl);
+                Some(Statement::Operation(Operation::Take { kind, mode, lock }))
+            }
+            Verb::Unlock => {
+                let lock = one_word(rest)?;
+                let (kind, mode) = (Kind::Mtx, Mode::Excl);
+                Some(Statement::Operation(Operation::Release { kind, mode, lock }))
+            }
+            Verb::Set => {
+                let (lock, key, value) = three_words(rest)?;
+                Some(Statement::Operation(Operation::Set { lock, key, value }))
+            }
+            Verb::Add => {
+                let (lock, key, amount) = three_words(rest)?;
+                Some(Statement::Operation(Operation::Add { lock, key, amount }))
+            }
+            Verb::Get => {
+                let (lock, key) = two_words(rest)?;
+                Some(Statement::Operation(Operation::Get { lock, key }))
+            }
+            Verb::Prio => {
+                let prio = one_word(rest)?;
+                Some(Statement::Operation(Operation::Prio { prio }))
+            }
+            Verb::Show => no_word(rest, Statement::Operation(Operation::Show)),
+        }
+    }
+}
+
+// A statement that has no word behind its first one.
+fn no_word<'a>(rest: Option<&[u8]>, statement: Statement<'a>) -> Option<Statement<'a>>
+    ensures { option_map meant result
+        ≡ said (Alone (meant statement.entry)) (words_behind (option_copied rest.entry)) }
+{
     match rest {
-        None => of_four_words(verb, first, second, third),
+        None => Some(statement),
         Some(_) => None,
     }
 }
 
-// What a line says whose first word is `schedule`, with these words behind it.
-fn of_schedule(names: &[u8]) -> Option<Statement<'_>>
-    ensures { option_map said result ≡ (if list_any is_empty (words_of names.now) then None else Some (Schedule (words_of names.now))) }
+// The one word behind the first.
+fn one_word(rest: Option<&[u8]>) -> Option<&[u8]>
+    ensures { (f : List ℕ → script.Statement) →
+        option_map (λ w. f w.now) result
+        ≡ said (WithOne f) (words_behind (option_copied rest.entry)) }
 {
-    if has_empty_word(names) {
-        return None;
-    }
-    Some(Statement::Schedule { names })
-}
-
-fn of_one_word(verb: &[u8]) -> Option<Statement<'_>>
-    ensures { option_map said result ≡ statement_of_one verb.now }
-{
-    if is_word(verb, "end") {
-        Some(Statement::End)
-    } else if is_word(verb, "done") {
-        Some(Statement::Done)
-    } else if is_word(verb, "show") {
-        Some(Statement::Show)
-    } else {
-        None
+    let (word, behind) = cut_word(rest?);
+    match behind {
+        None => Some(word),
+        Some(_) => None,
     }
 }
 
-fn of_two_words<'a>(verb: &[u8], other: &'a [u8]) -> Option<Statement<'a>>
-    ensures { option_map said result ≡ statement_of_more verb.now other.now [] }
+// The two words behind the first.
+fn two_words(rest: Option<&[u8]>) -> Option<(&[u8], &[u8])>
+    ensures { (f : List ℕ → List ℕ → script.Statement) →
+        option_map (λ p. f p.0.now p.1.now) result
+        ≡ said (WithTwo f) (words_behind (option_copied rest.entry)) }
 {
-    if is_word(verb, "lock") {
-        Some(Statement::Lock { lock: other })
-    } else if is_word(verb, "unlock") {
-        Some(Statement::Unlock { lock: other })
-    } else if is_word(verb, "prio") {
-        Some(Statement::Prio { prio: other })
-    } else {
-        None
-    }
+    let (first, behind) = cut_word(rest?);
+    let second = one_word(behind)?;
+    Some((first, second))
 }
 
-fn of_three_words<'a>(verb: &[u8], name: &'a [u8], other: &'a [u8]) -> Option<Statement<'a>>
-    ensures { option_map said result ≡ statement_of_more verb.now name.now (other.now ∷ []) }
+// The three words behind the first.
+fn three_words(rest: Option<&[u8]>) -> Option<(&[u8], &[u8], &[u8])>
+    ensures { (f : List ℕ → List ℕ → List ℕ → script.Statement) →
+        option_map (λ p. f p.0.now p.1.now p.2.now) result
+        ≡ said (WithThree f) (words_behind (option_copied rest.entry)) }
 {
-    if is_word(verb, "mutex") {
-        Some(Statement::Mutex { name, class: other })
-    } else if is_word(verb, "thread") {
-        Some(Statement::Thread { name, prio: other })
-    } else if is_word(verb, "get") {
-        Some(Statement::Get {
-            lock: name,
-            key: other,
-        })
-    } else {
-        None
-    }
-}
-
-fn of_four_words<'a>(
-    verb: &[u8],
-    lock: &'a [u8],
-    key: &'a [u8],
-    number: &'a [u8],
-) -> Option<Statement<'a>>
-    ensures { option_map said result ≡ statement_of_more verb.now lock.now (key.now ∷ number.now ∷ []) }
-{
-    if is_word(verb, "set") {
-        Some(Statement::Set {
-            lock,
-            key,
-            value: number,
-        })
-    } else if is_word(verb, "add") {
-        Some(Statement::Add {
-            lock,
-            key,
-            amount: number,
-        })
-    } else {
-        None
-    }
+    let (first, behind) = cut_word(rest?);
+    let (second, third) = two_words(behind)?;
+    Some((first, second, third))
 }

@@ -1,23 +1,11 @@
 //! Cutting a line into words, with one space between them.
-ghost use Rattle.std.specs.Prelude.{◌≡◌, ◌∷◌, option_copied, IfSome, IfNone, true, false};
-ghost use Rattle.lock_model.specs.Script.{words_of, is_same, is_empty};
+ghost use Rattle.std.specs.Prelude.{◌≡◌, ◌∷◌, option_copied};
+ghost use Rattle.lock_model.specs.Script.Lines.{words_of, is_same};
+ghost use Rattle.lock_model.specs.Counts.{is_empty};
 ghost use Rattle.std.specs.List.{list_any};
 ghost use Rattle.script_read.specs.Reading.{words_behind};
 
 use crate::lines::split_at_byte;
-
-/// The first word, and what stands behind the space after it, if there is one. `None` comes where the word is empty.
-pub fn split_word(text: &[u8]) -> Option<(&[u8], Option<&[u8]>)>
-    ensures words { IfSome result (λ cut. words_of text.now ≡ cut.0.now ∷ words_behind (option_copied cut.1)) }
-    ensures filled { IfSome result (λ cut. is_empty cut.0.now ≡ false) }
-    ensures empty { IfNone result (list_any is_empty (words_of text.now) ≡ true) }
-{
-    let (word, rest) = cut_word(text);
-    if word.is_empty() {
-        return None;
-    }
-    Some((word, rest))
-}
 
 /// The first word, which may be empty, and what stands behind the space after it, if there is one.
 pub fn cut_word(text: &[u8]) -> (&[u8], Option<&[u8]>)

@@ -17,11 +17,13 @@ use Rattle.lock_model.specs.Words.{word_of, free_word}
 use Rattle.lock_model.specs.declared.numbers.LockNo.{LockNo}
 use Rattle.lock_model.specs.declared.plan.Plan.{Plan}
 use Rattle.lock_model.specs.declared.plan.ThreadDecl.{ThreadDecl}
-use Rattle.thread_records.specs.Loans.{loan_for, loans_for}
-use Rattle.thread_records.specs.Records.{Record}
+use Rattle.thread_records.specs.Loans.{loans_for}
+use Rattle.thread_records.specs.Records.{Record, made}
 use Rattle.turnstile_core.specs.Seen.{Place}
 use Rattle.step_world.specs.Runs.{AreNew, RepresentsRun}
-use Rattle.step_world.specs.Represents.{Represents, RepresentsWords, RepresentsThread, RepresentsThreads, wait_of, walk_of, loan_of, mark_of, holds_of}
+use Rattle.lock_objects.specs.Held.{holds_of}
+use Rattle.lock_objects.specs.Represents.{columns_of, mark_of, walk_of}
+use Rattle.step_world.specs.Represents.{Represents, RepresentsWords, RepresentsThread, RepresentsThreads, wait_of}
 use Rattle.step_world.specs.Steps.{progress}
 use Rattle.step_world.specs.Threads.{IsNew}
 use Rattle.step_world.specs.declared.machine.Machine.{Machine}
@@ -57,26 +59,23 @@ new_pushed decls ths n th d long at new each t u e is_u is_e =
 -- 2. The machine
 
 -- what a new thread shows
-shown : (plan : Plan) (chains : ℕ) (t : ℕ) (th : Thread) (d : ThreadDecl) → slice_get plan.threads t ≡ Some d → IsNew t d.base.0 th → RepresentsThread th (start_state (config_of plan chains)) t
+shown : (plan : Plan) (t : ℕ) (th : Thread) (d : ThreadDecl) → slice_get plan.threads t ≡ Some d → IsNew t d.base.0 th → RepresentsThread th (start_state (config_of plan)) t
 unfolding start_state
-shown plan chains t th d at new =
+shown plan t th d at new =
     let base : d.base.0 ≡ declared_base plan t = sym (ap (λ o. unwrap_or o 0) (slice_get-map (λ (e : ThreadDecl). e.base.0) plan.threads t ∙ ap (option_map (λ (e : ThreadDecl). e.base.0)) at)) in
     record {
-      number = ap (λ (r : Record). r.thread) new.its_record;
-      base = ap (λ (r : Record). r.base) new.its_record ∙ base;
-      effective = ap (λ (r : Record). r.effective) new.its_record ∙ base;
-      turnstile = ap (λ (r : Record). r.turnstile) new.its_record;
-      loans = λ l. ap (λ (r : Record). option_map loan_of (loan_for l r.loans)) new.its_record;
+      columns = λ i. record {
+        its_record = (ap columns_of new.its_record ∙ (λ j. record (columns_of (made t d.base.0)) { base = base j; effective = base j })) i;
+        wait = wait_of (new.running i);
+        walk = walk_of (new.no_walk i);
+        wanted = option_map (λ (l : LockNo). l.0) (new.wants_none i);
+        held = hold_in (new.holds_none i);
+        marked = map (mark_of th.marked_from) (new.unmarked i);
+      };
       one_loan_each = λ l. omega (arith, ap (λ (r : Record). loans_for l r.loans) new.its_record);
-      blocked_on = ap (λ (r : Record). r.on) new.its_record;
-      wait = ap wait_of new.running;
-      walk = ap walk_of new.no_walk;
-      wanted = ap (option_map (λ (l : LockNo). l.0)) new.wants_none;
-      held = λ l. ap (λ hs. hold_in hs l) new.holds_none;
-      held_once = λ l. omega (arith, ap (λ hs. holds_of l hs) new.holds_none);
-      held_room = new.held_room;
-      marked = ap (map (mark_of (lock_queue th.marked_from.0))) new.unmarked;
-      filled = rw new.unmarked (All-nil (λ (p : Place). IsSome p.turnstile));
+      held = record { once = λ l. omega (arith, ap (λ hs. holds_of l hs) new.holds_none); room = new.held_room };
+      marked = record { filled = rw new.unmarked (All-nil (λ (p : Place). IsSome p.turnstile)); off = λ some. absurd (some new.unmarked) };
+      woken = rw new.running tt;
     }
 
 -- the declaration of a thread
@@ -97,9 +96,9 @@ pub record IsBegun (plan : Plan) (m : Machine) : Type 0 where
   pub no_key : m.tables.present ≡ empty
   pub keys : (l key : ℕ) → IsTrue (plan_names plan l key) → Contains m.tables.places (l, key)
 
-module _ (plan : Plan) (m : Machine) (chains : ℕ) (p : IsProper plan) (b : IsBegun plan m) where
+module _ (plan : Plan) (m : Machine) (p : IsProper plan) (b : IsBegun plan m) where
   abbrev c : Config
-  c = config_of plan chains
+  c = config_of plan
 
   words : RepresentsWords m.words.items c (λ l. free_word)
   words = record {
@@ -112,7 +111,7 @@ module _ (plan : Plan) (m : Machine) (chains : ℕ) (p : IsProper plan) (b : IsB
     threads = b.new.number;
     thread = λ t th e.
         let d = decl_of plan.threads m.threads.items t b.new (slice_get_within m.threads.items t th e) in
-        shown plan chains t th d.0 d.1 (b.new.each t th d.0 e d.1);
+        shown plan t th d.0 d.1 (b.new.each t th d.0 e d.1);
   }
 
   shows : Represents c m (start_state c)
@@ -120,13 +119,13 @@ module _ (plan : Plan) (m : Machine) (chains : ℕ) (p : IsProper plan) (b : IsB
   shows = record {
     within = record { few_locks = p.locks; few_threads = p.threads; mutexes = p.mutexes };
     words = words;
-    queues = λ l. rw b.no_queue refl;
+    queues = record { lock = λ l k. rw b.no_queue refl };
     threads = threads;
     history = b.no_entry;
     tables = b.no_key;
   }
 
-  its_aside : (t : ℕ) → t < length plan.threads → progress m t ≡ Some (record { place = 0; held = [] })
+  its_aside : (t : ℕ) → t < length plan.threads → progress m t ≡ Some (record { next_op = 0; held = [] })
   its_aside t l =
       elim ((slice_get_cases m.threads.items t).1) [
         | inl h ↦
@@ -136,7 +135,7 @@ module _ (plan : Plan) (m : Machine) (chains : ℕ) (p : IsProper plan) (b : IsB
         | inr h ↦ absurd (omega (arith, h.0, l, b.new.number))
       ]
 
-  pub begun : RepresentsRun plan chains m (start_run c)
+  pub begun : RepresentsRun plan m (start_run c)
   unfolding start_state
   begun = record {
     shows = shows;

@@ -1,16 +1,21 @@
 -- How the parts of a machine show a state's columns when one thread or one word changes.
-use Rattle.std.proofs.Common.{◌≡◌, ◌≢◌, ℕ, ◌<◌, ◌==◌, if◌then◌else◌, List, length, slice_set, slice_index_or, get_or, slice_get, Some, option_map, refl, sym, ap, subst, inl, inr, ◌∙◌}
+use Rattle.std.proofs.Common.{◌≡◌, ◌≢◌, ℕ, ◌<◌, ◌==◌, if◌then◌else◌, List, length, slice_set, slice_index_or, get_or, slice_get, Some, option_map, refl, sym, ap, subst, inl, inr, arith, ◌∙◌}
 use Rattle.std.proofs.lemmas.Bool.{cases_eq, cases_lt, eq-eqb, ne_eqb}
-use Rattle.std.proofs.lemmas.List.{get_or-set_same, get_or-set_other, length-set}
+use Rattle.std.proofs.lemmas.List.{get_or-set_same, get_or-set_other, length-set, get_or_read}
 use Rattle.std.proofs.lemmas.Option.{slice_get-get_or, slice_get_within, slice_get_past, slice_get_read, same_Some}
-use Rattle.lock_model.specs.Words.{Word, word_of}
+use Rattle.std.specs.Box.{with_value}
+use Rattle.lock_model.specs.Words.{Word, word_of, IsPossible}
 use Rattle.lock_model.specs.Config.{Config}
 use Rattle.lock_state.specs.State.{State, put}
+use Rattle.lock_state.specs.Facts.{Lawful}
 use Rattle.lock_laws.proofs.Kit.{put_same, put_other}
+use Rattle.lock_laws.proofs.WordsAndHeads.{possible_holder}
+use Rattle.thread_records.specs.Records.{Record}
+use Rattle.lock_objects.specs.Represents.{RepresentsRecord, record_in}
 use Rattle.step_world.specs.declared.thread.Thread.{Thread}
 use Rattle.step_world.specs.Steps.{Progress, progress_of}
 use Rattle.step_world.specs.declared.machine.Machine.{Machine}
-use Rattle.step_world.specs.Represents.{Represents, RepresentsWords, RepresentsThread, RepresentsThreads}
+use Rattle.step_world.specs.Represents.{Represents, RepresentsWords, RepresentsThread, RepresentsThreads, thread_in}
 
 -- 1. Lists
 
@@ -28,51 +33,30 @@ set_other xs i j x n =
 
 -- 2. Threads
 
--- what the columns say of a thread stays
-pub record SameAt (s n : State) (u : ℕ) : Type 0 where
-  pub base : n.base u ≡ s.base u
-  pub effective : n.effective u ≡ s.effective u
-  pub turnstile : n.turnstile u ≡ s.turnstile u
-  pub loan : (l : ℕ) → n.loan u l ≡ s.loan u l
-  pub blocked_on : n.blocked_on u ≡ s.blocked_on u
-  pub wait : n.wait u ≡ s.wait u
-  pub walk : n.walk u ≡ s.walk u
-  pub wanted : n.wanted u ≡ s.wanted u
-  pub held : (l : ℕ) → n.held u l ≡ s.held u l
-  pub marked : n.marked u ≡ s.marked u
+-- of all threads but one the columns stay
+abbrev pub OthersStay : State → State → ℕ → Type 0
+OthersStay s n t = (u : ℕ) → u ≢ t → thread_in n u ≡ thread_in s u
 
-pub stays : (th : Thread) (s n : State) (u : ℕ) → SameAt s n u → RepresentsThread th s u → RepresentsThread th n u
-stays th s n u e h = record {
-  number = h.number;
-  base = h.base ∙ sym e.base;
-  effective = h.effective ∙ sym e.effective;
-  turnstile = h.turnstile ∙ sym e.turnstile;
-  loans = λ l. h.loans l ∙ sym (e.loan l);
-  one_loan_each = h.one_loan_each;
-  blocked_on = h.blocked_on ∙ sym e.blocked_on;
-  wait = h.wait ∙ sym e.wait;
-  walk = h.walk ∙ sym e.walk;
-  wanted = h.wanted ∙ sym e.wanted;
-  held = λ l. h.held l ∙ sym (e.held l);
-  held_once = h.held_once;
-  held_room = h.held_room;
-  marked = h.marked ∙ sym e.marked;
-  filled = h.filled;
-}
+pub stays : {th : Thread} {s n : State} {u : ℕ} → thread_in n u ≡ thread_in s u → RepresentsThread th s u → RepresentsThread th n u
+stays e h = record { columns = h.columns ∙ sym e; one_loan_each = h.one_loan_each; held = h.held; marked = h.marked; woken = h.woken }
 
--- one thread changes, and of the others the columns stay
-pub thread_changed : (ths : List Thread) (c : Config) (s n : State) (t : ℕ) (th : Thread) → RepresentsThreads ths c s → t < c.threads → RepresentsThread th n t → ((u : ℕ) → u ≢ t → SameAt s n u) → RepresentsThreads (slice_set ths t th) c n
-thread_changed ths c s n t th h l new same = record {
+-- one thread changes
+pub thread_changed : {ths : List Thread} {c : Config} {s : State} {t : ℕ} (n : State) (th : Thread) → RepresentsThreads ths c s → t < c.threads → RepresentsThread th n t → OthersStay s n t → RepresentsThreads (slice_set ths t th) c n
+thread_changed {ths = ths} {c = c} {s = s} {t = t} n th h l new same = record {
   threads = length-set ths t th ∙ h.threads;
   thread = λ u old e. elim (cases_eq u t) [
     | inl i ↦ subst (λ (v : ℕ). RepresentsThread old n v) (sym i) (subst (λ (o : Thread). RepresentsThread o n t) (same_Some th old (sym (set_same ths t th (rw h.threads l)) ∙ ap (slice_get (slice_set ths t th)) (sym i) ∙ e)) new)
-    | inr i ↦ stays old s n u (same u i) (h.thread u old (sym (set_other ths t u th i) ∙ e))
+    | inr i ↦ stays (same u i) (h.thread u old (sym (set_other ths t u th i) ∙ e))
   ];
 }
 
 -- no column of a thread changes
-pub threads_stay : (ths : List Thread) (c : Config) (s n : State) → RepresentsThreads ths c s → ((u : ℕ) → SameAt s n u) → RepresentsThreads ths c n
-threads_stay ths c s n h same = record { threads = h.threads; thread = λ u th e. stays th s n u (same u) (h.thread u th e) }
+pub threads_stay : {ths : List Thread} {c : Config} {s : State} (n : State) → RepresentsThreads ths c s → ((u : ℕ) → thread_in n u ≡ thread_in s u) → RepresentsThreads ths c n
+threads_stay n h same = record { threads = h.threads; thread = λ u th e. stays (same u) (h.thread u th e) }
+
+-- the record of a thread
+pub record_of : {th : Thread} {s : State} {t : ℕ} → RepresentsThread th s t → RepresentsRecord th.record.value (record_in s t)
+record_of h = record { columns = ap (λ x. x.its_record) h.columns; one_loan_each = h.one_loan_each }
 
 -- 3. Words
 
@@ -85,6 +69,15 @@ word_changed ws c column l w v h i e = record {
     | inr a ↦ ap word_of (get_or-set_other ws l k w 0 a) ∙ h.word k j ∙ sym (put_other column l v k (λ b. a (sym b)))
   ];
 }
+
+-- the word that was read at the place of a number
+pub word_read : (ws : List ℕ) (c : Config) (column : ℕ → Word) (l i w : ℕ) → i ≡ l → RepresentsWords ws c column → l < c.locks → w ≡ get_or ws i w → word_of w ≡ column l
+word_read ws c column l i w e h k is = ap word_of (get_or_read ws l w (subst (λ n. l < n) (sym h.locks) k) (is ∙ ap (λ (j : ℕ). get_or ws j w) e) 0) ∙ h.word l k
+
+-- it can be
+pub possible_read : {m : Machine} {c : Config} {s : State} (l i w : ℕ) → Represents c m s → Lawful c s → l < c.locks → i ≡ l → w ≡ get_or m.words.items i w → IsPossible (word_of w).holder
+possible_read {m = m} {c = c} {s = s} l i w h lawful lt e is =
+    subst (λ v. IsPossible v.holder) (sym (word_read m.words.items c s.word l i w e h.words lt is)) (possible_holder c s l lawful (omega (arith, h.within.few_threads)))
 
 -- 4. What no column tells
 
@@ -111,5 +104,5 @@ pub thread_at : (ths : List Thread) (t : ℕ) (d : Thread) → t < length ths �
 thread_at ths t d l = slice_get-get_or ths t d l
 
 -- the thread that was read at the place of a number
-pub read : (m : Machine) (c : Config) (s : State) (t i : ℕ) (th : Thread) → i ≡ t → Represents c m s → t < c.threads → th ≡ get_or m.threads.items i th → slice_get m.threads.items t ≡ Some th
-read m c s t i th e h l is = slice_get_read m.threads.items c.threads t th (sym h.threads.threads) l (is ∙ ap (λ (j : ℕ). get_or m.threads.items j th) e)
+pub read : {ths : List Thread} {c : Config} {s : State} (t i : ℕ) (th : Thread) → RepresentsThreads ths c s → t < c.threads → i ≡ t → th ≡ get_or ths i th → slice_get ths t ≡ Some th
+read {ths = ths} {c = c} t i th h l e is = slice_get_read ths c.threads t th (sym h.threads) l (is ∙ ap (λ (j : ℕ). get_or ths j th) e)

@@ -1,14 +1,8 @@
-pub mod Chains
-pub mod Lists
-pub mod Loans
 pub mod Beginning
 pub mod Kit
 pub mod Waking
-pub mod HeadsInChains
-pub mod Lending
 pub mod Marking
-pub mod Sorting
-pub mod KitOfQueues
+pub mod Walking
 pub mod Blocking
 pub mod Ending
 pub mod Holding
@@ -20,7 +14,6 @@ pub mod RowsOfNotes
 pub mod RowsOfTakes
 pub mod RowsOfReleases
 pub mod RowsOfOperations
-pub mod RowsOfWaits
 pub mod WorldsAreSound
 pub mod RowsOfWalks
 pub mod RowsOfTurns

@@ -1,38 +1,30 @@
 -- The row of the table for an operation that only makes an entry.
-use Rattle.std.proofs.Common.{◌≡◌, ◌≢◌, ℕ, suc, ◌<◌, ◌≤◌, Bool, true, false, cond, ◌&&◌, List, [], ◌∷◌, length, slice_get, Option, Some, None, option_map, refl, ap, subst, eq-eqb, ◌∙◌}
+use Rattle.std.proofs.Common.{◌≡◌, ℕ, suc, ◌<◌, ◌≤◌, Bool, true, cond, ◌&&◌, List, [], ◌∷◌, length, slice_get, Option, Some, None, option_map, refl, sym, ap, subst, eq-eqb, ◌∙◌}
 use Rattle.std.specs.Prelude.{IsTrue, IfSome, unwrap_or, ◌==◌}
 use Rattle.std.specs.List.{list_any, Contains}
-use Rattle.std.proofs.lemmas.Option.{none-some, slice_get-map, slice_get_within}
+use Rattle.std.proofs.lemmas.Option.{none-some, slice_get-map}
 use Rattle.std.proofs.lemmas.Map.Keys.{any_passes_from_place}
 use Rattle.lock_model.specs.Plans.{config_of, operations_of}
 use Rattle.lock_model.specs.Keys.{op_names, plan_names}
-use Rattle.lock_model.specs.Operations.{IsProper, held_of}
+use Rattle.lock_model.specs.Operations.{IsProper}
 use Rattle.lock_model.specs.Config.{Config}
-use Rattle.lock_state.specs.State.{State, Running}
-use Rattle.lock_model.specs.Holds.{Hold, NotHeld, Holds}
-use Rattle.lock_model.specs.Words.{admits, is_drop}
-use Rattle.lock_state.specs.Steps.LockWords.{MayStamp, after_gain, after_drop, after_stamp}
-use Rattle.lock_state.specs.Steps.Turnstiles.{after_open}
-use Rattle.lock_state.specs.Run.{Run, Made, ended, blocks, takes, releases, operates, notes}
-use Rattle.lock_model.specs.declared.numbers.LockNo.{LockNo}
-use Rattle.lock_model.specs.declared.plan.Mode.{Mode}
+use Rattle.lock_state.specs.Steps.{Stamps, May as MayMake, after}
+use Rattle.lock_state.specs.Run.{Run, turn_of, notes, operates}
 use Rattle.lock_model.specs.declared.plan.Op.{Op}
-use Rattle.lock_model.specs.declared.plan.Op.TheVariants.{Take, Release, Set, Add, Get, Base, Show}
 use Rattle.lock_model.specs.declared.plan.Plan.{Plan}
 use Rattle.lock_model.specs.declared.plan.ThreadDecl.{ThreadDecl}
 use Rattle.lock_model.specs.declared.event.Event.{Event}
-use Rattle.lock_model.specs.declared.event.Event.TheVariants as event
-use Rattle.lock_model.specs.declared.event.Entry.{Entry}
-use Rattle.lock_model.specs.declared.event.Held.{Held}
 use Rattle.lock_model.specs.declared.turn.StepKind.TheVariants as kinds
-use Rattle.lock_model.specs.declared.turn.Turn.{Turn}
-use Rattle.lock_model.specs.declared.turn.Turn.TheVariants.{Did, Idle}
-use Rattle.lock_laws.proofs.TurnsOfNotes as noting
+use Rattle.lock_model.specs.declared.turn.Turn.TheVariants.{Did}
+use Rattle.lock_laws.specs.OnTrack.{IsAtOperation}
+use Rattle.lock_laws.proofs.Entries.{next_op_below}
+use Rattle.lock_laws.proofs.OnTrack.{left as left_at}
+use Rattle.lock_laws.proofs.Table.{Notes, sets, adds, gets, changes_base, shows, makes_operation}
+use Rattle.lock_laws.proofs.TurnsOfNotes.{is_noted}
 use Rattle.step_world.specs.declared.machine.Machine.{Machine}
-use Rattle.step_world.specs.Represents.{Represents}
-use Rattle.step_world.specs.Steps.{May, HasKey, progress}
-use Rattle.step_world.specs.Runs.{RepresentsRun, IsRunOf, IsNote, HasRun}
-use Rattle.step_world.proofs.Turning.{Stamps, EndsOperation, of_books, room_on, changed_at, changed_other, ended as run_behind, has_room, place_within, is_thread}
+use Rattle.step_world.specs.Steps.{May, Makes, HasKey, KeepsProgress, progress}
+use Rattle.step_world.specs.Runs.{IsRunOf, IsNote, HasRun, IsTurn, progress_in}
+use Rattle.step_world.proofs.Turning.{IsTurning, SameRoom, EndsOperation, begins, may_next, stepped, ended, has_room, next_within, is_thread}
 
 -- 1. Keys
 
@@ -40,8 +32,8 @@ abbrev op_same : ℕ → ℕ → ℕ → ℕ → Bool
 op_same k n l key = (k == l) && (n == key)
 
 -- an operation of the thread that names a key
-pub blocked_on : (plan : Plan) (t place l key : ℕ) (op : Op) → slice_get (operations_of plan t) place ≡ Some op → op_names l key op ≡ true → IsTrue (plan_names plan l key)
-blocked_on plan t place l key op e i = go (slice_get plan.threads t) refl
+named : (plan : Plan) (t next l key : ℕ) (op : Op) → slice_get (operations_of plan t) next ≡ Some op → op_names l key op ≡ true → IsTrue (plan_names plan l key)
+named plan t next l key op e i = go (slice_get plan.threads t) refl
   where
     test : ThreadDecl → Bool
     test d = list_any (op_names l key) d.ops
@@ -50,115 +42,61 @@ blocked_on plan t place l key op e i = go (slice_get plan.threads t) refl
     go None f = absurd (none-some op (let ops : operations_of plan t ≡ [] = ap (λ x. unwrap_or x []) (slice_get-map (λ d. d.ops) plan.threads t ∙ ap (option_map (λ (d : ThreadDecl). d.ops)) f) in rw ops at e))
     go (Some d) f =
         let ops : operations_of plan t ≡ d.ops = ap (λ x. unwrap_or x []) (slice_get-map (λ d. d.ops) plan.threads t ∙ ap (option_map (λ (d : ThreadDecl). d.ops)) f) in
-        any_passes_from_place test plan.threads t d f (any_passes_from_place (op_names l key) d.ops place op (rw ops at e) i)
+        any_passes_from_place test plan.threads t d f (any_passes_from_place (op_names l key) d.ops next op (rw ops at e) i)
 
 both_same : (l key : ℕ) → op_same l key l key ≡ true
 both_same l key = rw (eq-eqb l l refl, eq-eqb key key refl)
 
 -- 2. Which operations make an entry alone
 
-newest : Event → List Entry → Event
-newest d [] = d
-newest d (e ∷ es) = e.event
+-- there is room for the key that the entry edits
+pub has_key : {plan : Plan} {m : Machine} {r : Run} {t : ℕ} (op : Op) (e : Event) → IsRunOf plan m r → IsAtOperation plan r t (Some op) → Notes r t op e → HasKey m e
+has_key {plan} {m} {r} {t} op _ h at (sets l key value) = h.shows.keys l.0 key (named plan t (r.next_op t) l.0 key op at.next (both_same l.0 key))
+has_key {plan} {m} {r} {t} op _ h at (adds l key amount) = h.shows.keys l.0 key (named plan t (r.next_op t) l.0 key op at.next (both_same l.0 key))
+has_key op _ h at (gets l key) = tt
+has_key op _ h at (changes_base prio) = tt
+has_key op _ h at shows = tt
 
-same_note : (c : Config) (r : Run) (t : ℕ) (a b : Event) → notes c r t a ≡ notes c r t b → a ≡ b
-unfolding after_stamp newest
-same_note c r t a b e = ap (λ (x : Made). newest a x.run.state.history) e
+makes_it : (plan : Plan) {r : Run} {t : ℕ} (op : Op) (e : Event) → Notes r t op e → operates (config_of plan) r t (Some op) ≡ notes r t e
+makes_it plan _ _ (sets l key value) = refl
+makes_it plan _ _ (adds l key amount) = refl
+makes_it plan _ _ (gets l key) = refl
+makes_it plan _ _ (changes_base prio) = refl
+makes_it plan _ _ shows = refl
 
-abbrev IsNoNote : Turn → Type 0
-IsNoNote answer = answer ≢ Did kinds.Note
-
-no_take : (c : Config) (r : Run) (t : ℕ) (l : LockNo) (mode : Mode) → IsNoNote (takes c r t l mode).answer
-no_take c r t l mode = go (admits (c.kind l.0) (r.state.word l.0) mode)
-  where
-    blocked : (o : Option ℕ) → IsNoNote (blocks r t l.0 mode o).answer
-    blocked None e = cc
-    blocked (Some x) e = cc
-
-    go : (b : Bool) → IsNoNote (cond b (ended kinds.Gain (after_stamp c (after_gain r.state t l.0 mode) t (event.Locked l mode)) r t) (blocks r t l.0 mode (r.state.turnstile t))).answer
-    go true e = cc
-    go false e = blocked (r.state.turnstile t) e
-
-no_release : (c : Config) (r : Run) (t : ℕ) (l : LockNo) (h : Hold) → IsNoNote (releases c r t l h).answer
-no_release c r t l NotHeld e = cc
-no_release c r t l (Holds mode) e = go (is_drop (r.state.word l.0)) e
-  where
-    s : State
-    s = after_stamp c r.state t (event.Unlocked l mode)
-
-    go : (b : Bool) → IsNoNote (cond b (ended kinds.Drop (after_drop s t l.0) r t) (ended kinds.OpenUp (after_open c s t l.0) r t)).answer
-    go true e = cc
-    go false e = cc
+pub is_note : {plan : Plan} {m : Machine} {r : Run} {t : ℕ} {op : Op} {e : Event} → IsProper plan → t < length plan.threads → IsRunOf plan m r → IsAtOperation plan r t (Some op) → Notes r t op e → IsNote plan r t e
+is_note {plan} {m} {r} {t} {op} {e} p lt h at n = record { op = op; at = at; noted = makes_it plan op e n; holds_on = (is_noted plan r t p h.on_track lt op e n at.next).same }
 
 -- 3. The row
 
-module _ (plan : Plan) (chains : ℕ) (m : Machine) (r : Run) (t : ℕ) (p : IsProper plan) (h : IsRunOf plan chains m r) (lt : t < length plan.threads) where
-  abbrev c : Config
-  c = config_of plan chains
+module _ {plan : Plan} {m : Machine} {t : ℕ} {e : Event} (p : IsProper plan) (lt : t < length plan.threads) (q : HasRun plan m (λ r. IsNote plan r t e)) where
+  abbrev r : Run
+  r = q.0
 
-  abbrev s : State
-  s = r.state
+  left : r.next_op t < length (operations_of plan t)
+  left = left_at plan r t q.2.op q.2.at.next
 
-  -- an entry that may be made, by which what is held stays, and for whose key there is room
-  record Fits (e : Event) : Type 0 where
-    may : MayStamp c s t e
-    same : held_of (length plan.locks) (operations_of plan t) (r.place t) ≡ held_of (length plan.locks) (operations_of plan t) (suc (r.place t))
-    key : HasKey m e
+  row : turn_of plan r t ≡ notes r t e
+  row = makes_operation plan r t q.2.op q.2.at ∙ q.2.noted
 
-  abbrev Next : Op → Type 0
-  Next op = slice_get (operations_of plan t) (r.place t) ≡ Some op
+  turning : IsTurning plan r t m r.state (progress_in plan r t) (Stamps t e ∷ [])
+  turning = begins (notes r t e) p lt q.1 row
 
-  module _ (running : s.wait t ≡ Running) where
-    fits_by : (e : Event) → noting.Notes plan chains r t p h.on_track lt running e → HasKey m e → Fits e
-    fits_by e n key = record { may = noting.may_note plan chains r t p h.on_track lt running e n.asks; same = n.same; key = key }
-
-    has_key : (l : LockNo) (key : ℕ) (op : Op) → Next op → op_names l.0 key op ≡ true → Contains m.tables.places (l.0, key)
-    has_key l key op next i = h.shows.keys l.0 key (blocked_on plan t (r.place t) l.0 key op next i)
-
-    fits : (op : Op) (e : Event) → Next op → operates c r t (Some op) ≡ notes c r t e → Fits e
-    fits (Set l key value) e next i =
-        subst Fits (same_note c r t (event.Set l key value) e i) (fits_by _ (noting.set_notes plan chains r t p h.on_track lt running l key value next) (has_key l key (Set l key value) next (both_same l.0 key)))
-    fits (Add l key amount) e next i =
-        subst Fits (same_note c r t (event.Added l key amount) e i) (fits_by _ (noting.added_notes plan chains r t p h.on_track lt running l key amount next) (has_key l key (Add l key amount) next (both_same l.0 key)))
-    fits (Get l key) e next i = subst Fits (same_note c r t (event.Got l key (s.table l.0 key)) e i) (fits_by _ (noting.got_notes plan chains r t p h.on_track lt running l key next) tt)
-    fits (Base prio) e next i = subst Fits (same_note c r t (event.Base prio) e i) (fits_by _ (noting.based_notes plan chains r t p h.on_track lt running prio next) tt)
-    fits Show e next i = subst Fits (same_note c r t (noting.own plan chains r t p h.on_track lt running) e i) (fits_by _ (noting.shown_notes plan chains r t p h.on_track lt running next) tt)
-    fits (Take l mode) e next i = absurd (no_take c r t l mode (ap (λ x. x.answer) i))
-    fits (Release l) e next i = absurd (no_release c r t l (s.held t l.0) (ap (λ x. x.answer) i))
-    fits other e next i = absurd (let z : Idle ≡ Did kinds.Note = ap (λ x. x.answer) i in cc)
-
--- some run of which the premise holds
-module _ (plan : Plan) (m : Machine) (t : ℕ) (e : Event) (p : IsProper plan) (lt : t < length plan.threads) (q : HasRun plan m (λ chains r. IsNote plan chains r t e)) where
-  abbrev its : Config
-  its = config_of plan q.0
-
-  fit : Fits plan q.0 m q.1 t p q.2 lt e
-  fit = fits plan q.0 m q.1 t p q.2 lt q.3.running q.3.op e q.3.next q.3.noted
-
-  left : q.1.place t < length (operations_of plan t)
-  left = slice_get_within (operations_of plan t) (q.1.place t) q.3.op q.3.next
-
-  pub may : May m (λ c s. MayStamp c s t e)
-  may = (its, q.1.state, q.2.shows.shows, q.2.on_track.lawful, fit.may)
+  pub may : May m (λ c s. MayMake c s (Stamps t e))
+  may = may_next turning
 
   pub room : 1 ≤ m.log.spare
-  room = has_room plan q.0 m q.1 t p q.2 lt left
+  room = has_room p q.1 lt left
 
-  pub key : HasKey m e
-  key = fit.key
-
-  module _ (m1 : Machine) (a : Stamps m m1 t e) where
-    stamped : Represents its m1 (after_stamp its q.1.state t e)
-    stamped = a.step its q.1.state q.2.shows.shows q.2.on_track.lawful fit.may
+  module _ {m1 : Machine} (makes : Makes m m1 (Stamps t e)) (kept : KeepsProgress m m1) (same : SameRoom m m1) where
+    stamped : IsTurning plan r t m1 (after (config_of plan) r.state (Stamps t e)) (progress_in plan r t) []
+    stamped = stepped turning makes kept same
 
     pub thread : t < length m1.threads.items
-    thread = is_thread its m1 (after_stamp its q.1.state t e) t stamped lt
+    thread = is_thread stamped lt
 
-    pub within : IfSome (progress m1 t) (λ x. x.place < 20000)
-    within = place_within plan q.0 m q.1 t p q.2 lt left m1 _ (a.progress t ∙ q.2.shows.progress t lt)
+    pub within : IfSome (progress m1 t) (λ x. x.next_op < 20000)
+    within = next_within stamped (next_op_below plan r t p q.1.on_track lt left)
 
-    pub noted : (m2 : Machine) → EndsOperation m1 m2 t → RepresentsRun plan q.0 m2 (notes its q.1 t e).run
-    noted m2 b = run_behind plan q.0 m q.1 q.2.shows m2 t (after_stamp its q.1.state t e) (b.shows its (after_stamp its q.1.state t e) stamped)
-        (changed_at m1 m2 t (λ x. record x { place = suc x.place }) _ b.progress (a.progress t ∙ q.2.shows.progress t lt) ∙ ap (λ (hs : List Held). Some (record { place = suc (q.1.place t); held = hs })) fit.same)
-        (λ u ne. changed_other m1 m2 t (λ x. record x { place = suc x.place }) u b.progress ne ∙ a.progress u)
-        (room_on m m1 m2 a.room (of_books m1 m2 b.books))
+    pub noted : {m2 : Machine} → EndsOperation m1 m2 t → IsTurn plan r t m2 (Did kinds.Note)
+    noted b = ended kinds.Note (Stamps t e ∷ []) (progress_in plan r t).held row q.2.holds_on stamped b

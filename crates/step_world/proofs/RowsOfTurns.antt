@@ -1,97 +1,72 @@
 -- Which row of the table a turn is, by what the thread's objects say.
-use Rattle.std.proofs.Common.{◌≡◌, ℕ, ◌<◌, Bool, true, false, cond, List, [], ◌∷◌, length, map, get_or, slice_get, Some, refl, sym, ap, subst, ◌∙◌}
+use Rattle.std.proofs.Common.{◌≡◌, ℕ, ◌<◌, ◌≤◌, Bool, true, false, List, [], ◌∷◌, length, map, get_or, slice_get, Option, Some, None, refl, sym, ap, ◌∙◌}
+use Rattle.std.proofs.lemmas.Option.{slice_get_read, slice_get_past}
 use Rattle.lock_model.specs.Plans.{config_of, operations_of}
+use Rattle.lock_model.specs.Operations.{IsProper}
 use Rattle.lock_model.specs.Config.{Config}
-use Rattle.lock_state.specs.State.{State, NoWalk, AtLock, AtThread}
-use Rattle.lock_model.specs.Queues.{Mark, lock_queue}
-use Rattle.lock_model.specs.Words.{owner_of}
-use Rattle.lock_state.specs.Steps.Turnstiles.{MayMark, after_mark}
-use Rattle.lock_state.specs.Run.{Run, has_ended, nothing, turn_of, by_walk, by_marked, by_wait, walks_at_lock, walks_at_thread}
+use Rattle.lock_state.specs.State.{State, Wait, Running, Woken, NoWalk, AtLock, AtThread}
+use Rattle.lock_model.specs.Queues.{Mark, Cause, BySignal, lock_queue}
+use Rattle.lock_state.specs.Steps.{Marks, Resumes, May as MayMake}
+use Rattle.lock_state.specs.Run.{Run, has_ended, turn_of, does, nothing}
 use Rattle.lock_model.specs.declared.numbers.LockNo.{LockNo}
 use Rattle.lock_model.specs.declared.numbers.ThreadNo.{ThreadNo}
 use Rattle.lock_model.specs.declared.plan.Op.{Op}
 use Rattle.lock_model.specs.declared.plan.Plan.{Plan}
+use Rattle.lock_model.specs.declared.plan.QueueName.{QueueName}
 use Rattle.lock_model.specs.declared.turn.StepKind.TheVariants as kinds
-use Rattle.lock_model.specs.declared.turn.Turn.{Turn}
-use Rattle.lock_model.specs.declared.turn.Turn.TheVariants.{Did, Ended}
+use Rattle.lock_model.specs.declared.turn.Turn.TheVariants.{Did, Idle, Ended}
+use Rattle.lock_laws.specs.OnTrack.{OwesNothing, IsAtOperation}
+use Rattle.lock_laws.proofs.Table.{goes_by_wait, marks_first}
 use Rattle.turnstile_core.specs.Seen.{Place}
 use Rattle.prio_lending.specs.declared.walk.Walk.TheVariants as walk
 use Rattle.step_world.specs.declared.machine.Machine.{Machine}
 use Rattle.step_world.specs.declared.thread.Thread.{Thread}
-use Rattle.step_world.specs.Represents.{RepresentsThread, walk_of, mark_of}
+use Rattle.step_world.specs.declared.thread.Wait.TheVariants as wait
+use Rattle.lock_objects.specs.Represents.{walk_of, mark_of}
+use Rattle.step_world.specs.Represents.{RepresentsThread, wait_of}
 use Rattle.step_world.specs.Threads.{thread_has_ended}
 use Rattle.step_world.specs.Steps.{May, Makes, KeepsProgress, KeepsBooks}
-use Rattle.step_world.specs.Runs.{IsRunOf, IsFree}
+use Rattle.step_world.specs.Runs.{IsRunOf, IsTurn, IsFree, progress_in}
 use Rattle.step_world.proofs.Kit.{read}
-use Rattle.step_world.proofs.Ends.{ends_as_said}
-use Rattle.step_world.proofs.Turning.{IsRow, of_books, stepped}
+use Rattle.step_world.proofs.Ends.{ends_as_said, aside_is}
+use Rattle.step_world.proofs.Turning.{IsTurning, of_books, begins, may_next, stepped, done, still}
 
--- what a mark promises
-pub record Marks (m n : Machine) (t : ℕ) : Type 0 where
-  pub step : (x : Mark) (xs : List Mark) → Makes m n (λ c s. MayMark c s t x xs) (λ c s. after_mark c s t x xs)
-  pub progress : KeepsProgress m n
-  pub books : KeepsBooks m n
+-- the thread that was read at the place of a number
+pub here : {plan : Plan} {m : Machine} {r : Run} {t i : ℕ} {th : Thread} → IsRunOf plan m r → t < length plan.threads → i ≡ t → th ≡ get_or m.threads.items i th → slice_get m.threads.items t ≡ Some th
+here {plan} {m} {r} {t} {i} {th} h lt same got = read t i th h.shows.shows.threads lt same got
 
-module _ (plan : Plan) (chains : ℕ) (m : Machine) (r : Run) (t : ℕ) (th : Thread) (lt : t < length plan.threads) (h : IsRunOf plan chains m r) (i : ℕ) (same_number : i ≡ t) (got : th ≡ get_or m.threads.items i th) where
-  abbrev c : Config
-  c = config_of plan chains
-
+module _ {plan : Plan} {m : Machine} {r : Run} {t : ℕ} {th : Thread} (p : IsProper plan) (lt : t < length plan.threads) (h : IsRunOf plan m r) (is : slice_get m.threads.items t ≡ Some th) where
   abbrev s : State
   s = r.state
-
-  is : slice_get m.threads.items t ≡ Some th
-  is = read m c s t i th same_number h.shows.shows lt got
 
   its : RepresentsThread th s t
   its = h.shows.shows.threads.thread t th is
 
   -- 1. Whether it has ended
 
-  module _ (ops : List Op) (same : ops ≡ operations_of plan t) where
-    said : (b : Bool) → thread_has_ended (length ops) th ≡ b → has_ended plan chains r t ≡ b
-    said b e = sym (ends_as_said plan chains m r t th h lt is) ∙ ap (λ x. thread_has_ended (length x) th) (sym same) ∙ e
+  pub said : {ops : List Op} → ops ≡ operations_of plan t → (b : Bool) → thread_has_ended (length ops) th ≡ b → has_ended plan r t ≡ b
+  said same b e = sym (ends_as_said plan m r t th p h lt is) ∙ ap (λ (x : List Op). thread_has_ended (length x) th) (sym same) ∙ e
 
-    pub ended : thread_has_ended (length ops) th ≡ true → IsRow plan chains m Ended (turn_of plan chains r t)
-    unfolding turn_of
-    ended e = subst (λ b. IsRow plan chains m Ended (cond b (nothing Ended r) (by_walk plan c r t (s.walk t)))) (sym (said true e)) (refl, h.shows)
-
-    pub goes_on : thread_has_ended (length ops) th ≡ false → (n : Machine) (answer : Turn) → IsRow plan chains n answer (by_walk plan c r t (s.walk t)) → IsRow plan chains n answer (turn_of plan chains r t)
-    unfolding turn_of
-    goes_on e n answer x = subst (λ b. IsRow plan chains n answer (cond b (nothing Ended r) (by_walk plan c r t (s.walk t)))) (sym (said false e)) x
+  pub over : has_ended plan r t ≡ true → IsTurn plan r t m Ended
+  unfolding turn_of
+  over e = still plan r t Ended (rw e refl) h.shows
 
   -- 2. Its walk
 
   pub at_lock : (l : LockNo) → th.walk ≡ walk.AtLock l → s.walk t ≡ AtLock l.0
-  at_lock l e = sym its.walk ∙ ap walk_of e
+  at_lock l e = sym (ap (λ x. x.walk) its.columns) ∙ ap walk_of e
 
   pub at_thread : (o : ThreadNo) → th.walk ≡ walk.AtThread o → s.walk t ≡ AtThread o.0
-  at_thread o e = sym its.walk ∙ ap walk_of e
-
-  no_walk : th.walk ≡ walk.None → s.walk t ≡ NoWalk
-  no_walk e = sym its.walk ∙ ap walk_of e
-
-  module _ (n : Machine) (answer : Turn) where
-    pub row_at_lock : (l : LockNo) → th.walk ≡ walk.AtLock l → IsRow plan chains n answer (walks_at_lock c r t l.0 (owner_of (s.word l.0).holder) (s.head (lock_queue l.0))) → IsRow plan chains n answer (by_walk plan c r t (s.walk t))
-    row_at_lock l e x = subst (λ w. IsRow plan chains n answer (by_walk plan c r t w)) (sym (at_lock l e)) x
-
-    pub row_at_thread : (o : ThreadNo) → th.walk ≡ walk.AtThread o → IsRow plan chains n answer (walks_at_thread c r t o.0 (s.blocked_on o.0)) → IsRow plan chains n answer (by_walk plan c r t (s.walk t))
-    row_at_thread o e x = subst (λ w. IsRow plan chains n answer (by_walk plan c r t w)) (sym (at_thread o e)) x
+  at_thread o e = sym (ap (λ x. x.walk) its.columns) ∙ ap walk_of e
 
   -- 3. Its marked list, where it has no walk
 
   module _ (e : th.walk ≡ walk.None) where
-    by_list : (n : Machine) (answer : Turn) (ms : List Mark) → s.marked t ≡ ms → IsRow plan chains n answer (by_marked plan c r t ms) → IsRow plan chains n answer (by_walk plan c r t (s.walk t))
-    by_list n answer ms f x = subst (λ w. IsRow plan chains n answer (by_walk plan c r t w)) (sym (no_walk e)) (subst (λ l. IsRow plan chains n answer (by_marked plan c r t l)) (sym f) x)
+    no_walk : s.walk t ≡ NoWalk
+    no_walk = sym (ap (λ x. x.walk) its.columns) ∙ ap walk_of e
 
-    module _ (none : th.marked ≡ []) where
-      unmarked : s.marked t ≡ []
-      unmarked = sym its.marked ∙ ap (map (mark_of (lock_queue th.marked_from.0))) none
-
-      pub is_free : IsFree r t
-      is_free = record { no_walk = no_walk e; unmarked = unmarked }
-
-      pub row_of_free : (n : Machine) (answer : Turn) → IsRow plan chains n answer (by_wait plan c r t (s.wait t)) → IsRow plan chains n answer (by_walk plan c r t (s.walk t))
-      row_of_free n answer x = by_list n answer [] unmarked x
+    pub is_free : th.marked ≡ [] → has_ended plan r t ≡ false → IsFree plan r t
+    is_free none going = record { going = going; owes = record { no_walk = no_walk; unmarked = sym (ap (λ x. x.marked) its.columns) ∙ ap (map (mark_of th.marked_from)) none } }
 
     module _ (some : th.marked ≡ [] → ⊥) where
       first : (x : Mark) × (xs : List Mark) × (s.marked t ≡ x ∷ xs)
@@ -99,14 +74,54 @@ module _ (plan : Plan) (chains : ℕ) (m : Machine) (r : Run) (t : ℕ) (th : Th
         where
           go : (ps : List Place) → th.marked ≡ ps → (x : Mark) × (xs : List Mark) × (s.marked t ≡ x ∷ xs)
           go [] f = absurd (some f)
-          go (p ∷ ps) f = (mark_of (lock_queue th.marked_from.0) p, map (mark_of (lock_queue th.marked_from.0)) ps, sym its.marked ∙ ap (map (mark_of (lock_queue th.marked_from.0))) f)
+          go (p ∷ ps) f = (mark_of th.marked_from p, map (mark_of th.marked_from) ps, sym (ap (λ x. x.marked) its.columns) ∙ ap (map (mark_of th.marked_from)) f)
 
-      mark_may : MayMark c s t first.0 first.1
-      mark_may = record { thread = lt; marked = first.2 }
+      row : turn_of plan r t ≡ does kinds.Mark (Marks t first.0 first.1 ∷ [])
+      row = marks_first plan r t first.0 first.1 no_walk first.2
 
-      pub may_mark : May m (λ c s. (x : Mark) × (xs : List Mark) × MayMark c s t x xs)
-      may_mark = (c, s, h.shows.shows, h.on_track.lawful, (first.0, first.1, mark_may))
+      marking : IsTurning plan r t m s (progress_in plan r t) (Marks t first.0 first.1 ∷ [])
+      marking = begins (does kinds.Mark (Marks t first.0 first.1 ∷ [])) p lt h row
 
-      pub marked : (n : Machine) → Marks m n t → IsRow plan chains n (Did kinds.Mark) (by_walk plan c r t (s.walk t))
-      marked n a = by_list n (Did kinds.Mark) (first.0 ∷ first.1) first.2
-          (refl, stepped plan chains m r h.shows n (after_mark c s t first.0 first.1) (a.step first.0 first.1 c s h.shows.shows h.on_track.lawful mark_may) a.progress (of_books m n a.books))
+      pub may_mark : May m (λ c s. (x : Mark) × (xs : List Mark) × MayMake c s (Marks t x xs))
+      may_mark = (config_of plan, s, marking.shows, marking.lawful, (first.0, first.1, marking.may.0))
+
+      pub marked : {n : Machine} → ((x : Mark) (xs : List Mark) → Makes m n (Marks t x xs)) → KeepsProgress m n → KeepsBooks m n → IsTurn plan r t n (Did kinds.Mark)
+      marked makes kept books = done kinds.Mark (Marks t first.0 first.1 ∷ []) row (stepped marking (makes first.0 first.1) kept (of_books books))
+
+  -- 4. Its wait word, where it owes nothing
+
+  waits_as : (w : Wait) → wait_of th.wait ≡ w → s.wait t ≡ w
+  waits_as w e = sym (ap (λ x. x.wait) its.columns) ∙ e
+
+  module _ (free : IsFree plan r t) where
+    pub queued : th.wait ≡ wait.Queued → IsTurn plan r t m Idle
+    queued e = still plan r t Idle (goes_by_wait plan r t free.going free.owes ∙ rw (waits_as _ (ap wait_of e)) refl) h.shows
+
+    module _ {w : QueueName} (e : th.wait ≡ wait.Woken w) where
+      resumes : turn_of plan r t ≡ does kinds.Resume (Resumes t (w) BySignal ∷ [])
+      resumes = goes_by_wait plan r t free.going free.owes ∙ rw (waits_as _ (ap wait_of e)) refl
+
+      resuming : IsTurning plan r t m s (progress_in plan r t) (Resumes t (w) BySignal ∷ [])
+      resuming = begins (does kinds.Resume (Resumes t (w) BySignal ∷ [])) p lt h resumes
+
+      pub may_resume : May m (λ c s. (q : QueueName) × (cause : Cause) × MayMake c s (Resumes t q cause))
+      may_resume = (config_of plan, s, resuming.shows, resuming.lawful, (w, BySignal, resuming.may.0))
+
+      pub resumed : {n : Machine} → ((q : QueueName) (cause : Cause) → Makes m n (Resumes t q cause)) → KeepsProgress m n → KeepsBooks m n → IsTurn plan r t n (Did kinds.Resume)
+      resumed makes kept books = done kinds.Resume (Resumes t (w) BySignal ∷ []) resumes (stepped resuming (makes (w) BySignal) kept (of_books books))
+
+    module _ (e : th.wait ≡ wait.Running) {ops : List Op} (same : ops ≡ operations_of plan t) where
+      at_next : (o : Option Op) → slice_get ops th.next_op ≡ o → IsAtOperation plan r t o
+      at_next o i = record {
+        running = waits_as Running (ap wait_of e);
+        free = free.owes;
+        next = ap (slice_get (operations_of plan t)) (sym (ap (λ x. x.next_op) (aside_is plan m r t th h lt is))) ∙ ap (λ x. slice_get x th.next_op) (sym same) ∙ i;
+      }
+
+      pub at_operation : {op : Op} → th.next_op < length ops → op ≡ get_or ops th.next_op op → IsAtOperation plan r t (Some op)
+      at_operation {op} left got = at_next (Some op) (slice_get_read ops (length ops) th.next_op op refl left got)
+
+      pub nothing_left : length ops ≤ th.next_op → IsTurn plan r t m Idle
+      nothing_left past =
+          let at = at_next None (slice_get_past ops th.next_op past) in
+          still plan r t Idle (goes_by_wait plan r t free.going free.owes ∙ rw (at.running, at.next) refl) h.shows

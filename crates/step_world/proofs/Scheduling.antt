@@ -36,18 +36,18 @@ stuck_is k ts n idle coming within same = ap (λ (xs : List ℕ). is_empty xs &&
 -- 2. Who has ended
 
 -- one that hasn't ended settles it,
-pub one_runs : (plan : Plan) (chains : ℕ) (r : Run) (t : ℕ) → t < length plan.threads → has_ended plan chains r t ≡ false → all_ended plan chains r ≡ false
-one_runs plan chains r t l e =
+pub one_runs : (plan : Plan) (r : Run) (t : ℕ) → t < length plan.threads → has_ended plan r t ≡ false → all_ended plan r ≡ false
+one_runs plan r t l e =
     let n = length plan.threads in
-    list_all_at (has_ended plan chains r) (threads_of plan) t 0 (omega (arith, l, length-range_with_len 0 n)) (ap (has_ended plan chains r) (get_or-range_with_len 0 n t 0 l ∙ omega arith) ∙ e)
+    list_all_at (has_ended plan r) (threads_of plan) t 0 (omega (arith, l, length-range_with_len 0 n)) (ap (has_ended plan r) (get_or-range_with_len 0 n t 0 l ∙ omega arith) ∙ e)
 
 -- and else all have
-pub none_runs : (plan : Plan) (chains : ℕ) (r : Run) → ((t : ℕ) → t < length plan.threads → has_ended plan chains r t ≡ true) → all_ended plan chains r ≡ true
-none_runs plan chains r each =
+pub none_runs : (plan : Plan) (r : Run) → ((t : ℕ) → t < length plan.threads → has_ended plan r t ≡ true) → all_ended plan r ≡ true
+none_runs plan r each =
     let n = length plan.threads in
-    list_all-from_AllPass (has_ended plan chains r) (threads_of plan) (All-from_get_or (λ t. has_ended plan chains r t ≡ true) (threads_of plan) 0 (λ i l.
+    list_all-from_AllPass (has_ended plan r) (threads_of plan) (All-from_get_or (λ t. has_ended plan r t ≡ true) (threads_of plan) 0 (λ i l.
     let below : i < n = omega (arith, l, length-range_with_len 0 n) in
-    ap (has_ended plan chains r) (get_or-range_with_len 0 n i 0 below ∙ omega arith) ∙ each i below))
+    ap (has_ended plan r) (get_or-range_with_len 0 n i 0 below ∙ omega arith) ∙ each i below))
 
 -- 3. Rounds
 
@@ -56,25 +56,25 @@ range_more a zero = ap (λ (b : ℕ). b ∷ []) (omega arith)
 range_more a (suc n) = ap (λ (xs : List ℕ). a ∷ xs) (range_more (a + 1) n ∙ ap (λ (b : ℕ). range_with_len (a + 1) n ++ b ∷ []) (omega arith))
 
 -- those of the first threads that haven't ended
-abbrev pub round_below : Plan → ℕ → Run → ℕ → List ℕ
-round_below plan chains r n = filter (λ t. not (has_ended plan chains r t)) (range_with_len 0 n)
+abbrev pub round_below : Plan → Run → ℕ → List ℕ
+round_below plan r n = filter (λ t. not (has_ended plan r t)) (range_with_len 0 n)
 
-round_more : (plan : Plan) (chains : ℕ) (r : Run) (n : ℕ) (b : Bool) → has_ended plan chains r n ≡ b → round_below plan chains r (n + 1) ≡ round_below plan chains r n ++ cond (not b) (n ∷ []) []
-round_more plan chains r n b e =
-    let p : ℕ → Bool = λ t. not (has_ended plan chains r t) in
+round_more : (plan : Plan) (r : Run) (n : ℕ) (b : Bool) → has_ended plan r n ≡ b → round_below plan r (n + 1) ≡ round_below plan r n ++ cond (not b) (n ∷ []) []
+round_more plan r n b e =
+    let p : ℕ → Bool = λ t. not (has_ended plan r t) in
     let next : n + 1 ≡ suc n = omega arith in
     let here : 0 + n ≡ n = omega arith in
     ap (λ (m : ℕ). filter p (range_with_len 0 m)) next ∙ ap (filter p) (range_more 0 n)
-    ∙ filter-append p (range_with_len 0 n) ((0 + n) ∷ []) ∙ ap (λ (m : ℕ). round_below plan chains r n ++ cond (p m) (m ∷ []) []) here
-    ∙ ap (λ (c : Bool). round_below plan chains r n ++ cond (not c) (n ∷ []) []) e
+    ∙ filter-append p (range_with_len 0 n) ((0 + n) ∷ []) ∙ ap (λ (m : ℕ). round_below plan r n ++ cond (p m) (m ∷ []) []) here
+    ∙ ap (λ (c : Bool). round_below plan r n ++ cond (not c) (n ∷ []) []) e
 
 -- a thread that has ended isn't of the round,
-pub round_stays : (plan : Plan) (chains : ℕ) (r : Run) (n : ℕ) → has_ended plan chains r n ≡ true → round_below plan chains r (n + 1) ≡ round_below plan chains r n
-round_stays plan chains r n e = round_more plan chains r n true e ∙ append-nil (round_below plan chains r n)
+pub round_stays : (plan : Plan) (r : Run) (n : ℕ) → has_ended plan r n ≡ true → round_below plan r (n + 1) ≡ round_below plan r n
+round_stays plan r n e = round_more plan r n true e ∙ append-nil (round_below plan r n)
 
 -- and another is
-pub round_grows : (plan : Plan) (chains : ℕ) (r : Run) (n : ℕ) → has_ended plan chains r n ≡ false → round_below plan chains r (n + 1) ≡ round_below plan chains r n ++ n ∷ []
-round_grows plan chains r n e = round_more plan chains r n false e
+pub round_grows : (plan : Plan) (r : Run) (n : ℕ) → has_ended plan r n ≡ false → round_below plan r (n + 1) ≡ round_below plan r n ++ n ∷ []
+round_grows plan r n e = round_more plan r n false e
 
 -- 4. Turns
 
@@ -83,13 +83,13 @@ pub none_comes : (ts : List ThreadNo) (n : ℕ) → n ≡ length ts → map {B =
 none_comes ts n e = ap (map {B = ℕ} (λ (t : ThreadNo). t.0)) (drop_all n ts (omega (arith, e)))
 
 -- then the first of a round has its turn,
-pub round_begins : (plan : Plan) (chains : ℕ) (k : run.Course) → k.coming ≡ [] → with_turn plan chains k.run (round_of plan chains k.run) true ≡ after_turn plan chains k k.coming
-round_begins plan chains k e = ap (after_turn plan chains k) (sym e)
+pub round_begins : (plan : Plan) (k : run.Course) → k.coming ≡ [] → with_turn plan k.run (round_of plan k.run) true ≡ after_turn plan k k.coming
+round_begins plan k e = ap (after_turn plan k) (sym e)
 
 -- and else the first that comes
-pub one_comes : (plan : Plan) (chains : ℕ) (k : run.Course) → is_empty k.coming ≡ false → with_turn plan chains k.run k.coming k.idle ≡ after_turn plan chains k k.coming
-one_comes plan chains k e = go k.coming e
+pub one_comes : (plan : Plan) (k : run.Course) → is_empty k.coming ≡ false → with_turn plan k.run k.coming k.idle ≡ after_turn plan k k.coming
+one_comes plan k e = go k.coming e
   where
-    go : (ts : List ℕ) → is_empty ts ≡ false → with_turn plan chains k.run ts k.idle ≡ after_turn plan chains k ts
+    go : (ts : List ℕ) → is_empty ts ≡ false → with_turn plan k.run ts k.idle ≡ after_turn plan k ts
     go [] e = absurd cc
     go (t ∷ ts) e = refl

@@ -1,5 +1,6 @@
--- What the steps of a turn leave of a machine: the run that it shows behind them, and the room and the place that are left.
-use Rattle.std.proofs.Common.{◌≡◌, ◌≢◌, ℕ, suc, ◌+◌, ◌<◌, ◌≤◌, length, get_or, Some, option_map, refl, sym, ap, subst, inl, inr, arith, eq-eqb, ◌∙◌}
+-- A thread's turn under way: while a machine has made the first steps of the turn's row, it represents the lawful state
+-- behind them, and the next step may be made. So behind the last it represents the run behind the turn.
+use Rattle.std.proofs.Common.{◌≡◌, ◌≢◌, ℕ, suc, ◌+◌, ◌<◌, ◌≤◌, List, [], ◌∷◌, ◌++◌, length, get_or, slice_get, Option, Some, None, option_map, refl, sym, ap, subst, inl, inr, arith, eq-eqb, ◌∙◌}
 use Rattle.std.specs.Prelude.{IfSome, vec_len}
 use Rattle.std.specs.List.{Contains}
 use Rattle.std.proofs.lemmas.Bool.{ne_eqb, cases_eq}
@@ -9,54 +10,40 @@ use Rattle.lock_model.specs.Operations.{IsProper, held_of}
 use Rattle.lock_model.specs.Config.{Config}
 use Rattle.lock_state.specs.State.{State, put}
 use Rattle.lock_model.specs.Words.{word_of}
-use Rattle.lock_state.specs.Steps.LockWords.{MayStamp, after_stamp}
-use Rattle.lock_state.specs.Run.{Run, Made}
-use Rattle.lock_model.specs.declared.event.Event.{Event}
+use Rattle.lock_state.specs.Facts.{Lawful}
+use Rattle.lock_state.specs.Steps.{Step, May as MayMake, MayAll, after, after_all}
+use Rattle.lock_state.specs.Run.{Run, Row, turn_of, run_after, run_behind, nothing, does, ends}
+use Rattle.lock_model.specs.declared.event.Held.{Held}
 use Rattle.lock_model.specs.declared.plan.Plan.{Plan}
+use Rattle.lock_model.specs.declared.turn.StepKind.{StepKind}
 use Rattle.lock_model.specs.declared.turn.Turn.{Turn}
+use Rattle.lock_model.specs.declared.turn.Turn.TheVariants.{Did}
 use Rattle.lock_laws.proofs.Kit.{put_same, put_other}
-use Rattle.lock_laws.proofs.Turning.{entries_below}
-use Rattle.lock_laws.proofs.AtTurn.{place_below}
+use Rattle.lock_laws.proofs.Steps.{all_keep}
+use Rattle.lock_laws.proofs.Turning.{may_all}
+use Rattle.lock_laws.proofs.Entries.{entries_below, next_op_below}
 use Rattle.step_world.specs.declared.machine.Machine.{Machine}
 use Rattle.step_world.specs.Represents.{Represents}
-use Rattle.step_world.specs.Steps.{Progress, progress, Makes, KeepsProgress, ChangesProgress, KeepsBooks}
-use Rattle.step_world.specs.Runs.{RepresentsRun, IsRunOf}
+use Rattle.step_world.specs.Steps.{Progress, progress, May, Makes, MakesAll, KeepsProgress, ChangesProgress, KeepsBooks}
+use Rattle.step_world.specs.Runs.{RepresentsRun, IsRunOf, IsTurn, HasRoom, HasKeys, progress_in}
 
--- 1. Room and places
+-- 1. Room
 
 -- as many entries in all, and room for the same keys
 pub record SameRoom (m n : Machine) : Type 0 where
   pub room : length n.log.entries + n.log.spare ≡ length m.log.entries + m.log.spare
   pub places : n.tables.places ≡ m.tables.places
 
-pub of_books : (m n : Machine) → KeepsBooks m n → SameRoom m n
-of_books m n k = record { room = ap (λ g. length g.entries + g.spare) k.log; places = ap (λ t. t.places) k.tables }
-
-pub room_on : (m n o : Machine) → SameRoom m n → SameRoom n o → SameRoom m o
-room_on m n o a b = record { room = b.room ∙ a.room; places = b.places ∙ a.places }
-
--- the place and the list of the thread where they change, and those of the others
-pub changed_at : (m n : Machine) (t : ℕ) (f : Progress → Progress) (a : Progress) → ChangesProgress m n t f → progress m t ≡ Some a → progress n t ≡ Some (f a)
-changed_at m n t f a h e = let at = h t in (rw (eq-eqb t t refl) at at) ∙ ap (option_map f) e
-
-pub changed_other : (m n : Machine) (t : ℕ) (f : Progress → Progress) (u : ℕ) → ChangesProgress m n t f → u ≢ t → progress n u ≡ progress m u
-changed_other m n t f u h ne = let at = h u in rw (ne_eqb u t ne) at at
-
--- 2. What the steps of several rows promise
-
--- a stamp
-pub record Stamps (m n : Machine) (t : ℕ) (e : Event) : Type 0 where
-  pub step : Makes m n (λ c s. MayStamp c s t e) (λ c s. after_stamp c s t e)
-  pub progress : KeepsProgress m n
-  pub room : SameRoom m n
+pub of_books : {m n : Machine} → KeepsBooks m n → SameRoom m n
+of_books k = record { room = ap (λ g. length g.entries + g.spare) k.log; places = ap (λ t. t.places) k.tables }
 
 -- the end of an operation
 pub record EndsOperation (m n : Machine) (t : ℕ) : Type 0 where
   pub shows : (c : Config) (s : State) → Represents c m s → Represents c n s
-  pub progress : ChangesProgress m n t (λ a. record a { place = suc a.place })
+  pub progress : ChangesProgress m n t (λ a. record a { next_op = suc a.next_op })
   pub books : KeepsBooks m n
 
--- 3. What is read
+-- 2. What is read
 
 -- the lock's word is there,
 pub is_word : (c : Config) (m : Machine) (s : State) (l : ℕ) → Represents c m s → l < c.locks → l < vec_len m.words
@@ -70,51 +57,126 @@ word_is c m s l w h lt e = ap word_of (get_or_read m.words.items l w (rw h.words
 pub is_there : (c : Config) (m : Machine) (s : State) (t : ℕ) → Represents c m s → t < c.threads → t < vec_len m.threads
 is_there c m s t h lt = omega (arith, m.threads.ok.0, h.threads.threads, lt)
 
-pub is_thread : (c : Config) (m : Machine) (s : State) (t : ℕ) → Represents c m s → t < c.threads → t < length m.threads.items
-is_thread c m s t h lt = rw h.threads.threads lt
+-- 3. A turn under way
 
--- 4. The run that is shown
+-- A machine in the midst of the thread's turn: it represents the state, the list's steps are still to make, the thread has made the
+-- progress, and the others that of the run.
+pub record IsTurning (plan : Plan) (r : Run) (t : ℕ) (m : Machine) (s : State) (a : Progress) (rest : List Step) : Type 0 where
+  pub shows : Represents (config_of plan) m s
+  pub lawful : Lawful (config_of plan) s
+  pub may : MayAll (config_of plan) s rest
+  pub own : progress m t ≡ Some a
+  pub others : (u : ℕ) → u < length plan.threads → u ≢ t → progress m u ≡ Some (progress_in plan r u)
+  pub room : HasRoom plan m
+  pub keys : HasKeys plan m
 
--- an answer with the run that is shown is that of a row
-abbrev pub IsRow : Plan → ℕ → Machine → Turn → Made → Type 0
-IsRow plan chains m answer row = (answer ≡ row.answer) × RepresentsRun plan chains m row.run
+-- a turn's answer and the run behind it, by its row
+by_row : (plan : Plan) (r : Run) (t : ℕ) {m : Machine} (row : Row) → turn_of plan r t ≡ row → RepresentsRun plan m (run_after (config_of plan) r t row) → IsTurn plan r t m row.answer
+unfolding run_behind
+by_row plan r t {m} row e h = (sym (ap (λ (x : Row). x.answer) e), subst (λ (x : Row). RepresentsRun plan m (run_after (config_of plan) r t x)) (sym e) h)
 
-module _ (plan : Plan) (chains : ℕ) (m : Machine) (r : Run) (shown : RepresentsRun plan chains m r) where
-  abbrev pub c : Config
-  c = config_of plan chains
+-- a turn that does nothing
+pub still : (plan : Plan) (r : Run) (t : ℕ) {m : Machine} (answer : Turn) → turn_of plan r t ≡ nothing answer → RepresentsRun plan m r → IsTurn plan r t m answer
+still plan r t answer e h = by_row plan r t (nothing answer) e h
 
-  -- behind a step after which the operation is still to make
-  pub stepped : (n : Machine) (s : State) → Represents c n s → KeepsProgress m n → SameRoom m n → RepresentsRun plan chains n (record r { state = s })
-  stepped n s h same room = record {
-    shows = h;
-    progress = λ t l. same t ∙ shown.progress t l;
-    room = room.room ∙ shown.room;
-    keys = λ l key i. subst (λ ps. Contains ps (l, key)) (sym room.places) (shown.keys l key i);
+module _ {plan : Plan} {r : Run} {t : ℕ} where
+  -- the row's first step is to make
+  pub begins : {m : Machine} (row : Row) → IsProper plan → t < length plan.threads → IsRunOf plan m r → turn_of plan r t ≡ row → IsTurning plan r t m r.state (progress_in plan r t) row.steps
+  begins row p lt h e = record {
+    shows = h.shows.shows;
+    lawful = h.on_track.lawful.lawful;
+    may = subst (λ (x : Row). MayAll (config_of plan) r.state x.steps) e (may_all plan r t p h.on_track lt);
+    own = h.shows.progress t lt;
+    others = λ u l ne. h.shows.progress u l;
+    room = h.shows.room;
+    keys = h.shows.keys;
   }
 
-  -- and behind the last step of an operation
-  pub ended : (n : Machine) (t : ℕ) (s : State) → Represents c n s
-      → progress n t ≡ Some (record { place = suc (r.place t); held = held_of (length plan.locks) (operations_of plan t) (suc (r.place t)) })
-      → ((u : ℕ) → u ≢ t → progress n u ≡ progress m u) → SameRoom m n
-      → RepresentsRun plan chains n (record { state = s; place = put r.place t (suc (r.place t)) })
-  ended n t s h own others room = record {
-    shows = h;
-    progress = λ u l. elim (cases_eq u t) [
-      | inl e ↦ subst (λ v. progress n v ≡ Some (record { place = put r.place t (suc (r.place t)) v; held = held_of (length plan.locks) (operations_of plan v) (put r.place t (suc (r.place t)) v) })) (sym e) (rw (put_same r.place t (suc (r.place t))) own)
-      | inr ne ↦ rw (put_other r.place t (suc (r.place t)) u (λ z. ne (sym z))) (others u ne ∙ shown.progress u l)
-    ];
-    room = room.room ∙ shown.room;
-    keys = λ l key i. subst (λ ps. Contains ps (l, key)) (sym room.places) (shown.keys l key i);
+  -- the next step may be made,
+  pub may_next : {m : Machine} {s : State} {a : Progress} {step : Step} {rest : List Step} → IsTurning plan r t m s a (step ∷ rest) → May m (λ c s. MayMake c s step)
+  may_next {s = s} h = (config_of plan, s, h.shows, h.lawful, h.may.0)
+
+  -- and behind it the others are to make
+  pub changed : {m n : Machine} {s : State} {a : Progress} {step : Step} {rest : List Step} (f : Progress → Progress) → IsTurning plan r t m s a (step ∷ rest) → Makes m n step → ChangesProgress m n t f → SameRoom m n
+      → IsTurning plan r t n (after (config_of plan) s step) (f a) rest
+  changed {m} {n} {s} {a} {step} {rest} f h makes moved same = record {
+    shows = makes (config_of plan) s h.shows h.lawful h.may.0;
+    lawful = all_keep (config_of plan) s (step ∷ []) (h.may.0, tt) h.lawful;
+    may = h.may.1;
+    own = (let at = moved t in rw (eq-eqb t t refl) at at) ∙ ap (option_map f) h.own;
+    others = λ u l ne. (let at = moved u in rw (ne_eqb u t ne) at at) ∙ h.others u l ne;
+    room = same.room ∙ h.room;
+    keys = λ l key i. subst (λ ps. Contains ps (l, key)) (sym same.places) (h.keys l key i);
   }
 
--- 5. What the last steps of an operation ask
+  pub stepped : {m n : Machine} {s : State} {a : Progress} {step : Step} {rest : List Step} → IsTurning plan r t m s a (step ∷ rest) → Makes m n step → KeepsProgress m n → SameRoom m n
+      → IsTurning plan r t n (after (config_of plan) s step) a rest
+  stepped {m} {n} {s} {a} {step} {rest} h makes kept same = record {
+    shows = makes (config_of plan) s h.shows h.lawful h.may.0;
+    lawful = all_keep (config_of plan) s (step ∷ []) (h.may.0, tt) h.lawful;
+    may = h.may.1;
+    own = kept t ∙ h.own;
+    others = λ u l ne. kept u ∙ h.others u l ne;
+    room = same.room ∙ h.room;
+    keys = λ l key i. subst (λ ps. Contains ps (l, key)) (sym same.places) (h.keys l key i);
+  }
 
-module _ (plan : Plan) (chains : ℕ) (m : Machine) (r : Run) (t : ℕ) (p : IsProper plan) (h : IsRunOf plan chains m r) (lt : t < length plan.threads) (left : r.place t < length (operations_of plan t)) where
-  pub has_room : 1 ≤ m.log.spare
-  has_room =
-      let all = entries_below plan chains r t p h.on_track lt left in
+  -- all that are left at once
+  pub finished : {m n : Machine} {s : State} {a : Progress} {rest : List Step} → IsTurning plan r t m s a rest → MakesAll m n rest → KeepsProgress m n → SameRoom m n
+      → IsTurning plan r t n (after_all (config_of plan) s rest) a []
+  finished {m} {n} {s} {a} {rest} h makes kept same = record {
+    shows = makes (config_of plan) s h.shows h.lawful h.may;
+    lawful = all_keep (config_of plan) s rest h.may h.lawful;
+    may = tt;
+    own = kept t ∙ h.own;
+    others = λ u l ne. kept u ∙ h.others u l ne;
+    room = same.room ∙ h.room;
+    keys = λ l key i. subst (λ ps. Contains ps (l, key)) (sym same.places) (h.keys l key i);
+  }
+
+  -- 4. What the last steps of an operation ask
+
+  -- there is room for an entry while none was made in this turn
+  pub has_room : {m : Machine} → IsProper plan → IsRunOf plan m r → t < length plan.threads → r.next_op t < length (operations_of plan t) → 1 ≤ m.log.spare
+  has_room {m} p h lt left =
+      let all = entries_below plan r t p h.on_track lt left in
       let so_far = ap length h.shows.shows.history ∙ length-reverse r.state.history in
       omega (arith, all, so_far, h.shows.room)
 
-  pub place_within : (n : Machine) (hs : _) → progress n t ≡ Some (record { place = r.place t; held = hs }) → IfSome (progress n t) (λ a. a.place < 20000)
-  place_within n hs e = subst (λ o. IfSome o (λ (a : Progress). a.place < 20000)) (sym e) (place_below plan chains r t p h.on_track lt left)
+  -- the thread has more operations to come than it has behind it
+  pub next_within : {m : Machine} {s : State} {a : Progress} {rest : List Step} → IsTurning plan r t m s a rest → a.next_op < 20000 → IfSome (progress m t) (λ x. x.next_op < 20000)
+  next_within {a = a} h below = subst (λ o. IfSome o (λ (x : Progress). x.next_op < 20000)) (sym h.own) below
+
+  -- the thread is there,
+  pub is_thread : {m : Machine} {s : State} {a : Progress} {rest : List Step} → IsTurning plan r t m s a rest → t < length plan.threads → t < length m.threads.items
+  is_thread h lt = rw h.shows.threads.threads lt
+
+  -- 5. Behind the last step
+
+  -- the operation is still to make,
+  pub done : {m : Machine} (kind : StepKind) (steps : List Step) → turn_of plan r t ≡ does kind steps → IsTurning plan r t m (after_all (config_of plan) r.state steps) (progress_in plan r t) [] → IsTurn plan r t m (Did kind)
+  done {m} kind steps e h = by_row plan r t (does kind steps) e (record {
+    shows = h.shows;
+    progress = λ u l. elim (cases_eq u t) [ inl i ↦ subst (λ v. progress m v ≡ Some (progress_in plan r v)) (sym i) h.own | inr ne ↦ h.others u l ne ];
+    room = h.room;
+    keys = h.keys;
+  })
+
+  -- or has ended
+  pub ended : {m n : Machine} (kind : StepKind) (steps : List Step) (hs : List Held) → turn_of plan r t ≡ ends r t kind steps
+      → hs ≡ held_of (length plan.locks) (operations_of plan t) (suc (r.next_op t))
+      → IsTurning plan r t m (after_all (config_of plan) r.state steps) (record { next_op = r.next_op t; held = hs }) [] → EndsOperation m n t → IsTurn plan r t n (Did kind)
+  ended {m} {n} kind steps hs e held h b =
+      let next : ℕ = suc (r.next_op t) in
+      let behind : ℕ → ℕ = put r.next_op t next in
+      let own : progress n t ≡ Some (record { next_op = next; held = held_of (length plan.locks) (operations_of plan t) next }) =
+      (let at = b.progress t in rw (eq-eqb t t refl) at at) ∙ ap (option_map (λ (x : Progress). record x { next_op = suc x.next_op })) h.own ∙ ap (λ (x : List Held). Some (record { next_op = next; held = x })) held in
+      by_row plan r t (ends r t kind steps) e (record {
+        shows = b.shows (config_of plan) (after_all (config_of plan) r.state steps) h.shows;
+        progress = λ u l. elim (cases_eq u t) [
+          | inl i ↦ subst (λ v. progress n v ≡ Some (record { next_op = behind v; held = held_of (length plan.locks) (operations_of plan v) (behind v) })) (sym i) (rw (put_same r.next_op t next) own)
+          | inr ne ↦ rw (put_other r.next_op t next u (λ z. ne (sym z))) ((let at = b.progress u in rw (ne_eqb u t ne) at at) ∙ h.others u l ne)
+        ];
+        room = ap (λ g. length g.entries + g.spare) b.books.log ∙ h.room;
+        keys = λ l key i. subst (λ ps. Contains ps (l, key)) (sym (ap (λ x. x.places) b.books.tables)) (h.keys l key i);
+      })

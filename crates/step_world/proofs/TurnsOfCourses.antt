@@ -6,23 +6,23 @@ use Rattle.step_world.specs.declared.schedule.Course.{Course}
 use Rattle.step_world.specs.Courses.{IsCourse}
 
 -- one turn more is one turn of the definition, where the run isn't over
-pub one_more : (plan : Plan) (chains n : ℕ) → is_over plan chains (course_after plan chains n) ≡ false → course_after plan chains (n + 1) ≡ after_turn plan chains (course_after plan chains n) (course_after plan chains n).coming
+pub one_more : (plan : Plan) (n : ℕ) → is_over plan (course_after plan n) ≡ false → course_after plan (n + 1) ≡ after_turn plan (course_after plan n) (course_after plan n).coming
 unfolding course_after
-one_more plan chains n e = rw add-one (ap (λ (b : Bool). cond b (course_after plan chains n) (after_turn plan chains (course_after plan chains n) (course_after plan chains n).coming)) e)
+one_more plan n e = rw add-one (ap (λ (b : Bool). cond b (course_after plan n) (after_turn plan (course_after plan n) (course_after plan n).coming)) e)
 
 -- a run that is over stays as it is
-still : (plan : Plan) (chains n k : ℕ) → is_over plan chains (course_after plan chains n) ≡ true → course_after plan chains (n + k) ≡ course_after plan chains n
+still : (plan : Plan) (n k : ℕ) → is_over plan (course_after plan n) ≡ true → course_after plan (n + k) ≡ course_after plan n
 unfolding course_after
-still plan chains n zero e = ap (course_after plan chains) (let i : n + 0 ≡ n = omega arith in i)
-still plan chains n (suc k) e =
-    ap (course_after plan chains) (let i : n + suc k ≡ suc (n + k) = omega arith in i)
-    ∙ ap (go_on plan chains) (still plan chains n k e)
-    ∙ ap (λ (b : Bool). cond b (course_after plan chains n) (after_turn plan chains (course_after plan chains n) (course_after plan chains n).coming)) e
+still plan n zero e = ap (course_after plan) (let i : n + 0 ≡ n = omega arith in i)
+still plan n (suc k) e =
+    ap (course_after plan) (let i : n + suc k ≡ suc (n + k) = omega arith in i)
+    ∙ ap (go_on plan) (still plan n k e)
+    ∙ ap (λ (b : Bool). cond b (course_after plan n) (after_turn plan (course_after plan n) (course_after plan n).coming)) e
 
-pub stays_over : (plan : Plan) (chains n m : ℕ) → n ≤ m → is_over plan chains (course_after plan chains n) ≡ true → course_after plan chains m ≡ course_after plan chains n
-stays_over plan chains n m l e = ap (course_after plan chains) (let i : m ≡ n + (m - n) = omega arith in i) ∙ still plan chains n (m - n) e
+pub stays_over : (plan : Plan) (n m : ℕ) → n ≤ m → is_over plan (course_after plan n) ≡ true → course_after plan m ≡ course_after plan n
+stays_over plan n m l e = ap (course_after plan) (let i : m ≡ n + (m - n) = omega arith in i) ∙ still plan n (m - n) e
 
 -- no turn made
-pub starts : (plan : Plan) (chains : ℕ) (course : Course) → IsCourse plan chains course (start_course plan chains) → IsCourse plan chains course (course_after plan chains 0)
+pub starts : (plan : Plan) (chains : ℕ) (course : Course) → IsCourse plan chains course (start_course plan) → IsCourse plan chains course (course_after plan 0)
 unfolding course_after
 starts plan chains course h = h

@@ -2,18 +2,18 @@
 use Rattle.std.proofs.Common.{ℕ, ◌<◌, length}
 use Rattle.lock_model.specs.Operations.{IsProper}
 use Rattle.lock_model.specs.Plans.{config_of}
-use Rattle.lock_state.specs.Run.{Run, start_run, turn_of}
+use Rattle.lock_state.specs.Run.{Run, start_run, run_behind}
 use Rattle.lock_model.specs.declared.plan.Plan.{Plan}
 use Rattle.lock_model.specs.declared.turn.Turn.{Turn}
-use Rattle.lock_laws.proofs.Turning.{begins, stays}
+use Rattle.lock_laws.proofs.Turning.{begins_on_track, turned}
 use Rattle.step_world.specs.Runs.{RepresentsRun, IsRunOf, Follows}
 use Rattle.step_world.specs.declared.machine.Machine.{Machine}
 
 -- what a machine shows at the begin
-pub at_begin : (plan : Plan) (chains : ℕ) (m : Machine) → IsProper plan → RepresentsRun plan chains m (start_run (config_of plan chains)) → IsRunOf plan chains m (start_run (config_of plan chains))
-at_begin plan chains m p h = record { shows = h; on_track = begins plan chains p }
+pub at_begin : (plan : Plan) (m : Machine) → IsProper plan → RepresentsRun plan m (start_run (config_of plan)) → IsRunOf plan m (start_run (config_of plan))
+at_begin plan m p h = record { shows = h; on_track = begins_on_track plan p }
 
 -- and behind a turn
-pub behind_turn : (plan : Plan) (chains : ℕ) (old new : Machine) (answer : Turn) (t : ℕ) → IsProper plan → t < length plan.threads
-    → Follows plan old new answer (λ chains r. Unit {0}) (λ chains r. turn_of plan chains r t) → (r : Run) → IsRunOf plan chains old r → IsRunOf plan chains new (turn_of plan chains r t).run
-behind_turn plan chains old new answer t p l follows r h = record { shows = (follows chains r h tt).1; on_track = stays plan chains r t p h.on_track l }
+pub behind_turn : (plan : Plan) (old new : Machine) (answer : Turn) (t : ℕ) → IsProper plan → t < length plan.threads
+    → Follows plan t old new answer (λ r. Unit {0}) → (r : Run) → IsRunOf plan old r → IsRunOf plan new (run_behind plan r t)
+behind_turn plan old new answer t p l follows r h = record { shows = (follows r h tt).1; on_track = turned plan r t p h.on_track l }

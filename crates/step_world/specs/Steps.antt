@@ -1,9 +1,11 @@
--- What a method of a machine promises: where the objects show a lawful state in which a step may be made, they show the state behind it.
+-- What a method of a machine promises: where the objects represent a lawful state in which a step may be made, they
+-- represent the state behind it.
 use Rattle.std.specs.Prelude.{◌≡◌, ℕ, ◌<◌, ◌==◌, if◌then◌else◌, List, length, slice_get, option_map, Option, IfSome}
 use Rattle.std.specs.List.{Contains}
 use Rattle.lock_model.specs.Config.{Config}
 use Rattle.lock_state.specs.State.{State}
 use Rattle.lock_state.specs.Facts.{Lawful}
+use Rattle.lock_state.specs.Steps.{Step, May as MayMake, MayAll, after, after_all}
 use Rattle.lock_model.specs.declared.event.Event.{Event}
 use Rattle.lock_model.specs.declared.event.Event.TheVariants.{Set, Added}
 use Rattle.lock_model.specs.declared.event.Held.{Held}
@@ -13,22 +15,28 @@ use Rattle.step_world.specs.Represents.{Represents}
 
 -- 1. Steps
 
--- the machine shows a lawful state in which the step may be made
+-- the machine represents a lawful state in which the step may be made
 abbrev pub May : Machine → (Config → State → Type 0) → Type 0
 May m guard = (c : Config) × (s : State) × Represents c m s × Lawful c s × guard c s
 
--- whatever lawful state it showed in which the step may be made, it shows the state behind it
-abbrev pub Makes : Machine → Machine → (Config → State → Type 0) → (Config → State → State) → Type 0
-Makes old new guard effect = (c : Config) (s : State) → Represents c old s → Lawful c s → guard c s → Represents c new (effect c s)
+-- whatever lawful state it represented in which the step may be made, it represents the state behind it
+abbrev pub Makes : Machine → Machine → Step → Type 0
+Makes old new step = (c : Config) (s : State) → Represents c old s → Lawful c s → MayMake c s step
+    → Represents c new (after c s step)
 
--- 2. What no column tells: how far each thread is, and the list of what it holds in order of acquisition
+-- the same of steps in a row
+abbrev pub MakesAll : Machine → Machine → List Step → Type 0
+MakesAll old new steps = (c : Config) (s : State) → Represents c old s → Lawful c s → MayAll c s steps
+    → Represents c new (after_all c s steps)
+
+-- 2. What no column tells: each thread's next operation, and the list of what it holds in order of acquisition
 
 pub record Progress : Type 0 where
-  pub place : ℕ
+  pub next_op : ℕ
   pub held : List Held
 
 abbrev pub progress_of : Thread → Progress
-progress_of th = record { place = th.place; held = th.held.items }
+progress_of th = record { next_op = th.next_op; held = th.held.items }
 
 -- of one thread
 abbrev pub progress : Machine → ℕ → Option Progress

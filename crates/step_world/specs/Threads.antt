@@ -17,7 +17,7 @@ pub record IsNew (t base : ℕ) (th : Thread) : Type 0 where
   pub holds_none : th.held.items ≡ []
   pub held_room : 8 ≤ vec_capacity th.held
   pub unmarked : th.marked ≡ []
-  pub at_begin : th.place ≡ 0
+  pub at_begin : th.next_op ≡ 0
 
 abbrev pub has_no_walk : walks.Walk → Bool
 has_no_walk walk.None = true
@@ -26,4 +26,4 @@ has_no_walk (walk.AtThread t) = false
 
 -- whether it has so many operations behind it, owes nothing and holds nothing
 abbrev pub thread_has_ended : ℕ → Thread → Bool
-thread_has_ended operations th = nat_le operations th.place && has_no_walk th.walk && is_empty th.marked && is_empty th.held.items
+thread_has_ended operations th = nat_le operations th.next_op && has_no_walk th.walk && is_empty th.marked && is_empty th.held.items

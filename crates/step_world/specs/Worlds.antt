@@ -1,7 +1,10 @@
--- What a world is seen as, and which run of its plan it shows.
-use Rattle.std.specs.Prelude.{ℕ, ◌≤◌}
+-- What a world is seen as, and which run of its plan it represents.
+use Rattle.std.specs.Prelude.{◌≡◌, ℕ, ◌≤◌, ◌<◌}
+use Rattle.lock_model.specs.Config.{Config}
 use Rattle.lock_model.specs.Operations.{IsProper}
+use Rattle.lock_state.specs.Best.{NobodyWalks, HasCycle, best_behind}
 use Rattle.lock_state.specs.Run.{Run}
+use Rattle.lock_state.specs.State.{State}
 use Rattle.lock_model.specs.declared.plan.Plan.{Plan}
 use Rattle.step_world.specs.declared.machine.Machine.{Machine}
 use Rattle.step_world.specs.Runs.{IsRunOf}
@@ -12,13 +15,17 @@ pub record World : Type 0 where
   pub chains : ℕ
   pub machine : Machine
 
--- the world shows the run, which is on track: so its state is lawful
+-- the world represents the run, which is on track: so its state is lawful
 abbrev pub Represents : World → Run → Type 0
-Represents w r = IsRunOf w.plan w.chains w.machine r
+Represents w r = IsRunOf w.plan w.machine r
 
--- what is true of each world: its plan is proper, and it shows a run on track
+-- what is true of each world: its plan is proper, and it represents a run on track
 pub record IsSound (w : World) : Type 0 where
   pub proper : IsProper w.plan
   pub some_chains : 1 ≤ w.chains
   pub few_chains : w.chains ≤ 64
   pub run : (r : Run) × Represents w r
+
+-- where nobody walks and no cycle of threads waits, each effective priority is the best behind its thread
+abbrev pub HasBest : Config → State → Type 0
+HasBest c s = NobodyWalks c s → (HasCycle s → ⊥) → (t : ℕ) → t < c.threads → s.effective t ≡ best_behind c s t

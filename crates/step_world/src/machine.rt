@@ -41,7 +41,7 @@ impl Machine {
     /// All objects at home, all locks free, and memory for every entry that the plan's operations can make.
     pub fn make(alloc: Global, plan: &Plan) -> Result<Machine, AllocError>
         requires { IsProper plan.now }
-        ensures { IfOk result (λ m. (chains : ℕ) → RepresentsRun plan.now chains m (start_run (config_of plan.now chains))) }
+        ensures { IfOk result (λ m. RepresentsRun plan.now m (start_run (config_of plan.now))) }
     {
         Ok(Machine {
             words: vec![in alloc; 0; plan.locks.as_slice().len()]?,
@@ -55,12 +55,12 @@ impl Machine {
     /// The thread has its operation behind it.
     pub fn end_operation(&mut self, t: ThreadNo)
         requires thread { t.0 < length self.old.threads.items }
-        requires within { IfSome (progress self.old t.0) (λ a. a.place < 20000) }
+        requires within { IfSome (progress self.old t.0) (λ a. a.next_op < 20000) }
         ensures shows { (c : Config) (s : State) → Represents c self.old s → Represents c self.new s }
-        ensures progress { ChangesProgress self.old self.new t.0 (λ a. record a { place = suc a.place }) }
+        ensures progress { ChangesProgress self.old self.new t.0 (λ a. record a { next_op = suc a.next_op }) }
         ensures books { KeepsBooks self.old self.new }
     {
-        self.threads[usize::from(t.0)].place += 1;
+        self.threads[usize::from(t.0)].next_op += 1;
     }
 }
 

@@ -53,8 +53,8 @@ struct Course<'p> {
 fn make_turns(course: &mut Course<'_>, turns: u32) -> Result<(), AllocError>
     requires { IsUnderWay course.old }
     ensures under_way { OnOk result (IsUnderWay course.new) }
-    ensures turns { OnOk result ((plan : plans.Plan) (chains : ℕ) → IsCourse plan chains course.old (start_course plan chains)
-        → IsCourse plan chains course.new (course_after plan chains turns)) }
+    ensures turns { OnOk result ((plan : plans.Plan) (chains : ℕ) → IsCourse plan chains course.old (start_course plan)
+        → IsCourse plan chains course.new (course_after plan turns)) }
 {
     let mut made = 0;
     while made < turns && !course.is_over() {
@@ -70,7 +70,7 @@ impl<'p> Course<'p> {
         requires proper { IsProper plan.now }
         requires some_chains { 1 ≤ chains }
         requires few_chains { chains ≤ 64 }
-        ensures { IfOk result (λ course. IsCourse plan.now chains course (start_course plan.now chains)) }
+        ensures { IfOk result (λ course. IsCourse plan.now chains course (start_course plan.now)) }
     {
         Ok(Course {
             world: World::make(alloc, plan, chains)?,
@@ -82,7 +82,7 @@ impl<'p> Course<'p> {
 
     // Whether all threads have ended, or a whole round was idle.
     fn is_over(&self) -> bool
-        ensures { (plan : plans.Plan) (chains : ℕ) (k : run.Course) → IsCourse plan chains self.now k → result ≡ is_over plan chains k }
+        ensures { (plan : plans.Plan) (chains : ℕ) (k : run.Course) → IsCourse plan chains self.now k → result ≡ is_over plan k }
     {
         all_ended(&self.world) || self.is_stuck()
     }
@@ -97,7 +97,7 @@ impl<'p> Course<'p> {
     fn go_on(&mut self) -> Result<(), AllocError>
         requires { IsUnderWay self.old }
         ensures { OnOk result ((plan : plans.Plan) (chains : ℕ) (k : run.Course) → IsCourse plan chains self.old k
-            → IsCourse plan chains self.new (after_turn plan chains k k.coming)) }
+            → IsCourse plan chains self.new (after_turn plan k k.coming)) }
     {
         if self.gone == self.coming.len() {
             self.begin_round()?;
@@ -109,7 +109,7 @@ impl<'p> Course<'p> {
     // Nobody of the schedule or of the round before comes any more.
     fn begin_round(&mut self) -> Result<(), AllocError>
         ensures { OnOk result ((plan : plans.Plan) (chains : ℕ) (k : run.Course) → IsCourse plan chains self.old k
-            → IsCourse plan chains self.new (record k { coming = round_of plan chains k.run; idle = true })) }
+            → IsCourse plan chains self.new (record k { coming = round_of plan k.run; idle = true })) }
     {
         put_round(&self.world, &mut self.coming)?;
         self.gone = 0;
@@ -121,7 +121,7 @@ impl<'p> Course<'p> {
     fn make_turn(&mut self)
         requires { IsUnderWay self.old }
         ensures { (plan : plans.Plan) (chains : ℕ) (k : run.Course) → IsCourse plan chains self.old k
-            → IsCourse plan chains self.new (with_turn plan chains k.run k.coming k.idle) }
+            → IsCourse plan chains self.new (with_turn plan k.run k.coming k.idle) }
     {
         if let Some(t) = self.coming.get(self.gone) {
             let turn = self.world.turn(*t);
@@ -132,7 +132,7 @@ impl<'p> Course<'p> {
 
     // How the run ended.
     fn last(&self) -> Last
-        ensures { (plan : plans.Plan) (chains : ℕ) (k : run.Course) → IsCourse plan chains self.now k → ending_of result ≡ ending_of_course plan chains k }
+        ensures { (plan : plans.Plan) (chains : ℕ) (k : run.Course) → IsCourse plan chains self.now k → ending_of result ≡ ending_of_course plan k }
     {
         if all_ended(&self.world) {
             Last::Done
@@ -166,7 +166,7 @@ impl<'p> Course<'p> {
 
 // Whether all threads have ended.
 fn all_ended(world: &World<'_>) -> bool
-    ensures { (r : run.Run) → Represents world.now r → result ≡ all_ended world.now.plan world.now.chains r }
+    ensures { (r : run.Run) → Represents world.now r → result ≡ all_ended world.now.plan r }
 {
     for t in 0..world.threads() {
         if !world.has_ended(ThreadNo(t)) {
@@ -178,7 +178,7 @@ fn all_ended(world: &World<'_>) -> bool
 
 // A round goes over the threads that haven't ended, by number.
 fn put_round(world: &World<'_>, coming: &mut Vec<ThreadNo>) -> Result<(), AllocError>
-    ensures round { OnOk result ((r : run.Run) → Represents world.now r → map (λ t. t.0) coming.new.items ≡ round_of world.now.plan world.now.chains r) }
+    ensures round { OnOk result ((r : run.Run) → Represents world.now r → map (λ t. t.0) coming.new.items ≡ round_of world.now.plan r) }
     ensures threads { OnOk result (All (λ t. t.0 < length world.now.plan.threads) coming.new.items) }
 {
     coming.clear();

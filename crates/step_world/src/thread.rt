@@ -2,22 +2,22 @@
 ghost use Rattle.std.specs.Prelude.{◌≡◌, ◌≤◌, [], length, position, IfOk};
 ghost use Rattle.std.specs.Vec.{vec_capacity};
 ghost use Rattle.lock_model.specs.Operations.{without_lock};
-ghost use Rattle.lock_model.specs.Script.{holds_lock};
+ghost use Rattle.lock_model.specs.Operations.{holds_lock};
 ghost use Rattle.step_world.specs.Threads.{IsNew, thread_has_ended};
 
 use lock_model::limits::HELD;
-use lock_model::{Held, LockNo, Op, Prio, ThreadNo};
+use lock_model::{Held, LockNo, Op, Prio, QueueName, ThreadNo};
 use prio_lending::Walk;
 use std::alloc::{AllocError, Global};
 use thread_records::ThreadRec;
 use turnstile_core::Taken;
 
-/// Whether a thread runs, stands on a queue or is about to be taken off it, or was woken from a lock's queue.
+/// Whether a thread runs, stands on a queue or is about to be taken off it, or was woken from one.
 #[derive(Clone, Copy, Debug, PartialEq, Eq)]
 pub enum Wait {
     Running,
     Queued,
-    Woken(LockNo),
+    Woken(QueueName),
 }
 
 /// A thread between two steps.
@@ -30,11 +30,11 @@ pub struct Thread {
     pub wanted: Option<LockNo>,
     /// The locks that it holds, in order of acquisition. There is room for as many as a thread may hold.
     pub held: Vec<Held>,
-    /// The waiters that it took off a lock's queue and has yet to wake, and that lock.
+    /// The waiters that it took off a queue and has yet to wake, and that queue.
     pub marked: Taken,
-    pub marked_from: LockNo,
+    pub marked_from: QueueName,
     /// How many of its operations are behind it.
-    pub place: usize,
+    pub next_op: usize,
 }
 
 impl Thread {
@@ -49,8 +49,8 @@ impl Thread {
             wanted: None,
             held: Vec::with_capacity(alloc, HELD)?,
             marked: Taken::empty(),
-            marked_from: LockNo(0),
-            place: 0,
+            marked_from: QueueName::Lock(LockNo(0)),
+            next_op: 0,
         })
     }
 
@@ -58,7 +58,7 @@ impl Thread {
     pub fn has_ended(&self, ops: &[Op]) -> bool
         ensures { result ≡ thread_has_ended (length ops.now) self.now }
     {
-        self.place >= ops.len()
+        self.next_op >= ops.len()
             && self.walk == Walk::None
             && self.marked.is_empty()
             && self.held.is_empty()

@@ -1,32 +1,32 @@
-//! The table of turns: which steps a thread makes when it has its turn. Each function is a row, or the operations of one sort, and follows the
-//! definition of the same name in `lock_model`'s `specs/Run.antt`.
-ghost use Rattle.std.specs.Prelude.{◌≡◌, ◌<◌, [], length, slice_get, Some, ℕ, nat_lt, option_map, MatchOption};
+//! The table of turns: which steps a thread makes when it has its turn. Each function is a row, or the operations of one
+//! sort, and follows the definition of the same name in `lock_state`'s `specs/Run.antt`.
+ghost use Rattle.std.specs.Prelude.{◌≡◌, ◌<◌, length, Some, ℕ, nat_lt, option_map, MatchOption};
 ghost use Rattle.lock_state.specs.Facts.{Lawful};
 ghost use Rattle.lock_model.specs.Operations.{IsProper};
-ghost use Rattle.lock_model.specs.Plans.{config_of, operations_of};
-ghost use Rattle.lock_state.specs.Run.{Run, turn_of, has_ended, by_walk, by_wait, operates, takes, releases, notes, walks_at_lock, walks_at_thread};
 ghost use Rattle.lock_model.specs.Config.{Config};
-ghost use Rattle.lock_state.specs.State.{State, Running, NoWalk, AtLock, AtThread};
-ghost use Rattle.lock_model.specs.Words.{word_of, IsWellFormed, shows_waiters, owner_of};
+ghost use Rattle.lock_state.specs.State.{State, AtLock, AtThread};
 ghost use Rattle.lock_model.specs.Queues.{lock_queue, stands};
+ghost use Rattle.lock_laws.specs.OnTrack.{IsAtOperation};
 ghost use Rattle.step_world.specs.Represents.{Represents};
-ghost use Rattle.step_world.specs.Runs.{HasRun, Follows, IsAtOperation, IsFree, IsNote, IsNowhere};
+ghost use Rattle.step_world.specs.Steps.{HasKey};
+ghost use Rattle.step_world.specs.Runs.{HasRun, Follows, KeepsWhereIdle, IsFree, IsNote, IsNowhere};
 
 use crate::machine::Machine;
 use crate::thread::Wait;
 use lock_model::{Event, Kind, LockNo, Mode, Op, Plan, QueueName, StepKind, ThreadNo, Turn};
-use lock_words::{admits, decode};
+use lock_words::{admits, is_drop};
 use prio_lending::Walk;
 
 /// One turn of a thread: a walk first, then the marked list, then the wait word, and then its operation.
 pub fn turn(machine: &mut Machine, plan: &Plan, t: ThreadNo) -> Turn
     requires proper { IsProper plan.now }
     requires thread { t.0 < length plan.now.threads }
-    requires run { HasRun plan.now machine.old (λ chains r. Unit) }
-    ensures { Follows plan.now machine.old machine.new result (λ chains r. Unit) (λ chains r. turn_of plan.now chains r t.0) }
+    requires run { HasRun plan.now machine.old (λ r. Unit) }
+    ensures follows { Follows plan.now t.0 machine.old machine.new result (λ r. Unit) }
+    ensures unchanged { KeepsWhereIdle result machine.old machine.new }
 {
     let thread = &machine.threads[usize::from(t.0)];
-    if thread.has_ended(operations(plan, t)) {
+    if thread.has_ended(plan.operations_of(t)) {
         return Turn::Ended;
     }
     match thread.walk {
@@ -47,9 +47,9 @@ pub fn turn(machine: &mut Machine, plan: &Plan, t: ThreadNo) -> Turn
 fn walk_at_lock(machine: &mut Machine, plan: &Plan, t: ThreadNo, l: LockNo) -> Turn
     requires proper { IsProper plan.now }
     requires thread { t.0 < length plan.now.threads }
-    requires run { HasRun plan.now machine.old (λ chains r. r.state.walk t.0 ≡ AtLock l.0) }
-    ensures { Follows plan.now machine.old machine.new result (λ chains r. r.state.walk t.0 ≡ AtLock l.0)
-        (λ chains r. walks_at_lock (config_of plan.now chains) r t.0 l.0 (owner_of (r.state.word l.0).holder) (r.state.head (lock_queue l.0))) }
+    requires run { HasRun plan.now machine.old (λ r. r.state.walk t.0 ≡ AtLock l.0) }
+    ensures follows { Follows plan.now t.0 machine.old machine.new result (λ r. r.state.walk t.0 ≡ AtLock l.0) }
+    ensures unchanged { KeepsWhereIdle result machine.old machine.new }
 {
     match owner_at(machine, l) {
         Some(owner) => {
@@ -78,9 +78,9 @@ fn owner_at(machine: &Machine, l: LockNo) -> Option<ThreadNo>
 fn walk_at_thread(machine: &mut Machine, plan: &Plan, t: ThreadNo, o: ThreadNo) -> Turn
     requires proper { IsProper plan.now }
     requires thread { t.0 < length plan.now.threads }
-    requires run { HasRun plan.now machine.old (λ chains r. r.state.walk t.0 ≡ AtThread o.0) }
-    ensures { Follows plan.now machine.old machine.new result (λ chains r. r.state.walk t.0 ≡ AtThread o.0)
-        (λ chains r. walks_at_thread (config_of plan.now chains) r t.0 o.0 (r.state.blocked_on o.0)) }
+    requires run { HasRun plan.now machine.old (λ r. r.state.walk t.0 ≡ AtThread o.0) }
+    ensures follows { Follows plan.now t.0 machine.old machine.new result (λ r. r.state.walk t.0 ≡ AtThread o.0) }
+    ensures unchanged { KeepsWhereIdle result machine.old machine.new }
 {
     match stands_at(machine, o) {
         Some(l) => {
@@ -132,9 +132,9 @@ fn waits(machine: &Machine, o: ThreadNo, l: LockNo) -> bool
 fn by_wait(machine: &mut Machine, plan: &Plan, t: ThreadNo) -> Turn
     requires proper { IsProper plan.now }
     requires thread { t.0 < length plan.now.threads }
-    requires run { HasRun plan.now machine.old (λ chains r. IsFree r t.0) }
-    ensures { Follows plan.now machine.old machine.new result (λ chains r. IsFree r t.0)
-        (λ chains r. by_wait plan.now (config_of plan.now chains) r t.0 (r.state.wait t.0)) }
+    requires run { HasRun plan.now machine.old (λ r. IsFree plan.now r t.0) }
+    ensures follows { Follows plan.now t.0 machine.old machine.new result (λ r. IsFree plan.now r t.0) }
+    ensures unchanged { KeepsWhereIdle result machine.old machine.new }
 {
     let thread = &machine.threads[usize::from(t.0)];
     match thread.wait {
@@ -143,7 +143,7 @@ fn by_wait(machine: &mut Machine, plan: &Plan, t: ThreadNo) -> Turn
             machine.resume(t);
             Turn::Did(StepKind::Resume)
         }
-        Wait::Running => match operations(plan, t).get(thread.place) {
+        Wait::Running => match plan.operations_of(t).get(thread.next_op) {
             Some(op) => operate(machine, plan, t, *op),
             None => Turn::Idle,
         },
@@ -154,9 +154,9 @@ fn by_wait(machine: &mut Machine, plan: &Plan, t: ThreadNo) -> Turn
 fn operate(machine: &mut Machine, plan: &Plan, t: ThreadNo, op: Op) -> Turn
     requires proper { IsProper plan.now }
     requires thread { t.0 < length plan.now.threads }
-    requires run { HasRun plan.now machine.old (λ chains r. IsAtOperation plan.now r t.0 op) }
-    ensures { Follows plan.now machine.old machine.new result (λ chains r. IsAtOperation plan.now r t.0 op)
-        (λ chains r. operates (config_of plan.now chains) r t.0 (Some op)) }
+    requires run { HasRun plan.now machine.old (λ r. IsAtOperation plan.now r t.0 (Some op)) }
+    ensures follows { Follows plan.now t.0 machine.old machine.new result (λ r. IsAtOperation plan.now r t.0 (Some op)) }
+    ensures unchanged { KeepsWhereIdle result machine.old machine.new }
 {
     match op {
         Op::Take { l, .. } => take(machine, plan, t, l),
@@ -174,7 +174,8 @@ fn operate(machine: &mut Machine, plan: &Plan, t: ThreadNo, op: Op) -> Turn
             let eff = record.eff();
             note(machine, plan, t, Event::Shown { base, eff })
         }
-        _ => Turn::Idle,
+        Op::Try { .. } | Op::EndTry | Op::Sleep { .. } | Op::WakeOne { .. } | Op::WakeAll { .. } =>
+            Turn::Idle,
     }
 }
 
@@ -182,18 +183,18 @@ fn operate(machine: &mut Machine, plan: &Plan, t: ThreadNo, op: Op) -> Turn
 fn take(machine: &mut Machine, plan: &Plan, t: ThreadNo, l: LockNo) -> Turn
     requires proper { IsProper plan.now }
     requires thread { t.0 < length plan.now.threads }
-    requires run { HasRun plan.now machine.old (λ chains r. IsAtOperation plan.now r t.0 (Op.Take l Mode.Excl)) }
-    ensures { Follows plan.now machine.old machine.new result (λ chains r. IsAtOperation plan.now r t.0 (Op.Take l Mode.Excl))
-        (λ chains r. takes (config_of plan.now chains) r t.0 l Mode.Excl) }
+    requires run { HasRun plan.now machine.old (λ r. IsAtOperation plan.now r t.0 (Some (Op.Take l Mode.Excl))) }
+    ensures follows { Follows plan.now t.0 machine.old machine.new result (λ r. IsAtOperation plan.now r t.0 (Some (Op.Take l Mode.Excl))) }
+    ensures unchanged { KeepsWhereIdle result machine.old machine.new }
 {
     let mode = Mode::Excl;
     if admits(Kind::Mtx, machine.words[usize::from(l.0)], mode) {
-        machine.gain(t, l);
+        machine.gain(t, l, mode);
         machine.stamp(t, Event::Locked { l, mode });
         machine.end_operation(t);
         Turn::Did(StepKind::Gain)
     } else {
-        machine.block(t, l);
+        machine.block(t, l, mode);
         Turn::Did(StepKind::Enter)
     }
 }
@@ -202,52 +203,34 @@ fn take(machine: &mut Machine, plan: &Plan, t: ThreadNo, l: LockNo) -> Turn
 fn release(machine: &mut Machine, plan: &Plan, t: ThreadNo, l: LockNo) -> Turn
     requires proper { IsProper plan.now }
     requires thread { t.0 < length plan.now.threads }
-    requires run { HasRun plan.now machine.old (λ chains r. IsAtOperation plan.now r t.0 (Op.Release l)) }
-    ensures { Follows plan.now machine.old machine.new result (λ chains r. IsAtOperation plan.now r t.0 (Op.Release l))
-        (λ chains r. releases (config_of plan.now chains) r t.0 l (r.state.held t.0 l.0)) }
+    requires run { HasRun plan.now machine.old (λ r. IsAtOperation plan.now r t.0 (Some (Op.Release l))) }
+    ensures follows { Follows plan.now t.0 machine.old machine.new result (λ r. IsAtOperation plan.now r t.0 (Some (Op.Release l))) }
+    ensures unchanged { KeepsWhereIdle result machine.old machine.new }
 {
     let mode = Mode::Excl;
-    let shown = shows_waiters(machine.words[usize::from(l.0)]);
+    let drops = is_drop(machine.words[usize::from(l.0)]);
     machine.stamp(t, Event::Unlocked { l, mode });
-    if shown {
-        machine.open(t, l);
-        machine.end_operation(t);
-        Turn::Did(StepKind::OpenUp)
-    } else {
-        machine.drop_lock(t, l);
+    if drops {
+        machine.drop_lock(t, l, mode);
         machine.end_operation(t);
         Turn::Did(StepKind::Drop)
+    } else {
+        machine.open(t, l, Kind::Mtx);
+        machine.end_operation(t);
+        Turn::Did(StepKind::OpenUp)
     }
-}
-
-// Whether a lock's word shows waiters.
-fn shows_waiters(word: u64) -> bool
-    requires { IsWellFormed (word_of word) }
-    ensures { result ≡ shows_waiters (word_of word) }
-{
-    let view = decode(word);
-    view.xw || view.sw
 }
 
 // An operation that only makes an entry, which the run may make.
 fn note(machine: &mut Machine, plan: &Plan, t: ThreadNo, event: Event) -> Turn
     requires proper { IsProper plan.now }
     requires thread { t.0 < length plan.now.threads }
-    requires run { HasRun plan.now machine.old (λ chains r. IsNote plan.now chains r t.0 event) }
-    ensures { Follows plan.now machine.old machine.new result (λ chains r. IsNote plan.now chains r t.0 event)
-        (λ chains r. notes (config_of plan.now chains) r t.0 event) }
+    requires run { HasRun plan.now machine.old (λ r. IsNote plan.now r t.0 event) }
+    requires key { HasKey machine.old event }
+    ensures follows { Follows plan.now t.0 machine.old machine.new result (λ r. IsNote plan.now r t.0 event) }
+    ensures unchanged { KeepsWhereIdle result machine.old machine.new }
 {
     machine.stamp(t, event);
     machine.end_operation(t);
     Turn::Did(StepKind::Note)
-}
-
-/// The operations of a thread, in order.
-pub fn operations(plan: &Plan, t: ThreadNo) -> &[Op]
-    ensures { result.now ≡ operations_of plan.now t.0 }
-{
-    match plan.threads.as_slice().get(usize::from(t.0)) {
-        Some(decl) => decl.ops.as_slice(),
-        None => &[],
-    }
 }

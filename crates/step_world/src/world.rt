@@ -1,13 +1,14 @@
 //! The world of a scheduled run, and its turns.
-ghost use Rattle.std.specs.Prelude.{◌≡◌, ◌≤◌, ◌<◌, length, IfOk};
-ghost use Rattle.lock_state.specs.Facts.{Lawful};
+ghost use Rattle.std.specs.Prelude.{◌≡◌, ◌⊎◌, ◌↔◌, ◌≤◌, ◌<◌, true, length, IfOk};
+ghost use Rattle.lock_state.specs.Facts.{LawfulTurn};
 ghost use Rattle.lock_model.specs.Operations.{IsProper};
 ghost use Rattle.lock_model.specs.Plans.{config_of};
-ghost use Rattle.lock_state.specs.Run.{Run, start_run, turn_of, has_ended};
-ghost use Rattle.step_world.specs.Worlds.{Represents};
+ghost use Rattle.lock_state.specs.Run.{Run, start_run, turn_of, run_behind, has_ended};
+ghost use Rattle.lock_laws.specs.OnTrack.{IsSleeping};
+ghost use Rattle.step_world.specs.Worlds.{Represents, HasBest};
 
 use crate::machine::Machine;
-use crate::turns::{operations, turn};
+use crate::turns::turn;
 use lock_model::{Plan, ThreadNo, Turn};
 use std::alloc::{AllocError, Global};
 use std::marker::Model;
@@ -51,7 +52,7 @@ impl<'p> World<'p> {
         requires few_chains { chains ≤ 64 }
         ensures plan { IfOk result (λ w. w.plan ≡ plan.now) }
         ensures chains { IfOk result (λ w. w.chains ≡ chains) }
-        ensures begins { IfOk result (λ w. Represents w (start_run (config_of plan.now chains))) }
+        ensures begins { IfOk result (λ w. Represents w (start_run (config_of plan.now))) }
     {
         let machine = Machine::make(alloc, plan)?;
         Ok(World {
@@ -61,15 +62,22 @@ impl<'p> World<'p> {
         })
     }
 
-    /// Makes one turn of a thread, which the plan declares: the first row of the table that fits, with its answer. `Ended` comes where the
-    /// thread has ended, and `Idle` where it is queued and owes nothing; both change nothing. It takes no memory.
+    /// Makes one turn of a thread, which the plan declares: the first row of the table that fits, with its answer. `Ended`
+    /// comes exactly where the thread has ended, and `Idle` exactly where it sleeps: it hasn't ended, its wait word says
+    /// Queued, and it has no walk and no marked list. Both change nothing. It takes no memory.
     pub fn turn(&mut self, t: ThreadNo) -> Turn
         requires { t.0 < length self.old.plan.threads }
         ensures plan { self.new.plan ≡ self.old.plan }
         ensures chains { self.new.chains ≡ self.old.chains }
-        ensures answer { (r : Run) → Represents self.old r → result ≡ (turn_of self.old.plan self.old.chains r t.0).answer }
-        ensures turn { (r : Run) → Represents self.old r → Represents self.new (turn_of self.old.plan self.old.chains r t.0).run }
-        ensures lawful { (r : Run) × Represents self.new r × Lawful (config_of self.new.plan self.new.chains) r.state }
+        ensures answer { (r : Run) → Represents self.old r → result ≡ (turn_of self.old.plan r t.0).answer }
+        ensures turn { (r : Run) → Represents self.old r → Represents self.new (run_behind self.old.plan r t.0) }
+        ensures idle { (r : Run) → Represents self.old r
+            → result ≡ Turn.Idle ↔ IsSleeping self.old.plan r t.0 }
+        ensures ended { (r : Run) → Represents self.old r
+            → result ≡ Turn.Ended ↔ has_ended self.old.plan r t.0 ≡ true }
+        ensures unchanged { (result ≡ Turn.Idle) ⊎ (result ≡ Turn.Ended) → self.new ≡ self.old }
+        ensures lawful { (r : Run) × Represents self.new r × LawfulTurn (config_of self.new.plan) r.state }
+        ensures best { (r : Run) → Represents self.new r → HasBest (config_of self.new.plan) r.state }
     {
         let world: &mut World<'p> = self;
         turn(&mut world.machine, world.plan, t)
@@ -78,9 +86,9 @@ impl<'p> World<'p> {
     /// Whether a thread, which the plan declares, has ended: its operations are done, it owes nothing and holds nothing.
     pub fn has_ended(&self, t: ThreadNo) -> bool
         requires { t.0 < length self.now.plan.threads }
-        ensures { (r : Run) → Represents self.now r → result ≡ has_ended self.now.plan self.now.chains r t.0 }
+        ensures { (r : Run) → Represents self.now r → result ≡ has_ended self.now.plan r t.0 }
     {
-        self.machine.threads[usize::from(t.0)].has_ended(operations(self.plan, t))
+        self.machine.threads[usize::from(t.0)].has_ended(self.plan.operations_of(t))
     }
 
     /// The number of threads.

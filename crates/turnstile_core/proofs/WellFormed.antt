@@ -1,5 +1,5 @@
 -- Each change of a turnstile keeps its lists in order and its free list one shorter than they are together.
-use Rattle.std.proofs.Common.{◌≡◌, ◌≢◌, ℕ, zero, suc, ◌+◌, ◌≤◌, ◌<◌, false, eqb, List, [], ◌∷◌, ◌++◌, length, drop, refl, ap, sym, ◌∙◌, inl, inr, arith, eq-eqb, length-drop}
+use Rattle.std.proofs.Common.{◌≡◌, ◌≢◌, ℕ, zero, suc, ◌+◌, ◌≤◌, ◌<◌, false, eqb, List, [], ◌∷◌, ◌++◌, length, drop, refl, ap, ◌∙◌, inl, inr, arith, eq-eqb, length-drop}
 use Rattle.std.proofs.lemmas.Bool.{cases_eq, ne_eqb, ltb-false}
 use Rattle.lock_model.specs.Counts.{one}
 use Rattle.lock_model.specs.Queues.{Waiter as Waiting, times_waiting, stands, insert, without, reinsert, Ascends}

@@ -89,7 +89,7 @@ module _ (chains : ℕ) (c : Config) (s : State) (l : Lawful c s) (h : SleepersF
       stamped_fair t e g.acting.unnamed v lt w i w.all w.taken refl (h.unnoted_is_fair v w lt i)
   fair_kept (Adds t k y) g o x = λ v w lt f.
       elim (cases_eq k w.chan) [
-        | inl z ↦ absurd (let i = its_thread t k v w o.0 f z in let j : None ≡ Some w = sym x.1 ∙ ap s.unstamped i ∙ f in cc)
+        | inl z ↦ absurd (let i = its_thread t k v w o.0 f z in let j : None ≡ Some w = sym x.stamped ∙ ap s.unstamped i ∙ f in cc)
         | inr z ↦ rw (put_chan_other s.lists k (record (s.lists (chan_queue k)) { exclusive = with_last (record { thread = t; kept = s.base t }) (s.lists (chan_queue k)).exclusive }) w.chan z) (h.unnoted_is_fair v w lt f)
       ]
   fair_kept (Wakes t d all) g o x = λ v w lt f.

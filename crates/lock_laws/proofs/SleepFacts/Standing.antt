@@ -18,7 +18,7 @@ use Rattle.lock_state.specs.Steps.Items.{Item, SleepChain, IsOnItsWay, IsDoneWit
 use Rattle.lock_state.specs.Steps.{Step, TakesItem, GivesItem, Gains, Stamps, Readies, Unreadies, Enters, EntersSleepQueue, Adds, Marks, Resumes, Claims, May, HasOut, HasOutForEntry, HasSeen, after}
 use Rattle.lock_state.specs.Facts.{Lawful, LogsAreParts}
 use Rattle.lock_state.specs.Facts.Sleeps.{signals, signals_noted, AreSignals, NamedAreWoken, MarksAreSignals, SleepersSlept, SleepersWantNothing, SleepersAreUnwoken, AsleepStandThere, AsleepAreOnTheirWay}
-use Rattle.lock_laws.specs.Sleepers.{SleepersFit}
+use Rattle.lock_laws.specs.Sleepers.{SleepersFit, NoSleepIsHalted}
 use Rattle.lock_laws.proofs.Kit.{columns, put_same, put_other, sum_below-at}
 use Rattle.lock_laws.proofs.Items.{beside}
 use Rattle.lock_laws.proofs.Mark as mark
@@ -117,10 +117,22 @@ module _ (chains : ℕ) (c : Config) (s : State) (l : Lawful c s) (h : SleepersF
   log_slept t d a = ap (has_slept d) (l.logs_are_parts t) ∙ asleep_slept s.history d t a
 
   pub on_its_way : (t d : ℕ) → is_asleep s.history d t ≡ true → s.blocked_on t ≡ None → IsOnItsWay s t
-  unfolding AsleepAreOnTheirWay
+  unfolding AsleepAreOnTheirWay NamedAreWoken NoSleepIsHalted
   on_its_way t d a n =
       let p = h.asleep_are_on_their_way t d a n in
-      record { queued = p.0; nowhere = n; wants = p.1; slept = slept_back d (s.log t) (log_slept t d a) }
+      let z = ap one (asleep_unnamed s.history d t a) in
+      record {
+        queued = p.0;
+        nowhere = n;
+        wants = p.1;
+        slept = slept_back d (s.log t) (log_slept t d a);
+        unwoken = none_there (s.woken_from t) (omega (arith, h.named_are_woken t));
+        unhalted = h.no_sleep_is_halted t;
+      }
+    where
+      none_there : (o : Option ℕ) → some o ≡ 0 → o ≡ None
+      none_there None e = refl
+      none_there (Some k) e = absurd (omega arith)
 
   pub has_its_chain : (t d : ℕ) → is_asleep s.history d t ≡ true → s.blocked_on t ≡ None → s.sleep_chain_with (d % chains) ≡ Some t
   unfolding AsleepAreOnTheirWay

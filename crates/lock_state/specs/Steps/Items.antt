@@ -1,7 +1,8 @@
 -- What lies behind turn words, and the steps that take it out of its home and give it back.
 use Rattle.std.specs.Prelude.{◌≡◌, ◌≢◌, ℕ, ◌<◌, Bool, true, false, not, ◌&&◌, ◌==◌, if◌then◌else◌, Option, Some, None, ⊤}
 use Rattle.lock_model.specs.Config.{Config}
-use Rattle.lock_state.specs.State.{State, Queued, Look, Round, put, put_at}
+use Rattle.lock_state.specs.State.{State, Queued, SleepHalted, Look, Round, put, put_at}
+use Rattle.lock_model.specs.declared.plan.QueueName.{QueueName}
 use Rattle.lock_state.specs.Steps.LockWords.{IsActing, is_taking_back}
 
 -- what a thread may have out: a chain of turnstiles or of sleep queues, a thread's record, a cell of a lock's table, the class graph
@@ -121,20 +122,26 @@ abbrev pub is_bound : Option Round → Bool
 is_bound None = false
 is_bound (Some r) = not r.by_try && r.in_chain
 
--- A thread that was made ready sleeps in its log, and doesn't stand on its channel yet.
+-- a thread that was made ready sleeps in its log, wasn't woken or halted since, and doesn't stand on its channel yet
 pub record IsOnItsWay (s : State) (t : ℕ) : Type 0 where
   pub queued : s.wait t ≡ Queued
   pub nowhere : s.blocked_on t ≡ None
   pub wants : s.wanted t ≡ None
   pub slept : is_taking_back (s.log t) ≡ true
+  pub unwoken : s.woken_from t ≡ None
+  pub unhalted : (q : QueueName) → s.noted t ≡ Some (SleepHalted q) → ⊥
 
--- A thread gives back what it has out: its own record only where it isn't about to stand on a queue; a chain that a blocking call's round
--- took only after a gain, a claim or an enter, which end the round; a sleep chain only where its wake is noted, and where it isn't on its
--- way to a channel. The class graph goes home by steps of its own.
+-- the thread isn't about to stand on a queue
+abbrev pub IsSettled : State → ℕ → Type 0
+IsSettled s t = s.wait t ≡ Queued → s.blocked_on t ≢ None
+
+-- A thread gives back what it has out: a chain and its own record only where it isn't about to stand on a queue; a chain that a blocking
+-- call's round took only after a gain, a claim or an enter, which end the round; a sleep chain only where its wake is noted. The class
+-- graph goes home by steps of its own.
 abbrev pub IsDoneWith : State → ℕ → Item → Type 0
-IsDoneWith s t (TurnstileChain k) = is_bound (s.round t) ≡ false
-IsDoneWith s t (SleepChain k) = (is_bound (s.round t) ≡ false) × (s.unstamped t ≡ None) × (IsOnItsWay s t → ⊥)
-IsDoneWith s t (RecordOf u) = u ≡ t → s.wait t ≡ Queued → s.blocked_on t ≢ None
+IsDoneWith s t (TurnstileChain k) = (is_bound (s.round t) ≡ false) × IsSettled s t
+IsDoneWith s t (SleepChain k) = (is_bound (s.round t) ≡ false) × (s.unstamped t ≡ None) × IsSettled s t
+IsDoneWith s t (RecordOf u) = u ≡ t → IsSettled s t
 IsDoneWith s t (CellOf l k) = ⊤
 IsDoneWith s t ClassGraph = ⊥
 

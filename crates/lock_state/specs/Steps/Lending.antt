@@ -46,7 +46,6 @@ after_claim c s t l h by_try =
       effective = put s.effective t (effective_of c (put (s.loan t) l new) (s.base t));
       looks = put s.looks t 0;
       last_look = put s.last_look t None;
-      seen_in_section = put s.seen_in_section t None;
       round = put s.round t None;
       has_begun = put_at s.has_begun t l false;
     }

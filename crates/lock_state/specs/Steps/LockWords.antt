@@ -107,7 +107,6 @@ after_gain s t l mode by_try = record s {
   called = put s.called t None;
   looks = put s.looks t 0;
   last_look = put s.last_look t None;
-  seen_in_section = put s.seen_in_section t None;
   round = put s.round t None;
   has_begun = put_at s.has_begun t l false;
 }
@@ -135,7 +134,6 @@ after_drop s t l = record s {
   held = put_at s.held t l NotHeld;
   held_locks = put s.held_locks t (without_held l (s.held_locks t));
   last_look = put s.last_look t None;
-  seen_in_section = put s.seen_in_section t None;
 }
 
 -- 5. A stamp: one entry with the next ticket

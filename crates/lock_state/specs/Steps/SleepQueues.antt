@@ -48,7 +48,6 @@ after_enter_sleep s t l mode x =
       wanted = put s.wanted t (Some l);
       called = put s.called t None;
       round = put s.round t None;
-      seen_in_section = put s.seen_in_section t None;
       last_look = put s.last_look t None;
     }
 
@@ -81,7 +80,6 @@ after_open_sleep c s t l =
       held_locks = put s.held_locks t (without_held l (s.held_locks t));
       marked = put s.marked t (dealt q ws (s.free_list q) (s.head q));
       last_look = put s.last_look t None;
-      seen_in_section = put s.seen_in_section t None;
     }
 
 -- 3. An add: a thread sleeps on a channel, behind its Sleeps entry, which is the newest of its log. It wants nothing

@@ -56,7 +56,6 @@ after_enter s t l mode x =
       wanted = put s.wanted t (Some l);
       called = put s.called t None;
       round = put s.round t None;
-      seen_in_section = put s.seen_in_section t None;
       walk = put s.walk t (walk_up l (owner_of (s.word l).holder));
       last_look = put s.last_look t None;
     }
@@ -101,7 +100,6 @@ after_open c s t l =
       effective = put s.effective t (effective_of c (put (s.loan t) l None) (s.base t));
       marked = put s.marked t (dealt q ws (s.free_list q) (s.head q));
       last_look = put s.last_look t None;
-      seen_in_section = put s.seen_in_section t None;
     }
 
 -- 3. A mark: the first of the marked list gets its object back and is woken
@@ -170,7 +168,7 @@ noted_after q BySignal back noted = noted
 noted_after (Lock l) ByAbort back noted = if back then noted else Some (SleepHalted (Lock l))
 noted_after (Chan d) ByAbort back noted = Some (SleepHalted (Chan d))
 
--- the channel from which the thread was woken by a signal since its last sleep, after the resume
+-- the channel from which the thread was woken by a signal since its last entry, after the resume
 abbrev pub woken_from_by : QueueName → Cause → Option ℕ → Option ℕ
 woken_from_by (Lock l) cause woken_from = woken_from
 woken_from_by (Chan d) BySignal woken_from = Some d.0

@@ -1,7 +1,8 @@
 //! Entries of the history.
 ghost use Rattle.std.specs.Prelude.{◌≡◌, ◌≤◌, ◌<◌, ◌+◌, length};
 ghost use Rattle.lock_model.specs.History.{edited};
-ghost use Rattle.lock_state.specs.Steps.LockWords.{MayStamp, after_stamp};
+ghost use Rattle.lock_state.specs.Steps.{Stamps};
+ghost use Rattle.lock_state.specs.Steps.LockWords.{MayStamp};
 ghost use Rattle.step_world.specs.Bases.{HasBaseAfter};
 ghost use Rattle.step_world.specs.Steps.{May, Makes, KeepsProgress, HasKey};
 
@@ -14,7 +15,7 @@ impl Machine {
         requires may { May self.old (λ c s. MayStamp c s t.0 event) }
         requires room { 1 ≤ self.old.log.spare }
         requires key { HasKey self.old event }
-        ensures step { Makes self.old self.new (λ c s. MayStamp c s t.0 event) (λ c s. after_stamp c s t.0 event) }
+        ensures step { Makes self.old self.new (Stamps t.0 event) }
         ensures progress { KeepsProgress self.old self.new }
         ensures places { self.new.tables.places ≡ self.old.tables.places }
         ensures room { length self.new.log.entries + self.new.log.spare ≡ length self.old.log.entries + self.old.log.spare }

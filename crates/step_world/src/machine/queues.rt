@@ -1,81 +1,71 @@
 //! Blocking on a turnstile, and waking from it.
-ghost use Rattle.std.specs.Prelude.{◌≡◌, ℕ, option_map, is_some, List, []};
-ghost use Rattle.lock_model.specs.Queues.{Mark, Cause};
-ghost use Rattle.lock_state.specs.Steps.Turnstiles.{MayBlock, after_block, MayOpen, after_open, MayMark, after_mark, MayResume, after_resume};
-ghost use Rattle.lock_model.specs.Words.{word_of, IsWellFormed, owner_of};
+ghost use Rattle.std.specs.Prelude.{◌≡◌, ℕ, is_some, List, [], ◌∷◌};
+ghost use Rattle.lock_model.specs.Config.{Config};
+ghost use Rattle.lock_model.specs.Queues.{Mark, Cause, lock_queue, side_of};
 ghost use Rattle.lock_model.specs.Operations.{without_lock};
+ghost use Rattle.lock_model.specs.declared.plan.Kind.TheVariants.{Mtx};
+ghost use Rattle.lock_model.specs.declared.plan.Mode as modes;
+ghost use Rattle.lock_model.specs.declared.plan.Mode.TheVariants.{Excl};
 ghost use Rattle.lock_model.specs.declared.plan.QueueName as names;
-ghost use Rattle.turnstile_core.specs.Seen.{idle, IsEmpty};
-ghost use Rattle.turnstile_core.specs.Changes.{begun};
+ghost use Rattle.lock_state.specs.State.{State};
+ghost use Rattle.lock_state.specs.Steps.{MayAll, Readies, Enters, Opens, Marks, Resumes};
+ghost use Rattle.lock_state.specs.Steps.Turnstiles.{MayOpen, MayMark, MayResume};
 ghost use Rattle.prio_lending.specs.Hops.{walk_up};
-ghost use Rattle.step_world.specs.Steps.{May, Makes, KeepsProgress, ChangesProgress, KeepsBooks};
+ghost use Rattle.step_world.specs.Represents.{Represents};
+ghost use Rattle.step_world.specs.Steps.{May, Makes, MakesAll, KeepsProgress, ChangesProgress, KeepsBooks};
 
 use super::Machine;
 use crate::thread::Wait;
-use lock_model::{Kind, LockNo, Mode, Prio, QueueName, Side, ThreadNo};
-use lock_words::{Hold, decode, entered, opened};
-use prio_lending::{Walk, settle_release};
-use turnstile_core::{Turnstile, Waiter};
+use lock_model::{Kind, LockNo, Mode, QueueName, Side, ThreadNo};
+use lock_objects::{enter, open, wake};
+use lock_words::{entered, opened, owner_of};
+use prio_lending::Walk;
 
 impl Machine {
-    /// The thread blocks on a mutex that is held: its turnstile becomes the head for the lock, or goes to the free list of the head that
-    /// stands there, and its lending walk begins at the lock.
-    pub fn block(&mut self, t: ThreadNo, l: LockNo)
-        requires may { May self.old (λ c s. (x : ℕ) × MayBlock c s t.0 l.0 Mode.Excl x) }
-        ensures step { (x : ℕ) → Makes self.old self.new (λ c s. MayBlock c s t.0 l.0 Mode.Excl x) (λ c s. after_block s t.0 l.0 Mode.Excl x) }
+    /// The thread blocks on a lock whose word doesn't admit the mode: it is made ready, stands on the lock's turnstile, and its lending walk
+    /// begins at the lock.
+    pub fn block(&mut self, t: ThreadNo, l: LockNo, mode: Mode)
+        requires may { May self.old (λ c s. (x : ℕ) × MayAll c s (Readies t.0 (lock_queue l.0) ∷ Enters t.0 l.0 mode x ∷ [])) }
+        ensures steps { (x : ℕ) → MakesAll self.old self.new (Readies t.0 (lock_queue l.0) ∷ Enters t.0 l.0 mode x ∷ []) }
         ensures progress { KeepsProgress self.old self.new }
         ensures books { KeepsBooks self.old self.new }
     {
         let i = usize::from(l.0);
         let owner = owner_of(self.words[i]);
-        self.words[i] = entered(self.words[i], Side::X);
+        let side = side_of(mode);
+        self.words[i] = entered(self.words[i], side);
         let thread = &mut self.threads[usize::from(t.0)];
-        let prio = thread.record.eff();
-        let (own, node) = thread.record.lend_turnstile();
-        thread.record.set_on(Some(QueueName::Lock(l)));
+        enter(&mut self.chain, &mut thread.record, l, side, owner);
         thread.wait = Wait::Queued;
         thread.wanted = Some(l);
         thread.walk = walk_from(l, owner);
-        let head = match self.chain.unplace(QueueName::Lock(l)) {
-            None => first_waiter(own, l, node, prio, owner),
-            Some(mut head) => {
-                head.wait(own, node, prio, Side::X);
-                head
-            }
-        };
-        self.chain.place(head);
     }
 
-    /// The thread releases a mutex whose word shows waiters: they are taken off the queue, to be woken, and what they lent it goes home.
-    pub fn open(&mut self, t: ThreadNo, l: LockNo)
-        requires may { May self.old (λ c s. MayOpen c s t.0 l.0 Mode.Excl) }
-        ensures step { Makes self.old self.new (λ c s. MayOpen c s t.0 l.0 Mode.Excl) (λ c s. after_open c s t.0 l.0) }
+    /// The thread is the last holder of a lock of that kind, and releases it where the word shows waiters: those of the woken side are taken off
+    /// the lock's turnstile, to be woken, and what they lent the thread goes home.
+    pub fn open(&mut self, t: ThreadNo, l: LockNo, kind: Kind)
+        requires kind { (c : Config) (s : State) → Represents c self.old s → kind ≡ c.kind l.0 }
+        requires may { May self.old (λ c s. (mode : modes.Mode) × (kind ≡ Mtx → mode ≡ Excl) × MayOpen c s t.0 l.0 mode) }
+        ensures step { (mode : modes.Mode) → Makes self.old self.new (Opens t.0 l.0 mode) }
         ensures progress { ChangesProgress self.old self.new t.0 (λ a. record a { held = without_lock l.0 a.held }) }
         ensures books { KeepsBooks self.old self.new }
     {
         let i = usize::from(l.0);
-        let (word, _) = opened(Kind::Mtx, self.words[i]);
+        let (word, woken) = opened(kind, self.words[i]);
         self.words[i] = word;
         let thread = &mut self.threads[usize::from(t.0)];
         thread.put_down(l);
-        let Some(mut head) = self.chain.unplace(QueueName::Lock(l)) else {
+        let Some(side) = woken else {
             return;
         };
-        settle_release(&mut head, &mut thread.record, l);
-        let mut waiters = head.broadcast(Side::X);
-        if head.is_empty() {
-            waiters.fill_last(head);
-        } else {
-            self.chain.place(head);
-        }
-        thread.marked = waiters;
-        thread.marked_from = l;
+        thread.marked = open(&mut self.chain, &mut thread.record, l, side);
+        thread.marked_from = QueueName::Lock(l);
     }
 
     /// The first of the thread's marked list gets its turnstile back and is woken.
     pub fn mark(&mut self, t: ThreadNo)
         requires may { May self.old (λ c s. (m : Mark) × (ms : List Mark) × MayMark c s t.0 m ms) }
-        ensures step { (m : Mark) (ms : List Mark) → Makes self.old self.new (λ c s. MayMark c s t.0 m ms) (λ c s. after_mark c s t.0 m ms) }
+        ensures step { (m : Mark) (ms : List Mark) → Makes self.old self.new (Marks t.0 m ms) }
         ensures progress { KeepsProgress self.old self.new }
         ensures books { KeepsBooks self.old self.new }
     {
@@ -83,8 +73,7 @@ impl Machine {
         let from = thread.marked_from;
         if let Some(node) = thread.marked.pop() {
             let woken = &mut self.threads[usize::from(node.thread().0)];
-            woken.record.take_back(node);
-            woken.record.set_on(None);
+            wake(&mut woken.record, node);
             woken.wait = Wait::Woken(from);
         }
     }
@@ -92,11 +81,21 @@ impl Machine {
     /// A woken thread runs again.
     pub fn resume(&mut self, t: ThreadNo)
         requires may { May self.old (λ c s. (q : names.QueueName) × (cause : Cause) × MayResume c s t.0 q cause) }
-        ensures step { (q : names.QueueName) (cause : Cause) → Makes self.old self.new (λ c s. MayResume c s t.0 q cause) (λ c s. after_resume c s t.0 q cause) }
+        ensures step { (q : names.QueueName) (cause : Cause) → Makes self.old self.new (Resumes t.0 q cause) }
         ensures progress { KeepsProgress self.old self.new }
         ensures books { KeepsBooks self.old self.new }
     {
         self.threads[usize::from(t.0)].wait = Wait::Running;
+    }
+}
+
+// The side on which threads wait to gain a lock in a mode.
+fn side_of(mode: Mode) -> Side
+    ensures { result ≡ side_of mode }
+{
+    match mode {
+        Mode::Excl => Side::X,
+        Mode::Shared => Side::S,
     }
 }
 
@@ -108,36 +107,5 @@ fn walk_from(l: LockNo, owner: Option<ThreadNo>) -> Walk
         Walk::AtLock(l)
     } else {
         Walk::None
-    }
-}
-
-// The turnstile that the first thread to wait for a lock lends to it, idle and with its loan node, made the head with the thread's node.
-fn first_waiter(
-    mut own: Box<Turnstile>,
-    l: LockNo,
-    node: Box<Waiter>,
-    prio: Prio,
-    owner: Option<ThreadNo>,
-) -> Box<Turnstile>
-    requires own { own.value ≡ idle own.value.contents.number }
-    requires empty { IsEmpty node.value }
-    ensures contents { result.value.contents ≡ record (begun l.0 (record { thread = node.value.place.thread; kept = prio.0 }) Side.X own.value.contents) { owner = option_map (λ t. t.0) owner } }
-    ensures next { result.value.next ≡ [] }
-{
-    own.begin(l, node, prio, Side::X);
-    if let Some(owner) = owner {
-        own.claim(owner);
-    }
-    own
-}
-
-// The thread that holds a lock exclusively.
-fn owner_of(word: u64) -> Option<ThreadNo>
-    requires { IsWellFormed (word_of word) }
-    ensures { option_map (λ t. t.0) result ≡ owner_of (word_of word).holder }
-{
-    match decode(word).hold {
-        Hold::Excl(owner) => Some(owner),
-        Hold::Free | Hold::Shared(_) => None,
     }
 }

@@ -1,5 +1,5 @@
 use Rattle.std.proofs.Common.{◌∙◌, ap, sym}
-use Rattle.lock_model.specs.Script.{lines_of}
+use Rattle.lock_model.specs.Script.Lines.{lines_of}
 use Rattle.script_read.proofs.Cuts.{lines-cut, lines-whole}
 use Rattle.script_read.proofs.lines.split_line.Goals as goal
 

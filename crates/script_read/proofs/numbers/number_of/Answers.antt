@@ -1,6 +1,6 @@
 use Rattle.std.proofs.Common.{◌≡◌, ◌∙◌, ◌+◌, ◌==◌, length, true, false, take, sym, arith}
 use Rattle.std.proofs.lemmas.List.{take_all}
-use Rattle.lock_model.specs.Script.{is_numeral}
+use Rattle.lock_model.specs.Script.Lines.{is_numeral}
 use Rattle.script_read.proofs.Digits.{value-take, value-next, too_large, short_numeral, long_numeral, spells}
 use Rattle.script_read.proofs.numbers.number_of.Goals.{then-word-gt1, else-word-gt1}
 use Rattle.script_read.proofs.numbers.number_of.Goals as goal

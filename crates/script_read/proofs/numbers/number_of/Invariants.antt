@@ -1,7 +1,7 @@
 use Rattle.std.proofs.Common.{◌≡◌, ◌<◌, ◌^◌, true, take}
 use Rattle.std.specs.List.{list_all}
 use Rattle.lock_model.specs.Names.{is_digit}
-use Rattle.lock_model.specs.Script.{digits_value}
+use Rattle.lock_model.specs.Script.Lines.{digits_value}
 use Rattle.script_read.proofs.numbers.number_of.Given as goal
 
 abbrev pub invariant-loop-b : goal.invariant-loop-b

@@ -1,5 +1,5 @@
 use Rattle.std.proofs.Common.{◌∙◌, ap}
-use Rattle.lock_model.specs.Script.{words_of}
+use Rattle.lock_model.specs.Script.Lines.{words_of}
 use Rattle.script_read.proofs.Cuts.{words-cut, words-last}
 use Rattle.script_read.proofs.words.cut_word.Goals as goal
 

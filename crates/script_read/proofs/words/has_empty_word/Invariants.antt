@@ -1,6 +1,7 @@
 use Rattle.std.proofs.Common.{◌≡◌, option_copied, length}
 use Rattle.std.specs.List.{list_any}
-use Rattle.lock_model.specs.Script.{words_of, is_empty}
+use Rattle.lock_model.specs.Counts.{is_empty}
+use Rattle.lock_model.specs.Script.Lines.{words_of}
 use Rattle.script_read.specs.Reading.{words_behind}
 use Rattle.script_read.proofs.words.has_empty_word.Given as goal
 

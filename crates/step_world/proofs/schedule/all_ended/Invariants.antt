@@ -5,4 +5,4 @@ use Rattle.step_world.proofs.schedule.all_ended.Given as goal
 
 -- those before have ended
 abbrev pub invariant-loop-t : goal.invariant-loop-t
-invariant-loop-t l = (r : Run) → Represents l.world r → (t : ℕ) → t < l.t → has_ended l.world.plan l.world.chains r t ≡ true
+invariant-loop-t l = (r : Run) → Represents l.world r → (t : ℕ) → t < l.t → has_ended l.world.plan r t ≡ true

@@ -17,11 +17,11 @@ loop-t-preserved c =
         round = λ r h.
             map-append (λ (u : ThreadNo). u.0) old (t ∷ [])
             ∙ ap (λ (xs : List ℕ). xs ++ c.loop-t.t ∷ []) (i.round r h)
-            ∙ sym (round_grows w.plan w.chains r c.loop-t.t (sym (c.has_ended.ensures r h) ∙ b.if-not-has_ended.true));
+            ∙ sym (round_grows w.plan r c.loop-t.t (sym (c.has_ended.ensures r h) ∙ b.if-not-has_ended.true));
         threads = All-push (λ (u : ThreadNo). u.0 < length w.plan.threads) old t i.threads (omega (arith, c.loop-t-test.true, c.threads-t-end.ensures.number));
       })
       | else-not-has_ended b ↦ rw b.coming-is (record {
-        round = λ r h. i.round r h ∙ sym (round_stays w.plan w.chains r c.loop-t.t (sym (c.has_ended.ensures r h) ∙ b.if-not-has_ended.false));
+        round = λ r h. i.round r h ∙ sym (round_stays w.plan r c.loop-t.t (sym (c.has_ended.ensures r h) ∙ b.if-not-has_ended.false));
         threads = i.threads;
       })
     ]

@@ -7,6 +7,6 @@ use Rattle.step_world.proofs.schedule.put_round.Given as goal
 -- the round has come so far
 abbrev pub invariant-loop-t : goal.invariant-loop-t
 invariant-loop-t l = record {
-  round : (r : Run) → Represents l.world r → map {B = ℕ} (λ t. t.0) l.coming.items ≡ round_below l.world.plan l.world.chains r l.t;
+  round : (r : Run) → Represents l.world r → map {B = ℕ} (λ t. t.0) l.coming.items ≡ round_below l.world.plan r l.t;
   threads : All (λ t. t.0 < length l.world.plan.threads) l.coming.items;
 }

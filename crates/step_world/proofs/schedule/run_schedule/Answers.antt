@@ -18,5 +18,5 @@ of_course (Err e) course plan chains k proper h all = tt
 pub returns : goal.returns
 unfolding scheduled_run
 returns c =
-    of_course c.into_outcome.result _ c.args.plan.now c.args.chains (course_after c.args.plan.now c.args.chains c.args.turns) c.requires.proper
+    of_course c.into_outcome.result _ c.args.plan.now c.args.chains (course_after c.args.plan.now c.args.turns) c.requires.proper
     (c.in_ok-make_turns.ensures.turns c.args.plan.now c.args.chains c.in_ok-course.ensures) c.into_outcome.ensures

@@ -1,40 +1,35 @@
-use Rattle.step_world.proofs.RowsOfWaits as rows
+use Rattle.step_world.proofs.RowsOfTurns as rows
 use Rattle.step_world.proofs.turns.by_wait.Goals as goal
 
 pub resume-requires : goal.resume-requires
 resume-requires c =
     let q = c.requires.run in
-    record {
-      may = rows.may_resume c.args.plan.now q.0 c.args.machine.now q.1 c.args.t.0 c.index-thread.result.now c.requires.thread q.2 c.from.result c.from.ensures c.index-thread.ensures c.in-Woken.field-0 c.in-Woken.is;
-    }
+    let is = rows.here q.1 c.requires.thread c.from.ensures c.index-thread.ensures in
+    record { may = rows.may_resume c.requires.proper c.requires.thread q.1 is q.2 c.in-Woken.is }
 
 pub operate-requires-clause-run : goal.operate-requires-clause-run
 operate-requires-clause-run c =
     let q = c.requires.run in
-    let found = c.in-Some.ensures.lookup in (
-      q.0,
-      q.1,
-      q.2,
-      rows.at_operation c.args.plan.now q.0 c.args.machine.now q.1 c.args.t.0 c.index-thread.result.now c.requires.thread q.2 c.from.result c.from.ensures c.index-thread.ensures
-          c.in-Running.is c.operations.result.now c.operations.ensures c.in-Some.op.now found.3.0 found.1 q.3,
-    )
-
-pub returns-in-Queued : goal.returns-in-Queued
-returns-in-Queued c chains r h f = rows.queued c.args.plan.now chains c.args.machine.now r c.args.t.0 c.index-thread.result.now c.requires.thread h c.from.result c.from.ensures c.index-thread.ensures c.in-Queued.is
-
-pub returns-in-Woken : goal.returns-in-Woken
-returns-in-Woken c chains r h f =
-    let a = c.resume.ensures in
-    rows.resumed c.args.plan.now chains c.args.machine.now r c.args.t.0 c.index-thread.result.now c.requires.thread h c.from.result c.from.ensures c.index-thread.ensures c.in-Woken.field-0 c.in-Woken.is c.resume.new.self (record { step = a.step; progress = a.progress; books = a.books })
-
-pub returns-in-Some : goal.returns-in-Some
-returns-in-Some c chains r h f =
+    let is = rows.here q.1 c.requires.thread c.from.ensures c.index-thread.ensures in
     let found = c.in-Some.ensures.lookup in
-    let at = rows.at_operation c.args.plan.now chains c.args.machine.now r c.args.t.0 c.index-thread.result.now c.requires.thread h c.from.result c.from.ensures c.index-thread.ensures
-    c.in-Running.is c.operations.result.now c.operations.ensures c.in-Some.op.now found.3.0 found.1 f in
-    rows.operated c.args.plan.now chains c.args.machine.now r c.args.t.0 c.index-thread.result.now c.requires.thread h c.from.result c.from.ensures c.index-thread.ensures
-    c.in-Running.is c.operations.result.now c.operations.ensures c.in-Some.op.now found.3.0 found.1 c.operate.new.machine c.operate.result (c.operate.ensures chains r h at)
+    (q.0, q.1, rows.at_operation c.requires.proper c.requires.thread q.1 is q.2 c.in-Running.is c.operations_of.ensures found.3.0 found.1)
 
-pub returns-in-None : goal.returns-in-None
-returns-in-None c chains r h f = rows.nothing_left c.args.plan.now chains c.args.machine.now r c.args.t.0 c.index-thread.result.now c.requires.thread h c.from.result c.from.ensures c.index-thread.ensures
-    c.in-Running.is c.operations.result.now c.operations.ensures c.in-None.ensures.lookup.3
+pub returns-in-Queued-clause-follows : goal.returns-in-Queued-clause-follows
+returns-in-Queued-clause-follows c r h f =
+    rows.queued c.requires.proper c.requires.thread h (rows.here h c.requires.thread c.from.ensures c.index-thread.ensures) f c.in-Queued.is
+
+pub returns-in-Woken-clause-follows : goal.returns-in-Woken-clause-follows
+returns-in-Woken-clause-follows c r h f =
+    let a = c.resume.ensures in
+    rows.resumed c.requires.proper c.requires.thread h (rows.here h c.requires.thread c.from.ensures c.index-thread.ensures) f c.in-Woken.is a.step a.progress a.books
+
+pub returns-in-Some-clause-follows : goal.returns-in-Some-clause-follows
+returns-in-Some-clause-follows c r h f =
+    let is = rows.here h c.requires.thread c.from.ensures c.index-thread.ensures in
+    let found = c.in-Some.ensures.lookup in
+    c.operate.ensures.follows r h (rows.at_operation c.requires.proper c.requires.thread h is f c.in-Running.is c.operations_of.ensures found.3.0 found.1)
+
+pub returns-in-None-clause-follows : goal.returns-in-None-clause-follows
+returns-in-None-clause-follows c r h f =
+    let is = rows.here h c.requires.thread c.from.ensures c.index-thread.ensures in
+    rows.nothing_left c.requires.proper c.requires.thread h is f c.in-Running.is c.operations_of.ensures c.in-None.ensures.lookup.3

@@ -3,56 +3,48 @@ use Rattle.std.proofs.lemmas.Bool.{iff_false}
 use Rattle.step_world.proofs.RowsOfTurns as rows
 use Rattle.step_world.proofs.turns.turn.Goals as goal
 
-pub returns-then-has_ended : goal.returns-then-has_ended
-returns-then-has_ended c chains r h u =
-    rows.ended c.args.plan.now chains c.args.machine.now r c.args.t.0 c.index-thread.result.now c.requires.thread h c.from.result c.from.ensures c.index-thread.ensures
-    c.operations.result.now c.operations.ensures (sym c.has_ended.ensures ∙ c.if-has_ended.true)
+pub returns-then-has_ended-clause-follows : goal.returns-then-has_ended-clause-follows
+returns-then-has_ended-clause-follows c r h u =
+    let is = rows.here h c.requires.thread c.from.ensures c.index-thread.ensures in
+    rows.over c.requires.proper c.requires.thread h is (rows.said c.requires.proper c.requires.thread h is c.operations_of.ensures _ (sym c.has_ended.ensures ∙ c.if-has_ended.true))
 
 pub walk_at_lock-requires-clause-run : goal.walk_at_lock-requires-clause-run
 walk_at_lock-requires-clause-run c =
     let q = c.requires.run in
-    (q.0, q.1, q.2, rows.at_lock c.args.plan.now q.0 c.args.machine.now q.1 c.args.t.0 c.index-thread.result.now c.requires.thread q.2 c.from.result c.from.ensures c.index-thread.ensures c.in-AtLock.l c.in-AtLock.is)
+    (q.0, q.1, rows.at_lock c.requires.proper c.requires.thread q.1 (rows.here q.1 c.requires.thread c.from.ensures c.index-thread.ensures) c.in-AtLock.l c.in-AtLock.is)
 
 pub walk_at_thread-requires-clause-run : goal.walk_at_thread-requires-clause-run
 walk_at_thread-requires-clause-run c =
     let q = c.requires.run in
-    (q.0, q.1, q.2, rows.at_thread c.args.plan.now q.0 c.args.machine.now q.1 c.args.t.0 c.index-thread.result.now c.requires.thread q.2 c.from.result c.from.ensures c.index-thread.ensures c.in-AtThread.o c.in-AtThread.is)
+    (q.0, q.1, rows.at_thread c.requires.proper c.requires.thread q.1 (rows.here q.1 c.requires.thread c.from.ensures c.index-thread.ensures) c.in-AtThread.o c.in-AtThread.is)
 
 pub by_wait-requires-clause-run : goal.by_wait-requires-clause-run
 by_wait-requires-clause-run c =
     let q = c.requires.run in
-    (q.0, q.1, q.2, rows.is_free c.args.plan.now q.0 c.args.machine.now q.1 c.args.t.0 c.index-thread.result.now c.requires.thread q.2 c.from.result c.from.ensures c.index-thread.ensures c.in-None.is (c.is_empty.ensures.0 c.if-is_empty.true))
+    let is = rows.here q.1 c.requires.thread c.from.ensures c.index-thread.ensures in
+    let going = rows.said c.requires.proper c.requires.thread q.1 is c.operations_of.ensures _ (sym c.has_ended.ensures ∙ c.if-has_ended.false) in
+    (q.0, q.1, rows.is_free c.requires.proper c.requires.thread q.1 is c.in-None.is (c.is_empty.ensures.0 c.if-is_empty.true) going)
 
 pub mark-requires : goal.mark-requires
 mark-requires c =
     let q = c.requires.run in
-    record { may = rows.may_mark c.args.plan.now q.0 c.args.machine.now q.1 c.args.t.0 c.index-thread.result.now c.requires.thread q.2 c.from.result c.from.ensures c.index-thread.ensures c.in-None.is (iff_false c.is_empty.ensures c.if-is_empty.false) }
+    record { may = rows.may_mark c.requires.proper c.requires.thread q.1 (rows.here q.1 c.requires.thread c.from.ensures c.index-thread.ensures) c.in-None.is (iff_false c.is_empty.ensures c.if-is_empty.false) }
 
-pub returns-in-AtLock : goal.returns-in-AtLock
-returns-in-AtLock c chains r h u =
-    let x = c.walk_at_lock.ensures chains r h (rows.at_lock c.args.plan.now chains c.args.machine.now r c.args.t.0 c.index-thread.result.now c.requires.thread h c.from.result c.from.ensures c.index-thread.ensures c.in-AtLock.l c.in-AtLock.is) in
-    rows.goes_on c.args.plan.now chains c.args.machine.now r c.args.t.0 c.index-thread.result.now c.requires.thread h c.from.result c.from.ensures c.index-thread.ensures
-    c.operations.result.now c.operations.ensures (sym c.has_ended.ensures ∙ c.if-has_ended.false) c.walk_at_lock.new.machine c.walk_at_lock.result
-    (rows.row_at_lock c.args.plan.now chains c.args.machine.now r c.args.t.0 c.index-thread.result.now c.requires.thread h c.from.result c.from.ensures c.index-thread.ensures c.walk_at_lock.new.machine c.walk_at_lock.result c.in-AtLock.l c.in-AtLock.is x)
+pub returns-in-AtLock-clause-follows : goal.returns-in-AtLock-clause-follows
+returns-in-AtLock-clause-follows c r h u =
+    c.walk_at_lock.ensures.follows r h (rows.at_lock c.requires.proper c.requires.thread h (rows.here h c.requires.thread c.from.ensures c.index-thread.ensures) c.in-AtLock.l c.in-AtLock.is)
 
-pub returns-in-AtThread : goal.returns-in-AtThread
-returns-in-AtThread c chains r h u =
-    let x = c.walk_at_thread.ensures chains r h (rows.at_thread c.args.plan.now chains c.args.machine.now r c.args.t.0 c.index-thread.result.now c.requires.thread h c.from.result c.from.ensures c.index-thread.ensures c.in-AtThread.o c.in-AtThread.is) in
-    rows.goes_on c.args.plan.now chains c.args.machine.now r c.args.t.0 c.index-thread.result.now c.requires.thread h c.from.result c.from.ensures c.index-thread.ensures
-    c.operations.result.now c.operations.ensures (sym c.has_ended.ensures ∙ c.if-has_ended.false) c.walk_at_thread.new.machine c.walk_at_thread.result
-    (rows.row_at_thread c.args.plan.now chains c.args.machine.now r c.args.t.0 c.index-thread.result.now c.requires.thread h c.from.result c.from.ensures c.index-thread.ensures c.walk_at_thread.new.machine c.walk_at_thread.result c.in-AtThread.o c.in-AtThread.is x)
+pub returns-in-AtThread-clause-follows : goal.returns-in-AtThread-clause-follows
+returns-in-AtThread-clause-follows c r h u =
+    c.walk_at_thread.ensures.follows r h (rows.at_thread c.requires.proper c.requires.thread h (rows.here h c.requires.thread c.from.ensures c.index-thread.ensures) c.in-AtThread.o c.in-AtThread.is)
 
-pub returns-then-is_empty : goal.returns-then-is_empty
-returns-then-is_empty c chains r h u =
-    let none = c.is_empty.ensures.0 c.if-is_empty.true in
-    let x = c.by_wait.ensures chains r h (rows.is_free c.args.plan.now chains c.args.machine.now r c.args.t.0 c.index-thread.result.now c.requires.thread h c.from.result c.from.ensures c.index-thread.ensures c.in-None.is none) in
-    rows.goes_on c.args.plan.now chains c.args.machine.now r c.args.t.0 c.index-thread.result.now c.requires.thread h c.from.result c.from.ensures c.index-thread.ensures
-    c.operations.result.now c.operations.ensures (sym c.has_ended.ensures ∙ c.if-has_ended.false) c.by_wait.new.machine c.by_wait.result
-    (rows.row_of_free c.args.plan.now chains c.args.machine.now r c.args.t.0 c.index-thread.result.now c.requires.thread h c.from.result c.from.ensures c.index-thread.ensures c.in-None.is none c.by_wait.new.machine c.by_wait.result x)
+pub returns-then-is_empty-clause-follows : goal.returns-then-is_empty-clause-follows
+returns-then-is_empty-clause-follows c r h u =
+    let is = rows.here h c.requires.thread c.from.ensures c.index-thread.ensures in
+    let going = rows.said c.requires.proper c.requires.thread h is c.operations_of.ensures _ (sym c.has_ended.ensures ∙ c.if-has_ended.false) in
+    c.by_wait.ensures.follows r h (rows.is_free c.requires.proper c.requires.thread h is c.in-None.is (c.is_empty.ensures.0 c.if-is_empty.true) going)
 
-pub returns-else-is_empty : goal.returns-else-is_empty
-returns-else-is_empty c chains r h u =
+pub returns-else-is_empty-clause-follows : goal.returns-else-is_empty-clause-follows
+returns-else-is_empty-clause-follows c r h u =
     let a = c.mark.ensures in
-    rows.goes_on c.args.plan.now chains c.args.machine.now r c.args.t.0 c.index-thread.result.now c.requires.thread h c.from.result c.from.ensures c.index-thread.ensures
-    c.operations.result.now c.operations.ensures (sym c.has_ended.ensures ∙ c.if-has_ended.false) c.mark.new.self _
-    (rows.marked c.args.plan.now chains c.args.machine.now r c.args.t.0 c.index-thread.result.now c.requires.thread h c.from.result c.from.ensures c.index-thread.ensures c.in-None.is (iff_false c.is_empty.ensures c.if-is_empty.false) c.mark.new.self (record { step = a.step; progress = a.progress; books = a.books }))
+    rows.marked c.requires.proper c.requires.thread h (rows.here h c.requires.thread c.from.ensures c.index-thread.ensures) c.in-None.is (iff_false c.is_empty.ensures c.if-is_empty.false) a.step a.progress a.books

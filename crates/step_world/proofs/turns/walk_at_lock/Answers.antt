@@ -5,21 +5,19 @@ use Rattle.step_world.proofs.turns.walk_at_lock.Goals as goal
 pub lend_to-requires : goal.lend_to-requires
 lend_to-requires c =
     let q = c.requires.run in
-    record { may = rows.may_lend c.args.plan.now q.0 c.args.machine.now q.1 c.args.t.0 c.requires.proper c.requires.thread q.2 c.args.l q.3 c.in-Some.owner (c.in-Some.ensures (config_of c.args.plan.now q.0) q.1.state q.2.shows.shows q.2.on_track.lawful) }
+    record { may = rows.may_lend c.requires.proper c.requires.thread q.1 q.2 (c.in-Some.ensures (config_of c.args.plan.now) q.0.state q.1.shows.shows q.1.on_track.lawful.lawful) }
 
 pub end_walk-requires : goal.end_walk-requires
 end_walk-requires c =
     let q = c.requires.run in
-    record { may = rows.may_end_at_lock c.args.plan.now q.0 c.args.machine.now q.1 c.args.t.0 c.requires.proper c.requires.thread q.2 c.args.l q.3 (c.in-None.ensures (config_of c.args.plan.now q.0) q.1.state q.2.shows.shows q.2.on_track.lawful) }
+    record { may = rows.may_end c.requires.proper c.requires.thread q.1 (rows.ends_at_lock c.requires.proper c.requires.thread q.1 q.2 (c.in-None.ensures (config_of c.args.plan.now) q.0.state q.1.shows.shows q.1.on_track.lawful.lawful)) }
 
-pub returns-in-Some : goal.returns-in-Some
-returns-in-Some c chains r h w =
+pub returns-in-Some-clause-follows : goal.returns-in-Some-clause-follows
+returns-in-Some-clause-follows c r h w =
     let a = c.lend_to.ensures in
-    rows.lent c.args.plan.now chains c.args.machine.now r c.args.t.0 c.requires.proper c.requires.thread h c.args.l w c.in-Some.owner (c.in-Some.ensures (config_of c.args.plan.now chains) r.state h.shows.shows h.on_track.lawful)
-    c.lend_to.new.self (record { step = a.step; progress = a.progress; books = a.books })
+    rows.lent c.requires.proper c.requires.thread h w (c.in-Some.ensures (config_of c.args.plan.now) r.state h.shows.shows h.on_track.lawful.lawful) a.step a.progress a.books
 
-pub returns-in-None : goal.returns-in-None
-returns-in-None c chains r h w =
+pub returns-in-None-clause-follows : goal.returns-in-None-clause-follows
+returns-in-None-clause-follows c r h w =
     let a = c.end_walk.ensures in
-    rows.ended_at_lock c.args.plan.now chains c.args.machine.now r c.args.t.0 c.requires.proper c.requires.thread h c.args.l w (c.in-None.ensures (config_of c.args.plan.now chains) r.state h.shows.shows h.on_track.lawful)
-    c.end_walk.new.self (record { step = a.step; progress = a.progress; books = a.books })
+    rows.walk_ended c.requires.proper c.requires.thread h (rows.ends_at_lock c.requires.proper c.requires.thread h w (c.in-None.ensures (config_of c.args.plan.now) r.state h.shows.shows h.on_track.lawful.lawful)) a.step a.progress a.books

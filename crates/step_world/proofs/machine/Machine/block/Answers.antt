@@ -1,87 +1,61 @@
-use Rattle.std.proofs.Common.{◌≡◌, ◌∷◌, Some, None, option_map, refl, sym, ap, ◌∙◌}
-use Rattle.lock_model.specs.Words.{entered, owner_of}
-use Rattle.lock_state.specs.State.{State}
-use Rattle.lock_state.specs.Steps.Turnstiles.{after_block}
+use Rattle.std.proofs.Common.{◌≡◌, refl, sym, ap, subst, ◌∙◌, IsSome}
+use Rattle.lock_model.specs.Words.{entered, owner_of, is_free}
 use Rattle.lock_model.specs.Queues.{lock_queue}
-use Rattle.lock_model.specs.declared.plan.Mode.TheVariants.{Excl}
-use Rattle.lock_model.specs.declared.plan.Side.TheVariants.{X}
-use Rattle.turnstile_core.specs.Seen.{Turnstile, idle}
-use Rattle.turnstile_core.specs.Changes.{name_of, joined}
+use Rattle.lock_state.specs.Steps.LockWords.{after_ready}
+use Rattle.chain_table.specs.Chains.{head_of}
+use Rattle.prio_lending.specs.Hops.{walk_up}
 use Rattle.thread_records.specs.Records.{Record}
-use Rattle.step_world.specs.Represents.{RepresentsHead}
-use Rattle.step_world.proofs.Kit.{aside_stays, read}
-use Rattle.step_world.proofs.Holding.{word_read}
-use Rattle.step_world.proofs.Blocking.{possible_read, has_own, has_waiter, is_absent, placed_as, first_shown, behind_shown, thread_blocks, blocked}
+use Rattle.lock_objects.specs.Enters.{CanStand}
+use Rattle.lock_objects.specs.Represents.{RepresentsRecord, record_in}
+use Rattle.step_world.proofs.Kit.{aside_stays, read, word_read, possible_read}
+use Rattle.step_world.proofs.Blocking.{lends, queues_ready, record_ready, has_own, stands_free, seen_is, blocked}
 use Rattle.step_world.proofs.machine.Machine.block.Goals as goal
-use Rattle.step_world.proofs.machine.Machine.block.Goals.{in-None, in-Some}
 
 pub owner_of-owner-requires : goal.owner_of-owner-requires
 owner_of-owner-requires c =
     let m = c.requires.may in
-    possible_read c.args.self.now m.0 m.1 c.args.l.0 m.2 c.from-i.result c.index.result.now c.from-i.ensures m.4.1.lock c.index.ensures m.3
+    possible_read c.args.l.0 c.from-i.result c.index.result.now m.2 m.3 m.4.1.1.0.lock c.from-i.ensures c.index.ensures
 
 pub entered-requires-clause-well_formed : goal.entered-requires-clause-well_formed
 entered-requires-clause-well_formed c =
     let m = c.requires.may in
-    possible_read c.args.self.now m.0 m.1 c.args.l.0 m.2 c.from-i.result c.index-2.result.now c.from-i.ensures m.4.1.lock c.index-2.ensures m.3
+    possible_read c.args.l.0 c.from-i.result c.index-2.result.now m.2 m.3 m.4.1.1.0.lock c.from-i.ensures c.index-2.ensures
 
-pub lend_turnstile-own-requires : goal.lend_turnstile-own-requires
-lend_turnstile-own-requires c =
+pub entered-requires-clause-held : goal.entered-requires-clause-held
+unfolding after_ready
+entered-requires-clause-held c =
     let m = c.requires.may in
-    let th = c.index_mut-thread.result.now in
-    let at = read c.args.self.now m.0 m.1 c.args.t.0 c.from.result th c.from.ensures m.2 m.4.1.thread c.index_mut-thread.ensures.value in
-    rw c.deref_mut.ensures.value (has_own c.args.self.now m.0 m.1 c.args.t.0 c.args.l.0 m.4.0 m.2 m.3 m.4.1 th at)
+    ap (λ v. is_free v.holder) (word_read c.args.self.now.words.items m.0 m.1.word c.args.l.0 c.from-i.result c.index-2.result.now c.from-i.ensures m.2.words m.4.1.1.0.lock c.index-2.ensures) ∙ m.4.1.1.0.held
 
-pub wait-requires-clause-head : goal.wait-requires-clause-head
-wait-requires-clause-head c =
+pub enter-requires-clause-own : goal.enter-requires-clause-own
+enter-requires-clause-own c =
     let m = c.requires.may in
-    rw c.deref_mut-in-Some.ensures.value (has_waiter c.args.self.now m.0 m.1 c.args.t.0 c.args.l.0 m.4.0 m.2 m.3 m.4.1 c.in-Some.head.value c.in-Some.ensures.taken)
+    let at = read c.args.t.0 c.from.result c.index_mut-thread.result.now m.2.threads m.4.1.0.thread c.from.ensures c.index_mut-thread.ensures.value in
+    subst (λ (r : Record). IsSome r.turnstile) (sym c.deref_mut.ensures.value) (has_own m.2 m.3 m.4.1.0 m.4.1.1.0 at)
 
-pub wait-requires-clause-absent : goal.wait-requires-clause-absent
-wait-requires-clause-absent c =
+pub enter-requires-clause-may : goal.enter-requires-clause-may
+enter-requires-clause-may c =
     let m = c.requires.may in
-    let th = c.index_mut-thread.result.now in
-    let at = read c.args.self.now m.0 m.1 c.args.t.0 c.from.result th c.from.ensures m.2 m.4.1.thread c.index_mut-thread.ensures.value in
-    rw c.deref_mut-in-Some.ensures.value (is_absent c.args.self.now m.0 m.1 c.args.t.0 c.args.l.0 m.4.0 m.2 m.3 m.4.1 th c.lend_turnstile-own.result.1.value.place.thread c.in-Some.head.value at (c.lend_turnstile-own.ensures.node ∙ ap (λ (r : Record). r.thread) c.deref_mut.ensures.value) c.in-Some.ensures.taken)
+    let at = read c.args.t.0 c.from.result c.index_mut-thread.result.now m.2.threads m.4.1.0.thread c.from.ensures c.index_mut-thread.ensures.value in
+    subst (λ (r : Record). CanStand r.thread (head_of (lock_queue c.args.l.0) c.args.self.now.chain)) (sym c.deref_mut.ensures.value) (stands_free m.2 m.3 m.4.1.0 m.4.1.1.0 at)
 
-pub returns-clause-step : goal.returns-clause-step
-returns-clause-step c x k s h lawful g =
-    let m = c.args.self.now in
+pub returns-clause-steps : goal.returns-clause-steps
+unfolding after_ready
+returns-clause-steps c x k s h lawful g =
     let t = c.args.t.0 in
     let l = c.args.l.0 in
-    let n : State = after_block s t l Excl x in
-    let th = c.index_mut-thread.result.now in
-    let at = read m k s t c.from.result th c.from.ensures h g.thread c.index_mut-thread.ensures.value in
-    let owner = c.owner_of-owner.ensures ∙ ap (λ w. owner_of w.holder) (word_read m.words.items k s.word l c.from-i.result c.index.result.now c.from-i.ensures h.words g.lock c.index.ensures) in
-    let word = c.entered.ensures.word ∙ ap (λ w. entered w X) (word_read m.words.items k s.word l c.from-i.result c.index-2.result.now c.from-i.ensures h.words g.lock c.index-2.ensures) in
-    let lent = c.lend_turnstile-own.ensures.left ∙ ap (λ (r : Record). let v : Record = record r { turnstile = None } in v) c.deref_mut.ensures.value in
-    let blocked_on = c.set_on.ensures ∙ ap (λ (r : Record). let v : Record = record r { on = Some (lock_queue l) } in v) (c.deref_mut-2.ensures.value ∙ lent) in
-    let own = ap (λ (r : Record). option_map idle r.turnstile) (sym c.deref_mut.ensures.value) ∙ c.lend_turnstile-own.ensures.turnstile in
-    let number = c.lend_turnstile-own.ensures.node ∙ ap (λ (r : Record). r.thread) c.deref_mut.ensures.value in
-    let prio = c.eff-prio.ensures.value ∙ ap (λ (r : Record). r.effective) c.deref.ensures in
-    let shown : (name_of c.match-unplace.head.value.contents ≡ Some (lock_queue l)) × RepresentsHead c.match-unplace.head.value.contents n.lists n.free_list n.head n.owner n.loan_home (lock_queue l) =
-    elim c.match-unplace.branch [
-      | in-None w ↦
-          let is = ap (λ b. b.value.contents) w.head-is ∙ w.first_waiter-head.ensures.contents in (
-            ap name_of is,
-            first_shown m k s t l x h lawful g th c.owner_of-owner.result c.lend_turnstile-own.result.0.value c.lend_turnstile-own.result.1.value.place.thread c.eff-prio.result.0 c.match-unplace.head.value.contents at owner own number prio w.in-None.ensures.taken is,
-          )
-      | in-Some w ↦
-          let old = w.in-Some.head.value in
-          let is =
-          ap (λ b. b.value.contents) w.head-is ∙ w.wait.ensures.contents
-          ∙ ap (λ (h' : Turnstile). joined c.lend_turnstile-own.result.0.value.contents.number (record { thread = c.lend_turnstile-own.result.1.value.place.thread; kept = c.eff-prio.result.0 }) X h'.contents) w.deref_mut-in-Some.ensures.value in (
-            ap name_of is ∙ w.in-Some.ensures.named,
-            behind_shown m k s t l x h lawful g th c.lend_turnstile-own.result.0.value c.lend_turnstile-own.result.1.value.place.thread c.eff-prio.result.0 old c.match-unplace.head.value.contents at own number prio w.in-Some.ensures.taken is,
-          )
-    ] in
-    let chain = placed_as (lock_queue l) c.match-unplace.head.value c.place.new.self c.unplace.new.self shown.0 c.place.ensures.placed ∙ ap (λ chain. (lock_queue l, c.match-unplace.head.value) ∷ chain) c.unplace.ensures.others in
-    let thread = thread_blocks m k s t l x h lawful g th c.set_on.new.self c.walk_from-thread.result c.owner_of-owner.result at owner blocked_on c.walk_from-thread.ensures in
-    rw (c.from-i.ensures, c.from.ensures) (blocked m k s t l x h lawful g c.entered.result c.place.new.self c.match-unplace.head.value _ word chain shown.1 thread)
+    let at = read t c.from.result c.index_mut-thread.result.now h.threads g.0.thread c.from.ensures c.index_mut-thread.ensures.value in
+    let word = word_read c.args.self.now.words.items k s.word l c.from-i.result c.index.result.now c.from-i.ensures h.words g.1.0.lock c.index.ensures in
+    let word_then = word_read c.args.self.now.words.items k s.word l c.from-i.result c.index-2.result.now c.from-i.ensures h.words g.1.0.lock c.index-2.ensures in
+    let owner = c.owner_of-owner.ensures ∙ ap (λ v. owner_of v.holder) word in
+    let rec = subst (λ (r : Record). RepresentsRecord r (record_in (after_ready s t) t)) (sym c.deref_mut.ensures.value) (record_ready h lawful g.0 g.1.0 at) in
+    let queues = c.enter.ensures.queues k (after_ready s t) t c.args.mode x c.side_of-side.ensures owner (lends h lawful g.0 g.1.0) rec (queues_ready h lawful g.0 g.1.0) in
+    rw (c.from-i.ensures, c.from.ensures)
+    (blocked h lawful g.0 g.1.0 at c.entered.result (c.entered.ensures.word ∙ (λ i. entered (word_then i) (c.side_of-side.ensures i))) queues (c.enter.ensures.its_record (after_ready s t) t c.args.mode x rec) owner
+    (c.walk_from-thread.ensures ∙ ap (walk_up l) (seen_is (λ o. o.0) c.owner_of-owner.result)))
 
 pub returns-clause-progress : goal.returns-clause-progress
 returns-clause-progress c =
     let m = c.requires.may in
     let th = c.index_mut-thread.result.now in
-    let at = read c.args.self.now m.0 m.1 c.args.t.0 c.from.result th c.from.ensures m.2 m.4.1.thread c.index_mut-thread.ensures.value in
-    rw c.from.ensures (aside_stays c.args.self.now.threads.items c.args.t.0 _ th at refl)
+    rw c.from.ensures (aside_stays c.args.self.now.threads.items c.args.t.0 _ th (read c.args.t.0 c.from.result th m.2.threads m.4.1.0.thread c.from.ensures c.index_mut-thread.ensures.value) refl)

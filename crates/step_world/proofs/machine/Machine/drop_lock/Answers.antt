@@ -1,32 +1,34 @@
-use Rattle.std.proofs.Common.{ap, ◌∙◌, arith, ◌≤◌}
+use Rattle.std.proofs.Common.{ap, sym, subst, ◌∙◌}
 use Rattle.lock_model.specs.Operations.{without_lock}
 use Rattle.lock_model.specs.Words.{dropped}
+use Rattle.lock_words.specs.Views.{IsHeldIn}
 use Rattle.step_world.specs.Steps.{Progress, progress_of}
-use Rattle.step_world.proofs.Kit.{aside_changed, read}
-use Rattle.step_world.proofs.Holding.{lock_dropped, word_read, owner_read, owned_well_formed, owned_held}
+use Rattle.step_world.proofs.Kit.{aside_changed, read, word_read, possible_read}
+use Rattle.step_world.proofs.Holding.{lock_dropped, is_held}
 use Rattle.step_world.proofs.machine.Machine.drop_lock.Goals as goal
 
 pub dropped-requires-clause-well_formed : goal.dropped-requires-clause-well_formed
 dropped-requires-clause-well_formed c =
     let m = c.requires.may in
-    let few : c.args.t.0 ≤ 63 = omega (arith, m.4.thread, m.2.within.few_threads) in
-    owned_well_formed c.index.result.now c.args.t.0 (owner_read c.args.self.now m.0 m.1 c.args.t.0 c.args.l.0 c.from-i.result c.index.result.now c.from-i.ensures m.2 m.3 m.4.lock m.4.held c.index.ensures) few
+    possible_read c.args.l.0 c.from-i.result c.index.result.now m.2 m.3 m.4.lock c.from-i.ensures c.index.ensures
 
 pub dropped-requires-clause-held : goal.dropped-requires-clause-held
 dropped-requires-clause-held c =
     let m = c.requires.may in
-    owned_held c.index.result.now c.args.t.0 (owner_read c.args.self.now m.0 m.1 c.args.t.0 c.args.l.0 c.from-i.result c.index.result.now c.from-i.ensures m.2 m.3 m.4.lock m.4.held c.index.ensures)
+    let word = word_read c.args.self.now.words.items m.0 m.1.word c.args.l.0 c.from-i.result c.index.result.now c.from-i.ensures m.2.words m.4.lock c.index.ensures in
+    subst (λ v. IsHeldIn v.holder c.args.mode) (sym word) (is_held m.0 m.1 c.args.t.0 c.args.l.0 c.args.mode m.3 m.4.thread m.4.held)
 
 pub returns-clause-step : goal.returns-clause-step
 returns-clause-step c k s h lawful g =
     let th = c.index_mut-2.result.now in
-    let at = read c.args.self.now k s c.args.t.0 c.from.result th c.from.ensures h g.thread c.index_mut-2.ensures.value in
+    let at = read c.args.t.0 c.from.result th h.threads g.thread c.from.ensures c.index_mut-2.ensures.value in
     let word = word_read c.args.self.now.words.items k s.word c.args.l.0 c.from-i.result c.index.result.now c.from-i.ensures h.words g.lock c.index.ensures in
-    rw (c.from.ensures, c.from-i.ensures) (lock_dropped c.args.self.now k s c.args.t.0 c.args.l.0 c.dropped.result th c.put_down.new.self at (c.dropped.ensures.word ∙ ap dropped word) c.put_down.ensures.others c.put_down.ensures.held c.put_down.ensures.room h g)
+    rw (c.from.ensures, c.from-i.ensures)
+    (lock_dropped c.args.self.now k s c.args.t.0 c.args.l.0 c.args.mode c.dropped.result th c.put_down.new.self at (c.dropped.ensures.word ∙ ap dropped word) c.put_down.ensures.others c.put_down.ensures.held c.put_down.ensures.room h g)
 
 pub returns-clause-progress : goal.returns-clause-progress
 returns-clause-progress c =
     let m = c.requires.may in
     let th = c.index_mut-2.result.now in
-    let at = read c.args.self.now m.0 m.1 c.args.t.0 c.from.result th c.from.ensures m.2 m.4.thread c.index_mut-2.ensures.value in
-    rw c.from.ensures (aside_changed c.args.self.now.threads.items c.args.t.0 c.put_down.new.self th (λ (a : Progress). record a { held = without_lock c.args.l.0 a.held }) at (ap progress_of c.put_down.ensures.others ∙ ap (λ hs. record { place = th.place; held = hs }) c.put_down.ensures.held))
+    let at = read c.args.t.0 c.from.result th m.2.threads m.4.thread c.from.ensures c.index_mut-2.ensures.value in
+    rw c.from.ensures (aside_changed c.args.self.now.threads.items c.args.t.0 c.put_down.new.self th (λ (a : Progress). record a { held = without_lock c.args.l.0 a.held }) at (ap progress_of c.put_down.ensures.others ∙ ap (λ hs. record { next_op = th.next_op; held = hs }) c.put_down.ensures.held))

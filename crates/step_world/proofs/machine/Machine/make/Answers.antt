@@ -6,7 +6,7 @@ use Rattle.step_world.proofs.Beginning.{begun}
 use Rattle.step_world.proofs.machine.Machine.make.Goals as goal
 
 pub returns : goal.returns
-returns c chains = begun c.args.plan.now _ chains c.requires (record {
+returns c = begun c.args.plan.now _ c.requires (record {
   free = c.in_ok-vec.ensures.items_if_clones_equal (λ y e. e) ∙ ap (λ (ls : List LockDecl). replicate (length ls) 0) c.as_slice.ensures;
   no_queue = c.empty.ensures;
   new = subst (λ (ds : List ThreadDecl). AreNew ds c.in_ok-make_threads.field-0.items) c.as_slice-2.ensures c.in_ok-make_threads.ensures;

@@ -1,27 +1,36 @@
-use Rattle.std.proofs.Common.{arith, refl}
-use Rattle.step_world.proofs.Kit.{read, aside_stays}
-use Rattle.step_world.proofs.Sorting.{is_thread, waits_there, sorted_shown}
+use Rattle.std.proofs.Common.{◌≡◌, true, arith, refl, sym, subst}
+use Rattle.std.specs.Prelude.{IsSomeAnd}
+use Rattle.lock_model.specs.Queues.{lock_queue}
+use Rattle.chain_table.specs.Chains.{head_of}
+use Rattle.turnstile_core.specs.Changes.{waits}
+use Rattle.thread_records.specs.Records.{Record}
+use Rattle.lock_objects.specs.Represents.{RepresentsRecord, record_in}
+use Rattle.lock_objects.proofs.Hops.{waits_there}
+use Rattle.step_world.proofs.Kit.{read, record_of, aside_stays}
+use Rattle.step_world.proofs.Walking.{is_waiter, shift_shown}
 use Rattle.step_world.proofs.machine.Machine.sort_anew.Goals as goal
 
 pub index-sorted-requires : goal.index-sorted-requires
 index-sorted-requires c =
     let x = c.requires.may in
-    omega (arith, c.from.ensures, is_thread x.2 x.3 x.4, x.2.threads.threads, c.args.self.now.threads.ok.0)
+    omega (arith, c.from.ensures, is_waiter x.2 x.3 x.4, x.2.threads.threads, c.args.self.now.threads.ok.0)
 
-pub shift-walk-requires-clause-waits : goal.shift-walk-requires-clause-waits
-shift-walk-requires-clause-waits c =
+pub sort_anew-walk-requires : goal.sort_anew-walk-requires
+sort_anew-walk-requires c =
     let x = c.requires.may in
-    let there = read c.args.self.now x.0 x.1 c.args.o.0 c.from.result c.index-sorted.result.now c.from.ensures x.2 (is_thread x.2 x.3 x.4) c.index-sorted.ensures in
-    waits_there x.2 x.3 x.4 c.deref.result.now there c.deref.ensures
+    let there = read c.args.o.0 c.from.result c.index-sorted.result.now x.2.threads (is_waiter x.2 x.3 x.4) c.from.ensures c.index-sorted.ensures in
+    subst (λ (r : Record). IsSomeAnd (head_of (lock_queue c.args.l.0) c.args.self.now.chain) (λ b. waits r.thread b.contents ≡ true)) (sym c.deref.ensures)
+    (waits_there x.0 x.1 c.args.t.0 c.args.o.0 c.args.l.0 x.3 x.4 x.2.queues (record_of (x.2.threads.thread c.args.o.0 c.index-sorted.result.now there)))
 
 pub returns-clause-step : goal.returns-clause-step
 returns-clause-step c d s h lawful g =
-    let at = read c.args.self.now d s c.args.t.0 c.from-2.result c.index_mut.result.now c.from-2.ensures h g.thread c.index_mut.ensures.value in
-    let there = read c.args.self.now d s c.args.o.0 c.from.result c.index-sorted.result.now c.from.ensures h (is_thread h lawful g) c.index-sorted.ensures in
-    rw (c.from-2.ensures, c.shift-walk.ensures.answer) (sorted_shown h lawful g c.deref.result.now there c.deref.ensures c.has_owner-owned.result c.shift-walk.new.chain at c.has_owner-owned.ensures c.shift-walk.ensures.chain)
+    let at = read c.args.t.0 c.from-2.result c.index_mut.result.now h.threads g.thread c.from-2.ensures c.index_mut.ensures.value in
+    let there = read c.args.o.0 c.from.result c.index-sorted.result.now h.threads (is_waiter h lawful g) c.from.ensures c.index-sorted.ensures in
+    let rec = subst (λ (r : Record). RepresentsRecord r (record_in s c.args.o.0)) (sym c.deref.ensures) (record_of (h.threads.thread c.args.o.0 c.index-sorted.result.now there)) in
+    let then = c.sort_anew-walk.ensures.queues d s c.args.t.0 c.args.o.0 lawful g rec h.queues in
+    rw c.from-2.ensures (shift_shown h lawful g c.sort_anew-walk.result at then.0 then.1)
 
 pub returns-clause-progress : goal.returns-clause-progress
 returns-clause-progress c =
     let x = c.requires.may in
-    let at = read c.args.self.now x.0 x.1 c.args.t.0 c.from-2.result c.index_mut.result.now c.from-2.ensures x.2 x.4.thread c.index_mut.ensures.value in
-    rw c.from-2.ensures (aside_stays c.args.self.now.threads.items c.args.t.0 _ c.index_mut.result.now at refl)
+    rw c.from-2.ensures (aside_stays c.args.self.now.threads.items c.args.t.0 _ c.index_mut.result.now (read c.args.t.0 c.from-2.result c.index_mut.result.now x.2.threads x.4.thread c.from-2.ensures c.index_mut.ensures.value) refl)

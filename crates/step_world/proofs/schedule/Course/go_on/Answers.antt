@@ -14,7 +14,7 @@ use Rattle.step_world.proofs.schedule.Course.go_on.Goals.{Joined-self-len, then-
 record IsReady (plan : Plan) (chains : ℕ) (course : Course) (k : run.Course) : Type 0 where
   from : run.Course
   is_course : IsCourse plan chains course from
-  makes : with_turn plan chains from.run from.coming from.idle ≡ after_turn plan chains k k.coming
+  makes : with_turn plan from.run from.coming from.idle ≡ after_turn plan k k.coming
 
 ready : (c : Joined-self-len) (plan : Plan) (chains : ℕ) (k : run.Course) → IsCourse plan chains c.args.self.now k → IsReady plan chains c.if-self-len.self k
 ready c plan chains k h =
@@ -22,14 +22,14 @@ ready c plan chains k h =
     let size = c.len.ensures ∙ course.coming.ok.0 in
     elim c.if-self-len.branch [
       | then-self-len+in_ok-begin_round b ↦ rw b.self-is (record {
-        from = record k { coming = round_of plan chains k.run; idle = true };
+        from = record k { coming = round_of plan k.run; idle = true };
         is_course = b.in_ok-begin_round.ensures plan chains k h;
-        makes = round_begins plan chains k (h.coming ∙ none_comes course.coming.items course.gone (b.if-self-len.true ∙ size));
+        makes = round_begins plan k (h.coming ∙ none_comes course.coming.items course.gone (b.if-self-len.true ∙ size));
       })
       | else-self-len b ↦ rw b.self-is (record {
         from = k;
         is_course = h;
-        makes = one_comes plan chains k (ap is_empty h.coming ∙ none_left course.coming.items course.gone h.within ∙ ne_eqb course.gone _ (λ e. b.if-self-len.false (e ∙ sym size)));
+        makes = one_comes plan k (ap is_empty h.coming ∙ none_left course.coming.items course.gone h.within ∙ ne_eqb course.gone _ (λ e. b.if-self-len.false (e ∙ sym size)));
       })
     ]
 

@@ -16,5 +16,5 @@ returns c =
     let within : t < length plan.threads = subst (λ (v : World). t < length v.plan.threads) (sym c.self.view_is) c.requires in
     rw (← c.self.view_is) (λ r h.
     c.has_ended.ensures
-    ∙ ap (λ (ops : List Op). thread_has_ended (length ops) th) c.operations.ensures
-    ∙ ends_as_said plan w.chains w.machine r t th h within (read w.machine (config_of plan w.chains) r.state t c.from.result th c.from.ensures h.shows.shows within c.index.ensures))
+    ∙ ap (λ (ops : List Op). thread_has_ended (length ops) th) c.operations_of.ensures
+    ∙ ends_as_said plan w.machine r t th c.self.invariant.proper h within (read w.machine (config_of plan) r.state t c.from.result th c.from.ensures h.shows.shows within c.index.ensures))

@@ -10,8 +10,8 @@ invariant_of-result c =
       proper = c.requires.proper;
       some_chains = c.requires.some_chains;
       few_chains = c.requires.few_chains;
-      run = (start_run (config_of plan c.args.chains), at_begin plan c.args.chains c.in_ok-machine.machine c.requires.proper (c.in_ok-machine.ensures c.args.chains));
+      run = (start_run (config_of plan), at_begin plan c.in_ok-machine.machine c.requires.proper c.in_ok-machine.ensures);
     }
 
 pub returns-clause-begins : goal.returns-clause-begins
-returns-clause-begins c = at_begin c.args.plan.now c.args.chains c.in_ok-machine.machine c.requires.proper (c.in_ok-machine.ensures c.args.chains)
+returns-clause-begins c = at_begin c.args.plan.now c.in_ok-machine.machine c.requires.proper c.in_ok-machine.ensures

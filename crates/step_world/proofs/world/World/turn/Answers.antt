@@ -1,6 +1,12 @@
-use Rattle.std.proofs.Common.{sym, subst, ◌<◌, length}
-use Rattle.step_world.specs.Worlds.{World}
-use Rattle.lock_state.specs.Run.{Run, turn_of}
+use Rattle.std.proofs.Common.{◌≡◌, ◌⊎◌, ◌↔◌, ℕ, true, sym, ap, subst, ◌<◌, length, ◌∙◌}
+use Rattle.lock_model.specs.Plans.{config_of}
+use Rattle.lock_model.specs.declared.turn.Turn.{Turn}
+use Rattle.lock_model.specs.declared.turn.Turn.TheVariants.{Idle, Ended}
+use Rattle.lock_state.specs.Run.{Run, run_behind, has_ended}
+use Rattle.lock_laws.specs.OnTrack.{IsSleeping}
+use Rattle.lock_laws.proofs.Best.{effective_best}
+use Rattle.lock_laws.proofs.Idle as idle
+use Rattle.step_world.specs.Worlds.{World, Represents, HasBest}
 use Rattle.step_world.proofs.WorldsAreSound.{behind_turn}
 use Rattle.step_world.proofs.world.World.turn.Goals as goal
 
@@ -17,20 +23,34 @@ invariant_of-world c =
       some_chains = i.some_chains;
       few_chains = i.few_chains;
       run = (
-        (turn_of w.plan.now w.chains i.run.0 c.args.t.0).run,
-        behind_turn w.plan.now w.chains w.machine c.turn.new.machine c.turn.result c.args.t.0 i.proper (within c) c.turn.ensures i.run.0 i.run.1,
+        run_behind w.plan.now i.run.0 c.args.t.0,
+        behind_turn w.plan.now w.machine c.turn.new.machine c.turn.result c.args.t.0 i.proper (within c) c.turn.ensures.follows i.run.0 i.run.1,
       );
     }
 
 pub returns-clause-turn : goal.returns-clause-turn
 returns-clause-turn c =
     let w = c.world.inside in
-    rw (← c.world.view_is) (behind_turn w.plan.now w.chains w.machine c.turn.new.machine c.turn.result c.args.t.0 c.world.invariant.proper (within c) c.turn.ensures)
+    rw (← c.world.view_is) (behind_turn w.plan.now w.machine c.turn.new.machine c.turn.result c.args.t.0 c.world.invariant.proper (within c) c.turn.ensures.follows)
+
+-- what is said of the row's answer is said of the turn's
+pub returns-clause-idle : goal.returns-clause-idle
+returns-clause-idle c =
+    let w = c.world.inside in
+    rw (← c.world.view_is) (λ r h. subst (λ (a : Turn). a ≡ Idle ↔ IsSleeping w.plan.now r c.args.t.0) (sym (c.turn.ensures.follows r h tt).0) (idle.idle_exactly w.plan.now r c.args.t.0 c.world.invariant.proper h.on_track))
+
+pub returns-clause-ended : goal.returns-clause-ended
+returns-clause-ended c =
+    let w = c.world.inside in
+    rw (← c.world.view_is) (λ r h. subst (λ (a : Turn). a ≡ Ended ↔ has_ended w.plan.now r c.args.t.0 ≡ true) (sym (c.turn.ensures.follows r h tt).0) (idle.ended_exactly w.plan.now r c.args.t.0))
 
 pub returns-clause-lawful : goal.returns-clause-lawful
 returns-clause-lawful c =
     let w = c.world.inside in
     let i = c.world.invariant in
-    let r : Run = (turn_of w.plan.now w.chains i.run.0 c.args.t.0).run in
-    let shows = behind_turn w.plan.now w.chains w.machine c.turn.new.machine c.turn.result c.args.t.0 i.proper (within c) c.turn.ensures i.run.0 i.run.1 in
+    let r : Run = run_behind w.plan.now i.run.0 c.args.t.0 in
+    let shows = behind_turn w.plan.now w.machine c.turn.new.machine c.turn.result c.args.t.0 i.proper (within c) c.turn.ensures.follows i.run.0 i.run.1 in
     (r, shows, shows.on_track.lawful)
+
+pub returns-clause-best : goal.returns-clause-best
+returns-clause-best c r h still no_cycle t lt = effective_best (config_of c.world.inside.plan.now) r.state h.on_track.lawful.lawful still t lt no_cycle

@@ -1,0 +1,44 @@
+//! Runs each example of `data/` that standard input names, through the top call over memory, and says its status and
+//! whether its text is as written. So an example is two files and a line each in `stdin` and `stdout`, and costs no
+//! proof.
+#![tactic(auto)]
+
+use lock_io::{MemSink, MemSource};
+use lock_top::lockrun_plain;
+use std::fs;
+
+// The most bytes that one read or write moves.
+const PIECE: usize = 4096;
+
+// The most bytes of a text.
+const ROOM: usize = 1 << 20;
+
+fn main(rt: HostRuntime) -> anyhow::Result<()> {
+    for line in rt.lines(rt.alloc()) {
+        run_example(&rt, line?.as_str())?;
+    }
+    Ok(())
+}
+
+// The line is the name of an example and the words of its command line. `NAME.script` is the source, and `NAME.out` the
+// text.
+fn run_example(rt: &HostRuntime, line: &str) -> anyhow::Result<()> {
+    let alloc = rt.alloc();
+    let (name, command) = line.split_once(' ').unwrap_or((line, ""));
+    let script = fs::read(rt, format!(in alloc; "{name}.script")?.as_str())?;
+    let text = fs::read(rt, format!(in alloc; "{name}.out")?.as_str())?;
+    let mut words = Vec::new(alloc);
+    for word in command.split_whitespace() {
+        words.push(String::from_str(alloc, word)?)?;
+    }
+    let mut source = MemSource::new(script, PIECE, Vec::new(alloc));
+    let mut sink = MemSink::new(alloc, ROOM, PIECE, Vec::new(alloc))?;
+    let status = lockrun_plain(alloc, &words, &mut source, &mut sink) as u8;
+    let differs = if sink.bytes() == text.as_slice() {
+        "as written"
+    } else {
+        "DIFFERS"
+    };
+    println!(rt; "{line}: status {status}, {differs}")?;
+    Ok(())
+}

@@ -1,0 +1,170 @@
+-- What the lines so far have made known, and what a line without a fault adds to it.
+use Rattle.std.specs.Prelude.{ℕ, suc, Bool, true, false, if◌then◌else◌, List, [], ◌∷◌, ◌++◌, length, option_and_then, option_map, unwrap_or, option_to_list, flat_map, Option, Some, None}
+use Rattle.std.specs.List.{list_any, position_or_len}
+use Rattle.std.specs.Map.{lookup}
+use Rattle.lock_model.specs.Names.{is_name}
+use Rattle.lock_model.specs.Operations.{held_behind}
+use Rattle.lock_model.specs.Script.Lines.{is_same, number_of, priority_of}
+use Rattle.lock_model.specs.Script.Statements.{Statement, Declares, Begins, Ends, Schedules, IsDone, Operates, Operation}
+use Rattle.lock_model.specs.Script.Statements as say
+use Rattle.lock_model.specs.declared.plan.Declared.{Declared}
+use Rattle.lock_model.specs.declared.plan.Declared.TheVariants.{Lock, Chan, Thread}
+use Rattle.lock_model.specs.declared.plan.Kind.{Kind}
+use Rattle.lock_model.specs.declared.plan.LockDecl.{LockDecl}
+use Rattle.lock_model.specs.declared.plan.ChanDecl.{ChanDecl}
+use Rattle.lock_model.specs.declared.plan.ThreadDecl.{ThreadDecl}
+use Rattle.lock_model.specs.declared.plan.Op.{Op}
+use Rattle.lock_model.specs.declared.plan.Op.TheVariants.{Take, Release, Set, Add, Get, Base, Show}
+use Rattle.lock_model.specs.declared.event.Held.{Held}
+use Rattle.lock_model.specs.declared.numbers.ClassNo.{ClassNo}
+use Rattle.lock_model.specs.declared.numbers.LockNo.{LockNo}
+use Rattle.lock_model.specs.declared.numbers.ThreadNo.{ThreadNo}
+
+-- 1. What is known
+
+-- a try's block that is open: what the thread held before the try, and the place of the try among its operations
+pub record Block : Type 0 where
+  pub before : List Held
+  pub opened_at : ℕ
+
+-- a thread whose `end` hasn't come
+pub record OpenThread : Type 0 where
+  pub name : List ℕ
+  pub base : ℕ
+  pub ops : List Op
+  -- what it holds behind its lines so far, in order of acquisition
+  pub held : List Held
+  -- its open blocks, the innermost first
+  pub blocks : List Block
+
+pub record Known : Type 0 where
+  -- what each name stands for, in order of declaration
+  pub names : List (List ℕ × Declared)
+  pub classes : List (List ℕ)
+  pub locks : List LockDecl
+  pub chans : List ChanDecl
+  pub threads : List ThreadDecl
+  pub schedule : List ThreadNo
+  pub open_thread : Option OpenThread
+  -- operations of all threads
+  pub operations : ℕ
+  pub is_done : Bool
+
+-- what the header makes known
+abbrev pub nothing_known : Known
+nothing_known = record {
+  names = [];
+  classes = [];
+  locks = [];
+  chans = [];
+  threads = [];
+  schedule = [];
+  open_thread = None;
+  operations = 0;
+  is_done = false;
+}
+
+-- 2. Names
+
+abbrev pub declared_as : Known → List ℕ → Option Declared
+declared_as k name = lookup (is_same name) k.names
+
+abbrev pub lock_of : Declared → Option LockNo
+lock_of (Lock l) = Some l
+lock_of (Chan c) = None
+lock_of (Thread t) = None
+
+-- the lock of that name
+abbrev pub lock_named : Known → List ℕ → Option LockNo
+lock_named k name = if is_name name then option_and_then lock_of (declared_as k name) else None
+
+abbrev pub thread_of : Declared → Option ThreadNo
+thread_of (Lock l) = None
+thread_of (Chan c) = None
+thread_of (Thread t) = Some t
+
+-- the thread of that name
+abbrev pub thread_named : Known → List ℕ → Option ThreadNo
+thread_named k name = if is_name name then option_and_then thread_of (declared_as k name) else None
+
+-- the threads of those names, in order
+abbrev pub threads_named : Known → List (List ℕ) → List ThreadNo
+threads_named k names = flat_map (λ name. option_to_list (thread_named k name)) names
+
+-- a class's number: that of its first use, or the next
+abbrev pub class_number : List (List ℕ) → List ℕ → ℕ
+class_number classes class = position_or_len (is_same class) classes
+
+abbrev pub with_class : List (List ℕ) → List ℕ → List (List ℕ)
+with_class classes class =
+    if list_any (is_same class) classes then classes else classes ++ class ∷ []
+
+-- 3. Operations
+
+-- of a lock and a key, where both are readable
+abbrev pub with_key : (LockNo → ℕ → Op) → Option LockNo → Option ℕ → Option Op
+with_key f (Some l) (Some key) = Some (f l key)
+with_key f l key = None
+
+-- the same with a value or an amount
+abbrev pub with_number : (LockNo → ℕ → ℕ → Op) → Option LockNo → Option ℕ → Option ℕ → Option Op
+with_number f l key (Some n) = with_key (λ l key. f l key n) l key
+with_number f l key None = None
+
+-- the operation that words say, where each of them is readable
+abbrev pub op_of : Known → Operation → Option Op
+op_of k (say.Take kind mode name) = option_map (λ l. Take l mode) (lock_named k name)
+op_of k (say.Release kind mode name) = option_map (λ l. Release l) (lock_named k name)
+op_of k (say.Set name key value) =
+    with_number Set (lock_named k name) (number_of key) (number_of value)
+op_of k (say.Add name key amount) =
+    with_number Add (lock_named k name) (number_of key) (number_of amount)
+op_of k (say.Get name key) = with_key Get (lock_named k name) (number_of key)
+op_of k (say.Prio prio) = option_map (λ p. Base (record { 0 = p })) (priority_of prio)
+op_of k say.Show = Some Show
+
+-- 4. What a line adds
+
+-- the class of that name
+abbrev pub class_named : Known → List ℕ → ClassNo
+class_named k class = record { 0 = class_number k.classes class }
+
+-- a lock of a class, which is declared by its first use
+abbrev pub with_lock : Known → Kind → List ℕ → List ℕ → Known
+with_lock k kind name class = record k {
+  names = k.names ++ (name, Lock (record { 0 = length k.locks })) ∷ [];
+  classes = with_class k.classes class;
+  locks = k.locks ++ (record { name = name; kind = kind; class = class_named k class }) ∷ [];
+}
+
+-- a thread that begins
+abbrev pub with_thread : Known → List ℕ → ℕ → Known
+with_thread k name base = record k {
+  names = k.names ++ (name, Thread (record { 0 = length k.threads })) ∷ [];
+  open_thread = Some (record { name = name; base = base; ops = []; held = []; blocks = [] });
+}
+
+-- the open thread has ended
+abbrev pub with_end : Known → Option OpenThread → Known
+with_end k None = k
+with_end k (Some t) = record k {
+  threads = k.threads ++ (record { name = t.name; base = record { 0 = t.base }; ops = t.ops }) ∷ [];
+  open_thread = None;
+}
+
+-- the open thread has made an operation
+abbrev pub with_operation : Known → Option OpenThread → Option Op → Known
+with_operation k (Some t) (Some op) = record k {
+  open_thread = Some (record t { ops = t.ops ++ op ∷ []; held = held_behind op t.held });
+  operations = suc k.operations;
+}
+with_operation k t op = k
+
+-- what is known behind a statement; where a word isn't readable, nothing rests on it
+abbrev pub learned : Known → Statement → Known
+learned k (Declares kind name class) = with_lock k kind name class
+learned k (Begins name prio) = with_thread k name (unwrap_or (priority_of prio) 0)
+learned k Ends = with_end k k.open_thread
+learned k (Schedules names) = record k { schedule = k.schedule ++ threads_named k names }
+learned k IsDone = record k { is_done = true }
+learned k (Operates o) = with_operation k k.open_thread (op_of k o)

@@ -1,0 +1,9 @@
+pub mod Chains
+pub mod Held
+pub mod Lists
+pub mod Loans
+pub mod Queues
+pub mod Records
+pub mod Enters
+pub mod Opens
+pub mod Hops

@@ -1,0 +1,68 @@
+-- The places of waiters that were taken off a turnstile, and their marks in the columns of the state.
+use Rattle.std.proofs.Common.{◌≡◌, ℕ, suc, List, [], ◌∷◌, length, map, drop, None, Some, IsSome, refl, ap, arith, ◌≤◌}
+use Rattle.std.specs.List.{All}
+use Rattle.std.proofs.Math.Seq.{take-length}
+use Rattle.std.proofs.lemmas.List.{drop_all}
+use Rattle.std.proofs.lemmas.List.Elements.{All-nil, All-cons}
+use Rattle.lock_model.specs.Queues.{Waiter, handed_out, dealt, head_after}
+use Rattle.lock_model.specs.declared.plan.QueueName.{QueueName}
+use Rattle.lock_model.specs.declared.plan.Side.{Side}
+use Rattle.turnstile_core.specs.Seen.{Contents, Place}
+use Rattle.turnstile_core.specs.Lists.{place, with_last}
+use Rattle.turnstile_core.specs.Changes.{waiters, taken}
+use Rattle.lock_objects.specs.Represents.{mark_of}
+
+-- a place has a turnstile
+abbrev pub HasTurnstile : Place → Type 0
+HasTurnstile p = IsSome p.turnstile
+
+-- waiters, each with the free turnstile that it takes back
+abbrev pub places : List Waiter → List ℕ → List Place
+places ws xs = map place (handed_out ws xs None)
+
+-- Where the free list is long enough
+
+pub marks-dealt : (q : QueueName) (ws : List Waiter) (xs : List ℕ) (h : ℕ) → length ws ≤ length xs → map (mark_of q) (places ws xs) ≡ dealt q ws xs (Some h)
+marks-dealt q [] xs h l = refl
+marks-dealt q (w ∷ ws) [] h l = absurd (omega arith)
+marks-dealt q (w ∷ ws) (x ∷ xs) h l = ap (λ ms. mark_of q (place (w, Some x)) ∷ ms) (marks-dealt q ws xs h (omega arith))
+
+pub turnstiles-dealt : (ws : List Waiter) (xs : List ℕ) → length ws ≤ length xs → All (λ p. IsSome p.turnstile) (places ws xs)
+turnstiles-dealt [] xs l = All-nil HasTurnstile
+turnstiles-dealt (w ∷ ws) [] l = absurd (omega arith)
+turnstiles-dealt (w ∷ ws) (x ∷ xs) l = All-cons HasTurnstile (place (w, Some x)) (places ws xs) refl (turnstiles-dealt ws xs (omega arith))
+
+pub head_after-stays : (ws : List Waiter) (xs : List ℕ) (h : ℕ) → length ws ≤ length xs → head_after ws xs (Some h) ≡ Some h
+head_after-stays [] xs h l = refl
+head_after-stays (w ∷ ws) [] h l = absurd (omega arith)
+head_after-stays (w ∷ ws) (x ∷ xs) h l = head_after-stays ws xs h (omega arith)
+
+-- Where the free list is one too short: the last gets the head
+
+pub marks-dealt_last : (q : QueueName) (ws : List Waiter) (xs : List ℕ) (h : ℕ) → length ws ≡ suc (length xs)
+    → map (mark_of q) (with_last h (places ws xs)) ≡ dealt q ws xs (Some h)
+marks-dealt_last q [] xs h e = absurd (omega arith)
+marks-dealt_last q (w ∷ []) [] h e = refl
+marks-dealt_last q (w ∷ []) (x ∷ xs) h e = absurd (omega arith)
+marks-dealt_last q (w ∷ v ∷ ws) [] h e = absurd (omega arith)
+marks-dealt_last q (w ∷ v ∷ ws) (x ∷ []) h e = ap (λ ms. mark_of q (place (w, Some x)) ∷ ms) (marks-dealt_last q (v ∷ ws) [] h (omega arith))
+marks-dealt_last q (w ∷ v ∷ ws) (x ∷ y ∷ xs) h e = ap (λ ms. mark_of q (place (w, Some x)) ∷ ms) (marks-dealt_last q (v ∷ ws) (y ∷ xs) h (omega arith))
+
+pub turnstiles-dealt_last : (ws : List Waiter) (xs : List ℕ) (h : ℕ) → length ws ≡ suc (length xs) → All (λ p. IsSome p.turnstile) (with_last h (places ws xs))
+turnstiles-dealt_last [] xs h e = absurd (omega arith)
+turnstiles-dealt_last (w ∷ []) [] h e = All-cons HasTurnstile (place (w, Some h)) [] refl (All-nil HasTurnstile)
+turnstiles-dealt_last (w ∷ []) (x ∷ xs) h e = absurd (omega arith)
+turnstiles-dealt_last (w ∷ v ∷ ws) [] h e = absurd (omega arith)
+turnstiles-dealt_last (w ∷ v ∷ ws) (x ∷ []) h e = All-cons HasTurnstile (place (w, Some x)) (with_last h (places (v ∷ ws) [])) refl (turnstiles-dealt_last (v ∷ ws) [] h (omega arith))
+turnstiles-dealt_last (w ∷ v ∷ ws) (x ∷ y ∷ xs) h e =
+    All-cons HasTurnstile (place (w, Some x)) (with_last h (places (v ∷ ws) (y ∷ xs))) refl (turnstiles-dealt_last (v ∷ ws) (y ∷ xs) h (omega arith))
+
+pub head_after-none : (ws : List Waiter) (xs : List ℕ) (h : ℕ) → length ws ≡ suc (length xs) → head_after ws xs (Some h) ≡ None
+head_after-none [] xs h e = absurd (omega arith)
+head_after-none (w ∷ ws) [] h e = refl
+head_after-none (w ∷ ws) (x ∷ xs) h e = head_after-none ws xs h (omega arith)
+
+-- A whole side is taken
+
+pub taken-whole : (side : Side) (h : Contents) → taken (length (waiters side h)) side h ≡ places (waiters side h) h.free
+taken-whole side h = ap (λ ws. places ws h.free) (take-length (waiters side h))

@@ -1,0 +1,346 @@
+-- A release takes the waiters of one side off a turnstile: record, chain and woken show the columns behind an open.
+use Rattle.std.proofs.Common.{◌≡◌, ◌≢◌, ℕ, suc, ◌+◌, ◌<◌, ◌≤◌, Bool, true, false, ◌||◌, cond, List, [], ◌∷◌, ◌++◌, length, map, Option, Some, None, option_map, is_some, IsSome, refl, sym, ap, subst, arith, inl, inr, drop, length-append, ◌∙◌}
+use Rattle.std.specs.Prelude.{IsSomeAnd}
+use Rattle.std.specs.Option.{IfSome}
+use Rattle.std.specs.List.{All}
+use Rattle.std.proofs.lemmas.Bool.{cases_eq, cases_Bool}
+use Rattle.std.proofs.lemmas.List.{drop_all}
+use Rattle.lock_model.specs.Config.{Config}
+use Rattle.lock_model.specs.Counts.{is_empty, some}
+use Rattle.lock_model.specs.Holds.{Holds}
+use Rattle.lock_model.specs.Words.{is_turnstile, side_woken, shows_waiters, opened}
+use Rattle.lock_model.specs.Queues.{Waiter, Lists, lock_queue, list_of, with_list, waiting, dealt, free_after, head_after}
+use Rattle.lock_model.specs.declared.plan.Mode.{Mode}
+use Rattle.lock_model.specs.declared.plan.Mode.TheVariants.{Excl, Shared}
+use Rattle.lock_model.specs.declared.plan.Side.{Side}
+use Rattle.lock_model.specs.declared.plan.Side.TheVariants.{X, S}
+use Rattle.lock_model.specs.declared.plan.QueueName.{QueueName}
+use Rattle.lock_state.specs.State.{State, Loan, put, put_at}
+use Rattle.lock_state.specs.Facts.{Lawful, HeadsFitWaiters, BitsShowWaiters, MutexWaitersAreExclusive}
+use Rattle.lock_state.specs.Steps.LockWords.{effective_of}
+use Rattle.lock_state.specs.Steps.Turnstiles.{MayOpen, after_open, home_after}
+use Rattle.lock_laws.proofs.Kit.{put_same, put_other, put_lock_same, put_lock_other}
+use Rattle.lock_laws.proofs.HeadsAndNodes.{loan_lock, owner_holds, owned_home, unowned_home}
+use Rattle.lock_laws.proofs.Derived as laws
+use Rattle.lock_laws.proofs.Open.{side_shown}
+use Rattle.lock_laws.proofs.NodesOfHeads.{put_at_row}
+use Rattle.lock_laws.proofs.WordsAndHeads.{lent_out, home_elsewhere, headless_bare}
+use Rattle.turnstile_core.specs.Seen.{Contents, Turnstile, Terms, Place, IsLeft}
+use Rattle.turnstile_core.specs.Lists.{with_last}
+use Rattle.turnstile_core.specs.Changes.{lists_of, waiters, with_waiters, all_waiters, left_by, taken, name_of, IsWellFormed}
+use Rattle.thread_records.specs.Records.{Record}
+use Rattle.prio_lending.specs.Hops.{carrier_for, node_out, with_contents}
+use Rattle.thread_records.specs.Loans.{loan_for, loans_for, without_loan}
+use Rattle.thread_records.proofs.OneEach.{one_each_without}
+use Rattle.chain_table.specs.Chains.{head_of, without}
+use Rattle.lock_objects.specs.Represents.{QueueColumns, RepresentsHead, RepresentsQueue, RepresentsQueues, RepresentsRecord, queue_in, record_in, queue_of, loan_of, mark_of}
+use Rattle.lock_objects.specs.Opens.{CanOpen, CanRelease, record_opened, settled, left_open, taken_off, woken_of, chain_opened}
+use Rattle.lock_objects.proofs.Lists.{marks-dealt, turnstiles-dealt, head_after-stays, marks-dealt_last, turnstiles-dealt_last, head_after-none, places, taken-whole}
+use Rattle.lock_objects.proofs.Loans.{loan_for-dropped, loan_for-others}
+use Rattle.lock_objects.proofs.Queues.{SameQueue, queues_placed, queues_gone}
+use Rattle.lock_objects.proofs.Records.{with_other_loans}
+
+-- 1. A whole side of a turnstile
+
+empty_length : {A : Type 0} (xs : List A) → is_empty xs ≡ true → length xs ≡ 0
+empty_length [] e = refl
+empty_length (x ∷ xs) e = absurd cc
+
+full_length : {A : Type 0} (xs : List A) → is_empty xs ≡ false → 1 ≤ length xs
+full_length [] e = absurd cc
+full_length (x ∷ xs) e = omega arith
+
+-- a queue's columns with no waiter on a side and no owner
+abbrev without_side : Side → QueueColumns → QueueColumns
+without_side side v = record {
+  head = head_after (list_of side v.lists) v.free_list v.head;
+  lists = with_list side [] v.lists;
+  free_list = free_after (list_of side v.lists) v.free_list;
+  owner = None;
+}
+
+module _ (side : Side) (d : Contents) where
+  abbrev ws : List Waiter
+  ws = waiters side d
+
+  abbrev left : Contents
+  left = left_by (length ws) side d
+
+  abbrev took : List Place
+  took = taken (length ws) side d
+
+  left_count : length (all_waiters left) + length ws ≡ length d.exclusive + length d.shared
+  left_count = go side refl
+    where
+      go : (e : Side) → side ≡ e → length (all_waiters left) + length ws ≡ length d.exclusive + length d.shared
+      go X e = rw e (omega (arith, ap length (drop_all (length d.exclusive) d.exclusive (omega arith)), length-append (drop (length d.exclusive) d.exclusive) d.shared))
+      go S e = rw e (omega (arith, ap length (drop_all (length d.shared) d.shared (omega arith)), length-append d.exclusive (drop (length d.shared) d.shared)))
+
+  pub left_number : left.number ≡ d.number
+  left_number = elim side as (λ e. (left_by (length (waiters e d)) e d).number ≡ d.number) [ X ↦ refl | S ↦ refl ]
+
+  pub left_lock : name_of left ≡ name_of d
+  left_lock = elim side as (λ e. name_of (left_by (length (waiters e d)) e d) ≡ name_of d) [ X ↦ refl | S ↦ refl ]
+
+  pub left_owner : left.owner ≡ d.owner
+  left_owner = elim side as (λ e. (left_by (length (waiters e d)) e d).owner ≡ d.owner) [ X ↦ refl | S ↦ refl ]
+
+  pub left_home : left.loan_home ≡ d.loan_home
+  left_home = elim side as (λ e. (left_by (length (waiters e d)) e d).loan_home ≡ d.loan_home) [ X ↦ refl | S ↦ refl ]
+
+-- without its whole side the turnstile shows the queue without it, where its free list is long enough
+left_queue : (side : Side) (d : Contents) → d.owner ≡ None → length (waiters side d) ≤ length d.free → without_side side (queue_of d) ≡ queue_of (left side d)
+left_queue X d o few =
+    let none : drop (length d.exclusive) d.exclusive ≡ [] = drop_all (length d.exclusive) d.exclusive (omega arith) in
+    λ i. record { head = head_after-stays d.exclusive d.free d.number few i; lists = record { exclusive = sym none i; shared = d.shared }; free_list = drop (length d.exclusive) d.free; owner = sym o i }
+left_queue S d o few =
+    let none : drop (length d.shared) d.shared ≡ [] = drop_all (length d.shared) d.shared (omega arith) in
+    λ i. record { head = head_after-stays d.shared d.free d.number few i; lists = record { exclusive = d.exclusive; shared = sym none i }; free_list = drop (length d.shared) d.free; owner = sym o i }
+
+module _ (q : QueueName) (side : Side) (d : Contents) (balanced : length d.free + 1 ≡ length d.exclusive + length d.shared) where
+  -- where nobody is left, there is one free turnstile too few
+  all_gone : is_empty (all_waiters (left side d)) ≡ true → length (waiters side d) ≡ suc (length d.free)
+  all_gone e = omega (arith, balanced, left_count side d, empty_length (all_waiters (left side d)) e)
+
+  some_left : is_empty (all_waiters (left side d)) ≡ false → length (waiters side d) ≤ length d.free
+  some_left e = omega (arith, balanced, left_count side d, full_length (all_waiters (left side d)) e)
+
+  -- the waiters that were taken off
+  abbrev woken : List Place
+  woken = cond (is_empty (all_waiters (left side d))) (with_last (left side d).number (took side d)) (took side d)
+
+  abbrev Marked : List Place → Type 0
+  Marked ps = (map (mark_of q) ps ≡ dealt q (waiters side d) d.free (Some d.number)) × All (λ p. IsSome p.turnstile) ps
+
+  pub woken_shown : Marked woken
+  woken_shown = go (is_empty (all_waiters (left side d))) refl
+    where
+      go : (b : Bool) → is_empty (all_waiters (left side d)) ≡ b → Marked (cond b (with_last (left side d).number (took side d)) (took side d))
+      go true e =
+          let n = all_gone e in
+          let is : with_last (left side d).number (took side d) ≡ with_last d.number (places (waiters side d) d.free) = ap (λ k. with_last k (took side d)) (left_number side d) ∙ ap (with_last d.number) (taken-whole side d) in
+          subst Marked (sym is) (marks-dealt_last q (waiters side d) d.free d.number n, turnstiles-dealt_last (waiters side d) d.free d.number n)
+      go false e = subst Marked (sym (taken-whole side d)) (marks-dealt q (waiters side d) d.free d.number (some_left e), turnstiles-dealt (waiters side d) d.free (some_left e))
+
+-- 2. The loan
+
+none_listed : (side : Side) → is_empty (list_of side (record { exclusive = []; shared = [] })) ≡ true
+none_listed X = refl
+none_listed S = refl
+
+module _ {c : Config} {s : State} {t l : ℕ} (can : CanRelease c s t l) {r : Record} (rec : RepresentsRecord r (record_in s t)) where
+  abbrev q : QueueName
+  q = lock_queue l
+
+  loan_seen : option_map loan_of (loan_for l r.loans) ≡ s.loan t l
+  loan_seen = ap (λ v. v.loan l) rec.columns
+
+  -- the record, without its loan
+  pub record_shown : RepresentsRecord (record_opened l r) (record_in (after_open c s t l) t)
+  unfolding after_open
+  record_shown =
+      subst (RepresentsRecord (record_opened l r)) (sym (λ i. record (record_in s t) { loan = λ k. put_at_row s.loan t l None k i; effective = put_same s.effective t (effective_of c (put (s.loan t) l None) (s.base t)) i }))
+      (with_other_loans c (without_loan l r.loans) (put (s.loan t) l None) left_loans (one_each_without l r.loans (without_loan l r.loans) refl rec.one_loan_each) beyond rec)
+    where
+      left_loans : (k : ℕ) → option_map loan_of (loan_for k (without_loan l r.loans)) ≡ put (s.loan t) l None k
+      left_loans k =
+          elim (cases_eq k l) [
+            | inl e ↦ ap (option_map loan_of) (loan_for-dropped k l r.loans (rec.one_loan_each l) e) ∙ sym (ap (put (s.loan t) l None) e ∙ put_same (s.loan t) l None)
+            | inr d ↦ ap (option_map loan_of) (loan_for-others k l r.loans d) ∙ ap (λ v. v.loan k) rec.columns ∙ sym (put_other (s.loan t) l None k (λ e. d (sym e)))
+          ]
+
+      none_at : (k : ℕ) → c.locks ≤ k → (o : Option Loan) → s.loan t k ≡ o → o ≡ None
+      none_at k a None e = refl
+      none_at k a (Some x) e = absurd (let b = can.within k x e in omega arith)
+
+      beyond : (k : ℕ) → c.locks ≤ k → put (s.loan t) l None k ≡ None
+      beyond k a =
+          elim (cases_eq l k) [
+            | inl e ↦ subst (λ j. put (s.loan t) l None j ≡ None) e (put_same (s.loan t) l None)
+            | inr d ↦ put_other (s.loan t) l None k d ∙ none_at k a (s.loan t k) refl
+          ]
+
+  module _ {d : Contents} (old : RepresentsHead d (queue_in s q) s.loan_home) where
+    its_head : s.head q ≡ Some d.number
+    its_head = ap (λ v. v.head) old.queue
+
+    -- the turnstile's node comes home where the record has the loan
+    home_shown : home_after s.loan_home (s.loan t l) d.number ≡ (is_some (loan_for l r.loans) || d.loan_home)
+    home_shown = go (loan_for l r.loans) loan_seen
+      where
+        go : (o : Option Terms) → option_map loan_of o ≡ s.loan t l → home_after s.loan_home (s.loan t l) d.number ≡ (is_some o || d.loan_home)
+        go None e = ap (λ f. home_after s.loan_home f d.number) (sym e) ∙ old.loan_home
+        go (Some y) e = ap (λ f. home_after s.loan_home f d.number) (sym e) ∙ ap (put s.loan_home y.number true) (can.lent d.number (loan_of y) its_head (sym e)).0 ∙ put_same s.loan_home y.number true
+
+    -- where it has none, it is there already
+    returns_home : (is_some (loan_for l r.loans) || d.loan_home) ≡ true
+    returns_home = go (loan_for l r.loans) loan_seen
+      where
+        go : (o : Option Terms) → option_map loan_of o ≡ s.loan t l → (is_some o || d.loan_home) ≡ true
+        go None e = sym old.loan_home ∙ can.unlent d.number its_head (sym e)
+        go (Some y) e = refl
+
+    -- the loan is on that node
+    is_carried : IfSome (carrier_for l r.loans) (λ i. node_out d ≡ Some i)
+    is_carried = go (loan_for l r.loans) loan_seen
+      where
+        go : (o : Option Terms) → option_map loan_of o ≡ s.loan t l → IfSome (option_map (λ y. y.number) o) (λ i. node_out d ≡ Some i)
+        go None e = tt
+        go (Some y) e =
+            let is = can.lent d.number (loan_of y) its_head (sym e) in
+            ap (λ b. cond b None (Some d.number)) (sym old.loan_home ∙ is.1) ∙ ap Some is.0
+
+-- 3. The queues
+
+module _ (c : Config) (s : State) (t l : ℕ) where
+  abbrev n : State
+  n = after_open c s t l
+
+  its_queue : queue_in n (lock_queue l) ≡ without_side (side_woken (c.kind l) (s.word l)) (queue_in s (lock_queue l))
+  unfolding after_open
+  its_queue = λ i. record {
+    head = put_lock_same s.head l (head_after (list_of (side_woken (c.kind l) (s.word l)) (s.lists (lock_queue l))) (s.free_list (lock_queue l)) (s.head (lock_queue l))) i;
+    lists = put_lock_same s.lists l (with_list (side_woken (c.kind l) (s.word l)) [] (s.lists (lock_queue l))) i;
+    free_list = put_lock_same s.free_list l (free_after (list_of (side_woken (c.kind l) (s.word l)) (s.lists (lock_queue l))) (s.free_list (lock_queue l))) i;
+    owner = put_lock_same s.owner l None i;
+  }
+
+  others : CanRelease c s t l → (k : ℕ) → k ≢ l → is_turnstile (c.kind k) ≡ true → SameQueue (queue_in s) (queue_in n) s.loan_home n.loan_home (lock_queue k)
+  unfolding after_open
+  others can k d j = record {
+    queue = λ i. record {
+      head = put_lock_other s.head l (head_after (list_of (side_woken (c.kind l) (s.word l)) (s.lists (lock_queue l))) (s.free_list (lock_queue l)) (s.head (lock_queue l))) k (λ e. d (sym e)) i;
+      lists = put_lock_other s.lists l (with_list (side_woken (c.kind l) (s.word l)) [] (s.lists (lock_queue l))) k (λ e. d (sym e)) i;
+      free_list = put_lock_other s.free_list l (free_after (list_of (side_woken (c.kind l) (s.word l)) (s.lists (lock_queue l))) (s.free_list (lock_queue l))) k (λ e. d (sym e)) i;
+      owner = put_lock_other s.owner l None k (λ e. d (sym e)) i;
+    };
+    loan_home = λ x e. can.elsewhere k x d j e;
+  }
+
+  module _ (can : CanRelease c s t l) {r : Record} (rec : RepresentsRecord r (record_in s t)) (side : Side) (e : side ≡ side_woken (c.kind l) (s.word l)) (h : Turnstile) (old : RepresentsHead h.contents (queue_in s (lock_queue l)) s.loan_home) where
+    abbrev d : Contents
+    d = settled l r h.contents
+
+    fits : length d.free + 1 ≡ length d.exclusive + length d.shared
+    fits = subst (λ v. length v.free_list + some v.head ≡ waiting v.lists) old.queue can.balanced
+
+    then_is : queue_in n (lock_queue l) ≡ without_side side (queue_of d)
+    then_is = its_queue ∙ (λ i. without_side (sym e i) (old.queue i))
+
+    -- the turnstile stays
+    stays : is_empty (all_waiters (left side d)) ≡ false → RepresentsHead (left side d) (queue_in n (lock_queue l)) n.loan_home
+    unfolding after_open
+    stays some_wait = record {
+      queue = then_is ∙ left_queue side d refl (some_left (lock_queue l) side d fits some_wait);
+      loan_home = ap (home_after s.loan_home (s.loan t l)) (left_number side d) ∙ home_shown can rec old ∙ sym (left_home side d);
+    }
+
+    -- or is gone
+    gone : is_empty (all_waiters (left side d)) ≡ true → (queue_in n (lock_queue l)).head ≡ None
+    gone nobody = ap (λ v. v.head) then_is ∙ head_after-none (waiters side d) d.free d.number (all_gone (lock_queue l) side d fits nobody)
+
+    pub queues_shown : {chain new : List (QueueName × Turnstile)} → RepresentsQueues c chain (queue_in s) s.loan_home → new ≡ chain_opened l side r h chain → (is_empty (all_waiters (left side d)) ≡ true → head_of (lock_queue l) new ≡ None)
+        → RepresentsQueues c new (queue_in n) n.loan_home
+    queues_shown {chain = chain} {new = new} shows is absent = go (is_empty (all_waiters (left side d))) refl
+      where
+        go : (b : Bool) → is_empty (all_waiters (left side d)) ≡ b → RepresentsQueues c new (queue_in n) n.loan_home
+        go true nobody =
+            let without_it : new ≡ without (lock_queue l) chain = is ∙ ap (λ b. cond b (without (lock_queue l) chain) ((lock_queue l, record h { contents = left side d }) ∷ without (lock_queue l) chain)) nobody in
+            subst (λ v. RepresentsQueues c v (queue_in n) n.loan_home) (sym without_it) (queues_gone l shows (others can) (ap (head_of (lock_queue l)) (sym without_it) ∙ absent nobody) (gone nobody))
+        go false some_wait =
+            let with_it : new ≡ (lock_queue l, record h { contents = left side d }) ∷ without (lock_queue l) chain = is ∙ ap (λ b. cond b (without (lock_queue l) chain) ((lock_queue l, record h { contents = left side d }) ∷ without (lock_queue l) chain)) some_wait in
+            subst (λ v. RepresentsQueues c v (queue_in n) n.loan_home) (sym with_it) (queues_placed l shows (others can) (record h { contents = left side d }) (stays some_wait))
+
+    pub marks_shown : {ps : List Place} → ps ≡ woken_of l side r h.contents → (map (mark_of (lock_queue l)) ps ≡ n.marked t) × All (λ p. IsSome p.turnstile) ps
+    unfolding after_open
+    marks_shown is =
+        let are = woken_shown (lock_queue l) side d fits in
+        let columns : s.marked t ≡ s.marked t = refl in
+        let marks : n.marked t ≡ dealt (lock_queue l) (waiters side d) d.free (Some d.number) =
+        put_same s.marked t (dealt (lock_queue l) (list_of (side_woken (c.kind l) (s.word l)) (s.lists (lock_queue l))) (s.free_list (lock_queue l)) (s.head (lock_queue l)))
+        ∙ (λ i. dealt (lock_queue l) (list_of (sym e i) (old.queue i).lists) (old.queue i).free_list (old.queue i).head) in
+        subst (λ ps. (map (mark_of (lock_queue l)) ps ≡ n.marked t) × All (λ p. IsSome p.turnstile) ps) (sym is) (are.0 ∙ sym marks, are.1)
+
+-- 4. A lawful state
+
+module _ (c : Config) (s : State) (t l : ℕ) (mode : Mode) (lawful : Lawful c s) (g : MayOpen c s t l mode) where
+  pub can_release : CanRelease c s t l
+  unfolding HeadsFitWaiters
+  can_release = record {
+    turnstile = g.turnstile;
+    balanced = (lawful.heads_fit_waiters (lock_queue l)).balanced;
+    lent = λ x y e f. lent_out c s t l lawful g.lock g.turnstile (laws.loans c s t l y lawful f).1 x y e f;
+    unlent = unlent;
+    elsewhere = λ k x d turnstile e. elsewhere k x d turnstile e (s.loan t l) refl;
+    within = λ k y e. loan_lock c s t k y lawful e;
+  }
+    where
+      unlent : (x : ℕ) → s.head (lock_queue l) ≡ Some x → s.loan t l ≡ None → s.loan_home x ≡ true
+      unlent x e none = go (s.owner (lock_queue l)) refl
+        where
+          go : (o : Option ℕ) → s.owner (lock_queue l) ≡ o → s.loan_home x ≡ true
+          go None w = unowned_home c s l x lawful g.lock g.turnstile e w
+          go (Some o) w =
+              let same : o ≡ t = laws.exclude c s o t l lawful (owner_holds c s l o lawful w) (λ n. let z = sym g.held ∙ n in cc) in
+              owned_home c s l x o lawful g.lock g.turnstile e w (ap (λ u. s.loan u l) same ∙ none)
+
+      elsewhere : (k x : ℕ) → k ≢ l → is_turnstile (c.kind k) ≡ true → s.head (lock_queue k) ≡ Some x → (o : Option Loan) → s.loan t l ≡ o → home_after s.loan_home (s.loan t l) x ≡ s.loan_home x
+      elsewhere k x d turnstile e None f = ap (λ o. home_after s.loan_home o x) f
+      elsewhere k x d turnstile e (Some y) f = home_elsewhere c s t l lawful g.lock g.turnstile (laws.loans c s t l y lawful f).1 k x d turnstile e
+
+  abbrev side : Side
+  side = side_woken (c.kind l) (s.word l)
+
+  some_woken : is_empty (list_of side (s.lists (lock_queue l))) ≡ false
+  unfolding BitsShowWaiters MutexWaitersAreExclusive
+  some_woken = side_shown (c.kind l) (s.word l) (s.lists (lock_queue l)) g.turnstile (lawful.bits_show_waiters l) g.shown (lawful.mutex_waiters_are_exclusive l)
+
+  -- the loan and the turnstile's node
+  module _ {r : Record} (rec : RepresentsRecord r (record_in s t)) where
+    pub can_open : {chain : List (QueueName × Turnstile)} → RepresentsQueues c chain (queue_in s) s.loan_home → IsSomeAnd (head_of (lock_queue l) chain) (CanOpen l side r)
+    can_open {chain = chain} shows = go (head_of (lock_queue l) chain) (shows.lock l g.turnstile)
+      where
+        go : (o : Option Turnstile) → RepresentsQueue o (queue_in s (lock_queue l)) s.loan_home → IsSomeAnd o (CanOpen l side r)
+        go None none = let b = headless_bare c s (lock_queue l) lawful none in absurd (let z = sym some_woken ∙ ap (λ (ls : Lists). is_empty (list_of side ls)) (λ i. record { exclusive = b.no_exclusive i; shared = b.no_shared i }) ∙ none_listed side in cc)
+        go (Some h) old = record {
+          some_wait = λ e. let z = sym some_woken ∙ ap (λ v. is_empty (list_of side v.lists)) old.queue ∙ ap is_empty e in cc;
+          carried = is_carried can_release rec old;
+          returns = returns_home can_release rec old;
+        }
+
+-- 5. The objects of a release
+
+-- the head of a chain, by what is said of the chain
+pub of_head : {A : Type 0} {o : Option A} {x : A} (P : A → Type 0) → Some x ≡ o → IfSome o P → P x
+of_head P e h = subst (λ o. IfSome o P) (sym e) h
+
+-- a turnstile that was settled and emptied of a side has no owner, and its node is at home
+module _ (l : ℕ) (side : Side) (r : Record) {h a : Turnstile} {b : Contents} (can : CanOpen l side r h) (is : a ≡ record h { contents = settled l r h.contents }) (made : b ≡ left_by (length (waiters side a.contents)) side a.contents) where
+  pub unowned : b.owner ≡ None
+  unowned = ap (λ (d : Contents). d.owner) made ∙ left_owner side a.contents ∙ ap (λ (v : Turnstile). v.contents.owner) is
+
+  pub at_home : b.loan_home ≡ true
+  at_home = ap (λ (d : Contents). d.loan_home) made ∙ left_home side a.contents ∙ ap (λ (v : Turnstile). v.contents.loan_home) is ∙ can.returns
+
+-- with nobody on it, it has no free turnstile either
+pub nothing_left : (d : Contents) → IsWellFormed d → all_waiters d ≡ [] → (d.exclusive ≡ []) × (d.shared ≡ []) × (d.free ≡ [])
+nothing_left d fits nobody =
+    let n : length d.exclusive + length d.shared ≡ 0 = sym (length-append d.exclusive d.shared) ∙ ap length nobody in
+    (no_item d.exclusive (omega arith), no_item d.shared (omega arith), no_item d.free (omega (arith, fits.one_free_less)))
+  where
+    no_item : {A : Type 0} (xs : List A) → length xs ≡ 0 → xs ≡ []
+    no_item [] e = refl
+    no_item (x ∷ xs) e = absurd (omega arith)
+
+pub left_idle : (h : Turnstile) → IsWellFormed h.contents → all_waiters h.contents ≡ [] → h.contents.owner ≡ None → h.contents.loan_home ≡ true → h.next ≡ [] → IsLeft h
+left_idle h fits nobody owner home bare =
+    let none = nothing_left h.contents fits nobody in
+    record { no_exclusive = none.0; no_shared = none.1; no_free = none.2; no_owner = owner; loan_home = home; no_next = bare }
+
+-- one who is in the chain has what is asked of the head there
+pub of_some : {A : Type 0} {o : Option A} {x : A} (P : A → Type 0) → Some x ≡ o → IsSomeAnd o P → P x
+of_some P e h = subst (λ o. IsSomeAnd o P) (sym e) h
+
+-- the settled turnstile, by the one that was there
+pub is_settled : (l : ℕ) (r : Record) {a h : Turnstile} → a ≡ h → with_contents (settled l r a.contents) a ≡ record h { contents = settled l r h.contents }
+is_settled l r e = ap (λ (v : Turnstile). record v { contents = settled l r v.contents }) e

@@ -1,0 +1,55 @@
+use Rattle.std.proofs.Common.{rules, ◌≡◌, sym, ap, subst, ◌∙◌, None, true}
+use Rattle.chain_table.specs.Links.{map_is_empty}
+use Rattle.chain_table.specs.Turnstiles.{bare}
+use Rattle.lock_model.specs.Counts.{is_empty}
+use Rattle.lock_model.specs.Queues.{lock_queue}
+use Rattle.turnstile_core.specs.Changes.{all_waiters}
+use Rattle.chain_table.specs.Chains.{head_of}
+use Rattle.lock_objects.specs.Opens.{CanOpen, left_open, chain_opened, woken_of}
+use Rattle.lock_state.specs.Steps.Turnstiles.{after_open}
+use Rattle.lock_objects.specs.Represents.{RepresentsRecord, record_in}
+use Rattle.lock_objects.proofs.Queues.{found}
+use Rattle.lock_objects.proofs.Opens.{of_head, of_some, unowned, at_home, record_shown, queues_shown, marks_shown, is_settled}
+use Rattle.lock_objects.proofs.waking.open.Goals as goal
+
+pub put_back-requires-clause-unowned : goal.put_back-requires-clause-unowned
+put_back-requires-clause-unowned c =
+    let can = of_some (CanOpen c.args.l.0 c.args.side c.args.rec.now) c.in-Some.ensures.taken c.requires in
+    unowned c.args.l.0 c.args.side c.args.rec.now can (c.deref_mut-2.ensures.value ∙ c.settle_release.ensures.head ∙ is_settled c.args.l.0 c.args.rec.now c.deref_mut.ensures.value) c.broadcast-woken.ensures.contents
+
+pub put_back-requires-clause-home : goal.put_back-requires-clause-home
+put_back-requires-clause-home c =
+    let can = of_some (CanOpen c.args.l.0 c.args.side c.args.rec.now) c.in-Some.ensures.taken c.requires in
+    at_home c.args.l.0 c.args.side c.args.rec.now can (c.deref_mut-2.ensures.value ∙ c.settle_release.ensures.head ∙ is_settled c.args.l.0 c.args.rec.now c.deref_mut.ensures.value) c.broadcast-woken.ensures.contents
+
+pub put_back-requires-clause-bare : goal.put_back-requires-clause-bare
+put_back-requires-clause-bare c =
+    c.broadcast-woken.ensures.next ∙ ap (λ v. v.next) (c.deref_mut-2.ensures.value ∙ c.settle_release.ensures.head ∙ is_settled c.args.l.0 c.args.rec.now c.deref_mut.ensures.value) ∙ map_is_empty bare c.in-Some.head.value.next c.in-Some.ensures.bare
+
+pub returns-clause-record : goal.returns-clause-record
+returns-clause-record c = search rules
+
+pub returns-clause-chain : goal.returns-clause-chain
+returns-clause-chain c = search rules
+
+pub returns-clause-absent : goal.returns-clause-absent
+returns-clause-absent c = search rules
+
+pub returns-clause-woken : goal.returns-clause-woken
+returns-clause-woken c = search rules
+
+pub returns-clause-queues : goal.returns-clause-queues
+returns-clause-queues c k s t side can rec shows =
+    let h = c.in-Some.head.value in
+    let there = c.in-Some.ensures.taken in
+    queues_shown k s t c.args.l.0 can rec c.args.side side h (found shows can.turnstile (sym there)) shows
+    (of_head (λ v. c.put_back.new.chain ≡ chain_opened c.args.l.0 c.args.side c.args.rec.now v c.args.chain.now) there (returns-clause-chain c))
+    (of_head (λ v. is_empty (all_waiters (left_open c.args.l.0 c.args.side c.args.rec.now v.contents)) ≡ true → head_of (lock_queue c.args.l.0) c.put_back.new.chain ≡ None) there (returns-clause-absent c))
+
+pub returns-clause-its_record : goal.returns-clause-its_record
+returns-clause-its_record c k s t can rec = subst (λ v. RepresentsRecord v (record_in (after_open k s t c.args.l.0) t)) (sym (returns-clause-record c)) (record_shown can rec)
+
+pub returns-clause-marks : goal.returns-clause-marks
+returns-clause-marks c k s t side can rec shows =
+    let there = c.in-Some.ensures.taken in
+    marks_shown k s t c.args.l.0 can rec c.args.side side c.in-Some.head.value (found shows can.turnstile (sym there)) (of_head (λ v. c.put_back.result ≡ woken_of c.args.l.0 c.args.side c.args.rec.now v.contents) there (returns-clause-woken c))

@@ -1,0 +1,5 @@
+pub mod Represents
+pub mod Held
+pub mod Enters
+pub mod Opens
+pub mod Hops

@@ -1,0 +1,17 @@
+//! What the program `lockrun` does, as a library: words and a source in, a status and a text out. A program, or a face
+//! for other languages, picks up its words and its streams and calls this.
+//!
+//! From the outside in:
+//! - `top`: the call, with everything that is promised of it.
+//! - `status`: how it ends.
+//! - `answer`: the status and the text that belong to the bytes of a source.
+#![tactic(auto)]
+
+mod answer;
+mod status;
+#[cfg(test)]
+mod tests;
+mod top;
+
+pub use crate::status::Status;
+pub use crate::top::lockrun_plain;

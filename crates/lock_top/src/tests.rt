@@ -1,0 +1,165 @@
+//! What no file of `example_rows` can say: ends that fail, a source that is too big, runs that are cut off, and the
+//! answers of turns.
+ghost use Rattle.std.specs.Prelude.{IfOk};
+ghost use Rattle.lock_model.specs.Operations.{IsProper};
+
+use crate::status::Status;
+use crate::top::lockrun_plain;
+use lock_history::print;
+use lock_io::{MemSink, MemSource};
+use lock_model::{Plan, StepKind, ThreadNo, Turn};
+use script_read::read_script;
+use std::alloc::Global;
+use std::test::Fail;
+use step_world::{World, run_schedule};
+
+// A call: the words; the source, and how many bytes `a` stand behind it; at which call, from 0, the source and the sink
+// fail. And what it is to give: the status, and what the sink holds then. Both ends move 4 bytes a call.
+type Case = (
+    &'static str,
+    &'static str,
+    usize,
+    u32,
+    u32,
+    Status,
+    &'static str,
+);
+
+// No end is called that often.
+const NEVER: u32 = 1_000_000;
+
+const FIRST: &str = "lockrun 1\nmutex m a\nthread t 100\nlock m\nset m 1 5\nunlock m\nend\ndone\n";
+
+const FIRST_TEXT: &str =
+    "0 t lock m\n1 t set m 1 5\n2 t unlock m\nthread t base 100 eff 100\ntable m 1 5\nok\n";
+
+// A source that fails at its first call tells whether it was read at all, and call 1 of a sink behind `ok` is its
+// flush.
+const CASES: &[Case] = &[
+    ("step", FIRST, 0, NEVER, NEVER, Status::Done, FIRST_TEXT),
+    ("step", FIRST, 0, NEVER, 2, Status::WriteFault, "0 t lock"),
+    ("step", FIRST, 0, NEVER, 0, Status::WriteFault, ""),
+    (
+        "step",
+        "lockrun 1\ndone\n",
+        0,
+        NEVER,
+        1,
+        Status::WriteFault,
+        "ok\n",
+    ),
+    ("step", FIRST, 0, 1, NEVER, Status::ReadFault, ""),
+    ("step extra", FIRST, 0, 0, NEVER, Status::Usage, ""),
+    ("gen", FIRST, 0, 0, NEVER, Status::Usage, ""),
+    ("walk", FIRST, 0, 0, NEVER, Status::Usage, ""),
+    ("", FIRST, 0, 0, NEVER, Status::Usage, ""),
+    ("step", "", 1_048_577, NEVER, NEVER, Status::TooBig, ""),
+    (
+        "step",
+        "",
+        1_048_576,
+        NEVER,
+        NEVER,
+        Status::BadScript,
+        "line 0 code 0\n",
+    ),
+];
+
+#[test]
+fn calls_at_ends_in_memory(rt: HostRuntime) -> Result<(), Fail> {
+    let alloc = rt.alloc();
+    for &(line, script, more, source_fails, sink_fails, status, text) in CASES {
+        let mut words = Vec::new(alloc);
+        for word in line.split_whitespace() {
+            words.push(String::from_str(alloc, word)?)?;
+        }
+        let mut bytes = vec![in alloc; b'a'; more]?;
+        bytes.extend_from_slice(script.as_bytes())?;
+        let mut source = MemSource::new(bytes, 4, vec![in alloc; source_fails]?);
+        let mut sink = MemSink::new(alloc, 4096, 4, vec![in alloc; sink_fails]?)?;
+        let answer = lockrun_plain(alloc, &words, &mut source, &mut sink);
+        assert_eq!(rt; answer, status, "the status of {line:?} on {script:?}");
+        assert_eq!(rt;
+            sink.bytes(),
+            text.as_bytes(),
+            "the text of {line:?} on {script:?}"
+        );
+    }
+    Ok(())
+}
+
+// A first waiter; a loan that was made; equals in order of arrival.
+const RUNS: &[(&str, u32, &str)] = &[
+    (
+        "lockrun 1\nmutex m k\nthread p 100\nlock m\nunlock m\nend\n\
+        thread q 50\nlock m\nadd m 1 3\nunlock m\nend\nschedule p q p p q\ndone\n",
+        2,
+        "0 p lock m\nqueue m slot 0 head q free - excl q@50 shared -\n\
+        thread p base 100 eff 100\nthread q base 50 eff 50\ntoolong\n",
+    ),
+    (
+        LENT,
+        4,
+        "0 p lock m\n1 p show 100 50\nqueue m slot 0 head q free - excl q@50 shared -\n\
+        thread p base 100 eff 50\nthread q base 50 eff 50\ntoolong\n",
+    ),
+    (
+        "lockrun 1\nmutex m k\nthread o 200\nlock m\nshow\nunlock m\nend\n\
+        thread a 100\nlock m\nunlock m\nend\nthread b 50\nlock m\nunlock m\nend\n\
+        thread c 50\nlock m\nunlock m\nend\nschedule o a a b b c c\ndone\n",
+        7,
+        "0 o lock m\nqueue m slot 0 head a free c,b excl b@50,c@50,a@100 shared -\n\
+        thread o base 200 eff 50\nthread a base 100 eff 100\n\
+        thread b base 50 eff 50\nthread c base 50 eff 50\ntoolong\n",
+    ),
+];
+
+const LENT: &str = "lockrun 1\nmutex m a\nthread p 100\nlock m\nshow\nunlock m\nend\n\
+    thread q 50\nlock m\nadd m 1 3\nunlock m\nend\nschedule p q q p p p q\ndone\n";
+
+#[test]
+fn runs_that_are_too_long(rt: HostRuntime) -> Result<(), Fail> {
+    let alloc = rt.alloc();
+    for &(script, turns, text) in RUNS {
+        assert!(rt; 1 <= turns && turns <= 1_000_000);
+        let plan = plan_of(alloc, script)?;
+        let outcome = run_schedule(alloc, &plan, 16, turns)?;
+        assert_eq!(rt; print(alloc, &plan, &outcome)?.as_slice(), text.as_bytes());
+    }
+    Ok(())
+}
+
+// Who has the turn, and its answer.
+const TURNS: &[(u8, Turn)] = &[
+    (0, Turn::Did(StepKind::Gain)),
+    (1, Turn::Did(StepKind::Enter)),
+    (1, Turn::Did(StepKind::Lend)),
+    (1, Turn::Idle),
+    (0, Turn::Did(StepKind::Note)),
+    (0, Turn::Did(StepKind::OpenUp)),
+    (0, Turn::Did(StepKind::Mark)),
+    (0, Turn::Ended),
+    (1, Turn::Did(StepKind::Resume)),
+    (1, Turn::Did(StepKind::Gain)),
+];
+
+#[test]
+fn turns_and_their_answers(rt: HostRuntime) -> Result<(), Fail> {
+    let plan = plan_of(rt.alloc(), LENT)?;
+    let mut world = World::make(rt.alloc(), &plan, 16)?;
+    for &(t, answer) in TURNS {
+        assert!(rt; t < world.threads());
+        assert_eq!(rt; world.turn(ThreadNo(t)), answer);
+    }
+    Ok(())
+}
+
+// The plan of a script.
+fn plan_of(alloc: Global, script: &str) -> Result<Plan, Fail>
+    ensures { IfOk result IsProper }
+{
+    match read_script(alloc, script.as_bytes()) {
+        Ok(plan) => Ok(plan),
+        Err(_) => Err("the bytes are a script")?,
+    }
+}
