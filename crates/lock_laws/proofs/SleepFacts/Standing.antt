@@ -2,7 +2,7 @@
 use Rattle.std.proofs.Common.{◌≡◌, ◌≢◌, ℕ, ◌%◌, ◌≤◌, true, List, ◌∷◌, Option, Some, None, refl, sym, ap, inl, inr, arith, eq-eqb, ◌∙◌, subst}
 use Rattle.std.proofs.lemmas.Bool.{cases_eq, eqb-true}
 use Rattle.lock_model.specs.Config.{Config}
-use Rattle.lock_model.specs.Counts.{one}
+use Rattle.lock_model.specs.Counts.{one, some}
 use Rattle.lock_model.specs.Law.{is_asleep, sleeps_on}
 use Rattle.lock_model.specs.Queues.{BySignal, Mark, lock_queue, chan_queue}
 use Rattle.lock_model.specs.declared.plan.QueueName.{QueueName}
@@ -243,5 +243,5 @@ module _ (chains : ℕ) (c : Config) (s : State) (l : Lawful c s) (h : SleepersF
     | inr z ↦ (put_other s.wait t Running u z ∙ p.0, put_other s.wanted t _ u z ∙ p.1, p.2)
   ]
   way_kept (TakesItem t i) g o x = λ u d a b. let p = h.asleep_are_on_their_way u d a b in (p.0, p.1, taken t i g u (d % chains) p.2)
-  way_kept (GivesItem t i) g o x = λ u d a b. let p = h.asleep_are_on_their_way u d a b in (p.0, p.1, given t i g u (d % chains) (λ y done. done.2 (on_its_way t d (ap (is_asleep s.history d) y ∙ a) (ap s.blocked_on y ∙ b))) p.2)
+  way_kept (GivesItem t i) g o x = λ u d a b. let p = h.asleep_are_on_their_way u d a b in (p.0, p.1, given t i g u (d % chains) (λ y done. done.2 (ap s.wait y ∙ p.0) (ap s.blocked_on y ∙ b)) p.2)
   way_kept other g o x = h.asleep_are_on_their_way
