@@ -6,14 +6,14 @@ use Rattle.std.proofs.lemmas.Option.{same_Some}
 use Rattle.lock_model.specs.Plans.{config_of, operations_of}
 use Rattle.lock_model.specs.Counts.{any_below, is_empty}
 use Rattle.lock_model.specs.Holds.{is_unheld, Hold, Holds}
-use Rattle.lock_model.specs.Operations.{hold_in, held_through, held_of}
+use Rattle.lock_model.specs.Operations.{IsProper, hold_in, held_of}
 use Rattle.lock_state.specs.Run.{Run, is_walking, has_ended, holds_none}
 use Rattle.lock_model.specs.declared.plan.Op.{Op}
 use Rattle.lock_model.specs.declared.plan.Plan.{Plan}
 use Rattle.lock_model.specs.declared.event.Held.{Held}
 use Rattle.lock_laws.proofs.Shown.{true-any_below}
 use Rattle.lock_laws.proofs.Best.{any_below-true}
-use Rattle.lock_laws.proofs.HeldLists.{AreLocks, none_held, through}
+use Rattle.lock_laws.proofs.HeldLists.{AreLocks, held_are_locks}
 use Rattle.prio_lending.specs.declared.walk.Walk as walks
 use Rattle.prio_lending.specs.declared.walk.Walk.TheVariants as walk
 use Rattle.step_world.specs.declared.machine.Machine.{Machine}
@@ -42,14 +42,6 @@ none_where_empty n (h ∷ hs) a = sym (ap not (true-any_below n (λ l. not (is_u
     first : hold_in (h ∷ hs) h.l.0 ≡ Holds h.mode
     first = rw (eq-eqb h.l.0 h.l.0 refl)
 
--- what operations lead to is a list of locks, also where they don't fit
-are_locks : (n : ℕ) (ops : List Op) (p : ℕ) → AreLocks n (held_of n ops p)
-are_locks n ops p = go (held_through n (take p ops) []) refl
-  where
-    go : (o : Option (List Held)) → held_through n (take p ops) [] ≡ o → AreLocks n (unwrap_or o [])
-    go None e = none_held n
-    go (Some hs) e = through n (take p ops) [] hs e (none_held n)
-
 -- 2. What is owed
 
 no_walk : (w : walks.Walk) → has_no_walk w ≡ not (is_walking (walk_of w))
@@ -75,10 +67,10 @@ pub aside_is : (plan : Plan) (m : Machine) (r : Run) (t : ℕ) (th : Thread) →
     → progress_of th ≡ progress_in plan r t
 aside_is plan m r t th h lt e = same_Some (progress_of th) _ (sym (ap (option_map progress_of) e) ∙ h.shows.progress t lt)
 
-pub ends_as_said : (plan : Plan) (m : Machine) (r : Run) (t : ℕ) (th : Thread) → IsRunOf plan m r → t < length plan.threads → slice_get m.threads.items t ≡ Some th
+pub ends_as_said : (plan : Plan) (m : Machine) (r : Run) (t : ℕ) (th : Thread) → IsProper plan → IsRunOf plan m r → t < length plan.threads → slice_get m.threads.items t ≡ Some th
     → thread_has_ended (length (operations_of plan t)) th ≡ has_ended plan r t
 unfolding has_ended
-ends_as_said plan m r t th h lt e =
+ends_as_said plan m r t th p h lt e =
     let old = h.shows.shows.threads.thread t th e in
     let a = aside_is plan m r t th h lt e in
     let n : ℕ = length plan.locks in
@@ -89,7 +81,7 @@ ends_as_said plan m r t th h lt e =
     let its_marked : is_empty th.marked ≡ is_empty (r.state.marked t) = same_empty _ th.marked ∙ ap is_empty old.marked in
     let same : r.state.held t ≡ hold_in hs = λ i l. h.on_track.holds t l i in
     let its_held : is_empty th.held.items ≡ holds_none (config_of plan) r.state t =
-    ap is_empty held ∙ none_where_empty n hs (are_locks n (operations_of plan t) (r.next_op t)) ∙ sym (ap (none_held_by n) same) in
+    ap is_empty held ∙ none_where_empty n hs (held_are_locks plan p t (r.next_op t)) ∙ sym (ap (none_held_by n) same) in
     ap (λ p. nat_le count p && has_no_walk th.walk && is_empty th.marked && is_empty th.held.items) next
     ∙ ap (λ b. nat_le count (r.next_op t) && b && is_empty th.marked && is_empty th.held.items) its_walk
     ∙ ap (λ b. nat_le count (r.next_op t) && not (is_walking (r.state.walk t)) && b && is_empty th.held.items) its_marked

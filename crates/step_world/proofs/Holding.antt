@@ -11,7 +11,6 @@ use Rattle.std.proofs.lemmas.Option.{cond_some}
 use Rattle.lock_state.specs.Facts.{Lawful}
 use Rattle.lock_state.specs.Steps.LockWords.{MayGain, after_gain, MayDrop, after_drop}
 use Rattle.lock_model.specs.Operations.{hold_in, without_lock}
-use Rattle.lock_model.specs.Script.{holds_lock}
 use Rattle.lock_model.specs.Config.{Config}
 use Rattle.lock_state.specs.State.{State, put_at}
 use Rattle.lock_model.specs.Holds.{Hold, NotHeld, Holds}
@@ -22,7 +21,6 @@ use Rattle.lock_model.specs.declared.numbers.LockNo.{LockNo}
 use Rattle.lock_model.specs.declared.event.Held.{Held}
 use Rattle.lock_laws.proofs.Kit.{put_same, put_other, put_at_same, put_at_other, put_at_beside}
 use Rattle.lock_laws.proofs.Words.{owner_is}
-use Rattle.lock_laws.proofs.AcceptedLists.{removed_is}
 use Rattle.lock_laws.proofs.HeldLists.{Apart, hold_in-push, hold_in-without}
 use Rattle.lock_words.specs.Views.{IsHeldIn}
 use Rattle.step_world.specs.declared.machine.Machine.{Machine}
@@ -31,31 +29,7 @@ use Rattle.step_world.specs.Represents.{Represents, RepresentsWords, RepresentsT
 use Rattle.step_world.specs.Steps.{HoldsFew, progress_of}
 use Rattle.step_world.proofs.Kit.{SameAt, thread_changed, word_changed}
 
--- 1. The list without a lock
-
--- the lock is taken out at its place
-pub taken_out : (l : LockNo) (hs : List Held) (i : ℕ) → position (holds_lock l) hs ≡ Some i → remove hs i ≡ without_lock l.0 hs
-taken_out l hs i e =
-    let n = position_or_len (holds_lock l) hs in
-    let f = cond_some (nat_lt n (length hs)) n i e in
-    subst (λ (k : ℕ). remove hs k ≡ without_lock l.0 hs) f.1 (removed_is l hs (ltb-true n (length hs) f.0)).1
-
--- and where it has no place, the list has it not
-has_none : (l : LockNo) (hs : List Held) → length hs ≤ position_or_len (holds_lock l) hs → hs ≡ without_lock l.0 hs
-has_none l [] e = refl
-has_none l (h ∷ hs) e =
-    elim (h.l.0 == l.0) as (λ b. length (h ∷ hs) ≤ cond (not b) (1 + position_or_len (holds_lock l) hs) 0 → h ∷ hs ≡ cond b hs (h ∷ without_lock l.0 hs)) [
-      | true ↦ λ q. absurd (omega arith)
-      | false ↦ λ q. ap (λ gs. h ∷ gs) (has_none l hs (omega arith))
-    ] e
-
-pub none_taken : (l : LockNo) (hs : List Held) → position (holds_lock l) hs ≡ None → hs ≡ without_lock l.0 hs
-none_taken l hs e = has_none l hs (above (position_or_len (holds_lock l) hs) (length hs) e)
-  where
-    above : (n k : ℕ) → cond (nat_lt n k) (Some n) None ≡ None → k ≤ n
-    above n k e = grind (arith, nat_tests)
-
--- 2. Each lock once
+-- 1. Each lock once
 
 counted : (k l : ℕ) → k ≡ l → cond {A = ℕ} (k == l) 1 0 ≡ 1
 counted k l e = ap (λ b. cond b 1 0) (eq-eqb k l e)
@@ -111,7 +85,7 @@ holds_of-without k l (h ∷ hs) =
 pub once_without : (l : ℕ) (hs : List Held) → ((k : ℕ) → holds_of k hs ≤ 1) → (k : ℕ) → holds_of k (without_lock l hs) ≤ 1
 once_without l hs once k = omega (arith, holds_of-without k l hs, once k)
 
--- 3. The column of what is held
+-- 2. The column of what is held
 
 pub column_push : (held : ℕ → ℕ → Hold) (t : ℕ) (hs : List Held) (x : Held) → held t x.l.0 ≡ NotHeld → ((l : ℕ) → hold_in hs l ≡ held t l) → (l : ℕ) → hold_in (hs ++ x ∷ []) l ≡ put_at held t x.l.0 (Holds x.mode) t l
 column_push held t hs x new shows l =
@@ -129,7 +103,7 @@ column_without held t l hs once shows k =
       | inr e ↦ left ∙ ap (λ b. cond b NotHeld (hold_in hs k)) (ne_eqb l k e) ∙ shows k ∙ sym (put_at_beside held t l NotHeld t k e)
     ]
 
--- 4. What is read
+-- 3. What is read
 
 -- the word that was read at the place of a number
 pub word_read : (ws : List ℕ) (c : Config) (column : ℕ → Word) (l i w : ℕ) → i ≡ l → RepresentsWords ws c column → l < c.locks → w ≡ get_or ws i w → word_of w ≡ column l
@@ -141,7 +115,7 @@ room_left m s t th at few h =
     let fewer : length th.held.items < 8 = subst (λ o. IfSome (option_map progress_of o) (λ a. length a.held < 8)) at few in
     omega (arith, th.held.ok.0, h.held_room)
 
--- 5. A gain
+-- 4. A gain
 
 -- the thread with other locks, of which it wants none
 abbrev pub holding : Vec Held → Thread → Thread
@@ -197,7 +171,7 @@ lock_gained m c s t l w th held at new items room h g =
       tables = h.tables;
     }
 
--- 6. A drop
+-- 5. A drop
 
 -- the word that was read at a lock that a thread holds
 pub owner_read : (m : Machine) (c : Config) (s : State) (t l i w : ℕ) → i ≡ l → Represents c m s → Lawful c s → l < c.locks → s.held t l ≡ Holds Excl → w ≡ get_or m.words.items i w → (word_of w).holder ≡ words.HeldBy t

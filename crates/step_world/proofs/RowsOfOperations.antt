@@ -17,6 +17,7 @@ use Rattle.lock_model.specs.declared.plan.Plan.{Plan}
 use Rattle.lock_model.specs.declared.event.Event.TheVariants as event
 use Rattle.lock_model.specs.declared.turn.Turn.TheVariants.{Idle}
 use Rattle.lock_laws.specs.OnTrack.{IsAtOperation}
+use Rattle.lock_laws.proofs.HeldLists.{never_shared}
 use Rattle.lock_laws.proofs.OnTrack.{fit}
 use Rattle.lock_laws.proofs.Derived as derived
 use Rattle.lock_laws.proofs.Table.{gets, shows, makes_operation}
@@ -33,7 +34,7 @@ is_at {plan} {r} {t} e at = subst (λ (o : Op). IsAtOperation plan r t (Some o))
 -- a take is exclusive
 pub at_take : {plan : Plan} {r : Run} {t : ℕ} {op : Op} {l : LockNo} {mode : Mode} → IsProper plan → op ≡ Take l mode → IsAtOperation plan r t (Some op) → IsAtOperation plan r t (Some (Take l Excl))
 at_take {mode = Excl} p e at = is_at e at
-at_take {plan} {r} {t} {l = l} {mode = Shared} p e at = absurd (none-some _ (fit plan r t p (Take l Shared) (at.next ∙ ap Some e)))
+at_take {plan} {r} {t} {l = l} {mode = Shared} p e at = absurd (never_shared plan p l _ _ (fit plan r t p (Take l Shared) (at.next ∙ ap Some e)))
 
 -- the operations that no script has yet
 abbrev IsNotRun : Op → Type 0

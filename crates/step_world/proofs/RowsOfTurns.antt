@@ -44,7 +44,7 @@ module _ {plan : Plan} {m : Machine} {r : Run} {t : ℕ} {th : Thread} (p : IsPr
   -- 1. Whether it has ended
 
   pub said : {ops : List Op} → ops ≡ operations_of plan t → (b : Bool) → thread_has_ended (length ops) th ≡ b → has_ended plan r t ≡ b
-  said same b e = sym (ends_as_said plan m r t th h lt is) ∙ ap (λ (x : List Op). thread_has_ended (length x) th) (sym same) ∙ e
+  said same b e = sym (ends_as_said plan m r t th p h lt is) ∙ ap (λ (x : List Op). thread_has_ended (length x) th) (sym same) ∙ e
 
   pub over : has_ended plan r t ≡ true → IsTurn plan r t m Ended
   unfolding turn_of

@@ -1,8 +1,7 @@
 //! What the machine keeps of a thread: its record, its wait word, and what it is in the middle of.
 ghost use Rattle.std.specs.Prelude.{◌≡◌, ◌≤◌, [], length, position, IfOk};
 ghost use Rattle.std.specs.Vec.{vec_capacity};
-ghost use Rattle.lock_model.specs.Operations.{without_lock};
-ghost use Rattle.lock_model.specs.Script.{holds_lock};
+ghost use Rattle.lock_model.specs.Operations.{holds_lock, without_lock};
 ghost use Rattle.step_world.specs.Threads.{IsNew, thread_has_ended};
 
 use lock_model::limits::HELD;

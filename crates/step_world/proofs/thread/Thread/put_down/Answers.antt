@@ -1,6 +1,6 @@
 use Rattle.std.proofs.Common.{position, sym, ap, ◌∙◌}
-use Rattle.lock_model.specs.Script.{holds_lock}
-use Rattle.step_world.proofs.Holding.{taken_out, none_taken}
+use Rattle.lock_model.specs.Operations.{holds_lock}
+use Rattle.lock_model.proofs.HeldLocks.{taken_out, none_taken}
 use Rattle.step_world.proofs.thread.Thread.put_down.Goals as goal
 
 pub returns-in-Some-clause-held : goal.returns-in-Some-clause-held
