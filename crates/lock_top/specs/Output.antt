@@ -4,7 +4,7 @@ use Rattle.std.specs.Prelude.{◌≡◌, ℕ, Bool, false, true, List, [], ◌�
 use Rattle.std.specs.FinMap.{FinMap, entries, get}
 use Rattle.lock_model.specs.Config.{Config}
 use Rattle.lock_model.specs.Plans.{config_of}
-use Rattle.lock_model.specs.Script.{plan_of_lines, lines_of, is_same}
+use Rattle.lock_model.specs.Script.{Reading, Reads, Faulty, reading_of, is_same}
 use Rattle.lock_state.specs.Run.{HasLegalHistory, course_after, scheduled_run}
 use Rattle.lock_state.specs.State.{State}
 use Rattle.lock_state.specs.Facts.{LawfulTurn}
@@ -42,14 +42,14 @@ output_of_plan plan = (
   text_of plan (scheduled_run plan default_chains default_turns),
 )
 
--- those of a plan, and where there is none the line of a fault
-abbrev pub output_of_reading : Option Plan → Status × List ℕ
-output_of_reading None = (BadScript, fault_text 0 0)
-output_of_reading (Some plan) = output_of_plan plan
+-- those of what a source comes to: of its plan, or the line of its first fault
+abbrev pub output_of_reading : Reading → Status × List ℕ
+output_of_reading (Reads plan) = output_of_plan plan
+output_of_reading (Faulty line code) = (BadScript, fault_text line code)
 
--- under step: the text of the scheduled run of a script, or the fault of a source that is none
+-- under step: the text of the scheduled run of a script, or the first fault of a source that is none
 unfoldable pub output_of : List ℕ → Status × List ℕ
-output_of bytes = output_of_reading (plan_of_lines (lines_of bytes))
+output_of bytes = output_of_reading (reading_of bytes)
 
 -- the status says that a whole text was written
 abbrev pub has_text : Status → Bool
