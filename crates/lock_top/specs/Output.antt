@@ -4,7 +4,8 @@ use Rattle.std.specs.Prelude.{◌≡◌, ℕ, Bool, false, true, List, [], ◌�
 use Rattle.std.specs.FinMap.{FinMap, entries, get}
 use Rattle.lock_model.specs.Config.{Config}
 use Rattle.lock_model.specs.Plans.{config_of}
-use Rattle.lock_model.specs.Script.{Reading, Reads, Faulty, reading_of, is_same}
+use Rattle.lock_model.specs.Script.{Reading, Reads, Faulty, reading_of}
+use Rattle.lock_model.specs.Script.Lines.{is_same}
 use Rattle.lock_state.specs.Run.{HasLegalHistory, course_after, scheduled_run}
 use Rattle.lock_state.specs.State.{State}
 use Rattle.lock_state.specs.Facts.{LawfulTurn}
