@@ -3,6 +3,7 @@
 use Rattle.std.specs.Prelude.{◌≡◌, ℕ, Bool, false, true, List, [], ◌∷◌, codes, reverse, Option, Some, None, IfSome, ◌++◌, ◌<◌, ◌+◌, length, drop}
 use Rattle.std.specs.FinMap.{FinMap, entries, get}
 use Rattle.lock_model.specs.Config.{Config}
+use Rattle.lock_model.specs.Limits.{most_bytes, most_turns}
 use Rattle.lock_model.specs.Plans.{config_of}
 use Rattle.lock_model.specs.Script.{Reading, Reads, Faulty, reading_of}
 use Rattle.lock_model.specs.Script.Lines.{is_same}
@@ -11,6 +12,7 @@ use Rattle.lock_state.specs.State.{State}
 use Rattle.lock_state.specs.Facts.{LawfulTurn}
 use Rattle.lock_model.specs.History.{place_cmp, tables_of}
 use Rattle.lock_model.specs.Text.{Ending, IsDone, IsStuck, IsReversed, IsTooLong, text_of, fault_text}
+use Rattle.lock_model.specs.declared.limits.TheConstants.{DEFAULT_CHAINS}
 use Rattle.lock_model.specs.declared.plan.Plan.{Plan}
 use Rattle.step_world.specs.Worlds.{HasBest}
 use Rattle.lock_top.specs.declared.status.Status.{Status}
@@ -18,11 +20,11 @@ use Rattle.lock_top.specs.declared.status.Status.TheVariants.{Done, BadScript, R
 
 -- chains of each sort, where the command line says nothing
 abbrev pub default_chains : ℕ
-default_chains = 16
+default_chains = DEFAULT_CHAINS
 
 -- turns of a run, where the command line says nothing
 abbrev pub default_turns : ℕ
-default_turns = 1000000
+default_turns = most_turns
 
 -- the words of the one form of the command line so far: step
 abbrev pub is_form : List (List ℕ) → Bool
@@ -90,10 +92,6 @@ tells_of_reading Reversed = false
 tells_of_reading TooLong = false
 tells_of_reading TooBig = true
 tells_of_reading Usage = false
-
--- the most bytes of a script
-abbrev pub most_bytes : ℕ
-most_bytes = 1048576
 
 -- one byte more than that was read, and no more
 abbrev pub TookTooMany : List ℕ → Option (List ℕ) → Type 0
