@@ -1,6 +1,6 @@
 -- Which status and text belong to the words of a command line and to the bytes of a source, and which states the run
 -- goes through.
-use Rattle.std.specs.Prelude.{◌≡◌, ℕ, Bool, false, true, List, [], ◌∷◌, codes, reverse, Option, Some, None, IfSome, ◌++◌, ◌<◌, ◌+◌, length, drop}
+use Rattle.std.specs.Prelude.{◌≡◌, ℕ, Bool, false, true, List, [], ◌∷◌, codes, reverse, Option, Some, IfSome, ◌++◌, ◌<◌, ◌+◌, length, drop}
 use Rattle.std.specs.FinMap.{FinMap, entries, get}
 use Rattle.lock_model.specs.Config.{Config}
 use Rattle.lock_model.specs.Limits.{most_bytes, most_turns}
