@@ -48,8 +48,7 @@ module _ (c : Config) (s : State) (t l x : ℕ) (lawful : Lawful c s) where
       go : (o : Option Turnstile) → RepresentsQueue o (queue_in s (lock_queue l)) s.loan_home → CanStand t o
       go None h = tt
       go (Some d) h =
-          let ls : s.lists (lock_queue l) ≡ lists_of d.contents = ap (λ v. v.lists) h.queue in
-          (
+          let ls : s.lists (lock_queue l) ≡ lists_of d.contents = ap (λ v. v.lists) h.queue in (
             (λ e.
                 let a = some_waiting c s lawful l d.contents.number (ap (λ v. v.head) h.queue) in
                 let n : waiting (s.lists (lock_queue l)) ≡ length d.contents.exclusive + length d.contents.shared = ap waiting ls in

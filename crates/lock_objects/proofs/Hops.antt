@@ -186,8 +186,7 @@ module _ (c : Config) (s : State) (t o l : ℕ) (lawful : Lawful c s) (g : MaySh
         let is : new ≡ (lock_queue l, with_contents (moved o (s.effective o) box) h) ∷ without (lock_queue l) chain =
         subst (λ (x : Option Turnstile). IfSome x (λ b. new ≡ (lock_queue l, with_contents (moved r.thread r.effective b.contents) b) ∷ without (lock_queue l) chain)) its_head.1 made
         ∙ (λ i. (lock_queue l, with_contents (moved (rec.columns i).thread (rec.columns i).effective box) h) ∷ without (lock_queue l) chain) in
-        let walk : w ≡ hops.walk_up l (is_some box.owner) = subst (λ (x : Option Turnstile). IfSome x (λ b. w ≡ hops.walk_up l (is_some b.contents.owner))) its_head.1 goes in
-        (
+        let walk : w ≡ hops.walk_up l (is_some box.owner) = subst (λ (x : Option Turnstile). IfSome x (λ b. w ≡ hops.walk_up l (is_some b.contents.owner))) its_head.1 goes in (
           subst (λ v. RepresentsQueues c v (queue_in behind) behind.loan_home) (sym is) (queues_placed l shows others_stay (with_contents (moved o (s.effective o) box) h) sorted),
           ap walk_of walk ∙ ap (λ x. walk_of (hops.walk_up l (is_some x))) (sym (ap (λ v. v.owner) its_head.2.queue)) ∙ up_shown (s.owner (lock_queue l)) ∙ sym (put_same s.walk t (walk_up l (s.owner (lock_queue l)))),
         )

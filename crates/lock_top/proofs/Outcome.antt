@@ -6,7 +6,7 @@ use Rattle.lock_model.specs.Operations.{IsProper}
 use Rattle.lock_model.specs.History.{tables_of, value_at}
 use Rattle.lock_state.specs.Facts.{Lawful}
 use Rattle.lock_state.specs.Run.{scheduled_run}
-use Rattle.lock_model.specs.Script.{IsAccepted, IsRefused}
+use Rattle.lock_model.specs.Script.{IsAccepted, IsFaulty}
 use Rattle.lock_model.specs.Text.{fault_text}
 use Rattle.lock_model.specs.declared.plan.Plan.{Plan}
 use Rattle.lock_model.specs.declared.event.Entry.{Entry}
@@ -50,10 +50,9 @@ pub accepted_output : (bytes : List ℕ) (plan : Plan) → IsAccepted bytes plan
 unfolding output_of IsAccepted
 accepted_output bytes plan accepted = ap output_of_reading (sym accepted)
 
--- and that of other bytes their fault's line
+-- and that of other bytes the line of their first fault
 pub refused_output : (bytes : List ℕ) (fault : ScriptFault) (text : List ℕ) → Refuses bytes (Script fault) → text ≡ fault_text fault.line fault.code → (BadScript, text) ≡ output_of bytes
-unfolding output_of IsRefused
+unfolding output_of IsFaulty
 refused_output bytes fault text refused is =
     let pair : Status → List ℕ → Status × List ℕ = λ s t. (s, t) in
-    ap (λ (t : List ℕ). pair BadScript t) (is ∙ ap (λ (f : ScriptFault). fault_text f.line f.code) refused.1)
-    ∙ ap output_of_reading (sym refused.0)
+    ap (λ (t : List ℕ). pair BadScript t) is ∙ ap output_of_reading (sym refused)

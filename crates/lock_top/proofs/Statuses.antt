@@ -5,7 +5,8 @@ use Rattle.std.proofs.lemmas.Option.{same_Some}
 use Rattle.lock_io.specs.Whole.{TakesFront}
 use Rattle.lock_model.specs.Script.{IsAccepted}
 use Rattle.lock_model.specs.declared.plan.Plan.{Plan}
-use Rattle.lock_top.specs.Output.{IsLawfulRun, TookTooMany, most_bytes}
+use Rattle.lock_model.specs.Limits.{most_bytes}
+use Rattle.lock_top.specs.Output.{IsLawfulRun, TookTooMany}
 use Rattle.lock_laws.proofs.Accepted.{accepted_proper}
 use Rattle.lock_top.proofs.Outcome.{lawful_run}
 

@@ -1,15 +1,18 @@
 -- Which status and text belong to the words of a command line and to the bytes of a source, and which states the run
 -- goes through.
-use Rattle.std.specs.Prelude.{◌≡◌, ℕ, Bool, false, true, List, [], ◌∷◌, codes, reverse, Option, Some, None, IfSome, ◌++◌, ◌<◌, ◌+◌, length, drop}
+use Rattle.std.specs.Prelude.{◌≡◌, ℕ, Bool, false, true, List, [], ◌∷◌, codes, reverse, Option, Some, IfSome, ◌++◌, ◌<◌, ◌+◌, length, drop}
 use Rattle.std.specs.FinMap.{FinMap, entries, get}
 use Rattle.lock_model.specs.Config.{Config}
+use Rattle.lock_model.specs.Limits.{most_bytes, most_turns}
 use Rattle.lock_model.specs.Plans.{config_of}
-use Rattle.lock_model.specs.Script.{plan_of_lines, lines_of, is_same}
+use Rattle.lock_model.specs.Script.{Reading, Reads, Faulty, reading_of}
+use Rattle.lock_model.specs.Script.Lines.{is_same}
 use Rattle.lock_state.specs.Run.{HasLegalHistory, course_after, scheduled_run}
 use Rattle.lock_state.specs.State.{State}
 use Rattle.lock_state.specs.Facts.{LawfulTurn}
 use Rattle.lock_model.specs.History.{place_cmp, tables_of}
 use Rattle.lock_model.specs.Text.{Ending, IsDone, IsStuck, IsReversed, IsTooLong, text_of, fault_text}
+use Rattle.lock_model.specs.declared.limits.TheConstants.{DEFAULT_CHAINS}
 use Rattle.lock_model.specs.declared.plan.Plan.{Plan}
 use Rattle.step_world.specs.Worlds.{HasBest}
 use Rattle.lock_top.specs.declared.status.Status.{Status}
@@ -17,11 +20,11 @@ use Rattle.lock_top.specs.declared.status.Status.TheVariants.{Done, BadScript, R
 
 -- chains of each sort, where the command line says nothing
 abbrev pub default_chains : ℕ
-default_chains = 16
+default_chains = DEFAULT_CHAINS
 
 -- turns of a run, where the command line says nothing
 abbrev pub default_turns : ℕ
-default_turns = 1000000
+default_turns = most_turns
 
 -- the words of the one form of the command line so far: step
 abbrev pub is_form : List (List ℕ) → Bool
@@ -42,14 +45,14 @@ output_of_plan plan = (
   text_of plan (scheduled_run plan default_chains default_turns),
 )
 
--- those of a plan, and where there is none the line of a fault
-abbrev pub output_of_reading : Option Plan → Status × List ℕ
-output_of_reading None = (BadScript, fault_text 0 0)
-output_of_reading (Some plan) = output_of_plan plan
+-- those of what a source comes to: of its plan, or the line of its first fault
+abbrev pub output_of_reading : Reading → Status × List ℕ
+output_of_reading (Reads plan) = output_of_plan plan
+output_of_reading (Faulty line code) = (BadScript, fault_text line code)
 
--- under step: the text of the scheduled run of a script, or the fault of a source that is none
+-- under step: the text of the scheduled run of a script, or the first fault of a source that is none
 unfoldable pub output_of : List ℕ → Status × List ℕ
-output_of bytes = output_of_reading (plan_of_lines (lines_of bytes))
+output_of bytes = output_of_reading (reading_of bytes)
 
 -- the status says that a whole text was written
 abbrev pub has_text : Status → Bool
@@ -89,10 +92,6 @@ tells_of_reading Reversed = false
 tells_of_reading TooLong = false
 tells_of_reading TooBig = true
 tells_of_reading Usage = false
-
--- the most bytes of a script
-abbrev pub most_bytes : ℕ
-most_bytes = 1048576
 
 -- one byte more than that was read, and no more
 abbrev pub TookTooMany : List ℕ → Option (List ℕ) → Type 0

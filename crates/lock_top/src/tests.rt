@@ -61,7 +61,7 @@ const CASES: &[Case] = &[
         NEVER,
         NEVER,
         Status::BadScript,
-        "line 0 code 0\n",
+        "line 1 code 1\n",
     ),
 ];
 

@@ -5,9 +5,10 @@ ghost use Rattle.std.specs.Io.KnownBytes.{IsAtEnd};
 ghost use Rattle.std.specs.String.{string_bytes};
 ghost use Rattle.lock_io.specs.Faults.{Rose};
 ghost use Rattle.lock_io.specs.Whole.{AddsFront, TakesFront};
+ghost use Rattle.lock_model.specs.Limits.{most_bytes};
 ghost use Rattle.lock_model.specs.Script.{IsAccepted};
 ghost use Rattle.lock_model.specs.declared.plan.Plan.{Plan};
-ghost use Rattle.lock_top.specs.Output.{is_form, has_text, writes, tells_of_reading, most_bytes, TookTooMany, output_of, Wrote, IsLawfulRun};
+ghost use Rattle.lock_top.specs.Output.{is_form, has_text, writes, tells_of_reading, TookTooMany, output_of, Wrote, IsLawfulRun};
 
 use crate::answer::answer;
 use crate::status::Status;

@@ -16,6 +16,7 @@ use Rattle.lock_model.specs.declared.plan.Plan.{Plan}
 use Rattle.lock_model.specs.declared.event.Event.TheVariants as event
 use Rattle.lock_model.specs.declared.turn.Turn.TheVariants.{Idle}
 use Rattle.lock_laws.specs.OnTrack.{IsAtOperation}
+use Rattle.lock_laws.proofs.HeldLists.{never_shared}
 use Rattle.lock_laws.proofs.OnTrack.{fit}
 use Rattle.lock_laws.proofs.HeldLists.{never_shared}
 use Rattle.lock_laws.proofs.Derived as derived

@@ -14,5 +14,5 @@ returns-in-Ok-clause-pair c =
 
 pub returns-in_ok-text-in-Err-Script-clause-pair : goal.returns-in_ok-text-in-Err-Script-clause-pair
 returns-in_ok-text-in-Err-Script-clause-pair c =
-    let refused = subst (Refuses c.args.bytes.now) c.in-Err-Script.field-0-is c.in-Err-Script.ensures.refused in
+    let refused = subst (Refuses c.args.bytes.now) c.in-Err-Script.field-0-is c.in-Err-Script.ensures.faulty in
     refused_output c.args.bytes.now c.in-Err-Script.fault c.in_ok-text-in-Err-Script.text.items refused c.in_ok-text-in-Err-Script.ensures
