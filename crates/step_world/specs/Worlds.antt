@@ -28,4 +28,5 @@ pub record IsSound (w : World) : Type 0 where
 
 -- where nobody walks and no cycle of threads waits, each effective priority is the best behind its thread
 abbrev pub HasBest : Config → State → Type 0
-HasBest c s = NobodyWalks c s → (HasCycle s → ⊥) → (t : ℕ) → t < c.threads → s.effective t ≡ best_behind c s t
+HasBest c s = NobodyWalks c s → (HasCycle s → ⊥)
+    → (t : ℕ) → t < c.threads → s.effective t ≡ best_behind c s t
