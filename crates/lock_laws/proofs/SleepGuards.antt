@@ -70,8 +70,130 @@ again k = go (eqb 0 k)
 
 sleeping_may : FloorAll 16 sleeper_plan (start_state sleeper_plan) sleeping
 unfolding sleeper_plan sleeping start_state after_seek after_look after_gain after_drop after_stamp after_take after_give after_ready after_add put put_at put_queue least sum_below sections_in
-sleeping_may = (record { thread = omega arith; lock = omega arith; unheld = refl; acting = record { unnamed = refl; unwoken = refl }; wants = inr refl; tries_want_nothing = λ e. absurd cc; no_round = refl }, (λ e. absurd cc), tt, (record { thread = omega arith; lock = omega arith; room = λ e. omega arith }, tt, record { counts = refl; in_chain = λ e. absurd cc }, (record { thread = omega arith; lock = omega arith; admitted = refl; plainly = refl; unheld = refl; acting = record { unnamed = refl; unwoken = refl }; wants = inr refl }, tt, record { fits = (refl, refl); in_round = λ e i. absurd cc; saw = λ w i e. absurd cc }, (record { thread = omega arith; acting = record { unnamed = refl; unwoken = refl }; asks = (record { held = refl; closed = refl }, record { others = []; last = refl }) }, tt, record { in_round = tt; asleep = λ e. absurd cc; wakes = λ e. absurd (e refl) }, (record { thread = omega arith; home = refl; together = λ j e. absurd (none_out (λ k. None) (λ k. None) (λ k. refl) (λ k. refl) j 0 e); orders = tt }, (omega arith, tt), tt, (record { thread = omega arith; home = refl; together = λ j e. chain_out (put (λ k. None) 0 (Some 0)) j 0 0 e; orders = tt }, (omega arith, tt), tt, (record { thread = omega arith; running = refl }, (refl, refl), tt, (record { thread = omega arith; acting = record { unnamed = refl; unwoken = refl }; asks = record { chan = omega arith; queued = refl; wants = refl; opened = λ e. cc; last = record { others = []; last = refl } } }, refl, record { in_round = tt; asleep = λ e. absurd cc; wakes = λ e. absurd (e refl) }, (record { thread = omega arith; chan = omega arith; queued = refl; unnamed = refl; own = refl; wants = refl; slept = refl; unwoken = refl }, (refl, refl), record { no_round = refl; stamped = refl; unnoted = refl }, (record { thread = omega arith; out = refl; done = λ e w n. cc }, refl, tt, (record { thread = omega arith; out = refl; done = (refl, refl, λ w n. cc) }, refl, tt, (record { thread = omega arith; lock = omega arith; held = refl; stays = refl; closed = refl; begun = refl }, tt, tt, tt))))))))))))
+sleeping_may = (
+  -- p takes the mutex
+  record { thread = omega arith; lock = omega arith; unheld = refl; acting = record { unnamed = refl; unwoken = refl }; wants = inr refl; tries_want_nothing = λ e. absurd cc; no_round = refl },
+  (λ e. absurd cc),
+  tt,
+  (
+    record { thread = omega arith; lock = omega arith; room = λ e. omega arith },
+    tt,
+    record { counts = refl; in_chain = λ e. absurd cc },
+    (
+      record { thread = omega arith; lock = omega arith; admitted = refl; plainly = refl; unheld = refl; acting = record { unnamed = refl; unwoken = refl }; wants = inr refl },
+      tt,
+      record { fits = (refl, refl); in_round = λ e i. absurd cc; saw = λ w i e. absurd cc },
+      (
+        record { thread = omega arith; acting = record { unnamed = refl; unwoken = refl }; asks = (record { held = refl; closed = refl }, record { others = []; last = refl }) },
+        tt,
+        record { in_round = tt; asleep = λ e. absurd cc; wakes = λ e. absurd (e refl) },
+        -- it takes the chain and its own record, and is made ready
+        (
+          record { thread = omega arith; home = refl; together = λ j e. absurd (none_out (λ k. None) (λ k. None) (λ k. refl) (λ k. refl) j 0 e); orders = tt },
+          (omega arith, tt),
+          tt,
+          (
+            record { thread = omega arith; home = refl; together = λ j e. chain_out (put (λ k. None) 0 (Some 0)) j 0 0 e; orders = tt },
+            (omega arith, tt),
+            tt,
+            (
+              record { thread = omega arith; running = refl },
+              (refl, refl),
+              tt,
+              -- it goes to sleep
+              (
+                record { thread = omega arith; acting = record { unnamed = refl; unwoken = refl }; asks = record { chan = omega arith; queued = refl; wants = refl; opened = λ e. cc; last = record { others = []; last = refl } } },
+                refl,
+                record { in_round = tt; asleep = λ e. absurd cc; wakes = λ e. absurd (e refl) },
+                (
+                  record { thread = omega arith; chan = omega arith; queued = refl; unnamed = refl; own = refl; wants = refl; slept = refl; unwoken = refl },
+                  (refl, refl),
+                  record { no_round = refl; stamped = refl; unnoted = refl },
+                  -- both go home, and the mutex is free
+                  (
+                    record { thread = omega arith; out = refl; done = λ e w n. cc },
+                    refl,
+                    tt,
+                    (
+                      record { thread = omega arith; out = refl; done = (refl, refl, λ w n. cc) },
+                      refl,
+                      tt,
+                      (
+                        record { thread = omega arith; lock = omega arith; held = refl; stays = refl; closed = refl; begun = refl },
+                        tt,
+                        tt,
+                        tt,
+                      ),
+                    ),
+                  ),
+                ),
+              ),
+            ),
+          ),
+        ),
+      ),
+    ),
+  ),
+)
 
 waking_may : FloorAll 16 sleeper_plan (after_all sleeper_plan (start_state sleeper_plan) sleeping) waking
 unfolding sleeper_plan sleeping waking start_state after_seek after_look after_gain after_drop after_stamp after_take after_give after_ready after_add after_wake after_mark after_resume put put_at put_queue least sum_below sections_in
-waking_may = (record { thread = omega arith; home = refl; together = λ j e. absurd (none_out there there back back j 1 e); orders = tt }, (omega arith, tt), tt, (record { thread = omega arith; chan = omega arith; unmarked = refl; stamped = refl }, refl, tt, (record { thread = omega arith; acting = record { unnamed = refl; unwoken = refl }; asks = (refl, refl, refl) }, refl, record { in_round = tt; asleep = λ e. absurd cc; wakes = λ e. refl }, (record { thread = omega arith; out = refl; done = (refl, refl, λ w n. cc) }, refl, tt, (record { thread = omega arith; home = refl; together = λ j e. absurd (none_out (put (put there 0 (Some 1)) 0 None) there again back j 1 e); orders = tt }, (omega arith, tt), tt, (record { thread = omega arith; marked = refl; stamped = refl }, refl, tt, (record { thread = omega arith; out = refl; done = λ e w n. cc }, refl, tt, (record { thread = omega arith; woken = refl; released = refl }, (λ i e. none_out (put (put there 0 (Some 1)) 0 None) (put (put there 0 (Some 1)) 0 None) again again i 0 e, refl), tt, (record { thread = omega arith; lock = omega arith; room = λ e. omega arith }, tt, record { counts = refl; in_chain = λ e. absurd cc }, (record { thread = omega arith; lock = omega arith; admitted = refl; plainly = refl; unheld = refl; acting = record { unnamed = refl; unwoken = refl }; wants = inl refl }, tt, record { fits = (refl, refl); in_round = λ e i. absurd cc; saw = λ w i e. absurd cc }, (record { thread = omega arith; acting = record { unnamed = refl; unwoken = refl }; asks = (record { held = refl; holds = λ e. cc; closed = refl }, refl) }, tt, record { in_round = tt; asleep = λ e. refl; wakes = λ e. absurd (e refl) }, tt)))))))))))
+waking_may = (
+  -- q takes p off the channel and notes that
+  record { thread = omega arith; home = refl; together = λ j e. absurd (none_out there there back back j 1 e); orders = tt },
+  (omega arith, tt),
+  tt,
+  (
+    record { thread = omega arith; chan = omega arith; unmarked = refl; stamped = refl },
+    refl,
+    tt,
+    (
+      record { thread = omega arith; acting = record { unnamed = refl; unwoken = refl }; asks = (refl, refl, refl) },
+      refl,
+      record { in_round = tt; asleep = λ e. absurd cc; wakes = λ e. refl },
+      -- it wakes p
+      (
+        record { thread = omega arith; out = refl; done = (refl, refl, λ w n. cc) },
+        refl,
+        tt,
+        (
+          record { thread = omega arith; home = refl; together = λ j e. absurd (none_out (put (put there 0 (Some 1)) 0 None) there again back j 1 e); orders = tt },
+          (omega arith, tt),
+          tt,
+          (
+            record { thread = omega arith; marked = refl; stamped = refl },
+            refl,
+            tt,
+            (
+              record { thread = omega arith; out = refl; done = λ e w n. cc },
+              refl,
+              tt,
+              -- p resumes, takes the mutex back and notes that
+              (
+                record { thread = omega arith; woken = refl; released = refl },
+                (λ i e. none_out (put (put there 0 (Some 1)) 0 None) (put (put there 0 (Some 1)) 0 None) again again i 0 e, refl),
+                tt,
+                (
+                  record { thread = omega arith; lock = omega arith; room = λ e. omega arith },
+                  tt,
+                  record { counts = refl; in_chain = λ e. absurd cc },
+                  (
+                    record { thread = omega arith; lock = omega arith; admitted = refl; plainly = refl; unheld = refl; acting = record { unnamed = refl; unwoken = refl }; wants = inl refl },
+                    tt,
+                    record { fits = (refl, refl); in_round = λ e i. absurd cc; saw = λ w i e. absurd cc },
+                    (
+                      record { thread = omega arith; acting = record { unnamed = refl; unwoken = refl }; asks = (record { held = refl; holds = λ e. cc; closed = refl }, refl) },
+                      tt,
+                      record { in_round = tt; asleep = λ e. refl; wakes = λ e. absurd (e refl) },
+                      tt,
+                    ),
+                  ),
+                ),
+              ),
+            ),
+          ),
+        ),
+      ),
+    ),
+  ),
+)
