@@ -21,4 +21,5 @@ pub mod Scheduling
 pub mod Readings
 pub mod Outcomes
 pub mod TurnsOfCourses
+pub mod OneTurn
 pub mod Printed

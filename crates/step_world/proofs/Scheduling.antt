@@ -1,15 +1,19 @@
 -- The course of a run: when it is over, and how it goes on.
 use Rattle.std.proofs.Common.{◌≡◌, ℕ, zero, suc, ◌+◌, ◌<◌, ◌≤◌, Bool, true, false, ◌&&◌, nat_eq, cond, not, List, [], ◌∷◌, ◌++◌, length, map, filter, drop, refl, sym, ap, ◌∙◌, inl, inr, arith}
-use Rattle.std.proofs.lemmas.Bool.{cases_eq, eq-eqb, ne_eqb}
+use Rattle.std.proofs.lemmas.Bool.{cases_Bool, cases_eq, eq-eqb, ne_eqb}
 use Rattle.std.specs.List.{range_with_len}
 use Rattle.std.proofs.lemmas.List.{length-map, length-drop, append-nil, drop_all}
 use Rattle.std.proofs.lemmas.List.Elements.{All-from_get_or, filter-append}
 use Rattle.std.proofs.lemmas.List.Folds.{list_all_at}
 use Rattle.std.proofs.lemmas.List.FromFn.{length-range_with_len, get_or-range_with_len}
 use Rattle.std.proofs.lemmas.List.Sums.{list_all-from_AllPass}
-use Rattle.lock_model.specs.Counts.{is_empty}
+use Rattle.lock_model.specs.Counts.{is_empty, one, sum_below}
+use Rattle.lock_laws.proofs.Kit.{sum_below-change}
+use Rattle.lock_laws.proofs.Sums.{sum_below-most}
+use Rattle.lock_laws.proofs.OtherThreads.{ends_no_other}
+use Rattle.step_world.specs.Courses.{ended_in}
 use Rattle.lock_state.specs.Run as run
-use Rattle.lock_state.specs.Run.{Run, is_stuck, is_over, go_on, course_after, all_ended, has_ended, threads_of, round_of, with_turn, after_turn}
+use Rattle.lock_state.specs.Run.{Run, run_behind, is_stuck, is_over, go_on, course_after, all_ended, has_ended, threads_of, round_of, with_turn, after_turn}
 use Rattle.lock_model.specs.declared.plan.Plan.{Plan}
 use Rattle.lock_model.specs.declared.numbers.ThreadNo.{ThreadNo}
 
@@ -35,19 +39,67 @@ stuck_is k ts n idle coming within same = ap (λ (xs : List ℕ). is_empty xs &&
 
 -- 2. Who has ended
 
+-- no more than there are
+pub few_ended : (plan : Plan) (r : Run) → ended_in plan r ≤ length plan.threads
+few_ended plan r = sum_below-most (length plan.threads) (λ t. one (has_ended plan r t)) (λ t. go (has_ended plan r t))
+  where
+    go : (b : Bool) → one b ≤ 1
+    go true = omega arith
+    go false = omega arith
+
 -- one that hasn't ended settles it,
-pub one_runs : (plan : Plan) (r : Run) (t : ℕ) → t < length plan.threads → has_ended plan r t ≡ false → all_ended plan r ≡ false
+one_runs : (plan : Plan) (r : Run) (t : ℕ) → t < length plan.threads → has_ended plan r t ≡ false → all_ended plan r ≡ false
 one_runs plan r t l e =
     let n = length plan.threads in
     list_all_at (has_ended plan r) (threads_of plan) t 0 (omega (arith, l, length-range_with_len 0 n)) (ap (has_ended plan r) (get_or-range_with_len 0 n t 0 l ∙ omega arith) ∙ e)
 
 -- and else all have
-pub none_runs : (plan : Plan) (r : Run) → ((t : ℕ) → t < length plan.threads → has_ended plan r t ≡ true) → all_ended plan r ≡ true
+none_runs : (plan : Plan) (r : Run) → ((t : ℕ) → t < length plan.threads → has_ended plan r t ≡ true) → all_ended plan r ≡ true
 none_runs plan r each =
     let n = length plan.threads in
     list_all-from_AllPass (has_ended plan r) (threads_of plan) (All-from_get_or (λ t. has_ended plan r t ≡ true) (threads_of plan) 0 (λ i l.
     let below : i < n = omega (arith, l, length-range_with_len 0 n) in
     ap (has_ended plan r) (get_or-range_with_len 0 n i 0 below ∙ omega arith) ∙ each i below))
+
+-- where less than all places are counted, one isn't
+one_uncounted : (n : ℕ) (f : ℕ → Bool) → sum_below n (λ t. one (f t)) < n → (t : ℕ) × (t < n) × (f t ≡ false)
+unfolding sum_below
+one_uncounted zero f l = absurd (omega arith)
+one_uncounted (suc n) f l = elim (cases_Bool (f n)) [
+  | inl e ↦ let here : one (f n) ≡ 1 = ap one e in let x = one_uncounted n f (omega arith) in (x.0, omega (arith, x.1), x.2)
+  | inr e ↦ (n, omega arith, e)
+]
+
+-- where all are, each is
+all_counted : (n : ℕ) (f : ℕ → Bool) → sum_below n (λ t. one (f t)) ≡ n → (t : ℕ) → t < n → f t ≡ true
+unfolding sum_below
+all_counted zero f e t l = absurd (omega arith)
+all_counted (suc n) f e t l =
+    let below = sum_below-most n (λ u. one (f u)) (λ u. at_most_one (f u)) in
+    let here = at_most_one (f n) in
+    elim (cases_eq t n) [ inl i ↦ rw i (is_one (f n) (omega arith)) | inr i ↦ all_counted n f (omega arith) t (omega (arith, i)) ]
+  where
+    at_most_one : (b : Bool) → one b ≤ 1
+    at_most_one true = omega arith
+    at_most_one false = omega arith
+
+    is_one : (b : Bool) → one b ≡ 1 → b ≡ true
+    is_one true i = refl
+    is_one false i = absurd (omega arith)
+
+-- all threads have ended exactly where as many have as there are
+pub all_ended_is : (plan : Plan) (r : Run) → nat_eq (ended_in plan r) (length plan.threads) ≡ all_ended plan r
+all_ended_is plan r = elim (cases_eq (ended_in plan r) (length plan.threads)) [
+  | inl e ↦ eq-eqb (ended_in plan r) (length plan.threads) e ∙ sym (none_runs plan r (all_counted (length plan.threads) (has_ended plan r) e))
+  | inr e ↦
+      let few = few_ended plan r in
+      let x = one_uncounted (length plan.threads) (has_ended plan r) (omega (arith, e, few)) in
+      ne_eqb (ended_in plan r) (length plan.threads) e ∙ sym (one_runs plan r x.0 x.1 x.2)
+]
+
+-- behind a turn its thread may have ended, and no other
+pub ended_behind : (plan : Plan) (r : Run) (t : ℕ) → t < length plan.threads → ended_in plan (run_behind plan r t) + one (has_ended plan r t) ≡ ended_in plan r + one (has_ended plan (run_behind plan r t) t)
+ended_behind plan r t lt = sum_below-change (length plan.threads) (λ u. one (has_ended plan (run_behind plan r t) u)) (λ u. one (has_ended plan r u)) t lt (λ u ne. ap one (ends_no_other plan r t u (λ e. ne (sym e))))
 
 -- 3. Rounds
 

@@ -1,12 +1,26 @@
 -- A run under way, as the schedule keeps it.
-use Rattle.std.specs.Prelude.{◌≡◌, ℕ, ◌≤◌, ◌<◌, length, map, drop}
+use Rattle.std.specs.Prelude.{◌≡◌, ℕ, ◌≤◌, ◌<◌, Bool, length, map, drop}
 use Rattle.std.specs.List.{All}
+use Rattle.lock_model.specs.Counts.{one, sum_below}
 use Rattle.lock_state.specs.Run as run
+use Rattle.lock_state.specs.Run.{Run, has_ended}
 use Rattle.lock_model.specs.declared.plan.Plan.{Plan}
+use Rattle.lock_model.specs.declared.turn.Turn.{Turn}
+use Rattle.lock_model.specs.declared.turn.Turn.TheVariants.{Did, Idle, Ended}
 use Rattle.step_world.specs.declared.schedule.Course.{Course}
 use Rattle.step_world.specs.Worlds.{Represents}
 
--- the course is the definition's: its world shows the run, and those who still come are what is left of the schedule or of this round
+-- how many of the plan's threads have ended
+abbrev pub ended_in : Plan → Run → ℕ
+ended_in plan r = sum_below (length plan.threads) (λ t. one (has_ended plan r t))
+
+-- one where a thread has ended in its turn, by the turn's answer and whether it has ended behind it
+abbrev pub newly_ended : Turn → Bool → ℕ
+newly_ended Ended has_ended = 0
+newly_ended Idle has_ended = one has_ended
+newly_ended (Did kind) has_ended = one has_ended
+
+-- the course is the definition's: its world represents the run, and those who still come are what is left of the schedule or of this round
 pub record IsCourse (plan : Plan) (chains : ℕ) (course : Course) (k : run.Course) : Type 0 where
   pub plan_is : course.world.plan ≡ plan
   pub chains_are : course.world.chains ≡ chains
@@ -15,6 +29,7 @@ pub record IsCourse (plan : Plan) (chains : ℕ) (course : Course) (k : run.Cour
   pub within : course.gone ≤ length course.coming.items
   pub threads : All (λ t. t.0 < length plan.threads) course.coming.items
   pub idle : k.idle ≡ course.idle
+  pub ended : course.ended ≡ ended_in plan k.run
 
 -- the course is that of some plan
 abbrev pub IsUnderWay : Course → Type 0

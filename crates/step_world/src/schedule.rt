@@ -5,21 +5,22 @@ ghost use Rattle.lock_history.specs.Endings.{ending_of};
 ghost use Rattle.lock_history.specs.Outcomes.{outcome_seen};
 ghost use Rattle.lock_model.specs.Operations.{IsProper};
 ghost use Rattle.lock_state.specs.Run as run;
-ghost use Rattle.lock_state.specs.Run.{start_course, course_after, after_turn, with_turn, is_over, is_stuck, all_ended, round_of, scheduled_run, outcome_of};
+ghost use Rattle.lock_state.specs.Run.{start_course, course_after, after_turn, with_turn, is_over, is_stuck, all_ended, round_of, scheduled_run, outcome_of, HasLegalHistory};
 ghost use Rattle.lock_state.specs.Run.{ending_of as ending_of_course};
 ghost use Rattle.lock_model.specs.declared.plan.Plan as plans;
-ghost use Rattle.step_world.specs.Courses.{IsCourse, IsUnderWay};
+ghost use Rattle.step_world.specs.Courses.{IsCourse, IsUnderWay, ended_in, newly_ended};
 ghost use Rattle.step_world.specs.Worlds.{Represents};
 
 use crate::outcome::{finals, queue_lines};
 use crate::world::World;
-use lock_history::{Last, Outcome, merge};
+use lock_history::{History, Last, Outcome};
 use lock_model::{Plan, Sequence, ThreadNo, Turn};
 use std::alloc::{AllocError, Global};
 
 /// The scheduled run of a plan: the turns of its schedule, and then rounds over the threads that haven't ended, by number. It ends `Done`
-/// where all threads have ended, `Stuck` where a whole round was idle, and else `TooLong` where the allowed turns were made. There are 1 to
-/// 64 chains of each sort, of which only the printed slots tell, and 1 to 1,000,000 turns. The plan is one that some script gives.
+/// where all threads have ended, `Stuck` where a whole round was idle, and else `TooLong` where the allowed turns were made.
+/// Its history is legal, and whole unless it ended `Stuck` or `TooLong`. There are 1 to 64 chains of each sort, of which
+/// only the printed slots tell, and 1 to 1,000,000 turns. The plan is one that some script gives.
 pub fn run_schedule(
     alloc: Global,
     plan: &Plan,
@@ -31,7 +32,8 @@ pub fn run_schedule(
     requires few_chains { chains ≤ 64 }
     requires some_turns { 1 ≤ turns }
     requires few_turns { turns ≤ 1000000 }
-    ensures { IfOk result (λ o. outcome_seen o ≡ scheduled_run plan.now chains turns) }
+    ensures outcome { IfOk result (λ o. outcome_seen o ≡ scheduled_run plan.now chains turns) }
+    ensures legal { IfOk result (λ o. HasLegalHistory plan.now (outcome_seen o)) }
 {
     let mut course = Course::make(alloc, plan, chains)?;
     make_turns(&mut course, turns)?;
@@ -47,6 +49,8 @@ struct Course<'p> {
     gone: usize,
     /// Whether this is a round whose turns were all idle so far.
     idle: bool,
+    /// How many threads have ended. A turn ends no other thread than its own.
+    ended: u8,
 }
 
 // So many turns, or fewer where the run comes to its end before.
@@ -72,11 +76,14 @@ impl<'p> Course<'p> {
         requires few_chains { chains ≤ 64 }
         ensures { IfOk result (λ course. IsCourse plan.now chains course (start_course plan.now)) }
     {
+        let world = World::make(alloc, plan, chains)?;
+        let ended = count_ended(&world);
         Ok(Course {
-            world: World::make(alloc, plan, chains)?,
+            world,
             coming: Vec::from_slice(alloc, plan.schedule.as_slice())?,
             gone: 0,
             idle: false,
+            ended,
         })
     }
 
@@ -84,7 +91,14 @@ impl<'p> Course<'p> {
     fn is_over(&self) -> bool
         ensures { (plan : plans.Plan) (chains : ℕ) (k : run.Course) → IsCourse plan chains self.now k → result ≡ is_over plan k }
     {
-        all_ended(&self.world) || self.is_stuck()
+        self.all_ended() || self.is_stuck()
+    }
+
+    fn all_ended(&self) -> bool
+        ensures { (plan : plans.Plan) (chains : ℕ) (k : run.Course) → IsCourse plan chains self.now k
+            → result ≡ all_ended plan k.run }
+    {
+        self.ended == self.world.threads()
     }
 
     fn is_stuck(&self) -> bool
@@ -124,9 +138,12 @@ impl<'p> Course<'p> {
             → IsCourse plan chains self.new (with_turn plan k.run k.coming k.idle) }
     {
         if let Some(t) = self.coming.get(self.gone) {
-            let turn = self.world.turn(*t);
+            let t = *t;
+            let turn = self.world.turn(t);
             self.gone += 1;
             self.idle = self.idle && turn == Turn::Idle;
+            let has_ended = self.world.has_ended(t);
+            self.ended += newly_ended(turn, has_ended);
         }
     }
 
@@ -134,7 +151,7 @@ impl<'p> Course<'p> {
     fn last(&self) -> Last
         ensures { (plan : plans.Plan) (chains : ℕ) (k : run.Course) → IsCourse plan chains self.now k → ending_of result ≡ ending_of_course plan k }
     {
-        if all_ended(&self.world) {
+        if self.all_ended() {
             Last::Done
         } else if self.is_stuck() {
             Last::Stuck
@@ -153,9 +170,8 @@ impl<'p> Course<'p> {
         let queues = queue_lines(alloc, self.world.machine(), self.world.chains())?;
         let finals = finals(alloc, self.world.machine())?;
         let machine = self.world.into_machine();
-        let logs = [machine.log];
         Ok(Outcome {
-            history: merge(alloc, &logs)?,
+            history: History::of_log(machine.log),
             queues: Sequence::from_vec(queues),
             finals: Sequence::from_vec(finals),
             tables: machine.tables,
@@ -164,16 +180,25 @@ impl<'p> Course<'p> {
     }
 }
 
-// Whether all threads have ended.
-fn all_ended(world: &World<'_>) -> bool
-    ensures { (r : run.Run) → Represents world.now r → result ≡ all_ended world.now.plan r }
+// How many threads have ended.
+fn count_ended(world: &World<'_>) -> u8
+    ensures { (r : run.Run) → Represents world.now r → result ≡ ended_in world.now.plan r }
 {
+    let mut ended = 0;
     for t in 0..world.threads() {
-        if !world.has_ended(ThreadNo(t)) {
-            return false;
-        }
+        ended += u8::from(world.has_ended(ThreadNo(t)));
     }
-    true
+    ended
+}
+
+// One for a thread that has ended in its turn, as it hadn't before.
+fn newly_ended(turn: Turn, has_ended: bool) -> u8
+    ensures { result ≡ newly_ended turn has_ended }
+{
+    match turn {
+        Turn::Ended => 0,
+        Turn::Idle | Turn::Did(_) => u8::from(has_ended),
+    }
 }
 
 // A round goes over the threads that haven't ended, by number.

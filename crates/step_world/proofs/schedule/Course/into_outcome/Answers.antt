@@ -1,5 +1,4 @@
 use Rattle.std.proofs.Common.{ℕ, map, length, ap, ◌∙◌}
-use Rattle.lock_history.proofs.Merged.{TicketsOnce-one, merged_one}
 use Rattle.lock_history.specs.Endings.{numbers_of}
 use Rattle.lock_history.specs.Outcomes.{line_seen}
 use Rattle.step_world.specs.declared.machine.Machine.{Machine}
@@ -14,17 +13,17 @@ queue_lines-requires-clause-few c =
     let h = its_run u.0 u.1 c.args.self u.2 u.3 in
     rw c.machine.ensures (all_short u.0 c.args.self.world.machine u.2.run h.shows h.on_track.lawful.lawful)
 
-pub merge-requires-clause-tickets : goal.merge-requires-clause-tickets
-merge-requires-clause-tickets c =
+pub of_log-requires : goal.of_log-requires
+of_log-requires c =
     let u = c.requires in
-    rw c.into_machine-machine.ensures (TicketsOnce-one c.args.self.world.machine.log (log_in_order u.0 c.args.self.world.machine u.2.run (its_run u.0 u.1 c.args.self u.2 u.3)))
+    rw c.into_machine-machine.ensures (log_in_order u.0 c.args.self.world.machine u.2.run (its_run u.0 u.1 c.args.self u.2 u.3))
 
 pub returns : goal.returns
 returns c plan chains k proper h =
     let m = c.args.self.world.machine in
     let shown = its_run plan chains c.args.self k h in
     let taken = c.into_machine-machine.ensures in
-    let history = merged_one c.into_machine-machine.result.log c.in_ok-merge.field-0 (rw taken (log_in_order plan m k.run shown)) c.in_ok-merge.ensures.len c.in_ok-merge.ensures.placed ∙ ap (λ (n : Machine). n.log.entries) taken in
+    let history = c.of_log.ensures ∙ ap (λ (n : Machine). n.log.entries) taken in
     let queues = ap (map line_seen) c.from_vec.ensures ∙ c.in_ok-queues.ensures ∙ ap (λ (n : Machine). lines_below c.chains.result n (length n.words.items)) c.machine.ensures ∙ ap (λ (n : ℕ). lines_below n m (length m.words.items)) (c.chains.ensures ∙ h.chains_are) in
     let finals = ap numbers_of c.from_vec-2.ensures ∙ c.in_ok-finals.ensures ∙ ap finals_of c.machine-2.ensures in
     printed plan chains m k _ proper shown history queues finals (ap (λ (n : Machine). n.tables) taken) (c.last-last.ensures plan chains k h)
