@@ -14,7 +14,7 @@ use Rattle.lock_state.specs.Steps.{Step, Seeks, Looks, TakesItem, GivesItem, Gai
 use Rattle.lock_laws.proofs.Rows.{lending, at, plan}
 
 -- each step of a list may be made on a floor of so many chains, where it comes
-abbrev FloorAll : ℕ → Config → State → List Step → Type 0
+abbrev pub FloorAll : ℕ → Config → State → List Step → Type 0
 FloorAll chains c s [] = Unit {0}
 FloorAll chains c s (step ∷ steps) = May c s step × HasOut chains c s step × HasSeen chains c s step × FloorAll chains c (after c s step) steps
 

@@ -1,7 +1,6 @@
 -- A turn is idle exactly where its thread sleeps, and ended exactly where the thread has ended; it then changes nothing.
 -- So a round that was idle throughout leaves each thread that hasn't ended on a queue.
-use Rattle.std.proofs.Common.{◌≡◌, ◌⊎◌, ◌↔◌, ℕ, zero, suc, ◌+◌, ◌<◌, ◌≤◌, Bool, true, false, not, cond, ◌&&◌, ◌||◌, nat_le, List, [], ◌∷◌, length, take, filter, slice_get, Option, Some, None, refl, sym, ap, inl, inr, arith, ◌∙◌, subst}
-use Rattle.std.specs.Prelude.{unwrap_or}
+use Rattle.std.proofs.Common.{◌≡◌, ◌⊎◌, ◌↔◌, ℕ, zero, suc, ◌+◌, ◌<◌, ◌≤◌, Bool, true, false, not, cond, ◌&&◌, ◌||◌, nat_le, List, [], ◌∷◌, length, filter, slice_get, Option, Some, None, refl, sym, ap, inl, inr, arith, ◌∙◌, subst}
 use Rattle.std.specs.List.{range_with_len}
 use Rattle.std.proofs.lemmas.Bool.{cases_eq, and_parts, le-leb}
 use Rattle.std.proofs.lemmas.Option.{none-some, slice_get_cases}

@@ -40,6 +40,7 @@ pub mod Idle
 pub mod AtTurn
 pub mod OtherThreads
 mod FloorGuards
+mod SleepGuards
 pub mod Props
 pub mod Sleepers
 pub mod EnterSleep

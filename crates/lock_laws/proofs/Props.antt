@@ -21,7 +21,7 @@ Ascends-prop [] = hlevel
 Ascends-prop (w ∷ []) = hlevel
 Ascends-prop (w ∷ v ∷ ws) = hlevel (props, Ascends-prop (v ∷ ws))
 
-Each-prop : (P : Waiter → Type 0) → ((w : Waiter) → IsProp (P w)) → (ws : List Waiter) → IsProp (Each P ws)
+pub Each-prop : (P : Waiter → Type 0) → ((w : Waiter) → IsProp (P w)) → (ws : List Waiter) → IsProp (Each P ws)
 Each-prop P p [] = hlevel
 Each-prop P p (w ∷ ws) = hlevel (p, Each-prop P p ws)
 

@@ -11,6 +11,7 @@ pub mod Order
 pub mod Fair
 pub mod Waking
 pub mod Found
+pub mod Props
 use Rattle.std.proofs.Common.{◌≡◌, ℕ, true, refl, sym, arith, subst}
 use Rattle.lock_model.specs.Config.{Config}
 use Rattle.lock_model.specs.Law.{is_asleep, is_named, is_passed_over, WakingsNameSleepers}
