@@ -5,7 +5,8 @@ ghost use Rattle.lock_model.specs.Operations.{IsProper};
 ghost use Rattle.lock_model.specs.Plans.{config_of};
 ghost use Rattle.lock_state.specs.Run.{Run, start_run, turn_of, run_behind, has_ended};
 ghost use Rattle.lock_laws.specs.OnTrack.{IsSleeping};
-ghost use Rattle.step_world.specs.Worlds.{Represents, HasBest};
+ghost use Rattle.lock_state.specs.Best.{HasBest};
+ghost use Rattle.step_world.specs.Worlds.{Represents};
 
 use crate::machine::Machine;
 use crate::turns::turn;
