@@ -35,13 +35,13 @@ pub record Gained (c : Config) (s : State) (t l : ℕ) (mode : Mode) : Type 0 wh
 pub gained_lock : (c : Config) (s : State) (t l : ℕ) (mode : Mode) → t < c.threads → s.held t l ≡ NotHeld → IsActing s t → Lawful c s → Gained c s t l mode
 unfolding StandingWants WokenWants CalledWants StandingIsUncalled WokenIsUncalled OnlyThreadsHold SectionsAreHeld
 gained_lock c s t l mode thread unheld acting h = record {
-  standing_wants = λ u k. grind (arith, columns, h.standing_wants u k);
-  woken_wants = λ u k. grind (arith, columns, h.woken_wants u k);
-  called_wants = λ u k. grind (arith, columns, h.called_wants u k);
-  standing_uncalled = λ u q. grind (arith, columns, h.standing_is_uncalled u q);
-  woken_uncalled = λ u. grind (arith, columns, h.woken_is_uncalled u);
-  threads_hold = λ u k m. grind (arith, columns, h.only_threads_hold u k m, thread);
-  sections = λ u k m. grind (arith, columns, h.sections_are_held u k m, unheld);
+  standing_wants = λ u k. grind (arith, columns, h.waits.standing_wants u k);
+  woken_wants = λ u k. grind (arith, columns, h.waits.woken_wants u k);
+  called_wants = λ u k. grind (arith, columns, h.waits.called_wants u k);
+  standing_uncalled = λ u q. grind (arith, columns, h.waits.standing_is_uncalled u q);
+  woken_uncalled = λ u. grind (arith, columns, h.waits.woken_is_uncalled u);
+  threads_hold = λ u k m. grind (arith, columns, h.words.only_threads_hold u k m, thread);
+  sections = λ u k m. grind (arith, columns, h.books.sections_are_held u k m, unheld);
 }
 
 -- 2. Enters: the thread stands on the lock's queue and wants the lock, and the word shows it
@@ -64,28 +64,28 @@ module _ (c : Config) (s : State) (t l : ℕ) (side : Side) (thread : t < c.thre
   still_called k =
       let a = sum_below-put c.threads (at_option k) s.called t None thread in
       let e = entered_holder (s.word l) side in
-      grind (arith, columns, h.free_word_has_called k, h.called_wants)
+      grind (arith, columns, h.waits.free_word_has_called k, h.waits.called_wants)
 
   still_none : FreeMutexShowsNone c (put s.word l (entered (s.word l) side))
   unfolding FreeMutexShowsNone
   still_none k e =
       let f = entered_holder (s.word l) side in
-      grind (arith, columns, h.free_mutex_shows_none k e)
+      grind (arith, columns, h.waits.free_mutex_shows_none k e)
 
   still_holders : WordsMatchHolders c (put s.word l (entered (s.word l) side)) s.held
   unfolding WordsMatchHolders
-  still_holders = at_put (λ k w. WordMatchesHolders c w k s.held) s.word l _ (matches_same c (s.word l) _ l s.held (entered_holder (s.word l) side) (h.words_match_holders l)) (λ k ne. h.words_match_holders k)
+  still_holders = at_put (λ k w. WordMatchesHolders c w k s.held) s.word l _ (matches_same c (s.word l) _ l s.held (entered_holder (s.word l) side) (h.words.words_match_holders l)) (λ k ne. h.words.words_match_holders k)
 
   pub entered_lock : Entered c s t l side
   unfolding OnlyThreadsStand StandingIsQueued StandingWants WokenWants CalledWants StandingIsUncalled WokenIsUncalled
   entered_lock = record {
-    threads_stand = λ u r. grind (arith, columns, h.only_threads_stand u r, thread);
-    standing_queued = λ u r. grind (arith, columns, h.standing_is_queued u r);
-    standing_wants = λ u k. grind (arith, columns, h.standing_wants u k, same_lock l k);
-    woken_wants = λ u k. grind (arith, columns, h.woken_wants u k);
-    called_wants = λ u k. grind (arith, columns, h.called_wants u k);
-    standing_uncalled = λ u r. grind (arith, columns, h.standing_is_uncalled u r);
-    woken_uncalled = λ u. grind (arith, columns, h.woken_is_uncalled u);
+    threads_stand = λ u r. grind (arith, columns, h.waits.only_threads_stand u r, thread);
+    standing_queued = λ u r. grind (arith, columns, h.waits.standing_is_queued u r);
+    standing_wants = λ u k. grind (arith, columns, h.waits.standing_wants u k, same_lock l k);
+    woken_wants = λ u k. grind (arith, columns, h.waits.woken_wants u k);
+    called_wants = λ u k. grind (arith, columns, h.waits.called_wants u k);
+    standing_uncalled = λ u r. grind (arith, columns, h.waits.standing_is_uncalled u r);
+    woken_uncalled = λ u. grind (arith, columns, h.waits.woken_is_uncalled u);
     called = still_called;
     free_mutex = still_none;
     holders = still_holders;
@@ -128,8 +128,8 @@ module _ (c : Config) (s : State) (t l : ℕ) (mode : Mode) (thread : t < c.thre
   unfolding BitsShowWaiters
   bits k =
       elim (cases_eq l k) [
-        | inl e ↦ rw (← e, put_same s.word l (opened (c.kind l) (s.word l)), put_lock_same s.lists l (with_list side [] (s.lists q))) (bits_opened side (s.word l) (s.lists q) (h.bits_show_waiters l))
-        | inr e ↦ rw (put_other s.word l (opened (c.kind l) (s.word l)) k e, put_lock_other s.lists l (with_list side [] (s.lists q)) k e) (h.bits_show_waiters k)
+        | inl e ↦ rw (← e, put_same s.word l (opened (c.kind l) (s.word l)), put_lock_same s.lists l (with_list side [] (s.lists q))) (bits_opened side (s.word l) (s.lists q) (h.queues.bits_show_waiters l))
+        | inr e ↦ rw (put_other s.word l (opened (c.kind l) (s.word l)) k e, put_lock_other s.lists l (with_list side [] (s.lists q)) k e) (h.queues.bits_show_waiters k)
       ]
 
   module _ (fits : length woken ≤ length (s.free_list q) + some (s.head q)) (some_woken : is_empty woken ≡ false) where
@@ -145,7 +145,7 @@ module _ (c : Config) (s : State) (t l : ℕ) (mode : Mode) (thread : t < c.thre
               let e2 = rw (← i) at e in
               let f = one_le (shows_waiters (put s.word l (opened (c.kind l) (s.word l)) l)) in
               rw (← i) (omega arith)
-          | inr i ↦ rw (put_other s.word l (opened (c.kind l) (s.word l)) k i) (omega (arith, h.free_word_has_called k))
+          | inr i ↦ rw (put_other s.word l (opened (c.kind l) (s.word l)) k i) (omega (arith, h.waits.free_word_has_called k))
         ]
 
     pub opened_lock : Opened c s t l
@@ -153,7 +153,7 @@ module _ (c : Config) (s : State) (t l : ℕ) (mode : Mode) (thread : t < c.thre
     opened_lock = record {
       bits = bits;
       called = now_called;
-      holders = all_match-put c s.word s.held t l _ NotHeld h.words_match_holders (matches-drop c (s.word l) _ s.held t l mode thread held (sym (free_is (without_one (s.word l).holder) last)) (h.words_match_holders l));
-      threads_hold = λ u k m. grind (arith, columns, h.only_threads_hold u k m);
-      sections = λ u k m. grind (arith, columns, h.sections_are_held u k m, closed);
+      holders = all_match-put c s.word s.held t l _ NotHeld h.words.words_match_holders (matches-drop c (s.word l) _ s.held t l mode thread held (sym (free_is (without_one (s.word l).holder) last)) (h.words.words_match_holders l));
+      threads_hold = λ u k m. grind (arith, columns, h.words.only_threads_hold u k m);
+      sections = λ u k m. grind (arith, columns, h.books.sections_are_held u k m, closed);
     }

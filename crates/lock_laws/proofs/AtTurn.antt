@@ -28,12 +28,12 @@ well_formed c s l h few = go (s.word l).holder refl
     go : (x : Holder) → (s.word l).holder ≡ x → IsPossible x
     go Free e = tt
     go (HeldBy t) e =
-        let owned = (h.words_match_holders l).owner t ∙ ap (owns t) e ∙ eq-eqb t t refl in
-        let own = h.only_threads_hold t l Excl (exclusive_is (s.held t l) owned) in
+        let owned = (h.words.words_match_holders l).owner t ∙ ap (owns t) e ∙ eq-eqb t t refl in
+        let own = h.words.only_threads_hold t l Excl (exclusive_is (s.held t l) owned) in
         omega arith
-    go (SharedBy zero) e = absurd ((h.words_match_holders l).some_sharer e)
+    go (SharedBy zero) e = absurd ((h.words.words_match_holders l).some_sharer e)
     go (SharedBy (suc n)) e =
-        let counted = (h.words_match_holders l).sharers_are_counted in
+        let counted = (h.words.words_match_holders l).sharers_are_counted in
         let most = sum_below-most c.threads (λ t. shares (s.held t l)) (λ t. shares_once (s.held t l)) in
         let all : sum_below c.threads (λ t. shares (s.held t l)) ≡ suc n = rw e at counted in
         (omega arith, omega arith)
@@ -41,7 +41,7 @@ well_formed c s l h few = go (s.word l).holder refl
 -- a release of a lock that is held exclusively is a drop exactly where no waiter is shown
 pub drop_where_none_shown : (c : Config) (s : State) (t l : ℕ) → Lawful c s → s.held t l ≡ Holds Excl → is_drop (s.word l) ≡ not (shows_waiters (s.word l))
 unfolding WordsMatchHolders
-drop_where_none_shown c s t l h e = go (s.word l).holder (sym ((h.words_match_holders l).owner t) ∙ ap is_exclusive e)
+drop_where_none_shown c s t l h e = go (s.word l).holder (sym ((h.words.words_match_holders l).owner t) ∙ ap is_exclusive e)
   where
     go : (x : Holder) → owns t x ≡ true → (not (is_free (without_one x)) || not (shows_waiters (s.word l))) ≡ not (shows_waiters (s.word l))
     go Free i = absurd cc
@@ -56,14 +56,14 @@ unfolding TurnstileIsLent
 has_turnstile c s t h e = go (s.turnstile t) refl
   where
     go : (o : Option ℕ) → s.turnstile t ≡ o → (x : ℕ) × (s.turnstile t ≡ Some x)
-    go None f = absurd (let a = h.turnstile_is_lent t in let b : 0 ≡ 1 = rw (e, f) at a in omega (arith, b))
+    go None f = absurd (let a = h.queues.turnstile_is_lent t in let b : 0 ≡ 1 = rw (e, f) at a in omega (arith, b))
     go (Some x) f = (x, f)
 
 -- a queue without a head has no waiter,
 pub none_stands : (c : Config) (s : State) (q : QueueName) (t : ℕ) → Lawful c s → s.head q ≡ None → stands t (s.lists q) ≡ 0
 unfolding HeadsFitWaiters
 none_stands c s q t h e =
-    let f = h.heads_fit_waiters q in
+    let f = h.queues.heads_fit_waiters q in
     let a : some (s.head q) ≡ 0 = ap some e in
     let b : length (s.free_list q) ≡ 0 = ap length (f.no_free e) in
     none (s.lists q).exclusive (s.lists q).shared (omega (arith, f.balanced))
@@ -76,7 +76,7 @@ none_stands c s q t h e =
 -- and no owner
 pub no_owner : (c : Config) (s : State) (q : QueueName) → Lawful c s → s.head q ≡ None → s.owner q ≡ None
 unfolding HeadsFitWaiters
-no_owner c s q h e = (h.heads_fit_waiters q).no_owner e
+no_owner c s q h e = (h.queues.heads_fit_waiters q).no_owner e
 
 -- a queue with an owner has a head, and its lock's word says the owner
 pub owner_found : (c : Config) (s : State) (l o : ℕ) → Lawful c s → is_turnstile (c.kind l) ≡ true → s.owner (lock_queue l) ≡ Some o
@@ -86,7 +86,7 @@ owner_found c s l o h k e = go (s.head (lock_queue l)) refl
   where
     go : (x : Option ℕ) → s.head (lock_queue l) ≡ x → (y : ℕ) × (s.head (lock_queue l) ≡ Some y) × (owner_of (s.word l).holder ≡ Some o)
     go None f = absurd (let z : None ≡ Some o = sym (no_owner c s (lock_queue l) h f) ∙ e in cc)
-    go (Some y) f = (y, f, sym (h.owners_hold l ∙ rw (k, f) refl) ∙ e)
+    go (Some y) f = (y, f, sym (h.loans.owners_hold l ∙ rw (k, f) refl) ∙ e)
 
 -- where it has none, there is no head or the word says none
 pub no_owner_found : (c : Config) (s : State) (l : ℕ) → Lawful c s → is_turnstile (c.kind l) ≡ true → s.owner (lock_queue l) ≡ None
@@ -96,7 +96,7 @@ no_owner_found c s l h k e = go (s.head (lock_queue l)) refl
   where
     go : (x : Option ℕ) → s.head (lock_queue l) ≡ x → (s.head (lock_queue l) ≡ None) ⊎ (owner_of (s.word l).holder ≡ None)
     go None f = inl f
-    go (Some y) f = inr (sym (h.owners_hold l ∙ rw (k, f) refl) ∙ e)
+    go (Some y) f = inr (sym (h.loans.owners_hold l ∙ rw (k, f) refl) ∙ e)
 
 -- the record of a number beyond the plan's threads names nothing
 pub beyond_unnamed : (c : Config) (s : State) (t : ℕ) → Lawful c s → c.threads ≤ t → s.blocked_on t ≡ None
@@ -105,4 +105,4 @@ beyond_unnamed c s t h l = go (s.blocked_on t) refl
   where
     go : (o : Option QueueName) → s.blocked_on t ≡ o → o ≡ None
     go None e = refl
-    go (Some q) e = absurd (let a = h.only_threads_stand t q e in omega (arith, a))
+    go (Some q) e = absurd (let a = h.waits.only_threads_stand t q e in omega (arith, a))

@@ -12,7 +12,7 @@ use Rattle.lock_model.specs.Holds.{NotHeld, Holds}
 use Rattle.lock_state.specs.Steps.LockWords.{prio_of}
 use Rattle.lock_state.specs.Facts.{Lawful, KeptIsEffective, LoansAreLeast, LoansAreWithOwners, OwnersHold, EffectiveIsLeast, StandsOnce, OnlyThreadsStand, StandingWants, WordsMatchHolders}
 use Rattle.lock_state.specs.Facts.Words.{owns}
-use Rattle.lock_state.specs.Facts.Loans.{Each, EachOf, IsKept, walks_at_lock, walks_at_thread, at_lock, at_thread}
+use Rattle.lock_state.specs.Facts.Loans.{Each, EachOf, IsKept, walkers_at_lock, walkers_at_thread, at_lock, at_thread}
 use Rattle.lock_state.specs.Best.{is_behind, best_within, best_behind, WaitsFor, WaitsAlong, HasCycle, NobodyWalks}
 use Rattle.lock_model.specs.declared.plan.Mode.TheVariants.{Excl}
 use Rattle.lock_laws.proofs.Kit.{at_queue_one, sum_below-zero}
@@ -195,19 +195,19 @@ module _ (c : Config) (s : State) where
 module _ (c : Config) (s : State) (h : Lawful c s) where
   named_here : (u l : ℕ) → 1 ≤ stands u (s.lists (lock_queue l)) → s.blocked_on u ≡ Some (lock_queue l)
   unfolding StandsOnce
-  named_here u l k = at_queue_one (lock_queue l) (s.blocked_on u) (omega (arith, h.stands_once u (lock_queue l)))
+  named_here u l k = at_queue_one (lock_queue l) (s.blocked_on u) (omega (arith, h.waits.stands_once u (lock_queue l)))
 
   inside : (u l : ℕ) → 1 ≤ stands u (s.lists (lock_queue l)) → u < c.threads
   unfolding OnlyThreadsStand
-  inside u l k = h.only_threads_stand u (lock_queue l) (named_here u l k)
+  inside u l k = h.waits.only_threads_stand u (lock_queue l) (named_here u l k)
 
   -- a thread that is behind another waits for it
   waits : (u t : ℕ) → is_behind c s u t ≡ true → WaitsFor s u t
   unfolding StandingWants WordsMatchHolders
   waits u t e =
       let r = behind_at c s u t e in
-      let a = exclusive_is (s.held t r.0) ((h.words_match_holders r.0).owner t ∙ r.3) in
-      (r.0, h.standing_wants u r.0 (named_here u r.0 r.4), λ x. let z : Holds Excl ≡ NotHeld = sym a ∙ x in cc)
+      let a = exclusive_is (s.held t r.0) ((h.words.words_match_holders r.0).owner t ∙ r.3) in
+      (r.0, h.waits.standing_wants u r.0 (named_here u r.0 r.4), λ x. let z : Holds Excl ≡ NotHeld = sym a ∙ x in cc)
 
   -- so a chain of those that are behind, read from its end, is one of those that wait
   along : (t v : ℕ) (us rest : List ℕ) → IsChain c s t (us ++ v ∷ []) → WaitsAlong s t rest → (xs : List ℕ) × WaitsAlong s v (xs ++ t ∷ rest)
@@ -224,20 +224,20 @@ module _ (c : Config) (s : State) (h : Lawful c s) where
   owner-here t l u i k e =
       let x = standing_head c s u (lock_queue l) h k in
       let a = owns_is t (s.word l).holder e in
-      h.owners_hold l ∙ rw (i, x.1, a) refl
+      h.loans.owners_hold l ∙ rw (i, x.1, a) refl
 
 module _ (c : Config) (s : State) (h : Lawful c s) (still : NobodyWalks c s) where
-  none_at_lock : (l : ℕ) → walks_at_lock c s.walk l ≡ 0
-  unfolding walks_at_lock
+  none_at_lock : (l : ℕ) → walkers_at_lock c s.walk l ≡ 0
+  unfolding walkers_at_lock
   none_at_lock l = sum_below-zero c.threads (λ t. at_lock l (s.walk t)) (λ t i. ap (at_lock l) (still t i))
 
-  none_at_thread : (o : ℕ) → walks_at_thread c s.walk o ≡ 0
-  unfolding walks_at_thread
+  none_at_thread : (o : ℕ) → walkers_at_thread c s.walk o ≡ 0
+  unfolding walkers_at_thread
   none_at_thread o = sum_below-zero c.threads (λ t. at_thread o (s.walk t)) (λ t i. ap (at_thread o) (still t i))
 
   exact : (l : ℕ) → is_turnstile (c.kind l) ≡ true → EachOf (λ w. w.kept ≡ s.effective w.thread) (s.lists (lock_queue l))
   unfolding KeptIsEffective
-  exact l i = (go (s.lists (lock_queue l)).exclusive (h.kept_is_effective l i).0, go (s.lists (lock_queue l)).shared (h.kept_is_effective l i).1)
+  exact l i = (go (s.lists (lock_queue l)).exclusive (h.loans.kept_is_effective l i).0, go (s.lists (lock_queue l)).shared (h.loans.kept_is_effective l i).1)
     where
       go : (ws : List Waiter) → Each (IsKept c s.walk s.effective) ws → Each (λ w. w.kept ≡ s.effective w.thread) ws
       go [] e = tt
@@ -256,7 +256,7 @@ module _ (c : Config) (s : State) (h : Lawful c s) (still : NobodyWalks c s) whe
             let r = behind_at c s u t y in
             let o = owner-here c s h t r.0 u r.2 r.4 r.3 in
             let w = least_of-le s.effective u (s.lists (lock_queue r.0)) (exact r.0 r.2) r.4 in
-            let v = least-le c.locks (λ l. prio_of (s.loan t l)) (s.base t) r.0 w.0 r.1 (h.loans_are_least r.0 t o (none_at_lock r.0) ∙ w.1) in
+            let v = least-le c.locks (λ l. prio_of (s.loan t l)) (s.base t) r.0 w.0 r.1 (h.loans.loans_are_least r.0 t o (none_at_lock r.0) ∙ w.1) in
             let x : Some (s.effective u) ≡ Some p = rw y at e in
             let x2 : s.effective u ≡ p = cc in
             let w2 = w.2 in
@@ -276,9 +276,9 @@ module _ (c : Config) (s : State) (h : Lawful c s) (still : NobodyWalks c s) whe
       go : (l p : ℕ) → l < c.locks → (o : Option Loan) → s.loan t l ≡ o → prio_of o ≡ Some p → least c.threads (from_behind t) (s.base t) ≤ p
       go l p lt None z e = absurd cc
       go l p lt (Some y) z e =
-          let o = h.loans_are_with_owners t l y z in
-          let k = owner_from (is_turnstile (c.kind l)) (s.head (lock_queue l)) (s.word l).holder t (sym (h.owners_hold l) ∙ o) in
-          let x = sym (h.loans_are_least l t o (none_at_lock l)) ∙ ap prio_of z ∙ e in
+          let o = h.loans.loans_are_with_owners t l y z in
+          let k = owner_from (is_turnstile (c.kind l)) (s.head (lock_queue l)) (s.word l).holder t (sym (h.loans.owners_hold l) ∙ o) in
+          let x = sym (h.loans.loans_are_least l t o (none_at_lock l)) ∙ ap prio_of z ∙ e in
           let r = least_of-is s.effective (s.lists (lock_queue l)) p (exact l k.0) x in
           let b = behind_from c s r.0 t l lt k.0 (owner-owns t (s.word l).holder k.1) r.1 in
           let v = least-le c.threads (from_behind t) (s.base t) r.0 (s.effective r.0) (inside c s h r.0 l r.1) (rw b refl) in
@@ -287,7 +287,7 @@ module _ (c : Config) (s : State) (h : Lawful c s) (still : NobodyWalks c s) whe
 
   one_level : (t : ℕ) → s.effective t ≡ least c.threads (from_behind t) (s.base t)
   unfolding EffectiveIsLeast
-  one_level t = omega (arith, down t, up t, h.effective_is_least t)
+  one_level t = omega (arith, down t, up t, h.loans.effective_is_least t)
 
   -- 6. All levels
 

@@ -83,7 +83,7 @@ module _ (c : Config) (s : State) (h : Lawful c s) where
       let b = only-le (is_turnstile (c.kind x)) (stands u (s.lists (lock_queue x))) in
       let d = sum_below-le c.threads (λ t. times u (marked_threads c (s.marked t))) (λ t. times_marked u (lock_queue x) (s.marked t)) (λ t l. marked_at c u (lock_queue x) (s.marked t) (mark t l)) in
       let f : at_queue (lock_queue x) (s.blocked_on u) ≡ 1 = rw e (one_same x) in
-      omega (arith, h.stands_once u (lock_queue x))
+      omega (arith, h.waits.stands_once u (lock_queue x))
     where
       stand : (k : ℕ) → (x ≡ k → ⊥) → only (is_turnstile (c.kind k)) (stands u (s.lists (lock_queue k))) ≡ 0
       stand k n =
@@ -98,11 +98,11 @@ module _ (c : Config) (s : State) (h : Lawful c s) where
   placed_once m u = go (s.blocked_on u) refl (names_turnstile c (s.blocked_on u)) refl
     where
       go : (o : Option QueueName) → s.blocked_on u ≡ o → (b : Bool) → names_turnstile c o ≡ b → some (s.turnstile u) + standing m u + marks u ≤ 1
-      go o e false k = let a = unnamed m u (rw e k) in omega (arith, h.turnstile_is_lent u)
+      go o e false k = let a = unnamed m u (rw e k) in omega (arith, h.queues.turnstile_is_lent u)
       go (Some (Lock x)) e true k =
           let a = named_once m u x.0 e in
           let b : one (names_turnstile c (s.blocked_on u)) ≡ 1 = rw (e, k) refl in
-          omega (arith, h.turnstile_is_lent u)
+          omega (arith, h.queues.turnstile_is_lent u)
       go (Some (Chan d)) e true k = absurd cc
       go None e true k = absurd cc
 
@@ -124,7 +124,7 @@ module _ (c : Config) (s : State) (h : Lawful c s) where
   heads_and_frees =
       let f : ℕ → ℕ = λ k. only (is_turnstile (c.kind k)) (some (s.head (lock_queue k))) in
       let g : ℕ → ℕ = λ k. only (is_turnstile (c.kind k)) (length (s.free_list (lock_queue k))) in
-      let a = sum_below-same c.locks (λ k. f k + g k) (λ k. only (is_turnstile (c.kind k)) (waiting (s.lists (lock_queue k)))) (λ k l. joined (is_turnstile (c.kind k)) _ _ _ (h.heads_fit_waiters (lock_queue k)).balanced) in
+      let a = sum_below-same c.locks (λ k. f k + g k) (λ k. only (is_turnstile (c.kind k)) (waiting (s.lists (lock_queue k)))) (λ k l. joined (is_turnstile (c.kind k)) _ _ _ (h.queues.heads_fit_waiters (lock_queue k)).balanced) in
       omega (arith, sum_below-add c.locks f g)
     where
       joined : (b : Bool) (x y z : ℕ) → y + x ≡ z → only b x + only b y ≡ only b z
@@ -140,7 +140,7 @@ module _ (c : Config) (s : State) (h : Lawful c s) where
       let at_head : ℕ → ℕ = λ j. sum_below c.locks (λ k. only (is_turnstile (c.kind k)) (at_option j (s.head (lock_queue k)))) in
       let in_free : ℕ → ℕ = λ j. sum_below c.locks (λ k. only (is_turnstile (c.kind k)) (times j (s.free_list (lock_queue k)))) in
       let in_mark : ℕ → ℕ = λ j. sum_below n (λ t. times_object c true j (s.marked t)) in
-      let all = sum_below-all n (λ j. at_home j + at_head j + in_free j + in_mark j) (λ j l. let a : one (ltb j n) ≡ 1 = rw (lt-ltb j n l) refl in omega (arith, h.one_turnstile_each j)) in
+      let all = sum_below-all n (λ j. at_home j + at_head j + in_free j + in_mark j) (λ j l. let a : one (ltb j n) ≡ 1 = rw (lt-ltb j n l) refl in omega (arith, h.queues.one_turnstile_each j)) in
       let a = columns-le n n (λ j t. at_option j (s.turnstile t)) (λ t. some (s.turnstile t)) (λ t l. option-sum n (s.turnstile t)) in
       let b = columns-le n c.locks (λ j k. only (is_turnstile (c.kind k)) (at_option j (s.head (lock_queue k)))) (λ k. only (is_turnstile (c.kind k)) (some (s.head (lock_queue k))))
       (λ k l. only-sum n (is_turnstile (c.kind k)) (λ j. at_option j (s.head (lock_queue k))) (some (s.head (lock_queue k))) (option-sum n (s.head (lock_queue k)))) in
@@ -159,7 +159,7 @@ module _ (c : Config) (s : State) (h : Lawful c s) where
 
   marked_stand : (t : ℕ) → t < c.threads → length (marked_threads c (s.marked t)) ≤ sum_below c.threads (λ u. times u (marked_threads c (s.marked t)))
   unfolding OnlyThreadsStand
-  marked_stand t l = sum-times c.threads (marked_threads c (s.marked t)) (λ u i. let r = marked_from c u (s.marked t) i in h.only_threads_stand u r.0 (times_named c s u t r.0 h l r.2))
+  marked_stand t l = sum-times c.threads (marked_threads c (s.marked t)) (λ u i. let r = marked_from c u (s.marked t) i in h.waits.only_threads_stand u r.0 (times_named c s u t r.0 h l r.2))
 
   -- so there are no more turnstiles in all these places than threads
   threads_placed : (m : ℕ) → homes + lent m + all_marks ≤ c.threads

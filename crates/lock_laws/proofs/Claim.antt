@@ -48,7 +48,7 @@ module _ (c : Config) (s : State) (t l x : ℕ) (by_try : Bool) (g : MayClaim c 
   no_loans : (u : ℕ) (y : Loan) → s.loan u l ≡ Some y → ⊥
   unfolding LoansAreWithOwners OwnersHold
   no_loans u y e =
-      let a = sym (h.owners_hold l) ∙ h.loans_are_with_owners u l y e in
+      let a = sym (h.loans.owners_hold l) ∙ h.loans.loans_are_with_owners u l y e in
       let b = rw (free_is (s.word l).holder g.free) at a in
       no_owner_here (is_turnstile (c.kind l)) (s.head q) u b
 
@@ -62,17 +62,17 @@ module _ (c : Config) (s : State) (t l x : ℕ) (by_try : Bool) (g : MayClaim c 
   unfolding after_claim HeadsFitWaiters
   heads_of_locks k =
       elim (cases_eq l k) [
-        | inl e ↦ rw (← e, put_lock_same s.owner l (Some t)) (record { balanced = (h.heads_fit_waiters q).balanced; no_free = (h.heads_fit_waiters q).no_free; no_owner = head_keeps None (Some t) (s.head q) x g.head })
-        | inr e ↦ rw (put_lock_other s.owner l (Some t) k e) (h.heads_fit_waiters (lock_queue k))
+        | inl e ↦ rw (← e, put_lock_same s.owner l (Some t)) (record { balanced = (h.queues.heads_fit_waiters q).balanced; no_free = (h.queues.heads_fit_waiters q).no_free; no_owner = head_keeps None (Some t) (s.head q) x g.head })
+        | inr e ↦ rw (put_lock_other s.owner l (Some t) k e) (h.queues.heads_fit_waiters (lock_queue k))
       ]
 
   heads : HeadsFitWaiters n.lists n.free_list n.head n.owner
   unfolding after_claim HeadsFitWaiters put_queue
-  heads = each_queue (λ r. HeadFits (n.lists r) (n.free_list r) (n.head r) (n.owner r)) heads_of_locks (λ d. h.heads_fit_waiters (chan_queue d))
+  heads = each_queue (λ r. HeadFits (n.lists r) (n.free_list r) (n.head r) (n.owner r)) heads_of_locks (λ d. h.queues.heads_fit_waiters (chan_queue d))
 
   bits : BitsShowWaiters n.word n.lists
   unfolding after_claim BitsShowWaiters
-  bits k = grind (arith, columns, h.bits_show_waiters k)
+  bits k = grind (arith, columns, h.queues.bits_show_waiters k)
 
   -- 2. Wanting and calling
 
@@ -80,35 +80,35 @@ module _ (c : Config) (s : State) (t l x : ℕ) (by_try : Bool) (g : MayClaim c 
   unfolding after_claim FreeWordHasCalled callers CalledWants
   called k =
       let a = sum_below-put c.threads (at_option k) s.called t None g.thread in
-      grind (arith, columns, h.free_word_has_called k, h.called_wants t)
+      grind (arith, columns, h.waits.free_word_has_called k, h.waits.called_wants t)
 
   free_mutex : FreeMutexShowsNone c n.word
   unfolding after_claim FreeMutexShowsNone
-  free_mutex k e = grind (arith, columns, h.free_mutex_shows_none k e)
+  free_mutex k e = grind (arith, columns, h.waits.free_mutex_shows_none k e)
 
   -- 3. Words and owners
 
   holders : WordsMatchHolders c n.word n.held
   unfolding after_claim WordsMatchHolders
-  holders = all_match-put c s.word s.held t l _ (Holds Excl) h.words_match_holders (matches-claim c (s.word l) s.held t l g.thread g.free g.unheld (h.words_match_holders l))
+  holders = all_match-put c s.word s.held t l _ (Holds Excl) h.words.words_match_holders (matches-claim c (s.word l) s.held t l g.thread g.free g.unheld (h.words.words_match_holders l))
 
   owners : OwnersHold c n.owner n.head n.word
   unfolding after_claim OwnersHold
   owners k =
       elim (cases_eq l k) [
         | inl e ↦ rw (← e) (simp (put_same, put_lock_same) (owner_claimed (is_turnstile (c.kind l)) (s.head q) x t turnstile g.head))
-        | inr e ↦ rw (put_other s.word l (claimed (s.word l) t) k e, put_lock_other s.owner l (Some t) k e) (h.owners_hold k)
+        | inr e ↦ rw (put_other s.word l (claimed (s.word l) t) k e, put_lock_other s.owner l (Some t) k e) (h.loans.owners_hold k)
       ]
 
   channels : ChannelsHaveNoOwner n.owner
   unfolding after_claim ChannelsHaveNoOwner put_queue
-  channels d = h.channels_have_no_owner d
+  channels d = h.loans.channels_have_no_owner d
 
   -- 4. Loans and kept priorities
 
   least : EffectiveIsLeast c n.effective n.base n.loan
   unfolding after_claim
-  least = effective-put c s.effective s.base s.loan t l new h.effective_is_least
+  least = effective-put c s.effective s.base s.loan t l new h.loans.effective_is_least
 
   loans_least : LoansAreLeast c n.owner n.walk n.loan n.lists
   unfolding after_claim LoansAreLeast
@@ -117,7 +117,7 @@ module _ (c : Config) (s : State) (t l x : ℕ) (by_try : Bool) (g : MayClaim c 
         | inl i ↦
             let j : t ≡ o = (let y = sym (put_lock_same s.owner l (Some t)) ∙ ap (λ z. put_queue s.owner q (Some t) (lock_queue z)) i ∙ e in cc) in
             rw (← i, ← j, put_at_same s.loan t l new) (prio_loan_of x (least_of (s.lists q)))
-        | inr i ↦ rw (put_at_beside s.loan t l new o k i) (h.loans_are_least k o (sym (put_lock_other s.owner l (Some t) k i) ∙ e) w)
+        | inr i ↦ rw (put_at_beside s.loan t l new o k i) (h.loans.loans_are_least k o (sym (put_lock_other s.owner l (Some t) k i) ∙ e) w)
       ]
 
   -- a loan for the lock is the new one
@@ -133,7 +133,7 @@ module _ (c : Config) (s : State) (t l x : ℕ) (by_try : Bool) (g : MayClaim c 
   loans_owned u k y e =
       elim (cases_eq l k) [
         | inl i ↦ let r = only_new u y (ap (put_at s.loan t l new u) i ∙ e) in rw (← i, put_lock_same s.owner l (Some t)) (ap Some r.0)
-        | inr i ↦ rw (put_lock_other s.owner l (Some t) k i) (h.loans_are_with_owners u k y (sym (put_at_beside s.loan t l new u k i) ∙ e))
+        | inr i ↦ rw (put_lock_other s.owner l (Some t) k i) (h.loans.loans_are_with_owners u k y (sym (put_at_beside s.loan t l new u k i) ∙ e))
       ]
 
   loans_on_heads : LoansAreOnHeads n.loan n.head
@@ -141,20 +141,20 @@ module _ (c : Config) (s : State) (t l x : ℕ) (by_try : Bool) (g : MayClaim c 
   loans_on_heads u k y e =
       elim (cases_eq l k) [
         | inl i ↦ let r = only_new u y (ap (put_at s.loan t l new u) i ∙ e) in rw (← i) (g.head ∙ ap Some (number_loan_of x (least_of (s.lists q)) y r.1))
-        | inr i ↦ h.loans_are_on_heads u k y (sym (put_at_beside s.loan t l new u k i) ∙ e)
+        | inr i ↦ h.loans.loans_are_on_heads u k y (sym (put_at_beside s.loan t l new u k i) ∙ e)
       ]
 
   nowhere : (k : ℕ) → stands t (s.lists (lock_queue k)) ≡ 0
   unfolding StandsOnce
-  nowhere k = grind (arith, h.stands_once t (lock_queue k), g.acting.unnamed)
+  nowhere k = grind (arith, h.waits.stands_once t (lock_queue k), g.acting.unnamed)
 
   kept : KeptIsEffective c n.walk n.effective n.lists
   unfolding after_claim KeptIsEffective
-  kept k i = each_of-elsewhere c s.walk s.effective t _ (s.lists (lock_queue k)) (nowhere k) (h.kept_is_effective k i)
+  kept k i = each_of-elsewhere c s.walk s.effective t _ (s.lists (lock_queue k)) (nowhere k) (h.loans.kept_is_effective k i)
 
   new_known : (y : Loan) → new ≡ Some y → IsKnown c s.history y.prio
   unfolding KeptIsKnown
-  new_known y e = loan_of_known c s.history (s.lists q) x (h.kept_is_known l turnstile) y e
+  new_known y e = loan_of_known c s.history (s.lists q) x (h.loans.kept_is_known l turnstile) y e
 
   effective_known : EffectiveIsKnown c n.effective n.history
   unfolding after_claim

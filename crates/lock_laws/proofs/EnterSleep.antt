@@ -42,7 +42,7 @@ module _ (c : Config) (s : State) (t l : ℕ) (mode : Mode) (x : ℕ) (g : MayEn
       let d = sum_below-put_lock c.locks (λ j o. only (is_turnstile (c.kind j)) (times k o)) s.free_list l (free_with (s.head q) x (s.free_list q)) g.lock in
       let b2 = rw g.sleeps at b in
       let d2 = rw g.sleeps at d in
-      omega (arith, h.one_turnstile_each k)
+      omega (arith, h.queues.one_turnstile_each k)
 
   one_sleep_queue : OneSleepQueueEach c n.sleep_queue n.head n.free_list n.marked
   unfolding after_enter_sleep OneSleepQueueEach sleep_queue_places put_queue
@@ -54,25 +54,25 @@ module _ (c : Config) (s : State) (t l : ℕ) (mode : Mode) (x : ℕ) (g : MayEn
       let f = lent_object k x (s.head q) (s.free_list q) in
       let b2 = rw g.sleeps at b in
       let d2 = rw g.sleeps at d in
-      omega (arith, h.one_sleep_queue_each k)
+      omega (arith, h.queues.one_sleep_queue_each k)
 
   turnstile_lent : TurnstileIsLent c n.turnstile n.blocked_on
   unfolding after_enter_sleep TurnstileIsLent
-  turnstile_lent u = grind (arith, columns, h.turnstile_is_lent u)
+  turnstile_lent u = grind (arith, columns, h.queues.turnstile_is_lent u)
 
   sleep_queue_lent : SleepQueueIsLent c n.sleep_queue n.blocked_on
   unfolding after_enter_sleep SleepQueueIsLent
-  sleep_queue_lent u = grind (arith, columns, h.sleep_queue_is_lent u)
+  sleep_queue_lent u = grind (arith, columns, h.queues.sleep_queue_is_lent u)
 
   -- 2. The queue
 
   heads : HeadsFitWaiters n.lists n.free_list n.head n.owner
   unfolding after_enter_sleep HeadsFitWaiters
-  heads = heads_put_owned c s h q lists _ _ (head_fits (side_of mode) new (s.lists q) (s.free_list q) (s.head q) (s.owner q) x (h.heads_fit_waiters q))
+  heads = heads_put_owned c s h q lists _ _ (head_fits (side_of mode) new (s.lists q) (s.free_list q) (s.head q) (s.owner q) x (h.queues.heads_fit_waiters q))
 
   bits : BitsShowWaiters n.word n.lists
   unfolding after_enter_sleep BitsShowWaiters
-  bits k = grind (arith, columns, h.bits_show_waiters k, is_empty-last)
+  bits k = grind (arith, columns, h.queues.bits_show_waiters k, is_empty-last)
 
   -- 3. Standing, wanting and calling
 

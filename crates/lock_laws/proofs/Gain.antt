@@ -22,28 +22,28 @@ module _ (c : Config) (s : State) (t l : ℕ) (mode : Mode) (by_try : Bool) (g :
 
   bits : BitsShowWaiters n.word n.lists
   unfolding after_gain BitsShowWaiters
-  bits k = grind (arith, columns, h.bits_show_waiters k)
+  bits k = grind (arith, columns, h.queues.bits_show_waiters k)
 
   called : FreeWordHasCalled c n.word n.marked n.wait n.called
   unfolding after_gain FreeWordHasCalled callers CalledWants
   called k =
       let a = sum_below-put c.threads (at_option k) s.called t None g.thread in
-      grind (arith, columns, h.free_word_has_called k, h.called_wants t)
+      grind (arith, columns, h.waits.free_word_has_called k, h.waits.called_wants t)
 
   free_mutex : FreeMutexShowsNone c n.word
   unfolding after_gain FreeMutexShowsNone
-  free_mutex k e = grind (arith, columns, h.free_mutex_shows_none k e)
+  free_mutex k e = grind (arith, columns, h.waits.free_mutex_shows_none k e)
 
   holders : WordsMatchHolders c n.word n.held
   unfolding after_gain WordsMatchHolders
-  holders = all_match-put c s.word s.held t l _ (Holds mode) h.words_match_holders (matches-gain c (c.kind l) (s.word l) s.held t l mode g.thread g.admitted g.unheld (h.words_match_holders l))
+  holders = all_match-put c s.word s.held t l _ (Holds mode) h.words.words_match_holders (matches-gain c (c.kind l) (s.word l) s.held t l mode g.thread g.admitted g.unheld (h.words.words_match_holders l))
 
   owners : OwnersHold c n.owner n.head n.word
   unfolding after_gain OwnersHold BitsShowWaiters HeadsFitWaiters
   owners =
       at_put (λ k w. s.owner (lock_queue k) ≡ owner_if (is_turnstile (c.kind k)) (s.head (lock_queue k)) w.holder) s.word l _
-      (h.owners_hold l ∙ owner_gained (c.kind l) (s.word l) (s.lists (lock_queue l)) (s.free_list (lock_queue l)) (s.head (lock_queue l)) (s.owner (lock_queue l)) t mode g.admitted g.plainly (h.bits_show_waiters l) (h.heads_fit_waiters (lock_queue l)))
-      (λ k ne. h.owners_hold k)
+      (h.loans.owners_hold l ∙ owner_gained (c.kind l) (s.word l) (s.lists (lock_queue l)) (s.free_list (lock_queue l)) (s.head (lock_queue l)) (s.owner (lock_queue l)) t mode g.admitted g.plainly (h.queues.bits_show_waiters l) (h.queues.heads_fit_waiters (lock_queue l)))
+      (λ k ne. h.loans.owners_hold k)
 
   pub lawful : Lawful c n
   unfolding after_gain

@@ -20,12 +20,12 @@ use Rattle.lock_laws.proofs.Shown.{owner_from, exclusive_is, owner-owns, lent_he
 pub owner_holds : (c : Config) (s : State) (l o : ℕ) → Lawful c s → s.owner (lock_queue l) ≡ Some o → s.held o l ≡ Holds Excl
 unfolding OwnersHold WordsMatchHolders
 owner_holds c s l o h e =
-    let r = owner_from (is_turnstile (c.kind l)) (s.head (lock_queue l)) (s.word l).holder o (sym (h.owners_hold l) ∙ e) in
-    exclusive_is (s.held o l) ((h.words_match_holders l).owner o ∙ owner-owns o (s.word l).holder r.1)
+    let r = owner_from (is_turnstile (c.kind l)) (s.head (lock_queue l)) (s.word l).holder o (sym (h.loans.owners_hold l) ∙ e) in
+    exclusive_is (s.held o l) ((h.words.words_match_holders l).owner o ∙ owner-owns o (s.word l).holder r.1)
 
 pub owner_thread : (c : Config) (s : State) (l o : ℕ) → Lawful c s → s.owner (lock_queue l) ≡ Some o → o < c.threads
 unfolding OnlyThreadsHold
-owner_thread c s l o h e = h.only_threads_hold o l Excl (owner_holds c s l o h e)
+owner_thread c s l o h e = h.words.only_threads_hold o l Excl (owner_holds c s l o h e)
 
 -- 2. Turnstiles
 
@@ -52,7 +52,7 @@ unfolding OneTurnstileEach turnstile_places
 heads_out c s t l x h tt lt k et el =
     let a = sum_below-at c.threads (λ u. at_option x (s.turnstile u)) t tt in
     let b = sum_below-at c.locks (at_head c s x) l lt in
-    omega (arith, h.one_turnstile_each x, home_once s x t et, head_once c s x l k el, one_le (ltb x c.threads))
+    omega (arith, h.queues.one_turnstile_each x, home_once s x t et, head_once c s x l k el, one_le (ltb x c.threads))
 
 is_one : (b : Bool) → 1 ≤ one b → b ≡ true
 is_one true l = refl
@@ -63,7 +63,7 @@ home_inside : (c : Config) (s : State) (t x : ℕ) → Lawful c s → t < c.thre
 unfolding OneTurnstileEach turnstile_places
 home_inside c s t x h lt e =
     let a = sum_below-at c.threads (λ u. at_option x (s.turnstile u)) t lt in
-    is_one (ltb x c.threads) (omega (arith, h.one_turnstile_each x, home_once s x t e))
+    is_one (ltb x c.threads) (omega (arith, h.queues.one_turnstile_each x, home_once s x t e))
 
 -- 3. Loan nodes
 
@@ -72,7 +72,7 @@ unused_home : (c : Config) (s : State) (x : ℕ) → Lawful c s → ltb x c.thre
 unfolding OneNodeEach loans_on
 unused_home c s x h inside none =
     let a = sum_below-zero c.threads (λ u. sum_below c.locks (λ k. at_loan x (s.loan u k))) (λ u i. sum_below-zero c.locks (λ k. at_loan x (s.loan u k)) (λ k j. unused u k j (s.loan u k) refl)) in
-    home (ltb x c.threads) (s.loan_home x) inside (omega (arith, h.one_node_each x))
+    home (ltb x c.threads) (s.loan_home x) inside (omega (arith, h.queues.one_node_each x))
   where
     unused : (u k : ℕ) → k < c.locks → (o : Option Loan) → s.loan u k ≡ o → at_loan x o ≡ 0
     unused u k j None e = refl
@@ -86,7 +86,7 @@ unused_home c s x h inside none =
 -- the lock of a loan has a turnstile, whose head the loan is on
 loan_head : (c : Config) (s : State) (u k : ℕ) (y : Loan) → Lawful c s → s.loan u k ≡ Some y → (is_turnstile (c.kind k) ≡ true) × (s.head (lock_queue k) ≡ Some y.number)
 unfolding LoansAreOnHeads
-loan_head c s u k y h e = ((lent_held c s h u k y e).0, h.loans_are_on_heads u k y e)
+loan_head c s u k y h e = ((lent_held c s h u k y e).0, h.loans.loans_are_on_heads u k y e)
 
 pub node_home : (c : Config) (s : State) (t x : ℕ) → Lawful c s → t < c.threads → s.turnstile t ≡ Some x → s.loan_home x ≡ true
 node_home c s t x h lt e =
@@ -100,12 +100,12 @@ unlent_home c s l x h lt k e none =
 pub owned_home : (c : Config) (s : State) (l x o : ℕ) → Lawful c s → l < c.locks → is_turnstile (c.kind l) ≡ true
     → s.head (lock_queue l) ≡ Some x → s.owner (lock_queue l) ≡ Some o → s.loan o l ≡ None → s.loan_home x ≡ true
 unfolding LoansAreWithOwners
-owned_home c s l x o h lt k e w n = unlent_home c s l x h lt k e (λ u y f. let i : o ≡ u = (let a = sym w ∙ h.loans_are_with_owners u l y f in cc) in let z : None ≡ Some y = sym n ∙ ap (λ j. s.loan j l) i ∙ f in cc)
+owned_home c s l x o h lt k e w n = unlent_home c s l x h lt k e (λ u y f. let i : o ≡ u = (let a = sym w ∙ h.loans.loans_are_with_owners u l y f in cc) in let z : None ≡ Some y = sym n ∙ ap (λ j. s.loan j l) i ∙ f in cc)
 
 pub unowned_home : (c : Config) (s : State) (l x : ℕ) → Lawful c s → l < c.locks → is_turnstile (c.kind l) ≡ true
     → s.head (lock_queue l) ≡ Some x → s.owner (lock_queue l) ≡ None → s.loan_home x ≡ true
 unfolding LoansAreWithOwners
-unowned_home c s l x h lt k e w = unlent_home c s l x h lt k e (λ u y f. let z : None ≡ Some u = sym w ∙ h.loans_are_with_owners u l y f in cc)
+unowned_home c s l x h lt k e w = unlent_home c s l x h lt k e (λ u y f. let z : None ≡ Some u = sym w ∙ h.loans.loans_are_with_owners u l y f in cc)
 
 -- a head is that of a lock of the plan
 pub head_lock : (c : Config) (s : State) (l x : ℕ) → Lawful c s → is_turnstile (c.kind l) ≡ true → s.head (lock_queue l) ≡ Some x → l < c.locks
@@ -123,10 +123,10 @@ pub loan_out : (c : Config) (s : State) (t l : ℕ) (x : Loan) → Lawful c s �
 unfolding OneNodeEach loans_on OnlyThreadsHold
 loan_out c s t l x h e =
     let n = x.number in
-    let a = sum_below-at c.threads (λ u. sum_below c.locks (λ k. at_loan n (s.loan u k))) t (h.only_threads_hold t l Excl (lent_held c s h t l x e).1) in
+    let a = sum_below-at c.threads (λ u. sum_below c.locks (λ k. at_loan n (s.loan u k))) t (h.words.only_threads_hold t l Excl (lent_held c s h t l x e).1) in
     let b = sum_below-at c.locks (λ k. at_loan n (s.loan t k)) l (loan_lock c s t l x h e) in
     let d : at_loan n (s.loan t l) ≡ 1 = rw e (one_same n) in
-    out (ltb n c.threads) (s.loan_home n) (loans_on c s.loan n) (h.one_node_each n) (omega arith)
+    out (ltb n c.threads) (s.loan_home n) (loans_on c s.loan n) (h.queues.one_node_each n) (omega arith)
   where
     out : (b home : Bool) (k : ℕ) → one (b && home) + k ≡ one b → 1 ≤ k → home ≡ false
     out b false k i j = refl

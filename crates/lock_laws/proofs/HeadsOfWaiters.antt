@@ -20,4 +20,4 @@ fits_head lists free (Some x) owner u f k = (x, refl)
 
 pub standing_head : (c : Config) (s : State) (u : ℕ) (q : QueueName) → Lawful c s → 0 < stands u (s.lists q) → (x : ℕ) × (s.head q ≡ Some x)
 unfolding HeadsFitWaiters
-standing_head c s u q h k = fits_head (s.lists q) (s.free_list q) (s.head q) (s.owner q) u (h.heads_fit_waiters q) k
+standing_head c s u q h k = fits_head (s.lists q) (s.free_list q) (s.head q) (s.owner q) u (h.queues.heads_fit_waiters q) k

@@ -196,7 +196,7 @@ stands_there c s t h unmarked e = go (s.blocked_on t) refl
     go (Some q) f =
         let none = sum_below-zero c.threads (λ u. times_marked t q (s.marked u)) (λ u l. ap (times_marked t q) (unmarked u l)) in
         let named : at_queue q (s.blocked_on t) ≡ 1 = ap (at_queue q) f ∙ ap one (is_queue_same q) in
-        (q, omega (arith, none, named, h.lawful.stands_once t q))
+        (q, omega (arith, none, named, h.lawful.waits.stands_once t q))
 
 pub stuck_sleeps : (plan : Plan) (n t : ℕ) → IsProper plan → is_stuck (course_after plan n) ≡ true → t < length plan.threads → has_ended plan (course_after plan n).run t ≡ false
     → IsSleeping plan (course_after plan n).run t × ((q : QueueName) × (stands t ((course_after plan n).run.state.lists q) ≡ 1))

@@ -81,7 +81,7 @@ taken_narrow c s t i g h u j k p q =
       ]
       | inr x ↦ elim (changed s i (Some t) k u q) [
         | inl y ↦ subst (λ a. go_together j a ≡ true) y.0 ((g.together j (x ∙ sym y.1)).1)
-        | inr y ↦ h.out_is_narrow u j k x y
+        | inr y ↦ h.items.out_is_narrow u j k x y
       ]
     ]
 
@@ -90,7 +90,7 @@ unfolding OutIsNarrow
 given_narrow c s i h u j k p q =
     elim (changed s i None j u p) [
       | inl x ↦ absurd (let e = x.1 in cc)
-      | inr x ↦ elim (changed s i None k u q) [ inl y ↦ absurd (let e = y.1 in cc) | inr y ↦ h.out_is_narrow u j k x y ]
+      | inr x ↦ elim (changed s i None k u q) [ inl y ↦ absurd (let e = y.1 in cc) | inr y ↦ h.items.out_is_narrow u j k x y ]
     ]
 
 pub take_lawful : (c : Config) (s : State) (t : ℕ) (i : Item) → MayTake c s t i → Lawful c s → Lawful c (after_take s t i)

@@ -105,18 +105,18 @@ all_made plan r t e = elim (cases_lt t (length plan.threads)) [
 legal_on_track : (plan : Plan) (r : Run) (cut_short : Bool) → IsOnTrack plan r → (cut_short ≡ false → all_ended plan r ≡ true) → IsLegal plan false cut_short r.state.history
 unfolding EntriesFollowOperations
 legal_on_track plan r cut_short k whole = record {
-  tickets_run = k.lawful.lawful.tickets_run;
+  tickets_run = k.lawful.lawful.books.tickets_run;
   entries_follow_operations = λ t. record {
     place = Before (r.next_op t);
     leads = k.follows t;
     whole = λ e. omega (arith, k.within t, all_made plan r t (whole e));
   };
-  sections_exclude = k.lawful.lawful.sections_exclude;
-  edits_in_sections = k.lawful.lawful.edits_in_sections;
-  reads_replay = k.lawful.lawful.reads_replay;
+  sections_exclude = k.lawful.lawful.books.sections_exclude;
+  edits_in_sections = k.lawful.lawful.books.edits_in_sections;
+  reads_replay = k.lawful.lawful.books.reads_replay;
   wakings_name_sleepers = wakings (config_of plan) r.state.history k.no_sleeps;
   halts_only_when_running = halts r.state.history k.no_sleeps;
-  shown_is_explained = k.lawful.lawful.shown_is_explained;
+  shown_is_explained = k.lawful.lawful.books.shown_is_explained;
 }
 
 pub runs_are_legal : (plan : Plan) (turns : List ℕ) → IsProper plan → All (λ t. t < length plan.threads) turns → IsLegal plan false true (after_turns plan turns).state.history

@@ -10,7 +10,7 @@ use Rattle.lock_model.specs.Holds.{Holds}
 use Rattle.lock_state.specs.Steps.LockWords.{effective_of}
 use Rattle.lock_state.specs.Steps.Lending.{MayLend, after_lend, loan_of, walk_to}
 use Rattle.lock_state.specs.Facts.{Lawful, OneNodeEach, StandsOnce, WordsMatchHolders, OnlyThreadsHold, EffectiveIsLeast, OwnersHold, LoansAreLeast, LoansAreWithOwners, LoansAreOnHeads, KeptIsEffective, EffectiveIsKnown, LoansAreKnown, KeptIsKnown}
-use Rattle.lock_state.specs.Facts.Loans.{IsKept, IsKnown, walks_at_lock, walks_at_thread, at_lock, at_thread}
+use Rattle.lock_state.specs.Facts.Loans.{IsKept, IsKnown, walkers_at_lock, walkers_at_thread, at_lock, at_thread}
 use Rattle.lock_model.specs.declared.plan.Mode.TheVariants.{Excl}
 use Rattle.lock_model.specs.declared.plan.QueueName.{QueueName}
 use Rattle.lock_laws.proofs.Kit.{columns, put_at_same, put_at_other, put_at_beside, sum_below-put, at_queue_one}
@@ -41,16 +41,16 @@ module _ (c : Config) (s : State) (t l o x : ℕ) (g : MayLend c s t l o x) (h :
   owned : (is_turnstile (c.kind l) ≡ true) × (s.held o l ≡ Holds Excl)
   unfolding OwnersHold WordsMatchHolders
   owned =
-      let r = owner_from (is_turnstile (c.kind l)) (s.head q) (s.word l).holder o (sym (h.owners_hold l) ∙ g.owned) in
-      (r.0, exclusive_is (s.held o l) ((h.words_match_holders l).owner o ∙ owner-owns o (s.word l).holder r.1))
+      let r = owner_from (is_turnstile (c.kind l)) (s.head q) (s.word l).holder o (sym (h.loans.owners_hold l) ∙ g.owned) in
+      (r.0, exclusive_is (s.held o l) ((h.words.words_match_holders l).owner o ∙ owner-owns o (s.word l).holder r.1))
 
   thread : o < c.threads
   unfolding OnlyThreadsHold
-  thread = h.only_threads_hold o l Excl owned.1
+  thread = h.words.only_threads_hold o l Excl owned.1
 
   mine : (u : ℕ) (y : Loan) → s.loan u l ≡ Some y → u ≡ o
   unfolding LoansAreWithOwners
-  mine u y i = let z = sym (h.loans_are_with_owners u l y i) ∙ g.owned in cc
+  mine u y i = let z = sym (h.loans.loans_are_with_owners u l y i) ∙ g.owned in cc
 
   nodes : OneNodeEach c n.loan_home n.loan
   unfolding after_lend
@@ -58,10 +58,10 @@ module _ (c : Config) (s : State) (t l o x : ℕ) (g : MayLend c s t l o x) (h :
 
   least : EffectiveIsLeast c n.effective n.base n.loan
   unfolding after_lend
-  least = effective-put c s.effective s.base s.loan o l new h.effective_is_least
+  least = effective-put c s.effective s.base s.loan o l new h.loans.effective_is_least
 
   loans_least : LoansAreLeast c n.owner n.walk n.loan n.lists
-  unfolding after_lend LoansAreLeast walks_at_lock
+  unfolding after_lend LoansAreLeast walkers_at_lock
   loans_least k u i w =
       let a = sum_below-put c.threads (at_lock k) s.walk t (walk_to o goes) g.thread in
       let b = ap (at_lock k) g.walks in
@@ -72,7 +72,7 @@ module _ (c : Config) (s : State) (t l o x : ℕ) (g : MayLend c s t l o x) (h :
         | inr j ↦
             let d = at_lock-walk_to k o goes in
             let f : one (eqb k l) ≡ 0 = ap one (ne_eqb k l (λ r. j (sym r))) in
-            rw (put_at_beside s.loan o l new u k j) (h.loans_are_least k u i (omega arith))
+            rw (put_at_beside s.loan o l new u k j) (h.loans.loans_are_least k u i (omega arith))
       ]
 
   loans_owned : LoansAreWithOwners n.loan n.owner
@@ -81,9 +81,9 @@ module _ (c : Config) (s : State) (t l o x : ℕ) (g : MayLend c s t l o x) (h :
       elim (cases_eq l k) [
         | inl j ↦ elim (cases_eq o u) [
           | inl z ↦ rw (← j, ← z) g.owned
-          | inr z ↦ h.loans_are_with_owners u k y (sym (put_at_other s.loan o l new u k z) ∙ i)
+          | inr z ↦ h.loans.loans_are_with_owners u k y (sym (put_at_other s.loan o l new u k z) ∙ i)
         ]
-        | inr j ↦ h.loans_are_with_owners u k y (sym (put_at_beside s.loan o l new u k j) ∙ i)
+        | inr j ↦ h.loans.loans_are_with_owners u k y (sym (put_at_beside s.loan o l new u k j) ∙ i)
       ]
 
   loans_on_heads : LoansAreOnHeads n.loan n.head
@@ -92,19 +92,19 @@ module _ (c : Config) (s : State) (t l o x : ℕ) (g : MayLend c s t l o x) (h :
       elim (cases_eq l k) [
         | inl j ↦ elim (cases_eq o u) [
           | inl z ↦ rw (← j) (g.head ∙ ap Some (number_loan_of x (least_of (s.lists q)) y (sym (put_at_same s.loan o l new) ∙ ap (λ r. put_at s.loan o l new r l) z ∙ ap (put_at s.loan o l new u) j ∙ i)))
-          | inr z ↦ h.loans_are_on_heads u k y (sym (put_at_other s.loan o l new u k z) ∙ i)
+          | inr z ↦ h.loans.loans_are_on_heads u k y (sym (put_at_other s.loan o l new u k z) ∙ i)
         ]
-        | inr j ↦ h.loans_are_on_heads u k y (sym (put_at_beside s.loan o l new u k j) ∙ i)
+        | inr j ↦ h.loans.loans_are_on_heads u k y (sym (put_at_beside s.loan o l new u k j) ∙ i)
       ]
 
   -- where the owner stands on a turnstile, its record names it
   names : (k : ℕ) → is_turnstile (c.kind k) ≡ true → 1 ≤ stands o (s.lists (lock_queue k)) → names_turnstile c (s.blocked_on o) ≡ true
   unfolding StandsOnce
-  names k i p = let a = at_queue_one (lock_queue k) (s.blocked_on o) (omega (arith, h.stands_once o (lock_queue k))) in rw a i
+  names k i p = let a = at_queue_one (lock_queue k) (s.blocked_on o) (omega (arith, h.waits.stands_once o (lock_queue k))) in rw a i
 
   -- the owner's entry keeps its effective priority, or a walk goes to the owner
   still : (k : ℕ) → is_turnstile (c.kind k) ≡ true → (w : Waiter) → 1 ≤ stands w.thread (s.lists (lock_queue k)) → IsKept c s.walk s.effective w → IsKept c n.walk n.effective w
-  unfolding after_lend walks_at_thread
+  unfolding after_lend walkers_at_thread
   still k i w p kept none =
       let a = sum_below-put c.threads (at_thread w.thread) s.walk t (walk_to o goes) g.thread in
       let d = ap (at_thread w.thread) g.walks in
@@ -113,11 +113,11 @@ module _ (c : Config) (s : State) (t l o x : ℕ) (g : MayLend c s t l o x) (h :
 
   kept : KeptIsEffective c n.walk n.effective n.lists
   unfolding after_lend KeptIsEffective
-  kept k i = each_of-map (IsKept c s.walk s.effective) (IsKept c n.walk n.effective) (s.lists (lock_queue k)) (still k i) (h.kept_is_effective k i)
+  kept k i = each_of-map (IsKept c s.walk s.effective) (IsKept c n.walk n.effective) (s.lists (lock_queue k)) (still k i) (h.loans.kept_is_effective k i)
 
   new_known : (y : Loan) → new ≡ Some y → IsKnown c s.history y.prio
   unfolding KeptIsKnown
-  new_known y i = loan_of_known c s.history (s.lists q) x (h.kept_is_known l owned.0) y i
+  new_known y i = loan_of_known c s.history (s.lists q) x (h.loans.kept_is_known l owned.0) y i
 
   effective_known : EffectiveIsKnown c n.effective n.history
   unfolding after_lend

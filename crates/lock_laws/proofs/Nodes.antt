@@ -64,7 +64,7 @@ module _ (c : Config) (s : State) (h : Lawful c s) where
   -- the effective priority of a thread whose loan is changed is known, where the loan is
   pub loan_known : (t l : ℕ) (v : Option Loan) → ((x : Loan) → v ≡ Some x → IsKnown c s.history x.prio) → LoansAreKnown c (put_at s.loan t l v) s.history
   unfolding LoansAreKnown
-  loan_known t l v k u j x e = grind (arith, put_at_same, put_at_other, put_at_beside, h.loans_are_known u j x, k x)
+  loan_known t l v k u j x e = grind (arith, put_at_same, put_at_other, put_at_beside, h.loans.loans_are_known u j x, k x)
 
   pub changed_known : (t l : ℕ) (v : Option Loan) → t < c.threads → ((x : Loan) → v ≡ Some x → IsKnown c s.history x.prio)
       → EffectiveIsKnown c (put s.effective t (effective_of c (put (s.loan t) l v) (s.base t))) s.history
@@ -72,7 +72,7 @@ module _ (c : Config) (s : State) (h : Lawful c s) where
   changed_known t l v lt k u lu =
       elim (cases_eq t u) [
         | inl e ↦ rw (← e, put_same s.effective t (effective_of c (put (s.loan t) l v) (s.base t))) here
-        | inr e ↦ rw (put_other s.effective t (effective_of c (put (s.loan t) l v) (s.base t)) u e) (h.effective_is_known u lu)
+        | inr e ↦ rw (put_other s.effective t (effective_of c (put (s.loan t) l v) (s.base t)) u e) (h.loans.effective_is_known u lu)
       ]
     where
       one_loan : (o : Option Loan) → ((x : Loan) → o ≡ Some x → IsKnown c s.history x.prio) → (p : ℕ) → prio_of o ≡ Some p → IsKnown c s.history p
@@ -80,10 +80,10 @@ module _ (c : Config) (s : State) (h : Lawful c s) where
       one_loan (Some x) f p e = subst (IsKnown c s.history) (let i : x.prio ≡ p = cc in i) (f x refl)
 
       each_loan : (j : ℕ) (x : Loan) → put (s.loan t) l v j ≡ Some x → IsKnown c s.history x.prio
-      each_loan j x e = elim (cases_eq l j) [ inl i ↦ k x (sym (put_same (s.loan t) l v) ∙ ap (put (s.loan t) l v) i ∙ e) | inr i ↦ h.loans_are_known t j x (sym (put_other (s.loan t) l v j i) ∙ e) ]
+      each_loan j x e = elim (cases_eq l j) [ inl i ↦ k x (sym (put_same (s.loan t) l v) ∙ ap (put (s.loan t) l v) i ∙ e) | inr i ↦ h.loans.loans_are_known t j x (sym (put_other (s.loan t) l v j i) ∙ e) ]
 
       here : IsKnown c s.history (effective_of c (put (s.loan t) l v) (s.base t))
-      here = by_least (IsKnown c s.history) c.locks (λ j. prio_of (put (s.loan t) l v j)) (s.base t) (subst (IsKnown c s.history) (sym (h.bases_replay t)) (base_known c s.history t lt)) (λ j p i e. one_loan (put (s.loan t) l v j) (each_loan j) p e)
+      here = by_least (IsKnown c s.history) c.locks (λ j. prio_of (put (s.loan t) l v j)) (s.base t) (subst (IsKnown c s.history) (sym (h.books.bases_replay t)) (base_known c s.history t lt)) (λ j p i e. one_loan (put (s.loan t) l v j) (each_loan j) p e)
 
 -- The loan that is made of a queue with waiters
 
@@ -138,7 +138,7 @@ loan_of_known c es q h k x e = least_known c es q x.prio k (sym (prio_loan_of h 
 module _ (c : Config) (s : State) (h : Lawful c s) where
   pub some_waiting : (l y : ℕ) → s.head (lock_queue l) ≡ Some y → 1 ≤ waiting (s.lists (lock_queue l))
   unfolding HeadsFitWaiters
-  some_waiting l y e = let a = ap some e in omega (arith, (h.heads_fit_waiters (lock_queue l)).balanced)
+  some_waiting l y e = let a = ap some e in omega (arith, (h.queues.heads_fit_waiters (lock_queue l)).balanced)
 
   -- two turnstiles have different heads
   pub heads_differ : (l k y : ℕ) → l < c.locks → k < c.locks → is_turnstile (c.kind l) ≡ true → is_turnstile (c.kind k) ≡ true → s.head (lock_queue l) ≡ Some y → s.head (lock_queue k) ≡ Some y → l ≡ k
@@ -152,7 +152,7 @@ module _ (c : Config) (s : State) (h : Lawful c s) where
             let b : f l ≡ 1 = rw (tl, el) (one_same y) in
             let d : f k ≡ 1 = rw (tk, ek) (one_same y) in
             let e = one_le (ltb y c.threads) in
-            absurd (omega (arith, h.one_turnstile_each y))
+            absurd (omega (arith, h.queues.one_turnstile_each y))
       ]
     where
       one_le : (b : Bool) → one b ≤ 1
@@ -169,7 +169,7 @@ module _ (c : Config) (s : State) (h : Lawful c s) where
       go u k j (Some x) z =
           elim (cases_eq y x.number) [
             | inl i ↦
-                let d = heads_differ l k y lt j t ((lent_held c s h u k x z).0) e (h.loans_are_on_heads u k x z ∙ ap Some (sym i)) in
+                let d = heads_differ l k y lt j t ((lent_held c s h u k x z).0) e (h.loans.loans_are_on_heads u k x z ∙ ap Some (sym i)) in
                 absurd (none u x (ap (s.loan u) d ∙ z))
             | inr i ↦ ap one (ne_eqb y x.number i)
           ]
@@ -184,7 +184,7 @@ module _ (c : Config) (s : State) (h : Lawful c s) where
       let f : ℕ → ℕ = λ j. only (is_turnstile (c.kind j)) (at_option y (s.head (lock_queue j))) in
       let a = sum_below-at c.locks f l lt in
       let b : f l ≡ 1 = rw (t, e) (one_same y) in
-      is_one (ltb y c.threads) (omega (arith, h.one_turnstile_each y))
+      is_one (ltb y c.threads) (omega (arith, h.queues.one_turnstile_each y))
     where
       is_one : (b : Bool) → 1 ≤ one b → b ≡ true
       is_one true k = refl
@@ -200,7 +200,7 @@ module _ (c : Config) (s : State) (h : Lawful c s) where
       changed = let a = loans_on-put c s.loan o l (lent l y) n lo lt in let b = on_node y (s.lists (lock_queue l)) n (some_waiting l y e) in omega arith
 
       elsewhere : (y ≡ n → ⊥) → at_loan n (s.loan o l) ≡ 0 → one (ltb n c.threads && put s.loan_home y false n) + loans_on c (put_at s.loan o l (lent l y)) n ≡ one (ltb n c.threads)
-      elsewhere i z = rw (put_other s.loan_home y false n i) (let d : one (eqb n y) ≡ 0 = ap one (ne_eqb n y (λ j. i (sym j))) in omega (arith, changed, h.one_node_each n))
+      elsewhere i z = rw (put_other s.loan_home y false n i) (let d : one (eqb n y) ≡ 0 = ap one (ne_eqb n y (λ j. i (sym j))) in omega (arith, changed, h.queues.one_node_each n))
 
       go : (x : Option Loan) → s.loan o l ≡ x → one (ltb n c.threads && put s.loan_home y false n) + loans_on c (put_at s.loan o l (lent l y)) n ≡ one (ltb n c.threads)
       go None z =
@@ -215,7 +215,7 @@ module _ (c : Config) (s : State) (h : Lawful c s) where
             | inr i ↦ elsewhere i a
           ]
       go (Some x) z =
-          let k : y ≡ x.number = (let m = sym e ∙ h.loans_are_on_heads o l x z in cc) in
+          let k : y ≡ x.number = (let m = sym e ∙ h.loans.loans_are_on_heads o l x z in cc) in
           let a = ap (at_loan n) z in
           let a2 : at_loan n (s.loan o l) ≡ one (eqb n y) = rw k a in
           elim (cases_eq y n) [
@@ -224,7 +224,7 @@ module _ (c : Config) (s : State) (h : Lawful c s) where
                 let a3 = rw (← i) at a2 in
                 let f = one_same y in
                 let m = rw (← i) at changed in
-                let r = on_loan (ltb y c.threads) (s.loan_home y) (loans_on c s.loan y) (h.one_node_each y) (omega arith) in
+                let r = on_loan (ltb y c.threads) (s.loan_home y) (loans_on c s.loan y) (h.queues.one_node_each y) (omega arith) in
                 let r1 = r.1 in
                 rw (← i, put_same s.loan_home y false, r.0) (omega arith)
             | inr i ↦ let d : one (eqb n y) ≡ 0 = ap one (ne_eqb n y (λ j. i (sym j))) in elsewhere i (a2 ∙ d)

@@ -30,7 +30,7 @@ node_carries c s l o h lawful lt k e w = go (s.loan o l) refl
     go : (x : Option Loan) → s.loan o l ≡ x → number_of x ≡ out_of (s.loan_home h) h
     go None i = sym (ap (λ b. out_of b h) (owned_home c s l h o lawful lt k e w i))
     go (Some x) i =
-        let n : x.number ≡ h = (let a = sym (lawful.loans_are_on_heads o l x i) ∙ e in cc) in
+        let n : x.number ≡ h = (let a = sym (lawful.loans.loans_are_on_heads o l x i) ∙ e in cc) in
         let away : s.loan_home h ≡ false = ap s.loan_home (sym n) ∙ loan_out c s o l x lawful i in
         ap Some n ∙ sym (ap (λ b. out_of b h) away)
 

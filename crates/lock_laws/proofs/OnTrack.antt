@@ -171,7 +171,7 @@ module _ (plan : Plan) (r : Run) (t : ℕ) (k : IsOnTrack plan r) where
     where
       go : (o : Option QueueName) → r.state.blocked_on t ≡ o → o ≡ None
       go None e = refl
-      go (Some q) e = absurd (let z = sym running ∙ k.lawful.lawful.standing_is_queued t q e in cc)
+      go (Some q) e = absurd (let z = sym running ∙ k.lawful.lawful.waits.standing_is_queued t q e in cc)
 
   pub acting : r.state.wait t ≡ Running → IsActing r.state t
   acting running = record { unnamed = unnamed running; unwoken = ap is_woken running }

@@ -42,7 +42,7 @@ module _ (c : Config) (s : State) (h : Lawful c s) (q : QueueName) (lists : List
     where
       go : (b : Bool) → HeadFits (cond b lists (s.lists r)) (cond b free (s.free_list r)) (cond b head (s.head r)) (cond b owner (s.owner r))
       go true = here
-      go false = h.heads_fit_waiters r
+      go false = h.queues.heads_fit_waiters r
 
   -- the owner stays
   pub heads_put_owned : (free : List ℕ) (head : Option ℕ) → HeadFits lists free head (s.owner q) → HeadsFitWaiters (put_queue s.lists q lists) (put_queue s.free_list q free) (put_queue s.head q head) s.owner
@@ -51,7 +51,7 @@ module _ (c : Config) (s : State) (h : Lawful c s) (q : QueueName) (lists : List
     where
       go : (b : Bool) → is_queue q r ≡ b → HeadFits (cond b lists (s.lists r)) (cond b free (s.free_list r)) (cond b head (s.head r)) (s.owner r)
       go true e = subst (λ i. HeadFits lists free head (s.owner i)) (is_queue_true q r e) here
-      go false e = h.heads_fit_waiters r
+      go false e = h.queues.heads_fit_waiters r
 
   -- 2. Who stands there
 
@@ -59,11 +59,11 @@ module _ (c : Config) (s : State) (h : Lawful c s) (q : QueueName) (lists : List
   module _ (t : ℕ) (unnamed : s.blocked_on t ≡ None) (more : (u : ℕ) → stands u lists ≡ one (eqb u t) + stands u (s.lists q)) where
     here_more : (u : ℕ) → stands u lists + sum_below c.threads (λ v. times_marked u q (s.marked v)) ≡ at_queue q (put s.blocked_on t (Some q) u)
     unfolding StandsOnce
-    here_more u = grind (arith, columns, h.stands_once u q, more u, is_queue_same q, unnamed)
+    here_more u = grind (arith, columns, h.waits.stands_once u q, more u, is_queue_same q, unnamed)
 
     there_more : (u : ℕ) (r : QueueName) → is_queue q r ≡ false → stands u (s.lists r) + sum_below c.threads (λ v. times_marked u r (s.marked v)) ≡ at_queue r (put s.blocked_on t (Some q) u)
     unfolding StandsOnce
-    there_more u r e = let f = other_queue q r e in grind (arith, columns, h.stands_once u r, unnamed)
+    there_more u r e = let f = other_queue q r e in grind (arith, columns, h.waits.stands_once u r, unnamed)
 
     pub stand_more : StandsOnce c (put_queue s.lists q lists) s.marked (put s.blocked_on t (Some q))
     unfolding StandsOnce
@@ -77,7 +77,7 @@ module _ (c : Config) (s : State) (h : Lawful c s) (q : QueueName) (lists : List
         let a = sum_below-put c.threads (times_marked u q) s.marked t (dealt q woken (s.free_list q) (s.head q)) thread in
         let e = ap (times_marked u q) unmarked in
         let d = times_marked-dealt u q woken (s.free_list q) (s.head q) fits in
-        omega (arith, h.stands_once u q, less u)
+        omega (arith, h.waits.stands_once u q, less u)
 
     there_less : (u : ℕ) (r : QueueName) → is_queue q r ≡ false → stands u (s.lists r) + sum_below c.threads (λ v. times_marked u r (put s.marked t (dealt q woken (s.free_list q) (s.head q)) v)) ≡ at_queue r (s.blocked_on u)
     unfolding StandsOnce
@@ -85,7 +85,7 @@ module _ (c : Config) (s : State) (h : Lawful c s) (q : QueueName) (lists : List
         let a = sum_below-put c.threads (times_marked u r) s.marked t (dealt q woken (s.free_list q) (s.head q)) thread in
         let e = ap (times_marked u r) unmarked in
         let d = times_marked-elsewhere u r q (other_queue q r i) woken (s.free_list q) (s.head q) in
-        omega (arith, h.stands_once u r)
+        omega (arith, h.waits.stands_once u r)
 
     pub stand_less : StandsOnce c (put_queue s.lists q lists) (put s.marked t (dealt q woken (s.free_list q) (s.head q))) s.blocked_on
     unfolding StandsOnce

@@ -65,11 +65,11 @@ module _ (c : Config) (s : State) (t l : ℕ) (mode : Mode) (g : MayOpen c s t l
 
   fits : length woken ≤ length (s.free_list q) + some (s.head q)
   unfolding HeadsFitWaiters
-  fits = omega (arith, waiting-less side (s.lists q), (h.heads_fit_waiters q).balanced)
+  fits = omega (arith, waiting-less side (s.lists q), (h.queues.heads_fit_waiters q).balanced)
 
   some_woken : is_empty woken ≡ false
   unfolding BitsShowWaiters MutexWaitersAreExclusive
-  some_woken = side_shown (c.kind l) (s.word l) (s.lists q) g.turnstile (h.bits_show_waiters l) g.shown (h.mutex_waiters_are_exclusive l)
+  some_woken = side_shown (c.kind l) (s.word l) (s.lists q) g.turnstile (h.queues.bits_show_waiters l) g.shown (h.queues.mutex_waiters_are_exclusive l)
 
   -- 1. Places
 
@@ -83,7 +83,7 @@ module _ (c : Config) (s : State) (t l : ℕ) (mode : Mode) (g : MayOpen c s t l
       let f = turnstiles-dealt c k q g.turnstile woken (s.free_list q) (s.head q) in
       let b2 = rw g.turnstile at b in
       let d2 = rw g.turnstile at d in
-      omega (arith, h.one_turnstile_each k)
+      omega (arith, h.queues.one_turnstile_each k)
 
   one_sleep_queue : OneSleepQueueEach c n.sleep_queue n.head n.free_list n.marked
   unfolding after_open OneSleepQueueEach sleep_queue_places put_queue
@@ -95,25 +95,25 @@ module _ (c : Config) (s : State) (t l : ℕ) (mode : Mode) (g : MayOpen c s t l
       let f = sleep_queues-dealt c k q g.turnstile woken (s.free_list q) (s.head q) in
       let b2 = rw g.turnstile at b in
       let d2 = rw g.turnstile at d in
-      omega (arith, h.one_sleep_queue_each k)
+      omega (arith, h.queues.one_sleep_queue_each k)
 
   nodes : OneNodeEach c n.loan_home n.loan
   unfolding after_open
-  nodes = node_returned c s.loan_home s.loan t l g.thread g.lock h.one_node_each
+  nodes = node_returned c s.loan_home s.loan t l g.thread g.lock h.queues.one_node_each
 
   -- 2. The queue
 
   heads : HeadsFitWaiters n.lists n.free_list n.head n.owner
   unfolding after_open HeadsFitWaiters
-  heads = heads_put c s h q (with_list side [] (s.lists q)) _ _ _ (head_fits side (s.lists q) (s.free_list q) (s.head q) (s.owner q) (h.heads_fit_waiters q))
+  heads = heads_put c s h q (with_list side [] (s.lists q)) _ _ _ (head_fits side (s.lists q) (s.free_list q) (s.head q) (s.owner q) (h.queues.heads_fit_waiters q))
 
   ascend : ListsAscend c n.lists
   unfolding after_open ListsAscend
-  ascend k e = grind (arith, columns, h.lists_ascend k e)
+  ascend k e = grind (arith, columns, h.queues.lists_ascend k e)
 
   mutex_waiters : MutexWaitersAreExclusive c n.lists
   unfolding after_open MutexWaitersAreExclusive
-  mutex_waiters k e = grind (arith, columns, h.mutex_waiters_are_exclusive k e)
+  mutex_waiters k e = grind (arith, columns, h.queues.mutex_waiters_are_exclusive k e)
 
   -- 3. Standing and calling
 
@@ -123,7 +123,7 @@ module _ (c : Config) (s : State) (t l : ℕ) (mode : Mode) (g : MayOpen c s t l
 
   free_mutex : FreeMutexShowsNone c n.word
   unfolding after_open FreeMutexShowsNone BitsShowWaiters MutexWaitersAreExclusive
-  free_mutex k e = grind (arith, columns, h.free_mutex_shows_none k e, h.bits_show_waiters k, h.mutex_waiters_are_exclusive k e)
+  free_mutex k e = grind (arith, columns, h.waits.free_mutex_shows_none k e, h.queues.bits_show_waiters k, h.queues.mutex_waiters_are_exclusive k e)
 
   -- 4. Words and owners
 
@@ -132,18 +132,18 @@ module _ (c : Config) (s : State) (t l : ℕ) (mode : Mode) (g : MayOpen c s t l
   owners k =
       elim (cases_eq l k) [
         | inl e ↦ rw (← e) (simp (put_same, put_lock_same) (sym (no_owner (is_turnstile (c.kind l)) (head_after woken (s.free_list q) (s.head q)))))
-        | inr e ↦ rw (put_other s.word l (opened (c.kind l) (s.word l)) k e, put_lock_other s.head l (head_after woken (s.free_list q) (s.head q)) k e, put_lock_other s.owner l None k e) (h.owners_hold k)
+        | inr e ↦ rw (put_other s.word l (opened (c.kind l) (s.word l)) k e, put_lock_other s.head l (head_after woken (s.free_list q) (s.head q)) k e, put_lock_other s.owner l None k e) (h.loans.owners_hold k)
       ]
 
   channels : ChannelsHaveNoOwner n.owner
   unfolding after_open ChannelsHaveNoOwner put_queue
-  channels d = h.channels_have_no_owner d
+  channels d = h.loans.channels_have_no_owner d
 
   -- 5. Loans and kept priorities
 
   least : EffectiveIsLeast c n.effective n.base n.loan
   unfolding after_open
-  least = effective-put c s.effective s.base s.loan t l None h.effective_is_least
+  least = effective-put c s.effective s.base s.loan t l None h.loans.effective_is_least
 
   -- no loan for the lock is left
   gone : (u : ℕ) (x : Loan) → put_at s.loan t l None u l ≡ Some x → ⊥
@@ -157,14 +157,14 @@ module _ (c : Config) (s : State) (t l : ℕ) (mode : Mode) (g : MayOpen c s t l
 
   loans_least : LoansAreLeast c n.owner n.walk n.loan n.lists
   unfolding after_open LoansAreLeast
-  loans_least k o = grind (arith, columns, h.loans_are_least k o)
+  loans_least k o = grind (arith, columns, h.loans.loans_are_least k o)
 
   loans_owned : LoansAreWithOwners n.loan n.owner
   unfolding after_open LoansAreWithOwners
   loans_owned u k x e =
       elim (cases_eq l k) [
         | inl i ↦ absurd (gone u x (ap (put_at s.loan t l None u) i ∙ e))
-        | inr i ↦ rw (put_lock_other s.owner l None k i) (h.loans_are_with_owners u k x (sym (put_at_beside s.loan t l None u k i) ∙ e))
+        | inr i ↦ rw (put_lock_other s.owner l None k i) (h.loans.loans_are_with_owners u k x (sym (put_at_beside s.loan t l None u k i) ∙ e))
       ]
 
   loans_on_heads : LoansAreOnHeads n.loan n.head
@@ -172,12 +172,12 @@ module _ (c : Config) (s : State) (t l : ℕ) (mode : Mode) (g : MayOpen c s t l
   loans_on_heads u k x e =
       elim (cases_eq l k) [
         | inl i ↦ absurd (gone u x (ap (put_at s.loan t l None u) i ∙ e))
-        | inr i ↦ rw (put_lock_other s.head l (head_after woken (s.free_list q) (s.head q)) k i) (h.loans_are_on_heads u k x (sym (put_at_beside s.loan t l None u k i) ∙ e))
+        | inr i ↦ rw (put_lock_other s.head l (head_after woken (s.free_list q) (s.head q)) k i) (h.loans.loans_are_on_heads u k x (sym (put_at_beside s.loan t l None u k i) ∙ e))
       ]
 
   nowhere : (k : ℕ) → is_turnstile (c.kind k) ≡ true → stands t (s.lists (lock_queue k)) ≡ 0
   unfolding StandsOnce
-  nowhere k i = let a = off (s.blocked_on t) refl in omega (arith, h.stands_once t (lock_queue k))
+  nowhere k i = let a = off (s.blocked_on t) refl in omega (arith, h.waits.stands_once t (lock_queue k))
     where
       off : (o : Option QueueName) → s.blocked_on t ≡ o → at_queue (lock_queue k) o ≡ 0
       off None y = refl
@@ -191,7 +191,7 @@ module _ (c : Config) (s : State) (t l : ℕ) (mode : Mode) (g : MayOpen c s t l
   unfolding after_open KeptIsEffective
   kept =
       let Q : Waiter → Type 0 = IsKept c s.walk n.effective in
-      let move : (k : ℕ) → is_turnstile (c.kind k) ≡ true → EachOf Q (s.lists (lock_queue k)) = λ k i. each_of-elsewhere c s.walk s.effective t _ (s.lists (lock_queue k)) (nowhere k i) (h.kept_is_effective k i) in
+      let move : (k : ℕ) → is_turnstile (c.kind k) ≡ true → EachOf Q (s.lists (lock_queue k)) = λ k i. each_of-elsewhere c s.walk s.effective t _ (s.lists (lock_queue k)) (nowhere k i) (h.loans.kept_is_effective k i) in
       at_put_lock (λ k r. is_turnstile (c.kind k) ≡ true → EachOf Q r) s.lists l (with_list side [] (s.lists q)) (λ i. each_of-less Q side (s.lists q) (move l i)) (λ k ne. move k)
 
   effective_known : EffectiveIsKnown c n.effective n.history
@@ -206,7 +206,7 @@ module _ (c : Config) (s : State) (t l : ℕ) (mode : Mode) (g : MayOpen c s t l
   unfolding after_open KeptIsKnown
   kept_known =
       let P : Waiter → Type 0 = λ w. IsKnown c s.history w.kept in
-      at_put_lock (λ k r. is_turnstile (c.kind k) ≡ true → EachOf P r) s.lists l (with_list side [] (s.lists q)) (λ i. each_of-less P side (s.lists q) (h.kept_is_known l i)) (λ k ne. h.kept_is_known k)
+      at_put_lock (λ k r. is_turnstile (c.kind k) ≡ true → EachOf P r) s.lists l (with_list side [] (s.lists q)) (λ i. each_of-less P side (s.lists q) (h.loans.kept_is_known l i)) (λ k ne. h.loans.kept_is_known k)
 
   pub lawful : Lawful c n
   unfolding after_open

@@ -53,11 +53,11 @@ module _ (c : Config) (s : State) (t l : ℕ) (mode : Mode) (g : MayOpenSleep c 
 
   fits : length woken ≤ length (s.free_list q) + some (s.head q)
   unfolding HeadsFitWaiters
-  fits = omega (arith, waiting-less side (s.lists q), (h.heads_fit_waiters q).balanced)
+  fits = omega (arith, waiting-less side (s.lists q), (h.queues.heads_fit_waiters q).balanced)
 
   some_woken : is_empty woken ≡ false
   unfolding BitsShowWaiters
-  some_woken = side_shown (c.kind l) (s.word l) (s.lists q) g.sleeps (h.bits_show_waiters l) g.shown
+  some_woken = side_shown (c.kind l) (s.word l) (s.lists q) g.sleeps (h.queues.bits_show_waiters l) g.shown
 
   -- 1. Places
 
@@ -71,7 +71,7 @@ module _ (c : Config) (s : State) (t l : ℕ) (mode : Mode) (g : MayOpenSleep c 
       let f = no_turnstiles-dealt c k q g.sleeps woken (s.free_list q) (s.head q) in
       let b2 = rw g.sleeps at b in
       let d2 = rw g.sleeps at d in
-      omega (arith, h.one_turnstile_each k)
+      omega (arith, h.queues.one_turnstile_each k)
 
   one_sleep_queue : OneSleepQueueEach c n.sleep_queue n.head n.free_list n.marked
   unfolding after_open_sleep OneSleepQueueEach sleep_queue_places put_queue
@@ -83,13 +83,13 @@ module _ (c : Config) (s : State) (t l : ℕ) (mode : Mode) (g : MayOpenSleep c 
       let f = all_sleep_queues-dealt c k q g.sleeps woken (s.free_list q) (s.head q) in
       let b2 = rw g.sleeps at b in
       let d2 = rw g.sleeps at d in
-      omega (arith, h.one_sleep_queue_each k)
+      omega (arith, h.queues.one_sleep_queue_each k)
 
   -- 2. The queue
 
   heads : HeadsFitWaiters n.lists n.free_list n.head n.owner
   unfolding after_open_sleep HeadsFitWaiters
-  heads = heads_put_owned c s h q (with_list side [] (s.lists q)) _ _ (head_fits side (s.lists q) (s.free_list q) (s.head q) (s.owner q) (unowned c s l g.sleeps h) (h.heads_fit_waiters q))
+  heads = heads_put_owned c s h q (with_list side [] (s.lists q)) _ _ (head_fits side (s.lists q) (s.free_list q) (s.head q) (s.owner q) (unowned c s l g.sleeps h) (h.queues.heads_fit_waiters q))
 
   -- 3. Standing and calling
 

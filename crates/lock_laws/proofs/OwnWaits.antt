@@ -28,15 +28,15 @@ calls_none k (Woken q cause) e = absurd cc
 module _ (c : Config) (s : State) (t : ℕ) (v : Wait) (thread : t < c.threads) (was : is_woken (s.wait t) ≡ false) (is : is_woken v ≡ false) (stands : (q : QueueName) → s.blocked_on t ≡ Some q → v ≡ Queued) (h : Lawful c s) where
   queued : StandingIsQueued s.blocked_on (put s.wait t v)
   unfolding StandingIsQueued
-  queued u q e = elim (cases_eq t u) [ inl i ↦ rw (← i, put_same s.wait t v) (stands q (ap s.blocked_on i ∙ e)) | inr i ↦ rw (put_other s.wait t v u i) (h.standing_is_queued u q e) ]
+  queued u q e = elim (cases_eq t u) [ inl i ↦ rw (← i, put_same s.wait t v) (stands q (ap s.blocked_on i ∙ e)) | inr i ↦ rw (put_other s.wait t v u i) (h.waits.standing_is_queued u q e) ]
 
   woken_wants : WokenWants (put s.wait t v) s.wanted
   unfolding WokenWants
-  woken_wants u k = grind (arith, columns, h.woken_wants u k)
+  woken_wants u k = grind (arith, columns, h.waits.woken_wants u k)
 
   woken_uncalled : WokenIsUncalled (put s.wait t v) s.called
   unfolding WokenIsUncalled
-  woken_uncalled u = grind (arith, columns, h.woken_is_uncalled u)
+  woken_uncalled u = grind (arith, columns, h.waits.woken_is_uncalled u)
 
   called : FreeWordHasCalled c s.word s.marked (put s.wait t v) s.called
   unfolding FreeWordHasCalled callers
@@ -44,7 +44,7 @@ module _ (c : Config) (s : State) (t : ℕ) (v : Wait) (thread : t < c.threads) 
       let a = sum_below-put c.threads (calls_woken k) s.wait t v thread in
       let b = calls_none k (s.wait t) was in
       let d = calls_none k v is in
-      omega (arith, h.free_word_has_called k)
+      omega (arith, h.waits.free_word_has_called k)
 
   waits_lawful : Lawful c (record s { wait = put s.wait t v })
   waits_lawful = assumption (queued, woken_wants, woken_uncalled, called)

@@ -26,18 +26,18 @@ module _ (c : Config) (s : State) (t : ℕ) (q : QueueName) (cause : Cause) (g :
 
   uncalled : s.called t ≡ None
   unfolding WokenIsUncalled
-  uncalled = h.woken_is_uncalled t (ap is_woken g.woken)
+  uncalled = h.waits.woken_is_uncalled t (ap is_woken g.woken)
 
   pub unnamed : (r : QueueName) → s.blocked_on t ≡ Some r → ⊥
   unfolding StandingIsQueued
-  unnamed r e = let z = ap is_woken (sym g.woken ∙ h.standing_is_queued t r e) in cc
+  unnamed r e = let z = ap is_woken (sym g.woken ∙ h.waits.standing_is_queued t r e) in cc
 
   standing_queued : StandingIsQueued n.blocked_on n.wait
   unfolding after_resume StandingIsQueued
   standing_queued u r e =
       elim (cases_eq t u) [
         | inl i ↦ absurd (unnamed r (ap s.blocked_on i ∙ e))
-        | inr i ↦ rw (put_other s.wait t Running u i) (h.standing_is_queued u r e)
+        | inr i ↦ rw (put_other s.wait t Running u i) (h.waits.standing_is_queued u r e)
       ]
 
   standing_wants : StandingWants n.blocked_on n.wanted
@@ -45,16 +45,16 @@ module _ (c : Config) (s : State) (t : ℕ) (q : QueueName) (cause : Cause) (g :
   standing_wants u k e =
       elim (cases_eq t u) [
         | inl i ↦ absurd (unnamed _ (ap s.blocked_on i ∙ e))
-        | inr i ↦ rw (put_other s.wanted t (wanted_after c q cause (is_taking_back (s.log t)) (s.wanted t)) u i) (h.standing_wants u k e)
+        | inr i ↦ rw (put_other s.wanted t (wanted_after c q cause (is_taking_back (s.log t)) (s.wanted t)) u i) (h.waits.standing_wants u k e)
       ]
 
   woken_wants : WokenWants n.wait n.wanted
   unfolding after_resume WokenWants
-  woken_wants u k = grind (arith, columns, h.woken_wants u k)
+  woken_wants u k = grind (arith, columns, h.waits.woken_wants u k)
 
   by_cause : (k : ℕ) (r : QueueName) (a : Cause) → s.wait t ≡ Woken r a → called_after r a (s.called t) ≡ Some k → wanted_after c r a (is_taking_back (s.log t)) (s.wanted t) ≡ Some k
   unfolding WokenWants
-  by_cause k (Lock l) BySignal e f = h.woken_wants t l.0 e ∙ f
+  by_cause k (Lock l) BySignal e f = h.waits.woken_wants t l.0 e ∙ f
   by_cause k (Lock l) ByAbort e f = absurd (let z : None ≡ Some k = sym uncalled ∙ f in cc)
   by_cause k (Chan d) BySignal e f = absurd (let z : None ≡ Some k = sym uncalled ∙ f in cc)
   by_cause k (Chan d) ByAbort e f = absurd (let z : None ≡ Some k = sym uncalled ∙ f in cc)
@@ -64,7 +64,7 @@ module _ (c : Config) (s : State) (t : ℕ) (q : QueueName) (cause : Cause) (g :
   called_wants u k e =
       elim (cases_eq t u) [
         | inl i ↦ rw (← i, put_same s.wanted t (wanted_after c q cause (is_taking_back (s.log t)) (s.wanted t))) (by_cause k q cause g.woken (sym (put_same s.called t (called_after q cause (s.called t))) ∙ ap (put s.called t (called_after q cause (s.called t))) i ∙ e))
-        | inr i ↦ rw (put_other s.wanted t (wanted_after c q cause (is_taking_back (s.log t)) (s.wanted t)) u i) (h.called_wants u k (sym (put_other s.called t (called_after q cause (s.called t)) u i) ∙ e))
+        | inr i ↦ rw (put_other s.wanted t (wanted_after c q cause (is_taking_back (s.log t)) (s.wanted t)) u i) (h.waits.called_wants u k (sym (put_other s.called t (called_after q cause (s.called t)) u i) ∙ e))
       ]
 
   standing_uncalled : StandingIsUncalled n.blocked_on n.called
@@ -72,12 +72,12 @@ module _ (c : Config) (s : State) (t : ℕ) (q : QueueName) (cause : Cause) (g :
   standing_uncalled u r e =
       elim (cases_eq t u) [
         | inl i ↦ absurd (unnamed r (ap s.blocked_on i ∙ e))
-        | inr i ↦ rw (put_other s.called t (called_after q cause (s.called t)) u i) (h.standing_is_uncalled u r e)
+        | inr i ↦ rw (put_other s.called t (called_after q cause (s.called t)) u i) (h.waits.standing_is_uncalled u r e)
       ]
 
   woken_uncalled : WokenIsUncalled n.wait n.called
   unfolding after_resume WokenIsUncalled
-  woken_uncalled u = grind (arith, columns, h.woken_is_uncalled u)
+  woken_uncalled u = grind (arith, columns, h.waits.woken_is_uncalled u)
 
   called : FreeWordHasCalled c n.word n.marked n.wait n.called
   unfolding after_resume FreeWordHasCalled callers
@@ -86,7 +86,7 @@ module _ (c : Config) (s : State) (t : ℕ) (q : QueueName) (cause : Cause) (g :
       let b = sum_below-put c.threads (calls_woken k) s.wait t Running g.thread in
       let e = ap (calls_woken k) g.woken in
       let f = called_still k q cause (s.called t) uncalled in
-      omega (arith, h.free_word_has_called k)
+      omega (arith, h.waits.free_word_has_called k)
 
   pub lawful : Lawful c n
   unfolding after_resume

@@ -20,14 +20,14 @@ module _ (c : Config) (s : State) (h : Lawful c s) where
   apart t u l Excl e f = let a = owner_is c s t l h e in let b = owner_is c s u l h f in cc
   apart t u l Shared e f =
       let a = ap sharers (owner_is c s t l h e) in
-      let b = has_sharer c s u l h (h.only_threads_hold u l Shared f) f in
+      let b = has_sharer c s u l h (h.words.only_threads_hold u l Shared f) f in
       absurd (omega arith)
 
   -- a section may begin where the lock is held in its mode and the thread has none open
   pub alone : (t l : ℕ) (mode : Mode) → s.held t l ≡ Holds mode → open_in c s.history t l ≡ NotHeld → IsAlone c s.history l mode
   unfolding SectionsAreHeld
   alone t l Shared e f = λ u x.
-      let a = apart u t l Shared (h.sections_are_held u l Excl x) e in
+      let a = apart u t l Shared (h.books.sections_are_held u l Excl x) e in
       let b : open_in c s.history t l ≡ Holds Excl = rw (← a) x in
       absurd (let z : NotHeld ≡ Holds Excl = sym f ∙ b in cc)
   alone t l Excl e f = λ u. go u (open_in c s.history u l) refl
@@ -35,7 +35,7 @@ module _ (c : Config) (s : State) (h : Lawful c s) where
       go : (u : ℕ) (x : Hold) → open_in c s.history u l ≡ x → x ≡ NotHeld
       go u NotHeld y = refl
       go u (Holds m) y =
-          let a = apart t u l m e (h.sections_are_held u l m y) in
+          let a = apart t u l m e (h.books.sections_are_held u l m y) in
           let b : open_in c s.history t l ≡ Holds m = rw a y in
           absurd (let z : NotHeld ≡ Holds m = sym f ∙ b in cc)
 
@@ -55,7 +55,7 @@ module _ (c : Config) (s : State) (h : Lawful c s) where
       go : (b : Hold) → begun_by c e (left_in c s.history t l) l ≡ b → (z : Bool) → replaced b (cond z NotHeld (open_in c s.history t l)) ≡ Holds mode → s.held t l ≡ Holds mode
       go (Holds m) y z w = let r = begins_held t e a l m y in r.0 ∙ w
       go NotHeld y true w = absurd cc
-      go NotHeld y false w = h.sections_are_held t l mode w
+      go NotHeld y false w = h.books.sections_are_held t l mode w
 
   pub asks_section : (t : ℕ) (e : Event) → Asks c s t e → IsInSection c e s.history t
   asks_section t (Set l k v) a = a
@@ -65,5 +65,5 @@ module _ (c : Config) (s : State) (h : Lawful c s) where
 
   pub asks_replayed : (t : ℕ) (e : Event) → Asks c s t e → IsReplayed e s.history
   unfolding TablesReplay
-  asks_replayed t (Got l k v) a = a.1 ∙ h.tables_replay_logs l.0 k
+  asks_replayed t (Got l k v) a = a.1 ∙ h.books.tables_replay_logs l.0 k
   asks_replayed t other a = tt

@@ -12,7 +12,7 @@ use Rattle.lock_state.specs.Steps.Turnstiles.{walk_up}
 use Rattle.lock_state.specs.Facts.{Lawful, HeadsFitWaiters, BitsShowWaiters, ListsAscend, MutexWaitersAreExclusive, StandsOnce, OnlyThreadsStand, LoansAreLeast, KeptIsEffective, EffectiveIsKnown, KeptIsKnown}
 use Rattle.lock_state.specs.Facts.Queues.{HeadFits}
 use Rattle.lock_state.specs.Facts.Waits.{times_marked, at_queue}
-use Rattle.lock_state.specs.Facts.Loans.{IsKept, IsKnown, EachOf, walks_at_lock, walks_at_thread, at_lock, at_thread}
+use Rattle.lock_state.specs.Facts.Loans.{IsKept, IsKnown, EachOf, walkers_at_lock, walkers_at_thread, at_lock, at_thread}
 use Rattle.lock_model.specs.declared.plan.QueueName.{QueueName}
 use Rattle.lock_laws.proofs.Kit.{columns, put_lock_same, put_lock_other, sum_below-put, at_put_lock, each_queue, at_queue_one}
 use Rattle.lock_laws.proofs.Lending.{walk_up-there, each_of-map, each_of-kept, stands-kept, waiting-kept, is_empty-reinsert}
@@ -35,40 +35,40 @@ module _ (c : Config) (s : State) (t o l : ℕ) (g : MayShift c s t o l) (h : La
   unfolding after_shift HeadsFitWaiters
   heads_of_locks k =
       elim (cases_eq l k) [
-        | inl e ↦ rw (← e, put_lock_same s.lists l lists) (head_fits o (s.effective o) (s.lists q) (s.free_list q) (s.head q) (s.owner q) (h.heads_fit_waiters q))
-        | inr e ↦ rw (put_lock_other s.lists l lists k e) (h.heads_fit_waiters (lock_queue k))
+        | inl e ↦ rw (← e, put_lock_same s.lists l lists) (head_fits o (s.effective o) (s.lists q) (s.free_list q) (s.head q) (s.owner q) (h.queues.heads_fit_waiters q))
+        | inr e ↦ rw (put_lock_other s.lists l lists k e) (h.queues.heads_fit_waiters (lock_queue k))
       ]
 
   heads : HeadsFitWaiters n.lists n.free_list n.head n.owner
   unfolding after_shift HeadsFitWaiters put_queue
-  heads = each_queue (λ r. HeadFits (n.lists r) (n.free_list r) (n.head r) (n.owner r)) heads_of_locks (λ d. h.heads_fit_waiters (chan_queue d))
+  heads = each_queue (λ r. HeadFits (n.lists r) (n.free_list r) (n.head r) (n.owner r)) heads_of_locks (λ d. h.queues.heads_fit_waiters (chan_queue d))
 
   bits : BitsShowWaiters n.word n.lists
   unfolding after_shift BitsShowWaiters
-  bits k = grind (arith, columns, h.bits_show_waiters k, is_empty-reinsert)
+  bits k = grind (arith, columns, h.queues.bits_show_waiters k, is_empty-reinsert)
 
   ascend : ListsAscend c n.lists
   unfolding after_shift ListsAscend
-  ascend k e = grind (arith, columns, h.lists_ascend k e, ascends-reinsert)
+  ascend k e = grind (arith, columns, h.queues.lists_ascend k e, ascends-reinsert)
 
   mutex_waiters : MutexWaitersAreExclusive c n.lists
   unfolding after_shift MutexWaitersAreExclusive
-  mutex_waiters k e = grind (arith, columns, h.mutex_waiters_are_exclusive k e)
+  mutex_waiters k e = grind (arith, columns, h.queues.mutex_waiters_are_exclusive k e)
 
   stand_at_lock : (u k : ℕ) → stands u (n.lists (lock_queue k)) + sum_below c.threads (λ v. times_marked u (lock_queue k) (n.marked v)) ≡ at_queue (lock_queue k) (n.blocked_on u)
   unfolding after_shift StandsOnce
   stand_at_lock u k =
       elim (cases_eq l k) [
-        | inl e ↦ rw (← e, put_lock_same s.lists l lists) (omega (arith, stands-kept u o (s.effective o) (s.lists q), h.stands_once u q))
-        | inr e ↦ rw (put_lock_other s.lists l lists k e) (h.stands_once u (lock_queue k))
+        | inl e ↦ rw (← e, put_lock_same s.lists l lists) (omega (arith, stands-kept u o (s.effective o) (s.lists q), h.waits.stands_once u q))
+        | inr e ↦ rw (put_lock_other s.lists l lists k e) (h.waits.stands_once u (lock_queue k))
       ]
 
   stand : StandsOnce c n.lists n.marked n.blocked_on
   unfolding after_shift StandsOnce put_queue
-  stand u = each_queue (λ r. stands u (n.lists r) + sum_below c.threads (λ v. times_marked u r (n.marked v)) ≡ at_queue r (n.blocked_on u)) (stand_at_lock u) (λ d. h.stands_once u (chan_queue d))
+  stand u = each_queue (λ r. stands u (n.lists r) + sum_below c.threads (λ v. times_marked u r (n.marked v)) ≡ at_queue r (n.blocked_on u)) (stand_at_lock u) (λ d. h.waits.stands_once u (chan_queue d))
 
   loans_least : LoansAreLeast c n.owner n.walk n.loan n.lists
-  unfolding after_shift LoansAreLeast walks_at_lock
+  unfolding after_shift LoansAreLeast walkers_at_lock
   loans_least k u e w =
       let a = sum_below-put c.threads (at_lock k) s.walk t (walk_up l (s.owner q)) g.thread in
       let b = ap (at_lock k) g.walks in
@@ -77,11 +77,11 @@ module _ (c : Config) (s : State) (t o l : ℕ) (g : MayShift c s t o l) (h : La
             let d = walk_up-there l (s.owner q) u (ap (λ j. s.owner (lock_queue j)) i ∙ e) in
             let d2 = ap (λ j. at_lock j (walk_up l (s.owner q))) i in
             absurd (omega arith)
-        | inr i ↦ rw (put_lock_other s.lists l lists k i) (h.loans_are_least k u e (omega arith))
+        | inr i ↦ rw (put_lock_other s.lists l lists k i) (h.loans.loans_are_least k u e (omega arith))
       ]
 
   still : (w : Waiter) → w.thread ≢ o → IsKept c s.walk s.effective w → IsKept c n.walk s.effective w
-  unfolding after_shift walks_at_thread
+  unfolding after_shift walkers_at_thread
   still w ne kept none =
       let a = sum_below-put c.threads (at_thread w.thread) s.walk t (walk_up l (s.owner q)) g.thread in
       let d = ap (at_thread w.thread) g.walks in
@@ -90,7 +90,7 @@ module _ (c : Config) (s : State) (t o l : ℕ) (g : MayShift c s t o l) (h : La
 
   once : stands o (s.lists q) ≤ 1
   unfolding StandsOnce
-  once = let a = ap (at_queue q) g.blocked_on in let b = one_le (is_queue q q) in omega (arith, h.stands_once o q)
+  once = let a = ap (at_queue q) g.blocked_on in let b = one_le (is_queue q q) in omega (arith, h.waits.stands_once o q)
     where
       one_le : (b : Bool) → one b ≤ 1
       one_le true = omega arith
@@ -98,7 +98,7 @@ module _ (c : Config) (s : State) (t o l : ℕ) (g : MayShift c s t o l) (h : La
 
   elsewhere : (k : ℕ) → (l ≡ k → ⊥) → stands o (s.lists (lock_queue k)) ≡ 0
   unfolding StandsOnce
-  elsewhere k ne = let a = ap (at_queue (lock_queue k)) g.blocked_on in let b : one (eqb k l) ≡ 0 = ap one (ne_eqb k l (λ j. ne (sym j))) in omega (arith, h.stands_once o (lock_queue k))
+  elsewhere k ne = let a = ap (at_queue (lock_queue k)) g.blocked_on in let b : one (eqb k l) ≡ 0 = ap one (ne_eqb k l (λ j. ne (sym j))) in omega (arith, h.waits.stands_once o (lock_queue k))
 
   kept : KeptIsEffective c n.walk n.effective n.lists
   unfolding after_shift KeptIsEffective
@@ -106,16 +106,16 @@ module _ (c : Config) (s : State) (t o l : ℕ) (g : MayShift c s t o l) (h : La
       let P : Waiter → Type 0 = IsKept c s.walk s.effective in
       let Q : Waiter → Type 0 = IsKept c n.walk s.effective in
       at_put_lock (λ k r. is_turnstile (c.kind k) ≡ true → EachOf Q r) s.lists l lists
-      (λ i. each_of-kept Q o (s.effective o) (s.lists q) once (λ e. refl) (each_of-map P (λ w. w.thread ≢ o → Q w) (s.lists q) (λ w k p ne. still w ne p) (h.kept_is_effective l i)))
-      (λ k ne i. each_of-map P Q (s.lists (lock_queue k)) (λ w j p. still w (λ x. let y : stands w.thread (s.lists (lock_queue k)) ≡ stands o (s.lists (lock_queue k)) = ap (λ r. stands r (s.lists (lock_queue k))) x in absurd (omega (arith, elsewhere k ne))) p) (h.kept_is_effective k i))
+      (λ i. each_of-kept Q o (s.effective o) (s.lists q) once (λ e. refl) (each_of-map P (λ w. w.thread ≢ o → Q w) (s.lists q) (λ w k p ne. still w ne p) (h.loans.kept_is_effective l i)))
+      (λ k ne i. each_of-map P Q (s.lists (lock_queue k)) (λ w j p. still w (λ x. let y : stands w.thread (s.lists (lock_queue k)) ≡ stands o (s.lists (lock_queue k)) = ap (λ r. stands r (s.lists (lock_queue k))) x in absurd (omega (arith, elsewhere k ne))) p) (h.loans.kept_is_effective k i))
 
   kept_known : KeptIsKnown c n.lists n.history
   unfolding after_shift KeptIsKnown EffectiveIsKnown OnlyThreadsStand
   kept_known =
       let P : Waiter → Type 0 = λ w. IsKnown c s.history w.kept in
       at_put_lock (λ k r. is_turnstile (c.kind k) ≡ true → EachOf P r) s.lists l lists
-      (λ i. each_of-kept P o (s.effective o) (s.lists q) once (h.effective_is_known o (h.only_threads_stand o q g.blocked_on)) (each_of-map P (λ w. w.thread ≢ o → P w) (s.lists q) (λ w k p ne. p) (h.kept_is_known l i)))
-      (λ k ne. h.kept_is_known k)
+      (λ i. each_of-kept P o (s.effective o) (s.lists q) once (h.loans.effective_is_known o (h.waits.only_threads_stand o q g.blocked_on)) (each_of-map P (λ w. w.thread ≢ o → P w) (s.lists q) (λ w k p ne. p) (h.loans.kept_is_known l i)))
+      (λ k ne. h.loans.kept_is_known k)
 
   pub lawful : Lawful c n
   unfolding after_shift
@@ -128,7 +128,7 @@ module _ (c : Config) (s : State) (t : ℕ) (g : MayEndWalk c s t) (h : Lawful c
   m = after_end_walk s t
 
   end_loans_least : LoansAreLeast c m.owner m.walk m.loan m.lists
-  unfolding after_end_walk LoansAreLeast walks_at_lock
+  unfolding after_end_walk LoansAreLeast walkers_at_lock
   end_loans_least l u e w = go (s.walk t) refl g.there
     where
       a : sum_below c.threads (λ j. at_lock l (m.walk j)) + at_lock l (s.walk t) ≡ sum_below c.threads (λ j. at_lock l (s.walk j)) + 0
@@ -140,12 +140,12 @@ module _ (c : Config) (s : State) (t : ℕ) (g : MayEndWalk c s t) (h : Lawful c
           let b = ap (at_lock l) y in
           elim (cases_eq l k) [
             | inl i ↦ absurd (let f : None ≡ Some u = sym z ∙ ap (λ j. s.owner (lock_queue j)) (sym i) ∙ e in cc)
-            | inr i ↦ let f : one (eqb l k) ≡ 0 = ap one (ne_eqb l k i) in h.loans_are_least l u e (omega (arith, a))
+            | inr i ↦ let f : one (eqb l k) ≡ 0 = ap one (ne_eqb l k i) in h.loans.loans_are_least l u e (omega (arith, a))
           ]
-      go (AtThread o) y z = let b = ap (at_lock l) y in h.loans_are_least l u e (omega (arith, a))
+      go (AtThread o) y z = let b = ap (at_lock l) y in h.loans.loans_are_least l u e (omega (arith, a))
 
   end_still : (l : ℕ) → is_turnstile (c.kind l) ≡ true → (w : Waiter) → 1 ≤ stands w.thread (s.lists (lock_queue l)) → IsKept c s.walk s.effective w → IsKept c m.walk s.effective w
-  unfolding after_end_walk walks_at_thread StandsOnce
+  unfolding after_end_walk walkers_at_thread StandsOnce
   end_still l i w p kept none = go (s.walk t) refl g.there
     where
       a : sum_below c.threads (λ j. at_thread w.thread (m.walk j)) + at_thread w.thread (s.walk t) ≡ sum_below c.threads (λ j. at_thread w.thread (s.walk j)) + 0
@@ -158,7 +158,7 @@ module _ (c : Config) (s : State) (t : ℕ) (g : MayEndWalk c s t) (h : Lawful c
           let b = ap (at_thread w.thread) y in
           elim (cases_eq w.thread o) [
             | inl j ↦
-                let d = at_queue_one (lock_queue l) (s.blocked_on w.thread) (omega (arith, h.stands_once w.thread (lock_queue l))) in
+                let d = at_queue_one (lock_queue l) (s.blocked_on w.thread) (omega (arith, h.waits.stands_once w.thread (lock_queue l))) in
                 let f = z l i (ap s.blocked_on (sym j) ∙ d) in
                 let r = ap (λ v. stands v (s.lists (lock_queue l))) j in
                 absurd (omega arith)
@@ -167,7 +167,7 @@ module _ (c : Config) (s : State) (t : ℕ) (g : MayEndWalk c s t) (h : Lawful c
 
   end_kept : KeptIsEffective c m.walk m.effective m.lists
   unfolding after_end_walk KeptIsEffective
-  end_kept l i = each_of-map (IsKept c s.walk s.effective) (IsKept c m.walk s.effective) (s.lists (lock_queue l)) (end_still l i) (h.kept_is_effective l i)
+  end_kept l i = each_of-map (IsKept c s.walk s.effective) (IsKept c m.walk s.effective) (s.lists (lock_queue l)) (end_still l i) (h.loans.kept_is_effective l i)
 
   pub end_lawful : Lawful c m
   unfolding after_end_walk

@@ -81,9 +81,9 @@ module _ (c : Config) (s : State) (h : Lawful c s) where
   pub lent_held : (t l : ℕ) (x : Loan) → s.loan t l ≡ Some x → (is_turnstile (c.kind l) ≡ true) × (s.held t l ≡ Holds Excl)
   unfolding LoansAreWithOwners OwnersHold WordsMatchHolders
   lent_held t l x e =
-      let o = sym (h.owners_hold l) ∙ h.loans_are_with_owners t l x e in
+      let o = sym (h.loans.owners_hold l) ∙ h.loans.loans_are_with_owners t l x e in
       let r = owner_from (is_turnstile (c.kind l)) (s.head (lock_queue l)) (s.word l).holder t o in
-      (r.0, exclusive_is (s.held t l) ((h.words_match_holders l).owner t ∙ owner-owns t (s.word l).holder r.1))
+      (r.0, exclusive_is (s.held t l) ((h.words.words_match_holders l).owner t ∙ owner-owns t (s.word l).holder r.1))
 
   -- an effective priority below the base is lent
   lent_owns : (t : ℕ) → ((l : ℕ) (mode : Mode) → s.held t l ≡ Holds mode → open_in c s.history t l ≡ Holds mode) → s.effective t < s.base t → owns_in c s.history t ≡ true
@@ -92,7 +92,7 @@ module _ (c : Config) (s : State) (h : Lawful c s) where
       by_least (λ p. p < s.base t → owns_in c s.history t ≡ true) c.locks (λ l. prio_of (s.loan t l)) (s.base t)
       (λ q. absurd (omega arith))
       (λ l p m e q. go l m (s.loan t l) refl e)
-      (let e = h.effective_is_least t in omega arith)
+      (let e = h.loans.effective_is_least t in omega arith)
     where
       go : (l : ℕ) → l < c.locks → (o : Option Loan) → s.loan t l ≡ o → {p : ℕ} → prio_of o ≡ Some p → owns_in c s.history t ≡ true
       go l m None x e = absurd cc
@@ -103,9 +103,9 @@ module _ (c : Config) (s : State) (h : Lawful c s) where
   pub asks_shown : (t : ℕ) → t < c.threads → (e : Event) → Asks c s t e → IsShown c e s.history t
   unfolding BasesReplay EffectiveIsLeast EffectiveIsKnown
   asks_shown t lt (Shown base effective) a = record {
-    its_base = a.its_base ∙ h.bases_replay t;
-    no_worse = let x = least-le_base c.locks (λ l. prio_of (s.loan t l)) (s.base t) in let y = h.effective_is_least t in let z = a.its_base in let w = a.its_effective in omega arith;
+    its_base = a.its_base ∙ h.books.bases_replay t;
+    no_worse = let x = least-le_base c.locks (λ l. prio_of (s.loan t l)) (s.base t) in let y = h.loans.effective_is_least t in let z = a.its_base in let w = a.its_effective in omega arith;
     owns = λ q. lent_owns t a.sections (let z = a.its_base in let w = a.its_effective in omega arith);
-    lent = λ q. subst (IsKnown c s.history) (sym a.its_effective) (h.effective_is_known t lt);
+    lent = λ q. subst (IsKnown c s.history) (sym a.its_effective) (h.loans.effective_is_known t lt);
   }
   asks_shown t lt other a = tt

@@ -42,14 +42,14 @@ record ChanStays (c : Config) (s : State) (d : ℕ) (lists : Lists) (head : Opti
 chan_stays : (c : Config) (s : State) (d : ℕ) (lists : Lists) (head : Option ℕ) → Lawful c s → ChanStays c s d lists head
 unfolding put_queue BitsShowWaiters ListsAscend MutexWaitersAreExclusive OwnersHold LoansAreLeast LoansAreOnHeads KeptIsEffective KeptIsKnown
 chan_stays c s d lists head h = record {
-  bits = λ l. h.bits_show_waiters l;
-  ascend = λ l. h.lists_ascend l;
-  mutex_waiters = λ l. h.mutex_waiters_are_exclusive l;
-  owners = λ l. h.owners_hold l;
-  loans_least = λ l. h.loans_are_least l;
-  loans_on_heads = λ u l. h.loans_are_on_heads u l;
-  kept = λ l. h.kept_is_effective l;
-  kept_known = λ l. h.kept_is_known l;
+  bits = λ l. h.queues.bits_show_waiters l;
+  ascend = λ l. h.queues.lists_ascend l;
+  mutex_waiters = λ l. h.queues.mutex_waiters_are_exclusive l;
+  owners = λ l. h.loans.owners_hold l;
+  loans_least = λ l. h.loans.loans_are_least l;
+  loans_on_heads = λ u l. h.loans.loans_are_on_heads u l;
+  kept = λ l. h.loans.kept_is_effective l;
+  kept_known = λ l. h.loans.kept_is_known l;
 }
 
 -- 1. An add
@@ -69,7 +69,7 @@ module _ (c : Config) (s : State) (t d x : ℕ) (g : MayAdd c s t d x) (h : Lawf
 
   one_turnstile : OneTurnstileEach c n.turnstile n.head n.free_list n.marked
   unfolding after_add OneTurnstileEach turnstile_places put_queue
-  one_turnstile k = h.one_turnstile_each k
+  one_turnstile k = h.queues.one_turnstile_each k
 
   one_sleep_queue : OneSleepQueueEach c n.sleep_queue n.head n.free_list n.marked
   unfolding after_add OneSleepQueueEach sleep_queue_places put_queue
@@ -79,19 +79,19 @@ module _ (c : Config) (s : State) (t d x : ℕ) (g : MayAdd c s t d x) (h : Lawf
       let i = sum_below-put_chan c.chans (times k) s.free_list d (free_with (s.head q) x (s.free_list q)) g.chan in
       let e = ap (at_option k) g.own in
       let f = lent_object k x (s.head q) (s.free_list q) in
-      omega (arith, h.one_sleep_queue_each k)
+      omega (arith, h.queues.one_sleep_queue_each k)
 
   turnstile_lent : TurnstileIsLent c n.turnstile n.blocked_on
   unfolding after_add TurnstileIsLent
-  turnstile_lent u = grind (arith, columns, h.turnstile_is_lent u)
+  turnstile_lent u = grind (arith, columns, h.queues.turnstile_is_lent u)
 
   sleep_queue_lent : SleepQueueIsLent c n.sleep_queue n.blocked_on
   unfolding after_add SleepQueueIsLent
-  sleep_queue_lent u = grind (arith, columns, h.sleep_queue_is_lent u)
+  sleep_queue_lent u = grind (arith, columns, h.queues.sleep_queue_is_lent u)
 
   heads : HeadsFitWaiters n.lists n.free_list n.head n.owner
   unfolding after_add HeadsFitWaiters
-  heads = heads_put_owned c s h q lists _ _ (added_fits new (s.lists q) (s.free_list q) (s.head q) (s.owner q) x (h.heads_fit_waiters q))
+  heads = heads_put_owned c s h q lists _ _ (added_fits new (s.lists q) (s.free_list q) (s.head q) (s.owner q) x (h.queues.heads_fit_waiters q))
 
   stand : StandsOnce c n.lists n.marked n.blocked_on
   unfolding after_add
@@ -99,15 +99,15 @@ module _ (c : Config) (s : State) (t d x : ℕ) (g : MayAdd c s t d x) (h : Lawf
 
   threads_stand : OnlyThreadsStand c n.blocked_on
   unfolding after_add OnlyThreadsStand
-  threads_stand u r = grind (arith, columns, h.only_threads_stand u r, g.thread)
+  threads_stand u r = grind (arith, columns, h.waits.only_threads_stand u r, g.thread)
 
   standing_queued : StandingIsQueued n.blocked_on n.wait
   unfolding after_add StandingIsQueued
-  standing_queued u r = grind (arith, columns, h.standing_is_queued u r)
+  standing_queued u r = grind (arith, columns, h.waits.standing_is_queued u r)
 
   standing_wants : StandingWants n.blocked_on n.wanted
   unfolding after_add StandingWants
-  standing_wants u l = grind (arith, columns, h.standing_wants u l)
+  standing_wants u l = grind (arith, columns, h.waits.standing_wants u l)
 
   uncalled : s.called t ≡ None
   unfolding CalledWants
@@ -115,11 +115,11 @@ module _ (c : Config) (s : State) (t d x : ℕ) (g : MayAdd c s t d x) (h : Lawf
     where
       go : (o : Option ℕ) → s.called t ≡ o → o ≡ None
       go None e = refl
-      go (Some l) e = absurd (let z : None ≡ Some l = sym g.wants ∙ h.called_wants t l e in cc)
+      go (Some l) e = absurd (let z : None ≡ Some l = sym g.wants ∙ h.waits.called_wants t l e in cc)
 
   standing_uncalled : StandingIsUncalled n.blocked_on n.called
   unfolding after_add StandingIsUncalled
-  standing_uncalled u r = grind (arith, columns, h.standing_is_uncalled u r, uncalled)
+  standing_uncalled u r = grind (arith, columns, h.waits.standing_is_uncalled u r, uncalled)
 
   pub add_lawful : Lawful c n
   unfolding after_add
@@ -145,7 +145,7 @@ module _ (c : Config) (s : State) (t d : ℕ) (all : Bool) (g : MayWake c s t d 
 
   fits : length woken ≤ length (s.free_list r) + some (s.head r)
   unfolding HeadsFitWaiters
-  fits = omega (arith, length-taken all (s.lists r).exclusive, (h.heads_fit_waiters r).balanced)
+  fits = omega (arith, length-taken all (s.lists r).exclusive, (h.queues.heads_fit_waiters r).balanced)
 
   wake_one_turnstile : OneTurnstileEach c m.turnstile m.head m.free_list m.marked
   unfolding after_wake OneTurnstileEach turnstile_places put_queue
@@ -153,7 +153,7 @@ module _ (c : Config) (s : State) (t d : ℕ) (all : Bool) (g : MayWake c s t d 
       let a = sum_below-put c.threads (times_object c true k) s.marked t marks g.thread in
       let e = ap (times_object c true k) g.unmarked in
       let f = no_turnstiles-dealt c k r refl woken (s.free_list r) (s.head r) in
-      omega (arith, h.one_turnstile_each k)
+      omega (arith, h.queues.one_turnstile_each k)
 
   wake_one_sleep_queue : OneSleepQueueEach c m.sleep_queue m.head m.free_list m.marked
   unfolding after_wake OneSleepQueueEach sleep_queue_places put_queue
@@ -163,11 +163,11 @@ module _ (c : Config) (s : State) (t d : ℕ) (all : Bool) (g : MayWake c s t d 
       let a = sum_below-put c.threads (times_object c false k) s.marked t marks g.thread in
       let e = ap (times_object c false k) g.unmarked in
       let f = all_sleep_queues-dealt c k r refl woken (s.free_list r) (s.head r) in
-      omega (arith, h.one_sleep_queue_each k)
+      omega (arith, h.queues.one_sleep_queue_each k)
 
   wake_heads : HeadsFitWaiters m.lists m.free_list m.head m.owner
   unfolding after_wake HeadsFitWaiters ChannelsHaveNoOwner
-  wake_heads = heads_put_owned c s h r stay _ _ (taken_fits all (s.lists r) (s.free_list r) (s.head r) (s.owner r) (h.channels_have_no_owner d) (h.heads_fit_waiters r))
+  wake_heads = heads_put_owned c s h r stay _ _ (taken_fits all (s.lists r) (s.free_list r) (s.head r) (s.owner r) (h.loans.channels_have_no_owner d) (h.queues.heads_fit_waiters r))
 
   less : (u : ℕ) → stands u stay + times_waiting u woken ≡ stands u (s.lists r)
   less u = omega (arith, times-taken u all (s.lists r).exclusive)
@@ -181,7 +181,7 @@ module _ (c : Config) (s : State) (t d : ℕ) (all : Bool) (g : MayWake c s t d 
   wake_called l =
       let a = sum_below-put c.threads (calls_marked l) s.marked t marks g.thread in
       let e = ap (calls_marked l) g.unmarked in
-      omega (arith, h.free_word_has_called l)
+      omega (arith, h.waits.free_word_has_called l)
 
   pub wake_lawful : Lawful c m
   unfolding after_wake

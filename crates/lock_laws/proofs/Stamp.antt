@@ -43,30 +43,30 @@ module _ (c : Config) (s : State) (t : ℕ) (e : Event) (g : MayStamp c s t e) (
   least = go e
     where
       go : (x : Event) → EffectiveIsLeast c (effective_after c x t s.loan s.effective) (base_after x t s.base) s.loan
-      go (Base p) = effective-base c s.effective s.base s.loan t p.0 h.effective_is_least
-      go other = h.effective_is_least
+      go (Base p) = effective-base c s.effective s.base s.loan t p.0 h.loans.effective_is_least
+      go other = h.loans.effective_is_least
 
   nowhere : (l : ℕ) → stands t (s.lists (lock_queue l)) ≡ 0
   unfolding StandsOnce
-  nowhere l = grind (arith, h.stands_once t (lock_queue l), g.acting.unnamed)
+  nowhere l = grind (arith, h.waits.stands_once t (lock_queue l), g.acting.unnamed)
 
   kept : KeptIsEffective c n.walk n.effective n.lists
   unfolding after_stamp KeptIsEffective
   kept = go e
     where
       go : (x : Event) → KeptIsEffective c s.walk (effective_after c x t s.loan s.effective) s.lists
-      go (Base p) = λ l k. each_of-elsewhere c s.walk s.effective t _ (s.lists (lock_queue l)) (nowhere l) (h.kept_is_effective l k)
-      go other = h.kept_is_effective
+      go (Base p) = λ l k. each_of-elsewhere c s.walk s.effective t _ (s.lists (lock_queue l)) (nowhere l) (h.loans.kept_is_effective l k)
+      go other = h.loans.kept_is_effective
 
   -- 2. Known priorities
 
   loans_known : LoansAreKnown c n.loan n.history
   unfolding after_stamp LoansAreKnown
-  loans_known u l x y = still_known c s.history entry x.prio (h.loans_are_known u l x y)
+  loans_known u l x y = still_known c s.history entry x.prio (h.loans.loans_are_known u l x y)
 
   kept_known : KeptIsKnown c n.lists n.history
   unfolding after_stamp KeptIsKnown
-  kept_known l k = each_of-map (λ w. IsKnown c s.history w.kept) (λ w. IsKnown c (entry ∷ s.history) w.kept) (s.lists (lock_queue l)) (λ w i x. still_known c s.history entry w.kept x) (h.kept_is_known l k)
+  kept_known l k = each_of-map (λ w. IsKnown c s.history w.kept) (λ w. IsKnown c (entry ∷ s.history) w.kept) (s.lists (lock_queue l)) (λ w i x. still_known c s.history entry w.kept x) (h.loans.kept_is_known l k)
 
   own_known : (p : ℕ) → IsKnown c n.history p → IsKnown c n.history (effective_of c (s.loan t) p)
   unfolding after_stamp LoansAreKnown
@@ -74,7 +74,7 @@ module _ (c : Config) (s : State) (t : ℕ) (e : Event) (g : MayStamp c s t e) (
     where
       go : (l q : ℕ) (o : Option Loan) → s.loan t l ≡ o → prio_of o ≡ Some q → IsKnown c (entry ∷ s.history) q
       go l q None y x = absurd cc
-      go l q (Some z) y x = subst (IsKnown c (entry ∷ s.history)) (let i : z.prio ≡ q = cc in i) (still_known c s.history entry z.prio (h.loans_are_known t l z y))
+      go l q (Some z) y x = subst (IsKnown c (entry ∷ s.history)) (let i : z.prio ≡ q = cc in i) (still_known c s.history entry z.prio (h.loans.loans_are_known t l z y))
 
   new_known : (p : ℕ) → e ≡ Base (record { 0 = p }) → IsKnown c n.history p
   unfolding after_stamp
@@ -89,7 +89,7 @@ module _ (c : Config) (s : State) (t : ℕ) (e : Event) (g : MayStamp c s t e) (
   effective_known u lt = go e refl
     where
       old : IsKnown c (entry ∷ s.history) (s.effective u)
-      old = still_known c s.history entry (s.effective u) (h.effective_is_known u lt)
+      old = still_known c s.history entry (s.effective u) (h.loans.effective_is_known u lt)
 
       go : (x : Event) → e ≡ x → IsKnown c (entry ∷ s.history) (effective_after c x t s.loan s.effective u)
       go (Base p) y = elim (cases_eq t u) [
@@ -102,21 +102,21 @@ module _ (c : Config) (s : State) (t : ℕ) (e : Event) (g : MayStamp c s t e) (
 
   next : NextIsNew n.next n.history
   unfolding after_stamp NextIsNew
-  next = ap suc h.next_is_new
+  next = ap suc h.books.next_is_new
 
   logs : LogsAreParts n.log n.history
   unfolding after_stamp LogsAreParts
   logs = each_place t (λ u. put s.log t (entry ∷ s.log t) u ≡ cond (eqb t u) (entry ∷ entries_of s.history u) (entries_of s.history u))
-      (rw (put_same s.log t (entry ∷ s.log t), eq-eqb t t refl) (ap (λ es. entry ∷ es) (h.logs_are_parts t)))
-      (λ u ne. rw (put_other s.log t (entry ∷ s.log t) u ne, ne_eqb t u ne) (h.logs_are_parts u))
+      (rw (put_same s.log t (entry ∷ s.log t), eq-eqb t t refl) (ap (λ es. entry ∷ es) (h.books.logs_are_parts t)))
+      (λ u ne. rw (put_other s.log t (entry ∷ s.log t) u ne, ne_eqb t u ne) (h.books.logs_are_parts u))
 
   tables : TablesReplay n.table n.history
   unfolding after_stamp TablesReplay
-  tables = table_step s.table entry s.history h.tables_replay_logs
+  tables = table_step s.table entry s.history h.books.tables_replay_logs
 
   bases : BasesReplay c n.base n.history
   unfolding after_stamp BasesReplay
-  bases u = base_step s.base e t u (base_in c s.history u) (h.bases_replay u)
+  bases u = base_step s.base e t u (base_in c s.history u) (h.books.bases_replay u)
 
   sections : SectionsAreHeld c n.history n.held
   unfolding after_stamp SectionsAreHeld sections_in
@@ -124,29 +124,29 @@ module _ (c : Config) (s : State) (t : ℕ) (e : Event) (g : MayStamp c s t e) (
     where
       go : (b : Bool) → eqb t u ≡ b → (cond b (sections_by c e l (sections_in c s.history u l)) (sections_in c s.history u l)).now ≡ Holds mode → s.held u l ≡ Holds mode
       go true y z = let i : t ≡ u = eqb-true t u y in rw (← i) (sections_held c s h t e g.asks l mode (rw i z))
-      go false y z = h.sections_are_held u l mode z
+      go false y z = h.books.sections_are_held u l mode z
 
   -- 4. The law of the history
 
   tickets : TicketsRun n.history
   unfolding after_stamp TicketsRun NextIsNew
-  tickets = (h.next_is_new, h.tickets_run)
+  tickets = (h.books.next_is_new, h.books.tickets_run)
 
   exclude : SectionsExclude c n.history
   unfolding after_stamp SectionsExclude
-  exclude = (λ l mode x. let r = begins_held c s h t e g.asks l mode x in alone c s h t l mode r.0 r.1, h.sections_exclude)
+  exclude = (λ l mode x. let r = begins_held c s h t e g.asks l mode x in alone c s h t l mode r.0 r.1, h.books.sections_exclude)
 
   edits : EditsInSections c n.history
   unfolding after_stamp EditsInSections
-  edits = (asks_section c s h t e g.asks, h.edits_in_sections)
+  edits = (asks_section c s h t e g.asks, h.books.edits_in_sections)
 
   reads : ReadsReplay n.history
   unfolding after_stamp ReadsReplay
-  reads = (asks_replayed c s h t e g.asks, h.reads_replay)
+  reads = (asks_replayed c s h t e g.asks, h.books.reads_replay)
 
   shown : ShownIsExplained c n.history
   unfolding after_stamp ShownIsExplained
-  shown = (asks_shown c s h t g.thread e g.asks, h.shown_is_explained)
+  shown = (asks_shown c s h t g.thread e g.asks, h.books.shown_is_explained)
 
   pub lawful : Lawful c n
   unfolding after_stamp

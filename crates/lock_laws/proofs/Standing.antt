@@ -14,21 +14,21 @@ use Rattle.lock_laws.proofs.Sums.{zero_unless}
 -- the record of a thread that stands on a queue names it
 pub standing_named : (c : Config) (s : State) (t : ℕ) (q : QueueName) → Lawful c s → 1 ≤ stands t (s.lists q) → s.blocked_on t ≡ Some q
 unfolding StandsOnce
-standing_named c s t q h a = at_queue_one q (s.blocked_on t) (omega (arith, h.stands_once t q))
+standing_named c s t q h a = at_queue_one q (s.blocked_on t) (omega (arith, h.waits.stands_once t q))
 
 -- so does that of a thread with a mark from there
 pub times_named : (c : Config) (s : State) (t u : ℕ) (q : QueueName) → Lawful c s → u < c.threads → 1 ≤ times_marked t q (s.marked u) → s.blocked_on t ≡ Some q
 unfolding StandsOnce
 times_named c s t u q h lt a =
     let b = sum_below-at c.threads (λ v. times_marked t q (s.marked v)) u lt in
-    at_queue_one q (s.blocked_on t) (omega (arith, h.stands_once t q))
+    at_queue_one q (s.blocked_on t) (omega (arith, h.waits.stands_once t q))
 
 -- where the record names a turnstile, the thread's own is out
 pub named_out : (c : Config) (s : State) (t : ℕ) (q : QueueName) → Lawful c s → s.blocked_on t ≡ Some q → is_turnstile_queue c q ≡ true → s.turnstile t ≡ None
 unfolding TurnstileIsLent
 named_out c s t q h e k =
     let a : one (names_turnstile c (s.blocked_on t)) ≡ 1 = rw (e, k) refl in
-    none_there (s.turnstile t) (omega (arith, h.turnstile_is_lent t))
+    none_there (s.turnstile t) (omega (arith, h.queues.turnstile_is_lent t))
   where
     none_there : (o : Option ℕ) → some o ≡ 0 → o ≡ None
     none_there None z = refl
@@ -39,14 +39,14 @@ marked_named c s t m ms h lt e = times_named c s m.thread t m.queue h lt (rw (e,
 
 pub marked_thread : (c : Config) (s : State) (t : ℕ) (m : Mark) (ms : List Mark) → Lawful c s → t < c.threads → s.marked t ≡ m ∷ ms → m.thread < c.threads
 unfolding OnlyThreadsStand
-marked_thread c s t m ms h lt e = h.only_threads_stand m.thread m.queue (marked_named c s t m ms h lt e)
+marked_thread c s t m ms h lt e = h.waits.only_threads_stand m.thread m.queue (marked_named c s t m ms h lt e)
 
 pub marked_out : (c : Config) (s : State) (t : ℕ) (m : Mark) (ms : List Mark) → Lawful c s → t < c.threads → s.marked t ≡ m ∷ ms → is_turnstile_queue c m.queue ≡ true → s.turnstile m.thread ≡ None
 marked_out c s t m ms h lt e = named_out c s m.thread m.queue h (marked_named c s t m ms h lt e)
 
 pub standing_thread : (c : Config) (s : State) (t : ℕ) (q : QueueName) → Lawful c s → 1 ≤ stands t (s.lists q) → t < c.threads
 unfolding OnlyThreadsStand
-standing_thread c s t q h a = h.only_threads_stand t q (standing_named c s t q h a)
+standing_thread c s t q h a = h.waits.only_threads_stand t q (standing_named c s t q h a)
 
 pub home_nowhere : (c : Config) (s : State) (t l h : ℕ) → Lawful c s → s.turnstile t ≡ Some h → is_turnstile (c.kind l) ≡ true → stands t (s.lists (lock_queue l)) ≡ 0
 home_nowhere c s t l x h e k =

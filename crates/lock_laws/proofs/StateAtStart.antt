@@ -84,46 +84,58 @@ module _ (c : Config) where
   lawful =
       let z = sum_below-zero c.threads (λ t. 0) (λ t i. refl) in
       record {
-        one_turnstile_each = one_turnstile;
-        one_sleep_queue_each = one_sleep_queue;
-        one_node_each = one_node;
-        turnstile_is_lent = λ t. refl;
-        sleep_queue_is_lent = λ t. refl;
-        heads_fit_waiters = λ q. record { balanced = refl; no_free = λ e. refl; no_owner = λ e. refl };
-        bits_show_waiters = λ l. record { exclusive = refl; shared = refl };
-        lists_ascend = λ l e. (tt, tt);
-        mutex_waiters_are_exclusive = λ l e. refl;
-        stands_once = λ t q. omega arith;
-        only_threads_stand = λ t q e. absurd cc;
-        standing_is_queued = λ t q e. absurd cc;
-        standing_wants = λ t l e. absurd cc;
-        woken_wants = λ t l e. absurd cc;
-        called_wants = λ t l e. absurd cc;
-        standing_is_uncalled = λ t q e. refl;
-        woken_is_uncalled = λ t e. refl;
-        free_word_has_called = λ l. omega arith;
-        free_mutex_shows_none = λ l e. omega arith;
-        words_match_holders = λ l. record { owner = λ t. refl; sharers_are_counted = z; some_sharer = λ e. cc };
-        only_threads_hold = λ t l m e. absurd cc;
-        effective_is_least = λ t. sym (least-none c.locks (c.declared_base t));
-        owners_hold = λ l. refl;
-        channels_have_no_owner = λ d. refl;
-        loans_are_least = λ l o e w. absurd cc;
-        loans_are_with_owners = λ t l x e. absurd cc;
-        loans_are_on_heads = λ t l x e. absurd cc;
-        kept_is_effective = λ l e. (tt, tt);
-        effective_is_known = λ t i. base_known c [] t i;
-        loans_are_known = λ t l x e. absurd cc;
-        kept_is_known = λ l e. (tt, tt);
-        next_is_new = refl;
-        logs_are_parts = λ t. refl;
-        tables_replay_logs = λ l k. sym (get-empty place_cmp (l, k));
-        bases_replay = λ t. refl;
-        sections_are_held = λ t l m e. absurd cc;
-        tickets_run = tt;
-        sections_exclude = tt;
-        edits_in_sections = tt;
-        reads_replay = tt;
-        shown_is_explained = tt;
-        out_is_narrow = narrow;
+        queues = record {
+          one_turnstile_each = one_turnstile;
+          one_sleep_queue_each = one_sleep_queue;
+          one_node_each = one_node;
+          turnstile_is_lent = λ t. refl;
+          sleep_queue_is_lent = λ t. refl;
+          heads_fit_waiters = λ q. record { balanced = refl; no_free = λ e. refl; no_owner = λ e. refl };
+          bits_show_waiters = λ l. record { exclusive = refl; shared = refl };
+          lists_ascend = λ l e. (tt, tt);
+          mutex_waiters_are_exclusive = λ l e. refl;
+        };
+        waits = record {
+          stands_once = λ t q. omega arith;
+          only_threads_stand = λ t q e. absurd cc;
+          standing_is_queued = λ t q e. absurd cc;
+          standing_wants = λ t l e. absurd cc;
+          woken_wants = λ t l e. absurd cc;
+          called_wants = λ t l e. absurd cc;
+          standing_is_uncalled = λ t q e. refl;
+          woken_is_uncalled = λ t e. refl;
+          free_word_has_called = λ l. omega arith;
+          free_mutex_shows_none = λ l e. omega arith;
+        };
+        words = record {
+          words_match_holders = λ l. record { owner = λ t. refl; sharers_are_counted = z; some_sharer = λ e. cc };
+          only_threads_hold = λ t l m e. absurd cc;
+        };
+        loans = record {
+          effective_is_least = λ t. sym (least-none c.locks (c.declared_base t));
+          owners_hold = λ l. refl;
+          channels_have_no_owner = λ d. refl;
+          loans_are_least = λ l o e w. absurd cc;
+          loans_are_with_owners = λ t l x e. absurd cc;
+          loans_are_on_heads = λ t l x e. absurd cc;
+          kept_is_effective = λ l e. (tt, tt);
+          effective_is_known = λ t i. base_known c [] t i;
+          loans_are_known = λ t l x e. absurd cc;
+          kept_is_known = λ l e. (tt, tt);
+        };
+        books = record {
+          next_is_new = refl;
+          logs_are_parts = λ t. refl;
+          tables_replay_logs = λ l k. sym (get-empty place_cmp (l, k));
+          bases_replay = λ t. refl;
+          sections_are_held = λ t l m e. absurd cc;
+          tickets_run = tt;
+          sections_exclude = tt;
+          edits_in_sections = tt;
+          reads_replay = tt;
+          shown_is_explained = tt;
+        };
+        items = record {
+          out_is_narrow = narrow;
+        };
       }

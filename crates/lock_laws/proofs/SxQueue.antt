@@ -32,7 +32,7 @@ module _ (c : Config) (s : State) (l : ℕ) (sleeps : is_turnstile (c.kind l) �
 
   pub unowned : s.owner q ≡ None
   unfolding OwnersHold
-  unowned = h.owners_hold l ∙ no_owner (is_turnstile (c.kind l)) (s.head q) (s.word l).holder sleeps
+  unowned = h.loans.owners_hold l ∙ no_owner (is_turnstile (c.kind l)) (s.head q) (s.word l).holder sleeps
 
   -- a turnstile is another queue
   other : (k : ℕ) → is_turnstile (c.kind k) ≡ true → l ≡ k → ⊥
@@ -47,18 +47,18 @@ module _ (c : Config) (s : State) (l : ℕ) (sleeps : is_turnstile (c.kind l) �
     owners_stay k =
         elim (cases_eq l k) [
           | inl e ↦ rw (← e) (unowned ∙ sym (no_owner (is_turnstile (c.kind l)) (put_queue s.head q head q) (put s.word l w l).holder sleeps))
-          | inr e ↦ rw (put_other s.word l w k e, put_lock_other s.head l head k e) (h.owners_hold k)
+          | inr e ↦ rw (put_other s.word l w k e, put_lock_other s.head l head k e) (h.loans.owners_hold k)
         ]
 
     pub sx_stays : SxStays c s l lists head w
     unfolding ListsAscend MutexWaitersAreExclusive FreeMutexShowsNone LoansAreLeast LoansAreWithOwners LoansAreOnHeads KeptIsEffective KeptIsKnown
     sx_stays = record {
-      ascend = λ k e. rw (put_lock_other s.lists l lists k (other k e)) (h.lists_ascend k e);
-      mutex_waiters = λ k e. rw (put_lock_other s.lists l lists k (other k (rw e refl))) (h.mutex_waiters_are_exclusive k e);
-      free_mutex = λ k e. rw (put_other s.word l w k (other k (rw e refl))) (h.free_mutex_shows_none k e);
+      ascend = λ k e. rw (put_lock_other s.lists l lists k (other k e)) (h.queues.lists_ascend k e);
+      mutex_waiters = λ k e. rw (put_lock_other s.lists l lists k (other k (rw e refl))) (h.queues.mutex_waiters_are_exclusive k e);
+      free_mutex = λ k e. rw (put_other s.word l w k (other k (rw e refl))) (h.waits.free_mutex_shows_none k e);
       owners = owners_stay;
-      loans_least = λ k o e i. rw (put_lock_other s.lists l lists k (owned k o e)) (h.loans_are_least k o e i);
-      loans_on_heads = λ u k p e. rw (put_lock_other s.head l head k (owned k u (h.loans_are_with_owners u k p e))) (h.loans_are_on_heads u k p e);
-      kept = λ k e. rw (put_lock_other s.lists l lists k (other k e)) (h.kept_is_effective k e);
-      kept_known = λ k e. rw (put_lock_other s.lists l lists k (other k e)) (h.kept_is_known k e);
+      loans_least = λ k o e i. rw (put_lock_other s.lists l lists k (owned k o e)) (h.loans.loans_are_least k o e i);
+      loans_on_heads = λ u k p e. rw (put_lock_other s.head l head k (owned k u (h.loans.loans_are_with_owners u k p e))) (h.loans.loans_are_on_heads u k p e);
+      kept = λ k e. rw (put_lock_other s.lists l lists k (other k e)) (h.loans.kept_is_effective k e);
+      kept_known = λ k e. rw (put_lock_other s.lists l lists k (other k e)) (h.loans.kept_is_known k e);
     }

@@ -97,7 +97,7 @@ module _ (plan : Plan) (r : Run) (t : ℕ) (p : IsProper plan) (k : IsOnTrack pl
       thread = lt;
       lock = finds.lock;
       admitted = e;
-      plainly = ap (λ (x : Kind). is_plain x (s.word l.0) Excl) (p.mutexes l.0) ∙ plain_mutex (s.word l.0) (k.lawful.lawful.free_mutex_shows_none l.0 (p.mutexes l.0)) e;
+      plainly = ap (λ (x : Kind). is_plain x (s.word l.0) Excl) (p.mutexes l.0) ∙ plain_mutex (s.word l.0) (k.lawful.lawful.waits.free_mutex_shows_none l.0 (p.mutexes l.0)) e;
       unheld = k.holds t l.0 ∙ finds.unheld;
       acting = acting plan r t k i.running;
       wants = wants_this plan r t k l Excl i.next;

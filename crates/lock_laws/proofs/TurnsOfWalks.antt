@@ -47,9 +47,9 @@ module _ (plan : Plan) (r : Run) (t : ℕ) (p : IsProper plan) (k : IsOnTrack pl
   is_lock : (l h : ℕ) → s.head (lock_queue l) ≡ Some h → l < c.locks
   unfolding HeadsFitWaiters MutexWaitersAreExclusive
   is_lock l h e =
-      let f = k.lawful.lawful.heads_fit_waiters (lock_queue l) in
+      let f = k.lawful.lawful.queues.heads_fit_waiters (lock_queue l) in
       let x : some (s.head (lock_queue l)) ≡ 1 = ap some e in
-      let m = ap length (k.lawful.lawful.mutex_waiters_are_exclusive l (p.mutexes l)) in
+      let m = ap length (k.lawful.lawful.queues.mutex_waiters_are_exclusive l (p.mutexes l)) in
       let w = someone (s.lists (lock_queue l)).exclusive (length (s.free_list (lock_queue l))) (omega (arith, f.balanced)) in
       let wanted = (shown c s w.0 l k.lawful.lawful (omega (arith, w.1))).1 in
       (take_fits plan p (record { 0 = l }) (before plan r w.0) (behind plan r w.0) (fit plan r w.0 p (Take (record { 0 = l }) Excl) (k.wants w.0 l wanted))).lock
@@ -61,7 +61,7 @@ module _ (plan : Plan) (r : Run) (t : ℕ) (p : IsProper plan) (k : IsOnTrack pl
     lock = is_lock l h f;
     walks = w;
     head = f;
-    owned = k.lawful.lawful.owners_hold l ∙ rw (turnstile l, f) e;
+    owned = k.lawful.lawful.loans.owners_hold l ∙ rw (turnstile l, f) e;
   }
 
   pub lent : (l o h : ℕ) → KeepsTrack plan (run_after c r t (does kind.Lend (Lends t l o h ∷ [])))
@@ -74,7 +74,7 @@ module _ (plan : Plan) (r : Run) (t : ℕ) (p : IsProper plan) (k : IsOnTrack pl
 
   pub may_end_at_lock : (l : ℕ) → s.walk t ≡ AtLock l → (owner_of (s.word l).holder ≡ None) ⊎ (s.head (lock_queue l) ≡ None) → MayEndWalk c s t
   unfolding OwnersHold
-  may_end_at_lock l w e = may_end (AtLock l) w (k.lawful.lawful.owners_hold l ∙ elim e [ inl f ↦ none f (s.head (lock_queue l)) | inr f ↦ rw f refl ])
+  may_end_at_lock l w e = may_end (AtLock l) w (k.lawful.lawful.loans.owners_hold l ∙ elim e [ inl f ↦ none f (s.head (lock_queue l)) | inr f ↦ rw f refl ])
     where
       none : owner_of (s.word l).holder ≡ None → (x : Option ℕ) → owner_if (is_turnstile (c.kind l)) x (s.word l).holder ≡ None
       none f None = refl

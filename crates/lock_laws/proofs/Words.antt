@@ -81,7 +81,7 @@ module _ (c : Config) (s : State) (t l : ℕ) (h : Lawful c s) where
   -- a lock that is held exclusively shows its owner
   pub owner_is : s.held t l ≡ Holds Excl → (s.word l).holder ≡ HeldBy t
   unfolding WordsMatchHolders
-  owner_is e = owns_is t (s.word l).holder (sym ((h.words_match_holders l).owner t) ∙ ap is_exclusive e)
+  owner_is e = owns_is t (s.word l).holder (sym ((h.words.words_match_holders l).owner t) ∙ ap is_exclusive e)
 
   -- a lock that is held shared has a sharer
   pub has_sharer : t < c.threads → s.held t l ≡ Holds Shared → 1 ≤ sharers (s.word l).holder
@@ -89,7 +89,7 @@ module _ (c : Config) (s : State) (t l : ℕ) (h : Lawful c s) where
   has_sharer lt e =
       let a = sum_below-at c.threads (λ u. shares (s.held u l)) t lt in
       let b = ap shares e in
-      omega (arith, (h.words_match_holders l).sharers_are_counted)
+      omega (arith, (h.words.words_match_holders l).sharers_are_counted)
 
 -- 4. Gains, drops and claims
 

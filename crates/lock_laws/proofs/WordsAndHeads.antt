@@ -36,11 +36,11 @@ module _ (c : Config) (s : State) (l : ℕ) (h : Lawful c s) where
       go : (x : Holder) → (s.word l).holder ≡ x → IsPossible x
       go Free e = tt
       go (HeldBy u) e =
-          let own = exclusive_is (s.held u l) ((h.words_match_holders l).owner u ∙ ap (owns u) e ∙ eq-eqb u u refl) in
-          omega (arith, few, h.only_threads_hold u l Excl own)
-      go (SharedBy zero) e = absurd ((h.words_match_holders l).some_sharer e)
+          let own = exclusive_is (s.held u l) ((h.words.words_match_holders l).owner u ∙ ap (owns u) e ∙ eq-eqb u u refl) in
+          omega (arith, few, h.words.only_threads_hold u l Excl own)
+      go (SharedBy zero) e = absurd ((h.words.words_match_holders l).some_sharer e)
       go (SharedBy (suc n)) e =
-          let count : _ ≡ suc n = (h.words_match_holders l).sharers_are_counted ∙ ap sharers e in
+          let count : _ ≡ suc n = (h.words.words_match_holders l).sharers_are_counted ∙ ap sharers e in
           (omega arith, omega (arith, few, count, sum_below-most c.threads (λ t. shares (s.held t l)) (λ t. shares_one (s.held t l))))
 
 -- 2. Heads
@@ -59,7 +59,7 @@ none_in (x ∷ xs) e = absurd (omega arith)
 pub headless_bare : (c : Config) (s : State) (q : QueueName) → Lawful c s → s.head q ≡ None → IsBare s q
 unfolding HeadsFitWaiters
 headless_bare c s q h e =
-    let f = h.heads_fit_waiters q in
+    let f = h.queues.heads_fit_waiters q in
     let free = f.no_free e in
     let count : 0 + 0 ≡ waiting (s.lists q) = sym (ap (λ xs. length xs + some (s.head q)) free ∙ ap (λ o. 0 + some o) e) ∙ f.balanced in
     record { no_exclusive = none_in (s.lists q).exclusive (omega arith); no_shared = none_in (s.lists q).shared (omega arith); no_free = free }
@@ -78,7 +78,7 @@ module _ (c : Config) (s : State) (l : ℕ) (h : Lawful c s) (k : c.kind l ≡ M
 
   none_shared : (s.lists q).shared ≡ []
   unfolding MutexWaitersAreExclusive
-  none_shared = h.mutex_waiters_are_exclusive l k
+  none_shared = h.queues.mutex_waiters_are_exclusive l k
 
   some_wait : (a b : List Waiter) → (not (is_empty a) || not (is_empty b)) ≡ true → b ≡ [] → 1 ≤ length a
   some_wait [] b x y = let z : (false || false) ≡ true = sym (ap (λ bs. false || not (is_empty bs)) y) ∙ x in absurd cc
@@ -87,7 +87,7 @@ module _ (c : Config) (s : State) (l : ℕ) (h : Lawful c s) (k : c.kind l ≡ M
   one_waits : 1 ≤ length (s.lists q).exclusive
   unfolding BitsShowWaiters
   one_waits =
-      let b = h.bits_show_waiters l in
+      let b = h.queues.bits_show_waiters l in
       some_wait (s.lists q).exclusive (s.lists q).shared (sym (ap (λ x. x || (s.word l).shared_waiters) b.exclusive ∙ ap (λ x. not (is_empty (s.lists q).exclusive) || x) b.shared) ∙ e) none_shared
 
   pub shown_awaited : IsAwaited s q
@@ -97,7 +97,7 @@ module _ (c : Config) (s : State) (l : ℕ) (h : Lawful c s) (k : c.kind l ≡ M
       go : (o : Option ℕ) → s.head q ≡ o → IsAwaited s q
       go None i = let b = headless_bare c s q h i in absurd (omega (arith, one_waits, ap length b.no_exclusive))
       go (Some x) i =
-          let f = (h.heads_fit_waiters q).balanced in
+          let f = (h.queues.heads_fit_waiters q).balanced in
           record { head = x; is_head = i; one_more = omega (arith, f, ap some i, ap length none_shared); no_shared = none_shared }
 
 -- 3. A release of a lock with a head
@@ -105,13 +105,13 @@ module _ (c : Config) (s : State) (l : ℕ) (h : Lawful c s) (k : c.kind l ≡ M
 module _ (c : Config) (s : State) (t l : ℕ) (h : Lawful c s) (lock : l < c.locks) (k : is_turnstile (c.kind l) ≡ true) (held : s.held t l ≡ Holds Excl) where
   releasing_owner : (x : ℕ) → s.head (lock_queue l) ≡ Some x → s.owner (lock_queue l) ≡ Some t
   unfolding OwnersHold
-  releasing_owner x e = h.owners_hold l ∙ ap (λ b. owner_if b (s.head (lock_queue l)) (s.word l).holder) k ∙ ap (λ o. owner_if true o (s.word l).holder) e ∙ ap owner_of (owner_is c s t l h held)
+  releasing_owner x e = h.loans.owners_hold l ∙ ap (λ b. owner_if b (s.head (lock_queue l)) (s.word l).holder) k ∙ ap (λ o. owner_if true o (s.word l).holder) e ∙ ap owner_of (owner_is c s t l h held)
 
   -- the head's node is out where its thread has the loan
   pub lent_out : (x : ℕ) (y : Loan) → s.head (lock_queue l) ≡ Some x → s.loan t l ≡ Some y → (x ≡ y.number) × (s.loan_home x ≡ false)
   unfolding LoansAreOnHeads
   lent_out x y e f =
-      let same : x ≡ y.number = same_Some x y.number (sym e ∙ h.loans_are_on_heads t l y f) in
+      let same : x ≡ y.number = same_Some x y.number (sym e ∙ h.loans.loans_are_on_heads t l y f) in
       (same, ap s.loan_home same ∙ loan_out c s t l y h f)
 
   -- and at home where it has none
@@ -125,4 +125,4 @@ module _ (c : Config) (s : State) (t l : ℕ) (h : Lawful c s) (lock : l < c.loc
     where
       go : (o : Option Loan) → s.loan t l ≡ o → home_after s.loan_home o z ≡ s.loan_home z
       go None f = refl
-      go (Some y) f = put_other s.loan_home y.number true z (λ i. d (heads_apart c s j l z h (head_lock c s j z h kj e) lock kj k e (h.loans_are_on_heads t l y f ∙ ap Some i)))
+      go (Some y) f = put_other s.loan_home y.number true z (λ i. d (heads_apart c s j l z h (head_lock c s j z h kj e) lock kj k e (h.loans.loans_are_on_heads t l y f ∙ ap Some i)))

@@ -40,7 +40,7 @@ use Rattle.lock_objects.proofs.Records.{with_other_loans, none_beyond}
 -- a lock whose turnstile has an owner is of a kind with turnstiles
 pub owned_turnstile : (c : Config) (s : State) (l o : ℕ) → Lawful c s → s.owner (lock_queue l) ≡ Some o → is_turnstile (c.kind l) ≡ true
 unfolding OwnersHold
-owned_turnstile c s l o lawful owned = go (is_turnstile (c.kind l)) (s.head (lock_queue l)) (sym (lawful.owners_hold l) ∙ owned)
+owned_turnstile c s l o lawful owned = go (is_turnstile (c.kind l)) (s.head (lock_queue l)) (sym (lawful.loans.owners_hold l) ∙ owned)
   where
     go : (b : Bool) (x : Option ℕ) → owner_if b x (s.word l).holder ≡ Some o → b ≡ true
     go true x e = refl

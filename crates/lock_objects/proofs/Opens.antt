@@ -268,7 +268,7 @@ module _ (c : Config) (s : State) (t l : ℕ) (mode : Mode) (lawful : Lawful c s
   unfolding HeadsFitWaiters
   can_release = record {
     turnstile = g.turnstile;
-    balanced = (lawful.heads_fit_waiters (lock_queue l)).balanced;
+    balanced = (lawful.queues.heads_fit_waiters (lock_queue l)).balanced;
     lent = λ x y e f. lent_out c s t l lawful g.lock g.turnstile (laws.loans c s t l y lawful f).1 x y e f;
     unlent = unlent;
     elsewhere = λ k x d turnstile e. elsewhere k x d turnstile e (s.loan t l) refl;
@@ -293,7 +293,7 @@ module _ (c : Config) (s : State) (t l : ℕ) (mode : Mode) (lawful : Lawful c s
 
   some_woken : is_empty (list_of side (s.lists (lock_queue l))) ≡ false
   unfolding BitsShowWaiters MutexWaitersAreExclusive
-  some_woken = side_shown (c.kind l) (s.word l) (s.lists (lock_queue l)) g.turnstile (lawful.bits_show_waiters l) g.shown (lawful.mutex_waiters_are_exclusive l)
+  some_woken = side_shown (c.kind l) (s.word l) (s.lists (lock_queue l)) g.turnstile (lawful.queues.bits_show_waiters l) g.shown (lawful.queues.mutex_waiters_are_exclusive l)
 
   -- the loan and the turnstile's node
   module _ {r : Record} (rec : RepresentsRecord r (record_in s t)) where

@@ -41,3 +41,7 @@ HasCycle s = (t : ℕ) × ((us : List ℕ) × WaitsAlong s t (us ++ t ∷ []))
 -- no walk is under way
 abbrev pub NobodyWalks : Config → State → Type 0
 NobodyWalks c s = (t : ℕ) → t < c.threads → s.walk t ≡ NoWalk
+
+-- where nobody walks and no cycle of threads waits, each effective priority is the best behind its thread
+abbrev pub HasBest : Config → State → Type 0
+HasBest c s = NobodyWalks c s → (HasCycle s → ⊥) → (t : ℕ) → t < c.threads → s.effective t ≡ best_behind c s t

@@ -15,9 +15,8 @@ pub use Rattle.lock_state.specs.Facts.Words.{WordMatchesHolders, owns, shares}
 unfoldable pub use Rattle.lock_state.specs.Facts.Loans.{EffectiveIsLeast, OwnersHold, ChannelsHaveNoOwner, LoansAreLeast, LoansAreWithOwners, LoansAreOnHeads, KeptIsEffective, EffectiveIsKnown, LoansAreKnown, KeptIsKnown}
 unfoldable pub use Rattle.lock_state.specs.Facts.Books.{NextIsNew, LogsAreParts, TablesReplay, BasesReplay, SectionsAreHeld, OutIsNarrow, NothingIsOut}
 
--- a state in which all of these hold
-pub record Lawful (c : Config) (s : State) : Type 0 where
-  -- places, heads, bits and lists
+-- where objects are, who stands in which order, and what a word shows of it
+pub record QueueFacts (c : Config) (s : State) : Type 0 where
   pub one_turnstile_each : OneTurnstileEach c s.turnstile s.head s.free_list s.marked
   pub one_sleep_queue_each : OneSleepQueueEach c s.sleep_queue s.head s.free_list s.marked
   pub one_node_each : OneNodeEach c s.loan_home s.loan
@@ -27,7 +26,9 @@ pub record Lawful (c : Config) (s : State) : Type 0 where
   pub bits_show_waiters : BitsShowWaiters s.word s.lists
   pub lists_ascend : ListsAscend c s.lists
   pub mutex_waiters_are_exclusive : MutexWaitersAreExclusive c s.lists
-  -- standing, wanting and calling
+
+-- who stands, who wants what, and who is called for a free lock
+pub record WaitFacts (c : Config) (s : State) : Type 0 where
   pub stands_once : StandsOnce c s.lists s.marked s.blocked_on
   pub only_threads_stand : OnlyThreadsStand c s.blocked_on
   pub standing_is_queued : StandingIsQueued s.blocked_on s.wait
@@ -38,10 +39,14 @@ pub record Lawful (c : Config) (s : State) : Type 0 where
   pub woken_is_uncalled : WokenIsUncalled s.wait s.called
   pub free_word_has_called : FreeWordHasCalled c s.word s.marked s.wait s.called
   pub free_mutex_shows_none : FreeMutexShowsNone c s.word
-  -- words and holders
+
+-- words and the holders that they name
+pub record WordFacts (c : Config) (s : State) : Type 0 where
   pub words_match_holders : WordsMatchHolders c s.word s.held
   pub only_threads_hold : OnlyThreadsHold c s.held
-  -- priorities
+
+-- priorities: effective ones, loans and those that queues keep
+pub record LoanFacts (c : Config) (s : State) : Type 0 where
   pub effective_is_least : EffectiveIsLeast c s.effective s.base s.loan
   pub owners_hold : OwnersHold c s.owner s.head s.word
   pub channels_have_no_owner : ChannelsHaveNoOwner s.owner
@@ -52,7 +57,9 @@ pub record Lawful (c : Config) (s : State) : Type 0 where
   pub effective_is_known : EffectiveIsKnown c s.effective s.history
   pub loans_are_known : LoansAreKnown c s.loan s.history
   pub kept_is_known : KeptIsKnown c s.lists s.history
-  -- books
+
+-- logs, tables and the history
+pub record BookFacts (c : Config) (s : State) : Type 0 where
   pub next_is_new : NextIsNew s.next s.history
   pub logs_are_parts : LogsAreParts s.log s.history
   pub tables_replay_logs : TablesReplay s.table s.history
@@ -63,8 +70,19 @@ pub record Lawful (c : Config) (s : State) : Type 0 where
   pub edits_in_sections : EditsInSections c s.history
   pub reads_replay : ReadsReplay s.history
   pub shown_is_explained : ShownIsExplained c s.history
-  -- what is out
+
+-- what is out
+pub record ItemFacts (c : Config) (s : State) : Type 0 where
   pub out_is_narrow : OutIsNarrow s.turnstile_chain_with s.sleep_chain_with s.record_with s.cell_with s.graph_with
+
+-- a state in which all of these hold
+pub record Lawful (c : Config) (s : State) : Type 0 where
+  pub queues : QueueFacts c s
+  pub waits : WaitFacts c s
+  pub words : WordFacts c s
+  pub loans : LoanFacts c s
+  pub books : BookFacts c s
+  pub items : ItemFacts c s
 
 -- A state between two steps of a running floor: lawful, and a thread that is Queued and about to stand on a queue has its own record out.
 pub record LawfulFloor (c : Config) (s : State) : Type 0 where

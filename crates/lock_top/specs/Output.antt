@@ -14,7 +14,7 @@ use Rattle.lock_model.specs.History.{place_cmp, tables_of}
 use Rattle.lock_model.specs.Text.{Ending, IsDone, IsStuck, IsReversed, IsTooLong, text_of, fault_text}
 use Rattle.lock_model.specs.declared.limits.TheConstants.{DEFAULT_CHAINS}
 use Rattle.lock_model.specs.declared.plan.Plan.{Plan}
-use Rattle.step_world.specs.Worlds.{HasBest}
+use Rattle.lock_state.specs.Best.{HasBest}
 use Rattle.lock_top.specs.declared.status.Status.{Status}
 use Rattle.lock_top.specs.declared.status.Status.TheVariants.{Done, BadScript, ReadFault, WriteFault, NoMemory, Stuck, Reversed, TooLong, TooBig, Usage}
 

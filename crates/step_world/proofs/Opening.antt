@@ -58,7 +58,7 @@ module _ {m : Machine} {c : Config} {s : State} {t l : ℕ} {mode : Mode} {kind 
 
     pub shows_no_shared : kind ≡ Mtx → (word_of w).shared_waiters ≡ false
     unfolding BitsShowWaiters MutexWaitersAreExclusive
-    shows_no_shared e = ap (λ v. v.shared_waiters) read ∙ (lawful.bits_show_waiters l).shared ∙ ap (λ ws. not (is_empty ws)) (lawful.mutex_waiters_are_exclusive l (sym its_kind ∙ e))
+    shows_no_shared e = ap (λ v. v.shared_waiters) read ∙ (lawful.queues.bits_show_waiters l).shared ∙ ap (λ ws. not (is_empty ws)) (lawful.queues.mutex_waiters_are_exclusive l (sym its_kind ∙ e))
 
     pub word_opens : (v : ℕ) → word_of v ≡ opened kind (word_of w) → word_of v ≡ opened (c.kind l) (s.word l)
     word_opens v is = is ∙ (λ i. opened (its_kind i) (read i))

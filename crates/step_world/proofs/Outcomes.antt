@@ -63,7 +63,7 @@ short_is : (s : State) (c : Config) (l : ℕ) (o : Option Turnstile) → Represe
 unfolding HeadsFitWaiters
 short_is s c l None h lawful few = tt
 short_is s c l (Some t) h lawful few =
-    let fits = (lawful.heads_fit_waiters (lock_queue l)).balanced in
+    let fits = (lawful.queues.heads_fit_waiters (lock_queue l)).balanced in
     let both : length t.contents.exclusive + length t.contents.shared ≤ 32 = rw (ap (λ v. v.lists) h.queue) at few in
     let spare : length (s.free_list (lock_queue l)) ≤ 32 = omega (arith, fits, few) in
     let free : length t.contents.free ≤ 32 = rw (ap (λ v. v.free_list) h.queue) at spare in

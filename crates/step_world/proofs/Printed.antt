@@ -26,7 +26,7 @@ its_run plan chains course k h =
 
 -- the entries of its log are in order
 pub log_in_order : (plan : Plan) (m : Machine) (r : Run) → IsRunOf plan m r → InOrder m.log.entries
-log_in_order plan m r h = subst InOrder (sym h.shows.shows.history) (InOrder-reverse r.state.history h.on_track.lawful.lawful.tickets_run)
+log_in_order plan m r h = subst InOrder (sym h.shows.shows.history) (InOrder-reverse r.state.history h.on_track.lawful.lawful.books.tickets_run)
 
 pub printed : (plan : Plan) (chains : ℕ) (m : Machine) (k : run.Course) (o : Outcome) → IsProper plan → IsRunOf plan m k.run → o.history ≡ m.log.entries
     → map line_seen o.queues ≡ lines_below chains m (length m.words.items) → numbers_of o.finals ≡ finals_of m → o.tables ≡ m.tables → ending_of o.last ≡ run.ending_of plan k

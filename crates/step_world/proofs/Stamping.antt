@@ -98,6 +98,6 @@ stamped m n c s t e ticket same threads tables log is h lawful g = record {
   words = subst (λ (k : Machine). RepresentsWords k.words.items c s.word) (sym same) h.words;
   queues = subst (λ (k : Machine). RepresentsQueues c k.chain (queue_in s) s.loan_home) (sym same) h.queues;
   threads = noted_all c s t.0 e m.threads.items n.threads.items threads g.thread lawful h.threads;
-  history = log ∙ history_seen m.log.entries s t e ticket h.history is lawful.next_is_new;
+  history = log ∙ history_seen m.log.entries s t e ticket h.history is lawful.books.next_is_new;
   tables = tables ∙ ap (edited e) h.tables;
 }

@@ -20,7 +20,8 @@ newly_ended Ended has_ended = 0
 newly_ended Idle has_ended = one has_ended
 newly_ended (Did kind) has_ended = one has_ended
 
--- the course is the definition's: its world represents the run, and those who still come are what is left of the schedule or of this round
+-- The course is the definition's: its world represents the run, those who still come are what is left of the schedule
+-- or of this round, and so many threads have ended.
 pub record IsCourse (plan : Plan) (chains : ℕ) (course : Course) (k : run.Course) : Type 0 where
   pub plan_is : course.world.plan ≡ plan
   pub chains_are : course.world.chains ≡ chains
@@ -34,3 +35,13 @@ pub record IsCourse (plan : Plan) (chains : ℕ) (course : Course) (k : run.Cour
 -- the course is that of some plan
 abbrev pub IsUnderWay : Course → Type 0
 IsUnderWay course = (plan : Plan) × (chains : ℕ) × (k : run.Course) × IsCourse plan chains course k
+
+-- whatever course of the definition it was, what is said of it is so
+abbrev pub Tells : {A : Type 0} → Course → A → (Plan → run.Course → A) → Type 0
+Tells course result f = (plan : Plan) (chains : ℕ) (k : run.Course) → IsCourse plan chains course k
+    → result ≡ f plan k
+
+-- and it goes on to that one
+abbrev pub GoesTo : Course → Course → (Plan → run.Course → run.Course) → Type 0
+GoesTo old new f = (plan : Plan) (chains : ℕ) (k : run.Course) → IsCourse plan chains old k
+    → IsCourse plan chains new (f plan k)

@@ -21,11 +21,13 @@ line_at chains l (Some h) = record {
 
 -- those of the first locks
 abbrev pub lines_below : ℕ → Machine → ℕ → List QueueLine
-lines_below chains m n = flat_map (λ l. line_at chains l (head_of (lock_queue l) m.chain)) (range_with_len 0 n)
+lines_below chains m n =
+    flat_map (λ l. line_at chains l (head_of (lock_queue l) m.chain)) (range_with_len 0 n)
 
 -- each thread's base and effective priority
 abbrev pub finals_of : Machine → List (ℕ × ℕ)
-finals_of m = map {B = ℕ × ℕ} (λ th. (th.record.value.base, th.record.value.effective)) m.threads.items
+finals_of m =
+    map {B = ℕ × ℕ} (λ th. (th.record.value.base, th.record.value.effective)) m.threads.items
 
 -- a turnstile whose lists and free list can be counted
 pub record IsShort (h : Contents) : Type 0 where

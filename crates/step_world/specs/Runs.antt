@@ -35,7 +35,8 @@ HasRoom plan m = length m.log.entries + m.log.spare ≡ operations_in_all plan
 abbrev pub HasKeys : Plan → Machine → Type 0
 HasKeys plan m = (l key : ℕ) → IsTrue (plan_names plan l key) → Contains m.tables.places (l, key)
 
--- The machine represents the run: its objects represent the run's state, each thread is as far as the run says, and there is room.
+-- The machine represents the run: its objects represent the run's state, each thread is as far as the run says, and
+-- there is room.
 pub record RepresentsRun (plan : Plan) (m : Machine) (r : Run) : Type 0 where
   pub shows : Represents (config_of plan) m r.state
   pub progress : (t : ℕ) → t < length plan.threads → progress m t ≡ Some (progress_in plan r t)
@@ -53,11 +54,13 @@ HasRun plan m premise = (r : Run) × IsRunOf plan m r × premise r
 
 -- the answer is that of the thread's turn, and the machine represents the run behind it
 abbrev pub IsTurn : Plan → Run → ℕ → Machine → Turn → Type 0
-IsTurn plan r t m answer = (answer ≡ (turn_of plan r t).answer) × RepresentsRun plan m (run_behind plan r t)
+IsTurn plan r t m answer =
+    (answer ≡ (turn_of plan r t).answer) × RepresentsRun plan m (run_behind plan r t)
 
 -- so from whatever run it was of which something holds
 abbrev pub Follows : Plan → ℕ → Machine → Machine → Turn → (Run → Type 0) → Type 0
-Follows plan t old new answer premise = (r : Run) → IsRunOf plan old r → premise r → IsTurn plan r t new answer
+Follows plan t old new answer premise = (r : Run) → IsRunOf plan old r → premise r
+    → IsTurn plan r t new answer
 
 -- where the answer is that the thread is idle or has ended, nothing has changed
 abbrev pub KeepsWhereIdle : Turn → Machine → Machine → Type 0
@@ -73,13 +76,20 @@ pub record IsNote (plan : Plan) (r : Run) (t : ℕ) (event : Event) : Type 0 whe
   pub op : Op
   pub at : IsAtOperation plan r t (Some op)
   pub noted : operates (config_of plan) r t (Some op) ≡ notes r t event
-  pub holds_on : (progress_in plan r t).held ≡ held_of (length plan.locks) (operations_of plan t) (suc (r.next_op t))
+  pub holds_on : (progress_in plan r t).held
+      ≡ held_of (length plan.locks) (operations_of plan t) (suc (r.next_op t))
 
 -- a thread stands on the turnstile of no lock
 abbrev pub IsNowhere : State → ℕ → Type 0
-IsNowhere s o = (l : ℕ) → s.blocked_on o ≡ Some (lock_queue l) → stands o (s.lists (lock_queue l)) ≡ 0
+IsNowhere s o = (l : ℕ) → s.blocked_on o ≡ Some (lock_queue l)
+    → stands o (s.lists (lock_queue l)) ≡ 0
+
+-- it stands on that of the lock
+abbrev pub StandsAt : State → ℕ → ℕ → Type 0
+StandsAt s o l = (s.blocked_on o ≡ Some (lock_queue l)) × (0 < stands o (s.lists (lock_queue l)))
 
 -- threads of a plan at their begin, in order
 pub record AreNew (decls : List ThreadDecl) (ths : List Thread) : Type 0 where
   pub number : length ths ≡ length decls
-  pub each : (t : ℕ) (th : Thread) (d : ThreadDecl) → slice_get ths t ≡ Some th → slice_get decls t ≡ Some d → IsNew t d.base.0 th
+  pub each : (t : ℕ) (th : Thread) (d : ThreadDecl) → slice_get ths t ≡ Some th
+      → slice_get decls t ≡ Some d → IsNew t d.base.0 th

@@ -21,13 +21,13 @@ May m guard = (c : Config) × (s : State) × Represents c m s × Lawful c s × g
 
 -- whatever lawful state it represented in which the step may be made, it represents the state behind it
 abbrev pub Makes : Machine → Machine → Step → Type 0
-Makes old new step = (c : Config) (s : State) → Represents c old s → Lawful c s → MayMake c s step
-    → Represents c new (after c s step)
+Makes old new step = (c : Config) (s : State) → Represents c old s → Lawful c s
+    → MayMake c s step → Represents c new (after c s step)
 
 -- the same of steps in a row
 abbrev pub MakesAll : Machine → Machine → List Step → Type 0
-MakesAll old new steps = (c : Config) (s : State) → Represents c old s → Lawful c s → MayAll c s steps
-    → Represents c new (after_all c s steps)
+MakesAll old new steps = (c : Config) (s : State) → Represents c old s → Lawful c s
+    → MayAll c s steps → Represents c new (after_all c s steps)
 
 -- 2. What no column tells: each thread's next operation, and the list of what it holds in order of acquisition
 
@@ -48,7 +48,8 @@ KeepsProgress old new = (u : ℕ) → progress new u ≡ progress old u
 
 -- that of one thread changes, and that of the others stays
 abbrev pub ChangesProgress : Machine → Machine → ℕ → (Progress → Progress) → Type 0
-ChangesProgress old new t f = (u : ℕ) → progress new u ≡ (if u == t then option_map f (progress old u) else progress old u)
+ChangesProgress old new t f = (u : ℕ)
+    → progress new u ≡ (if u == t then option_map f (progress old u) else progress old u)
 
 -- fewer locks than a thread may hold
 abbrev pub HoldsFew : Machine → ℕ → Type 0

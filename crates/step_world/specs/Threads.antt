@@ -26,4 +26,6 @@ has_no_walk (walk.AtThread t) = false
 
 -- whether it has so many operations behind it, owes nothing and holds nothing
 abbrev pub thread_has_ended : ℕ → Thread → Bool
-thread_has_ended operations th = nat_le operations th.next_op && has_no_walk th.walk && is_empty th.marked && is_empty th.held.items
+thread_has_ended operations th =
+    nat_le operations th.next_op && has_no_walk th.walk && is_empty th.marked
+    && is_empty th.held.items

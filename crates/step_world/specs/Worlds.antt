@@ -1,10 +1,7 @@
 -- What a world is seen as, and which run of its plan it represents.
-use Rattle.std.specs.Prelude.{◌≡◌, ℕ, ◌≤◌, ◌<◌}
-use Rattle.lock_model.specs.Config.{Config}
+use Rattle.std.specs.Prelude.{ℕ, ◌≤◌}
 use Rattle.lock_model.specs.Operations.{IsProper}
-use Rattle.lock_state.specs.Best.{NobodyWalks, HasCycle, best_behind}
 use Rattle.lock_state.specs.Run.{Run}
-use Rattle.lock_state.specs.State.{State}
 use Rattle.lock_model.specs.declared.plan.Plan.{Plan}
 use Rattle.step_world.specs.declared.machine.Machine.{Machine}
 use Rattle.step_world.specs.Runs.{IsRunOf}
@@ -25,7 +22,3 @@ pub record IsSound (w : World) : Type 0 where
   pub some_chains : 1 ≤ w.chains
   pub few_chains : w.chains ≤ 64
   pub run : (r : Run) × Represents w r
-
--- where nobody walks and no cycle of threads waits, each effective priority is the best behind its thread
-abbrev pub HasBest : Config → State → Type 0
-HasBest c s = NobodyWalks c s → (HasCycle s → ⊥) → (t : ℕ) → t < c.threads → s.effective t ≡ best_behind c s t

@@ -1,5 +1,5 @@
-//! The objects of a scheduled run: lock words, the chain of the turnstiles that are lent to locks, the threads, the history so far and the
-//! tables. Each method is one step of a thread, or of two in one turn, by the definitions of `lock_model`'s `specs/Moves..`.
+//! The objects of a scheduled run: lock words, the chain of the turnstiles that are lent to locks, the threads, the
+//! history so far and the tables. Each method is a step of a thread (`lock_state`'s `specs/Steps.antt`), or two in a row.
 ghost use Rattle.std.specs.Prelude.{◌≡◌, ◌<◌, ◌+◌, ◌^◌, suc, ℕ, map, sum, length, IfOk, IfSome};
 ghost use Rattle.lock_model.specs.Operations.{IsProper, operations_in_all};
 ghost use Rattle.lock_model.specs.Plans.{config_of};
@@ -56,8 +56,10 @@ impl Machine {
     pub fn end_operation(&mut self, t: ThreadNo)
         requires thread { t.0 < length self.old.threads.items }
         requires within { IfSome (progress self.old t.0) (λ a. a.next_op < 20000) }
-        ensures shows { (c : Config) (s : State) → Represents c self.old s → Represents c self.new s }
-        ensures progress { ChangesProgress self.old self.new t.0 (λ a. record a { next_op = suc a.next_op }) }
+        ensures shows { (c : Config) (s : State) → Represents c self.old s
+            → Represents c self.new s }
+        ensures progress { ChangesProgress self.old self.new t.0
+            (λ a. record a { next_op = suc a.next_op }) }
         ensures books { KeepsBooks self.old self.new }
     {
         self.threads[usize::from(t.0)].next_op += 1;

@@ -23,8 +23,10 @@ pub fn queue_lines(
     requires some_chains { 1 ≤ chains }
     requires few_chains { chains ≤ 64 }
     requires locks { length machine.now.words.items ≤ 64 }
-    requires few { (l : ℕ) → IfSome (head_of (lock_queue l) machine.now.chain) (λ h. IsShort h.contents) }
-    ensures { IfOk result (λ lines. map line_seen lines.items ≡ lines_below chains machine.now (length machine.now.words.items)) }
+    requires few { (l : ℕ)
+        → IfSome (head_of (lock_queue l) machine.now.chain) (λ h. IsShort h.contents) }
+    ensures { IfOk result (λ lines. map line_seen lines.items
+        ≡ lines_below chains machine.now (length machine.now.words.items)) }
 {
     let mut lines = Vec::new(alloc);
     for l in 0..machine.words.len() as u8 {
@@ -44,7 +46,9 @@ fn push_line(
     requires some_chains { 1 ≤ chains }
     requires few_chains { chains ≤ 64 }
     requires few { IfSome (head_of (lock_queue l.0) machine.now.chain) (λ h. IsShort h.contents) }
-    ensures { OnOk result (map line_seen lines.new.items ≡ map line_seen lines.old.items ++ line_at chains l.0 (head_of (lock_queue l.0) machine.now.chain)) }
+    ensures { OnOk result (map line_seen lines.new.items
+        ≡ map line_seen lines.old.items ++ line_at chains l.0
+        (head_of (lock_queue l.0) machine.now.chain)) }
 {
     let q = QueueName::Lock(l);
     if let Some(head) = machine.chain.find(q) {

@@ -8,7 +8,7 @@ ghost use Rattle.lock_state.specs.Run as run;
 ghost use Rattle.lock_state.specs.Run.{start_course, course_after, after_turn, with_turn, is_over, is_stuck, all_ended, round_of, scheduled_run, outcome_of, HasLegalHistory};
 ghost use Rattle.lock_state.specs.Run.{ending_of as ending_of_course};
 ghost use Rattle.lock_model.specs.declared.plan.Plan as plans;
-ghost use Rattle.step_world.specs.Courses.{IsCourse, IsUnderWay, ended_in, newly_ended};
+ghost use Rattle.step_world.specs.Courses.{IsCourse, IsUnderWay, Tells, GoesTo, ended_in, newly_ended};
 ghost use Rattle.step_world.specs.Worlds.{Represents};
 
 use crate::outcome::{finals, queue_lines};
@@ -17,10 +17,11 @@ use lock_history::{History, Last, Outcome};
 use lock_model::{Plan, Sequence, ThreadNo, Turn};
 use std::alloc::{AllocError, Global};
 
-/// The scheduled run of a plan: the turns of its schedule, and then rounds over the threads that haven't ended, by number. It ends `Done`
-/// where all threads have ended, `Stuck` where a whole round was idle, and else `TooLong` where the allowed turns were made.
-/// Its history is legal, and whole unless it ended `Stuck` or `TooLong`. There are 1 to 64 chains of each sort, of which
-/// only the printed slots tell, and 1 to 1,000,000 turns. The plan is one that some script gives.
+/// The scheduled run of a plan: the turns of its schedule, and then rounds over the threads that haven't ended, by
+/// number. It ends `Done` where all threads have ended, `Stuck` where a whole round was idle, and else `TooLong` where the
+/// allowed turns were made. Its history is legal, and whole unless it ended `Stuck` or `TooLong`. There are 1 to 64
+/// chains of each sort, of which only the printed slots tell, and 1 to 1,000,000 turns. The plan is one that some
+/// script gives.
 pub fn run_schedule(
     alloc: Global,
     plan: &Plan,
@@ -57,7 +58,8 @@ struct Course<'p> {
 fn make_turns(course: &mut Course<'_>, turns: u32) -> Result<(), AllocError>
     requires { IsUnderWay course.old }
     ensures under_way { OnOk result (IsUnderWay course.new) }
-    ensures turns { OnOk result ((plan : plans.Plan) (chains : ℕ) → IsCourse plan chains course.old (start_course plan)
+    ensures turns { OnOk result ((plan : plans.Plan) (chains : ℕ)
+        → IsCourse plan chains course.old (start_course plan)
         → IsCourse plan chains course.new (course_after plan turns)) }
 {
     let mut made = 0;
@@ -89,20 +91,19 @@ impl<'p> Course<'p> {
 
     // Whether all threads have ended, or a whole round was idle.
     fn is_over(&self) -> bool
-        ensures { (plan : plans.Plan) (chains : ℕ) (k : run.Course) → IsCourse plan chains self.now k → result ≡ is_over plan k }
+        ensures { Tells self.now result is_over }
     {
         self.all_ended() || self.is_stuck()
     }
 
     fn all_ended(&self) -> bool
-        ensures { (plan : plans.Plan) (chains : ℕ) (k : run.Course) → IsCourse plan chains self.now k
-            → result ≡ all_ended plan k.run }
+        ensures { Tells self.now result (λ plan k. all_ended plan k.run) }
     {
         self.ended == self.world.threads()
     }
 
     fn is_stuck(&self) -> bool
-        ensures { (plan : plans.Plan) (chains : ℕ) (k : run.Course) → IsCourse plan chains self.now k → result ≡ is_stuck k }
+        ensures { Tells self.now result (λ plan k. is_stuck k) }
     {
         self.gone == self.coming.len() && self.idle
     }
@@ -110,8 +111,7 @@ impl<'p> Course<'p> {
     // The next thread has its turn. Where nobody comes any more, a round begins.
     fn go_on(&mut self) -> Result<(), AllocError>
         requires { IsUnderWay self.old }
-        ensures { OnOk result ((plan : plans.Plan) (chains : ℕ) (k : run.Course) → IsCourse plan chains self.old k
-            → IsCourse plan chains self.new (after_turn plan k k.coming)) }
+        ensures { OnOk result (GoesTo self.old self.new (λ plan k. after_turn plan k k.coming)) }
     {
         if self.gone == self.coming.len() {
             self.begin_round()?;
@@ -122,8 +122,8 @@ impl<'p> Course<'p> {
 
     // Nobody of the schedule or of the round before comes any more.
     fn begin_round(&mut self) -> Result<(), AllocError>
-        ensures { OnOk result ((plan : plans.Plan) (chains : ℕ) (k : run.Course) → IsCourse plan chains self.old k
-            → IsCourse plan chains self.new (record k { coming = round_of plan k.run; idle = true })) }
+        ensures { OnOk result (GoesTo self.old self.new
+            (λ plan k. record k { coming = round_of plan k.run; idle = true })) }
     {
         put_round(&self.world, &mut self.coming)?;
         self.gone = 0;
@@ -134,8 +134,7 @@ impl<'p> Course<'p> {
     // The first that comes has its turn.
     fn make_turn(&mut self)
         requires { IsUnderWay self.old }
-        ensures { (plan : plans.Plan) (chains : ℕ) (k : run.Course) → IsCourse plan chains self.old k
-            → IsCourse plan chains self.new (with_turn plan k.run k.coming k.idle) }
+        ensures { GoesTo self.old self.new (λ plan k. with_turn plan k.run k.coming k.idle) }
     {
         if let Some(t) = self.coming.get(self.gone) {
             let t = *t;
@@ -149,7 +148,7 @@ impl<'p> Course<'p> {
 
     // How the run ended.
     fn last(&self) -> Last
-        ensures { (plan : plans.Plan) (chains : ℕ) (k : run.Course) → IsCourse plan chains self.now k → ending_of result ≡ ending_of_course plan k }
+        ensures { Tells self.now (ending_of result) ending_of_course }
     {
         if self.all_ended() {
             Last::Done
@@ -163,7 +162,8 @@ impl<'p> Course<'p> {
     // What is printed of the run.
     fn into_outcome(self, alloc: Global) -> Result<Outcome, AllocError>
         requires { IsUnderWay self }
-        ensures { IfOk result (λ o. (plan : plans.Plan) (chains : ℕ) (k : run.Course) → IsProper plan → IsCourse plan chains self.entry k
+        ensures { IfOk result (λ o. (plan : plans.Plan) (chains : ℕ) (k : run.Course)
+            → IsProper plan → IsCourse plan chains self.entry k
             → outcome_seen o ≡ outcome_of plan chains k) }
     {
         let last = self.last();
@@ -203,8 +203,10 @@ fn newly_ended(turn: Turn, has_ended: bool) -> u8
 
 // A round goes over the threads that haven't ended, by number.
 fn put_round(world: &World<'_>, coming: &mut Vec<ThreadNo>) -> Result<(), AllocError>
-    ensures round { OnOk result ((r : run.Run) → Represents world.now r → map (λ t. t.0) coming.new.items ≡ round_of world.now.plan r) }
-    ensures threads { OnOk result (All (λ t. t.0 < length world.now.plan.threads) coming.new.items) }
+    ensures round { OnOk result ((r : run.Run) → Represents world.now r
+        → map (λ t. t.0) coming.new.items ≡ round_of world.now.plan r) }
+    ensures threads { OnOk result
+        (All (λ t. t.0 < length world.now.plan.threads) coming.new.items) }
 {
     coming.clear();
     for t in 0..world.threads() {

@@ -1,5 +1,5 @@
-//! The table of turns: which steps a thread makes when it has its turn. Each function is a row, or the operations of one
-//! sort, and follows the definition of the same name in `lock_state`'s `specs/Run.antt`.
+//! The table of turns: which steps a thread makes when it has its turn. Each function is a row, or the operations of
+//! one sort, and makes the steps of the definition's row (`lock_state`'s `specs/Run.antt`) one by one.
 ghost use Rattle.std.specs.Prelude.{◌≡◌, ◌<◌, length, Some, ℕ, nat_lt, option_map, MatchOption};
 ghost use Rattle.lock_state.specs.Facts.{Lawful};
 ghost use Rattle.lock_model.specs.Operations.{IsProper};
@@ -9,7 +9,7 @@ ghost use Rattle.lock_model.specs.Queues.{lock_queue, stands};
 ghost use Rattle.lock_laws.specs.OnTrack.{IsAtOperation};
 ghost use Rattle.step_world.specs.Represents.{Represents};
 ghost use Rattle.step_world.specs.Steps.{HasKey};
-ghost use Rattle.step_world.specs.Runs.{HasRun, Follows, KeepsWhereIdle, IsFree, IsNote, IsNowhere};
+ghost use Rattle.step_world.specs.Runs.{HasRun, Follows, KeepsWhereIdle, IsFree, IsNote, IsNowhere, StandsAt};
 
 use crate::machine::Machine;
 use crate::thread::Wait;
@@ -48,7 +48,8 @@ fn walk_at_lock(machine: &mut Machine, plan: &Plan, t: ThreadNo, l: LockNo) -> T
     requires proper { IsProper plan.now }
     requires thread { t.0 < length plan.now.threads }
     requires run { HasRun plan.now machine.old (λ r. r.state.walk t.0 ≡ AtLock l.0) }
-    ensures follows { Follows plan.now t.0 machine.old machine.new result (λ r. r.state.walk t.0 ≡ AtLock l.0) }
+    ensures follows { Follows plan.now t.0 machine.old machine.new result
+        (λ r. r.state.walk t.0 ≡ AtLock l.0) }
     ensures unchanged { KeepsWhereIdle result machine.old machine.new }
 {
     match owner_at(machine, l) {
@@ -79,7 +80,8 @@ fn walk_at_thread(machine: &mut Machine, plan: &Plan, t: ThreadNo, o: ThreadNo) 
     requires proper { IsProper plan.now }
     requires thread { t.0 < length plan.now.threads }
     requires run { HasRun plan.now machine.old (λ r. r.state.walk t.0 ≡ AtThread o.0) }
-    ensures follows { Follows plan.now t.0 machine.old machine.new result (λ r. r.state.walk t.0 ≡ AtThread o.0) }
+    ensures follows { Follows plan.now t.0 machine.old machine.new result
+        (λ r. r.state.walk t.0 ≡ AtThread o.0) }
     ensures unchanged { KeepsWhereIdle result machine.old machine.new }
 {
     match stands_at(machine, o) {
@@ -96,9 +98,8 @@ fn walk_at_thread(machine: &mut Machine, plan: &Plan, t: ThreadNo, o: ThreadNo) 
 
 // The lock on whose turnstile a thread stands.
 fn stands_at(machine: &Machine, o: ThreadNo) -> Option<LockNo>
-    ensures { (c : Config) (s : State) → Represents c machine.now s → Lawful c s → MatchOption result
-        (IsNowhere s o.0)
-        (λ l. (s.blocked_on o.0 ≡ Some (lock_queue l.0)) × (0 < stands o.0 (s.lists (lock_queue l.0)))) }
+    ensures { (c : Config) (s : State) → Represents c machine.now s → Lawful c s
+        → MatchOption result (IsNowhere s o.0) (λ l. StandsAt s o.0 l.0) }
 {
     match blocked_on(machine, o) {
         Some(QueueName::Lock(l)) => { if waits(machine, o, l) { Some(l) } else { None } }
@@ -109,7 +110,8 @@ fn stands_at(machine: &Machine, o: ThreadNo) -> Option<LockNo>
 
 // The queue that a thread's record names. There is none where the plan has no such thread.
 fn blocked_on(machine: &Machine, o: ThreadNo) -> Option<QueueName>
-    ensures { (c : Config) (s : State) → Represents c machine.now s → Lawful c s → result ≡ s.blocked_on o.0 }
+    ensures { (c : Config) (s : State) → Represents c machine.now s → Lawful c s
+        → result ≡ s.blocked_on o.0 }
 {
     match machine.threads.as_slice().get(usize::from(o.0)) {
         Some(thread) => thread.record.on(),
@@ -133,7 +135,8 @@ fn by_wait(machine: &mut Machine, plan: &Plan, t: ThreadNo) -> Turn
     requires proper { IsProper plan.now }
     requires thread { t.0 < length plan.now.threads }
     requires run { HasRun plan.now machine.old (λ r. IsFree plan.now r t.0) }
-    ensures follows { Follows plan.now t.0 machine.old machine.new result (λ r. IsFree plan.now r t.0) }
+    ensures follows { Follows plan.now t.0 machine.old machine.new result
+        (λ r. IsFree plan.now r t.0) }
     ensures unchanged { KeepsWhereIdle result machine.old machine.new }
 {
     let thread = &machine.threads[usize::from(t.0)];
@@ -155,7 +158,8 @@ fn operate(machine: &mut Machine, plan: &Plan, t: ThreadNo, op: Op) -> Turn
     requires proper { IsProper plan.now }
     requires thread { t.0 < length plan.now.threads }
     requires run { HasRun plan.now machine.old (λ r. IsAtOperation plan.now r t.0 (Some op)) }
-    ensures follows { Follows plan.now t.0 machine.old machine.new result (λ r. IsAtOperation plan.now r t.0 (Some op)) }
+    ensures follows { Follows plan.now t.0 machine.old machine.new result
+        (λ r. IsAtOperation plan.now r t.0 (Some op)) }
     ensures unchanged { KeepsWhereIdle result machine.old machine.new }
 {
     match op {
@@ -183,8 +187,10 @@ fn operate(machine: &mut Machine, plan: &Plan, t: ThreadNo, op: Op) -> Turn
 fn take(machine: &mut Machine, plan: &Plan, t: ThreadNo, l: LockNo) -> Turn
     requires proper { IsProper plan.now }
     requires thread { t.0 < length plan.now.threads }
-    requires run { HasRun plan.now machine.old (λ r. IsAtOperation plan.now r t.0 (Some (Op.Take l Mode.Excl))) }
-    ensures follows { Follows plan.now t.0 machine.old machine.new result (λ r. IsAtOperation plan.now r t.0 (Some (Op.Take l Mode.Excl))) }
+    requires run { HasRun plan.now machine.old
+        (λ r. IsAtOperation plan.now r t.0 (Some (Op.Take l Mode.Excl))) }
+    ensures follows { Follows plan.now t.0 machine.old machine.new result
+        (λ r. IsAtOperation plan.now r t.0 (Some (Op.Take l Mode.Excl))) }
     ensures unchanged { KeepsWhereIdle result machine.old machine.new }
 {
     let mode = Mode::Excl;
@@ -203,8 +209,10 @@ fn take(machine: &mut Machine, plan: &Plan, t: ThreadNo, l: LockNo) -> Turn
 fn release(machine: &mut Machine, plan: &Plan, t: ThreadNo, l: LockNo) -> Turn
     requires proper { IsProper plan.now }
     requires thread { t.0 < length plan.now.threads }
-    requires run { HasRun plan.now machine.old (λ r. IsAtOperation plan.now r t.0 (Some (Op.Release l))) }
-    ensures follows { Follows plan.now t.0 machine.old machine.new result (λ r. IsAtOperation plan.now r t.0 (Some (Op.Release l))) }
+    requires run { HasRun plan.now machine.old
+        (λ r. IsAtOperation plan.now r t.0 (Some (Op.Release l))) }
+    ensures follows { Follows plan.now t.0 machine.old machine.new result
+        (λ r. IsAtOperation plan.now r t.0 (Some (Op.Release l))) }
     ensures unchanged { KeepsWhereIdle result machine.old machine.new }
 {
     let mode = Mode::Excl;
@@ -227,7 +235,8 @@ fn note(machine: &mut Machine, plan: &Plan, t: ThreadNo, event: Event) -> Turn
     requires thread { t.0 < length plan.now.threads }
     requires run { HasRun plan.now machine.old (λ r. IsNote plan.now r t.0 event) }
     requires key { HasKey machine.old event }
-    ensures follows { Follows plan.now t.0 machine.old machine.new result (λ r. IsNote plan.now r t.0 event) }
+    ensures follows { Follows plan.now t.0 machine.old machine.new result
+        (λ r. IsNote plan.now r t.0 event) }
     ensures unchanged { KeepsWhereIdle result machine.old machine.new }
 {
     machine.stamp(t, event);

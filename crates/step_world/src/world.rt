@@ -5,7 +5,8 @@ ghost use Rattle.lock_model.specs.Operations.{IsProper};
 ghost use Rattle.lock_model.specs.Plans.{config_of};
 ghost use Rattle.lock_state.specs.Run.{Run, start_run, turn_of, run_behind, has_ended};
 ghost use Rattle.lock_laws.specs.OnTrack.{IsSleeping};
-ghost use Rattle.step_world.specs.Worlds.{Represents, HasBest};
+ghost use Rattle.lock_state.specs.Best.{HasBest};
+ghost use Rattle.step_world.specs.Worlds.{Represents};
 
 use crate::machine::Machine;
 use crate::turns::turn;
@@ -13,7 +14,7 @@ use lock_model::{Plan, ThreadNo, Turn};
 use std::alloc::{AllocError, Global};
 use std::marker::Model;
 
-/// A scheduled run between two turns. Its state is lawful: it shows a run of its plan that is on track.
+/// A scheduled run between two turns. Its state is lawful: it represents a run of its plan that is on track.
 #[derive(Drop)]
 pub struct World<'p> {
     plan: &'p Plan,
@@ -44,8 +45,8 @@ impl<'p> Model for World<'p> {
 }
 
 impl<'p> World<'p> {
-    /// The beginning of a run, with all memory that its turns will need. There are 1 to 64 chains of each sort. The plan is one that some
-    /// script gives.
+    /// The beginning of a run, with all memory that its turns will need. There are 1 to 64 chains of each sort. The
+    /// plan is one that some script gives.
     pub fn make(alloc: Global, plan: &'p Plan, chains: u32) -> Result<World<'p>, AllocError>
         requires proper { IsProper plan.now }
         requires some_chains { 1 ≤ chains }
@@ -62,28 +63,33 @@ impl<'p> World<'p> {
         })
     }
 
-    /// Makes one turn of a thread, which the plan declares: the first row of the table that fits, with its answer. `Ended`
-    /// comes exactly where the thread has ended, and `Idle` exactly where it sleeps: it hasn't ended, its wait word says
-    /// Queued, and it has no walk and no marked list. Both change nothing. It takes no memory.
+    /// Makes one turn of a thread, which the plan declares: the first row of the table that fits, with its answer.
+    /// `Ended` comes exactly where the thread has ended, and `Idle` exactly where it sleeps: it hasn't ended, its wait
+    /// word says Queued, and it has no walk and no marked list. Both change nothing. It takes no memory.
     pub fn turn(&mut self, t: ThreadNo) -> Turn
         requires { t.0 < length self.old.plan.threads }
         ensures plan { self.new.plan ≡ self.old.plan }
         ensures chains { self.new.chains ≡ self.old.chains }
-        ensures answer { (r : Run) → Represents self.old r → result ≡ (turn_of self.old.plan r t.0).answer }
-        ensures turn { (r : Run) → Represents self.old r → Represents self.new (run_behind self.old.plan r t.0) }
+        ensures answer { (r : Run) → Represents self.old r
+            → result ≡ (turn_of self.old.plan r t.0).answer }
+        ensures turn { (r : Run) → Represents self.old r
+            → Represents self.new (run_behind self.old.plan r t.0) }
         ensures idle { (r : Run) → Represents self.old r
             → result ≡ Turn.Idle ↔ IsSleeping self.old.plan r t.0 }
         ensures ended { (r : Run) → Represents self.old r
             → result ≡ Turn.Ended ↔ has_ended self.old.plan r t.0 ≡ true }
         ensures unchanged { (result ≡ Turn.Idle) ⊎ (result ≡ Turn.Ended) → self.new ≡ self.old }
-        ensures lawful { (r : Run) × Represents self.new r × LawfulTurn (config_of self.new.plan) r.state }
-        ensures best { (r : Run) → Represents self.new r → HasBest (config_of self.new.plan) r.state }
+        ensures lawful { (r : Run) × Represents self.new r
+            × LawfulTurn (config_of self.new.plan) r.state }
+        ensures best { (r : Run) → Represents self.new r
+            → HasBest (config_of self.new.plan) r.state }
     {
         let world: &mut World<'p> = self;
         turn(&mut world.machine, world.plan, t)
     }
 
-    /// Whether a thread, which the plan declares, has ended: its operations are done, it owes nothing and holds nothing.
+    /// Whether a thread, which the plan declares, has ended: its operations are done, it owes nothing and holds
+    /// nothing.
     pub fn has_ended(&self, t: ThreadNo) -> bool
         requires { t.0 < length self.now.plan.threads }
         ensures { (r : Run) → Represents self.now r → result ≡ has_ended self.now.plan r t.0 }

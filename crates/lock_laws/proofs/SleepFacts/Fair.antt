@@ -98,7 +98,7 @@ module _ (chains : ℕ) (c : Config) (s : State) (l : Lawful c s) (h : SleepersF
       elim (cases_eq t v) [
         | inl y ↦
             let z : now c s t d all g l ≡ w = wake_is c s t d all g l w (ap (put s.unstamped t (Some (now c s t d all g l))) y ∙ f) in
-            let k : Each (λ q. q.kept ≡ base_in c s.history q.thread) ws = each-map (λ q. q.kept ≡ s.base q.thread) (λ q. q.kept ≡ base_in c s.history q.thread) ws (λ q i p. p ∙ l.bases_replay q.thread) (h.sleepers_keep_base d) in
+            let k : Each (λ q. q.kept ≡ base_in c s.history q.thread) ws = each-map (λ q. q.kept ≡ s.base q.thread) (λ q. q.kept ≡ base_in c s.history q.thread) ws (λ q i p. p ∙ l.books.bases_replay q.thread) (h.sleepers_keep_base d) in
             subst (λ q. LeavesNobodyBefore c s.history q.all q.taken (put_queue s.lists (chan_queue d) stay (chan_queue q.chan)).exclusive) z
             (rw (put_chan_same s.lists d stay) (wake_fair c s.history all ws (h.sleepers_in_order d) k))
         | inr y ↦

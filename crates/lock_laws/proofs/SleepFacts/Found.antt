@@ -44,13 +44,13 @@ module _ (chains : ℕ) (c : Config) (s : State) (t d : ℕ) (l : Lawful c s) (h
         let b = signals_named c s t l (chan_queue d) v k its_queue in
         let y = ap (at_queue (chan_queue d)) its_queue in
         let o = ap one (is_queue_same (chan_queue d)) in
-        none_noted t (s.unstamped v) (s.marked v) (omega (arith, l.stands_once t (chan_queue d)))
+        none_noted t (s.unstamped v) (s.marked v) (omega (arith, l.waits.stands_once t (chan_queue d)))
 
     unnamed : is_named s.history t ≡ false
     unfolding NamedAreWoken SleepersAreUnwoken StandingIsQueued
     unnamed =
         let a = ap some (h.sleepers_are_unwoken t d its_queue) in
-        let b = ap is_signalled (l.standing_is_queued t (chan_queue d) its_queue) in
+        let b = ap is_signalled (l.waits.standing_is_queued t (chan_queue d) its_queue) in
         go (is_named s.history t) (omega (arith, h.named_are_woken t, sum_below-zero c.threads (λ v. signals_noted t (s.unstamped v) (s.marked v)) unmarked))
       where
         go : (b : Bool) → one b ≡ 0 → b ≡ false
@@ -59,7 +59,7 @@ module _ (chains : ℕ) (c : Config) (s : State) (t d : ℕ) (l : Lawful c s) (h
 
     stander_asleep : is_asleep s.history d t ≡ true
     unfolding SleepersSlept LogsAreParts
-    stander_asleep = slept_asleep s.history d t (ap (has_slept d) (sym (l.logs_are_parts t)) ∙ h.sleepers_slept t d its_queue) unnamed
+    stander_asleep = slept_asleep s.history d t (ap (has_slept d) (sym (l.books.logs_are_parts t)) ∙ h.sleepers_slept t d its_queue) unnamed
 
     stander_wants : s.wanted t ≡ None
     unfolding SleepersWantNothing
@@ -88,7 +88,7 @@ module _ (chains : ℕ) (c : Config) (s : State) (t d : ℕ) (l : Lawful c s) (h
         let y = ap (at_queue (chan_queue d)) f in
         let o = ap one (is_queue_same (chan_queue d)) in
         elim (cases_eq (stands t (s.lists (chan_queue d))) 0) [
-          | inl z ↦ let r = sum_below-some c.threads (λ v. times_marked t (chan_queue d) (s.marked v)) (omega (arith, l.stands_once t (chan_queue d))) in inr (inr (r.0, taken_by r.0 r.1 r.2 (s.unstamped r.0) refl))
+          | inl z ↦ let r = sum_below-some c.threads (λ v. times_marked t (chan_queue d) (s.marked v)) (omega (arith, l.waits.stands_once t (chan_queue d))) in inr (inr (r.0, taken_by r.0 r.1 r.2 (s.unstamped r.0) refl))
           | inr z ↦ inl (omega arith)
         ]
 

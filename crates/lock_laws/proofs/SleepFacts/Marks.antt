@@ -128,7 +128,7 @@ module _ (c : Config) (s : State) (u : ℕ) (l : Lawful c s) where
   -- it is in one list at most, and there once
   pub marked_once : (q : QueueName) (v : ℕ) → v < c.threads → times_marked u q (s.marked v) ≤ 1
   unfolding StandsOnce
-  marked_once q v lt = omega (arith, l.stands_once u q, sum_below-at c.threads (λ w. times_marked u q (s.marked w)) v lt, at_most q (s.blocked_on u))
+  marked_once q v lt = omega (arith, l.waits.stands_once u q, sum_below-at c.threads (λ w. times_marked u q (s.marked w)) v lt, at_most q (s.blocked_on u))
     where
       one_le : (b : Bool) → one b ≤ 1
       one_le true = omega arith
@@ -144,4 +144,4 @@ module _ (c : Config) (s : State) (u : ℕ) (l : Lawful c s) where
       let a = times_named c s u v q l lt i in
       let b = ap (at_queue q) a in
       let o = ap one (is_queue_same q) in
-      omega (arith, l.stands_once u q, sum_below-two c.threads (λ x. times_marked u q (s.marked x)) v w lt lw ne)
+      omega (arith, l.waits.stands_once u q, sum_below-two c.threads (λ x. times_marked u q (s.marked x)) v w lt lw ne)

@@ -80,7 +80,7 @@ module _ (c : Config) (s : State) (h : NamedAreWoken c s.history s.marked s.unst
         elim (cases_eq m.thread v) [
           | inl x ↦
               let z : is_signalled (put s.wait m.thread (Woken m.queue m.cause) v) ≡ is_signalled (Woken m.queue m.cause) = ap is_signalled (ap (put s.wait m.thread (Woken m.queue m.cause)) (sym x) ∙ put_same s.wait m.thread (Woken m.queue m.cause)) in
-              let y : is_signalled (s.wait v) ≡ 0 = ap is_signalled (ap s.wait (sym x) ∙ l.standing_is_queued m.thread m.queue (mark.blocked_on c s t m ms g l)) in
+              let y : is_signalled (s.wait v) ≡ 0 = ap is_signalled (ap s.wait (sym x) ∙ l.waits.standing_is_queued m.thread m.queue (mark.blocked_on c s t m ms g l)) in
               let o : moved v ≡ is_signalled (Woken m.queue m.cause) = ap (λ b. cond b (is_signalled (Woken m.queue m.cause)) 0) (eq-eqb m.thread v x) in
               omega (arith, h v)
           | inr x ↦

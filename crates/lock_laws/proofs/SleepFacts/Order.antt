@@ -62,7 +62,7 @@ module _ (chains : ℕ) (c : Config) (s : State) (l : Lawful c s) (h : SleepersF
       let a = sum_below-zero c.threads (λ v. signals_noted t (s.unstamped v) (s.marked v)) (λ v k. none_noted t (s.unstamped v) (s.marked v) (signals_nowhere c s t l v k g.unnamed)) in
       let b = ap some g.unwoken in
       let e = ap is_signalled g.queued in
-      slept_asleep s.history d t (ap (has_slept d) (sym (l.logs_are_parts t)) ∙ g.slept) (go (is_named s.history t) (omega (arith, h.named_are_woken t)))
+      slept_asleep s.history d t (ap (has_slept d) (sym (l.books.logs_are_parts t)) ∙ g.slept) (go (is_named s.history t) (omega (arith, h.named_are_woken t)))
     where
       go : (b : Bool) → one b ≡ 0 → b ≡ false
       go true y = absurd (omega arith)

@@ -114,7 +114,7 @@ unwoken_kept c s other g w h = h
 module _ (chains : ℕ) (c : Config) (s : State) (l : Lawful c s) (h : SleepersFit chains c s) where
   log_slept : (t d : ℕ) → is_asleep s.history d t ≡ true → has_slept d (s.log t) ≡ true
   unfolding LogsAreParts
-  log_slept t d a = ap (has_slept d) (l.logs_are_parts t) ∙ asleep_slept s.history d t a
+  log_slept t d a = ap (has_slept d) (l.books.logs_are_parts t) ∙ asleep_slept s.history d t a
 
   pub on_its_way : (t d : ℕ) → is_asleep s.history d t ≡ true → s.blocked_on t ≡ None → IsOnItsWay s t
   unfolding AsleepAreOnTheirWay NamedAreWoken NoSleepIsHalted

@@ -51,7 +51,7 @@ module _ (chains : ℕ) (c : Config) (s : State) (l : Lawful c s) (h : SleepersF
   unfolding NamedAreWoken SleepersAreUnwoken StandingIsQueued
   taken_unnamed =
       let a = ap some (h.sleepers_are_unwoken u w.chan taken_named) in
-      let b = ap is_signalled (l.standing_is_queued u (chan_queue w.chan) taken_named) in
+      let b = ap is_signalled (l.waits.standing_is_queued u (chan_queue w.chan) taken_named) in
       go (is_named s.history u) (omega (arith, h.named_are_woken u, sum_below-zero c.threads (λ v. signals_noted u (s.unstamped v) (s.marked v)) nowhere_noted))
     where
       go : (b : Bool) → one b ≡ 0 → b ≡ false
@@ -60,7 +60,7 @@ module _ (chains : ℕ) (c : Config) (s : State) (l : Lawful c s) (h : SleepersF
 
   pub taken_asleep : is_asleep s.history w.chan u ≡ true
   unfolding SleepersSlept LogsAreParts
-  taken_asleep = slept_asleep s.history w.chan u (ap (has_slept w.chan) (sym (l.logs_are_parts u)) ∙ h.sleepers_slept u w.chan taken_named) taken_unnamed
+  taken_asleep = slept_asleep s.history w.chan u (ap (has_slept w.chan) (sym (l.books.logs_are_parts u)) ∙ h.sleepers_slept u w.chan taken_named) taken_unnamed
 
 -- 2. Steps keep it
 
@@ -115,7 +115,7 @@ module _ (c : Config) (s : State) (t d : ℕ) (all : Bool) (g : MayWake c s t d 
 
   pub fits : length ws ≤ length (s.free_list (chan_queue d)) + some (s.head (chan_queue d))
   unfolding HeadsFitWaiters
-  fits = omega (arith, length-taken all (s.lists (chan_queue d)).exclusive, (l.heads_fit_waiters (chan_queue d)).balanced)
+  fits = omega (arith, length-taken all (s.lists (chan_queue d)).exclusive, (l.queues.heads_fit_waiters (chan_queue d)).balanced)
 
   -- the wake that is not noted afterwards is this one, or was there before
   pub wake_is : (w : Wake) → put s.unstamped t (Some now) t ≡ Some w → now ≡ w

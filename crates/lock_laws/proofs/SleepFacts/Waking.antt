@@ -117,7 +117,7 @@ module _ (chains : ℕ) (c : Config) (s : State) (l : Lawful c s) (h : SleepersF
           let b = ap (at_queue (chan_queue w.chan)) named in
           let o = ap one (is_queue_same (chan_queue w.chan)) in
           let f = ap (times_waiting u) (h.sleepers_are_exclusive w.chan) in
-          omega (arith, l.stands_once u (chan_queue w.chan))
+          omega (arith, l.waits.stands_once u (chan_queue w.chan))
 
     -- 3. It passes over nobody
 

@@ -25,12 +25,12 @@ at_thread t (AtLock k) = 0
 at_thread t (AtThread u) = one (t == u)
 
 -- how many walks are at the lock
-unfoldable pub walks_at_lock : Config → (ℕ → Walk) → ℕ → ℕ
-walks_at_lock c walk l = sum_below c.threads (λ t. at_lock l (walk t))
+unfoldable pub walkers_at_lock : Config → (ℕ → Walk) → ℕ → ℕ
+walkers_at_lock c walk l = sum_below c.threads (λ t. at_lock l (walk t))
 
 -- how many walks are at the thread
-unfoldable pub walks_at_thread : Config → (ℕ → Walk) → ℕ → ℕ
-walks_at_thread c walk o = sum_below c.threads (λ t. at_thread o (walk t))
+unfoldable pub walkers_at_thread : Config → (ℕ → Walk) → ℕ → ℕ
+walkers_at_thread c walk o = sum_below c.threads (λ t. at_thread o (walk t))
 
 -- 2. Effective priorities
 
@@ -56,7 +56,7 @@ ChannelsHaveNoOwner owner = (d : ℕ) → owner (chan_queue d) ≡ None
 
 -- an owner's loan is the least kept priority of both lists, or some walk is at the lock
 unfoldable pub LoansAreLeast : Config → (QueueName → Option ℕ) → (ℕ → Walk) → (ℕ → ℕ → Option Loan) → (QueueName → Lists) → Type 0
-LoansAreLeast c owner walk loan lists = (l o : ℕ) → owner (lock_queue l) ≡ Some o → walks_at_lock c walk l ≡ 0 → prio_of (loan o l) ≡ least_of (lists (lock_queue l))
+LoansAreLeast c owner walk loan lists = (l o : ℕ) → owner (lock_queue l) ≡ Some o → walkers_at_lock c walk l ≡ 0 → prio_of (loan o l) ≡ least_of (lists (lock_queue l))
 
 -- a loan for a lock is with the owner of the turnstile there
 unfoldable pub LoansAreWithOwners : (ℕ → ℕ → Option Loan) → (QueueName → Option ℕ) → Type 0
@@ -79,7 +79,7 @@ EachOf P q = Each P q.exclusive × Each P q.shared
 
 -- a kept priority is the thread's effective priority, where no walk is at the thread
 abbrev pub IsKept : Config → (ℕ → Walk) → (ℕ → ℕ) → Waiter → Type 0
-IsKept c walk effective w = walks_at_thread c walk w.thread ≡ 0 → w.kept ≡ effective w.thread
+IsKept c walk effective w = walkers_at_thread c walk w.thread ≡ 0 → w.kept ≡ effective w.thread
 
 -- each priority that a turnstile keeps is its thread's effective priority, or some walk is at that thread
 unfoldable pub KeptIsEffective : Config → (ℕ → Walk) → (ℕ → ℕ) → (QueueName → Lists) → Type 0

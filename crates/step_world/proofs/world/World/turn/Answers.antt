@@ -6,7 +6,8 @@ use Rattle.lock_state.specs.Run.{Run, run_behind, has_ended}
 use Rattle.lock_laws.specs.OnTrack.{IsSleeping}
 use Rattle.lock_laws.proofs.Best.{effective_best}
 use Rattle.lock_laws.proofs.Idle as idle
-use Rattle.step_world.specs.Worlds.{World, Represents, HasBest}
+use Rattle.lock_state.specs.Best.{HasBest}
+use Rattle.step_world.specs.Worlds.{World, Represents}
 use Rattle.step_world.proofs.WorldsAreSound.{behind_turn}
 use Rattle.step_world.proofs.world.World.turn.Goals as goal
 
