@@ -20,7 +20,8 @@ pub record SleepersFit (chains : ℕ) (c : Config) (s : State) : Type 0 where
   pub sleepers_are_unwoken : SleepersAreUnwoken s.blocked_on s.woken_from
   -- who sleeps
   pub asleep_stand_there : AsleepStandThere s.history s.blocked_on
-  pub asleep_are_on_their_way : AsleepAreOnTheirWay chains s.history s.blocked_on s.wait s.wanted s.sleep_chain_with
+  pub asleep_are_on_their_way :
+      AsleepAreOnTheirWay chains s.history s.blocked_on s.wait s.wanted s.sleep_chain_with
   -- the order of the queues
   pub sleepers_in_order : SleepersInOrder s.history s.lists
   pub latecomers_are_later : LatecomersAreLater s.history s.blocked_on s.lists
@@ -43,4 +44,6 @@ pub record WasTakenBy (chains : ℕ) (s : State) (t d v : ℕ) : Type 0 where
 
 -- a thread stands on a channel's queue, or has the channel's chain, or was taken off by a thread that has it
 abbrev pub IsWithChannel : ℕ → State → ℕ → ℕ → Type 0
-IsWithChannel chains s t d = (1 ≤ stands t (s.lists (chan_queue d))) ⊎ ((s.sleep_chain_with (d % chains) ≡ Some t) ⊎ ((v : ℕ) × WasTakenBy chains s t d v))
+IsWithChannel chains s t d =
+    (1 ≤ stands t (s.lists (chan_queue d)))
+    ⊎ ((s.sleep_chain_with (d % chains) ≡ Some t) ⊎ ((v : ℕ) × WasTakenBy chains s t d v))

@@ -35,9 +35,12 @@ is_signalled Queued = 0
 is_signalled (Woken q cause) = one (is_chan q && is_signal cause)
 
 -- A thread that a waking has named since its last entry is, once, in a marked list or woken, or has resumed since. No other thread is.
-unfoldable pub NamedAreWoken : Config → List Entry → (ℕ → List Mark) → (ℕ → Option Wake) → (ℕ → Wait) → (ℕ → Option ℕ) → Type 0
+unfoldable pub NamedAreWoken : Config → List Entry → (ℕ → List Mark) → (ℕ → Option Wake)
+    → (ℕ → Wait) → (ℕ → Option ℕ) → Type 0
 NamedAreWoken c history marked unstamped wait woken_from =
-    (t : ℕ) → one (is_named history t) ≡ sum_below c.threads (λ u. signals_noted t (unstamped u) (marked u)) + is_signalled (wait t) + some (woken_from t)
+    (t : ℕ) → one (is_named history t)
+    ≡ sum_below c.threads (λ u. signals_noted t (unstamped u) (marked u))
+    + is_signalled (wait t) + some (woken_from t)
 
 -- each mark of a list is by signal
 abbrev pub AreSignals : List Mark → Type 0
@@ -49,7 +52,8 @@ unfoldable pub MarksAreSignals : (ℕ → List Mark) → Type 0
 MarksAreSignals marked = (t : ℕ) → AreSignals (marked t)
 
 unfoldable pub WokenBySignal : (ℕ → Wait) → Type 0
-WokenBySignal wait = (t : ℕ) (q : QueueName) (cause : Cause) → wait t ≡ Woken q cause → cause ≡ BySignal
+WokenBySignal wait =
+    (t : ℕ) (q : QueueName) (cause : Cause) → wait t ≡ Woken q cause → cause ≡ BySignal
 
 unfoldable pub NoSleepIsHalted : (ℕ → Option Note) → Type 0
 NoSleepIsHalted noted = (t : ℕ) (q : QueueName) → noted t ≡ Some (SleepHalted q) → ⊥
@@ -58,46 +62,58 @@ NoSleepIsHalted noted = (t : ℕ) (q : QueueName) → noted t ≡ Some (SleepHal
 
 -- its newest entry is the Sleeps entry
 unfoldable pub SleepersSlept : (ℕ → Option QueueName) → (ℕ → List Entry) → Type 0
-SleepersSlept blocked_on log = (t d : ℕ) → blocked_on t ≡ Some (chan_queue d) → has_slept d (log t) ≡ true
+SleepersSlept blocked_on log =
+    (t d : ℕ) → blocked_on t ≡ Some (chan_queue d) → has_slept d (log t) ≡ true
 
 -- it wants nothing
 unfoldable pub SleepersWantNothing : (ℕ → Option QueueName) → (ℕ → Option ℕ) → Type 0
-SleepersWantNothing blocked_on wanted = (t d : ℕ) → blocked_on t ≡ Some (chan_queue d) → wanted t ≡ None
+SleepersWantNothing blocked_on wanted =
+    (t d : ℕ) → blocked_on t ≡ Some (chan_queue d) → wanted t ≡ None
 
 -- and it has not been woken since
 unfoldable pub SleepersAreUnwoken : (ℕ → Option QueueName) → (ℕ → Option ℕ) → Type 0
-SleepersAreUnwoken blocked_on woken_from = (t d : ℕ) → blocked_on t ≡ Some (chan_queue d) → woken_from t ≡ None
+SleepersAreUnwoken blocked_on woken_from =
+    (t d : ℕ) → blocked_on t ≡ Some (chan_queue d) → woken_from t ≡ None
 
 -- 3. Who sleeps in the history
 
 -- a thread that sleeps on a channel stands on no other queue
 unfoldable pub AsleepStandThere : List Entry → (ℕ → Option QueueName) → Type 0
-AsleepStandThere history blocked_on = (t d : ℕ) (q : QueueName) → is_asleep history d t ≡ true → blocked_on t ≡ Some q → q ≡ chan_queue d
+AsleepStandThere history blocked_on =
+    (t d : ℕ) (q : QueueName)
+    → is_asleep history d t ≡ true → blocked_on t ≡ Some q → q ≡ chan_queue d
 
 -- where it stands on none it is on its way to the channel's, with the channel's chain
-unfoldable pub AsleepAreOnTheirWay : ℕ → List Entry → (ℕ → Option QueueName) → (ℕ → Wait) → (ℕ → Option ℕ) → (ℕ → Option ℕ) → Type 0
+unfoldable pub AsleepAreOnTheirWay : ℕ → List Entry → (ℕ → Option QueueName) → (ℕ → Wait)
+    → (ℕ → Option ℕ) → (ℕ → Option ℕ) → Type 0
 AsleepAreOnTheirWay chains history blocked_on wait wanted sleep_chain_with =
-    (t d : ℕ) → is_asleep history d t ≡ true → blocked_on t ≡ None → (wait t ≡ Queued) × (wanted t ≡ None) × (sleep_chain_with (d % chains) ≡ Some t)
+    (t d : ℕ) → is_asleep history d t ≡ true → blocked_on t ≡ None
+    → (wait t ≡ Queued) × (wanted t ≡ None) × (sleep_chain_with (d % chains) ≡ Some t)
 
 -- 4. The order of a channel's queue
 
 -- each has slept longer than those behind it
 abbrev pub InOrder : List Entry → List Waiter → Type 0
 InOrder es [] = ⊤
-InOrder es (w ∷ ws) = Each (λ v. entries_up_to es w.thread < entries_up_to es v.thread) ws × InOrder es ws
+InOrder es (w ∷ ws) =
+    Each (λ v. entries_up_to es w.thread < entries_up_to es v.thread) ws × InOrder es ws
 
 -- sleepers stand in the order of their Sleeps entries
 unfoldable pub SleepersInOrder : List Entry → (QueueName → Lists) → Type 0
 SleepersInOrder history lists = (d : ℕ) → InOrder history (lists (chan_queue d)).exclusive
 
 -- who is on its way to the channel comes last
-unfoldable pub LatecomersAreLater : List Entry → (ℕ → Option QueueName) → (QueueName → Lists) → Type 0
+unfoldable pub LatecomersAreLater : List Entry → (ℕ → Option QueueName) → (QueueName → Lists)
+    → Type 0
 LatecomersAreLater history blocked_on lists =
-    (t d : ℕ) → is_asleep history d t ≡ true → blocked_on t ≡ None → Each (λ w. entries_up_to history w.thread < entries_up_to history t) (lists (chan_queue d)).exclusive
+    (t d : ℕ) → is_asleep history d t ≡ true → blocked_on t ≡ None
+    → Each (λ w. entries_up_to history w.thread < entries_up_to history t)
+    (lists (chan_queue d)).exclusive
 
 -- each kept priority is its thread's base priority
 unfoldable pub SleepersKeepBase : (ℕ → ℕ) → (QueueName → Lists) → Type 0
-SleepersKeepBase base lists = (d : ℕ) → Each (λ w. w.kept ≡ base w.thread) (lists (chan_queue d)).exclusive
+SleepersKeepBase base lists =
+    (d : ℕ) → Each (λ w. w.kept ≡ base w.thread) (lists (chan_queue d)).exclusive
 
 -- sleepers are exclusive waiters
 unfoldable pub SleepersAreExclusive : (QueueName → Lists) → Type 0
@@ -108,21 +124,28 @@ SleepersAreExclusive lists = (d : ℕ) → (lists (chan_queue d)).shared ≡ []
 -- those that it took off are the marked list's from the channel, by signal
 unfoldable pub UnnotedAreMarked : (ℕ → Option Wake) → (ℕ → List Mark) → Type 0
 UnnotedAreMarked unstamped marked =
-    (t : ℕ) (w : Wake) (u : ℕ) → unstamped t ≡ Some w → (times u w.taken ≡ signals u (marked t)) × (times u w.taken ≡ times_marked u (chan_queue w.chan) (marked t))
+    (t : ℕ) (w : Wake) (u : ℕ) → unstamped t ≡ Some w
+    → (times u w.taken ≡ signals u (marked t))
+    × (times u w.taken ≡ times_marked u (chan_queue w.chan) (marked t))
 
 -- its thread has the channel's chain
 unfoldable pub UnnotedHasChain : ℕ → (ℕ → Option Wake) → (ℕ → Option ℕ) → Type 0
-UnnotedHasChain chains unstamped sleep_chain_with = (t : ℕ) (w : Wake) → unstamped t ≡ Some w → sleep_chain_with (w.chan % chains) ≡ Some t
+UnnotedHasChain chains unstamped sleep_chain_with =
+    (t : ℕ) (w : Wake) → unstamped t ≡ Some w → sleep_chain_with (w.chan % chains) ≡ Some t
 
 -- A wake of all leaves nobody. A wake of one that took nobody found nobody; else it took one, and nobody that is left goes before that
 abbrev pub LeavesNobodyBefore : Config → List Entry → Bool → List ℕ → List Waiter → Type 0
 LeavesNobodyBefore c es true us ws = ws ≡ []
 LeavesNobodyBefore c es false [] ws = ws ≡ []
-LeavesNobodyBefore c es false (u ∷ us) ws = (us ≡ []) × Each (λ w. goes_before c es w.thread u ≡ false) ws
+LeavesNobodyBefore c es false (u ∷ us) ws =
+    (us ≡ []) × Each (λ w. goes_before c es w.thread u ≡ false) ws
 
 -- it took whom it may
-unfoldable pub UnnotedIsFair : Config → List Entry → (ℕ → Option Wake) → (QueueName → Lists) → Type 0
-UnnotedIsFair c history unstamped lists = (t : ℕ) (w : Wake) → t < c.threads → unstamped t ≡ Some w → LeavesNobodyBefore c history w.all w.taken (lists (chan_queue w.chan)).exclusive
+unfoldable pub UnnotedIsFair : Config → List Entry → (ℕ → Option Wake) → (QueueName → Lists)
+    → Type 0
+UnnotedIsFair c history unstamped lists =
+    (t : ℕ) (w : Wake) → t < c.threads → unstamped t ≡ Some w
+    → LeavesNobodyBefore c history w.all w.taken (lists (chan_queue w.chan)).exclusive
 
 -- 6. Nobody is passed over by a waking: as with the aborts, until there are halts
 unfoldable pub NobodyIsPassedOver : Config → List Entry → Type 0
