@@ -26,7 +26,7 @@ use Rattle.lock_laws.proofs.AtTurn.{well_formed as word_well_formed}
 use Rattle.step_world.specs.declared.machine.Machine.{Machine}
 use Rattle.step_world.specs.Steps.{Progress, progress, May, Makes, MakesAll, KeepsProgress, ChangesProgress, KeepsBooks, HoldsFew}
 use Rattle.step_world.specs.Runs.{HasRun, IsTurn, progress_in}
-use Rattle.step_world.proofs.Turning.{IsTurning, SameRoom, EndsOperation, of_books, begins, may_next, changed, stepped, finished, done, ended, has_room, next_within, is_thread, is_word, word_is}
+use Rattle.step_world.proofs.Turning.{IsTurning, SameRoom, EndsOperation, of_books, begins, may_by, may_next, changed, stepped, finished, done, ended, has_room, next_within, is_thread, is_word, word_is}
 
 module _ {plan : Plan} {m : Machine} {t : ℕ} {l : LockNo} (p : IsProper plan) (lt : t < length plan.threads) (q : HasRun plan m (λ r. IsAtOperation plan r t (Some (Take l Excl)))) where
   abbrev c : Config
@@ -70,7 +70,7 @@ module _ {plan : Plan} {m : Machine} {t : ℕ} {l : LockNo} (p : IsProper plan) 
       may_gain = may_next turning
 
       pub few : HoldsFew m t
-      few = subst (λ o. IfSome o (λ (a : Progress). length a.held < 8)) (sym turning.own) finds.few
+      few = subst (λ o. IfSome o (λ (a : Progress). length a.held < 8)) (sym (q.1.shows.progress t lt)) finds.few
 
       abbrev gained_progress : Progress
       gained_progress = record { next_op = r.next_op t; held = before plan r t ++ (record { l = l; mode = Excl; by_try = false }) ∷ [] }
@@ -108,7 +108,7 @@ module _ {plan : Plan} {m : Machine} {t : ℕ} {l : LockNo} (p : IsProper plan) 
       blocking = begins (blocks r t l Excl) p lt q.1 blocks_row
 
       pub may_block : May m (λ c s. (x : ℕ) × MayAll c s (Readies t (Lock l) ∷ Enters t l.0 Excl x ∷ []))
-      may_block = (c, r.state, blocking.shows, blocking.lawful, (unwrap_or (r.state.turnstile t) t, blocking.may))
+      may_block = may_by blocking _ (unwrap_or (r.state.turnstile t) t, blocking.may)
 
       pub blocked : {m1 : Machine} → ((x : ℕ) → MakesAll m m1 (Readies t (Lock l) ∷ Enters t l.0 Excl x ∷ [])) → KeepsProgress m m1 → KeepsBooks m m1 → IsTurn plan r t m1 (Did kinds.Enter)
       blocked makes kept books = done kinds.Enter (blocks r t l Excl).steps blocks_row (finished blocking (makes (unwrap_or (r.state.turnstile t) t)) kept (of_books books))

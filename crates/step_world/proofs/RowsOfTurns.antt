@@ -29,7 +29,7 @@ use Rattle.step_world.specs.Steps.{May, Makes, KeepsProgress, KeepsBooks}
 use Rattle.step_world.specs.Runs.{IsRunOf, IsTurn, IsFree, progress_in}
 use Rattle.step_world.proofs.Kit.{read}
 use Rattle.step_world.proofs.Ends.{ends_as_said, aside_is}
-use Rattle.step_world.proofs.Turning.{IsTurning, of_books, begins, may_next, stepped, done, still}
+use Rattle.step_world.proofs.Turning.{MakesOne, one_step, still}
 
 -- the thread that was read at the place of a number
 pub here : {plan : Plan} {m : Machine} {r : Run} {t i : ℕ} {th : Thread} → IsRunOf plan m r → t < length plan.threads → i ≡ t → th ≡ get_or m.threads.items i th → slice_get m.threads.items t ≡ Some th
@@ -76,17 +76,8 @@ module _ {plan : Plan} {m : Machine} {r : Run} {t : ℕ} {th : Thread} (p : IsPr
           go [] f = absurd (some f)
           go (p ∷ ps) f = (mark_of th.marked_from p, map (mark_of th.marked_from) ps, sym (ap (λ x. x.marked) its.columns) ∙ ap (map (mark_of th.marked_from)) f)
 
-      row : turn_of plan r t ≡ does kinds.Mark (Marks t first.0 first.1 ∷ [])
-      row = marks_first plan r t first.0 first.1 no_walk first.2
-
-      marking : IsTurning plan r t m s (progress_in plan r t) (Marks t first.0 first.1 ∷ [])
-      marking = begins (does kinds.Mark (Marks t first.0 first.1 ∷ [])) p lt h row
-
-      pub may_mark : May m (λ c s. (x : Mark) × (xs : List Mark) × MayMake c s (Marks t x xs))
-      may_mark = (config_of plan, s, marking.shows, marking.lawful, (first.0, first.1, marking.may.0))
-
-      pub marked : {n : Machine} → ((x : Mark) (xs : List Mark) → Makes m n (Marks t x xs)) → KeepsProgress m n → KeepsBooks m n → IsTurn plan r t n (Did kinds.Mark)
-      marked makes kept books = done kinds.Mark (Marks t first.0 first.1 ∷ []) row (stepped marking (makes first.0 first.1) kept (of_books books))
+      pub marks : (x : Mark) × (xs : List Mark) × MakesOne plan m r t kinds.Mark (Marks t x xs)
+      marks = (first.0, first.1, one_step p lt h (marks_first plan r t first.0 first.1 no_walk first.2))
 
   -- 4. Its wait word, where it owes nothing
 
@@ -97,18 +88,8 @@ module _ {plan : Plan} {m : Machine} {r : Run} {t : ℕ} {th : Thread} (p : IsPr
     pub queued : th.wait ≡ wait.Queued → IsTurn plan r t m Idle
     queued e = still plan r t Idle (goes_by_wait plan r t free.going free.owes ∙ rw (waits_as _ (ap wait_of e)) refl) h.shows
 
-    module _ {w : QueueName} (e : th.wait ≡ wait.Woken w) where
-      resumes : turn_of plan r t ≡ does kinds.Resume (Resumes t (w) BySignal ∷ [])
-      resumes = goes_by_wait plan r t free.going free.owes ∙ rw (waits_as _ (ap wait_of e)) refl
-
-      resuming : IsTurning plan r t m s (progress_in plan r t) (Resumes t (w) BySignal ∷ [])
-      resuming = begins (does kinds.Resume (Resumes t (w) BySignal ∷ [])) p lt h resumes
-
-      pub may_resume : May m (λ c s. (q : QueueName) × (cause : Cause) × MayMake c s (Resumes t q cause))
-      may_resume = (config_of plan, s, resuming.shows, resuming.lawful, (w, BySignal, resuming.may.0))
-
-      pub resumed : {n : Machine} → ((q : QueueName) (cause : Cause) → Makes m n (Resumes t q cause)) → KeepsProgress m n → KeepsBooks m n → IsTurn plan r t n (Did kinds.Resume)
-      resumed makes kept books = done kinds.Resume (Resumes t (w) BySignal ∷ []) resumes (stepped resuming (makes (w) BySignal) kept (of_books books))
+    pub resumes : {w : QueueName} → th.wait ≡ wait.Woken w → MakesOne plan m r t kinds.Resume (Resumes t w BySignal)
+    resumes e = one_step p lt h (goes_by_wait plan r t free.going free.owes ∙ rw (waits_as _ (ap wait_of e)) refl)
 
     module _ (e : th.wait ≡ wait.Running) {ops : List Op} (same : ops ≡ operations_of plan t) where
       at_next : (o : Option Op) → slice_get ops th.next_op ≡ o → IsAtOperation plan r t o

@@ -28,8 +28,8 @@ use Rattle.step_world.specs.declared.thread.Thread.{Thread}
 use Rattle.lock_objects.specs.Represents.{RepresentsQueue, RepresentsHead, queue_in}
 use Rattle.step_world.specs.Represents.{Represents}
 use Rattle.step_world.specs.Steps.{May, Makes, KeepsProgress, KeepsBooks}
-use Rattle.step_world.specs.Runs.{IsRunOf, IsTurn, IsNowhere, progress_in}
-use Rattle.step_world.proofs.Turning.{IsTurning, of_books, begins, may_next, stepped, done}
+use Rattle.step_world.specs.Runs.{IsRunOf, IsNowhere, StandsAt}
+use Rattle.step_world.proofs.Turning.{MakesOne, one_step}
 
 -- 1. What is read at a lock and at a thread
 
@@ -74,40 +74,18 @@ module _ {plan : Plan} {m : Machine} {t : ℕ} (p : IsProper plan) (lt : t < len
   turnstile : (l : ℕ) → is_turnstile (c.kind l) ≡ true
   turnstile l = ap is_turnstile (p.mutexes l)
 
-  -- a walk that has nothing to do where it stands
-  module _ (row : turn_of plan r t ≡ does kinds.WalkEnd (EndsWalk t ∷ [])) where
-    ending : IsTurning plan r t m s (progress_in plan r t) (EndsWalk t ∷ [])
-    ending = begins (does kinds.WalkEnd (EndsWalk t ∷ [])) p lt h row
-
-    pub may_end : May m (λ c s. MayMake c s (EndsWalk t))
-    may_end = may_next ending
-
-    pub walk_ended : {n : Machine} → Makes m n (EndsWalk t) → KeepsProgress m n → KeepsBooks m n → IsTurn plan r t n (Did kinds.WalkEnd)
-    walk_ended makes kept books = done kinds.WalkEnd (EndsWalk t ∷ []) row (stepped ending makes kept (of_books books))
-
   -- at a lock
   module _ {l : LockNo} (there : s.walk t ≡ AtLock l.0) where
-    module _ {o : ThreadNo} (owned : Some o.0 ≡ s.owner (lock_queue l.0)) where
-      found : (x : ℕ) × (s.head (lock_queue l.0) ≡ Some x) × (owner_of (s.word l.0).holder ≡ Some o.0)
-      found = at_turn.owner_found c s l.0 o.0 h.on_track.lawful.lawful (turnstile l.0) (sym owned)
+    pub lends : {o : ThreadNo} → Some o.0 ≡ s.owner (lock_queue l.0) → (x : ℕ) × MakesOne plan m r t kinds.Lend (Lends t l.0 o.0 x)
+    lends {o} owned =
+        let found = at_turn.owner_found c s l.0 o.0 h.on_track.lawful.lawful (turnstile l.0) (sym owned) in
+        (found.0, one_step p lt h (walks_from_lock plan r t l.0 there ∙ rw (found.1, found.2) refl))
 
-      lends_row : turn_of plan r t ≡ does kinds.Lend (Lends t l.0 o.0 found.0 ∷ [])
-      lends_row = walks_from_lock plan r t l.0 there ∙ rw (found.1, found.2) refl
-
-      lending : IsTurning plan r t m s (progress_in plan r t) (Lends t l.0 o.0 found.0 ∷ [])
-      lending = begins (does kinds.Lend (Lends t l.0 o.0 found.0 ∷ [])) p lt h lends_row
-
-      pub may_lend : May m (λ c s. (x : ℕ) × MayMake c s (Lends t l.0 o.0 x))
-      may_lend = (c, s, lending.shows, lending.lawful, (found.0, lending.may.0))
-
-      pub lent : {n : Machine} → ((x : ℕ) → Makes m n (Lends t l.0 o.0 x)) → KeepsProgress m n → KeepsBooks m n → IsTurn plan r t n (Did kinds.Lend)
-      lent makes kept books = done kinds.Lend (Lends t l.0 o.0 found.0 ∷ []) lends_row (stepped lending (makes found.0) kept (of_books books))
-
-    pub ends_at_lock : None ≡ s.owner (lock_queue l.0) → turn_of plan r t ≡ does kinds.WalkEnd (EndsWalk t ∷ [])
-    ends_at_lock unowned = walks_from_lock plan r t l.0 there ∙ elim (at_turn.no_owner_found c s l.0 h.on_track.lawful.lawful (turnstile l.0) (sym unowned)) [
+    pub ends_at_lock : None ≡ s.owner (lock_queue l.0) → MakesOne plan m r t kinds.WalkEnd (EndsWalk t)
+    ends_at_lock unowned = one_step p lt h (walks_from_lock plan r t l.0 there ∙ elim (at_turn.no_owner_found c s l.0 h.on_track.lawful.lawful (turnstile l.0) (sym unowned)) [
       | inl e ↦ rw e (headless (owner_of (s.word l.0).holder))
       | inr e ↦ rw e refl
-    ]
+    ])
       where
         headless : (x : Option ℕ) → walks_at_lock t l.0 x None ≡ does kinds.WalkEnd (EndsWalk t ∷ [])
         headless None = refl
@@ -115,21 +93,13 @@ module _ {plan : Plan} {m : Machine} {t : ℕ} (p : IsProper plan) (lt : t < len
 
   -- at a thread
   module _ {o : ThreadNo} (there : s.walk t ≡ AtThread o.0) where
-    module _ {l : LockNo} (blocked_on : s.blocked_on o.0 ≡ Some (lock_queue l.0)) (waits : 0 < stands o.0 (s.lists (lock_queue l.0))) where
-      shifts_row : turn_of plan r t ≡ does kinds.Shift (Shifts t o.0 l.0 ∷ [])
-      shifts_row = walks_from_thread plan r t o.0 there ∙ rw (blocked_on, and_from (is_turnstile (c.kind l.0)) (ltb 0 (stands o.0 (s.lists (lock_queue l.0)))) (turnstile l.0) (lt-ltb 0 (stands o.0 (s.lists (lock_queue l.0))) waits)) refl
+    pub shifts : {l : LockNo} → StandsAt s o.0 l.0 → MakesOne plan m r t kinds.Shift (Shifts t o.0 l.0)
+    shifts {l} at =
+        let on_turnstile = and_from (is_turnstile (c.kind l.0)) (ltb 0 (stands o.0 (s.lists (lock_queue l.0)))) (turnstile l.0) (lt-ltb 0 (stands o.0 (s.lists (lock_queue l.0))) at.1) in
+        one_step p lt h (walks_from_thread plan r t o.0 there ∙ rw (at.0, on_turnstile) refl)
 
-      shifting : IsTurning plan r t m s (progress_in plan r t) (Shifts t o.0 l.0 ∷ [])
-      shifting = begins (does kinds.Shift (Shifts t o.0 l.0 ∷ [])) p lt h shifts_row
-
-      pub may_shift : May m (λ c s. MayMake c s (Shifts t o.0 l.0))
-      may_shift = may_next shifting
-
-      pub shifted : {n : Machine} → Makes m n (Shifts t o.0 l.0) → KeepsProgress m n → KeepsBooks m n → IsTurn plan r t n (Did kinds.Shift)
-      shifted makes kept books = done kinds.Shift (Shifts t o.0 l.0 ∷ []) shifts_row (stepped shifting makes kept (of_books books))
-
-    pub ends_at_thread : IsNowhere s o.0 → turn_of plan r t ≡ does kinds.WalkEnd (EndsWalk t ∷ [])
-    ends_at_thread nowhere = walks_from_thread plan r t o.0 there ∙ go (s.blocked_on o.0) refl
+    pub ends_at_thread : IsNowhere s o.0 → MakesOne plan m r t kinds.WalkEnd (EndsWalk t)
+    ends_at_thread nowhere = one_step p lt h (walks_from_thread plan r t o.0 there ∙ go (s.blocked_on o.0) refl)
       where
         go : (q : Option QueueName) → s.blocked_on o.0 ≡ q → walks_at_thread c r t o.0 q ≡ does kinds.WalkEnd (EndsWalk t ∷ [])
         go None e = refl

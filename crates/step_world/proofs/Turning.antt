@@ -19,7 +19,7 @@ use Rattle.lock_model.specs.declared.turn.StepKind.{StepKind}
 use Rattle.lock_model.specs.declared.turn.Turn.{Turn}
 use Rattle.lock_model.specs.declared.turn.Turn.TheVariants.{Did}
 use Rattle.lock_laws.proofs.Kit.{put_same, put_other}
-use Rattle.lock_laws.proofs.Steps.{all_keep}
+use Rattle.lock_laws.proofs.Steps.{keeps, all_keep}
 use Rattle.lock_laws.proofs.Turning.{may_all}
 use Rattle.lock_laws.proofs.Entries.{entries_below, next_op_below}
 use Rattle.step_world.specs.declared.machine.Machine.{Machine}
@@ -59,16 +59,35 @@ is_there c m s t h lt = omega (arith, m.threads.ok.0, h.threads.threads, lt)
 
 -- 3. A turn under way
 
--- A machine in the midst of the thread's turn: it represents the state, the list's steps are still to make, the thread has made the
--- progress, and the others that of the run.
-pub record IsTurning (plan : Plan) (r : Run) (t : ℕ) (m : Machine) (s : State) (a : Progress) (rest : List Step) : Type 0 where
-  pub shows : Represents (config_of plan) m s
-  pub lawful : Lawful (config_of plan) s
-  pub may : MayAll (config_of plan) s rest
+-- what no column tells of the run, where the thread has made the progress, and the others that of the run
+pub record IsAside (plan : Plan) (r : Run) (t : ℕ) (m : Machine) (a : Progress) : Type 0 where
   pub own : progress m t ≡ Some a
   pub others : (u : ℕ) → u < length plan.threads → u ≢ t → progress m u ≡ Some (progress_in plan r u)
   pub room : HasRoom plan m
   pub keys : HasKeys plan m
+
+moved : {plan : Plan} {r : Run} {t : ℕ} {m n : Machine} {a : Progress} (f : Progress → Progress) → IsAside plan r t m a → ChangesProgress m n t f → SameRoom m n → IsAside plan r t n (f a)
+moved {t = t} f h moves same = record {
+  own = (let at = moves t in rw (eq-eqb t t refl) at at) ∙ ap (option_map f) h.own;
+  others = λ u l ne. (let at = moves u in rw (ne_eqb u t ne) at at) ∙ h.others u l ne;
+  room = same.room ∙ h.room;
+  keys = λ l key i. subst (λ ps. Contains ps (l, key)) (sym same.places) (h.keys l key i);
+}
+
+kept : {plan : Plan} {r : Run} {t : ℕ} {m n : Machine} {a : Progress} → IsAside plan r t m a → KeepsProgress m n → SameRoom m n → IsAside plan r t n a
+kept {t = t} h keeps same = record {
+  own = keeps t ∙ h.own;
+  others = λ u l ne. keeps u ∙ h.others u l ne;
+  room = same.room ∙ h.room;
+  keys = λ l key i. subst (λ ps. Contains ps (l, key)) (sym same.places) (h.keys l key i);
+}
+
+-- A machine in the midst of the thread's turn: it represents the state, and the list's steps are still to make.
+pub record IsTurning (plan : Plan) (r : Run) (t : ℕ) (m : Machine) (s : State) (a : Progress) (rest : List Step) : Type 0 where
+  pub shows : Represents (config_of plan) m s
+  pub lawful : Lawful (config_of plan) s
+  pub may : MayAll (config_of plan) s rest
+  pub aside : IsAside plan r t m a
 
 -- a turn's answer and the run behind it, by its row
 by_row : (plan : Plan) (r : Run) (t : ℕ) {m : Machine} (row : Row) → turn_of plan r t ≡ row → RepresentsRun plan m (run_after (config_of plan) r t row) → IsTurn plan r t m row.answer
@@ -86,53 +105,33 @@ module _ {plan : Plan} {r : Run} {t : ℕ} where
     shows = h.shows.shows;
     lawful = h.on_track.lawful.lawful;
     may = subst (λ (x : Row). MayAll (config_of plan) r.state x.steps) e (may_all plan r t p h.on_track lt);
-    own = h.shows.progress t lt;
-    others = λ u l ne. h.shows.progress u l;
-    room = h.shows.room;
-    keys = h.shows.keys;
+    aside = record { own = h.shows.progress t lt; others = λ u l ne. h.shows.progress u l; room = h.shows.room; keys = h.shows.keys };
   }
 
-  -- the next step may be made,
-  pub may_next : {m : Machine} {s : State} {a : Progress} {step : Step} {rest : List Step} → IsTurning plan r t m s a (step ∷ rest) → May m (λ c s. MayMake c s step)
-  may_next {s = s} h = (config_of plan, s, h.shows, h.lawful, h.may.0)
+  -- what is asked of a method that makes a part of them,
+  pub may_by : {m : Machine} {s : State} {a : Progress} {rest : List Step} → IsTurning plan r t m s a rest → (guard : Config → State → Type 0) → guard (config_of plan) s → May m guard
+  may_by {s = s} h guard g = (config_of plan, s, h.shows, h.lawful, g)
 
-  -- and behind it the others are to make
+  -- or the next one
+  pub may_next : {m : Machine} {s : State} {a : Progress} {step : Step} {rest : List Step} → IsTurning plan r t m s a (step ∷ rest) → May m (λ c s. MayMake c s step)
+  may_next {step = step} h = may_by h (λ c s. MayMake c s step) h.may.0
+
+  -- behind it the others are to make
   pub changed : {m n : Machine} {s : State} {a : Progress} {step : Step} {rest : List Step} (f : Progress → Progress) → IsTurning plan r t m s a (step ∷ rest) → Makes m n step → ChangesProgress m n t f → SameRoom m n
       → IsTurning plan r t n (after (config_of plan) s step) (f a) rest
-  changed {m} {n} {s} {a} {step} {rest} f h makes moved same = record {
-    shows = makes (config_of plan) s h.shows h.lawful h.may.0;
-    lawful = all_keep (config_of plan) s (step ∷ []) (h.may.0, tt) h.lawful;
-    may = h.may.1;
-    own = (let at = moved t in rw (eq-eqb t t refl) at at) ∙ ap (option_map f) h.own;
-    others = λ u l ne. (let at = moved u in rw (ne_eqb u t ne) at at) ∙ h.others u l ne;
-    room = same.room ∙ h.room;
-    keys = λ l key i. subst (λ ps. Contains ps (l, key)) (sym same.places) (h.keys l key i);
-  }
+  changed {s = s} {step = step} f h makes moves same =
+      record { shows = makes (config_of plan) s h.shows h.lawful h.may.0; lawful = keeps (config_of plan) s step h.may.0 h.lawful; may = h.may.1; aside = moved f h.aside moves same }
 
   pub stepped : {m n : Machine} {s : State} {a : Progress} {step : Step} {rest : List Step} → IsTurning plan r t m s a (step ∷ rest) → Makes m n step → KeepsProgress m n → SameRoom m n
       → IsTurning plan r t n (after (config_of plan) s step) a rest
-  stepped {m} {n} {s} {a} {step} {rest} h makes kept same = record {
-    shows = makes (config_of plan) s h.shows h.lawful h.may.0;
-    lawful = all_keep (config_of plan) s (step ∷ []) (h.may.0, tt) h.lawful;
-    may = h.may.1;
-    own = kept t ∙ h.own;
-    others = λ u l ne. kept u ∙ h.others u l ne;
-    room = same.room ∙ h.room;
-    keys = λ l key i. subst (λ ps. Contains ps (l, key)) (sym same.places) (h.keys l key i);
-  }
+  stepped {s = s} {step = step} h makes keeps_it same =
+      record { shows = makes (config_of plan) s h.shows h.lawful h.may.0; lawful = keeps (config_of plan) s step h.may.0 h.lawful; may = h.may.1; aside = kept h.aside keeps_it same }
 
   -- all that are left at once
   pub finished : {m n : Machine} {s : State} {a : Progress} {rest : List Step} → IsTurning plan r t m s a rest → MakesAll m n rest → KeepsProgress m n → SameRoom m n
       → IsTurning plan r t n (after_all (config_of plan) s rest) a []
-  finished {m} {n} {s} {a} {rest} h makes kept same = record {
-    shows = makes (config_of plan) s h.shows h.lawful h.may;
-    lawful = all_keep (config_of plan) s rest h.may h.lawful;
-    may = tt;
-    own = kept t ∙ h.own;
-    others = λ u l ne. kept u ∙ h.others u l ne;
-    room = same.room ∙ h.room;
-    keys = λ l key i. subst (λ ps. Contains ps (l, key)) (sym same.places) (h.keys l key i);
-  }
+  finished {s = s} {rest = rest} h makes keeps_it same =
+      record { shows = makes (config_of plan) s h.shows h.lawful h.may; lawful = all_keep (config_of plan) s rest h.may h.lawful; may = tt; aside = kept h.aside keeps_it same }
 
   -- 4. What the last steps of an operation ask
 
@@ -145,7 +144,7 @@ module _ {plan : Plan} {r : Run} {t : ℕ} where
 
   -- the thread has more operations to come than it has behind it
   pub next_within : {m : Machine} {s : State} {a : Progress} {rest : List Step} → IsTurning plan r t m s a rest → a.next_op < 20000 → IfSome (progress m t) (λ x. x.next_op < 20000)
-  next_within {a = a} h below = subst (λ o. IfSome o (λ (x : Progress). x.next_op < 20000)) (sym h.own) below
+  next_within {a = a} h below = subst (λ o. IfSome o (λ (x : Progress). x.next_op < 20000)) (sym h.aside.own) below
 
   -- the thread is there,
   pub is_thread : {m : Machine} {s : State} {a : Progress} {rest : List Step} → IsTurning plan r t m s a rest → t < length plan.threads → t < length m.threads.items
@@ -157,9 +156,9 @@ module _ {plan : Plan} {r : Run} {t : ℕ} where
   pub done : {m : Machine} (kind : StepKind) (steps : List Step) → turn_of plan r t ≡ does kind steps → IsTurning plan r t m (after_all (config_of plan) r.state steps) (progress_in plan r t) [] → IsTurn plan r t m (Did kind)
   done {m} kind steps e h = by_row plan r t (does kind steps) e (record {
     shows = h.shows;
-    progress = λ u l. elim (cases_eq u t) [ inl i ↦ subst (λ v. progress m v ≡ Some (progress_in plan r v)) (sym i) h.own | inr ne ↦ h.others u l ne ];
-    room = h.room;
-    keys = h.keys;
+    progress = λ u l. elim (cases_eq u t) [ inl i ↦ subst (λ v. progress m v ≡ Some (progress_in plan r v)) (sym i) h.aside.own | inr ne ↦ h.aside.others u l ne ];
+    room = h.aside.room;
+    keys = h.aside.keys;
   })
 
   -- or has ended
@@ -170,13 +169,36 @@ module _ {plan : Plan} {r : Run} {t : ℕ} where
       let next : ℕ = suc (r.next_op t) in
       let behind : ℕ → ℕ = put r.next_op t next in
       let own : progress n t ≡ Some (record { next_op = next; held = held_of (length plan.locks) (operations_of plan t) next }) =
-      (let at = b.progress t in rw (eq-eqb t t refl) at at) ∙ ap (option_map (λ (x : Progress). record x { next_op = suc x.next_op })) h.own ∙ ap (λ (x : List Held). Some (record { next_op = next; held = x })) held in
+      (let at = b.progress t in rw (eq-eqb t t refl) at at) ∙ ap (option_map (λ (x : Progress). record x { next_op = suc x.next_op })) h.aside.own ∙ ap (λ (x : List Held). Some (record { next_op = next; held = x })) held in
       by_row plan r t (ends r t kind steps) e (record {
         shows = b.shows (config_of plan) (after_all (config_of plan) r.state steps) h.shows;
         progress = λ u l. elim (cases_eq u t) [
           | inl i ↦ subst (λ v. progress n v ≡ Some (record { next_op = behind v; held = held_of (length plan.locks) (operations_of plan v) (behind v) })) (sym i) (rw (put_same r.next_op t next) own)
-          | inr ne ↦ rw (put_other r.next_op t next u (λ z. ne (sym z))) ((let at = b.progress u in rw (ne_eqb u t ne) at at) ∙ h.others u l ne)
+          | inr ne ↦ rw (put_other r.next_op t next u (λ z. ne (sym z))) ((let at = b.progress u in rw (ne_eqb u t ne) at at) ∙ h.aside.others u l ne)
         ];
-        room = ap (λ g. length g.entries + g.spare) b.books.log ∙ h.room;
-        keys = λ l key i. subst (λ ps. Contains ps (l, key)) (sym (ap (λ x. x.places) b.books.tables)) (h.keys l key i);
+        room = ap (λ g. length g.entries + g.spare) b.books.log ∙ h.aside.room;
+        keys = λ l key i. subst (λ ps. Contains ps (l, key)) (sym (ap (λ x. x.places) b.books.tables)) (h.aside.keys l key i);
       })
+
+-- 6. A turn of one step, behind which the operation is still to make
+
+pub record MakesOne (plan : Plan) (m : Machine) (r : Run) (t : ℕ) (kind : StepKind) (step : Step) : Type 0 where
+  pub turning : IsTurning plan r t m r.state (progress_in plan r t) (step ∷ [])
+  pub step_may : MayMake (config_of plan) r.state step
+  pub may : May m (λ c s. MayMake c s step)
+  pub behind : {n : Machine} → Makes m n step → KeepsProgress m n → KeepsBooks m n → IsTurn plan r t n (Did kind)
+
+pub one_step : {plan : Plan} {m : Machine} {r : Run} {t : ℕ} {kind : StepKind} {step : Step} → IsProper plan → t < length plan.threads → IsRunOf plan m r → turn_of plan r t ≡ does kind (step ∷ []) → MakesOne plan m r t kind step
+one_step {plan} {m} {r} {t} {kind} {step} p lt h row = record {
+  turning = its_turn;
+  step_may = its_turn.may.0;
+  may = may_next its_turn;
+  behind = λ makes keeps_it books. done kind (step ∷ []) row (stepped its_turn makes keeps_it (of_books books));
+}
+  where
+    its_turn : IsTurning plan r t m r.state (progress_in plan r t) (step ∷ [])
+    its_turn = begins (does kind (step ∷ [])) p lt h row
+
+-- what is asked of a method that finds the step's details by itself
+pub may_of : {plan : Plan} {m : Machine} {r : Run} {t : ℕ} {kind : StepKind} {step : Step} → MakesOne plan m r t kind step → (guard : Config → State → Type 0) → guard (config_of plan) r.state → May m guard
+may_of one guard g = may_by one.turning guard g

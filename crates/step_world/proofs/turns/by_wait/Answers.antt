@@ -1,3 +1,5 @@
+use Rattle.lock_model.specs.Queues.{BySignal}
+use Rattle.step_world.proofs.Turning.{may_of}
 use Rattle.step_world.proofs.RowsOfTurns as rows
 use Rattle.step_world.proofs.turns.by_wait.Goals as goal
 
@@ -5,7 +7,8 @@ pub resume-requires : goal.resume-requires
 resume-requires c =
     let q = c.requires.run in
     let is = rows.here q.1 c.requires.thread c.from.ensures c.index-thread.ensures in
-    record { may = rows.may_resume c.requires.proper c.requires.thread q.1 is q.2 c.in-Woken.is }
+    let one = rows.resumes c.requires.proper c.requires.thread q.1 is q.2 c.in-Woken.is in
+    record { may = may_of one _ (c.in-Woken.field-0, BySignal, one.step_may) }
 
 pub operate-requires-clause-run : goal.operate-requires-clause-run
 operate-requires-clause-run c =
@@ -21,7 +24,7 @@ returns-in-Queued-clause-follows c r h f =
 pub returns-in-Woken-clause-follows : goal.returns-in-Woken-clause-follows
 returns-in-Woken-clause-follows c r h f =
     let a = c.resume.ensures in
-    rows.resumed c.requires.proper c.requires.thread h (rows.here h c.requires.thread c.from.ensures c.index-thread.ensures) f c.in-Woken.is a.step a.progress a.books
+    (rows.resumes c.requires.proper c.requires.thread h (rows.here h c.requires.thread c.from.ensures c.index-thread.ensures) f c.in-Woken.is).behind (a.step c.in-Woken.field-0 BySignal) a.progress a.books
 
 pub returns-in-Some-clause-follows : goal.returns-in-Some-clause-follows
 returns-in-Some-clause-follows c r h f =

@@ -1,5 +1,6 @@
 use Rattle.std.proofs.Common.{sym, ◌∙◌}
 use Rattle.std.proofs.lemmas.Bool.{iff_false}
+use Rattle.step_world.proofs.Turning.{may_of}
 use Rattle.step_world.proofs.RowsOfTurns as rows
 use Rattle.step_world.proofs.turns.turn.Goals as goal
 
@@ -28,7 +29,8 @@ by_wait-requires-clause-run c =
 pub mark-requires : goal.mark-requires
 mark-requires c =
     let q = c.requires.run in
-    record { may = rows.may_mark c.requires.proper c.requires.thread q.1 (rows.here q.1 c.requires.thread c.from.ensures c.index-thread.ensures) c.in-None.is (iff_false c.is_empty.ensures c.if-is_empty.false) }
+    let one = rows.marks c.requires.proper c.requires.thread q.1 (rows.here q.1 c.requires.thread c.from.ensures c.index-thread.ensures) c.in-None.is (iff_false c.is_empty.ensures c.if-is_empty.false) in
+    record { may = may_of one.2 _ (one.0, one.1, one.2.step_may) }
 
 pub returns-in-AtLock-clause-follows : goal.returns-in-AtLock-clause-follows
 returns-in-AtLock-clause-follows c r h u =
@@ -47,4 +49,5 @@ returns-then-is_empty-clause-follows c r h u =
 pub returns-else-is_empty-clause-follows : goal.returns-else-is_empty-clause-follows
 returns-else-is_empty-clause-follows c r h u =
     let a = c.mark.ensures in
-    rows.marked c.requires.proper c.requires.thread h (rows.here h c.requires.thread c.from.ensures c.index-thread.ensures) c.in-None.is (iff_false c.is_empty.ensures c.if-is_empty.false) a.step a.progress a.books
+    let one = rows.marks c.requires.proper c.requires.thread h (rows.here h c.requires.thread c.from.ensures c.index-thread.ensures) c.in-None.is (iff_false c.is_empty.ensures c.if-is_empty.false) in
+    one.2.behind (a.step one.0 one.1) a.progress a.books

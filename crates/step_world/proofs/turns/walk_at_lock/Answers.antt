@@ -1,23 +1,26 @@
 use Rattle.lock_model.specs.Plans.{config_of}
-use Rattle.step_world.proofs.RowsOfWalks as rows
+use Rattle.step_world.proofs.Turning.{may_of}
+use Rattle.step_world.proofs.RowsOfWalks.{lends, ends_at_lock}
 use Rattle.step_world.proofs.turns.walk_at_lock.Goals as goal
 
 pub lend_to-requires : goal.lend_to-requires
 lend_to-requires c =
     let q = c.requires.run in
-    record { may = rows.may_lend c.requires.proper c.requires.thread q.1 q.2 (c.in-Some.ensures (config_of c.args.plan.now) q.0.state q.1.shows.shows q.1.on_track.lawful.lawful) }
+    let one = lends c.requires.proper c.requires.thread q.1 q.2 (c.in-Some.ensures (config_of c.args.plan.now) q.0.state q.1.shows.shows q.1.on_track.lawful.lawful) in
+    record { may = may_of one.1 _ (one.0, one.1.step_may) }
 
 pub end_walk-requires : goal.end_walk-requires
 end_walk-requires c =
     let q = c.requires.run in
-    record { may = rows.may_end c.requires.proper c.requires.thread q.1 (rows.ends_at_lock c.requires.proper c.requires.thread q.1 q.2 (c.in-None.ensures (config_of c.args.plan.now) q.0.state q.1.shows.shows q.1.on_track.lawful.lawful)) }
+    record { may = (ends_at_lock c.requires.proper c.requires.thread q.1 q.2 (c.in-None.ensures (config_of c.args.plan.now) q.0.state q.1.shows.shows q.1.on_track.lawful.lawful)).may }
 
 pub returns-in-Some-clause-follows : goal.returns-in-Some-clause-follows
 returns-in-Some-clause-follows c r h w =
+    let one = lends c.requires.proper c.requires.thread h w (c.in-Some.ensures (config_of c.args.plan.now) r.state h.shows.shows h.on_track.lawful.lawful) in
     let a = c.lend_to.ensures in
-    rows.lent c.requires.proper c.requires.thread h w (c.in-Some.ensures (config_of c.args.plan.now) r.state h.shows.shows h.on_track.lawful.lawful) a.step a.progress a.books
+    one.1.behind (a.step one.0) a.progress a.books
 
 pub returns-in-None-clause-follows : goal.returns-in-None-clause-follows
 returns-in-None-clause-follows c r h w =
     let a = c.end_walk.ensures in
-    rows.walk_ended c.requires.proper c.requires.thread h (rows.ends_at_lock c.requires.proper c.requires.thread h w (c.in-None.ensures (config_of c.args.plan.now) r.state h.shows.shows h.on_track.lawful.lawful)) a.step a.progress a.books
+    (ends_at_lock c.requires.proper c.requires.thread h w (c.in-None.ensures (config_of c.args.plan.now) r.state h.shows.shows h.on_track.lawful.lawful)).behind a.step a.progress a.books
