@@ -19,6 +19,7 @@ use Rattle.lock_laws.proofs.Alike.{gained_lock}
 use Rattle.lock_laws.proofs.Words.{free_is, all_match-put, matches-claim}
 use Rattle.lock_laws.proofs.Lending.{each_of-elsewhere, effective-put}
 use Rattle.lock_laws.proofs.Nodes.{prio_loan_of, number_loan_of, loan_of_known, node_lent, loan_known, changed_known}
+use Rattle.lock_laws.proofs.Listed as listed
 
 head_keeps : (o p : Option ℕ) (h : Option ℕ) (x : ℕ) → h ≡ Some x → h ≡ None → p ≡ None
 head_keeps o p h x e f = absurd (let z : Some x ≡ None = sym e ∙ f in cc)
@@ -166,4 +167,4 @@ module _ (c : Config) (s : State) (t l x : ℕ) (by_try : Bool) (g : MayClaim c 
 
   pub lawful : Lawful c n
   unfolding after_claim
-  lawful = assumption (nodes, heads, bits, called, free_mutex, holders, owners, channels, least, loans_least, loans_owned, loans_on_heads, kept, effective_known, loans_known, gained_lock c s t l Excl g.thread g.unheld g.acting h)
+  lawful = assumption (listed.gained s t l h.words.held_are_listed Excl by_try, nodes, heads, bits, called, free_mutex, holders, owners, channels, least, loans_least, loans_owned, loans_on_heads, kept, effective_known, loans_known, gained_lock c s t l Excl g.thread g.unheld g.acting h)

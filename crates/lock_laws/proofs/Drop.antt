@@ -13,6 +13,7 @@ use Rattle.lock_model.specs.declared.plan.Mode.{Mode}
 use Rattle.lock_laws.proofs.Kit.{columns, at_put}
 use Rattle.lock_laws.proofs.Words.{all_match-put, matches-drop}
 use Rattle.lock_laws.proofs.Owners.{owner_dropped}
+use Rattle.lock_laws.proofs.Listed as listed
 
 module _ (c : Config) (s : State) (t l : ℕ) (mode : Mode) (g : MayDrop c s t l mode) (h : Lawful c s) where
   abbrev n : State
@@ -51,4 +52,4 @@ module _ (c : Config) (s : State) (t l : ℕ) (mode : Mode) (g : MayDrop c s t l
 
   pub lawful : Lawful c n
   unfolding after_drop
-  lawful = assumption (bits, called, free_mutex, holders, threads_hold, owners, sections)
+  lawful = assumption (listed.released s t l h.words.held_are_listed, bits, called, free_mutex, holders, threads_hold, owners, sections)

@@ -15,6 +15,7 @@ use Rattle.lock_laws.proofs.Kit.{columns, at_put, sum_below-put}
 use Rattle.lock_laws.proofs.Alike.{gained_lock}
 use Rattle.lock_laws.proofs.Words.{all_match-put, matches-gain}
 use Rattle.lock_laws.proofs.Owners.{owner_gained}
+use Rattle.lock_laws.proofs.Listed as listed
 
 module _ (c : Config) (s : State) (t l : ℕ) (mode : Mode) (by_try : Bool) (g : MayGain c s t l mode) (h : Lawful c s) where
   abbrev n : State
@@ -47,4 +48,4 @@ module _ (c : Config) (s : State) (t l : ℕ) (mode : Mode) (by_try : Bool) (g :
 
   pub lawful : Lawful c n
   unfolding after_gain
-  lawful = assumption (bits, called, free_mutex, holders, owners, gained_lock c s t l mode g.thread g.unheld g.acting h)
+  lawful = assumption (listed.gained s t l h.words.held_are_listed mode by_try, bits, called, free_mutex, holders, owners, gained_lock c s t l mode g.thread g.unheld g.acting h)

@@ -3,6 +3,7 @@ pub mod Words
 pub mod Owners
 pub mod Queues
 pub mod Lending
+pub mod Listed
 pub mod Gain
 pub mod Drop
 pub mod OwnWaits

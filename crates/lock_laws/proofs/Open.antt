@@ -25,6 +25,7 @@ use Rattle.lock_laws.proofs.Lending.{each_of-elsewhere, each_of-less, effective-
 use Rattle.lock_laws.proofs.Sections.{apart}
 use Rattle.lock_laws.proofs.Shown.{lent_held}
 use Rattle.lock_laws.proofs.Nodes.{node_returned, loan_known, changed_known}
+use Rattle.lock_laws.proofs.Listed as listed
 
 -- the woken side isn't empty
 pub side_shown : (kind : Kind) (w : Word) (q : Lists) → is_turnstile kind ≡ true → ShowsItsWaiters w q → shows_waiters w ≡ true → (kind ≡ Mtx → q.shared ≡ []) → is_empty (list_of (side_woken kind w) q) ≡ false
@@ -210,4 +211,4 @@ module _ (c : Config) (s : State) (t l : ℕ) (mode : Mode) (g : MayOpen c s t l
 
   pub lawful : Lawful c n
   unfolding after_open
-  lawful = assumption (one_turnstile, one_sleep_queue, nodes, heads, ascend, mutex_waiters, stand, free_mutex, owners, channels, least, loans_least, loans_owned, loans_on_heads, kept, effective_known, loans_known, kept_known, opened_lock c s t l mode g.thread g.held g.last g.unmarked g.closed h fits some_woken)
+  lawful = assumption (listed.released s t l h.words.held_are_listed, one_turnstile, one_sleep_queue, nodes, heads, ascend, mutex_waiters, stand, free_mutex, owners, channels, least, loans_least, loans_owned, loans_on_heads, kept, effective_known, loans_known, kept_known, opened_lock c s t l mode g.thread g.held g.last g.unmarked g.closed h fits some_woken)

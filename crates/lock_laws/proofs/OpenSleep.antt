@@ -18,6 +18,7 @@ use Rattle.lock_laws.proofs.Alike.{opened_lock}
 use Rattle.lock_laws.proofs.SxQueue.{unowned, sx_stays}
 use Rattle.lock_laws.proofs.OneQueue.{heads_put_owned, stand_less}
 use Rattle.lock_laws.proofs.Queues.{stands-less, waiting-less, no_turnstiles-dealt, all_sleep_queues-dealt, length-after, headless-after}
+use Rattle.lock_laws.proofs.Listed as listed
 
 -- the woken side isn't empty
 side_shown : (kind : Kind) (w : Word) (q : Lists) → is_turnstile kind ≡ false → ShowsItsWaiters w q → shows_waiters w ≡ true → is_empty (list_of (side_woken kind w) q) ≡ false
@@ -99,4 +100,4 @@ module _ (c : Config) (s : State) (t l : ℕ) (mode : Mode) (g : MayOpenSleep c 
 
   pub lawful : Lawful c n
   unfolding after_open_sleep
-  lawful = assumption (one_turnstile, one_sleep_queue, heads, stand, opened_lock c s t l mode g.thread g.held g.last g.unmarked g.closed h fits some_woken, sx_stays c s l g.sleeps h (with_list side [] (s.lists q)) (head_after woken (s.free_list q) (s.head q)) (opened (c.kind l) (s.word l)))
+  lawful = assumption (listed.released s t l h.words.held_are_listed, one_turnstile, one_sleep_queue, heads, stand, opened_lock c s t l mode g.thread g.held g.last g.unmarked g.closed h fits some_woken, sx_stays c s l g.sleeps h (with_list side [] (s.lists q)) (head_after woken (s.free_list q) (s.head q)) (opened (c.kind l) (s.word l)))

@@ -5,7 +5,7 @@ use Rattle.lock_model.specs.Config.{Config}
 use Rattle.lock_state.specs.State.{State}
 use Rattle.lock_model.specs.Queues.{Waiter}
 use Rattle.lock_model.specs.History.{IsAlone, IsInSection, IsReplayed, IsShown}
-use Rattle.lock_state.specs.Facts.{Lawful, OneTurnstileEach, OneSleepQueueEach, OneNodeEach, TurnstileIsLent, SleepQueueIsLent, HeadsFitWaiters, BitsShowWaiters, ListsAscend, MutexWaitersAreExclusive, StandsOnce, OnlyThreadsStand, StandingIsQueued, StandingWants, WokenWants, CalledWants, StandingIsUncalled, WokenIsUncalled, FreeWordHasCalled, FreeMutexShowsNone, WordsMatchHolders, OnlyThreadsHold, EffectiveIsLeast, OwnersHold, ChannelsHaveNoOwner, LoansAreLeast, LoansAreWithOwners, LoansAreOnHeads, KeptIsEffective, EffectiveIsKnown, LoansAreKnown, KeptIsKnown, NextIsNew, LogsAreParts, TablesReplay, BasesReplay, SectionsAreHeld, OutIsNarrow, TicketsRun, SectionsExclude, EditsInSections, ReadsReplay, ShownIsExplained}
+use Rattle.lock_state.specs.Facts.{Lawful, OneTurnstileEach, OneSleepQueueEach, OneNodeEach, TurnstileIsLent, SleepQueueIsLent, HeadsFitWaiters, BitsShowWaiters, ListsAscend, MutexWaitersAreExclusive, StandsOnce, OnlyThreadsStand, StandingIsQueued, StandingWants, WokenWants, CalledWants, StandingIsUncalled, WokenIsUncalled, FreeWordHasCalled, FreeMutexShowsNone, WordsMatchHolders, OnlyThreadsHold, HeldAreListed, EffectiveIsLeast, OwnersHold, ChannelsHaveNoOwner, LoansAreLeast, LoansAreWithOwners, LoansAreOnHeads, KeptIsEffective, EffectiveIsKnown, LoansAreKnown, KeptIsKnown, NextIsNew, LogsAreParts, TablesReplay, BasesReplay, SectionsAreHeld, OutIsNarrow, TicketsRun, SectionsExclude, EditsInSections, ReadsReplay, ShownIsExplained}
 use Rattle.lock_state.specs.Facts.Queues.{Ascends}
 use Rattle.lock_state.specs.Facts.Loans.{Each}
 use Rattle.lock_model.specs.declared.plan.Mode.{Mode}
@@ -73,5 +73,5 @@ shown c (e ∷ es) = hlevel (IsShown-prop c e.event es e.thread.0, shown c es)
 -- 3. All facts
 
 pub Lawful-prop : (c : Config) (s : State) → IsProp (Lawful c s)
-unfolding OneTurnstileEach OneSleepQueueEach OneNodeEach TurnstileIsLent SleepQueueIsLent HeadsFitWaiters BitsShowWaiters ListsAscend MutexWaitersAreExclusive StandsOnce OnlyThreadsStand StandingIsQueued StandingWants WokenWants CalledWants StandingIsUncalled WokenIsUncalled FreeWordHasCalled FreeMutexShowsNone WordsMatchHolders OnlyThreadsHold EffectiveIsLeast OwnersHold ChannelsHaveNoOwner LoansAreLeast LoansAreWithOwners LoansAreOnHeads KeptIsEffective EffectiveIsKnown LoansAreKnown KeptIsKnown NextIsNew LogsAreParts TablesReplay BasesReplay SectionsAreHeld OutIsNarrow
+unfolding OneTurnstileEach OneSleepQueueEach OneNodeEach TurnstileIsLent SleepQueueIsLent HeadsFitWaiters BitsShowWaiters ListsAscend MutexWaitersAreExclusive StandsOnce OnlyThreadsStand StandingIsQueued StandingWants WokenWants CalledWants StandingIsUncalled WokenIsUncalled FreeWordHasCalled FreeMutexShowsNone WordsMatchHolders OnlyThreadsHold HeldAreListed EffectiveIsLeast OwnersHold ChannelsHaveNoOwner LoansAreLeast LoansAreWithOwners LoansAreOnHeads KeptIsEffective EffectiveIsKnown LoansAreKnown KeptIsKnown NextIsNew LogsAreParts TablesReplay BasesReplay SectionsAreHeld OutIsNarrow
 Lawful-prop c s = hlevel (props, Ascends-prop, Each-prop, tickets, sections, edits, reads, shown)

@@ -7,7 +7,7 @@ use Rattle.lock_state.specs.State.{State, start_state}
 use Rattle.lock_model.specs.Config.{Config}
 use Rattle.lock_model.specs.History.{tables_of, value_at, sections_in}
 use Rattle.lock_state.specs.Steps.Items.{Item, TurnstileChain, SleepChain, RecordOf, CellOf, ClassGraph, item_with}
-use Rattle.lock_state.specs.Facts.{Lawful, OneTurnstileEach, OneSleepQueueEach, OneNodeEach, TurnstileIsLent, SleepQueueIsLent, HeadsFitWaiters, BitsShowWaiters, ListsAscend, MutexWaitersAreExclusive, StandsOnce, OnlyThreadsStand, StandingIsQueued, StandingWants, WokenWants, CalledWants, StandingIsUncalled, WokenIsUncalled, FreeWordHasCalled, FreeMutexShowsNone, WordsMatchHolders, OnlyThreadsHold, EffectiveIsLeast, OwnersHold, ChannelsHaveNoOwner, LoansAreLeast, LoansAreWithOwners, LoansAreOnHeads, KeptIsEffective, EffectiveIsKnown, LoansAreKnown, KeptIsKnown, NextIsNew, LogsAreParts, TablesReplay, BasesReplay, SectionsAreHeld, OutIsNarrow, TicketsRun, SectionsExclude, EditsInSections, ReadsReplay, ShownIsExplained}
+use Rattle.lock_state.specs.Facts.{Lawful, OneTurnstileEach, OneSleepQueueEach, OneNodeEach, TurnstileIsLent, SleepQueueIsLent, HeadsFitWaiters, BitsShowWaiters, ListsAscend, MutexWaitersAreExclusive, StandsOnce, OnlyThreadsStand, StandingIsQueued, StandingWants, WokenWants, CalledWants, StandingIsUncalled, WokenIsUncalled, FreeWordHasCalled, FreeMutexShowsNone, WordsMatchHolders, OnlyThreadsHold, HeldAreListed, EffectiveIsLeast, OwnersHold, ChannelsHaveNoOwner, LoansAreLeast, LoansAreWithOwners, LoansAreOnHeads, KeptIsEffective, EffectiveIsKnown, LoansAreKnown, KeptIsKnown, NextIsNew, LogsAreParts, TablesReplay, BasesReplay, SectionsAreHeld, OutIsNarrow, TicketsRun, SectionsExclude, EditsInSections, ReadsReplay, ShownIsExplained}
 use Rattle.lock_state.specs.Facts.Queues.{only, turnstile_places, sleep_queue_places, loans_on}
 use Rattle.lock_state.specs.Facts.Waits.{callers}
 use Rattle.std.specs.FinMap.{get-empty}
@@ -80,7 +80,7 @@ module _ (c : Config) where
       none ClassGraph t e = cc
 
   pub lawful : Lawful c s
-  unfolding start_state TurnstileIsLent SleepQueueIsLent HeadsFitWaiters BitsShowWaiters ListsAscend MutexWaitersAreExclusive StandsOnce OnlyThreadsStand StandingIsQueued StandingWants WokenWants CalledWants StandingIsUncalled WokenIsUncalled FreeWordHasCalled callers FreeMutexShowsNone WordsMatchHolders OnlyThreadsHold EffectiveIsLeast OwnersHold ChannelsHaveNoOwner LoansAreLeast LoansAreWithOwners LoansAreOnHeads KeptIsEffective EffectiveIsKnown LoansAreKnown KeptIsKnown NextIsNew LogsAreParts TablesReplay value_at tables_of BasesReplay SectionsAreHeld sections_in TicketsRun SectionsExclude EditsInSections ReadsReplay ShownIsExplained
+  unfolding start_state TurnstileIsLent SleepQueueIsLent HeadsFitWaiters BitsShowWaiters ListsAscend MutexWaitersAreExclusive StandsOnce OnlyThreadsStand StandingIsQueued StandingWants WokenWants CalledWants StandingIsUncalled WokenIsUncalled FreeWordHasCalled callers FreeMutexShowsNone WordsMatchHolders OnlyThreadsHold HeldAreListed EffectiveIsLeast OwnersHold ChannelsHaveNoOwner LoansAreLeast LoansAreWithOwners LoansAreOnHeads KeptIsEffective EffectiveIsKnown LoansAreKnown KeptIsKnown NextIsNew LogsAreParts TablesReplay value_at tables_of BasesReplay SectionsAreHeld sections_in TicketsRun SectionsExclude EditsInSections ReadsReplay ShownIsExplained
   lawful =
       let z = sum_below-zero c.threads (λ t. 0) (λ t i. refl) in
       record {
@@ -110,6 +110,7 @@ module _ (c : Config) where
         words = record {
           words_match_holders = λ l. record { owner = λ t. refl; sharers_are_counted = z; some_sharer = λ e. cc };
           only_threads_hold = λ t l m e. absurd cc;
+          held_are_listed = λ t l. refl;
         };
         loans = record {
           effective_is_least = λ t. sym (least-none c.locks (c.declared_base t));

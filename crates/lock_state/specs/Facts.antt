@@ -10,7 +10,7 @@ use Rattle.lock_state.specs.State.{State}
 unfoldable pub use Rattle.lock_model.specs.History.{TicketsRun, SectionsExclude, EditsInSections, ReadsReplay, ShownIsExplained}
 unfoldable pub use Rattle.lock_state.specs.Facts.Queues.{OneTurnstileEach, OneSleepQueueEach, OneNodeEach, TurnstileIsLent, SleepQueueIsLent, HeadsFitWaiters, BitsShowWaiters, ListsAscend, MutexWaitersAreExclusive}
 unfoldable pub use Rattle.lock_state.specs.Facts.Waits.{StandsOnce, OnlyThreadsStand, StandingIsQueued, QueuedHasRecord, QueuedStands, StandingWants, WokenWants, CalledWants, StandingIsUncalled, WokenIsUncalled, FreeWordHasCalled, FreeMutexShowsNone}
-unfoldable pub use Rattle.lock_state.specs.Facts.Words.{WordsMatchHolders, OnlyThreadsHold}
+unfoldable pub use Rattle.lock_state.specs.Facts.Words.{WordsMatchHolders, OnlyThreadsHold, HeldAreListed}
 pub use Rattle.lock_state.specs.Facts.Words.{WordMatchesHolders, owns, shares}
 unfoldable pub use Rattle.lock_state.specs.Facts.Loans.{EffectiveIsLeast, OwnersHold, ChannelsHaveNoOwner, LoansAreLeast, LoansAreWithOwners, LoansAreOnHeads, KeptIsEffective, EffectiveIsKnown, LoansAreKnown, KeptIsKnown}
 unfoldable pub use Rattle.lock_state.specs.Facts.Books.{NextIsNew, LogsAreParts, TablesReplay, BasesReplay, SectionsAreHeld, OutIsNarrow, NothingIsOut}
@@ -44,6 +44,7 @@ pub record WaitFacts (c : Config) (s : State) : Type 0 where
 pub record WordFacts (c : Config) (s : State) : Type 0 where
   pub words_match_holders : WordsMatchHolders c s.word s.held
   pub only_threads_hold : OnlyThreadsHold c s.held
+  pub held_are_listed : HeldAreListed s.held s.held_locks
 
 -- priorities: effective ones, loans and those that queues keep
 pub record LoanFacts (c : Config) (s : State) : Type 0 where

@@ -1,8 +1,9 @@
 -- Facts of lock words and of their holders.
-use Rattle.std.specs.Prelude.{◌≡◌, ◌≢◌, ℕ, ◌<◌, Bool, false, ◌==◌}
+use Rattle.std.specs.Prelude.{◌≡◌, ◌≢◌, ℕ, ◌<◌, Bool, false, ◌==◌, true, not, ◌||◌, List, [], ◌∷◌}
 use Rattle.lock_model.specs.Counts.{sum_below}
 use Rattle.lock_model.specs.Words.{Word, Holder, Free, HeldBy, SharedBy, sharers}
-use Rattle.lock_model.specs.Holds.{is_exclusive, Hold, NotHeld, Holds}
+use Rattle.lock_model.specs.Holds.{is_exclusive, Hold, NotHeld, Holds, is_unheld}
+use Rattle.lock_state.specs.State.{HeldLock}
 use Rattle.lock_model.specs.Config.{Config}
 use Rattle.lock_model.specs.declared.plan.Mode.{Mode}
 use Rattle.lock_model.specs.declared.plan.Mode.TheVariants.{Excl, Shared}
@@ -33,3 +34,12 @@ WordsMatchHolders c word held = (l : ℕ) → WordMatchesHolders c (word l) l he
 -- only the plan's threads hold locks
 unfoldable pub OnlyThreadsHold : Config → (ℕ → ℕ → Hold) → Type 0
 OnlyThreadsHold c held = (t l : ℕ) (mode : Mode) → held t l ≡ Holds mode → t < c.threads
+
+-- whether a lock is in a list of held ones
+abbrev pub is_listed : ℕ → List HeldLock → Bool
+is_listed l [] = false
+is_listed l (h ∷ hs) = (l == h.lock) || is_listed l hs
+
+-- the list of the locks that a thread holds, in order of gaining, has just those that it holds
+unfoldable pub HeldAreListed : (ℕ → ℕ → Hold) → (ℕ → List HeldLock) → Type 0
+HeldAreListed held held_locks = (t l : ℕ) → is_listed l (held_locks t) ≡ not (is_unheld (held t l))
