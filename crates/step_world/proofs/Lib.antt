@@ -10,7 +10,6 @@ pub mod Stamping
 pub mod Opening
 pub mod Ends
 pub mod Turning
-pub mod RowsOfNotes
 pub mod RowsOfTakes
 pub mod RowsOfReleases
 pub mod RowsOfOperations

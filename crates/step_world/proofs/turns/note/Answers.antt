@@ -1,4 +1,4 @@
-use Rattle.step_world.proofs.RowsOfNotes as rows
+use Rattle.step_world.proofs.RowsOfOperations as rows
 use Rattle.step_world.proofs.turns.note.Goals as goal
 
 pub stamp-requires-clause-may : goal.stamp-requires-clause-may

@@ -2,7 +2,6 @@ use Rattle.lock_model.specs.Plans.{config_of}
 use Rattle.lock_laws.proofs.Table.{sets, adds, changes_base}
 use Rattle.step_world.proofs.Turning.{is_there}
 use Rattle.step_world.proofs.RowsOfTurns.{here}
-use Rattle.step_world.proofs.RowsOfNotes as notes
 use Rattle.step_world.proofs.RowsOfOperations as rows
 use Rattle.step_world.proofs.turns.operate.Goals as goal
 
@@ -30,32 +29,32 @@ returns-in-Take-clause-follows c r h a = c.take.ensures.follows r h (rows.at_tak
 pub note-requires-clause-run : goal.note-requires-clause-run
 note-requires-clause-run c =
     let q = c.requires.run in
-    (q.0, q.1, notes.is_note c.requires.proper c.requires.thread q.1 (rows.is_at c.in-Set.is q.2) (sets c.in-Set.l c.in-Set.key c.in-Set.value))
+    (q.0, q.1, rows.is_note c.requires.proper c.requires.thread q.1 (rows.is_at c.in-Set.is q.2) (sets c.in-Set.l c.in-Set.key c.in-Set.value))
 
 pub note-requires-clause-key : goal.note-requires-clause-key
-note-requires-clause-key c = let q = c.requires.run in notes.has_key _ _ q.1 (rows.is_at c.in-Set.is q.2) (sets c.in-Set.l c.in-Set.key c.in-Set.value)
+note-requires-clause-key c = let q = c.requires.run in rows.has_key _ _ q.1 (rows.is_at c.in-Set.is q.2) (sets c.in-Set.l c.in-Set.key c.in-Set.value)
 
 pub returns-in-Set-clause-follows : goal.returns-in-Set-clause-follows
-returns-in-Set-clause-follows c r h a = c.note.ensures.follows r h (notes.is_note c.requires.proper c.requires.thread h (rows.is_at c.in-Set.is a) (sets c.in-Set.l c.in-Set.key c.in-Set.value))
+returns-in-Set-clause-follows c r h a = c.note.ensures.follows r h (rows.is_note c.requires.proper c.requires.thread h (rows.is_at c.in-Set.is a) (sets c.in-Set.l c.in-Set.key c.in-Set.value))
 
 pub note-requires-in-Add-clause-run : goal.note-requires-in-Add-clause-run
 note-requires-in-Add-clause-run c =
     let q = c.requires.run in
-    (q.0, q.1, notes.is_note c.requires.proper c.requires.thread q.1 (rows.is_at c.in-Add.is q.2) (adds c.in-Add.l c.in-Add.key c.in-Add.amount))
+    (q.0, q.1, rows.is_note c.requires.proper c.requires.thread q.1 (rows.is_at c.in-Add.is q.2) (adds c.in-Add.l c.in-Add.key c.in-Add.amount))
 
 pub note-requires-in-Add-clause-key : goal.note-requires-in-Add-clause-key
-note-requires-in-Add-clause-key c = let q = c.requires.run in notes.has_key _ _ q.1 (rows.is_at c.in-Add.is q.2) (adds c.in-Add.l c.in-Add.key c.in-Add.amount)
+note-requires-in-Add-clause-key c = let q = c.requires.run in rows.has_key _ _ q.1 (rows.is_at c.in-Add.is q.2) (adds c.in-Add.l c.in-Add.key c.in-Add.amount)
 
 pub returns-in-Add-clause-follows : goal.returns-in-Add-clause-follows
-returns-in-Add-clause-follows c r h a = c.note-in-Add.ensures.follows r h (notes.is_note c.requires.proper c.requires.thread h (rows.is_at c.in-Add.is a) (adds c.in-Add.l c.in-Add.key c.in-Add.amount))
+returns-in-Add-clause-follows c r h a = c.note-in-Add.ensures.follows r h (rows.is_note c.requires.proper c.requires.thread h (rows.is_at c.in-Add.is a) (adds c.in-Add.l c.in-Add.key c.in-Add.amount))
 
 pub note-requires-in-Base-clause-run : goal.note-requires-in-Base-clause-run
 note-requires-in-Base-clause-run c =
     let q = c.requires.run in
-    (q.0, q.1, notes.is_note c.requires.proper c.requires.thread q.1 (rows.is_at c.in-Base.is q.2) (changes_base c.in-Base.prio))
+    (q.0, q.1, rows.is_note c.requires.proper c.requires.thread q.1 (rows.is_at c.in-Base.is q.2) (changes_base c.in-Base.prio))
 
 pub returns-in-Base-clause-follows : goal.returns-in-Base-clause-follows
-returns-in-Base-clause-follows c r h a = c.note-in-Base.ensures.follows r h (notes.is_note c.requires.proper c.requires.thread h (rows.is_at c.in-Base.is a) (changes_base c.in-Base.prio))
+returns-in-Base-clause-follows c r h a = c.note-in-Base.ensures.follows r h (rows.is_note c.requires.proper c.requires.thread h (rows.is_at c.in-Base.is a) (changes_base c.in-Base.prio))
 
 pub returns-in-Get-clause-follows : goal.returns-in-Get-clause-follows
 returns-in-Get-clause-follows c r h a = c.note-in-Get.ensures.follows r h (rows.got c.requires.proper c.requires.thread h a c.in-Get.is c.get-found.ensures)
