@@ -125,7 +125,6 @@ module _ {plan : Plan} {m : Machine} {r : Run} {t : ℕ} {op : Op} (p : IsProper
 
 -- 4. The row of an operation that only makes an entry
 
-
 module _ {plan : Plan} {m : Machine} {t : ℕ} {e : Event} (p : IsProper plan) (lt : t < length plan.threads) (q : HasRun plan m (λ r. IsNote plan r t e)) where
   abbrev r : Run
   r = q.0
