@@ -9,7 +9,6 @@ use Rattle.lock_model.specs.History.{tables_of}
 use Rattle.lock_model.specs.Keys.{plan_names}
 use Rattle.lock_model.specs.Operations.{IsProper, operations_in_all, hold_in}
 use Rattle.lock_model.specs.Plans.{config_of, declared_base}
-use Rattle.lock_model.specs.Queues.{lock_queue}
 use Rattle.lock_state.specs.Run.{start_run}
 use Rattle.lock_model.specs.Config.{Config}
 use Rattle.lock_state.specs.State.{start_state}

@@ -1,11 +1,10 @@
 -- A thread blocks on a lock that is held: made ready, it stands on the lock's turnstile.
-use Rattle.std.proofs.Common.{◌≡◌, ◌≢◌, ℕ, List, ◌∷◌, slice_get, Option, Some, None, option_map, is_some, IsSome, refl, sym, ap, subst, ◌∙◌}
+use Rattle.std.proofs.Common.{◌≡◌, ℕ, List, slice_get, Option, Some, None, option_map, is_some, IsSome, refl, sym, ap, subst, ◌∙◌}
 use Rattle.std.specs.Vec.{with_item}
 use Rattle.std.specs.Box.{with_value}
 use Rattle.lock_model.specs.Config.{Config}
-use Rattle.lock_model.specs.Words.{Holder, word_of, entered, owner_of}
+use Rattle.lock_model.specs.Words.{word_of, entered, owner_of}
 use Rattle.lock_model.specs.Queues.{lock_queue, side_of}
-use Rattle.lock_model.specs.declared.numbers.LockNo.{LockNo}
 use Rattle.lock_model.specs.declared.plan.Mode.{Mode}
 use Rattle.lock_model.specs.declared.plan.QueueName.{QueueName}
 use Rattle.lock_state.specs.State.{State, Queued}
@@ -25,7 +24,7 @@ use Rattle.lock_objects.proofs.Enters.{can_lend, can_stand}
 use Rattle.step_world.specs.declared.machine.Machine.{Machine}
 use Rattle.step_world.specs.declared.thread.Thread.{Thread}
 use Rattle.step_world.specs.declared.thread.Wait.TheVariants as wait
-use Rattle.step_world.specs.Represents.{Represents, RepresentsThread, thread_in}
+use Rattle.step_world.specs.Represents.{Represents, thread_in}
 use Rattle.step_world.proofs.Kit.{OthersStay, thread_changed, word_changed, record_of}
 
 -- a walk begins where the columns say

@@ -1,6 +1,5 @@
 -- Whether a thread's objects say that it has ended, as the run says it.
-use Rattle.std.proofs.Common.{◌≡◌, ℕ, ◌<◌, Bool, true, false, not, ◌&&◌, ◌||◌, nat_le, List, [], ◌∷◌, length, map, take, slice_get, Option, Some, None, option_map, refl, sym, ap, inl, inr, eq-eqb, ◌∙◌}
-use Rattle.std.specs.Prelude.{unwrap_or}
+use Rattle.std.proofs.Common.{◌≡◌, ℕ, ◌<◌, Bool, true, false, not, ◌&&◌, ◌||◌, nat_le, List, [], ◌∷◌, length, map, slice_get, Some, option_map, refl, sym, ap, inl, inr, eq-eqb, ◌∙◌}
 use Rattle.std.proofs.lemmas.Bool.{cases_Bool, not_from_false}
 use Rattle.std.proofs.lemmas.Option.{same_Some}
 use Rattle.lock_model.specs.Plans.{config_of, operations_of}
@@ -8,7 +7,6 @@ use Rattle.lock_model.specs.Counts.{any_below, is_empty}
 use Rattle.lock_model.specs.Holds.{is_unheld, Hold, Holds}
 use Rattle.lock_model.specs.Operations.{IsProper, hold_in, held_of}
 use Rattle.lock_state.specs.Run.{Run, is_walking, has_ended, holds_none}
-use Rattle.lock_model.specs.declared.plan.Op.{Op}
 use Rattle.lock_model.specs.declared.plan.Plan.{Plan}
 use Rattle.lock_model.specs.declared.event.Held.{Held}
 use Rattle.lock_laws.proofs.Shown.{true-any_below}

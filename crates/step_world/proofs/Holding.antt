@@ -1,5 +1,5 @@
 -- A thread gains a lock whose word admits it, and puts one down that it holds.
-use Rattle.std.proofs.Common.{◌≡◌, ◌≢◌, ℕ, ◌<◌, ◌≤◌, false, List, [], ◌∷◌, ◌++◌, length, slice_get, Some, None, refl, sym, ap, subst, ◌∙◌, arith}
+use Rattle.std.proofs.Common.{◌≡◌, ℕ, ◌<◌, ◌≤◌, false, [], ◌∷◌, ◌++◌, length, slice_get, Some, None, sym, ap, subst, ◌∙◌, arith}
 use Rattle.std.specs.Prelude.{IfSome, option_map}
 use Rattle.std.specs.Global.{Vec}
 use Rattle.std.specs.Vec.{with_item, vec_len, vec_capacity}
@@ -7,7 +7,7 @@ use Rattle.lock_state.specs.Facts.{Lawful}
 use Rattle.lock_state.specs.Steps.LockWords.{MayGain, after_gain, MayDrop, after_drop}
 use Rattle.lock_model.specs.Operations.{hold_in, without_lock}
 use Rattle.lock_model.specs.Config.{Config}
-use Rattle.lock_state.specs.State.{State, put_at}
+use Rattle.lock_state.specs.State.{State}
 use Rattle.lock_model.specs.Holds.{NotHeld, Holds}
 use Rattle.lock_model.specs.Words as words
 use Rattle.lock_model.specs.Words.{word_of, sharers}
@@ -22,9 +22,9 @@ use Rattle.lock_objects.specs.Held.{holds_of}
 use Rattle.lock_objects.proofs.Held.{once_push, once_without, column_push, column_without}
 use Rattle.step_world.specs.declared.machine.Machine.{Machine}
 use Rattle.step_world.specs.declared.thread.Thread.{Thread}
-use Rattle.step_world.specs.Represents.{Represents, RepresentsThread, thread_in, thread_of}
+use Rattle.step_world.specs.Represents.{Represents, RepresentsThread, thread_in}
 use Rattle.step_world.specs.Steps.{HoldsFew, progress_of}
-use Rattle.step_world.proofs.Kit.{OthersStay, thread_changed, word_changed, word_read}
+use Rattle.step_world.proofs.Kit.{OthersStay, thread_changed, word_changed}
 
 -- 1. A gain
 

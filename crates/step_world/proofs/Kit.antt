@@ -3,14 +3,12 @@ use Rattle.std.proofs.Common.{◌≡◌, ◌≢◌, ℕ, ◌<◌, ◌==◌, if�
 use Rattle.std.proofs.lemmas.Bool.{cases_eq, cases_lt, eq-eqb, ne_eqb}
 use Rattle.std.proofs.lemmas.List.{get_or-set_same, get_or-set_other, length-set, get_or_read}
 use Rattle.std.proofs.lemmas.Option.{slice_get-get_or, slice_get_within, slice_get_past, slice_get_read, same_Some}
-use Rattle.std.specs.Box.{with_value}
 use Rattle.lock_model.specs.Words.{Word, word_of, IsPossible}
 use Rattle.lock_model.specs.Config.{Config}
 use Rattle.lock_state.specs.State.{State, put}
 use Rattle.lock_state.specs.Facts.{Lawful}
 use Rattle.lock_laws.proofs.Kit.{put_same, put_other}
 use Rattle.lock_laws.proofs.WordsAndHeads.{possible_holder}
-use Rattle.thread_records.specs.Records.{Record}
 use Rattle.lock_objects.specs.Represents.{RepresentsRecord, record_in}
 use Rattle.step_world.specs.declared.thread.Thread.{Thread}
 use Rattle.step_world.specs.Steps.{Progress, progress_of}

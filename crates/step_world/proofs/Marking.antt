@@ -1,5 +1,5 @@
 -- The first of a marked list has its turnstile back and is woken.
-use Rattle.std.proofs.Common.{◌≡◌, ◌≢◌, ℕ, ◌<◌, true, List, [], get_or, ◌∷◌, map, slice_get, slice_set, Option, Some, None, IsSome, unwrap_or, refl, sym, ap, subst, ◌∙◌}
+use Rattle.std.proofs.Common.{◌≡◌, ℕ, ◌<◌, true, List, [], get_or, ◌∷◌, map, slice_get, slice_set, Option, Some, None, IsSome, unwrap_or, refl, sym, ap, subst, ◌∙◌}
 use Rattle.std.specs.Box.{with_value}
 use Rattle.std.specs.Vec.{with_item}
 use Rattle.std.proofs.lemmas.List.Elements.{All-head, All-tail, All-same}
@@ -15,7 +15,7 @@ use Rattle.lock_laws.proofs.Kit.{put_same, put_other}
 use Rattle.lock_laws.proofs.Standing.{marked_thread, marked_out}
 use Rattle.turnstile_core.specs.Seen.{Place}
 use Rattle.thread_records.specs.Records.{Record}
-use Rattle.lock_objects.specs.Represents.{RepresentsRecord, record_in, mark_of}
+use Rattle.lock_objects.specs.Represents.{record_in, mark_of}
 use Rattle.step_world.specs.declared.machine.Machine.{Machine}
 use Rattle.step_world.specs.declared.thread.Thread.{Thread}
 use Rattle.step_world.specs.declared.thread.Wait.TheVariants as wait

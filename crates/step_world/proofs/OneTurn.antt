@@ -1,5 +1,5 @@
 -- A course behind one turn more: who still comes, whether the round is idle, and how many threads have ended.
-use Rattle.std.proofs.Common.{◌≡◌, ◌≢◌, ℕ, suc, ◌+◌, ◌<◌, ◌≤◌, Bool, true, false, ◌&&◌, List, ◌∷◌, length, map, drop, get_or, refl, sym, ap, subst, inl, inr, arith, add-one, drop-cons, ◌∙◌}
+use Rattle.std.proofs.Common.{◌≡◌, ◌≢◌, ℕ, suc, ◌+◌, ◌<◌, ◌≤◌, Bool, true, false, ◌&&◌, List, ◌∷◌, length, map, drop, get_or, refl, sym, ap, subst, inl, inr, arith, drop-cons, ◌∙◌}
 use Rattle.std.proofs.lemmas.Bool.{cases_Bool}
 use Rattle.lock_model.specs.Counts.{one}
 use Rattle.lock_state.specs.Run as run

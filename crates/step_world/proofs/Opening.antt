@@ -1,25 +1,25 @@
 -- A thread releases a lock, as its last holder, for which others wait.
-use Rattle.std.proofs.Common.{◌≡◌, ◌≢◌, ℕ, ◌≤◌, true, false, not, cond, List, [], ◌∷◌, length, map, slice_get, Option, Some, None, IsSome, refl, sym, ap, subst, arith, ◌∙◌}
+use Rattle.std.proofs.Common.{◌≡◌, ℕ, ◌≤◌, true, false, not, cond, List, map, slice_get, Option, Some, None, IsSome, refl, sym, ap, subst, ◌∙◌}
 use Rattle.std.specs.List.{All}
 use Rattle.std.specs.Vec.{with_item, vec_capacity}
 use Rattle.std.specs.Box.{with_value}
 use Rattle.lock_model.specs.Config.{Config}
 use Rattle.lock_model.specs.Counts.{is_empty}
-use Rattle.lock_model.specs.Holds.{NotHeld, Holds}
+use Rattle.lock_model.specs.Holds.{NotHeld}
 use Rattle.lock_model.specs.Operations.{hold_in, without_lock}
 use Rattle.lock_model.specs.Queues.{lock_queue, list_of, dealt}
 use Rattle.lock_model.specs.Words.{Holder, Free, HeldBy, SharedBy, word_of, is_free, is_owned, without_one, opened, side_opened, side_woken}
 use Rattle.lock_model.specs.declared.plan.Kind.{Kind}
 use Rattle.lock_model.specs.declared.plan.Kind.TheVariants.{Mtx}
 use Rattle.lock_model.specs.declared.plan.Mode.{Mode}
-use Rattle.lock_model.specs.declared.plan.Mode.TheVariants.{Excl, Shared}
+use Rattle.lock_model.specs.declared.plan.Mode.TheVariants.{Excl}
 use Rattle.lock_model.specs.declared.plan.Side.{Side}
 use Rattle.lock_model.specs.declared.plan.QueueName.{QueueName}
 use Rattle.lock_state.specs.State.{State, put}
 use Rattle.lock_state.specs.Facts.{Lawful, BitsShowWaiters, MutexWaitersAreExclusive}
 use Rattle.lock_state.specs.Steps.LockWords.{effective_of}
 use Rattle.lock_state.specs.Steps.Turnstiles.{MayOpen, after_open}
-use Rattle.lock_laws.proofs.Kit.{put_same, put_other, put_at_other}
+use Rattle.lock_laws.proofs.Kit.{put_other, put_at_other}
 use Rattle.lock_words.specs.Views.{IsHeldIn}
 use Rattle.turnstile_core.specs.Seen.{Turnstile, Place}
 use Rattle.thread_records.specs.Records.{Record}
@@ -28,7 +28,7 @@ use Rattle.lock_objects.specs.Represents.{RepresentsQueues, RepresentsRecord, qu
 use Rattle.lock_objects.proofs.Held.{once_without, column_without}
 use Rattle.step_world.specs.declared.machine.Machine.{Machine}
 use Rattle.step_world.specs.declared.thread.Thread.{Thread}
-use Rattle.step_world.specs.Represents.{Represents, RepresentsThread, IsOffLock, thread_in, thread_of}
+use Rattle.step_world.specs.Represents.{Represents, IsOffLock, thread_in, thread_of}
 use Rattle.step_world.proofs.Kit.{OthersStay, thread_changed, word_changed}
 use Rattle.step_world.proofs.Holding.{is_held, left_with}
 

@@ -1,13 +1,12 @@
 -- The row of the table for a running thread's operation, and for one that only makes an entry.
-use Rattle.std.proofs.Common.{◌≡◌, ℕ, suc, ◌<◌, ◌≤◌, Bool, true, cond, ◌&&◌, List, [], ◌∷◌, length, slice_get, Option, Some, None, option_map, refl, sym, ap, subst, eq-eqb, ◌∙◌, ◌⊎◌, inl, inr}
+use Rattle.std.proofs.Common.{◌≡◌, ℕ, ◌<◌, ◌≤◌, Bool, true, ◌&&◌, [], ◌∷◌, length, slice_get, Option, Some, None, option_map, refl, sym, ap, subst, eq-eqb, ◌∙◌, ◌⊎◌, inl, inr}
 use Rattle.std.specs.Prelude.{IsTrue, IfSome, unwrap_or, ◌==◌}
-use Rattle.std.specs.List.{list_any, Contains}
+use Rattle.std.specs.List.{list_any}
 use Rattle.std.proofs.lemmas.Option.{none-some, slice_get-map}
 use Rattle.std.proofs.lemmas.Map.Keys.{any_passes_from_place}
 use Rattle.lock_model.specs.Plans.{config_of, operations_of}
 use Rattle.lock_model.specs.Keys.{op_names, plan_names}
 use Rattle.lock_model.specs.Operations.{IsProper}
-use Rattle.lock_model.specs.Config.{Config}
 use Rattle.lock_state.specs.Steps.{Stamps, May as MayMake, after}
 use Rattle.lock_state.specs.Run.{Run, turn_of, notes, operates, Row, nothing}
 use Rattle.lock_model.specs.declared.plan.Op.{Op}

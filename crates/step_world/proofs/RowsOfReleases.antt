@@ -1,12 +1,10 @@
 -- The row of the table for a release.
-use Rattle.std.proofs.Common.{◌≡◌, ℕ, suc, ◌<◌, ◌≤◌, Bool, true, false, [], ◌∷◌, length, get_or, Some, refl, sym, ap, subst, ◌∙◌}
+use Rattle.std.proofs.Common.{◌≡◌, ℕ, ◌<◌, ◌≤◌, Bool, true, false, [], ◌∷◌, length, get_or, Some, refl, sym, ap, subst, ◌∙◌}
 use Rattle.std.specs.Prelude.{IfSome, vec_len}
 use Rattle.lock_model.specs.Plans.{config_of, operations_of}
 use Rattle.lock_model.specs.Operations.{IsProper, without_lock}
 use Rattle.lock_model.specs.Config.{Config}
-use Rattle.lock_model.specs.Holds.{Holds}
 use Rattle.lock_model.specs.Words.{word_of, is_drop}
-use Rattle.lock_state.specs.State.{State}
 use Rattle.lock_state.specs.Steps.{Step, Drops, Opens, Stamps, May as MayMake, after}
 use Rattle.lock_state.specs.Run.{Run, turn_of, ends, mode_held}
 use Rattle.lock_model.specs.declared.numbers.LockNo.{LockNo}
@@ -20,7 +18,7 @@ use Rattle.lock_model.specs.declared.turn.StepKind.TheVariants as kinds
 use Rattle.lock_model.specs.declared.turn.Turn.TheVariants.{Did}
 use Rattle.lock_laws.specs.OnTrack.{IsAtOperation}
 use Rattle.lock_laws.proofs.Entries.{next_op_below}
-use Rattle.lock_laws.proofs.OnTrack.{before, behind, are_locks, left as left_at}
+use Rattle.lock_laws.proofs.OnTrack.{before, are_locks, left as left_at}
 use Rattle.lock_laws.proofs.Table.{makes_operation}
 use Rattle.lock_laws.proofs.TurnsOfLocks as locks
 use Rattle.step_world.specs.declared.machine.Machine.{Machine}

@@ -1,10 +1,9 @@
 -- The row of the table for a take.
-use Rattle.std.proofs.Common.{◌≡◌, ℕ, suc, ◌<◌, ◌≤◌, Bool, true, false, [], ◌∷◌, ◌++◌, length, get_or, Some, unwrap_or, refl, sym, ap, subst, arith, ◌∙◌}
+use Rattle.std.proofs.Common.{◌≡◌, ℕ, ◌<◌, ◌≤◌, Bool, true, false, [], ◌∷◌, ◌++◌, length, get_or, Some, unwrap_or, refl, sym, ap, subst, arith, ◌∙◌}
 use Rattle.std.specs.Prelude.{IfSome, vec_len}
 use Rattle.lock_model.specs.Plans.{config_of, operations_of}
 use Rattle.lock_model.specs.Operations.{IsProper}
 use Rattle.lock_model.specs.Config.{Config}
-use Rattle.lock_state.specs.State.{State}
 use Rattle.lock_model.specs.Words.{word_of, IsWellFormed, admits, is_free}
 use Rattle.lock_state.specs.Steps.{Gains, Stamps, Readies, Enters, MayAll, May as MayMake, after}
 use Rattle.lock_state.specs.Run.{Run, Row, turn_of, ends, blocks}

@@ -1,21 +1,20 @@
 -- Which row of the table a turn is, by what the thread's objects say.
 use Rattle.std.proofs.Common.{◌≡◌, ℕ, ◌<◌, ◌≤◌, Bool, true, false, List, [], ◌∷◌, length, map, get_or, slice_get, Option, Some, None, refl, sym, ap, ◌∙◌}
 use Rattle.std.proofs.lemmas.Option.{slice_get_read, slice_get_past}
-use Rattle.lock_model.specs.Plans.{config_of, operations_of}
+use Rattle.lock_model.specs.Plans.{operations_of}
 use Rattle.lock_model.specs.Operations.{IsProper}
-use Rattle.lock_model.specs.Config.{Config}
-use Rattle.lock_state.specs.State.{State, Wait, Running, Woken, NoWalk, AtLock, AtThread}
-use Rattle.lock_model.specs.Queues.{Mark, Cause, BySignal, lock_queue}
-use Rattle.lock_state.specs.Steps.{Marks, Resumes, May as MayMake}
-use Rattle.lock_state.specs.Run.{Run, has_ended, turn_of, does, nothing}
+use Rattle.lock_state.specs.State.{State, Wait, Running, NoWalk, AtLock, AtThread}
+use Rattle.lock_model.specs.Queues.{Mark, BySignal}
+use Rattle.lock_state.specs.Steps.{Marks, Resumes}
+use Rattle.lock_state.specs.Run.{Run, has_ended, turn_of}
 use Rattle.lock_model.specs.declared.numbers.LockNo.{LockNo}
 use Rattle.lock_model.specs.declared.numbers.ThreadNo.{ThreadNo}
 use Rattle.lock_model.specs.declared.plan.Op.{Op}
 use Rattle.lock_model.specs.declared.plan.Plan.{Plan}
 use Rattle.lock_model.specs.declared.plan.QueueName.{QueueName}
 use Rattle.lock_model.specs.declared.turn.StepKind.TheVariants as kinds
-use Rattle.lock_model.specs.declared.turn.Turn.TheVariants.{Did, Idle, Ended}
-use Rattle.lock_laws.specs.OnTrack.{OwesNothing, IsAtOperation}
+use Rattle.lock_model.specs.declared.turn.Turn.TheVariants.{Idle, Ended}
+use Rattle.lock_laws.specs.OnTrack.{IsAtOperation}
 use Rattle.lock_laws.proofs.Table.{goes_by_wait, marks_first}
 use Rattle.turnstile_core.specs.Seen.{Place}
 use Rattle.prio_lending.specs.declared.walk.Walk.TheVariants as walk
@@ -25,8 +24,7 @@ use Rattle.step_world.specs.declared.thread.Wait.TheVariants as wait
 use Rattle.lock_objects.specs.Represents.{walk_of, mark_of}
 use Rattle.step_world.specs.Represents.{RepresentsThread, wait_of}
 use Rattle.step_world.specs.Threads.{thread_has_ended}
-use Rattle.step_world.specs.Steps.{May, Makes, KeepsProgress, KeepsBooks}
-use Rattle.step_world.specs.Runs.{IsRunOf, IsTurn, IsFree, progress_in}
+use Rattle.step_world.specs.Runs.{IsRunOf, IsTurn, IsFree}
 use Rattle.step_world.proofs.Kit.{read}
 use Rattle.step_world.proofs.Ends.{ends_as_said, aside_is}
 use Rattle.step_world.proofs.Turning.{MakesOne, one_step, still}

@@ -1,5 +1,5 @@
 -- The rows of the table for a thread with a walk, and what the walk reads where it stands.
-use Rattle.std.proofs.Common.{◌≡◌, ℕ, ◌<◌, ◌≤◌, Bool, true, false, ltb, List, [], ◌∷◌, length, get_or, slice_get, Option, Some, None, refl, sym, ap, subst, inl, inr, arith, ◌∙◌}
+use Rattle.std.proofs.Common.{◌≡◌, ℕ, ◌<◌, ◌≤◌, true, false, ltb, List, [], ◌∷◌, length, get_or, slice_get, Option, Some, None, refl, sym, ap, subst, inl, inr, arith, ◌∙◌}
 use Rattle.std.proofs.lemmas.Bool.{and_right, and_from, lt-ltb}
 use Rattle.std.proofs.lemmas.Option.{slice_get_read}
 use Rattle.lock_model.specs.Plans.{config_of}
@@ -8,16 +8,15 @@ use Rattle.lock_model.specs.Config.{Config}
 use Rattle.lock_state.specs.State.{State, AtLock, AtThread}
 use Rattle.lock_model.specs.Words.{owner_of, is_turnstile}
 use Rattle.lock_model.specs.Queues.{lock_queue, stands}
-use Rattle.lock_state.specs.Steps.{Lends, Shifts, EndsWalk, May as MayMake}
+use Rattle.lock_state.specs.Steps.{Lends, Shifts, EndsWalk}
 use Rattle.lock_state.specs.Facts.{Lawful}
-use Rattle.lock_state.specs.Run.{Run, turn_of, does, walks_at_lock, walks_at_thread}
+use Rattle.lock_state.specs.Run.{Run, does, walks_at_lock, walks_at_thread}
 use Rattle.lock_model.specs.declared.numbers.LockNo.{LockNo}
 use Rattle.lock_model.specs.declared.numbers.ThreadNo.{ThreadNo}
 use Rattle.lock_model.specs.declared.plan.Plan.{Plan}
 use Rattle.lock_model.specs.declared.plan.QueueName.{QueueName}
 use Rattle.lock_model.specs.declared.plan.QueueName.TheVariants.{Lock, Chan}
 use Rattle.lock_model.specs.declared.turn.StepKind.TheVariants as kinds
-use Rattle.lock_model.specs.declared.turn.Turn.TheVariants.{Did}
 use Rattle.turnstile_core.specs.Seen.{Turnstile}
 use Rattle.turnstile_core.specs.Changes.{waits}
 use Rattle.chain_table.specs.Chains.{head_of}
@@ -27,7 +26,6 @@ use Rattle.step_world.specs.declared.machine.Machine.{Machine}
 use Rattle.step_world.specs.declared.thread.Thread.{Thread}
 use Rattle.lock_objects.specs.Represents.{RepresentsQueue, RepresentsHead, queue_in}
 use Rattle.step_world.specs.Represents.{Represents}
-use Rattle.step_world.specs.Steps.{May, Makes, KeepsProgress, KeepsBooks}
 use Rattle.step_world.specs.Runs.{IsRunOf, IsNowhere, StandsAt}
 use Rattle.step_world.proofs.Turning.{MakesOne, one_step}
 

@@ -1,5 +1,5 @@
 -- An entry of the history is made, with what it says of a table or of a thread's base priority.
-use Rattle.std.proofs.Common.{◌≡◌, ◌≢◌, ℕ, ◌<◌, ◌≤◌, List, [], ◌∷◌, ◌++◌, length, reverse, slice_get, slice_set, Some, option_map, refl, sym, ap, subst, ◌∙◌}
+use Rattle.std.proofs.Common.{◌≡◌, ℕ, ◌<◌, ◌≤◌, List, [], ◌∷◌, ◌++◌, length, reverse, slice_get, slice_set, Some, option_map, refl, sym, ap, subst, ◌∙◌}
 use Rattle.std.proofs.lemmas.List.{reverse-append, length-reverse}
 use Rattle.std.specs.Box.{with_value}
 use Rattle.lock_state.specs.Facts.{Lawful, NextIsNew}

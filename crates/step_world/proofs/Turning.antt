@@ -1,6 +1,6 @@
 -- A thread's turn under way: while a machine has made the first steps of the turn's row, it represents the lawful state
 -- behind them, and the next step may be made. So behind the last it represents the run behind the turn.
-use Rattle.std.proofs.Common.{◌≡◌, ◌≢◌, ℕ, suc, ◌+◌, ◌<◌, ◌≤◌, List, [], ◌∷◌, ◌++◌, length, get_or, slice_get, Option, Some, None, option_map, refl, sym, ap, subst, inl, inr, arith, eq-eqb, ◌∙◌}
+use Rattle.std.proofs.Common.{◌≡◌, ◌≢◌, ℕ, suc, ◌+◌, ◌<◌, ◌≤◌, List, [], ◌∷◌, length, get_or, Some, option_map, refl, sym, ap, subst, inl, inr, arith, eq-eqb, ◌∙◌}
 use Rattle.std.specs.Prelude.{IfSome, vec_len}
 use Rattle.std.specs.List.{Contains}
 use Rattle.std.proofs.lemmas.Bool.{ne_eqb, cases_eq}
@@ -21,7 +21,7 @@ use Rattle.lock_model.specs.declared.turn.Turn.TheVariants.{Did}
 use Rattle.lock_laws.proofs.Kit.{put_same, put_other}
 use Rattle.lock_laws.proofs.Steps.{keeps, all_keep}
 use Rattle.lock_laws.proofs.Turning.{may_all}
-use Rattle.lock_laws.proofs.Entries.{entries_below, next_op_below}
+use Rattle.lock_laws.proofs.Entries.{entries_below}
 use Rattle.step_world.specs.declared.machine.Machine.{Machine}
 use Rattle.step_world.specs.Represents.{Represents}
 use Rattle.step_world.specs.Steps.{Progress, progress, May, Makes, MakesAll, KeepsProgress, ChangesProgress, KeepsBooks}

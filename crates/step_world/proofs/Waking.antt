@@ -1,9 +1,9 @@
 -- A woken thread runs again.
-use Rattle.std.proofs.Common.{◌≡◌, ◌≢◌, ℕ, slice_get, Some, refl, sym, ap, subst, ◌∙◌}
+use Rattle.std.proofs.Common.{◌≡◌, ℕ, slice_get, Some, refl, sym, ap, subst, ◌∙◌}
 use Rattle.std.specs.Vec.{with_item}
 use Rattle.lock_model.specs.Config.{Config}
 use Rattle.lock_state.specs.State.{State, Wait, Running, Queued, Woken}
-use Rattle.lock_model.specs.Queues.{Cause, BySignal, ByAbort}
+use Rattle.lock_model.specs.Queues.{Cause}
 use Rattle.lock_state.specs.Steps.LockWords.{is_taking_back}
 use Rattle.lock_state.specs.Steps.Turnstiles.{MayResume, after_resume, wanted_after}
 use Rattle.lock_model.specs.declared.plan.QueueName.{QueueName}
@@ -13,7 +13,7 @@ use Rattle.step_world.specs.declared.machine.Machine.{Machine}
 use Rattle.step_world.specs.declared.thread.Thread.{Thread}
 use Rattle.step_world.specs.declared.thread.Wait as waits
 use Rattle.step_world.specs.declared.thread.Wait.TheVariants as wait
-use Rattle.step_world.specs.Represents.{Represents, IsOfLock, IsOffLock, thread_in, wait_of}
+use Rattle.step_world.specs.Represents.{Represents, IsOffLock, thread_in, wait_of}
 use Rattle.step_world.proofs.Kit.{OthersStay, thread_changed}
 
 -- the thread with a wait word that says Running

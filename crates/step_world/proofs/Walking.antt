@@ -1,5 +1,5 @@
 -- The hops of a lending walk: the owner of a lock is lent the best priority of those who wait, and one who waits is sorted anew.
-use Rattle.std.proofs.Common.{◌≡◌, ◌≢◌, ℕ, ◌<◌, true, List, ◌∷◌, get_or, slice_get, slice_set, Option, Some, refl, sym, ap, subst, ◌∙◌}
+use Rattle.std.proofs.Common.{◌≡◌, ℕ, ◌<◌, List, get_or, slice_get, slice_set, Option, Some, refl, sym, ap, ◌∙◌}
 use Rattle.std.specs.Prelude.{◌==◌, not, ◌&&◌}
 use Rattle.std.specs.Box.{with_value}
 use Rattle.std.specs.Vec.{with_item}
@@ -16,14 +16,13 @@ use Rattle.lock_laws.proofs.HeadsAndNodes.{owner_thread}
 use Rattle.lock_laws.proofs.Standing.{standing_thread}
 use Rattle.turnstile_core.specs.Seen.{Turnstile}
 use Rattle.thread_records.specs.Records.{Record}
-use Rattle.chain_table.specs.Chains.{head_of}
 use Rattle.prio_lending.specs.declared.walk.Walk.{Walk}
 use Rattle.lock_objects.specs.Represents.{RepresentsQueues, RepresentsRecord, queue_in, record_in, walk_of}
 use Rattle.step_world.specs.declared.machine.Machine.{Machine}
 use Rattle.step_world.specs.declared.thread.Thread.{Thread}
-use Rattle.step_world.specs.Represents.{Represents, RepresentsThread, RepresentsThreads, thread_in}
+use Rattle.step_world.specs.Represents.{Represents, RepresentsThreads, thread_in}
 use Rattle.step_world.specs.Steps.{KeepsProgress}
-use Rattle.step_world.proofs.Kit.{OthersStay, thread_changed, read, record_of, aside_stays}
+use Rattle.step_world.proofs.Kit.{OthersStay, thread_changed, read, aside_stays}
 
 -- the thread with another record in its box, and with another walk
 abbrev pub with_record : Thread → Record → Thread

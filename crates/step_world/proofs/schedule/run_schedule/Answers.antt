@@ -1,4 +1,4 @@
-use Rattle.std.proofs.Common.{◌≡◌, ℕ, Result, Ok, Err, IfOk, sym, subst, ◌∙◌}
+use Rattle.std.proofs.Common.{◌≡◌, ℕ, Result, Ok, Err, IfOk, sym, subst}
 use Rattle.lock_model.specs.Operations.{IsProper}
 use Rattle.lock_model.specs.Text as text
 use Rattle.lock_state.specs.Run as run

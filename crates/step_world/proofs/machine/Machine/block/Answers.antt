@@ -1,4 +1,4 @@
-use Rattle.std.proofs.Common.{◌≡◌, refl, sym, ap, subst, ◌∙◌, IsSome}
+use Rattle.std.proofs.Common.{refl, sym, ap, subst, ◌∙◌, IsSome}
 use Rattle.lock_model.specs.Words.{entered, owner_of, is_free}
 use Rattle.lock_model.specs.Queues.{lock_queue}
 use Rattle.lock_state.specs.Steps.LockWords.{after_ready}

@@ -1,9 +1,7 @@
-use Rattle.std.proofs.Common.{◌≡◌, ℕ, ◌+◌, ◌<◌, ◌≤◌, ◌&&◌, Bool, true, false, length, get_or, rules, refl, sym, ap, subst, arith, ◌∙◌}
+use Rattle.std.proofs.Common.{◌≡◌, ◌<◌, ◌&&◌, Bool, length, get_or, rules, sym, ap, arith, ◌∙◌}
 use Rattle.std.proofs.lemmas.List.Elements.{All-get_or}
-use Rattle.std.proofs.lemmas.Grind.{common_steps}
 use Rattle.lock_state.specs.Run.{is_idle}
 use Rattle.lock_model.specs.declared.numbers.ThreadNo.{ThreadNo}
-use Rattle.step_world.specs.Courses.{IsCourse}
 use Rattle.step_world.proofs.OneTurn.{turned, stays_small}
 use Rattle.step_world.proofs.schedule.Course.make_turn.Goals as goal
 use Rattle.step_world.proofs.schedule.Course.make_turn.Goals.{then-self, else-self}

@@ -1,5 +1,4 @@
 use Rattle.std.proofs.Common.{◌<◌, length, List, sym, ap, subst, ◌∙◌}
-use Rattle.lock_model.specs.Plans.{config_of}
 use Rattle.lock_model.specs.declared.plan.Op.{Op}
 use Rattle.step_world.specs.Threads.{thread_has_ended}
 use Rattle.step_world.specs.Worlds.{World}
