@@ -44,7 +44,19 @@ impl Machine {
                 self.tables.put(l, key, before.wrapping_add(amount));
             }
             Event::Base { prio } => self.threads[usize::from(t.0)].record.set_base(prio),
-            _ => {}
+            Event::Locked { .. }
+            | Event::Tried { .. }
+            | Event::Busy { .. }
+            | Event::Unlocked { .. }
+            | Event::Got { .. }
+            | Event::Shown { .. }
+            | Event::Sleeps { .. }
+            | Event::Woke { .. }
+            | Event::HaltedChan { .. }
+            | Event::HaltedLock { .. }
+            | Event::WokeOne { .. }
+            | Event::WokeAll { .. }
+            | Event::Reversed { .. } => {}
         }
     }
 }
