@@ -1,5 +1,17 @@
 //! The turnstile: the lists of those who wait for a lock, the free list of their turnstiles, the lock's
 //! owner and the loan node by which they lend to it.
+//!
+//! Thread o holds the mutex m; a came first, then b, then c, and each lent its turnstile:
+//!
+//!     the word of m                +----------------------------------------------+
+//!     owner o, waiters on X        | turnstile a, the head: lent by a, who came   |
+//!                                  | first                                        |
+//!     thread o                     |   lock       m                               |
+//!     loans  m: 50, on node a <----|-- owner      o                               |
+//!     (the loan node of            |   exclusive  b@50 -> c@50 -> a@100           |
+//!      turnstile a is out)         |   shared     (nobody)                        |
+//!                                  |   free list  [turnstile c] -> [turnstile b]  |
+//!                                  +----------------------------------------------+
 ghost use Rattle.std.specs.Prelude.{◌≡◌, ◌≢◌, ◌↔◌, ◌+◌, true, false, [], ◌∷◌, length, map, IsTrue, IfOk, IfNone, IfSome, is_some, option_map, slice_get};
 ghost use Rattle.turnstile_core.specs.Seen.{idle, IsIdle, IsEmpty, IsLeft};
 ghost use Rattle.turnstile_core.specs.Linked.{linked_contents};
