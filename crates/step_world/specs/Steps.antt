@@ -10,6 +10,7 @@ use Rattle.lock_model.specs.declared.event.Event.{Event}
 use Rattle.lock_model.specs.declared.event.Event.TheVariants.{Set, Added}
 use Rattle.lock_model.specs.declared.event.Held.{Held}
 use Rattle.step_world.specs.declared.thread.Thread.{Thread}
+use Rattle.lock_history.specs.Books.{HasRoom}
 use Rattle.step_world.specs.declared.machine.Machine.{Machine}
 use Rattle.step_world.specs.Represents.{Represents}
 
@@ -64,6 +65,4 @@ pub record KeepsBooks (old new : Machine) : Type 0 where
 
 -- there is room for the key that an event edits
 abbrev pub HasKey : Machine → Event → Type 0
-HasKey m (Set l key value) = Contains m.tables.places (l.0, key)
-HasKey m (Added l key amount) = Contains m.tables.places (l.0, key)
-HasKey m other = Unit {0}
+HasKey m event = HasRoom m.tables.places event

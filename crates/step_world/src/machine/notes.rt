@@ -37,26 +37,9 @@ impl Machine {
         ensures threads { HasBaseAfter event t.0 self.old.threads.items self.new.threads.items }
         ensures others { self.new ≡ record self.old { threads = self.new.threads; tables = self.new.tables } }
     {
-        match event {
-            Event::Set { l, key, value } => self.tables.put(l, key, value),
-            Event::Added { l, key, amount } => {
-                let before = self.tables.get(l, key).unwrap_or(0);
-                self.tables.put(l, key, before.wrapping_add(amount));
-            }
-            Event::Base { prio } => self.threads[usize::from(t.0)].record.set_base(prio),
-            Event::Locked { .. }
-            | Event::Tried { .. }
-            | Event::Busy { .. }
-            | Event::Unlocked { .. }
-            | Event::Got { .. }
-            | Event::Shown { .. }
-            | Event::Sleeps { .. }
-            | Event::Woke { .. }
-            | Event::HaltedChan { .. }
-            | Event::HaltedLock { .. }
-            | Event::WokeOne { .. }
-            | Event::WokeAll { .. }
-            | Event::Reversed { .. } => {}
+        self.tables.edit(event).unwrap();
+        if let Event::Base { prio } = event {
+            self.threads[usize::from(t.0)].record.set_base(prio);
         }
     }
 }
