@@ -23,7 +23,8 @@ pub record CanLend (c : Config) (s : State) (t l x : ℕ) : Type 0 where
   pub turnstile : is_turnstile (c.kind l) ≡ true
   pub own : s.turnstile t ≡ Some x
   pub node : s.loan_home x ≡ true
-  pub no_waiter : s.head (lock_queue l) ≡ None → s.lists (lock_queue l) ≡ record { exclusive = []; shared = [] }
+  pub no_waiter : s.head (lock_queue l) ≡ None
+      → s.lists (lock_queue l) ≡ record { exclusive = []; shared = [] }
   pub no_free : s.head (lock_queue l) ≡ None → s.free_list (lock_queue l) ≡ []
 
 -- 2. What it makes
@@ -36,12 +37,16 @@ waiter_of r = record { thread = r.thread; kept = r.effective }
 abbrev pub record_entered : ℕ → Record → Record
 record_entered l r = record r { turnstile = None; on = Some (lock_queue l) }
 
--- the turnstile of a lock with one waiter more, whose own is x: x itself, with its owner, where none was there, and else x goes to the
--- front of its free list
+-- the turnstile of a lock with one waiter more, whose own is x: x itself, with its owner, where none was there, and
+-- else x goes to the front of its free list
 abbrev pub head_entered : ℕ → Side → ℕ → Option ℕ → Waiter → Option Turnstile → Turnstile
-head_entered l side x owner w None = record { contents = record (begun l w side (idle_contents x)) { owner = owner }; next = [] }
+head_entered l side x owner w None =
+    record { contents = record (begun l w side (idle_contents x)) { owner = owner }; next = [] }
 head_entered l side x owner w (Some h) = record h { contents = joined x w side h.contents }
 
 -- the chain with that turnstile
-abbrev pub chain_entered : ℕ → Side → ℕ → Option ℕ → Waiter → List (QueueName × Turnstile) → List (QueueName × Turnstile)
-chain_entered l side x owner w chain = (lock_queue l, head_entered l side x owner w (head_of (lock_queue l) chain)) ∷ without (lock_queue l) chain
+abbrev pub chain_entered : ℕ → Side → ℕ → Option ℕ → Waiter → List (QueueName × Turnstile)
+    → List (QueueName × Turnstile)
+chain_entered l side x owner w chain =
+    (lock_queue l, head_entered l side x owner w (head_of (lock_queue l) chain))
+    ∷ without (lock_queue l) chain

@@ -5,7 +5,8 @@ use Rattle.turnstile_core.specs.Changes.{all_waiters}
 use Rattle.thread_records.specs.Records.{Record}
 use Rattle.prio_lending.specs.Hops.{carrier_for, node_out}
 
--- somebody waits, the record is of the turnstile's owner, and the turnstile's node carries the loan that the record has for the lock, or is at home
+-- somebody waits, the record is of the turnstile's owner, and the turnstile's node carries the loan that the record
+-- has for the lock, or is at home
 pub record CanHop (l : ℕ) (r : Record) (h : Turnstile) : Type 0 where
   pub some_wait : all_waiters h.contents ≢ []
   pub owned : h.contents.owner ≡ Some r.thread

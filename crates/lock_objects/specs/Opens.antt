@@ -1,4 +1,5 @@
--- What a release that takes the waiters of one side off a turnstile makes of the releasing thread's record and of the chain.
+-- What a release that takes the waiters of one side off a turnstile makes of the releasing thread's record and of the
+-- chain.
 use Rattle.std.specs.Prelude.{◌≡◌, ◌≢◌, ℕ, ◌+◌, ◌<◌, true, false, ◌||◌, is_some, if◌then◌else◌, List, [], ◌∷◌, length, IfSome, Option, Some, None}
 use Rattle.lock_model.specs.Config.{Config}
 use Rattle.lock_model.specs.Counts.{is_empty, some}
@@ -18,19 +19,24 @@ use Rattle.chain_table.specs.Chains.{head_of, without}
 
 -- 1. What it asks
 
--- somebody waits on the side, the loan that the record has for the lock is on the turnstile's node, and a node that is not lent is at home
+-- somebody waits on the side, the loan that the record has for the lock is on the turnstile's node, and a node that
+-- is not lent is at home
 pub record CanOpen (l : ℕ) (side : Side) (r : Record) (h : Turnstile) : Type 0 where
   pub some_wait : waiters side h.contents ≢ []
   pub carried : IfSome (carrier_for l r.loans) (λ n. node_out h.contents ≡ Some n)
   pub returns : (is_some (loan_for l r.loans) || h.contents.loan_home) ≡ true
 
--- there are as many waiters as turnstiles at the lock, the loan for the lock is on its head's node, and no other head's node comes home by it
+-- there are as many waiters as turnstiles at the lock, the loan for the lock is on its head's node, and no other
+-- head's node comes home by it
 pub record CanRelease (c : Config) (s : State) (t l : ℕ) : Type 0 where
   pub turnstile : is_turnstile (c.kind l) ≡ true
-  pub balanced : length (s.free_list (lock_queue l)) + some (s.head (lock_queue l)) ≡ waiting (s.lists (lock_queue l))
-  pub lent : (x : ℕ) (y : Loan) → s.head (lock_queue l) ≡ Some x → s.loan t l ≡ Some y → (x ≡ y.number) × (s.loan_home x ≡ false)
+  pub balanced : length (s.free_list (lock_queue l)) + some (s.head (lock_queue l)) ≡ waiting
+      (s.lists (lock_queue l))
+  pub lent : (x : ℕ) (y : Loan) → s.head (lock_queue l) ≡ Some x → s.loan t l ≡ Some y
+      → (x ≡ y.number) × (s.loan_home x ≡ false)
   pub unlent : (x : ℕ) → s.head (lock_queue l) ≡ Some x → s.loan t l ≡ None → s.loan_home x ≡ true
-  pub elsewhere : (k x : ℕ) → k ≢ l → is_turnstile (c.kind k) ≡ true → s.head (lock_queue k) ≡ Some x → home_after s.loan_home (s.loan t l) x ≡ s.loan_home x
+  pub elsewhere : (k x : ℕ) → k ≢ l → is_turnstile (c.kind k) ≡ true
+      → s.head (lock_queue k) ≡ Some x → home_after s.loan_home (s.loan t l) x ≡ s.loan_home x
   pub within : (k : ℕ) (y : Loan) → s.loan t k ≡ Some y → k < c.locks
 
 -- 2. What it makes
@@ -53,9 +59,13 @@ taken_off l side r h = taken (length (waiters side (settled l r h))) side (settl
 -- where nobody waits any more, the last of them takes the turnstile itself
 abbrev pub woken_of : ℕ → Side → Record → Contents → List Place
 woken_of l side r h =
-    if is_empty (all_waiters (left_open l side r h)) then with_last (left_open l side r h).number (taken_off l side r h) else taken_off l side r h
+    if is_empty (all_waiters (left_open l side r h)) then with_last (left_open l side r h).number
+    (taken_off l side r h) else taken_off l side r h
 
 -- and it is gone from the chain; else it stays
-abbrev pub chain_opened : ℕ → Side → Record → Turnstile → List (QueueName × Turnstile) → List (QueueName × Turnstile)
+abbrev pub chain_opened : ℕ → Side → Record → Turnstile → List (QueueName × Turnstile)
+    → List (QueueName × Turnstile)
 chain_opened l side r h chain =
-    if is_empty (all_waiters (left_open l side r h.contents)) then without (lock_queue l) chain else (lock_queue l, record h { contents = left_open l side r h.contents }) ∷ without (lock_queue l) chain
+    if is_empty (all_waiters (left_open l side r h.contents)) then without (lock_queue l) chain
+    else (lock_queue l, record h { contents = left_open l side r h.contents })
+    ∷ without (lock_queue l) chain

@@ -1,5 +1,6 @@
--- What objects say of the columns of a state: the turnstiles in a chain of the columns by queue, and a thread's record of those by thread.
--- What the columns say of one queue, or of one thread's record, is one value, so that "the others stay" is one equation.
+-- What objects say of the columns of a state: the turnstiles in a chain of the columns by queue, and a thread's
+-- record of those by thread. What the columns say of one queue, or of one thread's record, is one value, so that "the
+-- others stay" is one equation.
 use Rattle.std.specs.Prelude.{◌≡◌, ℕ, Bool, true, ◌≤◌, List, ◌∷◌, unwrap_or, option_map, Option, Some, None}
 use Rattle.lock_model.specs.Config.{Config}
 use Rattle.lock_model.specs.Words.{is_turnstile}
@@ -26,11 +27,13 @@ pub record QueueColumns : Type 0 where
 
 -- those of a state
 abbrev pub queue_in : State → QueueName → QueueColumns
-queue_in s q = record { head = s.head q; lists = s.lists q; free_list = s.free_list q; owner = s.owner q }
+queue_in s q =
+    record { head = s.head q; lists = s.lists q; free_list = s.free_list q; owner = s.owner q }
 
 -- what the turnstile that is lent to a lock says of its queue
 abbrev pub queue_of : Contents → QueueColumns
-queue_of h = record { head = Some h.number; lists = lists_of h; free_list = h.free; owner = h.owner }
+queue_of h =
+    record { head = Some h.number; lists = lists_of h; free_list = h.free; owner = h.owner }
 
 -- it says what the columns say, and so does its loan node
 pub record RepresentsHead (h : Contents) (x : QueueColumns) (homes : ℕ → Bool) : Type 0 where
@@ -43,8 +46,10 @@ RepresentsQueue None x homes = x.head ≡ None
 RepresentsQueue (Some h) x homes = RepresentsHead h.contents x homes
 
 -- the chain has a turnstile for each lock of a kind with turnstiles of which the columns say that it has a head
-pub record RepresentsQueues (c : Config) (chain : List (QueueName × Turnstile)) (queues : QueueName → QueueColumns) (homes : ℕ → Bool) : Type 0 where
-  pub lock : (l : ℕ) → is_turnstile (c.kind l) ≡ true → RepresentsQueue (head_of (lock_queue l) chain) (queues (lock_queue l)) homes
+pub record RepresentsQueues (c : Config) (chain : List (QueueName × Turnstile))
+    (queues : QueueName → QueueColumns) (homes : ℕ → Bool) : Type 0 where
+  pub lock : (l : ℕ) → is_turnstile (c.kind l) ≡ true
+      → RepresentsQueue (head_of (lock_queue l) chain) (queues (lock_queue l)) homes
 
 -- 2. Records
 
@@ -92,7 +97,8 @@ pub record RepresentsRecord (r : Record) (x : RecordColumns) : Type 0 where
 
 -- a waiter that a signal took off a queue, with the turnstile that it takes back
 abbrev pub mark_of : QueueName → Place → Mark
-mark_of q p = record { thread = p.thread; object = unwrap_or p.turnstile 0; queue = q; cause = BySignal }
+mark_of q p =
+    record { thread = p.thread; object = unwrap_or p.turnstile 0; queue = q; cause = BySignal }
 
 -- 4. Walks
 
