@@ -34,7 +34,8 @@ abbrev pub IsNamed : {H : Type 0} → (H → Option QueueName) → List (QueueNa
 IsNamed name_of chain = All (λ e. name_of e.1 ≡ Some e.0) chain
 
 -- names differ, and each is that of its head, which has no link
-pub record IsChain {H : Type 0} (name_of : H → Option QueueName) (behind : H → List H) (chain : List (QueueName × H)) : Type 0 where
+pub record IsChain {H : Type 0} (name_of : H → Option QueueName) (behind : H → List H)
+    (chain : List (QueueName × H)) : Type 0 where
   pub distinct : IsDistinct is_queue (keys_of chain)
   pub named : IsNamed name_of chain
   pub bare : All (λ e. behind e.1 ≡ []) chain

@@ -17,4 +17,6 @@ abbrev pub behind : Turnstile → List Turnstile
 behind t = map bare t.next
 
 pub unlinked_is_itself : (t : Turnstile) → behind t ≡ [] → unlinked t ≡ t
-unlinked_is_itself t e = ap (λ (cs : List Contents). let b : Turnstile = record { contents = t.contents; next = cs } in b) (sym (map_is_empty bare t.next e))
+unlinked_is_itself t e =
+    ap (λ (cs : List Contents). let b : Turnstile = record { contents = t.contents; next = cs } in
+    b) (sym (map_is_empty bare t.next e))

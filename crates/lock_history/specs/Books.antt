@@ -21,7 +21,9 @@ pub record Slots : Type 0 where
 
 abbrev pub slots_code : Coded Slots
 slots_code =
-    code_by (List (ℕ × ℕ) × FinMap place_cmp ℕ) (coded× (coded_list (coded× coded_ℕ coded_ℕ)) (code (coded× coded_ℕ coded_ℕ) coded_ℕ)) (λ s. (s.places, s.present)) (λ p. record { places = p.0; present = p.1 }) (λ _. refl)
+    code_by (List (ℕ × ℕ) × FinMap place_cmp ℕ)
+    (coded× (coded_list (coded× coded_ℕ coded_ℕ)) (code (coded× coded_ℕ coded_ℕ) coded_ℕ))
+    (λ s. (s.places, s.present)) (λ p. record { places = p.0; present = p.1 }) (λ _. refl)
 
 -- an entry, where it has a value, and the entries behind it
 abbrev pub filled_on : ℕ × ℕ → Option ℕ → List ((ℕ × ℕ) × ℕ) → List ((ℕ × ℕ) × ℕ)

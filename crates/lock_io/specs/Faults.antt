@@ -1,5 +1,5 @@
--- Counts of faults. An end of the program stores its count in a u64, where it stops at the last value. This is the project's
--- own rule.
+-- Counts of faults. An end of the program stores its count in a u64, where it stops at the last value. This is the
+-- project's own rule.
 use Rattle.std.specs.Prelude.{◌≡◌, ℕ, ◌+◌, ◌-◌, ◌^◌, ◌<◌, ◌⊎◌, min}
 
 -- a count rose, or stands at the last value of a u64

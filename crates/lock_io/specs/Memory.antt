@@ -3,8 +3,8 @@ use Rattle.std.specs.Prelude.{ℕ, Bool, ◌&&◌, ◌==◌, nat_lt, List, lengt
 use Rattle.std.specs.List.{list_any}
 use Rattle.lock_io.specs.Faults.{one_more}
 
--- the calls of an end: the numbers, from 0, of those that are to fail, how many were made, and how many failed. Both counts
--- stop at the last value of a u64
+-- the calls of an end: the numbers, from 0, of those that are to fail, how many were made, and how many failed. Both
+-- counts stop at the last value of a u64
 pub record CallCount : Type 0 where
   pub fails : List ℕ
   pub made : ℕ

@@ -12,7 +12,7 @@ use Rattle.lock_model.specs.History.{open_in, entries_of}
 use Rattle.lock_model.specs.Law.{LeadsTo, Before}
 use Rattle.lock_model.specs.declared.event.Entry.{Entry}
 use Rattle.lock_model.specs.declared.event.Event.{Event}
-use Rattle.lock_model.specs.declared.event.Event.TheVariants.{Locked, Tried, Busy, Unlocked, Set, Added, Got, Base, Shown, Sleeps, Woke, HaltedChan, HaltedLock, WokeOne, WokeAll, Reversed}
+use Rattle.lock_model.specs.Events.{of_sleep, says_some}
 use Rattle.lock_state.specs.Facts.{LawfulTurn}
 use Rattle.lock_state.specs.Run.{Run, has_ended}
 use Rattle.lock_model.specs.declared.plan.Op.{Op}
@@ -36,22 +36,7 @@ WokenByCall (Woken q cause) = IsCall q cause
 
 -- whether an event is of a sleep, a wake or a halt
 abbrev pub is_of_sleep : Event → Bool
-is_of_sleep (Locked l mode) = false
-is_of_sleep (Tried l mode) = false
-is_of_sleep (Busy l seen) = false
-is_of_sleep (Unlocked l mode) = false
-is_of_sleep (Set l k v) = false
-is_of_sleep (Added l k n) = false
-is_of_sleep (Got l k found) = false
-is_of_sleep (Base p) = false
-is_of_sleep (Shown b e) = false
-is_of_sleep (Sleeps d) = true
-is_of_sleep (Woke d) = true
-is_of_sleep (HaltedChan d) = true
-is_of_sleep (HaltedLock l) = true
-is_of_sleep (WokeOne d woken) = true
-is_of_sleep (WokeAll d woken) = true
-is_of_sleep (Reversed l held) = false
+is_of_sleep e = says_some (of_sleep e)
 
 -- no entry of a history is
 abbrev pub SleepsNobody : List Entry → Type 0

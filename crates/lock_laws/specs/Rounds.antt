@@ -1,4 +1,5 @@
--- Acquiring rounds of a running floor: a blocking call that took its lock's chain keeps it until it gains, claims or enters.
+-- Acquiring rounds of a running floor: a blocking call that took its lock's chain keeps it until it gains, claims or
+-- enters.
 use Rattle.std.specs.Prelude.{◌≡◌, ℕ, true, false, Option, Some, None}
 use Rattle.lock_model.specs.Config.{Config}
 use Rattle.lock_state.specs.State.{State, Wait, Round}

@@ -1,5 +1,5 @@
--- Sums, least numbers and how often a number stands somewhere. The facts of a state are equations between these, so that
--- "exactly one" and "at most one" are said by numbers.
+-- Sums, least numbers and how often a number stands somewhere. The facts of a state are equations between these, so
+-- that "exactly one" and "at most one" are said by numbers.
 use Rattle.std.specs.Prelude.{ℕ, zero, suc, ◌+◌, Bool, true, false, ◌||◌, ◌==◌, min, List, [], ◌∷◌, Option, Some, None}
 
 -- f 0 + .. + f (n - 1)

@@ -1,5 +1,6 @@
--- The history of a run as a list of entries, the newest first: the tables that it leaves, the sections of locks that are open
--- behind it, each thread's own entries and base priority, and the parts of the law of a history that each state keeps.
+-- The history of a run as a list of entries, the newest first: the tables that it leaves, the sections of locks that
+-- are open behind it, each thread's own entries and base priority, and the parts of the law of a history that each
+-- state keeps.
 use Rattle.std.specs.Prelude.{◌≡◌, ◌≢◌, ℕ, ◌+◌, ◌%◌, ◌^◌, ◌<◌, ◌≤◌, Bool, true, false, ◌&&◌, ◌||◌, ◌==◌, if◌then◌else◌, List, [], ◌∷◌, length, Option, unwrap_or, ⊤}
 use Rattle.std.specs.declared.cmp.Ordering.{Ordering}
 use Rattle.std.specs.Ordering.{nat_cmp, ordering_then}
@@ -80,7 +81,8 @@ sections_by c e l before = record {
 -- a thread's sections of a lock behind a history
 unfoldable pub sections_in : Config → List Entry → ℕ → ℕ → Sections
 sections_in c [] t l = record { now = NotHeld; left = NotHeld }
-sections_in c (e ∷ es) t l = if e.thread.0 == t then sections_by c e.event l (sections_in c es t l) else sections_in c es t l
+sections_in c (e ∷ es) t l =
+    if e.thread.0 == t then sections_by c e.event l (sections_in c es t l) else sections_in c es t l
 
 -- the section of the lock that the thread has open behind a history
 abbrev pub open_in : Config → List Entry → ℕ → ℕ → Hold
@@ -136,7 +138,9 @@ IsAlone c es l Excl = (u : ℕ) → open_in c es u l ≡ NotHeld
 -- an exclusive section overlaps no other section of its lock
 unfoldable pub SectionsExclude : Config → List Entry → Type 0
 SectionsExclude c [] = ⊤
-SectionsExclude c (e ∷ es) = ((l : ℕ) (mode : Mode) → begun_by c e.event (left_in c es e.thread.0 l) l ≡ Holds mode → IsAlone c es l mode) × SectionsExclude c es
+SectionsExclude c (e ∷ es) =
+    ((l : ℕ) (mode : Mode) → begun_by c e.event (left_in c es e.thread.0 l) l ≡ Holds mode
+    → IsAlone c es l mode) × SectionsExclude c es
 
 -- the section that an event of the thread needs
 abbrev pub IsInSection : Config → Event → List Entry → ℕ → Type 0
@@ -164,8 +168,9 @@ ReadsReplay (e ∷ es) = IsReplayed e.event es × ReadsReplay es
 abbrev pub owns_in : Config → List Entry → ℕ → Bool
 owns_in c es t = any_below c.locks (λ l. is_turnstile (c.kind l) && is_exclusive (open_in c es t l))
 
--- A shown base is the thread's own. A shown effective priority is that, or it is a lesser one that a waiter lends: the thread has an
--- exclusive section of a mutex or an rw lock open, and some thread has or had the priority as its base.
+-- A shown base is the thread's own. A shown effective priority is that, or it is a lesser one that a waiter lends:
+-- the thread has an exclusive section of a mutex or an rw lock open, and some thread has or had the priority as its
+-- base.
 pub record IsExplained (c : Config) (es : List Entry) (t base effective : ℕ) : Type 0 where
   pub its_base : base ≡ base_in c es t
   pub no_worse : effective ≤ base

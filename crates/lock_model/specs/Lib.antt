@@ -11,6 +11,7 @@ pub mod Holds
 pub mod Queues
 pub mod History
 pub mod Operations
+pub mod Events
 pub mod Law
 pub mod Text
 pub mod Keys

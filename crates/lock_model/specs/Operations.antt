@@ -160,7 +160,8 @@ pub record IsProper (plan : Plan) : Type 0 where
   pub operations : operations_in_all plan ≤ most_operations
   pub scheduled : length plan.schedule ≤ most_scheduled
   pub schedule : All (λ t. t.0 < length plan.threads) plan.schedule
-  -- Until the other kinds of lock, the channels and the tries come. With tries, a block has to be closed by its endtry, and a try go on there
+  -- Until the other kinds of lock, the channels and the tries come. With tries, a block has to be closed by its
+  -- endtry, and a try go on there
   pub mutexes : (l : ℕ) → lock_kind plan l ≡ Mtx
   pub no_channel : plan.chans ≡ []
   pub no_try : (t : ℕ) → list_any is_try (operations_of plan t) ≡ false

@@ -1,5 +1,5 @@
--- The two lists of a queue and what is done with them: who stands where, the rule of insertion, how woken waiters get their
--- objects back, and the least kept priority.
+-- The two lists of a queue and what is done with them: who stands where, the rule of insertion, how woken waiters get
+-- their objects back, and the least kept priority.
 use Rattle.std.specs.Prelude.{ℕ, ◌+◌, ◌≤◌, Bool, false, not, ◌==◌, nat_le, if◌then◌else◌, List, [], ◌∷◌, length, drop, Option, Some, None, ⊤}
 use Rattle.lock_model.specs.Counts.{one, lower}
 use Rattle.lock_model.specs.Words.{is_turnstile}
@@ -116,7 +116,8 @@ free_with (Some h) x xs = x ∷ xs
 
 -- 5. Waiters taken off a queue
 
--- What each takes back, in queue order: the first free object that is left, and behind these the head, where there is one.
+-- What each takes back, in queue order: the first free object that is left, and behind these the head, where there is
+-- one.
 abbrev pub handed_out : List Waiter → List ℕ → Option ℕ → List (Waiter × Option ℕ)
 handed_out [] xs h = []
 handed_out (w ∷ ws) (x ∷ xs) h = (w, Some x) ∷ handed_out ws xs h
@@ -172,7 +173,8 @@ without t (w ∷ ws) = if t == w.thread then ws else w ∷ without t ws
 
 -- a list in which the thread's entry, where it has one, is inserted anew with the priority
 abbrev pub reinsert : ℕ → ℕ → List Waiter → List Waiter
-reinsert t p ws = if times_waiting t ws == 0 then ws else insert (record { thread = t; kept = p }) (without t ws)
+reinsert t p ws =
+    if times_waiting t ws == 0 then ws else insert (record { thread = t; kept = p }) (without t ws)
 
 -- the same in both lists
 abbrev pub with_kept : ℕ → ℕ → Lists → Lists

@@ -1,6 +1,6 @@
--- The text that a run prints: a line for each entry of the history, for each queue that isn't empty, for each thread and for each key of
--- the tables, and a last line that says how the run ended. A line is its words with one space between them, and byte 10. Numbers are
--- decimal, and the words are those of the script.
+-- The text that a run prints: a line for each entry of the history, for each queue that isn't empty, for each thread
+-- and for each key of the tables, and a last line that says how the run ended. A line is its words with one space
+-- between them, and byte 10. Numbers are decimal, and the words are those of the script.
 use Rattle.std.specs.Prelude.{ℕ, ◌/◌, ◌%◌, ◌==◌, if◌then◌else◌, List, [], ◌∷◌, ◌++◌, map, flat_map, codes, Option, Some, None, decimal}
 use Rattle.std.specs.List.{zip}
 pub use Rattle.lock_model.specs.Plans.{thread_name, lock_name, lock_kind, chan_name, is_cond, class_name}
@@ -33,7 +33,8 @@ chan_word plan c on_cond on_chan = if is_cond plan c then on_cond else on_chan
 -- those of the names whose bits are set, the first name's bit being the lowest
 abbrev pub names_at_bits : List (List ℕ) → ℕ → List (List ℕ)
 names_at_bits [] bits = []
-names_at_bits (name ∷ names) bits = if bits % 2 == 1 then name ∷ names_at_bits names (bits / 2) else names_at_bits names (bits / 2)
+names_at_bits (name ∷ names) bits =
+    if bits % 2 == 1 then name ∷ names_at_bits names (bits / 2) else names_at_bits names (bits / 2)
 
 abbrev pub or_dash : List (List ℕ) → List (List ℕ)
 or_dash [] = codes "-" ∷ []
@@ -48,22 +49,34 @@ found_word None = codes "-"
 found_word (Some value) = decimal value
 
 abbrev pub event_words : Plan → Event → List (List ℕ)
-event_words plan (Locked l m) = (mode_letter (lock_kind plan l.0) m ++ codes "lock") ∷ lock_name plan l.0 ∷ []
-event_words plan (Tried l m) = (codes "try" ++ mode_letter (lock_kind plan l.0) m ++ codes "lock") ∷ lock_name plan l.0 ∷ []
+event_words plan (Locked l m) =
+    (mode_letter (lock_kind plan l.0) m ++ codes "lock") ∷ lock_name plan l.0 ∷ []
+event_words plan (Tried l m) =
+    (codes "try" ++ mode_letter (lock_kind plan l.0) m ++ codes "lock") ∷ lock_name plan l.0 ∷ []
 event_words plan (Busy l seen) = codes "busy" ∷ lock_name plan l.0 ∷ decimal seen ∷ []
-event_words plan (Unlocked l m) = (mode_letter (lock_kind plan l.0) m ++ codes "unlock") ∷ lock_name plan l.0 ∷ []
-event_words plan (Set l key value) = codes "set" ∷ lock_name plan l.0 ∷ decimal key ∷ decimal value ∷ []
-event_words plan (Added l key amount) = codes "add" ∷ lock_name plan l.0 ∷ decimal key ∷ decimal amount ∷ []
-event_words plan (Got l key found) = codes "get" ∷ lock_name plan l.0 ∷ decimal key ∷ found_word found ∷ []
+event_words plan (Unlocked l m) =
+    (mode_letter (lock_kind plan l.0) m ++ codes "unlock") ∷ lock_name plan l.0 ∷ []
+event_words plan (Set l key value) =
+    codes "set" ∷ lock_name plan l.0 ∷ decimal key ∷ decimal value ∷ []
+event_words plan (Added l key amount) =
+    codes "add" ∷ lock_name plan l.0 ∷ decimal key ∷ decimal amount ∷ []
+event_words plan (Got l key found) =
+    codes "get" ∷ lock_name plan l.0 ∷ decimal key ∷ found_word found ∷ []
 event_words plan (Base prio) = codes "prio" ∷ decimal prio.0 ∷ []
 event_words plan (Shown base eff) = codes "show" ∷ decimal base.0 ∷ decimal eff.0 ∷ []
-event_words plan (Sleeps c) = chan_word plan c.0 (codes "wait") (codes "msleep") ∷ chan_name plan c.0 ∷ []
+event_words plan (Sleeps c) =
+    chan_word plan c.0 (codes "wait") (codes "msleep") ∷ chan_name plan c.0 ∷ []
 event_words plan (Woke c) = codes "woke" ∷ chan_name plan c.0 ∷ []
 event_words plan (HaltedChan c) = codes "halted" ∷ chan_name plan c.0 ∷ []
 event_words plan (HaltedLock l) = codes "halted" ∷ lock_name plan l.0 ∷ []
-event_words plan (WokeOne c woken) = chan_word plan c.0 (codes "signal") (codes "wakeup_one") ∷ chan_name plan c.0 ∷ woken_words plan woken
-event_words plan (WokeAll c woken) = chan_word plan c.0 (codes "broadcast") (codes "wakeup") ∷ chan_name plan c.0 ∷ woken_words plan woken
-event_words plan (Reversed l held) = codes "reversed" ∷ lock_name plan l.0 ∷ class_name plan held.0 ∷ []
+event_words plan (WokeOne c woken) =
+    chan_word plan c.0 (codes "signal") (codes "wakeup_one") ∷ chan_name plan c.0
+    ∷ woken_words plan woken
+event_words plan (WokeAll c woken) =
+    chan_word plan c.0 (codes "broadcast") (codes "wakeup") ∷ chan_name plan c.0
+    ∷ woken_words plan woken
+event_words plan (Reversed l held) =
+    codes "reversed" ∷ lock_name plan l.0 ∷ class_name plan held.0 ∷ []
 
 -- 2. Lines
 
@@ -76,10 +89,11 @@ abbrev pub line_of : List ℕ → List (List ℕ) → List ℕ
 line_of first others = first ++ spaced others ++ 10 ∷ []
 
 abbrev pub entry_line : Plan → Entry → List ℕ
-entry_line plan e = line_of (decimal e.ticket) (thread_name plan e.thread.0 ∷ event_words plan e.event)
+entry_line plan e =
+    line_of (decimal e.ticket) (thread_name plan e.thread.0 ∷ event_words plan e.event)
 
--- a queue that isn't empty in the end: the slot of its chain, the thread whose object is its head, those whose objects are on its free
--- list, the first of it first, and who waits on either side, from the front
+-- a queue that isn't empty in the end: the slot of its chain, the thread whose object is its head, those whose
+-- objects are on its free list, the first of it first, and who waits on either side, from the front
 pub record QueueLine : Type 0 where
   pub queue : QueueName
   pub slot : ℕ
@@ -111,11 +125,13 @@ queue_line plan q = line_of (codes "queue") (
 
 -- a thread's base and effective priority in the end
 abbrev pub thread_line : List ℕ × (ℕ × ℕ) → List ℕ
-thread_line t = line_of (codes "thread") (t.0 ∷ codes "base" ∷ decimal t.1.0 ∷ codes "eff" ∷ decimal t.1.1 ∷ [])
+thread_line t =
+    line_of (codes "thread") (t.0 ∷ codes "base" ∷ decimal t.1.0 ∷ codes "eff" ∷ decimal t.1.1 ∷ [])
 
 -- a key of a lock's table, and its value
 abbrev pub table_line : Plan → (ℕ × ℕ) × ℕ → List ℕ
-table_line plan row = line_of (codes "table") (lock_name plan row.0.0 ∷ decimal row.0.1 ∷ decimal row.1 ∷ [])
+table_line plan row =
+    line_of (codes "table") (lock_name plan row.0.0 ∷ decimal row.0.1 ∷ decimal row.1 ∷ [])
 
 -- 3. The whole text
 
@@ -132,8 +148,9 @@ ending_word IsStuck = codes "stuck"
 ending_word IsReversed = codes "reversed"
 ending_word IsTooLong = codes "toolong"
 
--- what a run leaves to be printed: the entries in order of their tickets, the queues that aren't empty, locks by number and then channels
--- by number, each thread's base and effective priority, and the keys that are present with their values, by lock and then by key
+-- what a run leaves to be printed: the entries in order of their tickets, the queues that aren't empty, locks by
+-- number and then channels by number, each thread's base and effective priority, and the keys that are present with
+-- their values, by lock and then by key
 pub record Outcome : Type 0 where
   pub history : List Entry
   pub queues : List QueueLine

@@ -27,7 +27,8 @@ pub record Word : Type 0 where
 abbrev pub free_word : Word
 free_word = record { holder = Free; exclusive_waiters = false; shared_waiters = false }
 
--- 2. Bits: from the lowest, exclusive waiters, shared waiters, held exclusively, and then the owner or the number of sharers
+-- 2. Bits: from the lowest, exclusive waiters, shared waiters, held exclusively, and then the owner or the number of
+-- sharers
 
 abbrev pub holder_of : Bool → ℕ → Holder
 holder_of true owner = HeldBy owner
@@ -88,16 +89,16 @@ is_turnstile Mtx = true
 is_turnstile Rw = true
 is_turnstile Sx = false
 
--- Whether a thread may gain the lock in the mode. An exclusive gain needs a free word. A shared one needs a word that isn't held
--- exclusively, and readers of an rw lock go behind its shown writers. A mutex is never shared.
+-- Whether a thread may gain the lock in the mode. An exclusive gain needs a free word. A shared one needs a word that
+-- isn't held exclusively, and readers of an rw lock go behind its shown writers. A mutex is never shared.
 abbrev pub admits : Kind → Word → Mode → Bool
 admits kind w Excl = is_free w.holder
 admits Mtx w Shared = false
 admits Rw w Shared = not (is_owned w.holder) && (is_free w.holder || not w.exclusive_waiters)
 admits Sx w Shared = not (is_owned w.holder)
 
--- An exclusive gain of a mutex or an rw lock needs a word that shows no waiters: where it shows some, the gain is a claim. Any other
--- gain keeps the waiters' bits.
+-- An exclusive gain of a mutex or an rw lock needs a word that shows no waiters: where it shows some, the gain is a
+-- claim. Any other gain keeps the waiters' bits.
 abbrev pub is_plain : Kind → Word → Mode → Bool
 is_plain kind w Shared = true
 is_plain Sx w Excl = true
@@ -139,12 +140,14 @@ entered w side = with_bit w side true
 abbrev pub unshown : Word → Side → Word
 unshown w side = with_bit w side false
 
--- The side that the last holder's release wakes. A mutex and an rw lock wake exclusive waiters before shared ones. An exclusive release
--- of an sx lock wakes shared waiters first, and its last shared release exclusive ones.
+-- The side that the last holder's release wakes. A mutex and an rw lock wake exclusive waiters before shared ones. An
+-- exclusive release of an sx lock wakes shared waiters first, and its last shared release exclusive ones.
 abbrev pub side_woken : Kind → Word → Side
 side_woken Mtx w = X
 side_woken Rw w = if w.exclusive_waiters then X else S
-side_woken Sx w = if is_owned w.holder then (if w.shared_waiters then S else X) else (if w.exclusive_waiters then X else S)
+side_woken Sx w =
+    if is_owned w.holder then (if w.shared_waiters then S else X) else
+    (if w.exclusive_waiters then X else S)
 
 -- after the last holder's release: free, and the bit of the woken side cleared
 abbrev pub opened : Kind → Word → Word
@@ -158,6 +161,7 @@ side_opened kind w = if shows_waiters w then Some (side_woken kind w) else None
 abbrev pub claimed : Word → ℕ → Word
 claimed w t = record w { holder = HeldBy t }
 
--- a release frees no more than one holder: it is a drop where another shared holder stays or no waiter is shown, and else an open
+-- a release frees no more than one holder: it is a drop where another shared holder stays or no waiter is shown, and
+-- else an open
 abbrev pub is_drop : Word → Bool
 is_drop w = not (is_free (without_one w.holder)) || not (shows_waiters w)

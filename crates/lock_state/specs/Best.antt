@@ -10,7 +10,9 @@ use Rattle.lock_state.specs.Facts.Words.{owns}
 
 -- whether u stands on the turnstile of a lock whose word is held by t
 unfoldable pub is_behind : Config → State → ℕ → ℕ → Bool
-is_behind c s u t = any_below c.locks (λ l. is_turnstile (c.kind l) && (owns t (s.word l).holder && nat_le 1 (stands u (s.lists (lock_queue l)))))
+is_behind c s u t =
+    any_below c.locks (λ l. is_turnstile (c.kind l)
+    && (owns t (s.word l).holder && nat_le 1 (stands u (s.lists (lock_queue l)))))
 
 -- u is behind t
 abbrev pub IsBehind : Config → State → ℕ → ℕ → Type 0
@@ -19,7 +21,8 @@ IsBehind c s u t = is_behind c s u t ≡ true
 -- the best of a thread's base and of what is behind it, over n levels
 unfoldable pub best_within : Config → State → ℕ → ℕ → ℕ
 best_within c s zero t = s.base t
-best_within c s (suc n) t = least c.threads (λ u. if is_behind c s u t then Some (best_within c s n u) else None) (s.base t)
+best_within c s (suc n) t =
+    least c.threads (λ u. if is_behind c s u t then Some (best_within c s n u) else None) (s.base t)
 
 -- the best priority behind a thread
 abbrev pub best_behind : Config → State → ℕ → ℕ
@@ -44,4 +47,5 @@ NobodyWalks c s = (t : ℕ) → t < c.threads → s.walk t ≡ NoWalk
 
 -- where nobody walks and no cycle of threads waits, each effective priority is the best behind its thread
 abbrev pub HasBest : Config → State → Type 0
-HasBest c s = NobodyWalks c s → (HasCycle s → ⊥) → (t : ℕ) → t < c.threads → s.effective t ≡ best_behind c s t
+HasBest c s =
+    NobodyWalks c s → (HasCycle s → ⊥) → (t : ℕ) → t < c.threads → s.effective t ≡ best_behind c s t

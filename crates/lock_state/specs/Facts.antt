@@ -74,7 +74,8 @@ pub record BookFacts (c : Config) (s : State) : Type 0 where
 
 -- what is out
 pub record ItemFacts (c : Config) (s : State) : Type 0 where
-  pub out_is_narrow : OutIsNarrow s.turnstile_chain_with s.sleep_chain_with s.record_with s.cell_with s.graph_with
+  pub out_is_narrow : OutIsNarrow s.turnstile_chain_with s.sleep_chain_with s.record_with
+      s.cell_with s.graph_with
 
 -- a state in which all of these hold
 pub record Lawful (c : Config) (s : State) : Type 0 where
@@ -85,13 +86,16 @@ pub record Lawful (c : Config) (s : State) : Type 0 where
   pub books : BookFacts c s
   pub items : ItemFacts c s
 
--- A state between two steps of a running floor: lawful, and a thread that is Queued and about to stand on a queue has its own record out.
+-- A state between two steps of a running floor: lawful, and a thread that is Queued and about to stand on a queue has
+-- its own record out.
 pub record LawfulFloor (c : Config) (s : State) : Type 0 where
   pub lawful : Lawful c s
   pub queued_has_record : QueuedHasRecord s.wait s.blocked_on s.record_with
 
--- A state between two turns of a scheduled run: lawful, nothing is out, and each Queued thread stands on a queue or is in a marked list.
+-- A state between two turns of a scheduled run: lawful, nothing is out, and each Queued thread stands on a queue or
+-- is in a marked list.
 pub record LawfulTurn (c : Config) (s : State) : Type 0 where
   pub lawful : Lawful c s
-  pub nothing_out : NothingIsOut s.turnstile_chain_with s.sleep_chain_with s.record_with s.cell_with s.graph_with
+  pub nothing_out : NothingIsOut s.turnstile_chain_with s.sleep_chain_with s.record_with
+      s.cell_with s.graph_with
   pub queued_stands : QueuedStands s.wait s.blocked_on

@@ -1,5 +1,6 @@
--- The scheduled run: one thread of control gives the threads their turns, first by the plan's schedule and then in rounds. A turn is the
--- first row that fits of a table, and its steps are those of threads. The table is this project's own.
+-- The scheduled run: one thread of control gives the threads their turns, first by the plan's schedule and then in
+-- rounds. A turn is the first row that fits of a table, and its steps are those of threads. The table is this
+-- project's own.
 use Rattle.std.specs.Prelude.{ℕ, zero, suc, ◌%◌, Bool, true, false, not, ◌&&◌, ◌||◌, nat_le, nat_lt, if◌then◌else◌, List, [], ◌∷◌, ◌++◌, unwrap_or, length, map, filter, flat_map, reverse, slice_get, Option, Some, None}
 use Rattle.std.specs.List.{list_all, range_with_len}
 use Rattle.std.specs.FinMap.{entries}
@@ -54,11 +55,14 @@ holds_none c s t = not (any_below c.locks (λ l. not (is_unheld (s.held t l))))
 
 -- a thread has ended where all its operations are done, nothing is owed and nothing is held
 unfoldable pub has_ended : Plan → Run → ℕ → Bool
-has_ended plan r t = nat_le (length (operations_of plan t)) (r.next_op t) && not (owes r.state t) && holds_none (config_of plan) r.state t
+has_ended plan r t =
+    nat_le (length (operations_of plan t)) (r.next_op t) && not (owes r.state t)
+    && holds_none (config_of plan) r.state t
 
 -- 2. The table of turns
 
--- what a thread does in its turn: the answer, its steps in order, and its next operation behind them, where that changes
+-- what a thread does in its turn: the answer, its steps in order, and its next operation behind them, where that
+-- changes
 pub record Row : Type 0 where
   pub answer : Turn
   pub steps : List Step
@@ -76,7 +80,8 @@ does kind steps = record { answer = Did kind; steps = steps; next = None }
 abbrev pub ends : Run → ℕ → StepKind → List Step → Row
 ends r t kind steps = record { answer = Did kind; steps = steps; next = Some (suc (r.next_op t)) }
 
--- a walk at a lock: it lends where the lock's word has an exclusive owner and a turnstile stands there, and else it ends
+-- a walk at a lock: it lends where the lock's word has an exclusive owner and a turnstile stands there, and else it
+-- ends
 abbrev pub walks_at_lock : ℕ → ℕ → Option ℕ → Option ℕ → Row
 walks_at_lock t l (Some o) (Some h) = does Lend (Lends t l o h ∷ [])
 walks_at_lock t l (Some o) None = does WalkEnd (EndsWalk t ∷ [])
@@ -93,10 +98,11 @@ walks_at_thread c r t o None = does WalkEnd (EndsWalk t ∷ [])
 
 -- a thread is made ready and enters the lock's queue with the turnstile that it has at home
 abbrev pub blocks : Run → ℕ → LockNo → Mode → Row
-blocks r t l mode = does Enter (Readies t (Lock l) ∷ Enters t l.0 mode (unwrap_or (r.state.turnstile t) t) ∷ [])
+blocks r t l mode =
+    does Enter (Readies t (Lock l) ∷ Enters t l.0 mode (unwrap_or (r.state.turnstile t) t) ∷ [])
 
--- A take gains the lock and notes it where the word admits the mode; else the thread blocks, and takes again when it has been woken. So far
--- plans have mutexes alone, whose gains are never claims.
+-- A take gains the lock and notes it where the word admits the mode; else the thread blocks, and takes again when it
+-- has been woken. So far plans have mutexes alone, whose gains are never claims.
 abbrev pub takes : Config → Run → ℕ → LockNo → Mode → Row
 takes c r t l mode =
     if admits (c.kind l.0) (r.state.word l.0) mode
@@ -119,8 +125,8 @@ releases r t l mode =
 abbrev pub notes : Run → ℕ → Event → Row
 notes r t e = ends r t Note (Stamps t e ∷ [])
 
--- A running thread makes its operation. The plans that are run so far have no tries, waits and wakes; and a thread without an operation
--- that hasn't ended holds a lock still, as no thread of a script does.
+-- A running thread makes its operation. The plans that are run so far have no tries, waits and wakes; and a thread
+-- without an operation that hasn't ended holds a lock still, as no thread of a script does.
 abbrev pub operates : Config → Run → ℕ → Option Op → Row
 operates c r t None = nothing Idle
 operates c r t (Some (Take l mode)) = takes c r t l mode
@@ -131,7 +137,8 @@ operates c r t (Some (Set l key value)) = notes r t (event.Set l key value)
 operates c r t (Some (Add l key amount)) = notes r t (event.Added l key amount)
 operates c r t (Some (Get l key)) = notes r t (event.Got l key (r.state.table l.0 key))
 operates c r t (Some (Base prio)) = notes r t (event.Base prio)
-operates c r t (Some Show) = notes r t (event.Shown (record { 0 = r.state.base t }) (record { 0 = r.state.effective t }))
+operates c r t (Some Show) =
+    notes r t (event.Shown (record { 0 = r.state.base t }) (record { 0 = r.state.effective t }))
 operates c r t (Some (Sleep d)) = nothing Idle
 operates c r t (Some (WakeOne d)) = nothing Idle
 operates c r t (Some (WakeAll d)) = nothing Idle
@@ -140,7 +147,8 @@ operates c r t (Some (WakeAll d)) = nothing Idle
 abbrev pub by_wait : Plan → Run → ℕ → Wait → Row
 by_wait plan r t Queued = nothing Idle
 by_wait plan r t (Woken q cause) = does Resume (Resumes t q cause ∷ [])
-by_wait plan r t Running = operates (config_of plan) r t (slice_get (operations_of plan t) (r.next_op t))
+by_wait plan r t Running =
+    operates (config_of plan) r t (slice_get (operations_of plan t) (r.next_op t))
 
 -- the first of a marked list gets its object back and is woken
 abbrev pub by_marked : Plan → Run → ℕ → List Mark → Row
@@ -149,7 +157,8 @@ by_marked plan r t [] = by_wait plan r t (r.state.wait t)
 
 -- a walk goes before the marked list
 abbrev pub by_walk : Plan → Run → ℕ → Walk → Row
-by_walk plan r t (AtLock l) = walks_at_lock t l (owner_of (r.state.word l).holder) (r.state.head (lock_queue l))
+by_walk plan r t (AtLock l) =
+    walks_at_lock t l (owner_of (r.state.word l).holder) (r.state.head (lock_queue l))
 by_walk plan r t (AtThread o) = walks_at_thread (config_of plan) r t o (r.state.blocked_on o)
 by_walk plan r t NoWalk = by_marked plan r t (r.state.marked t)
 
@@ -164,7 +173,8 @@ next_ops next_op t (Some n) = put next_op t n
 
 -- the run behind a row of the table
 abbrev pub run_after : Config → Run → ℕ → Row → Run
-run_after c r t row = record { state = after_all c r.state row.steps; next_op = next_ops r.next_op t row.next }
+run_after c r t row =
+    record { state = after_all c r.state row.steps; next_op = next_ops r.next_op t row.next }
 
 -- the run behind a thread's turn
 unfoldable pub run_behind : Plan → Run → ℕ → Run
@@ -188,7 +198,8 @@ all_ended plan r = list_all (has_ended plan r) (threads_of plan)
 abbrev pub round_of : Plan → Run → List ℕ
 round_of plan r = filter (λ t. not (has_ended plan r t)) (threads_of plan)
 
--- A run under way: who still comes in the schedule or in this round, and whether this is a round whose turns were all idle so far.
+-- A run under way: who still comes in the schedule or in this round, and whether this is a round whose turns were all
+-- idle so far.
 pub record Course : Type 0 where
   pub run : Run
   pub coming : List ℕ
@@ -196,7 +207,8 @@ pub record Course : Type 0 where
 
 -- the schedule comes first
 abbrev pub start_course : Plan → Course
-start_course plan = record { run = start_run (config_of plan); coming = map (λ t. t.0) plan.schedule; idle = false }
+start_course plan =
+    record { run = start_run (config_of plan); coming = map (λ t. t.0) plan.schedule; idle = false }
 
 -- whether a whole round was idle
 abbrev pub is_stuck : Course → Bool
@@ -210,7 +222,13 @@ is_idle (Did kind) = false
 -- the first that comes has its turn
 abbrev pub with_turn : Plan → Run → List ℕ → Bool → Course
 with_turn plan r [] idle = record { run = r; coming = []; idle = idle }
-with_turn plan r (t ∷ ts) idle = record { run = run_behind plan r t; coming = ts; idle = idle && is_idle (turn_of plan r t).answer }
+with_turn plan r (t ∷ ts) idle =
+    record {
+      run = run_behind plan r t;
+      coming = ts;
+      idle = idle
+          && is_idle (turn_of plan r t).answer;
+    }
 
 -- where nobody comes any more, a round begins
 abbrev pub after_turn : Plan → Course → List ℕ → Course
@@ -234,7 +252,8 @@ course_after plan (suc n) = go_on plan (course_after plan n)
 
 -- Done where all threads have ended, Stuck where a whole round was idle, and else the turns were used up
 abbrev pub ending_of : Plan → Course → Ending
-ending_of plan k = if all_ended plan k.run then IsDone else (if is_stuck k then IsStuck else IsTooLong)
+ending_of plan k =
+    if all_ended plan k.run then IsDone else (if is_stuck k then IsStuck else IsTooLong)
 
 -- whether a run ended stuck or too long
 abbrev pub is_cut_short : Ending → Bool
@@ -258,8 +277,10 @@ line_of_queue chains s q n (Some h) = record {
 -- those of the locks by number, and then those of the channels
 abbrev pub queue_lines : ℕ → Config → State → List QueueLine
 queue_lines chains c s =
-    flat_map (λ l. line_of_queue chains s (lock_queue l) l (s.head (lock_queue l))) (range_with_len 0 c.locks)
-    ++ flat_map (λ d. line_of_queue chains s (chan_queue d) d (s.head (chan_queue d))) (range_with_len 0 c.chans)
+    flat_map (λ l. line_of_queue chains s (lock_queue l) l (s.head (lock_queue l)))
+    (range_with_len 0 c.locks)
+    ++ flat_map (λ d. line_of_queue chains s (chan_queue d) d (s.head (chan_queue d)))
+    (range_with_len 0 c.chans)
 
 -- what is printed of a run; the chains enter the slots alone
 abbrev pub outcome_of : Plan → ℕ → Course → Outcome

@@ -1,5 +1,6 @@
--- The state of a run as plain data: a column for each thing that a lock, a queue, a thread or a table has. Between two steps
--- this is all there is to know. Columns range over all numbers; out of a plan's range they stay as they began.
+-- The state of a run as plain data: a column for each thing that a lock, a queue, a thread or a table has. Between
+-- two steps this is all there is to know. Columns range over all numbers; out of a plan's range they stay as they
+-- began.
 use Rattle.std.specs.Prelude.{ℕ, Bool, true, false, ◌&&◌, ◌==◌, if◌then◌else◌, List, [], Option, Some, None}
 use Rattle.lock_model.specs.Words.{Word, free_word}
 use Rattle.lock_model.specs.Config.{Config}
@@ -30,7 +31,8 @@ pub record Look : Type 0 where
   pub lock : ℕ
   pub word : Word
 
--- what a thread was answered and has yet to note in its log: its order was refused for a held class, or its sleep was ended
+-- what a thread was answered and has yet to note in its log: its order was refused for a held class, or its sleep was
+-- ended
 pub data Note : Type 0 where
   -- the lock that was wanted, and the held class
   OrderRefused : ℕ → ℕ → Note
@@ -43,7 +45,8 @@ pub record Wake : Type 0 where
   pub all : Bool
   pub taken : List ℕ
 
--- an acquiring round of a running thread: the lock that it seeks, whether it is a try's, and whether the lock's chain was taken in it
+-- an acquiring round of a running thread: the lock that it seeks, whether it is a try's, and whether the lock's chain
+-- was taken in it
 pub record Round : Type 0 where
   pub lock : ℕ
   pub by_try : Bool
@@ -54,9 +57,9 @@ pub record HeldLock : Type 0 where
   pub lock : ℕ
   pub by_try : Bool
 
--- Where a thread of a running floor is with its counting. Awake: it is counted among those that are awake. Asleep: it counted itself out,
--- and somebody was left. Last: its counting out left nobody. Halting: it counted itself in after that. Aborting: it has aborted a sleeper
--- since. SelfAborted: one that it aborted and woke was itself
+-- Where a thread of a running floor is with its counting. Awake: it is counted among those that are awake. Asleep: it
+-- counted itself out, and somebody was left. Last: its counting out left nobody. Halting: it counted itself in after
+-- that. Aborting: it has aborted a sleeper since. SelfAborted: one that it aborted and woke was itself
 pub data Phase : Type 0 where
   Awake : Phase
   Asleep : Phase
@@ -95,7 +98,8 @@ is_finder SelfAborted = false
 pub record State : Type 0 where
   -- by lock: its word
   pub word : ℕ → Word
-  -- by queue: its lists, its free list, its head and the head's owner. The queues of mutexes and rw locks are turnstiles, the others sleep queues
+  -- by queue: its lists, its free list, its head and the head's owner. The queues of mutexes and rw locks are
+  -- turnstiles, the others sleep queues
   pub lists : QueueName → Lists
   pub free_list : QueueName → List ℕ
   pub head : QueueName → Option ℕ
@@ -142,7 +146,8 @@ pub record State : Type 0 where
   pub log : ℕ → List Entry
   -- by thread and lock: whether a section of the lock began in the log since the thread gained it
   pub has_begun : ℕ → ℕ → Bool
-  -- what is out, each by the thread that has it: turnstile chains, sleep chains, records, table cells and the class graph
+  -- what is out, each by the thread that has it: turnstile chains, sleep chains, records, table cells and the class
+  -- graph
   pub turnstile_chain_with : ℕ → Option ℕ
   pub sleep_chain_with : ℕ → Option ℕ
   pub record_with : ℕ → Option ℕ
@@ -171,7 +176,8 @@ put_at f i k v j l = if (i == j) && (k == l) then v else f j l
 unfoldable pub put_queue : {A : Type 0} → (QueueName → A) → QueueName → A → QueueName → A
 put_queue f q v r = if is_queue q r then v else f r
 
--- how a run of a plan begins: every object at home, all locks free, all threads running and awake, no entry and empty tables
+-- how a run of a plan begins: every object at home, all locks free, all threads running and awake, no entry and empty
+-- tables
 unfoldable pub start_state : Config → State
 start_state c = record {
   word = λ l. free_word;

@@ -1,5 +1,5 @@
--- The steps of threads, one case per kind. A step asks its guard, and its effect is computed. What only a running floor asks of its threads
--- stands in records of its own below.
+-- The steps of threads, one case per kind. A step asks its guard, and its effect is computed. What only a running
+-- floor asks of its threads stands in records of its own below.
 pub mod LockWords
 pub mod Items
 pub mod Turnstiles
@@ -7,6 +7,7 @@ pub mod SleepQueues
 pub mod Lending
 use Rattle.std.specs.Prelude.{◌≡◌, ◌≢◌, ◌⊎◌, ℕ, ◌%◌, Bool, true, false, not, ◌&&◌, ◌==◌, if◌then◌else◌, List, [], ◌∷◌, Option, Some, None, ⊤, ◌<◌}
 use Rattle.lock_model.specs.Config.{Config}
+use Rattle.lock_model.specs.Events.{of_sleep, is_end, is_waking_of}
 use Rattle.lock_state.specs.State.{State, Walk, NoWalk, AtLock, AtThread, Round, start_state}
 use Rattle.lock_model.specs.Queues.{Cause, Mark, lock_queue}
 use Rattle.lock_model.specs.Words.{Word, is_turnstile, admits}
@@ -138,7 +139,8 @@ MayAll c s (step ∷ steps) = May c s step × MayAll c (after c s step) steps
 
 -- the chain in which the lock's queue stands
 abbrev pub chain_of : ℕ → Config → ℕ → Item
-chain_of chains c l = if is_turnstile (c.kind l) then TurnstileChain (l % chains) else SleepChain (l % chains)
+chain_of chains c l =
+    if is_turnstile (c.kind l) then TurnstileChain (l % chains) else SleepChain (l % chains)
 
 -- the chain of a queue
 abbrev pub chain_of_queue : ℕ → Config → QueueName → Item
@@ -180,14 +182,18 @@ HasOutForEntry chains s t (Reversed l held) = ⊤
 abbrev pub HasOutForEnd : ℕ → Config → State → ℕ → Walk → Type 0
 HasOutForEnd chains c s t NoWalk = ⊤
 HasOutForEnd chains c s t (AtLock l) = HasItem s t (chain_of chains c l)
-HasOutForEnd chains c s t (AtThread o) = HasItem s t (RecordOf o) × ((l : ℕ) → is_turnstile (c.kind l) ≡ true → s.blocked_on o ≡ Some (lock_queue l) → HasItem s t (chain_of chains c l))
+HasOutForEnd chains c s t (AtThread o) =
+    HasItem s t (RecordOf o)
+    × ((l : ℕ) → is_turnstile (c.kind l) ≡ true → s.blocked_on o ≡ Some (lock_queue l)
+    → HasItem s t (chain_of chains c l))
 
 -- in an acquiring round no other chain is taken than the lock's
 abbrev pub IsOfRound : ℕ → Config → Option Round → Item → Type 0
 IsOfRound chains c None i = ⊤
 IsOfRound chains c (Some r) i = is_chain i ≡ true → i ≡ chain_of chains c r.lock
 
--- what each kind of step needs out. A thread is made ready under the chain of the queue that it goes to, and resumes with nothing out
+-- what each kind of step needs out. A thread is made ready under the chain of the queue that it goes to, and resumes
+-- with nothing out
 abbrev pub HasOut : ℕ → Config → State → Step → Type 0
 HasOut chains c s (Seeks t l by_try) = HasItem s t (chain_of chains c l) → ⊥
 HasOut chains c s (Looks t l in_round) = ⊤
@@ -197,16 +203,20 @@ HasOut chains c s (Gains t l mode by_try) = ⊤
 HasOut chains c s (Drops t l mode) = ⊤
 HasOut chains c s (Stamps t e) = HasOutForEntry chains s t e
 HasOut chains c s (Readies t q) = HasItem s t (chain_of_queue chains c q) × HasItem s t (RecordOf t)
-HasOut chains c s (Unreadies t q) = HasItem s t (chain_of_queue chains c q) × HasItem s t (RecordOf t)
+HasOut chains c s (Unreadies t q) =
+    HasItem s t (chain_of_queue chains c q) × HasItem s t (RecordOf t)
 HasOut chains c s (Enters t l mode x) = HasItem s t (chain_of chains c l) × HasItem s t (RecordOf t)
 HasOut chains c s (Opens t l mode) = HasItem s t (chain_of chains c l) × HasItem s t (RecordOf t)
-HasOut chains c s (EntersSleepQueue t l mode x) = HasItem s t (chain_of chains c l) × HasItem s t (RecordOf t)
-HasOut chains c s (OpensSleepQueue t l mode) = HasItem s t (chain_of chains c l) × HasItem s t (RecordOf t)
+HasOut chains c s (EntersSleepQueue t l mode x) =
+    HasItem s t (chain_of chains c l) × HasItem s t (RecordOf t)
+HasOut chains c s (OpensSleepQueue t l mode) =
+    HasItem s t (chain_of chains c l) × HasItem s t (RecordOf t)
 HasOut chains c s (Adds t d x) = HasItem s t (SleepChain (d % chains)) × HasItem s t (RecordOf t)
 HasOut chains c s (Wakes t d all) = HasItem s t (SleepChain (d % chains))
 HasOut chains c s (Marks t m ms) = HasItem s t (RecordOf m.thread)
 HasOut chains c s (Resumes t q cause) = ((i : Item) → HasItem s t i → ⊥) × (s.walk t ≡ NoWalk)
-HasOut chains c s (Claims t l h by_try) = HasItem s t (chain_of chains c l) × HasItem s t (RecordOf t)
+HasOut chains c s (Claims t l h by_try) =
+    HasItem s t (chain_of chains c l) × HasItem s t (RecordOf t)
 HasOut chains c s (Lends t l o h) = HasItem s t (chain_of chains c l) × HasItem s t (RecordOf o)
 HasOut chains c s (Shifts t o l) = HasItem s t (chain_of chains c l) × HasItem s t (RecordOf o)
 HasOut chains c s (EndsWalk t) = HasOutForEnd chains c s t (s.walk t)
@@ -225,7 +235,8 @@ seeks l (Some r) = r.lock == l
 
 -- a look counts exactly in an acquiring round of the lock, outside the lock's chain
 abbrev pub counts_as_look : ℕ → Config → State → ℕ → ℕ → Bool
-counts_as_look chains c s t l = seeks l (s.round t) && not (is_with t (item_with s (chain_of chains c l)))
+counts_as_look chains c s t l =
+    seeks l (s.round t) && not (is_with t (item_with s (chain_of chains c l)))
 
 -- a gain in a round is of the round's lock and in its way; outside a round it is a try's single exchange
 abbrev pub FitsRound : Option Round → ℕ → Bool → Type 0
@@ -240,15 +251,11 @@ NotesInRound (Some r) other = ⊥
 
 -- whether an event ends a sleep
 abbrev pub ends_sleep : Event → Bool
-ends_sleep (Woke d) = true
-ends_sleep (HaltedChan d) = true
-ends_sleep other = false
+ends_sleep e = is_end (of_sleep e)
 
 -- whether an event is a waking
 abbrev pub is_waking : Event → Bool
-is_waking (WokeOne d woken) = true
-is_waking (WokeAll d woken) = true
-is_waking other = false
+is_waking e = is_waking_of (of_sleep e)
 
 -- The next entry behind Sleeps ends that sleep, and the next one behind a wake is its waking.
 pub record NotesInTurn (s : State) (t : ℕ) (e : Event) : Type 0 where
@@ -258,22 +265,26 @@ pub record NotesInTurn (s : State) (t : ℕ) (e : Event) : Type 0 where
 
 -- what the thread saw last at the lock under the chain that it has out admits the mode
 abbrev pub SawAdmitting : ℕ → Config → State → ℕ → ℕ → Mode → Type 0
-SawAdmitting chains c s t l mode = (w : Word) → HasItem s t (chain_of chains c l) → s.seen_in_section t ≡ Some (record { lock = l; word = w }) → admits (c.kind l) w mode ≡ true
+SawAdmitting chains c s t l mode =
+    (w : Word) → HasItem s t (chain_of chains c l)
+    → s.seen_in_section t ≡ Some (record { lock = l; word = w }) → admits (c.kind l) w mode ≡ true
 
 -- under the lock's chain a gain is of a round
 abbrev pub IsInRound : ℕ → Config → State → ℕ → ℕ → Type 0
 IsInRound chains c s t l = s.round t ≡ None → HasItem s t (chain_of chains c l) → ⊥
 
 -- what a gain needs to have seen, and its round
-pub record GainsFromLook (chains : ℕ) (c : Config) (s : State) (t l : ℕ) (mode : Mode) (by_try : Bool) : Type 0 where
+pub record GainsFromLook (chains : ℕ) (c : Config) (s : State) (t l : ℕ) (mode : Mode)
+    (by_try : Bool) : Type 0 where
   pub fits : FitsRound (s.round t) l by_try
   pub in_round : IsInRound chains c s t l
   pub saw : SawAdmitting chains c s t l mode
 
 -- a look in a round that has taken its chain is at the round's lock
-pub record LooksInRound (chains : ℕ) (c : Config) (s : State) (t l : ℕ) (in_round : Bool) : Type 0 where
-  pub counts : in_round ≡ counts_as_look chains c s t l
-  pub in_chain : is_bound (s.round t) ≡ true → seeks l (s.round t) ≡ true
+pub record LooksInRound (chains : ℕ) (c : Config) (s : State) (t l : ℕ) (in_round : Bool) : Type 0
+  where
+    pub counts : in_round ≡ counts_as_look chains c s t l
+    pub in_chain : is_bound (s.round t) ≡ true → seeks l (s.round t) ≡ true
 
 -- a sleep on a channel begins outside the thread's rounds, with no wake to note and no halt
 pub record SleepsInTurn (s : State) (t : ℕ) : Type 0 where
@@ -281,16 +292,16 @@ pub record SleepsInTurn (s : State) (t : ℕ) : Type 0 where
   pub stamped : s.unstamped t ≡ None
   pub unnoted : s.noted t ≡ None
 
--- an enter is an exchange from the word that the last look saw, in a blocking call's round that has taken the lock's chain. It is not made
--- by a thread on its way to a channel
+-- an enter is an exchange from the word that the last look saw, in a blocking call's round that has taken the lock's
+-- chain. It is not made by a thread on its way to a channel
 pub record EntersFromLook (s : State) (t l : ℕ) : Type 0 where
   pub saw : s.last_look t ≡ Some (record { lock = l; word = s.word l })
   pub round : s.round t ≡ Some (record { lock = l; by_try = false; in_chain = true })
   pub off : IsOnItsWay s t → ⊥
 
--- Where a look in the lock's chain saw a word that doesn't admit, the thread enters and does not gain, until it looks again. A thread
--- sleeps on a channel outside its rounds, where it has no wake to note; between its Sleeps entry and its add it neither enters a lock's
--- queue nor runs again.
+-- Where a look in the lock's chain saw a word that doesn't admit, the thread enters and does not gain, until it looks
+-- again. A thread sleeps on a channel outside its rounds, where it has no wake to note; between its Sleeps entry and
+-- its add it neither enters a lock's queue nor runs again.
 abbrev pub HasSeen : ℕ → Config → State → Step → Type 0
 HasSeen chains c s (Seeks t l by_try) = ⊤
 HasSeen chains c s (Looks t l in_round) = LooksInRound chains c s t l in_round
@@ -316,9 +327,12 @@ HasSeen chains c s (EndsWalk t) = ⊤
 
 -- n comes from s by one step of a thread of a running floor
 abbrev pub IsFloorStep : ℕ → Config → State → State → Type 0
-IsFloorStep chains c s n = (step : Step) × May c s step × HasOut chains c s step × HasSeen chains c s step × (n ≡ after c s step)
+IsFloorStep chains c s n =
+    (step : Step) × May c s step × HasOut chains c s step × HasSeen chains c s step
+    × (n ≡ after c s step)
 
--- 3. What each step asks once lock orders are checked, in the scheduled run and on a floor: a take is admitted before its lock is sought
+-- 3. What each step asks once lock orders are checked, in the scheduled run and on a floor: a take is admitted before
+-- its lock is sought
 
 -- an entry ends the take of a lock, or the wait with it, that is under way
 abbrev pub EndsTake : Config → Event → ℕ → Type 0
@@ -343,8 +357,9 @@ EndsTake c (Reversed k held) l = ⊥
 abbrev pub TakesNothing : State → ℕ → Type 0
 TakesNothing s t = s.taking t ≡ None
 
--- What each kind asks; it comes into use with the steps that admit takes. A blocking call seeks the lock that it takes, and looks at it in its round alone; an enter is of the wanted lock; a
--- release isn't of a thread that takes; and the next entry of one that takes ends its take
+-- What each kind asks; it comes into use with the steps that admit takes. A blocking call seeks the lock that it
+-- takes, and looks at it in its round alone; an enter is of the wanted lock; a release isn't of a thread that takes;
+-- and the next entry of one that takes ends its take
 abbrev pub IsAdmitted : Config → State → Step → Type 0
 IsAdmitted c s (Seeks t l by_try) = by_try ≡ false → s.wanted t ≡ Some l
 IsAdmitted c s (Looks t l in_round) = s.taking t ≡ Some l → seeks l (s.round t) ≡ true

@@ -14,7 +14,8 @@ holder_of_view (hold.Shared n) = SharedBy n
 
 -- a view as a word
 abbrev pub word_of_view : WordView → Word
-word_of_view v = record { holder = holder_of_view v.hold; exclusive_waiters = v.xw; shared_waiters = v.sw }
+word_of_view v =
+    record { holder = holder_of_view v.hold; exclusive_waiters = v.xw; shared_waiters = v.sw }
 
 -- a holder may be added: nobody holds the lock, or 1 to 63 threads share it and one more will
 abbrev pub MayGain : Holder → Mode → Type 0

@@ -59,7 +59,8 @@ Goes fault taught known (Err e) = FailsBy fault e
 
 -- a statement is read as it is judged and learnt
 abbrev pub GoesBy : {X : Type 0} → Known → Statement → Known → Result X LineError → Type 0
-GoesBy old s new result = Goes (first_fault (statement_stages old (Some s))) (learned old s) new result
+GoesBy old s new result =
+    Goes (first_fault (statement_stages old (Some s))) (learned old s) new result
 
 -- the faults of the last stage, of a statement and of an operation
 abbrev pub name_fault : Known → Statement → Option ℕ

@@ -1,5 +1,5 @@
--- Which state of `lock_model` the objects of a machine show. Columns of which the objects do not tell, as looks and counts, are free: the
--- scheduled run makes nothing of them.
+-- Which state of `lock_state` the objects of a machine show. Columns of which the objects do not tell, as looks and
+-- counts, are free: the scheduled run makes nothing of them.
 use Rattle.std.specs.Prelude.{◌≡◌, ◌≢◌, ℕ, ◌≤◌, ◌<◌, List, [], ⊤, length, reverse, map, slice_get, get_or, option_map, Option, Some, IsSome}
 use Rattle.std.specs.List.{All}
 use Rattle.std.specs.Global.{Vec}

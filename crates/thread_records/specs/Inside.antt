@@ -6,7 +6,15 @@ use Rattle.thread_records.specs.Records.{Record, IsWellFormed}
 use Rattle.thread_records.specs.declared.record.ThreadRec.TheInside.{Inside}
 
 abbrev pub seen_record : Inside → Record
-seen_record a = record { thread = a.thread.0; base = a.base.0; effective = a.eff.0; turnstile = option_map (λ h. h.0.value.contents.number) a.home; loans = linked_terms a.loans; on = a.on }
+seen_record a =
+    record {
+      thread = a.thread.0;
+      base = a.base.0;
+      effective = a.eff.0;
+      turnstile = option_map (λ h. h.0.value.contents.number) a.home;
+      loans = linked_terms a.loans;
+      on = a.on;
+    }
 
 -- a turnstile at home is idle and has its loan node, and the node with it is the thread's own and empty
 pub record IsSound (a : Inside) : Type 0 where

@@ -5,8 +5,8 @@ use Rattle.turnstile_core.specs.Seen.{Terms}
 use Rattle.lock_model.specs.Counts.{least_with}
 use Rattle.thread_records.specs.Loans.{prios, loans_for}
 
--- a thread's priorities, the number of the turnstile that is at home with its node, its loans, the newest first, and the
--- queue that it names
+-- a thread's priorities, the number of the turnstile that is at home with its node, its loans, the newest first, and
+-- the queue that it names
 pub record Record : Type 0 where
   pub thread : ℕ
   pub base : ℕ

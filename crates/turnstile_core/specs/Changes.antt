@@ -58,8 +58,8 @@ moved t k c = with_lists (with_kept t k (lists_of c)) c
 abbrev pub best : Contents → Option ℕ
 best c = least_of (lists_of c)
 
--- what is true of each turnstile: its lists ascend, each thread waits once, and the free list is one shorter than both lists
--- together, or as empty as they are
+-- what is true of each turnstile: its lists ascend, each thread waits once, and the free list is one shorter than
+-- both lists together, or as empty as they are
 pub record IsWellFormed (c : Contents) : Type 0 where
   pub exclusive_ascends : Ascends c.exclusive
   pub shared_ascends : Ascends c.shared

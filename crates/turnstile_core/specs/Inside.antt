@@ -17,7 +17,15 @@ abbrev pub free_contents : InFreeList → List Contents
 free_contents a = linked_contents a.first
 
 abbrev pub seen_waiter : InWaiter → Waiter
-seen_waiter a = record { place = record { thread = a.thread.0; kept = a.kept.0; turnstile = number_in a.turnstile }; next = a.next }
+seen_waiter a =
+    record {
+      place = record {
+        thread = a.thread.0;
+        kept = a.kept.0;
+        turnstile = number_in a.turnstile;
+      };
+      next = a.next;
+    }
 
 -- what a waiter holds is idle, with its loan node at home
 abbrev pub HoldsIdle : InWaiter → Type 0
@@ -29,7 +37,15 @@ waiting p = record { thread = p.thread; kept = p.kept }
 
 abbrev pub seen_contents : InTurnstile → Contents
 seen_contents a =
-    record { number = a.number.0; lock = option_map (λ l. l.0) a.lock; exclusive = map waiting a.exclusive; shared = map waiting a.shared; free = map (λ c. c.number) a.free; owner = option_map (λ t. t.0) a.owner; loan_home = is_some a.loan }
+    record {
+      number = a.number.0;
+      lock = option_map (λ l. l.0) a.lock;
+      exclusive = map waiting a.exclusive;
+      shared = map waiting a.shared;
+      free = map (λ c. c.number) a.free;
+      owner = option_map (λ t. t.0) a.owner;
+      loan_home = is_some a.loan;
+    }
 
 abbrev pub seen_turnstile : InTurnstile → Turnstile
 seen_turnstile a = record { contents = seen_contents a; next = linked_contents a.next }
@@ -42,7 +58,8 @@ AllIdle cs = AllByRecursion (λ c. c ≡ idle_contents c.number) cs
 abbrev pub HoldNone : List Place → Type 0
 HoldNone ps = AllByRecursion (λ p. p.turnstile ≡ None) ps
 
--- each free turnstile is idle with its loan node at home, no waiter holds one, and a loan node at home is the turnstile's own
+-- each free turnstile is idle with its loan node at home, no waiter holds one, and a loan node at home is the
+-- turnstile's own
 pub record IsSound (a : InTurnstile) : Type 0 where
   pub well_formed : IsWellFormed (seen_contents a)
   pub free_idle : AllIdle a.free

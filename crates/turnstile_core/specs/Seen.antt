@@ -30,7 +30,16 @@ pub record Turnstile : Type 0 where
 
 -- an idle turnstile by its number, with its loan node at home
 abbrev pub idle_contents : ℕ → Contents
-idle_contents n = record { number = n; lock = None; exclusive = []; shared = []; free = []; owner = None; loan_home = true }
+idle_contents n =
+    record {
+      number = n;
+      lock = None;
+      exclusive = [];
+      shared = [];
+      free = [];
+      owner = None;
+      loan_home = true;
+    }
 
 -- the same, with nothing behind it
 abbrev pub idle : ℕ → Turnstile

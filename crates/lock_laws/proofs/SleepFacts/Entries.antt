@@ -8,13 +8,9 @@ use Rattle.lock_model.specs.declared.event.Event.{Event}
 use Rattle.lock_model.specs.declared.event.Event.TheVariants.{Sleeps}
 use Rattle.lock_model.specs.declared.event.Entry.{Entry}
 use Rattle.lock_state.specs.Steps.LockWords.{is_sleep, is_taking_back}
-use Rattle.lock_state.specs.Steps.SleepQueues.{has_slept, sleeps_on as is_sleeping}
+use Rattle.lock_state.specs.Steps.SleepQueues.{has_slept}
 
 -- 1. The own entries
-
-same_sleep : (e : Event) (d : ℕ) → sleeps_on e d ≡ is_sleeping d e
-same_sleep (Sleeps k) d = refl
-same_sleep other d = refl
 
 -- a thread sleeps where its newest entry is the Sleeps entry and no waking names it since
 pub asleep_is : (es : List Entry) (d t : ℕ) → is_asleep es d t ≡ (has_slept d (entries_of es t) && not (is_named es t))
@@ -33,7 +29,7 @@ asleep_is (e ∷ es) d t = go (eqb e.thread.0 t) (asleep_is es d t)
 
     go : (b : Bool) → is_asleep es d t ≡ (has_slept d (entries_of es t) && not (is_named es t))
         → cond b (sleeps_on e.event d) (not (wakes e.event t) && is_asleep es d t) ≡ (has_slept d (cond b (e ∷ entries_of es t) (entries_of es t)) && not (cond b false (wakes e.event t || is_named es t)))
-    go true h = same_sleep e.event d ∙ and_true (is_sleeping d e.event)
+    go true h = and_true (sleeps_on e.event d)
     go false h = unnamed (wakes e.event t) (is_asleep es d t) (has_slept d (entries_of es t)) (is_named es t) h
 
 both : (a b : Bool) → (a && b) ≡ true → (a ≡ true) × (b ≡ true)
@@ -59,7 +55,7 @@ pub one_channel : (a b : ℕ) (es : List Entry) → has_slept a es ≡ true → 
 one_channel a b [] x y = absurd cc
 one_channel a b (e ∷ es) x y = by_event e.event x y
   where
-    by_event : (v : Event) → is_sleeping a v ≡ true → is_sleeping b v ≡ true → a ≡ b
+    by_event : (v : Event) → sleeps_on v a ≡ true → sleeps_on v b ≡ true → a ≡ b
     by_event (Sleeps k) x y = sym (eqb-true k.0 a x) ∙ eqb-true k.0 b y
     by_event other x y = absurd cc
 
@@ -67,7 +63,7 @@ pub slept_back : (d : ℕ) (es : List Entry) → has_slept d es ≡ true → is_
 slept_back d [] x = absurd cc
 slept_back d (e ∷ es) x = by_event e.event x
   where
-    by_event : (v : Event) → is_sleeping d v ≡ true → is_sleep v ≡ true
+    by_event : (v : Event) → sleeps_on v d ≡ true → is_sleep v ≡ true
     by_event (Sleeps k) x = refl
     by_event other x = absurd cc
 

@@ -25,13 +25,18 @@ BasesReplay c base history = (t : ℕ) → base t ≡ base_in c history t
 
 -- an open section is of a lock that its thread holds in that mode
 unfoldable pub SectionsAreHeld : Config → List Entry → (ℕ → ℕ → Hold) → Type 0
-SectionsAreHeld c history held = (t l : ℕ) (mode : Mode) → open_in c history t l ≡ Holds mode → held t l ≡ Holds mode
+SectionsAreHeld c history held =
+    (t l : ℕ) (mode : Mode) → open_in c history t l ≡ Holds mode → held t l ≡ Holds mode
 
 -- all that a thread has out goes together: one chain and one record, or one cell, or the class graph
-unfoldable pub OutIsNarrow : (ℕ → Option ℕ) → (ℕ → Option ℕ) → (ℕ → Option ℕ) → (ℕ → ℕ → Option ℕ) → Option ℕ → Type 0
+unfoldable pub OutIsNarrow : (ℕ → Option ℕ) → (ℕ → Option ℕ) → (ℕ → Option ℕ) → (ℕ → ℕ → Option ℕ)
+    → Option ℕ → Type 0
 OutIsNarrow turnstile_chain sleep_chain of cell graph =
-    (t : ℕ) (i j : Item) → out_with turnstile_chain sleep_chain of cell graph i ≡ Some t → out_with turnstile_chain sleep_chain of cell graph j ≡ Some t → go_together i j ≡ true
+    (t : ℕ) (i j : Item) → out_with turnstile_chain sleep_chain of cell graph i ≡ Some t
+    → out_with turnstile_chain sleep_chain of cell graph j ≡ Some t → go_together i j ≡ true
 
 -- nothing is out
-unfoldable pub NothingIsOut : (ℕ → Option ℕ) → (ℕ → Option ℕ) → (ℕ → Option ℕ) → (ℕ → ℕ → Option ℕ) → Option ℕ → Type 0
-NothingIsOut turnstile_chain sleep_chain of cell graph = (i : Item) → out_with turnstile_chain sleep_chain of cell graph i ≡ None
+unfoldable pub NothingIsOut : (ℕ → Option ℕ) → (ℕ → Option ℕ) → (ℕ → Option ℕ)
+    → (ℕ → ℕ → Option ℕ) → Option ℕ → Type 0
+NothingIsOut turnstile_chain sleep_chain of cell graph =
+    (i : Item) → out_with turnstile_chain sleep_chain of cell graph i ≡ None

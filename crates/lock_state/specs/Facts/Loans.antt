@@ -46,25 +46,34 @@ owner_if turnstile None h = None
 owner_if true (Some x) h = owner_of h
 owner_if false (Some x) h = None
 
--- a turnstile that stands at a lock has as owner the word's exclusive holder, or none where there is none; a sleep queue has no owner
-unfoldable pub OwnersHold : Config → (QueueName → Option ℕ) → (QueueName → Option ℕ) → (ℕ → Word) → Type 0
-OwnersHold c owner head word = (l : ℕ) → owner (lock_queue l) ≡ owner_if (is_turnstile (c.kind l)) (head (lock_queue l)) (word l).holder
+-- a turnstile that stands at a lock has as owner the word's exclusive holder, or none where there is none; a sleep
+-- queue has no owner
+unfoldable pub OwnersHold : Config → (QueueName → Option ℕ) → (QueueName → Option ℕ) → (ℕ → Word)
+    → Type 0
+OwnersHold c owner head word =
+    (l : ℕ) → owner (lock_queue l) ≡ owner_if (is_turnstile (c.kind l)) (head (lock_queue l))
+    (word l).holder
 
 -- nor has the sleep queue of a channel
 unfoldable pub ChannelsHaveNoOwner : (QueueName → Option ℕ) → Type 0
 ChannelsHaveNoOwner owner = (d : ℕ) → owner (chan_queue d) ≡ None
 
 -- an owner's loan is the least kept priority of both lists, or some walk is at the lock
-unfoldable pub LoansAreLeast : Config → (QueueName → Option ℕ) → (ℕ → Walk) → (ℕ → ℕ → Option Loan) → (QueueName → Lists) → Type 0
-LoansAreLeast c owner walk loan lists = (l o : ℕ) → owner (lock_queue l) ≡ Some o → walkers_at_lock c walk l ≡ 0 → prio_of (loan o l) ≡ least_of (lists (lock_queue l))
+unfoldable pub LoansAreLeast : Config → (QueueName → Option ℕ) → (ℕ → Walk)
+    → (ℕ → ℕ → Option Loan) → (QueueName → Lists) → Type 0
+LoansAreLeast c owner walk loan lists =
+    (l o : ℕ) → owner (lock_queue l) ≡ Some o → walkers_at_lock c walk l ≡ 0
+    → prio_of (loan o l) ≡ least_of (lists (lock_queue l))
 
 -- a loan for a lock is with the owner of the turnstile there
 unfoldable pub LoansAreWithOwners : (ℕ → ℕ → Option Loan) → (QueueName → Option ℕ) → Type 0
-LoansAreWithOwners loan owner = (t l : ℕ) (x : Loan) → loan t l ≡ Some x → owner (lock_queue l) ≡ Some t
+LoansAreWithOwners loan owner =
+    (t l : ℕ) (x : Loan) → loan t l ≡ Some x → owner (lock_queue l) ≡ Some t
 
 -- and on the node of that turnstile
 unfoldable pub LoansAreOnHeads : (ℕ → ℕ → Option Loan) → (QueueName → Option ℕ) → Type 0
-LoansAreOnHeads loan head = (t l : ℕ) (x : Loan) → loan t l ≡ Some x → head (lock_queue l) ≡ Some x.number
+LoansAreOnHeads loan head =
+    (t l : ℕ) (x : Loan) → loan t l ≡ Some x → head (lock_queue l) ≡ Some x.number
 
 -- 4. Kept priorities
 
@@ -83,7 +92,9 @@ IsKept c walk effective w = walkers_at_thread c walk w.thread ≡ 0 → w.kept �
 
 -- each priority that a turnstile keeps is its thread's effective priority, or some walk is at that thread
 unfoldable pub KeptIsEffective : Config → (ℕ → Walk) → (ℕ → ℕ) → (QueueName → Lists) → Type 0
-KeptIsEffective c walk effective lists = (l : ℕ) → is_turnstile (c.kind l) ≡ true → EachOf (IsKept c walk effective) (lists (lock_queue l))
+KeptIsEffective c walk effective lists =
+    (l : ℕ) → is_turnstile (c.kind l) ≡ true
+    → EachOf (IsKept c walk effective) (lists (lock_queue l))
 
 -- 5. Where priorities come from: each is, or was, some thread's base
 
@@ -101,4 +112,6 @@ LoansAreKnown c loan history = (t l : ℕ) (x : Loan) → loan t l ≡ Some x �
 
 -- and each kept priority
 unfoldable pub KeptIsKnown : Config → (QueueName → Lists) → List Entry → Type 0
-KeptIsKnown c lists history = (l : ℕ) → is_turnstile (c.kind l) ≡ true → EachOf (λ w. IsKnown c history w.kept) (lists (lock_queue l))
+KeptIsKnown c lists history =
+    (l : ℕ) → is_turnstile (c.kind l) ≡ true
+    → EachOf (λ w. IsKnown c history w.kept) (lists (lock_queue l))

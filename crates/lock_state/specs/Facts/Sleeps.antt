@@ -34,7 +34,8 @@ is_signalled Running = 0
 is_signalled Queued = 0
 is_signalled (Woken q cause) = one (is_chan q && is_signal cause)
 
--- A thread that a waking has named since its last entry is, once, in a marked list or woken, or has resumed since. No other thread is.
+-- A thread that a waking has named since its last entry is, once, in a marked list or woken, or has resumed since. No
+-- other thread is.
 unfoldable pub NamedAreWoken : Config → List Entry → (ℕ → List Mark) → (ℕ → Option Wake)
     → (ℕ → Wait) → (ℕ → Option ℕ) → Type 0
 NamedAreWoken c history marked unstamped wait woken_from =
@@ -133,7 +134,8 @@ unfoldable pub UnnotedHasChain : ℕ → (ℕ → Option Wake) → (ℕ → Opti
 UnnotedHasChain chains unstamped sleep_chain_with =
     (t : ℕ) (w : Wake) → unstamped t ≡ Some w → sleep_chain_with (w.chan % chains) ≡ Some t
 
--- A wake of all leaves nobody. A wake of one that took nobody found nobody; else it took one, and nobody that is left goes before that
+-- A wake of all leaves nobody. A wake of one that took nobody found nobody; else it took one, and nobody that is left
+-- goes before that
 abbrev pub LeavesNobodyBefore : Config → List Entry → Bool → List ℕ → List Waiter → Type 0
 LeavesNobodyBefore c es true us ws = ws ≡ []
 LeavesNobodyBefore c es false [] ws = ws ≡ []

@@ -20,12 +20,13 @@ shares NotHeld = 0
 shares (Holds Excl) = 0
 shares (Holds Shared) = 1
 
--- A word is held by a thread exactly where that thread holds the lock exclusively, and shared by exactly as many as hold it shared.
--- A number of sharers is at least 1, so every other word is free and nobody holds its lock.
-pub record WordMatchesHolders (c : Config) (word : Word) (l : ℕ) (held : ℕ → ℕ → Hold) : Type 0 where
-  pub owner : (t : ℕ) → is_exclusive (held t l) ≡ owns t word.holder
-  pub sharers_are_counted : sum_below c.threads (λ t. shares (held t l)) ≡ sharers word.holder
-  pub some_sharer : word.holder ≢ SharedBy 0
+-- A word is held by a thread exactly where that thread holds the lock exclusively, and shared by exactly as many as
+-- hold it shared. A number of sharers is at least 1, so every other word is free and nobody holds its lock.
+pub record WordMatchesHolders (c : Config) (word : Word) (l : ℕ) (held : ℕ → ℕ → Hold) : Type 0
+  where
+    pub owner : (t : ℕ) → is_exclusive (held t l) ≡ owns t word.holder
+    pub sharers_are_counted : sum_below c.threads (λ t. shares (held t l)) ≡ sharers word.holder
+    pub some_sharer : word.holder ≢ SharedBy 0
 
 -- that of each lock
 unfoldable pub WordsMatchHolders : Config → (ℕ → Word) → (ℕ → ℕ → Hold) → Type 0

@@ -5,7 +5,8 @@ use Rattle.lock_state.specs.State.{State, Queued, SleepHalted, Look, Round, put,
 use Rattle.lock_model.specs.declared.plan.QueueName.{QueueName}
 use Rattle.lock_state.specs.Steps.LockWords.{IsActing, is_taking_back}
 
--- what a thread may have out: a chain of turnstiles or of sleep queues, a thread's record, a cell of a lock's table, the class graph
+-- what a thread may have out: a chain of turnstiles or of sleep queues, a thread's record, a cell of a lock's table,
+-- the class graph
 pub data Item : Type 0 where
   TurnstileChain : ℕ → Item
   SleepChain : ℕ → Item
@@ -14,7 +15,8 @@ pub data Item : Type 0 where
   ClassGraph : Item
 
 -- who has an item out
-abbrev pub out_with : (ℕ → Option ℕ) → (ℕ → Option ℕ) → (ℕ → Option ℕ) → (ℕ → ℕ → Option ℕ) → Option ℕ → Item → Option ℕ
+abbrev pub out_with : (ℕ → Option ℕ) → (ℕ → Option ℕ) → (ℕ → Option ℕ) → (ℕ → ℕ → Option ℕ)
+    → Option ℕ → Item → Option ℕ
 out_with turnstile_chain sleep_chain of cell graph (TurnstileChain k) = turnstile_chain k
 out_with turnstile_chain sleep_chain of cell graph (SleepChain k) = sleep_chain k
 out_with turnstile_chain sleep_chain of cell graph (RecordOf t) = of t
@@ -23,7 +25,8 @@ out_with turnstile_chain sleep_chain of cell graph ClassGraph = graph
 
 -- the same of a state
 abbrev pub item_with : State → Item → Option ℕ
-item_with s = out_with s.turnstile_chain_with s.sleep_chain_with s.record_with s.cell_with s.graph_with
+item_with s =
+    out_with s.turnstile_chain_with s.sleep_chain_with s.record_with s.cell_with s.graph_with
 
 -- whether a thread may have both out: one chain and one record, or else one cell alone, or the class graph alone
 abbrev pub go_together : Item → Item → Bool
@@ -50,7 +53,8 @@ MayCheckOrders s t ClassGraph = IsActing s t
 pub record MayTake (c : Config) (s : State) (t : ℕ) (i : Item) : Type 0 where
   pub thread : t < c.threads
   pub home : item_with s i ≡ None
-  pub together : (j : Item) → item_with s j ≡ Some t → (go_together i j ≡ true) × (go_together j i ≡ true)
+  pub together : (j : Item) → item_with s j ≡ Some t
+      → (go_together i j ≡ true) × (go_together j i ≡ true)
   pub orders : MayCheckOrders s t i
 
 -- who has what out, once an item goes to a thread, or home
@@ -135,12 +139,13 @@ pub record IsOnItsWay (s : State) (t : ℕ) : Type 0 where
 abbrev pub IsSettled : State → ℕ → Type 0
 IsSettled s t = s.wait t ≡ Queued → s.blocked_on t ≢ None
 
--- A thread gives back what it has out: a chain and its own record only where it isn't about to stand on a queue; a chain that a blocking
--- call's round took only after a gain, a claim or an enter, which end the round; a sleep chain only where its wake is noted. The class
--- graph goes home by steps of its own.
+-- A thread gives back what it has out: a chain and its own record only where it isn't about to stand on a queue; a
+-- chain that a blocking call's round took only after a gain, a claim or an enter, which end the round; a sleep chain
+-- only where its wake is noted. The class graph goes home by steps of its own.
 abbrev pub IsDoneWith : State → ℕ → Item → Type 0
 IsDoneWith s t (TurnstileChain k) = (is_bound (s.round t) ≡ false) × IsSettled s t
-IsDoneWith s t (SleepChain k) = (is_bound (s.round t) ≡ false) × (s.unstamped t ≡ None) × IsSettled s t
+IsDoneWith s t (SleepChain k) =
+    (is_bound (s.round t) ≡ false) × (s.unstamped t ≡ None) × IsSettled s t
 IsDoneWith s t (RecordOf u) = u ≡ t → IsSettled s t
 IsDoneWith s t (CellOf l k) = ⊤
 IsDoneWith s t ClassGraph = ⊥

@@ -15,8 +15,8 @@ abbrev pub loan_of : ℕ → Option ℕ → Option Loan
 loan_of h None = None
 loan_of h (Some p) = Some (record { number = h; prio = p })
 
--- 1. A claim: an exclusive gain of a free rw lock that shows waiters. The thread is the owner of the turnstile h, and its loan is the
--- least kept priority of both lists
+-- 1. A claim: an exclusive gain of a free rw lock that shows waiters. The thread is the owner of the turnstile h, and
+-- its loan is the least kept priority of both lists
 
 -- what a claim asks
 pub record MayClaim (c : Config) (s : State) (t l h : ℕ) : Type 0 where
@@ -50,8 +50,8 @@ after_claim c s t l h by_try =
       has_begun = put_at s.has_begun t l false;
     }
 
--- 2. A walk at a lock: the owner's loan becomes the least kept priority of both lists. The walk goes on to the owner where its effective
--- priority changed and its record names a turnstile
+-- 2. A walk at a lock: the owner's loan becomes the least kept priority of both lists. The walk goes on to the owner
+-- where its effective priority changed and its record names a turnstile
 
 -- what a hop at a lock asks
 pub record MayLend (c : Config) (s : State) (t l o h : ℕ) : Type 0 where
@@ -75,11 +75,12 @@ after_lend c s t l o h =
       loan = put_at s.loan o l new;
       loan_home = put s.loan_home h false;
       effective = put s.effective o e;
-      walk = put s.walk t (walk_to o (not (e == s.effective o) && names_turnstile c (s.blocked_on o)));
+      walk = put s.walk t (walk_to o
+          (not (e == s.effective o) && names_turnstile c (s.blocked_on o)));
     }
 
--- 3. A walk at a thread that stands on a turnstile: its entry is inserted anew with its effective priority, and the walk goes on to that
--- lock where the turnstile has an owner
+-- 3. A walk at a thread that stands on a turnstile: its entry is inserted anew with its effective priority, and the
+-- walk goes on to that lock where the turnstile has an owner
 
 -- what a hop at a thread asks
 pub record MayShift (c : Config) (s : State) (t o l : ℕ) : Type 0 where
@@ -102,7 +103,9 @@ after_shift s t o l = record s {
 abbrev pub IsAtEnd : Config → State → Walk → Type 0
 IsAtEnd c s NoWalk = ⊥
 IsAtEnd c s (AtLock l) = s.owner (lock_queue l) ≡ None
-IsAtEnd c s (AtThread o) = (l : ℕ) → is_turnstile (c.kind l) ≡ true → s.blocked_on o ≡ Some (lock_queue l) → stands o (s.lists (lock_queue l)) ≡ 0
+IsAtEnd c s (AtThread o) =
+    (l : ℕ) → is_turnstile (c.kind l) ≡ true → s.blocked_on o ≡ Some (lock_queue l)
+    → stands o (s.lists (lock_queue l)) ≡ 0
 
 -- what the end of a walk asks
 pub record MayEndWalk (c : Config) (s : State) (t : ℕ) : Type 0 where

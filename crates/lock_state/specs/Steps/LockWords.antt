@@ -1,10 +1,11 @@
--- Steps of one thread on lock words, tickets and its own wait word: what each asks of the state (May..), and what it makes of it
--- (after_..). Only the named columns change.
+-- Steps of one thread on lock words, tickets and its own wait word: what each asks of the state (May..), and what it
+-- makes of it (after_..). Only the named columns change.
 use Rattle.std.specs.Prelude.{◌≡◌, ◌≢◌, ◌⊎◌, ℕ, suc, ◌+◌, ◌^◌, ◌<◌, Bool, true, false, ◌==◌, if◌then◌else◌, List, [], ◌∷◌, Option, Some, None, ⊤}
 use Rattle.lock_model.specs.Counts.{least}
 use Rattle.lock_model.specs.Words.{Word, word_of, admits, is_plain, gained, dropped, is_drop}
 use Rattle.lock_model.specs.History.{added, open_in, left_in}
 use Rattle.lock_model.specs.Config.{Config}
+use Rattle.lock_model.specs.Events.{of_sleep, is_falling}
 use Rattle.lock_state.specs.State.{State, Wait, Running, Queued, Woken, OrderRefused, SleepHalted, Loan, Wake, Look, Round, HeldLock, put, put_at}
 use Rattle.lock_model.specs.Holds.{Hold, NotHeld, Holds}
 use Rattle.lock_model.specs.declared.plan.Kind.TheVariants.{Mtx}
@@ -22,8 +23,7 @@ is_woken Queued = false
 is_woken (Woken q cause) = true
 
 abbrev pub is_sleep : Event → Bool
-is_sleep (Sleeps d) = true
-is_sleep other = false
+is_sleep e = is_falling (of_sleep e)
 
 -- whether a log's newest entry is a Sleeps entry: a thread that goes on behind it takes its lock back
 abbrev pub is_taking_back : List Entry → Bool
@@ -37,14 +37,16 @@ pub record IsActing (s : State) (t : ℕ) : Type 0 where
 
 -- each held lock's section is open
 abbrev pub AllOpen : Config → State → ℕ → Type 0
-AllOpen c s t = (l : ℕ) (mode : Mode) → s.held t l ≡ Holds mode → open_in c s.history t l ≡ Holds mode
+AllOpen c s t =
+    (l : ℕ) (mode : Mode) → s.held t l ≡ Holds mode → open_in c s.history t l ≡ Holds mode
 
 -- the lock is the one that the thread gained last, by a try or by a blocking call
 pub record IsGainedLast (s : State) (t l : ℕ) (by_try : Bool) : Type 0 where
   pub others : List HeldLock
   pub last : s.held_locks t ≡ record { lock = l; by_try = by_try } ∷ others
 
--- 1. The begin of an acquiring round: a blocking call or a try seeks a lock. A resume of a thread that wants a lock begins one too
+-- 1. The begin of an acquiring round: a blocking call or a try seeks a lock. A resume of a thread that wants a lock
+-- begins one too
 
 -- what it asks
 pub record MaySeek (c : Config) (s : State) (t l : ℕ) (by_try : Bool) : Type 0 where
@@ -84,8 +86,8 @@ after_look s t l in_round = record s {
   seen_in_section = put s.seen_in_section t (Some (record { lock = l; word = s.word l }));
 }
 
--- 3. A gain: the word admits the mode, and the lock is the wanted one, or none is wanted. The thread is on no queue, in no marked
--- list and not woken
+-- 3. A gain: the word admits the mode, and the lock is the wanted one, or none is wanted. The thread is on no queue,
+-- in no marked list and not woken
 
 -- what a gain asks
 pub record MayGain (c : Config) (s : State) (t l : ℕ) (mode : Mode) : Type 0 where
@@ -111,7 +113,8 @@ after_gain s t l mode by_try = record s {
   has_begun = put_at s.has_begun t l false;
 }
 
--- 4. A drop: a release where another shared holder stays or no waiter is shown. No section of the lock is open, and one began
+-- 4. A drop: a release where another shared holder stays or no waiter is shown. No section of the lock is open, and
+-- one began
 
 -- what a drop asks
 pub record MayDrop (c : Config) (s : State) (t l : ℕ) (mode : Mode) : Type 0 where
@@ -149,8 +152,8 @@ pub record Returns (c : Config) (s : State) (t l : ℕ) : Type 0 where
   pub holds : s.held t l ≢ NotHeld
   pub closed : open_in c s.history t l ≡ NotHeld
 
--- The thread doesn't hold the lock, its last look saw the lock with the word, and the word does not admit the mode, so it is held.
--- Which mode was tried, the entry does not say
+-- The thread doesn't hold the lock, its last look saw the lock with the word, and the word does not admit the mode,
+-- so it is held. Which mode was tried, the entry does not say
 pub record SawBusy (c : Config) (s : State) (t l : ℕ) (word : Word) (mode : Mode) : Type 0 where
   pub unheld : s.held t l ≡ NotHeld
   pub looked : s.last_look t ≡ Some (record { lock = l; word = word })
@@ -161,9 +164,11 @@ pub record SawBusy (c : Config) (s : State) (t l : ℕ) (word : Word) (mode : Mo
 pub record ShowsOwn (c : Config) (s : State) (t base effective : ℕ) : Type 0 where
   pub its_base : base ≡ s.base t
   pub its_effective : effective ≡ s.effective t
-  pub sections : (l : ℕ) (mode : Mode) → s.held t l ≡ Holds mode → open_in c s.history t l ≡ Holds mode
+  pub sections : (l : ℕ) (mode : Mode) → s.held t l ≡ Holds mode
+      → open_in c s.history t l ≡ Holds mode
 
--- a thread that was made ready goes to sleep on a channel with the lock that it gained last, by a blocking call. It wants nothing
+-- a thread that was made ready goes to sleep on a channel with the lock that it gained last, by a blocking call. It
+-- wants nothing
 pub record GoesToSleep (c : Config) (s : State) (t d : ℕ) : Type 0 where
   pub chan : d < c.chans
   pub queued : s.wait t ≡ Queued
@@ -179,7 +184,8 @@ bits_of_threads (u ∷ us) = 2 ^ u + bits_of_threads us
 -- the sleepers that the thread took off a channel and has not noted yet
 abbrev pub IsTheWake : Option Wake → ℕ → Bool → ℕ → Type 0
 IsTheWake None d all woken = ⊥
-IsTheWake (Some wake) d all woken = (wake.chan ≡ d) × (wake.all ≡ all) × (woken ≡ bits_of_threads wake.taken)
+IsTheWake (Some wake) d all woken =
+    (wake.chan ≡ d) × (wake.all ≡ all) × (woken ≡ bits_of_threads wake.taken)
 
 -- what each event asks. A thread sleeps with the lock of its channel, and wakes with that lock held as it was
 abbrev pub Asks : Config → State → ℕ → Event → Type 0
@@ -194,7 +200,8 @@ Asks c s t (Base p) = ⊤
 Asks c s t (Shown base effective) = ShowsOwn c s t base.0 effective.0
 Asks c s t (Sleeps d) = GoesToSleep c s t d.0
 Asks c s t (Woke d) = Returns c s t (c.chan_lock d.0) × (s.woken_from t ≡ Some d.0)
-Asks c s t (HaltedChan d) = Returns c s t (c.chan_lock d.0) × (s.noted t ≡ Some (SleepHalted (Chan d)))
+Asks c s t (HaltedChan d) =
+    Returns c s t (c.chan_lock d.0) × (s.noted t ≡ Some (SleepHalted (Chan d)))
 Asks c s t (HaltedLock l) = (s.noted t ≡ Some (SleepHalted (Lock l))) × (s.held t l.0 ≡ NotHeld)
 Asks c s t (WokeOne d woken) = IsTheWake (s.unstamped t) d.0 false woken
 Asks c s t (WokeAll d woken) = IsTheWake (s.unstamped t) d.0 true woken

@@ -1,8 +1,10 @@
--- Steps that put a thread on a sleep queue, of an sx lock or of a condition variable or channel, and take sleepers off again.
+-- Steps that put a thread on a sleep queue, of an sx lock or of a condition variable or channel, and take sleepers
+-- off again.
 use Rattle.std.specs.Prelude.{◌≡◌, ◌⊎◌, ℕ, ◌<◌, Bool, true, false, ◌==◌, nat_lt, if◌then◌else◌, List, [], ◌∷◌, ◌++◌, map, Option, Some, None}
 use Rattle.lock_model.specs.Words.{admits, is_free, is_turnstile, without_one, shows_waiters, entered, opened, side_woken}
 use Rattle.lock_model.specs.History.{open_in}
 use Rattle.lock_model.specs.Config.{Config}
+use Rattle.lock_model.specs.Events.{sleeps_on}
 use Rattle.lock_state.specs.Steps.LockWords.{AllOpen, without_held}
 use Rattle.lock_state.specs.State.{State, Queued, NoWalk, put, put_at, put_queue}
 use Rattle.lock_model.specs.Holds.{NotHeld, Holds}
@@ -14,7 +16,8 @@ use Rattle.lock_model.specs.declared.event.Event.{Event}
 use Rattle.lock_model.specs.declared.event.Event.TheVariants.{Sleeps}
 use Rattle.lock_model.specs.declared.event.Entry.{Entry}
 
--- 1. An enter on an sx lock: as on a turnstile, but the thread stands at the tail, ranked by its base priority, and lends no priority
+-- 1. An enter on an sx lock: as on a turnstile, but the thread stands at the tail, ranked by its base priority, and
+-- lends no priority
 
 -- what it asks
 pub record MayEnterSleep (c : Config) (s : State) (t l : ℕ) (mode : Mode) (x : ℕ) : Type 0 where
@@ -40,7 +43,10 @@ after_enter_sleep s t l mode x =
     let q : QueueName = lock_queue l in
     record s {
       word = put s.word l (entered (s.word l) (side_of mode));
-      lists = put_queue s.lists q (with_list (side_of mode) (with_last (record { thread = t; kept = s.base t }) (list_of (side_of mode) (s.lists q))) (s.lists q));
+      lists = put_queue s.lists q
+          (with_list (side_of mode)
+          (with_last (record { thread = t; kept = s.base t })
+          (list_of (side_of mode) (s.lists q))) (s.lists q));
       free_list = put_queue s.free_list q (free_with (s.head q) x (s.free_list q));
       head = put_queue s.head q (head_with (s.head q) x);
       sleep_queue = put s.sleep_queue t None;
@@ -85,13 +91,9 @@ after_open_sleep c s t l =
 -- 3. An add: a thread sleeps on a channel, behind its Sleeps entry, which is the newest of its log. It wants nothing
 
 -- whether the newest entry is a Sleeps entry on the channel
-abbrev pub sleeps_on : ℕ → Event → Bool
-sleeps_on d (Sleeps e) = e.0 == d
-sleeps_on d other = false
-
 abbrev pub has_slept : ℕ → List Entry → Bool
 has_slept d [] = false
-has_slept d (e ∷ es) = sleeps_on d e.event
+has_slept d (e ∷ es) = sleeps_on e.event d
 
 -- what it asks
 pub record MayAdd (c : Config) (s : State) (t d x : ℕ) : Type 0 where
@@ -109,7 +111,11 @@ unfoldable pub after_add : State → ℕ → ℕ → ℕ → State
 after_add s t d x =
     let q : QueueName = chan_queue d in
     record s {
-      lists = put_queue s.lists q (record (s.lists q) { exclusive = with_last (record { thread = t; kept = s.base t }) (s.lists q).exclusive });
+      lists = put_queue s.lists q
+          (record (s.lists q) {
+            exclusive = with_last (record { thread = t; kept = s.base t })
+                (s.lists q).exclusive;
+          });
       free_list = put_queue s.free_list q (free_with (s.head q) x (s.free_list q));
       head = put_queue s.head q (head_with (s.head q) x);
       sleep_queue = put s.sleep_queue t None;
@@ -159,9 +165,11 @@ after_wake s t d all =
     let q : QueueName = chan_queue d in
     let ws : List Waiter = taken_off all (s.lists q).exclusive in
     record s {
-      lists = put_queue s.lists q (record (s.lists q) { exclusive = left_on all (s.lists q).exclusive });
+      lists = put_queue s.lists q
+          (record (s.lists q) { exclusive = left_on all (s.lists q).exclusive });
       free_list = put_queue s.free_list q (free_after ws (s.free_list q));
       head = put_queue s.head q (head_after ws (s.free_list q) (s.head q));
       marked = put s.marked t (dealt q ws (s.free_list q) (s.head q));
-      unstamped = put s.unstamped t (Some (record { chan = d; all = all; taken = map (λ w. w.thread) ws }));
+      unstamped = put s.unstamped t
+          (Some (record { chan = d; all = all; taken = map (λ w. w.thread) ws }));
     }

@@ -14,7 +14,8 @@ use Rattle.lock_model.specs.declared.plan.Side.{Side}
 use Rattle.lock_model.specs.declared.plan.QueueName.{QueueName}
 use Rattle.lock_model.specs.declared.plan.QueueName.TheVariants.{Lock, Chan}
 
--- 1. An enter: the word is held and does not admit, and the thread, made ready, stands on the lock's turnstile with its own turnstile x
+-- 1. An enter: the word is held and does not admit, and the thread, made ready, stands on the lock's turnstile with
+-- its own turnstile x
 
 -- what an enter asks
 pub record MayEnter (c : Config) (s : State) (t l : ℕ) (mode : Mode) (x : ℕ) : Type 0 where
@@ -47,7 +48,10 @@ after_enter s t l mode x =
     let q : QueueName = lock_queue l in
     record s {
       word = put s.word l (entered (s.word l) (side_of mode));
-      lists = put_queue s.lists q (with_list (side_of mode) (insert (record { thread = t; kept = s.effective t }) (list_of (side_of mode) (s.lists q))) (s.lists q));
+      lists = put_queue s.lists q
+          (with_list (side_of mode)
+          (insert (record { thread = t; kept = s.effective t })
+          (list_of (side_of mode) (s.lists q))) (s.lists q));
       free_list = put_queue s.free_list q (free_with (s.head q) x (s.free_list q));
       head = put_queue s.head q (head_with (s.head q) x);
       owner = put_queue s.owner q (owner_with (s.head q) (s.owner q) (s.word l).holder);
@@ -60,8 +64,9 @@ after_enter s t l mode x =
       last_look = put s.last_look t None;
     }
 
--- 2. An open: the last holder's release where waiters are shown. One whole side goes to the marked list with its turnstiles; the loan
--- for the lock goes home, and the turnstile that stays has no owner. The thread may stand on a sleep queue, but on no turnstile
+-- 2. An open: the last holder's release where waiters are shown. One whole side goes to the marked list with its
+-- turnstiles; the loan for the lock goes home, and the turnstile that stays has no owner. The thread may stand on a
+-- sleep queue, but on no turnstile
 
 -- what an open asks
 pub record MayOpen (c : Config) (s : State) (t l : ℕ) (mode : Mode) : Type 0 where
@@ -72,7 +77,8 @@ pub record MayOpen (c : Config) (s : State) (t l : ℕ) (mode : Mode) : Type 0 w
   pub last : is_free (without_one (s.word l).holder) ≡ true
   pub shown : shows_waiters (s.word l) ≡ true
   pub unmarked : s.marked t ≡ []
-  pub off_turnstiles : (k : ℕ) → s.blocked_on t ≡ Some (lock_queue k) → is_turnstile (c.kind k) ≡ false
+  pub off_turnstiles : (k : ℕ) → s.blocked_on t ≡ Some (lock_queue k)
+      → is_turnstile (c.kind k) ≡ false
   pub closed : open_in c s.history t l ≡ NotHeld
   pub begun : s.has_begun t l ≡ true
 
@@ -117,8 +123,10 @@ phase_marked t u phase = if t == u then SelfAborted else phase
 -- the first marked thread has its object back and is woken
 unfoldable pub after_mark : Config → State → ℕ → Mark → List Mark → State
 after_mark c s t m ms = record s {
-  turnstile = if is_turnstile_queue c m.queue then put s.turnstile m.thread (Some m.object) else s.turnstile;
-  sleep_queue = if is_turnstile_queue c m.queue then s.sleep_queue else put s.sleep_queue m.thread (Some m.object);
+  turnstile = if is_turnstile_queue c m.queue then put s.turnstile m.thread (Some m.object) else
+      s.turnstile;
+  sleep_queue = if is_turnstile_queue c m.queue then s.sleep_queue else put s.sleep_queue m.thread
+      (Some m.object);
   blocked_on = put s.blocked_on m.thread None;
   wait = put s.wait m.thread (Woken m.queue m.cause);
   marked = put s.marked t ms;
@@ -126,9 +134,9 @@ after_mark c s t m ms = record s {
   phase = put s.phase t (phase_marked t m.thread (s.phase t));
 }
 
--- 4. A resume: a woken thread runs again. After a signal from a lock's queue it is called for that lock. An abort ends the wanting of a
--- lock and is noted, but in a taking back after a wait it only lets the thread look again. After a wake from a channel the lock of
--- the wait is wanted
+-- 4. A resume: a woken thread runs again. After a signal from a lock's queue it is called for that lock. An abort
+-- ends the wanting of a lock and is noted, but in a taking back after a wait it only lets the thread look again.
+-- After a wake from a channel the lock of the wait is wanted
 
 -- a thread that was woken from a channel has released the lock of its wait
 abbrev pub HasReleased : Config → State → ℕ → QueueName → Type 0
