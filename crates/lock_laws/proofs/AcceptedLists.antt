@@ -1,16 +1,19 @@
 -- Lists and options as the judging of a script's lines uses them, and what one operation more does to what operations lead to.
-use Rattle.std.proofs.Common.{◌≡◌, ℕ, zero, suc, ◌+◌, true, List, [], ◌∷◌, ◌++◌, take, slice_get, Option, Some, None, refl, sym, subst, arith}
-use Rattle.std.specs.Prelude.{is_none, unwrap_or, map, sum}
+use Rattle.std.proofs.Common.{◌≡◌, ◌≢◌, ℕ, zero, suc, ◌+◌, Bool, true, false, List, [], ◌∷◌, ◌++◌, length, slice_get, slice_set, Option, Some, None, refl, sym, ap, arith}
+use Rattle.std.specs.Prelude.{not, if◌then◌else◌, is_none, unwrap_or, map, sum}
 use Rattle.std.specs.List.{All}
-use Rattle.std.proofs.lemmas.Option.{none-some, same_Some}
+use Rattle.std.specs.Cmp.Lexicographic.{pointwise}
+use Rattle.std.proofs.lemmas.Bool.{and_parts, eqb-true, false≢true}
+use Rattle.std.proofs.lemmas.Option.{none-some}
 use Rattle.std.proofs.lemmas.List.{map-append}
 use Rattle.std.proofs.lemmas.List.Sums.{sum_by-append}
 use Rattle.std.proofs.lemmas.List.Elements.{All-head, All-tail}
 use Rattle.lock_model.specs.Counts.{is_empty}
-use Rattle.lock_model.specs.Operations.{held_behind, held_through, operation_tests}
+use Rattle.lock_model.specs.Operations.{held_behind, held_through}
 use Rattle.lock_model.specs.Tests.{Test, Passes, or_else, first_fault, least_code}
-use Rattle.lock_model.specs.declared.plan.LockDecl.{LockDecl}
-use Rattle.lock_model.specs.declared.plan.ChanDecl.{ChanDecl}
+use Rattle.lock_model.specs.Script.Faults.{is_same_mode, is_same_held}
+use Rattle.lock_model.specs.declared.plan.Mode.{Mode}
+use Rattle.lock_model.specs.declared.plan.Mode.TheVariants.{Excl, Shared}
 use Rattle.lock_model.specs.declared.plan.Op.{Op}
 use Rattle.lock_model.specs.declared.event.Held.{Held}
 
@@ -41,19 +44,64 @@ read_all P f d [] h p i = p
 read_all P f d (x ∷ xs) h p zero = All-head (λ y. P (f y)) x xs h
 read_all P f d (x ∷ xs) h p (suc i) = read_all P f d xs (All-tail (λ y. P (f y)) x xs h) p i
 
--- 2. One operation more
+-- 2. Lists with one element more, or one set
+
+pub get_push : {A : Type 0} (xs : List A) (x : A) → slice_get (xs ++ x ∷ []) (length xs) ≡ Some x
+get_push [] x = refl
+get_push (y ∷ xs) x = get_push xs x
+
+pub get_push_other : {A : Type 0} (xs : List A) (x : A) (n : ℕ) → n ≢ length xs → slice_get (xs ++ x ∷ []) n ≡ slice_get xs n
+get_push_other [] x zero h = absurd (h refl)
+get_push_other [] x (suc n) h = refl
+get_push_other (y ∷ xs) x zero h = refl
+get_push_other (y ∷ xs) x (suc n) h = get_push_other xs x n (λ e. h (ap suc e))
+
+pub get_set : {A : Type 0} (xs : List A) (i : ℕ) (x y : A) → slice_get xs i ≡ Some y → slice_get (slice_set xs i x) i ≡ Some x
+get_set [] i x y e = absurd (none-some y e)
+get_set (z ∷ xs) zero x y e = refl
+get_set (z ∷ xs) (suc i) x y e = get_set xs i x y e
+
+pub get_set_other : {A : Type 0} (xs : List A) (i : ℕ) (x : A) (n : ℕ) → n ≢ i → slice_get (slice_set xs i x) n ≡ slice_get xs n
+get_set_other [] i x n h = refl
+get_set_other (y ∷ xs) zero x zero h = absurd (h refl)
+get_set_other (y ∷ xs) zero x (suc n) h = refl
+get_set_other (y ∷ xs) (suc i) x zero h = refl
+get_set_other (y ∷ xs) (suc i) x (suc n) h = get_set_other xs i x n (λ e. h (ap suc e))
+
+-- 3. Lists of held locks
+
+-- what is held in the same way is the same
+same_mode : (g h : Mode) → is_same_mode g h ≡ true → g ≡ h
+same_mode Excl Excl e = refl
+same_mode Excl Shared e = absurd (false≢true e)
+same_mode Shared Excl e = absurd (false≢true e)
+same_mode Shared Shared e = refl
+
+same_way : (g h : Bool) → (if g then h else not h) ≡ true → g ≡ h
+same_way true h e = sym e
+same_way false true e = e
+same_way false false e = refl
+
+same_held : (g h : Held) → is_same_held g h ≡ true → g ≡ h
+same_held g h e =
+    let p = and_parts _ _ e in
+    let q = and_parts _ _ p.0 in
+    let l = eqb-true g.l.0 h.l.0 q.0 in
+    let mode = same_mode g.mode h.mode q.1 in
+    let way = same_way g.by_try h.by_try p.1 in
+    let parts : (g.l.0, g.mode, g.by_try) ≡ (h.l.0, h.mode, h.by_try) = cc (l, mode, way) in
+    ap (λ (x : ℕ × Mode × Bool). record { l = record { 0 = x.0 }; mode = x.1; by_try = x.2 }) parts
+
+pub same_list : (gs hs : List Held) → pointwise is_same_held gs hs ≡ true → gs ≡ hs
+same_list [] [] e = refl
+same_list [] (h ∷ hs) e = absurd (false≢true e)
+same_list (g ∷ gs) [] e = absurd (false≢true e)
+same_list (g ∷ gs) (h ∷ hs) e =
+    let p = and_parts (is_same_held g h) _ e in
+    let first = same_held g h p.0 in
+    let rest = same_list gs hs p.1 in
+    cc (first, rest)
 
 pub held_through-push : (ops : List Op) (op : Op) (hs : List Held) → held_through (ops ++ op ∷ []) hs ≡ held_behind op (held_through ops hs)
 held_through-push [] op hs = refl
 held_through-push (o ∷ ops) op hs = held_through-push ops op (held_behind o hs)
-
--- each of the operations passes its tests on what those before it lead to, from a list on
-abbrev pub EachPasses : List LockDecl → List ChanDecl → List Op → List Held → Type 0
-EachPasses locks chans ops hs = (n : ℕ) (o : Op) → slice_get ops n ≡ Some o → Passes (operation_tests locks chans o (held_through (take n ops) hs))
-
-pub each_push : (locks : List LockDecl) (chans : List ChanDecl) (ops : List Op) (op : Op) (hs : List Held) → EachPasses locks chans ops hs → Passes (operation_tests locks chans op (held_through ops hs))
-    → EachPasses locks chans (ops ++ op ∷ []) hs
-each_push locks chans [] op hs f last zero o e = subst (λ (x : Op). Passes (operation_tests locks chans x hs)) (same_Some op o e) last
-each_push locks chans [] op hs f last (suc n) o e = absurd (none-some o e)
-each_push locks chans (x ∷ ops) op hs f last zero o e = f 0 o e
-each_push locks chans (x ∷ ops) op hs f last (suc n) o e = each_push locks chans ops op (held_behind x hs) (λ m u i. f (suc m) u i) last n o e

@@ -1,42 +1,27 @@
 -- What a turn finds in a lawful state: words that can be, and objects where they are.
-use Rattle.std.proofs.Common.{◌≡◌, ◌⊎◌, ℕ, zero, suc, ◌+◌, ◌≤◌, true, not, ◌||◌, List, [], ◌∷◌, length, Option, Some, None, refl, sym, ap, inl, inr, arith, eq-eqb, ◌∙◌}
-use Rattle.lock_model.specs.Counts.{some, sum_below}
-use Rattle.lock_model.specs.Words.{Holder, Free, HeldBy, SharedBy, IsPossible, IsWellFormed, is_turnstile, owner_of, is_free, without_one, shows_waiters, is_drop}
-use Rattle.lock_model.specs.Holds.{is_exclusive, Hold, NotHeld, Holds}
+use Rattle.std.proofs.Common.{◌≡◌, ◌⊎◌, ℕ, ◌≤◌, true, false, not, ◌||◌, Option, Some, None, refl, sym, ap, inl, inr, arith, ◌∙◌}
+use Rattle.lock_model.specs.Words.{Holder, Free, HeldBy, SharedBy, IsWellFormed, word_of, bits_of, is_turnstile, owner_of, is_free, without_one, shows_waiters, is_drop}
+use Rattle.lock_model.specs.Holds.{is_exclusive, Holds}
 use Rattle.lock_model.specs.Config.{Config}
 use Rattle.lock_state.specs.State.{State}
-use Rattle.lock_model.specs.Queues.{Waiter, lock_queue, stands, times_waiting}
-use Rattle.lock_state.specs.Facts.{Lawful, TurnstileIsLent, WordsMatchHolders, OnlyThreadsHold, OnlyThreadsStand, HeadsFitWaiters, OwnersHold}
-use Rattle.lock_state.specs.Facts.Words.{owns, shares}
-use Rattle.lock_model.specs.declared.plan.Mode.TheVariants.{Excl, Shared}
+use Rattle.lock_model.specs.Queues.{lock_queue, stands}
+use Rattle.lock_state.specs.Facts.{Lawful, TurnstileIsLent, WordsMatchHolders, OnlyThreadsStand, HeadsFitWaiters, BitsShowWaiters, OwnersHold}
+use Rattle.lock_state.specs.Facts.Words.{owns}
+use Rattle.lock_model.specs.declared.plan.Mode.TheVariants.{Excl}
 use Rattle.lock_model.specs.declared.plan.QueueName.{QueueName}
-use Rattle.lock_laws.proofs.Sums.{sum_below-most}
-use Rattle.lock_laws.proofs.HeldLists.{exclusive_is}
+use Rattle.lock_laws.proofs.Words.{word_again}
+use Rattle.lock_laws.proofs.WordsAndHeads.{possible_holder, headless_bare}
 
 -- 1. Words
 
-shares_once : (x : Hold) → shares x ≤ 1
-shares_once NotHeld = omega arith
-shares_once (Holds Excl) = omega arith
-shares_once (Holds Shared) = omega arith
-
 -- the word of a lock, where there are few threads
 pub well_formed : (c : Config) (s : State) (l : ℕ) → Lawful c s → c.threads ≤ 64 → IsWellFormed (s.word l)
-unfolding WordsMatchHolders OnlyThreadsHold
-well_formed c s l h few = go (s.word l).holder refl
-  where
-    go : (x : Holder) → (s.word l).holder ≡ x → IsPossible x
-    go Free e = tt
-    go (HeldBy t) e =
-        let owned = (h.words.words_match_holders l).owner t ∙ ap (owns t) e ∙ eq-eqb t t refl in
-        let own = h.words.only_threads_hold t l Excl (exclusive_is (s.held t l) owned) in
-        omega arith
-    go (SharedBy zero) e = absurd ((h.words.words_match_holders l).some_sharer e)
-    go (SharedBy (suc n)) e =
-        let counted = (h.words.words_match_holders l).sharers_are_counted in
-        let most = sum_below-most c.threads (λ t. shares (s.held t l)) (λ t. shares_once (s.held t l)) in
-        let all : sum_below c.threads (λ t. shares (s.held t l)) ≡ suc n = rw e at counted in
-        (omega arith, omega arith)
+well_formed c s l h few = possible_holder c s l h few
+
+-- its bits say it again
+pub seen_again : (c : Config) (s : State) (l : ℕ) → Lawful c s → word_of (bits_of (s.word l)) ≡ s.word l
+unfolding WordsMatchHolders
+seen_again c s l h = word_again (s.word l) (h.words.words_match_holders l).some_sharer
 
 -- a release of a lock that is held exclusively is a drop exactly where no waiter is shown
 pub drop_where_none_shown : (c : Config) (s : State) (t l : ℕ) → Lawful c s → s.held t l ≡ Holds Excl → is_drop (s.word l) ≡ not (shows_waiters (s.word l))
@@ -59,19 +44,21 @@ has_turnstile c s t h e = go (s.turnstile t) refl
     go None f = absurd (let a = h.queues.turnstile_is_lent t in let b : 0 ≡ 1 = rw (e, f) at a in omega (arith, b))
     go (Some x) f = (x, f)
 
+-- a lock's queue has a head where its word shows waiters
+pub shown_head : (c : Config) (s : State) (l : ℕ) → Lawful c s → shows_waiters (s.word l) ≡ true → (x : ℕ) × (s.head (lock_queue l) ≡ Some x)
+unfolding BitsShowWaiters
+shown_head c s l h e = go (s.head (lock_queue l)) refl
+  where
+    go : (o : Option ℕ) → s.head (lock_queue l) ≡ o → (x : ℕ) × (s.head (lock_queue l) ≡ Some x)
+    go None i =
+        let bare = headless_bare c s (lock_queue l) h i in
+        let shown = h.queues.bits_show_waiters l in
+        absurd (let z : (false || false) ≡ true = rw (shown.exclusive, shown.shared, bare.no_exclusive, bare.no_shared) at e in cc)
+    go (Some x) i = (x, i)
+
 -- a queue without a head has no waiter,
 pub none_stands : (c : Config) (s : State) (q : QueueName) (t : ℕ) → Lawful c s → s.head q ≡ None → stands t (s.lists q) ≡ 0
-unfolding HeadsFitWaiters
-none_stands c s q t h e =
-    let f = h.queues.heads_fit_waiters q in
-    let a : some (s.head q) ≡ 0 = ap some e in
-    let b : length (s.free_list q) ≡ 0 = ap length (f.no_free e) in
-    none (s.lists q).exclusive (s.lists q).shared (omega (arith, f.balanced))
-  where
-    none : (xs ys : List Waiter) → length xs + length ys ≡ 0 → times_waiting t xs + times_waiting t ys ≡ 0
-    none [] [] i = refl
-    none (x ∷ xs) ys i = absurd (omega arith)
-    none [] (y ∷ ys) i = absurd (omega arith)
+none_stands c s q t h e = let bare = headless_bare c s q h e in rw (bare.no_exclusive, bare.no_shared) refl
 
 -- and no owner
 pub no_owner : (c : Config) (s : State) (q : QueueName) → Lawful c s → s.head q ≡ None → s.owner q ≡ None

@@ -1,5 +1,5 @@
--- Each operation that is behind a thread has made one entry, so the entries of a run are fewer than the operations while
--- one is left.
+-- Each operation that is behind a thread has made one entry at most, so the entries of a run are fewer than the
+-- operations while one is left.
 use Rattle.std.proofs.Common.{◌≡◌, ℕ, zero, suc, ◌+◌, ◌<◌, ◌≤◌, List, [], ◌∷◌, length, slice_get, refl, sym, ap, inl, inr, arith, ◌∙◌, subst, map}
 use Rattle.std.specs.Prelude.{unwrap_or}
 use Rattle.std.specs.List.{sum_by}
@@ -55,4 +55,4 @@ entries_below plan r t p k lt left =
 pub next_op_below : (plan : Plan) (r : Run) (t : ℕ) → IsProper plan → IsOnTrack plan r → t < length plan.threads
     → r.next_op t < length (operations_of plan t) → r.next_op t < 20000
 next_op_below plan r t p k lt left =
-    omega (arith, p.operations, k.entries, sum_below-at (length plan.threads) r.next_op t lt, entries_below plan r t p k lt left)
+    omega (arith, p.operations, sum-map (λ (d : ThreadDecl). length d.ops) plan.threads, in_all plan.threads, sum_below-at (length plan.threads) (λ u. length (operations_of plan u)) t lt)

@@ -40,7 +40,7 @@ tries = Try (lock 0) Excl 3 ∷ Release (lock 0) ∷ EndTry ∷ Show ∷ []
 busy : Entry
 busy = entry 0 0 (Busy (lock 0) 12)
 
-busy_goes_on : LeadsTo kind 1 tries (busy ∷ []) (Before 3)
+busy_goes_on : LeadsTo kind tries (busy ∷ []) (Before 3)
 unfolding busy tries
 busy_goes_on = law.goes_on busy law.begins refl (law.finds_busy (lock 0) Excl 3 12 (omega arith) refl refl)
 
@@ -54,7 +54,7 @@ abbrev past_of : Op → ℕ
 past_of (Try l mode past) = past
 past_of other = 0
 
-begins_at : (p : Place) → LeadsTo kind 1 tries [] p → p ≡ Before 0
+begins_at : (p : Place) → LeadsTo kind tries [] p → p ≡ Before 0
 unfolding tries
 begins_at p law.begins = refl
 begins_at p (law.skips_endtry {n = n} w e) =
@@ -65,12 +65,12 @@ begins_at p (law.skips_endtry {n = n} w e) =
 given_busy : (held : List Held) (n : ℕ) (o : Op) (p : Place) → Gives kind held n o (Busy (lock 0) 12) p → p ≡ Before (past_of o)
 given_busy held n o p (law.finds_busy l mode past seen well_formed is_held refused) = refl
 
-busy_goes_only_on : (p : Place) → LeadsTo kind 1 tries (busy ∷ []) p → p ≡ Before 3
+busy_goes_only_on : (p : Place) → LeadsTo kind tries (busy ∷ []) p → p ≡ Before 3
 unfolding tries busy
 busy_goes_only_on p (law.goes_on {n = n} {o = o} e w i g) =
     let z : n ≡ 0 = ap number (begins_at (Before n) w) in
     let f : slice_get tries 0 ≡ Some o = subst (λ m. slice_get tries m ≡ Some o) z i in
-    let d : p ≡ Before (past_of o) = given_busy (held_of 1 tries n) n o p g in
+    let d : p ≡ Before (past_of o) = given_busy (held_of tries n) n o p g in
     d ∙ sym (ap (λ x. Before (past_of x)) (same_Some (Try (lock 0) Excl 3) o f))
 busy_goes_only_on p (law.skips_endtry {n = n} w i) =
     let z : n ≡ 3 = ap number (busy_goes_only_on (Before n) w) in
@@ -83,7 +83,7 @@ busy_goes_only_on p (law.gives_back e w x) = absurd cc
 abbrev own : Event
 own = Shown (record { 0 = 100 }) (record { 0 = 100 })
 
-shows_behind_block : LeadsTo kind 1 tries (entry 1 0 own ∷ busy ∷ []) (Before 4)
+shows_behind_block : LeadsTo kind tries (entry 1 0 own ∷ busy ∷ []) (Before 4)
 unfolding tries
 shows_behind_block = law.goes_on (entry 1 0 own) busy_goes_on refl (law.shows (record { 0 = 100 }) (record { 0 = 100 }))
 
@@ -94,16 +94,16 @@ waits = Take (lock 0) Excl ∷ Sleep chan ∷ Release (lock 0) ∷ []
 slept : List Entry
 slept = entry 1 0 (Sleeps chan) ∷ entry 0 0 (Locked (lock 0) Excl) ∷ []
 
-sleeps_in_wait : LeadsTo kind 1 waits slept (Asleep 1)
+sleeps_in_wait : LeadsTo kind waits slept (Asleep 1)
 unfolding waits slept
 sleeps_in_wait = law.goes_on (entry 1 0 (Sleeps chan)) (law.goes_on (entry 0 0 (Locked (lock 0) Excl)) law.begins refl (law.locks (lock 0) Excl)) refl (law.sleeps chan)
 
-wakes_from_wait : LeadsTo kind 1 waits (entry 3 0 (Woke chan) ∷ slept) (Before 2)
+wakes_from_wait : LeadsTo kind waits (entry 3 0 (Woke chan) ∷ slept) (Before 2)
 unfolding waits
 wakes_from_wait = law.wakes_up (entry 3 0 (Woke chan)) sleeps_in_wait refl refl
 
 -- a halted wait gives its lock back, and that is all
-halted_gives_back : LeadsTo kind 1 waits (entry 3 0 (Unlocked (lock 0) Excl) ∷ entry 2 0 (HaltedChan chan) ∷ slept) (Cut [])
+halted_gives_back : LeadsTo kind waits (entry 3 0 (Unlocked (lock 0) Excl) ∷ entry 2 0 (HaltedChan chan) ∷ slept) (Cut [])
 unfolding waits
 halted_gives_back = law.gives_back (entry 3 0 (Unlocked (lock 0) Excl)) (law.is_woken_by_a_halt (entry 2 0 (HaltedChan chan)) sleeps_in_wait refl refl) refl
 
@@ -114,11 +114,11 @@ three_locks = Take (lock 0) Excl ∷ Take (lock 1) Excl ∷ Take (lock 2) Excl �
 first : List Entry
 first = entry 0 0 (Locked (lock 0) Excl) ∷ []
 
-holds_first : LeadsTo kind 3 three_locks first (Before 1)
+holds_first : LeadsTo kind three_locks first (Before 1)
 unfolding first three_locks
 holds_first = law.goes_on (entry 0 0 (Locked (lock 0) Excl)) law.begins refl (law.locks (lock 0) Excl)
 
-holds_both : LeadsTo kind 3 three_locks (entry 1 0 (Locked (lock 1) Excl) ∷ first) (Before 2)
+holds_both : LeadsTo kind three_locks (entry 1 0 (Locked (lock 1) Excl) ∷ first) (Before 2)
 unfolding three_locks
 holds_both = law.goes_on (entry 1 0 (Locked (lock 1) Excl)) holds_first refl (law.locks (lock 1) Excl)
 
@@ -128,11 +128,11 @@ held l = record { l = lock l; mode = Excl; by_try = false }
 abbrev refused : List Entry
 refused = entry 2 0 (Reversed (lock 2) (record { 0 = 0 })) ∷ entry 1 0 (Locked (lock 1) Excl) ∷ first
 
-was_refused : LeadsTo kind 3 three_locks refused (Cut (held 1 ∷ held 0 ∷ []))
+was_refused : LeadsTo kind three_locks refused (Cut (held 1 ∷ held 0 ∷ []))
 unfolding three_locks
 was_refused = law.goes_on (entry 2 0 (Reversed (lock 2) (record { 0 = 0 }))) holds_both refl (law.is_reversed (lock 2) Excl (record { 0 = 0 }))
 
-gives_back : LeadsTo kind 3 three_locks (entry 4 0 (Unlocked (lock 0) Excl) ∷ entry 3 0 (Unlocked (lock 1) Excl) ∷ refused) (Cut [])
+gives_back : LeadsTo kind three_locks (entry 4 0 (Unlocked (lock 0) Excl) ∷ entry 3 0 (Unlocked (lock 1) Excl) ∷ refused) (Cut [])
 gives_back = law.gives_back (entry 4 0 (Unlocked (lock 0) Excl)) (law.gives_back (entry 3 0 (Unlocked (lock 1) Excl)) was_refused refl) refl
 
 -- 2. Sleepers. Thread 0, of base 100, sleeps first, then thread 1, of base 50, then thread 2, of base 50; thread 3 wakes them

@@ -77,13 +77,15 @@ module _ (plan : Plan) (r : Run) (t : ℕ) where
   answered _ (table.marks m ms w e) = acts _ refl
   answered _ (table.is_queued e f q) = idles refl (λ p k. record { going = e; queued = q; no_walk = f.no_walk; unmarked = f.unmarked })
   answered _ (table.resumes q cause f e) = acts _ refl
-  answered _ (table.gains l mode i e) = acts _ refl
+  answered _ (table.gains by i a f) = acts _ refl
+  answered _ (table.claims by i a f) = acts _ refl
   answered _ (table.enters l mode i e) = acts _ refl
+  answered _ (table.finds_busy l mode past i e) = acts _ refl
   answered _ (table.drops l i e) = acts _ refl
   answered _ (table.opens l i e) = acts _ refl
   answered _ (table.makes_entry op e i n) = acts _ refl
   answered _ (table.has_no_operation e i) = idles refl (λ p k. absurd (let z = sym e ∙ no_operation_left plan r t p k i in cc))
-  answered _ (table.is_not_run op i e) = idles refl (λ p k. absurd (let z = sym e ∙ runs_next plan p t (r.next_op t) op i.next in cc))
+  answered _ (table.is_not_run op i e) = idles refl (λ p k. absurd (let z = sym e ∙ runs_next plan p t (r.next_op t) op (k.no_endtry t) i.next in cc))
 
   answer : Answers plan r t (turn_of plan r t)
   answer = answered (turn_of plan r t) (table.fits plan r t)
@@ -106,9 +108,9 @@ module _ (plan : Plan) (r : Run) (t : ℕ) where
   unfolding turn_of
   over_answer e = rw e refl
 
-  same_run : (row : Row) → Answers plan r t row → (row.answer ≡ Idle) ⊎ (row.answer ≡ Ended) → run_after (config_of plan) r t row ≡ r
-  same_run row (ended f e) i = ap (run_after (config_of plan) r t) f
-  same_run row (idles f sleeps) i = ap (run_after (config_of plan) r t) f
+  same_run : (row : Row) → Answers plan r t row → (row.answer ≡ Idle) ⊎ (row.answer ≡ Ended) → run_after plan r t row ≡ r
+  same_run row (ended f e) i = ap (run_after plan r t) f
+  same_run row (idles f sleeps) i = ap (run_after plan r t) f
   same_run row (acts kind e) (inl i) = absurd (let z = sym e ∙ i in cc)
   same_run row (acts kind e) (inr i) = absurd (let z = sym e ∙ i in cc)
 

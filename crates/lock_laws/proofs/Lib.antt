@@ -26,6 +26,7 @@ pub mod Best
 pub mod Derived
 pub mod Rows
 pub mod Histories
+pub mod Endtries
 pub mod HeldLists
 pub mod Table
 pub mod Follows
@@ -33,7 +34,8 @@ pub mod Entries
 pub mod OnTrack
 pub mod TurnsOfWalks
 pub mod TurnsOfWaits
-pub mod TurnsOfLocks
+pub mod TurnsOfGains
+pub mod TurnsOfReleases
 pub mod TurnsOfNotes
 pub mod Turning
 pub mod LegalRuns
@@ -54,6 +56,7 @@ pub mod NodesOfHeads
 pub mod Sums
 pub mod Beyond
 pub mod AcceptedLists
+pub mod AcceptedBlocks
 pub mod Accepted
 pub mod WordsAndHeads
 pub mod FloorSteps

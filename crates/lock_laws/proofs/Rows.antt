@@ -12,10 +12,14 @@ use Rattle.lock_state.specs.Steps.SleepQueues.{after_enter_sleep, after_open_sle
 use Rattle.lock_state.specs.Steps.Lending.{after_claim, after_lend, after_shift, after_end_walk}
 use Rattle.lock_state.specs.Steps.Items.{RecordOf, after_take, after_give}
 use Rattle.lock_state.specs.Steps.{Step, Looks, TakesItem, GivesItem, Gains, Stamps, Readies, Enters, Opens, Marks, Resumes, Claims, Lends, Shifts, after_all, EntersSleepQueue, OpensSleepQueue, Adds, Wakes, Drops}
+use Rattle.lock_state.specs.Run.{Run}
+use Rattle.lock_state.specs.Run as run
 use Rattle.lock_model.specs.declared.plan.Kind.{Kind}
 use Rattle.lock_model.specs.declared.plan.Kind.TheVariants.{Mtx, Rw, Sx}
 use Rattle.lock_model.specs.declared.plan.Mode.{Mode}
 use Rattle.lock_model.specs.declared.plan.Mode.TheVariants.{Excl, Shared}
+use Rattle.lock_model.specs.declared.turn.StepKind.TheVariants.{Claim, Note}
+use Rattle.lock_model.specs.declared.turn.Turn.TheVariants.{Did}
 use Rattle.lock_model.specs.declared.event.Event.TheVariants.{Locked, Busy, Unlocked, Sleeps, WokeOne}
 
 unfoldable pub at : {A : Type 0} → List A → A → ℕ → A
@@ -154,6 +158,12 @@ claimed_is : (s : State) → s ≡ after_all (readers 95) (start_state (readers 
 unfolding readers woken_writer start_state after_look after_gain after_stamp after_drop after_take after_give after_ready after_enter after_open after_mark after_resume after_claim after_lend after_shift after_end_walk put put_at put_queue least sum_below at plan takes blocks opens mark
 claimed_is s e = rw e (refl, refl, refl, refl)
 
+-- so the table of turns has it make a claim
+makes_claim : (r : Run) → r.state ≡ after_all (readers 95) (start_state (readers 95)) woken_writer
+    → run.gains (readers 95) r 4 (record { 0 = 0 }) Excl false (Locked (record { 0 = 0 }) Excl) ≡ run.ends r 4 Claim (Claims 4 0 1 false ∷ Stamps 4 (Locked (record { 0 = 0 }) Excl) ∷ [])
+unfolding readers woken_writer start_state after_look after_gain after_stamp after_drop after_take after_give after_ready after_enter after_open after_mark after_resume after_claim after_lend after_shift after_end_walk put put_at put_queue least sum_below at plan takes blocks opens mark
+makes_claim r e = rw e refl
+
 -- 6. A reader behind a waiting writer: r of 100 reads, w of 90 waits to write, n of 80 tries to read and then waits to
 
 behind : Config
@@ -166,6 +176,12 @@ tried = takes 0 0 Shared ++ blocks 1 0 Excl 1 ++ Looks 2 0 false ∷ Stamps 2 (B
 tried_is : (s : State) → s ≡ after_all behind (start_state behind) (takes 0 0 Shared ++ blocks 1 0 Excl 1 ++ Looks 2 0 false ∷ []) → (s.last_look 2 ≡ Some (record { lock = 0; word = word_of 9 })) × (bits_of (s.word 0) ≡ 9)
 unfolding behind start_state after_look after_gain after_stamp after_drop after_take after_give after_ready after_enter after_open after_mark after_resume after_claim after_lend after_shift after_end_walk put put_at put_queue least sum_below at plan takes blocks opens mark
 tried_is s e = rw e (refl, refl)
+
+-- the table of turns has it find the lock busy, and go on behind its block
+finds_busy_is : (r : Run) (past : ℕ) → r.state ≡ after_all behind (start_state behind) (takes 0 0 Shared ++ blocks 1 0 Excl 1)
+    → run.tries behind r 2 (record { 0 = 0 }) Shared past ≡ record { answer = Did Note; steps = Looks 2 0 false ∷ Stamps 2 (Busy (record { 0 = 0 }) 9) ∷ []; next = Some past }
+unfolding behind start_state after_look after_gain after_stamp after_drop after_take after_give after_ready after_enter after_open after_mark after_resume after_claim after_lend after_shift after_end_walk put put_at put_queue least sum_below at plan takes blocks opens mark
+finds_busy_is r past e = rw e refl
 
 -- at the end w has turnstile n, and n has turnstile w
 exchanged_is : (s : State) → s ≡ after_all behind (start_state behind) (tried ++ opens 0 0 Shared ++ Marks 0 (mark 1 2 0) [] ∷ Resumes 1 (lock_queue 0) BySignal ∷ Claims 1 0 1 false ∷ Stamps 1 (Locked (record { 0 = 0 }) Excl) ∷ opens 1 0 Excl ++ Marks 1 (mark 2 1 0) [] ∷ []) → (s.turnstile 1 ≡ Some 2) × (s.turnstile 2 ≡ Some 1) × (s.head (lock_queue 0) ≡ None) × (s.effective 1 ≡ 90)

@@ -1,15 +1,17 @@
 -- The table of turns, row by row: each row with what the thread is found at where that row is the first that fits.
 -- What is proved of a turn is proved by these cases.
 use Rattle.std.proofs.Common.{◌≡◌, ◌⊎◌, ℕ, Bool, true, false, cond, ◌&&◌, ltb, nat_le, List, [], ◌∷◌, length, slice_get, Option, Some, None, refl, sym, inl, inr, arith, ◌∙◌}
+use Rattle.std.specs.Prelude.{unwrap_or}
 use Rattle.std.proofs.lemmas.Bool.{lt-leb}
 use Rattle.std.proofs.lemmas.Option.{slice_get_within}
 use Rattle.lock_model.specs.Plans.{config_of, operations_of}
-use Rattle.lock_model.specs.Words.{admits, is_drop, is_turnstile, owner_of}
+use Rattle.lock_model.specs.Words.{admits, is_plain, is_drop, is_turnstile, owner_of}
 use Rattle.lock_model.specs.Queues.{Mark, Cause, lock_queue, stands}
 use Rattle.lock_model.specs.Config.{Config}
 use Rattle.lock_state.specs.State.{State, Wait, Running, Queued, Woken, Walk, NoWalk, AtLock, AtThread}
-use Rattle.lock_state.specs.Steps.{Gains, Drops, Stamps, Opens, Marks, Resumes, Lends, Shifts, EndsWalk}
-use Rattle.lock_state.specs.Run.{Run, Row, turn_of, has_ended, owes, holds_none, nothing, does, ends, blocks, notes, takes, releases, mode_held, operates, by_wait, by_marked, by_walk, walks_at_lock, walks_at_thread}
+use Rattle.lock_state.specs.Steps.{Gains, Claims, Drops, Stamps, Opens, Marks, Resumes, Lends, Shifts, EndsWalk}
+use Rattle.lock_state.specs.Run.{Run, Row, turn_of, has_ended, owes, holds_none, nothing, does, ends, blocks, notes, takes, tries, releases, mode_held, operates, by_wait, by_marked, by_walk, walks_at_lock, walks_at_thread}
+use Rattle.lock_state.specs.Run as run
 use Rattle.lock_model.specs.declared.numbers.LockNo.{LockNo}
 use Rattle.lock_model.specs.declared.numbers.Prio.{Prio}
 use Rattle.lock_model.specs.declared.plan.Mode.{Mode}
@@ -23,7 +25,7 @@ use Rattle.lock_model.specs.declared.turn.Turn.TheVariants.{Idle, Ended}
 use Rattle.lock_model.specs.declared.event.Event.{Event}
 use Rattle.lock_model.specs.declared.event.Event.TheVariants as event
 use Rattle.lock_laws.specs.OnTrack.{OwesNothing, IsAtOperation}
-use Rattle.lock_laws.proofs.HeldLists.{is_run}
+use Rattle.lock_laws.proofs.HeldLists.{Gaining, by_taking, by_trying, is_run}
 
 -- 1. The rows
 
@@ -53,16 +55,22 @@ pub data Fits (plan : Plan) (r : Run) (t : ℕ) : Row → Type 0 where
   marks : (m : Mark) (ms : List Mark) → r.state.walk t ≡ NoWalk → r.state.marked t ≡ m ∷ ms → Fits plan r t (does kind.Mark (Marks t m ms ∷ []))
   is_queued : has_ended plan r t ≡ false → OwesNothing r t → r.state.wait t ≡ Queued → Fits plan r t (nothing Idle)
   resumes : (q : QueueName) (cause : Cause) → OwesNothing r t → r.state.wait t ≡ Woken q cause → Fits plan r t (does kind.Resume (Resumes t q cause ∷ []))
-  gains : (l : LockNo) (mode : Mode) → IsAtOperation plan r t (Some (Take l mode)) → admits ((config_of plan).kind l.0) (r.state.word l.0) mode ≡ true
-      → Fits plan r t (ends r t kind.Gain (Gains t l.0 mode false ∷ Stamps t (event.Locked l mode) ∷ []))
+  gains : {l : LockNo} {mode : Mode} {op : Op} {by_try : Bool} {e : Event} → Gaining l mode op by_try e → IsAtOperation plan r t (Some op)
+      → admits ((config_of plan).kind l.0) (r.state.word l.0) mode ≡ true → is_plain ((config_of plan).kind l.0) (r.state.word l.0) mode ≡ true
+      → Fits plan r t (ends r t kind.Gain (Gains t l.0 mode by_try ∷ Stamps t e ∷ []))
+  claims : {l : LockNo} {mode : Mode} {op : Op} {by_try : Bool} {e : Event} → Gaining l mode op by_try e → IsAtOperation plan r t (Some op)
+      → admits ((config_of plan).kind l.0) (r.state.word l.0) mode ≡ true → is_plain ((config_of plan).kind l.0) (r.state.word l.0) mode ≡ false
+      → Fits plan r t (ends r t kind.Claim (Claims t l.0 (unwrap_or (r.state.head (lock_queue l.0)) t) by_try ∷ Stamps t e ∷ []))
   enters : (l : LockNo) (mode : Mode) → IsAtOperation plan r t (Some (Take l mode)) → admits ((config_of plan).kind l.0) (r.state.word l.0) mode ≡ false
       → Fits plan r t (blocks r t l mode)
+  finds_busy : (l : LockNo) (mode : Mode) (past : ℕ) → IsAtOperation plan r t (Some (Try l mode past)) → admits ((config_of plan).kind l.0) (r.state.word l.0) mode ≡ false
+      → Fits plan r t (run.finds_busy r t l past)
   drops : (l : LockNo) → IsAtOperation plan r t (Some (Release l)) → is_drop (r.state.word l.0) ≡ true
       → Fits plan r t (ends r t kind.Drop (Stamps t (event.Unlocked l (mode_held (r.state.held t l.0))) ∷ Drops t l.0 (mode_held (r.state.held t l.0)) ∷ []))
   opens : (l : LockNo) → IsAtOperation plan r t (Some (Release l)) → is_drop (r.state.word l.0) ≡ false
       → Fits plan r t (ends r t kind.OpenUp (Stamps t (event.Unlocked l (mode_held (r.state.held t l.0))) ∷ Opens t l.0 (mode_held (r.state.held t l.0)) ∷ []))
   makes_entry : (op : Op) (e : Event) → IsAtOperation plan r t (Some op) → Notes r t op e → Fits plan r t (notes r t e)
-  -- no thread of a proper plan comes to these two
+  -- no thread of a proper plan's run comes to these two
   has_no_operation : has_ended plan r t ≡ false → IsAtOperation plan r t None → Fits plan r t (nothing Idle)
   is_not_run : (op : Op) → IsAtOperation plan r t (Some op) → is_run op ≡ false → Fits plan r t (nothing Idle)
 
@@ -88,12 +96,33 @@ module _ (plan : Plan) (r : Run) (t : ℕ) where
   at_thread o None w e = ends_at_thread o w (λ l j. absurd (let z = sym e ∙ j in cc))
 
   module _ (going : has_ended plan r t ≡ false) where
+    gained : {l : LockNo} {mode : Mode} {op : Op} {by_try : Bool} {e : Event} → Gaining l mode op by_try e → IsAtOperation plan r t (Some op)
+        → admits (c.kind l.0) (s.word l.0) mode ≡ true → Fits plan r t (run.gains c r t l mode by_try e)
+    gained {l} {mode} {op} {by_try} {e} by i a = go (is_plain (c.kind l.0) (s.word l.0) mode) refl
+      where
+        plain : Row
+        plain = ends r t kind.Gain (Gains t l.0 mode by_try ∷ Stamps t e ∷ [])
+
+        claim : Row
+        claim = ends r t kind.Claim (Claims t l.0 (unwrap_or (s.head (lock_queue l.0)) t) by_try ∷ Stamps t e ∷ [])
+
+        go : (b : Bool) → is_plain (c.kind l.0) (s.word l.0) mode ≡ b → Fits plan r t (cond b plain claim)
+        go true f = gains by i a f
+        go false f = claims by i a f
+
     taken : (l : LockNo) (mode : Mode) → IsAtOperation plan r t (Some (Take l mode)) → Fits plan r t (takes c r t l mode)
     taken l mode i = go (admits (c.kind l.0) (s.word l.0) mode) refl
       where
-        go : (b : Bool) → admits (c.kind l.0) (s.word l.0) mode ≡ b → Fits plan r t (cond b (ends r t kind.Gain (Gains t l.0 mode false ∷ Stamps t (event.Locked l mode) ∷ [])) (blocks r t l mode))
-        go true e = gains l mode i e
+        go : (b : Bool) → admits (c.kind l.0) (s.word l.0) mode ≡ b → Fits plan r t (cond b (run.gains c r t l mode false (event.Locked l mode)) (blocks r t l mode))
+        go true e = gained by_taking i e
         go false e = enters l mode i e
+
+    tried : (l : LockNo) (mode : Mode) (past : ℕ) → IsAtOperation plan r t (Some (Try l mode past)) → Fits plan r t (tries c r t l mode past)
+    tried l mode past i = go (admits (c.kind l.0) (s.word l.0) mode) refl
+      where
+        go : (b : Bool) → admits (c.kind l.0) (s.word l.0) mode ≡ b → Fits plan r t (cond b (run.gains c r t l mode true (event.Tried l mode)) (run.finds_busy r t l past))
+        go true e = gained (by_trying past) i e
+        go false e = finds_busy l mode past i e
 
     released : (l : LockNo) → IsAtOperation plan r t (Some (Release l)) → Fits plan r t (releases r t l (mode_held (s.held t l.0)))
     released l i = go (is_drop (s.word l.0)) refl
@@ -109,7 +138,7 @@ module _ (plan : Plan) (r : Run) (t : ℕ) where
     operated : (o : Option Op) → IsAtOperation plan r t o → Fits plan r t (operates c r t o)
     operated None i = has_no_operation going i
     operated (Some (Take l mode)) i = taken l mode i
-    operated (Some (Try l mode past)) i = is_not_run (Try l mode past) i refl
+    operated (Some (Try l mode past)) i = tried l mode past i
     operated (Some EndTry) i = is_not_run EndTry i refl
     operated (Some (Release l)) i = released l i
     operated (Some (Set l key value)) i = makes_entry (Set l key value) (event.Set l key value) i (sets l key value)

@@ -1,6 +1,6 @@
 -- Each step of a turn of a proper plan's thread may be made, and the turn leaves the run on track. So each run is on
 -- track, and each of its states is one that steps reach.
-use Rattle.std.proofs.Common.{◌≡◌, ℕ, zero, suc, ◌+◌, ◌<◌, ◌≤◌, Bool, true, false, not, cond, List, [], ◌∷◌, length, All, refl, sym, arith, subst}
+use Rattle.std.proofs.Common.{◌≡◌, ℕ, zero, suc, ◌+◌, ◌<◌, ◌≤◌, Bool, true, false, not, cond, List, [], ◌∷◌, length, All, refl, arith, subst}
 use Rattle.std.specs.List.{range_with_len}
 use Rattle.std.proofs.lemmas.List.Elements.{All-nil, All-cons, All-head, All-tail, All-map, All-filter}
 use Rattle.lock_model.specs.Plans.{config_of}
@@ -15,20 +15,17 @@ use Rattle.lock_state.specs.Steps.{MayAll, IsReachable, begins}
 use Rattle.lock_state.specs.Steps.Items.{TurnstileChain, SleepChain, RecordOf, CellOf, ClassGraph}
 use Rattle.lock_state.specs.Facts.{Lawful, NothingIsOut, QueuedStands}
 use Rattle.lock_state.specs.Run.{Run, Row, Course, start_run, turn_of, run_after, run_behind, after_turns, course_after, has_ended, round_of, threads_of, with_turn, after_turn, go_on, is_over}
-use Rattle.lock_model.specs.declared.plan.Mode.TheVariants.{Excl, Shared}
-use Rattle.lock_model.specs.declared.plan.Op.TheVariants.{Take}
 use Rattle.lock_model.specs.declared.plan.Plan.{Plan}
 use Rattle.lock_laws.specs.OnTrack.{IsOnTrack, IsCall, is_of_sleep}
-use Rattle.lock_laws.proofs.Kit.{sum_below-zero}
 use Rattle.lock_laws.proofs.Steps.{all_keep, all_reach}
 use Rattle.lock_laws.proofs.StateAtStart as start
 use Rattle.lock_laws.proofs.Follows.{followed, still_no_sleeps}
-use Rattle.lock_laws.proofs.OnTrack.{KeepsTrack, all_made, all_waiting, fit}
-use Rattle.lock_laws.proofs.HeldLists.{never_shared}
+use Rattle.lock_laws.proofs.OnTrack.{KeepsTrack, all_made, all_waiting}
 use Rattle.lock_laws.proofs.Table as table
 use Rattle.lock_laws.proofs.TurnsOfWalks as walks
 use Rattle.lock_laws.proofs.TurnsOfWaits as waits
-use Rattle.lock_laws.proofs.TurnsOfLocks as locks
+use Rattle.lock_laws.proofs.TurnsOfGains as gains
+use Rattle.lock_laws.proofs.TurnsOfReleases as releases
 use Rattle.lock_laws.proofs.TurnsOfNotes as noting
 
 -- 1. The begin
@@ -46,7 +43,8 @@ unfolding start_state sections_in QueuedStands
 begins_on_track plan p = record {
   lawful = record { lawful = start.lawful (config_of plan); nothing_out = nothing_out (config_of plan); queued_stands = λ t e. absurd cc };
   within = λ t. omega arith;
-  entries = sym (sum_below-zero (length plan.threads) (λ t. 0) (λ t i. refl));
+  no_endtry = λ t e. let b = (p.fits t).endtries 0 e in absurd (omega (arith, b.before));
+  entries = omega arith;
   follows = λ t. leads_nowhere;
   no_sleeps = All-nil (λ (e : Entry). is_of_sleep e.event ≡ false);
   holds = λ t l. refl;
@@ -63,7 +61,7 @@ begins_on_track plan p = record {
 -- the row's steps may be made, and they keep the run on track
 record IsMade (plan : Plan) (r : Run) (t : ℕ) (row : Row) : Type 0 where
   may : MayAll (config_of plan) r.state row.steps
-  keeps : KeepsTrack plan (run_after (config_of plan) r t row)
+  keeps : KeepsTrack plan (run_after plan r t row)
 
 module _ (plan : Plan) (r : Run) (t : ℕ) (p : IsProper plan) (k : IsOnTrack plan r) (lt : t < length plan.threads) where
   abbrev c : Config
@@ -85,12 +83,12 @@ module _ (plan : Plan) (r : Run) (t : ℕ) (p : IsProper plan) (k : IsOnTrack pl
   made _ (table.marks m ms w e) = record { may = (waits.may_mark plan r t k lt m ms e, tt); keeps = waits.marked plan r t k lt m ms e }
   made _ (table.is_queued e f i) = record { may = tt; keeps = unmoved }
   made _ (table.resumes q cause f e) = record { may = (waits.may_resume plan r t k lt q cause e, tt); keeps = waits.resumed plan r t k lt q cause e }
-  made _ (table.gains l Excl i e) = record { may = locks.may_gain_all plan r t p k lt l i e; keeps = locks.gained plan r t p k lt l i }
-  made _ (table.gains l Shared i e) = absurd (never_shared plan p l _ _ (fit plan r t p (Take l Shared) i.next))
-  made _ (table.enters l Excl i e) = record { may = locks.may_block_all plan r t p k lt l i e; keeps = locks.blocked plan r t p k lt l i }
-  made _ (table.enters l Shared i e) = absurd (never_shared plan p l _ _ (fit plan r t p (Take l Shared) i.next))
-  made _ (table.drops l i e) = record { may = locks.may_drop_all plan r t p k lt l i e; keeps = locks.dropped plan r t p k lt l i }
-  made _ (table.opens l i e) = record { may = locks.may_open_all plan r t p k lt l i e; keeps = locks.opened plan r t p k lt l i }
+  made _ (table.gains by i a f) = record { may = gains.may_gain_all plan r t p k lt by i a f; keeps = gains.gained plan r t p k lt by i }
+  made _ (table.claims by i a f) = record { may = gains.may_claim_all plan r t p k lt by i a f; keeps = gains.claimed plan r t p k lt by i a f }
+  made _ (table.enters l mode i e) = record { may = gains.may_block_all plan r t p k lt l mode i e; keeps = gains.blocked plan r t p k lt l mode i }
+  made _ (table.finds_busy l mode past i e) = record { may = gains.may_find_busy_all plan r t p k lt l mode past i e; keeps = gains.found_busy plan r t p k lt l mode past i }
+  made _ (table.drops l i e) = record { may = releases.may_drop_all plan r t p k lt l i e; keeps = releases.dropped plan r t p k lt l i }
+  made _ (table.opens l i e) = record { may = releases.may_open_all plan r t p k lt l i e; keeps = releases.opened plan r t p k lt l i }
   made _ (table.makes_entry op e i n) =
       let noted = noting.is_noted plan r t p k lt op e n i.next in
       record { may = (noting.may_note plan r t p k lt op e i.running noted, tt); keeps = noting.noted plan r t p k lt op e i.next noted }
@@ -115,6 +113,7 @@ module _ (plan : Plan) (r : Run) (t : ℕ) (p : IsProper plan) (k : IsOnTrack pl
   turned = record {
     lawful = record { lawful = lawful; nothing_out = kept.out; queued_stands = kept.waiting.stands };
     within = kept.made.within;
+    no_endtry = kept.made.no_endtry;
     entries = kept.made.entries;
     follows = followed plan r t p k lt;
     no_sleeps = still_no_sleeps plan r t p k lt;

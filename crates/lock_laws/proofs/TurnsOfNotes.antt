@@ -1,13 +1,13 @@
 -- The turns of a thread whose operation only makes an entry: the entry may be made, and the run stays on track.
-use Rattle.std.proofs.Common.{◌≡◌, ◌≢◌, ℕ, ◌<◌, Bool, true, false, not, List, length, Option, refl, sym, ap, ◌∙◌}
+use Rattle.std.proofs.Common.{◌≡◌, ◌≢◌, ℕ, ◌<◌, Bool, true, false, not, List, length, Option, suc, arith, refl, sym, ◌∙◌}
 use Rattle.lock_model.proofs.LeastCodes.{passed}
 use Rattle.lock_model.specs.Plans.{config_of}
 use Rattle.lock_model.specs.Operations.{IsProper, hold_in}
 use Rattle.lock_model.specs.Holds.{is_unheld, NotHeld, Holds, is_exclusive}
 use Rattle.lock_model.specs.Config.{Config}
-use Rattle.lock_model.specs.History.{Sections, sections_by, sections_in, open_in}
+use Rattle.lock_model.specs.History.{open_in}
 use Rattle.lock_state.specs.State.{State, Running, Wake}
-use Rattle.lock_state.specs.Steps.LockWords.{Asks, MayStamp, begun_after, unstamped_after, after_stamp}
+use Rattle.lock_state.specs.Steps.LockWords.{Asks, MayStamp, unstamped_after, changes_sections, after_stamp}
 use Rattle.lock_state.specs.Run.{Run, notes, run_after}
 use Rattle.lock_model.specs.declared.plan.Mode.TheVariants.{Excl}
 use Rattle.lock_model.specs.declared.plan.Op.{Op}
@@ -16,22 +16,21 @@ use Rattle.lock_model.specs.declared.plan.Plan.{Plan}
 use Rattle.lock_model.specs.declared.event.Event.{Event}
 use Rattle.lock_model.specs.declared.event.Held.{Held}
 use Rattle.lock_laws.specs.OnTrack.{IsOnTrack}
-use Rattle.lock_laws.proofs.Kit.{each_place}
-use Rattle.lock_laws.proofs.HeldLists.{exclusive_is, held_is}
-use Rattle.lock_laws.proofs.OnTrack.{KeepsTrack, goes_on, own_section, other_section, stamped_behind, acting, before, behind, Next, left, fit, is_take, wants_none}
+use Rattle.lock_laws.proofs.Shown.{exclusive_is}
+use Rattle.lock_laws.proofs.HeldLists.{held_is}
+use Rattle.lock_laws.proofs.OnTrack.{KeepsTrack, goes_on, ends_quietly, acting, before, behind, Next, left, fit, is_take}
 use Rattle.lock_laws.proofs.Table.{Notes, sets, adds, gets, changes_base, shows}
 
 not_true : (b : Bool) → not b ≡ true → b ≡ false
 not_true true e = absurd cc
 not_true false e = refl
 
--- an operation that leaves what is held and whose entry the sections allow; it begins and ends no section, and notes no wake
+-- an operation that leaves what is held, and whose entry the sections allow; it changes no section, and notes no wake
 pub record IsNoted (plan : Plan) (r : Run) (t : ℕ) (op : Op) (e : Event) : Type 0 where
   pub same : before plan r t ≡ behind plan r t
   pub asks : Asks (config_of plan) r.state t e
   pub no_take : is_take op ≡ false
-  pub same_sections : (l : ℕ) (x : Sections) → (sections_by (config_of plan) e l x).now ≡ x.now
-  pub same_begun : (u : ℕ) (f : ℕ → ℕ → Bool) → begun_after (config_of plan) e u f ≡ f
+  pub quiet : changes_sections e ≡ false
   pub no_wake : (w : Option Wake) → unstamped_after e w ≡ w
 
 module _ (plan : Plan) (r : Run) (t : ℕ) (p : IsProper plan) (k : IsOnTrack plan r) (lt : t < length plan.threads) where
@@ -54,40 +53,27 @@ module _ (plan : Plan) (r : Run) (t : ℕ) (p : IsProper plan) (k : IsOnTrack pl
   pub is_noted : (op : Op) (e : Event) → Notes r t op e → Next plan r t op → IsNoted plan r t op e
   is_noted _ _ (sets l key value) next =
       let f = fit plan r t p (operation.Set l key value) next in
-      record { same = f.behind; asks = open_exclusive l.0 (passed _ _ (passed _ _ f.passes).1).0; no_take = refl; same_sections = λ j x. refl; same_begun = λ u g. refl; no_wake = λ w. refl }
+      record { same = f.behind; asks = open_exclusive l.0 (passed _ _ (passed _ _ f.passes).1).0; no_take = refl; quiet = refl; no_wake = λ w. refl }
   is_noted _ _ (adds l key amount) next =
       let f = fit plan r t p (operation.Add l key amount) next in
-      record { same = f.behind; asks = open_exclusive l.0 (passed _ _ (passed _ _ f.passes).1).0; no_take = refl; same_sections = λ j x. refl; same_begun = λ u g. refl; no_wake = λ w. refl }
+      record { same = f.behind; asks = open_exclusive l.0 (passed _ _ (passed _ _ f.passes).1).0; no_take = refl; quiet = refl; no_wake = λ w. refl }
   is_noted _ _ (gets l key) next =
       let f = fit plan r t p (operation.Get l key) next in
-      record { same = f.behind; asks = (some_open l.0 (not_true (is_unheld (hold_in held_before l.0)) (passed _ _ f.passes).0), refl); no_take = refl; same_sections = λ j x. refl; same_begun = λ u g. refl; no_wake = λ w. refl }
+      record { same = f.behind; asks = (some_open l.0 (not_true (is_unheld (hold_in held_before l.0)) (passed _ _ f.passes).0), refl); no_take = refl; quiet = refl; no_wake = λ w. refl }
   is_noted _ _ (changes_base prio) next =
-      record { same = (fit plan r t p (operation.Base prio) next).behind; asks = tt; no_take = refl; same_sections = λ j x. refl; same_begun = λ u g. refl; no_wake = λ w. refl }
+      record { same = (fit plan r t p (operation.Base prio) next).behind; asks = tt; no_take = refl; quiet = refl; no_wake = λ w. refl }
   is_noted _ _ shows next = record {
     same = (fit plan r t p operation.Show next).behind;
     asks = record { its_base = refl; its_effective = refl; sections = λ l mode e. k.sections t l ∙ e };
     no_take = refl;
-    same_sections = λ j x. refl;
-    same_begun = λ u g. refl;
+    quiet = refl;
     no_wake = λ w. refl;
   }
 
   pub may_note : (op : Op) (e : Event) → s.wait t ≡ Running → IsNoted plan r t op e → MayStamp c s t e
   may_note op e running n = record { thread = lt; acting = acting plan r t k running; asks = n.asks }
 
-  pub noted : (op : Op) (e : Event) → Next plan r t op → IsNoted plan r t op e → KeepsTrack plan (run_after c r t (notes r t e))
+  pub noted : (op : Op) (e : Event) → Next plan r t op → IsNoted plan r t op e → KeepsTrack plan (run_after plan r t (notes r t e))
   unfolding after_stamp
-  noted op e next n = goes_on plan r t (after_stamp c s t e) k lt k.lawful.nothing_out refl refl (record {
-    left = left plan r t op next;
-    entry = refl;
-    own_holds = λ l. k.holds t l ∙ ap (λ (hs : List Held). hold_in hs l) n.same;
-    other_holds = λ u l ne. refl;
-    sections = λ u l. each_place t (λ v. open_in c (after_stamp c s t e).history v l ≡ s.held v l)
-        (own_section c s t e l ∙ n.same_sections l (sections_in c s.history t l) ∙ k.sections t l)
-        (λ v ne. other_section c s t e v l ne ∙ k.sections v l) u;
-    begun = λ u l x. ap (λ (f : ℕ → ℕ → Bool). f u l) (n.same_begun t s.has_begun) ∙ k.begun u l x;
-    own_wants = wants_none plan r t k op next n.no_take;
-    other_wants = λ u ne. refl;
-    calls = k.marked;
-    stamped = stamped_behind plan r t e k n.no_wake;
-  })
+  noted op e next n = goes_on plan r t (suc (r.next_op t)) (after_stamp c s t e) k lt k.lawful.nothing_out refl refl
+      (ends_quietly plan r t (suc (r.next_op t)) op e k next (record { no_take = n.no_take; further = omega arith; within = left plan r t op next; same = n.same; quiet = n.quiet; no_wake = n.no_wake }))

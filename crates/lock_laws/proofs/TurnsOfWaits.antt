@@ -1,5 +1,5 @@
 -- The turns of a thread with a marked list, and of a woken one: their steps may be made, and they leave the run on track.
-use Rattle.std.proofs.Common.{◌≡◌, ◌≢◌, ℕ, ◌<◌, List, [], ◌∷◌, length, All, slice_get, Some, None, sym, ◌∙◌, subst}
+use Rattle.std.proofs.Common.{◌≡◌, ◌≢◌, ℕ, ◌<◌, List, [], ◌∷◌, length, All, Some, None, sym, ◌∙◌, subst}
 use Rattle.std.proofs.lemmas.List.Elements.{All-head, All-tail}
 use Rattle.lock_model.specs.Plans.{config_of, operations_of}
 use Rattle.lock_model.specs.Config.{Config}
@@ -9,15 +9,13 @@ use Rattle.lock_state.specs.Steps.{Marks, Resumes}
 use Rattle.lock_state.specs.Steps.Turnstiles.{MayMark, MayResume, HasReleased, after_mark, after_resume}
 use Rattle.lock_state.specs.Facts.{QueuedStands}
 use Rattle.lock_state.specs.Run.{Run, does, run_after}
-use Rattle.lock_model.specs.declared.plan.Op.TheVariants.{Take}
-use Rattle.lock_model.specs.declared.plan.Mode.TheVariants.{Excl}
 use Rattle.lock_model.specs.declared.plan.Plan.{Plan}
 use Rattle.lock_model.specs.declared.plan.QueueName.{QueueName}
 use Rattle.lock_model.specs.declared.plan.QueueName.TheVariants.{Lock, Chan}
 use Rattle.lock_model.specs.declared.turn.StepKind.TheVariants as kind
 use Rattle.lock_laws.specs.OnTrack.{IsOnTrack, IsCall, WokenByCall}
 use Rattle.lock_laws.proofs.Kit.{at_put, put_same, put_other, each_place}
-use Rattle.lock_laws.proofs.OnTrack.{KeepsTrack, all_made}
+use Rattle.lock_laws.proofs.OnTrack.{KeepsTrack, Takes, all_made}
 
 module _ (plan : Plan) (r : Run) (t : ℕ) (k : IsOnTrack plan r) (lt : t < length plan.threads) where
   abbrev c : Config
@@ -34,7 +32,7 @@ module _ (plan : Plan) (r : Run) (t : ℕ) (k : IsOnTrack plan r) (lt : t < leng
   pub may_mark : (m : Mark) (ms : List Mark) → s.marked t ≡ m ∷ ms → MayMark c s t m ms
   may_mark m ms e = record { thread = lt; marked = e; stamped = k.stamped t }
 
-  pub marked : (m : Mark) (ms : List Mark) → s.marked t ≡ m ∷ ms → KeepsTrack plan (run_after c r t (does kind.Mark (Marks t m ms ∷ [])))
+  pub marked : (m : Mark) (ms : List Mark) → s.marked t ≡ m ∷ ms → KeepsTrack plan (run_after plan r t (does kind.Mark (Marks t m ms ∷ [])))
   unfolding after_mark QueuedStands
   marked m ms e = record {
     out = k.lawful.nothing_out;
@@ -61,14 +59,14 @@ module _ (plan : Plan) (r : Run) (t : ℕ) (k : IsOnTrack plan r) (lt : t < leng
       released (Lock l) y i = tt
       released (Chan d) y i = absurd i
 
-  called : (q : QueueName) (cause : Cause) → IsCall q cause → KeepsTrack plan (run_after c r t (does kind.Resume (Resumes t q cause ∷ [])))
+  called : (q : QueueName) (cause : Cause) → IsCall q cause → KeepsTrack plan (run_after plan r t (does kind.Resume (Resumes t q cause ∷ [])))
   unfolding after_resume QueuedStands
   called (Lock l) BySignal i = record {
     out = k.lawful.nothing_out;
     made = all_made plan r k;
     waiting = record {
       stands = at_put (λ v w. w ≡ Queued → s.blocked_on v ≢ None) s.wait t Running (λ e. absurd cc) (λ v ne. k.lawful.queued_stands v);
-      wants = λ u j. at_put (λ v w. w ≡ Some j → slice_get (operations_of plan v) (r.next_op v) ≡ Some (Take (record { 0 = j }) Excl)) s.wanted t (s.wanted t) (k.wants t j) (λ v ne. k.wants v j) u;
+      wants = λ u j. at_put (λ v w. w ≡ Some j → Takes (operations_of plan v) (r.next_op v) j) s.wanted t (s.wanted t) (k.wants t j) (λ v ne. k.wants v j) u;
       woken = at_put (λ v w. WokenByCall w) s.wait t Running tt (λ v ne. k.woken v);
       calls = k.marked;
     };
@@ -76,5 +74,5 @@ module _ (plan : Plan) (r : Run) (t : ℕ) (k : IsOnTrack plan r) (lt : t < leng
   called (Lock l) ByAbort i = absurd i
   called (Chan d) cause i = absurd i
 
-  pub resumed : (q : QueueName) (cause : Cause) → s.wait t ≡ Woken q cause → KeepsTrack plan (run_after c r t (does kind.Resume (Resumes t q cause ∷ [])))
+  pub resumed : (q : QueueName) (cause : Cause) → s.wait t ≡ Woken q cause → KeepsTrack plan (run_after plan r t (does kind.Resume (Resumes t q cause ∷ [])))
   resumed q cause e = called q cause (subst WokenByCall e (k.woken t))

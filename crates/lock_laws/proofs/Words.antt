@@ -1,15 +1,15 @@
 -- Laws of lock words, and of the words and holders of one lock.
-use Rattle.std.proofs.Common.{◌≡◌, ◌≢◌, ℕ, ◌+◌, ◌<◌, ◌≤◌, true, false, eqb, refl, sym, ap, inl, inr, arith, ◌∙◌}
+use Rattle.std.proofs.Common.{◌≡◌, ◌≢◌, ℕ, ◌+◌, ◌<◌, ◌≤◌, Bool, true, false, eqb, refl, sym, ap, inl, inr, arith, ◌∙◌}
 use Rattle.std.proofs.lemmas.Bool.{ne_eqb, cases_eq, eqb-true}
 use Rattle.lock_model.specs.Counts.{sum_below}
-use Rattle.lock_model.specs.Words.{Word, Holder, Free, HeldBy, SharedBy, sharers, is_free, is_owned, admits, gained, claimed, entered, without_one}
+use Rattle.lock_model.specs.Words.{Word, Holder, Free, HeldBy, SharedBy, word_of, bits_of, sharers, is_free, is_owned, admits, gained, claimed, entered, without_one}
 use Rattle.lock_model.specs.Holds.{is_exclusive, Hold, NotHeld, Holds}
 use Rattle.lock_model.specs.Config.{Config}
 use Rattle.lock_state.specs.State.{State, put, put_at}
 use Rattle.lock_state.specs.Facts.{Lawful, WordsMatchHolders}
 use Rattle.lock_state.specs.Facts.Words.{WordMatchesHolders, owns, shares}
 use Rattle.lock_model.specs.declared.plan.Kind.{Kind}
-use Rattle.lock_model.specs.declared.plan.Kind.TheVariants.{Mtx}
+use Rattle.lock_model.specs.declared.plan.Kind.TheVariants.{Mtx, Rw, Sx}
 use Rattle.lock_model.specs.declared.plan.Mode.{Mode}
 use Rattle.lock_model.specs.declared.plan.Mode.TheVariants.{Excl, Shared}
 use Rattle.lock_model.specs.declared.plan.Side.{Side}
@@ -26,6 +26,20 @@ free_is (SharedBy n) e = absurd cc
 -- a shared gain needs a word that nobody holds exclusively
 pub admits_unowned : (kind : Kind) (w : Word) → admits kind w Shared ≡ true → is_owned w.holder ≡ false
 admits_unowned kind w e = grind arith
+
+-- a lock that refuses a thread is held, as a mutex is asked for exclusively
+pub refused_held : (kind : Kind) (w : Word) (mode : Mode) → (kind ≡ Mtx → mode ≡ Excl) → admits kind w mode ≡ false → is_free w.holder ≡ false
+refused_held kind w Excl m e = e
+refused_held Mtx w Shared m e = absurd (let z = m refl in cc)
+refused_held Rw w Shared m e = grind arith
+refused_held Sx w Shared m e = grind arith
+
+-- the bits of a word that a lock can have say the word again
+pub word_again : (w : Word) → w.holder ≢ SharedBy 0 → word_of (bits_of w) ≡ w
+word_again w some = go w.holder w.exclusive_waiters w.shared_waiters some
+  where
+    go : (x : Holder) (a b : Bool) → x ≢ SharedBy 0 → word_of (bits_of (record { holder = x; exclusive_waiters = a; shared_waiters = b })) ≡ record { holder = x; exclusive_waiters = a; shared_waiters = b }
+    go x a b n = grind arith
 
 pub unowned_owns : (t : ℕ) (x : Holder) → is_owned x ≡ false → owns t x ≡ false
 unowned_owns t Free e = refl

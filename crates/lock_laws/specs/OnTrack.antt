@@ -16,8 +16,8 @@ use Rattle.lock_model.specs.Events.{of_sleep, says_some}
 use Rattle.lock_state.specs.Facts.{LawfulTurn}
 use Rattle.lock_state.specs.Run.{Run, has_ended}
 use Rattle.lock_model.specs.declared.plan.Op.{Op}
-use Rattle.lock_model.specs.declared.plan.Op.TheVariants.{Take}
-use Rattle.lock_model.specs.declared.plan.Mode.TheVariants.{Excl}
+use Rattle.lock_model.specs.declared.plan.Op.TheVariants.{Take, EndTry}
+use Rattle.lock_model.specs.declared.plan.Mode.{Mode}
 use Rattle.lock_model.specs.declared.plan.Plan.{Plan}
 use Rattle.lock_model.specs.declared.plan.QueueName.{QueueName}
 use Rattle.lock_model.specs.declared.plan.QueueName.TheVariants.{Lock, Chan}
@@ -47,21 +47,24 @@ pub record IsOnTrack (plan : Plan) (r : Run) : Type 0 where
   pub lawful : LawfulTurn (config_of plan) r.state
   -- no thread has more operations behind it than it has
   pub within : (t : ℕ) → r.next_op t ≤ length (operations_of plan t)
-  -- and each of these has made one entry, which follows the operations
-  pub entries : length r.state.history ≡ sum_below (length plan.threads) r.next_op
-  pub follows : (t : ℕ) → LeadsTo (config_of plan).kind (length plan.locks) (operations_of plan t)
+  -- nor is it at an endtry, which takes no turn
+  pub no_endtry : (t : ℕ) → slice_get (operations_of plan t) (r.next_op t) ≢ Some EndTry
+  -- each operation that is behind it has made one entry at most, and the entries follow the operations
+  pub entries : length r.state.history ≤ sum_below (length plan.threads) r.next_op
+  pub follows : (t : ℕ) → LeadsTo (config_of plan).kind (operations_of plan t)
       (entries_of r.state.history t) (Before (r.next_op t))
   -- no sleeper and no halt is noted, until waits come
   pub no_sleeps : SleepsNobody r.state.history
   -- each thread holds what its operations so far lead to
   pub holds : (t l : ℕ) → r.state.held t l
-      ≡ hold_in (held_of (length plan.locks) (operations_of plan t) (r.next_op t)) l
+      ≡ hold_in (held_of (operations_of plan t) (r.next_op t)) l
   -- and has just these sections open
   pub sections : (t l : ℕ) → open_in (config_of plan) r.state.history t l ≡ r.state.held t l
   pub begun : (t l : ℕ) → r.state.held t l ≢ NotHeld → r.state.has_begun t l ≡ true
   -- a lock is wanted by the thread's next operation
   pub wants : (t l : ℕ) → r.state.wanted t ≡ Some l
-      → slice_get (operations_of plan t) (r.next_op t) ≡ Some (Take (record { 0 = l }) Excl)
+      → (mode : Mode)
+      × (slice_get (operations_of plan t) (r.next_op t) ≡ Some (Take (record { 0 = l }) mode))
   -- waiters are taken off and woken to try for a lock again
   pub woken : (t : ℕ) → WokenByCall (r.state.wait t)
   pub marked : (t : ℕ) → All (λ m. IsCall m.queue m.cause) (r.state.marked t)

@@ -87,8 +87,8 @@ pub fn turns_end_no_other()
         → has_ended plan (run_behind plan r t) u ≡ has_ended plan r u }
 {}
 
-/// Each operation that is behind a thread has made one entry, so where a thread has an operation left the history is
-/// shorter than the operations of all threads.
+/// Each operation that is behind a thread has made one entry at most, so where a thread has an operation left the history
+/// is shorter than the operations of all threads.
 pub fn entries_are_operations()
     ensures { (plan : plans.Plan) (r : Run) (t : ℕ) → IsProper plan → IsOnTrack plan r
         → t < length plan.threads → r.next_op t < length (operations_of plan t)

@@ -72,23 +72,23 @@ pub data Gives (kind : ℕ → Kind) (held : List Held) (n : ℕ) : Op → Event
 
 -- A thread's own entries, the newest first, lead it from its first operation to a place. After Reversed, HaltedLock
 -- or HaltedChan only Unlocked entries follow, of the locks held, last first.
-pub data LeadsTo (kind : ℕ → Kind) (locks : ℕ) (ops : List Op) : List Entry → Place → Type 0 where
-  begins : LeadsTo kind locks ops [] (Before 0)
+pub data LeadsTo (kind : ℕ → Kind) (ops : List Op) : List Entry → Place → Type 0 where
+  begins : LeadsTo kind ops [] (Before 0)
   goes_on : {es : List Entry} {n : ℕ} {o : Op} {p : Place} (e : Entry)
-      → LeadsTo kind locks ops es (Before n) → slice_get ops n ≡ Some o
-      → Gives kind (held_of locks ops n) n o e.event p → LeadsTo kind locks ops (e ∷ es) p
-  skips_endtry : {es : List Entry} {n : ℕ} → LeadsTo kind locks ops es (Before n)
-      → slice_get ops n ≡ Some op.EndTry → LeadsTo kind locks ops es (Before (suc n))
+      → LeadsTo kind ops es (Before n) → slice_get ops n ≡ Some o
+      → Gives kind (held_of ops n) n o e.event p → LeadsTo kind ops (e ∷ es) p
+  skips_endtry : {es : List Entry} {n : ℕ} → LeadsTo kind ops es (Before n)
+      → slice_get ops n ≡ Some op.EndTry → LeadsTo kind ops es (Before (suc n))
   wakes_up : {es : List Entry} {n : ℕ} {d : ChanNo} (e : Entry)
-      → LeadsTo kind locks ops es (Asleep n) → slice_get ops n ≡ Some (op.Sleep d)
-      → e.event ≡ Woke d → LeadsTo kind locks ops (e ∷ es) (Before (suc n))
+      → LeadsTo kind ops es (Asleep n) → slice_get ops n ≡ Some (op.Sleep d)
+      → e.event ≡ Woke d → LeadsTo kind ops (e ∷ es) (Before (suc n))
   is_woken_by_a_halt : {es : List Entry} {n : ℕ} {d : ChanNo} (e : Entry)
-      → LeadsTo kind locks ops es (Asleep n) → slice_get ops n ≡ Some (op.Sleep d)
+      → LeadsTo kind ops es (Asleep n) → slice_get ops n ≡ Some (op.Sleep d)
       → e.event ≡ HaltedChan d
-      → LeadsTo kind locks ops (e ∷ es) (Cut (reverse (held_of locks ops n)))
+      → LeadsTo kind ops (e ∷ es) (Cut (reverse (held_of ops n)))
   gives_back : {es : List Entry} {h : Held} {hs : List Held} (e : Entry)
-      → LeadsTo kind locks ops es (Cut (h ∷ hs)) → e.event ≡ Unlocked h.l h.mode
-      → LeadsTo kind locks ops (e ∷ es) (Cut hs)
+      → LeadsTo kind ops es (Cut (h ∷ hs)) → e.event ≡ Unlocked h.l h.mode
+      → LeadsTo kind ops (e ∷ es) (Cut hs)
 
 -- whether no entry is left to make
 abbrev pub IsAtEnd : List Op → Place → Type 0
@@ -100,7 +100,7 @@ IsAtEnd ops (Cut held) = held ≡ []
 pub record FollowsOperations (plan : Plan) (cut_short : Bool) (history : List Entry) (t : ℕ) :
     Type 0 where
   pub place : Place
-  pub leads : LeadsTo (config_of plan).kind (length plan.locks) (operations_of plan t)
+  pub leads : LeadsTo (config_of plan).kind (operations_of plan t)
       (entries_of history t) place
   pub whole : cut_short ≡ false → IsAtEnd (operations_of plan t) place
 

@@ -1,11 +1,12 @@
 -- What operations do to the list of locks that a thread holds, which operations fit it, and the plans whose threads'
 -- operations fit from their begin to their end. Each script's plan is such a plan.
-use Rattle.std.specs.Prelude.{◌≡◌, ℕ, ◌≤◌, ◌<◌, Bool, true, false, not, ◌&&◌, ◌||◌, ◌==◌, nat_lt, if◌then◌else◌, List, [], ◌∷◌, ◌++◌, length, map, sum, take, fold, option_map, slice_get, Option, Some}
-use Rattle.std.specs.List.{All, list_all, list_any}
+use Rattle.std.specs.Prelude.{◌≡◌, ℕ, suc, ◌+◌, ◌≤◌, ◌<◌, Bool, true, false, not, ◌&&◌, ◌||◌, ◌==◌, nat_lt, if◌then◌else◌, List, [], ◌∷◌, ◌++◌, length, map, sum, take, take_while, drop, fold, option_map, slice_get, Option, Some}
+use Rattle.std.specs.List.{All, list_all}
 use Rattle.lock_model.specs.Holds.{Hold, NotHeld, Holds, is_unheld, is_exclusive}
 use Rattle.lock_model.specs.Limits.{most_threads, most_locks, most_held, most_operations, most_scheduled}
 use Rattle.lock_model.specs.Plans.{lock_kind, operations_of}
 use Rattle.lock_model.specs.Tests.{Test, test, where_some, Passes}
+use Rattle.lock_model.specs.Words.{is_turnstile}
 use Rattle.lock_model.specs.declared.plan.Kind.{Kind}
 use Rattle.lock_model.specs.declared.plan.Kind.TheVariants.{Mtx, Rw, Sx}
 use Rattle.lock_model.specs.declared.plan.Mode.{Mode}
@@ -61,8 +62,8 @@ abbrev pub held_through : List Op → List Held → List Held
 held_through ops held = fold (λ hs op. held_behind op hs) held ops
 
 -- what a thread holds behind the first n of its operations
-abbrev pub held_of : ℕ → List Op → ℕ → List Held
-held_of locks ops n = held_through (take n ops) []
+abbrev pub held_of : List Op → ℕ → List Held
+held_of ops n = held_through (take n ops) []
 
 -- 2. Which operations fit what is held
 
@@ -127,42 +128,76 @@ operation_tests locks chans (Sleep c) held =
 operation_tests locks chans (WakeOne c) held = channel_test chans c ∷ []
 operation_tests locks chans (WakeAll c) held = channel_test chans c ∷ []
 
--- each operation passes its tests on what those before it lead to, and nothing is held in the end
+-- 3. Blocks of tries
+
+-- The block of the try n: its endtry stands behind it, the operations go on behind that, and there the thread holds
+-- what it held before the try.
+pub record IsBlock (ops : List Op) (n past : ℕ) : Type 0 where
+  pub end : ℕ
+  pub behind : n < end
+  pub endtry : slice_get ops end ≡ Some EndTry
+  pub goes_on : past ≡ suc end
+  pub leaves : held_of ops end ≡ held_of ops n
+
+-- the endtry n ends the block of a try before it
+pub record EndsBlock (ops : List Op) (n : ℕ) : Type 0 where
+  pub tried : ℕ
+  pub lock : LockNo
+  pub mode : Mode
+  pub before : tried < n
+  pub its_try : slice_get ops tried ≡ Some (Try lock mode (suc n))
+
+abbrev pub is_endtry : Op → Bool
+is_endtry (Take l mode) = false
+is_endtry (Try l mode past) = false
+is_endtry EndTry = true
+is_endtry (Release l) = false
+is_endtry (Set l key value) = false
+is_endtry (Add l key amount) = false
+is_endtry (Get l key) = false
+is_endtry (Base prio) = false
+is_endtry Show = false
+is_endtry (Sleep c) = false
+is_endtry (WakeOne c) = false
+is_endtry (WakeAll c) = false
+
+-- the first operation from the n-th on that is no endtry: an endtry takes no turn
+abbrev pub next_at : List Op → ℕ → ℕ
+next_at ops n = n + length (take_while is_endtry (drop n ops))
+
+-- blocks don't cross: one that begins in another ends in it
+abbrev pub AreNested : List Op → Type 0
+AreNested ops =
+    (n m : ℕ) (l k : LockNo) (outer inner : Mode) (past next : ℕ)
+    → slice_get ops n ≡ Some (Try l outer past) → slice_get ops m ≡ Some (Try k inner next)
+    → n < m → m < past → next < past
+
+-- each operation passes its tests on what those before it lead to, each try has its block and each endtry its try, and
+-- nothing is held in the end
 pub record Fit (locks : List LockDecl) (chans : List ChanDecl) (ops : List Op) : Type 0 where
   pub each : (n : ℕ) (op : Op) → slice_get ops n ≡ Some op
-      → Passes (operation_tests locks chans op (held_of (length locks) ops n))
-  pub released : held_of (length locks) ops (length ops) ≡ []
+      → Passes (operation_tests locks chans op (held_of ops n))
+  pub blocks : (n : ℕ) (l : LockNo) (mode : Mode) (past : ℕ)
+      → slice_get ops n ≡ Some (Try l mode past) → IsBlock ops n past
+  pub endtries : (n : ℕ) → slice_get ops n ≡ Some EndTry → EndsBlock ops n
+  pub nested : AreNested ops
+  pub released : held_of ops (length ops) ≡ []
 
--- 3. Plans
+-- 4. Plans
 
 -- the operations of all threads
 abbrev pub operations_in_all : Plan → ℕ
 operations_in_all plan = sum (map (λ d. length d.ops) plan.threads)
 
-abbrev pub is_try : Op → Bool
-is_try (Take l mode) = false
-is_try (Try l mode past) = true
-is_try EndTry = true
-is_try (Release l) = false
-is_try (Set l key value) = false
-is_try (Add l key amount) = false
-is_try (Get l key) = false
-is_try (Base prio) = false
-is_try Show = false
-is_try (Sleep c) = false
-is_try (WakeOne c) = false
-is_try (WakeAll c) = false
-
--- each thread begins and ends with nothing held, and its operations fit in between; the limits of a script are kept
+-- each thread begins and ends with nothing held, and its operations fit in between; the limits that a run needs are
+-- kept
 pub record IsProper (plan : Plan) : Type 0 where
   pub threads : length plan.threads ≤ most_threads
   pub locks : length plan.locks ≤ most_locks
   pub operations : operations_in_all plan ≤ most_operations
   pub scheduled : length plan.schedule ≤ most_scheduled
   pub schedule : All (λ t. t.0 < length plan.threads) plan.schedule
-  -- Until the other kinds of lock, the channels and the tries come. With tries, a block has to be closed by its
-  -- endtry, and a try go on there
-  pub mutexes : (l : ℕ) → lock_kind plan l ≡ Mtx
+  -- until sx locks and channels come
+  pub turnstiles : (l : ℕ) → is_turnstile (lock_kind plan l) ≡ true
   pub no_channel : plan.chans ≡ []
-  pub no_try : (t : ℕ) → list_any is_try (operations_of plan t) ≡ false
   pub fits : (t : ℕ) → Fit plan.locks plan.chans (operations_of plan t)

@@ -1,9 +1,9 @@
 -- A thread stands on a turnstile: its record, the lock's turnstile and the chain show the columns behind an enter.
-use Rattle.std.proofs.Common.{◌≡◌, ◌≢◌, ℕ, ◌+◌, ◌<◌, ◌≤◌, ltb, true, false, List, [], ◌∷◌, length, Option, Some, None, option_map, refl, sym, ap, subst, arith, length-append, ◌∙◌}
+use Rattle.std.proofs.Common.{◌≡◌, ◌≢◌, ℕ, ◌+◌, ◌<◌, ltb, true, List, [], length, Option, Some, None, refl, sym, ap, subst, arith, length-append, ◌∙◌}
 use Rattle.lock_model.specs.Words.{Holder, owner_of}
 use Rattle.lock_model.specs.Config.{Config}
 use Rattle.lock_state.specs.State.{State}
-use Rattle.lock_model.specs.Queues.{Waiter, Lists, lock_queue, stands, waiting, side_of, list_of, with_list, insert, head_with, free_with}
+use Rattle.lock_model.specs.Queues.{Waiter, lock_queue, stands, waiting, side_of, list_of, with_list, insert, head_with, free_with}
 use Rattle.lock_state.specs.Facts.{Lawful}
 use Rattle.lock_model.specs.Words.{is_turnstile}
 use Rattle.lock_state.specs.Steps.Turnstiles.{after_enter, owner_with}
@@ -17,16 +17,12 @@ use Rattle.lock_laws.proofs.HeadsAndNodes.{node_home}
 use Rattle.lock_laws.proofs.Nodes.{some_waiting}
 use Rattle.lock_laws.proofs.WordsAndHeads.{headless_bare}
 use Rattle.turnstile_core.specs.Seen.{Contents, Turnstile, idle_contents}
-use Rattle.turnstile_core.specs.Changes.{lists_of, begun, joined, waits, all_waiters, name_of}
+use Rattle.turnstile_core.specs.Changes.{lists_of, begun, joined, name_of}
 use Rattle.thread_records.specs.Records.{Record}
 use Rattle.chain_table.specs.Chains.{head_of}
-use Rattle.chain_table.specs.Links.{map_is_empty}
-use Rattle.chain_table.specs.Turnstiles.{bare, behind}
-use Rattle.std.specs.declared.boxed.Box.{Box}
-use Rattle.std.specs.Option.{IfSome}
 use Rattle.lock_objects.specs.Represents.{QueueColumns, RepresentsHead, RepresentsQueue, RepresentsQueues, RepresentsRecord, queue_in, record_in, queue_of}
 use Rattle.lock_objects.specs.Enters.{CanStand, CanLend, waiter_of, record_entered, head_entered, chain_entered}
-use Rattle.lock_objects.proofs.Queues.{SameQueue, queues_placed, found}
+use Rattle.lock_objects.proofs.Queues.{SameQueue, queues_placed}
 
 -- 1. A lawful state
 
@@ -166,11 +162,6 @@ module _ (s : State) (t l : ℕ) (mode : Mode) (x : ℕ) where
   }
 
 -- 4. A chain and a record that are what an enter makes
-
--- the head that a chain gives has no link
-pub bare_head : {Z : Type 0} (o : Option (Box Turnstile Z)) → IfSome o (λ b. behind b.value ≡ []) → IfSome o (λ b. b.value.next ≡ [])
-bare_head None h = h
-bare_head (Some b) h = map_is_empty bare b.value.next h
 
 -- a record that was entered
 pub entered_record : (s : State) (t l : ℕ) (mode : Mode) (x : ℕ) {r n : Record} → n ≡ record_entered l r → RepresentsRecord r (record_in s t) → RepresentsRecord n (record_in (after_enter s t l mode x) t)

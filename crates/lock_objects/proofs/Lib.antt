@@ -6,4 +6,5 @@ pub mod Queues
 pub mod Records
 pub mod Enters
 pub mod Opens
+pub mod Lent
 pub mod Hops

@@ -1,8 +1,7 @@
 -- The places of waiters that were taken off a turnstile, and their marks in the columns of the state.
-use Rattle.std.proofs.Common.{◌≡◌, ℕ, suc, List, [], ◌∷◌, length, map, drop, None, Some, IsSome, refl, ap, arith, ◌≤◌}
+use Rattle.std.proofs.Common.{◌≡◌, ℕ, suc, List, [], ◌∷◌, length, map, None, Some, IsSome, refl, ap, arith, ◌≤◌}
 use Rattle.std.specs.List.{All}
 use Rattle.std.proofs.Math.Seq.{take-length}
-use Rattle.std.proofs.lemmas.List.{drop_all}
 use Rattle.std.proofs.lemmas.List.Elements.{All-nil, All-cons}
 use Rattle.lock_model.specs.Queues.{Waiter, handed_out, dealt, head_after}
 use Rattle.lock_model.specs.declared.plan.QueueName.{QueueName}

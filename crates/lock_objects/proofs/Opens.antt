@@ -1,21 +1,19 @@
 -- A release takes the waiters of one side off a turnstile: record, chain and woken show the columns behind an open.
-use Rattle.std.proofs.Common.{◌≡◌, ◌≢◌, ℕ, suc, ◌+◌, ◌<◌, ◌≤◌, Bool, true, false, ◌||◌, cond, List, [], ◌∷◌, ◌++◌, length, map, Option, Some, None, option_map, is_some, IsSome, refl, sym, ap, subst, arith, inl, inr, drop, length-append, ◌∙◌}
+use Rattle.std.proofs.Common.{◌≡◌, ◌≢◌, ℕ, suc, ◌+◌, ◌≤◌, Bool, true, false, ◌||◌, cond, List, [], ◌∷◌, length, map, Option, Some, None, option_map, is_some, IsSome, refl, sym, ap, subst, arith, inl, inr, drop, length-append, ◌∙◌}
 use Rattle.std.specs.Prelude.{IsSomeAnd}
 use Rattle.std.specs.Option.{IfSome}
 use Rattle.std.specs.List.{All}
-use Rattle.std.proofs.lemmas.Bool.{cases_eq, cases_Bool}
+use Rattle.std.proofs.lemmas.Bool.{cases_eq}
 use Rattle.std.proofs.lemmas.List.{drop_all}
 use Rattle.lock_model.specs.Config.{Config}
 use Rattle.lock_model.specs.Counts.{is_empty, some}
-use Rattle.lock_model.specs.Holds.{Holds}
-use Rattle.lock_model.specs.Words.{is_turnstile, side_woken, shows_waiters, opened}
+use Rattle.lock_model.specs.Words.{is_turnstile, side_woken}
 use Rattle.lock_model.specs.Queues.{Waiter, Lists, lock_queue, list_of, with_list, waiting, dealt, free_after, head_after}
 use Rattle.lock_model.specs.declared.plan.Mode.{Mode}
-use Rattle.lock_model.specs.declared.plan.Mode.TheVariants.{Excl, Shared}
 use Rattle.lock_model.specs.declared.plan.Side.{Side}
 use Rattle.lock_model.specs.declared.plan.Side.TheVariants.{X, S}
 use Rattle.lock_model.specs.declared.plan.QueueName.{QueueName}
-use Rattle.lock_state.specs.State.{State, Loan, put, put_at}
+use Rattle.lock_state.specs.State.{State, Loan, put}
 use Rattle.lock_state.specs.Facts.{Lawful, HeadsFitWaiters, BitsShowWaiters, MutexWaitersAreExclusive}
 use Rattle.lock_state.specs.Steps.LockWords.{effective_of}
 use Rattle.lock_state.specs.Steps.Turnstiles.{MayOpen, after_open, home_after}
@@ -27,14 +25,14 @@ use Rattle.lock_laws.proofs.NodesOfHeads.{put_at_row}
 use Rattle.lock_laws.proofs.WordsAndHeads.{lent_out, home_elsewhere, headless_bare}
 use Rattle.turnstile_core.specs.Seen.{Contents, Turnstile, Terms, Place, IsLeft}
 use Rattle.turnstile_core.specs.Lists.{with_last}
-use Rattle.turnstile_core.specs.Changes.{lists_of, waiters, with_waiters, all_waiters, left_by, taken, name_of, IsWellFormed}
+use Rattle.turnstile_core.specs.Changes.{waiters, all_waiters, left_by, taken, name_of, IsWellFormed}
 use Rattle.thread_records.specs.Records.{Record}
 use Rattle.prio_lending.specs.Hops.{carrier_for, node_out, with_contents}
-use Rattle.thread_records.specs.Loans.{loan_for, loans_for, without_loan}
+use Rattle.thread_records.specs.Loans.{loan_for, without_loan}
 use Rattle.thread_records.proofs.OneEach.{one_each_without}
 use Rattle.chain_table.specs.Chains.{head_of, without}
 use Rattle.lock_objects.specs.Represents.{QueueColumns, RepresentsHead, RepresentsQueue, RepresentsQueues, RepresentsRecord, queue_in, record_in, queue_of, loan_of, mark_of}
-use Rattle.lock_objects.specs.Opens.{CanOpen, CanRelease, record_opened, settled, left_open, taken_off, woken_of, chain_opened}
+use Rattle.lock_objects.specs.Opens.{CanOpen, CanRelease, record_opened, settled, woken_of, chain_opened}
 use Rattle.lock_objects.proofs.Lists.{marks-dealt, turnstiles-dealt, head_after-stays, marks-dealt_last, turnstiles-dealt_last, head_after-none, places, taken-whole}
 use Rattle.lock_objects.proofs.Loans.{loan_for-dropped, loan_for-others}
 use Rattle.lock_objects.proofs.Queues.{SameQueue, queues_placed, queues_gone}

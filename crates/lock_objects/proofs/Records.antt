@@ -1,8 +1,7 @@
 -- What a record shows of its columns behind a change of its loans.
-use Rattle.std.proofs.Common.{◌≡◌, ◌≢◌, ℕ, ◌<◌, ◌≤◌, List, Option, Some, None, option_map, refl, sym, ap, subst, inl, inr, arith, ◌∙◌}
-use Rattle.std.proofs.lemmas.Bool.{cases_eq}
+use Rattle.std.proofs.Common.{◌≡◌, ℕ, ◌≤◌, List, Option, Some, None, option_map, refl, ap, arith, ◌∙◌}
 use Rattle.lock_model.specs.Config.{Config}
-use Rattle.lock_state.specs.State.{State, Loan, put}
+use Rattle.lock_state.specs.State.{State, Loan}
 use Rattle.lock_state.specs.Facts.{Lawful}
 use Rattle.lock_state.specs.Steps.LockWords.{prio_of, effective_of}
 use Rattle.lock_laws.proofs.HeadsAndNodes.{loan_lock}

@@ -2,7 +2,7 @@
 use Rattle.std.specs.Prelude.{◌≡◌, ◌≢◌, ℕ, true, false, List, [], ◌∷◌, Option, Some, None, ⊤}
 use Rattle.lock_model.specs.Config.{Config}
 use Rattle.lock_model.specs.Words.{is_turnstile}
-use Rattle.lock_model.specs.Queues.{Waiter, Lists, lock_queue}
+use Rattle.lock_model.specs.Queues.{Waiter, lock_queue}
 use Rattle.lock_state.specs.State.{State}
 use Rattle.lock_model.specs.declared.plan.Side.{Side}
 use Rattle.lock_model.specs.declared.plan.QueueName.{QueueName}

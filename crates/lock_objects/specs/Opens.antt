@@ -1,6 +1,6 @@
 -- What a release that takes the waiters of one side off a turnstile makes of the releasing thread's record and of the
 -- chain.
-use Rattle.std.specs.Prelude.{◌≡◌, ◌≢◌, ℕ, ◌+◌, ◌<◌, true, false, ◌||◌, is_some, if◌then◌else◌, List, [], ◌∷◌, length, IfSome, Option, Some, None}
+use Rattle.std.specs.Prelude.{◌≡◌, ◌≢◌, ℕ, ◌+◌, ◌<◌, true, false, ◌||◌, is_some, if◌then◌else◌, List, [], ◌∷◌, length, IfSome, Some, None}
 use Rattle.lock_model.specs.Config.{Config}
 use Rattle.lock_model.specs.Counts.{is_empty, some}
 use Rattle.lock_model.specs.Words.{is_turnstile}
@@ -15,7 +15,7 @@ use Rattle.turnstile_core.specs.Changes.{waiters, all_waiters, left_by, taken}
 use Rattle.thread_records.specs.Records.{Record, with_loans}
 use Rattle.thread_records.specs.Loans.{loan_for, without_loan}
 use Rattle.prio_lending.specs.Hops.{carrier_for, node_out}
-use Rattle.chain_table.specs.Chains.{head_of, without}
+use Rattle.chain_table.specs.Chains.{without}
 
 -- 1. What it asks
 

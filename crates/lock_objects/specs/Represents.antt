@@ -1,7 +1,7 @@
 -- What objects say of the columns of a state: the turnstiles in a chain of the columns by queue, and a thread's
 -- record of those by thread. What the columns say of one queue, or of one thread's record, is one value, so that "the
 -- others stay" is one equation.
-use Rattle.std.specs.Prelude.{◌≡◌, ℕ, Bool, true, ◌≤◌, List, ◌∷◌, unwrap_or, option_map, Option, Some, None}
+use Rattle.std.specs.Prelude.{◌≡◌, ℕ, Bool, true, ◌≤◌, List, unwrap_or, option_map, Option, Some, None}
 use Rattle.lock_model.specs.Config.{Config}
 use Rattle.lock_model.specs.Words.{is_turnstile}
 use Rattle.lock_state.specs.State as state

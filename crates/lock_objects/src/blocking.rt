@@ -9,6 +9,7 @@ ghost use Rattle.lock_state.specs.Steps.Turnstiles.{after_enter};
 ghost use Rattle.turnstile_core.specs.Seen.{idle, IsEmpty};
 ghost use Rattle.turnstile_core.specs.Changes.{name_of};
 ghost use Rattle.chain_table.specs.Chains.{head_of};
+ghost use Rattle.chain_table.specs.Turnstiles.{behind};
 ghost use Rattle.lock_objects.specs.Represents.{RepresentsQueues, RepresentsRecord, queue_in, record_in};
 ghost use Rattle.lock_objects.specs.Enters.{CanStand, CanLend, waiter_of, record_entered, head_entered, chain_entered};
 
@@ -17,8 +18,9 @@ use lock_model::{LockNo, Prio, QueueName, Side, ThreadNo};
 use thread_records::ThreadRec;
 use turnstile_core::{Turnstile, Waiter};
 
-/// A thread stands on a side of a lock's turnstile, and its record names the lock's queue. Its own turnstile becomes the lock's, with that owner,
-/// where the lock has none, and goes to the free list of the lock's where it has one.
+/// A thread stands on a side of a lock's turnstile, and its record names the lock's queue. Its own turnstile becomes
+/// the lock's where the lock has none, with that owner, or with none where the lock is held shared; and it goes to the
+/// free list of the lock's where that has one.
 pub fn enter(
     chain: &mut Chain<Turnstile>,
     rec: &mut ThreadRec,
@@ -29,12 +31,16 @@ pub fn enter(
     requires own { IsSome rec.old.turnstile }
     requires may { CanStand rec.old.thread (head_of (lock_queue l.0) chain.old) }
     ensures record { rec.new ≡ record_entered l.0 rec.old }
-    ensures chain { (x : ℕ) → rec.old.turnstile ≡ Some x
-        → chain.new ≡ chain_entered l.0 side x (option_map (λ t. t.0) owner) (waiter_of rec.old) chain.old }
-    ensures queues { (c : Config) (s : State) (t : ℕ) (mode : AMode) (x : ℕ) → side ≡ side_of mode → option_map (λ t. t.0) owner ≡ owner_of (s.word l.0).holder
-        → CanLend c s t l.0 x → RepresentsRecord rec.old (record_in s t) → RepresentsQueues c chain.old (queue_in s) s.loan_home
-        → RepresentsQueues c chain.new (queue_in (after_enter s t l.0 mode x)) (after_enter s t l.0 mode x).loan_home }
-    ensures its_record { (s : State) (t : ℕ) (mode : AMode) (x : ℕ) → RepresentsRecord rec.old (record_in s t)
+    ensures chain { (x : ℕ) → rec.old.turnstile ≡ Some x → chain.new
+        ≡ chain_entered l.0 side x (option_map (λ t. t.0) owner) (waiter_of rec.old) chain.old }
+    ensures queues { (c : Config) (s : State) (t : ℕ) (mode : AMode) (x : ℕ) → side ≡ side_of mode
+        → option_map (λ t. t.0) owner ≡ owner_of (s.word l.0).holder → CanLend c s t l.0 x
+        → RepresentsRecord rec.old (record_in s t)
+        → RepresentsQueues c chain.old (queue_in s) s.loan_home
+        → RepresentsQueues c chain.new (queue_in (after_enter s t l.0 mode x))
+        (after_enter s t l.0 mode x).loan_home }
+    ensures its_record { (s : State) (t : ℕ) (mode : AMode) (x : ℕ)
+        → RepresentsRecord rec.old (record_in s t)
         → RepresentsRecord rec.new (record_in (after_enter s t l.0 mode x) t) }
 {
     let prio = rec.eff();
@@ -59,11 +65,12 @@ fn with_waiter(
     requires empty { IsEmpty node.value }
     requires may { CanStand node.value.place.thread (option_map (λ b. b.value) there) }
     requires named { IfSome there (λ b. name_of b.value.contents ≡ Some (lock_queue l.0)) }
-    requires bare { IfSome there (λ b. b.value.next ≡ []) }
-    ensures head { result.value ≡ head_entered l.0 side own.value.contents.number (option_map (λ t. t.0) owner)
-        (record { thread = node.value.place.thread; kept = prio.0 }) (option_map (λ b. b.value) there) }
+    requires bare { IfSome there (λ b. behind b.value ≡ []) }
+    ensures head { result.value ≡ head_entered l.0 side own.value.contents.number
+        (option_map (λ t. t.0) owner) (record { thread = node.value.place.thread; kept = prio.0 })
+        (option_map (λ b. b.value) there) }
     ensures named { name_of result.value.contents ≡ Some (lock_queue l.0) }
-    ensures bare { result.value.next ≡ [] }
+    ensures bare { behind result.value ≡ [] }
 {
     match there {
         None => {

@@ -1,4 +1,5 @@
-//! Waiters are taken off a turnstile and woken, as in `turnstile_broadcast` and `turnstile_unpend` of FreeBSD's subr_turnstile.c.
+//! Waiters are taken off a turnstile and woken, as in `turnstile_broadcast` and `turnstile_unpend` of FreeBSD's
+//! subr_turnstile.c.
 ghost use Rattle.std.specs.Prelude.{◌≡◌, ℕ, [], ◌∷◌, Some, None, true, false, IsSome, IfSome, IsSomeAnd, if◌then◌else◌, map};
 ghost use Rattle.std.specs.List.{All};
 ghost use Rattle.lock_model.specs.Config.{Config};
@@ -19,22 +20,32 @@ use prio_lending::settle_release;
 use thread_records::ThreadRec;
 use turnstile_core::{Taken, Turnstile, Waiter};
 
-/// A thread that releases a lock takes all waiters of a side off the lock's turnstile, each with the turnstile that it takes back. What they lent
-/// the thread goes home. The turnstile has no owner any more, and stays where others wait on it; else the last of those taken has it.
+/// A thread that releases a lock takes all waiters of a side off the lock's turnstile, each with the turnstile that it
+/// takes back. What they lent the thread goes home. The turnstile has no owner any more, and stays where others wait on
+/// it; else the last of those taken has it.
 pub fn open(chain: &mut Chain<Turnstile>, rec: &mut ThreadRec, l: LockNo, side: Side) -> Taken
     requires { IsSomeAnd (head_of (lock_queue l.0) chain.old) (CanOpen l.0 side rec.old) }
     ensures record { rec.new ≡ record_opened l.0 rec.old }
-    ensures chain { IfSome (head_of (lock_queue l.0) chain.old) (λ h. chain.new ≡ chain_opened l.0 side rec.old h chain.old) }
-    ensures absent { IfSome (head_of (lock_queue l.0) chain.old) (λ h. is_empty (all_waiters (left_open l.0 side rec.old h.contents)) ≡ true → head_of (lock_queue l.0) chain.new ≡ None) }
-    ensures woken { IfSome (head_of (lock_queue l.0) chain.old) (λ h. result ≡ woken_of l.0 side rec.old h.contents) }
-    ensures queues { (c : Config) (s : State) (t : ℕ) → side ≡ side_woken (c.kind l.0) (s.word l.0) → CanRelease c s t l.0
-        → RepresentsRecord rec.old (record_in s t) → RepresentsQueues c chain.old (queue_in s) s.loan_home
-        → RepresentsQueues c chain.new (queue_in (after_open c s t l.0)) (after_open c s t l.0).loan_home }
-    ensures its_record { (c : Config) (s : State) (t : ℕ) → CanRelease c s t l.0 → RepresentsRecord rec.old (record_in s t)
+    ensures chain { IfSome (head_of (lock_queue l.0) chain.old) (λ h.
+        chain.new ≡ chain_opened l.0 side rec.old h chain.old) }
+    ensures absent { IfSome (head_of (lock_queue l.0) chain.old) (λ h.
+        is_empty (all_waiters (left_open l.0 side rec.old h.contents)) ≡ true
+        → head_of (lock_queue l.0) chain.new ≡ None) }
+    ensures woken { IfSome (head_of (lock_queue l.0) chain.old) (λ h.
+        result ≡ woken_of l.0 side rec.old h.contents) }
+    ensures queues { (c : Config) (s : State) (t : ℕ) → side ≡ side_woken (c.kind l.0) (s.word l.0)
+        → CanRelease c s t l.0 → RepresentsRecord rec.old (record_in s t)
+        → RepresentsQueues c chain.old (queue_in s) s.loan_home
+        → RepresentsQueues c chain.new (queue_in (after_open c s t l.0))
+        (after_open c s t l.0).loan_home }
+    ensures its_record { (c : Config) (s : State) (t : ℕ) → CanRelease c s t l.0
+        → RepresentsRecord rec.old (record_in s t)
         → RepresentsRecord rec.new (record_in (after_open c s t l.0) t) }
-    ensures marks { (c : Config) (s : State) (t : ℕ) → side ≡ side_woken (c.kind l.0) (s.word l.0) → CanRelease c s t l.0
-        → RepresentsRecord rec.old (record_in s t) → RepresentsQueues c chain.old (queue_in s) s.loan_home
-        → (map (mark_of (lock_queue l.0)) result ≡ (after_open c s t l.0).marked t) × All (λ p. IsSome p.turnstile) result }
+    ensures marks { (c : Config) (s : State) (t : ℕ) → side ≡ side_woken (c.kind l.0) (s.word l.0)
+        → CanRelease c s t l.0 → RepresentsRecord rec.old (record_in s t)
+        → RepresentsQueues c chain.old (queue_in s) s.loan_home
+        → (map (mark_of (lock_queue l.0)) result ≡ (after_open c s t l.0).marked t)
+        × All (λ p. IsSome p.turnstile) result }
 {
     let Some(mut head) = chain.unplace(QueueName::Lock(l)) else {
         return Taken::empty();
@@ -44,7 +55,8 @@ pub fn open(chain: &mut Chain<Turnstile>, rec: &mut ThreadRec, l: LockNo, side: 
     put_back(chain, head, woken)
 }
 
-// A turnstile goes with the last of those that were taken off it where nobody waits on it any more, and else back into the chain.
+// A turnstile goes with the last of those that were taken off it where nobody waits on it any more, and else back into
+// the chain.
 #[tactic(auto, using(crate::proofs::Opens::left_idle))]
 fn put_back(chain: &mut Chain<Turnstile>, head: Box<Turnstile>, mut woken: Taken) -> Taken
     requires last { all_waiters head.value.contents ≡ [] → LastHasNone woken }
@@ -52,8 +64,11 @@ fn put_back(chain: &mut Chain<Turnstile>, head: Box<Turnstile>, mut woken: Taken
     requires home { head.value.contents.loan_home ≡ true }
     requires absent { IsSomeAnd (name_of head.value.contents) (λ q. head_of q chain.old ≡ None) }
     requires bare { head.value.next ≡ [] }
-    ensures woken { result ≡ (if is_empty (all_waiters head.value.contents) then with_last head.value.contents.number woken else woken) }
-    ensures chain { IfSome (name_of head.value.contents) (λ q. chain.new ≡ (if is_empty (all_waiters head.value.contents) then chain.old else (q, head.value) ∷ chain.old)) }
+    ensures woken { result ≡ (if is_empty (all_waiters head.value.contents)
+        then with_last head.value.contents.number woken else woken) }
+    ensures chain { IfSome (name_of head.value.contents) (λ q.
+        chain.new ≡ (if is_empty (all_waiters head.value.contents) then chain.old
+        else (q, head.value) ∷ chain.old)) }
 {
     if head.is_empty() {
         woken.fill_last(head);
@@ -63,7 +78,8 @@ fn put_back(chain: &mut Chain<Turnstile>, head: Box<Turnstile>, mut woken: Taken
     woken
 }
 
-/// A waiter that was taken off a turnstile has its node back, with the turnstile that it takes, and its record names no queue.
+/// A waiter that was taken off a turnstile has its node back, with the turnstile that it takes, and its record names no
+/// queue.
 pub fn wake(rec: &mut ThreadRec, node: Box<Waiter>)
     requires away { rec.old.turnstile ≡ None }
     requires holds { IsSome node.value.place.turnstile }

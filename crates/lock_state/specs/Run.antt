@@ -5,10 +5,11 @@ use Rattle.std.specs.Prelude.{ℕ, zero, suc, ◌%◌, Bool, true, false, not, �
 use Rattle.std.specs.List.{list_all, range_with_len}
 use Rattle.std.specs.FinMap.{entries}
 use Rattle.lock_model.specs.Plans.{config_of, operations_of}
+use Rattle.lock_model.specs.Operations.{next_at}
 use Rattle.lock_model.specs.Counts.{any_below, is_empty}
-use Rattle.lock_model.specs.Words.{admits, is_drop, is_turnstile, owner_of}
+use Rattle.lock_model.specs.Words.{admits, bits_of, is_plain, is_drop, is_turnstile, owner_of}
 use Rattle.lock_model.specs.Config.{Config}
-use Rattle.lock_state.specs.Steps.{Step, Gains, Drops, Stamps, Readies, Enters, Opens, Marks, Resumes, Lends, Shifts, EndsWalk, after_all}
+use Rattle.lock_state.specs.Steps.{Step, Looks, Gains, Drops, Stamps, Readies, Enters, Opens, Marks, Resumes, Claims, Lends, Shifts, EndsWalk, after_all}
 use Rattle.lock_state.specs.State.{State, Wait, Running, Queued, Woken, Walk, NoWalk, AtLock, AtThread, start_state, put}
 use Rattle.lock_model.specs.Holds.{Hold, NotHeld, Holds, is_unheld}
 use Rattle.lock_model.specs.Queues.{Mark, lock_queue, chan_queue, stands}
@@ -24,7 +25,7 @@ use Rattle.lock_model.specs.declared.plan.Plan.{Plan}
 use Rattle.lock_model.specs.declared.plan.QueueName.{QueueName}
 use Rattle.lock_model.specs.declared.plan.QueueName.TheVariants.{Lock, Chan}
 use Rattle.lock_model.specs.declared.turn.StepKind.{StepKind}
-use Rattle.lock_model.specs.declared.turn.StepKind.TheVariants.{Gain, Drop, Enter, OpenUp, Mark as Marked, Resume, Lend, Shift, WalkEnd, Note}
+use Rattle.lock_model.specs.declared.turn.StepKind.TheVariants.{Gain, Claim, Drop, Enter, OpenUp, Mark as Marked, Resume, Lend, Shift, WalkEnd, Note}
 use Rattle.lock_model.specs.declared.turn.Turn.{Turn}
 use Rattle.lock_model.specs.declared.turn.Turn.TheVariants.{Did, Idle, Ended}
 use Rattle.lock_model.specs.declared.event.Event.{Event}
@@ -61,8 +62,8 @@ has_ended plan r t =
 
 -- 2. The table of turns
 
--- what a thread does in its turn: the answer, its steps in order, and its next operation behind them, where that
--- changes
+-- what a thread does in its turn: the answer, its steps in order, and with which operation it goes on behind them,
+-- where that changes
 pub record Row : Type 0 where
   pub answer : Turn
   pub steps : List Step
@@ -101,13 +102,36 @@ abbrev pub blocks : Run → ℕ → LockNo → Mode → Row
 blocks r t l mode =
     does Enter (Readies t (Lock l) ∷ Enters t l.0 mode (unwrap_or (r.state.turnstile t) t) ∷ [])
 
--- A take gains the lock and notes it where the word admits the mode; else the thread blocks, and takes again when it
--- has been woken. So far plans have mutexes alone, whose gains are never claims.
+-- A thread gains a lock whose word admits the mode, and notes it. An exclusive gain of an rw lock whose word shows
+-- waiters is a claim: the thread becomes the owner of their turnstile.
+abbrev pub gains : Config → Run → ℕ → LockNo → Mode → Bool → Event → Row
+gains c r t l mode by_try noted =
+    if is_plain (c.kind l.0) (r.state.word l.0) mode
+    then ends r t Gain (Gains t l.0 mode by_try ∷ Stamps t noted ∷ [])
+    else ends r t Claim (Claims t l.0 (unwrap_or (r.state.head (lock_queue l.0)) t) by_try
+    ∷ Stamps t noted ∷ [])
+
+-- A take gains the lock where the word admits the mode; else the thread blocks, and takes again when it has been woken.
 abbrev pub takes : Config → Run → ℕ → LockNo → Mode → Row
 takes c r t l mode =
     if admits (c.kind l.0) (r.state.word l.0) mode
-    then ends r t Gain (Gains t l.0 mode false ∷ Stamps t (event.Locked l mode) ∷ [])
+    then gains c r t l mode false (event.Locked l mode)
     else blocks r t l mode
+
+-- a try that the word doesn't admit notes the word that it saw, and the thread goes on behind the block
+abbrev pub finds_busy : Run → ℕ → LockNo → ℕ → Row
+finds_busy r t l past = record {
+  answer = Did Note;
+  steps = Looks t l.0 false ∷ Stamps t (event.Busy l (bits_of (r.state.word l.0))) ∷ [];
+  next = Some past;
+}
+
+-- a try gains the lock where the word admits the mode, and else finds it busy; it never blocks
+abbrev pub tries : Config → Run → ℕ → LockNo → Mode → ℕ → Row
+tries c r t l mode past =
+    if admits (c.kind l.0) (r.state.word l.0) mode
+    then gains c r t l mode true (event.Tried l mode)
+    else finds_busy r t l past
 
 -- the mode in which a lock is held, exclusive where it isn't
 abbrev pub mode_held : Hold → Mode
@@ -125,12 +149,12 @@ releases r t l mode =
 abbrev pub notes : Run → ℕ → Event → Row
 notes r t e = ends r t Note (Stamps t e ∷ [])
 
--- A running thread makes its operation. The plans that are run so far have no tries, waits and wakes; and a thread
--- without an operation that hasn't ended holds a lock still, as no thread of a script does.
+-- A running thread makes its operation. The plans that are run so far have no waits and wakes; no thread is at an
+-- endtry; and a thread without an operation that hasn't ended holds a lock still, as no thread of a script does.
 abbrev pub operates : Config → Run → ℕ → Option Op → Row
 operates c r t None = nothing Idle
 operates c r t (Some (Take l mode)) = takes c r t l mode
-operates c r t (Some (Try l mode past)) = nothing Idle
+operates c r t (Some (Try l mode past)) = tries c r t l mode past
 operates c r t (Some EndTry) = nothing Idle
 operates c r t (Some (Release l)) = releases r t l (mode_held (r.state.held t l.0))
 operates c r t (Some (Set l key value)) = notes r t (event.Set l key value)
@@ -166,19 +190,21 @@ by_walk plan r t NoWalk = by_marked plan r t (r.state.marked t)
 unfoldable pub turn_of : Plan → Run → ℕ → Row
 turn_of plan r t = if has_ended plan r t then nothing Ended else by_walk plan r t (r.state.walk t)
 
--- the threads' next operations, where that of one changes
-abbrev pub next_ops : (ℕ → ℕ) → ℕ → Option ℕ → ℕ → ℕ
-next_ops next_op t None = next_op
-next_ops next_op t (Some n) = put next_op t n
+-- the threads' next operations, where that of one changes; endtrys are skipped
+abbrev pub next_ops : List Op → (ℕ → ℕ) → ℕ → Option ℕ → ℕ → ℕ
+next_ops ops next_op t None = next_op
+next_ops ops next_op t (Some n) = put next_op t (next_at ops n)
 
 -- the run behind a row of the table
-abbrev pub run_after : Config → Run → ℕ → Row → Run
-run_after c r t row =
-    record { state = after_all c r.state row.steps; next_op = next_ops r.next_op t row.next }
+abbrev pub run_after : Plan → Run → ℕ → Row → Run
+run_after plan r t row = record {
+  state = after_all (config_of plan) r.state row.steps;
+  next_op = next_ops (operations_of plan t) r.next_op t row.next;
+}
 
 -- the run behind a thread's turn
 unfoldable pub run_behind : Plan → Run → ℕ → Run
-run_behind plan r t = run_after (config_of plan) r t (turn_of plan r t)
+run_behind plan r t = run_after plan r t (turn_of plan r t)
 
 -- the run after a list of turns, the last of them first
 unfoldable pub after_turns : Plan → List ℕ → Run

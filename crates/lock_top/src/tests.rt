@@ -88,7 +88,8 @@ fn calls_at_ends_in_memory(rt: HostRuntime) -> Result<(), Fail> {
     Ok(())
 }
 
-// A first waiter; a loan that was made; equals in order of arrival.
+// A first waiter; a loan that was made; equals in order of arrival; a reader on a free word with readers waiting, whose
+// writer was woken; a claim, with its loan.
 const RUNS: &[(&str, u32, &str)] = &[
     (
         "lockrun 1\nmutex m k\nthread p 100\nlock m\nunlock m\nend\n\
@@ -112,10 +113,34 @@ const RUNS: &[(&str, u32, &str)] = &[
         thread o base 200 eff 50\nthread a base 100 eff 100\n\
         thread b base 50 eff 50\nthread c base 50 eff 50\ntoolong\n",
     ),
+    (
+        "lockrun 1\nrw d k\nthread w 100\nwlock d\nwunlock d\nend\n\
+        thread r1 90\nrlock d\nrunlock d\nend\nthread r2 80\nrlock d\nrunlock d\nend\n\
+        thread v 70\nwlock d\nwunlock d\nend\nthread n 60\nrlock d\nrunlock d\nend\n\
+        schedule w r1 r1 r2 r2 v v w n\ndone\n",
+        9,
+        "0 w wlock d\n1 w wunlock d\n2 n rlock d\n\
+        queue d slot 0 head r1 free r2 excl - shared r2@80,r1@90\n\
+        thread w base 100 eff 100\nthread r1 base 90 eff 90\nthread r2 base 80 eff 80\n\
+        thread v base 70 eff 70\nthread n base 60 eff 60\ntoolong\n",
+    ),
+    (
+        CLAIMED,
+        10,
+        "0 w wlock d\n1 w wunlock d\n2 n wlock d\n3 n show 95 80\n\
+        queue d slot 0 head r1 free r2 excl - shared r2@80,r1@90\n\
+        thread w base 100 eff 100\nthread r1 base 90 eff 90\nthread r2 base 80 eff 80\n\
+        thread v base 70 eff 70\nthread n base 95 eff 80\ntoolong\n",
+    ),
 ];
 
 const LENT: &str = "lockrun 1\nmutex m a\nthread p 100\nlock m\nshow\nunlock m\nend\n\
     thread q 50\nlock m\nadd m 1 3\nunlock m\nend\nschedule p q q p p p q\ndone\n";
+
+const CLAIMED: &str = "lockrun 1\nrw d k\nthread w 100\nwlock d\nwunlock d\nend\n\
+    thread r1 90\nrlock d\nrunlock d\nend\nthread r2 80\nrlock d\nrunlock d\nend\n\
+    thread v 70\nwlock d\nwunlock d\nend\nthread n 95\nwlock d\nshow\nwunlock d\nend\n\
+    schedule w r1 r1 r2 r2 v v w n n\ndone\n";
 
 #[test]
 fn runs_that_are_too_long(rt: HostRuntime) -> Result<(), Fail> {
@@ -129,27 +154,86 @@ fn runs_that_are_too_long(rt: HostRuntime) -> Result<(), Fail> {
     Ok(())
 }
 
-// Who has the turn, and its answer.
-const TURNS: &[(u8, Turn)] = &[
-    (0, Turn::Did(StepKind::Gain)),
-    (1, Turn::Did(StepKind::Enter)),
-    (1, Turn::Did(StepKind::Lend)),
-    (1, Turn::Idle),
-    (0, Turn::Did(StepKind::Note)),
-    (0, Turn::Did(StepKind::OpenUp)),
-    (0, Turn::Did(StepKind::Mark)),
-    (0, Turn::Ended),
-    (1, Turn::Did(StepKind::Resume)),
-    (1, Turn::Did(StepKind::Gain)),
+// Threads 0 and 1 hold b and a, and 1 waits for b. Threads 2 and 3 then both lend to 1 through a.
+const LENT_TWICE: &str = "lockrun 1\nmutex a ka\nmutex b kb\nthread t1 200\nlock b\nunlock b\nend\n\
+    thread t2 150\nlock a\nlock b\nunlock b\nunlock a\nend\n\
+    thread t3 50\nlock a\nunlock a\nend\nthread t4 40\nlock a\nunlock a\nend\ndone\n";
+
+// A script, and who has the turn with its answer, turn after turn.
+type Answers = (&'static str, &'static [(u8, Turn)]);
+
+// A hand-over with an idle and an ended turn; a claim behind a release that woke the other side; a second walk that sorts
+// a thread anew whose priority is kept already; a walk to a thread that is taken off its queue, and so ends.
+const TURNS: &[Answers] = &[
+    (
+        LENT,
+        &[
+            (0, Turn::Did(StepKind::Gain)),
+            (1, Turn::Did(StepKind::Enter)),
+            (1, Turn::Did(StepKind::Lend)),
+            (1, Turn::Idle),
+            (0, Turn::Did(StepKind::Note)),
+            (0, Turn::Did(StepKind::OpenUp)),
+            (0, Turn::Did(StepKind::Mark)),
+            (0, Turn::Ended),
+            (1, Turn::Did(StepKind::Resume)),
+            (1, Turn::Did(StepKind::Gain)),
+        ],
+    ),
+    (
+        CLAIMED,
+        &[
+            (0, Turn::Did(StepKind::Gain)),
+            (1, Turn::Did(StepKind::Enter)),
+            (1, Turn::Did(StepKind::Lend)),
+            (3, Turn::Did(StepKind::Enter)),
+            (0, Turn::Did(StepKind::OpenUp)),
+            (4, Turn::Did(StepKind::Claim)),
+        ],
+    ),
+    (
+        LENT_TWICE,
+        &[
+            (0, Turn::Did(StepKind::Gain)),
+            (1, Turn::Did(StepKind::Gain)),
+            (1, Turn::Did(StepKind::Enter)),
+            (1, Turn::Did(StepKind::Lend)),
+            (2, Turn::Did(StepKind::Enter)),
+            (2, Turn::Did(StepKind::Lend)),
+            (3, Turn::Did(StepKind::Enter)),
+            (3, Turn::Did(StepKind::Lend)),
+            (2, Turn::Did(StepKind::Shift)),
+            (3, Turn::Did(StepKind::Shift)),
+            (2, Turn::Did(StepKind::Lend)),
+            (3, Turn::Did(StepKind::Lend)),
+        ],
+    ),
+    (
+        LENT_TWICE,
+        &[
+            (0, Turn::Did(StepKind::Gain)),
+            (1, Turn::Did(StepKind::Gain)),
+            (1, Turn::Did(StepKind::Enter)),
+            (1, Turn::Did(StepKind::Lend)),
+            (0, Turn::Did(StepKind::OpenUp)),
+            (2, Turn::Did(StepKind::Enter)),
+            (2, Turn::Did(StepKind::Lend)),
+            (2, Turn::Did(StepKind::WalkEnd)),
+            (0, Turn::Did(StepKind::Mark)),
+            (1, Turn::Did(StepKind::Resume)),
+        ],
+    ),
 ];
 
 #[test]
 fn turns_and_their_answers(rt: HostRuntime) -> Result<(), Fail> {
-    let plan = plan_of(rt.alloc(), LENT)?;
-    let mut world = World::make(rt.alloc(), &plan, 16)?;
-    for &(t, answer) in TURNS {
-        assert!(rt; t < world.threads());
-        assert_eq!(rt; world.turn(ThreadNo(t)), answer);
+    for &(script, turns) in TURNS {
+        let plan = plan_of(rt.alloc(), script)?;
+        let mut world = World::make(rt.alloc(), &plan, 16)?;
+        for &(t, answer) in turns {
+            assert!(rt; t < world.threads());
+            assert_eq!(rt; world.turn(ThreadNo(t)), answer);
+        }
     }
     Ok(())
 }

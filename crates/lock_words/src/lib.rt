@@ -6,7 +6,7 @@
 #![tactic(auto)]
 
 ghost use Rattle.std.specs.Prelude.{◌≡◌, ◌≤◌, ◌/◌, ◌%◌, ◌==◌, true, false, option_map};
-ghost use Rattle.lock_model.specs.Words.{word_of, bits_of, IsWellFormed, admits, gained, dropped, entered, unshown, opened, side_opened, side_woken, claimed, without_one, is_drop, is_free, is_owned, owner_of, shows_waiters};
+ghost use Rattle.lock_model.specs.Words.{word_of, bits_of, IsWellFormed, admits, is_plain, gained, dropped, entered, unshown, opened, side_opened, side_woken, claimed, without_one, is_drop, is_free, owner_of, shows_waiters};
 ghost use Rattle.lock_words.specs.Views.{word_of_view, MayGain, IsHeldIn};
 
 use lock_model::{Kind, Mode, Side, ThreadNo};
@@ -124,6 +124,17 @@ pub fn admits(kind: Kind, w: u64, mode: Mode) -> bool
     }
 }
 
+/// Whether a gain in that mode keeps the waiters' bits and is no more than that. An exclusive gain of a mutex or a
+/// reader-writer lock whose word shows waiters is a claim: the thread becomes the owner of their turnstile.
+pub fn is_plain(kind: Kind, w: u64, mode: Mode) -> bool
+    ensures { result ≡ is_plain kind (word_of w) mode }
+{
+    match (kind, mode) {
+        (_, Mode::Shared) | (Kind::Sx, Mode::Excl) => true,
+        (Kind::Mtx | Kind::Rw, Mode::Excl) => !shows_waiters(w),
+    }
+}
+
 /// The word with one holder more, and the same waiters' bits. It is free, or the mode is shared and 1 to 63 threads share it.
 pub fn gained(w: u64, t: ThreadNo, mode: Mode) -> u64
     requires well_formed { IsWellFormed (word_of w) }
@@ -178,13 +189,11 @@ pub fn unshown(w: u64, side: Side) -> u64
 }
 
 /// The free word that the last holder leaves, and the side that it wakes, whose bit is cleared; the other side's bit stays. The
-/// side is `None` exactly where no waiter is shown. One holder is left, for a mutex an exclusive one.
+/// side is `None` exactly where no waiter is shown. One holder is left.
 pub fn opened(kind: Kind, w: u64) -> (u64, Option<Side>)
     requires well_formed { IsWellFormed (word_of w) }
     requires last { is_free (without_one (word_of w).holder) ≡ true }
     requires held { is_free (word_of w).holder ≡ false }
-    requires mutex { kind ≡ Kind.Mtx → is_owned (word_of w).holder ≡ true }
-    requires mutex_waiters { kind ≡ Kind.Mtx → (word_of w).shared_waiters ≡ false }
     ensures word { word_of result.0 ≡ opened kind (word_of w) }
     ensures side { result.1 ≡ side_opened kind (word_of w) }
 {

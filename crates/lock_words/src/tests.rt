@@ -27,6 +27,7 @@ fn steps_of_a_word(rt: HostRuntime) {
     assert!(rt; !admits(Kind::Rw, 9, Mode::Shared));
     assert_eq!(rt; entered(9, Side::S), 11);
     assert_eq!(rt; opened(Kind::Rw, 11), (2, Some(Side::X)));
+    assert!(rt; !is_plain(Kind::Rw, 2, Mode::Excl));
     assert_eq!(rt; claimed(2, ThreadNo(4)), 38);
     assert_eq!(rt; unshown(38, Side::S), 36);
     assert_eq!(rt; dropped(36, Mode::Excl), 0);

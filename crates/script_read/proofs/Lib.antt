@@ -1,5 +1,6 @@
 mod Cuts
 mod Digits
 mod LineStages
+mod OpenBlocks
 mod Rooms
 mod ToldLines

@@ -1,3 +1,4 @@
 pub mod Reading
 pub mod Statements
+pub mod OpenThreads
 pub mod Readers

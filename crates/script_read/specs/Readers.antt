@@ -1,22 +1,11 @@
 -- What a reader has made known.
 use Rattle.std.specs.Prelude.{List, [], ◌∷◌, ◌++◌, option_map, ℕ, Option, Some, None}
-use Rattle.lock_model.specs.Script.Learning as script
 use Rattle.lock_model.specs.Script.Learning.{Known}
 use Rattle.lock_model.specs.Holds.{Hold, NotHeld, Holds}
 use Rattle.lock_model.specs.declared.plan.Declared.{Declared}
 use Rattle.lock_model.specs.declared.plan.Mode.{Mode}
+use Rattle.script_read.specs.OpenThreads.{thread_of}
 use Rattle.script_read.specs.declared.reader.Reader.{Reader}
-use Rattle.script_read.specs.declared.reader.OpenThread.{OpenThread}
-
--- the thread that a reader is in; no word opens a block yet
-abbrev pub thread_of : OpenThread → script.OpenThread
-thread_of t = record {
-  name = t.name;
-  base = t.base.0;
-  ops = t.ops.items;
-  held = t.held.items;
-  blocks = [];
-}
 
 -- what a reader has made known; no word declares a channel yet
 abbrev pub known : Reader → Known

@@ -52,13 +52,13 @@ impl Code {
     pub const UNHELD: Code = Code(11);
     /// An sx lock is to be gained while a mutex or an rw lock is held.
     pub const UNDER_OTHERS: Code = Code(12);
-    /// A thread ends with a lock held.
+    /// A thread ends with a lock held, or a block of a try with other locks than before it.
     pub const STILL_HELD: Code = Code(14);
-    /// An operation or `end` stands outside a thread.
+    /// An operation or `end` stands outside a thread, or `endtry` outside a block.
     pub const OUTSIDE: Code = Code(15);
     /// A lock is declared behind the first thread.
     pub const LATE: Code = Code(16);
-    /// A thread, a schedule or `done` stands inside a thread, or `done` is missing.
+    /// A thread, a schedule or `done` stands inside a thread, `end` inside a block, or `done` is missing.
     pub const INSIDE: Code = Code(17);
     /// A line is too long.
     pub const LENGTH: Code = Code(18);

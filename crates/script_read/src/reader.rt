@@ -2,30 +2,32 @@
 //! learnt; behind a fault nothing is read, so what is known then doesn't matter.
 #![tactic(auto, using(lock_model::proofs::LeastCodes::least_is_first))]
 
-ghost use Rattle.std.specs.Prelude.{◌≡◌, ◌<◌, None, Some, [], OnOk};
+ghost use Rattle.std.specs.Prelude.{◌≡◌, ◌<◌, ◌≤◌, None, Some, [], OnOk};
 ghost use Rattle.lock_model.specs.Limits.{most_operations};
 ghost use Rattle.lock_model.specs.Script.{reading_from};
 ghost use Rattle.lock_model.specs.Script.Faults.{line_fault, behind_line};
 ghost use Rattle.lock_model.specs.Script.Learning.{nothing_known, declared_as, with_operation};
 ghost use Rattle.lock_model.specs.Script.Lines.{lines_of, words_of};
-ghost use Rattle.lock_model.specs.Script.Statements.{Declares, Begins, Ends, Schedules, IsDone, Operates};
+ghost use Rattle.lock_model.specs.Script.Statements.{Declares, Begins, Ends, Schedules, IsDone, Operates, EndsTry};
 ghost use Rattle.script_read.specs.Reading.{Goes, GoesBy, Tells};
-ghost use Rattle.script_read.specs.Readers.{known, with_name};
+ghost use Rattle.script_read.specs.OpenThreads.{operations_of};
 ghost use Rattle.script_read.specs.Statements.{meant, meant_operation};
 
 use crate::fault::{Code, LineError, ReadError, ScriptFault, test};
 use crate::lines::split_line;
+use crate::reader::open_thread::OpenThread;
 use crate::reader::stages::{has_meaning, test_bytes};
 use crate::statement::{Operation, Statement};
 use crate::words::cut_word;
 use indexmap::{IndexMap, IndexSet};
 use lock_model::{
-    ClassNo, Declared, Held, Kind, LockDecl, LockNo, Name, Op, Plan, Prio, Sequence, ThreadDecl,
-    ThreadNo,
+    ClassNo, Declared, Kind, LockDecl, LockNo, Name, Op, Plan, Sequence, ThreadDecl, ThreadNo,
+    limits,
 };
 use std::alloc::{AllocError, Global};
 
 mod held;
+mod open_thread;
 mod stages;
 
 /// What is known behind some lines.
@@ -40,18 +42,13 @@ pub struct Reader {
     // Operations of all threads.
     operations: usize,
     is_done: bool,
-}
-
-/// A thread whose `end` hasn't come, and what it holds behind its lines so far.
-#[derive(Drop)]
-struct OpenThread {
-    name: Name,
-    base: Prio,
-    ops: Vec<Op>,
-    held: Vec<Held>,
+    // Those of the open thread are among all operations.
+    ghost counted: { operations_of open_thread ≤ operations },
 }
 
 impl Reader {
+    ghost use Rattle.script_read.specs.Readers.{known, with_name};
+
     // What the header makes known: nothing.
     fn new(alloc: Global) -> Reader
         ensures { known result ≡ nothing_known }
@@ -125,11 +122,12 @@ impl Reader {
             Statement::End => self.end(),
             Statement::Schedule { names } => self.schedule(names),
             Statement::Done => self.done(),
-            Statement::Operation(operation) => self.operation(operation),
+            Statement::Operation(operation) => self.operation(alloc, operation),
+            Statement::EndTry => self.end_try(),
         }
     }
 
-    // `mutex NAME CLASS` declares a lock.
+    // `mutex NAME CLASS` and its like declare a lock.
     fn lock(&mut self, kind: Kind, name: &[u8], class: &[u8]) -> Result<(), LineError>
         ensures { GoesBy (known self.old) (Declares kind name.now class.now) (known self.new) result }
     {
@@ -156,15 +154,18 @@ impl Reader {
             base,
             ops: Vec::new(alloc),
             held: Vec::new(alloc),
+            blocks: Vec::new(alloc),
         });
         Ok(())
     }
 
     // `end` ends the open thread.
+    #[tactic(auto, using(lock_model::proofs::LeastCodes::least_is_first, crate::proofs::OpenBlocks::none_open))]
     fn end(&mut self) -> Result<(), LineError>
         ensures { GoesBy (known self.old) Ends (known self.new) result }
     {
         let thread = self.open_thread.take().ok_or(Code::OUTSIDE)?;
+        test(Code::INSIDE, thread.blocks.is_empty())?;
         test(Code::STILL_HELD, thread.held.is_empty())?;
         self.threads.push(ThreadDecl {
             name: thread.name,
@@ -201,12 +202,27 @@ impl Reader {
     }
 
     // An operation of the open thread.
-    fn operation(&mut self, operation: Operation) -> Result<(), LineError>
+    fn operation(&mut self, alloc: Global, operation: Operation) -> Result<(), LineError>
         ensures { GoesBy (known self.old) (Operates (meant_operation operation.entry)) (known self.new) result }
     {
         let thread = self.open_thread.as_ref().ok_or(Code::OUTSIDE)?;
         let op = self.test_operation(thread, operation)?;
-        self.add_operation(op)?;
+        self.add_operation(alloc, op)?;
+        Ok(())
+    }
+
+    // `endtry` closes the innermost block, where the thread holds just what it held before the try.
+    #[tactic(auto, using(lock_model::proofs::LeastCodes::least_is_first, crate::proofs::OpenBlocks::innermost))]
+    fn end_try(&mut self) -> Result<(), LineError>
+        ensures { GoesBy (known self.old) EndsTry (known self.new) result }
+    {
+        let thread = self.open_thread.as_mut().ok_or(Code::OUTSIDE)?;
+        let block = thread.blocks.pop().ok_or(Code::OUTSIDE)?;
+        test(Code::LIMIT, self.operations < limits::OPERATIONS)?;
+        test(Code::STILL_HELD, held::is_same(&thread.held, &block.before))?;
+        thread.go_on_behind(block);
+        thread.ops.push(Op::EndTry)?;
+        self.operations += 1;
         Ok(())
     }
 
@@ -220,12 +236,15 @@ impl Reader {
     }
 
     // Adds an operation to the open thread's.
-    fn add_operation(&mut self, op: Op) -> Result<(), AllocError>
+    fn add_operation(&mut self, alloc: Global, op: Op) -> Result<(), AllocError>
         requires { (known self.old).operations < most_operations }
         ensures { OnOk result (known self.new
             ≡ with_operation (known self.old) (known self.old).open_thread (Some op)) }
     {
         if let Some(thread) = self.open_thread.as_mut() {
+            if let Some(block) = thread.opened_by(alloc, op)? {
+                thread.blocks.push(block)?;
+            }
             held::hold_behind(&mut thread.held, op)?;
             thread.ops.push(op)?;
             self.operations += 1;

@@ -1,10 +1,11 @@
 //! What a line says, by its first word and the number of words behind it.
-ghost use Rattle.std.specs.Prelude.{◌≡◌, ℕ, List, option_map, option_copied};
+ghost use Rattle.std.specs.Prelude.{◌≡◌, ℕ, List, map, option_map, option_copied};
+ghost use Rattle.std.specs.Map.{lookup};
 ghost use Rattle.lock_model.specs.Script.Statements as script;
 ghost use Rattle.lock_model.specs.Script.Statements.{Alone, WithOne, WithTwo, WithThree, WithSome, form_of, said, statement_of};
 ghost use Rattle.script_read.specs.Reading.{words_behind};
-ghost use Rattle.script_read.specs.Statements.{form, meant};
-ghost use Rattle.lock_model.specs.Script.Lines.{words_of};
+ghost use Rattle.script_read.specs.Statements.{form, meant, row};
+ghost use Rattle.lock_model.specs.Script.Lines.{words_of, is_same};
 
 use crate::words::{cut_word, has_empty_word, is_word};
 use lock_model::{Kind, Mode};
@@ -18,6 +19,11 @@ pub enum Operation<'a> {
         lock: &'a [u8],
     },
     Release {
+        kind: Kind,
+        mode: Mode,
+        lock: &'a [u8],
+    },
+    Try {
         kind: Kind,
         mode: Mode,
         lock: &'a [u8],
@@ -61,24 +67,52 @@ pub enum Statement<'a> {
     },
     Done,
     Operation(Operation<'a>),
+    EndTry,
 }
 
-/// A first word.
+/// What a first word says.
 #[derive(Clone, Copy)]
 enum Verb {
-    Mutex,
+    Declare(Kind),
     Thread,
     End,
     Schedule,
     Done,
-    Lock,
-    Unlock,
+    Take(Kind, Mode),
+    Release(Kind, Mode),
+    Try(Kind, Mode),
+    EndTry,
     Set,
     Add,
     Get,
     Prio,
     Show,
 }
+
+/// The first words.
+const VERBS: [(&str, Verb); 21] = [
+    ("mutex", Verb::Declare(Kind::Mtx)),
+    ("rw", Verb::Declare(Kind::Rw)),
+    ("thread", Verb::Thread),
+    ("end", Verb::End),
+    ("schedule", Verb::Schedule),
+    ("done", Verb::Done),
+    ("lock", Verb::Take(Kind::Mtx, Mode::Excl)),
+    ("unlock", Verb::Release(Kind::Mtx, Mode::Excl)),
+    ("rlock", Verb::Take(Kind::Rw, Mode::Shared)),
+    ("wlock", Verb::Take(Kind::Rw, Mode::Excl)),
+    ("runlock", Verb::Release(Kind::Rw, Mode::Shared)),
+    ("wunlock", Verb::Release(Kind::Rw, Mode::Excl)),
+    ("trylock", Verb::Try(Kind::Mtx, Mode::Excl)),
+    ("tryrlock", Verb::Try(Kind::Rw, Mode::Shared)),
+    ("trywlock", Verb::Try(Kind::Rw, Mode::Excl)),
+    ("endtry", Verb::EndTry),
+    ("set", Verb::Set),
+    ("add", Verb::Add),
+    ("get", Verb::Get),
+    ("prio", Verb::Prio),
+    ("show", Verb::Show),
+];
 
 /// What a line says. `None` comes where a word is empty, the first word unknown or the number of words wrong.
 pub fn statement_of(line: &[u8]) -> Option<Statement<'_>>
@@ -91,37 +125,23 @@ pub fn statement_of(line: &[u8]) -> Option<Statement<'_>>
     verb_of(word)?.with_words(rest)
 }
 
-// The first word that it is, if it is known.
+// What a first word says, if it is known.
 fn verb_of(word: &[u8]) -> Option<Verb>
     ensures { option_map form result ≡ form_of word.now }
 {
-    if is_word(word, "mutex") {
-        Some(Verb::Mutex)
-    } else if is_word(word, "thread") {
-        Some(Verb::Thread)
-    } else if is_word(word, "end") {
-        Some(Verb::End)
-    } else if is_word(word, "schedule") {
-        Some(Verb::Schedule)
-    } else if is_word(word, "done") {
-        Some(Verb::Done)
-    } else if is_word(word, "lock") {
-        Some(Verb::Lock)
-    } else if is_word(word, "unlock") {
-        Some(Verb::Unlock)
-    } else if is_word(word, "set") {
-        Some(Verb::Set)
-    } else if is_word(word, "add") {
-        Some(Verb::Add)
-    } else if is_word(word, "get") {
-        Some(Verb::Get)
-    } else if is_word(word, "prio") {
-        Some(Verb::Prio)
-    } else if is_word(word, "show") {
-        Some(Verb::Show)
-    } else {
-        None
+    verb_in(&VERBS, word)
+}
+
+// What a table says of a word.
+fn verb_in(table: &[(&str, Verb)], word: &[u8]) -> Option<Verb>
+    ensures { option_map form result ≡ lookup (is_same word.now) (map row table.now) }
+{
+    for (text, verb) in table {
+        if is_word(word, text) {
+            return Some(*verb);
+        }
     }
+    None
 }
 
 impl Verb {
@@ -131,9 +151,8 @@ impl Verb {
             ≡ said (form self) (words_behind (option_copied rest.entry)) }
     {
         match self {
-            Verb::Mutex => {
+            Verb::Declare(kind) => {
                 let (name, class) = two_words(rest)?;
-                let kind = Kind::Mtx;
                 Some(Statement::Lock { kind, name, class })
             }
             Verb::Thread => {
@@ -143,16 +162,19 @@ impl Verb {
             Verb::End => no_word(rest, Statement::End),
             Verb::Schedule => Some(Statement::Schedule { names: rest? }),
             Verb::Done => no_word(rest, Statement::Done),
-            Verb::Lock => {
+            Verb::Take(kind, mode) => {
                 let lock = one_word(rest)?;
-                let (kind, mode) = (Kind::Mtx, Mode::Excl);
                 Some(Statement::Operation(Operation::Take { kind, mode, lock }))
             }
-            Verb::Unlock => {
+            Verb::Release(kind, mode) => {
                 let lock = one_word(rest)?;
-                let (kind, mode) = (Kind::Mtx, Mode::Excl);
                 Some(Statement::Operation(Operation::Release { kind, mode, lock }))
             }
+            Verb::Try(kind, mode) => {
+                let lock = one_word(rest)?;
+                Some(Statement::Operation(Operation::Try { kind, mode, lock }))
+            }
+            Verb::EndTry => no_word(rest, Statement::EndTry),
             Verb::Set => {
                 let (lock, key, value) = three_words(rest)?;
                 Some(Statement::Operation(Operation::Set { lock, key, value }))

@@ -34,6 +34,94 @@ fn fault_of(alloc: Global, script: &str) -> Result<(u32, u8), Fail> {
     }
 }
 
+// Scripts of one thread with the locks m, n, d and e, and its operations.
+const BLOCKS: [(&str, &[Op]); 3] = [
+    (
+        "trylock m;unlock m;endtry;",
+        &[
+            Op::Try {
+                l: LockNo(0),
+                mode: Mode::Excl,
+                past: 3,
+            },
+            Op::Release { l: LockNo(0) },
+            Op::EndTry,
+        ],
+    ),
+    (
+        "trylock m;tryrlock d;get d 1;runlock d;endtry;unlock m;trywlock e;wunlock e;endtry;endtry;show;",
+        &[
+            Op::Try {
+                l: LockNo(0),
+                mode: Mode::Excl,
+                past: 10,
+            },
+            Op::Try {
+                l: LockNo(2),
+                mode: Mode::Shared,
+                past: 5,
+            },
+            Op::Get {
+                l: LockNo(2),
+                key: 1,
+            },
+            Op::Release { l: LockNo(2) },
+            Op::EndTry,
+            Op::Release { l: LockNo(0) },
+            Op::Try {
+                l: LockNo(3),
+                mode: Mode::Excl,
+                past: 9,
+            },
+            Op::Release { l: LockNo(3) },
+            Op::EndTry,
+            Op::EndTry,
+            Op::Show,
+        ],
+    ),
+    (
+        "rlock d;wlock e;trylock n;wunlock e;unlock n;wlock e;endtry;runlock d;wunlock e;",
+        &[
+            Op::Take {
+                l: LockNo(2),
+                mode: Mode::Shared,
+            },
+            Op::Take {
+                l: LockNo(3),
+                mode: Mode::Excl,
+            },
+            Op::Try {
+                l: LockNo(1),
+                mode: Mode::Excl,
+                past: 7,
+            },
+            Op::Release { l: LockNo(3) },
+            Op::Release { l: LockNo(1) },
+            Op::Take {
+                l: LockNo(3),
+                mode: Mode::Excl,
+            },
+            Op::EndTry,
+            Op::Release { l: LockNo(2) },
+            Op::Release { l: LockNo(3) },
+        ],
+    ),
+];
+
+#[test]
+fn blocks(rt: HostRuntime) -> Result<(), Fail> {
+    for (lines, ops) in BLOCKS {
+        let script = format!(in rt.alloc();
+            "lockrun 1;mutex m a;mutex n b;rw d c;rw e c;thread t 1;{lines}end;done;"
+        )?;
+        let plan = plan_of(rt.alloc(), &script)?;
+        let threads = plan.threads.as_slice();
+        assert_eq!(rt; threads.len(), 1);
+        assert_eq!(rt; threads[0].ops.as_slice(), ops, "of {lines}");
+    }
+    Ok(())
+}
+
 #[test]
 fn a_plan(rt: HostRuntime) -> Result<(), Fail> {
     let script =
@@ -78,7 +166,7 @@ fn a_plan(rt: HostRuntime) -> Result<(), Fail> {
 }
 
 // Scripts, and the line and the code of the first fault of each.
-const FAULTS: [(&str, u32, u8); 29] = [
+const FAULTS: [(&str, u32, u8); 47] = [
     ("", 1, 1),
     (";", 1, 1),
     ("# lockrun 1;done;", 1, 1),
@@ -91,18 +179,24 @@ const FAULTS: [(&str, u32, u8); 29] = [
         18,
     ),
     ("lockrun 1;# a\tb;done;", 2, 19),
-    ("lockrun 1;rw d a;done;", 2, 2),
+    ("lockrun 1;sx d a;done;", 2, 2),
     ("lockrun 1;mutex m a b;done;", 2, 2),
     ("lockrun 1;schedule  t;done;", 2, 2),
+    ("lockrun 1;rw d a;thread t 1;tryrlock d e;end;done;", 4, 2),
     ("lockrun 1;done;;done;", 4, 2),
     ("lockrun 1;lock Foo;done;", 2, 15),
     ("lockrun 1;end;done;", 2, 15),
+    ("lockrun 1;endtry;done;", 2, 15),
+    ("lockrun 1;thread t 1;endtry;end;done;", 3, 15),
     ("lockrun 1;thread t 1;mutex M 1;end;done;", 3, 16),
     ("lockrun 1;thread t 1;done;", 3, 17),
+    ("lockrun 1;mutex m a;thread t 1;trylock m;end;done;", 5, 17),
     ("lockrun 1;mutex m 1;done;", 2, 3),
+    ("lockrun 1;thread t 1;trylock Foo;end;done;", 3, 3),
     ("lockrun 1;thread t 1;end;schedule t u T;done;", 4, 3),
     ("lockrun 1;mutex m a;thread m 256;end;done;", 3, 4),
     ("lockrun 1;thread t 1;lock t;end;done;", 3, 5),
+    ("lockrun 1;thread t 1;trylock foo;end;done;", 3, 5),
     (
         "lockrun 1;thread t 1;end;schedule u;thread u 1;end;done;",
         4,
@@ -110,17 +204,30 @@ const FAULTS: [(&str, u32, u8); 29] = [
     ),
     ("lockrun 1;thread t 256;end;done;", 2, 6),
     ("lockrun 1;mutex m a;thread t 1;set m 01 2;end;done;", 4, 6),
+    ("lockrun 1;mutex m a;thread t 1;rlock m;end;done;", 4, 8),
+    ("lockrun 1;rw d a;thread t 1;lock d;end;done;", 4, 8),
     (
-        "lockrun 1;mutex m0 c0;mutex m1 c1;mutex m2 c2;mutex m3 c3;mutex m4 c4;mutex m5 c5;mutex m6 c6;mutex m7 c7;mutex m8 c8;thread t 1;lock m0;lock m1;lock m2;lock m3;lock m4;lock m5;lock m6;lock m7;lock m8;",
-        20,
-        7,
+        "lockrun 1;rw d a;thread t 1;rlock d;unlock d;end;done;",
+        5,
+        8,
     ),
     (
         "lockrun 1;mutex m a;thread t 1;lock m;show;lock m;end;done;",
         6,
         9,
     ),
+    (
+        "lockrun 1;mutex m a;thread t 1;lock m;trylock m;end;done;",
+        5,
+        9,
+    ),
+    (
+        "lockrun 1;rw d a;thread t 1;rlock d;wunlock d;end;done;",
+        5,
+        10,
+    ),
     ("lockrun 1;mutex m a;thread t 1;unlock m;end;done;", 4, 11),
+    ("lockrun 1;rw d a;thread t 1;runlock d;end;done;", 4, 11),
     (
         "lockrun 1;mutex m a;mutex n a;thread t 1;lock m;get n 1;end;done;",
         6,
@@ -128,13 +235,65 @@ const FAULTS: [(&str, u32, u8); 29] = [
     ),
     ("lockrun 1;mutex m a;thread t 1;set m 1 2;end;done;", 4, 11),
     ("lockrun 1;mutex m a;thread t 1;lock m;end;done;", 5, 14),
+    // What is held at an `endtry`: a lock more,
+    (
+        "lockrun 1;mutex m a;thread t 1;trylock m;endtry;end;done;",
+        5,
+        14,
+    ),
+    // a lock less,
+    (
+        "lockrun 1;mutex m a;mutex n a;thread t 1;lock m;trylock n;unlock m;unlock n;endtry;end;done;",
+        9,
+        14,
+    ),
+    // another order,
+    (
+        "lockrun 1;mutex m a;mutex n a;mutex o a;thread t 1;lock m;lock n;trylock o;unlock n;unlock m;lock n;lock m;unlock o;endtry;",
+        14,
+        14,
+    ),
+    // another mode,
+    (
+        "lockrun 1;rw d a;mutex m a;thread t 1;rlock d;trylock m;runlock d;wlock d;unlock m;endtry;",
+        10,
+        14,
+    ),
+    // and a lock that a try had gained.
+    (
+        "lockrun 1;mutex m a;mutex n a;thread t 1;trylock m;trylock n;unlock m;lock m;unlock n;endtry;",
+        10,
+        14,
+    ),
+    (
+        "lockrun 1;rw d a;thread t 1;rlock d;set d 1 1;end;done;",
+        5,
+        20,
+    ),
+    ("lockrun 1;rw d a;thread t 1;tryrlock d;add d 1 1;", 5, 20),
 ];
+
+const NINE_LOCKS: &str =
+    "lockrun 1;mutex m0 a;mutex m1 a;mutex m2 a;mutex m3 a;mutex m4 a;mutex m5 a;mutex m6 a;mutex m7 a;mutex m8 a;thread t 1;";
 
 // A text, another one with each number below a bound behind it and a third behind that, and a last one; and the fault
 // of it all.
-const LIMITS: [(&str, &str, u32, &str, &str, u32, u8); 4] = [
+const LIMITS: [(&str, &str, u32, &str, &str, u32, u8); 9] = [
     ("lockrun 1;", "mutex m", 65, " a;", "done;", 66, 7),
     ("lockrun 1;", "thread t", 33, " 1;end;", "done;", 66, 7),
+    (NINE_LOCKS, "lock m", 9, ";", "end;done;", 20, 7),
+    (NINE_LOCKS, "lock m", 8, ";", "trylock m8;", 20, 7),
+    // of a held one's two faults the smaller
+    (NINE_LOCKS, "lock m", 8, ";", "trylock m7;", 20, 7),
+    (
+        "lockrun 1;mutex m a;thread t 1;",
+        "trylock m;unlock m;# ",
+        9,
+        ";",
+        "end;done;",
+        28,
+        7,
+    ),
     (
         "lockrun 1;thread t 1;",
         "show;# ",
@@ -142,6 +301,15 @@ const LIMITS: [(&str, &str, u32, &str, &str, u32, u8); 4] = [
         ";",
         "end;done;",
         40_003,
+        7,
+    ),
+    (
+        "lockrun 1;mutex m a;thread t 1;",
+        "trylock m;unlock m;endtry;# ",
+        6_667,
+        ";",
+        "end;done;",
+        26_670,
         7,
     ),
     (
@@ -155,19 +323,31 @@ const LIMITS: [(&str, &str, u32, &str, &str, u32, u8); 4] = [
     ),
 ];
 
+fn script_of(
+    alloc: Global,
+    head: &str,
+    text: &str,
+    times: u32,
+    behind: &str,
+    tail: &str,
+) -> Result<String, Fail> {
+    let mut script = String::from_str(alloc, head)?;
+    for n in 0..times {
+        script.push_str(text)?;
+        script.push_str(&format!(in alloc; "{n}")?)?;
+        script.push_str(behind)?;
+    }
+    script.push_str(tail)?;
+    Ok(script)
+}
+
 #[test]
 fn faults(rt: HostRuntime) -> Result<(), Fail> {
     for (script, line, code) in FAULTS {
         assert_eq!(rt; fault_of(rt.alloc(), script)?, (line, code), "at {script}");
     }
     for (head, text, times, behind, tail, line, code) in LIMITS {
-        let mut script = String::from_str(rt.alloc(), head)?;
-        for n in 0..times {
-            script.push_str(text)?;
-            script.push_str(&format!(in rt.alloc(); "{n}")?)?;
-            script.push_str(behind)?;
-        }
-        script.push_str(tail)?;
+        let script = script_of(rt.alloc(), head, text, times, behind, tail)?;
         assert_eq!(rt; fault_of(rt.alloc(), &script)?, (line, code), "at {text}");
     }
     Ok(())

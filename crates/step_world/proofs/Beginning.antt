@@ -116,7 +116,7 @@ module _ (plan : Plan) (m : Machine) (p : IsProper plan) (b : IsBegun plan m) wh
   shows : Represents c m (start_state c)
   unfolding start_state tables_of
   shows = record {
-    within = record { few_locks = p.locks; few_threads = p.threads; mutexes = p.mutexes };
+    within = record { few_locks = p.locks; few_threads = p.threads; turnstiles = p.turnstiles };
     words = words;
     queues = record { lock = λ l k. rw b.no_queue refl };
     threads = threads;

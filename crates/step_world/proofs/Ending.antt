@@ -1,5 +1,5 @@
--- A thread has an operation behind it, and its walk ends.
-use Rattle.std.proofs.Common.{◌≡◌, ℕ, ◌+◌, ◌<◌, List, length, get_or, slice_get, Some, refl, sym, ap, ◌∙◌}
+-- A thread goes on with another operation, and its walk ends.
+use Rattle.std.proofs.Common.{◌≡◌, ℕ, ◌<◌, List, length, get_or, slice_get, Some, refl, sym, ap, ◌∙◌}
 use Rattle.std.proofs.lemmas.Option.{slice_get_read}
 use Rattle.std.specs.Vec.{with_item}
 use Rattle.lock_model.specs.Config.{Config}
@@ -18,19 +18,19 @@ use Rattle.step_world.proofs.Kit.{OthersStay, thread_changed}
 pub read_at : (ths : List Thread) (t i : ℕ) (th : Thread) → i ≡ t → t < length ths → th ≡ get_or ths i th → slice_get ths t ≡ Some th
 read_at ths t i th e l is = slice_get_read ths (length ths) t th refl l (is ∙ ap (λ (j : ℕ). get_or ths j th) e)
 
--- the thread with one operation more behind it
-abbrev pub further : Thread → Thread
-further th = record th { next_op = th.next_op + 1 }
+-- the thread with another next operation
+abbrev pub going_on : ℕ → Thread → Thread
+going_on n th = record th { next_op = n }
 
-pub operation_ended : {m : Machine} {c : Config} {s : State} {t : ℕ} (th : Thread) → slice_get m.threads.items t ≡ Some th → t < c.threads
-    → Represents c m s → Represents c (record m { threads = with_item m.threads t (further th) }) s
-operation_ended {s = s} {t = t} th at k h =
+pub gone_on : {m : Machine} {c : Config} {s : State} {t : ℕ} (n : ℕ) (th : Thread) → slice_get m.threads.items t ≡ Some th → t < c.threads
+    → Represents c m s → Represents c (record m { threads = with_item m.threads t (going_on n th) }) s
+gone_on {s = s} {t = t} n th at k h =
     let old = h.threads.thread t th at in
     record {
       within = h.within;
       words = h.words;
       queues = h.queues;
-      threads = thread_changed s (further th) h.threads k (record { columns = old.columns; one_loan_each = old.one_loan_each; held = old.held; marked = old.marked; woken = old.woken }) (λ u n. refl);
+      threads = thread_changed s (going_on n th) h.threads k (record { columns = old.columns; one_loan_each = old.one_loan_each; held = old.held; marked = old.marked; woken = old.woken }) (λ u n. refl);
       history = h.history;
       tables = h.tables;
     }

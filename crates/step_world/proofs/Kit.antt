@@ -1,11 +1,12 @@
 -- How the parts of a machine show a state's columns when one thread or one word changes.
-use Rattle.std.proofs.Common.{◌≡◌, ◌≢◌, ℕ, ◌<◌, ◌==◌, if◌then◌else◌, List, length, slice_set, slice_index_or, get_or, slice_get, Some, option_map, refl, sym, ap, subst, inl, inr, arith, ◌∙◌}
+use Rattle.std.proofs.Common.{◌≡◌, ◌≢◌, ℕ, ◌<◌, ◌==◌, if◌then◌else◌, Bool, List, length, slice_set, slice_index_or, get_or, slice_get, Some, option_map, refl, sym, ap, subst, inl, inr, arith, ◌∙◌}
 use Rattle.std.proofs.lemmas.Bool.{cases_eq, cases_lt, eq-eqb, ne_eqb}
 use Rattle.std.proofs.lemmas.List.{get_or-set_same, get_or-set_other, length-set, get_or_read}
 use Rattle.std.proofs.lemmas.Option.{slice_get-get_or, slice_get_within, slice_get_past, slice_get_read, same_Some}
 use Rattle.lock_model.specs.Words.{Word, word_of, IsPossible}
 use Rattle.lock_model.specs.Config.{Config}
 use Rattle.lock_state.specs.State.{State, put}
+use Rattle.lock_state.specs.Steps.LockWords.{after_look}
 use Rattle.lock_state.specs.Facts.{Lawful}
 use Rattle.lock_laws.proofs.Kit.{put_same, put_other}
 use Rattle.lock_laws.proofs.WordsAndHeads.{possible_holder}
@@ -104,3 +105,17 @@ thread_at ths t d l = slice_get-get_or ths t d l
 -- the thread that was read at the place of a number
 pub read : {ths : List Thread} {c : Config} {s : State} (t i : ℕ) (th : Thread) → RepresentsThreads ths c s → t < c.threads → i ≡ t → th ≡ get_or ths i th → slice_get ths t ≡ Some th
 read {ths = ths} {c = c} t i th h l e is = slice_get_read ths c.threads t th (sym h.threads) l (is ∙ ap (λ (j : ℕ). get_or ths j th) e)
+
+-- 5. Looks
+
+-- no object tells of a look
+pub looked : {m : Machine} {c : Config} {s : State} (t l : ℕ) (in_round : Bool) → Represents c m s → Represents c m (after_look s t l in_round)
+unfolding after_look
+looked {s = s} t l in_round h = record {
+  within = h.within;
+  words = h.words;
+  queues = h.queues;
+  threads = threads_stay (after_look s t l in_round) h.threads (λ u. refl);
+  history = h.history;
+  tables = h.tables;
+}

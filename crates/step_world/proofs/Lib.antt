@@ -10,8 +10,7 @@ pub mod Stamping
 pub mod Opening
 pub mod Ends
 pub mod Turning
-pub mod RowsOfTakes
-pub mod RowsOfReleases
+pub mod RowsOfLocks
 pub mod RowsOfOperations
 pub mod WorldsAreSound
 pub mod RowsOfWalks

@@ -7,7 +7,6 @@ use Rattle.lock_model.specs.Config.{Config}
 use Rattle.lock_state.specs.State.{State, Woken, put}
 use Rattle.lock_model.specs.Queues.{Mark, BySignal, is_turnstile_queue}
 use Rattle.lock_state.specs.Facts.{Lawful}
-use Rattle.lock_model.specs.Words.{is_turnstile}
 use Rattle.lock_state.specs.Steps.Turnstiles.{MayMark, after_mark}
 use Rattle.lock_model.specs.declared.plan.QueueName.{QueueName}
 use Rattle.lock_model.specs.declared.plan.QueueName.TheVariants.{Lock, Chan}
@@ -118,7 +117,7 @@ module _ {m : Machine} {c : Config} {s : State} {t : ℕ} {th : Thread} {p : Pla
   of_turnstile = go queue is_off
     where
       go : (q : QueueName) → IsOfLock q → is_turnstile_queue c q ≡ true
-      go (Lock l) off = ap is_turnstile (h.within.mutexes l.0)
+      go (Lock l) off = h.within.turnstiles l.0
       go (Chan d) off = absurd off
 
   is_away : s.turnstile p.thread ≡ None

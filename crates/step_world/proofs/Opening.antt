@@ -1,22 +1,19 @@
 -- A thread releases a lock, as its last holder, for which others wait.
-use Rattle.std.proofs.Common.{◌≡◌, ℕ, ◌≤◌, true, false, not, cond, List, map, slice_get, Option, Some, None, IsSome, refl, sym, ap, subst, ◌∙◌}
+use Rattle.std.proofs.Common.{◌≡◌, ℕ, ◌≤◌, true, false, cond, List, map, slice_get, Option, Some, None, IsSome, refl, sym, ap, subst, ◌∙◌}
 use Rattle.std.specs.List.{All}
 use Rattle.std.specs.Vec.{with_item, vec_capacity}
 use Rattle.std.specs.Box.{with_value}
 use Rattle.lock_model.specs.Config.{Config}
-use Rattle.lock_model.specs.Counts.{is_empty}
 use Rattle.lock_model.specs.Holds.{NotHeld}
 use Rattle.lock_model.specs.Operations.{hold_in, without_lock}
 use Rattle.lock_model.specs.Queues.{lock_queue, list_of, dealt}
-use Rattle.lock_model.specs.Words.{Holder, Free, HeldBy, SharedBy, word_of, is_free, is_owned, without_one, opened, side_opened, side_woken}
+use Rattle.lock_model.specs.Words.{Holder, Free, HeldBy, SharedBy, word_of, is_free, without_one, opened, side_opened, side_woken}
 use Rattle.lock_model.specs.declared.plan.Kind.{Kind}
-use Rattle.lock_model.specs.declared.plan.Kind.TheVariants.{Mtx}
 use Rattle.lock_model.specs.declared.plan.Mode.{Mode}
-use Rattle.lock_model.specs.declared.plan.Mode.TheVariants.{Excl}
 use Rattle.lock_model.specs.declared.plan.Side.{Side}
 use Rattle.lock_model.specs.declared.plan.QueueName.{QueueName}
 use Rattle.lock_state.specs.State.{State, put}
-use Rattle.lock_state.specs.Facts.{Lawful, BitsShowWaiters, MutexWaitersAreExclusive}
+use Rattle.lock_state.specs.Facts.{Lawful}
 use Rattle.lock_state.specs.Steps.LockWords.{effective_of}
 use Rattle.lock_state.specs.Steps.Turnstiles.{MayOpen, after_open}
 use Rattle.lock_laws.proofs.Kit.{put_other, put_at_other}
@@ -38,11 +35,6 @@ held_busy Free mode e = absurd e
 held_busy (HeldBy u) mode e = refl
 held_busy (SharedBy n) mode e = refl
 
-held_owned : (x : Holder) → IsHeldIn x Excl → is_owned x ≡ true
-held_owned Free e = absurd e
-held_owned (HeldBy u) e = refl
-held_owned (SharedBy n) e = absurd e
-
 module _ {m : Machine} {c : Config} {s : State} {t l : ℕ} {mode : Mode} {kind : Kind} (h : Represents c m s) (lawful : Lawful c s) (g : MayOpen c s t l mode) (its_kind : kind ≡ c.kind l) where
   -- 1. The word that is read
 
@@ -52,13 +44,6 @@ module _ {m : Machine} {c : Config} {s : State} {t l : ℕ} {mode : Mode} {kind 
 
     pub word_held : is_free (word_of w).holder ≡ false
     word_held = ap (λ v. is_free v.holder) read ∙ held_busy (s.word l).holder mode (is_held c s t l mode lawful g.thread g.held)
-
-    pub word_owned : mode ≡ Excl → is_owned (word_of w).holder ≡ true
-    word_owned e = ap (λ v. is_owned v.holder) read ∙ held_owned (s.word l).holder (subst (IsHeldIn (s.word l).holder) e (is_held c s t l mode lawful g.thread g.held))
-
-    pub shows_no_shared : kind ≡ Mtx → (word_of w).shared_waiters ≡ false
-    unfolding BitsShowWaiters MutexWaitersAreExclusive
-    shows_no_shared e = ap (λ v. v.shared_waiters) read ∙ (lawful.queues.bits_show_waiters l).shared ∙ ap (λ ws. not (is_empty ws)) (lawful.queues.mutex_waiters_are_exclusive l (sym its_kind ∙ e))
 
     pub word_opens : (v : ℕ) → word_of v ≡ opened kind (word_of w) → word_of v ≡ opened (c.kind l) (s.word l)
     word_opens v is = is ∙ (λ i. opened (its_kind i) (read i))

@@ -36,7 +36,7 @@ lines_are plan chains m r proper h =
     let of_channel : ℕ → List QueueLine = λ d. line_of_queue chains s (chan_queue d) d (s.head (chan_queue d)) in
     let of_locks : List QueueLine = flat_map (λ l. line_of_queue chains s (lock_queue l) l (s.head (lock_queue l))) (range_with_len 0 c.locks) in
     ap (lines_below chains m) h.shows.words.locks
-    ∙ (λ i. flat_map (λ l. line_is chains s l (head_of (lock_queue l) m.chain) (h.shows.queues.lock l (ap is_turnstile (h.shows.within.mutexes l))) i) (range_with_len 0 c.locks))
+    ∙ (λ i. flat_map (λ l. line_is chains s l (head_of (lock_queue l) m.chain) (h.shows.queues.lock l (h.shows.within.turnstiles l)) i) (range_with_len 0 c.locks))
     ∙ sym (append-nil of_locks)
     ∙ ap (λ (n : ℕ). of_locks ++ flat_map of_channel (range_with_len 0 n)) (sym (ap length proper.no_channel))
 
@@ -72,5 +72,5 @@ short_is s c l (Some t) h lawful few =
 pub all_short : (plan : Plan) (m : Machine) (r : Run) → RepresentsRun plan m r → Lawful (config_of plan) r.state → (l : ℕ) → IfSome (head_of (lock_queue l) m.chain) (λ h. IsShort h.contents)
 all_short plan m r h lawful l =
     let c = config_of plan in
-    let turnstile : is_turnstile (c.kind l) ≡ true = ap is_turnstile (h.shows.within.mutexes l) in
+    let turnstile : is_turnstile (c.kind l) ≡ true = h.shows.within.turnstiles l in
     short_is r.state c l (head_of (lock_queue l) m.chain) (h.shows.queues.lock l turnstile) lawful (omega (arith, few_wait c r.state lawful l turnstile, h.shows.within.few_threads))

@@ -1,12 +1,12 @@
 -- Which row of the table a turn is, by what the thread's objects say.
-use Rattle.std.proofs.Common.{◌≡◌, ℕ, ◌<◌, ◌≤◌, Bool, true, false, List, [], ◌∷◌, length, map, get_or, slice_get, Option, Some, None, refl, sym, ap, ◌∙◌}
+use Rattle.std.proofs.Common.{◌≡◌, ℕ, suc, ◌+◌, ◌<◌, ◌≤◌, Bool, true, false, List, [], ◌∷◌, length, map, get_or, slice_get, Option, Some, None, refl, sym, ap, arith, ◌∙◌}
 use Rattle.std.proofs.lemmas.Option.{slice_get_read, slice_get_past}
 use Rattle.lock_model.specs.Plans.{operations_of}
 use Rattle.lock_model.specs.Operations.{IsProper}
 use Rattle.lock_state.specs.State.{State, Wait, Running, NoWalk, AtLock, AtThread}
 use Rattle.lock_model.specs.Queues.{Mark, BySignal}
 use Rattle.lock_state.specs.Steps.{Marks, Resumes}
-use Rattle.lock_state.specs.Run.{Run, has_ended, turn_of}
+use Rattle.lock_state.specs.Run.{Run, has_ended, turn_of, does}
 use Rattle.lock_model.specs.declared.numbers.LockNo.{LockNo}
 use Rattle.lock_model.specs.declared.numbers.ThreadNo.{ThreadNo}
 use Rattle.lock_model.specs.declared.plan.Op.{Op}
@@ -27,7 +27,7 @@ use Rattle.step_world.specs.Threads.{thread_has_ended}
 use Rattle.step_world.specs.Runs.{IsRunOf, IsTurn, IsFree}
 use Rattle.step_world.proofs.Kit.{read}
 use Rattle.step_world.proofs.Ends.{ends_as_said, aside_is}
-use Rattle.step_world.proofs.Turning.{MakesOne, one_step, still}
+use Rattle.step_world.proofs.Turning.{Begins, begins, still}
 
 -- the thread that was read at the place of a number
 pub here : {plan : Plan} {m : Machine} {r : Run} {t i : ℕ} {th : Thread} → IsRunOf plan m r → t < length plan.threads → i ≡ t → th ≡ get_or m.threads.items i th → slice_get m.threads.items t ≡ Some th
@@ -40,7 +40,10 @@ module _ {plan : Plan} {m : Machine} {r : Run} {t : ℕ} {th : Thread} (p : IsPr
   its : RepresentsThread th s t
   its = h.shows.shows.threads.thread t th is
 
-  -- 1. Whether it has ended
+  -- 1. How far it is, and whether it has ended
+
+  pub following : suc (r.next_op t) ≡ th.next_op + 1
+  following = omega (arith, ap (λ x. x.next_op) (aside_is plan m r t th h lt is))
 
   pub said : {ops : List Op} → ops ≡ operations_of plan t → (b : Bool) → thread_has_ended (length ops) th ≡ b → has_ended plan r t ≡ b
   said same b e = sym (ends_as_said plan m r t th p h lt is) ∙ ap (λ (x : List Op). thread_has_ended (length x) th) (sym same) ∙ e
@@ -74,8 +77,8 @@ module _ {plan : Plan} {m : Machine} {r : Run} {t : ℕ} {th : Thread} (p : IsPr
           go [] f = absurd (some f)
           go (p ∷ ps) f = (mark_of th.marked_from p, map (mark_of th.marked_from) ps, sym (ap (λ x. x.marked) its.columns) ∙ ap (map (mark_of th.marked_from)) f)
 
-      pub marks : (x : Mark) × (xs : List Mark) × MakesOne plan m r t kinds.Mark (Marks t x xs)
-      marks = (first.0, first.1, one_step p lt h (marks_first plan r t first.0 first.1 no_walk first.2))
+      pub marks : (x : Mark) × (xs : List Mark) × Begins plan r t m (does kinds.Mark (Marks t x xs ∷ []))
+      marks = (first.0, first.1, begins p lt h (marks_first plan r t first.0 first.1 no_walk first.2))
 
   -- 4. Its wait word, where it owes nothing
 
@@ -86,8 +89,8 @@ module _ {plan : Plan} {m : Machine} {r : Run} {t : ℕ} {th : Thread} (p : IsPr
     pub queued : th.wait ≡ wait.Queued → IsTurn plan r t m Idle
     queued e = still plan r t Idle (goes_by_wait plan r t free.going free.owes ∙ rw (waits_as _ (ap wait_of e)) refl) h.shows
 
-    pub resumes : {w : QueueName} → th.wait ≡ wait.Woken w → MakesOne plan m r t kinds.Resume (Resumes t w BySignal)
-    resumes e = one_step p lt h (goes_by_wait plan r t free.going free.owes ∙ rw (waits_as _ (ap wait_of e)) refl)
+    pub resumes : {w : QueueName} → th.wait ≡ wait.Woken w → Begins plan r t m (does kinds.Resume (Resumes t w BySignal ∷ []))
+    resumes e = begins p lt h (goes_by_wait plan r t free.going free.owes ∙ rw (waits_as _ (ap wait_of e)) refl)
 
     module _ (e : th.wait ≡ wait.Running) {ops : List Op} (same : ops ≡ operations_of plan t) where
       at_next : (o : Option Op) → slice_get ops th.next_op ≡ o → IsAtOperation plan r t o

@@ -1,5 +1,5 @@
 -- The rows of the table for a thread with a walk, and what the walk reads where it stands.
-use Rattle.std.proofs.Common.{◌≡◌, ℕ, ◌<◌, ◌≤◌, true, false, ltb, List, [], ◌∷◌, length, get_or, slice_get, Option, Some, None, refl, sym, ap, subst, inl, inr, arith, ◌∙◌}
+use Rattle.std.proofs.Common.{◌≡◌, ℕ, ◌<◌, ◌≤◌, Bool, ltb, List, [], ◌∷◌, length, get_or, slice_get, Option, Some, None, refl, sym, ap, subst, inl, inr, arith, ◌∙◌}
 use Rattle.std.proofs.lemmas.Bool.{and_right, and_from, lt-ltb}
 use Rattle.std.proofs.lemmas.Option.{slice_get_read}
 use Rattle.lock_model.specs.Plans.{config_of}
@@ -18,7 +18,6 @@ use Rattle.lock_model.specs.declared.plan.QueueName.{QueueName}
 use Rattle.lock_model.specs.declared.plan.QueueName.TheVariants.{Lock, Chan}
 use Rattle.lock_model.specs.declared.turn.StepKind.TheVariants as kinds
 use Rattle.turnstile_core.specs.Seen.{Turnstile}
-use Rattle.turnstile_core.specs.Changes.{waits}
 use Rattle.chain_table.specs.Chains.{head_of}
 use Rattle.lock_laws.proofs.Table.{walks_from_lock, walks_from_thread}
 use Rattle.lock_laws.proofs.AtTurn as at_turn
@@ -27,7 +26,7 @@ use Rattle.step_world.specs.declared.thread.Thread.{Thread}
 use Rattle.lock_objects.specs.Represents.{RepresentsQueue, RepresentsHead, queue_in}
 use Rattle.step_world.specs.Represents.{Represents}
 use Rattle.step_world.specs.Runs.{IsRunOf, IsNowhere, StandsAt}
-use Rattle.step_world.proofs.Turning.{MakesOne, one_step}
+use Rattle.step_world.proofs.Turning.{Begins, begins}
 
 -- 1. What is read at a lock and at a thread
 
@@ -36,7 +35,7 @@ module _ (m : Machine) (c : Config) (s : State) (shown : Represents c m s) (h : 
   At o l = RepresentsQueue o (queue_in s (lock_queue l)) s.loan_home
 
   at : (o : Option Turnstile) (l : ℕ) → o ≡ head_of (lock_queue l) m.chain → At o l
-  at o l e = subst (λ x. At x l) (sym e) (shown.queues.lock l (ap is_turnstile (shown.within.mutexes l)))
+  at o l e = subst (λ x. At x l) (sym e) (shown.queues.lock l (shown.within.turnstiles l))
 
   pub owner_at : (l : ℕ) (x : Turnstile) → Some x ≡ head_of (lock_queue l) m.chain → x.contents.owner ≡ s.owner (lock_queue l)
   owner_at l x e = let head : RepresentsHead x.contents (queue_in s (lock_queue l)) s.loan_home = at (Some x) l e in sym (ap (λ v. v.owner) head.queue)
@@ -44,13 +43,8 @@ module _ (m : Machine) (c : Config) (s : State) (shown : Represents c m s) (h : 
   pub no_owner_at : (l : ℕ) → None ≡ head_of (lock_queue l) m.chain → None ≡ s.owner (lock_queue l)
   no_owner_at l e = sym (at_turn.no_owner c s (lock_queue l) h (at None l e))
 
-  pub waits_at : (l t : ℕ) (x : Turnstile) → Some x ≡ head_of (lock_queue l) m.chain → waits t x.contents ≡ ltb 0 (stands t (s.lists (lock_queue l)))
-  waits_at l t x e =
-      let head : RepresentsHead x.contents (queue_in s (lock_queue l)) s.loan_home = at (Some x) l e in
-      ap (λ q. ltb 0 (stands t q)) (sym (ap (λ v. v.lists) head.queue))
-
-  pub none_waits_at : (l t : ℕ) → None ≡ head_of (lock_queue l) m.chain → false ≡ ltb 0 (stands t (s.lists (lock_queue l)))
-  none_waits_at l t e = sym (ap (ltb 0) (at_turn.none_stands c s (lock_queue l) t h (at None l e)))
+  pub none_stands_at : (l t : ℕ) → None ≡ head_of (lock_queue l) m.chain → stands t (s.lists (lock_queue l)) ≡ 0
+  none_stands_at l t e = at_turn.none_stands c s (lock_queue l) t h (at None l e)
 
   pub named_at : (ths : List Thread) (i t : ℕ) (th : Thread) → ths ≡ m.threads.items → i ≡ t → i < length ths → th ≡ get_or ths i th → th.record.value.on ≡ s.blocked_on t
   named_at ths i t th e j l is =
@@ -69,18 +63,15 @@ module _ {plan : Plan} {m : Machine} {t : ℕ} (p : IsProper plan) (lt : t < len
   abbrev s : State
   s = r.state
 
-  turnstile : (l : ℕ) → is_turnstile (c.kind l) ≡ true
-  turnstile l = ap is_turnstile (p.mutexes l)
-
   -- at a lock
   module _ {l : LockNo} (there : s.walk t ≡ AtLock l.0) where
-    pub lends : {o : ThreadNo} → Some o.0 ≡ s.owner (lock_queue l.0) → (x : ℕ) × MakesOne plan m r t kinds.Lend (Lends t l.0 o.0 x)
+    pub lends : {o : ThreadNo} → Some o.0 ≡ s.owner (lock_queue l.0) → (x : ℕ) × Begins plan r t m (does kinds.Lend (Lends t l.0 o.0 x ∷ []))
     lends {o} owned =
-        let found = at_turn.owner_found c s l.0 o.0 h.on_track.lawful.lawful (turnstile l.0) (sym owned) in
-        (found.0, one_step p lt h (walks_from_lock plan r t l.0 there ∙ rw (found.1, found.2) refl))
+        let found = at_turn.owner_found c s l.0 o.0 h.on_track.lawful.lawful (p.turnstiles l.0) (sym owned) in
+        (found.0, begins p lt h (walks_from_lock plan r t l.0 there ∙ rw (found.1, found.2) refl))
 
-    pub ends_at_lock : None ≡ s.owner (lock_queue l.0) → MakesOne plan m r t kinds.WalkEnd (EndsWalk t)
-    ends_at_lock unowned = one_step p lt h (walks_from_lock plan r t l.0 there ∙ elim (at_turn.no_owner_found c s l.0 h.on_track.lawful.lawful (turnstile l.0) (sym unowned)) [
+    pub ends_at_lock : None ≡ s.owner (lock_queue l.0) → Begins plan r t m (does kinds.WalkEnd (EndsWalk t ∷ []))
+    ends_at_lock unowned = begins p lt h (walks_from_lock plan r t l.0 there ∙ elim (at_turn.no_owner_found c s l.0 h.on_track.lawful.lawful (p.turnstiles l.0) (sym unowned)) [
       | inl e ↦ rw e (headless (owner_of (s.word l.0).holder))
       | inr e ↦ rw e refl
     ])
@@ -91,13 +82,13 @@ module _ {plan : Plan} {m : Machine} {t : ℕ} (p : IsProper plan) (lt : t < len
 
   -- at a thread
   module _ {o : ThreadNo} (there : s.walk t ≡ AtThread o.0) where
-    pub shifts : {l : LockNo} → StandsAt s o.0 l.0 → MakesOne plan m r t kinds.Shift (Shifts t o.0 l.0)
+    pub shifts : {l : LockNo} {owned : Bool} → StandsAt s o.0 l.0 owned → Begins plan r t m (does kinds.Shift (Shifts t o.0 l.0 ∷ []))
     shifts {l} at =
-        let on_turnstile = and_from (is_turnstile (c.kind l.0)) (ltb 0 (stands o.0 (s.lists (lock_queue l.0)))) (turnstile l.0) (lt-ltb 0 (stands o.0 (s.lists (lock_queue l.0))) at.1) in
-        one_step p lt h (walks_from_thread plan r t o.0 there ∙ rw (at.0, on_turnstile) refl)
+        let on_turnstile = and_from (is_turnstile (c.kind l.0)) (ltb 0 (stands o.0 (s.lists (lock_queue l.0)))) (p.turnstiles l.0) (lt-ltb 0 (stands o.0 (s.lists (lock_queue l.0))) at.stands) in
+        begins p lt h (walks_from_thread plan r t o.0 there ∙ rw (at.blocked_on, on_turnstile) refl)
 
-    pub ends_at_thread : IsNowhere s o.0 → MakesOne plan m r t kinds.WalkEnd (EndsWalk t)
-    ends_at_thread nowhere = one_step p lt h (walks_from_thread plan r t o.0 there ∙ go (s.blocked_on o.0) refl)
+    pub ends_at_thread : IsNowhere s o.0 → Begins plan r t m (does kinds.WalkEnd (EndsWalk t ∷ []))
+    ends_at_thread nowhere = begins p lt h (walks_from_thread plan r t o.0 there ∙ go (s.blocked_on o.0) refl)
       where
         go : (q : Option QueueName) → s.blocked_on o.0 ≡ q → walks_at_thread c r t o.0 q ≡ does kinds.WalkEnd (EndsWalk t ∷ [])
         go None e = refl

@@ -1,10 +1,10 @@
 -- Which state of `lock_state` the objects of a machine show. Columns of which the objects do not tell, as looks and
 -- counts, are free: the scheduled run makes nothing of them.
-use Rattle.std.specs.Prelude.{◌≡◌, ◌≢◌, ℕ, ◌≤◌, ◌<◌, List, [], ⊤, length, reverse, map, slice_get, get_or, option_map, Option, Some, IsSome}
+use Rattle.std.specs.Prelude.{◌≡◌, ◌≢◌, ℕ, ◌≤◌, ◌<◌, true, List, [], ⊤, length, reverse, map, slice_get, get_or, option_map, Option, Some, IsSome}
 use Rattle.std.specs.List.{All}
 use Rattle.std.specs.Global.{Vec}
 use Rattle.std.specs.Vec.{vec_capacity}
-use Rattle.lock_model.specs.Words.{Word, word_of}
+use Rattle.lock_model.specs.Words.{Word, word_of, is_turnstile}
 use Rattle.lock_state.specs.State as state
 use Rattle.lock_model.specs.Config.{Config}
 use Rattle.lock_state.specs.State.{State}
@@ -13,7 +13,6 @@ use Rattle.lock_model.specs.Queues.{Mark, BySignal}
 use Rattle.lock_model.specs.History.{tables_of}
 use Rattle.lock_model.specs.Operations.{hold_in}
 use Rattle.lock_model.specs.declared.event.Held.{Held}
-use Rattle.lock_model.specs.declared.plan.Kind.TheVariants.{Mtx}
 use Rattle.lock_model.specs.declared.plan.QueueName.{QueueName}
 use Rattle.lock_model.specs.declared.plan.QueueName.TheVariants.{Lock, Chan}
 use Rattle.turnstile_core.specs.Seen.{Place}
@@ -106,11 +105,11 @@ pub record RepresentsThreads (ths : List Thread) (c : Config) (s : State) : Type
 
 -- 3. The machine
 
--- what bounds the numbers of a run, and what holds of each plan until the other kinds of lock come
+-- what bounds the numbers of a run, and what holds of each plan until sx locks come
 pub record IsWithin (c : Config) : Type 0 where
   pub few_locks : c.locks ≤ 64
   pub few_threads : c.threads ≤ 32
-  pub mutexes : (l : ℕ) → c.kind l ≡ Mtx
+  pub turnstiles : (l : ℕ) → is_turnstile (c.kind l) ≡ true
 
 pub record Represents (c : Config) (m : Machine) (s : State) : Type 0 where
   pub within : IsWithin c

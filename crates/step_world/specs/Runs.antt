@@ -1,30 +1,42 @@
 -- Which run of a plan a machine represents, and that a turn of the machine is the turn of the table.
-use Rattle.std.specs.Prelude.{◌≡◌, ◌⊎◌, ℕ, suc, ◌+◌, ◌<◌, false, List, length, slice_get, Some, IsTrue}
+use Rattle.std.specs.Prelude.{◌≡◌, ◌≢◌, ◌⊎◌, ℕ, suc, ◌+◌, ◌<◌, Bool, false, List, [], ◌∷◌, ◌++◌, length, slice_get, unwrap_or, is_some, Option, Some, None, IsTrue}
 use Rattle.std.specs.List.{Contains}
 use Rattle.lock_model.specs.Plans.{config_of, operations_of}
 use Rattle.lock_model.specs.Keys.{plan_names}
 use Rattle.lock_model.specs.Operations.{held_of, operations_in_all}
-use Rattle.lock_state.specs.Run.{Run, has_ended, turn_of, run_behind, operates, notes}
+use Rattle.lock_model.specs.Limits.{most_held}
+use Rattle.lock_state.specs.Steps.{Step, after_all}
+use Rattle.lock_state.specs.Run.{Run, Row, has_ended, turn_of, run_behind, operates, notes, gains}
 use Rattle.lock_state.specs.State.{State}
 use Rattle.lock_model.specs.Queues.{lock_queue, stands}
 use Rattle.lock_model.specs.declared.plan.Op.{Op}
+use Rattle.lock_model.specs.declared.numbers.LockNo.{LockNo}
+use Rattle.lock_model.specs.declared.plan.Mode.{Mode}
 use Rattle.lock_model.specs.declared.event.Event.{Event}
+use Rattle.lock_model.specs.declared.event.Held.{Held}
 use Rattle.lock_model.specs.declared.plan.Plan.{Plan}
 use Rattle.lock_model.specs.declared.turn.Turn.{Turn}
-use Rattle.lock_model.specs.declared.turn.Turn.TheVariants.{Idle, Ended}
+use Rattle.lock_model.specs.declared.turn.Turn.TheVariants.{Did, Idle, Ended}
+use Rattle.lock_model.specs.declared.turn.StepKind.TheVariants.{Note}
 use Rattle.lock_laws.specs.OnTrack.{IsOnTrack, OwesNothing, IsAtOperation}
 use Rattle.step_world.specs.declared.machine.Machine.{Machine}
 use Rattle.lock_model.specs.declared.plan.ThreadDecl.{ThreadDecl}
 use Rattle.step_world.specs.declared.thread.Thread.{Thread}
+use Rattle.step_world.specs.declared.turns.Made.{Made}
+use Rattle.step_world.specs.declared.turns.Made.TheVariants.{Does, Ends, Skips}
 use Rattle.step_world.specs.Represents.{Represents}
 use Rattle.step_world.specs.Threads.{IsNew}
 use Rattle.step_world.specs.Steps.{Progress, progress}
+
+-- what a thread's operations before the n-th lead to
+abbrev pub held_at : Plan → ℕ → ℕ → List Held
+held_at plan t n = held_of (operations_of plan t) n
 
 -- a thread's next operation in a run, and what its operations so far have led to
 abbrev pub progress_in : Plan → Run → ℕ → Progress
 progress_in plan r t = record {
   next_op = r.next_op t;
-  held = held_of (length plan.locks) (operations_of plan t) (r.next_op t);
+  held = held_at plan t (r.next_op t);
 }
 
 -- there is room for an entry of each operation,
@@ -52,6 +64,8 @@ pub record IsRunOf (plan : Plan) (m : Machine) (r : Run) : Type 0 where
 abbrev pub HasRun : Plan → Machine → (Run → Type 0) → Type 0
 HasRun plan m premise = (r : Run) × IsRunOf plan m r × premise r
 
+-- 1. A thread's turn
+
 -- the answer is that of the thread's turn, and the machine represents the run behind it
 abbrev pub IsTurn : Plan → Run → ℕ → Machine → Turn → Type 0
 IsTurn plan r t m answer =
@@ -71,22 +85,77 @@ pub record IsFree (plan : Plan) (r : Run) (t : ℕ) : Type 0 where
   pub going : has_ended plan r t ≡ false
   pub owes : OwesNothing r t
 
--- a running thread's next operation is one that only makes an entry, with the event, and leaves what is held
-pub record IsNote (plan : Plan) (r : Run) (t : ℕ) (event : Event) : Type 0 where
-  pub op : Op
-  pub at : IsAtOperation plan r t (Some op)
-  pub noted : operates (config_of plan) r t (Some op) ≡ notes r t event
-  pub holds_on : (progress_in plan r t).held
-      ≡ held_of (length plan.locks) (operations_of plan t) (suc (r.next_op t))
-
 -- a thread stands on the turnstile of no lock
 abbrev pub IsNowhere : State → ℕ → Type 0
 IsNowhere s o = (l : ℕ) → s.blocked_on o ≡ Some (lock_queue l)
     → stands o (s.lists (lock_queue l)) ≡ 0
 
--- it stands on that of the lock
-abbrev pub StandsAt : State → ℕ → ℕ → Type 0
-StandsAt s o l = (s.blocked_on o ≡ Some (lock_queue l)) × (0 < stands o (s.lists (lock_queue l)))
+-- it stands on that of the lock, which has an owner or has none
+pub record StandsAt (s : State) (o l : ℕ) (owned : Bool) : Type 0 where
+  pub blocked_on : s.blocked_on o ≡ Some (lock_queue l)
+  pub stands : 0 < stands o (s.lists (lock_queue l))
+  pub owner : owned ≡ is_some (s.owner (lock_queue l))
+
+-- 2. What a running thread makes of its operation, before it goes on
+
+-- the turn's answer
+abbrev pub answer_of : Made → Turn
+answer_of (Does turn) = turn
+answer_of (Ends kind) = Did kind
+answer_of (Skips past) = Did Note
+
+-- and with which operation it goes on, where that isn't the present one, the n-th
+abbrev pub next_of : Made → ℕ → Option ℕ
+next_of (Does turn) n = None
+next_of (Ends kind) n = Some (suc n)
+next_of (Skips past) n = Some past
+
+-- so the row of the table, with these steps
+abbrev pub row_of : Made → ℕ → List Step → Row
+row_of made n steps =
+    record { answer = answer_of made; steps = steps; next = next_of made n }
+
+-- what no column tells of the run, but for the thread, which has made the progress
+pub record IsAside (plan : Plan) (r : Run) (t : ℕ) (m : Machine) (a : Progress) : Type 0 where
+  pub own : progress m t ≡ Some a
+  pub others : (u : ℕ) → u < length plan.threads → u ≢ t
+      → progress m u ≡ Some (progress_in plan r u)
+  pub room : HasRoom plan m
+  pub keys : HasKeys plan m
+
+-- The turn is this row, and the machine has made its steps. What the thread holds is what it is to go on with.
+pub record IsMade (plan : Plan) (r : Run) (t : ℕ) (m : Machine) (made : Made) : Type 0 where
+  pub steps : List Step
+  pub row : turn_of plan r t ≡ row_of made (r.next_op t) steps
+  pub shows : Represents (config_of plan) m (after_all (config_of plan) r.state steps)
+  pub aside : IsAside plan r t m (record {
+    next_op = r.next_op t;
+    held = held_at plan t (unwrap_or (next_of made (r.next_op t)) (r.next_op t));
+  })
+
+-- so from whatever run it was of which something holds
+abbrev pub MakesRow : Plan → ℕ → Machine → Machine → Made → (Run → Type 0) → Type 0
+MakesRow plan t old new made premise = (r : Run) → IsRunOf plan old r → premise r
+    → IsMade plan r t new made
+
+-- a running thread's next operation is one that only makes an entry, with the event, and leaves what is held
+pub record IsNote (plan : Plan) (r : Run) (t : ℕ) (event : Event) : Type 0 where
+  pub op : Op
+  pub at : IsAtOperation plan r t (Some op)
+  pub noted : operates (config_of plan) r t (Some op) ≡ notes r t event
+  pub holds_on : held_at plan t (r.next_op t) ≡ held_at plan t (suc (r.next_op t))
+
+-- it is one that gains the lock in the mode, and makes an entry with the event
+pub record IsGain (plan : Plan) (r : Run) (t : ℕ) (l : LockNo) (mode : Mode) (by_try : Bool)
+    (event : Event) : Type 0 where
+  pub op : Op
+  pub at : IsAtOperation plan r t (Some op)
+  pub gained : operates (config_of plan) r t (Some op)
+      ≡ gains (config_of plan) r t l mode by_try event
+  pub lock : l.0 < length plan.locks
+  pub few : length (held_at plan t (r.next_op t)) < most_held
+  pub holds_more : held_at plan t (r.next_op t)
+      ++ (record { l = l; mode = mode; by_try = by_try }) ∷ [] ≡ held_at plan t (suc (r.next_op t))
 
 -- threads of a plan at their begin, in order
 pub record AreNew (decls : List ThreadDecl) (ths : List Thread) : Type 0 where

@@ -1,13 +1,11 @@
 -- What a method of a machine promises: where the objects represent a lawful state in which a step may be made, they
 -- represent the state behind it.
 use Rattle.std.specs.Prelude.{◌≡◌, ℕ, ◌<◌, ◌==◌, if◌then◌else◌, List, length, slice_get, option_map, Option, IfSome}
-use Rattle.std.specs.List.{Contains}
 use Rattle.lock_model.specs.Config.{Config}
 use Rattle.lock_state.specs.State.{State}
 use Rattle.lock_state.specs.Facts.{Lawful}
 use Rattle.lock_state.specs.Steps.{Step, May as MayMake, MayAll, after, after_all}
 use Rattle.lock_model.specs.declared.event.Event.{Event}
-use Rattle.lock_model.specs.declared.event.Event.TheVariants.{Set, Added}
 use Rattle.lock_model.specs.declared.event.Held.{Held}
 use Rattle.step_world.specs.declared.thread.Thread.{Thread}
 use Rattle.lock_history.specs.Books.{HasRoom}
@@ -25,7 +23,12 @@ abbrev pub Makes : Machine → Machine → Step → Type 0
 Makes old new step = (c : Config) (s : State) → Represents c old s → Lawful c s
     → MayMake c s step → Represents c new (after c s step)
 
--- the same of steps in a row
+-- the same of those configurations of which something holds
+abbrev pub MakesWhere : (Config → Type 0) → Machine → Machine → Step → Type 0
+MakesWhere premise old new step = (c : Config) (s : State) → premise c → Represents c old s
+    → Lawful c s → MayMake c s step → Represents c new (after c s step)
+
+-- and of steps in a row
 abbrev pub MakesAll : Machine → Machine → List Step → Type 0
 MakesAll old new steps = (c : Config) (s : State) → Represents c old s → Lawful c s
     → MayAll c s steps → Represents c new (after_all c s steps)

@@ -1,19 +1,20 @@
 //! The objects of a scheduled run: lock words, the chain of the turnstiles that are lent to locks, the threads, the
-//! history so far and the tables. Each method is a step of a thread (`lock_state`'s `specs/Steps.antt`), or two in a row.
-ghost use Rattle.std.specs.Prelude.{◌≡◌, ◌<◌, ◌+◌, ◌^◌, suc, ℕ, map, sum, length, IfOk, IfSome};
-ghost use Rattle.lock_model.specs.Operations.{IsProper, operations_in_all};
+//! history so far and the tables. Each method is a step of a thread (`lock_state`'s `specs/Steps.antt`), or two in a
+//! row.
+ghost use Rattle.std.specs.Prelude.{◌≡◌, ◌<◌, ◌≤◌, ◌^◌, map, sum, length, IfOk};
+ghost use Rattle.lock_model.specs.Operations.{IsProper, operations_in_all, is_endtry, next_at};
 ghost use Rattle.lock_model.specs.Plans.{config_of};
 ghost use Rattle.lock_state.specs.Run.{start_run};
 ghost use Rattle.lock_model.specs.Config.{Config};
 ghost use Rattle.lock_state.specs.State.{State};
 ghost use Rattle.step_world.specs.Runs.{RepresentsRun, AreNew};
 ghost use Rattle.step_world.specs.Represents.{Represents};
-ghost use Rattle.step_world.specs.Steps.{progress, ChangesProgress, KeepsBooks};
+ghost use Rattle.step_world.specs.Steps.{ChangesProgress, KeepsBooks};
 
 use crate::thread::Thread;
 use chain_table::Chain;
 use lock_history::{Log, Tables};
-use lock_model::{Plan, ThreadDecl, ThreadNo};
+use lock_model::{Op, Plan, ThreadDecl, ThreadNo};
 use std::alloc::{AllocError, Global};
 use turnstile_core::Turnstile;
 
@@ -52,18 +53,33 @@ impl Machine {
         })
     }
 
-    /// The thread has its operation behind it.
-    pub fn end_operation(&mut self, t: ThreadNo)
+    /// The thread goes on with the first of its operations from the n-th on that is no endtry: that takes no turn.
+    pub fn go_on(&mut self, t: ThreadNo, ops: &[Op], n: usize)
         requires thread { t.0 < length self.old.threads.items }
-        requires within { IfSome (progress self.old t.0) (λ a. a.next_op < 20000) }
+        requires within { n ≤ length ops.now }
         ensures shows { (c : Config) (s : State) → Represents c self.old s
             → Represents c self.new s }
         ensures progress { ChangesProgress self.old self.new t.0
-            (λ a. record a { next_op = suc a.next_op }) }
+            (λ a. record a { next_op = next_at ops.now n }) }
         ensures books { KeepsBooks self.old self.new }
     {
-        self.threads[usize::from(t.0)].next_op += 1;
+        self.threads[usize::from(t.0)].next_op = next_at(ops, n);
     }
+}
+
+// The first operation from the n-th on that is no endtry.
+fn next_at(ops: &[Op], n: usize) -> usize
+    requires { n ≤ length ops.now }
+    ensures { result ≡ next_at ops.now n }
+{
+    let behind = &ops[n..];
+    n + behind.iter().take_while(|op| is_endtry(op)).count()
+}
+
+fn is_endtry(op: &Op) -> bool
+    ensures { result ≡ is_endtry op.now }
+{
+    matches!(op, Op::EndTry)
 }
 
 // The threads of a plan at their begin.

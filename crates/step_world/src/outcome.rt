@@ -15,6 +15,7 @@ use std::alloc::{AllocError, Global};
 use turnstile_core::Turnstile;
 
 /// A line for each lock whose queue isn't empty, by number.
+#[tactic(auto, using(crate::proofs::Readings::flat_map_range_more))]
 pub fn queue_lines(
     alloc: Global,
     machine: &Machine,
@@ -65,6 +66,7 @@ fn push_line(
 }
 
 // The turnstiles on a free list, the first of it first.
+#[tactic(auto, using(crate::proofs::Readings::one_more, crate::proofs::Readings::all_read))]
 fn free_list(alloc: Global, head: &Turnstile) -> Result<Vec<ThreadNo>, AllocError>
     requires { length head.now.contents.free < 2 ^ 32 }
     ensures { IfOk result (λ free. map (λ t. t.0) free.items ≡ head.now.contents.free) }
@@ -77,6 +79,7 @@ fn free_list(alloc: Global, head: &Turnstile) -> Result<Vec<ThreadNo>, AllocErro
 }
 
 // The waiters of a side, from the front.
+#[tactic(auto, using(crate::proofs::Readings::one_more, crate::proofs::Readings::all_read))]
 fn waiters(alloc: Global, head: &Turnstile, side: Side) -> Result<Vec<(ThreadNo, Prio)>, AllocError>
     requires { length (waiters side head.now.contents) < 2 ^ 32 }
     ensures { IfOk result (λ found. map waiter_seen found.items ≡ waiters side head.now.contents) }

@@ -96,6 +96,7 @@ impl<'p> Course<'p> {
         self.all_ended() || self.is_stuck()
     }
 
+    #[tactic(auto, using(crate::proofs::Scheduling::all_ended_is))]
     fn all_ended(&self) -> bool
         ensures { Tells self.now result (λ plan k. all_ended plan k.run) }
     {

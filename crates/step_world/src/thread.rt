@@ -1,12 +1,12 @@
 //! What the machine keeps of a thread: its record, its wait word, and what it is in the middle of.
-ghost use Rattle.std.specs.Prelude.{◌≡◌, ◌≤◌, [], length, position, IfOk};
+ghost use Rattle.std.specs.Prelude.{◌≡◌, ◌<◌, ◌++◌, [], ◌∷◌, length, position, None, IfOk};
 ghost use Rattle.std.specs.Vec.{vec_capacity};
-ghost use Rattle.lock_model.specs.Operations.{without_lock};
-ghost use Rattle.lock_model.specs.Operations.{holds_lock};
+ghost use Rattle.lock_model.specs.Operations.{hold_in, holds_lock, without_lock};
+ghost use Rattle.lock_state.specs.Run.{mode_held};
 ghost use Rattle.step_world.specs.Threads.{IsNew, thread_has_ended};
 
 use lock_model::limits::HELD;
-use lock_model::{Held, LockNo, Op, Prio, QueueName, ThreadNo};
+use lock_model::{Held, LockNo, Mode, Op, Prio, QueueName, ThreadNo};
 use prio_lending::Walk;
 use std::alloc::{AllocError, Global};
 use thread_records::ThreadRec;
@@ -64,7 +64,19 @@ impl Thread {
             && self.held.is_empty()
     }
 
+    /// The mode in which it holds the lock.
+    #[tactic(auto, using(lock_model::proofs::HeldLocks::held_there, lock_model::proofs::HeldLocks::none_held))]
+    pub fn mode_held(&self, l: LockNo) -> Mode
+        ensures { result ≡ mode_held (hold_in self.now.held.items l.0) }
+    {
+        match place_held(l, &self.held) {
+            Some(i) => self.held[i].mode,
+            None => Mode::Excl,
+        }
+    }
+
     /// Takes the lock off those that it holds.
+    #[tactic(auto, using(lock_model::proofs::HeldLocks::taken_out, lock_model::proofs::HeldLocks::none_taken))]
     pub fn put_down(&mut self, l: LockNo)
         ensures held { self.new.held.items ≡ without_lock l.0 self.old.held.items }
         ensures room { vec_capacity self.new.held ≡ vec_capacity self.old.held }
@@ -73,6 +85,17 @@ impl Thread {
         if let Some(i) = place_held(l, &self.held) {
             self.held.remove(i);
         }
+    }
+
+    /// Puts a lock behind those that it holds. It wants none any more.
+    pub fn pick_up(&mut self, held: Held)
+        requires { length self.old.held.items < vec_capacity self.old.held }
+        ensures held { self.new.held.items ≡ self.old.held.items ++ held ∷ [] }
+        ensures room { vec_capacity self.new.held ≡ vec_capacity self.old.held }
+        ensures others { self.new ≡ record self.old { held = self.new.held; wanted = None } }
+    {
+        self.held.push_reserved(held);
+        self.wanted = None;
     }
 }
 

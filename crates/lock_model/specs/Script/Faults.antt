@@ -1,16 +1,18 @@
 -- The tests that a line has to pass, by stages: its bytes, its words, its place among the lines, and what it names.
 -- The codes are this project's own.
-use Rattle.std.specs.Prelude.{ℕ, ◌+◌, Bool, true, false, not, ◌&&◌, nat_le, nat_lt, is_some, is_none, if◌then◌else◌, List, [], ◌∷◌, ◌++◌, length, Option, Some, None}
+use Rattle.std.specs.Prelude.{ℕ, ◌+◌, Bool, true, false, not, ◌&&◌, nat_le, nat_lt, is_some, is_none, ◌==◌, if◌then◌else◌, List, [], ◌∷◌, ◌++◌, length, Option, Some, None}
 use Rattle.std.specs.List.{list_all}
+use Rattle.std.specs.Cmp.Lexicographic.{pointwise}
 use Rattle.lock_model.specs.Counts.{is_empty}
 use Rattle.lock_model.specs.Holds.{Hold, NotHeld, Holds}
-use Rattle.lock_model.specs.Limits.{most_threads, most_locks, most_classes, most_operations, most_scheduled, most_line_bytes}
+use Rattle.lock_model.specs.Limits.{most_threads, most_locks, most_classes, most_open_tries, most_operations, most_scheduled, most_line_bytes}
 use Rattle.lock_model.specs.Names.{is_name}
 use Rattle.lock_model.specs.Operations.{hold_in, operation_tests, is_of_kind}
 use Rattle.lock_model.specs.Tests.{Test, test, first_fault, where_some}
 use Rattle.lock_model.specs.Script.Lines.{is_printable, has_meaning, number_of, priority_of}
-use Rattle.lock_model.specs.Script.Statements.{Statement, Declares, Begins, Ends, Schedules, IsDone, Operates, Operation, Take, Release, Set, Add, Get, Prio, Show, statement_of}
-use Rattle.lock_model.specs.Script.Learning.{Known, OpenThread, declared_as, lock_named, thread_named, class_number, op_of, learned}
+use Rattle.lock_model.specs.Script.Statements.{Statement, Declares, Begins, Ends, Schedules, IsDone, Operates, EndsTry, Operation, Take, Release, Try, Set, Add, Get, Prio, Show, statement_of}
+use Rattle.lock_model.specs.Script.Learning.{Known, OpenThread, Block, declared_as, lock_named, thread_named, class_number, op_of, learned}
+use Rattle.lock_model.specs.declared.event.Held.{Held}
 use Rattle.lock_model.specs.declared.numbers.LockNo.{LockNo}
 use Rattle.lock_model.specs.declared.plan.Kind.{Kind}
 use Rattle.lock_model.specs.declared.plan.Mode.{Mode}
@@ -48,6 +50,7 @@ place_tests k Ends = test 15 (is_inside k) ∷ test 17 (not (is_in_block k.open_
 place_tests k (Schedules names) = test 17 (not (is_inside k)) ∷ []
 place_tests k IsDone = test 17 (not (is_inside k)) ∷ []
 place_tests k (Operates o) = test 15 (is_inside k) ∷ []
+place_tests k EndsTry = test 15 (is_in_block k.open_thread) ∷ []
 
 -- 3. Names, numbers, limits and held locks
 
@@ -92,11 +95,17 @@ of_kind k kind l = test 8 (is_of_kind k.locks kind l)
 abbrev pub held_so : OpenThread → Mode → LockNo → Test
 held_so t mode l = test 10 (not (is_other mode (hold_in t.held l.0)))
 
--- tests of an operation's words, and of how it uses its lock
-abbrev pub operation_words : Known → OpenThread → Operation → List Test
-operation_words k t (Take kind mode name) =
+-- a take or a try names a lock of its kind
+abbrev pub gaining_words : Known → Kind → List ℕ → List Test
+gaining_words k kind name =
     spelled name ∷ names_lock k name
     ∷ where_some (λ l. of_kind k kind l ∷ []) (lock_named k name)
+
+-- tests of an operation's words, and of how it uses its lock
+abbrev pub operation_words : Known → OpenThread → Operation → List Test
+operation_words k t (Take kind mode name) = gaining_words k kind name
+operation_words k t (Try kind mode name) =
+    has_room most_open_tries (length t.blocks) ∷ gaining_words k kind name
 operation_words k t (Release kind mode name) =
     spelled name ∷ names_lock k name
     ∷ where_some (λ l. of_kind k kind l ∷ held_so t mode l ∷ []) (lock_named k name)
@@ -115,6 +124,24 @@ tests_in_thread k o t =
     operation_words k t o ++ has_room most_operations k.operations
     ∷ where_some (λ op. operation_tests k.locks k.chans op t.held) (op_of k o)
 
+abbrev pub is_same_mode : Mode → Mode → Bool
+is_same_mode Excl Excl = true
+is_same_mode Excl Shared = false
+is_same_mode Shared Excl = false
+is_same_mode Shared Shared = true
+
+-- whether it is the same lock, held in the same way
+abbrev pub is_same_held : Held → Held → Bool
+is_same_held g h =
+    (g.l.0 == h.l.0) && is_same_mode g.mode h.mode
+    && (if g.by_try then h.by_try else not h.by_try)
+
+-- a block is closed where the thread holds just what it held before the try, in the same order
+abbrev pub endtry_tests : Known → OpenThread → List Block → List Test
+endtry_tests k t [] = []
+endtry_tests k t (b ∷ bs) =
+    has_room most_operations k.operations ∷ test 14 (pointwise is_same_held t.held b.before) ∷ []
+
 abbrev pub name_tests : Known → Statement → List Test
 name_tests k (Declares kind name class) =
     spelled name ∷ spelled class ∷ undeclared k name ∷ has_room most_locks (length k.locks)
@@ -129,6 +156,7 @@ name_tests k (Schedules names) =
     ∷ test 7 (nat_le (length k.schedule + length names) most_scheduled) ∷ []
 name_tests k IsDone = []
 name_tests k (Operates o) = where_some (tests_in_thread k o) k.open_thread
+name_tests k EndsTry = where_some (λ t. endtry_tests k t t.blocks) k.open_thread
 
 -- 4. Lines
 

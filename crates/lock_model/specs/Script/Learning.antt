@@ -1,20 +1,21 @@
 -- What the lines so far have made known, and what a line without a fault adds to it.
-use Rattle.std.specs.Prelude.{ℕ, suc, Bool, true, false, if◌then◌else◌, List, [], ◌∷◌, ◌++◌, length, option_and_then, option_map, unwrap_or, option_to_list, flat_map, Option, Some, None}
+use Rattle.std.specs.Prelude.{ℕ, suc, Bool, true, false, if◌then◌else◌, List, [], ◌∷◌, ◌++◌, length, option_and_then, option_map, unwrap_or, option_to_list, flat_map, slice_set, Option, Some, None}
 use Rattle.std.specs.List.{list_any, position_or_len}
 use Rattle.std.specs.Map.{lookup}
 use Rattle.lock_model.specs.Names.{is_name}
 use Rattle.lock_model.specs.Operations.{held_behind}
 use Rattle.lock_model.specs.Script.Lines.{is_same, number_of, priority_of}
-use Rattle.lock_model.specs.Script.Statements.{Statement, Declares, Begins, Ends, Schedules, IsDone, Operates, Operation}
+use Rattle.lock_model.specs.Script.Statements.{Statement, Declares, Begins, Ends, Schedules, IsDone, Operates, EndsTry, Operation}
 use Rattle.lock_model.specs.Script.Statements as say
 use Rattle.lock_model.specs.declared.plan.Declared.{Declared}
 use Rattle.lock_model.specs.declared.plan.Declared.TheVariants.{Lock, Chan, Thread}
 use Rattle.lock_model.specs.declared.plan.Kind.{Kind}
+use Rattle.lock_model.specs.declared.plan.Mode.{Mode}
 use Rattle.lock_model.specs.declared.plan.LockDecl.{LockDecl}
 use Rattle.lock_model.specs.declared.plan.ChanDecl.{ChanDecl}
 use Rattle.lock_model.specs.declared.plan.ThreadDecl.{ThreadDecl}
 use Rattle.lock_model.specs.declared.plan.Op.{Op}
-use Rattle.lock_model.specs.declared.plan.Op.TheVariants.{Take, Release, Set, Add, Get, Base, Show}
+use Rattle.lock_model.specs.declared.plan.Op.TheVariants.{Take, Try, EndTry, Release, Set, Add, Get, Base, Show, Sleep, WakeOne, WakeAll}
 use Rattle.lock_model.specs.declared.event.Held.{Held}
 use Rattle.lock_model.specs.declared.numbers.ClassNo.{ClassNo}
 use Rattle.lock_model.specs.declared.numbers.LockNo.{LockNo}
@@ -22,10 +23,13 @@ use Rattle.lock_model.specs.declared.numbers.ThreadNo.{ThreadNo}
 
 -- 1. What is known
 
--- a try's block that is open: what the thread held before the try, and the place of the try among its operations
+-- a try's block that is open: the try's lock and mode, its place among the thread's operations, and what the thread
+-- held before it
 pub record Block : Type 0 where
-  pub before : List Held
+  pub lock : LockNo
+  pub mode : Mode
   pub opened_at : ℕ
+  pub before : List Held
 
 -- a thread whose `end` hasn't come
 pub record OpenThread : Type 0 where
@@ -111,10 +115,12 @@ abbrev pub with_number : (LockNo → ℕ → ℕ → Op) → Option LockNo → O
 with_number f l key (Some n) = with_key (λ l key. f l key n) l key
 with_number f l key None = None
 
--- the operation that words say, where each of them is readable
+-- The operation that words say, where each of them is readable. Where a try goes on, its endtry says; till then this is
+-- 0.
 abbrev pub op_of : Known → Operation → Option Op
 op_of k (say.Take kind mode name) = option_map (λ l. Take l mode) (lock_named k name)
 op_of k (say.Release kind mode name) = option_map (λ l. Release l) (lock_named k name)
+op_of k (say.Try kind mode name) = option_map (λ l. Try l mode 0) (lock_named k name)
 op_of k (say.Set name key value) =
     with_number Set (lock_named k name) (number_of key) (number_of value)
 op_of k (say.Add name key amount) =
@@ -152,13 +158,49 @@ with_end k (Some t) = record k {
   open_thread = None;
 }
 
+-- the blocks that are open behind an operation: a try opens one
+abbrev pub blocks_behind : OpenThread → Op → List Block
+blocks_behind t (Take l mode) = t.blocks
+blocks_behind t (Try l mode past) =
+    record { lock = l; mode = mode; opened_at = length t.ops; before = t.held } ∷ t.blocks
+blocks_behind t EndTry = t.blocks
+blocks_behind t (Release l) = t.blocks
+blocks_behind t (Set l key value) = t.blocks
+blocks_behind t (Add l key amount) = t.blocks
+blocks_behind t (Get l key) = t.blocks
+blocks_behind t (Base prio) = t.blocks
+blocks_behind t Show = t.blocks
+blocks_behind t (Sleep c) = t.blocks
+blocks_behind t (WakeOne c) = t.blocks
+blocks_behind t (WakeAll c) = t.blocks
+
 -- the open thread has made an operation
 abbrev pub with_operation : Known → Option OpenThread → Option Op → Known
 with_operation k (Some t) (Some op) = record k {
-  open_thread = Some (record t { ops = t.ops ++ op ∷ []; held = held_behind op t.held });
+  open_thread = Some (record t {
+    ops = t.ops ++ op ∷ [];
+    held = held_behind op t.held;
+    blocks = blocks_behind t op;
+  });
   operations = suc k.operations;
 }
 with_operation k t op = k
+
+-- the innermost block is closed: its try goes on behind the endtry
+abbrev pub without_block : OpenThread → List Block → OpenThread
+without_block t [] = t
+without_block t (b ∷ bs) = record t {
+  ops = slice_set t.ops b.opened_at (Try b.lock b.mode (suc (length t.ops))) ++ EndTry ∷ [];
+  blocks = bs;
+}
+
+-- the open thread has made an endtry
+abbrev pub with_endtry : Known → Option OpenThread → Known
+with_endtry k None = k
+with_endtry k (Some t) = record k {
+  open_thread = Some (without_block t t.blocks);
+  operations = suc k.operations;
+}
 
 -- what is known behind a statement; where a word isn't readable, nothing rests on it
 abbrev pub learned : Known → Statement → Known
@@ -168,3 +210,4 @@ learned k Ends = with_end k k.open_thread
 learned k (Schedules names) = record k { schedule = k.schedule ++ threads_named k names }
 learned k IsDone = record k { is_done = true }
 learned k (Operates o) = with_operation k k.open_thread (op_of k o)
+learned k EndsTry = with_endtry k k.open_thread

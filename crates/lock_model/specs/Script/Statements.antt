@@ -5,15 +5,16 @@ use Rattle.std.specs.Map.{lookup}
 use Rattle.lock_model.specs.Counts.{is_empty}
 use Rattle.lock_model.specs.Script.Lines.{words_of, is_same}
 use Rattle.lock_model.specs.declared.plan.Kind.{Kind}
-use Rattle.lock_model.specs.declared.plan.Kind.TheVariants.{Mtx}
+use Rattle.lock_model.specs.declared.plan.Kind.TheVariants.{Mtx, Rw}
 use Rattle.lock_model.specs.declared.plan.Mode.{Mode}
-use Rattle.lock_model.specs.declared.plan.Mode.TheVariants.{Excl}
+use Rattle.lock_model.specs.declared.plan.Mode.TheVariants.{Excl, Shared}
 
 -- an operation, in words
 pub data Operation : Type 0 where
   -- a lock, of the kind and in the mode that the first word says
   Take : Kind → Mode → List ℕ → Operation
   Release : Kind → Mode → List ℕ → Operation
+  Try : Kind → Mode → List ℕ → Operation
   -- a lock, a key and a value
   Set : List ℕ → List ℕ → List ℕ → Operation
   -- a lock, a key and an amount
@@ -34,6 +35,8 @@ pub data Statement : Type 0 where
   Schedules : List (List ℕ) → Statement
   IsDone : Statement
   Operates : Operation → Statement
+  -- the end of a try's block, an operation too
+  EndsTry : Statement
 
 -- what a first word says, by the words that have to stand behind it
 pub data Form : Type 0 where
@@ -48,12 +51,21 @@ pub data Form : Type 0 where
 abbrev pub forms : List (List ℕ × Form)
 forms =
     (codes "mutex", WithTwo (Declares Mtx))
+    ∷ (codes "rw", WithTwo (Declares Rw))
     ∷ (codes "thread", WithTwo Begins)
     ∷ (codes "end", Alone Ends)
     ∷ (codes "schedule", WithSome Schedules)
     ∷ (codes "done", Alone IsDone)
     ∷ (codes "lock", WithOne (λ lock. Operates (Take Mtx Excl lock)))
     ∷ (codes "unlock", WithOne (λ lock. Operates (Release Mtx Excl lock)))
+    ∷ (codes "rlock", WithOne (λ lock. Operates (Take Rw Shared lock)))
+    ∷ (codes "wlock", WithOne (λ lock. Operates (Take Rw Excl lock)))
+    ∷ (codes "runlock", WithOne (λ lock. Operates (Release Rw Shared lock)))
+    ∷ (codes "wunlock", WithOne (λ lock. Operates (Release Rw Excl lock)))
+    ∷ (codes "trylock", WithOne (λ lock. Operates (Try Mtx Excl lock)))
+    ∷ (codes "tryrlock", WithOne (λ lock. Operates (Try Rw Shared lock)))
+    ∷ (codes "trywlock", WithOne (λ lock. Operates (Try Rw Excl lock)))
+    ∷ (codes "endtry", Alone EndsTry)
     ∷ (codes "set", WithThree (λ lock key value. Operates (Set lock key value)))
     ∷ (codes "add", WithThree (λ lock key amount. Operates (Add lock key amount)))
     ∷ (codes "get", WithTwo (λ lock key. Operates (Get lock key)))

@@ -1,5 +1,7 @@
 //! The list of locks that a thread holds, in order of acquisition: how a lock is held, and what an operation changes.
 ghost use Rattle.std.specs.Prelude.{◌≡◌, ◌++◌, ◌∷◌, [], OnOk, position};
+ghost use Rattle.std.specs.Cmp.Lexicographic.{pointwise};
+ghost use Rattle.lock_model.specs.Script.Faults.{is_same_held};
 ghost use Rattle.lock_model.specs.Operations.{hold_in, held_behind, holds_lock};
 ghost use Rattle.script_read.specs.Readers.{hold};
 
@@ -12,6 +14,13 @@ pub fn mode_of(held: &[Held], l: LockNo) -> Option<Mode>
 {
     let place = place_of(held, l)?;
     Some(held[place].mode)
+}
+
+/// Whether two lists have the same locks in the same order, each held in the same way.
+pub fn is_same(held: &[Held], before: &[Held]) -> bool
+    ensures { result ≡ pointwise is_same_held held.now before.now }
+{
+    held == before
 }
 
 /// Changes the list as an operation does.

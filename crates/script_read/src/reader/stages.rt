@@ -10,18 +10,20 @@ ghost use Rattle.lock_model.specs.Operations.{is_of_kind, may_be_held};
 ghost use Rattle.lock_model.specs.Script.Faults.{byte_tests, word_tests, is_before_threads};
 ghost use Rattle.lock_model.specs.Script.Learning.{declared_as, lock_named, thread_named, class_number, op_of};
 ghost use Rattle.lock_model.specs.Script.Lines.{has_meaning, is_printable, words_of, priority_of};
-ghost use Rattle.lock_model.specs.Script.Statements.{Declares, Begins, Schedules, Take, Release, Set, Add, Get, Prio, Show, statement_of};
+ghost use Rattle.lock_model.specs.Script.Statements.{Declares, Begins, Schedules, Take, Release, Try, Set, Add, Get, Prio, Show, statement_of};
 ghost use Rattle.lock_model.specs.Tests.{least_code};
 ghost use Rattle.lock_model.specs.declared.plan.Kind.TheVariants.{Sx};
 ghost use Rattle.lock_model.specs.declared.plan.Op.TheVariants as operation;
-ghost use Rattle.script_read.specs.Reading.{Finds, name_fault, named, operation_fault};
-ghost use Rattle.script_read.specs.Readers.{known, thread_of};
+ghost use Rattle.script_read.specs.OpenThreads.{thread_of};
+ghost use Rattle.script_read.specs.Reading.{Finds, gain_tests, name_fault, named, operation_fault};
+ghost use Rattle.script_read.specs.Readers.{known};
 ghost use Rattle.script_read.specs.Statements.{meant, meant_operation};
 
 use crate::fault::{Code, test};
 use crate::numbers::{number_of, priority_of};
+use crate::reader::Reader;
 use crate::reader::held::mode_of;
-use crate::reader::{OpenThread, Reader};
+use crate::reader::open_thread::OpenThread;
 use crate::statement::{Operation, Statement, statement_of};
 use crate::words::cut_word;
 use lock_model::{Declared, Held, Kind, LockNo, Mode, Name, Op, Prio, ThreadNo, limits};
@@ -146,6 +148,7 @@ impl Reader {
     {
         match operation {
             Operation::Take { kind, mode, lock } => self.test_take(thread, kind, mode, lock),
+            Operation::Try { kind, mode, lock } => self.test_try(thread, kind, mode, lock),
             Operation::Release { kind, mode, lock } => self.test_release(thread, kind, mode, lock),
             Operation::Set { lock, key, value } => {
                 let (l, key, value) = self.test_edit(thread, lock, key, value)?;
@@ -183,6 +186,31 @@ impl Reader {
         ensures few { IfOk result (λ op. (known self.now).operations < most_operations) }
     {
         let l = self.lock_named(lock)?;
+        self.test_gain(thread, kind, mode, l)?;
+        Ok(Op::Take { l, mode })
+    }
+
+    // `trylock L` and its like try for a lock. Where the try goes on, its `endtry` says.
+    #[tactic(auto, using(lock_model::proofs::LeastCodes::least_is_first, crate::proofs::OpenBlocks::as_many))]
+    fn test_try(&self, thread: &OpenThread, kind: Kind, mode: Mode, lock: &[u8]) -> Result<Op, Code>
+        ensures fault { Finds (operation_fault (known self.now) (Try kind mode lock.now)
+            (thread_of thread.now)) result }
+        ensures said { IfOk result (λ op. op_of (known self.now) (Try kind mode lock.now)
+            ≡ Some op) }
+        ensures few { IfOk result (λ op. (known self.now).operations < most_operations) }
+    {
+        let l = self.lock_named(lock)?;
+        test(Code::LIMIT, thread.blocks.len() < limits::OPEN_TRIES)?;
+        self.test_gain(thread, kind, mode, l)?;
+        Ok(Op::Try { l, mode, past: 0 })
+    }
+
+    // A thread is to gain a lock.
+    fn test_gain(&self, thread: &OpenThread, kind: Kind, mode: Mode, l: LockNo) -> Result<(), Code>
+        ensures fault { Finds (least_code (gain_tests (known self.now) (thread_of thread.now)
+            kind mode l)) result }
+        ensures few { IfOk result (λ op. (known self.now).operations < most_operations) }
+    {
         self.test_room()?;
         test(Code::LIMIT, thread.held.len() < limits::HELD)?;
         test(
@@ -193,8 +221,7 @@ impl Reader {
         test(
             Code::UNDER_OTHERS,
             !self.is_of_kind(Kind::Sx, l) || self.are_sx(&thread.held),
-        )?;
-        Ok(Op::Take { l, mode })
+        )
     }
 
     // `unlock L` and its like release a lock.

@@ -1,18 +1,13 @@
 //! Blocking on a turnstile, and waking from it.
 ghost use Rattle.std.specs.Prelude.{◌≡◌, ℕ, is_some, List, [], ◌∷◌};
-ghost use Rattle.lock_model.specs.Config.{Config};
 ghost use Rattle.lock_model.specs.Queues.{Mark, Cause, lock_queue, side_of};
 ghost use Rattle.lock_model.specs.Operations.{without_lock};
-ghost use Rattle.lock_model.specs.declared.plan.Kind.TheVariants.{Mtx};
 ghost use Rattle.lock_model.specs.declared.plan.Mode as modes;
-ghost use Rattle.lock_model.specs.declared.plan.Mode.TheVariants.{Excl};
 ghost use Rattle.lock_model.specs.declared.plan.QueueName as names;
-ghost use Rattle.lock_state.specs.State.{State};
 ghost use Rattle.lock_state.specs.Steps.{MayAll, Readies, Enters, Opens, Marks, Resumes};
 ghost use Rattle.lock_state.specs.Steps.Turnstiles.{MayOpen, MayMark, MayResume};
 ghost use Rattle.prio_lending.specs.Hops.{walk_up};
-ghost use Rattle.step_world.specs.Represents.{Represents};
-ghost use Rattle.step_world.specs.Steps.{May, Makes, MakesAll, KeepsProgress, ChangesProgress, KeepsBooks};
+ghost use Rattle.step_world.specs.Steps.{May, Makes, MakesWhere, MakesAll, KeepsProgress, ChangesProgress, KeepsBooks};
 
 use super::Machine;
 use crate::thread::Wait;
@@ -22,11 +17,13 @@ use lock_words::{entered, opened, owner_of};
 use prio_lending::Walk;
 
 impl Machine {
-    /// The thread blocks on a lock whose word doesn't admit the mode: it is made ready, stands on the lock's turnstile, and its lending walk
-    /// begins at the lock.
+    /// The thread blocks on a lock whose word doesn't admit the mode: it is made ready, stands on the lock's turnstile,
+    /// and its lending walk begins at the lock where a thread holds that exclusively.
     pub fn block(&mut self, t: ThreadNo, l: LockNo, mode: Mode)
-        requires may { May self.old (λ c s. (x : ℕ) × MayAll c s (Readies t.0 (lock_queue l.0) ∷ Enters t.0 l.0 mode x ∷ [])) }
-        ensures steps { (x : ℕ) → MakesAll self.old self.new (Readies t.0 (lock_queue l.0) ∷ Enters t.0 l.0 mode x ∷ []) }
+        requires may { May self.old (λ c s. (x : ℕ)
+            × MayAll c s (Readies t.0 (lock_queue l.0) ∷ Enters t.0 l.0 mode x ∷ [])) }
+        ensures steps { (x : ℕ) → MakesAll self.old self.new
+            (Readies t.0 (lock_queue l.0) ∷ Enters t.0 l.0 mode x ∷ []) }
         ensures progress { KeepsProgress self.old self.new }
         ensures books { KeepsBooks self.old self.new }
     {
@@ -41,13 +38,15 @@ impl Machine {
         thread.walk = walk_from(l, owner);
     }
 
-    /// The thread is the last holder of a lock of that kind, and releases it where the word shows waiters: those of the woken side are taken off
-    /// the lock's turnstile, to be woken, and what they lent the thread goes home.
+    /// The thread is the last holder of a lock of that kind, and releases it where the word shows waiters: those of the
+    /// woken side are taken off the lock's turnstile, to be woken, and what they lent the thread goes home.
     pub fn open(&mut self, t: ThreadNo, l: LockNo, kind: Kind)
-        requires kind { (c : Config) (s : State) → Represents c self.old s → kind ≡ c.kind l.0 }
-        requires may { May self.old (λ c s. (mode : modes.Mode) × (kind ≡ Mtx → mode ≡ Excl) × MayOpen c s t.0 l.0 mode) }
-        ensures step { (mode : modes.Mode) → Makes self.old self.new (Opens t.0 l.0 mode) }
-        ensures progress { ChangesProgress self.old self.new t.0 (λ a. record a { held = without_lock l.0 a.held }) }
+        requires may { May self.old (λ c s. (kind ≡ c.kind l.0)
+            × ((mode : modes.Mode) × MayOpen c s t.0 l.0 mode)) }
+        ensures step { (mode : modes.Mode) → MakesWhere (λ c. kind ≡ c.kind l.0)
+            self.old self.new (Opens t.0 l.0 mode) }
+        ensures progress { ChangesProgress self.old self.new t.0
+            (λ a. record a { held = without_lock l.0 a.held }) }
         ensures books { KeepsBooks self.old self.new }
     {
         let i = usize::from(l.0);
@@ -80,8 +79,10 @@ impl Machine {
 
     /// A woken thread runs again.
     pub fn resume(&mut self, t: ThreadNo)
-        requires may { May self.old (λ c s. (q : names.QueueName) × (cause : Cause) × MayResume c s t.0 q cause) }
-        ensures step { (q : names.QueueName) (cause : Cause) → Makes self.old self.new (Resumes t.0 q cause) }
+        requires may { May self.old (λ c s. (q : names.QueueName) × (cause : Cause)
+            × MayResume c s t.0 q cause) }
+        ensures step { (q : names.QueueName) (cause : Cause)
+            → Makes self.old self.new (Resumes t.0 q cause) }
         ensures progress { KeepsProgress self.old self.new }
         ensures books { KeepsBooks self.old self.new }
     {

@@ -1,8 +1,8 @@
 //! The hops of a lending walk.
-ghost use Rattle.std.specs.Prelude.{◌≡◌, ℕ};
-ghost use Rattle.lock_model.specs.Queues.{names_turnstile};
+ghost use Rattle.std.specs.Prelude.{◌≡◌, ℕ, true, is_some};
+ghost use Rattle.lock_model.specs.Queues.{lock_queue, names_turnstile};
+ghost use Rattle.lock_model.specs.Words.{is_turnstile};
 ghost use Rattle.lock_model.specs.Config.{Config};
-ghost use Rattle.lock_model.specs.declared.plan.Kind.TheVariants.{Mtx};
 ghost use Rattle.lock_state.specs.Steps.{Lends, Shifts, EndsWalk};
 ghost use Rattle.lock_state.specs.Steps.Lending.{MayLend, MayShift, MayEndWalk};
 ghost use Rattle.step_world.specs.Steps.{May, Makes, KeepsProgress, KeepsBooks};
@@ -14,7 +14,8 @@ use prio_lending::Walk;
 use thread_records::ThreadRec;
 
 impl Machine {
-    /// The thread's walk stands at a lock, whose turnstile has that owner: the owner is lent the best priority of those who wait.
+    /// The thread's walk stands at a lock, whose turnstile has that owner: the owner is lent the best priority of those
+    /// who wait.
     pub fn lend_to(&mut self, t: ThreadNo, l: LockNo, owner: ThreadNo)
         requires may { May self.old (λ c s. (h : ℕ) × MayLend c s t.0 l.0 owner.0 h) }
         ensures step { (h : ℕ) → Makes self.old self.new (Lends t.0 l.0 owner.0 h) }
@@ -28,14 +29,16 @@ impl Machine {
     }
 
     /// The thread's walk stands at a thread that waits for a lock: that one is sorted anew among those who wait.
-    pub fn sort_anew(&mut self, t: ThreadNo, o: ThreadNo, l: LockNo)
-        requires may { May self.old (λ c s. MayShift c s t.0 o.0 l.0) }
+    /// Whether the turnstile has an owner, `owned` tells.
+    pub fn sort_anew(&mut self, t: ThreadNo, o: ThreadNo, l: LockNo, owned: bool)
+        requires may { May self.old (λ c s. MayShift c s t.0 o.0 l.0
+            × (owned ≡ is_some (s.owner (lock_queue l.0)))) }
         ensures step { Makes self.old self.new (Shifts t.0 o.0 l.0) }
         ensures progress { KeepsProgress self.old self.new }
         ensures books { KeepsBooks self.old self.new }
     {
         let sorted = &self.threads[usize::from(o.0)];
-        let walk = sort_anew(&mut self.chain, &sorted.record, l);
+        let walk = sort_anew(&mut self.chain, &sorted.record, l, owned);
         self.threads[usize::from(t.0)].walk = walk;
     }
 
@@ -50,9 +53,10 @@ impl Machine {
     }
 }
 
-// Whether a record names a turnstile, where all locks are mutexes.
+// Whether a record names a turnstile, where all locks have turnstiles.
 fn stands_on_turnstile(rec: &ThreadRec) -> bool
-    ensures { (c : Config) → ((l : ℕ) → c.kind l ≡ Mtx) → result ≡ names_turnstile c rec.now.on }
+    ensures { (c : Config) → ((l : ℕ) → is_turnstile (c.kind l) ≡ true)
+        → result ≡ names_turnstile c rec.now.on }
 {
     matches!(rec.on(), Some(QueueName::Lock(_)))
 }

@@ -1,9 +1,6 @@
 use Rattle.std.proofs.Common.{rules}
-use Rattle.lock_objects.proofs.Enters.{entered_chain, entered_record, bare_head}
+use Rattle.lock_objects.proofs.Enters.{entered_chain, entered_record}
 use Rattle.lock_objects.proofs.blocking.enter.Goals as goal
-
-pub with_waiter-head-requires-clause-bare : goal.with_waiter-head-requires-clause-bare
-with_waiter-head-requires-clause-bare c = bare_head c.unplace-there.result c.unplace-there.ensures.bare
 
 pub returns-clause-record : goal.returns-clause-record
 returns-clause-record c = search rules

@@ -1,35 +1,29 @@
-use Rattle.std.proofs.Common.{◌≡◌, ◌≢◌, ℕ, Some, Option, IfSome, sym, ap, subst, ◌∙◌, false}
-use Rattle.std.proofs.lemmas.Option.{same_Some}
-use Rattle.turnstile_core.specs.Seen.{Contents, Turnstile}
-use Rattle.thread_records.specs.Loans.{loan_for}
-use Rattle.thread_records.specs.Records.{Record, with_loans}
-use Rattle.prio_lending.specs.Hops.{loan_by}
-use Rattle.lock_objects.proofs.Queues.{found}
-use Rattle.lock_objects.proofs.Hops.{owned_turnstile, queues_lent, record_lent, walk_lent, lock_named}
+use Rattle.std.proofs.Common.{rules}
+use Rattle.lock_objects.proofs.Hops.{lend_queues, lend_record, lend_walk}
 use Rattle.lock_objects.proofs.walks.lend_to_owner.Goals as goal
 
-pub returns-clause-queues : goal.returns-clause-queues
-returns-clause-queues c k s t o h lawful g shows =
-    let l = c.args.l.0 in
-    let old = found shows (owned_turnstile k s l o lawful g.owned) (sym c.in-Some.ensures.taken) in
-    queues_lent k s t l o h lawful g old c.lend-walk.new.head shows (c.lend-walk.ensures.contents ∙ ap (λ (v : Turnstile). record v.contents { loan_home = false }) c.deref_mut.ensures.value) c.unplace.ensures.others c.in-Some.ensures.named c.place.ensures.placed
+pub returns-in-Some-clause-chain : goal.returns-in-Some-clause-chain
+returns-in-Some-clause-chain c = search rules
 
-pub returns-clause-its_record : goal.returns-clause-its_record
-returns-clause-its_record c k s t o h lawful g shows rec =
-    let l = c.args.l.0 in
-    let old = found shows (owned_turnstile k s l o lawful g.owned) (sym c.in-Some.ensures.taken) in
-    let is = c.deref_mut.ensures.value in
-    let its_lock : c.deref_mut.result.now.contents.lock ≡ Some l = ap (λ (v : Turnstile). v.contents.lock) is ∙ lock_named c.in-Some.ensures.named in
-    record_lent k s t l o h lawful g old rec c.lend-walk.ensures.owner c.lend-walk.ensures.well_formed
-    (subst (λ (x : Option ℕ). IfSome x (λ j. loan_for j c.lend-walk.new.owner.loans ≡ loan_by j c.deref_mut.result.now.contents)) its_lock c.lend-walk.ensures.lent ∙ ap (λ (v : Turnstile). loan_by l v.contents) is)
-    (λ j d. c.lend-walk.ensures.others j (λ e. d (same_Some j l (sym e ∙ its_lock))))
+pub returns-in-Some-clause-owner : goal.returns-in-Some-clause-owner
+returns-in-Some-clause-owner c = search rules
 
-pub returns-clause-walk : goal.returns-clause-walk
-returns-clause-walk c k s t o h lawful g shows rec on =
-    let l = c.args.l.0 in
-    let old = found shows (owned_turnstile k s l o lawful g.owned) (sym c.in-Some.ensures.taken) in
-    let is = c.deref_mut.ensures.value in
-    let its_lock : c.deref_mut.result.now.contents.lock ≡ Some l = ap (λ (v : Turnstile). v.contents.lock) is ∙ lock_named c.in-Some.ensures.named in
-    walk_lent k s t l o h lawful g old rec c.lend-walk.ensures.owner c.lend-walk.ensures.well_formed
-    (subst (λ (x : Option ℕ). IfSome x (λ j. loan_for j c.lend-walk.new.owner.loans ≡ loan_by j c.deref_mut.result.now.contents)) its_lock c.lend-walk.ensures.lent ∙ ap (λ (v : Turnstile). loan_by l v.contents) is)
-    (λ j d. c.lend-walk.ensures.others j (λ e. d (same_Some j l (sym e ∙ its_lock)))) c.lend-walk.ensures.answer on
+pub returns-in-Some-clause-lent : goal.returns-in-Some-clause-lent
+returns-in-Some-clause-lent c = search rules
+
+pub returns-in-Some-clause-others : goal.returns-in-Some-clause-others
+returns-in-Some-clause-others c = search rules
+
+pub returns-in-Some-clause-answer : goal.returns-in-Some-clause-answer
+returns-in-Some-clause-answer c = search rules
+
+pub returns-in-Some-clause-queues : goal.returns-in-Some-clause-queues
+returns-in-Some-clause-queues c k s t o h lawful g shows = lend_queues k s t c.args.l.0 o h lawful g shows (returns-in-Some-clause-chain c)
+
+pub returns-in-Some-clause-its_record : goal.returns-in-Some-clause-its_record
+returns-in-Some-clause-its_record c k s t o h lawful g shows rec =
+    lend_record k s t c.args.l.0 o h lawful g shows rec (returns-in-Some-clause-owner c) c.put_lent.ensures.well_formed (returns-in-Some-clause-lent c) (returns-in-Some-clause-others c)
+
+pub returns-in-Some-clause-walk : goal.returns-in-Some-clause-walk
+returns-in-Some-clause-walk c k s t o h lawful g shows rec on =
+    lend_walk k s t c.args.l.0 o h lawful g shows rec (returns-in-Some-clause-owner c) c.put_lent.ensures.well_formed (returns-in-Some-clause-lent c) (returns-in-Some-clause-others c) (returns-in-Some-clause-answer c) on

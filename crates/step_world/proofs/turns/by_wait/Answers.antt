@@ -1,5 +1,5 @@
 use Rattle.lock_model.specs.Queues.{BySignal}
-use Rattle.step_world.proofs.Turning.{may_of}
+use Rattle.step_world.proofs.Turning.{may_by, one_made}
 use Rattle.step_world.proofs.RowsOfTurns as rows
 use Rattle.step_world.proofs.turns.by_wait.Goals as goal
 
@@ -7,8 +7,8 @@ pub resume-requires : goal.resume-requires
 resume-requires c =
     let q = c.requires.run in
     let is = rows.here q.1 c.requires.thread c.from.ensures c.index-thread.ensures in
-    let one = rows.resumes c.requires.proper c.requires.thread q.1 is q.2 c.in-Woken.is in
-    record { may = may_of one _ (c.in-Woken.field-0, BySignal, one.step_may) }
+    let row = rows.resumes c.requires.proper c.requires.thread q.1 is q.2 c.in-Woken.is in
+    record { may = may_by row.turning _ (c.in-Woken.field-0, BySignal, row.turning.may.0) }
 
 pub operate-requires-clause-run : goal.operate-requires-clause-run
 operate-requires-clause-run c =
@@ -24,7 +24,7 @@ returns-in-Queued-clause-follows c r h f =
 pub returns-in-Woken-clause-follows : goal.returns-in-Woken-clause-follows
 returns-in-Woken-clause-follows c r h f =
     let a = c.resume.ensures in
-    (rows.resumes c.requires.proper c.requires.thread h (rows.here h c.requires.thread c.from.ensures c.index-thread.ensures) f c.in-Woken.is).behind (a.step c.in-Woken.field-0 BySignal) a.progress a.books
+    one_made (rows.resumes c.requires.proper c.requires.thread h (rows.here h c.requires.thread c.from.ensures c.index-thread.ensures) f c.in-Woken.is) (a.step c.in-Woken.field-0 BySignal) a.progress a.books
 
 pub returns-in-Some-clause-follows : goal.returns-in-Some-clause-follows
 returns-in-Some-clause-follows c r h f =

@@ -1,67 +1,42 @@
+use Rattle.std.proofs.Common.{Some, refl, ap, arith}
 use Rattle.lock_model.specs.Plans.{config_of}
-use Rattle.lock_laws.proofs.Table.{sets, adds, changes_base}
-use Rattle.step_world.proofs.Turning.{is_there}
-use Rattle.step_world.proofs.RowsOfTurns.{here}
-use Rattle.step_world.proofs.RowsOfOperations as rows
+use Rattle.lock_laws.proofs.Entries.{next_op_below}
+use Rattle.lock_laws.proofs.OnTrack.{left}
+use Rattle.step_world.specs.declared.turns.Made.TheVariants.{Ends, Skips}
+use Rattle.step_world.proofs.Turning.{is_there, within, stays, went_on}
+use Rattle.step_world.proofs.RowsOfTurns.{here, following}
 use Rattle.step_world.proofs.turns.operate.Goals as goal
-
-pub take-requires-clause-run : goal.take-requires-clause-run
-take-requires-clause-run c =
-    let q = c.requires.run in
-    (q.0, q.1, rows.at_take c.requires.proper c.in-Take.is q.2)
-
-pub note-requires-in-Get-clause-run : goal.note-requires-in-Get-clause-run
-note-requires-in-Get-clause-run c =
-    let q = c.requires.run in
-    (q.0, q.1, rows.got c.requires.proper c.requires.thread q.1 q.2 c.in-Get.is c.get-found.ensures)
-
-pub note-requires-in-Show-clause-run : goal.note-requires-in-Show-clause-run
-note-requires-in-Show-clause-run c =
-    let q = c.requires.run in
-    (q.0, q.1, rows.shown c.requires.proper c.requires.thread q.1 q.2 c.in-Show.is (here q.1 c.requires.thread c.from.ensures c.index.ensures) (rw c.deref.ensures at c.base-base.ensures) (rw c.deref-in-Show.ensures at c.eff-eff.ensures.value))
 
 pub index-requires : goal.index-requires
 index-requires c = let q = c.requires.run in rw c.from.ensures (is_there (config_of c.args.plan.now) c.args.machine.now q.0.state c.args.t.0 q.1.shows.shows c.requires.thread)
 
-pub returns-in-Take-clause-follows : goal.returns-in-Take-clause-follows
-returns-in-Take-clause-follows c r h a = c.take.ensures.follows r h (rows.at_take c.requires.proper c.in-Take.is a)
-
-pub note-requires-clause-run : goal.note-requires-clause-run
-note-requires-clause-run c =
+pub overflow_add-following : goal.overflow_add-following
+overflow_add-following c =
     let q = c.requires.run in
-    (q.0, q.1, rows.is_note c.requires.proper c.requires.thread q.1 (rows.is_at c.in-Set.is q.2) (sets c.in-Set.l c.in-Set.key c.in-Set.value))
+    let next = following c.requires.proper c.requires.thread q.1 (here q.1 c.requires.thread c.from.ensures c.index.ensures) in
+    omega (arith, next, next_op_below c.args.plan.now q.0 c.args.t.0 c.requires.proper q.1.on_track c.requires.thread (left c.args.plan.now q.0 c.args.t.0 c.args.op q.2.next))
 
-pub note-requires-clause-key : goal.note-requires-clause-key
-note-requires-clause-key c = let q = c.requires.run in rows.has_key _ _ q.1 (rows.is_at c.in-Set.is q.2) (sets c.in-Set.l c.in-Set.key c.in-Set.value)
-
-pub returns-in-Set-clause-follows : goal.returns-in-Set-clause-follows
-returns-in-Set-clause-follows c r h a = c.note.ensures.follows r h (rows.is_note c.requires.proper c.requires.thread h (rows.is_at c.in-Set.is a) (sets c.in-Set.l c.in-Set.key c.in-Set.value))
-
-pub note-requires-in-Add-clause-run : goal.note-requires-in-Add-clause-run
-note-requires-in-Add-clause-run c =
+pub go_on-requires-clause-within : goal.go_on-requires-clause-within
+go_on-requires-clause-within c =
     let q = c.requires.run in
-    (q.0, q.1, rows.is_note c.requires.proper c.requires.thread q.1 (rows.is_at c.in-Add.is q.2) (adds c.in-Add.l c.in-Add.key c.in-Add.amount))
+    let next = following c.requires.proper c.requires.thread q.1 (here q.1 c.requires.thread c.from.ensures c.index.ensures) in
+    rw (c.operations_of.ensures, ← next) (within (Ends c.in-Ends.kind) _ c.requires.proper q.1 c.requires.thread (c.in-Ends.ensures.makes q.0 q.1 q.2) refl)
 
-pub note-requires-in-Add-clause-key : goal.note-requires-in-Add-clause-key
-note-requires-in-Add-clause-key c = let q = c.requires.run in rows.has_key _ _ q.1 (rows.is_at c.in-Add.is q.2) (adds c.in-Add.l c.in-Add.key c.in-Add.amount)
-
-pub returns-in-Add-clause-follows : goal.returns-in-Add-clause-follows
-returns-in-Add-clause-follows c r h a = c.note-in-Add.ensures.follows r h (rows.is_note c.requires.proper c.requires.thread h (rows.is_at c.in-Add.is a) (adds c.in-Add.l c.in-Add.key c.in-Add.amount))
-
-pub note-requires-in-Base-clause-run : goal.note-requires-in-Base-clause-run
-note-requires-in-Base-clause-run c =
+pub go_on-requires-in-Skips-clause-within : goal.go_on-requires-in-Skips-clause-within
+go_on-requires-in-Skips-clause-within c =
     let q = c.requires.run in
-    (q.0, q.1, rows.is_note c.requires.proper c.requires.thread q.1 (rows.is_at c.in-Base.is q.2) (changes_base c.in-Base.prio))
+    rw c.operations_of-in-Skips.ensures (within (Skips c.in-Skips.past) c.in-Skips.past c.requires.proper q.1 c.requires.thread (c.in-Skips.ensures.makes q.0 q.1 q.2) refl)
 
-pub returns-in-Base-clause-follows : goal.returns-in-Base-clause-follows
-returns-in-Base-clause-follows c r h a = c.note-in-Base.ensures.follows r h (rows.is_note c.requires.proper c.requires.thread h (rows.is_at c.in-Base.is a) (changes_base c.in-Base.prio))
+pub returns-in-Does-clause-follows : goal.returns-in-Does-clause-follows
+returns-in-Does-clause-follows c r h at = stays (c.in-Does.ensures.makes r h at)
 
-pub returns-in-Get-clause-follows : goal.returns-in-Get-clause-follows
-returns-in-Get-clause-follows c r h a = c.note-in-Get.ensures.follows r h (rows.got c.requires.proper c.requires.thread h a c.in-Get.is c.get-found.ensures)
+pub returns-in-Ends-clause-follows : goal.returns-in-Ends-clause-follows
+returns-in-Ends-clause-follows c r h at =
+    let x = c.go_on.ensures in
+    let next = following c.requires.proper c.requires.thread h (here h c.requires.thread c.from.ensures c.index.ensures) in
+    went_on (Ends c.in-Ends.kind) _ (c.in-Ends.ensures.makes r h at) (ap Some next) c.operations_of.ensures (record { shows = x.shows; progress = x.progress; books = x.books })
 
-pub returns-in-Show-clause-follows : goal.returns-in-Show-clause-follows
-returns-in-Show-clause-follows c r h a =
-    c.note-in-Show.ensures.follows r h (rows.shown c.requires.proper c.requires.thread h a c.in-Show.is (here h c.requires.thread c.from.ensures c.index.ensures) (rw c.deref.ensures at c.base-base.ensures) (rw c.deref-in-Show.ensures at c.eff-eff.ensures.value))
-
-pub returns-in-Try-clause-follows : goal.returns-in-Try-clause-follows
-returns-in-Try-clause-follows c r h a = rows.not_run h a c.in-Try.is
+pub returns-in-Skips-clause-follows : goal.returns-in-Skips-clause-follows
+returns-in-Skips-clause-follows c r h at =
+    let x = c.go_on-in-Skips.ensures in
+    went_on (Skips c.in-Skips.past) c.in-Skips.past (c.in-Skips.ensures.makes r h at) refl c.operations_of-in-Skips.ensures (record { shows = x.shows; progress = x.progress; books = x.books })

@@ -1,6 +1,6 @@
 use Rattle.std.proofs.Common.{sym, ◌∙◌}
 use Rattle.std.proofs.lemmas.Bool.{iff_false}
-use Rattle.step_world.proofs.Turning.{may_of}
+use Rattle.step_world.proofs.Turning.{may_by, one_made}
 use Rattle.step_world.proofs.RowsOfTurns as rows
 use Rattle.step_world.proofs.turns.turn.Goals as goal
 
@@ -29,8 +29,8 @@ by_wait-requires-clause-run c =
 pub mark-requires : goal.mark-requires
 mark-requires c =
     let q = c.requires.run in
-    let one = rows.marks c.requires.proper c.requires.thread q.1 (rows.here q.1 c.requires.thread c.from.ensures c.index-thread.ensures) c.in-None.is (iff_false c.is_empty.ensures c.if-is_empty.false) in
-    record { may = may_of one.2 _ (one.0, one.1, one.2.step_may) }
+    let row = rows.marks c.requires.proper c.requires.thread q.1 (rows.here q.1 c.requires.thread c.from.ensures c.index-thread.ensures) c.in-None.is (iff_false c.is_empty.ensures c.if-is_empty.false) in
+    record { may = may_by row.2.turning _ (row.0, row.1, row.2.turning.may.0) }
 
 pub returns-in-AtLock-clause-follows : goal.returns-in-AtLock-clause-follows
 returns-in-AtLock-clause-follows c r h u =
@@ -49,5 +49,5 @@ returns-then-is_empty-clause-follows c r h u =
 pub returns-else-is_empty-clause-follows : goal.returns-else-is_empty-clause-follows
 returns-else-is_empty-clause-follows c r h u =
     let a = c.mark.ensures in
-    let one = rows.marks c.requires.proper c.requires.thread h (rows.here h c.requires.thread c.from.ensures c.index-thread.ensures) c.in-None.is (iff_false c.is_empty.ensures c.if-is_empty.false) in
-    one.2.behind (a.step one.0 one.1) a.progress a.books
+    let row = rows.marks c.requires.proper c.requires.thread h (rows.here h c.requires.thread c.from.ensures c.index-thread.ensures) c.in-None.is (iff_false c.is_empty.ensures c.if-is_empty.false) in
+    one_made row.2 (a.step row.0 row.1) a.progress a.books

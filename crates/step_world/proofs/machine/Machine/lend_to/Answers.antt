@@ -31,7 +31,7 @@ returns-clause-step c x d s h lawful g =
     let rec = subst (λ (r : Record). RepresentsRecord r (record_in s o)) (sym c.deref_mut.ensures.value) (record_of (h.threads.thread o c.index_mut-lent.result.now at)) in
     let then = c.lend_to_owner-walk.ensures.its_record d s t o x lawful g h.queues rec in
     let behind = read_behind h lawful g at then c.from-2.result c.from.result c.index_mut.result.now c.from.ensures c.from-2.ensures c.index_mut.ensures.value in
-    let stands = c.stands_on_turnstile-on_turnstile.ensures d h.within.mutexes ∙ ap (λ (r : Record). names_turnstile d r.on) (c.deref.ensures ∙ sym c.deref_mut.ensures.value) in
+    let stands = c.stands_on_turnstile-on_turnstile.ensures d h.within.turnstiles ∙ ap (λ (r : Record). names_turnstile d r.on) (c.deref.ensures ∙ sym c.deref_mut.ensures.value) in
     rw (c.from.ensures, c.from-2.ensures)
     (lend_shown h lawful g at then c.lend_to_owner-walk.result behind (c.lend_to_owner-walk.ensures.queues d s t o x lawful g h.queues) (c.lend_to_owner-walk.ensures.walk d s t o x lawful g h.queues rec stands))
 

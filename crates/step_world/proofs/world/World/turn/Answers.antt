@@ -1,4 +1,4 @@
-use Rattle.std.proofs.Common.{◌≡◌, ◌⊎◌, ◌↔◌, ℕ, true, sym, ap, subst, ◌<◌, length, ◌∙◌}
+use Rattle.std.proofs.Common.{◌≡◌, ◌↔◌, true, sym, subst, ◌<◌, length}
 use Rattle.lock_model.specs.Plans.{config_of}
 use Rattle.lock_model.specs.declared.turn.Turn.{Turn}
 use Rattle.lock_model.specs.declared.turn.Turn.TheVariants.{Idle, Ended}
@@ -6,8 +6,7 @@ use Rattle.lock_state.specs.Run.{Run, run_behind, has_ended}
 use Rattle.lock_laws.specs.OnTrack.{IsSleeping}
 use Rattle.lock_laws.proofs.Best.{effective_best}
 use Rattle.lock_laws.proofs.Idle as idle
-use Rattle.lock_state.specs.Best.{HasBest}
-use Rattle.step_world.specs.Worlds.{World, Represents}
+use Rattle.step_world.specs.Worlds.{World}
 use Rattle.step_world.proofs.WorldsAreSound.{behind_turn}
 use Rattle.step_world.proofs.world.World.turn.Goals as goal
 

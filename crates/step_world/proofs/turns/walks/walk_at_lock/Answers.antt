@@ -1,0 +1,27 @@
+use Rattle.lock_model.specs.Plans.{config_of}
+use Rattle.step_world.proofs.Turning.{may_by, may_next, one_made}
+use Rattle.step_world.proofs.RowsOfWalks.{lends, ends_at_lock}
+use Rattle.step_world.proofs.turns.walks.walk_at_lock.Goals as goal
+
+pub lend_to-requires : goal.lend_to-requires
+lend_to-requires c =
+    let q = c.requires.run in
+    let row = lends c.requires.proper c.requires.thread q.1 q.2 (c.in-Some.ensures (config_of c.args.plan.now) q.0.state q.1.shows.shows q.1.on_track.lawful.lawful) in
+    record { may = may_by row.1.turning _ (row.0, row.1.turning.may.0) }
+
+pub end_walk-requires : goal.end_walk-requires
+end_walk-requires c =
+    let q = c.requires.run in
+    record { may = may_next (ends_at_lock c.requires.proper c.requires.thread q.1 q.2 (c.in-None.ensures (config_of c.args.plan.now) q.0.state q.1.shows.shows q.1.on_track.lawful.lawful)).turning }
+
+pub returns-in-Some-clause-follows : goal.returns-in-Some-clause-follows
+returns-in-Some-clause-follows c r h w =
+    let row = lends c.requires.proper c.requires.thread h w (c.in-Some.ensures (config_of c.args.plan.now) r.state h.shows.shows h.on_track.lawful.lawful) in
+    let a = c.lend_to.ensures in
+    one_made row.1 (a.step row.0) a.progress a.books
+
+pub returns-in-None-clause-follows : goal.returns-in-None-clause-follows
+returns-in-None-clause-follows c r h w =
+    let row = ends_at_lock c.requires.proper c.requires.thread h w (c.in-None.ensures (config_of c.args.plan.now) r.state h.shows.shows h.on_track.lawful.lawful) in
+    let a = c.end_walk.ensures in
+    one_made row a.step a.progress a.books

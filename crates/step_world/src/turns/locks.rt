@@ -1,0 +1,157 @@
+//! The rows of a running thread that takes, tries or releases a lock.
+ghost use Rattle.std.specs.Prelude.{◌≡◌, ◌<◌, length, Some};
+ghost use Rattle.lock_model.specs.Operations.{IsProper};
+ghost use Rattle.lock_model.specs.Plans.{lock_kind};
+ghost use Rattle.lock_model.specs.declared.plan.Op.TheVariants.{Take, Try, Release};
+ghost use Rattle.lock_model.specs.Words.{word_of, IsWellFormed, admits, is_plain};
+ghost use Rattle.lock_state.specs.Run.{Run};
+ghost use Rattle.lock_laws.specs.OnTrack.{IsAtOperation};
+ghost use Rattle.step_world.specs.Steps.{HasKey};
+ghost use Rattle.step_world.specs.Runs.{HasRun, IsRunOf, MakesRow, KeepsWhereIdle, IsGain, answer_of};
+
+use crate::machine::Machine;
+use crate::turns::Made;
+use lock_model::{Event, Kind, LockNo, Mode, Plan, StepKind, ThreadNo, Turn};
+use lock_words::{admits, is_drop, is_plain};
+
+/// A take gains the lock where its word admits the mode, and else the thread blocks.
+pub fn take(machine: &mut Machine, plan: &Plan, t: ThreadNo, l: LockNo, mode: Mode) -> Made
+    requires proper { IsProper plan.now }
+    requires thread { t.0 < length plan.now.threads }
+    requires run { HasRun plan.now machine.old
+        (λ r. IsAtOperation plan.now r t.0 (Some (Take l mode))) }
+    ensures makes { MakesRow plan.now t.0 machine.old machine.new result
+        (λ r. IsAtOperation plan.now r t.0 (Some (Take l mode))) }
+    ensures unchanged { KeepsWhereIdle (answer_of result) machine.old machine.new }
+{
+    if is_admitted(machine, plan, l, mode) {
+        gain_or_claim(machine, plan, t, l, mode, false, Event::Locked { l, mode })
+    } else {
+        machine.block(t, l, mode);
+        Made::Does(Turn::Did(StepKind::Enter))
+    }
+}
+
+/// A try gains the lock where its word admits the mode. Else it notes the word, and the thread goes on behind its block,
+/// at the operation of that number.
+pub fn try_lock(
+    machine: &mut Machine,
+    plan: &Plan,
+    t: ThreadNo,
+    l: LockNo,
+    mode: Mode,
+    past: u32,
+) -> Made
+    requires proper { IsProper plan.now }
+    requires thread { t.0 < length plan.now.threads }
+    requires run { HasRun plan.now machine.old
+        (λ r. IsAtOperation plan.now r t.0 (Some (Try l mode past))) }
+    ensures makes { MakesRow plan.now t.0 machine.old machine.new result
+        (λ r. IsAtOperation plan.now r t.0 (Some (Try l mode past))) }
+    ensures unchanged { KeepsWhereIdle (answer_of result) machine.old machine.new }
+{
+    if is_admitted(machine, plan, l, mode) {
+        gain_or_claim(machine, plan, t, l, mode, true, Event::Tried { l, mode })
+    } else {
+        let seen = word_at(machine, plan, l);
+        machine.stamp(t, Event::Busy { l, seen });
+        Made::Skips(past)
+    }
+}
+
+// A thread gains a lock whose word admits the mode, and notes it. Where the gain isn't plain, it claims the turnstile of
+// those who wait.
+fn gain_or_claim(
+    machine: &mut Machine,
+    plan: &Plan,
+    t: ThreadNo,
+    l: LockNo,
+    mode: Mode,
+    by_try: bool,
+    event: Event,
+) -> Made
+    requires proper { IsProper plan.now }
+    requires thread { t.0 < length plan.now.threads }
+    requires run { HasRun plan.now machine.old
+        (λ r. IsGain plan.now r t.0 l mode by_try event) }
+    requires key { HasKey machine.old event }
+    ensures makes { MakesRow plan.now t.0 machine.old machine.new result
+        (λ r. IsGain plan.now r t.0 l mode by_try event) }
+    ensures unchanged { KeepsWhereIdle (answer_of result) machine.old machine.new }
+{
+    if gains_plainly(machine, plan, l, mode) {
+        machine.gain(t, l, mode, by_try);
+        machine.stamp(t, event);
+        Made::Ends(StepKind::Gain)
+    } else {
+        machine.claim(t, l, by_try);
+        machine.stamp(t, event);
+        Made::Ends(StepKind::Claim)
+    }
+}
+
+/// A release is noted, in the mode in which the thread holds the lock. Where the last holder releases it and waiters
+/// are shown they are taken off, to be woken.
+pub fn release(machine: &mut Machine, plan: &Plan, t: ThreadNo, l: LockNo) -> Made
+    requires proper { IsProper plan.now }
+    requires thread { t.0 < length plan.now.threads }
+    requires run { HasRun plan.now machine.old
+        (λ r. IsAtOperation plan.now r t.0 (Some (Release l))) }
+    ensures makes { MakesRow plan.now t.0 machine.old machine.new result
+        (λ r. IsAtOperation plan.now r t.0 (Some (Release l))) }
+    ensures unchanged { KeepsWhereIdle (answer_of result) machine.old machine.new }
+{
+    let mode = machine.threads[usize::from(t.0)].mode_held(l);
+    let drops = is_drop(word_at(machine, plan, l));
+    machine.stamp(t, Event::Unlocked { l, mode });
+    if drops {
+        machine.drop_lock(t, l, mode);
+        Made::Ends(StepKind::Drop)
+    } else {
+        machine.open(t, l, kind_of(plan, l));
+        Made::Ends(StepKind::OpenUp)
+    }
+}
+
+// Whether the word of a lock admits a thread in the mode,
+fn is_admitted(machine: &Machine, plan: &Plan, l: LockNo, mode: Mode) -> bool
+    requires lock { l.0 < length plan.now.locks }
+    requires mutex { lock_kind plan.now l.0 ≡ Kind.Mtx → mode ≡ Mode.Excl }
+    requires run { HasRun plan.now machine.now (λ r. Unit) }
+    ensures { (r : Run) → IsRunOf plan.now machine.now r
+        → result ≡ admits (lock_kind plan.now l.0) (r.state.word l.0) mode }
+{
+    admits(kind_of(plan, l), word_at(machine, plan, l), mode)
+}
+
+// and whether its gain is plain then.
+fn gains_plainly(machine: &Machine, plan: &Plan, l: LockNo, mode: Mode) -> bool
+    requires lock { l.0 < length plan.now.locks }
+    requires run { HasRun plan.now machine.now (λ r. Unit) }
+    ensures { (r : Run) → IsRunOf plan.now machine.now r
+        → result ≡ is_plain (lock_kind plan.now l.0) (r.state.word l.0) mode }
+{
+    is_plain(kind_of(plan, l), word_at(machine, plan, l), mode)
+}
+
+// The word of a lock.
+#[tactic(auto, using(crate::proofs::RowsOfLocks::words))]
+fn word_at(machine: &Machine, plan: &Plan, l: LockNo) -> u64
+    requires lock { l.0 < length plan.now.locks }
+    requires run { HasRun plan.now machine.now (λ r. Unit) }
+    ensures word { (r : Run) → IsRunOf plan.now machine.now r
+        → word_of result ≡ r.state.word l.0 }
+    ensures well_formed { IsWellFormed (word_of result) }
+{
+    machine.words[usize::from(l.0)]
+}
+
+// Its kind.
+fn kind_of(plan: &Plan, l: LockNo) -> Kind
+    ensures { result ≡ lock_kind plan.now l.0 }
+{
+    match plan.locks.as_slice().get(usize::from(l.0)) {
+        Some(lock) => lock.kind,
+        None => Kind::Mtx,
+    }
+}
