@@ -7,15 +7,15 @@ use Rattle.lock_state.specs.State.{State, Loan, put_at, put_queue}
 use Rattle.lock_model.specs.Config.{Config}
 use Rattle.lock_model.specs.Holds.{Holds}
 use Rattle.lock_state.specs.Steps.Lending.{MayClaim, after_claim, loan_of}
-use Rattle.lock_model.specs.Queues.{lock_queue, chan_queue, stands, least_of}
+use Rattle.lock_model.specs.Queues.{lock_queue, stands, least_of}
 use Rattle.lock_state.specs.Facts.{Lawful, OneNodeEach, HeadsFitWaiters, BitsShowWaiters, StandsOnce, CalledWants, FreeWordHasCalled, FreeMutexShowsNone, WordsMatchHolders, EffectiveIsLeast, OwnersHold, ChannelsHaveNoOwner, LoansAreLeast, LoansAreWithOwners, LoansAreOnHeads, KeptIsEffective, EffectiveIsKnown, LoansAreKnown, KeptIsKnown}
 use Rattle.lock_state.specs.Facts.Queues.{HeadFits}
 use Rattle.lock_state.specs.Facts.Waits.{callers}
 use Rattle.lock_state.specs.Facts.Loans.{owner_if, IsKnown}
 use Rattle.lock_model.specs.declared.plan.Mode.TheVariants.{Excl}
 use Rattle.lock_model.specs.declared.plan.QueueName.{QueueName}
-use Rattle.lock_laws.proofs.Kit.{columns, put_same, put_other, put_at_same, put_at_other, put_at_beside, put_lock_same, put_lock_other, sum_below-put, each_queue}
-use Rattle.lock_laws.proofs.Alike.{gained_lock}
+use Rattle.lock_laws.proofs.Kit.{columns, put_same, put_other, put_at_same, put_at_other, put_at_beside, put_lock_same, put_lock_other, sum_below-put, at_put_queue}
+use Rattle.lock_laws.proofs.Gain.{gained_lock}
 use Rattle.lock_laws.proofs.Words.{free_is, all_match-put, matches-claim}
 use Rattle.lock_laws.proofs.Lending.{each_of-elsewhere, effective-put}
 use Rattle.lock_laws.proofs.Nodes.{prio_loan_of, number_loan_of, loan_of_known, node_lent, loan_known, changed_known}
@@ -59,17 +59,15 @@ module _ (c : Config) (s : State) (t l x : ℕ) (by_try : Bool) (g : MayClaim c 
 
   -- 1. The queue
 
-  heads_of_locks : (k : ℕ) → HeadFits (n.lists (lock_queue k)) (n.free_list (lock_queue k)) (n.head (lock_queue k)) (n.owner (lock_queue k))
-  unfolding after_claim HeadsFitWaiters
-  heads_of_locks k =
-      elim (cases_eq l k) [
-        | inl e ↦ rw (← e, put_lock_same s.owner l (Some t)) (record { balanced = (h.queues.heads_fit_waiters q).balanced; no_free = (h.queues.heads_fit_waiters q).no_free; no_owner = head_keeps None (Some t) (s.head q) x g.head })
-        | inr e ↦ rw (put_lock_other s.owner l (Some t) k e) (h.queues.heads_fit_waiters (lock_queue k))
-      ]
-
   heads : HeadsFitWaiters n.lists n.free_list n.head n.owner
-  unfolding after_claim HeadsFitWaiters put_queue
-  heads = each_queue (λ r. HeadFits (n.lists r) (n.free_list r) (n.head r) (n.owner r)) heads_of_locks (λ d. h.queues.heads_fit_waiters (chan_queue d))
+  unfolding after_claim HeadsFitWaiters
+  heads =
+      let fits = h.queues.heads_fit_waiters q in
+      at_put_queue (λ r o. HeadFits (s.lists r) (s.free_list r) (s.head r) o) s.owner q (Some t) (record {
+        balanced = fits.balanced;
+        no_free = fits.no_free;
+        no_owner = head_keeps None (Some t) (s.head q) x g.head;
+      }) (λ r ne. h.queues.heads_fit_waiters r)
 
   bits : BitsShowWaiters n.word n.lists
   unfolding after_claim BitsShowWaiters

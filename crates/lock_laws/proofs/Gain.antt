@@ -1,21 +1,43 @@
 -- A gain keeps each fact.
-use Rattle.std.proofs.Common.{◌≡◌, ℕ, Bool, None, arith, ◌∙◌}
+use Rattle.std.proofs.Common.{◌≡◌, ℕ, ◌<◌, Bool, None, arith, ◌∙◌}
 use Rattle.lock_model.specs.Counts.{at_option}
 use Rattle.lock_model.specs.Words.{is_turnstile}
 use Rattle.lock_model.specs.Queues.{lock_queue}
-use Rattle.lock_state.specs.State.{State}
+use Rattle.lock_state.specs.State.{State, put, put_at}
 use Rattle.lock_model.specs.Config.{Config}
-use Rattle.lock_model.specs.Holds.{Holds}
-use Rattle.lock_state.specs.Steps.LockWords.{MayGain, after_gain}
-use Rattle.lock_state.specs.Facts.{Lawful, BitsShowWaiters, HeadsFitWaiters, CalledWants, FreeWordHasCalled, FreeMutexShowsNone, WordsMatchHolders, OwnersHold}
+use Rattle.lock_model.specs.Holds.{NotHeld, Holds}
+use Rattle.lock_state.specs.Steps.LockWords.{IsActing, MayGain, after_gain}
+use Rattle.lock_state.specs.Facts.{Lawful, BitsShowWaiters, HeadsFitWaiters, StandingWants, WokenWants, CalledWants, StandingIsUncalled, WokenIsUncalled, FreeWordHasCalled, FreeMutexShowsNone, WordsMatchHolders, OnlyThreadsHold, OwnersHold, SectionsAreHeld}
 use Rattle.lock_state.specs.Facts.Waits.{callers}
 use Rattle.lock_state.specs.Facts.Loans.{owner_if}
 use Rattle.lock_model.specs.declared.plan.Mode.{Mode}
 use Rattle.lock_laws.proofs.Kit.{columns, at_put, sum_below-put}
-use Rattle.lock_laws.proofs.Alike.{gained_lock}
 use Rattle.lock_laws.proofs.Words.{all_match-put, matches-gain}
 use Rattle.lock_laws.proofs.Owners.{owner_gained}
 use Rattle.lock_laws.proofs.Listed as listed
+
+-- what a gain and a claim have in common: the thread holds the lock, wants none and is called for none
+pub record Gained (c : Config) (s : State) (t l : ℕ) (mode : Mode) : Type 0 where
+  pub standing_wants : StandingWants s.blocked_on (put s.wanted t None)
+  pub woken_wants : WokenWants s.wait (put s.wanted t None)
+  pub called_wants : CalledWants (put s.called t None) (put s.wanted t None)
+  pub standing_uncalled : StandingIsUncalled s.blocked_on (put s.called t None)
+  pub woken_uncalled : WokenIsUncalled s.wait (put s.called t None)
+  pub threads_hold : OnlyThreadsHold c (put_at s.held t l (Holds mode))
+  pub sections : SectionsAreHeld c s.history (put_at s.held t l (Holds mode))
+
+pub gained_lock : (c : Config) (s : State) (t l : ℕ) (mode : Mode) → t < c.threads → s.held t l ≡ NotHeld
+    → IsActing s t → Lawful c s → Gained c s t l mode
+unfolding StandingWants WokenWants CalledWants StandingIsUncalled WokenIsUncalled OnlyThreadsHold SectionsAreHeld
+gained_lock c s t l mode thread unheld acting h = record {
+  standing_wants = λ u k. grind (arith, columns, h.waits.standing_wants u k);
+  woken_wants = λ u k. grind (arith, columns, h.waits.woken_wants u k);
+  called_wants = λ u k. grind (arith, columns, h.waits.called_wants u k);
+  standing_uncalled = λ u q. grind (arith, columns, h.waits.standing_is_uncalled u q);
+  woken_uncalled = λ u. grind (arith, columns, h.waits.woken_is_uncalled u);
+  threads_hold = λ u k m. grind (arith, columns, h.words.only_threads_hold u k m, thread);
+  sections = λ u k m. grind (arith, columns, h.books.sections_are_held u k m, unheld);
+}
 
 module _ (c : Config) (s : State) (t l : ℕ) (mode : Mode) (by_try : Bool) (g : MayGain c s t l mode) (h : Lawful c s) where
   abbrev n : State

@@ -1,5 +1,5 @@
 -- Laws of columns and of sums that each law of a kind uses.
-use Rattle.std.proofs.Common.{◌≡◌, ℕ, zero, suc, ◌+◌, ◌<◌, ◌≤◌, Bool, true, false, cond, eqb, Option, Some, None, refl, sym, ap, inl, inr, arith, eq-eqb, subst, ◌&&◌}
+use Rattle.std.proofs.Common.{◌≡◌, ℕ, zero, suc, ◌+◌, ◌<◌, ◌≤◌, Bool, true, false, cond, eqb, Option, Some, None, refl, sym, ap, inl, inr, arith, eq-eqb, subst, ◌&&◌, ◌∙◌}
 use Rattle.std.proofs.lemmas.Bool.{ne_eqb, cases_eq, eqb-true}
 use Rattle.lock_model.specs.Counts.{sum_below, one, at_option}
 use Rattle.lock_state.specs.State.{put, put_at, put_queue}
@@ -8,11 +8,30 @@ use Rattle.lock_state.specs.Facts.Waits.{at_queue}
 use Rattle.lock_model.specs.declared.plan.QueueName.{QueueName}
 use Rattle.lock_model.specs.declared.plan.QueueName.TheVariants.{Lock, Chan}
 
+pub is_queue_same : (q : QueueName) → is_queue q q ≡ true
+is_queue_same (Lock l) = eq-eqb l.0 l.0 refl
+is_queue_same (Chan d) = eq-eqb d.0 d.0 refl
+
+pub is_queue_true : (q r : QueueName) → is_queue q r ≡ true → q ≡ r
+is_queue_true (Lock l) (Lock k) e = ap lock_queue (eqb-true l.0 k.0 e)
+is_queue_true (Chan d) (Chan e) x = ap chan_queue (eqb-true d.0 e.0 x)
+is_queue_true (Lock l) (Chan d) e = absurd cc
+is_queue_true (Chan d) (Lock l) e = absurd cc
+
 -- 1. Columns
 
 pub put_same : {A : Type 0} (f : ℕ → A) (i : ℕ) (v : A) → put f i v i ≡ v
 unfolding put
 put_same f i v = ap (λ b. cond b v (f i)) (eq-eqb i i refl)
+
+-- the entry that is put was there before
+pub put_back : {A : Type 0} (f : ℕ → A) (i : ℕ) (v : A) → f i ≡ v → put f i v ≡ f
+unfolding put
+put_back f i v e = λ k j. go (eqb i j) (eqb-true i j) k
+  where
+    go : {j : ℕ} (b : Bool) → (b ≡ true → i ≡ j) → cond b v (f j) ≡ f j
+    go true h = sym e ∙ ap f (h refl)
+    go false h = refl
 
 pub put_other : {A : Type 0} (f : ℕ → A) (i : ℕ) (v : A) (j : ℕ) → (i ≡ j → ⊥) → put f i v j ≡ f j
 unfolding put
@@ -50,6 +69,11 @@ pub put_chan_other : {A : Type 0} (f : QueueName → A) (d : ℕ) (v : A) (k : �
 unfolding put_queue
 put_chan_other f d v k h = ap (λ b. cond b v (f (chan_queue k))) (ne_eqb d k h)
 
+pub put_queue_other : {A : Type 0} (f : QueueName → A) (q : QueueName) (v : A) (r : QueueName) → is_queue q r ≡ false
+    → put_queue f q v r ≡ f r
+unfolding put_queue
+put_queue_other f q v r e = rw e refl
+
 -- what an entry of a changed column is
 pub ruleset columns = (put_same, put_other, put_at_same, put_at_other, put_at_beside, put_lock_same, put_lock_other, put_lock_chan)
 
@@ -69,14 +93,28 @@ at_put_lock P f i v here there j =
       | inr e ↦ rw (put_lock_other f i v j e) (there j e)
     ]
 
+-- a fact of each queue and its entry, by the queue that is changed and the others
+pub at_put_queue : {A : Type 0} (P : QueueName → A → Type 0) (f : QueueName → A) (q : QueueName) (v : A) → P q v
+    → ((r : QueueName) → is_queue q r ≡ false → P r (f r)) → (r : QueueName) → P r (put_queue f q v r)
+unfolding put_queue
+at_put_queue P f q v here there r = go (is_queue q r) refl
+  where
+    go : (b : Bool) → is_queue q r ≡ b → P r (cond b v (f r))
+    go true e = subst (λ i. P i v) (is_queue_true q r e) here
+    go false e = there r e
+
+-- a fact of the entries of some locks, where one queue's entry is changed
+pub at_locks : {A : Type 0} (K : ℕ → Type 0) (P : A → Type 0) (f : QueueName → A) (q : QueueName) (v : A)
+    → ((l : ℕ) → q ≡ lock_queue l → K l → P (f q) → P v) → ((l : ℕ) → K l → P (f (lock_queue l)))
+    → (l : ℕ) → K l → P (put_queue f q v (lock_queue l))
+at_locks K P f q v here each l k =
+    at_put_queue (λ r w. (j : ℕ) → r ≡ lock_queue j → K j → P w) f q v
+    (λ j e i. here j e i (subst (λ r. P (f r)) (sym e) (each j i)))
+    (λ r ne j e i. subst (λ r. P (f r)) (sym e) (each j i)) (lock_queue l) l refl k
+
 -- a fact of each place, by the place that is changed and the others
 pub each_place : (i : ℕ) (P : ℕ → Type 0) → P i → ((j : ℕ) → (i ≡ j → ⊥) → P j) → (j : ℕ) → P j
 each_place i P here there j = elim (cases_eq i j) [ inl e ↦ subst P e here | inr e ↦ there j e ]
-
--- a fact of each queue, by locks and channels
-pub each_queue : (P : QueueName → Type 0) → ((l : ℕ) → P (lock_queue l)) → ((d : ℕ) → P (chan_queue d)) → (q : QueueName) → P q
-each_queue P of_lock of_chan (Lock l) = of_lock l.0
-each_queue P of_lock of_chan (Chan d) = of_chan d.0
 
 -- 2. Sums
 
@@ -187,16 +225,6 @@ number_of (Some (Chan d)) = 0
 pub same_lock : (l k : ℕ) → ◌≡◌ {A = Option QueueName} (Some (lock_queue l)) (Some (lock_queue k)) → l ≡ k
 unfolding number_of
 same_lock l k e = ap number_of e
-
-pub is_queue_same : (q : QueueName) → is_queue q q ≡ true
-is_queue_same (Lock l) = eq-eqb l.0 l.0 refl
-is_queue_same (Chan d) = eq-eqb d.0 d.0 refl
-
-pub is_queue_true : (q r : QueueName) → is_queue q r ≡ true → q ≡ r
-is_queue_true (Lock l) (Lock k) e = ap lock_queue (eqb-true l.0 k.0 e)
-is_queue_true (Chan d) (Chan e) x = ap chan_queue (eqb-true d.0 e.0 x)
-is_queue_true (Lock l) (Chan d) e = absurd cc
-is_queue_true (Chan d) (Lock l) e = absurd cc
 
 pub at_queue_one : (q : QueueName) (o : Option QueueName) → 1 ≤ at_queue q o → o ≡ Some q
 at_queue_one q None l = absurd (omega arith)

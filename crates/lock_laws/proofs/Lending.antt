@@ -111,13 +111,11 @@ each-reinsert P t p ws m here e =
 pub each_of-map : (P Q : Waiter → Type 0) (q : Lists) → ((w : Waiter) → 1 ≤ stands w.thread q → P w → Q w) → EachOf P q → EachOf Q q
 each_of-map P Q q f e = (each-map P Q q.exclusive (λ w l. f w (omega arith)) e.0, each-map P Q q.shared (λ w l. f w (omega arith)) e.1)
 
-pub each_of-more : (P : Waiter → Type 0) (m : Side) (w : Waiter) (q : Lists) → P w → EachOf P q → EachOf P (with_list m (insert w (list_of m q)) q)
-each_of-more P X w q p e = (each-insert P w q.exclusive p e.0, e.1)
-each_of-more P S w q p e = (e.0, each-insert P w q.shared p e.1)
-
-pub each_of-less : (P : Waiter → Type 0) (m : Side) (q : Lists) → EachOf P q → EachOf P (with_list m [] q)
-each_of-less P X q e = (tt, e.1)
-each_of-less P S q e = (e.0, tt)
+-- one side of a lock's queue is changed
+pub each_of-with : (P : Waiter → Type 0) (side : Side) (ws : List Waiter) (q : Lists) → (Each P (list_of side q) → Each P ws)
+    → EachOf P q → EachOf P (with_list side ws q)
+each_of-with P X ws q f e = (f e.0, e.1)
+each_of-with P S ws q f e = (e.0, f e.1)
 
 pub each_of-kept : (P : Waiter → Type 0) (t p : ℕ) (q : Lists) → stands t q ≤ 1 → P (record { thread = t; kept = p }) → EachOf (λ w. w.thread ≢ t → P w) q → EachOf P (with_kept t p q)
 each_of-kept P t p q m here e = (each-reinsert P t p q.exclusive (omega arith) here e.0, each-reinsert P t p q.shared (omega arith) here e.1)

@@ -1,4 +1,5 @@
 pub mod Kit
+pub mod Places
 pub mod Words
 pub mod Owners
 pub mod Queues
@@ -64,6 +65,8 @@ pub mod Looks
 pub mod OwnEntries
 pub mod Rounds
 pub mod OneQueue
-pub mod Alike
-pub mod SxQueue
+pub mod ComingToStand
+pub mod TakingOff
+pub mod LockQueues
+pub mod SleepQueues
 pub mod SleepFacts

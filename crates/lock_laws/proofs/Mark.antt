@@ -1,19 +1,19 @@
 -- A mark keeps each fact.
-use Rattle.std.proofs.Common.{◌≡◌, ℕ, ◌+◌, ◌<◌, Bool, true, false, not, cond, eqb, nat_lt, ◌&&◌, List, Option, Some, None, refl, ap, inl, inr, arith, eq-eqb, ◌∙◌}
-use Rattle.std.proofs.lemmas.Bool.{cases_eq}
-use Rattle.lock_model.specs.Counts.{one, some, at_option}
+use Rattle.std.proofs.Common.{subst, ◌≡◌, ℕ, ◌<◌, Bool, true, false, not, cond, List, Some, None, refl, ap, arith}
 use Rattle.lock_state.specs.State.{State, Woken, put}
 use Rattle.lock_model.specs.Config.{Config}
-use Rattle.lock_model.specs.Queues.{Mark, is_queue, is_turnstile_queue, names_turnstile, names_sleep_queue}
+use Rattle.lock_model.specs.Queues.{Mark, is_turnstile_queue, names_turnstile, names_sleep_queue}
 use Rattle.lock_state.specs.Steps.Turnstiles.{MayMark, after_mark}
 use Rattle.lock_state.specs.Facts.{Lawful, OneTurnstileEach, OneSleepQueueEach, TurnstileIsLent, SleepQueueIsLent, StandsOnce, OnlyThreadsStand, StandingIsQueued, StandingWants, WokenWants, StandingIsUncalled, WokenIsUncalled, FreeWordHasCalled}
-use Rattle.lock_state.specs.Facts.Queues.{turnstile_places, sleep_queue_places, times_object}
+use Rattle.lock_state.specs.Facts.Queues.{turnstile_places, sleep_queue_places}
 use Rattle.lock_state.specs.Facts.Waits.{callers, calls_marked, calls_woken, times_marked}
-use Rattle.lock_laws.proofs.Kit.{columns, put_same, put_other, sum_below-put, sum_below-at, is_queue_same, at_queue_one}
+use Rattle.lock_laws.proofs.Places.{returned_places, returned_named}
+use Rattle.lock_laws.proofs.Standing.{marked_named, marked_thread, named_out, asleep_out}
+use Rattle.lock_laws.proofs.Kit.{columns, sum_below-put}
 
-no_object : (o : Option ℕ) (b : Bool) → b ≡ true → some o + one b ≡ 1 → o ≡ None
-no_object None b e f = refl
-no_object (Some x) b e f = absurd (let z = rw e at f in omega arith)
+turned : {A : Type 0} (b : Bool) (x y : A) → cond (not b) x y ≡ cond b y x
+turned true x y = refl
+turned false x y = refl
 
 module _ (c : Config) (s : State) (t : ℕ) (m : Mark) (ms : List Mark) (g : MayMark c s t m ms) (h : Lawful c s) where
   abbrev n : State
@@ -23,102 +23,44 @@ module _ (c : Config) (s : State) (t : ℕ) (m : Mark) (ms : List Mark) (g : May
   u = m.thread
 
   pub blocked_on : s.blocked_on u ≡ Some m.queue
-  unfolding StandsOnce
-  blocked_on =
-      let a = sum_below-at c.threads (λ v. times_marked u m.queue (s.marked v)) t g.thread in
-      let e = ap (times_marked u m.queue) g.marked in
-      let o : one (is_queue m.queue m.queue && eqb u u) ≡ 1 = rw (is_queue_same m.queue, eq-eqb u u refl) refl in
-      at_queue_one m.queue (s.blocked_on u) (omega (arith, h.waits.stands_once u m.queue))
+  blocked_on = marked_named c s t m ms h g.thread g.marked
 
   other : u < c.threads
-  unfolding OnlyThreadsStand
-  other = h.waits.only_threads_stand u m.queue blocked_on
+  other = marked_thread c s t m ms h g.thread g.marked
 
   -- 1. Places
 
-  no_turnstile : is_turnstile_queue c m.queue ≡ true → s.turnstile u ≡ None
-  unfolding TurnstileIsLent
-  no_turnstile e = no_object (s.turnstile u) (names_turnstile c (s.blocked_on u)) (ap (names_turnstile c) blocked_on ∙ e) (h.queues.turnstile_is_lent u)
-
-  no_sleep_queue : is_turnstile_queue c m.queue ≡ false → s.sleep_queue u ≡ None
-  unfolding SleepQueueIsLent
-  no_sleep_queue e = no_object (s.sleep_queue u) (names_sleep_queue c (s.blocked_on u)) (ap (names_sleep_queue c) blocked_on ∙ ap not e) (h.queues.sleep_queue_is_lent u)
+  abbrev turnstile : Bool
+  turnstile = is_turnstile_queue c m.queue
 
   one_turnstile : OneTurnstileEach c n.turnstile n.head n.free_list n.marked
   unfolding after_mark OneTurnstileEach turnstile_places
-  one_turnstile k = go (is_turnstile_queue c m.queue) refl
-    where
-      go : (b : Bool) → is_turnstile_queue c m.queue ≡ b → turnstile_places c (cond b (put s.turnstile u (Some m.object)) s.turnstile) s.head s.free_list (put s.marked t ms) k ≡ one (nat_lt k c.threads)
-      go true e =
-          let a = sum_below-put c.threads (at_option k) s.turnstile u (Some m.object) other in
-          let b = sum_below-put c.threads (times_object c true k) s.marked t ms g.thread in
-          let d = ap (times_object c true k) g.marked in
-          let d2 = rw e at d in
-          let f = ap (at_option k) (no_turnstile e) in
-          omega (arith, h.queues.one_turnstile_each k)
-      go false e =
-          let b = sum_below-put c.threads (times_object c true k) s.marked t ms g.thread in
-          let d = ap (times_object c true k) g.marked in
-          let d2 = rw e at d in
-          omega (arith, h.queues.one_turnstile_each k)
+  one_turnstile k =
+      let out = named_out c s u m.queue h blocked_on in
+      let places = returned_places c s true k t m ms g.thread other g.marked turnstile refl out in
+      omega (arith, h.queues.one_turnstile_each k)
 
   one_sleep_queue : OneSleepQueueEach c n.sleep_queue n.head n.free_list n.marked
   unfolding after_mark OneSleepQueueEach sleep_queue_places
-  one_sleep_queue k = go (is_turnstile_queue c m.queue) refl
-    where
-      go : (b : Bool) → is_turnstile_queue c m.queue ≡ b → sleep_queue_places c (cond b s.sleep_queue (put s.sleep_queue u (Some m.object))) s.head s.free_list (put s.marked t ms) k ≡ one (nat_lt k c.threads)
-      go true e =
-          let b = sum_below-put c.threads (times_object c false k) s.marked t ms g.thread in
-          let d = ap (times_object c false k) g.marked in
-          let d2 = rw e at d in
-          omega (arith, h.queues.one_sleep_queue_each k)
-      go false e =
-          let a = sum_below-put c.threads (at_option k) s.sleep_queue u (Some m.object) other in
-          let b = sum_below-put c.threads (times_object c false k) s.marked t ms g.thread in
-          let d = ap (times_object c false k) g.marked in
-          let d2 = rw e at d in
-          let f = ap (at_option k) (no_sleep_queue e) in
-          omega (arith, h.queues.one_sleep_queue_each k)
+  one_sleep_queue =
+      subst (λ f. OneSleepQueueEach c f s.head s.free_list (put s.marked t ms)) (turned turnstile _ _)
+      (λ k.
+      let out = asleep_out c s u m.queue h blocked_on in
+      let places = returned_places c s false k t m ms g.thread other g.marked (not turnstile) refl out in
+      omega (arith, h.queues.one_sleep_queue_each k))
 
   turnstile_lent : TurnstileIsLent c n.turnstile n.blocked_on
   unfolding after_mark TurnstileIsLent
-  turnstile_lent v = go (is_turnstile_queue c m.queue) refl
-    where
-      back : some (put s.turnstile u (Some m.object) v) + one (names_turnstile c (put s.blocked_on u None v)) ≡ 1
-      back = elim (cases_eq u v) [
-        | inl i ↦ rw (← i, put_same s.turnstile u (Some m.object), put_same s.blocked_on u None) refl
-        | inr i ↦ rw (put_other s.turnstile u (Some m.object) v i, put_other s.blocked_on u None v i) (h.queues.turnstile_is_lent v)
-      ]
-
-      kept : names_turnstile c (s.blocked_on u) ≡ false → some (s.turnstile v) + one (names_turnstile c (put s.blocked_on u None v)) ≡ 1
-      kept f = elim (cases_eq u v) [
-        | inl i ↦ rw (← i, put_same s.blocked_on u None) (let z = h.queues.turnstile_is_lent u in let w = rw f at z in w)
-        | inr i ↦ rw (put_other s.blocked_on u None v i) (h.queues.turnstile_is_lent v)
-      ]
-
-      go : (b : Bool) → is_turnstile_queue c m.queue ≡ b → some (cond b (put s.turnstile u (Some m.object)) s.turnstile v) + one (names_turnstile c (put s.blocked_on u None v)) ≡ 1
-      go true e = back
-      go false e = kept (ap (names_turnstile c) blocked_on ∙ e)
+  turnstile_lent =
+      returned_named (names_turnstile c) s.turnstile s.blocked_on u m.object refl h.queues.turnstile_is_lent turnstile
+      (ap (names_turnstile c) blocked_on)
 
   sleep_queue_lent : SleepQueueIsLent c n.sleep_queue n.blocked_on
   unfolding after_mark SleepQueueIsLent
-  sleep_queue_lent v = go (is_turnstile_queue c m.queue) refl
-    where
-      back : some (put s.sleep_queue u (Some m.object) v) + one (names_sleep_queue c (put s.blocked_on u None v)) ≡ 1
-      back = elim (cases_eq u v) [
-        | inl i ↦ rw (← i, put_same s.sleep_queue u (Some m.object), put_same s.blocked_on u None) refl
-        | inr i ↦ rw (put_other s.sleep_queue u (Some m.object) v i, put_other s.blocked_on u None v i) (h.queues.sleep_queue_is_lent v)
-      ]
-
-      kept : names_sleep_queue c (s.blocked_on u) ≡ false → some (s.sleep_queue v) + one (names_sleep_queue c (put s.blocked_on u None v)) ≡ 1
-      kept f = elim (cases_eq u v) [
-        | inl i ↦ rw (← i, put_same s.blocked_on u None) (let z = h.queues.sleep_queue_is_lent u in let w = rw f at z in w)
-        | inr i ↦ rw (put_other s.blocked_on u None v i) (h.queues.sleep_queue_is_lent v)
-      ]
-
-      go : (b : Bool) → is_turnstile_queue c m.queue ≡ b → some (cond b s.sleep_queue (put s.sleep_queue u (Some m.object)) v) + one (names_sleep_queue c (put s.blocked_on u None v)) ≡ 1
-      go false e = back
-      go true e = kept (ap (names_sleep_queue c) blocked_on ∙ ap not e)
+  sleep_queue_lent =
+      subst (λ f. SleepQueueIsLent c f (put s.blocked_on u None)) (turned turnstile _ _)
+      (returned_named (names_sleep_queue c) s.sleep_queue s.blocked_on u m.object refl h.queues.sleep_queue_is_lent
+      (not turnstile) (ap (names_sleep_queue c) blocked_on))
 
   -- 2. Standing, wanting and calling
 

@@ -1,14 +1,19 @@
 -- Laws of the owners of turnstiles: what a word's new holder means for them.
-use Rattle.std.proofs.Common.{◌≡◌, ℕ, ◌+◌, Bool, true, false, not, ◌||◌, List, [], ◌∷◌, length, Option, Some, None, refl, arith}
+use Rattle.std.proofs.Common.{◌≡◌, ℕ, ◌+◌, Bool, true, false, not, ◌||◌, List, [], ◌∷◌, length, Option, Some, None, refl, inl, inr, arith}
+use Rattle.std.proofs.lemmas.Bool.{cases_eq}
+use Rattle.lock_model.specs.Config.{Config}
 use Rattle.lock_model.specs.Counts.{is_empty}
 use Rattle.lock_model.specs.Words.{Word, Holder, Free, HeldBy, SharedBy, is_owned, admits, is_plain, is_drop, gained, dropped, without_one, shows_waiters, is_turnstile, owner_of}
-use Rattle.lock_model.specs.Queues.{Lists, Waiter}
+use Rattle.lock_model.specs.Queues.{Lists, Waiter, lock_queue}
+use Rattle.lock_state.specs.State.{State, put, put_queue}
+use Rattle.lock_state.specs.Facts.{Lawful, OwnersHold}
 use Rattle.lock_state.specs.Facts.Queues.{ShowsItsWaiters, HeadFits}
 use Rattle.lock_state.specs.Facts.Loans.{owner_if}
 use Rattle.lock_model.specs.declared.plan.Kind.{Kind}
 use Rattle.lock_model.specs.declared.plan.Kind.TheVariants.{Mtx, Rw, Sx}
 use Rattle.lock_model.specs.declared.plan.Mode.{Mode}
 use Rattle.lock_model.specs.declared.plan.Mode.TheVariants.{Excl, Shared}
+use Rattle.lock_laws.proofs.Kit.{put_same, put_other, put_lock_same, put_lock_other}
 use Rattle.lock_laws.proofs.Words.{admits_unowned}
 
 -- where a head stands waiters are shown
@@ -44,3 +49,14 @@ owner_dropped true w q xs (Some x) o d s f = go w.holder w.exclusive_waiters w.s
   where
     go : (y : Holder) (a b : Bool) → is_drop (record { holder = y; exclusive_waiters = a; shared_waiters = b }) ≡ true → (a || b) ≡ true → owner_of y ≡ owner_of (without_one y)
     go y a b d e = grind arith
+
+-- the owner, the head and the word of one lock are changed
+pub owners_put : {c : Config} {s : State} → Lawful c s → (l : ℕ) (owner head : Option ℕ) (w : Word)
+    → owner ≡ owner_if (is_turnstile (c.kind l)) head w.holder
+    → OwnersHold c (put_queue s.owner (lock_queue l) owner) (put_queue s.head (lock_queue l) head) (put s.word l w)
+unfolding OwnersHold
+owners_put {s} h l owner head w here k =
+    elim (cases_eq l k) [
+      | inl e ↦ rw (← e) (simp (put_same, put_lock_same) here)
+      | inr e ↦ rw (put_other s.word l w k e, put_lock_other s.head l head k e, put_lock_other s.owner l owner k e) (h.loans.owners_hold k)
+    ]

@@ -3,18 +3,19 @@ use Rattle.std.proofs.Common.{◌≡◌, ◌≢◌, ℕ, ◌+◌, ◌≤◌, Boo
 use Rattle.std.proofs.lemmas.Bool.{cases_eq, ne_eqb}
 use Rattle.lock_model.specs.Counts.{one, sum_below}
 use Rattle.lock_model.specs.Words.{is_turnstile}
-use Rattle.lock_state.specs.State.{State, Walk, NoWalk, AtLock, AtThread, put_queue}
+use Rattle.lock_state.specs.State.{State, Walk, NoWalk, AtLock, AtThread}
 use Rattle.lock_model.specs.Config.{Config}
-use Rattle.lock_model.specs.Queues.{Waiter, Lists, is_queue, lock_queue, chan_queue, stands, least_of, with_kept}
+use Rattle.lock_model.specs.Queues.{Waiter, Lists, is_queue, lock_queue, stands, least_of, with_kept}
 use Rattle.lock_state.specs.Steps.LockWords.{prio_of}
 use Rattle.lock_state.specs.Steps.Lending.{MayShift, MayEndWalk, IsAtEnd, after_shift, after_end_walk}
 use Rattle.lock_state.specs.Steps.Turnstiles.{walk_up}
 use Rattle.lock_state.specs.Facts.{Lawful, HeadsFitWaiters, BitsShowWaiters, ListsAscend, MutexWaitersAreExclusive, StandsOnce, OnlyThreadsStand, LoansAreLeast, KeptIsEffective, EffectiveIsKnown, KeptIsKnown}
 use Rattle.lock_state.specs.Facts.Queues.{HeadFits}
-use Rattle.lock_state.specs.Facts.Waits.{times_marked, at_queue}
+use Rattle.lock_state.specs.Facts.Waits.{at_queue}
 use Rattle.lock_state.specs.Facts.Loans.{IsKept, IsKnown, EachOf, walkers_at_lock, walkers_at_thread, at_lock, at_thread}
 use Rattle.lock_model.specs.declared.plan.QueueName.{QueueName}
-use Rattle.lock_laws.proofs.Kit.{columns, put_lock_same, put_lock_other, sum_below-put, at_put_lock, each_queue, at_queue_one}
+use Rattle.lock_laws.proofs.Kit.{columns, put_lock_other, sum_below-put, at_put_queue, at_put_lock, at_queue_one}
+use Rattle.lock_laws.proofs.OneQueue.{stand_put}
 use Rattle.lock_laws.proofs.Lending.{walk_up-there, each_of-map, each_of-kept, stands-kept, waiting-kept, is_empty-reinsert}
 use Rattle.lock_model.proofs.Lists.{ascends-reinsert}
 
@@ -31,17 +32,12 @@ module _ (c : Config) (s : State) (t o l : ℕ) (g : MayShift c s t o l) (h : La
   abbrev lists : Lists
   lists = with_kept o (s.effective o) (s.lists q)
 
-  heads_of_locks : (k : ℕ) → HeadFits (n.lists (lock_queue k)) (n.free_list (lock_queue k)) (n.head (lock_queue k)) (n.owner (lock_queue k))
-  unfolding after_shift HeadsFitWaiters
-  heads_of_locks k =
-      elim (cases_eq l k) [
-        | inl e ↦ rw (← e, put_lock_same s.lists l lists) (head_fits o (s.effective o) (s.lists q) (s.free_list q) (s.head q) (s.owner q) (h.queues.heads_fit_waiters q))
-        | inr e ↦ rw (put_lock_other s.lists l lists k e) (h.queues.heads_fit_waiters (lock_queue k))
-      ]
-
   heads : HeadsFitWaiters n.lists n.free_list n.head n.owner
-  unfolding after_shift HeadsFitWaiters put_queue
-  heads = each_queue (λ r. HeadFits (n.lists r) (n.free_list r) (n.head r) (n.owner r)) heads_of_locks (λ d. h.queues.heads_fit_waiters (chan_queue d))
+  unfolding after_shift HeadsFitWaiters
+  heads =
+      at_put_queue (λ r v. HeadFits v (s.free_list r) (s.head r) (s.owner r)) s.lists q lists
+      (head_fits o (s.effective o) (s.lists q) (s.free_list q) (s.head q) (s.owner q) (h.queues.heads_fit_waiters q))
+      (λ r ne. h.queues.heads_fit_waiters r)
 
   bits : BitsShowWaiters n.word n.lists
   unfolding after_shift BitsShowWaiters
@@ -55,17 +51,12 @@ module _ (c : Config) (s : State) (t o l : ℕ) (g : MayShift c s t o l) (h : La
   unfolding after_shift MutexWaitersAreExclusive
   mutex_waiters k e = grind (arith, columns, h.queues.mutex_waiters_are_exclusive k e)
 
-  stand_at_lock : (u k : ℕ) → stands u (n.lists (lock_queue k)) + sum_below c.threads (λ v. times_marked u (lock_queue k) (n.marked v)) ≡ at_queue (lock_queue k) (n.blocked_on u)
-  unfolding after_shift StandsOnce
-  stand_at_lock u k =
-      elim (cases_eq l k) [
-        | inl e ↦ rw (← e, put_lock_same s.lists l lists) (omega (arith, stands-kept u o (s.effective o) (s.lists q), h.waits.stands_once u q))
-        | inr e ↦ rw (put_lock_other s.lists l lists k e) (h.waits.stands_once u (lock_queue k))
-      ]
-
   stand : StandsOnce c n.lists n.marked n.blocked_on
-  unfolding after_shift StandsOnce put_queue
-  stand u = each_queue (λ r. stands u (n.lists r) + sum_below c.threads (λ v. times_marked u r (n.marked v)) ≡ at_queue r (n.blocked_on u)) (stand_at_lock u) (λ d. h.waits.stands_once u (chan_queue d))
+  unfolding after_shift StandsOnce
+  stand =
+      stand_put h q lists s.marked s.blocked_on
+      (λ u. omega (arith, stands-kept u o (s.effective o) (s.lists q), h.waits.stands_once u q))
+      (λ r e u. h.waits.stands_once u r)
 
   loans_least : LoansAreLeast c n.owner n.walk n.loan n.lists
   unfolding after_shift LoansAreLeast walkers_at_lock

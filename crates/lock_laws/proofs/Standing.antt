@@ -1,11 +1,11 @@
--- Who stands on a queue or is marked in a lawful state, and where that thread's turnstile is.
-use Rattle.std.proofs.Common.{◌≡◌, ℕ, ◌<◌, ◌≤◌, true, List, ◌∷◌, Option, Some, None, refl, sym, arith, eq-eqb, ◌∙◌}
+-- Who stands on a queue or is marked in a lawful state, and where that thread's turnstile or sleep queue is.
+use Rattle.std.proofs.Common.{◌≡◌, ℕ, ◌<◌, ◌≤◌, true, not, List, ◌∷◌, Option, Some, None, refl, sym, arith, eq-eqb, ◌∙◌}
 use Rattle.lock_model.specs.Counts.{some, one}
 use Rattle.lock_model.specs.Words.{is_turnstile}
 use Rattle.lock_model.specs.Config.{Config}
 use Rattle.lock_state.specs.State.{State}
-use Rattle.lock_model.specs.Queues.{Mark, lock_queue, is_turnstile_queue, names_turnstile, stands}
-use Rattle.lock_state.specs.Facts.{Lawful, TurnstileIsLent, StandsOnce, OnlyThreadsStand}
+use Rattle.lock_model.specs.Queues.{Mark, lock_queue, is_turnstile_queue, names_turnstile, names_sleep_queue, stands}
+use Rattle.lock_state.specs.Facts.{Lawful, TurnstileIsLent, SleepQueueIsLent, StandsOnce, OnlyThreadsStand}
 use Rattle.lock_state.specs.Facts.Waits.{times_marked}
 use Rattle.lock_model.specs.declared.plan.QueueName.{QueueName}
 use Rattle.lock_laws.proofs.Kit.{sum_below-at, is_queue_same, at_queue_one}
@@ -23,16 +23,25 @@ times_named c s t u q h lt a =
     let b = sum_below-at c.threads (λ v. times_marked t q (s.marked v)) u lt in
     at_queue_one q (s.blocked_on t) (omega (arith, h.waits.stands_once t q))
 
+none_there : (o : Option ℕ) → some o ≡ 0 → o ≡ None
+none_there None z = refl
+none_there (Some x) z = absurd (omega arith)
+
 -- where the record names a turnstile, the thread's own is out
-pub named_out : (c : Config) (s : State) (t : ℕ) (q : QueueName) → Lawful c s → s.blocked_on t ≡ Some q → is_turnstile_queue c q ≡ true → s.turnstile t ≡ None
+pub named_out : (c : Config) (s : State) (t : ℕ) (q : QueueName) → Lawful c s → s.blocked_on t ≡ Some q
+    → is_turnstile_queue c q ≡ true → s.turnstile t ≡ None
 unfolding TurnstileIsLent
 named_out c s t q h e k =
     let a : one (names_turnstile c (s.blocked_on t)) ≡ 1 = rw (e, k) refl in
     none_there (s.turnstile t) (omega (arith, h.queues.turnstile_is_lent t))
-  where
-    none_there : (o : Option ℕ) → some o ≡ 0 → o ≡ None
-    none_there None z = refl
-    none_there (Some x) z = absurd (omega arith)
+
+-- and where it names a sleep queue, the thread's own
+pub asleep_out : (c : Config) (s : State) (t : ℕ) (q : QueueName) → Lawful c s → s.blocked_on t ≡ Some q
+    → not (is_turnstile_queue c q) ≡ true → s.sleep_queue t ≡ None
+unfolding SleepQueueIsLent
+asleep_out c s t q h e k =
+    let a : one (names_sleep_queue c (s.blocked_on t)) ≡ 1 = rw (e, k) refl in
+    none_there (s.sleep_queue t) (omega (arith, h.queues.sleep_queue_is_lent t))
 
 pub marked_named : (c : Config) (s : State) (t : ℕ) (m : Mark) (ms : List Mark) → Lawful c s → t < c.threads → s.marked t ≡ m ∷ ms → s.blocked_on m.thread ≡ Some m.queue
 marked_named c s t m ms h lt e = times_named c s m.thread t m.queue h lt (rw (e, is_queue_same m.queue, eq-eqb m.thread m.thread refl) (omega arith))

@@ -1,27 +1,46 @@
--- Sleepers of a running floor: the channels' queues fit the entries of the history, and each waking takes whom it may.
-use Rattle.std.specs.Prelude.{◌≡◌, ◌⊎◌, ℕ, ◌%◌, ◌≤◌, Some}
+-- Sleepers: the channels' queues fit the entries of the history, and each waking takes whom it may. At most one thread
+-- is at work on a channel: between its Sleeps entry and its place on the queue, or between a wake and its entry.
+use Rattle.std.specs.Prelude.{◌≡◌, ◌⊎◌, ℕ, ◌%◌, ◌≤◌, true, List, [], ◌∷◌, Option, Some, None, ⊤}
 use Rattle.lock_model.specs.Config.{Config}
-use Rattle.lock_model.specs.Law.{WakingsNameSleepers}
+use Rattle.lock_model.specs.Law.{WakingsNameSleepers, sleeps_on}
 use Rattle.lock_model.specs.Queues.{chan_queue, stands}
 use Rattle.lock_state.specs.State.{State, Wake}
+use Rattle.lock_state.specs.Steps.Items.{IsOnItsWay}
+use Rattle.lock_state.specs.Steps.{Step, Seeks, Looks, TakesItem, GivesItem, Gains, Drops, Stamps, Readies, Unreadies, Enters, Opens, EntersSleepQueue, OpensSleepQueue, Adds, Wakes, Marks, Resumes, Claims, Lends, Shifts, EndsWalk, after}
 use Rattle.lock_state.specs.Facts.Waits.{times_marked}
-unfoldable pub use Rattle.lock_state.specs.Facts.Sleeps.{NamedAreWoken, MarksAreSignals, WokenBySignal, NoSleepIsHalted, SleepersSlept, SleepersWantNothing, SleepersAreUnwoken, AsleepStandThere, AsleepAreOnTheirWay, SleepersInOrder, LatecomersAreLater, SleepersKeepBase, SleepersAreExclusive, UnnotedAreMarked, UnnotedHasChain, UnnotedIsFair, NobodyIsPassedOver}
+unfoldable pub use Rattle.lock_state.specs.Facts.Sleeps.{NamedAreWoken, MarksAreSignals, WokenBySignal, NoSleepIsHalted, SleepersSlept, WokenSlept, ResumedSlept, SleepersWantNothing, SleepersAreUnwoken, AsleepStandThere, AsleepAreOnTheirWay, SleepersInOrder, LatecomersAreLater, SleepersKeepBase, SleepersAreExclusive, UnnotedAreMarked, UnnotedIsAtWork, UnnotedIsFair, NobodyIsPassedOver}
+
+-- who is at work on each channel of a running floor: the thread that has its chain out
+abbrev pub by_chain : ℕ → State → ℕ → Option ℕ
+by_chain chains s d = s.sleep_chain_with (d % chains)
+
+-- in a turn of a scheduled run the thread that has the turn is, on all channels,
+abbrev pub by_turn : ℕ → ℕ → Option ℕ
+by_turn t d = Some t
+
+-- and between two turns nobody is
+abbrev pub nobody : ℕ → Option ℕ
+nobody d = None
+
+-- 1. The facts
 
 -- a state in which the facts of sleepers hold
-pub record SleepersFit (chains : ℕ) (c : Config) (s : State) : Type 0 where
+pub record SleepersFit (at_work : ℕ → Option ℕ) (c : Config) (s : State) : Type 0 where
   -- who was named, and how wakes come
   pub named_are_woken : NamedAreWoken c s.history s.marked s.unstamped s.wait s.woken_from
   pub marks_are_signals : MarksAreSignals s.marked
   pub woken_by_signal : WokenBySignal s.wait
   pub no_sleep_is_halted : NoSleepIsHalted s.noted
-  -- who stands
+  -- who stands, or was woken
   pub sleepers_slept : SleepersSlept s.blocked_on s.log
+  pub woken_slept : WokenSlept s.wait s.log
+  pub resumed_slept : ResumedSlept s.woken_from s.log
   pub sleepers_want_nothing : SleepersWantNothing s.blocked_on s.wanted
   pub sleepers_are_unwoken : SleepersAreUnwoken s.blocked_on s.woken_from
   -- who sleeps
   pub asleep_stand_there : AsleepStandThere s.history s.blocked_on
   pub asleep_are_on_their_way :
-      AsleepAreOnTheirWay chains s.history s.blocked_on s.wait s.wanted s.sleep_chain_with
+      AsleepAreOnTheirWay s.history s.blocked_on s.wait s.wanted at_work
   -- the order of the queues
   pub sleepers_in_order : SleepersInOrder s.history s.lists
   pub latecomers_are_later : LatecomersAreLater s.history s.blocked_on s.lists
@@ -29,21 +48,59 @@ pub record SleepersFit (chains : ℕ) (c : Config) (s : State) : Type 0 where
   pub sleepers_are_exclusive : SleepersAreExclusive s.lists
   -- wakes that are not noted yet
   pub unnoted_are_marked : UnnotedAreMarked s.unstamped s.marked
-  pub unnoted_has_chain : UnnotedHasChain chains s.unstamped s.sleep_chain_with
+  pub unnoted_is_at_work : UnnotedIsAtWork s.unstamped at_work
   pub unnoted_is_fair : UnnotedIsFair c s.history s.unstamped s.lists
   -- the law of the history
   pub wakings_name_sleepers : WakingsNameSleepers c s.history
   pub nobody_is_passed_over : NobodyIsPassedOver c s.history
 
--- a thread took another off a channel, has yet to note that, and has the channel's chain
-pub record WasTakenBy (chains : ℕ) (s : State) (t d v : ℕ) : Type 0 where
-  pub chain : s.sleep_chain_with (d % chains) ≡ Some v
+-- a thread that is at work on a channel took another off it, and has yet to note that
+pub record WasTakenBy (at_work : ℕ → Option ℕ) (s : State) (t d v : ℕ) : Type 0 where
+  pub works : at_work d ≡ Some v
   pub marked : 1 ≤ times_marked t (chan_queue d) (s.marked v)
   pub wake : Wake
   pub unnoted : s.unstamped v ≡ Some wake
 
--- a thread stands on a channel's queue, or has the channel's chain, or was taken off by a thread that has it
-abbrev pub IsWithChannel : ℕ → State → ℕ → ℕ → Type 0
-IsWithChannel chains s t d =
+-- a thread stands on a channel's queue, or is at work on the channel, or was taken off by a thread that is
+abbrev pub IsWithChannel : (ℕ → Option ℕ) → State → ℕ → ℕ → Type 0
+IsWithChannel at_work s t d =
     (1 ≤ stands t (s.lists (chan_queue d)))
-    ⊎ ((s.sleep_chain_with (d % chains) ≡ Some t) ⊎ ((v : ℕ) × WasTakenBy chains s t d v))
+    ⊎ ((at_work d ≡ Some t) ⊎ ((v : ℕ) × WasTakenBy at_work s t d v))
+
+-- 2. What a step asks of sleepers, beside what it asks of the state, so that it keeps these facts
+
+-- who is added to a channel's queue is at work on the channel, and has no wake to note
+pub record AddsAtWork (at_work : ℕ → Option ℕ) (s : State) (t d : ℕ) : Type 0 where
+  pub works : at_work d ≡ Some t
+  pub noted : s.unstamped t ≡ None
+
+-- A Sleeps entry, an add and a wake are by the thread that is at work on the channel. A thread on its way to a channel
+-- neither enters a lock's queue nor runs again.
+abbrev pub AsksOfSleepers : (ℕ → Option ℕ) → State → Step → Type 0
+AsksOfSleepers at_work s (Seeks t l by_try) = ⊤
+AsksOfSleepers at_work s (Looks t l in_round) = ⊤
+AsksOfSleepers at_work s (TakesItem t i) = ⊤
+AsksOfSleepers at_work s (GivesItem t i) = ⊤
+AsksOfSleepers at_work s (Gains t l mode by_try) = ⊤
+AsksOfSleepers at_work s (Drops t l mode) = ⊤
+AsksOfSleepers at_work s (Stamps t e) = (d : ℕ) → sleeps_on e d ≡ true → at_work d ≡ Some t
+AsksOfSleepers at_work s (Readies t q) = ⊤
+AsksOfSleepers at_work s (Unreadies t q) = IsOnItsWay s t → ⊥
+AsksOfSleepers at_work s (Enters t l mode x) = IsOnItsWay s t → ⊥
+AsksOfSleepers at_work s (Opens t l mode) = ⊤
+AsksOfSleepers at_work s (EntersSleepQueue t l mode x) = IsOnItsWay s t → ⊥
+AsksOfSleepers at_work s (OpensSleepQueue t l mode) = ⊤
+AsksOfSleepers at_work s (Adds t d x) = AddsAtWork at_work s t d
+AsksOfSleepers at_work s (Wakes t d all) = at_work d ≡ Some t
+AsksOfSleepers at_work s (Marks t m ms) = ⊤
+AsksOfSleepers at_work s (Resumes t q cause) = ⊤
+AsksOfSleepers at_work s (Claims t l h by_try) = ⊤
+AsksOfSleepers at_work s (Lends t l o h) = ⊤
+AsksOfSleepers at_work s (Shifts t o l) = ⊤
+AsksOfSleepers at_work s (EndsWalk t) = ⊤
+
+-- what each step of a list asks where it comes
+abbrev pub AsksOfSleepersAll : (ℕ → Option ℕ) → Config → State → List Step → Type 0
+AsksOfSleepersAll at_work c s [] = ⊤
+AsksOfSleepersAll at_work c s (step ∷ steps) =
+    AsksOfSleepers at_work s step × AsksOfSleepersAll at_work c (after c s step) steps

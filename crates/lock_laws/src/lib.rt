@@ -5,7 +5,7 @@
 //! - `start`: the state at the start of a plan is lawful, and so is each state that steps reach from there.
 //! - `kinds`: each kind of step keeps each fact of a lawful state, and so does each list of steps.
 //! - `floor`: what the steps of a running floor keep beside: own records, acquiring rounds and their chains, looks.
-//! - `sleeps`: on a running floor each waking names the sleepers whom it should.
+//! - `sleeps`: on a running floor, and in the turns of a scheduled run, each waking names the sleepers whom it should.
 //! - `priorities`: where no walk is under way and nobody waits in a cycle, each effective priority is the best
 //!   behind it.
 //! - `waits`: a thread stands at most once, on one queue, and a lock's word shows it.

@@ -1,5 +1,5 @@
 -- The facts of sleepers hold in one way, so a ghost field or a model's invariant may keep them.
-use Rattle.std.proofs.Common.{ℕ, Bool, true, false, List, [], ◌∷◌}
+use Rattle.std.proofs.Common.{ℕ, Bool, true, false, List, [], ◌∷◌, Option}
 use Rattle.std.proofs.Props.{props}
 use Rattle.lock_model.specs.Config.{Config}
 use Rattle.lock_model.specs.Law.{FitsSleepers, WakingsNameSleepers}
@@ -9,7 +9,7 @@ use Rattle.lock_model.specs.declared.event.Event.TheVariants.{Woke, HaltedChan, 
 use Rattle.lock_model.specs.declared.event.Entry.{Entry}
 use Rattle.lock_state.specs.State.{State}
 use Rattle.lock_state.specs.Facts.Sleeps.{AreSignals, InOrder, LeavesNobodyBefore}
-use Rattle.lock_laws.specs.Sleepers.{SleepersFit, NamedAreWoken, MarksAreSignals, WokenBySignal, NoSleepIsHalted, SleepersSlept, SleepersWantNothing, SleepersAreUnwoken, AsleepStandThere, AsleepAreOnTheirWay, SleepersInOrder, LatecomersAreLater, SleepersKeepBase, SleepersAreExclusive, UnnotedAreMarked, UnnotedHasChain, UnnotedIsFair, NobodyIsPassedOver}
+use Rattle.lock_laws.specs.Sleepers.{SleepersFit, NamedAreWoken, MarksAreSignals, WokenBySignal, NoSleepIsHalted, SleepersSlept, WokenSlept, ResumedSlept, SleepersWantNothing, SleepersAreUnwoken, AsleepStandThere, AsleepAreOnTheirWay, SleepersInOrder, LatecomersAreLater, SleepersKeepBase, SleepersAreExclusive, UnnotedAreMarked, UnnotedIsAtWork, UnnotedIsFair, NobodyIsPassedOver}
 use Rattle.lock_laws.proofs.Props.{Each-prop}
 
 AreSignals-prop : (ms : List Mark) → IsProp (AreSignals ms)
@@ -37,6 +37,6 @@ unfolding WakingsNameSleepers
 wakings c [] = hlevel
 wakings c (e ∷ es) = hlevel (props, FitsSleepers-prop e.event es e.thread.0, wakings c es)
 
-pub SleepersFit-prop : (chains : ℕ) (c : Config) (s : State) → IsProp (SleepersFit chains c s)
-unfolding NamedAreWoken MarksAreSignals WokenBySignal NoSleepIsHalted SleepersSlept SleepersWantNothing SleepersAreUnwoken AsleepStandThere AsleepAreOnTheirWay SleepersInOrder LatecomersAreLater SleepersKeepBase SleepersAreExclusive UnnotedAreMarked UnnotedHasChain UnnotedIsFair NobodyIsPassedOver
-SleepersFit-prop chains c s = hlevel (props, AreSignals-prop, InOrder-prop, Each-prop, LeavesNobodyBefore-prop, wakings)
+pub SleepersFit-prop : (at_work : ℕ → Option ℕ) (c : Config) (s : State) → IsProp (SleepersFit at_work c s)
+unfolding NamedAreWoken MarksAreSignals WokenBySignal NoSleepIsHalted SleepersSlept WokenSlept ResumedSlept SleepersWantNothing SleepersAreUnwoken AsleepStandThere AsleepAreOnTheirWay SleepersInOrder LatecomersAreLater SleepersKeepBase SleepersAreExclusive UnnotedAreMarked UnnotedIsAtWork UnnotedIsFair NobodyIsPassedOver
+SleepersFit-prop at_work c s = hlevel (props, AreSignals-prop, InOrder-prop, Each-prop, LeavesNobodyBefore-prop, wakings)

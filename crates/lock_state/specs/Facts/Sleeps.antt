@@ -1,5 +1,5 @@
 -- Facts of sleepers on channels: where a thread is that sleeps or was woken, and what a wake did that is not noted yet.
-use Rattle.std.specs.Prelude.{◌≡◌, ℕ, ◌+◌, ◌%◌, ◌<◌, Bool, true, false, ◌&&◌, ◌==◌, List, [], ◌∷◌, Option, Some, None, ⊤}
+use Rattle.std.specs.Prelude.{◌≡◌, ℕ, ◌+◌, ◌<◌, Bool, true, false, ◌&&◌, ◌==◌, List, [], ◌∷◌, Option, Some, None, ⊤}
 use Rattle.lock_model.specs.Config.{Config}
 use Rattle.lock_model.specs.Counts.{sum_below, one, some, times}
 use Rattle.lock_model.specs.Law.{is_asleep, is_named, is_passed_over, entries_up_to, goes_before}
@@ -59,19 +59,29 @@ WokenBySignal wait =
 unfoldable pub NoSleepIsHalted : (ℕ → Option Note) → Type 0
 NoSleepIsHalted noted = (t : ℕ) (q : QueueName) → noted t ≡ Some (SleepHalted q) → ⊥
 
--- 2. Who stands on a channel's queue, or is in a marked list from there
+-- 2. Who stands on a channel's queue, is in a marked list from there, or was woken
 
 -- its newest entry is the Sleeps entry
 unfoldable pub SleepersSlept : (ℕ → Option QueueName) → (ℕ → List Entry) → Type 0
 SleepersSlept blocked_on log =
     (t d : ℕ) → blocked_on t ≡ Some (chan_queue d) → has_slept d (log t) ≡ true
 
--- it wants nothing
+-- so is that of a thread that was woken from there,
+unfoldable pub WokenSlept : (ℕ → Wait) → (ℕ → List Entry) → Type 0
+WokenSlept wait log =
+    (t d : ℕ) (cause : Cause) → wait t ≡ Woken (chan_queue d) cause → has_slept d (log t) ≡ true
+
+-- and of one that says from which channel it was woken
+unfoldable pub ResumedSlept : (ℕ → Option ℕ) → (ℕ → List Entry) → Type 0
+ResumedSlept woken_from log =
+    (t d : ℕ) → woken_from t ≡ Some d → has_slept d (log t) ≡ true
+
+-- who stands there wants nothing
 unfoldable pub SleepersWantNothing : (ℕ → Option QueueName) → (ℕ → Option ℕ) → Type 0
 SleepersWantNothing blocked_on wanted =
     (t d : ℕ) → blocked_on t ≡ Some (chan_queue d) → wanted t ≡ None
 
--- and it has not been woken since
+-- and has not been woken since
 unfoldable pub SleepersAreUnwoken : (ℕ → Option QueueName) → (ℕ → Option ℕ) → Type 0
 SleepersAreUnwoken blocked_on woken_from =
     (t d : ℕ) → blocked_on t ≡ Some (chan_queue d) → woken_from t ≡ None
@@ -84,12 +94,12 @@ AsleepStandThere history blocked_on =
     (t d : ℕ) (q : QueueName)
     → is_asleep history d t ≡ true → blocked_on t ≡ Some q → q ≡ chan_queue d
 
--- where it stands on none it is on its way to the channel's, with the channel's chain
-unfoldable pub AsleepAreOnTheirWay : ℕ → List Entry → (ℕ → Option QueueName) → (ℕ → Wait)
+-- where it stands on none it is on its way to the channel's, and at work on the channel
+unfoldable pub AsleepAreOnTheirWay : List Entry → (ℕ → Option QueueName) → (ℕ → Wait)
     → (ℕ → Option ℕ) → (ℕ → Option ℕ) → Type 0
-AsleepAreOnTheirWay chains history blocked_on wait wanted sleep_chain_with =
+AsleepAreOnTheirWay history blocked_on wait wanted at_work =
     (t d : ℕ) → is_asleep history d t ≡ true → blocked_on t ≡ None
-    → (wait t ≡ Queued) × (wanted t ≡ None) × (sleep_chain_with (d % chains) ≡ Some t)
+    → (wait t ≡ Queued) × (wanted t ≡ None) × (at_work d ≡ Some t)
 
 -- 4. The order of a channel's queue
 
@@ -129,10 +139,10 @@ UnnotedAreMarked unstamped marked =
     → (times u w.taken ≡ signals u (marked t))
     × (times u w.taken ≡ times_marked u (chan_queue w.chan) (marked t))
 
--- its thread has the channel's chain
-unfoldable pub UnnotedHasChain : ℕ → (ℕ → Option Wake) → (ℕ → Option ℕ) → Type 0
-UnnotedHasChain chains unstamped sleep_chain_with =
-    (t : ℕ) (w : Wake) → unstamped t ≡ Some w → sleep_chain_with (w.chan % chains) ≡ Some t
+-- its thread is at work on the channel
+unfoldable pub UnnotedIsAtWork : (ℕ → Option Wake) → (ℕ → Option ℕ) → Type 0
+UnnotedIsAtWork unstamped at_work =
+    (t : ℕ) (w : Wake) → unstamped t ≡ Some w → at_work w.chan ≡ Some t
 
 -- A wake of all leaves nobody. A wake of one that took nobody found nobody; else it took one, and nobody that is left
 -- goes before that

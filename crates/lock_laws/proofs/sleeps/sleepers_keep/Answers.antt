@@ -1,4 +1,4 @@
-use Rattle.lock_laws.proofs.SleepFacts as law
+use Rattle.lock_laws.proofs.SleepFacts.Floor as law
 use Rattle.lock_laws.proofs.sleeps.sleepers_keep.Goals as goal
 
 pub returns : goal.returns

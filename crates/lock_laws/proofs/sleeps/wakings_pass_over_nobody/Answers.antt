@@ -3,4 +3,4 @@ use Rattle.lock_laws.proofs.sleeps.wakings_pass_over_nobody.Goals as goal
 
 pub returns : goal.returns
 unfolding NobodyIsPassedOver
-returns c chains d s t h = h.nobody_is_passed_over t
+returns c at_work d s t h = h.nobody_is_passed_over t
