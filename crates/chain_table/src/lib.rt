@@ -3,16 +3,16 @@
 //!
 //! - `head`: what is linked.
 //! - `chain`: a chain, seen by contracts as a list of names with their heads.
-//! - `turnstiles`: turnstiles as heads.
+//! - `objects`: turnstiles and sleep queues as heads.
 //! - `slot`: which chain a queue belongs to.
 #![tactic(auto)]
 
 mod chain;
 mod head;
+mod objects;
 mod slot;
 #[cfg(test)]
 mod tests;
-mod turnstiles;
 
 pub use chain::Chain;
 pub use head::Head;

@@ -1,12 +1,12 @@
 //! A chain of turnstiles, as a thread that has the chain uses it, and the places of chains.
 ghost use Rattle.std.specs.Prelude.{◌≡◌, [], Some, IfOk};
-ghost use Rattle.turnstile_core.specs.Changes.{name_of};
+ghost use Rattle.wait_objects.specs.Turnstiles.Changes.{name_of};
 
 use crate::{Chain, Head, slot_of};
 use lock_model::{ChanNo, LockNo, Prio, QueueName, Side, ThreadNo};
 use std::alloc::{AllocError, Global};
 use std::test::Fail;
-use turnstile_core::{Turnstile, Waiter};
+use wait_objects::{Turnstile, Waiter};
 
 const FIRST: QueueName = QueueName::Lock(LockNo(0));
 

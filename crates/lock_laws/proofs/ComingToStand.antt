@@ -16,10 +16,9 @@ use Rattle.lock_state.specs.State.{State, Queued, put, put_queue}
 use Rattle.lock_state.specs.Steps.SleepQueues.{with_last}
 use Rattle.lock_state.specs.Facts.{Lawful, OneTurnstileEach, OneSleepQueueEach, TurnstileIsLent, SleepQueueIsLent, HeadsFitWaiters, ListsAscend, MutexWaitersAreExclusive, StandsOnce, OnlyThreadsStand, StandingIsQueued, StandingWants, WokenWants, CalledWants, StandingIsUncalled, WokenIsUncalled}
 use Rattle.lock_state.specs.Facts.Queues.{HeadFits, turnstile_places, sleep_queue_places}
-use Rattle.lock_model.proofs.Lists.{times_waiting-insert, length-insert, ascends-insert}
+use Rattle.lock_model.proofs.Lists.{times_waiting-insert, length-insert, ascends-insert, times_waiting-last, length-last}
 use Rattle.lock_laws.proofs.Kit.{columns, at_locks, is_queue_same, same_lock}
 use Rattle.lock_laws.proofs.Queues.{stands-with, waiting-with, BothAscend, ascends-with}
-use Rattle.lock_laws.proofs.Sleepers.{times_waiting-last, length-last}
 use Rattle.lock_laws.proofs.Places.{IsThere, at_home, is_sort, lent, own_there, lent_places, lent_named}
 use Rattle.lock_laws.proofs.OneQueue.{QueuesKept, SameElsewhere, other_queue, heads_put, stand_put}
 

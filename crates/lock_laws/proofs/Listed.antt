@@ -1,5 +1,5 @@
 -- The list of a thread's held locks has just those that it holds: behind a gain or a claim, and behind a release.
-use Rattle.std.proofs.Common.{◌≡◌, ℕ, Bool, true, false, not, cond, eqb, ◌||◌, List, [], ◌∷◌, refl, sym, ap, inl, inr, eq-eqb, ◌∙◌}
+use Rattle.std.proofs.Common.{◌≡◌, ℕ, Bool, true, false, not, cond, eqb, ◌||◌, List, [], ◌∷◌, refl, sym, inl, inr, eq-eqb, ◌∙◌}
 use Rattle.std.proofs.lemmas.Bool.{cases_eq, ne_eqb}
 use Rattle.lock_model.specs.Holds.{NotHeld, Holds, is_unheld}
 use Rattle.lock_state.specs.State.{State, HeldLock, put, put_at}

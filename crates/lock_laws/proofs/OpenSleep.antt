@@ -1,5 +1,5 @@
 -- An open of an sx lock keeps each fact.
-use Rattle.std.proofs.Common.{◌≡◌, ℕ, refl}
+use Rattle.std.proofs.Common.{ℕ, refl}
 use Rattle.lock_model.specs.Config.{Config}
 use Rattle.lock_model.specs.Queues.{lock_queue}
 use Rattle.lock_model.specs.Words.{opened}

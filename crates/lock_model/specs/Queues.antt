@@ -1,6 +1,6 @@
 -- The two lists of a queue and what is done with them: who stands where, the rule of insertion, how woken waiters get
 -- their objects back, and the least kept priority.
-use Rattle.std.specs.Prelude.{ℕ, ◌+◌, ◌≤◌, Bool, false, not, ◌==◌, nat_le, if◌then◌else◌, List, [], ◌∷◌, length, drop, Option, Some, None, ⊤}
+use Rattle.std.specs.Prelude.{ℕ, ◌+◌, ◌≤◌, Bool, true, false, not, ◌==◌, nat_le, nat_lt, if◌then◌else◌, List, [], ◌∷◌, ◌++◌, length, drop, Option, Some, None, ⊤}
 use Rattle.lock_model.specs.Counts.{one, lower}
 use Rattle.lock_model.specs.Words.{is_turnstile}
 use Rattle.lock_model.specs.Config.{Config}
@@ -104,6 +104,10 @@ abbrev pub insert : Waiter → List Waiter → List Waiter
 insert w [] = w ∷ []
 insert w (v ∷ vs) = if nat_le v.kept w.kept then v ∷ insert w vs else w ∷ v ∷ vs
 
+-- at the tail, so behind all others
+abbrev pub with_last : Waiter → List Waiter → List Waiter
+with_last w ws = ws ++ w ∷ []
+
 -- the head, where the object x is lent: the first waiter's object becomes it
 abbrev pub head_with : Option ℕ → ℕ → Option ℕ
 head_with None x = Some x
@@ -144,7 +148,47 @@ head_after [] xs h = h
 head_after (w ∷ ws) [] h = None
 head_after (w ∷ ws) (x ∷ xs) h = head_after ws xs h
 
--- 6. Kept priorities
+-- 6. Who goes: a thread, the best, or all
+
+-- the better of a sleeper and the best behind it: of equals the one that has slept longest
+abbrev pub better : Waiter → Option Waiter → Waiter
+better w None = w
+better w (Some v) = if nat_lt v.kept w.kept then v else w
+
+-- the most important sleeper
+abbrev pub best_of : List Waiter → Option Waiter
+best_of [] = None
+best_of (w ∷ ws) = Some (better w (best_of ws))
+
+abbrev pub one_or_none : Option Waiter → List Waiter
+one_or_none None = []
+one_or_none (Some w) = w ∷ []
+
+-- a list without the thread's entry
+abbrev pub without : ℕ → List Waiter → List Waiter
+without t [] = []
+without t (w ∷ ws) = if t == w.thread then ws else w ∷ without t ws
+
+-- the thread's entry, where it has one
+abbrev pub entry_of : ℕ → List Waiter → Option Waiter
+entry_of t [] = None
+entry_of t (w ∷ ws) = if t == w.thread then Some w else entry_of t ws
+
+abbrev pub without_best : Option Waiter → List Waiter → List Waiter
+without_best None ws = ws
+without_best (Some w) ws = without w.thread ws
+
+-- who is taken off, where all are woken or one
+abbrev pub taken_off : Bool → List Waiter → List Waiter
+taken_off true ws = ws
+taken_off false ws = one_or_none (best_of ws)
+
+-- who stays
+abbrev pub left_on : Bool → List Waiter → List Waiter
+left_on true ws = []
+left_on false ws = without_best (best_of ws) ws
+
+-- 7. Kept priorities
 
 -- kept priorities ascend from the front
 abbrev pub Ascends : List Waiter → Type 0
@@ -165,11 +209,6 @@ least_of_two (Some p) o = Some (lower o p)
 -- the least kept priority of both lists
 abbrev pub least_of : Lists → Option ℕ
 least_of q = least_of_two (least_kept q.exclusive) (least_kept q.shared)
-
--- a list without the thread's entry
-abbrev pub without : ℕ → List Waiter → List Waiter
-without t [] = []
-without t (w ∷ ws) = if t == w.thread then ws else w ∷ without t ws
 
 -- a list in which the thread's entry, where it has one, is inserted anew with the priority
 abbrev pub reinsert : ℕ → ℕ → List Waiter → List Waiter

@@ -17,7 +17,7 @@ use Rattle.lock_laws.proofs.HeadsAndNodes.{node_home}
 use Rattle.lock_laws.proofs.Nodes.{some_waiting}
 use Rattle.lock_laws.proofs.WordsAndHeads.{headless_bare}
 use Rattle.turnstile_core.specs.Seen.{Contents, Turnstile, idle_contents}
-use Rattle.turnstile_core.specs.Changes.{lists_of, begun, joined, name_of}
+use Rattle.turnstile_core.specs.Changes.{lists_of, with_owner, begun, joined, name_of}
 use Rattle.thread_records.specs.Records.{Record}
 use Rattle.chain_table.specs.Chains.{head_of}
 use Rattle.lock_objects.specs.Represents.{QueueColumns, RepresentsHead, RepresentsQueue, RepresentsQueues, RepresentsRecord, queue_in, record_in, queue_of}
@@ -67,7 +67,7 @@ with_one w x side holder v = record {
 -- of a queue that had no head
 module _ (l : ℕ) (w : Waiter) (x : ℕ) where
   abbrev first : Side → Option ℕ → Contents
-  first side owner = record (begun l w side (idle_contents x)) { owner = owner }
+  first side owner = with_owner owner (begun l w side (idle_contents x))
 
   first_shown : (side : Side) (holder : Holder) (v : QueueColumns) → v.head ≡ None → v.lists ≡ record { exclusive = []; shared = [] } → v.free_list ≡ [] → with_one w x side holder v ≡ queue_of (first side (owner_of holder))
   first_shown X holder v e f g = λ i. with_one w x X holder (record { head = e i; lists = f i; free_list = g i; owner = v.owner })
@@ -77,7 +77,7 @@ module _ (l : ℕ) (w : Waiter) (x : ℕ) where
   begun_number X owner = refl
   begun_number S owner = refl
 
-  begun_home : (side : Side) (owner : Option ℕ) → (first side owner).loan_home ≡ true
+  begun_home : (side : Side) (owner : Option ℕ) → (first side owner).own.loan_home ≡ true
   begun_home X owner = refl
   begun_home S owner = refl
 
@@ -95,7 +95,7 @@ module _ (w : Waiter) (x : ℕ) where
   joined_number X h = refl
   joined_number S h = refl
 
-  joined_home : (side : Side) (h : Contents) → (joined x w side h).loan_home ≡ h.loan_home
+  joined_home : (side : Side) (h : Contents) → (joined x w side h).own.loan_home ≡ h.own.loan_home
   joined_home X h = refl
   joined_home S h = refl
 
@@ -143,7 +143,7 @@ module _ (s : State) (t l : ℕ) (mode : Mode) (x : ℕ) where
       Shown : Option Turnstile → Type 0
       Shown d =
           let b : Contents = (head_entered l (side_of mode) x (owner_of (s.word l).holder) w d).contents in
-          (with_one w x (side_of mode) (s.word l).holder (queue_in s q) ≡ queue_of b) × (s.loan_home b.number ≡ b.loan_home)
+          (with_one w x (side_of mode) (s.word l).holder (queue_in s q) ≡ queue_of b) × (s.loan_home b.number ≡ b.own.loan_home)
 
       go : (d : Option Turnstile) → RepresentsQueue d (queue_in s q) s.loan_home → Shown d
       go None none = (first_shown l w x (side_of mode) (s.word l).holder (queue_in s q) none (can.no_waiter none) (can.no_free none), ap s.loan_home (begun_number l w x (side_of mode) (owner_of (s.word l).holder)) ∙ can.node ∙ sym (begun_home l w x (side_of mode) (owner_of (s.word l).holder)))

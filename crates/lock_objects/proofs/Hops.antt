@@ -20,7 +20,7 @@ use Rattle.lock_laws.proofs.HeadsOfWaiters.{standing_head}
 use Rattle.lock_laws.proofs.Words.{owner_is}
 use Rattle.lock_laws.proofs.Derived as laws
 use Rattle.turnstile_core.specs.Seen.{Contents, Turnstile}
-use Rattle.turnstile_core.specs.Changes.{lists_of, waits, moved}
+use Rattle.turnstile_core.specs.Changes.{lists_of, waits, with_owner, with_loan_home, moved}
 use Rattle.thread_records.specs.Records.{Record, with_loans, IsWellFormed}
 use Rattle.thread_records.specs.Loans.{loan_for}
 use Rattle.chain_table.specs.Chains.{head_of, without}
@@ -59,7 +59,7 @@ module _ (c : Config) (s : State) (t l o h : ℕ) (lawful : Lawful c s) (g : May
     abbrev found : IsHead (queue_in s q) s.loan_home (head_of q chain)
     found = lent.its_head c s l o h lawful g.lock turnstile g.head shows
 
-    its_owner : s.owner q ≡ found.0.contents.owner
+    its_owner : s.owner q ≡ found.0.contents.own.owner
     its_owner = ap (λ v. v.owner) found.2.queue
 
     pub can_hop : {r : Record} → RepresentsRecord r (record_in s o) → IsSomeAnd (head_of q chain) (CanHop l r)
@@ -68,9 +68,9 @@ module _ (c : Config) (s : State) (t l o h : ℕ) (lawful : Lawful c s) (g : May
       owned = sym its_owner ∙ g.owned ∙ ap Some (sym (ap (λ v. v.thread) rec.columns));
     })
 
-    pub lend_queues : {new : List (QueueName × Turnstile)} → IfSome (head_of q chain) (λ d. new ≡ (q, with_contents (record d.contents { loan_home = false }) d) ∷ without q chain) → RepresentsQueues c new (queue_in n) n.loan_home
+    pub lend_queues : {new : List (QueueName × Turnstile)} → IfSome (head_of q chain) (λ d. new ≡ (q, with_contents (with_loan_home false d.contents) d) ∷ without q chain) → RepresentsQueues c new (queue_in n) n.loan_home
     unfolding after_lend
-    lend_queues made = queues_lent c s l o h lawful g.lock turnstile g.head shows s.owner (λ d. d.owner) its_owner (λ k d. refl) made
+    lend_queues made = queues_lent c s l o h lawful g.lock turnstile g.head shows s.owner (λ d. d.own.owner) its_owner (λ k d. refl) made
 
     module _ {r m : Record} (rec : RepresentsRecord r (record_in s o)) (other : m ≡ with_loans m.loans r) (fits : IsWellFormed m) (lent : IfSome (head_of q chain) (λ d. loan_for l m.loans ≡ loan_by l d.contents)) (same : (k : ℕ) → k ≢ l → loan_for k m.loans ≡ loan_for k r.loans) where
       pub lend_record : RepresentsRecord m (record_in n o)
@@ -121,7 +121,7 @@ module _ (c : Config) (s : State) (t l h : ℕ) (by_try : Bool) (lawful : Lawful
     pub can_claim : IsSomeAnd (head_of (lock_queue l) chain) (CanBeLent l r)
     can_claim = subst (λ (x : Option Turnstile). IsSomeAnd x (CanBeLent l r)) (sym (lent.its_head c s l t h lawful g.lock of_turnstile g.head shows).1) (can_be_lent c s l t h lawful g.lock of_turnstile g.head shows rec carries)
 
-    pub claim_queues : {new : List (QueueName × Turnstile)} → IfSome (head_of (lock_queue l) chain) (λ d. new ≡ (lock_queue l, with_contents (record d.contents { owner = Some r.thread; loan_home = false }) d) ∷ without (lock_queue l) chain)
+    pub claim_queues : {new : List (QueueName × Turnstile)} → IfSome (head_of (lock_queue l) chain) (λ d. new ≡ (lock_queue l, with_contents (with_loan_home false (with_owner (Some r.thread) d.contents)) d) ∷ without (lock_queue l) chain)
         → RepresentsQueues c new (queue_in behind_claim) behind_claim.loan_home
     unfolding after_claim
     claim_queues made =
@@ -177,11 +177,11 @@ module _ (c : Config) (s : State) (t o l : ℕ) (lawful : Lawful c s) (g : MaySh
         ∙ (λ i. (lock_queue l, with_contents (moved (rec.columns i).thread (rec.columns i).effective box) h) ∷ without (lock_queue l) chain) in
         subst (λ v. RepresentsQueues c v (queue_in behind) behind.loan_home) (sym is) (queues_placed l shows others_stay (with_contents (moved o (s.effective o) box) h) sorted)
 
-    pub shift_walk : {w : Walk} (owned : Bool) → IfSome (head_of (lock_queue l) chain) (λ h. owned ≡ is_some h.contents.owner) → w ≡ hops.walk_up l owned → walk_of w ≡ behind.walk t
+    pub shift_walk : {w : Walk} (owned : Bool) → IfSome (head_of (lock_queue l) chain) (λ h. owned ≡ is_some h.contents.own.owner) → w ≡ hops.walk_up l owned → walk_of w ≡ behind.walk t
     unfolding after_shift
     shift_walk owned tells is =
         ap walk_of is
-        ∙ ap (λ b. walk_of (hops.walk_up l b)) (subst (λ (x : Option Turnstile). IfSome x (λ b. owned ≡ is_some b.contents.owner)) its_head.1 tells ∙ ap is_some (sym (ap (λ v. v.owner) its_head.2.queue)))
+        ∙ ap (λ b. walk_of (hops.walk_up l b)) (subst (λ (x : Option Turnstile). IfSome x (λ b. owned ≡ is_some b.contents.own.owner)) its_head.1 tells ∙ ap is_some (sym (ap (λ v. v.owner) its_head.2.queue)))
         ∙ up_shown (s.owner (lock_queue l)) ∙ sym (put_same s.walk t (walk_up l (s.owner (lock_queue l))))
       where
         up_shown : (x : Option ℕ) → walk_of (hops.walk_up l (is_some x)) ≡ walk_up l x

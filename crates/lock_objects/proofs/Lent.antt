@@ -14,7 +14,7 @@ use Rattle.lock_laws.proofs.Kit.{put_same, put_other}
 use Rattle.lock_laws.proofs.Nodes.{some_waiting}
 use Rattle.lock_laws.proofs.NodesOfHeads.{number_of, out_of, other_head, put_at_row}
 use Rattle.turnstile_core.specs.Seen.{Contents, Turnstile, Terms}
-use Rattle.turnstile_core.specs.Changes.{best}
+use Rattle.turnstile_core.specs.Changes.{with_owner, with_loan_home, best}
 use Rattle.thread_records.specs.Records.{Record, with_loans, IsWellFormed}
 use Rattle.thread_records.specs.Loans.{loan_for}
 use Rattle.chain_table.specs.Chains.{head_of, without}
@@ -66,7 +66,7 @@ module _ (c : Config) (s : State) (l o h : ℕ) (lawful : Lawful c s) (lock : l 
           let w : 1 ≤ length box.exclusive + length box.shared = subst (λ v. 1 ≤ waiting v.lists) its_head.2.queue (some_waiting c s lawful l h head) in
           omega (arith, length-append box.exclusive box.shared, ap length e, w);
       carried = carrier_shown (loan_for l r.loans) ∙ ap number_of (ap (λ v. v.loan l) rec.columns) ∙ carries ∙ ap (λ i. out_of (s.loan_home i) i) (sym is_head) ∙ ap (λ b. out_of b box.number) its_head.2.loan_home
-          ∙ out_shown box.loan_home box.number;
+          ∙ out_shown box.own.loan_home box.number;
     }
 
     -- 2. The queues
@@ -75,14 +75,14 @@ module _ (c : Config) (s : State) (l o h : ℕ) (lawful : Lawful c s) (lock : l 
       others : (k : ℕ) → k ≢ l → is_turnstile (c.kind k) ≡ true → SameQueue (queue_in s) (queue_in (lent owners)) s.loan_home (lent owners).loan_home (lock_queue k)
       others k d j = record { queue = λ i. record (queue_in s (lock_queue k)) { owner = other_owners k d i }; loan_home = λ x e. put_other s.loan_home h false x (other_head c s l k h x lawful turnstile j d head e) }
 
-      node_out : RepresentsHead (record box { owner = owner box; loan_home = false }) (queue_in (lent owners) q) (lent owners).loan_home
+      node_out : RepresentsHead (with_loan_home false (with_owner (owner box) box)) (queue_in (lent owners) q) (lent owners).loan_home
       node_out = record { queue = λ i. record (its_head.2.queue i) { owner = its_owner i }; loan_home = ap (put s.loan_home h false) is_head ∙ put_same s.loan_home h false }
 
-      pub queues_lent : {new : List (QueueName × Turnstile)} → IfSome (head_of q chain) (λ d. new ≡ (q, with_contents (record d.contents { owner = owner d.contents; loan_home = false }) d) ∷ without q chain)
+      pub queues_lent : {new : List (QueueName × Turnstile)} → IfSome (head_of q chain) (λ d. new ≡ (q, with_contents (with_loan_home false (with_owner (owner d.contents) d.contents)) d) ∷ without q chain)
           → RepresentsQueues c new (queue_in (lent owners)) (lent owners).loan_home
       queues_lent {new = new} made =
-          let is = subst (λ (x : Option Turnstile). IfSome x (λ d. new ≡ (q, with_contents (record d.contents { owner = owner d.contents; loan_home = false }) d) ∷ without q chain)) its_head.1 made in
-          subst (λ v. RepresentsQueues c v (queue_in (lent owners)) (lent owners).loan_home) (sym is) (queues_placed l shows others (with_contents (record box { owner = owner box; loan_home = false }) its_head.0) node_out)
+          let is = subst (λ (x : Option Turnstile). IfSome x (λ d. new ≡ (q, with_contents (with_loan_home false (with_owner (owner d.contents) d.contents)) d) ∷ without q chain)) its_head.1 made in
+          subst (λ v. RepresentsQueues c v (queue_in (lent owners)) (lent owners).loan_home) (sym is) (queues_placed l shows others (with_contents (with_loan_home false (with_owner (owner box) box)) its_head.0) node_out)
 
     -- 3. The record
 

@@ -13,7 +13,7 @@ use Rattle.lock_objects.specs.Represents.{mark_of}
 
 -- a place has a turnstile
 abbrev pub HasTurnstile : Place → Type 0
-HasTurnstile p = IsSome p.turnstile
+HasTurnstile p = IsSome p.object
 
 -- waiters, each with the free turnstile that it takes back
 abbrev pub places : List Waiter → List ℕ → List Place
@@ -26,7 +26,7 @@ marks-dealt q [] xs h l = refl
 marks-dealt q (w ∷ ws) [] h l = absurd (omega arith)
 marks-dealt q (w ∷ ws) (x ∷ xs) h l = ap (λ ms. mark_of q (place (w, Some x)) ∷ ms) (marks-dealt q ws xs h (omega arith))
 
-pub turnstiles-dealt : (ws : List Waiter) (xs : List ℕ) → length ws ≤ length xs → All (λ p. IsSome p.turnstile) (places ws xs)
+pub turnstiles-dealt : (ws : List Waiter) (xs : List ℕ) → length ws ≤ length xs → All (λ p. IsSome p.object) (places ws xs)
 turnstiles-dealt [] xs l = All-nil HasTurnstile
 turnstiles-dealt (w ∷ ws) [] l = absurd (omega arith)
 turnstiles-dealt (w ∷ ws) (x ∷ xs) l = All-cons HasTurnstile (place (w, Some x)) (places ws xs) refl (turnstiles-dealt ws xs (omega arith))
@@ -47,7 +47,7 @@ marks-dealt_last q (w ∷ v ∷ ws) [] h e = absurd (omega arith)
 marks-dealt_last q (w ∷ v ∷ ws) (x ∷ []) h e = ap (λ ms. mark_of q (place (w, Some x)) ∷ ms) (marks-dealt_last q (v ∷ ws) [] h (omega arith))
 marks-dealt_last q (w ∷ v ∷ ws) (x ∷ y ∷ xs) h e = ap (λ ms. mark_of q (place (w, Some x)) ∷ ms) (marks-dealt_last q (v ∷ ws) (y ∷ xs) h (omega arith))
 
-pub turnstiles-dealt_last : (ws : List Waiter) (xs : List ℕ) (h : ℕ) → length ws ≡ suc (length xs) → All (λ p. IsSome p.turnstile) (with_last h (places ws xs))
+pub turnstiles-dealt_last : (ws : List Waiter) (xs : List ℕ) (h : ℕ) → length ws ≡ suc (length xs) → All (λ p. IsSome p.object) (with_last h (places ws xs))
 turnstiles-dealt_last [] xs h e = absurd (omega arith)
 turnstiles-dealt_last (w ∷ []) [] h e = All-cons HasTurnstile (place (w, Some h)) [] refl (All-nil HasTurnstile)
 turnstiles-dealt_last (w ∷ []) (x ∷ xs) h e = absurd (omega arith)

@@ -80,14 +80,14 @@ module _ (side : Side) (d : Contents) where
   pub left_lock : name_of left ≡ name_of d
   left_lock = elim side as (λ e. name_of (left_by (length (waiters e d)) e d) ≡ name_of d) [ X ↦ refl | S ↦ refl ]
 
-  pub left_owner : left.owner ≡ d.owner
-  left_owner = elim side as (λ e. (left_by (length (waiters e d)) e d).owner ≡ d.owner) [ X ↦ refl | S ↦ refl ]
+  pub left_owner : left.own.owner ≡ d.own.owner
+  left_owner = elim side as (λ e. (left_by (length (waiters e d)) e d).own.owner ≡ d.own.owner) [ X ↦ refl | S ↦ refl ]
 
-  pub left_home : left.loan_home ≡ d.loan_home
-  left_home = elim side as (λ e. (left_by (length (waiters e d)) e d).loan_home ≡ d.loan_home) [ X ↦ refl | S ↦ refl ]
+  pub left_home : left.own.loan_home ≡ d.own.loan_home
+  left_home = elim side as (λ e. (left_by (length (waiters e d)) e d).own.loan_home ≡ d.own.loan_home) [ X ↦ refl | S ↦ refl ]
 
 -- without its whole side the turnstile shows the queue without it, where its free list is long enough
-left_queue : (side : Side) (d : Contents) → d.owner ≡ None → length (waiters side d) ≤ length d.free → without_side side (queue_of d) ≡ queue_of (left side d)
+left_queue : (side : Side) (d : Contents) → d.own.owner ≡ None → length (waiters side d) ≤ length d.free → without_side side (queue_of d) ≡ queue_of (left side d)
 left_queue X d o few =
     let none : drop (length d.exclusive) d.exclusive ≡ [] = drop_all (length d.exclusive) d.exclusive (omega arith) in
     λ i. record { head = head_after-stays d.exclusive d.free d.number few i; lists = record { exclusive = sym none i; shared = d.shared }; free_list = drop (length d.exclusive) d.free; owner = sym o i }
@@ -108,7 +108,7 @@ module _ (q : QueueName) (side : Side) (d : Contents) (balanced : length d.free 
   woken = cond (is_empty (all_waiters (left side d))) (with_last (left side d).number (took side d)) (took side d)
 
   abbrev Marked : List Place → Type 0
-  Marked ps = (map (mark_of q) ps ≡ dealt q (waiters side d) d.free (Some d.number)) × All (λ p. IsSome p.turnstile) ps
+  Marked ps = (map (mark_of q) ps ≡ dealt q (waiters side d) d.free (Some d.number)) × All (λ p. IsSome p.object) ps
 
   pub woken_shown : Marked woken
   woken_shown = go (is_empty (all_waiters (left side d))) refl
@@ -163,18 +163,18 @@ module _ {c : Config} {s : State} {t l : ℕ} (can : CanRelease c s t l) {r : Re
     its_head = ap (λ v. v.head) old.queue
 
     -- the turnstile's node comes home where the record has the loan
-    home_shown : home_after s.loan_home (s.loan t l) d.number ≡ (is_some (loan_for l r.loans) || d.loan_home)
+    home_shown : home_after s.loan_home (s.loan t l) d.number ≡ (is_some (loan_for l r.loans) || d.own.loan_home)
     home_shown = go (loan_for l r.loans) loan_seen
       where
-        go : (o : Option Terms) → option_map loan_of o ≡ s.loan t l → home_after s.loan_home (s.loan t l) d.number ≡ (is_some o || d.loan_home)
+        go : (o : Option Terms) → option_map loan_of o ≡ s.loan t l → home_after s.loan_home (s.loan t l) d.number ≡ (is_some o || d.own.loan_home)
         go None e = ap (λ f. home_after s.loan_home f d.number) (sym e) ∙ old.loan_home
         go (Some y) e = ap (λ f. home_after s.loan_home f d.number) (sym e) ∙ ap (put s.loan_home y.number true) (can.lent d.number (loan_of y) its_head (sym e)).0 ∙ put_same s.loan_home y.number true
 
     -- where it has none, it is there already
-    returns_home : (is_some (loan_for l r.loans) || d.loan_home) ≡ true
+    returns_home : (is_some (loan_for l r.loans) || d.own.loan_home) ≡ true
     returns_home = go (loan_for l r.loans) loan_seen
       where
-        go : (o : Option Terms) → option_map loan_of o ≡ s.loan t l → (is_some o || d.loan_home) ≡ true
+        go : (o : Option Terms) → option_map loan_of o ≡ s.loan t l → (is_some o || d.own.loan_home) ≡ true
         go None e = sym old.loan_home ∙ can.unlent d.number its_head (sym e)
         go (Some y) e = refl
 
@@ -249,7 +249,7 @@ module _ (c : Config) (s : State) (t l : ℕ) where
             let with_it : new ≡ (lock_queue l, record h { contents = left side d }) ∷ without (lock_queue l) chain = is ∙ ap (λ b. cond b (without (lock_queue l) chain) ((lock_queue l, record h { contents = left side d }) ∷ without (lock_queue l) chain)) some_wait in
             subst (λ v. RepresentsQueues c v (queue_in n) n.loan_home) (sym with_it) (queues_placed l shows (others can) (record h { contents = left side d }) (stays some_wait))
 
-    pub marks_shown : {ps : List Place} → ps ≡ woken_of l side r h.contents → (map (mark_of (lock_queue l)) ps ≡ n.marked t) × All (λ p. IsSome p.turnstile) ps
+    pub marks_shown : {ps : List Place} → ps ≡ woken_of l side r h.contents → (map (mark_of (lock_queue l)) ps ≡ n.marked t) × All (λ p. IsSome p.object) ps
     unfolding after_open
     marks_shown is =
         let are = woken_shown (lock_queue l) side d fits in
@@ -257,7 +257,7 @@ module _ (c : Config) (s : State) (t l : ℕ) where
         let marks : n.marked t ≡ dealt (lock_queue l) (waiters side d) d.free (Some d.number) =
         put_same s.marked t (dealt (lock_queue l) (list_of (side_woken (c.kind l) (s.word l)) (s.lists (lock_queue l))) (s.free_list (lock_queue l)) (s.head (lock_queue l)))
         ∙ (λ i. dealt (lock_queue l) (list_of (sym e i) (old.queue i).lists) (old.queue i).free_list (old.queue i).head) in
-        subst (λ ps. (map (mark_of (lock_queue l)) ps ≡ n.marked t) × All (λ p. IsSome p.turnstile) ps) (sym is) (are.0 ∙ sym marks, are.1)
+        subst (λ ps. (map (mark_of (lock_queue l)) ps ≡ n.marked t) × All (λ p. IsSome p.object) ps) (sym is) (are.0 ∙ sym marks, are.1)
 
 -- 4. A lawful state
 
@@ -314,11 +314,11 @@ of_head P e h = subst (λ o. IfSome o P) (sym e) h
 
 -- a turnstile that was settled and emptied of a side has no owner, and its node is at home
 module _ (l : ℕ) (side : Side) (r : Record) {h a : Turnstile} {b : Contents} (can : CanOpen l side r h) (is : a ≡ record h { contents = settled l r h.contents }) (made : b ≡ left_by (length (waiters side a.contents)) side a.contents) where
-  pub unowned : b.owner ≡ None
-  unowned = ap (λ (d : Contents). d.owner) made ∙ left_owner side a.contents ∙ ap (λ (v : Turnstile). v.contents.owner) is
+  pub unowned : b.own.owner ≡ None
+  unowned = ap (λ (d : Contents). d.own.owner) made ∙ left_owner side a.contents ∙ ap (λ (v : Turnstile). v.contents.own.owner) is
 
-  pub at_home : b.loan_home ≡ true
-  at_home = ap (λ (d : Contents). d.loan_home) made ∙ left_home side a.contents ∙ ap (λ (v : Turnstile). v.contents.loan_home) is ∙ can.returns
+  pub at_home : b.own.loan_home ≡ true
+  at_home = ap (λ (d : Contents). d.own.loan_home) made ∙ left_home side a.contents ∙ ap (λ (v : Turnstile). v.contents.own.loan_home) is ∙ can.returns
 
 -- with nobody on it, it has no free turnstile either
 pub nothing_left : (d : Contents) → IsWellFormed d → all_waiters d ≡ [] → (d.exclusive ≡ []) × (d.shared ≡ []) × (d.free ≡ [])
@@ -330,7 +330,7 @@ nothing_left d fits nobody =
     no_item [] e = refl
     no_item (x ∷ xs) e = absurd (omega arith)
 
-pub left_idle : (h : Turnstile) → IsWellFormed h.contents → all_waiters h.contents ≡ [] → h.contents.owner ≡ None → h.contents.loan_home ≡ true → h.next ≡ [] → IsLeft h
+pub left_idle : (h : Turnstile) → IsWellFormed h.contents → all_waiters h.contents ≡ [] → h.contents.own.owner ≡ None → h.contents.own.loan_home ≡ true → h.next ≡ [] → IsLeft h
 left_idle h fits nobody owner home bare =
     let none = nothing_left h.contents fits nobody in
     record { no_exclusive = none.0; no_shared = none.1; no_free = none.2; no_owner = owner; loan_home = home; no_next = bare }

@@ -7,7 +7,7 @@ use Rattle.lock_state.specs.State.{State}
 use Rattle.lock_model.specs.declared.plan.Side.{Side}
 use Rattle.lock_model.specs.declared.plan.QueueName.{QueueName}
 use Rattle.turnstile_core.specs.Seen.{Turnstile, idle_contents}
-use Rattle.turnstile_core.specs.Changes.{begun, joined, waits, all_waiters}
+use Rattle.turnstile_core.specs.Changes.{with_owner, begun, joined, waits, all_waiters}
 use Rattle.thread_records.specs.Records.{Record}
 use Rattle.chain_table.specs.Chains.{head_of, without}
 
@@ -41,7 +41,7 @@ record_entered l r = record r { turnstile = None; on = Some (lock_queue l) }
 -- else x goes to the front of its free list
 abbrev pub head_entered : ℕ → Side → ℕ → Option ℕ → Waiter → Option Turnstile → Turnstile
 head_entered l side x owner w None =
-    record { contents = record (begun l w side (idle_contents x)) { owner = owner }; next = [] }
+    record { contents = with_owner owner (begun l w side (idle_contents x)); next = [] }
 head_entered l side x owner w (Some h) = record h { contents = joined x w side h.contents }
 
 -- the chain with that turnstile

@@ -13,4 +13,4 @@ pub record CanBeLent (l : ℕ) (r : Record) (h : Turnstile) : Type 0 where
 -- and the record is of the turnstile's owner
 pub record CanHop (l : ℕ) (r : Record) (h : Turnstile) : Type 0 where
   pub lends : CanBeLent l r h
-  pub owned : h.contents.owner ≡ Some r.thread
+  pub owned : h.contents.own.owner ≡ Some r.thread

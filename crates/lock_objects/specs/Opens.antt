@@ -11,7 +11,7 @@ use Rattle.lock_model.specs.declared.plan.Side.{Side}
 use Rattle.lock_model.specs.declared.plan.QueueName.{QueueName}
 use Rattle.turnstile_core.specs.Seen.{Contents, Place, Turnstile}
 use Rattle.turnstile_core.specs.Lists.{with_last}
-use Rattle.turnstile_core.specs.Changes.{waiters, all_waiters, left_by, taken}
+use Rattle.turnstile_core.specs.Changes.{waiters, all_waiters, with_owner, with_loan_home, left_by, taken}
 use Rattle.thread_records.specs.Records.{Record, with_loans}
 use Rattle.thread_records.specs.Loans.{loan_for, without_loan}
 use Rattle.prio_lending.specs.Hops.{carrier_for, node_out}
@@ -24,7 +24,7 @@ use Rattle.chain_table.specs.Chains.{without}
 pub record CanOpen (l : ℕ) (side : Side) (r : Record) (h : Turnstile) : Type 0 where
   pub some_wait : waiters side h.contents ≢ []
   pub carried : IfSome (carrier_for l r.loans) (λ n. node_out h.contents ≡ Some n)
-  pub returns : (is_some (loan_for l r.loans) || h.contents.loan_home) ≡ true
+  pub returns : (is_some (loan_for l r.loans) || h.contents.own.loan_home) ≡ true
 
 -- there are as many waiters as turnstiles at the lock, the loan for the lock is on its head's node, and no other
 -- head's node comes home by it
@@ -47,7 +47,8 @@ record_opened l r = with_loans (without_loan l r.loans) r
 
 -- the turnstile that lost its owner, whose loan node comes home where the record had it
 abbrev pub settled : ℕ → Record → Contents → Contents
-settled l r h = record h { owner = None; loan_home = is_some (loan_for l r.loans) || h.loan_home }
+settled l r h =
+    with_owner None (with_loan_home (is_some (loan_for l r.loans) || h.own.loan_home) h)
 
 -- what stays of it without the waiters of the side, and those waiters
 abbrev pub left_open : ℕ → Side → Record → Contents → Contents

@@ -33,12 +33,12 @@ queue_in s q =
 -- what the turnstile that is lent to a lock says of its queue
 abbrev pub queue_of : Contents → QueueColumns
 queue_of h =
-    record { head = Some h.number; lists = lists_of h; free_list = h.free; owner = h.owner }
+    record { head = Some h.number; lists = lists_of h; free_list = h.free; owner = h.own.owner }
 
 -- it says what the columns say, and so does its loan node
 pub record RepresentsHead (h : Contents) (x : QueueColumns) (homes : ℕ → Bool) : Type 0 where
   pub queue : x ≡ queue_of h
-  pub loan_home : homes h.number ≡ h.loan_home
+  pub loan_home : homes h.number ≡ h.own.loan_home
 
 -- where no turnstile is lent, the queue has no head
 abbrev pub RepresentsQueue : Option Turnstile → QueueColumns → (ℕ → Bool) → Type 0
@@ -98,7 +98,7 @@ pub record RepresentsRecord (r : Record) (x : RecordColumns) : Type 0 where
 -- a waiter that a signal took off a queue, with the turnstile that it takes back
 abbrev pub mark_of : QueueName → Place → Mark
 mark_of q p =
-    record { thread = p.thread; object = unwrap_or p.turnstile 0; queue = q; cause = BySignal }
+    record { thread = p.thread; object = unwrap_or p.object 0; queue = q; cause = BySignal }
 
 -- 4. Walks
 

@@ -9,7 +9,7 @@ ghost use Rattle.lock_state.specs.Steps.Turnstiles.{after_enter};
 ghost use Rattle.turnstile_core.specs.Seen.{idle, IsEmpty};
 ghost use Rattle.turnstile_core.specs.Changes.{name_of};
 ghost use Rattle.chain_table.specs.Chains.{head_of};
-ghost use Rattle.chain_table.specs.Turnstiles.{behind};
+ghost use Rattle.chain_table.specs.Objects.{behind};
 ghost use Rattle.lock_objects.specs.Represents.{RepresentsQueues, RepresentsRecord, queue_in, record_in};
 ghost use Rattle.lock_objects.specs.Enters.{CanStand, CanLend, waiter_of, record_entered, head_entered, chain_entered};
 

@@ -45,7 +45,7 @@ pub fn open(chain: &mut Chain<Turnstile>, rec: &mut ThreadRec, l: LockNo, side: 
         → CanRelease c s t l.0 → RepresentsRecord rec.old (record_in s t)
         → RepresentsQueues c chain.old (queue_in s) s.loan_home
         → (map (mark_of (lock_queue l.0)) result ≡ (after_open c s t l.0).marked t)
-        × All (λ p. IsSome p.turnstile) result }
+        × All (λ p. IsSome p.object) result }
 {
     let Some(mut head) = chain.unplace(QueueName::Lock(l)) else {
         return Taken::empty();
@@ -60,8 +60,8 @@ pub fn open(chain: &mut Chain<Turnstile>, rec: &mut ThreadRec, l: LockNo, side: 
 #[tactic(auto, using(crate::proofs::Opens::left_idle))]
 fn put_back(chain: &mut Chain<Turnstile>, head: Box<Turnstile>, mut woken: Taken) -> Taken
     requires last { all_waiters head.value.contents ≡ [] → LastHasNone woken }
-    requires unowned { head.value.contents.owner ≡ None }
-    requires home { head.value.contents.loan_home ≡ true }
+    requires unowned { head.value.contents.own.owner ≡ None }
+    requires home { head.value.contents.own.loan_home ≡ true }
     requires absent { IsSomeAnd (name_of head.value.contents) (λ q. head_of q chain.old ≡ None) }
     requires bare { head.value.next ≡ [] }
     ensures woken { result ≡ (if is_empty (all_waiters head.value.contents)
@@ -82,10 +82,10 @@ fn put_back(chain: &mut Chain<Turnstile>, head: Box<Turnstile>, mut woken: Taken
 /// queue.
 pub fn wake(rec: &mut ThreadRec, node: Box<Waiter>)
     requires away { rec.old.turnstile ≡ None }
-    requires holds { IsSome node.value.place.turnstile }
+    requires holds { IsSome node.value.place.object }
     requires own { node.value.place.thread ≡ rec.old.thread }
     requires alone { node.value.next ≡ [] }
-    ensures { rec.new ≡ record rec.old { turnstile = node.value.place.turnstile; on = None } }
+    ensures { rec.new ≡ record rec.old { turnstile = node.value.place.object; on = None } }
 {
     rec.take_back(node);
     rec.set_on(None);

@@ -6,9 +6,9 @@ ghost use Rattle.lock_model.specs.Queues.{lock_queue, names_turnstile};
 ghost use Rattle.lock_state.specs.State.{State};
 ghost use Rattle.lock_state.specs.Facts.{Lawful};
 ghost use Rattle.lock_state.specs.Steps.Lending.{MayClaim, after_claim, MayLend, after_lend, MayShift, after_shift};
-ghost use Rattle.turnstile_core.specs.Changes.{name_of, waits, moved};
+ghost use Rattle.turnstile_core.specs.Changes.{name_of, waits, with_owner, with_loan_home, moved};
 ghost use Rattle.chain_table.specs.Chains.{head_of, without};
-ghost use Rattle.chain_table.specs.Turnstiles.{behind};
+ghost use Rattle.chain_table.specs.Objects.{behind};
 ghost use Rattle.thread_records.specs.Loans.{loan_for};
 ghost use Rattle.thread_records.specs.Records.{with_loans, IsWellFormed};
 ghost use Rattle.prio_lending.specs.Hops.{with_contents, walk_up, walk_to, loan_by};
@@ -27,7 +27,7 @@ pub fn claim(chain: &mut Chain<Turnstile>, rec: &mut ThreadRec, l: LockNo)
     requires { IsSomeAnd (head_of (lock_queue l.0) chain.old) (CanBeLent l.0 rec.old) }
     ensures chain { IfSome (head_of (lock_queue l.0) chain.old) (λ h. chain.new ≡ (
       lock_queue l.0,
-      with_contents (record h.contents { owner = Some rec.old.thread; loan_home = false }) h,
+      with_contents (with_loan_home false (with_owner (Some rec.old.thread) h.contents)) h,
     )
         ∷ without (lock_queue l.0) chain.old) }
     ensures record { rec.new ≡ with_loans rec.new.loans rec.old }
@@ -60,7 +60,7 @@ pub fn lend_to_owner(
 ) -> Walk
     requires { IsSomeAnd (head_of (lock_queue l.0) chain.old) (CanHop l.0 owner.old) }
     ensures chain { IfSome (head_of (lock_queue l.0) chain.old) (λ h. chain.new
-        ≡ (lock_queue l.0, with_contents (record h.contents { loan_home = false }) h)
+        ≡ (lock_queue l.0, with_contents (with_loan_home false h.contents) h)
         ∷ without (lock_queue l.0) chain.old) }
     ensures owner { owner.new ≡ with_loans owner.new.loans owner.old }
     ensures lent { IfSome (head_of (lock_queue l.0) chain.old) (λ h.
@@ -95,17 +95,17 @@ fn put_lent(
     owner: &mut ThreadRec,
     on_turnstile: bool,
 ) -> Walk
-    requires may { IsSomeAnd head.value.contents.lock (λ l. CanHop l owner.old head.value) }
+    requires may { IsSomeAnd head.value.contents.own.lock (λ l. CanHop l owner.old head.value) }
     requires absent { IsSomeAnd (name_of head.value.contents) (λ q. head_of q chain.old ≡ None) }
     requires bare { behind head.value ≡ [] }
     ensures chain { IfSome (name_of head.value.contents) (λ q. chain.new
-        ≡ (q, with_contents (record head.value.contents { loan_home = false }) head.value)
+        ≡ (q, with_contents (with_loan_home false head.value.contents) head.value)
         ∷ chain.old) }
     ensures owner { owner.new ≡ with_loans owner.new.loans owner.old }
     ensures well_formed { IsWellFormed owner.new }
-    ensures lent { IfSome head.value.contents.lock (λ l.
+    ensures lent { IfSome head.value.contents.own.lock (λ l.
         loan_for l owner.new.loans ≡ loan_by l head.value.contents) }
-    ensures others { (k : ℕ) → head.value.contents.lock ≢ Some k
+    ensures others { (k : ℕ) → head.value.contents.own.lock ≢ Some k
         → loan_for k owner.new.loans ≡ loan_for k owner.old.loans }
     ensures answer { result ≡ walk_to owner.old.thread
         (not (owner.new.effective == owner.old.effective) && on_turnstile) }
@@ -121,7 +121,7 @@ pub fn sort_anew(chain: &mut Chain<Turnstile>, rec: &ThreadRec, l: LockNo, owned
     requires waits { IsSomeAnd (head_of (lock_queue l.0) chain.old) (λ h.
         waits rec.now.thread h.contents ≡ true) }
     requires owned { IfSome (head_of (lock_queue l.0) chain.old) (λ h.
-        owned ≡ is_some h.contents.owner) }
+        owned ≡ is_some h.contents.own.owner) }
     ensures chain { IfSome (head_of (lock_queue l.0) chain.old) (λ h. chain.new ≡ (
       lock_queue l.0,
       with_contents (moved rec.now.thread rec.now.effective h.contents) h,

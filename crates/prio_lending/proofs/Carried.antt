@@ -26,8 +26,8 @@ lock_in None l e = cc
 lock_in (Some n) l e = cc
 
 -- the lock of a head, by its name
-pub lock_named : (c : Contents) (l : LockNo) → Some (Lock l) ≡ name_of c → c.lock ≡ Some l.0
-lock_named c l e = lock_in c.lock l e
+pub lock_named : (c : Contents) (l : LockNo) → Some (Lock l) ≡ name_of c → c.own.lock ≡ Some l.0
+lock_named c l e = lock_in c.own.lock l e
 
 -- ---- whether the loan stands
 none_stands : (o : Option Terms) → option_map (λ t. t.number) o ≡ None → is_some o ≡ false
@@ -38,15 +38,15 @@ one_stands : (o : Option Terms) (n : ℕ) → option_map (λ t. t.number) o ≡ 
 one_stands None n e = cc
 one_stands (Some t) n e = refl
 
-carried_out : (l : ℕ) (ts : List Terms) (c : Contents) → c.lock ≡ Some l → IfSome c.lock (λ k. carrier_for k ts ≡ node_out c) → c.loan_home ≡ false → carrier_for l ts ≡ Some c.number
+carried_out : (l : ℕ) (ts : List Terms) (c : Contents) → c.own.lock ≡ Some l → IfSome c.own.lock (λ k. carrier_for k ts ≡ node_out c) → c.own.loan_home ≡ false → carrier_for l ts ≡ Some c.number
 carried_out l ts c e h out = rw e at h ∙ rw out refl
 
 -- none stands where the node is at home
-pub stands_not : (l : ℕ) (ts : List Terms) (c : Contents) → c.lock ≡ Some l → IfSome c.lock (λ k. carrier_for k ts ≡ node_out c) → c.loan_home ≡ true → has_loan l ts ≡ false
+pub stands_not : (l : ℕ) (ts : List Terms) (c : Contents) → c.own.lock ≡ Some l → IfSome c.own.lock (λ k. carrier_for k ts ≡ node_out c) → c.own.loan_home ≡ true → has_loan l ts ≡ false
 stands_not l ts c e h home = has_is_some l ts ∙ none_stands (loan_for l ts) (rw e at h ∙ rw home refl)
 
 -- one stands where it is out
-pub stands : (l : ℕ) (ts : List Terms) (c : Contents) → c.lock ≡ Some l → IfSome c.lock (λ k. carrier_for k ts ≡ node_out c) → c.loan_home ≡ false → has_loan l ts ≡ true
+pub stands : (l : ℕ) (ts : List Terms) (c : Contents) → c.own.lock ≡ Some l → IfSome c.own.lock (λ k. carrier_for k ts ≡ node_out c) → c.own.loan_home ≡ false → has_loan l ts ≡ true
 stands l ts c e h out = has_is_some l ts ∙ one_stands (loan_for l ts) c.number (carried_out l ts c e h out)
 
 -- ---- after it was taken
@@ -71,9 +71,9 @@ set_terms None l n k lock e = cc
 set_terms (Some t) l n k lock e = let same : t.number ≡ n = cc in rw (same, lock t refl) refl
 
 -- the loan for the lock has the head's number and the priority
-pub set_for : (l k : ℕ) (ts : List Terms) (c : Contents) → c.lock ≡ Some l → IfSome c.lock (λ j. carrier_for j ts ≡ node_out c) → c.loan_home ≡ false → loan_for l (with_prio l k ts) ≡ Some (record { number = c.number; lock = l; prio = k })
+pub set_for : (l k : ℕ) (ts : List Terms) (c : Contents) → c.own.lock ≡ Some l → IfSome c.own.lock (λ j. carrier_for j ts ≡ node_out c) → c.own.loan_home ≡ false → loan_for l (with_prio l k ts) ≡ Some (record { number = c.number; lock = l; prio = k })
 set_for l k ts c e h out = loan_set l k ts ∙ set_terms (loan_for l ts) l c.number k (lock_of_loan l ts) (carried_out l ts c e h out)
 
 -- those for other locks stay
-pub set_others : (l j k : ℕ) (ts : List Terms) (c : Contents) → c.lock ≡ Some l → c.lock ≢ Some j → loan_for j (with_prio l k ts) ≡ loan_for j ts
+pub set_others : (l j k : ℕ) (ts : List Terms) (c : Contents) → c.own.lock ≡ Some l → c.own.lock ≢ Some j → loan_for j (with_prio l k ts) ≡ loan_for j ts
 set_others l j k ts c e ne = others_set j l k ts (ne_eqb l j (λ same. ne (e ∙ ap Some same)))

@@ -16,7 +16,7 @@ carrier_for l ts = option_map (λ t. t.number) (loan_for l ts)
 
 -- the number of a turnstile's loan node where it is out
 abbrev pub node_out : Contents → Option ℕ
-node_out c = if c.loan_home then None else Some c.number
+node_out c = if c.own.loan_home then None else Some c.number
 
 -- a turnstile with other contents and the same link
 abbrev pub with_contents : Contents → Turnstile → Turnstile

@@ -12,7 +12,7 @@ use turnstile_core::{Turnstile, Waiter};
 
 /// Threads 1, 2 and 3 wait for lock 0, with 50, 50 and 100, and thread 7 owns it.
 fn owned_head(alloc: Global) -> Result<Box<Turnstile>, AllocError>
-    ensures { IfOk result (λ b. b.value ≡ record { contents = record { number = 1; lock = Some 0; exclusive = record { thread = 1; kept = 50 } ∷ record { thread = 2; kept = 50 } ∷ record { thread = 3; kept = 100 } ∷ []; shared = []; free = 3 ∷ 2 ∷ []; owner = Some 7; loan_home = true }; next = [] }) }
+    ensures { IfOk result (λ b. b.value ≡ record { contents = record { number = 1; exclusive = record { thread = 1; kept = 50 } ∷ record { thread = 2; kept = 50 } ∷ record { thread = 3; kept = 100 } ∷ []; shared = []; free = 3 ∷ 2 ∷ []; own = record { lock = Some 0; owner = Some 7; loan_home = true } }; next = [] }) }
 {
     let mut head = Turnstile::make(alloc, ThreadNo(1))?;
     let first = Waiter::make(alloc, ThreadNo(1))?;
@@ -33,9 +33,9 @@ fn owned_head(alloc: Global) -> Result<Box<Turnstile>, AllocError>
 
 /// The head after its owner, of base 100, was lent to and released the lock, with the owner's priority then.
 fn settled_head(alloc: Global) -> Result<(Box<Turnstile>, Prio), AllocError>
-    ensures lock { IfOk result (λ r. r.0.value.contents.lock ≡ Some 0) }
+    ensures lock { IfOk result (λ r. r.0.value.contents.own.lock ≡ Some 0) }
     ensures waiter { IfOk result (λ r. all_waiters r.0.value.contents ≢ []) }
-    ensures home { IfOk result (λ r. r.0.value.contents.loan_home ≡ true) }
+    ensures home { IfOk result (λ r. r.0.value.contents.own.loan_home ≡ true) }
 {
     let mut head = owned_head(alloc)?;
     let mut owner = ThreadRec::make(alloc, ThreadNo(7), Prio(100))?;

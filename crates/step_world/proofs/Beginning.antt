@@ -73,7 +73,7 @@ shown plan t th d at new =
       };
       one_loan_each = λ l. omega (arith, ap (λ (r : Record). loans_for l r.loans) new.its_record);
       held = record { once = λ l. omega (arith, ap (λ hs. holds_of l hs) new.holds_none); room = new.held_room };
-      marked = record { filled = rw new.unmarked (All-nil (λ (p : Place). IsSome p.turnstile)); off = λ some. absurd (some new.unmarked) };
+      marked = record { filled = rw new.unmarked (All-nil (λ (p : Place). IsSome p.object)); off = λ some. absurd (some new.unmarked) };
       woken = rw new.running tt;
     }
 

@@ -55,7 +55,7 @@ module _ (c : Config) (s : State) (t : ℕ) (q : QueueName) (p : Place) (ms : Li
   unfolding after_mark
   not_marked k u n =
       rw k (λ i. record (thread_in shorter u) {
-        its_record = record (record_in s u) { turnstile = put_other s.turnstile p.thread (Some (unwrap_or p.turnstile 0)) u (λ e. n (sym e)) i; blocked_on = put_other s.blocked_on p.thread None u (λ e. n (sym e)) i };
+        its_record = record (record_in s u) { turnstile = put_other s.turnstile p.thread (Some (unwrap_or p.object 0)) u (λ e. n (sym e)) i; blocked_on = put_other s.blocked_on p.thread None u (λ e. n (sym e)) i };
         wait = put_other s.wait p.thread (Woken q BySignal) u (λ e. n (sym e)) i;
       })
 
@@ -65,7 +65,7 @@ module _ (c : Config) (s : State) (t : ℕ) (q : QueueName) (p : Place) (ms : Li
     one_loan_each = h.one_loan_each;
     held = h.held;
     marked = record {
-      filled = All-tail (λ x. IsSome x.turnstile) p ps (All-same (λ x. IsSome x.turnstile) (p ∷ ps) th.marked (sym e) h.marked.filled);
+      filled = All-tail (λ x. IsSome x.object) p ps (All-same (λ x. IsSome x.object) (p ∷ ps) th.marked (sym e) h.marked.filled);
       off = λ _. h.marked.off (λ z. some p ps (sym e ∙ z));
     };
     woken = h.woken;
@@ -74,12 +74,12 @@ module _ (c : Config) (s : State) (t : ℕ) (q : QueueName) (p : Place) (ms : Li
       some : (y : Place) (ys : List Place) → y ∷ ys ≡ [] → ⊥
       some y ys z = absurd (cc)
 
-  wakes : {w : Thread} → is_turnstile_queue c q ≡ true → IsOfLock q → IsSome p.turnstile → RepresentsThread w shorter p.thread → RepresentsThread (woken w p.turnstile q) after p.thread
+  wakes : {w : Thread} → is_turnstile_queue c q ≡ true → IsOfLock q → IsSome p.object → RepresentsThread w shorter p.thread → RepresentsThread (woken w p.object q) after p.thread
   unfolding after_mark
   wakes k off has h = record {
     columns = rw k (λ i. record (h.columns i) {
       its_record = record ((h.columns i).its_record) {
-        turnstile = (its_turnstile p.turnstile has ∙ sym (put_same s.turnstile p.thread (Some (unwrap_or p.turnstile 0)))) i;
+        turnstile = (its_turnstile p.object has ∙ sym (put_same s.turnstile p.thread (Some (unwrap_or p.object 0)))) i;
         blocked_on = sym (put_same s.blocked_on p.thread None) i;
       };
       wait = sym (put_same s.wait p.thread (Woken q BySignal)) i;
@@ -124,8 +124,8 @@ module _ {m : Machine} {c : Config} {s : State} {t : ℕ} {th : Thread} {p : Pla
   is_away = subst (λ (x : Mark). is_turnstile_queue c x.queue ≡ true → s.turnstile x.thread ≡ None) (sym its_mark) (marked_out c s t k ks lawful g.thread g.marked) of_turnstile
 
   -- and it has one to take back
-  pub has_turnstile : IsSome p.turnstile
-  has_turnstile = All-head (λ x. IsSome x.turnstile) p ps (All-same (λ x. IsSome x.turnstile) (p ∷ ps) th.marked (sym is) (h.threads.thread t th at).marked.filled)
+  pub has_turnstile : IsSome p.object
+  has_turnstile = All-head (λ x. IsSome x.object) p ps (All-same (λ x. IsSome x.object) (p ∷ ps) th.marked (sym is) (h.threads.thread t th at).marked.filled)
 
   first_changed : RepresentsThreads (slice_set m.threads.items t (with_marked th ps)) c (shorter c s t queue p ks)
   first_changed = thread_changed (shorter c s t queue p ks) (with_marked th ps) h.threads g.thread (marks c s t queue p ks (h.threads.thread t th at) is others_marks) (not_marking c s t queue p ks)
@@ -141,14 +141,14 @@ module _ {m : Machine} {c : Config} {s : State} {t : ℕ} {th : Thread} {p : Pla
     pub own : p.thread ≡ w.record.value.thread
     own = sym (ap (λ x. x.its_record.thread) (first_changed.thread p.thread w there).columns)
 
-    pub marked_shown : Represents c (record m { threads = with_item (with_item m.threads t (with_marked th ps)) p.thread (woken w p.turnstile queue) }) (after_mark c s t k ks)
+    pub marked_shown : Represents c (record m { threads = with_item (with_item m.threads t (with_marked th ps)) p.thread (woken w p.object queue) }) (after_mark c s t k ks)
     unfolding after_mark
     marked_shown = record {
       within = h.within;
       words = h.words;
       queues = h.queues;
-      threads = subst (λ (x : Mark). RepresentsThreads (slice_set (slice_set m.threads.items t (with_marked th ps)) p.thread (woken w p.turnstile queue)) c (after_mark c s t x ks)) its_mark
-          (thread_changed (after c s t queue p ks) (woken w p.turnstile queue) first_changed is_thread (wakes c s t queue p ks of_turnstile is_off has_turnstile (first_changed.thread p.thread w there)) (not_marked c s t queue p ks of_turnstile));
+      threads = subst (λ (x : Mark). RepresentsThreads (slice_set (slice_set m.threads.items t (with_marked th ps)) p.thread (woken w p.object queue)) c (after_mark c s t x ks)) its_mark
+          (thread_changed (after c s t queue p ks) (woken w p.object queue) first_changed is_thread (wakes c s t queue p ks of_turnstile is_off has_turnstile (first_changed.thread p.thread w there)) (not_marked c s t queue p ks of_turnstile));
       history = h.history;
       tables = h.tables;
     }

@@ -64,7 +64,7 @@ module _ {m : Machine} {c : Config} {s : State} {t l : ℕ} {mode : Mode} {kind 
     }
 
     pub opens : {chain : List (QueueName × Turnstile)} {r : Record} (ps : List Place) (v : ℕ) (p : Thread) → word_of v ≡ opened (c.kind l) (s.word l) → RepresentsQueues c chain (queue_in (after_open c s t l)) (after_open c s t l).loan_home
-        → RepresentsRecord r (record_in (after_open c s t l) t) → (map (mark_of (lock_queue l)) ps ≡ (after_open c s t l).marked t) × All (λ x. IsSome x.turnstile) ps
+        → RepresentsRecord r (record_in (after_open c s t l) t) → (map (mark_of (lock_queue l)) ps ≡ (after_open c s t l).marked t) × All (λ x. IsSome x.object) ps
         → p ≡ left_with p.held th → p.held.items ≡ without_lock l th.held.items → vec_capacity p.held ≡ vec_capacity th.held
         → Represents c (record m { words = with_item m.words l v; chain = chain; threads = with_item m.threads t (record p { «record» = with_value p.record r; marked = ps; marked_from = lock_queue l }) }) (after_open c s t l)
     unfolding after_open

@@ -37,7 +37,7 @@ module _ (m : Machine) (c : Config) (s : State) (shown : Represents c m s) (h : 
   at : (o : Option Turnstile) (l : ℕ) → o ≡ head_of (lock_queue l) m.chain → At o l
   at o l e = subst (λ x. At x l) (sym e) (shown.queues.lock l (shown.within.turnstiles l))
 
-  pub owner_at : (l : ℕ) (x : Turnstile) → Some x ≡ head_of (lock_queue l) m.chain → x.contents.owner ≡ s.owner (lock_queue l)
+  pub owner_at : (l : ℕ) (x : Turnstile) → Some x ≡ head_of (lock_queue l) m.chain → x.contents.own.owner ≡ s.owner (lock_queue l)
   owner_at l x e = let head : RepresentsHead x.contents (queue_in s (lock_queue l)) s.loan_home = at (Some x) l e in sym (ap (λ v. v.owner) head.queue)
 
   pub no_owner_at : (l : ℕ) → None ≡ head_of (lock_queue l) m.chain → None ≡ s.owner (lock_queue l)

@@ -87,7 +87,7 @@ pub record HoldsEachOnce (held : Vec Held) : Type 0 where
 
 -- each waiter that was taken off has the turnstile that it takes back
 pub record AreFilled (marked : List Place) (q : QueueName) : Type 0 where
-  pub filled : All (λ p. IsSome p.turnstile) marked
+  pub filled : All (λ p. IsSome p.object) marked
   pub off : marked ≢ [] → IsOfLock q
 
 -- the objects of a thread say of it what the columns say

@@ -1,6 +1,5 @@
 -- How the fields of a record are seen, and what is true of them.
 use Rattle.std.specs.Prelude.{◌≡◌, IfSome, option_map}
-use Rattle.turnstile_core.specs.Seen.{idle, IsEmpty}
 use Rattle.turnstile_core.specs.Linked.{linked_terms}
 use Rattle.thread_records.specs.Records.{Record, IsWellFormed}
 use Rattle.thread_records.specs.declared.record.ThreadRec.TheInside.{Inside}
@@ -11,14 +10,14 @@ seen_record a =
       thread = a.thread.0;
       base = a.base.0;
       effective = a.eff.0;
-      turnstile = option_map (λ h. h.0.value.contents.number) a.home;
+      turnstile = option_map (λ k. k.object) a.turnstile;
+      sleep_queue = option_map (λ k. k.object) a.sleepq;
       loans = linked_terms a.loans;
       on = a.on;
     }
 
--- a turnstile at home is idle and has its loan node, and the node with it is the thread's own and empty
+-- what is true of a record, and the nodes at home are the thread's own
 pub record IsSound (a : Inside) : Type 0 where
   pub well_formed : IsWellFormed (seen_record a)
-  pub home_idle : IfSome a.home (λ h. h.0.value ≡ idle h.0.value.contents.number)
-  pub home_empty : IfSome a.home (λ h. IsEmpty h.1.value)
-  pub home_own : IfSome a.home (λ h. h.1.value.place.thread ≡ a.thread.0)
+  pub own_waiter : IfSome a.turnstile (λ k. k.thread ≡ a.thread.0)
+  pub own_sleeper : IfSome a.sleepq (λ k. k.thread ≡ a.thread.0)

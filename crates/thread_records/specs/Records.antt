@@ -5,19 +5,29 @@ use Rattle.turnstile_core.specs.Seen.{Terms}
 use Rattle.lock_model.specs.Counts.{least_with}
 use Rattle.thread_records.specs.Loans.{prios, loans_for}
 
--- a thread's priorities, the number of the turnstile that is at home with its node, its loans, the newest first, and
--- the queue that it names
+-- a thread's priorities, the numbers of the turnstile and of the sleep queue that are at home with their nodes, its
+-- loans, the newest first, and the queue that it names
 pub record Record : Type 0 where
   pub thread : ℕ
   pub base : ℕ
   pub effective : ℕ
   pub turnstile : Option ℕ
+  pub sleep_queue : Option ℕ
   pub loans : List Terms
   pub on : Option QueueName
 
 -- the record of a new thread
 abbrev pub made : ℕ → ℕ → Record
-made t k = record { thread = t; base = k; effective = k; turnstile = Some t; loans = []; on = None }
+made t k =
+    record {
+      thread = t;
+      base = k;
+      effective = k;
+      turnstile = Some t;
+      sleep_queue = Some t;
+      loans = [];
+      on = None;
+    }
 
 -- with another base
 abbrev pub with_base : ℕ → Record → Record

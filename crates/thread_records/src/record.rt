@@ -1,14 +1,17 @@
 //! The record of a thread.
 ghost use Rattle.std.specs.Prelude.{◌≡◌, [], ◌∷◌, None, Some, false, true, IfOk, IsSome, option_map};
 ghost use Rattle.turnstile_core.specs.Seen.{idle, IsEmpty};
+ghost use Rattle.sleep_queues.specs.Seen.{idle as idle_sleepq};
 ghost use Rattle.thread_records.specs.Records.{made, with_base, with_loans, IsWellFormed};
 ghost use Rattle.thread_records.specs.Loans.{has_loan, loan_for, alone, with_prio, without_loan};
 
 use crate::loans;
 use lock_model::{LockNo, Prio, QueueName, ThreadNo};
+use sleep_queues::{SleepQueue, Sleeper};
 use std::alloc::{AllocError, Global};
 use std::marker::Model;
 use turnstile_core::{Loan, Turnstile, Waiter};
+use wait_objects::{Home, Lending, Sleeping};
 
 /// The record of a thread. Its effective priority is the least number of its base and its loans.
 #[derive(Drop)]
@@ -16,7 +19,8 @@ pub struct ThreadRec {
     thread: ThreadNo,
     base: Prio,
     eff: Prio,
-    home: Option<(Box<Turnstile>, Box<Waiter>)>,
+    turnstile: Home<Lending>,
+    sleepq: Home<Sleeping>,
     loans: Option<Box<Loan>>,
     on: Option<QueueName>,
 }
@@ -34,18 +38,19 @@ impl Model for ThreadRec {
 }
 
 impl ThreadRec {
-    /// The record of a thread that has its turnstile and its node at home, no loan, and stands on no
-    /// queue.
+    /// The record of a thread that has its turnstile, its sleep queue and their nodes at home, no loan, and
+    /// stands on no queue.
     pub fn make(alloc: Global, t: ThreadNo, base: Prio) -> Result<Box<ThreadRec>, AllocError>
         ensures { IfOk result (λ b. b.value ≡ made t.0 base.0) }
     {
-        let turnstile = Turnstile::make(alloc, t)?;
-        let node = Waiter::make(alloc, t)?;
+        let turnstile = Home::of(Turnstile::make(alloc, t)?, Waiter::make(alloc, t)?);
+        let sleepq = Home::of(SleepQueue::make(alloc, t)?, Sleeper::make(alloc, t)?);
         let record = ThreadRec {
             thread: t,
             base,
             eff: base,
-            home: Some((turnstile, node)),
+            turnstile,
+            sleepq,
             loans: None,
             on: None,
         };
@@ -60,21 +65,42 @@ impl ThreadRec {
         ensures node { result.1.value.place.thread ≡ self.old.thread }
         ensures left { self.new ≡ record self.old { turnstile = None } }
     {
-        self.home.take().unwrap()
+        self.turnstile.lend()
     }
 
     /// Takes the node back, and the turnstile that it holds. Both places are empty, and the node is
     /// this thread's and stands in no list.
-    pub fn take_back(&mut self, mut node: Box<Waiter>)
+    pub fn take_back(&mut self, node: Box<Waiter>)
         requires away { self.old.turnstile ≡ None }
-        requires holds { IsSome node.value.place.turnstile }
+        requires holds { IsSome node.value.place.object }
         requires own { node.value.place.thread ≡ self.old.thread }
         requires alone { node.value.next ≡ [] }
-        ensures { self.new ≡ record self.old { turnstile = node.value.place.turnstile } }
+        ensures { self.new ≡ record self.old { turnstile = node.value.place.object } }
     {
-        if let Some(turnstile) = node.take_turnstile() {
-            self.home = Some((turnstile, node));
-        }
+        self.turnstile.take_back(node);
+    }
+
+    /// Lends the sleep queue, which is idle, and the empty node. Both are at home.
+    pub fn lend_sleepq(&mut self) -> (Box<SleepQueue>, Box<Sleeper>)
+        requires { IsSome self.old.sleep_queue }
+        ensures sleep_queue { option_map idle_sleepq self.old.sleep_queue ≡ Some result.0.value }
+        ensures empty { IsEmpty result.1.value }
+        ensures node { result.1.value.place.thread ≡ self.old.thread }
+        ensures left { self.new ≡ record self.old { sleep_queue = None } }
+    {
+        self.sleepq.lend()
+    }
+
+    /// Takes the node back, and the sleep queue that it holds. Both places are empty, and the node is
+    /// this thread's and stands in no list.
+    pub fn take_back_sleepq(&mut self, node: Box<Sleeper>)
+        requires away { self.old.sleep_queue ≡ None }
+        requires holds { IsSome node.value.place.object }
+        requires own { node.value.place.thread ≡ self.old.thread }
+        requires alone { node.value.next ≡ [] }
+        ensures { self.new ≡ record self.old { sleep_queue = node.value.place.object } }
+    {
+        self.sleepq.take_back(node);
     }
 
     /// Changes the base, and the effective priority with it.

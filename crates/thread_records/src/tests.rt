@@ -1,6 +1,6 @@
 //! One record, step by step, with values worked out by hand.
 use crate::ThreadRec;
-use lock_model::{LockNo, Prio, QueueName, Side, ThreadNo};
+use lock_model::{ChanNo, LockNo, Prio, QueueName, Side, ThreadNo};
 use std::test::Fail;
 use turnstile_core::{Loan, Turnstile};
 
@@ -19,6 +19,18 @@ fn lends_and_takes_back(rt: HostRuntime) -> Result<(), Fail> {
     first.take_back(taken.pop().unwrap());
     assert_eq!(rt; second.lend_turnstile().0.number(), ThreadNo(4));
     assert_eq!(rt; first.lend_turnstile().0.number(), ThreadNo(3));
+    Ok(())
+}
+
+#[test]
+fn sleeps_and_takes_back(rt: HostRuntime) -> Result<(), Fail> {
+    let mut rec = ThreadRec::make(rt.alloc(), ThreadNo(3), Prio(100))?;
+    let (mut head, node) = rec.lend_sleepq();
+    head.begin(QueueName::Chan(ChanNo(0)), node, Prio(100), Side::X);
+    let mut taken = head.broadcast(Side::X);
+    taken.fill_last(head);
+    rec.take_back_sleepq(taken.pop().unwrap());
+    assert_eq!(rt; rec.lend_sleepq().0.number(), ThreadNo(3));
     Ok(())
 }
 

@@ -1,27 +1,2 @@
--- The waiters that were taken off a turnstile, in order, each with the turnstile that it takes back (FreeBSD's
--- subr_turnstile.c). Who gets which one is told by the lists of a queue in lock_model.
-use Rattle.std.specs.Prelude.{◌≡◌, ℕ, List, [], ◌∷◌, Option, None, Some, IsSome}
-use Rattle.lock_model.specs.Queues.{Waiter as Waiting}
-use Rattle.turnstile_core.specs.Seen.{Place}
-
--- a waiter and the turnstile that it takes back
-abbrev pub place : Waiting × Option ℕ → Place
-place d = record { thread = d.0.thread; kept = d.0.kept; turnstile = d.1 }
-
--- the last waiter with a turnstile
-abbrev pub with_last : ℕ → List Place → List Place
-with_last n [] = []
-with_last n (p ∷ []) = record p { turnstile = Some n } ∷ []
-with_last n (p ∷ q ∷ ps) = p ∷ with_last n (q ∷ ps)
-
--- there is a last waiter, and it has no turnstile
-abbrev pub LastHasNone : List Place → Type 0
-LastHasNone [] = ⊥
-LastHasNone (p ∷ []) = p.turnstile ≡ None
-LastHasNone (p ∷ q ∷ ps) = LastHasNone (q ∷ ps)
-
--- each waiter but the last has a turnstile
-abbrev pub AllButLastHold : List Place → Type 0
-AllButLastHold [] = Unit {0}
-AllButLastHold (p ∷ []) = Unit {0}
-AllButLastHold (p ∷ q ∷ ps) = IsSome p.turnstile × AllButLastHold (q ∷ ps)
+-- The waiters that were taken off a turnstile, in order, each with the turnstile that it takes back.
+pub use Rattle.wait_objects.specs.Lists.{place, with_last, LastHasNone, AllButLastHold}

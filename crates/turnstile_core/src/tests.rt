@@ -8,7 +8,7 @@ use std::test::Fail;
 
 /// Threads 0, 1 and 2 wait for lock 0: the first with 100, the others with 50.
 fn three_waiters(alloc: Global) -> Result<Box<Turnstile>, AllocError>
-    ensures { IfOk result (λ b. b.value ≡ record { contents = record { number = 0; lock = Some 0; exclusive = record { thread = 1; kept = 50 } ∷ record { thread = 2; kept = 50 } ∷ record { thread = 0; kept = 100 } ∷ []; shared = []; free = 2 ∷ 1 ∷ []; owner = None; loan_home = true }; next = [] }) }
+    ensures { IfOk result (λ b. b.value ≡ record { contents = record { number = 0; exclusive = record { thread = 1; kept = 50 } ∷ record { thread = 2; kept = 50 } ∷ record { thread = 0; kept = 100 } ∷ []; shared = []; free = 2 ∷ 1 ∷ []; own = record { lock = Some 0; owner = None; loan_home = true } }; next = [] }) }
 {
     let mut head = Turnstile::make(alloc, ThreadNo(0))?;
     let first = Waiter::make(alloc, ThreadNo(0))?;

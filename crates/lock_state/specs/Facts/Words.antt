@@ -1,5 +1,5 @@
 -- Facts of lock words and of their holders.
-use Rattle.std.specs.Prelude.{◌≡◌, ◌≢◌, ℕ, ◌<◌, Bool, false, ◌==◌, true, not, ◌||◌, List, [], ◌∷◌}
+use Rattle.std.specs.Prelude.{◌≡◌, ◌≢◌, ℕ, ◌<◌, Bool, false, ◌==◌, not, ◌||◌, List, [], ◌∷◌}
 use Rattle.lock_model.specs.Counts.{sum_below}
 use Rattle.lock_model.specs.Words.{Word, Holder, Free, HeldBy, SharedBy, sharers}
 use Rattle.lock_model.specs.Holds.{is_exclusive, Hold, NotHeld, Holds, is_unheld}

@@ -4,7 +4,7 @@ use Rattle.lock_model.specs.Words.{is_free, is_turnstile, shows_waiters, claimed
 use Rattle.lock_state.specs.Steps.LockWords.{IsActing, effective_of}
 use Rattle.lock_state.specs.Steps.Turnstiles.{walk_up}
 use Rattle.lock_model.specs.Config.{Config}
-use Rattle.lock_state.specs.State.{State, Walk, NoWalk, AtLock, AtThread, Loan, HeldLock, put, put_at, put_queue}
+use Rattle.lock_state.specs.State.{State, Walk, NoWalk, AtLock, AtThread, Loan, put, put_at, put_queue}
 use Rattle.lock_model.specs.Holds.{NotHeld, Holds}
 use Rattle.lock_model.specs.Queues.{lock_queue, names_turnstile, stands, least_of, with_kept}
 use Rattle.lock_model.specs.declared.plan.Kind.TheVariants.{Rw}

@@ -6,7 +6,7 @@ use Rattle.lock_model.specs.Words.{Word, word_of, admits, is_plain, gained, drop
 use Rattle.lock_model.specs.History.{added, open_in, left_in}
 use Rattle.lock_model.specs.Config.{Config}
 use Rattle.lock_model.specs.Events.{of_sleep, is_falling}
-use Rattle.lock_state.specs.State.{State, Wait, Running, Queued, Woken, OrderRefused, SleepHalted, Loan, Wake, Look, Round, HeldLock, put, put_at}
+use Rattle.lock_state.specs.State.{State, Wait, Running, Queued, Woken, OrderRefused, SleepHalted, Loan, Wake, Round, HeldLock, put, put_at}
 use Rattle.lock_model.specs.Holds.{Hold, NotHeld, Holds}
 use Rattle.lock_model.specs.declared.plan.Kind.TheVariants.{Mtx}
 use Rattle.lock_model.specs.declared.plan.QueueName.TheVariants.{Lock, Chan}

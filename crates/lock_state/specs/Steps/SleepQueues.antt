@@ -1,6 +1,6 @@
 -- Steps that put a thread on a sleep queue, of an sx lock or of a condition variable or channel, and take sleepers
 -- off again.
-use Rattle.std.specs.Prelude.{◌≡◌, ◌⊎◌, ℕ, ◌<◌, Bool, true, false, ◌==◌, nat_lt, if◌then◌else◌, List, [], ◌∷◌, ◌++◌, map, Option, Some, None}
+use Rattle.std.specs.Prelude.{◌≡◌, ◌⊎◌, ℕ, ◌<◌, Bool, true, false, List, [], ◌∷◌, map, Some, None}
 use Rattle.lock_model.specs.Words.{admits, is_free, is_turnstile, without_one, shows_waiters, entered, opened, side_woken}
 use Rattle.lock_model.specs.History.{open_in}
 use Rattle.lock_model.specs.Config.{Config}
@@ -8,12 +8,11 @@ use Rattle.lock_model.specs.Events.{sleeps_on}
 use Rattle.lock_state.specs.Steps.LockWords.{AllOpen, without_held}
 use Rattle.lock_state.specs.State.{State, Queued, NoWalk, put, put_at, put_queue}
 use Rattle.lock_model.specs.Holds.{NotHeld, Holds}
-use Rattle.lock_model.specs.Queues.{Waiter, lock_queue, chan_queue, side_of, list_of, with_list, head_with, free_with, dealt, free_after, head_after, without}
+use Rattle.lock_model.specs.Queues.{Waiter, lock_queue, chan_queue, side_of, list_of, with_list, head_with, free_with, dealt, free_after, head_after}
+pub use Rattle.lock_model.specs.Queues.{with_last, better, best_of, one_or_none, without_best, taken_off, left_on}
 use Rattle.lock_model.specs.declared.plan.Mode.{Mode}
 use Rattle.lock_model.specs.declared.plan.Side.{Side}
 use Rattle.lock_model.specs.declared.plan.QueueName.{QueueName}
-use Rattle.lock_model.specs.declared.event.Event.{Event}
-use Rattle.lock_model.specs.declared.event.Event.TheVariants.{Sleeps}
 use Rattle.lock_model.specs.declared.event.Entry.{Entry}
 
 -- 1. An enter on an sx lock: as on a turnstile, but the thread stands at the tail, ranked by its base priority, and
@@ -32,10 +31,6 @@ pub record MayEnterSleep (c : Config) (s : State) (t l : ℕ) (mode : Mode) (x :
   pub wants : (s.wanted t ≡ Some l) ⊎ (s.wanted t ≡ None)
   pub no_walk : s.walk t ≡ NoWalk
   pub sections : AllOpen c s t
-
--- a list with one more at its tail
-abbrev pub with_last : Waiter → List Waiter → List Waiter
-with_last w ws = ws ++ w ∷ []
 
 -- the thread stands at the tail of its side, and its sleep queue is lent
 unfoldable pub after_enter_sleep : State → ℕ → ℕ → Mode → ℕ → State
@@ -123,34 +118,6 @@ after_add s t d x =
     }
 
 -- 4. A wake: the best sleeper of a channel, or all, go to the marked list
-
--- the better of a sleeper and the best behind it: of equals the one that has slept longest
-abbrev pub better : Waiter → Option Waiter → Waiter
-better w None = w
-better w (Some v) = if nat_lt v.kept w.kept then v else w
-
--- the most important sleeper
-abbrev pub best_of : List Waiter → Option Waiter
-best_of [] = None
-best_of (w ∷ ws) = Some (better w (best_of ws))
-
-abbrev pub one_or_none : Option Waiter → List Waiter
-one_or_none None = []
-one_or_none (Some w) = w ∷ []
-
-abbrev pub without_best : Option Waiter → List Waiter → List Waiter
-without_best None ws = ws
-without_best (Some w) ws = without w.thread ws
-
--- who is taken off
-abbrev pub taken_off : Bool → List Waiter → List Waiter
-taken_off true ws = ws
-taken_off false ws = one_or_none (best_of ws)
-
--- who stays
-abbrev pub left_on : Bool → List Waiter → List Waiter
-left_on true ws = []
-left_on false ws = without_best (best_of ws) ws
 
 -- what it asks
 pub record MayWake (c : Config) (s : State) (t d : ℕ) (all : Bool) : Type 0 where

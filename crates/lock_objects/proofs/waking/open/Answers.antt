@@ -1,6 +1,6 @@
 use Rattle.std.proofs.Common.{rules, ◌≡◌, sym, ap, subst, ◌∙◌, None, true}
 use Rattle.chain_table.specs.Links.{map_is_empty}
-use Rattle.chain_table.specs.Turnstiles.{bare}
+use Rattle.chain_table.specs.Objects.{bare}
 use Rattle.lock_model.specs.Counts.{is_empty}
 use Rattle.lock_model.specs.Queues.{lock_queue}
 use Rattle.turnstile_core.specs.Changes.{all_waiters}

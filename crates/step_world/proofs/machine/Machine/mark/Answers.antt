@@ -38,7 +38,7 @@ returns-in-Some-clause-step c k ks d s h lawful g =
     let at = read c.args.t.0 c.from.result c.index_mut-thread.result.now h.threads g.thread c.from.ensures c.index_mut-thread.ensures.value in
     let number = c.from-in-Some.ensures ∙ c.thread.ensures ∙ ap (λ v. v.place.thread) c.deref.ensures in
     let there = read_behind h lawful g at c.in-Some.ensures.some.0 c.from-in-Some.result c.from.result c.index_mut-woken.result.now c.from.ensures number c.index_mut-woken.ensures.value in
-    let its_record = c.wake.ensures ∙ ap (λ (r : Record). record r { turnstile = c.in-Some.node.value.place.turnstile; on = None }) c.deref_mut.ensures.value in
+    let its_record = c.wake.ensures ∙ ap (λ (r : Record). record r { turnstile = c.in-Some.node.value.place.object; on = None }) c.deref_mut.ensures.value in
     rw (c.from.ensures, its_record, number) (marked_shown h lawful g at c.in-Some.ensures.some.0 there)
 
 pub returns-in-Some-clause-progress : goal.returns-in-Some-clause-progress
@@ -47,8 +47,8 @@ returns-in-Some-clause-progress c =
     let at = read c.args.t.0 c.from.result c.index_mut-thread.result.now x.2.threads x.4.2.thread c.from.ensures c.index_mut-thread.ensures.value in
     let number = c.from-in-Some.ensures ∙ c.thread.ensures ∙ ap (λ v. v.place.thread) c.deref.ensures in
     let there = read_behind x.2 x.3 x.4.2 at c.in-Some.ensures.some.0 c.from-in-Some.result c.from.result c.index_mut-woken.result.now c.from.ensures number c.index_mut-woken.ensures.value in
-    let its_record = c.wake.ensures ∙ ap (λ (r : Record). record r { turnstile = c.in-Some.node.value.place.turnstile; on = None }) c.deref_mut.ensures.value in
-    rw (c.from.ensures, its_record, number) (asides_stay c.args.self.now c.args.t.0 c.in-Some.node.value.place.thread c.index_mut-thread.result.now c.index_mut-woken.result.now c.pop.new.self c.in-Some.node.value.place.turnstile c.index_mut-thread.result.now.marked_from at there)
+    let its_record = c.wake.ensures ∙ ap (λ (r : Record). record r { turnstile = c.in-Some.node.value.place.object; on = None }) c.deref_mut.ensures.value in
+    rw (c.from.ensures, its_record, number) (asides_stay c.args.self.now c.args.t.0 c.in-Some.node.value.place.thread c.index_mut-thread.result.now c.index_mut-woken.result.now c.pop.new.self c.in-Some.node.value.place.object c.index_mut-thread.result.now.marked_from at there)
 
 pub returns-in_default-clause-step : goal.returns-in_default-clause-step
 returns-in_default-clause-step c k ks d s h lawful g =

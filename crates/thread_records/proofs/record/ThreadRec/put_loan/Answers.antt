@@ -21,7 +21,6 @@ invariant_of-self c =
         effective_is_least = c.min.ensures ∙ ap (min c.first.inside.prio.0) (c.self.invariant.well_formed.effective_is_least ∙ ap (λ o. least_with c.self.inside.base.0 (prios (linked_terms o))) (sym c.take.ensures.value));
         one_loan_each = one_each_more terms (linked_terms c.take.result) (absent_too terms _ _ _ same others c.requires.absent) one;
       };
-      home_idle = c.self.invariant.home_idle;
-      home_empty = c.self.invariant.home_empty;
-      home_own = c.self.invariant.home_own;
+      own_waiter = c.self.invariant.own_waiter;
+      own_sleeper = c.self.invariant.own_sleeper;
     }

@@ -1,0 +1,4 @@
+pub mod Seen
+pub mod Lists
+pub mod Changes
+pub mod Linked

@@ -1,4 +1,0 @@
-pub mod WellFormed
-pub mod Best
-pub mod Dealt
-pub mod Sound

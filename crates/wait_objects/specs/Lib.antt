@@ -1,0 +1,10 @@
+pub mod Seen
+pub mod Lists
+pub mod Changes
+pub mod Linked
+pub mod Inside
+pub mod Homes
+pub mod Sizes
+pub mod Falls
+pub mod Turnstiles
+pub mod SleepQueues

@@ -1,0 +1,27 @@
+-- Sleep queues as their callers see them.
+use Rattle.std.specs.Prelude.{◌≡◌, ℕ, [], None}
+use Rattle.wait_objects.specs.Seen as object
+use Rattle.wait_objects.specs.declared.sleeping.Sleeping.{Sleeping}
+
+-- a sleep queue without its link
+abbrev pub Contents : Type 0
+Contents = object.Contents Sleeping
+
+-- a sleep queue, with those that its link leads to, in order
+abbrev pub SleepQueue : Type 0
+SleepQueue = object.Object Sleeping
+
+-- no name
+abbrev pub home : Sleeping
+home = record { name = None }
+
+-- an idle sleep queue by its number
+abbrev pub idle : ℕ → SleepQueue
+idle n = object.idle_object home n
+
+-- nothing but its name keeps a sleep queue from being idle
+pub record IsLeft (q : SleepQueue) : Type 0 where
+  pub no_exclusive : q.contents.exclusive ≡ []
+  pub no_shared : q.contents.shared ≡ []
+  pub no_free : q.contents.free ≡ []
+  pub no_next : q.next ≡ []
