@@ -1,32 +1,29 @@
 -- An accepted script's plan is proper: it keeps the limits, its schedule names its threads, and the operations of each thread fit what the
 -- thread holds. Each line that has no fault keeps what is known sound.
-use Rattle.std.proofs.Common.{◌≡◌, ℕ, suc, ◌+◌, ◌<◌, ◌≤◌, Bool, true, false, not, cond, List, [], ◌∷◌, ◌++◌, length, Option, Some, None, refl, sym, ap, subst, ◌∙◌, arith, rules, length-append}
-use Rattle.std.specs.Prelude.{map, sum, codes, option_and_then, option_map, option_to_list, is_none}
-use Rattle.std.specs.List.{All, AllByRecursion, list_any}
+use Rattle.std.proofs.Common.{◌≡◌, ℕ, suc, ◌+◌, ◌<◌, ◌≤◌, Bool, true, false, not, cond, List, [], ◌∷◌, ◌++◌, length, Option, Some, None, refl, sym, ap, subst, ◌∙◌, arith, length-append}
+use Rattle.std.specs.Prelude.{map, sum, codes, option_and_then, option_map, option_to_list, is_none, is_some, unwrap_or}
+use Rattle.std.specs.List.{All}
 use Rattle.std.specs.Option.{IfSome}
-use Rattle.std.specs.Map.{lookup, values_of}
-use Rattle.std.proofs.lemmas.Map.Views.{IfSome-lookup_from_All}
+use Rattle.std.specs.Map.{lookup}
 use Rattle.std.proofs.lemmas.Option.{none-some, same_Some, option_and_then_some}
 use Rattle.std.proofs.lemmas.Bool.{and_parts, ltb-true, leb-true, false≢true}
 use Rattle.std.proofs.lemmas.List.{length-set}
-use Rattle.std.proofs.lemmas.List.Elements.{All-from_recursion, All-nil, All-cons, All-head, All-tail, All-same, All-push, All-weaker, All-append}
-use Rattle.lock_model.specs.Limits.{most_threads, most_locks, most_operations, most_scheduled}
+use Rattle.std.proofs.lemmas.List.Elements.{All-nil, All-cons, All-head, All-tail, All-same, All-push, All-weaker, All-append}
+use Rattle.lock_model.specs.Limits.{most_threads, most_locks, most_channels, most_operations, most_scheduled}
 use Rattle.lock_model.specs.Counts.{is_empty}
 use Rattle.lock_model.specs.Names.{is_name}
 use Rattle.lock_model.specs.Operations.{operation_tests, Fit, IsProper}
-use Rattle.lock_model.specs.Words.{is_turnstile}
 use Rattle.lock_model.specs.Tests.{test, Passes, where_some, first_fault}
 use Rattle.lock_model.proofs.LeastCodes.{passed, passed_both}
 use Rattle.lock_model.specs.Script.{Reading, Reads, Faulty, told, plan_of, faulty_or, reading_from, reading_of_lines, reading_of, IsAccepted}
-use Rattle.lock_model.specs.Script.Lines.{lines_of, words_of, is_same, has_meaning, priority_of, number_of}
-use Rattle.lock_model.specs.Script.Statements.{Statement, Declares, Begins, Ends, Schedules, IsDone, Operates, EndsTry, Operation, Form, Alone, WithOne, WithTwo, WithThree, WithSome, forms, form_of, said, said_by, statement_of}
+use Rattle.lock_model.specs.Script.Lines.{lines_of, is_same, has_meaning, priority_of, number_of}
+use Rattle.lock_model.specs.Script.Statements.{Statement, Declares, DeclaresChan, Begins, Ends, Schedules, IsDone, Operates, EndsTry, Operation, statement_of}
 use Rattle.lock_model.specs.Script.Statements as say
-use Rattle.lock_model.specs.Script.Learning.{Known, OpenThread, Block, nothing_known, learned, with_lock, with_thread, with_end, with_operation, with_endtry, without_block, op_of, with_key, with_number, lock_named, thread_named, threads_named, thread_of, declared_as, class_number}
-use Rattle.lock_model.specs.Script.Faults.{byte_tests, word_tests, place_tests, name_tests, statement_stages, line_fault, behind_line, learned_from, operation_words, tests_in_thread, endtry_tests, is_in_block, has_room}
+use Rattle.lock_model.specs.Script.Learning.{Known, OpenThread, Block, nothing_known, learned, with_lock, with_chan, with_thread, with_end, with_operation, with_endtry, without_block, op_of, with_key, with_number, lock_of, lock_named, chan_named, thread_named, threads_named, thread_of, declared_as, class_number}
+use Rattle.lock_model.specs.Script.Faults.{byte_tests, word_tests, place_tests, name_tests, statement_stages, line_fault, behind_line, learned_from, operation_words, tests_in_thread, endtry_tests, is_before_threads, is_in_block, has_room}
 use Rattle.lock_model.specs.declared.plan.Declared.{Declared}
 use Rattle.lock_model.specs.declared.plan.Declared.TheVariants.{Lock, Chan, Thread}
 use Rattle.lock_model.specs.declared.plan.Kind.{Kind}
-use Rattle.lock_model.specs.declared.plan.Kind.TheVariants.{Mtx}
 use Rattle.lock_model.specs.declared.plan.ThreadDecl.{ThreadDecl}
 use Rattle.lock_model.specs.declared.plan.LockDecl.{LockDecl}
 use Rattle.lock_model.specs.declared.plan.ChanDecl.{ChanDecl}
@@ -34,94 +31,63 @@ use Rattle.lock_model.specs.declared.numbers.LockNo.{LockNo}
 use Rattle.lock_model.specs.declared.numbers.ThreadNo.{ThreadNo}
 use Rattle.lock_model.specs.declared.plan.Plan.{Plan}
 use Rattle.lock_model.specs.declared.plan.Op.{Op}
-use Rattle.lock_model.specs.declared.plan.Op.TheVariants.{Take, Try, EndTry, Release, Set, Add, Get, Base}
+use Rattle.lock_model.specs.declared.plan.Op.TheVariants.{Take, Try, EndTry, Release, Set, Add, Get, Base, Sleep, WakeOne, WakeAll}
 use Rattle.lock_laws.proofs.AcceptedBlocks.{IsSoundOpen, IsNew, begin_sound, operation_push, endtry_sound, end_fits}
 use Rattle.lock_laws.proofs.AcceptedLists.{none_is, empty_is, stages_pass, sum_push, read_all}
 
--- 1. Names of threads
+-- 1. Names
 
--- the number of a declared thread is below how many have begun
-abbrev IsWithin : ℕ → Declared → Type 0
-IsWithin n (Lock l) = Unit {0}
-IsWithin n (Chan c) = Unit {0}
-IsWithin n (Thread t) = t.0 < n
+-- the number of a declared lock is below how many there are, and that of a thread below how many have begun
+abbrev IsWithin : ℕ → ℕ → Declared → Type 0
+IsWithin locks threads (Lock l) = l.0 < locks
+IsWithin locks threads (Chan c) = Unit {0}
+IsWithin locks threads (Thread t) = t.0 < threads
 
-abbrev AreWithin : ℕ → List (List ℕ × Declared) → Type 0
-AreWithin n es = All (λ e. IsWithin n e.1) es
+abbrev AreWithin : ℕ → ℕ → List (List ℕ × Declared) → Type 0
+AreWithin locks threads es = All (λ e. IsWithin locks threads e.1) es
 
-within_more : (n m : ℕ) → n ≤ m → (d : Declared) → IsWithin n d → IsWithin m d
-within_more n m l (Lock a) h = tt
-within_more n m l (Chan c) h = tt
-within_more n m l (Thread t) h = omega arith
+within_more : (l m n o : ℕ) → l ≤ m → n ≤ o → (es : List (List ℕ × Declared)) → AreWithin l n es → AreWithin m o es
+within_more l m n o locks threads es h = All-weaker (λ e. IsWithin l n e.1) (λ e. IsWithin m o e.1) (λ e. go e.1) es h
+  where
+    go : (d : Declared) → IsWithin l n d → IsWithin m o d
+    go (Lock a) h = omega arith
+    go (Chan c) h = tt
+    go (Thread t) h = omega arith
 
-found_within : (n : ℕ) (p : List ℕ → Bool) (es : List (List ℕ × Declared)) (d : Declared) → AreWithin n es → lookup p es ≡ Some d → IsWithin n d
-found_within n p [] d h e = absurd (none-some d e)
-found_within n p (x ∷ es) d h e = elim (p x.0) as (λ b. cond b (Some x.1) (lookup p es) ≡ Some d → IsWithin n d) [
-  | true ↦ λ q. subst (IsWithin n) (same_Some x.1 d q) (All-head (λ e. IsWithin n e.1) x es h)
-  | false ↦ λ q. found_within n p es d (All-tail (λ e. IsWithin n e.1) x es h) q
+found_within : (locks threads : ℕ) (p : List ℕ → Bool) (es : List (List ℕ × Declared)) (d : Declared) → AreWithin locks threads es → lookup p es ≡ Some d → IsWithin locks threads d
+found_within locks threads p [] d h e = absurd (none-some d e)
+found_within locks threads p (x ∷ es) d h e = elim (p x.0) as (λ b. cond b (Some x.1) (lookup p es) ≡ Some d → IsWithin locks threads d) [
+  | true ↦ λ q. subst (IsWithin locks threads) (same_Some x.1 d q) (All-head (λ e. IsWithin locks threads e.1) x es h)
+  | false ↦ λ q. found_within locks threads p es d (All-tail (λ e. IsWithin locks threads e.1) x es h) q
 ] e
-
-thread_is_within : (n : ℕ) (d : Declared) (t : ThreadNo) → IsWithin n d → thread_of d ≡ Some t → t.0 < n
-thread_is_within n (Lock a) t h e = absurd (none-some t e)
-thread_is_within n (Chan a) t h e = absurd (none-some t e)
-thread_is_within n (Thread a) t h e = subst (λ (k : ThreadNo). k.0 < n) (same_Some a t e) h
 
 guarded : {A : Type 0} (b : Bool) (x : Option A) (y : A) → cond b x None ≡ Some y → x ≡ Some y
 guarded true x y e = e
 guarded false x y e = absurd (none-some y e)
 
-named_within : (n : ℕ) (k : Known) (name : List ℕ) → AreWithin n k.names → All (λ t. t.0 < n) (option_to_list (thread_named k name))
-named_within n k name h = go (thread_named k name) refl
-  where
-    go : (o : Option ThreadNo) → thread_named k name ≡ o → All (λ t. t.0 < n) (option_to_list o)
-    go None e = All-nil (λ (t : ThreadNo). t.0 < n)
-    go (Some t) e =
-        let named = guarded (is_name name) (option_and_then thread_of (declared_as k name)) t e in
-        All-cons (λ (t : ThreadNo). t.0 < n) t [] (option_and_then_some thread_of (declared_as k name) t named (λ d f g. thread_is_within n d t (found_within n (is_same name) k.names d h f) g)) (All-nil (λ (t : ThreadNo). t.0 < n))
+-- what a name stands for is within the same bounds
+module _ (locks threads : ℕ) (k : Known) (name : List ℕ) (h : AreWithin locks threads k.names) where
+  named_so : {A : Type 0} (f : Declared → Option A) (P : A → Type 0) (x : A) → ((d : Declared) → IsWithin locks threads d → f d ≡ Some x → P x)
+      → cond (is_name name) (option_and_then f (declared_as k name)) None ≡ Some x → P x
+  named_so f P x its e = option_and_then_some f (declared_as k name) x (guarded (is_name name) _ x e) (λ d there q. its d (found_within locks threads (is_same name) k.names d h there) q)
 
--- 2. Locks of a script stand on turnstiles: no first word declares another kind
+  lock_within : (l : LockNo) → lock_named k name ≡ Some l → l.0 < locks
+  lock_within l e = named_so lock_of (λ l. l.0 < locks) l its e
+    where
+      its : (d : Declared) → IsWithin locks threads d → lock_of d ≡ Some l → l.0 < locks
+      its (Lock a) w q = subst (λ (a : LockNo). a.0 < locks) (same_Some a l q) w
+      its (Chan c) w q = absurd (none-some l q)
+      its (Thread t) w q = absurd (none-some l q)
 
-abbrev DeclaresTurnstile : Statement → Type 0
-DeclaresTurnstile (Declares kind name class) = is_turnstile kind ≡ true
-DeclaresTurnstile (Begins name prio) = Unit {0}
-DeclaresTurnstile Ends = Unit {0}
-DeclaresTurnstile (Schedules names) = Unit {0}
-DeclaresTurnstile IsDone = Unit {0}
-DeclaresTurnstile (Operates o) = Unit {0}
-DeclaresTurnstile EndsTry = Unit {0}
+  thread_within : (t : ThreadNo) → thread_named k name ≡ Some t → t.0 < threads
+  thread_within t e = named_so thread_of (λ t. t.0 < threads) t its e
+    where
+      its : (d : Declared) → IsWithin locks threads d → thread_of d ≡ Some t → t.0 < threads
+      its (Lock l) w q = absurd (none-some t q)
+      its (Chan c) w q = absurd (none-some t q)
+      its (Thread a) w q = subst (λ (a : ThreadNo). a.0 < threads) (same_Some a t q) w
 
--- whatever words stand behind the first one
-abbrev FormsTurnstile : Form → Type 0
-FormsTurnstile (Alone s) = DeclaresTurnstile s
-FormsTurnstile (WithOne f) = (a : List ℕ) → DeclaresTurnstile (f a)
-FormsTurnstile (WithTwo f) = (a b : List ℕ) → DeclaresTurnstile (f a b)
-FormsTurnstile (WithThree f) = (a b c : List ℕ) → DeclaresTurnstile (f a b c)
-FormsTurnstile (WithSome f) = (words : List (List ℕ)) → DeclaresTurnstile (f words)
-
-all_forms : AllByRecursion FormsTurnstile (values_of forms)
-all_forms = search rules
-
-said_turnstile : (form : Form) (words : List (List ℕ)) → FormsTurnstile form → IfSome (said form words) DeclaresTurnstile
-said_turnstile (Alone s) [] h = h
-said_turnstile (WithOne f) (a ∷ []) h = h a
-said_turnstile (WithTwo f) (a ∷ b ∷ []) h = h a b
-said_turnstile (WithThree f) (a ∷ b ∷ c ∷ []) h = h a b c
-said_turnstile (WithSome f) (a ∷ words) h = h (a ∷ words)
-said_turnstile form words h = tt
-
-line_turnstile : (line : List ℕ) → IfSome (statement_of line) DeclaresTurnstile
-line_turnstile line = go (list_any is_empty (words_of line)) (words_of line)
-  where
-    by : (form : Option Form) (words : List (List ℕ)) → IfSome form FormsTurnstile → IfSome (option_and_then (λ f. said f words) form) DeclaresTurnstile
-    by None words h = tt
-    by (Some form) words h = said_turnstile form words h
-
-    go : (b : Bool) (words : List (List ℕ)) → IfSome (cond b None (said_by words)) DeclaresTurnstile
-    go true words = tt
-    go false [] = tt
-    go false (word ∷ words) = by (form_of word) words (IfSome-lookup_from_All FormsTurnstile (is_same word) forms (All-from_recursion FormsTurnstile (values_of forms) all_forms))
-
--- 3. What the lines so far make known is sound
+-- 2. What the lines so far make known is sound
 
 abbrev OpenIsSound : List LockDecl → List ChanDecl → Option OpenThread → Type 0
 OpenIsSound locks chans None = Unit {0}
@@ -141,10 +107,10 @@ abbrev begun : Known → ℕ
 begun k = length k.threads + opened k.open_thread
 
 record IsSound (k : Known) : Type 0 where
-  names : AreWithin (begun k) k.names
+  names : AreWithin (length k.locks) (begun k) k.names
   locks : length k.locks ≤ most_locks
-  turnstiles : All (λ d. is_turnstile d.kind ≡ true) k.locks
-  chans : k.chans ≡ []
+  chans : length k.chans ≤ most_channels
+  chan_locks : All (λ d. d.lock.0 < length k.locks) k.chans
   threads : begun k ≤ most_threads
   fits : All (λ d. Fit k.locks k.chans d.ops) k.threads
   open_thread : OpenIsSound k.locks k.chans k.open_thread
@@ -157,8 +123,8 @@ nothing_sound : IsSound nothing_known
 nothing_sound = record {
   names = All-nil _;
   locks = omega arith;
-  turnstiles = All-nil _;
-  chans = refl;
+  chans = omega arith;
+  chan_locks = All-nil _;
   threads = omega arith;
   fits = All-nil _;
   open_thread = tt;
@@ -168,7 +134,7 @@ nothing_sound = record {
   schedule = All-nil _;
 }
 
--- 4. Each statement keeps that
+-- 3. Each statement keeps that
 
 -- where no thread is open
 not_open : (locks : List LockDecl) (chans : List ChanDecl) (o : Option OpenThread) → o ≡ None → OpenIsSound locks chans o
@@ -185,21 +151,40 @@ none_left : (bs : List Block) → not (not (is_empty bs)) ≡ true → bs ≡ []
 none_left [] e = refl
 none_left (b ∷ bs) e = absurd (false≢true e)
 
-lock_sound : (k : Known) (kind : Kind) (name class : List ℕ) → is_turnstile kind ≡ true → IsSound k → Passes (place_tests k (Declares kind name class)) → Passes (name_tests k (Declares kind name class)) → IsSound (with_lock k kind name class)
-lock_sound k kind name class turnstile h place names =
+lock_sound : (k : Known) (kind : Kind) (name class : List ℕ) → IsSound k → Passes (place_tests k (Declares kind name class)) → Passes (name_tests k (Declares kind name class)) → IsSound (with_lock k kind name class)
+lock_sound k kind name class h place names =
     let before = and_parts _ _ (passed _ _ place).0 in
     let room = (passed _ _ (passed _ _ (passed _ _ (passed _ _ names).1).1).1).0 in
     let lock : LockDecl = record { name = name; kind = kind; class = record { 0 = class_number k.classes class } } in
     let size : length (k.locks ++ lock ∷ []) ≡ length k.locks + 1 = length-append k.locks _ in
     let few : length k.locks < most_locks = ltb-true (length k.locks) most_locks room in
+    let n : ℕ = length (k.locks ++ lock ∷ []) in
     record {
-      names = All-push (λ e. IsWithin (begun k) e.1) k.names (name, Lock (record { 0 = length k.locks })) h.names tt;
+      names = All-push (λ e. IsWithin n (begun k) e.1) k.names (name, Lock (record { 0 = length k.locks })) (within_more (length k.locks) n (begun k) (begun k) (omega (arith, size)) (omega arith) k.names h.names) (omega (arith, size));
       locks = omega (arith, size, few);
-      turnstiles = All-push (λ d. is_turnstile d.kind ≡ true) k.locks lock h.turnstiles turnstile;
       chans = h.chans;
+      chan_locks = All-weaker (λ d. d.lock.0 < length k.locks) (λ d. d.lock.0 < n) (λ d b. omega (arith, size, b)) k.chans h.chan_locks;
       threads = h.threads;
       fits = All-same (λ d. Fit (k.locks ++ lock ∷ []) k.chans d.ops) k.threads [] (empty_is k.threads before.1) (All-nil _);
       open_thread = not_open (k.locks ++ lock ∷ []) k.chans k.open_thread (none_is k.open_thread before.0);
+      operations = h.operations;
+      counted = h.counted;
+      scheduled = h.scheduled;
+      schedule = h.schedule;
+    }
+
+chan_sound : (k : Known) (cond : Bool) (name : List ℕ) (l : LockNo) → IsSound k → is_before_threads k ≡ true → l.0 < length k.locks → length k.chans < most_channels → IsSound (with_chan k cond name l)
+chan_sound k cond name l h place within few =
+    let before = and_parts _ _ place in
+    let chan : ChanDecl = record { name = name; cond = cond; lock = l } in
+    record {
+      names = All-push (λ e. IsWithin (length k.locks) (begun k) e.1) k.names (name, Chan (record { 0 = length k.chans })) h.names tt;
+      locks = h.locks;
+      chans = omega (arith, length-append k.chans (chan ∷ []), few);
+      chan_locks = All-push (λ d. d.lock.0 < length k.locks) k.chans chan h.chan_locks within;
+      threads = h.threads;
+      fits = All-same (λ d. Fit k.locks (k.chans ++ chan ∷ []) d.ops) k.threads [] (empty_is k.threads before.1) (All-nil _);
+      open_thread = not_open k.locks (k.chans ++ chan ∷ []) k.open_thread (none_is k.open_thread before.0);
       operations = h.operations;
       counted = h.counted;
       scheduled = h.scheduled;
@@ -212,10 +197,10 @@ thread_sound k name base h none few =
     let before : begun k ≡ n = none_begun k none in
     let nothing : operations_of_open k.open_thread ≡ 0 = ap operations_of_open none in
     record {
-      names = All-push (λ e. IsWithin (n + 1) e.1) k.names (name, Thread (record { 0 = n })) (All-weaker (λ e. IsWithin (begun k) e.1) (λ e. IsWithin (n + 1) e.1) (λ e. within_more (begun k) (n + 1) (omega (arith, before)) e.1) k.names h.names) (omega arith);
+      names = All-push (λ e. IsWithin (length k.locks) (n + 1) e.1) k.names (name, Thread (record { 0 = n })) (within_more (length k.locks) (length k.locks) (begun k) (n + 1) (omega arith) (omega (arith, before)) k.names h.names) (omega arith);
       locks = h.locks;
-      turnstiles = h.turnstiles;
       chans = h.chans;
+      chan_locks = h.chan_locks;
       threads = omega (arith, few);
       fits = h.fits;
       open_thread = begin_sound k.locks k.chans name base;
@@ -234,10 +219,10 @@ end_sound k t h o closed released =
     let in_all = sum_push (λ (d : ThreadDecl). length d.ops) k.threads done in
     let same : begun k ≡ length (k.threads ++ done ∷ []) + 0 = omega (arith, size, before) in
     record {
-      names = subst (λ m. AreWithin m k.names) same h.names;
+      names = subst (λ m. AreWithin (length k.locks) m k.names) same h.names;
       locks = h.locks;
-      turnstiles = h.turnstiles;
       chans = h.chans;
+      chan_locks = h.chan_locks;
       threads = omega (arith, same, h.threads);
       fits = All-push (λ d. Fit k.locks k.chans d.ops) k.threads done h.fits (end_fits k.locks k.chans t (subst (OpenIsSound k.locks k.chans) o h.open_thread) closed released);
       open_thread = tt;
@@ -248,9 +233,13 @@ end_sound k t h o closed released =
     }
 
 -- the schedule names threads that have begun
-threads_within : (n : ℕ) (k : Known) (names : List (List ℕ)) → AreWithin n k.names → All (λ t. t.0 < n) (threads_named k names)
-threads_within n k [] h = All-nil _
-threads_within n k (name ∷ names) h = All-append (λ t. t.0 < n) (option_to_list (thread_named k name)) (threads_named k names) (named_within n k name h) (threads_within n k names h)
+threads_within : (locks threads : ℕ) (k : Known) (names : List (List ℕ)) → AreWithin locks threads k.names → All (λ t. t.0 < threads) (threads_named k names)
+threads_within locks threads k [] h = All-nil _
+threads_within locks threads k (name ∷ names) h = All-append (λ t. t.0 < threads) (option_to_list (thread_named k name)) (threads_named k names) (go (thread_named k name) refl) (threads_within locks threads k names h)
+  where
+    go : (o : Option ThreadNo) → thread_named k name ≡ o → All (λ t. t.0 < threads) (option_to_list o)
+    go None e = All-nil (λ (t : ThreadNo). t.0 < threads)
+    go (Some t) e = All-cons (λ (t : ThreadNo). t.0 < threads) t [] (thread_within locks threads k name h t e) (All-nil (λ (t : ThreadNo). t.0 < threads))
 
 one_at_most : {A : Type 0} (o : Option A) → length (option_to_list o) ≤ 1
 one_at_most None = omega arith
@@ -264,15 +253,15 @@ schedule_sound : (k : Known) (names : List (List ℕ)) → IsSound k → k.open_
 schedule_sound k names h none few = record {
   names = h.names;
   locks = h.locks;
-  turnstiles = h.turnstiles;
   chans = h.chans;
+  chan_locks = h.chan_locks;
   threads = h.threads;
   fits = h.fits;
   open_thread = h.open_thread;
   operations = h.operations;
   counted = h.counted;
   scheduled = omega (arith, length-append k.schedule (threads_named k names), threads_few k names, few);
-  schedule = All-append (λ t. t.0 < length k.threads) k.schedule (threads_named k names) h.schedule (threads_within (length k.threads) k names (subst (λ m. AreWithin m k.names) (none_begun k none) h.names));
+  schedule = All-append (λ t. t.0 < length k.threads) k.schedule (threads_named k names) h.schedule (threads_within (length k.locks) (length k.threads) k names (subst (λ m. AreWithin (length k.locks) m k.names) (none_begun k none) h.names));
 }
 
 -- what words of an operation say is no endtry, and a try goes on nowhere yet
@@ -297,6 +286,9 @@ said_new k (say.Add name key amount) = edits Add (lock_named k name) (number_of 
 said_new k (say.Get name key) = keyed Get (lock_named k name) (number_of key) (λ l n. tt)
 said_new k (say.Prio prio) = mapped (λ p. Base (record { 0 = p })) (priority_of prio) (λ p. tt)
 said_new k say.Show = tt
+said_new k (say.Wait cond name) = mapped (λ c. Sleep c) (chan_named k name) (λ c. tt)
+said_new k (say.WakeOne cond name) = mapped (λ c. WakeOne c) (chan_named k name) (λ c. tt)
+said_new k (say.WakeAll cond name) = mapped (λ c. WakeAll c) (chan_named k name) (λ c. tt)
 
 -- the open thread has made one operation more
 operation_sound : (k : Known) (t made : OpenThread) → IsSound k → k.open_thread ≡ Some t → k.operations < most_operations → length made.ops ≡ length t.ops + 1 → IsSoundOpen k.locks k.chans made
@@ -305,10 +297,10 @@ operation_sound k t made h o few size sound =
     let before : begun k ≡ length k.threads + 1 = ap (λ o. length k.threads + opened o) o in
     let its : operations_of_open k.open_thread ≡ length t.ops = ap operations_of_open o in
     record {
-      names = subst (λ m. AreWithin m k.names) before h.names;
+      names = subst (λ m. AreWithin (length k.locks) m k.names) before h.names;
       locks = h.locks;
-      turnstiles = h.turnstiles;
       chans = h.chans;
+      chan_locks = h.chan_locks;
       threads = omega (arith, before, h.threads);
       fits = h.fits;
       open_thread = sound;
@@ -344,24 +336,31 @@ endtry_line k h (Some t) e inside passes = go t.blocks refl inside passes
         operation_sound k t (without_block t (b ∷ bs)) h e (ltb-true k.operations most_operations room.0) (length-append _ (EndTry ∷ []) ∙ ap (λ n. n + 1) (length-set t.ops b.opened_at _))
         (endtry_sound k.locks k.chans t b bs (subst (OpenIsSound k.locks k.chans) e h.open_thread) f (passed _ _ room.1).0)
 
-statement_sound : (k : Known) (s : Statement) → DeclaresTurnstile s → IsSound k → Passes (place_tests k s) → Passes (name_tests k s) → IsSound (learned k s)
-statement_sound k (Declares kind name class) m h place names = lock_sound k kind name class m h place names
-statement_sound k (Begins name prio) m h place names =
+statement_sound : (k : Known) (s : Statement) → IsSound k → Passes (place_tests k s) → Passes (name_tests k s) → IsSound (learned k s)
+statement_sound k (Declares kind name class) h place names = lock_sound k kind name class h place names
+statement_sound k (DeclaresChan cond name lock) h place names =
+    let later = passed _ _ (passed _ _ (passed _ _ (passed _ _ names).1).1).1 in
+    go (lock_named k lock) refl later.0 (ltb-true (length k.chans) most_channels (passed _ _ later.1).0)
+  where
+    go : (o : Option LockNo) → lock_named k lock ≡ o → is_some o ≡ true → length k.chans < most_channels → IsSound (with_chan k cond name (unwrap_or o (record { 0 = 0 })))
+    go None e there few = absurd (false≢true there)
+    go (Some l) e there few = chan_sound k cond name l h (passed _ _ place).0 (lock_within (length k.locks) (begun k) k lock h.names l e) few
+statement_sound k (Begins name prio) h place names =
     let room = (passed _ _ (passed _ _ (passed _ _ (passed _ _ names).1).1).1).0 in
     thread_sound k name _ h (not_inside k.open_thread (passed _ _ place).0) (ltb-true (length k.threads) most_threads room)
-statement_sound k Ends m h place names = go k.open_thread refl (passed _ _ (passed _ _ place).1).0 names
+statement_sound k Ends h place names = go k.open_thread refl (passed _ _ (passed _ _ place).1).0 names
   where
     go : (o : Option OpenThread) → k.open_thread ≡ o → not (is_in_block o) ≡ true → Passes (where_some (λ (t : OpenThread). test 14 (is_empty t.held) ∷ []) o) → IsSound (with_end k o)
     go None e closed q = h
     go (Some t) e closed q = end_sound k t h e (none_left t.blocks closed) (empty_is t.held (passed _ _ q).0)
-statement_sound k (Schedules names) m h place tests =
+statement_sound k (Schedules names) h place tests =
     let room = (passed _ _ (passed _ _ (passed _ _ tests).1).1).0 in
     schedule_sound k names h (not_inside k.open_thread (passed _ _ place).0) (leb-true (length k.schedule + length names) most_scheduled room)
-statement_sound k IsDone m h place names = record {
+statement_sound k IsDone h place names = record {
   names = h.names;
   locks = h.locks;
-  turnstiles = h.turnstiles;
   chans = h.chans;
+  chan_locks = h.chan_locks;
   threads = h.threads;
   fits = h.fits;
   open_thread = h.open_thread;
@@ -370,10 +369,10 @@ statement_sound k IsDone m h place names = record {
   scheduled = h.scheduled;
   schedule = h.schedule;
 }
-statement_sound k (Operates o) m h place names = said_sound k o h k.open_thread refl names
-statement_sound k EndsTry m h place names = endtry_line k h k.open_thread refl (passed _ _ place).0 names
+statement_sound k (Operates o) h place names = said_sound k o h k.open_thread refl names
+statement_sound k EndsTry h place names = endtry_line k h k.open_thread refl (passed _ _ place).0 names
 
--- 5. Lines and scripts
+-- 4. Lines and scripts
 
 line_sound : (k : Known) (line : List ℕ) → IsSound k → line_fault k line ≡ None → IsSound (behind_line k line)
 unfolding line_fault behind_line
@@ -383,7 +382,7 @@ line_sound k line h e = meaning (has_meaning line) (stages_pass (byte_tests line
     says None f q = h
     says (Some s) f q =
         let p = stages_pass (place_tests k s) (name_tests k s ∷ []) q in
-        statement_sound k s (subst (λ o. IfSome o DeclaresTurnstile) f (line_turnstile line)) h p.0 (stages_pass (name_tests k s) [] p.1).0
+        statement_sound k s h p.0 (stages_pass (name_tests k s) [] p.1).0
 
     meaning : (b : Bool) → first_fault (cond b (word_tests k line ∷ statement_stages k (statement_of line)) []) ≡ None → IsSound (cond b (learned_from k (statement_of line)) k)
     meaning true q = says (statement_of line) refl (stages_pass (word_tests k line) _ q).1
@@ -393,11 +392,11 @@ sound_proper : (k : Known) → IsSound k → IsProper (plan_of k)
 sound_proper k h = record {
   threads = omega (arith, h.threads);
   locks = h.locks;
+  chans = h.chans;
   operations = omega (arith, h.counted, h.operations);
   scheduled = h.scheduled;
   schedule = h.schedule;
-  turnstiles = read_all (λ c. is_turnstile c ≡ true) (λ (d : LockDecl). d.kind) Mtx k.locks h.turnstiles refl;
-  no_channel = h.chans;
+  chan_locks = h.chan_locks;
   fits = read_all (Fit k.locks k.chans) (λ (d : ThreadDecl). d.ops) [] k.threads h.fits (end_fits k.locks k.chans _ (begin_sound k.locks k.chans [] 0) refl refl);
 }
 

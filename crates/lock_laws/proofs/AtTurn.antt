@@ -5,7 +5,7 @@ use Rattle.lock_model.specs.Holds.{is_exclusive, Holds}
 use Rattle.lock_model.specs.Config.{Config}
 use Rattle.lock_state.specs.State.{State}
 use Rattle.lock_model.specs.Queues.{lock_queue, stands}
-use Rattle.lock_state.specs.Facts.{Lawful, TurnstileIsLent, WordsMatchHolders, OnlyThreadsStand, HeadsFitWaiters, BitsShowWaiters, OwnersHold}
+use Rattle.lock_state.specs.Facts.{Lawful, TurnstileIsLent, SleepQueueIsLent, WordsMatchHolders, OnlyThreadsStand, HeadsFitWaiters, BitsShowWaiters, OwnersHold}
 use Rattle.lock_state.specs.Facts.Words.{owns}
 use Rattle.lock_model.specs.declared.plan.Mode.TheVariants.{Excl}
 use Rattle.lock_model.specs.declared.plan.QueueName.{QueueName}
@@ -42,6 +42,15 @@ has_turnstile c s t h e = go (s.turnstile t) refl
   where
     go : (o : Option ℕ) → s.turnstile t ≡ o → (x : ℕ) × (s.turnstile t ≡ Some x)
     go None f = absurd (let a = h.queues.turnstile_is_lent t in let b : 0 ≡ 1 = rw (e, f) at a in omega (arith, b))
+    go (Some x) f = (x, f)
+
+-- and its sleep queue
+pub has_sleep_queue : (c : Config) (s : State) (t : ℕ) → Lawful c s → s.blocked_on t ≡ None → (x : ℕ) × (s.sleep_queue t ≡ Some x)
+unfolding SleepQueueIsLent
+has_sleep_queue c s t h e = go (s.sleep_queue t) refl
+  where
+    go : (o : Option ℕ) → s.sleep_queue t ≡ o → (x : ℕ) × (s.sleep_queue t ≡ Some x)
+    go None f = absurd (let a = h.queues.sleep_queue_is_lent t in let b : 0 ≡ 1 = rw (e, f) at a in omega (arith, b))
     go (Some x) f = (x, f)
 
 -- a lock's queue has a head where its word shows waiters

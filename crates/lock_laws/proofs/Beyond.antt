@@ -150,12 +150,12 @@ module _ (c : Config) (s : State) (h : Lawful c s) where
       omega (arith, heads_and_frees, sum_below-add n (λ j. at_home j + at_head j + in_free j) in_mark, sum_below-add n (λ j. at_home j + at_head j) in_free, sum_below-add n at_home at_head)
 
   -- each waiter is a thread, and so is each that is marked
-  waiters_stand : (k : ℕ) → waiting (s.lists (lock_queue k)) ≤ sum_below c.threads (λ u. stands u (s.lists (lock_queue k)))
-  waiters_stand k =
-      let q = s.lists (lock_queue k) in
-      let a = sum-waiting c.threads q.exclusive (λ u i. standing_thread c s u (lock_queue k) h (omega arith)) in
-      let b = sum-waiting c.threads q.shared (λ u i. standing_thread c s u (lock_queue k) h (omega arith)) in
-      omega (arith, sum_below-add c.threads (λ u. times_waiting u q.exclusive) (λ u. times_waiting u q.shared))
+  waiters_stand : (q : QueueName) → waiting (s.lists q) ≤ sum_below c.threads (λ u. stands u (s.lists q))
+  waiters_stand q =
+      let there = s.lists q in
+      let a = sum-waiting c.threads there.exclusive (λ u i. standing_thread c s u q h (omega arith)) in
+      let b = sum-waiting c.threads there.shared (λ u i. standing_thread c s u q h (omega arith)) in
+      omega (arith, sum_below-add c.threads (λ u. times_waiting u there.exclusive) (λ u. times_waiting u there.shared))
 
   marked_stand : (t : ℕ) → t < c.threads → length (marked_threads c (s.marked t)) ≤ sum_below c.threads (λ u. times u (marked_threads c (s.marked t)))
   unfolding OnlyThreadsStand
@@ -167,7 +167,7 @@ module _ (c : Config) (s : State) (h : Lawful c s) where
       let home : ℕ → ℕ = λ u. some (s.turnstile u) in
       let a = sum_below-most c.threads (λ u. home u + standing m u + marks u) (placed_once m) in
       let b = le-columns c.threads m (λ u k. only (is_turnstile (c.kind k)) (stands u (s.lists (lock_queue k)))) (λ k. only (is_turnstile (c.kind k)) (waiting (s.lists (lock_queue k))))
-      (λ k l. sum-only c.threads (is_turnstile (c.kind k)) (λ u. stands u (s.lists (lock_queue k))) (waiting (s.lists (lock_queue k))) (waiters_stand k)) in
+      (λ k l. sum-only c.threads (is_turnstile (c.kind k)) (λ u. stands u (s.lists (lock_queue k))) (waiting (s.lists (lock_queue k))) (waiters_stand (lock_queue k))) in
       let d = le-columns c.threads c.threads (λ u t. times u (marked_threads c (s.marked t))) (λ t. length (marked_threads c (s.marked t))) marked_stand in
       omega (arith, sum_below-add c.threads (λ u. home u + standing m u) marks, sum_below-add c.threads home (standing m))
 
@@ -177,9 +177,15 @@ module _ (c : Config) (s : State) (h : Lawful c s) where
       let b : only (is_turnstile (c.kind l)) (waiting (s.lists (lock_queue l))) ≡ waiting (s.lists (lock_queue l)) = rw k refl in
       omega (arith, turnstiles_placed, threads_placed (suc l))
 
-  -- and no more threads wait at a turnstile than the plan has
-  pub few_wait : (l : ℕ) → is_turnstile (c.kind l) ≡ true → waiting (s.lists (lock_queue l)) ≤ c.threads
-  few_wait l k =
-      let a = sum_below-beyond 0 l (λ j. only (is_turnstile (c.kind j)) (waiting (s.lists (lock_queue j)))) (omega arith) in
-      let b : only (is_turnstile (c.kind l)) (waiting (s.lists (lock_queue l))) ≡ waiting (s.lists (lock_queue l)) = rw k refl in
-      omega (arith, threads_placed (suc l))
+  -- and no more threads wait on a queue, of whichever sort, than the plan has, as each stands there once
+  pub few_wait : (q : QueueName) → waiting (s.lists q) ≤ c.threads
+  unfolding StandsOnce
+  few_wait q = omega (arith, waiters_stand q, sum_below-most c.threads (λ u. stands u (s.lists q)) (λ u. omega (arith, h.waits.stands_once u q, one_at (s.blocked_on u))))
+    where
+      one_at : (o : Option QueueName) → at_queue q o ≤ 1
+      one_at None = omega arith
+      one_at (Some r) = go (is_queue q r)
+        where
+          go : (b : Bool) → one b ≤ 1
+          go true = omega arith
+          go false = omega arith

@@ -5,15 +5,15 @@
 use Rattle.std.proofs.Common.{◌≡◌, ℕ, suc, ◌+◌, ◌<◌, Bool, true, false, not, eqb, List, [], ◌∷◌, length, Option, Some, None, refl, sym, ap, subst, arith, ◌∙◌}
 use Rattle.lock_model.specs.Counts.{is_empty, one}
 use Rattle.lock_model.specs.Config.{Config}
-use Rattle.lock_model.specs.Queues.{Waiter, Lists, Ascends, is_turnstile_queue, names_turnstile, names_sleep_queue, lock_queue, list_of, with_list, times_waiting, stands, waiting, insert, head_with, free_with}
+use Rattle.lock_model.specs.Queues.{Waiter, Lists, Ascends, is_turnstile_queue, names_turnstile, names_sleep_queue, lock_queue, list_of, with_list, times_waiting, stands, waiting, insert, head_with, free_with, with_last}
 use Rattle.lock_model.specs.Words.{is_turnstile}
 use Rattle.lock_model.specs.declared.plan.Kind.TheVariants.{Mtx}
 use Rattle.lock_model.specs.declared.plan.Side.{Side}
 use Rattle.lock_model.specs.declared.plan.Side.TheVariants.{X}
 use Rattle.lock_model.specs.declared.plan.QueueName.{QueueName}
 use Rattle.lock_model.specs.declared.plan.QueueName.TheVariants.{Lock, Chan}
-use Rattle.lock_state.specs.State.{State, Queued, put, put_queue}
-use Rattle.lock_state.specs.Steps.SleepQueues.{with_last}
+use Rattle.lock_state.specs.State.{State, Queued, put}
+use Rattle.lock_state.specs.Steps.Turnstiles.{with_waiter}
 use Rattle.lock_state.specs.Facts.{Lawful, OneTurnstileEach, OneSleepQueueEach, TurnstileIsLent, SleepQueueIsLent, HeadsFitWaiters, ListsAscend, MutexWaitersAreExclusive, StandsOnce, OnlyThreadsStand, StandingIsQueued, StandingWants, WokenWants, CalledWants, StandingIsUncalled, WokenIsUncalled}
 use Rattle.lock_state.specs.Facts.Queues.{HeadFits, turnstile_places, sleep_queue_places}
 use Rattle.lock_model.proofs.Lists.{times_waiting-insert, length-insert, ascends-insert, times_waiting-last, length-last}
@@ -75,14 +75,10 @@ wanted_on (Chan d) = None
 -- what standing makes of the state
 abbrev pub after_standing : State → ℕ → QueueName → Bool → ℕ → Lists → (QueueName → Option ℕ)
     → State
-after_standing s t q turnstile x lists owner = record s {
-  lists = put_queue s.lists q lists;
-  free_list = put_queue s.free_list q (free_with (s.head q) x (s.free_list q));
-  head = put_queue s.head q (head_with (s.head q) x);
+after_standing s t q turnstile x lists owner = record (with_waiter s t q lists x) {
   owner = owner;
   turnstile = lent turnstile s.turnstile t;
   sleep_queue = lent (not turnstile) s.sleep_queue t;
-  blocked_on = put s.blocked_on t (Some q);
   wanted = put s.wanted t (wanted_on q);
   called = put s.called t None;
 }

@@ -76,8 +76,8 @@ module _ (c : Config) (s : State) (t l : ℕ) (mode : Mode) (x : ℕ) (g : MayEn
   loans_least : LoansAreLeast c n.owner n.walk n.loan n.lists
   unfolding after_enter LoansAreLeast walkers_at_lock OwnersHold
   loans_least k o e w =
-      let a = sum_below-put c.threads (at_lock k) s.walk t walk g.thread in
-      let b = ap (at_lock k) g.no_walk in
+      let a = sum_below-put c.threads (at_lock k) s.walk t walk g.waits.thread in
+      let b = ap (at_lock k) g.waits.no_walk in
       elim (cases_eq l k) [
         | inl i ↦
             let f = sym (put_lock_same s.owner l owner) ∙ (let y = rw (← i) at e in y) in
@@ -100,8 +100,8 @@ module _ (c : Config) (s : State) (t l : ℕ) (mode : Mode) (x : ℕ) (g : MayEn
   same_walks : (o : ℕ) → walkers_at_thread c n.walk o ≡ walkers_at_thread c s.walk o
   unfolding after_enter walkers_at_thread
   same_walks o =
-      let a = sum_below-put c.threads (at_thread o) s.walk t walk g.thread in
-      let b = ap (at_thread o) g.no_walk in
+      let a = sum_below-put c.threads (at_thread o) s.walk t walk g.waits.thread in
+      let b = ap (at_thread o) g.waits.no_walk in
       omega (arith, at_thread-walk_up o l (owner_of (s.word l).holder))
 
   kept : KeptIsEffective c n.walk n.effective n.lists
@@ -118,7 +118,7 @@ module _ (c : Config) (s : State) (t l : ℕ) (mode : Mode) (x : ℕ) (g : MayEn
   unfolding after_enter KeptIsKnown EffectiveIsKnown
   kept_known =
       let P : Waiter → Type 0 = λ w. IsKnown c s.history w.kept in
-      let own = h.loans.effective_is_known t g.thread in
+      let own = h.loans.effective_is_known t g.waits.thread in
       at_locks (λ k. is_turnstile (c.kind k) ≡ true) (EachOf P) s.lists q lists
       (λ k e i. each_of-with P (side_of mode) _ (s.lists q) (each-insert P new _ own)) h.loans.kept_is_known
 
@@ -127,7 +127,7 @@ module _ (c : Config) (s : State) (t l : ℕ) (mode : Mode) (x : ℕ) (g : MayEn
   lawful = assumption (
     comes_to_stand before_greater (s.effective t) may_stand h (put_queue s.owner q owner)
         (put_queue_other s.owner q owner),
-    entered_lock before_greater (s.effective t) may_stand h g.held g.wants,
+    entered_lock before_greater (s.effective t) may_stand h g.waits.held g.waits.wants,
     owners,
     channels,
     loans_least,

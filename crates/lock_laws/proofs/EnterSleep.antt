@@ -1,14 +1,14 @@
 -- An enter on an sx lock keeps each fact.
 use Rattle.std.proofs.Common.{◌≡◌, ℕ, false, refl}
 use Rattle.lock_model.specs.Config.{Config}
-use Rattle.lock_model.specs.Queues.{Lists, lock_queue, side_of, list_of, with_list, head_with}
+use Rattle.lock_model.specs.Queues.{Lists, lock_queue, side_of, list_of, with_list, head_with, with_last}
 use Rattle.lock_model.specs.Words.{Word, entered}
 use Rattle.lock_model.specs.declared.plan.Side.TheVariants.{X}
 use Rattle.lock_model.specs.declared.plan.Mode.{Mode}
 use Rattle.lock_model.specs.declared.plan.QueueName.{QueueName}
 use Rattle.lock_state.specs.State.{State, put}
 use Rattle.lock_state.specs.Facts.{Lawful}
-use Rattle.lock_state.specs.Steps.SleepQueues.{MayEnterSleep, after_enter_sleep, with_last}
+use Rattle.lock_state.specs.Steps.SleepQueues.{MayEnterSleep, after_enter_sleep}
 use Rattle.lock_laws.proofs.ComingToStand.{IsOfMutex, MayStand, at_tail, comes_to_stand}
 use Rattle.lock_laws.proofs.SleepQueues.{loans_stay, sx_word}
 use Rattle.lock_laws.proofs.LockQueues.{entered_lock}
@@ -36,6 +36,6 @@ module _ (c : Config) (s : State) (t l : ℕ) (mode : Mode) (x : ℕ) (g : MayEn
     unfolding after_enter_sleep
     lawful = assumption (
       comes_to_stand at_tail (s.base t) may_stand h s.owner (λ r e. refl),
-      entered_lock at_tail (s.base t) may_stand h g.held g.wants,
+      entered_lock at_tail (s.base t) may_stand h g.waits.held g.waits.wants,
       loans_stay h q g.sleeps lists (head_with (s.head q) x) (put s.word l word) (sx_word c s.word l word g.sleeps),
     )

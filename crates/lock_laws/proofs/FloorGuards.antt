@@ -84,7 +84,7 @@ entering_may = (
                     (refl, refl),
                     tt,
                     (
-                      record { thread = omega arith; lock = omega arith; turnstile = refl; mutex = λ e. refl; held = refl; refused = refl; queued = refl; unnamed = refl; own = refl; wants = inr refl; no_walk = refl; sections = λ l mode e. absurd cc },
+                      record { waits = record { thread = omega arith; lock = omega arith; held = refl; refused = refl; queued = refl; unnamed = refl; wants = inr refl; no_walk = refl; sections = λ l mode e. absurd cc }; turnstile = refl; mutex = λ e. refl; own = refl },
                       (refl, refl),
                       record { saw = refl; round = refl; off = λ o. let z : false ≡ true = o.slept in cc },
                       -- both go home

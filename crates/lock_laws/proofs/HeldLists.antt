@@ -1,14 +1,14 @@
 -- Laws of lists of held locks, and of what a thread's operations in order lead to.
-use Rattle.std.proofs.Common.{◌≡◌, ◌≢◌, ℕ, zero, suc, ◌<◌, Bool, true, false, not, cond, eqb, ltb, ◌≤◌, ◌||◌, arith, List, [], ◌∷◌, ◌++◌, length, take, slice_get, Option, Some, None, option_map, refl, sym, ap, inl, inr, eq-eqb, ◌∙◌, subst}
+use Rattle.std.proofs.Common.{◌≡◌, ◌≢◌, ℕ, zero, suc, ◌<◌, Bool, true, false, not, cond, eqb, ◌≤◌, ◌||◌, arith, List, [], ◌∷◌, ◌++◌, length, length-append, map, take, slice_get, Option, Some, None, option_map, refl, sym, ap, inl, inr, eq-eqb, ◌∙◌, subst}
 use Rattle.std.specs.Prelude.{⊤, unwrap_or}
-use Rattle.std.proofs.lemmas.Bool.{ne_eqb, cases_eq, eqb-false, ltb-true}
-use Rattle.std.proofs.lemmas.List.{take_all}
+use Rattle.std.proofs.lemmas.Bool.{ne_eqb, cases_eq, not-true, eqb-true, eqb-false, ltb-true, and_parts}
+use Rattle.std.proofs.lemmas.List.{take_all, append-nil, reverse-append}
 use Rattle.std.proofs.lemmas.Option.{none-some, same_Some, slice_get-map, slice_get_within}
 use Rattle.lock_model.specs.Holds.{Hold, NotHeld, Holds, is_unheld}
 use Rattle.lock_model.specs.Limits.{most_held}
-use Rattle.lock_model.specs.Operations.{hold_in, without_lock, held_behind, held_through, held_of, is_kind, may_be_held, gaining_tests, operation_tests, IsBlock, next_at, IsProper}
-use Rattle.lock_model.specs.Plans.{lock_kind, operations_of}
-use Rattle.lock_model.specs.Tests.{Passes}
+use Rattle.lock_model.specs.Operations.{wait_tests, channel_test, hold_in, without_lock, is_last, held_behind, held_through, held_of, is_kind, may_be_held, gaining_tests, operation_tests, IsBlock, next_at, IsProper}
+use Rattle.lock_model.specs.Plans.{lock_kind, chan_lock, operations_of}
+use Rattle.lock_model.specs.Tests.{Test, Passes, where_some}
 use Rattle.lock_model.proofs.LeastCodes.{passed}
 use Rattle.lock_model.specs.declared.plan.Kind.{Kind}
 use Rattle.lock_model.specs.declared.plan.Kind.TheVariants.{Mtx, Rw, Sx}
@@ -20,10 +20,11 @@ use Rattle.lock_model.specs.declared.plan.Mode.TheVariants.{Excl, Shared}
 use Rattle.lock_model.specs.declared.plan.Op.{Op}
 use Rattle.lock_model.specs.declared.plan.Op.TheVariants.{Take, Try, EndTry, Release, Set, Add, Get, Base, Show, Sleep, WakeOne, WakeAll}
 use Rattle.lock_model.specs.declared.plan.Plan.{Plan}
-use Rattle.lock_model.specs.declared.event.Event.{Event}
-use Rattle.lock_model.specs.declared.event.Event.TheVariants.{Locked, Tried}
 use Rattle.lock_model.specs.declared.event.Held.{Held}
 use Rattle.lock_model.specs.declared.numbers.LockNo.{LockNo}
+use Rattle.lock_state.specs.State.{HeldLock}
+use Rattle.lock_state.specs.Steps.LockWords.{without_held}
+use Rattle.lock_laws.specs.OnTrack.{gained_order}
 use Rattle.lock_laws.proofs.Endtries.{at_next}
 
 -- 1. Lists
@@ -36,6 +37,11 @@ pub held_is : (x : Hold) → is_unheld x ≡ false → x ≢ NotHeld
 held_is NotHeld e n = absurd cc
 held_is (Holds mode) e n = cc
 
+-- a hold that isn't one still isn't, where a lock is released
+pub still_unheld : (b : Bool) (x : Hold) → x ≡ NotHeld → cond b NotHeld x ≡ NotHeld
+still_unheld true x e = refl
+still_unheld false x e = e
+
 -- the first of a list is not the lock
 not_first : (b : Bool) (m : Mode) (x : Hold) → cond b (Holds m) x ≡ NotHeld → (b ≡ false) × (x ≡ NotHeld)
 not_first true m x e = absurd cc
@@ -45,6 +51,12 @@ not_first false m x e = (refl, e)
 abbrev pub Apart : List Held → Type 0
 Apart [] = ⊤
 Apart (h ∷ hs) = (hold_in hs h.l.0 ≡ NotHeld) × Apart hs
+
+-- the lock that was gained last is held
+last_held : (l : ℕ) (hs : List Held) → is_last l hs ≡ true → hold_in hs l ≢ NotHeld
+last_held l [] e n = absurd cc
+last_held l (h ∷ []) e n = let at = (and_parts (eqb h.l.0 l) (not h.by_try) e).0 in let z : Holds h.mode ≡ NotHeld = rw at at n in cc
+last_held l (h ∷ g ∷ hs) e n = last_held l (g ∷ hs) e (not_first (eqb h.l.0 l) h.mode (hold_in (g ∷ hs) l) n).1
 
 -- with one lock more at the end
 pub hold_in-push : (hs : List Held) (x : Held) (k : ℕ) → hold_in hs x.l.0 ≡ NotHeld → hold_in (hs ++ x ∷ []) k ≡ cond (eqb x.l.0 k) (Holds x.mode) (hold_in hs k)
@@ -90,34 +102,103 @@ apart-without l (h ∷ hs) a =
       | inr e ↦ rw (ne_eqb h.l.0 l e) (hold_in-without l hs h.l.0 a.1 ∙ rw (ne_eqb l h.l.0 (λ j. e (sym j))) a.0, apart-without l hs a.1)
     ]
 
+fewer_without : (l : ℕ) (hs : List Held) → length (without_lock l hs) ≤ length hs
+fewer_without l [] = omega arith
+fewer_without l (h ∷ hs) = go (eqb h.l.0 l) (fewer_without l hs)
+  where
+    go : (b : Bool) → length (without_lock l hs) ≤ length hs → length (cond b hs (h ∷ without_lock l hs)) ≤ suc (length hs)
+    go true e = omega arith
+    go false e = omega (arith, e)
+
+-- the lock that was gained last, and not by a try, stands at the end
+pub last_is : (l : LockNo) (mode : Mode) (hs : List Held) → is_last l.0 hs ≡ true → Apart hs → hold_in hs l.0 ≡ Holds mode
+    → without_lock l.0 hs ++ (record { l = l; mode = mode; by_try = false }) ∷ [] ≡ hs
+last_is l mode [] e a i = absurd cc
+last_is l mode (h ∷ []) e a i =
+    let parts = and_parts (eqb h.l.0 l.0) (not h.by_try) e in
+    rw parts.0 (one h (eqb-true h.l.0 l.0 parts.0) (not-true h.by_try parts.1) (rw parts.0 at i))
+  where
+    one : (x : Held) → x.l.0 ≡ l.0 → x.by_try ≡ false → Holds x.mode ≡ Holds mode → (record { l = l; mode = mode; by_try = false }) ∷ [] ≡ x ∷ []
+    one x f g m =
+        let at : l.0 ≡ x.l.0 = sym f in
+        let same : mode ≡ x.mode = cc in
+        let by : false ≡ x.by_try = sym g in
+        λ i. (record { l = record { 0 = at i }; mode = same i; by_try = by i }) ∷ []
+last_is l mode (h ∷ g ∷ hs) e a i =
+    let before : hold_in (g ∷ hs) h.l.0 ≡ NotHeld = a.0 in
+    let other : eqb h.l.0 l.0 ≡ false = ne_eqb h.l.0 l.0 (λ j. last_held l.0 (g ∷ hs) e (subst (λ k. hold_in (g ∷ hs) k ≡ NotHeld) j before)) in
+    rw other (ap (λ (xs : List Held). h ∷ xs) (last_is l mode (g ∷ hs) e a.1 (rw other at i)))
+
+-- the locks in order of gaining, with one more, and without one
+
+abbrev listed : Held → HeldLock
+listed h = record { lock = h.l.0; by_try = h.by_try }
+
+gained_first : (h : Held) (hs : List Held) → gained_order (h ∷ hs) ≡ gained_order hs ++ listed h ∷ []
+gained_first h hs = reverse-append (listed h ∷ []) (map listed hs)
+
+pub gained_order-push : (hs : List Held) (x : Held) → gained_order (hs ++ x ∷ []) ≡ listed x ∷ gained_order hs
+gained_order-push [] x = refl
+gained_order-push (h ∷ hs) x = gained_first h (hs ++ x ∷ []) ∙ ap (λ ys. ys ++ listed h ∷ []) (gained_order-push hs x) ∙ ap (λ ys. listed x ∷ ys) (sym (gained_first h hs))
+
+without_held-append : (l : ℕ) (xs ys : List HeldLock) → without_held l (xs ++ ys) ≡ without_held l xs ++ without_held l ys
+without_held-append l [] ys = refl
+without_held-append l (x ∷ xs) ys = go (eqb l x.lock) (without_held-append l xs ys)
+  where
+    go : (b : Bool) → without_held l (xs ++ ys) ≡ without_held l xs ++ without_held l ys → cond b (without_held l (xs ++ ys)) (x ∷ without_held l (xs ++ ys)) ≡ cond b (without_held l xs) (x ∷ without_held l xs) ++ without_held l ys
+    go true e = e
+    go false e = ap (λ zs. x ∷ zs) e
+
+without_none : (l : ℕ) (hs : List Held) → hold_in hs l ≡ NotHeld → without_lock l hs ≡ hs
+without_none l [] e = refl
+without_none l (h ∷ hs) e = let f = not_first (eqb h.l.0 l) h.mode (hold_in hs l) e in rw f.0 (ap (λ ys. h ∷ ys) (without_none l hs f.1))
+
+pub gained_order-without : (l : ℕ) (hs : List Held) → Apart hs → without_held l (gained_order hs) ≡ gained_order (without_lock l hs)
+gained_order-without l [] a = refl
+gained_order-without l (h ∷ hs) a =
+    ap (without_held l) (gained_first h hs) ∙ without_held-append l (gained_order hs) (listed h ∷ []) ∙ ap (λ ys. ys ++ without_held l (listed h ∷ [])) (gained_order-without l hs a.1)
+    ∙ elim (cases_eq h.l.0 l) [
+      | inl e ↦ rw (eq-eqb h.l.0 l e, eq-eqb l h.l.0 (sym e)) (append-nil (gained_order (without_lock l hs)) ∙ ap gained_order (without_none l hs (subst (λ k. hold_in hs k ≡ NotHeld) e a.0)))
+      | inr e ↦ rw (ne_eqb h.l.0 l e, ne_eqb l h.l.0 (λ j. e (sym j))) (sym (gained_first h (without_lock l hs)))
+    ]
+
 -- 2. Lists of locks
 
--- a list of locks below n, each once
-pub record AreLocks (n : ℕ) (hs : List Held) : Type 0 where
+-- a list of locks of the plan, each once, and a mutex exclusively
+pub record AreLocks (plan : Plan) (hs : List Held) : Type 0 where
   pub apart : Apart hs
-  pub within : (l : ℕ) → hold_in hs l ≢ NotHeld → l < n
+  pub within : (l : ℕ) → hold_in hs l ≢ NotHeld → l < length plan.locks
+  pub mutexes : (l : ℕ) (mode : Mode) → hold_in hs l ≡ Holds mode → lock_kind plan l ≡ Mtx → mode ≡ Excl
 
-none_held : (n : ℕ) → AreLocks n []
-none_held n = record { apart = tt; within = λ l e. absurd (e refl) }
+none_held : (plan : Plan) → AreLocks plan []
+none_held plan = record { apart = tt; within = λ l e. absurd (e refl); mutexes = λ l mode e k. absurd cc }
 
-one_gained : (n : ℕ) (x : Held) (hs : List Held) → x.l.0 < n → hold_in hs x.l.0 ≡ NotHeld → AreLocks n hs → AreLocks n (hs ++ x ∷ [])
-one_gained n x hs lock unheld a = record {
+one_gained : (plan : Plan) (x : Held) (hs : List Held) → x.l.0 < length plan.locks → (lock_kind plan x.l.0 ≡ Mtx → x.mode ≡ Excl) → hold_in hs x.l.0 ≡ NotHeld → AreLocks plan hs → AreLocks plan (hs ++ x ∷ [])
+one_gained plan x hs lock mutex unheld a = record {
   apart = apart-push hs x unheld a.apart;
   within = λ k i. elim (cases_eq x.l.0 k) [
-    | inl j ↦ subst (λ m. m < n) j lock
+    | inl j ↦ subst (λ m. m < length plan.locks) j lock
     | inr j ↦ a.within k (λ z. i (hold_in-push hs x k unheld ∙ rw (ne_eqb x.l.0 k j) z))
+  ];
+  mutexes = λ k mode e kind. elim (cases_eq x.l.0 k) [
+    | inl j ↦
+        let f : Holds x.mode ≡ Holds mode = sym (hold_in-push hs x k unheld ∙ ap (λ b. cond b (Holds x.mode) (hold_in hs k)) (eq-eqb x.l.0 k j)) ∙ e in
+        let m : x.mode ≡ mode = cc in
+        sym m ∙ mutex (ap (lock_kind plan) j ∙ kind)
+    | inr j ↦ a.mutexes k mode (sym (hold_in-push hs x k unheld ∙ ap (λ b. cond b (Holds x.mode) (hold_in hs k)) (ne_eqb x.l.0 k j)) ∙ e) kind
   ];
 }
 
-one_released : (n l : ℕ) (hs : List Held) → AreLocks n hs → AreLocks n (without_lock l hs)
-one_released n l hs a = record {
+one_released : (plan : Plan) (l : ℕ) (hs : List Held) → AreLocks plan hs → AreLocks plan (without_lock l hs)
+one_released plan l hs a = record {
   apart = apart-without l hs a.apart;
-  within = λ k i. a.within k (λ z. i (hold_in-without l hs k a.apart ∙ at_most (eqb l k) (hold_in hs k) z));
+  within = λ k i. a.within k (λ z. i (hold_in-without l hs k a.apart ∙ still_unheld (eqb l k) (hold_in hs k) z));
+  mutexes = λ k mode e kind. a.mutexes k mode (still (eqb l k) (hold_in hs k) mode (sym (hold_in-without l hs k a.apart) ∙ e)) kind;
 }
   where
-    at_most : (b : Bool) (x : Hold) → x ≡ NotHeld → cond b NotHeld x ≡ NotHeld
-    at_most true x z = refl
-    at_most false x z = z
+    still : (b : Bool) (x : Hold) (mode : Mode) → cond b NotHeld x ≡ Holds mode → x ≡ Holds mode
+    still true x mode e = absurd cc
+    still false x mode e = e
 
 -- 3. What an operation that fits finds and leaves
 
@@ -126,12 +207,7 @@ pub record Leads (plan : Plan) (op : Op) (hs xs : List Held) : Type 0 where
   pub passes : Passes (operation_tests plan.locks plan.chans op hs)
   pub behind : held_behind op hs ≡ xs
 
--- a take or a try of a lock: the operation, whether it is a try, and the entry of its gain
-pub data Gaining (l : LockNo) (mode : Mode) : Op → Bool → Event → Type 0 where
-  by_taking : Gaining l mode (Take l mode) false (Locked l mode)
-  by_trying : (past : ℕ) → Gaining l mode (Try l mode past) true (Tried l mode)
-
--- Its lock is one of the plan's and not held, there is room for it, and it is held behind the others. A mutex is
+-- What a take or a try of a lock finds. Its lock is one of the plan's and not held, there is room for it, and it is held behind the others. A mutex is
 -- gained exclusively.
 pub record GainFits (plan : Plan) (l : LockNo) (mode : Mode) (by_try : Bool) (hs xs : List Held) : Type 0 where
   pub lock : l.0 < length plan.locks
@@ -139,6 +215,18 @@ pub record GainFits (plan : Plan) (l : LockNo) (mode : Mode) (by_try : Bool) (hs
   pub unheld : hold_in hs l.0 ≡ NotHeld
   pub few : length hs < most_held
   pub behind : hs ++ (record { l = l; mode = mode; by_try = by_try }) ∷ [] ≡ xs
+
+-- what a wait on a channel finds
+pub record WaitFits (plan : Plan) (d : ℕ) (hs xs : List Held) : Type 0 where
+  pub chan : d < length plan.chans
+  pub held : hold_in hs (chan_lock plan d) ≢ NotHeld
+  pub last : is_last (chan_lock plan d) hs ≡ true
+  pub same : hs ≡ xs
+
+slice_get_none : {A : Type 0} (xs : List A) (i : ℕ) → slice_get xs i ≡ None → i < length xs → ⊥
+slice_get_none [] i e l = absurd (omega arith)
+slice_get_none (x ∷ xs) zero e l = absurd (none-some x (sym e))
+slice_get_none (x ∷ xs) (suc i) e l = slice_get_none xs i e (omega arith)
 
 abbrev kind_in : Option LockDecl → Option Kind
 kind_in o = option_map (λ d. d.kind) o
@@ -158,33 +246,51 @@ module _ (plan : Plan) where
             absurd (let z : (false || false) ≡ true = rw k at f in cc),
       )
 
-  gain_fits : (l : LockNo) (mode : Mode) (by_try : Bool) (hs xs : List Held) → Passes (gaining_tests plan.locks l mode hs) → hs ++ (record { l = l; mode = mode; by_try = by_try }) ∷ [] ≡ xs
+  pub gain_passes : (l : LockNo) (mode : Mode) (by_try : Bool) (hs xs : List Held) → Passes (gaining_tests plan.locks l mode hs) → hs ++ (record { l = l; mode = mode; by_try = by_try }) ∷ [] ≡ xs
       → GainFits plan l mode by_try hs xs
-  gain_fits l mode by_try hs xs e behind =
+  gain_passes l mode by_try hs xs e behind =
       let room = passed _ _ e in
       let kind = passed _ _ room.1 in
       let free = passed _ _ kind.1 in
       let so = may_be_held_so l mode kind.0 in
       record { lock = so.0; mutex = so.1; unheld = unheld_is (hold_in hs l.0) free.0; few = ltb-true (length hs) most_held room.0; behind = behind }
 
-  pub gaining_fits : {l : LockNo} {mode : Mode} {op : Op} {b : Bool} {e : Event} {hs xs : List Held} → Gaining l mode op b e → Leads plan op hs xs → GainFits plan l mode b hs xs
-  gaining_fits {l} {mode} {hs = hs} {xs = xs} by_taking f = gain_fits l mode false hs xs f.passes f.behind
-  gaining_fits {l} {mode} {hs = hs} {xs = xs} (by_trying past) f = gain_fits l mode true hs xs f.passes f.behind
-
   pub release_fits : (l : LockNo) (hs xs : List Held) → Leads plan (Release l) hs xs → (hold_in hs l.0 ≢ NotHeld) × (without_lock l.0 hs ≡ xs)
   release_fits l hs xs f = (λ z. let t = (passed _ _ f.passes).0 in let u = ap (λ (x : Hold). not (is_unheld x)) z in cc, f.behind)
 
-  leads_locks : (op : Op) (hs xs : List Held) → Leads plan op hs xs → AreLocks (length plan.locks) hs → AreLocks (length plan.locks) xs
-  leads_locks op hs xs f a = subst (AreLocks (length plan.locks)) f.behind (go op f.passes)
+  -- A wait's channel is one of the plan's. Its lock is held, and was gained last and not by a try; the wait leaves what
+  -- is held.
+  pub wait_fits : (d : ChanNo) (hs xs : List Held) → Leads plan (Sleep d) hs xs → WaitFits plan d.0 hs xs
+  wait_fits d hs xs f = go (slice_get plan.chans d.0) refl (passed _ _ f.passes).1
     where
-      gained : (l : LockNo) (mode : Mode) (by_try : Bool) → Passes (gaining_tests plan.locks l mode hs) → AreLocks (length plan.locks) (hs ++ (record { l = l; mode = mode; by_try = by_try }) ∷ [])
-      gained l mode by_try e = let g = gain_fits l mode by_try hs _ e refl in one_gained (length plan.locks) (record { l = l; mode = mode; by_try = by_try }) hs g.lock g.unheld a
+      go : (o : Option ChanDecl) → slice_get plan.chans d.0 ≡ o → Passes (where_some (λ (x : ChanDecl). wait_tests plan.locks x.lock hs) o) → WaitFits plan d.0 hs xs
+      go None i q = let lt = ltb-true d.0 (length plan.chans) (passed _ _ f.passes).0 in absurd (slice_get_none plan.chans d.0 i lt)
+      go (Some x) i q =
+          let lock : x.lock.0 ≡ chan_lock plan d.0 = sym (ap (λ (o : Option ℕ). unwrap_or o 0) (slice_get-map (λ (x : ChanDecl). x.lock.0) plan.chans d.0 ∙ ap (option_map (λ (x : ChanDecl). x.lock.0)) i)) in
+          let held = passed _ _ q in
+          let last = passed _ _ (passed _ _ held.1).1 in
+          record {
+            chan = ltb-true d.0 (length plan.chans) (passed _ _ f.passes).0;
+            held = λ z. held_is (hold_in hs x.lock.0) (not-true _ held.0) (ap (hold_in hs) lock ∙ z);
+            last = ap (λ l. is_last l hs) (sym lock) ∙ last.0;
+            same = f.behind;
+          }
 
-      go : (o : Op) → Passes (operation_tests plan.locks plan.chans o hs) → AreLocks (length plan.locks) (held_behind o hs)
+  -- a wake's channel is one of the plan's
+  pub wake_fits : (d : ChanNo) (tests : List Test) → Passes (channel_test plan.chans d ∷ tests) → d.0 < length plan.chans
+  wake_fits d tests e = ltb-true d.0 (length plan.chans) (passed _ _ e).0
+
+  leads_locks : (op : Op) (hs xs : List Held) → Leads plan op hs xs → AreLocks plan hs → AreLocks plan xs
+  leads_locks op hs xs f a = subst (AreLocks plan) f.behind (go op f.passes)
+    where
+      gained : (l : LockNo) (mode : Mode) (by_try : Bool) → Passes (gaining_tests plan.locks l mode hs) → AreLocks plan (hs ++ (record { l = l; mode = mode; by_try = by_try }) ∷ [])
+      gained l mode by_try e = let g = gain_passes l mode by_try hs _ e refl in one_gained plan (record { l = l; mode = mode; by_try = by_try }) hs g.lock g.mutex g.unheld a
+
+      go : (o : Op) → Passes (operation_tests plan.locks plan.chans o hs) → AreLocks plan (held_behind o hs)
       go (Take l mode) e = gained l mode false e
       go (Try l mode past) e = gained l mode true e
       go EndTry e = a
-      go (Release l) e = one_released (length plan.locks) l.0 hs a
+      go (Release l) e = one_released plan l.0 hs a
       go (Set l key value) e = a
       go (Add l key amount) e = a
       go (Get l key) e = a
@@ -193,6 +299,26 @@ module _ (plan : Plan) where
       go (Sleep c) e = a
       go (WakeOne c) e = a
       go (WakeAll c) e = a
+
+  leads_few : (op : Op) (hs xs : List Held) → Leads plan op hs xs → length hs ≤ most_held → length xs ≤ most_held
+  leads_few op hs xs f few = subst (λ (ys : List Held). length ys ≤ most_held) f.behind (go op f.passes)
+    where
+      gained : (x : Held) → Passes (gaining_tests plan.locks x.l x.mode hs) → length (hs ++ x ∷ []) ≤ most_held
+      gained x e = let room = ltb-true (length hs) most_held (passed _ _ e).0 in omega (arith, room, length-append hs (x ∷ []))
+
+      go : (o : Op) → Passes (operation_tests plan.locks plan.chans o hs) → length (held_behind o hs) ≤ most_held
+      go (Take l mode) e = gained _ e
+      go (Try l mode past) e = gained _ e
+      go EndTry e = few
+      go (Release l) e = omega (arith, fewer_without l.0 hs, few)
+      go (Set l key value) e = few
+      go (Add l key amount) e = few
+      go (Get l key) e = few
+      go (Base prio) e = few
+      go Show e = few
+      go (Sleep c) e = few
+      go (WakeOne c) e = few
+      go (WakeAll c) e = few
 
 -- 4. What a thread's first operations lead to
 
@@ -230,21 +356,6 @@ passes_block ops n past b = record {
   leaves = ap (held_of ops) b.goes_on ∙ held_through-next ops [] b.end EndTry b.endtry ∙ b.leaves;
 }
 
--- whether a turn runs the operation, until waits and wakes come
-abbrev pub is_run : Op → Bool
-is_run (Take l mode) = true
-is_run (Try l mode past) = true
-is_run EndTry = false
-is_run (Release l) = true
-is_run (Set l key value) = true
-is_run (Add l key amount) = true
-is_run (Get l key) = true
-is_run (Base prio) = true
-is_run Show = true
-is_run (Sleep c) = false
-is_run (WakeOne c) = false
-is_run (WakeAll c) = false
-
 module _ (plan : Plan) (p : IsProper plan) (t : ℕ) where
   abbrev ops : List Op
   ops = operations_of plan t
@@ -256,13 +367,13 @@ module _ (plan : Plan) (p : IsProper plan) (t : ℕ) where
   pub next_leads : (n : ℕ) (op : Op) → slice_get ops n ≡ Some op → Leads plan op (held n) (held (suc n))
   next_leads n op e = record { passes = (p.fits t).each n op e; behind = sym (held_through-next ops [] n op e) }
 
-  pub held_are_locks : (n : ℕ) → AreLocks (length plan.locks) (held n)
-  held_are_locks zero = none_held (length plan.locks)
+  pub held_are_locks : (n : ℕ) → AreLocks plan (held n)
+  held_are_locks zero = none_held plan
   held_are_locks (suc n) = go (slice_get ops n) refl (held_are_locks n)
     where
-      go : (o : Option Op) → slice_get ops n ≡ o → AreLocks (length plan.locks) (held n) → AreLocks (length plan.locks) (held (suc n))
+      go : (o : Option Op) → slice_get ops n ≡ o → AreLocks plan (held n) → AreLocks plan (held (suc n))
       go (Some op) e a = leads_locks plan op (held n) (held (suc n)) (next_leads n op e) a
-      go None e a = subst (AreLocks (length plan.locks)) (sym (held_through-past ops [] n e)) a
+      go None e a = subst (AreLocks plan) (sym (held_through-past ops [] n e)) a
 
   -- a busy try goes on behind its block
   pub try_passes : (n : ℕ) (l : LockNo) (mode : Mode) (past : ℕ) → slice_get ops n ≡ Some (Try l mode past) → PassesBlock ops n past
@@ -272,25 +383,11 @@ module _ (plan : Plan) (p : IsProper plan) (t : ℕ) where
   pub held_none : (n : ℕ) → length ops ≤ n → held n ≡ []
   held_none n l = ap (λ (os : List Op). held_through os []) (take_all n ops l ∙ sym (take_all (length ops) ops (omega arith))) ∙ (p.fits t).released
 
-  -- 5. Which operations a thread comes to
-
-  no_channel : (c : ChanNo) → (ltb c.0 (length plan.chans)) ≡ true → ⊥
-  no_channel c e = let z = ap (λ (cs : List ChanDecl). ltb c.0 (length cs)) p.no_channel in absurd (omega (arith, ltb-true c.0 (length plan.chans) e, ap (λ (cs : List ChanDecl). length cs) p.no_channel))
-
-  -- it comes to no channel, and where it is at no endtry its operation is run
-  pub runs_next : (n : ℕ) (op : Op) → slice_get ops n ≢ Some EndTry → slice_get ops n ≡ Some op → is_run op ≡ true
-  runs_next n op no_endtry e = go op e (next_leads n op e).passes
+  -- and they are few
+  pub held_few : (n : ℕ) → length (held n) ≤ most_held
+  held_few zero = omega arith
+  held_few (suc n) = go (slice_get ops n) refl (held_few n)
     where
-      go : (o : Op) → slice_get ops n ≡ Some o → Passes (operation_tests plan.locks plan.chans o (held n)) → is_run o ≡ true
-      go (Take l mode) i q = refl
-      go (Try l mode past) i q = refl
-      go EndTry i q = absurd (no_endtry i)
-      go (Release l) i q = refl
-      go (Set l key value) i q = refl
-      go (Add l key amount) i q = refl
-      go (Get l key) i q = refl
-      go (Base prio) i q = refl
-      go Show i q = refl
-      go (Sleep c) i q = absurd (no_channel c (passed _ _ q).0)
-      go (WakeOne c) i q = absurd (no_channel c (passed _ _ q).0)
-      go (WakeAll c) i q = absurd (no_channel c (passed _ _ q).0)
+      go : (o : Option Op) → slice_get ops n ≡ o → length (held n) ≤ most_held → length (held (suc n)) ≤ most_held
+      go (Some op) e few = leads_few plan op (held n) (held (suc n)) (next_leads n op e) few
+      go None e few = subst (λ (hs : List Held). length hs ≤ most_held) (sym (held_through-past ops [] n e)) few

@@ -1,28 +1,28 @@
--- A turn is idle exactly where its thread sleeps, and ended exactly where the thread has ended; it then changes nothing.
--- So a round that was idle throughout leaves each thread that hasn't ended on a queue.
+-- A turn is idle exactly where its thread sleeps, and ended exactly where the thread has ended; both change nothing. So a
+-- round that was idle throughout leaves each thread that hasn't ended on a queue.
 use Rattle.std.proofs.Common.{◌≡◌, ◌⊎◌, ◌↔◌, ℕ, zero, suc, ◌+◌, ◌<◌, ◌≤◌, Bool, true, false, not, cond, ◌&&◌, ◌||◌, nat_le, List, [], ◌∷◌, length, filter, slice_get, Option, Some, None, refl, sym, ap, inl, inr, arith, ◌∙◌, subst}
 use Rattle.std.specs.List.{range_with_len}
 use Rattle.std.proofs.lemmas.Bool.{cases_eq, and_parts, le-leb}
-use Rattle.std.proofs.lemmas.Option.{none-some, slice_get_cases}
+use Rattle.std.proofs.lemmas.Option.{none-some, slice_get_cases, slice_get_within}
 use Rattle.lock_model.specs.Counts.{any_below, is_empty, one}
 use Rattle.lock_model.specs.Config.{Config}
 use Rattle.lock_model.specs.Plans.{config_of, operations_of}
-use Rattle.lock_model.specs.Operations.{IsProper, hold_in}
+use Rattle.lock_model.specs.Operations.{IsProper, hold_in, without_lock}
 use Rattle.lock_model.specs.Holds.{Hold, NotHeld, is_unheld}
 use Rattle.lock_model.specs.Queues.{Mark, stands}
 use Rattle.lock_state.specs.State.{State, Queued}
 use Rattle.lock_state.specs.Facts.{LawfulTurn, QueuedStands, StandsOnce}
 use Rattle.lock_state.specs.Facts.Waits.{times_marked, at_queue}
-use Rattle.lock_state.specs.Run.{Run, Row, Course, nothing, turn_of, run_behind, run_after, has_ended, owes, is_walking, holds_none, round_of, threads_of, with_turn, after_turn, go_on, is_over, is_stuck, is_idle, course_after}
+use Rattle.lock_state.specs.Run.{Run, Row, Course, nothing, turn_of, run_behind, run_after, has_ended, owes, waits_on, lock_of_wait, is_walking, holds_none, round_of, threads_of, with_turn, after_turn, go_on, is_over, is_stuck, is_idle, course_after}
 use Rattle.lock_model.specs.declared.plan.Plan.{Plan}
 use Rattle.lock_model.specs.declared.plan.QueueName.{QueueName}
 use Rattle.lock_model.specs.declared.turn.StepKind.{StepKind}
 use Rattle.lock_model.specs.declared.turn.Turn.{Turn}
 use Rattle.lock_model.specs.declared.turn.Turn.TheVariants.{Did, Idle, Ended}
 use Rattle.lock_model.specs.declared.event.Held.{Held}
-use Rattle.lock_laws.specs.OnTrack.{IsOnTrack, IsAtOperation, IsSleeping}
+use Rattle.lock_laws.specs.OnTrack.{IsOnTrack, IsAtOperation, IsSleeping, without_unheld}
 use Rattle.lock_laws.proofs.Kit.{sum_below-zero, is_queue_same}
-use Rattle.lock_laws.proofs.HeldLists.{held_none, runs_next}
+use Rattle.lock_laws.proofs.HeldLists.{held_none}
 use Rattle.lock_laws.proofs.Turning.{behind_course}
 use Rattle.lock_laws.proofs.Table as table
 
@@ -32,9 +32,14 @@ use Rattle.lock_laws.proofs.Table as table
 none_left : (plan : Plan) (r : Run) (t : ℕ) → slice_get (operations_of plan t) (r.next_op t) ≡ None → length (operations_of plan t) ≤ r.next_op t
 none_left plan r t e = elim (slice_get_cases (operations_of plan t) (r.next_op t)).1 [ inl z ↦ absurd (none-some z.0 (sym e ∙ z.2)) | inr z ↦ z.0 ]
 
+without_none : (held : ℕ → Hold) (o : Option ℕ) → without_unheld held o [] ≡ []
+without_none held None = refl
+without_none held (Some l) = elim (is_unheld (held l)) as (λ b. cond b (without_lock l []) [] ≡ []) [ true ↦ refl | false ↦ refl ]
+
 holds_nothing : (plan : Plan) (r : Run) (t : ℕ) → IsProper plan → IsOnTrack plan r → slice_get (operations_of plan t) (r.next_op t) ≡ None → (l : ℕ) → r.state.held t l ≡ NotHeld
 holds_nothing plan r t p k e l =
-    k.holds t l ∙ ap (λ (hs : List Held). hold_in hs l) (held_none plan p t (r.next_op t) (none_left plan r t e))
+    k.holds t l ∙ ap (λ (hs : List Held). hold_in (without_unheld (r.state.held t) (lock_of_wait (config_of plan) r.state t) hs) l) (held_none plan p t (r.next_op t) (none_left plan r t e))
+    ∙ ap (λ (hs : List Held). hold_in hs l) (without_none (r.state.held t) (lock_of_wait (config_of plan) r.state t))
 
 nowhere-any_below : (n : ℕ) (f : ℕ → Bool) → ((j : ℕ) → f j ≡ false) → any_below n f ≡ false
 unfolding any_below
@@ -47,21 +52,23 @@ unfolding has_ended
 no_operation_left plan r t p k i =
     let made : nat_le (length (operations_of plan t)) (r.next_op t) ≡ true = le-leb (length (operations_of plan t)) (r.next_op t) (none_left plan r t i.next) in
     let none = nowhere-any_below (length plan.locks) (λ l. not (is_unheld (r.state.held t l))) (λ l. ap (λ (x : Hold). not (is_unheld x)) (holds_nothing plan r t p k i.next l)) in
-    rw (made, i.free.no_walk, i.free.unmarked, none) refl
+    rw (made, i.free.no_walk, i.free.unmarked, i.free.released, none) refl
 
 -- a thread that has ended has no marked list
 ended_unmarked : (plan : Plan) (r : Run) (t : ℕ) → has_ended plan r t ≡ true → r.state.marked t ≡ []
 unfolding has_ended
 ended_unmarked plan r t e =
-    let first = (and_parts (nat_le (length (operations_of plan t)) (r.next_op t) && not (owes r.state t)) (holds_none (config_of plan) r.state t) e).0 in
-    go (r.state.marked t) (is_walking (r.state.walk t)) (and_parts (nat_le (length (operations_of plan t)) (r.next_op t)) (not (owes r.state t)) first).1
+    let free = not (owes (config_of plan) r.state t) in
+    let first = (and_parts (nat_le (length (operations_of plan t)) (r.next_op t) && free) (holds_none (config_of plan) r.state t) e).0 in
+    go (r.state.marked t) (is_walking (r.state.walk t)) _ (and_parts (nat_le (length (operations_of plan t)) (r.next_op t)) free first).1
   where
-    go : (ms : List Mark) (w : Bool) → not (w || not (is_empty ms)) ≡ true → ms ≡ []
-    go [] w i = refl
-    go (m ∷ ms) true i = absurd cc
-    go (m ∷ ms) false i = absurd cc
+    go : (ms : List Mark) (w owed : Bool) → not (w || not (is_empty ms) || owed) ≡ true → ms ≡ []
+    go [] w owed i = refl
+    go (m ∷ ms) true owed i = absurd cc
+    go (m ∷ ms) false owed i = absurd cc
 
--- what a row answers: that the thread has ended, that it is idle, and then it sleeps in a proper plan's run on track, or what it did
+-- what a row answers: that the thread has ended; that it is idle, and then it sleeps in a proper plan's run on track; or
+-- what it did
 data Answers (plan : Plan) (r : Run) (t : ℕ) (row : Row) : Type 0 where
   ended : row ≡ nothing Ended → has_ended plan r t ≡ true → Answers plan r t row
   idles : row ≡ nothing Idle → (IsProper plan → IsOnTrack plan r → IsSleeping plan r t) → Answers plan r t row
@@ -75,17 +82,19 @@ module _ (plan : Plan) (r : Run) (t : ℕ) where
   answered _ (table.shifts o l w e f) = acts _ refl
   answered _ (table.ends_at_thread o w f) = acts _ refl
   answered _ (table.marks m ms w e) = acts _ refl
-  answered _ (table.is_queued e f q) = idles refl (λ p k. record { going = e; queued = q; no_walk = f.no_walk; unmarked = f.unmarked })
+  answered _ (table.gives_up w e f back) = acts _ refl
+  answered _ (table.is_queued e f q) = idles refl (λ p k. record { going = e; queued = q; free = f })
   answered _ (table.resumes q cause f e) = acts _ refl
   answered _ (table.gains by i a f) = acts _ refl
   answered _ (table.claims by i a f) = acts _ refl
-  answered _ (table.enters l mode i e) = acts _ refl
+  answered _ (table.enters by i a stands) = acts _ refl
   answered _ (table.finds_busy l mode past i e) = acts _ refl
-  answered _ (table.drops l i e) = acts _ refl
-  answered _ (table.opens l i e) = acts _ refl
+  answered _ (table.releases l i back) = acts _ refl
+  answered _ (table.sleeps d i e) = acts _ refl
+  answered _ (table.wakes d by i) = acts _ refl
   answered _ (table.makes_entry op e i n) = acts _ refl
   answered _ (table.has_no_operation e i) = idles refl (λ p k. absurd (let z = sym e ∙ no_operation_left plan r t p k i in cc))
-  answered _ (table.is_not_run op i e) = idles refl (λ p k. absurd (let z = sym e ∙ runs_next plan p t (r.next_op t) op (k.no_endtry t) i.next in cc))
+  answered _ (table.is_at_endtry i) = idles refl (λ p k. absurd (k.no_endtry t i.next))
 
   answer : Answers plan r t (turn_of plan r t)
   answer = answered (turn_of plan r t) (table.fits plan r t)
@@ -97,7 +106,7 @@ module _ (plan : Plan) (r : Run) (t : ℕ) where
 
   sleeping : IsSleeping plan r t → (turn_of plan r t).answer ≡ Idle
   unfolding turn_of
-  sleeping z = rw (z.going, z.no_walk, z.unmarked, z.queued) refl
+  sleeping z = rw (z.going, z.free.no_walk, z.free.unmarked, z.free.released, z.queued) refl
 
   over : (row : Row) → Answers plan r t row → row.answer ≡ Ended → has_ended plan r t ≡ true
   over row (ended f e) i = e
@@ -225,4 +234,14 @@ stuck_sleeps plan n t p stuck lt going = (asleep t lt going, stands_there (confi
       where
         go : (b : Bool) → has_ended plan r u ≡ b → r.state.marked u ≡ []
         go true e = ended_unmarked plan r u e
-        go false e = (asleep u l e).unmarked
+        go false e = (asleep u l e).free.unmarked
+
+-- 3. The end
+
+-- a thread whose operations are done doesn't wait, as a wait that it is in is an operation that is left
+pub done_awake : (plan : Plan) (r : Run) (t : ℕ) → IsOnTrack plan r → length (operations_of plan t) ≤ r.next_op t → waits_on (r.state.log t) ≡ None
+done_awake plan r t k l = go (waits_on (r.state.log t)) refl
+  where
+    go : (w : Option ℕ) → waits_on (r.state.log t) ≡ w → w ≡ None
+    go None e = refl
+    go (Some d) e = absurd (omega (arith, l, slice_get_within (operations_of plan t) (r.next_op t) _ (k.waiting t d e)))

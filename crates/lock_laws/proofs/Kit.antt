@@ -45,6 +45,10 @@ pub put_at_other : {A : Type 0} (f : ℕ → ℕ → A) (i k : ℕ) (v : A) (j l
 unfolding put_at
 put_at_other f i k v j l h = rw (ne_eqb i j h)
 
+-- the row of another place
+pub put_at_row : {A : Type 0} (f : ℕ → ℕ → A) (i k : ℕ) (v : A) (j : ℕ) → (i ≡ j → ⊥) → put_at f i k v j ≡ f j
+put_at_row f i k v j h = λ p l. put_at_other f i k v j l h p
+
 pub put_at_beside : {A : Type 0} (f : ℕ → ℕ → A) (i k : ℕ) (v : A) (j l : ℕ) → (k ≡ l → ⊥) → put_at f i k v j l ≡ f j l
 unfolding put_at
 put_at_beside f i k v j l h = rw (ne_eqb k l h) (elim (eqb i j) as (λ b. cond (b && false) v (f j l) ≡ f j l) [ true ↦ refl | false ↦ refl ])

@@ -1,81 +1,21 @@
 -- Each run of a proper plan has a legal history, and a whole one where all threads have ended.
-use Rattle.std.proofs.Common.{◌≡◌, ℕ, zero, suc, ◌+◌, ◌<◌, ◌≤◌, Bool, true, false, cond, ◌||◌, List, [], ◌∷◌, length, map, All, refl, sym, ap, inl, inr, arith, eqb, ◌∙◌, subst}
+use Rattle.std.proofs.Common.{◌≡◌, ℕ, zero, suc, ◌+◌, ◌<◌, ◌≤◌, Bool, true, false, cond, List, [], length, map, All, Option, Some, None, refl, ap, inl, inr, arith, subst}
 use Rattle.std.specs.Prelude.{not, ◌&&◌, nat_le, unwrap_or}
 use Rattle.std.specs.List.{list_all, range_with_len}
 use Rattle.std.proofs.lemmas.Bool.{cases_eq, cases_lt, and_parts, leb-true}
 use Rattle.std.proofs.lemmas.List.{reverse-reverse, length-map}
-use Rattle.std.proofs.lemmas.List.Elements.{All-head, All-tail}
-use Rattle.std.proofs.lemmas.Option.{slice_get_past}
-use Rattle.lock_model.specs.Config.{Config}
+use Rattle.std.proofs.lemmas.Option.{slice_get_past, slice_get_within}
 use Rattle.lock_model.specs.Operations.{IsProper}
 use Rattle.lock_model.specs.Plans.{config_of, operations_of}
 use Rattle.lock_model.specs.Text.{IsDone, IsStuck, IsTooLong}
-use Rattle.lock_model.specs.Law.{IsLegal, Before, EntriesFollowOperations, FitsSleepers, passes_over, is_passed_over, WakingsNameSleepers, is_halt, HaltsOnlyWhenRunning}
+use Rattle.lock_model.specs.Law.{IsLegal, IsAtEnd, EntriesFollowOperations}
 use Rattle.lock_model.specs.declared.plan.Plan.{Plan}
 use Rattle.lock_model.specs.declared.plan.ThreadDecl.{ThreadDecl}
-use Rattle.lock_model.specs.declared.event.Entry.{Entry}
-use Rattle.lock_model.specs.declared.event.Event.{Event}
-use Rattle.lock_model.specs.declared.event.Event.TheVariants.{Locked, Tried, Busy, Unlocked, Set, Added, Got, Base, Shown, Sleeps, Woke, HaltedChan, HaltedLock, WokeOne, WokeAll, Reversed}
-use Rattle.lock_state.specs.Run.{Run, Course, has_ended, owes, holds_none, all_ended, after_turns, course_after, is_stuck, ending_of, is_cut_short, HasLegalHistory, scheduled_run}
-use Rattle.lock_laws.specs.OnTrack.{IsOnTrack, SleepsNobody, is_of_sleep}
+use Rattle.lock_state.specs.Run.{Run, Course, waits_on, has_ended, owes, holds_none, all_ended, after_turns, course_after, is_stuck, ending_of, is_cut_short, HasLegalHistory, scheduled_run}
+use Rattle.lock_laws.specs.OnTrack.{IsOnTrack, place_by, place_in}
 use Rattle.lock_laws.proofs.Turning.{behind_turns, behind_course}
 
--- 1. Histories without a sleep: no waking names a thread or passes over one, and nobody was halted
-
-record IsQuiet (e : Event) : Type 0 where
-  fits : (es : List Entry) (t : ℕ) → FitsSleepers e es t
-  passes_nobody : (c : Config) (es : List Entry) (t : ℕ) → passes_over c es e t ≡ false
-  no_halt : is_halt e ≡ false
-
-quiet : (e : Event) → is_of_sleep e ≡ false → IsQuiet e
-quiet (Locked l mode) f = record { fits = λ es t. tt; passes_nobody = λ c es t. refl; no_halt = refl }
-quiet (Tried l mode) f = record { fits = λ es t. tt; passes_nobody = λ c es t. refl; no_halt = refl }
-quiet (Busy l seen) f = record { fits = λ es t. tt; passes_nobody = λ c es t. refl; no_halt = refl }
-quiet (Unlocked l mode) f = record { fits = λ es t. tt; passes_nobody = λ c es t. refl; no_halt = refl }
-quiet (Set l key value) f = record { fits = λ es t. tt; passes_nobody = λ c es t. refl; no_halt = refl }
-quiet (Added l key amount) f = record { fits = λ es t. tt; passes_nobody = λ c es t. refl; no_halt = refl }
-quiet (Got l key found) f = record { fits = λ es t. tt; passes_nobody = λ c es t. refl; no_halt = refl }
-quiet (Base prio) f = record { fits = λ es t. tt; passes_nobody = λ c es t. refl; no_halt = refl }
-quiet (Shown base effective) f = record { fits = λ es t. tt; passes_nobody = λ c es t. refl; no_halt = refl }
-quiet (Reversed l held) f = record { fits = λ es t. tt; passes_nobody = λ c es t. refl; no_halt = refl }
-quiet (Sleeps d) f = absurd cc
-quiet (Woke d) f = absurd cc
-quiet (HaltedChan d) f = absurd cc
-quiet (HaltedLock l) f = absurd cc
-quiet (WokeOne d woken) f = absurd cc
-quiet (WokeAll d woken) f = absurd cc
-
--- the newest entry is of no sleep, and so are the others
-first_quiet : (e : Entry) (es : List Entry) → SleepsNobody (e ∷ es) → IsQuiet e.event
-first_quiet e es a = quiet e.event (All-head (λ (x : Entry). is_of_sleep x.event ≡ false) e es a)
-
-others_quiet : (e : Entry) (es : List Entry) → SleepsNobody (e ∷ es) → SleepsNobody es
-others_quiet e es a = All-tail (λ (x : Entry). is_of_sleep x.event ≡ false) e es a
-
-nobody_passed : (c : Config) (es : List Entry) (t : ℕ) → SleepsNobody es → is_passed_over c es t ≡ false
-unfolding is_passed_over
-nobody_passed c [] t a = refl
-nobody_passed c (e ∷ es) t a = go (eqb e.thread.0 t) (passes_over c es e.event t) (is_passed_over c es t) ((first_quiet e es a).passes_nobody c es t) (nobody_passed c es t (others_quiet e es a))
-  where
-    go : (own now before : Bool) → now ≡ false → before ≡ false → cond own false (now || before) ≡ false
-    go true now before i j = refl
-    go false now before i j = rw (i, j) refl
-
-wakings : (c : Config) (es : List Entry) → SleepsNobody es → WakingsNameSleepers c es
-unfolding WakingsNameSleepers
-wakings c [] a = tt
-wakings c (e ∷ es) a = (
-  (first_quiet e es a).fits es e.thread.0,
-  (λ i. absurd (let z : false ≡ true = sym (nobody_passed c es e.thread.0 (others_quiet e es a)) ∙ i in cc)),
-  wakings c es (others_quiet e es a),
-)
-
-halts : (es : List Entry) → SleepsNobody es → HaltsOnlyWhenRunning false es
-unfolding HaltsOnlyWhenRunning
-halts [] a = tt
-halts (e ∷ es) a = ((λ i. (first_quiet e es a).no_halt), halts es (others_quiet e es a))
-
--- 2. The end of a run: each thread has made all its operations
+-- 1. The end of a run: each thread has made all its operations, and is in no wait
 
 passes_at : (f : ℕ → Bool) (a n t : ℕ) → list_all f (range_with_len a n) ≡ true → a ≤ t → t < a + n → f t ≡ true
 passes_at f a zero t e i l = absurd (omega arith)
@@ -95,27 +35,34 @@ unfolding has_ended
 all_made plan r t e = elim (cases_lt t (length plan.threads)) [
   | inl i ↦
       let ended : has_ended plan r t ≡ true = passes_at (has_ended plan r) 0 (length plan.threads) t e (omega arith) (omega (arith, i)) in
-      let first = and_parts (nat_le (length (operations_of plan t)) (r.next_op t) && not (owes r.state t)) (holds_none (config_of plan) r.state t) ended in
-      leb-true (length (operations_of plan t)) (r.next_op t) (and_parts (nat_le (length (operations_of plan t)) (r.next_op t)) (not (owes r.state t)) first.0).0
+      let first = and_parts (nat_le (length (operations_of plan t)) (r.next_op t) && not (owes (config_of plan) r.state t)) (holds_none (config_of plan) r.state t) ended in
+      leb-true (length (operations_of plan t)) (r.next_op t) (and_parts (nat_le (length (operations_of plan t)) (r.next_op t)) (not (owes (config_of plan) r.state t)) first.0).0
   | inr i ↦ omega (arith, no_operations plan t i)
 ]
 
--- 3. The law
+at_end : (plan : Plan) (r : Run) (t : ℕ) → IsOnTrack plan r → length (operations_of plan t) ≤ r.next_op t → IsAtEnd (operations_of plan t) (place_in r t)
+at_end plan r t k made = go (waits_on (r.state.log t)) refl
+  where
+    go : (o : Option ℕ) → waits_on (r.state.log t) ≡ o → IsAtEnd (operations_of plan t) (place_by (r.next_op t) o)
+    go None e = omega (arith, k.within t, made)
+    go (Some d) e = absurd (omega (arith, made, slice_get_within (operations_of plan t) (r.next_op t) _ (k.waiting t d e)))
+
+-- 2. The law
 
 legal_on_track : (plan : Plan) (r : Run) (cut_short : Bool) → IsOnTrack plan r → (cut_short ≡ false → all_ended plan r ≡ true) → IsLegal plan false cut_short r.state.history
 unfolding EntriesFollowOperations
 legal_on_track plan r cut_short k whole = record {
   tickets_run = k.lawful.lawful.books.tickets_run;
   entries_follow_operations = λ t. record {
-    place = Before (r.next_op t);
+    place = place_in r t;
     leads = k.follows t;
-    whole = λ e. omega (arith, k.within t, all_made plan r t (whole e));
+    whole = λ e. at_end plan r t k (all_made plan r t (whole e));
   };
   sections_exclude = k.lawful.lawful.books.sections_exclude;
   edits_in_sections = k.lawful.lawful.books.edits_in_sections;
   reads_replay = k.lawful.lawful.books.reads_replay;
-  wakings_name_sleepers = wakings (config_of plan) r.state.history k.no_sleeps;
-  halts_only_when_running = halts r.state.history k.no_sleeps;
+  wakings_name_sleepers = k.sleepers.wakings_name_sleepers;
+  halts_only_when_running = k.no_halts;
   shown_is_explained = k.lawful.lawful.books.shown_is_explained;
 }
 

@@ -33,11 +33,14 @@ pub mod Table
 pub mod Follows
 pub mod Entries
 pub mod OnTrack
+pub mod Shares
+pub mod Walks
 pub mod TurnsOfWalks
 pub mod TurnsOfWaits
 pub mod TurnsOfGains
 pub mod TurnsOfReleases
 pub mod TurnsOfNotes
+pub mod TurnsOfSleeps
 pub mod Turning
 pub mod LegalRuns
 pub mod Idle

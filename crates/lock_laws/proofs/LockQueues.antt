@@ -1,11 +1,10 @@
 -- A lock's queue: what the enters of both sorts have in common beside the law of standing, and the opens of both beside
 -- the law of taking off. The word shows its waiters and matches its holders, and of a free one somebody is called.
-use Rattle.std.proofs.Common.{◌≡◌, ◌⊎◌, ℕ, ◌<◌, ◌≤◌, Bool, true, false, not, List, [], Option, Some, None, refl, sym, ap, inl, inr, arith}
+use Rattle.std.proofs.Common.{◌≡◌, ◌⊎◌, ℕ, ◌≤◌, Bool, true, false, not, List, [], Option, Some, None, refl, sym, ap, inl, inr, arith}
 use Rattle.std.proofs.lemmas.Bool.{cases_eq}
 use Rattle.lock_model.specs.Config.{Config}
 use Rattle.lock_model.specs.Counts.{one, at_option, is_empty}
-use Rattle.lock_model.specs.History.{open_in}
-use Rattle.lock_model.specs.Holds.{NotHeld, Holds}
+use Rattle.lock_model.specs.Holds.{NotHeld}
 use Rattle.lock_model.specs.Words.{Word, Free, is_free, shows_waiters, without_one, entered, opened, unshown, side_woken}
 use Rattle.lock_model.specs.Queues.{Waiter, Lists, Mark, lock_queue, list_of, with_list, dealt, head_after}
 use Rattle.lock_model.specs.declared.plan.Kind.{Kind}
@@ -13,8 +12,8 @@ use Rattle.lock_model.specs.declared.plan.Kind.TheVariants.{Mtx, Rw, Sx}
 use Rattle.lock_model.specs.declared.plan.Mode.{Mode}
 use Rattle.lock_model.specs.declared.plan.Side.{Side}
 use Rattle.lock_model.specs.declared.plan.Side.TheVariants.{X, S}
-use Rattle.lock_state.specs.State.{State, put, put_at, put_queue}
-use Rattle.lock_state.specs.Steps.LockWords.{without_held}
+use Rattle.lock_state.specs.State.{State, put, put_queue}
+use Rattle.lock_state.specs.Steps.Turnstiles.{IsLastHolder, after_last_release}
 use Rattle.lock_state.specs.Facts.{Lawful, BitsShowWaiters, MutexWaitersAreExclusive, CalledWants, FreeWordHasCalled, FreeMutexShowsNone, WordsMatchHolders, OnlyThreadsHold, HeldAreListed, SectionsAreHeld}
 use Rattle.lock_state.specs.Facts.Queues.{ShowsItsWaiters}
 use Rattle.lock_state.specs.Facts.Waits.{callers, calls_marked}
@@ -104,16 +103,6 @@ one_le : (b : Bool) → one b ≤ 1
 one_le true = omega arith
 one_le false = omega arith
 
--- the thread is the last holder, waiters are shown, and it has nobody marked
-pub record MayOpenLock (c : Config) (s : State) (t l : ℕ) (mode : Mode) : Type 0 where
-  pub thread : t < c.threads
-  pub lock : l < c.locks
-  pub held : s.held t l ≡ Holds mode
-  pub last : is_free (without_one (s.word l).holder) ≡ true
-  pub shown : shows_waiters (s.word l) ≡ true
-  pub unmarked : s.marked t ≡ []
-  pub closed : open_in c s.history t l ≡ NotHeld
-
 -- the side that is woken, its waiters, and what they leave
 abbrev pub side_opened : Config → State → ℕ → Side
 side_opened c s l = side_woken (c.kind l) (s.word l)
@@ -133,7 +122,7 @@ pub record Opened (c : Config) (n : State) : Type 0 where
   pub listed : HeldAreListed n.held n.held_locks
   pub sections : SectionsAreHeld c n.history n.held
 
-module _ {c : Config} {s : State} {t l : ℕ} {mode : Mode} (g : MayOpenLock c s t l mode) (h : Lawful c s) where
+module _ {c : Config} {s : State} {t l : ℕ} {mode : Mode} (g : IsLastHolder c s t l mode) (h : Lawful c s) where
   abbrev v : Word
   v = opened (c.kind l) (s.word l)
 
@@ -168,13 +157,7 @@ module _ {c : Config} {s : State} {t l : ℕ} {mode : Mode} (g : MayOpenLock c s
         | inr i ↦ rw (put_other s.word l v k i) (omega (arith, h.waits.free_word_has_called k))
       ]
 
-  pub opened_lock : Opened c (record s {
-    word = put s.word l v;
-    lists = put_queue s.lists (lock_queue l) (lists_left c s l);
-    marked = put s.marked t marks;
-    held = put_at s.held t l NotHeld;
-    held_locks = put s.held_locks t (without_held l (s.held_locks t));
-  })
+  pub opened_lock : Opened c (after_last_release c s t l)
   unfolding BitsShowWaiters MutexWaitersAreExclusive FreeMutexShowsNone WordsMatchHolders OnlyThreadsHold
       SectionsAreHeld
   opened_lock =

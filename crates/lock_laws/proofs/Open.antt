@@ -23,7 +23,7 @@ use Rattle.lock_laws.proofs.Sections.{apart}
 use Rattle.lock_laws.proofs.Shown.{lent_held}
 use Rattle.lock_laws.proofs.Nodes.{node_returned, loan_known, changed_known}
 use Rattle.lock_laws.proofs.LockQueues as lock_queues
-use Rattle.lock_laws.proofs.LockQueues.{MayOpenLock, side_opened, lists_left, head_left, whole_side, opened_lock}
+use Rattle.lock_laws.proofs.LockQueues.{side_opened, lists_left, head_left, whole_side, opened_lock}
 use Rattle.lock_laws.proofs.TakingOff.{by_signal}
 
 -- the woken side isn't empty
@@ -44,12 +44,9 @@ module _ (c : Config) (s : State) (t l : ℕ) (mode : Mode) (g : MayOpen c s t l
   abbrev q : QueueName
   q = lock_queue l
 
-  may_open : MayOpenLock c s t l mode
-  may_open = assumption
-
   nodes : OneNodeEach c n.loan_home n.loan
   unfolding after_open
-  nodes = node_returned c s.loan_home s.loan t l g.thread g.lock h.queues.one_node_each
+  nodes = node_returned c s.loan_home s.loan t l g.releases.thread g.releases.lock h.queues.one_node_each
 
   owners : OwnersHold c n.owner n.head n.word
   unfolding after_open
@@ -81,7 +78,7 @@ module _ (c : Config) (s : State) (t l : ℕ) (mode : Mode) (g : MayOpen c s t l
                 absurd cc
             | inr i ↦
                 let r = lent_held c s h u l x (sym (put_at_other s.loan t l None u l i) ∙ f) in
-                i (sym (apart c s h u t l mode r.1 g.held))
+                i (sym (apart c s h u t l mode r.1 g.releases.held))
           ]
 
   loans_least : LoansAreLeast c n.owner n.walk n.loan n.lists
@@ -123,7 +120,7 @@ module _ (c : Config) (s : State) (t l : ℕ) (mode : Mode) (g : MayOpen c s t l
 
   effective_known : EffectiveIsKnown c n.effective n.history
   unfolding after_open
-  effective_known = changed_known c s h t l None g.thread (λ x e. absurd cc)
+  effective_known = changed_known c s h t l None g.releases.thread (λ x e. absurd cc)
 
   loans_known : LoansAreKnown c n.loan n.history
   unfolding after_open
@@ -139,9 +136,9 @@ module _ (c : Config) (s : State) (t l : ℕ) (mode : Mode) (g : MayOpen c s t l
   pub lawful : Lawful c n
   unfolding after_open
   lawful = assumption (
-    by_signal (whole_side may_open h) h g.unmarked (put_queue s.owner q None) (put_queue_other s.owner q None)
+    by_signal (whole_side g.releases h) h g.releases.unmarked (put_queue s.owner q None) (put_queue_other s.owner q None)
         (λ e. put_lock_same s.owner l None),
-    opened_lock may_open h,
+    opened_lock g.releases h,
     nodes,
     owners,
     channels,

@@ -8,18 +8,15 @@ use Rattle.lock_state.specs.State.{State}
 use Rattle.lock_state.specs.Facts.{Lawful}
 use Rattle.lock_state.specs.Steps.SleepQueues.{MayOpenSleep, after_open_sleep}
 use Rattle.lock_laws.proofs.SleepQueues.{unowned, loans_stay, sx_word}
-use Rattle.lock_laws.proofs.LockQueues.{MayOpenLock, lists_left, head_left, whole_side, opened_lock}
+use Rattle.lock_laws.proofs.LockQueues.{lists_left, head_left, whole_side, opened_lock}
 use Rattle.lock_laws.proofs.TakingOff.{by_signal}
 
 module _ (c : Config) (s : State) (t l : ℕ) (mode : Mode) (g : MayOpenSleep c s t l mode) (h : Lawful c s) where
-  may_open : MayOpenLock c s t l mode
-  may_open = assumption
-
   pub lawful : Lawful c (after_open_sleep c s t l)
   unfolding after_open_sleep
   lawful = assumption (
-    by_signal (whole_side may_open h) h g.unmarked s.owner (λ r e. refl) (λ e. unowned h (lock_queue l) g.sleeps),
-    opened_lock may_open h,
+    by_signal (whole_side g.releases h) h g.releases.unmarked s.owner (λ r e. refl) (λ e. unowned h (lock_queue l) g.sleeps),
+    opened_lock g.releases h,
     loans_stay h (lock_queue l) g.sleeps (lists_left c s l) (head_left c s l) _
         (sx_word c s.word l (opened (c.kind l) (s.word l)) g.sleeps),
   )

@@ -1,5 +1,6 @@
 -- The sections behind a history are those behind the thread's own entries, and an event changes only what its class says.
 use Rattle.std.proofs.Common.{◌≡◌, ℕ, Bool, true, false, cond, eqb, Option, List, [], ◌∷◌, refl, ap}
+use Rattle.std.proofs.lemmas.Bool.{ne_eqb}
 use Rattle.lock_model.specs.Config.{Config}
 use Rattle.lock_model.specs.History.{Sections, sections_in, sections_by, entries_of, open_in}
 use Rattle.lock_model.specs.declared.event.Event.{Event}
@@ -66,3 +67,10 @@ module _ (c : Config) (s : State) (t : ℕ) (e : Event) where
       go : (b : Bool) → cond b (sections_by c e l (sections_in c s.history u l)) (sections_in c s.history u l) ≡ sections_in c s.history u l
       go true = same_sections c e l (sections_in c s.history u l) x
       go false = refl
+
+-- 3. Sections of others
+
+-- an entry leaves the sections of each other thread
+pub other_sections : (c : Config) (s : State) (t : ℕ) (e : Event) (u l : ℕ) → (t ≡ u → ⊥) → sections_in c (after_stamp c s t e).history u l ≡ sections_in c s.history u l
+unfolding after_stamp sections_in
+other_sections c s t e u l n = ap (λ b. cond b (sections_by c e l (sections_in c s.history u l)) (sections_in c s.history u l)) (ne_eqb t u n)

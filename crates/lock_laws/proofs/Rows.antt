@@ -18,9 +18,9 @@ use Rattle.lock_model.specs.declared.plan.Kind.{Kind}
 use Rattle.lock_model.specs.declared.plan.Kind.TheVariants.{Mtx, Rw, Sx}
 use Rattle.lock_model.specs.declared.plan.Mode.{Mode}
 use Rattle.lock_model.specs.declared.plan.Mode.TheVariants.{Excl, Shared}
-use Rattle.lock_model.specs.declared.turn.StepKind.TheVariants.{Claim, Note}
+use Rattle.lock_model.specs.declared.turn.StepKind.TheVariants.{Claim, OpenUp, Wake, Note}
 use Rattle.lock_model.specs.declared.turn.Turn.TheVariants.{Did}
-use Rattle.lock_model.specs.declared.event.Event.TheVariants.{Locked, Busy, Unlocked, Sleeps, WokeOne}
+use Rattle.lock_model.specs.declared.event.Event.TheVariants.{Locked, Busy, Unlocked, Sleeps, WokeOne, WokeAll}
 
 unfoldable pub at : {A : Type 0} → List A → A → ℕ → A
 at [] d n = d
@@ -188,7 +188,7 @@ exchanged_is : (s : State) → s ≡ after_all behind (start_state behind) (trie
 unfolding behind tried start_state after_look after_gain after_stamp after_drop after_take after_give after_ready after_enter after_open after_mark after_resume after_claim after_lend after_shift after_end_walk put put_at put_queue least sum_below at plan takes blocks opens mark
 exchanged_is s e = rw e (refl, refl, refl, refl)
 
--- 7. An exclusive release of an sx lock: o owns, x of 50 waits to own, y of 60 to share
+-- 7. Releases of an sx lock: o owns, x of 50 waits to own, y of 60 to share
 
 exclusive : Config
 exclusive = plan Sx 1 (100 ∷ 50 ∷ 60 ∷ [])
@@ -196,10 +196,27 @@ exclusive = plan Sx 1 (100 ∷ 50 ∷ 60 ∷ [])
 sleeps : ℕ → ℕ → Mode → ℕ → List Step
 sleeps t l mode x = TakesItem t (RecordOf t) ∷ Readies t (lock_queue l) ∷ EntersSleepQueue t l mode x ∷ GivesItem t (RecordOf t) ∷ []
 
--- the shared waiter is woken first, and the head stays with x
-shared_first_is : (s : State) → s ≡ after_all exclusive (start_state exclusive) (takes 0 0 Excl ++ sleeps 1 0 Excl 1 ++ sleeps 2 0 Shared 2 ++ Stamps 0 (Unlocked (record { 0 = 0 }) Excl) ∷ OpensSleepQueue 0 0 Excl ∷ []) → (s.head (lock_queue 0) ≡ Some 1) × (s.free_list (lock_queue 0) ≡ []) × (s.lists (lock_queue 0) ≡ record { exclusive = waits 1 50 ∷ []; shared = [] }) × (s.marked 0 ≡ mark 2 2 0 ∷ []) × (s.effective 0 ≡ 100)
-unfolding exclusive sleeps start_state after_look after_gain after_stamp after_drop after_take after_give after_ready after_enter after_open after_mark after_resume after_claim after_lend after_shift after_end_walk after_enter_sleep after_open_sleep after_add after_wake put put_at put_queue least sum_below at plan takes blocks opens mark
+opens_sleep : ℕ → Mode → List Step
+opens_sleep t mode = Stamps t (Unlocked (record { 0 = 0 }) mode) ∷ OpensSleepQueue t 0 mode ∷ []
+
+both_wait : List Step
+both_wait = takes 0 0 Excl ++ sleeps 1 0 Excl 1 ++ sleeps 2 0 Shared 2
+
+-- an exclusive release wakes the shared waiter first, and the head stays with x
+shared_first_is : (s : State) → s ≡ after_all exclusive (start_state exclusive) (both_wait ++ opens_sleep 0 Excl) → (s.head (lock_queue 0) ≡ Some 1) × (s.free_list (lock_queue 0) ≡ []) × (s.lists (lock_queue 0) ≡ record { exclusive = waits 1 50 ∷ []; shared = [] }) × (s.marked 0 ≡ mark 2 2 0 ∷ []) × (s.effective 0 ≡ 100)
+unfolding exclusive sleeps opens_sleep both_wait start_state after_look after_gain after_stamp after_drop after_take after_give after_ready after_enter after_open after_mark after_resume after_claim after_lend after_shift after_end_walk after_enter_sleep after_open_sleep after_add after_wake put put_at put_queue least sum_below at plan takes blocks opens mark
 shared_first_is s e = rw e (refl, refl, refl, refl, refl)
+
+-- the last shared release wakes the exclusive one
+exclusive_next_is : (s : State) → s ≡ after_all exclusive (start_state exclusive) (both_wait ++ opens_sleep 0 Excl ++ Marks 0 (mark 2 2 0) [] ∷ Resumes 2 (lock_queue 0) BySignal ∷ takes 2 0 Shared ++ opens_sleep 2 Shared) → (s.head (lock_queue 0) ≡ None) × (s.marked 2 ≡ mark 1 1 0 ∷ []) × (bits_of (s.word 0) ≡ 0)
+unfolding exclusive sleeps opens_sleep both_wait start_state after_look after_gain after_stamp after_drop after_take after_give after_ready after_enter after_open after_mark after_resume after_claim after_lend after_shift after_end_walk after_enter_sleep after_open_sleep after_add after_wake put put_at put_queue least sum_below at plan takes blocks opens mark
+exclusive_next_is s e = rw e (refl, refl, refl)
+
+-- so the table of turns has the owner open the sleep queue
+opens_sleep_queue : (r : Run) → r.state ≡ after_all exclusive (start_state exclusive) both_wait
+    → run.releases exclusive r 0 (record { 0 = 0 }) Excl ≡ run.ends r 0 OpenUp (opens_sleep 0 Excl)
+unfolding exclusive sleeps opens_sleep both_wait start_state after_look after_gain after_stamp after_drop after_take after_give after_ready after_enter after_open after_mark after_resume after_claim after_lend after_shift after_end_walk after_enter_sleep after_open_sleep after_add after_wake put put_at put_queue least sum_below at plan takes blocks opens mark
+opens_sleep_queue r e = rw e refl
 
 -- 8. Signals: a and b of 100 sleep on a condition variable, and a came first
 
@@ -213,3 +230,10 @@ goes_to_sleep t = takes t 0 Excl ++ TakesItem t (RecordOf t) ∷ Readies t (chan
 signalled_is : (s : State) → s ≡ after_all signals (start_state signals) (goes_to_sleep 0 ++ goes_to_sleep 1 ++ Wakes 2 0 false ∷ Stamps 2 (WokeOne (record { 0 = 0 }) 1) ∷ []) → (s.marked 2 ≡ record { thread = 0; object = 1; queue = chan_queue 0; cause = BySignal } ∷ []) × (s.head (chan_queue 0) ≡ Some 0) × (s.lists (chan_queue 0) ≡ record { exclusive = waits 1 100 ∷ []; shared = [] }) × (s.unstamped 2 ≡ None)
 unfolding signals goes_to_sleep start_state after_look after_gain after_stamp after_drop after_take after_give after_ready after_enter after_open after_mark after_resume after_claim after_lend after_shift after_end_walk after_enter_sleep after_open_sleep after_add after_wake put put_at put_queue least sum_below at plan takes blocks opens mark
 signalled_is s e = rw e (refl, refl, refl, refl)
+
+-- so the table of turns has a signal name a, and a wake of all name both
+names_longest : (r : Run) → r.state ≡ after_all signals (start_state signals) (goes_to_sleep 0 ++ goes_to_sleep 1)
+    → (run.wakes r 2 (record { 0 = 0 }) false (WokeOne (record { 0 = 0 })) ≡ run.ends r 2 Wake (Wakes 2 0 false ∷ Stamps 2 (WokeOne (record { 0 = 0 }) 1) ∷ []))
+    × (run.wakes r 2 (record { 0 = 0 }) true (WokeAll (record { 0 = 0 })) ≡ run.ends r 2 Wake (Wakes 2 0 true ∷ Stamps 2 (WokeAll (record { 0 = 0 }) 3) ∷ []))
+unfolding signals goes_to_sleep start_state after_look after_gain after_stamp after_drop after_take after_give after_ready after_enter after_open after_mark after_resume after_claim after_lend after_shift after_end_walk after_enter_sleep after_open_sleep after_add after_wake put put_at put_queue least sum_below at plan takes blocks opens mark
+names_longest r e = rw e (refl, refl)

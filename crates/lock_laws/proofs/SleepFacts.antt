@@ -3,6 +3,7 @@
 pub mod Bits
 pub mod Entries
 pub mod Marks
+pub mod Taken
 pub mod Best
 pub mod Known
 pub mod Found

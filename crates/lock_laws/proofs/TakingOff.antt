@@ -12,6 +12,7 @@ use Rattle.lock_model.specs.declared.plan.Side.{Side}
 use Rattle.lock_model.specs.declared.plan.Side.TheVariants.{X, S}
 use Rattle.lock_model.specs.declared.plan.QueueName.{QueueName}
 use Rattle.lock_state.specs.State.{State, put, put_queue}
+use Rattle.lock_state.specs.Steps.Turnstiles.{with_marked}
 use Rattle.lock_state.specs.Facts.{Lawful, OneTurnstileEach, OneSleepQueueEach, HeadsFitWaiters, ListsAscend, MutexWaitersAreExclusive, StandsOnce}
 use Rattle.lock_state.specs.Facts.Queues.{times_object, turnstile_places, sleep_queue_places}
 use Rattle.lock_state.specs.Facts.Waits.{times_marked}
@@ -153,6 +154,5 @@ module _ {c : Config} {s : State} {t : ℕ} {q : QueueName} {side : Side} {taken
 
     pub by_signal : s.marked t ≡ [] → (owner : QueueName → Option ℕ) → SameElsewhere q owner s.owner
         → (head_after taken (s.free_list q) (s.head q) ≡ None → owner q ≡ None)
-        → QueuesKept c (after_taking_off s t q lists (free_after taken (s.free_list q))
-        (head_after taken (s.free_list q) (s.head q)) (dealt q taken (s.free_list q) (s.head q)) owner)
+        → QueuesKept c (record (with_marked s t q lists taken) { owner = owner })
     by_signal unmarked = taking_off (deals_signal unmarked)

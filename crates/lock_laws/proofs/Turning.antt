@@ -5,28 +5,31 @@ use Rattle.std.specs.List.{range_with_len}
 use Rattle.std.proofs.lemmas.List.Elements.{All-nil, All-cons, All-head, All-tail, All-map, All-filter}
 use Rattle.lock_model.specs.Plans.{config_of}
 use Rattle.lock_model.specs.Operations.{IsProper}
-use Rattle.lock_model.specs.Queues.{Mark}
 use Rattle.lock_model.specs.Config.{Config}
 use Rattle.lock_model.specs.History.{sections_in}
-use Rattle.lock_model.specs.Law.{begins as leads_nowhere}
-use Rattle.lock_model.specs.declared.event.Entry.{Entry}
+use Rattle.lock_model.specs.Law.{HaltsOnlyWhenRunning, begins as leads_nowhere}
 use Rattle.lock_state.specs.State.{State, start_state}
 use Rattle.lock_state.specs.Steps.{MayAll, IsReachable, begins}
 use Rattle.lock_state.specs.Steps.Items.{TurnstileChain, SleepChain, RecordOf, CellOf, ClassGraph}
-use Rattle.lock_state.specs.Facts.{Lawful, NothingIsOut, QueuedStands}
-use Rattle.lock_state.specs.Run.{Run, Row, Course, start_run, turn_of, run_after, run_behind, after_turns, course_after, has_ended, round_of, threads_of, with_turn, after_turn, go_on, is_over}
+use Rattle.lock_state.specs.Facts.{NothingIsOut, QueuedStands}
+use Rattle.lock_state.specs.Run.{Run, Row, Course, start_run, nothing, turn_of, run_behind, after_turns, course_after, has_ended, round_of, threads_of, with_turn, after_turn, go_on, is_over}
 use Rattle.lock_model.specs.declared.plan.Plan.{Plan}
-use Rattle.lock_laws.specs.OnTrack.{IsOnTrack, IsCall, is_of_sleep}
-use Rattle.lock_laws.proofs.Steps.{all_keep, all_reach}
+use Rattle.lock_model.specs.declared.turn.Turn.{Turn}
+use Rattle.lock_model.specs.declared.turn.Turn.TheVariants.{Idle, Ended}
+use Rattle.lock_laws.specs.OnTrack.{IsOnTrack}
+use Rattle.lock_laws.specs.Sleepers.{nobody}
+use Rattle.lock_laws.proofs.Steps.{all_reach}
+use Rattle.lock_laws.proofs.SleepFacts.{begins as sleepers_begin}
 use Rattle.lock_laws.proofs.StateAtStart as start
-use Rattle.lock_laws.proofs.Follows.{followed, still_no_sleeps}
-use Rattle.lock_laws.proofs.OnTrack.{KeepsTrack, all_made, all_waiting}
+use Rattle.lock_laws.proofs.Follows.{followed}
+use Rattle.lock_laws.proofs.OnTrack.{KeepsTrack, none_unnoted, is_there, stays_on_track}
 use Rattle.lock_laws.proofs.Table as table
 use Rattle.lock_laws.proofs.TurnsOfWalks as walks
 use Rattle.lock_laws.proofs.TurnsOfWaits as waits
 use Rattle.lock_laws.proofs.TurnsOfGains as gains
 use Rattle.lock_laws.proofs.TurnsOfReleases as releases
 use Rattle.lock_laws.proofs.TurnsOfNotes as noting
+use Rattle.lock_laws.proofs.TurnsOfSleeps as sleeping
 
 -- 1. The begin
 
@@ -39,21 +42,24 @@ nothing_out c (CellOf l k) = refl
 nothing_out c ClassGraph = refl
 
 pub begins_on_track : (plan : Plan) → IsProper plan → IsOnTrack plan (start_run (config_of plan))
-unfolding start_state sections_in QueuedStands
+unfolding start_state sections_in QueuedStands HaltsOnlyWhenRunning
 begins_on_track plan p = record {
   lawful = record { lawful = start.lawful (config_of plan); nothing_out = nothing_out (config_of plan); queued_stands = λ t e. absurd cc };
+  sleepers = sleepers_begin nobody (config_of plan);
+  no_halts = tt;
   within = λ t. omega arith;
   no_endtry = λ t e. let b = (p.fits t).endtries 0 e in absurd (omega (arith, b.before));
   entries = omega arith;
   follows = λ t. leads_nowhere;
-  no_sleeps = All-nil (λ (e : Entry). is_of_sleep e.event ≡ false);
+  waiting = λ t d e. absurd cc;
   holds = λ t l. refl;
+  listed = λ t. refl;
+  left = λ t l e. absurd cc;
   sections = λ t l. refl;
   begun = λ t l n. absurd (n refl);
   wants = λ t l e. absurd cc;
-  woken = λ t. tt;
-  marked = λ t. All-nil (λ (m : Mark). IsCall m.queue m.cause);
-  stamped = λ t. refl;
+  wants_unheld = λ t l e. absurd cc;
+  walks = λ t l e. absurd cc;
 }
 
 -- 2. A turn, row by row of the table
@@ -61,7 +67,7 @@ begins_on_track plan p = record {
 -- the row's steps may be made, and they keep the run on track
 record IsMade (plan : Plan) (r : Run) (t : ℕ) (row : Row) : Type 0 where
   may : MayAll (config_of plan) r.state row.steps
-  keeps : KeepsTrack plan (run_after plan r t row)
+  keeps : KeepsTrack plan r t row
 
 module _ (plan : Plan) (r : Run) (t : ℕ) (p : IsProper plan) (k : IsOnTrack plan r) (lt : t < length plan.threads) where
   abbrev c : Config
@@ -71,29 +77,34 @@ module _ (plan : Plan) (r : Run) (t : ℕ) (p : IsProper plan) (k : IsOnTrack pl
   s = r.state
 
   -- a turn that does nothing
-  unmoved : KeepsTrack plan r
-  unmoved = record { out = k.lawful.nothing_out; made = all_made plan r k; waiting = all_waiting plan r k }
+  unmoved : (answer : Turn) → IsMade plan r t (nothing answer)
+  unmoved answer = record {
+    may = tt;
+    keeps = record { asks = tt; out = k.lawful.nothing_out; stands = k.lawful.queued_stands; noted = none_unnoted plan r t k; no_halts = k.no_halts; entries = omega arith; there = is_there plan r t k };
+  }
 
   made : (row : Row) → table.Fits plan r t row → IsMade plan r t row
-  made _ (table.is_over e) = record { may = tt; keeps = unmoved }
+  made _ (table.is_over e) = unmoved Ended
   made _ (table.lends l o h w e f) = record { may = (walks.may_lend plan r t p k lt l o h w e f, tt); keeps = walks.lent plan r t p k lt l o h }
   made _ (table.ends_at_lock l w e) = record { may = (walks.may_end_at_lock plan r t p k lt l w e, tt); keeps = walks.walk_ended plan r t p k lt }
   made _ (table.shifts o l w e f) = record { may = (walks.may_shift plan r t p k lt o l w e f, tt); keeps = walks.shifted plan r t p k lt o l.0 }
   made _ (table.ends_at_thread o w f) = record { may = (walks.may_end_at_thread plan r t p k lt o w f, tt); keeps = walks.walk_ended plan r t p k lt }
-  made _ (table.marks m ms w e) = record { may = (waits.may_mark plan r t k lt m ms e, tt); keeps = waits.marked plan r t k lt m ms e }
-  made _ (table.is_queued e f i) = record { may = tt; keeps = unmoved }
-  made _ (table.resumes q cause f e) = record { may = (waits.may_resume plan r t k lt q cause e, tt); keeps = waits.resumed plan r t k lt q cause e }
-  made _ (table.gains by i a f) = record { may = gains.may_gain_all plan r t p k lt by i a f; keeps = gains.gained plan r t p k lt by i }
-  made _ (table.claims by i a f) = record { may = gains.may_claim_all plan r t p k lt by i a f; keeps = gains.claimed plan r t p k lt by i a f }
-  made _ (table.enters l mode i e) = record { may = gains.may_block_all plan r t p k lt l mode i e; keeps = gains.blocked plan r t p k lt l mode i }
-  made _ (table.finds_busy l mode past i e) = record { may = gains.may_find_busy_all plan r t p k lt l mode past i e; keeps = gains.found_busy plan r t p k lt l mode past i }
-  made _ (table.drops l i e) = record { may = releases.may_drop_all plan r t p k lt l i e; keeps = releases.dropped plan r t p k lt l i }
-  made _ (table.opens l i e) = record { may = releases.may_open_all plan r t p k lt l i e; keeps = releases.opened plan r t p k lt l i }
+  made _ (table.marks m ms w e) = record { may = (waits.may_mark plan r t k lt m ms e, tt); keeps = waits.marked plan r t k lt m ms }
+  made _ (table.gives_up {l} w u e back) = record { may = releases.may_give_up_all plan r t p k lt l u e back; keeps = releases.gave_up_keeps plan r t p k lt l u e back }
+  made _ (table.is_queued e f i) = unmoved Idle
+  made _ (table.resumes q cause f e) = record { may = (waits.may_resume plan r t k lt q cause f e, tt); keeps = waits.resumed plan r t k lt q cause f e }
+  made _ (table.gains by i a f) = record { may = gains.may_gain_all plan r t p k lt by i a f; keeps = gains.gained_keeps plan r t p k lt by i }
+  made _ (table.claims by i a f) = record { may = gains.may_claim_all plan r t p k lt by i a f; keeps = gains.claimed_keeps plan r t p k lt by i a f }
+  made _ (table.enters by i a stands) = record { may = gains.may_enter_all plan r t p k lt by i a stands; keeps = gains.entered_keeps plan r t p k lt by i stands }
+  made _ (table.finds_busy l mode past i e) = record { may = gains.may_find_busy_all plan r t p k lt l mode past i e; keeps = gains.found_busy_keeps plan r t p k lt l mode past i }
+  made _ (table.releases l i back) = record { may = releases.may_release_all plan r t p k lt l i back; keeps = releases.released_keeps plan r t p k lt l i back }
+  made _ (table.sleeps d i e) = record { may = sleeping.may_sleep_all plan r t p k lt d i e; keeps = sleeping.slept_keeps plan r t p k lt d i e }
+  made _ (table.wakes d by i) = record { may = sleeping.may_wake_all plan r t p k lt d by i; keeps = sleeping.woke_keeps plan r t p k lt d by i }
   made _ (table.makes_entry op e i n) =
       let noted = noting.is_noted plan r t p k lt op e n i.next in
-      record { may = (noting.may_note plan r t p k lt op e i.running noted, tt); keeps = noting.noted plan r t p k lt op e i.next noted }
-  made _ (table.has_no_operation e i) = record { may = tt; keeps = unmoved }
-  made _ (table.is_not_run op i e) = record { may = tt; keeps = unmoved }
+      record { may = noting.may_note_all plan r t p k lt i.running noted; keeps = noting.noted_keeps plan r t p k lt i.next noted }
+  made _ (table.has_no_operation e i) = unmoved Idle
+  made _ (table.is_at_endtry i) = unmoved Idle
 
   turn_made : IsMade plan r t (turn_of plan r t)
   turn_made = made (turn_of plan r t) (table.fits plan r t)
@@ -101,30 +112,9 @@ module _ (plan : Plan) (r : Run) (t : ℕ) (p : IsProper plan) (k : IsOnTrack pl
   pub may_all : MayAll c s (turn_of plan r t).steps
   may_all = turn_made.may
 
-  lawful : Lawful c (run_behind plan r t).state
-  unfolding run_behind
-  lawful = all_keep c s (turn_of plan r t).steps may_all k.lawful.lawful
-
-  kept : KeepsTrack plan (run_behind plan r t)
-  unfolding run_behind
-  kept = turn_made.keeps
-
   pub turned : IsOnTrack plan (run_behind plan r t)
-  turned = record {
-    lawful = record { lawful = lawful; nothing_out = kept.out; queued_stands = kept.waiting.stands };
-    within = kept.made.within;
-    no_endtry = kept.made.no_endtry;
-    entries = kept.made.entries;
-    follows = followed plan r t p k lt;
-    no_sleeps = still_no_sleeps plan r t p k lt;
-    holds = kept.made.holds;
-    sections = kept.made.sections;
-    begun = kept.made.begun;
-    wants = kept.waiting.wants;
-    woken = kept.waiting.woken;
-    marked = kept.waiting.calls;
-    stamped = kept.made.stamped;
-  }
+  unfolding run_behind
+  turned = stays_on_track plan r t (turn_of plan r t) k lt may_all turn_made.keeps (table.fits plan r t) (followed plan r t p k lt)
 
 pub turns_may : (plan : Plan) (r : Run) (t : ℕ) → IsProper plan → IsOnTrack plan r → t < length plan.threads → MayAll (config_of plan) r.state (turn_of plan r t).steps
 turns_may plan r t p k lt = may_all plan r t p k lt

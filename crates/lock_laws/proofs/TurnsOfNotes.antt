@@ -1,37 +1,40 @@
 -- The turns of a thread whose operation only makes an entry: the entry may be made, and the run stays on track.
-use Rattle.std.proofs.Common.{◌≡◌, ◌≢◌, ℕ, ◌<◌, Bool, true, false, not, List, length, Option, suc, arith, refl, sym, ◌∙◌}
+use Rattle.std.proofs.Common.{◌≡◌, ◌≢◌, ℕ, ◌<◌, true, false, length, None, suc, arith, refl, sym, ◌∙◌}
+use Rattle.std.proofs.lemmas.Bool.{not-true}
 use Rattle.lock_model.proofs.LeastCodes.{passed}
 use Rattle.lock_model.specs.Plans.{config_of}
 use Rattle.lock_model.specs.Operations.{IsProper, hold_in}
 use Rattle.lock_model.specs.Holds.{is_unheld, NotHeld, Holds, is_exclusive}
 use Rattle.lock_model.specs.Config.{Config}
+use Rattle.lock_model.specs.Events.{of_sleep, fell_asleep}
 use Rattle.lock_model.specs.History.{open_in}
-use Rattle.lock_state.specs.State.{State, Running, Wake}
-use Rattle.lock_state.specs.Steps.LockWords.{Asks, MayStamp, unstamped_after, changes_sections, after_stamp}
-use Rattle.lock_state.specs.Run.{Run, notes, run_after}
+use Rattle.lock_model.specs.Law.{is_halt}
+use Rattle.lock_state.specs.State.{State, Running}
+use Rattle.lock_state.specs.Steps.{MayAll}
+use Rattle.lock_state.specs.Steps.LockWords.{Asks, changes_sections, after_stamp}
+use Rattle.lock_state.specs.Run.{Run, notes}
 use Rattle.lock_model.specs.declared.plan.Mode.TheVariants.{Excl}
 use Rattle.lock_model.specs.declared.plan.Op.{Op}
 use Rattle.lock_model.specs.declared.plan.Op.TheVariants as operation
 use Rattle.lock_model.specs.declared.plan.Plan.{Plan}
+use Rattle.lock_model.specs.declared.turn.StepKind.TheVariants as kind
 use Rattle.lock_model.specs.declared.event.Event.{Event}
-use Rattle.lock_model.specs.declared.event.Held.{Held}
 use Rattle.lock_laws.specs.OnTrack.{IsOnTrack}
 use Rattle.lock_laws.proofs.Shown.{exclusive_is}
 use Rattle.lock_laws.proofs.HeldLists.{held_is}
-use Rattle.lock_laws.proofs.OnTrack.{KeepsTrack, goes_on, ends_quietly, acting, before, behind, Next, left, fit, is_take}
+use Rattle.lock_laws.proofs.OnTrack.{KeepsTrack, goes_on, ends_quietly, noted_behind, acting, awake, all_open, holds_all, before, behind, Next, left, fit, is_take, is_wait}
 use Rattle.lock_laws.proofs.Table.{Notes, sets, adds, gets, changes_base, shows}
 
-not_true : (b : Bool) → not b ≡ true → b ≡ false
-not_true true e = absurd cc
-not_true false e = refl
-
--- an operation that leaves what is held, and whose entry the sections allow; it changes no section, and notes no wake
+-- an operation that leaves what is held, is no take and no wait, and whose entry the sections allow; the entry changes no
+-- section and is of no sleep of its thread
 pub record IsNoted (plan : Plan) (r : Run) (t : ℕ) (op : Op) (e : Event) : Type 0 where
   pub same : before plan r t ≡ behind plan r t
   pub asks : Asks (config_of plan) r.state t e
   pub no_take : is_take op ≡ false
+  pub no_wait : is_wait op ≡ false
   pub quiet : changes_sections e ≡ false
-  pub no_wake : (w : Option Wake) → unstamped_after e w ≡ w
+  pub awake : fell_asleep (of_sleep e) ≡ None
+  pub no_halt : is_halt e ≡ false
 
 module _ (plan : Plan) (r : Run) (t : ℕ) (p : IsProper plan) (k : IsOnTrack plan r) (lt : t < length plan.threads) where
   abbrev c : Config
@@ -40,40 +43,47 @@ module _ (plan : Plan) (r : Run) (t : ℕ) (p : IsProper plan) (k : IsOnTrack pl
   abbrev s : State
   s = r.state
 
-  abbrev held_before : List Held
-  held_before = before plan r t
+  -- the section of a lock is open as the operations so far hold it
+  module _ (op : Op) (next : Next plan r t op) (no_wait : is_wait op ≡ false) where
+    opened : (l : ℕ) → open_in c s.history t l ≡ hold_in (before plan r t) l
+    opened l = let up = awake plan r t k op next no_wait in all_open plan r t k up l ∙ holds_all plan r t k up l
 
-  -- a section that is open exclusively, and one that is open
-  open_exclusive : (l : ℕ) → is_exclusive (hold_in held_before l) ≡ true → open_in c s.history t l ≡ Holds Excl
-  open_exclusive l e = k.sections t l ∙ k.holds t l ∙ exclusive_is (hold_in held_before l) e
+    -- exclusively, or in some mode
+    open_exclusive : (l : ℕ) → is_exclusive (hold_in (before plan r t) l) ≡ true → open_in c s.history t l ≡ Holds Excl
+    open_exclusive l e = opened l ∙ exclusive_is (hold_in (before plan r t) l) e
 
-  some_open : (l : ℕ) → is_unheld (hold_in held_before l) ≡ false → open_in c s.history t l ≢ NotHeld
-  some_open l e z = held_is (hold_in held_before l) e (sym (k.sections t l ∙ k.holds t l) ∙ z)
+    some_open : (l : ℕ) → is_unheld (hold_in (before plan r t) l) ≡ false → open_in c s.history t l ≢ NotHeld
+    some_open l e z = held_is (hold_in (before plan r t) l) e (sym (opened l) ∙ z)
 
   pub is_noted : (op : Op) (e : Event) → Notes r t op e → Next plan r t op → IsNoted plan r t op e
   is_noted _ _ (sets l key value) next =
       let f = fit plan r t p (operation.Set l key value) next in
-      record { same = f.behind; asks = open_exclusive l.0 (passed _ _ (passed _ _ f.passes).1).0; no_take = refl; quiet = refl; no_wake = λ w. refl }
+      let exclusive = (passed _ _ (passed _ _ f.passes).1).0 in
+      record { same = f.behind; asks = open_exclusive (operation.Set l key value) next refl l.0 exclusive; no_take = refl; no_wait = refl; quiet = refl; awake = refl; no_halt = refl }
   is_noted _ _ (adds l key amount) next =
       let f = fit plan r t p (operation.Add l key amount) next in
-      record { same = f.behind; asks = open_exclusive l.0 (passed _ _ (passed _ _ f.passes).1).0; no_take = refl; quiet = refl; no_wake = λ w. refl }
+      let exclusive = (passed _ _ (passed _ _ f.passes).1).0 in
+      record { same = f.behind; asks = open_exclusive (operation.Add l key amount) next refl l.0 exclusive; no_take = refl; no_wait = refl; quiet = refl; awake = refl; no_halt = refl }
   is_noted _ _ (gets l key) next =
       let f = fit plan r t p (operation.Get l key) next in
-      record { same = f.behind; asks = (some_open l.0 (not_true (is_unheld (hold_in held_before l.0)) (passed _ _ f.passes).0), refl); no_take = refl; quiet = refl; no_wake = λ w. refl }
+      let held = not-true (is_unheld (hold_in (before plan r t) l.0)) (passed _ _ f.passes).0 in
+      record { same = f.behind; asks = (some_open (operation.Get l key) next refl l.0 held, refl); no_take = refl; no_wait = refl; quiet = refl; awake = refl; no_halt = refl }
   is_noted _ _ (changes_base prio) next =
-      record { same = (fit plan r t p (operation.Base prio) next).behind; asks = tt; no_take = refl; quiet = refl; no_wake = λ w. refl }
+      record { same = (fit plan r t p (operation.Base prio) next).behind; asks = tt; no_take = refl; no_wait = refl; quiet = refl; awake = refl; no_halt = refl }
   is_noted _ _ shows next = record {
     same = (fit plan r t p operation.Show next).behind;
-    asks = record { its_base = refl; its_effective = refl; sections = λ l mode e. k.sections t l ∙ e };
+    asks = record { its_base = refl; its_effective = refl; sections = λ l mode e. all_open plan r t k (awake plan r t k operation.Show next refl) l ∙ e };
     no_take = refl;
+    no_wait = refl;
     quiet = refl;
-    no_wake = λ w. refl;
+    awake = refl;
+    no_halt = refl;
   }
 
-  pub may_note : (op : Op) (e : Event) → s.wait t ≡ Running → IsNoted plan r t op e → MayStamp c s t e
-  may_note op e running n = record { thread = lt; acting = acting plan r t k running; asks = n.asks }
+  pub may_note_all : {op : Op} {e : Event} → s.wait t ≡ Running → IsNoted plan r t op e → MayAll c s (notes r t e).steps
+  may_note_all running n = (record { thread = lt; acting = acting plan r t k running; asks = n.asks }, tt)
 
-  pub noted : (op : Op) (e : Event) → Next plan r t op → IsNoted plan r t op e → KeepsTrack plan (run_after plan r t (notes r t e))
+  pub noted_keeps : {op : Op} {e : Event} → Next plan r t op → IsNoted plan r t op e → KeepsTrack plan r t (notes r t e)
   unfolding after_stamp
-  noted op e next n = goes_on plan r t (suc (r.next_op t)) (after_stamp c s t e) k lt k.lawful.nothing_out refl refl
-      (ends_quietly plan r t (suc (r.next_op t)) op e k next (record { no_take = n.no_take; further = omega arith; within = left plan r t op next; same = n.same; quiet = n.quiet; no_wake = n.no_wake }))
+  noted_keeps {op} {e} next n = goes_on plan r t (suc (r.next_op t)) kind.Note (notes r t e).steps e k ((λ d f. refl), tt) k.lawful.nothing_out k.lawful.queued_stands (noted_behind plan r t e k)
+      (ends_quietly plan r t (suc (r.next_op t)) op e _ k next (record { no_take = n.no_take; no_wait = n.no_wait; further = omega arith; within = left plan r t op next; same = n.same; quiet = n.quiet; awake = n.awake; no_halt = n.no_halt }) refl refl refl refl refl refl)

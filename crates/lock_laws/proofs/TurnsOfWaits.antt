@@ -1,21 +1,48 @@
--- The turns of a thread with a marked list, and of a woken one: their steps may be made, and they leave the run on track.
-use Rattle.std.proofs.Common.{◌≡◌, ◌≢◌, ℕ, ◌<◌, List, [], ◌∷◌, length, All, Some, None, sym, ◌∙◌, subst}
-use Rattle.std.proofs.lemmas.List.Elements.{All-head, All-tail}
+-- The turns of a thread with a marked list, and of a woken one: their steps may be made, and leave the run on track.
+use Rattle.std.proofs.Common.{◌≡◌, ◌≢◌, ℕ, ◌<◌, true, cond, List, [], ◌∷◌, length, slice_get, Option, Some, None, refl, sym, ap, arith, ◌∙◌, subst}
+use Rattle.std.proofs.lemmas.Bool.{eqb-true}
+use Rattle.std.proofs.lemmas.Option.{same_Some}
+use Rattle.lock_model.specs.Holds.{Hold, NotHeld, Holds, is_unheld}
+use Rattle.lock_model.specs.Events.{sleeps_on, of_sleep, fell_asleep}
 use Rattle.lock_model.specs.Plans.{config_of, operations_of}
+use Rattle.lock_model.specs.History.{sections_in}
 use Rattle.lock_model.specs.Config.{Config}
-use Rattle.lock_model.specs.Queues.{Mark, Cause, BySignal, ByAbort}
+use Rattle.lock_model.specs.Queues.{Mark, Cause, BySignal, chan_queue}
 use Rattle.lock_state.specs.State.{State, Queued, Running, Woken, put}
 use Rattle.lock_state.specs.Steps.{Marks, Resumes}
-use Rattle.lock_state.specs.Steps.Turnstiles.{MayMark, MayResume, HasReleased, after_mark, after_resume}
+use Rattle.lock_state.specs.Steps.LockWords.{is_taking_back}
+use Rattle.lock_state.specs.Steps.SleepQueues.{has_slept}
+use Rattle.lock_state.specs.Steps.Turnstiles.{MayMark, MayResume, HasReleased, wanted_after, after_mark, after_resume}
 use Rattle.lock_state.specs.Facts.{QueuedStands}
-use Rattle.lock_state.specs.Run.{Run, does, run_after}
+use Rattle.lock_state.specs.Facts.Sleeps.{WokenSlept, WokenBySignal}
+use Rattle.lock_state.specs.Run.{Run, waits_on, to_release, does}
+use Rattle.lock_model.specs.declared.event.Event.{Event}
+use Rattle.lock_model.specs.declared.event.Event.TheVariants.{Sleeps}
+use Rattle.lock_model.specs.declared.event.Entry.{Entry}
 use Rattle.lock_model.specs.declared.plan.Plan.{Plan}
 use Rattle.lock_model.specs.declared.plan.QueueName.{QueueName}
 use Rattle.lock_model.specs.declared.plan.QueueName.TheVariants.{Lock, Chan}
 use Rattle.lock_model.specs.declared.turn.StepKind.TheVariants as kind
-use Rattle.lock_laws.specs.OnTrack.{IsOnTrack, IsCall, WokenByCall}
+use Rattle.lock_laws.specs.OnTrack.{IsOnTrack, OwesNothing, TakesLock}
 use Rattle.lock_laws.proofs.Kit.{at_put, put_same, put_other, each_place}
-use Rattle.lock_laws.proofs.OnTrack.{KeepsTrack, Takes, all_made}
+use Rattle.lock_laws.proofs.OnTrack.{KeepsTrack, IsWhere, none_unnoted, is_there}
+
+-- a thread whose newest entry is the Sleeps entry of a channel waits there
+pub slept_waits : (d : ℕ) (es : List Entry) → has_slept d es ≡ true → waits_on es ≡ Some d
+slept_waits d [] x = absurd cc
+slept_waits d (e ∷ es) x = by_event e.event x
+  where
+    by_event : (v : Event) → sleeps_on v d ≡ true → fell_asleep (of_sleep v) ≡ Some d
+    by_event (Sleeps k) x = ap Some (eqb-true k.0 d x)
+    by_event other x = absurd cc
+
+-- a wait's lock that is not to be released isn't held
+pub given_up : (held : ℕ → Hold) (l : ℕ) → to_release held (Some l) ≡ None → held l ≡ NotHeld
+given_up held l e = go (held l) e
+  where
+    go : (h : Hold) → cond (is_unheld h) None (Some l) ≡ None → h ≡ NotHeld
+    go NotHeld i = refl
+    go (Holds mode) i = absurd cc
 
 module _ (plan : Plan) (r : Run) (t : ℕ) (k : IsOnTrack plan r) (lt : t < length plan.threads) where
   abbrev c : Config
@@ -24,55 +51,83 @@ module _ (plan : Plan) (r : Run) (t : ℕ) (k : IsOnTrack plan r) (lt : t < leng
   abbrev s : State
   s = r.state
 
-  abbrev AreCalls : List Mark → Type 0
-  AreCalls ms = All (λ m. IsCall m.queue m.cause) ms
-
   -- 1. A mark
 
   pub may_mark : (m : Mark) (ms : List Mark) → s.marked t ≡ m ∷ ms → MayMark c s t m ms
-  may_mark m ms e = record { thread = lt; marked = e; stamped = k.stamped t }
+  may_mark m ms e = record { thread = lt; marked = e; stamped = none_unnoted plan r t k }
 
-  pub marked : (m : Mark) (ms : List Mark) → s.marked t ≡ m ∷ ms → KeepsTrack plan (run_after plan r t (does kind.Mark (Marks t m ms ∷ [])))
+  pub marked : (m : Mark) (ms : List Mark) → KeepsTrack plan r t (does kind.Mark (Marks t m ms ∷ []))
   unfolding after_mark QueuedStands
-  marked m ms e = record {
+  marked m ms = record {
+    asks = (tt, tt);
     out = k.lawful.nothing_out;
-    made = all_made plan r k;
-    waiting = record {
-      stands = λ u. each_place m.thread (λ v. put s.wait m.thread (Woken m.queue m.cause) v ≡ Queued → put s.blocked_on m.thread None v ≢ None)
-          (λ i. absurd (let z : Woken m.queue m.cause ≡ Queued = sym (put_same s.wait m.thread (Woken m.queue m.cause)) ∙ i in cc))
-          (λ v ne. rw (put_other s.wait m.thread (Woken m.queue m.cause) v ne, put_other s.blocked_on m.thread None v ne) (k.lawful.queued_stands v)) u;
-      wants = k.wants;
-      woken = at_put (λ v w. WokenByCall w) s.wait m.thread (Woken m.queue m.cause) (All-head (λ m. IsCall m.queue m.cause) m ms all) (λ v ne. k.woken v);
-      calls = at_put (λ v list. AreCalls list) s.marked t ms (All-tail (λ m. IsCall m.queue m.cause) m ms all) (λ v ne. k.marked v);
-    };
+    stands = λ u. each_place m.thread (λ v. put s.wait m.thread (Woken m.queue m.cause) v ≡ Queued → put s.blocked_on m.thread None v ≢ None)
+        (λ i. absurd (let z : Woken m.queue m.cause ≡ Queued = sym (put_same s.wait m.thread (Woken m.queue m.cause)) ∙ i in cc))
+        (λ v ne. rw (put_other s.wait m.thread (Woken m.queue m.cause) v ne, put_other s.blocked_on m.thread None v ne) (k.lawful.queued_stands v)) u;
+    noted = none_unnoted plan r t k;
+    no_halts = k.no_halts;
+    entries = omega arith;
+    there = is_there plan r t k;
   }
-    where
-      all : AreCalls (m ∷ ms)
-      all = subst AreCalls e (k.marked t)
 
   -- 2. A resume
 
-  pub may_resume : (q : QueueName) (cause : Cause) → s.wait t ≡ Woken q cause → MayResume c s t q cause
-  may_resume q cause e = record { thread = lt; woken = e; released = released q cause (subst WokenByCall e (k.woken t)) }
-    where
-      released : (x : QueueName) (y : Cause) → IsCall x y → HasReleased c s t x
-      released (Lock l) y i = tt
-      released (Chan d) y i = absurd i
+  module _ (q : QueueName) (cause : Cause) (f : OwesNothing plan r t) (e : s.wait t ≡ Woken q cause) where
+    -- a thread that was woken from a channel waits there
+    waits : (d : ℕ) → q ≡ chan_queue d → waits_on (s.log t) ≡ Some d
+    unfolding WokenSlept
+    waits d i = slept_waits d (s.log t) (k.sleepers.woken_slept t d cause (e ∙ ap (λ x. Woken x cause) i))
 
-  called : (q : QueueName) (cause : Cause) → IsCall q cause → KeepsTrack plan (run_after plan r t (does kind.Resume (Resumes t q cause ∷ [])))
-  unfolding after_resume QueuedStands
-  called (Lock l) BySignal i = record {
-    out = k.lawful.nothing_out;
-    made = all_made plan r k;
-    waiting = record {
+    unheld : (d : ℕ) → q ≡ chan_queue d → s.held t (c.chan_lock d) ≡ NotHeld
+    unheld d i = given_up (s.held t) (c.chan_lock d) (rw (waits d i) at f.released)
+
+    pub may_resume : MayResume c s t q cause
+    may_resume = record { thread = lt; woken = e; released = released q refl }
+      where
+        released : (x : QueueName) → q ≡ x → HasReleased c s t x
+        released (Lock l) i = tt
+        released (Chan d) i = unheld d.0 i
+
+    -- what it wants then
+    abbrev wanted : Option ℕ
+    wanted = wanted_after c q cause (is_taking_back (s.log t)) (s.wanted t)
+
+    abbrev Wants : QueueName → Cause → ℕ → Type 0
+    Wants x y l =
+        wanted_after c x y (is_taking_back (s.log t)) (s.wanted t) ≡ Some l → TakesLock c l (waits_on (s.log t)) (slice_get (operations_of plan t) (r.next_op t)) × (s.held t l ≡ NotHeld)
+
+    wants : (l : ℕ) → Wants q cause l
+    unfolding WokenBySignal
+    wants l = rw (k.sleepers.woken_by_signal t q cause e) (go q refl)
+      where
+        go : (x : QueueName) → q ≡ x → Wants x BySignal l
+        go (Lock j) i w = (k.wants t l w, k.wants_unheld t l w)
+        go (Chan d) i w =
+            let same : c.chan_lock d.0 ≡ l = same_Some (c.chan_lock d.0) l w in
+            (rw (waits d.0 i) same, subst (λ j. s.held t j ≡ NotHeld) same (unheld d.0 i))
+
+    there : IsWhere plan t (r.next_op t) (waits_on (s.log t)) (s.held t) (s.held_locks t) (λ l. sections_in c s.history t l) (s.has_begun t) wanted
+    there = record {
+      within = k.within t;
+      no_endtry = k.no_endtry t;
+      waiting = k.waiting t;
+      holds = k.holds t;
+      listed = k.listed t;
+      left = k.left t;
+      opened = k.sections t;
+      begun = k.begun t;
+      wants = λ l w. (wants l w).0;
+      wants_unheld = λ l w. (wants l w).1;
+    }
+
+    pub resumed : KeepsTrack plan r t (does kind.Resume (Resumes t q cause ∷ []))
+    unfolding after_resume QueuedStands
+    resumed = record {
+      asks = (tt, tt);
+      out = k.lawful.nothing_out;
       stands = at_put (λ v w. w ≡ Queued → s.blocked_on v ≢ None) s.wait t Running (λ e. absurd cc) (λ v ne. k.lawful.queued_stands v);
-      wants = λ u j. at_put (λ v w. w ≡ Some j → Takes (operations_of plan v) (r.next_op v) j) s.wanted t (s.wanted t) (k.wants t j) (λ v ne. k.wants v j) u;
-      woken = at_put (λ v w. WokenByCall w) s.wait t Running tt (λ v ne. k.woken v);
-      calls = k.marked;
-    };
-  }
-  called (Lock l) ByAbort i = absurd i
-  called (Chan d) cause i = absurd i
-
-  pub resumed : (q : QueueName) (cause : Cause) → s.wait t ≡ Woken q cause → KeepsTrack plan (run_after plan r t (does kind.Resume (Resumes t q cause ∷ [])))
-  resumed q cause e = called q cause (subst WokenByCall e (k.woken t))
+      noted = none_unnoted plan r t k;
+      no_halts = k.no_halts;
+      entries = omega arith;
+      there = rw (put_same s.wanted t wanted) there;
+    }

@@ -11,14 +11,14 @@ use Rattle.lock_state.specs.Steps.{Lends, Shifts, EndsWalk}
 use Rattle.lock_state.specs.Steps.Lending.{MayLend, MayShift, MayEndWalk, IsAtEnd, after_lend, after_shift, after_end_walk}
 use Rattle.lock_state.specs.Facts.{OwnersHold}
 use Rattle.lock_state.specs.Facts.Loans.{owner_if}
-use Rattle.lock_state.specs.Run.{Run, does, run_after}
+use Rattle.lock_state.specs.Run.{Run, does}
 use Rattle.lock_model.specs.declared.plan.Plan.{Plan}
 use Rattle.lock_model.specs.declared.plan.QueueName.TheVariants.{Lock}
 use Rattle.lock_model.specs.declared.numbers.LockNo.{LockNo}
 use Rattle.lock_model.specs.declared.turn.StepKind.TheVariants as kind
 use Rattle.lock_laws.specs.OnTrack.{IsOnTrack}
 use Rattle.lock_laws.proofs.HeadsAndNodes.{head_lock}
-use Rattle.lock_laws.proofs.OnTrack.{KeepsTrack, all_made, all_waiting}
+use Rattle.lock_laws.proofs.OnTrack.{KeepsTrack, none_unnoted, is_there}
 use Rattle.lock_laws.proofs.Table.{stands_at}
 
 module _ (plan : Plan) (r : Run) (t : ℕ) (p : IsProper plan) (k : IsOnTrack plan r) (lt : t < length plan.threads) where
@@ -34,15 +34,15 @@ module _ (plan : Plan) (r : Run) (t : ℕ) (p : IsProper plan) (k : IsOnTrack pl
   unfolding OwnersHold
   may_lend l o h w e f = record {
     thread = lt;
-    lock = head_lock c s l h k.lawful.lawful (p.turnstiles l) f;
+    lock = head_lock c s l h k.lawful.lawful (k.walks t l w) f;
     walks = w;
     head = f;
-    owned = k.lawful.lawful.loans.owners_hold l ∙ rw (p.turnstiles l, f) e;
+    owned = k.lawful.lawful.loans.owners_hold l ∙ rw (k.walks t l w, f) e;
   }
 
-  pub lent : (l o h : ℕ) → KeepsTrack plan (run_after plan r t (does kind.Lend (Lends t l o h ∷ [])))
+  pub lent : (l o h : ℕ) → KeepsTrack plan r t (does kind.Lend (Lends t l o h ∷ []))
   unfolding after_lend
-  lent l o h = record { out = k.lawful.nothing_out; made = all_made plan r k; waiting = all_waiting plan r k }
+  lent l o h = record { asks = (tt, tt); out = k.lawful.nothing_out; stands = k.lawful.queued_stands; noted = none_unnoted plan r t k; no_halts = k.no_halts; entries = omega arith; there = is_there plan r t k }
 
   -- a walk with nothing to do
   pub may_end : (w : Walk) → s.walk t ≡ w → IsAtEnd c s w → MayEndWalk c s t
@@ -54,26 +54,22 @@ module _ (plan : Plan) (r : Run) (t : ℕ) (p : IsProper plan) (k : IsOnTrack pl
     where
       none : owner_of (s.word l).holder ≡ None → (x : Option ℕ) → owner_if (is_turnstile (c.kind l)) x (s.word l).holder ≡ None
       none f None = refl
-      none f (Some x) = rw (p.turnstiles l) f
+      none f (Some x) = rw (k.walks t l w) f
 
-  pub walk_ended : KeepsTrack plan (run_after plan r t (does kind.WalkEnd (EndsWalk t ∷ [])))
+  pub walk_ended : KeepsTrack plan r t (does kind.WalkEnd (EndsWalk t ∷ []))
   unfolding after_end_walk
-  walk_ended = record { out = k.lawful.nothing_out; made = all_made plan r k; waiting = all_waiting plan r k }
+  walk_ended = record { asks = (tt, tt); out = k.lawful.nothing_out; stands = k.lawful.queued_stands; noted = none_unnoted plan r t k; no_halts = k.no_halts; entries = omega arith; there = is_there plan r t k }
 
   -- 2. A walk at a thread
 
   pub may_shift : (o : ℕ) (l : LockNo) → s.walk t ≡ AtThread o → s.blocked_on o ≡ Some (Lock l) → stands_at plan r o l.0 ≡ true → MayShift c s t o l.0
-  may_shift o l w e i = record {
-    thread = lt;
-    turnstile = p.turnstiles l.0;
-    walks = w;
-    blocked_on = e;
-    stands = ltb-true 0 (stands o (s.lists (lock_queue l.0))) (and_parts (is_turnstile (c.kind l.0)) (ltb 0 (stands o (s.lists (lock_queue l.0)))) i).1;
-  }
+  may_shift o l w e i =
+      let parts = and_parts (is_turnstile (c.kind l.0)) (ltb 0 (stands o (s.lists (lock_queue l.0)))) i in
+      record { thread = lt; turnstile = parts.0; walks = w; blocked_on = e; stands = ltb-true 0 (stands o (s.lists (lock_queue l.0))) parts.1 }
 
-  pub shifted : (o l : ℕ) → KeepsTrack plan (run_after plan r t (does kind.Shift (Shifts t o l ∷ [])))
+  pub shifted : (o l : ℕ) → KeepsTrack plan r t (does kind.Shift (Shifts t o l ∷ []))
   unfolding after_shift
-  shifted o l = record { out = k.lawful.nothing_out; made = all_made plan r k; waiting = all_waiting plan r k }
+  shifted o l = record { asks = (tt, tt); out = k.lawful.nothing_out; stands = k.lawful.queued_stands; noted = none_unnoted plan r t k; no_halts = k.no_halts; entries = omega arith; there = is_there plan r t k }
 
   pub may_end_at_thread : (o : ℕ) → s.walk t ≡ AtThread o → ((l : LockNo) → s.blocked_on o ≡ Some (Lock l) → stands_at plan r o l.0 ≡ false) → MayEndWalk c s t
   may_end_at_thread o w off = may_end (AtThread o) w (λ l i j.

@@ -1,90 +1,128 @@
 -- What is true of a scheduled run between two turns: its state is lawful, and each thread is where its operations have
 -- led it.
-use Rattle.std.specs.Prelude.{◌≡◌, ◌≢◌, ℕ, ◌≤◌, Bool, true, false, List, [], length, slice_get, Option, Some, None}
-use Rattle.std.specs.List.{All}
+use Rattle.std.specs.Prelude.{◌≡◌, ◌≢◌, ℕ, ◌+◌, ◌*◌, ◌≤◌, true, false, if◌then◌else◌, List, [], length, map, reverse, slice_get, Option, Some, None}
+use Rattle.lock_model.specs.Config.{Config}
 use Rattle.lock_model.specs.Plans.{config_of, operations_of}
-use Rattle.lock_model.specs.Counts.{sum_below}
-use Rattle.lock_model.specs.Operations.{hold_in, held_of}
-use Rattle.lock_model.specs.Holds.{NotHeld}
-use Rattle.lock_state.specs.State.{Wait, Running, Queued, Woken, NoWalk}
-use Rattle.lock_model.specs.Queues.{Cause, BySignal, ByAbort}
-use Rattle.lock_model.specs.History.{open_in, entries_of}
-use Rattle.lock_model.specs.Law.{LeadsTo, Before}
-use Rattle.lock_model.specs.declared.event.Entry.{Entry}
-use Rattle.lock_model.specs.declared.event.Event.{Event}
-use Rattle.lock_model.specs.Events.{of_sleep, says_some}
+use Rattle.lock_model.specs.Counts.{sum_below, some}
+use Rattle.lock_model.specs.Operations.{hold_in, held_of, without_lock}
+use Rattle.lock_model.specs.Holds.{Hold, NotHeld, is_unheld}
+use Rattle.lock_model.specs.Words.{is_turnstile}
+use Rattle.lock_state.specs.State.{HeldLock, Running, Queued, Walk, NoWalk, AtLock}
+use Rattle.lock_model.specs.History.{open_in, left_in, entries_of}
+use Rattle.lock_model.specs.Law.{LeadsTo, Place, Before, Asleep, HaltsOnlyWhenRunning}
 use Rattle.lock_state.specs.Facts.{LawfulTurn}
-use Rattle.lock_state.specs.Run.{Run, has_ended}
+use Rattle.lock_state.specs.Steps.{is_with}
+use Rattle.lock_state.specs.Run.{Run, has_ended, waits_on, lock_of_wait, owed_release}
 use Rattle.lock_model.specs.declared.plan.Op.{Op}
-use Rattle.lock_model.specs.declared.plan.Op.TheVariants.{Take, EndTry}
-use Rattle.lock_model.specs.declared.plan.Mode.{Mode}
+use Rattle.lock_model.specs.declared.plan.Op.TheVariants.{Take, Try, EndTry, Release, Set, Add, Get, Base, Show, Sleep, WakeOne, WakeAll}
 use Rattle.lock_model.specs.declared.plan.Plan.{Plan}
-use Rattle.lock_model.specs.declared.plan.QueueName.{QueueName}
-use Rattle.lock_model.specs.declared.plan.QueueName.TheVariants.{Lock, Chan}
+use Rattle.lock_model.specs.declared.event.Held.{Held}
+use Rattle.lock_laws.specs.Sleepers.{SleepersFit, nobody}
 
--- a wake by a signal from a lock's queue, until the other wakes come
-abbrev pub IsCall : QueueName → Cause → Type 0
-IsCall (Lock l) BySignal = Unit {0}
-IsCall (Lock l) ByAbort = ⊥
-IsCall (Chan d) cause = ⊥
+-- where a thread is in its operations: before its next one, or asleep in that, a wait
+abbrev pub place_by : ℕ → Option ℕ → Place
+place_by n None = Before n
+place_by n (Some d) = Asleep n
 
--- a thread that was woken was called
-abbrev pub WokenByCall : Wait → Type 0
-WokenByCall Running = Unit {0}
-WokenByCall Queued = Unit {0}
-WokenByCall (Woken q cause) = IsCall q cause
+abbrev pub place_in : Run → ℕ → Place
+place_in r t = place_by (r.next_op t) (waits_on (r.state.log t))
 
--- whether an event is of a sleep, a wake or a halt
-abbrev pub is_of_sleep : Event → Bool
-is_of_sleep e = says_some (of_sleep e)
+-- what its operations so far lead to, in order of gaining
+abbrev pub held_before : Plan → Run → ℕ → List Held
+held_before plan r t = held_of (operations_of plan t) (r.next_op t)
 
--- no entry of a history is
-abbrev pub SleepsNobody : List Entry → Type 0
-SleepsNobody history = All (λ e. is_of_sleep e.event ≡ false) history
+-- the same without a lock that is not held
+abbrev pub without_unheld : (ℕ → Hold) → Option ℕ → List Held → List Held
+without_unheld held None hs = hs
+without_unheld held (Some l) hs = if is_unheld (held l) then without_lock l hs else hs
+
+-- what a thread holds now: what its operations so far lead to, but for the lock of its wait, from its release until it
+-- is taken back
+abbrev pub held_now : Plan → Run → ℕ → List Held
+held_now plan r t =
+    without_unheld (r.state.held t) (lock_of_wait (config_of plan) r.state t)
+    (held_before plan r t)
+
+-- held locks as a state lists them, the one gained last first
+abbrev pub gained_order : List Held → List HeldLock
+gained_order hs = reverse (map (λ h. record { lock = h.l.0; by_try = h.by_try }) hs)
+
+-- the sections that are open: those of the held locks, but for that of its wait, which ended with its Sleeps entry
+abbrev pub open_now : Plan → Run → ℕ → ℕ → Hold
+open_now plan r t l =
+    if is_with l (lock_of_wait (config_of plan) r.state t) then NotHeld else r.state.held t l
+
+-- an operation takes a lock; a wait, once its Sleeps entry is made, takes its channel's lock back
+abbrev pub TakesLock : Config → ℕ → Option ℕ → Option Op → Type 0
+TakesLock c l (Some d) op = c.chan_lock d ≡ l
+TakesLock c l None None = ⊥
+TakesLock c l None (Some (Take k mode)) = k.0 ≡ l
+TakesLock c l None (Some (Try k mode past)) = ⊥
+TakesLock c l None (Some EndTry) = ⊥
+TakesLock c l None (Some (Release k)) = ⊥
+TakesLock c l None (Some (Set k key value)) = ⊥
+TakesLock c l None (Some (Add k key amount)) = ⊥
+TakesLock c l None (Some (Get k key)) = ⊥
+TakesLock c l None (Some (Base prio)) = ⊥
+TakesLock c l None (Some Show) = ⊥
+TakesLock c l None (Some (Sleep d)) = ⊥
+TakesLock c l None (Some (WakeOne d)) = ⊥
+TakesLock c l None (Some (WakeAll d)) = ⊥
+
+-- walks are at locks whose queues are turnstiles, and at threads
+abbrev pub WalksAtTurnstiles : Config → (ℕ → Walk) → Type 0
+WalksAtTurnstiles c walk = (t l : ℕ) → walk t ≡ AtLock l → is_turnstile (c.kind l) ≡ true
 
 pub record IsOnTrack (plan : Plan) (r : Run) : Type 0 where
   -- its state is lawful, nobody has anything out, and each Queued thread stands on a queue or is in a marked list
   pub lawful : LawfulTurn (config_of plan) r.state
+  -- the channels' queues fit the entries: nobody is on its way to one, and each wake is noted
+  pub sleepers : SleepersFit nobody (config_of plan) r.state
+  -- nobody was halted
+  pub no_halts : HaltsOnlyWhenRunning false r.state.history
   -- no thread has more operations behind it than it has
   pub within : (t : ℕ) → r.next_op t ≤ length (operations_of plan t)
   -- nor is it at an endtry, which takes no turn
   pub no_endtry : (t : ℕ) → slice_get (operations_of plan t) (r.next_op t) ≢ Some EndTry
-  -- each operation that is behind it has made one entry at most, and the entries follow the operations
-  pub entries : length r.state.history ≤ sum_below (length plan.threads) r.next_op
+  -- each operation that is behind it has made two entries at most, and a wait that it is in has made one
+  pub entries : length r.state.history
+      ≤ sum_below (length plan.threads) (λ t. 2 * r.next_op t + some (waits_on (r.state.log t)))
+  -- the entries follow the operations, to the wait that it is in
   pub follows : (t : ℕ) → LeadsTo (config_of plan).kind (operations_of plan t)
-      (entries_of r.state.history t) (Before (r.next_op t))
-  -- no sleeper and no halt is noted, until waits come
-  pub no_sleeps : SleepsNobody r.state.history
-  -- each thread holds what its operations so far lead to
-  pub holds : (t l : ℕ) → r.state.held t l
-      ≡ hold_in (held_of (operations_of plan t) (r.next_op t)) l
-  -- and has just these sections open
-  pub sections : (t l : ℕ) → open_in (config_of plan) r.state.history t l ≡ r.state.held t l
+      (entries_of r.state.history t) (place_in r t)
+  pub waiting : (t d : ℕ) → waits_on (r.state.log t) ≡ Some d
+      → slice_get (operations_of plan t) (r.next_op t) ≡ Some (Sleep (record { 0 = d }))
+  -- each thread holds what its operations so far lead to, but for the lock of its wait,
+  pub holds : (t l : ℕ) → r.state.held t l ≡ hold_in (held_now plan r t) l
+  pub listed : (t : ℕ) → r.state.held_locks t ≡ gained_order (held_now plan r t)
+  -- which it held as it will take it back,
+  pub left : (t l : ℕ) → lock_of_wait (config_of plan) r.state t ≡ Some l
+      → left_in (config_of plan) r.state.history t l ≡ hold_in (held_before plan r t) l
+  -- and it has just these sections open
+  pub sections : (t l : ℕ) → open_in (config_of plan) r.state.history t l ≡ open_now plan r t l
   pub begun : (t l : ℕ) → r.state.held t l ≢ NotHeld → r.state.has_begun t l ≡ true
-  -- a lock is wanted by the thread's next operation
+  -- a lock is wanted by the thread's next operation, and isn't held
   pub wants : (t l : ℕ) → r.state.wanted t ≡ Some l
-      → (mode : Mode)
-      × (slice_get (operations_of plan t) (r.next_op t) ≡ Some (Take (record { 0 = l }) mode))
-  -- waiters are taken off and woken to try for a lock again
-  pub woken : (t : ℕ) → WokenByCall (r.state.wait t)
-  pub marked : (t : ℕ) → All (λ m. IsCall m.queue m.cause) (r.state.marked t)
-  -- each wake is noted
-  pub stamped : (t : ℕ) → r.state.unstamped t ≡ None
+      → TakesLock (config_of plan) l (waits_on (r.state.log t))
+      (slice_get (operations_of plan t) (r.next_op t))
+  pub wants_unheld : (t l : ℕ) → r.state.wanted t ≡ Some l → r.state.held t l ≡ NotHeld
+  -- a walk goes over locks with turnstiles
+  pub walks : WalksAtTurnstiles (config_of plan) r.state.walk
 
--- a thread that has neither a walk nor a marked list
-pub record OwesNothing (r : Run) (t : ℕ) : Type 0 where
+-- a thread that has neither a walk nor a marked list, nor a release after a wait to make
+pub record OwesNothing (plan : Plan) (r : Run) (t : ℕ) : Type 0 where
   pub no_walk : r.state.walk t ≡ NoWalk
   pub unmarked : r.state.marked t ≡ []
+  pub released : owed_release (config_of plan) r.state t ≡ None
 
 -- a running thread at its next operation, where it has one left
 pub record IsAtOperation (plan : Plan) (r : Run) (t : ℕ) (o : Option Op) : Type 0 where
   pub running : r.state.wait t ≡ Running
-  pub free : OwesNothing r t
+  pub free : OwesNothing plan r t
   pub next : slice_get (operations_of plan t) (r.next_op t) ≡ o
 
--- a thread that sleeps: it hasn't ended, its wait word says Queued, and it owes no walk and has no marked list
+-- a thread that sleeps: it hasn't ended, its wait word says Queued, and it owes nothing
 pub record IsSleeping (plan : Plan) (r : Run) (t : ℕ) : Type 0 where
   pub going : has_ended plan r t ≡ false
   pub queued : r.state.wait t ≡ Queued
-  pub no_walk : r.state.walk t ≡ NoWalk
-  pub unmarked : r.state.marked t ≡ []
+  pub free : OwesNothing plan r t

@@ -1,6 +1,6 @@
 //! The scheduled run: whatever turns a proper plan's threads have had, the state is lawful, and steps reach it.
 
-ghost use Rattle.std.specs.Prelude.{◌≡◌, ◌≢◌, ◌⊎◌, ◌↔◌, ℕ, ◌<◌, true, false, List, length};
+ghost use Rattle.std.specs.Prelude.{◌≡◌, ◌≢◌, ◌⊎◌, ◌↔◌, ℕ, ◌*◌, ◌<◌, true, false, List, length};
 ghost use Rattle.std.specs.List.{All};
 ghost use Rattle.lock_model.specs.Operations.{IsProper, operations_in_all};
 ghost use Rattle.lock_model.specs.Plans.{config_of, operations_of};
@@ -87,10 +87,10 @@ pub fn turns_end_no_other()
         → has_ended plan (run_behind plan r t) u ≡ has_ended plan r u }
 {}
 
-/// Each operation that is behind a thread has made one entry at most, so where a thread has an operation left the history
-/// is shorter than the operations of all threads.
-pub fn entries_are_operations()
+/// A wait makes two entries, and every other operation one at most. So where a thread has an operation left the history
+/// is shorter than twice the operations of all threads: there is room for the one entry that the thread's turn may make.
+pub fn histories_have_room()
     ensures { (plan : plans.Plan) (r : Run) (t : ℕ) → IsProper plan → IsOnTrack plan r
         → t < length plan.threads → r.next_op t < length (operations_of plan t)
-        → length r.state.history < operations_in_all plan }
+        → length r.state.history < 2 * operations_in_all plan }
 {}

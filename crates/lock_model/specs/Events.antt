@@ -1,5 +1,5 @@
 -- What an event says of sleepers: the one place in which each event is sorted by it.
-use Rattle.std.specs.Prelude.{ℕ, Bool, true, false, ◌==◌}
+use Rattle.std.specs.Prelude.{ℕ, Bool, true, false, ◌==◌, Option, Some, None}
 use Rattle.lock_model.specs.declared.event.Event.{Event}
 use Rattle.lock_model.specs.declared.event.Event.TheVariants.{Locked, Tried, Busy, Unlocked, Set, Added, Got, Base, Shown, Sleeps, Woke, HaltedChan, HaltedLock, WokeOne, WokeAll, Reversed}
 
@@ -57,6 +57,16 @@ is_falling (IsHaltedAtLock l) = false
 is_falling (WakesOne d woken) = false
 is_falling (WakesAll d woken) = false
 
+-- the channel on which its thread goes to sleep
+abbrev pub fell_asleep : OfSleep → Option ℕ
+fell_asleep NoSleep = None
+fell_asleep (FallsAsleep d) = Some d
+fell_asleep (WakesUp d) = None
+fell_asleep (IsHalted d) = None
+fell_asleep (IsHaltedAtLock l) = None
+fell_asleep (WakesOne d woken) = None
+fell_asleep (WakesAll d woken) = None
+
 -- whether a halt ended its thread's sleep on a channel
 abbrev pub ends_by_halt : OfSleep → Bool
 ends_by_halt NoSleep = false
@@ -96,13 +106,3 @@ is_waking_of (IsHalted d) = false
 is_waking_of (IsHaltedAtLock l) = false
 is_waking_of (WakesOne d woken) = true
 is_waking_of (WakesAll d woken) = true
-
--- whether it says anything of sleepers
-abbrev pub says_some : OfSleep → Bool
-says_some NoSleep = false
-says_some (FallsAsleep d) = true
-says_some (WakesUp d) = true
-says_some (IsHalted d) = true
-says_some (IsHaltedAtLock l) = true
-says_some (WakesOne d woken) = true
-says_some (WakesAll d woken) = true

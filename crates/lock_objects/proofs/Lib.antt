@@ -1,10 +1,14 @@
 pub mod Chains
 pub mod Held
 pub mod Lists
+pub mod Bits
+pub mod Taken
 pub mod Loans
 pub mod Queues
 pub mod Records
 pub mod Enters
 pub mod Opens
+pub mod Sleeps
 pub mod Lent
 pub mod Hops
+pub mod StepsOfSleepers

@@ -1,4 +1,4 @@
--- The places of waiters that were taken off a turnstile, and their marks in the columns of the state.
+-- The places of waiters that were taken off a queue, and their marks in the columns of the state.
 use Rattle.std.proofs.Common.{◌≡◌, ℕ, suc, List, [], ◌∷◌, length, map, None, Some, IsSome, refl, ap, arith, ◌≤◌}
 use Rattle.std.specs.List.{All}
 use Rattle.std.proofs.Math.Seq.{take-length}
@@ -11,11 +11,11 @@ use Rattle.turnstile_core.specs.Lists.{place, with_last}
 use Rattle.turnstile_core.specs.Changes.{waiters, taken}
 use Rattle.lock_objects.specs.Represents.{mark_of}
 
--- a place has a turnstile
-abbrev pub HasTurnstile : Place → Type 0
-HasTurnstile p = IsSome p.object
+-- a place has an object
+abbrev pub HasObject : Place → Type 0
+HasObject p = IsSome p.object
 
--- waiters, each with the free turnstile that it takes back
+-- waiters, each with the free object that it takes back
 abbrev pub places : List Waiter → List ℕ → List Place
 places ws xs = map place (handed_out ws xs None)
 
@@ -26,10 +26,10 @@ marks-dealt q [] xs h l = refl
 marks-dealt q (w ∷ ws) [] h l = absurd (omega arith)
 marks-dealt q (w ∷ ws) (x ∷ xs) h l = ap (λ ms. mark_of q (place (w, Some x)) ∷ ms) (marks-dealt q ws xs h (omega arith))
 
-pub turnstiles-dealt : (ws : List Waiter) (xs : List ℕ) → length ws ≤ length xs → All (λ p. IsSome p.object) (places ws xs)
-turnstiles-dealt [] xs l = All-nil HasTurnstile
-turnstiles-dealt (w ∷ ws) [] l = absurd (omega arith)
-turnstiles-dealt (w ∷ ws) (x ∷ xs) l = All-cons HasTurnstile (place (w, Some x)) (places ws xs) refl (turnstiles-dealt ws xs (omega arith))
+pub objects-dealt : (ws : List Waiter) (xs : List ℕ) → length ws ≤ length xs → All (λ p. IsSome p.object) (places ws xs)
+objects-dealt [] xs l = All-nil HasObject
+objects-dealt (w ∷ ws) [] l = absurd (omega arith)
+objects-dealt (w ∷ ws) (x ∷ xs) l = All-cons HasObject (place (w, Some x)) (places ws xs) refl (objects-dealt ws xs (omega arith))
 
 pub head_after-stays : (ws : List Waiter) (xs : List ℕ) (h : ℕ) → length ws ≤ length xs → head_after ws xs (Some h) ≡ Some h
 head_after-stays [] xs h l = refl
@@ -47,14 +47,14 @@ marks-dealt_last q (w ∷ v ∷ ws) [] h e = absurd (omega arith)
 marks-dealt_last q (w ∷ v ∷ ws) (x ∷ []) h e = ap (λ ms. mark_of q (place (w, Some x)) ∷ ms) (marks-dealt_last q (v ∷ ws) [] h (omega arith))
 marks-dealt_last q (w ∷ v ∷ ws) (x ∷ y ∷ xs) h e = ap (λ ms. mark_of q (place (w, Some x)) ∷ ms) (marks-dealt_last q (v ∷ ws) (y ∷ xs) h (omega arith))
 
-pub turnstiles-dealt_last : (ws : List Waiter) (xs : List ℕ) (h : ℕ) → length ws ≡ suc (length xs) → All (λ p. IsSome p.object) (with_last h (places ws xs))
-turnstiles-dealt_last [] xs h e = absurd (omega arith)
-turnstiles-dealt_last (w ∷ []) [] h e = All-cons HasTurnstile (place (w, Some h)) [] refl (All-nil HasTurnstile)
-turnstiles-dealt_last (w ∷ []) (x ∷ xs) h e = absurd (omega arith)
-turnstiles-dealt_last (w ∷ v ∷ ws) [] h e = absurd (omega arith)
-turnstiles-dealt_last (w ∷ v ∷ ws) (x ∷ []) h e = All-cons HasTurnstile (place (w, Some x)) (with_last h (places (v ∷ ws) [])) refl (turnstiles-dealt_last (v ∷ ws) [] h (omega arith))
-turnstiles-dealt_last (w ∷ v ∷ ws) (x ∷ y ∷ xs) h e =
-    All-cons HasTurnstile (place (w, Some x)) (with_last h (places (v ∷ ws) (y ∷ xs))) refl (turnstiles-dealt_last (v ∷ ws) (y ∷ xs) h (omega arith))
+pub objects-dealt_last : (ws : List Waiter) (xs : List ℕ) (h : ℕ) → length ws ≡ suc (length xs) → All (λ p. IsSome p.object) (with_last h (places ws xs))
+objects-dealt_last [] xs h e = absurd (omega arith)
+objects-dealt_last (w ∷ []) [] h e = All-cons HasObject (place (w, Some h)) [] refl (All-nil HasObject)
+objects-dealt_last (w ∷ []) (x ∷ xs) h e = absurd (omega arith)
+objects-dealt_last (w ∷ v ∷ ws) [] h e = absurd (omega arith)
+objects-dealt_last (w ∷ v ∷ ws) (x ∷ []) h e = All-cons HasObject (place (w, Some x)) (with_last h (places (v ∷ ws) [])) refl (objects-dealt_last (v ∷ ws) [] h (omega arith))
+objects-dealt_last (w ∷ v ∷ ws) (x ∷ y ∷ xs) h e =
+    All-cons HasObject (place (w, Some x)) (with_last h (places (v ∷ ws) (y ∷ xs))) refl (objects-dealt_last (v ∷ ws) (y ∷ xs) h (omega arith))
 
 pub head_after-none : (ws : List Waiter) (xs : List ℕ) (h : ℕ) → length ws ≡ suc (length xs) → head_after ws xs (Some h) ≡ None
 head_after-none [] xs h e = absurd (omega arith)

@@ -1,5 +1,5 @@
 -- A release takes the waiters of one side off a turnstile: record, chain and woken show the columns behind an open.
-use Rattle.std.proofs.Common.{◌≡◌, ◌≢◌, ℕ, suc, ◌+◌, ◌≤◌, Bool, true, false, ◌||◌, cond, List, [], ◌∷◌, length, map, Option, Some, None, option_map, is_some, IsSome, refl, sym, ap, subst, arith, inl, inr, drop, length-append, ◌∙◌}
+use Rattle.std.proofs.Common.{◌≡◌, ◌≢◌, ℕ, ◌+◌, ◌≤◌, Bool, true, false, ◌||◌, cond, List, [], ◌∷◌, length, map, Option, Some, None, option_map, is_some, IsSome, refl, sym, ap, subst, arith, inl, inr, drop, ◌∙◌}
 use Rattle.std.specs.Prelude.{IsSomeAnd}
 use Rattle.std.specs.Option.{IfSome}
 use Rattle.std.specs.List.{All}
@@ -23,30 +23,23 @@ use Rattle.lock_laws.proofs.Derived as laws
 use Rattle.lock_laws.proofs.Open.{side_shown}
 use Rattle.lock_laws.proofs.NodesOfHeads.{put_at_row}
 use Rattle.lock_laws.proofs.WordsAndHeads.{lent_out, home_elsewhere, headless_bare}
-use Rattle.turnstile_core.specs.Seen.{Contents, Turnstile, Terms, Place, IsLeft}
+use Rattle.turnstile_core.specs.Seen.{Contents, Turnstile, Terms, Place, home}
 use Rattle.turnstile_core.specs.Lists.{with_last}
-use Rattle.turnstile_core.specs.Changes.{waiters, all_waiters, left_by, taken, name_of, IsWellFormed}
+use Rattle.turnstile_core.specs.Changes.{waiters, all_waiters, with_waiters, left_by, taken, name_of}
 use Rattle.thread_records.specs.Records.{Record}
 use Rattle.prio_lending.specs.Hops.{carrier_for, node_out, with_contents}
 use Rattle.thread_records.specs.Loans.{loan_for, without_loan}
 use Rattle.thread_records.proofs.OneEach.{one_each_without}
 use Rattle.chain_table.specs.Chains.{head_of, without}
-use Rattle.lock_objects.specs.Represents.{QueueColumns, RepresentsHead, RepresentsQueue, RepresentsQueues, RepresentsRecord, queue_in, record_in, queue_of, loan_of, mark_of}
+use Rattle.lock_objects.specs.Represents.{sleepers_of, QueueColumns, RepresentsHead, RepresentsQueue, RepresentsQueues, RepresentsRecord, queue_in, record_in, queue_of, loan_of, mark_of}
 use Rattle.lock_objects.specs.Opens.{CanOpen, CanRelease, record_opened, settled, woken_of, chain_opened}
-use Rattle.lock_objects.proofs.Lists.{marks-dealt, turnstiles-dealt, head_after-stays, marks-dealt_last, turnstiles-dealt_last, head_after-none, places, taken-whole}
+use Rattle.lock_objects.proofs.Lists.{taken-whole}
+use Rattle.lock_objects.proofs.Taken as object
 use Rattle.lock_objects.proofs.Loans.{loan_for-dropped, loan_for-others}
 use Rattle.lock_objects.proofs.Queues.{SameQueue, queues_placed, queues_gone}
 use Rattle.lock_objects.proofs.Records.{with_other_loans}
 
 -- 1. A whole side of a turnstile
-
-empty_length : {A : Type 0} (xs : List A) → is_empty xs ≡ true → length xs ≡ 0
-empty_length [] e = refl
-empty_length (x ∷ xs) e = absurd cc
-
-full_length : {A : Type 0} (xs : List A) → is_empty xs ≡ false → 1 ≤ length xs
-full_length [] e = absurd cc
-full_length (x ∷ xs) e = omega arith
 
 -- a queue's columns with no waiter on a side and no owner
 abbrev without_side : Side → QueueColumns → QueueColumns
@@ -67,12 +60,9 @@ module _ (side : Side) (d : Contents) where
   abbrev took : List Place
   took = taken (length ws) side d
 
-  left_count : length (all_waiters left) + length ws ≡ length d.exclusive + length d.shared
-  left_count = go side refl
-    where
-      go : (e : Side) → side ≡ e → length (all_waiters left) + length ws ≡ length d.exclusive + length d.shared
-      go X e = rw e (omega (arith, ap length (drop_all (length d.exclusive) d.exclusive (omega arith)), length-append (drop (length d.exclusive) d.exclusive) d.shared))
-      go S e = rw e (omega (arith, ap length (drop_all (length d.shared) d.shared (omega arith)), length-append d.exclusive (drop (length d.shared) d.shared)))
+  -- all of the side are taken off
+  is_left : left ≡ object.left true side d
+  is_left = ap (λ us. with_waiters side us (record d { free = drop (length ws) d.free })) (drop_all (length ws) ws (omega arith))
 
   pub left_number : left.number ≡ d.number
   left_number = elim side as (λ e. (left_by (length (waiters e d)) e d).number ≡ d.number) [ X ↦ refl | S ↦ refl ]
@@ -86,39 +76,31 @@ module _ (side : Side) (d : Contents) where
   pub left_home : left.own.loan_home ≡ d.own.loan_home
   left_home = elim side as (λ e. (left_by (length (waiters e d)) e d).own.loan_home ≡ d.own.loan_home) [ X ↦ refl | S ↦ refl ]
 
--- without its whole side the turnstile shows the queue without it, where its free list is long enough
-left_queue : (side : Side) (d : Contents) → d.own.owner ≡ None → length (waiters side d) ≤ length d.free → without_side side (queue_of d) ≡ queue_of (left side d)
-left_queue X d o few =
-    let none : drop (length d.exclusive) d.exclusive ≡ [] = drop_all (length d.exclusive) d.exclusive (omega arith) in
-    λ i. record { head = head_after-stays d.exclusive d.free d.number few i; lists = record { exclusive = sym none i; shared = d.shared }; free_list = drop (length d.exclusive) d.free; owner = sym o i }
-left_queue S d o few =
-    let none : drop (length d.shared) d.shared ≡ [] = drop_all (length d.shared) d.shared (omega arith) in
-    λ i. record { head = head_after-stays d.shared d.free d.number few i; lists = record { exclusive = d.exclusive; shared = sym none i }; free_list = drop (length d.shared) d.free; owner = sym o i }
+module _ (side : Side) (d : Contents) (balanced : length d.free + 1 ≡ length d.exclusive + length d.shared) where
+  nobody_left : (b : Bool) → is_empty (all_waiters (left side d)) ≡ b → is_empty (all_waiters (object.left true side d)) ≡ b
+  nobody_left b e = ap (λ (v : Contents). is_empty (all_waiters v)) (sym (is_left side d)) ∙ e
 
-module _ (q : QueueName) (side : Side) (d : Contents) (balanced : length d.free + 1 ≡ length d.exclusive + length d.shared) where
-  -- where nobody is left, there is one free turnstile too few
-  all_gone : is_empty (all_waiters (left side d)) ≡ true → length (waiters side d) ≡ suc (length d.free)
-  all_gone e = omega (arith, balanced, left_count side d, empty_length (all_waiters (left side d)) e)
+  -- without its whole side the turnstile shows the queue without it, where others wait on it
+  left_queue : is_empty (all_waiters (left side d)) ≡ false → d.own.owner ≡ None → without_side side (queue_of d) ≡ queue_of (left side d)
+  left_queue some o =
+      let e = object.stays true side d balanced (nobody_left false some) ∙ ap sleepers_of (sym (is_left side d)) in
+      let w = sym (left_owner side d ∙ o) in
+      λ i. record { head = (e i).head; lists = (e i).lists; free_list = (e i).free_list; owner = w i }
 
-  some_left : is_empty (all_waiters (left side d)) ≡ false → length (waiters side d) ≤ length d.free
-  some_left e = omega (arith, balanced, left_count side d, full_length (all_waiters (left side d)) e)
+  left_none : is_empty (all_waiters (left side d)) ≡ true → (without_side side (queue_of d)).head ≡ None
+  left_none nobody = object.gone true side d balanced (nobody_left true nobody)
 
   -- the waiters that were taken off
   abbrev woken : List Place
   woken = cond (is_empty (all_waiters (left side d))) (with_last (left side d).number (took side d)) (took side d)
 
-  abbrev Marked : List Place → Type 0
-  Marked ps = (map (mark_of q) ps ≡ dealt q (waiters side d) d.free (Some d.number)) × All (λ p. IsSome p.object) ps
+  abbrev Marked : QueueName → List Place → Type 0
+  Marked q ps = (map (mark_of q) ps ≡ dealt q (waiters side d) d.free (Some d.number)) × All (λ p. IsSome p.object) ps
 
-  pub woken_shown : Marked woken
-  woken_shown = go (is_empty (all_waiters (left side d))) refl
-    where
-      go : (b : Bool) → is_empty (all_waiters (left side d)) ≡ b → Marked (cond b (with_last (left side d).number (took side d)) (took side d))
-      go true e =
-          let n = all_gone e in
-          let is : with_last (left side d).number (took side d) ≡ with_last d.number (places (waiters side d) d.free) = ap (λ k. with_last k (took side d)) (left_number side d) ∙ ap (with_last d.number) (taken-whole side d) in
-          subst Marked (sym is) (marks-dealt_last q (waiters side d) d.free d.number n, turnstiles-dealt_last (waiters side d) d.free d.number n)
-      go false e = subst Marked (sym (taken-whole side d)) (marks-dealt q (waiters side d) d.free d.number (some_left e), turnstiles-dealt (waiters side d) d.free (some_left e))
+  pub woken_shown : (q : QueueName) → Marked q woken
+  woken_shown q =
+      subst (Marked q) (sym (ap (λ (v : Contents). cond (is_empty (all_waiters v)) (with_last v.number (took side d)) (took side d)) (is_left side d)
+      ∙ ap (λ ps. cond (is_empty (all_waiters (object.left true side d))) (with_last d.number ps) ps) (taken-whole side d))) (object.woken_shown true side d balanced q)
 
 -- 2. The loan
 
@@ -229,13 +211,13 @@ module _ (c : Config) (s : State) (t l : ℕ) where
     stays : is_empty (all_waiters (left side d)) ≡ false → RepresentsHead (left side d) (queue_in n (lock_queue l)) n.loan_home
     unfolding after_open
     stays some_wait = record {
-      queue = then_is ∙ left_queue side d refl (some_left (lock_queue l) side d fits some_wait);
+      queue = then_is ∙ left_queue side d fits some_wait refl;
       loan_home = ap (home_after s.loan_home (s.loan t l)) (left_number side d) ∙ home_shown can rec old ∙ sym (left_home side d);
     }
 
     -- or is gone
     gone : is_empty (all_waiters (left side d)) ≡ true → (queue_in n (lock_queue l)).head ≡ None
-    gone nobody = ap (λ v. v.head) then_is ∙ head_after-none (waiters side d) d.free d.number (all_gone (lock_queue l) side d fits nobody)
+    gone nobody = ap (λ v. v.head) then_is ∙ left_none side d fits nobody
 
     pub queues_shown : {chain new : List (QueueName × Turnstile)} → RepresentsQueues c chain (queue_in s) s.loan_home → new ≡ chain_opened l side r h chain → (is_empty (all_waiters (left side d)) ≡ true → head_of (lock_queue l) new ≡ None)
         → RepresentsQueues c new (queue_in n) n.loan_home
@@ -252,7 +234,7 @@ module _ (c : Config) (s : State) (t l : ℕ) where
     pub marks_shown : {ps : List Place} → ps ≡ woken_of l side r h.contents → (map (mark_of (lock_queue l)) ps ≡ n.marked t) × All (λ p. IsSome p.object) ps
     unfolding after_open
     marks_shown is =
-        let are = woken_shown (lock_queue l) side d fits in
+        let are = woken_shown side d fits (lock_queue l) in
         let columns : s.marked t ≡ s.marked t = refl in
         let marks : n.marked t ≡ dealt (lock_queue l) (waiters side d) d.free (Some d.number) =
         put_same s.marked t (dealt (lock_queue l) (list_of (side_woken (c.kind l) (s.word l)) (s.lists (lock_queue l))) (s.free_list (lock_queue l)) (s.head (lock_queue l)))
@@ -267,7 +249,7 @@ module _ (c : Config) (s : State) (t l : ℕ) (mode : Mode) (lawful : Lawful c s
   can_release = record {
     turnstile = g.turnstile;
     balanced = (lawful.queues.heads_fit_waiters (lock_queue l)).balanced;
-    lent = λ x y e f. lent_out c s t l lawful g.lock g.turnstile (laws.loans c s t l y lawful f).1 x y e f;
+    lent = λ x y e f. lent_out c s t l lawful g.releases.lock g.turnstile (laws.loans c s t l y lawful f).1 x y e f;
     unlent = unlent;
     elsewhere = λ k x d turnstile e. elsewhere k x d turnstile e (s.loan t l) refl;
     within = λ k y e. loan_lock c s t k y lawful e;
@@ -277,21 +259,21 @@ module _ (c : Config) (s : State) (t l : ℕ) (mode : Mode) (lawful : Lawful c s
       unlent x e none = go (s.owner (lock_queue l)) refl
         where
           go : (o : Option ℕ) → s.owner (lock_queue l) ≡ o → s.loan_home x ≡ true
-          go None w = unowned_home c s l x lawful g.lock g.turnstile e w
+          go None w = unowned_home c s l x lawful g.releases.lock g.turnstile e w
           go (Some o) w =
-              let same : o ≡ t = laws.exclude c s o t l lawful (owner_holds c s l o lawful w) (λ n. let z = sym g.held ∙ n in cc) in
-              owned_home c s l x o lawful g.lock g.turnstile e w (ap (λ u. s.loan u l) same ∙ none)
+              let same : o ≡ t = laws.exclude c s o t l lawful (owner_holds c s l o lawful w) (λ n. let z = sym g.releases.held ∙ n in cc) in
+              owned_home c s l x o lawful g.releases.lock g.turnstile e w (ap (λ u. s.loan u l) same ∙ none)
 
       elsewhere : (k x : ℕ) → k ≢ l → is_turnstile (c.kind k) ≡ true → s.head (lock_queue k) ≡ Some x → (o : Option Loan) → s.loan t l ≡ o → home_after s.loan_home (s.loan t l) x ≡ s.loan_home x
       elsewhere k x d turnstile e None f = ap (λ o. home_after s.loan_home o x) f
-      elsewhere k x d turnstile e (Some y) f = home_elsewhere c s t l lawful g.lock g.turnstile (laws.loans c s t l y lawful f).1 k x d turnstile e
+      elsewhere k x d turnstile e (Some y) f = home_elsewhere c s t l lawful g.releases.lock g.turnstile (laws.loans c s t l y lawful f).1 k x d turnstile e
 
   abbrev side : Side
   side = side_woken (c.kind l) (s.word l)
 
   some_woken : is_empty (list_of side (s.lists (lock_queue l))) ≡ false
   unfolding BitsShowWaiters MutexWaitersAreExclusive
-  some_woken = side_shown (c.kind l) (s.word l) (s.lists (lock_queue l)) g.turnstile (lawful.queues.bits_show_waiters l) g.shown (lawful.queues.mutex_waiters_are_exclusive l)
+  some_woken = side_shown (c.kind l) (s.word l) (s.lists (lock_queue l)) g.turnstile (lawful.queues.bits_show_waiters l) g.releases.shown (lawful.queues.mutex_waiters_are_exclusive l)
 
   -- the loan and the turnstile's node
   module _ {r : Record} (rec : RepresentsRecord r (record_in s t)) where
@@ -314,26 +296,11 @@ of_head P e h = subst (λ o. IfSome o P) (sym e) h
 
 -- a turnstile that was settled and emptied of a side has no owner, and its node is at home
 module _ (l : ℕ) (side : Side) (r : Record) {h a : Turnstile} {b : Contents} (can : CanOpen l side r h) (is : a ≡ record h { contents = settled l r h.contents }) (made : b ≡ left_by (length (waiters side a.contents)) side a.contents) where
-  pub unowned : b.own.owner ≡ None
-  unowned = ap (λ (d : Contents). d.own.owner) made ∙ left_owner side a.contents ∙ ap (λ (v : Turnstile). v.contents.own.owner) is
-
-  pub at_home : b.own.loan_home ≡ true
-  at_home = ap (λ (d : Contents). d.own.loan_home) made ∙ left_home side a.contents ∙ ap (λ (v : Turnstile). v.contents.own.loan_home) is ∙ can.returns
-
--- with nobody on it, it has no free turnstile either
-pub nothing_left : (d : Contents) → IsWellFormed d → all_waiters d ≡ [] → (d.exclusive ≡ []) × (d.shared ≡ []) × (d.free ≡ [])
-nothing_left d fits nobody =
-    let n : length d.exclusive + length d.shared ≡ 0 = sym (length-append d.exclusive d.shared) ∙ ap length nobody in
-    (no_item d.exclusive (omega arith), no_item d.shared (omega arith), no_item d.free (omega (arith, fits.one_free_less)))
-  where
-    no_item : {A : Type 0} (xs : List A) → length xs ≡ 0 → xs ≡ []
-    no_item [] e = refl
-    no_item (x ∷ xs) e = absurd (omega arith)
-
-pub left_idle : (h : Turnstile) → IsWellFormed h.contents → all_waiters h.contents ≡ [] → h.contents.own.owner ≡ None → h.contents.own.loan_home ≡ true → h.next ≡ [] → IsLeft h
-left_idle h fits nobody owner home bare =
-    let none = nothing_left h.contents fits nobody in
-    record { no_exclusive = none.0; no_shared = none.1; no_free = none.2; no_owner = owner; loan_home = home; no_next = bare }
+  pub at_home : record b.own { lock = None } ≡ home
+  at_home =
+      let unowned = ap (λ (d : Contents). d.own.owner) made ∙ left_owner side a.contents ∙ ap (λ (v : Turnstile). v.contents.own.owner) is in
+      let lent = ap (λ (d : Contents). d.own.loan_home) made ∙ left_home side a.contents ∙ ap (λ (v : Turnstile). v.contents.own.loan_home) is ∙ can.returns in
+      λ i. record { lock = None; owner = unowned i; loan_home = lent i }
 
 -- one who is in the chain has what is asked of the head there
 pub of_some : {A : Type 0} {o : Option A} {x : A} (P : A → Type 0) → Some x ≡ o → IsSomeAnd o P → P x

@@ -1,14 +1,14 @@
 -- How a chain shows the columns of queues when the turnstile at one lock changes.
-use Rattle.std.proofs.Common.{◌≡◌, ◌≢◌, ℕ, Bool, true, List, ◌∷◌, Option, Some, None, refl, sym, ap, subst, inl, inr, ◌∙◌}
-use Rattle.std.proofs.lemmas.Bool.{cases_eq}
+use Rattle.std.proofs.Common.{◌≡◌, ◌≢◌, ℕ, Bool, true, List, ◌∷◌, Option, Some, None, refl, ap, subst, ◌∙◌}
 use Rattle.lock_model.specs.Config.{Config}
 use Rattle.lock_model.specs.Words.{is_turnstile}
-use Rattle.lock_model.specs.Queues.{lock_queue}
+use Rattle.lock_model.specs.Queues.{lock_queue, is_turnstile_queue}
 use Rattle.lock_model.specs.declared.plan.QueueName.{QueueName}
+use Rattle.lock_model.specs.declared.plan.QueueName.TheVariants.{Lock, Chan}
 use Rattle.turnstile_core.specs.Seen.{Turnstile}
 use Rattle.chain_table.specs.Chains.{head_of, without}
 use Rattle.lock_objects.specs.Represents.{QueueColumns, RepresentsHead, RepresentsQueue, RepresentsQueues}
-use Rattle.lock_objects.proofs.Chains.{head_of-first, head_of-behind, head_of-others, lock_queues_differ}
+use Rattle.lock_objects.proofs.Chains.{all_placed, all_gone}
 
 -- the columns of a queue stay, and that of its head's loan node
 pub record SameQueue (qs ns : QueueName → QueueColumns) (homes homes_then : ℕ → Bool) (q : QueueName) : Type 0 where
@@ -34,38 +34,18 @@ pub there : (o : Option Turnstile) (x : QueueColumns) (homes : ℕ → Bool) (h 
 there None x homes h shows e = absurd (cc)
 there (Some d) x homes h shows e = (d, refl, shows)
 
-module _ (ns : QueueName → QueueColumns) (homes : ℕ → Bool) where
-  abbrev Shown : Option Turnstile → ℕ → Type 0
-  Shown o k = RepresentsQueue o (ns (lock_queue k)) homes
-
 module _ {c : Config} {chain : List (QueueName × Turnstile)} {qs ns : QueueName → QueueColumns} {homes homes_then : ℕ → Bool} (l : ℕ) (shows : RepresentsQueues c chain qs homes) (others : (k : ℕ) → k ≢ l → is_turnstile (c.kind k) ≡ true → SameQueue qs ns homes homes_then (lock_queue k)) where
-  other_shown : (k : ℕ) → k ≢ l → is_turnstile (c.kind k) ≡ true → Shown ns homes_then (head_of (lock_queue k) (without (lock_queue l) chain)) k
-  other_shown k d j = subst (λ (o : Option Turnstile). Shown ns homes_then o k) (sym (head_of-others (lock_queue k) (lock_queue l) chain (lock_queues_differ (lock_queue k) (lock_queue l) k l refl refl d))) (queue_stays (head_of (lock_queue k) chain) (others k d j) (shows.lock k j))
+  abbrev Shown : QueueName → Option Turnstile → Type 0
+  Shown r o = is_turnstile_queue c r ≡ true → RepresentsQueue o (ns r) homes_then
 
-  placed_at : (h : Turnstile) → RepresentsHead h.contents (ns (lock_queue l)) homes_then → (k : ℕ) → is_turnstile (c.kind k) ≡ true → Shown ns homes_then (head_of (lock_queue k) ((lock_queue l, h) ∷ without (lock_queue l) chain)) k
-  placed_at h new k j =
-      elim (cases_eq k l) [
-        | inl i ↦
-            subst (λ (i' : ℕ). Shown ns homes_then (head_of (lock_queue i') ((lock_queue l, h) ∷ without (lock_queue l) chain)) i') (sym i)
-            (subst (λ (o : Option Turnstile). Shown ns homes_then o l) (sym (head_of-first (lock_queue l) (lock_queue l) h (without (lock_queue l) chain) refl)) new)
-        | inr d ↦
-            subst (λ (o : Option Turnstile). Shown ns homes_then o k) (sym (head_of-behind (lock_queue k) (lock_queue l) h (without (lock_queue l) chain) (lock_queues_differ (lock_queue k) (lock_queue l) k l refl refl d)))
-            (other_shown k d j)
-      ]
-
-  gone_at : head_of (lock_queue l) (without (lock_queue l) chain) ≡ None → (ns (lock_queue l)).head ≡ None → (k : ℕ) → is_turnstile (c.kind k) ≡ true → Shown ns homes_then (head_of (lock_queue k) (without (lock_queue l) chain)) k
-  gone_at absent none k j =
-      elim (cases_eq k l) [
-        | inl i ↦
-            subst (λ (i' : ℕ). Shown ns homes_then (head_of (lock_queue i') (without (lock_queue l) chain)) i') (sym i)
-            (subst (λ (o : Option Turnstile). Shown ns homes_then o l) (sym absent) none)
-        | inr d ↦ other_shown k d j
-      ]
+  others_shown : (r : QueueName) → r ≢ lock_queue l → Shown r (head_of r chain)
+  others_shown (Lock k) d j = queue_stays (head_of (Lock k) chain) (others k.0 (λ e. d (ap lock_queue e)) j) (shows.lock k.0 j)
+  others_shown (Chan k) d j = absurd cc
 
   -- a turnstile is put in the place of the one at the lock, or where none was
   pub queues_placed : (h : Turnstile) → RepresentsHead h.contents (ns (lock_queue l)) homes_then → RepresentsQueues c ((lock_queue l, h) ∷ without (lock_queue l) chain) ns homes_then
-  queues_placed h new = record { lock = placed_at h new }
+  queues_placed h new = record { lock = λ k. all_placed Shown (lock_queue l) chain others_shown h (λ _. new) (lock_queue k) }
 
   -- the turnstile at the lock is gone
   pub queues_gone : head_of (lock_queue l) (without (lock_queue l) chain) ≡ None → (ns (lock_queue l)).head ≡ None → RepresentsQueues c (without (lock_queue l) chain) ns homes_then
-  queues_gone absent none = record { lock = gone_at absent none }
+  queues_gone absent none = record { lock = λ k. all_gone Shown (lock_queue l) chain others_shown absent (λ _. none) (lock_queue k) }

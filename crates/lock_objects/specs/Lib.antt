@@ -2,4 +2,6 @@ pub mod Represents
 pub mod Held
 pub mod Enters
 pub mod Opens
+pub mod Sleeps
+pub mod Marked
 pub mod Hops

@@ -1,22 +1,24 @@
--- What objects say of the columns of a state: the turnstiles in a chain of the columns by queue, and a thread's
--- record of those by thread. What the columns say of one queue, or of one thread's record, is one value, so that "the
--- others stay" is one equation.
-use Rattle.std.specs.Prelude.{◌≡◌, ℕ, Bool, true, ◌≤◌, List, unwrap_or, option_map, Option, Some, None}
+-- What objects say of the columns of a state: the turnstiles and the sleep queues, in a chain each, of the columns by
+-- queue, and a thread's record of those by thread. What the columns say of one queue, or of one thread's record, is one
+-- value, so that "the others stay" is one equation.
+use Rattle.std.specs.Prelude.{◌≡◌, ℕ, Bool, true, false, ◌≤◌, List, unwrap_or, option_map, Option, Some, None}
 use Rattle.lock_model.specs.Config.{Config}
 use Rattle.lock_model.specs.Words.{is_turnstile}
 use Rattle.lock_state.specs.State as state
 use Rattle.lock_state.specs.State.{State, Loan}
-use Rattle.lock_model.specs.Queues.{Lists, Mark, BySignal, lock_queue}
+use Rattle.lock_model.specs.Queues.{Lists, Mark, BySignal, lock_queue, is_turnstile_queue}
 use Rattle.lock_model.specs.declared.plan.QueueName.{QueueName}
+use Rattle.wait_objects.specs.Seen as object
 use Rattle.turnstile_core.specs.Seen.{Place, Contents, Turnstile, Terms}
 use Rattle.turnstile_core.specs.Changes.{lists_of}
+use Rattle.sleep_queues.specs.Seen.{SleepQueue}
 use Rattle.thread_records.specs.Records.{Record}
 use Rattle.thread_records.specs.Loans.{loan_for, loans_for}
 use Rattle.chain_table.specs.Chains.{head_of}
 use Rattle.prio_lending.specs.declared.walk.Walk as walks
 use Rattle.prio_lending.specs.declared.walk.Walk.TheVariants as walk
 
--- 1. Queues
+-- 1. Turnstiles
 
 -- what the columns say of a queue
 pub record QueueColumns : Type 0 where
@@ -51,7 +53,34 @@ pub record RepresentsQueues (c : Config) (chain : List (QueueName × Turnstile))
   pub lock : (l : ℕ) → is_turnstile (c.kind l) ≡ true
       → RepresentsQueue (head_of (lock_queue l) chain) (queues (lock_queue l)) homes
 
--- 2. Records
+-- 2. Sleep queues
+
+-- what the columns say of the queue of an sx lock or of a channel
+pub record SleepColumns : Type 0 where
+  pub head : Option ℕ
+  pub lists : Lists
+  pub free_list : List ℕ
+
+-- those of a state
+abbrev pub sleepers_in : State → QueueName → SleepColumns
+sleepers_in s q = record { head = s.head q; lists = s.lists q; free_list = s.free_list q }
+
+-- what the object that is lent to a lock or a channel says of it: a sleep queue no more, a turnstile its owner too
+abbrev pub sleepers_of : {E : Type 0} → object.Contents E → SleepColumns
+sleepers_of h = record { head = Some h.number; lists = lists_of h; free_list = h.free }
+
+-- where no sleep queue is lent, the queue has no head
+abbrev pub RepresentsSleepQueue : Option SleepQueue → SleepColumns → Type 0
+RepresentsSleepQueue None x = x.head ≡ None
+RepresentsSleepQueue (Some h) x = x ≡ sleepers_of h.contents
+
+-- the chain has a sleep queue for each sx lock and channel of which the columns say that it has a head
+pub record RepresentsSleepers (c : Config) (chain : List (QueueName × SleepQueue))
+    (queues : QueueName → SleepColumns) : Type 0 where
+  pub queue : (q : QueueName) → is_turnstile_queue c q ≡ false
+      → RepresentsSleepQueue (head_of q chain) (queues q)
+
+-- 3. Records
 
 -- what the columns say of a thread's record
 pub record RecordColumns : Type 0 where
@@ -59,6 +88,7 @@ pub record RecordColumns : Type 0 where
   pub base : ℕ
   pub effective : ℕ
   pub turnstile : Option ℕ
+  pub sleep_queue : Option ℕ
   pub loan : ℕ → Option Loan
   pub blocked_on : Option QueueName
 
@@ -69,6 +99,7 @@ record_in s t = record {
   base = s.base t;
   effective = s.effective t;
   turnstile = s.turnstile t;
+  sleep_queue = s.sleep_queue t;
   loan = s.loan t;
   blocked_on = s.blocked_on t;
 }
@@ -84,6 +115,7 @@ columns_of r = record {
   base = r.base;
   effective = r.effective;
   turnstile = r.turnstile;
+  sleep_queue = r.sleep_queue;
   loan = λ l. option_map loan_of (loan_for l r.loans);
   blocked_on = r.on;
 }
@@ -93,14 +125,14 @@ pub record RepresentsRecord (r : Record) (x : RecordColumns) : Type 0 where
   pub columns : columns_of r ≡ x
   pub one_loan_each : (l : ℕ) → loans_for l r.loans ≤ 1
 
--- 3. Waiters that were taken off
+-- 4. Waiters that were taken off
 
--- a waiter that a signal took off a queue, with the turnstile that it takes back
+-- a waiter that a signal took off a queue, with the object that it takes back
 abbrev pub mark_of : QueueName → Place → Mark
 mark_of q p =
     record { thread = p.thread; object = unwrap_or p.object 0; queue = q; cause = BySignal }
 
--- 4. Walks
+-- 5. Walks
 
 -- where a thread's walk stands
 abbrev pub walk_of : walks.Walk → state.Walk

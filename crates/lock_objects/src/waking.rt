@@ -1,24 +1,23 @@
-//! Waiters are taken off a turnstile and woken, as in `turnstile_broadcast` and `turnstile_unpend` of FreeBSD's
-//! subr_turnstile.c.
-ghost use Rattle.std.specs.Prelude.{◌≡◌, ℕ, [], ◌∷◌, Some, None, true, false, IsSome, IfSome, IsSomeAnd, if◌then◌else◌, map};
+//! Waiters are taken off a turnstile, as in `turnstile_broadcast` of FreeBSD's subr_turnstile.c.
+ghost use Rattle.std.specs.Prelude.{◌≡◌, ℕ, None, true, IsSome, IfSome, IsSomeAnd, map};
 ghost use Rattle.std.specs.List.{All};
 ghost use Rattle.lock_model.specs.Config.{Config};
 ghost use Rattle.lock_model.specs.Counts.{is_empty};
 ghost use Rattle.lock_model.specs.Words.{side_woken};
-ghost use Rattle.lock_model.specs.Queues.{lock_queue, Mark};
+ghost use Rattle.lock_model.specs.Queues.{lock_queue};
 ghost use Rattle.lock_state.specs.State.{State};
 ghost use Rattle.lock_state.specs.Steps.Turnstiles.{after_open};
-ghost use Rattle.turnstile_core.specs.Lists.{LastHasNone, with_last};
-ghost use Rattle.turnstile_core.specs.Changes.{name_of, all_waiters};
+ghost use Rattle.turnstile_core.specs.Changes.{all_waiters};
 ghost use Rattle.chain_table.specs.Chains.{head_of};
 ghost use Rattle.lock_objects.specs.Represents.{RepresentsQueues, RepresentsRecord, queue_in, record_in, mark_of};
 ghost use Rattle.lock_objects.specs.Opens.{CanOpen, CanRelease, record_opened, left_open, woken_of, chain_opened};
 
+use crate::put_back::put_back;
 use chain_table::Chain;
 use lock_model::{LockNo, QueueName, Side};
 use prio_lending::settle_release;
 use thread_records::ThreadRec;
-use turnstile_core::{Taken, Turnstile, Waiter};
+use turnstile_core::{Taken, Turnstile};
 
 /// A thread that releases a lock takes all waiters of a side off the lock's turnstile, each with the turnstile that it
 /// takes back. What they lent the thread goes home. The turnstile has no owner any more, and stays where others wait on
@@ -53,40 +52,4 @@ pub fn open(chain: &mut Chain<Turnstile>, rec: &mut ThreadRec, l: LockNo, side: 
     settle_release(&mut head, rec, l);
     let woken = head.broadcast(side);
     put_back(chain, head, woken)
-}
-
-// A turnstile goes with the last of those that were taken off it where nobody waits on it any more, and else back into
-// the chain.
-#[tactic(auto, using(crate::proofs::Opens::left_idle))]
-fn put_back(chain: &mut Chain<Turnstile>, head: Box<Turnstile>, mut woken: Taken) -> Taken
-    requires last { all_waiters head.value.contents ≡ [] → LastHasNone woken }
-    requires unowned { head.value.contents.own.owner ≡ None }
-    requires home { head.value.contents.own.loan_home ≡ true }
-    requires absent { IsSomeAnd (name_of head.value.contents) (λ q. head_of q chain.old ≡ None) }
-    requires bare { head.value.next ≡ [] }
-    ensures woken { result ≡ (if is_empty (all_waiters head.value.contents)
-        then with_last head.value.contents.number woken else woken) }
-    ensures chain { IfSome (name_of head.value.contents) (λ q.
-        chain.new ≡ (if is_empty (all_waiters head.value.contents) then chain.old
-        else (q, head.value) ∷ chain.old)) }
-{
-    if head.is_empty() {
-        woken.fill_last(head);
-    } else {
-        chain.place(head);
-    }
-    woken
-}
-
-/// A waiter that was taken off a turnstile has its node back, with the turnstile that it takes, and its record names no
-/// queue.
-pub fn wake(rec: &mut ThreadRec, node: Box<Waiter>)
-    requires away { rec.old.turnstile ≡ None }
-    requires holds { IsSome node.value.place.object }
-    requires own { node.value.place.thread ≡ rec.old.thread }
-    requires alone { node.value.next ≡ [] }
-    ensures { rec.new ≡ record rec.old { turnstile = node.value.place.object; on = None } }
-{
-    rec.take_back(node);
-    rec.set_on(None);
 }

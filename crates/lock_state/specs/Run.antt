@@ -1,7 +1,7 @@
 -- The scheduled run: one thread of control gives the threads their turns, first by the plan's schedule and then in
 -- rounds. A turn is the first row that fits of a table, and its steps are those of threads. The table is this
 -- project's own.
-use Rattle.std.specs.Prelude.{ℕ, zero, suc, ◌%◌, Bool, true, false, not, ◌&&◌, ◌||◌, nat_le, nat_lt, if◌then◌else◌, List, [], ◌∷◌, ◌++◌, unwrap_or, length, map, filter, flat_map, reverse, slice_get, Option, Some, None}
+use Rattle.std.specs.Prelude.{ℕ, zero, suc, ◌%◌, Bool, true, false, not, ◌&&◌, ◌||◌, nat_le, nat_lt, if◌then◌else◌, List, [], ◌∷◌, ◌++◌, unwrap_or, is_some, option_map, length, map, filter, flat_map, reverse, slice_get, Option, Some, None}
 use Rattle.std.specs.List.{list_all, range_with_len}
 use Rattle.std.specs.FinMap.{entries}
 use Rattle.lock_model.specs.Plans.{config_of, operations_of}
@@ -9,23 +9,27 @@ use Rattle.lock_model.specs.Operations.{next_at}
 use Rattle.lock_model.specs.Counts.{any_below, is_empty}
 use Rattle.lock_model.specs.Words.{admits, bits_of, is_plain, is_drop, is_turnstile, owner_of}
 use Rattle.lock_model.specs.Config.{Config}
-use Rattle.lock_state.specs.Steps.{Step, Looks, Gains, Drops, Stamps, Readies, Enters, Opens, Marks, Resumes, Claims, Lends, Shifts, EndsWalk, after_all}
+use Rattle.lock_state.specs.Steps.{Step, Looks, Gains, Drops, Stamps, Readies, Enters, Opens, EntersSleepQueue, OpensSleepQueue, Adds, Wakes, Marks, Resumes, Claims, Lends, Shifts, EndsWalk, after_all}
+use Rattle.lock_state.specs.Steps.LockWords.{bits_of_threads}
 use Rattle.lock_state.specs.State.{State, Wait, Running, Queued, Woken, Walk, NoWalk, AtLock, AtThread, start_state, put}
 use Rattle.lock_model.specs.Holds.{Hold, NotHeld, Holds, is_unheld}
-use Rattle.lock_model.specs.Queues.{Mark, lock_queue, chan_queue, stands}
-use Rattle.lock_model.specs.History.{tables_of}
+use Rattle.lock_model.specs.Queues.{Mark, lock_queue, chan_queue, stands, taken_off}
+use Rattle.lock_model.specs.Events.{of_sleep, fell_asleep}
+use Rattle.lock_model.specs.History.{tables_of, left_in}
 use Rattle.lock_model.specs.Law.{IsLegal}
 use Rattle.lock_model.specs.Text.{Outcome, QueueLine, Ending, IsDone, IsStuck, IsReversed, IsTooLong}
 use Rattle.lock_model.specs.declared.numbers.LockNo.{LockNo}
+use Rattle.lock_model.specs.declared.numbers.ChanNo.{ChanNo}
+use Rattle.lock_model.specs.declared.event.Entry.{Entry}
 use Rattle.lock_model.specs.declared.plan.Mode.{Mode}
 use Rattle.lock_model.specs.declared.plan.Mode.TheVariants.{Excl}
 use Rattle.lock_model.specs.declared.plan.Op.{Op}
-use Rattle.lock_model.specs.declared.plan.Op.TheVariants.{Take, Try, EndTry, Release, Set, Add, Get, Base, Show, Sleep, WakeOne, WakeAll}
+use Rattle.lock_model.specs.declared.plan.Op.TheVariants.{Take, Try, EndTry, Release, Set, Add as AddTo, Get, Base, Show, Sleep, WakeOne, WakeAll}
 use Rattle.lock_model.specs.declared.plan.Plan.{Plan}
 use Rattle.lock_model.specs.declared.plan.QueueName.{QueueName}
 use Rattle.lock_model.specs.declared.plan.QueueName.TheVariants.{Lock, Chan}
 use Rattle.lock_model.specs.declared.turn.StepKind.{StepKind}
-use Rattle.lock_model.specs.declared.turn.StepKind.TheVariants.{Gain, Claim, Drop, Enter, OpenUp, Mark as Marked, Resume, Lend, Shift, WalkEnd, Note}
+use Rattle.lock_model.specs.declared.turn.StepKind.TheVariants.{Gain, Claim, Drop, Enter, OpenUp, Mark as Marked, Resume, Lend, Shift, WalkEnd, Add, Wake, Note}
 use Rattle.lock_model.specs.declared.turn.Turn.{Turn}
 use Rattle.lock_model.specs.declared.turn.Turn.TheVariants.{Did, Idle, Ended}
 use Rattle.lock_model.specs.declared.event.Event.{Event}
@@ -47,9 +51,27 @@ is_walking NoWalk = false
 is_walking (AtLock l) = true
 is_walking (AtThread t) = true
 
--- a thread owes something while it has a walk or a marked list
-abbrev pub owes : State → ℕ → Bool
-owes s t = is_walking (s.walk t) || not (is_empty (s.marked t))
+-- the channel on which a thread waits, from its Sleeps entry on, until its wait is noted to be over
+abbrev pub waits_on : List Entry → Option ℕ
+waits_on [] = None
+waits_on (e ∷ es) = fell_asleep (of_sleep e.event)
+
+-- the lock of a thread's wait
+abbrev pub lock_of_wait : Config → State → ℕ → Option ℕ
+lock_of_wait c s t = option_map c.chan_lock (waits_on (s.log t))
+
+-- the lock that a thread has yet to release after it went to sleep with it
+abbrev pub to_release : (ℕ → Hold) → Option ℕ → Option ℕ
+to_release held None = None
+to_release held (Some l) = if is_unheld (held l) then None else Some l
+
+abbrev pub owed_release : Config → State → ℕ → Option ℕ
+owed_release c s t = to_release (s.held t) (lock_of_wait c s t)
+
+-- a thread owes something while it has a walk, a marked list, or a release after a wait to make
+abbrev pub owes : Config → State → ℕ → Bool
+owes c s t =
+    is_walking (s.walk t) || not (is_empty (s.marked t)) || is_some (owed_release c s t)
 
 abbrev pub holds_none : Config → State → ℕ → Bool
 holds_none c s t = not (any_below c.locks (λ l. not (is_unheld (s.held t l))))
@@ -57,7 +79,7 @@ holds_none c s t = not (any_below c.locks (λ l. not (is_unheld (s.held t l))))
 -- a thread has ended where all its operations are done, nothing is owed and nothing is held
 unfoldable pub has_ended : Plan → Run → ℕ → Bool
 has_ended plan r t =
-    nat_le (length (operations_of plan t)) (r.next_op t) && not (owes r.state t)
+    nat_le (length (operations_of plan t)) (r.next_op t) && not (owes (config_of plan) r.state t)
     && holds_none (config_of plan) r.state t
 
 -- 2. The table of turns
@@ -97,10 +119,13 @@ walks_at_thread c r t o (Some (Lock l)) =
 walks_at_thread c r t o (Some (Chan d)) = does WalkEnd (EndsWalk t ∷ [])
 walks_at_thread c r t o None = does WalkEnd (EndsWalk t ∷ [])
 
--- a thread is made ready and enters the lock's queue with the turnstile that it has at home
-abbrev pub blocks : Run → ℕ → LockNo → Mode → Row
-blocks r t l mode =
-    does Enter (Readies t (Lock l) ∷ Enters t l.0 mode (unwrap_or (r.state.turnstile t) t) ∷ [])
+-- a thread is made ready and enters the lock's queue with the turnstile or the sleep queue that it has at home
+abbrev pub blocks : Config → Run → ℕ → LockNo → Mode → Row
+blocks c r t l mode =
+    does Enter (Readies t (Lock l)
+    ∷ (if is_turnstile (c.kind l.0)
+    then Enters t l.0 mode (unwrap_or (r.state.turnstile t) t)
+    else EntersSleepQueue t l.0 mode (unwrap_or (r.state.sleep_queue t) t)) ∷ [])
 
 -- A thread gains a lock whose word admits the mode, and notes it. An exclusive gain of an rw lock whose word shows
 -- waiters is a claim: the thread becomes the owner of their turnstile.
@@ -112,11 +137,11 @@ gains c r t l mode by_try noted =
     ∷ Stamps t noted ∷ [])
 
 -- A take gains the lock where the word admits the mode; else the thread blocks, and takes again when it has been woken.
-abbrev pub takes : Config → Run → ℕ → LockNo → Mode → Row
-takes c r t l mode =
+abbrev pub takes : Config → Run → ℕ → LockNo → Mode → Event → Row
+takes c r t l mode noted =
     if admits (c.kind l.0) (r.state.word l.0) mode
-    then gains c r t l mode false (event.Locked l mode)
-    else blocks r t l mode
+    then gains c r t l mode false noted
+    else blocks c r t l mode
 
 -- a try that the word doesn't admit notes the word that it saw, and the thread goes on behind the block
 abbrev pub finds_busy : Run → ℕ → LockNo → ℕ → Row
@@ -138,34 +163,64 @@ abbrev pub mode_held : Hold → Mode
 mode_held NotHeld = Excl
 mode_held (Holds mode) = mode
 
--- a release is noted, and is a drop or an open
-abbrev pub releases : Run → ℕ → LockNo → Mode → Row
-releases r t l mode =
-    if is_drop (r.state.word l.0)
-    then ends r t Drop (Stamps t (event.Unlocked l mode) ∷ Drops t l.0 mode ∷ [])
-    else ends r t OpenUp (Stamps t (event.Unlocked l mode) ∷ Opens t l.0 mode ∷ [])
+-- a release: a drop or an open, with its answer
+abbrev pub gives_back : Config → Run → ℕ → ℕ → Mode → StepKind × Step
+gives_back c r t l mode =
+    if is_drop (r.state.word l) then (Drop, Drops t l mode) else (
+      OpenUp,
+      if is_turnstile (c.kind l) then Opens t l mode else OpensSleepQueue t l mode,
+    )
+
+-- an operation that releases notes it
+abbrev pub releases : Config → Run → ℕ → LockNo → Mode → Row
+releases c r t l mode =
+    let back = gives_back c r t l.0 mode in
+    ends r t back.0 (Stamps t (event.Unlocked l mode) ∷ back.1 ∷ [])
+
+-- a thread that has gone to sleep releases the lock of its wait, without an entry
+abbrev pub gives_up : Config → Run → ℕ → ℕ → Row
+gives_up c r t l =
+    let back = gives_back c r t l (mode_held (r.state.held t l)) in
+    does back.0 (back.1 ∷ [])
+
+-- A wait's first turn: the thread is made ready, notes it, and stands on the channel's queue. Once it has been woken and
+-- runs again, it takes the lock back in the mode in which it held it, without a check of its order, and notes that.
+abbrev pub sleeps : Config → Run → ℕ → ChanNo → Option ℕ → Row
+sleeps c r t d None =
+    does Add (Readies t (Chan d) ∷ Stamps t (event.Sleeps d)
+    ∷ Adds t d.0 (unwrap_or (r.state.sleep_queue t) t) ∷ [])
+sleeps c r t d (Some e) =
+    takes c r t (record { 0 = c.chan_lock d.0 })
+    (mode_held (left_in c r.state.history t (c.chan_lock d.0))) (event.Woke d)
+
+-- a wake takes sleepers off the channel, the best or all, and notes who they are
+abbrev pub wakes : Run → ℕ → ChanNo → Bool → (ℕ → Event) → Row
+wakes r t d all noted =
+    let taken = taken_off all (r.state.lists (chan_queue d.0)).exclusive in
+    ends r t Wake (Wakes t d.0 all
+    ∷ Stamps t (noted (bits_of_threads (map (λ w. w.thread) taken))) ∷ [])
 
 -- an operation that only makes an entry
 abbrev pub notes : Run → ℕ → Event → Row
 notes r t e = ends r t Note (Stamps t e ∷ [])
 
--- A running thread makes its operation. The plans that are run so far have no waits and wakes; no thread is at an
--- endtry; and a thread without an operation that hasn't ended holds a lock still, as no thread of a script does.
+-- A running thread makes its operation. No thread is at an endtry; and a thread without an operation that hasn't ended
+-- holds a lock still, as no thread of a script does.
 abbrev pub operates : Config → Run → ℕ → Option Op → Row
 operates c r t None = nothing Idle
-operates c r t (Some (Take l mode)) = takes c r t l mode
+operates c r t (Some (Take l mode)) = takes c r t l mode (event.Locked l mode)
 operates c r t (Some (Try l mode past)) = tries c r t l mode past
 operates c r t (Some EndTry) = nothing Idle
-operates c r t (Some (Release l)) = releases r t l (mode_held (r.state.held t l.0))
+operates c r t (Some (Release l)) = releases c r t l (mode_held (r.state.held t l.0))
 operates c r t (Some (Set l key value)) = notes r t (event.Set l key value)
-operates c r t (Some (Add l key amount)) = notes r t (event.Added l key amount)
+operates c r t (Some (AddTo l key amount)) = notes r t (event.Added l key amount)
 operates c r t (Some (Get l key)) = notes r t (event.Got l key (r.state.table l.0 key))
 operates c r t (Some (Base prio)) = notes r t (event.Base prio)
 operates c r t (Some Show) =
     notes r t (event.Shown (record { 0 = r.state.base t }) (record { 0 = r.state.effective t }))
-operates c r t (Some (Sleep d)) = nothing Idle
-operates c r t (Some (WakeOne d)) = nothing Idle
-operates c r t (Some (WakeAll d)) = nothing Idle
+operates c r t (Some (Sleep d)) = sleeps c r t d (waits_on (r.state.log t))
+operates c r t (Some (WakeOne d)) = wakes r t d false (event.WokeOne d)
+operates c r t (Some (WakeAll d)) = wakes r t d true (event.WokeAll d)
 
 -- a queued thread is idle, a woken one runs again, and a running one makes its operation
 abbrev pub by_wait : Plan → Run → ℕ → Wait → Row
@@ -174,10 +229,15 @@ by_wait plan r t (Woken q cause) = does Resume (Resumes t q cause ∷ [])
 by_wait plan r t Running =
     operates (config_of plan) r t (slice_get (operations_of plan t) (r.next_op t))
 
+-- a release after a wait goes before the wait word
+abbrev pub by_release : Plan → Run → ℕ → Option ℕ → Row
+by_release plan r t (Some l) = gives_up (config_of plan) r t l
+by_release plan r t None = by_wait plan r t (r.state.wait t)
+
 -- the first of a marked list gets its object back and is woken
 abbrev pub by_marked : Plan → Run → ℕ → List Mark → Row
 by_marked plan r t (m ∷ ms) = does Marked (Marks t m ms ∷ [])
-by_marked plan r t [] = by_wait plan r t (r.state.wait t)
+by_marked plan r t [] = by_release plan r t (owed_release (config_of plan) r.state t)
 
 -- a walk goes before the marked list
 abbrev pub by_walk : Plan → Run → ℕ → Walk → Row

@@ -223,10 +223,10 @@ HasOut chains c s (EndsWalk t) = HasOutForEnd chains c s t (s.walk t)
 
 -- What the thread must have seen, and in which round it acts.
 
--- whether the option is the thread
+-- whether the option is the number
 abbrev pub is_with : ℕ → Option ℕ → Bool
-is_with t None = false
-is_with t (Some u) = t == u
+is_with n None = false
+is_with n (Some k) = k == n
 
 -- whether a round seeks the lock
 abbrev pub seeks : ℕ → Option Round → Bool

@@ -89,7 +89,7 @@ fn calls_at_ends_in_memory(rt: HostRuntime) -> Result<(), Fail> {
 }
 
 // A first waiter; a loan that was made; equals in order of arrival; a reader on a free word with readers waiting, whose
-// writer was woken; a claim, with its loan.
+// writer was woken; a claim, with its loan; a sleeper of an sx lock whose shared side was woken; a sleeper of a channel.
 const RUNS: &[(&str, u32, &str)] = &[
     (
         "lockrun 1\nmutex m k\nthread p 100\nlock m\nunlock m\nend\n\
@@ -132,6 +132,20 @@ const RUNS: &[(&str, u32, &str)] = &[
         thread w base 100 eff 100\nthread r1 base 90 eff 90\nthread r2 base 80 eff 80\n\
         thread v base 70 eff 70\nthread n base 95 eff 80\ntoolong\n",
     ),
+    (
+        "lockrun 1\nsx s k\nthread o 100\nxlock s\nxunlock s\nend\n\
+        thread x 50\nxlock s\nxunlock s\nend\nthread y 60\nslock s\nsunlock s\nend\n\
+        schedule o x y o\ndone\n",
+        4,
+        "0 o xlock s\n1 o xunlock s\nqueue s slot 0 head x free - excl x@50 shared -\n\
+        thread o base 100 eff 100\nthread x base 50 eff 50\nthread y base 60 eff 60\ntoolong\n",
+    ),
+    (
+        "lockrun 1\nmutex m k\ncond c m\nthread a 100\nlock m\nwait c\nunlock m\nend\ndone\n",
+        3,
+        "0 a lock m\n1 a wait c\nqueue c slot 0 head a free - excl a@100 shared -\n\
+        thread a base 100 eff 100\ntoolong\n",
+    ),
 ];
 
 const LENT: &str = "lockrun 1\nmutex m a\nthread p 100\nlock m\nshow\nunlock m\nend\n\
@@ -163,7 +177,8 @@ const LENT_TWICE: &str = "lockrun 1\nmutex a ka\nmutex b kb\nthread t1 200\nlock
 type Answers = (&'static str, &'static [(u8, Turn)]);
 
 // A hand-over with an idle and an ended turn; a claim behind a release that woke the other side; a second walk that sorts
-// a thread anew whose priority is kept already; a walk to a thread that is taken off its queue, and so ends.
+// a thread anew whose priority is kept already; a walk to a thread that is taken off its queue, and so ends; a wait that
+// gives its lock back in a turn of its own, is woken, and blocks before it has the lock again.
 const TURNS: &[Answers] = &[
     (
         LENT,
@@ -223,7 +238,33 @@ const TURNS: &[Answers] = &[
             (1, Turn::Did(StepKind::Resume)),
         ],
     ),
+    (
+        WOKEN,
+        &[
+            (0, Turn::Did(StepKind::Gain)),
+            (0, Turn::Did(StepKind::Add)),
+            (0, Turn::Did(StepKind::Drop)),
+            (0, Turn::Idle),
+            (1, Turn::Did(StepKind::Gain)),
+            (1, Turn::Did(StepKind::Wake)),
+            (1, Turn::Did(StepKind::Mark)),
+            (0, Turn::Did(StepKind::Resume)),
+            (0, Turn::Did(StepKind::Enter)),
+            (1, Turn::Did(StepKind::OpenUp)),
+            (1, Turn::Did(StepKind::Mark)),
+            (1, Turn::Ended),
+            (0, Turn::Did(StepKind::Resume)),
+            (0, Turn::Did(StepKind::Gain)),
+            (0, Turn::Did(StepKind::Drop)),
+            (0, Turn::Ended),
+        ],
+    ),
 ];
+
+// Thread 0 sleeps with a shared lock, and thread 1 wakes it while it holds that exclusively.
+const WOKEN: &str = "lockrun 1\nsx s k\nchan z s\n\
+    thread a 100\nslock s\nmsleep z\nsunlock s\nend\n\
+    thread b 50\nxlock s\nwakeup z\nxunlock s\nend\ndone\n";
 
 #[test]
 fn turns_and_their_answers(rt: HostRuntime) -> Result<(), Fail> {

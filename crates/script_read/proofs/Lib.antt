@@ -1,5 +1,7 @@
+mod Channels
 mod Cuts
 mod Digits
+mod LastHeld
 mod LineStages
 mod OpenBlocks
 mod Rooms

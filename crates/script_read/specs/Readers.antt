@@ -7,13 +7,13 @@ use Rattle.lock_model.specs.declared.plan.Mode.{Mode}
 use Rattle.script_read.specs.OpenThreads.{thread_of}
 use Rattle.script_read.specs.declared.reader.Reader.{Reader}
 
--- what a reader has made known; no word declares a channel yet
+-- what a reader has made known
 abbrev pub known : Reader → Known
 known r = record {
   names = r.names.entries;
   classes = r.classes.keys;
   locks = r.locks.items;
-  chans = [];
+  chans = r.chans.items;
   threads = r.threads.items;
   schedule = r.schedule.items;
   open_thread = option_map thread_of r.open_thread;

@@ -1,15 +1,16 @@
 -- Words of this crate's contracts: cuts of a source, and what reading answers.
-use Rattle.std.specs.Prelude.{◌≡◌, ℕ, true, not, ◌==◌, if◌then◌else◌, ok_or, List, [], ◌∷◌, Option, Some, None, Result, Ok, Err}
+use Rattle.std.specs.Prelude.{◌≡◌, ℕ, Bool, true, not, ◌==◌, if◌then◌else◌, ok_or, List, [], ◌∷◌, Option, Some, None, Result, Ok, Err}
 use Rattle.std.specs.List.{list_all}
 use Rattle.lock_model.specs.Script.{Reading, Reads, Faulty, IsFaulty}
 use Rattle.lock_model.specs.Names.{is_name}
 use Rattle.lock_model.specs.Script.Lines.{words_of}
 use Rattle.lock_model.specs.Limits.{most_operations}
-use Rattle.lock_model.specs.Operations.{gaining_tests}
-use Rattle.lock_model.specs.Script.Faults.{statement_stages, name_tests, tests_in_thread, of_kind, has_room}
+use Rattle.lock_model.specs.Operations.{gaining_tests, channel_test}
+use Rattle.lock_model.specs.Script.Faults.{statement_stages, name_tests, tests_in_thread, of_kind, of_sort, has_room}
 use Rattle.lock_model.specs.Script.Learning.{Known, OpenThread, learned}
 use Rattle.lock_model.specs.Script.Statements.{Statement, Operation}
 use Rattle.lock_model.specs.Tests.{Test, least_code, first_fault}
+use Rattle.lock_model.specs.declared.numbers.ChanNo.{ChanNo}
 use Rattle.lock_model.specs.declared.numbers.LockNo.{LockNo}
 use Rattle.lock_model.specs.declared.plan.Kind.{Kind}
 use Rattle.lock_model.specs.declared.plan.Mode.{Mode}
@@ -78,6 +79,11 @@ operation_fault k o t = least_code (tests_in_thread k o t)
 abbrev pub gain_tests : Known → OpenThread → Kind → Mode → LockNo → List Test
 gain_tests k t kind mode l =
     of_kind k kind l ∷ has_room most_operations k.operations ∷ gaining_tests k.locks l mode t.held
+
+-- the tests that waits and wakes share, where the channel is known
+abbrev pub sort_tests : Known → Bool → ChanNo → List Test
+sort_tests k cond c =
+    of_sort k cond c ∷ has_room most_operations k.operations ∷ channel_test k.chans c ∷ []
 
 -- what a word names, or why it names nothing of that sort
 abbrev pub named : {X : Type 0} → List ℕ → Option X → Result X Code

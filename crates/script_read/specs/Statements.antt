@@ -4,7 +4,7 @@ use Rattle.std.specs.Borrow.{Bor}
 use Rattle.lock_model.specs.Script.Lines.{words_of}
 use Rattle.lock_model.specs.Script.Statements as script
 use Rattle.script_read.specs.declared.statement.Operation.{Operation}
-use Rattle.script_read.specs.declared.statement.Operation.TheVariants.{Take, Release, Try, Set, Add, Get, Prio, Show}
+use Rattle.script_read.specs.declared.statement.Operation.TheVariants.{Take, Release, Try, Set, Add, Get, Prio, Show, Wait, WakeOne, WakeAll}
 use Rattle.script_read.specs.declared.statement.Statement as statements
 use Rattle.script_read.specs.declared.statement.Statement.TheVariants as statement
 use Rattle.script_read.specs.declared.statement.Verb as verbs
@@ -19,9 +19,13 @@ meant_operation (Add lock key amount) = script.Add lock.now key.now amount.now
 meant_operation (Get lock key) = script.Get lock.now key.now
 meant_operation (Prio prio) = script.Prio prio.now
 meant_operation Show = script.Show
+meant_operation (Wait cond chan) = script.Wait cond chan.now
+meant_operation (WakeOne cond chan) = script.WakeOne cond chan.now
+meant_operation (WakeAll cond chan) = script.WakeAll cond chan.now
 
 abbrev pub meant : statements.Statement → script.Statement
 meant (statement.Lock kind name class) = script.Declares kind name.now class.now
+meant (statement.Chan cond name lock) = script.DeclaresChan cond name.now lock.now
 meant (statement.Thread name prio) = script.Begins name.now prio.now
 meant statement.End = script.Ends
 meant (statement.Schedule names) = script.Schedules (words_of names.now)
@@ -32,6 +36,7 @@ meant statement.EndTry = script.EndsTry
 -- the form that the definition's table has
 abbrev pub form : verbs.Verb → script.Form
 form (verb.Declare kind) = script.WithTwo (script.Declares kind)
+form (verb.DeclareChan cond) = script.WithTwo (script.DeclaresChan cond)
 form verb.Thread = script.WithTwo script.Begins
 form verb.End = script.Alone script.Ends
 form verb.Schedule = script.WithSome script.Schedules
@@ -46,6 +51,9 @@ form verb.Add = script.WithThree (λ lock key amount. script.Operates (script.Ad
 form verb.Get = script.WithTwo (λ lock key. script.Operates (script.Get lock key))
 form verb.Prio = script.WithOne (λ prio. script.Operates (script.Prio prio))
 form verb.Show = script.Alone (script.Operates script.Show)
+form (verb.Wait cond) = script.WithOne (λ chan. script.Operates (script.Wait cond chan))
+form (verb.WakeOne cond) = script.WithOne (λ chan. script.Operates (script.WakeOne cond chan))
+form (verb.WakeAll cond) = script.WithOne (λ chan. script.Operates (script.WakeAll cond chan))
 
 -- a first word, with what it says
 abbrev pub row : Bor (List ℕ) × verbs.Verb → List ℕ × script.Form

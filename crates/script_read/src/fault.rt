@@ -42,7 +42,7 @@ impl Code {
     pub const NUMBER: Code = Code(6);
     /// A limit is passed.
     pub const LIMIT: Code = Code(7);
-    /// A lock is of another kind than its operation.
+    /// A lock is of another kind than its operation, or a channel is used for a condition variable or the reverse.
     pub const KIND: Code = Code(8);
     /// A lock that is to be gained is held.
     pub const HELD: Code = Code(9);
@@ -50,13 +50,15 @@ impl Code {
     pub const MODE: Code = Code(10);
     /// A lock isn't held.
     pub const UNHELD: Code = Code(11);
-    /// An sx lock is to be gained while a mutex or an rw lock is held.
+    /// An sx lock is to be gained while a mutex or an rw lock is held, or a wait comes while another one is.
     pub const UNDER_OTHERS: Code = Code(12);
+    /// The lock of a wait wasn't gained last, or was gained by a try.
+    pub const NOT_LAST: Code = Code(13);
     /// A thread ends with a lock held, or a block of a try with other locks than before it.
     pub const STILL_HELD: Code = Code(14);
     /// An operation or `end` stands outside a thread, or `endtry` outside a block.
     pub const OUTSIDE: Code = Code(15);
-    /// A lock is declared behind the first thread.
+    /// A lock or a channel is declared behind the first thread.
     pub const LATE: Code = Code(16);
     /// A thread, a schedule or `done` stands inside a thread, `end` inside a block, or `done` is missing.
     pub const INSIDE: Code = Code(17);

@@ -8,7 +8,7 @@ ghost use Rattle.lock_model.specs.Script.{reading_from};
 ghost use Rattle.lock_model.specs.Script.Faults.{line_fault, behind_line};
 ghost use Rattle.lock_model.specs.Script.Learning.{nothing_known, declared_as, with_operation};
 ghost use Rattle.lock_model.specs.Script.Lines.{lines_of, words_of};
-ghost use Rattle.lock_model.specs.Script.Statements.{Declares, Begins, Ends, Schedules, IsDone, Operates, EndsTry};
+ghost use Rattle.lock_model.specs.Script.Statements.{Declares, DeclaresChan, Begins, Ends, Schedules, IsDone, Operates, EndsTry};
 ghost use Rattle.script_read.specs.Reading.{Goes, GoesBy, Tells};
 ghost use Rattle.script_read.specs.OpenThreads.{operations_of};
 ghost use Rattle.script_read.specs.Statements.{meant, meant_operation};
@@ -21,8 +21,8 @@ use crate::statement::{Operation, Statement};
 use crate::words::cut_word;
 use indexmap::{IndexMap, IndexSet};
 use lock_model::{
-    ClassNo, Declared, Kind, LockDecl, LockNo, Name, Op, Plan, Sequence, ThreadDecl, ThreadNo,
-    limits,
+    ChanDecl, ChanNo, ClassNo, Declared, Kind, LockDecl, LockNo, Name, Op, Plan, Sequence,
+    ThreadDecl, ThreadNo, limits,
 };
 use std::alloc::{AllocError, Global};
 
@@ -36,6 +36,7 @@ pub struct Reader {
     names: IndexMap<Name, Declared>,
     classes: IndexSet<Name>,
     locks: Vec<LockDecl>,
+    chans: Vec<ChanDecl>,
     threads: Vec<ThreadDecl>,
     schedule: Vec<ThreadNo>,
     open_thread: Option<OpenThread>,
@@ -57,6 +58,7 @@ impl Reader {
             names: IndexMap::new(alloc),
             classes: IndexSet::new(alloc),
             locks: Vec::new(alloc),
+            chans: Vec::new(alloc),
             threads: Vec::new(alloc),
             schedule: Vec::new(alloc),
             open_thread: None,
@@ -93,7 +95,7 @@ impl Reader {
         Ok(Plan {
             classes: Sequence::from_vec(Vec::from_slice(alloc, self.classes.as_slice())?),
             locks: Sequence::from_vec(self.locks),
-            chans: Sequence::from_vec(Vec::new(alloc)),
+            chans: Sequence::from_vec(self.chans),
             threads: Sequence::from_vec(self.threads),
             schedule: Sequence::from_vec(self.schedule),
         })
@@ -118,6 +120,7 @@ impl Reader {
     {
         match statement {
             Statement::Lock { kind, name, class } => self.lock(kind, name, class),
+            Statement::Chan { cond, name, lock } => self.chan(cond, name, lock),
             Statement::Thread { name, prio } => self.thread(alloc, name, prio),
             Statement::End => self.end(),
             Statement::Schedule { names } => self.schedule(names),
@@ -138,6 +141,19 @@ impl Reader {
         self.declare(name, Declared::Lock(lock))?;
         let class = ClassNo(class as u8);
         self.locks.push(LockDecl { name, kind, class })?;
+        Ok(())
+    }
+
+    // `cond NAME LOCK` and `chan NAME LOCK` declare what threads sleep on.
+    fn chan(&mut self, cond: bool, name: &[u8], lock: &[u8]) -> Result<(), LineError>
+        ensures { GoesBy (known self.old) (DeclaresChan cond name.now lock.now)
+            (known self.new) result }
+    {
+        test(Code::LATE, self.is_before_threads())?;
+        let (name, lock) = self.test_chan(cond, name, lock)?;
+        let chan = ChanNo(self.chans.len() as u8);
+        self.declare(name, Declared::Chan(chan))?;
+        self.chans.push(ChanDecl { name, cond, lock })?;
         Ok(())
     }
 

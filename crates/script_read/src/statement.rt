@@ -46,6 +46,19 @@ pub enum Operation<'a> {
         prio: &'a [u8],
     },
     Show,
+    /// Of a condition variable where `cond` holds, and else of a channel.
+    Wait {
+        cond: bool,
+        chan: &'a [u8],
+    },
+    WakeOne {
+        cond: bool,
+        chan: &'a [u8],
+    },
+    WakeAll {
+        cond: bool,
+        chan: &'a [u8],
+    },
 }
 
 /// A line's meaning, with its words as they stand there.
@@ -55,6 +68,12 @@ pub enum Statement<'a> {
         kind: Kind,
         name: &'a [u8],
         class: &'a [u8],
+    },
+    /// A condition variable where `cond` holds, and else a channel.
+    Chan {
+        cond: bool,
+        name: &'a [u8],
+        lock: &'a [u8],
     },
     Thread {
         name: &'a [u8],
@@ -74,6 +93,8 @@ pub enum Statement<'a> {
 #[derive(Clone, Copy)]
 enum Verb {
     Declare(Kind),
+    // Of a condition variable where it holds, and else of a channel.
+    DeclareChan(bool),
     Thread,
     End,
     Schedule,
@@ -87,12 +108,18 @@ enum Verb {
     Get,
     Prio,
     Show,
+    Wait(bool),
+    WakeOne(bool),
+    WakeAll(bool),
 }
 
 /// The first words.
-const VERBS: [(&str, Verb); 21] = [
+const VERBS: [(&str, Verb); 36] = [
     ("mutex", Verb::Declare(Kind::Mtx)),
     ("rw", Verb::Declare(Kind::Rw)),
+    ("sx", Verb::Declare(Kind::Sx)),
+    ("cond", Verb::DeclareChan(true)),
+    ("chan", Verb::DeclareChan(false)),
     ("thread", Verb::Thread),
     ("end", Verb::End),
     ("schedule", Verb::Schedule),
@@ -103,15 +130,27 @@ const VERBS: [(&str, Verb); 21] = [
     ("wlock", Verb::Take(Kind::Rw, Mode::Excl)),
     ("runlock", Verb::Release(Kind::Rw, Mode::Shared)),
     ("wunlock", Verb::Release(Kind::Rw, Mode::Excl)),
+    ("slock", Verb::Take(Kind::Sx, Mode::Shared)),
+    ("xlock", Verb::Take(Kind::Sx, Mode::Excl)),
+    ("sunlock", Verb::Release(Kind::Sx, Mode::Shared)),
+    ("xunlock", Verb::Release(Kind::Sx, Mode::Excl)),
     ("trylock", Verb::Try(Kind::Mtx, Mode::Excl)),
     ("tryrlock", Verb::Try(Kind::Rw, Mode::Shared)),
     ("trywlock", Verb::Try(Kind::Rw, Mode::Excl)),
+    ("tryslock", Verb::Try(Kind::Sx, Mode::Shared)),
+    ("tryxlock", Verb::Try(Kind::Sx, Mode::Excl)),
     ("endtry", Verb::EndTry),
     ("set", Verb::Set),
     ("add", Verb::Add),
     ("get", Verb::Get),
     ("prio", Verb::Prio),
     ("show", Verb::Show),
+    ("wait", Verb::Wait(true)),
+    ("signal", Verb::WakeOne(true)),
+    ("broadcast", Verb::WakeAll(true)),
+    ("msleep", Verb::Wait(false)),
+    ("wakeup_one", Verb::WakeOne(false)),
+    ("wakeup", Verb::WakeAll(false)),
 ];
 
 /// What a line says. `None` comes where a word is empty, the first word unknown or the number of words wrong.
@@ -155,6 +194,10 @@ impl Verb {
                 let (name, class) = two_words(rest)?;
                 Some(Statement::Lock { kind, name, class })
             }
+            Verb::DeclareChan(cond) => {
+                let (name, lock) = two_words(rest)?;
+                Some(Statement::Chan { cond, name, lock })
+            }
             Verb::Thread => {
                 let (name, prio) = two_words(rest)?;
                 Some(Statement::Thread { name, prio })
@@ -192,6 +235,18 @@ impl Verb {
                 Some(Statement::Operation(Operation::Prio { prio }))
             }
             Verb::Show => no_word(rest, Statement::Operation(Operation::Show)),
+            Verb::Wait(cond) => {
+                let chan = one_word(rest)?;
+                Some(Statement::Operation(Operation::Wait { cond, chan }))
+            }
+            Verb::WakeOne(cond) => {
+                let chan = one_word(rest)?;
+                Some(Statement::Operation(Operation::WakeOne { cond, chan }))
+            }
+            Verb::WakeAll(cond) => {
+                let chan = one_word(rest)?;
+                Some(Statement::Operation(Operation::WakeAll { cond, chan }))
+            }
         }
     }
 }

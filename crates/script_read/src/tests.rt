@@ -1,6 +1,6 @@
 //! Scripts and what is said of them. `;` stands for the end of a line.
 use crate::*;
-use lock_model::{ClassNo, Kind, LockNo, Mode, Op, Plan, Prio, ThreadNo};
+use lock_model::{ChanNo, ClassNo, Kind, LockNo, Mode, Op, Plan, Prio, ThreadNo};
 use std::alloc::Global;
 use std::test::*;
 
@@ -165,8 +165,66 @@ fn a_plan(rt: HostRuntime) -> Result<(), Fail> {
     Ok(())
 }
 
-// Scripts, and the line and the code of the first fault of each.
-const FAULTS: [(&str, u32, u8); 47] = [
+#[test]
+fn waits_and_wakes(rt: HostRuntime) -> Result<(), Fail> {
+    let script =
+        "lockrun 1;mutex m a;sx s b;cond c m;chan z s;cond e s;thread t 1;slock s;lock m;wakeup z;unlock m;msleep z;sunlock s;xlock s;wait e;xunlock s;lock m;wait c;signal c;broadcast e;unlock m;tryslock s;wakeup_one z;sunlock s;endtry;tryxlock s;xunlock s;endtry;end;done;";
+    let plan = plan_of(rt.alloc(), script)?;
+    let (m, s) = (LockNo(0), LockNo(1));
+    let (c, z, e) = (ChanNo(0), ChanNo(1), ChanNo(2));
+    let locks = plan.locks.as_slice();
+    assert_eq!(rt; locks.len(), 2);
+    assert_eq!(rt; locks[1].kind, Kind::Sx);
+    let chans = plan.chans.as_slice();
+    assert_eq!(rt; chans.len(), 3);
+    for (n, (name, cond, lock)) in [("c", true, m), ("z", false, s), ("e", true, s)]
+        .iter()
+        .enumerate()
+    {
+        assert_eq!(rt; chans[n].name.as_bytes(), name.as_bytes());
+        assert_eq!(rt; chans[n].cond, *cond, "of {name}");
+        assert_eq!(rt; chans[n].lock, *lock, "of {name}");
+    }
+    let (shared, excl) = (Mode::Shared, Mode::Excl);
+    let ops = [
+        Op::Take { l: s, mode: shared },
+        Op::Take { l: m, mode: excl },
+        Op::WakeAll { c: z },
+        Op::Release { l: m },
+        Op::Sleep { c: z },
+        Op::Release { l: s },
+        Op::Take { l: s, mode: excl },
+        Op::Sleep { c: e },
+        Op::Release { l: s },
+        Op::Take { l: m, mode: excl },
+        Op::Sleep { c },
+        Op::WakeOne { c },
+        Op::WakeAll { c: e },
+        Op::Release { l: m },
+        Op::Try {
+            l: s,
+            mode: shared,
+            past: 18,
+        },
+        Op::WakeOne { c: z },
+        Op::Release { l: s },
+        Op::EndTry,
+        Op::Try {
+            l: s,
+            mode: excl,
+            past: 21,
+        },
+        Op::Release { l: s },
+        Op::EndTry,
+    ];
+    let threads = plan.threads.as_slice();
+    assert_eq!(rt; threads.len(), 1);
+    assert_eq!(rt; threads[0].ops.as_slice(), ops.as_slice());
+    Ok(())
+}
+
+// Scripts, and the line and the code of the first fault of each: faults of lines, words, places and names,
+const FAULTS: [(&str, u32, u8); 39] = [
     ("", 1, 1),
     (";", 1, 1),
     ("# lockrun 1;done;", 1, 1),
@@ -179,24 +237,46 @@ const FAULTS: [(&str, u32, u8); 47] = [
         18,
     ),
     ("lockrun 1;# a\tb;done;", 2, 19),
-    ("lockrun 1;sx d a;done;", 2, 2),
+    ("lockrun 1;sxlock d a;done;", 2, 2),
     ("lockrun 1;mutex m a b;done;", 2, 2),
     ("lockrun 1;schedule  t;done;", 2, 2),
     ("lockrun 1;rw d a;thread t 1;tryrlock d e;end;done;", 4, 2),
+    ("lockrun 1;mutex m a;cond c;done;", 3, 2),
+    (
+        "lockrun 1;mutex m a;cond c m;thread t 1;signal;end;done;",
+        5,
+        2,
+    ),
     ("lockrun 1;done;;done;", 4, 2),
     ("lockrun 1;lock Foo;done;", 2, 15),
     ("lockrun 1;end;done;", 2, 15),
     ("lockrun 1;endtry;done;", 2, 15),
     ("lockrun 1;thread t 1;endtry;end;done;", 3, 15),
+    ("lockrun 1;mutex m a;cond c m;signal c;done;", 4, 15),
     ("lockrun 1;thread t 1;mutex M 1;end;done;", 3, 16),
+    ("lockrun 1;mutex m a;thread t 1;end;cond c m;done;", 5, 16),
     ("lockrun 1;thread t 1;done;", 3, 17),
     ("lockrun 1;mutex m a;thread t 1;trylock m;end;done;", 5, 17),
     ("lockrun 1;mutex m 1;done;", 2, 3),
     ("lockrun 1;thread t 1;trylock Foo;end;done;", 3, 3),
     ("lockrun 1;thread t 1;end;schedule t u T;done;", 4, 3),
+    ("lockrun 1;mutex m a;cond m M;done;", 3, 3),
+    ("lockrun 1;thread t 1;wait C;end;done;", 3, 3),
     ("lockrun 1;mutex m a;thread m 256;end;done;", 3, 4),
+    ("lockrun 1;mutex m a;cond m m;done;", 3, 4),
     ("lockrun 1;thread t 1;lock t;end;done;", 3, 5),
     ("lockrun 1;thread t 1;trylock foo;end;done;", 3, 5),
+    ("lockrun 1;cond q q;done;", 2, 5),
+    (
+        "lockrun 1;mutex m a;thread t 1;lock m;wait m;unlock m;end;done;",
+        5,
+        5,
+    ),
+    (
+        "lockrun 1;mutex m a;cond c m;thread t 1;lock c;end;done;",
+        5,
+        5,
+    ),
     (
         "lockrun 1;thread t 1;end;schedule u;thread u 1;end;done;",
         4,
@@ -204,8 +284,29 @@ const FAULTS: [(&str, u32, u8); 47] = [
     ),
     ("lockrun 1;thread t 256;end;done;", 2, 6),
     ("lockrun 1;mutex m a;thread t 1;set m 01 2;end;done;", 4, 6),
+];
+
+// and of what a thread does with its locks and channels.
+const MISUSES: [(&str, u32, u8); 31] = [
     ("lockrun 1;mutex m a;thread t 1;rlock m;end;done;", 4, 8),
     ("lockrun 1;rw d a;thread t 1;lock d;end;done;", 4, 8),
+    ("lockrun 1;mutex m a;thread t 1;slock m;end;done;", 4, 8),
+    ("lockrun 1;sx s a;thread t 1;wlock s;end;done;", 4, 8),
+    (
+        "lockrun 1;mutex m a;chan z m;thread t 1;lock m;wait z;unlock m;end;done;",
+        6,
+        8,
+    ),
+    (
+        "lockrun 1;mutex m a;cond c m;thread t 1;lock m;msleep c;unlock m;end;done;",
+        6,
+        8,
+    ),
+    (
+        "lockrun 1;mutex m a;cond c m;thread t 1;wakeup c;end;done;",
+        5,
+        8,
+    ),
     (
         "lockrun 1;rw d a;thread t 1;rlock d;unlock d;end;done;",
         5,
@@ -234,6 +335,41 @@ const FAULTS: [(&str, u32, u8); 47] = [
         11,
     ),
     ("lockrun 1;mutex m a;thread t 1;set m 1 2;end;done;", 4, 11),
+    (
+        "lockrun 1;mutex m a;cond c m;thread t 1;wait c;end;done;",
+        5,
+        11,
+    ),
+    (
+        "lockrun 1;mutex m k;sx s j;thread t 1;lock m;slock s;",
+        6,
+        12,
+    ),
+    (
+        "lockrun 1;mutex m k;sx s j;thread t 1;trylock m;tryxlock s;",
+        6,
+        12,
+    ),
+    (
+        "lockrun 1;mutex m a;mutex n a;cond c m;thread t 1;lock n;lock m;wait c;",
+        8,
+        12,
+    ),
+    (
+        "lockrun 1;sx s a;mutex m b;chan z s;thread t 1;xlock s;lock m;msleep z;",
+        8,
+        12,
+    ),
+    (
+        "lockrun 1;sx s j;sx u k;cond c s;thread t 1;xlock s;xlock u;wait c;",
+        8,
+        13,
+    ),
+    (
+        "lockrun 1;mutex m a;cond c m;thread t 1;trylock m;wait c;",
+        6,
+        13,
+    ),
     ("lockrun 1;mutex m a;thread t 1;lock m;end;done;", 5, 14),
     // What is held at an `endtry`: a lock more,
     (
@@ -271,6 +407,7 @@ const FAULTS: [(&str, u32, u8); 47] = [
         20,
     ),
     ("lockrun 1;rw d a;thread t 1;tryrlock d;add d 1 1;", 5, 20),
+    ("lockrun 1;sx s a;thread t 1;slock s;set s 1 1;", 5, 20),
 ];
 
 const NINE_LOCKS: &str =
@@ -278,9 +415,19 @@ const NINE_LOCKS: &str =
 
 // A text, another one with each number below a bound behind it and a third behind that, and a last one; and the fault
 // of it all.
-const LIMITS: [(&str, &str, u32, &str, &str, u32, u8); 9] = [
+const LIMITS: [(&str, &str, u32, &str, &str, u32, u8); 11] = [
     ("lockrun 1;", "mutex m", 65, " a;", "done;", 66, 7),
     ("lockrun 1;", "thread t", 33, " 1;end;", "done;", 66, 7),
+    ("lockrun 1;mutex m a;", "cond c", 65, " m;", "done;", 67, 7),
+    (
+        "lockrun 1;mutex m a;chan z m;",
+        "cond c",
+        64,
+        " m;",
+        "done;",
+        67,
+        7,
+    ),
     (NINE_LOCKS, "lock m", 9, ";", "end;done;", 20, 7),
     (NINE_LOCKS, "lock m", 8, ";", "trylock m8;", 20, 7),
     // of a held one's two faults the smaller
@@ -346,6 +493,19 @@ fn faults(rt: HostRuntime) -> Result<(), Fail> {
     for (script, line, code) in FAULTS {
         assert_eq!(rt; fault_of(rt.alloc(), script)?, (line, code), "at {script}");
     }
+    Ok(())
+}
+
+#[test]
+fn misuses(rt: HostRuntime) -> Result<(), Fail> {
+    for (script, line, code) in MISUSES {
+        assert_eq!(rt; fault_of(rt.alloc(), script)?, (line, code), "at {script}");
+    }
+    Ok(())
+}
+
+#[test]
+fn limits(rt: HostRuntime) -> Result<(), Fail> {
     for (head, text, times, behind, tail, line, code) in LIMITS {
         let script = script_of(rt.alloc(), head, text, times, behind, tail)?;
         assert_eq!(rt; fault_of(rt.alloc(), &script)?, (line, code), "at {text}");

@@ -1,5 +1,6 @@
 -- How the objects of a run begin: the threads are new, and the machine shows the run's start.
-use Rattle.std.proofs.Common.{◌≡◌, ℕ, ◌<◌, List, [], ◌∷◌, ◌++◌, length, map, get_or, slice_get, replicate, Some, IsSome, unwrap_or, option_map, refl, sym, ap, ◌∙◌, inl, inr, arith, IsTrue, Contains}
+use Rattle.std.proofs.Common.{◌≡◌, ℕ, ◌*◌, ◌<◌, List, [], ◌∷◌, ◌++◌, length, map, get_or, slice_get, replicate, Some, IsSome, unwrap_or, option_map, refl, sym, ap, ◌∙◌, inl, inr, arith, IsTrue, Contains}
+use Rattle.std.specs.Prelude.{IsSomeAnd}
 use Rattle.std.specs.FinMap.{empty}
 use Rattle.std.proofs.lemmas.Bool.{cases_eq}
 use Rattle.std.proofs.lemmas.List.{get_or_push, get_or_append_left, length_push, get_or-replicate, length-replicate}
@@ -13,14 +14,18 @@ use Rattle.lock_state.specs.Run.{start_run}
 use Rattle.lock_model.specs.Config.{Config}
 use Rattle.lock_state.specs.State.{start_state}
 use Rattle.lock_model.specs.Words.{word_of, free_word}
-use Rattle.lock_model.specs.declared.numbers.LockNo.{LockNo}
+use Rattle.lock_model.specs.declared.numbers.ChanNo.{ChanNo}
 use Rattle.lock_model.specs.declared.plan.Plan.{Plan}
+use Rattle.lock_model.specs.declared.plan.QueueName.{QueueName}
 use Rattle.lock_model.specs.declared.plan.ThreadDecl.{ThreadDecl}
 use Rattle.thread_records.specs.Loans.{loans_for}
 use Rattle.thread_records.specs.Records.{Record, made}
 use Rattle.turnstile_core.specs.Seen.{Place}
-use Rattle.step_world.specs.Runs.{AreNew, RepresentsRun}
+use Rattle.step_world.specs.Runs.{AreNew, IsAsFar, RepresentsRun}
 use Rattle.lock_objects.specs.Held.{holds_of}
+use Rattle.lock_objects.specs.Marked.{places_of, AreOfKind}
+use Rattle.lock_objects.specs.declared.marked.Marked.{Marked}
+use Rattle.lock_objects.specs.declared.marked.Marked.TheVariants.{Waiters, Sleepers}
 use Rattle.lock_objects.specs.Represents.{columns_of, mark_of, walk_of}
 use Rattle.step_world.specs.Represents.{Represents, RepresentsWords, RepresentsThread, RepresentsThreads, wait_of}
 use Rattle.step_world.specs.Steps.{progress}
@@ -57,8 +62,13 @@ new_pushed decls ths n th d long at new each t u e is_u is_e =
 
 -- 2. The machine
 
+-- whom nobody took off is of any kind
+no_kind : (c : Config) (q : QueueName) (marked : Marked) → places_of marked ≡ [] → AreOfKind c marked q
+no_kind c q (Waiters ps) none = λ some. absurd (some none)
+no_kind c q (Sleepers ps) none = λ some. absurd (some none)
+
 -- what a new thread shows
-shown : (plan : Plan) (t : ℕ) (th : Thread) (d : ThreadDecl) → slice_get plan.threads t ≡ Some d → IsNew t d.base.0 th → RepresentsThread th (start_state (config_of plan)) t
+shown : (plan : Plan) (t : ℕ) (th : Thread) (d : ThreadDecl) → slice_get plan.threads t ≡ Some d → IsNew t d.base.0 th → RepresentsThread th (config_of plan) (start_state (config_of plan)) t
 unfolding start_state
 shown plan t th d at new =
     let base : d.base.0 ≡ declared_base plan t = sym (ap (λ o. unwrap_or o 0) (slice_get-map (λ (e : ThreadDecl). e.base.0) plan.threads t ∙ ap (option_map (λ (e : ThreadDecl). e.base.0)) at)) in
@@ -67,14 +77,13 @@ shown plan t th d at new =
         its_record = (ap columns_of new.its_record ∙ (λ j. record (columns_of (made t d.base.0)) { base = base j; effective = base j })) i;
         wait = wait_of (new.running i);
         walk = walk_of (new.no_walk i);
-        wanted = option_map (λ (l : LockNo). l.0) (new.wants_none i);
         held = hold_in (new.holds_none i);
         marked = map (mark_of th.marked_from) (new.unmarked i);
+        chan = option_map (λ (d : ChanNo). d.0) (new.awake i);
       };
       one_loan_each = λ l. omega (arith, ap (λ (r : Record). loans_for l r.loans) new.its_record);
       held = record { once = λ l. omega (arith, ap (λ hs. holds_of l hs) new.holds_none); room = new.held_room };
-      marked = record { filled = rw new.unmarked (All-nil (λ (p : Place). IsSome p.object)); off = λ some. absurd (some new.unmarked) };
-      woken = rw new.running tt;
+      marked = record { filled = rw new.unmarked (All-nil (λ (p : Place). IsSome p.object)); kind = no_kind (config_of plan) th.marked_from th.marked new.unmarked };
     }
 
 -- the declaration of a thread
@@ -89,9 +98,10 @@ decl_of decls ths t new l =
 pub record IsBegun (plan : Plan) (m : Machine) : Type 0 where
   pub free : m.words.items ≡ replicate (length plan.locks) 0
   pub no_queue : m.chain ≡ []
+  pub no_sleepers : m.sleepers ≡ []
   pub new : AreNew plan.threads m.threads.items
   pub no_entry : m.log.entries ≡ []
-  pub room : m.log.spare ≡ operations_in_all plan
+  pub room : m.log.spare ≡ 2 * operations_in_all plan
   pub no_key : m.tables.present ≡ empty
   pub keys : (l key : ℕ) → IsTrue (plan_names plan l key) → Contains m.tables.places (l, key)
 
@@ -116,21 +126,23 @@ module _ (plan : Plan) (m : Machine) (p : IsProper plan) (b : IsBegun plan m) wh
   shows : Represents c m (start_state c)
   unfolding start_state tables_of
   shows = record {
-    within = record { few_locks = p.locks; few_threads = p.threads; turnstiles = p.turnstiles };
+    within = record { few_locks = p.locks; few_threads = p.threads; few_channels = p.chans };
     words = words;
     queues = record { lock = λ l k. rw b.no_queue refl };
+    sleepers = record { queue = λ q k. rw b.no_sleepers refl };
     threads = threads;
     history = b.no_entry;
     tables = b.no_key;
   }
 
-  its_aside : (t : ℕ) → t < length plan.threads → progress m t ≡ Some (record { next_op = 0; held = [] })
+  its_aside : (t : ℕ) → t < length plan.threads → IsSomeAnd (progress m t) (IsAsFar plan (start_run c) t)
+  unfolding start_state
   its_aside t l =
       elim ((slice_get_cases m.threads.items t).1) [
         | inl h ↦
             let d = decl_of plan.threads m.threads.items t b.new h.1 in
             let new = b.new.each t h.0 d.0 h.2 d.1 in
-            rw (h.2, new.at_begin, new.holds_none) refl
+            rw h.2 (record { next_op = new.at_begin; held = new.holds_none; left = λ k waits free. absurd cc })
         | inr h ↦ absurd (omega (arith, h.0, l, b.new.number))
       ]
 

@@ -10,7 +10,7 @@ use Rattle.prio_lending.specs.declared.walk.Walk.TheVariants as walk
 use Rattle.step_world.specs.declared.machine.Machine.{Machine}
 use Rattle.step_world.specs.declared.thread.Thread.{Thread}
 use Rattle.step_world.specs.Represents.{Represents, thread_in}
-use Rattle.step_world.proofs.Kit.{OthersStay, thread_changed}
+use Rattle.step_world.proofs.Kit.{OthersStay, thread_changed, shown_by}
 
 -- 1. Operations
 
@@ -26,14 +26,7 @@ pub gone_on : {m : Machine} {c : Config} {s : State} {t : ℕ} (n : ℕ) (th : T
     → Represents c m s → Represents c (record m { threads = with_item m.threads t (going_on n th) }) s
 gone_on {s = s} {t = t} n th at k h =
     let old = h.threads.thread t th at in
-    record {
-      within = h.within;
-      words = h.words;
-      queues = h.queues;
-      threads = thread_changed s (going_on n th) h.threads k (record { columns = old.columns; one_loan_each = old.one_loan_each; held = old.held; marked = old.marked; woken = old.woken }) (λ u n. refl);
-      history = h.history;
-      tables = h.tables;
-    }
+    shown_by s h refl h.words h.queues h.sleepers (thread_changed s (going_on n th) h.threads k (record { columns = old.columns; one_loan_each = old.one_loan_each; held = old.held; marked = old.marked }) (λ u n. refl))
 
 -- 2. Walks
 
@@ -50,11 +43,6 @@ pub walk_ended : {m : Machine} {c : Config} {s : State} {t : ℕ} (th : Thread) 
 unfolding after_end_walk
 walk_ended {s = s} {t = t} th h g at =
     let old = h.threads.thread t th at in
-    record {
-      within = h.within;
-      words = h.words;
-      queues = h.queues;
-      threads = thread_changed (after_end_walk s t) (walked th) h.threads g.thread (record { columns = λ i. record (old.columns i) { walk = sym (put_same s.walk t NoWalk) i }; one_loan_each = old.one_loan_each; held = old.held; marked = old.marked; woken = old.woken }) (others s t);
-      history = h.history;
-      tables = h.tables;
-    }
+    shown_by (after_end_walk s t) h refl h.words h.queues h.sleepers
+    (thread_changed (after_end_walk s t) (walked th) h.threads g.thread
+    (record { columns = λ i. record (old.columns i) { walk = sym (put_same s.walk t NoWalk) i }; one_loan_each = old.one_loan_each; held = old.held; marked = old.marked }) (others s t))

@@ -1,16 +1,23 @@
 -- How the parts of a machine show a state's columns when one thread or one word changes.
-use Rattle.std.proofs.Common.{◌≡◌, ◌≢◌, ℕ, ◌<◌, ◌==◌, if◌then◌else◌, Bool, List, length, slice_set, slice_index_or, get_or, slice_get, Some, option_map, refl, sym, ap, subst, inl, inr, arith, ◌∙◌}
-use Rattle.std.proofs.lemmas.Bool.{cases_eq, cases_lt, eq-eqb, ne_eqb}
+use Rattle.std.proofs.Common.{◌≡◌, ◌≢◌, ℕ, ◌<◌, ◌==◌, if◌then◌else◌, Bool, true, false, List, length, reverse, slice_set, slice_index_or, get_or, slice_get, Some, option_map, refl, sym, ap, subst, inl, inr, arith, ◌∙◌}
+use Rattle.std.proofs.lemmas.Bool.{cases_Bool, cases_eq, cases_lt, eq-eqb, ne_eqb}
 use Rattle.std.proofs.lemmas.List.{get_or-set_same, get_or-set_other, length-set, get_or_read}
 use Rattle.std.proofs.lemmas.Option.{slice_get-get_or, slice_get_within, slice_get_past, slice_get_read, same_Some}
-use Rattle.lock_model.specs.Words.{Word, word_of, IsPossible}
+use Rattle.std.specs.Global.{Vec}
+use Rattle.lock_model.specs.Words.{Word, word_of, is_turnstile, IsPossible}
+use Rattle.lock_model.specs.Queues.{is_queue, is_turnstile_queue, lock_queue}
+use Rattle.lock_model.specs.History.{tables_of}
+use Rattle.lock_model.specs.declared.plan.QueueName.{QueueName}
 use Rattle.lock_model.specs.Config.{Config}
 use Rattle.lock_state.specs.State.{State, put}
 use Rattle.lock_state.specs.Steps.LockWords.{after_look}
 use Rattle.lock_state.specs.Facts.{Lawful}
-use Rattle.lock_laws.proofs.Kit.{put_same, put_other}
+use Rattle.lock_laws.proofs.Kit.{put_same, put_other, is_queue_true}
 use Rattle.lock_laws.proofs.WordsAndHeads.{possible_holder}
-use Rattle.lock_objects.specs.Represents.{RepresentsRecord, record_in}
+use Rattle.chain_table.specs.Chains.{head_of}
+use Rattle.lock_objects.specs.Represents.{RepresentsRecord, RepresentsQueues, RepresentsSleepQueue, RepresentsSleepers, SleepColumns, queue_in, sleepers_in, record_in}
+use Rattle.turnstile_core.specs.Seen.{Turnstile}
+use Rattle.sleep_queues.specs.Seen.{SleepQueue}
 use Rattle.step_world.specs.declared.thread.Thread.{Thread}
 use Rattle.step_world.specs.Steps.{Progress, progress_of}
 use Rattle.step_world.specs.declared.machine.Machine.{Machine}
@@ -36,15 +43,15 @@ set_other xs i j x n =
 abbrev pub OthersStay : State → State → ℕ → Type 0
 OthersStay s n t = (u : ℕ) → u ≢ t → thread_in n u ≡ thread_in s u
 
-pub stays : {th : Thread} {s n : State} {u : ℕ} → thread_in n u ≡ thread_in s u → RepresentsThread th s u → RepresentsThread th n u
-stays e h = record { columns = h.columns ∙ sym e; one_loan_each = h.one_loan_each; held = h.held; marked = h.marked; woken = h.woken }
+pub stays : {th : Thread} {c : Config} {s n : State} {u : ℕ} → thread_in n u ≡ thread_in s u → RepresentsThread th c s u → RepresentsThread th c n u
+stays e h = record { columns = h.columns ∙ sym e; one_loan_each = h.one_loan_each; held = h.held; marked = h.marked }
 
 -- one thread changes
-pub thread_changed : {ths : List Thread} {c : Config} {s : State} {t : ℕ} (n : State) (th : Thread) → RepresentsThreads ths c s → t < c.threads → RepresentsThread th n t → OthersStay s n t → RepresentsThreads (slice_set ths t th) c n
+pub thread_changed : {ths : List Thread} {c : Config} {s : State} {t : ℕ} (n : State) (th : Thread) → RepresentsThreads ths c s → t < c.threads → RepresentsThread th c n t → OthersStay s n t → RepresentsThreads (slice_set ths t th) c n
 thread_changed {ths = ths} {c = c} {s = s} {t = t} n th h l new same = record {
   threads = length-set ths t th ∙ h.threads;
   thread = λ u old e. elim (cases_eq u t) [
-    | inl i ↦ subst (λ (v : ℕ). RepresentsThread old n v) (sym i) (subst (λ (o : Thread). RepresentsThread o n t) (same_Some th old (sym (set_same ths t th (rw h.threads l)) ∙ ap (slice_get (slice_set ths t th)) (sym i) ∙ e)) new)
+    | inl i ↦ subst (λ (v : ℕ). RepresentsThread old c n v) (sym i) (subst (λ (o : Thread). RepresentsThread o c n t) (same_Some th old (sym (set_same ths t th (rw h.threads l)) ∙ ap (slice_get (slice_set ths t th)) (sym i) ∙ e)) new)
     | inr i ↦ stays (same u i) (h.thread u old (sym (set_other ths t u th i) ∙ e))
   ];
 }
@@ -54,7 +61,7 @@ pub threads_stay : {ths : List Thread} {c : Config} {s : State} (n : State) → 
 threads_stay n h same = record { threads = h.threads; thread = λ u th e. stays (same u) (h.thread u th e) }
 
 -- the record of a thread
-pub record_of : {th : Thread} {s : State} {t : ℕ} → RepresentsThread th s t → RepresentsRecord th.record.value (record_in s t)
+pub record_of : {th : Thread} {c : Config} {s : State} {t : ℕ} → RepresentsThread th c s t → RepresentsRecord th.record.value (record_in s t)
 record_of h = record { columns = ap (λ x. x.its_record) h.columns; one_loan_each = h.one_loan_each }
 
 -- 3. Words
@@ -115,7 +122,33 @@ looked {s = s} t l in_round h = record {
   within = h.within;
   words = h.words;
   queues = h.queues;
+  sleepers = h.sleepers;
   threads = threads_stay (after_look s t l in_round) h.threads (λ u. refl);
   history = h.history;
   tables = h.tables;
+}
+
+-- 6. Steps that make no entry
+
+pub shown_by : {m : Machine} {c : Config} {s : State} {words : Vec ℕ} {chain : List (QueueName × Turnstile)} {sleepers : List (QueueName × SleepQueue)} {threads : Vec Thread} (n : State) → Represents c m s → n.history ≡ s.history
+    → RepresentsWords words.items c n.word → RepresentsQueues c chain (queue_in n) n.loan_home → RepresentsSleepers c sleepers (sleepers_in n) → RepresentsThreads threads.items c n
+    → Represents c (record m { words = words; chain = chain; sleepers = sleepers; threads = threads }) n
+shown_by n h same words_seen queues_seen sleepers_seen threads_seen = record {
+  within = h.within;
+  words = words_seen;
+  queues = queues_seen;
+  sleepers = sleepers_seen;
+  threads = threads_seen;
+  history = h.history ∙ ap (λ es. reverse es) (sym same);
+  tables = h.tables ∙ ap tables_of (sym same);
+}
+
+-- the sleepers stay where only the queue of a lock with a turnstile changes
+pub sleepers_beside : {c : Config} {chain : List (QueueName × SleepQueue)} (s n : State) (l : ℕ) → is_turnstile (c.kind l) ≡ true
+    → ((q : QueueName) → is_queue (lock_queue l) q ≡ false → sleepers_in n q ≡ sleepers_in s q) → RepresentsSleepers c chain (sleepers_in s) → RepresentsSleepers c chain (sleepers_in n)
+sleepers_beside {c = c} {chain = chain} s n l k same shows = record {
+  queue = λ q e. subst (λ (x : SleepColumns). RepresentsSleepQueue (head_of q chain) x) (sym (same q (elim (cases_Bool (is_queue (lock_queue l) q)) [
+    | inl i ↦ absurd (let z : true ≡ false = sym k ∙ (ap (is_turnstile_queue c) (is_queue_true (lock_queue l) q i) ∙ e) in cc)
+    | inr i ↦ i
+  ]))) (shows.queue q e);
 }

@@ -9,8 +9,10 @@ pub mod Holding
 pub mod Stamping
 pub mod Opening
 pub mod Ends
+pub mod AsFar
 pub mod Turning
 pub mod RowsOfLocks
+pub mod RowsOfWaits
 pub mod RowsOfOperations
 pub mod WorldsAreSound
 pub mod RowsOfWalks

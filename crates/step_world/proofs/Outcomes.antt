@@ -1,44 +1,57 @@
 -- What is printed of a machine is what the run that it shows leaves to be printed.
-use Rattle.std.proofs.Common.{◌≡◌, ℕ, suc, ◌+◌, ◌≤◌, true, List, [], ◌∷◌, ◌++◌, length, map, flat_map, slice_get, Option, Some, None, IfSome, refl, ap, sym, ◌∙◌, arith}
+use Rattle.std.proofs.Common.{◌≡◌, ℕ, suc, ◌+◌, ◌%◌, ◌≤◌, true, List, [], ◌∷◌, ◌++◌, length, map, flat_map, slice_get, Option, Some, None, IfSome, refl, ap, sym, inl, inr, ◌∙◌, arith}
 use Rattle.std.specs.List.{range_with_len}
-use Rattle.std.proofs.lemmas.List.{append-nil}
+use Rattle.std.proofs.lemmas.Bool.{cases_Bool}
 use Rattle.lock_state.specs.Facts.{Lawful, HeadsFitWaiters}
-use Rattle.lock_model.specs.Operations.{IsProper}
 use Rattle.lock_model.specs.Plans.{config_of}
-use Rattle.lock_model.specs.Queues.{lock_queue, chan_queue, waiting}
+use Rattle.lock_model.specs.Queues.{lock_queue, chan_queue, is_turnstile_queue, waiting}
 use Rattle.lock_state.specs.Run.{Run, line_of_queue, queue_lines, threads_of}
 use Rattle.lock_model.specs.Config.{Config}
 use Rattle.lock_state.specs.State.{State}
-use Rattle.lock_model.specs.Text.{QueueLine}
 use Rattle.lock_model.specs.Words.{is_turnstile}
 use Rattle.lock_model.specs.declared.plan.Plan.{Plan}
+use Rattle.lock_model.specs.declared.plan.QueueName.{QueueName}
+use Rattle.lock_model.specs.declared.plan.QueueName.TheVariants.{Lock, Chan}
 use Rattle.lock_laws.proofs.Beyond.{few_wait}
+use Rattle.wait_objects.specs.Seen.{Contents}
+use Rattle.wait_objects.specs.Changes.{lists_of}
 use Rattle.turnstile_core.specs.Seen.{Turnstile}
+use Rattle.sleep_queues.specs.Seen.{SleepQueue}
 use Rattle.chain_table.specs.Chains.{head_of}
 use Rattle.step_world.specs.declared.machine.Machine.{Machine}
 use Rattle.step_world.specs.declared.thread.Thread.{Thread}
-use Rattle.step_world.specs.Outcomes.{line_at, lines_below, finals_of, IsShort}
+use Rattle.step_world.specs.Outcomes.{line_at, line_of_lock, lines_of, finals_of, IsShort, HasShortQueues}
 use Rattle.step_world.specs.Runs.{RepresentsRun}
-use Rattle.lock_objects.specs.Represents.{RepresentsQueue, queue_in}
+use Rattle.lock_objects.specs.Represents.{RepresentsQueue, RepresentsSleepQueue, queue_in, sleepers_in}
 
 -- 1. Queues
 
--- the line of a lock's queue, by the turnstile that is lent to the lock
-line_is : (chains : ℕ) (s : State) (l : ℕ) (o : Option Turnstile) → RepresentsQueue o (queue_in s (lock_queue l)) s.loan_home → line_at chains l o ≡ line_of_queue chains s (lock_queue l) l (s.head (lock_queue l))
-line_is chains s l None h = ap (line_of_queue chains s (lock_queue l) l) (sym h)
-line_is chains s l (Some t) h = rw (ap (λ v. v.head) h.queue, ap (λ v. v.lists) h.queue, ap (λ v. v.free_list) h.queue) refl
+-- the line of a queue is that of the turnstile that is lent to its lock,
+turnstile_line : (chains : ℕ) (s : State) (q : QueueName) (n : ℕ) (o : Option Turnstile) → RepresentsQueue o (queue_in s q) s.loan_home → line_at q (n % chains) o ≡ line_of_queue chains s q n (s.head q)
+turnstile_line chains s q n None h = ap (line_of_queue chains s q n) (sym h)
+turnstile_line chains s q n (Some t) h = rw (ap (λ v. v.head) h.queue, ap (λ v. v.lists) h.queue, ap (λ v. v.free_list) h.queue) refl
 
--- A proper plan has no channels, so these are all lines
-pub lines_are : (plan : Plan) (chains : ℕ) (m : Machine) (r : Run) → IsProper plan → RepresentsRun plan m r → lines_below chains m (length m.words.items) ≡ queue_lines chains (config_of plan) r.state
-lines_are plan chains m r proper h =
-    let c = config_of plan in
-    let s = r.state in
-    let of_channel : ℕ → List QueueLine = λ d. line_of_queue chains s (chan_queue d) d (s.head (chan_queue d)) in
-    let of_locks : List QueueLine = flat_map (λ l. line_of_queue chains s (lock_queue l) l (s.head (lock_queue l))) (range_with_len 0 c.locks) in
-    ap (lines_below chains m) h.shows.words.locks
-    ∙ (λ i. flat_map (λ l. line_is chains s l (head_of (lock_queue l) m.chain) (h.shows.queues.lock l (h.shows.within.turnstiles l)) i) (range_with_len 0 c.locks))
-    ∙ sym (append-nil of_locks)
-    ∙ ap (λ (n : ℕ). of_locks ++ flat_map of_channel (range_with_len 0 n)) (sym (ap length proper.no_channel))
+-- or of the sleep queue that is lent to the lock or channel
+sleepers_line : (chains : ℕ) (s : State) (q : QueueName) (n : ℕ) (o : Option SleepQueue) → RepresentsSleepQueue o (sleepers_in s q) → line_at q (n % chains) o ≡ line_of_queue chains s q n (s.head q)
+sleepers_line chains s q n None h = ap (line_of_queue chains s q n) (sym h)
+sleepers_line chains s q n (Some t) h = rw (ap (λ v. v.head) h, ap (λ v. v.lists) h, ap (λ v. v.free_list) h) refl
+
+module _ (plan : Plan) (chains : ℕ) (m : Machine) (r : Run) (h : RepresentsRun plan m r) where
+  abbrev c : Config
+  c = config_of plan
+
+  -- the kind of a lock says which of the two
+  lock_line : (l : ℕ) → line_of_lock chains m (c.kind l) l ≡ line_of_queue chains r.state (lock_queue l) l (r.state.head (lock_queue l))
+  lock_line l = elim (cases_Bool (is_turnstile (c.kind l))) [
+    | inl e ↦ rw e (turnstile_line chains r.state (lock_queue l) l (head_of (lock_queue l) m.chain) (h.shows.queues.lock l e))
+    | inr e ↦ rw e (sleepers_line chains r.state (lock_queue l) l (head_of (lock_queue l) m.sleepers) (h.shows.sleepers.queue (lock_queue l) e))
+  ]
+
+  channel_line : (d : ℕ) → line_at (chan_queue d) (d % chains) (head_of (chan_queue d) m.sleepers) ≡ line_of_queue chains r.state (chan_queue d) d (r.state.head (chan_queue d))
+  channel_line d = sleepers_line chains r.state (chan_queue d) d (head_of (chan_queue d) m.sleepers) (h.shows.sleepers.queue (chan_queue d) refl)
+
+  pub lines_are : lines_of chains c m ≡ queue_lines chains c r.state
+  lines_are = λ i. flat_map (λ l. lock_line l i) (range_with_len 0 c.locks) ++ flat_map (λ d. channel_line d i) (range_with_len 0 c.chans)
 
 -- 2. Priorities
 
@@ -58,19 +71,31 @@ finals_are plan m r h =
 
 -- 3. Lengths
 
--- where few wait on a queue, its turnstile's lists are short, and its free list is shorter than both
-short_is : (s : State) (c : Config) (l : ℕ) (o : Option Turnstile) → RepresentsQueue o (queue_in s (lock_queue l)) s.loan_home → Lawful c s → waiting (s.lists (lock_queue l)) ≤ 32 → IfSome o (λ h. IsShort h.contents)
+-- where few wait on a queue, its object's lists are short, and its free list is shorter than both
+short_is : {E : Type 0} {c : Config} {s : State} (q : QueueName) (h : Contents E) → Lawful c s → c.threads ≤ 32 → s.lists q ≡ lists_of h → s.free_list q ≡ h.free → IsShort h
 unfolding HeadsFitWaiters
-short_is s c l None h lawful few = tt
-short_is s c l (Some t) h lawful few =
-    let fits = (lawful.queues.heads_fit_waiters (lock_queue l)).balanced in
-    let both : length t.contents.exclusive + length t.contents.shared ≤ 32 = rw (ap (λ v. v.lists) h.queue) at few in
-    let spare : length (s.free_list (lock_queue l)) ≤ 32 = omega (arith, fits, few) in
-    let free : length t.contents.free ≤ 32 = rw (ap (λ v. v.free_list) h.queue) at spare in
-    record { exclusive = omega (arith, both); shared = omega (arith, both); free = omega (arith, free) }
+short_is {c = c} {s = s} q h lawful few lists free =
+    let fits = (lawful.queues.heads_fit_waiters q).balanced in
+    let both : length h.exclusive + length h.shared ≤ 32 = rw lists at (let n : waiting (s.lists q) ≤ 32 = omega (arith, few_wait c s lawful q, few) in n) in
+    let spare : length (s.free_list q) ≤ 32 = omega (arith, fits, few_wait c s lawful q, few) in
+    let its_free : length h.free ≤ 32 = rw free at spare in
+    record { exclusive = omega (arith, both); shared = omega (arith, both); free = omega (arith, its_free) }
 
-pub all_short : (plan : Plan) (m : Machine) (r : Run) → RepresentsRun plan m r → Lawful (config_of plan) r.state → (l : ℕ) → IfSome (head_of (lock_queue l) m.chain) (λ h. IsShort h.contents)
-all_short plan m r h lawful l =
-    let c = config_of plan in
-    let turnstile : is_turnstile (c.kind l) ≡ true = h.shows.within.turnstiles l in
-    short_is r.state c l (head_of (lock_queue l) m.chain) (h.shows.queues.lock l turnstile) lawful (omega (arith, few_wait c r.state lawful l turnstile, h.shows.within.few_threads))
+module _ (plan : Plan) (m : Machine) (r : Run) (h : RepresentsRun plan m r) (lawful : Lawful (config_of plan) r.state) where
+  of_turnstile : (q : QueueName) (o : Option Turnstile) → RepresentsQueue o (queue_in r.state q) r.state.loan_home → IfSome o (λ t. IsShort t.contents)
+  of_turnstile q None shown = tt
+  of_turnstile q (Some t) shown = short_is q t.contents lawful h.shows.within.few_threads (ap (λ v. v.lists) shown.queue) (ap (λ v. v.free_list) shown.queue)
+
+  of_sleep_queue : (q : QueueName) (o : Option SleepQueue) → RepresentsSleepQueue o (sleepers_in r.state q) → IfSome o (λ t. IsShort t.contents)
+  of_sleep_queue q None shown = tt
+  of_sleep_queue q (Some t) shown = short_is q t.contents lawful h.shows.within.few_threads (ap (λ v. v.lists) shown) (ap (λ v. v.free_list) shown)
+
+  at_turnstile : (q : QueueName) → is_turnstile_queue (config_of plan) q ≡ true → IfSome (head_of q m.chain) (λ t. IsShort t.contents)
+  at_turnstile (Lock l) e = of_turnstile (Lock l) (head_of (Lock l) m.chain) (h.shows.queues.lock l.0 e)
+  at_turnstile (Chan d) e = absurd cc
+
+  pub all_short : HasShortQueues (config_of plan) m
+  all_short = record {
+    turnstiles = at_turnstile;
+    sleep_queues = λ q e. of_sleep_queue q (head_of q m.sleepers) (h.shows.sleepers.queue q e);
+  }

@@ -1,9 +1,19 @@
--- Lists that are made place by place.
-use Rattle.std.proofs.Common.{◌≡◌, ℕ, zero, suc, ◌≤◌, List, [], ◌∷◌, ◌++◌, ◌+◌, length, map, flat_map, take, slice_get, Some, None, ap, sym, ◌∙◌, arith}
+-- Lists that are made place by place, and what is read for them.
+use Rattle.std.proofs.Common.{◌≡◌, ℕ, zero, suc, ◌≤◌, ◌<◌, ◌%◌, true, false, List, [], ◌∷◌, ◌++◌, ◌+◌, length, map, flat_map, take, slice_get, get_or, unwrap_or, option_map, Option, Some, None, refl, ap, sym, ◌∙◌, arith}
 use Rattle.std.specs.List.{range_with_len}
-use Rattle.std.proofs.lemmas.List.{map-append, map-id, flat_map_more, take_more, take_all, length_push}
+use Rattle.std.proofs.lemmas.List.{append_assoc, map-append, map-id, flat_map_more, take_more, take_all, length_push}
 use Rattle.std.proofs.lemmas.List.FromFn.{map-range_with_len_more}
-use Rattle.std.proofs.lemmas.Option.{slice_get_within, get_or_from_slice_get}
+use Rattle.std.proofs.lemmas.Option.{slice_get_within, slice_get_read, slice_get-map, get_or_from_slice_get}
+use Rattle.lock_model.specs.Plans.{lock_kind}
+use Rattle.lock_model.specs.Queues.{lock_queue}
+use Rattle.lock_model.specs.Words.{is_turnstile}
+use Rattle.lock_model.specs.declared.plan.Kind.{Kind}
+use Rattle.lock_model.specs.declared.plan.Kind.TheVariants.{Mtx}
+use Rattle.lock_model.specs.declared.plan.LockDecl.{LockDecl}
+use Rattle.lock_model.specs.declared.plan.Plan.{Plan}
+use Rattle.chain_table.specs.Chains.{head_of}
+use Rattle.step_world.specs.declared.machine.Machine.{Machine}
+use Rattle.step_world.specs.Outcomes.{line_at, line_of_lock}
 
 -- 1. A list that is read until a place is past its end
 
@@ -39,3 +49,26 @@ range_more n =
 -- the part of one number more
 pub flat_map_range_more : {A : Type 0} (f : ℕ → List A) (n : ℕ) → flat_map f (range_with_len 0 (n + 1)) ≡ flat_map f (range_with_len 0 n) ++ f n
 flat_map_range_more f n = ap (flat_map f) (range_more n) ∙ sym (flat_map_more f [] (range_with_len 0 n) n)
+
+-- and where that is what a list got more
+pub part_more : {A : Type 0} (f : ℕ → List A) (n : ℕ) (xs ys part : List A) → xs ≡ flat_map f (range_with_len 0 n) → ys ≡ xs ++ part → part ≡ f n → ys ≡ flat_map f (range_with_len 0 (n + 1))
+part_more f n xs ys part before more is = more ∙ ap (λ zs. zs ++ part) before ∙ ap (λ zs. flat_map f (range_with_len 0 n) ++ zs) is ∙ sym (flat_map_range_more f n)
+
+-- the same behind other parts
+pub part_more_behind : {A : Type 0} (f : ℕ → List A) (n : ℕ) (front xs ys part : List A) → xs ≡ front ++ flat_map f (range_with_len 0 n) → ys ≡ xs ++ part → part ≡ f n → ys ≡ front ++ flat_map f (range_with_len 0 (n + 1))
+part_more_behind f n front xs ys part before more is =
+    more ∙ ap (λ zs. zs ++ part) before ∙ append_assoc front (flat_map f (range_with_len 0 n)) part
+    ∙ ap (λ zs. front ++ zs) (part_more f n (flat_map f (range_with_len 0 n)) (flat_map f (range_with_len 0 n) ++ part) part refl refl is)
+
+-- 3. Locks
+
+-- the kind of a lock that was read
+pub kind_read : (plan : Plan) (l : ℕ) (d : LockDecl) → l < length plan.locks → d ≡ get_or plan.locks l d → lock_kind plan l ≡ d.kind
+kind_read plan l d lt is = ap (λ (o : Option Kind). unwrap_or o Mtx) (slice_get-map (λ (x : LockDecl). x.kind) plan.locks l ∙ ap (option_map (λ (x : LockDecl). x.kind)) (slice_get_read plan.locks (length plan.locks) l d refl lt is))
+
+-- the line of one that stands in the one chain, or in the other
+pub turnstile_line : (chains : ℕ) (m : Machine) (kind : Kind) (l : ℕ) → is_turnstile kind ≡ true → line_of_lock chains m kind l ≡ line_at (lock_queue l) (l % chains) (head_of (lock_queue l) m.chain)
+turnstile_line chains m kind l e = rw e refl
+
+pub sleepers_line : (chains : ℕ) (m : Machine) (kind : Kind) (l : ℕ) → is_turnstile kind ≡ false → line_of_lock chains m kind l ≡ line_at (lock_queue l) (l % chains) (head_of (lock_queue l) m.sleepers)
+sleepers_line chains m kind l e = rw e refl

@@ -1,9 +1,10 @@
 -- Which row of the table a turn is, by what the thread's objects say.
 use Rattle.std.proofs.Common.{◌≡◌, ℕ, suc, ◌+◌, ◌<◌, ◌≤◌, Bool, true, false, List, [], ◌∷◌, length, map, get_or, slice_get, Option, Some, None, refl, sym, ap, arith, ◌∙◌}
 use Rattle.std.proofs.lemmas.Option.{slice_get_read, slice_get_past}
-use Rattle.lock_model.specs.Plans.{operations_of}
+use Rattle.lock_model.specs.Plans.{config_of, operations_of}
 use Rattle.lock_model.specs.Operations.{IsProper}
 use Rattle.lock_state.specs.State.{State, Wait, Running, NoWalk, AtLock, AtThread}
+use Rattle.lock_model.specs.Counts.{is_empty}
 use Rattle.lock_model.specs.Queues.{Mark, BySignal}
 use Rattle.lock_state.specs.Steps.{Marks, Resumes}
 use Rattle.lock_state.specs.Run.{Run, has_ended, turn_of, does}
@@ -16,18 +17,23 @@ use Rattle.lock_model.specs.declared.turn.StepKind.TheVariants as kinds
 use Rattle.lock_model.specs.declared.turn.Turn.TheVariants.{Idle, Ended}
 use Rattle.lock_laws.specs.OnTrack.{IsAtOperation}
 use Rattle.lock_laws.proofs.Table.{goes_by_wait, marks_first}
-use Rattle.turnstile_core.specs.Seen.{Place}
+use Rattle.wait_objects.specs.Seen.{Place}
 use Rattle.prio_lending.specs.declared.walk.Walk.TheVariants as walk
 use Rattle.step_world.specs.declared.machine.Machine.{Machine}
 use Rattle.step_world.specs.declared.thread.Thread.{Thread}
 use Rattle.step_world.specs.declared.thread.Wait.TheVariants as wait
 use Rattle.lock_objects.specs.Represents.{walk_of, mark_of}
+use Rattle.lock_objects.specs.Marked.{places_of}
 use Rattle.step_world.specs.Represents.{RepresentsThread, wait_of}
 use Rattle.step_world.specs.Threads.{thread_has_ended}
-use Rattle.step_world.specs.Runs.{IsRunOf, IsTurn, IsFree}
+use Rattle.step_world.specs.Runs.{IsRunOf, IsTurn, IsDoneWaking, IsFree}
 use Rattle.step_world.proofs.Kit.{read}
 use Rattle.step_world.proofs.Ends.{ends_as_said, aside_is}
 use Rattle.step_world.proofs.Turning.{Begins, begins, still}
+
+none_where_empty : {A : Type 0} (xs : List A) → is_empty xs ≡ true → xs ≡ []
+none_where_empty [] e = refl
+none_where_empty (x ∷ xs) e = absurd cc
 
 -- the thread that was read at the place of a number
 pub here : {plan : Plan} {m : Machine} {r : Run} {t i : ℕ} {th : Thread} → IsRunOf plan m r → t < length plan.threads → i ≡ t → th ≡ get_or m.threads.items i th → slice_get m.threads.items t ≡ Some th
@@ -37,13 +43,13 @@ module _ {plan : Plan} {m : Machine} {r : Run} {t : ℕ} {th : Thread} (p : IsPr
   abbrev s : State
   s = r.state
 
-  its : RepresentsThread th s t
+  its : RepresentsThread th (config_of plan) s t
   its = h.shows.shows.threads.thread t th is
 
   -- 1. How far it is, and whether it has ended
 
   pub following : suc (r.next_op t) ≡ th.next_op + 1
-  following = omega (arith, ap (λ x. x.next_op) (aside_is plan m r t th h lt is))
+  following = omega (arith, (aside_is plan m r t th h lt is).next_op)
 
   pub said : {ops : List Op} → ops ≡ operations_of plan t → (b : Bool) → thread_has_ended (length ops) th ≡ b → has_ended plan r t ≡ b
   said same b e = sym (ends_as_said plan m r t th p h lt is) ∙ ap (λ (x : List Op). thread_has_ended (length x) th) (sym same) ∙ e
@@ -66,16 +72,19 @@ module _ {plan : Plan} {m : Machine} {r : Run} {t : ℕ} {th : Thread} (p : IsPr
     no_walk : s.walk t ≡ NoWalk
     no_walk = sym (ap (λ x. x.walk) its.columns) ∙ ap walk_of e
 
-    pub is_free : th.marked ≡ [] → has_ended plan r t ≡ false → IsFree plan r t
-    is_free none going = record { going = going; owes = record { no_walk = no_walk; unmarked = sym (ap (λ x. x.marked) its.columns) ∙ ap (map (mark_of th.marked_from)) none } }
+    its_marked : {ps : List Place} → places_of th.marked ≡ ps → s.marked t ≡ map (mark_of th.marked_from) ps
+    its_marked f = sym (ap (λ x. x.marked) its.columns) ∙ ap (map (mark_of th.marked_from)) f
 
-    module _ (some : th.marked ≡ [] → ⊥) where
+    pub done_waking : is_empty (places_of th.marked) ≡ true → has_ended plan r t ≡ false → IsDoneWaking plan r t
+    done_waking none going = record { going = going; no_walk = no_walk; unmarked = its_marked (none_where_empty _ none) }
+
+    module _ (some : is_empty (places_of th.marked) ≡ false) where
       first : (x : Mark) × (xs : List Mark) × (s.marked t ≡ x ∷ xs)
-      first = go th.marked refl
+      first = go (places_of th.marked) refl
         where
-          go : (ps : List Place) → th.marked ≡ ps → (x : Mark) × (xs : List Mark) × (s.marked t ≡ x ∷ xs)
-          go [] f = absurd (some f)
-          go (p ∷ ps) f = (mark_of th.marked_from p, map (mark_of th.marked_from) ps, sym (ap (λ x. x.marked) its.columns) ∙ ap (map (mark_of th.marked_from)) f)
+          go : (ps : List Place) → places_of th.marked ≡ ps → (x : Mark) × (xs : List Mark) × (s.marked t ≡ x ∷ xs)
+          go [] f = absurd (let z = ap is_empty f in cc)
+          go (p ∷ ps) f = (mark_of th.marked_from p, map (mark_of th.marked_from) ps, its_marked f)
 
       pub marks : (x : Mark) × (xs : List Mark) × Begins plan r t m (does kinds.Mark (Marks t x xs ∷ []))
       marks = (first.0, first.1, begins p lt h (marks_first plan r t first.0 first.1 no_walk first.2))
@@ -97,7 +106,7 @@ module _ {plan : Plan} {m : Machine} {r : Run} {t : ℕ} {th : Thread} (p : IsPr
       at_next o i = record {
         running = waits_as Running (ap wait_of e);
         free = free.owes;
-        next = ap (slice_get (operations_of plan t)) (sym (ap (λ x. x.next_op) (aside_is plan m r t th h lt is))) ∙ ap (λ x. slice_get x th.next_op) (sym same) ∙ i;
+        next = ap (slice_get (operations_of plan t)) (sym (aside_is plan m r t th h lt is).next_op) ∙ ap (λ x. slice_get x th.next_op) (sym same) ∙ i;
       }
 
       pub at_operation : {op : Op} → th.next_op < length ops → op ≡ get_or ops th.next_op op → IsAtOperation plan r t (Some op)

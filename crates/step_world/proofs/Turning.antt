@@ -1,6 +1,6 @@
 -- A thread's turn under way: while a machine has made the first steps of the turn's row, it represents the lawful state
 -- behind them, and the next step may be made. So behind the last it represents the run behind the turn.
-use Rattle.std.proofs.Common.{◌≡◌, ℕ, ◌+◌, ◌<◌, ◌≤◌, ◌==◌, Bool, true, false, cond, List, [], ◌∷◌, length, Option, Some, None, option_map, unwrap_or, refl, sym, ap, subst, inl, inr, arith, eq-eqb, ◌∙◌}
+use Rattle.std.proofs.Common.{◌≡◌, ◌≢◌, ℕ, ◌+◌, ◌<◌, ◌≤◌, ◌==◌, Bool, true, false, cond, List, [], ◌∷◌, length, Option, Some, None, IsSomeAnd, option_map, refl, sym, ap, subst, inl, inr, arith, eq-eqb, ◌∙◌}
 use Rattle.std.specs.Prelude.{vec_len}
 use Rattle.std.specs.List.{Contains}
 use Rattle.std.proofs.lemmas.Bool.{ne_eqb, cases_eq}
@@ -8,31 +8,31 @@ use Rattle.std.proofs.lemmas.List.{length-reverse}
 use Rattle.lock_model.specs.Plans.{config_of, operations_of}
 use Rattle.lock_model.specs.Operations.{IsProper, next_at}
 use Rattle.lock_model.specs.Config.{Config}
-use Rattle.lock_state.specs.State.{State, put}
+use Rattle.lock_state.specs.State.{State}
 use Rattle.lock_state.specs.Facts.{Lawful}
 use Rattle.lock_state.specs.Steps.{Step, Looks, Stamps, May as MayMake, MayAll, after, after_all}
-use Rattle.lock_state.specs.Run.{Run, Row, turn_of, next_ops, run_after, run_behind, nothing, does}
+use Rattle.lock_state.specs.Run.{Run, Row, turn_of, next_ops, run_after, run_behind, waits_on, nothing, does}
 use Rattle.lock_model.specs.declared.event.Event.{Event}
-use Rattle.lock_model.specs.declared.event.Held.{Held}
 use Rattle.lock_model.specs.declared.plan.Op.{Op}
 use Rattle.lock_model.specs.declared.plan.Plan.{Plan}
 use Rattle.lock_model.specs.declared.turn.StepKind.{StepKind}
 use Rattle.lock_model.specs.declared.turn.Turn.{Turn}
 use Rattle.lock_model.specs.declared.turn.Turn.TheVariants.{Did}
 use Rattle.lock_laws.specs.OnTrack.{IsAtOperation}
-use Rattle.lock_laws.proofs.Kit.{put_same, put_other}
+use Rattle.lock_laws.proofs.Kit.{put_same}
 use Rattle.lock_laws.proofs.Steps.{keeps, all_keep}
-use Rattle.lock_laws.proofs.Turning.{may_all, turned}
+use Rattle.lock_laws.proofs.Turning.{row_may, turned}
 use Rattle.lock_laws.proofs.Entries.{entries_below}
 use Rattle.lock_laws.proofs.HeldLists.{next_holds}
 use Rattle.lock_laws.proofs.OnTrack.{left}
 use Rattle.step_world.specs.declared.machine.Machine.{Machine}
 use Rattle.step_world.specs.Represents.{Represents}
-use Rattle.step_world.specs.Steps.{Progress, progress, May, Makes, MakesAll, KeepsProgress, ChangesProgress, KeepsBooks}
+use Rattle.step_world.specs.Steps.{Progress, progress, May, Makes, MakesWhere, MakesAllWhere, KeepsProgress, ChangesProgress, KeepsBooks}
 use Rattle.step_world.proofs.Kit.{looked}
 use Rattle.step_world.specs.declared.turns.Made.{Made}
 use Rattle.step_world.specs.declared.turns.Made.TheVariants.{Does}
-use Rattle.step_world.specs.Runs.{RepresentsRun, IsRunOf, IsTurn, IsAside, IsMade, held_at, progress_in, answer_of, next_of, row_of}
+use Rattle.step_world.specs.Runs.{RepresentsRun, IsRunOf, IsTurn, IsAsFar, IsBehind, IsMade, HasRoom, HasKeys, held_at, answer_of, next_of, row_of}
+use Rattle.step_world.proofs.AsFar.{that_is, is_such, so_is, still_as_far, behind_still, behind_made, others_still}
 
 -- 1. Room
 
@@ -80,6 +80,10 @@ unmoved m n t h u = h u ∙ go (u == t) (progress m u)
 pub of_step : {c : Config} {m n : Machine} {t : ℕ} {step : Step} → Makes m n step → KeepsProgress m n → KeepsBooks m n → StepMade c m n t step (λ a. a)
 of_step {c} {m} {n} {t} makes kept books = of_method (λ a. a) makes (unmoved m n t kept) books
 
+-- also where the method asks something of the configuration and the state,
+pub of_step_where : {c : Config} {m n : Machine} {t : ℕ} {step : Step} {premise : Config → State → Type 0} → ((s : State) → Represents c m s → Lawful c s → premise c s) → MakesWhere premise m n step → KeepsProgress m n → KeepsBooks m n → StepMade c m n t step (λ a. a)
+of_step_where {c} {m} {n} {t} so makes kept books = record { makes = λ s shows lawful may. makes c s (so s shows lawful) shows lawful may; moves = unmoved m n t kept; room = of_books books }
+
 -- as behind a look, of which no object tells,
 pub of_look : {c : Config} {m : Machine} {t l : ℕ} {in_round : Bool} → StepMade c m m t (Looks t l in_round) (λ a. a)
 of_look {m = m} {t = t} {l = l} {in_round = b} =
@@ -89,38 +93,66 @@ of_look {m = m} {t = t} {l = l} {in_round = b} =
 pub of_entry : {c : Config} {m n : Machine} {t : ℕ} {e : Event} → Makes m n (Stamps t e) → KeepsProgress m n → n.tables.places ≡ m.tables.places → length n.log.entries + n.log.spare ≡ length m.log.entries + m.log.spare → StepMade c m n t (Stamps t e) (λ a. a)
 of_entry {c} {m} {n} {t} makes kept places room = record { makes = makes c; moves = unmoved m n t kept; room = record { room = room; places = places } }
 
-moved : {plan : Plan} {r : Run} {t : ℕ} {m n : Machine} {a : Progress} (f : Progress → Progress) → IsAside plan r t m a → ChangesProgress m n t f → SameRoom m n → IsAside plan r t n (f a)
-moved {t = t} f h moves same = record {
-  own = (let at = moves t in rw (eq-eqb t t refl) at at) ∙ ap (option_map f) h.own;
-  others = λ u l ne. (let at = moves u in rw (ne_eqb u t ne) at at) ∙ h.others u l ne;
-  room = same.room ∙ h.room;
-  keys = λ l key i. subst (λ ps. Contains ps (l, key)) (sym same.places) (h.keys l key i);
+-- 4. What no column tells while a turn is under way
+
+-- the thread's progress is this, and the others are as far as they were
+pub record IsUnderWay (plan : Plan) (r : Run) (t : ℕ) (m : Machine) (a : Progress) : Type 0 where
+  pub own : progress m t ≡ Some a
+  pub others : (u : ℕ) → u < length plan.threads → u ≢ t → IsSomeAnd (progress m u) (IsAsFar plan r u)
+  pub room : HasRoom plan m
+  pub keys : HasKeys plan m
+
+module _ (m n : Machine) where
+  own_moved : (t : ℕ) (f : Progress → Progress) {a : Progress} → ChangesProgress m n t f → progress m t ≡ Some a → progress n t ≡ Some (f a)
+  own_moved t f moves own = (let at = moves t in rw (eq-eqb t t refl) at at) ∙ ap (option_map f) own
+
+  other_moved : (t : ℕ) (f : Progress → Progress) → ChangesProgress m n t f → (u : ℕ) → u ≢ t → progress n u ≡ progress m u
+  other_moved t f moves u ne = let at = moves u in rw (ne_eqb u t ne) at at
+
+  same_room : (plan : Plan) → SameRoom m n → HasRoom plan m → HasRoom plan n
+  same_room plan same h = same.room ∙ h
+
+  same_keys : (plan : Plan) → SameRoom m n → HasKeys plan m → HasKeys plan n
+  same_keys plan same h l key i = subst (λ ps. Contains ps (l, key)) (sym same.places) (h l key i)
+
+moved : {plan : Plan} {r : Run} {t : ℕ} {m n : Machine} {a : Progress} (f : Progress → Progress) → IsUnderWay plan r t m a → ChangesProgress m n t f → SameRoom m n → IsUnderWay plan r t n (f a)
+moved {plan} {r} {t} {m} {n} f h moves same = record {
+  own = own_moved m n t f moves h.own;
+  others = λ u l ne. subst (λ o. IsSomeAnd o (IsAsFar plan r u)) (sym (other_moved m n t f moves u ne)) (h.others u l ne);
+  room = same_room m n plan same h.room;
+  keys = same_keys m n plan same h.keys;
 }
 
--- 4. A turn under way
+-- 5. A turn under way
 
 -- A machine in the midst of the thread's turn: it represents the state, and the list's steps are still to make.
 pub record IsTurning (plan : Plan) (r : Run) (t : ℕ) (m : Machine) (s : State) (a : Progress) (rest : List Step) : Type 0 where
   pub shows : Represents (config_of plan) m s
   pub lawful : Lawful (config_of plan) s
   pub may : MayAll (config_of plan) s rest
-  pub aside : IsAside plan r t m a
+  pub aside : IsUnderWay plan r t m a
 
--- the turn is the row, whose steps are to make
+-- the turn is the row, whose steps are to make, and the thread is as far as the run says
 pub record Begins (plan : Plan) (r : Run) (t : ℕ) (m : Machine) (row : Row) : Type 0 where
   pub is : turn_of plan r t ≡ row
-  pub turning : IsTurning plan r t m r.state (progress_in plan r t) row.steps
+  pub at : Progress
+  pub as_far : IsAsFar plan r t at
+  pub turning : IsTurning plan r t m r.state at row.steps
 
 pub begins : {plan : Plan} {m : Machine} {r : Run} {t : ℕ} {row : Row} → IsProper plan → t < length plan.threads → IsRunOf plan m r → turn_of plan r t ≡ row → Begins plan r t m row
-begins {plan} {m} {r} {t} p lt h e = record {
-  is = e;
-  turning = record {
-    shows = h.shows.shows;
-    lawful = h.on_track.lawful.lawful;
-    may = subst (λ (x : Row). MayAll (config_of plan) r.state x.steps) e (may_all plan r t p h.on_track lt);
-    aside = record { own = h.shows.progress t lt; others = λ u l ne. h.shows.progress u l; room = h.shows.room; keys = h.shows.keys };
-  };
-}
+begins {plan} {m} {r} {t} {row} p lt h e =
+    let own = that_is (progress m t) (h.shows.progress t lt) in
+    record {
+      is = e;
+      at = own.0;
+      as_far = own.2;
+      turning = record {
+        shows = h.shows.shows;
+        lawful = h.on_track.lawful.lawful;
+        may = row_may plan r t row p h.on_track lt e;
+        aside = record { own = own.1; others = λ u l ne. h.shows.progress u l; room = h.shows.room; keys = h.shows.keys };
+      };
+    }
 
 module _ {plan : Plan} {r : Run} {t : ℕ} {m : Machine} {s : State} {a : Progress} {rest : List Step} where
   -- what is asked of a method that makes a part of them,
@@ -141,9 +173,9 @@ module _ {plan : Plan} {r : Run} {t : ℕ} {m : Machine} {s : State} {a : Progre
   }
 
   -- all that are left at once
-  pub finished : {n : Machine} → IsTurning plan r t m s a rest → MakesAll m n rest → KeepsProgress m n → KeepsBooks m n → IsTurning plan r t n (after_all (config_of plan) s rest) a []
-  finished {n} h makes kept books = record {
-    shows = makes (config_of plan) s h.shows h.lawful h.may;
+  pub finished : {n : Machine} {premise : Config → Type 0} → IsTurning plan r t m s a rest → premise (config_of plan) → MakesAllWhere premise m n rest → KeepsProgress m n → KeepsBooks m n → IsTurning plan r t n (after_all (config_of plan) s rest) a []
+  finished {n} h so makes kept books = record {
+    shows = makes (config_of plan) s so h.shows h.lawful h.may;
     lawful = all_keep (config_of plan) s rest h.may h.lawful;
     may = tt;
     aside = moved (λ x. x) h.aside (unmoved m n t kept) (of_books books);
@@ -156,64 +188,99 @@ has_room {plan} {r} {t} {m} {op} p lt h at =
     let so_far = ap length h.shows.shows.history ∙ length-reverse r.state.history in
     omega (arith, all, so_far, h.shows.room)
 
--- 5. Behind the last step
-
--- a turn's answer and the run behind it, by its row
-by_row : (plan : Plan) (r : Run) (t : ℕ) {m : Machine} (row : Row) → turn_of plan r t ≡ row → RepresentsRun plan m (run_after plan r t row) → IsTurn plan r t m row.answer
-unfolding run_behind
-by_row plan r t {m} row e h = (sym (ap (λ (x : Row). x.answer) e), subst (λ (x : Row). RepresentsRun plan m (run_after plan r t x)) (sym e) h)
+-- 6. Behind the last step
 
 -- a turn that does nothing
 pub still : (plan : Plan) (r : Run) (t : ℕ) {m : Machine} (answer : Turn) → turn_of plan r t ≡ nothing answer → RepresentsRun plan m r → IsTurn plan r t m answer
-still plan r t answer e h = by_row plan r t (nothing answer) e h
+unfolding run_behind
+still plan r t {m} answer e h = (sym (ap (λ (x : Row). x.answer) e), subst (λ (x : Row). RepresentsRun plan m (run_after plan r t x)) (sym e) h)
 
-module _ {plan : Plan} {r : Run} {t : ℕ} where
-  pub made : {m n : Machine} {steps : List Step} {hs : List Held} (result : Made) → Begins plan r t m (row_of result (r.next_op t) steps)
-      → IsTurning plan r t n (after_all (config_of plan) r.state steps) (record { next_op = r.next_op t; held = hs }) []
-      → hs ≡ held_at plan t (unwrap_or (next_of result (r.next_op t)) (r.next_op t)) → IsMade plan r t n result
-  made {n = n} {steps = steps} result b h held = record {
-    steps = steps;
-    row = b.is;
-    shows = h.shows;
-    aside = subst (λ (xs : List Held). IsAside plan r t n (record { next_op = r.next_op t; held = xs })) held h.aside;
-  }
-
-  -- the operation is still to make,
-  pub stays : {m : Machine} {answer : Turn} → IsMade plan r t m (Does answer) → IsTurn plan r t m answer
-  stays {m} {answer} h = by_row plan r t (row_of (Does answer) (r.next_op t) h.steps) h.row (record {
-    shows = h.shows;
-    progress = λ u l. elim (cases_eq u t) [ inl i ↦ subst (λ v. progress m v ≡ Some (progress_in plan r v)) (sym i) h.aside.own | inr ne ↦ h.aside.others u l ne ];
+-- the row is made, and the thread is as far as the run behind it says, before it goes on
+pub made : {plan : Plan} {r : Run} {t : ℕ} {m n : Machine} {steps : List Step} {a : Progress} (result : Made) → Begins plan r t m (row_of result (r.next_op t) steps)
+    → IsTurning plan r t n (after_all (config_of plan) r.state steps) a [] → IsBehind plan r (run_after plan r t (row_of result (r.next_op t) steps)) t a → IsMade plan r t n result
+unfolding run_behind
+made {plan} {r} {t} {n = n} {steps = steps} {a = a} result b h far = record {
+  steps = steps;
+  row = b.is;
+  shows = h.shows;
+  aside = record {
+    own = is_such (IsBehind plan r (run_behind plan r t) t) a h.aside.own (subst (λ (x : Row). IsBehind plan r (run_after plan r t x) t a) (sym b.is) far);
+    others = h.aside.others;
     room = h.aside.room;
     keys = h.aside.keys;
-  })
+  };
+}
 
-  -- or the thread goes on at another
-  pub went_on : {m n : Machine} {ops : List Op} (result : Made) (k : ℕ) → IsMade plan r t m result → next_of result (r.next_op t) ≡ Some k → ops ≡ operations_of plan t → GoesOn m n t ops k → IsTurn plan r t n (answer_of result)
-  went_on {m} {n} result k h next same given = by_row plan r t (record { answer = answer_of result; steps = h.steps; next = Some k }) (h.row ∙ ap (λ (o : Option ℕ). record { answer = answer_of result; steps = h.steps; next = o }) next) (record {
-    shows = given.shows (config_of plan) (after_all (config_of plan) r.state h.steps) h.shows;
-    progress = λ u l. elim (cases_eq u t) [
-      | inl i ↦ subst (λ v. progress n v ≡ Some (record { next_op = behind v; held = held_at plan v (behind v) })) (sym i) (rw (put_same r.next_op t further) own)
-      | inr ne ↦ rw (put_other r.next_op t further u (λ z. ne (sym z))) (aside.others u l ne)
-    ];
-    room = aside.room;
-    keys = aside.keys;
-  })
-    where
-      g : GoesOn m n t (operations_of plan t) k
-      g = subst (λ (os : List Op). GoesOn m n t os k) same given
+-- a row that leaves the operation to make, and what says how far the thread is,
+pub made_still : {plan : Plan} {r : Run} {t : ℕ} {m n : Machine} {steps : List Step} {answer : Turn} (b : Begins plan r t m (row_of (Does answer) (r.next_op t) steps))
+    → IsTurning plan r t n (after_all (config_of plan) r.state steps) b.at [] → (after_all (config_of plan) r.state steps).held t ≡ r.state.held t
+    → (after_all (config_of plan) r.state steps).log t ≡ r.state.log t → IsMade plan r t n (Does answer)
+made_still {answer = answer} b h held log = made (Does answer) b h (behind_still (record { next_op = refl; held = held; waits = rw log refl }) b.as_far)
 
-      further : ℕ
-      further = next_at (operations_of plan t) k
+-- and one that ends it, where the thread holds what it is to go on with
+pub made_behind : {plan : Plan} {r : Run} {t : ℕ} {m n : Machine} {steps : List Step} {a : Progress} (result : Made) (k : ℕ) → next_of result (r.next_op t) ≡ Some k
+    → Begins plan r t m (row_of result (r.next_op t) steps) → IsTurning plan r t n (after_all (config_of plan) r.state steps) a [] → waits_on ((after_all (config_of plan) r.state steps).log t) ≡ None
+    → a.next_op ≡ r.next_op t → a.held ≡ held_at plan t k → IsMade plan r t n result
+made_behind {plan} {r} {t} {a = a} result k next b h none same held =
+    made result b h (behind_made none same (held ∙ sym (next_holds (operations_of plan t) k)
+    ∙ ap (held_at plan t) (sym (ap (λ (o : Option ℕ). next_ops (operations_of plan t) r.next_op t o t) next ∙ put_same r.next_op t (next_at (operations_of plan t) k)))))
 
-      behind : ℕ → ℕ
-      behind = put r.next_op t further
+module _ (plan : Plan) (r : Run) (t : ℕ) (m : Machine) (result : Made) (h : IsMade plan r t m result) where
+  abbrev n : Run
+  n = run_behind plan r t
 
-      aside : IsAside plan r t n (record { next_op = further; held = held_at plan t (unwrap_or (next_of result (r.next_op t)) (r.next_op t)) })
-      aside = moved (λ x. record x { next_op = further }) h.aside g.progress (of_books g.books)
+  abbrev ops : List Op
+  ops = operations_of plan t
 
-      -- what is held where it goes on is what it was to go on with
-      own : progress n t ≡ Some (record { next_op = further; held = held_at plan t further })
-      own = aside.own ∙ ap (λ (hs : List Held). Some (record { next_op = further; held = hs })) (ap (λ (o : Option ℕ). held_at plan t (unwrap_or o (r.next_op t))) next ∙ sym (next_holds (operations_of plan t) k))
+  -- the next operation of the thread behind the row
+  next_behind : n.next_op t ≡ next_ops ops r.next_op t (next_of result (r.next_op t)) t
+  unfolding run_behind
+  next_behind = ap (λ (x : Row). next_ops ops r.next_op t x.next t) h.row
+
+  -- what represents the state behind it
+  shown : (w : Machine) → Represents (config_of plan) w (after_all (config_of plan) r.state h.steps) → Represents (config_of plan) w n.state
+  unfolding run_behind
+  shown w x = subst (λ (row : Row). Represents (config_of plan) w (after_all (config_of plan) r.state row.steps)) (sym h.row) x
+
+  -- the other threads are as far as the run behind it says
+  others : (u : ℕ) → u < length plan.threads → u ≢ t → IsSomeAnd (progress m u) (IsAsFar plan n u)
+  others u l ne = so_is (progress m u) (λ a. still_as_far (others_still plan r t u ne)) (h.aside.others u l ne)
+
+  -- the answer, and the run behind the turn, where the thread is as far as that says
+  turned_to : (w : Machine) → Represents (config_of plan) w (after_all (config_of plan) r.state h.steps) → IsSomeAnd (progress w t) (IsAsFar plan n t)
+      → ((u : ℕ) → u ≢ t → progress w u ≡ progress m u) → SameRoom m w → IsTurn plan r t w (answer_of result)
+  turned_to w shows own same books = (
+    sym (ap (λ (x : Row). x.answer) h.row),
+    record {
+      shows = shown w shows;
+      progress = λ u l. elim (cases_eq u t) [
+        | inl i ↦ subst (λ v. IsSomeAnd (progress w v) (IsAsFar plan n v)) (sym i) own
+        | inr ne ↦ subst (λ o. IsSomeAnd o (IsAsFar plan n u)) (sym (same u ne)) (others u l ne)
+      ];
+      room = same_room m w plan books h.aside.room;
+      keys = same_keys m w plan books h.aside.keys;
+    },
+  )
+
+  -- where it goes on at another operation
+  goes_further : (w : Machine) (k : ℕ) → next_of result (r.next_op t) ≡ Some k → GoesOn m w t ops k → IsTurn plan r t w (answer_of result)
+  goes_further w k next g =
+      let its = that_is (progress m t) h.aside.own in
+      let there : n.next_op t ≡ next_at ops k = next_behind ∙ ap (λ (o : Option ℕ). next_ops ops r.next_op t o t) next ∙ put_same r.next_op t (next_at ops k) in
+      turned_to w (g.shows (config_of plan) (after_all (config_of plan) r.state h.steps) h.shows)
+      (is_such (IsAsFar plan n t) (record its.0 { next_op = next_at ops k }) (own_moved m w t (λ a. record a { next_op = next_at ops k }) g.progress its.1) (subst (λ (i : ℕ). IsAsFar plan n t (record its.0 { next_op = i })) there its.2.as_far))
+      (other_moved m w t (λ a. record a { next_op = next_at ops k }) g.progress) (of_books g.books)
+
+-- the operation is still to make,
+pub stays : {plan : Plan} {r : Run} {t : ℕ} {m : Machine} {answer : Turn} → IsMade plan r t m (Does answer) → IsTurn plan r t m answer
+stays {plan} {r} {t} {m} {answer} h = turned_to plan r t m (Does answer) h m h.shows
+    (so_is (progress m t) (λ a b. record { next_op = b.next_op ∙ sym (next_behind plan r t m (Does answer) h); held = b.as_far.held; left = b.as_far.left }) h.aside.own)
+    (λ u ne. refl) (record { room = refl; places = refl })
+
+-- or the thread goes on at another
+pub went_on : {plan : Plan} {r : Run} {t : ℕ} {m n : Machine} {ops : List Op} (result : Made) (k : ℕ) → IsMade plan r t m result → next_of result (r.next_op t) ≡ Some k → ops ≡ operations_of plan t → GoesOn m n t ops k
+    → IsTurn plan r t n (answer_of result)
+went_on {plan} {r} {t} {m} {n} result k h next same given = goes_further plan r t m result h n k next (subst (λ (os : List Op). GoesOn m n t os k) same given)
 
 -- where it goes on it has no more operations behind it than it has
 pub within : {plan : Plan} {r : Run} {t : ℕ} {m n : Machine} (result : Made) (k : ℕ) → IsProper plan → IsRunOf plan m r → t < length plan.threads → IsMade plan r t n result → next_of result (r.next_op t) ≡ Some k → k ≤ length (operations_of plan t)
@@ -223,7 +290,8 @@ within {plan} {r} {t} result k p h lt its next =
     let there : (run_behind plan r t).next_op t ≡ next_at ops k = ap (λ (x : Row). next_ops ops r.next_op t x.next t) its.row ∙ ap (λ (o : Option ℕ). next_ops ops r.next_op t o t) next ∙ put_same r.next_op t (next_at ops k) in
     omega (arith, (turned plan r t p h.on_track lt).within t, there)
 
--- 6. A turn of one step, behind which the operation is still to make
+-- 7. A turn of one step, behind which the operation is still to make
 
-pub one_made : {plan : Plan} {r : Run} {t : ℕ} {m n : Machine} {kind : StepKind} {step : Step} → Begins plan r t m (does kind (step ∷ [])) → Makes m n step → KeepsProgress m n → KeepsBooks m n → IsTurn plan r t n (Did kind)
-one_made {kind = kind} b makes kept books = stays (made (Does (Did kind)) b (goes b.turning (of_step makes kept books)) refl)
+pub one_made : {plan : Plan} {r : Run} {t : ℕ} {m n : Machine} {kind : StepKind} {step : Step} → Begins plan r t m (does kind (step ∷ [])) → StepMade (config_of plan) m n t step (λ a. a)
+    → (after (config_of plan) r.state step).held t ≡ r.state.held t → (after (config_of plan) r.state step).log t ≡ r.state.log t → IsTurn plan r t n (Did kind)
+one_made b step held log = stays (made_still b (goes b.turning step) held log)

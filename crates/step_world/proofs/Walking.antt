@@ -4,25 +4,25 @@ use Rattle.std.specs.Prelude.{◌==◌, not, ◌&&◌}
 use Rattle.std.specs.Box.{with_value}
 use Rattle.std.specs.Vec.{with_item}
 use Rattle.lock_model.specs.Config.{Config}
-use Rattle.lock_model.specs.Queues.{lock_queue, names_turnstile, least_of}
+use Rattle.lock_model.specs.Queues.{lock_queue, names_turnstile, least_of, with_kept}
 use Rattle.lock_model.specs.declared.plan.QueueName.{QueueName}
 use Rattle.lock_state.specs.State.{State, Loan, put}
 use Rattle.lock_state.specs.Facts.{Lawful}
 use Rattle.lock_state.specs.Steps.LockWords.{effective_of}
 use Rattle.lock_state.specs.Steps.Turnstiles.{walk_up}
 use Rattle.lock_state.specs.Steps.Lending.{MayLend, after_lend, MayShift, after_shift, loan_of, walk_to}
-use Rattle.lock_laws.proofs.Kit.{put_other, put_at_other}
+use Rattle.lock_laws.proofs.Kit.{put_other, put_at_other, put_queue_other}
 use Rattle.lock_laws.proofs.HeadsAndNodes.{owner_thread}
 use Rattle.lock_laws.proofs.Standing.{standing_thread}
 use Rattle.turnstile_core.specs.Seen.{Turnstile}
 use Rattle.thread_records.specs.Records.{Record}
 use Rattle.prio_lending.specs.declared.walk.Walk.{Walk}
-use Rattle.lock_objects.specs.Represents.{RepresentsQueues, RepresentsRecord, queue_in, record_in, walk_of}
+use Rattle.lock_objects.specs.Represents.{RepresentsQueues, RepresentsRecord, queue_in, sleepers_in, record_in, walk_of}
 use Rattle.step_world.specs.declared.machine.Machine.{Machine}
 use Rattle.step_world.specs.declared.thread.Thread.{Thread}
 use Rattle.step_world.specs.Represents.{Represents, RepresentsThreads, thread_in}
 use Rattle.step_world.specs.Steps.{KeepsProgress}
-use Rattle.step_world.proofs.Kit.{OthersStay, thread_changed, read, aside_stays}
+use Rattle.step_world.proofs.Kit.{OthersStay, thread_changed, read, aside_stays, shown_by, sleepers_beside}
 
 -- the thread with another record in its box, and with another walk
 abbrev pub with_record : Thread → Record → Thread
@@ -64,7 +64,7 @@ module _ {m : Machine} {c : Config} {s : State} {t l o h : ℕ} (shown : Represe
     unfolding after_lend
     first_changed =
         let old = shown.threads.thread o th at in
-        thread_changed lent (with_record th r) shown.threads is_owner (record { columns = λ i. record (old.columns i) { its_record = rec.columns i }; one_loan_each = rec.one_loan_each; held = old.held; marked = old.marked; woken = old.woken }) not_lent
+        thread_changed lent (with_record th r) shown.threads is_owner (record { columns = λ i. record (old.columns i) { its_record = rec.columns i }; one_loan_each = rec.one_loan_each; held = old.held; marked = old.marked }) not_lent
 
     -- the walking thread, which may be the owner, is read behind the first change
     pub read_behind : (i j : ℕ) (w : Thread) → j ≡ o → i ≡ t → w ≡ get_or (slice_set m.threads.items j (with_record th r)) i w → slice_get (slice_set m.threads.items o (with_record th r)) t ≡ Some w
@@ -75,14 +75,8 @@ module _ {m : Machine} {c : Config} {s : State} {t l o h : ℕ} (shown : Represe
     unfolding after_lend
     lend_shown {w = w} walk behind queues goes =
         let old = first_changed.thread t w behind in
-        record {
-          within = shown.within;
-          words = shown.words;
-          queues = queues;
-          threads = thread_changed n (with_walk w walk) first_changed g.thread (record { columns = λ i. record (old.columns i) { walk = goes i }; one_loan_each = old.one_loan_each; held = old.held; marked = old.marked; woken = old.woken }) not_walking;
-          history = shown.history;
-          tables = shown.tables;
-        }
+        shown_by n shown refl shown.words queues shown.sleepers
+        (thread_changed n (with_walk w walk) first_changed g.thread (record { columns = λ i. record (old.columns i) { walk = goes i }; one_loan_each = old.one_loan_each; held = old.held; marked = old.marked }) not_walking)
 
 -- what no column tells stays
 pub asides_stay : (m : Machine) (t o : ℕ) (th w : Thread) (r : Record) (walk : Walk) (chain : List (QueueName × Turnstile)) → slice_get m.threads.items o ≡ Some th
@@ -107,11 +101,6 @@ module _ {m : Machine} {c : Config} {s : State} {t o l : ℕ} (shown : Represent
   unfolding after_shift
   shift_shown {w = w} walk at queues goes =
       let old = shown.threads.thread t w at in
-      record {
-        within = shown.within;
-        words = shown.words;
-        queues = queues;
-        threads = thread_changed (after_shift s t o l) (with_walk w walk) shown.threads g.thread (record { columns = λ i. record (old.columns i) { walk = goes i }; one_loan_each = old.one_loan_each; held = old.held; marked = old.marked; woken = old.woken }) others;
-        history = shown.history;
-        tables = shown.tables;
-      }
+      shown_by (after_shift s t o l) shown refl shown.words queues
+      (sleepers_beside s (after_shift s t o l) l g.turnstile (λ q e i. record (sleepers_in s q) { lists = put_queue_other s.lists (lock_queue l) (with_kept o (s.effective o) (s.lists (lock_queue l))) q e i }) shown.sleepers)
+      (thread_changed (after_shift s t o l) (with_walk w walk) shown.threads g.thread (record { columns = λ i. record (old.columns i) { walk = goes i }; one_loan_each = old.one_loan_each; held = old.held; marked = old.marked }) others)

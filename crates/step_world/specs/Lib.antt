@@ -1,6 +1,6 @@
 pub mod Represents
 pub mod Threads
-pub mod Bases
+pub mod Noted
 pub mod Steps
 pub mod Runs
 pub mod Worlds

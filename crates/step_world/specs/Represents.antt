@@ -1,24 +1,25 @@
 -- Which state of `lock_state` the objects of a machine show. Columns of which the objects do not tell, as looks and
 -- counts, are free: the scheduled run makes nothing of them.
-use Rattle.std.specs.Prelude.{◌≡◌, ◌≢◌, ℕ, ◌≤◌, ◌<◌, true, List, [], ⊤, length, reverse, map, slice_get, get_or, option_map, Option, Some, IsSome}
+use Rattle.std.specs.Prelude.{◌≡◌, ℕ, ◌≤◌, ◌<◌, List, length, reverse, map, slice_get, get_or, option_map, Option, Some, IsSome}
 use Rattle.std.specs.List.{All}
 use Rattle.std.specs.Global.{Vec}
 use Rattle.std.specs.Vec.{vec_capacity}
-use Rattle.lock_model.specs.Words.{Word, word_of, is_turnstile}
+use Rattle.lock_model.specs.Words.{Word, word_of}
 use Rattle.lock_state.specs.State as state
 use Rattle.lock_model.specs.Config.{Config}
 use Rattle.lock_state.specs.State.{State}
 use Rattle.lock_model.specs.Holds.{Hold}
+use Rattle.lock_state.specs.Run.{waits_on}
 use Rattle.lock_model.specs.Queues.{Mark, BySignal}
 use Rattle.lock_model.specs.History.{tables_of}
 use Rattle.lock_model.specs.Operations.{hold_in}
 use Rattle.lock_model.specs.declared.event.Held.{Held}
 use Rattle.lock_model.specs.declared.plan.QueueName.{QueueName}
-use Rattle.lock_model.specs.declared.plan.QueueName.TheVariants.{Lock, Chan}
-use Rattle.turnstile_core.specs.Seen.{Place}
 use Rattle.thread_records.specs.Loans.{loans_for}
 use Rattle.lock_objects.specs.Held.{holds_of}
-use Rattle.lock_objects.specs.Represents.{RecordColumns, RepresentsQueues, queue_in, record_in, columns_of, mark_of, walk_of}
+use Rattle.lock_objects.specs.Marked.{places_of, AreOfKind}
+use Rattle.lock_objects.specs.declared.marked.Marked.{Marked}
+use Rattle.lock_objects.specs.Represents.{RecordColumns, RepresentsQueues, RepresentsSleepers, queue_in, sleepers_in, record_in, columns_of, mark_of, walk_of}
 use Rattle.step_world.specs.declared.thread.Thread.{Thread}
 use Rattle.step_world.specs.declared.thread.Wait as waits
 use Rattle.step_world.specs.declared.thread.Wait.TheVariants as wait
@@ -39,14 +40,14 @@ wait_of wait.Running = state.Running
 wait_of wait.Queued = state.Queued
 wait_of (wait.Woken q) = state.Woken q BySignal
 
--- what the columns say of a thread
+-- what the columns say of a thread, and on which channel it waits by its log
 pub record ThreadColumns : Type 0 where
   pub its_record : RecordColumns
   pub wait : state.Wait
   pub walk : state.Walk
-  pub wanted : Option ℕ
   pub held : ℕ → Hold
   pub marked : List Mark
+  pub chan : Option ℕ
 
 -- those of a state
 abbrev pub thread_in : State → ℕ → ThreadColumns
@@ -54,9 +55,9 @@ thread_in s t = record {
   its_record = record_in s t;
   wait = s.wait t;
   walk = s.walk t;
-  wanted = s.wanted t;
   held = s.held t;
   marked = s.marked t;
+  chan = waits_on (s.log t);
 }
 
 -- what a thread's objects say
@@ -65,56 +66,46 @@ thread_of th = record {
   its_record = columns_of th.record.value;
   wait = wait_of th.wait;
   walk = walk_of th.walk;
-  wanted = option_map (λ l. l.0) th.wanted;
   held = hold_in th.held.items;
-  marked = map (mark_of th.marked_from) th.marked;
+  marked = map (mark_of th.marked_from) (places_of th.marked);
+  chan = option_map (λ d. d.0) th.waits_on;
 }
-
--- a queue is a lock's. Until condition variables come, no thread is taken off another
-abbrev pub IsOfLock : QueueName → Type 0
-IsOfLock (Lock l) = ⊤
-IsOfLock (Chan d) = ⊥
-
-abbrev pub IsOffLock : waits.Wait → Type 0
-IsOffLock wait.Running = ⊤
-IsOffLock wait.Queued = ⊤
-IsOffLock (wait.Woken q) = IsOfLock q
 
 -- no lock is held twice, and there is room for as many as a thread may hold
 pub record HoldsEachOnce (held : Vec Held) : Type 0 where
   pub once : (l : ℕ) → holds_of l held.items ≤ 1
   pub room : 8 ≤ vec_capacity held
 
--- each waiter that was taken off has the turnstile that it takes back
-pub record AreFilled (marked : List Place) (q : QueueName) : Type 0 where
-  pub filled : All (λ p. IsSome p.object) marked
-  pub off : marked ≢ [] → IsOfLock q
+-- each of those that were taken off has the object that it takes back
+pub record AreFilled (c : Config) (marked : Marked) (q : QueueName) : Type 0 where
+  pub filled : All (λ p. IsSome p.object) (places_of marked)
+  pub kind : AreOfKind c marked q
 
 -- the objects of a thread say of it what the columns say
-pub record RepresentsThread (th : Thread) (s : State) (t : ℕ) : Type 0 where
+pub record RepresentsThread (th : Thread) (c : Config) (s : State) (t : ℕ) : Type 0 where
   pub columns : thread_of th ≡ thread_in s t
   pub one_loan_each : (l : ℕ) → loans_for l th.record.value.loans ≤ 1
   pub held : HoldsEachOnce th.held
-  pub marked : AreFilled th.marked th.marked_from
-  pub woken : IsOffLock th.wait
+  pub marked : AreFilled c th.marked th.marked_from
 
 -- so those of each thread of the plan
 pub record RepresentsThreads (ths : List Thread) (c : Config) (s : State) : Type 0 where
   pub threads : length ths ≡ c.threads
-  pub thread : (t : ℕ) (th : Thread) → slice_get ths t ≡ Some th → RepresentsThread th s t
+  pub thread : (t : ℕ) (th : Thread) → slice_get ths t ≡ Some th → RepresentsThread th c s t
 
 -- 3. The machine
 
--- what bounds the numbers of a run, and what holds of each plan until sx locks come
+-- what bounds the numbers of a run
 pub record IsWithin (c : Config) : Type 0 where
   pub few_locks : c.locks ≤ 64
   pub few_threads : c.threads ≤ 32
-  pub turnstiles : (l : ℕ) → is_turnstile (c.kind l) ≡ true
+  pub few_channels : c.chans ≤ 64
 
 pub record Represents (c : Config) (m : Machine) (s : State) : Type 0 where
   pub within : IsWithin c
   pub words : RepresentsWords m.words.items c s.word
   pub queues : RepresentsQueues c m.chain (queue_in s) s.loan_home
+  pub sleepers : RepresentsSleepers c m.sleepers (sleepers_in s)
   pub threads : RepresentsThreads m.threads.items c s
   pub history : m.log.entries ≡ reverse s.history
   pub tables : m.tables.present ≡ tables_of s.history

@@ -1,15 +1,23 @@
 -- Which run of a plan a machine represents, and that a turn of the machine is the turn of the table.
-use Rattle.std.specs.Prelude.{◌≡◌, ◌≢◌, ◌⊎◌, ℕ, suc, ◌+◌, ◌<◌, Bool, false, List, [], ◌∷◌, ◌++◌, length, slice_get, unwrap_or, is_some, Option, Some, None, IsTrue}
+use Rattle.std.specs.Prelude.{◌≡◌, ◌≢◌, ◌⊎◌, ℕ, suc, ◌+◌, ◌*◌, ◌<◌, Bool, true, false, List, [], ◌∷◌, ◌++◌, length, slice_get, is_some, Option, Some, None, IsSomeAnd, IsTrue}
 use Rattle.std.specs.List.{Contains}
-use Rattle.lock_model.specs.Plans.{config_of, operations_of}
+use Rattle.lock_model.specs.Plans.{config_of, operations_of, lock_kind}
+use Rattle.lock_model.specs.Config.{Config}
+use Rattle.lock_model.specs.Holds.{NotHeld, Holds}
+use Rattle.lock_model.specs.Words.{is_turnstile}
 use Rattle.lock_model.specs.Keys.{plan_names}
-use Rattle.lock_model.specs.Operations.{held_of, operations_in_all}
+use Rattle.lock_model.specs.Operations.{held_of, hold_in, operations_in_all}
 use Rattle.lock_model.specs.Limits.{most_held}
-use Rattle.lock_state.specs.Steps.{Step, after_all}
-use Rattle.lock_state.specs.Run.{Run, Row, has_ended, turn_of, run_behind, operates, notes, gains}
-use Rattle.lock_state.specs.State.{State}
+use Rattle.lock_state.specs.Facts.{Lawful}
+use Rattle.lock_state.specs.Steps.{Step, May, after, after_all}
+use Rattle.lock_state.specs.Run.{Run, Row, has_ended, turn_of, run_behind, operates, notes, gains, takes, gives_back, lock_of_wait}
+use Rattle.lock_state.specs.State.{State, NoWalk}
 use Rattle.lock_model.specs.Queues.{lock_queue, stands}
 use Rattle.lock_model.specs.declared.plan.Op.{Op}
+use Rattle.lock_model.specs.declared.plan.Op.TheVariants.{WakeOne, WakeAll}
+use Rattle.lock_model.specs.declared.plan.Kind.TheVariants.{Mtx}
+use Rattle.lock_model.specs.declared.plan.Mode.TheVariants.{Excl}
+use Rattle.lock_model.specs.declared.numbers.ChanNo.{ChanNo}
 use Rattle.lock_model.specs.declared.numbers.LockNo.{LockNo}
 use Rattle.lock_model.specs.declared.plan.Mode.{Mode}
 use Rattle.lock_model.specs.declared.event.Event.{Event}
@@ -17,8 +25,9 @@ use Rattle.lock_model.specs.declared.event.Held.{Held}
 use Rattle.lock_model.specs.declared.plan.Plan.{Plan}
 use Rattle.lock_model.specs.declared.turn.Turn.{Turn}
 use Rattle.lock_model.specs.declared.turn.Turn.TheVariants.{Did, Idle, Ended}
+use Rattle.lock_model.specs.declared.turn.StepKind.{StepKind}
 use Rattle.lock_model.specs.declared.turn.StepKind.TheVariants.{Note}
-use Rattle.lock_laws.specs.OnTrack.{IsOnTrack, OwesNothing, IsAtOperation}
+use Rattle.lock_laws.specs.OnTrack.{IsOnTrack, OwesNothing, IsAtOperation, held_now, held_before}
 use Rattle.step_world.specs.declared.machine.Machine.{Machine}
 use Rattle.lock_model.specs.declared.plan.ThreadDecl.{ThreadDecl}
 use Rattle.step_world.specs.declared.thread.Thread.{Thread}
@@ -32,16 +41,17 @@ use Rattle.step_world.specs.Steps.{Progress, progress}
 abbrev pub held_at : Plan → ℕ → ℕ → List Held
 held_at plan t n = held_of (operations_of plan t) n
 
--- a thread's next operation in a run, and what its operations so far have led to
-abbrev pub progress_in : Plan → Run → ℕ → Progress
-progress_in plan r t = record {
-  next_op = r.next_op t;
-  held = held_at plan t (r.next_op t);
-}
+-- A thread is as far as the run says: it comes to its next operation, and holds what its operations so far and the wait
+-- that it is in lead to. Where it has released the lock of its wait, that is the lock that it released last.
+pub record IsAsFar (plan : Plan) (r : Run) (t : ℕ) (a : Progress) : Type 0 where
+  pub next_op : a.next_op ≡ r.next_op t
+  pub held : a.held ≡ held_now plan r t
+  pub left : (l : ℕ) → lock_of_wait (config_of plan) r.state t ≡ Some l
+      → r.state.held t l ≡ NotHeld → hold_in (held_before plan r t) l ≡ Holds a.left
 
--- there is room for an entry of each operation,
+-- there is room for two entries of each operation,
 abbrev pub HasRoom : Plan → Machine → Type 0
-HasRoom plan m = length m.log.entries + m.log.spare ≡ operations_in_all plan
+HasRoom plan m = length m.log.entries + m.log.spare ≡ 2 * operations_in_all plan
 
 -- and for each key that the plan names
 abbrev pub HasKeys : Plan → Machine → Type 0
@@ -51,7 +61,7 @@ HasKeys plan m = (l key : ℕ) → IsTrue (plan_names plan l key) → Contains m
 -- there is room.
 pub record RepresentsRun (plan : Plan) (m : Machine) (r : Run) : Type 0 where
   pub shows : Represents (config_of plan) m r.state
-  pub progress : (t : ℕ) → t < length plan.threads → progress m t ≡ Some (progress_in plan r t)
+  pub progress : (t : ℕ) → t < length plan.threads → IsSomeAnd (progress m t) (IsAsFar plan r t)
   pub room : HasRoom plan m
   pub keys : HasKeys plan m
 
@@ -80,18 +90,25 @@ Follows plan t old new answer premise = (r : Run) → IsRunOf plan old r → pre
 abbrev pub KeepsWhereIdle : Turn → Machine → Machine → Type 0
 KeepsWhereIdle answer old new = (answer ≡ Idle) ⊎ (answer ≡ Ended) → new ≡ old
 
+-- a thread that hasn't ended has neither a walk nor a marked list
+pub record IsDoneWaking (plan : Plan) (r : Run) (t : ℕ) : Type 0 where
+  pub going : has_ended plan r t ≡ false
+  pub no_walk : r.state.walk t ≡ NoWalk
+  pub unmarked : r.state.marked t ≡ []
+
 -- a thread that hasn't ended owes nothing
 pub record IsFree (plan : Plan) (r : Run) (t : ℕ) : Type 0 where
   pub going : has_ended plan r t ≡ false
-  pub owes : OwesNothing r t
+  pub owes : OwesNothing plan r t
 
 -- a thread stands on the turnstile of no lock
-abbrev pub IsNowhere : State → ℕ → Type 0
-IsNowhere s o = (l : ℕ) → s.blocked_on o ≡ Some (lock_queue l)
-    → stands o (s.lists (lock_queue l)) ≡ 0
+abbrev pub IsNowhere : Config → State → ℕ → Type 0
+IsNowhere c s o = (l : ℕ) → is_turnstile (c.kind l) ≡ true
+    → s.blocked_on o ≡ Some (lock_queue l) → stands o (s.lists (lock_queue l)) ≡ 0
 
 -- it stands on that of the lock, which has an owner or has none
-pub record StandsAt (s : State) (o l : ℕ) (owned : Bool) : Type 0 where
+pub record StandsAt (c : Config) (s : State) (o l : ℕ) (owned : Bool) : Type 0 where
+  pub turnstile : is_turnstile (c.kind l) ≡ true
   pub blocked_on : s.blocked_on o ≡ Some (lock_queue l)
   pub stands : 0 < stands o (s.lists (lock_queue l))
   pub owner : owned ≡ is_some (s.owner (lock_queue l))
@@ -115,11 +132,16 @@ abbrev pub row_of : Made → ℕ → List Step → Row
 row_of made n steps =
     record { answer = answer_of made; steps = steps; next = next_of made n }
 
--- what no column tells of the run, but for the thread, which has made the progress
-pub record IsAside (plan : Plan) (r : Run) (t : ℕ) (m : Machine) (a : Progress) : Type 0 where
-  pub own : progress m t ≡ Some a
+-- a thread is as far as the run n says, but for its next operation, which is still that of r
+pub record IsBehind (plan : Plan) (r n : Run) (t : ℕ) (a : Progress) : Type 0 where
+  pub next_op : a.next_op ≡ r.next_op t
+  pub as_far : IsAsFar plan n t (record a { next_op = n.next_op t })
+
+-- what no column tells of the run n, which r becomes by a turn of the thread, before that goes on
+pub record IsAside (plan : Plan) (r n : Run) (t : ℕ) (m : Machine) : Type 0 where
+  pub own : IsSomeAnd (progress m t) (IsBehind plan r n t)
   pub others : (u : ℕ) → u < length plan.threads → u ≢ t
-      → progress m u ≡ Some (progress_in plan r u)
+      → IsSomeAnd (progress m u) (IsAsFar plan r u)
   pub room : HasRoom plan m
   pub keys : HasKeys plan m
 
@@ -128,10 +150,7 @@ pub record IsMade (plan : Plan) (r : Run) (t : ℕ) (m : Machine) (made : Made) 
   pub steps : List Step
   pub row : turn_of plan r t ≡ row_of made (r.next_op t) steps
   pub shows : Represents (config_of plan) m (after_all (config_of plan) r.state steps)
-  pub aside : IsAside plan r t m (record {
-    next_op = r.next_op t;
-    held = held_at plan t (unwrap_or (next_of made (r.next_op t)) (r.next_op t));
-  })
+  pub aside : IsAside plan r (run_behind plan r t) t m
 
 -- so from whatever run it was of which something holds
 abbrev pub MakesRow : Plan → ℕ → Machine → Machine → Made → (Run → Type 0) → Type 0
@@ -143,7 +162,7 @@ pub record IsNote (plan : Plan) (r : Run) (t : ℕ) (event : Event) : Type 0 whe
   pub op : Op
   pub at : IsAtOperation plan r t (Some op)
   pub noted : operates (config_of plan) r t (Some op) ≡ notes r t event
-  pub holds_on : held_at plan t (r.next_op t) ≡ held_at plan t (suc (r.next_op t))
+  pub holds_on : held_now plan r t ≡ held_at plan t (suc (r.next_op t))
 
 -- it is one that gains the lock in the mode, and makes an entry with the event
 pub record IsGain (plan : Plan) (r : Run) (t : ℕ) (l : LockNo) (mode : Mode) (by_try : Bool)
@@ -153,9 +172,54 @@ pub record IsGain (plan : Plan) (r : Run) (t : ℕ) (l : LockNo) (mode : Mode) (
   pub gained : operates (config_of plan) r t (Some op)
       ≡ gains (config_of plan) r t l mode by_try event
   pub lock : l.0 < length plan.locks
-  pub few : length (held_at plan t (r.next_op t)) < most_held
-  pub holds_more : held_at plan t (r.next_op t)
+  pub few : length (held_now plan r t) < most_held
+  pub holds_more : held_now plan r t
       ++ (record { l = l; mode = mode; by_try = by_try }) ∷ [] ≡ held_at plan t (suc (r.next_op t))
+
+-- it is one that takes the lock in the mode, or a wait that takes it back, with that event
+pub record IsTake (plan : Plan) (r : Run) (t : ℕ) (l : LockNo) (mode : Mode) (event : Event) : Type 0
+  where
+    pub op : Op
+    pub at : IsAtOperation plan r t (Some op)
+    pub taken : operates (config_of plan) r t (Some op)
+        ≡ takes (config_of plan) r t l mode event
+    pub lock : l.0 < length plan.locks
+    pub kind : lock_kind plan l.0 ≡ Mtx → mode ≡ Excl
+    pub few : length (held_now plan r t) < most_held
+    pub holds_more : held_now plan r t
+        ++ (record { l = l; mode = mode; by_try = false }) ∷ []
+        ≡ held_at plan t (suc (r.next_op t))
+
+-- it is one that wakes sleepers of the channel, the best or all
+abbrev pub wake_op : ChanNo → Bool → Op
+wake_op c true = WakeAll c
+wake_op c false = WakeOne c
+
+abbrev pub IsWake : Plan → Run → ℕ → ChanNo → Bool → Type 0
+IsWake plan r t c all = IsAtOperation plan r t (Some (wake_op c all))
+
+-- 3. Giving a lock back
+
+-- the answer and the step by which a thread gives a lock back that it holds in the mode
+abbrev pub back_in : Config → State → ℕ → ℕ → Mode → StepKind × Step
+back_in c s t l mode = gives_back c (record { state = s; next_op = λ u. 0 }) t l mode
+
+-- it may do so
+abbrev pub MayGiveBack : Config → State → ℕ → ℕ → Mode → Type 0
+MayGiveBack c s t l mode = May c s (back_in c s t l mode).1
+
+-- some lawful state that the machine represents, of which something holds
+abbrev pub HasState : Plan → Machine → (State → Type 0) → Type 0
+HasState plan m premise =
+    (s : State) × Represents (config_of plan) m s × Lawful (config_of plan) s × premise s
+
+-- whatever lawful state the machine represented, it represents the state behind that step, and this is the answer
+abbrev pub GivesBack : Plan → Machine → Machine → ℕ → ℕ → StepKind → Type 0
+GivesBack plan old new t l kind = (s : State) (mode : Mode) → Represents (config_of plan) old s
+    → Lawful (config_of plan) s → MayGiveBack (config_of plan) s t l mode
+    → (kind ≡ (back_in (config_of plan) s t l mode).0)
+    × Represents (config_of plan) new
+    (after (config_of plan) s (back_in (config_of plan) s t l mode).1)
 
 -- threads of a plan at their begin, in order
 pub record AreNew (decls : List ThreadDecl) (ths : List Thread) : Type 0 where

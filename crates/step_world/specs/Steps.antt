@@ -4,7 +4,12 @@ use Rattle.std.specs.Prelude.{◌≡◌, ℕ, ◌<◌, ◌==◌, if◌then◌els
 use Rattle.lock_model.specs.Config.{Config}
 use Rattle.lock_state.specs.State.{State}
 use Rattle.lock_state.specs.Facts.{Lawful}
-use Rattle.lock_state.specs.Steps.{Step, May as MayMake, MayAll, after, after_all}
+use Rattle.lock_model.specs.Holds.{Hold, NotHeld, Holds}
+use Rattle.lock_model.specs.Operations.{hold_in, without_lock}
+use Rattle.lock_model.specs.Words.{is_turnstile}
+use Rattle.lock_state.specs.Steps.{Step, Enters, EntersSleepQueue, Opens, OpensSleepQueue, May as MayMake, MayAll, after, after_all}
+use Rattle.lock_model.specs.declared.plan.Kind.{Kind}
+use Rattle.lock_model.specs.declared.plan.Mode.{Mode}
 use Rattle.lock_model.specs.declared.event.Event.{Event}
 use Rattle.lock_model.specs.declared.event.Held.{Held}
 use Rattle.step_world.specs.declared.thread.Thread.{Thread}
@@ -23,24 +28,36 @@ abbrev pub Makes : Machine → Machine → Step → Type 0
 Makes old new step = (c : Config) (s : State) → Represents c old s → Lawful c s
     → MayMake c s step → Represents c new (after c s step)
 
--- the same of those configurations of which something holds
-abbrev pub MakesWhere : (Config → Type 0) → Machine → Machine → Step → Type 0
-MakesWhere premise old new step = (c : Config) (s : State) → premise c → Represents c old s
+-- the same where something holds of the configuration and the state
+abbrev pub MakesWhere : (Config → State → Type 0) → Machine → Machine → Step → Type 0
+MakesWhere premise old new step = (c : Config) (s : State) → premise c s → Represents c old s
     → Lawful c s → MayMake c s step → Represents c new (after c s step)
 
--- and of steps in a row
-abbrev pub MakesAll : Machine → Machine → List Step → Type 0
-MakesAll old new steps = (c : Config) (s : State) → Represents c old s → Lawful c s
-    → MayAll c s steps → Represents c new (after_all c s steps)
+-- the same of steps in a row, where something holds of the configuration
+abbrev pub MakesAllWhere : (Config → Type 0) → Machine → Machine → List Step → Type 0
+MakesAllWhere premise old new steps = (c : Config) (s : State) → premise c → Represents c old s
+    → Lawful c s → MayAll c s steps → Represents c new (after_all c s steps)
 
--- 2. What no column tells: each thread's next operation, and the list of what it holds in order of acquisition
+-- the step by which a thread goes to stand on the queue of a lock of that kind, with its own object x,
+abbrev pub enters : Kind → ℕ → ℕ → Mode → ℕ → Step
+enters kind t l mode x =
+    if is_turnstile kind then Enters t l mode x else EntersSleepQueue t l mode x
+
+-- and the one by which it opens such a lock
+abbrev pub opens : Kind → ℕ → ℕ → Mode → Step
+opens kind t l mode =
+    if is_turnstile kind then Opens t l mode else OpensSleepQueue t l mode
+
+-- 2. What no column tells: each thread's next operation, the list of what it holds in order of acquisition, and the
+-- mode in which it held the lock that it released last
 
 pub record Progress : Type 0 where
   pub next_op : ℕ
   pub held : List Held
+  pub left : Mode
 
 abbrev pub progress_of : Thread → Progress
-progress_of th = record { next_op = th.next_op; held = th.held.items }
+progress_of th = record { next_op = th.next_op; held = th.held.items; left = th.left }
 
 -- of one thread
 abbrev pub progress : Machine → ℕ → Option Progress
@@ -54,6 +71,18 @@ KeepsProgress old new = (u : ℕ) → progress new u ≡ progress old u
 abbrev pub ChangesProgress : Machine → Machine → ℕ → (Progress → Progress) → Type 0
 ChangesProgress old new t f = (u : ℕ)
     → progress new u ≡ (if u == t then option_map f (progress old u) else progress old u)
+
+-- the mode that is left by the release of a lock that is held so
+abbrev pub mode_left : Hold → Mode → Mode
+mode_left NotHeld left = left
+mode_left (Holds mode) left = mode
+
+-- it has released the lock
+abbrev pub with_released : ℕ → Progress → Progress
+with_released l a = record a {
+  held = without_lock l a.held;
+  left = mode_left (hold_in a.held l) a.left;
+}
 
 -- fewer locks than a thread may hold
 abbrev pub HoldsFew : Machine → ℕ → Type 0

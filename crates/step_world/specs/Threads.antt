@@ -6,6 +6,7 @@ use Rattle.thread_records.specs.Records.{made}
 use Rattle.prio_lending.specs.declared.walk.Walk as walks
 use Rattle.prio_lending.specs.declared.walk.Walk.TheVariants as walk
 use Rattle.step_world.specs.declared.thread.Thread.{Thread}
+use Rattle.lock_objects.specs.Marked.{places_of}
 use Rattle.step_world.specs.declared.thread.Wait.TheVariants.{Running}
 
 -- it runs, has all its objects at home, and has made no operation
@@ -13,10 +14,10 @@ pub record IsNew (t base : ℕ) (th : Thread) : Type 0 where
   pub its_record : th.record.value ≡ made t base
   pub running : th.wait ≡ Running
   pub no_walk : th.walk ≡ walk.None
-  pub wants_none : th.wanted ≡ None
   pub holds_none : th.held.items ≡ []
   pub held_room : 8 ≤ vec_capacity th.held
-  pub unmarked : th.marked ≡ []
+  pub unmarked : places_of th.marked ≡ []
+  pub awake : th.waits_on ≡ None
   pub at_begin : th.next_op ≡ 0
 
 abbrev pub has_no_walk : walks.Walk → Bool
@@ -27,5 +28,5 @@ has_no_walk (walk.AtThread t) = false
 -- whether it has so many operations behind it, owes nothing and holds nothing
 abbrev pub thread_has_ended : ℕ → Thread → Bool
 thread_has_ended operations th =
-    nat_le operations th.next_op && has_no_walk th.walk && is_empty th.marked
+    nat_le operations th.next_op && has_no_walk th.walk && is_empty (places_of th.marked)
     && is_empty th.held.items

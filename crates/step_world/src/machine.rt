@@ -1,8 +1,8 @@
-//! The objects of a scheduled run: lock words, the chain of the turnstiles that are lent to locks, the threads, the
-//! history so far and the tables. Each method is a step of a thread (`lock_state`'s `specs/Steps.antt`), or two in a
-//! row.
+//! The objects of a scheduled run: lock words, the chains of the turnstiles that are lent to locks and of the sleep
+//! queues that are lent to locks and channels, the threads, the history so far and the tables. Each method is a step of
+//! a thread (`lock_state`'s `specs/Steps.antt`), or two in a row.
 ghost use Rattle.std.specs.Prelude.{◌≡◌, ◌<◌, ◌≤◌, ◌^◌, map, sum, length, IfOk};
-ghost use Rattle.lock_model.specs.Operations.{IsProper, operations_in_all, is_endtry, next_at};
+ghost use Rattle.lock_model.specs.Operations.{IsProper, is_endtry, next_at};
 ghost use Rattle.lock_model.specs.Plans.{config_of};
 ghost use Rattle.lock_state.specs.Run.{start_run};
 ghost use Rattle.lock_model.specs.Config.{Config};
@@ -15,6 +15,7 @@ use crate::thread::Thread;
 use chain_table::Chain;
 use lock_history::{Log, Tables};
 use lock_model::{Op, Plan, ThreadDecl, ThreadNo};
+use sleep_queues::SleepQueue;
 use std::alloc::{AllocError, Global};
 use turnstile_core::Turnstile;
 
@@ -30,6 +31,8 @@ pub struct Machine {
     pub words: Vec<u64>,
     /// The turnstiles that are lent to locks. There is one chain, whatever the number of slots.
     pub chain: Chain<Turnstile>,
+    /// The sleep queues that are lent to sx locks and channels, in one chain too.
+    pub sleepers: Chain<SleepQueue>,
     /// By thread.
     pub threads: Vec<Thread>,
     /// The entries so far, in order of their tickets.
@@ -47,8 +50,9 @@ impl Machine {
         Ok(Machine {
             words: vec![in alloc; 0; plan.locks.as_slice().len()]?,
             chain: Chain::empty(),
+            sleepers: Chain::empty(),
             threads: make_threads(alloc, plan.threads.as_slice())?,
-            log: Log::make(alloc, count_operations(plan.threads.as_slice()))?,
+            log: Log::make(alloc, 2 * count_operations(plan.threads.as_slice()))?,
             tables: Tables::make(alloc, plan)?,
         })
     }
@@ -94,7 +98,7 @@ fn make_threads(alloc: Global, decls: &[ThreadDecl]) -> Result<Vec<Thread>, Allo
     Ok(threads)
 }
 
-// The operations of all threads. Each makes one entry.
+// The operations of all threads. Each makes two entries at most.
 fn count_operations(decls: &[ThreadDecl]) -> u32
     requires { sum (map (λ d. length d.ops) decls.now) < 2 ^ 32 }
     ensures { result ≡ sum (map (λ d. length d.ops) decls.now) }

@@ -168,7 +168,8 @@ impl<'p> Course<'p> {
             → outcome_seen o ≡ outcome_of plan chains k) }
     {
         let last = self.last();
-        let queues = queue_lines(alloc, self.world.machine(), self.world.chains())?;
+        let world = &self.world;
+        let queues = queue_lines(alloc, world.machine(), world.plan(), world.chains())?;
         let finals = finals(alloc, self.world.machine())?;
         let machine = self.world.into_machine();
         Ok(Outcome {

@@ -1,16 +1,18 @@
 //! What the machine keeps of a thread: its record, its wait word, and what it is in the middle of.
-ghost use Rattle.std.specs.Prelude.{◌≡◌, ◌<◌, ◌++◌, [], ◌∷◌, length, position, None, IfOk};
+ghost use Rattle.std.specs.Prelude.{not, ◌≡◌, ◌<◌, ◌++◌, [], ◌∷◌, length, None, IfOk};
 ghost use Rattle.std.specs.Vec.{vec_capacity};
-ghost use Rattle.lock_model.specs.Operations.{hold_in, holds_lock, without_lock};
+ghost use Rattle.lock_model.specs.Operations.{hold_in, without_lock};
 ghost use Rattle.lock_state.specs.Run.{mode_held};
+ghost use Rattle.lock_model.specs.Holds.{is_unheld};
+ghost use Rattle.step_world.specs.Steps.{mode_left};
 ghost use Rattle.step_world.specs.Threads.{IsNew, thread_has_ended};
 
 use lock_model::limits::HELD;
-use lock_model::{Held, LockNo, Mode, Op, Prio, QueueName, ThreadNo};
+use lock_model::{ChanNo, Held, LockNo, Mode, Op, Prio, QueueName, ThreadNo, place_held};
+use lock_objects::Marked;
 use prio_lending::Walk;
 use std::alloc::{AllocError, Global};
 use thread_records::ThreadRec;
-use turnstile_core::Taken;
 
 /// Whether a thread runs, stands on a queue or is about to be taken off it, or was woken from one.
 #[derive(Clone, Copy, Debug, PartialEq, Eq)]
@@ -26,12 +28,14 @@ pub struct Thread {
     pub record: Box<ThreadRec>,
     pub wait: Wait,
     pub walk: Walk,
-    /// The lock for which it waits, or for which it was woken to try again.
-    pub wanted: Option<LockNo>,
     /// The locks that it holds, in order of acquisition. There is room for as many as a thread may hold.
     pub held: Vec<Held>,
-    /// The waiters that it took off a queue and has yet to wake, and that queue.
-    pub marked: Taken,
+    /// The mode in which it held the lock that it released last.
+    pub left: Mode,
+    /// The channel on which it waits, from its entry of that on, until the one that its wait is over.
+    pub waits_on: Option<ChanNo>,
+    /// Those that it took off a queue and has yet to wake, and that queue.
+    pub marked: Marked,
     pub marked_from: QueueName,
     /// How many of its operations are behind it.
     pub next_op: usize,
@@ -46,9 +50,10 @@ impl Thread {
             record: ThreadRec::make(alloc, t, base)?,
             wait: Wait::Running,
             walk: Walk::None,
-            wanted: None,
             held: Vec::with_capacity(alloc, HELD)?,
-            marked: Taken::empty(),
+            left: Mode::Excl,
+            waits_on: None,
+            marked: Marked::none(),
             marked_from: QueueName::Lock(LockNo(0)),
             next_op: 0,
         })
@@ -65,7 +70,6 @@ impl Thread {
     }
 
     /// The mode in which it holds the lock.
-    #[tactic(auto, using(lock_model::proofs::HeldLocks::held_there, lock_model::proofs::HeldLocks::none_held))]
     pub fn mode_held(&self, l: LockNo) -> Mode
         ensures { result ≡ mode_held (hold_in self.now.held.items l.0) }
     {
@@ -75,33 +79,33 @@ impl Thread {
         }
     }
 
+    /// Whether it holds the lock.
+    pub fn holds(&self, l: LockNo) -> bool
+        ensures { result ≡ not (is_unheld (hold_in self.now.held.items l.0)) }
+    {
+        place_held(l, &self.held).is_some()
+    }
+
     /// Takes the lock off those that it holds.
-    #[tactic(auto, using(lock_model::proofs::HeldLocks::taken_out, lock_model::proofs::HeldLocks::none_taken))]
+    #[tactic(auto, using(lock_model::proofs::HeldLocks::taken_out))]
     pub fn put_down(&mut self, l: LockNo)
         ensures held { self.new.held.items ≡ without_lock l.0 self.old.held.items }
         ensures room { vec_capacity self.new.held ≡ vec_capacity self.old.held }
-        ensures others { self.new ≡ record self.old { held = self.new.held } }
+        ensures left { self.new.left ≡ mode_left (hold_in self.old.held.items l.0) self.old.left }
+        ensures others { self.new ≡ record self.old { held = self.new.held; left = self.new.left } }
     {
         if let Some(i) = place_held(l, &self.held) {
-            self.held.remove(i);
+            self.left = self.held.remove(i).mode;
         }
     }
 
-    /// Puts a lock behind those that it holds. It wants none any more.
+    /// Puts a lock behind those that it holds.
     pub fn pick_up(&mut self, held: Held)
         requires { length self.old.held.items < vec_capacity self.old.held }
         ensures held { self.new.held.items ≡ self.old.held.items ++ held ∷ [] }
         ensures room { vec_capacity self.new.held ≡ vec_capacity self.old.held }
-        ensures others { self.new ≡ record self.old { held = self.new.held; wanted = None } }
+        ensures others { self.new ≡ record self.old { held = self.new.held } }
     {
         self.held.push_reserved(held);
-        self.wanted = None;
     }
-}
-
-// Where a lock stands among those that are held.
-fn place_held(l: LockNo, held: &[Held]) -> Option<usize>
-    ensures { result ≡ position (holds_lock l) held.now }
-{
-    held.iter().position(|h| h.l == l)
 }

@@ -3,6 +3,7 @@
 //!
 //! - `walks`: the hops of a lending walk.
 //! - `locks`: the operations that gain and release locks.
+//! - `waits`: the operations that wait and wake, and the release after a wait's first turn.
 ghost use Rattle.std.specs.Prelude.{◌<◌, length, Some};
 ghost use Rattle.lock_model.specs.Operations.{IsProper};
 ghost use Rattle.lock_laws.specs.OnTrack.{IsAtOperation};
@@ -14,9 +15,11 @@ use crate::thread::Wait;
 use lock_model::{Event, Op, Plan, StepKind, ThreadNo, Turn};
 use locks::{release, take, try_lock};
 use prio_lending::Walk;
+use waits::{by_release, sleep, wake};
 use walks::{walk_at_lock, walk_at_thread};
 
 mod locks;
+mod waits;
 mod walks;
 
 /// What an operation comes to in a turn: the turn's answer, and how the thread goes on.
@@ -29,7 +32,8 @@ pub enum Made {
     Skips(u32),
 }
 
-/// One turn of a thread: a walk first, then the marked list, then the wait word, and then its operation.
+/// One turn of a thread: a walk first, then the marked list, then a release after a wait's first turn, then the wait
+/// word, and then its operation.
 pub fn turn(machine: &mut Machine, plan: &Plan, t: ThreadNo) -> Turn
     requires proper { IsProper plan.now }
     requires thread { t.0 < length plan.now.threads }
@@ -46,7 +50,7 @@ pub fn turn(machine: &mut Machine, plan: &Plan, t: ThreadNo) -> Turn
         Walk::AtThread(o) => walk_at_thread(machine, plan, t, o),
         Walk::None => {
             if thread.marked.is_empty() {
-                by_wait(machine, plan, t)
+                by_release(machine, plan, t)
             } else {
                 machine.mark(t);
                 Turn::Did(StepKind::Mark)
@@ -56,7 +60,7 @@ pub fn turn(machine: &mut Machine, plan: &Plan, t: ThreadNo) -> Turn
 }
 
 // A queued thread is idle, a woken one runs again, and a running one makes its operation.
-fn by_wait(machine: &mut Machine, plan: &Plan, t: ThreadNo) -> Turn
+pub fn by_wait(machine: &mut Machine, plan: &Plan, t: ThreadNo) -> Turn
     requires proper { IsProper plan.now }
     requires thread { t.0 < length plan.now.threads }
     requires run { HasRun plan.now machine.old (λ r. IsFree plan.now r t.0) }
@@ -111,7 +115,7 @@ fn make_operation(machine: &mut Machine, plan: &Plan, t: ThreadNo, op: Op) -> Ma
     ensures unchanged { KeepsWhereIdle (answer_of result) machine.old machine.new }
 {
     match op {
-        Op::Take { l, mode } => take(machine, plan, t, l, mode),
+        Op::Take { l, mode } => take(machine, plan, t, l, mode, Event::Locked { l, mode }),
         Op::Try { l, mode, past } => try_lock(machine, plan, t, l, mode, past),
         Op::Release { l } => release(machine, plan, t, l),
         Op::Set { l, key, value } => note(machine, plan, t, Event::Set { l, key, value }),
@@ -127,9 +131,10 @@ fn make_operation(machine: &mut Machine, plan: &Plan, t: ThreadNo, op: Op) -> Ma
             let eff = record.eff();
             note(machine, plan, t, Event::Shown { base, eff })
         }
-        Op::EndTry | Op::Sleep { .. } | Op::WakeOne { .. } | Op::WakeAll { .. } => {
-            Made::Does(Turn::Idle)
-        }
+        Op::Sleep { c } => sleep(machine, plan, t, c),
+        Op::WakeOne { c } => wake(machine, plan, t, c, false),
+        Op::WakeAll { c } => wake(machine, plan, t, c, true),
+        Op::EndTry => Made::Does(Turn::Idle),
     }
 }
 

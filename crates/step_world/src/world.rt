@@ -65,7 +65,7 @@ impl<'p> World<'p> {
 
     /// Makes one turn of a thread, which the plan declares: the first row of the table that fits, with its answer.
     /// `Ended` comes exactly where the thread has ended, and `Idle` exactly where it sleeps: it hasn't ended, its wait
-    /// word says Queued, and it has no walk and no marked list. Both change nothing. It takes no memory.
+    /// word says Queued, and it owes nothing. Both change nothing. It takes no memory.
     pub fn turn(&mut self, t: ThreadNo) -> Turn
         requires { t.0 < length self.old.plan.threads }
         ensures plan { self.new.plan ≡ self.old.plan }
@@ -102,6 +102,13 @@ impl<'p> World<'p> {
         ensures number { result ≡ length self.now.plan.threads }
     {
         self.machine.threads.len() as u8
+    }
+
+    /// The plan that is run.
+    pub(crate) fn plan(&self) -> &Plan
+        ensures { result.now ≡ self.now.plan }
+    {
+        self.plan
     }
 
     /// The number of chains of each sort.

@@ -1,10 +1,12 @@
 -- What is done with an object's lists and its free list, in the words of lock_model for the lists of a queue.
-use Rattle.std.specs.Prelude.{◌≡◌, ℕ, ◌-◌, ◌≤◌, Bool, true, false, nat_lt, List, ◌∷◌, ◌++◌, length, map, None, ⊤}
+use Rattle.std.specs.Prelude.{◌≡◌, ℕ, ◌-◌, ◌≤◌, Bool, true, false, nat_lt, List, ◌∷◌, ◌++◌, [], length, map, None, Some, ⊤}
 use Rattle.lock_model.specs.Queues.{Waiter as Waiting, Lists, list_of, with_list, stands, waiting, insert, with_last, handed_out, free_after, one_or_none, entry_of, without, taken_off, left_on, Ascends}
 use Rattle.lock_model.specs.declared.plan.Side.{Side}
+use Rattle.lock_model.specs.declared.plan.QueueName.{QueueName}
+use Rattle.wait_objects.specs.declared.own.Own.{Ghosts}
 use Rattle.wait_objects.specs.declared.which.Which.{Which}
 use Rattle.wait_objects.specs.declared.which.Which.TheVariants.{Best, All, Thread}
-use Rattle.wait_objects.specs.Seen.{Contents, Place}
+use Rattle.wait_objects.specs.Seen.{Contents, Object, Place}
 use Rattle.wait_objects.specs.Lists.{place}
 
 -- both lists
@@ -30,6 +32,22 @@ all_waiters c = c.exclusive ++ c.shared
 -- whether a thread waits on an object
 abbrev pub waits : {E : Type 0} → ℕ → Contents E → Bool
 waits t c = nat_lt 0 (stands t (lists_of c))
+
+-- the head of a queue
+abbrev pub named : {E : Type 0} → Ghosts E → QueueName → Contents E → Contents E
+named kind q c = record c { own = kind.with_name (Some q) c.own }
+
+-- the head of no queue any more
+abbrev pub unnamed : {E : Type 0} → Ghosts E → Contents E → Contents E
+unnamed kind c = record c { own = kind.with_name None c.own }
+
+-- nothing but its name keeps an object from being idle
+pub record IsLeft {E : Type 0} (kind : Ghosts E) (o : Object E) : Type 0 where
+  pub no_exclusive : o.contents.exclusive ≡ []
+  pub no_shared : o.contents.shared ≡ []
+  pub no_free : o.contents.free ≡ []
+  pub own : kind.with_name None o.contents.own ≡ kind.home
+  pub no_next : o.next ≡ []
 
 -- a list with one more: by rank, or at the tail
 abbrev pub added : Bool → Waiting → List Waiting → List Waiting

@@ -2,7 +2,7 @@
 //! the waiters lend to it.
 ghost use Rattle.std.specs.Prelude.{◌≡◌, true, false, [], None, Some, IfOk, IfSome, is_some, option_map};
 ghost use Rattle.lock_model.specs.Queues.{lock_queue};
-ghost use Rattle.wait_objects.specs.Turnstiles.Seen.{home};
+ghost use Rattle.wait_objects.specs.Turnstiles.Seen.{home, lock_named};
 
 use crate::loan::Loan;
 use crate::own::Own;
@@ -42,6 +42,15 @@ impl Own for Lending {
     fn name(&self) -> Option<QueueName> {
         self.lock.map(QueueName::Lock)
     }
+
+    ghost with_name = { λ q a. record a { lock = lock_named q } };
+
+    fn set_name(&mut self, q: Option<QueueName>) {
+        self.lock = match q {
+            Some(QueueName::Lock(l)) => Some(l),
+            Some(QueueName::Chan(_)) | None => None,
+        };
+    }
 }
 
 impl Lending {
@@ -66,12 +75,6 @@ impl Lending {
         ensures { option_map (λ t. t.0) result ≡ self.now.owner }
     {
         self.owner
-    }
-
-    pub(crate) fn set_lock(&mut self, l: Option<LockNo>)
-        ensures { self.new ≡ record self.old { lock = option_map (λ l. l.0) l } }
-    {
-        self.lock = l;
     }
 
     pub(crate) fn set_owner(&mut self, t: Option<ThreadNo>)

@@ -1,6 +1,6 @@
 //! The node by which a thread stands in an object's list. Each thread is made with one for turnstiles and one for
 //! sleep queues.
-ghost use Rattle.std.specs.Prelude.{◌≡◌, None, IfOk, option_map};
+ghost use Rattle.std.specs.Prelude.{◌≡◌, [], ◌∷◌, None, IfOk, IfNone, IfSome, option_map};
 ghost use Rattle.wait_objects.specs.Seen.{idle_object, empty_node};
 
 use crate::object::Object;
@@ -58,6 +58,14 @@ impl<E: Own> Node<E> {
         ensures { result.0 ≡ self.now.place.thread }
     {
         self.thread
+    }
+
+    /// The node behind it. `None` comes exactly where there is none.
+    pub fn behind(&self) -> Option<&Node<E>>
+        ensures none { IfNone result (self.now.next ≡ []) }
+        ensures some { IfSome result (λ n. self.now.next ≡ n.now.place ∷ n.now.next) }
+    {
+        self.next.first()
     }
 
     /// Keeps another priority for the thread.

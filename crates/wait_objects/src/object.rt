@@ -4,7 +4,7 @@ ghost use Rattle.std.specs.Prelude.{◌≡◌, ◌≢◌, ◌↔◌, false, [], 
 ghost use Rattle.wait_objects.specs.Seen.{idle_object, IsEmpty};
 ghost use Rattle.wait_objects.specs.Linked.{linked_contents};
 ghost use Rattle.wait_objects.specs.Lists.{LastHasNone, AllButLastHold};
-ghost use Rattle.wait_objects.specs.Changes.{waiters, with_waiters, all_waiters, waits, joined, woken, left, InOrder, IsWellFormed};
+ghost use Rattle.wait_objects.specs.Changes.{waiters, with_waiters, named, unnamed, all_waiters, waits, joined, woken, left, InOrder, IsWellFormed};
 
 use crate::free_list::FreeList;
 use crate::lists::Lists;
@@ -62,16 +62,17 @@ impl<E: Own> Object<E> {
         }
     }
 
-    /// Lets a first thread wait. The node is empty.
-    pub(crate) fn start(&mut self, mut node: Box<Node<E>>, prio: Prio, side: Side)
+    /// Makes an object on which nobody waits the head of a queue, with one waiter. The node is empty.
+    pub(crate) fn start(&mut self, q: QueueName, mut node: Box<Node<E>>, prio: Prio, side: Side)
         requires nobody { all_waiters self.old.contents ≡ [] }
         requires empty { IsEmpty node.value }
         ensures contents { self.new.contents
             ≡ with_waiters side (record { thread = node.value.place.thread; kept = prio.0 } ∷ [])
-            self.old.contents }
+            (named E.Own q self.old.contents) }
         ensures next { self.new.next ≡ self.old.next }
     {
         node.keep(prio);
+        self.own.set_name(Some(q));
         self.lists.insert(node, side);
     }
 
@@ -111,6 +112,13 @@ impl<E: Own> Object<E> {
         let mut nodes = self.lists.take(which, side);
         nodes.deal(&mut self.free);
         Pending::of(nodes)
+    }
+
+    /// Is the head of no queue any more.
+    pub(crate) fn leave(&mut self)
+        ensures { self.new ≡ record self.old { contents = unnamed E.Own self.old.contents } }
+    {
+        self.own.set_name(None);
     }
 
     /// Whether no thread waits on a side.

@@ -21,4 +21,11 @@ pub trait Own: Drop {
     /// The queue that the object is the head of. `None` comes exactly where it is none's.
     fn name(&self) -> Option<QueueName>
         ensures { result ≡ name_of self.now };
+
+    /// The same with another queue, or none.
+    ghost with_name: { Option QueueName → Self → Self };
+
+    /// Sets the queue, or that there is none.
+    fn set_name(&mut self, q: Option<QueueName>)
+        ensures { self.new ≡ with_name q self.old };
 }

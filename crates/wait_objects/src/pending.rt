@@ -1,8 +1,8 @@
 //! The nodes that were taken off an object. The thread that wakes keeps this list, where FreeBSD has a pending list in
 //! the turnstile.
 ghost use Rattle.std.specs.Prelude.{◌≡◌, ◌↔◌, [], ◌∷◌, IsTrue, IfNone, IfSome};
-ghost use Rattle.wait_objects.specs.Seen.{idle_object};
-ghost use Rattle.wait_objects.specs.Lists.{with_last};
+ghost use Rattle.wait_objects.specs.Lists.{with_last, LastHasNone};
+ghost use Rattle.wait_objects.specs.Changes.{IsLeft};
 
 use crate::node::Node;
 use crate::object::Object;
@@ -58,11 +58,21 @@ impl<E: Own> Pending<E> {
         self.nodes.take_first()
     }
 
-    /// Gives the last node an idle object.
-    pub(crate) fn fill(&mut self, own: Box<Object<E>>)
-        requires { own.value ≡ idle_object E.home own.value.contents.number }
-        ensures { self.new ≡ with_last own.value.contents.number self.old }
+    /// The first node. `None` comes exactly where there is none.
+    pub fn first(&self) -> Option<&Node<E>>
+        ensures none { IfNone result (self.now ≡ []) }
+        ensures some { IfSome result (λ n. self.now ≡ n.now.place ∷ n.now.next) }
     {
-        self.nodes.fill_last(own);
+        self.nodes.first()
+    }
+
+    /// Makes the head idle and gives it to the last node, which has none.
+    pub fn fill_last(&mut self, mut head: Box<Object<E>>)
+        requires last { LastHasNone self.old }
+        requires left { IsLeft E.Own head.value }
+        ensures { self.new ≡ with_last head.value.contents.number self.old }
+    {
+        head.leave();
+        self.nodes.fill_last(head);
     }
 }

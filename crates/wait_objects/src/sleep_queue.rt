@@ -3,8 +3,7 @@
 ghost use Rattle.std.specs.Prelude.{◌≡◌, ◌≢◌, ◌↔◌, true, false, None, Some, [], IfOk, IfNone, IfSome, option_map};
 ghost use Rattle.lock_model.specs.Queues.{taken_off};
 ghost use Rattle.wait_objects.specs.Seen.{IsEmpty};
-ghost use Rattle.wait_objects.specs.Lists.{with_last, LastHasNone};
-ghost use Rattle.wait_objects.specs.SleepQueues.Seen.{home, idle, IsLeft};
+ghost use Rattle.wait_objects.specs.SleepQueues.Seen.{idle};
 ghost use Rattle.wait_objects.specs.SleepQueues.Changes.{lists_of, waiters, all_waiters, waits, begun, joined, left_by, without_woken, entries_of, without_thread, AreTaken};
 
 use crate::node::Node;
@@ -30,7 +29,7 @@ impl Object<Sleeping> {
     pub fn make(alloc: Global, id: ThreadNo) -> Result<Box<SleepQueue>, AllocError>
         ensures { IfOk result (λ b. b.value ≡ idle id.0) }
     {
-        Ok(Box::new(alloc, Object::idle(id, Sleeping { name: None }))?)
+        Ok(Box::new(alloc, Object::idle(id, Sleeping::make()))?)
     }
 
     /// Makes an idle sleep queue the head for an sx lock or a channel, with one sleeper. The node is
@@ -43,8 +42,7 @@ impl Object<Sleeping> {
             self.old.contents }
         ensures next { self.new.next ≡ self.old.next }
     {
-        self.own = Sleeping { name: Some(q) };
-        self.start(node, prio, side);
+        self.start(q, node, prio, side);
     }
 
     /// Lets one more thread sleep: its node is put at the tail of that side, and its sleep queue `own`
@@ -120,27 +118,5 @@ impl Node<Sleeping> {
             ≡ record self.old { place = record self.old.place { object = None } } }
     {
         self.take_object()
-    }
-}
-
-impl Pending<Sleeping> {
-    /// Makes the head idle and gives it to the last sleeper, which has none.
-    pub fn fill_last(&mut self, mut head: Box<SleepQueue>)
-        requires last { LastHasNone self.old }
-        requires left { IsLeft head.value }
-        ensures { self.new ≡ with_last head.value.contents.number self.old }
-    {
-        head.leave();
-        self.fill(head);
-    }
-}
-
-impl Object<Sleeping> {
-    /// Belongs to no queue any more.
-    fn leave(&mut self)
-        ensures { self.new
-            ≡ record self.old { contents = record self.old.contents { own = home } } }
-    {
-        self.own = Sleeping { name: None };
     }
 }

@@ -1,5 +1,5 @@
 //! What a sleep queue has beside its lists: the sx lock, condition variable or channel that it belongs to.
-ghost use Rattle.std.specs.Prelude.{false, None};
+ghost use Rattle.std.specs.Prelude.{◌≡◌, false, None};
 
 use crate::own::Own;
 use lock_model::QueueName;
@@ -7,7 +7,7 @@ use lock_model::QueueName;
 /// What a sleep queue has of its own.
 #[derive(Drop)]
 pub struct Sleeping {
-    pub(crate) name: Option<QueueName>,
+    name: Option<QueueName>,
 }
 
 impl Own for Sleeping {
@@ -21,5 +21,20 @@ impl Own for Sleeping {
 
     fn name(&self) -> Option<QueueName> {
         self.name
+    }
+
+    ghost with_name = { λ q a. record { name = q } };
+
+    fn set_name(&mut self, q: Option<QueueName>) {
+        self.name = q;
+    }
+}
+
+impl Sleeping {
+    /// No name.
+    pub(crate) fn make() -> Sleeping
+        ensures { result ≡ record { name = None } }
+    {
+        Sleeping { name: None }
     }
 }

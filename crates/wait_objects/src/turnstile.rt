@@ -14,9 +14,9 @@
 //!                                  +----------------------------------------------+
 ghost use Rattle.std.specs.Prelude.{◌≡◌, ◌≢◌, ◌↔◌, true, false, None, Some, [], length, IfOk, IfSome, is_some, option_map};
 ghost use Rattle.wait_objects.specs.Seen.{IsEmpty};
-ghost use Rattle.wait_objects.specs.Lists.{with_last, LastHasNone, AllButLastHold};
-ghost use Rattle.wait_objects.specs.Turnstiles.Seen.{idle, IsIdle, IsLeft};
-ghost use Rattle.wait_objects.specs.Turnstiles.Changes.{waiters, all_waiters, waits, with_lock, with_owner, with_loan_home, begun, joined, left_by, taken, moved, best};
+ghost use Rattle.wait_objects.specs.Lists.{LastHasNone, AllButLastHold};
+ghost use Rattle.wait_objects.specs.Turnstiles.Seen.{idle, IsIdle};
+ghost use Rattle.wait_objects.specs.Turnstiles.Changes.{waiters, all_waiters, waits, with_owner, with_loan_home, begun, joined, left_by, taken, moved, best};
 
 use crate::lending::Lending;
 use crate::loan::Loan;
@@ -24,7 +24,7 @@ use crate::node::Node;
 use crate::object::Object;
 use crate::pending::Pending;
 use crate::which::Which;
-use lock_model::{LockNo, Prio, Side, ThreadNo};
+use lock_model::{LockNo, Prio, QueueName, Side, ThreadNo};
 use std::alloc::{AllocError, Global};
 
 /// A turnstile.
@@ -55,8 +55,7 @@ impl Object<Lending> {
             self.old.contents }
         ensures next { self.new.next ≡ self.old.next }
     {
-        self.own.set_lock(Some(l));
-        self.start(node, prio, side);
+        self.start(QueueName::Lock(l), node, prio, side);
     }
 
     /// Lets one more thread wait: its node is put before the first of that side whose number is
@@ -182,26 +181,5 @@ impl Node<Lending> {
             ≡ record self.old { place = record self.old.place { object = None } } }
     {
         self.take_object()
-    }
-}
-
-impl Pending<Lending> {
-    /// Makes the head idle and gives it to the last waiter, which has none.
-    pub fn fill_last(&mut self, mut head: Box<Turnstile>)
-        requires last { LastHasNone self.old }
-        requires left { IsLeft head.value }
-        ensures { self.new ≡ with_last head.value.contents.number self.old }
-    {
-        head.leave();
-        self.fill(head);
-    }
-}
-
-impl Object<Lending> {
-    /// Belongs to no lock any more.
-    fn leave(&mut self)
-        ensures { self.new ≡ record self.old { contents = with_lock None self.old.contents } }
-    {
-        self.own.set_lock(None);
     }
 }

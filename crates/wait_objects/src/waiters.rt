@@ -61,6 +61,14 @@ impl<E: Own> Waiters<E> {
         self.first.is_none()
     }
 
+    /// The first node. `None` comes exactly where there is none.
+    pub(crate) fn first(&self) -> Option<&Node<E>>
+        ensures none { IfNone result (self.now ≡ []) }
+        ensures some { IfSome result (λ n. self.now ≡ n.now.place ∷ n.now.next) }
+    {
+        self.first.as_deref()
+    }
+
     /// Adds an empty node: by rank, before the first one whose number is greater, or at the tail.
     pub(crate) fn insert(&mut self, mut node: Box<Node<E>>)
         requires { IsEmpty node.value }

@@ -2,10 +2,10 @@
 use Rattle.std.proofs.Common.{◌≡◌, ℕ, true, List, [], Option, Some, None, refl, sym, ap, arith, ◌∙◌}
 use Rattle.lock_model.specs.Config.{Config}
 use Rattle.lock_model.specs.Law.{is_asleep}
-use Rattle.lock_model.specs.Queues.{Waiter, Lists, chan_queue}
+use Rattle.lock_model.specs.Queues.{Waiter, Lists, chan_queue, with_last}
 use Rattle.lock_model.specs.declared.plan.QueueName.{QueueName}
 use Rattle.lock_state.specs.State.{State, put, put_queue}
-use Rattle.lock_state.specs.Steps.SleepQueues.{MayAdd, with_last, after_add}
+use Rattle.lock_state.specs.Steps.SleepQueues.{MayAdd, after_add}
 use Rattle.lock_state.specs.Facts.{Lawful}
 use Rattle.lock_state.specs.Facts.Loans.{Each}
 use Rattle.lock_state.specs.Facts.Sleeps.{is_signalled, InOrder}

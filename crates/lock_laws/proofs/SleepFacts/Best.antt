@@ -5,13 +5,12 @@ use Rattle.std.proofs.lemmas.Bool.Decides.{nat_tests}
 use Rattle.lock_model.specs.Config.{Config}
 use Rattle.lock_model.specs.History.{base_in}
 use Rattle.lock_model.specs.Law.{entries_up_to, goes_before}
-use Rattle.lock_model.specs.Queues.{Waiter, Lists, chan_queue, times_waiting, without}
+use Rattle.lock_model.specs.Queues.{Waiter, Lists, chan_queue, times_waiting, without, with_last, better, best_of, taken_off, left_on}
 use Rattle.lock_model.specs.declared.plan.QueueName.{QueueName}
 use Rattle.lock_model.specs.declared.event.Entry.{Entry}
 use Rattle.lock_state.specs.State.{put_queue}
 use Rattle.lock_state.specs.Facts.Loans.{Each}
 use Rattle.lock_state.specs.Facts.Sleeps.{InOrder, LeavesNobodyBefore}
-use Rattle.lock_state.specs.Steps.SleepQueues.{with_last, better, best_of, taken_off, left_on}
 use Rattle.lock_laws.proofs.Kit.{put_chan_same, put_chan_other}
 use Rattle.lock_laws.proofs.Lending.{each-map}
 

@@ -70,3 +70,13 @@ bit_of t us h =
 pub no_bits : (us : List ℕ) → bits_of_threads us ≡ 0 → us ≡ []
 no_bits [] e = refl
 no_bits (u ∷ us) e = absurd (omega (arith, pow_pos u))
+
+-- a set of threads below t comes to less than 2 ^ t
+all_low : (t : ℕ) (us : List ℕ) → ((j : ℕ) → 1 ≤ times j us → j < t) → bits_of_threads us ≡ low t us
+unfolding low
+all_low t [] h = refl
+all_low t (u ∷ us) h = grind (arith, nat_tests, h u, all_low t us (λ j i. h j (omega arith)))
+
+pub bits_below : (t : ℕ) (us : List ℕ) → ((j : ℕ) → times j us ≤ 1) → ((j : ℕ) → 1 ≤ times j us → j < t)
+    → bits_of_threads us < 2 ^ t
+bits_below t us once below = omega (arith, all_low t us below, low_less t us once)

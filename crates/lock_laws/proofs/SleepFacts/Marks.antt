@@ -38,6 +38,14 @@ pub times-map : (t : ℕ) (ws : List Waiter) → times t (map (λ w. w.thread) w
 times-map t [] = refl
 times-map t (w ∷ ws) = omega (arith, times-map t ws)
 
+-- where there are objects enough, their marks name each of them
+pub threads-dealt : (q : QueueName) (ws : List Waiter) (xs : List ℕ) (h : Option ℕ) → length ws ≤ length xs + some h → map (λ m. m.thread) (dealt q ws xs h) ≡ map (λ w. w.thread) ws
+threads-dealt q [] xs h p = refl
+threads-dealt q (w ∷ ws) [] None p = absurd (omega arith)
+threads-dealt q (w ∷ []) [] (Some h) p = refl
+threads-dealt q (w ∷ v ∷ ws) [] (Some h) p = absurd (omega arith)
+threads-dealt q (w ∷ ws) (x ∷ xs) h p = ap (λ us. w.thread ∷ us) (threads-dealt q ws xs h (omega arith))
+
 -- 2. Lists of noted wakes
 
 -- how often a thread is in the lists of noted wakes by a signal from a channel

@@ -31,12 +31,12 @@ keeps at_work c s (Drops t l mode) g a f h = assumption h
 keeps at_work c s (Stamps t e) g a f h = stamp.stamps f h t e g a
 keeps at_work c s (Readies t q) g a f h = own.readies h t g
 keeps at_work c s (Unreadies t q) g a f h = own.unreadies h t g f a
-keeps at_work c s (Enters t l mode x) g a f h = enter.enters f h t l g.unnamed a mode x
-keeps at_work c s (Opens t l mode) g a f h = opening.opens h t l g.thread g.unmarked
+keeps at_work c s (Enters t l mode x) g a f h = enter.enters f h t l g.waits.unnamed a mode x
+keeps at_work c s (Opens t l mode) g a f h = opening.opens h t l g.releases.thread g.releases.unmarked
 keeps at_work c s (EntersSleepQueue t l mode x) g a f h =
-    enter.enters_sleep_queue f h t l g.unnamed a mode x
+    enter.enters_sleep_queue f h t l g.waits.unnamed a mode x
 keeps at_work c s (OpensSleepQueue t l mode) g a f h =
-    opening.opens_sleep_queue h t l g.thread g.unmarked
+    opening.opens_sleep_queue h t l g.releases.thread g.releases.unmarked
 keeps at_work c s (Adds t d x) g a f h = add.adds f h t d x g a
 keeps at_work c s (Wakes t d all) g a f h = wake.wakes f h t d all g a
 keeps at_work c s (Marks t m ms) g a f h = mark.marks f h t m ms g

@@ -4,10 +4,10 @@ use Rattle.lock_model.specs.Config.{Config}
 use Rattle.lock_model.specs.Counts.{some, times}
 use Rattle.lock_model.specs.History.{base_in}
 use Rattle.lock_model.specs.Law.{is_asleep}
-use Rattle.lock_model.specs.Queues.{Waiter, Lists, Mark, chan_queue, dealt}
+use Rattle.lock_model.specs.Queues.{Waiter, Lists, Mark, chan_queue, dealt, taken_off, left_on}
 use Rattle.lock_model.specs.declared.plan.QueueName.{QueueName}
 use Rattle.lock_state.specs.State.{State, Wake, put, put_queue}
-use Rattle.lock_state.specs.Steps.SleepQueues.{MayWake, taken_off, left_on, after_wake}
+use Rattle.lock_state.specs.Steps.SleepQueues.{MayWake, after_wake}
 use Rattle.lock_state.specs.Facts.{Lawful, HeadsFitWaiters, BasesReplay}
 use Rattle.lock_state.specs.Facts.Loans.{Each}
 use Rattle.lock_state.specs.Facts.Waits.{times_marked}

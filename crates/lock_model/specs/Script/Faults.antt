@@ -1,19 +1,20 @@
 -- The tests that a line has to pass, by stages: its bytes, its words, its place among the lines, and what it names.
 -- The codes are this project's own.
-use Rattle.std.specs.Prelude.{ℕ, ◌+◌, Bool, true, false, not, ◌&&◌, nat_le, nat_lt, is_some, is_none, ◌==◌, if◌then◌else◌, List, [], ◌∷◌, ◌++◌, length, Option, Some, None}
+use Rattle.std.specs.Prelude.{ℕ, ◌+◌, Bool, true, false, not, ◌&&◌, nat_le, nat_lt, is_some, is_none, ◌==◌, if◌then◌else◌, List, [], ◌∷◌, ◌++◌, length, map, slice_get, unwrap_or, Option, Some, None}
 use Rattle.std.specs.List.{list_all}
 use Rattle.std.specs.Cmp.Lexicographic.{pointwise}
 use Rattle.lock_model.specs.Counts.{is_empty}
 use Rattle.lock_model.specs.Holds.{Hold, NotHeld, Holds}
-use Rattle.lock_model.specs.Limits.{most_threads, most_locks, most_classes, most_open_tries, most_operations, most_scheduled, most_line_bytes}
+use Rattle.lock_model.specs.Limits.{most_threads, most_locks, most_channels, most_classes, most_open_tries, most_operations, most_scheduled, most_line_bytes}
 use Rattle.lock_model.specs.Names.{is_name}
 use Rattle.lock_model.specs.Operations.{hold_in, operation_tests, is_of_kind}
 use Rattle.lock_model.specs.Tests.{Test, test, first_fault, where_some}
 use Rattle.lock_model.specs.Script.Lines.{is_printable, has_meaning, number_of, priority_of}
-use Rattle.lock_model.specs.Script.Statements.{Statement, Declares, Begins, Ends, Schedules, IsDone, Operates, EndsTry, Operation, Take, Release, Try, Set, Add, Get, Prio, Show, statement_of}
-use Rattle.lock_model.specs.Script.Learning.{Known, OpenThread, Block, declared_as, lock_named, thread_named, class_number, op_of, learned}
+use Rattle.lock_model.specs.Script.Statements.{Statement, Declares, DeclaresChan, Begins, Ends, Schedules, IsDone, Operates, EndsTry, Operation, Take, Release, Try, Set, Add, Get, Prio, Show, Wait, WakeOne, WakeAll, statement_of}
+use Rattle.lock_model.specs.Script.Learning.{Known, OpenThread, Block, declared_as, lock_named, chan_named, thread_named, class_number, op_of, learned}
 use Rattle.lock_model.specs.declared.event.Held.{Held}
 use Rattle.lock_model.specs.declared.numbers.LockNo.{LockNo}
+use Rattle.lock_model.specs.declared.numbers.ChanNo.{ChanNo}
 use Rattle.lock_model.specs.declared.plan.Kind.{Kind}
 use Rattle.lock_model.specs.declared.plan.Mode.{Mode}
 use Rattle.lock_model.specs.declared.plan.Mode.TheVariants.{Excl, Shared}
@@ -45,6 +46,7 @@ is_in_block (Some t) = not (is_empty t.blocks)
 
 abbrev pub place_tests : Known → Statement → List Test
 place_tests k (Declares kind name class) = test 16 (is_before_threads k) ∷ []
+place_tests k (DeclaresChan cond name lock) = test 16 (is_before_threads k) ∷ []
 place_tests k (Begins name prio) = test 17 (not (is_inside k)) ∷ []
 place_tests k Ends = test 15 (is_inside k) ∷ test 17 (not (is_in_block k.open_thread)) ∷ []
 place_tests k (Schedules names) = test 17 (not (is_inside k)) ∷ []
@@ -66,6 +68,9 @@ undeclared k name = test 4 (is_none (declared_as k name))
 abbrev pub names_lock : Known → List ℕ → Test
 names_lock k name = test 5 (is_some (lock_named k name))
 
+abbrev pub names_chan : Known → List ℕ → Test
+names_chan k name = test 5 (is_some (chan_named k name))
+
 abbrev pub names_thread : Known → List ℕ → Test
 names_thread k name = test 5 (is_some (thread_named k name))
 
@@ -79,17 +84,28 @@ reads_priority word = test 6 (is_some (priority_of word))
 abbrev pub has_room : ℕ → ℕ → Test
 has_room most n = test 7 (nat_lt n most)
 
+abbrev pub is_same_truth : Bool → Bool → Bool
+is_same_truth a b = if a then b else not b
+
+abbrev pub is_same_mode : Mode → Mode → Bool
+is_same_mode Excl Excl = true
+is_same_mode Excl Shared = false
+is_same_mode Shared Excl = false
+is_same_mode Shared Shared = true
+
 -- held in the other mode
 abbrev pub is_other : Mode → Hold → Bool
 is_other mode NotHeld = false
-is_other Excl (Holds Excl) = false
-is_other Excl (Holds Shared) = true
-is_other Shared (Holds Excl) = true
-is_other Shared (Holds Shared) = false
+is_other mode (Holds held) = not (is_same_mode mode held)
 
 -- a lock is of another kind than its operation
 abbrev pub of_kind : Known → Kind → LockNo → Test
 of_kind k kind l = test 8 (is_of_kind k.locks kind l)
+
+-- a channel is used for a condition variable, or the reverse
+abbrev pub of_sort : Known → Bool → ChanNo → Test
+of_sort k cond c =
+    test 8 (is_same_truth cond (unwrap_or (slice_get (map (λ d. d.cond) k.chans) c.0) cond))
 
 -- a lock is released that is held in the other mode
 abbrev pub held_so : OpenThread → Mode → LockNo → Test
@@ -100,6 +116,12 @@ abbrev pub gaining_words : Known → Kind → List ℕ → List Test
 gaining_words k kind name =
     spelled name ∷ names_lock k name
     ∷ where_some (λ l. of_kind k kind l ∷ []) (lock_named k name)
+
+-- a wait or a wake names a channel of its sort
+abbrev pub sleeping_words : Known → Bool → List ℕ → List Test
+sleeping_words k cond name =
+    spelled name ∷ names_chan k name
+    ∷ where_some (λ c. of_sort k cond c ∷ []) (chan_named k name)
 
 -- tests of an operation's words, and of how it uses its lock
 abbrev pub operation_words : Known → OpenThread → Operation → List Test
@@ -117,6 +139,9 @@ operation_words k t (Get name key) =
     spelled name ∷ names_lock k name ∷ reads_number key ∷ []
 operation_words k t (Prio prio) = reads_priority prio ∷ []
 operation_words k t Show = []
+operation_words k t (Wait cond name) = sleeping_words k cond name
+operation_words k t (WakeOne cond name) = sleeping_words k cond name
+operation_words k t (WakeAll cond name) = sleeping_words k cond name
 
 -- tests of an operation: of its words, of how many there are, and of what they say against what the thread holds
 abbrev pub tests_in_thread : Known → Operation → OpenThread → List Test
@@ -124,17 +149,11 @@ tests_in_thread k o t =
     operation_words k t o ++ has_room most_operations k.operations
     ∷ where_some (λ op. operation_tests k.locks k.chans op t.held) (op_of k o)
 
-abbrev pub is_same_mode : Mode → Mode → Bool
-is_same_mode Excl Excl = true
-is_same_mode Excl Shared = false
-is_same_mode Shared Excl = false
-is_same_mode Shared Shared = true
-
 -- whether it is the same lock, held in the same way
 abbrev pub is_same_held : Held → Held → Bool
 is_same_held g h =
     (g.l.0 == h.l.0) && is_same_mode g.mode h.mode
-    && (if g.by_try then h.by_try else not h.by_try)
+    && is_same_truth g.by_try h.by_try
 
 -- a block is closed where the thread holds just what it held before the try, in the same order
 abbrev pub endtry_tests : Known → OpenThread → List Block → List Test
@@ -146,6 +165,9 @@ abbrev pub name_tests : Known → Statement → List Test
 name_tests k (Declares kind name class) =
     spelled name ∷ spelled class ∷ undeclared k name ∷ has_room most_locks (length k.locks)
     ∷ has_room most_classes (class_number k.classes class) ∷ []
+name_tests k (DeclaresChan cond name lock) =
+    spelled name ∷ spelled lock ∷ undeclared k name ∷ names_lock k lock
+    ∷ has_room most_channels (length k.chans) ∷ []
 name_tests k (Begins name prio) =
     spelled name ∷ undeclared k name ∷ reads_priority prio
     ∷ has_room most_threads (length k.threads) ∷ []

@@ -5,7 +5,7 @@ use Rattle.std.specs.Map.{lookup}
 use Rattle.lock_model.specs.Names.{is_name}
 use Rattle.lock_model.specs.Operations.{held_behind}
 use Rattle.lock_model.specs.Script.Lines.{is_same, number_of, priority_of}
-use Rattle.lock_model.specs.Script.Statements.{Statement, Declares, Begins, Ends, Schedules, IsDone, Operates, EndsTry, Operation}
+use Rattle.lock_model.specs.Script.Statements.{Statement, Declares, DeclaresChan, Begins, Ends, Schedules, IsDone, Operates, EndsTry, Operation}
 use Rattle.lock_model.specs.Script.Statements as say
 use Rattle.lock_model.specs.declared.plan.Declared.{Declared}
 use Rattle.lock_model.specs.declared.plan.Declared.TheVariants.{Lock, Chan, Thread}
@@ -17,6 +17,7 @@ use Rattle.lock_model.specs.declared.plan.ThreadDecl.{ThreadDecl}
 use Rattle.lock_model.specs.declared.plan.Op.{Op}
 use Rattle.lock_model.specs.declared.plan.Op.TheVariants.{Take, Try, EndTry, Release, Set, Add, Get, Base, Show, Sleep, WakeOne, WakeAll}
 use Rattle.lock_model.specs.declared.event.Held.{Held}
+use Rattle.lock_model.specs.declared.numbers.ChanNo.{ChanNo}
 use Rattle.lock_model.specs.declared.numbers.ClassNo.{ClassNo}
 use Rattle.lock_model.specs.declared.numbers.LockNo.{LockNo}
 use Rattle.lock_model.specs.declared.numbers.ThreadNo.{ThreadNo}
@@ -82,6 +83,15 @@ lock_of (Thread t) = None
 abbrev pub lock_named : Known → List ℕ → Option LockNo
 lock_named k name = if is_name name then option_and_then lock_of (declared_as k name) else None
 
+abbrev pub chan_of : Declared → Option ChanNo
+chan_of (Lock l) = None
+chan_of (Chan c) = Some c
+chan_of (Thread t) = None
+
+-- the condition variable or channel of that name
+abbrev pub chan_named : Known → List ℕ → Option ChanNo
+chan_named k name = if is_name name then option_and_then chan_of (declared_as k name) else None
+
 abbrev pub thread_of : Declared → Option ThreadNo
 thread_of (Lock l) = None
 thread_of (Chan c) = None
@@ -128,6 +138,9 @@ op_of k (say.Add name key amount) =
 op_of k (say.Get name key) = with_key Get (lock_named k name) (number_of key)
 op_of k (say.Prio prio) = option_map (λ p. Base (record { 0 = p })) (priority_of prio)
 op_of k say.Show = Some Show
+op_of k (say.Wait cond name) = option_map (λ c. Sleep c) (chan_named k name)
+op_of k (say.WakeOne cond name) = option_map (λ c. WakeOne c) (chan_named k name)
+op_of k (say.WakeAll cond name) = option_map (λ c. WakeAll c) (chan_named k name)
 
 -- 4. What a line adds
 
@@ -141,6 +154,13 @@ with_lock k kind name class = record k {
   names = k.names ++ (name, Lock (record { 0 = length k.locks })) ∷ [];
   classes = with_class k.classes class;
   locks = k.locks ++ (record { name = name; kind = kind; class = class_named k class }) ∷ [];
+}
+
+-- a condition variable or channel with its lock
+abbrev pub with_chan : Known → Bool → List ℕ → LockNo → Known
+with_chan k cond name lock = record k {
+  names = k.names ++ (name, Chan (record { 0 = length k.chans })) ∷ [];
+  chans = k.chans ++ (record { name = name; cond = cond; lock = lock }) ∷ [];
 }
 
 -- a thread that begins
@@ -205,6 +225,8 @@ with_endtry k (Some t) = record k {
 -- what is known behind a statement; where a word isn't readable, nothing rests on it
 abbrev pub learned : Known → Statement → Known
 learned k (Declares kind name class) = with_lock k kind name class
+learned k (DeclaresChan cond name lock) =
+    with_chan k cond name (unwrap_or (lock_named k lock) (record { 0 = 0 }))
 learned k (Begins name prio) = with_thread k name (unwrap_or (priority_of prio) 0)
 learned k Ends = with_end k k.open_thread
 learned k (Schedules names) = record k { schedule = k.schedule ++ threads_named k names }

@@ -1,11 +1,11 @@
 -- What a line says, by its first word and the number of words behind it.
-use Rattle.std.specs.Prelude.{ℕ, if◌then◌else◌, List, [], ◌∷◌, codes, option_and_then, Option, Some, None}
+use Rattle.std.specs.Prelude.{ℕ, Bool, true, false, if◌then◌else◌, List, [], ◌∷◌, codes, option_and_then, Option, Some, None}
 use Rattle.std.specs.List.{list_any}
 use Rattle.std.specs.Map.{lookup}
 use Rattle.lock_model.specs.Counts.{is_empty}
 use Rattle.lock_model.specs.Script.Lines.{words_of, is_same}
 use Rattle.lock_model.specs.declared.plan.Kind.{Kind}
-use Rattle.lock_model.specs.declared.plan.Kind.TheVariants.{Mtx, Rw}
+use Rattle.lock_model.specs.declared.plan.Kind.TheVariants.{Mtx, Rw, Sx}
 use Rattle.lock_model.specs.declared.plan.Mode.{Mode}
 use Rattle.lock_model.specs.declared.plan.Mode.TheVariants.{Excl, Shared}
 
@@ -24,10 +24,16 @@ pub data Operation : Type 0 where
   -- a priority
   Prio : List ℕ → Operation
   Show : Operation
+  -- a condition variable, or a channel, as the first word says
+  Wait : Bool → List ℕ → Operation
+  WakeOne : Bool → List ℕ → Operation
+  WakeAll : Bool → List ℕ → Operation
 
 pub data Statement : Type 0 where
   -- a lock's name and its class
   Declares : Kind → List ℕ → List ℕ → Statement
+  -- the name of a condition variable, or of a channel, and its lock
+  DeclaresChan : Bool → List ℕ → List ℕ → Statement
   -- a thread's name and its priority
   Begins : List ℕ → List ℕ → Statement
   Ends : Statement
@@ -52,6 +58,9 @@ abbrev pub forms : List (List ℕ × Form)
 forms =
     (codes "mutex", WithTwo (Declares Mtx))
     ∷ (codes "rw", WithTwo (Declares Rw))
+    ∷ (codes "sx", WithTwo (Declares Sx))
+    ∷ (codes "cond", WithTwo (DeclaresChan true))
+    ∷ (codes "chan", WithTwo (DeclaresChan false))
     ∷ (codes "thread", WithTwo Begins)
     ∷ (codes "end", Alone Ends)
     ∷ (codes "schedule", WithSome Schedules)
@@ -62,15 +71,27 @@ forms =
     ∷ (codes "wlock", WithOne (λ lock. Operates (Take Rw Excl lock)))
     ∷ (codes "runlock", WithOne (λ lock. Operates (Release Rw Shared lock)))
     ∷ (codes "wunlock", WithOne (λ lock. Operates (Release Rw Excl lock)))
+    ∷ (codes "slock", WithOne (λ lock. Operates (Take Sx Shared lock)))
+    ∷ (codes "xlock", WithOne (λ lock. Operates (Take Sx Excl lock)))
+    ∷ (codes "sunlock", WithOne (λ lock. Operates (Release Sx Shared lock)))
+    ∷ (codes "xunlock", WithOne (λ lock. Operates (Release Sx Excl lock)))
     ∷ (codes "trylock", WithOne (λ lock. Operates (Try Mtx Excl lock)))
     ∷ (codes "tryrlock", WithOne (λ lock. Operates (Try Rw Shared lock)))
     ∷ (codes "trywlock", WithOne (λ lock. Operates (Try Rw Excl lock)))
+    ∷ (codes "tryslock", WithOne (λ lock. Operates (Try Sx Shared lock)))
+    ∷ (codes "tryxlock", WithOne (λ lock. Operates (Try Sx Excl lock)))
     ∷ (codes "endtry", Alone EndsTry)
     ∷ (codes "set", WithThree (λ lock key value. Operates (Set lock key value)))
     ∷ (codes "add", WithThree (λ lock key amount. Operates (Add lock key amount)))
     ∷ (codes "get", WithTwo (λ lock key. Operates (Get lock key)))
     ∷ (codes "prio", WithOne (λ prio. Operates (Prio prio)))
     ∷ (codes "show", Alone (Operates Show))
+    ∷ (codes "wait", WithOne (λ chan. Operates (Wait true chan)))
+    ∷ (codes "signal", WithOne (λ chan. Operates (WakeOne true chan)))
+    ∷ (codes "broadcast", WithOne (λ chan. Operates (WakeAll true chan)))
+    ∷ (codes "msleep", WithOne (λ chan. Operates (Wait false chan)))
+    ∷ (codes "wakeup_one", WithOne (λ chan. Operates (WakeOne false chan)))
+    ∷ (codes "wakeup", WithOne (λ chan. Operates (WakeAll false chan)))
     ∷ []
 
 abbrev pub form_of : List ℕ → Option Form

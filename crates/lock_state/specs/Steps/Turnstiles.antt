@@ -6,7 +6,7 @@ use Rattle.lock_state.specs.Steps.LockWords.{AllOpen, is_taking_back, effective_
 use Rattle.lock_model.specs.Config.{Config}
 use Rattle.lock_state.specs.State.{State, Running, Queued, Woken, Walk, NoWalk, AtLock, Note, SleepHalted, Loan, Round, Phase, Awake, SelfAborted, put, put_at, put_queue}
 use Rattle.lock_model.specs.Holds.{NotHeld, Holds}
-use Rattle.lock_model.specs.Queues.{Cause, BySignal, ByAbort, Waiter, Mark, lock_queue, is_turnstile_queue, side_of, list_of, with_list, insert, head_with, free_with, dealt, free_after, head_after}
+use Rattle.lock_model.specs.Queues.{Cause, BySignal, ByAbort, Waiter, Lists, Mark, lock_queue, is_turnstile_queue, side_of, list_of, with_list, insert, head_with, free_with, dealt, free_after, head_after}
 use Rattle.lock_model.specs.declared.plan.Kind.TheVariants.{Mtx}
 use Rattle.lock_model.specs.declared.plan.Mode.{Mode}
 use Rattle.lock_model.specs.declared.plan.Mode.TheVariants.{Excl}
@@ -14,23 +14,83 @@ use Rattle.lock_model.specs.declared.plan.Side.{Side}
 use Rattle.lock_model.specs.declared.plan.QueueName.{QueueName}
 use Rattle.lock_model.specs.declared.plan.QueueName.TheVariants.{Lock, Chan}
 
--- 1. An enter: the word is held and does not admit, and the thread, made ready, stands on the lock's turnstile with
--- its own turnstile x
+-- What the queues of locks, turnstiles and sleep queues, have in common: what is asked of who enters one and of who
+-- opens one, and what both make of the state.
 
--- what an enter asks
-pub record MayEnter (c : Config) (s : State) (t l : ℕ) (mode : Mode) (x : ℕ) : Type 0 where
+-- the thread is made ready, and must wait for the lock: the word is held and doesn't admit the mode
+pub record MustWait (c : Config) (s : State) (t l : ℕ) (mode : Mode) : Type 0 where
   pub thread : t < c.threads
   pub lock : l < c.locks
-  pub turnstile : is_turnstile (c.kind l) ≡ true
-  pub mutex : c.kind l ≡ Mtx → mode ≡ Excl
   pub held : is_free (s.word l).holder ≡ false
   pub refused : admits (c.kind l) (s.word l) mode ≡ false
   pub queued : s.wait t ≡ Queued
   pub unnamed : s.blocked_on t ≡ None
-  pub own : s.turnstile t ≡ Some x
   pub wants : (s.wanted t ≡ Some l) ⊎ (s.wanted t ≡ None)
   pub no_walk : s.walk t ≡ NoWalk
   pub sections : AllOpen c s t
+
+-- the thread is the lock's last holder, waiters are shown, its section has ended, and it has nobody marked
+pub record IsLastHolder (c : Config) (s : State) (t l : ℕ) (mode : Mode) : Type 0 where
+  pub thread : t < c.threads
+  pub lock : l < c.locks
+  pub held : s.held t l ≡ Holds mode
+  pub last : is_free (without_one (s.word l).holder) ≡ true
+  pub shown : shows_waiters (s.word l) ≡ true
+  pub unmarked : s.marked t ≡ []
+  pub closed : open_in c s.history t l ≡ NotHeld
+  pub begun : s.has_begun t l ≡ true
+
+-- the thread stands on the queue, whose lists are these now, and has lent it its object x
+abbrev pub with_waiter : State → ℕ → QueueName → Lists → ℕ → State
+with_waiter s t q lists x = record s {
+  lists = put_queue s.lists q lists;
+  free_list = put_queue s.free_list q (free_with (s.head q) x (s.free_list q));
+  head = put_queue s.head q (head_with (s.head q) x);
+  blocked_on = put s.blocked_on t (Some q);
+}
+
+-- the thread is one of these waiters on its side of the lock's queue: the word shows that side, and the round has
+-- ended
+abbrev pub waiting_for : State → ℕ → ℕ → Mode → List Waiter → ℕ → State
+waiting_for s t l mode ws x =
+    let q : QueueName = lock_queue l in
+    record (with_waiter s t q (with_list (side_of mode) ws (s.lists q)) x) {
+      word = put s.word l (entered (s.word l) (side_of mode));
+      wanted = put s.wanted t (Some l);
+      called = put s.called t None;
+      round = put s.round t None;
+      last_look = put s.last_look t None;
+    }
+
+-- these waiters are off the queue, whose lists are these now, and in the marked list with their objects
+abbrev pub with_marked : State → ℕ → QueueName → Lists → List Waiter → State
+with_marked s t q lists ws = record s {
+  lists = put_queue s.lists q lists;
+  free_list = put_queue s.free_list q (free_after ws (s.free_list q));
+  head = put_queue s.head q (head_after ws (s.free_list q) (s.head q));
+  marked = put s.marked t (dealt q ws (s.free_list q) (s.head q));
+}
+
+-- the last holder has released the lock: the word is free, and the woken side is in the marked list
+abbrev pub after_last_release : Config → State → ℕ → ℕ → State
+after_last_release c s t l =
+    let q : QueueName = lock_queue l in
+    let side : Side = side_woken (c.kind l) (s.word l) in
+    record (with_marked s t q (with_list side [] (s.lists q)) (list_of side (s.lists q))) {
+      word = put s.word l (opened (c.kind l) (s.word l));
+      held = put_at s.held t l NotHeld;
+      held_locks = put s.held_locks t (without_held l (s.held_locks t));
+      last_look = put s.last_look t None;
+    }
+
+-- 1. An enter: the thread must wait, and stands on the lock's turnstile with its own turnstile x
+
+-- what an enter asks
+pub record MayEnter (c : Config) (s : State) (t l : ℕ) (mode : Mode) (x : ℕ) : Type 0 where
+  pub waits : MustWait c s t l mode
+  pub turnstile : is_turnstile (c.kind l) ≡ true
+  pub mutex : c.kind l ≡ Mtx → mode ≡ Excl
+  pub own : s.turnstile t ≡ Some x
 
 -- the owner of a turnstile's head: that of the first waiter's enter is the word's exclusive holder
 abbrev pub owner_with : Option ℕ → Option ℕ → Holder → Option ℕ
@@ -46,22 +106,11 @@ walk_up l (Some o) = AtLock l
 unfoldable pub after_enter : State → ℕ → ℕ → Mode → ℕ → State
 after_enter s t l mode x =
     let q : QueueName = lock_queue l in
-    record s {
-      word = put s.word l (entered (s.word l) (side_of mode));
-      lists = put_queue s.lists q
-          (with_list (side_of mode)
-          (insert (record { thread = t; kept = s.effective t })
-          (list_of (side_of mode) (s.lists q))) (s.lists q));
-      free_list = put_queue s.free_list q (free_with (s.head q) x (s.free_list q));
-      head = put_queue s.head q (head_with (s.head q) x);
+    let own : Waiter = record { thread = t; kept = s.effective t } in
+    record (waiting_for s t l mode (insert own (list_of (side_of mode) (s.lists q))) x) {
       owner = put_queue s.owner q (owner_with (s.head q) (s.owner q) (s.word l).holder);
       turnstile = put s.turnstile t None;
-      blocked_on = put s.blocked_on t (Some q);
-      wanted = put s.wanted t (Some l);
-      called = put s.called t None;
-      round = put s.round t None;
       walk = put s.walk t (walk_up l (owner_of (s.word l).holder));
-      last_look = put s.last_look t None;
     }
 
 -- 2. An open: the last holder's release where waiters are shown. One whole side goes to the marked list with its
@@ -70,43 +119,24 @@ after_enter s t l mode x =
 
 -- what an open asks
 pub record MayOpen (c : Config) (s : State) (t l : ℕ) (mode : Mode) : Type 0 where
-  pub thread : t < c.threads
-  pub lock : l < c.locks
+  pub releases : IsLastHolder c s t l mode
   pub turnstile : is_turnstile (c.kind l) ≡ true
-  pub held : s.held t l ≡ Holds mode
-  pub last : is_free (without_one (s.word l).holder) ≡ true
-  pub shown : shows_waiters (s.word l) ≡ true
-  pub unmarked : s.marked t ≡ []
   pub off_turnstiles : (k : ℕ) → s.blocked_on t ≡ Some (lock_queue k)
       → is_turnstile (c.kind k) ≡ false
-  pub closed : open_in c s.history t l ≡ NotHeld
-  pub begun : s.has_begun t l ≡ true
 
 -- the loan's node goes back to its turnstile
 abbrev pub home_after : (ℕ → Bool) → Option Loan → ℕ → Bool
 home_after home None = home
 home_after home (Some loan) = put home loan.number true
 
--- the word is free, and the woken side is in the marked list
+-- the lock is released and the loan for it is home, and the turnstile has no owner
 unfoldable pub after_open : Config → State → ℕ → ℕ → State
-after_open c s t l =
-    let q : QueueName = lock_queue l in
-    let side : Side = side_woken (c.kind l) (s.word l) in
-    let ws : List Waiter = list_of side (s.lists q) in
-    record s {
-      word = put s.word l (opened (c.kind l) (s.word l));
-      lists = put_queue s.lists q (with_list side [] (s.lists q));
-      free_list = put_queue s.free_list q (free_after ws (s.free_list q));
-      head = put_queue s.head q (head_after ws (s.free_list q) (s.head q));
-      owner = put_queue s.owner q None;
-      held = put_at s.held t l NotHeld;
-      held_locks = put s.held_locks t (without_held l (s.held_locks t));
-      loan = put_at s.loan t l None;
-      loan_home = home_after s.loan_home (s.loan t l);
-      effective = put s.effective t (effective_of c (put (s.loan t) l None) (s.base t));
-      marked = put s.marked t (dealt q ws (s.free_list q) (s.head q));
-      last_look = put s.last_look t None;
-    }
+after_open c s t l = record (after_last_release c s t l) {
+  owner = put_queue s.owner (lock_queue l) None;
+  loan = put_at s.loan t l None;
+  loan_home = home_after s.loan_home (s.loan t l);
+  effective = put s.effective t (effective_of c (put (s.loan t) l None) (s.base t));
+}
 
 -- 3. A mark: the first of the marked list gets its object back and is woken
 

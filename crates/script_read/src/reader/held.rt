@@ -1,18 +1,18 @@
 //! The list of locks that a thread holds, in order of acquisition: how a lock is held, and what an operation changes.
-ghost use Rattle.std.specs.Prelude.{◌≡◌, ◌++◌, ◌∷◌, [], OnOk, position};
+ghost use Rattle.std.specs.Prelude.{◌≡◌, ◌++◌, ◌∷◌, [], OnOk};
 ghost use Rattle.std.specs.Cmp.Lexicographic.{pointwise};
 ghost use Rattle.lock_model.specs.Script.Faults.{is_same_held};
-ghost use Rattle.lock_model.specs.Operations.{hold_in, held_behind, holds_lock};
+ghost use Rattle.lock_model.specs.Operations.{hold_in, held_behind, is_last};
 ghost use Rattle.script_read.specs.Readers.{hold};
 
-use lock_model::{Held, LockNo, Mode, Op};
+use lock_model::{Held, LockNo, Mode, Op, place_held};
 use std::alloc::AllocError;
 
 /// The mode in which a lock is held, if it is.
 pub fn mode_of(held: &[Held], l: LockNo) -> Option<Mode>
     ensures { hold result ≡ hold_in held.now l.0 }
 {
-    let place = place_of(held, l)?;
+    let place = place_held(l, held)?;
     Some(held[place].mode)
 }
 
@@ -23,6 +23,14 @@ pub fn is_same(held: &[Held], before: &[Held]) -> bool
     held == before
 }
 
+/// Whether a lock was gained last, and not by a try.
+#[tactic(auto, using(crate::proofs::LastHeld::last_place))]
+pub fn is_last(held: &[Held], l: LockNo) -> bool
+    ensures { result ≡ is_last l.0 held.now }
+{
+    held.last().is_some_and(|h| h.l == l && !h.by_try)
+}
+
 /// Changes the list as an operation does.
 pub fn hold_behind(held: &mut Vec<Held>, op: Op) -> Result<(), AllocError>
     ensures { OnOk result (held.new.items ≡ held_behind op held.old.items) }
@@ -31,7 +39,7 @@ pub fn hold_behind(held: &mut Vec<Held>, op: Op) -> Result<(), AllocError>
         Op::Take { l, mode } => gain(held, l, mode, false)?,
         Op::Try { l, mode, .. } => gain(held, l, mode, true)?,
         Op::Release { l } => {
-            if let Some(place) = place_of(held, l) {
+            if let Some(place) = place_held(l, held) {
                 held.remove(place);
             }
         }
@@ -54,11 +62,4 @@ fn gain(held: &mut Vec<Held>, l: LockNo, mode: Mode, by_try: bool) -> Result<(),
 {
     held.push(Held { l, mode, by_try })?;
     Ok(())
-}
-
-// Where a lock stands among those that are held.
-fn place_of(held: &[Held], l: LockNo) -> Option<usize>
-    ensures { result ≡ position (holds_lock l) held.now }
-{
-    held.iter().position(|h| h.l == l)
 }

@@ -2,31 +2,33 @@
 //! that fails, or what the line's words stand for.
 #![tactic(auto, using(lock_model::proofs::LeastCodes::least_is_first))]
 
-ghost use Rattle.std.specs.Prelude.{◌≡◌, ◌∷◌, ◌<◌, [], Some, None, Ok, Err, IfOk, if◌then◌else◌, length, nat_lt};
+ghost use Rattle.std.specs.Prelude.{◌≡◌, ◌∷◌, ◌<◌, ◌==◌, ◌||◌, [], Some, None, Ok, Err, IfOk, if◌then◌else◌, length, nat_lt, ok_or, option_and_then, slice_get};
 ghost use Rattle.std.specs.List.{list_all};
-ghost use Rattle.lock_model.specs.Limits.{most_classes, most_locks, most_operations, most_threads};
+ghost use Rattle.lock_model.specs.Limits.{most_channels, most_classes, most_locks, most_operations, most_threads};
 ghost use Rattle.lock_model.specs.Names.{is_name};
 ghost use Rattle.lock_model.specs.Operations.{is_of_kind, may_be_held};
 ghost use Rattle.lock_model.specs.Script.Faults.{byte_tests, word_tests, is_before_threads};
-ghost use Rattle.lock_model.specs.Script.Learning.{declared_as, lock_named, thread_named, class_number, op_of};
+ghost use Rattle.lock_model.specs.Script.Learning.{declared_as, lock_of, lock_named, chan_named, thread_named, class_number, op_of};
 ghost use Rattle.lock_model.specs.Script.Lines.{has_meaning, is_printable, words_of, priority_of};
-ghost use Rattle.lock_model.specs.Script.Statements.{Declares, Begins, Schedules, Take, Release, Try, Set, Add, Get, Prio, Show, statement_of};
+ghost use Rattle.lock_model.specs.Script.Statements.{Declares, DeclaresChan, Begins, Schedules, Take, Release, Try, Set, Add, Get, Prio, Show, Wait, statement_of};
 ghost use Rattle.lock_model.specs.Tests.{least_code};
 ghost use Rattle.lock_model.specs.declared.plan.Kind.TheVariants.{Sx};
 ghost use Rattle.lock_model.specs.declared.plan.Op.TheVariants as operation;
 ghost use Rattle.script_read.specs.OpenThreads.{thread_of};
-ghost use Rattle.script_read.specs.Reading.{Finds, gain_tests, name_fault, named, operation_fault};
+ghost use Rattle.script_read.specs.Reading.{Finds, gain_tests, name_fault, named, operation_fault, sort_tests};
 ghost use Rattle.script_read.specs.Readers.{known};
 ghost use Rattle.script_read.specs.Statements.{meant, meant_operation};
 
 use crate::fault::{Code, test};
 use crate::numbers::{number_of, priority_of};
 use crate::reader::Reader;
-use crate::reader::held::mode_of;
+use crate::reader::held::{is_last, mode_of};
 use crate::reader::open_thread::OpenThread;
 use crate::statement::{Operation, Statement, statement_of};
 use crate::words::cut_word;
-use lock_model::{Declared, Held, Kind, LockNo, Mode, Name, Op, Prio, ThreadNo, limits};
+use lock_model::{
+    ChanDecl, ChanNo, Declared, Held, Kind, LockNo, Mode, Name, Op, Prio, ThreadNo, limits,
+};
 
 /// The stage of a line's bytes.
 pub fn test_bytes(line: &[u8]) -> Result<(), Code>
@@ -99,6 +101,23 @@ impl Reader {
             .unwrap_or(self.classes.len())
     }
 
+    /// What a channel's declaration names: the channel and its lock.
+    pub fn test_chan(&self, cond: bool, name: &[u8], lock: &[u8]) -> Result<(Name, LockNo), Code>
+        ensures fault { Finds (name_fault (known self.now)
+            (DeclaresChan cond name.now lock.now)) result }
+        ensures names { IfOk result (λ r. (r.0 ≡ name.now)
+            × (lock_named (known self.now) lock.now ≡ Some r.1)) }
+        ensures new { IfOk result (λ r. declared_as (known self.now) name.now ≡ None) }
+        ensures few { IfOk result (λ r. length (known self.now).chans < most_channels) }
+    {
+        let name = spelled(name)?;
+        let lock = spelled(lock)?;
+        test(Code::DECLARED, !self.names.contains_key(&name))?;
+        let lock = self.lock_of(&lock)?;
+        test(Code::LIMIT, self.chans.len() < limits::CHANNELS)?;
+        Ok((name, lock))
+    }
+
     /// What a thread's first line says: its name and its priority.
     pub fn test_thread(&self, name: &[u8], prio: &[u8]) -> Result<(Name, Prio), Code>
         ensures fault { Finds (name_fault (known self.now) (Begins name.now prio.now)) result }
@@ -167,6 +186,17 @@ impl Reader {
             Operation::Show => {
                 self.test_room()?;
                 Ok(Op::Show)
+            }
+            Operation::Wait { cond, chan } => self.test_wait(thread, cond, chan),
+            Operation::WakeOne { cond, chan } => {
+                let c = self.chan_named(chan)?;
+                self.test_sort(cond, c)?;
+                Ok(Op::WakeOne { c })
+            }
+            Operation::WakeAll { cond, chan } => {
+                let c = self.chan_named(chan)?;
+                self.test_sort(cond, c)?;
+                Ok(Op::WakeAll { c })
             }
         }
     }
@@ -284,6 +314,35 @@ impl Reader {
         Ok(Op::Get { l, key })
     }
 
+    // `wait C` and `msleep C` wait with the lock of a condition variable or channel.
+    #[tactic(auto, using(lock_model::proofs::LeastCodes::least_is_first, crate::proofs::Channels::sort_of, crate::proofs::Channels::is_declared))]
+    fn test_wait(&self, thread: &OpenThread, cond: bool, chan: &[u8]) -> Result<Op, Code>
+        ensures fault { Finds (operation_fault (known self.now) (Wait cond chan.now)
+            (thread_of thread.now)) result }
+        ensures said { IfOk result (λ op. op_of (known self.now) (Wait cond chan.now) ≡ Some op) }
+        ensures few { IfOk result (λ op. (known self.now).operations < most_operations) }
+    {
+        let c = self.chan_named(chan)?;
+        let lock = self.test_sort(cond, c)?.lock;
+        test(Code::UNHELD, mode_of(&thread.held, lock).is_some())?;
+        test(Code::UNDER_OTHERS, self.are_sx_beside(&thread.held, lock))?;
+        test(Code::NOT_LAST, is_last(&thread.held, lock))?;
+        Ok(Op::Sleep { c })
+    }
+
+    // What waits and wakes share, where the channel that they name is known: it is declared, and of their sort.
+    #[tactic(auto, using(lock_model::proofs::LeastCodes::least_is_first, crate::proofs::Channels::sort_of, crate::proofs::Channels::is_declared))]
+    fn test_sort(&self, cond: bool, c: ChanNo) -> Result<ChanDecl, Code>
+        ensures fault { Finds (least_code (sort_tests (known self.now) cond c)) result }
+        ensures declared { IfOk result (λ d. slice_get (known self.now).chans c.0 ≡ Some d) }
+        ensures few { IfOk result (λ d. (known self.now).operations < most_operations) }
+    {
+        let chan = self.declared_chan(c).ok_or(Code::UNDECLARED)?;
+        self.test_room()?;
+        test(Code::KIND, chan.cond == cond)?;
+        Ok(chan)
+    }
+
     // There is room for an operation more.
     fn test_room(&self) -> Result<(), Code>
         ensures { result ≡ (if nat_lt (known self.now).operations most_operations
@@ -296,9 +355,27 @@ impl Reader {
     fn lock_named(&self, word: &[u8]) -> Result<LockNo, Code>
         ensures { result ≡ named word.now (lock_named (known self.now) word.now) }
     {
-        match self.names.get(&spelled(word)?) {
+        self.lock_of(&spelled(word)?)
+    }
+
+    // The lock of a name.
+    fn lock_of(&self, name: &Name) -> Result<LockNo, Code>
+        ensures { result ≡ ok_or (option_and_then lock_of (declared_as (known self.now) name.now))
+            (record { 0 = 5 }) }
+    {
+        match self.names.get(name) {
             Some(Declared::Lock(l)) => Ok(*l),
             Some(Declared::Chan(_) | Declared::Thread(_)) | None => Err(Code::UNDECLARED),
+        }
+    }
+
+    // The condition variable or channel that a word names.
+    fn chan_named(&self, word: &[u8]) -> Result<ChanNo, Code>
+        ensures { result ≡ named word.now (chan_named (known self.now) word.now) }
+    {
+        match self.names.get(&spelled(word)?) {
+            Some(Declared::Chan(c)) => Ok(*c),
+            Some(Declared::Lock(_) | Declared::Thread(_)) | None => Err(Code::UNDECLARED),
         }
     }
 
@@ -310,6 +387,13 @@ impl Reader {
             Some(Declared::Thread(t)) => Ok(*t),
             Some(Declared::Lock(_) | Declared::Chan(_)) | None => Err(Code::UNDECLARED),
         }
+    }
+
+    // The condition variable or channel of that number.
+    fn declared_chan(&self, c: ChanNo) -> Option<ChanDecl>
+        ensures { result ≡ slice_get (known self.now).chans c.0 }
+    {
+        self.chans.get(usize::from(c.0)).copied()
     }
 
     // Whether a lock is of that kind.
@@ -336,6 +420,15 @@ impl Reader {
         ensures { result ≡ list_all (λ h. is_of_kind (known self.now).locks Sx h.l) held.now }
     {
         held.iter().all(|h| self.is_of_kind(Kind::Sx, h.l))
+    }
+
+    // Whether only sx locks are held beside that lock.
+    fn are_sx_beside(&self, held: &[Held], l: LockNo) -> bool
+        ensures { result ≡ list_all
+            (λ h. h.l.0 == l.0 || is_of_kind (known self.now).locks Sx h.l) held.now }
+    {
+        held.iter()
+            .all(|h| h.l == l || self.is_of_kind(Kind::Sx, h.l))
     }
 }
 

@@ -3,9 +3,8 @@ ghost use Rattle.std.specs.Prelude.{ℕ, ◌++◌, [], ◌∷◌};
 ghost use Rattle.lock_state.specs.Steps.{Gains, Drops, Claims};
 ghost use Rattle.lock_state.specs.Steps.LockWords.{MayGain, MayDrop};
 ghost use Rattle.lock_state.specs.Steps.Lending.{MayClaim};
-ghost use Rattle.lock_model.specs.Operations.{without_lock};
 ghost use Rattle.lock_model.specs.declared.plan.Mode.TheVariants.{Excl};
-ghost use Rattle.step_world.specs.Steps.{May, Makes, ChangesProgress, KeepsBooks, HoldsFew};
+ghost use Rattle.step_world.specs.Steps.{May, Makes, ChangesProgress, KeepsBooks, HoldsFew, with_released};
 
 use super::Machine;
 use lock_model::{Held, LockNo, Mode, ThreadNo};
@@ -53,8 +52,7 @@ impl Machine {
     pub fn drop_lock(&mut self, t: ThreadNo, l: LockNo, mode: Mode)
         requires may { May self.old (λ c s. MayDrop c s t.0 l.0 mode) }
         ensures step { Makes self.old self.new (Drops t.0 l.0 mode) }
-        ensures progress { ChangesProgress self.old self.new t.0
-            (λ a. record a { held = without_lock l.0 a.held }) }
+        ensures progress { ChangesProgress self.old self.new t.0 (with_released l.0) }
         ensures books { KeepsBooks self.old self.new }
     {
         let i = usize::from(l.0);

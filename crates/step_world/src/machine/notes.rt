@@ -1,16 +1,18 @@
 //! Entries of the history.
-ghost use Rattle.std.specs.Prelude.{◌≡◌, ◌≤◌, ◌<◌, ◌+◌, length};
+ghost use Rattle.std.specs.Prelude.{◌≡◌, ◌≤◌, ◌<◌, ◌+◌, length, option_map};
+ghost use Rattle.lock_model.specs.Events.{of_sleep, fell_asleep};
 ghost use Rattle.lock_model.specs.History.{edited};
 ghost use Rattle.lock_state.specs.Steps.{Stamps};
 ghost use Rattle.lock_state.specs.Steps.LockWords.{MayStamp};
-ghost use Rattle.step_world.specs.Bases.{HasBaseAfter};
+ghost use Rattle.step_world.specs.Noted.{IsNoted};
 ghost use Rattle.step_world.specs.Steps.{May, Makes, KeepsProgress, HasKey};
 
 use super::Machine;
-use lock_model::{Entry, Event, ThreadNo};
+use lock_model::{ChanNo, Entry, Event, ThreadNo};
 
 impl Machine {
-    /// Makes an entry with the next ticket, and what the entry says of a table or of the thread's base priority.
+    /// Makes an entry with the next ticket, and what the entry says of a table, of the thread's base priority, or of a
+    /// wait of the thread.
     pub fn stamp(&mut self, t: ThreadNo, event: Event)
         requires may { May self.old (λ c s. MayStamp c s t.0 event) }
         requires room { 1 ≤ self.old.log.spare }
@@ -18,7 +20,8 @@ impl Machine {
         ensures step { Makes self.old self.new (Stamps t.0 event) }
         ensures progress { KeepsProgress self.old self.new }
         ensures places { self.new.tables.places ≡ self.old.tables.places }
-        ensures room { length self.new.log.entries + self.new.log.spare ≡ length self.old.log.entries + self.old.log.spare }
+        ensures room { length self.new.log.entries + self.new.log.spare
+            ≡ length self.old.log.entries + self.old.log.spare }
     {
         self.edit(t, event);
         let ticket = self.log.len();
@@ -33,13 +36,28 @@ impl Machine {
     fn edit(&mut self, t: ThreadNo, event: Event)
         requires thread { t.0 < length self.old.threads.items }
         requires key { HasKey self.old event }
-        ensures tables { self.new.tables ≡ record self.old.tables { present = edited event self.old.tables.present } }
-        ensures threads { HasBaseAfter event t.0 self.old.threads.items self.new.threads.items }
-        ensures others { self.new ≡ record self.old { threads = self.new.threads; tables = self.new.tables } }
+        ensures tables { self.new.tables
+            ≡ record self.old.tables { present = edited event self.old.tables.present } }
+        ensures threads { IsNoted event t.0 self.old.threads.items self.new.threads.items }
+        ensures others { self.new
+            ≡ record self.old { threads = self.new.threads; tables = self.new.tables } }
     {
         self.tables.edit(event).unwrap();
+        let thread = &mut self.threads[usize::from(t.0)];
+        thread.waits_on = fell_asleep(event);
         if let Event::Base { prio } = event {
-            self.threads[usize::from(t.0)].record.set_base(prio);
+            thread.record.set_base(prio);
         }
+    }
+}
+
+// The channel on which the thread of an event goes to sleep.
+fn fell_asleep(event: Event) -> Option<ChanNo>
+    ensures { option_map (λ c. c.0) result ≡ fell_asleep (of_sleep event) }
+{
+    if let Event::Sleeps { c } = event {
+        Some(c)
+    } else {
+        None
     }
 }

@@ -1,29 +1,34 @@
-//! Blocking on a turnstile, and waking from it.
-ghost use Rattle.std.specs.Prelude.{◌≡◌, ℕ, is_some, List, [], ◌∷◌};
-ghost use Rattle.lock_model.specs.Queues.{Mark, Cause, lock_queue, side_of};
-ghost use Rattle.lock_model.specs.Operations.{without_lock};
+//! Blocking on a turnstile or a sleep queue, and waking from it.
+ghost use Rattle.std.specs.Prelude.{◌≡◌, ℕ, is_some, List, [], ◌∷◌, map};
+ghost use Rattle.lock_model.specs.Queues.{Mark, Cause, lock_queue, chan_queue, side_of, taken_off};
 ghost use Rattle.lock_model.specs.declared.plan.Mode as modes;
 ghost use Rattle.lock_model.specs.declared.plan.QueueName as names;
-ghost use Rattle.lock_state.specs.Steps.{MayAll, Readies, Enters, Opens, Marks, Resumes};
-ghost use Rattle.lock_state.specs.Steps.Turnstiles.{MayOpen, MayMark, MayResume};
+ghost use Rattle.lock_model.specs.Config.{Config};
+ghost use Rattle.lock_state.specs.State.{State};
+ghost use Rattle.lock_state.specs.Facts.{Lawful};
+ghost use Rattle.lock_state.specs.Steps.{May as MayMake, MayAll, Readies, Adds, Wakes, Marks, Resumes};
+ghost use Rattle.lock_state.specs.Steps.LockWords.{MayReady, bits_of_threads};
+ghost use Rattle.lock_state.specs.Steps.Turnstiles.{MayMark, MayResume};
+ghost use Rattle.lock_state.specs.Steps.SleepQueues.{MayAdd, MayWake};
 ghost use Rattle.prio_lending.specs.Hops.{walk_up};
-ghost use Rattle.step_world.specs.Steps.{May, Makes, MakesWhere, MakesAll, KeepsProgress, ChangesProgress, KeepsBooks};
+ghost use Rattle.step_world.specs.Represents.{Represents};
+ghost use Rattle.step_world.specs.Steps.{May, Makes, MakesWhere, MakesAllWhere, KeepsProgress, ChangesProgress, KeepsBooks, enters, opens, with_released};
 
 use super::Machine;
 use crate::thread::Wait;
-use lock_model::{Kind, LockNo, Mode, QueueName, Side, ThreadNo};
-use lock_objects::{enter, open, wake};
+use lock_model::{ChanNo, Kind, LockNo, Mode, QueueName, Side, ThreadNo};
+use lock_objects::{Marked, bits_of, enter, fall_asleep, open, take_off, wake};
 use lock_words::{entered, opened, owner_of};
 use prio_lending::Walk;
 
 impl Machine {
-    /// The thread blocks on a lock whose word doesn't admit the mode: it is made ready, stands on the lock's turnstile,
-    /// and its lending walk begins at the lock where a thread holds that exclusively.
-    pub fn block(&mut self, t: ThreadNo, l: LockNo, mode: Mode)
-        requires may { May self.old (λ c s. (x : ℕ)
-            × MayAll c s (Readies t.0 (lock_queue l.0) ∷ Enters t.0 l.0 mode x ∷ [])) }
-        ensures steps { (x : ℕ) → MakesAll self.old self.new
-            (Readies t.0 (lock_queue l.0) ∷ Enters t.0 l.0 mode x ∷ []) }
+    /// The thread blocks on a lock of that kind whose word doesn't admit the mode: it is made ready and stands on the
+    /// lock's queue. On a turnstile its lending walk begins, at the lock, where a thread holds that exclusively.
+    pub fn block(&mut self, t: ThreadNo, l: LockNo, mode: Mode, kind: Kind)
+        requires may { May self.old (λ c s. (kind ≡ c.kind l.0) × ((x : ℕ)
+            × MayAll c s (Readies t.0 (lock_queue l.0) ∷ enters kind t.0 l.0 mode x ∷ []))) }
+        ensures steps { (x : ℕ) → MakesAllWhere (λ c. kind ≡ c.kind l.0) self.old self.new
+            (Readies t.0 (lock_queue l.0) ∷ enters kind t.0 l.0 mode x ∷ []) }
         ensures progress { KeepsProgress self.old self.new }
         ensures books { KeepsBooks self.old self.new }
     {
@@ -32,21 +37,48 @@ impl Machine {
         let side = side_of(mode);
         self.words[i] = entered(self.words[i], side);
         let thread = &mut self.threads[usize::from(t.0)];
-        enter(&mut self.chain, &mut thread.record, l, side, owner);
         thread.wait = Wait::Queued;
-        thread.wanted = Some(l);
-        thread.walk = walk_from(l, owner);
+        match kind {
+            Kind::Mtx | Kind::Rw => {
+                enter(&mut self.chain, &mut thread.record, l, side, owner);
+                thread.walk = walk_from(l, owner);
+            }
+            Kind::Sx => {
+                let q = QueueName::Lock(l);
+                fall_asleep(&mut self.sleepers, &mut thread.record, q, side);
+            }
+        }
+    }
+
+    /// The thread is made ready for a queue.
+    pub fn ready(&mut self, t: ThreadNo)
+        requires may { May self.old (λ c s. MayReady c s t.0) }
+        ensures step { (q : names.QueueName) → Makes self.old self.new (Readies t.0 q) }
+        ensures progress { KeepsProgress self.old self.new }
+        ensures books { KeepsBooks self.old self.new }
+    {
+        self.threads[usize::from(t.0)].wait = Wait::Queued;
+    }
+
+    /// The thread, which was made ready and has noted that it sleeps, stands on the channel's queue.
+    pub fn add(&mut self, t: ThreadNo, c: ChanNo)
+        requires may { May self.old (λ config s. (x : ℕ) × MayAdd config s t.0 c.0 x) }
+        ensures step { (x : ℕ) → Makes self.old self.new (Adds t.0 c.0 x) }
+        ensures progress { KeepsProgress self.old self.new }
+        ensures books { KeepsBooks self.old self.new }
+    {
+        let rec = &mut self.threads[usize::from(t.0)].record;
+        fall_asleep(&mut self.sleepers, rec, QueueName::Chan(c), Side::X);
     }
 
     /// The thread is the last holder of a lock of that kind, and releases it where the word shows waiters: those of the
-    /// woken side are taken off the lock's turnstile, to be woken, and what they lent the thread goes home.
+    /// woken side are taken off the lock's queue, to be woken, and what they lent the thread goes home.
     pub fn open(&mut self, t: ThreadNo, l: LockNo, kind: Kind)
         requires may { May self.old (λ c s. (kind ≡ c.kind l.0)
-            × ((mode : modes.Mode) × MayOpen c s t.0 l.0 mode)) }
-        ensures step { (mode : modes.Mode) → MakesWhere (λ c. kind ≡ c.kind l.0)
-            self.old self.new (Opens t.0 l.0 mode) }
-        ensures progress { ChangesProgress self.old self.new t.0
-            (λ a. record a { held = without_lock l.0 a.held }) }
+            × ((mode : modes.Mode) × MayMake c s (opens kind t.0 l.0 mode))) }
+        ensures step { (mode : modes.Mode) → MakesWhere (λ c s. kind ≡ c.kind l.0)
+            self.old self.new (opens kind t.0 l.0 mode) }
+        ensures progress { ChangesProgress self.old self.new t.0 (with_released l.0) }
         ensures books { KeepsBooks self.old self.new }
     {
         let i = usize::from(l.0);
@@ -57,11 +89,38 @@ impl Machine {
         let Some(side) = woken else {
             return;
         };
-        thread.marked = open(&mut self.chain, &mut thread.record, l, side);
-        thread.marked_from = QueueName::Lock(l);
+        let q = QueueName::Lock(l);
+        thread.marked_from = q;
+        match kind {
+            Kind::Mtx | Kind::Rw => {
+                thread.marked = Marked::Waiters(open(&mut self.chain, &mut thread.record, l, side));
+            }
+            Kind::Sx => {
+                thread.marked = Marked::Sleepers(take_off(&mut self.sleepers, q, side, true));
+            }
+        }
     }
 
-    /// The first of the thread's marked list gets its turnstile back and is woken.
+    /// The thread takes sleepers off a channel, the best or all, to be woken, and is told who they are.
+    pub fn wake(&mut self, t: ThreadNo, c: ChanNo, all: bool) -> u64
+        requires may { May self.old (λ config s. MayWake config s t.0 c.0 all) }
+        ensures step { Makes self.old self.new (Wakes t.0 c.0 all) }
+        ensures woken { (config : Config) (s : State) → Represents config self.old s → Lawful config s
+            → result ≡ bits_of_threads
+            (map (λ w. w.thread) (taken_off all (s.lists (chan_queue c.0)).exclusive)) }
+        ensures progress { KeepsProgress self.old self.new }
+        ensures books { KeepsBooks self.old self.new }
+    {
+        let q = QueueName::Chan(c);
+        let sleepers = take_off(&mut self.sleepers, q, Side::X, all);
+        let woken = bits_of(&sleepers);
+        let thread = &mut self.threads[usize::from(t.0)];
+        thread.marked = Marked::Sleepers(sleepers);
+        thread.marked_from = q;
+        woken
+    }
+
+    /// The first of the thread's marked list gets its object back and is woken.
     pub fn mark(&mut self, t: ThreadNo)
         requires may { May self.old (λ c s. (m : Mark) × (ms : List Mark) × MayMark c s t.0 m ms) }
         ensures step { (m : Mark) (ms : List Mark) → Makes self.old self.new (Marks t.0 m ms) }

@@ -1,29 +1,27 @@
 //! The hops of a lending walk.
-ghost use Rattle.std.specs.Prelude.{◌≡◌, ℕ, true, is_some};
+ghost use Rattle.std.specs.Prelude.{◌≡◌, ℕ, is_some};
 ghost use Rattle.lock_model.specs.Queues.{lock_queue, names_turnstile};
-ghost use Rattle.lock_model.specs.Words.{is_turnstile};
-ghost use Rattle.lock_model.specs.Config.{Config};
 ghost use Rattle.lock_state.specs.Steps.{Lends, Shifts, EndsWalk};
 ghost use Rattle.lock_state.specs.Steps.Lending.{MayLend, MayShift, MayEndWalk};
-ghost use Rattle.step_world.specs.Steps.{May, Makes, KeepsProgress, KeepsBooks};
+ghost use Rattle.step_world.specs.Steps.{May, Makes, MakesWhere, KeepsProgress, KeepsBooks};
 
 use super::Machine;
-use lock_model::{LockNo, QueueName, ThreadNo};
+use lock_model::{LockNo, ThreadNo};
 use lock_objects::{lend_to_owner, sort_anew};
 use prio_lending::Walk;
-use thread_records::ThreadRec;
 
 impl Machine {
     /// The thread's walk stands at a lock, whose turnstile has that owner: the owner is lent the best priority of those
-    /// who wait.
-    pub fn lend_to(&mut self, t: ThreadNo, l: LockNo, owner: ThreadNo)
+    /// who wait. Whether the owner stands on a turnstile itself, `on_turnstile` tells.
+    pub fn lend_to(&mut self, t: ThreadNo, l: LockNo, owner: ThreadNo, on_turnstile: bool)
         requires may { May self.old (λ c s. (h : ℕ) × MayLend c s t.0 l.0 owner.0 h) }
-        ensures step { (h : ℕ) → Makes self.old self.new (Lends t.0 l.0 owner.0 h) }
+        ensures step { (h : ℕ) → MakesWhere
+            (λ c s. on_turnstile ≡ names_turnstile c (s.blocked_on owner.0))
+            self.old self.new (Lends t.0 l.0 owner.0 h) }
         ensures progress { KeepsProgress self.old self.new }
         ensures books { KeepsBooks self.old self.new }
     {
         let lent = &mut self.threads[usize::from(owner.0)];
-        let on_turnstile = stands_on_turnstile(&lent.record);
         let walk = lend_to_owner(&mut self.chain, &mut lent.record, l, on_turnstile);
         self.threads[usize::from(t.0)].walk = walk;
     }
@@ -51,12 +49,4 @@ impl Machine {
     {
         self.threads[usize::from(t.0)].walk = Walk::None;
     }
-}
-
-// Whether a record names a turnstile, where all locks have turnstiles.
-fn stands_on_turnstile(rec: &ThreadRec) -> bool
-    ensures { (c : Config) → ((l : ℕ) → is_turnstile (c.kind l) ≡ true)
-        → result ≡ names_turnstile c rec.now.on }
-{
-    matches!(rec.on(), Some(QueueName::Lock(_)))
 }

@@ -1,33 +1,44 @@
 //! The rows of a running thread that takes, tries or releases a lock.
 ghost use Rattle.std.specs.Prelude.{◌≡◌, ◌<◌, length, Some};
 ghost use Rattle.lock_model.specs.Operations.{IsProper};
-ghost use Rattle.lock_model.specs.Plans.{lock_kind};
-ghost use Rattle.lock_model.specs.declared.plan.Op.TheVariants.{Take, Try, Release};
+ghost use Rattle.lock_model.specs.Plans.{lock_kind, config_of};
+ghost use Rattle.lock_model.specs.declared.plan.Mode as modes;
+ghost use Rattle.lock_model.specs.declared.plan.Op.TheVariants.{Try, Release};
 ghost use Rattle.lock_model.specs.Words.{word_of, IsWellFormed, admits, is_plain};
+ghost use Rattle.lock_state.specs.State.{State};
 ghost use Rattle.lock_state.specs.Run.{Run};
 ghost use Rattle.lock_laws.specs.OnTrack.{IsAtOperation};
-ghost use Rattle.step_world.specs.Steps.{HasKey};
-ghost use Rattle.step_world.specs.Runs.{HasRun, IsRunOf, MakesRow, KeepsWhereIdle, IsGain, answer_of};
+ghost use Rattle.step_world.specs.Represents.{Represents};
+ghost use Rattle.step_world.specs.Steps.{HasKey, ChangesProgress, KeepsBooks, with_released};
+ghost use Rattle.step_world.specs.Runs.{HasRun, HasState, IsRunOf, MakesRow, KeepsWhereIdle, IsGain, IsTake, MayGiveBack, GivesBack, answer_of};
 
 use crate::machine::Machine;
 use crate::turns::Made;
 use lock_model::{Event, Kind, LockNo, Mode, Plan, StepKind, ThreadNo, Turn};
 use lock_words::{admits, is_drop, is_plain};
 
-/// A take gains the lock where its word admits the mode, and else the thread blocks.
-pub fn take(machine: &mut Machine, plan: &Plan, t: ThreadNo, l: LockNo, mode: Mode) -> Made
+/// A thread gains a lock where its word admits the mode, and notes that by the event; else it blocks. So it takes a lock,
+/// and takes it back after a wait.
+pub fn take(
+    machine: &mut Machine,
+    plan: &Plan,
+    t: ThreadNo,
+    l: LockNo,
+    mode: Mode,
+    event: Event,
+) -> Made
     requires proper { IsProper plan.now }
     requires thread { t.0 < length plan.now.threads }
-    requires run { HasRun plan.now machine.old
-        (λ r. IsAtOperation plan.now r t.0 (Some (Take l mode))) }
+    requires run { HasRun plan.now machine.old (λ r. IsTake plan.now r t.0 l mode event) }
+    requires key { HasKey machine.old event }
     ensures makes { MakesRow plan.now t.0 machine.old machine.new result
-        (λ r. IsAtOperation plan.now r t.0 (Some (Take l mode))) }
+        (λ r. IsTake plan.now r t.0 l mode event) }
     ensures unchanged { KeepsWhereIdle (answer_of result) machine.old machine.new }
 {
     if is_admitted(machine, plan, l, mode) {
-        gain_or_claim(machine, plan, t, l, mode, false, Event::Locked { l, mode })
+        gain_or_claim(machine, plan, t, l, mode, false, event)
     } else {
-        machine.block(t, l, mode);
+        machine.block(t, l, mode, kind_of(plan, l));
         Made::Does(Turn::Did(StepKind::Enter))
     }
 }
@@ -90,8 +101,7 @@ fn gain_or_claim(
     }
 }
 
-/// A release is noted, in the mode in which the thread holds the lock. Where the last holder releases it and waiters
-/// are shown they are taken off, to be woken.
+/// A release is noted, in the mode in which the thread holds the lock, and the lock given back.
 pub fn release(machine: &mut Machine, plan: &Plan, t: ThreadNo, l: LockNo) -> Made
     requires proper { IsProper plan.now }
     requires thread { t.0 < length plan.now.threads }
@@ -102,14 +112,26 @@ pub fn release(machine: &mut Machine, plan: &Plan, t: ThreadNo, l: LockNo) -> Ma
     ensures unchanged { KeepsWhereIdle (answer_of result) machine.old machine.new }
 {
     let mode = machine.threads[usize::from(t.0)].mode_held(l);
-    let drops = is_drop(word_at(machine, plan, l));
     machine.stamp(t, Event::Unlocked { l, mode });
-    if drops {
+    Made::Ends(give_back(machine, plan, t, l))
+}
+
+/// A thread gives a lock back in the mode in which it holds it: where another holder stays or no waiter is shown by a
+/// drop, and else by an open, for which waiters are taken off, to be woken.
+pub fn give_back(machine: &mut Machine, plan: &Plan, t: ThreadNo, l: LockNo) -> StepKind
+    requires may { HasState plan.now machine.old
+        (λ s. (mode : modes.Mode) × MayGiveBack (config_of plan.now) s t.0 l.0 mode) }
+    ensures step { GivesBack plan.now machine.old machine.new t.0 l.0 result }
+    ensures progress { ChangesProgress machine.old machine.new t.0 (with_released l.0) }
+    ensures books { KeepsBooks machine.old machine.new }
+{
+    if is_drop(word_at(machine, plan, l)) {
+        let mode = machine.threads[usize::from(t.0)].mode_held(l);
         machine.drop_lock(t, l, mode);
-        Made::Ends(StepKind::Drop)
+        StepKind::Drop
     } else {
         machine.open(t, l, kind_of(plan, l));
-        Made::Ends(StepKind::OpenUp)
+        StepKind::OpenUp
     }
 }
 
@@ -138,16 +160,16 @@ fn gains_plainly(machine: &Machine, plan: &Plan, l: LockNo, mode: Mode) -> bool
 #[tactic(auto, using(crate::proofs::RowsOfLocks::words))]
 fn word_at(machine: &Machine, plan: &Plan, l: LockNo) -> u64
     requires lock { l.0 < length plan.now.locks }
-    requires run { HasRun plan.now machine.now (λ r. Unit) }
-    ensures word { (r : Run) → IsRunOf plan.now machine.now r
-        → word_of result ≡ r.state.word l.0 }
+    requires shows { HasState plan.now machine.now (λ s. Unit) }
+    ensures word { (s : State) → Represents (config_of plan.now) machine.now s
+        → word_of result ≡ s.word l.0 }
     ensures well_formed { IsWellFormed (word_of result) }
 {
     machine.words[usize::from(l.0)]
 }
 
-// Its kind.
-fn kind_of(plan: &Plan, l: LockNo) -> Kind
+/// The kind of a lock.
+pub fn kind_of(plan: &Plan, l: LockNo) -> Kind
     ensures { result ≡ lock_kind plan.now l.0 }
 {
     match plan.locks.as_slice().get(usize::from(l.0)) {

@@ -1,15 +1,18 @@
 //! The rows of a thread with a lending walk.
-ghost use Rattle.std.specs.Prelude.{◌≡◌, ◌<◌, length, option_map, is_some, MatchOption};
+ghost use Rattle.std.specs.Prelude.{◌≡◌, ◌<◌, true, length, Some, IfSome, option_map, is_some, MatchOption};
 ghost use Rattle.lock_state.specs.Facts.{Lawful};
 ghost use Rattle.lock_model.specs.Operations.{IsProper};
 ghost use Rattle.lock_model.specs.Config.{Config};
 ghost use Rattle.lock_state.specs.State.{State, AtLock, AtThread};
-ghost use Rattle.lock_model.specs.Queues.{lock_queue};
+ghost use Rattle.lock_model.specs.Plans.{config_of};
+ghost use Rattle.lock_model.specs.Queues.{lock_queue, names_turnstile};
+ghost use Rattle.lock_model.specs.Words.{is_turnstile};
 ghost use Rattle.step_world.specs.Represents.{Represents};
 ghost use Rattle.step_world.specs.Runs.{HasRun, Follows, KeepsWhereIdle, IsNowhere, StandsAt};
 
 use crate::machine::Machine;
-use lock_model::{LockNo, Plan, QueueName, StepKind, ThreadNo, Turn};
+use crate::turns::locks::kind_of;
+use lock_model::{Kind, LockNo, Plan, QueueName, StepKind, ThreadNo, Turn};
 
 /// A walk at a lock lends to the lock's owner, or ends where there is none or nobody waits.
 pub fn walk_at_lock(machine: &mut Machine, plan: &Plan, t: ThreadNo, l: LockNo) -> Turn
@@ -22,7 +25,8 @@ pub fn walk_at_lock(machine: &mut Machine, plan: &Plan, t: ThreadNo, l: LockNo) 
 {
     match owner_at(machine, l) {
         Some(owner) => {
-            machine.lend_to(t, l, owner);
+            let on_turnstile = turnstile_named(machine, plan, owner).is_some();
+            machine.lend_to(t, l, owner, on_turnstile);
             Turn::Did(StepKind::Lend)
         }
         None => {
@@ -32,10 +36,11 @@ pub fn walk_at_lock(machine: &mut Machine, plan: &Plan, t: ThreadNo, l: LockNo) 
     }
 }
 
-// The owner of the turnstile that is lent to a lock.
+// The owner of the turnstile that is lent to a mutex or an rw lock.
 #[tactic(auto, using(crate::proofs::RowsOfWalks::owner_at, crate::proofs::RowsOfWalks::no_owner_at))]
 fn owner_at(machine: &Machine, l: LockNo) -> Option<ThreadNo>
     ensures { (c : Config) (s : State) → Represents c machine.now s → Lawful c s
+        → is_turnstile (c.kind l.0) ≡ true
         → option_map (λ o. o.0) result ≡ s.owner (lock_queue l.0) }
 {
     match machine.chain.find(QueueName::Lock(l)) {
@@ -53,7 +58,7 @@ pub fn walk_at_thread(machine: &mut Machine, plan: &Plan, t: ThreadNo, o: Thread
         (λ r. r.state.walk t.0 ≡ AtThread o.0) }
     ensures unchanged { KeepsWhereIdle result machine.old machine.new }
 {
-    match stands_at(machine, o) {
+    match stands_at(machine, plan, o) {
         Some((l, owned)) => {
             machine.sort_anew(t, o, l, owned);
             Turn::Did(StepKind::Shift)
@@ -67,23 +72,32 @@ pub fn walk_at_thread(machine: &mut Machine, plan: &Plan, t: ThreadNo, o: Thread
 
 // The lock on whose turnstile a thread stands, and whether the turnstile has an owner.
 #[tactic(auto, using(crate::proofs::RowsOfWalks::none_stands_at))]
-fn stands_at(machine: &Machine, o: ThreadNo) -> Option<(LockNo, bool)>
-    ensures { (c : Config) (s : State) → Represents c machine.now s → Lawful c s
-        → MatchOption result (IsNowhere s o.0) (λ found. StandsAt s o.0 found.0.0 found.1) }
+fn stands_at(machine: &Machine, plan: &Plan, o: ThreadNo) -> Option<(LockNo, bool)>
+    ensures { (s : State) → Represents (config_of plan.now) machine.now s
+        → Lawful (config_of plan.now) s
+        → MatchOption result (IsNowhere (config_of plan.now) s o.0)
+        (λ found. StandsAt (config_of plan.now) s o.0 found.0.0 found.1) }
 {
-    match blocked_on(machine, o) {
-        Some(QueueName::Lock(l)) => match machine.chain.find(QueueName::Lock(l)) {
-            Some(head) => {
-                if head.waits(o) {
-                    Some((l, head.owner().is_some()))
-                } else {
-                    None
-                }
-            }
-            None => None,
+    let l = turnstile_named(machine, plan, o)?;
+    let head = machine.chain.find(QueueName::Lock(l))?;
+    head.waits(o).then_some((l, head.owner().is_some()))
+}
+
+// The lock whose turnstile a thread's record names.
+fn turnstile_named(machine: &Machine, plan: &Plan, o: ThreadNo) -> Option<LockNo>
+    ensures named { (s : State) → Represents (config_of plan.now) machine.now s
+        → Lawful (config_of plan.now) s
+        → IfSome result (λ l. s.blocked_on o.0 ≡ Some (lock_queue l.0)) }
+    ensures turnstile { (s : State) → Represents (config_of plan.now) machine.now s
+        → Lawful (config_of plan.now) s
+        → is_some result ≡ names_turnstile (config_of plan.now) (s.blocked_on o.0) }
+{
+    match blocked_on(machine, o)? {
+        QueueName::Lock(l) => match kind_of(plan, l) {
+            Kind::Mtx | Kind::Rw => Some(l),
+            Kind::Sx => None,
         },
-        Some(QueueName::Chan(_)) => None,
-        None => None,
+        QueueName::Chan(_) => None,
     }
 }
 

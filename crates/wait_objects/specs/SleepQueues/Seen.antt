@@ -1,5 +1,5 @@
 -- Sleep queues as their callers see them.
-use Rattle.std.specs.Prelude.{◌≡◌, ℕ, [], None}
+use Rattle.std.specs.Prelude.{ℕ, None}
 use Rattle.wait_objects.specs.Seen as object
 use Rattle.wait_objects.specs.declared.sleeping.Sleeping.{Sleeping}
 
@@ -18,10 +18,3 @@ home = record { name = None }
 -- an idle sleep queue by its number
 abbrev pub idle : ℕ → SleepQueue
 idle n = object.idle_object home n
-
--- nothing but its name keeps a sleep queue from being idle
-pub record IsLeft (q : SleepQueue) : Type 0 where
-  pub no_exclusive : q.contents.exclusive ≡ []
-  pub no_shared : q.contents.shared ≡ []
-  pub no_free : q.contents.free ≡ []
-  pub no_next : q.next ≡ []

@@ -1,6 +1,8 @@
 -- Turnstiles and loans as their callers see them.
 use Rattle.std.specs.Prelude.{◌≡◌, ℕ, Bool, true, List, [], ◌∷◌, Option, None, Some}
 use Rattle.std.specs.declared.boxed.Box.{Box}
+use Rattle.lock_model.specs.declared.plan.QueueName.{QueueName}
+use Rattle.lock_model.specs.declared.plan.QueueName.TheVariants.{Lock, Chan}
 use Rattle.wait_objects.specs.Seen as object
 
 -- what a turnstile has beside its lists
@@ -8,6 +10,12 @@ pub record Lending : Type 0 where
   pub lock : Option ℕ
   pub owner : Option ℕ
   pub loan_home : Bool
+
+-- the lock that a name is of, if it is one's
+abbrev pub lock_named : Option QueueName → Option ℕ
+lock_named None = None
+lock_named (Some (Lock l)) = Some l.0
+lock_named (Some (Chan c)) = None
 
 -- a turnstile without its link
 abbrev pub Contents : Type 0
@@ -36,15 +44,6 @@ pub record IsIdle (t : Turnstile) : Type 0 where
   pub no_shared : t.contents.shared ≡ []
   pub no_free : t.contents.free ≡ []
   pub no_owner : t.contents.own.owner ≡ None
-  pub no_next : t.next ≡ []
-
--- nothing but its lock keeps a turnstile from being idle with its loan node at home
-pub record IsLeft (t : Turnstile) : Type 0 where
-  pub no_exclusive : t.contents.exclusive ≡ []
-  pub no_shared : t.contents.shared ≡ []
-  pub no_free : t.contents.free ≡ []
-  pub no_owner : t.contents.own.owner ≡ None
-  pub loan_home : t.contents.own.loan_home ≡ true
   pub no_next : t.next ≡ []
 
 -- a loan without its link

@@ -9,13 +9,8 @@ use Rattle.lock_objects.specs.Opens.{CanOpen, left_open, chain_opened, woken_of}
 use Rattle.lock_state.specs.Steps.Turnstiles.{after_open}
 use Rattle.lock_objects.specs.Represents.{RepresentsRecord, record_in}
 use Rattle.lock_objects.proofs.Queues.{found}
-use Rattle.lock_objects.proofs.Opens.{of_head, of_some, unowned, at_home, record_shown, queues_shown, marks_shown, is_settled}
+use Rattle.lock_objects.proofs.Opens.{of_head, of_some, at_home, record_shown, queues_shown, marks_shown, is_settled}
 use Rattle.lock_objects.proofs.waking.open.Goals as goal
-
-pub put_back-requires-clause-unowned : goal.put_back-requires-clause-unowned
-put_back-requires-clause-unowned c =
-    let can = of_some (CanOpen c.args.l.0 c.args.side c.args.rec.now) c.in-Some.ensures.taken c.requires in
-    unowned c.args.l.0 c.args.side c.args.rec.now can (c.deref_mut-2.ensures.value ∙ c.settle_release.ensures.head ∙ is_settled c.args.l.0 c.args.rec.now c.deref_mut.ensures.value) c.broadcast-woken.ensures.contents
 
 pub put_back-requires-clause-home : goal.put_back-requires-clause-home
 put_back-requires-clause-home c =

@@ -3,7 +3,7 @@ use Rattle.step_world.proofs.outcome.free_list.Given as goal
 
 -- the first places have been read
 abbrev pub invariant-loop-number : goal.invariant-loop-number
-invariant-loop-number l = map (λ t. t.0) l.free.items ≡ take (length l.free.items) l.head.contents.free
+invariant-loop-number g l = map (λ t. t.0) l.free.items ≡ take (length l.free.items) l.head.contents.free
 
 abbrev pub decreases-loop-number : goal.decreases-loop-number
-decreases-loop-number l = length l.head.contents.free - length l.free.items
+decreases-loop-number g l = length l.head.contents.free - length l.free.items

@@ -1,11 +1,11 @@
 use Rattle.std.proofs.Common.{◌≡◌, ◌-◌, length, map, take}
 use Rattle.lock_history.specs.Outcomes.{waiter_seen}
-use Rattle.turnstile_core.specs.Changes.{waiters}
+use Rattle.wait_objects.specs.Changes.{waiters}
 use Rattle.step_world.proofs.outcome.waiters.Given as goal
 
 -- the first places have been read
 abbrev pub invariant-loop-waiter : goal.invariant-loop-waiter
-invariant-loop-waiter l = map waiter_seen l.found.items ≡ take (length l.found.items) (waiters l.side l.head.contents)
+invariant-loop-waiter g l = map waiter_seen l.found.items ≡ take (length l.found.items) (waiters l.side l.head.contents)
 
 abbrev pub decreases-loop-waiter : goal.decreases-loop-waiter
-decreases-loop-waiter l = length (waiters l.side l.head.contents) - length l.found.items
+decreases-loop-waiter g l = length (waiters l.side l.head.contents) - length l.found.items

@@ -1,5 +1,7 @@
+use Rattle.std.proofs.Common.{refl}
+use Rattle.lock_state.specs.Steps.Turnstiles.{after_resume}
 use Rattle.lock_model.specs.Queues.{BySignal}
-use Rattle.step_world.proofs.Turning.{may_by, one_made}
+use Rattle.step_world.proofs.Turning.{may_by, of_step, one_made}
 use Rattle.step_world.proofs.RowsOfTurns as rows
 use Rattle.step_world.proofs.turns.by_wait.Goals as goal
 
@@ -22,9 +24,10 @@ returns-in-Queued-clause-follows c r h f =
     rows.queued c.requires.proper c.requires.thread h (rows.here h c.requires.thread c.from.ensures c.index-thread.ensures) f c.in-Queued.is
 
 pub returns-in-Woken-clause-follows : goal.returns-in-Woken-clause-follows
+unfolding after_resume
 returns-in-Woken-clause-follows c r h f =
     let a = c.resume.ensures in
-    one_made (rows.resumes c.requires.proper c.requires.thread h (rows.here h c.requires.thread c.from.ensures c.index-thread.ensures) f c.in-Woken.is) (a.step c.in-Woken.field-0 BySignal) a.progress a.books
+    one_made (rows.resumes c.requires.proper c.requires.thread h (rows.here h c.requires.thread c.from.ensures c.index-thread.ensures) f c.in-Woken.is) (of_step (a.step c.in-Woken.field-0 BySignal) a.progress a.books) refl refl
 
 pub returns-in-Some-clause-follows : goal.returns-in-Some-clause-follows
 returns-in-Some-clause-follows c r h f =

@@ -56,4 +56,10 @@ returns-in-Show-clause-makes c r h a =
     c.note-in-Show.ensures.makes r h (rows.shown c.requires.proper c.requires.thread h a c.in-Show.is (here h c.requires.thread c.from.ensures c.index.ensures) (rw c.deref.ensures at c.base-base.ensures) (rw c.deref-in-Show.ensures at c.eff-eff.ensures.value))
 
 pub returns-in-EndTry-clause-makes : goal.returns-in-EndTry-clause-makes
-returns-in-EndTry-clause-makes c r h a = rows.not_run c.requires.proper c.requires.thread h a c.in-EndTry.is
+returns-in-EndTry-clause-makes c r h a = rows.ends_try c.requires.proper c.requires.thread h a c.in-EndTry.is
+
+pub take-requires-clause-run : goal.take-requires-clause-run
+take-requires-clause-run c = let q = c.requires.run in (q.0, q.1, rows.takes c.requires.proper c.requires.thread q.1 q.2 c.in-Take.is)
+
+pub returns-in-Take-clause-makes : goal.returns-in-Take-clause-makes
+returns-in-Take-clause-makes c r h a = c.take.ensures.makes r h (rows.takes c.requires.proper c.requires.thread h a c.in-Take.is)

@@ -1,6 +1,6 @@
-use Rattle.std.proofs.Common.{sym, ◌∙◌}
-use Rattle.std.proofs.lemmas.Bool.{iff_false}
-use Rattle.step_world.proofs.Turning.{may_by, one_made}
+use Rattle.std.proofs.Common.{refl, sym, ◌∙◌}
+use Rattle.lock_state.specs.Steps.Turnstiles.{after_mark}
+use Rattle.step_world.proofs.Turning.{may_by, of_step, one_made}
 use Rattle.step_world.proofs.RowsOfTurns as rows
 use Rattle.step_world.proofs.turns.turn.Goals as goal
 
@@ -19,17 +19,17 @@ walk_at_thread-requires-clause-run c =
     let q = c.requires.run in
     (q.0, q.1, rows.at_thread c.requires.proper c.requires.thread q.1 (rows.here q.1 c.requires.thread c.from.ensures c.index-thread.ensures) c.in-AtThread.o c.in-AtThread.is)
 
-pub by_wait-requires-clause-run : goal.by_wait-requires-clause-run
-by_wait-requires-clause-run c =
+pub by_release-requires-clause-run : goal.by_release-requires-clause-run
+by_release-requires-clause-run c =
     let q = c.requires.run in
     let is = rows.here q.1 c.requires.thread c.from.ensures c.index-thread.ensures in
     let going = rows.said c.requires.proper c.requires.thread q.1 is c.operations_of.ensures _ (sym c.has_ended.ensures ∙ c.if-has_ended.false) in
-    (q.0, q.1, rows.is_free c.requires.proper c.requires.thread q.1 is c.in-None.is (c.is_empty.ensures.0 c.if-is_empty.true) going)
+    (q.0, q.1, rows.done_waking c.requires.proper c.requires.thread q.1 is c.in-None.is (sym c.is_empty.ensures ∙ c.if-is_empty.true) going)
 
 pub mark-requires : goal.mark-requires
 mark-requires c =
     let q = c.requires.run in
-    let row = rows.marks c.requires.proper c.requires.thread q.1 (rows.here q.1 c.requires.thread c.from.ensures c.index-thread.ensures) c.in-None.is (iff_false c.is_empty.ensures c.if-is_empty.false) in
+    let row = rows.marks c.requires.proper c.requires.thread q.1 (rows.here q.1 c.requires.thread c.from.ensures c.index-thread.ensures) c.in-None.is (sym c.is_empty.ensures ∙ c.if-is_empty.false) in
     record { may = may_by row.2.turning _ (row.0, row.1, row.2.turning.may.0) }
 
 pub returns-in-AtLock-clause-follows : goal.returns-in-AtLock-clause-follows
@@ -44,10 +44,11 @@ pub returns-then-is_empty-clause-follows : goal.returns-then-is_empty-clause-fol
 returns-then-is_empty-clause-follows c r h u =
     let is = rows.here h c.requires.thread c.from.ensures c.index-thread.ensures in
     let going = rows.said c.requires.proper c.requires.thread h is c.operations_of.ensures _ (sym c.has_ended.ensures ∙ c.if-has_ended.false) in
-    c.by_wait.ensures.follows r h (rows.is_free c.requires.proper c.requires.thread h is c.in-None.is (c.is_empty.ensures.0 c.if-is_empty.true) going)
+    c.by_release.ensures.follows r h (rows.done_waking c.requires.proper c.requires.thread h is c.in-None.is (sym c.is_empty.ensures ∙ c.if-is_empty.true) going)
 
 pub returns-else-is_empty-clause-follows : goal.returns-else-is_empty-clause-follows
+unfolding after_mark
 returns-else-is_empty-clause-follows c r h u =
     let a = c.mark.ensures in
-    let row = rows.marks c.requires.proper c.requires.thread h (rows.here h c.requires.thread c.from.ensures c.index-thread.ensures) c.in-None.is (iff_false c.is_empty.ensures c.if-is_empty.false) in
-    one_made row.2 (a.step row.0 row.1) a.progress a.books
+    let row = rows.marks c.requires.proper c.requires.thread h (rows.here h c.requires.thread c.from.ensures c.index-thread.ensures) c.in-None.is (sym c.is_empty.ensures ∙ c.if-is_empty.false) in
+    one_made row.2 (of_step (a.step row.0 row.1) a.progress a.books) refl refl

@@ -9,4 +9,4 @@ returns-in-Some c =
 
 pub returns-in_default : goal.returns-in_default
 returns-in_default c =
-    rw c.in-Release.is (none_taken c.in-Release.l c.args.held.now.items (ap (position (holds_lock c.in-Release.l)) (sym c.deref.ensures.value) ∙ sym c.place_of.ensures ∙ c.in_default.is))
+    rw c.in-Release.is (none_taken c.in-Release.l c.args.held.now.items (ap (position (holds_lock c.in-Release.l)) (sym c.deref.ensures.value) ∙ sym c.place_held.ensures ∙ c.in_default.is))

@@ -48,4 +48,4 @@ returns-clause-progress c =
     let m = c.requires.may in
     let th = c.index_mut-thread.result.now in
     let at = read c.args.t.0 c.from.result th m.2.threads m.4.1.thread c.from.ensures c.index_mut-thread.ensures.value in
-    rw c.from.ensures (aside_changed c.args.self.now.threads.items c.args.t.0 _ th (λ (a : Progress). record a { held = a.held ++ entry_of c.args.l Excl c.args.by_try ∷ [] }) at (ap progress_of c.pick_up.ensures.others ∙ ap (λ hs. record { next_op = th.next_op; held = hs }) c.pick_up.ensures.held))
+    rw c.from.ensures (aside_changed c.args.self.now.threads.items c.args.t.0 _ th (λ (a : Progress). record a { held = a.held ++ entry_of c.args.l Excl c.args.by_try ∷ [] }) at (ap progress_of c.pick_up.ensures.others ∙ ap (λ hs. record (progress_of th) { held = hs }) c.pick_up.ensures.held))

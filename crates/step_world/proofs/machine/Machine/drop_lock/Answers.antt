@@ -1,10 +1,9 @@
 use Rattle.std.proofs.Common.{ap, sym, subst, ◌∙◌}
-use Rattle.lock_model.specs.Operations.{without_lock}
 use Rattle.lock_model.specs.Words.{dropped}
 use Rattle.lock_words.specs.Views.{IsHeldIn}
-use Rattle.step_world.specs.Steps.{Progress, progress_of}
+use Rattle.step_world.specs.Steps.{with_released}
 use Rattle.step_world.proofs.Kit.{aside_changed, read, word_read, possible_read}
-use Rattle.step_world.proofs.Holding.{lock_dropped, is_held}
+use Rattle.step_world.proofs.Holding.{lock_dropped, is_held, released}
 use Rattle.step_world.proofs.machine.Machine.drop_lock.Goals as goal
 
 pub dropped-requires-clause-well_formed : goal.dropped-requires-clause-well_formed
@@ -31,4 +30,4 @@ returns-clause-progress c =
     let m = c.requires.may in
     let th = c.index_mut-2.result.now in
     let at = read c.args.t.0 c.from.result th m.2.threads m.4.thread c.from.ensures c.index_mut-2.ensures.value in
-    rw c.from.ensures (aside_changed c.args.self.now.threads.items c.args.t.0 c.put_down.new.self th (λ (a : Progress). record a { held = without_lock c.args.l.0 a.held }) at (ap progress_of c.put_down.ensures.others ∙ ap (λ hs. record { next_op = th.next_op; held = hs }) c.put_down.ensures.held))
+    rw c.from.ensures (aside_changed c.args.self.now.threads.items c.args.t.0 c.put_down.new.self th (with_released c.args.l.0) at (released th c.args.l.0 c.put_down.ensures.others c.put_down.ensures.held c.put_down.ensures.left))

@@ -36,4 +36,4 @@ returns-clause-progress c =
     let m = c.requires.may in
     let th = c.index_mut-2.result.now in
     let at = read c.args.t.0 c.from.result th m.2.threads m.4.thread c.from.ensures c.index_mut-2.ensures.value in
-    rw c.from.ensures (aside_changed c.args.self.now.threads.items c.args.t.0 c.pick_up.new.self th (λ (a : Progress). record a { held = a.held ++ entry_of c.args.l c.args.mode c.args.by_try ∷ [] }) at (ap progress_of c.pick_up.ensures.others ∙ ap (λ hs. record { next_op = th.next_op; held = hs }) c.pick_up.ensures.held))
+    rw c.from.ensures (aside_changed c.args.self.now.threads.items c.args.t.0 c.pick_up.new.self th (λ (a : Progress). record a { held = a.held ++ entry_of c.args.l c.args.mode c.args.by_try ∷ [] }) at (ap progress_of c.pick_up.ensures.others ∙ ap (λ hs. record (progress_of th) { held = hs }) c.pick_up.ensures.held))

@@ -1,6 +1,6 @@
 use Rattle.std.proofs.Common.{ℕ, ◌<◌, ap, subst}
 use Rattle.lock_model.specs.Operations.{next_at}
-use Rattle.step_world.specs.Steps.{Progress}
+use Rattle.step_world.specs.Steps.{Progress, progress_of}
 use Rattle.step_world.proofs.Kit.{aside_changed}
 use Rattle.step_world.proofs.Ending.{read_at, gone_on, going_on}
 use Rattle.step_world.proofs.machine.Machine.go_on.Goals as goal
@@ -13,4 +13,4 @@ pub returns-clause-progress : goal.returns-clause-progress
 returns-clause-progress c =
     let th = c.index_mut.result.now in
     rw c.from.ensures (aside_changed c.args.self.now.threads.items c.args.t.0 (going_on c.next_at.result th) th (λ a. record a { next_op = next_at c.args.ops.now c.args.n }) (read_at c.args.self.now.threads.items c.args.t.0 c.from.result th c.from.ensures c.requires.thread c.index_mut.ensures.value)
-    (ap (λ n. let a : Progress = record { next_op = n; held = th.held.items } in a) c.next_at.ensures))
+    (ap (λ n. let a : Progress = record (progress_of th) { next_op = n } in a) c.next_at.ensures))

@@ -24,16 +24,15 @@ lend_to_owner-walk-requires c =
     (can_hop x.0 x.1 c.args.t.0 c.args.l.0 c.args.owner.0 h x.3 x.4.1 x.2.queues (record_of (x.2.threads.thread c.args.owner.0 c.index_mut-lent.result.now at)))
 
 pub returns-clause-step : goal.returns-clause-step
-returns-clause-step c x d s h lawful g =
+returns-clause-step c x d s tells h lawful g =
     let t = c.args.t.0 in
     let o = c.args.owner.0 in
     let at = read o c.from.result c.index_mut-lent.result.now h.threads (is_owner h lawful g) c.from.ensures c.index_mut-lent.ensures.value in
     let rec = subst (λ (r : Record). RepresentsRecord r (record_in s o)) (sym c.deref_mut.ensures.value) (record_of (h.threads.thread o c.index_mut-lent.result.now at)) in
     let then = c.lend_to_owner-walk.ensures.its_record d s t o x lawful g h.queues rec in
     let behind = read_behind h lawful g at then c.from-2.result c.from.result c.index_mut.result.now c.from.ensures c.from-2.ensures c.index_mut.ensures.value in
-    let stands = c.stands_on_turnstile-on_turnstile.ensures d h.within.turnstiles ∙ ap (λ (r : Record). names_turnstile d r.on) (c.deref.ensures ∙ sym c.deref_mut.ensures.value) in
     rw (c.from.ensures, c.from-2.ensures)
-    (lend_shown h lawful g at then c.lend_to_owner-walk.result behind (c.lend_to_owner-walk.ensures.queues d s t o x lawful g h.queues) (c.lend_to_owner-walk.ensures.walk d s t o x lawful g h.queues rec stands))
+    (lend_shown h lawful g at then c.lend_to_owner-walk.result behind (c.lend_to_owner-walk.ensures.queues d s t o x lawful g h.queues) (c.lend_to_owner-walk.ensures.walk d s t o x lawful g h.queues rec (tells ∙ ap (names_turnstile d) (sym (ap (λ v. v.blocked_on) rec.columns)))))
 
 pub returns-clause-progress : goal.returns-clause-progress
 returns-clause-progress c =

@@ -1,4 +1,4 @@
-use Rattle.std.proofs.Common.{refl, ap, ◌∙◌, length, replicate, List, subst, sum, map}
+use Rattle.std.proofs.Common.{◌*◌, refl, ap, ◌∙◌, length, replicate, List, subst, sum, map}
 use Rattle.step_world.specs.Runs.{AreNew}
 use Rattle.lock_model.specs.declared.plan.LockDecl.{LockDecl}
 use Rattle.lock_model.specs.declared.plan.ThreadDecl.{ThreadDecl}
@@ -9,9 +9,10 @@ pub returns : goal.returns
 returns c = begun c.args.plan.now _ c.requires (record {
   free = c.in_ok-vec.ensures.items_if_clones_equal (λ y e. e) ∙ ap (λ (ls : List LockDecl). replicate (length ls) 0) c.as_slice.ensures;
   no_queue = c.empty.ensures;
+  no_sleepers = c.empty-2.ensures;
   new = subst (λ (ds : List ThreadDecl). AreNew ds c.in_ok-make_threads.field-0.items) c.as_slice-2.ensures c.in_ok-make_threads.ensures;
   no_entry = rw c.in_ok-make.ensures refl;
-  room = rw c.in_ok-make.ensures (c.count_operations.ensures ∙ ap (λ (ds : List ThreadDecl). sum (map (λ (d : ThreadDecl). length d.ops) ds)) c.as_slice-3.ensures);
+  room = rw c.in_ok-make.ensures (ap (λ n. 2 * n) (c.count_operations.ensures ∙ ap (λ (ds : List ThreadDecl). sum (map (λ (d : ThreadDecl). length d.ops) ds)) c.as_slice-3.ensures));
   no_key = c.in_ok-make-2.ensures.empty;
   keys = λ l key. (c.in_ok-make-2.ensures.room l key).1;
 })

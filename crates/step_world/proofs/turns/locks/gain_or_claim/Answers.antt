@@ -1,14 +1,15 @@
 use Rattle.std.proofs.Common.{◌≤◌, sym, subst, ◌∙◌}
 use Rattle.lock_model.specs.declared.plan.Mode.TheVariants.{Excl}
-use Rattle.lock_model.specs.declared.turn.StepKind.TheVariants.{Gain, Claim}
-use Rattle.step_world.specs.declared.turns.Made.TheVariants.{Ends}
-use Rattle.step_world.proofs.Turning.{has_room, may_next, may_by, goes, of_method, of_entry, made}
+use Rattle.step_world.proofs.Turning.{has_room, may_next, may_by, goes, of_method, of_entry}
 use Rattle.step_world.proofs.RowsOfLocks as rows
 use Rattle.step_world.proofs.RowsOfLocks.{holding}
 use Rattle.step_world.proofs.turns.locks.gain_or_claim.Goals as goal
 
 pub gains_plainly-requires-clause-lock : goal.gains_plainly-requires-clause-lock
 gains_plainly-requires-clause-lock c = c.requires.run.2.lock
+
+pub gains_plainly-requires-clause-run : goal.gains_plainly-requires-clause-run
+gains_plainly-requires-clause-run c = let q = c.requires.run in (q.0, q.1, tt)
 
 pub gain-requires-clause-may : goal.gain-requires-clause-may
 gain-requires-clause-may c =
@@ -34,8 +35,9 @@ pub returns-then-gains_plainly-clause-makes : goal.returns-then-gains_plainly-cl
 returns-then-gains_plainly-clause-makes c r h g =
     let a = c.gain.ensures in
     let b = c.stamp.ensures in
-    let row = rows.gains_row c.requires.proper c.requires.thread h g (sym (c.gains_plainly.ensures r h) ∙ c.if-gains_plainly.true) in
-    made (Ends Gain) row (goes (goes row.turning (of_method (holding c.args.l c.args.mode c.args.by_try) a.step a.progress a.books)) (of_entry b.step b.progress b.places b.room)) g.holds_more
+    let plain = sym (c.gains_plainly.ensures r h) ∙ c.if-gains_plainly.true in
+    let row = rows.gains_row c.requires.proper c.requires.thread h g plain in
+    rows.gained c.requires.proper c.requires.thread h g plain (goes (goes row.turning (of_method (holding c.args.l c.args.mode c.args.by_try) a.step a.progress a.books)) (of_entry b.step b.progress b.places b.room))
 
 pub claim-requires-clause-may : goal.claim-requires-clause-may
 claim-requires-clause-may c =
@@ -62,6 +64,6 @@ pub returns-else-gains_plainly-clause-makes : goal.returns-else-gains_plainly-cl
 returns-else-gains_plainly-clause-makes c r h g =
     let a = c.claim.ensures in
     let b = c.stamp-else-gains_plainly.ensures in
-    let found = sym (c.gains_plainly.ensures r h) ∙ c.if-gains_plainly.false in
-    let row = rows.claims_row c.requires.proper c.requires.thread h g found in
-    made (Ends Claim) row (goes (goes row.turning (of_method (holding c.args.l Excl c.args.by_try) (a.step _) a.progress a.books)) (of_entry b.step b.progress b.places b.room)) (rows.claim_holds_more c.requires.proper c.requires.thread h g found)
+    let claim = sym (c.gains_plainly.ensures r h) ∙ c.if-gains_plainly.false in
+    let row = rows.claims_row c.requires.proper c.requires.thread h g claim in
+    rows.claimed c.requires.proper c.requires.thread h g claim (goes (goes row.turning (of_method (holding c.args.l Excl c.args.by_try) (a.step _) a.progress a.books)) (of_entry b.step b.progress b.places b.room))

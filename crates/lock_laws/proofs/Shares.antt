@@ -1,0 +1,109 @@
+-- The thread that makes a step, and what each other thread has left of its own behind it: its holds, its log with the
+-- sections in it, what it wants, its walk and its marked list.
+use Rattle.std.proofs.Common.{◌≡◌, ℕ, Bool, true, List, [], ◌∷◌, refl, sym, ◌∙◌}
+use Rattle.std.specs.Prelude.{⊤}
+use Rattle.lock_model.specs.Config.{Config}
+use Rattle.lock_model.specs.History.{sections_in}
+use Rattle.lock_state.specs.State.{State}
+use Rattle.lock_state.specs.Steps.{Step, Seeks, Looks, TakesItem, GivesItem, Gains, Drops, Stamps, Readies, Unreadies, Enters, Opens, EntersSleepQueue, OpensSleepQueue, Adds, Wakes, Marks, Resumes, Claims, Lends, Shifts, EndsWalk, after, after_all}
+use Rattle.lock_state.specs.Steps.Items.{after_take, after_give}
+use Rattle.lock_state.specs.Steps.LockWords.{after_seek, after_look, after_gain, after_drop, after_stamp, after_ready, after_unready, begun_after}
+use Rattle.lock_state.specs.Steps.Turnstiles.{after_enter, after_open, after_mark, after_resume}
+use Rattle.lock_state.specs.Steps.SleepQueues.{after_enter_sleep, after_open_sleep, after_add, after_wake}
+use Rattle.lock_state.specs.Steps.Lending.{after_claim, after_lend, after_shift, after_end_walk}
+use Rattle.lock_model.specs.declared.event.Event.{Event}
+use Rattle.lock_model.specs.declared.event.Event.TheVariants.{Locked, Tried, Woke, HaltedChan}
+use Rattle.lock_laws.proofs.Kit.{put_other, put_at_other, put_at_row}
+use Rattle.lock_laws.proofs.OwnEntries.{other_sections}
+
+abbrev pub maker : Step → ℕ
+maker (Seeks t l by_try) = t
+maker (Looks t l in_round) = t
+maker (TakesItem t i) = t
+maker (GivesItem t i) = t
+maker (Gains t l mode by_try) = t
+maker (Drops t l mode) = t
+maker (Stamps t e) = t
+maker (Readies t q) = t
+maker (Unreadies t q) = t
+maker (Enters t l mode x) = t
+maker (Opens t l mode) = t
+maker (EntersSleepQueue t l mode x) = t
+maker (OpensSleepQueue t l mode) = t
+maker (Adds t d x) = t
+maker (Wakes t d all) = t
+maker (Marks t m ms) = t
+maker (Resumes t q cause) = t
+maker (Claims t l h by_try) = t
+maker (Lends t l o h) = t
+maker (Shifts t o l) = t
+maker (EndsWalk t) = t
+
+-- a list of steps of one thread
+abbrev pub AllBy : ℕ → List Step → Type 0
+AllBy t [] = ⊤
+AllBy t (step ∷ steps) = (maker step ≡ t) × AllBy t steps
+
+-- both states have the same of thread u
+pub record SameShare (c : Config) (u : ℕ) (s n : State) : Type 0 where
+  pub held : n.held u ≡ s.held u
+  pub held_locks : n.held_locks u ≡ s.held_locks u
+  pub log : n.log u ≡ s.log u
+  pub sections : (l : ℕ) → sections_in c n.history u l ≡ sections_in c s.history u l
+  pub has_begun : n.has_begun u ≡ s.has_begun u
+  pub wanted : n.wanted u ≡ s.wanted u
+  pub walk : n.walk u ≡ s.walk u
+  pub marked : n.marked u ≡ s.marked u
+
+begun_other : (c : Config) (e : Event) (t : ℕ) (f : ℕ → ℕ → Bool) (u l : ℕ) → (t ≡ u → ⊥) → begun_after c e t f u l ≡ f u l
+begun_other c (Locked k mode) t f u l ne = put_at_other f t k.0 true u l ne
+begun_other c (Tried k mode) t f u l ne = put_at_other f t k.0 true u l ne
+begun_other c (Woke d) t f u l ne = put_at_other f t (c.chan_lock d.0) true u l ne
+begun_other c (HaltedChan d) t f u l ne = put_at_other f t (c.chan_lock d.0) true u l ne
+begun_other c other t f u l ne = refl
+
+module _ (c : Config) (u : ℕ) where
+  same : (s : State) → SameShare c u s s
+  same s = record { held = refl; held_locks = refl; log = refl; sections = λ l. refl; has_begun = refl; wanted = refl; walk = refl; marked = refl }
+
+  -- one step, of another thread
+  pub leaves : (s : State) (step : Step) → (maker step ≡ u → ⊥) → SameShare c u s (after c s step)
+  unfolding after_seek after_look after_take after_give after_gain after_drop after_stamp after_ready after_unready after_enter after_open after_mark after_resume after_enter_sleep after_open_sleep after_add after_wake after_claim after_lend after_shift after_end_walk
+  leaves s (Seeks t l by_try) ne = assumption (same s)
+  leaves s (Looks t l in_round) ne = assumption (same s)
+  leaves s (TakesItem t i) ne = assumption (same s)
+  leaves s (GivesItem t i) ne = assumption (same s)
+  leaves s (Gains t l mode by_try) ne = record { held = put_at_row s.held t l _ u ne; held_locks = put_other s.held_locks t _ u ne; log = refl; sections = λ l. refl; has_begun = put_at_row s.has_begun t l _ u ne; wanted = put_other s.wanted t _ u ne; walk = refl; marked = refl }
+  leaves s (Drops t l mode) ne = record { held = put_at_row s.held t l _ u ne; held_locks = put_other s.held_locks t _ u ne; log = refl; sections = λ l. refl; has_begun = refl; wanted = refl; walk = refl; marked = refl }
+  leaves s (Stamps t e) ne = record { held = refl; held_locks = refl; log = put_other s.log t _ u ne; sections = λ l. other_sections c s t e u l ne; has_begun = λ i l. begun_other c e t s.has_begun u l ne i; wanted = refl; walk = refl; marked = refl }
+  leaves s (Readies t q) ne = assumption (same s)
+  leaves s (Unreadies t q) ne = assumption (same s)
+  leaves s (Enters t l mode x) ne = record { held = refl; held_locks = refl; log = refl; sections = λ l. refl; has_begun = refl; wanted = put_other s.wanted t _ u ne; walk = put_other s.walk t _ u ne; marked = refl }
+  leaves s (Opens t l mode) ne = record { held = put_at_row s.held t l _ u ne; held_locks = put_other s.held_locks t _ u ne; log = refl; sections = λ l. refl; has_begun = refl; wanted = refl; walk = refl; marked = put_other s.marked t _ u ne }
+  leaves s (EntersSleepQueue t l mode x) ne = record { held = refl; held_locks = refl; log = refl; sections = λ l. refl; has_begun = refl; wanted = put_other s.wanted t _ u ne; walk = refl; marked = refl }
+  leaves s (OpensSleepQueue t l mode) ne = record { held = put_at_row s.held t l _ u ne; held_locks = put_other s.held_locks t _ u ne; log = refl; sections = λ l. refl; has_begun = refl; wanted = refl; walk = refl; marked = put_other s.marked t _ u ne }
+  leaves s (Adds t d x) ne = assumption (same s)
+  leaves s (Wakes t d all) ne = record { held = refl; held_locks = refl; log = refl; sections = λ l. refl; has_begun = refl; wanted = refl; walk = refl; marked = put_other s.marked t _ u ne }
+  leaves s (Marks t m ms) ne = record { held = refl; held_locks = refl; log = refl; sections = λ l. refl; has_begun = refl; wanted = refl; walk = refl; marked = put_other s.marked t _ u ne }
+  leaves s (Resumes t q cause) ne = record { held = refl; held_locks = refl; log = refl; sections = λ l. refl; has_begun = refl; wanted = put_other s.wanted t _ u ne; walk = refl; marked = refl }
+  leaves s (Claims t l h by_try) ne = record { held = put_at_row s.held t l _ u ne; held_locks = put_other s.held_locks t _ u ne; log = refl; sections = λ l. refl; has_begun = put_at_row s.has_begun t l _ u ne; wanted = put_other s.wanted t _ u ne; walk = refl; marked = refl }
+  leaves s (Lends t l o h) ne = record { held = refl; held_locks = refl; log = refl; sections = λ l. refl; has_begun = refl; wanted = refl; walk = put_other s.walk t _ u ne; marked = refl }
+  leaves s (Shifts t o l) ne = record { held = refl; held_locks = refl; log = refl; sections = λ l. refl; has_begun = refl; wanted = refl; walk = put_other s.walk t _ u ne; marked = refl }
+  leaves s (EndsWalk t) ne = record { held = refl; held_locks = refl; log = refl; sections = λ l. refl; has_begun = refl; wanted = refl; walk = put_other s.walk t _ u ne; marked = refl }
+
+  behind : {s m n : State} → SameShare c u s m → SameShare c u m n → SameShare c u s n
+  behind a b = record {
+    held = b.held ∙ a.held;
+    held_locks = b.held_locks ∙ a.held_locks;
+    log = b.log ∙ a.log;
+    sections = λ l. b.sections l ∙ a.sections l;
+    has_begun = b.has_begun ∙ a.has_begun;
+    wanted = b.wanted ∙ a.wanted;
+    walk = b.walk ∙ a.walk;
+    marked = b.marked ∙ a.marked;
+  }
+
+  -- and a list of steps of another thread
+  pub all_leave : (t : ℕ) (s : State) (steps : List Step) → (t ≡ u → ⊥) → AllBy t steps → SameShare c u s (after_all c s steps)
+  all_leave t s [] ne by = same s
+  all_leave t s (step ∷ steps) ne by = behind (leaves s step (λ e. ne (sym by.0 ∙ e))) (all_leave t (after c s step) steps ne by.1)

@@ -1,0 +1,88 @@
+-- How far a thread is where its run has gone on: as far as it was, or further.
+use Rattle.std.proofs.Common.{◌≡◌, ◌≢◌, ℕ, ◌∷◌, Option, Some, None, IsSomeAnd, refl, sym, subst, ◌∙◌}
+use Rattle.lock_model.specs.Plans.{config_of}
+use Rattle.lock_model.specs.Config.{Config}
+use Rattle.lock_model.specs.Events.{of_sleep, fell_asleep}
+use Rattle.lock_state.specs.State.{State, Running, Queued}
+use Rattle.lock_state.specs.Steps.{Stamps, after}
+use Rattle.lock_state.specs.Steps.LockWords.{MayStamp, after_stamp, entry_of}
+use Rattle.lock_state.specs.Run.{Run, turn_of, run_behind, waits_on}
+use Rattle.lock_model.specs.declared.event.Event.{Event}
+use Rattle.lock_model.specs.declared.event.Event.TheVariants as event
+use Rattle.lock_model.specs.declared.plan.Plan.{Plan}
+use Rattle.lock_laws.proofs.Kit.{put_same}
+use Rattle.lock_laws.proofs.OtherThreads.{own_steps, other_next}
+use Rattle.lock_laws.proofs.Shares.{all_leave}
+use Rattle.lock_laws.proofs.Table as table
+use Rattle.step_world.specs.Steps.{Progress}
+use Rattle.step_world.specs.Runs.{IsAsFar, IsBehind, held_at}
+
+-- 1. A value that there is
+
+pub that_is : {A : Type 0} {P : A → Type 0} (o : Option A) → IsSomeAnd o P → (x : A) × (o ≡ Some x) × P x
+that_is None h = absurd h
+that_is (Some x) h = (x, refl, h)
+
+pub is_such : {A : Type 0} (P : A → Type 0) {o : Option A} (x : A) → o ≡ Some x → P x → IsSomeAnd o P
+is_such P x e h = subst (λ o. IsSomeAnd o P) (sym e) h
+
+pub so_is : {A : Type 0} {P Q : A → Type 0} (o : Option A) → ((x : A) → P x → Q x) → IsSomeAnd o P → IsSomeAnd o Q
+so_is None f h = h
+so_is (Some x) f h = f x h
+
+-- 2. What says how far a thread is
+
+pub record SameFar (r n : Run) (t : ℕ) : Type 0 where
+  pub next_op : n.next_op t ≡ r.next_op t
+  pub held : n.state.held t ≡ r.state.held t
+  pub waits : waits_on (n.state.log t) ≡ waits_on (r.state.log t)
+
+module _ {plan : Plan} {r n : Run} {t : ℕ} {a : Progress} where
+  pub still_as_far : SameFar r n t → IsAsFar plan r t a → IsAsFar plan n t a
+  still_as_far e h = record {
+    next_op = h.next_op ∙ sym e.next_op;
+    held = rw (e.next_op, e.held, e.waits) h.held;
+    left = rw (e.next_op, e.held, e.waits) h.left;
+  }
+
+  -- a thread whose operation is still to make,
+  pub behind_still : SameFar r n t → IsAsFar plan r t a → IsBehind plan r n t a
+  behind_still e h = let f = still_as_far e h in record { next_op = h.next_op; as_far = record { next_op = refl; held = f.held; left = f.left } }
+
+  -- and one that has made it, and waits for nothing
+  pub behind_made : waits_on (n.state.log t) ≡ None → a.next_op ≡ r.next_op t → a.held ≡ held_at plan t (n.next_op t) → IsBehind plan r n t a
+  behind_made none next held = record { next_op = next; as_far = record { next_op = refl; held = rw none held; left = λ l e. absurd (let z : None ≡ Some l = rw none at e in cc) } }
+
+-- of the other threads nothing changes that says it
+pub others_still : (plan : Plan) (r : Run) (t u : ℕ) → u ≢ t → SameFar r (run_behind plan r t) u
+unfolding run_behind
+others_still plan r t u n =
+    let ne : t ≡ u → ⊥ = λ e. n (sym e) in
+    let share = all_leave (config_of plan) u t r.state (turn_of plan r t).steps ne (own_steps plan r t (turn_of plan r t) (table.fits plan r t)) in
+    record { next_op = other_next plan r t u ne (turn_of plan r t).next; held = share.held; waits = rw share.log refl }
+
+-- 3. Entries
+
+-- on which channel a thread waits behind its entry
+pub waits_behind : (c : Config) (s : State) (t : ℕ) (e : Event) → waits_on ((after c s (Stamps t e)).log t) ≡ fell_asleep (of_sleep e)
+unfolding after_stamp
+waits_behind c s t e = let at : (after_stamp c s t e).log t ≡ _ = put_same s.log t (entry_of s t e ∷ s.log t) in rw at refl
+
+-- a running thread's entry is not that it goes to sleep
+pub runs_on : (c : Config) (s : State) (t : ℕ) (e : Event) → MayStamp c s t e → s.wait t ≡ Running → fell_asleep (of_sleep e) ≡ None
+runs_on c s t (event.Locked l mode) g w = refl
+runs_on c s t (event.Tried l mode) g w = refl
+runs_on c s t (event.Busy l seen) g w = refl
+runs_on c s t (event.Unlocked l mode) g w = refl
+runs_on c s t (event.Set l key value) g w = refl
+runs_on c s t (event.Added l key amount) g w = refl
+runs_on c s t (event.Got l key found) g w = refl
+runs_on c s t (event.Base prio) g w = refl
+runs_on c s t (event.Shown base effective) g w = refl
+runs_on c s t (event.Sleeps d) g w = absurd (let z : Running ≡ Queued = sym w ∙ g.asks.queued in cc)
+runs_on c s t (event.Woke d) g w = refl
+runs_on c s t (event.HaltedChan d) g w = refl
+runs_on c s t (event.HaltedLock l) g w = refl
+runs_on c s t (event.WokeOne d woken) g w = refl
+runs_on c s t (event.WokeAll d woken) g w = refl
+runs_on c s t (event.Reversed l held) g w = refl
