@@ -250,19 +250,10 @@ threads_few k [] = omega arith
 threads_few k (name ∷ names) = omega (arith, length-append (option_to_list (thread_named k name)) (threads_named k names), one_at_most (thread_named k name), threads_few k names)
 
 schedule_sound : (k : Known) (names : List (List ℕ)) → IsSound k → k.open_thread ≡ None → length k.schedule + length names ≤ most_scheduled → IsSound (learned k (Schedules names))
-schedule_sound k names h none few = record {
-  names = h.names;
-  locks = h.locks;
-  chans = h.chans;
-  chan_locks = h.chan_locks;
-  threads = h.threads;
-  fits = h.fits;
-  open_thread = h.open_thread;
-  operations = h.operations;
-  counted = h.counted;
-  scheduled = omega (arith, length-append k.schedule (threads_named k names), threads_few k names, few);
-  schedule = All-append (λ t. t.0 < length k.threads) k.schedule (threads_named k names) h.schedule (threads_within (length k.locks) (length k.threads) k names (subst (λ m. AreWithin (length k.locks) m k.names) (none_begun k none) h.names));
-}
+schedule_sound k names h none few =
+    let scheduled : length (k.schedule ++ threads_named k names) ≤ most_scheduled = omega (arith, length-append k.schedule (threads_named k names), threads_few k names, few) in
+    let schedule = All-append (λ t. t.0 < length k.threads) k.schedule (threads_named k names) h.schedule (threads_within (length k.locks) (length k.threads) k names (subst (λ m. AreWithin (length k.locks) m k.names) (none_begun k none) h.names)) in
+    assumption (h, scheduled, schedule)
 
 -- what words of an operation say is no endtry, and a try goes on nowhere yet
 mapped : {A : Type 0} (f : A → Op) (o : Option A) → ((x : A) → IsNew (f x)) → IfSome (option_map f o) IsNew
@@ -356,19 +347,7 @@ statement_sound k Ends h place names = go k.open_thread refl (passed _ _ (passed
 statement_sound k (Schedules names) h place tests =
     let room = (passed _ _ (passed _ _ (passed _ _ tests).1).1).0 in
     schedule_sound k names h (not_inside k.open_thread (passed _ _ place).0) (leb-true (length k.schedule + length names) most_scheduled room)
-statement_sound k IsDone h place names = record {
-  names = h.names;
-  locks = h.locks;
-  chans = h.chans;
-  chan_locks = h.chan_locks;
-  threads = h.threads;
-  fits = h.fits;
-  open_thread = h.open_thread;
-  operations = h.operations;
-  counted = h.counted;
-  scheduled = h.scheduled;
-  schedule = h.schedule;
-}
+statement_sound k IsDone h place names = assumption h
 statement_sound k (Operates o) h place names = said_sound k o h k.open_thread refl names
 statement_sound k EndsTry h place names = endtry_line k h k.open_thread refl (passed _ _ place).0 names
 

@@ -1,5 +1,6 @@
 -- What a turn finds in a lawful state: words that can be, and objects where they are.
-use Rattle.std.proofs.Common.{◌≡◌, ◌⊎◌, ℕ, ◌≤◌, true, false, not, ◌||◌, Option, Some, None, refl, sym, ap, inl, inr, arith, ◌∙◌}
+use Rattle.std.proofs.Common.{◌≡◌, ◌⊎◌, ℕ, ◌+◌, ◌≤◌, true, false, not, ◌||◌, Option, Some, None, refl, sym, ap, inl, inr, arith, ◌∙◌}
+use Rattle.lock_model.specs.Counts.{some}
 use Rattle.lock_model.specs.Words.{Holder, Free, HeldBy, SharedBy, IsWellFormed, word_of, bits_of, is_turnstile, owner_of, is_free, without_one, shows_waiters, is_drop}
 use Rattle.lock_model.specs.Holds.{is_exclusive, Holds}
 use Rattle.lock_model.specs.Config.{Config}
@@ -35,23 +36,19 @@ drop_where_none_shown c s t l h e = go (s.word l).holder (sym ((h.words.words_ma
 
 -- 2. Objects
 
+at_home : (o : Option ℕ) → some o ≡ 1 → (x : ℕ) × (o ≡ Some x)
+at_home None e = absurd cc
+at_home (Some x) e = (x, refl)
+
 -- a thread that stands on no queue has its turnstile
 pub has_turnstile : (c : Config) (s : State) (t : ℕ) → Lawful c s → s.blocked_on t ≡ None → (x : ℕ) × (s.turnstile t ≡ Some x)
 unfolding TurnstileIsLent
-has_turnstile c s t h e = go (s.turnstile t) refl
-  where
-    go : (o : Option ℕ) → s.turnstile t ≡ o → (x : ℕ) × (s.turnstile t ≡ Some x)
-    go None f = absurd (let a = h.queues.turnstile_is_lent t in let b : 0 ≡ 1 = rw (e, f) at a in omega (arith, b))
-    go (Some x) f = (x, f)
+has_turnstile c s t h e = let a = h.queues.turnstile_is_lent t in let b : some (s.turnstile t) + 0 ≡ 1 = rw e at a in at_home (s.turnstile t) (omega (arith, b))
 
 -- and its sleep queue
 pub has_sleep_queue : (c : Config) (s : State) (t : ℕ) → Lawful c s → s.blocked_on t ≡ None → (x : ℕ) × (s.sleep_queue t ≡ Some x)
 unfolding SleepQueueIsLent
-has_sleep_queue c s t h e = go (s.sleep_queue t) refl
-  where
-    go : (o : Option ℕ) → s.sleep_queue t ≡ o → (x : ℕ) × (s.sleep_queue t ≡ Some x)
-    go None f = absurd (let a = h.queues.sleep_queue_is_lent t in let b : 0 ≡ 1 = rw (e, f) at a in omega (arith, b))
-    go (Some x) f = (x, f)
+has_sleep_queue c s t h e = let a = h.queues.sleep_queue_is_lent t in let b : some (s.sleep_queue t) + 0 ≡ 1 = rw e at a in at_home (s.sleep_queue t) (omega (arith, b))
 
 -- a lock's queue has a head where its word shows waiters
 pub shown_head : (c : Config) (s : State) (l : ℕ) → Lawful c s → shows_waiters (s.word l) ≡ true → (x : ℕ) × (s.head (lock_queue l) ≡ Some x)

@@ -1,5 +1,5 @@
--- Worked histories, held against the law of a history: what it lets through and what it refuses. The plans that are run so far have no tries,
--- sleepers and halts, so nothing else here notices when these parts of the law are turned.
+-- Worked histories, held against the law of a history: what it lets through and what it refuses. A law that is turned so
+-- that it asks for less is proved all the same, and no scheduled run has halts: nothing else here notices such turns.
 use Rattle.std.proofs.Common.{◌≡◌, ℕ, zero, suc, true, false, List, [], ◌∷◌, slice_get, Some, refl, sym, ap, subst, arith, ◌∙◌}
 use Rattle.std.proofs.lemmas.Option.{same_Some}
 use Rattle.lock_model.specs.Config.{Config}

@@ -73,6 +73,10 @@ pub put_chan_other : {A : Type 0} (f : QueueName → A) (d : ℕ) (v : A) (k : �
 unfolding put_queue
 put_chan_other f d v k h = ap (λ b. cond b v (f (chan_queue k))) (ne_eqb d k h)
 
+pub put_queue_same : {A : Type 0} (f : QueueName → A) (q : QueueName) (v : A) → put_queue f q v q ≡ v
+unfolding put_queue
+put_queue_same f q v = rw (is_queue_same q) refl
+
 pub put_queue_other : {A : Type 0} (f : QueueName → A) (q : QueueName) (v : A) (r : QueueName) → is_queue q r ≡ false
     → put_queue f q v r ≡ f r
 unfolding put_queue

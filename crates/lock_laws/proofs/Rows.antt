@@ -237,3 +237,18 @@ names_longest : (r : Run) → r.state ≡ after_all signals (start_state signals
     × (run.wakes r 2 (record { 0 = 0 }) true (WokeAll (record { 0 = 0 })) ≡ run.ends r 2 Wake (Wakes 2 0 true ∷ Stamps 2 (WokeAll (record { 0 = 0 }) 3) ∷ []))
 unfolding signals goes_to_sleep start_state after_look after_gain after_stamp after_drop after_take after_give after_ready after_enter after_open after_mark after_resume after_claim after_lend after_shift after_end_walk after_enter_sleep after_open_sleep after_add after_wake put put_at put_queue least sum_below at plan takes blocks opens mark
 names_longest r e = rw e (refl, refl)
+
+-- 9. A sleeper with a loan: o of 100 owns a mutex, for which w of 50 waits; v owns an sx lock, on which o sleeps, and then
+-- n of 60
+
+mixed : Config
+mixed = record (plan Mtx 2 (100 ∷ 50 ∷ 90 ∷ 60 ∷ [])) { kind = at (Mtx ∷ Sx ∷ []) Sx }
+
+sleeps_with_loan : List Step
+sleeps_with_loan = takes 0 0 Excl ++ takes 2 1 Excl ++ blocks 1 0 Excl 1 ++ Lends 1 0 0 1 ∷ sleeps 0 1 Excl 0 ++ sleeps 3 1 Excl 3
+
+-- each is kept by its base priority, in the order in which they came
+sleeps_by_base_is : (s : State) → s ≡ after_all mixed (start_state mixed) sleeps_with_loan
+    → (s.effective 0 ≡ 50) × (s.lists (lock_queue 1) ≡ record { exclusive = waits 0 100 ∷ waits 3 60 ∷ []; shared = [] })
+unfolding mixed sleeps_with_loan sleeps start_state after_look after_gain after_stamp after_drop after_take after_give after_ready after_enter after_open after_mark after_resume after_claim after_lend after_shift after_end_walk after_enter_sleep after_open_sleep after_add after_wake put put_at put_queue least sum_below at plan takes blocks opens mark
+sleeps_by_base_is s e = rw e (refl, refl)

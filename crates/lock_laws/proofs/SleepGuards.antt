@@ -1,28 +1,21 @@
 -- The guards of sleeps can be met: p takes a mutex and sleeps on a channel with it, q wakes it, and p takes the mutex back.
-use Rattle.std.proofs.Common.{◌≡◌, ℕ, Bool, true, false, cond, eqb, List, [], ◌∷◌, Option, Some, None, refl, inl, inr, arith}
+use Rattle.std.proofs.Common.{◌≡◌, ℕ, Bool, true, false, cond, eqb, List, [], ◌∷◌, ◌++◌, Option, Some, None, refl, inl, arith}
 use Rattle.lock_model.specs.Counts.{sum_below, least}
-use Rattle.lock_model.specs.Config.{Config}
 use Rattle.lock_model.specs.History.{sections_in}
 use Rattle.lock_model.specs.Queues.{BySignal, Mark, chan_queue}
-use Rattle.lock_model.specs.declared.plan.Kind.TheVariants.{Mtx}
 use Rattle.lock_model.specs.declared.plan.Mode.TheVariants.{Excl}
-use Rattle.lock_model.specs.declared.event.Event.TheVariants.{Locked, Sleeps, Woke, WokeOne}
+use Rattle.lock_model.specs.declared.event.Event.TheVariants.{Sleeps, Woke, WokeOne}
 use Rattle.lock_state.specs.State.{start_state, put, put_at, put_queue}
 use Rattle.lock_state.specs.Steps.LockWords.{after_seek, after_look, after_gain, after_drop, after_stamp, after_ready}
 use Rattle.lock_state.specs.Steps.Turnstiles.{after_mark, after_resume}
 use Rattle.lock_state.specs.Steps.SleepQueues.{after_add, after_wake}
-use Rattle.lock_state.specs.Steps.Items.{Item, out_with, go_together, TurnstileChain, SleepChain, RecordOf, CellOf, ClassGraph, after_take, after_give}
-use Rattle.lock_state.specs.Steps.{Step, Seeks, Looks, TakesItem, GivesItem, Gains, Drops, Stamps, Readies, Adds, Wakes, Marks, Resumes, after_all}
-use Rattle.lock_laws.proofs.FloorGuards.{FloorAll}
-
--- two threads, a mutex and a channel with it
-unfoldable sleeper_plan : Config
-sleeper_plan = record { threads = 2; locks = 1; chans = 1; kind = λ l. Mtx; class = λ l. l; chan_lock = λ d. 0; declared_base = λ t. 100 }
+use Rattle.lock_state.specs.Steps.Items.{SleepChain, RecordOf, after_take, after_give}
+use Rattle.lock_state.specs.Steps.{Step, Looks, TakesItem, GivesItem, Gains, Drops, Stamps, Readies, Adds, Wakes, Marks, Resumes, after_all}
+use Rattle.lock_laws.proofs.FloorGuards.{FloorAll, floor_plan, taking, takes_first, none_out, chain_out}
 
 unfoldable sleeping : List Step
 sleeping =
-    Seeks 0 0 false ∷ Looks 0 0 true ∷ Gains 0 0 Excl false ∷ Stamps 0 (Locked (record { 0 = 0 }) Excl)
-    ∷ TakesItem 0 (SleepChain 0) ∷ TakesItem 0 (RecordOf 0) ∷ Readies 0 (chan_queue 0) ∷ Stamps 0 (Sleeps (record { 0 = 0 })) ∷ Adds 0 0 0
+    TakesItem 0 (SleepChain 0) ∷ TakesItem 0 (RecordOf 0) ∷ Readies 0 (chan_queue 0) ∷ Stamps 0 (Sleeps (record { 0 = 0 })) ∷ Adds 0 0 0
     ∷ GivesItem 0 (RecordOf 0) ∷ GivesItem 0 (SleepChain 0) ∷ Drops 0 0 Excl ∷ []
 
 abbrev p_marked : Mark
@@ -33,20 +26,6 @@ waking =
     TakesItem 1 (SleepChain 0) ∷ Wakes 1 0 false ∷ Stamps 1 (WokeOne (record { 0 = 0 }) 1) ∷ GivesItem 1 (SleepChain 0)
     ∷ TakesItem 1 (RecordOf 0) ∷ Marks 1 p_marked [] ∷ GivesItem 1 (RecordOf 0)
     ∷ Resumes 0 (chan_queue 0) BySignal ∷ Looks 0 0 true ∷ Gains 0 0 Excl false ∷ Stamps 0 (Woke (record { 0 = 0 })) ∷ []
-
-none_out : (chains records : ℕ → Option ℕ) → ((k : ℕ) → chains k ≡ None) → ((k : ℕ) → records k ≡ None) → (j : Item) (t : ℕ) → out_with (λ k. None) chains records (λ l k. None) None j ≡ Some t → ⊥
-none_out chains records a b (TurnstileChain k) t e = cc
-none_out chains records a b (SleepChain k) t e = let z = a k in cc
-none_out chains records a b (RecordOf k) t e = let z = b k in cc
-none_out chains records a b (CellOf l k) t e = cc
-none_out chains records a b ClassGraph t e = cc
-
-chain_out : (chains : ℕ → Option ℕ) (j : Item) (t u : ℕ) → out_with (λ k. None) chains (λ k. None) (λ l k. None) None j ≡ Some t → (go_together (RecordOf u) j ≡ true) × (go_together j (RecordOf u) ≡ true)
-chain_out chains (TurnstileChain k) t u e = absurd cc
-chain_out chains (SleepChain k) t u e = (refl, refl)
-chain_out chains (RecordOf k) t u e = absurd cc
-chain_out chains (CellOf l k) t u e = absurd cc
-chain_out chains ClassGraph t u e = absurd cc
 
 -- what p took and gave back is home, and so it is once q has done the same
 abbrev there : ℕ → Option ℕ
@@ -68,63 +47,45 @@ again k = go (eqb 0 k)
     go true = refl
     go false = refl
 
-sleeping_may : FloorAll 16 sleeper_plan (start_state sleeper_plan) sleeping
-unfolding sleeper_plan sleeping start_state after_seek after_look after_gain after_drop after_stamp after_take after_give after_ready after_add put put_at put_queue least sum_below sections_in
-sleeping_may = (
-  -- p takes the mutex
-  record { thread = omega arith; lock = omega arith; unheld = refl; acting = record { unnamed = refl; unwoken = refl }; wants = inr refl; tries_want_nothing = λ e. absurd cc; no_round = refl },
-  (λ e. absurd cc),
-  tt,
-  (
-    record { thread = omega arith; lock = omega arith; room = λ e. omega arith },
-    tt,
-    record { counts = refl; in_chain = λ e. absurd cc },
+sleeping_may : FloorAll 16 floor_plan (start_state floor_plan) (taking ++ sleeping)
+unfolding floor_plan taking sleeping start_state after_seek after_look after_gain after_drop after_stamp after_take after_give after_ready after_add put put_at put_queue least sum_below sections_in
+sleeping_may = takes_first sleeping
+    -- it takes the chain and its own record, and is made ready
     (
-      record { thread = omega arith; lock = omega arith; admitted = refl; plainly = refl; unheld = refl; acting = record { unnamed = refl; unwoken = refl }; wants = inr refl },
+      record { thread = omega arith; home = refl; together = λ j e. absurd (none_out (λ k. None) (λ k. None) (λ k. refl) (λ k. refl) j 0 e); orders = tt },
+      (omega arith, tt),
       tt,
-      record { fits = (refl, refl); in_round = λ e i. absurd cc; saw = λ w i e. absurd cc },
       (
-        record { thread = omega arith; acting = record { unnamed = refl; unwoken = refl }; asks = (record { held = refl; closed = refl }, record { others = []; last = refl }) },
+        record { thread = omega arith; home = refl; together = λ j e. chain_out (λ k. None) (put (λ k. None) 0 (Some 0)) j 0 0 e; orders = tt },
+        (omega arith, tt),
         tt,
-        record { in_round = tt; asleep = λ e. absurd cc; wakes = λ e. absurd (e refl) },
-        -- it takes the chain and its own record, and is made ready
         (
-          record { thread = omega arith; home = refl; together = λ j e. absurd (none_out (λ k. None) (λ k. None) (λ k. refl) (λ k. refl) j 0 e); orders = tt },
-          (omega arith, tt),
+          record { thread = omega arith; running = refl },
+          (refl, refl),
           tt,
+          -- it goes to sleep
           (
-            record { thread = omega arith; home = refl; together = λ j e. chain_out (put (λ k. None) 0 (Some 0)) j 0 0 e; orders = tt },
-            (omega arith, tt),
-            tt,
+            record { thread = omega arith; acting = record { unnamed = refl; unwoken = refl }; asks = record { chan = omega arith; queued = refl; wants = refl; opened = λ e. cc; last = record { others = []; last = refl } } },
+            refl,
+            record { in_round = tt; asleep = λ e. absurd cc; wakes = λ e. absurd (e refl) },
             (
-              record { thread = omega arith; running = refl },
+              record { thread = omega arith; chan = omega arith; queued = refl; unnamed = refl; own = refl; wants = refl; slept = refl; unwoken = refl },
               (refl, refl),
-              tt,
-              -- it goes to sleep
+              record { no_round = refl; stamped = refl; unnoted = refl },
+              -- both go home, and the mutex is free
               (
-                record { thread = omega arith; acting = record { unnamed = refl; unwoken = refl }; asks = record { chan = omega arith; queued = refl; wants = refl; opened = λ e. cc; last = record { others = []; last = refl } } },
+                record { thread = omega arith; out = refl; done = λ e w n. cc },
                 refl,
-                record { in_round = tt; asleep = λ e. absurd cc; wakes = λ e. absurd (e refl) },
+                tt,
                 (
-                  record { thread = omega arith; chan = omega arith; queued = refl; unnamed = refl; own = refl; wants = refl; slept = refl; unwoken = refl },
-                  (refl, refl),
-                  record { no_round = refl; stamped = refl; unnoted = refl },
-                  -- both go home, and the mutex is free
+                  record { thread = omega arith; out = refl; done = (refl, refl, λ w n. cc) },
+                  refl,
+                  tt,
                   (
-                    record { thread = omega arith; out = refl; done = λ e w n. cc },
-                    refl,
+                    record { thread = omega arith; lock = omega arith; held = refl; stays = refl; closed = refl; begun = refl },
                     tt,
-                    (
-                      record { thread = omega arith; out = refl; done = (refl, refl, λ w n. cc) },
-                      refl,
-                      tt,
-                      (
-                        record { thread = omega arith; lock = omega arith; held = refl; stays = refl; closed = refl; begun = refl },
-                        tt,
-                        tt,
-                        tt,
-                      ),
-                    ),
+                    tt,
+                    tt,
                   ),
                 ),
               ),
@@ -132,12 +93,10 @@ sleeping_may = (
           ),
         ),
       ),
-    ),
-  ),
-)
+    )
 
-waking_may : FloorAll 16 sleeper_plan (after_all sleeper_plan (start_state sleeper_plan) sleeping) waking
-unfolding sleeper_plan sleeping waking start_state after_seek after_look after_gain after_drop after_stamp after_take after_give after_ready after_add after_wake after_mark after_resume put put_at put_queue least sum_below sections_in
+waking_may : FloorAll 16 floor_plan (after_all floor_plan (start_state floor_plan) (taking ++ sleeping)) waking
+unfolding floor_plan taking sleeping waking start_state after_seek after_look after_gain after_drop after_stamp after_take after_give after_ready after_add after_wake after_mark after_resume put put_at put_queue least sum_below sections_in
 waking_may = (
   -- q takes p off the channel and notes that
   record { thread = omega arith; home = refl; together = λ j e. absurd (none_out there there back back j 1 e); orders = tt },

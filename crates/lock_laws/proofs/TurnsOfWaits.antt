@@ -5,7 +5,6 @@ use Rattle.std.proofs.lemmas.Option.{same_Some}
 use Rattle.lock_model.specs.Holds.{Hold, NotHeld, Holds, is_unheld}
 use Rattle.lock_model.specs.Events.{sleeps_on, of_sleep, fell_asleep}
 use Rattle.lock_model.specs.Plans.{config_of, operations_of}
-use Rattle.lock_model.specs.History.{sections_in}
 use Rattle.lock_model.specs.Config.{Config}
 use Rattle.lock_model.specs.Queues.{Mark, Cause, BySignal, chan_queue}
 use Rattle.lock_state.specs.State.{State, Queued, Running, Woken, put}
@@ -25,7 +24,7 @@ use Rattle.lock_model.specs.declared.plan.QueueName.TheVariants.{Lock, Chan}
 use Rattle.lock_model.specs.declared.turn.StepKind.TheVariants as kind
 use Rattle.lock_laws.specs.OnTrack.{IsOnTrack, OwesNothing, TakesLock}
 use Rattle.lock_laws.proofs.Kit.{at_put, put_same, put_other, each_place}
-use Rattle.lock_laws.proofs.OnTrack.{KeepsTrack, IsWhere, none_unnoted, is_there}
+use Rattle.lock_laws.proofs.OnTrack.{KeepsTrack, none_unnoted, is_there, there_wanting}
 
 -- a thread whose newest entry is the Sleeps entry of a channel waits there
 pub slept_waits : (d : ℕ) (es : List Entry) → has_slept d es ≡ true → waits_on es ≡ Some d
@@ -106,20 +105,6 @@ module _ (plan : Plan) (r : Run) (t : ℕ) (k : IsOnTrack plan r) (lt : t < leng
             let same : c.chan_lock d.0 ≡ l = same_Some (c.chan_lock d.0) l w in
             (rw (waits d.0 i) same, subst (λ j. s.held t j ≡ NotHeld) same (unheld d.0 i))
 
-    there : IsWhere plan t (r.next_op t) (waits_on (s.log t)) (s.held t) (s.held_locks t) (λ l. sections_in c s.history t l) (s.has_begun t) wanted
-    there = record {
-      within = k.within t;
-      no_endtry = k.no_endtry t;
-      waiting = k.waiting t;
-      holds = k.holds t;
-      listed = k.listed t;
-      left = k.left t;
-      opened = k.sections t;
-      begun = k.begun t;
-      wants = λ l w. (wants l w).0;
-      wants_unheld = λ l w. (wants l w).1;
-    }
-
     pub resumed : KeepsTrack plan r t (does kind.Resume (Resumes t q cause ∷ []))
     unfolding after_resume QueuedStands
     resumed = record {
@@ -129,5 +114,5 @@ module _ (plan : Plan) (r : Run) (t : ℕ) (k : IsOnTrack plan r) (lt : t < leng
       noted = none_unnoted plan r t k;
       no_halts = k.no_halts;
       entries = omega arith;
-      there = rw (put_same s.wanted t wanted) there;
+      there = rw (put_same s.wanted t wanted) (there_wanting plan r t wanted k wants);
     }

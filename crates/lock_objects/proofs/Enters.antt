@@ -1,9 +1,9 @@
 -- A thread stands on a turnstile: its record, the lock's turnstile and the chain show the columns behind an enter.
-use Rattle.std.proofs.Common.{◌≡◌, ◌≢◌, ℕ, ◌+◌, ◌<◌, ltb, true, List, [], length, Option, Some, None, refl, sym, ap, subst, arith, length-append, ◌∙◌}
+use Rattle.std.proofs.Common.{◌≡◌, ◌≢◌, ℕ, ◌<◌, ltb, true, List, [], Option, Some, None, refl, sym, ap, subst, ◌∙◌}
 use Rattle.lock_model.specs.Words.{Holder, owner_of}
 use Rattle.lock_model.specs.Config.{Config}
 use Rattle.lock_state.specs.State.{State}
-use Rattle.lock_model.specs.Queues.{Waiter, lock_queue, stands, waiting, side_of, list_of, with_list, insert, head_with, free_with}
+use Rattle.lock_model.specs.Queues.{Waiter, lock_queue, stands, side_of, list_of, with_list, insert, head_with, free_with}
 use Rattle.lock_state.specs.Facts.{Lawful}
 use Rattle.lock_model.specs.Words.{is_turnstile}
 use Rattle.lock_state.specs.Steps.Turnstiles.{after_enter, owner_with}
@@ -14,7 +14,6 @@ use Rattle.lock_model.specs.declared.plan.QueueName.{QueueName}
 use Rattle.lock_laws.proofs.Kit.{put_same, put_lock_same, put_lock_other}
 use Rattle.lock_laws.proofs.Standing.{home_nowhere}
 use Rattle.lock_laws.proofs.HeadsAndNodes.{node_home}
-use Rattle.lock_laws.proofs.Nodes.{some_waiting}
 use Rattle.lock_laws.proofs.WordsAndHeads.{headless_bare}
 use Rattle.turnstile_core.specs.Seen.{Contents, Turnstile, idle_contents}
 use Rattle.turnstile_core.specs.Changes.{lists_of, with_owner, begun, joined, name_of}
@@ -23,6 +22,7 @@ use Rattle.chain_table.specs.Chains.{head_of}
 use Rattle.lock_objects.specs.Represents.{QueueColumns, RepresentsHead, RepresentsQueue, RepresentsQueues, RepresentsRecord, queue_in, record_in, queue_of}
 use Rattle.lock_objects.specs.Enters.{CanStand, CanLend, waiter_of, record_entered, head_entered, chain_entered}
 use Rattle.lock_objects.proofs.Queues.{SameQueue, queues_placed}
+use Rattle.lock_objects.proofs.StepsOfSleepers.{somebody_stands}
 
 -- 1. A lawful state
 
@@ -44,14 +44,8 @@ module _ (c : Config) (s : State) (t l x : ℕ) (lawful : Lawful c s) where
       go : (o : Option Turnstile) → RepresentsQueue o (queue_in s (lock_queue l)) s.loan_home → CanStand t o
       go None h = tt
       go (Some d) h =
-          let ls : s.lists (lock_queue l) ≡ lists_of d.contents = ap (λ v. v.lists) h.queue in (
-            (λ e.
-                let a = some_waiting c s lawful l d.contents.number (ap (λ v. v.head) h.queue) in
-                let n : waiting (s.lists (lock_queue l)) ≡ length d.contents.exclusive + length d.contents.shared = ap waiting ls in
-                let z : length d.contents.exclusive + length d.contents.shared ≡ 0 = sym (length-append d.contents.exclusive d.contents.shared) ∙ ap length e in
-                omega (arith, a, n, z)),
-            ap (ltb 0) (ap (stands t) (sym ls) ∙ home_nowhere c s t l x lawful own turnstile),
-          )
+          let ls : s.lists (lock_queue l) ≡ lists_of d.contents = ap (λ v. v.lists) h.queue in
+          (somebody_stands c s (lock_queue l) lawful d.contents (ap (λ v. v.head) h.queue) ls, ap (ltb 0) (ap (stands t) (sym ls) ∙ home_nowhere c s t l x lawful own turnstile))
 
 -- 2. The turnstile
 

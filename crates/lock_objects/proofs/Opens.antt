@@ -219,17 +219,14 @@ module _ (c : Config) (s : State) (t l : ℕ) where
     gone : is_empty (all_waiters (left side d)) ≡ true → (queue_in n (lock_queue l)).head ≡ None
     gone nobody = ap (λ v. v.head) then_is ∙ left_none side d fits nobody
 
-    pub queues_shown : {chain new : List (QueueName × Turnstile)} → RepresentsQueues c chain (queue_in s) s.loan_home → new ≡ chain_opened l side r h chain → (is_empty (all_waiters (left side d)) ≡ true → head_of (lock_queue l) new ≡ None)
+    pub queues_shown : {chain new : List (QueueName × Turnstile)} → RepresentsQueues c chain (queue_in s) s.loan_home → new ≡ chain_opened l side r h chain → head_of (lock_queue l) (without (lock_queue l) chain) ≡ None
         → RepresentsQueues c new (queue_in n) n.loan_home
-    queues_shown {chain = chain} {new = new} shows is absent = go (is_empty (all_waiters (left side d))) refl
+    queues_shown {chain = chain} shows is absent = subst (λ v. RepresentsQueues c v (queue_in n) n.loan_home) (sym is) (go (is_empty (all_waiters (left side d))) refl)
       where
-        go : (b : Bool) → is_empty (all_waiters (left side d)) ≡ b → RepresentsQueues c new (queue_in n) n.loan_home
-        go true nobody =
-            let without_it : new ≡ without (lock_queue l) chain = is ∙ ap (λ b. cond b (without (lock_queue l) chain) ((lock_queue l, record h { contents = left side d }) ∷ without (lock_queue l) chain)) nobody in
-            subst (λ v. RepresentsQueues c v (queue_in n) n.loan_home) (sym without_it) (queues_gone l shows (others can) (ap (head_of (lock_queue l)) (sym without_it) ∙ absent nobody) (gone nobody))
-        go false some_wait =
-            let with_it : new ≡ (lock_queue l, record h { contents = left side d }) ∷ without (lock_queue l) chain = is ∙ ap (λ b. cond b (without (lock_queue l) chain) ((lock_queue l, record h { contents = left side d }) ∷ without (lock_queue l) chain)) some_wait in
-            subst (λ v. RepresentsQueues c v (queue_in n) n.loan_home) (sym with_it) (queues_placed l shows (others can) (record h { contents = left side d }) (stays some_wait))
+        go : (b : Bool) → is_empty (all_waiters (left side d)) ≡ b
+            → RepresentsQueues c (cond b (without (lock_queue l) chain) ((lock_queue l, record h { contents = left side d }) ∷ without (lock_queue l) chain)) (queue_in n) n.loan_home
+        go true nobody = queues_gone l shows (others can) absent (gone nobody)
+        go false some_wait = queues_placed l shows (others can) (record h { contents = left side d }) (stays some_wait)
 
     pub marks_shown : {ps : List Place} → ps ≡ woken_of l side r h.contents → (map (mark_of (lock_queue l)) ps ≡ n.marked t) × All (λ p. IsSome p.object) ps
     unfolding after_open

@@ -8,22 +8,18 @@ use Rattle.lock_model.specs.Queues.{Waiter, Lists, is_turnstile_queue, list_of, 
 use Rattle.lock_model.specs.declared.plan.Side.{Side}
 use Rattle.lock_model.specs.declared.plan.Side.TheVariants.{X, S}
 use Rattle.lock_model.specs.declared.plan.QueueName.{QueueName}
-use Rattle.lock_state.specs.State.{State, put_queue}
-use Rattle.lock_laws.proofs.Kit.{put_queue_other}
+use Rattle.lock_state.specs.State.{State}
+use Rattle.lock_laws.proofs.Kit.{put_queue_same, put_queue_other}
 use Rattle.sleep_queues.specs.Seen.{SleepQueue, Place}
 use Rattle.sleep_queues.specs.Changes.{all_waiters, without_woken}
 use Rattle.chain_table.specs.Chains.{head_of, without}
 use Rattle.chain_table.proofs.Lookups.{without_absent}
 use Rattle.lock_objects.specs.Represents.{SleepColumns, RepresentsSleepQueue, RepresentsSleepers, sleepers_in, sleepers_of, mark_of}
 use Rattle.lock_objects.specs.Sleeps.{IsBalanced, ChangesSleepers, head_asleep, chain_asleep, slept, woken_of, chain_woken, woken}
-use Rattle.lock_objects.proofs.Chains.{is_queue-same, is_queue-other, all_placed, all_gone}
+use Rattle.lock_objects.proofs.Chains.{is_queue-other, all_placed, all_gone}
 use Rattle.lock_objects.proofs.Taken as object
 
 -- 1. The sleep queues of a state, where one changes
-
-put_queue_same : {A : Type 0} (f : QueueName → A) (q : QueueName) (v : A) → put_queue f q v q ≡ v
-unfolding put_queue
-put_queue_same f q v = rw (is_queue-same q q refl) refl
 
 module _ {c : Config} {chain : List (QueueName × SleepQueue)} (s n : State) (q : QueueName) (f : SleepColumns → SleepColumns) (changes : ChangesSleepers s n q f) (shows : RepresentsSleepers c chain (sleepers_in s)) where
   abbrev Shown : QueueName → Option SleepQueue → Type 0

@@ -3,7 +3,7 @@ use Rattle.std.proofs.Common.{◌≡◌, ◌≢◌, ℕ, Bool, true, false, not,
 use Rattle.std.specs.Option.{IfSome}
 use Rattle.lock_model.specs.Config.{Config}
 use Rattle.lock_model.specs.Counts.{some}
-use Rattle.lock_model.specs.Queues.{lock_queue, chan_queue, side_of, list_of, with_list, insert, head_with, free_with, dealt, taken_off, is_queue, is_turnstile_queue, stands, waiting}
+use Rattle.lock_model.specs.Queues.{Lists, lock_queue, chan_queue, with_kept, side_of, list_of, with_list, insert, head_with, free_with, dealt, taken_off, is_queue, is_turnstile_queue, stands, waiting}
 use Rattle.lock_model.specs.Words.{side_woken}
 use Rattle.lock_model.specs.declared.plan.Mode.{Mode}
 use Rattle.lock_model.specs.declared.plan.Side.{Side}
@@ -12,8 +12,9 @@ use Rattle.lock_model.specs.declared.plan.QueueName.{QueueName}
 use Rattle.lock_state.specs.State.{State, put_queue}
 use Rattle.lock_state.specs.Facts.{Lawful, HeadsFitWaiters}
 use Rattle.lock_state.specs.Steps.Turnstiles.{after_enter, after_open}
+use Rattle.lock_state.specs.Steps.Lending.{after_shift}
 use Rattle.lock_state.specs.Steps.SleepQueues.{after_enter_sleep, after_open_sleep, after_add, after_wake}
-use Rattle.lock_laws.proofs.Kit.{is_queue_true, put_queue_other}
+use Rattle.lock_laws.proofs.Kit.{is_queue_true, put_queue_same, put_queue_other, at_put_queue}
 use Rattle.lock_laws.proofs.Standing.{standing_named, asleep_out}
 use Rattle.lock_laws.proofs.Sums.{zero_unless}
 use Rattle.lock_laws.proofs.SleepFacts.Marks.{threads-dealt}
@@ -25,7 +26,8 @@ use Rattle.wait_objects.specs.Changes.{lists_of, all_waiters}
 use Rattle.thread_records.specs.Records.{Record}
 use Rattle.chain_table.specs.Chains.{head_of}
 use Rattle.lock_objects.specs.Represents.{SleepColumns, RepresentsQueues, RepresentsSleepQueue, RepresentsSleepers, RepresentsRecord, queue_in, sleepers_in, record_in, mark_of}
-use Rattle.lock_objects.specs.Sleeps.{CanSleep, IsBalanced, ChangesSleepers, sleeper_of, slept, woken}
+use Rattle.lock_objects.specs.Enters.{CanStand}
+use Rattle.lock_objects.specs.Sleeps.{IsBalanced, ChangesSleepers, sleeper_of, slept, woken}
 use Rattle.lock_objects.proofs.Queues.{queue_stays}
 
 -- 1. A lawful state
@@ -56,10 +58,10 @@ module _ (c : Config) (s : State) (q : QueueName) (lawful : Lawful c s) where
         go (Some d) h = somebody_stands d.contents (ap (λ a. a.head) h) (ap (λ a. a.lists) h)
 
     -- and a thread that has its own at home can sleep there
-    pub can_sleep : (t x : ℕ) → s.sleep_queue t ≡ Some x → CanSleep t (head_of q chain)
+    pub can_sleep : (t x : ℕ) → s.sleep_queue t ≡ Some x → CanStand t (head_of q chain)
     can_sleep t x own = go (head_of q chain) (shows.queue q sleeps) somebody_sleeps
       where
-        go : (o : Option SleepQueue) → RepresentsSleepQueue o (sleepers_in s q) → IfSome o (λ h. all_waiters h.contents ≢ []) → CanSleep t o
+        go : (o : Option SleepQueue) → RepresentsSleepQueue o (sleepers_in s q) → IfSome o (λ h. all_waiters h.contents ≢ []) → CanStand t o
         go None h some_sleep = tt
         go (Some d) h some_sleep = (some_sleep, ap (ltb 0) (ap (λ a. stands t a.lists) (sym h) ∙ home_awake t x own sleeps))
 
@@ -119,6 +121,14 @@ module _ (s : State) (t l : ℕ) where
   pub enter_sleep_changes : (mode : Mode) (x : ℕ) → ChangesSleepers s (after_enter_sleep s t l mode x) (lock_queue l) (slept (side_of mode) x (record { thread = t; kept = s.base t }))
   unfolding after_enter_sleep
   enter_sleep_changes mode x = put_columns s (lock_queue l) (slept (side_of mode) x (record { thread = t; kept = s.base t }) (sleepers_in s (lock_queue l)))
+
+  pub shift_changes : (o : ℕ) → ChangesSleepers s (after_shift s t o l) (lock_queue l) (λ v. record v { lists = with_kept o (s.effective o) v.lists })
+  unfolding after_shift
+  shift_changes o =
+      let q : QueueName = lock_queue l in
+      let ls : Lists = with_kept o (s.effective o) (s.lists q) in
+      at_put_queue (λ r v. record (sleepers_in s r) { lists = put_queue s.lists q ls r } ≡ v) (sleepers_in s) q (record (sleepers_in s q) { lists = ls })
+      (λ i. record (sleepers_in s q) { lists = put_queue_same s.lists q ls i }) (λ r e i. record (sleepers_in s r) { lists = put_queue_other s.lists q ls r e i })
 
   pub enter_changes : (mode : Mode) (x : ℕ) → ChangesSleepers s (after_enter s t l mode x) (lock_queue l) (λ v. record {
     head = head_with v.head x;

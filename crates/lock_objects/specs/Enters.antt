@@ -7,14 +7,16 @@ use Rattle.lock_state.specs.State.{State}
 use Rattle.lock_model.specs.declared.plan.Side.{Side}
 use Rattle.lock_model.specs.declared.plan.QueueName.{QueueName}
 use Rattle.turnstile_core.specs.Seen.{Turnstile, idle_contents}
-use Rattle.turnstile_core.specs.Changes.{with_owner, begun, joined, waits, all_waiters}
+use Rattle.turnstile_core.specs.Changes.{with_owner, begun, joined}
+use Rattle.wait_objects.specs.Seen.{Object}
+use Rattle.wait_objects.specs.Changes.{waits, all_waiters}
 use Rattle.thread_records.specs.Records.{Record}
 use Rattle.chain_table.specs.Chains.{head_of, without}
 
 -- 1. What it asks
 
--- where a turnstile is there, somebody waits on it, and the thread doesn't
-abbrev pub CanStand : ℕ → Option Turnstile → Type 0
+-- where a turnstile or a sleep queue is there, somebody waits on it, and the thread doesn't
+abbrev pub CanStand : {E : Type 0} → ℕ → Option (Object E) → Type 0
 CanStand t None = ⊤
 CanStand t (Some h) = (all_waiters h.contents ≢ []) × (waits t h.contents ≡ false)
 

@@ -1,6 +1,6 @@
 -- What a thread that goes to stand on a sleep queue makes of its record and of the chain, and what the taking off of
 -- sleepers makes of the chain.
-use Rattle.std.specs.Prelude.{◌≡◌, ◌≢◌, ℕ, ◌+◌, Bool, false, if◌then◌else◌, List, [], ◌∷◌, length, Option, Some, None, ⊤}
+use Rattle.std.specs.Prelude.{◌≡◌, ℕ, ◌+◌, Bool, if◌then◌else◌, List, [], ◌∷◌, length, Option, Some, None}
 use Rattle.lock_model.specs.Counts.{is_empty, some}
 use Rattle.lock_model.specs.Queues.{Waiter, list_of, with_list, with_last as with_last_waiter, head_with, free_with, free_after, head_after, taken_off, left_on, waiting}
 use Rattle.lock_state.specs.State.{State, put_queue}
@@ -8,17 +8,12 @@ use Rattle.lock_model.specs.declared.plan.Side.{Side}
 use Rattle.lock_model.specs.declared.plan.QueueName.{QueueName}
 use Rattle.sleep_queues.specs.Seen.{SleepQueue, Contents, Place, idle}
 use Rattle.sleep_queues.specs.Lists.{with_last}
-use Rattle.sleep_queues.specs.Changes.{begun, joined, waits, waiters, all_waiters, taken, without_woken}
+use Rattle.sleep_queues.specs.Changes.{begun, joined, waiters, all_waiters, taken, without_woken}
 use Rattle.thread_records.specs.Records.{Record}
 use Rattle.chain_table.specs.Chains.{head_of, without}
 use Rattle.lock_objects.specs.Represents.{SleepColumns, sleepers_in}
 
 -- 1. What it asks
-
--- where a sleep queue is there, somebody sleeps on it, and the thread doesn't
-abbrev pub CanSleep : ℕ → Option SleepQueue → Type 0
-CanSleep t None = ⊤
-CanSleep t (Some h) = (all_waiters h.contents ≢ []) × (waits t h.contents ≡ false)
 
 -- a queue has as many sleepers as sleep queues, and without a head it has neither
 pub record IsBalanced (x : SleepColumns) : Type 0 where

@@ -10,7 +10,8 @@ ghost use Rattle.sleep_queues.specs.Seen.{idle, IsEmpty};
 ghost use Rattle.sleep_queues.specs.Changes.{waiters, all_waiters, without_woken, AreTaken};
 ghost use Rattle.chain_table.specs.Chains.{head_of};
 ghost use Rattle.chain_table.specs.Objects.{behind};
-ghost use Rattle.lock_objects.specs.Sleeps.{CanSleep, IsBalanced, ChangesSleepers, sleeper_of, record_asleep, head_asleep, chain_asleep, slept, woken_of, chain_woken, woken};
+ghost use Rattle.lock_objects.specs.Enters.{CanStand};
+ghost use Rattle.lock_objects.specs.Sleeps.{IsBalanced, ChangesSleepers, sleeper_of, record_asleep, head_asleep, chain_asleep, slept, woken_of, chain_woken, woken};
 ghost use Rattle.lock_objects.specs.Represents.{RepresentsSleepers, RepresentsRecord, RecordColumns, sleepers_in, mark_of};
 
 use crate::put_back::put_back;
@@ -24,7 +25,7 @@ use thread_records::ThreadRec;
 /// one.
 pub fn fall_asleep(chain: &mut Chain<SleepQueue>, rec: &mut ThreadRec, q: QueueName, side: Side)
     requires own { IsSome rec.old.sleep_queue }
-    requires may { CanSleep rec.old.thread (head_of q chain.old) }
+    requires may { CanStand rec.old.thread (head_of q chain.old) }
     ensures record { rec.new ≡ record_asleep q rec.old }
     ensures chain { (x : ℕ) → rec.old.sleep_queue ≡ Some x
         → chain.new ≡ chain_asleep q side x (sleeper_of rec.old) chain.old }
@@ -55,7 +56,7 @@ fn with_sleeper(
 ) -> Box<SleepQueue>
     requires own { own.value ≡ idle own.value.contents.number }
     requires empty { IsEmpty node.value }
-    requires may { CanSleep node.value.place.thread (option_map (λ b. b.value) there) }
+    requires may { CanStand node.value.place.thread (option_map (λ b. b.value) there) }
     requires named { IfSome there (λ b. b.value.contents.own.name ≡ Some q) }
     requires bare { IfSome there (λ b. behind b.value ≡ []) }
     ensures head { result.value ≡ head_asleep q side own.value.contents.number

@@ -1,16 +1,14 @@
 //! Waiters are taken off a turnstile, as in `turnstile_broadcast` of FreeBSD's subr_turnstile.c.
-ghost use Rattle.std.specs.Prelude.{◌≡◌, ℕ, None, true, IsSome, IfSome, IsSomeAnd, map};
+ghost use Rattle.std.specs.Prelude.{◌≡◌, ℕ, IsSome, IfSome, IsSomeAnd, map};
 ghost use Rattle.std.specs.List.{All};
 ghost use Rattle.lock_model.specs.Config.{Config};
-ghost use Rattle.lock_model.specs.Counts.{is_empty};
 ghost use Rattle.lock_model.specs.Words.{side_woken};
 ghost use Rattle.lock_model.specs.Queues.{lock_queue};
 ghost use Rattle.lock_state.specs.State.{State};
 ghost use Rattle.lock_state.specs.Steps.Turnstiles.{after_open};
-ghost use Rattle.turnstile_core.specs.Changes.{all_waiters};
 ghost use Rattle.chain_table.specs.Chains.{head_of};
 ghost use Rattle.lock_objects.specs.Represents.{RepresentsQueues, RepresentsRecord, queue_in, record_in, mark_of};
-ghost use Rattle.lock_objects.specs.Opens.{CanOpen, CanRelease, record_opened, left_open, woken_of, chain_opened};
+ghost use Rattle.lock_objects.specs.Opens.{CanOpen, CanRelease, record_opened, woken_of, chain_opened};
 
 use crate::put_back::put_back;
 use chain_table::Chain;
@@ -27,9 +25,6 @@ pub fn open(chain: &mut Chain<Turnstile>, rec: &mut ThreadRec, l: LockNo, side: 
     ensures record { rec.new ≡ record_opened l.0 rec.old }
     ensures chain { IfSome (head_of (lock_queue l.0) chain.old) (λ h.
         chain.new ≡ chain_opened l.0 side rec.old h chain.old) }
-    ensures absent { IfSome (head_of (lock_queue l.0) chain.old) (λ h.
-        is_empty (all_waiters (left_open l.0 side rec.old h.contents)) ≡ true
-        → head_of (lock_queue l.0) chain.new ≡ None) }
     ensures woken { IfSome (head_of (lock_queue l.0) chain.old) (λ h.
         result ≡ woken_of l.0 side rec.old h.contents) }
     ensures queues { (c : Config) (s : State) (t : ℕ) → side ≡ side_woken (c.kind l.0) (s.word l.0)

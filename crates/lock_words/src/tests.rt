@@ -1,4 +1,5 @@
-// The worked words of the format, and one lock word from its first reader to its writer's release.
+// The worked words of the format, and one lock word from its first reader to its writer's release. An sx lock wakes
+// the other side first where it was held exclusively.
 use super::*;
 
 // Free, held by thread 0, held by thread 3 with writers shown, held by two readers with both shown, and free with readers
@@ -27,6 +28,8 @@ fn steps_of_a_word(rt: HostRuntime) {
     assert!(rt; !admits(Kind::Rw, 9, Mode::Shared));
     assert_eq!(rt; entered(9, Side::S), 11);
     assert_eq!(rt; opened(Kind::Rw, 11), (2, Some(Side::X)));
+    assert_eq!(rt; opened(Kind::Sx, 11), (2, Some(Side::X)));
+    assert_eq!(rt; opened(Kind::Sx, 7), (1, Some(Side::S)));
     assert!(rt; !is_plain(Kind::Rw, 2, Mode::Excl));
     assert_eq!(rt; claimed(2, ThreadNo(4)), 38);
     assert_eq!(rt; unshown(38, Side::S), 36);

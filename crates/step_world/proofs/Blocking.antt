@@ -1,9 +1,8 @@
 -- A thread is put on a queue: it blocks on a lock that is held, or sleeps on a channel.
-use Rattle.std.proofs.Common.{◌≡◌, ◌⊎◌, inl, inr, ℕ, ◌<◌, Bool, true, false, cond, List, reverse, slice_get, Option, Some, None, option_map, is_some, IsSome, refl, sym, ap, subst, ◌∙◌}
+use Rattle.std.proofs.Common.{◌≡◌, ◌⊎◌, inl, inr, ℕ, ◌<◌, Bool, true, false, cond, List, slice_get, Option, Some, None, option_map, is_some, IsSome, refl, sym, ap, subst, ◌∙◌}
 use Rattle.std.specs.Vec.{with_item}
 use Rattle.std.specs.Box.{with_value}
 use Rattle.lock_model.specs.Config.{Config}
-use Rattle.lock_model.specs.History.{tables_of}
 use Rattle.lock_model.specs.Words.{word_of, entered, owner_of, is_free, is_turnstile}
 use Rattle.lock_model.specs.Queues.{lock_queue, chan_queue, side_of, is_turnstile_queue}
 use Rattle.lock_model.specs.declared.plan.Kind.{Kind}
@@ -29,7 +28,7 @@ use Rattle.prio_lending.specs.Hops as hops
 use Rattle.prio_lending.specs.declared.walk.Walk.{Walk}
 use Rattle.lock_objects.specs.Represents.{RecordColumns, RepresentsQueues, RepresentsSleepers, RepresentsRecord, queue_in, sleepers_in, record_in, walk_of}
 use Rattle.lock_objects.specs.Enters.{CanStand, CanLend}
-use Rattle.lock_objects.specs.Sleeps.{CanSleep, IsBalanced, ChangesSleepers, sleeper_of, slept}
+use Rattle.lock_objects.specs.Sleeps.{IsBalanced, ChangesSleepers, sleeper_of, slept}
 use Rattle.lock_objects.proofs.Enters.{can_lend, can_stand}
 use Rattle.lock_objects.proofs.StepsOfSleepers.{balanced, can_sleep, turnstiles_stay, sleepers_stay, sleeper_is, enter_changes, enter_sleep_changes, add_changes}
 use Rattle.step_world.specs.declared.machine.Machine.{Machine}
@@ -37,7 +36,7 @@ use Rattle.step_world.specs.declared.thread.Thread.{Thread}
 use Rattle.step_world.specs.declared.thread.Wait.TheVariants as wait
 use Rattle.step_world.specs.Represents.{Represents, RepresentsWords, thread_in}
 use Rattle.step_world.specs.Steps.{enters}
-use Rattle.step_world.proofs.Kit.{OthersStay, thread_changed, word_changed, record_of}
+use Rattle.step_world.proofs.Kit.{OthersStay, thread_changed, word_changed, record_of, shown_by}
 
 -- 1. A thread is made ready
 
@@ -46,20 +45,10 @@ pub readied : {m : Machine} {c : Config} {s : State} {t : ℕ} (th : Thread) →
 unfolding after_ready
 readied {m = m} {c = c} {s = s} {t = t} th h g at =
     let old = h.threads.thread t th at in
-    record {
-      within = h.within;
-      words = h.words;
-      queues = h.queues;
-      sleepers = h.sleepers;
-      threads = thread_changed (after_ready s t) (record th { wait = wait.Queued }) h.threads g.thread (record {
-        columns = λ i. record (old.columns i) { wait = sym (put_same s.wait t Queued) i };
-        one_loan_each = old.one_loan_each;
-        held = old.held;
-        marked = old.marked;
-      }) (λ u d i. record (thread_in s u) { wait = put_other s.wait t Queued u (λ e. d (sym e)) i });
-      history = h.history;
-      tables = h.tables;
-    }
+    shown_by (after_ready s t) h refl h.words h.queues h.sleepers
+    (thread_changed (after_ready s t) (record th { wait = wait.Queued }) h.threads g.thread
+    (record { columns = λ i. record (old.columns i) { wait = sym (put_same s.wait t Queued) i }; one_loan_each = old.one_loan_each; held = old.held; marked = old.marked })
+    (λ u d i. record (thread_in s u) { wait = put_other s.wait t Queued u (λ e. d (sym e)) i }))
 
 -- 2. A thread falls asleep, on the queue of an sx lock or of a channel
 
@@ -77,8 +66,8 @@ module _ (c : Config) (s : State) (t x : ℕ) (q : QueueName) (lawful : Lawful c
   has_sleep_queue = ap is_some own_is
 
   module _ {chain : List (QueueName × SleepQueue)} (shows : RepresentsSleepers c chain (sleepers_in s)) where
-    pub sleeps_free : CanSleep r.thread (head_of q chain)
-    sleeps_free = subst (λ u. CanSleep u (head_of q chain)) (sym (ap (λ v. v.thread) rec.columns)) (can_sleep c s q lawful shows sleeps t x own)
+    pub sleeps_free : CanStand r.thread (head_of q chain)
+    sleeps_free = subst (λ u. CanStand u (head_of q chain)) (sym (ap (λ v. v.thread) rec.columns)) (can_sleep c s q lawful shows sleeps t x own)
 
     -- what it makes
     pub asleep : {then : List (QueueName × SleepQueue)} (n : State) (side : Side) → ChangesSleepers s n q (slept side x (record { thread = t; kept = s.base t })) → FallsAsleep q side r chain then → RepresentsSleepers c then (sleepers_in n)
@@ -100,7 +89,7 @@ module _ {m : Machine} {c : Config} {s : State} {t d x : ℕ} (h : Represents c 
   pub record_now : RepresentsRecord th.record.value (record_in s t)
   record_now = record_of (h.threads.thread t th at)
 
-  pub add_asks : IsSome th.record.value.sleep_queue × CanSleep th.record.value.thread (head_of (chan_queue d) m.sleepers)
+  pub add_asks : IsSome th.record.value.sleep_queue × CanStand th.record.value.thread (head_of (chan_queue d) m.sleepers)
   add_asks = (has_sleep_queue c s t x (chan_queue d) lawful g.own refl record_now, sleeps_free c s t x (chan_queue d) lawful g.own refl record_now h.sleepers)
 
   add_others : OthersStay s after t
@@ -115,20 +104,14 @@ module _ {m : Machine} {c : Config} {s : State} {t d x : ℕ} (h : Represents c 
   stands_added {v = v} falls rec =
       let old = h.threads.thread t th at in
       let new = rec (record_in s t) record_now in
-      record {
-        within = h.within;
-        words = h.words;
-        queues = turnstiles_stay c s after (chan_queue d) _ (add_changes s t d x) refl refl refl h.queues;
-        sleepers = asleep c s t x (chan_queue d) lawful g.own refl record_now h.sleepers after X (add_changes s t d x) falls;
-        threads = thread_changed after (record th { «record» = with_value th.record v }) h.threads g.thread (record {
-          columns = λ i. record (old.columns i) { its_record = (new.columns ∙ sym (λ j. record (record_in s t) { sleep_queue = put_same s.sleep_queue t None j; blocked_on = put_same s.blocked_on t (Some (chan_queue d)) j })) i };
-          one_loan_each = new.one_loan_each;
-          held = old.held;
-          marked = old.marked;
-        }) add_others;
-        history = h.history;
-        tables = h.tables;
-      }
+      shown_by after h refl h.words (turnstiles_stay c s after (chan_queue d) _ (add_changes s t d x) refl refl refl h.queues)
+      (asleep c s t x (chan_queue d) lawful g.own refl record_now h.sleepers after X (add_changes s t d x) falls)
+      (thread_changed after (record th { «record» = with_value th.record v }) h.threads g.thread (record {
+        columns = λ i. record (old.columns i) { its_record = (new.columns ∙ sym (λ j. record (record_in s t) { sleep_queue = put_same s.sleep_queue t None j; blocked_on = put_same s.blocked_on t (Some (chan_queue d)) j })) i };
+        one_loan_each = new.one_loan_each;
+        held = old.held;
+        marked = old.marked;
+      }) add_others)
 
 -- 4. A thread blocks on a lock: it is made ready, and stands on the lock's queue
 
@@ -199,20 +182,13 @@ module _ {m : Machine} {c : Config} {s : State} {t : ℕ} (h : Represents c m s)
         → Represents c (record m { words = with_item m.words l w; chain = chain; sleepers = sleepers; threads = with_item m.threads t (record th { «record» = with_value th.record v; wait = wait.Queued; walk = walk }) }) n
     blocked {l = l} {mode = mode} {v = v} walk n w busy b word queues sleepers rec =
         let old = h.threads.thread t th at in
-        record {
-          within = h.within;
-          words = subst (RepresentsWords (with_item m.words l w).items c) (sym b.word) (word_changed m.words.items c s.word l w (entered (s.word l) (side_of mode)) h.words busy.lock word);
-          queues = queues;
-          sleepers = sleepers;
-          threads = thread_changed n (record th { «record» = with_value th.record v; wait = wait.Queued; walk = walk }) h.threads busy.thread (record {
-            columns = (λ i. record (old.columns i) { its_record = rec.columns i; wait = Queued; walk = walk_of walk }) ∙ sym b.thread;
-            one_loan_each = rec.one_loan_each;
-            held = old.held;
-            marked = old.marked;
-          }) b.others;
-          history = h.history ∙ ap reverse (sym b.history);
-          tables = h.tables ∙ ap tables_of (sym b.history);
-        }
+        shown_by n h b.history (subst (RepresentsWords (with_item m.words l w).items c) (sym b.word) (word_changed m.words.items c s.word l w (entered (s.word l) (side_of mode)) h.words busy.lock word)) queues sleepers
+        (thread_changed n (record th { «record» = with_value th.record v; wait = wait.Queued; walk = walk }) h.threads busy.thread (record {
+          columns = (λ i. record (old.columns i) { its_record = rec.columns i; wait = Queued; walk = walk_of walk }) ∙ sym b.thread;
+          one_loan_each = rec.one_loan_each;
+          held = old.held;
+          marked = old.marked;
+        }) b.others)
 
     -- on a turnstile, with its walk
     module _ {l : ℕ} {mode : Mode} {x : ℕ} (g : MayEnter c ready t l mode x) where
@@ -254,7 +230,7 @@ module _ {m : Machine} {c : Config} {s : State} {t : ℕ} (h : Represents c m s)
 
     -- on a sleep queue, without
     module _ {l : ℕ} {mode : Mode} {x : ℕ} (g : MayEnterSleep c ready t l mode x) where
-      pub sleep_asks : IsSome th.record.value.sleep_queue × CanSleep th.record.value.thread (head_of (lock_queue l) m.sleepers)
+      pub sleep_asks : IsSome th.record.value.sleep_queue × CanStand th.record.value.thread (head_of (lock_queue l) m.sleepers)
       sleep_asks =
           (has_sleep_queue c ready t x (lock_queue l) ready_is_lawful g.own g.sleeps record_ready, sleeps_free c ready t x (lock_queue l) ready_is_lawful g.own g.sleeps record_ready sleepers_ready)
 

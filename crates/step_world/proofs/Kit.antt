@@ -1,21 +1,19 @@
 -- How the parts of a machine show a state's columns when one thread or one word changes.
-use Rattle.std.proofs.Common.{◌≡◌, ◌≢◌, ℕ, ◌<◌, ◌==◌, if◌then◌else◌, Bool, true, false, List, length, reverse, slice_set, slice_index_or, get_or, slice_get, Some, option_map, refl, sym, ap, subst, inl, inr, arith, ◌∙◌}
-use Rattle.std.proofs.lemmas.Bool.{cases_Bool, cases_eq, cases_lt, eq-eqb, ne_eqb}
+use Rattle.std.proofs.Common.{◌≡◌, ◌≢◌, ℕ, ◌<◌, ◌==◌, if◌then◌else◌, Bool, List, length, reverse, slice_set, slice_index_or, get_or, slice_get, Some, option_map, refl, sym, ap, subst, inl, inr, arith, ◌∙◌}
+use Rattle.std.proofs.lemmas.Bool.{cases_eq, cases_lt, eq-eqb, ne_eqb}
 use Rattle.std.proofs.lemmas.List.{get_or-set_same, get_or-set_other, length-set, get_or_read}
 use Rattle.std.proofs.lemmas.Option.{slice_get-get_or, slice_get_within, slice_get_past, slice_get_read, same_Some}
 use Rattle.std.specs.Global.{Vec}
-use Rattle.lock_model.specs.Words.{Word, word_of, is_turnstile, IsPossible}
-use Rattle.lock_model.specs.Queues.{is_queue, is_turnstile_queue, lock_queue}
+use Rattle.lock_model.specs.Words.{Word, word_of, IsPossible}
 use Rattle.lock_model.specs.History.{tables_of}
 use Rattle.lock_model.specs.declared.plan.QueueName.{QueueName}
 use Rattle.lock_model.specs.Config.{Config}
 use Rattle.lock_state.specs.State.{State, put}
 use Rattle.lock_state.specs.Steps.LockWords.{after_look}
 use Rattle.lock_state.specs.Facts.{Lawful}
-use Rattle.lock_laws.proofs.Kit.{put_same, put_other, is_queue_true}
+use Rattle.lock_laws.proofs.Kit.{put_same, put_other}
 use Rattle.lock_laws.proofs.WordsAndHeads.{possible_holder}
-use Rattle.chain_table.specs.Chains.{head_of}
-use Rattle.lock_objects.specs.Represents.{RepresentsRecord, RepresentsQueues, RepresentsSleepQueue, RepresentsSleepers, SleepColumns, queue_in, sleepers_in, record_in}
+use Rattle.lock_objects.specs.Represents.{RepresentsRecord, RepresentsQueues, RepresentsSleepers, queue_in, sleepers_in, record_in}
 use Rattle.turnstile_core.specs.Seen.{Turnstile}
 use Rattle.sleep_queues.specs.Seen.{SleepQueue}
 use Rattle.step_world.specs.declared.thread.Thread.{Thread}
@@ -113,22 +111,7 @@ thread_at ths t d l = slice_get-get_or ths t d l
 pub read : {ths : List Thread} {c : Config} {s : State} (t i : ℕ) (th : Thread) → RepresentsThreads ths c s → t < c.threads → i ≡ t → th ≡ get_or ths i th → slice_get ths t ≡ Some th
 read {ths = ths} {c = c} t i th h l e is = slice_get_read ths c.threads t th (sym h.threads) l (is ∙ ap (λ (j : ℕ). get_or ths j th) e)
 
--- 5. Looks
-
--- no object tells of a look
-pub looked : {m : Machine} {c : Config} {s : State} (t l : ℕ) (in_round : Bool) → Represents c m s → Represents c m (after_look s t l in_round)
-unfolding after_look
-looked {s = s} t l in_round h = record {
-  within = h.within;
-  words = h.words;
-  queues = h.queues;
-  sleepers = h.sleepers;
-  threads = threads_stay (after_look s t l in_round) h.threads (λ u. refl);
-  history = h.history;
-  tables = h.tables;
-}
-
--- 6. Steps that make no entry
+-- 5. Steps that make no entry
 
 pub shown_by : {m : Machine} {c : Config} {s : State} {words : Vec ℕ} {chain : List (QueueName × Turnstile)} {sleepers : List (QueueName × SleepQueue)} {threads : Vec Thread} (n : State) → Represents c m s → n.history ≡ s.history
     → RepresentsWords words.items c n.word → RepresentsQueues c chain (queue_in n) n.loan_home → RepresentsSleepers c sleepers (sleepers_in n) → RepresentsThreads threads.items c n
@@ -143,12 +126,7 @@ shown_by n h same words_seen queues_seen sleepers_seen threads_seen = record {
   tables = h.tables ∙ ap tables_of (sym same);
 }
 
--- the sleepers stay where only the queue of a lock with a turnstile changes
-pub sleepers_beside : {c : Config} {chain : List (QueueName × SleepQueue)} (s n : State) (l : ℕ) → is_turnstile (c.kind l) ≡ true
-    → ((q : QueueName) → is_queue (lock_queue l) q ≡ false → sleepers_in n q ≡ sleepers_in s q) → RepresentsSleepers c chain (sleepers_in s) → RepresentsSleepers c chain (sleepers_in n)
-sleepers_beside {c = c} {chain = chain} s n l k same shows = record {
-  queue = λ q e. subst (λ (x : SleepColumns). RepresentsSleepQueue (head_of q chain) x) (sym (same q (elim (cases_Bool (is_queue (lock_queue l) q)) [
-    | inl i ↦ absurd (let z : true ≡ false = sym k ∙ (ap (is_turnstile_queue c) (is_queue_true (lock_queue l) q i) ∙ e) in cc)
-    | inr i ↦ i
-  ]))) (shows.queue q e);
-}
+-- no object tells of a look
+pub looked : {m : Machine} {c : Config} {s : State} (t l : ℕ) (in_round : Bool) → Represents c m s → Represents c m (after_look s t l in_round)
+unfolding after_look
+looked {s = s} t l in_round h = shown_by (after_look s t l in_round) h refl h.words h.queues h.sleepers (threads_stay (after_look s t l in_round) h.threads (λ u. refl))

@@ -23,7 +23,7 @@ use Rattle.step_world.specs.declared.thread.Thread.{Thread}
 use Rattle.step_world.specs.declared.thread.Wait.TheVariants as wait
 use Rattle.step_world.specs.Represents.{Represents, RepresentsThread, RepresentsThreads, thread_in}
 use Rattle.step_world.specs.Steps.{KeepsProgress}
-use Rattle.step_world.proofs.Kit.{OthersStay, thread_changed, read, aside_stays}
+use Rattle.step_world.proofs.Kit.{OthersStay, thread_changed, read, aside_stays, shown_by}
 
 -- the thread with another marked list
 abbrev pub with_marked : Thread → Marked → Thread
@@ -199,16 +199,9 @@ module _ {m : Machine} {c : Config} {s : State} {t : ℕ} {th : Thread} {f : Wok
 
     pub marked_shown : Represents c (record m { threads = with_item (with_item m.threads t (with_marked th left)) p.thread (woken w (record_woken f w.record.value) queue) }) (after_mark c s t k ks)
     unfolding after_mark
-    marked_shown = record {
-      within = h.within;
-      words = h.words;
-      queues = h.queues;
-      sleepers = h.sleepers;
-      threads = subst (λ (x : Mark). RepresentsThreads (slice_set (slice_set m.threads.items t (with_marked th left)) p.thread (woken w (record_woken f w.record.value) queue)) c (after_mark c s t x ks)) its_mark
-          (thread_changed (after c s t queue p ks) (woken w (record_woken f w.record.value) queue) first_changed is_thread (wakes c s t queue f ks its_queue has_object its) (not_marked c s t queue p ks (is_waiter f) its_queue));
-      history = h.history;
-      tables = h.tables;
-    }
+    marked_shown = shown_by (after_mark c s t k ks) h refl h.words h.queues h.sleepers
+        (subst (λ (x : Mark). RepresentsThreads (slice_set (slice_set m.threads.items t (with_marked th left)) p.thread (woken w (record_woken f w.record.value) queue)) c (after_mark c s t x ks)) its_mark
+        (thread_changed (after c s t queue p ks) (woken w (record_woken f w.record.value) queue) first_changed is_thread (wakes c s t queue f ks its_queue has_object its) (not_marked c s t queue p ks (is_waiter f) its_queue)))
 
 -- a thread with a mark has a marked list
 pub some_marked : {m : Machine} {c : Config} {s : State} {t : ℕ} {k : Mark} {ks : List Mark} (th : Thread) → Represents c m s → MayMark c s t k ks → slice_get m.threads.items t ≡ Some th → places_of th.marked ≡ [] → ⊥

@@ -1,11 +1,10 @@
 -- Those who stand on a queue are taken off it: waiters of a lock by its last holder's release, and sleepers of a channel
 -- by a wake.
-use Rattle.std.proofs.Common.{◌≡◌, ℕ, ◌≤◌, ◌<◌, ◌^◌, Bool, true, false, cond, List, map, reverse, slice_get, Option, Some, None, IsSome, refl, sym, ap, subst, ◌∙◌, arith}
+use Rattle.std.proofs.Common.{◌≡◌, ℕ, ◌≤◌, ◌<◌, ◌^◌, Bool, true, false, cond, List, map, slice_get, Option, Some, None, IsSome, refl, sym, ap, subst, ◌∙◌, arith}
 use Rattle.std.specs.List.{All}
 use Rattle.std.specs.Vec.{with_item, vec_capacity}
 use Rattle.std.specs.Box.{with_value}
 use Rattle.lock_model.specs.Config.{Config}
-use Rattle.lock_model.specs.History.{tables_of}
 use Rattle.lock_model.specs.Holds.{NotHeld}
 use Rattle.lock_model.specs.Operations.{hold_in, without_lock}
 use Rattle.lock_model.specs.Queues.{Mark, lock_queue, chan_queue, is_turnstile_queue, list_of, dealt, taken_off}
@@ -39,7 +38,7 @@ use Rattle.step_world.specs.declared.machine.Machine.{Machine}
 use Rattle.step_world.specs.declared.thread.Thread.{Thread}
 use Rattle.step_world.specs.Represents.{Represents, RepresentsWords, thread_in, thread_of}
 use Rattle.step_world.specs.Steps.{opens, mode_left, progress_of, with_released}
-use Rattle.step_world.proofs.Kit.{OthersStay, thread_changed, word_changed, record_of}
+use Rattle.step_world.proofs.Kit.{OthersStay, thread_changed, word_changed, record_of, shown_by}
 use Rattle.step_world.proofs.Holding.{is_held}
 
 -- 1. Sleepers are taken off the queue of an sx lock or of a channel
@@ -84,20 +83,13 @@ module _ {m : Machine} {c : Config} {s : State} (d : ℕ) (all : Bool) (h : Repr
         let old = h.threads.thread t th at in
         let b = balanced c s q lawful in
         let marks = takes c s refl b h.sleepers in
-        record {
-          within = h.within;
-          words = h.words;
-          queues = turnstiles_stay c s after q _ (wake_changes s t d all) refl refl refl h.queues;
-          sleepers = falls c s after refl b (wake_changes s t d all) h.sleepers;
-          threads = thread_changed after (record th { marked = Sleepers ps; marked_from = q }) h.threads g.thread (record {
-            columns = λ i. record (old.columns i) { marked = (marks.0 ∙ sym (put_same s.marked t (dealt q (taken_off all (s.lists q).exclusive) (s.free_list q) (s.head q)))) i };
-            one_loan_each = old.one_loan_each;
-            held = old.held;
-            marked = record { filled = marks.1; kind = λ _. refl };
-          }) wake_others;
-          history = h.history;
-          tables = h.tables;
-        }
+        shown_by after h refl h.words (turnstiles_stay c s after q _ (wake_changes s t d all) refl refl refl h.queues) (falls c s after refl b (wake_changes s t d all) h.sleepers)
+        (thread_changed after (record th { marked = Sleepers ps; marked_from = q }) h.threads g.thread (record {
+          columns = λ i. record (old.columns i) { marked = (marks.0 ∙ sym (put_same s.marked t (dealt q (taken_off all (s.lists q).exclusive) (s.free_list q) (s.head q)))) i };
+          one_loan_each = old.one_loan_each;
+          held = old.held;
+          marked = record { filled = marks.1; kind = λ _. refl };
+        }) wake_others)
 
 -- 3. A release by the last holder
 
@@ -162,27 +154,20 @@ module _ {m : Machine} {c : Config} {s : State} {t : ℕ} (h : Represents c m s)
       → Represents c (record m { words = with_item m.words l v; chain = chain; sleepers = sleepers; threads = with_item m.threads t (record p { «record» = with_value p.record r; marked = marked; marked_from = lock_queue l }) }) n
   released {l = l} {r = r} {p = p} n marked v g o word queues sleepers rec marks of_kind down =
       let old = h.threads.thread t th at in
-      record {
-        within = h.within;
-        words = subst (RepresentsWords (with_item m.words l v).items c) (sym o.word) (word_changed m.words.items c s.word l v (opened (c.kind l) (s.word l)) h.words g.lock word);
-        queues = queues;
-        sleepers = sleepers;
-        threads = thread_changed n (record p { «record» = with_value p.record r; marked = marked; marked_from = lock_queue l }) h.threads g.thread (record {
-          columns = (λ i. record ((ap thread_of down.same ∙ (λ j. record (old.columns j) { held = hold_in p.held.items })) i) {
-            its_record = rec.columns i;
-            held = λ k. (ap (λ hs. hold_in hs k) down.items ∙ column_without s.held t l th.held.items old.held.once (λ j. ap (λ x. x.held j) old.columns) k) i;
-            marked = marks.0 i;
-          }) ∙ sym o.thread;
-          one_loan_each = rec.one_loan_each;
-          held = record {
-            once = λ k. subst (λ hs. holds_of k hs ≤ 1) (sym down.items) (once_without l th.held.items old.held.once k);
-            room = subst (λ i. 8 ≤ i) (sym down.room) old.held.room;
-          };
-          marked = record { filled = marks.1; kind = of_kind };
-        }) o.others;
-        history = h.history ∙ ap reverse (sym o.history);
-        tables = h.tables ∙ ap tables_of (sym o.history);
-      }
+      shown_by n h o.history (subst (RepresentsWords (with_item m.words l v).items c) (sym o.word) (word_changed m.words.items c s.word l v (opened (c.kind l) (s.word l)) h.words g.lock word)) queues sleepers
+      (thread_changed n (record p { «record» = with_value p.record r; marked = marked; marked_from = lock_queue l }) h.threads g.thread (record {
+        columns = (λ i. record ((ap thread_of down.same ∙ (λ j. record (old.columns j) { held = hold_in p.held.items })) i) {
+          its_record = rec.columns i;
+          held = λ k. (ap (λ hs. hold_in hs k) down.items ∙ column_without s.held t l th.held.items old.held.once (λ j. ap (λ x. x.held j) old.columns) k) i;
+          marked = marks.0 i;
+        }) ∙ sym o.thread;
+        one_loan_each = rec.one_loan_each;
+        held = record {
+          once = λ k. subst (λ hs. holds_of k hs ≤ 1) (sym down.items) (once_without l th.held.items old.held.once k);
+          room = subst (λ i. 8 ≤ i) (sym down.room) old.held.room;
+        };
+        marked = record { filled = marks.1; kind = of_kind };
+      }) o.others)
 
   -- on a turnstile
   module _ {l : ℕ} {mode : Mode} (g : MayOpen c s t l mode) where

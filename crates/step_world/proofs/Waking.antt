@@ -1,5 +1,5 @@
 -- A woken thread runs again.
-use Rattle.std.proofs.Common.{◌≡◌, ℕ, slice_get, Some, sym}
+use Rattle.std.proofs.Common.{◌≡◌, ℕ, slice_get, Some, refl, sym}
 use Rattle.std.specs.Vec.{with_item}
 use Rattle.lock_model.specs.Config.{Config}
 use Rattle.lock_state.specs.State.{State, Running}
@@ -11,7 +11,7 @@ use Rattle.step_world.specs.declared.machine.Machine.{Machine}
 use Rattle.step_world.specs.declared.thread.Thread.{Thread}
 use Rattle.step_world.specs.declared.thread.Wait.TheVariants as wait
 use Rattle.step_world.specs.Represents.{Represents, thread_in}
-use Rattle.step_world.proofs.Kit.{thread_changed}
+use Rattle.step_world.proofs.Kit.{thread_changed, shown_by}
 
 -- the thread with a wait word that says Running
 abbrev pub running : Thread → Thread
@@ -22,17 +22,7 @@ pub resumed : {m : Machine} {c : Config} {s : State} {t : ℕ} {q : QueueName} {
 unfolding after_resume
 resumed {m = m} {c = c} {s = s} {t = t} {q = q} {cause = cause} th h g at =
     let old = h.threads.thread t th at in
-    record {
-      within = h.within;
-      words = h.words;
-      queues = h.queues;
-      sleepers = h.sleepers;
-      threads = thread_changed (after_resume c s t q cause) (running th) h.threads g.thread (record {
-        columns = λ i. record (old.columns i) { wait = sym (put_same s.wait t Running) i };
-        one_loan_each = old.one_loan_each;
-        held = old.held;
-        marked = old.marked;
-      }) (λ u d i. record (thread_in s u) { wait = put_other s.wait t Running u (λ e. d (sym e)) i });
-      history = h.history;
-      tables = h.tables;
-    }
+    shown_by (after_resume c s t q cause) h refl h.words h.queues h.sleepers
+    (thread_changed (after_resume c s t q cause) (running th) h.threads g.thread
+    (record { columns = λ i. record (old.columns i) { wait = sym (put_same s.wait t Running) i }; one_loan_each = old.one_loan_each; held = old.held; marked = old.marked })
+    (λ u d i. record (thread_in s u) { wait = put_other s.wait t Running u (λ e. d (sym e)) i }))

@@ -4,25 +4,26 @@ use Rattle.std.specs.Prelude.{◌==◌, not, ◌&&◌}
 use Rattle.std.specs.Box.{with_value}
 use Rattle.std.specs.Vec.{with_item}
 use Rattle.lock_model.specs.Config.{Config}
-use Rattle.lock_model.specs.Queues.{lock_queue, names_turnstile, least_of, with_kept}
+use Rattle.lock_model.specs.Queues.{lock_queue, names_turnstile, least_of}
 use Rattle.lock_model.specs.declared.plan.QueueName.{QueueName}
 use Rattle.lock_state.specs.State.{State, Loan, put}
 use Rattle.lock_state.specs.Facts.{Lawful}
 use Rattle.lock_state.specs.Steps.LockWords.{effective_of}
 use Rattle.lock_state.specs.Steps.Turnstiles.{walk_up}
 use Rattle.lock_state.specs.Steps.Lending.{MayLend, after_lend, MayShift, after_shift, loan_of, walk_to}
-use Rattle.lock_laws.proofs.Kit.{put_other, put_at_other, put_queue_other}
+use Rattle.lock_laws.proofs.Kit.{put_other, put_at_other}
 use Rattle.lock_laws.proofs.HeadsAndNodes.{owner_thread}
 use Rattle.lock_laws.proofs.Standing.{standing_thread}
 use Rattle.turnstile_core.specs.Seen.{Turnstile}
 use Rattle.thread_records.specs.Records.{Record}
 use Rattle.prio_lending.specs.declared.walk.Walk.{Walk}
-use Rattle.lock_objects.specs.Represents.{RepresentsQueues, RepresentsRecord, queue_in, sleepers_in, record_in, walk_of}
+use Rattle.lock_objects.specs.Represents.{RepresentsQueues, RepresentsRecord, queue_in, record_in, walk_of}
 use Rattle.step_world.specs.declared.machine.Machine.{Machine}
 use Rattle.step_world.specs.declared.thread.Thread.{Thread}
 use Rattle.step_world.specs.Represents.{Represents, RepresentsThreads, thread_in}
 use Rattle.step_world.specs.Steps.{KeepsProgress}
-use Rattle.step_world.proofs.Kit.{OthersStay, thread_changed, read, aside_stays, shown_by, sleepers_beside}
+use Rattle.step_world.proofs.Kit.{OthersStay, thread_changed, read, aside_stays, shown_by}
+use Rattle.lock_objects.proofs.StepsOfSleepers.{sleepers_stay, shift_changes}
 
 -- the thread with another record in its box, and with another walk
 abbrev pub with_record : Thread → Record → Thread
@@ -102,5 +103,5 @@ module _ {m : Machine} {c : Config} {s : State} {t o l : ℕ} (shown : Represent
   shift_shown {w = w} walk at queues goes =
       let old = shown.threads.thread t w at in
       shown_by (after_shift s t o l) shown refl shown.words queues
-      (sleepers_beside s (after_shift s t o l) l g.turnstile (λ q e i. record (sleepers_in s q) { lists = put_queue_other s.lists (lock_queue l) (with_kept o (s.effective o) (s.lists (lock_queue l))) q e i }) shown.sleepers)
+      (sleepers_stay c s (after_shift s t o l) (lock_queue l) _ (shift_changes s t l o) g.turnstile shown.sleepers)
       (thread_changed (after_shift s t o l) (with_walk w walk) shown.threads g.thread (record { columns = λ i. record (old.columns i) { walk = goes i }; one_loan_each = old.one_loan_each; held = old.held; marked = old.marked }) others)

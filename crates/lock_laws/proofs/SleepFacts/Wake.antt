@@ -6,9 +6,10 @@ use Rattle.lock_model.specs.History.{base_in}
 use Rattle.lock_model.specs.Law.{is_asleep}
 use Rattle.lock_model.specs.Queues.{Waiter, Lists, Mark, chan_queue, dealt, taken_off, left_on}
 use Rattle.lock_model.specs.declared.plan.QueueName.{QueueName}
+use Rattle.lock_model.specs.declared.plan.Side.TheVariants.{X}
 use Rattle.lock_state.specs.State.{State, Wake, put, put_queue}
 use Rattle.lock_state.specs.Steps.SleepQueues.{MayWake, after_wake}
-use Rattle.lock_state.specs.Facts.{Lawful, HeadsFitWaiters, BasesReplay}
+use Rattle.lock_state.specs.Facts.{Lawful, BasesReplay}
 use Rattle.lock_state.specs.Facts.Loans.{Each}
 use Rattle.lock_state.specs.Facts.Waits.{times_marked}
 use Rattle.lock_state.specs.Facts.Sleeps.{AreSignals, signals, InOrder, LeavesNobodyBefore}
@@ -16,9 +17,9 @@ use Rattle.lock_laws.specs.Sleepers.{SleepersFit, NamedAreWoken, MarksAreSignals
 use Rattle.lock_laws.proofs.Kit.{columns, at_put, put_same, put_other, put_chan_same, put_chan_other}
 use Rattle.lock_laws.proofs.Lending.{each-map}
 use Rattle.lock_laws.proofs.Queues.{times_marked-dealt}
-use Rattle.lock_laws.proofs.Sleepers.{best_or_all}
 use Rattle.lock_laws.proofs.SleepFacts.Best.{SleptLonger, KeepsBase, at_put_chan, each-left, in_order-left, wake_fair}
 use Rattle.lock_laws.proofs.SleepFacts.Known.{its_thread}
+use Rattle.lock_laws.proofs.SleepFacts.Taken.{objects_enough}
 use Rattle.lock_laws.proofs.SleepFacts.Marks.{signals-dealt, all_signals-dealt, times-map, marked_sum, unstamped_sum}
 
 module _ {at_work : ℕ → Option ℕ} {c : Config} {s : State} (l : Lawful c s)
@@ -70,8 +71,7 @@ module _ {at_work : ℕ → Option ℕ} {c : Config} {s : State} (l : Lawful c s
       (all_signals-dealt (chan_queue d) taken free head) (λ u ne. h.marks_are_signals u)
 
   enough : length taken ≤ length free + some head
-  unfolding HeadsFitWaiters
-  enough = omega (arith, (best_or_all all ws).counted, (l.queues.heads_fit_waiters (chan_queue d)).balanced)
+  enough = objects_enough c s (chan_queue d) X all l
 
   abbrev Took : ℕ → Wake → List Mark → Type 0
   Took u w ms =

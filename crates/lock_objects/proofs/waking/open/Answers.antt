@@ -1,11 +1,9 @@
-use Rattle.std.proofs.Common.{rules, ◌≡◌, sym, ap, subst, ◌∙◌, None, true}
+use Rattle.std.proofs.Common.{rules, ◌≡◌, sym, ap, subst, ◌∙◌}
 use Rattle.chain_table.specs.Links.{map_is_empty}
 use Rattle.chain_table.specs.Objects.{bare}
-use Rattle.lock_model.specs.Counts.{is_empty}
 use Rattle.lock_model.specs.Queues.{lock_queue}
-use Rattle.turnstile_core.specs.Changes.{all_waiters}
 use Rattle.chain_table.specs.Chains.{head_of}
-use Rattle.lock_objects.specs.Opens.{CanOpen, left_open, chain_opened, woken_of}
+use Rattle.lock_objects.specs.Opens.{CanOpen, chain_opened, woken_of}
 use Rattle.lock_state.specs.Steps.Turnstiles.{after_open}
 use Rattle.lock_objects.specs.Represents.{RepresentsRecord, record_in}
 use Rattle.lock_objects.proofs.Queues.{found}
@@ -27,9 +25,6 @@ returns-clause-record c = search rules
 pub returns-clause-chain : goal.returns-clause-chain
 returns-clause-chain c = search rules
 
-pub returns-clause-absent : goal.returns-clause-absent
-returns-clause-absent c = search rules
-
 pub returns-clause-woken : goal.returns-clause-woken
 returns-clause-woken c = search rules
 
@@ -39,7 +34,7 @@ returns-clause-queues c k s t side can rec shows =
     let there = c.in-Some.ensures.taken in
     queues_shown k s t c.args.l.0 can rec c.args.side side h (found shows can.turnstile (sym there)) shows
     (of_head (λ v. c.put_back.new.chain ≡ chain_opened c.args.l.0 c.args.side c.args.rec.now v c.args.chain.now) there (returns-clause-chain c))
-    (of_head (λ v. is_empty (all_waiters (left_open c.args.l.0 c.args.side c.args.rec.now v.contents)) ≡ true → head_of (lock_queue c.args.l.0) c.put_back.new.chain ≡ None) there (returns-clause-absent c))
+    (ap (head_of (lock_queue c.args.l.0)) (sym c.in-Some.ensures.others) ∙ c.in-Some.ensures.absent)
 
 pub returns-clause-its_record : goal.returns-clause-its_record
 returns-clause-its_record c k s t can rec = subst (λ v. RepresentsRecord v (record_in (after_open k s t c.args.l.0) t)) (sym (returns-clause-record c)) (record_shown can rec)

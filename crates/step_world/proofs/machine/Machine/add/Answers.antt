@@ -3,7 +3,7 @@ use Rattle.lock_model.specs.Queues.{chan_queue}
 use Rattle.lock_model.specs.declared.plan.Side.TheVariants.{X}
 use Rattle.chain_table.specs.Chains.{head_of}
 use Rattle.thread_records.specs.Records.{Record}
-use Rattle.lock_objects.specs.Sleeps.{CanSleep}
+use Rattle.lock_objects.specs.Enters.{CanStand}
 use Rattle.step_world.proofs.Kit.{aside_stays, read}
 use Rattle.step_world.proofs.Blocking.{FallsAsleep, RecordFallsAsleep, add_asks, stands_added}
 use Rattle.step_world.proofs.machine.Machine.add.Goals as goal
@@ -18,7 +18,7 @@ pub fall_asleep-requires-clause-may : goal.fall_asleep-requires-clause-may
 fall_asleep-requires-clause-may c =
     let m = c.requires.may in
     let at = read c.args.t.0 c.from.result c.index_mut.result.now m.2.threads m.4.1.thread c.from.ensures c.index_mut.ensures.value in
-    subst (λ (r : Record). CanSleep r.thread (head_of (chan_queue c.args.c.0) c.args.self.now.sleepers)) (sym c.deref_mut.ensures.value) (add_asks m.2 m.3 m.4.1 at).1
+    subst (λ (r : Record). CanStand r.thread (head_of (chan_queue c.args.c.0) c.args.self.now.sleepers)) (sym c.deref_mut.ensures.value) (add_asks m.2 m.3 m.4.1 at).1
 
 pub returns-clause-step : goal.returns-clause-step
 returns-clause-step c x k s h lawful g =

@@ -8,7 +8,6 @@ use Rattle.chain_table.specs.Chains.{head_of}
 use Rattle.prio_lending.specs.Hops.{walk_up}
 use Rattle.thread_records.specs.Records.{Record}
 use Rattle.lock_objects.specs.Enters.{CanStand}
-use Rattle.lock_objects.specs.Sleeps.{CanSleep}
 use Rattle.lock_objects.specs.Represents.{RepresentsRecord, record_in}
 use Rattle.step_world.proofs.Kit.{aside_stays, read, word_read, possible_read}
 use Rattle.step_world.proofs.Blocking.{is_busy, has_turnstile, on_turnstile, on_sleep_queue, lends, queues_ready, record_ready, has_own, stands_free, seen_is, blocked_on_turnstile, FallsAsleep, RecordFallsAsleep, sleep_asks, blocked_on_sleep_queue}
@@ -83,7 +82,7 @@ fall_asleep-requires-clause-may c =
     let m = c.requires.may in
     let at = read c.args.t.0 c.from.result c.index_mut-thread.result.now m.2.threads m.4.1.1.0.thread c.from.ensures c.index_mut-thread.ensures.value in
     let g = subst (May m.0 (after_ready m.1 c.args.t.0)) (on_sleep_queue m.0 m.1 c.args.t.0 c.args.l.0 c.args.mode m.4.1.0 c.args.kind (ap is_turnstile c.in-Sx.is)) m.4.1.1.1.0 in
-    subst (λ (r : Record). CanSleep r.thread (head_of (lock_queue c.args.l.0) c.args.self.now.sleepers)) (sym c.deref_mut-in-Sx.ensures.value) (sleep_asks m.2 m.3 m.4.1.1.0 at g).1
+    subst (λ (r : Record). CanStand r.thread (head_of (lock_queue c.args.l.0) c.args.self.now.sleepers)) (sym c.deref_mut-in-Sx.ensures.value) (sleep_asks m.2 m.3 m.4.1.1.0 at g).1
 
 pub returns-in-Sx-clause-steps : goal.returns-in-Sx-clause-steps
 returns-in-Sx-clause-steps c x k s kind h lawful g =
