@@ -23,15 +23,15 @@ step:
 proved:
 	@script=$$(realpath -e -- "$(SCRIPT)") && cd crates/lockrun && rt run -- step < "$$script"
 
-# Runs each example by the proved program, and stops at the first whose status or text is not as written.
+# Runs each example by the proved program, and stops at the first whose status, text or sentence isn't as written.
 examples:
 	@[ -x $(LOCKRUN) ] || { echo 'first: make proved' >&2; exit 1; }
-	@text=$$(mktemp) && trap 'rm -f "$$text"' EXIT && while read -r name words; do \
-	  status=0; $(LOCKRUN) $${words%%:*} < "examples/$$name.script" > "$$text" || status=$$?; \
-	  [ "$${words#*: }" = "status $$status, as written" ] || { echo "$$name: the status is $$status" >&2; exit 1; }; \
-	  diff "examples/$$name.out" "$$text" || { echo "$$name: the text differs" >&2; exit 1; }; \
-	  echo "$$name: status $$status, as written"; \
-	done < crates/example_rows/stdout
+	@out=$$(mktemp -d) && trap 'rm -rf "$$out"' EXIT && while read -r name words; do \
+	  status=0; $(LOCKRUN) $$words < "examples/$${name%%.*}.script" > "$$out/text" 2> "$$out/said" || status=$$?; \
+	  diff "examples/$$name.out" "$$out/text" || { echo "$$name: the text differs" >&2; exit 1; }; \
+	  { echo "$$name $$words: status $$status, as written"; sed 's/^/    /' "$$out/said"; } | tee -a "$$out/all"; \
+	  head -n "$$(wc -l < "$$out/all")" crates/example_rows/stdout | diff - "$$out/all" || exit 1; \
+	done < crates/example_rows/stdin
 
 # Times long scripts by the proved program.
 bench:

@@ -1,8 +1,9 @@
-//! Runs each example of `data/` that standard input names, through the top call over memory, and says its status and
-//! whether its text is as written. So an example is two files and a line each in `stdin` and `stdout`, and costs no
-//! proof.
+//! Runs each example of `data/` that standard input names, through the top call over memory, and says its status,
+//! whether its text is as written, and on a line of its own the sentence that belongs on standard error. So an example
+//! is two files and a line each in `stdin` and `stdout`, and costs no proof.
 #![tactic(auto)]
 
+use complaints::complaint;
 use lock_io::{MemSink, MemSource};
 use lock_top::lockrun_plain;
 use std::fs;
@@ -20,12 +21,13 @@ fn main(rt: HostRuntime) -> anyhow::Result<()> {
     Ok(())
 }
 
-// The line is the name of an example and the words of its command line. `NAME.script` is the source, and `NAME.out` the
-// text.
+// The line is the name of an example and the words of its command line. `NAME.out` is the text, and the source is
+// `NAME.script`; examples `NAME.THIS` and `NAME.THAT` share it.
 fn run_example(rt: &HostRuntime, line: &str) -> anyhow::Result<()> {
     let alloc = rt.alloc();
     let (name, command) = line.split_once(' ').unwrap_or((line, ""));
-    let script = fs::read(rt, format!(in alloc; "{name}.script")?.as_str())?;
+    let (source, _) = name.split_once('.').unwrap_or((name, ""));
+    let script = fs::read(rt, format!(in alloc; "{source}.script")?.as_str())?;
     let text = fs::read(rt, format!(in alloc; "{name}.out")?.as_str())?;
     let mut words = Vec::new(alloc);
     for word in command.split_whitespace() {
@@ -33,12 +35,18 @@ fn run_example(rt: &HostRuntime, line: &str) -> anyhow::Result<()> {
     }
     let mut source = MemSource::new(script, PIECE, Vec::new(alloc));
     let mut sink = MemSink::new(alloc, ROOM, PIECE, Vec::new(alloc))?;
-    let status = lockrun_plain(alloc, &words, &mut source, &mut sink) as u8;
+    let status = lockrun_plain(alloc, &words, &mut source, &mut sink);
+    let said = complaint(alloc, status, sink.bytes())?;
     let differs = if sink.bytes() == text.as_slice() {
         "as written"
     } else {
         "DIFFERS"
     };
-    println!(rt; "{line}: status {status}, {differs}")?;
+    let number = status as u8;
+    println!(rt; "{line}: status {number}, {differs}")?;
+    if !said.is_empty() {
+        rt.stdout().write_all(b"    ")?;
+        rt.stdout().write_all(&said)?;
+    }
     Ok(())
 }

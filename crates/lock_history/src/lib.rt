@@ -6,7 +6,7 @@
 //! - `merging`: the history that logs make.
 //! - `replaying`: the tables that a history leaves.
 //! - `outcome`: what a run leaves to be printed.
-//! - `text`: the printed text of a run, and that of a fault in a script.
+//! - `text`: the printed text of a run, that of a script that is only read, and that of a fault in one.
 #![tactic(auto)]
 
 mod history;
@@ -23,7 +23,7 @@ pub use merging::merge;
 pub use outcome::{Last, Outcome, QueueLine};
 pub use replaying::replay;
 pub use tables::Tables;
-pub use text::{print, print_fault};
+pub use text::{print, print_counts, print_fault};
 
 #[cfg(test)]
 mod tests;

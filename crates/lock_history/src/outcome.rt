@@ -11,11 +11,11 @@ use lock_model::{Prio, QueueName, Sequence, ThreadNo};
 /// ```
 #[derive(Clone, Copy, Debug, PartialEq, Eq)]
 pub enum Last {
-    /// Every thread has ended: `ok`.
+    /// Every thread has ended, and no take was refused: `ok`.
     Done,
     /// Nobody could go on: `stuck`.
     Stuck,
-    /// A lock order was refused: `reversed`.
+    /// Every thread has ended, but a take was refused for its order: `reversed`.
     Reversed,
     /// The turns were used up: `toolong`.
     TooLong,

@@ -1,25 +1,25 @@
 //! The text that a run prints: a line for each entry of its history, for each queue that isn't empty, for
 //! each thread and for each key of the tables, and a last line that says how it ended. A line is its words
 //! with one space between them; `lock_model`'s `specs/Text.antt` says which words.
-ghost use Rattle.std.specs.Prelude.{◌≡◌, ◌++◌, ◌∷◌, [], codes, decimal, map, flat_map, IfOk, OnOk};
+ghost use Rattle.std.specs.Prelude.{◌≡◌, ◌≤◌, ◌++◌, ◌∷◌, [], codes, decimal, map, flat_map, length, IfOk, OnOk};
 ghost use Rattle.std.specs.List.{zip};
 ghost use Rattle.std.specs.FinMap.{entries};
-ghost use Rattle.lock_model.specs.Text.{text_of, fault_text, line_of, entry_line, thread_line, table_line, ending_word};
+ghost use Rattle.lock_model.specs.Limits.{most_operations};
+ghost use Rattle.lock_model.specs.Operations.{operations_in_all};
+ghost use Rattle.lock_model.specs.Text.{text_of, counts_text, count_words, fault_text, line_of, spaced, entry_line, thread_line, table_line, ending_word};
 ghost use Rattle.lock_history.specs.Endings.{ending_of, numbers_of};
 ghost use Rattle.lock_history.specs.Outcomes.{outcome_seen};
 
 use crate::outcome::{Last, Outcome};
 use crate::tables::Tables;
-use lock_model::{Entry, LockNo, Plan, Prio, ThreadDecl};
+use lock_model::{Entry, LockNo, Plan, Prio, ThreadDecl, push_digits, push_number, push_word};
 use std::alloc::{AllocError, Global};
 
 mod events;
 mod queues;
-mod words;
 
 use events::push_event;
 use queues::push_queues;
-use words::{lock_name, push_digits, push_number, push_word, thread_name};
 
 /// The text of a run: its history in order, the queues that aren't empty, each thread's base and effective
 /// priority in the end, in order of declaration, the value at each lock and key, and how it ended. It fails
@@ -50,6 +50,60 @@ pub fn print_fault(alloc: Global, line: u32, code: u8) -> Result<Vec<u8>, AllocE
     Ok(out)
 }
 
+/// The text for a script that is only read: how many threads, locks, conditions and channels, classes and operations it
+/// has.
+///
+/// ```
+/// let text = print_counts(alloc, &plan)?;
+/// // ok threads 2 locks 1 channels 0 classes 1 operations 6
+/// ```
+pub fn print_counts(alloc: Global, plan: &Plan) -> Result<Vec<u8>, AllocError>
+    requires { operations_in_all plan.now ≤ most_operations }
+    ensures { IfOk result (λ text. text.items ≡ counts_text plan.now) }
+{
+    let mut out = Vec::from_slice(alloc, b"ok")?;
+    push_counts(&mut out, plan, u64::from(plan.operations_in_all()))?;
+    out.push(b'\n')?;
+    Ok(out)
+}
+
+// How many of each thing, and so many operations.
+fn push_counts(out: &mut Vec<u8>, plan: &Plan, operations: u64) -> Result<(), AllocError>
+    ensures { OnOk result (out.new.items
+        ≡ out.old.items ++ spaced (count_words plan.now operations)) }
+{
+    push_threads_and_locks(out, plan)?;
+    push_channels_and_classes(out, plan)?;
+    push_count(out, b"operations", operations)?;
+    Ok(())
+}
+
+fn push_threads_and_locks(out: &mut Vec<u8>, plan: &Plan) -> Result<(), AllocError>
+    ensures { OnOk result (out.new.items ≡ out.old.items ++ spaced (
+        codes "threads" ∷ decimal (length plan.now.threads)
+        ∷ codes "locks" ∷ decimal (length plan.now.locks) ∷ [])) }
+{
+    push_count(out, b"threads", plan.threads.as_slice().len() as u64)?;
+    push_count(out, b"locks", plan.locks.as_slice().len() as u64)
+}
+
+fn push_channels_and_classes(out: &mut Vec<u8>, plan: &Plan) -> Result<(), AllocError>
+    ensures { OnOk result (out.new.items ≡ out.old.items ++ spaced (
+        codes "channels" ∷ decimal (length plan.now.chans)
+        ∷ codes "classes" ∷ decimal (length plan.now.classes) ∷ [])) }
+{
+    push_count(out, b"channels", plan.chans.as_slice().len() as u64)?;
+    push_count(out, b"classes", plan.classes.as_slice().len() as u64)
+}
+
+// How many of something there are, behind a word for it.
+fn push_count(out: &mut Vec<u8>, word: &[u8], n: u64) -> Result<(), AllocError>
+    ensures { OnOk result (out.new.items ≡ out.old.items ++ spaced (word.now ∷ decimal n ∷ [])) }
+{
+    push_word(out, word)?;
+    push_number(out, n)
+}
+
 fn last_word(last: Last) -> &'static [u8]
     ensures { result.now ≡ ending_word (ending_of last) }
 {
@@ -75,7 +129,7 @@ fn push_entry(out: &mut Vec<u8>, plan: &Plan, entry: &Entry) -> Result<(), Alloc
     ensures { OnOk result (out.new.items ≡ out.old.items ++ entry_line plan.now entry.now) }
 {
     push_digits(out, u64::from(entry.ticket))?;
-    push_word(out, thread_name(plan, entry.thread))?;
+    push_word(out, plan.thread_name(entry.thread))?;
     push_event(out, plan, entry.event)?;
     out.push(b'\n')?;
     Ok(())
@@ -97,7 +151,8 @@ fn push_threads(
 }
 
 fn push_thread(out: &mut Vec<u8>, name: &[u8], base: Prio, eff: Prio) -> Result<(), AllocError>
-    ensures { OnOk result (out.new.items ≡ out.old.items ++ thread_line (name.now, (base.0, eff.0))) }
+    ensures { OnOk result (out.new.items
+        ≡ out.old.items ++ thread_line (name.now, (base.0, eff.0))) }
 {
     out.extend_from_slice(b"thread")?;
     push_word(out, name)?;
@@ -115,7 +170,7 @@ fn push_tables(out: &mut Vec<u8>, plan: &Plan, tables: &Tables) -> Result<(), Al
 {
     for ((l, key), slot) in tables.slots() {
         if let Some(value) = slot {
-            push_row(out, lock_name(plan, LockNo(*l)), *key, *value)?;
+            push_row(out, plan.lock_name(LockNo(*l)), *key, *value)?;
         }
     }
     Ok(())

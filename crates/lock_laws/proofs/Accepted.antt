@@ -1,15 +1,15 @@
 -- An accepted script's plan is proper: it keeps the limits, its schedule names its threads, and the operations of each thread fit what the
 -- thread holds. Each line that has no fault keeps what is known sound.
-use Rattle.std.proofs.Common.{◌≡◌, ℕ, suc, ◌+◌, ◌<◌, ◌≤◌, Bool, true, false, not, cond, List, [], ◌∷◌, ◌++◌, length, Option, Some, None, refl, sym, ap, subst, ◌∙◌, arith, length-append}
-use Rattle.std.specs.Prelude.{map, sum, codes, option_and_then, option_map, option_to_list, is_none, is_some, unwrap_or}
-use Rattle.std.specs.List.{All}
+use Rattle.std.proofs.Common.{◌≡◌, ℕ, suc, ◌+◌, ◌<◌, ◌≤◌, max, Bool, true, false, not, ◌||◌, cond, List, [], ◌∷◌, ◌++◌, length, Option, Some, None, refl, sym, ap, subst, ◌∙◌, arith, length-append}
+use Rattle.std.specs.Prelude.{map, sum, codes, option_and_then, option_map, option_to_list, is_none, is_some, unwrap_or, if◌then◌else◌}
+use Rattle.std.specs.List.{All, list_any, prefix_len}
 use Rattle.std.specs.Option.{IfSome}
 use Rattle.std.specs.Map.{lookup}
 use Rattle.std.proofs.lemmas.Option.{none-some, same_Some, option_and_then_some}
 use Rattle.std.proofs.lemmas.Bool.{and_parts, ltb-true, leb-true, false≢true}
 use Rattle.std.proofs.lemmas.List.{length-set}
 use Rattle.std.proofs.lemmas.List.Elements.{All-nil, All-cons, All-head, All-tail, All-same, All-push, All-weaker, All-append}
-use Rattle.lock_model.specs.Limits.{most_threads, most_locks, most_channels, most_operations, most_scheduled}
+use Rattle.lock_model.specs.Limits.{most_threads, most_locks, most_channels, most_classes, most_operations, most_scheduled}
 use Rattle.lock_model.specs.Counts.{is_empty}
 use Rattle.lock_model.specs.Names.{is_name}
 use Rattle.lock_model.specs.Operations.{operation_tests, Fit, IsProper}
@@ -19,7 +19,7 @@ use Rattle.lock_model.specs.Script.{Reading, Reads, Faulty, told, plan_of, fault
 use Rattle.lock_model.specs.Script.Lines.{lines_of, is_same, has_meaning, priority_of, number_of}
 use Rattle.lock_model.specs.Script.Statements.{Statement, Declares, DeclaresChan, Begins, Ends, Schedules, IsDone, Operates, EndsTry, Operation, statement_of}
 use Rattle.lock_model.specs.Script.Statements as say
-use Rattle.lock_model.specs.Script.Learning.{Known, OpenThread, Block, nothing_known, learned, with_lock, with_chan, with_thread, with_end, with_operation, with_endtry, without_block, op_of, with_key, with_number, lock_of, lock_named, chan_named, thread_named, threads_named, thread_of, declared_as, class_number}
+use Rattle.lock_model.specs.Script.Learning.{Known, OpenThread, Block, nothing_known, learned, with_class, with_lock, with_chan, with_thread, with_end, with_operation, with_endtry, without_block, op_of, with_key, with_number, lock_of, lock_named, chan_named, thread_named, threads_named, thread_of, declared_as, class_number}
 use Rattle.lock_model.specs.Script.Faults.{byte_tests, word_tests, place_tests, name_tests, statement_stages, line_fault, behind_line, learned_from, operation_words, tests_in_thread, endtry_tests, is_before_threads, is_in_block, has_room}
 use Rattle.lock_model.specs.declared.plan.Declared.{Declared}
 use Rattle.lock_model.specs.declared.plan.Declared.TheVariants.{Lock, Chan, Thread}
@@ -110,6 +110,8 @@ record IsSound (k : Known) : Type 0 where
   names : AreWithin (length k.locks) (begun k) k.names
   locks : length k.locks ≤ most_locks
   chans : length k.chans ≤ most_channels
+  classes : length k.classes ≤ most_classes
+  lock_classes : All (λ d. d.class.0 < length k.classes) k.locks
   chan_locks : All (λ d. d.lock.0 < length k.locks) k.chans
   threads : begun k ≤ most_threads
   fits : All (λ d. Fit k.locks k.chans d.ops) k.threads
@@ -124,6 +126,8 @@ nothing_sound = record {
   names = All-nil _;
   locks = omega arith;
   chans = omega arith;
+  classes = omega arith;
+  lock_classes = All-nil _;
   chan_locks = All-nil _;
   threads = omega arith;
   fits = All-nil _;
@@ -143,26 +147,49 @@ not_open locks chans o e = subst (OpenIsSound locks chans) (sym e) tt
 none_begun : (k : Known) → k.open_thread ≡ None → begun k ≡ length k.threads
 none_begun k none = let e = ap (λ o. length k.threads + opened o) none in omega arith
 
-not_inside : (o : Option OpenThread) → not (not (is_none o)) ≡ true → o ≡ None
+pub not_inside : (o : Option OpenThread) → not (not (is_none o)) ≡ true → o ≡ None
 not_inside None e = refl
 not_inside (Some t) e = absurd cc
 
-none_left : (bs : List Block) → not (not (is_empty bs)) ≡ true → bs ≡ []
+pub none_left : (bs : List Block) → not (not (is_empty bs)) ≡ true → bs ≡ []
 none_left [] e = refl
 none_left (b ∷ bs) e = absurd (false≢true e)
+
+-- a class is known behind its line: its number is that of one of the classes, of which there are no fewer than before,
+-- and at most one more
+record IsKnown (before all : List (List ℕ)) (number : ℕ) : Type 0 where
+  there : number < length all
+  keeps : length before ≤ length all
+  most : length all ≤ max (length before) (number + 1)
+
+class_known : (classes : List (List ℕ)) (class : List ℕ) → IsKnown classes (with_class classes class) (class_number classes class)
+class_known [] class = record { there = omega arith; keeps = omega arith; most = omega arith }
+class_known (x ∷ xs) class = go (is_same class x) (list_any (is_same class) xs) (prefix_len (λ y. not (is_same class y)) xs) (class_known xs class)
+  where
+    go : (here later : Bool) (n : ℕ) → IsKnown xs (if later then xs else xs ++ class ∷ []) n
+        → IsKnown (x ∷ xs) (if here || later then x ∷ xs else x ∷ (xs ++ class ∷ [])) (cond (not here) (1 + n) 0)
+    go true later n h = record { there = omega arith; keeps = omega arith; most = omega arith }
+    go false true n h = record { there = omega (arith, h.there); keeps = omega arith; most = omega arith }
+    go false false n h = record { there = omega (arith, h.there); keeps = omega (arith, h.keeps); most = omega (arith, h.most) }
 
 lock_sound : (k : Known) (kind : Kind) (name class : List ℕ) → IsSound k → Passes (place_tests k (Declares kind name class)) → Passes (name_tests k (Declares kind name class)) → IsSound (with_lock k kind name class)
 lock_sound k kind name class h place names =
     let before = and_parts _ _ (passed _ _ place).0 in
-    let room = (passed _ _ (passed _ _ (passed _ _ (passed _ _ names).1).1).1).0 in
+    let later = passed _ _ (passed _ _ (passed _ _ (passed _ _ names).1).1).1 in
+    let room = later.0 in
     let lock : LockDecl = record { name = name; kind = kind; class = record { 0 = class_number k.classes class } } in
     let size : length (k.locks ++ lock ∷ []) ≡ length k.locks + 1 = length-append k.locks _ in
     let few : length k.locks < most_locks = ltb-true (length k.locks) most_locks room in
     let n : ℕ = length (k.locks ++ lock ∷ []) in
+    let known = class_known k.classes class in
+    let fewer : class_number k.classes class < most_classes = ltb-true (class_number k.classes class) most_classes (passed _ _ later.1).0 in
     record {
       names = All-push (λ e. IsWithin n (begun k) e.1) k.names (name, Lock (record { 0 = length k.locks })) (within_more (length k.locks) n (begun k) (begun k) (omega (arith, size)) (omega arith) k.names h.names) (omega (arith, size));
       locks = omega (arith, size, few);
       chans = h.chans;
+      classes = omega (arith, known.most, fewer, h.classes);
+      lock_classes = All-push (λ d. d.class.0 < length (with_class k.classes class)) k.locks lock
+          (All-weaker (λ d. d.class.0 < length k.classes) (λ d. d.class.0 < length (with_class k.classes class)) (λ d b. omega (arith, b, known.keeps)) k.locks h.lock_classes) known.there;
       chan_locks = All-weaker (λ d. d.lock.0 < length k.locks) (λ d. d.lock.0 < n) (λ d b. omega (arith, size, b)) k.chans h.chan_locks;
       threads = h.threads;
       fits = All-same (λ d. Fit (k.locks ++ lock ∷ []) k.chans d.ops) k.threads [] (empty_is k.threads before.1) (All-nil _);
@@ -181,6 +208,8 @@ chan_sound k cond name l h place within few =
       names = All-push (λ e. IsWithin (length k.locks) (begun k) e.1) k.names (name, Chan (record { 0 = length k.chans })) h.names tt;
       locks = h.locks;
       chans = omega (arith, length-append k.chans (chan ∷ []), few);
+      classes = h.classes;
+      lock_classes = h.lock_classes;
       chan_locks = All-push (λ d. d.lock.0 < length k.locks) k.chans chan h.chan_locks within;
       threads = h.threads;
       fits = All-same (λ d. Fit k.locks (k.chans ++ chan ∷ []) d.ops) k.threads [] (empty_is k.threads before.1) (All-nil _);
@@ -200,6 +229,8 @@ thread_sound k name base h none few =
       names = All-push (λ e. IsWithin (length k.locks) (n + 1) e.1) k.names (name, Thread (record { 0 = n })) (within_more (length k.locks) (length k.locks) (begun k) (n + 1) (omega arith) (omega (arith, before)) k.names h.names) (omega arith);
       locks = h.locks;
       chans = h.chans;
+      classes = h.classes;
+      lock_classes = h.lock_classes;
       chan_locks = h.chan_locks;
       threads = omega (arith, few);
       fits = h.fits;
@@ -222,6 +253,8 @@ end_sound k t h o closed released =
       names = subst (λ m. AreWithin (length k.locks) m k.names) same h.names;
       locks = h.locks;
       chans = h.chans;
+      classes = h.classes;
+      lock_classes = h.lock_classes;
       chan_locks = h.chan_locks;
       threads = omega (arith, same, h.threads);
       fits = All-push (λ d. Fit k.locks k.chans d.ops) k.threads done h.fits (end_fits k.locks k.chans t (subst (OpenIsSound k.locks k.chans) o h.open_thread) closed released);
@@ -291,6 +324,8 @@ operation_sound k t made h o few size sound =
       names = subst (λ m. AreWithin (length k.locks) m k.names) before h.names;
       locks = h.locks;
       chans = h.chans;
+      classes = h.classes;
+      lock_classes = h.lock_classes;
       chan_locks = h.chan_locks;
       threads = omega (arith, before, h.threads);
       fits = h.fits;
@@ -372,6 +407,8 @@ sound_proper k h = record {
   threads = omega (arith, h.threads);
   locks = h.locks;
   chans = h.chans;
+  classes = h.classes;
+  lock_classes = h.lock_classes;
   operations = omega (arith, h.counted, h.operations);
   scheduled = h.scheduled;
   schedule = h.schedule;
@@ -383,7 +420,7 @@ same_plan : (a b : Plan) → Reads a ≡ Reads b → a ≡ b
 same_plan a b e = cc
 
 -- a fault is no plan
-faulty-reads : (n : ℕ) (fault : Option ℕ) (r : Reading) (plan : Plan) → faulty_or n fault r ≡ Reads plan → (fault ≡ None) × (r ≡ Reads plan)
+pub faulty-reads : (n : ℕ) (fault : Option ℕ) (r : Reading) (plan : Plan) → faulty_or n fault r ≡ Reads plan → (fault ≡ None) × (r ≡ Reads plan)
 faulty-reads n None r plan e = (refl, e)
 faulty-reads n (Some code) r plan e = absurd (cc)
 

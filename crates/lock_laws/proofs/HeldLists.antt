@@ -102,7 +102,7 @@ apart-without l (h ∷ hs) a =
       | inr e ↦ rw (ne_eqb h.l.0 l e) (hold_in-without l hs h.l.0 a.1 ∙ rw (ne_eqb l h.l.0 (λ j. e (sym j))) a.0, apart-without l hs a.1)
     ]
 
-fewer_without : (l : ℕ) (hs : List Held) → length (without_lock l hs) ≤ length hs
+pub fewer_without : (l : ℕ) (hs : List Held) → length (without_lock l hs) ≤ length hs
 fewer_without l [] = omega arith
 fewer_without l (h ∷ hs) = go (eqb h.l.0 l) (fewer_without l hs)
   where

@@ -4,8 +4,8 @@ use Rattle.std.proofs.Common.{◌≡◌, ℕ, zero, suc, true, false, List, [], 
 use Rattle.std.proofs.lemmas.Option.{same_Some}
 use Rattle.lock_model.specs.Config.{Config}
 use Rattle.lock_model.specs.Law as law
-use Rattle.lock_model.specs.Law.{LeadsTo, Gives, Place, Before, Asleep, Cut, has_bit, is_asleep, is_named, entries_up_to, is_passed_over, WakingsNameSleepers, HaltsOnlyWhenRunning}
-use Rattle.lock_model.specs.Counts.{any_below}
+use Rattle.lock_model.specs.Law.{LeadsTo, Gives, Place, Before, Asleep, Cut, is_asleep, is_named, entries_up_to, is_passed_over, WakingsNameSleepers, HaltsOnlyWhenRunning}
+use Rattle.lock_model.specs.Counts.{any_below, has_bit}
 use Rattle.lock_model.specs.Operations.{held_of}
 use Rattle.lock_model.specs.declared.numbers.LockNo.{LockNo}
 use Rattle.lock_model.specs.declared.numbers.ChanNo.{ChanNo}
@@ -19,13 +19,13 @@ use Rattle.lock_model.specs.declared.event.Held.{Held}
 use Rattle.lock_model.specs.declared.event.Event.{Event}
 use Rattle.lock_model.specs.declared.event.Event.TheVariants.{Locked, Busy, Unlocked, Shown, Sleeps, Woke, HaltedChan, WokeOne, WokeAll, Reversed}
 
-abbrev entry : ℕ → ℕ → Event → Entry
+abbrev pub entry : ℕ → ℕ → Event → Entry
 entry ticket t e = record { ticket = ticket; thread = record { 0 = t }; event = e }
 
-abbrev lock : ℕ → LockNo
+abbrev pub lock : ℕ → LockNo
 lock l = record { 0 = l }
 
-abbrev chan : ChanNo
+abbrev pub chan : ChanNo
 chan = record { 0 = 0 }
 
 abbrev kind : ℕ → Kind
@@ -122,7 +122,7 @@ holds_both : LeadsTo kind three_locks (entry 1 0 (Locked (lock 1) Excl) ∷ firs
 unfolding three_locks
 holds_both = law.goes_on (entry 1 0 (Locked (lock 1) Excl)) holds_first refl (law.locks (lock 1) Excl)
 
-abbrev held : ℕ → Held
+abbrev pub held : ℕ → Held
 held l = record { l = lock l; mode = Excl; by_try = false }
 
 abbrev refused : List Entry

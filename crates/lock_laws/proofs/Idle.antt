@@ -2,7 +2,7 @@
 -- round that was idle throughout leaves each thread that hasn't ended on a queue.
 use Rattle.std.proofs.Common.{◌≡◌, ◌⊎◌, ◌↔◌, ℕ, zero, suc, ◌+◌, ◌<◌, ◌≤◌, Bool, true, false, not, cond, ◌&&◌, ◌||◌, nat_le, List, [], ◌∷◌, length, filter, slice_get, Option, Some, None, refl, sym, ap, inl, inr, arith, ◌∙◌, subst}
 use Rattle.std.specs.List.{range_with_len}
-use Rattle.std.proofs.lemmas.Bool.{cases_eq, and_parts, le-leb}
+use Rattle.std.proofs.lemmas.Bool.{cases_eq, and_parts, or_left, or_right, le-leb}
 use Rattle.std.proofs.lemmas.Option.{none-some, slice_get_cases, slice_get_within}
 use Rattle.lock_model.specs.Counts.{any_below, is_empty, one}
 use Rattle.lock_model.specs.Config.{Config}
@@ -13,20 +13,35 @@ use Rattle.lock_model.specs.Queues.{Mark, stands}
 use Rattle.lock_state.specs.State.{State, Queued}
 use Rattle.lock_state.specs.Facts.{LawfulTurn, QueuedStands, StandsOnce}
 use Rattle.lock_state.specs.Facts.Waits.{times_marked, at_queue}
-use Rattle.lock_state.specs.Run.{Run, Row, Course, nothing, turn_of, run_behind, run_after, has_ended, owes, waits_on, lock_of_wait, is_walking, holds_none, round_of, threads_of, with_turn, after_turn, go_on, is_over, is_stuck, is_idle, course_after}
+use Rattle.lock_state.specs.Run.{Run, Row, Course, nothing, turn_of, run_behind, run_after, has_ended, was_cut, owes, waits_on, lock_of_wait, is_walking, holds_none, round_of, threads_of, with_turn, after_turn, go_on, is_over, is_stuck, is_idle, course_after}
 use Rattle.lock_model.specs.declared.plan.Plan.{Plan}
 use Rattle.lock_model.specs.declared.plan.QueueName.{QueueName}
 use Rattle.lock_model.specs.declared.turn.StepKind.{StepKind}
 use Rattle.lock_model.specs.declared.turn.Turn.{Turn}
 use Rattle.lock_model.specs.declared.turn.Turn.TheVariants.{Did, Idle, Ended}
 use Rattle.lock_model.specs.declared.event.Held.{Held}
-use Rattle.lock_laws.specs.OnTrack.{IsOnTrack, IsAtOperation, IsSleeping, without_unheld}
+use Rattle.lock_laws.specs.OnTrack.{IsOnTrack, OwesNothing, IsCutShort, IsAtOperation, IsSleeping, without_unheld, gained_order, held_now, admitted}
 use Rattle.lock_laws.proofs.Kit.{sum_below-zero, is_queue_same}
 use Rattle.lock_laws.proofs.HeldLists.{held_none}
+use Rattle.lock_laws.proofs.LastHeld.{length-gained}
 use Rattle.lock_laws.proofs.Turning.{behind_course}
 use Rattle.lock_laws.proofs.Table as table
 
 -- 1. A turn
+
+nowhere-any_below : (n : ℕ) (f : ℕ → Bool) → ((j : ℕ) → f j ≡ false) → any_below n f ≡ false
+unfolding any_below
+nowhere-any_below zero f h = refl
+nowhere-any_below (suc n) f h = rw (h n) (nowhere-any_below n f h)
+
+-- a thread that owes and holds nothing has ended, where it has no operation left or was cut
+empty_ended : (plan : Plan) (r : Run) (t : ℕ) → IsOnTrack plan r → OwesNothing plan r t → (nat_le (length (operations_of plan t)) (r.next_op t) || was_cut r.state t) ≡ true
+    → held_now plan r t ≡ [] → has_ended plan r t ≡ true
+unfolding has_ended
+empty_ended plan r t k f over e =
+    let unheld : (l : ℕ) → r.state.held t l ≡ NotHeld = λ l. k.holds t l ∙ ap (λ (hs : List Held). hold_in hs l) e in
+    let none = nowhere-any_below (length plan.locks) (λ l. not (is_unheld (r.state.held t l))) (λ l. ap (λ (x : Hold). not (is_unheld x)) (unheld l)) in
+    rw (over, f.no_walk, f.unmarked, f.released, none) refl
 
 -- a thread of a proper plan that has no operation left holds nothing,
 none_left : (plan : Plan) (r : Run) (t : ℕ) → slice_get (operations_of plan t) (r.next_op t) ≡ None → length (operations_of plan t) ≤ r.next_op t
@@ -36,31 +51,28 @@ without_none : (held : ℕ → Hold) (o : Option ℕ) → without_unheld held o 
 without_none held None = refl
 without_none held (Some l) = elim (is_unheld (held l)) as (λ b. cond b (without_lock l []) [] ≡ []) [ true ↦ refl | false ↦ refl ]
 
-holds_nothing : (plan : Plan) (r : Run) (t : ℕ) → IsProper plan → IsOnTrack plan r → slice_get (operations_of plan t) (r.next_op t) ≡ None → (l : ℕ) → r.state.held t l ≡ NotHeld
-holds_nothing plan r t p k e l =
-    k.holds t l ∙ ap (λ (hs : List Held). hold_in (without_unheld (r.state.held t) (lock_of_wait (config_of plan) r.state t) hs) l) (held_none plan p t (r.next_op t) (none_left plan r t e))
-    ∙ ap (λ (hs : List Held). hold_in hs l) (without_none (r.state.held t) (lock_of_wait (config_of plan) r.state t))
-
-nowhere-any_below : (n : ℕ) (f : ℕ → Bool) → ((j : ℕ) → f j ≡ false) → any_below n f ≡ false
-unfolding any_below
-nowhere-any_below zero f h = refl
-nowhere-any_below (suc n) f h = rw (h n) (nowhere-any_below n f h)
-
--- so it has ended, where it owes nothing
 no_operation_left : (plan : Plan) (r : Run) (t : ℕ) → IsProper plan → IsOnTrack plan r → IsAtOperation plan r t None → has_ended plan r t ≡ true
-unfolding has_ended
 no_operation_left plan r t p k i =
-    let made : nat_le (length (operations_of plan t)) (r.next_op t) ≡ true = le-leb (length (operations_of plan t)) (r.next_op t) (none_left plan r t i.next) in
-    let none = nowhere-any_below (length plan.locks) (λ l. not (is_unheld (r.state.held t l))) (λ l. ap (λ (x : Hold). not (is_unheld x)) (holds_nothing plan r t p k i.next l)) in
-    rw (made, i.free.no_walk, i.free.unmarked, i.free.released, none) refl
+    let left = none_left plan r t i.next in
+    empty_ended plan r t k i.free (or_left _ _ (le-leb (length (operations_of plan t)) (r.next_op t) left))
+    (rw (i.uncut, held_none plan p t (r.next_op t) left) (without_none (r.state.held t) (lock_of_wait (config_of plan) r.state t)))
+
+-- and so does one whose list of held locks is empty
+none_listed : (hs : List Held) → gained_order hs ≡ [] → hs ≡ []
+none_listed [] e = refl
+none_listed (h ∷ hs) e = absurd (omega (arith, ap length e, length-gained (h ∷ hs)))
+
+nothing_left : (plan : Plan) (r : Run) (t : ℕ) → IsOnTrack plan r → IsCutShort plan r t → r.state.held_locks t ≡ [] → has_ended plan r t ≡ true
+nothing_left plan r t k i e = empty_ended plan r t k i.free (or_right _ _ i.cut) (none_listed (held_now plan r t) (sym (k.listed t) ∙ e))
 
 -- a thread that has ended has no marked list
-ended_unmarked : (plan : Plan) (r : Run) (t : ℕ) → has_ended plan r t ≡ true → r.state.marked t ≡ []
+pub ended_unmarked : (plan : Plan) (r : Run) (t : ℕ) → has_ended plan r t ≡ true → r.state.marked t ≡ []
 unfolding has_ended
 ended_unmarked plan r t e =
     let free = not (owes (config_of plan) r.state t) in
-    let first = (and_parts (nat_le (length (operations_of plan t)) (r.next_op t) && free) (holds_none (config_of plan) r.state t) e).0 in
-    go (r.state.marked t) (is_walking (r.state.walk t)) _ (and_parts (nat_le (length (operations_of plan t)) (r.next_op t)) free first).1
+    let over = nat_le (length (operations_of plan t)) (r.next_op t) || was_cut r.state t in
+    let first = (and_parts (over && free) (holds_none (config_of plan) r.state t) e).0 in
+    go (r.state.marked t) (is_walking (r.state.walk t)) _ (and_parts over free first).1
   where
     go : (ms : List Mark) (w owed : Bool) → not (w || not (is_empty ms) || owed) ≡ true → ms ≡ []
     go [] w owed i = refl
@@ -74,6 +86,12 @@ data Answers (plan : Plan) (r : Run) (t : ℕ) (row : Row) : Type 0 where
   idles : row ≡ nothing Idle → (IsProper plan → IsOnTrack plan r → IsSleeping plan r t) → Answers plan r t row
   acts : (kind : StepKind) → row.answer ≡ Did kind → Answers plan r t row
 
+-- a thread that gains a lock, or blocks, does something
+acquiring : (plan : Plan) (r : Run) (t : ℕ) (row : Row) → table.Acquires plan r t row → (kind : StepKind) × (row.answer ≡ Did kind)
+acquiring plan r t _ (table.gains by i a f) = (_, refl)
+acquiring plan r t _ (table.claims by i a f) = (_, refl)
+acquiring plan r t _ (table.enters by i a stands) = (_, refl)
+
 module _ (plan : Plan) (r : Run) (t : ℕ) where
   answered : (row : Row) → table.Fits plan r t row → Answers plan r t row
   answered _ (table.is_over e) = ended refl e
@@ -85,14 +103,16 @@ module _ (plan : Plan) (r : Run) (t : ℕ) where
   answered _ (table.gives_up w e f back) = acts _ refl
   answered _ (table.is_queued e f q) = idles refl (λ p k. record { going = e; queued = q; free = f })
   answered _ (table.resumes q cause f e) = acts _ refl
-  answered _ (table.gains by i a f) = acts _ refl
-  answered _ (table.claims by i a f) = acts _ refl
-  answered _ (table.enters by i a stands) = acts _ refl
+  answered row (table.acquires a) = let z = acquiring plan r t row a in acts z.0 z.1
+  answered _ (table.is_admitted {l} {row = row} b e a) = let z = acquiring plan (admitted plan r t l) t row a in acts z.0 z.1
+  answered _ (table.is_refused k b e) = acts _ refl
   answered _ (table.finds_busy l mode past i e) = acts _ refl
   answered _ (table.releases l i back) = acts _ refl
   answered _ (table.sleeps d i e) = acts _ refl
   answered _ (table.wakes d by i) = acts _ refl
   answered _ (table.makes_entry op e i n) = acts _ refl
+  answered _ (table.gives_last_back h hs i e back) = acts _ refl
+  answered _ (table.has_nothing_left e i f) = idles refl (λ p k. absurd (let z = sym e ∙ nothing_left plan r t k i f in cc))
   answered _ (table.has_no_operation e i) = idles refl (λ p k. absurd (let z = sym e ∙ no_operation_left plan r t p k i in cc))
   answered _ (table.is_at_endtry i) = idles refl (λ p k. absurd (k.no_endtry t i.next))
 
@@ -162,7 +182,7 @@ SleepsOrComes plan r ts = (t : ℕ) → t < length plan.threads → has_ended pl
 abbrev IsIdleSoFar : Plan → Course → Type 0
 IsIdleSoFar plan k = k.idle ≡ true → SleepsOrComes plan k.run k.coming
 
-idle_is : (a : Turn) → is_idle a ≡ true → a ≡ Idle
+pub idle_is : (a : Turn) → is_idle a ≡ true → a ≡ Idle
 idle_is Idle e = refl
 idle_is Ended e = absurd cc
 idle_is (Did kind) e = absurd cc

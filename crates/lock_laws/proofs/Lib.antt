@@ -21,14 +21,17 @@ pub mod Resume
 pub mod Claim
 pub mod Lend
 pub mod Shift
+pub mod Admit
 pub mod StateAtStart
 pub mod Steps
 pub mod Best
 pub mod Derived
 pub mod Rows
 pub mod Histories
+mod OrderHistories
 pub mod Endtries
 pub mod HeldLists
+pub mod LastHeld
 pub mod Table
 pub mod Follows
 pub mod Entries
@@ -41,13 +44,20 @@ pub mod TurnsOfGains
 pub mod TurnsOfReleases
 pub mod TurnsOfNotes
 pub mod TurnsOfSleeps
+pub mod TurnsOfOrders
 pub mod Turning
+pub mod KeepingOrder
 pub mod LegalRuns
+pub mod Reaching
+pub mod Stuck
+pub mod OrderedRuns
 pub mod Idle
+pub mod Endings
 pub mod AtTurn
 pub mod OtherThreads
 mod FloorGuards
 mod SleepGuards
+mod OrderGuards
 pub mod Props
 pub mod Sleepers
 pub mod EnterSleep
@@ -60,6 +70,14 @@ pub mod NodesOfHeads
 pub mod Sums
 pub mod Beyond
 pub mod AcceptedLists
+mod CanonicalWords
+mod CanonicalReading
+mod CanonicalNames
+mod CanonicalOperations
+mod CanonicalThreads
+mod CanonicalKept
+mod CanonicalDeclarations
+mod CanonicalTexts
 pub mod AcceptedBlocks
 pub mod Accepted
 pub mod WordsAndHeads
@@ -73,3 +91,5 @@ pub mod TakingOff
 pub mod LockQueues
 pub mod SleepQueues
 pub mod SleepFacts
+pub mod OrderFacts
+pub mod TakeFacts

@@ -9,6 +9,7 @@ use Rattle.lock_state.specs.Steps.Turnstiles.{after_enter, after_open, after_mar
 use Rattle.lock_state.specs.Steps.SleepQueues.{after_enter_sleep, after_open_sleep, after_add, after_wake}
 use Rattle.lock_state.specs.Steps.Lending.{after_claim, after_lend, after_shift, after_end_walk}
 use Rattle.lock_state.specs.Steps.Items.{after_take, after_give}
+use Rattle.lock_state.specs.Steps.Orders.{after_admit, after_refuse}
 use Rattle.lock_state.specs.Steps.{Step, Seeks, Looks, Gains, Stamps, Resumes, Claims, May, after, IsReachable, begins, goes_on}
 use Rattle.lock_laws.proofs.Kit.{at_put}
 
@@ -28,7 +29,7 @@ noted (Busy l seen) n h = omega arith
 noted other n h = h
 
 kept : (c : Config) (s : State) (step : Step) → May c s step → AreFew s.looks → AreFew (after c s step).looks
-unfolding AreFew after_seek after_look after_gain after_drop after_stamp after_ready after_unready after_enter after_open after_mark after_resume after_enter_sleep after_open_sleep after_add after_wake after_claim after_lend after_shift after_end_walk after_take after_give
+unfolding AreFew after_seek after_look after_gain after_drop after_stamp after_ready after_unready after_enter after_open after_mark after_resume after_enter_sleep after_open_sleep after_add after_wake after_claim after_lend after_shift after_end_walk after_admit after_refuse after_take after_give
 kept c s (Seeks t l by_try) g h = changed s.looks t 0 (omega arith) h
 kept c s (Looks t l in_round) g h = changed s.looks t _ (one_more in_round (s.looks t) g.room (h t)) h
 kept c s (Gains t l mode by_try) g h = changed s.looks t 0 (omega arith) h

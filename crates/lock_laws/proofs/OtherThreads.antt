@@ -6,15 +6,23 @@ use Rattle.lock_model.specs.Config.{Config}
 use Rattle.lock_model.specs.Plans.{config_of, operations_of}
 use Rattle.lock_model.specs.Holds.{is_unheld, Hold}
 use Rattle.lock_model.specs.Queues.{Mark}
+use Rattle.lock_model.specs.Takes.{has_reversal}
 use Rattle.lock_state.specs.State.{Walk}
 use Rattle.lock_state.specs.Run.{Run, Row, is_walking, waits_on, to_release, turn_of, has_ended, next_ops, run_after, run_behind}
 use Rattle.lock_model.specs.declared.plan.Plan.{Plan}
 use Rattle.lock_model.specs.declared.event.Entry.{Entry}
+use Rattle.lock_laws.specs.OnTrack.{admitted}
 use Rattle.lock_laws.proofs.Kit.{put_other}
 use Rattle.lock_laws.proofs.Shares.{SameShare, AllBy, all_leave}
 use Rattle.lock_laws.proofs.Table as table
 
 -- the steps of a thread's row are its own
+acquiring : (plan : Plan) (r : Run) (t : ℕ) (row : Row) → table.Acquires plan r t row → AllBy t row.steps
+acquiring plan r t _ (table.gains by i a f) = (refl, (refl, tt))
+acquiring plan r t _ (table.claims by i a f) = (refl, (refl, tt))
+acquiring plan r t _ (table.enters by i e (table.on_turnstile x)) = (refl, (refl, tt))
+acquiring plan r t _ (table.enters by i e (table.on_sleep_queue x)) = (refl, (refl, tt))
+
 pub own_steps : (plan : Plan) (r : Run) (t : ℕ) (row : Row) → table.Fits plan r t row → AllBy t row.steps
 own_steps plan r t _ (table.is_over e) = tt
 own_steps plan r t _ (table.lends l o h w e f) = (refl, tt)
@@ -27,10 +35,9 @@ own_steps plan r t _ (table.gives_up w e f (table.opens x y)) = (refl, tt)
 own_steps plan r t _ (table.gives_up w e f (table.opens_sleep_queue x y)) = (refl, tt)
 own_steps plan r t _ (table.is_queued e f i) = tt
 own_steps plan r t _ (table.resumes q cause f e) = (refl, tt)
-own_steps plan r t _ (table.gains by i a f) = (refl, (refl, tt))
-own_steps plan r t _ (table.claims by i a f) = (refl, (refl, tt))
-own_steps plan r t _ (table.enters by i e (table.on_turnstile x)) = (refl, (refl, tt))
-own_steps plan r t _ (table.enters by i e (table.on_sleep_queue x)) = (refl, (refl, tt))
+own_steps plan r t row (table.acquires a) = acquiring plan r t row a
+own_steps plan r t _ (table.is_admitted {l} {mode} {row} b f a) = (refl, acquiring plan (admitted plan r t l) t row a)
+own_steps plan r t _ (table.is_refused k b f) = (refl, (refl, tt))
 own_steps plan r t _ (table.finds_busy l mode past i e) = (refl, (refl, tt))
 own_steps plan r t _ (table.releases l i (table.drops x)) = (refl, (refl, tt))
 own_steps plan r t _ (table.releases l i (table.opens x y)) = (refl, (refl, tt))
@@ -38,6 +45,10 @@ own_steps plan r t _ (table.releases l i (table.opens_sleep_queue x y)) = (refl,
 own_steps plan r t _ (table.sleeps d i e) = (refl, (refl, (refl, tt)))
 own_steps plan r t _ (table.wakes d by i) = (refl, (refl, tt))
 own_steps plan r t _ (table.makes_entry op e i n) = (refl, tt)
+own_steps plan r t _ (table.gives_last_back h hs i e (table.drops x)) = (refl, (refl, tt))
+own_steps plan r t _ (table.gives_last_back h hs i e (table.opens x y)) = (refl, (refl, tt))
+own_steps plan r t _ (table.gives_last_back h hs i e (table.opens_sleep_queue x y)) = (refl, (refl, tt))
+own_steps plan r t _ (table.has_nothing_left g i e) = tt
 own_steps plan r t _ (table.has_no_operation e i) = tt
 own_steps plan r t _ (table.is_at_endtry i) = tt
 
@@ -47,7 +58,7 @@ other_next plan r t u ne (Some i) = put_other r.next_op t _ u ne
 
 abbrev ended_at : Config → ℕ → ℕ → Walk → List Mark → (ℕ → Hold) → List Entry → Bool
 ended_at c count next walk marked held log =
-    nat_le count next
+    (nat_le count next || has_reversal log)
     && not (is_walking walk || not (is_empty marked) || is_some (to_release held (option_map c.chan_lock (waits_on log))))
     && not (any_below c.locks (λ l. not (is_unheld (held l))))
 

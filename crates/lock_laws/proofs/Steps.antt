@@ -3,7 +3,7 @@ use Rattle.std.proofs.Common.{List, [], ◌∷◌, subst, sym, refl}
 use Rattle.lock_model.specs.Config.{Config}
 use Rattle.lock_state.specs.State.{State}
 use Rattle.lock_state.specs.Facts.{Lawful}
-use Rattle.lock_state.specs.Steps.{Step, Seeks, Looks, TakesItem, GivesItem, Gains, Drops, Stamps, Readies, Unreadies, Enters, Opens, EntersSleepQueue, OpensSleepQueue, Adds, Wakes, Marks, Resumes, Claims, Lends, Shifts, EndsWalk, May, MayAll, after, after_all, IsStep, IsReachable, begins, goes_on}
+use Rattle.lock_state.specs.Steps.{Step, Seeks, Looks, TakesItem, GivesItem, Gains, Drops, Stamps, Readies, Unreadies, Enters, Opens, EntersSleepQueue, OpensSleepQueue, Adds, Wakes, Marks, Resumes, Claims, Lends, Shifts, EndsWalk, Admits, Refuses, May, MayAll, after, after_all, IsStep, IsReachable, begins, goes_on}
 use Rattle.lock_laws.proofs.OwnWaits.{seek_lawful, look_lawful, ready_lawful, unready_lawful}
 use Rattle.lock_laws.proofs.Items.{take_lawful, give_lawful}
 use Rattle.lock_laws.proofs.StateAtStart as start
@@ -20,6 +20,7 @@ use Rattle.lock_laws.proofs.Resume as resume
 use Rattle.lock_laws.proofs.Claim as claim
 use Rattle.lock_laws.proofs.Lend as lend
 use Rattle.lock_laws.proofs.Shift as shift
+use Rattle.lock_laws.proofs.Admit.{admit_lawful, refuse_lawful}
 
 pub keeps : (c : Config) (s : State) (step : Step) → May c s step → Lawful c s → Lawful c (after c s step)
 keeps c s (Seeks t l by_try) g h = seek_lawful c s t l by_try g h
@@ -43,6 +44,8 @@ keeps c s (Claims t l x by_try) g h = claim.lawful c s t l x by_try g h
 keeps c s (Lends t l o x) g h = lend.lawful c s t l o x g h
 keeps c s (Shifts t o l) g h = shift.lawful c s t o l g h
 keeps c s (EndsWalk t) g h = shift.end_lawful c s t g h
+keeps c s (Admits t l) g h = admit_lawful c s t l g.free h
+keeps c s (Refuses t l k) g h = refuse_lawful c s t l k h
 
 -- so does each list of steps that may be made
 pub all_keep : (c : Config) (s : State) (steps : List Step) → MayAll c s steps → Lawful c s → Lawful c (after_all c s steps)

@@ -9,19 +9,22 @@ use Rattle.lock_model.specs.Config.{Config}
 use Rattle.lock_model.specs.History.{sections_in}
 use Rattle.lock_model.specs.Law.{HaltsOnlyWhenRunning, begins as leads_nowhere}
 use Rattle.lock_state.specs.State.{State, start_state}
-use Rattle.lock_state.specs.Steps.{MayAll, IsReachable, begins}
+use Rattle.lock_state.specs.Steps.{Admits, MayAll, IsReachable, begins}
+use Rattle.lock_state.specs.Steps.Orders.{MayAdmit}
 use Rattle.lock_state.specs.Steps.Items.{TurnstileChain, SleepChain, RecordOf, CellOf, ClassGraph}
 use Rattle.lock_state.specs.Facts.{NothingIsOut, QueuedStands}
 use Rattle.lock_state.specs.Run.{Run, Row, Course, start_run, nothing, turn_of, run_behind, after_turns, course_after, has_ended, round_of, threads_of, with_turn, after_turn, go_on, is_over}
 use Rattle.lock_model.specs.declared.plan.Plan.{Plan}
+use Rattle.lock_model.specs.declared.numbers.LockNo.{LockNo}
 use Rattle.lock_model.specs.declared.turn.Turn.{Turn}
 use Rattle.lock_model.specs.declared.turn.Turn.TheVariants.{Idle, Ended}
-use Rattle.lock_laws.specs.OnTrack.{IsOnTrack}
+use Rattle.lock_laws.specs.OnTrack.{IsOnTrack, admitted}
 use Rattle.lock_laws.specs.Sleepers.{nobody}
 use Rattle.lock_laws.proofs.Steps.{all_reach}
 use Rattle.lock_laws.proofs.SleepFacts.{begins as sleepers_begin}
 use Rattle.lock_laws.proofs.StateAtStart as start
-use Rattle.lock_laws.proofs.Follows.{followed}
+use Rattle.lock_laws.proofs.Follows.{led}
+use Rattle.lock_laws.proofs.KeepingOrder.{row_keeps_order}
 use Rattle.lock_laws.proofs.OnTrack.{KeepsTrack, none_unnoted, is_there, stays_on_track}
 use Rattle.lock_laws.proofs.Table as table
 use Rattle.lock_laws.proofs.TurnsOfWalks as walks
@@ -30,6 +33,10 @@ use Rattle.lock_laws.proofs.TurnsOfGains as gains
 use Rattle.lock_laws.proofs.TurnsOfReleases as releases
 use Rattle.lock_laws.proofs.TurnsOfNotes as noting
 use Rattle.lock_laws.proofs.TurnsOfSleeps as sleeping
+use Rattle.lock_laws.proofs.TurnsOfOrders as orders
+use Rattle.lock_laws.proofs.OtherThreads.{own_steps}
+use Rattle.lock_laws.proofs.OrderFacts.{begins as orders_begin}
+use Rattle.lock_laws.proofs.TakeFacts.{begins as takes_begin}
 
 -- 1. The begin
 
@@ -49,7 +56,6 @@ begins_on_track plan p = record {
   no_halts = tt;
   within = λ t. omega arith;
   no_endtry = λ t e. let b = (p.fits t).endtries 0 e in absurd (omega (arith, b.before));
-  entries = omega arith;
   follows = λ t. leads_nowhere;
   waiting = λ t d e. absurd cc;
   holds = λ t l. refl;
@@ -59,6 +65,12 @@ begins_on_track plan p = record {
   begun = λ t l n. absurd (n refl);
   wants = λ t l e. absurd cc;
   wants_unheld = λ t l e. absurd cc;
+  cut_wants_nothing = λ t e. refl;
+  back_wants = λ t d e runs. absurd cc;
+  taking = λ t. refl;
+  unnoted = λ t. refl;
+  ordered = orders_begin (config_of plan);
+  taken = takes_begin (config_of plan);
   walks = λ t l e. absurd cc;
 }
 
@@ -69,6 +81,25 @@ record IsMade (plan : Plan) (r : Run) (t : ℕ) (row : Row) : Type 0 where
   may : MayAll (config_of plan) r.state row.steps
   keeps : KeepsTrack plan r t row
 
+-- a turn that does nothing
+unmoved : (plan : Plan) (r : Run) (t : ℕ) (answer : Turn) → IsOnTrack plan r → IsMade plan r t (nothing answer)
+unmoved plan r t answer k = record {
+  may = tt;
+  keeps = record { asks = tt; out = k.lawful.nothing_out; stands = k.lawful.queued_stands; noted = none_unnoted plan r t k; no_halts = k.no_halts; there = is_there plan r t k; back = k.back_wants t };
+}
+
+acquired : (plan : Plan) (r : Run) (t : ℕ) (row : Row) → IsProper plan → IsOnTrack plan r → t < length plan.threads → table.Acquires plan r t row → IsMade plan r t row
+acquired plan r t _ p k lt (table.gains by i a f) = record { may = gains.may_gain_all plan r t p k lt by i a f; keeps = gains.gained_keeps plan r t p k lt by i }
+acquired plan r t _ p k lt (table.claims by i a f) = record { may = gains.may_claim_all plan r t p k lt by i a f; keeps = gains.claimed_keeps plan r t p k lt by i a f }
+acquired plan r t _ p k lt (table.enters by i a stands) = record { may = gains.may_enter_all plan r t p k lt by i a stands; keeps = gains.entered_keeps plan r t p k lt by i stands }
+
+-- a row behind an admission
+admitted_first : (plan : Plan) (r : Run) (t : ℕ) (l : LockNo) (row : Row) → MayAdmit (config_of plan) r.state t l.0 → IsMade plan (admitted plan r t l) t row → IsMade plan r t (record row { steps = Admits t l.0 ∷ row.steps })
+admitted_first plan r t l row may m = record {
+  may = (may, m.may);
+  keeps = record { asks = (tt, m.keeps.asks); out = m.keeps.out; stands = m.keeps.stands; noted = m.keeps.noted; no_halts = m.keeps.no_halts; there = m.keeps.there; back = m.keeps.back };
+}
+
 module _ (plan : Plan) (r : Run) (t : ℕ) (p : IsProper plan) (k : IsOnTrack plan r) (lt : t < length plan.threads) where
   abbrev c : Config
   c = config_of plan
@@ -76,35 +107,32 @@ module _ (plan : Plan) (r : Run) (t : ℕ) (p : IsProper plan) (k : IsOnTrack pl
   abbrev s : State
   s = r.state
 
-  -- a turn that does nothing
-  unmoved : (answer : Turn) → IsMade plan r t (nothing answer)
-  unmoved answer = record {
-    may = tt;
-    keeps = record { asks = tt; out = k.lawful.nothing_out; stands = k.lawful.queued_stands; noted = none_unnoted plan r t k; no_halts = k.no_halts; entries = omega arith; there = is_there plan r t k };
-  }
-
   made : (row : Row) → table.Fits plan r t row → IsMade plan r t row
-  made _ (table.is_over e) = unmoved Ended
+  made _ (table.is_over e) = unmoved plan r t Ended k
   made _ (table.lends l o h w e f) = record { may = (walks.may_lend plan r t p k lt l o h w e f, tt); keeps = walks.lent plan r t p k lt l o h }
   made _ (table.ends_at_lock l w e) = record { may = (walks.may_end_at_lock plan r t p k lt l w e, tt); keeps = walks.walk_ended plan r t p k lt }
   made _ (table.shifts o l w e f) = record { may = (walks.may_shift plan r t p k lt o l w e f, tt); keeps = walks.shifted plan r t p k lt o l.0 }
   made _ (table.ends_at_thread o w f) = record { may = (walks.may_end_at_thread plan r t p k lt o w f, tt); keeps = walks.walk_ended plan r t p k lt }
   made _ (table.marks m ms w e) = record { may = (waits.may_mark plan r t k lt m ms e, tt); keeps = waits.marked plan r t k lt m ms }
   made _ (table.gives_up {l} w u e back) = record { may = releases.may_give_up_all plan r t p k lt l u e back; keeps = releases.gave_up_keeps plan r t p k lt l u e back }
-  made _ (table.is_queued e f i) = unmoved Idle
+  made _ (table.is_queued e f i) = unmoved plan r t Idle k
   made _ (table.resumes q cause f e) = record { may = (waits.may_resume plan r t k lt q cause f e, tt); keeps = waits.resumed plan r t k lt q cause f e }
-  made _ (table.gains by i a f) = record { may = gains.may_gain_all plan r t p k lt by i a f; keeps = gains.gained_keeps plan r t p k lt by i }
-  made _ (table.claims by i a f) = record { may = gains.may_claim_all plan r t p k lt by i a f; keeps = gains.claimed_keeps plan r t p k lt by i a f }
-  made _ (table.enters by i a stands) = record { may = gains.may_enter_all plan r t p k lt by i a stands; keeps = gains.entered_keeps plan r t p k lt by i stands }
+  made row (table.acquires a) = acquired plan r t row p k lt a
+  made _ (table.is_admitted {l} {mode} {row} b e a) =
+      let found = orders.found_admitted plan r t l mode p k lt b e in
+      admitted_first plan r t l row (orders.may_admit plan r t l mode p k lt b found) (acquired plan (admitted plan r t l) t row p (orders.admitted_on_track plan r t l mode p k lt b found) lt a)
+  made _ (table.is_refused {l} {mode} class b e) = record { may = orders.may_refuse_all plan r t l mode p k lt b class e; keeps = orders.refused_keeps plan r t l mode p k lt b class e }
   made _ (table.finds_busy l mode past i e) = record { may = gains.may_find_busy_all plan r t p k lt l mode past i e; keeps = gains.found_busy_keeps plan r t p k lt l mode past i }
   made _ (table.releases l i back) = record { may = releases.may_release_all plan r t p k lt l i back; keeps = releases.released_keeps plan r t p k lt l i back }
   made _ (table.sleeps d i e) = record { may = sleeping.may_sleep_all plan r t p k lt d i e; keeps = sleeping.slept_keeps plan r t p k lt d i e }
   made _ (table.wakes d by i) = record { may = sleeping.may_wake_all plan r t p k lt d by i; keeps = sleeping.woke_keeps plan r t p k lt d by i }
   made _ (table.makes_entry op e i n) =
-      let noted = noting.is_noted plan r t p k lt op e n i.next in
-      record { may = noting.may_note_all plan r t p k lt i.running noted; keeps = noting.noted_keeps plan r t p k lt i.next noted }
-  made _ (table.has_no_operation e i) = unmoved Idle
-  made _ (table.is_at_endtry i) = unmoved Idle
+      let noted = noting.is_noted plan r t p k lt op e n i in
+      record { may = noting.may_note_all plan r t p k lt i.running noted; keeps = noting.noted_keeps plan r t p k lt i noted }
+  made _ (table.gives_last_back h hs i e back) = record { may = releases.may_give_last_all plan r t p k lt h hs i e back; keeps = releases.gave_last_keeps plan r t p k lt h hs i e back }
+  made _ (table.has_nothing_left e i f) = unmoved plan r t Idle k
+  made _ (table.has_no_operation e i) = unmoved plan r t Idle k
+  made _ (table.is_at_endtry i) = unmoved plan r t Idle k
 
   turn_made : IsMade plan r t (turn_of plan r t)
   turn_made = made (turn_of plan r t) (table.fits plan r t)
@@ -114,7 +142,10 @@ module _ (plan : Plan) (r : Run) (t : ℕ) (p : IsProper plan) (k : IsOnTrack pl
 
   pub turned : IsOnTrack plan (run_behind plan r t)
   unfolding run_behind
-  turned = stays_on_track plan r t (turn_of plan r t) k lt may_all turn_made.keeps (table.fits plan r t) (followed plan r t p k lt)
+  turned =
+      let row = turn_of plan r t in
+      let fits = table.fits plan r t in
+      stays_on_track plan r t row k may_all (row_keeps_order plan r t row p k lt fits) (own_steps plan r t row fits) turn_made.keeps (led plan r t row p k lt fits)
 
 pub turns_may : (plan : Plan) (r : Run) (t : ℕ) → IsProper plan → IsOnTrack plan r → t < length plan.threads → MayAll (config_of plan) r.state (turn_of plan r t).steps
 turns_may plan r t p k lt = may_all plan r t p k lt

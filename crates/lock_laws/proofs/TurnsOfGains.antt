@@ -1,23 +1,22 @@
 -- The turns of a thread that takes or tries a lock, or takes one back after a wait: it gains or claims it, blocks, or finds
 -- it busy. Their steps may be made, and they leave the run on track.
-use Rattle.std.proofs.Common.{◌≡◌, ◌≢◌, ◌⊎◌, ℕ, suc, ◌<◌, ◌≤◌, Bool, true, false, cond, eqb, List, [], ◌∷◌, ◌++◌, length, Option, Some, None, option_map, slice_get, refl, sym, ap, inl, inr, arith, eq-eqb, ◌∙◌, subst}
-use Rattle.std.specs.Prelude.{unwrap_or}
+use Rattle.std.proofs.Common.{◌≡◌, ◌≢◌, ◌⊎◌, ℕ, suc, ◌<◌, ◌≤◌, Bool, true, false, cond, eqb, List, [], ◌∷◌, ◌++◌, length, Option, Some, None, option_map, refl, sym, ap, inl, inr, arith, eq-eqb, ◌∙◌, subst}
+use Rattle.std.specs.Prelude.{unwrap_or, is_some}
 use Rattle.std.proofs.lemmas.Bool.{not-false, eqb-true}
-use Rattle.std.proofs.lemmas.Option.{none-some, same_Some}
+use Rattle.std.proofs.lemmas.Option.{none-some}
 use Rattle.lock_model.specs.Counts.{one}
-use Rattle.lock_model.specs.Events.{OfSleep, NoSleep, FallsAsleep, WakesUp, IsHalted, IsHaltedAtLock, WakesOne, WakesAll, of_sleep, fell_asleep, begins_sleep, is_falling}
+use Rattle.lock_model.specs.Events.{OfSleep, NoSleep, FallsAsleep, WakesUp, IsHalted, IsHaltedAtLock, WakesOne, WakesAll, of_sleep, fell_asleep, begins_sleep}
 use Rattle.lock_model.specs.Words.{Word, is_free, is_plain, shows_waiters, admits, bits_of}
 use Rattle.lock_model.specs.Plans.{config_of, lock_kind, operations_of}
 use Rattle.lock_model.specs.Operations.{IsProper, hold_in}
 use Rattle.lock_model.specs.Config.{Config}
 use Rattle.lock_model.specs.Holds.{Hold, NotHeld, Holds}
 use Rattle.lock_model.specs.Queues.{lock_queue}
-use Rattle.lock_model.specs.Law.{is_halt}
 use Rattle.lock_model.specs.History.{Sections, sections_by, sections_in, open_in, left_in, replaced}
 use Rattle.lock_state.specs.State.{State, Queued, HeldLock, put, put_at}
 use Rattle.lock_state.specs.Steps.{Step, Gains, Claims, Stamps, Readies, May, MayAll}
 use Rattle.lock_state.specs.Steps.Items.{IsOnItsWay}
-use Rattle.lock_state.specs.Steps.LockWords.{Asks, begun_after, is_taking_back, entry_of, MayGain, MayStamp, after_look, after_gain, after_stamp, after_ready}
+use Rattle.lock_state.specs.Steps.LockWords.{Asks, begun_after, taking_after, entry_of, MayGain, MayStamp, after_look, after_gain, after_stamp, after_ready}
 use Rattle.lock_state.specs.Steps.SleepQueues.{has_slept, after_enter_sleep}
 use Rattle.lock_state.specs.Steps.Turnstiles.{MustWait, after_enter}
 use Rattle.lock_state.specs.Steps.Lending.{MayClaim, after_claim}
@@ -40,7 +39,7 @@ use Rattle.lock_model.specs.declared.event.Event.{Event}
 use Rattle.lock_model.specs.declared.event.Event.TheVariants as event
 use Rattle.lock_model.specs.declared.event.Entry.{Entry}
 use Rattle.lock_model.specs.declared.event.Held.{Held}
-use Rattle.lock_laws.specs.OnTrack.{IsOnTrack, IsAtOperation, TakesLock, gained_order, held_now}
+use Rattle.lock_laws.specs.OnTrack.{IsOnTrack, IsAtOperation, gained_order, held_now}
 use Rattle.lock_laws.specs.Sleepers.{AsleepAreOnTheirWay, ResumedSlept}
 use Rattle.lock_laws.proofs.Kit.{columns, put_same, put_at_same}
 use Rattle.lock_laws.proofs.Words.{free_is, refused_held}
@@ -50,7 +49,7 @@ use Rattle.lock_laws.proofs.TurnsOfWaits.{given_up}
 use Rattle.lock_laws.proofs.SleepFacts.Entries.{one_channel}
 use Rattle.lock_laws.proofs.SleepFacts.Known.{asleep}
 use Rattle.lock_laws.proofs.SleepFacts.Marks.{signals_nowhere}
-use Rattle.lock_laws.proofs.OnTrack.{KeepsTrack, EndsWell, goes_on, IsWhere, there_wanting, now_stands, put_at_own, own_section, noted_behind, none_unnoted, unnamed, acting, acting_in, ends_quietly, IsAwake, awake, before, behind, left, fit, are_locks, holds_all, all_open, wants_none, wants_this}
+use Rattle.lock_laws.proofs.OnTrack.{KeepsTrack, EndsWell, LetsGoOn, lets_go_on, goes_on, IsWhere, share_in, is_there, now_stands, not_running, put_at_own, own_section, noted_behind, none_unnoted, unnamed, acting, acting_in, ends_quietly, IsAwake, awake, is_awake, waits_back, awake_behind, before, behind, left, fit, are_locks, holds_all, all_open, wants_none, wants_it}
 use Rattle.lock_laws.proofs.Table.{Taking, anew, back, Gaining, by_taking, by_trying, Entering, on_turnstile, on_sleep_queue, lock_with, mode_left, its_mode}
 
 -- a gain that isn't plain is an exclusive one, of a free rw lock that shows waiters
@@ -88,20 +87,6 @@ waits_slept (x ∷ es) d e = go (of_sleep x.event) e
     go (WakesOne j woken) f = absurd (none-some d f)
     go (WakesAll j woken) f = absurd (none-some d f)
 
--- a log whose thread doesn't wait has no Sleeps entry before the others
-awake_back : (es : List Entry) → waits_on es ≡ None → is_taking_back es ≡ true → ⊥
-awake_back [] e f = absurd cc
-awake_back (x ∷ es) e f = go (of_sleep x.event) e f
-  where
-    go : (o : OfSleep) → fell_asleep o ≡ None → is_falling o ≡ true → ⊥
-    go (FallsAsleep j) a b = none-some j (sym a)
-    go NoSleep a b = absurd cc
-    go (WakesUp j) a b = absurd cc
-    go (IsHalted j) a b = absurd cc
-    go (IsHaltedAtLock l) a b = absurd cc
-    go (WakesOne j woken) a b = absurd cc
-    go (WakesAll j woken) a b = absurd cc
-
 -- 1. What a gain finds: the lock may be gained, what is held and open then, and what its entry asks and says
 
 pub record Finds (plan : Plan) (r : Run) (t : ℕ) (l : LockNo) (mode : Mode) (by_try : Bool) (e : Event) : Type 0 where
@@ -112,12 +97,12 @@ pub record Finds (plan : Plan) (r : Run) (t : ℕ) (l : LockNo) (mode : Mode) (b
   pub opened : (j : ℕ) → open_in (config_of plan) r.state.history t j ≡ r.state.held t j
   -- the operation adds the lock to what is held
   pub adds : held_now plan r t ++ (record { l = l; mode = mode; by_try = by_try }) ∷ [] ≡ behind plan r t
-  -- the entry begins the lock's section, in the mode; it is of no sleep that begins or is halted
+  -- the entry begins the lock's section, in the mode; it lets its thread go on, and ends what it takes
   pub section : (j : ℕ) → (sections_by (config_of plan) e j (sections_in (config_of plan) r.state.history t j)).now
       ≡ replaced (cond (eqb l.0 j) (Holds mode) NotHeld) (open_in (config_of plan) r.state.history t j)
   pub begun : (f : ℕ → ℕ → Bool) → begun_after (config_of plan) e t f ≡ put_at f t l.0 true
-  pub awake : fell_asleep (of_sleep e) ≡ None
-  pub no_halt : is_halt e ≡ false
+  pub lets : LetsGoOn e
+  pub taken : taking_after e (r.state.taking t) ≡ None
   pub asks : (n : State) → n.history ≡ r.state.history → n.woken_from ≡ r.state.woken_from → n.held t l.0 ≡ Holds mode
       → n.held_locks t ≡ record { lock = l.0; by_try = by_try } ∷ r.state.held_locks t → Asks (config_of plan) n t e
 
@@ -129,24 +114,25 @@ module _ (plan : Plan) (r : Run) (t : ℕ) (p : IsProper plan) (k : IsOnTrack pl
   s = r.state
 
   -- a take, or a try
-  anew_finds : (l : LockNo) (mode : Mode) (by_try : Bool) (e : Event) → IsAwake r t → GainFits plan l mode by_try (before plan r t) (behind plan r t)
+  anew_finds : (l : LockNo) (mode : Mode) (by_try : Bool) (e : Event) → IsAwake s t → GainFits plan l mode by_try (before plan r t) (behind plan r t)
       → ((s.wanted t ≡ Some l.0) ⊎ (s.wanted t ≡ None))
       → ((j : ℕ) (x : Sections) → (sections_by c e j x).now ≡ replaced (cond (eqb l.0 j) (Holds mode) NotHeld) x.now)
-      → ((f : ℕ → ℕ → Bool) → begun_after c e t f ≡ put_at f t l.0 true) → fell_asleep (of_sleep e) ≡ None → is_halt e ≡ false
+      → ((f : ℕ → ℕ → Bool) → begun_after c e t f ≡ put_at f t l.0 true) → LetsGoOn e → taking_after e (s.taking t) ≡ None
       → ((n : State) → (n.held t l.0 ≡ Holds mode) → (open_in c n.history t l.0 ≡ NotHeld) → (others : List HeldLock) → n.held_locks t ≡ record { lock = l.0; by_try = by_try } ∷ others → Asks c n t e)
       → Finds plan r t l mode by_try e
-  anew_finds l mode by_try e up fits wants section begun quiet no_halt asks = record {
+  anew_finds l mode by_try e up fits wants section begun lets taken asks = record {
     lock = fits.lock;
     mutex = fits.mutex;
     unheld = holds_all plan r t k up l.0 ∙ fits.unheld;
     wants = wants;
-    opened = all_open plan r t k up;
-    adds = rw up fits.behind;
+    opened = all_open plan r t k up.no_wait;
+    adds = rw (up.uncut, up.no_wait) fits.behind;
     section = λ j. section j (sections_in c s.history t j);
     begun = begun;
-    awake = quiet;
-    no_halt = no_halt;
-    asks = λ n same woken held listed. asks n held (ap (λ es. open_in c es t l.0) same ∙ all_open plan r t k up l.0 ∙ holds_all plan r t k up l.0 ∙ fits.unheld) (s.held_locks t) listed;
+    lets = lets;
+    taken = taken;
+    asks = λ n same woken held listed.
+        asks n held (ap (λ es. open_in c es t l.0) same ∙ all_open plan r t k up.no_wait l.0 ∙ holds_all plan r t k up l.0 ∙ fits.unheld) (s.held_locks t) listed;
   }
 
   -- 2. A wait that is over: the lock was released, and is taken back as it was held
@@ -212,39 +198,37 @@ module _ (plan : Plan) (r : Run) (t : ℕ) (p : IsProper plan) (k : IsOnTrack pl
       lock = (are_locks plan r t p).within wait_lock wait_finds.held;
       mutex = (are_locks plan r t p).mutexes wait_lock (mode_left plan r t d) (sym left_so ∙ left_mode);
       unheld = released;
-      wants = wants (s.wanted t) refl;
+      wants = inl (wants_it plan r t k (back d e w) i);
       opened = back_opened;
-      adds = rw (its_lock, released) (last_is (lock_with plan d) (mode_left plan r t d) (before plan r t) wait_finds.last (are_locks plan r t p).apart (sym left_so ∙ left_mode) ∙ wait_finds.same);
+      adds = rw (i.uncut, its_lock, released) (last_is (lock_with plan d) (mode_left plan r t d) (before plan r t) wait_finds.last (are_locks plan r t p).apart (sym left_so ∙ left_mode) ∙ wait_finds.same);
       section = back_section;
       begun = λ f. refl;
-      awake = refl;
-      no_halt = refl;
+      lets = lets_go_on refl refl refl;
+      taken = refl;
       asks = λ n same woken held listed.
           let at : left_in c n.history t wait_lock ≡ Holds (mode_left plan r t d) = ap (λ es. left_in c es t wait_lock) same ∙ left_mode in
           (record { held = held ∙ sym at; holds = λ z. let y : NotHeld ≡ Holds (mode_left plan r t d) = sym z ∙ held in cc; closed = ap (λ es. open_in c es t wait_lock) same ∙ back_opened wait_lock ∙ released }, ap (λ f. f t) woken ∙ was_woken);
     }
-      where
-        wants : (o : Option ℕ) → s.wanted t ≡ o → (o ≡ Some wait_lock) ⊎ (o ≡ None)
-        wants None f = inr refl
-        wants (Some j) f = let y : wait_lock ≡ j = rw waits at (k.wants t j f) in inl (ap Some (sym y))
 
   -- 3. A gain
 
   taking_finds : {l : LockNo} {mode : Mode} {op : Op} {e : Event} → Taking plan r t l mode op e → IsAtOperation plan r t (Some op) → Finds plan r t l mode false e
-  taking_finds (anew l mode) i =
-      let up = awake plan r t k (Take l mode) i.next refl in
+  taking_finds (anew l mode j e) i =
+      let up = is_awake plan r t k (Take l mode) i refl in
       let f = fit plan r t p (Take l mode) i.next in
-      anew_finds l mode false (event.Locked l mode) up (gain_passes plan l mode false _ _ f.passes f.behind) (wants_this plan r t k up l mode i.next)
-      (λ j x. refl) (λ g. refl) refl refl (λ n held closed others listed. (record { held = held; closed = closed }, record { others = others; last = listed }))
+      anew_finds l mode false (event.Locked l mode) up (gain_passes plan l mode false _ _ f.passes f.behind) (inl (wants_it plan r t k (anew l mode j e) i))
+      (λ j x. refl) (λ g. refl) (lets_go_on refl refl refl) refl (λ n held closed others listed. (record { held = held; closed = closed }, record { others = others; last = listed }))
   taking_finds (back d e w) i = back_finds d e w i
 
   pub finds : {l : LockNo} {mode : Mode} {op : Op} {by_try : Bool} {e : Event} → Gaining plan r t l mode op by_try e → IsAtOperation plan r t (Some op) → Finds plan r t l mode by_try e
   finds (by_taking g) i = taking_finds g i
   finds (by_trying l mode past) i =
-      let up = awake plan r t k (Try l mode past) i.next refl in
+      let up = is_awake plan r t k (Try l mode past) i refl in
+      let none = wants_none plan r t k up.no_wait (Try l mode past) i.next refl in
       let f = fit plan r t p (Try l mode past) i.next in
-      anew_finds l mode true (event.Tried l mode) up (gain_passes plan l mode true _ _ f.passes f.behind) (inr (wants_none plan r t k up (Try l mode past) i.next refl))
-      (λ j x. refl) (λ g. refl) refl refl (λ n held closed others listed. (record { held = held; closed = closed }, record { others = others; last = listed }))
+      anew_finds l mode true (event.Tried l mode) up (gain_passes plan l mode true _ _ f.passes f.behind) (inr none)
+      (λ j x. refl) (λ g. refl) (lets_go_on refl refl refl) (k.taking t ∙ none)
+      (λ n held closed others listed. (record { held = held; closed = closed }, record { others = others; last = listed }))
 
   module _ {l : LockNo} {mode : Mode} {op : Op} {by_try : Bool} {noted : Event} (g : Gaining plan r t l mode op by_try noted) (i : IsAtOperation plan r t (Some op)) where
     found : Finds plan r t l mode by_try noted
@@ -303,14 +287,13 @@ module _ (plan : Plan) (r : Run) (t : ℕ) (p : IsProper plan) (k : IsOnTrack pl
 
     ends_gained : (n : State) → n.log ≡ put s.log t (entry ∷ s.log t) → n.history ≡ entry ∷ s.history → n.held ≡ put_at s.held t l.0 (Holds mode)
         → n.held_locks ≡ put s.held_locks t (record { lock = l.0; by_try = by_try } ∷ s.held_locks t)
-        → n.has_begun ≡ begun_after c noted t (put_at s.has_begun t l.0 false) → n.wanted ≡ put s.wanted t None → EndsWell plan r t (suc (r.next_op t)) noted n
+        → n.has_begun ≡ begun_after c noted t (put_at s.has_begun t l.0 false) → n.wanted ≡ put s.wanted t None → n.taking ≡ put s.taking t (taking_after noted (s.taking t)) → n.noted ≡ put s.noted t None
+        → EndsWell plan r t (suc (r.next_op t)) noted n
     unfolding after_stamp
-    ends_gained n log history held listed begun wanted = record {
-      awake = found.awake;
-      no_halt = found.no_halt;
-      log = ap (λ f. f t) log ∙ put_same s.log t _;
+    ends_gained n log history held listed begun wanted taking unnoted = record {
+      awake = awake_behind r t noted n found.lets i.uncut log;
+      no_halt = found.lets.no_halt;
       history = history;
-      further = omega arith;
       within = left plan r t op i.next;
       holds = λ j.
           holds j ∙ ap (cond (eqb l.0 j) (Holds mode)) (k.holds t j) ∙ sym (hold_in-push (held_now plan r t) gained j (sym (k.holds t l.0) ∙ found.unheld))
@@ -322,6 +305,8 @@ module _ (plan : Plan) (r : Run) (t : ℕ) (p : IsProper plan) (k : IsOnTrack pl
           ∙ sym (holds j);
       begun = λ j x. ap (λ (f : ℕ → ℕ → Bool). f t j) (begun ∙ found.begun (put_at s.has_begun t l.0 false)) ∙ began j (λ z. x (ap (λ (f : ℕ → ℕ → Hold). f t j) held ∙ z));
       wants = ap (λ f. f t) wanted ∙ put_same s.wanted t None;
+      taking = ap (λ f. f t) taking ∙ put_same s.taking t _ ∙ found.taken;
+      unnoted = ap (λ f. f t) unnoted ∙ put_same s.noted t None;
     }
       where
         holds : (j : ℕ) → n.held t j ≡ cond (eqb l.0 j) (Holds mode) (s.held t j)
@@ -333,13 +318,13 @@ module _ (plan : Plan) (r : Run) (t : ℕ) (p : IsProper plan) (k : IsOnTrack pl
     pub gained_keeps : KeepsTrack plan r t (ends r t kind.Gain (Gains t l.0 mode by_try ∷ Stamps t noted ∷ []))
     unfolding after_gain after_stamp
     gained_keeps = goes_on plan r t (suc (r.next_op t)) kind.Gain (Gains t l.0 mode by_try ∷ Stamps t noted ∷ []) noted k (tt, ((λ d f. refl), tt)) k.lawful.nothing_out k.lawful.queued_stands
-        (noted_behind plan r t noted k) (ends_gained _ refl refl refl refl refl refl)
+        (noted_behind plan r t noted k) (ends_gained _ refl refl refl refl refl refl refl refl)
 
     pub claimed_keeps : admits (c.kind l.0) (s.word l.0) mode ≡ true → is_plain (c.kind l.0) (s.word l.0) mode ≡ false
         → KeepsTrack plan r t (ends r t kind.Claim (Claims t l.0 head by_try ∷ Stamps t noted ∷ []))
     unfolding after_claim after_stamp
     claimed_keeps e f = goes_on plan r t (suc (r.next_op t)) kind.Claim (Claims t l.0 head by_try ∷ Stamps t noted ∷ []) noted k (tt, ((λ d f. refl), tt)) k.lawful.nothing_out k.lawful.queued_stands
-        (noted_behind plan r t noted k) (ends_gained _ refl refl (ap (λ m. put_at s.held t l.0 (Holds m)) (sym (claims e f).exclusive)) refl refl refl)
+        (noted_behind plan r t noted k) (ends_gained _ refl refl (ap (λ m. put_at s.held t l.0 (Holds m)) (sym (claims e f).exclusive)) refl refl refl refl refl)
 
   -- 4. A take, or a taking back, whose lock refuses it blocks
 
@@ -381,28 +366,12 @@ module _ (plan : Plan) (r : Run) (t : ℕ) (p : IsProper plan) (k : IsOnTrack pl
     off w = go g i
       where
         go : {x : LockNo} {m : Mode} {o : Op} {e : Event} → Taking plan r t x m o e → IsAtOperation plan r t (Some o) → ⊥
-        go (anew x m) at = awake_back (s.log t) (awake plan r t k (Take x m) at.next refl) w.slept
+        go (anew x m j e) at = let z = sym w.slept ∙ waits_back (s.log t) ∙ ap is_some (awake plan r t k (Take x m) at.next refl) in cc
         go (back d e waits) at = none-some d.0 (sym w.unwoken ∙ was_woken d e waits at)
 
-    -- it wants the lock
-    wants_it : TakesLock c l.0 (waits_on (s.log t)) (slice_get (operations_of plan t) (r.next_op t))
-    wants_it = go g i
-      where
-        go : {x : LockNo} {m : Mode} {o : Op} {e : Event} → Taking plan r t x m o e → IsAtOperation plan r t (Some o) → TakesLock c x.0 (waits_on (s.log t)) (slice_get (operations_of plan t) (r.next_op t))
-        go (anew x m) at = rw (awake plan r t k (Take x m) at.next refl, at.next) refl
-        go (back d e w) at = rw (waits d e w at) refl
-
-    abbrev wanted : Option ℕ
-    wanted = put s.wanted t (Some l.0) t
-
-    there : IsWhere plan t (r.next_op t) (waits_on (s.log t)) (s.held t) (s.held_locks t) (λ j. sections_in c s.history t j) (s.has_begun t) wanted
-    there = there_wanting plan r t wanted k (λ j f. (
-      subst (λ m. TakesLock c m (waits_on (s.log t)) (slice_get (operations_of plan t) (r.next_op t))) (this j f) wants_it,
-      subst (λ m. s.held t m ≡ NotHeld) (this j f) takes.unheld,
-    ))
-      where
-        this : (j : ℕ) → wanted ≡ Some j → l.0 ≡ j
-        this j f = same_Some l.0 j (sym (put_same s.wanted t (Some l.0)) ∙ f)
+    -- it wants the lock before and behind
+    there : IsWhere plan t (record (share_in plan s t (r.next_op t)) { wanted = put s.wanted t (Some l.0) t })
+    there = rw (put_same s.wanted t (Some l.0), ← wants_it plan r t k g i) (is_there plan r t k)
 
     pub entered_keeps : {step : Step} → Entering plan r t l.0 mode step → KeepsTrack plan r t (does kind.Enter (Readies t (Lock l) ∷ step ∷ []))
     unfolding after_ready after_enter after_enter_sleep
@@ -412,8 +381,8 @@ module _ (plan : Plan) (r : Run) (t : ℕ) (p : IsProper plan) (k : IsOnTrack pl
       stands = now_stands s.wait s.blocked_on t (lock_queue l.0) k.lawful.queued_stands;
       noted = none_unnoted plan r t k;
       no_halts = k.no_halts;
-      entries = omega arith;
       there = there;
+      back = λ d e runs. not_running s.wait t runs;
     }
     entered_keeps (on_sleep_queue f) = record {
       asks = (tt, (off, tt));
@@ -421,8 +390,8 @@ module _ (plan : Plan) (r : Run) (t : ℕ) (p : IsProper plan) (k : IsOnTrack pl
       stands = now_stands s.wait s.blocked_on t (lock_queue l.0) k.lawful.queued_stands;
       noted = none_unnoted plan r t k;
       no_halts = k.no_halts;
-      entries = omega arith;
       there = there;
+      back = λ d e runs. not_running s.wait t runs;
     }
 
   -- 5. A try whose lock refuses it finds it busy
@@ -460,4 +429,4 @@ module _ (plan : Plan) (r : Run) (t : ℕ) (p : IsProper plan) (k : IsOnTrack pl
     unfolding after_look after_stamp
     found_busy_keeps = goes_on plan r t past kind.Note (finds_busy r t l past).steps (event.Busy l seen) k (tt, ((λ d f. refl), tt)) k.lawful.nothing_out k.lawful.queued_stands
         (noted_behind plan r t (event.Busy l seen) k)
-        (ends_quietly plan r t past (Try l mode past) (event.Busy l seen) _ k i.next (record { no_take = refl; no_wait = refl; further = passes.further; within = passes.within; same = sym passes.leaves; quiet = refl; awake = refl; no_halt = refl }) refl refl refl refl refl refl)
+        (ends_quietly plan r t past (Try l mode past) (event.Busy l seen) _ k i (record { no_take = refl; no_wait = refl; within = passes.within; same = sym passes.leaves; quiet = refl; lets = lets_go_on refl refl refl }) refl refl refl refl refl refl refl refl)

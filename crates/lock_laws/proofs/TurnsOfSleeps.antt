@@ -1,22 +1,21 @@
 -- The turns of a thread that goes to sleep on a channel, or wakes sleepers: their steps may be made, and they leave the run
 -- on track.
-use Rattle.std.proofs.Common.{◌≡◌, ◌≢◌, ℕ, suc, ◌<◌, Bool, false, cond, eqb, List, [], ◌∷◌, length, map, Option, Some, None, refl, sym, ap, arith, eq-eqb, ◌∙◌, subst}
+use Rattle.std.proofs.Common.{◌≡◌, ◌≢◌, ℕ, suc, ◌<◌, Bool, false, cond, eqb, List, [], ◌∷◌, length, map, Option, Some, None, refl, sym, ap, eq-eqb, ◌∙◌, subst}
 use Rattle.std.specs.Prelude.{unwrap_or}
 use Rattle.std.proofs.lemmas.Option.{none-some, same_Some}
-use Rattle.lock_model.specs.Counts.{some}
-use Rattle.lock_model.specs.Events.{of_sleep, fell_asleep}
 use Rattle.lock_model.specs.Plans.{config_of}
 use Rattle.lock_model.specs.Operations.{IsProper, hold_in, without_lock}
 use Rattle.lock_model.specs.Config.{Config}
 use Rattle.lock_model.specs.Holds.{NotHeld}
 use Rattle.lock_model.specs.Queues.{Waiter, chan_queue, taken_off}
-use Rattle.lock_model.specs.Law.{is_halt, HaltsOnlyWhenRunning}
+use Rattle.lock_model.specs.Law.{HaltsOnlyWhenRunning}
+use Rattle.lock_model.specs.Takes.{has_reversal}
 use Rattle.lock_model.specs.History.{Sections, open_in, sections_in}
 use Rattle.lock_state.specs.State.{State, Queued, Wake, put}
 use Rattle.lock_state.specs.Steps.{Readies, Stamps, Adds, MayAll}
 use Rattle.lock_state.specs.Steps.LockWords.{Asks, IsTheWake, is_woken, bits_of_threads, changes_sections, unstamped_after, MayStamp, after_ready, after_stamp}
 use Rattle.lock_state.specs.Steps.SleepQueues.{MayAdd, has_slept, after_add, after_wake}
-use Rattle.lock_state.specs.Run.{Run, does, mode_held, waits_on, wakes}
+use Rattle.lock_state.specs.Run.{Run, does, mode_held, was_cut, waits_on, wakes}
 use Rattle.lock_model.specs.declared.plan.Mode.{Mode}
 use Rattle.lock_model.specs.declared.plan.Op.{Op}
 use Rattle.lock_model.specs.declared.plan.Op.TheVariants.{Sleep, WakeOne, WakeAll}
@@ -31,7 +30,7 @@ use Rattle.lock_laws.specs.OnTrack.{IsOnTrack, IsAtOperation, gained_order, with
 use Rattle.lock_laws.proofs.Kit.{put_same}
 use Rattle.lock_laws.proofs.HeldLists.{WaitFits, wait_fits, wake_fits, last_is, gained_order-push}
 use Rattle.lock_laws.proofs.AtTurn.{has_sleep_queue}
-use Rattle.lock_laws.proofs.OnTrack.{KeepsTrack, IsWhere, goes_on, ends_quietly, now_stands, own_sections_by, noted_behind, none_unnoted, unnamed, acting_in, IsAwake, before, behind, left, fit, are_locks, holds_all, all_listed, all_open, wants_none, is_take, is_wait}
+use Rattle.lock_laws.proofs.OnTrack.{KeepsTrack, IsWhere, LetsGoOn, lets_go_on, share_in, not_running, goes_on, ends_quietly, now_stands, own_sections_by, noted_behind, none_unnoted, unnamed, acting_in, IsAwake, before, behind, left, fit, are_locks, holds_all, all_listed, all_open, wants_none, is_take, is_wait}
 use Rattle.lock_laws.proofs.Table.{Waking, of_one, of_all, lock_with, its_mode}
 
 module _ (plan : Plan) (r : Run) (t : ℕ) (p : IsProper plan) (k : IsOnTrack plan r) (lt : t < length plan.threads) where
@@ -43,7 +42,10 @@ module _ (plan : Plan) (r : Run) (t : ℕ) (p : IsProper plan) (k : IsOnTrack pl
 
   -- 1. A wait's first turn
 
-  module _ (d : ChanNo) (i : IsAtOperation plan r t (Some (Sleep d))) (up : IsAwake r t) where
+  module _ (d : ChanNo) (i : IsAtOperation plan r t (Some (Sleep d))) (no : waits_on (s.log t) ≡ None) where
+    up : IsAwake s t
+    up = record { no_wait = no; uncut = i.uncut }
+
     abbrev l : ℕ
     l = c.chan_lock d.0
 
@@ -61,10 +63,10 @@ module _ (plan : Plan) (r : Run) (t : ℕ) (p : IsProper plan) (k : IsOnTrack pl
     holds_it z = finds.held (sym (holds_all plan r t k up l) ∙ z)
 
     section : open_in c s.history t l ≢ NotHeld
-    section z = holds_it (sym (all_open plan r t k up l) ∙ z)
+    section z = holds_it (sym (all_open plan r t k no l) ∙ z)
 
     -- and it was gained last, and not by a try
-    gained_last : s.held_locks t ≡ record { lock = l; by_try = false } ∷ gained_order (without_lock l (before plan r t))
+    pub gained_last : s.held_locks t ≡ record { lock = l; by_try = false } ∷ gained_order (without_lock l (before plan r t))
     gained_last =
         let mode : Mode = mode_held (hold_in (before plan r t) l) in
         let last = last_is (lock_with plan d) mode (before plan r t) finds.last (are_locks plan r t p).apart (its_mode (hold_in (before plan r t) l) finds.held) in
@@ -74,7 +76,7 @@ module _ (plan : Plan) (r : Run) (t : ℕ) (p : IsProper plan) (k : IsOnTrack pl
     its_sleep_queue = let y = has_sleep_queue c s t k.lawful.lawful (unnamed plan r t k i.running) in rw y.1 refl
 
     wants_nothing : s.wanted t ≡ None
-    wants_nothing = wants_none plan r t k up (Sleep d) i.next refl
+    wants_nothing = wants_none plan r t k no (Sleep d) i.next refl
 
     may_note : MayStamp c (after_ready s t) t (event.Sleeps d)
     unfolding after_ready
@@ -104,20 +106,30 @@ module _ (plan : Plan) (r : Run) (t : ℕ) (p : IsProper plan) (k : IsOnTrack pl
     unfolding after_ready after_stamp
     waits = ap waits_on (put_same s.log t _)
 
+    cut : was_cut noted t ≡ false
+    unfolding after_ready after_stamp
+    cut = ap has_reversal (put_same s.log t _) ∙ i.uncut
+
+    takes_nothing : put s.taking t (s.taking t) t ≡ None
+    takes_nothing = put_same s.taking t (s.taking t) ∙ k.taking t ∙ wants_nothing
+
     -- it waits in that operation, holds what it held, and its lock's section has ended
-    there : IsWhere plan t (r.next_op t) (waits_on (noted.log t)) (s.held t) (s.held_locks t) (λ j. sections_in c noted.history t j) (s.has_begun t) (s.wanted t)
-    unfolding after_ready
-    there = rw (waits, wants_nothing) (record {
+    there : IsWhere plan t (share_in plan noted t (r.next_op t))
+    unfolding after_ready after_stamp
+    there = rw (waits, cut, wants_nothing, takes_nothing, put_same s.noted t None) (record {
       within = k.within t;
       no_endtry = k.no_endtry t;
       waiting = λ e f. i.next ∙ ap (λ (n : ℕ). Some (Sleep (record { 0 = n }))) (same_Some d.0 e f);
       holds = λ j. holds_all plan r t k up j ∙ ap (λ (hs : List Held). hold_in hs j) (sym holding);
       listed = all_listed plan r t k up ∙ ap gained_order (sym holding);
       left = λ j f. subst (λ m. (sections_in c noted.history t m).left ≡ hold_in (before plan r t) m) (same_Some l j f) left_so;
-      opened = λ j. ap (λ (y : Sections). y.now) (own_sections_by c (after_ready s t) t (event.Sleeps d) j) ∙ ap (cond (eqb l j) NotHeld) (all_open plan r t k up j);
+      opened = λ j. ap (λ (y : Sections). y.now) (own_sections_by c (after_ready s t) t (event.Sleeps d) j) ∙ ap (cond (eqb l j) NotHeld) (all_open plan r t k no j);
       begun = k.begun t;
       wants = λ j f. absurd (none-some j f);
       wants_unheld = λ j f. absurd (none-some j f);
+      cut_wants_nothing = λ f. refl;
+      taking = refl;
+      unnoted = refl;
     })
       where
         holding : without_unheld (s.held t) (Some l) (before plan r t) ≡ before plan r t
@@ -126,7 +138,7 @@ module _ (plan : Plan) (r : Run) (t : ℕ) (p : IsProper plan) (k : IsOnTrack pl
         left_so : (sections_in c noted.history t l).left ≡ hold_in (before plan r t) l
         left_so =
             ap (λ (y : Sections). y.left) (own_sections_by c (after_ready s t) t (event.Sleeps d) l) ∙ ap (λ b. cond b (open_in c s.history t l) (sections_in c s.history t l).left) (eq-eqb l l refl)
-            ∙ all_open plan r t k up l ∙ holds_all plan r t k up l
+            ∙ all_open plan r t k no l ∙ holds_all plan r t k up l
 
     pub slept_keeps : KeepsTrack plan r t (does kind.Add (Readies t (Chan d) ∷ Stamps t (event.Sleeps d) ∷ Adds t d.0 x ∷ []))
     unfolding after_ready after_stamp after_add HaltsOnlyWhenRunning
@@ -136,8 +148,8 @@ module _ (plan : Plan) (r : Run) (t : ℕ) (p : IsProper plan) (k : IsOnTrack pl
       stands = now_stands s.wait s.blocked_on t (chan_queue d.0) k.lawful.queued_stands;
       noted = noted_behind plan r t (event.Sleeps d) k;
       no_halts = ((λ e. refl), k.no_halts);
-      entries = let was = ap some up in let is = ap some waits in omega (arith, was, is);
       there = there;
+      back = λ j f runs. not_running s.wait t runs;
     }
 
   -- 2. A wake
@@ -160,8 +172,7 @@ module _ (plan : Plan) (r : Run) (t : ℕ) (p : IsProper plan) (k : IsOnTrack pl
       no_take : is_take o ≡ false
       no_wait : is_wait o ≡ false
       quiet : changes_sections e ≡ false
-      awake : fell_asleep (of_sleep e) ≡ None
-      no_halt : is_halt e ≡ false
+      lets : LetsGoOn e
       noted : (w : Option Wake) → unstamped_after e w ≡ None
 
     is_waking : (bits : ℕ) → IsWaking op all (noting bits) bits
@@ -170,10 +181,10 @@ module _ (plan : Plan) (r : Run) (t : ℕ) (p : IsProper plan) (k : IsOnTrack pl
         go : {o : Op} {b : Bool} {f : ℕ → Event} → Waking d o b f → IsAtOperation plan r t (Some o) → IsWaking o b (f bits) bits
         go of_one at =
             let f = fit plan r t p (WakeOne d) at.next in
-            record { chan = wake_fits plan d [] f.passes; same = f.behind; asks = λ n w. w; no_take = refl; no_wait = refl; quiet = refl; awake = refl; no_halt = refl; noted = λ w. refl }
+            record { chan = wake_fits plan d [] f.passes; same = f.behind; asks = λ n w. w; no_take = refl; no_wait = refl; quiet = refl; lets = lets_go_on refl refl refl; noted = λ w. refl }
         go of_all at =
             let f = fit plan r t p (WakeAll d) at.next in
-            record { chan = wake_fits plan d [] f.passes; same = f.behind; asks = λ n w. w; no_take = refl; no_wait = refl; quiet = refl; awake = refl; no_halt = refl; noted = λ w. refl }
+            record { chan = wake_fits plan d [] f.passes; same = f.behind; asks = λ n w. w; no_take = refl; no_wait = refl; quiet = refl; lets = lets_go_on refl refl refl; noted = λ w. refl }
 
     its : IsWaking op all woken (bits_of_threads taken)
     its = is_waking (bits_of_threads taken)
@@ -193,4 +204,4 @@ module _ (plan : Plan) (r : Run) (t : ℕ) (p : IsProper plan) (k : IsOnTrack pl
     unfolding after_wake after_stamp
     woke_keeps = goes_on plan r t (suc (r.next_op t)) kind.Wake (wakes r t d all noting).steps woken k (refl, ((λ e f. refl), tt)) k.lawful.nothing_out k.lawful.queued_stands
         (put_same (put s.unstamped t (Some wake)) t _ ∙ its.noted _)
-        (ends_quietly plan r t (suc (r.next_op t)) op woken _ k i.next (record { no_take = its.no_take; no_wait = its.no_wait; further = omega arith; within = left plan r t op i.next; same = its.same; quiet = its.quiet; awake = its.awake; no_halt = its.no_halt }) refl refl refl refl refl refl)
+        (ends_quietly plan r t (suc (r.next_op t)) op woken _ k i (record { no_take = its.no_take; no_wait = its.no_wait; within = left plan r t op i.next; same = its.same; quiet = its.quiet; lets = its.lets }) refl refl refl refl refl refl refl refl)

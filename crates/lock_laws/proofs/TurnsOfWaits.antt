@@ -1,18 +1,18 @@
 -- The turns of a thread with a marked list, and of a woken one: their steps may be made, and leave the run on track.
-use Rattle.std.proofs.Common.{◌≡◌, ◌≢◌, ℕ, ◌<◌, true, cond, List, [], ◌∷◌, length, slice_get, Option, Some, None, refl, sym, ap, arith, ◌∙◌, subst}
+use Rattle.std.proofs.Common.{◌≡◌, ◌≢◌, ℕ, ◌<◌, true, cond, List, [], ◌∷◌, length, Option, Some, None, refl, sym, ap, ◌∙◌, subst}
 use Rattle.std.proofs.lemmas.Bool.{eqb-true}
 use Rattle.std.proofs.lemmas.Option.{same_Some}
 use Rattle.lock_model.specs.Holds.{Hold, NotHeld, Holds, is_unheld}
 use Rattle.lock_model.specs.Events.{sleeps_on, of_sleep, fell_asleep}
-use Rattle.lock_model.specs.Plans.{config_of, operations_of}
+use Rattle.lock_model.specs.Plans.{config_of}
 use Rattle.lock_model.specs.Config.{Config}
 use Rattle.lock_model.specs.Queues.{Mark, Cause, BySignal, chan_queue}
 use Rattle.lock_state.specs.State.{State, Queued, Running, Woken, put}
 use Rattle.lock_state.specs.Steps.{Marks, Resumes}
 use Rattle.lock_state.specs.Steps.LockWords.{is_taking_back}
 use Rattle.lock_state.specs.Steps.SleepQueues.{has_slept}
-use Rattle.lock_state.specs.Steps.Turnstiles.{MayMark, MayResume, HasReleased, wanted_after, after_mark, after_resume}
-use Rattle.lock_state.specs.Facts.{QueuedStands}
+use Rattle.lock_state.specs.Steps.Turnstiles.{MayMark, MayResume, HasReleased, wanted_after, taking_by, noted_after, after_mark, after_resume}
+use Rattle.lock_state.specs.Facts.{QueuedStands, WokenWants}
 use Rattle.lock_state.specs.Facts.Sleeps.{WokenSlept, WokenBySignal}
 use Rattle.lock_state.specs.Run.{Run, waits_on, to_release, does}
 use Rattle.lock_model.specs.declared.event.Event.{Event}
@@ -22,9 +22,9 @@ use Rattle.lock_model.specs.declared.plan.Plan.{Plan}
 use Rattle.lock_model.specs.declared.plan.QueueName.{QueueName}
 use Rattle.lock_model.specs.declared.plan.QueueName.TheVariants.{Lock, Chan}
 use Rattle.lock_model.specs.declared.turn.StepKind.TheVariants as kind
-use Rattle.lock_laws.specs.OnTrack.{IsOnTrack, OwesNothing, TakesLock}
+use Rattle.lock_laws.specs.OnTrack.{IsOnTrack, OwesNothing}
 use Rattle.lock_laws.proofs.Kit.{at_put, put_same, put_other, each_place}
-use Rattle.lock_laws.proofs.OnTrack.{KeepsTrack, none_unnoted, is_there, there_wanting}
+use Rattle.lock_laws.proofs.OnTrack.{KeepsTrack, MayWant, none_unnoted, is_there, there_wanting, waits_uncut}
 
 -- a thread whose newest entry is the Sleeps entry of a channel waits there
 pub slept_waits : (d : ℕ) (es : List Entry) → has_slept d es ≡ true → waits_on es ≡ Some d
@@ -65,8 +65,8 @@ module _ (plan : Plan) (r : Run) (t : ℕ) (k : IsOnTrack plan r) (lt : t < leng
         (λ v ne. rw (put_other s.wait m.thread (Woken m.queue m.cause) v ne, put_other s.blocked_on m.thread None v ne) (k.lawful.queued_stands v)) u;
     noted = none_unnoted plan r t k;
     no_halts = k.no_halts;
-    entries = omega arith;
     there = is_there plan r t k;
+    back = λ d e runs. k.back_wants t d e (at_put (λ v w. w ≡ Running → s.wait v ≡ Running) s.wait m.thread (Woken m.queue m.cause) (λ x. absurd cc) (λ v ne x. x) t runs);
   }
 
   -- 2. A resume
@@ -87,23 +87,42 @@ module _ (plan : Plan) (r : Run) (t : ℕ) (k : IsOnTrack plan r) (lt : t < leng
         released (Lock l) i = tt
         released (Chan d) i = unheld d.0 i
 
-    -- what it wants then
+    -- what it wants and takes then
     abbrev wanted : Option ℕ
     wanted = wanted_after c q cause (is_taking_back (s.log t)) (s.wanted t)
 
-    abbrev Wants : QueueName → Cause → ℕ → Type 0
-    Wants x y l =
-        wanted_after c x y (is_taking_back (s.log t)) (s.wanted t) ≡ Some l → TakesLock c l (waits_on (s.log t)) (slice_get (operations_of plan t) (r.next_op t)) × (s.held t l ≡ NotHeld)
+    -- from a channel the lock of its wait, and from a lock's queue what it wanted
+    abbrev Wants : QueueName → Cause → Type 0
+    Wants x y =
+        let w : Option ℕ = wanted_after c x y (is_taking_back (s.log t)) (s.wanted t) in
+        MayWant plan r t w × (taking_by c x (s.taking t) ≡ w) × ((d : ℕ) → waits_on (s.log t) ≡ Some d → w ≡ Some (c.chan_lock d))
 
-    wants : (l : ℕ) → Wants q cause l
+    signal : cause ≡ BySignal
     unfolding WokenBySignal
-    wants l = rw (k.sleepers.woken_by_signal t q cause e) (go q refl)
+    signal = k.sleepers.woken_by_signal t q cause e
+
+    wants : Wants q cause
+    unfolding WokenWants
+    wants = rw signal (go q refl)
       where
-        go : (x : QueueName) → q ≡ x → Wants x BySignal l
-        go (Lock j) i w = (k.wants t l w, k.wants_unheld t l w)
-        go (Chan d) i w =
-            let same : c.chan_lock d.0 ≡ l = same_Some (c.chan_lock d.0) l w in
-            (rw (waits d.0 i) same, subst (λ j. s.held t j ≡ NotHeld) same (unheld d.0 i))
+        go : (x : QueueName) → q ≡ x → Wants x BySignal
+        go (Lock j) i = (
+          record { takes = k.wants t; unheld = k.wants_unheld t; uncut = k.cut_wants_nothing t },
+          k.taking t,
+          λ d w.
+              let its = k.lawful.lawful.waits.woken_wants t j.0 (e ∙ ap (λ x. Woken x cause) i ∙ ap (Woken (Lock j)) signal) in
+              let same : c.chan_lock d ≡ j.0 = rw w at (k.wants t j.0 its) in
+              its ∙ ap Some (sym same),
+        )
+        go (Chan d) i = (
+          record {
+            takes = λ l w. rw (waits d.0 i) (same_Some (c.chan_lock d.0) l w);
+            unheld = λ l w. subst (λ j. s.held t j ≡ NotHeld) (same_Some (c.chan_lock d.0) l w) (unheld d.0 i);
+            uncut = λ x. absurd (let z = sym x ∙ waits_uncut plan r t k d.0 (waits d.0 i) in cc);
+          },
+          refl,
+          λ j w. ap (λ n. Some (c.chan_lock n)) (same_Some d.0 j (sym (waits d.0 i) ∙ w)),
+        )
 
     pub resumed : KeepsTrack plan r t (does kind.Resume (Resumes t q cause ∷ []))
     unfolding after_resume QueuedStands
@@ -113,6 +132,9 @@ module _ (plan : Plan) (r : Run) (t : ℕ) (k : IsOnTrack plan r) (lt : t < leng
       stands = at_put (λ v w. w ≡ Queued → s.blocked_on v ≢ None) s.wait t Running (λ e. absurd cc) (λ v ne. k.lawful.queued_stands v);
       noted = none_unnoted plan r t k;
       no_halts = k.no_halts;
-      entries = omega arith;
-      there = rw (put_same s.wanted t wanted) (there_wanting plan r t wanted k wants);
+      there = rw (put_same s.wanted t wanted, put_same s.taking t (taking_by c q (s.taking t)), still) (there_wanting plan r t wanted (taking_by c q (s.taking t)) k wants.1 wants.0);
+      back = λ d w runs. put_same s.wanted t wanted ∙ wants.2 d w;
     }
+      where
+        still : put s.noted t (noted_after q cause (is_taking_back (s.log t)) (s.noted t)) t ≡ s.noted t
+        still = put_same s.noted t _ ∙ rw signal refl

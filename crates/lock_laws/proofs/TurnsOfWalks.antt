@@ -42,7 +42,7 @@ module _ (plan : Plan) (r : Run) (t : ℕ) (p : IsProper plan) (k : IsOnTrack pl
 
   pub lent : (l o h : ℕ) → KeepsTrack plan r t (does kind.Lend (Lends t l o h ∷ []))
   unfolding after_lend
-  lent l o h = record { asks = (tt, tt); out = k.lawful.nothing_out; stands = k.lawful.queued_stands; noted = none_unnoted plan r t k; no_halts = k.no_halts; entries = omega arith; there = is_there plan r t k }
+  lent l o h = record { asks = (tt, tt); out = k.lawful.nothing_out; stands = k.lawful.queued_stands; noted = none_unnoted plan r t k; no_halts = k.no_halts; there = is_there plan r t k; back = k.back_wants t }
 
   -- a walk with nothing to do
   pub may_end : (w : Walk) → s.walk t ≡ w → IsAtEnd c s w → MayEndWalk c s t
@@ -58,7 +58,7 @@ module _ (plan : Plan) (r : Run) (t : ℕ) (p : IsProper plan) (k : IsOnTrack pl
 
   pub walk_ended : KeepsTrack plan r t (does kind.WalkEnd (EndsWalk t ∷ []))
   unfolding after_end_walk
-  walk_ended = record { asks = (tt, tt); out = k.lawful.nothing_out; stands = k.lawful.queued_stands; noted = none_unnoted plan r t k; no_halts = k.no_halts; entries = omega arith; there = is_there plan r t k }
+  walk_ended = record { asks = (tt, tt); out = k.lawful.nothing_out; stands = k.lawful.queued_stands; noted = none_unnoted plan r t k; no_halts = k.no_halts; there = is_there plan r t k; back = k.back_wants t }
 
   -- 2. A walk at a thread
 
@@ -69,7 +69,7 @@ module _ (plan : Plan) (r : Run) (t : ℕ) (p : IsProper plan) (k : IsOnTrack pl
 
   pub shifted : (o l : ℕ) → KeepsTrack plan r t (does kind.Shift (Shifts t o l ∷ []))
   unfolding after_shift
-  shifted o l = record { asks = (tt, tt); out = k.lawful.nothing_out; stands = k.lawful.queued_stands; noted = none_unnoted plan r t k; no_halts = k.no_halts; entries = omega arith; there = is_there plan r t k }
+  shifted o l = record { asks = (tt, tt); out = k.lawful.nothing_out; stands = k.lawful.queued_stands; noted = none_unnoted plan r t k; no_halts = k.no_halts; there = is_there plan r t k; back = k.back_wants t }
 
   pub may_end_at_thread : (o : ℕ) → s.walk t ≡ AtThread o → ((l : LockNo) → s.blocked_on o ≡ Some (Lock l) → stands_at plan r o l.0 ≡ false) → MayEndWalk c s t
   may_end_at_thread o w off = may_end (AtThread o) w (λ l i j.

@@ -4,12 +4,13 @@ use Rattle.lock_model.specs.Config.{Config}
 use Rattle.lock_model.specs.Queues.{lock_queue}
 use Rattle.lock_model.specs.Words.{is_turnstile, owner_of}
 use Rattle.lock_state.specs.State.{State, Walk, NoWalk, AtLock, put}
-use Rattle.lock_state.specs.Steps.{Step, Seeks, Looks, TakesItem, GivesItem, Gains, Drops, Stamps, Readies, Unreadies, Enters, Opens, EntersSleepQueue, OpensSleepQueue, Adds, Wakes, Marks, Resumes, Claims, Lends, Shifts, EndsWalk, May, MayAll, after, after_all}
+use Rattle.lock_state.specs.Steps.{Step, Seeks, Looks, TakesItem, GivesItem, Gains, Drops, Stamps, Readies, Unreadies, Enters, Opens, EntersSleepQueue, OpensSleepQueue, Adds, Wakes, Marks, Resumes, Claims, Lends, Shifts, EndsWalk, Admits, Refuses, May, MayAll, after, after_all}
 use Rattle.lock_state.specs.Steps.Items.{after_take, after_give}
 use Rattle.lock_state.specs.Steps.LockWords.{after_seek, after_look, after_gain, after_drop, after_stamp, after_ready, after_unready}
 use Rattle.lock_state.specs.Steps.Turnstiles.{walk_up, after_enter, after_open, after_mark, after_resume}
 use Rattle.lock_state.specs.Steps.SleepQueues.{after_enter_sleep, after_open_sleep, after_add, after_wake}
 use Rattle.lock_state.specs.Steps.Lending.{walk_to, after_claim, after_lend, after_shift, after_end_walk}
+use Rattle.lock_state.specs.Steps.Orders.{after_admit, after_refuse}
 use Rattle.lock_laws.specs.OnTrack.{WalksAtTurnstiles}
 use Rattle.lock_laws.proofs.Kit.{at_put}
 
@@ -27,7 +28,7 @@ module _ (c : Config) (s : State) (h : WalksAtTurnstiles c s.walk) where
   to o false l i = absurd cc
 
   keeps : (step : Step) → May c s step → WalksAtTurnstiles c (after c s step).walk
-  unfolding after_seek after_look after_take after_give after_gain after_drop after_stamp after_ready after_unready after_enter after_open after_mark after_resume after_enter_sleep after_open_sleep after_add after_wake after_claim after_lend after_shift after_end_walk
+  unfolding after_seek after_look after_take after_give after_gain after_drop after_stamp after_ready after_unready after_enter after_open after_mark after_resume after_enter_sleep after_open_sleep after_add after_wake after_claim after_lend after_shift after_end_walk after_admit after_refuse
   keeps (Seeks t l by_try) g = h
   keeps (Looks t l in_round) g = h
   keeps (TakesItem t i) g = h
@@ -49,6 +50,8 @@ module _ (c : Config) (s : State) (h : WalksAtTurnstiles c s.walk) where
   keeps (Lends t l o x) g = moved t _ (to o _)
   keeps (Shifts t o l) g = moved t _ (up l (s.owner (lock_queue l)) g.turnstile)
   keeps (EndsWalk t) g = moved t NoWalk (λ l i. absurd cc)
+  keeps (Admits t l) g = h
+  keeps (Refuses t l k) g = h
 
 pub walks_keep : (c : Config) (s : State) (steps : List Step) → MayAll c s steps → WalksAtTurnstiles c s.walk → WalksAtTurnstiles c (after_all c s steps).walk
 walks_keep c s [] g h = h

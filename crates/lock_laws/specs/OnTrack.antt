@@ -1,31 +1,24 @@
 -- What is true of a scheduled run between two turns: its state is lawful, and each thread is where its operations have
 -- led it.
-use Rattle.std.specs.Prelude.{◌≡◌, ◌≢◌, ℕ, ◌+◌, ◌*◌, ◌≤◌, true, false, if◌then◌else◌, List, [], length, map, reverse, slice_get, Option, Some, None}
+use Rattle.std.specs.Prelude.{◌≡◌, ◌≢◌, ℕ, ◌≤◌, Bool, true, false, if◌then◌else◌, List, [], length, map, take, reverse, slice_get, Option, Some, None}
 use Rattle.lock_model.specs.Config.{Config}
 use Rattle.lock_model.specs.Plans.{config_of, operations_of}
-use Rattle.lock_model.specs.Counts.{sum_below, some}
 use Rattle.lock_model.specs.Operations.{hold_in, held_of, without_lock}
 use Rattle.lock_model.specs.Holds.{Hold, NotHeld, is_unheld}
 use Rattle.lock_model.specs.Words.{is_turnstile}
 use Rattle.lock_state.specs.State.{HeldLock, Running, Queued, Walk, NoWalk, AtLock}
 use Rattle.lock_model.specs.History.{open_in, left_in, entries_of}
-use Rattle.lock_model.specs.Law.{LeadsTo, Place, Before, Asleep, HaltsOnlyWhenRunning}
-use Rattle.lock_state.specs.Facts.{LawfulTurn}
-use Rattle.lock_state.specs.Steps.{is_with}
-use Rattle.lock_state.specs.Run.{Run, has_ended, waits_on, lock_of_wait, owed_release}
+use Rattle.lock_model.specs.Law.{LeadsTo, Place, Before, Asleep, Cut, HaltsOnlyWhenRunning}
+use Rattle.lock_state.specs.Facts.{LawfulTurn, Ordered, Taken}
+use Rattle.lock_state.specs.Steps.{Admits, after, is_with}
+use Rattle.lock_state.specs.Run.{Run, has_ended, was_cut, waits_on, lock_of_wait, owed_release}
 use Rattle.lock_model.specs.declared.plan.Op.{Op}
 use Rattle.lock_model.specs.declared.plan.Op.TheVariants.{Take, Try, EndTry, Release, Set, Add, Get, Base, Show, Sleep, WakeOne, WakeAll}
 use Rattle.lock_model.specs.declared.plan.Plan.{Plan}
 use Rattle.lock_model.specs.declared.event.Held.{Held}
+use Rattle.lock_model.specs.declared.plan.Mode.{Mode}
+use Rattle.lock_model.specs.declared.numbers.LockNo.{LockNo}
 use Rattle.lock_laws.specs.Sleepers.{SleepersFit, nobody}
-
--- where a thread is in its operations: before its next one, or asleep in that, a wait
-abbrev pub place_by : ℕ → Option ℕ → Place
-place_by n None = Before n
-place_by n (Some d) = Asleep n
-
-abbrev pub place_in : Run → ℕ → Place
-place_in r t = place_by (r.next_op t) (waits_on (r.state.log t))
 
 -- what its operations so far lead to, in order of gaining
 abbrev pub held_before : Plan → Run → ℕ → List Held
@@ -37,11 +30,28 @@ without_unheld held None hs = hs
 without_unheld held (Some l) hs = if is_unheld (held l) then without_lock l hs else hs
 
 -- what a thread holds now: what its operations so far lead to, but for the lock of its wait, from its release until it
--- is taken back
+-- is taken back. One that was cut holds the first of them, as many as it has left
 abbrev pub held_now : Plan → Run → ℕ → List Held
 held_now plan r t =
-    without_unheld (r.state.held t) (lock_of_wait (config_of plan) r.state t)
+    if was_cut r.state t
+    then take (length (r.state.held_locks t)) (held_before plan r t)
+    else without_unheld (r.state.held t) (lock_of_wait (config_of plan) r.state t)
     (held_before plan r t)
+
+-- where a thread is in its operations: before its next one, or asleep in that, a wait; or it was cut, and gives back what
+-- it holds
+abbrev pub place_by : Bool → List Held → ℕ → Option ℕ → Place
+place_by true held n w = Cut (reverse held)
+place_by false held n None = Before n
+place_by false held n (Some d) = Asleep n
+
+abbrev pub place_in : Plan → Run → ℕ → Place
+place_in plan r t =
+    place_by (was_cut r.state t) (held_now plan r t) (r.next_op t) (waits_on (r.state.log t))
+
+-- the run in which the lock of a take was admitted, and the take goes on
+abbrev pub admitted : Plan → Run → ℕ → LockNo → Run
+admitted plan r t l = record r { state = after (config_of plan) r.state (Admits t l.0) }
 
 -- held locks as a state lists them, the one gained last first
 abbrev pub gained_order : List Held → List HeldLock
@@ -84,15 +94,13 @@ pub record IsOnTrack (plan : Plan) (r : Run) : Type 0 where
   pub within : (t : ℕ) → r.next_op t ≤ length (operations_of plan t)
   -- nor is it at an endtry, which takes no turn
   pub no_endtry : (t : ℕ) → slice_get (operations_of plan t) (r.next_op t) ≢ Some EndTry
-  -- each operation that is behind it has made two entries at most, and a wait that it is in has made one
-  pub entries : length r.state.history
-      ≤ sum_below (length plan.threads) (λ t. 2 * r.next_op t + some (waits_on (r.state.log t)))
-  -- the entries follow the operations, to the wait that it is in
+  -- the entries follow the operations, to where it is
   pub follows : (t : ℕ) → LeadsTo (config_of plan).kind (operations_of plan t)
-      (entries_of r.state.history t) (place_in r t)
+      (entries_of r.state.history t) (place_in plan r t)
   pub waiting : (t d : ℕ) → waits_on (r.state.log t) ≡ Some d
       → slice_get (operations_of plan t) (r.next_op t) ≡ Some (Sleep (record { 0 = d }))
-  -- each thread holds what its operations so far lead to, but for the lock of its wait,
+  -- each thread holds what its operations so far lead to, but for the lock of its wait and what it gave back when it was
+  -- cut,
   pub holds : (t l : ℕ) → r.state.held t l ≡ hold_in (held_now plan r t) l
   pub listed : (t : ℕ) → r.state.held_locks t ≡ gained_order (held_now plan r t)
   -- which it held as it will take it back,
@@ -106,6 +114,16 @@ pub record IsOnTrack (plan : Plan) (r : Run) : Type 0 where
       → TakesLock (config_of plan) l (waits_on (r.state.log t))
       (slice_get (operations_of plan t) (r.next_op t))
   pub wants_unheld : (t l : ℕ) → r.state.wanted t ≡ Some l → r.state.held t l ≡ NotHeld
+  -- one that was cut wants nothing, and one that goes on behind a wait wants the lock of it
+  pub cut_wants_nothing : (t : ℕ) → was_cut r.state t ≡ true → r.state.wanted t ≡ None
+  pub back_wants : (t d : ℕ) → waits_on (r.state.log t) ≡ Some d → r.state.wait t ≡ Running
+      → r.state.wanted t ≡ Some ((config_of plan).chan_lock d)
+  -- a lock is being taken exactly while it is wanted, and nothing is left to note
+  pub taking : (t : ℕ) → r.state.taking t ≡ r.state.wanted t
+  pub unnoted : (t : ℕ) → r.state.noted t ≡ None
+  -- the class graph orders what is held and wanted, and has the edges of takes
+  pub ordered : Ordered (config_of plan) r.state
+  pub taken : Taken (config_of plan) r.state
   -- a walk goes over locks with turnstiles
   pub walks : WalksAtTurnstiles (config_of plan) r.state.walk
 
@@ -115,11 +133,23 @@ pub record OwesNothing (plan : Plan) (r : Run) (t : ℕ) : Type 0 where
   pub unmarked : r.state.marked t ≡ []
   pub released : owed_release (config_of plan) r.state t ≡ None
 
--- a running thread at its next operation, where it has one left
+-- a running thread that was cut, and owes nothing
+pub record IsCutShort (plan : Plan) (r : Run) (t : ℕ) : Type 0 where
+  pub running : r.state.wait t ≡ Running
+  pub free : OwesNothing plan r t
+  pub cut : was_cut r.state t ≡ true
+
+-- a running thread that wasn't cut and owes nothing, at its next operation, where it has one left
 pub record IsAtOperation (plan : Plan) (r : Run) (t : ℕ) (o : Option Op) : Type 0 where
   pub running : r.state.wait t ≡ Running
   pub free : OwesNothing plan r t
+  pub uncut : was_cut r.state t ≡ false
   pub next : slice_get (operations_of plan t) (r.next_op t) ≡ o
+
+-- a running thread at the first turn of a take: the lock isn't wanted yet
+pub record BeginsTake (plan : Plan) (r : Run) (t : ℕ) (l : LockNo) (mode : Mode) : Type 0 where
+  pub at : IsAtOperation plan r t (Some (Take l mode))
+  pub wants : r.state.wanted t ≡ None
 
 -- a thread that sleeps: it hasn't ended, its wait word says Queued, and it owes nothing
 pub record IsSleeping (plan : Plan) (r : Run) (t : ℕ) : Type 0 where

@@ -5,7 +5,7 @@ use Rattle.lock_model.specs.Config.{Config}
 use Rattle.lock_state.specs.State.{State, Wait, Round}
 use Rattle.lock_state.specs.Steps.LockWords.{is_woken}
 use Rattle.lock_state.specs.Steps.Items.{Item, item_with}
-use Rattle.lock_state.specs.Steps.{Step, Seeks, Looks, TakesItem, GivesItem, Gains, Drops, Stamps, Readies, Unreadies, Enters, Opens, EntersSleepQueue, OpensSleepQueue, Adds, Wakes, Marks, Resumes, Claims, Lends, Shifts, EndsWalk, chain_of}
+use Rattle.lock_state.specs.Steps.{Step, Seeks, Looks, TakesItem, GivesItem, Gains, Drops, Stamps, Readies, Unreadies, Enters, Opens, EntersSleepQueue, OpensSleepQueue, Adds, Wakes, Marks, Resumes, Claims, Lends, Shifts, EndsWalk, Admits, Refuses, chain_of}
 use Rattle.lock_model.specs.declared.plan.QueueName.{QueueName}
 
 -- the round of a blocking call that has taken the lock's chain
@@ -54,3 +54,5 @@ EndsRound (Claims u k h by_try) t l = (u ≡ t) × (k ≡ l)
 EndsRound (Lends u k o h) t l = ⊥
 EndsRound (Shifts u o k) t l = ⊥
 EndsRound (EndsWalk u) t l = ⊥
+EndsRound (Admits u k) t l = ⊥
+EndsRound (Refuses u k class) t l = ⊥

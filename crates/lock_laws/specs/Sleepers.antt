@@ -6,7 +6,7 @@ use Rattle.lock_model.specs.Law.{WakingsNameSleepers, sleeps_on}
 use Rattle.lock_model.specs.Queues.{chan_queue, stands}
 use Rattle.lock_state.specs.State.{State, Wake}
 use Rattle.lock_state.specs.Steps.Items.{IsOnItsWay}
-use Rattle.lock_state.specs.Steps.{Step, Seeks, Looks, TakesItem, GivesItem, Gains, Drops, Stamps, Readies, Unreadies, Enters, Opens, EntersSleepQueue, OpensSleepQueue, Adds, Wakes, Marks, Resumes, Claims, Lends, Shifts, EndsWalk, after}
+use Rattle.lock_state.specs.Steps.{Step, Seeks, Looks, TakesItem, GivesItem, Gains, Drops, Stamps, Readies, Unreadies, Enters, Opens, EntersSleepQueue, OpensSleepQueue, Adds, Wakes, Marks, Resumes, Claims, Lends, Shifts, EndsWalk, Admits, Refuses, after}
 use Rattle.lock_state.specs.Facts.Waits.{times_marked}
 unfoldable pub use Rattle.lock_state.specs.Facts.Sleeps.{NamedAreWoken, MarksAreSignals, WokenBySignal, NoSleepIsHalted, SleepersSlept, WokenSlept, ResumedSlept, SleepersWantNothing, SleepersAreUnwoken, AsleepStandThere, AsleepAreOnTheirWay, SleepersInOrder, LatecomersAreLater, SleepersKeepBase, SleepersAreExclusive, UnnotedAreMarked, UnnotedIsAtWork, UnnotedIsFair, NobodyIsPassedOver}
 
@@ -98,6 +98,8 @@ AsksOfSleepers at_work s (Claims t l h by_try) = ⊤
 AsksOfSleepers at_work s (Lends t l o h) = ⊤
 AsksOfSleepers at_work s (Shifts t o l) = ⊤
 AsksOfSleepers at_work s (EndsWalk t) = ⊤
+AsksOfSleepers at_work s (Admits t l) = ⊤
+AsksOfSleepers at_work s (Refuses t l k) = ⊤
 
 -- what each step of a list asks where it comes
 abbrev pub AsksOfSleepersAll : (ℕ → Option ℕ) → Config → State → List Step → Type 0

@@ -8,6 +8,7 @@
 //! - `sleeps`: on a running floor, and in the turns of a scheduled run, each waking names the sleepers whom it should.
 //! - `priorities`: where no walk is under way and nobody waits in a cycle, each effective priority is the best
 //!   behind it.
+//! - `orders`: steps that keep to the order of locks keep the class graph without a cycle, so no threads wait in one.
 //! - `waits`: a thread stands at most once, on one queue, and a lock's word shows it.
 //! - `books`: the table of a lock is what the history leaves, and what a stamp of each class of event keeps.
 //! - `objects`: where turnstiles, loan nodes and waiters are.
@@ -21,6 +22,7 @@ pub mod floor;
 pub mod kinds;
 pub mod legal;
 pub mod objects;
+pub mod orders;
 pub mod priorities;
 pub mod runs;
 pub mod scripts;

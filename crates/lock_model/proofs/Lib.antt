@@ -3,3 +3,4 @@ mod Spelled
 pub mod Lists
 pub mod LeastCodes
 pub mod HeldLocks
+pub mod Orders

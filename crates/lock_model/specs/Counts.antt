@@ -1,6 +1,6 @@
--- Sums, least numbers and how often a number stands somewhere. The facts of a state are equations between these, so
--- that "exactly one" and "at most one" are said by numbers.
-use Rattle.std.specs.Prelude.{ℕ, zero, suc, ◌+◌, Bool, true, false, ◌||◌, ◌==◌, min, List, [], ◌∷◌, Option, Some, None}
+-- Sums, least numbers, how often a number stands somewhere, and sets of numbers as bits. The facts of a state are
+-- equations between these, so that "exactly one" and "at most one" are said by numbers.
+use Rattle.std.specs.Prelude.{ℕ, zero, suc, ◌+◌, ◌/◌, ◌%◌, ◌^◌, Bool, true, false, ◌||◌, ◌==◌, min, List, [], ◌∷◌, Option, Some, None}
 
 -- f 0 + .. + f (n - 1)
 unfoldable pub sum_below : ℕ → (ℕ → ℕ) → ℕ
@@ -51,3 +51,7 @@ least_with d (n ∷ ns) = min n (least_with d ns)
 unfoldable pub least : ℕ → (ℕ → Option ℕ) → ℕ → ℕ
 least zero f d = d
 least (suc n) f d = lower (f n) (least n f d)
+
+-- whether a set of numbers, as bits, has the number
+unfoldable pub has_bit : ℕ → ℕ → Bool
+has_bit n bits = bits / 2 ^ n % 2 == 1

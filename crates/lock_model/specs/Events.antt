@@ -1,4 +1,5 @@
--- What an event says of sleepers: the one place in which each event is sorted by it.
+-- What an event says of sleepers: the one place in which each event is sorted by it; and the base priority that it gives
+-- its thread.
 use Rattle.std.specs.Prelude.{ℕ, Bool, true, false, ◌==◌, Option, Some, None}
 use Rattle.lock_model.specs.declared.event.Event.{Event}
 use Rattle.lock_model.specs.declared.event.Event.TheVariants.{Locked, Tried, Busy, Unlocked, Set, Added, Got, Base, Shown, Sleeps, Woke, HaltedChan, HaltedLock, WokeOne, WokeAll, Reversed}
@@ -33,6 +34,25 @@ of_sleep (HaltedLock l) = IsHaltedAtLock l.0
 of_sleep (WokeOne d woken) = WakesOne d.0 woken
 of_sleep (WokeAll d woken) = WakesAll d.0 woken
 of_sleep (Reversed l held) = NoSleep
+
+-- the base priority that its thread has from there on, where it gives it one
+abbrev pub new_base : Event → Option ℕ
+new_base (Locked l mode) = None
+new_base (Tried l mode) = None
+new_base (Busy l seen) = None
+new_base (Unlocked l mode) = None
+new_base (Set l k v) = None
+new_base (Added l k n) = None
+new_base (Got l k found) = None
+new_base (Base p) = Some p.0
+new_base (Shown b e) = None
+new_base (Sleeps d) = None
+new_base (Woke d) = None
+new_base (HaltedChan d) = None
+new_base (HaltedLock l) = None
+new_base (WokeOne d woken) = None
+new_base (WokeAll d woken) = None
+new_base (Reversed l held) = None
 
 -- whether its thread goes to sleep on the channel
 abbrev pub begins_sleep : OfSleep → ℕ → Bool

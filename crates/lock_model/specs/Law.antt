@@ -1,8 +1,8 @@
 -- The law of a history: what is true of the entries of every run of a plan, however its threads' steps came. A
 -- history is a list of entries, the newest first. The parts that speak of tables, sections and priorities stand in
 -- `History`.
-use Rattle.std.specs.Prelude.{◌≡◌, ℕ, suc, ◌/◌, ◌%◌, ◌^◌, Bool, true, false, not, ◌&&◌, ◌||◌, ◌==◌, nat_lt, if◌then◌else◌, List, [], ◌∷◌, length, reverse, slice_get, Option, Some, ⊤}
-use Rattle.lock_model.specs.Counts.{any_below}
+use Rattle.std.specs.Prelude.{◌≡◌, ℕ, suc, Bool, true, false, not, ◌&&◌, ◌||◌, ◌==◌, nat_lt, if◌then◌else◌, List, [], ◌∷◌, length, reverse, slice_get, Option, Some, ⊤}
+use Rattle.lock_model.specs.Counts.{any_below, has_bit}
 use Rattle.lock_model.specs.Config.{Config}
 pub use Rattle.lock_model.specs.Events.{sleeps_on}
 use Rattle.lock_model.specs.Events.{OfSleep, NoSleep, FallsAsleep, WakesUp, IsHalted, IsHaltedAtLock, WakesOne, WakesAll, of_sleep, ends_by_halt, is_by_halt}
@@ -12,6 +12,7 @@ use Rattle.lock_model.specs.Plans.{config_of, operations_of}
 use Rattle.lock_model.specs.Operations.{held_of, hold_in}
 unfoldable pub use Rattle.lock_model.specs.History.{TicketsRun, SectionsExclude, EditsInSections, ReadsReplay, ShownIsExplained}
 use Rattle.lock_model.specs.History.{entries_of, base_in}
+use Rattle.lock_model.specs.Takes.{OrdersAreLegal}
 use Rattle.lock_model.specs.declared.numbers.LockNo.{LockNo}
 use Rattle.lock_model.specs.declared.numbers.ChanNo.{ChanNo}
 use Rattle.lock_model.specs.declared.numbers.ClassNo.{ClassNo}
@@ -110,10 +111,6 @@ EntriesFollowOperations plan cut_short history =
     (t : ℕ) → FollowsOperations plan cut_short history t
 
 -- 2. A waking names sleepers, by their rank
-
--- whether a set of threads, as bits, has the thread
-unfoldable pub has_bit : ℕ → ℕ → Bool
-has_bit t bits = bits / 2 ^ t % 2 == 1
 
 -- whether it is a waking that names the thread
 abbrev pub names : OfSleep → ℕ → Bool
@@ -215,9 +212,9 @@ HaltsOnlyWhenRunning is_run [] = ⊤
 HaltsOnlyWhenRunning is_run (e ∷ es) =
     (is_run ≡ false → is_halt e.event ≡ false) × HaltsOnlyWhenRunning is_run es
 
--- 4. The law, but for what it says of lock orders, of the causes of halts, and of busy words. Is_run says whether
--- threads ran, or the run was a scheduled one; cut_short whether a scheduled run ended stuck or too long. Threads
--- that ran come to their end
+-- 4. The law, but for what it says of the causes of halts, of busy words, and of lock orders where threads ran. Is_run
+-- says whether they ran, or the run was a scheduled one; cut_short whether a scheduled run ended stuck or too long.
+-- Threads that ran come to their end. Of lock orders the law speaks where each take has come to its end
 
 pub record IsLegal (plan : Plan) (is_run cut_short : Bool) (history : List Entry) : Type 0 where
   pub tickets_run : TicketsRun history
@@ -228,3 +225,5 @@ pub record IsLegal (plan : Plan) (is_run cut_short : Bool) (history : List Entry
   pub wakings_name_sleepers : WakingsNameSleepers (config_of plan) history
   pub halts_only_when_running : HaltsOnlyWhenRunning is_run history
   pub shown_is_explained : ShownIsExplained (config_of plan) history
+  pub orders_are_legal : is_run ≡ false → cut_short ≡ false
+      → OrdersAreLegal (config_of plan) history

@@ -3,6 +3,8 @@ pub mod Tests
 pub mod Names
 pub mod Spelling
 pub mod Config
+pub mod Orders
+pub mod Takes
 pub mod Plans
 pub mod Script
 pub mod Words
@@ -11,6 +13,7 @@ pub mod Holds
 pub mod Queues
 pub mod History
 pub mod Operations
+pub mod OrderedPlans
 pub mod Events
 pub mod Law
 pub mod Text

@@ -3,7 +3,7 @@
 use Rattle.std.specs.Prelude.{◌≡◌, ℕ, suc, ◌+◌, ◌≤◌, ◌<◌, Bool, true, false, not, ◌&&◌, ◌||◌, ◌==◌, nat_lt, if◌then◌else◌, List, [], ◌∷◌, ◌++◌, length, map, sum, take, take_while, drop, fold, option_map, slice_get, Option, Some}
 use Rattle.std.specs.List.{All, list_all}
 use Rattle.lock_model.specs.Holds.{Hold, NotHeld, Holds, is_unheld, is_exclusive}
-use Rattle.lock_model.specs.Limits.{most_threads, most_locks, most_channels, most_held, most_operations, most_scheduled}
+use Rattle.lock_model.specs.Limits.{most_threads, most_locks, most_channels, most_classes, most_held, most_operations, most_scheduled}
 use Rattle.lock_model.specs.Plans.{operations_of}
 use Rattle.lock_model.specs.Tests.{Test, test, where_some, Passes}
 use Rattle.lock_model.specs.declared.plan.Kind.{Kind}
@@ -184,7 +184,8 @@ pub record Fit (locks : List LockDecl) (chans : List ChanDecl) (ops : List Op) :
 
 -- 4. Plans
 
--- the operations of all threads. A wait makes two entries, and every other operation one at most
+-- the operations of all threads. A wait makes two entries and every other operation one at most; and each lock that a cut
+-- thread gives back was gained by an operation that made one
 abbrev pub operations_in_all : Plan → ℕ
 operations_in_all plan = sum (map (λ d. length d.ops) plan.threads)
 
@@ -194,9 +195,11 @@ pub record IsProper (plan : Plan) : Type 0 where
   pub threads : length plan.threads ≤ most_threads
   pub locks : length plan.locks ≤ most_locks
   pub chans : length plan.chans ≤ most_channels
+  pub classes : length plan.classes ≤ most_classes
   pub operations : operations_in_all plan ≤ most_operations
   pub scheduled : length plan.schedule ≤ most_scheduled
   pub schedule : All (λ t. t.0 < length plan.threads) plan.schedule
-  -- a channel's lock is one of the plan's
+  -- a lock's class is one of the plan's, and so is a channel's lock
+  pub lock_classes : All (λ d. d.class.0 < length plan.classes) plan.locks
   pub chan_locks : All (λ d. d.lock.0 < length plan.locks) plan.chans
   pub fits : (t : ℕ) → Fit plan.locks plan.chans (operations_of plan t)

@@ -5,6 +5,7 @@ pub mod Lines
 pub mod Statements
 pub mod Learning
 pub mod Faults
+pub mod Canonical
 use Rattle.std.specs.Prelude.{◌≡◌, ℕ, suc, min, Bool, if◌then◌else◌, List, [], ◌∷◌, codes, Option, Some, None}
 use Rattle.lock_model.specs.Limits.{greatest_line}
 use Rattle.lock_model.specs.Script.Lines.{lines_of, is_same}

@@ -1,8 +1,9 @@
 -- The text that a run prints: a line for each entry of the history, for each queue that isn't empty, for each thread
 -- and for each key of the tables, and a last line that says how the run ended. A line is its words with one space
 -- between them, and byte 10. Numbers are decimal, and the words are those of the script.
-use Rattle.std.specs.Prelude.{ℕ, ◌/◌, ◌%◌, ◌==◌, if◌then◌else◌, List, [], ◌∷◌, ◌++◌, map, flat_map, codes, Option, Some, None, decimal}
+use Rattle.std.specs.Prelude.{ℕ, ◌/◌, ◌%◌, ◌==◌, if◌then◌else◌, List, [], ◌∷◌, ◌++◌, length, map, flat_map, codes, Option, Some, None, decimal}
 use Rattle.std.specs.List.{zip}
+use Rattle.lock_model.specs.Operations.{operations_in_all}
 pub use Rattle.lock_model.specs.Plans.{thread_name, lock_name, lock_kind, chan_name, is_cond, class_name}
 use Rattle.lock_model.specs.declared.plan.Kind.{Kind}
 use Rattle.lock_model.specs.declared.plan.Kind.TheVariants.{Mtx, Rw, Sx}
@@ -169,3 +170,15 @@ text_of plan o =
 -- the text for a source that is no script
 abbrev pub fault_text : ℕ → ℕ → List ℕ
 fault_text line code = line_of (codes "line") (decimal line ∷ codes "code" ∷ decimal code ∷ [])
+
+-- how many threads, locks, conditions together with channels and classes a script has, and so many operations
+abbrev pub count_words : Plan → ℕ → List (List ℕ)
+count_words plan operations =
+    codes "threads" ∷ decimal (length plan.threads) ∷ codes "locks" ∷ decimal (length plan.locks)
+    ∷ codes "channels" ∷ decimal (length plan.chans)
+    ∷ codes "classes" ∷ decimal (length plan.classes)
+    ∷ codes "operations" ∷ decimal operations ∷ []
+
+-- the text for a script that is only read; each `endtry` is an operation
+abbrev pub counts_text : Plan → List ℕ
+counts_text plan = line_of (codes "ok") (count_words plan (operations_in_all plan))

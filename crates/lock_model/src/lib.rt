@@ -7,6 +7,7 @@
 //! - `plan`: what a script says: locks, channels, threads with their operations, and a schedule.
 //! - `event`: what happened in a run, and why something was refused.
 //! - `turn`: what a turn of the scheduled run answers.
+//! - `words`: words and numbers, as they are pushed onto a text.
 //! - `limits`: the most of each.
 #![tactic(auto)]
 
@@ -17,6 +18,7 @@ mod numbers;
 mod plan;
 mod sequence;
 mod turn;
+mod words;
 
 pub use event::{Busy, Entry, Event, Halted, Held, Refused, Reversal, place_held};
 pub use name::Name;
@@ -24,3 +26,4 @@ pub use numbers::{ChanNo, ClassNo, LockNo, Prio, ThreadNo};
 pub use plan::{ChanDecl, Declared, Kind, LockDecl, Mode, Op, Plan, QueueName, Side, ThreadDecl};
 pub use sequence::Sequence;
 pub use turn::{StepKind, Turn};
+pub use words::{push_digits, push_number, push_word};

@@ -1,10 +1,11 @@
 //! What a script says: its classes, locks and channels, its threads with their operations, and whose
 //! turns the scheduled run begins with.
-ghost use Rattle.std.specs.Prelude.{◌≡◌, ℕ, ◌↔◌, ◌||◌, ◌==◌, IsTrue, IfOk, OnOk, option_map, option_to_list};
+ghost use Rattle.std.specs.Prelude.{◌≡◌, ℕ, ◌<◌, ◌^◌, ◌↔◌, ◌||◌, ◌==◌, IsTrue, IfOk, OnOk, option_map, option_to_list};
 ghost use Rattle.std.specs.List.{Contains, list_any};
 ghost use Rattle.std.specs.List.Sorted.{IsStrictlyIncreasing};
 ghost use Rattle.lock_model.specs.Keys.{place_of, op_names, plan_names};
-ghost use Rattle.lock_model.specs.Plans.{operations_of};
+ghost use Rattle.lock_model.specs.Operations.{operations_in_all};
+ghost use Rattle.lock_model.specs.Plans.{operations_of, thread_name, lock_name, lock_kind, chan_name, is_cond, class_name};
 
 use crate::name::Name;
 use crate::numbers::{ChanNo, ClassNo, LockNo, Prio, ThreadNo};
@@ -141,6 +142,7 @@ pub struct ThreadDecl {
 /// ```
 /// let keys = plan.keys_of(alloc, LockNo(0))?;
 /// let first = plan.operations_of(ThreadNo(0)).first();
+/// let name = plan.thread_name(ThreadNo(0));
 /// ```
 #[derive(Drop, Debug)]
 pub struct Plan {
@@ -235,6 +237,78 @@ impl Plan {
         match self.threads.as_slice().get(usize::from(t.0)) {
             Some(thread) => thread.ops.as_slice(),
             None => &[],
+        }
+    }
+
+    /// How many operations all threads have together. Each `endtry` counts as one.
+    pub fn operations_in_all(&self) -> u32
+        requires { operations_in_all self.now < 2 ^ 32 }
+        ensures { result ≡ operations_in_all self.now }
+    {
+        let mut all = 0;
+        for thread in self.threads.as_slice() {
+            all += thread.ops.as_slice().len() as u32;
+        }
+        all
+    }
+
+    /// The name of a thread, and no bytes where the plan has no thread of that number.
+    pub fn thread_name(&self, t: ThreadNo) -> &[u8]
+        ensures { result.now ≡ thread_name self.now t.0 }
+    {
+        match self.threads.as_slice().get(usize::from(t.0)) {
+            Some(thread) => thread.name.as_bytes(),
+            None => b"",
+        }
+    }
+
+    /// The name of a lock, and no bytes where the plan has no lock of that number.
+    pub fn lock_name(&self, l: LockNo) -> &[u8]
+        ensures { result.now ≡ lock_name self.now l.0 }
+    {
+        match self.locks.as_slice().get(usize::from(l.0)) {
+            Some(lock) => lock.name.as_bytes(),
+            None => b"",
+        }
+    }
+
+    /// The kind of a lock, and that of a mutex where the plan has no lock of that number.
+    pub fn lock_kind(&self, l: LockNo) -> Kind
+        ensures { result ≡ lock_kind self.now l.0 }
+    {
+        match self.locks.as_slice().get(usize::from(l.0)) {
+            Some(lock) => lock.kind,
+            None => Kind::Mtx,
+        }
+    }
+
+    /// The name of a condition variable or channel, and no bytes where the plan has none of that number.
+    pub fn chan_name(&self, c: ChanNo) -> &[u8]
+        ensures { result.now ≡ chan_name self.now c.0 }
+    {
+        match self.chans.as_slice().get(usize::from(c.0)) {
+            Some(chan) => chan.name.as_bytes(),
+            None => b"",
+        }
+    }
+
+    /// Whether it is a condition variable, and not a channel. So it is where the plan has none of that number.
+    pub fn is_cond(&self, c: ChanNo) -> bool
+        ensures { result ≡ is_cond self.now c.0 }
+    {
+        match self.chans.as_slice().get(usize::from(c.0)) {
+            Some(chan) => chan.cond,
+            None => true,
+        }
+    }
+
+    /// The name of a class, and no bytes where the plan has no class of that number.
+    pub fn class_name(&self, k: ClassNo) -> &[u8]
+        ensures { result.now ≡ class_name self.now k.0 }
+    {
+        match self.classes.as_slice().get(usize::from(k.0)) {
+            Some(class) => class.as_bytes(),
+            None => b"",
         }
     }
 }

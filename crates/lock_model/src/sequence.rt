@@ -1,6 +1,6 @@
 //! A list, seen by contracts as its items alone: a `Vec` without its capacity and its place in memory,
 //! so that two plans with the same items are the same plan.
-ghost use Rattle.std.specs.Prelude.{◌≡◌, length};
+ghost use Rattle.std.specs.Prelude.{◌≡◌};
 
 use std::marker::Model;
 

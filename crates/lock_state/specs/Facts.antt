@@ -5,6 +5,8 @@ pub mod Words
 pub mod Loans
 pub mod Books
 pub mod Sleeps
+pub mod Orders
+pub mod Takes
 use Rattle.lock_model.specs.Config.{Config}
 use Rattle.lock_state.specs.State.{State}
 unfoldable pub use Rattle.lock_model.specs.History.{TicketsRun, SectionsExclude, EditsInSections, ReadsReplay, ShownIsExplained}
@@ -14,6 +16,10 @@ unfoldable pub use Rattle.lock_state.specs.Facts.Words.{WordsMatchHolders, OnlyT
 pub use Rattle.lock_state.specs.Facts.Words.{WordMatchesHolders, owns, shares}
 unfoldable pub use Rattle.lock_state.specs.Facts.Loans.{EffectiveIsLeast, OwnersHold, ChannelsHaveNoOwner, LoansAreLeast, LoansAreWithOwners, LoansAreOnHeads, KeptIsEffective, EffectiveIsKnown, LoansAreKnown, KeptIsKnown}
 unfoldable pub use Rattle.lock_state.specs.Facts.Books.{NextIsNew, LogsAreParts, TablesReplay, BasesReplay, SectionsAreHeld, OutIsNarrow, NothingIsOut}
+unfoldable pub use Rattle.lock_model.specs.Orders.{HasNoCycle}
+unfoldable pub use Rattle.lock_state.specs.Facts.Orders.{WantsAreOrdered, HoldsAreOrdered, SleepersAreOrdered, WokenAreOrdered, AbortedWant, HaltsAreOrdered, TakesAreInGraph}
+unfoldable pub use Rattle.lock_model.specs.Takes.{ReversalsHaveCause}
+unfoldable pub use Rattle.lock_state.specs.Facts.Takes.{OnlyLocksAreHeld, EdgesAreOfTakes, TakersAreOpen, RefusalsHaveCause}
 
 -- where objects are, who stands in which order, and what a word shows of it
 pub record QueueFacts (c : Config) (s : State) : Type 0 where
@@ -99,3 +105,22 @@ pub record LawfulTurn (c : Config) (s : State) : Type 0 where
   pub nothing_out : NothingIsOut s.turnstile_chain_with s.sleep_chain_with s.record_with
       s.cell_with s.graph_with
   pub queued_stands : QueuedStands s.wait s.blocked_on
+
+-- A state whose steps all kept to the order that was admitted: beside a lawful one.
+pub record Ordered (c : Config) (s : State) : Type 0 where
+  pub no_cycle : HasNoCycle s.edges
+  pub wants_are_ordered : WantsAreOrdered c s.wanted s.held s.edges
+  pub holds_are_ordered : HoldsAreOrdered c s.held_locks s.edges
+  pub sleepers_are_ordered : SleepersAreOrdered c s.blocked_on s.held s.edges
+  pub woken_are_ordered : WokenAreOrdered c s.wait s.held s.edges
+  pub aborted_want : AbortedWant s.wait s.wanted
+  pub halts_are_ordered : HaltsAreOrdered c s.noted s.held s.edges
+  pub takes_are_in_graph : TakesAreInGraph c s.edges s.history
+
+-- A state whose class graph is that of its takes: beside an ordered one.
+pub record Taken (c : Config) (s : State) : Type 0 where
+  pub only_locks_are_held : OnlyLocksAreHeld c s.held
+  pub edges_are_of_takes : EdgesAreOfTakes c s.edges s.taking s.log s.held s.history
+  pub takers_are_open : TakersAreOpen c s.taking s.log s.held s.history
+  pub refusals_have_cause : RefusalsHaveCause c s.noted s.edges s.history
+  pub reversals_have_cause : ReversalsHaveCause c s.edges s.history

@@ -9,14 +9,17 @@ use Rattle.lock_model.specs.Operations.{next_at}
 use Rattle.lock_model.specs.Counts.{any_below, is_empty}
 use Rattle.lock_model.specs.Words.{admits, bits_of, is_plain, is_drop, is_turnstile, owner_of}
 use Rattle.lock_model.specs.Config.{Config}
-use Rattle.lock_state.specs.Steps.{Step, Looks, Gains, Drops, Stamps, Readies, Enters, Opens, EntersSleepQueue, OpensSleepQueue, Adds, Wakes, Marks, Resumes, Claims, Lends, Shifts, EndsWalk, after_all}
+use Rattle.lock_state.specs.Steps.{Step, Looks, Gains, Drops, Stamps, Readies, Enters, Opens, EntersSleepQueue, OpensSleepQueue, Adds, Wakes, Marks, Resumes, Claims, Lends, Shifts, EndsWalk, Admits, Refuses, after_all}
 use Rattle.lock_state.specs.Steps.LockWords.{bits_of_threads}
-use Rattle.lock_state.specs.State.{State, Wait, Running, Queued, Woken, Walk, NoWalk, AtLock, AtThread, start_state, put}
+use Rattle.lock_state.specs.Steps.Orders.{classes_held}
+use Rattle.lock_state.specs.State.{State, HeldLock, Wait, Running, Queued, Woken, Walk, NoWalk, AtLock, AtThread, start_state, put}
 use Rattle.lock_model.specs.Holds.{Hold, NotHeld, Holds, is_unheld}
 use Rattle.lock_model.specs.Queues.{Mark, lock_queue, chan_queue, stands, taken_off}
 use Rattle.lock_model.specs.Events.{of_sleep, fell_asleep}
 use Rattle.lock_model.specs.History.{tables_of, left_in}
 use Rattle.lock_model.specs.Law.{IsLegal}
+use Rattle.lock_model.specs.Orders.{first_to_forbid}
+use Rattle.lock_model.specs.Takes.{has_reversal}
 use Rattle.lock_model.specs.Text.{Outcome, QueueLine, Ending, IsDone, IsStuck, IsReversed, IsTooLong}
 use Rattle.lock_model.specs.declared.numbers.LockNo.{LockNo}
 use Rattle.lock_model.specs.declared.numbers.ChanNo.{ChanNo}
@@ -76,10 +79,15 @@ owes c s t =
 abbrev pub holds_none : Config → State → ℕ → Bool
 holds_none c s t = not (any_below c.locks (λ l. not (is_unheld (s.held t l))))
 
--- a thread has ended where all its operations are done, nothing is owed and nothing is held
+-- whether a thread was cut: a take of it was refused, and its operations from there on are not made
+abbrev pub was_cut : State → ℕ → Bool
+was_cut s t = has_reversal (s.log t)
+
+-- a thread has ended where all its operations are done or cut, nothing is owed and nothing is held
 unfoldable pub has_ended : Plan → Run → ℕ → Bool
 has_ended plan r t =
-    nat_le (length (operations_of plan t)) (r.next_op t) && not (owes (config_of plan) r.state t)
+    (nat_le (length (operations_of plan t)) (r.next_op t) || was_cut r.state t)
+    && not (owes (config_of plan) r.state t)
     && holds_none (config_of plan) r.state t
 
 -- 2. The table of turns
@@ -143,6 +151,24 @@ takes c r t l mode noted =
     then gains c r t l mode false noted
     else blocks c r t l mode
 
+-- A take's first turn checks the order of its lock behind those that the thread holds. Where the class of one of them
+-- forbids that of the lock, the refusal is noted with the first class that does, and the thread is cut. Else the lock is
+-- admitted, and taken from that turn on.
+abbrev pub begins_take : Config → Run → ℕ → LockNo → Mode → Option ℕ → Row
+begins_take c r t l mode (Some k) =
+    does Note (Refuses t l.0 k ∷ Stamps t (event.Reversed l (record { 0 = k })) ∷ [])
+begins_take c r t l mode None =
+    record (takes c r t l mode (event.Locked l mode)) {
+      steps = Admits t l.0 ∷ (takes c r t l mode (event.Locked l mode)).steps;
+    }
+
+-- it is the first where the lock isn't wanted yet
+abbrev pub takes_in_order : Config → Run → ℕ → LockNo → Mode → Option ℕ → Row
+takes_in_order c r t l mode None =
+    begins_take c r t l mode
+    (first_to_forbid r.state.edges (classes_held c r.state t) (c.class l.0))
+takes_in_order c r t l mode (Some k) = takes c r t l mode (event.Locked l mode)
+
 -- a try that the word doesn't admit notes the word that it saw, and the thread goes on behind the block
 abbrev pub finds_busy : Run → ℕ → LockNo → ℕ → Row
 finds_busy r t l past = record {
@@ -177,6 +203,14 @@ releases c r t l mode =
     let back = gives_back c r t l.0 mode in
     ends r t back.0 (Stamps t (event.Unlocked l mode) ∷ back.1 ∷ [])
 
+-- A thread that was cut gives back the lock that it gained last, and notes it. One that holds nothing any more has ended.
+abbrev pub gives_last_back : Config → Run → ℕ → List HeldLock → Row
+gives_last_back c r t [] = nothing Idle
+gives_last_back c r t (h ∷ hs) =
+    let mode = mode_held (r.state.held t h.lock) in
+    let back = gives_back c r t h.lock mode in
+    does back.0 (Stamps t (event.Unlocked (record { 0 = h.lock }) mode) ∷ back.1 ∷ [])
+
 -- a thread that has gone to sleep releases the lock of its wait, without an entry
 abbrev pub gives_up : Config → Run → ℕ → ℕ → Row
 gives_up c r t l =
@@ -208,7 +242,7 @@ notes r t e = ends r t Note (Stamps t e ∷ [])
 -- holds a lock still, as no thread of a script does.
 abbrev pub operates : Config → Run → ℕ → Option Op → Row
 operates c r t None = nothing Idle
-operates c r t (Some (Take l mode)) = takes c r t l mode (event.Locked l mode)
+operates c r t (Some (Take l mode)) = takes_in_order c r t l mode (r.state.wanted t)
 operates c r t (Some (Try l mode past)) = tries c r t l mode past
 operates c r t (Some EndTry) = nothing Idle
 operates c r t (Some (Release l)) = releases c r t l (mode_held (r.state.held t l.0))
@@ -222,12 +256,15 @@ operates c r t (Some (Sleep d)) = sleeps c r t d (waits_on (r.state.log t))
 operates c r t (Some (WakeOne d)) = wakes r t d false (event.WokeOne d)
 operates c r t (Some (WakeAll d)) = wakes r t d true (event.WokeAll d)
 
--- a queued thread is idle, a woken one runs again, and a running one makes its operation
+-- a queued thread is idle, a woken one runs again, and a running one makes its operation, or gives back what it holds
+-- where it was cut
 abbrev pub by_wait : Plan → Run → ℕ → Wait → Row
 by_wait plan r t Queued = nothing Idle
 by_wait plan r t (Woken q cause) = does Resume (Resumes t q cause ∷ [])
 by_wait plan r t Running =
-    operates (config_of plan) r t (slice_get (operations_of plan t) (r.next_op t))
+    if was_cut r.state t
+    then gives_last_back (config_of plan) r t (r.state.held_locks t)
+    else operates (config_of plan) r t (slice_get (operations_of plan t) (r.next_op t))
 
 -- a release after a wait goes before the wait word
 abbrev pub by_release : Plan → Run → ℕ → Option ℕ → Row
@@ -336,10 +373,16 @@ course_after plan (suc n) = go_on plan (course_after plan n)
 
 -- 4. What is printed
 
--- Done where all threads have ended, Stuck where a whole round was idle, and else the turns were used up
+-- where all threads have ended: Reversed where a refusal is in the history, and else Done
+abbrev pub whole_ending : List Entry → Ending
+whole_ending history = if has_reversal history then IsReversed else IsDone
+
+-- so where all threads have ended; Stuck where a whole round was idle, and else the turns were used up
 abbrev pub ending_of : Plan → Course → Ending
 ending_of plan k =
-    if all_ended plan k.run then IsDone else (if is_stuck k then IsStuck else IsTooLong)
+    if all_ended plan k.run
+    then whole_ending k.run.state.history
+    else (if is_stuck k then IsStuck else IsTooLong)
 
 -- whether a run ended stuck or too long
 abbrev pub is_cut_short : Ending → Bool

@@ -5,16 +5,18 @@ pub mod Items
 pub mod Turnstiles
 pub mod SleepQueues
 pub mod Lending
+pub mod Orders
 use Rattle.std.specs.Prelude.{◌≡◌, ◌≢◌, ◌⊎◌, ℕ, ◌%◌, Bool, true, false, not, ◌&&◌, ◌==◌, if◌then◌else◌, List, [], ◌∷◌, Option, Some, None, ⊤, ◌<◌}
 use Rattle.lock_model.specs.Config.{Config}
 use Rattle.lock_model.specs.Events.{of_sleep, is_end, is_waking_of}
-use Rattle.lock_state.specs.State.{State, Walk, NoWalk, AtLock, AtThread, Round, start_state}
+use Rattle.lock_state.specs.State.{State, Walk, NoWalk, AtLock, AtThread, Round, SleepHalted, start_state}
 use Rattle.lock_model.specs.Queues.{Cause, Mark, lock_queue}
 use Rattle.lock_model.specs.Words.{Word, is_turnstile, admits}
-use Rattle.lock_state.specs.Steps.LockWords.{is_taking_back, MaySeek, MayLook, MayGain, MayDrop, MayStamp, MayReady, MayUnready, after_seek, after_look, after_gain, after_drop, after_stamp, after_ready, after_unready}
+use Rattle.lock_state.specs.Steps.LockWords.{is_taking_back, MaySeek, MayLook, MayGain, MayDrop, MayStamp, MayReady, MayUnready, IsGainedLast, after_seek, after_look, after_gain, after_drop, after_stamp, after_ready, after_unready}
 use Rattle.lock_state.specs.Steps.Turnstiles.{MayEnter, MayOpen, MayMark, MayResume, after_enter, after_open, after_mark, after_resume}
 use Rattle.lock_state.specs.Steps.SleepQueues.{MayEnterSleep, MayOpenSleep, MayAdd, MayWake, after_enter_sleep, after_open_sleep, after_add, after_wake}
 use Rattle.lock_state.specs.Steps.Lending.{MayClaim, MayLend, MayShift, MayEndWalk, after_claim, after_lend, after_shift, after_end_walk}
+use Rattle.lock_state.specs.Steps.Orders.{MayAdmit, MayRefuse, after_admit, after_refuse}
 use Rattle.lock_state.specs.Steps.Items.{Item, TurnstileChain, SleepChain, RecordOf, CellOf, ClassGraph, item_with, is_chain, is_bound, IsOnItsWay, MayTake, MayGive, after_take, after_give}
 use Rattle.lock_model.specs.declared.plan.Mode.{Mode}
 use Rattle.lock_model.specs.declared.plan.Mode.TheVariants.{Excl}
@@ -65,6 +67,10 @@ pub data Step : Type 0 where
   -- the thread at which the walk is, and the lock for which it waits
   Shifts : ℕ → ℕ → ℕ → Step
   EndsWalk : ℕ → Step
+  -- the lock of a blocking call
+  Admits : ℕ → ℕ → Step
+  -- the same, and the class of a held lock that forbids it
+  Refuses : ℕ → ℕ → ℕ → Step
 
 -- what a step asks of the state
 abbrev pub May : Config → State → Step → Type 0
@@ -89,6 +95,8 @@ May c s (Claims t l h by_try) = MayClaim c s t l h
 May c s (Lends t l o h) = MayLend c s t l o h
 May c s (Shifts t o l) = MayShift c s t o l
 May c s (EndsWalk t) = MayEndWalk c s t
+May c s (Admits t l) = MayAdmit c s t l
+May c s (Refuses t l k) = MayRefuse c s t l k
 
 -- what a step makes of the state
 abbrev pub after : Config → State → Step → State
@@ -113,6 +121,8 @@ after c s (Claims t l h by_try) = after_claim c s t l h by_try
 after c s (Lends t l o h) = after_lend c s t l o h
 after c s (Shifts t o l) = after_shift s t o l
 after c s (EndsWalk t) = after_end_walk s t
+after c s (Admits t l) = after_admit c s t l
+after c s (Refuses t l k) = after_refuse s t l k
 
 -- n comes from s by one step
 abbrev pub IsStep : Config → State → State → Type 0
@@ -220,6 +230,8 @@ HasOut chains c s (Claims t l h by_try) =
 HasOut chains c s (Lends t l o h) = HasItem s t (chain_of chains c l) × HasItem s t (RecordOf o)
 HasOut chains c s (Shifts t o l) = HasItem s t (chain_of chains c l) × HasItem s t (RecordOf o)
 HasOut chains c s (EndsWalk t) = HasOutForEnd chains c s t (s.walk t)
+HasOut chains c s (Admits t l) = HasItem s t ClassGraph
+HasOut chains c s (Refuses t l k) = HasItem s t ClassGraph
 
 -- What the thread must have seen, and in which round it acts.
 
@@ -301,7 +313,7 @@ pub record EntersFromLook (s : State) (t l : ℕ) : Type 0 where
 
 -- Where a look in the lock's chain saw a word that doesn't admit, the thread enters and does not gain, until it looks
 -- again. A thread sleeps on a channel outside its rounds, where it has no wake to note; between its Sleeps entry and
--- its add it neither enters a lock's queue nor runs again.
+-- its add it neither enters a lock's queue nor runs again. The order of locks is checked outside a thread's rounds.
 abbrev pub HasSeen : ℕ → Config → State → Step → Type 0
 HasSeen chains c s (Seeks t l by_try) = ⊤
 HasSeen chains c s (Looks t l in_round) = LooksInRound chains c s t l in_round
@@ -324,6 +336,8 @@ HasSeen chains c s (Claims t l h by_try) = GainsFromLook chains c s t l Excl by_
 HasSeen chains c s (Lends t l o h) = ⊤
 HasSeen chains c s (Shifts t o l) = ⊤
 HasSeen chains c s (EndsWalk t) = ⊤
+HasSeen chains c s (Admits t l) = s.round t ≡ None
+HasSeen chains c s (Refuses t l k) = s.round t ≡ None
 
 -- n comes from s by one step of a thread of a running floor
 abbrev pub IsFloorStep : ℕ → Config → State → State → Type 0
@@ -334,51 +348,76 @@ IsFloorStep chains c s n =
 -- 3. What each step asks once lock orders are checked, in the scheduled run and on a floor: a take is admitted before
 -- its lock is sought
 
--- an entry ends the take of a lock, or the wait with it, that is under way
-abbrev pub EndsTake : Config → Event → ℕ → Type 0
-EndsTake c (Locked k mode) l = k.0 ≡ l
-EndsTake c (Tried k mode) l = ⊥
-EndsTake c (Busy k seen) l = ⊥
-EndsTake c (Unlocked k mode) l = ⊥
-EndsTake c (Set k key v) l = ⊥
-EndsTake c (Added k key n) l = ⊥
-EndsTake c (Got k key found) l = ⊥
-EndsTake c (Base p) l = ⊥
-EndsTake c (Shown b e) l = ⊥
-EndsTake c (Sleeps d) l = ⊥
-EndsTake c (Woke d) l = c.chan_lock d.0 ≡ l
-EndsTake c (HaltedChan d) l = c.chan_lock d.0 ≡ l
-EndsTake c (HaltedLock k) l = k.0 ≡ l
-EndsTake c (WokeOne d woken) l = ⊥
-EndsTake c (WokeAll d woken) l = ⊥
-EndsTake c (Reversed k held) l = ⊥
+-- an entry ends the take of a lock that is under way; or else, where the thread is in a wait, the wait with it
+abbrev pub EndsTake : Config → Bool → Event → ℕ → Type 0
+EndsTake c back (Locked k mode) l = (k.0 ≡ l) × (back ≡ false)
+EndsTake c back (Tried k mode) l = ⊥
+EndsTake c back (Busy k seen) l = ⊥
+EndsTake c back (Unlocked k mode) l = ⊥
+EndsTake c back (Set k key v) l = ⊥
+EndsTake c back (Added k key n) l = ⊥
+EndsTake c back (Got k key found) l = ⊥
+EndsTake c back (Base p) l = ⊥
+EndsTake c back (Shown b e) l = ⊥
+EndsTake c back (Sleeps d) l = ⊥
+EndsTake c back (Woke d) l = (c.chan_lock d.0 ≡ l) × (back ≡ true)
+EndsTake c back (HaltedChan d) l = (c.chan_lock d.0 ≡ l) × (back ≡ true)
+EndsTake c back (HaltedLock k) l = (k.0 ≡ l) × (back ≡ false)
+EndsTake c back (WokeOne d woken) l = ⊥
+EndsTake c back (WokeAll d woken) l = ⊥
+EndsTake c back (Reversed k held) l = ⊥
 
 -- the thread takes no lock
 abbrev pub TakesNothing : State → ℕ → Type 0
 TakesNothing s t = s.taking t ≡ None
 
--- What each kind asks; it comes into use with the steps that admit takes. A blocking call seeks the lock that it
--- takes, and looks at it in its round alone; an enter is of the wanted lock; a release isn't of a thread that takes;
--- and the next entry of one that takes ends its take
-abbrev pub IsAdmitted : Config → State → Step → Type 0
-IsAdmitted c s (Seeks t l by_try) = by_try ≡ false → s.wanted t ≡ Some l
-IsAdmitted c s (Looks t l in_round) = s.taking t ≡ Some l → seeks l (s.round t) ≡ true
-IsAdmitted c s (TakesItem t i) = ⊤
-IsAdmitted c s (GivesItem t i) = ⊤
-IsAdmitted c s (Gains t l mode by_try) = by_try ≡ false → s.wanted t ≡ Some l
-IsAdmitted c s (Drops t l mode) = TakesNothing s t
-IsAdmitted c s (Stamps t e) = (l : ℕ) → s.taking t ≡ Some l → EndsTake c e l
-IsAdmitted c s (Readies t q) = ⊤
-IsAdmitted c s (Unreadies t q) = ⊤
-IsAdmitted c s (Enters t l mode x) = s.wanted t ≡ Some l
-IsAdmitted c s (Opens t l mode) = TakesNothing s t
-IsAdmitted c s (EntersSleepQueue t l mode x) = s.wanted t ≡ Some l
-IsAdmitted c s (OpensSleepQueue t l mode) = TakesNothing s t
-IsAdmitted c s (Adds t d x) = TakesNothing s t
-IsAdmitted c s (Wakes t d all) = ⊤
-IsAdmitted c s (Marks t m ms) = ⊤
-IsAdmitted c s (Resumes t q cause) = ⊤
-IsAdmitted c s (Claims t l h by_try) = by_try ≡ false → s.wanted t ≡ Some l
-IsAdmitted c s (Lends t l o h) = ⊤
-IsAdmitted c s (Shifts t o l) = ⊤
-IsAdmitted c s (EndsWalk t) = ⊤
+-- a blocking call gains the lock that it wants, and a thread that takes a lock gains no other; nor does one gain a lock
+-- that has the halt of a take to note
+pub record GainsInOrder (s : State) (t l : ℕ) (by_try : Bool) : Type 0 where
+  pub wants : by_try ≡ false → s.wanted t ≡ Some l
+  pub takes : (k : ℕ) → s.taking t ≡ Some k → k ≡ l
+  pub unhalted : (k : ℕ) → s.noted t ≡ Some (SleepHalted (lock_queue k)) → ⊥
+
+-- who sleeps on a channel takes nothing, and gained the lock of its wait last, by a blocking call
+pub record SleepsInOrder (c : Config) (s : State) (t d : ℕ) : Type 0 where
+  pub takes : TakesNothing s t
+  pub last : IsGainedLast s t (c.chan_lock d) false
+
+-- a thread that was woken from a channel is in a wait
+abbrev pub IsBackFrom : State → ℕ → QueueName → Type 0
+IsBackFrom s t (Lock l) = ⊤
+IsBackFrom s t (Chan d) = is_taking_back (s.log t) ≡ true
+
+-- A step keeps to the order that was admitted. A blocking call seeks the lock that it takes, and looks at it in its
+-- round alone; an enter is of the wanted lock; a release isn't of a thread that takes; and the next entry of one that
+-- takes ends its take.
+abbrev pub KeepsToOrder : Config → State → Step → Type 0
+KeepsToOrder c s (Seeks t l by_try) = by_try ≡ false → s.wanted t ≡ Some l
+KeepsToOrder c s (Looks t l in_round) = s.taking t ≡ Some l → seeks l (s.round t) ≡ true
+KeepsToOrder c s (TakesItem t i) = ⊤
+KeepsToOrder c s (GivesItem t i) = ⊤
+KeepsToOrder c s (Gains t l mode by_try) = GainsInOrder s t l by_try
+KeepsToOrder c s (Drops t l mode) = TakesNothing s t
+KeepsToOrder c s (Stamps t e) =
+    (l : ℕ) → s.taking t ≡ Some l → EndsTake c (is_taking_back (s.log t)) e l
+KeepsToOrder c s (Readies t q) = ⊤
+KeepsToOrder c s (Unreadies t q) = ⊤
+KeepsToOrder c s (Enters t l mode x) = s.wanted t ≡ Some l
+KeepsToOrder c s (Opens t l mode) = TakesNothing s t
+KeepsToOrder c s (EntersSleepQueue t l mode x) = s.wanted t ≡ Some l
+KeepsToOrder c s (OpensSleepQueue t l mode) = TakesNothing s t
+KeepsToOrder c s (Adds t d x) = SleepsInOrder c s t d
+KeepsToOrder c s (Wakes t d all) = ⊤
+KeepsToOrder c s (Marks t m ms) = ⊤
+KeepsToOrder c s (Resumes t q cause) = IsBackFrom s t q
+KeepsToOrder c s (Claims t l h by_try) = GainsInOrder s t l by_try
+KeepsToOrder c s (Lends t l o h) = ⊤
+KeepsToOrder c s (Shifts t o l) = ⊤
+KeepsToOrder c s (EndsWalk t) = ⊤
+KeepsToOrder c s (Admits t l) = ⊤
+KeepsToOrder c s (Refuses t l k) = ⊤
+
+-- so does each step of a list where it comes
+abbrev pub KeepToOrder : Config → State → List Step → Type 0
+KeepToOrder c s [] = ⊤
+KeepToOrder c s (step ∷ steps) = KeepsToOrder c s step × KeepToOrder c (after c s step) steps

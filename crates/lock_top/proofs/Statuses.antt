@@ -10,8 +10,8 @@ use Rattle.lock_top.specs.Output.{IsLawfulRun, TookTooMany}
 use Rattle.lock_laws.proofs.Accepted.{accepted_proper}
 use Rattle.lock_top.proofs.Outcome.{lawful_run}
 
-pub accepted_lawful : (bytes : List ℕ) (plan : Plan) → IsAccepted bytes plan → IsLawfulRun plan
-accepted_lawful bytes plan accepted = lawful_run plan (accepted_proper bytes plan accepted)
+pub accepted_lawful : (bytes : List ℕ) (plan : Plan) (chains turns : ℕ) → IsAccepted bytes plan → IsLawfulRun plan chains turns
+accepted_lawful bytes plan chains turns accepted = lawful_run plan chains turns (accepted_proper bytes plan accepted)
 
 taken_lengths : (bytes front : List ℕ) (new : Option (List ℕ)) → Some bytes ≡ prepend_known front new → new ≡ Some (drop (most_bytes + 1) bytes) → length bytes ≡ length front + (length bytes - (most_bytes + 1))
 taken_lengths bytes front new e n =

@@ -3,15 +3,13 @@
 //!
 //! From the outside in:
 //! - `top`: the call, with everything that is promised of it.
-//! - `status`: how it ends.
-//! - `answer`: the status and the text that belong to the bytes of a source.
+//! - `answer`: the status and the text that belong to the words and to the bytes of a source.
 #![tactic(auto)]
 
 mod answer;
-mod status;
 #[cfg(test)]
 mod tests;
 mod top;
 
-pub use crate::status::Status;
 pub use crate::top::lockrun_plain;
+pub use complaints::Status;

@@ -3,32 +3,38 @@
 ghost use Rattle.std.specs.Prelude.{◌≡◌, ◌⊎◌, ◌≤◌, ◌+◌, ◌↔◌, true, false, length, map, IfErr, IfOk, IfSome, IsErrOf, OnOk, List, ℕ};
 ghost use Rattle.std.specs.Io.KnownBytes.{IsAtEnd};
 ghost use Rattle.std.specs.String.{string_bytes};
+ghost use Rattle.command_line.specs.Forms.{is_form};
 ghost use Rattle.lock_io.specs.Faults.{Rose};
 ghost use Rattle.lock_io.specs.Whole.{AddsFront, TakesFront};
 ghost use Rattle.lock_model.specs.Limits.{most_bytes};
 ghost use Rattle.lock_model.specs.Script.{IsAccepted};
 ghost use Rattle.lock_model.specs.declared.plan.Plan.{Plan};
-ghost use Rattle.lock_top.specs.Output.{is_form, has_text, writes, tells_of_reading, TookTooMany, output_of, Wrote, IsLawfulRun};
+ghost use Rattle.lock_top.specs.Output.{has_text, writes, tells_of_reading, TookTooMany, output_of, Wrote, IsLawfulRun};
 
 use crate::answer::answer;
-use crate::status::Status;
+use command_line::{WordsError, read_words};
+use complaints::Status;
 use lock_io::{ReadAllError, Sink, Source, read_all, write_all};
 use lock_model::limits::SCRIPT_BYTES;
 use std::alloc::Global;
 
-/// What the program does where no thread is started: it reads a script from the source, makes the script's scheduled run,
-/// and writes the run's text to the sink. The words are the command line without the program's name; the one form so far
-/// is the single word `step`. It takes memory until the text is made, and none from then on.
-#[tactic(auto, using(crate::proofs::Statuses::accepted_lawful))]
+/// What the program does where no thread is started: it reads a script from the source, counts what it has or makes its
+/// scheduled run, and writes the text to the sink. The words are the command line without the program's name, and
+/// `command_line` says which are a form: `check` or `step`, with `--chains N` and `--turns N`. It takes memory until
+/// the text is made, and none from then on.
 pub fn lockrun_plain<S: Source, K: Sink>(
     alloc: Global,
     words: &[String],
     source: &mut S,
     sink: &mut K,
 ) -> Status
-    // Usage comes exactly where the words are no form of the command line, and then nothing is read.
-    ensures usage { (result ≡ Status.Usage) ↔ (is_form (map string_bytes words.now) ≡ false) }
-    ensures usage_reads_nothing { result ≡ Status.Usage → S.remaining source.new ≡ S.remaining source.old }
+    // Usage comes only where the words are no form of the command line. Where they are none, nothing is read, and only
+    // want of memory is told in its place.
+    ensures usage { result ≡ Status.Usage → is_form (map string_bytes words.now) ≡ false }
+    ensures no_form { is_form (map string_bytes words.now) ≡ false
+        → (result ≡ Status.Usage) ⊎ (result ≡ Status.NoMemory) }
+    ensures no_form_reads_nothing { is_form (map string_bytes words.now) ≡ false
+        → S.remaining source.new ≡ S.remaining source.old }
 
     // No answer takes more from the source than the one byte that shows that it is too big.
     ensures reads_at_most { TakesFront (S.remaining source.old) (S.remaining source.new) (most_bytes + 1) }
@@ -42,32 +48,39 @@ pub fn lockrun_plain<S: Source, K: Sink>(
     ensures no_write_fault { ¬ (result ≡ Status.WriteFault) → K.faults sink.new ≡ K.faults sink.old }
 
     // A text is written only where the source was read to its end. The status and the text are the one pair that
-    // belongs to the bytes; at WriteFault a front of that text was added. Every state that the run of their plan goes
-    // through is lawful.
+    // belongs to the words and the bytes; at WriteFault a front of that text was added. With whatever chains and turns,
+    // every state that the run of their plan goes through is lawful.
     ensures read_whole { writes result ≡ true → IsAtEnd (S.remaining source.new) }
-    ensures status { has_text result ≡ true
-        → IfSome (S.remaining source.old) (λ bytes. result ≡ (output_of bytes).0) }
+    ensures status { has_text result ≡ true → IfSome (S.remaining source.old) (λ bytes.
+        result ≡ (output_of (map string_bytes words.now) bytes).0) }
     ensures text { has_text result ≡ true → IfSome (S.remaining source.old) (λ bytes.
-        Wrote (K.contents sink.old) (K.contents sink.new) (output_of bytes).1) }
-    ensures write_fault_front { result ≡ Status.WriteFault → IfSome (S.remaining source.old) (λ bytes.
-        AddsFront (K.contents sink.old) (K.contents sink.new) (output_of bytes).1) }
+        Wrote (K.contents sink.old) (K.contents sink.new)
+        (output_of (map string_bytes words.now) bytes).1) }
+    ensures write_fault_front { result ≡ Status.WriteFault
+        → IfSome (S.remaining source.old) (λ bytes. AddsFront (K.contents sink.old)
+        (K.contents sink.new) (output_of (map string_bytes words.now) bytes).1) }
     ensures nothing_written { writes result ≡ false → K.contents sink.new ≡ K.contents sink.old }
-    ensures lawful { (bytes : List ℕ) (plan : Plan) → IsAccepted bytes plan → IsLawfulRun plan }
+    ensures lawful { (bytes : List ℕ) (plan : Plan) (chains turns : ℕ)
+        → IsAccepted bytes plan → IsLawfulRun plan chains turns }
 
-    // Where nothing fails, a source that isn't too big gets the status of its bytes, save for want of memory.
+    // Where nothing fails, a source that isn't too big gets the status of the words and its bytes, save for want of
+    // memory.
     ensures complete { is_form (map string_bytes words.now) ≡ true
         → ¬ (Rose (S.faults source.old) (S.faults source.new)) → ¬ (Rose (K.faults sink.old) (K.faults sink.new))
         → IfSome (S.remaining source.old) (λ bytes. length bytes ≤ most_bytes
-        → (result ≡ (output_of bytes).0) ⊎ (result ≡ Status.NoMemory)) }
+        → (result ≡ (output_of (map string_bytes words.now) bytes).0)
+        ⊎ (result ≡ Status.NoMemory)) }
 {
-    if !is_form(words) {
-        return Status::Usage;
-    }
+    let said = match read_words(alloc, words) {
+        Ok(said) => said,
+        Err(WordsError::Usage) => return Status::Usage,
+        Err(WordsError::Memory) => return Status::NoMemory,
+    };
     let bytes = match read_bytes(alloc, source) {
         Ok(bytes) => bytes,
         Err(status) => return status,
     };
-    let Ok((status, text)) = answer(alloc, &bytes) else {
+    let Ok((status, text)) = answer(alloc, said, &bytes) else {
         return Status::NoMemory;
     };
     write_text(sink, status, &text)
@@ -105,15 +118,5 @@ fn write_text<K: Sink>(sink: &mut K, status: Status, text: &[u8]) -> Status
     match write_all(sink, text) {
         Ok(()) => status,
         Err(_) => Status::WriteFault,
-    }
-}
-
-// The one form so far: the single word `step`.
-fn is_form(words: &[String]) -> bool
-    ensures { result ≡ is_form (map string_bytes words.now) }
-{
-    match words {
-        [word] => word.as_str() == "step",
-        _ => false,
     }
 }

@@ -1,8 +1,9 @@
 mod Channels
-mod Cuts
+pub mod Cuts
 mod Digits
 mod LastHeld
 mod LineStages
 mod OpenBlocks
 mod Rooms
+mod Tens
 mod ToldLines

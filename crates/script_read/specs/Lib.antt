@@ -2,3 +2,4 @@ pub mod Reading
 pub mod Statements
 pub mod OpenThreads
 pub mod Readers
+pub mod Meanings

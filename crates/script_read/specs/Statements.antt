@@ -1,6 +1,7 @@
 -- What a statement and a first word of the code say, as the definition has them.
-use Rattle.std.specs.Prelude.{ℕ, List}
-use Rattle.std.specs.Borrow.{Bor}
+use Rattle.std.specs.Prelude.{ℕ, if◌then◌else◌, List, ◌++◌, codes}
+use Rattle.lock_model.specs.Text.{mode_letter}
+use Rattle.lock_model.specs.Script.Canonical.{kind_word}
 use Rattle.lock_model.specs.Script.Lines.{words_of}
 use Rattle.lock_model.specs.Script.Statements as script
 use Rattle.script_read.specs.declared.statement.Operation.{Operation}
@@ -55,6 +56,27 @@ form (verb.Wait cond) = script.WithOne (λ chan. script.Operates (script.Wait co
 form (verb.WakeOne cond) = script.WithOne (λ chan. script.Operates (script.WakeOne cond chan))
 form (verb.WakeAll cond) = script.WithOne (λ chan. script.Operates (script.WakeAll cond chan))
 
+-- the first word that says it
+abbrev pub word : verbs.Verb → List ℕ
+word (verb.Declare kind) = kind_word kind
+word (verb.DeclareChan cond) = if cond then codes "cond" else codes "chan"
+word verb.Thread = codes "thread"
+word verb.End = codes "end"
+word verb.Schedule = codes "schedule"
+word verb.Done = codes "done"
+word (verb.Take kind mode) = mode_letter kind mode ++ codes "lock"
+word (verb.Release kind mode) = mode_letter kind mode ++ codes "unlock"
+word (verb.Try kind mode) = codes "try" ++ mode_letter kind mode ++ codes "lock"
+word verb.EndTry = codes "endtry"
+word verb.Set = codes "set"
+word verb.Add = codes "add"
+word verb.Get = codes "get"
+word verb.Prio = codes "prio"
+word verb.Show = codes "show"
+word (verb.Wait cond) = if cond then codes "wait" else codes "msleep"
+word (verb.WakeOne cond) = if cond then codes "signal" else codes "wakeup_one"
+word (verb.WakeAll cond) = if cond then codes "broadcast" else codes "wakeup"
+
 -- a first word, with what it says
-abbrev pub row : Bor (List ℕ) × verbs.Verb → List ℕ × script.Form
-row r = (r.0.now, form r.1)
+abbrev pub row : verbs.Verb → List ℕ × script.Form
+row v = (word v, form v)

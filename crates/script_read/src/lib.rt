@@ -1,11 +1,14 @@
 //! Reading a script: from its bytes to the plan that it says, or to its first fault. Which bytes are a script and of
-//! which plan, and which fault the others have, is the definition `reading_of` of `lock_model`.
+//! which plan, and which fault the others have, is the definition `reading_of` of `lock_model`. And writing one: from a
+//! plan to its canonical text.
 //!
 //! - `lines` and `words` cut a source into lines, and a line into words.
 //! - `numbers` reads numbers and priorities.
 //! - `statement` finds out what a line says.
 //! - `reader` keeps what the lines so far have made known, and tests each line by it.
 //! - `fault` is the codes and the errors.
+//! - `meaning` says what each code means.
+//! - `writer` writes a plan's canonical text.
 #![tactic(auto)]
 
 ghost use Rattle.std.specs.Prelude.{◌≡◌, ℕ, List, IfOk, IfErr};
@@ -15,18 +18,24 @@ ghost use Rattle.script_read.specs.Reading.{Refuses};
 
 mod fault;
 mod lines;
+mod meaning;
 mod numbers;
 mod reader;
 mod statement;
 mod words;
+mod writer;
 
 use fault::{Code, LineError};
 pub use fault::{ReadError, ScriptFault};
-use lines::split_line;
+pub use lines::{split_at_byte, split_line};
 use lock_model::Plan;
+pub use meaning::meaning_of;
+pub use numbers::number_of;
 use reader::Reader;
 use std::alloc::Global;
+pub use words::cut_word;
 use words::is_word;
+pub use writer::write_script;
 
 /// The plan of a script. `Script` tells the first faulty line and its code, exactly where the bytes are no script, and
 /// `Memory` comes only for want of memory.

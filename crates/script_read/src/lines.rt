@@ -1,5 +1,5 @@
 //! Cutting a source into lines.
-ghost use Rattle.std.specs.Prelude.{◌≡◌, ℕ, ◌<◌, ◌++◌, ◌∷◌, [], length, IfSome, IfNone, MatchOption, position, ◌==◌};
+ghost use Rattle.std.specs.Prelude.{◌≡◌, ◌<◌, ◌++◌, ◌∷◌, [], length, IfSome, IfNone, MatchOption, position, ◌==◌};
 ghost use Rattle.lock_model.specs.Script.Lines.{lines_of};
 ghost use Rattle.script_read.specs.Reading.{Lacks};
 

@@ -26,7 +26,7 @@ use lock_model::{
 };
 use std::alloc::{AllocError, Global};
 
-mod held;
+pub mod held;
 mod open_thread;
 mod stages;
 

@@ -2,10 +2,10 @@
 ghost use Rattle.std.specs.Prelude.{◌≡◌, ℕ, List, map, option_map, option_copied};
 ghost use Rattle.std.specs.Map.{lookup};
 ghost use Rattle.lock_model.specs.Script.Statements as script;
-ghost use Rattle.lock_model.specs.Script.Statements.{Alone, WithOne, WithTwo, WithThree, WithSome, form_of, said, statement_of};
+ghost use Rattle.lock_model.specs.Script.Statements.{Alone, WithOne, WithTwo, WithThree, form_of, said, statement_of};
 ghost use Rattle.script_read.specs.Reading.{words_behind};
-ghost use Rattle.script_read.specs.Statements.{form, meant, row};
-ghost use Rattle.lock_model.specs.Script.Lines.{words_of, is_same};
+ghost use Rattle.script_read.specs.Statements.{form, meant, row, word};
+ghost use Rattle.lock_model.specs.Script.Lines.{is_same};
 
 use crate::words::{cut_word, has_empty_word, is_word};
 use lock_model::{Kind, Mode};
@@ -91,7 +91,7 @@ pub enum Statement<'a> {
 
 /// What a first word says.
 #[derive(Clone, Copy)]
-enum Verb {
+pub enum Verb {
     Declare(Kind),
     // Of a condition variable where it holds, and else of a channel.
     DeclareChan(bool),
@@ -113,44 +113,44 @@ enum Verb {
     WakeAll(bool),
 }
 
-/// The first words.
-const VERBS: [(&str, Verb); 36] = [
-    ("mutex", Verb::Declare(Kind::Mtx)),
-    ("rw", Verb::Declare(Kind::Rw)),
-    ("sx", Verb::Declare(Kind::Sx)),
-    ("cond", Verb::DeclareChan(true)),
-    ("chan", Verb::DeclareChan(false)),
-    ("thread", Verb::Thread),
-    ("end", Verb::End),
-    ("schedule", Verb::Schedule),
-    ("done", Verb::Done),
-    ("lock", Verb::Take(Kind::Mtx, Mode::Excl)),
-    ("unlock", Verb::Release(Kind::Mtx, Mode::Excl)),
-    ("rlock", Verb::Take(Kind::Rw, Mode::Shared)),
-    ("wlock", Verb::Take(Kind::Rw, Mode::Excl)),
-    ("runlock", Verb::Release(Kind::Rw, Mode::Shared)),
-    ("wunlock", Verb::Release(Kind::Rw, Mode::Excl)),
-    ("slock", Verb::Take(Kind::Sx, Mode::Shared)),
-    ("xlock", Verb::Take(Kind::Sx, Mode::Excl)),
-    ("sunlock", Verb::Release(Kind::Sx, Mode::Shared)),
-    ("xunlock", Verb::Release(Kind::Sx, Mode::Excl)),
-    ("trylock", Verb::Try(Kind::Mtx, Mode::Excl)),
-    ("tryrlock", Verb::Try(Kind::Rw, Mode::Shared)),
-    ("trywlock", Verb::Try(Kind::Rw, Mode::Excl)),
-    ("tryslock", Verb::Try(Kind::Sx, Mode::Shared)),
-    ("tryxlock", Verb::Try(Kind::Sx, Mode::Excl)),
-    ("endtry", Verb::EndTry),
-    ("set", Verb::Set),
-    ("add", Verb::Add),
-    ("get", Verb::Get),
-    ("prio", Verb::Prio),
-    ("show", Verb::Show),
-    ("wait", Verb::Wait(true)),
-    ("signal", Verb::WakeOne(true)),
-    ("broadcast", Verb::WakeAll(true)),
-    ("msleep", Verb::Wait(false)),
-    ("wakeup_one", Verb::WakeOne(false)),
-    ("wakeup", Verb::WakeAll(false)),
+/// All that a first word says, each once.
+const VERBS: [Verb; 36] = [
+    Verb::Declare(Kind::Mtx),
+    Verb::Declare(Kind::Rw),
+    Verb::Declare(Kind::Sx),
+    Verb::DeclareChan(true),
+    Verb::DeclareChan(false),
+    Verb::Thread,
+    Verb::End,
+    Verb::Schedule,
+    Verb::Done,
+    Verb::Take(Kind::Mtx, Mode::Excl),
+    Verb::Release(Kind::Mtx, Mode::Excl),
+    Verb::Take(Kind::Rw, Mode::Shared),
+    Verb::Take(Kind::Rw, Mode::Excl),
+    Verb::Release(Kind::Rw, Mode::Shared),
+    Verb::Release(Kind::Rw, Mode::Excl),
+    Verb::Take(Kind::Sx, Mode::Shared),
+    Verb::Take(Kind::Sx, Mode::Excl),
+    Verb::Release(Kind::Sx, Mode::Shared),
+    Verb::Release(Kind::Sx, Mode::Excl),
+    Verb::Try(Kind::Mtx, Mode::Excl),
+    Verb::Try(Kind::Rw, Mode::Shared),
+    Verb::Try(Kind::Rw, Mode::Excl),
+    Verb::Try(Kind::Sx, Mode::Shared),
+    Verb::Try(Kind::Sx, Mode::Excl),
+    Verb::EndTry,
+    Verb::Set,
+    Verb::Add,
+    Verb::Get,
+    Verb::Prio,
+    Verb::Show,
+    Verb::Wait(true),
+    Verb::WakeOne(true),
+    Verb::WakeAll(true),
+    Verb::Wait(false),
+    Verb::WakeOne(false),
+    Verb::WakeAll(false),
 ];
 
 /// What a line says. `None` comes where a word is empty, the first word unknown or the number of words wrong.
@@ -172,11 +172,11 @@ fn verb_of(word: &[u8]) -> Option<Verb>
 }
 
 // What a table says of a word.
-fn verb_in(table: &[(&str, Verb)], word: &[u8]) -> Option<Verb>
+fn verb_in(table: &[Verb], word: &[u8]) -> Option<Verb>
     ensures { option_map form result ≡ lookup (is_same word.now) (map row table.now) }
 {
-    for (text, verb) in table {
-        if is_word(word, text) {
+    for verb in table {
+        if is_word(word, verb.word()) {
             return Some(*verb);
         }
     }
@@ -184,6 +184,50 @@ fn verb_in(table: &[(&str, Verb)], word: &[u8]) -> Option<Verb>
 }
 
 impl Verb {
+    // The first word that says it. A mutex has one mode.
+    pub fn word(self) -> &'static str
+        ensures { result.now ≡ word self }
+    {
+        match self {
+            Verb::Declare(Kind::Mtx) => "mutex",
+            Verb::Declare(Kind::Rw) => "rw",
+            Verb::Declare(Kind::Sx) => "sx",
+            Verb::DeclareChan(true) => "cond",
+            Verb::DeclareChan(false) => "chan",
+            Verb::Thread => "thread",
+            Verb::End => "end",
+            Verb::Schedule => "schedule",
+            Verb::Done => "done",
+            Verb::Take(Kind::Mtx, _) => "lock",
+            Verb::Release(Kind::Mtx, _) => "unlock",
+            Verb::Take(Kind::Rw, Mode::Shared) => "rlock",
+            Verb::Take(Kind::Rw, Mode::Excl) => "wlock",
+            Verb::Release(Kind::Rw, Mode::Shared) => "runlock",
+            Verb::Release(Kind::Rw, Mode::Excl) => "wunlock",
+            Verb::Take(Kind::Sx, Mode::Shared) => "slock",
+            Verb::Take(Kind::Sx, Mode::Excl) => "xlock",
+            Verb::Release(Kind::Sx, Mode::Shared) => "sunlock",
+            Verb::Release(Kind::Sx, Mode::Excl) => "xunlock",
+            Verb::Try(Kind::Mtx, _) => "trylock",
+            Verb::Try(Kind::Rw, Mode::Shared) => "tryrlock",
+            Verb::Try(Kind::Rw, Mode::Excl) => "trywlock",
+            Verb::Try(Kind::Sx, Mode::Shared) => "tryslock",
+            Verb::Try(Kind::Sx, Mode::Excl) => "tryxlock",
+            Verb::EndTry => "endtry",
+            Verb::Set => "set",
+            Verb::Add => "add",
+            Verb::Get => "get",
+            Verb::Prio => "prio",
+            Verb::Show => "show",
+            Verb::Wait(true) => "wait",
+            Verb::WakeOne(true) => "signal",
+            Verb::WakeAll(true) => "broadcast",
+            Verb::Wait(false) => "msleep",
+            Verb::WakeOne(false) => "wakeup_one",
+            Verb::WakeAll(false) => "wakeup",
+        }
+    }
+
     // What it says with what stands behind it.
     fn with_words<'a>(self, rest: Option<&'a [u8]>) -> Option<Statement<'a>>
         ensures { option_map meant result

@@ -5,7 +5,7 @@ use std::alloc::Global;
 use std::test::*;
 
 // The bytes of a script.
-fn bytes_of(alloc: Global, script: &str) -> Result<Vec<u8>, Fail> {
+pub fn bytes_of(alloc: Global, script: &str) -> Result<Vec<u8>, Fail> {
     let mut bytes = Vec::from_slice(alloc, script.as_bytes())?;
     for b in &mut bytes {
         if *b == b';' {
@@ -15,7 +15,7 @@ fn bytes_of(alloc: Global, script: &str) -> Result<Vec<u8>, Fail> {
     Ok(bytes)
 }
 
-fn plan_of(alloc: Global, script: &str) -> Result<Plan, Fail> {
+pub fn plan_of(alloc: Global, script: &str) -> Result<Plan, Fail> {
     let bytes = bytes_of(alloc, script)?;
     Ok(
         read_script(alloc, &bytes)

@@ -1,16 +1,19 @@
 -- How far a thread is where its run has gone on: as far as it was, or further.
-use Rattle.std.proofs.Common.{◌≡◌, ◌≢◌, ℕ, ◌∷◌, Option, Some, None, IsSomeAnd, refl, sym, subst, ◌∙◌}
+use Rattle.std.proofs.Common.{◌≡◌, ◌≢◌, ℕ, Bool, true, false, ◌||◌, ◌∷◌, length, take, Option, Some, None, IsSomeAnd, refl, sym, ap, subst, ◌∙◌}
+use Rattle.std.proofs.lemmas.Option.{none-some}
 use Rattle.lock_model.specs.Plans.{config_of}
 use Rattle.lock_model.specs.Config.{Config}
 use Rattle.lock_model.specs.Events.{of_sleep, fell_asleep}
-use Rattle.lock_state.specs.State.{State, Running, Queued}
+use Rattle.lock_model.specs.Takes.{is_reversal, has_reversal}
+use Rattle.lock_state.specs.State.{State, Running, Queued, OrderRefused}
 use Rattle.lock_state.specs.Steps.{Stamps, after}
 use Rattle.lock_state.specs.Steps.LockWords.{MayStamp, after_stamp, entry_of}
-use Rattle.lock_state.specs.Run.{Run, turn_of, run_behind, waits_on}
+use Rattle.lock_state.specs.Run.{Run, turn_of, run_behind, waits_on, was_cut}
 use Rattle.lock_model.specs.declared.event.Event.{Event}
 use Rattle.lock_model.specs.declared.event.Event.TheVariants as event
 use Rattle.lock_model.specs.declared.plan.Plan.{Plan}
 use Rattle.lock_laws.proofs.Kit.{put_same}
+use Rattle.lock_laws.proofs.OnTrack.{IsAwake}
 use Rattle.lock_laws.proofs.OtherThreads.{own_steps, other_next}
 use Rattle.lock_laws.proofs.Shares.{all_leave}
 use Rattle.lock_laws.proofs.Table as table
@@ -35,23 +38,28 @@ so_is (Some x) f h = f x h
 pub record SameFar (r n : Run) (t : ℕ) : Type 0 where
   pub next_op : n.next_op t ≡ r.next_op t
   pub held : n.state.held t ≡ r.state.held t
-  pub waits : waits_on (n.state.log t) ≡ waits_on (r.state.log t)
+  pub listed : n.state.held_locks t ≡ r.state.held_locks t
+  pub log : n.state.log t ≡ r.state.log t
 
 module _ {plan : Plan} {r n : Run} {t : ℕ} {a : Progress} where
   pub still_as_far : SameFar r n t → IsAsFar plan r t a → IsAsFar plan n t a
   still_as_far e h = record {
     next_op = h.next_op ∙ sym e.next_op;
-    held = rw (e.next_op, e.held, e.waits) h.held;
-    left = rw (e.next_op, e.held, e.waits) h.left;
+    held = rw (e.next_op, e.held, e.listed, e.log) h.held;
+    left = rw (e.next_op, e.held, e.log) h.left;
   }
 
   -- a thread whose operation is still to make,
   pub behind_still : SameFar r n t → IsAsFar plan r t a → IsBehind plan r n t a
   behind_still e h = let f = still_as_far e h in record { next_op = h.next_op; as_far = record { next_op = refl; held = f.held; left = f.left } }
 
-  -- and one that has made it, and waits for nothing
-  pub behind_made : waits_on (n.state.log t) ≡ None → a.next_op ≡ r.next_op t → a.held ≡ held_at plan t (n.next_op t) → IsBehind plan r n t a
-  behind_made none next held = record { next_op = next; as_far = record { next_op = refl; held = rw none held; left = λ l e. absurd (let z : None ≡ Some l = rw none at e in cc) } }
+  -- one that has made it, and waits for nothing,
+  pub behind_made : IsAwake n.state t → a.next_op ≡ r.next_op t → a.held ≡ held_at plan t (n.next_op t) → IsBehind plan r n t a
+  behind_made up next held = record { next_op = next; as_far = record { next_op = refl; held = rw (up.uncut, up.no_wait) held; left = λ l e. absurd (let z : None ≡ Some l = rw up.no_wait at e in cc) } }
+
+  -- and one that was cut
+  pub behind_cut : was_cut n.state t ≡ true → waits_on (n.state.log t) ≡ None → a.next_op ≡ r.next_op t → a.held ≡ take (length (n.state.held_locks t)) (held_at plan t (n.next_op t)) → IsBehind plan r n t a
+  behind_cut cut none next held = record { next_op = next; as_far = record { next_op = refl; held = rw cut held; left = λ l e. absurd (let z : None ≡ Some l = rw none at e in cc) } }
 
 -- of the other threads nothing changes that says it
 pub others_still : (plan : Plan) (r : Run) (t u : ℕ) → u ≢ t → SameFar r (run_behind plan r t) u
@@ -59,7 +67,7 @@ unfolding run_behind
 others_still plan r t u n =
     let ne : t ≡ u → ⊥ = λ e. n (sym e) in
     let share = all_leave (config_of plan) u t r.state (turn_of plan r t).steps ne (own_steps plan r t (turn_of plan r t) (table.fits plan r t)) in
-    record { next_op = other_next plan r t u ne (turn_of plan r t).next; held = share.held; waits = rw share.log refl }
+    record { next_op = other_next plan r t u ne (turn_of plan r t).next; held = share.held; listed = share.held_locks; log = share.log }
 
 -- 3. Entries
 
@@ -67,6 +75,11 @@ others_still plan r t u n =
 pub waits_behind : (c : Config) (s : State) (t : ℕ) (e : Event) → waits_on ((after c s (Stamps t e)).log t) ≡ fell_asleep (of_sleep e)
 unfolding after_stamp
 waits_behind c s t e = let at : (after_stamp c s t e).log t ≡ _ = put_same s.log t (entry_of s t e ∷ s.log t) in rw at refl
+
+-- and whether it was cut
+pub cut_behind : (c : Config) (s : State) (t : ℕ) (e : Event) → was_cut (after c s (Stamps t e)) t ≡ (is_reversal e || was_cut s t)
+unfolding after_stamp
+cut_behind c s t e = ap has_reversal (put_same s.log t (entry_of s t e ∷ s.log t))
 
 -- a running thread's entry is not that it goes to sleep
 pub runs_on : (c : Config) (s : State) (t : ℕ) (e : Event) → MayStamp c s t e → s.wait t ≡ Running → fell_asleep (of_sleep e) ≡ None
@@ -86,3 +99,27 @@ runs_on c s t (event.HaltedLock l) g w = refl
 runs_on c s t (event.WokeOne d woken) g w = refl
 runs_on c s t (event.WokeAll d woken) g w = refl
 runs_on c s t (event.Reversed l held) g w = refl
+
+-- and where it has nothing to note it isn't the refusal of a take
+none_refused : (c : Config) (s : State) (t : ℕ) (e : Event) → MayStamp c s t e → s.noted t ≡ None → is_reversal e ≡ false
+none_refused c s t (event.Locked l mode) g none = refl
+none_refused c s t (event.Tried l mode) g none = refl
+none_refused c s t (event.Busy l seen) g none = refl
+none_refused c s t (event.Unlocked l mode) g none = refl
+none_refused c s t (event.Set l key value) g none = refl
+none_refused c s t (event.Added l key amount) g none = refl
+none_refused c s t (event.Got l key found) g none = refl
+none_refused c s t (event.Base prio) g none = refl
+none_refused c s t (event.Shown base effective) g none = refl
+none_refused c s t (event.Sleeps d) g none = refl
+none_refused c s t (event.Woke d) g none = refl
+none_refused c s t (event.HaltedChan d) g none = refl
+none_refused c s t (event.HaltedLock l) g none = refl
+none_refused c s t (event.WokeOne d woken) g none = refl
+none_refused c s t (event.WokeAll d woken) g none = refl
+none_refused c s t (event.Reversed l held) g none = absurd (none-some (OrderRefused l.0 held.0) (sym none ∙ g.asks))
+
+-- so it is awake
+pub awake_behind : (c : Config) (s : State) (t : ℕ) (e : Event) → MayStamp c s t e → s.wait t ≡ Running → s.noted t ≡ None → was_cut s t ≡ false → IsAwake (after c s (Stamps t e)) t
+awake_behind c s t e g runs none uncut =
+    record { no_wait = waits_behind c s t e ∙ runs_on c s t e g runs; uncut = cut_behind c s t e ∙ rw (none_refused c s t e g none, uncut) refl }

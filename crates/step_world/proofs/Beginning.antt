@@ -1,23 +1,25 @@
 -- How the objects of a run begin: the threads are new, and the machine shows the run's start.
-use Rattle.std.proofs.Common.{◌≡◌, ℕ, ◌*◌, ◌<◌, List, [], ◌∷◌, ◌++◌, length, map, get_or, slice_get, replicate, Some, IsSome, unwrap_or, option_map, refl, sym, ap, ◌∙◌, inl, inr, arith, IsTrue, Contains}
+use Rattle.std.proofs.Common.{◌≡◌, ℕ, ◌*◌, ◌<◌, List, [], ◌∷◌, ◌++◌, length, map, get_or, slice_get, replicate, Some, IsSome, unwrap_or, option_map, refl, sym, ap, subst, ◌∙◌, inl, inr, arith, IsTrue, Contains}
 use Rattle.std.specs.Prelude.{IsSomeAnd}
 use Rattle.std.specs.FinMap.{empty}
 use Rattle.std.proofs.lemmas.Bool.{cases_eq}
 use Rattle.std.proofs.lemmas.List.{get_or_push, get_or_append_left, length_push, get_or-replicate, length-replicate}
-use Rattle.std.proofs.lemmas.List.Elements.{All-nil}
+use Rattle.std.proofs.lemmas.List.Elements.{All-nil, All-get_or}
 use Rattle.std.proofs.lemmas.Option.{slice_get-get_or, slice_get-map, slice_get_within, slice_get_cases, same_Some}
 use Rattle.lock_model.specs.History.{tables_of}
 use Rattle.lock_model.specs.Keys.{plan_names}
 use Rattle.lock_model.specs.Operations.{IsProper, operations_in_all, hold_in}
-use Rattle.lock_model.specs.Plans.{config_of, declared_base}
+use Rattle.lock_model.specs.Plans.{config_of, declared_base, lock_class}
 use Rattle.lock_state.specs.Run.{start_run}
 use Rattle.lock_model.specs.Config.{Config}
 use Rattle.lock_state.specs.State.{start_state}
 use Rattle.lock_model.specs.Words.{word_of, free_word}
 use Rattle.lock_model.specs.declared.numbers.ChanNo.{ChanNo}
+use Rattle.lock_model.specs.declared.plan.LockDecl.{LockDecl}
 use Rattle.lock_model.specs.declared.plan.Plan.{Plan}
 use Rattle.lock_model.specs.declared.plan.QueueName.{QueueName}
 use Rattle.lock_model.specs.declared.plan.ThreadDecl.{ThreadDecl}
+use Rattle.witness_orders.specs.Graph.{Graph}
 use Rattle.thread_records.specs.Loans.{loans_for}
 use Rattle.thread_records.specs.Records.{Record, made}
 use Rattle.turnstile_core.specs.Seen.{Place}
@@ -80,6 +82,8 @@ shown plan t th d at new =
         held = hold_in (new.holds_none i);
         marked = map (mark_of th.marked_from) (new.unmarked i);
         chan = option_map (λ (d : ChanNo). d.0) (new.awake i);
+        wants = new.wants_none i;
+        cut = new.uncut i;
       };
       one_loan_each = λ l. omega (arith, ap (λ (r : Record). loans_for l r.loans) new.its_record);
       held = record { once = λ l. omega (arith, ap (λ hs. holds_of l hs) new.holds_none); room = new.held_room };
@@ -104,6 +108,7 @@ pub record IsBegun (plan : Plan) (m : Machine) : Type 0 where
   pub room : m.log.spare ≡ 2 * operations_in_all plan
   pub no_key : m.tables.present ≡ empty
   pub keys : (l key : ℕ) → IsTrue (plan_names plan l key) → Contains m.tables.places (l, key)
+  pub no_order : m.orders ≡ record { classes = length plan.classes; edges = [] }
 
 module _ (plan : Plan) (m : Machine) (p : IsProper plan) (b : IsBegun plan m) where
   abbrev c : Config
@@ -123,6 +128,16 @@ module _ (plan : Plan) (m : Machine) (p : IsProper plan) (b : IsBegun plan m) wh
         shown plan t th d.0 d.1 (b.new.each t th d.0 e d.1);
   }
 
+  -- the class of each lock is one of the plan's
+  its_class : (l : ℕ) → l < length plan.locks → lock_class plan l < length plan.classes
+  its_class l i =
+      elim ((slice_get_cases plan.locks l).1) [
+        | inl h ↦
+            let is : lock_class plan l ≡ h.0.class.0 = ap (λ o. unwrap_or o 0) (slice_get-map (λ (d : LockDecl). d.class.0) plan.locks l ∙ ap (option_map (λ (d : LockDecl). d.class.0)) h.2) in
+            rw is (subst (λ (d : LockDecl). d.class.0 < length plan.classes) h.3 (All-get_or (λ (d : LockDecl). d.class.0 < length plan.classes) plan.locks l h.0 h.1 p.lock_classes))
+        | inr h ↦ absurd (omega (arith, h.0, i))
+      ]
+
   shows : Represents c m (start_state c)
   unfolding start_state tables_of
   shows = record {
@@ -133,6 +148,7 @@ module _ (plan : Plan) (m : Machine) (p : IsProper plan) (b : IsBegun plan m) wh
     threads = threads;
     history = b.no_entry;
     tables = b.no_key;
+    orders = record { classes = λ l i. subst (λ (g : Graph). lock_class plan l < g.classes) (sym b.no_order) (its_class l i); edges = λ x y. rw b.no_order refl };
   }
 
   its_aside : (t : ℕ) → t < length plan.threads → IsSomeAnd (progress m t) (IsAsFar plan (start_run c) t)

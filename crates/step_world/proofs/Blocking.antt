@@ -45,7 +45,7 @@ pub readied : {m : Machine} {c : Config} {s : State} {t : ℕ} (th : Thread) →
 unfolding after_ready
 readied {m = m} {c = c} {s = s} {t = t} th h g at =
     let old = h.threads.thread t th at in
-    shown_by (after_ready s t) h refl h.words h.queues h.sleepers
+    shown_by (after_ready s t) h refl refl h.words h.queues h.sleepers
     (thread_changed (after_ready s t) (record th { wait = wait.Queued }) h.threads g.thread
     (record { columns = λ i. record (old.columns i) { wait = sym (put_same s.wait t Queued) i }; one_loan_each = old.one_loan_each; held = old.held; marked = old.marked })
     (λ u d i. record (thread_in s u) { wait = put_other s.wait t Queued u (λ e. d (sym e)) i }))
@@ -104,7 +104,7 @@ module _ {m : Machine} {c : Config} {s : State} {t d x : ℕ} (h : Represents c 
   stands_added {v = v} falls rec =
       let old = h.threads.thread t th at in
       let new = rec (record_in s t) record_now in
-      shown_by after h refl h.words (turnstiles_stay c s after (chan_queue d) _ (add_changes s t d x) refl refl refl h.queues)
+      shown_by after h refl refl h.words (turnstiles_stay c s after (chan_queue d) _ (add_changes s t d x) refl refl refl h.queues)
       (asleep c s t x (chan_queue d) lawful g.own refl record_now h.sleepers after X (add_changes s t d x) falls)
       (thread_changed after (record th { «record» = with_value th.record v }) h.threads g.thread (record {
         columns = λ i. record (old.columns i) { its_record = (new.columns ∙ sym (λ j. record (record_in s t) { sleep_queue = put_same s.sleep_queue t None j; blocked_on = put_same s.blocked_on t (Some (chan_queue d)) j })) i };
@@ -139,8 +139,9 @@ pub record IsBusy (c : Config) (s : State) (t l : ℕ) : Type 0 where
 record Blocks (s n : State) (t l : ℕ) (mode : Mode) (walk : state.Walk) : Type 0 where
   word : n.word ≡ put s.word l (entered (s.word l) (side_of mode))
   history : n.history ≡ s.history
+  edges : n.edges ≡ s.edges
   others : OthersStay s n t
-  thread : thread_in n t ≡ record (thread_in s t) { its_record = record_in n t; wait = Queued; walk = walk }
+  thread : thread_in n t ≡ record (thread_in s t) { its_record = record_in n t; wait = Queued; walk = walk; wants = true }
 
 module _ (c : Config) (s : State) (t l : ℕ) (mode : Mode) (x : ℕ) (kind : Kind) where
   pub is_busy : MayMake c (after_ready s t) (enters kind t l mode x) → IsBusy c s t l
@@ -179,12 +180,12 @@ module _ {m : Machine} {c : Config} {s : State} {t : ℕ} (h : Represents c m s)
 
     blocked : {l : ℕ} {mode : Mode} {chain : List (QueueName × Turnstile)} {sleepers : List (QueueName × SleepQueue)} {v : Record} (walk : Walk) (n : State) (w : ℕ) → IsBusy c s t l → Blocks s n t l mode (walk_of walk) → word_of w ≡ entered (s.word l) (side_of mode)
         → RepresentsQueues c chain (queue_in n) n.loan_home → RepresentsSleepers c sleepers (sleepers_in n) → RepresentsRecord v (record_in n t)
-        → Represents c (record m { words = with_item m.words l w; chain = chain; sleepers = sleepers; threads = with_item m.threads t (record th { «record» = with_value th.record v; wait = wait.Queued; walk = walk }) }) n
+        → Represents c (record m { words = with_item m.words l w; chain = chain; sleepers = sleepers; threads = with_item m.threads t (record th { «record» = with_value th.record v; wait = wait.Queued; walk = walk; wants = true }) }) n
     blocked {l = l} {mode = mode} {v = v} walk n w busy b word queues sleepers rec =
         let old = h.threads.thread t th at in
-        shown_by n h b.history (subst (RepresentsWords (with_item m.words l w).items c) (sym b.word) (word_changed m.words.items c s.word l w (entered (s.word l) (side_of mode)) h.words busy.lock word)) queues sleepers
-        (thread_changed n (record th { «record» = with_value th.record v; wait = wait.Queued; walk = walk }) h.threads busy.thread (record {
-          columns = (λ i. record (old.columns i) { its_record = rec.columns i; wait = Queued; walk = walk_of walk }) ∙ sym b.thread;
+        shown_by n h b.history b.edges (subst (RepresentsWords (with_item m.words l w).items c) (sym b.word) (word_changed m.words.items c s.word l w (entered (s.word l) (side_of mode)) h.words busy.lock word)) queues sleepers
+        (thread_changed n (record th { «record» = with_value th.record v; wait = wait.Queued; walk = walk; wants = true }) h.threads busy.thread (record {
+          columns = (λ i. record (old.columns i) { its_record = rec.columns i; wait = Queued; walk = walk_of walk; wants = true }) ∙ sym b.thread;
           one_loan_each = rec.one_loan_each;
           held = old.held;
           marked = old.marked;
@@ -207,22 +208,25 @@ module _ {m : Machine} {c : Config} {s : State} {t : ℕ} (h : Represents c m s)
       enters_turnstile = record {
         word = refl;
         history = refl;
+        edges = refl;
         others = λ u d i. record (thread_in s u) {
           its_record = record (record_in s u) { turnstile = put_other s.turnstile t None u (λ e. d (sym e)) i; blocked_on = put_other s.blocked_on t (Some (lock_queue l)) u (λ e. d (sym e)) i };
           wait = put_other s.wait t Queued u (λ e. d (sym e)) i;
           walk = put_other s.walk t (walk_up l (owner_of (s.word l).holder)) u (λ e. d (sym e)) i;
+          wants = is_some (put_other s.wanted t (Some l) u (λ e. d (sym e)) i);
         };
         thread = λ i. record (thread_in s t) {
           its_record = record_in (after_enter ready t l mode x) t;
           wait = put_same s.wait t Queued i;
           walk = put_same s.walk t (walk_up l (owner_of (s.word l).holder)) i;
+          wants = is_some (put_same s.wanted t (Some l) i);
         };
       }
 
       pub blocked_on_turnstile : {chain : List (QueueName × Turnstile)} {v : Record} {walk : Walk} {o : Option ℕ} (w : ℕ) → IsBusy c s t l → word_of w ≡ entered (s.word l) (side_of mode)
           → RepresentsQueues c chain (queue_in (after_enter ready t l mode x)) (after_enter ready t l mode x).loan_home → RepresentsRecord v (record_in (after_enter ready t l mode x) t)
           → o ≡ owner_of (s.word l).holder → walk ≡ hops.walk_up l (is_some o)
-          → Represents c (record m { words = with_item m.words l w; chain = chain; threads = with_item m.threads t (record th { «record» = with_value th.record v; wait = wait.Queued; walk = walk }) }) (after_enter ready t l mode x)
+          → Represents c (record m { words = with_item m.words l w; chain = chain; threads = with_item m.threads t (record th { «record» = with_value th.record v; wait = wait.Queued; walk = walk; wants = true }) }) (after_enter ready t l mode x)
       blocked_on_turnstile {walk = walk} {o = o} w busy word queues rec owner goes =
           let begins = ap walk_of goes ∙ walk_begins l o ∙ ap (walk_up l) owner in
           blocked walk (after_enter ready t l mode x) w busy (subst (Blocks s (after_enter ready t l mode x) t l mode) (sym begins) enters_turnstile) word queues
@@ -242,13 +246,16 @@ module _ {m : Machine} {c : Config} {s : State} {t : ℕ} (h : Represents c m s)
       enters_sleep = record {
         word = refl;
         history = refl;
+        edges = refl;
         others = λ u d i. record (thread_in s u) {
           its_record = record (record_in s u) { sleep_queue = put_other s.sleep_queue t None u (λ e. d (sym e)) i; blocked_on = put_other s.blocked_on t (Some (lock_queue l)) u (λ e. d (sym e)) i };
           wait = put_other s.wait t Queued u (λ e. d (sym e)) i;
+          wants = is_some (put_other s.wanted t (Some l) u (λ e. d (sym e)) i);
         };
         thread = λ i. record (thread_in s t) {
           its_record = record_in slept_on t;
           wait = put_same s.wait t Queued i;
+          wants = is_some (put_same s.wanted t (Some l) i);
         };
       }
 
@@ -262,7 +269,7 @@ module _ {m : Machine} {c : Config} {s : State} {t : ℕ} (h : Represents c m s)
 
       pub blocked_on_sleep_queue : {chain : List (QueueName × SleepQueue)} {v : Record} (w : ℕ) → IsBusy c s t l → word_of w ≡ entered (s.word l) (side_of mode)
           → FallsAsleep (lock_queue l) (side_of mode) th.record.value m.sleepers chain → RecordFallsAsleep (lock_queue l) th.record.value v
-          → Represents c (record m { words = with_item m.words l w; sleepers = chain; threads = with_item m.threads t (record th { «record» = with_value th.record v; wait = wait.Queued }) }) slept_on
+          → Represents c (record m { words = with_item m.words l w; sleepers = chain; threads = with_item m.threads t (record th { «record» = with_value th.record v; wait = wait.Queued; wants = true }) }) slept_on
       blocked_on_sleep_queue w busy word falls rec =
           let walks = ap (λ v. v.walk) (h.threads.thread t th at).columns in
           blocked th.walk slept_on w busy (subst (Blocks s slept_on t l mode) (sym walks) enters_sleep) word queues_slept

@@ -26,7 +26,7 @@ pub gone_on : {m : Machine} {c : Config} {s : State} {t : ℕ} (n : ℕ) (th : T
     → Represents c m s → Represents c (record m { threads = with_item m.threads t (going_on n th) }) s
 gone_on {s = s} {t = t} n th at k h =
     let old = h.threads.thread t th at in
-    shown_by s h refl h.words h.queues h.sleepers (thread_changed s (going_on n th) h.threads k (record { columns = old.columns; one_loan_each = old.one_loan_each; held = old.held; marked = old.marked }) (λ u n. refl))
+    shown_by s h refl refl h.words h.queues h.sleepers (thread_changed s (going_on n th) h.threads k (record { columns = old.columns; one_loan_each = old.one_loan_each; held = old.held; marked = old.marked }) (λ u n. refl))
 
 -- 2. Walks
 
@@ -43,6 +43,6 @@ pub walk_ended : {m : Machine} {c : Config} {s : State} {t : ℕ} (th : Thread) 
 unfolding after_end_walk
 walk_ended {s = s} {t = t} th h g at =
     let old = h.threads.thread t th at in
-    shown_by (after_end_walk s t) h refl h.words h.queues h.sleepers
+    shown_by (after_end_walk s t) h refl refl h.words h.queues h.sleepers
     (thread_changed (after_end_walk s t) (walked th) h.threads g.thread
     (record { columns = λ i. record (old.columns i) { walk = sym (put_same s.walk t NoWalk) i }; one_loan_each = old.one_loan_each; held = old.held; marked = old.marked }) (others s t))

@@ -1,18 +1,20 @@
 -- Whether a thread's objects say that it has ended, as the run says it.
 use Rattle.std.proofs.Common.{◌≡◌, ℕ, ◌<◌, Bool, true, false, not, ◌&&◌, ◌||◌, nat_le, List, [], ◌∷◌, length, map, slice_get, Some, None, option_map, IsSomeAnd, refl, sym, ap, subst, inl, inr, eq-eqb, ◌∙◌}
-use Rattle.std.proofs.lemmas.Bool.{cases_Bool, not_from_false, leb-true}
+use Rattle.std.proofs.lemmas.Bool.{cases_Bool, not_from_false, leb-true, or_cases}
 use Rattle.lock_model.specs.Plans.{config_of, operations_of}
 use Rattle.lock_model.specs.Counts.{any_below, is_empty}
 use Rattle.lock_model.specs.Holds.{is_unheld, Hold, Holds}
-use Rattle.lock_model.specs.Operations.{IsProper, hold_in, held_of}
-use Rattle.lock_state.specs.Run.{Run, is_walking, has_ended, holds_none, waits_on}
+use Rattle.lock_model.specs.Operations.{IsProper, hold_in}
+use Rattle.lock_state.specs.Run.{Run, is_walking, has_ended, holds_none, waits_on, was_cut}
+use Rattle.lock_state.specs.Facts.{OnlyLocksAreHeld}
 use Rattle.lock_model.specs.declared.plan.Plan.{Plan}
+use Rattle.lock_model.specs.declared.plan.Mode.{Mode}
 use Rattle.lock_model.specs.declared.event.Held.{Held}
 use Rattle.lock_laws.proofs.Shown.{true-any_below}
 use Rattle.lock_laws.proofs.Best.{any_below-true}
-use Rattle.lock_laws.proofs.HeldLists.{AreLocks, held_are_locks}
+use Rattle.lock_laws.specs.OnTrack.{held_now}
 use Rattle.lock_laws.proofs.Idle.{done_awake}
-use Rattle.lock_laws.proofs.OnTrack.{holds_all}
+use Rattle.lock_laws.proofs.OnTrack.{cut_no_wait}
 use Rattle.lock_objects.specs.Marked.{places_of}
 use Rattle.prio_lending.specs.declared.walk.Walk as walks
 use Rattle.prio_lending.specs.declared.walk.Walk.TheVariants as walk
@@ -29,7 +31,7 @@ abbrev none_held_by : ℕ → (ℕ → Hold) → Bool
 none_held_by n f = not (any_below n (λ l. not (is_unheld (f l))))
 
 -- a list of locks of the plan is empty exactly where none of them is held
-none_where_empty : (plan : Plan) (hs : List Held) → AreLocks plan hs → is_empty hs ≡ none_held_by (length plan.locks) (hold_in hs)
+none_where_empty : (plan : Plan) (hs : List Held) → ((l : ℕ) (mode : Mode) → hold_in hs l ≡ Holds mode → l < length plan.locks) → is_empty hs ≡ none_held_by (length plan.locks) (hold_in hs)
 none_where_empty plan [] a = sym (not_from_false (any_below n f) (elim (cases_Bool (any_below n f)) [
   | inl e ↦ absurd (let x = any_below-true n f e in let z : false ≡ true = x.2 in cc)
   | inr e ↦ e
@@ -42,7 +44,7 @@ none_where_empty plan [] a = sym (not_from_false (any_below n f) (elim (cases_Bo
     f l = not (is_unheld (hold_in [] l))
 none_where_empty plan (h ∷ hs) a =
     let some : ℕ → Bool = λ l. not (is_unheld (hold_in (h ∷ hs) l)) in
-    sym (ap not (true-any_below (length plan.locks) some h.l.0 (a.within h.l.0 (λ z. let y = sym first ∙ z in cc)) (ap (λ (x : Hold). not (is_unheld x)) first)))
+    sym (ap not (true-any_below (length plan.locks) some h.l.0 (a h.l.0 h.mode first) (ap (λ (x : Hold). not (is_unheld x)) first)))
   where
     first : hold_in (h ∷ hs) h.l.0 ≡ Holds h.mode
     first = rw (eq-eqb h.l.0 h.l.0 refl)
@@ -75,26 +77,39 @@ module _ (plan : Plan) (m : Machine) (r : Run) (t : ℕ) (th : Thread) (p : IsPr
   abbrev count : ℕ
   count = length (operations_of plan t)
 
-  -- a thread whose operations are done waits no more. So no release is owed, and it holds what its operations lead to
-  done : nat_le count (r.next_op t) ≡ true → (has_no_walk th.walk && is_empty (places_of th.marked) && is_empty th.held.items) ≡ has_ended plan r t
+  -- what it holds are locks of the plan
+  pub are_locks : (l : ℕ) (mode : Mode) → hold_in (held_now plan r t) l ≡ Holds mode → l < length plan.locks
+  unfolding OnlyLocksAreHeld
+  are_locks l mode i = h.on_track.taken.only_locks_are_held t l mode (h.on_track.holds t l ∙ i)
+
+  -- a thread whose operations are done, or that was cut, waits no more
+  awake_at_end : (nat_le count (r.next_op t) || was_cut r.state t) ≡ true → waits_on (r.state.log t) ≡ None
+  awake_at_end all = elim (or_cases (nat_le count (r.next_op t)) (was_cut r.state t) all) [
+    | inl done ↦ done_awake plan r t h.on_track (leb-true count (r.next_op t) done)
+    | inr cut ↦ cut_no_wait plan r t h.on_track cut
+  ]
+
+  -- so no release is owed
+  done : (nat_le count (r.next_op t) || was_cut r.state t) ≡ true → (has_no_walk th.walk && is_empty (places_of th.marked) && is_empty th.held.items) ≡ has_ended plan r t
   unfolding has_ended
   done all =
       let old = h.shows.shows.threads.thread t th e in
-      let awake : waits_on (r.state.log t) ≡ None = done_awake plan r t h.on_track (leb-true count (r.next_op t) all) in
-      let hs : List Held = held_of (operations_of plan t) (r.next_op t) in
-      let held : th.held.items ≡ hs = rw awake at (aside_is plan m r t th h lt e).held in
+      let awake = awake_at_end all in
+      let hs : List Held = held_now plan r t in
+      let held : th.held.items ≡ hs = (aside_is plan m r t th h lt e).held in
       let its_walk : has_no_walk th.walk ≡ not (is_walking (r.state.walk t)) = no_walk th.walk ∙ ap (λ w. not (is_walking w)) (ap (λ x. x.walk) old.columns) in
       let its_marked : is_empty (places_of th.marked) ≡ is_empty (r.state.marked t) = same_empty _ (places_of th.marked) ∙ ap is_empty (ap (λ x. x.marked) old.columns) in
-      let same : r.state.held t ≡ hold_in hs = λ i l. holds_all plan r t h.on_track awake l i in
-      let its_held : is_empty th.held.items ≡ holds_none (config_of plan) r.state t = ap is_empty held ∙ none_where_empty plan hs (held_are_locks plan p t (r.next_op t)) ∙ sym (ap (none_held_by (length plan.locks)) same) in
+      let same : r.state.held t ≡ hold_in hs = λ i l. h.on_track.holds t l i in
+      let its_held : is_empty th.held.items ≡ holds_none (config_of plan) r.state t = ap is_empty held ∙ none_where_empty plan hs are_locks ∙ sym (ap (none_held_by (length plan.locks)) same) in
       rw (its_walk, its_marked, its_held, all, awake) (neither (is_walking (r.state.walk t)) (is_empty (r.state.marked t)) (holds_none (config_of plan) r.state t))
 
   -- and one that has operations left hasn't ended
-  left : nat_le count (r.next_op t) ≡ false → false ≡ has_ended plan r t
+  left : (nat_le count (r.next_op t) || was_cut r.state t) ≡ false → false ≡ has_ended plan r t
   unfolding has_ended
   left more = rw more refl
 
   pub ends_as_said : thread_has_ended count th ≡ has_ended plan r t
   ends_as_said =
-      ap (λ i. nat_le count i && has_no_walk th.walk && is_empty (places_of th.marked) && is_empty th.held.items) (aside_is plan m r t th h lt e).next_op
-      ∙ elim (cases_Bool (nat_le count (r.next_op t))) [ inl all ↦ rw all (done all) | inr more ↦ rw more (left more) ]
+      ap (λ i. (nat_le count i || th.cut) && has_no_walk th.walk && is_empty (places_of th.marked) && is_empty th.held.items) (aside_is plan m r t th h lt e).next_op
+      ∙ ap (λ b. (nat_le count (r.next_op t) || b) && has_no_walk th.walk && is_empty (places_of th.marked) && is_empty th.held.items) (ap (λ x. x.cut) (h.shows.shows.threads.thread t th e).columns)
+      ∙ elim (cases_Bool (nat_le count (r.next_op t) || was_cut r.state t)) [ inl all ↦ rw all (done all) | inr more ↦ rw more (left more) ]

@@ -1,5 +1,5 @@
 -- A thread gains a lock whose word admits it, or claims one whose word shows waiters, and puts one down that it holds.
-use Rattle.std.proofs.Common.{◌≡◌, ℕ, ◌<◌, ◌≤◌, Bool, true, List, [], ◌∷◌, ◌++◌, length, slice_get, Option, Some, refl, sym, ap, subst, ◌∙◌, arith}
+use Rattle.std.proofs.Common.{◌≡◌, ℕ, ◌<◌, ◌≤◌, Bool, true, false, List, [], ◌∷◌, ◌++◌, length, slice_get, Option, Some, None, is_some, refl, sym, ap, subst, ◌∙◌, arith}
 use Rattle.std.specs.Prelude.{IfSome, option_map}
 use Rattle.std.specs.Box.{with_value}
 use Rattle.std.specs.Vec.{with_item, vec_capacity}
@@ -21,7 +21,7 @@ use Rattle.lock_model.specs.declared.plan.Mode.TheVariants.{Excl, Shared}
 use Rattle.lock_model.specs.declared.plan.QueueName.{QueueName}
 use Rattle.lock_model.specs.declared.numbers.LockNo.{LockNo}
 use Rattle.lock_model.specs.declared.event.Held.{Held}
-use Rattle.lock_laws.proofs.Kit.{put_other, put_at_other}
+use Rattle.lock_laws.proofs.Kit.{put_same, put_other, put_at_other}
 use Rattle.lock_laws.proofs.Sums.{sum_below-most}
 use Rattle.lock_laws.proofs.Words.{owner_is, has_sharer}
 use Rattle.lock_words.specs.Views as views
@@ -75,13 +75,13 @@ abbrev pub entry_of : LockNo → Mode → Bool → Held
 entry_of l mode by_try = record { l = l; mode = mode; by_try = by_try }
 
 -- the thread with one lock more, and with another record
-pub picked_up : {th p : Thread} {c : Config} {s : State} {t : ℕ} (n : State) (x : Held) (r : Record) → RepresentsThread th c s t → p ≡ record th { held = p.held } → p.held.items ≡ th.held.items ++ x ∷ [] → vec_capacity p.held ≡ vec_capacity th.held
-    → s.held t x.l.0 ≡ NotHeld → RepresentsRecord r (record_in n t) → thread_in n t ≡ record (thread_in s t) { its_record = record_in n t; held = put_at s.held t x.l.0 (Holds x.mode) t }
+pub picked_up : {th p : Thread} {c : Config} {s : State} {t : ℕ} (n : State) (x : Held) (r : Record) → RepresentsThread th c s t → p ≡ record th { held = p.held; wants = false } → p.held.items ≡ th.held.items ++ x ∷ [] → vec_capacity p.held ≡ vec_capacity th.held
+    → s.held t x.l.0 ≡ NotHeld → RepresentsRecord r (record_in n t) → thread_in n t ≡ record (thread_in s t) { its_record = record_in n t; held = put_at s.held t x.l.0 (Holds x.mode) t; wants = false }
     → RepresentsThread (record p { «record» = with_value p.record r }) c n t
 picked_up {th = th} {p = p} {s = s} {t = t} n x r old same items room unheld rec is =
     let shown : (k : ℕ) → hold_in th.held.items k ≡ s.held t k = λ k. ap (λ v. v.held k) old.columns in
     record {
-      columns = (λ i. record ((ap thread_of same ∙ (λ j. record (old.columns j) { held = hold_in p.held.items })) i) {
+      columns = (λ i. record ((ap thread_of same ∙ (λ j. record (old.columns j) { held = hold_in p.held.items; wants = false })) i) {
         its_record = rec.columns i;
         held = λ k. (ap (λ hs. hold_in hs k) items ∙ column_push s.held t th.held.items x unheld shown k) i;
       }) ∙ sym is;
@@ -95,18 +95,18 @@ picked_up {th = th} {p = p} {s = s} {t = t} n x r old same items room unheld rec
 
 gain_of_others : (s : State) (t l : ℕ) (mode : Mode) (by_try : Bool) → OthersStay s (after_gain s t l mode by_try) t
 unfolding after_gain
-gain_of_others s t l mode by_try u n = λ i. record (thread_in s u) { held = λ k. put_at_other s.held t l (Holds mode) u k (λ e. n (sym e)) i }
+gain_of_others s t l mode by_try u n = λ i. record (thread_in s u) { held = λ k. put_at_other s.held t l (Holds mode) u k (λ e. n (sym e)) i; wants = is_some (put_other s.wanted t None u (λ e. n (sym e)) i) }
 
 pub lock_gained : {m : Machine} {c : Config} {s : State} {t : ℕ} {th p : Thread} (l : LockNo) (mode : Mode) (by_try : Bool) (w : ℕ) → slice_get m.threads.items t ≡ Some th → word_of w ≡ words.gained (s.word l.0) t mode
-    → p ≡ record th { held = p.held } → p.held.items ≡ th.held.items ++ entry_of l mode by_try ∷ [] → vec_capacity p.held ≡ vec_capacity th.held → Represents c m s → MayGain c s t l.0 mode
+    → p ≡ record th { held = p.held; wants = false } → p.held.items ≡ th.held.items ++ entry_of l mode by_try ∷ [] → vec_capacity p.held ≡ vec_capacity th.held → Represents c m s → MayGain c s t l.0 mode
     → Represents c (record m { words = with_item m.words l.0 w; threads = with_item m.threads t p }) (after_gain s t l.0 mode by_try)
 unfolding after_gain
 lock_gained {m = m} {c = c} {s = s} {t = t} {th = th} {p = p} l mode by_try w at new same items room h g =
     let old = h.threads.thread t th at in
     let n = after_gain s t l.0 mode by_try in
-    shown_by n h refl (word_changed m.words.items c s.word l.0 w (words.gained (s.word l.0) t mode) h.words g.lock new) h.queues h.sleepers
+    shown_by n h refl refl (word_changed m.words.items c s.word l.0 w (words.gained (s.word l.0) t mode) h.words g.lock new) h.queues h.sleepers
     (thread_changed n p h.threads g.thread
-    (picked_up n (entry_of l mode by_try) p.record.value old same items room g.unheld (rw same (record_of old)) (λ i. record (thread_in s t) { held = put_at s.held t l.0 (Holds mode) t }))
+    (picked_up n (entry_of l mode by_try) p.record.value old same items room g.unheld (rw same (record_of old)) (λ i. record (thread_in s t) { held = put_at s.held t l.0 (Holds mode) t; wants = is_some (put_same s.wanted t None i) }))
     (gain_of_others s t l.0 mode by_try))
 
 claim_of_others : (c : Config) (s : State) (t l h : ℕ) (by_try : Bool) → OthersStay s (after_claim c s t l h by_try) t
@@ -116,18 +116,19 @@ claim_of_others c s t l h by_try u n =
     λ i. record (thread_in s u) {
       its_record = record (record_in s u) { effective = put_other s.effective t (effective_of c (put (s.loan t) l new) (s.base t)) u (λ e. n (sym e)) i; loan = λ k. put_at_other s.loan t l new u k (λ e. n (sym e)) i };
       held = λ k. put_at_other s.held t l (Holds Excl) u k (λ e. n (sym e)) i;
+      wants = is_some (put_other s.wanted t None u (λ e. n (sym e)) i);
     }
 
 pub lock_claimed : {m : Machine} {c : Config} {s : State} {t h : ℕ} {th p : Thread} {chain : List (QueueName × Turnstile)} {r : Record} (l : LockNo) (by_try : Bool) (w : ℕ) → slice_get m.threads.items t ≡ Some th → word_of w ≡ words.claimed (s.word l.0) t
-    → p ≡ record th { held = p.held } → p.held.items ≡ th.held.items ++ entry_of l Excl by_try ∷ [] → vec_capacity p.held ≡ vec_capacity th.held → Represents c m s → MayClaim c s t l.0 h
+    → p ≡ record th { held = p.held; wants = false } → p.held.items ≡ th.held.items ++ entry_of l Excl by_try ∷ [] → vec_capacity p.held ≡ vec_capacity th.held → Represents c m s → MayClaim c s t l.0 h
     → RepresentsQueues c chain (queue_in (after_claim c s t l.0 h by_try)) (after_claim c s t l.0 h by_try).loan_home → RepresentsRecord r (record_in (after_claim c s t l.0 h by_try) t)
     → Represents c (record m { words = with_item m.words l.0 w; chain = chain; threads = with_item m.threads t (record p { «record» = with_value p.record r }) }) (after_claim c s t l.0 h by_try)
 unfolding after_claim
 lock_claimed {m = m} {c = c} {s = s} {t = t} {h = h} {th = th} {p = p} {r = r} l by_try w at new same items room shown g queues rec =
     let n = after_claim c s t l.0 h by_try in
-    shown_by n shown refl (word_changed m.words.items c s.word l.0 w (words.claimed (s.word l.0) t) shown.words g.lock new) queues shown.sleepers
+    shown_by n shown refl refl (word_changed m.words.items c s.word l.0 w (words.claimed (s.word l.0) t) shown.words g.lock new) queues shown.sleepers
     (thread_changed n (record p { «record» = with_value p.record r }) shown.threads g.thread
-    (picked_up n (entry_of l Excl by_try) r (shown.threads.thread t th at) same items room g.unheld rec (λ i. record (thread_in s t) { its_record = record_in n t; held = put_at s.held t l.0 (Holds Excl) t }))
+    (picked_up n (entry_of l Excl by_try) r (shown.threads.thread t th at) same items room g.unheld rec (λ i. record (thread_in s t) { its_record = record_in n t; held = put_at s.held t l.0 (Holds Excl) t; wants = is_some (put_same s.wanted t None i) }))
     (claim_of_others c s t l.0 h by_try))
 
 -- 2. A drop
@@ -172,5 +173,5 @@ pub lock_dropped : (m : Machine) (c : Config) (s : State) (t l : ℕ) (mode : Mo
 unfolding after_drop
 lock_dropped m c s t l mode w th new at word same items room h g =
     let n = after_drop s t l in
-    shown_by n h refl (word_changed m.words.items c s.word l w (words.dropped (s.word l)) h.words g.lock word) h.queues h.sleepers
+    shown_by n h refl refl (word_changed m.words.items c s.word l w (words.dropped (s.word l)) h.words g.lock word) h.queues h.sleepers
     (thread_changed n new h.threads g.thread (put_down n l (h.threads.thread t th at) same items room refl) (drop_of_others s t l))

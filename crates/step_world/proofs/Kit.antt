@@ -19,7 +19,7 @@ use Rattle.sleep_queues.specs.Seen.{SleepQueue}
 use Rattle.step_world.specs.declared.thread.Thread.{Thread}
 use Rattle.step_world.specs.Steps.{Progress, progress_of}
 use Rattle.step_world.specs.declared.machine.Machine.{Machine}
-use Rattle.step_world.specs.Represents.{Represents, RepresentsWords, RepresentsThread, RepresentsThreads, thread_in}
+use Rattle.step_world.specs.Represents.{Represents, RepresentsWords, RepresentsThread, RepresentsThreads, RepresentsOrders, thread_in}
 
 -- 1. Lists
 
@@ -113,10 +113,10 @@ read {ths = ths} {c = c} t i th h l e is = slice_get_read ths c.threads t th (sy
 
 -- 5. Steps that make no entry
 
-pub shown_by : {m : Machine} {c : Config} {s : State} {words : Vec ℕ} {chain : List (QueueName × Turnstile)} {sleepers : List (QueueName × SleepQueue)} {threads : Vec Thread} (n : State) → Represents c m s → n.history ≡ s.history
+pub shown_by : {m : Machine} {c : Config} {s : State} {words : Vec ℕ} {chain : List (QueueName × Turnstile)} {sleepers : List (QueueName × SleepQueue)} {threads : Vec Thread} (n : State) → Represents c m s → n.history ≡ s.history → n.edges ≡ s.edges
     → RepresentsWords words.items c n.word → RepresentsQueues c chain (queue_in n) n.loan_home → RepresentsSleepers c sleepers (sleepers_in n) → RepresentsThreads threads.items c n
     → Represents c (record m { words = words; chain = chain; sleepers = sleepers; threads = threads }) n
-shown_by n h same words_seen queues_seen sleepers_seen threads_seen = record {
+shown_by {m = m} {c = c} n h same edges words_seen queues_seen sleepers_seen threads_seen = record {
   within = h.within;
   words = words_seen;
   queues = queues_seen;
@@ -124,9 +124,10 @@ shown_by n h same words_seen queues_seen sleepers_seen threads_seen = record {
   threads = threads_seen;
   history = h.history ∙ ap (λ es. reverse es) (sym same);
   tables = h.tables ∙ ap tables_of (sym same);
+  orders = subst (RepresentsOrders c m.orders) (sym edges) h.orders;
 }
 
 -- no object tells of a look
 pub looked : {m : Machine} {c : Config} {s : State} (t l : ℕ) (in_round : Bool) → Represents c m s → Represents c m (after_look s t l in_round)
 unfolding after_look
-looked {s = s} t l in_round h = shown_by (after_look s t l in_round) h refl h.words h.queues h.sleepers (threads_stay (after_look s t l in_round) h.threads (λ u. refl))
+looked {s = s} t l in_round h = shown_by (after_look s t l in_round) h refl refl h.words h.queues h.sleepers (threads_stay (after_look s t l in_round) h.threads (λ u. refl))

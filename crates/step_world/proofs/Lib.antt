@@ -7,11 +7,13 @@ pub mod Blocking
 pub mod Ending
 pub mod Holding
 pub mod Stamping
+pub mod Ordering
 pub mod Opening
 pub mod Ends
 pub mod AsFar
 pub mod Turning
 pub mod RowsOfLocks
+pub mod RowsOfTakes
 pub mod RowsOfWaits
 pub mod RowsOfOperations
 pub mod WorldsAreSound

@@ -199,7 +199,7 @@ module _ {m : Machine} {c : Config} {s : State} {t : ℕ} {th : Thread} {f : Wok
 
     pub marked_shown : Represents c (record m { threads = with_item (with_item m.threads t (with_marked th left)) p.thread (woken w (record_woken f w.record.value) queue) }) (after_mark c s t k ks)
     unfolding after_mark
-    marked_shown = shown_by (after_mark c s t k ks) h refl h.words h.queues h.sleepers
+    marked_shown = shown_by (after_mark c s t k ks) h refl refl h.words h.queues h.sleepers
         (subst (λ (x : Mark). RepresentsThreads (slice_set (slice_set m.threads.items t (with_marked th left)) p.thread (woken w (record_woken f w.record.value) queue)) c (after_mark c s t x ks)) its_mark
         (thread_changed (after c s t queue p ks) (woken w (record_woken f w.record.value) queue) first_changed is_thread (wakes c s t queue f ks its_queue has_object its) (not_marked c s t queue p ks (is_waiter f) its_queue)))
 

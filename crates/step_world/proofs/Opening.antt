@@ -83,7 +83,7 @@ module _ {m : Machine} {c : Config} {s : State} (d : ℕ) (all : Bool) (h : Repr
         let old = h.threads.thread t th at in
         let b = balanced c s q lawful in
         let marks = takes c s refl b h.sleepers in
-        shown_by after h refl h.words (turnstiles_stay c s after q _ (wake_changes s t d all) refl refl refl h.queues) (falls c s after refl b (wake_changes s t d all) h.sleepers)
+        shown_by after h refl refl h.words (turnstiles_stay c s after q _ (wake_changes s t d all) refl refl refl h.queues) (falls c s after refl b (wake_changes s t d all) h.sleepers)
         (thread_changed after (record th { marked = Sleepers ps; marked_from = q }) h.threads g.thread (record {
           columns = λ i. record (old.columns i) { marked = (marks.0 ∙ sym (put_same s.marked t (dealt q (taken_off all (s.lists q).exclusive) (s.free_list q) (s.head q)))) i };
           one_loan_each = old.one_loan_each;
@@ -97,6 +97,7 @@ module _ {m : Machine} {c : Config} {s : State} (d : ℕ) (all : Bool) (h : Repr
 record Opened (c : Config) (s n : State) (t l : ℕ) : Type 0 where
   word : n.word ≡ put s.word l (opened (c.kind l) (s.word l))
   history : n.history ≡ s.history
+  edges : n.edges ≡ s.edges
   others : OthersStay s n t
   thread : thread_in n t ≡ record (thread_in s t) { its_record = record_in n t; held = put_at s.held t l NotHeld t; marked = n.marked t }
 
@@ -154,7 +155,7 @@ module _ {m : Machine} {c : Config} {s : State} {t : ℕ} (h : Represents c m s)
       → Represents c (record m { words = with_item m.words l v; chain = chain; sleepers = sleepers; threads = with_item m.threads t (record p { «record» = with_value p.record r; marked = marked; marked_from = lock_queue l }) }) n
   released {l = l} {r = r} {p = p} n marked v g o word queues sleepers rec marks of_kind down =
       let old = h.threads.thread t th at in
-      shown_by n h o.history (subst (RepresentsWords (with_item m.words l v).items c) (sym o.word) (word_changed m.words.items c s.word l v (opened (c.kind l) (s.word l)) h.words g.lock word)) queues sleepers
+      shown_by n h o.history o.edges (subst (RepresentsWords (with_item m.words l v).items c) (sym o.word) (word_changed m.words.items c s.word l v (opened (c.kind l) (s.word l)) h.words g.lock word)) queues sleepers
       (thread_changed n (record p { «record» = with_value p.record r; marked = marked; marked_from = lock_queue l }) h.threads g.thread (record {
         columns = (λ i. record ((ap thread_of down.same ∙ (λ j. record (old.columns j) { held = hold_in p.held.items })) i) {
           its_record = rec.columns i;
@@ -176,6 +177,7 @@ module _ {m : Machine} {c : Config} {s : State} {t : ℕ} (h : Represents c m s)
     opens_turnstile = record {
       word = refl;
       history = refl;
+      edges = refl;
       others = λ u d i. record (thread_in s u) {
         its_record = record (record_in s u) { effective = put_other s.effective t (effective_of c (put (s.loan t) l None) (s.base t)) u (λ e. d (sym e)) i; loan = λ k. put_at_other s.loan t l None u k (λ e. d (sym e)) i };
         held = λ k. put_at_other s.held t l NotHeld u k (λ e. d (sym e)) i;
@@ -207,6 +209,7 @@ module _ {m : Machine} {c : Config} {s : State} {t : ℕ} (h : Represents c m s)
     opens_sleep = record {
       word = refl;
       history = refl;
+      edges = refl;
       others = λ u d i. record (thread_in s u) {
         held = λ k. put_at_other s.held t l NotHeld u k (λ e. d (sym e)) i;
         marked = put_other s.marked t marks u (λ e. d (sym e)) i;

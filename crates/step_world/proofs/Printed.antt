@@ -1,10 +1,14 @@
 -- What is printed of a course is what the definition prints of it.
-use Rattle.std.proofs.Common.{◌≡◌, ℕ, reverse, map, sym, ap, subst, ◌∙◌}
+use Rattle.std.proofs.Common.{◌≡◌, ℕ, Bool, true, false, cond, ◌||◌, List, [], ◌∷◌, ◌++◌, reverse, map, refl, sym, ap, subst, ◌∙◌}
+use Rattle.std.proofs.lemmas.List.{reverse-append}
 use Rattle.std.specs.FinMap.{entries}
 use Rattle.lock_model.specs.History.{tables_of}
 use Rattle.lock_model.specs.Plans.{config_of}
+use Rattle.lock_model.specs.Takes.{is_reversal, has_reversal}
+use Rattle.lock_model.specs.Text.{IsReversed, IsDone}
 use Rattle.lock_state.specs.Run as run
-use Rattle.lock_state.specs.Run.{Run, outcome_of, queue_lines, threads_of}
+use Rattle.lock_state.specs.Run.{Run, outcome_of, queue_lines, threads_of, whole_ending}
+use Rattle.lock_model.specs.declared.event.Entry.{Entry}
 use Rattle.lock_model.specs.declared.plan.Plan.{Plan}
 use Rattle.lock_history.specs.Tickets.{InOrder}
 use Rattle.lock_history.specs.Endings.{ending_of, numbers_of}
@@ -22,6 +26,27 @@ use Rattle.step_world.proofs.Outcomes.{lines_are, finals_are}
 pub its_run : (plan : Plan) (chains : ℕ) (course : Course) (k : run.Course) → IsCourse plan chains course k → IsRunOf plan course.world.machine k.run
 its_run plan chains course k h =
     subst (λ (p : Plan). IsRunOf p course.world.machine k.run) h.plan_is h.shows
+
+-- whether a refusal stands among entries doesn't depend on their order
+reversal-push : (es : List Entry) (e : Entry) → has_reversal (es ++ e ∷ []) ≡ (is_reversal e.event || has_reversal es)
+reversal-push [] e = refl
+reversal-push (x ∷ xs) e = ap (λ b. is_reversal x.event || b) (reversal-push xs e) ∙ swap (is_reversal x.event) (is_reversal e.event)
+  where
+    swap : (a b : Bool) → (a || (b || has_reversal xs)) ≡ (b || (a || has_reversal xs))
+    swap true true = refl
+    swap true false = refl
+    swap false b = refl
+
+reversal-reverse : (es : List Entry) → has_reversal (reverse es) ≡ has_reversal es
+reversal-reverse [] = refl
+reversal-reverse (e ∷ es) = ap has_reversal (reverse-append (e ∷ []) es) ∙ reversal-push (reverse es) e ∙ ap (λ b. is_reversal e.event || b) (reversal-reverse es)
+
+-- so one of its log says how it ended where all threads have ended
+pub ended_with : {plan : Plan} {chains : ℕ} {course : Course} {k : run.Course} {b : Bool} → IsCourse plan chains course k → has_reversal course.world.machine.log.entries ≡ b
+    → whole_ending k.run.state.history ≡ cond b IsReversed IsDone
+ended_with {plan} {chains} {course} {k} h e =
+    let shown = its_run plan chains course k h in
+    ap (λ b. cond b IsReversed IsDone) (sym (reversal-reverse k.run.state.history) ∙ ap has_reversal (sym shown.shows.shows.history) ∙ e)
 
 -- the entries of its log are in order
 pub log_in_order : (plan : Plan) (m : Machine) (r : Run) → IsRunOf plan m r → InOrder m.log.entries

@@ -1,21 +1,24 @@
 -- The rows of the table for a running thread that takes, tries or releases a lock, by what it reads.
-use Rattle.std.proofs.Common.{◌≡◌, ℕ, suc, ◌<◌, Bool, true, false, cond, List, [], ◌∷◌, ◌++◌, length, length-append, slice_get, Option, Some, None, IsSomeAnd, unwrap_or, refl, sym, ap, subst, arith, ◌∙◌}
+use Rattle.std.proofs.Common.{◌≡◌, ◌≢◌, ℕ, suc, ◌+◌, ◌-◌, ◌<◌, Bool, true, false, cond, List, [], ◌∷◌, ◌++◌, length, take, length-append, slice_get, get_or, Option, Some, None, IsSomeAnd, unwrap_or, refl, sym, ap, subst, arith, ◌∙◌}
 use Rattle.std.specs.Prelude.{IfSome, vec_len}
+use Rattle.std.proofs.lemmas.List.{take_all, take_more}
+use Rattle.std.proofs.lemmas.Option.{none-some, same_Some, slice_get-get_or}
 use Rattle.lock_model.specs.Plans.{config_of}
 use Rattle.lock_model.specs.Operations.{IsProper, hold_in, without_lock}
 use Rattle.lock_model.specs.Limits.{most_held}
 use Rattle.lock_model.specs.Config.{Config}
 use Rattle.lock_model.specs.Holds.{NotHeld, Holds}
 use Rattle.lock_model.specs.Queues.{lock_queue}
+use Rattle.lock_model.specs.Takes.{has_reversal}
 use Rattle.lock_model.specs.Words.{word_of, bits_of, IsWellFormed, admits, is_plain, is_drop, is_turnstile}
-use Rattle.lock_state.specs.State.{State, put_at}
+use Rattle.lock_state.specs.State.{State, HeldLock, put_at}
 use Rattle.lock_state.specs.Facts.{Lawful}
-use Rattle.lock_state.specs.Steps.{Step, Looks, Gains, Claims, Stamps, Readies, Enters, EntersSleepQueue, Drops, Opens, OpensSleepQueue, May as MayMake, after, after_all}
-use Rattle.lock_state.specs.Steps.LockWords.{after_gain, after_drop, after_look, after_ready, after_stamp}
+use Rattle.lock_state.specs.Steps.{Step, Looks, Gains, Claims, Stamps, Readies, Enters, EntersSleepQueue, Drops, Opens, OpensSleepQueue, May as MayMake, MayAll, after, after_all}
+use Rattle.lock_state.specs.Steps.LockWords.{without_held, MayStamp, after_gain, after_drop, after_look, after_ready, after_stamp}
 use Rattle.lock_state.specs.Steps.Turnstiles.{after_enter, after_open}
 use Rattle.lock_state.specs.Steps.SleepQueues.{after_enter_sleep, after_open_sleep}
 use Rattle.lock_state.specs.Steps.Lending.{after_claim}
-use Rattle.lock_state.specs.Run.{Run, ends, does, blocks, gives_back, releases, takes, operates, mode_held}
+use Rattle.lock_state.specs.Run.{Run, ends, does, blocks, takes, operates, mode_held, waits_on}
 use Rattle.lock_model.specs.declared.numbers.LockNo.{LockNo}
 use Rattle.lock_model.specs.declared.event.Held.{Held}
 use Rattle.lock_model.specs.declared.plan.Kind.{Kind}
@@ -29,22 +32,26 @@ use Rattle.lock_model.specs.declared.event.Event.{Event}
 use Rattle.lock_model.specs.declared.event.Event.TheVariants as event
 use Rattle.lock_model.specs.declared.turn.StepKind.{StepKind}
 use Rattle.lock_model.specs.declared.turn.StepKind.TheVariants as kinds
-use Rattle.lock_model.specs.declared.turn.Turn.TheVariants.{Did}
-use Rattle.lock_laws.specs.OnTrack.{IsAtOperation, held_now}
+use Rattle.lock_model.specs.declared.turn.Turn.TheVariants.{Did, Idle}
+use Rattle.lock_laws.specs.OnTrack.{IsAtOperation, held_now, gained_order}
 use Rattle.lock_laws.proofs.AtTurn.{well_formed}
-use Rattle.lock_laws.proofs.HeldLists.{held_few, try_passes, release_fits}
-use Rattle.lock_laws.proofs.OnTrack.{awake, behind, fit}
-use Rattle.lock_laws.proofs.Table.{Taking, anew, back, Gaining, by_taking, by_trying, makes_operation}
+use Rattle.lock_laws.proofs.Steps.{keeps}
+use Rattle.lock_laws.proofs.Kit.{put_same}
+use Rattle.lock_laws.proofs.HeldLists.{held_few, try_passes, release_fits, gained_order-push}
+use Rattle.lock_laws.proofs.OnTrack.{awake, before, behind, fit, IsAwake}
+use Rattle.lock_laws.proofs.Table.{Taking, anew, back, Gaining, by_taking, by_trying, makes_operation, goes_by_wait}
 use Rattle.lock_laws.proofs.TurnsOfGains.{Finds, finds}
+use Rattle.lock_laws.proofs.TurnsOfReleases as releases
 use Rattle.step_world.specs.declared.machine.Machine.{Machine}
 use Rattle.step_world.specs.declared.thread.Thread.{Thread}
 use Rattle.step_world.specs.Represents.{Represents}
-use Rattle.step_world.specs.Steps.{HoldsFew, Progress, progress, ChangesProgress, KeepsBooks, with_released, enters, opens}
+use Rattle.step_world.specs.Steps.{Makes, HoldsFew, Progress, progress, ChangesProgress, KeepsBooks, with_released, enters, opens}
 use Rattle.step_world.specs.declared.turns.Made.TheVariants.{Does, Ends, Skips}
-use Rattle.step_world.specs.Runs.{HasState, IsRunOf, IsMade, IsAsFar, IsTake, IsGain, GivesBack, MayGiveBack, back_in}
+use Rattle.step_world.specs.Runs.{HasState, IsRunOf, IsTurn, IsMade, IsAsFar, IsTake, IsGain, IsGivingUp, GivesBack, MayGiveBack, MayUnlock, Unlocks, back_in, unlocks}
 use Rattle.step_world.proofs.Kit.{word_read}
-use Rattle.step_world.proofs.AsFar.{waits_behind, runs_on}
-use Rattle.step_world.proofs.Turning.{of_books, IsTurning, goes, Begins, begins, made_behind, made_still}
+use Rattle.step_world.proofs.AsFar.{waits_behind, cut_behind, awake_behind, behind_cut}
+use Rattle.step_world.proofs.Turning.{SameRoom, of_books, IsTurning, goes, all_made, Begins, begins, made, made_behind, made_still, still, stays}
+use Rattle.step_world.proofs.Ends.{aside_is}
 
 -- 1. The word of a lock
 
@@ -70,6 +77,24 @@ state_of {r = r} h = (r.state, h.shows.shows, h.on_track.lawful.lawful, tt)
 
 abbrev pub holding : LockNo → Mode → Bool → Progress → Progress
 holding l mode by_try a = record a { held = a.held ++ (record { l = l; mode = mode; by_try = by_try }) ∷ [] }
+
+-- the last of what is held
+pub last_of : (hs : List Held) {x : Held} → Some x ≡ slice_get hs (length hs - 1) → hs ≡ take (length hs - 1) hs ++ x ∷ []
+last_of [] e = absurd cc
+last_of (h ∷ hs) {x} e =
+    let n = length hs in
+    let last : length (h ∷ hs) - 1 ≡ n = omega arith in
+    let there : n < length (h ∷ hs) = omega arith in
+    let read : get_or (h ∷ hs) n x ≡ x = same_Some _ x (sym (slice_get-get_or (h ∷ hs) n x there) ∙ sym (e ∙ ap (slice_get (h ∷ hs)) last)) in
+    sym (take_all (n + 1) (h ∷ hs) (omega arith)) ∙ take_more (h ∷ hs) n x there ∙ ap (λ y. take n (h ∷ hs) ++ y ∷ []) read ∙ ap (λ k. take k (h ∷ hs) ++ x ∷ []) (sym last)
+
+pub none_last : (hs : List Held) → None ≡ slice_get hs (length hs - 1) → hs ≡ []
+none_last [] e = refl
+none_last (h ∷ hs) e = absurd (none-some _ (e ∙ slice_get-get_or (h ∷ hs) (length (h ∷ hs) - 1) h (omega arith)))
+
+-- as a state lists it
+abbrev listed : Held → HeldLock
+listed x = record { lock = x.l.0; by_try = x.by_try }
 
 -- 3. Giving a lock back
 
@@ -102,7 +127,7 @@ module _ (c : Config) (s : State) (t l : ℕ) (mode : Mode) where
   pub opened : {m : Machine} → is_drop (s.word l) ≡ false → Represents c m (after c s (opens (c.kind l) t l mode)) → (kinds.OpenUp ≡ (back_in c s t l mode).0) × Represents c m (after c s (back_in c s t l mode).1)
   opened e h = rw e (refl, h)
 
-  -- which makes no entry
+  -- which makes no entry,
   pub back_keeps_log : (after c s (back_in c s t l mode).1).log t ≡ s.log t
   unfolding after_drop after_open after_open_sleep
   back_keeps_log = go (is_drop (s.word l)) (is_turnstile (c.kind l))
@@ -111,6 +136,16 @@ module _ (c : Config) (s : State) (t l : ℕ) (mode : Mode) where
       go true k = refl
       go false true = refl
       go false false = refl
+
+  -- takes the lock off the list of those that are held,
+  pub back_lists : (after c s (back_in c s t l mode).1).held_locks t ≡ without_held l (s.held_locks t)
+  unfolding after_drop after_open after_open_sleep
+  back_lists = go (is_drop (s.word l)) (is_turnstile (c.kind l))
+    where
+      go : (b k : Bool) → (after c s (cond {A = StepKind × Step} b (kinds.Drop, Drops t l mode) (kinds.OpenUp, cond k (Opens t l mode) (OpensSleepQueue t l mode))).1).held_locks t ≡ without_held l (s.held_locks t)
+      go true k = put_same s.held_locks t (without_held l (s.held_locks t))
+      go false true = put_same s.held_locks t (without_held l (s.held_locks t))
+      go false false = put_same s.held_locks t (without_held l (s.held_locks t))
 
   -- and is of this lock alone
   pub back_puts : (after c s (back_in c s t l mode).1).held ≡ put_at s.held t l NotHeld
@@ -148,6 +183,34 @@ module _ {plan : Plan} {r : Run} {t : ℕ} {m n : Machine} {s : State} {a : Prog
     room = of_books books;
   })
 
+-- behind the entry of the release, in the mode that was read of the thread
+module _ (plan : Plan) {m : Machine} {s : State} {t : ℕ} {l : LockNo} {mode : Mode} (h : Represents (config_of plan) m s) (lawful : Lawful (config_of plan) s) (may : MayUnlock (config_of plan) s t l mode) {th : Thread} {read : Mode}
+    (is : slice_get m.threads.items t ≡ Some th) (its : read ≡ mode_held (hold_in th.held.items l.0)) where
+  abbrev noted_by : Mode → State
+  noted_by x = after_stamp (config_of plan) s t (event.Unlocked l x)
+
+  its_read : mode ≡ read
+  its_read = sym (its ∙ ap (λ x. mode_held (x.held l.0)) (h.threads.thread t th is).columns ∙ ap mode_held may.held)
+
+  pub may_note : MayStamp (config_of plan) s t (event.Unlocked l read)
+  may_note = subst (λ x. MayStamp (config_of plan) s t (event.Unlocked l x)) its_read may.may.0
+
+  noted_lawful : Lawful (config_of plan) (noted_by mode)
+  noted_lawful = keeps (config_of plan) s (Stamps t (event.Unlocked l mode)) may.may.0 lawful
+
+  module _ {n : Machine} (makes : Makes m n (Stamps t (event.Unlocked l read))) where
+    noted_shown : Represents (config_of plan) n (noted_by mode)
+    noted_shown = subst (λ x. Represents (config_of plan) n (noted_by x)) (sym its_read) (makes (config_of plan) s h lawful may_note)
+
+    pub may_give_then : HasState plan n (λ x. (y : Mode) × MayGiveBack (config_of plan) x t l.0 y)
+    unfolding after_stamp
+    may_give_then = (noted_by mode, noted_shown, noted_lawful, (mode, may.may.1.0))
+
+    pub gave_then : {x : Machine} {kind : StepKind} → GivesBack plan n x t l.0 kind
+        → (kind ≡ (back_in (config_of plan) s t l.0 mode).0) × Represents (config_of plan) x (after_all (config_of plan) s (unlocks (config_of plan) s t l mode))
+    unfolding after_stamp
+    gave_then gave = gave (noted_by mode) mode noted_shown noted_lawful may.may.1.0
+
 -- 4. What a taking, a try and a release find
 
 module _ {plan : Plan} {m : Machine} {t : ℕ} {r : Run} (p : IsProper plan) (lt : t < length plan.threads) (h : IsRunOf plan m r) where
@@ -171,7 +234,7 @@ module _ {plan : Plan} {m : Machine} {t : ℕ} {r : Run} (p : IsProper plan) (lt
       record { op = op; at = at; taken = row by; lock = f.lock; kind = f.mutex; few = few_so _ f.adds; holds_more = f.adds }
     where
       row : {k : LockNo} {x : Mode} {o : Op} {v : Event} → Taking plan r t k x o v → operates c r t (Some o) ≡ takes c r t k x v
-      row (anew k x) = refl
+      row (anew k x n w) = rw w refl
       row (back d b w) = rw w refl
 
   -- gains the lock where its word admits the mode
@@ -206,8 +269,8 @@ module _ {plan : Plan} {m : Machine} {t : ℕ} {r : Run} (p : IsProper plan) (lt
     unfolding after_gain
     gained i now =
         let b = gains_row i in
-        let wakes = waits_behind c (after_gain s t l.0 mode by_try) t e ∙ runs_on c (after_gain s t l.0 mode by_try) t e b.turning.may.1.0 g.at.running in
-        made_behind (Ends kinds.Gain) (suc (r.next_op t)) refl b now wakes b.as_far.next_op (ap (λ (hs : List Held). hs ++ (record { l = l; mode = mode; by_try = by_try }) ∷ []) b.as_far.held ∙ g.holds_more)
+        let up = awake_behind c (after_gain s t l.0 mode by_try) t e b.turning.may.1.0 g.at.running (h.on_track.unnoted t) g.at.uncut in
+        made_behind (Ends kinds.Gain) (suc (r.next_op t)) refl b now up b.as_far.next_op (ap (λ (hs : List Held). hs ++ (record { l = l; mode = mode; by_try = by_try }) ∷ []) b.as_far.held ∙ g.holds_more)
 
     -- or by a claim, which is exclusive
     abbrev head : ℕ
@@ -221,8 +284,8 @@ module _ {plan : Plan} {m : Machine} {t : ℕ} {r : Run} (p : IsProper plan) (lt
     unfolding after_claim
     claimed i now =
         let b = claims_row i in
-        let wakes = waits_behind c (after_claim c s t l.0 head by_try) t e ∙ runs_on c (after_claim c s t l.0 head by_try) t e b.turning.may.1.0 g.at.running in
-        made_behind (Ends kinds.Claim) (suc (r.next_op t)) refl b now wakes b.as_far.next_op
+        let up = awake_behind c (after_claim c s t l.0 head by_try) t e b.turning.may.1.0 g.at.running (h.on_track.unnoted t) g.at.uncut in
+        made_behind (Ends kinds.Claim) (suc (r.next_op t)) refl b now up b.as_far.next_op
         (ap (λ (hs : List Held). hs ++ (record { l = l; mode = Excl; by_try = by_try }) ∷ []) b.as_far.held ∙ ap (λ (x : Mode). held_now plan r t ++ (record { l = l; mode = x; by_try = by_try }) ∷ []) (sym (exclusive mode i)) ∙ g.holds_more)
       where
         exclusive : (x : Mode) → is_plain (c.kind l.0) (s.word l.0) x ≡ false → x ≡ Excl
@@ -251,13 +314,13 @@ module _ {plan : Plan} {m : Machine} {t : ℕ} {r : Run} (p : IsProper plan) (lt
 
     pub blocked : {n : Machine} → IsTurning plan r t n (after_all c s blocking) blocks_row.at [] → IsMade plan r t n (Does (Did kinds.Enter))
     unfolding after_ready after_enter after_enter_sleep
-    blocked now = made_still blocks_row now (ap (λ f. f t) stays.0) (ap (λ f. f t) stays.1)
+    blocked now = made_still blocks_row now (ap (λ f. f t) stays.0) (ap (λ f. f t) stays.1) (ap (λ f. f t) stays.2)
       where
-        by_kind : (b : Bool) (x : ℕ) → let n = after c (after_ready s t) (cond b (Enters t l.0 mode x) (EntersSleepQueue t l.0 mode x)) in (n.held ≡ s.held) × (n.log ≡ s.log)
-        by_kind true x = (refl, refl)
-        by_kind false x = (refl, refl)
+        by_kind : (b : Bool) (x : ℕ) → let n = after c (after_ready s t) (cond b (Enters t l.0 mode x) (EntersSleepQueue t l.0 mode x)) in (n.held ≡ s.held) × (n.held_locks ≡ s.held_locks) × (n.log ≡ s.log)
+        by_kind true x = (refl, refl, refl)
+        by_kind false x = (refl, refl, refl)
 
-        stays : ((after_all c s blocking).held ≡ s.held) × ((after_all c s blocking).log ≡ s.log)
+        stays : ((after_all c s blocking).held ≡ s.held) × ((after_all c s blocking).held_locks ≡ s.held_locks) × ((after_all c s blocking).log ≡ s.log)
         stays = by_kind (is_turnstile kind) own
 
   -- 7. A try that isn't admitted finds the lock busy, with the word that it saw
@@ -273,34 +336,104 @@ module _ {plan : Plan} {m : Machine} {t : ℕ} {r : Run} (p : IsProper plan) (lt
     unfolding after_look
     found_busy now =
         let b = busy_row in
-        let up = awake plan r t h.on_track (Try l mode past) at.next refl in
-        made_behind (Skips past) past refl b now (waits_behind c (after_look s t l.0 false) t (event.Busy l w)) b.as_far.next_op
-        (b.as_far.held ∙ rw up refl ∙ sym (try_passes plan p t (r.next_op t) l mode past at.next).leaves)
+        let none = awake plan r t h.on_track (Try l mode past) at.next refl in
+        let up = awake_behind c (after_look s t l.0 false) t (event.Busy l w) b.turning.may.1.0 at.running (h.on_track.unnoted t) at.uncut in
+        made_behind (Skips past) past refl b now up b.as_far.next_op
+        (b.as_far.held ∙ rw (at.uncut, none) refl ∙ sym (try_passes plan p t (r.next_op t) l mode past at.next).leaves)
 
-  -- 8. A release
+  -- 8. A release that is noted
 
-  module _ {l : LockNo} {th : Thread} {mode : Mode} (at : IsAtOperation plan r t (Some (Release l))) (is : slice_get m.threads.items t ≡ Some th) (held : mode ≡ mode_held (hold_in th.held.items l.0)) where
+  module _ (l : LockNo) (mode : Mode) where
     abbrev noted : State
     noted = after_stamp c s t (event.Unlocked l mode)
 
     abbrev its_back : StepKind × Step
-    its_back = gives_back c r t l.0 mode
+    its_back = back_in c s t l.0 mode
 
-    pub releases_row : Begins plan r t m (ends r t its_back.0 (Stamps t (event.Unlocked l mode) ∷ its_back.1 ∷ []))
-    releases_row = begins p lt h (makes_operation plan r t (Release l) at ∙ ap (releases c r t l) (sym (held ∙ ap (λ x. mode_held (x.held l.0)) (h.shows.shows.threads.thread t th is).columns)))
-
-    -- it is given back behind the entry
-    pub may_give : {n : Machine} → IsTurning plan r t n noted releases_row.at (its_back.1 ∷ []) → HasState plan n (λ x. (y : Mode) × MayGiveBack c x t l.0 y)
+    -- it may be made where its steps may,
+    pub may_unlock : MayAll c s (unlocks c s t l mode) → MayUnlock c s t l mode
     unfolding after_stamp
-    may_give now = (noted, now.shows, now.lawful, (mode, now.may.0))
+    may_unlock may = record { held = (it_gives c noted t l.0 mode may.1.0).held; may = may }
 
-    pub released : {n x : Machine} {kind : StepKind} → IsTurning plan r t n noted releases_row.at (its_back.1 ∷ []) → GivesBack plan n x t l.0 kind → ChangesProgress n x t (with_released l.0) → KeepsBooks n x
-        → IsMade plan r t x (Ends kind)
+    abbrev then : State
+    then = after_all c s (unlocks c s t l mode)
+
+    -- and gives the lock back behind its entry
+    log_then : then.log t ≡ noted.log t
     unfolding after_stamp
-    released {x = x} now gave moves books =
+    log_then = back_keeps_log c noted t l.0 mode
+
+    listed_then : then.held_locks t ≡ without_held l.0 (s.held_locks t)
+    unfolding after_stamp
+    listed_then = back_lists c noted t l.0 mode
+
+    abbrev gone : Progress → Progress
+    gone = with_released l.0
+
+    module _ {n : Machine} {kind : StepKind} {a : Progress} (b : IsTurning plan r t m s a (unlocks c s t l mode)) (gave : Unlocks plan m n t l kind) where
+      pub unlocked_as : kind ≡ its_back.0
+      unlocked_as = (gave s mode b.shows b.lawful (may_unlock b.may)).0
+
+      pub unlocked : ChangesProgress m n t gone → SameRoom m n → IsTurning plan r t n then (gone a) []
+      unlocked moves room = all_made gone b (gave s mode b.shows b.lawful (may_unlock b.may)).1 moves room
+
+  -- 9. An operation that releases
+
+  module _ {l : LockNo} (at : IsAtOperation plan r t (Some (Release l))) where
+    abbrev mode : Mode
+    mode = mode_held (s.held t l.0)
+
+    pub releases_row : Begins plan r t m (ends r t (back_in c s t l.0 mode).0 (unlocks c s t l mode))
+    releases_row = begins p lt h (makes_operation plan r t (Release l) at)
+
+    pub released : {n : Machine} {kind : StepKind} → Unlocks plan m n t l kind → ChangesProgress m n t (with_released l.0) → SameRoom m n → IsMade plan r t n (Ends kind)
+    released {n} gave moves room =
         let b = releases_row in
-        let up = awake plan r t h.on_track (Release l) at.next refl in
-        let log : (after c noted its_back.1).log t ≡ noted.log t = back_keeps_log c noted t l.0 mode in
-        subst (λ (y : StepKind). IsMade plan r t x (Ends y)) (sym (kind_is l.0 mode now gave))
-        (made_behind (Ends its_back.0) (suc (r.next_op t)) refl b (given l.0 mode now gave moves books) (rw log (waits_behind c s t (event.Unlocked l mode))) b.as_far.next_op
-        (ap (without_lock l.0) (b.as_far.held ∙ rw up refl) ∙ (release_fits plan l _ _ (fit plan r t p (Release l) at.next)).1))
+        let none = awake plan r t h.on_track (Release l) at.next refl in
+        let noted_up = awake_behind c s t (event.Unlocked l mode) b.turning.may.0 at.running (h.on_track.unnoted t) at.uncut in
+        let log = log_then l mode in
+        let up : IsAwake (after_all c s (unlocks c s t l mode)) t = record { no_wait = ap waits_on log ∙ noted_up.no_wait; uncut = ap has_reversal log ∙ noted_up.uncut } in
+        subst (λ (y : StepKind). IsMade plan r t n (Ends y)) (sym (unlocked_as l mode b.turning gave))
+        (made_behind (Ends (back_in c s t l.0 mode).0) (suc (r.next_op t)) refl b (unlocked l mode b.turning gave moves room) up b.as_far.next_op
+        (ap (without_lock l.0) (b.as_far.held ∙ rw (at.uncut, none) refl) ∙ (release_fits plan l _ _ (fit plan r t p (Release l) at.next)).1))
+
+  -- 10. A thread that was cut gives back what it gained last
+
+  module _ (g : IsGivingUp plan r t) {th : Thread} (is : slice_get m.threads.items t ≡ Some th) where
+    -- what it holds still
+    left_held : th.held.items ≡ take (length (s.held_locks t)) (before plan r t)
+    left_held = (aside_is plan m r t th h lt is).held ∙ rw g.cut.cut refl
+
+    still_listed : s.held_locks t ≡ gained_order th.held.items
+    still_listed = rw g.cut.cut at (h.on_track.listed t) ∙ ap gained_order (sym left_held)
+
+    -- nothing,
+    pub nothing_held : th.held.items ≡ [] → IsTurn plan r t m Idle
+    nothing_held none = still plan r t Idle (goes_by_wait plan r t g.going g.cut.free ∙ rw (g.cut.running, g.cut.cut, still_listed ∙ ap gained_order none) refl) h.shows
+
+    -- or a last one
+    module _ (hs : List Held) (x : Held) (held : th.held.items ≡ hs ++ x ∷ []) where
+      abbrev mode_of_last : Mode
+      mode_of_last = mode_held (s.held t x.l.0)
+
+      listed_last : s.held_locks t ≡ listed x ∷ gained_order hs
+      listed_last = still_listed ∙ ap gained_order held ∙ gained_order-push hs x
+
+      pub some_left : s.held_locks t ≢ []
+      some_left z = absurd (let e : [] ≡ listed x ∷ gained_order hs = sym z ∙ listed_last in cc)
+
+      pub gives_last_row : Begins plan r t m (does (back_in c s t x.l.0 mode_of_last).0 (unlocks c s t x.l mode_of_last))
+      gives_last_row = begins p lt h (goes_by_wait plan r t g.going g.cut.free ∙ rw (g.cut.running, g.cut.cut, listed_last) refl)
+
+      pub gave_last : {n : Machine} {kind : StepKind} → Unlocks plan m n t x.l kind → ChangesProgress m n t (with_released x.l.0) → SameRoom m n → IsTurn plan r t n (Did kind)
+      gave_last {n} gave moves room =
+          let b = gives_last_row in
+          let log = log_then x.l mode_of_last in
+          let noted_cut = cut_behind c s t (event.Unlocked x.l mode_of_last) ∙ g.cut.cut in
+          let noted_awake = waits_behind c s t (event.Unlocked x.l mode_of_last) in
+          let last = releases.last plan r t p h.on_track lt (listed x) (gained_order hs) g.cut listed_last in
+          let fewer = listed_then x.l mode_of_last in
+          subst (λ (y : StepKind). IsTurn plan r t n (Did y)) (sym (unlocked_as x.l mode_of_last b.turning gave))
+          (stays (made (Does (Did (back_in c s t x.l.0 mode_of_last).0)) b (unlocked x.l mode_of_last b.turning gave moves room)
+          (behind_cut (ap has_reversal log ∙ noted_cut) (ap waits_on log ∙ noted_awake) b.as_far.next_op
+          (ap (without_lock x.l.0) (b.as_far.held ∙ rw g.cut.cut refl) ∙ last.without ∙ sym (ap (λ n. take n (before plan r t)) (ap length (fewer ∙ ap (without_held x.l.0) (still_listed ∙ ap gained_order left_held))) ∙ last.left)))))

@@ -14,21 +14,19 @@ use Rattle.lock_model.specs.declared.plan.ThreadDecl.{ThreadDecl}
 use Rattle.lock_model.specs.declared.event.Event.{Event}
 use Rattle.lock_model.specs.declared.turn.Turn.TheVariants.{Idle}
 use Rattle.lock_laws.specs.OnTrack.{IsAtOperation}
-use Rattle.lock_laws.proofs.Table.{anew, Notes, sets, adds, gets, changes_base, shows, makes_operation}
+use Rattle.lock_laws.proofs.Table.{Notes, sets, adds, gets, changes_base, shows, makes_operation}
 use Rattle.lock_laws.proofs.TurnsOfNotes.{is_noted}
 use Rattle.lock_laws.proofs.OnTrack.{awake}
 use Rattle.step_world.specs.declared.machine.Machine.{Machine}
 use Rattle.step_world.specs.Steps.{HasKey}
-use Rattle.step_world.specs.Runs.{IsRunOf, IsNote, IsTake, IsMade}
+use Rattle.step_world.specs.Runs.{IsRunOf, IsNote, IsMade}
 use Rattle.step_world.specs.declared.turns.Made.TheVariants.{Does}
-use Rattle.step_world.proofs.RowsOfLocks.{is_take}
 use Rattle.step_world.proofs.Turning.{Begins, begins, made_still}
 use Rattle.std.specs.FinMap.{get}
 use Rattle.lock_model.specs.History.{value_at}
 use Rattle.lock_model.specs.declared.numbers.LockNo.{LockNo}
 use Rattle.lock_model.specs.declared.numbers.Prio.{Prio}
-use Rattle.lock_model.specs.declared.plan.Op.TheVariants.{Take, EndTry, Get, Show}
-use Rattle.lock_model.specs.declared.plan.Mode.{Mode}
+use Rattle.lock_model.specs.declared.plan.Op.TheVariants.{EndTry, Get, Show}
 use Rattle.lock_model.specs.declared.event.Event.TheVariants as event
 use Rattle.lock_laws.proofs.Derived as derived
 use Rattle.step_world.specs.declared.thread.Thread.{Thread}
@@ -73,8 +71,8 @@ makes_it plan _ _ shows = refl
 
 pub is_note : {plan : Plan} {m : Machine} {r : Run} {t : ℕ} {op : Op} {e : Event} → IsProper plan → t < length plan.threads → IsRunOf plan m r → IsAtOperation plan r t (Some op) → Notes r t op e → IsNote plan r t e
 is_note {plan} {m} {r} {t} {op} {e} p lt h at n =
-    let noted = is_noted plan r t p h.on_track lt op e n at.next in
-    record { op = op; at = at; noted = makes_it plan op e n; holds_on = rw (awake plan r t h.on_track op at.next noted.no_wait) noted.same }
+    let noted = is_noted plan r t p h.on_track lt op e n at in
+    record { op = op; at = at; noted = makes_it plan op e n; holds_on = rw (at.uncut, awake plan r t h.on_track op at.next noted.no_wait) noted.same }
 
 -- 3. A running thread's operation, and what it reads
 
@@ -85,11 +83,7 @@ is_at {plan} {r} {t} e at = subst (λ (o : Op). IsAtOperation plan r t (Some o))
 module _ {plan : Plan} {m : Machine} {r : Run} {t : ℕ} {op : Op} (p : IsProper plan) (lt : t < length plan.threads) (h : IsRunOf plan m r) (at : IsAtOperation plan r t (Some op)) where
   -- an endtry does nothing, and no thread comes to it
   pub ends_try : op ≡ EndTry → IsMade plan r t m (Does Idle)
-  ends_try e = let b = begins p lt h (makes_operation plan r t EndTry (is_at e at)) in made_still b b.turning refl refl
-
-  -- a take
-  pub takes : {l : LockNo} {mode : Mode} → op ≡ Take l mode → IsTake plan r t l mode (event.Locked l mode)
-  takes {l} {mode} e = is_take p lt h (anew l mode) (is_at e at)
+  ends_try e = let b = begins p lt h (makes_operation plan r t EndTry (is_at e at)) in made_still b b.turning refl refl refl
 
   -- what is read from the tables
   pub got : {l : LockNo} {key : ℕ} {found : Option ℕ} → op ≡ Get l key → found ≡ get m.tables.present (l.0, key) → IsNote plan r t (event.Got l key found)

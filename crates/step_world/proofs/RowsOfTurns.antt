@@ -26,7 +26,7 @@ use Rattle.lock_objects.specs.Represents.{walk_of, mark_of}
 use Rattle.lock_objects.specs.Marked.{places_of}
 use Rattle.step_world.specs.Represents.{RepresentsThread, wait_of}
 use Rattle.step_world.specs.Threads.{thread_has_ended}
-use Rattle.step_world.specs.Runs.{IsRunOf, IsTurn, IsDoneWaking, IsFree}
+use Rattle.step_world.specs.Runs.{IsRunOf, IsTurn, IsDoneWaking, IsFree, IsGivingUp}
 use Rattle.step_world.proofs.Kit.{read}
 use Rattle.step_world.proofs.Ends.{ends_as_said, aside_is}
 use Rattle.step_world.proofs.Turning.{Begins, begins, still}
@@ -101,11 +101,16 @@ module _ {plan : Plan} {m : Machine} {r : Run} {t : ℕ} {th : Thread} (p : IsPr
     pub resumes : {w : QueueName} → th.wait ≡ wait.Woken w → Begins plan r t m (does kinds.Resume (Resumes t w BySignal ∷ []))
     resumes e = begins p lt h (goes_by_wait plan r t free.going free.owes ∙ rw (waits_as _ (ap wait_of e)) refl)
 
-    module _ (e : th.wait ≡ wait.Running) {ops : List Op} (same : ops ≡ operations_of plan t) where
+    -- one that was cut gives back what it holds
+    pub giving_up : th.wait ≡ wait.Running → th.cut ≡ true → IsGivingUp plan r t
+    giving_up e f = record { going = free.going; cut = record { running = waits_as Running (ap wait_of e); free = free.owes; cut = sym (ap (λ x. x.cut) its.columns) ∙ f } }
+
+    module _ (e : th.wait ≡ wait.Running) (uncut : th.cut ≡ false) {ops : List Op} (same : ops ≡ operations_of plan t) where
       at_next : (o : Option Op) → slice_get ops th.next_op ≡ o → IsAtOperation plan r t o
       at_next o i = record {
         running = waits_as Running (ap wait_of e);
         free = free.owes;
+        uncut = sym (ap (λ x. x.cut) its.columns) ∙ uncut;
         next = ap (slice_get (operations_of plan t)) (sym (aside_is plan m r t th h lt is).next_op) ∙ ap (λ x. slice_get x th.next_op) (sym same) ∙ i;
       }
 
@@ -115,4 +120,4 @@ module _ {plan : Plan} {m : Machine} {r : Run} {t : ℕ} {th : Thread} (p : IsPr
       pub nothing_left : length ops ≤ th.next_op → IsTurn plan r t m Idle
       nothing_left past =
           let at = at_next None (slice_get_past ops th.next_op past) in
-          still plan r t Idle (goes_by_wait plan r t free.going free.owes ∙ rw (at.running, at.next) refl) h.shows
+          still plan r t Idle (goes_by_wait plan r t free.going free.owes ∙ rw (at.running, at.uncut, at.next) refl) h.shows

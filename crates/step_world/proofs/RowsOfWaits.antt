@@ -2,18 +2,18 @@
 use Rattle.std.proofs.Common.{◌≡◌, ◌≢◌, ℕ, suc, ◌<◌, ◌≤◌, Bool, true, false, not, cond, List, [], ◌∷◌, length, map, slice_get, Option, Some, None, option_map, refl, sym, ap, subst, eq-eqb, ◌∙◌}
 use Rattle.std.specs.Prelude.{unwrap_or, is_some}
 use Rattle.std.specs.Bool.{then_some}
-use Rattle.std.proofs.lemmas.Option.{same_Some}
+use Rattle.std.proofs.lemmas.Option.{none-some, same_Some}
 use Rattle.lock_model.specs.Config.{Config}
 use Rattle.lock_model.specs.Plans.{config_of}
 use Rattle.lock_model.specs.Operations.{IsProper, hold_in, without_lock}
 use Rattle.lock_model.specs.Holds.{Hold, NotHeld, Holds, is_unheld}
-use Rattle.lock_model.specs.Events.{of_sleep, fell_asleep}
+use Rattle.lock_model.specs.Takes.{has_reversal}
 use Rattle.lock_model.specs.Queues.{Waiter, chan_queue, taken_off}
-use Rattle.lock_state.specs.State.{State}
+use Rattle.lock_state.specs.State.{State, Running}
 use Rattle.lock_state.specs.Steps.{Step, Readies, Stamps, Adds, Wakes, after, after_all}
 use Rattle.lock_state.specs.Steps.LockWords.{bits_of_threads, after_ready, after_stamp}
-use Rattle.lock_state.specs.Steps.SleepQueues.{MayWake, after_add}
-use Rattle.lock_state.specs.Run.{Run, does, ends, mode_held, waits_on, lock_of_wait, to_release, owed_release, turn_of, run_after}
+use Rattle.lock_state.specs.Steps.SleepQueues.{MayWake, after_add, after_wake}
+use Rattle.lock_state.specs.Run.{Run, does, ends, mode_held, waits_on, was_cut, lock_of_wait, to_release, owed_release, turn_of, run_after}
 use Rattle.lock_model.specs.declared.numbers.LockNo.{LockNo}
 use Rattle.lock_model.specs.declared.numbers.ChanNo.{ChanNo}
 use Rattle.lock_model.specs.declared.event.Held.{Held}
@@ -26,8 +26,8 @@ use Rattle.lock_model.specs.declared.plan.QueueName.TheVariants.{Chan}
 use Rattle.lock_model.specs.declared.turn.StepKind.{StepKind}
 use Rattle.lock_model.specs.declared.turn.StepKind.TheVariants as kinds
 use Rattle.lock_model.specs.declared.turn.Turn.TheVariants.{Did}
-use Rattle.lock_laws.specs.OnTrack.{IsAtOperation, without_unheld}
-use Rattle.lock_laws.proofs.OnTrack.{awake, before, behind, fit, put_at_own, IsAwake}
+use Rattle.lock_laws.specs.OnTrack.{IsAtOperation, held_now}
+use Rattle.lock_laws.proofs.OnTrack.{is_awake, waits_uncut, before, behind, fit, put_at_own, IsAwake}
 use Rattle.lock_laws.proofs.Table.{back, lock_with, mode_left, its_mode, makes_operation, gives_up_first}
 use Rattle.lock_laws.proofs.TurnsOfReleases as releases
 use Rattle.lock_laws.proofs.TurnsOfSleeps as sleeps
@@ -37,7 +37,7 @@ use Rattle.step_world.specs.declared.thread.Thread.{Thread}
 use Rattle.step_world.specs.declared.turns.Made.TheVariants.{Does, Ends}
 use Rattle.step_world.specs.Steps.{May, Progress, progress, progress_of, ChangesProgress, KeepsBooks, mode_left as mode_left_by, with_released}
 use Rattle.step_world.specs.Runs.{HasState, IsRunOf, IsTurn, IsMade, IsAsFar, IsBehind, IsTake, IsWake, IsDoneWaking, GivesBack, MayGiveBack, back_in}
-use Rattle.step_world.proofs.AsFar.{waits_behind, that_is}
+use Rattle.step_world.proofs.AsFar.{waits_behind, cut_behind, awake_behind, that_is}
 use Rattle.step_world.proofs.Turning.{has_room, may_next, IsTurning, Begins, begins, made, made_behind, stays}
 use Rattle.step_world.proofs.RowsOfLocks.{is_take, given, kind_is, back_keeps_log, back_puts}
 
@@ -113,19 +113,29 @@ module _ {plan : Plan} {m : Machine} {t : ℕ} {r : Run} (p : IsProper plan) (lt
     waits_still : lock_of_wait c n t ≡ Some l
     waits_still = ap (λ es. option_map c.chan_lock (waits_on es)) (back_keeps_log c s t l mode) ∙ waits
 
+    uncut : was_cut s t ≡ false
+    uncut = go (waits_on (s.log t)) refl waits
+      where
+        go : (w : Option ℕ) → waits_on (s.log t) ≡ w → option_map c.chan_lock w ≡ Some l → was_cut s t ≡ false
+        go None e f = absurd (none-some l f)
+        go (Some k) e f = waits_uncut plan r t h.on_track k e
+
+    uncut_still : was_cut n t ≡ false
+    uncut_still = ap has_reversal (back_keeps_log c s t l mode) ∙ uncut
+
     -- its wait's lock is the one that it has released last
     gone_back : (a : Progress) → IsAsFar plan r t a → IsBehind plan r (run_after plan r t (does its_back.0 (its_back.1 ∷ []))) t (with_released l a)
     gone_back a far = record {
       next_op = far.next_op;
       as_far = record {
         next_op = refl;
-        held = ap (without_lock l) held ∙ rw (waits_still, released) refl;
+        held = ap (without_lock l) held ∙ rw (uncut_still, waits_still, released) refl;
         left = λ j w e. subst (λ i. hold_in (before plan r t) i ≡ Holds (with_released l a).left) (same_Some l j (sym waits_still ∙ w)) left_so;
       };
     }
       where
         held : a.held ≡ before plan r t
-        held = far.held ∙ rw (waits, holds) refl
+        held = far.held ∙ rw (uncut, waits, holds) refl
 
         held_so : hold_in (before plan r t) l ≡ Holds mode
         held_so = sym (releases.holds_before plan r t p h.on_track lt l d.unmarked owed l) ∙ holds
@@ -166,7 +176,7 @@ module _ {plan : Plan} {m : Machine} {t : ℕ} {r : Run} (p : IsProper plan) (lt
       -- 4. A wait's first turn
 
       module _ (none : is_some th.waits_on ≡ false) where
-        up : IsAwake r t
+        up : waits_on (s.log t) ≡ None
         up = sym (chan_read t h is) ∙ ap (option_map (λ (x : ChanNo). x.0)) (none_is th.waits_on none)
 
         abbrev own : ℕ
@@ -185,6 +195,10 @@ module _ {plan : Plan} {m : Machine} {t : ℕ} {r : Run} (p : IsProper plan) (lt
         unfolding after_add
         log_then = waits_behind c (after_ready s t) t (event.Sleeps d)
 
+        uncut_then : was_cut asleep t ≡ false
+        unfolding after_add after_ready
+        uncut_then = cut_behind c (after_ready s t) t (event.Sleeps d) ∙ at.uncut
+
         held_then : asleep.held t ≡ s.held t
         unfolding after_add after_stamp after_ready
         held_then = refl
@@ -199,8 +213,8 @@ module _ {plan : Plan} {m : Machine} {t : ℕ} {r : Run} (p : IsProper plan) (lt
           as_far = record {
             next_op = refl;
             held =
-                let before_is : a.held ≡ before plan r t = far.held ∙ rw up refl in
-                let then : without_unheld (asleep.held t) (lock_of_wait c asleep t) (before plan r t) ≡ before plan r t = rw (log_then, held_then, its_mode (s.held t (c.chan_lock d.0)) holds_its) refl in
+                let before_is : a.held ≡ before plan r t = far.held ∙ rw (at.uncut, up) refl in
+                let then : held_now plan (run_after plan r t (does kinds.Add sleeping)) t ≡ before plan r t = rw (uncut_then, log_then, held_then, its_mode (s.held t (c.chan_lock d.0)) holds_its) refl in
                 before_is ∙ sym then;
             left = λ l w e.
                 let same : c.chan_lock d.0 ≡ l = same_Some (c.chan_lock d.0) l (sym (ap (option_map c.chan_lock) log_then) ∙ w) in
@@ -234,22 +248,17 @@ module _ {plan : Plan} {m : Machine} {t : ℕ} {r : Run} (p : IsProper plan) (lt
         go true at = makes_operation plan r t (WakeAll d) at
         go false at = makes_operation plan r t (WakeOne d) at
 
-    -- the thread doesn't wait, and holds what it held
-    leaves : IsAwake r t × (before plan r t ≡ behind plan r t)
+    -- the thread runs, was not cut and doesn't wait, and holds what it held
+    leaves : (s.wait t ≡ Running) × IsAwake s t × (before plan r t ≡ behind plan r t)
     leaves = go all w
       where
-        go : (b : Bool) → IsWake plan r t d b → IsAwake r t × (before plan r t ≡ behind plan r t)
-        go true at = (awake plan r t h.on_track (WakeAll d) at.next refl, (fit plan r t p (WakeAll d) at.next).behind)
-        go false at = (awake plan r t h.on_track (WakeOne d) at.next refl, (fit plan r t p (WakeOne d) at.next).behind)
-
-    quiet : fell_asleep (of_sleep noted) ≡ None
-    quiet = rw e (go all)
-      where
-        go : (b : Bool) → fell_asleep (of_sleep (noting d b woken)) ≡ None
-        go true = refl
-        go false = refl
+        go : (b : Bool) → IsWake plan r t d b → (s.wait t ≡ Running) × IsAwake s t × (before plan r t ≡ behind plan r t)
+        go true at = (at.running, is_awake plan r t h.on_track (WakeAll d) at refl, (fit plan r t p (WakeAll d) at.next).behind)
+        go false at = (at.running, is_awake plan r t h.on_track (WakeOne d) at refl, (fit plan r t p (WakeOne d) at.next).behind)
 
     pub woke : {x : Machine} → IsTurning plan r t x (after_all c s waking) wakes_row.at [] → IsMade plan r t x (Ends kinds.Wake)
+    unfolding after_wake
     woke now =
         let b = wakes_row in
-        made_behind (Ends kinds.Wake) (suc (r.next_op t)) refl b now (waits_behind c (after c s (Wakes t d.0 all)) t noted ∙ quiet) b.as_far.next_op (b.as_far.held ∙ rw leaves.0 refl ∙ leaves.1)
+        let up = awake_behind c (after_wake s t d.0 all) t noted b.turning.may.1.0 leaves.0 (h.on_track.unnoted t) leaves.1.uncut in
+        made_behind (Ends kinds.Wake) (suc (r.next_op t)) refl b now up b.as_far.next_op (b.as_far.held ∙ rw (leaves.1.uncut, leaves.1.no_wait) refl ∙ leaves.2)

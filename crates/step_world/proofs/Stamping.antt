@@ -1,5 +1,5 @@
--- An entry of the history is made, with what it says of a table, of a thread's base priority, or of its wait.
-use Rattle.std.proofs.Common.{◌≡◌, ℕ, ◌<◌, ◌≤◌, List, [], ◌∷◌, ◌++◌, length, reverse, slice_get, slice_set, Option, Some, option_map, refl, sym, ap, subst, ◌∙◌}
+-- An entry of the history is made, with what it says of a table, of a thread's base priority, of its wait, or of its being cut.
+use Rattle.std.proofs.Common.{◌≡◌, ℕ, ◌<◌, ◌≤◌, Bool, ◌||◌, List, [], ◌∷◌, ◌++◌, length, reverse, slice_get, slice_set, Option, Some, option_map, refl, sym, ap, subst, ◌∙◌}
 use Rattle.std.proofs.lemmas.List.{reverse-append, length-reverse}
 use Rattle.std.specs.Box.{with_value}
 use Rattle.lock_state.specs.Facts.{Lawful, NextIsNew}
@@ -7,8 +7,9 @@ use Rattle.lock_model.specs.History.{edited, tables_of}
 use Rattle.lock_state.specs.Steps.LockWords.{MayStamp, after_stamp, effective_of, entry_of}
 use Rattle.lock_model.specs.Config.{Config}
 use Rattle.lock_state.specs.State.{State}
-use Rattle.lock_model.specs.Events.{of_sleep, fell_asleep}
-use Rattle.lock_state.specs.Run.{waits_on}
+use Rattle.lock_model.specs.Events.{of_sleep, fell_asleep, new_base}
+use Rattle.lock_model.specs.Takes.{is_reversal, has_reversal}
+use Rattle.lock_state.specs.Run.{waits_on, was_cut}
 use Rattle.lock_model.specs.declared.numbers.ChanNo.{ChanNo}
 use Rattle.lock_model.specs.declared.numbers.Prio.{Prio}
 use Rattle.lock_model.specs.declared.numbers.ThreadNo.{ThreadNo}
@@ -23,33 +24,34 @@ use Rattle.lock_objects.proofs.Records.{with_other_base, none_beyond}
 use Rattle.step_world.specs.declared.machine.Machine.{Machine}
 use Rattle.step_world.specs.declared.thread.Thread.{Thread}
 use Rattle.step_world.specs.Noted.{IsNoted, record_behind}
-use Rattle.step_world.specs.Represents.{Represents, RepresentsWords, RepresentsThread, RepresentsThreads, thread_in, thread_of}
+use Rattle.step_world.specs.Represents.{Represents, RepresentsWords, RepresentsThread, RepresentsThreads, RepresentsOrders, thread_in, thread_of}
 use Rattle.step_world.specs.Steps.{progress_of}
 use Rattle.step_world.proofs.Kit.{OthersStay, thread_changed, record_of, aside_stays}
 
 -- 1. The thread
 
--- the thread with another record in its box, and with another channel on which it waits
-abbrev pub noted : Thread → Option ChanNo → Record → Thread
-noted th waits_on r = record th { «record» = with_value th.record r; waits_on = waits_on }
+-- the thread with another record in its box, with another channel on which it waits, and cut or not
+abbrev pub noted : Thread → Option ChanNo → Bool → Record → Thread
+noted th waits_on cut r = record th { «record» = with_value th.record r; waits_on = waits_on; cut = cut }
 
-pub is_noted : (e : Event) (t i : ℕ) (ths : List Thread) (th : Thread) (w : Option ChanNo) (r : Record) → i ≡ t → slice_get ths t ≡ Some th → option_map (λ d. d.0) w ≡ fell_asleep (of_sleep e) → r ≡ record_behind e th.record.value
-    → IsNoted e t ths (slice_set ths i (noted th w r))
-is_noted e t i ths th w r at was waits new = record {
+pub is_noted : (e : Event) (t i : ℕ) (ths : List Thread) (th : Thread) (w : Option ChanNo) (b : Bool) (r : Record) → i ≡ t → slice_get ths t ≡ Some th → option_map (λ d. d.0) w ≡ fell_asleep (of_sleep e) → b ≡ (is_reversal e || th.cut) → r ≡ record_behind (new_base e) th.record.value
+    → IsNoted e t ths (slice_set ths i (noted th w b r))
+is_noted e t i ths th w b r at was waits cut new = record {
   before = th;
-  behind = noted th w r;
+  behind = noted th w b r;
   was = was;
-  is = ap (λ (j : ℕ). slice_set ths j (noted th w r)) at;
+  is = ap (λ (j : ℕ). slice_set ths j (noted th w b r)) at;
   its_record = new;
   waits_on = waits;
+  its_cut = cut;
   others = refl;
 }
 
 -- an event that sets a base sets that of the record, and any other event leaves the record as it is
-pub base_set : {e : Event} (p : Prio) (r : Record) → e ≡ Base p → with_base p.0 r ≡ record_behind e r
-base_set p r is = ap (λ x. record_behind x r) (sym is)
+pub base_set : {e : Event} (p : Prio) (r : Record) → e ≡ Base p → with_base p.0 r ≡ record_behind (new_base e) r
+base_set p r is = ap (λ x. record_behind (new_base x) r) (sym is)
 
-pub no_base_set : (e : Event) (r : Record) → ((p : Prio) → e ≡ Base p → ⊥) → r ≡ record_behind e r
+pub no_base_set : (e : Event) (r : Record) → ((p : Prio) → e ≡ Base p → ⊥) → r ≡ record_behind (new_base e) r
 no_base_set (Base p) r none = absurd (none p refl)
 no_base_set e r none = refl
 
@@ -59,11 +61,12 @@ module _ (c : Config) (s : State) (t : ℕ) where
   others (Base p) u ne = λ i. record (thread_in s u) {
     its_record = record (record_in s u) { base = put_other s.base t p.0 u (λ e. ne (sym e)) i; effective = put_other s.effective t (effective_of c (s.loan t) p.0) u (λ e. ne (sym e)) i };
     chan = waits_on (put_other s.log t (entry_of s t (Base p) ∷ s.log t) u (λ e. ne (sym e)) i);
+    cut = has_reversal (put_other s.log t (entry_of s t (Base p) ∷ s.log t) u (λ e. ne (sym e)) i);
   }
-  others e u ne = λ i. record (thread_in s u) { chan = waits_on (put_other s.log t (entry_of s t e ∷ s.log t) u (λ e. ne (sym e)) i) }
+  others e u ne = λ i. record (thread_in s u) { chan = waits_on (put_other s.log t (entry_of s t e ∷ s.log t) u (λ e. ne (sym e)) i); cut = has_reversal (put_other s.log t (entry_of s t e ∷ s.log t) u (λ e. ne (sym e)) i) }
 
   -- the record behind an event shows the columns behind it
-  record_noted : (e : Event) (b r : Record) → Lawful c s → RepresentsRecord b (record_in s t) → r ≡ record_behind e b → RepresentsRecord r (record_in (after_stamp c s t e) t)
+  record_noted : (e : Event) (b r : Record) → Lawful c s → RepresentsRecord b (record_in s t) → r ≡ record_behind (new_base e) b → RepresentsRecord r (record_in (after_stamp c s t e) t)
   unfolding after_stamp
   record_noted (Base p) b r lawful old is =
       let rec = with_other_base c p.0 (none_beyond c s t lawful) old in
@@ -73,18 +76,19 @@ module _ (c : Config) (s : State) (t : ℕ) where
       }
   record_noted e b r lawful old is = subst (λ (v : Record). RepresentsRecord v (record_in s t)) (sym is) old
 
-  -- of the other columns only that of the channel changes
-  columns_noted : (e : Event) → thread_in (after_stamp c s t e) t ≡ record (thread_in s t) { its_record = record_in (after_stamp c s t e) t; chan = fell_asleep (of_sleep e) }
+  -- of the other columns only those of the channel and of its being cut change
+  columns_noted : (e : Event) → thread_in (after_stamp c s t e) t ≡ record (thread_in s t) { its_record = record_in (after_stamp c s t e) t; chan = fell_asleep (of_sleep e); cut = is_reversal e || was_cut s t }
   unfolding after_stamp
-  columns_noted e = λ i. record (thread_in s t) { its_record = record_in (after_stamp c s t e) t; chan = waits_on (put_same s.log t (entry_of s t e ∷ s.log t) i) }
+  columns_noted e = λ i. record (thread_in s t) { its_record = record_in (after_stamp c s t e) t; chan = waits_on (put_same s.log t (entry_of s t e ∷ s.log t) i); cut = has_reversal (put_same s.log t (entry_of s t e ∷ s.log t) i) }
 
   thread_noted : (e : Event) (old new : List Thread) (h : IsNoted e t old new) → Lawful c s → RepresentsThread h.before c s t → RepresentsThread h.behind c (after_stamp c s t e) t
   thread_noted e old new h lawful shows =
       let rec = record_noted e h.before.record.value h.behind.record.value lawful (record_of shows) h.its_record in
       record {
-        columns = (λ i. record ((ap thread_of h.others ∙ (λ j. record (shows.columns j) { its_record = columns_of h.behind.record.value; chan = option_map (λ (d : ChanNo). d.0) h.behind.waits_on })) i) {
+        columns = (λ i. record ((ap thread_of h.others ∙ (λ j. record (shows.columns j) { its_record = columns_of h.behind.record.value; chan = option_map (λ (d : ChanNo). d.0) h.behind.waits_on; cut = h.behind.cut })) i) {
           its_record = rec.columns i;
           chan = h.waits_on i;
+          cut = (h.its_cut ∙ ap (λ b. is_reversal e || b) (ap (λ x. x.cut) shows.columns)) i;
         }) ∙ sym (columns_noted e);
         one_loan_each = rec.one_loan_each;
         held = rw h.others shows.held;
@@ -122,4 +126,5 @@ stamped m n c s t e ticket same threads tables log is h lawful g = record {
   threads = noted_all c s t.0 e m.threads.items n.threads.items threads g.thread lawful h.threads;
   history = log ∙ history_seen m.log.entries s t e ticket h.history is lawful.books.next_is_new;
   tables = tables ∙ ap (edited e) h.tables;
+  orders = subst (λ (k : Machine). RepresentsOrders c k.orders s.edges) (sym same) h.orders;
 }

@@ -11,7 +11,7 @@ use Rattle.lock_model.specs.Config.{Config}
 use Rattle.lock_state.specs.State.{State}
 use Rattle.lock_state.specs.Facts.{Lawful}
 use Rattle.lock_state.specs.Steps.{Step, Looks, Stamps, May as MayMake, MayAll, after, after_all}
-use Rattle.lock_state.specs.Run.{Run, Row, turn_of, next_ops, run_after, run_behind, waits_on, nothing, does}
+use Rattle.lock_state.specs.Run.{Run, Row, turn_of, next_ops, run_after, run_behind, was_cut, nothing, does}
 use Rattle.lock_model.specs.declared.event.Event.{Event}
 use Rattle.lock_model.specs.declared.plan.Op.{Op}
 use Rattle.lock_model.specs.declared.plan.Plan.{Plan}
@@ -22,9 +22,9 @@ use Rattle.lock_laws.specs.OnTrack.{IsAtOperation}
 use Rattle.lock_laws.proofs.Kit.{put_same}
 use Rattle.lock_laws.proofs.Steps.{keeps, all_keep}
 use Rattle.lock_laws.proofs.Turning.{row_may, turned}
-use Rattle.lock_laws.proofs.Entries.{entries_below}
+use Rattle.lock_laws.proofs.Entries.{entries_below, cut_entries_below}
 use Rattle.lock_laws.proofs.HeldLists.{next_holds}
-use Rattle.lock_laws.proofs.OnTrack.{left}
+use Rattle.lock_laws.proofs.OnTrack.{left, IsAwake}
 use Rattle.step_world.specs.declared.machine.Machine.{Machine}
 use Rattle.step_world.specs.Represents.{Represents}
 use Rattle.step_world.specs.Steps.{Progress, progress, May, Makes, MakesWhere, MakesAllWhere, KeepsProgress, ChangesProgress, KeepsBooks}
@@ -109,10 +109,10 @@ module _ (m n : Machine) where
   other_moved : (t : ℕ) (f : Progress → Progress) → ChangesProgress m n t f → (u : ℕ) → u ≢ t → progress n u ≡ progress m u
   other_moved t f moves u ne = let at = moves u in rw (ne_eqb u t ne) at at
 
-  same_room : (plan : Plan) → SameRoom m n → HasRoom plan m → HasRoom plan n
+  pub same_room : (plan : Plan) → SameRoom m n → HasRoom plan m → HasRoom plan n
   same_room plan same h = same.room ∙ h
 
-  same_keys : (plan : Plan) → SameRoom m n → HasKeys plan m → HasKeys plan n
+  pub same_keys : (plan : Plan) → SameRoom m n → HasKeys plan m → HasKeys plan n
   same_keys plan same h l key i = subst (λ ps. Contains ps (l, key)) (sym same.places) (h l key i)
 
 moved : {plan : Plan} {r : Run} {t : ℕ} {m n : Machine} {a : Progress} (f : Progress → Progress) → IsUnderWay plan r t m a → ChangesProgress m n t f → SameRoom m n → IsUnderWay plan r t n (f a)
@@ -172,19 +172,34 @@ module _ {plan : Plan} {r : Run} {t : ℕ} {m : Machine} {s : State} {a : Progre
     aside = moved f h.aside made.moves made.room;
   }
 
-  -- all that are left at once
-  pub finished : {n : Machine} {premise : Config → Type 0} → IsTurning plan r t m s a rest → premise (config_of plan) → MakesAllWhere premise m n rest → KeepsProgress m n → KeepsBooks m n → IsTurning plan r t n (after_all (config_of plan) s rest) a []
-  finished {n} h so makes kept books = record {
-    shows = makes (config_of plan) s so h.shows h.lawful h.may;
+  -- all that are left at once,
+  pub all_made : {n : Machine} (f : Progress → Progress) → IsTurning plan r t m s a rest → Represents (config_of plan) n (after_all (config_of plan) s rest) → ChangesProgress m n t f → SameRoom m n → IsTurning plan r t n (after_all (config_of plan) s rest) (f a) []
+  all_made f h shows moves room = record {
+    shows = shows;
     lawful = all_keep (config_of plan) s rest h.may h.lawful;
     may = tt;
-    aside = moved (λ x. x) h.aside (unmoved m n t kept) (of_books books);
+    aside = moved f h.aside moves room;
   }
+
+  -- or by one method,
+  pub made_all : {n : Machine} {premise : Config → Type 0} → IsTurning plan r t m s a rest → premise (config_of plan) → MakesAllWhere premise m n rest → KeepsProgress m n → SameRoom m n → IsTurning plan r t n (after_all (config_of plan) s rest) a []
+  made_all {n} h so makes kept room = all_made (λ x. x) h (makes (config_of plan) s so h.shows h.lawful h.may) (unmoved m n t kept) room
+
+  -- which may make no entry
+  pub finished : {n : Machine} {premise : Config → Type 0} → IsTurning plan r t m s a rest → premise (config_of plan) → MakesAllWhere premise m n rest → KeepsProgress m n → KeepsBooks m n → IsTurning plan r t n (after_all (config_of plan) s rest) a []
+  finished h so makes kept books = made_all h so makes kept (of_books books)
 
 -- there is room for the entry of an operation while it isn't made
 pub has_room : {plan : Plan} {r : Run} {t : ℕ} {m : Machine} {op : Op} → IsProper plan → t < length plan.threads → IsRunOf plan m r → IsAtOperation plan r t (Some op) → 1 ≤ m.log.spare
 has_room {plan} {r} {t} {m} {op} p lt h at =
-    let all = entries_below plan r t p h.on_track lt (left plan r t op at.next) in
+    let all = entries_below plan r t p h.on_track lt at.uncut (left plan r t op at.next) in
+    let so_far = ap length h.shows.shows.history ∙ length-reverse r.state.history in
+    omega (arith, all, so_far, h.shows.room)
+
+-- and for the one of a lock that a thread gives back that was cut
+pub has_room_cut : {plan : Plan} {r : Run} {t : ℕ} {m : Machine} → IsProper plan → t < length plan.threads → IsRunOf plan m r → was_cut r.state t ≡ true → r.state.held_locks t ≢ [] → 1 ≤ m.log.spare
+has_room_cut {plan} {r} {t} {m} p lt h cut some =
+    let all = cut_entries_below plan r t p h.on_track lt cut some in
     let so_far = ap length h.shows.shows.history ∙ length-reverse r.state.history in
     omega (arith, all, so_far, h.shows.room)
 
@@ -214,15 +229,15 @@ made {plan} {r} {t} {n = n} {steps = steps} {a = a} result b h far = record {
 -- a row that leaves the operation to make, and what says how far the thread is,
 pub made_still : {plan : Plan} {r : Run} {t : ℕ} {m n : Machine} {steps : List Step} {answer : Turn} (b : Begins plan r t m (row_of (Does answer) (r.next_op t) steps))
     → IsTurning plan r t n (after_all (config_of plan) r.state steps) b.at [] → (after_all (config_of plan) r.state steps).held t ≡ r.state.held t
-    → (after_all (config_of plan) r.state steps).log t ≡ r.state.log t → IsMade plan r t n (Does answer)
-made_still {answer = answer} b h held log = made (Does answer) b h (behind_still (record { next_op = refl; held = held; waits = rw log refl }) b.as_far)
+    → (after_all (config_of plan) r.state steps).held_locks t ≡ r.state.held_locks t → (after_all (config_of plan) r.state steps).log t ≡ r.state.log t → IsMade plan r t n (Does answer)
+made_still {answer = answer} b h held listed log = made (Does answer) b h (behind_still (record { next_op = refl; held = held; listed = listed; log = log }) b.as_far)
 
 -- and one that ends it, where the thread holds what it is to go on with
 pub made_behind : {plan : Plan} {r : Run} {t : ℕ} {m n : Machine} {steps : List Step} {a : Progress} (result : Made) (k : ℕ) → next_of result (r.next_op t) ≡ Some k
-    → Begins plan r t m (row_of result (r.next_op t) steps) → IsTurning plan r t n (after_all (config_of plan) r.state steps) a [] → waits_on ((after_all (config_of plan) r.state steps).log t) ≡ None
+    → Begins plan r t m (row_of result (r.next_op t) steps) → IsTurning plan r t n (after_all (config_of plan) r.state steps) a [] → IsAwake (after_all (config_of plan) r.state steps) t
     → a.next_op ≡ r.next_op t → a.held ≡ held_at plan t k → IsMade plan r t n result
-made_behind {plan} {r} {t} {a = a} result k next b h none same held =
-    made result b h (behind_made none same (held ∙ sym (next_holds (operations_of plan t) k)
+made_behind {plan} {r} {t} {a = a} result k next b h up same held =
+    made result b h (behind_made up same (held ∙ sym (next_holds (operations_of plan t) k)
     ∙ ap (held_at plan t) (sym (ap (λ (o : Option ℕ). next_ops (operations_of plan t) r.next_op t o t) next ∙ put_same r.next_op t (next_at (operations_of plan t) k)))))
 
 module _ (plan : Plan) (r : Run) (t : ℕ) (m : Machine) (result : Made) (h : IsMade plan r t m result) where
@@ -293,5 +308,5 @@ within {plan} {r} {t} result k p h lt its next =
 -- 7. A turn of one step, behind which the operation is still to make
 
 pub one_made : {plan : Plan} {r : Run} {t : ℕ} {m n : Machine} {kind : StepKind} {step : Step} → Begins plan r t m (does kind (step ∷ [])) → StepMade (config_of plan) m n t step (λ a. a)
-    → (after (config_of plan) r.state step).held t ≡ r.state.held t → (after (config_of plan) r.state step).log t ≡ r.state.log t → IsTurn plan r t n (Did kind)
-one_made b step held log = stays (made_still b (goes b.turning step) held log)
+    → (after (config_of plan) r.state step).held t ≡ r.state.held t → (after (config_of plan) r.state step).held_locks t ≡ r.state.held_locks t → (after (config_of plan) r.state step).log t ≡ r.state.log t → IsTurn plan r t n (Did kind)
+one_made b step held listed log = stays (made_still b (goes b.turning step) held listed log)

@@ -76,7 +76,7 @@ module _ {m : Machine} {c : Config} {s : State} {t l o h : ℕ} (shown : Represe
     unfolding after_lend
     lend_shown {w = w} walk behind queues goes =
         let old = first_changed.thread t w behind in
-        shown_by n shown refl shown.words queues shown.sleepers
+        shown_by n shown refl refl shown.words queues shown.sleepers
         (thread_changed n (with_walk w walk) first_changed g.thread (record { columns = λ i. record (old.columns i) { walk = goes i }; one_loan_each = old.one_loan_each; held = old.held; marked = old.marked }) not_walking)
 
 -- what no column tells stays
@@ -102,6 +102,6 @@ module _ {m : Machine} {c : Config} {s : State} {t o l : ℕ} (shown : Represent
   unfolding after_shift
   shift_shown {w = w} walk at queues goes =
       let old = shown.threads.thread t w at in
-      shown_by (after_shift s t o l) shown refl shown.words queues
+      shown_by (after_shift s t o l) shown refl refl shown.words queues
       (sleepers_stay c s (after_shift s t o l) (lock_queue l) _ (shift_changes s t l o) g.turnstile shown.sleepers)
       (thread_changed (after_shift s t o l) (with_walk w walk) shown.threads g.thread (record { columns = λ i. record (old.columns i) { walk = goes i }; one_loan_each = old.one_loan_each; held = old.held; marked = old.marked }) others)

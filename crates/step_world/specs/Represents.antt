@@ -1,6 +1,6 @@
 -- Which state of `lock_state` the objects of a machine show. Columns of which the objects do not tell, as looks and
 -- counts, are free: the scheduled run makes nothing of them.
-use Rattle.std.specs.Prelude.{◌≡◌, ℕ, ◌≤◌, ◌<◌, List, length, reverse, map, slice_get, get_or, option_map, Option, Some, IsSome}
+use Rattle.std.specs.Prelude.{◌≡◌, ℕ, ◌≤◌, ◌<◌, Bool, List, length, reverse, map, slice_get, get_or, option_map, is_some, Option, Some, IsSome}
 use Rattle.std.specs.List.{All}
 use Rattle.std.specs.Global.{Vec}
 use Rattle.std.specs.Vec.{vec_capacity}
@@ -9,12 +9,14 @@ use Rattle.lock_state.specs.State as state
 use Rattle.lock_model.specs.Config.{Config}
 use Rattle.lock_state.specs.State.{State}
 use Rattle.lock_model.specs.Holds.{Hold}
-use Rattle.lock_state.specs.Run.{waits_on}
+use Rattle.lock_state.specs.Run.{waits_on, was_cut}
 use Rattle.lock_model.specs.Queues.{Mark, BySignal}
 use Rattle.lock_model.specs.History.{tables_of}
 use Rattle.lock_model.specs.Operations.{hold_in}
+use Rattle.lock_model.specs.Orders.{HaveSameEdges}
 use Rattle.lock_model.specs.declared.event.Held.{Held}
 use Rattle.lock_model.specs.declared.plan.QueueName.{QueueName}
+use Rattle.witness_orders.specs.Graph.{Graph}
 use Rattle.thread_records.specs.Loans.{loans_for}
 use Rattle.lock_objects.specs.Held.{holds_of}
 use Rattle.lock_objects.specs.Marked.{places_of, AreOfKind}
@@ -40,7 +42,8 @@ wait_of wait.Running = state.Running
 wait_of wait.Queued = state.Queued
 wait_of (wait.Woken q) = state.Woken q BySignal
 
--- what the columns say of a thread, and on which channel it waits by its log
+-- what the columns say of a thread, whether it has a lock to gain, and by its log on which channel it waits, and whether
+-- it was cut
 pub record ThreadColumns : Type 0 where
   pub its_record : RecordColumns
   pub wait : state.Wait
@@ -48,6 +51,8 @@ pub record ThreadColumns : Type 0 where
   pub held : ℕ → Hold
   pub marked : List Mark
   pub chan : Option ℕ
+  pub wants : Bool
+  pub cut : Bool
 
 -- those of a state
 abbrev pub thread_in : State → ℕ → ThreadColumns
@@ -58,6 +63,8 @@ thread_in s t = record {
   held = s.held t;
   marked = s.marked t;
   chan = waits_on (s.log t);
+  wants = is_some (s.wanted t);
+  cut = was_cut s t;
 }
 
 -- what a thread's objects say
@@ -69,6 +76,8 @@ thread_of th = record {
   held = hold_in th.held.items;
   marked = map (mark_of th.marked_from) (places_of th.marked);
   chan = option_map (λ d. d.0) th.waits_on;
+  wants = th.wants;
+  cut = th.cut;
 }
 
 -- no lock is held twice, and there is room for as many as a thread may hold
@@ -93,7 +102,14 @@ pub record RepresentsThreads (ths : List Thread) (c : Config) (s : State) : Type
   pub threads : length ths ≡ c.threads
   pub thread : (t : ℕ) (th : Thread) → slice_get ths t ≡ Some th → RepresentsThread th c s t
 
--- 3. The machine
+-- 3. The order of locks
+
+-- the graph has the class of each lock, and the edges of the column
+pub record RepresentsOrders (c : Config) (graph : Graph) (column : List (ℕ × ℕ)) : Type 0 where
+  pub classes : (l : ℕ) → l < c.locks → c.class l < graph.classes
+  pub edges : HaveSameEdges graph.edges column
+
+-- 4. The machine
 
 -- what bounds the numbers of a run
 pub record IsWithin (c : Config) : Type 0 where
@@ -109,3 +125,4 @@ pub record Represents (c : Config) (m : Machine) (s : State) : Type 0 where
   pub threads : RepresentsThreads m.threads.items c s
   pub history : m.log.entries ≡ reverse s.history
   pub tables : m.tables.present ≡ tables_of s.history
+  pub orders : RepresentsOrders c m.orders s.edges

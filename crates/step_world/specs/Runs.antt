@@ -1,15 +1,17 @@
 -- Which run of a plan a machine represents, and that a turn of the machine is the turn of the table.
 use Rattle.std.specs.Prelude.{◌≡◌, ◌≢◌, ◌⊎◌, ℕ, suc, ◌+◌, ◌*◌, ◌<◌, Bool, true, false, List, [], ◌∷◌, ◌++◌, length, slice_get, is_some, Option, Some, None, IsSomeAnd, IsTrue}
 use Rattle.std.specs.List.{Contains}
-use Rattle.lock_model.specs.Plans.{config_of, operations_of, lock_kind}
+use Rattle.lock_model.specs.Plans.{config_of, operations_of, lock_kind, lock_class}
 use Rattle.lock_model.specs.Config.{Config}
 use Rattle.lock_model.specs.Holds.{NotHeld, Holds}
 use Rattle.lock_model.specs.Words.{is_turnstile}
 use Rattle.lock_model.specs.Keys.{plan_names}
 use Rattle.lock_model.specs.Operations.{held_of, hold_in, operations_in_all}
 use Rattle.lock_model.specs.Limits.{most_held}
+use Rattle.lock_model.specs.Orders.{first_to_forbid}
 use Rattle.lock_state.specs.Facts.{Lawful}
-use Rattle.lock_state.specs.Steps.{Step, May, after, after_all}
+use Rattle.lock_state.specs.Steps.{Step, Stamps, May, MayAll, after, after_all}
+use Rattle.lock_state.specs.Steps.Orders.{classes_held}
 use Rattle.lock_state.specs.Run.{Run, Row, has_ended, turn_of, run_behind, operates, notes, gains, takes, gives_back, lock_of_wait}
 use Rattle.lock_state.specs.State.{State, NoWalk}
 use Rattle.lock_model.specs.Queues.{lock_queue, stands}
@@ -21,13 +23,14 @@ use Rattle.lock_model.specs.declared.numbers.ChanNo.{ChanNo}
 use Rattle.lock_model.specs.declared.numbers.LockNo.{LockNo}
 use Rattle.lock_model.specs.declared.plan.Mode.{Mode}
 use Rattle.lock_model.specs.declared.event.Event.{Event}
+use Rattle.lock_model.specs.declared.event.Event.TheVariants.{Unlocked}
 use Rattle.lock_model.specs.declared.event.Held.{Held}
 use Rattle.lock_model.specs.declared.plan.Plan.{Plan}
 use Rattle.lock_model.specs.declared.turn.Turn.{Turn}
 use Rattle.lock_model.specs.declared.turn.Turn.TheVariants.{Did, Idle, Ended}
 use Rattle.lock_model.specs.declared.turn.StepKind.{StepKind}
 use Rattle.lock_model.specs.declared.turn.StepKind.TheVariants.{Note}
-use Rattle.lock_laws.specs.OnTrack.{IsOnTrack, OwesNothing, IsAtOperation, held_now, held_before}
+use Rattle.lock_laws.specs.OnTrack.{IsOnTrack, OwesNothing, IsAtOperation, IsCutShort, held_now, held_before, admitted}
 use Rattle.step_world.specs.declared.machine.Machine.{Machine}
 use Rattle.lock_model.specs.declared.plan.ThreadDecl.{ThreadDecl}
 use Rattle.step_world.specs.declared.thread.Thread.{Thread}
@@ -220,6 +223,42 @@ GivesBack plan old new t l kind = (s : State) (mode : Mode) → Represents (conf
     → (kind ≡ (back_in (config_of plan) s t l mode).0)
     × Represents (config_of plan) new
     (after (config_of plan) s (back_in (config_of plan) s t l mode).1)
+
+-- the steps by which a thread releases a lock that it holds in the mode, and notes that
+abbrev pub unlocks : Config → State → ℕ → LockNo → Mode → List Step
+unlocks c s t l mode = Stamps t (Unlocked l mode) ∷ (back_in c s t l.0 mode).1 ∷ []
+
+-- it may do so
+pub record MayUnlock (c : Config) (s : State) (t : ℕ) (l : LockNo) (mode : Mode) : Type 0 where
+  pub held : s.held t l.0 ≡ Holds mode
+  pub may : MayAll c s (unlocks c s t l mode)
+
+-- whatever lawful state the machine represented, it represents the state behind those steps, and this is the answer
+abbrev pub Unlocks : Plan → Machine → Machine → ℕ → LockNo → StepKind → Type 0
+Unlocks plan old new t l kind = (s : State) (mode : Mode) → Represents (config_of plan) old s
+    → Lawful (config_of plan) s → MayUnlock (config_of plan) s t l mode
+    → (kind ≡ (back_in (config_of plan) s t l.0 mode).0)
+    × Represents (config_of plan) new
+    (after_all (config_of plan) s (unlocks (config_of plan) s t l mode))
+
+-- a running thread that was cut hasn't ended
+pub record IsGivingUp (plan : Plan) (r : Run) (t : ℕ) : Type 0 where
+  pub going : has_ended plan r t ≡ false
+  pub cut : IsCutShort plan r t
+
+-- 4. A take's first turn
+
+-- the first class of a held lock that forbids that of the lock
+abbrev pub first_against : Plan → Run → ℕ → LockNo → Option ℕ
+first_against plan r t l =
+    first_to_forbid r.state.edges (classes_held (config_of plan) r.state t) (lock_class plan l.0)
+
+-- none does, and the machine represents the run in which the lock is admitted
+pub record IsAdmission (plan : Plan) (r : Run) (t : ℕ) (l : LockNo) (m : Machine) : Type 0 where
+  pub none_against : first_against plan r t l ≡ None
+  pub shows : IsRunOf plan m (admitted plan r t l)
+
+-- 5. The begin of a run
 
 -- threads of a plan at their begin, in order
 pub record AreNew (decls : List ThreadDecl) (ths : List Thread) : Type 0 where

@@ -1,16 +1,21 @@
 -- What a method of a machine promises: where the objects represent a lawful state in which a step may be made, they
 -- represent the state behind it.
-use Rattle.std.specs.Prelude.{◌≡◌, ℕ, ◌<◌, ◌==◌, if◌then◌else◌, List, length, slice_get, option_map, Option, IfSome}
+use Rattle.std.specs.Prelude.{◌≡◌, ℕ, ◌<◌, ◌==◌, if◌then◌else◌, List, [], ◌∷◌, length, slice_get, option_map, Option, IfSome}
 use Rattle.lock_model.specs.Config.{Config}
 use Rattle.lock_state.specs.State.{State}
 use Rattle.lock_state.specs.Facts.{Lawful}
 use Rattle.lock_model.specs.Holds.{Hold, NotHeld, Holds}
 use Rattle.lock_model.specs.Operations.{hold_in, without_lock}
 use Rattle.lock_model.specs.Words.{is_turnstile}
-use Rattle.lock_state.specs.Steps.{Step, Enters, EntersSleepQueue, Opens, OpensSleepQueue, May as MayMake, MayAll, after, after_all}
+use Rattle.lock_state.specs.Steps.{Step, Stamps, Enters, EntersSleepQueue, Opens, OpensSleepQueue, Refuses, May as MayMake, MayAll, after, after_all}
+use Rattle.lock_state.specs.Steps.Orders.{classes_held}
+use Rattle.witness_orders.specs.Graph.{numbers_of}
+use Rattle.lock_model.specs.declared.numbers.ClassNo.{ClassNo}
+use Rattle.lock_model.specs.declared.numbers.LockNo.{LockNo}
 use Rattle.lock_model.specs.declared.plan.Kind.{Kind}
 use Rattle.lock_model.specs.declared.plan.Mode.{Mode}
 use Rattle.lock_model.specs.declared.event.Event.{Event}
+use Rattle.lock_model.specs.declared.event.Event.TheVariants.{Reversed}
 use Rattle.lock_model.specs.declared.event.Held.{Held}
 use Rattle.step_world.specs.declared.thread.Thread.{Thread}
 use Rattle.lock_history.specs.Books.{HasRoom}
@@ -47,6 +52,16 @@ enters kind t l mode x =
 abbrev pub opens : Kind → ℕ → ℕ → Mode → Step
 opens kind t l mode =
     if is_turnstile kind then Opens t l mode else OpensSleepQueue t l mode
+
+-- the steps by which a lock is refused to a thread, for the class of one that it holds
+abbrev pub refuses : ℕ → LockNo → ClassNo → List Step
+refuses t l held = Refuses t l.0 held.0 ∷ Stamps t (Reversed l held) ∷ []
+
+-- the classes of the locks that a thread holds, in order of acquisition, and that of the lock
+pub record AreClasses (c : Config) (held : List ClassNo) (class : ClassNo) (s : State) (t l : ℕ) : Type 0
+  where
+    pub held_are : numbers_of held ≡ classes_held c s t
+    pub class_is : class.0 ≡ c.class l
 
 -- 2. What no column tells: each thread's next operation, the list of what it holds in order of acquisition, and the
 -- mode in which it held the lock that it released last

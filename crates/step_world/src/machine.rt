@@ -1,7 +1,7 @@
 //! The objects of a scheduled run: lock words, the chains of the turnstiles that are lent to locks and of the sleep
 //! queues that are lent to locks and channels, the threads, the history so far and the tables. Each method is a step of
 //! a thread (`lock_state`'s `specs/Steps.antt`), or two in a row.
-ghost use Rattle.std.specs.Prelude.{◌≡◌, ◌<◌, ◌≤◌, ◌^◌, map, sum, length, IfOk};
+ghost use Rattle.std.specs.Prelude.{◌≡◌, ◌<◌, ◌≤◌, ◌^◌, length, IfOk};
 ghost use Rattle.lock_model.specs.Operations.{IsProper, is_endtry, next_at};
 ghost use Rattle.lock_model.specs.Plans.{config_of};
 ghost use Rattle.lock_state.specs.Run.{start_run};
@@ -18,9 +18,11 @@ use lock_model::{Op, Plan, ThreadDecl, ThreadNo};
 use sleep_queues::SleepQueue;
 use std::alloc::{AllocError, Global};
 use turnstile_core::Turnstile;
+use witness_orders::Orders;
 
 mod locks;
 mod notes;
+mod orders;
 mod queues;
 mod walks;
 
@@ -39,10 +41,12 @@ pub struct Machine {
     pub log: Log,
     /// What the locks protect.
     pub tables: Tables,
+    /// The order in which classes of locks were taken.
+    pub orders: Orders,
 }
 
 impl Machine {
-    /// All objects at home, all locks free, and memory for every entry that the plan's operations can make.
+    /// All objects at home, all locks free, no order of locks, and memory for every entry that the plan's operations can make.
     pub fn make(alloc: Global, plan: &Plan) -> Result<Machine, AllocError>
         requires { IsProper plan.now }
         ensures { IfOk result (λ m. RepresentsRun plan.now m (start_run (config_of plan.now))) }
@@ -52,8 +56,10 @@ impl Machine {
             chain: Chain::empty(),
             sleepers: Chain::empty(),
             threads: make_threads(alloc, plan.threads.as_slice())?,
-            log: Log::make(alloc, 2 * count_operations(plan.threads.as_slice()))?,
+            // An operation makes two entries at most.
+            log: Log::make(alloc, 2 * plan.operations_in_all())?,
             tables: Tables::make(alloc, plan)?,
+            orders: Orders::make(alloc, plan.classes.as_slice().len() as u32)?,
         })
     }
 
@@ -96,16 +102,4 @@ fn make_threads(alloc: Global, decls: &[ThreadDecl]) -> Result<Vec<Thread>, Allo
         threads.push(Thread::make(alloc, ThreadNo(t as u8), decl.base)?)?;
     }
     Ok(threads)
-}
-
-// The operations of all threads. Each makes two entries at most.
-fn count_operations(decls: &[ThreadDecl]) -> u32
-    requires { sum (map (λ d. length d.ops) decls.now) < 2 ^ 32 }
-    ensures { result ≡ sum (map (λ d. length d.ops) decls.now) }
-{
-    let mut all = 0;
-    for decl in decls {
-        all += decl.ops.as_slice().len() as u32;
-    }
-    all
 }

@@ -5,7 +5,7 @@ ghost use Rattle.lock_history.specs.Endings.{ending_of};
 ghost use Rattle.lock_history.specs.Outcomes.{outcome_seen};
 ghost use Rattle.lock_model.specs.Operations.{IsProper};
 ghost use Rattle.lock_state.specs.Run as run;
-ghost use Rattle.lock_state.specs.Run.{start_course, course_after, after_turn, with_turn, is_over, is_stuck, all_ended, round_of, scheduled_run, outcome_of, HasLegalHistory};
+ghost use Rattle.lock_state.specs.Run.{start_course, course_after, after_turn, with_turn, is_over, is_stuck, all_ended, round_of, scheduled_run, outcome_of, whole_ending, HasLegalHistory};
 ghost use Rattle.lock_state.specs.Run.{ending_of as ending_of_course};
 ghost use Rattle.lock_model.specs.declared.plan.Plan as plans;
 ghost use Rattle.step_world.specs.Courses.{IsCourse, IsUnderWay, Tells, GoesTo, ended_in, newly_ended};
@@ -18,10 +18,10 @@ use lock_model::{Plan, Sequence, ThreadNo, Turn};
 use std::alloc::{AllocError, Global};
 
 /// The scheduled run of a plan: the turns of its schedule, and then rounds over the threads that haven't ended, by
-/// number. It ends `Done` where all threads have ended, `Stuck` where a whole round was idle, and else `TooLong` where the
-/// allowed turns were made. Its history is legal, and whole unless it ended `Stuck` or `TooLong`. There are 1 to 64
-/// chains of each sort, of which only the printed slots tell, and 1 to 1,000,000 turns. The plan is one that some
-/// script gives.
+/// number. Where all threads have ended it ends `Reversed` if a take was refused for its order, and else `Done`; it ends
+/// `Stuck` where a whole round was idle, and else `TooLong` where the allowed turns were made. Its history is legal, and
+/// whole unless it ended `Stuck` or `TooLong`. There are 1 to 64 chains of each sort, of which only the printed slots
+/// tell, and 1 to 1,000,000 turns. The plan is one that some script gives.
 pub fn run_schedule(
     alloc: Global,
     plan: &Plan,
@@ -152,11 +152,23 @@ impl<'p> Course<'p> {
         ensures { Tells self.now (ending_of result) ending_of_course }
     {
         if self.all_ended() {
-            Last::Done
+            self.whole_ending()
         } else if self.is_stuck() {
             Last::Stuck
         } else {
             Last::TooLong
+        }
+    }
+
+    // How it ended where all threads have ended.
+    fn whole_ending(&self) -> Last
+        ensures { Tells self.now (ending_of result)
+            (λ plan k. whole_ending k.run.state.history) }
+    {
+        if self.world.machine().has_reversal() {
+            Last::Reversed
+        } else {
+            Last::Done
         }
     }
 

@@ -1,5 +1,5 @@
 //! What the machine keeps of a thread: its record, its wait word, and what it is in the middle of.
-ghost use Rattle.std.specs.Prelude.{not, ◌≡◌, ◌<◌, ◌++◌, [], ◌∷◌, length, None, IfOk};
+ghost use Rattle.std.specs.Prelude.{not, false, ◌≡◌, ◌<◌, ◌++◌, [], ◌∷◌, length, None, IfOk};
 ghost use Rattle.std.specs.Vec.{vec_capacity};
 ghost use Rattle.lock_model.specs.Operations.{hold_in, without_lock};
 ghost use Rattle.lock_state.specs.Run.{mode_held};
@@ -39,6 +39,10 @@ pub struct Thread {
     pub marked_from: QueueName,
     /// How many of its operations are behind it.
     pub next_op: usize,
+    /// Whether it has a lock to gain: one that was admitted, or that of its wait, from its resume on.
+    pub wants: bool,
+    /// Whether a take of it was refused: its operations from there on are not made.
+    pub cut: bool,
 }
 
 impl Thread {
@@ -56,14 +60,16 @@ impl Thread {
             marked: Marked::none(),
             marked_from: QueueName::Lock(LockNo(0)),
             next_op: 0,
+            wants: false,
+            cut: false,
         })
     }
 
-    /// Whether all its operations are done, it owes nothing and holds nothing.
+    /// Whether all its operations are done or cut, it owes nothing and holds nothing.
     pub fn has_ended(&self, ops: &[Op]) -> bool
         ensures { result ≡ thread_has_ended (length ops.now) self.now }
     {
-        self.next_op >= ops.len()
+        (self.next_op >= ops.len() || self.cut)
             && self.walk == Walk::None
             && self.marked.is_empty()
             && self.held.is_empty()
@@ -99,13 +105,14 @@ impl Thread {
         }
     }
 
-    /// Puts a lock behind those that it holds.
+    /// Puts a lock behind those that it holds. There is no lock to gain any more.
     pub fn pick_up(&mut self, held: Held)
         requires { length self.old.held.items < vec_capacity self.old.held }
         ensures held { self.new.held.items ≡ self.old.held.items ++ held ∷ [] }
         ensures room { vec_capacity self.new.held ≡ vec_capacity self.old.held }
-        ensures others { self.new ≡ record self.old { held = self.new.held } }
+        ensures others { self.new ≡ record self.old { held = self.new.held; wants = false } }
     {
         self.held.push_reserved(held);
+        self.wants = false;
     }
 }

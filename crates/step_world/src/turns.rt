@@ -13,7 +13,7 @@ ghost use Rattle.step_world.specs.Runs.{HasRun, Follows, MakesRow, KeepsWhereIdl
 use crate::machine::Machine;
 use crate::thread::Wait;
 use lock_model::{Event, Op, Plan, StepKind, ThreadNo, Turn};
-use locks::{release, take, try_lock};
+use locks::{give_last_back, release, take_in_order, try_lock};
 use prio_lending::Walk;
 use waits::{by_release, sleep, wake};
 use walks::{walk_at_lock, walk_at_thread};
@@ -59,7 +59,8 @@ pub fn turn(machine: &mut Machine, plan: &Plan, t: ThreadNo) -> Turn
     }
 }
 
-// A queued thread is idle, a woken one runs again, and a running one makes its operation.
+// A queued thread is idle, a woken one runs again, and a running one makes its operation, or was cut and gives back what
+// it holds.
 pub fn by_wait(machine: &mut Machine, plan: &Plan, t: ThreadNo) -> Turn
     requires proper { IsProper plan.now }
     requires thread { t.0 < length plan.now.threads }
@@ -75,6 +76,7 @@ pub fn by_wait(machine: &mut Machine, plan: &Plan, t: ThreadNo) -> Turn
             machine.resume(t);
             Turn::Did(StepKind::Resume)
         }
+        Wait::Running if thread.cut => give_last_back(machine, plan, t),
         Wait::Running => match plan.operations_of(t).get(thread.next_op) {
             Some(op) => operate(machine, plan, t, *op),
             None => Turn::Idle,
@@ -115,7 +117,7 @@ fn make_operation(machine: &mut Machine, plan: &Plan, t: ThreadNo, op: Op) -> Ma
     ensures unchanged { KeepsWhereIdle (answer_of result) machine.old machine.new }
 {
     match op {
-        Op::Take { l, mode } => take(machine, plan, t, l, mode, Event::Locked { l, mode }),
+        Op::Take { l, mode } => take_in_order(machine, plan, t, l, mode),
         Op::Try { l, mode, past } => try_lock(machine, plan, t, l, mode, past),
         Op::Release { l } => release(machine, plan, t, l),
         Op::Set { l, key, value } => note(machine, plan, t, Event::Set { l, key, value }),

@@ -1,11 +1,11 @@
 //! The world of a scheduled run, and its turns.
 ghost use Rattle.std.specs.Prelude.{◌≡◌, ◌⊎◌, ◌↔◌, ◌≤◌, ◌<◌, true, length, IfOk};
-ghost use Rattle.lock_state.specs.Facts.{LawfulTurn};
+ghost use Rattle.lock_state.specs.Facts.{LawfulTurn, Ordered};
 ghost use Rattle.lock_model.specs.Operations.{IsProper};
 ghost use Rattle.lock_model.specs.Plans.{config_of};
 ghost use Rattle.lock_state.specs.Run.{Run, start_run, turn_of, run_behind, has_ended};
 ghost use Rattle.lock_laws.specs.OnTrack.{IsSleeping};
-ghost use Rattle.lock_state.specs.Best.{HasBest};
+ghost use Rattle.lock_state.specs.Best.{HasBest, HasCycle};
 ghost use Rattle.step_world.specs.Worlds.{Represents};
 
 use crate::machine::Machine;
@@ -65,7 +65,8 @@ impl<'p> World<'p> {
 
     /// Makes one turn of a thread, which the plan declares: the first row of the table that fits, with its answer.
     /// `Ended` comes exactly where the thread has ended, and `Idle` exactly where it sleeps: it hasn't ended, its wait
-    /// word says Queued, and it owes nothing. Both change nothing. It takes no memory.
+    /// word says Queued, and it owes nothing. Both change nothing. Locks are held and wanted in the order that was
+    /// admitted, so no threads wait in a cycle. It takes no memory.
     pub fn turn(&mut self, t: ThreadNo) -> Turn
         requires { t.0 < length self.old.plan.threads }
         ensures plan { self.new.plan ≡ self.old.plan }
@@ -81,6 +82,9 @@ impl<'p> World<'p> {
         ensures unchanged { (result ≡ Turn.Idle) ⊎ (result ≡ Turn.Ended) → self.new ≡ self.old }
         ensures lawful { (r : Run) × Represents self.new r
             × LawfulTurn (config_of self.new.plan) r.state }
+        ensures ordered { (r : Run) → Represents self.new r
+            → Ordered (config_of self.new.plan) r.state }
+        ensures no_cycle { (r : Run) → Represents self.new r → HasCycle r.state → ⊥ }
         ensures best { (r : Run) → Represents self.new r
             → HasBest (config_of self.new.plan) r.state }
     {
@@ -88,7 +92,7 @@ impl<'p> World<'p> {
         turn(&mut world.machine, world.plan, t)
     }
 
-    /// Whether a thread, which the plan declares, has ended: its operations are done, it owes nothing and holds
+    /// Whether a thread, which the plan declares, has ended: its operations are done or cut, it owes nothing and holds
     /// nothing.
     pub fn has_ended(&self, t: ThreadNo) -> bool
         requires { t.0 < length self.now.plan.threads }

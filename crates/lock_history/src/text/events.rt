@@ -2,10 +2,7 @@
 ghost use Rattle.std.specs.Prelude.{◌≡◌, ◌++◌, ◌∷◌, [], decimal, map, OnOk};
 ghost use Rattle.lock_model.specs.Text.{spaced, event_words, mode_letter, chan_word, woken_words, or_dash, names_at_bits, found_word, lock_name, lock_kind, chan_name};
 
-use super::words::{
-    chan_name, class_name, is_cond, lock_kind, lock_name, push_call, push_number, push_word,
-};
-use lock_model::{ChanNo, Event, Kind, LockNo, Mode, Plan, ThreadDecl};
+use lock_model::{ChanNo, Event, Kind, LockNo, Mode, Plan, ThreadDecl, push_number, push_word};
 use std::alloc::AllocError;
 
 pub(super) fn push_event(out: &mut Vec<u8>, plan: &Plan, event: Event) -> Result<(), AllocError>
@@ -17,13 +14,13 @@ pub(super) fn push_event(out: &mut Vec<u8>, plan: &Plan, event: Event) -> Result
         Event::Tried { l, mode } => push_mode(out, plan, b"try", l, mode, b"lock"),
         Event::Unlocked { l, mode } => push_mode(out, plan, b"", l, mode, b"unlock"),
         Event::Busy { l, seen } => {
-            push_call(out, b"busy", lock_name(plan, l))?;
+            push_call(out, b"busy", plan.lock_name(l))?;
             push_number(out, seen)
         }
-        Event::Set { l, key, value } => push_edit(out, b"set", lock_name(plan, l), key, value),
-        Event::Added { l, key, amount } => push_edit(out, b"add", lock_name(plan, l), key, amount),
+        Event::Set { l, key, value } => push_edit(out, b"set", plan.lock_name(l), key, value),
+        Event::Added { l, key, amount } => push_edit(out, b"add", plan.lock_name(l), key, amount),
         Event::Got { l, key, found } => {
-            push_call(out, b"get", lock_name(plan, l))?;
+            push_call(out, b"get", plan.lock_name(l))?;
             push_number(out, key)?;
             push_found(out, found)
         }
@@ -37,16 +34,24 @@ pub(super) fn push_event(out: &mut Vec<u8>, plan: &Plan, event: Event) -> Result
             push_number(out, u64::from(eff.0))
         }
         Event::Sleeps { c } => push_chan(out, plan, c, b"wait", b"msleep"),
-        Event::Woke { c } => push_call(out, b"woke", chan_name(plan, c)),
-        Event::HaltedChan { c } => push_call(out, b"halted", chan_name(plan, c)),
-        Event::HaltedLock { l } => push_call(out, b"halted", lock_name(plan, l)),
+        Event::Woke { c } => push_call(out, b"woke", plan.chan_name(c)),
+        Event::HaltedChan { c } => push_call(out, b"halted", plan.chan_name(c)),
+        Event::HaltedLock { l } => push_call(out, b"halted", plan.lock_name(l)),
         Event::WokeOne { c, woken } => push_waking(out, plan, c, b"signal", b"wakeup_one", woken),
         Event::WokeAll { c, woken } => push_waking(out, plan, c, b"broadcast", b"wakeup", woken),
         Event::Reversed { l, held } => {
-            push_call(out, b"reversed", lock_name(plan, l))?;
-            push_word(out, class_name(plan, held))
+            push_call(out, b"reversed", plan.lock_name(l))?;
+            push_word(out, plan.class_name(held))
         }
     }
+}
+
+// A call's word, and the name of what it is made on.
+fn push_call(out: &mut Vec<u8>, word: &[u8], name: &[u8]) -> Result<(), AllocError>
+    ensures { OnOk result (out.new.items ≡ out.old.items ++ spaced (word.now ∷ name.now ∷ [])) }
+{
+    push_word(out, word)?;
+    push_word(out, name)
 }
 
 // A change at a key of a lock's table.
@@ -79,9 +84,9 @@ fn push_mode(
         ∷ lock_name plan.now l.0 ∷ [])) }
 {
     push_word(out, before)?;
-    out.extend_from_slice(mode_letter(lock_kind(plan, l), mode))?;
+    out.extend_from_slice(mode_letter(plan.lock_kind(l), mode))?;
     out.extend_from_slice(behind)?;
-    push_word(out, lock_name(plan, l))
+    push_word(out, plan.lock_name(l))
 }
 
 fn mode_letter(kind: Kind, mode: Mode) -> &'static [u8]
@@ -107,8 +112,8 @@ fn push_chan(
     ensures { OnOk result (out.new.items ≡ out.old.items ++ spaced (
         chan_word plan.now c.0 on_cond.now on_chan.now ∷ chan_name plan.now c.0 ∷ [])) }
 {
-    let word = if is_cond(plan, c) { on_cond } else { on_chan };
-    push_call(out, word, chan_name(plan, c))
+    let word = if plan.is_cond(c) { on_cond } else { on_chan };
+    push_call(out, word, plan.chan_name(c))
 }
 
 // A waking of a condition variable or a channel, and the threads that it took.

@@ -4,9 +4,8 @@ ghost use Rattle.std.specs.Prelude.{◌≡◌, ◌++◌, ◌∷◌, [], codes, d
 ghost use Rattle.lock_model.specs.Text.{spaced, queue_line, queue_word, waiter_word, joined, thread_name};
 ghost use Rattle.lock_history.specs.Outcomes.{line_seen, waiter_seen, others_joined};
 
-use super::words::{chan_name, lock_name, push_digits, push_number, push_word, thread_name};
 use crate::outcome::QueueLine;
-use lock_model::{Plan, Prio, QueueName, ThreadNo};
+use lock_model::{Plan, Prio, QueueName, ThreadNo, push_digits, push_number, push_word};
 use std::alloc::AllocError;
 
 pub(super) fn push_queues(
@@ -44,7 +43,7 @@ fn push_place(out: &mut Vec<u8>, plan: &Plan, queue: &QueueLine) -> Result<(), A
     push_word(out, b"slot")?;
     push_number(out, u64::from(queue.slot))?;
     push_word(out, b"head")?;
-    push_word(out, thread_name(plan, queue.head))
+    push_word(out, plan.thread_name(queue.head))
 }
 
 // The free list and the waiters on either side.
@@ -67,8 +66,8 @@ fn queue_word(plan: &Plan, q: QueueName) -> &[u8]
     ensures { result.now ≡ queue_word plan.now q }
 {
     match q {
-        QueueName::Lock(l) => lock_name(plan, l),
-        QueueName::Chan(c) => chan_name(plan, c),
+        QueueName::Lock(l) => plan.lock_name(l),
+        QueueName::Chan(c) => plan.chan_name(c),
     }
 }
 
@@ -80,7 +79,7 @@ fn push_free(out: &mut Vec<u8>, plan: &Plan, free: &[ThreadNo]) -> Result<(), Al
     let Some((first, others)) = free.split_first() else {
         return push_word(out, b"-");
     };
-    push_word(out, thread_name(plan, *first))?;
+    push_word(out, plan.thread_name(*first))?;
     push_other_threads(out, plan, others)
 }
 
@@ -90,7 +89,7 @@ fn push_other_threads(out: &mut Vec<u8>, plan: &Plan, others: &[ThreadNo]) -> Re
 {
     for t in others {
         out.push(b',')?;
-        out.extend_from_slice(thread_name(plan, *t))?;
+        out.extend_from_slice(plan.thread_name(*t))?;
     }
     Ok(())
 }
@@ -131,7 +130,7 @@ fn push_waiter(out: &mut Vec<u8>, plan: &Plan, waiter: (ThreadNo, Prio)) -> Resu
     ensures { OnOk result (out.new.items
         ≡ out.old.items ++ waiter_word plan.now (waiter_seen waiter)) }
 {
-    out.extend_from_slice(thread_name(plan, waiter.0))?;
+    out.extend_from_slice(plan.thread_name(waiter.0))?;
     out.push(b'@')?;
     push_digits(out, u64::from(waiter.1.0))
 }

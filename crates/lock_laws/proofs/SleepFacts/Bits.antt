@@ -3,9 +3,8 @@ use Rattle.std.proofs.Common.{◌≡◌, ℕ, zero, suc, ◌+◌, ◌-◌, ◌*�
 use Rattle.std.proofs.Math.Nat.{add-mul}
 use Rattle.std.proofs.lemmas.Nat.{pow-add, pow_pos, div-mul-add, mod-mul-add}
 use Rattle.std.proofs.lemmas.Bool.Decides.{nat_tests}
-use Rattle.lock_model.specs.Counts.{sum_below, one, times}
+use Rattle.lock_model.specs.Counts.{sum_below, one, times, has_bit}
 use Rattle.lock_state.specs.Steps.LockWords.{bits_of_threads}
-use Rattle.lock_model.specs.Law.{has_bit}
 use Rattle.lock_laws.proofs.Sums.{sum_below-add, sum_below-le}
 use Rattle.lock_laws.proofs.Kit.{sum_below-zero, sum_below-same}
 

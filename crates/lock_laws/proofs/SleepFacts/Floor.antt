@@ -13,6 +13,7 @@ use Rattle.lock_state.specs.Steps.Turnstiles.{after_enter, after_open, after_mar
 use Rattle.lock_state.specs.Steps.SleepQueues.{after_enter_sleep, after_open_sleep, after_add, after_wake}
 use Rattle.lock_state.specs.Steps.Lending.{after_claim, after_lend, after_shift, after_end_walk}
 use Rattle.lock_state.specs.Steps.Items.{Item, SleepChain, IsDoneWith, MayTake, MayGive, item_with, after_take, after_give}
+use Rattle.lock_state.specs.Steps.Orders.{after_admit, after_refuse}
 use Rattle.lock_state.specs.Steps.{Step, TakesItem, GivesItem, Stamps, Unreadies, Enters, EntersSleepQueue, Adds, Wakes, May, HasOut, HasOutForEntry, HasSeen, after, IsFloorStep}
 use Rattle.lock_laws.specs.Sleepers.{SleepersFit, AsksOfSleepers, AsleepAreOnTheirWay, by_chain}
 use Rattle.lock_laws.proofs.Items.{beside}
@@ -64,7 +65,7 @@ module _ (chains : ℕ) (c : Config) (s : State) where
 
   moved : (step : Step) → May c s step → SleepersFit (by_chain chains s) c (after c s step)
       → SleepersFit (by_chain chains (after c s step)) c (after c s step)
-  unfolding AsleepAreOnTheirWay after_seek after_look after_gain after_drop after_stamp after_ready after_unready after_enter after_open after_mark after_resume after_enter_sleep after_open_sleep after_add after_wake after_claim after_lend after_shift after_end_walk after_take after_give
+  unfolding AsleepAreOnTheirWay after_seek after_look after_gain after_drop after_stamp after_ready after_unready after_enter after_open after_mark after_resume after_enter_sleep after_open_sleep after_add after_wake after_claim after_lend after_shift after_end_walk after_admit after_refuse after_take after_give
   moved (TakesItem t i) g n =
       let after = after_take s t i in
       moves (by_chain chains s) (by_chain chains after) c after n

@@ -19,7 +19,7 @@ use Rattle.lock_laws.proofs.SleepFacts.Known.{named_asleep, is_at_work}
 use Rattle.lock_laws.proofs.SleepFacts.Marks.{signals_named, marks_signal}
 
 -- a sum that isn't 0 has an entry that isn't
-sum_below-some : (n : ℕ) (f : ℕ → ℕ) → 1 ≤ sum_below n f → (j : ℕ) × (j < n) × (1 ≤ f j)
+pub sum_below-some : (n : ℕ) (f : ℕ → ℕ) → 1 ≤ sum_below n f → (j : ℕ) × (j < n) × (1 ≤ f j)
 unfolding sum_below
 sum_below-some zero f h = absurd (omega arith)
 sum_below-some (suc n) f h = elim (cases_eq (f n) 0) [

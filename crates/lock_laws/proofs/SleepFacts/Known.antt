@@ -2,8 +2,8 @@
 -- marked list, and sleeps on in the history until the wake is noted.
 use Rattle.std.proofs.Common.{◌≡◌, ℕ, ◌<◌, ◌≤◌, true, false, Option, Some, None, sym, ap, arith, ◌∙◌}
 use Rattle.lock_model.specs.Config.{Config}
-use Rattle.lock_model.specs.Counts.{one, times}
-use Rattle.lock_model.specs.Law.{is_asleep, is_named, has_bit}
+use Rattle.lock_model.specs.Counts.{one, times, has_bit}
+use Rattle.lock_model.specs.Law.{is_asleep, is_named}
 use Rattle.lock_model.specs.Queues.{chan_queue}
 use Rattle.lock_state.specs.State.{State, Wake}
 use Rattle.lock_state.specs.Steps.LockWords.{bits_of_threads}

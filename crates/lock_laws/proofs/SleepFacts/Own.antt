@@ -1,14 +1,17 @@
--- Gains, claims, and the steps on a thread's own wait word that put it on no queue, keep the facts of sleepers.
-use Rattle.std.proofs.Common.{◌≡◌, ℕ, Bool, true, false, Option, None, refl, ap, arith}
+-- Gains, claims, the steps on a thread's own wait word that put it on no queue, and those that check the order of
+-- locks, keep the facts of sleepers.
+use Rattle.std.proofs.Common.{◌≡◌, ℕ, Bool, true, false, Option, Some, None, refl, sym, ap, arith, ◌∙◌}
 use Rattle.lock_model.specs.Config.{Config}
 use Rattle.lock_model.specs.Law.{is_asleep}
 use Rattle.lock_model.specs.declared.plan.Mode.{Mode}
-use Rattle.lock_state.specs.State.{State, Wait, Running, Queued, put}
+use Rattle.lock_model.specs.declared.plan.QueueName.{QueueName}
+use Rattle.lock_state.specs.State.{State, Wait, Running, Queued, OrderRefused, put}
 use Rattle.lock_state.specs.Steps.LockWords.{is_woken, MayReady, MayUnready, after_gain, after_ready, after_unready}
 use Rattle.lock_state.specs.Steps.Lending.{after_claim}
 use Rattle.lock_state.specs.Steps.Items.{IsOnItsWay}
-use Rattle.lock_state.specs.Facts.{Lawful}
-use Rattle.lock_laws.specs.Sleepers.{SleepersFit, NamedAreWoken, WokenBySignal, WokenSlept, SleepersWantNothing, AsleepAreOnTheirWay}
+use Rattle.lock_state.specs.Steps.Orders.{IsFreeToTake, after_admit, after_refuse}
+use Rattle.lock_state.specs.Facts.{Lawful, StandingIsQueued}
+use Rattle.lock_laws.specs.Sleepers.{SleepersFit, NamedAreWoken, WokenBySignal, WokenSlept, SleepersWantNothing, AsleepAreOnTheirWay, NoSleepIsHalted}
 use Rattle.lock_laws.proofs.Kit.{columns}
 use Rattle.lock_laws.proofs.SleepFacts.Known.{on_its_way}
 
@@ -67,3 +70,34 @@ module _ {at_work : ℕ → Option ℕ} {c : Config} {s : State} (h : SleepersFi
   unfolding after_unready
   unreadies g l off =
       waits Running refl (ap is_woken g.queued) (λ d a n. absurd (off (on_its_way l h t d a n)))
+
+  -- 3. The thread, which runs, is admitted to a lock or refused it
+
+  module _ (l : ℕ) (g : IsFreeToTake c s t l) (f : Lawful c s) where
+    nowhere : (q : QueueName) → s.blocked_on t ≡ Some q → ⊥
+    unfolding StandingIsQueued
+    nowhere q e = let z : Running ≡ Queued = sym g.running ∙ f.waits.standing_is_queued t q e in cc
+
+    admitted_wants : SleepersWantNothing s.blocked_on (put s.wanted t (Some l))
+    unfolding SleepersWantNothing
+    admitted_wants u d = grind (arith, columns, h.sleepers_want_nothing u d, nowhere)
+
+    admitted_way : AsleepAreOnTheirWay s.history s.blocked_on s.wait (put s.wanted t (Some l)) at_work
+    unfolding AsleepAreOnTheirWay
+    admitted_way u d = grind (arith, columns, h.asleep_are_on_their_way u d, g.running)
+
+    admits_it : SleepersFit at_work c (after_admit c s t l)
+    unfolding after_admit
+    admits_it = assumption (h, admitted_wants, admitted_way)
+
+  refused : (l k : ℕ) → NoSleepIsHalted (put s.noted t (Some (OrderRefused l k)))
+  unfolding NoSleepIsHalted
+  refused l k u q = grind (arith, columns, h.no_sleep_is_halted u q)
+
+  pub refuses : (l k : ℕ) → SleepersFit at_work c (after_refuse s t l k)
+  unfolding after_refuse
+  refuses l k = assumption (h, refused l k)
+
+pub admits : {at_work : ℕ → Option ℕ} {c : Config} {s : State} → Lawful c s → SleepersFit at_work c s
+    → (t l : ℕ) → IsFreeToTake c s t l → SleepersFit at_work c (after_admit c s t l)
+admits f h t l g = admits_it h t l g f

@@ -4,8 +4,8 @@ use Rattle.std.proofs.Common.{◌≡◌, ◌≢◌, ℕ, ◌+◌, ◌≤◌, Boo
 use Rattle.std.proofs.lemmas.Bool.{cases_eq}
 use Rattle.std.proofs.lemmas.Bool.Decides.{nat_tests}
 use Rattle.lock_model.specs.Config.{Config}
-use Rattle.lock_model.specs.Counts.{one, times}
-use Rattle.lock_model.specs.Law.{is_asleep, is_named, is_passed_over, entries_up_to, goes_before, has_bit, wakes, sleeps_on, WakingsNameSleepers}
+use Rattle.lock_model.specs.Counts.{one, times, has_bit}
+use Rattle.lock_model.specs.Law.{is_asleep, is_named, is_passed_over, entries_up_to, goes_before, wakes, sleeps_on, WakingsNameSleepers}
 use Rattle.lock_model.specs.Queues.{Waiter, chan_queue, times_waiting}
 use Rattle.lock_model.specs.declared.event.Event.{Event}
 use Rattle.lock_model.specs.declared.event.Event.TheVariants.{Base, Sleeps, WokeOne, WokeAll}

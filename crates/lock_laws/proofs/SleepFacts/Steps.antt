@@ -6,7 +6,7 @@ use Rattle.lock_state.specs.Facts.{Lawful}
 use Rattle.lock_state.specs.Steps.LockWords.{after_seek, after_look, after_drop}
 use Rattle.lock_state.specs.Steps.Lending.{after_lend, after_shift, after_end_walk}
 use Rattle.lock_state.specs.Steps.Items.{after_take, after_give}
-use Rattle.lock_state.specs.Steps.{Step, Seeks, Looks, TakesItem, GivesItem, Gains, Drops, Stamps, Readies, Unreadies, Enters, Opens, EntersSleepQueue, OpensSleepQueue, Adds, Wakes, Marks, Resumes, Claims, Lends, Shifts, EndsWalk, May, MayAll, after, after_all}
+use Rattle.lock_state.specs.Steps.{Step, Seeks, Looks, TakesItem, GivesItem, Gains, Drops, Stamps, Readies, Unreadies, Enters, Opens, EntersSleepQueue, OpensSleepQueue, Adds, Wakes, Marks, Resumes, Claims, Lends, Shifts, EndsWalk, Admits, Refuses, May, MayAll, after, after_all}
 use Rattle.lock_laws.specs.Sleepers.{SleepersFit, AsksOfSleepers, AsksOfSleepersAll, SleepersInOrder, LatecomersAreLater, SleepersKeepBase, SleepersAreExclusive, UnnotedIsFair}
 use Rattle.lock_laws.proofs.Steps as lawful
 use Rattle.lock_laws.proofs.SleepFacts.Add as add
@@ -45,6 +45,8 @@ keeps at_work c s (Claims t l x by_try) g a f h = own.claims h t l x by_try
 keeps at_work c s (Lends t l o x) g a f h = assumption h
 keeps at_work c s (Shifts t o l) g a f h = assumption h
 keeps at_work c s (EndsWalk t) g a f h = assumption h
+keeps at_work c s (Admits t l) g a f h = own.admits f h t l g.free
+keeps at_work c s (Refuses t l k) g a f h = own.refuses h t l k
 
 pub all_keep : (at_work : ℕ → Option ℕ) (c : Config) (s : State) (steps : List Step)
     → MayAll c s steps → AsksOfSleepersAll at_work c s steps → Lawful c s → SleepersFit at_work c s

@@ -3,8 +3,8 @@ use Rattle.std.proofs.Common.{◌≡◌, ◌≢◌, ℕ, zero, suc, ◌<◌, ◌
 use Rattle.std.proofs.lemmas.Bool.{ne_eqb}
 use Rattle.std.proofs.lemmas.Bool.Decides.{nat_tests}
 use Rattle.lock_model.specs.Config.{Config}
-use Rattle.lock_model.specs.Counts.{any_below, times}
-use Rattle.lock_model.specs.Law.{is_asleep, has_bit, passes_over, goes_before, comes_before_named, leaves_asleep, Fits, FitsSleepers}
+use Rattle.lock_model.specs.Counts.{any_below, times, has_bit}
+use Rattle.lock_model.specs.Law.{is_asleep, passes_over, goes_before, comes_before_named, leaves_asleep, Fits, FitsSleepers}
 use Rattle.lock_model.specs.Events.{WakesOne, WakesAll}
 use Rattle.lock_model.specs.Queues.{Waiter, chan_queue, times_waiting}
 use Rattle.lock_model.specs.declared.plan.QueueName.TheVariants.{Chan}

@@ -1,6 +1,6 @@
 //! The thread whose `end` hasn't come: its operations, what it holds behind them, and the blocks of its tries that are
 //! open.
-ghost use Rattle.std.specs.Prelude.{◌≡◌, ◌<◌, ◌++◌, ◌^◌, [], ◌∷◌, suc, length, slice_set, option_map, option_to_list, IfOk};
+ghost use Rattle.std.specs.Prelude.{◌≡◌, ◌<◌, ◌++◌, ◌^◌, suc, length, slice_set, option_map, option_to_list, IfOk};
 ghost use Rattle.lock_model.specs.Script.Learning.{blocks_behind};
 ghost use Rattle.lock_model.specs.declared.plan.Op.TheVariants.{Try};
 ghost use Rattle.script_read.specs.OpenThreads.{thread_of, block_of};

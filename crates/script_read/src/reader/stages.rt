@@ -2,7 +2,7 @@
 //! that fails, or what the line's words stand for.
 #![tactic(auto, using(lock_model::proofs::LeastCodes::least_is_first))]
 
-ghost use Rattle.std.specs.Prelude.{◌≡◌, ◌∷◌, ◌<◌, ◌==◌, ◌||◌, [], Some, None, Ok, Err, IfOk, if◌then◌else◌, length, nat_lt, ok_or, option_and_then, slice_get};
+ghost use Rattle.std.specs.Prelude.{◌≡◌, ◌<◌, ◌==◌, ◌||◌, Some, None, Ok, Err, IfOk, if◌then◌else◌, length, nat_lt, ok_or, option_and_then, slice_get};
 ghost use Rattle.std.specs.List.{list_all};
 ghost use Rattle.lock_model.specs.Limits.{most_channels, most_classes, most_locks, most_operations, most_threads};
 ghost use Rattle.lock_model.specs.Names.{is_name};

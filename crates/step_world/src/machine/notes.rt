@@ -2,6 +2,7 @@
 ghost use Rattle.std.specs.Prelude.{◌≡◌, ◌≤◌, ◌<◌, ◌+◌, length, option_map};
 ghost use Rattle.lock_model.specs.Events.{of_sleep, fell_asleep};
 ghost use Rattle.lock_model.specs.History.{edited};
+ghost use Rattle.lock_model.specs.Takes.{is_reversal, has_reversal};
 ghost use Rattle.lock_state.specs.Steps.{Stamps};
 ghost use Rattle.lock_state.specs.Steps.LockWords.{MayStamp};
 ghost use Rattle.step_world.specs.Noted.{IsNoted};
@@ -11,8 +12,8 @@ use super::Machine;
 use lock_model::{ChanNo, Entry, Event, ThreadNo};
 
 impl Machine {
-    /// Makes an entry with the next ticket, and what the entry says of a table, of the thread's base priority, or of a
-    /// wait of the thread.
+    /// Makes an entry with the next ticket, and what the entry says of a table, of the thread's base priority, of a wait of
+    /// the thread, or of its being cut.
     pub fn stamp(&mut self, t: ThreadNo, event: Event)
         requires may { May self.old (λ c s. MayStamp c s t.0 event) }
         requires room { 1 ≤ self.old.log.spare }
@@ -32,6 +33,13 @@ impl Machine {
         });
     }
 
+    /// Whether a take was refused.
+    pub fn has_reversal(&self) -> bool
+        ensures { result ≡ has_reversal self.now.log.entries }
+    {
+        self.log.as_slice().iter().any(|e| is_reversal(e.event))
+    }
+
     // Changes what an event changes beside the history.
     fn edit(&mut self, t: ThreadNo, event: Event)
         requires thread { t.0 < length self.old.threads.items }
@@ -45,10 +53,18 @@ impl Machine {
         self.tables.edit(event).unwrap();
         let thread = &mut self.threads[usize::from(t.0)];
         thread.waits_on = fell_asleep(event);
+        thread.cut = is_reversal(event) || thread.cut;
         if let Event::Base { prio } = event {
             thread.record.set_base(prio);
         }
     }
+}
+
+// Whether an event is the refusal of a take.
+fn is_reversal(event: Event) -> bool
+    ensures { result ≡ is_reversal event }
+{
+    matches!(event, Event::Reversed { .. })
 }
 
 // The channel on which the thread of an event goes to sleep.

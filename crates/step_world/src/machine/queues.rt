@@ -12,6 +12,7 @@ ghost use Rattle.lock_state.specs.Steps.Turnstiles.{MayMark, MayResume};
 ghost use Rattle.lock_state.specs.Steps.SleepQueues.{MayAdd, MayWake};
 ghost use Rattle.prio_lending.specs.Hops.{walk_up};
 ghost use Rattle.step_world.specs.Represents.{Represents};
+ghost use Rattle.step_world.specs.Threads.{is_back};
 ghost use Rattle.step_world.specs.Steps.{May, Makes, MakesWhere, MakesAllWhere, KeepsProgress, ChangesProgress, KeepsBooks, enters, opens, with_released};
 
 use super::Machine;
@@ -38,6 +39,7 @@ impl Machine {
         self.words[i] = entered(self.words[i], side);
         let thread = &mut self.threads[usize::from(t.0)];
         thread.wait = Wait::Queued;
+        thread.wants = true;
         match kind {
             Kind::Mtx | Kind::Rw => {
                 enter(&mut self.chain, &mut thread.record, l, side, owner);
@@ -136,7 +138,7 @@ impl Machine {
         }
     }
 
-    /// A woken thread runs again.
+    /// A woken thread runs again. From a channel it has the lock of its wait to gain.
     pub fn resume(&mut self, t: ThreadNo)
         requires may { May self.old (λ c s. (q : names.QueueName) × (cause : Cause)
             × MayResume c s t.0 q cause) }
@@ -145,8 +147,17 @@ impl Machine {
         ensures progress { KeepsProgress self.old self.new }
         ensures books { KeepsBooks self.old self.new }
     {
-        self.threads[usize::from(t.0)].wait = Wait::Running;
+        let thread = &mut self.threads[usize::from(t.0)];
+        thread.wants = is_back(thread.wait) || thread.wants;
+        thread.wait = Wait::Running;
     }
+}
+
+// Whether a wait word says Woken from a channel.
+fn is_back(wait: Wait) -> bool
+    ensures { result ≡ is_back wait }
+{
+    matches!(wait, Wait::Woken(QueueName::Chan(_)))
 }
 
 // The side on which threads wait to gain a lock in a mode.

@@ -11,7 +11,6 @@ ghost use Rattle.step_world.specs.Represents.{Represents};
 ghost use Rattle.step_world.specs.Runs.{HasRun, Follows, KeepsWhereIdle, IsNowhere, StandsAt};
 
 use crate::machine::Machine;
-use crate::turns::locks::kind_of;
 use lock_model::{Kind, LockNo, Plan, QueueName, StepKind, ThreadNo, Turn};
 
 /// A walk at a lock lends to the lock's owner, or ends where there is none or nobody waits.
@@ -93,7 +92,7 @@ fn turnstile_named(machine: &Machine, plan: &Plan, o: ThreadNo) -> Option<LockNo
         → is_some result ≡ names_turnstile (config_of plan.now) (s.blocked_on o.0) }
 {
     match blocked_on(machine, o)? {
-        QueueName::Lock(l) => match kind_of(plan, l) {
+        QueueName::Lock(l) => match plan.lock_kind(l) {
             Kind::Mtx | Kind::Rw => Some(l),
             Kind::Sx => None,
         },

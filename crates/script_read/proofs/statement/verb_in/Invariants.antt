@@ -4,5 +4,5 @@ use Rattle.lock_model.specs.Script.Lines.{is_same}
 use Rattle.script_read.specs.Statements.{row}
 use Rattle.script_read.proofs.statement.verb_in.Given as goal
 
-abbrev pub invariant-loop-text : goal.invariant-loop-text
-invariant-loop-text l = lookup (is_same l.word) (map row (drop l.text-index l.table)) ≡ lookup (is_same l.word) (map row l.table)
+abbrev pub invariant-loop-verb : goal.invariant-loop-verb
+invariant-loop-verb l = lookup (is_same l.word) (map row (drop l.verb-index l.table)) ≡ lookup (is_same l.word) (map row l.table)

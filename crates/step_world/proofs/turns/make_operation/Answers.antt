@@ -58,8 +58,8 @@ returns-in-Show-clause-makes c r h a =
 pub returns-in-EndTry-clause-makes : goal.returns-in-EndTry-clause-makes
 returns-in-EndTry-clause-makes c r h a = rows.ends_try c.requires.proper c.requires.thread h a c.in-EndTry.is
 
-pub take-requires-clause-run : goal.take-requires-clause-run
-take-requires-clause-run c = let q = c.requires.run in (q.0, q.1, rows.takes c.requires.proper c.requires.thread q.1 q.2 c.in-Take.is)
+pub take_in_order-requires-clause-run : goal.take_in_order-requires-clause-run
+take_in_order-requires-clause-run c = let q = c.requires.run in (q.0, q.1, rows.is_at c.in-Take.is q.2)
 
 pub returns-in-Take-clause-makes : goal.returns-in-Take-clause-makes
-returns-in-Take-clause-makes c r h a = c.take.ensures.makes r h (rows.takes c.requires.proper c.requires.thread h a c.in-Take.is)
+returns-in-Take-clause-makes c r h a = c.take_in_order.ensures.makes r h (rows.is_at c.in-Take.is a)

@@ -3,7 +3,7 @@ use Rattle.lock_model.specs.Plans.{config_of}
 use Rattle.step_world.specs.declared.turns.Made.TheVariants.{Ends}
 use Rattle.lock_model.specs.declared.turn.StepKind.TheVariants.{Note}
 use Rattle.step_world.proofs.Turning.{has_room, may_next, goes, of_entry, made_behind}
-use Rattle.step_world.proofs.AsFar.{waits_behind, runs_on}
+use Rattle.step_world.proofs.AsFar.{awake_behind}
 use Rattle.step_world.proofs.RowsOfOperations as rows
 use Rattle.step_world.proofs.turns.note.Goals as goal
 
@@ -18,6 +18,6 @@ returns-clause-makes c r h n =
     let a = c.stamp.ensures in
     let row = rows.notes_row c.requires.proper c.requires.thread h n in
     let k = config_of c.args.plan.now in
-    let runs = waits_behind k r.state c.args.t.0 c.args.event ∙ runs_on k r.state c.args.t.0 c.args.event row.turning.may.0 n.at.running in
+    let runs = awake_behind k r.state c.args.t.0 c.args.event row.turning.may.0 n.at.running (h.on_track.unnoted c.args.t.0) n.at.uncut in
     let behind = goes row.turning (of_entry a.step a.progress a.places a.room) in
     made_behind (Ends Note) _ refl row behind runs row.as_far.next_op (row.as_far.held ∙ n.holds_on)

@@ -51,4 +51,4 @@ unfolding after_mark
 returns-else-is_empty-clause-follows c r h u =
     let a = c.mark.ensures in
     let row = rows.marks c.requires.proper c.requires.thread h (rows.here h c.requires.thread c.from.ensures c.index-thread.ensures) c.in-None.is (sym c.is_empty.ensures ∙ c.if-is_empty.false) in
-    one_made row.2 (of_step (a.step row.0 row.1) a.progress a.books) refl refl
+    one_made row.2 (of_step (a.step row.0 row.1) a.progress a.books) refl refl refl

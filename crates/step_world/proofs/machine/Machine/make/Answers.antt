@@ -1,9 +1,13 @@
-use Rattle.std.proofs.Common.{◌*◌, refl, ap, ◌∙◌, length, replicate, List, subst, sum, map}
+use Rattle.std.proofs.Common.{ℕ, ◌*◌, refl, ap, ◌∙◌, length, replicate, List, [], subst}
+use Rattle.witness_orders.specs.Graph.{Graph}
 use Rattle.step_world.specs.Runs.{AreNew}
 use Rattle.lock_model.specs.declared.plan.LockDecl.{LockDecl}
 use Rattle.lock_model.specs.declared.plan.ThreadDecl.{ThreadDecl}
 use Rattle.step_world.proofs.Beginning.{begun}
 use Rattle.step_world.proofs.machine.Machine.make.Goals as goal
+
+abbrev with_classes : List (List ℕ) → Graph
+with_classes names = record { classes = length names; edges = [] }
 
 pub returns : goal.returns
 returns c = begun c.args.plan.now _ c.requires (record {
@@ -12,7 +16,8 @@ returns c = begun c.args.plan.now _ c.requires (record {
   no_sleepers = c.empty-2.ensures;
   new = subst (λ (ds : List ThreadDecl). AreNew ds c.in_ok-make_threads.field-0.items) c.as_slice-2.ensures c.in_ok-make_threads.ensures;
   no_entry = rw c.in_ok-make.ensures refl;
-  room = rw c.in_ok-make.ensures (ap (λ n. 2 * n) (c.count_operations.ensures ∙ ap (λ (ds : List ThreadDecl). sum (map (λ (d : ThreadDecl). length d.ops) ds)) c.as_slice-3.ensures));
+  room = rw c.in_ok-make.ensures (ap (λ n. 2 * n) c.operations_in_all.ensures);
   no_key = c.in_ok-make-2.ensures.empty;
   keys = λ l key. (c.in_ok-make-2.ensures.room l key).1;
+  no_order = c.in_ok-make-3.ensures ∙ ap with_classes c.as_slice-3.ensures;
 })

@@ -49,7 +49,7 @@ open-requires c =
     let t = c.args.t.0 in
     let l = c.args.l.0 in
     let opens_it = ap is_drop (sym (c.word_at.ensures.word q.0 q.1)) ∙ sym c.is_drop.ensures ∙ c.if-is_drop.false in
-    record { may = (k, q.0, q.1, q.2, (c.kind_of.ensures, (q.3.0, subst (λ x. MayMake k q.0 (opens x t l q.3.0)) (sym c.kind_of.ensures) (rows.may_open k q.0 t l q.3.0 opens_it q.3.1)))) }
+    record { may = (k, q.0, q.1, q.2, (c.lock_kind.ensures, (q.3.0, subst (λ x. MayMake k q.0 (opens x t l q.3.0)) (sym c.lock_kind.ensures) (rows.may_open k q.0 t l q.3.0 opens_it q.3.1)))) }
 
 pub returns-else-is_drop-clause-step : goal.returns-else-is_drop-clause-step
 returns-else-is_drop-clause-step c s mode h lawful may =
@@ -58,5 +58,5 @@ returns-else-is_drop-clause-step c s mode h lawful may =
     let l = c.args.l.0 in
     let opens_it = ap is_drop (sym (c.word_at.ensures.word s h)) ∙ sym c.is_drop.ensures ∙ c.if-is_drop.false in
     rows.opened k s t l mode opens_it
-    (subst (λ x. Represents k c.open.new.self (after k s (opens x t l mode))) c.kind_of.ensures
-    (c.open.ensures.step mode k s c.kind_of.ensures h lawful (subst (λ x. MayMake k s (opens x t l mode)) (sym c.kind_of.ensures) (rows.may_open k s t l mode opens_it may))))
+    (subst (λ x. Represents k c.open.new.self (after k s (opens x t l mode))) c.lock_kind.ensures
+    (c.open.ensures.step mode k s c.lock_kind.ensures h lawful (subst (λ x. MayMake k s (opens x t l mode)) (sym c.lock_kind.ensures) (rows.may_open k s t l mode opens_it may))))

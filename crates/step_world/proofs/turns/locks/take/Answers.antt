@@ -20,8 +20,8 @@ gain_or_claim-requires-clause-run c =
 pub block-requires : goal.block-requires
 block-requires c =
     let q = c.requires.run in
-    let row = rows.blocks_row c.requires.proper c.requires.thread q.1 c.kind_of.result c.kind_of.ensures q.2 (sym (c.is_admitted.ensures q.0 q.1) ∙ c.if-is_admitted.false) in
-    record { may = may_by row.turning _ (c.kind_of.ensures, (_, row.turning.may)) }
+    let row = rows.blocks_row c.requires.proper c.requires.thread q.1 c.lock_kind.result c.lock_kind.ensures q.2 (sym (c.is_admitted.ensures q.0 q.1) ∙ c.if-is_admitted.false) in
+    record { may = may_by row.turning _ (c.lock_kind.ensures, (_, row.turning.may)) }
 
 pub returns-then-is_admitted-clause-makes : goal.returns-then-is_admitted-clause-makes
 returns-then-is_admitted-clause-makes c r h g =
@@ -31,5 +31,5 @@ pub returns-else-is_admitted-clause-makes : goal.returns-else-is_admitted-clause
 returns-else-is_admitted-clause-makes c r h g =
     let a = c.block.ensures in
     let refused = sym (c.is_admitted.ensures r h) ∙ c.if-is_admitted.false in
-    let row = rows.blocks_row c.requires.proper c.requires.thread h c.kind_of.result c.kind_of.ensures g refused in
-    rows.blocked c.requires.proper c.requires.thread h c.kind_of.result c.kind_of.ensures g refused (finished row.turning c.kind_of.ensures (a.steps _) a.progress a.books)
+    let row = rows.blocks_row c.requires.proper c.requires.thread h c.lock_kind.result c.lock_kind.ensures g refused in
+    rows.blocked c.requires.proper c.requires.thread h c.lock_kind.result c.lock_kind.ensures g refused (finished row.turning c.lock_kind.ensures (a.steps _) a.progress a.books)

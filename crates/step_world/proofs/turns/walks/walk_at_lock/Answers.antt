@@ -22,11 +22,11 @@ returns-in-Some-clause-follows c r h w =
     let row = lends c.requires.proper c.requires.thread h w (c.in-Some.ensures (config_of c.args.plan.now) r.state h.shows.shows h.on_track.lawful.lawful) in
     let a = c.lend_to.ensures in
     let lent = of_step_where (λ s shows lawful. c.is_some-on_turnstile.ensures ∙ c.turnstile_named.ensures.turnstile s shows lawful) (a.step row.0) a.progress a.books in
-    one_made row.1 lent refl refl
+    one_made row.1 lent refl refl refl
 
 pub returns-in-None-clause-follows : goal.returns-in-None-clause-follows
 unfolding after_end_walk
 returns-in-None-clause-follows c r h w =
     let row = ends_at_lock c.requires.proper c.requires.thread h w (c.in-None.ensures (config_of c.args.plan.now) r.state h.shows.shows h.on_track.lawful.lawful) in
     let a = c.end_walk.ensures in
-    one_made row (of_step a.step a.progress a.books) refl refl
+    one_made row (of_step a.step a.progress a.books) refl refl refl

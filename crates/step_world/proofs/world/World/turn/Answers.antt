@@ -6,6 +6,7 @@ use Rattle.lock_state.specs.Run.{Run, run_behind, has_ended}
 use Rattle.lock_laws.specs.OnTrack.{IsSleeping}
 use Rattle.lock_laws.proofs.Best.{effective_best}
 use Rattle.lock_laws.proofs.Idle as idle
+use Rattle.lock_laws.proofs.OrderFacts.Cycle.{no_cycle}
 use Rattle.step_world.specs.Worlds.{World}
 use Rattle.step_world.proofs.WorldsAreSound.{behind_turn}
 use Rattle.step_world.proofs.world.World.turn.Goals as goal
@@ -51,6 +52,12 @@ returns-clause-lawful c =
     let r : Run = run_behind w.plan.now i.run.0 c.args.t.0 in
     let shows = behind_turn w.plan.now w.machine c.turn.new.machine c.turn.result c.args.t.0 i.proper (within c) c.turn.ensures.follows i.run.0 i.run.1 in
     (r, shows, shows.on_track.lawful)
+
+pub returns-clause-ordered : goal.returns-clause-ordered
+returns-clause-ordered c r h = h.on_track.ordered
+
+pub returns-clause-no_cycle : goal.returns-clause-no_cycle
+returns-clause-no_cycle c r h cycle = no_cycle (config_of c.world.inside.plan.now) r.state h.on_track.ordered cycle
 
 pub returns-clause-best : goal.returns-clause-best
 returns-clause-best c r h still no_cycle t lt = effective_best (config_of c.world.inside.plan.now) r.state h.on_track.lawful.lawful still t lt no_cycle

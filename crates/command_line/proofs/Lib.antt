@@ -1,0 +1,6 @@
+mod Rules
+mod Rows
+mod Doomed
+mod Steps
+mod Whole
+mod Read

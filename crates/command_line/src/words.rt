@@ -1,0 +1,69 @@
+//! What the words of a command line say, or why they weren't read.
+ghost use Rattle.std.specs.Prelude.{◌≡◌};
+ghost use Rattle.clap.specs.Words.{kind_of};
+ghost use Rattle.clap.specs.declared.error.kind.ErrorKind.TheVariants.{OutOfMemory};
+ghost use Rattle.command_line.specs.Forms.{command_of};
+ghost use Rattle.command_line.specs.declared.words.WordsError.TheVariants.{Memory, Usage};
+
+use clap::error::ErrorKind;
+use std::alloc::AllocError;
+
+/// What the program is to do.
+#[derive(Clone, Copy, Debug, PartialEq, Eq)]
+pub enum Command {
+    /// Read the script, and print how much of each thing it has.
+    Check,
+    /// Make the scheduled run.
+    Step,
+}
+
+impl Command {
+    // The command that a word names.
+    pub(crate) fn named(word: &str) -> Option<Command>
+        ensures { result ≡ command_of word.now }
+    {
+        match word {
+            "check" => Some(Command::Check),
+            "step" => Some(Command::Step),
+            _ => None,
+        }
+    }
+}
+
+/// What the words of a command line say.
+#[derive(Clone, Copy, Debug, PartialEq, Eq)]
+pub struct Words {
+    pub command: Command,
+    /// Chains of each sort, from 1 to 64.
+    pub chains: u32,
+    /// Turns of the scheduled run at most, from 1 to 1,000,000.
+    pub turns: u32,
+}
+
+/// Why the words weren't read.
+#[derive(Clone, Copy, Debug, PartialEq, Eq)]
+pub enum WordsError {
+    /// They are no form of the command line.
+    Usage,
+    /// Memory was wanting.
+    Memory,
+}
+
+impl From<AllocError> for WordsError {
+    ghost from_gives = { λ _ e. e ≡ Memory };
+
+    fn from(_e: AllocError) -> WordsError {
+        WordsError::Memory
+    }
+}
+
+impl From<clap::Error> for WordsError {
+    ghost from_gives = { λ x e. (e ≡ Usage) → (kind_of x ≡ OutOfMemory → ⊥) };
+
+    fn from(e: clap::Error) -> WordsError {
+        match e.kind() {
+            ErrorKind::OutOfMemory => WordsError::Memory,
+            _ => WordsError::Usage,
+        }
+    }
+}

@@ -1,0 +1,154 @@
+//! The sentence for standard error.
+ghost use Rattle.std.specs.Prelude.{◌≡◌, ◌++◌, IfOk, OnOk, option_map};
+ghost use Rattle.lock_model.specs.Script.Lines.{lines_of};
+ghost use Rattle.complaints.specs.Complaints.{complaint_of, fault_said, first_line, fixed_of, meaning_by, reversal_said, wait_of};
+
+use crate::status::Status;
+use crate::text::{queue_of, word_at};
+use script_read::{meaning_of, number_of, split_line};
+use std::alloc::{AllocError, Global};
+
+/// The sentence that belongs to a status and to the text that was written, as a line with its end; nothing where all
+/// went well. It takes memory for that line alone.
+///
+/// ```
+/// let line = complaint(alloc, Status::BadScript, b"line 5 code 11\n")?;
+/// // lockrun: line 5: the lock isn't held here (code 11)
+/// ```
+pub fn complaint(alloc: Global, status: Status, text: &[u8]) -> Result<Vec<u8>, AllocError>
+    ensures { IfOk result (λ line. line.items ≡ complaint_of status text.now) }
+{
+    let mut line = Vec::new(alloc);
+    match status {
+        Status::Done => {}
+        Status::BadScript => push_fault(&mut line, text)?,
+        Status::Stuck => push_stuck(&mut line, text)?,
+        Status::Reversed => push_reversed(&mut line, text)?,
+        Status::ReadFault
+        | Status::WriteFault
+        | Status::NoMemory
+        | Status::TooLong
+        | Status::TooBig
+        | Status::Usage => line.extend_from_slice(fixed_complaint(status).as_bytes())?,
+    }
+    Ok(line)
+}
+
+/// The same for a status whose sentence needs nothing of the text, without memory; for any other nothing.
+pub fn fixed_complaint(status: Status) -> &'static str
+    ensures { result.now ≡ fixed_of status }
+{
+    match status {
+        Status::Done | Status::BadScript | Status::Stuck | Status::Reversed => "",
+        Status::ReadFault => "lockrun: could not read standard input\n",
+        Status::WriteFault => "lockrun: could not write standard output\n",
+        Status::NoMemory => "lockrun: out of memory\n",
+        Status::TooLong => "lockrun: the turns were used up before all threads had ended\n",
+        Status::TooBig => "lockrun: the source has more than 1,048,576 bytes\n",
+        Status::Usage => "usage: lockrun check|step [--chains N] [--turns N] < SCRIPT\n",
+    }
+}
+
+// Of the line `line L code C`.
+fn push_fault(out: &mut Vec<u8>, text: &[u8]) -> Result<(), AllocError>
+    ensures { OnOk result (out.new.items
+        ≡ out.old.items ++ fault_said (first_line (lines_of text.now))) }
+{
+    let line = first_line(text);
+    let code = word_at(line, 3);
+    let Some(meaning) = meaning_by(code) else {
+        out.extend_from_slice(b"lockrun: the source is no script\n")?;
+        return Ok(());
+    };
+    out.extend_from_slice(b"lockrun: line ")?;
+    out.extend_from_slice(word_at(line, 1))?;
+    out.extend_from_slice(b": ")?;
+    out.extend_from_slice(meaning.as_bytes())?;
+    out.extend_from_slice(b" (code ")?;
+    out.extend_from_slice(code)?;
+    out.extend_from_slice(b")\n")?;
+    Ok(())
+}
+
+fn first_line(text: &[u8]) -> &[u8]
+    ensures { result.now ≡ first_line (lines_of text.now) }
+{
+    match split_line(text) {
+        Some((line, _)) => line,
+        None => b"",
+    }
+}
+
+fn meaning_by(code: &[u8]) -> Option<&'static str>
+    ensures { option_map (λ s. s.now) result ≡ meaning_by code.now }
+{
+    match u8::try_from(number_of(code)?) {
+        Ok(code) => meaning_of(code),
+        Err(_) => None,
+    }
+}
+
+// Who waits for what, by the lines `thread NAME base B eff E` and those of the queues.
+fn push_stuck(out: &mut Vec<u8>, text: &[u8]) -> Result<(), AllocError>
+    ensures { OnOk result (out.new.items ≡ out.old.items ++ complaint_of Status.Stuck text.now) }
+{
+    out.extend_from_slice(b"lockrun: stuck")?;
+    let mut between: &[u8] = b": ";
+    let mut verb: &[u8] = b" waits for ";
+    let mut rest = text;
+    while let Some((line, behind)) = split_line(rest) {
+        if let Some((thread, queue)) = wait_of(text, line) {
+            out.extend_from_slice(between)?;
+            out.extend_from_slice(thread)?;
+            out.extend_from_slice(verb)?;
+            out.extend_from_slice(queue)?;
+            between = b", ";
+            verb = b" for ";
+        }
+        rest = behind;
+    }
+    out.extend_from_slice(b"\n")?;
+    Ok(())
+}
+
+// The thread that a line is of, and the queue in which it waits.
+fn wait_of<'a>(text: &'a [u8], line: &'a [u8]) -> Option<(&'a [u8], &'a [u8])>
+    ensures { option_map (λ w. (w.0.now, w.1.now)) result ≡ wait_of text.entry.now line.entry.now }
+{
+    if word_at(line, 0) != "thread".as_bytes() {
+        return None;
+    }
+    let thread = word_at(line, 1);
+    let queue = queue_of(text, thread)?;
+    Some((thread, queue))
+}
+
+// Which thread was refused which lock, under which class, by the lines `TICKET NAME reversed LOCK CLASS`.
+fn push_reversed(out: &mut Vec<u8>, text: &[u8]) -> Result<(), AllocError>
+    ensures { OnOk result (out.new.items ≡ out.old.items ++ complaint_of Status.Reversed text.now) }
+{
+    out.extend_from_slice(b"lockrun: reversed")?;
+    let mut between: &[u8] = b": ";
+    let mut rest = text;
+    while let Some((line, behind)) = split_line(rest) {
+        if word_at(line, 2) == "reversed".as_bytes() {
+            out.extend_from_slice(between)?;
+            push_reversal(out, line)?;
+            between = b", ";
+        }
+        rest = behind;
+    }
+    out.extend_from_slice(b"\n")?;
+    Ok(())
+}
+
+fn push_reversal(out: &mut Vec<u8>, line: &[u8]) -> Result<(), AllocError>
+    ensures { OnOk result (out.new.items ≡ out.old.items ++ reversal_said line.now) }
+{
+    out.extend_from_slice(word_at(line, 1))?;
+    out.extend_from_slice(b" may not take ")?;
+    out.extend_from_slice(word_at(line, 3))?;
+    out.extend_from_slice(b" under class ")?;
+    out.extend_from_slice(word_at(line, 4))?;
+    Ok(())
+}

@@ -1,0 +1,106 @@
+-- The guards of lock orders can be met on a running floor: p takes the class graph, and its mutex is admitted and gained. It
+-- takes the graph again, is refused the other mutex, which is of the same class, and gives the first back.
+use Rattle.std.proofs.Common.{◌≡◌, Bool, true, false, cond, eqb, List, [], ◌∷◌, None, refl, inl, arith}
+use Rattle.lock_model.specs.Config.{Config}
+use Rattle.lock_model.specs.History.{replaced, sections_in}
+use Rattle.lock_model.specs.Holds.{NotHeld, Holds}
+use Rattle.lock_model.specs.declared.plan.Mode.TheVariants.{Excl}
+use Rattle.lock_model.specs.declared.event.Event.TheVariants.{Locked, Unlocked, Reversed}
+use Rattle.lock_state.specs.State.{start_state, put, put_at}
+use Rattle.lock_state.specs.Steps.LockWords.{AllOpen, after_seek, after_look, after_gain, after_drop, after_stamp}
+use Rattle.lock_state.specs.Steps.Items.{ClassGraph, after_take}
+use Rattle.lock_state.specs.Steps.Orders.{after_admit, after_refuse}
+use Rattle.lock_state.specs.Steps.{Step, Seeks, Looks, TakesItem, Gains, Stamps, Drops, Admits, Refuses, KeepToOrder, after_all}
+use Rattle.lock_laws.proofs.FloorGuards.{FloorAll, floor_plan, none_out}
+
+-- a floor with two mutexes of one class
+unfoldable one_class : Config
+one_class = record floor_plan { locks = 2; class = λ l. 0 }
+
+unfoldable is_admitted : List Step
+is_admitted =
+    TakesItem 0 ClassGraph ∷ Admits 0 0 ∷ Seeks 0 0 false ∷ Looks 0 0 true ∷ Gains 0 0 Excl false ∷ Stamps 0 (Locked (record { 0 = 0 }) Excl) ∷ []
+
+unfoldable is_refused : List Step
+is_refused =
+    TakesItem 0 ClassGraph ∷ Refuses 0 1 0 ∷ Stamps 0 (Reversed (record { 0 = 1 }) (record { 0 = 0 })) ∷ Stamps 0 (Unlocked (record { 0 = 0 }) Excl) ∷ Drops 0 0 Excl ∷ []
+
+admitted_may : FloorAll 16 one_class (start_state one_class) is_admitted
+unfolding floor_plan one_class is_admitted start_state after_take after_admit after_seek after_look after_gain after_stamp put put_at sections_in
+admitted_may = (
+  record { thread = omega arith; home = refl; together = λ j e. absurd (none_out (λ k. None) (λ k. None) (λ k. refl) (λ k. refl) j 0 e); orders = record { unnamed = refl; unwoken = refl } },
+  (tt, tt),
+  tt,
+  (
+    record { free = record { thread = omega arith; lock = omega arith; running = refl; wants = refl; takes = refl; unnoted = refl; awake = refl; sections = λ l mode e. absurd cc }; admitted = tt },
+    refl,
+    refl,
+    (
+      record { thread = omega arith; lock = omega arith; unheld = refl; acting = record { unnamed = refl; unwoken = refl }; wants = inl refl; tries_want_nothing = λ e. absurd cc; no_round = refl },
+      (λ e. absurd cc),
+      tt,
+      (
+        record { thread = omega arith; lock = omega arith; room = λ e. omega arith },
+        tt,
+        record { counts = refl; in_chain = λ e. absurd cc },
+        (
+          record { thread = omega arith; lock = omega arith; admitted = refl; plainly = refl; unheld = refl; acting = record { unnamed = refl; unwoken = refl }; wants = inl refl },
+          tt,
+          record { fits = (refl, refl); in_round = λ e i. absurd cc; saw = λ w i e. absurd cc },
+          (
+            record { thread = omega arith; acting = record { unnamed = refl; unwoken = refl }; asks = (record { held = refl; closed = refl }, record { others = []; last = refl }) },
+            tt,
+            record { in_round = tt; asleep = λ e. absurd cc; wakes = λ e. absurd (e refl) },
+            tt,
+          ),
+        ),
+      ),
+    ),
+  ),
+)
+
+admitted_keep : KeepToOrder one_class (start_state one_class) is_admitted
+unfolding floor_plan one_class is_admitted start_state after_take after_admit after_seek after_look after_gain after_stamp put put_at sections_in
+admitted_keep = (tt, (tt, ((λ e. refl), ((λ e. refl), (record { wants = λ e. refl; takes = λ k e. cc; unhalted = λ k e. cc }, ((λ l e. (cc, refl)), tt))))))
+
+-- the section of the mutex that p holds is open
+is_open : AllOpen one_class (after_all one_class (start_state one_class) is_admitted) 0
+unfolding floor_plan one_class is_admitted start_state after_take after_admit after_seek after_look after_gain after_stamp put put_at sections_in
+is_open l mode e = go (eqb 0 l) e
+  where
+    go : (b : Bool) → cond b (Holds Excl) NotHeld ≡ Holds mode → replaced (cond b (Holds Excl) NotHeld) NotHeld ≡ Holds mode
+    go true i = i
+    go false i = i
+
+refused_may : FloorAll 16 one_class (after_all one_class (start_state one_class) is_admitted) is_refused
+unfolding floor_plan one_class is_admitted is_refused start_state after_take after_admit after_refuse after_seek after_look after_gain after_drop after_stamp put put_at sections_in
+refused_may = (
+  record { thread = omega arith; home = refl; together = λ j e. absurd (none_out (λ k. None) (λ k. None) (λ k. refl) (λ k. refl) j 0 e); orders = record { unnamed = refl; unwoken = refl } },
+  (tt, tt),
+  tt,
+  (
+    record { free = record { thread = omega arith; lock = omega arith; running = refl; wants = refl; takes = refl; unnoted = refl; awake = refl; sections = is_open }; refused = inl (inl refl, refl) },
+    refl,
+    refl,
+    (
+      record { thread = omega arith; acting = record { unnamed = refl; unwoken = refl }; asks = refl },
+      tt,
+      record { in_round = tt; asleep = λ e. absurd cc; wakes = λ e. absurd (e refl) },
+      (
+        record { thread = omega arith; acting = record { unnamed = refl; unwoken = refl }; asks = refl },
+        tt,
+        record { in_round = tt; asleep = λ e. absurd cc; wakes = λ e. absurd (e refl) },
+        (
+          record { thread = omega arith; lock = omega arith; held = refl; stays = refl; closed = refl; begun = refl },
+          tt,
+          tt,
+          tt,
+        ),
+      ),
+    ),
+  ),
+)
+
+refused_keep : KeepToOrder one_class (after_all one_class (start_state one_class) is_admitted) is_refused
+unfolding floor_plan one_class is_admitted is_refused start_state after_take after_admit after_refuse after_seek after_look after_gain after_drop after_stamp put put_at sections_in
+refused_keep = (tt, (tt, ((λ l e. absurd cc), ((λ l e. absurd cc), (refl, tt)))))
