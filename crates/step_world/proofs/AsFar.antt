@@ -1,5 +1,5 @@
 -- How far a thread is where its run has gone on: as far as it was, or further.
-use Rattle.std.proofs.Common.{◌≡◌, ◌≢◌, ℕ, Bool, true, false, ◌||◌, ◌∷◌, length, take, Option, Some, None, IsSomeAnd, refl, sym, ap, subst, ◌∙◌}
+use Rattle.std.proofs.Common.{◌≡◌, ◌≢◌, ℕ, true, false, ◌||◌, ◌∷◌, length, take, Option, Some, None, IsSomeAnd, refl, sym, ap, subst, ◌∙◌}
 use Rattle.std.proofs.lemmas.Option.{none-some}
 use Rattle.lock_model.specs.Plans.{config_of}
 use Rattle.lock_model.specs.Config.{Config}

@@ -1,14 +1,13 @@
 -- The rows of the table for the first turn of a take: its lock is admitted, and taken in the run behind that; or it is
 -- refused.
-use Rattle.std.proofs.Common.{◌≡◌, ◌≢◌, ◌⊎◌, ℕ, ◌<◌, ◌≤◌, Bool, true, false, cond, List, [], ◌∷◌, ◌++◌, length, map, reverse, take, slice_get, eqb, eq-eqb, Option, Some, None, is_some, IsSomeAnd, refl, sym, ap, subst, inl, inr, ◌∙◌}
+use Rattle.std.proofs.Common.{◌≡◌, ◌⊎◌, ℕ, ◌<◌, ◌≤◌, Bool, true, false, cond, List, [], ◌∷◌, ◌++◌, length, map, reverse, slice_get, eqb, eq-eqb, Option, Some, None, is_some, IsSomeAnd, refl, sym, ap, subst, inl, inr, ◌∙◌}
 use Rattle.std.specs.List.{All}
 use Rattle.std.proofs.lemmas.List.Elements.{All-nil, All-cons, All-head, All-tail}
 use Rattle.std.specs.Prelude.{unwrap_or}
 use Rattle.std.proofs.lemmas.Bool.{cases_Bool}
 use Rattle.std.proofs.lemmas.List.{reverse-append, reverse-reverse, map-append}
-use Rattle.std.proofs.lemmas.Option.{none-some}
 use Rattle.lock_model.specs.Config.{Config}
-use Rattle.lock_model.specs.Holds.{Hold, Holds}
+use Rattle.lock_model.specs.Holds.{Holds}
 use Rattle.lock_model.specs.Limits.{most_held}
 use Rattle.lock_model.specs.Operations.{IsProper, hold_in}
 use Rattle.lock_model.specs.Orders.{IsAdmitted, IsFirstToForbid}
@@ -20,14 +19,12 @@ use Rattle.lock_state.specs.State.{State, HeldLock}
 use Rattle.lock_state.specs.Steps.{Gains, Claims, Admits, Stamps, MayAll, after, after_all}
 use Rattle.lock_state.specs.Steps.LockWords.{after_stamp}
 use Rattle.lock_state.specs.Steps.Orders.{MayAdmit, classes_held, after_admit, after_refuse}
-use Rattle.lock_state.specs.Facts.{OnlyLocksAreHeld}
 use Rattle.lock_state.specs.Run.{Run, Row, does, ends, blocks, takes, turn_of, run_after, run_behind}
 use Rattle.lock_model.specs.declared.numbers.ClassNo.{ClassNo}
 use Rattle.lock_model.specs.declared.numbers.LockNo.{LockNo}
 use Rattle.lock_model.specs.declared.event.Event.{Event}
 use Rattle.lock_model.specs.declared.event.Event.TheVariants as event
 use Rattle.lock_model.specs.declared.event.Held.{Held}
-use Rattle.lock_model.specs.declared.plan.Kind.{Kind}
 use Rattle.lock_model.specs.declared.plan.Mode.{Mode}
 use Rattle.lock_model.specs.declared.plan.Op.TheVariants.{Take}
 use Rattle.lock_model.specs.declared.plan.Plan.{Plan}
@@ -36,7 +33,7 @@ use Rattle.lock_model.specs.declared.turn.Turn.{Turn}
 use Rattle.lock_model.specs.declared.turn.Turn.TheVariants.{Did, Idle, Ended}
 use Rattle.lock_laws.specs.OnTrack.{IsAtOperation, BeginsTake, admitted, gained_order, held_now}
 use Rattle.lock_laws.proofs.HeldLists.{gain_passes, held_few}
-use Rattle.lock_laws.proofs.OnTrack.{before, fit, is_awake}
+use Rattle.lock_laws.proofs.OnTrack.{fit, is_awake}
 use Rattle.lock_laws.proofs.Table.{anew, at_take, admitted_wants, makes_operation}
 use Rattle.lock_laws.proofs.TurnsOfOrders as orders
 use Rattle.witness_orders.specs.Graph.{numbers_of}
@@ -45,9 +42,8 @@ use Rattle.step_world.specs.declared.thread.Thread.{Thread}
 use Rattle.step_world.specs.declared.turns.Made.{Made}
 use Rattle.step_world.specs.declared.turns.Made.TheVariants.{Does}
 use Rattle.step_world.specs.Represents.{Represents}
-use Rattle.step_world.specs.Steps.{May, MakesAllWhere, Progress, progress, KeepsProgress, KeepsBooks, AreClasses, refuses}
-use Rattle.step_world.specs.Runs.{RepresentsRun, IsRunOf, IsAsFar, IsBehind, IsAside, IsMade, IsTake, IsAdmission, KeepsWhereIdle, answer_of, row_of, first_against}
-use Rattle.step_world.proofs.Kit.{read}
+use Rattle.step_world.specs.Steps.{May, MakesAllWhere, progress, KeepsProgress, KeepsBooks, AreClasses, refuses}
+use Rattle.step_world.specs.Runs.{IsRunOf, IsAsFar, IsAside, IsMade, IsTake, IsAdmission, KeepsWhereIdle, answer_of, row_of, first_against}
 use Rattle.step_world.proofs.AsFar.{so_is, still_as_far, cut_behind, waits_behind, behind_cut}
 use Rattle.step_world.proofs.Ends.{aside_is, are_locks}
 use Rattle.step_world.proofs.Turning.{SameRoom, of_books, same_room, same_keys, IsTurning, made_all, may_by, has_room, Begins, begins, made}

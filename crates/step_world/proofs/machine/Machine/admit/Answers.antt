@@ -1,4 +1,4 @@
-use Rattle.std.proofs.Common.{refl, ap}
+use Rattle.std.proofs.Common.{refl}
 use Rattle.step_world.proofs.Kit.{aside_stays, read}
 use Rattle.step_world.proofs.Ordering.{admitted_in_graph, orders_behind, wanting, admission_shown}
 use Rattle.step_world.proofs.machine.Machine.admit.Goals as goal

@@ -1,4 +1,3 @@
-use Rattle.lock_model.specs.Plans.{config_of}
 use Rattle.step_world.proofs.Turning.{has_room}
 use Rattle.step_world.proofs.RowsOfLocks as rows
 use Rattle.step_world.proofs.turns.locks.release.Goals as goal
