@@ -6,7 +6,7 @@ use Rattle.std.specs.Str.{bytes_eq}
 use Rattle.std.specs.Borrow.{Bor}
 use Rattle.std.proofs.lemmas.Bool.{lt-leb, ltb-false}
 use Rattle.clap.proofs.WalkLemmas.{list_any-map}
-use Rattle.command_line.specs.declared.words.Command.TheVariants.{Check, Step}
+use Rattle.command_line.specs.declared.words.Command.TheVariants.{Check, Run, Step}
 use Rattle.clap.specs.Kinds.{or_else, value_kinds}
 use Rattle.clap.specs.Faults.{repeat_fault, use_fault}
 use Rattle.clap.specs.Walk.{Row, Rule, arg_by_index, arg_by_long, arg_by_short, arg_by_id}
@@ -54,7 +54,7 @@ built_rules names = refl
 
 -- the names are those of the commands
 abbrev pub AreNames : NamesRef → Type 0
-AreNames names = map (λ n. n.now) names.now ≡ codes "check" ∷ codes "step" ∷ []
+AreNames names = map (λ n. n.now) names.now ≡ codes "check" ∷ codes "step" ∷ codes "run" ∷ []
 
 pub long_named : (names : NamesRef) (name : Text) → arg_by_long (rules names) name ≡ option_map whole_option (flag_of name)
 long_named names name = go (bytes_eq (codes "chains") name) (bytes_eq (codes "turns") name)
@@ -110,12 +110,13 @@ accepted turns word = accepted_number TURNS word (omega arith) ∙ some_if _ _
 
 pub accepted_name : (names : NamesRef) (word : Text) → AreNames names → accepts false (Names names) word ≡ is_some (command_of word)
 accepted_name names word are = list_any-map (λ n. bytes_eq n word) (λ n. n.now) names.now ∙ ap (list_any (λ n. bytes_eq n word)) are
-    ∙ go (bytes_eq (codes "check") word) (bytes_eq (codes "step") word)
+    ∙ go (bytes_eq (codes "check") word) (bytes_eq (codes "step") word) (bytes_eq (codes "run") word)
   where
-    go : (a b : Bool) → (a || (b || false)) ≡ is_some (cond a (Some Check) (cond b (Some Step) None))
-    go true b = refl
-    go false true = refl
-    go false false = refl
+    go : (a b c : Bool) → (a || (b || (c || false))) ≡ is_some (cond a (Some Check) (cond b (Some Step) (cond c (Some Run) None)))
+    go true b c = refl
+    go false true c = refl
+    go false false true = refl
+    go false false false = refl
 
 -- ---- uses
 

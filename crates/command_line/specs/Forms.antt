@@ -4,13 +4,14 @@
 -- number as the next word or behind a `=`. The word `--` ends the options. Nothing else may stand there.
 use Rattle.std.specs.Prelude.{◌&&◌, ◌∷◌, ℕ, Bool, true, false, List, [], Option, Some, None, codes, length, nat_le, nat_lt, is_some, option_map, option_and_then, unwrap_or, if◌then◌else◌}
 use Rattle.std.specs.List.{list_all}
+use Rattle.std.specs.Option.{option_map_or}
 use Rattle.std.specs.Char.{digit_value}
 use Rattle.std.specs.Str.{bytes_eq}
 use Rattle.std.specs.Str.Parse.{digits_value, without_leading_plus}
 use Rattle.clap.specs.Lexer.{long_of}
 use Rattle.lock_model.specs.declared.limits.TheConstants.{CHAINS, DEFAULT_CHAINS, TURNS}
 use Rattle.command_line.specs.declared.words.Command.{Command}
-use Rattle.command_line.specs.declared.words.Command.TheVariants.{Check, Step}
+use Rattle.command_line.specs.declared.words.Command.TheVariants.{Check, Run, Step}
 use Rattle.command_line.specs.declared.words.Words.{Words}
 
 abbrev pub Text : Type 0
@@ -19,7 +20,8 @@ Text = List ℕ
 -- the command that a word names
 abbrev pub command_of : Text → Option Command
 command_of word = if bytes_eq (codes "check") word then Some Check
-    else (if bytes_eq (codes "step") word then Some Step else None)
+    else (if bytes_eq (codes "step") word then Some Step
+    else (if bytes_eq (codes "run") word then Some Run else None))
 
 -- what Rust's parse takes for a number without a minus: one plus may stand first, and zeros
 abbrev pub is_number : Text → Bool
@@ -118,3 +120,13 @@ words_of words = option_and_then at_end (with_words nothing_said words)
 
 abbrev pub is_form : List Text → Bool
 is_form words = is_some (words_of words)
+
+-- the command runs threads
+abbrev pub runs_threads : Command → Bool
+runs_threads Check = false
+runs_threads Step = false
+runs_threads Run = true
+
+-- they are a form whose command is `run`
+abbrev pub is_run : List Text → Bool
+is_run words = option_map_or (λ said. runs_threads said.command) (words_of words) false

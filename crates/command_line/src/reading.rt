@@ -24,7 +24,7 @@ pub fn read_words(alloc: Global, words: &[String]) -> Result<Words, WordsError>
     ensures ranges { IfOk result HasRanges }
     ensures usage { result ≡ Err WordsError.Usage → words_of (map string_bytes words.now) ≡ None }
 {
-    let names = ["check", "step"];
+    let names = ["check", "step", "run"];
     let matches = rule(alloc, names.as_slice())?.try_get_matches_from(words)?;
     let Some(word) = matches.get_str("command") else {
         return Err(WordsError::Usage);

@@ -16,7 +16,9 @@ const CHECK: Command = Command::Check;
 
 const STEP: Command = Command::Step;
 
-const FORMS: [(&str, Command, u32, u32); 22] = [
+const RUN: Command = Command::Run;
+
+const FORMS: [(&str, Command, u32, u32); 25] = [
     ("check", CHECK, 16, 1_000_000),
     ("step", STEP, 16, 1_000_000),
     ("step --chains 4", STEP, 4, 1_000_000),
@@ -44,13 +46,15 @@ const FORMS: [(&str, Command, u32, u32); 22] = [
     ("-- step", STEP, 16, 1_000_000),
     ("step --", STEP, 16, 1_000_000),
     ("--turns 9 -- check", CHECK, 16, 9),
+    ("run", RUN, 16, 1_000_000),
+    ("--chains=1 run", RUN, 1, 1_000_000),
+    ("run --turns 9 --chains 64", RUN, 64, 9),
 ];
 
-const REFUSED: [&str; 60] = [
+const REFUSED: [&str; 63] = [
     "",
     "''",
     "--",
-    "run",
     "gen",
     "gen 1",
     "Step",
@@ -58,6 +62,10 @@ const REFUSED: [&str; 60] = [
     "ste",
     "step step",
     "step check",
+    "run step",
+    "Run",
+    "run 1",
+    "run --turns 0",
     "step ''",
     "step 1",
     "step -- --chains 4",

@@ -15,6 +15,8 @@ pub enum Command {
     Check,
     /// Make the scheduled run.
     Step,
+    /// Run the threads, each beside the others.
+    Run,
 }
 
 impl Command {
@@ -25,6 +27,7 @@ impl Command {
         match word {
             "check" => Some(Command::Check),
             "step" => Some(Command::Step),
+            "run" => Some(Command::Run),
             _ => None,
         }
     }
@@ -36,7 +39,7 @@ pub struct Words {
     pub command: Command,
     /// Chains of each sort, from 1 to 64.
     pub chains: u32,
-    /// Turns of the scheduled run at most, from 1 to 1,000,000.
+    /// Turns of the scheduled run at most, from 1 to 1,000,000. They bound no other command.
     pub turns: u32,
 }
 

@@ -57,8 +57,18 @@ fault_by line (Some sentence) = codes "lockrun: line " ++ (word_at 1 line ++ (co
 abbrev pub meaning_by : Text → Option Text
 meaning_by word = option_and_then meaning (number_up_to 255 word)
 
+-- the one line of a plan whose threads can't run yet
+abbrev pub is_of_threads : Text → Bool
+is_of_threads line = is_same line (codes "line 0 code 0")
+
+-- what is said of that plan
+abbrev pub threads_said : Text
+threads_said = codes "lockrun: threads run on mutexes alone so far, and the script declares "
+    ++ codes "another lock, a condition variable or a channel\n"
+
 abbrev pub fault_said : Text → Text
-fault_said line = fault_by line (meaning_by (word_at 3 line))
+fault_said line = if is_of_threads line then threads_said
+    else fault_by line (meaning_by (word_at 3 line))
 
 abbrev pub first_line : List Text → Text
 first_line [] = []
@@ -97,7 +107,7 @@ fixed_of Stuck = []
 fixed_of Reversed = []
 fixed_of TooLong = codes "lockrun: the turns were used up before all threads had ended\n"
 fixed_of TooBig = codes "lockrun: the source has more than 1,048,576 bytes\n"
-fixed_of Usage = codes "usage: lockrun check|step [--chains N] [--turns N] < SCRIPT\n"
+fixed_of Usage = codes "usage: lockrun check|step|run [--chains N] [--turns N] < SCRIPT\n"
 
 abbrev pub complaint_of : Status → Text → Text
 complaint_of Done text = []

@@ -45,16 +45,24 @@ pub fn fixed_complaint(status: Status) -> &'static str
         Status::NoMemory => "lockrun: out of memory\n",
         Status::TooLong => "lockrun: the turns were used up before all threads had ended\n",
         Status::TooBig => "lockrun: the source has more than 1,048,576 bytes\n",
-        Status::Usage => "usage: lockrun check|step [--chains N] [--turns N] < SCRIPT\n",
+        Status::Usage => "usage: lockrun check|step|run [--chains N] [--turns N] < SCRIPT\n",
     }
 }
 
-// Of the line `line L code C`.
+// What is said where a plan's threads can't run yet.
+const THREADS: &str = "lockrun: threads run on mutexes alone so far, and the script declares \
+    another lock, a condition variable or a channel\n";
+
+// Of the line `line L code C`, or of the line that tells of a plan whose threads can't run yet.
 fn push_fault(out: &mut Vec<u8>, text: &[u8]) -> Result<(), AllocError>
     ensures { OnOk result (out.new.items
         ≡ out.old.items ++ fault_said (first_line (lines_of text.now))) }
 {
     let line = first_line(text);
+    if line == "line 0 code 0".as_bytes() {
+        out.extend_from_slice(THREADS.as_bytes())?;
+        return Ok(());
+    }
     let code = word_at(line, 3);
     let Some(meaning) = meaning_by(code) else {
         out.extend_from_slice(b"lockrun: the source is no script\n")?;

@@ -5,7 +5,7 @@
 pub enum Status {
     /// The run ended with every thread at its end.
     Done = 0,
-    /// The source is no script.
+    /// The source is no script, or one whose threads can't run yet.
     BadScript = 1,
     /// The source failed.
     ReadFault = 2,

@@ -30,7 +30,7 @@ thread reversed base 100 eff 100
 reversed
 ";
 
-const SAID: [(Status, &str, &str); 24] = [
+const SAID: [(Status, &str, &str); 26] = [
     (Status::Done, "ok\n", ""),
     (Status::Done, STUCK, ""),
     (
@@ -69,6 +69,17 @@ const SAID: [(Status, &str, &str); 24] = [
         "lockrun: the source is no script\n",
     ),
     (Status::BadScript, "", "lockrun: the source is no script\n"),
+    (
+        Status::BadScript,
+        "line 0 code 0\n",
+        "lockrun: threads run on mutexes alone so far, and the script declares another lock, \
+        a condition variable or a channel\n",
+    ),
+    (
+        Status::BadScript,
+        "line 1 code 0\n",
+        "lockrun: the source is no script\n",
+    ),
     (
         Status::ReadFault,
         "",
@@ -116,12 +127,12 @@ const SAID: [(Status, &str, &str); 24] = [
     (
         Status::Usage,
         "",
-        "usage: lockrun check|step [--chains N] [--turns N] < SCRIPT\n",
+        "usage: lockrun check|step|run [--chains N] [--turns N] < SCRIPT\n",
     ),
     (
         Status::Usage,
         STUCK,
-        "usage: lockrun check|step [--chains N] [--turns N] < SCRIPT\n",
+        "usage: lockrun check|step|run [--chains N] [--turns N] < SCRIPT\n",
     ),
 ];
 

@@ -31,7 +31,7 @@ use Rattle.lock_state.specs.Steps.SleepQueues.{after_enter_sleep, after_open_sle
 use Rattle.lock_state.specs.Steps.Lending.{after_claim, after_lend, after_shift, after_end_walk}
 use Rattle.lock_state.specs.Steps.Orders.{after_refuse}
 use Rattle.lock_state.specs.Run.{Run, Row, does, waits_on, owed_release, next_ops, mode_held, run_after}
-use Rattle.lock_laws.specs.OnTrack.{IsOnTrack, IsAtOperation, IsCutShort, BeginsTake, admitted, held_now, place_by, place_in}
+use Rattle.lock_laws.specs.OnTrack.{IsOnTrack, IsAtOperation, IsCutShort, BeginsTake, admitted, first_against, held_now, place_by, place_in}
 use Rattle.lock_laws.proofs.Kit.{put_same}
 use Rattle.lock_laws.proofs.HeldLists.{gain_passes, release_fits}
 use Rattle.lock_laws.proofs.OnTrack.{IsLed, LetsGoOn, lets_go_on, IsAwake, is_led, is_wait, is_awake, awake_behind, waits_uncut, holds_all, fit}
@@ -162,7 +162,7 @@ module _ (plan : Plan) (r : Run) (t : ℕ) (p : IsProper plan) (k : IsOnTrack pl
       (is_led plan r t k)
 
   -- a refusal
-  refused : {l : LockNo} {mode : Mode} (class : ℕ) (b : BeginsTake plan r t l mode) → table.forbidden plan r t l ≡ Some class → (row : Row) → row.next ≡ None
+  refused : {l : LockNo} {mode : Mode} (class : ℕ) (b : BeginsTake plan r t l mode) → first_against plan r t l ≡ Some class → (row : Row) → row.next ≡ None
       → (run_after plan r t row).state.log ≡ put s.log t (entry_of s t (event.Reversed l (record { 0 = class })) ∷ s.log t) → (run_after plan r t row).state.held_locks ≡ s.held_locks → IsLed plan (run_after plan r t row) t
   refused {l} {mode} class b e row still log listed =
       let n : Run = run_after plan r t row in

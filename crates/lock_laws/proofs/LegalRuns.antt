@@ -9,13 +9,17 @@ use Rattle.lock_model.specs.Holds.{Hold, NotHeld, Holds, is_unheld}
 use Rattle.lock_model.specs.Operations.{IsProper, hold_in}
 use Rattle.lock_model.specs.Plans.{config_of, operations_of}
 use Rattle.lock_model.specs.Text.{IsStuck, IsTooLong}
-use Rattle.lock_model.specs.Law.{IsLegal, IsAtEnd, EntriesFollowOperations}
+use Rattle.lock_model.specs.Config.{Config}
+use Rattle.lock_model.specs.Law.{IsLegal, IsLegalSoFar, IsAtEnd, EntriesFollowOperations, HaltsOnlyWhenRunning}
 use Rattle.lock_model.specs.declared.plan.Plan.{Plan}
 use Rattle.lock_model.specs.declared.plan.ThreadDecl.{ThreadDecl}
+use Rattle.lock_model.specs.declared.event.Entry.{Entry}
 use Rattle.lock_model.specs.declared.event.Held.{Held}
-use Rattle.lock_state.specs.Facts.{OnlyThreadsHold, OnlyLocksAreHeld}
+use Rattle.lock_state.specs.Facts.{Lawful, OnlyThreadsHold, OnlyLocksAreHeld}
+use Rattle.lock_state.specs.State.{State}
 use Rattle.lock_state.specs.Run.{Run, Course, was_cut, waits_on, has_ended, owes, holds_none, all_ended, after_turns, course_after, is_stuck, whole_ending, ending_of, is_cut_short, HasLegalHistory, scheduled_run}
 use Rattle.lock_laws.specs.OnTrack.{IsOnTrack, held_now, place_by, place_in}
+use Rattle.lock_laws.specs.Sleepers.{SleepersFit, nobody}
 use Rattle.lock_laws.proofs.Shown.{true-any_below}
 use Rattle.lock_laws.proofs.TakeFacts.Whole.{legal as orders_legal}
 use Rattle.lock_laws.proofs.Idle.{done_awake}
@@ -99,21 +103,33 @@ module _ (plan : Plan) (r : Run) (k : IsOnTrack plan r) (ended : all_ended plan 
 
 -- 2. The law
 
+-- as far as each lawful state keeps it
+pub legal_so_far : (at_work : ℕ → Option ℕ) (c : Config) (s : State) (is_run : Bool) → Lawful c s → SleepersFit at_work c s → HaltsOnlyWhenRunning is_run s.history → IsLegalSoFar c is_run s.history
+legal_so_far at_work c s is_run h k halts = record {
+  tickets_run = h.books.tickets_run;
+  sections_exclude = h.books.sections_exclude;
+  edits_in_sections = h.books.edits_in_sections;
+  reads_replay = h.books.reads_replay;
+  wakings_name_sleepers = k.wakings_name_sleepers;
+  halts_only_when_running = halts;
+  shown_is_explained = h.books.shown_is_explained;
+}
+
+-- where threads run, halts may stand
+pub may_halt : (es : List Entry) → HaltsOnlyWhenRunning true es
+unfolding HaltsOnlyWhenRunning
+may_halt [] = tt
+may_halt (e ∷ es) = (λ x. absurd cc, may_halt es)
+
 legal_on_track : (plan : Plan) (r : Run) (cut_short : Bool) → IsOnTrack plan r → (cut_short ≡ false → all_ended plan r ≡ true) → IsLegal plan false cut_short r.state.history
 unfolding EntriesFollowOperations
 legal_on_track plan r cut_short k whole = record {
-  tickets_run = k.lawful.lawful.books.tickets_run;
+  so_far = legal_so_far nobody (config_of plan) r.state false k.lawful.lawful k.sleepers k.no_halts;
   entries_follow_operations = λ t. record {
     place = place_in plan r t;
     leads = k.follows t;
     whole = λ e. at_end plan r k (whole e) t;
   };
-  sections_exclude = k.lawful.lawful.books.sections_exclude;
-  edits_in_sections = k.lawful.lawful.books.edits_in_sections;
-  reads_replay = k.lawful.lawful.books.reads_replay;
-  wakings_name_sleepers = k.sleepers.wakings_name_sleepers;
-  halts_only_when_running = k.no_halts;
-  shown_is_explained = k.lawful.lawful.books.shown_is_explained;
   orders_are_legal = λ z e. orders_legal (config_of plan) r.state k.ordered k.taken (takes_nothing plan r k (whole e));
 }
 

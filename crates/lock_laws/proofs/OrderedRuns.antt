@@ -32,7 +32,7 @@ use Rattle.lock_state.specs.Steps.Lending.{after_claim, after_lend, after_shift,
 use Rattle.lock_state.specs.Steps.Orders.{classes_held, after_admit, after_refuse}
 use Rattle.lock_state.specs.Facts.Sleeps.{SleepersSlept}
 use Rattle.lock_state.specs.Run.{Run, Row, Course, waits_on, has_ended, turn_of, run_behind, round_of, with_turn, after_turn, go_on, is_over, all_ended, is_stuck, course_after, ending_of}
-use Rattle.lock_laws.specs.OnTrack.{IsOnTrack, BeginsTake, admitted, held_before, held_now}
+use Rattle.lock_laws.specs.OnTrack.{IsOnTrack, BeginsTake, admitted, first_against, held_before, held_now}
 use Rattle.lock_laws.proofs.HeldLists.{gain_passes}
 use Rattle.lock_laws.proofs.TakeFacts.Admit.{has_held, first_among}
 use Rattle.lock_laws.proofs.Standing.{standing_named}
@@ -127,7 +127,7 @@ module _ (plan : Plan) (o : IsOrdered plan) where
       }
 
       -- and there is no refusal
-      none_forbids : IsUpward plan s.edges s.history → (i : ℕ) → table.forbidden plan r t l ≡ Some i → ⊥
+      none_forbids : IsUpward plan s.edges s.history → (i : ℕ) → first_against plan r t l ≡ Some i → ⊥
       none_forbids u i e =
           let f = first_found s.edges (c.class l.0) (classes_held c s t) i e in
           let h = has_held c s t i k.lawful.lawful (first_among s.edges (classes_held c s t) (c.class l.0) i f) in

@@ -29,9 +29,8 @@ use Rattle.lock_model.specs.declared.turn.Turn.TheVariants.{Idle, Ended}
 use Rattle.lock_model.specs.declared.event.Event.{Event}
 use Rattle.lock_model.specs.declared.event.Event.TheVariants as event
 use Rattle.lock_laws.proofs.Kit.{put_same}
-use Rattle.lock_laws.specs.OnTrack.{OwesNothing, IsAtOperation, IsCutShort, BeginsTake, admitted}
-use Rattle.lock_model.specs.Orders.{first_to_forbid}
-use Rattle.lock_state.specs.Steps.Orders.{classes_held, after_admit}
+use Rattle.lock_laws.specs.OnTrack.{OwesNothing, IsAtOperation, IsCutShort, BeginsTake, admitted, first_against}
+use Rattle.lock_state.specs.Steps.Orders.{after_admit}
 
 -- 1. What an operation asks of a row
 
@@ -87,10 +86,6 @@ pub data Waking (d : ChanNo) : Op → Bool → (ℕ → Event) → Type 0 where
 abbrev pub stands_at : Plan → Run → ℕ → ℕ → Bool
 stands_at plan r o l = is_turnstile ((config_of plan).kind l) && ltb 0 (stands o (r.state.lists (lock_queue l)))
 
--- the first class of a held lock that forbids that of the lock
-abbrev pub forbidden : Plan → Run → ℕ → LockNo → Option ℕ
-forbidden plan r t l = first_to_forbid r.state.edges (classes_held (config_of plan) r.state t) ((config_of plan).class l.0)
-
 -- the rows of a thread that gains a lock, or blocks for one that it takes
 pub data Acquires (plan : Plan) (r : Run) (t : ℕ) : Row → Type 0 where
   gains : {l : LockNo} {mode : Mode} {op : Op} {by_try : Bool} {e : Event} → Gaining plan r t l mode op by_try e → IsAtOperation plan r t (Some op)
@@ -121,10 +116,10 @@ pub data Fits (plan : Plan) (r : Run) (t : ℕ) : Row → Type 0 where
   resumes : (q : QueueName) (cause : Cause) → OwesNothing plan r t → r.state.wait t ≡ Woken q cause → Fits plan r t (does kind.Resume (Resumes t q cause ∷ []))
   acquires : {row : Row} → Acquires plan r t row → Fits plan r t row
   -- a take's first turn: its lock is admitted, and the turn goes on as a later one,
-  is_admitted : {l : LockNo} {mode : Mode} {row : Row} → BeginsTake plan r t l mode → forbidden plan r t l ≡ None → Acquires plan (admitted plan r t l) t row
+  is_admitted : {l : LockNo} {mode : Mode} {row : Row} → BeginsTake plan r t l mode → first_against plan r t l ≡ None → Acquires plan (admitted plan r t l) t row
       → Fits plan r t (record row { steps = Admits t l.0 ∷ row.steps })
   -- or it is refused
-  is_refused : {l : LockNo} {mode : Mode} (k : ℕ) → BeginsTake plan r t l mode → forbidden plan r t l ≡ Some k
+  is_refused : {l : LockNo} {mode : Mode} (k : ℕ) → BeginsTake plan r t l mode → first_against plan r t l ≡ Some k
       → Fits plan r t (does kind.Note (Refuses t l.0 k ∷ Stamps t (event.Reversed l (record { 0 = k })) ∷ []))
   finds_busy : (l : LockNo) (mode : Mode) (past : ℕ) → IsAtOperation plan r t (Some (Try l mode past)) → admits ((config_of plan).kind l.0) (r.state.word l.0) mode ≡ false
       → Fits plan r t (run.finds_busy r t l past)
@@ -218,9 +213,9 @@ module _ (plan : Plan) (r : Run) (t : ℕ) where
   module _ (going : has_ended plan r t ≡ false) where
     begun : (l : LockNo) (mode : Mode) → IsAtOperation plan r t (Some (Take l mode)) → (o : Option ℕ) → s.wanted t ≡ o → Fits plan r t (run.takes_in_order c r t l mode o)
     begun l mode i (Some k) e = acquires (taken plan r t (anew l mode k e) i)
-    begun l mode i None e = go (forbidden plan r t l) refl
+    begun l mode i None e = go (first_against plan r t l) refl
       where
-        go : (o : Option ℕ) → forbidden plan r t l ≡ o → Fits plan r t (run.begins_take c r t l mode o)
+        go : (o : Option ℕ) → first_against plan r t l ≡ o → Fits plan r t (run.begins_take c r t l mode o)
         go (Some k) f = is_refused k (record { at = i; wants = e }) f
         go None f = is_admitted (record { at = i; wants = e }) f (later l mode i)
 

@@ -28,13 +28,12 @@ use Rattle.lock_model.specs.declared.turn.StepKind.TheVariants as kind
 use Rattle.lock_model.specs.declared.event.Event.{Event}
 use Rattle.lock_model.specs.declared.event.Event.TheVariants as event
 use Rattle.lock_model.specs.declared.event.Held.{Held}
-use Rattle.lock_laws.specs.OnTrack.{IsOnTrack, BeginsTake, admitted, gained_order}
+use Rattle.lock_laws.specs.OnTrack.{IsOnTrack, BeginsTake, admitted, first_against, gained_order}
 use Rattle.lock_laws.proofs.Kit.{put_same}
 use Rattle.lock_laws.proofs.HeldLists.{GainFits, gain_passes}
 use Rattle.lock_laws.proofs.LastHeld.{length-gained}
 use Rattle.lock_laws.proofs.OwnEntries.{sections_stay}
 use Rattle.lock_laws.proofs.OnTrack.{KeepsTrack, NoneOut, waits_back, IsAwake, IsWhere, is_awake, is_led, share_in, there_wanting, stays_on_track, noted_behind, none_unnoted, acting_in, before, behind, fit, holds_all, all_listed, all_open}
-use Rattle.lock_laws.proofs.Table.{forbidden}
 
 -- nothing is out still once the class graph is home
 graph_home : (s : State) → NoneOut s → NothingIsOut s.turnstile_chain_with s.sleep_chain_with s.record_with s.cell_with None
@@ -96,7 +95,7 @@ module _ (plan : Plan) (r : Run) (t : ℕ) (l : LockNo) (mode : Mode) (p : IsPro
   admitted_on_track a = stays_on_track plan r t (does kind.Note (Admits t l.0 ∷ [])) k (may_admit a, tt) (tt, tt) (refl, tt) admitted_keeps (is_led plan r t k)
 
   -- by the test
-  pub found_admitted : forbidden plan r t l ≡ None → IsAdmitted s.edges (classes_held c s t) (c.class l.0)
+  pub found_admitted : first_against plan r t l ≡ None → IsAdmitted s.edges (classes_held c s t) (c.class l.0)
   found_admitted e = none_found s.edges (c.class l.0) (classes_held c s t) e
 
   -- 2. A refusal
@@ -107,7 +106,7 @@ module _ (plan : Plan) (r : Run) (t : ℕ) (l : LockNo) (mode : Mode) (p : IsPro
       let few = ap length (all_listed plan r t k up) ∙ length-gained (before plan r t) in
       ap (λ n. take n (before plan r t)) few ∙ take_all (length (before plan r t)) (before plan r t) (omega arith)
 
-  module _ (class : ℕ) (e : forbidden plan r t l ≡ Some class) where
+  module _ (class : ℕ) (e : first_against plan r t l ≡ Some class) where
     abbrev noted : Event
     noted = event.Reversed l (record { 0 = class })
 

@@ -5,12 +5,14 @@ use Rattle.lock_model.specs.Config.{Config}
 use Rattle.lock_model.specs.Plans.{config_of, operations_of}
 use Rattle.lock_model.specs.Operations.{hold_in, held_of, without_lock}
 use Rattle.lock_model.specs.Holds.{Hold, NotHeld, is_unheld}
+use Rattle.lock_model.specs.Orders.{first_to_forbid}
 use Rattle.lock_model.specs.Words.{is_turnstile}
 use Rattle.lock_state.specs.State.{HeldLock, Running, Queued, Walk, NoWalk, AtLock}
 use Rattle.lock_model.specs.History.{open_in, left_in, entries_of}
 use Rattle.lock_model.specs.Law.{LeadsTo, Place, Before, Asleep, Cut, HaltsOnlyWhenRunning}
 use Rattle.lock_state.specs.Facts.{LawfulTurn, Ordered, Taken}
 use Rattle.lock_state.specs.Steps.{Admits, after, is_with}
+use Rattle.lock_state.specs.Steps.Orders.{classes_held}
 use Rattle.lock_state.specs.Run.{Run, has_ended, was_cut, waits_on, lock_of_wait, owed_release}
 use Rattle.lock_model.specs.declared.plan.Op.{Op}
 use Rattle.lock_model.specs.declared.plan.Op.TheVariants.{Take, Try, EndTry, Release, Set, Add, Get, Base, Show, Sleep, WakeOne, WakeAll}
@@ -52,6 +54,12 @@ place_in plan r t =
 -- the run in which the lock of a take was admitted, and the take goes on
 abbrev pub admitted : Plan → Run → ℕ → LockNo → Run
 admitted plan r t l = record r { state = after (config_of plan) r.state (Admits t l.0) }
+
+-- the first class of a held lock that forbids that of the lock to a thread
+abbrev pub first_against : Plan → Run → ℕ → LockNo → Option ℕ
+first_against plan r t l =
+    first_to_forbid r.state.edges (classes_held (config_of plan) r.state t)
+    ((config_of plan).class l.0)
 
 -- held locks as a state lists them, the one gained last first
 abbrev pub gained_order : List Held → List HeldLock

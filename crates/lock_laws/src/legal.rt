@@ -3,10 +3,21 @@
 ghost use Rattle.std.specs.Prelude.{ℕ, ◌<◌, true, false, List, length};
 ghost use Rattle.std.specs.List.{All};
 ghost use Rattle.lock_model.specs.Operations.{IsProper};
-ghost use Rattle.lock_model.specs.Law.{IsLegal};
+ghost use Rattle.lock_model.specs.Config.{Config};
+ghost use Rattle.lock_model.specs.Law.{IsLegal, IsLegalSoFar};
 ghost use Rattle.lock_model.specs.declared.plan.Plan as plans;
+ghost use Rattle.lock_state.specs.Facts.{LawfulFloor};
+ghost use Rattle.lock_state.specs.State.{State};
+ghost use Rattle.lock_laws.specs.Sleepers.{SleepersFit, by_chain};
 ghost use Rattle.lock_state.specs.Run.{after_turns, course_after, ending_of, is_cut_short};
 ghost use Rattle.lock_state.specs.Run.{HasLegalHistory, scheduled_run};
+
+/// The history behind each step of a running floor is legal, as far as the law says nothing of operations: sections
+/// exclude, edits and reads stand in sections, reads replay, wakings name sleepers, and what is shown is explained.
+pub fn floors_are_legal_so_far()
+    ensures { (chains : ℕ) (c : Config) (s : State) → LawfulFloor c s
+        → SleepersFit (by_chain chains s) c s → IsLegalSoFar c true s.history }
+{}
 
 /// The history behind a list of turns is legal: each thread's entries follow its operations as far as they have come,
 pub fn runs_are_legal()

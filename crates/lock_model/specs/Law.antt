@@ -216,14 +216,18 @@ HaltsOnlyWhenRunning is_run (e ∷ es) =
 -- says whether they ran, or the run was a scheduled one; cut_short whether a scheduled run ended stuck or too long.
 -- Threads that ran come to their end. Of lock orders the law speaks where each take has come to its end
 
-pub record IsLegal (plan : Plan) (is_run cut_short : Bool) (history : List Entry) : Type 0 where
+-- the parts that hold behind each entry, whatever operations its threads have
+pub record IsLegalSoFar (c : Config) (is_run : Bool) (history : List Entry) : Type 0 where
   pub tickets_run : TicketsRun history
-  pub entries_follow_operations : EntriesFollowOperations plan (not is_run && cut_short) history
-  pub sections_exclude : SectionsExclude (config_of plan) history
-  pub edits_in_sections : EditsInSections (config_of plan) history
+  pub sections_exclude : SectionsExclude c history
+  pub edits_in_sections : EditsInSections c history
   pub reads_replay : ReadsReplay history
-  pub wakings_name_sleepers : WakingsNameSleepers (config_of plan) history
+  pub wakings_name_sleepers : WakingsNameSleepers c history
   pub halts_only_when_running : HaltsOnlyWhenRunning is_run history
-  pub shown_is_explained : ShownIsExplained (config_of plan) history
+  pub shown_is_explained : ShownIsExplained c history
+
+pub record IsLegal (plan : Plan) (is_run cut_short : Bool) (history : List Entry) : Type 0 where
+  pub so_far : IsLegalSoFar (config_of plan) is_run history
+  pub entries_follow_operations : EntriesFollowOperations plan (not is_run && cut_short) history
   pub orders_are_legal : is_run ≡ false → cut_short ≡ false
       → OrdersAreLegal (config_of plan) history

@@ -250,9 +250,10 @@ abbrev pub counts_as_look : ℕ → Config → State → ℕ → ℕ → Bool
 counts_as_look chains c s t l =
     seeks l (s.round t) && not (is_with t (item_with s (chain_of chains c l)))
 
--- a gain in a round is of the round's lock and in its way; outside a round it is a try's single exchange
+-- A gain in a round is of the round's lock and in its way. Outside a round it is the single exchange of a try, or that of a
+-- blocking call which looks until it gains, and whose looks are not counted.
 abbrev pub FitsRound : Option Round → ℕ → Bool → Type 0
-FitsRound None l by_try = by_try ≡ true
+FitsRound None l by_try = ⊤
 FitsRound (Some r) l by_try = (r.lock ≡ l) × (r.by_try ≡ by_try)
 
 -- in an acquiring round the one entry is that of a try which found the round's lock busy

@@ -1,5 +1,5 @@
 -- What belongs to the bytes of a source, and that the states of a script's run are lawful.
-use Rattle.std.proofs.Common.{◌≡◌, ℕ, List, refl, sym, ap, ◌∙◌}
+use Rattle.std.proofs.Common.{◌≡◌, ℕ, List, Result, Ok, Err, IfOk, refl, sym, ap, subst}
 use Rattle.std.proofs.lemmas.List.{reverse-reverse}
 use Rattle.std.specs.FinMap.{entries}
 use Rattle.lock_model.specs.Operations.{IsProper}
@@ -21,7 +21,7 @@ use Rattle.script_read.specs.Reading.{Refuses}
 use Rattle.complaints.specs.declared.status.Status.{Status}
 use Rattle.complaints.specs.declared.status.Status.TheVariants.{BadScript}
 use Rattle.command_line.specs.declared.words.Words.{Words}
-use Rattle.lock_top.specs.Output.{IsLawfulRun, IsLawfulState, TellsTables, output_said, output_of_plan, output_of_reading, state_behind}
+use Rattle.lock_top.specs.Output.{IsLawfulRun, IsLawfulState, IsOutputOfPlan, IsOutputOfReading, IsOutputSaid, TellsTables, state_behind}
 
 -- each state of the run of a proper plan is lawful
 lawful_state : (plan : Plan) (n : ℕ) → IsProper plan → IsLawfulState (config_of plan) (state_behind plan n)
@@ -50,13 +50,21 @@ lawful_run plan chains turns proper = record {
 }
 
 -- the output of a script is that of its plan
-pub accepted_output : (said : Words) (bytes : List ℕ) (plan : Plan) → IsAccepted bytes plan → output_of_plan said.command said.chains said.turns plan ≡ output_said said bytes
-unfolding output_said IsAccepted
-accepted_output said bytes plan accepted = ap (output_of_reading said) (sym accepted)
+pub accepted_output : (said : Words) (bytes : List ℕ) (plan : Plan) (pair : Status × List ℕ) → IsAccepted bytes plan
+    → IsOutputOfPlan said.command said.chains said.turns plan pair → IsOutputSaid said bytes pair
+unfolding IsOutputSaid IsAccepted
+accepted_output said bytes plan pair accepted made = subst (λ r. IsOutputOfReading said r pair) (sym accepted) made
 
 -- and that of other bytes the line of their first fault
-pub refused_output : (said : Words) (bytes : List ℕ) (fault : ScriptFault) (text : List ℕ) → Refuses bytes (Script fault) → text ≡ fault_text fault.line fault.code → (BadScript, text) ≡ output_said said bytes
-unfolding output_said IsFaulty
+pub refused_output : (said : Words) (bytes : List ℕ) (fault : ScriptFault) (text : List ℕ) → Refuses bytes (Script fault) → text ≡ fault_text fault.line fault.code
+    → IsOutputSaid said bytes (BadScript, text)
+unfolding IsOutputSaid IsFaulty
 refused_output said bytes fault text refused is =
     let pair : Status → List ℕ → Status × List ℕ = λ s t. (s, t) in
-    ap (λ (t : List ℕ). pair BadScript t) is ∙ ap (output_of_reading said) (sym refused)
+    subst (λ r. IsOutputOfReading said r (BadScript, text)) (sym refused) (ap (λ (t : List ℕ). pair BadScript t) is)
+
+-- an answer for a script's plan is one for the bytes
+pub accepted_answer : {V E : Type 0} (items : V → List ℕ) (said : Words) (bytes : List ℕ) (plan : Plan) (r : Result (Status × V) E) → IsAccepted bytes plan
+    → IfOk r (λ a. IsOutputOfPlan said.command said.chains said.turns plan (a.0, items a.1)) → IfOk r (λ a. IsOutputSaid said bytes (a.0, items a.1))
+accepted_answer items said bytes plan (Ok a) accepted made = accepted_output said bytes plan (a.0, items a.1) accepted made
+accepted_answer items said bytes plan (Err e) accepted made = tt

@@ -4,16 +4,17 @@ use Rattle.std.specs.Prelude.{◌≡◌, ℕ, Bool, false, true, List, [], rever
 use Rattle.std.specs.FinMap.{FinMap, entries, get}
 use Rattle.command_line.specs.Forms.{words_of}
 use Rattle.command_line.specs.declared.words.Command.{Command}
-use Rattle.command_line.specs.declared.words.Command.TheVariants.{Check, Step}
+use Rattle.command_line.specs.declared.words.Command.TheVariants.{Check, Run, Step}
 use Rattle.command_line.specs.declared.words.Words.{Words}
 use Rattle.complaints.specs.declared.status.Status.{Status}
 use Rattle.complaints.specs.declared.status.Status.TheVariants.{Done, BadScript, ReadFault, WriteFault, NoMemory, Stuck, Reversed, TooLong, TooBig, Usage}
+use Rattle.floor_run.specs.Runs.{HasOnlyMutexes, IsOutcome}
 use Rattle.lock_model.specs.Config.{Config}
 use Rattle.lock_model.specs.Limits.{most_bytes}
 use Rattle.lock_model.specs.Plans.{config_of}
 use Rattle.lock_model.specs.Script.{Reading, Reads, Faulty, reading_of}
 use Rattle.lock_model.specs.History.{place_cmp, tables_of}
-use Rattle.lock_model.specs.Text.{Ending, IsDone, IsStuck, IsReversed, IsTooLong, text_of, counts_text, fault_text}
+use Rattle.lock_model.specs.Text.{Ending, Outcome, IsDone, IsStuck, IsReversed, IsTooLong, text_of, counts_text, fault_text}
 use Rattle.lock_model.specs.declared.plan.Plan.{Plan}
 use Rattle.lock_state.specs.Best.{HasBest, HasCycle}
 use Rattle.lock_state.specs.Facts.{LawfulTurn, Ordered}
@@ -26,35 +27,41 @@ status_of IsStuck = Stuck
 status_of IsReversed = Reversed
 status_of IsTooLong = TooLong
 
--- the status and the text of the scheduled run of a plan, with so many chains of each sort and at most so many turns
-abbrev pub output_of_run : Plan → ℕ → ℕ → Status × List ℕ
-output_of_run plan chains turns = (
-  status_of (scheduled_run plan chains turns).ending,
-  text_of plan (scheduled_run plan chains turns),
-)
+-- the status and the text of what a run of a plan leaves to be printed
+abbrev pub output_of : Plan → Outcome → Status × List ℕ
+output_of plan o = (status_of o.ending, text_of plan o)
 
--- those of a plan: check counts and runs nothing, and step makes the scheduled run
-abbrev pub output_of_plan : Command → ℕ → ℕ → Plan → Status × List ℕ
-output_of_plan Check chains turns plan = (Done, counts_text plan)
-output_of_plan Step chains turns plan = output_of_run plan chains turns
+-- A status and a text belong to a run of a plan's threads. Which threads meet which is not said, so each outcome of such a
+-- run has its own. A plan that declares anything beside mutexes has one that tells that its threads can't run yet.
+pub record IsOutputOfThreads (plan : Plan) (pair : Status × List ℕ) : Type 0 where
+  pub ran : HasOnlyMutexes plan → (o : Outcome) × IsOutcome plan o × (pair ≡ output_of plan o)
+  pub refused : (HasOnlyMutexes plan → ⊥) → pair ≡ (BadScript, fault_text 0 0)
 
--- those of what a source comes to: of its plan, or the line of its first fault, whatever the command is
-abbrev pub output_of_reading : Words → Reading → Status × List ℕ
-output_of_reading said (Reads plan) = output_of_plan said.command said.chains said.turns plan
-output_of_reading said (Faulty line code) = (BadScript, fault_text line code)
+-- They belong to a plan, with so many chains of each sort and at most so many turns: check counts and runs nothing, step
+-- makes the scheduled run, and run runs the threads.
+abbrev pub IsOutputOfPlan : Command → ℕ → ℕ → Plan → Status × List ℕ → Type 0
+IsOutputOfPlan Check chains turns plan pair = pair ≡ (Done, counts_text plan)
+IsOutputOfPlan Step chains turns plan pair = pair ≡ output_of plan (scheduled_run plan chains turns)
+IsOutputOfPlan Run chains turns plan pair = IsOutputOfThreads plan pair
 
--- those of the bytes of a source, by what the words of the command line say
-unfoldable pub output_said : Words → List ℕ → Status × List ℕ
-output_said said bytes = output_of_reading said (reading_of bytes)
+-- to what a source comes to: to its plan, or to the line of its first fault, whatever the command is
+abbrev pub IsOutputOfReading : Words → Reading → Status × List ℕ → Type 0
+IsOutputOfReading said (Reads plan) pair =
+    IsOutputOfPlan said.command said.chains said.turns plan pair
+IsOutputOfReading said (Faulty line code) pair = pair ≡ (BadScript, fault_text line code)
+
+-- to the bytes of a source, by what the words of the command line say
+unfoldable pub IsOutputSaid : Words → List ℕ → Status × List ℕ → Type 0
+IsOutputSaid said bytes pair = IsOutputOfReading said (reading_of bytes) pair
 
 -- without words that are a form there is no text
-abbrev pub output_where_said : Option Words → List ℕ → Status × List ℕ
-output_where_said None bytes = (Usage, [])
-output_where_said (Some said) bytes = output_said said bytes
+abbrev pub IsOutputWhereSaid : Option Words → List ℕ → Status × List ℕ → Type 0
+IsOutputWhereSaid None bytes pair = pair ≡ (Usage, [])
+IsOutputWhereSaid (Some said) bytes pair = IsOutputSaid said bytes pair
 
--- the status and the text that belong to the words of a command line and to the bytes of a source
-abbrev pub output_of : List (List ℕ) → List ℕ → Status × List ℕ
-output_of words bytes = output_where_said (words_of words) bytes
+-- the status and the text belong to the words of a command line and to the bytes of a source
+abbrev pub IsOutput : List (List ℕ) → List ℕ → Status × List ℕ → Type 0
+IsOutput words bytes pair = IsOutputWhereSaid (words_of words) bytes pair
 
 -- the status says that a whole text was written
 abbrev pub has_text : Status → Bool

@@ -2,14 +2,16 @@
 //! for other languages, picks up its words and its streams and calls this.
 //!
 //! From the outside in:
-//! - `top`: the call, with everything that is promised of it.
-//! - `answer`: the status and the text that belong to the words and to the bytes of a source.
+//! - `top`: the calls, with everything that is promised of them.
+//! - `serving`: what all commands share: reading the words, the bytes and the script, and writing the text.
+//! - `answer`: the status and the text that a command makes of a plan.
 #![tactic(auto)]
 
 mod answer;
+mod serving;
 #[cfg(test)]
 mod tests;
 mod top;
 
-pub use crate::top::lockrun_plain;
+pub use crate::top::{lockrun, lockrun_live, lockrun_plain};
 pub use complaints::Status;

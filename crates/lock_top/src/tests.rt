@@ -3,9 +3,9 @@
 ghost use Rattle.std.specs.Prelude.{IfOk};
 ghost use Rattle.lock_model.specs.Operations.{IsProper};
 
-use crate::top::lockrun_plain;
+use crate::top::lockrun;
 use complaints::Status;
-use lock_io::{MemSink, MemSource};
+use lock_io::{Meeting, MemSink, MemSource, OpenGate};
 use lock_model::{Plan, StepKind, ThreadNo, Turn};
 use script_read::read_script;
 use std::alloc::Global;
@@ -133,6 +133,44 @@ const CASES: &[Case] = &[
         queue c slot 0 head a free - excl a@100 shared -\n\
         thread a base 100 eff 100\nthread b base 50 eff 50\ntoolong\n",
     ),
+    (
+        "run",
+        TWO_QUEUES,
+        0,
+        NEVER,
+        NEVER,
+        Status::BadScript,
+        "line 0 code 0\n",
+    ),
+    (
+        "run --chains=2",
+        CLAIMED,
+        0,
+        NEVER,
+        NEVER,
+        Status::BadScript,
+        "line 0 code 0\n",
+    ),
+    (
+        "--turns 1 run",
+        TWO_QUEUES,
+        0,
+        NEVER,
+        2,
+        Status::WriteFault,
+        "line 0 c",
+    ),
+    (
+        "run",
+        "lockrun 1\nsx s k\n",
+        0,
+        NEVER,
+        NEVER,
+        Status::BadScript,
+        "line 3 code 17\n",
+    ),
+    ("run", TWO_QUEUES, 0, 1, NEVER, Status::ReadFault, ""),
+    ("run", "", 1_048_577, NEVER, NEVER, Status::TooBig, ""),
     ("step", "", 1_048_577, NEVER, NEVER, Status::TooBig, ""),
     (
         "step",
@@ -154,7 +192,7 @@ fn calls_at_ends_in_memory(rt: HostRuntime) -> Result<(), Fail> {
         bytes.extend_from_slice(script.as_bytes())?;
         let mut source = MemSource::new(bytes, 4, vec![in alloc; source_fails]?);
         let mut sink = MemSink::new(alloc, 4096, 4, vec![in alloc; sink_fails]?)?;
-        let answer = lockrun_plain(alloc, &words, &mut source, &mut sink);
+        let answer = lockrun(&rt, alloc, &words, &mut source, &mut sink, &OpenGate);
         assert_eq!(rt; answer, status, "the status of {line:?} on {script:?}");
         assert_eq!(rt;
             sink.bytes(),
@@ -179,7 +217,9 @@ const NO_FORMS: &[&str] = &[
     "",
     "gen",
     "gen 7",
-    "run",
+    "run 1",
+    "run step",
+    "Run",
     "walk",
     "Step",
     "step extra",
@@ -211,9 +251,41 @@ fn words_that_are_no_form(rt: HostRuntime) -> Result<(), Fail> {
         let bytes = Vec::from_slice(alloc, FIRST.as_bytes())?;
         let mut source = MemSource::new(bytes, 4, vec![in alloc; 0]?);
         let mut sink = MemSink::new(alloc, 4096, 4, Vec::new(alloc))?;
-        let answer = lockrun_plain(alloc, &words, &mut source, &mut sink);
+        let answer = lockrun(&rt, alloc, &words, &mut source, &mut sink, &OpenGate);
         assert_eq!(rt; answer, Status::Usage, "the status of {line:?}");
         assert!(rt; sink.bytes().is_empty(), "the text of {line:?}");
+    }
+    Ok(())
+}
+
+// Each of two threads locks and unlocks a mutex of its own.
+const APART: &str = "lockrun 1\nmutex m k\nmutex n k\n\
+    thread t 100\nlock m\nunlock m\nend\n\
+    thread u 100\nlock n\nunlock n\nend\ndone\n";
+
+// At which operations the two threads are held until the other has come to its last (2 is at none), and how the text then
+// begins.
+const MEETINGS: &[(u32, u32, &str)] = &[
+    (1, 1, "0 "),
+    (0, 2, "0 u lock n\n"),
+    (2, 0, "0 t lock m\n"),
+];
+
+// Threads run beside each other, and the text is that of their run.
+#[test]
+fn threads_meet(rt: HostRuntime) -> Result<(), Fail> {
+    let alloc = rt.alloc();
+    for &(first, second, begins) in MEETINGS {
+        let words = words_of(alloc, "run")?;
+        let script = Vec::from_slice(alloc, APART.as_bytes())?;
+        let mut source = MemSource::new(script, 4096, Vec::new(alloc));
+        let mut sink = MemSink::new(alloc, 4096, 4096, Vec::new(alloc))?;
+        let gate = Meeting::new(first, second);
+        let status = lockrun(&rt, alloc, &words, &mut source, &mut sink, &gate);
+        assert_eq!(rt; status, Status::Done);
+        assert!(rt; !gate.missed(), "{begins}");
+        assert_eq!(rt; gate.came(), (2, 2));
+        assert!(rt; sink.bytes().starts_with(begins.as_bytes()), "{begins}");
     }
     Ok(())
 }

@@ -31,7 +31,7 @@ use Rattle.lock_model.specs.declared.plan.Plan.{Plan}
 use Rattle.lock_model.specs.declared.turn.StepKind.TheVariants as kinds
 use Rattle.lock_model.specs.declared.turn.Turn.{Turn}
 use Rattle.lock_model.specs.declared.turn.Turn.TheVariants.{Did, Idle, Ended}
-use Rattle.lock_laws.specs.OnTrack.{IsAtOperation, BeginsTake, admitted, gained_order, held_now}
+use Rattle.lock_laws.specs.OnTrack.{IsAtOperation, BeginsTake, admitted, first_against, gained_order, held_now}
 use Rattle.lock_laws.proofs.HeldLists.{gain_passes, held_few}
 use Rattle.lock_laws.proofs.OnTrack.{fit, is_awake}
 use Rattle.lock_laws.proofs.Table.{anew, at_take, admitted_wants, makes_operation}
@@ -43,7 +43,7 @@ use Rattle.step_world.specs.declared.turns.Made.{Made}
 use Rattle.step_world.specs.declared.turns.Made.TheVariants.{Does}
 use Rattle.step_world.specs.Represents.{Represents}
 use Rattle.step_world.specs.Steps.{May, MakesAllWhere, progress, KeepsProgress, KeepsBooks, AreClasses, refuses}
-use Rattle.step_world.specs.Runs.{IsRunOf, IsAsFar, IsAside, IsMade, IsTake, IsAdmission, KeepsWhereIdle, answer_of, row_of, first_against}
+use Rattle.step_world.specs.Runs.{IsRunOf, IsAsFar, IsAside, IsMade, IsTake, IsAdmission, KeepsWhereIdle, answer_of, row_of}
 use Rattle.step_world.proofs.AsFar.{so_is, still_as_far, cut_behind, waits_behind, behind_cut}
 use Rattle.step_world.proofs.Ends.{aside_is, are_locks}
 use Rattle.step_world.proofs.Turning.{SameRoom, of_books, same_room, same_keys, IsTurning, made_all, may_by, has_room, Begins, begins, made}

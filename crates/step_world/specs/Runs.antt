@@ -1,17 +1,15 @@
 -- Which run of a plan a machine represents, and that a turn of the machine is the turn of the table.
 use Rattle.std.specs.Prelude.{◌≡◌, ◌≢◌, ◌⊎◌, ℕ, suc, ◌+◌, ◌*◌, ◌<◌, Bool, true, false, List, [], ◌∷◌, ◌++◌, length, slice_get, is_some, Option, Some, None, IsSomeAnd, IsTrue}
 use Rattle.std.specs.List.{Contains}
-use Rattle.lock_model.specs.Plans.{config_of, operations_of, lock_kind, lock_class}
+use Rattle.lock_model.specs.Plans.{config_of, operations_of, lock_kind}
 use Rattle.lock_model.specs.Config.{Config}
 use Rattle.lock_model.specs.Holds.{NotHeld, Holds}
 use Rattle.lock_model.specs.Words.{is_turnstile}
 use Rattle.lock_model.specs.Keys.{plan_names}
 use Rattle.lock_model.specs.Operations.{held_of, hold_in, operations_in_all}
 use Rattle.lock_model.specs.Limits.{most_held}
-use Rattle.lock_model.specs.Orders.{first_to_forbid}
 use Rattle.lock_state.specs.Facts.{Lawful}
 use Rattle.lock_state.specs.Steps.{Step, Stamps, May, MayAll, after, after_all}
-use Rattle.lock_state.specs.Steps.Orders.{classes_held}
 use Rattle.lock_state.specs.Run.{Run, Row, has_ended, turn_of, run_behind, operates, notes, gains, takes, gives_back, lock_of_wait}
 use Rattle.lock_state.specs.State.{State, NoWalk}
 use Rattle.lock_model.specs.Queues.{lock_queue, stands}
@@ -30,7 +28,7 @@ use Rattle.lock_model.specs.declared.turn.Turn.{Turn}
 use Rattle.lock_model.specs.declared.turn.Turn.TheVariants.{Did, Idle, Ended}
 use Rattle.lock_model.specs.declared.turn.StepKind.{StepKind}
 use Rattle.lock_model.specs.declared.turn.StepKind.TheVariants.{Note}
-use Rattle.lock_laws.specs.OnTrack.{IsOnTrack, OwesNothing, IsAtOperation, IsCutShort, held_now, held_before, admitted}
+use Rattle.lock_laws.specs.OnTrack.{IsOnTrack, OwesNothing, IsAtOperation, IsCutShort, held_now, held_before, admitted, first_against}
 use Rattle.step_world.specs.declared.machine.Machine.{Machine}
 use Rattle.lock_model.specs.declared.plan.ThreadDecl.{ThreadDecl}
 use Rattle.step_world.specs.declared.thread.Thread.{Thread}
@@ -247,11 +245,6 @@ pub record IsGivingUp (plan : Plan) (r : Run) (t : ℕ) : Type 0 where
   pub cut : IsCutShort plan r t
 
 -- 4. A take's first turn
-
--- the first class of a held lock that forbids that of the lock
-abbrev pub first_against : Plan → Run → ℕ → LockNo → Option ℕ
-first_against plan r t l =
-    first_to_forbid r.state.edges (classes_held (config_of plan) r.state t) (lock_class plan l.0)
 
 -- none does, and the machine represents the run in which the lock is admitted
 pub record IsAdmission (plan : Plan) (r : Run) (t : ℕ) (l : LockNo) (m : Machine) : Type 0 where

@@ -7,11 +7,11 @@ ghost use Rattle.lock_model.specs.declared.plan.Op.TheVariants.{Take, Try, Relea
 ghost use Rattle.lock_model.specs.Words.{word_of, IsWellFormed, admits, is_plain};
 ghost use Rattle.lock_state.specs.State.{State};
 ghost use Rattle.lock_state.specs.Run.{Run};
-ghost use Rattle.lock_laws.specs.OnTrack.{IsAtOperation, BeginsTake};
+ghost use Rattle.lock_laws.specs.OnTrack.{IsAtOperation, BeginsTake, first_against};
 ghost use Rattle.witness_orders.specs.Graph.{numbers_of};
 ghost use Rattle.step_world.specs.Represents.{Represents};
 ghost use Rattle.step_world.specs.Steps.{HasKey, ChangesProgress, KeepsBooks, with_released};
-ghost use Rattle.step_world.specs.Runs.{HasRun, HasState, IsRunOf, MakesRow, KeepsWhereIdle, IsGain, IsTake, Follows, MayGiveBack, GivesBack, MayUnlock, Unlocks, IsGivingUp, IsAdmission, first_against, answer_of};
+ghost use Rattle.step_world.specs.Runs.{HasRun, HasState, IsRunOf, MakesRow, KeepsWhereIdle, IsGain, IsTake, Follows, MayGiveBack, GivesBack, MayUnlock, Unlocks, IsGivingUp, IsAdmission, answer_of};
 
 use crate::machine::Machine;
 use crate::turns::Made;

@@ -1,0 +1,106 @@
+-- Looks at a lock outside acquiring rounds: they may always be made, and change only what the thread saw last.
+use Rattle.std.proofs.Common.{◌≡◌, ℕ, suc, ◌+◌, ◌<◌, false, true, cond, Option, Some, None, List, [], ◌∷◌, ◌++◌, length, replicate, refl, sym, ap, ◌∙◌, subst}
+use Rattle.std.proofs.lemmas.List.{replicate-append-replicate}
+use Rattle.lock_model.specs.Words.{Word}
+use Rattle.lock_model.specs.declared.plan.Plan.{Plan}
+use Rattle.lock_state.specs.State.{Look}
+use Rattle.lock_state.specs.Steps.{Step, Looks, seeks}
+use Rattle.lock_state.specs.Steps.Items.{is_bound}
+use Rattle.floor_table.specs.Steps.{Makes, MakesEach, MayMake}
+use Rattle.floor_table.specs.Views.{Knowledge}
+use Rattle.lock_floor.specs.Passes.{IsAtRest}
+use Rattle.lock_floor.specs.Views.{counts, looked}
+use Rattle.lock_floor.proofs.May.{may_look}
+use Rattle.adaptive_mutex.specs.Waiting.{with_looks, HasLooked}
+
+-- 1. Steps one behind the other
+
+pub each_append : (plan : Plan) (xs ys : List (List Step)) (u v w : Knowledge) → MakesEach plan xs u v → MakesEach plan ys v w → MakesEach plan (xs ++ ys) u w
+each_append plan [] ys u v w e m = subst (λ x. MakesEach plan ys x w) (sym e) m
+each_append plan (x ∷ xs) ys u v w m k = (m.0, m.1, each_append plan xs ys m.0 v w m.2 k)
+
+-- 2. One look
+
+module _ (plan : Plan) (v : Knowledge) (l : ℕ) (no_round : v.share.doing.round ≡ None) where
+  pub uncounted : counts v l ≡ false
+  uncounted = ap (seeks l) no_round
+
+  pub may_look_on : l < length plan.locks → MayMake plan v (λ s. Unit {0}) (Looks v.thread l (counts v l) ∷ [])
+  may_look_on low =
+      may_look plan v l low
+      (λ e. absurd (let z : false ≡ true = sym uncounted ∙ e in cc))
+      (λ e. absurd (let z : false ≡ true = sym (ap is_bound no_round) ∙ e in cc))
+
+  pub look_knows : (word : Word) → looked v l word ≡ with_looks v (suc v.share.doing.looks_in_all) (Some (record { lock = l; word = word })) (Some (record { lock = l; word = word }))
+  look_knows word =
+      let look : Look = record { lock = l; word = word } in
+      ap (λ b. record v {
+        share = record v.share {
+          doing = record v.share.doing {
+            looks = cond b (suc v.share.doing.looks) v.share.doing.looks;
+            looks_in_all = suc v.share.doing.looks_in_all;
+            last_look = Some look;
+            seen_in_section = Some look;
+          };
+        };
+      }) uncounted
+
+  pub look_once : (word : Word) (new : Knowledge) → new ≡ looked v l word → Makes plan (Looks v.thread l (counts v l) ∷ []) v new → HasLooked plan l 1 v new
+  look_once word new is m = record {
+    all = suc v.share.doing.looks_in_all;
+    last = Some (record { lock = l; word = word });
+    seen = Some (record { lock = l; word = word });
+    knows = is ∙ look_knows word;
+    steps = (new, subst (λ b. Makes plan (Looks v.thread l b ∷ []) v new) uncounted m, refl);
+  }
+
+-- 3. Several
+
+pub no_look : (plan : Plan) (l : ℕ) (v : Knowledge) → HasLooked plan l 0 v v
+no_look plan l v = record {
+  all = v.share.doing.looks_in_all;
+  last = v.share.doing.last_look;
+  seen = v.share.doing.seen_in_section;
+  knows = refl;
+  steps = refl;
+}
+
+pub look_more : (plan : Plan) (l n m : ℕ) (u v w : Knowledge) → HasLooked plan l n u v → HasLooked plan l m v w → HasLooked plan l (n + m) u w
+look_more plan l n m u v w x y =
+    let look : List Step = Looks u.thread l false ∷ [] in
+    let more : MakesEach plan (replicate m look) v w = subst (λ t. MakesEach plan (replicate m (Looks t l false ∷ [])) v w) (ap (λ (k : Knowledge). k.thread) x.knows) y.steps in
+    record {
+      all = y.all;
+      last = y.last;
+      seen = y.seen;
+      knows = y.knows ∙ ap (λ k. with_looks k y.all y.last y.seen) x.knows;
+      steps = subst (λ xs. MakesEach plan xs u w) (replicate-append-replicate n m look) (each_append plan (replicate n look) (replicate m look) u v w x.steps more);
+    }
+
+pub still_no_round : (plan : Plan) (l n : ℕ) (u v : Knowledge) → u.share.doing.round ≡ None → HasLooked plan l n u v → v.share.doing.round ≡ None
+still_no_round plan l n u v no_round x = ap (λ (k : Knowledge). k.share.doing.round) x.knows ∙ no_round
+
+pub look_again : (plan : Plan) (l : ℕ) (u v w : Knowledge) (word : Word) → u.share.doing.round ≡ None → (n : ℕ) × HasLooked plan l n u v → w ≡ looked v l word → Makes plan (Looks v.thread l (counts v l) ∷ []) v w → (n : ℕ) × HasLooked plan l n u w
+look_again plan l u v w word no_round x view step =
+    (x.0 + 1, look_more plan l x.0 1 u v w x.1 (look_once plan v l (still_no_round plan l x.0 u v no_round x.1) word w view step))
+
+pub look_on : (plan : Plan) (l : ℕ) (u v w : Knowledge) → (n : ℕ) × HasLooked plan l n u v → (n : ℕ) × HasLooked plan l n v w → (n : ℕ) × HasLooked plan l n u w
+look_on plan l u v w x y = (x.0 + y.0, look_more plan l x.0 y.0 u v w x.1 y.1)
+
+-- 4. A thread at rest stays so
+
+pub looks_rest : (plan : Plan) (v : Knowledge) (all : ℕ) (last seen : Option Look) → IsAtRest plan v → IsAtRest plan (with_looks v all last seen)
+looks_rest plan v all last seen r = record {
+  nothing_out = r.nothing_out;
+  no_walk = r.no_walk;
+  unmarked = r.unmarked;
+  wants_nothing = r.wants_nothing;
+  takes_nothing = r.takes_nothing;
+  no_round = r.no_round;
+  no_looks = r.no_looks;
+  unnoted = r.unnoted;
+  stamped = r.stamped;
+  awake = r.awake;
+  sections = r.sections;
+  begun = r.begun;
+}

@@ -1,0 +1,135 @@
+-- A release is noted, and then the mutex is put down: each step may be made, and the thread is at rest again.
+use Rattle.std.proofs.Common.{◌≡◌, ℕ, ◌+◌, ◌<◌, ◌≤◌, true, false, Option, [], ◌∷◌, ◌++◌, length, replicate, refl, sym, ap, ◌∙◌, subst, arith}
+use Rattle.lock_model.specs.Holds.{NotHeld, Holds}
+use Rattle.lock_model.specs.Operations.{hold_in, without_lock}
+use Rattle.lock_model.specs.Plans.{config_of}
+use Rattle.lock_model.specs.Words.{Word, word_of, gained, is_drop}
+use Rattle.lock_model.specs.declared.event.Event.{Event}
+use Rattle.lock_model.specs.declared.event.Event.TheVariants.{Unlocked}
+use Rattle.lock_model.specs.declared.numbers.LockNo.{LockNo}
+use Rattle.lock_model.specs.declared.plan.Mode.TheVariants.{Excl}
+use Rattle.lock_model.specs.declared.plan.Plan.{Plan}
+use Rattle.lock_state.specs.State.{State, Look}
+use Rattle.lock_state.specs.Steps.{Looks, Drops, Stamps, HasOutForEntry, NotesInRound}
+use Rattle.lock_state.specs.Steps.LockWords.{Asks}
+use Rattle.floor_table.specs.Steps.{chains, Fits, Makes, MakesEach, MayMake}
+use Rattle.floor_table.specs.Views.{Knowledge}
+use Rattle.lock_floor.specs.Passes.{IsAtRest, MakesEntry}
+use Rattle.lock_floor.specs.Views.{entry_by, stamped, put_down}
+use Rattle.lock_floor.proofs.May.{own_log, may_drop, may_stamp}
+use Rattle.lock_floor.proofs.Resting.{IsLeaving, leaves, rest_left}
+use Rattle.lock_words.specs.Views.{IsHeldIn}
+use Rattle.adaptive_mutex.specs.Mutexes.{MayRelease, unlocks}
+use Rattle.adaptive_mutex.specs.Waiting.{with_looks, HasLooked, MayPutDown, PutsDown}
+use Rattle.adaptive_mutex.proofs.Looks.{each_append}
+
+-- 1. The entry
+
+module _ (plan : Plan) (v : Knowledge) (l : LockNo) (r : IsAtRest plan v) (held : hold_in v.share.held l.0 ≡ Holds Excl) where
+  asks : (s : State) → Fits plan v s → Asks (config_of plan) s v.thread (Unlocked l Excl) × HasOutForEntry chains s v.thread (Unlocked l Excl)
+  asks s f = (own_log plan v s f l.0 ∙ r.sections l.0 ∙ held, tt)
+
+  pub may_note_release : MayMake plan v (λ s. Unit {0}) (Stamps v.thread (Unlocked l Excl) ∷ [])
+  may_note_release =
+      may_stamp plan v (Unlocked l Excl) asks (subst (λ o. NotesInRound o (Unlocked l Excl)) (sym r.no_round) tt)
+      (λ e. absurd (let z : false ≡ true = sym r.awake ∙ e in cc))
+      (λ ne. absurd (ne r.stamped))
+
+  pub may_put_down : (ticket : ℕ) (w : Knowledge) → w ≡ stamped (config_of plan) v (entry_by v.thread ticket (Unlocked l Excl)) → MayPutDown plan l.0 w
+  may_put_down ticket w is =
+      let x = leaves plan v l Excl ticket r held in
+      subst (MayPutDown plan l.0) (sym is) record { held = held; closed = x.closed; begun = r.begun l.0 (λ q. absurd (let z : Holds Excl ≡ NotHeld = sym held ∙ q in cc)); no_round = r.no_round }
+
+-- the thread's number is one of the plan's, which are few
+pub few_threads : (plan : Plan) (l : LockNo) (v w : Knowledge) (ticket : ℕ) → w ≡ stamped (config_of plan) v (entry_by v.thread ticket (Unlocked l Excl)) → Makes plan (Stamps v.thread (Unlocked l Excl) ∷ []) v w → w.thread ≤ 63
+few_threads plan l v w ticket is m = omega (arith, ap (λ (k : Knowledge). k.thread) is, m.may.0.thread, m.represents.sizes.few_threads)
+
+-- 2. The drop
+
+pub may_put_on : (plan : Plan) (l n : ℕ) (u v : Knowledge) → MayPutDown plan l u → HasLooked plan l n u v → MayPutDown plan l v
+may_put_on plan l n u v m x = subst (MayPutDown plan l) (sym x.knows) record {
+  held = m.held;
+  closed = m.closed;
+  begun = m.begun;
+  no_round = m.no_round;
+}
+
+-- the word of a mutex that the thread holds
+pub own_drops : (own t : ℕ) → word_of own ≡ gained (word_of 0) t Excl → is_drop (word_of own) ≡ true
+own_drops own t is = ap (λ (w : Word). is_drop w) is
+
+pub own_is_held : (own t : ℕ) → word_of own ≡ gained (word_of 0) t Excl → IsHeldIn (word_of own).holder Excl
+own_is_held own t is = subst (λ (w : Word). IsHeldIn w.holder Excl) (sym is) tt
+
+pub may_drop_own : (plan : Plan) (l own t : ℕ) (v : Knowledge) → l < length plan.locks → word_of own ≡ gained (word_of 0) t Excl → MayPutDown plan l v → MayMake plan v (λ s. s.word l ≡ word_of own) (Drops v.thread l Excl ∷ [])
+may_drop_own plan l own t v low is m = may_drop plan v l Excl (word_of own) low m.held (own_drops own t is) m.closed m.begun
+
+-- 3. Both
+
+-- a call that noted the release and put the mutex down
+pub record Releases (plan : Plan) (l : LockNo) (n : ℕ) (old new : Knowledge) : Type 0 where
+  pub rest : IsAtRest plan new
+  pub entry : MakesEntry plan (Unlocked l Excl) (without_lock l.0 old.share.held) old new
+  pub steps : MakesEach plan (unlocks old.thread l n) old new
+
+module _ (plan : Plan) (l : LockNo) (n ticket : ℕ) (old v new : Knowledge) (r : IsAtRest plan old) (m : MayRelease plan l.0 old) where
+  abbrev e : Event
+  e = Unlocked l Excl
+
+  abbrev noted : Knowledge
+  noted = stamped (config_of plan) old (entry_by old.thread ticket e)
+
+  leaves_on : (all : ℕ) (last seen : Option Look) → IsLeaving plan l.0 Excl (with_looks noted all last seen)
+  leaves_on all last seen =
+      let x = leaves plan old l Excl ticket r m.held in
+      record {
+        about = record {
+          nothing_out = x.about.nothing_out;
+          no_walk = x.about.no_walk;
+          unmarked = x.about.unmarked;
+          wants_nothing = x.about.wants_nothing;
+          takes_nothing = x.about.takes_nothing;
+          no_round = x.about.no_round;
+          no_looks = x.about.no_looks;
+          unnoted = x.about.unnoted;
+          stamped = x.about.stamped;
+          awake = x.about.awake;
+        };
+        held = x.held;
+        closed = x.closed;
+        beside = x.beside;
+        begun = x.begun;
+      }
+
+  pub released : v ≡ noted → Makes plan (Stamps old.thread e ∷ []) old v → PutsDown plan l.0 n v new → Releases plan l n old new
+  released says step d =
+      let look = λ (t : ℕ). Looks t l.0 false ∷ [] in
+      let drop = λ (t : ℕ). Drops t l.0 Excl ∷ [] in
+      let left : Knowledge = with_looks noted d.looked.all d.looked.last d.looked.seen in
+      let between : d.between ≡ left = d.looked.knows ∙ ap (λ k. with_looks k d.looked.all d.looked.last d.looked.seen) says in
+      let is : new ≡ put_down left l.0 = d.view ∙ ap (λ k. put_down k l.0) between in
+      let its : v.thread ≡ old.thread = ap (λ (k : Knowledge). k.thread) says in
+      let drops : Makes plan (drop old.thread) left (put_down left l.0) =
+      subst (λ (z : Knowledge × Knowledge × ℕ). Makes plan (drop z.2) z.0 z.1) (λ i. (between i, is i, its i)) d.step in
+      record {
+        rest = subst (IsAtRest plan) (sym is) (rest_left plan l.0 Excl left (leaves_on d.looked.all d.looked.last d.looked.seen) drops);
+        entry = record {
+          ticket = ticket;
+          log = ap (λ (k : Knowledge). k.share.log) is;
+          held = ap (λ (k : Knowledge). k.share.held) is;
+          spare = ap (λ (k : Knowledge). k.spare + 1) is ∙ omega (arith, m.room);
+          thread = ap (λ (k : Knowledge). k.thread) is;
+          before = old;
+          behind = v;
+          of = refl;
+          step = step;
+          log_before = refl;
+          log_behind = ap (λ (k : Knowledge). k.share.log) says ∙ sym (ap (λ (k : Knowledge). k.share.log) is);
+        };
+        steps = (
+          v,
+          step,
+          subst (λ t. MakesEach plan (replicate n (look t) ++ drop t ∷ []) v new) its
+              (each_append plan (replicate n (look v.thread)) (drop v.thread ∷ []) v d.between new d.looked.steps (new, d.step, refl)),
+        );
+      }

@@ -1,0 +1,4 @@
+pub mod Operating
+pub mod Merging
+pub mod Running
+pub mod Crossing

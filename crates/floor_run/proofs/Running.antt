@@ -1,0 +1,190 @@
+-- What a run leaves, by what its workers leave.
+use Rattle.std.proofs.Common.{◌≡◌, ◌≢◌, ℕ, zero, suc, ◌+◌, ◌<◌, ◌≤◌, true, false, ◌||◌, eqb, List, [], ◌∷◌, ◌++◌, length, map, get_or, take, drop, reverse, slice_get, None, option_map, refl, sym, ap, subst, ◌∙◌, arith, inl, inr}
+use Rattle.std.specs.Prelude.{unwrap_or}
+use Rattle.std.specs.FinMap.{entries}
+use Rattle.std.specs.List.{range_with_len, list_any}
+use Rattle.std.specs.declared.alloc.Global.{Global}
+use Rattle.std.specs.declared.boxed.Box.{Box}
+use Rattle.std.proofs.lemmas.Bool.{cases_lt, ne_eqb}
+use Rattle.std.proofs.lemmas.List.{append-nil, take_all, drop_all, reverse-reverse, get_or-map, length-map, map-id}
+use Rattle.std.proofs.lemmas.List.FromFn.{length-map-range_with_len, get_or-map-range_with_len}
+use Rattle.std.proofs.lemmas.List.Sorted.{IsPermutation-reverse, list_any-IsPermutation}
+use Rattle.std.proofs.lemmas.Option.{slice_get-map}
+use Rattle.lock_model.specs.Counts.{one, times}
+use Rattle.lock_model.specs.History.{base_in, entries_of, tables_of}
+use Rattle.lock_model.specs.Law.{LeadsTo, Before, is_halt, IsLegal, FollowsOperations, EntriesFollowOperations}
+use Rattle.lock_model.specs.Law as law
+use Rattle.lock_model.specs.Plans.{config_of, operations_of}
+use Rattle.lock_model.specs.Takes.{is_reversal, has_reversal}
+use Rattle.lock_model.specs.Text as text
+use Rattle.lock_model.specs.declared.event.Entry.{Entry}
+use Rattle.lock_model.specs.declared.plan.Op.{Op}
+use Rattle.lock_model.specs.declared.plan.Plan.{Plan}
+use Rattle.lock_model.specs.declared.plan.ThreadDecl.{ThreadDecl}
+use Rattle.lock_history.specs.Endings.{ending_of, numbers_of}
+use Rattle.lock_history.specs.Outcomes.{outcome_seen, line_seen}
+use Rattle.lock_history.specs.declared.outcome.Outcome.{Outcome}
+use Rattle.lock_state.specs.Run.{threads_of}
+use Rattle.thread_records.specs.declared.record.ThreadRec.{ThreadRec}
+use Rattle.floor_table.specs.Shares.{Share}
+use Rattle.floor_table.specs.Views.{Knowledge}
+use Rattle.lock_floor.specs.Closings.{IsClosing}
+use Rattle.lock_floor.specs.Floors.{Floor, Pass}
+use Rattle.lock_floor.specs.Passes.{first_pass}
+use Rattle.lock_floor.specs.declared.closing.Closing.{Closing}
+use Rattle.floor_run.specs.Progress.{IsDone}
+use Rattle.floor_run.specs.Runs.{IsRunOf, has_halt, ending_of_run, outcome_of}
+use Rattle.floor_run.specs.Workers.{IsWhole}
+
+-- 1. Threads
+
+-- a number that is no thread's stands nowhere among them
+absent_from : (a n t : ℕ) → a + n ≤ t → times t (range_with_len a n) ≡ 0
+absent_from a zero t le = refl
+absent_from a (suc n) t le =
+    let first : one (eqb t a) ≡ 0 = ap one (ne_eqb t a (λ e. absurd (omega arith))) in
+    omega (arith, first, absent_from (a + 1) n t (omega arith))
+
+none_at : {A : Type 0} (xs : List A) (i : ℕ) → length xs ≤ i → slice_get xs i ≡ None
+none_at [] i le = refl
+none_at (x ∷ xs) zero le = absurd (omega arith)
+none_at (x ∷ xs) (suc i) le = none_at xs i (omega arith)
+
+-- and has no operations
+no_operations : (plan : Plan) (t : ℕ) → length plan.threads ≤ t → operations_of plan t ≡ []
+no_operations plan t le = ap (λ x. unwrap_or x []) (slice_get-map (λ d. d.ops) plan.threads t ∙ ap (option_map (λ (d : ThreadDecl). d.ops)) (none_at plan.threads t le))
+
+none_of : (es : List Entry) → ((es ≢ []) → ⊥) → es ≡ []
+none_of [] h = refl
+none_of (e ∷ es) h = absurd (h (λ z. absurd cc))
+
+-- 2. The law of its history
+
+abbrev pub parts : List (Pass Knowledge) → List (ℕ × Share)
+parts passes = map (λ p. (p.view.thread, p.view.share)) passes
+
+-- each pass is that of the thread of its place, and its worker is done
+abbrev pub AreDone : Floor Plan → List (Pass Knowledge) → Type 0
+AreDone f passes = (t : ℕ) (d : Pass Knowledge) → t < length passes → IsDone f t (get_or passes t d)
+
+-- what is so at each place of a list, by the places
+map_same : {A B : Type 0} (xs : List A) (f : A → B) (g : ℕ → B) (a : ℕ) → ((k : ℕ) (d : A) → k < length xs → f (get_or xs k d) ≡ g (a + k)) → map f xs ≡ map g (range_with_len a (length xs))
+map_same [] f g a h = refl
+map_same (x ∷ xs) f g a h =
+    let first : f x ≡ g a = h 0 x (omega arith) ∙ ap g (omega arith) in
+    let rest = map_same xs f g (a + 1) (λ k d lt. h (suc k) d (omega arith) ∙ ap g (omega arith)) in
+    λ j. first j ∷ rest j
+
+fused : (passes : List (Pass Knowledge)) → map (λ g. g.0) (parts passes) ≡ map (λ p. p.view.thread) passes
+fused [] = refl
+fused (p ∷ ps) = ap (λ ts. p.view.thread ∷ ts) (fused ps)
+
+pub threads_in_order : (f : Floor Plan) (passes : List (Pass Knowledge)) → length passes ≡ length f.plan.threads → AreDone f passes → map (λ g. g.0) (parts passes) ≡ threads_of f.plan
+threads_in_order f passes count done =
+    fused passes
+    ∙ map_same passes (λ p. p.view.thread) (λ t. t) 0 (λ k d lt. omega (arith, (done k d lt).thread))
+    ∙ map-id (range_with_len 0 (length passes))
+    ∙ ap (range_with_len 0) count
+
+-- a thread's base twice, by its record and by a history
+abbrev pub its_base : Box ThreadRec Global → ℕ × ℕ
+its_base r = (r.value.base, r.value.base)
+
+abbrev pub base_behind : Plan → List Entry → ℕ → ℕ × ℕ
+base_behind plan history t = (base_in (config_of plan) history t, base_in (config_of plan) history t)
+
+module _ (plan : Plan) (x : Closing) (closing : IsClosing plan (threads_of plan) x) where
+  abbrev history : List Entry
+  history = closing.history
+
+  -- a thread's part of the history, where the logs are those
+  its_part : (logs : List (List Entry)) → map (λ b. b.entries) x.logs.items ≡ map reverse logs → (t : ℕ) → t < length plan.threads → get_or logs t [] ≡ entries_of history t
+  its_part logs same t lt =
+      let all : map reverse logs ≡ map (λ u. reverse (entries_of history u)) (threads_of plan) = sym same ∙ closing.logs.parts in
+      let long : length logs ≡ length plan.threads = sym (length-map logs reverse) ∙ ap length all ∙ length-map-range_with_len (λ u. reverse (entries_of history u)) 0 (length plan.threads) in
+      let at : reverse (get_or logs t []) ≡ reverse (entries_of history t) =
+      sym (get_or-map reverse logs t [] [] (omega (arith, long, lt))) ∙ ap (λ ls. get_or ls t []) all
+      ∙ get_or-map-range_with_len (λ u. reverse (entries_of history u)) 0 (length plan.threads) t t [] lt (omega arith) in
+      sym (reverse-reverse (get_or logs t [])) ∙ ap reverse at ∙ reverse-reverse (entries_of history t)
+
+  follows : (logs : List (List Entry)) → map (λ b. b.entries) x.logs.items ≡ map reverse logs → ((t : ℕ) → t < length plan.threads → IsWhole plan t (get_or logs t [])) → (t : ℕ) → FollowsOperations plan false history t
+  follows logs same whole t = elim (cases_lt t (length plan.threads)) [
+    | inl lt ↦
+        let w : IsWhole plan t (entries_of history t) = subst (IsWhole plan t) (its_part logs same t lt) (whole t lt) in
+        record { place = w.place; leads = w.leads; whole = λ e. w.at_end }
+    | inr le ↦
+        let none : entries_of history t ≡ [] = none_of (entries_of history t) (λ some. absurd (omega (arith, closing.logs.no_other t some, absent_from 0 (length plan.threads) t (omega (arith, le))))) in
+        let ops : operations_of plan t ≡ [] = no_operations plan t le in
+        record {
+          place = Before 0;
+          leads = subst (λ (es : List Entry). LeadsTo (config_of plan).kind (operations_of plan t) es (Before 0)) (sym none) law.begins;
+          whole = λ e. sym (ap (λ (os : List Op). length os) ops);
+        }
+  ]
+
+  pub is_legal : (logs : List (List Entry)) → map (λ b. b.entries) x.logs.items ≡ map reverse logs → ((t : ℕ) → t < length plan.threads → IsWhole plan t (get_or logs t [])) → IsLegal plan true false history
+  unfolding EntriesFollowOperations
+  is_legal logs same whole = record { so_far = closing.legal; entries_follow_operations = follows logs same whole; orders_are_legal = λ e. absurd cc }
+
+  -- 3. What is printed
+
+  bases : map its_base x.recs.items ≡ map (base_behind plan history) (threads_of plan)
+  bases =
+      map_same x.recs.items its_base (base_behind plan history) 0 (λ k d lt. let its = (closing.home k d (omega (arith, lt, closing.count))).base in
+      let same : its_base (get_or x.recs.items k d) ≡ base_behind plan history k = λ j. (its j, its j) in
+      same ∙ ap (base_behind plan history) (omega arith))
+      ∙ ap (λ n. map (base_behind plan history) (range_with_len 0 n)) closing.count
+
+  pub outcome_same : (o : Outcome) → o.history ≡ reverse history → o.queues ≡ [] → numbers_of o.finals ≡ map its_base x.recs.items → o.tables.present ≡ tables_of (reverse o.history)
+      → ending_of o.last ≡ ending_of_run (reverse o.history) → outcome_seen o ≡ outcome_of plan history
+  outcome_same o history_is queues finals tables ending =
+      let back : reverse o.history ≡ history = ap reverse history_is ∙ reverse-reverse history in
+      let present : entries o.tables.present ≡ entries (tables_of history) = ap entries (tables ∙ ap tables_of back) in
+      λ j. record {
+        history = history_is j;
+        queues = ap (map line_seen) queues j;
+        finals = (finals ∙ bases) j;
+        tables = present j;
+        ending = (ending ∙ ap ending_of_run back) j;
+      }
+
+  pub is_run : (o : text.Outcome) → IsLegal plan true false history → o ≡ outcome_of plan history → IsRunOf plan o x
+  is_run o legal same = record { run = record { history = history; legal = legal; outcome = same }; closing = closing; same = refl }
+
+-- 4. Histories from the oldest entry on
+
+pub some_reversal : (es : List Entry) → list_any (λ e. is_reversal e.event) es ≡ has_reversal es
+some_reversal [] = refl
+some_reversal (e ∷ es) = ap (λ b. is_reversal e.event || b) (some_reversal es)
+
+pub same_halt : (es : List Entry) → has_halt (reverse es) ≡ has_halt es
+same_halt es = sym (list_any-IsPermutation (λ (e : Entry). is_halt e.event) es (reverse es) (IsPermutation-reverse es))
+
+pub same_reversal : (es : List Entry) → has_reversal (reverse es) ≡ has_reversal es
+same_reversal es =
+    sym (some_reversal (reverse es)) ∙ sym (list_any-IsPermutation (λ (e : Entry). is_reversal e.event) es (reverse es) (IsPermutation-reverse es)) ∙ some_reversal es
+
+-- 5. What is gathered
+
+-- a list whose items were changed in their places
+pub written_back : {A : Type 0} (xs ys : List A) (n : ℕ) → length ys ≡ length xs → n ≡ length xs → take n (ys ++ drop (length ys) xs) ≡ ys
+written_back xs ys n same count = ap (λ zs. take n (ys ++ zs)) (drop_all (length ys) xs (omega (arith, same))) ∙ ap (take n) (append-nil ys) ∙ take_all n ys (omega (arith, same, count))
+
+logs_in : (passes : List (Pass Knowledge)) → map (λ g. reverse g.1.log) (parts passes) ≡ map reverse (map (λ p. p.view.share.log) passes)
+logs_in [] = refl
+logs_in (p ∷ ps) = ap (λ ls. reverse p.view.share.log ∷ ls) (logs_in ps)
+
+module _ (f : Floor Plan) (plan : Plan) (same : f.plan ≡ plan) (passes : List (Pass Knowledge)) (count : length passes ≡ length plan.threads) (done : AreDone f passes) (gathered : List (ℕ × Share)) (are : gathered ≡ parts passes) (x : Closing) where
+  pub is_closing : IsClosing f.plan (map (λ g. g.0) gathered) x → IsClosing plan (threads_of plan) x
+  is_closing closing =
+      let threads : map (λ g. g.0) gathered ≡ threads_of plan =
+      ap (map (λ g. g.0)) are ∙ threads_in_order f passes (count ∙ ap (λ (p : Plan). length p.threads) (sym same)) done ∙ ap threads_of same in
+      subst (λ (z : Plan × List ℕ). IsClosing z.0 z.1 x) (λ i. (same i, threads i)) closing
+
+  pub left_legal : map (λ b. b.entries) x.logs.items ≡ map (λ g. reverse g.1.log) gathered → (closing : IsClosing plan (threads_of plan) x) → IsLegal plan true false closing.history
+  left_legal logs closing =
+      let own : Pass Knowledge → List Entry = λ p. p.view.share.log in
+      is_legal plan x closing (map own passes) (logs ∙ ap (map (λ g. reverse g.1.log)) are ∙ logs_in passes) (λ t lt.
+      let d : Pass Knowledge = first_pass f.table f.plan t in
+      let within : t < length passes = omega (arith, lt, count) in
+      subst (λ (z : Plan × List Entry). IsWhole z.0 t z.1) (λ i. (same i, sym (get_or-map own passes t d [] within) i)) (done t d within).whole)

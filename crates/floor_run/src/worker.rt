@@ -1,0 +1,68 @@
+//! Making the operations of one thread.
+ghost use Rattle.std.specs.Prelude.{◌≡◌, ℕ, ◌<◌, [], length, slice_get, Some};
+ghost use Rattle.lock_model.specs.Operations.{IsProper};
+ghost use Rattle.lock_model.specs.Plans.{operations_of};
+ghost use Rattle.lock_floor.specs.Passes.{IsFinished, first_pass};
+ghost use Rattle.floor_run.specs.Progress.{IsBefore};
+ghost use Rattle.floor_run.specs.Runs.{HasOnlyMutexes};
+ghost use Rattle.floor_run.specs.Workers.{IsWhole};
+
+use lock_floor::{Change, Floor, Pass};
+use lock_io::Gate;
+use lock_model::{Op, Plan};
+use std::sync::Wait;
+
+/// Makes the operations of a pass's thread, in order, and finishes the pass. It takes no memory.
+///
+/// It asks the gate before each operation, with its place from 0, and so before an `endtry` that it comes to, which makes
+/// no entry. Of the operations in the block of a try that failed it makes none, and asks before none.
+pub fn work<R: Wait, G: Gate>(rt: &R, floor: &Floor, pass: &mut Pass, plan: &Plan, gate: &G)
+    requires plan { floor.now.plan ≡ plan.now }
+    requires proper { IsProper plan.now }
+    requires mutexes { HasOnlyMutexes plan.now }
+    requires thread { pass.old.view.thread < length plan.now.threads }
+    requires first { pass.old ≡ first_pass floor.now.table plan.now pass.old.view.thread }
+    ensures finished { IsFinished floor.now pass.new }
+    ensures thread { pass.new.view.thread ≡ pass.old.view.thread }
+    ensures unheld { pass.new.view.share.held ≡ [] }
+    ensures whole { IsWhole plan.now pass.new.view.thread pass.new.view.share.log }
+{
+    let ops = plan.operations_of(pass.thread());
+    let mut next = 0;
+    while next < ops.len() {
+        gate.at(pass.thread(), next as u32);
+        next = operate(rt, floor, pass, ops[next], next);
+    }
+    floor.finish(rt, pass);
+}
+
+// Makes an operation of the pass's thread, and answers which is its next.
+fn operate<R: Wait>(rt: &R, floor: &Floor, pass: &mut Pass, op: Op, n: usize) -> usize
+    requires proper { IsProper floor.now.plan }
+    requires mutexes { HasOnlyMutexes floor.now.plan }
+    requires before { IsBefore floor.now pass.old.view.thread n pass.old }
+    requires op { slice_get (operations_of floor.now.plan pass.old.view.thread) n ≡ Some op }
+    ensures before { IsBefore floor.now pass.old.view.thread result pass.new }
+    ensures further { n < result }
+{
+    match op {
+        Op::Take { l, mode: _ } => adaptive_mutex::lock(floor, rt, pass, l).unwrap(),
+        Op::Try { l, mode: _, past } => match adaptive_mutex::try_lock(floor, pass, l) {
+            Ok(()) => {}
+            Err(_) => return past as usize,
+        },
+        Op::EndTry => {}
+        Op::Release { l } => adaptive_mutex::unlock(floor, rt, pass, l),
+        Op::Set { l, key, value } => floor.edit(rt, pass, l, key, Change::Set(value)),
+        Op::Add { l, key, amount } => floor.edit(rt, pass, l, key, Change::Add(amount)),
+        Op::Get { l, key } => {
+            floor.read(rt, pass, l, key);
+        }
+        Op::Base { prio } => floor.set_base(rt, pass, prio),
+        Op::Show => {
+            floor.show(rt, pass);
+        }
+        Op::Sleep { .. } | Op::WakeOne { .. } | Op::WakeAll { .. } => unreachable!(),
+    }
+    n + 1
+}

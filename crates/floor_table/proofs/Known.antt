@@ -1,0 +1,35 @@
+-- What a thread's seat knows fits the state that the table represents.
+use Rattle.std.proofs.Common.{◌≡◌, ℕ, suc, ap, subst}
+use mathlib.Core.Option.{some}
+use lib.ListN.{get_elem?}
+use Rattle.lock_model.specs.Config.{Config}
+use Rattle.lock_model.specs.Plans.{config_of}
+use Rattle.lock_model.specs.declared.plan.Plan.{Plan}
+use Rattle.lock_state.specs.State.{State, Running, start_state}
+use Rattle.floor_table.specs.Places.{turn_word, home_at}
+use Rattle.floor_table.specs.Views.{OfThread, Knowledge, nothing}
+use Rattle.floor_table.specs.Represents.{Board, Represents, thread_in, ToCome, to_come}
+use Rattle.floor_table.specs.Steps.{IsSound, HasJust, Fits}
+use Rattle.floor_table.proofs.Lists.{at_or}
+use Rattle.floor_table.proofs.Seats.{seat_of}
+use Rattle.floor_table.proofs.Items.{has_just}
+
+-- all threads run
+pub all_run : (c : Config) (s : State) (t : ℕ) → to_come s ≡ to_come (start_state c) → s.wait t ≡ Running
+unfolding start_state
+all_run c s t e = ap (λ (x : ToCome). x.wait t) e
+
+pub fits_of : (plan : Plan) (b : Board) (s : State) (i : ℕ) (v : Knowledge) → IsSound (config_of plan) s → Represents plan b s → get_elem? b.views i ≡ some v → v.role ≡ OfThread → (i ≡ suc v.thread) × Fits plan v s
+fits_of plan b s i v sound r at is =
+    let seat = seat_of plan b.views s r.seats i v at is in
+    let here : thread_in b.views v.thread ≡ v = at_or b.views (suc v.thread) v nothing (subst (λ j. get_elem? b.views j ≡ some v) seat.0 at) in
+    let just = has_just plan s (turn_word b.words) (home_at b.homes) (λ t. (thread_in b.views t).out) r.content v.thread r.turns r.shelves r.objects in (
+      seat.0,
+      record {
+        sound = sound;
+        thread = seat.1;
+        share = seat.2;
+        out = subst (λ (w : Knowledge). HasJust plan w.out s v.thread) here just;
+        runs = all_run (config_of plan) s v.thread r.begun;
+      },
+    )

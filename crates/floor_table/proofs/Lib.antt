@@ -1,0 +1,11 @@
+pub mod Crossing
+pub mod Lists
+pub mod Words
+pub mod Shelved
+pub mod Seats
+pub mod Items
+pub mod Known
+pub mod Stepped
+pub mod Sound
+pub mod Made
+pub mod HeldLocks

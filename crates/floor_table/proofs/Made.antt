@@ -1,0 +1,191 @@
+-- A step of a thread, on whatever table its seat is at: what is asked of the step on a table that represents a sound state,
+-- and what it tells then.
+use Rattle.std.proofs.Common.{◌≡◌, ◌≢◌, ℕ, suc, ◌<◌, eqb, Option, Some, None, List, ◌∷◌, length, set, refl, sym, ap, ◌∙◌, subst, arith, length-set, get_or-set_same}
+use Rattle.std.specs.Prelude.{slice_index}
+use mathlib.Core.Option as slots
+use mathlib.Core.Option.{some}
+use lib.ListN.{get_elem?}
+use prog.Atomic.{either}
+use Rattle.atomic_table.specs.Table.{Me, Act, keeps, takes, gives, put_back, homes_after, Valid, Allows, stepped, carried_after}
+use Rattle.atomic_table.proofs.Lists.{exchanged}
+use Rattle.lock_model.specs.Plans.{config_of}
+use Rattle.lock_model.specs.declared.plan.Plan.{Plan}
+use Rattle.lock_model.specs.Words.{Word, word_of}
+use Rattle.lock_state.specs.State.{State, put}
+use Rattle.lock_state.specs.Steps.Items.{Item, item_with}
+use Rattle.lock_laws.proofs.Kit.{put_back as put_again}
+use Rattle.lock_laws.proofs.Items.{with_then}
+use Rattle.lock_state.specs.Steps.{Step, after_all}
+use Rattle.floor_table.specs.declared.slot.Slot.{Slot}
+use Rattle.floor_table.specs.Views.{OfThread, Knowledge, nothing}
+use Rattle.floor_table.specs.Places.{spot, lock_line, ticket_line, turn_line, word_at, lock_word, turn_word, slots_for, slot_of, home_at}
+use Rattle.floor_table.specs.Shares.{share_in}
+use Rattle.floor_table.specs.Shelves.{Shelves}
+use Rattle.floor_table.specs.Represents.{Board, RepresentsLocks, RepresentsTurns, RepresentsObjects, objects_in, IsSeatOf, to_come, Represents, thread_in}
+use Rattle.floor_table.specs.Steps.{IsSound, MayAll, Fits, Makes}
+use Rattle.floor_table.specs.Rule.{FloorHolds}
+use Rattle.floor_table.proofs.Lists.{inside, at_or, field_set}
+use Rattle.floor_table.proofs.Known.{fits_of}
+use Rattle.floor_table.proofs.Sound.{sound_kept}
+use Rattle.floor_table.proofs.Items.{place_low, turns_changed}
+use Rattle.floor_table.proofs.Shelved.{shelf_taken, shelf_given}
+use Rattle.floor_table.proofs.Stepped.{lock_stepped, ticket_stepped, turn_stepped}
+
+-- 1. What a step owes
+
+-- on one table, of a sound state, with a word found
+abbrev pub Steps : Plan → Me Slot Knowledge → ℕ → ℕ → ℕ → (ℕ → Me Slot Knowledge → Type 0) → Board → Type 0
+Steps plan me i found new told b =
+    (w : Knowledge) × (act : Act Slot) × Valid b.homes me.1 act
+    × FloorHolds plan (stepped b i new (suc me.0.thread) me.1 w act) × told found (w, carried_after me.1 act)
+
+-- a table that the step may find
+pub record Finds (plan : Plan) (v : Knowledge) (b : Board) : Type 0 where
+  pub state : State
+  pub sound : IsSound (config_of plan) state
+  pub represents : Represents plan b state
+  pub fits : Fits plan v state
+  pub there : get_elem? b.views (suc v.thread) ≡ some v
+
+pub finds : (plan : Plan) (b : Board) (i : ℕ) (v : Knowledge) → FloorHolds plan b → get_elem? b.views i ≡ some v → v.role ≡ OfThread → (i ≡ suc v.thread) × Finds plan v b
+finds plan b i v holds at is =
+    let p = fits_of plan b holds.0 i v holds.1 holds.2 at is in
+    (p.0, record { state = holds.0; sound = holds.1; represents = holds.2; fits = p.1; there = subst (λ j. get_elem? b.views j ≡ some v) p.0 at })
+
+-- so it may be made on each table
+pub allows : (plan : Plan) (slots id : ℕ) (me : Me Slot Knowledge) (i : ℕ) (f : ℕ → ℕ) (told : ℕ → Me Slot Knowledge → Type 0) → me.0.role ≡ OfThread
+    → ((b : Board) → Finds plan me.0 b → slice_index b.words i < 18446744073709551616 → Steps plan me i (slice_index b.words i) (f (slice_index b.words i)) told b) → Allows (FloorHolds plan) slots id me i f told
+allows plan slots id me i f told is step b holds deep at small =
+    let p = finds plan b id me.0 holds at is in
+    let q = step b p.1 small in
+    (q.0, q.1, q.2, subst (λ j. FloorHolds plan (stepped b i (f (slice_index b.words i)) j me.1 q.0 q.1)) (sym p.0) q.3, q.4)
+
+-- an exchange hits, or misses and changes no word
+pub exchange_allows : (plan : Plan) (slots id : ℕ) (me : Me Slot Knowledge) (i old new : ℕ) (told : ℕ → Me Slot Knowledge → Type 0) → me.0.role ≡ OfThread
+    → ((b : Board) → Finds plan me.0 b → slice_index b.words i ≡ old → Steps plan me i (slice_index b.words i) new told b)
+    → ((b : Board) → Finds plan me.0 b → slice_index b.words i ≢ old → slice_index b.words i < 18446744073709551616 → Steps plan me i (slice_index b.words i) (slice_index b.words i) told b)
+    → Allows (FloorHolds plan) slots id me i (λ n. either (eqb n old) new n) told
+exchange_allows plan slots id me i old new told is hit miss =
+    allows plan slots id me i (λ n. either (eqb n old) new n) told is (λ b h small.
+    exchanged (slice_index b.words i) old new (λ y. Steps plan me i (slice_index b.words i) y told b) (λ e. hit b h e) (λ ne. miss b h ne small))
+
+-- 2. What it tells
+
+-- where the table then represents the state behind steps that may be made, the rule holds, and the thread made them
+pub made : (plan : Plan) (steps : List Step) (b behind : Board) (v w : Knowledge) (h : Finds plan v b) → v.role ≡ OfThread → w.role ≡ OfThread → MayAll (config_of plan) h.state steps → behind.views ≡ set b.views (suc v.thread) w
+    → Represents plan behind (after_all (config_of plan) h.state steps) → FloorHolds plan behind × Makes plan steps v w
+made plan steps b behind v w h role role_behind may views r = (
+  (after_all (config_of plan) h.state steps, sound_kept (config_of plan) h.state steps may h.sound, r),
+  record {
+    role = role;
+    role_behind = role_behind;
+    before = b;
+    behind = behind;
+    state = h.state;
+    sound = h.sound;
+    represents = h.represents;
+    may = may;
+    represents_behind = r;
+    was = at_or b.views (suc v.thread) v nothing h.there;
+    is = ap (λ vs. thread_in vs v.thread) views ∙ get_or-set_same b.views (suc v.thread) w nothing (inside b.views (suc v.thread) v h.there);
+  },
+)
+
+-- 3. By kind of word
+
+-- the states differ at most in a lock's word and in shares
+pub record SameRest (s n : State) : Type 0 where
+  pub next : n.next ≡ s.next
+  pub items : item_with n ≡ item_with s
+  pub objects : objects_in n ≡ objects_in s
+  pub begun : to_come n ≡ to_come s
+
+-- what a thread's seat knows of the state behind, and that the others' shares stay
+pub record OwnShare (v w : Knowledge) (s n : State) : Type 0 where
+  pub role : w.role ≡ OfThread
+  pub seat : IsSeatOf w n v.thread
+  pub others : (u : ℕ) → u ≢ v.thread → share_in n u ≡ share_in s u
+
+module _ (plan : Plan) (steps : List Step) (b : Board) (v w : Knowledge) (h : Finds plan v b) (was : v.role ≡ OfThread) (may : MayAll (config_of plan) h.state steps) (own : OwnShare v w h.state (after_all (config_of plan) h.state steps)) (cs : List (ℕ × Slot)) where
+  abbrev s : State
+  s = h.state
+
+  abbrev n : State
+  n = after_all (config_of plan) h.state steps
+
+  abbrev outs : ℕ → List (ℕ × Slot)
+  outs u = (thread_in b.views u).out
+
+  own_out : outs v.thread ≡ v.out
+  own_out = ap (λ (k : Knowledge). k.out) (at_or b.views (suc v.thread) v nothing h.there)
+
+  -- where nothing goes out or comes home
+  outs_stay : w.out ≡ v.out → outs ≡ put outs v.thread w.out
+  outs_stay e = sym (put_again outs v.thread w.out (own_out ∙ sym e))
+
+  pub lock_made : (l x : ℕ) (y : Word) → l < length plan.locks → word_of x ≡ y → n.word ≡ put s.word l y → SameRest s n → w.spare ≡ v.spare → w.out ≡ v.out
+      → FloorHolds plan (stepped b (spot (lock_line l)) x (suc v.thread) cs w keeps) × Makes plan steps v w
+  lock_made l x y low says column rest spares out =
+      let behind : Board = stepped b (spot (lock_line l)) x (suc v.thread) cs w keeps in
+      let r = h.represents in
+      made plan steps b behind v w h was own.role may refl
+      (lock_stepped plan b s n r v.thread v w h.there was own.role own.seat own.others rest.begun cs l x y r.content low says column rest.next rest.items spares
+      (subst (λ o. Shelves (slots_for plan) (turn_word b.words) (home_at b.homes) o r.content) (outs_stay out) r.shelves)
+      (subst (RepresentsObjects plan r.content) (sym rest.objects) r.objects))
+
+  -- the word stays
+  pub lock_seen : (l : ℕ) → l < length plan.locks → n.word ≡ s.word → SameRest s n → w.spare ≡ v.spare → w.out ≡ v.out
+      → FloorHolds plan (stepped b (spot (lock_line l)) (lock_word b.words l) (suc v.thread) cs w keeps) × Makes plan steps v w
+  unfolding RepresentsLocks
+  lock_seen l low column rest spares out = lock_made l (lock_word b.words l) (s.word l) low (h.represents.locks l low) (column ∙ sym (put_again s.word l (s.word l) refl)) rest spares out
+
+  -- an entry is made, by which values that are out may change
+  pub ticket_made : (x : ℕ) (content : ℕ → Slot) → x ≡ suc (word_at b.words ticket_line) → n.word ≡ s.word → n.next ≡ suc s.next → item_with n ≡ item_with s → to_come n ≡ to_come s → suc w.spare ≡ v.spare
+      → Shelves (slots_for plan) (turn_word b.words) (home_at b.homes) (put outs v.thread w.out) content → RepresentsObjects plan content (objects_in n)
+      → FloorHolds plan (stepped b (spot ticket_line) x (suc v.thread) cs w keeps) × Makes plan steps v w
+  ticket_made x content more column next items begun spares shelves objects =
+      let behind : Board = stepped b (spot ticket_line) x (suc v.thread) cs w keeps in
+      made plan steps b behind v w h was own.role may refl
+      (ticket_stepped plan b s n h.represents v.thread v w h.there was own.role own.seat own.others begun cs x content more column next items spares shelves objects)
+
+  -- the states differ at most in who has an item out
+  pub record SameButOut (i : Item) (o : Option ℕ) : Type 0 where
+    pub word : n.word ≡ s.word
+    pub next : n.next ≡ s.next
+    pub items : item_with n ≡ with_then s i o
+    pub objects : objects_in n ≡ objects_in s
+    pub begun : to_come n ≡ to_come s
+
+  -- the value of a free turn goes out
+  pub take_made : (i : Item) (j : ℕ) → slot_of plan i ≡ Some j → turn_word b.words j ≡ 0 → SameButOut i (Some v.thread) → w.spare ≡ v.spare → w.out ≡ (j, h.represents.content j) ∷ v.out
+      → FloorHolds plan (stepped b (spot (turn_line j)) (suc v.thread) (suc v.thread) cs w (takes j (h.represents.content j))) × Makes plan steps v w
+  take_made i j place free rest spares out =
+      let r = h.represents in
+      let x : Slot = r.content j in
+      let behind : Board = stepped b (spot (turn_line j)) (suc v.thread) (suc v.thread) cs w (takes j x) in
+      let low = place_low plan i j place in
+      let fits : j < length b.homes = omega (arith, low, r.sizes.slots) in
+      made plan steps b behind v w h was own.role may refl
+      (turn_stepped plan b s n r v.thread v w h.there was own.role own.seat own.others rest.begun cs j (suc v.thread) (takes j x) r.content low (length-set b.homes j slots.none) rest.word rest.next spares
+      (subst (RepresentsTurns plan (put (turn_word b.words) j (suc v.thread))) (sym rest.items) (turns_changed plan s (turn_word b.words) i j (suc v.thread) (Some v.thread) place refl r.turns))
+      (subst (λ (z : (ℕ → slots.Option Slot) × List (ℕ × Slot)). Shelves (slots_for plan) (put (turn_word b.words) j (suc v.thread)) z.0 (put outs v.thread z.1) r.content)
+      (λ k. (sym (field_set (λ (o : slots.Option Slot). o) b.homes j slots.none slots.none fits) k, (ap (λ os. (j, x) ∷ os) own_out ∙ sym out) k))
+      (shelf_taken (slots_for plan) (turn_word b.words) (home_at b.homes) outs r.content r.shelves j v.thread low free))
+      (subst (RepresentsObjects plan r.content) (sym rest.objects) r.objects))
+
+  -- the value taken last comes home
+  pub give_made : (i : Item) (j : ℕ) (x : Slot) (xs more : List (ℕ × Slot)) → slot_of plan i ≡ Some j → cs ≡ (j, x) ∷ more → v.out ≡ (j, x) ∷ xs → SameButOut i None → w.spare ≡ v.spare → w.out ≡ xs
+      → FloorHolds plan (stepped b (spot (turn_line j)) 0 (suc v.thread) cs w gives) × Makes plan steps v w
+  give_made i j x xs more place carried was_out rest spares out =
+      let r = h.represents in
+      let behind : Board = stepped b (spot (turn_line j)) 0 (suc v.thread) cs w gives in
+      let low = place_low plan i j place in
+      let fits : j < length b.homes = omega (arith, low, r.sizes.slots) in
+      let homes : homes_after b.homes cs gives ≡ set b.homes j (some x) = ap (put_back b.homes) carried in
+      made plan steps b behind v w h was own.role may refl
+      (turn_stepped plan b s n r v.thread v w h.there was own.role own.seat own.others rest.begun cs j 0 gives r.content low (ap (λ hs. length hs) homes ∙ length-set b.homes j (some x)) rest.word rest.next spares
+      (subst (RepresentsTurns plan (put (turn_word b.words) j 0)) (sym rest.items) (turns_changed plan s (turn_word b.words) i j 0 None place refl r.turns))
+      (subst (λ (z : (ℕ → slots.Option Slot) × List (ℕ × Slot)). Shelves (slots_for plan) (put (turn_word b.words) j 0) z.0 (put outs v.thread z.1) r.content)
+      (λ k. (sym (ap home_at homes ∙ field_set (λ (o : slots.Option Slot). o) b.homes j (some x) slots.none fits) k, sym out k))
+      (shelf_given (slots_for plan) (turn_word b.words) (home_at b.homes) outs r.content r.shelves j v.thread x xs (own_out ∙ was_out)))
+      (subst (RepresentsObjects plan r.content) (sym rest.objects) r.objects))

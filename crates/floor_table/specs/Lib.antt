@@ -1,0 +1,7 @@
+pub mod Places
+pub mod Shares
+pub mod Views
+pub mod Shelves
+pub mod Represents
+pub mod Steps
+pub mod Rule

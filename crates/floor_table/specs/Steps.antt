@@ -1,0 +1,86 @@
+-- What the threads of a floor do: each makes steps of `lock_state`, under what a running floor asks beside.
+use Rattle.std.specs.Prelude.{◌≡◌, ℕ, ◌<◌, List, [], ◌∷◌, length, Some, ⊤}
+use mathlib.Core.Option.{some}
+use Rattle.lock_model.specs.Config.{Config}
+use Rattle.lock_model.specs.Plans.{config_of}
+use Rattle.lock_model.specs.declared.plan.Plan.{Plan}
+use Rattle.lock_state.specs.State.{State, Running, start_state}
+use Rattle.lock_state.specs.Facts.{LawfulFloor}
+use Rattle.lock_state.specs.Steps.{Step, May, HasOut, HasSeen, IsFloorStep, after, after_all}
+use Rattle.lock_state.specs.Steps.Items.{Item, item_with}
+use Rattle.lock_laws.specs.Rounds.{LawfulRounds}
+use Rattle.lock_laws.specs.Sleepers.{SleepersFit, by_chain}
+use Rattle.floor_table.specs.declared.slot.Slot.{Slot}
+use Rattle.floor_table.specs.Places.{slot_of}
+use Rattle.floor_table.specs.Shelves.{found}
+use Rattle.floor_table.specs.Views.{OfThread, Knowledge}
+use Rattle.floor_table.specs.Represents.{Board, RepresentsShare, IsOf, Represents, objects_in, thread_in}
+
+-- there is one chain of each sort so far
+abbrev pub chains : ℕ
+chains = 1
+
+-- the states that steps of threads of a floor reach from the start
+pub data IsReached (c : Config) : State → Type 0 where
+  begins : IsReached c (start_state c)
+  goes_on : {s n : State} → IsReached c s → IsFloorStep chains c s n → IsReached c n
+
+-- what holds of a state between two steps of threads of a floor
+pub record IsSound (c : Config) (s : State) : Type 0 where
+  pub reached : IsReached c s
+  pub floor : LawfulFloor c s
+  pub rounds : LawfulRounds chains c s
+  pub sleepers : SleepersFit (by_chain chains s) c s
+
+-- each of the steps may be made by a thread of a floor, where it comes
+abbrev pub MayAll : Config → State → List Step → Type 0
+MayAll c s [] = ⊤
+MayAll c s (step ∷ steps) =
+    May c s step × HasOut chains c s step × HasSeen chains c s step
+    × MayAll c (after c s step) steps
+
+-- 1. What a thread knows of the state
+
+-- it has out what its seat has, which says what the columns say, and nothing else
+pub record HasJust (plan : Plan) (out : List (ℕ × Slot)) (s : State) (t : ℕ) : Type 0 where
+  pub each : (i : Item) (j : ℕ) (x : Slot) → slot_of plan i ≡ Some j → found j out ≡ some x
+      → (item_with s i ≡ Some t) × IsOf (objects_in s) i x
+  pub no_other : (i : Item) → item_with s i ≡ Some t
+      → (j : ℕ) × (slot_of plan i ≡ Some j) × ((x : Slot) × (found j out ≡ some x))
+
+-- the state is one of which a thread's seat may know what it knows. The thread runs
+pub record Fits (plan : Plan) (v : Knowledge) (s : State) : Type 0 where
+  pub sound : IsSound (config_of plan) s
+  pub thread : v.thread < length plan.threads
+  pub share : RepresentsShare v.share s v.thread
+  pub out : HasJust plan v.out s v.thread
+  pub runs : s.wait v.thread ≡ Running
+
+-- whatever the state is, if something holds of it, the thread may make the steps
+abbrev pub MayMake : Plan → Knowledge → (State → Type 0) → List Step → Type 0
+MayMake plan v premise steps =
+    (s : State) → Fits plan v s → premise s → MayAll (config_of plan) s steps
+
+-- 2. What it did
+
+-- The table represented a state in which the thread may make the steps, and then it represented the state behind them:
+-- so what the thread's seat knew came to what it knows.
+pub record Makes (plan : Plan) (steps : List Step) (old new : Knowledge) : Type 0 where
+  pub role : old.role ≡ OfThread
+  pub role_behind : new.role ≡ OfThread
+  pub before : Board
+  pub behind : Board
+  pub state : State
+  pub sound : IsSound (config_of plan) state
+  pub represents : Represents plan before state
+  pub may : MayAll (config_of plan) state steps
+  pub represents_behind : Represents plan behind (after_all (config_of plan) state steps)
+  pub was : thread_in before.views old.thread ≡ old
+  pub is : thread_in behind.views old.thread ≡ new
+
+-- The same of a call that makes several atomic steps, each on the table that it finds: in between other threads make
+-- theirs. Of each atomic step it says which steps of `lock_state` that one is.
+abbrev pub MakesEach : Plan → List (List Step) → Knowledge → Knowledge → Type 0
+MakesEach plan [] old new = old ≡ new
+MakesEach plan (steps ∷ more) old new =
+    (between : Knowledge) × Makes plan steps old between × MakesEach plan more between new

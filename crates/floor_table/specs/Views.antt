@@ -1,0 +1,59 @@
+-- What a seat at a floor's table knows.
+use Rattle.std.specs.Prelude.{ℕ, ◌*◌, List, [], length, map, sum}
+use Rattle.lock_model.specs.Plans.{operations_of}
+use Rattle.lock_model.specs.declared.plan.Op.{Op}
+use Rattle.lock_model.specs.declared.plan.Plan.{Plan}
+use Rattle.lock_model.specs.declared.plan.ThreadDecl.{ThreadDecl}
+use Rattle.floor_table.specs.declared.slot.Slot.{Slot}
+use Rattle.floor_table.specs.Shares.{Share, start_share}
+
+-- whose seat it is: the keeper's, who makes the passes of threads and takes them in; a thread's; or nobody's any more
+pub data Role : Type 0 where
+  OfKeeper : Role
+  OfThread : Role
+  OfNobody : Role
+
+pub record Knowledge : Type 0 where
+  pub role : Role
+  pub plan : Plan
+  -- how many entries may still be made
+  pub spare : ℕ
+  -- of a thread: its number, its share, and what it has out, each with its place
+  pub thread : ℕ
+  pub share : Share
+  pub out : List (ℕ × Slot)
+  -- of the keeper: how many passes it made, and the threads whose passes it took in, with their shares
+  pub made : ℕ
+  pub gathered : List (ℕ × Share)
+
+-- what nobody's seat knows
+abbrev pub nothing : Knowledge
+nothing = record {
+  role = OfNobody;
+  plan = record { classes = []; locks = []; chans = []; threads = []; schedule = [] };
+  spare = 0;
+  thread = 0;
+  share = start_share;
+  out = [];
+  made = 0;
+  gathered = [];
+}
+
+-- room for the entries of a thread: two for each operation
+abbrev pub room_of : List Op → ℕ
+room_of ops = 2 * length ops
+
+abbrev pub room_for : Plan → ℕ → ℕ
+room_for plan t = room_of (operations_of plan t)
+
+abbrev pub room_in_all : List ThreadDecl → ℕ
+room_in_all threads = sum (map (λ d. room_of d.ops) threads)
+
+-- what the first seat knows, before a pass is made
+abbrev pub keeper : Plan → Knowledge
+keeper plan = record nothing { role = OfKeeper; plan = plan; spare = room_in_all plan.threads }
+
+-- what a thread's seat knows at the thread's begin
+abbrev pub first_view : Plan → ℕ → Knowledge
+first_view plan t =
+    record nothing { role = OfThread; plan = plan; spare = room_for plan t; thread = t }

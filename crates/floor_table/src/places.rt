@@ -1,0 +1,44 @@
+//! Where the words of a floor's table are.
+ghost use Rattle.std.specs.Prelude.{◌≡◌, ◌<◌, ◌^◌};
+ghost use Rattle.floor_table.specs.Places.{spot, lock_line, ticket_line, turn_line, words_for};
+
+use lock_model::LockNo;
+
+// How many words a cache line has.
+const LINE: usize = 8;
+
+// The line of the ticket word, behind room for the words of 64 locks and of 32 threads.
+const TICKET: usize = 96;
+
+// The line of the first turn word.
+const TURNS: usize = 128;
+
+/// Where a lock's word is.
+pub fn lock_spot(l: LockNo) -> usize
+    ensures { result ≡ spot (lock_line l.0) }
+{
+    LINE * usize::from(l.0)
+}
+
+/// Where the word of the next ticket is.
+pub fn ticket_spot() -> usize
+    ensures { result ≡ spot ticket_line }
+{
+    LINE * TICKET
+}
+
+/// Where the turn word of a value is.
+pub fn turn_spot(slot: usize) -> usize
+    requires { slot < 2 ^ 32 }
+    ensures { result ≡ spot (turn_line slot) }
+{
+    LINE * (TURNS + slot)
+}
+
+/// How many words a table with so many values has.
+pub fn words_for(slots: usize) -> usize
+    requires { slots < 2 ^ 32 }
+    ensures { result ≡ words_for slots }
+{
+    turn_spot(slots)
+}

@@ -1,0 +1,83 @@
+-- Entries about a cell of a lock that is held: a thread at rest may take the cell, make the entry, and give it back.
+use Rattle.std.proofs.Common.{◌≡◌, ◌≢◌, ℕ, ◌<◌, false, Option, Some, None, [], ◌∷◌, length, refl, sym, ap, ◌∙◌}
+use Rattle.atomic_table.specs.Table.{rest}
+use Rattle.lock_model.specs.Config.{Config}
+use Rattle.lock_model.specs.History.{open_in}
+use Rattle.lock_model.specs.Holds.{Hold, NotHeld, Holds}
+use Rattle.lock_model.specs.Operations.{hold_in}
+use Rattle.lock_model.specs.Plans.{config_of}
+use Rattle.lock_model.specs.declared.event.Event.TheVariants.{Got}
+use Rattle.lock_model.specs.declared.numbers.LockNo.{LockNo}
+use Rattle.lock_model.specs.declared.plan.Mode.TheVariants.{Excl}
+use Rattle.lock_model.specs.declared.plan.Plan.{Plan}
+use Rattle.lock_state.specs.State.{State}
+use Rattle.lock_state.specs.Steps.{TakesItem, Stamps}
+use Rattle.lock_state.specs.Steps.Items.{Item, CellOf, item_with}
+use Rattle.lock_state.specs.Steps.LockWords.{changes_sections}
+use Rattle.floor_table.specs.declared.slot.Slot.{Slot}
+use Rattle.floor_table.specs.declared.slot.Slot.TheVariants.{Record, Cell}
+use Rattle.floor_table.specs.Places.{slot_of}
+use Rattle.floor_table.specs.Represents.{IsOf, objects_in}
+use Rattle.floor_table.specs.Steps.{Fits, MayMake}
+use Rattle.floor_table.specs.Views.{Knowledge}
+use Rattle.floor_table.proofs.HeldLocks.{only_locks}
+use Rattle.lock_floor.specs.declared.tables.Change.{Change}
+use Rattle.lock_floor.specs.declared.tables.Change.TheVariants.{Set, Add}
+use Rattle.lock_floor.specs.Changes.{IsChangeOf, event_of}
+use Rattle.lock_floor.specs.Passes.{IsAtRest}
+use Rattle.lock_floor.specs.Turns.{IsOfKind, Takes}
+use Rattle.lock_floor.proofs.May.{may_take, says_its, holds_it, own_log}
+use Rattle.lock_floor.proofs.Resting.{may_note, rest_with, taken_out}
+
+-- what a change says is of the cell, and of no section
+pub change_of : (t : ℕ) (l : LockNo) (key : ℕ) (change : Change) → IsChangeOf t (event_of l key change) (CellOf l.0 key)
+change_of t l key (Set value) = refl
+change_of t l key (Add amount) = refl
+
+pub change_is_quiet : (l : LockNo) (key : ℕ) (change : Change) → changes_sections (event_of l key change) ≡ false
+change_is_quiet l key (Set value) = refl
+change_is_quiet l key (Add amount) = refl
+
+module _ (plan : Plan) (v : Knowledge) (calm : IsAtRest plan v) (l : LockNo) (key j : ℕ) (place : slot_of plan (CellOf l.0 key) ≡ Some j) where
+  abbrev c : Config
+  c = config_of plan
+
+  abbrev cell : Item
+  cell = CellOf l.0 key
+
+  -- a lock that is held is one of the plan's
+  is_lock : (x : Hold) → hold_in v.share.held l.0 ≡ x → hold_in v.share.held l.0 ≢ NotHeld → (s : State) → Fits plan v s → l.0 < length plan.locks
+  is_lock NotHeld e held s f = absurd (held e)
+  is_lock (Holds mode) e held s f = only_locks c s v.thread l.0 mode f.sound.reached (holds_it plan v s f l.0 ∙ e)
+
+  pub may_take_cell : hold_in v.share.held l.0 ≢ NotHeld → MayMake plan v (λ s. item_with s cell ≡ None) (TakesItem v.thread cell ∷ [])
+  may_take_cell held = may_take plan v cell calm.nothing_out calm.no_round (is_lock (hold_in v.share.held l.0) refl held)
+
+  -- once it has the cell
+  module _ (a : Knowledge) (taken : Takes plan cell j v a) where
+    calm_with : IsAtRest plan (record a { out = [] })
+    calm_with = rest_with plan v a cell j refl calm taken
+
+    has_cell : (s : State) (f : Fits plan a s) (x : Slot) → a.out ≡ (j, x) ∷ rest a.out → (item_with s cell ≡ Some a.thread) × IsOf (objects_in s) cell x
+    has_cell s f x last = says_its plan a cell j x place last s f
+
+    section : (s : State) → Fits plan a s → open_in c s.history a.thread l.0 ≡ hold_in v.share.held l.0
+    section s f = own_log plan a s f l.0 ∙ calm_with.sections l.0 ∙ ap (λ (w : Knowledge). hold_in w.share.held l.0) taken.view
+
+    pub may_change : (change : Change) → hold_in v.share.held l.0 ≡ Holds Excl → MayMake plan a (λ s. Unit {0}) (Stamps a.thread (event_of l key change) ∷ [])
+    may_change (Set value) held =
+        may_note plan a calm_with (event_of l key (Set value)) (λ s f. (section s f ∙ held, (has_cell s f taken.value (taken_out plan v a cell j taken)).0))
+    may_change (Add amount) held =
+        may_note plan a calm_with (event_of l key (Add amount)) (λ s f. (section s f ∙ held, (has_cell s f taken.value (taken_out plan v a cell j taken)).0))
+
+    pub cell_out : (x : Option ℕ) × (a.out ≡ (j, Cell x) ∷ rest a.out)
+    cell_out = go taken.value taken.kind (taken_out plan v a cell j taken)
+      where
+        go : (y : Slot) → IsOfKind cell y → a.out ≡ (j, y) ∷ rest a.out → (x : Option ℕ) × (a.out ≡ (j, Cell x) ∷ rest a.out)
+        go (Cell x) its last = (x, last)
+        go (Record b) its last = absurd its
+
+    pub may_tell : (found : Option ℕ) → a.out ≡ (j, Cell found) ∷ rest a.out → hold_in v.share.held l.0 ≢ NotHeld → MayMake plan a (λ s. Unit {0}) (Stamps a.thread (Got l key found) ∷ [])
+    may_tell found last held =
+        may_note plan a calm_with (Got l key found)
+        (λ s f. let its = has_cell s f (Cell found) last in ((λ unheld. held (sym (section s f) ∙ unheld), its.1), its.0))

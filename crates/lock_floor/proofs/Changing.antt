@@ -1,0 +1,155 @@
+-- An entry that changes the value that was taken last: the value is changed first, and the step of the ticket word commits
+-- it together with the entry.
+use Rattle.std.proofs.Common.{◌≡◌, ◌≢◌, ℕ, suc, ◌+◌, ◌%◌, ◌≤◌, Option, Some, None, List, [], ◌∷◌, refl, sym, ap, ◌∙◌, subst, inl, inr}
+use Rattle.std.proofs.lemmas.Bool.{cases_eq}
+use Rattle.std.proofs.lemmas.Option.{same_Some}
+use Rattle.atomic_table.specs.Table.{Me, rest, Allows}
+use Rattle.lock_laws.proofs.Kit.{put_same, put_other, put_at_same, put_at_other, put_at_beside}
+use Rattle.lock_model.specs.Config.{Config}
+use Rattle.lock_model.specs.History.{added}
+use Rattle.lock_model.specs.Plans.{config_of}
+use Rattle.lock_model.specs.declared.event.Event.{Event}
+use Rattle.lock_model.specs.declared.event.Event.TheVariants.{Set, Added, Base}
+use Rattle.lock_model.specs.declared.numbers.Prio.{Prio}
+use Rattle.lock_model.specs.declared.plan.Plan.{Plan}
+use Rattle.lock_objects.proofs.Records.{with_other_base, none_beyond}
+use Rattle.lock_objects.specs.Represents.{RepresentsRecord, record_in}
+use Rattle.lock_state.specs.Facts.{Lawful}
+use Rattle.lock_state.specs.State.{State, put, put_at}
+use Rattle.lock_state.specs.Steps.{Stamps}
+use Rattle.lock_state.specs.Steps.Items.{Item, TurnstileChain, SleepChain, RecordOf, CellOf, ClassGraph}
+use Rattle.lock_state.specs.Steps.LockWords.{after_stamp, effective_of}
+use Rattle.floor_table.specs.declared.slot.Slot.{Slot}
+use Rattle.floor_table.specs.declared.slot.Slot.TheVariants.{Record, Cell}
+use Rattle.floor_table.specs.Places.{spot, ticket_line, word_at, turn_word, slots_for, slot_of, home_at}
+use Rattle.floor_table.specs.Represents.{Board, Objects, IsOf, RepresentsObjects, objects_in, thread_in}
+use Rattle.floor_table.specs.Rule.{FloorHolds}
+use Rattle.floor_table.specs.Shelves.{found, Shelves}
+use Rattle.floor_table.specs.Steps.{MayMake}
+use Rattle.floor_table.specs.Views.{Knowledge, OfThread, nothing}
+use Rattle.floor_table.proofs.Items.{one_place}
+use Rattle.floor_table.proofs.Lists.{at_or}
+use Rattle.floor_table.proofs.Made.{Finds, Steps, allows}
+use Rattle.floor_table.proofs.Shelved.{found_first, shelf_changed}
+use Rattle.lock_floor.specs.Changes.{IsChangeOf, changed, last_changed}
+use Rattle.lock_floor.proofs.Stamping.{StampedWith, stamps}
+
+-- 1. One object changes
+
+-- what the columns say of the other items stays
+record OnlyChanges (x y : Objects) (i : Item) : Type 0 where
+  others : (k : Item) (z : Slot) → k ≢ i → IsOf x k z → IsOf y k z
+  tables : (l key : ℕ) → CellOf l key ≢ i → y.table l key ≡ x.table l key
+
+object_changed : (plan : Plan) (content : ℕ → Slot) (x y : Objects) (i : Item) (j : ℕ) (z : Slot) → slot_of plan i ≡ Some j → OnlyChanges x y i → IsOf y i z → RepresentsObjects plan content x → RepresentsObjects plan (put content j z) y
+object_changed plan content x y i j z place only is h = record {
+  each = λ k m at.
+      elim (cases_eq j m) [
+        | inl e ↦
+            let same : i ≡ k = one_place plan i k j place (at ∙ ap Some (sym e)) in
+            subst (λ n. IsOf y k (put content j z n)) e (subst (λ w. IsOf y k w) (sym (put_same content j z)) (subst (λ q. IsOf y q z) same is))
+        | inr ne ↦
+            let other : k ≢ i = λ q. ne (same_Some j m (sym place ∙ ap (slot_of plan) (sym q) ∙ at)) in
+            subst (λ w. IsOf y k w) (sym (put_other content j z m ne)) (only.others k (content m) other (h.each k m at))
+      ];
+  unnamed = λ l key none.
+      only.tables l key (λ q. absurd (let e : None ≡ Some j = sym none ∙ ap (slot_of plan) q ∙ place in cc)) ∙ h.unnamed l key none;
+}
+
+-- a key of a table gets a value
+module _ (x : Objects) (a b : ℕ) (v : Option ℕ) where
+  abbrev y : Objects
+  y = record x { table = put_at x.table a b v }
+
+  beside : (l key : ℕ) → CellOf l key ≢ CellOf a b → put_at x.table a b v l key ≡ x.table l key
+  beside l key ne =
+      elim (cases_eq a l) [
+        | inl p ↦ elim (cases_eq b key) [ inl q ↦ absurd (ne (λ i. CellOf (sym p i) (sym q i))) | inr q ↦ put_at_beside x.table a b v l key q ]
+        | inr p ↦ put_at_other x.table a b v l key p
+      ]
+
+  key_changes : OnlyChanges x y (CellOf a b)
+  key_changes = record { others = go; tables = beside }
+    where
+      go : (k : Item) (z : Slot) → k ≢ CellOf a b → IsOf x k z → IsOf y k z
+      go (RecordOf u) (Record r) ne h = h
+      go (RecordOf u) (Cell w) ne h = absurd h
+      go (CellOf l key) (Cell w) ne h = h ∙ sym (beside l key ne)
+      go (CellOf l key) (Record r) ne h = absurd h
+      go (TurnstileChain k) z ne h = absurd h
+      go (SleepChain k) z ne h = absurd h
+      go ClassGraph z ne h = absurd h
+
+-- a thread's record changes
+record_changes : (x y : Objects) (t : ℕ) → ((u : ℕ) → t ≢ u → y.record_of u ≡ x.record_of u) → y.table ≡ x.table → OnlyChanges x y (RecordOf t)
+record_changes x y t same tables = record { others = go; tables = λ l key ne i. tables i l key }
+  where
+    go : (k : Item) (z : Slot) → k ≢ RecordOf t → IsOf x k z → IsOf y k z
+    go (RecordOf u) (Record r) ne h = subst (RepresentsRecord r.value) (sym (same u (λ e. ne (ap RecordOf (sym e))))) h
+    go (RecordOf u) (Cell w) ne h = absurd h
+    go (CellOf l key) (Cell w) ne h = h ∙ sym (λ i. tables i l key)
+    go (CellOf l key) (Record r) ne h = absurd h
+    go (TurnstileChain k) z ne h = absurd h
+    go (SleepChain k) z ne h = absurd h
+    go ClassGraph z ne h = absurd h
+
+-- 2. The object that an event is about
+
+module _ (c : Config) (s : State) (t : ℕ) (lawful : Lawful c s) where
+  abbrev ItsObject : Event → Item → Slot → Type 0
+  ItsObject e i x = OnlyChanges (objects_in s) (objects_in (after_stamp c s t e)) i × IsOf (objects_in (after_stamp c s t e)) i (changed e x)
+
+  cell_is : (l key : ℕ) (x : Slot) (e : Event) (v : Option ℕ) → IsOf (objects_in s) (CellOf l key) x → ((before : Option ℕ) → x ≡ Cell before → before ≡ s.table l key → changed e x ≡ Cell v)
+      → IsOf (record (objects_in s) { table = put_at s.table l key v }) (CellOf l key) (changed e x)
+  cell_is l key (Cell before) e v h is =
+      subst (IsOf (record (objects_in s) { table = put_at s.table l key v }) (CellOf l key)) (sym (is before refl h)) (sym (put_at_same s.table l key v))
+  cell_is l key (Record b) e v h is = absurd h
+
+  base_is : (p : Prio) (x : Slot) → IsOf (objects_in s) (RecordOf t) x → IsOf (objects_in (after_stamp c s t (Base p))) (RecordOf t) (changed (Base p) x)
+  unfolding after_stamp
+  base_is p (Record b) h =
+      subst (RepresentsRecord _) (sym (λ i. record (record_in s t) { base = put_same s.base t p.0 i; effective = put_same s.effective t (effective_of c (s.loan t) p.0) i }))
+      (with_other_base c p.0 (none_beyond c s t lawful) h)
+  base_is p (Cell v) h = absurd h
+
+  its_object : (e : Event) (i : Item) (x : Slot) → IsChangeOf t e i → IsOf (objects_in s) i x → ItsObject e i x
+  unfolding after_stamp
+  its_object (Set l key v) i x is h =
+      subst (λ q. ItsObject (Set l key v) q x) (sym is)
+      (key_changes (objects_in s) l.0 key (Some v), cell_is l.0 key x (Set l key v) (Some v) (subst (λ q. IsOf (objects_in s) q x) is h) (λ before e same. ap (changed (Set l key v)) e))
+  its_object (Added l key n) i x is h =
+      subst (λ q. ItsObject (Added l key n) q x) (sym is) (
+        key_changes (objects_in s) l.0 key (Some (added (s.table l.0 key) n)),
+        cell_is l.0 key x (Added l key n) (Some (added (s.table l.0 key) n)) (subst (λ q. IsOf (objects_in s) q x) is h)
+            (λ before e same. ap (changed (Added l key n)) e ∙ ap (λ o. Cell (Some (added o n))) same),
+      )
+  its_object (Base p) i x is h =
+      subst (λ q. ItsObject (Base p) q x) (sym is) (
+        record_changes (objects_in s) (objects_in (after_stamp c s t (Base p))) t
+            (λ u ne k. record (record_in s u) { base = put_other s.base t p.0 u ne k; effective = put_other s.effective t (effective_of c (s.loan t) p.0) u ne k }) refl,
+        base_is p x (subst (λ q. IsOf (objects_in s) q x) is h),
+      )
+  its_object other i x is h = absurd is
+
+-- 3. So it is stamped with the value changed
+
+pub change_allowed : (plan : Plan) (me : Me Slot Knowledge) (event : Event) (slots id : ℕ) (i : Item) (j : ℕ) (x : Slot) → me.0.role ≡ OfThread → 1 ≤ me.0.spare → IsChangeOf me.0.thread event i → slot_of plan i ≡ Some j
+    → me.0.out ≡ (j, x) ∷ rest me.0.out → me.1 ≡ last_changed event me.0.out → MayMake plan me.0 (λ s. Unit {0}) (Stamps me.0.thread event ∷ [])
+    → Allows (FloorHolds plan) slots id me (spot ticket_line) (λ n. (n + 1) % 18446744073709551616) (StampedWith plan event (λ me. me.1) me)
+change_allowed plan me event slots id i j x was room about place last changes may =
+    allows plan slots id me (spot ticket_line) (λ n. (n + 1) % 18446744073709551616) (StampedWith plan event (λ me. me.1) me) was (λ b h small. step b h)
+  where
+    step : (b : Board) (h : Finds plan me.0 b) → Steps plan me (spot ticket_line) (word_at b.words ticket_line) ((word_at b.words ticket_line + 1) % 18446744073709551616) (StampedWith plan event (λ me. me.1) me) b
+    step b h =
+        let r = h.represents in
+        let t : ℕ = me.0.thread in
+        let outs : ℕ → List (ℕ × Slot) = λ u. (thread_in b.views u).out in
+        let mine : outs t ≡ (j, x) ∷ rest me.0.out = ap (λ (k : Knowledge). k.out) (at_or b.views (suc t) me.0 nothing h.there) ∙ last in
+        let y : Slot = changed event x in
+        let now : me.1 ≡ (j, y) ∷ rest me.0.out = changes ∙ ap (last_changed event) last in
+        let is_its = (h.fits.out.each i j x place (ap (found j) last ∙ found_first j x (rest me.0.out))).1 in
+        let its = its_object (config_of plan) h.state t h.sound.floor.lawful event i x about is_its in
+        stamps plan me was room event (λ me. me.1) b h (put r.content j y) (may h.state h.fits tt)
+        (subst (λ o. Shelves (slots_for plan) (turn_word b.words) (home_at b.homes) (put outs t o) (put r.content j y)) (sym now)
+        (shelf_changed (slots_for plan) (turn_word b.words) (home_at b.homes) outs r.content r.shelves j t x y (rest me.0.out) mine))
+        (object_changed plan r.content (objects_in h.state) (objects_in (after_stamp (config_of plan) h.state t event)) i j y place its.0 its.1 r.objects)

@@ -1,0 +1,221 @@
+-- A floor whose passes were all taken in: nobody has anything out, so that all values are in their places.
+use Rattle.std.proofs.Common.{◌≡◌, ◌≢◌, ℕ, zero, suc, ◌+◌, ◌<◌, ◌≤◌, Bool, true, false, cond, List, [], ◌∷◌, length, map, reverse, get_or, Option, Some, None, refl, sym, ap, ◌∙◌, subst, inl, inr, arith, eq-eqb}
+use Rattle.std.proofs.lemmas.Bool.{cases_eq, cases_lt}
+use Rattle.std.specs.Prelude.{◌==◌, nat_lt, option_map}
+use Rattle.std.specs.Option.{IsSome}
+use Rattle.std.specs.List.{All, list_any}
+use Rattle.std.proofs.lemmas.List.Elements.{All-head, All-tail}
+use mathlib.Core.Option.{some, none, some-ne-none}
+use lib.ListN.{get_elem?}
+use Rattle.std.specs.declared.alloc.Global.{Global}
+use Rattle.std.specs.declared.boxed.Box.{Box}
+use Rattle.atomic_table.specs.Table.{Final, Seen}
+use Rattle.lock_model.specs.Counts.{some as count, one, sum_below, at_option, times}
+use Rattle.lock_model.specs.History.{entries_of}
+use Rattle.lock_model.specs.Plans.{config_of}
+use Rattle.lock_model.specs.Queues.{lock_queue, names_turnstile, names_sleep_queue}
+use Rattle.lock_model.specs.declared.plan.Plan.{Plan}
+use Rattle.lock_model.specs.declared.plan.QueueName.{QueueName}
+use Rattle.lock_objects.specs.Represents.{RecordColumns, RepresentsRecord, record_in, loan_of}
+use Rattle.lock_state.specs.Facts.{TurnstileIsLent, SleepQueueIsLent, OneTurnstileEach, OneSleepQueueEach, StandingIsQueued, LoansAreWithOwners, BasesReplay, LogsAreParts}
+use Rattle.lock_state.specs.Facts.Queues.{turnstile_places, sleep_queue_places}
+use Rattle.lock_state.specs.State.{State, Loan, Wait, Running, Queued, start_state}
+use Rattle.lock_state.specs.Steps.Items.{RecordOf, CellOf}
+use Rattle.lock_laws.proofs.Kit.{sum_below-two, one_same}
+use Rattle.thread_records.specs.Loans.{loan_for}
+use Rattle.thread_records.specs.Records.{Record}
+use Rattle.thread_records.specs.declared.record.ThreadRec.{ThreadRec}
+use Rattle.turnstile_core.specs.Seen.{Terms}
+use Rattle.floor_table.specs.declared.slot.Slot.{Slot}
+use Rattle.floor_table.specs.declared.slot.Slot.TheVariants.{Record as Recorded, Cell}
+use Rattle.floor_table.specs.Places.{slots_for, cells_of, turn_word}
+use Rattle.floor_table.specs.Shares.{Share, ShareColumns}
+use Rattle.floor_table.specs.Views.{OfThread, Knowledge, nothing}
+use Rattle.floor_table.specs.Represents.{Board, IsOf, objects_in, seat, keeper_in, thread_in, total, live, one_thread, IsTakenIn, ToCome, to_come, Represents}
+use Rattle.floor_table.specs.Rule.{FloorHolds}
+use Rattle.floor_table.specs.Shelves.{found}
+use Rattle.floor_table.specs.Steps.{IsSound}
+use Rattle.floor_table.proofs.Items.{place_low}
+use Rattle.floor_table.proofs.Known.{all_run}
+use Rattle.floor_table.proofs.Lists.{at_or, or_at}
+use Rattle.lock_floor.specs.Closings.{IsHome}
+use Rattle.lock_floor.proofs.CellPlaces.{cell_at}
+use Rattle.lock_floor.proofs.Taking.{record_at}
+use Rattle.lock_floor.proofs.Counting.{stands_once, stands_there}
+
+-- 1. A record at home
+
+no_loans : (ts : List Terms) → ((l : ℕ) → option_map loan_of (loan_for l ts) ≡ None) → ts ≡ []
+no_loans [] h = refl
+no_loans (t ∷ ts) h =
+    let first : loan_for t.lock (t ∷ ts) ≡ Some t = ap (λ b. cond b (Some t) (loan_for t.lock ts)) (eq-eqb t.lock t.lock refl) in
+    absurd (let z : Some (loan_of t) ≡ None = sym (ap (option_map loan_of) first) ∙ h t.lock in cc)
+
+one_there : (o : Option ℕ) → count o + 0 ≡ 1 → IsSome o
+one_there None e = absurd (omega (arith, e))
+one_there (Some n) e = refl
+
+nowhere : (wait : Wait) (o : Option QueueName) → wait ≡ Running → ((q : QueueName) → o ≡ Some q → wait ≡ Queued) → o ≡ None
+nowhere wait None runs h = refl
+nowhere wait (Some q) runs h = absurd (let z : Running ≡ Queued = sym runs ∙ h q refl in cc)
+
+unlent : (owner : Option ℕ) (t : ℕ) (o : Option Loan) → owner ≡ None → ((x : Loan) → o ≡ Some x → owner ≡ Some t) → o ≡ None
+unlent owner t None e h = refl
+unlent owner t (Some x) e h = absurd (let z : None ≡ Some t = sym e ∙ h x refl in cc)
+
+module _ (plan : Plan) (s : State) (sound : IsSound (config_of plan) s) (begun : to_come s ≡ to_come (start_state (config_of plan))) where
+  stands_nowhere : (t : ℕ) → s.blocked_on t ≡ None
+  unfolding StandingIsQueued
+  stands_nowhere t = nowhere (s.wait t) (s.blocked_on t) (all_run (config_of plan) s t begun) (sound.floor.lawful.waits.standing_is_queued t)
+
+  no_owner : (l : ℕ) → s.owner (lock_queue l) ≡ None
+  unfolding start_state
+  no_owner l = ap (λ (x : ToCome). x.owner (lock_queue l)) begun
+
+  lends_nothing : (t l : ℕ) → s.loan t l ≡ None
+  unfolding LoansAreWithOwners
+  lends_nothing t l = unlent (s.owner (lock_queue l)) t (s.loan t l) (no_owner l) (sound.floor.lawful.loans.loans_are_with_owners t l)
+
+  has_turnstile : (t : ℕ) → IsSome (s.turnstile t)
+  unfolding TurnstileIsLent
+  has_turnstile t = one_there (s.turnstile t) (ap (λ o. count (s.turnstile t) + one (names_turnstile (config_of plan) o)) (sym (stands_nowhere t)) ∙ sound.floor.lawful.queues.turnstile_is_lent t)
+
+  has_sleep_queue : (t : ℕ) → IsSome (s.sleep_queue t)
+  unfolding SleepQueueIsLent
+  has_sleep_queue t = one_there (s.sleep_queue t) (ap (λ o. count (s.sleep_queue t) + one (names_sleep_queue (config_of plan) o)) (sym (stands_nowhere t)) ∙ sound.floor.lawful.queues.sleep_queue_is_lent t)
+
+  pub home_of : (t : ℕ) (r : Record) → RepresentsRecord r (record_in s t) → IsHome plan s.history t r
+  unfolding BasesReplay
+  home_of t r h = record {
+    thread = ap (λ (x : RecordColumns). x.thread) h.columns;
+    base = ap (λ (x : RecordColumns). x.base) h.columns ∙ sound.floor.lawful.books.bases_replay t;
+    turnstile = subst IsSome (sym (ap (λ (x : RecordColumns). x.turnstile) h.columns)) (has_turnstile t);
+    sleep_queue = subst IsSome (sym (ap (λ (x : RecordColumns). x.sleep_queue) h.columns)) (has_sleep_queue t);
+    no_loans = no_loans r.loans (λ l. ap (λ (x : RecordColumns). x.loan l) h.columns ∙ lends_nothing t l);
+    nowhere = ap (λ (x : RecordColumns). x.blocked_on) h.columns ∙ stands_nowhere t;
+  }
+
+  -- 2. No two threads have one turnstile, or one sleep queue
+
+  differ : (column : ℕ → Option ℕ) → ((n : ℕ) → sum_below (length plan.threads) (λ t. at_option n (column t)) ≤ 1) → ((t : ℕ) → IsSome (column t)) → (t u : ℕ) → t < length plan.threads → u < length plan.threads → column t ≡ column u → t ≡ u
+  differ column once there t u i j same = go (column t) refl (there t)
+    where
+      go : (o : Option ℕ) → column t ≡ o → IsSome o → t ≡ u
+      go None e h = absurd (let z : false ≡ true = h in cc)
+      go (Some n) e h = elim (cases_eq t u) [
+        | inl q ↦ q
+        | inr ne ↦
+            let first : at_option n (column t) ≡ 1 = ap (at_option n) e ∙ one_same n in
+            let second : at_option n (column u) ≡ 1 = ap (at_option n) (sym same) ∙ first in
+            absurd (let both = sum_below-two (length plan.threads) (λ k. at_option n (column k)) t u i j ne in let most = once n in omega (arith, first, second, both, most))
+      ]
+
+  most_one : (b : Bool) → one b ≤ 1
+  most_one true = omega arith
+  most_one false = omega arith
+
+  pub turnstiles_differ : (t u : ℕ) → t < length plan.threads → u < length plan.threads → s.turnstile t ≡ s.turnstile u → t ≡ u
+  unfolding OneTurnstileEach turnstile_places
+  turnstiles_differ = differ s.turnstile (λ n. let p = sound.floor.lawful.queues.one_turnstile_each n in let m = most_one (nat_lt n (length plan.threads)) in omega (arith, p, m)) has_turnstile
+
+  pub sleep_queues_differ : (t u : ℕ) → t < length plan.threads → u < length plan.threads → s.sleep_queue t ≡ s.sleep_queue u → t ≡ u
+  unfolding OneSleepQueueEach sleep_queue_places
+  sleep_queues_differ = differ s.sleep_queue (λ n. let p = sound.floor.lawful.queues.one_sleep_queue_each n in let m = most_one (nat_lt n (length plan.threads)) in omega (arith, p, m)) has_sleep_queue
+
+-- 3. All passes are taken in
+
+live_at : (vs : List Knowledge) (i : ℕ) → live (seat vs i) ≤ total live vs
+live_at [] i = omega arith
+live_at (v ∷ vs) zero = omega arith
+live_at (v ∷ vs) (suc i) = let p = live_at vs i in omega (arith, p)
+
+record_there : (s : State) (t : ℕ) (x : Slot) → IsOf (objects_in s) (RecordOf t) x → (b : Box ThreadRec Global) × (x ≡ Recorded b) × RepresentsRecord b.value (record_in s t)
+record_there s t (Recorded b) h = (b, refl, h)
+record_there s t (Cell value) h = absurd h
+
+cell_there : (s : State) (l key : ℕ) (x : Slot) → IsOf (objects_in s) (CellOf l key) x → x ≡ Cell (s.table l key)
+cell_there s l key (Recorded b) h = absurd h
+cell_there s l key (Cell value) h = ap Cell h
+
+module _ (plan : Plan) (v : Knowledge) (ws : List ℕ) (xs : List Slot) (final : Final (Seen (FloorHolds plan) 0 v) ws xs) (all : length v.gathered ≡ length plan.threads) where
+  abbrev b : Board
+  b = final.0
+
+  abbrev pub left : State
+  left = final.1.0.0
+
+  abbrev pub sound : IsSound (config_of plan) left
+  sound = final.1.0.1
+
+  abbrev pub represents : Represents plan b left
+  represents = final.1.0.2
+
+  keeper : keeper_in b.views ≡ v
+  keeper = at_or b.views 0 v nothing final.1.1
+
+  gathered : (keeper_in b.views).gathered ≡ v.gathered
+  gathered = ap (λ (k : Knowledge). k.gathered) keeper
+
+  all_made : ((keeper_in b.views).made ≡ length plan.threads) × (total live b.views ≡ 0)
+  all_made = let n = ap length gathered in let seats = represents.seats in (omega (arith, n, all, seats.counted, seats.few), omega (arith, n, all, seats.counted, seats.few))
+
+  nobody : (t : ℕ) → (thread_in b.views t).role ≢ OfThread
+  nobody t e = let p = live_at b.views (suc t) in let q : live (thread_in b.views t) ≡ 1 = ap one_thread e in omega (arith, p, q, all_made.1)
+
+  free : (j : ℕ) → j < slots_for plan → turn_word b.words j ≡ 0
+  free j low = go (turn_word b.words j) refl
+    where
+      go : (n : ℕ) → turn_word b.words j ≡ n → n ≡ 0
+      go zero e = refl
+      go (suc t) e = absurd (some-ne-none (represents.content j) (sym (represents.shelves.away j t low e) ∙ ap (found j) (represents.seats.none_out t (nobody t))))
+
+  in_place : (j : ℕ) → j < slots_for plan → get_elem? xs j ≡ some (represents.content j)
+  in_place j low = final.4 j (represents.content j) (or_at b.homes j none (omega (arith, low, represents.sizes.slots)) ∙ ap some (represents.shelves.at_home j low (free j low)))
+
+  pub record_home : (t : ℕ) → t < length plan.threads → (b : Box ThreadRec Global) × (get_elem? xs t ≡ some (Recorded b)) × RepresentsRecord b.value (record_in left t)
+  record_home t low =
+      let place = record_at plan t low in
+      let p = record_there left t (represents.content t) (represents.objects.each (RecordOf t) t place) in
+      (p.0, in_place t (place_low plan (RecordOf t) t place) ∙ ap some p.1, p.2)
+
+  pub cell_home : (i : ℕ) (d : ℕ × ℕ) → i < length (cells_of plan) → get_elem? xs (length plan.threads + i) ≡ some (Cell (left.table (get_or (cells_of plan) i d).0 (get_or (cells_of plan) i d).1))
+  cell_home i d low =
+      let x : ℕ × ℕ = get_or (cells_of plan) i d in
+      let j : ℕ = length plan.threads + i in
+      let place = cell_at plan i d low in
+      in_place j (place_low plan (CellOf x.0 x.1) j place) ∙ ap some (cell_there left x.0 x.1 (represents.content j) (represents.objects.each (CellOf x.0 x.1) j place))
+
+  pub places : length xs ≡ slots_for plan
+  places = sym final.3 ∙ represents.sizes.slots
+
+  -- 4. Logs
+
+  taken_in : All (λ g. IsTakenIn b.views left g.0 g.1) v.gathered
+  taken_in = subst (All (λ g. IsTakenIn b.views left g.0 g.1)) gathered represents.seats.taken_in
+
+  below : All (λ (g : ℕ × Share). g.0 < length plan.threads) v.gathered
+  below i d low = let h = taken_in i d low in subst (λ n. (get_or v.gathered i d).0 < n) all_made.0 h.made
+
+  named : (t : ℕ) → t < length plan.threads → list_any (λ (g : ℕ × Share). g.0 == t) v.gathered ≡ true
+  named t low = subst (λ gs. list_any (λ (g : ℕ × Share). g.0 == t) gs ≡ true) gathered (represents.seats.each t (subst (λ n. t < n) (sym all_made.0) low) (nobody t))
+
+  pub once : (t : ℕ) → times t (map (λ g. g.0) v.gathered) ≤ 1
+  once = stands_once (λ (g : ℕ × Share). g.0) (length plan.threads) v.gathered all below named
+
+  its_log : (t : ℕ) (x : Share) → IsTakenIn b.views left t x → x.log ≡ entries_of left.history t
+  unfolding LogsAreParts
+  its_log t x h = ap (λ (y : ShareColumns). y.log) h.share.columns ∙ sound.floor.lawful.books.logs_are_parts t
+
+  pub no_other : (t : ℕ) → entries_of left.history t ≢ [] → times t (map (λ g. g.0) v.gathered) ≡ 1
+  unfolding LogsAreParts
+  no_other t some_entry = elim (cases_lt t (length plan.threads)) [
+    | inl low ↦ stands_there (λ (g : ℕ × Share). g.0) (length plan.threads) v.gathered all below named t low
+    | inr past ↦ absurd (some_entry (sym (sound.floor.lawful.books.logs_are_parts t) ∙ ap (λ (y : ShareColumns). y.log) (represents.seats.unmade t (subst (λ n. n ≤ t) (sym all_made.0) past))))
+  ]
+
+  pub parts : map (λ g. reverse g.1.log) v.gathered ≡ map (λ t. reverse (entries_of left.history t)) (map (λ g. g.0) v.gathered)
+  parts = go v.gathered taken_in
+    where
+      go : (gs : List (ℕ × Share)) → All (λ g. IsTakenIn b.views left g.0 g.1) gs → map (λ g. reverse g.1.log) gs ≡ map (λ t. reverse (entries_of left.history t)) (map (λ g. g.0) gs)
+      go [] h = refl
+      go (g ∷ gs) h = λ i. reverse (its_log g.0 g.1 (All-head (λ k. IsTakenIn b.views left k.0 k.1) g gs h) i) ∷ go gs (All-tail (λ k. IsTakenIn b.views left k.0 k.1) g gs h) i

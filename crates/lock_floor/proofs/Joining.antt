@@ -1,0 +1,173 @@
+-- The rule when the keeper takes a pass in, and what it tells the keeper then.
+use Rattle.std.proofs.Common.{◌≡◌, ◌≢◌, ℕ, zero, suc, ◌<◌, ◌≤◌, Bool, true, false, List, [], ◌∷◌, ◌++◌, length, set, refl, sym, ap, ◌∙◌, subst, inl, inr, arith, length-set, length-append, get_or-set_same, get_or-set_other}
+use Rattle.std.proofs.lemmas.Bool.{cases_eq, eq-eqb}
+use Rattle.std.proofs.lemmas.List.Elements.{All-push}
+use Rattle.std.proofs.lemmas.List.Folds.{list_any-append}
+use Rattle.std.specs.Prelude.{◌==◌, ◌||◌}
+use Rattle.std.specs.List.{All, list_any}
+use mathlib.Core.Option.{some}
+use lib.ListN.{get_elem?}
+use Rattle.atomic_table.specs.Table.{Me, Joins, Allows, keeps}
+use Rattle.lock_model.specs.declared.plan.Plan.{Plan}
+use Rattle.lock_state.specs.State.{State}
+use Rattle.floor_table.specs.declared.slot.Slot.{Slot}
+use Rattle.floor_table.specs.Places.{slots_for, turn_word, home_at}
+use Rattle.floor_table.specs.Shares.{Share}
+use Rattle.floor_table.specs.Shelves.{Shelves}
+use Rattle.floor_table.specs.Views.{OfThread, OfNobody, Knowledge, nothing}
+use Rattle.floor_table.specs.Represents.{Board, keeper_in, thread_in, spare, live, one_thread, IsSeatOf, IsTakenIn, RepresentsSeats, Represents}
+use Rattle.floor_table.specs.Rule.{FloorHolds}
+use Rattle.floor_table.proofs.Lists.{inside, at_or}
+use Rattle.floor_table.proofs.Seats.{total_set}
+use Rattle.lock_floor.specs.Views.{with_pass_taken}
+use Rattle.lock_floor.proofs.Taking.{nothing_stepped}
+
+-- 1. A pass fewer
+
+module _ (plan : Plan) (b : Board) (s : State) (r : Represents plan b s) (v w : Knowledge) (t : ℕ) (at : get_elem? b.views 0 ≡ some v) (there : get_elem? (set b.views 0 (with_pass_taken v w)) (suc t) ≡ some w) (was : w.role ≡ OfThread) (rest : w.out ≡ []) where
+  abbrev vs : List Knowledge
+  vs = b.views
+
+  abbrev both : Knowledge
+  both = with_pass_taken v w
+
+  abbrev between : List Knowledge
+  between = set vs 0 both
+
+  abbrev new : List Knowledge
+  new = set between (suc t) nothing
+
+  old_keeper : keeper_in vs ≡ v
+  old_keeper = at_or vs 0 v nothing at
+
+  new_keeper : keeper_in new ≡ both
+  new_keeper = get_or-set_other between (suc t) 0 nothing nothing (λ e. omega (arith, e)) ∙ get_or-set_same vs 0 both nothing (inside vs 0 v at)
+
+  old_thread : thread_in vs t ≡ w
+  old_thread = sym (get_or-set_other vs 0 (suc t) both nothing (λ e. omega (arith, e))) ∙ at_or between (suc t) w nothing there
+
+  new_thread : thread_in new t ≡ nothing
+  new_thread = get_or-set_same between (suc t) nothing nothing (inside between (suc t) w there)
+
+  others_stay : (u : ℕ) → u ≢ t → thread_in new u ≡ thread_in vs u
+  others_stay u ne = get_or-set_other between (suc t) (suc u) nothing nothing (λ e. ne (omega (arith, e))) ∙ get_or-set_other vs 0 (suc u) both nothing (λ e. omega (arith, e))
+
+  same_made : (keeper_in new).made ≡ (keeper_in vs).made
+  same_made = ap (λ (k : Knowledge). k.made) new_keeper ∙ sym (ap (λ (k : Knowledge). k.made) old_keeper)
+
+  longer : (keeper_in new).gathered ≡ (keeper_in vs).gathered ++ (w.thread, w.share) ∷ []
+  longer = ap (λ (k : Knowledge). k.gathered) new_keeper ∙ ap (λ (k : Knowledge). k.gathered ++ (w.thread, w.share) ∷ []) (sym old_keeper)
+
+  -- what nobody's seat has too, the seat of the pass had
+  field_stays : {B : Type 0} (f : Knowledge → B) → f nothing ≡ f w → (u : ℕ) → f (thread_in new u) ≡ f (thread_in vs u)
+  field_stays f same u =
+      elim (cases_eq u t) [
+        | inl e ↦ ap (λ j. f (thread_in new j)) e ∙ ap f new_thread ∙ same ∙ ap f (sym old_thread) ∙ ap (λ j. f (thread_in vs j)) (sym e)
+        | inr ne ↦ ap f (others_stay u ne)
+      ]
+
+  its : IsSeatOf w s t
+  its = subst (λ (k : Knowledge). IsSeatOf k s t) old_thread (r.seats.thread t (ap (λ (k : Knowledge). k.role) old_thread ∙ was))
+
+  low : t < (keeper_in vs).made
+  low = let p = inside between (suc t) w there in omega (arith, p, length-set vs 0 both, r.seats.made)
+
+  gone : (u : ℕ) → u ≡ t → (thread_in new u).role ≢ OfThread
+  gone u q e = absurd (let z : OfNobody ≡ OfThread = sym (ap (λ j. (thread_in new j).role) q ∙ ap (λ (k : Knowledge). k.role) new_thread) ∙ e in cc)
+
+  -- so a seat that is a thread's now was it before
+  was_thread : (u : ℕ) → (thread_in new u).role ≡ OfThread → (u ≢ t) × ((thread_in vs u).role ≡ OfThread)
+  was_thread u e =
+      let ne : u ≢ t = λ q. gone u q e in
+      (ne, ap (λ (k : Knowledge). k.role) (sym (others_stay u ne)) ∙ e)
+
+  taken_stays : (u : ℕ) (x : Share) → IsTakenIn vs s u x → IsTakenIn new s u x
+  taken_stays u x h = record {
+    made = subst (λ n. u < n) (sym same_made) h.made;
+    gone = λ e. h.gone (was_thread u e).1;
+    share = h.share;
+  }
+
+  taken_now : IsTakenIn new s w.thread w.share
+  taken_now = subst (λ u. IsTakenIn new s u w.share) (sym its.thread) record {
+    made = subst (λ n. t < n) (sym same_made) low;
+    gone = gone t refl;
+    share = its.share;
+  }
+
+  all_taken : All (λ g. IsTakenIn new s g.0 g.1) ((keeper_in vs).gathered ++ (w.thread, w.share) ∷ [])
+  all_taken = All-push (λ (g : ℕ × Share). IsTakenIn new s g.0 g.1) (keeper_in vs).gathered (w.thread, w.share) (λ i d h. taken_stays _ _ (r.seats.taken_in i d h)) taken_now
+
+  named : (u : ℕ) → u < (keeper_in new).made → (thread_in new u).role ≢ OfThread → list_any (λ g. g.0 == u) ((keeper_in vs).gathered ++ (w.thread, w.share) ∷ []) ≡ true
+  named u h none =
+      let parts = list_any-append (λ (g : ℕ × Share). g.0 == u) (keeper_in vs).gathered ((w.thread, w.share) ∷ []) in
+      elim (cases_eq u t) [
+        | inl e ↦ parts ∙ ap (λ x. list_any (λ (g : ℕ × Share). g.0 == u) (keeper_in vs).gathered || (x || false)) (eq-eqb w.thread u (its.thread ∙ sym e)) ∙ or_true (list_any (λ (g : ℕ × Share). g.0 == u) (keeper_in vs).gathered)
+        | inr ne ↦ parts ∙ ap (λ x. x || ((w.thread == u) || false)) (r.seats.each u (subst (λ n. u < n) same_made h) (λ e. none (ap (λ (k : Knowledge). k.role) (others_stay u ne) ∙ e)))
+      ]
+    where
+      or_true : (x : Bool) → (x || true) ≡ true
+      or_true true = refl
+      or_true false = refl
+
+  seats_joined : RepresentsSeats plan new s
+  seats_joined = record {
+    keeper = ap (λ (k : Knowledge). k.role) new_keeper ∙ sym (ap (λ (k : Knowledge). k.role) old_keeper) ∙ r.seats.keeper;
+    made = length-set between (suc t) nothing ∙ length-set vs 0 both ∙ r.seats.made ∙ ap suc (sym same_made);
+    few = subst (λ n. n ≤ length plan.threads) (sym same_made) r.seats.few;
+    thread = λ u e. let p = was_thread u e in subst (λ (k : Knowledge). IsSeatOf k s u) (sym (others_stay u p.0)) (r.seats.thread u p.1);
+    unmade = λ u past. r.seats.unmade u (subst (λ n. n ≤ u) same_made past);
+    taken_in = subst (All (λ g. IsTakenIn new s g.0 g.1)) (sym longer) all_taken;
+    each = λ u h none. subst (λ gs. list_any (λ g. g.0 == u) gs ≡ true) (sym longer) (named u h none);
+    none_out = λ u none. elim (cases_eq u t) [
+      | inl e ↦ ap (λ j. (thread_in new j).out) e ∙ ap (λ (k : Knowledge). k.out) new_thread
+      | inr ne ↦ ap (λ (k : Knowledge). k.out) (others_stay u ne) ∙ r.seats.none_out u (λ e. none (ap (λ (k : Knowledge). k.role) (others_stay u ne) ∙ e))
+    ];
+    counted =
+        let first = total_set live vs 0 v both at in
+        let second = total_set live between (suc t) w nothing there in
+        let one : live w ≡ 1 = ap one_thread was in
+        let n = ap length longer ∙ length-append (keeper_in vs).gathered ((w.thread, w.share) ∷ []) in
+        omega (arith, first, second, one, n, same_made, r.seats.counted);
+  }
+
+  represents_joined : Represents plan (record { words = b.words; homes = b.homes; views = new }) s
+  represents_joined = record {
+    sizes = record { words = r.sizes.words; slots = r.sizes.slots; few_locks = r.sizes.few_locks; few_threads = r.sizes.few_threads };
+    locks = r.locks;
+    ticket = r.ticket;
+    room =
+        let first = total_set spare vs 0 v both at in
+        let second = total_set spare between (suc t) w nothing there in
+        omega (arith, first, second, r.room);
+    turns = r.turns;
+    content = r.content;
+    shelves = subst (λ o. Shelves (slots_for plan) (turn_word b.words) (home_at b.homes) o r.content) (λ i u. sym (field_stays (λ (k : Knowledge). k.out) (sym rest) u) i) r.shelves;
+    objects = r.objects;
+    seats = seats_joined;
+    begun = r.begun;
+  }
+
+pub joins : (plan : Plan) (v : Knowledge) (i : ℕ) (w : Knowledge) → w.role ≡ OfThread → w.out ≡ [] → Joins (FloorHolds plan) 0 v i w (with_pass_taken v w) nothing
+joins plan v zero w was rest b holds at apart there = absurd (apart refl)
+joins plan v (suc t) w was rest b holds at apart there = (holds.0, holds.1, represents_joined plan b holds.0 holds.2 v w t at there was rest)
+
+-- 2. No more passes are taken in than the plan has threads
+
+-- what a read tells
+abbrev pub Asked : Plan → Me Slot Knowledge → ℕ → Me Slot Knowledge → Type 0
+Asked plan me found behind = (behind ≡ me) × (length me.0.gathered ≤ length plan.threads)
+
+pub ask_allowed : (plan : Plan) (slots : ℕ) (me : Me Slot Knowledge) → Allows (FloorHolds plan) slots 0 me 0 (λ n. n) (Asked plan me)
+ask_allowed plan slots me b holds deep at small = (
+  me.0,
+  keeps,
+  tt,
+  subst (FloorHolds plan) (sym (nothing_stepped b 0 0 me.1 me.0 at)) holds,
+  (
+    refl,
+    let seats = holds.2.seats in
+        let n = ap (λ (k : Knowledge). length k.gathered) (at_or b.views 0 me.0 nothing at) in
+        omega (arith, n, seats.counted, seats.few),
+  ),
+)

@@ -1,0 +1,340 @@
+-- The rule when a floor is made, and when a pass is.
+use Rattle.std.proofs.Common.{◌≡◌, ◌≢◌, ℕ, zero, suc, ◌+◌, ◌*◌, ◌<◌, ◌≤◌, Option, Some, None, true, List, [], ◌∷◌, ◌++◌, length, get_or, set, drop, unwrap_or, sum, map, replicate, refl, sym, ap, ◌∙◌, subst, inl, inr, arith, length-set, length-append, get_or-set_same, get_or-set_other}
+use Rattle.std.proofs.lemmas.List.{length-replicate, length-map}
+use Rattle.std.proofs.lemmas.Bool.{cases_eq, cases_lt}
+use Rattle.std.proofs.lemmas.List.Sums.{sum_by-cons}
+use Rattle.std.specs.Prelude.{◌==◌, slice_get}
+use lib.ListN.{get_elem?}
+use Rattle.std.specs.List.{list_any}
+use mathlib.Core.Option.{some, some-ne-none}
+use Rattle.atomic_table.specs.Table.{opening, Splits}
+use Rattle.lock_model.specs.Plans.{config_of, declared_base}
+use Rattle.lock_model.specs.declared.plan.Plan.{Plan}
+use Rattle.lock_model.specs.declared.plan.ThreadDecl.{ThreadDecl}
+use Rattle.lock_model.specs.Operations.{IsProper}
+use Rattle.lock_model.specs.Words.{word_of}
+use Rattle.lock_objects.specs.Represents.{RepresentsRecord}
+use Rattle.lock_state.specs.State.{State, start_state}
+use Rattle.lock_state.specs.Steps.Items.{Item, TurnstileChain, SleepChain, RecordOf, CellOf, ClassGraph, item_with}
+use Rattle.thread_records.specs.Records.{Record, made}
+use Rattle.floor_table.specs.declared.slot.Slot.{Slot}
+use Rattle.floor_table.specs.declared.slot.Slot.TheVariants.{Record as Recorded, Cell}
+use Rattle.floor_table.specs.Places.{spot, turn_line, ticket_line, words_for, slots_for, slot_of, taker, turn_word, lock_word, home_at}
+use Rattle.floor_table.specs.Shares.{Share}
+use Rattle.floor_table.specs.Shelves.{Shelves}
+use Rattle.floor_table.specs.Views.{OfThread, OfNobody, Knowledge, nothing, room_of, room_for, room_in_all, keeper}
+use Rattle.floor_table.specs.Represents.{Board, RepresentsLocks, RepresentsTurns, taken_from, RepresentsObjects, IsOf, objects_in, seat, keeper_in, thread_in, total, spare, live, IsSeatOf, IsTakenIn, RepresentsSeats, Represents}
+use Rattle.floor_table.specs.Rule.{FloorHolds}
+use Rattle.floor_table.proofs.Items.{record_place, cell_place, place_low}
+use Rattle.floor_table.proofs.Lists.{inside, at_or, or_past, snoc_before, snoc_there}
+use Rattle.floor_table.proofs.Seats.{total_set}
+use Rattle.floor_table.proofs.Sound.{sound_begins}
+use Rattle.lock_floor.specs.First.{IsFirst}
+use Rattle.lock_floor.specs.Views.{with_pass_made, new_pass}
+
+-- 1. A pass more
+
+total_snoc : (f : Knowledge → ℕ) (vs : List Knowledge) (x : Knowledge) → total f (vs ++ x ∷ []) ≡ total f vs + f x
+total_snoc f [] x = omega arith
+total_snoc f (v ∷ vs) x = let p = total_snoc f vs x in omega arith
+
+module _ (plan : Plan) (b : Board) (s : State) (r : Represents plan b s) (v : Knowledge) (at : get_elem? b.views 0 ≡ some v) (few : v.made < length plan.threads) (mine : v.plan ≡ plan) where
+  abbrev vs : List Knowledge
+  vs = b.views
+
+  abbrev left : Knowledge
+  left = with_pass_made v
+
+  abbrev right : Knowledge
+  right = new_pass v
+
+  abbrev new : List Knowledge
+  new = set vs 0 left ++ right ∷ []
+
+  old_keeper : keeper_in vs ≡ v
+  old_keeper = at_or vs 0 v nothing at
+
+  size : length (set vs 0 left) ≡ suc v.made
+  size = length-set vs 0 left ∙ r.seats.made ∙ ap (λ (k : Knowledge). suc k.made) old_keeper
+
+  new_keeper : keeper_in new ≡ left
+  new_keeper = snoc_before (set vs 0 left) right nothing 0 (omega (arith, size)) ∙ get_or-set_same vs 0 left nothing (inside vs 0 v at)
+
+  new_thread : thread_in new v.made ≡ right
+  new_thread = ap (seat new) (sym size) ∙ snoc_there (set vs 0 left) right nothing
+
+  longer : length new ≡ suc (suc v.made)
+  longer = length-append (set vs 0 left) (right ∷ []) ∙ (omega (arith, size))
+
+  -- the other threads' seats stay
+  others_stay : (t : ℕ) → t ≢ v.made → thread_in new t ≡ thread_in vs t
+  others_stay t ne =
+      elim (cases_lt t v.made) [
+        | inl low ↦ snoc_before (set vs 0 left) right nothing (suc t) (omega (arith, size, low)) ∙ get_or-set_other vs 0 (suc t) left nothing (λ e. omega (arith, e))
+        | inr past ↦ or_past new (suc t) nothing (omega (arith, longer, past, ne)) ∙ sym (or_past vs (suc t) nothing (omega (arith, size, length-set vs 0 left, past)))
+      ]
+
+  -- a field that a new pass has as nobody has it
+  field_stays : {B : Type 0} (f : Knowledge → B) → f right ≡ f nothing → (t : ℕ) → f (thread_in new t) ≡ f (thread_in vs t)
+  field_stays f same t =
+      elim (cases_eq t v.made) [
+        | inl e ↦ ap (λ u. f (thread_in new u)) e ∙ ap f new_thread ∙ same ∙ sym (ap f (or_past vs (suc t) nothing (omega (arith, size, length-set vs 0 left, e))))
+        | inr ne ↦ ap f (others_stay t ne)
+      ]
+
+  its_share : IsSeatOf right s v.made
+  its_share = record {
+    thread = refl;
+    share = record { columns = sym (r.seats.unmade v.made (omega (arith, ap (λ (k : Knowledge). k.made) old_keeper))); held_once = λ l. omega arith };
+  }
+
+  thread_stays : (t : ℕ) → (thread_in new t).role ≡ OfThread → IsSeatOf (thread_in new t) s t
+  thread_stays t role =
+      elim (cases_eq t v.made) [
+        | inl e ↦ subst (λ u. IsSeatOf (thread_in new u) s u) (sym e) (subst (λ (k : Knowledge). IsSeatOf k s v.made) (sym new_thread) its_share)
+        | inr ne ↦ subst (λ (k : Knowledge). IsSeatOf k s t) (sym (others_stay t ne)) (r.seats.thread t (ap (λ (k : Knowledge). k.role) (sym (others_stay t ne)) ∙ role))
+      ]
+
+  old_made : (keeper_in vs).made ≡ v.made
+  old_made = ap (λ (k : Knowledge). k.made) old_keeper
+
+  new_made : (keeper_in new).made ≡ suc v.made
+  new_made = ap (λ (k : Knowledge). k.made) new_keeper
+
+  same_gathered : (keeper_in new).gathered ≡ (keeper_in vs).gathered
+  same_gathered = ap (λ (k : Knowledge). k.gathered) new_keeper ∙ sym (ap (λ (k : Knowledge). k.gathered) old_keeper)
+
+  taken_stays : (t : ℕ) (x : Share) → IsTakenIn vs s t x → IsTakenIn new s t x
+  taken_stays t x h =
+      let ne : t ≢ v.made = λ e. omega (arith, e, h.made, old_made) in
+      record {
+        made = omega (arith, h.made, old_made, new_made);
+        gone = λ e. h.gone (ap (λ (k : Knowledge). k.role) (sym (others_stay t ne)) ∙ e);
+        share = h.share;
+      }
+
+  seats_with : RepresentsSeats plan new s
+  seats_with = record {
+    keeper = ap (λ (k : Knowledge). k.role) new_keeper ∙ sym (ap (λ (k : Knowledge). k.role) old_keeper) ∙ r.seats.keeper;
+    made = longer ∙ ap suc (sym new_made);
+    few = omega (arith, new_made, few);
+    thread = thread_stays;
+    unmade = λ t past. r.seats.unmade t (omega (arith, past, old_made, new_made));
+    taken_in = λ i d low. subst (λ gs. IsTakenIn new s (get_or gs i d).0 (get_or gs i d).1) (sym same_gathered) (taken_stays _ _ (r.seats.taken_in i d (subst (λ gs. i < length gs) same_gathered low)));
+    each = λ t low gone. elim (cases_eq t v.made) [
+      | inl e ↦ absurd (gone (ap (λ u. (thread_in new u).role) e ∙ ap (λ (k : Knowledge). k.role) new_thread))
+      | inr ne ↦ subst (λ gs. list_any (λ g. g.0 == t) gs ≡ true) (sym same_gathered)
+          (r.seats.each t (omega (arith, low, new_made, old_made, ne)) (λ e. gone (ap (λ (k : Knowledge). k.role) (others_stay t ne) ∙ e)))
+    ];
+    none_out = λ t gone. elim (cases_eq t v.made) [
+      | inl e ↦ absurd (gone (ap (λ u. (thread_in new u).role) e ∙ ap (λ (k : Knowledge). k.role) new_thread))
+      | inr ne ↦ ap (λ (k : Knowledge). k.out) (others_stay t ne) ∙ r.seats.none_out t (λ e. gone (ap (λ (k : Knowledge). k.role) (others_stay t ne) ∙ e))
+    ];
+    counted =
+        let sums = total_set live vs 0 v left at in
+        let snoc = total_snoc live (set vs 0 left) right in
+        let n = ap length same_gathered in
+        omega (arith, sums, snoc, n, old_made, new_made, r.seats.counted);
+  }
+
+  represents_with : room_for v.plan v.made ≤ v.spare → Represents plan (record { words = b.words; homes = b.homes; views = new }) s
+  represents_with fits = record {
+    sizes = record { words = r.sizes.words; slots = r.sizes.slots; few_locks = r.sizes.few_locks; few_threads = r.sizes.few_threads };
+    locks = r.locks;
+    ticket = r.ticket;
+    room =
+        let sums = total_set spare vs 0 v left at in
+        let snoc = total_snoc spare (set vs 0 left) right in
+        omega (arith, sums, snoc, r.room, fits);
+    turns = r.turns;
+    content = r.content;
+    shelves = subst (λ o. Shelves (slots_for plan) (turn_word b.words) (home_at b.homes) o r.content) (λ i t. sym (field_stays (λ (k : Knowledge). k.out) refl t) i) r.shelves;
+    objects = r.objects;
+    seats = seats_with;
+    begun = r.begun;
+  }
+
+pub forks : (plan : Plan) (v : Knowledge) → v.plan ≡ plan → v.made < length plan.threads → room_for v.plan v.made ≤ v.spare → Splits (FloorHolds plan) 0 v (with_pass_made v) (new_pass v)
+forks plan v mine few fits b holds at = (holds.0, holds.1, represents_with plan b holds.0 holds.2 v at few mine fits)
+
+-- 2. The start
+
+all_zero : (n i : ℕ) → get_or {A = ℕ} (replicate n 0) i 0 ≡ 0
+all_zero zero i = refl
+all_zero (suc n) zero = refl
+all_zero (suc n) (suc i) = all_zero n i
+
+all_home : (xs : List Slot) (j : ℕ) (d : Slot) → j < length xs → home_at (map some xs) j ≡ some (get_or xs j d)
+all_home [] j d h = absurd (omega arith)
+all_home (x ∷ xs) zero d h = refl
+all_home (x ∷ xs) (suc j) d h = all_home xs j d (omega arith)
+
+alone : (v : Knowledge) (P : Knowledge → Type 0) → P v → P nothing → (i : ℕ) → P (seat (v ∷ []) i)
+alone v P here there zero = here
+alone v P here there (suc i) = there
+
+none_out : (plan : Plan) (i : Item) → item_with (start_state (config_of plan)) i ≡ None
+unfolding start_state
+none_out plan (TurnstileChain j) = refl
+none_out plan (SleepChain j) = refl
+none_out plan (RecordOf t) = refl
+none_out plan (CellOf l j) = refl
+none_out plan ClassGraph = refl
+
+none_taken : (turn : ℕ → ℕ) → ((j : ℕ) → turn j ≡ 0) → (o : Option ℕ) → taken_from turn o ≡ None
+none_taken turn free None = refl
+none_taken turn free (Some j) = ap taker (free j)
+
+module _ (plan : Plan) where
+  abbrev start : State
+  start = start_state (config_of plan)
+
+  first_record : (t : ℕ) (r : Record) → r ≡ made t (declared_base plan t) → RepresentsRecord r ((objects_in start).record_of t)
+  unfolding start_state
+  first_record t r e = subst (λ r. RepresentsRecord r ((objects_in start).record_of t)) (sym e) record { columns = refl; one_loan_each = λ l. omega arith }
+
+  first_value : (i : Item) (j : ℕ) (x : Slot) → slot_of plan i ≡ Some j → IsFirst plan j x → IsOf (objects_in start) i x
+  unfolding start_state
+  first_value (RecordOf t) j (Recorded b) e h =
+      let p = record_place plan t j e in
+      first_record t b.value (subst (λ u. b.value ≡ made u (declared_base plan u)) (sym p.1) h.1)
+  first_value (RecordOf t) j (Cell value) e h = absurd (let p = record_place plan t j e in omega (arith, p.0, p.1, h.0))
+  first_value (CellOf l key) j (Recorded b) e h = absurd (let p = cell_place plan l key j (0, 0) e in omega (arith, p.2, h.0))
+  first_value (CellOf l key) j (Cell value) e h = h.1
+  first_value (TurnstileChain k) j x e h = absurd cc
+  first_value (SleepChain k) j x e h = absurd cc
+  first_value ClassGraph j x e h = absurd cc
+
+  small_rooms : (ds : List ThreadDecl) → room_in_all ds ≡ 2 * sum (map (λ (d : ThreadDecl). length d.ops) ds)
+  small_rooms [] = refl
+  small_rooms (d ∷ ds) =
+      let p = small_rooms ds in
+      let rooms = sum_by-cons (λ (n : ℕ). n) (room_of d.ops) (map (λ (e : ThreadDecl). room_of e.ops) ds) in
+      let ops = sum_by-cons (λ (n : ℕ). n) (length d.ops) (map (λ (e : ThreadDecl). length e.ops) ds) in
+      omega (arith, p, rooms, ops)
+
+  first_seats : RepresentsSeats plan (keeper plan ∷ []) start
+  unfolding start_state
+  first_seats = record {
+    keeper = refl;
+    made = refl;
+    few = omega arith;
+    thread = λ t role. absurd (let e : OfNobody ≡ OfThread = role in cc);
+    unmade = λ t past. refl;
+    taken_in = λ i d low. absurd (omega arith);
+    each = λ t low gone. absurd (omega arith);
+    none_out = λ t gone. refl;
+    counted = refl;
+  }
+
+  module _ (xs : List Slot) (proper : IsProper plan) (long : length xs ≡ slots_for plan) (first : (j : ℕ) (d : Slot) → j < length xs → IsFirst plan j (get_or xs j d)) where
+    abbrev zeros : List ℕ
+    zeros = replicate (words_for (slots_for plan)) 0
+
+    abbrev opened : Board
+    opened = opening zeros xs (keeper plan)
+
+    no_word : (i : ℕ) → get_or zeros i 0 ≡ 0
+    no_word i = all_zero (words_for (slots_for plan)) i
+
+    free_locks : RepresentsLocks (config_of plan) (lock_word zeros) start.word
+    unfolding start_state RepresentsLocks
+    free_locks = λ l low. ap word_of (no_word (spot l))
+
+    free_turns : RepresentsTurns plan (turn_word zeros) (item_with start)
+    unfolding RepresentsTurns
+    free_turns = λ i. none_out plan i ∙ sym (none_taken (turn_word zeros) (λ j. no_word (spot (turn_line j))) (slot_of plan i))
+
+    first_shelves : Shelves (slots_for plan) (turn_word zeros) (home_at (map some xs)) (λ t. (thread_in (keeper plan ∷ []) t).out) (λ j. get_or xs j (Cell None))
+    first_shelves = record {
+      at_home = λ j low free. all_home xs j (Cell None) (omega (arith, long, low));
+      away = λ j t low out. absurd (let z = no_word (spot (turn_line j)) in omega (arith, z, out));
+      taken = λ j t x e. absurd (some-ne-none x (sym e));
+      apart = λ t. tt;
+    }
+
+    first_objects : RepresentsObjects plan (λ j. get_or xs j (Cell None)) (objects_in start)
+    unfolding start_state
+    first_objects = record {
+      each = λ i j place. first_value i j (get_or xs j (Cell None)) place (first j (Cell None) (omega (arith, long, place_low plan i j place)));
+      unnamed = λ l key e. refl;
+    }
+
+    represents_first : Represents plan opened start
+    unfolding start_state
+    represents_first = record {
+      sizes = record {
+        words = length-replicate {A = ℕ} (words_for (slots_for plan)) 0;
+        slots = length-map xs some ∙ long;
+        few_locks = proper.locks;
+        few_threads = proper.threads;
+      };
+      locks = free_locks;
+      ticket = no_word (spot ticket_line);
+      room = let p = small_rooms plan.threads in omega (arith, p, proper.threads, proper.operations);
+      turns = free_turns;
+      content = λ j. get_or xs j (Cell None);
+      shelves = first_shelves;
+      objects = first_objects;
+      seats = first_seats;
+      begun = refl;
+    }
+
+    pub opens : FloorHolds plan opened
+    opens = (start, sound_begins (config_of plan), represents_first)
+
+-- 3. Room for the entries of threads
+
+-- of those whose passes are yet to come
+abbrev pub rooms_from : Plan → ℕ → ℕ
+rooms_from plan t = room_in_all (drop t plan.threads)
+
+one_room : (ds : List ThreadDecl) (t : ℕ) (d : ThreadDecl) → t < length ds → room_in_all (drop t ds) ≡ room_of (get_or ds t d).ops + room_in_all (drop (suc t) ds)
+one_room [] t d h = absurd (omega arith)
+one_room (x ∷ xs) zero d h = sum_by-cons (λ (n : ℕ). n) (room_of x.ops) (map (λ (e : ThreadDecl). room_of e.ops) xs)
+one_room (x ∷ xs) (suc t) d h = one_room xs t d (omega arith)
+
+its_operations : (ds : List ThreadDecl) (t : ℕ) (d : ThreadDecl) → t < length ds → unwrap_or (slice_get (map (λ (e : ThreadDecl). e.ops) ds) t) [] ≡ (get_or ds t d).ops
+its_operations [] t d h = absurd (omega arith)
+its_operations (x ∷ xs) zero d h = refl
+its_operations (x ∷ xs) (suc t) d h = its_operations xs t d (omega arith)
+
+fewer_rooms : (ds : List ThreadDecl) (t : ℕ) → room_in_all (drop t ds) ≤ room_in_all ds
+fewer_rooms [] zero = omega arith
+fewer_rooms [] (suc t) = omega arith
+fewer_rooms (x ∷ xs) zero = omega arith
+fewer_rooms (x ∷ xs) (suc t) =
+    let p = fewer_rooms xs t in
+    let q = sum_by-cons (λ (n : ℕ). n) (room_of x.ops) (map (λ (e : ThreadDecl). room_of e.ops) xs) in
+    omega (arith, p, q)
+
+-- what a pass more takes of it
+pub next_room : (plan : Plan) (t : ℕ) (d : ThreadDecl) → t < length plan.threads → (rooms_from plan t ≡ room_for plan t + rooms_from plan (suc t)) × (room_for plan t ≡ room_of (get_or plan.threads t d).ops)
+next_room plan t d h =
+    let ops : room_for plan t ≡ room_of (get_or plan.threads t d).ops = ap room_of (its_operations plan.threads t d h) in
+    (one_room plan.threads t d h ∙ ap (λ n. n + rooms_from plan (suc t)) (sym ops), ops)
+
+pub small_room : (plan : Plan) (t : ℕ) → IsProper plan → rooms_from plan t ≤ 40000
+small_room plan t proper =
+    let p = small_rooms plan plan.threads in
+    let q = fewer_rooms plan.threads t in
+    omega (arith, p, q, proper.threads, proper.operations)
+
+-- none is left
+pub no_rooms : (plan : Plan) → rooms_from plan (length plan.threads) ≡ 0
+no_rooms plan = ap room_in_all (drop_all plan.threads)
+  where
+    drop_all : (ds : List ThreadDecl) → drop (length ds) ds ≡ []
+    drop_all [] = refl
+    drop_all (d ∷ ds) = drop_all ds
+
+-- 4. Passes, as they are handed out
+
+pub each_more : {A : Type 0} (xs : List A) (x : A) (t : ℕ) (f : ℕ → A) → length xs ≡ t → x ≡ f t → ((k : ℕ) (d : A) → k < t → get_or xs k d ≡ f k) → (k : ℕ) (d : A) → k < t + 1 → get_or (xs ++ x ∷ []) k d ≡ f k
+each_more xs x t f long is each k d low =
+    elim (cases_lt k t) [
+      | inl before ↦ snoc_before xs x d k (omega (arith, long, before)) ∙ each k d before
+      | inr past ↦
+          let here : k ≡ length xs = omega (arith, long, past, low) in
+          ap (λ i. get_or (xs ++ x ∷ []) i d) here ∙ snoc_there xs x d ∙ is ∙ ap f (sym long ∙ sym here)
+    ]

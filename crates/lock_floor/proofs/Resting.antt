@@ -1,0 +1,439 @@
+-- A thread at rest is at rest again behind its calls: behind an entry, behind the use of an item, behind looks, behind a
+-- gain with its entry, and behind a release with its entry.
+use Rattle.std.proofs.Common.{◌≡◌, ◌≢◌, ℕ, suc, ◌+◌, ◌≤◌, Bool, true, false, ◌||◌, cond, eqb, Option, None, List, [], ◌∷◌, ◌++◌, refl, sym, ap, ◌∙◌, subst, inl, inr, arith, eq-eqb}
+use Rattle.std.proofs.lemmas.Bool.{cases_eq, ne_eqb}
+use Rattle.atomic_table.specs.Table.{rest}
+use Rattle.lock_laws.proofs.HeldLists.{hold_in-push}
+use Rattle.lock_laws.proofs.OnTrack.{own_section}
+use Rattle.lock_laws.proofs.OwnEntries.{sections_stay}
+use Rattle.lock_model.specs.Config.{Config}
+use Rattle.lock_model.specs.History.{Sections, open_in, sections_in, sections_by, replaced}
+use Rattle.lock_model.specs.Holds.{Hold, NotHeld, Holds}
+use Rattle.lock_model.specs.Operations.{hold_in, without_lock}
+use Rattle.lock_model.specs.Plans.{config_of}
+use Rattle.lock_model.specs.Words.{Word}
+use Rattle.lock_model.specs.declared.event.Entry.{Entry}
+use Rattle.lock_model.specs.declared.event.Event.{Event}
+use Rattle.lock_model.specs.declared.event.Event.TheVariants.{Locked, Tried, Busy, Unlocked, Sleeps, Woke, HaltedChan, HaltedLock, WokeOne, WokeAll}
+use Rattle.lock_model.specs.declared.event.Held.{Held}
+use Rattle.lock_model.specs.declared.numbers.LockNo.{LockNo}
+use Rattle.lock_model.specs.declared.plan.Mode.{Mode}
+use Rattle.lock_model.specs.declared.plan.Plan.{Plan}
+use Rattle.lock_state.specs.State.{State, NoWalk, Round, Wake, start_state}
+use Rattle.lock_state.specs.Steps.{Stamps, Drops, GivesItem, seeks, NotesInRound, HasOutForEntry}
+use Rattle.lock_state.specs.Steps.Items.{Item, is_chain, in_its_chain, seen_after}
+use Rattle.lock_state.specs.Steps.LockWords.{Asks, is_sleep, is_taking_back, changes_sections, looks_after, round_after, taking_after, unstamped_after, after_stamp}
+use Rattle.floor_table.specs.declared.slot.Slot.{Slot}
+use Rattle.floor_table.specs.Shares.{Doing, ShareColumns, is_among}
+use Rattle.floor_table.specs.Steps.{chains, Fits, MayMake, Makes, MakesEach}
+use Rattle.floor_table.specs.Views.{Knowledge}
+use Rattle.lock_floor.specs.Changes.{changed, last_changed, stamped_change}
+use Rattle.lock_floor.specs.Floors.{Floor, Pass}
+use Rattle.lock_floor.specs.Passes.{IsOf, IsAtRest, IsReady, MakesEntry, with_item}
+use Rattle.lock_floor.specs.Turns.{Takes}
+use Rattle.lock_floor.specs.Views.{counts, looked, others, gained, put_down, begun_by, took, gave, entry_by, stamped}
+use Rattle.lock_floor.proofs.Gaining.{dropped_unheld}
+use Rattle.lock_floor.proofs.May.{own_log, may_stamp}
+use Rattle.lock_floor.proofs.Shares.{among_stays}
+
+-- 1. What the thread is about, beside the locks that it holds
+
+pub record IsIdle (v : Knowledge) : Type 0 where
+  pub nothing_out : v.out ≡ []
+  pub no_walk : v.share.doing.walk ≡ NoWalk
+  pub unmarked : v.share.doing.marked ≡ []
+  pub wants_nothing : v.share.doing.wanted ≡ None
+  pub takes_nothing : v.share.doing.taking ≡ None
+  pub no_round : v.share.doing.round ≡ None
+  pub no_looks : v.share.doing.looks ≡ 0
+  pub unnoted : v.share.doing.noted ≡ None
+  pub stamped : v.share.doing.unstamped ≡ None
+  pub awake : is_taking_back v.share.log ≡ false
+
+abbrev pub idle : (plan : Plan) (v : Knowledge) → IsAtRest plan v → IsIdle v
+idle plan v r = record {
+  nothing_out = r.nothing_out;
+  no_walk = r.no_walk;
+  unmarked = r.unmarked;
+  wants_nothing = r.wants_nothing;
+  takes_nothing = r.takes_nothing;
+  no_round = r.no_round;
+  no_looks = r.no_looks;
+  unnoted = r.unnoted;
+  stamped = r.stamped;
+  awake = r.awake;
+}
+
+-- the sections open in its log are of just its locks, and each began since its lock was gained
+abbrev pub Sectioned : Plan → Knowledge → Type 0
+Sectioned plan v = (l : ℕ) → open_in (config_of plan) v.share.log v.thread l ≡ hold_in v.share.held l
+
+abbrev pub Begun : Knowledge → Type 0
+Begun v = (l : ℕ) → hold_in v.share.held l ≢ NotHeld → is_among l v.share.begun ≡ true
+
+at_rest : (plan : Plan) (v : Knowledge) → IsIdle v → Sectioned plan v → Begun v → IsAtRest plan v
+at_rest plan v i sections begun = record {
+  nothing_out = i.nothing_out;
+  no_walk = i.no_walk;
+  unmarked = i.unmarked;
+  wants_nothing = i.wants_nothing;
+  takes_nothing = i.takes_nothing;
+  no_round = i.no_round;
+  no_looks = i.no_looks;
+  unnoted = i.unnoted;
+  stamped = i.stamped;
+  awake = i.awake;
+  sections = sections;
+  begun = begun;
+}
+
+-- 2. Behind an entry
+
+looks_gone : (e : Event) (n : ℕ) → n ≡ 0 → looks_after e n ≡ 0
+looks_gone (Busy l seen) n is = refl
+looks_gone other n is = is
+
+round_gone : (e : Event) (r : Option Round) → r ≡ None → round_after e r ≡ None
+round_gone (Busy l seen) r is = refl
+round_gone other r is = is
+
+taking_gone : (e : Event) (l : Option ℕ) → l ≡ None → taking_after e l ≡ None
+taking_gone (Locked l mode) k is = refl
+taking_gone (HaltedLock l) k is = refl
+taking_gone (Woke d) k is = refl
+taking_gone (HaltedChan d) k is = refl
+taking_gone other k is = is
+
+wake_gone : (e : Event) (w : Option Wake) → w ≡ None → unstamped_after e w ≡ None
+wake_gone (WokeOne d woken) w is = refl
+wake_gone (WokeAll d woken) w is = refl
+wake_gone other w is = is
+
+no_sleep : (e : Event) → changes_sections e ≡ false → is_sleep e ≡ false
+no_sleep (Sleeps d) quiet = absurd cc
+no_sleep other quiet = refl
+
+begun_kept : (c : Config) (e : Event) (ks : List ℕ) → changes_sections e ≡ false → begun_by c e ks ≡ ks
+begun_kept c (Locked l mode) ks quiet = absurd cc
+begun_kept c (Tried l mode) ks quiet = absurd cc
+begun_kept c (Woke d) ks quiet = absurd cc
+begun_kept c (HaltedChan d) ks quiet = absurd cc
+begun_kept c other ks quiet = refl
+
+-- a state with just that history
+abbrev behind : Config → List Entry → ℕ → State
+behind c log ticket = record (start_state c) { history = log; next = ticket }
+
+same_section : (c : Config) (log : List Entry) (t ticket l : ℕ) (e : Event) → changes_sections e ≡ false → open_in c (entry_by t ticket e ∷ log) t l ≡ open_in c log t l
+unfolding after_stamp
+same_section c log t ticket l e quiet = ap (λ (x : Sections). x.now) (sections_stay c (behind c log ticket) t e t l quiet)
+
+module _ (plan : Plan) (v : Knowledge) where
+  abbrev c : Config
+  c = config_of plan
+
+  abbrev t : ℕ
+  t = v.thread
+
+  idle_stamped : (ticket : ℕ) (e : Event) → is_sleep e ≡ false → IsIdle v → IsIdle (stamped c v (entry_by t ticket e))
+  idle_stamped ticket e wakeful i = record {
+    nothing_out = i.nothing_out;
+    no_walk = i.no_walk;
+    unmarked = i.unmarked;
+    wants_nothing = i.wants_nothing;
+    takes_nothing = taking_gone e v.share.doing.taking i.takes_nothing;
+    no_round = round_gone e v.share.doing.round i.no_round;
+    no_looks = looks_gone e v.share.doing.looks i.no_looks;
+    unnoted = refl;
+    stamped = wake_gone e v.share.doing.unstamped i.stamped;
+    awake = wakeful;
+  }
+
+  -- of an event that begins and ends no section
+  pub rest_stamped : (ticket : ℕ) (e : Event) → changes_sections e ≡ false → IsAtRest plan v → IsAtRest plan (stamped c v (entry_by t ticket e))
+  rest_stamped ticket e quiet r =
+      at_rest plan (stamped c v (entry_by t ticket e)) (idle_stamped ticket e (no_sleep e quiet) (idle plan v r))
+      (λ l. same_section c v.share.log t ticket l e quiet ∙ r.sections l)
+      (λ l held. ap (is_among l) (begun_kept c e v.share.begun quiet) ∙ r.begun l held)
+
+  -- 3. Behind looks: none counts, since no round is under way
+
+  pub uncounted : (l : ℕ) → IsIdle v → counts v l ≡ false
+  uncounted l i = ap (seeks l) i.no_round
+
+  idle_looked : (l : ℕ) (word : Word) → IsIdle v → IsIdle (looked v l word)
+  idle_looked l word i = record {
+    nothing_out = i.nothing_out;
+    no_walk = i.no_walk;
+    unmarked = i.unmarked;
+    wants_nothing = i.wants_nothing;
+    takes_nothing = i.takes_nothing;
+    no_round = i.no_round;
+    no_looks = ap (λ b. cond b (suc v.share.doing.looks) v.share.doing.looks) (uncounted l i) ∙ i.no_looks;
+    unnoted = i.unnoted;
+    stamped = i.stamped;
+    awake = i.awake;
+  }
+
+  pub rest_looked : (l : ℕ) (word : Word) → IsAtRest plan v → IsAtRest plan (looked v l word)
+  rest_looked l word r = at_rest plan (looked v l word) (idle_looked l word (idle plan v r)) r.sections r.begun
+
+-- 4. What it may note, whatever it has out: with nothing out it is at rest
+
+module _ (plan : Plan) (a : Knowledge) (r : IsAtRest plan (record a { out = [] })) where
+  -- the sections that it has open are of what it holds
+  pub open_as_held : (s : State) → Fits plan a s → (l : ℕ) → open_in (config_of plan) s.history a.thread l ≡ s.held a.thread l
+  open_as_held s f l = own_log plan a s f l ∙ r.sections l ∙ ap (λ (x : ShareColumns). x.held l) f.share.columns
+
+  pub may_note : (e : Event) → ((s : State) → Fits plan a s → Asks (config_of plan) s a.thread e × HasOutForEntry chains s a.thread e) → MayMake plan a (λ s. Unit {0}) (Stamps a.thread e ∷ [])
+  may_note e asks =
+      may_stamp plan a e asks (subst (λ o. NotesInRound o e) (sym r.no_round) tt)
+      (λ q. absurd (let z : true ≡ false = sym q ∙ r.awake in cc))
+      (λ ne. absurd (ne r.stamped))
+
+-- with an item that it took
+pub rest_with : (plan : Plan) (v a : Knowledge) (i : Item) (j : ℕ) → is_chain i ≡ false → IsAtRest plan v → Takes plan i j v a → IsAtRest plan (record a { out = [] })
+rest_with plan v a i j plain r taken = subst (λ (w : Knowledge). IsAtRest plan (record w { out = [] })) (sym taken.view)
+    (at_rest plan (record (took v i j taken.value) { out = [] }) record {
+      nothing_out = refl;
+      no_walk = r.no_walk;
+      unmarked = r.unmarked;
+      wants_nothing = r.wants_nothing;
+      takes_nothing = r.takes_nothing;
+      no_round = ap (λ b. cond b (in_its_chain v.share.doing.round) v.share.doing.round) plain ∙ r.no_round;
+      no_looks = r.no_looks;
+      unnoted = r.unnoted;
+      stamped = r.stamped;
+      awake = r.awake;
+    } r.sections r.begun)
+
+-- 5. Behind the use of an item: it is taken, an entry is made, and it is given back
+
+-- the value may have changed meanwhile
+pub used_is : (c : Config) (v : Knowledge) (entry : Entry) (i : Item) (j k : ℕ) (x y : Slot) → is_chain i ≡ false → gave (record (stamped c (took v i j x) entry) { out = (k, y) ∷ v.out }) i ≡ stamped c v entry
+used_is c v entry i j k x y plain =
+    let w : Knowledge = stamped c v entry in
+    let d : Doing = w.share.doing in
+    ap (λ b. record w {
+      share = record w.share {
+        doing = record d {
+          seen_in_section = seen_after b (seen_after b v.share.doing.seen_in_section);
+          round = round_after entry.event (cond b (in_its_chain v.share.doing.round) v.share.doing.round);
+        };
+      };
+    }) plain
+
+-- what it took last
+pub taken_out : (plan : Plan) (v a : Knowledge) (i : Item) (j : ℕ) (taken : Takes plan i j v a) → a.out ≡ (j, taken.value) ∷ rest a.out
+taken_out plan v a i j taken = subst (λ (w : Knowledge). w.out ≡ (j, taken.value) ∷ rest w.out) (sym taken.view) refl
+
+-- a call that did that, on a pass that was ready, leaves it ready
+pub record Used (f : Floor Plan) (i : Item) (e : Event) (p q : Pass Knowledge) : Type 0 where
+  pub ready : IsReady f q
+  pub entry : MakesEntry f.plan e p.view.share.held p.view q.view
+  pub steps : MakesEach f.plan (with_item p.view.thread i e) p.view q.view
+
+-- what the thread knows behind the entry: the value of the item may be another then
+abbrev pub Noted : Plan → ℕ → Event → ℕ → Slot → Knowledge → Knowledge → Type 0
+Noted plan ticket e j y old new = new ≡ record (stamped (config_of plan) old (entry_by old.thread ticket e)) { out = (j, y) ∷ rest old.out }
+
+module _ (f : Floor Plan) (i : Item) (j : ℕ) (e : Event) (plain : is_chain i ≡ false) (quiet : changes_sections e ≡ false) where
+  pub uses_changed : (p a b q : Pass Knowledge) (ticket : ℕ) (y : Slot) → IsReady f p → 1 ≤ p.view.spare → Takes f.plan i j p.view a.view
+      → Noted f.plan ticket e j y a.view b.view → Makes f.plan (Stamps a.view.thread e ∷ []) a.view b.view
+      → IsOf f q → q.view ≡ gave b.view i → Makes f.plan (GivesItem b.view.thread i ∷ []) b.view q.view → Used f i e p q
+  uses_changed p a b q ticket y ready room taken noted stamps own given gives =
+      let v : Knowledge = p.view in
+      let made : Entry = entry_by v.thread ticket e in
+      let with_it : b.view ≡ record (stamped (config_of f.plan) (took v i j taken.value) made) { out = (j, y) ∷ v.out } =
+      noted ∙ ap (λ (w : Knowledge). record (stamped (config_of f.plan) w (entry_by w.thread ticket e)) { out = (j, y) ∷ rest w.out }) taken.view in
+      let is : q.view ≡ stamped (config_of f.plan) v made =
+      given ∙ ap (λ (w : Knowledge). gave w i) with_it ∙ used_is (config_of f.plan) v made i j j taken.value y plain in
+      let its : a.view.thread ≡ v.thread = ap (λ (w : Knowledge). w.thread) taken.view in
+      let its_then : b.view.thread ≡ v.thread = ap (λ (w : Knowledge). w.thread) with_it in
+      let step : Makes f.plan (Stamps v.thread e ∷ []) a.view b.view = subst (λ t. Makes f.plan (Stamps t e ∷ []) a.view b.view) its stamps in
+      let back : Makes f.plan (GivesItem v.thread i ∷ []) b.view q.view = subst (λ t. Makes f.plan (GivesItem t i ∷ []) b.view q.view) its_then gives in
+      record {
+        ready = record { own = own; rest = subst (IsAtRest f.plan) (sym is) (rest_stamped f.plan v ticket e quiet ready.rest) };
+        entry = record {
+          ticket = ticket;
+          log = ap (λ (w : Knowledge). w.share.log) is;
+          held = ap (λ (w : Knowledge). w.share.held) is;
+          spare = ap (λ (w : Knowledge). w.spare + 1) is ∙ omega (arith, room);
+          thread = ap (λ (w : Knowledge). w.thread) is;
+          before = a.view;
+          behind = b.view;
+          of = its;
+          step = step;
+          log_before = ap (λ (w : Knowledge). w.share.log) taken.view;
+          log_behind = sym (ap (λ (w : Knowledge). w.share.log) given);
+        };
+        steps = (a.view, taken.step, (b.view, step, (q.view, back, refl)));
+      }
+
+  pub uses : (p a b q : Pass Knowledge) (ticket : ℕ) → IsReady f p → 1 ≤ p.view.spare → Takes f.plan i j p.view a.view
+      → b.view ≡ stamped (config_of f.plan) a.view (entry_by a.view.thread ticket e) → Makes f.plan (Stamps a.view.thread e ∷ []) a.view b.view
+      → IsOf f q → q.view ≡ gave b.view i → Makes f.plan (GivesItem b.view.thread i ∷ []) b.view q.view → Used f i e p q
+  uses p a b q ticket ready room taken noted =
+      let same : Noted f.plan ticket e j taken.value a.view b.view =
+      noted ∙ ap (λ o. record (stamped (config_of f.plan) a.view (entry_by a.view.thread ticket e)) { out = o }) (taken_out f.plan p.view a.view i j taken) in
+      uses_changed p a b q ticket taken.value ready room taken same
+
+  -- the same where the entry changed the value
+  pub uses_change : (p a b q : Pass Knowledge) (ticket : ℕ) → IsReady f p → 1 ≤ p.view.spare → Takes f.plan i j p.view a.view → b.view ≡ stamped_change (config_of f.plan) a.view (entry_by a.view.thread ticket e)
+      → Makes f.plan (Stamps a.view.thread e ∷ []) a.view b.view → IsOf f q → q.view ≡ gave b.view i → Makes f.plan (GivesItem b.view.thread i ∷ []) b.view q.view → Used f i e p q
+  uses_change p a b q ticket ready room taken noted =
+      let same : Noted f.plan ticket e j (changed e taken.value) a.view b.view =
+      noted ∙ ap (λ o. record (stamped (config_of f.plan) a.view (entry_by a.view.thread ticket e)) { out = last_changed e o }) (taken_out f.plan p.view a.view i j taken) in
+      uses_changed p a b q ticket (changed e taken.value) ready room taken same
+
+-- what is out once an entry has changed it
+pub changed_out : (c : Config) (plan : Plan) (v a b : Knowledge) (i : Item) (j : ℕ) (entry : Entry) (taken : Takes plan i j v a) → b ≡ stamped_change c a entry → b.out ≡ (j, changed entry.event taken.value) ∷ rest b.out
+changed_out c plan v a b i j entry taken is =
+    let same : b.out ≡ (j, changed entry.event taken.value) ∷ rest a.out = ap (λ (w : Knowledge). w.out) is ∙ ap (last_changed entry.event) (taken_out plan v a i j taken) in
+    subst (λ o. o ≡ (j, changed entry.event taken.value) ∷ rest o) (sym same) refl
+
+-- 6. Behind a gain with its entry
+
+-- the entry of a gain
+abbrev pub gain_event : Held → Event
+gain_event h = cond h.by_try (Tried h.l h.mode) (Locked h.l h.mode)
+
+idle_gained : (v : Knowledge) (h : Held) → IsIdle v → IsIdle (gained v h)
+idle_gained v h i = record {
+  nothing_out = i.nothing_out;
+  no_walk = i.no_walk;
+  unmarked = i.unmarked;
+  wants_nothing = refl;
+  takes_nothing = i.takes_nothing;
+  no_round = refl;
+  no_looks = refl;
+  unnoted = i.unnoted;
+  stamped = i.stamped;
+  awake = i.awake;
+}
+
+-- a section that begins, or else the one before
+begins_or : (b : Bool) (mode : Mode) (x : Hold) → replaced (cond b (Holds mode) NotHeld) x ≡ cond b (Holds mode) x
+begins_or true mode x = refl
+begins_or false mode x = refl
+
+module _ (plan : Plan) (v : Knowledge) (h : Held) where
+  abbrev gc : Config
+  gc = config_of plan
+
+  gain_section : (ticket k : ℕ) → open_in gc (entry_by v.thread ticket (gain_event h) ∷ v.share.log) v.thread k ≡ cond (eqb h.l.0 k) (Holds h.mode) (open_in gc v.share.log v.thread k)
+  unfolding after_stamp
+  gain_section ticket k = own_section gc (behind gc v.share.log ticket) v.thread (gain_event h) k ∙ go h.by_try
+    where
+      go : (b : Bool) → (sections_by gc (cond b (Tried h.l h.mode) (Locked h.l h.mode)) k (sections_in gc v.share.log v.thread k)).now ≡ cond (eqb h.l.0 k) (Holds h.mode) (open_in gc v.share.log v.thread k)
+      go true = begins_or (eqb h.l.0 k) h.mode (open_in gc v.share.log v.thread k)
+      go false = begins_or (eqb h.l.0 k) h.mode (open_in gc v.share.log v.thread k)
+
+  gain_begun : Begun v → hold_in v.share.held h.l.0 ≡ NotHeld → (k : ℕ) → hold_in (v.share.held ++ h ∷ []) k ≢ NotHeld → is_among k (h.l.0 ∷ others h.l.0 v.share.begun) ≡ true
+  gain_begun begun unheld k held =
+      elim (cases_eq h.l.0 k) [
+        | inl e ↦ ap (λ b. b || is_among k (others h.l.0 v.share.begun)) (eq-eqb h.l.0 k e)
+        | inr ne ↦
+            let before : hold_in (v.share.held ++ h ∷ []) k ≡ hold_in v.share.held k = hold_in-push v.share.held h k unheld ∙ ap (λ b. cond b (Holds h.mode) (hold_in v.share.held k)) (ne_eqb h.l.0 k ne) in
+            ap (λ b. b || is_among k (others h.l.0 v.share.begun)) (ne_eqb h.l.0 k ne) ∙ among_stays h.l.0 k v.share.begun ne ∙ begun k (λ q. held (before ∙ q))
+      ]
+
+  begun_gained : (ks : List ℕ) → begun_by gc (gain_event h) ks ≡ h.l.0 ∷ ks
+  begun_gained ks = go h.by_try
+    where
+      go : (b : Bool) → begun_by gc (cond b (Tried h.l h.mode) (Locked h.l h.mode)) ks ≡ h.l.0 ∷ ks
+      go true = refl
+      go false = refl
+
+  no_sleep_gained : is_sleep (gain_event h) ≡ false
+  no_sleep_gained = go h.by_try
+    where
+      go : (b : Bool) → is_sleep (cond b (Tried h.l h.mode) (Locked h.l h.mode)) ≡ false
+      go true = refl
+      go false = refl
+
+  pub rest_gained : (ticket : ℕ) → IsAtRest plan v → hold_in v.share.held h.l.0 ≡ NotHeld → IsAtRest plan (stamped (config_of plan) (gained v h) (entry_by v.thread ticket (gain_event h)))
+  rest_gained ticket r unheld =
+      at_rest plan (stamped gc (gained v h) (entry_by v.thread ticket (gain_event h))) (idle_stamped plan (gained v h) ticket (gain_event h) no_sleep_gained (idle_gained v h (idle plan v r)))
+      (λ k. gain_section ticket k ∙ ap (cond (eqb h.l.0 k) (Holds h.mode)) (r.sections k) ∙ sym (hold_in-push v.share.held h k unheld))
+      (λ k held. ap (is_among k) (begun_gained (others h.l.0 v.share.begun)) ∙ gain_begun r.begun unheld k held)
+
+-- 7. Behind a release: its entry is made first, and then the lock is put down, maybe after looks
+
+-- a thread that has noted the release of a lock and holds it still
+pub record IsLeaving (plan : Plan) (l : ℕ) (mode : Mode) (v : Knowledge) : Type 0 where
+  pub about : IsIdle v
+  pub held : hold_in v.share.held l ≡ Holds mode
+  pub closed : open_in (config_of plan) v.share.log v.thread l ≡ NotHeld
+  pub beside : (k : ℕ) → l ≢ k → open_in (config_of plan) v.share.log v.thread k ≡ hold_in v.share.held k
+  pub begun : Begun v
+
+-- without a lock the others are held as before
+held_beside : (l : ℕ) (hs : List Held) (k : ℕ) → l ≢ k → hold_in (without_lock l hs) k ≡ hold_in hs k
+held_beside l [] k ne = refl
+held_beside l (h ∷ hs) k ne =
+    elim (cases_eq h.l.0 l) [
+      | inl e ↦ rw (eq-eqb h.l.0 l e, ne_eqb h.l.0 k (λ q. ne (sym e ∙ q))) refl
+      | inr n ↦ rw (ne_eqb h.l.0 l n) (ap (cond (eqb h.l.0 k) (Holds h.mode)) (held_beside l hs k ne))
+    ]
+
+module _ (plan : Plan) (v : Knowledge) (l : LockNo) (mode : Mode) where
+  abbrev lc : Config
+  lc = config_of plan
+
+  release_section : (ticket k : ℕ) → open_in lc (entry_by v.thread ticket (Unlocked l mode) ∷ v.share.log) v.thread k ≡ cond (eqb l.0 k) NotHeld (open_in lc v.share.log v.thread k)
+  unfolding after_stamp
+  release_section ticket k = own_section lc (behind lc v.share.log ticket) v.thread (Unlocked l mode) k
+
+  pub leaves : (ticket : ℕ) → IsAtRest plan v → hold_in v.share.held l.0 ≡ Holds mode → IsLeaving plan l.0 mode (stamped (config_of plan) v (entry_by v.thread ticket (Unlocked l mode)))
+  leaves ticket r held = record {
+    about = idle_stamped plan v ticket (Unlocked l mode) refl (idle plan v r);
+    held = held;
+    closed = release_section ticket l.0 ∙ ap (λ b. cond b NotHeld (open_in lc v.share.log v.thread l.0)) (eq-eqb l.0 l.0 refl);
+    beside = λ k ne. release_section ticket k ∙ ap (λ b. cond b NotHeld (open_in lc v.share.log v.thread k)) (ne_eqb l.0 k ne) ∙ r.sections k;
+    begun = r.begun;
+  }
+
+module _ (plan : Plan) (l : ℕ) (mode : Mode) (v : Knowledge) (h : IsLeaving plan l mode v) where
+  pub leaving_looked : (k : ℕ) (word : Word) → IsLeaving plan l mode (looked v k word)
+  leaving_looked k word = record {
+    about = idle_looked plan v k word h.about;
+    held = h.held;
+    closed = h.closed;
+    beside = h.beside;
+    begun = h.begun;
+  }
+
+  -- once it has put the lock down it is at rest
+  pub rest_left : Makes plan (Drops v.thread l mode ∷ []) v (put_down v l) → IsAtRest plan (put_down v l)
+  rest_left made =
+      let i = h.about in
+      at_rest plan (put_down v l) record {
+        nothing_out = i.nothing_out;
+        no_walk = i.no_walk;
+        unmarked = i.unmarked;
+        wants_nothing = i.wants_nothing;
+        takes_nothing = i.takes_nothing;
+        no_round = i.no_round;
+        no_looks = i.no_looks;
+        unnoted = i.unnoted;
+        stamped = i.stamped;
+        awake = i.awake;
+      } sections begun
+    where
+      unheld : hold_in (without_lock l v.share.held) l ≡ NotHeld
+      unheld = dropped_unheld plan v l mode made
+
+      sections : Sectioned plan (put_down v l)
+      sections k =
+          elim (cases_eq l k) [
+            | inl e ↦ subst (λ m. open_in (config_of plan) v.share.log v.thread m ≡ hold_in (without_lock l v.share.held) m) e (h.closed ∙ sym unheld)
+            | inr ne ↦ h.beside k ne ∙ sym (held_beside l v.share.held k ne)
+          ]
+
+      begun : Begun (put_down v l)
+      begun k held =
+          elim (cases_eq l k) [
+            | inl e ↦ absurd (held (subst (λ m. hold_in (without_lock l v.share.held) m ≡ NotHeld) e unheld))
+            | inr ne ↦ h.begun k (λ q. held (held_beside l v.share.held k ne ∙ q))
+          ]

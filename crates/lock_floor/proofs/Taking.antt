@@ -1,0 +1,139 @@
+-- Turns: an item goes out with the thread that finds it at home, and comes home again.
+use Rattle.std.proofs.Common.{◌≡◌, ◌≢◌, ℕ, zero, suc, ◌<◌, eqb, Some, None, List, [], ◌∷◌, length, get_or, set, cond, lt-ltb, refl, sym, ap, ◌∙◌, subst, arith}
+use Rattle.std.specs.Prelude.{slice_index}
+use mathlib.Core.Option as slots
+use mathlib.Core.Option.{some}
+use lib.ListN.{get_elem?}
+use prog.Atomic.{either}
+use Rattle.atomic_table.specs.Table.{Me, keeps, takes, gives, rest, stepped, Allows}
+use Rattle.lock_model.specs.Plans.{config_of}
+use Rattle.lock_model.specs.declared.plan.Plan.{Plan}
+use Rattle.lock_state.specs.State.{State}
+use Rattle.lock_state.specs.Steps.{TakesItem, GivesItem}
+use Rattle.lock_state.specs.Steps.Items.{Item, TurnstileChain, SleepChain, RecordOf, CellOf, ClassGraph, item_with, after_take, after_give}
+use Rattle.floor_table.specs.declared.slot.Slot.{Slot}
+use Rattle.floor_table.specs.declared.slot.Slot.TheVariants.{Record, Cell}
+use Rattle.lock_objects.specs.Represents.{RecordColumns}
+use Rattle.floor_table.specs.Places.{spot, turn_line, turn_word, slot_of, slots_for, taker}
+use Rattle.floor_table.specs.Represents.{Board, RepresentsTurns, taken_from, IsOf, objects_in}
+use Rattle.floor_table.specs.Rule.{FloorHolds}
+use Rattle.floor_table.specs.Steps.{MayMake, MayAll, Makes}
+use Rattle.floor_table.specs.Views.{Knowledge, OfThread}
+use Rattle.floor_table.proofs.Items.{place_low, one_place}
+use Rattle.floor_table.proofs.Lists.{or_at}
+use Rattle.floor_table.proofs.Made.{Finds, Steps, allows, exchange_allows, take_made, give_made, OwnShare}
+use Rattle.lock_floor.specs.Turns.{Takes, IsOfKind}
+use Rattle.lock_floor.specs.Views.{took, gave}
+use Rattle.lock_floor.proofs.Shares.{take_own, take_others, give_own, give_others}
+
+-- 1. A take
+
+-- what it tells: where the turn was free, the thread has what the place has
+abbrev pub Taken : Plan → ℕ → Me Slot Knowledge → ℕ → Me Slot Knowledge → Type 0
+Taken plan j me found behind =
+    (found ≡ 0 → (i : Item) → slot_of plan i ≡ Some j → (taken : Takes plan i j me.0 behind.0) × (behind.1 ≡ (j, taken.value) ∷ me.1))
+    × (found ≢ 0 → behind ≡ me)
+
+kind_of : (s : State) (i : Item) (y : Slot) → IsOf (objects_in s) i y → IsOfKind i y
+kind_of s (RecordOf t) (Record b) h = ap (λ (r : RecordColumns). r.thread) h.columns
+kind_of s (RecordOf t) (Cell value) h = h
+kind_of s (CellOf l key) (Record b) h = h
+kind_of s (CellOf l key) (Cell value) h = tt
+kind_of s (TurnstileChain k) y h = absurd h
+kind_of s (SleepChain k) y h = absurd h
+kind_of s ClassGraph y h = absurd h
+
+-- a step that changes no word and no view changes nothing
+set_again : {A : Type 0} (xs : List A) (i : ℕ) (x : A) → get_elem? xs i ≡ some x → set xs i x ≡ xs
+set_again [] i x e = refl
+set_again (y ∷ ys) zero x e = ap (λ z. z ∷ ys) (sym (slots.some-injective y x e))
+set_again (y ∷ ys) (suc i) x e = ap (λ zs. y ∷ zs) (set_again ys i x e)
+
+word_again : (ws : List ℕ) (i : ℕ) → set ws i (get_or ws i 0) ≡ ws
+word_again [] i = refl
+word_again (w ∷ ws) zero = refl
+word_again (w ∷ ws) (suc i) = ap (λ zs. w ∷ zs) (word_again ws i)
+
+pub nothing_stepped : (b : Board) (i id : ℕ) (cs : List (ℕ × Slot)) (v : Knowledge) → get_elem? b.views id ≡ some v → stepped b i (slice_index b.words i) id cs v keeps ≡ b
+nothing_stepped b i id cs v at = λ k. record { words = word_again b.words i k; homes = b.homes; views = set_again b.views id v at k }
+
+module _ (plan : Plan) (me : Me Slot Knowledge) (was : me.0.role ≡ OfThread) (i : Item) (j : ℕ) (place : slot_of plan i ≡ Some j) where
+  abbrev v : Knowledge
+  v = me.0
+
+  -- an item whose turn word is 0 is at home
+  is_home : (b : Board) (h : Finds plan v b) → turn_word b.words j ≡ 0 → item_with h.state i ≡ None
+  unfolding RepresentsTurns
+  is_home b h free = h.represents.turns i ∙ ap (taken_from (turn_word b.words)) place ∙ ap taker free
+
+  take_hit : (b : Board) (h : Finds plan v b) → MayMake plan v (λ s. item_with s i ≡ None) (TakesItem v.thread i ∷ []) → turn_word b.words j ≡ 0
+      → Steps plan me (spot (turn_line j)) (turn_word b.words j) (suc v.thread) (Taken plan j me) b
+  unfolding after_take
+  take_hit b h may free =
+      let s : State = h.state in
+      let n : State = after_take s v.thread i in
+      let x : Slot = h.represents.content j in
+      let w : Knowledge = took v i j x in
+      let allowed = may s h.fits (is_home b h free) in
+      let low : j < slots_for plan = place_low plan i j place in
+      let own : OwnShare v w s n = record {
+        role = was;
+        seat = record { thread = refl; share = take_own s v h.fits.share i j x };
+        others = λ u ne. take_others s v.thread u ne i;
+      } in
+      let made = take_made plan (TakesItem v.thread i ∷ []) b v w h was allowed own me.1 i j place free (record { word = refl; next = refl; items = refl; objects = refl; begun = refl }) refl refl in
+      let there : get_elem? b.homes j ≡ some (some x) = or_at b.homes j slots.none (omega (arith, low, h.represents.sizes.slots)) ∙ ap some (h.represents.shelves.at_home j low free) in
+      let taken : Takes plan i j v w = record { value = x; view = refl; step = made.1; kind = kind_of s i x (h.represents.objects.each i j place) } in (
+        w,
+        takes j x,
+        there,
+        made.0,
+        (
+          λ e k at. subst (λ m. (taken : Takes plan m j v w) × ((j, x) ∷ me.1 ≡ (j, taken.value) ∷ me.1)) (one_place plan i k j place at) (taken, refl),
+          λ ne. absurd (ne free),
+        ),
+      )
+
+  take_missed : (b : Board) (h : Finds plan v b) → FloorHolds plan b → turn_word b.words j ≢ 0 → Steps plan me (spot (turn_line j)) (turn_word b.words j) (turn_word b.words j) (Taken plan j me) b
+  take_missed b h holds ne = (
+    v,
+    keeps,
+    tt,
+    subst (FloorHolds plan) (sym (nothing_stepped b (spot (turn_line j)) (suc v.thread) me.1 v h.there)) holds,
+    (λ e. absurd (ne e), λ _. refl),
+  )
+
+  pub take_allowed : (slots id : ℕ) → MayMake plan v (λ s. item_with s i ≡ None) (TakesItem v.thread i ∷ []) → Allows (FloorHolds plan) slots id me (spot (turn_line j)) (λ n. either (eqb n 0) (suc v.thread) n) (Taken plan j me)
+  take_allowed slots id may =
+      exchange_allows plan slots id me (spot (turn_line j)) 0 (suc v.thread) (Taken plan j me) was (λ b h free. take_hit b h may free) (λ b h ne small. take_missed b h (h.state, h.sound, h.represents) ne)
+
+-- 2. A give of what was taken last
+
+-- what it tells, of the item of the place
+abbrev pub Given : Plan → ℕ → Me Slot Knowledge → ℕ → Me Slot Knowledge → Type 0
+Given plan j me found behind = (i : Item) → slot_of plan i ≡ Some j → (behind ≡ (gave me.0 i, rest me.1)) × Makes plan (GivesItem me.0.thread i ∷ []) me.0 behind.0
+
+module _ (plan : Plan) (me : Me Slot Knowledge) (was : me.0.role ≡ OfThread) (i : Item) (j : ℕ) (place : slot_of plan i ≡ Some j) (x : Slot) (tied : me.1 ≡ me.0.out) (last : me.0.out ≡ (j, x) ∷ rest me.0.out) where
+  gives_it : (b : Board) (h : Finds plan me.0 b) → MayAll (config_of plan) h.state (GivesItem me.0.thread i ∷ []) → Steps plan me (spot (turn_line j)) (turn_word b.words j) 0 (λ found. Given plan j me 0) b
+  unfolding after_give
+  gives_it b h allowed =
+      let s : State = h.state in
+      let v : Knowledge = me.0 in
+      let n : State = after_give s v.thread i in
+      let w : Knowledge = gave v i in
+      let own : OwnShare v w s n = record {
+        role = was;
+        seat = record { thread = refl; share = give_own s v h.fits.share i };
+        others = λ u ne. give_others s v.thread u ne i;
+      } in
+      let made = give_made plan (GivesItem v.thread i ∷ []) b v w h was allowed own me.1 i j x (rest v.out) (rest v.out) place (tied ∙ last) last (record { word = refl; next = refl; items = refl; objects = refl; begun = refl }) refl refl in
+      (w, gives, tt, made.0, λ k at. subst (λ m. ◌≡◌ {A = Me Slot Knowledge} (w, rest me.1) (gave v m, rest me.1) × Makes plan (GivesItem v.thread m ∷ []) v w) (one_place plan i k j place at) (refl, made.1))
+
+  pub give_allowed : (slots id : ℕ) → MayMake plan me.0 (λ s. Unit {0}) (GivesItem me.0.thread i ∷ []) → Allows (FloorHolds plan) slots id me (spot (turn_line j)) (λ n. 0) (λ n. Given plan j me 0)
+  give_allowed slots id may = allows plan slots id me (spot (turn_line j)) (λ n. 0) (λ n. Given plan j me 0) was (λ b h small. gives_it b h (may h.state h.fits tt))
+
+-- 3. Records
+
+-- a thread's record is in the place of its number
+pub record_at : (plan : Plan) (t : ℕ) → t < length plan.threads → slot_of plan (RecordOf t) ≡ Some t
+record_at plan t low = ap (λ b. cond b (Some t) None) (lt-ltb t (length plan.threads) low)

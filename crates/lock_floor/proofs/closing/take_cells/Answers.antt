@@ -1,0 +1,53 @@
+use Rattle.std.proofs.Common.{◌+◌, ◌<◌, false, get_or, refl, sym, ap, ◌∙◌, subst, arith}
+use mathlib.Core.Option.{some}
+use lib.ListN.{get_elem?}
+use Rattle.std.specs.FinMap.{get, get-empty}
+use Rattle.std.specs.List.{Contains}
+use Rattle.std.specs.Mem.Slots.{slots_filled}
+use Rattle.std.proofs.lemmas.List.{get_or_default}
+use Rattle.std.proofs.lemmas.List.Elements.{Contains-get_or}
+use Rattle.lock_model.specs.History.{place_cmp}
+use Rattle.lock_floor.proofs.Emptying.{still_full, still_empty, not_both, same_value, shows_more}
+use Rattle.lock_floor.proofs.closing.take_cells.Goals as goal
+
+pub loop-i-init : goal.loop-i-init
+loop-i-init c = record {
+  values = λ column is l key. ap (λ m. get m (l, key)) c.requires.none ∙ get-empty place_cmp (l, key);
+  room = refl;
+  items = refl;
+  places = refl;
+  taken = λ k low. c.requires.taken k (omega (arith, low));
+  left = λ k past low. c.requires.left k (omega (arith, past)) low;
+}
+
+pub put-requires : goal.put-requires
+put-requires c =
+    let cells = c.args.cells.now in
+    let i = c.loop-i.i in
+    record { room = subst (λ ps. Contains ps (get_or cells i (0, 0))) (sym c.loop-i.invariant.room) (c.requires.room _ _ (Contains-get_or cells i (0, 0) c.loop-i-test.true)) }
+
+pub unreachable-requires : goal.unreachable-requires
+unreachable-requires c =
+    let i = c.loop-i.i in
+    let known = c.requires.cells i c.loop-i-test.true in
+    not_both known.0 c.in-Record.field-0 (sym known.1 ∙ ap (λ xs. get_elem? xs (c.args.threads + i)) (sym c.loop-i.invariant.items) ∙ c.take.ensures.value ∙ ap some c.in-Record.is)
+
+pub loop-i-preserved : goal.loop-i-preserved
+loop-i-preserved c =
+    let t = c.args.threads + c.loop-i.i in
+    let i = c.loop-i.invariant in
+    let others = c.take.ensures.others in
+    let flags = slots_filled c.loop-i.closed.slots in
+    let cells = c.args.cells.now in
+    let cell = get_or cells c.loop-i.i (0, 0) in
+    let low = c.loop-i-test.true in
+    record {
+      values = λ column is.
+          let here = same_value (column cell.0 cell.1) c.in-Cell.value (sym (is c.loop-i.i (0, 0) low) ∙ ap (λ xs. get_elem? xs t) (sym i.items) ∙ c.take.ensures.value ∙ ap some c.in-Cell.is) in
+          shows_more cells c.loop-i.i column c.loop-i.tables.present low (i.values column is) cell (get_or_default cells c.loop-i.i (0, 0) cell low) c.in-Cell.value c.put.new.tables.present here c.put.ensures.some c.put.ensures.none;
+      room = c.put.ensures.places ∙ i.room;
+      items = others.0 ∙ i.items;
+      places = others.2 ∙ i.places;
+      taken = λ k below. ap (λ fs. get_or fs k false) others.1 ∙ still_empty flags t k (omega (arith, below)) i.taken;
+      left = λ k past below. ap (λ fs. get_or fs k false) others.1 ∙ still_full flags t k (omega (arith, past)) ∙ i.left k (omega (arith, past)) (subst (λ n. k < n) others.2 below);
+    }

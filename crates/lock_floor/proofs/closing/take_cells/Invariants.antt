@@ -1,0 +1,20 @@
+use Rattle.std.proofs.Common.{◌≡◌, ℕ, ◌+◌, ◌<◌, Option, false, get_or, length}
+use mathlib.Core.Option.{some}
+use lib.ListN.{get_elem?}
+use Rattle.std.specs.Mem.Slots.{slots_items, slots_filled, slots_len}
+use Rattle.std.specs.Mem.Slots.Ownership.{Filled}
+use Rattle.floor_table.specs.declared.slot.Slot.TheVariants.{Cell}
+use Rattle.lock_floor.proofs.Emptying.{Shows}
+use Rattle.lock_floor.proofs.closing.take_cells.Given as goal
+
+abbrev pub invariant-loop-i : goal.invariant-loop-i
+invariant-loop-i l = record {
+  values : (column : ℕ → ℕ → Option ℕ)
+      → ((i : ℕ) (d : ℕ × ℕ) → i < length l.cells → get_elem? (slots_items l.initial.closed.slots) (l.threads + i) ≡ some (Cell (column (get_or l.cells i d).0 (get_or l.cells i d).1)))
+      → Shows l.cells l.i column l.tables.present;
+  room : l.tables.places ≡ l.initial.tables.places;
+  items : slots_items l.closed.slots ≡ slots_items l.initial.closed.slots;
+  places : slots_len l.closed.slots ≡ slots_len l.initial.closed.slots;
+  taken : (k : ℕ) → k < l.threads + l.i → get_or (slots_filled l.closed.slots) k false ≡ false;
+  left : Filled (slots_filled l.closed.slots) (l.threads + l.i) (slots_len l.closed.slots);
+}

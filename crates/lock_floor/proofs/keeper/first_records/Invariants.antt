@@ -1,0 +1,10 @@
+use Rattle.std.proofs.Common.{◌≡◌, ℕ, ◌<◌, get_or, length}
+use Rattle.floor_table.specs.declared.slot.Slot.{Slot}
+use Rattle.lock_floor.specs.First.{IsFirst}
+use Rattle.lock_floor.proofs.keeper.first_records.Given as goal
+
+abbrev pub invariant-loop-t : goal.invariant-loop-t
+invariant-loop-t l = record {
+  count : length l.slots.items ≡ l.t;
+  each : (j : ℕ) (d : Slot) → j < l.t → IsFirst l.plan j (get_or l.slots.items j d);
+}

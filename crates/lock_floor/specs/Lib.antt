@@ -1,0 +1,8 @@
+pub mod Floors
+pub mod Ties
+pub mod Views
+pub mod Passes
+pub mod First
+pub mod Turns
+pub mod Closings
+pub mod Changes

@@ -1,0 +1,58 @@
+-- What ties a floor to its table, and a pass and the keeper to what their seats know.
+use Rattle.std.specs.Prelude.{◌≡◌, ℕ, ◌^◌, ◌<◌, ◌≤◌, Bool, true, List, [], length, map, reverse}
+use Rattle.std.specs.FinMap.{empty}
+use Rattle.std.specs.Global.{Vec}
+use Rattle.std.specs.List.{Contains}
+use Rattle.std.specs.declared.alloc.Global.{Global}
+use Rattle.std.specs.declared.boxed.Box.{Box}
+use Rattle.std.specs.Vec.{vec_capacity}
+use Rattle.atomic_table.specs.Table.{Me}
+use Rattle.atomic_table.specs.Seated.{TableId}
+use Rattle.lock_history.specs.Books.{Book, Slots}
+use Rattle.lock_model.specs.declared.event.Held.{Held}
+use Rattle.lock_model.specs.declared.plan.Plan.{Plan}
+use Rattle.floor_table.specs.declared.slot.Slot.{Slot}
+use Rattle.floor_table.specs.Places.{words_for, slots_for, cells_of}
+use Rattle.floor_table.specs.Views.{Knowledge, OfKeeper, OfThread}
+use Rattle.thread_records.specs.declared.record.ThreadRec.{ThreadRec}
+
+-- the table has the plan's words and values, and the number of threads and the cells are the plan's
+pub record IsLaid (plan : Plan) (table : TableId) (count : ℕ) (keys : List (ℕ × ℕ)) : Type 0
+  where
+    pub words : table.words ≡ words_for (slots_for plan)
+    pub slots : table.slots ≡ slots_for plan
+    pub threads : count ≡ length plan.threads
+    pub cells : keys ≡ cells_of plan
+    pub few_locks : length plan.locks ≤ 64
+    pub few_threads : length plan.threads ≤ 32
+    pub few_cells : length keys < 2 ^ 16
+
+-- the pass has the locks and the entries that its seat knows of, room for as many as its thread may hold, and just those
+-- values out that its seat has out: none where it is finished
+pub record IsTied (who : ℕ) (locks : Vec Held) (book : Book) (finished : Bool)
+    (me : Me Slot Knowledge) : Type 0 where
+  pub role : me.0.role ≡ OfThread
+  pub thread : who ≡ me.0.thread
+  pub of_plan : who < length me.0.plan.threads
+  pub few : who < 32
+  pub held : locks.items ≡ me.0.share.held
+  pub room : 8 ≤ vec_capacity locks
+  pub log : book.entries ≡ reverse me.0.share.log
+  pub spare : book.spare ≡ me.0.spare
+  pub out : me.1 ≡ me.0.out
+  pub done : finished ≡ true → me.0.out ≡ []
+
+-- The keeper has the logs of the passes that it took in, in that order, and room for what it has yet to take in: all
+-- logs, all records and the tables.
+pub record IsKept (logs : Vec Book) (recs : Vec (Box ThreadRec Global)) (tables : Slots) (id : ℕ)
+    (me : Me Slot Knowledge) : Type 0 where
+  pub first : id ≡ 0
+  pub role : me.0.role ≡ OfKeeper
+  pub none_out : me.1 ≡ []
+  pub logs_are : map (λ b. b.entries) logs.items ≡ map (λ g. reverse g.1.log) me.0.gathered
+  pub room_for_logs : length me.0.plan.threads ≤ vec_capacity logs
+  pub room_for_records : length me.0.plan.threads ≤ vec_capacity recs
+  pub no_records : recs.items ≡ []
+  pub room_for_cells : (l key : ℕ) → Contains (cells_of me.0.plan) (l, key)
+      → Contains tables.places (l, key)
+  pub no_values : tables.present ≡ empty

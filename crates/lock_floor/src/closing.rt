@@ -1,0 +1,217 @@
+//! The end of a floor: its passes are taken in, and it is closed.
+ghost use Rattle.std.specs.Prelude.{ℕ, ◌≡◌, ◌+◌, ◌<◌, ◌≤◌, ◌^◌, ◌++◌, false, None, Option, IfSome, IfNone, [], ◌∷◌, length, map, reverse, slice_index_or, vec_capacity, if◌then◌else◌};
+ghost use Rattle.std.specs.FinMap.{empty, get, insert};
+ghost use Rattle.std.specs.List.{Contains, list_any};
+ghost use Rattle.std.specs.Mem.Slots.{slots_items, slots_filled, slots_len, IsFull};
+ghost use Rattle.std.specs.Mem.Slots.Ownership.{Filled};
+ghost use mathlib.Core.Option.{some};
+ghost use lib.ListN.{get_elem?};
+ghost use Rattle.atomic_table.specs.Table.{Allows};
+ghost use Rattle.floor_table.specs.Places.{is_cell};
+ghost use Rattle.floor_table.specs.Rule.{FloorHolds};
+ghost use Rattle.floor_table.specs.declared.slot.Slot.TheVariants.{Record, Cell};
+ghost use Rattle.lock_floor.specs.Closings.{IsClosing};
+ghost use Rattle.lock_floor.specs.Passes.{IsKeeperOf, IsFinished};
+
+use crate::floor::{Floor, FloorOf};
+use crate::keeper::{HandOut, Keeper};
+use crate::pass::{Pass, PassOf};
+use atomic_table::{Closed, Join};
+use floor_table::{Board, Law, Place, Slot, Tells, Told, View};
+use lock_history::{Log, Tables};
+use lock_model::{LockNo, Plan};
+use std::alloc::Global;
+use std::marker::Brand;
+use thread_records::ThreadRec;
+
+/// What is left of a floor.
+#[derive(Drop)]
+pub struct Closing {
+    pub(crate) recs: Vec<Box<ThreadRec>>,
+    pub(crate) logs: Vec<Log>,
+    pub(crate) tables: Tables,
+    pub(crate) halted: bool,
+}
+
+impl Closing {
+    /// The record of each thread, by its number.
+    pub fn recs(&self) -> &[Box<ThreadRec>]
+        ensures { result.now ≡ self.now.recs.items }
+    {
+        &self.recs
+    }
+
+    /// The logs of the threads, in the order in which their passes were taken in.
+    pub fn logs(&self) -> &[Log]
+        ensures { result.now ≡ self.now.logs.items }
+    {
+        &self.logs
+    }
+
+    /// The tables of the locks.
+    pub fn tables(&self) -> &Tables
+        ensures { result.now ≡ self.now.tables }
+    {
+        &self.tables
+    }
+
+    /// Whether the run was halted because every live thread slept.
+    pub fn halted(&self) -> bool
+        ensures { result ≡ self.now.halted }
+    {
+        self.halted
+    }
+}
+
+impl Join<View> for HandOut {
+    ghost use Rattle.floor_table.specs.Views.{nothing};
+    ghost use Rattle.lock_floor.specs.Views.{with_pass_taken};
+
+    ghost both = { with_pass_taken };
+
+    ghost spent = { nothing };
+}
+
+impl Keeper {
+    /// Takes in a pass that is finished, with its log. It never waits and takes no memory.
+    pub fn gather(&mut self, floor: &Floor, pass: Pass)
+        requires mine { IsKeeperOf floor.now self.old }
+        requires finished { IsFinished floor.now pass }
+        ensures mine { IsKeeperOf floor.entry.now self.new }
+        ensures gathered { self.new.view.gathered
+            ≡ self.old.view.gathered ++ (pass.view.thread, pass.view.share) ∷ [] }
+    {
+        let PassOf {
+            seat,
+            who: _,
+            held: _,
+            log,
+            finished: _,
+            law: _,
+        } = pass;
+        floor
+            .board
+            .shared
+            .join_seat::<HandOut>(&mut self.seat, seat);
+        ask::<Brand>(&floor.board, &mut self.seat);
+        self.logs.push_reserved(log);
+    }
+}
+
+// Reads a word, so that the seat is told something that the rule says.
+fn ask<J: Tells>(board: &Board, seat: &mut Place) -> u64
+    requires own { seat.old.table_id ≡ board.now.shared.table_id }
+    requires within { 0 < board.now.shared.table_id.words }
+    requires may { Allows (FloorHolds board.now.shared.key) board.now.shared.table_id.slots
+        seat.old.id seat.old.me 0 (λ n. n) (J.told seat.old.me) }
+    ensures own { seat.new.table_id ≡ seat.old.table_id }
+    ensures id { seat.new.id ≡ seat.old.id }
+    ensures told { J.told seat.old.me result seat.new.me }
+{
+    board.shared.load::<Told<J>>(seat, 0)
+}
+
+impl FloorOf<Slot, View, Plan, Law> {
+    /// Closes the floor once all its passes were taken in. It never waits and takes no memory.
+    pub fn close(self, keeper: Keeper) -> Closing
+        requires mine { IsKeeperOf self keeper }
+        requires all { length keeper.view.gathered ≡ length self.plan.threads }
+        ensures closing { IsClosing self.plan (map (λ g. g.0) keeper.view.gathered) result }
+        ensures logs { map (λ b. b.entries) result.logs.items
+            ≡ map (λ g. reverse g.1.log) keeper.view.gathered }
+    {
+        let FloorOf {
+            board,
+            threads,
+            cells,
+        } = self;
+        let Keeper {
+            seat,
+            logs,
+            mut recs,
+            mut tables,
+        } = keeper;
+        let mut closed = board.close_with(seat);
+        take_records(&mut closed, threads, &mut recs);
+        take_cells(&mut closed, threads, &cells, &mut tables);
+        closed.free();
+        Closing {
+            recs,
+            logs,
+            tables,
+            halted: false,
+        }
+    }
+}
+
+// Takes the records of so many threads out of their places, in order.
+fn take_records(closed: &mut Closed<Slot, Global>, threads: usize, recs: &mut Vec<Box<ThreadRec>>)
+    requires full { IsFull closed.old.slots }
+    requires places { threads ≤ slots_len closed.old.slots }
+    requires records { (k : ℕ) → k < threads
+        → (b : _) × (get_elem? (slots_items closed.old.slots) k ≡ some (Record b)) }
+    requires none { recs.old.items ≡ [] }
+    requires room { threads ≤ vec_capacity recs.old }
+    ensures count { length recs.new.items ≡ threads }
+    ensures records { (k : ℕ) (d : _) → k < threads
+        → get_elem? (slots_items closed.old.slots) k
+        ≡ some (Record (slice_index_or recs.new.items k d)) }
+    ensures items { slots_items closed.new.slots ≡ slots_items closed.old.slots }
+    ensures places { slots_len closed.new.slots ≡ slots_len closed.old.slots }
+    ensures taken { (k : ℕ) → k < threads
+        → slice_index_or (slots_filled closed.new.slots) k false ≡ false }
+    ensures left { Filled (slots_filled closed.new.slots) threads (slots_len closed.new.slots) }
+{
+    for t in 0..threads {
+        match closed.take(t) {
+            Slot::Record(rec) => recs.push_reserved(rec),
+            Slot::Cell(_) => unreachable!(),
+        }
+    }
+}
+
+// Takes the cells out of their places, which are behind those of so many threads, and puts the value of each at its key.
+fn take_cells(
+    closed: &mut Closed<Slot, Global>,
+    threads: usize,
+    cells: &[(u8, u64)],
+    tables: &mut Tables,
+)
+    requires few { threads + length cells.now < 2 ^ 32 }
+    requires places { slots_len closed.old.slots ≡ threads + length cells.now }
+    requires taken { (k : ℕ) → k < threads
+        → slice_index_or (slots_filled closed.old.slots) k false ≡ false }
+    requires left { Filled (slots_filled closed.old.slots) threads (slots_len closed.old.slots) }
+    requires cells { (i : ℕ) → i < length cells.now
+        → (x : _) × (get_elem? (slots_items closed.old.slots) (threads + i) ≡ some (Cell x)) }
+    requires none { tables.old.present ≡ empty }
+    requires room { (l key : ℕ) → Contains cells.now (l, key)
+        → Contains tables.old.places (l, key) }
+    ensures values { (column : ℕ → ℕ → Option ℕ)
+        → ((i : ℕ) (d : ℕ × ℕ) → i < length cells.now
+        → get_elem? (slots_items closed.old.slots) (threads + i)
+        ≡ some (Cell (column (slice_index_or cells.now i d).0 (slice_index_or cells.now i d).1)))
+        → (l key : ℕ) → get tables.new.present (l, key)
+        ≡ (if list_any (is_cell l key) cells.now then column l key else None) }
+    ensures taken { (k : ℕ) → k < slots_len closed.new.slots
+        → slice_index_or (slots_filled closed.new.slots) k false ≡ false }
+{
+    for (i, (l, key)) in cells.iter().enumerate() {
+        match closed.take(threads + i) {
+            Slot::Cell(value) => put(tables, LockNo(*l), *key, value),
+            Slot::Record(_) => unreachable!(),
+        }
+    }
+}
+
+// Puts the value of a cell at its key, where there is one.
+fn put(tables: &mut Tables, l: LockNo, key: u64, value: Option<u64>)
+    requires room { Contains tables.old.places (l.0, key) }
+    ensures places { tables.new.places ≡ tables.old.places }
+    ensures some { IfSome value (λ v. tables.new.present ≡ insert tables.old.present (l.0, key) v) }
+    ensures none { IfNone value (tables.new.present ≡ tables.old.present) }
+{
+    if let Some(v) = value {
+        tables.put(l, key, v);
+    }
+}

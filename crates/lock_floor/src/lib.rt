@@ -1,0 +1,34 @@
+//! A running floor: threads of a plan run beside each other on the lock words, turns and records of one table, and each
+//! of their atomic steps is a step of `lock_state`, so that the table represents a lawful state between any two.
+//!
+//! - `floor`: the floor, which all threads share.
+//! - `pass`: what a thread steps with: its seat at the table, the locks that it holds, and its log.
+//! - `steps`: the atomic steps of a thread on lock words.
+//! - `stamps`: those that make an entry.
+//! - `tables`: changes and reads of the locks' tables.
+//! - `laws`: what a read finds, and what a change leaves.
+//! - `keeper`: making a floor with its passes.
+//! - `prios`: the priorities of a thread, and its end.
+//! - `closing`: taking passes in, and what is left of a floor that is closed.
+//! - `turns`: those that take a record or a cell out and give it back.
+//! - `ties`: what is true of each floor and pass.
+#![tactic(auto)]
+
+mod closing;
+mod floor;
+mod keeper;
+pub mod laws;
+mod pass;
+mod prios;
+mod stamps;
+mod steps;
+mod tables;
+mod ties;
+mod turns;
+
+pub use closing::Closing;
+pub use floor::{Floor, FloorOf};
+pub use keeper::Keeper;
+pub use pass::{Pass, PassOf};
+pub use tables::Change;
+pub use ties::Ties;

@@ -1,0 +1,73 @@
+//! What a thread of a floor steps with.
+ghost use Rattle.std.specs.Prelude.{◌≡◌};
+ghost use Rattle.lock_model.specs.Operations.{hold_in};
+ghost use Rattle.lock_floor.specs.Passes.{hold_of};
+
+use crate::ties::Ties;
+use atomic_table::Seat;
+use floor_table::{Law, Slot, View};
+use lock_history::Log;
+use lock_model::{Held, LockNo, Mode, Plan, ThreadNo, place_held};
+use std::marker::{Model, PhantomData};
+
+/// A pass to a table of any values, views and keys.
+#[derive(Drop)]
+pub struct PassOf<S, V, K, P: Ties<S, V, K>> {
+    pub(crate) seat: Seat<S, V>,
+    pub(crate) who: ThreadNo,
+    /// The locks that the thread holds, in order of acquisition. There is room for as many as a thread may hold.
+    pub(crate) held: Vec<Held>,
+    pub(crate) log: Log,
+    pub(crate) finished: bool,
+    pub(crate) law: PhantomData<(K, P)>,
+}
+
+impl<S, V, K, P: Ties<S, V, K>> Model for PassOf<S, V, K, P> {
+    ghost use Rattle.lock_floor.specs.Floors.{Pass};
+
+    ghost Value = { Pass V };
+
+    ghost view = { λ p. record {
+      table = p.seat.table_id;
+      view = p.seat.me.0;
+      finished = p.finished;
+    } };
+
+    ghost invariant = { λ p. P.tied p.who.0 p.held p.log p.finished p.seat.me };
+}
+
+/// The pass of a thread: its seat at the floor's table, the locks that it holds, and its log.
+pub type Pass = PassOf<Slot, View, Plan, Law>;
+
+impl PassOf<Slot, View, Plan, Law> {
+    /// The thread.
+    pub fn thread(&self) -> ThreadNo
+        ensures { result.0 ≡ self.now.view.thread }
+    {
+        self.who
+    }
+
+    /// How many entries it has room for.
+    pub fn spare(&self) -> u32
+        ensures { result ≡ self.now.view.spare }
+    {
+        self.log.spare()
+    }
+
+    /// The locks that it holds, in order of acquisition.
+    pub fn held(&self) -> &[Held]
+        ensures { result.now ≡ self.now.view.share.held }
+    {
+        &self.held
+    }
+
+    /// The mode in which it holds the lock. `None` comes exactly where it doesn't hold it.
+    pub fn mode(&self, l: LockNo) -> Option<Mode>
+        ensures { hold_of result ≡ hold_in self.now.view.share.held l.0 }
+    {
+        match place_held(l, &self.held) {
+            Some(i) => Some(self.held[i].mode),
+            None => None,
+        }
+    }
+}

@@ -1,0 +1,207 @@
+#!/usr/bin/env python3
+"""Makes random scripts of mutexes that no run can get stuck in: 2 to 32 threads, 1 to 8 locks, each of a class of its
+own. A thread takes a lock by a blocking call only while every lock that it holds, by a take or a try, has a smaller
+number; a try may be of any lock that it doesn't hold. So under `run` and under `step` every thread comes to its end.
+
+    make_scripts.py [--program PATH] N SEED DIR
+
+writes DIR/0000.script and so on, the same for the same N and SEED. Each is read by scripts.py, and with --program by
+`PATH check` too, which must say the same counts. Status 1 where one isn't accepted.
+"""
+import argparse
+import random
+import subprocess
+import sys
+from pathlib import Path
+
+from scripts import MODULUS, MOST_BLOCKS, MOST_HELD, MOST_OPERATIONS, ScriptFault, read_script
+
+
+class ThreadMaker:
+    """Writes the operations of one thread, at most as many as it is given."""
+
+    def __init__(self, draw, locks, most, style):
+        self.draw = draw
+        self.locks = locks
+        self.left = most
+        self.style = style
+        self.lines = []
+        # what is held, in order: (lock, by a try)
+        self.held = []
+        self.blocks = 0
+
+    def write(self, line):
+        self.lines.append(line)
+        self.left -= 1
+
+    def make(self):
+        while self.make_one(0):
+            pass
+        self.give_back(0)
+        return self.lines
+
+    def owed(self):
+        """How many operations it takes to end from here: a release for each lock, an endtry for each block."""
+        return len(self.held) + self.blocks
+
+    def make_one(self, kept):
+        """One operation, or a whole block, that leaves so many locks at the front of the held list as they are. False
+        where no room is left for one."""
+        room = self.left - self.owed()
+        if room < 1:
+            return False
+        choices = {self.note: self.style.notes}
+        if self.held:
+            choices[self.edit] = self.style.edits
+        if len(self.held) > kept:
+            choices[self.release] = self.style.releases
+        # a take needs its release too, and a try its endtry besides
+        if room >= 2 and len(self.held) < MOST_HELD and self.may_take():
+            choices[self.take] = self.style.takes
+        if room >= 3 and len(self.held) < min(MOST_HELD, self.locks) and self.blocks < MOST_BLOCKS:
+            choices[self.try_one] = self.style.tries
+        self.draw.choices(list(choices), list(choices.values()))[0](kept)
+        return True
+
+    def may_take(self):
+        """The locks that a blocking call may take."""
+        return range(1 + max((lock for lock, _ in self.held), default=-1), self.locks)
+
+    def take(self, kept):
+        # a near lock leaves more for the takes behind
+        lock = min(self.draw.choices(self.may_take(), k=2))
+        self.write(f"lock m{lock}")
+        self.held.append((lock, False))
+
+    def release(self, kept):
+        place = self.draw.randrange(kept, len(self.held))
+        if self.draw.random() < 0.6:
+            place = len(self.held) - 1
+        lock, _ = self.held.pop(place)
+        self.write(f"unlock m{lock}")
+
+    def give_back(self, kept):
+        while len(self.held) > kept:
+            self.release(kept)
+
+    def edit(self, kept):
+        lock = self.draw.choice(self.held)[0]
+        key = self.draw.choice((0, 1, 1, 2, 3, 7, MODULUS - 1))
+        word = self.draw.choices(("add", "set", "get"), (5, 1, 3))[0]
+        amount = self.draw.choice((self.draw.randrange(100), self.draw.randrange(MODULUS), MODULUS - 1))
+        self.write(f"get m{lock} {key}" if word == "get" else f"{word} m{lock} {key} {amount}")
+
+    def note(self, kept):
+        self.write("show" if self.draw.random() < 0.7 else f"prio {self.draw.randrange(256)}")
+
+    def try_one(self, kept):
+        """A try and its block, behind which the held list is what it was before it. A lock that the block began with
+        isn't given back in it, save at its end; the tried one may be."""
+        before = len(self.held)
+        held = {lock for lock, _ in self.held}
+        lock = self.draw.choice([lock for lock in range(self.locks) if lock not in held])
+        self.write(f"trylock m{lock}")
+        self.held.append((lock, True))
+        self.blocks += 1
+        for _ in range(self.draw.randrange(self.style.block)):
+            self.make_one(before)
+        self.give_back(before)
+        self.step_aside()
+        self.write("endtry")
+        self.blocks -= 1
+
+    def step_aside(self):
+        """At the end of a block, the lock taken last before it is sometimes given back and taken again."""
+        if not self.held or self.left - self.owed() < 2 or self.draw.random() > 0.3:
+            return
+        lock, by_try = self.held[-1]
+        if not by_try and all(lock > other for other, _ in self.held[:-1]):
+            self.write(f"unlock m{lock}")
+            self.write(f"lock m{lock}")
+
+
+class Style:
+    """How often a script's threads do what."""
+
+    def __init__(self, draw):
+        self.takes = draw.choice((2, 4, 8))
+        self.tries = draw.choice((0, 1, 2, 4))
+        self.notes = draw.choice((0.2, 1))
+        self.edits = draw.choice((1, 3, 6))
+        self.releases = draw.choice((2, 4, 8))
+        self.block = draw.choice((2, 6, 12))
+
+
+def make_script(seed, number):
+    draw = random.Random(f"{seed} {number}")
+    threads = draw.choice((2, 2, 3, 4, 4, 6, 8, 12, 16, 24, 32))
+    locks = draw.choice((1, 1, 2, 3, 4, 6, 8))
+    # few operations in most scripts, as many as there may be in some
+    most = int(min(MOST_OPERATIONS / threads, 4 * 300 ** draw.random() if draw.random() < 0.97 else MOST_OPERATIONS))
+    style = Style(draw)
+    lines = ["lockrun 1"]
+    lines += [f"mutex m{lock} c{lock}" for lock in range(locks)]
+    for thread in range(threads):
+        lines.append(f"thread t{thread} {draw.randrange(256)}")
+        lines += ThreadMaker(draw, locks, draw.randrange(most // 2, most + 1), style).make()
+        lines.append("end")
+    if draw.random() < 0.5:
+        for _ in range(draw.randrange(1, 30)):
+            lines.append("schedule " + " ".join(f"t{draw.randrange(threads)}" for _ in range(draw.randrange(1, 11))))
+    lines.append("done")
+    return "".join(line + "\n" for line in lines).encode()
+
+
+def keeps_to_the_order(plan):
+    """Whether each take's lock has a greater number than all that its thread holds there."""
+    for thread in plan.threads:
+        held = []
+        for operation in thread.operations:
+            if operation.word == "lock" and any(other >= operation.lock for other in held):
+                return False
+            if operation.word in ("lock", "trylock"):
+                held.append(operation.lock)
+            elif operation.word == "unlock":
+                held.remove(operation.lock)
+    return True
+
+
+def judge(source, program):
+    """Why the script isn't what it should be, or None."""
+    try:
+        plan = read_script(source)
+    except ScriptFault as fault:
+        return str(fault)
+    if not keeps_to_the_order(plan):
+        return "a take out of order"
+    if program is None:
+        return None
+    answer = subprocess.run([program, "check"], input=source, capture_output=True, timeout=20, check=False)
+    counts = (f"ok threads {len(plan.threads)} locks {len(plan.locks)} channels 0 classes {len(plan.classes)} "
+              f"operations {sum(len(thread.operations) for thread in plan.threads)}\n")
+    if answer.returncode != 0 or answer.stdout.decode() != counts:
+        return f"{program} check: status {answer.returncode}, {answer.stdout.decode().strip()}"
+    return None
+
+
+def main():
+    words = argparse.ArgumentParser(description="Makes random scripts of mutexes.")
+    words.add_argument("--program", help="a lockrun, whose check must accept each script")
+    words.add_argument("count", type=int)
+    words.add_argument("seed")
+    words.add_argument("folder", type=Path)
+    given = words.parse_args()
+    given.folder.mkdir(parents=True, exist_ok=True)
+    for number in range(given.count):
+        source = make_script(given.seed, number)
+        file = given.folder / f"{number:04}.script"
+        file.write_bytes(source)
+        reason = judge(source, given.program)
+        if reason is not None:
+            print(f"{file}: {reason}")
+            return 1
+    return 0
+
+
+if __name__ == "__main__":
+    sys.exit(main())
