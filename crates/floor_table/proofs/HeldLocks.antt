@@ -1,5 +1,5 @@
 -- On a running floor only the plan's locks are held.
-use Rattle.std.proofs.Common.{◌≡◌, ℕ, ◌<◌, sym, ◌∙◌, subst, inl, inr}
+use Rattle.std.proofs.Common.{◌≡◌, ℕ, ◌<◌, List, sym, ◌∙◌, subst, inl, inr}
 use Rattle.std.proofs.lemmas.Bool.{cases_eq}
 use Rattle.lock_model.specs.Config.{Config}
 use Rattle.lock_model.specs.Holds.{Hold, NotHeld, Holds}
@@ -15,7 +15,7 @@ use Rattle.lock_state.specs.Steps.Items.{after_take, after_give}
 use Rattle.lock_state.specs.Steps.Orders.{after_admit, after_refuse}
 use Rattle.lock_state.specs.Steps.{Step, Gains, Drops, Opens, OpensSleepQueue, Claims, May, after}
 use Rattle.lock_laws.proofs.Kit.{put_at_same, put_at_other, put_at_beside}
-use Rattle.floor_table.specs.Steps.{IsReached, begins, goes_on}
+use Rattle.floor_table.specs.Past.{LeadsTo, none, more}
 
 module _ (c : Config) (held : ℕ → ℕ → Hold) (h : OnlyLocksAreHeld c held) (t l : ℕ) where
   gained : (mode : Mode) → l < c.locks → OnlyLocksAreHeld c (put_at held t l (Holds mode))
@@ -51,10 +51,10 @@ at_start : (c : Config) → OnlyLocksAreHeld c (start_state c).held
 unfolding start_state OnlyLocksAreHeld
 at_start c t l mode e = absurd cc
 
-reached : (c : Config) (s : State) → IsReached c s → OnlyLocksAreHeld c s.held
-reached c s begins = at_start c
-reached c n (goes_on {s} r p) = subst (λ (m : State). OnlyLocksAreHeld c m.held) (sym p.4) (kept c s p.0 p.1 (reached c s r))
+reached : (c : Config) {past : List Step} (s : State) → LeadsTo c past s → OnlyLocksAreHeld c s.held
+reached c s none = at_start c
+reached c n (more {s} step r p) = kept c s step p.0 (reached c s r)
 
-pub only_locks : (c : Config) (s : State) (t l : ℕ) (mode : Mode) → IsReached c s → s.held t l ≡ Holds mode → l < c.locks
+pub only_locks : (c : Config) {past : List Step} (s : State) (t l : ℕ) (mode : Mode) → LeadsTo c past s → s.held t l ≡ Holds mode → l < c.locks
 unfolding OnlyLocksAreHeld
 only_locks c s t l mode r e = reached c s r t l mode e

@@ -7,5 +7,6 @@ pub mod Items
 pub mod Known
 pub mod Stepped
 pub mod Sound
+pub mod Seen
 pub mod Made
 pub mod HeldLocks

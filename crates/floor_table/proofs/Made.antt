@@ -21,11 +21,13 @@ use Rattle.floor_table.specs.Views.{OfThread, Knowledge, nothing}
 use Rattle.floor_table.specs.Places.{spot, lock_line, ticket_line, turn_line, word_at, lock_word, turn_word, slots_for, slot_of, home_at}
 use Rattle.floor_table.specs.Shares.{share_in}
 use Rattle.floor_table.specs.Shelves.{Shelves}
-use Rattle.floor_table.specs.Represents.{Board, RepresentsLocks, RepresentsTurns, RepresentsObjects, objects_in, IsSeatOf, to_come, Represents, thread_in}
+use Rattle.floor_table.specs.Past.{past_with, AreSeen}
+use Rattle.floor_table.specs.Represents.{Board, RepresentsLocks, RepresentsTurns, RepresentsObjects, objects_in, IsSeatOf, to_come, Represents, keeper_in, thread_in}
 use Rattle.floor_table.specs.Steps.{IsSound, MayAll, Fits, Makes}
 use Rattle.floor_table.specs.Rule.{FloorHolds}
 use Rattle.floor_table.proofs.Lists.{inside, at_or, field_set}
-use Rattle.floor_table.proofs.Known.{fits_of}
+use Rattle.floor_table.proofs.Known.{fits_of, seen_of}
+use Rattle.floor_table.proofs.Seen.{AreOf, seen_stepped}
 use Rattle.floor_table.proofs.Sound.{sound_kept}
 use Rattle.floor_table.proofs.Items.{place_low, turns_changed}
 use Rattle.floor_table.proofs.Shelved.{shelf_taken, shelf_given}
@@ -41,16 +43,31 @@ Steps plan me i found new told b =
 
 -- a table that the step may find
 pub record Finds (plan : Plan) (v : Knowledge) (b : Board) : Type 0 where
+  pub past : List Step
   pub state : State
-  pub sound : IsSound (config_of plan) state
+  pub sound : IsSound (config_of plan) past state
   pub represents : Represents plan b state
+  pub seen : AreSeen b.views past
   pub fits : Fits plan v state
   pub there : get_elem? b.views (suc v.thread) ≡ some v
 
 pub finds : (plan : Plan) (b : Board) (i : ℕ) (v : Knowledge) → FloorHolds plan b → get_elem? b.views i ≡ some v → v.role ≡ OfThread → (i ≡ suc v.thread) × Finds plan v b
 finds plan b i v holds at is =
-    let p = fits_of plan b holds.0 i v holds.1 holds.2 at is in
-    (p.0, record { state = holds.0; sound = holds.1; represents = holds.2; fits = p.1; there = subst (λ j. get_elem? b.views j ≡ some v) p.0 at })
+    let p = fits_of plan b holds.state i v holds.sound holds.represents holds.seen at is in (
+      p.0,
+      record {
+        past = holds.past;
+        state = holds.state;
+        sound = holds.sound;
+        represents = holds.represents;
+        seen = holds.seen;
+        fits = p.1;
+        there = subst (λ j. get_elem? b.views j ≡ some v) p.0 at;
+      },
+    )
+
+pub rule_of : (plan : Plan) (v : Knowledge) (b : Board) → Finds plan v b → FloorHolds plan b
+rule_of plan v b h = record { past = h.past; state = h.state; sound = h.sound; represents = h.represents; seen = h.seen }
 
 -- so it may be made on each table
 pub allows : (plan : Plan) (slots id : ℕ) (me : Me Slot Knowledge) (i : ℕ) (f : ℕ → ℕ) (told : ℕ → Me Slot Knowledge → Type 0) → me.0.role ≡ OfThread
@@ -71,25 +88,45 @@ exchange_allows plan slots id me i old new told is hit miss =
 
 -- 2. What it tells
 
+-- what a thread's seat knows behind its steps, and that the others' shares stay
+pub record OwnSteps (v w : Knowledge) (past steps : List Step) (s n : State) : Type 0 where
+  pub role : w.role ≡ OfThread
+  pub seen : w.seen ≡ past_with past steps
+  pub makers : AreOf v.thread steps
+  pub seat : IsSeatOf w n v.thread
+  pub others : (u : ℕ) → u ≢ v.thread → share_in n u ≡ share_in s u
+
 -- where the table then represents the state behind steps that may be made, the rule holds, and the thread made them
-pub made : (plan : Plan) (steps : List Step) (b behind : Board) (v w : Knowledge) (h : Finds plan v b) → v.role ≡ OfThread → w.role ≡ OfThread → MayAll (config_of plan) h.state steps → behind.views ≡ set b.views (suc v.thread) w
+pub made : (plan : Plan) (steps : List Step) (b behind : Board) (v w : Knowledge) (h : Finds plan v b) → v.role ≡ OfThread → MayAll (config_of plan) h.state steps → OwnSteps v w h.past steps h.state (after_all (config_of plan) h.state steps) → behind.views ≡ set b.views (suc v.thread) w
     → Represents plan behind (after_all (config_of plan) h.state steps) → FloorHolds plan behind × Makes plan steps v w
-made plan steps b behind v w h role role_behind may views r = (
-  (after_all (config_of plan) h.state steps, sound_kept (config_of plan) h.state steps may h.sound, r),
-  record {
-    role = role;
-    role_behind = role_behind;
-    before = b;
-    behind = behind;
-    state = h.state;
-    sound = h.sound;
-    represents = h.represents;
-    may = may;
-    represents_behind = r;
-    was = at_or b.views (suc v.thread) v nothing h.there;
-    is = ap (λ vs. thread_in vs v.thread) views ∙ get_or-set_same b.views (suc v.thread) w nothing (inside b.views (suc v.thread) v h.there);
-  },
-)
+made plan steps b behind v w h role may own views r =
+    let here : thread_in b.views v.thread ≡ v = at_or b.views (suc v.thread) v nothing h.there in
+    let low : v.thread < (keeper_in b.views).made = let p = inside b.views (suc v.thread) v h.there in omega (arith, p, h.represents.seats.made) in (
+      record {
+        past = past_with h.past steps;
+        state = after_all (config_of plan) h.state steps;
+        sound = sound_kept (config_of plan) h.state steps may h.sound;
+        represents = r;
+        seen = subst (λ vs. AreSeen vs (past_with h.past steps)) (sym views) (seen_stepped b.views v.thread v w h.past steps h.there low own.seen own.makers h.seen);
+      },
+      record {
+        role = role;
+        role_behind = own.role;
+        past = h.past;
+        since = seen_of b.views h.past v here h.seen role;
+        own = own.makers;
+        seen = own.seen;
+        before = b;
+        behind = behind;
+        state = h.state;
+        sound = h.sound;
+        represents = h.represents;
+        may = may;
+        represents_behind = r;
+        was = here;
+        is = ap (λ vs. thread_in vs v.thread) views ∙ get_or-set_same b.views (suc v.thread) w nothing (inside b.views (suc v.thread) v h.there);
+      },
+    )
 
 -- 3. By kind of word
 
@@ -100,13 +137,7 @@ pub record SameRest (s n : State) : Type 0 where
   pub objects : objects_in n ≡ objects_in s
   pub begun : to_come n ≡ to_come s
 
--- what a thread's seat knows of the state behind, and that the others' shares stay
-pub record OwnShare (v w : Knowledge) (s n : State) : Type 0 where
-  pub role : w.role ≡ OfThread
-  pub seat : IsSeatOf w n v.thread
-  pub others : (u : ℕ) → u ≢ v.thread → share_in n u ≡ share_in s u
-
-module _ (plan : Plan) (steps : List Step) (b : Board) (v w : Knowledge) (h : Finds plan v b) (was : v.role ≡ OfThread) (may : MayAll (config_of plan) h.state steps) (own : OwnShare v w h.state (after_all (config_of plan) h.state steps)) (cs : List (ℕ × Slot)) where
+module _ (plan : Plan) (steps : List Step) (b : Board) (v w : Knowledge) (h : Finds plan v b) (was : v.role ≡ OfThread) (may : MayAll (config_of plan) h.state steps) (own : OwnSteps v w h.past steps h.state (after_all (config_of plan) h.state steps)) (cs : List (ℕ × Slot)) where
   abbrev s : State
   s = h.state
 
@@ -128,7 +159,7 @@ module _ (plan : Plan) (steps : List Step) (b : Board) (v w : Knowledge) (h : Fi
   lock_made l x y low says column rest spares out =
       let behind : Board = stepped b (spot (lock_line l)) x (suc v.thread) cs w keeps in
       let r = h.represents in
-      made plan steps b behind v w h was own.role may refl
+      made plan steps b behind v w h was may own refl
       (lock_stepped plan b s n r v.thread v w h.there was own.role own.seat own.others rest.begun cs l x y r.content low says column rest.next rest.items spares
       (subst (λ o. Shelves (slots_for plan) (turn_word b.words) (home_at b.homes) o r.content) (outs_stay out) r.shelves)
       (subst (RepresentsObjects plan r.content) (sym rest.objects) r.objects))
@@ -145,7 +176,7 @@ module _ (plan : Plan) (steps : List Step) (b : Board) (v w : Knowledge) (h : Fi
       → FloorHolds plan (stepped b (spot ticket_line) x (suc v.thread) cs w keeps) × Makes plan steps v w
   ticket_made x content more column next items begun spares shelves objects =
       let behind : Board = stepped b (spot ticket_line) x (suc v.thread) cs w keeps in
-      made plan steps b behind v w h was own.role may refl
+      made plan steps b behind v w h was may own refl
       (ticket_stepped plan b s n h.represents v.thread v w h.there was own.role own.seat own.others begun cs x content more column next items spares shelves objects)
 
   -- the states differ at most in who has an item out
@@ -165,7 +196,7 @@ module _ (plan : Plan) (steps : List Step) (b : Board) (v w : Knowledge) (h : Fi
       let behind : Board = stepped b (spot (turn_line j)) (suc v.thread) (suc v.thread) cs w (takes j x) in
       let low = place_low plan i j place in
       let fits : j < length b.homes = omega (arith, low, r.sizes.slots) in
-      made plan steps b behind v w h was own.role may refl
+      made plan steps b behind v w h was may own refl
       (turn_stepped plan b s n r v.thread v w h.there was own.role own.seat own.others rest.begun cs j (suc v.thread) (takes j x) r.content low (length-set b.homes j slots.none) rest.word rest.next spares
       (subst (RepresentsTurns plan (put (turn_word b.words) j (suc v.thread))) (sym rest.items) (turns_changed plan s (turn_word b.words) i j (suc v.thread) (Some v.thread) place refl r.turns))
       (subst (λ (z : (ℕ → slots.Option Slot) × List (ℕ × Slot)). Shelves (slots_for plan) (put (turn_word b.words) j (suc v.thread)) z.0 (put outs v.thread z.1) r.content)
@@ -182,7 +213,7 @@ module _ (plan : Plan) (steps : List Step) (b : Board) (v w : Knowledge) (h : Fi
       let low = place_low plan i j place in
       let fits : j < length b.homes = omega (arith, low, r.sizes.slots) in
       let homes : homes_after b.homes cs gives ≡ set b.homes j (some x) = ap (put_back b.homes) carried in
-      made plan steps b behind v w h was own.role may refl
+      made plan steps b behind v w h was may own refl
       (turn_stepped plan b s n r v.thread v w h.there was own.role own.seat own.others rest.begun cs j 0 gives r.content low (ap (λ hs. length hs) homes ∙ length-set b.homes j (some x)) rest.word rest.next spares
       (subst (RepresentsTurns plan (put (turn_word b.words) j 0)) (sym rest.items) (turns_changed plan s (turn_word b.words) i j 0 None place refl r.turns))
       (subst (λ (z : (ℕ → slots.Option Slot) × List (ℕ × Slot)). Shelves (slots_for plan) (put (turn_word b.words) j 0) z.0 (put outs v.thread z.1) r.content)

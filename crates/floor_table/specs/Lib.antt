@@ -3,5 +3,6 @@ pub mod Shares
 pub mod Views
 pub mod Shelves
 pub mod Represents
+pub mod Past
 pub mod Steps
 pub mod Rule

@@ -1,33 +1,26 @@
 -- What the threads of a floor do: each makes steps of `lock_state`, under what a running floor asks beside.
 use Rattle.std.specs.Prelude.{◌≡◌, ℕ, ◌<◌, List, [], ◌∷◌, length, Some, ⊤}
+use Rattle.std.specs.List.{All}
 use mathlib.Core.Option.{some}
 use Rattle.lock_model.specs.Config.{Config}
 use Rattle.lock_model.specs.Plans.{config_of}
 use Rattle.lock_model.specs.declared.plan.Plan.{Plan}
-use Rattle.lock_state.specs.State.{State, Running, start_state}
+use Rattle.lock_state.specs.State.{State, Running}
 use Rattle.lock_state.specs.Facts.{LawfulFloor}
-use Rattle.lock_state.specs.Steps.{Step, May, HasOut, HasSeen, IsFloorStep, after, after_all}
+use Rattle.lock_state.specs.Steps.{Step, May, HasOut, HasSeen, after, after_all}
 use Rattle.lock_state.specs.Steps.Items.{Item, item_with}
 use Rattle.lock_laws.specs.Rounds.{LawfulRounds}
 use Rattle.lock_laws.specs.Sleepers.{SleepersFit, by_chain}
 use Rattle.floor_table.specs.declared.slot.Slot.{Slot}
+use Rattle.floor_table.specs.Past.{chains, maker, LeadsTo, IsSeenBy, past_with}
 use Rattle.floor_table.specs.Places.{slot_of}
 use Rattle.floor_table.specs.Shelves.{found}
 use Rattle.floor_table.specs.Views.{OfThread, Knowledge}
 use Rattle.floor_table.specs.Represents.{Board, RepresentsShare, IsOf, Represents, objects_in, thread_in}
 
--- there is one chain of each sort so far
-abbrev pub chains : ℕ
-chains = 1
-
--- the states that steps of threads of a floor reach from the start
-pub data IsReached (c : Config) : State → Type 0 where
-  begins : IsReached c (start_state c)
-  goes_on : {s n : State} → IsReached c s → IsFloorStep chains c s n → IsReached c n
-
--- what holds of a state between two steps of threads of a floor
-pub record IsSound (c : Config) (s : State) : Type 0 where
-  pub reached : IsReached c s
+-- what holds of a state between two steps of threads of a floor, to which these steps led
+pub record IsSound (c : Config) (past : List Step) (s : State) : Type 0 where
+  pub reached : LeadsTo c past s
   pub floor : LawfulFloor c s
   pub rounds : LawfulRounds chains c s
   pub sleepers : SleepersFit (by_chain chains s) c s
@@ -48,9 +41,12 @@ pub record HasJust (plan : Plan) (out : List (ℕ × Slot)) (s : State) (t : ℕ
   pub no_other : (i : Item) → item_with s i ≡ Some t
       → (j : ℕ) × (slot_of plan i ≡ Some j) × ((x : Slot) × (found j out ≡ some x))
 
--- the state is one of which a thread's seat may know what it knows. The thread runs
+-- The state is one of which a thread's seat may know what it knows: others' steps led to it from the one behind the
+-- thread's last step. The thread runs.
 pub record Fits (plan : Plan) (v : Knowledge) (s : State) : Type 0 where
-  pub sound : IsSound (config_of plan) s
+  pub past : List Step
+  pub sound : IsSound (config_of plan) past s
+  pub seen : IsSeenBy v.thread v.seen past
   pub thread : v.thread < length plan.threads
   pub share : RepresentsShare v.share s v.thread
   pub out : HasJust plan v.out s v.thread
@@ -63,15 +59,20 @@ MayMake plan v premise steps =
 
 -- 2. What it did
 
--- The table represented a state in which the thread may make the steps, and then it represented the state behind them:
--- so what the thread's seat knew came to what it knows.
+-- The thread made the steps, all its own, on the one table, of which all steps so far are `past`: the ones that its seat
+-- had seen, and then others' steps. The table represented the state to which these lead, in which the thread may make
+-- its steps, and then it represented the state behind them; the seat has seen them, and nobody made one in between.
 pub record Makes (plan : Plan) (steps : List Step) (old new : Knowledge) : Type 0 where
   pub role : old.role ≡ OfThread
   pub role_behind : new.role ≡ OfThread
+  pub past : List Step
+  pub since : IsSeenBy old.thread old.seen past
+  pub own : All (λ step. maker step ≡ old.thread) steps
+  pub seen : new.seen ≡ past_with past steps
   pub before : Board
   pub behind : Board
   pub state : State
-  pub sound : IsSound (config_of plan) state
+  pub sound : IsSound (config_of plan) past state
   pub represents : Represents plan before state
   pub may : MayAll (config_of plan) state steps
   pub represents_behind : Represents plan behind (after_all (config_of plan) state steps)

@@ -4,6 +4,7 @@ use Rattle.lock_model.specs.Plans.{operations_of}
 use Rattle.lock_model.specs.declared.plan.Op.{Op}
 use Rattle.lock_model.specs.declared.plan.Plan.{Plan}
 use Rattle.lock_model.specs.declared.plan.ThreadDecl.{ThreadDecl}
+use Rattle.lock_state.specs.Steps.{Step}
 use Rattle.floor_table.specs.declared.slot.Slot.{Slot}
 use Rattle.floor_table.specs.Shares.{Share, start_share}
 
@@ -16,6 +17,9 @@ pub data Role : Type 0 where
 pub record Knowledge : Type 0 where
   pub role : Role
   pub plan : Plan
+  -- the steps that had been made, the newest first: of a thread when it made its last one, with that one; of the keeper
+  -- when the last of the passes that it took in had made its last
+  pub seen : List Step
   -- how many entries may still be made
   pub spare : ℕ
   -- of a thread: its number, its share, and what it has out, each with its place
@@ -31,6 +35,7 @@ abbrev pub nothing : Knowledge
 nothing = record {
   role = OfNobody;
   plan = record { classes = []; locks = []; chans = []; threads = []; schedule = [] };
+  seen = [];
   spare = 0;
   thread = 0;
   share = start_share;
@@ -38,6 +43,10 @@ nothing = record {
   made = 0;
   gathered = [];
 }
+
+-- the same, where these steps had been made
+abbrev pub seeing : List Step → Knowledge → Knowledge
+seeing steps v = record v { seen = steps }
 
 -- room for the entries of a thread: two for each operation
 abbrev pub room_of : List Op → ℕ
