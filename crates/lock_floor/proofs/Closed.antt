@@ -20,6 +20,7 @@ use Rattle.lock_objects.specs.Represents.{RecordColumns, RepresentsRecord, recor
 use Rattle.lock_state.specs.Facts.{TurnstileIsLent, SleepQueueIsLent, OneTurnstileEach, OneSleepQueueEach, StandingIsQueued, LoansAreWithOwners, BasesReplay, LogsAreParts}
 use Rattle.lock_state.specs.Facts.Queues.{turnstile_places, sleep_queue_places}
 use Rattle.lock_state.specs.State.{State, Loan, Wait, Running, Queued, start_state}
+use Rattle.lock_state.specs.Steps.{Step}
 use Rattle.lock_state.specs.Steps.Items.{RecordOf, CellOf}
 use Rattle.lock_laws.proofs.Kit.{sum_below-two, one_same}
 use Rattle.thread_records.specs.Loans.{loan_for}
@@ -63,7 +64,7 @@ unlent : (owner : Option ℕ) (t : ℕ) (o : Option Loan) → owner ≡ None →
 unlent owner t None e h = refl
 unlent owner t (Some x) e h = absurd (let z : None ≡ Some t = sym e ∙ h x refl in cc)
 
-module _ (plan : Plan) (s : State) (sound : IsSound (config_of plan) s) (begun : to_come s ≡ to_come (start_state (config_of plan))) where
+module _ (plan : Plan) {past : List Step} (s : State) (sound : IsSound (config_of plan) past s) (begun : to_come s ≡ to_come (start_state (config_of plan))) where
   stands_nowhere : (t : ℕ) → s.blocked_on t ≡ None
   unfolding StandingIsQueued
   stands_nowhere t = nowhere (s.wait t) (s.blocked_on t) (all_run (config_of plan) s t begun) (sound.floor.lawful.waits.standing_is_queued t)
@@ -142,13 +143,13 @@ module _ (plan : Plan) (v : Knowledge) (ws : List ℕ) (xs : List Slot) (final :
   b = final.0
 
   abbrev pub left : State
-  left = final.1.0.0
+  left = final.1.0.state
 
-  abbrev pub sound : IsSound (config_of plan) left
-  sound = final.1.0.1
+  abbrev pub sound : IsSound (config_of plan) final.1.0.past left
+  sound = final.1.0.sound
 
   abbrev pub represents : Represents plan b left
-  represents = final.1.0.2
+  represents = final.1.0.represents
 
   keeper : keeper_in b.views ≡ v
   keeper = at_or b.views 0 v nothing final.1.1

@@ -21,7 +21,7 @@ use Rattle.floor_table.specs.declared.slot.Slot.{Slot}
 use Rattle.floor_table.specs.declared.slot.Slot.TheVariants.{Record as Recorded, Cell}
 use Rattle.floor_table.specs.Places.{cells_of, is_cell}
 use Rattle.floor_table.specs.Rule.{FloorHolds}
-use Rattle.floor_table.specs.Steps.{chains}
+use Rattle.floor_table.specs.Past.{chains}
 use Rattle.floor_table.specs.Views.{Knowledge}
 use Rattle.lock_floor.specs.Closings.{IsClosing}
 use Rattle.lock_floor.specs.declared.closing.Closing.{Closing}

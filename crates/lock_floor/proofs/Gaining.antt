@@ -19,8 +19,9 @@ use Rattle.floor_table.specs.Represents.{Board, IsSeatOf, RepresentsShare, threa
 use Rattle.floor_table.specs.Rule.{FloorHolds}
 use Rattle.floor_table.specs.Shares.{ShareColumns}
 use Rattle.floor_table.specs.Steps.{MayMake, Makes}
-use Rattle.floor_table.specs.Views.{Knowledge, OfThread}
-use Rattle.floor_table.proofs.Made.{Finds, Steps, exchange_allows, lock_made, OwnShare}
+use Rattle.floor_table.specs.Views.{Knowledge, OfThread, seeing}
+use Rattle.floor_table.proofs.Made.{Finds, Steps, exchange_allows, lock_made, OwnSteps}
+use Rattle.floor_table.proofs.Seen.{one_own}
 use Rattle.lock_floor.specs.Views.{counts, gained, put_down}
 use Rattle.lock_floor.proofs.Looking.{Looked, looks, found_word}
 use Rattle.lock_floor.proofs.Shares.{gain_own, gain_others, drop_own, drop_others}
@@ -28,7 +29,7 @@ use Rattle.lock_floor.proofs.Shares.{gain_own, gain_others, drop_own, drop_other
 -- where the seen word was found the seat knows v then, behind the steps, and else what it knows after a look
 abbrev pub Changed : Plan → ℕ → ℕ → (Me Slot Knowledge → Knowledge) → (Me Slot Knowledge → List Step) → Me Slot Knowledge → ℕ → Me Slot Knowledge → Type 0
 Changed plan l seen v steps me found behind =
-    (found ≡ seen → (behind ≡ (v me, me.1)) × Makes plan (steps me) me.0 behind.0)
+    (found ≡ seen → (behind ≡ (seeing behind.0.seen (v me), me.1)) × Makes plan (steps me) me.0 behind.0)
     × (found ≢ seen → Looked plan l me found behind)
 
 abbrev pub gain_step : Held → Me Slot Knowledge → List Step
@@ -59,12 +60,15 @@ module _ (plan : Plan) (me : Me Slot Knowledge) (was : me.0.role ≡ OfThread) (
   unfolding after_gain
   gains x low says may b h same =
       let l : ℕ = x.l.0 in
-      let w : Knowledge = gained v x in
+      let step : Step = Gains v.thread l x.mode x.by_try in
+      let w : Knowledge = seeing (step ∷ h.past) (gained v x) in
       let its_word : h.state.word l ≡ word_of seen = sym (found_word plan b v h l low).0 ∙ ap word_of same in
       let allowed = may h.state h.fits its_word in
       let n : State = after_gain h.state v.thread l x.mode x.by_try in
-      let own : OwnShare v w h.state n = record {
+      let own : OwnSteps v w h.past (gain_step x me) h.state n = record {
         role = was;
+        seen = refl;
+        makers = one_own v.thread step refl;
         seat = record { thread = refl; share = gain_own h.state v h.fits.share x allowed.0.unheld };
         others = λ u ne. gain_others h.state v.thread u ne x;
       } in
@@ -81,12 +85,15 @@ module _ (plan : Plan) (me : Me Slot Knowledge) (was : me.0.role ≡ OfThread) (
       → (b : Board) (h : Finds plan v b) → lock_word b.words l ≡ seen → Steps plan me (spot (lock_line l)) (lock_word b.words l) new (Dropped plan l mode seen me) b
   unfolding after_drop
   drops l mode low says may b h same =
-      let w : Knowledge = put_down v l in
+      let step : Step = Drops v.thread l mode in
+      let w : Knowledge = seeing (step ∷ h.past) (put_down v l) in
       let its_word : h.state.word l ≡ word_of seen = sym (found_word plan b v h l low).0 ∙ ap word_of same in
       let allowed = may h.state h.fits its_word in
       let n : State = after_drop h.state v.thread l in
-      let own : OwnShare v w h.state n = record {
+      let own : OwnSteps v w h.past (drop_step l mode me) h.state n = record {
         role = was;
+        seen = refl;
+        makers = one_own v.thread step refl;
         seat = record { thread = refl; share = drop_own h.state v h.fits.share l };
         others = λ u ne. drop_others h.state v.thread u ne l;
       } in
@@ -100,10 +107,10 @@ module _ (plan : Plan) (me : Me Slot Knowledge) (was : me.0.role ≡ OfThread) (
       exchange_allows plan slots id me (spot (lock_line l)) seen new (Dropped plan l mode seen me) was (drops l mode low says may) (λ b h ne small. missed l (λ me. put_down me.0 l) (drop_step l mode) low may_look b h ne)
 
 -- behind a drop the thread doesn't hold the lock
-pub dropped_unheld : (plan : Plan) (v : Knowledge) (l : ℕ) (mode : Mode) → Makes plan (Drops v.thread l mode ∷ []) v (put_down v l) → hold_in (put_down v l).share.held l ≡ NotHeld
+pub dropped_unheld : (plan : Plan) (v w : Knowledge) (l : ℕ) (mode : Mode) → Makes plan (Drops v.thread l mode ∷ []) v w → hold_in w.share.held l ≡ NotHeld
 unfolding after_drop
-dropped_unheld plan v l mode m =
+dropped_unheld plan v w l mode m =
     let n : State = after_drop m.state v.thread l in
-    let its : IsSeatOf (thread_in m.behind.views v.thread) n v.thread = m.represents_behind.seats.thread v.thread (ap (λ (w : Knowledge). w.role) m.is ∙ m.role_behind) in
-    let share : RepresentsShare (put_down v l).share n v.thread = subst (λ (w : Knowledge). RepresentsShare w.share n v.thread) m.is its.share in
+    let its : IsSeatOf (thread_in m.behind.views v.thread) n v.thread = m.represents_behind.seats.thread v.thread (ap (λ (k : Knowledge). k.role) m.is ∙ m.role_behind) in
+    let share : RepresentsShare w.share n v.thread = subst (λ (k : Knowledge). RepresentsShare k.share n v.thread) m.is its.share in
     ap (λ (x : ShareColumns). x.held l) share.columns ∙ put_at_same m.state.held v.thread l NotHeld

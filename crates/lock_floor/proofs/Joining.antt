@@ -3,14 +3,16 @@ use Rattle.std.proofs.Common.{◌≡◌, ◌≢◌, ℕ, zero, suc, ◌<◌, ◌
 use Rattle.std.proofs.lemmas.Bool.{cases_eq, eq-eqb}
 use Rattle.std.proofs.lemmas.List.Elements.{All-push}
 use Rattle.std.proofs.lemmas.List.Folds.{list_any-append}
-use Rattle.std.specs.Prelude.{◌==◌, ◌||◌}
+use Rattle.std.specs.Prelude.{◌==◌, ◌||◌, nat_lt, if◌then◌else◌}
 use Rattle.std.specs.List.{All, list_any}
 use mathlib.Core.Option.{some}
 use lib.ListN.{get_elem?}
 use Rattle.atomic_table.specs.Table.{Me, Joins, Allows, keeps}
 use Rattle.lock_model.specs.declared.plan.Plan.{Plan}
 use Rattle.lock_state.specs.State.{State}
+use Rattle.lock_state.specs.Steps.{Step}
 use Rattle.floor_table.specs.declared.slot.Slot.{Slot}
+use Rattle.floor_table.specs.Past.{IsSeen, IsSeenBy, AreSeen}
 use Rattle.floor_table.specs.Places.{slots_for, turn_word, home_at}
 use Rattle.floor_table.specs.Shares.{Share}
 use Rattle.floor_table.specs.Shelves.{Shelves}
@@ -19,7 +21,7 @@ use Rattle.floor_table.specs.Represents.{Board, keeper_in, thread_in, spare, liv
 use Rattle.floor_table.specs.Rule.{FloorHolds}
 use Rattle.floor_table.proofs.Lists.{inside, at_or}
 use Rattle.floor_table.proofs.Seats.{total_set}
-use Rattle.lock_floor.specs.Views.{with_pass_taken}
+use Rattle.lock_floor.specs.Views.{longer, with_pass_taken}
 use Rattle.lock_floor.proofs.Taking.{nothing_stepped}
 
 -- 1. A pass fewer
@@ -55,8 +57,8 @@ module _ (plan : Plan) (b : Board) (s : State) (r : Represents plan b s) (v w : 
   same_made : (keeper_in new).made ≡ (keeper_in vs).made
   same_made = ap (λ (k : Knowledge). k.made) new_keeper ∙ sym (ap (λ (k : Knowledge). k.made) old_keeper)
 
-  longer : (keeper_in new).gathered ≡ (keeper_in vs).gathered ++ (w.thread, w.share) ∷ []
-  longer = ap (λ (k : Knowledge). k.gathered) new_keeper ∙ ap (λ (k : Knowledge). k.gathered ++ (w.thread, w.share) ∷ []) (sym old_keeper)
+  more : (keeper_in new).gathered ≡ (keeper_in vs).gathered ++ (w.thread, w.share) ∷ []
+  more = ap (λ (k : Knowledge). k.gathered) new_keeper ∙ ap (λ (k : Knowledge). k.gathered ++ (w.thread, w.share) ∷ []) (sym old_keeper)
 
   -- what nobody's seat has too, the seat of the pass had
   field_stays : {B : Type 0} (f : Knowledge → B) → f nothing ≡ f w → (u : ℕ) → f (thread_in new u) ≡ f (thread_in vs u)
@@ -117,8 +119,8 @@ module _ (plan : Plan) (b : Board) (s : State) (r : Represents plan b s) (v w : 
     few = subst (λ n. n ≤ length plan.threads) (sym same_made) r.seats.few;
     thread = λ u e. let p = was_thread u e in subst (λ (k : Knowledge). IsSeatOf k s u) (sym (others_stay u p.0)) (r.seats.thread u p.1);
     unmade = λ u past. r.seats.unmade u (subst (λ n. n ≤ u) same_made past);
-    taken_in = subst (All (λ g. IsTakenIn new s g.0 g.1)) (sym longer) all_taken;
-    each = λ u h none. subst (λ gs. list_any (λ g. g.0 == u) gs ≡ true) (sym longer) (named u h none);
+    taken_in = subst (All (λ g. IsTakenIn new s g.0 g.1)) (sym more) all_taken;
+    each = λ u h none. subst (λ gs. list_any (λ g. g.0 == u) gs ≡ true) (sym more) (named u h none);
     none_out = λ u none. elim (cases_eq u t) [
       | inl e ↦ ap (λ j. (thread_in new j).out) e ∙ ap (λ (k : Knowledge). k.out) new_thread
       | inr ne ↦ ap (λ (k : Knowledge). k.out) (others_stay u ne) ∙ r.seats.none_out u (λ e. none (ap (λ (k : Knowledge). k.role) (others_stay u ne) ∙ e))
@@ -127,7 +129,7 @@ module _ (plan : Plan) (b : Board) (s : State) (r : Represents plan b s) (v w : 
         let first = total_set live vs 0 v both at in
         let second = total_set live between (suc t) w nothing there in
         let one : live w ≡ 1 = ap one_thread was in
-        let n = ap length longer ∙ length-append (keeper_in vs).gathered ((w.thread, w.share) ∷ []) in
+        let n = ap length more ∙ length-append (keeper_in vs).gathered ((w.thread, w.share) ∷ []) in
         omega (arith, first, second, one, n, same_made, r.seats.counted);
   }
 
@@ -148,9 +150,33 @@ module _ (plan : Plan) (b : Board) (s : State) (r : Represents plan b s) (v w : 
     begun = r.begun;
   }
 
+  -- what the two have seen is of the one list, and so is the longer
+  the_longer : (xs ys past : List Step) → IsSeen xs past → IsSeen ys past → IsSeen (longer xs ys) past
+  the_longer xs ys past h k = go (nat_lt (length xs) (length ys))
+    where
+      go : (b : Bool) → IsSeen (if b then ys else xs) past
+      go true = k
+      go false = h
+
+  seen_joined : (past : List Step) → AreSeen vs past → AreSeen new past
+  seen_joined past h =
+      let its_seen : IsSeenBy t w.seen past = subst (λ (k : Knowledge). IsSeenBy t k.seen past) old_thread (h.thread t (ap (λ (k : Knowledge). k.role) old_thread ∙ was)) in
+      let first : IsSeen v.seen past = subst (λ (k : Knowledge). IsSeen k.seen past) old_keeper h.keeper in
+      record {
+        keeper = subst (λ (k : Knowledge). IsSeen k.seen past) (sym new_keeper) (the_longer v.seen w.seen past first record { later = its_seen.later; is = its_seen.is });
+        thread = λ u e. let p = was_thread u e in subst (λ (k : Knowledge). IsSeenBy u k.seen past) (sym (others_stay u p.0)) (h.thread u p.1);
+        unmade = λ u after. h.unmade u (subst (λ n. n ≤ u) same_made after);
+      }
+
 pub joins : (plan : Plan) (v : Knowledge) (i : ℕ) (w : Knowledge) → w.role ≡ OfThread → w.out ≡ [] → Joins (FloorHolds plan) 0 v i w (with_pass_taken v w) nothing
 joins plan v zero w was rest b holds at apart there = absurd (apart refl)
-joins plan v (suc t) w was rest b holds at apart there = (holds.0, holds.1, represents_joined plan b holds.0 holds.2 v w t at there was rest)
+joins plan v (suc t) w was rest b holds at apart there = record {
+  past = holds.past;
+  state = holds.state;
+  sound = holds.sound;
+  represents = represents_joined plan b holds.state holds.represents v w t at there was rest;
+  seen = seen_joined plan b holds.state holds.represents v w t at there was rest holds.past holds.seen;
+}
 
 -- 2. No more passes are taken in than the plan has threads
 
@@ -166,7 +192,7 @@ ask_allowed plan slots me b holds deep at small = (
   subst (FloorHolds plan) (sym (nothing_stepped b 0 0 me.1 me.0 at)) holds,
   (
     refl,
-    let seats = holds.2.seats in
+    let seats = holds.represents.seats in
         let n = ap (λ (k : Knowledge). length k.gathered) (at_or b.views 0 me.0 nothing at) in
         omega (arith, n, seats.counted, seats.few),
   ),

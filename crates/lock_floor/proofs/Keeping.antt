@@ -1,6 +1,7 @@
 -- The rule when a floor is made, and when a pass is.
 use Rattle.std.proofs.Common.{◌≡◌, ◌≢◌, ℕ, zero, suc, ◌+◌, ◌*◌, ◌<◌, ◌≤◌, Option, Some, None, true, List, [], ◌∷◌, ◌++◌, length, get_or, set, drop, unwrap_or, sum, map, replicate, refl, sym, ap, ◌∙◌, subst, inl, inr, arith, length-set, length-append, get_or-set_same, get_or-set_other}
-use Rattle.std.proofs.lemmas.List.{length-replicate, length-map}
+use Rattle.std.proofs.lemmas.List.{append-nil, length-replicate, length-map}
+use Rattle.std.proofs.lemmas.List.Elements.{All-nil}
 use Rattle.std.proofs.lemmas.Bool.{cases_eq, cases_lt}
 use Rattle.std.proofs.lemmas.List.Sums.{sum_by-cons}
 use Rattle.std.specs.Prelude.{◌==◌, slice_get}
@@ -15,10 +16,12 @@ use Rattle.lock_model.specs.Operations.{IsProper}
 use Rattle.lock_model.specs.Words.{word_of}
 use Rattle.lock_objects.specs.Represents.{RepresentsRecord}
 use Rattle.lock_state.specs.State.{State, start_state}
+use Rattle.lock_state.specs.Steps.{Step}
 use Rattle.lock_state.specs.Steps.Items.{Item, TurnstileChain, SleepChain, RecordOf, CellOf, ClassGraph, item_with}
 use Rattle.thread_records.specs.Records.{Record, made}
 use Rattle.floor_table.specs.declared.slot.Slot.{Slot}
 use Rattle.floor_table.specs.declared.slot.Slot.TheVariants.{Record as Recorded, Cell}
+use Rattle.floor_table.specs.Past.{maker, IsSeen, IsSeenBy, AreSeen}
 use Rattle.floor_table.specs.Places.{spot, turn_line, ticket_line, words_for, slots_for, slot_of, taker, turn_word, lock_word, home_at}
 use Rattle.floor_table.specs.Shares.{Share}
 use Rattle.floor_table.specs.Shelves.{Shelves}
@@ -154,8 +157,28 @@ module _ (plan : Plan) (b : Board) (s : State) (r : Represents plan b s) (v : Kn
     begun = r.begun;
   }
 
+  -- the new pass has seen none of the steps, of which its thread made none
+  fresh : (past : List Step) → AreSeen vs past → IsSeenBy v.made [] past
+  fresh past h = record { later = past; is = sym (append-nil past); of_others = h.unmade v.made (omega (arith, old_made)) }
+
+  seen_with : (past : List Step) → AreSeen vs past → AreSeen new past
+  seen_with past h = record {
+    keeper = subst (λ xs. IsSeen xs past) (ap (λ (k : Knowledge). k.seen) old_keeper ∙ sym (ap (λ (k : Knowledge). k.seen) new_keeper)) h.keeper;
+    thread = λ t role. elim (cases_eq t v.made) [
+      | inl e ↦ subst (λ u. IsSeenBy u (thread_in new u).seen past) (sym e) (subst (λ (k : Knowledge). IsSeenBy v.made k.seen past) (sym new_thread) (fresh past h))
+      | inr ne ↦ subst (λ (k : Knowledge). IsSeenBy t k.seen past) (sym (others_stay t ne)) (h.thread t (ap (λ (k : Knowledge). k.role) (sym (others_stay t ne)) ∙ role))
+    ];
+    unmade = λ t after. h.unmade t (omega (arith, after, old_made, new_made));
+  }
+
 pub forks : (plan : Plan) (v : Knowledge) → v.plan ≡ plan → v.made < length plan.threads → room_for v.plan v.made ≤ v.spare → Splits (FloorHolds plan) 0 v (with_pass_made v) (new_pass v)
-forks plan v mine few fits b holds at = (holds.0, holds.1, represents_with plan b holds.0 holds.2 v at few mine fits)
+forks plan v mine few fits b holds at = record {
+  past = holds.past;
+  state = holds.state;
+  sound = holds.sound;
+  represents = represents_with plan b holds.state holds.represents v at few mine fits;
+  seen = seen_with plan b holds.state holds.represents v at few mine holds.past holds.seen;
+}
 
 -- 2. The start
 
@@ -280,8 +303,15 @@ module _ (plan : Plan) where
       begun = refl;
     }
 
+    none_seen : AreSeen (keeper plan ∷ []) []
+    none_seen = record {
+      keeper = record { later = []; is = refl };
+      thread = λ t role. absurd (let e : OfNobody ≡ OfThread = role in cc);
+      unmade = λ t after. All-nil (λ step. maker step ≢ t);
+    }
+
     pub opens : FloorHolds plan opened
-    opens = (start, sound_begins (config_of plan), represents_first)
+    opens = record { past = []; state = start; sound = sound_begins (config_of plan); represents = represents_first; seen = none_seen }
 
 -- 3. Room for the entries of threads
 

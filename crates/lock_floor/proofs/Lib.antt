@@ -17,5 +17,6 @@ pub mod Resting
 pub mod Priorities
 pub mod Changing
 pub mod Replaying
+pub mod Finding
 pub mod Searching
 pub mod AboutCells

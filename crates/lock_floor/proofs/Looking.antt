@@ -10,23 +10,25 @@ use Rattle.lock_state.specs.State.{State}
 use Rattle.lock_state.specs.Steps.{Step, Looks, Seeks}
 use Rattle.lock_state.specs.Steps.LockWords.{after_look, after_seek}
 use Rattle.floor_table.specs.declared.slot.Slot.{Slot}
+use Rattle.floor_table.specs.Past.{past_with}
 use Rattle.floor_table.specs.Places.{spot, lock_line, lock_word}
 use Rattle.floor_table.specs.Represents.{Board, RepresentsLocks, RepresentsShare}
 use Rattle.floor_table.specs.Rule.{FloorHolds}
 use Rattle.floor_table.specs.Steps.{MayMake, MayAll, Makes}
-use Rattle.floor_table.specs.Views.{Knowledge, OfThread}
-use Rattle.floor_table.proofs.Made.{Finds, Steps, allows, lock_seen, OwnShare}
+use Rattle.floor_table.specs.Views.{Knowledge, OfThread, seeing}
+use Rattle.floor_table.proofs.Made.{Finds, Steps, allows, lock_seen, OwnSteps}
+use Rattle.floor_table.proofs.Seen.{one_own, two_own}
 use Rattle.lock_floor.specs.Views.{counts, looked, sought}
 use Rattle.lock_floor.proofs.Shares.{look_own, look_others, seek_own, seek_others}
 
 -- what it tells
 abbrev pub Looked : Plan → ℕ → Me Slot Knowledge → ℕ → Me Slot Knowledge → Type 0
 Looked plan l me found behind =
-    IsWellFormed (word_of found) × (behind ≡ (looked me.0 l (word_of found), me.1)) × Makes plan (Looks me.0.thread l (counts me.0 l) ∷ []) me.0 behind.0
+    IsWellFormed (word_of found) × (behind ≡ (seeing behind.0.seen (looked me.0 l (word_of found)), me.1)) × Makes plan (Looks me.0.thread l (counts me.0 l) ∷ []) me.0 behind.0
 
 abbrev pub Sought : Plan → ℕ → Bool → Me Slot Knowledge → ℕ → Me Slot Knowledge → Type 0
 Sought plan l by_try me found behind =
-    IsWellFormed (word_of found) × (behind ≡ (looked (sought me.0 l by_try) l (word_of found), me.1))
+    IsWellFormed (word_of found) × (behind ≡ (seeing behind.0.seen (looked (sought me.0 l by_try) l (word_of found)), me.1))
     × Makes plan (Seeks me.0.thread l by_try ∷ Looks me.0.thread l true ∷ []) me.0 behind.0
 
 -- the word that is found says the lock's column, and is well formed
@@ -45,14 +47,17 @@ module _ (plan : Plan) (me : Me Slot Knowledge) (l : ℕ) (was : me.0.role ≡ O
   unfolding after_look
   looks b h may =
       let word : Word = word_of (lock_word b.words l) in
-      let w : Knowledge = looked v l word in
+      let step : Step = Looks v.thread l (counts v l) in
+      let w : Knowledge = seeing (step ∷ h.past) (looked v l word) in
       let found = found_word plan b v h l low in
-      let own : OwnShare v w h.state (after_look h.state v.thread l (counts v l)) = record {
+      let own : OwnSteps v w h.past (step ∷ []) h.state (after_look h.state v.thread l (counts v l)) = record {
         role = was;
+        seen = refl;
+        makers = one_own v.thread step refl;
         seat = record { thread = refl; share = subst (λ y. RepresentsShare (looked v l y).share (after_look h.state v.thread l (counts v l)) v.thread) (sym found.0) (look_own h.state v h.fits.share l) };
         others = λ u ne. look_others h.state v.thread u ne l (counts v l);
       } in
-      let made = lock_seen plan (Looks v.thread l (counts v l) ∷ []) b v w h was may own me.1 l low refl (record { next = refl; items = refl; objects = refl; begun = refl }) refl refl in
+      let made = lock_seen plan (step ∷ []) b v w h was may own me.1 l low refl (record { next = refl; items = refl; objects = refl; begun = refl }) refl refl in
       (w, keeps, tt, made.0, (found.1, refl, made.1))
 
   pub look_allowed : (slots id : ℕ) → MayMake plan v (λ s. Unit {0}) (Looks v.thread l (counts v l) ∷ []) → Allows (FloorHolds plan) slots id me (spot (lock_line l)) (λ n. n) (Looked plan l me)
@@ -71,13 +76,15 @@ module _ (plan : Plan) (me : Me Slot Knowledge) (l : ℕ) (was : me.0.role ≡ O
         let s : State = after_seek h.state v.thread l by_try in
         let n : State = after_look s v.thread l true in
         let x : Knowledge = sought v l by_try in
-        let w : Knowledge = looked x l word in
+        let w : Knowledge = seeing (past_with h.past both) (looked x l word) in
         let found = found_word plan b v h l low in
         let counted : counts x l ≡ true = eq-eqb l l refl in
         let share : RepresentsShare (looked x l (s.word l)).share n v.thread =
         subst (λ c. RepresentsShare (looked x l (s.word l)).share (after_look s v.thread l c) v.thread) counted (look_own s x (seek_own h.state v h.fits.share l by_try) l) in
-        let own : OwnShare v w h.state n = record {
+        let own : OwnSteps v w h.past both h.state n = record {
           role = was;
+          seen = refl;
+          makers = two_own v.thread (Seeks v.thread l by_try) (Looks v.thread l true) refl refl;
           seat = record { thread = refl; share = subst (λ y. RepresentsShare (looked x l y).share n v.thread) (sym found.0) share };
           others = λ u ne. look_others s v.thread u ne l true ∙ seek_others h.state v.thread u ne l by_try;
         } in

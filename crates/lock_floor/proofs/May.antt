@@ -26,7 +26,8 @@ use Rattle.floor_table.specs.Places.{slot_of}
 use Rattle.floor_table.specs.Represents.{IsOf, objects_in}
 use Rattle.floor_table.specs.Shelves.{found}
 use Rattle.floor_table.specs.Shares.{Doing, ShareColumns, columns_of, share_in, is_among}
-use Rattle.floor_table.specs.Steps.{chains, Fits, MayMake}
+use Rattle.floor_table.specs.Past.{chains}
+use Rattle.floor_table.specs.Steps.{Fits, MayMake}
 use Rattle.floor_table.specs.Views.{Knowledge}
 use Rattle.floor_table.proofs.Shelved.{found_first}
 use Rattle.lock_floor.specs.Views.{counts}

@@ -20,13 +20,14 @@ use Rattle.lock_model.specs.declared.numbers.LockNo.{LockNo}
 use Rattle.lock_model.specs.declared.plan.Mode.{Mode}
 use Rattle.lock_model.specs.declared.plan.Plan.{Plan}
 use Rattle.lock_state.specs.State.{State, NoWalk, Round, Wake, start_state}
-use Rattle.lock_state.specs.Steps.{Stamps, Drops, GivesItem, seeks, NotesInRound, HasOutForEntry}
+use Rattle.lock_state.specs.Steps.{Step, Stamps, Drops, GivesItem, seeks, NotesInRound, HasOutForEntry}
 use Rattle.lock_state.specs.Steps.Items.{Item, is_chain, in_its_chain, seen_after}
 use Rattle.lock_state.specs.Steps.LockWords.{Asks, is_sleep, is_taking_back, changes_sections, looks_after, round_after, taking_after, unstamped_after, after_stamp}
 use Rattle.floor_table.specs.declared.slot.Slot.{Slot}
 use Rattle.floor_table.specs.Shares.{Doing, ShareColumns, is_among}
-use Rattle.floor_table.specs.Steps.{chains, Fits, MayMake, Makes, MakesEach}
-use Rattle.floor_table.specs.Views.{Knowledge}
+use Rattle.floor_table.specs.Past.{chains}
+use Rattle.floor_table.specs.Steps.{Fits, MayMake, Makes, MakesEach}
+use Rattle.floor_table.specs.Views.{Knowledge, seeing}
 use Rattle.lock_floor.specs.Changes.{changed, last_changed, stamped_change}
 use Rattle.lock_floor.specs.Floors.{Floor, Pass}
 use Rattle.lock_floor.specs.Passes.{IsOf, IsAtRest, IsReady, MakesEntry, with_item}
@@ -85,6 +86,23 @@ at_rest plan v i sections begun = record {
   awake = i.awake;
   sections = sections;
   begun = begun;
+}
+
+-- whatever steps its seat has seen
+pub rest_seeing : (plan : Plan) (v : Knowledge) (steps : List Step) → IsAtRest plan v → IsAtRest plan (seeing steps v)
+rest_seeing plan v steps r = record {
+  nothing_out = r.nothing_out;
+  no_walk = r.no_walk;
+  unmarked = r.unmarked;
+  wants_nothing = r.wants_nothing;
+  takes_nothing = r.takes_nothing;
+  no_round = r.no_round;
+  no_looks = r.no_looks;
+  unnoted = r.unnoted;
+  stamped = r.stamped;
+  awake = r.awake;
+  sections = r.sections;
+  begun = r.begun;
 }
 
 -- 2. Behind an entry
@@ -194,7 +212,7 @@ module _ (plan : Plan) (a : Knowledge) (r : IsAtRest plan (record a { out = [] }
 -- with an item that it took
 pub rest_with : (plan : Plan) (v a : Knowledge) (i : Item) (j : ℕ) → is_chain i ≡ false → IsAtRest plan v → Takes plan i j v a → IsAtRest plan (record a { out = [] })
 rest_with plan v a i j plain r taken = subst (λ (w : Knowledge). IsAtRest plan (record w { out = [] })) (sym taken.view)
-    (at_rest plan (record (took v i j taken.value) { out = [] }) record {
+    (at_rest plan (record (seeing a.seen (took v i j taken.value)) { out = [] }) record {
       nothing_out = refl;
       no_walk = r.no_walk;
       unmarked = r.unmarked;
@@ -235,25 +253,25 @@ pub record Used (f : Floor Plan) (i : Item) (e : Event) (p q : Pass Knowledge) :
 
 -- what the thread knows behind the entry: the value of the item may be another then
 abbrev pub Noted : Plan → ℕ → Event → ℕ → Slot → Knowledge → Knowledge → Type 0
-Noted plan ticket e j y old new = new ≡ record (stamped (config_of plan) old (entry_by old.thread ticket e)) { out = (j, y) ∷ rest old.out }
+Noted plan ticket e j y old new = new ≡ seeing new.seen (record (stamped (config_of plan) old (entry_by old.thread ticket e)) { out = (j, y) ∷ rest old.out })
 
 module _ (f : Floor Plan) (i : Item) (j : ℕ) (e : Event) (plain : is_chain i ≡ false) (quiet : changes_sections e ≡ false) where
   pub uses_changed : (p a b q : Pass Knowledge) (ticket : ℕ) (y : Slot) → IsReady f p → 1 ≤ p.view.spare → Takes f.plan i j p.view a.view
       → Noted f.plan ticket e j y a.view b.view → Makes f.plan (Stamps a.view.thread e ∷ []) a.view b.view
-      → IsOf f q → q.view ≡ gave b.view i → Makes f.plan (GivesItem b.view.thread i ∷ []) b.view q.view → Used f i e p q
+      → IsOf f q → q.view ≡ seeing q.view.seen (gave b.view i) → Makes f.plan (GivesItem b.view.thread i ∷ []) b.view q.view → Used f i e p q
   uses_changed p a b q ticket y ready room taken noted stamps own given gives =
       let v : Knowledge = p.view in
       let made : Entry = entry_by v.thread ticket e in
-      let with_it : b.view ≡ record (stamped (config_of f.plan) (took v i j taken.value) made) { out = (j, y) ∷ v.out } =
-      noted ∙ ap (λ (w : Knowledge). record (stamped (config_of f.plan) w (entry_by w.thread ticket e)) { out = (j, y) ∷ rest w.out }) taken.view in
-      let is : q.view ≡ stamped (config_of f.plan) v made =
-      given ∙ ap (λ (w : Knowledge). gave w i) with_it ∙ used_is (config_of f.plan) v made i j j taken.value y plain in
+      let with_it : b.view ≡ seeing b.view.seen (record (stamped (config_of f.plan) (took v i j taken.value) made) { out = (j, y) ∷ v.out }) =
+      noted ∙ ap (λ (w : Knowledge). seeing b.view.seen (record (stamped (config_of f.plan) w (entry_by w.thread ticket e)) { out = (j, y) ∷ rest w.out })) taken.view in
+      let is : q.view ≡ seeing q.view.seen (stamped (config_of f.plan) v made) =
+      given ∙ ap (λ (w : Knowledge). seeing q.view.seen (gave w i)) with_it ∙ ap (seeing q.view.seen) (used_is (config_of f.plan) v made i j j taken.value y plain) in
       let its : a.view.thread ≡ v.thread = ap (λ (w : Knowledge). w.thread) taken.view in
       let its_then : b.view.thread ≡ v.thread = ap (λ (w : Knowledge). w.thread) with_it in
       let step : Makes f.plan (Stamps v.thread e ∷ []) a.view b.view = subst (λ t. Makes f.plan (Stamps t e ∷ []) a.view b.view) its stamps in
       let back : Makes f.plan (GivesItem v.thread i ∷ []) b.view q.view = subst (λ t. Makes f.plan (GivesItem t i ∷ []) b.view q.view) its_then gives in
       record {
-        ready = record { own = own; rest = subst (IsAtRest f.plan) (sym is) (rest_stamped f.plan v ticket e quiet ready.rest) };
+        ready = record { own = own; rest = subst (IsAtRest f.plan) (sym is) (rest_seeing f.plan (stamped (config_of f.plan) v made) q.view.seen (rest_stamped f.plan v ticket e quiet ready.rest)) };
         entry = record {
           ticket = ticket;
           log = ap (λ (w : Knowledge). w.share.log) is;
@@ -271,23 +289,23 @@ module _ (f : Floor Plan) (i : Item) (j : ℕ) (e : Event) (plain : is_chain i �
       }
 
   pub uses : (p a b q : Pass Knowledge) (ticket : ℕ) → IsReady f p → 1 ≤ p.view.spare → Takes f.plan i j p.view a.view
-      → b.view ≡ stamped (config_of f.plan) a.view (entry_by a.view.thread ticket e) → Makes f.plan (Stamps a.view.thread e ∷ []) a.view b.view
-      → IsOf f q → q.view ≡ gave b.view i → Makes f.plan (GivesItem b.view.thread i ∷ []) b.view q.view → Used f i e p q
+      → b.view ≡ seeing b.view.seen (stamped (config_of f.plan) a.view (entry_by a.view.thread ticket e)) → Makes f.plan (Stamps a.view.thread e ∷ []) a.view b.view
+      → IsOf f q → q.view ≡ seeing q.view.seen (gave b.view i) → Makes f.plan (GivesItem b.view.thread i ∷ []) b.view q.view → Used f i e p q
   uses p a b q ticket ready room taken noted =
       let same : Noted f.plan ticket e j taken.value a.view b.view =
-      noted ∙ ap (λ o. record (stamped (config_of f.plan) a.view (entry_by a.view.thread ticket e)) { out = o }) (taken_out f.plan p.view a.view i j taken) in
+      noted ∙ ap (λ o. seeing b.view.seen (record (stamped (config_of f.plan) a.view (entry_by a.view.thread ticket e)) { out = o })) (taken_out f.plan p.view a.view i j taken) in
       uses_changed p a b q ticket taken.value ready room taken same
 
   -- the same where the entry changed the value
-  pub uses_change : (p a b q : Pass Knowledge) (ticket : ℕ) → IsReady f p → 1 ≤ p.view.spare → Takes f.plan i j p.view a.view → b.view ≡ stamped_change (config_of f.plan) a.view (entry_by a.view.thread ticket e)
-      → Makes f.plan (Stamps a.view.thread e ∷ []) a.view b.view → IsOf f q → q.view ≡ gave b.view i → Makes f.plan (GivesItem b.view.thread i ∷ []) b.view q.view → Used f i e p q
+  pub uses_change : (p a b q : Pass Knowledge) (ticket : ℕ) → IsReady f p → 1 ≤ p.view.spare → Takes f.plan i j p.view a.view → b.view ≡ seeing b.view.seen (stamped_change (config_of f.plan) a.view (entry_by a.view.thread ticket e))
+      → Makes f.plan (Stamps a.view.thread e ∷ []) a.view b.view → IsOf f q → q.view ≡ seeing q.view.seen (gave b.view i) → Makes f.plan (GivesItem b.view.thread i ∷ []) b.view q.view → Used f i e p q
   uses_change p a b q ticket ready room taken noted =
       let same : Noted f.plan ticket e j (changed e taken.value) a.view b.view =
-      noted ∙ ap (λ o. record (stamped (config_of f.plan) a.view (entry_by a.view.thread ticket e)) { out = last_changed e o }) (taken_out f.plan p.view a.view i j taken) in
+      noted ∙ ap (λ o. seeing b.view.seen (record (stamped (config_of f.plan) a.view (entry_by a.view.thread ticket e)) { out = last_changed e o })) (taken_out f.plan p.view a.view i j taken) in
       uses_changed p a b q ticket (changed e taken.value) ready room taken same
 
 -- what is out once an entry has changed it
-pub changed_out : (c : Config) (plan : Plan) (v a b : Knowledge) (i : Item) (j : ℕ) (entry : Entry) (taken : Takes plan i j v a) → b ≡ stamped_change c a entry → b.out ≡ (j, changed entry.event taken.value) ∷ rest b.out
+pub changed_out : (c : Config) (plan : Plan) (v a b : Knowledge) (i : Item) (j : ℕ) (entry : Entry) (taken : Takes plan i j v a) → b ≡ seeing b.seen (stamped_change c a entry) → b.out ≡ (j, changed entry.event taken.value) ∷ rest b.out
 changed_out c plan v a b i j entry taken is =
     let same : b.out ≡ (j, changed entry.event taken.value) ∷ rest a.out = ap (λ (w : Knowledge). w.out) is ∙ ap (last_changed entry.event) (taken_out plan v a i j taken) in
     subst (λ o. o ≡ (j, changed entry.event taken.value) ∷ rest o) (sym same) refl
@@ -405,35 +423,39 @@ module _ (plan : Plan) (l : ℕ) (mode : Mode) (v : Knowledge) (h : IsLeaving pl
   }
 
   -- once it has put the lock down it is at rest
-  pub rest_left : Makes plan (Drops v.thread l mode ∷ []) v (put_down v l) → IsAtRest plan (put_down v l)
-  rest_left made =
-      let i = h.about in
-      at_rest plan (put_down v l) record {
-        nothing_out = i.nothing_out;
-        no_walk = i.no_walk;
-        unmarked = i.unmarked;
-        wants_nothing = i.wants_nothing;
-        takes_nothing = i.takes_nothing;
-        no_round = i.no_round;
-        no_looks = i.no_looks;
-        unnoted = i.unnoted;
-        stamped = i.stamped;
-        awake = i.awake;
-      } sections begun
-    where
-      unheld : hold_in (without_lock l v.share.held) l ≡ NotHeld
-      unheld = dropped_unheld plan v l mode made
+  module _ (steps : List Step) where
+    abbrev left : Knowledge
+    left = seeing steps (put_down v l)
 
-      sections : Sectioned plan (put_down v l)
-      sections k =
-          elim (cases_eq l k) [
-            | inl e ↦ subst (λ m. open_in (config_of plan) v.share.log v.thread m ≡ hold_in (without_lock l v.share.held) m) e (h.closed ∙ sym unheld)
-            | inr ne ↦ h.beside k ne ∙ sym (held_beside l v.share.held k ne)
-          ]
+    pub rest_left : Makes plan (Drops v.thread l mode ∷ []) v left → IsAtRest plan left
+    rest_left made =
+        let i = h.about in
+        at_rest plan left record {
+          nothing_out = i.nothing_out;
+          no_walk = i.no_walk;
+          unmarked = i.unmarked;
+          wants_nothing = i.wants_nothing;
+          takes_nothing = i.takes_nothing;
+          no_round = i.no_round;
+          no_looks = i.no_looks;
+          unnoted = i.unnoted;
+          stamped = i.stamped;
+          awake = i.awake;
+        } sections begun
+      where
+        unheld : hold_in (without_lock l v.share.held) l ≡ NotHeld
+        unheld = dropped_unheld plan v left l mode made
 
-      begun : Begun (put_down v l)
-      begun k held =
-          elim (cases_eq l k) [
-            | inl e ↦ absurd (held (subst (λ m. hold_in (without_lock l v.share.held) m ≡ NotHeld) e unheld))
-            | inr ne ↦ h.begun k (λ q. held (held_beside l v.share.held k ne ∙ q))
-          ]
+        sections : Sectioned plan left
+        sections k =
+            elim (cases_eq l k) [
+              | inl e ↦ subst (λ m. open_in (config_of plan) v.share.log v.thread m ≡ hold_in (without_lock l v.share.held) m) e (h.closed ∙ sym unheld)
+              | inr ne ↦ h.beside k ne ∙ sym (held_beside l v.share.held k ne)
+            ]
+
+        begun : Begun left
+        begun k held =
+            elim (cases_eq l k) [
+              | inl e ↦ absurd (held (subst (λ m. hold_in (without_lock l v.share.held) m ≡ NotHeld) e unheld))
+              | inr ne ↦ h.begun k (λ q. held (held_beside l v.share.held k ne ∙ q))
+            ]

@@ -12,21 +12,23 @@ use Rattle.lock_state.specs.State.{State, put}
 use Rattle.lock_state.specs.Steps.{Step, Stamps}
 use Rattle.lock_state.specs.Steps.LockWords.{after_stamp, changes_base, changes_table}
 use Rattle.floor_table.specs.declared.slot.Slot.{Slot}
+use Rattle.floor_table.specs.Past.{past_with}
 use Rattle.floor_table.specs.Places.{spot, ticket_line, word_at, turn_word, slots_for, home_at}
 use Rattle.floor_table.specs.Shelves.{Shelves}
 use Rattle.floor_table.specs.Represents.{Board, RepresentsShare, RepresentsObjects, objects_in, thread_in}
 use Rattle.floor_table.specs.Rule.{FloorHolds}
 use Rattle.floor_table.specs.Steps.{MayMake, MayAll, Makes}
-use Rattle.floor_table.specs.Views.{Knowledge, OfThread, nothing}
+use Rattle.floor_table.specs.Views.{Knowledge, OfThread, nothing, seeing}
 use Rattle.floor_table.proofs.Lists.{at_or}
-use Rattle.floor_table.proofs.Made.{Finds, Steps, allows, ticket_made, OwnShare}
+use Rattle.floor_table.proofs.Made.{Finds, Steps, allows, ticket_made, OwnSteps}
+use Rattle.floor_table.proofs.Seen.{one_own}
 use Rattle.lock_floor.specs.Views.{entry_by, stamped}
 use Rattle.lock_floor.proofs.Shares.{stamp_own, stamp_others}
 
 -- what it tells, where out is what the thread has out then
 abbrev pub StampedWith : Plan → Event → (Me Slot Knowledge → List (ℕ × Slot)) → Me Slot Knowledge → ℕ → Me Slot Knowledge → Type 0
 StampedWith plan event out me found behind =
-    (found < 2 ^ 32) × (behind ≡ (record (stamped (config_of plan) me.0 (entry_by me.0.thread found event)) { out = out me }, me.1))
+    (found < 2 ^ 32) × (behind ≡ (seeing behind.0.seen (record (stamped (config_of plan) me.0 (entry_by me.0.thread found event)) { out = out me }), me.1))
     × Makes plan (Stamps me.0.thread event ∷ []) me.0 behind.0
 
 abbrev pub Stamped : Plan → Event → Me Slot Knowledge → ℕ → Me Slot Knowledge → Type 0
@@ -51,11 +53,13 @@ module _ (plan : Plan) (me : Me Slot Knowledge) (was : me.0.role ≡ OfThread) (
       let n : State = after_stamp c s v.thread event in
       let ticket : ℕ = word_at b.words ticket_line in
       let is : ticket ≡ s.next = h.represents.ticket in
-      let w : Knowledge = record (stamped c v (entry_by v.thread ticket event)) { out = out me } in
+      let w : Knowledge = seeing (past_with h.past step) (record (stamped c v (entry_by v.thread ticket event)) { out = out me }) in
       let small : ticket < 2 ^ 32 = omega (arith, is, h.represents.room) in
       let share : RepresentsShare w.share n v.thread = subst (λ k. RepresentsShare (stamped c v (entry_by v.thread k event)).share n v.thread) (sym is) (stamp_own s v h.fits.share c event) in
-      let own : OwnShare v w s n = record {
+      let own : OwnSteps v w h.past step s n = record {
         role = was;
+        seen = refl;
+        makers = one_own v.thread (Stamps v.thread event) refl;
         seat = record { thread = refl; share = share };
         others = λ u ne. stamp_others s v.thread u ne c event;
       } in

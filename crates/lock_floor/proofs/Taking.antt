@@ -9,7 +9,7 @@ use Rattle.atomic_table.specs.Table.{Me, keeps, takes, gives, rest, stepped, All
 use Rattle.lock_model.specs.Plans.{config_of}
 use Rattle.lock_model.specs.declared.plan.Plan.{Plan}
 use Rattle.lock_state.specs.State.{State}
-use Rattle.lock_state.specs.Steps.{TakesItem, GivesItem}
+use Rattle.lock_state.specs.Steps.{Step, TakesItem, GivesItem}
 use Rattle.lock_state.specs.Steps.Items.{Item, TurnstileChain, SleepChain, RecordOf, CellOf, ClassGraph, item_with, after_take, after_give}
 use Rattle.floor_table.specs.declared.slot.Slot.{Slot}
 use Rattle.floor_table.specs.declared.slot.Slot.TheVariants.{Record, Cell}
@@ -18,10 +18,11 @@ use Rattle.floor_table.specs.Places.{spot, turn_line, turn_word, slot_of, slots_
 use Rattle.floor_table.specs.Represents.{Board, RepresentsTurns, taken_from, IsOf, objects_in}
 use Rattle.floor_table.specs.Rule.{FloorHolds}
 use Rattle.floor_table.specs.Steps.{MayMake, MayAll, Makes}
-use Rattle.floor_table.specs.Views.{Knowledge, OfThread}
+use Rattle.floor_table.specs.Views.{Knowledge, OfThread, seeing}
 use Rattle.floor_table.proofs.Items.{place_low, one_place}
 use Rattle.floor_table.proofs.Lists.{or_at}
-use Rattle.floor_table.proofs.Made.{Finds, Steps, allows, exchange_allows, take_made, give_made, OwnShare}
+use Rattle.floor_table.proofs.Made.{Finds, rule_of, Steps, allows, exchange_allows, take_made, give_made, OwnSteps}
+use Rattle.floor_table.proofs.Seen.{one_own}
 use Rattle.lock_floor.specs.Turns.{Takes, IsOfKind}
 use Rattle.lock_floor.specs.Views.{took, gave}
 use Rattle.lock_floor.proofs.Shares.{take_own, take_others, give_own, give_others}
@@ -73,15 +74,18 @@ module _ (plan : Plan) (me : Me Slot Knowledge) (was : me.0.role ≡ OfThread) (
       let s : State = h.state in
       let n : State = after_take s v.thread i in
       let x : Slot = h.represents.content j in
-      let w : Knowledge = took v i j x in
+      let step : Step = TakesItem v.thread i in
+      let w : Knowledge = seeing (step ∷ h.past) (took v i j x) in
       let allowed = may s h.fits (is_home b h free) in
       let low : j < slots_for plan = place_low plan i j place in
-      let own : OwnShare v w s n = record {
+      let own : OwnSteps v w h.past (step ∷ []) s n = record {
         role = was;
+        seen = refl;
+        makers = one_own v.thread step refl;
         seat = record { thread = refl; share = take_own s v h.fits.share i j x };
         others = λ u ne. take_others s v.thread u ne i;
       } in
-      let made = take_made plan (TakesItem v.thread i ∷ []) b v w h was allowed own me.1 i j place free (record { word = refl; next = refl; items = refl; objects = refl; begun = refl }) refl refl in
+      let made = take_made plan (step ∷ []) b v w h was allowed own me.1 i j place free (record { word = refl; next = refl; items = refl; objects = refl; begun = refl }) refl refl in
       let there : get_elem? b.homes j ≡ some (some x) = or_at b.homes j slots.none (omega (arith, low, h.represents.sizes.slots)) ∙ ap some (h.represents.shelves.at_home j low free) in
       let taken : Takes plan i j v w = record { value = x; view = refl; step = made.1; kind = kind_of s i x (h.represents.objects.each i j place) } in (
         w,
@@ -94,24 +98,24 @@ module _ (plan : Plan) (me : Me Slot Knowledge) (was : me.0.role ≡ OfThread) (
         ),
       )
 
-  take_missed : (b : Board) (h : Finds plan v b) → FloorHolds plan b → turn_word b.words j ≢ 0 → Steps plan me (spot (turn_line j)) (turn_word b.words j) (turn_word b.words j) (Taken plan j me) b
-  take_missed b h holds ne = (
+  take_missed : (b : Board) (h : Finds plan v b) → turn_word b.words j ≢ 0 → Steps plan me (spot (turn_line j)) (turn_word b.words j) (turn_word b.words j) (Taken plan j me) b
+  take_missed b h ne = (
     v,
     keeps,
     tt,
-    subst (FloorHolds plan) (sym (nothing_stepped b (spot (turn_line j)) (suc v.thread) me.1 v h.there)) holds,
+    subst (FloorHolds plan) (sym (nothing_stepped b (spot (turn_line j)) (suc v.thread) me.1 v h.there)) (rule_of plan v b h),
     (λ e. absurd (ne e), λ _. refl),
   )
 
   pub take_allowed : (slots id : ℕ) → MayMake plan v (λ s. item_with s i ≡ None) (TakesItem v.thread i ∷ []) → Allows (FloorHolds plan) slots id me (spot (turn_line j)) (λ n. either (eqb n 0) (suc v.thread) n) (Taken plan j me)
   take_allowed slots id may =
-      exchange_allows plan slots id me (spot (turn_line j)) 0 (suc v.thread) (Taken plan j me) was (λ b h free. take_hit b h may free) (λ b h ne small. take_missed b h (h.state, h.sound, h.represents) ne)
+      exchange_allows plan slots id me (spot (turn_line j)) 0 (suc v.thread) (Taken plan j me) was (λ b h free. take_hit b h may free) (λ b h ne small. take_missed b h ne)
 
 -- 2. A give of what was taken last
 
 -- what it tells, of the item of the place
 abbrev pub Given : Plan → ℕ → Me Slot Knowledge → ℕ → Me Slot Knowledge → Type 0
-Given plan j me found behind = (i : Item) → slot_of plan i ≡ Some j → (behind ≡ (gave me.0 i, rest me.1)) × Makes plan (GivesItem me.0.thread i ∷ []) me.0 behind.0
+Given plan j me found behind = (i : Item) → slot_of plan i ≡ Some j → (behind ≡ (seeing behind.0.seen (gave me.0 i), rest me.1)) × Makes plan (GivesItem me.0.thread i ∷ []) me.0 behind.0
 
 module _ (plan : Plan) (me : Me Slot Knowledge) (was : me.0.role ≡ OfThread) (i : Item) (j : ℕ) (place : slot_of plan i ≡ Some j) (x : Slot) (tied : me.1 ≡ me.0.out) (last : me.0.out ≡ (j, x) ∷ rest me.0.out) where
   gives_it : (b : Board) (h : Finds plan me.0 b) → MayAll (config_of plan) h.state (GivesItem me.0.thread i ∷ []) → Steps plan me (spot (turn_line j)) (turn_word b.words j) 0 (λ found. Given plan j me 0) b
@@ -120,14 +124,17 @@ module _ (plan : Plan) (me : Me Slot Knowledge) (was : me.0.role ≡ OfThread) (
       let s : State = h.state in
       let v : Knowledge = me.0 in
       let n : State = after_give s v.thread i in
-      let w : Knowledge = gave v i in
-      let own : OwnShare v w s n = record {
+      let step : Step = GivesItem v.thread i in
+      let w : Knowledge = seeing (step ∷ h.past) (gave v i) in
+      let own : OwnSteps v w h.past (step ∷ []) s n = record {
         role = was;
+        seen = refl;
+        makers = one_own v.thread step refl;
         seat = record { thread = refl; share = give_own s v h.fits.share i };
         others = λ u ne. give_others s v.thread u ne i;
       } in
-      let made = give_made plan (GivesItem v.thread i ∷ []) b v w h was allowed own me.1 i j x (rest v.out) (rest v.out) place (tied ∙ last) last (record { word = refl; next = refl; items = refl; objects = refl; begun = refl }) refl refl in
-      (w, gives, tt, made.0, λ k at. subst (λ m. ◌≡◌ {A = Me Slot Knowledge} (w, rest me.1) (gave v m, rest me.1) × Makes plan (GivesItem v.thread m ∷ []) v w) (one_place plan i k j place at) (refl, made.1))
+      let made = give_made plan (step ∷ []) b v w h was allowed own me.1 i j x (rest v.out) (rest v.out) place (tied ∙ last) last (record { word = refl; next = refl; items = refl; objects = refl; begun = refl }) refl refl in
+      (w, gives, tt, made.0, λ k at. subst (λ m. ◌≡◌ {A = Me Slot Knowledge} (w, rest me.1) (seeing w.seen (gave v m), rest me.1) × Makes plan (GivesItem v.thread m ∷ []) v w) (one_place plan i k j place at) (refl, made.1))
 
   pub give_allowed : (slots id : ℕ) → MayMake plan me.0 (λ s. Unit {0}) (GivesItem me.0.thread i ∷ []) → Allows (FloorHolds plan) slots id me (spot (turn_line j)) (λ n. 0) (λ n. Given plan j me 0)
   give_allowed slots id may = allows plan slots id me (spot (turn_line j)) (λ n. 0) (λ n. Given plan j me 0) was (λ b h small. gives_it b h (may h.state h.fits tt))

@@ -10,7 +10,7 @@ use Rattle.lock_model.specs.declared.plan.Plan.{Plan}
 use Rattle.lock_state.specs.Steps.Items.{Item}
 use Rattle.floor_table.specs.declared.slot.Slot.{Slot}
 use Rattle.floor_table.specs.Places.{slot_of}
-use Rattle.floor_table.specs.Views.{Knowledge}
+use Rattle.floor_table.specs.Views.{Knowledge, seeing}
 use Rattle.lock_floor.specs.Ties.{IsTied}
 use Rattle.lock_floor.specs.Views.{put_down, took, gave}
 use Rattle.lock_floor.proofs.Taking.{Taken}
@@ -32,7 +32,7 @@ tied_on who locks book fin me behind going h role plan thread held log spare out
 }
 
 -- without a lock that was put down
-pub tied_without : (who l : ℕ) (locks left : Vec Held) (book : Book) (fin : Bool) (me behind : Me Slot Knowledge) → IsTied who locks book fin me → behind ≡ (put_down me.0 l, me.1) → left.items ≡ without_lock l locks.items → 8 ≤ vec_capacity left → IsTied who left book fin behind
+pub tied_without : (who l : ℕ) (locks left : Vec Held) (book : Book) (fin : Bool) (me behind : Me Slot Knowledge) → IsTied who locks book fin me → behind ≡ (seeing behind.0.seen (put_down me.0 l), me.1) → left.items ≡ without_lock l locks.items → 8 ≤ vec_capacity left → IsTied who left book fin behind
 tied_without who l locks left book fin me behind h e items room =
     subst (IsTied who left book fin) (sym e) record {
       role = h.role;
@@ -54,7 +54,7 @@ tied_taken who locks book fin me behind plan i j found place going h told =
     elim (cases_eq found 0) [
       | inl e ↦
           let t = told.0 e i place in
-          let v : behind.0 ≡ took me.0 i j t.0.value = t.0.view in (
+          let v : behind.0 ≡ seeing behind.0.seen (took me.0 i j t.0.value) = t.0.view in (
             tied_on who locks book fin me behind going h (ap (λ w. w.role) v) (ap (λ w. w.plan) v) (ap (λ w. w.thread) v) (ap (λ w. w.share.held) v) (ap (λ w. w.share.log) v) (ap (λ w. w.spare) v) (t.1 ∙ ap (λ xs. (j, t.0.value) ∷ xs) h.out ∙ sym (ap (λ w. w.out) v)),
             ap (λ w. w.plan) v,
           )
@@ -62,7 +62,7 @@ tied_taken who locks book fin me behind plan i j found place going h told =
     ]
 
 -- after a give
-pub tied_given : (who : ℕ) (locks : Vec Held) (book : Book) (fin : Bool) (me behind : Me Slot Knowledge) (i : Item) → fin ≡ false → IsTied who locks book fin me → behind ≡ (gave me.0 i, rest me.1) → IsTied who locks book fin behind
+pub tied_given : (who : ℕ) (locks : Vec Held) (book : Book) (fin : Bool) (me behind : Me Slot Knowledge) (i : Item) → fin ≡ false → IsTied who locks book fin me → behind ≡ (seeing behind.0.seen (gave me.0 i), rest me.1) → IsTied who locks book fin behind
 tied_given who locks book fin me behind i going h is =
-    let v : behind.0 ≡ gave me.0 i = ap (λ (m : Me Slot Knowledge). m.0) is in
+    let v : behind.0 ≡ seeing behind.0.seen (gave me.0 i) = ap (λ (m : Me Slot Knowledge). m.0) is in
     tied_on who locks book fin me behind going h (ap (λ w. w.role) v) (ap (λ w. w.plan) v) (ap (λ w. w.thread) v) (ap (λ w. w.share.held) v) (ap (λ w. w.share.log) v) (ap (λ w. w.spare) v) (ap (λ (m : Me Slot Knowledge). m.1) is ∙ ap rest h.out ∙ sym (ap (λ w. w.out) v))

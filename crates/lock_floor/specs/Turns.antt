@@ -6,7 +6,7 @@ use Rattle.lock_state.specs.Steps.Items.{Item, RecordOf, CellOf}
 use Rattle.floor_table.specs.declared.slot.Slot.{Slot}
 use Rattle.floor_table.specs.declared.slot.Slot.TheVariants.{Record, Cell}
 use Rattle.floor_table.specs.Steps.{Makes}
-use Rattle.floor_table.specs.Views.{Knowledge}
+use Rattle.floor_table.specs.Views.{Knowledge, seeing}
 use Rattle.lock_floor.specs.Views.{took}
 
 -- what a value of an item is: a record of a thread, or a cell of a table
@@ -18,6 +18,6 @@ IsOfKind other another = ⊥
 -- the thread took the item out of its place
 pub record Takes (plan : Plan) (i : Item) (j : ℕ) (old new : Knowledge) : Type 0 where
   pub value : Slot
-  pub view : new ≡ took old i j value
+  pub view : new ≡ seeing new.seen (took old i j value)
   pub step : Makes plan (TakesItem old.thread i ∷ []) old new
   pub kind : IsOfKind i value

@@ -1,5 +1,5 @@
 -- What seats know after steps, and after a pass is made or taken in.
-use Rattle.std.specs.Prelude.{ℕ, suc, ◌-◌, Bool, not, ◌==◌, if◌then◌else◌, List, [], ◌∷◌, ◌++◌, filter, None, Some}
+use Rattle.std.specs.Prelude.{ℕ, suc, ◌-◌, Bool, not, nat_lt, ◌==◌, if◌then◌else◌, List, [], ◌∷◌, ◌++◌, length, filter, None, Some}
 use Rattle.atomic_table.specs.Table.{rest}
 use Rattle.lock_model.specs.Config.{Config}
 use Rattle.lock_model.specs.Operations.{without_lock}
@@ -9,7 +9,7 @@ use Rattle.lock_model.specs.declared.event.Event.{Event}
 use Rattle.lock_model.specs.declared.event.Event.TheVariants.{Locked, Tried, Woke, HaltedChan}
 use Rattle.lock_model.specs.declared.event.Held.{Held}
 use Rattle.lock_state.specs.State.{Look}
-use Rattle.lock_state.specs.Steps.{seeks}
+use Rattle.lock_state.specs.Steps.{Step, seeks}
 use Rattle.lock_state.specs.Steps.LockWords.{round_of, looks_after, round_after, taking_after, unstamped_after}
 use Rattle.lock_state.specs.Steps.Items.{Item, is_chain, in_its_chain, seen_after}
 use Rattle.floor_table.specs.declared.slot.Slot.{Slot}
@@ -26,11 +26,18 @@ with_pass_made v =
 abbrev pub new_pass : Knowledge → Knowledge
 new_pass v = first_view v.plan v.made
 
--- the keeper, when it takes a pass in
-abbrev pub with_pass_taken : Knowledge → Knowledge → Knowledge
-with_pass_taken v w = record v { gathered = v.gathered ++ (w.thread, w.share) ∷ [] }
+-- the longer of two lists of steps
+abbrev pub longer : List Step → List Step → List Step
+longer xs ys = if nat_lt (length xs) (length ys) then ys else xs
 
--- 2. Steps of a thread
+-- the keeper, when it takes a pass in: of two parts of the list of all steps it has seen the longer
+abbrev pub with_pass_taken : Knowledge → Knowledge → Knowledge
+with_pass_taken v w = record v {
+  seen = longer v.seen w.seen;
+  gathered = v.gathered ++ (w.thread, w.share) ∷ [];
+}
+
+-- 2. Steps of a thread. That it has seen them is said beside, by `seeing`.
 
 -- whether a look at a lock counts: it does in an acquiring round of the lock, since no thread has a chain out yet
 abbrev pub counts : Knowledge → ℕ → Bool

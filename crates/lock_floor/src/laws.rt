@@ -1,19 +1,42 @@
-//! What entries about tables say of the state in which they are made, and of the one behind it: reads and changes act on
-//! what all entries with earlier tickets leave.
-ghost use Rattle.std.specs.Prelude.{◌≡◌, ◌≢◌, ℕ, [], ◌∷◌, length, Option};
+//! What steps say of the state in which they are made, and of the one behind it: a look finds the word that the lock has
+//! then, and reads and changes of tables act on what all entries with earlier tickets leave.
+ghost use Rattle.std.specs.Prelude.{◌≡◌, ◌≢◌, ℕ, Bool, List, [], ◌∷◌, length, Option, Some};
 ghost use Rattle.lock_model.specs.History.{value_at};
 ghost use Rattle.lock_model.specs.Plans.{config_of};
 ghost use Rattle.lock_model.specs.declared.event.Event.{Event};
 ghost use Rattle.lock_model.specs.declared.event.Event.TheVariants.{Got};
 ghost use Rattle.lock_model.specs.declared.numbers.LockNo.{LockNo};
 ghost use Rattle.lock_model.specs.declared.plan.Plan.{Plan};
-ghost use Rattle.lock_state.specs.Steps.{Stamps, after_all};
+ghost use Rattle.lock_state.specs.Steps.{Step, Looks, Stamps, after_all};
 ghost use Rattle.lock_state.specs.Steps.LockWords.{table_after};
 ghost use Rattle.floor_table.specs.Steps.{Makes};
 ghost use Rattle.floor_table.specs.Views.{Knowledge};
 ghost use Rattle.lock_floor.specs.declared.tables.Change.{Change};
 ghost use Rattle.lock_floor.specs.Changes.{event_of, cell_after};
 ghost use Rattle.lock_floor.specs.Views.{entry_by};
+
+/// Steps that were made behind the same steps were made in the same state.
+pub fn steps_lead_to_one_state()
+    ensures { (plan : Plan) (steps others : List Step) (u v x y : Knowledge)
+        (m : Makes plan steps u v) (k : Makes plan others x y)
+        → m.past ≡ k.past → m.state ≡ k.state }
+{}
+
+/// A look finds the word that the lock has at that very moment: in the state to which all steps lead that were made before
+/// it. Behind it the thread has seen these and its look, and where it looks again before anybody makes another step, it
+/// finds the same word.
+pub fn looks_find_words()
+    ensures word { (plan : Plan) (l : ℕ) (counts : Bool) (old new : Knowledge)
+        (m : Makes plan (Looks old.thread l counts ∷ []) old new)
+        → new.share.doing.last_look ≡ Some (record { lock = l; word = m.state.word l }) }
+    ensures seen { (plan : Plan) (l : ℕ) (counts : Bool) (old new : Knowledge)
+        (m : Makes plan (Looks old.thread l counts ∷ []) old new)
+        → new.seen ≡ Looks old.thread l counts ∷ m.past }
+    ensures again { (plan : Plan) (l : ℕ) (first second : Bool) (u v w : Knowledge)
+        (m : Makes plan (Looks u.thread l first ∷ []) u v)
+        (k : Makes plan (Looks v.thread l second ∷ []) v w)
+        → k.past ≡ v.seen → w.share.doing.last_look ≡ v.share.doing.last_look }
+{}
 
 /// An entry of a thread gets as its ticket the number of those before it: it stands behind them in the history, and behind
 /// the thread's own in its log.

@@ -6,7 +6,7 @@
 //! - `steps`: the atomic steps of a thread on lock words.
 //! - `stamps`: those that make an entry.
 //! - `tables`: changes and reads of the locks' tables.
-//! - `laws`: what a read finds, and what a change leaves.
+//! - `laws`: what a look finds, what a read finds, and what a change leaves.
 //! - `keeper`: making a floor with its passes.
 //! - `prios`: the priorities of a thread, and its end.
 //! - `closing`: taking passes in, and what is left of a floor that is closed.

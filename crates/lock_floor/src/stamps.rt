@@ -9,7 +9,7 @@ ghost use Rattle.lock_state.specs.Steps.LockWords.{changes_base, changes_table};
 ghost use Rattle.floor_table.specs.Places.{spot, ticket_line, slot_of};
 ghost use Rattle.floor_table.specs.Rule.{FloorHolds};
 ghost use Rattle.floor_table.specs.Steps.{MayMake, Makes};
-ghost use Rattle.floor_table.specs.Views.{Knowledge};
+ghost use Rattle.floor_table.specs.Views.{Knowledge, seeing};
 ghost use Rattle.lock_floor.specs.Changes.{IsChangeOf, cell_after, record_after, last_changed, stamped_change};
 ghost use Rattle.lock_floor.specs.Passes.{IsOf};
 ghost use Rattle.lock_floor.specs.Views.{entry_by, stamped};
@@ -31,8 +31,9 @@ impl FloorOf<Slot, View, Plan, Law> {
         requires may { MayMake self.now.plan pass.old.view (λ s. ⊤)
             (Stamps pass.old.view.thread event ∷ []) }
         ensures own { IsOf self.now pass.new }
-        ensures view { pass.new.view ≡ stamped (config_of self.now.plan) pass.old.view
-            (entry_by pass.old.view.thread result event) }
+        ensures view { pass.new.view ≡ seeing pass.new.view.seen
+            (stamped (config_of self.now.plan) pass.old.view
+            (entry_by pass.old.view.thread result event)) }
         ensures step { Makes self.now.plan (Stamps pass.old.view.thread event ∷ [])
             pass.old.view pass.new.view }
     {
@@ -52,8 +53,9 @@ impl FloorOf<Slot, View, Plan, Law> {
         requires may { MayMake self.now.plan pass.old.view (λ s. ⊤)
             (Stamps pass.old.view.thread event ∷ []) }
         ensures own { IsOf self.now pass.new }
-        ensures view { pass.new.view ≡ stamped_change (config_of self.now.plan) pass.old.view
-            (entry_by pass.old.view.thread result event) }
+        ensures view { pass.new.view ≡ seeing pass.new.view.seen
+            (stamped_change (config_of self.now.plan) pass.old.view
+            (entry_by pass.old.view.thread result event)) }
         ensures step { Makes self.now.plan (Stamps pass.old.view.thread event ∷ [])
             pass.old.view pass.new.view }
     {

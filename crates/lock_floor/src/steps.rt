@@ -8,6 +8,7 @@ ghost use Rattle.lock_state.specs.Steps.{Seeks, Looks, Gains, Drops};
 ghost use Rattle.floor_table.specs.Places.{spot, lock_line};
 ghost use Rattle.floor_table.specs.Rule.{FloorHolds};
 ghost use Rattle.floor_table.specs.Steps.{MayMake, Makes};
+ghost use Rattle.floor_table.specs.Views.{seeing};
 ghost use Rattle.lock_floor.specs.Passes.{IsOf};
 ghost use Rattle.lock_floor.specs.Views.{counts, looked, sought, gained, put_down};
 
@@ -26,7 +27,8 @@ impl FloorOf<Slot, View, Plan, Law> {
             (Looks pass.old.view.thread l.0 (counts pass.old.view l.0) ∷ []) }
         ensures own { IsOf self.now pass.new }
         ensures word { IsWellFormed (word_of result) }
-        ensures view { pass.new.view ≡ looked pass.old.view l.0 (word_of result) }
+        ensures view { pass.new.view
+            ≡ seeing pass.new.view.seen (looked pass.old.view l.0 (word_of result)) }
         ensures step { Makes self.now.plan
             (Looks pass.old.view.thread l.0 (counts pass.old.view l.0) ∷ [])
             pass.old.view pass.new.view }
@@ -42,8 +44,8 @@ impl FloorOf<Slot, View, Plan, Law> {
             (Seeks pass.old.view.thread l.0 by_try ∷ Looks pass.old.view.thread l.0 true ∷ []) }
         ensures own { IsOf self.now pass.new }
         ensures word { IsWellFormed (word_of result) }
-        ensures view { pass.new.view
-            ≡ looked (sought pass.old.view l.0 by_try) l.0 (word_of result) }
+        ensures view { pass.new.view ≡ seeing pass.new.view.seen
+            (looked (sought pass.old.view l.0 by_try) l.0 (word_of result)) }
         ensures steps { Makes self.now.plan
             (Seeks pass.old.view.thread l.0 by_try ∷ Looks pass.old.view.thread l.0 true ∷ [])
             pass.old.view pass.new.view }
@@ -64,13 +66,14 @@ impl FloorOf<Slot, View, Plan, Law> {
         requires may_look { MayMake self.now.plan pass.old.view (λ s. ⊤)
             (Looks pass.old.view.thread hold.l.0 (counts pass.old.view hold.l.0) ∷ []) }
         ensures own { IsOf self.now pass.new }
-        ensures view { IfOk result (λ _. pass.new.view ≡ gained pass.old.view hold) }
+        ensures view { IfOk result (λ _. pass.new.view
+            ≡ seeing pass.new.view.seen (gained pass.old.view hold)) }
         ensures step { IfOk result (λ _. Makes self.now.plan
             (Gains pass.old.view.thread hold.l.0 hold.mode hold.by_try ∷ [])
             pass.old.view pass.new.view) }
         ensures found { IfErr result (λ found. (found ≢ seen) × IsWellFormed (word_of found)) }
         ensures looked { IfErr result (λ found. pass.new.view
-            ≡ looked pass.old.view hold.l.0 (word_of found)) }
+            ≡ seeing pass.new.view.seen (looked pass.old.view hold.l.0 (word_of found))) }
         ensures look { IfErr result (λ found. Makes self.now.plan
             (Looks pass.old.view.thread hold.l.0 (counts pass.old.view hold.l.0) ∷ [])
             pass.old.view pass.new.view) }
@@ -96,12 +99,13 @@ impl FloorOf<Slot, View, Plan, Law> {
         requires may_look { MayMake self.now.plan pass.old.view (λ s. ⊤)
             (Looks pass.old.view.thread l.0 (counts pass.old.view l.0) ∷ []) }
         ensures own { IsOf self.now pass.new }
-        ensures view { IfOk result (λ _. pass.new.view ≡ put_down pass.old.view l.0) }
+        ensures view { IfOk result (λ _. pass.new.view
+            ≡ seeing pass.new.view.seen (put_down pass.old.view l.0)) }
         ensures step { IfOk result (λ _. Makes self.now.plan
             (Drops pass.old.view.thread l.0 mode ∷ []) pass.old.view pass.new.view) }
         ensures found { IfErr result (λ found. (found ≢ seen) × IsWellFormed (word_of found)) }
         ensures looked { IfErr result (λ found. pass.new.view
-            ≡ looked pass.old.view l.0 (word_of found)) }
+            ≡ seeing pass.new.view.seen (looked pass.old.view l.0 (word_of found))) }
         ensures look { IfErr result (λ found. Makes self.now.plan
             (Looks pass.old.view.thread l.0 (counts pass.old.view l.0) ∷ [])
             pass.old.view pass.new.view) }

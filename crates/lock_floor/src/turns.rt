@@ -9,6 +9,7 @@ ghost use Rattle.floor_table.specs.declared.slot.Slot.TheVariants.{Record};
 ghost use Rattle.floor_table.specs.Places.{spot, turn_line, slots_for, slot_of};
 ghost use Rattle.floor_table.specs.Rule.{FloorHolds};
 ghost use Rattle.floor_table.specs.Steps.{MayMake, Makes};
+ghost use Rattle.floor_table.specs.Views.{seeing};
 ghost use Rattle.lock_floor.specs.Passes.{IsOf};
 ghost use Rattle.lock_floor.specs.Turns.{Takes};
 ghost use Rattle.lock_floor.specs.Views.{gave};
@@ -56,7 +57,8 @@ impl FloorOf<Slot, View, Plan, Law> {
         requires may { MayMake self.now.plan pass.old.view (λ s. ⊤)
             (GivesItem pass.old.view.thread (RecordOf t.0) ∷ []) }
         ensures own { IsOf self.now pass.new }
-        ensures view { pass.new.view ≡ gave pass.old.view (RecordOf t.0) }
+        ensures view { pass.new.view
+            ≡ seeing pass.new.view.seen (gave pass.old.view (RecordOf t.0)) }
         ensures step { Makes self.now.plan (GivesItem pass.old.view.thread (RecordOf t.0) ∷ [])
             pass.old.view pass.new.view }
     {
@@ -105,7 +107,7 @@ impl FloorOf<Slot, View, Plan, Law> {
             (GivesItem pass.old.view.thread i ∷ []) }
         ensures own { IsOf self.now pass.new }
         ensures view { (i : Item) → slot_of self.now.plan i ≡ Some slot
-            → pass.new.view ≡ gave pass.old.view i }
+            → pass.new.view ≡ seeing pass.new.view.seen (gave pass.old.view i) }
         ensures step { (i : Item) → slot_of self.now.plan i ≡ Some slot
             → Makes self.now.plan (GivesItem pass.old.view.thread i ∷ [])
             pass.old.view pass.new.view }

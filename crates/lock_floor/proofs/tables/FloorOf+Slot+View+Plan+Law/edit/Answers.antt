@@ -7,7 +7,7 @@ use Rattle.lock_model.specs.declared.plan.Mode.TheVariants.{Excl}
 use Rattle.lock_state.specs.Steps.{Stamps}
 use Rattle.lock_state.specs.Steps.Items.{CellOf}
 use Rattle.floor_table.specs.Steps.{MayMake, Makes}
-use Rattle.floor_table.specs.Views.{Knowledge}
+use Rattle.floor_table.specs.Views.{Knowledge, seeing}
 use Rattle.lock_floor.specs.Changes.{event_of, IsChangeOf, stamped_change}
 use Rattle.lock_floor.specs.Views.{entry_by}
 use Rattle.lock_floor.proofs.AboutCells.{change_of, change_is_quiet, may_take_cell, may_change}
@@ -77,7 +77,7 @@ used g c =
     let a = c.take.new.pass.view in
     let b = c.stamp_change.new.pass.view in
     let place = c.cell_slot-slot.ensures in
-    let view = subst (λ (x : Event). b ≡ stamped_change (config_of f.plan) a (entry_by a.thread c.stamp_change.result x)) c.event.ensures c.stamp_change.ensures.view in
+    let view = subst (λ (x : Event). b ≡ seeing b.seen (stamped_change (config_of f.plan) a (entry_by a.thread c.stamp_change.result x))) c.event.ensures c.stamp_change.ensures.view in
     let step = subst (λ (x : Event). Makes f.plan (Stamps a.thread x ∷ []) a b) c.event.ensures c.stamp_change.ensures.step in
     uses_change f cell c.cell_slot-slot.result e refl (change_is_quiet c.args.l c.args.key c.args.change) c.args.pass.now c.take.new.pass c.stamp_change.new.pass c.give.new.pass c.stamp_change.result c.requires.ready c.requires.room (c.take.ensures.out cell place)
     view step c.give.ensures.own (c.give.ensures.view cell place) (c.give.ensures.step cell place)

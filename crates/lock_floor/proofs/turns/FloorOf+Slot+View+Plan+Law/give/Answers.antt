@@ -6,7 +6,7 @@ use Rattle.lock_state.specs.Steps.Items.{Item}
 use Rattle.floor_table.specs.declared.slot.Slot.{Slot}
 use Rattle.floor_table.specs.Places.{slot_of}
 use Rattle.floor_table.specs.Steps.{MayMake, Makes}
-use Rattle.floor_table.specs.Views.{Knowledge}
+use Rattle.floor_table.specs.Views.{Knowledge, seeing}
 use Rattle.lock_floor.specs.Floors.{Floor, Pass}
 use Rattle.lock_floor.specs.Views.{gave}
 use Rattle.lock_floor.proofs.Taking.{give_allowed}
@@ -25,7 +25,7 @@ give_turn-requires-clause-may c =
 item : (c : goal.After-give_turn) → (i : Item) × (slot_of c.self.inside.board.shared.key i ≡ Some c.args.slot)
 item c = (c.requires.may.0, subst (λ (f : Floor Plan). slot_of f.plan c.requires.may.0 ≡ Some c.args.slot) (sym c.self.view_is) c.requires.may.1)
 
-behind_is : (c : goal.After-give_turn) → c.give_turn.new.seat.me ≡ (gave c.pass.inside.seat.me.0 (item c).0, rest c.pass.inside.seat.me.1)
+behind_is : (c : goal.After-give_turn) → c.give_turn.new.seat.me ≡ (seeing c.give_turn.new.seat.me.0.seen (gave c.pass.inside.seat.me.0 (item c).0), rest c.pass.inside.seat.me.1)
 behind_is c = (c.give_turn.ensures.told (item c).0 (item c).1).0
 
 pub invariant_of-pass : goal.invariant_of-pass
@@ -41,7 +41,7 @@ returns-clause-own c = record {
 pub returns-clause-view : goal.returns-clause-view
 returns-clause-view c i place =
     let at = subst (λ (f : Floor Plan). slot_of f.plan i ≡ Some c.args.slot) (sym c.self.view_is) place in
-    ap (λ (m : Me Slot Knowledge). m.0) (c.give_turn.ensures.told i at).0 ∙ ap (λ (p : Pass Knowledge). gave p.view i) c.pass.view_is
+    ap (λ (m : Me Slot Knowledge). m.0) (c.give_turn.ensures.told i at).0 ∙ ap (λ (p : Pass Knowledge). seeing c.give_turn.new.seat.me.0.seen (gave p.view i)) c.pass.view_is
 
 pub returns-clause-step : goal.returns-clause-step
 returns-clause-step c i place =
