@@ -1,7 +1,6 @@
 -- A mutex is gained and noted, or found busy and that noted: each step may be made, and the thread is at rest again.
 use Rattle.std.proofs.Common.{◌≡◌, ◌≢◌, ℕ, suc, ◌+◌, ◌≤◌, Bool, true, false, cond, Option, Some, None, List, [], ◌∷◌, ◌++◌, replicate, refl, sym, ap, ◌∙◌, subst, inr, arith, eq-eqb}
 use Rattle.lock_laws.proofs.HeldLists.{gained_order-push, hold_in-push}
-use Rattle.lock_laws.proofs.Kit.{put_same}
 use Rattle.lock_laws.specs.OnTrack.{gained_order}
 use Rattle.lock_model.specs.Config.{Config}
 use Rattle.lock_model.specs.Holds.{NotHeld, Holds}
@@ -19,15 +18,16 @@ use Rattle.lock_model.specs.declared.plan.Plan.{Plan}
 use Rattle.lock_state.specs.State.{State, Look}
 use Rattle.lock_state.specs.Steps as steps
 use Rattle.lock_state.specs.Steps.{Looks, Stamps, FitsRound, NotesInRound, HasOutForEntry}
-use Rattle.lock_state.specs.Steps.LockWords.{Asks, Begins, IsGainedLast, after_look}
-use Rattle.floor_table.specs.Represents.{IsSeatOf, RepresentsShare, thread_in}
+use Rattle.lock_state.specs.Steps.LockWords.{Asks, Begins, IsGainedLast}
 use Rattle.floor_table.specs.Shares.{ShareColumns}
-use Rattle.floor_table.specs.Steps.{chains, Fits, Makes, MakesEach, MayMake}
-use Rattle.floor_table.specs.Views.{Knowledge}
+use Rattle.floor_table.specs.Past.{chains}
+use Rattle.floor_table.specs.Steps.{Fits, Makes, MakesEach, MayMake}
+use Rattle.floor_table.specs.Views.{Knowledge, seeing}
 use Rattle.lock_floor.specs.Passes.{IsAtRest, MakesEntry}
 use Rattle.lock_floor.specs.Views.{counts, looked, gained, entry_by, stamped}
+use Rattle.lock_floor.proofs.Finding.{finds_word}
 use Rattle.lock_floor.proofs.May.{own_log, may_gain, may_stamp}
-use Rattle.lock_floor.proofs.Resting.{gain_event, rest_gained, rest_stamped}
+use Rattle.lock_floor.proofs.Resting.{gain_event, rest_seeing, rest_gained, rest_stamped}
 use Rattle.adaptive_mutex.specs.Mutexes.{IsMutex, MayAcquire, as_held, after_looks, WasBusy}
 use Rattle.adaptive_mutex.specs.Waiting.{with_looks, HasLooked, MayGain, Gains}
 use Rattle.adaptive_mutex.proofs.Words.{mutex_is_held}
@@ -39,7 +39,7 @@ pub acquires : (plan : Plan) (l : ℕ) (v : Knowledge) → IsAtRest plan v → M
 acquires plan l v r m = record { unheld = m.unheld; few = m.few; wants_nothing = r.wants_nothing; no_round = r.no_round }
 
 -- a gain without a look before
-pub gains_at_once : (plan : Plan) (l : LockNo) (v w : Knowledge) → w ≡ gained v (as_held l true) → Makes plan (steps.Gains v.thread l.0 Excl true ∷ []) v w → Gains plan (as_held l true) 0 v w
+pub gains_at_once : (plan : Plan) (l : LockNo) (v w : Knowledge) → w ≡ seeing w.seen (gained v (as_held l true)) → Makes plan (steps.Gains v.thread l.0 Excl true ∷ []) v w → Gains plan (as_held l true) 0 v w
 gains_at_once plan l v w view step = record { between = v; looked = no_look plan l.0 v; view = view; step = step }
 
 -- behind looks too
@@ -61,7 +61,7 @@ may_gain_free plan l by_try v mutex m =
 
 -- 2. Its entry
 
-module _ (plan : Plan) (v : Knowledge) (l : LockNo) (by_try : Bool) (r : IsAtRest plan v) (unheld : hold_in v.share.held l.0 ≡ NotHeld) where
+module _ (plan : Plan) (v : Knowledge) (l : LockNo) (by_try : Bool) (r : IsAtRest plan v) (unheld : hold_in v.share.held l.0 ≡ NotHeld) (seen : List steps.Step) where
   abbrev c : Config
   c = config_of plan
 
@@ -69,7 +69,7 @@ module _ (plan : Plan) (v : Knowledge) (l : LockNo) (by_try : Bool) (r : IsAtRes
   h = as_held l by_try
 
   abbrev w : Knowledge
-  w = gained v h
+  w = seeing seen (gained v h)
 
   pushed : hold_in (v.share.held ++ h ∷ []) l.0 ≡ Holds Excl
   pushed = hold_in-push v.share.held h l.0 unheld ∙ ap (λ b. cond b (Holds Excl) (hold_in v.share.held l.0)) (eq-eqb l.0 l.0 refl)
@@ -119,26 +119,27 @@ module _ (plan : Plan) (l : LockNo) (by_try : Bool) (n : ℕ) (old v : Knowledge
   abbrev u : Knowledge
   u = with_looks old g.looked.all g.looked.last g.looked.seen
 
-  knew : v ≡ gained u hold
-  knew = g.view ∙ ap (λ k. gained k hold) g.looked.knows
+  knew : v ≡ seeing v.seen (gained u hold)
+  knew = g.view ∙ ap (λ k. seeing v.seen (gained k hold)) g.looked.knows
 
   rested : IsAtRest plan u
-  rested = looks_rest plan old g.looked.all g.looked.last g.looked.seen r
+  rested = looks_rest plan old g.looked.all g.looked.last g.looked.seen old.seen r
 
   pub may_note : MayMake plan v (λ s. Unit {0}) (Stamps v.thread e ∷ [])
-  may_note = subst (λ (k : Knowledge). MayMake plan k (λ s. Unit {0}) (Stamps k.thread e ∷ [])) (sym knew) (may_note_gain plan u l by_try rested m.unheld)
+  may_note = subst (λ (k : Knowledge). MayMake plan k (λ s. Unit {0}) (Stamps k.thread e ∷ [])) (sym knew) (may_note_gain plan u l by_try rested m.unheld v.seen)
 
   pub room_to_note : 1 ≤ v.spare
   room_to_note = subst (λ (k : Knowledge). 1 ≤ k.spare) (sym knew) m.room
 
-  pub acquired : (new : Knowledge) (ticket : ℕ) → new ≡ stamped (config_of plan) v (entry_by v.thread ticket e) → Makes plan (Stamps v.thread e ∷ []) v new → Acquires plan l by_try n old new
+  pub acquired : (new : Knowledge) (ticket : ℕ) → new ≡ seeing new.seen (stamped (config_of plan) v (entry_by v.thread ticket e)) → Makes plan (Stamps v.thread e ∷ []) v new → Acquires plan l by_try n old new
   acquired new ticket view step =
-      let is : new ≡ stamped (config_of plan) (gained u hold) (entry_by old.thread ticket e) = view ∙ ap (λ (k : Knowledge). stamped (config_of plan) k (entry_by k.thread ticket e)) knew in
+      let is : new ≡ seeing new.seen (stamped (config_of plan) (gained u hold) (entry_by old.thread ticket e)) =
+      view ∙ ap (λ (k : Knowledge). seeing new.seen (stamped (config_of plan) k (entry_by k.thread ticket e))) knew in
       let noted : Makes plan (Stamps old.thread e ∷ []) v new = subst (λ t. Makes plan (Stamps t e ∷ []) v new) (ap (λ (k : Knowledge). k.thread) knew) step in
       let look : List steps.Step = Looks old.thread l.0 false ∷ [] in
       let gain : List steps.Step = steps.Gains old.thread l.0 Excl by_try ∷ [] in
       record {
-        rest = subst (IsAtRest plan) (sym is) (rest_gained plan u hold ticket rested m.unheld);
+        rest = subst (IsAtRest plan) (sym is) (rest_seeing plan (stamped (config_of plan) (gained u hold) (entry_by old.thread ticket e)) new.seen (rest_gained plan u hold ticket rested m.unheld));
         entry = record {
           ticket = ticket;
           log = ap (λ (k : Knowledge). k.share.log) is;
@@ -170,14 +171,9 @@ word_seen l a b same = ap seen (sym same)
     seen (Some x) = x.word
 
 -- the word that a look saw, where it isn't the free one, is that of a held mutex
-pub saw_held : (plan : Plan) (l seen : ℕ) (old v : Knowledge) → (config_of plan).kind l ≡ Mtx → seen ≢ 0 → v ≡ looked old l (word_of seen) → Makes plan (Looks old.thread l (counts old l) ∷ []) old v → is_free (word_of seen).holder ≡ false
-unfolding after_look
+pub saw_held : (plan : Plan) (l seen : ℕ) (old v : Knowledge) → (config_of plan).kind l ≡ Mtx → seen ≢ 0 → v ≡ seeing v.seen (looked old l (word_of seen)) → Makes plan (Looks old.thread l (counts old l) ∷ []) old v → is_free (word_of seen).holder ≡ false
 saw_held plan l seen old v mutex other view m =
-    let n : State = after_look m.state old.thread l (counts old l) in
-    let its : IsSeatOf (thread_in m.behind.views old.thread) n old.thread = m.represents_behind.seats.thread old.thread (ap (λ (w : Knowledge). w.role) m.is ∙ m.role_behind) in
-    let share : RepresentsShare v.share n old.thread = subst (λ (w : Knowledge). RepresentsShare w.share n old.thread) m.is its.share in
-    let saw : Some (look_at l (word_of seen)) ≡ Some (look_at l (m.state.word l)) =
-    sym (ap (λ (w : Knowledge). w.share.doing.last_look) view) ∙ ap (λ (x : ShareColumns). x.doing.last_look) share.columns ∙ put_same m.state.last_look old.thread (Some (look_at l (m.state.word l))) in
+    let saw : Some (look_at l (word_of seen)) ≡ Some (look_at l (m.state.word l)) = sym (ap (λ (w : Knowledge). w.share.doing.last_look) view) ∙ finds_word plan l (counts old l) old v m in
     mutex_is_held plan m.state l seen m.sound mutex (word_seen l (word_of seen) (m.state.word l) saw) other
 
 -- a try that saw the word of a held mutex, and noted it
@@ -186,7 +182,7 @@ pub record FindsBusy (plan : Plan) (l : LockNo) (seen : ℕ) (old new : Knowledg
   pub busy : WasBusy plan old.thread l seen old new
   pub entry : MakesEntry plan (Busy l seen) old.share.held old new
 
-module _ (plan : Plan) (l : LockNo) (seen : ℕ) (old v : Knowledge) (r : IsAtRest plan old) (m : MayAcquire plan l.0 old) (held : is_free (word_of seen).holder ≡ false) (view : v ≡ looked old l.0 (word_of seen)) where
+module _ (plan : Plan) (l : LockNo) (seen : ℕ) (old v : Knowledge) (r : IsAtRest plan old) (m : MayAcquire plan l.0 old) (held : is_free (word_of seen).holder ≡ false) (view : v ≡ seeing v.seen (looked old l.0 (word_of seen))) where
   abbrev bc : Config
   bc = config_of plan
 
@@ -197,13 +193,13 @@ module _ (plan : Plan) (l : LockNo) (seen : ℕ) (old v : Knowledge) (r : IsAtRe
   look = record { lock = l.0; word = word_of seen }
 
   abbrev q : Knowledge
-  q = with_looks old (suc old.share.doing.looks_in_all) (Some look) (Some look)
+  q = seeing v.seen (with_looks old (suc old.share.doing.looks_in_all) (Some look) (Some look))
 
   saw : v ≡ q
-  saw = view ∙ look_knows plan old l.0 r.no_round (word_of seen)
+  saw = view ∙ ap (seeing v.seen) (look_knows plan old l.0 r.no_round (word_of seen))
 
   resting : IsAtRest plan q
-  resting = looks_rest plan old (suc old.share.doing.looks_in_all) (Some look) (Some look) r
+  resting = looks_rest plan old (suc old.share.doing.looks_in_all) (Some look) (Some look) v.seen r
 
   asks_busy : (s : State) → Fits plan q s → Asks bc s old.thread note × HasOutForEntry chains s old.thread note
   asks_busy s f = (
@@ -230,14 +226,14 @@ module _ (plan : Plan) (l : LockNo) (seen : ℕ) (old v : Knowledge) (r : IsAtRe
   room_for_busy = subst (λ (k : Knowledge). 1 ≤ k.spare) (sym saw) m.room
 
   pub found_busy : IsWellFormed (word_of seen) → Makes plan (Looks old.thread l.0 (counts old l.0) ∷ []) old v
-      → (new : Knowledge) (ticket : ℕ) → new ≡ stamped (config_of plan) v (entry_by v.thread ticket note) → Makes plan (Stamps v.thread note ∷ []) v new → FindsBusy plan l seen old new
+      → (new : Knowledge) (ticket : ℕ) → new ≡ seeing new.seen (stamped (config_of plan) v (entry_by v.thread ticket note)) → Makes plan (Stamps v.thread note ∷ []) v new → FindsBusy plan l seen old new
   found_busy formed looks new ticket says step =
-      let is : new ≡ stamped (config_of plan) q (entry_by old.thread ticket note) = says ∙ ap (λ (k : Knowledge). stamped (config_of plan) k (entry_by k.thread ticket note)) saw in
+      let is : new ≡ seeing new.seen (stamped (config_of plan) q (entry_by old.thread ticket note)) = says ∙ ap (λ (k : Knowledge). seeing new.seen (stamped (config_of plan) k (entry_by k.thread ticket note))) saw in
       let noted : Makes plan (Stamps old.thread note ∷ []) v new = subst (λ t. Makes plan (Stamps t note ∷ []) v new) (ap (λ (k : Knowledge). k.thread) saw) step in
       let uncounted_look : Makes plan (Looks old.thread l.0 false ∷ []) old v = subst (λ b. Makes plan (Looks old.thread l.0 b ∷ []) old v) (uncounted plan old l.0 r.no_round) looks in
       let more : suc old.share.doing.looks_in_all ≡ new.share.doing.looks_in_all = sym (ap (λ (k : Knowledge). k.share.doing.looks_in_all) is) in
       record {
-        rest = subst (IsAtRest plan) (sym is) (rest_stamped plan q ticket note refl resting);
+        rest = subst (IsAtRest plan) (sym is) (rest_seeing plan (stamped (config_of plan) q (entry_by old.thread ticket note)) new.seen (rest_stamped plan q ticket note refl resting));
         busy = record {
           between = v;
           look = uncounted_look;

@@ -7,7 +7,7 @@ use Rattle.lock_state.specs.State.{Look}
 use Rattle.lock_state.specs.Steps.{Step, Looks, seeks}
 use Rattle.lock_state.specs.Steps.Items.{is_bound}
 use Rattle.floor_table.specs.Steps.{Makes, MakesEach, MayMake}
-use Rattle.floor_table.specs.Views.{Knowledge}
+use Rattle.floor_table.specs.Views.{Knowledge, seeing}
 use Rattle.lock_floor.specs.Passes.{IsAtRest}
 use Rattle.lock_floor.specs.Views.{counts, looked}
 use Rattle.lock_floor.proofs.May.{may_look}
@@ -45,12 +45,12 @@ module _ (plan : Plan) (v : Knowledge) (l : ℕ) (no_round : v.share.doing.round
         };
       }) uncounted
 
-  pub look_once : (word : Word) (new : Knowledge) → new ≡ looked v l word → Makes plan (Looks v.thread l (counts v l) ∷ []) v new → HasLooked plan l 1 v new
+  pub look_once : (word : Word) (new : Knowledge) → new ≡ seeing new.seen (looked v l word) → Makes plan (Looks v.thread l (counts v l) ∷ []) v new → HasLooked plan l 1 v new
   look_once word new is m = record {
     all = suc v.share.doing.looks_in_all;
     last = Some (record { lock = l; word = word });
     seen = Some (record { lock = l; word = word });
-    knows = is ∙ look_knows word;
+    knows = is ∙ ap (seeing new.seen) (look_knows word);
     steps = (new, subst (λ b. Makes plan (Looks v.thread l b ∷ []) v new) uncounted m, refl);
   }
 
@@ -73,24 +73,24 @@ look_more plan l n m u v w x y =
       all = y.all;
       last = y.last;
       seen = y.seen;
-      knows = y.knows ∙ ap (λ k. with_looks k y.all y.last y.seen) x.knows;
+      knows = y.knows ∙ ap (λ k. seeing w.seen (with_looks k y.all y.last y.seen)) x.knows;
       steps = subst (λ xs. MakesEach plan xs u w) (replicate-append-replicate n m look) (each_append plan (replicate n look) (replicate m look) u v w x.steps more);
     }
 
 pub still_no_round : (plan : Plan) (l n : ℕ) (u v : Knowledge) → u.share.doing.round ≡ None → HasLooked plan l n u v → v.share.doing.round ≡ None
 still_no_round plan l n u v no_round x = ap (λ (k : Knowledge). k.share.doing.round) x.knows ∙ no_round
 
-pub look_again : (plan : Plan) (l : ℕ) (u v w : Knowledge) (word : Word) → u.share.doing.round ≡ None → (n : ℕ) × HasLooked plan l n u v → w ≡ looked v l word → Makes plan (Looks v.thread l (counts v l) ∷ []) v w → (n : ℕ) × HasLooked plan l n u w
+pub look_again : (plan : Plan) (l : ℕ) (u v w : Knowledge) (word : Word) → u.share.doing.round ≡ None → (n : ℕ) × HasLooked plan l n u v → w ≡ seeing w.seen (looked v l word) → Makes plan (Looks v.thread l (counts v l) ∷ []) v w → (n : ℕ) × HasLooked plan l n u w
 look_again plan l u v w word no_round x view step =
     (x.0 + 1, look_more plan l x.0 1 u v w x.1 (look_once plan v l (still_no_round plan l x.0 u v no_round x.1) word w view step))
 
 pub look_on : (plan : Plan) (l : ℕ) (u v w : Knowledge) → (n : ℕ) × HasLooked plan l n u v → (n : ℕ) × HasLooked plan l n v w → (n : ℕ) × HasLooked plan l n u w
 look_on plan l u v w x y = (x.0 + y.0, look_more plan l x.0 y.0 u v w x.1 y.1)
 
--- 4. A thread at rest stays so
+-- 4. A thread at rest stays so, whatever steps its seat has seen
 
-pub looks_rest : (plan : Plan) (v : Knowledge) (all : ℕ) (last seen : Option Look) → IsAtRest plan v → IsAtRest plan (with_looks v all last seen)
-looks_rest plan v all last seen r = record {
+pub looks_rest : (plan : Plan) (v : Knowledge) (all : ℕ) (last seen : Option Look) (steps : List Step) → IsAtRest plan v → IsAtRest plan (seeing steps (with_looks v all last seen))
+looks_rest plan v all last seen steps r = record {
   nothing_out = r.nothing_out;
   no_walk = r.no_walk;
   unmarked = r.unmarked;

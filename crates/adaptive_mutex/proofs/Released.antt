@@ -1,5 +1,5 @@
 -- A release is noted, and then the mutex is put down: each step may be made, and the thread is at rest again.
-use Rattle.std.proofs.Common.{◌≡◌, ℕ, ◌+◌, ◌<◌, ◌≤◌, true, false, Option, [], ◌∷◌, ◌++◌, length, replicate, refl, sym, ap, ◌∙◌, subst, arith}
+use Rattle.std.proofs.Common.{◌≡◌, ℕ, ◌+◌, ◌<◌, ◌≤◌, true, false, Option, List, [], ◌∷◌, ◌++◌, length, replicate, refl, sym, ap, ◌∙◌, subst, arith}
 use Rattle.lock_model.specs.Holds.{NotHeld, Holds}
 use Rattle.lock_model.specs.Operations.{hold_in, without_lock}
 use Rattle.lock_model.specs.Plans.{config_of}
@@ -10,10 +10,11 @@ use Rattle.lock_model.specs.declared.numbers.LockNo.{LockNo}
 use Rattle.lock_model.specs.declared.plan.Mode.TheVariants.{Excl}
 use Rattle.lock_model.specs.declared.plan.Plan.{Plan}
 use Rattle.lock_state.specs.State.{State, Look}
-use Rattle.lock_state.specs.Steps.{Looks, Drops, Stamps, HasOutForEntry, NotesInRound}
+use Rattle.lock_state.specs.Steps.{Step, Looks, Drops, Stamps, HasOutForEntry, NotesInRound}
 use Rattle.lock_state.specs.Steps.LockWords.{Asks}
-use Rattle.floor_table.specs.Steps.{chains, Fits, Makes, MakesEach, MayMake}
-use Rattle.floor_table.specs.Views.{Knowledge}
+use Rattle.floor_table.specs.Past.{chains}
+use Rattle.floor_table.specs.Steps.{Fits, Makes, MakesEach, MayMake}
+use Rattle.floor_table.specs.Views.{Knowledge, seeing}
 use Rattle.lock_floor.specs.Passes.{IsAtRest, MakesEntry}
 use Rattle.lock_floor.specs.Views.{entry_by, stamped, put_down}
 use Rattle.lock_floor.proofs.May.{own_log, may_drop, may_stamp}
@@ -35,13 +36,13 @@ module _ (plan : Plan) (v : Knowledge) (l : LockNo) (r : IsAtRest plan v) (held 
       (λ e. absurd (let z : false ≡ true = sym r.awake ∙ e in cc))
       (λ ne. absurd (ne r.stamped))
 
-  pub may_put_down : (ticket : ℕ) (w : Knowledge) → w ≡ stamped (config_of plan) v (entry_by v.thread ticket (Unlocked l Excl)) → MayPutDown plan l.0 w
+  pub may_put_down : (ticket : ℕ) (w : Knowledge) → w ≡ seeing w.seen (stamped (config_of plan) v (entry_by v.thread ticket (Unlocked l Excl))) → MayPutDown plan l.0 w
   may_put_down ticket w is =
       let x = leaves plan v l Excl ticket r held in
       subst (MayPutDown plan l.0) (sym is) record { held = held; closed = x.closed; begun = r.begun l.0 (λ q. absurd (let z : Holds Excl ≡ NotHeld = sym held ∙ q in cc)); no_round = r.no_round }
 
 -- the thread's number is one of the plan's, which are few
-pub few_threads : (plan : Plan) (l : LockNo) (v w : Knowledge) (ticket : ℕ) → w ≡ stamped (config_of plan) v (entry_by v.thread ticket (Unlocked l Excl)) → Makes plan (Stamps v.thread (Unlocked l Excl) ∷ []) v w → w.thread ≤ 63
+pub few_threads : (plan : Plan) (l : LockNo) (v w : Knowledge) (ticket : ℕ) → w ≡ seeing w.seen (stamped (config_of plan) v (entry_by v.thread ticket (Unlocked l Excl))) → Makes plan (Stamps v.thread (Unlocked l Excl) ∷ []) v w → w.thread ≤ 63
 few_threads plan l v w ticket is m = omega (arith, ap (λ (k : Knowledge). k.thread) is, m.may.0.thread, m.represents.sizes.few_threads)
 
 -- 2. The drop
@@ -79,8 +80,8 @@ module _ (plan : Plan) (l : LockNo) (n ticket : ℕ) (old v new : Knowledge) (r 
   abbrev noted : Knowledge
   noted = stamped (config_of plan) old (entry_by old.thread ticket e)
 
-  leaves_on : (all : ℕ) (last seen : Option Look) → IsLeaving plan l.0 Excl (with_looks noted all last seen)
-  leaves_on all last seen =
+  leaves_on : (all : ℕ) (last seen : Option Look) (steps : List Step) → IsLeaving plan l.0 Excl (seeing steps (with_looks noted all last seen))
+  leaves_on all last seen steps =
       let x = leaves plan old l Excl ticket r m.held in
       record {
         about = record {
@@ -101,18 +102,18 @@ module _ (plan : Plan) (l : LockNo) (n ticket : ℕ) (old v new : Knowledge) (r 
         begun = x.begun;
       }
 
-  pub released : v ≡ noted → Makes plan (Stamps old.thread e ∷ []) old v → PutsDown plan l.0 n v new → Releases plan l n old new
+  pub released : v ≡ seeing v.seen noted → Makes plan (Stamps old.thread e ∷ []) old v → PutsDown plan l.0 n v new → Releases plan l n old new
   released says step d =
       let look = λ (t : ℕ). Looks t l.0 false ∷ [] in
       let drop = λ (t : ℕ). Drops t l.0 Excl ∷ [] in
-      let left : Knowledge = with_looks noted d.looked.all d.looked.last d.looked.seen in
-      let between : d.between ≡ left = d.looked.knows ∙ ap (λ k. with_looks k d.looked.all d.looked.last d.looked.seen) says in
-      let is : new ≡ put_down left l.0 = d.view ∙ ap (λ k. put_down k l.0) between in
+      let left : Knowledge = seeing d.between.seen (with_looks noted d.looked.all d.looked.last d.looked.seen) in
+      let between : d.between ≡ left = d.looked.knows ∙ ap (λ k. seeing d.between.seen (with_looks k d.looked.all d.looked.last d.looked.seen)) says in
+      let is : new ≡ seeing new.seen (put_down left l.0) = d.view ∙ ap (λ k. seeing new.seen (put_down k l.0)) between in
       let its : v.thread ≡ old.thread = ap (λ (k : Knowledge). k.thread) says in
-      let drops : Makes plan (drop old.thread) left (put_down left l.0) =
+      let drops : Makes plan (drop old.thread) left (seeing new.seen (put_down left l.0)) =
       subst (λ (z : Knowledge × Knowledge × ℕ). Makes plan (drop z.2) z.0 z.1) (λ i. (between i, is i, its i)) d.step in
       record {
-        rest = subst (IsAtRest plan) (sym is) (rest_left plan l.0 Excl left (leaves_on d.looked.all d.looked.last d.looked.seen) drops);
+        rest = subst (IsAtRest plan) (sym is) (rest_left plan l.0 Excl left (leaves_on d.looked.all d.looked.last d.looked.seen d.between.seen) new.seen drops);
         entry = record {
           ticket = ticket;
           log = ap (λ (k : Knowledge). k.share.log) is;

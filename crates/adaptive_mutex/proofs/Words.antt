@@ -1,5 +1,5 @@
 -- The word of a mutex: whoever sees one that isn't the free one sees it held, since a free mutex shows no waiters.
-use Rattle.std.proofs.Common.{◌≡◌, ◌≢◌, ℕ, zero, suc, ◌/◌, ◌%◌, ◌≤◌, Bool, true, false, ◌||◌, refl, sym, ◌∙◌, subst, arith, eq-eqb}
+use Rattle.std.proofs.Common.{◌≡◌, ◌≢◌, ℕ, zero, suc, ◌/◌, ◌%◌, ◌≤◌, Bool, true, false, ◌||◌, List, refl, sym, ◌∙◌, subst, arith, eq-eqb}
 use Rattle.std.specs.Prelude.{◌==◌}
 use Rattle.lock_model.specs.Counts.{one}
 use Rattle.lock_model.specs.Plans.{config_of}
@@ -9,6 +9,7 @@ use Rattle.lock_model.specs.declared.plan.Plan.{Plan}
 use Rattle.lock_state.specs.Facts.{FreeMutexShowsNone}
 use Rattle.lock_state.specs.Facts.Waits.{busy}
 use Rattle.lock_state.specs.State.{State}
+use Rattle.lock_state.specs.Steps.{Step}
 use Rattle.floor_table.specs.Steps.{IsSound}
 
 -- 1. Words that show neither a holder nor waiters
@@ -48,7 +49,7 @@ shows_none w few free = go w.holder (shows_waiters w) few free
     go (HeldBy t) b few free = absurd (cc)
     go (SharedBy n) b few free = absurd (cc)
 
-pub mutex_is_held : (plan : Plan) (s : State) (l seen : ℕ) → IsSound (config_of plan) s → (config_of plan).kind l ≡ Mtx → s.word l ≡ word_of seen → seen ≢ 0 → is_free (word_of seen).holder ≡ false
+pub mutex_is_held : (plan : Plan) {past : List Step} (s : State) (l seen : ℕ) → IsSound (config_of plan) past s → (config_of plan).kind l ≡ Mtx → s.word l ≡ word_of seen → seen ≢ 0 → is_free (word_of seen).holder ≡ false
 unfolding FreeMutexShowsNone
 mutex_is_held plan s l seen sound mutex is other = go (is_free (word_of seen).holder) refl
   where

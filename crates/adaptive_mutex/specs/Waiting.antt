@@ -14,7 +14,7 @@ use Rattle.lock_state.specs.Steps as steps
 use Rattle.lock_state.specs.Steps.{Looks, Drops}
 use Rattle.floor_table.specs.Shares.{Doing, is_among}
 use Rattle.floor_table.specs.Steps.{Makes, MakesEach}
-use Rattle.floor_table.specs.Views.{Knowledge}
+use Rattle.floor_table.specs.Views.{Knowledge, seeing}
 use Rattle.lock_floor.specs.Views.{gained, put_down}
 
 -- with so many looks in all, and with others seen last
@@ -32,7 +32,7 @@ pub record HasLooked (plan : Plan) (l n : ℕ) (old new : Knowledge) : Type 0 wh
   pub all : ℕ
   pub last : Option Look
   pub seen : Option Look
-  pub knows : new ≡ with_looks old all last seen
+  pub knows : new ≡ seeing new.seen (with_looks old all last seen)
   pub steps : MakesEach plan (replicate n (Looks old.thread l false ∷ [])) old new
 
 -- the thread may gain the lock where its word is free: it doesn't hold it, has room for it, wants none and is in no round
@@ -46,7 +46,7 @@ pub record MayGain (plan : Plan) (l : ℕ) (v : Knowledge) : Type 0 where
 pub record Gains (plan : Plan) (h : Held) (n : ℕ) (old new : Knowledge) : Type 0 where
   pub between : Knowledge
   pub looked : HasLooked plan h.l.0 n old between
-  pub view : new ≡ gained between h
+  pub view : new ≡ seeing new.seen (gained between h)
   pub step : Makes plan (steps.Gains old.thread h.l.0 h.mode h.by_try ∷ []) between new
 
 -- the thread may put the lock down: it holds it, its section of it began and is closed, and it is in no round
@@ -60,5 +60,5 @@ pub record MayPutDown (plan : Plan) (l : ℕ) (v : Knowledge) : Type 0 where
 pub record PutsDown (plan : Plan) (l n : ℕ) (old new : Knowledge) : Type 0 where
   pub between : Knowledge
   pub looked : HasLooked plan l n old between
-  pub view : new ≡ put_down between l
+  pub view : new ≡ seeing new.seen (put_down between l)
   pub step : Makes plan (Drops old.thread l Excl ∷ []) between new
