@@ -9,6 +9,9 @@
  * by the operations of all threads together. The best of them is a run in which the threads met least; so behind each
  * stands NAME_median, the median of the 15, and for one mutex NAME_handovers: of how many of 100 sections of that run
  * the one before was another thread's. Where this is near 0 the threads hardly met, as on a machine with other work.
+ *
+ * `tickets` are entries alone, without a mutex or an edit: no program whose entries have one order of all threads can
+ * take less for an operation.
  */
 #define _GNU_SOURCE
 #include <pthread.h>
@@ -46,6 +49,7 @@ struct worker {
     uint8_t thread;
     uint8_t lock;
     int edits;
+    int tickets_alone;
     struct timespec ended;
 };
 
@@ -84,6 +88,11 @@ static void put(struct worker *w, enum event event, uint64_t key, uint64_t value
 static void work(struct worker *w)
 {
     struct lock *l = &locks[w->lock];
+    if (w->tickets_alone) {
+        for (size_t i = 0; i < 3 * w->rounds; i++)
+            put(w, UNLOCKED, 0, 0);
+        return;
+    }
     for (size_t i = 0; i < w->rounds; i++) {
         if (pthread_mutex_lock(&l->mutex) != 0)
             fail("a lock was refused");
@@ -161,7 +170,7 @@ struct figures {
     double handovers;
 };
 
-static struct figures run(int threads, int own_mutexes, int edits)
+static struct figures run(int threads, int own_mutexes, int edits, int tickets_alone)
 {
     static struct worker workers[MOST_THREADS];
     pthread_t ids[MOST_THREADS];
@@ -173,7 +182,7 @@ static struct figures run(int threads, int own_mutexes, int edits)
     for (int t = 0; t < threads; t++)
         workers[t] = (struct worker){
             .log = logs[t], .rounds = ROUNDS, .thread = (uint8_t)t,
-            .lock = (uint8_t)(own_mutexes ? t : 0), .edits = edits,
+            .lock = (uint8_t)(own_mutexes ? t : 0), .edits = edits, .tickets_alone = tickets_alone,
         };
     if (threads == 1) {
         clock_gettime(CLOCK_MONOTONIC, &from);
@@ -208,11 +217,11 @@ static int by_time(const void *a, const void *b)
     return (x > y) - (x < y);
 }
 
-static void measure(const char *name, int threads, int own_mutexes, int edits)
+static void measure(const char *name, int threads, int own_mutexes, int edits, int tickets_alone)
 {
     struct figures runs[RUNS];
     for (int i = 0; i < RUNS; i++)
-        runs[i] = run(threads, own_mutexes, edits);
+        runs[i] = run(threads, own_mutexes, edits, tickets_alone);
     qsort(runs, RUNS, sizeof runs[0], by_time);
     printf("%s %.1f\n", name, runs[0].nanoseconds);
     if (threads > 1) {
@@ -237,13 +246,16 @@ int main(void)
         /* so that no page is new in a run */
         memset(logs[t], 1, bytes);
     }
-    measure("lock_unlock", 1, 0, 0);
-    measure("lock_add_unlock", 1, 0, 1);
-    measure("one_mutex_1_thread", 1, 0, 1);
-    measure("one_mutex_2_threads", 2, 0, 1);
-    measure("one_mutex_4_threads", 4, 0, 1);
-    measure("own_mutexes_1_thread", 1, 1, 1);
-    measure("own_mutexes_2_threads", 2, 1, 1);
-    measure("own_mutexes_4_threads", 4, 1, 1);
+    measure("lock_unlock", 1, 0, 0, 0);
+    measure("lock_add_unlock", 1, 0, 1, 0);
+    measure("one_mutex_1_thread", 1, 0, 1, 0);
+    measure("one_mutex_2_threads", 2, 0, 1, 0);
+    measure("one_mutex_4_threads", 4, 0, 1, 0);
+    measure("own_mutexes_1_thread", 1, 1, 1, 0);
+    measure("own_mutexes_2_threads", 2, 1, 1, 0);
+    measure("own_mutexes_4_threads", 4, 1, 1, 0);
+    measure("tickets_1_thread", 1, 1, 0, 1);
+    measure("tickets_2_threads", 2, 1, 0, 1);
+    measure("tickets_4_threads", 4, 1, 0, 1);
     return 0;
 }

@@ -88,6 +88,7 @@ impl Keeper {
             log,
             finished: _,
             law: _,
+            apart: _,
         } = pass;
         floor
             .board

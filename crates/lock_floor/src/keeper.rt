@@ -11,11 +11,13 @@ use crate::pass::{Pass, PassOf};
 use atomic_table::Split;
 use floor_table::{Board, Law, Place, Slot, View, words_for};
 use lock_history::{Log, Tables};
-use lock_model::limits::HELD;
 use lock_model::{Op, Plan, ThreadDecl, ThreadNo};
 use std::alloc::{AllocError, Global};
 use std::marker::{Model, PhantomData};
 use thread_records::ThreadRec;
+
+// Room for the locks that a thread holds: more than it may hold, so that two threads' rooms share no cache line.
+const HELD_ROOM: usize = 64;
 
 /// Who makes the passes of a floor and takes them in.
 #[derive(Drop)]
@@ -177,7 +179,7 @@ fn hand_out(
         → slice_index_or passes.new.items t d ≡ first_pass seat.old.table_id plan.now t) }
 {
     for (t, thread) in plan.threads.as_slice().iter().enumerate() {
-        let held = Vec::with_capacity(alloc, HELD)?;
+        let held = Vec::with_capacity(alloc, HELD_ROOM)?;
         let log = Log::make(alloc, 2 * thread.ops.as_slice().len() as u32)?;
         let mine = board.shared.split_seat::<HandOut>(seat);
         passes.push_reserved(PassOf {
@@ -187,6 +189,7 @@ fn hand_out(
             log,
             finished: false,
             law: PhantomData,
+            apart: [0; 16],
         });
     }
     Ok(())

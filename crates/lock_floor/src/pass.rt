@@ -20,6 +20,8 @@ pub struct PassOf<S, V, K, P: Ties<S, V, K>> {
     pub(crate) log: Log,
     pub(crate) finished: bool,
     pub(crate) law: PhantomData<(K, P)>,
+    /// Nothing: it keeps what another pass of a list writes off the cache lines of this one.
+    pub(crate) apart: [u64; 16],
 }
 
 impl<S, V, K, P: Ties<S, V, K>> Model for PassOf<S, V, K, P> {
