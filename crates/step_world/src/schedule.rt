@@ -11,7 +11,7 @@ ghost use Rattle.lock_model.specs.declared.plan.Plan as plans;
 ghost use Rattle.step_world.specs.Courses.{IsCourse, IsUnderWay, Tells, GoesTo, ended_in, newly_ended};
 ghost use Rattle.step_world.specs.Worlds.{Represents};
 
-use crate::outcome::{finals, queue_lines};
+use crate::outcome::finals;
 use crate::world::World;
 use lock_history::{History, Last, Outcome};
 use lock_model::{Plan, Sequence, ThreadNo, Turn};
@@ -41,9 +41,18 @@ pub fn run_schedule(
     course.into_outcome(alloc)
 }
 
-/// A run under way.
+/// A run under way, turn by turn: the turns of the plan's schedule, and then rounds over the threads that haven't ended,
+/// by number. It is over where all threads have ended, or a whole round was idle.
+///
+/// ```
+/// let mut course = Course::make(alloc, &plan, 16)?;
+/// while let Some((who, answer)) = course.go_on()? {
+///     println!(rt; "{who:?}: {answer:?}, {} entries", course.world().history().len())?;
+/// }
+/// let outcome = course.into_outcome(alloc)?;
+/// ```
 #[derive(Drop)]
-struct Course<'p> {
+pub struct Course<'p> {
     world: World<'p>,
     /// The schedule or the present round, and how many of it have had their turn.
     coming: Vec<ThreadNo>,
@@ -54,29 +63,9 @@ struct Course<'p> {
     ended: u8,
 }
 
-// So many turns, or fewer where the run comes to its end before.
-fn make_turns(course: &mut Course<'_>, turns: u32) -> Result<(), AllocError>
-    requires { IsUnderWay course.old }
-    ensures under_way { OnOk result (IsUnderWay course.new) }
-    ensures turns { OnOk result ((plan : plans.Plan) (chains : ℕ)
-        → IsCourse plan chains course.old (start_course plan)
-        → IsCourse plan chains course.new (course_after plan turns)) }
-{
-    let mut made = 0;
-    while made < turns && !course.is_over() {
-        course.go_on()?;
-        made += 1;
-    }
-    Ok(())
-}
-
 impl<'p> Course<'p> {
-    // The schedule comes first.
-    fn make(alloc: Global, plan: &'p Plan, chains: u32) -> Result<Course<'p>, AllocError>
-        requires proper { IsProper plan.now }
-        requires some_chains { 1 ≤ chains }
-        requires few_chains { chains ≤ 64 }
-        ensures { IfOk result (λ course. IsCourse plan.now chains course (start_course plan.now)) }
+    /// The begin of a run. There are 1 to 64 chains of each sort, and the plan is one that some script gives.
+    pub fn make(alloc: Global, plan: &'p Plan, chains: u32) -> Result<Course<'p>, AllocError>
     {
         let world = World::make(alloc, plan, chains)?;
         let ended = count_ended(&world);
@@ -89,42 +78,59 @@ impl<'p> Course<'p> {
         })
     }
 
-    // Whether all threads have ended, or a whole round was idle.
-    fn is_over(&self) -> bool
-        ensures { Tells self.now result is_over }
+    /// Whether all threads have ended, or a whole round was idle.
+    pub fn is_over(&self) -> bool
     {
         self.all_ended() || self.is_stuck()
     }
 
-    #[tactic(auto, using(crate::proofs::Scheduling::all_ended_is))]
+    /// The next thread has its turn: who it is, and the turn's answer. There is none exactly where the run is over, and
+    /// then nothing changes.
+    pub fn go_on(&mut self) -> Result<Option<(ThreadNo, Turn)>, AllocError>
+    {
+        if self.is_over() {
+            return Ok(None);
+        }
+        if self.gone == self.coming.len() {
+            self.begin_round()?;
+        }
+        Ok(self.make_turn())
+    }
+
+    /// The world between two turns.
+    pub fn world(&self) -> &World<'p>
+    {
+        &self.world
+    }
+
+    /// What is printed of the run so far.
+    pub fn into_outcome(self, alloc: Global) -> Result<Outcome, AllocError>
+    {
+        let last = self.last();
+        let queues = self.world.queues(alloc)?;
+        let finals = finals(alloc, self.world.machine())?;
+        let machine = self.world.into_machine();
+        Ok(Outcome {
+            history: History::of_log(machine.log),
+            queues: Sequence::from_vec(queues),
+            finals: Sequence::from_vec(finals),
+            tables: machine.tables,
+            last,
+        })
+    }
+
     fn all_ended(&self) -> bool
-        ensures { Tells self.now result (λ plan k. all_ended plan k.run) }
     {
         self.ended == self.world.threads()
     }
 
     fn is_stuck(&self) -> bool
-        ensures { Tells self.now result (λ plan k. is_stuck k) }
     {
         self.gone == self.coming.len() && self.idle
     }
 
-    // The next thread has its turn. Where nobody comes any more, a round begins.
-    fn go_on(&mut self) -> Result<(), AllocError>
-        requires { IsUnderWay self.old }
-        ensures { OnOk result (GoesTo self.old self.new (λ plan k. after_turn plan k k.coming)) }
-    {
-        if self.gone == self.coming.len() {
-            self.begin_round()?;
-        }
-        self.make_turn();
-        Ok(())
-    }
-
     // Nobody of the schedule or of the round before comes any more.
     fn begin_round(&mut self) -> Result<(), AllocError>
-        ensures { OnOk result (GoesTo self.old self.new
-            (λ plan k. record k { coming = round_of plan k.run; idle = true })) }
     {
         put_round(&self.world, &mut self.coming)?;
         self.gone = 0;
@@ -133,23 +139,19 @@ impl<'p> Course<'p> {
     }
 
     // The first that comes has its turn.
-    fn make_turn(&mut self)
-        requires { IsUnderWay self.old }
-        ensures { GoesTo self.old self.new (λ plan k. with_turn plan k.run k.coming k.idle) }
+    fn make_turn(&mut self) -> Option<(ThreadNo, Turn)>
     {
-        if let Some(t) = self.coming.get(self.gone) {
-            let t = *t;
-            let turn = self.world.turn(t);
-            self.gone += 1;
-            self.idle = self.idle && turn == Turn::Idle;
-            let has_ended = self.world.has_ended(t);
-            self.ended += newly_ended(turn, has_ended);
-        }
+        let t = *self.coming.get(self.gone)?;
+        let turn = self.world.turn(t);
+        self.gone += 1;
+        self.idle = self.idle && turn == Turn::Idle;
+        let has_ended = self.world.has_ended(t);
+        self.ended += newly_ended(turn, has_ended);
+        Some((t, turn))
     }
 
     // How the run ended.
     fn last(&self) -> Last
-        ensures { Tells self.now (ending_of result) ending_of_course }
     {
         if self.all_ended() {
             self.whole_ending()
@@ -162,8 +164,6 @@ impl<'p> Course<'p> {
 
     // How it ended where all threads have ended.
     fn whole_ending(&self) -> Last
-        ensures { Tells self.now (ending_of result)
-            (λ plan k. whole_ending k.run.state.history) }
     {
         if self.world.machine().has_reversal() {
             Last::Reversed
@@ -171,27 +171,17 @@ impl<'p> Course<'p> {
             Last::Done
         }
     }
+}
 
-    // What is printed of the run.
-    fn into_outcome(self, alloc: Global) -> Result<Outcome, AllocError>
-        requires { IsUnderWay self }
-        ensures { IfOk result (λ o. (plan : plans.Plan) (chains : ℕ) (k : run.Course)
-            → IsProper plan → IsCourse plan chains self.entry k
-            → outcome_seen o ≡ outcome_of plan chains k) }
-    {
-        let last = self.last();
-        let world = &self.world;
-        let queues = queue_lines(alloc, world.machine(), world.plan(), world.chains())?;
-        let finals = finals(alloc, self.world.machine())?;
-        let machine = self.world.into_machine();
-        Ok(Outcome {
-            history: History::of_log(machine.log),
-            queues: Sequence::from_vec(queues),
-            finals: Sequence::from_vec(finals),
-            tables: machine.tables,
-            last,
-        })
+// So many turns, or fewer where the run comes to its end before.
+fn make_turns(course: &mut Course<'_>, turns: u32) -> Result<(), AllocError>
+{
+    for _ in 0..turns {
+        if course.go_on()?.is_none() {
+            return Ok(());
+        }
     }
+    Ok(())
 }
 
 // How many threads have ended.

@@ -14,6 +14,8 @@ use lock_model::{Plan, ThreadNo, Turn};
 use std::alloc::{AllocError, Global};
 use std::marker::Model;
 
+mod reading;
+
 /// A scheduled run between two turns. Its state is lawful: it represents a run of its plan that is on track.
 #[derive(Drop)]
 pub struct World<'p> {
