@@ -78,7 +78,7 @@ fn make_turn(
     columns: &mut Columns,
     row: u32,
 ) -> Result<Option<TurnRow>, AllocError> {
-    let Some((who, answer)) = course.go_on()? else {
+    let Some((who, answer)) = course.go_on() else {
         return Ok(None);
     };
     let world = course.world();

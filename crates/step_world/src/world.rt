@@ -110,20 +110,6 @@ impl<'p> World<'p> {
         self.machine.threads.len() as u8
     }
 
-    /// The plan that is run.
-    pub(crate) fn plan(&self) -> &Plan
-        ensures { result.now ≡ self.now.plan }
-    {
-        self.plan
-    }
-
-    /// The number of chains of each sort.
-    pub(crate) fn chains(&self) -> u32
-        ensures { result ≡ self.now.chains }
-    {
-        self.chains
-    }
-
     /// The objects, to be told of.
     pub(crate) fn machine(&self) -> &Machine
         ensures { result.now ≡ self.now.machine }
