@@ -1,5 +1,5 @@
 -- What a world tells of its threads and queues is what the columns say.
-use Rattle.std.proofs.Common.{◌≡◌, ◌↔◌, ℕ, ◌<◌, Bool, true, false, ltb, List, Result, Ok, Err, IfOk, length, map, reverse, slice_get, option_map, Option, Some, None, IsSomeAnd, sym, ap, subst, arith, ◌∙◌}
+use Rattle.std.proofs.Common.{◌≡◌, ◌↔◌, ℕ, ◌<◌, Bool, true, false, ltb, List, Result, Ok, Err, IfOk, length, map, slice_get, Option, Some, None, sym, ap, subst, arith, ◌∙◌}
 use Rattle.std.specs.Bool.{then_some}
 use Rattle.std.specs.Global.{Vec}
 use Rattle.std.specs.Option.{option_map_or}
@@ -28,20 +28,15 @@ use Rattle.wait_objects.specs.Changes.{waits}
 use Rattle.step_world.specs.declared.machine.Machine.{Machine}
 use Rattle.step_world.specs.declared.thread.Thread.{Thread}
 use Rattle.step_world.specs.Represents.{Represents}
-use Rattle.step_world.specs.Runs.{IsAsFar, IsRunOf, RepresentsRun}
-use Rattle.step_world.specs.Steps.{progress_of}
+use Rattle.step_world.specs.Runs.{IsRunOf}
 use Rattle.step_world.specs.Worlds as worlds
-use Rattle.step_world.proofs.Outcomes.{lines_are}
+use Rattle.step_world.proofs.Ends.{aside_is}
 
 -- 1. A thread
 
--- it is as far as the run says
-as_far : (plan : Plan) (m : Machine) (r : Run) (t : ℕ) (th : Thread) → RepresentsRun plan m r → t < length plan.threads → slice_get m.threads.items t ≡ Some th → IsAsFar plan r t (progress_of th)
-as_far plan m r t th h lt e = subst (λ (o : Option Thread). IsSomeAnd (option_map progress_of o) (IsAsFar plan r t)) e (h.progress t lt)
-
--- so its list of held locks is in order of acquisition
+-- its list of held locks is in order of acquisition
 pub in_order : (plan : Plan) (m : Machine) (r : Run) (t : ℕ) (th : Thread) → IsRunOf plan m r → t < length plan.threads → slice_get m.threads.items t ≡ Some th → r.state.held_locks t ≡ gained_order th.held.items
-in_order plan m r t th h lt e = h.on_track.listed t ∙ ap gained_order (sym (as_far plan m r t th h.shows lt e).held)
+in_order plan m r t th h lt e = h.on_track.listed t ∙ ap gained_order (sym (aside_is plan m r t th h lt e).held)
 
 -- 2. Where a thread stands
 

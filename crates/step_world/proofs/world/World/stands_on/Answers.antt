@@ -1,7 +1,5 @@
-use Rattle.std.proofs.Common.{◌≡◌, ◌↔◌, ℕ, ◌<◌, Option, Some, None, rules, sym, subst, ◌∙◌}
+use Rattle.std.proofs.Common.{◌≡◌, Some, None, rules, sym, subst, ◌∙◌}
 use Rattle.lock_model.specs.Plans.{config_of}
-use Rattle.lock_model.specs.Queues.{stands}
-use Rattle.lock_model.specs.declared.plan.QueueName.{QueueName}
 use Rattle.step_world.specs.Worlds.{World, Represents}
 use Rattle.step_world.proofs.Telling.{stands_nowhere, stands_there}
 use Rattle.step_world.proofs.world.World.stands_on.Goals as goal
