@@ -1,5 +1,13 @@
 //! The tracks of a run: of each thread, of each lock's word, and of the queues. Behind a turn that changed something
 //! each track notes what it is now.
+ghost use Rattle.std.specs.Prelude.{◌≡◌, ◌+◌, ◌<◌, ℕ, length, slice_get, Some, IfOk, OnOk};
+ghost use Rattle.lock_model.specs.Words.{word_of};
+ghost use Rattle.lock_state.specs.Run.{Run};
+ghost use Rattle.run_rows.specs.Rows.{TellsColumns, TellsThread};
+ghost use Rattle.run_rows.specs.Tracks.{EachTells};
+ghost use Rattle.run_rows.specs.declared.columns.ThreadRows as rows;
+ghost use Rattle.step_world.specs.Represents.{hold_of};
+ghost use Rattle.step_world.specs.Worlds.{Represents};
 
 use crate::track::Track;
 use lock_history::QueueLine;
@@ -41,25 +49,33 @@ pub(crate) struct Columns {
 
 impl Columns {
     /// Those of the begin.
-    pub(crate) fn begin(
-        alloc: Global,
-        world: &World<'_>,
-        locks: u8,
-    ) -> Result<Columns, AllocError> {
+    pub(crate) fn begin(alloc: Global, world: &World<'_>) -> Result<Columns, AllocError>
+        ensures { IfOk result (λ a. (runs : ℕ → Run) → Represents world.now (runs 0)
+            → TellsColumns world.now.plan world.now.chains runs 1 a.threads.items a.words.items
+            a.queues) }
+    {
         Ok(Columns {
-            threads: begin_threads(alloc, world, locks)?,
-            words: begin_words(alloc, world, locks)?,
+            threads: begin_threads(alloc, world)?,
+            words: begin_words(alloc, world)?,
             queues: Track::begin(alloc, Sequence::from_vec(world.queues(alloc)?))?,
         })
     }
 
-    /// Notes what the world is in a row.
+    /// Notes what the world is in the next row.
     pub(crate) fn note(
         &mut self,
         alloc: Global,
         world: &World<'_>,
         row: u32,
-    ) -> Result<(), AllocError> {
+    ) -> Result<(), AllocError>
+        requires { (runs : ℕ → Run) × TellsColumns world.now.plan world.now.chains runs row
+            self.old.threads.items self.old.words.items self.old.queues }
+        ensures { OnOk result ((runs : ℕ → Run) → Represents world.now (runs row)
+            → TellsColumns world.now.plan world.now.chains runs row
+            self.old.threads.items self.old.words.items self.old.queues
+            → TellsColumns world.now.plan world.now.chains runs (row + 1)
+            self.new.threads.items self.new.words.items self.new.queues) }
+    {
         note_threads(&mut self.threads, alloc, world, row)?;
         note_words(&mut self.words, world, row)?;
         self.queues
@@ -68,12 +84,12 @@ impl Columns {
 }
 
 impl ThreadRows {
-    fn begin(
-        alloc: Global,
-        world: &World<'_>,
-        t: ThreadNo,
-        locks: u8,
-    ) -> Result<ThreadRows, AllocError> {
+    // Those of a thread at the begin.
+    fn begin(alloc: Global, world: &World<'_>, t: ThreadNo) -> Result<ThreadRows, AllocError>
+        requires { t.0 < length world.now.plan.threads }
+        ensures { IfOk result (λ a. (runs : ℕ → Run) → Represents world.now (runs 0)
+            → TellsThread world.now.plan runs 1 t.0 a) }
+    {
         let (base, effective) = world.priorities(t);
         Ok(ThreadRows {
             base: Track::begin(alloc, base)?,
@@ -82,17 +98,24 @@ impl ThreadRows {
             blocked_on: Track::begin(alloc, world.blocked_on(t))?,
             stands_on: Track::begin(alloc, world.stands_on(t))?,
             walk: Track::begin(alloc, world.walk(t))?,
-            held: Sequence::from_vec(begin_holds(alloc, world, t, locks)?),
+            held: Sequence::from_vec(begin_holds(alloc, world, t)?),
         })
     }
 
+    // Notes what a thread is in the next row.
     fn note(
         &mut self,
         alloc: Global,
         world: &World<'_>,
         t: ThreadNo,
         row: u32,
-    ) -> Result<(), AllocError> {
+    ) -> Result<(), AllocError>
+        requires thread { t.0 < length world.now.plan.threads }
+        requires told { (runs : ℕ → Run) × TellsThread world.now.plan runs row t.0 self.old }
+        ensures { OnOk result ((runs : ℕ → Run) → Represents world.now (runs row)
+            → TellsThread world.now.plan runs row t.0 self.old
+            → TellsThread world.now.plan runs (row + 1) t.0 self.new) }
+    {
         let (base, effective) = world.priorities(t);
         self.base.note(row, base)?;
         self.effective.note(row, effective)?;
@@ -105,14 +128,15 @@ impl ThreadRows {
 }
 
 // Those of each thread at the begin.
-fn begin_threads(
-    alloc: Global,
-    world: &World<'_>,
-    locks: u8,
-) -> Result<Vec<ThreadRows>, AllocError> {
+fn begin_threads(alloc: Global, world: &World<'_>) -> Result<Vec<ThreadRows>, AllocError>
+    ensures number { IfOk result (λ a. length a.items ≡ length world.now.plan.threads) }
+    ensures told { IfOk result (λ a. (runs : ℕ → Run) (t : ℕ) (thread : rows.ThreadRows)
+        → Represents world.now (runs 0) → slice_get a.items t ≡ Some thread
+        → TellsThread world.now.plan runs 1 t thread) }
+{
     let mut threads = Vec::new(alloc);
     for t in 0..world.threads() {
-        threads.push(ThreadRows::begin(alloc, world, ThreadNo(t), locks)?)?;
+        threads.push(ThreadRows::begin(alloc, world, ThreadNo(t))?)?;
     }
     Ok(threads)
 }
@@ -122,65 +146,98 @@ fn begin_holds(
     alloc: Global,
     world: &World<'_>,
     t: ThreadNo,
-    locks: u8,
-) -> Result<Vec<Track<Option<Mode>>>, AllocError> {
+) -> Result<Vec<Track<Option<Mode>>>, AllocError>
+    requires { t.0 < length world.now.plan.threads }
+    ensures number { IfOk result (λ a. length a.items ≡ length world.now.plan.locks) }
+    ensures told { IfOk result (λ a. (runs : ℕ → Run) → Represents world.now (runs 0)
+        → EachTells a.items 1 (λ l n mode. hold_of mode ≡ (runs n).state.held t.0 l)) }
+{
     let mut held = Vec::new(alloc);
-    for l in 0..locks {
+    for l in 0..world.locks() {
         held.push(Track::begin(alloc, world.mode(t, LockNo(l)))?)?;
     }
     Ok(held)
 }
 
 // The word of each lock at the begin.
-fn begin_words(
-    alloc: Global,
-    world: &World<'_>,
-    locks: u8,
-) -> Result<Vec<Track<u64>>, AllocError> {
+fn begin_words(alloc: Global, world: &World<'_>) -> Result<Vec<Track<u64>>, AllocError>
+    ensures number { IfOk result (λ a. length a.items ≡ length world.now.plan.locks) }
+    ensures told { IfOk result (λ a. (runs : ℕ → Run) → Represents world.now (runs 0)
+        → EachTells a.items 1 (λ l n w. word_of w ≡ (runs n).state.word l)) }
+{
     let mut words = Vec::new(alloc);
-    for l in 0..locks {
+    for l in 0..world.locks() {
         words.push(Track::begin(alloc, world.word(LockNo(l)))?)?;
     }
     Ok(words)
 }
 
-// Notes what each thread is.
+// Notes what each thread is in the next row.
 fn note_threads(
     threads: &mut Vec<ThreadRows>,
     alloc: Global,
     world: &World<'_>,
     row: u32,
-) -> Result<(), AllocError> {
-    for t in 0..threads.len() {
-        threads[t].note(alloc, world, ThreadNo(t as u8), row)?;
+) -> Result<(), AllocError>
+    requires number { length threads.old.items ≡ length world.now.plan.threads }
+    requires told { (runs : ℕ → Run) × ((t : ℕ) (thread : rows.ThreadRows)
+        → slice_get threads.old.items t ≡ Some thread
+        → TellsThread world.now.plan runs row t thread) }
+    ensures number { OnOk result (length threads.new.items ≡ length threads.old.items) }
+    ensures told { OnOk result ((runs : ℕ → Run) → Represents world.now (runs row)
+        → ((t : ℕ) (thread : rows.ThreadRows) → slice_get threads.old.items t ≡ Some thread
+        → TellsThread world.now.plan runs row t thread)
+        → (t : ℕ) (thread : rows.ThreadRows) → slice_get threads.new.items t ≡ Some thread
+        → TellsThread world.now.plan runs (row + 1) t thread) }
+{
+    for t in 0..world.threads() {
+        threads[usize::from(t)].note(alloc, world, ThreadNo(t), row)?;
     }
     Ok(())
 }
 
-// Notes how a thread holds each lock.
+// Notes how a thread holds each lock in the next row.
 fn note_holds(
     held: &mut Sequence<Track<Option<Mode>>>,
     alloc: Global,
     world: &World<'_>,
     t: ThreadNo,
     row: u32,
-) -> Result<(), AllocError> {
+) -> Result<(), AllocError>
+    requires thread { t.0 < length world.now.plan.threads }
+    requires number { length held.old ≡ length world.now.plan.locks }
+    requires told { (runs : ℕ → Run) × EachTells held.old row
+        (λ l n mode. hold_of mode ≡ (runs n).state.held t.0 l) }
+    ensures number { OnOk result (length held.new ≡ length held.old) }
+    ensures told { OnOk result ((runs : ℕ → Run) → Represents world.now (runs row)
+        → EachTells held.old row (λ l n mode. hold_of mode ≡ (runs n).state.held t.0 l)
+        → EachTells held.new (row + 1)
+        (λ l n mode. hold_of mode ≡ (runs n).state.held t.0 l)) }
+{
     let mut tracks = mem::replace(held, Sequence::from_vec(Vec::new(alloc))).into_vec();
-    for l in 0..tracks.len() {
-        tracks[l].note(row, world.mode(t, LockNo(l as u8)))?;
+    for l in 0..world.locks() {
+        tracks[usize::from(l)].note(row, world.mode(t, LockNo(l)))?;
     }
     *held = Sequence::from_vec(tracks);
     Ok(())
 }
 
-// Notes each lock's word.
+// Notes each lock's word in the next row.
 fn note_words(
     words: &mut Vec<Track<u64>>,
     world: &World<'_>,
     row: u32,
-) -> Result<(), AllocError> {
-    for l in 0..words.len() {
-        words[l].note(row, world.word(LockNo(l as u8)))?;
+) -> Result<(), AllocError>
+    requires number { length words.old.items ≡ length world.now.plan.locks }
+    requires told { (runs : ℕ → Run) × EachTells words.old.items row
+        (λ l n w. word_of w ≡ (runs n).state.word l) }
+    ensures number { OnOk result (length words.new.items ≡ length words.old.items) }
+    ensures told { OnOk result ((runs : ℕ → Run) → Represents world.now (runs row)
+        → EachTells words.old.items row (λ l n w. word_of w ≡ (runs n).state.word l)
+        → EachTells words.new.items (row + 1) (λ l n w. word_of w ≡ (runs n).state.word l)) }
+{
+    for l in 0..world.locks() {
+        words[usize::from(l)].note(row, world.word(LockNo(l)))?;
     }
     Ok(())
 }

@@ -1,4 +1,9 @@
 //! The rows of a run: each turn with who had it and what it answered, and the tracks of all that changes.
+ghost use Rattle.std.specs.Prelude.{◌<◌, ◌≤◌, ℕ, IfOk};
+ghost use Rattle.lock_model.specs.Operations.{IsProper};
+ghost use Rattle.lock_model.specs.declared.plan.Plan as plans;
+ghost use Rattle.run_rows.specs.Making.{IsAt, GoesOn, HasMade};
+ghost use Rattle.run_rows.specs.Rows.{TellsRun};
 
 use crate::columns::{Columns, QueueRows, ThreadRows};
 use crate::track::Track;
@@ -40,10 +45,21 @@ pub struct Rows {
 /// The scheduled run of a plan, row by row: the run of `step_world::run_schedule`. There are 1 to 64 chains of each
 /// sort, of which only the slots of queues tell, and 1 to 1,000,000 turns. The plan is one that some script gives. A
 /// turn that was idle or of a thread that has ended costs no more than its own row.
-pub fn rows_of(alloc: Global, plan: &Plan, chains: u32, turns: u32) -> Result<Rows, AllocError> {
+///
+/// ```
+/// let rows = rows_of(alloc, &plan, 16, 1000)?;
+/// let lent = rows.threads.as_slice()[0].effective.changes();
+/// ```
+pub fn rows_of(alloc: Global, plan: &Plan, chains: u32, turns: u32) -> Result<Rows, AllocError>
+    requires proper { IsProper plan.now }
+    requires some_chains { 1 ≤ chains }
+    requires few_chains { chains ≤ 64 }
+    requires some_turns { 1 ≤ turns }
+    requires few_turns { turns ≤ 1000000 }
+    ensures { IfOk result (TellsRun plan.now chains turns) }
+{
     let mut course = Course::make(alloc, plan, chains)?;
-    let locks = plan.locks.as_slice().len() as u8;
-    let mut columns = Columns::begin(alloc, course.world(), locks)?;
+    let mut columns = Columns::begin(alloc, course.world())?;
     let made = make_turns(alloc, &mut course, &mut columns, turns)?;
     Ok(Rows {
         turns: Sequence::from_vec(made),
@@ -60,10 +76,16 @@ fn make_turns(
     course: &mut Course<'_>,
     columns: &mut Columns,
     turns: u32,
-) -> Result<Vec<TurnRow>, AllocError> {
+) -> Result<Vec<TurnRow>, AllocError>
+    requires begins { (plan : plans.Plan) × (chains : ℕ) × IsAt plan chains 0 course.old columns.old }
+    requires few { turns ≤ 1000000 }
+    ensures { IfOk result (λ made. (plan : plans.Plan) (chains : ℕ)
+        → IsAt plan chains 0 course.old columns.old
+        → HasMade plan chains turns made.items course.new columns.new) }
+{
     let mut made = Vec::new(alloc);
-    for row in 1..turns + 1 {
-        let Some(turn) = make_turn(alloc, course, columns, row)? else {
+    for n in 0..turns {
+        let Some(turn) = make_turn(alloc, course, columns, n)? else {
             break;
         };
         made.push(turn)?;
@@ -71,19 +93,25 @@ fn make_turns(
     Ok(made)
 }
 
-// One turn, which leads to that row, and what it changed.
+// The n-th turn, and what it changed.
 fn make_turn(
     alloc: Global,
     course: &mut Course<'_>,
     columns: &mut Columns,
-    row: u32,
-) -> Result<Option<TurnRow>, AllocError> {
+    n: u32,
+) -> Result<Option<TurnRow>, AllocError>
+    requires at { (plan : plans.Plan) × (chains : ℕ) × IsAt plan chains n course.old columns.old }
+    requires few { n < 1000000 }
+    ensures { IfOk result (λ made. (plan : plans.Plan) (chains : ℕ)
+        → IsAt plan chains n course.old columns.old
+        → GoesOn plan chains n made course.new columns.new) }
+{
     let Some((who, answer)) = course.go_on() else {
         return Ok(None);
     };
     let world = course.world();
     match answer {
-        Turn::Did(_) => columns.note(alloc, world, row)?,
+        Turn::Did(_) => columns.note(alloc, world, n + 1)?,
         Turn::Idle | Turn::Ended => {}
     }
     Ok(Some(TurnRow {

@@ -110,6 +110,13 @@ impl<'p> World<'p> {
         self.machine.threads.len() as u8
     }
 
+    /// The number of locks.
+    pub fn locks(&self) -> u8
+        ensures number { result ≡ length self.now.plan.locks }
+    {
+        self.machine.words.len() as u8
+    }
+
     /// The objects, to be told of.
     pub(crate) fn machine(&self) -> &Machine
         ensures { result.now ≡ self.now.machine }
