@@ -1,12 +1,12 @@
 -- What tracks tell, where one row more is noted or nothing changed.
-use Rattle.std.proofs.Common.{◌≡◌, ◌⊎◌, ℕ, suc, ◌+◌, ◌<◌, ◌≤◌, Bool, true, false, cond, leb, List, [], ◌∷◌, ◌++◌, length, get_or, slice_get, slice_set, Option, Some, None, IsSomeAnd, refl, sym, ap, subst, inl, inr, arith, ◌∙◌}
+use Rattle.std.proofs.Common.{◌≡◌, ◌⊎◌, ℕ, suc, ◌+◌, ◌<◌, ◌≤◌, Bool, true, false, cond, leb, List, [], ◌∷◌, ◌++◌, length, get_or, slice_get, slice_set, Option, Some, None, IsSomeAnd, Result, Ok, Err, OnOk, refl, sym, ap, subst, inl, inr, arith, ◌∙◌}
 use Rattle.std.specs.Prelude.{fold}
 use Rattle.std.specs.List.{All}
 use Rattle.std.proofs.lemmas.Bool.{cases_eq, cases_lt, le-leb, leb-true, cases_Bool}
 use Rattle.std.proofs.lemmas.List.{length-set}
 use Rattle.std.proofs.lemmas.List.Elements.{All-push}
 use Rattle.std.proofs.lemmas.List.Sums.{fold-append}
-use Rattle.std.proofs.lemmas.Option.{same_Some, slice_get-get_or, slice_get_within}
+use Rattle.std.proofs.lemmas.Option.{same_Some, slice_get-get_or, slice_get_read, slice_get_within}
 use Rattle.lock_laws.proofs.AcceptedLists.{get_push, get_push_other, get_set, get_set_other}
 use Rattle.run_rows.specs.Tracks.{EachTells, Tells, value_in}
 use Rattle.run_rows.proofs.Changes.{replaced}
@@ -59,6 +59,9 @@ module _ {T : Type 0} where
     pub begun : (v : T) → IsSo 0 v → Tells ((0, v) ∷ []) 1 IsSo
     begun v so = kept [] ((0, v) ∷ []) 0 v (record { within = λ k d l. absurd (omega arith); value = λ n l. absurd (omega arith) }) refl so
 
+    pub first_told : (track : List (ℕ × T)) (v : T) → track ≡ (0, v) ∷ [] → IsSo 0 v → Tells track 1 IsSo
+    first_told track v e so = rw e (begun v so)
+
     -- and by no change
     pub stays : (xs : List (ℕ × T)) (n : ℕ) → Tells xs (n + 1) IsSo → ((v : T) → IsSo n v → IsSo (n + 1) v) → Tells xs (n + 1 + 1) IsSo
     stays xs n h same = record {
@@ -104,10 +107,10 @@ module _ {A : Type 0} where
   AreDone P xs l = (i : ℕ) (x : A) → i < l → slice_get xs i ≡ Some x → P i x
 
   -- so behind one more
-  pub left_more : (before xs : List A) (l : ℕ) (y : A) → AreLeft before xs l → AreLeft before (slice_set xs l y) (l + 1)
-  left_more before xs l y h = record {
-    number = length-set xs l y ∙ h.number;
-    left = λ i n. get_set_other xs l y i (λ e. omega (arith, n, e)) ∙ h.left i (omega (arith, n));
+  pub left_more : (before xs : List A) (l i : ℕ) (y : A) → i ≡ l → AreLeft before xs l → AreLeft before (slice_set xs i y) (l + 1)
+  left_more before xs l i y e h = record {
+    number = length-set xs i y ∙ h.number;
+    left = λ k n. get_set_other xs i y k (λ same. omega (arith, n, same, e)) ∙ h.left k (omega (arith, n));
   }
 
   pub done_more : (P : ℕ → A → Type 0) (xs : List A) (l : ℕ) (y : A) → l < length xs → AreDone P xs l → P l y → AreDone P (slice_set xs l y) (l + 1)
@@ -119,3 +122,42 @@ module _ {A : Type 0} where
   -- and in the end of each
   pub all_done : (P : ℕ → A → Type 0) (xs : List A) (l : ℕ) → length xs ≤ l → AreDone P xs l → EachAt P xs
   all_done P xs l n h i x e = h i x (omega (arith, slice_get_within xs i x e, n)) e
+
+  pub none_done : (before : List A) → AreLeft before before 0
+  none_done before = record { number = refl; left = λ i n. refl }
+
+  -- the next item, which was there before
+  pub record IsNext (before xs : List A) (l i : ℕ) (x : A) : Type 0 where
+    pub place : i ≡ l
+    pub within : l < length xs
+    pub there : slice_get before l ≡ Some x
+
+  pub next : (before xs : List A) (l i n : ℕ) (x : A) → AreLeft before xs l → i ≡ l → l < n → n ≡ length before → x ≡ get_or xs i x → IsNext before xs l i x
+  next before xs l i n x h e less all read =
+      let within : l < length xs = omega (arith, h.number, less, all) in
+      record {
+        place = e;
+        within = within;
+        there = sym (h.left l (omega arith)) ∙ slice_get_read xs (length xs) l x refl within (read ∙ ap (λ (k : ℕ). get_or xs k x) e);
+      }
+
+-- 4. Lists of tracks
+
+module _ {T : Type 0} (IsSo : ℕ → ℕ → T → Type 0) where
+  -- one more, at the begin
+  pub one_begun : (tracks more : List (List (ℕ × T))) (track : List (ℕ × T)) (l : ℕ) (v : T) → more ≡ tracks ++ track ∷ [] → track ≡ (0, v) ∷ [] → length tracks ≡ l → IsSo l 0 v → EachTells tracks 1 IsSo → EachTells more 1 IsSo
+  one_begun tracks more track l v e begins number so each =
+      rw e (each_push (λ k x. Tells x 1 (IsSo k)) tracks track each (rw (number, begins) (begun (IsSo l) v so)))
+
+  -- the next one, which notes a row
+  pub one_noted : (before tracks : List (List (ℕ × T))) (l i row : ℕ) (old new : List (ℕ × T)) (v : T) → IsNext before tracks l i old → (new ≡ old) ⊎ (new ≡ old ++ (row, v) ∷ []) → value_in row new ≡ Some v → IsSo l row v → EachTells before row IsSo
+      → AreDone (λ k x. Tells x (row + 1) (IsSo k)) tracks l → AreDone (λ k x. Tells x (row + 1) (IsSo k)) (slice_set tracks i new) (l + 1)
+  one_noted before tracks l i row old new v h is_kept is so each done =
+      rw h.place (done_more (λ k x. Tells x (row + 1) (IsSo k)) tracks l new h.within done (noted (IsSo l) old new row v (each l old h.there) is_kept is so))
+
+-- 5. Results
+
+-- what follows from two facts of an Ok
+pub both_ok : {A E : Type 0} (r : Result A E) {P Q R : Type 0} → OnOk r P → OnOk r Q → (P → Q → R) → OnOk r R
+both_ok (Ok x) p q f = f p q
+both_ok (Err e) p q f = tt

@@ -45,13 +45,18 @@ pub record TellsThread (plan : Plan) (runs : ℕ → Run) (rows t : ℕ) (thread
     pub locks : length thread.held ≡ length plan.locks
     pub held : EachTells thread.held rows (λ l n mode. hold_of mode ≡ (runs n).state.held t l)
 
--- those of each thread, of each lock's word, and of the queues
+-- those of each thread of a list, by number
+abbrev pub TellsThreads : Plan → (ℕ → Run) → ℕ → List ThreadRows → Type 0
+TellsThreads plan runs rows threads =
+    (t : ℕ) (thread : ThreadRows) → slice_get threads t ≡ Some thread
+    → TellsThread plan runs rows t thread
+
+-- the tracks of all threads, of the locks' words, and of the queues
 pub record TellsColumns (plan : Plan) (chains : ℕ) (runs : ℕ → Run) (rows : ℕ)
     (threads : List ThreadRows) (words : List (List (ℕ × ℕ)))
     (queues : List (ℕ × List QueueLine)) : Type 0 where
   pub thread_each : length threads ≡ length plan.threads
-  pub of_threads : (t : ℕ) (thread : ThreadRows) → slice_get threads t ≡ Some thread
-      → TellsThread plan runs rows t thread
+  pub of_threads : TellsThreads plan runs rows threads
   pub word_each : length words ≡ length plan.locks
   pub of_words : EachTells words rows (λ l n w. word_of w ≡ (runs n).state.word l)
   pub of_queues : Tells queues rows

@@ -1,11 +1,10 @@
 //! The tracks of a run: of each thread, of each lock's word, and of the queues. Behind a turn that changed something
 //! each track notes what it is now.
-ghost use Rattle.std.specs.Prelude.{◌≡◌, ◌+◌, ◌<◌, ℕ, length, slice_get, Some, IfOk, OnOk};
+ghost use Rattle.std.specs.Prelude.{◌≡◌, ◌+◌, ◌<◌, ℕ, length, IfOk, OnOk};
 ghost use Rattle.lock_model.specs.Words.{word_of};
 ghost use Rattle.lock_state.specs.Run.{Run};
-ghost use Rattle.run_rows.specs.Rows.{TellsColumns, TellsThread};
+ghost use Rattle.run_rows.specs.Rows.{TellsColumns, TellsThread, TellsThreads};
 ghost use Rattle.run_rows.specs.Tracks.{EachTells};
-ghost use Rattle.run_rows.specs.declared.columns.ThreadRows as rows;
 ghost use Rattle.step_world.specs.Represents.{hold_of};
 ghost use Rattle.step_world.specs.Worlds.{Represents};
 
@@ -130,9 +129,8 @@ impl ThreadRows {
 // Those of each thread at the begin.
 fn begin_threads(alloc: Global, world: &World<'_>) -> Result<Vec<ThreadRows>, AllocError>
     ensures number { IfOk result (λ a. length a.items ≡ length world.now.plan.threads) }
-    ensures told { IfOk result (λ a. (runs : ℕ → Run) (t : ℕ) (thread : rows.ThreadRows)
-        → Represents world.now (runs 0) → slice_get a.items t ≡ Some thread
-        → TellsThread world.now.plan runs 1 t thread) }
+    ensures told { IfOk result (λ a. (runs : ℕ → Run) → Represents world.now (runs 0)
+        → TellsThreads world.now.plan runs 1 a.items) }
 {
     let mut threads = Vec::new(alloc);
     for t in 0..world.threads() {
@@ -180,15 +178,11 @@ fn note_threads(
     row: u32,
 ) -> Result<(), AllocError>
     requires number { length threads.old.items ≡ length world.now.plan.threads }
-    requires told { (runs : ℕ → Run) × ((t : ℕ) (thread : rows.ThreadRows)
-        → slice_get threads.old.items t ≡ Some thread
-        → TellsThread world.now.plan runs row t thread) }
+    requires told { (runs : ℕ → Run) × TellsThreads world.now.plan runs row threads.old.items }
     ensures number { OnOk result (length threads.new.items ≡ length threads.old.items) }
     ensures told { OnOk result ((runs : ℕ → Run) → Represents world.now (runs row)
-        → ((t : ℕ) (thread : rows.ThreadRows) → slice_get threads.old.items t ≡ Some thread
-        → TellsThread world.now.plan runs row t thread)
-        → (t : ℕ) (thread : rows.ThreadRows) → slice_get threads.new.items t ≡ Some thread
-        → TellsThread world.now.plan runs (row + 1) t thread) }
+        → TellsThreads world.now.plan runs row threads.old.items
+        → TellsThreads world.now.plan runs (row + 1) threads.new.items) }
 {
     for t in 0..world.threads() {
         threads[usize::from(t)].note(alloc, world, ThreadNo(t), row)?;
