@@ -25,3 +25,4 @@ pub mod Outcomes
 pub mod TurnsOfCourses
 pub mod OneTurn
 pub mod Printed
+pub mod Telling

@@ -16,16 +16,10 @@ use Rattle.lock_history.specs.Outcomes.{outcome_seen, line_seen}
 use Rattle.lock_history.specs.declared.outcome.Outcome.{Outcome}
 use Rattle.lock_history.proofs.Merged.{InOrder-reverse}
 use Rattle.step_world.specs.declared.machine.Machine.{Machine}
-use Rattle.step_world.specs.declared.schedule.Course.{Course}
-use Rattle.step_world.specs.Courses.{IsCourse}
-use Rattle.step_world.specs.Outcomes.{lines_of, finals_of}
+use Rattle.step_world.specs.Outcomes.{finals_of}
 use Rattle.step_world.specs.Runs.{IsRunOf}
-use Rattle.step_world.proofs.Outcomes.{lines_are, finals_are}
-
--- the machine of a course shows the run of its plan
-pub its_run : (plan : Plan) (chains : ℕ) (course : Course) (k : run.Course) → IsCourse plan chains course k → IsRunOf plan course.world.machine k.run
-its_run plan chains course k h =
-    subst (λ (p : Plan). IsRunOf p course.world.machine k.run) h.plan_is h.shows
+use Rattle.step_world.specs.Worlds.{World, Represents}
+use Rattle.step_world.proofs.Outcomes.{finals_are}
 
 -- whether a refusal stands among entries doesn't depend on their order
 reversal-push : (es : List Entry) (e : Entry) → has_reversal (es ++ e ∷ []) ≡ (is_reversal e.event || has_reversal es)
@@ -42,22 +36,18 @@ reversal-reverse [] = refl
 reversal-reverse (e ∷ es) = ap has_reversal (reverse-append (e ∷ []) es) ∙ reversal-push (reverse es) e ∙ ap (λ b. is_reversal e.event || b) (reversal-reverse es)
 
 -- so one of its log says how it ended where all threads have ended
-pub ended_with : {plan : Plan} {chains : ℕ} {course : Course} {k : run.Course} {b : Bool} → IsCourse plan chains course k → has_reversal course.world.machine.log.entries ≡ b
-    → whole_ending k.run.state.history ≡ cond b IsReversed IsDone
-ended_with {plan} {chains} {course} {k} h e =
-    let shown = its_run plan chains course k h in
-    ap (λ b. cond b IsReversed IsDone) (sym (reversal-reverse k.run.state.history) ∙ ap has_reversal (sym shown.shows.shows.history) ∙ e)
+pub ended_with : (w : World) {r : Run} {b : Bool} → Represents w r → has_reversal w.machine.log.entries ≡ b → whole_ending r.state.history ≡ cond b IsReversed IsDone
+ended_with w {r} h e = ap (λ b. cond b IsReversed IsDone) (sym (reversal-reverse r.state.history) ∙ ap has_reversal (sym h.shows.shows.history) ∙ e)
 
 -- the entries of its log are in order
 pub log_in_order : (plan : Plan) (m : Machine) (r : Run) → IsRunOf plan m r → InOrder m.log.entries
 log_in_order plan m r h = subst InOrder (sym h.shows.shows.history) (InOrder-reverse r.state.history h.on_track.lawful.lawful.books.tickets_run)
 
-pub printed : (plan : Plan) (chains : ℕ) (m : Machine) (k : run.Course) (o : Outcome) → IsRunOf plan m k.run → o.history ≡ m.log.entries
-    → map line_seen o.queues ≡ lines_of chains (config_of plan) m → numbers_of o.finals ≡ finals_of m → o.tables ≡ m.tables → ending_of o.last ≡ run.ending_of plan k
-    → outcome_seen o ≡ outcome_of plan chains k
-printed plan chains m k o h history queues finals tables last =
+-- what is printed of a run
+pub printed : (w : World) (k : run.Course) (o : Outcome) → Represents w k.run → o.history ≡ w.machine.log.entries → map line_seen o.queues ≡ queue_lines w.chains (config_of w.plan) k.run.state
+    → numbers_of o.finals ≡ finals_of w.machine → o.tables ≡ w.machine.tables → ending_of o.last ≡ run.ending_of w.plan k → outcome_seen o ≡ outcome_of w.plan w.chains k
+printed w k o h history queues finals tables last =
     let its_history : o.history ≡ reverse k.run.state.history = history ∙ h.shows.shows.history in
-    let its_queues : map line_seen o.queues ≡ queue_lines chains (config_of plan) k.run.state = queues ∙ lines_are plan chains m k.run h.shows in
-    let its_finals : numbers_of o.finals ≡ map {B = ℕ × ℕ} (λ t. (k.run.state.base t, k.run.state.effective t)) (threads_of plan) = finals ∙ finals_are plan m k.run h.shows in
+    let its_finals : numbers_of o.finals ≡ map {B = ℕ × ℕ} (λ t. (k.run.state.base t, k.run.state.effective t)) (threads_of w.plan) = finals ∙ finals_are w.plan w.machine k.run h.shows in
     let its_tables : entries o.tables.present ≡ entries (tables_of k.run.state.history) = ap entries (ap (λ (t : _). t.present) tables ∙ h.shows.shows.tables) in
-    λ i. record { history = its_history i; queues = its_queues i; finals = its_finals i; tables = its_tables i; ending = last i }
+    λ i. record { history = its_history i; queues = queues i; finals = its_finals i; tables = its_tables i; ending = last i }

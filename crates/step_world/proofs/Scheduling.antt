@@ -1,7 +1,7 @@
 -- The course of a run: when it is over, and how it goes on.
-use Rattle.std.proofs.Common.{◌≡◌, ℕ, zero, suc, ◌+◌, ◌<◌, ◌≤◌, Bool, true, false, ◌&&◌, nat_eq, cond, not, List, [], ◌∷◌, ◌++◌, length, map, filter, drop, refl, sym, ap, ◌∙◌, inl, inr, arith}
-use Rattle.std.proofs.lemmas.Bool.{cases_Bool, cases_eq, eq-eqb, ne_eqb}
-use Rattle.std.specs.List.{range_with_len}
+use Rattle.std.proofs.Common.{◌≡◌, ℕ, zero, suc, ◌+◌, ◌<◌, ◌≤◌, Bool, true, false, ◌&&◌, nat_eq, cond, not, List, [], ◌∷◌, ◌++◌, length, map, filter, drop, Option, Some, None, refl, sym, ap, ◌∙◌, inl, inr, arith}
+use Rattle.std.proofs.lemmas.Bool.{cases_Bool, cases_eq, eq-eqb, ne_eqb, or_parts}
+use Rattle.std.specs.List.{list_all, range_with_len}
 use Rattle.std.proofs.lemmas.List.{length-map, length-drop, append-nil, drop_all}
 use Rattle.std.proofs.lemmas.List.Elements.{All-from_get_or, filter-append}
 use Rattle.std.proofs.lemmas.List.Folds.{list_all_at}
@@ -11,11 +11,13 @@ use Rattle.lock_model.specs.Counts.{is_empty, one, sum_below}
 use Rattle.lock_laws.proofs.Kit.{sum_below-change}
 use Rattle.lock_laws.proofs.Sums.{sum_below-most}
 use Rattle.lock_laws.proofs.OtherThreads.{ends_no_other}
-use Rattle.step_world.specs.Courses.{ended_in}
+use Rattle.step_world.specs.Courses.{Course, IsCourse, ended_in, first_turn, turn_seen}
 use Rattle.lock_state.specs.Run as run
 use Rattle.lock_state.specs.Run.{Run, run_behind, is_stuck, is_over, go_on, course_after, all_ended, has_ended, threads_of, round_of, with_turn, after_turn}
 use Rattle.lock_model.specs.declared.plan.Plan.{Plan}
 use Rattle.lock_model.specs.declared.numbers.ThreadNo.{ThreadNo}
+use Rattle.lock_model.specs.declared.turn.Turn.{Turn}
+use Rattle.std.specs.Option.{is_none}
 
 -- 1. Who still comes
 
@@ -145,3 +147,59 @@ one_comes plan k e = go k.coming e
     go : (ts : List ℕ) → is_empty ts ≡ false → with_turn plan k.run ts k.idle ≡ after_turn plan k ts
     go [] e = absurd cc
     go (t ∷ ts) e = refl
+
+-- where not all have ended, somebody comes
+round_of_some : (p : ℕ → Bool) (ts : List ℕ) → list_all p ts ≡ false → is_empty (filter (λ t. not (p t)) ts) ≡ false
+round_of_some p [] e = absurd cc
+round_of_some p (t ∷ ts) e = one_comes_first (p t) refl (round_of_some p ts)
+  where
+    one_comes_first : (b : Bool) → p t ≡ b → (list_all p ts ≡ false → is_empty (filter (λ u. not (p u)) ts) ≡ false) → is_empty (filter (λ u. not (p u)) (t ∷ ts)) ≡ false
+    one_comes_first true i others = let rest : list_all p ts ≡ false = rw i at e in rw i (others rest)
+    one_comes_first false i others = rw i refl
+
+pub somebody_comes : (plan : Plan) (k : run.Course) → is_over plan k ≡ false → is_empty (k.coming ++ round_of plan k.run) ≡ false
+somebody_comes plan k e = go k.coming (round_of_some (has_ended plan k.run) (threads_of plan) (or_parts (all_ended plan k.run) (is_stuck k) e).0)
+  where
+    go : (ts : List ℕ) → is_empty (round_of plan k.run) ≡ false → is_empty (ts ++ round_of plan k.run) ≡ false
+    go [] i = i
+    go (t ∷ ts) i = refl
+
+-- 5. The next turn
+
+-- the course from which the next turn is made: this one, or that of a new round
+pub record IsReady (plan : Plan) (course : Course) (k : run.Course) : Type 0 where
+  pub from : run.Course
+  pub is_course : IsCourse course from
+  pub makes : with_turn course.world.plan from.run from.coming from.idle ≡ after_turn plan k k.coming
+  pub first : first_turn course.world.plan from.run from.coming ≡ first_turn plan k.run (k.coming ++ round_of plan k.run)
+  pub some : is_empty from.coming ≡ false
+
+module _ (plan : Plan) (course : Course) (k : run.Course) (same : course.world.plan ≡ plan) where
+  -- where nobody comes any more, a round begins
+  pub round_ready : IsCourse course (record k { coming = round_of plan k.run; idle = true }) → k.coming ≡ [] → is_over plan k ≡ false → IsReady plan course k
+  round_ready h none going = record {
+    from = record k { coming = round_of plan k.run; idle = true };
+    is_course = h;
+    makes = ap (λ (p : Plan). with_turn p k.run (round_of plan k.run) true) same ∙ round_begins plan k none;
+    first = ap (λ (p : Plan). first_turn p k.run (round_of plan k.run)) same ∙ ap (λ (ts : List ℕ). first_turn plan k.run (ts ++ round_of plan k.run)) (sym none);
+    some = rw none at (somebody_comes plan k going);
+  }
+
+  pub still_ready : IsCourse course k → is_empty k.coming ≡ false → IsReady plan course k
+  still_ready h some = record {
+    from = k;
+    is_course = h;
+    makes = ap (λ (p : Plan). with_turn p k.run k.coming k.idle) same ∙ one_comes plan k some;
+    first = ap (λ (p : Plan). first_turn p k.run k.coming) same ∙ go k.coming some;
+    some = some;
+  }
+    where
+      go : (ts : List ℕ) → is_empty ts ≡ false → first_turn plan k.run ts ≡ first_turn plan k.run (ts ++ round_of plan k.run)
+      go [] e = absurd cc
+      go (t ∷ ts) e = refl
+
+-- somebody who comes has a turn
+pub one_made : (plan : Plan) (r : Run) (ts : List ℕ) (made : Option (ThreadNo × Turn)) → is_empty ts ≡ false → turn_seen made ≡ first_turn plan r ts → is_none made ≡ false
+one_made plan r [] made some e = absurd cc
+one_made plan r (t ∷ ts) None some e = absurd cc
+one_made plan r (t ∷ ts) (Some m) some e = refl

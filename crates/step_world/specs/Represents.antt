@@ -1,6 +1,6 @@
 -- Which state of `lock_state` the objects of a machine show. Columns of which the objects do not tell, as looks and
 -- counts, are free: the scheduled run makes nothing of them.
-use Rattle.std.specs.Prelude.{◌≡◌, ℕ, ◌≤◌, ◌<◌, Bool, List, length, reverse, map, slice_get, get_or, option_map, is_some, Option, Some, IsSome}
+use Rattle.std.specs.Prelude.{◌≡◌, ℕ, ◌≤◌, ◌<◌, Bool, List, length, reverse, map, slice_get, get_or, option_map, is_some, Option, None, Some, IsSome}
 use Rattle.std.specs.List.{All}
 use Rattle.std.specs.Global.{Vec}
 use Rattle.std.specs.Vec.{vec_capacity}
@@ -8,13 +8,14 @@ use Rattle.lock_model.specs.Words.{Word, word_of}
 use Rattle.lock_state.specs.State as state
 use Rattle.lock_model.specs.Config.{Config}
 use Rattle.lock_state.specs.State.{State}
-use Rattle.lock_model.specs.Holds.{Hold}
+use Rattle.lock_model.specs.Holds.{Hold, NotHeld, Holds}
 use Rattle.lock_state.specs.Run.{waits_on, was_cut}
 use Rattle.lock_model.specs.Queues.{Mark, BySignal}
 use Rattle.lock_model.specs.History.{tables_of}
 use Rattle.lock_model.specs.Operations.{hold_in}
 use Rattle.lock_model.specs.Orders.{HaveSameEdges}
 use Rattle.lock_model.specs.declared.event.Held.{Held}
+use Rattle.lock_model.specs.declared.plan.Mode.{Mode}
 use Rattle.lock_model.specs.declared.plan.QueueName.{QueueName}
 use Rattle.witness_orders.specs.Graph.{Graph}
 use Rattle.thread_records.specs.Loans.{loans_for}
@@ -41,6 +42,11 @@ abbrev pub wait_of : waits.Wait → state.Wait
 wait_of wait.Running = state.Running
 wait_of wait.Queued = state.Queued
 wait_of (wait.Woken q) = state.Woken q BySignal
+
+-- how a lock is held, where there is a mode
+abbrev pub hold_of : Option Mode → Hold
+hold_of None = NotHeld
+hold_of (Some mode) = Holds mode
 
 -- what the columns say of a thread, whether it has a lock to gain, and by its log on which channel it waits, and whether
 -- it was cut

@@ -26,5 +26,7 @@ mod turns;
 mod world;
 
 pub use lock_model::{StepKind, Turn};
-pub use schedule::run_schedule;
+pub use prio_lending::Walk;
+pub use schedule::{Course, run_schedule};
+pub use thread::Wait;
 pub use world::World;

@@ -1,21 +1,23 @@
 //! The run by a plan's schedule and then in rounds.
-ghost use Rattle.std.specs.Prelude.{◌≡◌, ◌≤◌, ◌<◌, true, length, map, ℕ, IfOk, OnOk};
+ghost use Rattle.std.specs.Prelude.{◌≡◌, ◌⊎◌, ◌≤◌, ◌<◌, false, true, length, map, Some, IfOk, IfNone, IfSome, IsTrue};
 ghost use Rattle.std.specs.List.{All};
+ghost use Rattle.std.specs.Option.{is_none};
+ghost use Rattle.std.specs.Vec.{vec_capacity};
 ghost use Rattle.lock_history.specs.Endings.{ending_of};
 ghost use Rattle.lock_history.specs.Outcomes.{outcome_seen};
 ghost use Rattle.lock_model.specs.Operations.{IsProper};
 ghost use Rattle.lock_state.specs.Run as run;
-ghost use Rattle.lock_state.specs.Run.{start_course, course_after, after_turn, with_turn, is_over, is_stuck, all_ended, round_of, scheduled_run, outcome_of, whole_ending, HasLegalHistory};
+ghost use Rattle.lock_state.specs.Run.{start_course, course_after, go_on, with_turn, is_over, is_stuck, all_ended, round_of, scheduled_run, outcome_of, whole_ending, HasLegalHistory};
 ghost use Rattle.lock_state.specs.Run.{ending_of as ending_of_course};
-ghost use Rattle.lock_model.specs.declared.plan.Plan as plans;
-ghost use Rattle.step_world.specs.Courses.{IsCourse, IsUnderWay, Tells, GoesTo, ended_in, newly_ended};
+ghost use Rattle.step_world.specs.Courses.{IsCourse, Tells, GoesTo, KeepsWhereIdle, ended_in, newly_ended, first_turn, next_turn, turn_seen};
 ghost use Rattle.step_world.specs.Worlds.{Represents};
 
-use crate::outcome::{finals, queue_lines};
+use crate::outcome::finals;
 use crate::world::World;
 use lock_history::{History, Last, Outcome};
 use lock_model::{Plan, Sequence, ThreadNo, Turn};
 use std::alloc::{AllocError, Global};
+use std::marker::Model;
 
 /// The scheduled run of a plan: the turns of its schedule, and then rounds over the threads that haven't ended, by
 /// number. Where all threads have ended it ends `Reversed` if a take was refused for its order, and else `Done`; it ends
@@ -37,63 +39,124 @@ pub fn run_schedule(
     ensures legal { IfOk result (λ o. HasLegalHistory plan.now (outcome_seen o)) }
 {
     let mut course = Course::make(alloc, plan, chains)?;
-    make_turns(&mut course, turns)?;
+    make_turns(&mut course, turns);
     course.into_outcome(alloc)
 }
 
-/// A run under way.
+/// A run under way, turn by turn: the turns of the plan's schedule, and then rounds over the threads that haven't ended,
+/// by number. It is over where all threads have ended, or a whole round was idle.
+///
+/// ```
+/// let mut course = Course::make(alloc, &plan, 16)?;
+/// while let Some((who, answer)) = course.go_on() {
+///     println!(rt; "{who:?}: {answer:?}, {} entries", course.world().history().len())?;
+/// }
+/// let outcome = course.into_outcome(alloc)?;
+/// ```
 #[derive(Drop)]
-struct Course<'p> {
+pub struct Course<'p> {
     world: World<'p>,
-    /// The schedule or the present round, and how many of it have had their turn.
+    // The schedule or the present round, and how many of it have had their turn. There is room for a round of all.
     coming: Vec<ThreadNo>,
     gone: usize,
-    /// Whether this is a round whose turns were all idle so far.
+    // Whether this is a round whose turns were all idle so far.
     idle: bool,
-    /// How many threads have ended. A turn ends no other thread than its own.
+    // How many threads have ended. A turn ends no other thread than its own.
     ended: u8,
 }
 
-// So many turns, or fewer where the run comes to its end before.
-fn make_turns(course: &mut Course<'_>, turns: u32) -> Result<(), AllocError>
-    requires { IsUnderWay course.old }
-    ensures under_way { OnOk result (IsUnderWay course.new) }
-    ensures turns { OnOk result ((plan : plans.Plan) (chains : ℕ)
-        → IsCourse plan chains course.old (start_course plan)
-        → IsCourse plan chains course.new (course_after plan turns)) }
-{
-    let mut made = 0;
-    while made < turns && !course.is_over() {
-        course.go_on()?;
-        made += 1;
-    }
-    Ok(())
+impl<'p> Model for Course<'p> {
+    ghost use Rattle.std.specs.Prelude.{map, drop};
+    ghost use Rattle.std.specs.Coded.{codes};
+    ghost use Rattle.step_world.specs.Courses.{Course as Seen, IsSound};
+    ghost use Rattle.step_world.specs.contracts.machine.Machine as machines;
+
+    ghost Value = { Seen };
+
+    ghost coded = { Prim.hlevel (codes, machines.the_row.coded) };
+
+    ghost view = { λ k. record {
+      world = k.world;
+      coming = map (λ t. t.0) (drop k.gone k.coming.items);
+      idle = k.idle;
+    } };
+
+    ghost invariant = { λ k. IsSound k.world k.coming k.gone k.ended };
 }
 
 impl<'p> Course<'p> {
-    // The schedule comes first.
-    fn make(alloc: Global, plan: &'p Plan, chains: u32) -> Result<Course<'p>, AllocError>
+    /// The begin of a run, with all memory that its turns will need. There are 1 to 64 chains of each sort, of which only
+    /// the slots of queues tell, and the plan is one that some script gives.
+    pub fn make(alloc: Global, plan: &'p Plan, chains: u32) -> Result<Course<'p>, AllocError>
         requires proper { IsProper plan.now }
         requires some_chains { 1 ≤ chains }
         requires few_chains { chains ≤ 64 }
-        ensures { IfOk result (λ course. IsCourse plan.now chains course (start_course plan.now)) }
+        ensures plan { IfOk result (λ course. course.world.plan ≡ plan.now) }
+        ensures chains { IfOk result (λ course. course.world.chains ≡ chains) }
+        ensures begins { IfOk result (λ course. IsCourse course (start_course plan.now)) }
     {
         let world = World::make(alloc, plan, chains)?;
         let ended = count_ended(&world);
         Ok(Course {
+            coming: schedule_of(alloc, plan)?,
             world,
-            coming: Vec::from_slice(alloc, plan.schedule.as_slice())?,
             gone: 0,
             idle: false,
             ended,
         })
     }
 
-    // Whether all threads have ended, or a whole round was idle.
-    fn is_over(&self) -> bool
+    /// Whether all threads have ended, or a whole round was idle.
+    pub fn is_over(&self) -> bool
         ensures { Tells self.now result is_over }
     {
         self.all_ended() || self.is_stuck()
+    }
+
+    /// The next thread has its turn: who it is, and the turn's answer. There is none exactly where the run is over, and
+    /// then nothing changes. It takes no memory.
+    pub fn go_on(&mut self) -> Option<(ThreadNo, Turn)>
+        ensures plan { self.new.world.plan ≡ self.old.world.plan }
+        ensures chains { self.new.world.chains ≡ self.old.world.chains }
+        ensures course { GoesTo self.old self.new go_on }
+        ensures turn { Tells self.old (turn_seen result) next_turn }
+        ensures over { Tells self.old (is_none result) is_over }
+        ensures unchanged { IfNone result (self.new ≡ self.old) }
+        ensures thread { IfSome result (λ made. made.0.0 < length self.old.world.plan.threads) }
+        ensures still { IfSome result (λ made. KeepsWhereIdle made.1 self.old self.new) }
+    {
+        if self.is_over() {
+            return None;
+        }
+        if self.gone == self.coming.len() {
+            self.begin_round();
+        }
+        self.make_turn()
+    }
+
+    /// The world between two turns.
+    pub fn world(&self) -> &World<'p>
+        ensures { result.now ≡ self.now.world }
+    {
+        &self.world
+    }
+
+    /// What is printed of the run so far.
+    pub fn into_outcome(self, alloc: Global) -> Result<Outcome, AllocError>
+        ensures { IfOk result (λ o. (k : run.Course) → IsCourse self.entry k
+            → outcome_seen o ≡ outcome_of self.entry.world.plan self.entry.world.chains k) }
+    {
+        let last = self.last();
+        let queues = self.world.queues(alloc)?;
+        let finals = finals(alloc, self.world.machine())?;
+        let machine = self.world.into_machine();
+        Ok(Outcome {
+            history: History::of_log(machine.log),
+            queues: Sequence::from_vec(queues),
+            finals: Sequence::from_vec(finals),
+            tables: machine.tables,
+            last,
+        })
     }
 
     #[tactic(auto, using(crate::proofs::Scheduling::all_ended_is))]
@@ -109,42 +172,33 @@ impl<'p> Course<'p> {
         self.gone == self.coming.len() && self.idle
     }
 
-    // The next thread has its turn. Where nobody comes any more, a round begins.
-    fn go_on(&mut self) -> Result<(), AllocError>
-        requires { IsUnderWay self.old }
-        ensures { OnOk result (GoesTo self.old self.new (λ plan k. after_turn plan k k.coming)) }
-    {
-        if self.gone == self.coming.len() {
-            self.begin_round()?;
-        }
-        self.make_turn();
-        Ok(())
-    }
-
     // Nobody of the schedule or of the round before comes any more.
-    fn begin_round(&mut self) -> Result<(), AllocError>
-        ensures { OnOk result (GoesTo self.old self.new
-            (λ plan k. record k { coming = round_of plan k.run; idle = true })) }
+    fn begin_round(&mut self)
+        ensures world { self.new.world ≡ self.old.world }
+        ensures course { GoesTo self.old self.new
+            (λ plan k. record k { coming = round_of plan k.run; idle = true }) }
     {
-        put_round(&self.world, &mut self.coming)?;
         self.gone = 0;
         self.idle = true;
-        Ok(())
+        put_round(&self.world, &mut self.coming);
     }
 
     // The first that comes has its turn.
-    fn make_turn(&mut self)
-        requires { IsUnderWay self.old }
-        ensures { GoesTo self.old self.new (λ plan k. with_turn plan k.run k.coming k.idle) }
+    fn make_turn(&mut self) -> Option<(ThreadNo, Turn)>
+        ensures plan { self.new.world.plan ≡ self.old.world.plan }
+        ensures chains { self.new.world.chains ≡ self.old.world.chains }
+        ensures course { GoesTo self.old self.new (λ plan k. with_turn plan k.run k.coming k.idle) }
+        ensures turn { Tells self.old (turn_seen result) (λ plan k. first_turn plan k.run k.coming) }
+        ensures thread { IfSome result (λ made. made.0.0 < length self.old.world.plan.threads) }
+        ensures still { IfSome result (λ made. KeepsWhereIdle made.1 self.old self.new) }
     {
-        if let Some(t) = self.coming.get(self.gone) {
-            let t = *t;
-            let turn = self.world.turn(t);
-            self.gone += 1;
-            self.idle = self.idle && turn == Turn::Idle;
-            let has_ended = self.world.has_ended(t);
-            self.ended += newly_ended(turn, has_ended);
-        }
+        let t = *self.coming.get(self.gone)?;
+        let turn = self.world.turn(t);
+        self.gone += 1;
+        self.idle = self.idle && turn == Turn::Idle;
+        let has_ended = self.world.has_ended(t);
+        self.ended += newly_ended(turn, has_ended);
+        Some((t, turn))
     }
 
     // How the run ended.
@@ -171,27 +225,29 @@ impl<'p> Course<'p> {
             Last::Done
         }
     }
+}
 
-    // What is printed of the run.
-    fn into_outcome(self, alloc: Global) -> Result<Outcome, AllocError>
-        requires { IsUnderWay self }
-        ensures { IfOk result (λ o. (plan : plans.Plan) (chains : ℕ) (k : run.Course)
-            → IsProper plan → IsCourse plan chains self.entry k
-            → outcome_seen o ≡ outcome_of plan chains k) }
-    {
-        let last = self.last();
-        let world = &self.world;
-        let queues = queue_lines(alloc, world.machine(), world.plan(), world.chains())?;
-        let finals = finals(alloc, self.world.machine())?;
-        let machine = self.world.into_machine();
-        Ok(Outcome {
-            history: History::of_log(machine.log),
-            queues: Sequence::from_vec(queues),
-            finals: Sequence::from_vec(finals),
-            tables: machine.tables,
-            last,
-        })
+// So many turns, or fewer where the run comes to its end before.
+fn make_turns(course: &mut Course<'_>, turns: u32)
+    ensures plan { course.new.world.plan ≡ course.old.world.plan }
+    ensures chains { course.new.world.chains ≡ course.old.world.chains }
+    ensures turns { IsCourse course.old (start_course course.old.world.plan)
+        → IsCourse course.new (course_after course.old.world.plan turns) }
+{
+    let mut made = 0;
+    while made < turns && course.go_on().is_some() {
+        made += 1;
     }
+}
+
+// The schedule of a plan, with room for a round of all its threads.
+fn schedule_of(alloc: Global, plan: &Plan) -> Result<Vec<ThreadNo>, AllocError>
+    ensures items { IfOk result (λ coming. coming.items ≡ plan.now.schedule) }
+    ensures room { IfOk result (λ coming. length plan.now.threads ≤ vec_capacity coming) }
+{
+    let mut coming = Vec::from_slice(alloc, plan.schedule.as_slice())?;
+    coming.reserve(plan.threads.as_slice().len())?;
+    Ok(coming)
 }
 
 // How many threads have ended.
@@ -216,17 +272,17 @@ fn newly_ended(turn: Turn, has_ended: bool) -> u8
 }
 
 // A round goes over the threads that haven't ended, by number.
-fn put_round(world: &World<'_>, coming: &mut Vec<ThreadNo>) -> Result<(), AllocError>
-    ensures round { OnOk result ((r : run.Run) → Represents world.now r
-        → map (λ t. t.0) coming.new.items ≡ round_of world.now.plan r) }
-    ensures threads { OnOk result
-        (All (λ t. t.0 < length world.now.plan.threads) coming.new.items) }
+fn put_round(world: &World<'_>, coming: &mut Vec<ThreadNo>)
+    requires { length world.now.plan.threads ≤ vec_capacity coming.old }
+    ensures round { (r : run.Run) → Represents world.now r
+        → map (λ t. t.0) coming.new.items ≡ round_of world.now.plan r }
+    ensures threads { All (λ t. t.0 < length world.now.plan.threads) coming.new.items }
+    ensures room { vec_capacity coming.new ≡ vec_capacity coming.old }
 {
     coming.clear();
     for t in 0..world.threads() {
         if !world.has_ended(ThreadNo(t)) {
-            coming.push(ThreadNo(t))?;
+            coming.push_reserved(ThreadNo(t));
         }
     }
-    Ok(())
 }

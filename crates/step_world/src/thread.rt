@@ -4,6 +4,7 @@ ghost use Rattle.std.specs.Vec.{vec_capacity};
 ghost use Rattle.lock_model.specs.Operations.{hold_in, without_lock};
 ghost use Rattle.lock_state.specs.Run.{mode_held};
 ghost use Rattle.lock_model.specs.Holds.{is_unheld};
+ghost use Rattle.step_world.specs.Represents.{hold_of};
 ghost use Rattle.step_world.specs.Steps.{mode_left};
 ghost use Rattle.step_world.specs.Threads.{IsNew, thread_has_ended};
 
@@ -75,21 +76,28 @@ impl Thread {
             && self.held.is_empty()
     }
 
-    /// The mode in which it holds the lock.
+    /// The mode in which it holds the lock. There is none exactly where it doesn't.
+    pub fn mode(&self, l: LockNo) -> Option<Mode>
+        ensures { hold_of result ≡ hold_in self.now.held.items l.0 }
+    {
+        match place_held(l, &self.held) {
+            Some(i) => Some(self.held[i].mode),
+            None => None,
+        }
+    }
+
+    /// The same, exclusive where it doesn't hold the lock.
     pub fn mode_held(&self, l: LockNo) -> Mode
         ensures { result ≡ mode_held (hold_in self.now.held.items l.0) }
     {
-        match place_held(l, &self.held) {
-            Some(i) => self.held[i].mode,
-            None => Mode::Excl,
-        }
+        self.mode(l).unwrap_or(Mode::Excl)
     }
 
     /// Whether it holds the lock.
     pub fn holds(&self, l: LockNo) -> bool
         ensures { result ≡ not (is_unheld (hold_in self.now.held.items l.0)) }
     {
-        place_held(l, &self.held).is_some()
+        self.mode(l).is_some()
     }
 
     /// Takes the lock off those that it holds.

@@ -14,6 +14,8 @@ use lock_model::{Plan, ThreadNo, Turn};
 use std::alloc::{AllocError, Global};
 use std::marker::Model;
 
+mod reading;
+
 /// A scheduled run between two turns. Its state is lawful: it represents a run of its plan that is on track.
 #[derive(Drop)]
 pub struct World<'p> {
@@ -108,18 +110,11 @@ impl<'p> World<'p> {
         self.machine.threads.len() as u8
     }
 
-    /// The plan that is run.
-    pub(crate) fn plan(&self) -> &Plan
-        ensures { result.now ≡ self.now.plan }
+    /// The number of locks.
+    pub fn locks(&self) -> u8
+        ensures number { result ≡ length self.now.plan.locks }
     {
-        self.plan
-    }
-
-    /// The number of chains of each sort.
-    pub(crate) fn chains(&self) -> u32
-        ensures { result ≡ self.now.chains }
-    {
-        self.chains
+        self.machine.words.len() as u8
     }
 
     /// The objects, to be told of.

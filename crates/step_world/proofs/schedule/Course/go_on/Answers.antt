@@ -1,45 +1,58 @@
-use Rattle.std.proofs.Common.{◌≡◌, ℕ, true, sym, ap, subst, ◌∙◌}
+use Rattle.std.proofs.Common.{◌≡◌, Bool, false, cond, ◌++◌, Option, Some, None, IfNone, sym, ap, subst, refl, ◌∙◌}
+use Rattle.std.specs.Option.{is_none}
 use Rattle.std.proofs.lemmas.Bool.{ne_eqb}
 use Rattle.lock_model.specs.Counts.{is_empty}
+use Rattle.lock_model.specs.declared.numbers.ThreadNo.{ThreadNo}
+use Rattle.lock_model.specs.declared.turn.Turn.{Turn}
 use Rattle.lock_state.specs.Run as run
-use Rattle.lock_state.specs.Run.{with_turn, after_turn, round_of}
-use Rattle.lock_model.specs.declared.plan.Plan.{Plan}
-use Rattle.step_world.specs.Courses.{IsCourse}
-use Rattle.step_world.specs.declared.schedule.Course.{Course}
-use Rattle.step_world.proofs.Scheduling.{none_left, none_comes, round_begins, one_comes}
+use Rattle.lock_state.specs.Run.{after_turn, round_of, is_over}
+use Rattle.step_world.specs.Courses.{Course, IsCourse, first_turn}
+use Rattle.step_world.proofs.Scheduling.{IsReady, none_left, none_comes, one_made, round_ready, still_ready}
 use Rattle.step_world.proofs.schedule.Course.go_on.Goals as goal
-use Rattle.step_world.proofs.schedule.Course.go_on.Goals.{Joined-self-len, then-self-len+in_ok-begin_round, else-self-len}
+use Rattle.step_world.proofs.schedule.Course.go_on.Goals.{After-make_turn, then-self-len, else-self-len}
 
--- the course from which the turn is made
-record IsReady (plan : Plan) (chains : ℕ) (course : Course) (k : run.Course) : Type 0 where
-  from : run.Course
-  is_course : IsCourse plan chains course from
-  makes : with_turn plan from.run from.coming from.idle ≡ after_turn plan k k.coming
+-- the run isn't over
+going : (c : After-make_turn) (k : run.Course) → IsCourse c.args.self.now k → is_over c.args.self.now.world.plan k ≡ false
+going c k h = sym (c.is_over.ensures k h) ∙ c.if-is_over.false
 
-ready : (c : Joined-self-len) (plan : Plan) (chains : ℕ) (k : run.Course) → IsCourse plan chains c.args.self.now k → IsReady plan chains c.if-self-len.self k
-ready c plan chains k h =
-    let course = c.args.self.now in
-    let size = c.len.ensures ∙ course.coming.ok.0 in
+-- and somebody comes
+ready : (c : After-make_turn) (k : run.Course) → IsCourse c.args.self.now k → IsReady c.args.self.now.world.plan c.if-self-len.self k
+ready c k h =
+    let i = c.self.inside in
+    let size = c.len.ensures ∙ i.coming.ok.0 in
+    let coming = h.coming ∙ sym (ap (λ (x : Course). x.coming) c.self.view_is) in
+    let plan = c.args.self.now.world.plan in
     elim c.if-self-len.branch [
-      | then-self-len+in_ok-begin_round b ↦ rw b.self-is (record {
-        from = record k { coming = round_of plan k.run; idle = true };
-        is_course = b.in_ok-begin_round.ensures plan chains k h;
-        makes = round_begins plan k (h.coming ∙ none_comes course.coming.items course.gone (b.if-self-len.true ∙ size));
-      })
-      | else-self-len b ↦ rw b.self-is (record {
-        from = k;
-        is_course = h;
-        makes = one_comes plan k (ap is_empty h.coming ∙ none_left course.coming.items course.gone h.within ∙ ne_eqb course.gone _ (λ e. b.if-self-len.false (e ∙ sym size)));
-      })
+      | then-self-len b ↦ rw b.self-is (round_ready plan b.begin_round.new.self k (ap (λ w. w.plan) b.begin_round.ensures.world) (b.begin_round.ensures.course k h) (coming ∙ none_comes i.coming.items i.gone (b.if-self-len.true ∙ size)) (going c k h))
+      | else-self-len b ↦ rw b.self-is (still_ready plan c.args.self.now k refl h (ap is_empty coming ∙ none_left i.coming.items i.gone c.self.invariant.within ∙ ne_eqb i.gone _ (λ e. b.if-self-len.false (e ∙ sym size))))
     ]
 
-pub make_turn-requires : goal.make_turn-requires
-make_turn-requires c =
-    let u = c.requires in
-    let r = ready c.before u.0 u.1 u.2 u.3 in
-    (u.0, u.1, r.from, r.is_course)
+-- so one has a turn
+made : (c : After-make_turn) (k : run.Course) → IsCourse c.args.self.now k → is_none c.make_turn.result ≡ false
+made c k h = let r = ready c k h in one_made c.if-self-len.self.world.plan r.from.run r.from.coming c.make_turn.result r.some (c.make_turn.ensures.turn r.from r.is_course)
 
-pub returns : goal.returns
-returns c plan chains k h =
-    let r = ready c.before.before plan chains k h in
-    subst (λ (j : run.Course). IsCourse plan chains c.make_turn.new.self j) r.makes (c.make_turn.ensures plan chains r.from r.is_course)
+pub returns-clause-course : goal.returns-clause-course
+returns-clause-course c k h =
+    let r = ready c k h in
+    let plan = c.args.self.now.world.plan in
+    subst (λ (j : run.Course). IsCourse c.make_turn.new.self j) (r.makes ∙ sym (ap (λ (b : Bool). cond b k (after_turn plan k k.coming)) (going c k h))) (c.make_turn.ensures.course r.from r.is_course)
+
+pub returns-clause-turn : goal.returns-clause-turn
+returns-clause-turn c k h =
+    let r = ready c k h in
+    let plan = c.args.self.now.world.plan in
+    c.make_turn.ensures.turn r.from r.is_course ∙ r.first ∙ sym (ap (λ (b : Bool). cond b None (first_turn plan k.run (k.coming ++ round_of plan k.run))) (going c k h))
+
+pub returns-clause-over : goal.returns-clause-over
+returns-clause-over c k h = made c k h ∙ sym (going c k h)
+
+pub returns-clause-unchanged : goal.returns-clause-unchanged
+returns-clause-unchanged c =
+    let i = c.self.inside in
+    let r = c.self.invariant.run in
+    let k : run.Course = record { run = r.0; coming = c.args.self.now.coming; idle = c.args.self.now.idle } in
+    go c.make_turn.result (made c k (record { shows = rw (← c.self.view_is) r.1; coming = refl; idle = refl }))
+  where
+    go : (o : Option (ThreadNo × Turn)) → is_none o ≡ false → IfNone o (c.make_turn.new.self ≡ c.args.self.now)
+    go None e = absurd cc
+    go (Some m) e = tt

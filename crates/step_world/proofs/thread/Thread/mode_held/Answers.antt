@@ -1,15 +1,13 @@
-use Rattle.std.proofs.Common.{position, sym, ap, ◌∙◌}
-use Rattle.lock_model.proofs.HeldLocks.{held_there, none_held}
-use Rattle.lock_model.specs.Operations.{holds_lock}
+use Rattle.std.proofs.Common.{◌≡◌, Option, Some, None, unwrap_or, refl, ap, ◌∙◌}
+use Rattle.lock_model.specs.declared.plan.Mode.{Mode}
+use Rattle.lock_model.specs.declared.plan.Mode.TheVariants.{Excl}
 use Rattle.lock_state.specs.Run.{mode_held}
+use Rattle.step_world.specs.Represents.{hold_of}
 use Rattle.step_world.proofs.thread.Thread.mode_held.Goals as goal
 
-pub returns-in-Some : goal.returns-in-Some
-returns-in-Some c =
-    let there = ap (position (holds_lock c.args.l)) (sym c.deref.ensures.value) ∙ sym c.place_held.ensures ∙ c.in-Some.is in
-    ap (λ h. h.mode) c.index.ensures ∙ ap mode_held (held_there c.args.l c.args.self.now.held.items c.in-Some.i c.index.result.now there)
+by_default : (mode : Option Mode) → unwrap_or mode Excl ≡ mode_held (hold_of mode)
+by_default None = refl
+by_default (Some mode) = refl
 
-pub returns-in-None : goal.returns-in-None
-returns-in-None c =
-    let nowhere = ap (position (holds_lock c.args.l)) (sym c.deref.ensures.value) ∙ sym c.place_held.ensures ∙ c.in-None.is in
-    ap mode_held (none_held c.args.l c.args.self.now.held.items nowhere)
+pub returns : goal.returns
+returns c = c.unwrap_or.ensures ∙ by_default c.mode.result ∙ ap mode_held c.mode.ensures
