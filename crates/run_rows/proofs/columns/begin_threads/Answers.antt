@@ -1,4 +1,4 @@
-use Rattle.std.proofs.Common.{◌≡◌, ℕ, ◌+◌, length, ap, ◌∙◌}
+use Rattle.std.proofs.Common.{ℕ, ◌+◌, length, ap, ◌∙◌}
 use Rattle.std.proofs.lemmas.List.{length_push}
 use Rattle.run_rows.specs.Rows.{TellsThread}
 use Rattle.run_rows.proofs.Noting.{each_push}

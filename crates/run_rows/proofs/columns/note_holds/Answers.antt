@@ -1,4 +1,4 @@
-use Rattle.std.proofs.Common.{◌≡◌, ◌<◌, ◌≤◌, ◌+◌, ℕ, length, refl, sym, ap, subst, arith, ◌∙◌}
+use Rattle.std.proofs.Common.{◌≡◌, ◌≤◌, ◌+◌, length, sym, ap, arith, ◌∙◌}
 use Rattle.step_world.specs.Represents.{hold_of}
 use Rattle.run_rows.specs.Tracks.{Tells}
 use Rattle.run_rows.proofs.Noting.{all_done, left_more, next, none_done, one_noted}

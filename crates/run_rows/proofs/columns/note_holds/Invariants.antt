@@ -1,4 +1,4 @@
-use Rattle.std.proofs.Common.{◌≡◌, ◌+◌, ℕ, length}
+use Rattle.std.proofs.Common.{◌≡◌, ◌+◌, ℕ}
 use Rattle.step_world.specs.Represents.{hold_of}
 use Rattle.lock_state.specs.Run.{Run}
 use Rattle.step_world.specs.Worlds.{Represents}

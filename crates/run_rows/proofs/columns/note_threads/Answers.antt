@@ -1,6 +1,6 @@
-use Rattle.std.proofs.Common.{◌≡◌, ◌<◌, ◌≤◌, ◌+◌, ℕ, length, refl, sym, arith, ◌∙◌}
+use Rattle.std.proofs.Common.{◌≤◌, ◌+◌, length, sym, arith, ◌∙◌}
 use Rattle.run_rows.specs.Rows.{TellsThread}
-use Rattle.run_rows.proofs.Noting.{all_done, done_more, left_more, next, none_done}
+use Rattle.run_rows.proofs.Noting.{all_done, done_more, left_more, next}
 use Rattle.run_rows.proofs.columns.note_threads.Goals as goal
 
 pub loop-t-preserved : goal.loop-t-preserved

@@ -1,4 +1,4 @@
-use Rattle.std.proofs.Common.{◌≡◌, ◌<◌, ℕ, length, refl, sym, arith, ◌∙◌}
+use Rattle.std.proofs.Common.{◌≡◌, sym, arith, ◌∙◌}
 use Rattle.lock_model.specs.Words.{word_of}
 use Rattle.run_rows.proofs.Noting.{left_more, next, none_done, one_noted}
 use Rattle.run_rows.proofs.columns.note_words.Goals as goal

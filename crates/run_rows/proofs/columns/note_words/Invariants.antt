@@ -1,4 +1,4 @@
-use Rattle.std.proofs.Common.{◌≡◌, ◌+◌, ℕ, length}
+use Rattle.std.proofs.Common.{◌≡◌, ◌+◌, ℕ}
 use Rattle.lock_model.specs.Words.{word_of}
 use Rattle.lock_state.specs.Run.{Run}
 use Rattle.step_world.specs.Worlds.{Represents}

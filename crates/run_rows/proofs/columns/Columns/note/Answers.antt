@@ -1,4 +1,4 @@
-use Rattle.std.proofs.Common.{◌≡◌, ℕ, map, ap, ◌∙◌}
+use Rattle.std.proofs.Common.{◌≡◌, map, ap, ◌∙◌}
 use Rattle.lock_history.specs.Outcomes.{line_seen}
 use Rattle.lock_model.specs.Plans.{config_of}
 use Rattle.lock_state.specs.Run.{queue_lines}

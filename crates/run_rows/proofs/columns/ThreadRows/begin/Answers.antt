@@ -1,8 +1,7 @@
-use Rattle.std.proofs.Common.{◌≡◌, ℕ, length, ap, ◌∙◌}
+use Rattle.std.proofs.Common.{◌≡◌, length, ap, ◌∙◌}
 use Rattle.lock_objects.specs.Represents.{walk_of}
-use Rattle.step_world.specs.Represents.{hold_of, wait_of}
+use Rattle.step_world.specs.Represents.{wait_of}
 use Rattle.run_rows.specs.Rows.{IsWhereItStands}
-use Rattle.run_rows.specs.Tracks.{EachTells}
 use Rattle.run_rows.proofs.Noting.{first_told}
 use Rattle.run_rows.proofs.columns.ThreadRows.begin.Goals as goal
 

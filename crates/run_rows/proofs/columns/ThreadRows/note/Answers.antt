@@ -1,4 +1,4 @@
-use Rattle.std.proofs.Common.{◌≡◌, ℕ, length, ◌∙◌}
+use Rattle.std.proofs.Common.{◌≡◌, ◌∙◌}
 use Rattle.lock_objects.specs.Represents.{walk_of}
 use Rattle.step_world.specs.Represents.{wait_of}
 use Rattle.run_rows.specs.Rows.{IsWhereItStands}

@@ -1,4 +1,4 @@
-use Rattle.std.proofs.Common.{ℕ, leb, true, false, rules, get_or, Some, sym, ap, ◌≡◌, ◌≤◌, length, arith, ◌∙◌}
+use Rattle.std.proofs.Common.{leb, true, false, rules, Some, sym, ap, ◌≡◌, ◌≤◌, length, ◌∙◌}
 use Rattle.std.specs.List.Sorted.{IsPartitionPoint, IsPartitionedBy}
 use Rattle.std.proofs.lemmas.List.Sorted.{IsPartitionedBy-leb, IsPartitionPoint-from_clause}
 use Rattle.run_rows.proofs.Changes.{found_in, rows_rise, some_up_to}
