@@ -31,15 +31,13 @@ use std::alloc::{AllocError, Global};
 use wait_objects::{Object, Own};
 
 impl<'p> World<'p> {
-    /// The entries so far, in order of their tickets. They are fewer than 2^32.
+    /// The entries so far, in order of their tickets.
     ///
     /// ```
     /// let newest = world.history().last();
     /// ```
     pub fn history(&self) -> &[Entry]
-        ensures history { (r : Run) → Represents self.now r
-            → result.now ≡ reverse r.state.history }
-        ensures few { length result.now < 2 ^ 32 }
+        ensures { (r : Run) → Represents self.now r → result.now ≡ reverse r.state.history }
     {
         self.machine.log.as_slice()
     }
