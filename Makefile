@@ -1,15 +1,17 @@
 # What a newcomer types. `rt` is the toolchain's command; README.md says where it comes from.
 SHELL := bash
 SCRIPT ?= examples/blocking.script
+FORM ?= svg
 LOCKRUN := crates/lockrun/out/lockrun
 
 .DEFAULT_GOAL := help
-.PHONY: help step run proved examples bench
+.PHONY: help step run chart proved examples bench
 
 # Says what there is to type.
 help:
 	@echo 'make step SCRIPT=PATH     builds lockrun without any proof and runs a script; without SCRIPT, $(SCRIPT)'
 	@echo 'make run SCRIPT=PATH      the same, with a thread of its own for each thread of the script: mutexes alone so far'
+	@echo 'make chart SCRIPT=PATH    draws the run of a script into a file of out/; FORM=html or FORM=trace for another form'
 	@echo 'make proved SCRIPT=PATH   proves lockrun and all below it, makes $(LOCKRUN), and runs a script'
 	@echo 'make examples             runs each example by the proved program; stops at the first that is not as written'
 	@echo 'make bench                times long scripts by the proved program, and adds the figures to bench/results.md'
@@ -23,6 +25,13 @@ step:
 # The same, where each thread of the script runs beside the others.
 run:
 	@script=$$(realpath -e -- "$(SCRIPT)") && cd crates/lockrun && rt try -- run < "$$script"
+
+# Builds lockchart without any proof, draws the scheduled run of one script, and says where the picture is.
+chart:
+	@script=$$(realpath -e -- "$(SCRIPT)") && name=$$(basename -- "$$script" .script) && mkdir -p out \
+	  && picture=$$PWD/out/$$name.$(FORM:trace=json) && cd crates/lockchart \
+	  && { rt try -- --form "$(FORM)" < "$$script" > "$$picture" || { rm "$$picture"; exit 1; }; } \
+	  && echo "the picture is in $$picture"
 
 # Proves lockrun and all below it, makes the program, and runs one script.
 proved:

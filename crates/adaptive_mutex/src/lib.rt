@@ -5,5 +5,7 @@
 #![tactic(auto)]
 
 mod mutex;
+#[cfg(test)]
+mod tests;
 
 pub use mutex::{lock, try_lock, unlock};

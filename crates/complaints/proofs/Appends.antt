@@ -23,7 +23,6 @@ pub seven : (o a b c d e f g : List ℕ) {x y z v w p q : List ℕ} → x ≡ o 
 seven o a b c d e f g {x} {y} {z} {v} {w} {p} {q} s1 s2 s3 s4 s5 s6 s7 =
     onto o x q a (b ++ (c ++ (d ++ (e ++ (f ++ g))))) s1 (onto x y q b (c ++ (d ++ (e ++ (f ++ g)))) s2 (five y c d e f g s3 s4 s5 s6 s7))
 
--- the last piece, behind a loop that had nothing left to push
-pub ended : (o a b last x : List ℕ) {y : List ℕ} → o ++ (a ++ b) ≡ x ++ [] → y ≡ x ++ last → y ≡ o ++ (a ++ (b ++ last))
-ended o a b last x {y} pushed more =
-    three o a b last refl (sym (append-nil x) ∙ sym pushed ∙ sym (append_assoc o a b)) more
+-- behind a loop that has nothing left to push
+pub done : (o a x : List ℕ) → o ++ a ≡ x ++ [] → x ≡ o ++ a
+done o a x pushed = sym (append-nil x) ∙ sym pushed

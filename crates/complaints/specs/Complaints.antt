@@ -1,8 +1,10 @@
 -- The sentence for standard error, by the status and the text that was written. It is this project's own.
 use Rattle.std.specs.Prelude.{ℕ, Bool, ◌||◌, ◌&&◌, ◌==◌, nat_lt, nat_eq, slice_index, if◌then◌else◌, List, [], ◌∷◌, ◌++◌, find, length, Option, Some, None, codes, option_and_then, option_map}
+use Rattle.std.specs.Option.{option_map_or}
 use Rattle.std.specs.List.{list_any, slice_index_or, starts_with}
 use Rattle.lock_model.specs.Script.Lines.{is_same, lines_of, number_up_to, onto_first, words_of}
 use Rattle.script_read.specs.Meanings.{meaning}
+use Rattle.complaints.specs.declared.program.Program.{Program}
 use Rattle.complaints.specs.declared.status.Status.{Status}
 use Rattle.complaints.specs.declared.status.Status.TheVariants.{Done, BadScript, ReadFault, WriteFault, NoMemory, Stuck, Reversed, TooLong, TooBig, Usage}
 
@@ -50,9 +52,9 @@ is_reversal line = is_same (word_at 2 line) (codes "reversed")
 
 -- of the line `line L code C`
 abbrev pub fault_by : Text → Option Text → Text
-fault_by line None = codes "lockrun: the source is no script\n"
-fault_by line (Some sentence) = codes "lockrun: line " ++ (word_at 1 line ++ (codes ": "
-    ++ (sentence ++ (codes " (code " ++ (word_at 3 line ++ codes ")\n")))))
+fault_by line None = codes "the source is no script"
+fault_by line (Some sentence) = codes "line " ++ (word_at 1 line ++ (codes ": "
+    ++ (sentence ++ (codes " (code " ++ (word_at 3 line ++ codes ")")))))
 
 abbrev pub meaning_by : Text → Option Text
 meaning_by word = option_and_then meaning (number_up_to 255 word)
@@ -63,8 +65,8 @@ is_of_threads line = is_same line (codes "line 0 code 0")
 
 -- what is said of that plan
 abbrev pub threads_said : Text
-threads_said = codes "lockrun: threads run on mutexes alone so far, and the script declares "
-    ++ codes "another lock, a condition variable or a channel\n"
+threads_said = codes "threads run on mutexes alone so far, and the script declares "
+    ++ codes "another lock, a condition variable or a channel"
 
 abbrev pub fault_said : Text → Text
 fault_said line = if is_of_threads line then threads_said
@@ -85,6 +87,10 @@ waits_said text [] between verb = []
 waits_said text (line ∷ lines) between verb =
     wait_then between verb (wait_of text line) (waits_said text lines)
 
+abbrev pub stuck_said : Text → Text
+stuck_said text =
+    codes "stuck" ++ waits_said text (lines_of text) (codes ": ") (codes " waits for ")
+
 -- which thread may not take which lock, under which class that it holds
 abbrev pub reversal_said : Text → Text
 reversal_said line = word_at 1 line ++ (codes " may not take " ++ (word_at 3 line
@@ -96,29 +102,52 @@ reversals_said (line ∷ lines) between = if is_reversal line
     then between ++ (reversal_said line ++ reversals_said lines (codes ", "))
     else reversals_said lines between
 
--- for a status whose sentence needs nothing of the text
-abbrev pub fixed_of : Status → Text
-fixed_of Done = []
-fixed_of BadScript = []
-fixed_of ReadFault = codes "lockrun: could not read standard input\n"
-fixed_of WriteFault = codes "lockrun: could not write standard output\n"
-fixed_of NoMemory = codes "lockrun: out of memory\n"
-fixed_of Stuck = []
-fixed_of Reversed = []
-fixed_of TooLong = codes "lockrun: the turns were used up before all threads had ended\n"
-fixed_of TooBig = codes "lockrun: the source has more than 1,048,576 bytes\n"
-fixed_of Usage = codes "usage: lockrun check|step|run [--chains N] [--turns N] < SCRIPT\n"
+abbrev pub reversed_said : Text → Text
+reversed_said text = codes "reversed" ++ reversals_said (lines_of text) (codes ": ")
 
-abbrev pub complaint_of : Status → Text → Text
-complaint_of Done text = []
-complaint_of BadScript text = fault_said (first_line (lines_of text))
-complaint_of ReadFault text = fixed_of ReadFault
-complaint_of WriteFault text = fixed_of WriteFault
-complaint_of NoMemory text = fixed_of NoMemory
-complaint_of Stuck text = codes "lockrun: stuck"
-    ++ (waits_said text (lines_of text) (codes ": ") (codes " waits for ") ++ codes "\n")
-complaint_of Reversed text =
-    codes "lockrun: reversed" ++ (reversals_said (lines_of text) (codes ": ") ++ codes "\n")
-complaint_of TooLong text = fixed_of TooLong
-complaint_of TooBig text = fixed_of TooBig
-complaint_of Usage text = fixed_of Usage
+-- of a status whose sentence needs nothing of the text
+abbrev pub fixed_of : Program → Status → Option Text
+fixed_of program Done = None
+fixed_of program BadScript = None
+fixed_of program ReadFault = Some (codes "could not read standard input")
+fixed_of program WriteFault = Some (codes "could not write standard output")
+fixed_of program NoMemory = Some (codes "out of memory")
+fixed_of program Stuck = None
+fixed_of program Reversed = None
+fixed_of program TooLong = Some (codes "the turns were used up before all threads had ended")
+fixed_of program TooBig = Some (codes "the source has more than 1,048,576 bytes")
+fixed_of program Usage = Some program.form.now
+
+-- of each status; nothing where all went well
+abbrev pub sentence_of : Program → Status → Text → Option Text
+sentence_of program Done text = None
+sentence_of program BadScript text = Some (fault_said (first_line (lines_of text)))
+sentence_of program ReadFault text = fixed_of program ReadFault
+sentence_of program WriteFault text = fixed_of program WriteFault
+sentence_of program NoMemory text = fixed_of program NoMemory
+sentence_of program Stuck text = Some (stuck_said text)
+sentence_of program Reversed text = Some (reversed_said text)
+sentence_of program TooLong text = fixed_of program TooLong
+sentence_of program TooBig text = fixed_of program TooBig
+sentence_of program Usage text = fixed_of program Usage
+
+-- who speaks: the program, or `usage` in front of its form
+abbrev pub speaker_of : Program → Status → Text
+speaker_of program Done = program.name.now
+speaker_of program BadScript = program.name.now
+speaker_of program ReadFault = program.name.now
+speaker_of program WriteFault = program.name.now
+speaker_of program NoMemory = program.name.now
+speaker_of program Stuck = program.name.now
+speaker_of program Reversed = program.name.now
+speaker_of program TooLong = program.name.now
+speaker_of program TooBig = program.name.now
+speaker_of program Usage = codes "usage"
+
+-- one line: who speaks, and the sentence
+abbrev pub line_by : Text → Text → Text
+line_by speaker sentence = speaker ++ (codes ": " ++ (sentence ++ codes "\n"))
+
+abbrev pub complaint_of : Program → Status → Text → Text
+complaint_of program status text =
+    option_map_or (line_by (speaker_of program status)) (sentence_of program status text) []

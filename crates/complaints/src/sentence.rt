@@ -1,57 +1,103 @@
 //! The sentence for standard error.
-ghost use Rattle.std.specs.Prelude.{◌≡◌, ◌++◌, IfOk, OnOk, option_map};
+ghost use Rattle.std.specs.Prelude.{◌≡◌, ◌++◌, [], IfOk, OnOk, option_map, unwrap_or};
 ghost use Rattle.lock_model.specs.Script.Lines.{lines_of};
-ghost use Rattle.complaints.specs.Complaints.{complaint_of, fault_said, first_line, fixed_of, meaning_by, reversal_said, wait_of};
+ghost use Rattle.complaints.specs.Complaints.{complaint_of, fault_said, first_line, fixed_of, meaning_by, reversal_said, reversed_said, sentence_of, speaker_of, stuck_said, wait_of};
 
+use crate::program::Program;
 use crate::status::Status;
 use crate::text::{queue_of, word_at};
 use script_read::{meaning_of, number_of, split_line};
 use std::alloc::{AllocError, Global};
 
-/// The sentence that belongs to a status and to the text that was written, as a line with its end; nothing where all
-/// went well. It takes memory for that line alone.
+/// The sentence that belongs to a status and to the text that was written, as a line with its end, and in front of it who
+/// speaks; nothing where all went well. It takes memory for that line alone.
 ///
 /// ```
-/// let line = complaint(alloc, Status::BadScript, b"line 5 code 11\n")?;
+/// let line = complaint(alloc, LOCKRUN, Status::BadScript, b"line 5 code 11\n")?;
 /// // lockrun: line 5: the lock isn't held here (code 11)
 /// ```
-pub fn complaint(alloc: Global, status: Status, text: &[u8]) -> Result<Vec<u8>, AllocError>
-    ensures { IfOk result (λ line. line.items ≡ complaint_of status text.now) }
+pub fn complaint(
+    alloc: Global,
+    program: Program,
+    status: Status,
+    text: &[u8],
+) -> Result<Vec<u8>, AllocError>
+    ensures { IfOk result (λ line. line.items ≡ complaint_of program status text.now) }
 {
     let mut line = Vec::new(alloc);
+    if status == Status::Done {
+        return Ok(line);
+    }
+    line.extend_from_slice(speaker(program, status).as_bytes())?;
+    line.extend_from_slice(b": ")?;
+    push_sentence(&mut line, program, status, text)?;
+    line.extend_from_slice(b"\n")?;
+    Ok(line)
+}
+
+/// Who speaks: the program by its name, or `usage` in front of the form of its command line.
+pub fn speaker(program: Program, status: Status) -> &'static str
+    ensures { result.now ≡ speaker_of program status }
+{
     match status {
-        Status::Done => {}
-        Status::BadScript => push_fault(&mut line, text)?,
-        Status::Stuck => push_stuck(&mut line, text)?,
-        Status::Reversed => push_reversed(&mut line, text)?,
-        Status::ReadFault
+        Status::Usage => "usage",
+        Status::Done
+        | Status::BadScript
+        | Status::ReadFault
+        | Status::WriteFault
+        | Status::NoMemory
+        | Status::Stuck
+        | Status::Reversed
+        | Status::TooLong
+        | Status::TooBig => program.name,
+    }
+}
+
+/// The sentence of a status that needs nothing of the text, alone and without memory; `None` for any other status.
+pub fn fixed_complaint(program: Program, status: Status) -> Option<&'static str>
+    ensures { option_map (λ s. s.now) result ≡ fixed_of program status }
+{
+    match status {
+        Status::Done | Status::BadScript | Status::Stuck | Status::Reversed => None,
+        Status::ReadFault => Some("could not read standard input"),
+        Status::WriteFault => Some("could not write standard output"),
+        Status::NoMemory => Some("out of memory"),
+        Status::TooLong => Some("the turns were used up before all threads had ended"),
+        Status::TooBig => Some("the source has more than 1,048,576 bytes"),
+        Status::Usage => Some(program.form),
+    }
+}
+
+// The sentence alone, without who speaks.
+fn push_sentence(
+    out: &mut Vec<u8>,
+    program: Program,
+    status: Status,
+    text: &[u8],
+) -> Result<(), AllocError>
+    ensures { OnOk result (out.new.items
+        ≡ out.old.items ++ unwrap_or (sentence_of program status text.now) []) }
+{
+    match status {
+        Status::BadScript => push_fault(out, text),
+        Status::Stuck => push_stuck(out, text),
+        Status::Reversed => push_reversed(out, text),
+        Status::Done
+        | Status::ReadFault
         | Status::WriteFault
         | Status::NoMemory
         | Status::TooLong
         | Status::TooBig
-        | Status::Usage => line.extend_from_slice(fixed_complaint(status).as_bytes())?,
-    }
-    Ok(line)
-}
-
-/// The same for a status whose sentence needs nothing of the text, without memory; for any other nothing.
-pub fn fixed_complaint(status: Status) -> &'static str
-    ensures { result.now ≡ fixed_of status }
-{
-    match status {
-        Status::Done | Status::BadScript | Status::Stuck | Status::Reversed => "",
-        Status::ReadFault => "lockrun: could not read standard input\n",
-        Status::WriteFault => "lockrun: could not write standard output\n",
-        Status::NoMemory => "lockrun: out of memory\n",
-        Status::TooLong => "lockrun: the turns were used up before all threads had ended\n",
-        Status::TooBig => "lockrun: the source has more than 1,048,576 bytes\n",
-        Status::Usage => "usage: lockrun check|step|run [--chains N] [--turns N] < SCRIPT\n",
+        | Status::Usage => {
+            let sentence = fixed_complaint(program, status).unwrap_or("");
+            out.extend_from_slice(sentence.as_bytes())
+        }
     }
 }
 
 // What is said where a plan's threads can't run yet.
-const THREADS: &str = "lockrun: threads run on mutexes alone so far, and the script declares \
-    another lock, a condition variable or a channel\n";
+const THREADS: &str = "threads run on mutexes alone so far, and the script declares another lock, \
+    a condition variable or a channel";
 
 // Of the line `line L code C`, or of the line that tells of a plan whose threads can't run yet.
 fn push_fault(out: &mut Vec<u8>, text: &[u8]) -> Result<(), AllocError>
@@ -65,16 +111,16 @@ fn push_fault(out: &mut Vec<u8>, text: &[u8]) -> Result<(), AllocError>
     }
     let code = word_at(line, 3);
     let Some(meaning) = meaning_by(code) else {
-        out.extend_from_slice(b"lockrun: the source is no script\n")?;
+        out.extend_from_slice(b"the source is no script")?;
         return Ok(());
     };
-    out.extend_from_slice(b"lockrun: line ")?;
+    out.extend_from_slice(b"line ")?;
     out.extend_from_slice(word_at(line, 1))?;
     out.extend_from_slice(b": ")?;
     out.extend_from_slice(meaning.as_bytes())?;
     out.extend_from_slice(b" (code ")?;
     out.extend_from_slice(code)?;
-    out.extend_from_slice(b")\n")?;
+    out.extend_from_slice(b")")?;
     Ok(())
 }
 
@@ -98,9 +144,9 @@ fn meaning_by(code: &[u8]) -> Option<&'static str>
 
 // Who waits for what, by the lines `thread NAME base B eff E` and those of the queues.
 fn push_stuck(out: &mut Vec<u8>, text: &[u8]) -> Result<(), AllocError>
-    ensures { OnOk result (out.new.items ≡ out.old.items ++ complaint_of Status.Stuck text.now) }
+    ensures { OnOk result (out.new.items ≡ out.old.items ++ stuck_said text.now) }
 {
-    out.extend_from_slice(b"lockrun: stuck")?;
+    out.extend_from_slice(b"stuck")?;
     let mut between: &[u8] = b": ";
     let mut verb: &[u8] = b" waits for ";
     let mut rest = text;
@@ -115,7 +161,6 @@ fn push_stuck(out: &mut Vec<u8>, text: &[u8]) -> Result<(), AllocError>
         }
         rest = behind;
     }
-    out.extend_from_slice(b"\n")?;
     Ok(())
 }
 
@@ -133,9 +178,9 @@ fn wait_of<'a>(text: &'a [u8], line: &'a [u8]) -> Option<(&'a [u8], &'a [u8])>
 
 // Which thread was refused which lock, under which class, by the lines `TICKET NAME reversed LOCK CLASS`.
 fn push_reversed(out: &mut Vec<u8>, text: &[u8]) -> Result<(), AllocError>
-    ensures { OnOk result (out.new.items ≡ out.old.items ++ complaint_of Status.Reversed text.now) }
+    ensures { OnOk result (out.new.items ≡ out.old.items ++ reversed_said text.now) }
 {
-    out.extend_from_slice(b"lockrun: reversed")?;
+    out.extend_from_slice(b"reversed")?;
     let mut between: &[u8] = b": ";
     let mut rest = text;
     while let Some((line, behind)) = split_line(rest) {
@@ -146,7 +191,6 @@ fn push_reversed(out: &mut Vec<u8>, text: &[u8]) -> Result<(), AllocError>
         }
         rest = behind;
     }
-    out.extend_from_slice(b"\n")?;
     Ok(())
 }
 

@@ -1,6 +1,11 @@
 //! The sentence of each status.
-use crate::{Status, complaint, fixed_complaint};
+use crate::{Program, Status, complaint, fixed_complaint, say, speaker};
 use std::test::Fail;
+
+const LOCKRUN: Program = Program {
+    name: "lockrun",
+    form: "lockrun check|step|run [--chains N] [--turns N] < SCRIPT",
+};
 
 const STUCK: &str = "0 t1 lock a
 1 t2 lock b
@@ -139,10 +144,16 @@ const SAID: [(Status, &str, &str); 26] = [
 #[test]
 fn sentences(rt: HostRuntime) -> Result<(), Fail> {
     for (status, text, line) in SAID {
-        let said = complaint(rt.alloc(), status, text.as_bytes())?;
+        let said = complaint(rt.alloc(), LOCKRUN, status, text.as_bytes())?;
         assert_eq!(rt; said.as_slice(), line.as_bytes(), "{status:?}");
-        let fixed = fixed_complaint(status);
-        assert!(rt; fixed == "" || fixed == line);
+        let mut heard = Vec::new(rt.alloc());
+        say(rt.alloc(), &mut heard, LOCKRUN, status, text.as_bytes());
+        assert_eq!(rt; heard.as_slice(), line.as_bytes(), "{status:?}");
+        if let Some(fixed) = fixed_complaint(LOCKRUN, status) {
+            let lead = speaker(LOCKRUN, status);
+            let whole = format!(in rt.alloc(); "{lead}: {fixed}\n")?;
+            assert!(rt; whole.as_str() == line);
+        }
     }
     Ok(())
 }

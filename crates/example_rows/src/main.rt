@@ -8,7 +8,7 @@
 
 use complaints::complaint;
 use lock_io::{MemSink, MemSource, OpenGate};
-use lock_top::lockrun;
+use lock_top::{LOCKRUN, lockrun};
 use std::fs::Files;
 use std::io::Write;
 use std::sync::Wait;
@@ -46,7 +46,7 @@ fn run_example<R: AllocGlobal + Files + Print + Threads + Wait + Sync>(
     let mut source = MemSource::new(script, PIECE, Vec::new(alloc));
     let mut sink = MemSink::new(alloc, ROOM, PIECE, Vec::new(alloc))?;
     let status = lockrun(rt, alloc, &words, &mut source, &mut sink, &OpenGate);
-    let said = complaint(alloc, status, sink.bytes())?;
+    let said = complaint(alloc, LOCKRUN, status, sink.bytes())?;
     let leaves_out = command.split_whitespace().any(|word| word == "run")
         && text.as_slice().starts_with(b"thread ");
     let is_written = if leaves_out {

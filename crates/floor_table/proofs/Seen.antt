@@ -75,7 +75,7 @@ module _ (vs : List Knowledge) (t : ℕ) (v w : Knowledge) (past steps : List St
   seen_stepped = record {
     keeper = subst (λ (k : Knowledge). IsSeen k.seen (past_with past steps)) (sym first_stays) (still_seen steps (keeper_in vs).seen past h.keeper);
     thread = by_thread;
-    unmade = λ u past_made.
-        let before : (keeper_in vs).made ≤ u = subst (λ (k : Knowledge). k.made ≤ u) first_stays past_made in
+    unmade = λ u high.
+        let before : (keeper_in vs).made ≤ u = subst (λ (k : Knowledge). k.made ≤ u) first_stays high in
         still_others t u (λ e. omega (arith, e, before, low)) steps own past (h.unmade u before);
   }

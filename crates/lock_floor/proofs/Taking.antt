@@ -23,17 +23,17 @@ use Rattle.floor_table.proofs.Items.{place_low, one_place}
 use Rattle.floor_table.proofs.Lists.{or_at}
 use Rattle.floor_table.proofs.Made.{Finds, rule_of, Steps, allows, exchange_allows, take_made, give_made, OwnSteps}
 use Rattle.floor_table.proofs.Seen.{one_own}
-use Rattle.lock_floor.specs.Turns.{Takes, IsOfKind}
+use Rattle.lock_floor.specs.Turns.{FindsOut, Takes, IsOfKind}
 use Rattle.lock_floor.specs.Views.{took, gave}
 use Rattle.lock_floor.proofs.Shares.{take_own, take_others, give_own, give_others}
 
 -- 1. A take
 
--- what it tells: where the turn was free, the thread has what the place has
+-- what it tells: where the turn was free, the thread has what the place has, and else somebody has it
 abbrev pub Taken : Plan → ℕ → Me Slot Knowledge → ℕ → Me Slot Knowledge → Type 0
 Taken plan j me found behind =
     (found ≡ 0 → (i : Item) → slot_of plan i ≡ Some j → (taken : Takes plan i j me.0 behind.0) × (behind.1 ≡ (j, taken.value) ∷ me.1))
-    × (found ≢ 0 → behind ≡ me)
+    × (found ≢ 0 → (behind ≡ me) × ((i : Item) → slot_of plan i ≡ Some j → FindsOut plan i me.0))
 
 kind_of : (s : State) (i : Item) (y : Slot) → IsOf (objects_in s) i y → IsOfKind i y
 kind_of s (RecordOf t) (Record b) h = ap (λ (r : RecordColumns). r.thread) h.columns
@@ -66,6 +66,20 @@ module _ (plan : Plan) (me : Me Slot Knowledge) (was : me.0.role ≡ OfThread) (
   is_home : (b : Board) (h : Finds plan v b) → turn_word b.words j ≡ 0 → item_with h.state i ≡ None
   unfolding RepresentsTurns
   is_home b h free = h.represents.turns i ∙ ap (taken_from (turn_word b.words)) place ∙ ap taker free
+
+  -- and else it is out with the thread that the word names
+  is_out : (b : Board) (h : Finds plan v b) → turn_word b.words j ≢ 0 → FindsOut plan i v
+  unfolding RepresentsTurns
+  is_out b h ne = go (turn_word b.words j) refl
+    where
+      go : (n : ℕ) → turn_word b.words j ≡ n → FindsOut plan i v
+      go zero e = absurd (ne e)
+      go (suc t) e = record {
+        state = h.state;
+        fits = h.fits;
+        taker = t;
+        out = h.represents.turns i ∙ ap (taken_from (turn_word b.words)) place ∙ ap taker e;
+      }
 
   take_hit : (b : Board) (h : Finds plan v b) → MayMake plan v (λ s. item_with s i ≡ None) (TakesItem v.thread i ∷ []) → turn_word b.words j ≡ 0
       → Steps plan me (spot (turn_line j)) (turn_word b.words j) (suc v.thread) (Taken plan j me) b
@@ -104,7 +118,7 @@ module _ (plan : Plan) (me : Me Slot Knowledge) (was : me.0.role ≡ OfThread) (
     keeps,
     tt,
     subst (FloorHolds plan) (sym (nothing_stepped b (spot (turn_line j)) (suc v.thread) me.1 v h.there)) (rule_of plan v b h),
-    (λ e. absurd (ne e), λ _. refl),
+    (λ e. absurd (ne e), λ _. (refl, λ k at. subst (λ m. FindsOut plan m v) (one_place plan i k j place at) (is_out b h ne))),
   )
 
   pub take_allowed : (slots id : ℕ) → MayMake plan v (λ s. item_with s i ≡ None) (TakesItem v.thread i ∷ []) → Allows (FloorHolds plan) slots id me (spot (turn_line j)) (λ n. either (eqb n 0) (suc v.thread) n) (Taken plan j me)

@@ -11,7 +11,7 @@ ghost use Rattle.floor_table.specs.Rule.{FloorHolds};
 ghost use Rattle.floor_table.specs.Steps.{MayMake, Makes};
 ghost use Rattle.floor_table.specs.Views.{seeing};
 ghost use Rattle.lock_floor.specs.Passes.{IsOf};
-ghost use Rattle.lock_floor.specs.Turns.{Takes};
+ghost use Rattle.lock_floor.specs.Turns.{FindsOut, Takes};
 ghost use Rattle.lock_floor.specs.Views.{gave};
 
 use crate::floor::FloorOf;
@@ -23,7 +23,7 @@ use std::marker::Brand;
 use std::sync::Wait;
 
 impl FloorOf<Slot, View, Plan, Law> {
-    /// Takes the record of a thread, if it is at home.
+    /// Takes the record of a thread, if it is at home. `false` comes only where a thread has it out.
     pub fn try_take_rec(&self, pass: &mut Pass, t: ThreadNo) -> bool
         requires own { IsOf self.now pass.old }
         requires thread { t.0 < length self.now.plan.threads }
@@ -33,6 +33,8 @@ impl FloorOf<Slot, View, Plan, Law> {
         ensures out { result ≡ true
             → Takes self.now.plan (RecordOf t.0) t.0 pass.old.view pass.new.view }
         ensures left { result ≡ false → pass.new.view ≡ pass.old.view }
+        ensures elsewhere { result ≡ false
+            → FindsOut self.now.plan (RecordOf t.0) pass.old.view }
     {
         self.try_take(pass, usize::from(t.0))
     }
@@ -75,6 +77,8 @@ impl FloorOf<Slot, View, Plan, Law> {
         ensures out { result ≡ true → (i : Item) → slot_of self.now.plan i ≡ Some slot
             → Takes self.now.plan i slot pass.old.view pass.new.view }
         ensures left { result ≡ false → pass.new.view ≡ pass.old.view }
+        ensures elsewhere { result ≡ false → (i : Item) → slot_of self.now.plan i ≡ Some slot
+            → FindsOut self.now.plan i pass.old.view }
     {
         take_turn::<Brand>(&self.board, &mut pass.seat, pass.who, slot) == 0
     }

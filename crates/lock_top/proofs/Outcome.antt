@@ -10,6 +10,7 @@ use Rattle.lock_model.specs.Script.{IsAccepted, IsFaulty}
 use Rattle.lock_model.specs.Text.{fault_text}
 use Rattle.lock_model.specs.declared.plan.Plan.{Plan}
 use Rattle.lock_model.specs.declared.event.Entry.{Entry}
+use Rattle.lock_laws.proofs.Accepted.{accepted_proper}
 use Rattle.lock_laws.proofs.Derived.{effective, tables}
 use Rattle.lock_laws.proofs.OrderFacts.Cycle.{no_cycle}
 use Rattle.lock_laws.proofs.LegalRuns.{outcomes_are_legal}
@@ -40,7 +41,7 @@ unfolding scheduled_run value_at
 last_tables plan chains turns lawful =
     (tables_of (state_behind plan turns).history, refl, λ l k. sym (tables (config_of plan) (state_behind plan turns) l k lawful))
 
-pub lawful_run : (plan : Plan) (chains turns : ℕ) → IsProper plan → IsLawfulRun plan chains turns
+lawful_run : (plan : Plan) (chains turns : ℕ) → IsProper plan → IsLawfulRun plan chains turns
 unfolding scheduled_run
 lawful_run plan chains turns proper = record {
   states = λ n. lawful_state plan n proper;
@@ -48,6 +49,9 @@ lawful_run plan chains turns proper = record {
   tables = last_tables plan chains turns (lawful_state plan turns proper).lawful.lawful;
   replay = ap (λ (h : List Entry). entries (tables_of h)) (sym (reverse-reverse (state_behind plan turns).history));
 }
+
+pub accepted_lawful : (bytes : List ℕ) (plan : Plan) (chains turns : ℕ) → IsAccepted bytes plan → IsLawfulRun plan chains turns
+accepted_lawful bytes plan chains turns accepted = lawful_run plan chains turns (accepted_proper bytes plan accepted)
 
 -- the output of a script is that of its plan
 pub accepted_output : (said : Words) (bytes : List ℕ) (plan : Plan) (pair : Status × List ℕ) → IsAccepted bytes plan

@@ -1,18 +1,13 @@
 -- What a call of the program promises, by the words of the command line, by the status that it answers, and by what its
 -- source and its sink tell before and behind it. It is this project's own.
-use Rattle.std.specs.Prelude.{◌≡◌, ◌⊎◌, ◌≤◌, ◌+◌, ◌↔◌, ℕ, List, Option, IfSome, length, true, false}
-use Rattle.std.specs.Io.KnownBytes.{IsAtEnd}
+use Rattle.std.specs.Prelude.{◌≡◌, ◌⊎◌, ◌≤◌, ℕ, List, IfSome, length, true, false}
 use Rattle.command_line.specs.Forms.{is_form}
 use Rattle.complaints.specs.declared.status.Status.{Status}
-use Rattle.complaints.specs.declared.status.Status.TheVariants.{NoMemory, TooBig, Usage, WriteFault}
-use Rattle.lock_io.specs.Faults.{Rose}
-use Rattle.lock_io.specs.Whole.{AddsFront, TakesFront}
+use Rattle.complaints.specs.declared.status.Status.TheVariants.{NoMemory, Usage, WriteFault}
+use Rattle.lock_io.specs.Whole.{AddsFront}
 use Rattle.lock_model.specs.Limits.{most_bytes}
-use Rattle.lock_top.specs.Output.{has_text, IsOutput, TookTooMany, writes, Wrote}
-
--- the bytes that an end has, where it tells them
-abbrev pub Told : Type 0
-Told = Option (List ℕ)
+use Rattle.lock_top.specs.Output.{has_text, IsOutput, writes}
+use Rattle.top_ends.specs.Calls.{Told, Wrote}
 
 -- Usage comes only where the words are no form of the command line. Where they are none, nothing is read, and only want
 -- of memory is told in its place.
@@ -20,18 +15,6 @@ pub record TellsForms (words : List (List ℕ)) (status : Status) (old new : Tol
   pub usage : status ≡ Usage → is_form words ≡ false
   pub no_form : is_form words ≡ false → (status ≡ Usage) ⊎ (status ≡ NoMemory)
   pub no_form_reads_nothing : is_form words ≡ false → new ≡ old
-
--- No answer takes more from the source than the one byte that shows that it is too big, and a text is written only where
--- the source was read to its end.
-pub record ReadsBytes (status : Status) (old new : Told) : Type 0 where
-  pub at_most : TakesFront old new (most_bytes + 1)
-  pub too_big : IfSome old (λ bytes. (status ≡ TooBig) ↔ TookTooMany bytes new)
-  pub whole : writes status ≡ true → IsAtEnd new
-
--- an end's count of faults rises at the one status that tells of it, and stays at every other
-pub record TellsFaults (status fault : Status) (old new : ℕ) : Type 0 where
-  pub rose : status ≡ fault → Rose old new
-  pub stayed : (status ≡ fault → ⊥) → new ≡ old
 
 -- The status and the text that was written belong to the words and to the bytes of the source. At WriteFault a front of
 -- such a text was added, and where no text was made nothing was written.

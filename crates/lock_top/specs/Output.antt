@@ -1,6 +1,6 @@
 -- Which status and text belong to the words of a command line and to the bytes of a source, and which states the run
 -- goes through.
-use Rattle.std.specs.Prelude.{◌≡◌, ℕ, Bool, false, true, List, [], reverse, Option, Some, None, IfSome, ◌++◌, ◌<◌, ◌+◌, length, drop}
+use Rattle.std.specs.Prelude.{◌≡◌, ℕ, Bool, false, true, List, [], reverse, Option, Some, None}
 use Rattle.std.specs.FinMap.{FinMap, entries, get}
 use Rattle.command_line.specs.Forms.{words_of}
 use Rattle.command_line.specs.declared.words.Command.{Command}
@@ -10,7 +10,6 @@ use Rattle.complaints.specs.declared.status.Status.{Status}
 use Rattle.complaints.specs.declared.status.Status.TheVariants.{Done, BadScript, ReadFault, WriteFault, NoMemory, Stuck, Reversed, TooLong, TooBig, Usage}
 use Rattle.floor_run.specs.Runs.{HasOnlyMutexes, IsOutcome}
 use Rattle.lock_model.specs.Config.{Config}
-use Rattle.lock_model.specs.Limits.{most_bytes}
 use Rattle.lock_model.specs.Plans.{config_of}
 use Rattle.lock_model.specs.Script.{Reading, Reads, Faulty, reading_of}
 use Rattle.lock_model.specs.History.{place_cmp, tables_of}
@@ -20,6 +19,7 @@ use Rattle.lock_state.specs.Best.{HasBest, HasCycle}
 use Rattle.lock_state.specs.Facts.{LawfulTurn, Ordered}
 use Rattle.lock_state.specs.Run.{HasLegalHistory, course_after, scheduled_run}
 use Rattle.lock_state.specs.State.{State}
+use Rattle.top_ends.specs.Statuses.{reads_all}
 
 abbrev pub status_of : Ending → Status
 status_of IsDone = Done
@@ -76,39 +76,9 @@ has_text TooLong = true
 has_text TooBig = false
 has_text Usage = false
 
--- the status says that some of a text may be written
+-- the status says that some of a text may be written: the source was read before
 abbrev pub writes : Status → Bool
-writes Done = true
-writes BadScript = true
-writes ReadFault = false
-writes WriteFault = true
-writes NoMemory = false
-writes Stuck = true
-writes Reversed = true
-writes TooLong = true
-writes TooBig = false
-writes Usage = false
-
--- the status says why the source wasn't read to its end
-abbrev pub tells_of_reading : Status → Bool
-tells_of_reading Done = false
-tells_of_reading BadScript = false
-tells_of_reading ReadFault = true
-tells_of_reading WriteFault = false
-tells_of_reading NoMemory = true
-tells_of_reading Stuck = false
-tells_of_reading Reversed = false
-tells_of_reading TooLong = false
-tells_of_reading TooBig = true
-tells_of_reading Usage = false
-
--- one byte more than that was read, and no more
-abbrev pub TookTooMany : List ℕ → Option (List ℕ) → Type 0
-TookTooMany bytes new = (most_bytes < length bytes) × (new ≡ Some (drop (most_bytes + 1) bytes))
-
--- what is held behind a call that was to write the text: with it, or as it was
-abbrev pub Wrote : Option (List ℕ) → Option (List ℕ) → List ℕ → Type 0
-Wrote old new text = IfSome old (λ held. new ≡ Some (held ++ text))
+writes = reads_all
 
 -- the state behind so many turns of a plan's run
 abbrev pub state_behind : Plan → ℕ → State

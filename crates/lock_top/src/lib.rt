@@ -14,4 +14,11 @@ mod tests;
 mod top;
 
 pub use crate::top::{lockrun, lockrun_live, lockrun_plain};
+use complaints::Program;
 pub use complaints::Status;
+
+/// The program, as its sentences name it.
+pub const LOCKRUN: Program = Program {
+    name: "lockrun",
+    form: "lockrun check|step|run [--chains N] [--turns N] < SCRIPT",
+};

@@ -1,25 +1,23 @@
 //! What all commands share: the words and the bytes of the source are read, and the script of these; the text is made
 //! whole before its first byte is written, and nothing is written where there is none.
-ghost use Rattle.std.specs.Prelude.{◌≡◌, ◌⊎◌, ◌+◌, ◌↔◌, true, false, map, IfErr, IfOk, IfSome, IsErrOf, OnOk, Some};
-ghost use Rattle.std.specs.Io.KnownBytes.{IsAtEnd};
+ghost use Rattle.std.specs.Prelude.{◌≡◌, true, map, IfOk, Some};
 ghost use Rattle.std.specs.String.{string_bytes};
 ghost use Rattle.command_line.specs.Forms.{is_form, words_of};
 ghost use Rattle.command_line.specs.Ranges.{HasRanges};
 ghost use Rattle.lock_io.specs.Faults.{Rose};
-ghost use Rattle.lock_io.specs.Whole.{AddsFront, TakesFront};
-ghost use Rattle.lock_model.specs.Limits.{most_bytes};
 ghost use Rattle.lock_model.specs.Operations.{IsProper};
-ghost use Rattle.lock_top.specs.Calls.{ReadsBytes, TellsFaults, TellsForms, WritesAll, WritesOutput};
-ghost use Rattle.lock_top.specs.Output.{has_text, IsOutputOfPlan, IsOutputSaid, tells_of_reading, TookTooMany, writes, Wrote};
+ghost use Rattle.lock_top.specs.Calls.{TellsForms, WritesAll, WritesOutput};
+ghost use Rattle.lock_top.specs.Output.{has_text, IsOutputOfPlan, IsOutputSaid};
+ghost use Rattle.top_ends.specs.Calls.{ReadsBytes, TellsFaults};
 
 use command_line::{Words, WordsError, read_words};
 use complaints::Status;
 use lock_history::print_fault;
-use lock_io::{ReadAllError, Sink, Source, read_all, write_all};
+use lock_io::{Sink, Source};
 use lock_model::Plan;
-use lock_model::limits::SCRIPT_BYTES;
 use script_read::{ReadError, read_script};
 use std::alloc::{AllocError, Global};
+use top_ends::{read_bytes, write_text};
 
 /// Reads the words, and the source to its end, and writes the text that the command makes of the plan. It takes memory
 /// until the text is made, and none from then on.
@@ -63,26 +61,6 @@ pub fn serve<S: Source, K: Sink, F: FnOnce(Words, Plan) -> Result<(Status, Vec<u
     write_text(sink, status, &text)
 }
 
-// All bytes of the source, or the status that tells why they weren't read.
-fn read_bytes<S: Source>(alloc: Global, source: &mut S) -> Result<Vec<u8>, Status>
-    ensures bytes { IfOk result (λ text.
-        IfSome (S.remaining source.old) (λ bytes. text.items ≡ bytes)) }
-    ensures read_whole { OnOk result (IsAtEnd (S.remaining source.new)) }
-    ensures statuses { IfErr result (λ status. tells_of_reading status ≡ true) }
-    ensures reads_at_most { TakesFront (S.remaining source.old) (S.remaining source.new) (most_bytes + 1) }
-    ensures too_big { IfSome (S.remaining source.old) (λ bytes. IsErrOf result Status.TooBig
-        ↔ TookTooMany bytes (S.remaining source.new)) }
-    ensures fault { IsErrOf result Status.ReadFault → Rose (S.faults source.old) (S.faults source.new) }
-    ensures no_fault { ¬ (IsErrOf result Status.ReadFault) → S.faults source.new ≡ S.faults source.old }
-{
-    match read_all(alloc, source, SCRIPT_BYTES) {
-        Ok(bytes) => Ok(bytes),
-        Err(ReadAllError::Memory(_)) => Err(Status::NoMemory),
-        Err(ReadAllError::Fault(_)) => Err(Status::ReadFault),
-        Err(ReadAllError::TooBig) => Err(Status::TooBig),
-    }
-}
-
 // The status and the text of the bytes: those that the command makes of their plan, or the line of their first fault.
 fn answer<F: FnOnce(Words, Plan) -> Result<(Status, Vec<u8>), AllocError>>(
     alloc: Global,
@@ -105,20 +83,5 @@ fn answer<F: FnOnce(Words, Plan) -> Result<(Status, Vec<u8>), AllocError>>(
             Ok((Status::BadScript, text))
         }
         Err(ReadError::Memory(e)) => Err(e),
-    }
-}
-
-// Writes the text, and answers its status, or that the sink failed.
-fn write_text<K: Sink>(sink: &mut K, status: Status, text: &[u8]) -> Status
-    requires { has_text status ≡ true }
-    ensures status { (result ≡ status) ⊎ (result ≡ Status.WriteFault) }
-    ensures written { has_text result ≡ true → Wrote (K.contents sink.old) (K.contents sink.new) text.now }
-    ensures front { AddsFront (K.contents sink.old) (K.contents sink.new) text.now }
-    ensures fault { result ≡ Status.WriteFault → Rose (K.faults sink.old) (K.faults sink.new) }
-    ensures no_fault { ¬ (result ≡ Status.WriteFault) → K.faults sink.new ≡ K.faults sink.old }
-{
-    match write_all(sink, text) {
-        Ok(()) => status,
-        Err(_) => Status::WriteFault,
     }
 }

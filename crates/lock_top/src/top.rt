@@ -15,8 +15,9 @@ ghost use Rattle.lock_io.specs.Faults.{Rose};
 ghost use Rattle.lock_model.specs.Operations.{IsProper};
 ghost use Rattle.lock_model.specs.Script.{IsAccepted};
 ghost use Rattle.lock_model.specs.declared.plan.Plan.{Plan};
-ghost use Rattle.lock_top.specs.Calls.{ReadsBytes, TellsFaults, TellsForms, WritesAll, WritesOutput};
+ghost use Rattle.lock_top.specs.Calls.{TellsForms, WritesAll, WritesOutput};
 ghost use Rattle.lock_top.specs.Output.{IsLawfulRun};
+ghost use Rattle.top_ends.specs.Calls.{ReadsBytes, TellsFaults};
 
 use crate::answer::{by_threads, plainly};
 use crate::serving::serve;

@@ -6,44 +6,23 @@
 
 mod copied;
 
-use complaints::{complaint, fixed_complaint};
+use complaints::say;
 use copied::CopiedSink;
 use lock_io::{OpenGate, StdSink, StdSource};
-use lock_top::{Status, lockrun};
-use std::io::Write;
+use lock_top::{LOCKRUN, lockrun};
+use std::io;
 use std::process::ExitCode;
-use std::{env, io};
+use top_ends::given_words;
 
 fn main(rt: HostRuntime) -> ExitCode {
     let mut sink = CopiedSink::new(rt.alloc(), StdSink::new(io::writer(&rt)));
-    let status = match words_of(&rt) {
+    let status = match given_words(&rt) {
         Ok(words) => {
             let mut source = StdSource::new(rt.reader());
             lockrun(&rt, rt.alloc(), &words, &mut source, &mut sink, &OpenGate)
         }
         Err(status) => status,
     };
-    say(&rt, status, sink.copy());
+    say(rt.alloc(), &mut rt.stderr(), LOCKRUN, status, sink.copy());
     ExitCode::from(status as u8)
-}
-
-// The words of the command line. One that is no text is no word of a form.
-fn words_of(rt: &HostRuntime) -> Result<Vec<String>, Status> {
-    let words = match env::args(rt) {
-        Ok(words) => words,
-        Err(e) if e.kind() == io::ErrorKind::OutOfMemory => return Err(Status::NoMemory),
-        Err(_) => return Err(Status::Usage),
-    };
-    match words.skip(1).collect::<Vec<String>>(rt.alloc()) {
-        Ok(words) => Ok(words),
-        Err(_) => Err(Status::NoMemory),
-    }
-}
-
-// The sentence on standard error. Nobody may listen there, which changes nothing.
-fn say(rt: &HostRuntime, status: Status, text: &[u8]) {
-    let _ = match complaint(rt.alloc(), status, text) {
-        Ok(line) => rt.stderr().write_all(&line),
-        Err(_) => rt.stderr().write_all(fixed_complaint(status).as_bytes()),
-    };
 }

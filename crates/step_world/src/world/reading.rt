@@ -31,13 +31,15 @@ use std::alloc::{AllocError, Global};
 use wait_objects::{Object, Own};
 
 impl<'p> World<'p> {
-    /// The entries so far, in order of their tickets.
+    /// The entries so far, in order of their tickets. They are fewer than 2^32.
     ///
     /// ```
     /// let newest = world.history().last();
     /// ```
     pub fn history(&self) -> &[Entry]
-        ensures { (r : Run) → Represents self.now r → result.now ≡ reverse r.state.history }
+        ensures history { (r : Run) → Represents self.now r
+            → result.now ≡ reverse r.state.history }
+        ensures few { length result.now < 2 ^ 32 }
     {
         self.machine.log.as_slice()
     }

@@ -1,12 +1,12 @@
 use Rattle.std.proofs.Common.{rules, ◌≡◌, ◌∙◌, ◌++◌, codes, ap, sym, refl, true, false, cond}
 use Rattle.lock_model.specs.Script.Lines.{lines_of}
 use Rattle.complaints.specs.Complaints.{is_reversal, reversal_said, reversals_said}
-use Rattle.complaints.proofs.Appends.{ended, three, two}
+use Rattle.complaints.proofs.Appends.{done, three, two}
 use Rattle.complaints.proofs.sentence.push_reversed.Goals as goal
 
 pub loop-line-init : goal.loop-line-init
 loop-line-init c =
-    sym (two c.args.out.now.items (codes "lockrun: reversed") (reversals_said (lines_of c.args.text.now) (codes ": ")) c.in_ok-extend_from_slice.ensures.items refl)
+    sym (two c.args.out.now.items (codes "reversed") (reversals_said (lines_of c.args.text.now) (codes ": ")) c.in_ok-extend_from_slice.ensures.items refl)
 
 pub loop-line-preserved-in_ok-push_reversal : goal.loop-line-preserved-in_ok-push_reversal
 loop-line-preserved-in_ok-push_reversal c =
@@ -32,6 +32,5 @@ loop-line-preserved c =
 pub returns : goal.returns
 returns c =
     let text = c.args.text.now in
-    ended c.args.out.now.items (codes "lockrun: reversed") (reversals_said (lines_of text) (codes ": ")) (codes "\n") c.loop-line.out.items
+    done c.args.out.now.items (codes "reversed" ++ reversals_said (lines_of text) (codes ": ")) c.loop-line.out.items
     (c.loop-line.invariant ∙ ap (λ ls. c.loop-line.out.items ++ reversals_said ls c.loop-line.between.now) c.in_default.ensures.lines)
-    c.in_ok-extend_from_slice-3.ensures.items

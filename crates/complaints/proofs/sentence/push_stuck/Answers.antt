@@ -2,12 +2,12 @@ use Rattle.std.proofs.Common.{◌≡◌, ◌∙◌, ◌++◌, codes, ap, sym, re
 use Rattle.std.specs.Prelude.{option_map}
 use Rattle.lock_model.specs.Script.Lines.{lines_of}
 use Rattle.complaints.specs.Complaints.{wait_of, wait_then, waits_said}
-use Rattle.complaints.proofs.Appends.{ended, five, two}
+use Rattle.complaints.proofs.Appends.{done, five, two}
 use Rattle.complaints.proofs.sentence.push_stuck.Goals as goal
 
 pub loop-line-init : goal.loop-line-init
 loop-line-init c =
-    sym (two c.args.out.now.items (codes "lockrun: stuck") (waits_said c.args.text.now (lines_of c.args.text.now) (codes ": ") (codes " waits for "))
+    sym (two c.args.out.now.items (codes "stuck") (waits_said c.args.text.now (lines_of c.args.text.now) (codes ": ") (codes " waits for "))
     c.in_ok-extend_from_slice.ensures.items refl)
 
 pub loop-line-preserved-in_ok-extend_from_slice-5 :
@@ -43,6 +43,5 @@ loop-line-preserved c =
 pub returns : goal.returns
 returns c =
     let text = c.args.text.now in
-    ended c.args.out.now.items (codes "lockrun: stuck") (waits_said text (lines_of text) (codes ": ") (codes " waits for ")) (codes "\n") c.loop-line.out.items
+    done c.args.out.now.items (codes "stuck" ++ waits_said text (lines_of text) (codes ": ") (codes " waits for ")) c.loop-line.out.items
     (c.loop-line.invariant ∙ ap (λ ls. c.loop-line.out.items ++ waits_said text ls c.loop-line.between.now c.loop-line.verb.now) c.in_default.ensures.lines)
-    c.in_ok-extend_from_slice-6.ensures.items

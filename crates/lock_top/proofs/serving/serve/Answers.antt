@@ -1,6 +1,6 @@
 use Rattle.std.proofs.Common.{refl}
 use Rattle.complaints.specs.declared.status.Status.TheVariants.{NoMemory, Usage}
-use Rattle.lock_top.proofs.Statuses.{unread}
+use Rattle.top_ends.proofs.Takes.{unread}
 use Rattle.lock_top.proofs.serving.serve.Goals as goal
 
 pub returns-in-Err-Usage-clause-reads : goal.returns-in-Err-Usage-clause-reads

@@ -1,6 +1,7 @@
 use Rattle.std.proofs.Common.{refl}
 use Rattle.complaints.specs.declared.status.Status.TheVariants.{NoMemory}
-use Rattle.lock_top.proofs.Statuses.{accepted_lawful, unread}
+use Rattle.lock_top.proofs.Outcome.{accepted_lawful}
+use Rattle.top_ends.proofs.Takes.{unread}
 use Rattle.lock_top.proofs.top.lockrun.Goals as goal
 
 pub returns-in-Ok-true-clause-lawful : goal.returns-in-Ok-true-clause-lawful

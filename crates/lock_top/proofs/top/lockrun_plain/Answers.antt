@@ -1,4 +1,4 @@
-use Rattle.lock_top.proofs.Statuses.{accepted_lawful}
+use Rattle.lock_top.proofs.Outcome.{accepted_lawful}
 use Rattle.lock_top.proofs.top.lockrun_plain.Goals as goal
 
 pub returns-clause-lawful : goal.returns-clause-lawful

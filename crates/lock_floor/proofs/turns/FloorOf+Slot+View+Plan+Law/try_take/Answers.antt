@@ -1,4 +1,4 @@
-use Rattle.std.proofs.Common.{◌≡◌, ◌≢◌, suc, eqb, eq-eqb, true, false, Some, None, [], ◌∷◌, sym, ap, ◌∙◌, subst}
+use Rattle.std.proofs.Common.{◌≡◌, ◌≢◌, ℕ, suc, eqb, eq-eqb, true, false, Some, None, [], ◌∷◌, sym, ap, ◌∙◌, subst}
 use Rattle.std.proofs.lemmas.Bool.{eqb-true}
 use prog.Atomic.{either}
 use Rattle.atomic_table.specs.Table.{Me, Allows}
@@ -12,7 +12,7 @@ use Rattle.floor_table.specs.Steps.{MayMake}
 use Rattle.floor_table.specs.Views.{Knowledge}
 use Rattle.lock_floor.specs.Floors.{Floor, Pass}
 use Rattle.lock_floor.specs.Ties.{IsTied}
-use Rattle.lock_floor.specs.Turns.{Takes}
+use Rattle.lock_floor.specs.Turns.{FindsOut, Takes}
 use Rattle.lock_floor.proofs.Taking.{Taken, take_allowed}
 use Rattle.lock_floor.proofs.Tied.{tied_taken}
 use Rattle.lock_floor.proofs.turns.FloorOf+Slot+View+Plan+Law.try_take.Goals as goal
@@ -51,7 +51,15 @@ returns-clause-out c hit i place =
     let taken = c.take_turn.ensures.told.0 (eqb-true c.take_turn.result 0 hit) i at in
     subst (λ (z : Floor Plan × Pass Knowledge). Takes z.0.plan i j z.1.view c.take_turn.new.seat.me.0) (λ i. (c.self.view_is i, c.pass.view_is i)) taken.0
 
+-- a try that failed found another number than 0
+found_other : (n : ℕ) → eqb n 0 ≡ false → n ≢ 0
+found_other n missed e = absurd (let z : true ≡ false = sym (eq-eqb n 0 e) ∙ missed in cc)
+
 pub returns-clause-left : goal.returns-clause-left
 returns-clause-left c missed =
-    let ne : c.take_turn.result ≢ 0 = λ e. absurd (let z : true ≡ false = sym (eq-eqb c.take_turn.result 0 e) ∙ missed in cc) in
-    ap (λ (m : Me Slot Knowledge). m.0) (c.take_turn.ensures.told.1 ne) ∙ ap (λ (p : Pass Knowledge). p.view) c.pass.view_is
+    ap (λ (m : Me Slot Knowledge). m.0) (c.take_turn.ensures.told.1 (found_other c.take_turn.result missed)).0 ∙ ap (λ (p : Pass Knowledge). p.view) c.pass.view_is
+
+pub returns-clause-elsewhere : goal.returns-clause-elsewhere
+returns-clause-elsewhere c missed i place =
+    let at = subst (λ (f : Floor Plan). slot_of f.plan i ≡ Some c.args.slot) (sym c.self.view_is) place in
+    subst (λ (z : Floor Plan × Pass Knowledge). FindsOut z.0.plan i z.1.view) (λ i. (c.self.view_is i, c.pass.view_is i)) ((c.take_turn.ensures.told.1 (found_other c.take_turn.result missed)).1 i at)

@@ -1,0 +1,3 @@
+mod Escapes
+pub mod JsonReadings
+pub mod Readings

@@ -1,0 +1,37 @@
+-- How text is written as a JSON string.
+use Rattle.std.specs.Prelude.{ℕ, ◌+◌, ◌-◌, ◌/◌, ◌%◌, ◌++◌, Bool, true, false, not, ◌||◌, ◌==◌, nat_lt, if◌then◌else◌, IsTrue, List, [], ◌∷◌, codes, flat_map}
+use Rattle.std.specs.List.{list_all}
+
+-- a hexadecimal digit
+abbrev pub hex_digit : ℕ → ℕ
+hex_digit n = if nat_lt n 10 then 48 + n else 97 + (n - 10)
+
+-- a byte by its number
+abbrev pub by_number : ℕ → List ℕ
+by_number b = codes "\\u00" ++ hex_digit (b / 16) ∷ hex_digit (b % 16) ∷ []
+
+-- a byte by itself: the quote and the backslash behind a backslash, control bytes and `<` by their numbers
+abbrev pub json_byte : ℕ → List ℕ
+json_byte b =
+    if b == 34 then codes "\\\"" else
+    if b == 92 then codes "\\\\" else
+    if nat_lt b 32 || b == 60 then by_number b else b ∷ []
+
+-- the string, with its quotes
+abbrev pub json_string : List ℕ → List ℕ
+json_string text = 34 ∷ flat_map json_byte text ++ 34 ∷ []
+
+-- whether a reader that is within a string, and perhaps behind a backslash, is still within it behind these bytes, and
+-- behind no backslash
+abbrev pub is_within : Bool → List ℕ → Bool
+is_within behind [] = not behind
+is_within true (b ∷ bs) = is_within false bs
+is_within false (b ∷ bs) = if b == 34 then false else is_within (b == 92) bs
+
+-- the string ends at its last quote and no earlier
+abbrev pub EndsAtItsQuote : List ℕ → Type 0
+EndsAtItsQuote text = IsTrue (is_within false (flat_map json_byte text))
+
+-- `<` stands nowhere in it, so no tag of the page round it does
+abbrev pub HasNoTag : List ℕ → Type 0
+HasNoTag bytes = IsTrue (list_all (λ b. not (b == 60)) bytes)

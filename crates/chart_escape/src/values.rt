@@ -1,0 +1,133 @@
+//! JSON, value by value: pieces pushed where a reader of JSON is at a value, or behind an item of an array.
+
+ghost use Rattle.std.specs.Prelude.{◌≡◌, ◌==◌, ◌∷◌, true, false, OnOk};
+ghost use Rattle.chart_escape.specs.JsonReader.{at, behind_items, behind_number, behind_piece, behind_pieces, outer, read, AddsItem, AddsItems, AddsValue, AreBehind, AreItems, AreValue, AtValue, BeginMember, BeginObject, BehindValue, EndObject, IsAtValue, IsBehindItem, IsInObject, Object};
+
+use crate::json::push_json;
+use crate::markup::push_text;
+use crate::piece::Piece;
+use lock_model::push_digits;
+use std::alloc::AllocError;
+
+/// Pushes pieces one behind the other, and tells where a reader of JSON is behind them. It fails where memory runs out.
+///
+/// ```
+/// push_tokens(&mut out, &[Piece::Own("{\"title\":"), Piece::Json(title)])?;
+/// ```
+pub fn push_tokens(out: &mut Vec<u8>, pieces: &[Piece<'_>]) -> Result<(), AllocError>
+    ensures { OnOk result (read out.new.items ≡ behind_pieces (read out.old.items) pieces.now) }
+{
+    for piece in pieces {
+        push_token(out, *piece)?;
+    }
+    Ok(())
+}
+
+/// The same for pieces that are one whole value, where one may come.
+pub fn push_value(out: &mut Vec<u8>, pieces: &[Piece<'_>]) -> Result<(), AllocError>
+    requires at { IsAtValue out.old.items }
+    requires whole { AreValue pieces.now }
+    ensures { OnOk result (AddsValue out.old.items out.new.items) }
+{
+    push_tokens(out, pieces)
+}
+
+/// The same for pieces that are whole items of an array, each with a comma before it, behind another item.
+pub fn push_items(out: &mut Vec<u8>, pieces: &[Piece<'_>]) -> Result<(), AllocError>
+    requires behind { IsBehindItem out.old.items }
+    requires whole { AreItems pieces.now }
+    ensures { OnOk result (AddsItems out.old.items out.new.items) }
+{
+    push_tokens(out, pieces)
+}
+
+/// Begins an array, where a value may come.
+pub fn begin_array(out: &mut Vec<u8>) -> Result<(), AllocError>
+    requires { IsAtValue out.old.items }
+    ensures { OnOk result (read out.new.items ≡ behind_items 0 (read out.old.items).opens) }
+{
+    push_tokens(out, &[Piece::Own("[")])
+}
+
+/// Begins the item of an array behind `i` others: with a comma, but for the first, and on a line of its own.
+pub fn begin_item(out: &mut Vec<u8>, i: usize) -> Result<(), AllocError>
+    requires { AreBehind i out.old.items }
+    ensures { OnOk result (read out.new.items
+        ≡ at (AtValue (i == 0)) (read out.old.items).opens) }
+{
+    if i == 0 {
+        push_tokens(out, &[Piece::Own("\n")])
+    } else {
+        push_tokens(out, &[Piece::Own(",\n")])
+    }
+}
+
+/// Pushes pieces that are the item of an array behind `i` others.
+#[tactic(auto, using(crate::proofs::JsonReadings::item_more))]
+pub fn push_item(out: &mut Vec<u8>, i: usize, pieces: &[Piece<'_>]) -> Result<(), AllocError>
+    requires behind { AreBehind i out.old.items }
+    requires whole { AreValue pieces.now }
+    ensures { OnOk result (AddsItem i out.old.items out.new.items) }
+{
+    begin_item(out, i)?;
+    push_value(out, pieces)
+}
+
+/// Ends an array of `n` items.
+pub fn end_array(out: &mut Vec<u8>, n: usize) -> Result<(), AllocError>
+    requires { AreBehind n out.old.items }
+    ensures { OnOk result (read out.new.items
+        ≡ at BehindValue (outer (read out.old.items).opens)) }
+{
+    push_tokens(out, &[Piece::Own("]")])
+}
+
+/// Pushes pieces that begin an object, and its first member up to the value, where a value may come.
+pub fn begin_object(out: &mut Vec<u8>, pieces: &[Piece<'_>]) -> Result<(), AllocError>
+    requires at { IsAtValue out.old.items }
+    requires begin { BeginObject pieces.now }
+    ensures { OnOk result (read out.new.items
+        ≡ at (AtValue false) (Object ∷ (read out.old.items).opens)) }
+{
+    push_tokens(out, pieces)
+}
+
+/// Pushes pieces that begin another member of an object, up to the value.
+pub fn begin_member(out: &mut Vec<u8>, pieces: &[Piece<'_>]) -> Result<(), AllocError>
+    requires within { IsInObject out.old.items }
+    requires begin { BeginMember pieces.now }
+    ensures { OnOk result (read out.new.items ≡ at (AtValue false) (read out.old.items).opens) }
+{
+    push_tokens(out, pieces)
+}
+
+/// Pushes pieces that end an object.
+pub fn end_object(out: &mut Vec<u8>, pieces: &[Piece<'_>]) -> Result<(), AllocError>
+    requires within { IsInObject out.old.items }
+    requires end { EndObject pieces.now }
+    ensures { OnOk result (read out.new.items
+        ≡ at BehindValue (outer (read out.old.items).opens)) }
+{
+    push_tokens(out, pieces)
+}
+
+#[tactic(auto, using(crate::proofs::JsonReadings::read_on, crate::proofs::JsonReadings::text_read_on))]
+fn push_token(out: &mut Vec<u8>, piece: Piece<'_>) -> Result<(), AllocError>
+    ensures { OnOk result (read out.new.items ≡ behind_piece (read out.old.items) piece.entry) }
+{
+    match piece {
+        Piece::Own(text) => out.extend_from_slice(text.as_bytes()),
+        Piece::Number(n) | Piece::Optional(Some(n)) => push_count(out, n),
+        Piece::Optional(None) => Ok(()),
+        Piece::Text(text) => push_text(out, text),
+        Piece::Json(text) => push_json(out, text),
+    }
+}
+
+#[tactic(auto, using(crate::proofs::JsonReadings::number_read_on))]
+fn push_count(out: &mut Vec<u8>, n: u64) -> Result<(), AllocError>
+    ensures { OnOk result (read out.new.items
+        ≡ behind_number (read out.old.items).place (read out.old.items).opens n) }
+{
+    push_digits(out, n)
+}

@@ -1,0 +1,14 @@
+use Rattle.std.proofs.Common.{◌≡◌}
+use Rattle.std.proofs.lemmas.Result.{IfOk-weaker}
+use Rattle.chart_html.specs.Page.{page_bytes, IsPage}
+use Rattle.chart_html.proofs.Pages.{are_page}
+use Rattle.chart_html.proofs.document.html.Goals as goal
+
+pub returns : goal.returns
+returns c =
+    IfOk-weaker c.page_of.result
+    (λ page. page.items ≡ page_bytes c.args.title.now c.deref.result.now c.deref-2.result.now)
+    (λ page. IsPage c.args.title.now page.items)
+    (λ page e. are_page c.args.title.now c.deref.result.now c.deref-2.result.now c.in_ok-picture.picture.items c.in_ok-rows.rows.items
+    page.items c.deref.ensures.value c.deref-2.ensures.value c.in_ok-picture.ensures c.in_ok-rows.ensures e)
+    c.page_of.ensures

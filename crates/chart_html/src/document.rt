@@ -1,0 +1,48 @@
+//! The page round the picture.
+ghost use Rattle.std.specs.Prelude.{◌≡◌, IfOk};
+ghost use Rattle.chart_html.specs.Page.{page_bytes, IsPage};
+
+use crate::data::data_of;
+use crate::fixed::{BEGIN, CONTROLS, SCRIPT, STYLE};
+use chart_escape::push_text;
+use chart_layout::Chart;
+use chart_svg::svg;
+use lock_model::Plan;
+use run_rows::Rows;
+use std::alloc::{AllocError, Global};
+
+/// The page of a chart of the plan and of the rows that it shows, with a title and a line below it, either of which may
+/// be empty: an HTML file. Whatever stands in these, no tag of the page is made or broken by it. It fails where memory
+/// runs out.
+///
+/// ```
+/// let page = html(alloc, &plan, &rows, &chart, "A lost wake-up", "")?;
+/// ```
+pub fn html(
+    alloc: Global,
+    plan: &Plan,
+    rows: &Rows,
+    chart: &Chart,
+    title: &str,
+    subtitle: &str,
+) -> Result<Vec<u8>, AllocError>
+    ensures { IfOk result (λ page. IsPage title.now page.items) }
+{
+    let picture = svg(alloc, plan, chart, title, subtitle)?;
+    let rows = data_of(alloc, plan, rows, chart)?;
+    page_of(alloc, title, &picture, &rows)
+}
+
+// The parts one behind the other.
+fn page_of(alloc: Global, title: &str, picture: &[u8], rows: &[u8]) -> Result<Vec<u8>, AllocError>
+    ensures { IfOk result (λ page. page.items ≡ page_bytes title.now picture.now rows.now) }
+{
+    let mut page = Vec::from_slice(alloc, BEGIN.as_bytes())?;
+    push_text(&mut page, title.as_bytes())?;
+    page.extend_from_slice(STYLE.as_bytes())?;
+    page.extend_from_slice(picture)?;
+    page.extend_from_slice(CONTROLS.as_bytes())?;
+    page.extend_from_slice(rows)?;
+    page.extend_from_slice(SCRIPT.as_bytes())?;
+    Ok(page)
+}

@@ -1,0 +1,250 @@
+//! The fixed text of a page: what it looks like, and what it does, by a small script without libraries. Between its four
+//! parts stand the title, the picture and the data.
+
+/// Up to the title.
+pub const BEGIN: &str = "<!doctype html>
+<html lang='en'>
+<head>
+<meta charset='utf-8'>
+<meta name='viewport' content='width=device-width'>
+<title>";
+
+/// Behind the title, up to the picture: what the page looks like.
+pub const STYLE: &str = "</title>
+<style>
+:root{color-scheme:light dark}
+body{margin:0;font-family:system-ui,-apple-system,'Segoe UI',Roboto,'Noto Sans','DejaVu Sans',sans-serif;font-size:13px;color:#1a202c;background:#fff}
+:focus-visible{outline:2px solid #2563eb;outline-offset:1px}
+#picture{overflow:auto;max-height:62vh;border-bottom:1px solid #cbd5e1}
+#picture svg{display:block}
+#cursor{stroke:#2563eb;fill:#2563eb;stroke-width:1.5;opacity:.8}
+#controls{display:flex;gap:8px;align-items:center;padding:10px 24px 4px}
+#controls button{font-size:15px;width:34px;height:30px;border:1px solid #94a3b8;border-radius:5px;background:none;color:inherit;cursor:pointer}
+#row{flex:1;min-width:6em;accent-color:#2563eb}
+#turn{min-width:17em;font-weight:600}
+#said{min-height:1.4em;padding:0 24px;color:#8a4b00;font-weight:600}
+#state{display:flex;flex-wrap:wrap;gap:6px 36px;padding:0 24px 24px}
+#state h2{font-size:13px;color:#64748b;margin:12px 0 4px}
+table{border-collapse:collapse}
+th,td{text-align:left;padding:2px 14px 2px 0;border-bottom:1px solid #e2e8f0;font-weight:400;white-space:nowrap;font-variant-numeric:tabular-nums}
+th{color:#64748b;font-size:11px}
+td.changed,tr.gone td{background:#fdf0d8}
+tr.gone td{color:#64748b}
+@media(prefers-color-scheme:dark){
+:focus-visible{outline-color:#60a5fa}
+body{color:#e2e8f0;background:#0f141c}
+#picture{border-color:#334155}#state h2,th,tr.gone td{color:#94a3b8}th,td{border-color:#233044}
+#row{accent-color:#60a5fa}
+#said{color:#f6ad55}td.changed,tr.gone td{background:#3a2c12}#cursor{stroke:#60a5fa;fill:#60a5fa}
+}
+</style>
+</head>
+<body>
+<div id='picture' role='region' aria-label='picture of the run' tabindex='0'>
+";
+
+/// Behind the picture, up to the data: the slider, its buttons, and the tables.
+pub const CONTROLS: &str = "</div>
+<div id='controls'>
+<button id='play' aria-label='play' title='play and stop: space key'>&#9654;</button>
+<button id='back' aria-label='a turn back' title='a turn back: left arrow'>&#8249;</button>
+<button id='on' aria-label='a turn on' title='a turn on: right arrow'>&#8250;</button>
+<input id='row' type='range' min='0' max='0' value='0' aria-label='turns made'>
+<output id='turn' for='row' aria-live='off'></output>
+</div>
+<div id='said' aria-live='polite'></div>
+<div id='state'>
+<section><h2>Threads</h2><table id='threads' aria-label='threads'></table></section>
+<section><h2>Locks</h2><table id='locks' aria-label='locks'></table></section>
+<section><h2>Queues</h2><table id='queues' aria-label='queues'></table></section>
+<section><h2>Tables</h2><table id='tables' aria-label='tables'></table></section>
+</div>
+<script type='application/json' id='rows'>
+";
+
+/// Behind the data: what the page does with it, and its end.
+pub const SCRIPT: &str = "</script>
+<script>
+'use strict';
+const data = JSON.parse(document.getElementById('rows').textContent);
+const slider = document.getElementById('row');
+const box = document.getElementById('picture');
+const picture = box.querySelector('svg');
+const place = name => Number(picture.dataset[name]);
+const cursor = document.createElementNS('http://www.w3.org/2000/svg', 'path');
+cursor.id = 'cursor';
+picture.append(cursor);
+const queues = data.queues.map(change => [change.row, change.lines]);
+slider.min = data.first;
+slider.max = data.last;
+
+// How many of a list's entries, which ascend, come up to n.
+function upTo(list, n) {
+  let low = 0, high = list.length;
+  while (low < high) {
+    const middle = (low + high) >> 1;
+    if (list[middle][0] <= n) low = middle + 1; else high = middle;
+  }
+  return low;
+}
+// The value of a track in a row: that of the last change up to it.
+const at = (track, row) => track[upTo(track, row) - 1][1];
+// The entry of just that turn, if there is one.
+function ofTurn(list, turn) {
+  const entry = list[upTo(list, turn) - 1];
+  return entry && entry[0] === turn ? entry : null;
+}
+const thread = t => data.threads[t].name;
+const names = list => list.join(', ') || '-';
+const waiters = list => names(list.map(w => w[0] + '@' + w[1]));
+
+// What a thread does, in the words of the bars.
+function stateOf(t, row) {
+  const on = at(t.on, row);
+  if (at(t.stands, row)) return at(t.stands, row);
+  if (at(t.wait, row) === 'woken') return 'woken';
+  if (on) return 'taken off ' + on;
+  return row >= t.done ? 'done' : 'runs';
+}
+function holdsOf(t, row) {
+  return names(t.held.map((track, l) => [at(track, row), data.locks[l].name])
+    .filter(h => h[0]).map(h => h[1] + (h[0] === 's' ? ' (shared)' : '')));
+}
+
+// The holder that a lock word shows: bit 2 says that one thread owns the lock, else the bits above count sharers.
+function holderOf(word) {
+  const n = Math.floor(word / 8);
+  if (word & 4) return 'held by ' + thread(n);
+  return n ? 'shared by ' + n : 'free';
+}
+function shownOf(word) {
+  return names([word & 1 ? 'exclusive' : '', word & 2 ? 'shared' : ''].filter(side => side));
+}
+function tablesAt(row) {
+  const tables = new Map();
+  for (const [, lock, key, adds, value] of data.edits.slice(0, upTo(data.edits, row))) {
+    const name = data.locks[lock].name + ' ' + key;
+    const before = adds ? BigInt(tables.get(name) || 0) : 0n;
+    tables.set(name, BigInt.asUintN(64, before + BigInt(value)).toString());
+  }
+  return [...tables].map(([name, value]) => [...name.split(' '), value]);
+}
+const heads = {
+  threads: ['thread', 'base', 'runs as', 'state', 'walk at', 'holds'],
+  locks: ['lock', 'kind', 'word', 'holder', 'waiters shown'],
+  queues: ['queue', 'slot', 'head', 'free list', 'exclusive', 'shared'],
+  tables: ['lock', 'key', 'value'],
+};
+function rowsOf(row) {
+  return {
+    threads: data.threads.map(t => [t.name, at(t.base, row), at(t.runs, row), stateOf(t, row),
+      at(t.walk, row) || '-', holdsOf(t, row)]),
+    locks: data.locks.map(l => [l.name, l.kind, at(l.word, row), holderOf(at(l.word, row)), shownOf(at(l.word, row))]),
+    queues: at(queues, row).map(q => [q.name, q.slot, q.head, names(q.free), waiters(q.excl), waiters(q.shared)]),
+    tables: tablesAt(row),
+  };
+}
+
+// A line of a table: its head, or a row with the same row before the last turn, or one that the last turn took away.
+function lineOf(cells, tag, before) {
+  const line = document.createElement('tr');
+  cells.forEach((cell, i) => {
+    const td = document.createElement(tag);
+    const text = before === 'gone' ? td.appendChild(document.createElement('del')) : td;
+    text.textContent = cell;
+    if (tag === 'th') td.scope = 'col';
+    else if (before !== 'gone' && (!before || before[i] !== cell)) td.className = 'changed';
+    line.append(td);
+  });
+  if (before === 'gone') line.className = 'gone';
+  return line;
+}
+// Fills a table. What the last turn changed is marked, and what it took away is struck out where it was.
+function fill(id, rows, rowsBefore) {
+  const key = r => id === 'tables' ? r[0] + ' ' + r[1] : r[0];
+  const now = new Set(rows.map(key)), before = new Map(rowsBefore.map(r => [key(r), r]));
+  const lines = [lineOf(heads[id], 'th')];
+  let placed = 0;
+  const placeUpTo = last => {
+    while (placed < rows.length) {
+      const r = rows[placed++];
+      lines.push(lineOf(r, 'td', before.get(key(r))));
+      if (key(r) === last) return;
+    }
+  };
+  for (const r of rowsBefore) {
+    if (now.has(key(r))) placeUpTo(key(r)); else lines.push(lineOf(r, 'td', 'gone'));
+  }
+  placeUpTo(null);
+  document.getElementById(id).replaceChildren(...lines);
+}
+
+// Fits the picture into the window where its words stay readable; else it scrolls.
+function fit() {
+  const width = Number(picture.getAttribute('width')), part = box.clientWidth / width;
+  picture.style.width = (part < 0.6 || part > 1 ? width : Math.floor(box.clientWidth)) + 'px';
+  picture.style.height = 'auto';
+}
+function keepInView(x) {
+  const at = x * picture.clientWidth / Number(picture.getAttribute('width'));
+  if (at < box.scrollLeft + 40 || at > box.scrollLeft + box.clientWidth - 60) box.scrollLeft = at - box.clientWidth / 3;
+}
+function show() {
+  const row = Number(slider.value), turn = row - 1, isFirst = row === data.first;
+  const now = rowsOf(row), before = isFirst ? now : rowsOf(turn);
+  for (const id of Object.keys(heads)) fill(id, now[id], before[id]);
+  const mark = ofTurn(data.marks, turn), said = ofTurn(data.said, turn);
+  const text = isFirst ? 'before turn ' + row
+    : 'turn ' + turn + (mark ? ' \\u00b7 ' + thread(mark[1]) + ': ' + mark[2] : '');
+  document.getElementById('turn').textContent = text;
+  slider.setAttribute('aria-valuetext', text);
+  document.getElementById('said').textContent = said && !isFirst ? said[1] : '';
+  const x = place('left') + (isFirst ? 0 : (turn - data.first) * place('column') + Math.floor(place('column') / 2));
+  const top = place('top');
+  cursor.setAttribute('d', 'M' + (x - 5) + ' ' + (top - 9) + 'h10l-5 8zM' + x + ' ' + top + 'V' + place('bottom'));
+  keepInView(x);
+}
+function move(by) {
+  slider.value = Number(slider.value) + by;
+  show();
+}
+let playing = null;
+function play() {
+  const button = document.getElementById('play');
+  if (playing === null) {
+    if (slider.value === slider.max) move(data.first - data.last);
+    playing = setInterval(() => { if (slider.value === slider.max) play(); else move(1); }, 700);
+  } else {
+    clearInterval(playing);
+    playing = null;
+  }
+  button.textContent = playing === null ? '\\u25b6' : '\\u23f8';
+  button.setAttribute('aria-label', playing === null ? 'play' : 'stop');
+}
+// Opens the row that the address names, or else the first.
+function openRow() {
+  const row = new URLSearchParams(location.hash.slice(1)).get('row');
+  slider.value = /^[0-9]+$/.test(row) ? row : data.first;
+  show();
+}
+slider.addEventListener('input', show);
+document.getElementById('play').addEventListener('click', play);
+document.getElementById('back').addEventListener('click', () => move(-1));
+document.getElementById('on').addEventListener('click', () => move(1));
+document.addEventListener('keydown', event => {
+  if (event.altKey || event.ctrlKey || event.metaKey) return;
+  if (event.target === slider && event.key.startsWith('Arrow')) return;
+  if (event.key === 'ArrowLeft') move(-1);
+  else if (event.key === 'ArrowRight') move(1);
+  else if (event.key === ' ' && event.target.tagName !== 'BUTTON') play();
+  else return;
+  event.preventDefault();
+});
+window.addEventListener('resize', () => { fit(); show(); });
+window.addEventListener('hashchange', openRow);
+fit();
+openRow();
+</script>
+</body>
+</html>
+";

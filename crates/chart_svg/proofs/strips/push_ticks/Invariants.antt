@@ -1,0 +1,6 @@
+use Rattle.std.proofs.Common.{◌≡◌}
+use Rattle.chart_escape.specs.Reader.{read}
+use Rattle.chart_svg.proofs.strips.push_ticks.Given as goal
+
+abbrev pub invariant-loop-prio : goal.invariant-loop-prio
+invariant-loop-prio l = read l.out.items ≡ read l.fn.out.items

@@ -1,0 +1,6 @@
+use Rattle.std.proofs.Common.{◌≡◌}
+use Rattle.chart_escape.specs.Reader.{read}
+use Rattle.chart_svg.proofs.strips.push_words_of.Given as goal
+
+abbrev pub invariant-loop-step : goal.invariant-loop-step
+invariant-loop-step l = read l.out.items ≡ read l.fn.out.items

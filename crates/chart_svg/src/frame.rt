@@ -1,0 +1,230 @@
+//! What stands round the lanes: the begin of the file, the names of the threads and the numbers of the turns.
+ghost use Rattle.std.specs.Prelude.{◌≡◌, ◌<◌, ◌∷◌, true, OnOk};
+ghost use Rattle.chart_escape.specs.Reader.{at, is_in_tag, read, AddsElements, Between, InText, IsBetweenTags};
+ghost use Rattle.chart_svg.specs.Tags.{picture};
+
+use crate::page::{Lane, Page};
+use crate::pixels::{Px, width_of};
+use crate::shapes::{Area, push_label, push_line, push_rect, push_words};
+use crate::tags::{Attribute, Class, begin_picture, open_picture, push_attribute, push_view};
+use chart_escape::{Piece, push_elements};
+use chart_words::end_headline;
+use lock_model::{ThreadNo, push_number};
+use std::alloc::{AllocError, Global};
+
+/// Pushes the begin of the file: its size, and what is read aloud of it. Behind it the picture is open.
+pub fn push_begin(
+    out: &mut Vec<u8>,
+    page: &Page<'_>,
+    size: (u32, u32),
+    title: &str,
+    subtitle: &str,
+) -> Result<(), AllocError>
+    requires { IsBetweenTags out.old.items }
+    ensures { OnOk result (read out.new.items
+        ≡ at (InText Between) (picture ∷ (read out.old.items).elements)) }
+{
+    open_picture(out)?;
+    push_size(out, size.0, size.1)?;
+    push_attribute(out, Attribute::Left, page.left.0)?;
+    push_attribute(out, Attribute::Column, page.column)?;
+    push_attribute(out, Attribute::Top, page.top.0)?;
+    push_attribute(out, Attribute::Bottom, page.bottom.0)?;
+    begin_picture(out)?;
+    push_title(out, title)?;
+    push_description(out, subtitle, end_headline(&page.chart.end))
+}
+
+fn push_size(out: &mut Vec<u8>, width: u32, height: u32) -> Result<(), AllocError>
+    requires { is_in_tag (read out.old.items).place ≡ true }
+    ensures { OnOk result (read out.new.items ≡ read out.old.items) }
+{
+    push_attribute(out, Attribute::Width, width)?;
+    push_attribute(out, Attribute::Height, height)?;
+    push_view(out, width, height)
+}
+
+fn push_title(out: &mut Vec<u8>, title: &str) -> Result<(), AllocError>
+    requires { IsBetweenTags out.old.items }
+    ensures { OnOk result (AddsElements out.old.items out.new.items) }
+{
+    push_elements(
+        out,
+        &[
+            Piece::Own("<title>"),
+            Piece::Text(title.as_bytes()),
+            Piece::Own("</title>\n"),
+        ],
+    )
+}
+
+fn push_description<'a>(
+    out: &mut Vec<u8>,
+    subtitle: &'a str,
+    end: &'a str,
+) -> Result<(), AllocError>
+    requires { IsBetweenTags out.old.items }
+    ensures { OnOk result (AddsElements out.old.items out.new.items) }
+{
+    push_elements(
+        out,
+        &[
+            Piece::Own("<desc>"),
+            Piece::Text(subtitle.as_bytes()),
+            Piece::Own(" The run ended so: "),
+            Piece::Text(end.as_bytes()),
+            Piece::Own("</desc>\n"),
+        ],
+    )
+}
+
+/// Pushes the paper, of that size.
+pub fn push_paper(out: &mut Vec<u8>, size: (u32, u32)) -> Result<(), AllocError>
+    requires { IsBetweenTags out.old.items }
+    ensures { OnOk result (AddsElements out.old.items out.new.items) }
+{
+    let all = Area {
+        x: Px(0),
+        y: Px(0),
+        width: size.0,
+        height: size.1,
+    };
+    push_rect(out, Class::of("paper"), all, b"")
+}
+
+/// Pushes the columns with the numbers of the turns, and the names of the lanes.
+pub fn push_frame(alloc: Global, out: &mut Vec<u8>, page: &Page<'_>) -> Result<(), AllocError>
+    requires { IsBetweenTags out.old.items }
+    ensures { OnOk result (AddsElements out.old.items out.new.items) }
+{
+    push_zebra(out, page)?;
+    push_turns(out, page)?;
+    for lane in &page.lanes {
+        push_lane(alloc, out, page, lane)?;
+    }
+    push_hint(out, page)
+}
+
+// Every other column is shaded.
+fn push_zebra(out: &mut Vec<u8>, page: &Page<'_>) -> Result<(), AllocError>
+    requires { IsBetweenTags out.old.items }
+    ensures { OnOk result (AddsElements out.old.items out.new.items) }
+{
+    if !page.has_words {
+        return Ok(());
+    }
+    for turn in page.chart.first..page.chart.last {
+        if turn % 2 == 0 {
+            let area = Area {
+                x: page.turn_at(turn).minus(page.column / 2),
+                y: page.top.minus(6),
+                width: page.column,
+                height: page.bottom.plus(2).from(page.top),
+            };
+            push_rect(out, Class::of("zebra"), area, b"")?;
+        }
+    }
+    Ok(())
+}
+
+// The numbers of the turns, below the lanes.
+fn push_turns(out: &mut Vec<u8>, page: &Page<'_>) -> Result<(), AllocError>
+    requires { IsBetweenTags out.old.items }
+    ensures { OnOk result (AddsElements out.old.items out.new.items) }
+{
+    let y = page.bottom;
+    push_line(out, Class::of("axis"), (page.left, y), (page.right(), y))?;
+    push_words(out, Class::of("gray"), Px(24), y.plus(15), b"turn")?;
+    let every = turns_apart(page);
+    for turn in page.chart.first..page.chart.last {
+        if turn % every == 0 {
+            let x = page.turn_at(turn);
+            push_label(out, Class::of("turn"), x, y.plus(15), u64::from(turn))?;
+        }
+    }
+    Ok(())
+}
+
+// How many turns lie from one number to the next, so that they have room.
+fn turns_apart(page: &Page<'_>) -> u32
+    ensures { 0 < result }
+{
+    let digits = if page.chart.last > 1000 { 4 } else { 3 };
+    if width_of(digits, 70) <= page.column {
+        1
+    } else if page.column >= 14 {
+        5
+    } else {
+        10
+    }
+}
+
+// The name of a lane, its priority, and the line of its thread, to its end.
+fn push_lane(
+    alloc: Global,
+    out: &mut Vec<u8>,
+    page: &Page<'_>,
+    lane: &Lane,
+) -> Result<(), AllocError>
+    requires { IsBetweenTags out.old.items }
+    ensures { OnOk result (AddsElements out.old.items out.new.items) }
+{
+    let t = lane.thread;
+    let name = page.plan.thread_name(t);
+    push_words(out, Class::of("name"), Px(24), lane.line().plus(4), name)?;
+    push_priority(alloc, out, page, t, lane.line().plus(20))?;
+    let end = end_of(page, t);
+    let (y, right) = (lane.line(), end.unwrap_or(page.right()));
+    push_line(out, Class::of("line"), (page.left, y), (right, y))?;
+    if let Some(x) = end {
+        push_line(out, Class::of("stops"), (x, y.minus(11)), (x, y.plus(11)))?;
+        push_words(out, Class::of("gray"), x.plus(5), y.plus(4), b"done")?;
+    }
+    Ok(())
+}
+
+// Below the first lane's priority: which of two goes first.
+fn push_hint(out: &mut Vec<u8>, page: &Page<'_>) -> Result<(), AllocError>
+    requires { IsBetweenTags out.old.items }
+    ensures { OnOk result (AddsElements out.old.items out.new.items) }
+{
+    match page.lanes.first() {
+        Some(lane) => push_words(
+            out,
+            Class::of("hint"),
+            Px(24),
+            lane.line().plus(32),
+            b"smaller goes first",
+        ),
+        None => Ok(()),
+    }
+}
+
+/// Where a thread came to its end, where that is on the page.
+pub fn end_of(page: &Page<'_>, t: ThreadNo) -> Option<Px> {
+    let lane = page.chart.lanes.as_slice().get(usize::from(t.0))?;
+    let row = lane.ended?;
+    if row > page.chart.last {
+        None
+    } else {
+        Some(page.row_begin(row))
+    }
+}
+
+fn push_priority(
+    alloc: Global,
+    out: &mut Vec<u8>,
+    page: &Page<'_>,
+    t: ThreadNo,
+    y: Px,
+) -> Result<(), AllocError>
+    requires { IsBetweenTags out.old.items }
+    ensures { OnOk result (AddsElements out.old.items out.new.items) }
+{
+    let Some(thread) = page.plan.threads.as_slice().get(usize::from(t.0)) else {
+        return Ok(());
+    };
+    let mut words = Vec::from_slice(alloc, b"priority")?;
+    push_number(&mut words, u64::from(thread.base.0))?;
+    push_words(out, Class::of("gray"), Px(24), y, &words)
+}

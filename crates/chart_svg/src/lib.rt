@@ -1,0 +1,33 @@
+//! A chart as one picture: an SVG file that needs nothing beside it. Each thread has a lane, with bars, a strip of
+//! priorities where it was lent to, and a dot with a word for each of its turns; arrows go from lane to lane, and below
+//! stand the sentences and the printed end. Each thing carries its word where it is, so there is no legend.
+//!
+//! - `pixels`: places on the page, and what text takes of it.
+//! - `packing`: which bars of a lane stand below others, so that none overlap.
+//! - `page`: where all columns and lanes are.
+//! - `shapes`: the few elements that a picture is made of.
+//! - `style`: colours and fonts, for light and dark.
+//! - `lines`: text in lines, which are broken at blanks.
+//! - `head`: what stands above the lanes: titles, and how it ended.
+//! - `frame`: what stands round the lanes: names and turns.
+//! - `bars`, `strips`, `arrows`, `marks`: what stands in the lanes.
+//! - `below`: sentences and the printed end.
+#![tactic(auto)]
+
+mod arrows;
+mod bars;
+mod below;
+mod drawing;
+mod frame;
+mod head;
+mod lines;
+mod marks;
+mod packing;
+mod page;
+mod pixels;
+mod shapes;
+mod strips;
+mod style;
+mod tags;
+
+pub use drawing::svg;

@@ -1,0 +1,172 @@
+//! The strips of priorities, in the lanes that were lent to: a line where the thread runs, and the loan as a filled
+//! step. More important is up.
+ghost use Rattle.std.specs.Prelude.{OnOk};
+ghost use Rattle.chart_escape.specs.Reader.{AddsElements, IsBetweenTags};
+
+use crate::frame::end_of;
+use crate::page::{Lane, Page, prios_of};
+use crate::pixels::{Px, width_of};
+use crate::shapes::{Area, begin_path, push_curve, push_label, push_line, push_rect, push_words};
+use crate::tags::Class;
+use chart_layout::Step;
+use lock_model::{Prio, push_digits, push_number};
+use std::alloc::{AllocError, Global};
+
+/// Pushes the strips of all lanes, without the words of their loans.
+pub fn push_strips(alloc: Global, out: &mut Vec<u8>, page: &Page<'_>) -> Result<(), AllocError>
+    requires { IsBetweenTags out.old.items }
+    ensures { OnOk result (AddsElements out.old.items out.new.items) }
+{
+    for lane in &page.lanes {
+        push_strip(alloc, out, page, lane)?;
+    }
+    Ok(())
+}
+
+fn push_strip(
+    alloc: Global,
+    out: &mut Vec<u8>,
+    page: &Page<'_>,
+    lane: &Lane,
+) -> Result<(), AllocError>
+    requires { IsBetweenTags out.old.items }
+    ensures { OnOk result (AddsElements out.old.items out.new.items) }
+{
+    let Some(strip) = lane.strip else {
+        return Ok(());
+    };
+    if page.prio_pitch() < 9 {
+        push_ticks(out, page, strip, &prios_of(alloc, &lane.steps)?)?;
+    } else {
+        push_ticks(out, page, strip, &page.prios)?;
+    }
+    for step in &lane.steps {
+        push_loan(alloc, out, page, strip, *step)?;
+    }
+    push_run(alloc, out, page, strip, &lane.steps)
+}
+
+// Priorities at the left of a strip, where they have room.
+fn push_ticks(
+    out: &mut Vec<u8>,
+    page: &Page<'_>,
+    strip: Px,
+    prios: &[Prio],
+) -> Result<(), AllocError>
+    requires { IsBetweenTags out.old.items }
+    ensures { OnOk result (AddsElements out.old.items out.new.items) }
+{
+    let x = page.left.minus(6);
+    let mut free = strip;
+    for prio in prios {
+        let y = page.prio_at(strip, *prio);
+        if free <= y {
+            push_label(out, Class::of("tick"), x, y.plus(3), u64::from(prio.0))?;
+            free = y.plus(9);
+        }
+    }
+    Ok(())
+}
+
+// The step of a loan.
+fn push_loan(
+    alloc: Global,
+    out: &mut Vec<u8>,
+    page: &Page<'_>,
+    strip: Px,
+    step: Step,
+) -> Result<(), AllocError>
+    requires { IsBetweenTags out.old.items }
+    ensures { OnOk result (AddsElements out.old.items out.new.items) }
+{
+    if step.effective == step.base {
+        return Ok(());
+    }
+    let area = loan_area(page, strip, step);
+    let (right, base) = (area.x.plus(area.width), area.y.plus(area.height));
+    push_rect(out, Class::of("loan"), area, &loan_words(alloc, step)?)?;
+    push_line(out, Class::of("base"), (area.x, base), (right, base))
+}
+
+// From the priority as which it runs, down to its own.
+fn loan_area(page: &Page<'_>, strip: Px, step: Step) -> Area {
+    let begin = page.row_begin(step.first);
+    let y = page.prio_at(strip, step.effective);
+    Area {
+        x: begin,
+        y,
+        width: page.row_end(step.last).from(begin),
+        height: page.prio_at(strip, step.base).from(y),
+    }
+}
+
+fn loan_words(alloc: Global, step: Step) -> Result<Vec<u8>, AllocError> {
+    let mut words = Vec::from_slice(alloc, b"runs as")?;
+    push_number(&mut words, u64::from(step.effective.0))?;
+    Ok(words)
+}
+
+/// Pushes the words of the loans of all lanes.
+pub fn push_strip_words(alloc: Global, out: &mut Vec<u8>, page: &Page<'_>) -> Result<(), AllocError>
+    requires { IsBetweenTags out.old.items }
+    ensures { OnOk result (AddsElements out.old.items out.new.items) }
+{
+    for lane in &page.lanes {
+        if let Some(strip) = lane.strip {
+            push_words_of(alloc, out, page, strip, &lane.steps)?;
+        }
+    }
+    Ok(())
+}
+
+fn push_words_of(
+    alloc: Global,
+    out: &mut Vec<u8>,
+    page: &Page<'_>,
+    strip: Px,
+    steps: &[Step],
+) -> Result<(), AllocError>
+    requires { IsBetweenTags out.old.items }
+    ensures { OnOk result (AddsElements out.old.items out.new.items) }
+{
+    for step in steps {
+        let area = loan_area(page, strip, *step);
+        let words = loan_words(alloc, *step)?;
+        let middle = area.y.plus(area.height / 2).plus(4);
+        if area.height >= 12 && width_of(words.len(), 68) <= area.width {
+            push_words(out, Class::of("as"), area.x.plus(6), middle, &words)?;
+        }
+    }
+    Ok(())
+}
+
+// The line along which the thread runs, to its end.
+fn push_run(
+    alloc: Global,
+    out: &mut Vec<u8>,
+    page: &Page<'_>,
+    strip: Px,
+    steps: &[Step],
+) -> Result<(), AllocError>
+    requires { IsBetweenTags out.old.items }
+    ensures { OnOk result (AddsElements out.old.items out.new.items) }
+{
+    let Some((first, others)) = steps.split_first() else {
+        return Ok(());
+    };
+    let begin = page.prio_at(strip, first.effective);
+    let mut path = begin_path(alloc, page.left, begin)?;
+    for step in others {
+        push_corner(&mut path, b"H", page.row_begin(step.first))?;
+        push_corner(&mut path, b"V", page.prio_at(strip, step.effective))?;
+    }
+    let end = end_of(page, first.thread).unwrap_or(page.right());
+    push_corner(&mut path, b"H", end)?;
+    push_curve(out, Class::of("runs"), &path, b"")
+}
+
+// A piece of the line, to that x or y.
+fn push_corner(path: &mut Vec<u8>, letter: &[u8], to: Px) -> Result<(), AllocError> {
+    path.extend_from_slice(letter)?;
+    push_digits(path, u64::from(to.0))
+}

@@ -1,0 +1,203 @@
+//! Colours and fonts, for light and for dark. Each lock has one hue in all lanes; what waits is hatched in it.
+ghost use Rattle.std.specs.Prelude.{◌≡◌, OnOk};
+ghost use Rattle.chart_escape.specs.Reader.{AddsElements, IsBetweenTags};
+
+use chart_escape::{Piece, push_elements, push_pieces};
+use lock_model::{Plan, push_digits};
+use std::alloc::{AllocError, Global};
+
+// What doesn't depend on the plan.
+const LIGHT: [&str; 42] = [
+    "text{font-family:system-ui,-apple-system,Segoe UI,Roboto,Noto Sans,DejaVu Sans,sans-serif;font-size:12px;fill:#1a202c}",
+    ".title{font-size:20px;font-weight:700}",
+    ".sub{font-size:13px;fill:#64748b}",
+    ".right{font-size:12px;fill:#64748b;text-anchor:end}",
+    ".good,.fair,.bad{font-size:14px;font-weight:700;text-anchor:end}",
+    ".good{fill:#2f855a}.fair{fill:#b7660b}.bad{fill:#c53030}",
+    ".name{font-size:15px;font-weight:700}",
+    ".gray{font-size:10.5px;fill:#64748b}",
+    ".tick{font-size:9px;fill:#94a3b8;text-anchor:end}.hint{font-size:9px;fill:#64748b}",
+    ".turn{font-size:10px;fill:#64748b;text-anchor:middle}",
+    ".verb{font-size:10px;fill:#334155;text-anchor:middle}",
+    ".no{font-size:10px;font-weight:700;fill:#c53030;text-anchor:middle;paint-order:stroke;stroke:#fff;stroke-width:3px}",
+    ".never{font-weight:700;fill:#c53030}",
+    ".head{font-weight:700;fill:#64748b}",
+    ".nr{font-size:11px;fill:#64748b;text-anchor:end}",
+    ".said{font-size:12.5px}",
+    ".end{font-size:12.5px;font-weight:700}",
+    ".mono,.stop{font-family:ui-monospace,SFMono-Regular,Menlo,Consolas,DejaVu Sans Mono,monospace;font-size:11.5px;fill:#475569}",
+    ".stop{fill:#c53030}",
+    ".on{font-size:11.5px;font-weight:600;fill:#fff}",
+    ".wok{font-size:11.5px;font-weight:600;fill:#2f855a}",
+    ".as{font-size:11px;font-weight:600;fill:#8a4b00;paint-order:stroke;stroke:#fdd9a5;stroke-width:3px}",
+    ".lend,.wake,.walk{font-size:11px;font-weight:600;paint-order:stroke;stroke:#fff;stroke-width:3px}",
+    ".lend{fill:#c96a00}.wake{fill:#2f855a}",
+    ".walk{font-size:9px;font-weight:400;fill:#a85800}",
+    ".paper{fill:#fff}.zebra{fill:#f4f8fc}",
+    ".dot{fill:#1a202c}.idle{fill:none;stroke:#94a3b8}",
+    ".cross{fill:none;stroke:#c53030;stroke-width:2.5}",
+    ".line,.stops,.axis{fill:none;stroke:#cbd5e1;stroke-width:1.5}",
+    ".stops{stroke:#64748b}",
+    ".woken{fill:#f0fdf4;stroke:#2f855a;stroke-width:1.2;stroke-dasharray:3 2}",
+    ".walks{fill:#dd7a00}.loan{fill:#fdd9a5}",
+    ".runs,.lends{fill:none;stroke:#dd7a00;stroke-width:2}",
+    ".base{fill:none;stroke:#b8a48a;stroke-dasharray:3 3}",
+    ".wakes{fill:none;stroke:#2f855a;stroke-width:2}",
+    ".block{fill:none;stroke:#475569;stroke-width:1.5;stroke-dasharray:4 3}",
+    ".lendhead{fill:#dd7a00}.wakehead{fill:#2f855a}.blockhead{fill:#475569}",
+    ".lendhead,.wakehead,.blockhead{paint-order:stroke;stroke:#fff;stroke-width:2px}",
+    ".chan{fill:url(#hq);stroke:#64748b;stroke-width:1.3}",
+    ".taken{fill:none;stroke:#64748b;stroke-width:1.3;stroke-dasharray:8 4}",
+    ".onchan{font-size:11.5px;font-weight:600;fill:#334155;paint-order:stroke;stroke:#fff;stroke-width:3px}",
+    ".hatchq{stroke:#94a3b8;stroke-width:2}.halo{paint-order:stroke;stroke:#fff;stroke-width:2.5px}",
+];
+
+// The same in the dark.
+const DARK: [&str; 9] = [
+    "@media(prefers-color-scheme:dark){",
+    "text{fill:#e2e8f0}.sub,.right,.gray,.hint,.turn,.head,.nr{fill:#94a3b8}.verb{fill:#cbd5e1}.mono{fill:#a8b3c4}",
+    ".good,.wake,.wok{fill:#68d391}.fair{fill:#f6ad55}.bad,.no,.never,.stop{fill:#fc8181}",
+    ".lend,.wake,.walk,.no,.onchan,.halo,.lendhead,.wakehead,.blockhead{stroke:#0f141c}.lend,.walk{fill:#f6ad55}.onchan{fill:#cbd5e1}",
+    ".as{fill:#fbd38d;stroke:#5c3a10}.on{fill:#0f141c}.chan,.taken{stroke:#94a3b8}",
+    ".paper{fill:#0f141c}.zebra{fill:#151c27}.dot{fill:#e2e8f0}.cross{stroke:#fc8181}",
+    ".line,.axis{stroke:#334155}.stops{stroke:#94a3b8}.woken{fill:#12261c;stroke:#68d391}",
+    ".wakes{stroke:#68d391}.wakehead{fill:#68d391}",
+    ".loan{fill:#5c3a10}.block{stroke:#94a3b8}.blockhead{fill:#94a3b8}",
+];
+
+// The hues of the locks, by day and by night: none is the green of waking, the orange of lending or the red of
+// refusals.
+const HUES: [(&str, &str); 10] = [
+    ("#2b6cb0", "#63b3ed"),
+    ("#7341c9", "#b794ff"),
+    ("#b3247f", "#ff7ad1"),
+    ("#6f4518", "#c49a6c"),
+    ("#007a87", "#2ad4dc"),
+    ("#5f6b00", "#d4dc6a"),
+    ("#1c2f7c", "#6c82ff"),
+    ("#5a1e5c", "#e4b4ee"),
+    ("#9c5478", "#c28aa3"),
+    ("#3c3c46", "#d4d4dc"),
+];
+
+/// Pushes the style, and the hatchings.
+pub fn push_style(alloc: Global, out: &mut Vec<u8>, plan: &Plan) -> Result<(), AllocError>
+    requires { IsBetweenTags out.old.items }
+    ensures { OnOk result (AddsElements out.old.items out.new.items) }
+{
+    let locks = plan.locks.as_slice().len();
+    let mut rules = Vec::new(alloc);
+    push_lines(&mut rules, &LIGHT)?;
+    for l in 0..locks {
+        push_hue(&mut rules, l as u64, HUES[l % 10].0)?;
+    }
+    push_lines(&mut rules, &DARK)?;
+    for l in 0..locks {
+        push_hue(&mut rules, l as u64, HUES[l % 10].1)?;
+    }
+    rules.extend_from_slice(b"}\n")?;
+    push_rules(out, &rules)?;
+    push_hatch(out, b"q")?;
+    for l in 0..locks {
+        let mut number = Vec::new(alloc);
+        push_digits(&mut number, l as u64)?;
+        push_hatch(out, &number)?;
+    }
+    Ok(())
+}
+
+fn push_lines(rules: &mut Vec<u8>, lines: &[&str]) -> Result<(), AllocError> {
+    for line in lines {
+        rules.extend_from_slice(line.as_bytes())?;
+        rules.push(b'\n')?;
+    }
+    Ok(())
+}
+
+// A lock's colour: held, read, waited for, taken off its queue, the hatching, and the words of a wait.
+fn push_hue(rules: &mut Vec<u8>, l: u64, hue: &'static str) -> Result<(), AllocError> {
+    push_rule(rules, l, b".holds", b"{fill:", hue)?;
+    push_rule(
+        rules,
+        l,
+        b".reads",
+        b"{fill-opacity:.25;stroke-width:1.3;fill:",
+        hue,
+    )?;
+    push_rule(rules, l, b".reads", b"{stroke:", hue)?;
+    push_rule(rules, l, b".waits", b"{stroke-width:1.3;stroke:", hue)?;
+    push_rule(
+        rules,
+        l,
+        b".taken",
+        b"{fill:none;stroke-width:1.3;stroke-dasharray:8 4;stroke:",
+        hue,
+    )?;
+    push_rule(
+        rules,
+        l,
+        b".hatch",
+        b"{stroke-width:2;stroke-opacity:.4;stroke:",
+        hue,
+    )?;
+    push_rule(
+        rules,
+        l,
+        b".of",
+        b"{font-size:11.5px;font-weight:600;fill:",
+        hue,
+    )?;
+    rules.extend_from_slice(b".waits")?;
+    push_digits(rules, l)?;
+    rules.extend_from_slice(b"{fill:url(#h")?;
+    push_digits(rules, l)?;
+    rules.extend_from_slice(b")}\n")
+}
+
+fn push_rule(
+    rules: &mut Vec<u8>,
+    l: u64,
+    class: &[u8],
+    words: &[u8],
+    hue: &'static str,
+) -> Result<(), AllocError> {
+    rules.extend_from_slice(class)?;
+    push_digits(rules, l)?;
+    rules.extend_from_slice(words)?;
+    rules.extend_from_slice(hue.as_bytes())?;
+    rules.extend_from_slice(b"}")
+}
+
+fn push_rules(out: &mut Vec<u8>, rules: &[u8]) -> Result<(), AllocError>
+    requires { IsBetweenTags out.old.items }
+    ensures { OnOk result (AddsElements out.old.items out.new.items) }
+{
+    push_elements(
+        out,
+        &[
+            Piece::Own("<style>\n"),
+            Piece::Text(rules),
+            Piece::Own("</style>\n"),
+        ],
+    )
+}
+
+// The hatching of those who wait for a lock, or who sleep on channels.
+fn push_hatch(out: &mut Vec<u8>, of: &[u8]) -> Result<(), AllocError>
+    requires { IsBetweenTags out.old.items }
+    ensures { OnOk result (AddsElements out.old.items out.new.items) }
+{
+    push_elements(
+        out,
+        &[
+            Piece::Own("<pattern id='h"),
+            Piece::Text(of),
+            Piece::Own(
+                "' width='7' height='7' patternTransform='rotate(45)' patternUnits='userSpaceOnUse'>\
+                <path class='paper' d='M0 0H7V7H0z'/><path class='hatch",
+            ),
+            Piece::Text(of),
+            Piece::Own("' d='M0 0V7'/></pattern>\n"),
+        ],
+    )
+}

@@ -1,0 +1,56 @@
+-- What stands above a picture. It is this project's own.
+use Rattle.std.specs.Prelude.{ℕ, Bool, ◌==◌, ◌++◌, List, [], ◌∷◌, drop, length, decimal, slice_get, Option, Some, None, codes, if◌then◌else◌, unwrap_or}
+use Rattle.std.specs.Option.{option_or}
+use Rattle.std.specs.Str.{is_utf8}
+use Rattle.lock_model.specs.Script.Lines.{lines_of}
+use Rattle.lock_model.specs.declared.plan.Plan.{Plan}
+use Rattle.chart_command.specs.Forms.{Wanted}
+
+abbrev pub Text : Type 0
+Text = List ℕ
+
+-- without the space that stands first
+abbrev pub without_space : Text → Text
+without_space [] = []
+without_space (b ∷ bs) = if b == 32 then bs else b ∷ bs
+
+-- the text of bytes that are one, as those of a script always are
+abbrev pub text_of : Text → Option Text
+text_of bytes = if is_utf8 bytes then Some bytes else None
+
+-- the comment of a line that begins with `#`
+abbrev pub comment_of : Text → Option Text
+comment_of [] = None
+comment_of (b ∷ bs) = if b == 35 then text_of (without_space bs) else None
+
+-- the comment of a line and those of the lines right behind it
+abbrev pub with_comments : Option Text → List Text → List Text
+with_comments None others = []
+with_comments (Some text) others = text ∷ others
+
+abbrev pub comments_of : List Text → List Text
+comments_of [] = []
+comments_of (line ∷ lines) = with_comments (comment_of line) (comments_of lines)
+
+-- the comments of the lines right behind the first one of a script
+abbrev pub head_comments : Text → List Text
+head_comments bytes = comments_of (drop 1 (lines_of bytes))
+
+-- where nobody gave a title
+abbrev pub threads_word : ℕ → Text
+threads_word n = if n == 1 then codes " thread" else codes " threads"
+
+abbrev pub plain_title : Plan → Text
+plain_title plan =
+    codes "A run of " ++ (decimal (length plan.threads) ++ threads_word (length plan.threads))
+
+-- the title that was asked for, or else the script's first comment, or else the plain one
+abbrev pub title_by : Option Text → Text → Text → Text
+title_by asked bytes plain = unwrap_or (option_or asked (slice_get (head_comments bytes) 0)) plain
+
+abbrev pub title_of : Wanted → Text → Plan → Text
+title_of wanted bytes plan = title_by wanted.title bytes (plain_title plan)
+
+-- the line below it is the second comment
+abbrev pub subtitle_of : Text → Text
+subtitle_of bytes = unwrap_or (slice_get (head_comments bytes) 1) []

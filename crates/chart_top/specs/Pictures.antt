@@ -1,0 +1,49 @@
+-- Which text is a picture of a plan, and which belongs to the bytes of a source.
+use Rattle.std.specs.Prelude.{◌≡◌, ℕ, List, length, min}
+use Rattle.chart_command.specs.Forms.{Wanted}
+use Rattle.chart_command.specs.declared.words.Form.{Form}
+use Rattle.chart_command.specs.declared.words.Form.TheVariants.{Html, Svg, Trace}
+use Rattle.chart_escape.specs.JsonReader.{IsJson}
+use Rattle.chart_escape.specs.Reader.{IsWellFormed}
+use Rattle.chart_html.specs.Page.{IsPage}
+use Rattle.chart_layout.specs.declared.layout.Chart.{Chart}
+use Rattle.chart_top.specs.Heading.{Text, subtitle_of, title_of}
+use Rattle.lock_model.specs.Script.{IsAccepted}
+use Rattle.lock_model.specs.declared.plan.Plan.{Plan}
+use Rattle.run_chart.specs.Charts.{Shows}
+use Rattle.run_rows.specs.Rows.{TellsRun}
+use Rattle.run_rows.specs.declared.rows.Rows.{Rows}
+
+-- which texts a renderer makes of the rows and the chart of a plan, under a title and the line below it
+abbrev pub Rendering : Type 1
+Rendering = Form → Plan → Rows → Chart → Text → Text → Text → Type 0
+
+-- what is known of a text under a title, by its form: a picture is well-formed markup, a page is whole round one, and a
+-- trace is JSON
+abbrev pub IsInForm : Form → Text → Text → Type 0
+IsInForm Svg title text = IsWellFormed text
+IsInForm Html title text = IsPage title text
+IsInForm Trace title text = IsJson text
+
+abbrev pub in_forms : Rendering
+in_forms form plan rows chart title subtitle text = IsInForm form title text
+
+-- The text is what the renderer makes of a chart of the plan's scheduled run, with so many chains and at most so many
+-- turns. The chart shows the rows that are wanted; one behind the end of the run counts as that end.
+pub record IsPictureOfPlan (renders : Rendering) (wanted : Wanted) (bytes : Text) (plan : Plan)
+    (text : Text) : Type 0 where
+  pub rows : Rows
+  pub run : TellsRun plan wanted.chains wanted.turns rows
+  pub chart : Chart
+  pub shows : Shows plan chart
+  pub first : chart.first ≡ min wanted.from (length rows.turns)
+  pub last : chart.last ≡ min wanted.to (length rows.turns)
+  pub rendered : renders wanted.form plan rows chart (title_of wanted bytes plan)
+      (subtitle_of bytes) text
+
+-- the bytes are a script, and the text a picture of its plan
+pub record IsPicture (renders : Rendering) (wanted : Wanted) (bytes : Text) (text : Text) : Type 0
+  where
+    pub plan : Plan
+    pub script : IsAccepted bytes plan
+    pub picture : IsPictureOfPlan renders wanted bytes plan text

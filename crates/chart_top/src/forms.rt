@@ -1,0 +1,38 @@
+//! The three forms in which a chart is written.
+ghost use Rattle.std.specs.Prelude.{IfOk};
+ghost use Rattle.chart_top.specs.Pictures.{in_forms};
+
+use crate::heading::Heading;
+use crate::renderer::Renderer;
+use chart_command::Form;
+use chart_html::html;
+use chart_layout::Chart;
+use chart_svg::svg;
+use chart_trace::trace;
+use lock_model::Plan;
+use run_rows::Rows;
+use std::alloc::{AllocError, Global};
+
+/// A picture, a page with a slider, and a trace for a viewer that zooms.
+#[derive(Clone, Copy, Debug, PartialEq, Eq)]
+pub struct Forms;
+
+impl Renderer for Forms {
+    ghost renders = { in_forms };
+
+    fn render(
+        &self,
+        alloc: Global,
+        form: Form,
+        plan: &Plan,
+        rows: &Rows,
+        chart: &Chart,
+        heading: Heading<'_>,
+    ) -> Result<Vec<u8>, AllocError> {
+        match form {
+            Form::Svg => svg(alloc, plan, chart, heading.title, heading.subtitle),
+            Form::Html => html(alloc, plan, rows, chart, heading.title, heading.subtitle),
+            Form::Trace => trace(alloc, plan, chart, heading.title),
+        }
+    }
+}

@@ -1,0 +1,33 @@
+//! What the program `lockchart` does, as a library: words and a script in, a picture of the script's scheduled run and
+//! a status out. A program, or a face for other languages, picks up its words and its streams and calls this.
+//!
+//! From the outside in:
+//! - `top`: the calls, with everything that is promised of them.
+//! - `ended`: how a call ends.
+//! - `drawing`: the picture of a plan.
+//! - `heading`: what stands above a picture.
+//! - `renderer`: what writes a chart down, and `forms`: the three forms in which it is written.
+#![tactic(auto)]
+
+mod drawing;
+mod ended;
+mod forms;
+mod heading;
+mod renderer;
+#[cfg(test)]
+mod tests;
+mod top;
+
+pub use crate::ended::Ended;
+pub use crate::forms::Forms;
+pub use crate::heading::Heading;
+pub use crate::renderer::Renderer;
+pub use crate::top::{lockchart, lockchart_by};
+use complaints::Program;
+pub use complaints::Status;
+
+/// The program, as its sentences name it.
+pub const LOCKCHART: Program = Program {
+    name: "lockchart",
+    form: chart_command::FORM,
+};

@@ -1,0 +1,127 @@
+//! The top calls: the words of the command line and a source in, a picture and the end of the call out.
+//!
+//! Both promise the same, of all words that they take; `chart_command` says which are a form. Where the source and the
+//! sink tell their bytes:
+//! - `forms`: whether the words were a form, and how much of the source was read.
+//! - `read_fault`, `write_fault`: at which status which end has failed.
+//! - `writes`: what was written is a picture of the script that the source has, and nothing where there is none.
+//! - `fault`: at which status the bytes are no script, and what is told of them.
+//! - `complete`: where nothing fails, there is a picture or a fault, save for want of memory.
+ghost use Rattle.std.specs.Prelude.{◌≡◌, ◌≢◌, ◌≤◌, map, false, Some};
+ghost use Rattle.std.specs.String.{string_bytes};
+ghost use Rattle.chart_command.specs.Forms.{AsksPicture, Wanted, asking_of};
+ghost use Rattle.chart_command.specs.Words.{HasRanges, wanted};
+ghost use Rattle.chart_top.specs.Calls.{AnswersAll, Draws, TellsFault, TellsForms, WritesPicture, writes};
+ghost use Rattle.chart_top.specs.Pictures.{in_forms};
+ghost use Rattle.lock_io.specs.Faults.{Rose};
+ghost use Rattle.top_ends.specs.Calls.{ReadsBytes, TellsFaults};
+
+use crate::drawing::draw;
+use crate::ended::Ended;
+use crate::forms::Forms;
+use crate::renderer::Renderer;
+use chart_command::{Asked, Words, WordsError, read_words};
+use complaints::Status;
+use lock_io::{Sink, Source};
+use script_read::{ReadError, read_script};
+use std::alloc::Global;
+use top_ends::{read_bytes, write_text};
+
+/// What the program does: `lockchart_by` with the three forms of a chart.
+pub fn lockchart<S: Source, K: Sink>(
+    alloc: Global,
+    words: &[String],
+    source: &mut S,
+    sink: &mut K,
+) -> Ended
+    ensures forms { TellsForms (map string_bytes words.now) result.status
+        (S.remaining source.old) (S.remaining source.new) }
+    ensures read_fault { TellsFaults result.status Status.ReadFault
+        (S.faults source.old) (S.faults source.new) }
+    ensures write_fault { TellsFaults result.status Status.WriteFault
+        (K.faults sink.old) (K.faults sink.new) }
+    ensures writes { WritesPicture in_forms (map string_bytes words.now) result.status
+        (S.remaining source.old) (K.contents sink.old) (K.contents sink.new) }
+    ensures fault { TellsFault result.status result.fault.items (S.remaining source.old) }
+    ensures complete { (wanted : Wanted)
+        → asking_of (map string_bytes words.now) ≡ Some (AsksPicture wanted)
+        → ¬ (Rose (S.faults source.old) (S.faults source.new))
+        → ¬ (Rose (K.faults sink.old) (K.faults sink.new))
+        → AnswersAll result.status (S.remaining source.old) }
+{
+    lockchart_by(&Forms, alloc, words, source, sink)
+}
+
+/// It reads a script from the source, makes its scheduled run, and writes what the renderer makes of that to the sink;
+/// or the help, where the words ask for that. It always returns. It takes memory until the text is made, and none from
+/// then on.
+pub fn lockchart_by<R: Renderer, S: Source, K: Sink>(
+    renderer: &R,
+    alloc: Global,
+    words: &[String],
+    source: &mut S,
+    sink: &mut K,
+) -> Ended
+    ensures forms { TellsForms (map string_bytes words.now) result.status
+        (S.remaining source.old) (S.remaining source.new) }
+    ensures read_fault { TellsFaults result.status Status.ReadFault
+        (S.faults source.old) (S.faults source.new) }
+    ensures write_fault { TellsFaults result.status Status.WriteFault
+        (K.faults sink.old) (K.faults sink.new) }
+    ensures writes { WritesPicture R.renders (map string_bytes words.now) result.status
+        (S.remaining source.old) (K.contents sink.old) (K.contents sink.new) }
+    ensures fault { TellsFault result.status result.fault.items (S.remaining source.old) }
+    ensures complete { (wanted : Wanted)
+        → asking_of (map string_bytes words.now) ≡ Some (AsksPicture wanted)
+        → ¬ (Rose (S.faults source.old) (S.faults source.new))
+        → ¬ (Rose (K.faults sink.old) (K.faults sink.new))
+        → AnswersAll result.status (S.remaining source.old) }
+{
+    match read_words(alloc, words) {
+        Ok(Asked::Picture(said)) => show(renderer, alloc, &said, source, sink),
+        Ok(Asked::Help(text)) => {
+            Ended::with(alloc, write_text(sink, Status::Done, text.as_bytes()))
+        }
+        Err(WordsError::Usage) => Ended::with(alloc, Status::Usage),
+        Err(WordsError::Memory) => Ended::with(alloc, Status::NoMemory),
+    }
+}
+
+// Reads the source to its end, and writes the picture that the words ask for.
+fn show<R: Renderer, S: Source, K: Sink>(
+    renderer: &R,
+    alloc: Global,
+    said: &Words<'_>,
+    source: &mut S,
+    sink: &mut K,
+) -> Ended
+    requires ranges { HasRanges said.now }
+    requires in_order { said.now.from ≤ said.now.to }
+    ensures form { result.status ≢ Status.Usage }
+    ensures reads { ReadsBytes result.status (S.remaining source.old) (S.remaining source.new) }
+    ensures read_fault { TellsFaults result.status Status.ReadFault
+        (S.faults source.old) (S.faults source.new) }
+    ensures write_fault { TellsFaults result.status Status.WriteFault
+        (K.faults sink.old) (K.faults sink.new) }
+    ensures draws { Draws R.renders (wanted said.now) result.status
+        (S.remaining source.old) (K.contents sink.old) (K.contents sink.new) }
+    ensures nothing { writes result.status ≡ false → K.contents sink.new ≡ K.contents sink.old }
+    ensures fault { TellsFault result.status result.fault.items (S.remaining source.old) }
+    ensures complete { ¬ (Rose (S.faults source.old) (S.faults source.new))
+        → ¬ (Rose (K.faults sink.old) (K.faults sink.new))
+        → AnswersAll result.status (S.remaining source.old) }
+{
+    let bytes = match read_bytes(alloc, source) {
+        Ok(bytes) => bytes,
+        Err(status) => return Ended::with(alloc, status),
+    };
+    let plan = match read_script(alloc, &bytes) {
+        Ok(plan) => plan,
+        Err(ReadError::Script(fault)) => return Ended::by(alloc, fault),
+        Err(ReadError::Memory(_)) => return Ended::with(alloc, Status::NoMemory),
+    };
+    match draw(renderer, alloc, said, &bytes, &plan) {
+        Ok(text) => Ended::with(alloc, write_text(sink, Status::Done, &text)),
+        Err(_) => Ended::with(alloc, Status::NoMemory),
+    }
+}

@@ -1,0 +1,163 @@
+//! What is said of bars, arrows and marks.
+
+use crate::names::{push_queue, queue_name};
+use chart_layout::{Arrow, ArrowKind, BarKind, MarkKind};
+use lock_model::{Event, Kind, LockNo, Mode, Plan, StepKind, push_digits, push_number, push_word};
+use std::alloc::AllocError;
+
+/// Pushes what a bar says: `holds bus`, `reads data`, `waits for bus`, `taken off`, `woken`, `walks`.
+pub fn push_bar(out: &mut Vec<u8>, plan: &Plan, what: BarKind) -> Result<(), AllocError> {
+    match what {
+        BarKind::Holds { l, mode } => {
+            out.extend_from_slice(hold_word(plan.lock_kind(l), mode))?;
+            push_word(out, plan.lock_name(l))
+        }
+        BarKind::Waits { q } => push_queue(out, plan, q),
+        BarKind::TakenOff { .. } => out.extend_from_slice(b"taken off"),
+        BarKind::Woken { .. } => out.extend_from_slice(b"woken"),
+        BarKind::Walks => out.extend_from_slice(b"walks"),
+    }
+}
+
+fn hold_word(kind: Kind, mode: Mode) -> &'static [u8] {
+    match (kind, mode) {
+        (_, Mode::Excl) | (Kind::Mtx, Mode::Shared) => b"holds",
+        (Kind::Rw, Mode::Shared) => b"reads",
+        (Kind::Sx, Mode::Shared) => b"shares",
+    }
+}
+
+/// Pushes what an arrow says: `lends 10`, or `lends` where the owner ran so already, `wakes`, `blocks on`, `waits behind`.
+pub fn push_arrow(out: &mut Vec<u8>, arrow: Arrow) -> Result<(), AllocError> {
+    match arrow.kind {
+        ArrowKind::Lends { before, prio } => {
+            out.extend_from_slice(b"lends")?;
+            if before == prio {
+                return Ok(());
+            }
+            push_number(out, u64::from(prio.0))
+        }
+        ArrowKind::Wakes => out.extend_from_slice(b"wakes"),
+        ArrowKind::BlockedOn => out.extend_from_slice(b"blocks on"),
+        ArrowKind::Behind => out.extend_from_slice(b"waits behind"),
+    }
+}
+
+/// Pushes the word that stands at a mark: `lock bus`, `add`, `block`. An idle turn has none.
+pub fn push_mark(out: &mut Vec<u8>, plan: &Plan, what: MarkKind) -> Result<(), AllocError> {
+    match what {
+        MarkKind::Noted(event) => push_event(out, plan, event),
+        MarkKind::Did(kind) => out.extend_from_slice(verb_of(kind)),
+        MarkKind::Idle => Ok(()),
+    }
+}
+
+/// What a step is called.
+pub fn verb_of(kind: StepKind) -> &'static [u8] {
+    match kind {
+        StepKind::Gain => b"gain",
+        StepKind::Claim => b"claim",
+        StepKind::Drop => b"give up",
+        StepKind::Enter => b"block",
+        StepKind::OpenUp => b"give up",
+        StepKind::Mark => b"wake",
+        StepKind::Resume => b"awake",
+        StepKind::Lend => b"lend",
+        StepKind::Shift => b"sort",
+        StepKind::WalkEnd => b"walk ends",
+        StepKind::Add => b"sleep",
+        StepKind::Wake => b"take off",
+        StepKind::Note => b"note",
+    }
+}
+
+// The word of an event. A lock's name stands in it where the lock is taken, released or
+// refused.
+fn push_event(out: &mut Vec<u8>, plan: &Plan, event: Event) -> Result<(), AllocError> {
+    match event {
+        Event::Locked { l, mode } => push_mode(out, plan, b"", l, mode, b"lock"),
+        Event::Tried { l, mode } => push_mode(out, plan, b"try", l, mode, b"lock"),
+        Event::Unlocked { l, mode } => push_mode(out, plan, b"", l, mode, b"unlock"),
+        Event::Busy { l, .. } => push_call(out, b"busy", plan.lock_name(l)),
+        Event::Set { .. } => out.extend_from_slice(b"set"),
+        Event::Added { .. } => out.extend_from_slice(b"add"),
+        Event::Got { .. } => out.extend_from_slice(b"get"),
+        Event::Base { .. } => out.extend_from_slice(b"prio"),
+        Event::Shown { .. } => out.extend_from_slice(b"show"),
+        Event::Sleeps { .. } => out.extend_from_slice(b"sleep"),
+        Event::Woke { .. } => out.extend_from_slice(b"woke"),
+        Event::HaltedChan { .. } | Event::HaltedLock { .. } => out.extend_from_slice(b"halted"),
+        Event::WokeOne { .. } => out.extend_from_slice(b"signal"),
+        Event::WokeAll { .. } => out.extend_from_slice(b"wake all"),
+        Event::Reversed { l, .. } => push_call(out, b"refused", plan.lock_name(l)),
+    }
+}
+
+fn push_call(out: &mut Vec<u8>, word: &[u8], name: &[u8]) -> Result<(), AllocError> {
+    out.extend_from_slice(word)?;
+    push_word(out, name)
+}
+
+fn push_mode(
+    out: &mut Vec<u8>,
+    plan: &Plan,
+    before: &[u8],
+    l: LockNo,
+    mode: Mode,
+    behind: &[u8],
+) -> Result<(), AllocError> {
+    out.extend_from_slice(before)?;
+    out.extend_from_slice(mode_letter(plan.lock_kind(l), mode))?;
+    out.extend_from_slice(behind)?;
+    push_word(out, plan.lock_name(l))
+}
+
+fn mode_letter(kind: Kind, mode: Mode) -> &'static [u8] {
+    match (kind, mode) {
+        (Kind::Mtx, _) => b"",
+        (Kind::Rw, Mode::Excl) => b"w",
+        (Kind::Rw, Mode::Shared) => b"r",
+        (Kind::Sx, Mode::Excl) => b"x",
+        (Kind::Sx, Mode::Shared) => b"s",
+    }
+}
+
+/// Pushes what an event tells beside its word: keys, values, priorities, and under which class a take was
+/// refused.
+pub fn push_note(out: &mut Vec<u8>, plan: &Plan, event: Event) -> Result<(), AllocError> {
+    match event {
+        Event::Set { l, key, value } => push_edit(out, plan.lock_name(l), key, value),
+        Event::Added { l, key, amount } => push_edit(out, plan.lock_name(l), key, amount),
+        Event::Got { l, key, found } => {
+            push_word(out, plan.lock_name(l))?;
+            push_number(out, key)?;
+            match found {
+                Some(value) => push_number(out, value),
+                None => push_word(out, b"-"),
+            }
+        }
+        Event::Base { prio } => push_number(out, u64::from(prio.0)),
+        Event::Shown { base, eff } => {
+            push_number(out, u64::from(base.0))?;
+            push_number(out, u64::from(eff.0))
+        }
+        Event::Busy { seen, .. } => push_number(out, seen),
+        Event::Sleeps { c }
+        | Event::Woke { c }
+        | Event::HaltedChan { c }
+        | Event::WokeOne { c, .. }
+        | Event::WokeAll { c, .. } => push_word(out, plan.chan_name(c)),
+        Event::HaltedLock { l } => push_word(out, plan.lock_name(l)),
+        Event::Reversed { held, .. } => {
+            out.extend_from_slice(b" under class ")?;
+            out.extend_from_slice(plan.class_name(held))
+        }
+        Event::Locked { .. } | Event::Tried { .. } | Event::Unlocked { .. } => Ok(()),
+    }
+}
+
+fn push_edit(out: &mut Vec<u8>, lock: &[u8], key: u64, amount: u64) -> Result<(), AllocError> {
+    push_word(out, lock)?;
+    push_number(out, key)?;
+    push_number(out, amount)
+}

@@ -1,0 +1,32 @@
+//! `lockchart [--turns N] [--chains N] [--from A] [--to B] [--title TEXT] [--form svg|html|trace]` reads a script from
+//! standard input, makes its scheduled run, and writes a picture of that to standard output. The exit code is the status,
+//! and where there is something to say, standard error gets one sentence. What it does, and what is promised of it,
+//! stands in the library `chart_top`, and the sentence in `complaints`; here the words and the streams are picked up.
+#![tactic(auto)]
+
+use chart_top::{Ended, LOCKCHART, lockchart};
+use complaints::say;
+use lock_io::{StdSink, StdSource};
+use std::io;
+use std::process::ExitCode;
+use top_ends::given_words;
+
+fn main(rt: HostRuntime) -> ExitCode {
+    let alloc = rt.alloc();
+    let ended = match given_words(&rt) {
+        Ok(words) => {
+            let mut source = StdSource::new(rt.reader());
+            let mut sink = StdSink::new(io::writer(&rt));
+            lockchart(alloc, &words, &mut source, &mut sink)
+        }
+        Err(status) => Ended::with(alloc, status),
+    };
+    say(
+        alloc,
+        &mut rt.stderr(),
+        LOCKCHART,
+        ended.status,
+        &ended.fault,
+    );
+    ExitCode::from(ended.status as u8)
+}

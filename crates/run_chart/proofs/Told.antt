@@ -1,0 +1,91 @@
+-- What the rows of a run tell of its states.
+use Rattle.std.proofs.Common.{◌≡◌, ℕ, ◌+◌, ◌<◌, ◌≤◌, true, ◌==◌, List, length, Option, Some, None, refl, sym, ap, subst, inl, inr, arith, ◌∙◌}
+use Rattle.std.specs.Prelude.{slice_get, IsSomeAnd}
+use Rattle.std.proofs.lemmas.Bool.{eq-eqb}
+use Rattle.std.proofs.lemmas.Option.{slice_get_cases}
+use Rattle.lock_laws.proofs.AtTurn.{well_formed}
+use Rattle.lock_laws.proofs.Turning.{behind_course}
+use Rattle.lock_laws.specs.OnTrack.{IsOnTrack}
+use Rattle.lock_model.specs.Holds.{Hold, Holds, NotHeld, is_exclusive}
+use Rattle.lock_model.specs.Operations.{IsProper}
+use Rattle.lock_model.specs.Plans.{config_of}
+use Rattle.lock_model.specs.Words.{Holder, Free, HeldBy, SharedBy, IsWellFormed, owner_of, word_of}
+use Rattle.lock_model.specs.declared.plan.Mode.TheVariants.{Excl, Shared}
+use Rattle.lock_model.specs.declared.plan.Plan.{Plan}
+use Rattle.lock_state.specs.Facts.{OnlyLocksAreHeld, OnlyThreadsHold, WordsMatchHolders}
+use Rattle.lock_state.specs.Facts.Words.{owns}
+use Rattle.run_chart.specs.Runs.{IsRunOf}
+use Rattle.run_rows.specs.Rows.{TellsThread, run_in}
+use Rattle.run_rows.specs.Tracks.{value_in, Tells}
+use Rattle.run_rows.specs.declared.columns.ThreadRows.{ThreadRows}
+use Rattle.run_rows.specs.declared.rows.Rows.{Rows}
+
+-- 1. Tracks
+
+pub so_at : {T : Type 0} (track : List (ℕ × T)) (rows : ℕ) (IsSo : ℕ → T → Type 0) → Tells track rows IsSo → (n : ℕ) → n < rows → (v : T) → value_in n track ≡ Some v → IsSo n v
+so_at track rows IsSo h n l v e = subst (λ o. IsSomeAnd o (IsSo n)) e (h.value n l)
+
+-- a value that is there
+pub record Known {T : Type 0} (o : Option T) (P : T → Type 0) : Type 0 where
+  pub value : T
+  pub is : o ≡ Some value
+  pub so : P value
+
+known : {T : Type 0} (o : Option T) (P : T → Type 0) → IsSomeAnd o P → Known o P
+known None P h = absurd h
+known (Some v) P h = record { value = v; is = refl; so = h }
+
+pub value_at : {T : Type 0} (track : List (ℕ × T)) (rows : ℕ) (IsSo : ℕ → T → Type 0) → Tells track rows IsSo → (n : ℕ) → n < rows → Known (value_in n track) (IsSo n)
+value_at track rows IsSo h n l = known (value_in n track) (IsSo n) (h.value n l)
+
+pub element_at : {X : Type 0} (xs : List X) (i : ℕ) → i < length xs → (x : X) × (slice_get xs i ≡ Some x)
+element_at xs i l = elim ((slice_get_cases xs i).1) [
+  | inl found ↦ (found.0, found.2)
+  | inr past ↦ let less : length xs ≤ i = past.0 in absurd (omega arith)
+]
+
+-- 2. Who holds a lock
+
+held_by : (o : ℕ) (x : Holder) → owner_of x ≡ Some o → owns o x ≡ true
+held_by o Free e = absurd cc
+held_by o (HeldBy t) e = let same : t ≡ o = cc in ap (λ u. o == u) same ∙ eq-eqb o o refl
+held_by o (SharedBy n) e = absurd cc
+
+holds_it : (h : Hold) → is_exclusive h ≡ true → h ≡ Holds Excl
+holds_it NotHeld e = absurd cc
+holds_it (Holds Excl) e = refl
+holds_it (Holds Shared) e = absurd cc
+
+module _ (plan : Plan) (proper : IsProper plan) (n : ℕ) where
+  abbrev on_track : IsOnTrack plan (run_in plan n)
+  on_track = behind_course plan n proper
+
+  owner_holds : (l o : ℕ) → owner_of ((run_in plan n).state.word l).holder ≡ Some o → (run_in plan n).state.held o l ≡ Holds Excl
+  unfolding WordsMatchHolders
+  owner_holds l o e =
+      holds_it ((run_in plan n).state.held o l) ((on_track.lawful.lawful.words.words_match_holders l).owner o ∙ held_by o ((run_in plan n).state.word l).holder e)
+
+  -- the owner of a lock is a thread,
+  pub owner_is_thread : (l o : ℕ) → owner_of ((run_in plan n).state.word l).holder ≡ Some o → o < length plan.threads
+  unfolding OnlyThreadsHold
+  owner_is_thread l o e = on_track.lawful.lawful.words.only_threads_hold o l Excl (owner_holds l o e)
+
+  -- and what it owns is a lock
+  pub owned_is_lock : (l o : ℕ) → owner_of ((run_in plan n).state.word l).holder ≡ Some o → l < length plan.locks
+  unfolding OnlyLocksAreHeld
+  owned_is_lock l o e = on_track.taken.only_locks_are_held o l Excl (owner_holds l o e)
+
+  pub word_fits : (l w : ℕ) → word_of w ≡ (run_in plan n).state.word l → IsWellFormed (word_of w)
+  word_fits l w e = subst IsWellFormed (sym e) (well_formed (config_of plan) (run_in plan n).state l on_track.lawful.lawful (omega (arith, proper.threads)))
+
+-- 3. Threads and turns
+
+module _ (plan : Plan) (rows : Rows) (h : IsRunOf plan rows) where
+  pub few_threads : length rows.threads ≤ 256
+  few_threads = omega (arith, h.proper.threads, h.told.columns.thread_each)
+
+  pub thread_at : (t : ℕ) (thread : ThreadRows) → slice_get rows.threads t ≡ Some thread → TellsThread plan (run_in plan) (length rows.turns + 1) t thread
+  thread_at t thread e = h.told.columns.of_threads t thread e
+
+  pub few_locks : (t : ℕ) (thread : ThreadRows) → slice_get rows.threads t ≡ Some thread → length thread.held ≤ 256
+  few_locks t thread e = omega (arith, h.proper.locks, (thread_at t thread e).locks)

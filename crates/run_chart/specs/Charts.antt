@@ -1,0 +1,133 @@
+-- What a chart shows of the scheduled run of its plan. Row n is the run behind n turns, and turn n leads from row n to
+-- row n + 1. A bar covers a row, and an arrow stands at a turn, exactly where what it says is so in the run.
+use Rattle.std.specs.Prelude.{◌≡◌, ◌≢◌, ◌↔◌, ◌≤◌, ◌<◌, ◌+◌, ℕ, true, false, All, Any, Contains, [], ◌∷◌, length, slice_get, Option, Some, None}
+use Rattle.chart_layout.specs.declared.layout.Arrow.{Arrow}
+use Rattle.chart_layout.specs.declared.layout.ArrowKind.{ArrowKind}
+use Rattle.chart_layout.specs.declared.layout.ArrowKind.TheVariants.{Lends, Wakes}
+use Rattle.chart_layout.specs.declared.layout.Bar.{Bar}
+use Rattle.chart_layout.specs.declared.layout.BarKind.{BarKind}
+use Rattle.chart_layout.specs.declared.layout.BarKind.TheVariants as bar
+use Rattle.chart_layout.specs.declared.layout.Chart.{Chart}
+use Rattle.chart_layout.specs.declared.layout.Lane.{Lane}
+use Rattle.lock_model.specs.Holds.{Holds}
+use Rattle.lock_model.specs.Queues.{BySignal, stands}
+use Rattle.lock_model.specs.Words.{owner_of}
+use Rattle.lock_model.specs.declared.plan.Plan.{Plan}
+use Rattle.lock_model.specs.declared.plan.QueueName.{QueueName}
+use Rattle.lock_model.specs.declared.turn.StepKind.{StepKind}
+use Rattle.lock_model.specs.declared.turn.StepKind.TheVariants.{Lend, Mark}
+use Rattle.lock_model.specs.declared.turn.Turn.TheVariants.{Did}
+use Rattle.lock_state.specs.Run.{course_after, has_ended}
+use Rattle.lock_state.specs.State.{State, AtLock, NoWalk, Queued, Woken}
+use Rattle.run_chart.specs.Steps.{prios_at, IsStepOf}
+use Rattle.run_rows.specs.Rows.{run_in}
+use Rattle.step_world.specs.Courses.{next_turn}
+
+-- 1. Lanes
+
+-- the first row of so many turns in which a thread has come to its end, if there is one
+abbrev pub EndsAt : Plan → ℕ → ℕ → Option ℕ → Type 0
+EndsAt plan turns t None = (n : ℕ) → n ≤ turns → has_ended plan (run_in plan n) t ≡ false
+EndsAt plan turns t (Some n) = (n ≤ turns) × (has_ended plan (run_in plan n) t ≡ true)
+    × ((m : ℕ) → m < n → has_ended plan (run_in plan m) t ≡ false)
+
+-- the lane is that of the thread, and ends where it has come to its end
+pub record IsLane (plan : Plan) (turns t : ℕ) (lane : Lane) : Type 0 where
+  pub thread : lane.thread.0 ≡ t
+  pub ended : EndsAt plan turns t lane.ended
+
+-- 2. Bars
+
+-- the bar is the thread's, covers the row, and says this
+pub record Says (t n : ℕ) (this : BarKind) (bar : Bar) : Type 0 where
+  pub thread : bar.thread.0 ≡ t
+  pub begins : bar.first ≤ n
+  pub ends : n ≤ bar.last
+  pub what : bar.what ≡ this
+
+-- a thread was taken off a queue and isn't woken yet: its record names the queue, and it stands on none
+pub record IsTakenOff (s : State) (t : ℕ) (q : QueueName) : Type 0 where
+  pub named : s.blocked_on t ≡ Some q
+  pub stands_nowhere : (r : QueueName) → stands t (s.lists r) ≡ 0
+  pub not_woken : (r : QueueName) → s.wait t ≢ Woken r BySignal
+
+-- what a bar says of a thread is so
+abbrev pub IsSo : State → ℕ → BarKind → Type 0
+IsSo s t (bar.Holds l mode) = s.held t l.0 ≡ Holds mode
+IsSo s t (bar.Waits q) = 0 < stands t (s.lists q)
+IsSo s t (bar.TakenOff q) = IsTakenOff s t q
+IsSo s t (bar.Woken q) = s.wait t ≡ Woken q BySignal
+IsSo s t bar.Walks = s.walk t ≢ NoWalk
+
+-- the plan has what a bar names
+abbrev pub IsOfPlan : Plan → ℕ → BarKind → Type 0
+IsOfPlan plan t (bar.Holds l mode) = (t < length plan.threads) × (l.0 < length plan.locks)
+IsOfPlan plan t (bar.Waits q) = t < length plan.threads
+IsOfPlan plan t (bar.TakenOff q) = t < length plan.threads
+IsOfPlan plan t (bar.Woken q) = t < length plan.threads
+IsOfPlan plan t bar.Walks = t < length plan.threads
+
+-- 3. Arrows
+
+abbrev pub arrow : ℕ → ArrowKind → ℕ → ℕ → Arrow
+arrow n kind from to =
+    record { turn = n; kind = kind; from = record { 0 = from }; to = record { 0 = to } }
+
+abbrev pub loan : ℕ → ℕ → ℕ → ℕ → ℕ → Arrow
+loan n from to before prio =
+    arrow n (Lends (record { 0 = before }) (record { 0 = prio })) from to
+
+abbrev pub wake : ℕ → ℕ → ℕ → Arrow
+wake n from to = arrow n Wakes from to
+
+-- the turn was the thread's, and made this step
+abbrev pub Made : Plan → ℕ → ℕ → StepKind → Type 0
+Made plan n t kind = next_turn plan (course_after plan n) ≡ Some (t, Did kind)
+
+-- the turn lent to the owner of the lock at which the thread's walk stood; that ran as one priority before the turn, and
+-- runs as the other behind it
+pub record Lent (plan : Plan) (n from to before prio : ℕ) : Type 0 where
+  pub made : Made plan n from Lend
+  pub lock : ℕ
+  pub walk : (run_in plan n).state.walk from ≡ AtLock lock
+  pub owner : owner_of ((run_in plan n).state.word lock).holder ≡ Some to
+  pub ran_as : (run_in plan n).state.effective to ≡ before
+  pub runs_as : (run_in plan (n + 1)).state.effective to ≡ prio
+
+-- the turn woke a thread that was queued
+pub record WokeUp (plan : Plan) (n from to : ℕ) : Type 0 where
+  pub made : Made plan n from Mark
+  pub thread : to < length plan.threads
+  pub queued : (run_in plan n).state.wait to ≡ Queued
+  pub queue : QueueName
+  pub woken : (run_in plan (n + 1)).state.wait to ≡ Woken queue BySignal
+
+-- 4. Charts
+
+-- the rows of a chart, and its turns, each of which leads from one to the next
+abbrev pub IsRow : Chart → ℕ → Type 0
+IsRow chart n = (chart.first ≤ n) × (n ≤ chart.last)
+
+abbrev pub IsTurn : Chart → ℕ → Type 0
+IsTurn chart n = (chart.first ≤ n) × (n < chart.last)
+
+-- Each thread has a lane, in order. Bars say what is so: a thread's bar at a lock covers a row exactly where the thread
+-- holds the lock, and one of a wait exactly where it stands on that queue. One step of the priorities covers each row, and
+-- is the effective priority there, beside the base. An arrow of a loan stands exactly at a turn that lent, and one of a
+-- wake exactly at a turn that woke.
+pub record Shows (plan : Plan) (chart : Chart) : Type 0 where
+  pub lane_each : length chart.lanes ≡ length plan.threads
+  pub lanes : (t : ℕ) (lane : Lane) → slice_get chart.lanes t ≡ Some lane
+      → IsLane plan chart.turns t lane
+  pub bars : (t n : ℕ) (this : BarKind) → Any (Says t n this) chart.bars
+      ↔ (IsRow chart n × IsOfPlan plan t this × IsSo (run_in plan n).state t this)
+  pub bars_last : All (λ bar. bar.first ≤ bar.last) chart.bars
+  pub steps : (t n : ℕ) → t < length plan.threads → IsRow chart n
+      → prios_at t n chart.steps
+      ≡ ((run_in plan n).state.effective t, (run_in plan n).state.base t) ∷ []
+  pub steps_within : All (IsStepOf (length plan.threads) chart.first chart.last) chart.steps
+  pub loans : (n from to before prio : ℕ)
+      → Contains chart.arrows (loan n from to before prio)
+      ↔ (IsTurn chart n × Lent plan n from to before prio)
+  pub wakes : (n from to : ℕ) → Contains chart.arrows (wake n from to)
+      ↔ (IsTurn chart n × WokeUp plan n from to)

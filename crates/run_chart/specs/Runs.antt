@@ -1,0 +1,14 @@
+-- The run of which a chart is made.
+use Rattle.std.specs.Prelude.{◌≤◌, ℕ, length}
+use Rattle.lock_model.specs.Operations.{IsProper}
+use Rattle.lock_model.specs.declared.plan.Plan.{Plan}
+use Rattle.run_rows.specs.Rows.{TellsRun}
+use Rattle.run_rows.specs.declared.rows.Rows.{Rows}
+
+-- the rows tell a scheduled run of the plan, which is one that some script gives
+pub record IsRunOf (plan : Plan) (rows : Rows) : Type 0 where
+  pub proper : IsProper plan
+  pub chains : ℕ
+  pub most : ℕ
+  pub told : TellsRun plan chains most rows
+  pub few : length rows.turns ≤ 1000000

@@ -1,0 +1,13 @@
+use Rattle.std.proofs.Common.{◌≡◌, ℕ, length}
+use Rattle.step_world.specs.Represents.{hold_of}
+use Rattle.lock_state.specs.Run.{Run}
+use Rattle.step_world.specs.Worlds.{Represents}
+use Rattle.run_rows.specs.Tracks.{EachTells}
+use Rattle.run_rows.proofs.columns.begin_holds.Given as goal
+
+-- the first locks have tracks that tell of the begin
+abbrev pub invariant-loop-l : goal.invariant-loop-l
+invariant-loop-l l = record {
+  number : length l.held.items ≡ l.l;
+  told : (runs : ℕ → Run) → Represents l.world (runs 0) → EachTells l.held.items 1 (λ k n x. hold_of x ≡ (runs n).state.held l.t.0 k);
+}

@@ -1,0 +1,23 @@
+-- What a track says: the value in each row, by the changes that it keeps.
+use Rattle.std.specs.Prelude.{◌≡◌, ℕ, ◌<◌, nat_le, if◌then◌else◌, List, fold, option_map, slice_get, Option, Some, None, IsSomeAnd}
+use Rattle.std.specs.List.{All, AllPairs}
+
+-- The value in a row. Each change holds from its row on, so it is that of the last one up to there.
+abbrev pub value_in : {T : Type 0} → ℕ → List (ℕ × T) → Option T
+value_in row changes =
+    fold (λ before change. if nat_le change.0 row then Some change.1 else before) None changes
+
+-- the first value is that of row 0, and rows ascend
+pub record IsTrack {T : Type 0} (changes : List (ℕ × T)) : Type 0 where
+  pub begins : option_map (λ change. change.0) (slice_get changes 0) ≡ Some 0
+  pub ascends : AllPairs (λ change later. change.0 < later.0) changes
+
+-- The track tells of so many rows, from row 0 on: no change lies behind them, and the value in each is so.
+pub record Tells {T : Type 0} (track : List (ℕ × T)) (rows : ℕ) (IsSo : ℕ → T → Type 0) : Type 0 where
+  pub within : All (λ change. change.0 < rows) track
+  pub value : (n : ℕ) → n < rows → IsSomeAnd (value_in n track) (IsSo n)
+
+-- so each track of a list, by its number
+abbrev pub EachTells : {T : Type 0} → List (List (ℕ × T)) → ℕ → (ℕ → ℕ → T → Type 0) → Type 0
+EachTells tracks rows IsSo =
+    (i : ℕ) (track : _) → slice_get tracks i ≡ Some track → Tells track rows (IsSo i)

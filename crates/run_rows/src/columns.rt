@@ -1,0 +1,237 @@
+//! The tracks of a run: of each thread, of each lock's word, and of the queues. Behind a turn that changed something
+//! each track notes what it is now.
+ghost use Rattle.std.specs.Prelude.{◌≡◌, ◌+◌, ◌<◌, ℕ, length, IfOk, OnOk};
+ghost use Rattle.lock_model.specs.Words.{word_of};
+ghost use Rattle.lock_state.specs.Run.{Run};
+ghost use Rattle.run_rows.specs.Rows.{TellsColumns, TellsThread, TellsThreads};
+ghost use Rattle.run_rows.specs.Tracks.{EachTells};
+ghost use Rattle.step_world.specs.Represents.{hold_of};
+ghost use Rattle.step_world.specs.Worlds.{Represents};
+
+use crate::track::Track;
+use lock_history::QueueLine;
+use lock_model::{LockNo, Mode, Prio, QueueName, Sequence, ThreadNo};
+use std::alloc::{AllocError, Global};
+use std::mem;
+use step_world::{Wait, Walk, World};
+
+/// What a thread was in each row.
+#[derive(Drop)]
+pub struct ThreadRows {
+    /// Its base priority.
+    pub base: Track<Prio>,
+    /// Its effective priority: the better of the base and all that was lent.
+    pub effective: Track<Prio>,
+    /// Whether it ran, was queued or was woken.
+    pub wait: Track<Wait>,
+    /// The queue that its record named.
+    pub blocked_on: Track<Option<QueueName>>,
+    /// The queue in whose lists it stood.
+    pub stands_on: Track<Option<QueueName>>,
+    /// Where its lending walk stood.
+    pub walk: Track<Walk>,
+    /// Whether it had come to its end.
+    pub ended: Track<bool>,
+    /// By lock: the mode in which it held the lock.
+    pub held: Sequence<Track<Option<Mode>>>,
+}
+
+/// The queues that weren't empty, by the row from which on they hold: those of the locks by number, and then those of
+/// the channels.
+pub type QueueRows = Track<Sequence<QueueLine>>;
+
+/// The tracks of a run under way.
+#[derive(Drop)]
+pub(crate) struct Columns {
+    pub(crate) threads: Vec<ThreadRows>,
+    pub(crate) words: Vec<Track<u64>>,
+    pub(crate) queues: QueueRows,
+}
+
+impl Columns {
+    /// Those of the begin.
+    pub(crate) fn begin(alloc: Global, world: &World<'_>) -> Result<Columns, AllocError>
+        ensures { IfOk result (λ a. (runs : ℕ → Run) → Represents world.now (runs 0)
+            → TellsColumns world.now.plan world.now.chains runs 1 a.threads.items a.words.items
+            a.queues) }
+    {
+        Ok(Columns {
+            threads: begin_threads(alloc, world)?,
+            words: begin_words(alloc, world)?,
+            queues: Track::begin(alloc, Sequence::from_vec(world.queues(alloc)?))?,
+        })
+    }
+
+    /// Notes what the world is in the next row.
+    pub(crate) fn note(
+        &mut self,
+        alloc: Global,
+        world: &World<'_>,
+        row: u32,
+    ) -> Result<(), AllocError>
+        requires { (runs : ℕ → Run) × TellsColumns world.now.plan world.now.chains runs row
+            self.old.threads.items self.old.words.items self.old.queues }
+        ensures { OnOk result ((runs : ℕ → Run) → Represents world.now (runs row)
+            → TellsColumns world.now.plan world.now.chains runs row
+            self.old.threads.items self.old.words.items self.old.queues
+            → TellsColumns world.now.plan world.now.chains runs (row + 1)
+            self.new.threads.items self.new.words.items self.new.queues) }
+    {
+        note_threads(&mut self.threads, alloc, world, row)?;
+        note_words(&mut self.words, world, row)?;
+        self.queues
+            .keep(row, Sequence::from_vec(world.queues(alloc)?))
+    }
+}
+
+impl ThreadRows {
+    // Those of a thread at the begin.
+    fn begin(alloc: Global, world: &World<'_>, t: ThreadNo) -> Result<ThreadRows, AllocError>
+        requires { t.0 < length world.now.plan.threads }
+        ensures { IfOk result (λ a. (runs : ℕ → Run) → Represents world.now (runs 0)
+            → TellsThread world.now.plan runs 1 t.0 a) }
+    {
+        let (base, effective) = world.priorities(t);
+        Ok(ThreadRows {
+            base: Track::begin(alloc, base)?,
+            effective: Track::begin(alloc, effective)?,
+            wait: Track::begin(alloc, world.wait(t))?,
+            blocked_on: Track::begin(alloc, world.blocked_on(t))?,
+            stands_on: Track::begin(alloc, world.stands_on(t))?,
+            walk: Track::begin(alloc, world.walk(t))?,
+            ended: Track::begin(alloc, world.has_ended(t))?,
+            held: Sequence::from_vec(begin_holds(alloc, world, t)?),
+        })
+    }
+
+    // Notes what a thread is in the next row.
+    fn note(
+        &mut self,
+        alloc: Global,
+        world: &World<'_>,
+        t: ThreadNo,
+        row: u32,
+    ) -> Result<(), AllocError>
+        requires thread { t.0 < length world.now.plan.threads }
+        requires told { (runs : ℕ → Run) × TellsThread world.now.plan runs row t.0 self.old }
+        ensures { OnOk result ((runs : ℕ → Run) → Represents world.now (runs row)
+            → TellsThread world.now.plan runs row t.0 self.old
+            → TellsThread world.now.plan runs (row + 1) t.0 self.new) }
+    {
+        let (base, effective) = world.priorities(t);
+        self.base.note(row, base)?;
+        self.effective.note(row, effective)?;
+        self.wait.note(row, world.wait(t))?;
+        self.blocked_on.note(row, world.blocked_on(t))?;
+        self.stands_on.note(row, world.stands_on(t))?;
+        self.walk.note(row, world.walk(t))?;
+        self.ended.note(row, world.has_ended(t))?;
+        note_holds(&mut self.held, alloc, world, t, row)
+    }
+}
+
+// Those of each thread at the begin.
+fn begin_threads(alloc: Global, world: &World<'_>) -> Result<Vec<ThreadRows>, AllocError>
+    ensures number { IfOk result (λ a. length a.items ≡ length world.now.plan.threads) }
+    ensures told { IfOk result (λ a. (runs : ℕ → Run) → Represents world.now (runs 0)
+        → TellsThreads world.now.plan runs 1 a.items) }
+{
+    let mut threads = Vec::new(alloc);
+    for t in 0..world.threads() {
+        threads.push(ThreadRows::begin(alloc, world, ThreadNo(t))?)?;
+    }
+    Ok(threads)
+}
+
+// How a thread holds each lock at the begin.
+fn begin_holds(
+    alloc: Global,
+    world: &World<'_>,
+    t: ThreadNo,
+) -> Result<Vec<Track<Option<Mode>>>, AllocError>
+    requires { t.0 < length world.now.plan.threads }
+    ensures number { IfOk result (λ a. length a.items ≡ length world.now.plan.locks) }
+    ensures told { IfOk result (λ a. (runs : ℕ → Run) → Represents world.now (runs 0)
+        → EachTells a.items 1 (λ l n mode. hold_of mode ≡ (runs n).state.held t.0 l)) }
+{
+    let mut held = Vec::new(alloc);
+    for l in 0..world.locks() {
+        held.push(Track::begin(alloc, world.mode(t, LockNo(l)))?)?;
+    }
+    Ok(held)
+}
+
+// The word of each lock at the begin.
+fn begin_words(alloc: Global, world: &World<'_>) -> Result<Vec<Track<u64>>, AllocError>
+    ensures number { IfOk result (λ a. length a.items ≡ length world.now.plan.locks) }
+    ensures told { IfOk result (λ a. (runs : ℕ → Run) → Represents world.now (runs 0)
+        → EachTells a.items 1 (λ l n w. word_of w ≡ (runs n).state.word l)) }
+{
+    let mut words = Vec::new(alloc);
+    for l in 0..world.locks() {
+        words.push(Track::begin(alloc, world.word(LockNo(l)))?)?;
+    }
+    Ok(words)
+}
+
+// Notes what each thread is in the next row.
+fn note_threads(
+    threads: &mut Vec<ThreadRows>,
+    alloc: Global,
+    world: &World<'_>,
+    row: u32,
+) -> Result<(), AllocError>
+    requires number { length threads.old.items ≡ length world.now.plan.threads }
+    requires told { (runs : ℕ → Run) × TellsThreads world.now.plan runs row threads.old.items }
+    ensures number { OnOk result (length threads.new.items ≡ length threads.old.items) }
+    ensures told { OnOk result ((runs : ℕ → Run) → Represents world.now (runs row)
+        → TellsThreads world.now.plan runs row threads.old.items
+        → TellsThreads world.now.plan runs (row + 1) threads.new.items) }
+{
+    for t in 0..world.threads() {
+        threads[usize::from(t)].note(alloc, world, ThreadNo(t), row)?;
+    }
+    Ok(())
+}
+
+// Notes how a thread holds each lock in the next row.
+fn note_holds(
+    held: &mut Sequence<Track<Option<Mode>>>,
+    alloc: Global,
+    world: &World<'_>,
+    t: ThreadNo,
+    row: u32,
+) -> Result<(), AllocError>
+    requires thread { t.0 < length world.now.plan.threads }
+    requires number { length held.old ≡ length world.now.plan.locks }
+    requires told { (runs : ℕ → Run) × EachTells held.old row
+        (λ l n mode. hold_of mode ≡ (runs n).state.held t.0 l) }
+    ensures number { OnOk result (length held.new ≡ length held.old) }
+    ensures told { OnOk result ((runs : ℕ → Run) → Represents world.now (runs row)
+        → EachTells held.old row (λ l n mode. hold_of mode ≡ (runs n).state.held t.0 l)
+        → EachTells held.new (row + 1)
+        (λ l n mode. hold_of mode ≡ (runs n).state.held t.0 l)) }
+{
+    let mut tracks = mem::replace(held, Sequence::from_vec(Vec::new(alloc))).into_vec();
+    for l in 0..world.locks() {
+        tracks[usize::from(l)].note(row, world.mode(t, LockNo(l)))?;
+    }
+    *held = Sequence::from_vec(tracks);
+    Ok(())
+}
+
+// Notes each lock's word in the next row.
+fn note_words(words: &mut Vec<Track<u64>>, world: &World<'_>, row: u32) -> Result<(), AllocError>
+    requires number { length words.old.items ≡ length world.now.plan.locks }
+    requires told { (runs : ℕ → Run) × EachTells words.old.items row
+        (λ l n w. word_of w ≡ (runs n).state.word l) }
+    ensures number { OnOk result (length words.new.items ≡ length words.old.items) }
+    ensures told { OnOk result ((runs : ℕ → Run) → Represents world.now (runs row)
+        → EachTells words.old.items row (λ l n w. word_of w ≡ (runs n).state.word l)
+        → EachTells words.new.items (row + 1) (λ l n w. word_of w ≡ (runs n).state.word l)) }
+{
+    for l in 0..world.locks() {
+        words[usize::from(l)].note(row, world.word(LockNo(l)))?;
+    }
+    Ok(())
+}

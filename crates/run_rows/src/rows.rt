@@ -1,0 +1,122 @@
+//! The rows of a run: each turn with who had it and what it answered, and the tracks of all that changes.
+ghost use Rattle.std.specs.Prelude.{◌<◌, ◌≤◌, ℕ, IfOk};
+ghost use Rattle.lock_model.specs.Operations.{IsProper};
+ghost use Rattle.lock_model.specs.declared.plan.Plan as plans;
+ghost use Rattle.run_rows.specs.Making.{IsAt, GoesOn, HasMade};
+ghost use Rattle.run_rows.specs.Rows.{TellsRun};
+
+use crate::columns::{Columns, QueueRows, ThreadRows};
+use crate::track::Track;
+use lock_history::Outcome;
+use lock_model::{Plan, Sequence, ThreadNo, Turn};
+use std::alloc::{AllocError, Global};
+use step_world::Course;
+
+/// A turn of the run.
+///
+/// ```
+/// let turn = TurnRow { who: ThreadNo(0), answer: Turn::Idle, entries: 0 };
+/// ```
+#[derive(Clone, Copy, Debug, PartialEq, Eq)]
+pub struct TurnRow {
+    /// Who had it.
+    pub who: ThreadNo,
+    /// What it answered.
+    pub answer: Turn,
+    /// How many entries the history has behind it.
+    pub entries: u32,
+}
+
+/// A run, row by row. Row 0 is the begin, and row n is behind the first n turns.
+#[derive(Drop)]
+pub struct Rows {
+    /// The turns in order: the n-th, from 0, lies between the rows n and n + 1.
+    pub turns: Sequence<TurnRow>,
+    /// By thread: what it was.
+    pub threads: Sequence<ThreadRows>,
+    /// By lock: its word.
+    pub words: Sequence<Track<u64>>,
+    /// The queues that weren't empty.
+    pub queues: QueueRows,
+    /// What the run left.
+    pub outcome: Outcome,
+}
+
+/// The scheduled run of a plan, row by row: the run of `step_world::run_schedule`. There are 1 to 64 chains of each
+/// sort, of which only the slots of queues tell, and 1 to 1,000,000 turns. The plan is one that some script gives. A
+/// turn that was idle or of a thread that has ended costs no more than its own row.
+///
+/// ```
+/// let rows = rows_of(alloc, &plan, 16, 1000)?;
+/// let lent = rows.threads.as_slice()[0].effective.changes();
+/// ```
+pub fn rows_of(alloc: Global, plan: &Plan, chains: u32, turns: u32) -> Result<Rows, AllocError>
+    requires proper { IsProper plan.now }
+    requires some_chains { 1 ≤ chains }
+    requires few_chains { chains ≤ 64 }
+    requires some_turns { 1 ≤ turns }
+    requires few_turns { turns ≤ 1000000 }
+    ensures { IfOk result (TellsRun plan.now chains turns) }
+{
+    let mut course = Course::make(alloc, plan, chains)?;
+    let mut columns = Columns::begin(alloc, course.world())?;
+    let made = make_turns(alloc, &mut course, &mut columns, turns)?;
+    Ok(Rows {
+        turns: Sequence::from_vec(made),
+        threads: Sequence::from_vec(columns.threads),
+        words: Sequence::from_vec(columns.words),
+        queues: columns.queues,
+        outcome: course.into_outcome(alloc)?,
+    })
+}
+
+// So many turns, or fewer where the run comes to its end before, and what they changed.
+fn make_turns(
+    alloc: Global,
+    course: &mut Course<'_>,
+    columns: &mut Columns,
+    turns: u32,
+) -> Result<Vec<TurnRow>, AllocError>
+    requires begins { (plan : plans.Plan) × (chains : ℕ) × IsAt plan chains 0 course.old columns.old }
+    requires few { turns ≤ 1000000 }
+    ensures { IfOk result (λ made. (plan : plans.Plan) (chains : ℕ)
+        → IsAt plan chains 0 course.old columns.old
+        → HasMade plan chains turns made.items course.new columns.new) }
+{
+    let mut made = Vec::new(alloc);
+    for n in 0..turns {
+        let Some(turn) = make_turn(alloc, course, columns, n)? else {
+            break;
+        };
+        made.push(turn)?;
+    }
+    Ok(made)
+}
+
+// The n-th turn, and what it changed.
+fn make_turn(
+    alloc: Global,
+    course: &mut Course<'_>,
+    columns: &mut Columns,
+    n: u32,
+) -> Result<Option<TurnRow>, AllocError>
+    requires at { (plan : plans.Plan) × (chains : ℕ) × IsAt plan chains n course.old columns.old }
+    requires few { n < 1000000 }
+    ensures { IfOk result (λ made. (plan : plans.Plan) (chains : ℕ)
+        → IsAt plan chains n course.old columns.old
+        → GoesOn plan chains n made course.new columns.new) }
+{
+    let Some((who, answer)) = course.go_on() else {
+        return Ok(None);
+    };
+    let world = course.world();
+    match answer {
+        Turn::Did(_) => columns.note(alloc, world, n + 1)?,
+        Turn::Idle | Turn::Ended => {}
+    }
+    Ok(Some(TurnRow {
+        who,
+        answer,
+        entries: world.history().len() as u32,
+    }))
+}

@@ -1,0 +1,51 @@
+//! The rows of worked scripts, with values worked out by hand.
+ghost use Rattle.std.specs.Prelude.{IfOk};
+ghost use Rattle.lock_model.specs.Operations.{IsProper};
+
+use crate::rows_of;
+use lock_model::{Plan, Prio, ThreadNo};
+use script_read::read_script;
+use std::alloc::Global;
+use std::test::Fail;
+use step_world::{StepKind, Turn};
+
+// High waits for the bus that low holds, and lends low its 10.
+const PATHFINDER: &str = "lockrun 1\nmutex bus k\n\
+    thread low 200\nlock bus\nadd bus 1 1\nshow\nunlock bus\nshow\nend\n\
+    thread medium 100\nshow\nshow\nshow\nshow\nend\n\
+    thread high 10\nlock bus\nadd bus 1 1\nunlock bus\nend\n\
+    schedule low low medium medium high high low low low high high high high medium medium low\n\
+    done\n";
+
+#[test]
+fn pathfinder(rt: HostRuntime) -> Result<(), Fail> {
+    let plan = plan_of(rt.alloc(), PATHFINDER)?;
+    let rows = rows_of(rt.alloc(), &plan, 16, 100)?;
+    let turns = rows.turns.as_slice();
+    assert_eq!(rt; turns.len(), 16);
+    let turn = turns[4];
+    assert_eq!(rt;
+        (turn.who, turn.answer, turn.entries),
+        (ThreadNo(2), Turn::Did(StepKind::Enter), 4)
+    );
+    let threads = rows.threads.as_slice();
+    assert_eq!(rt; threads.len(), 3);
+    let lent = &threads[0].effective;
+    let changes = [(0, Prio(200)), (6, Prio(10)), (8, Prio(200))];
+    assert_eq!(rt; lent.changes(), changes.as_slice());
+    assert_eq!(rt; (lent.at(5), lent.at(7)), (Prio(200), Prio(10)));
+    let ended = &threads[2].ended;
+    assert_eq!(rt; ended.changes(), [(0, false), (13, true)].as_slice());
+    assert_eq!(rt; rows.queues.get(7).as_slice().len(), 1);
+    Ok(())
+}
+
+// The plan of a script.
+fn plan_of(alloc: Global, script: &str) -> Result<Plan, Fail>
+    ensures { IfOk result IsProper }
+{
+    match read_script(alloc, script.as_bytes()) {
+        Ok(plan) => Ok(plan),
+        Err(_) => Err("the bytes are a script")?,
+    }
+}
