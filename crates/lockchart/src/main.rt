@@ -19,7 +19,10 @@ fn main(rt: HostRuntime) -> ExitCode {
             let mut sink = StdSink::new(io::writer(&rt));
             lockchart(alloc, &words, &mut source, &mut sink)
         }
-        Err(status) => Ended::with(alloc, status),
+        Err(status) => Ended {
+            status,
+            fault: Vec::new(alloc),
+        },
     };
     say(
         alloc,
