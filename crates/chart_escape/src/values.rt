@@ -1,6 +1,7 @@
 //! JSON, value by value: pieces pushed where a reader of JSON is at a value, or behind an item of an array.
 
-ghost use Rattle.std.specs.Prelude.{◌≡◌, ◌==◌, ◌∷◌, true, false, OnOk};
+ghost use Rattle.std.specs.Prelude.{◌≡◌, ◌==◌, ◌++◌, ◌∷◌, true, false, codes, decimal, OnOk};
+ghost use Rattle.chart_escape.specs.Pieces.{comma, piece_bytes, pieces_bytes};
 ghost use Rattle.chart_escape.specs.JsonReader.{at, behind_items, behind_number, behind_piece, behind_pieces, outer, read, AddsItem, AddsItems, AddsValue, AreBehind, AreItems, AreValue, AtValue, BeginMember, BeginObject, BehindValue, EndObject, IsAtValue, IsBehindItem, IsInObject, Object};
 
 use crate::json::push_json;
@@ -15,7 +16,9 @@ use std::alloc::AllocError;
 /// push_tokens(&mut out, &[Piece::Own("{\"title\":"), Piece::Json(title)])?;
 /// ```
 pub fn push_tokens(out: &mut Vec<u8>, pieces: &[Piece<'_>]) -> Result<(), AllocError>
-    ensures { OnOk result (read out.new.items ≡ behind_pieces (read out.old.items) pieces.now) }
+    ensures pushed { OnOk result (out.new.items ≡ out.old.items ++ pieces_bytes pieces.now) }
+    ensures reads { OnOk result (read out.new.items
+        ≡ behind_pieces (read out.old.items) pieces.now) }
 {
     for piece in pieces {
         push_token(out, *piece)?;
@@ -27,7 +30,8 @@ pub fn push_tokens(out: &mut Vec<u8>, pieces: &[Piece<'_>]) -> Result<(), AllocE
 pub fn push_value(out: &mut Vec<u8>, pieces: &[Piece<'_>]) -> Result<(), AllocError>
     requires at { IsAtValue out.old.items }
     requires whole { AreValue pieces.now }
-    ensures { OnOk result (AddsValue out.old.items out.new.items) }
+    ensures pushed { OnOk result (out.new.items ≡ out.old.items ++ pieces_bytes pieces.now) }
+    ensures reads { OnOk result (AddsValue out.old.items out.new.items) }
 {
     push_tokens(out, pieces)
 }
@@ -36,7 +40,8 @@ pub fn push_value(out: &mut Vec<u8>, pieces: &[Piece<'_>]) -> Result<(), AllocEr
 pub fn push_items(out: &mut Vec<u8>, pieces: &[Piece<'_>]) -> Result<(), AllocError>
     requires behind { IsBehindItem out.old.items }
     requires whole { AreItems pieces.now }
-    ensures { OnOk result (AddsItems out.old.items out.new.items) }
+    ensures pushed { OnOk result (out.new.items ≡ out.old.items ++ pieces_bytes pieces.now) }
+    ensures reads { OnOk result (AddsItems out.old.items out.new.items) }
 {
     push_tokens(out, pieces)
 }
@@ -44,7 +49,8 @@ pub fn push_items(out: &mut Vec<u8>, pieces: &[Piece<'_>]) -> Result<(), AllocEr
 /// Begins an array, where a value may come.
 pub fn begin_array(out: &mut Vec<u8>) -> Result<(), AllocError>
     requires { IsAtValue out.old.items }
-    ensures { OnOk result (read out.new.items ≡ behind_items 0 (read out.old.items).opens) }
+    ensures pushed { OnOk result (out.new.items ≡ out.old.items ++ codes "[") }
+    ensures reads { OnOk result (read out.new.items ≡ behind_items 0 (read out.old.items).opens) }
 {
     push_tokens(out, &[Piece::Own("[")])
 }
@@ -52,7 +58,8 @@ pub fn begin_array(out: &mut Vec<u8>) -> Result<(), AllocError>
 /// Begins the item of an array behind `i` others: with a comma, but for the first, and on a line of its own.
 pub fn begin_item(out: &mut Vec<u8>, i: usize) -> Result<(), AllocError>
     requires { AreBehind i out.old.items }
-    ensures { OnOk result (read out.new.items
+    ensures pushed { OnOk result (out.new.items ≡ out.old.items ++ comma i) }
+    ensures reads { OnOk result (read out.new.items
         ≡ at (AtValue (i == 0)) (read out.old.items).opens) }
 {
     if i == 0 {
@@ -67,7 +74,8 @@ pub fn begin_item(out: &mut Vec<u8>, i: usize) -> Result<(), AllocError>
 pub fn push_item(out: &mut Vec<u8>, i: usize, pieces: &[Piece<'_>]) -> Result<(), AllocError>
     requires behind { AreBehind i out.old.items }
     requires whole { AreValue pieces.now }
-    ensures { OnOk result (AddsItem i out.old.items out.new.items) }
+    ensures pushed { OnOk result (out.new.items ≡ out.old.items ++ comma i ++ pieces_bytes pieces.now) }
+    ensures reads { OnOk result (AddsItem i out.old.items out.new.items) }
 {
     begin_item(out, i)?;
     push_value(out, pieces)
@@ -76,7 +84,8 @@ pub fn push_item(out: &mut Vec<u8>, i: usize, pieces: &[Piece<'_>]) -> Result<()
 /// Ends an array of `n` items.
 pub fn end_array(out: &mut Vec<u8>, n: usize) -> Result<(), AllocError>
     requires { AreBehind n out.old.items }
-    ensures { OnOk result (read out.new.items
+    ensures pushed { OnOk result (out.new.items ≡ out.old.items ++ codes "]") }
+    ensures reads { OnOk result (read out.new.items
         ≡ at BehindValue (outer (read out.old.items).opens)) }
 {
     push_tokens(out, &[Piece::Own("]")])
@@ -86,7 +95,8 @@ pub fn end_array(out: &mut Vec<u8>, n: usize) -> Result<(), AllocError>
 pub fn begin_object(out: &mut Vec<u8>, pieces: &[Piece<'_>]) -> Result<(), AllocError>
     requires at { IsAtValue out.old.items }
     requires begin { BeginObject pieces.now }
-    ensures { OnOk result (read out.new.items
+    ensures pushed { OnOk result (out.new.items ≡ out.old.items ++ pieces_bytes pieces.now) }
+    ensures reads { OnOk result (read out.new.items
         ≡ at (AtValue false) (Object ∷ (read out.old.items).opens)) }
 {
     push_tokens(out, pieces)
@@ -96,7 +106,9 @@ pub fn begin_object(out: &mut Vec<u8>, pieces: &[Piece<'_>]) -> Result<(), Alloc
 pub fn begin_member(out: &mut Vec<u8>, pieces: &[Piece<'_>]) -> Result<(), AllocError>
     requires within { IsInObject out.old.items }
     requires begin { BeginMember pieces.now }
-    ensures { OnOk result (read out.new.items ≡ at (AtValue false) (read out.old.items).opens) }
+    ensures pushed { OnOk result (out.new.items ≡ out.old.items ++ pieces_bytes pieces.now) }
+    ensures reads { OnOk result (read out.new.items
+        ≡ at (AtValue false) (read out.old.items).opens) }
 {
     push_tokens(out, pieces)
 }
@@ -105,7 +117,8 @@ pub fn begin_member(out: &mut Vec<u8>, pieces: &[Piece<'_>]) -> Result<(), Alloc
 pub fn end_object(out: &mut Vec<u8>, pieces: &[Piece<'_>]) -> Result<(), AllocError>
     requires within { IsInObject out.old.items }
     requires end { EndObject pieces.now }
-    ensures { OnOk result (read out.new.items
+    ensures pushed { OnOk result (out.new.items ≡ out.old.items ++ pieces_bytes pieces.now) }
+    ensures reads { OnOk result (read out.new.items
         ≡ at BehindValue (outer (read out.old.items).opens)) }
 {
     push_tokens(out, pieces)
@@ -113,7 +126,9 @@ pub fn end_object(out: &mut Vec<u8>, pieces: &[Piece<'_>]) -> Result<(), AllocEr
 
 #[tactic(auto, using(crate::proofs::JsonReadings::read_on, crate::proofs::JsonReadings::text_read_on))]
 fn push_token(out: &mut Vec<u8>, piece: Piece<'_>) -> Result<(), AllocError>
-    ensures { OnOk result (read out.new.items ≡ behind_piece (read out.old.items) piece.entry) }
+    ensures pushed { OnOk result (out.new.items ≡ out.old.items ++ piece_bytes piece.entry) }
+    ensures reads { OnOk result (read out.new.items
+        ≡ behind_piece (read out.old.items) piece.entry) }
 {
     match piece {
         Piece::Own(text) => out.extend_from_slice(text.as_bytes()),
@@ -126,7 +141,8 @@ fn push_token(out: &mut Vec<u8>, piece: Piece<'_>) -> Result<(), AllocError>
 
 #[tactic(auto, using(crate::proofs::JsonReadings::number_read_on))]
 fn push_count(out: &mut Vec<u8>, n: u64) -> Result<(), AllocError>
-    ensures { OnOk result (read out.new.items
+    ensures pushed { OnOk result (out.new.items ≡ out.old.items ++ decimal n) }
+    ensures reads { OnOk result (read out.new.items
         ≡ behind_number (read out.old.items).place (read out.old.items).opens n) }
 {
     push_digits(out, n)
