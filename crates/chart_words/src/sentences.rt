@@ -1,18 +1,30 @@
 //! What is said of turns, and of the end.
 
-use crate::names::{push_queue, push_threads};
+ghost use Rattle.std.specs.Prelude.{◌≡◌, ◌++◌, codes, decimal, length, OnOk};
+ghost use Rattle.lock_model.specs.Text.{chan_name, class_name, lock_name, thread_name};
+ghost use Rattle.chart_words.specs.Sentences.{change_words, claim_words, end_words, given_back_words, headline, heard_words, loan_words, reading_words, saying_words, sentence_words, to_wake_words, waiting_words, walk_words};
+ghost use Rattle.chart_words.specs.Words.{thread_names};
+
+use crate::names::{push_class, push_named, push_queue, push_threads};
 use chart_layout::{End, Saying, Sentence};
-use lock_model::{LockNo, Plan, Prio, ThreadNo, push_digits, push_number, push_word};
+use lock_model::{ChanNo, ClassNo, LockNo, Plan, Prio, ThreadNo, push_digits};
 use std::alloc::AllocError;
 
 /// Pushes what is said of a turn: `high waits for bus, held by low`.
-pub fn push_sentence(
-    out: &mut Vec<u8>,
-    plan: &Plan,
-    sentence: &Sentence,
-) -> Result<(), AllocError> {
+#[tactic(auto, unfolding(crate::specs::Sentences::sentence_words))]
+pub fn push_sentence(out: &mut Vec<u8>, plan: &Plan, sentence: &Sentence) -> Result<(), AllocError>
+    ensures { OnOk result (out.new.items
+        ≡ out.old.items ++ sentence_words plan.now sentence.now) }
+{
     out.extend_from_slice(plan.thread_name(sentence.thread))?;
-    match &sentence.saying {
+    push_saying(out, plan, &sentence.saying)
+}
+
+#[tactic(auto, unfolding(crate::specs::Sentences::saying_words))]
+fn push_saying(out: &mut Vec<u8>, plan: &Plan, saying: &Saying) -> Result<(), AllocError>
+    ensures { OnOk result (out.new.items ≡ out.old.items ++ saying_words plan.now saying.now) }
+{
+    match saying {
         Saying::Waits {
             lock,
             holders,
@@ -25,8 +37,8 @@ pub fn push_sentence(
             prio,
             goes_on,
         } => {
-            push_lends(out, plan, *to, *lock, (*before, *prio))?;
-            push_if(out, *goes_on, b", and the walk goes on")
+            push_lends(out, plan, *to, *lock, *before, *prio)?;
+            push_walk(out, *goes_on)
         }
         Saying::Sorts { other, lock } => push_sorts(out, plan, *other, *lock),
         Saying::Claims { lock, before, prio } => {
@@ -43,89 +55,146 @@ pub fn push_sentence(
             push_given_back(out, *before, *prio)?;
             push_to_wake(out, plan, takes_off.as_slice())
         }
-        Saying::Sleeps { chan, lock } => {
-            push_named(out, b" sleeps on ", plan.chan_name(*chan))?;
-            push_named(out, b" and gives ", plan.lock_name(*lock))?;
-            out.extend_from_slice(b" up")
-        }
+        Saying::Sleeps { chan, lock } => push_sleeps(out, plan, *chan, *lock),
         Saying::Wakes { chan, takes_off } => {
             push_named(out, b" signals ", plan.chan_name(*chan))?;
             push_heard(out, plan, takes_off.as_slice())
         }
-        Saying::Refused { lock, held } => {
-            push_named(out, b" may not take ", plan.lock_name(*lock))?;
-            push_named(out, b" under class ", plan.class_name(*held))?;
-            out.extend_from_slice(b": reversed, it would close a circle")
-        }
+        Saying::Refused { lock, held } => push_refused(out, plan, *lock, *held),
     }
 }
 
-// Words, and a name.
-fn push_named(out: &mut Vec<u8>, words: &[u8], name: &[u8]) -> Result<(), AllocError> {
-    out.extend_from_slice(words)?;
-    out.extend_from_slice(name)
-}
-
-fn push_if(out: &mut Vec<u8>, is_so: bool, words: &[u8]) -> Result<(), AllocError> {
-    if is_so {
-        out.extend_from_slice(words)
+#[tactic(auto, unfolding(crate::specs::Sentences::walk_words))]
+fn push_walk(out: &mut Vec<u8>, goes_on: bool) -> Result<(), AllocError>
+    ensures { OnOk result (out.new.items ≡ out.old.items ++ walk_words goes_on) }
+{
+    if goes_on {
+        out.extend_from_slice(b", and the walk goes on")
     } else {
         Ok(())
     }
 }
 
+#[tactic(auto, unfolding(crate::specs::Sentences::waiting_words))]
 fn push_waits(
     out: &mut Vec<u8>,
     plan: &Plan,
     lock: LockNo,
     holders: &[ThreadNo],
     behind: Option<ThreadNo>,
-) -> Result<(), AllocError> {
+) -> Result<(), AllocError>
+    ensures { OnOk result (out.new.items
+        ≡ out.old.items ++ waiting_words plan.now lock holders.now behind) }
+{
     push_named(out, b" waits for ", plan.lock_name(lock))?;
     match behind {
         None => {
             out.extend_from_slice(b", held by ")?;
             push_threads(out, plan, holders)
         }
-        Some(writer) => {
-            out.extend_from_slice(b": ")?;
-            push_threads(out, plan, holders)?;
-            let holds: &[u8] = if holders.len() == 1 {
-                b" reads it, but "
-            } else {
-                b" read it, but "
-            };
-            push_named(out, holds, plan.thread_name(writer))?;
-            out.extend_from_slice(b" came first")
-        }
+        Some(writer) => push_behind(out, plan, holders, writer),
+    }
+}
+
+// Of readers, behind whom a writer came first.
+fn push_behind(
+    out: &mut Vec<u8>,
+    plan: &Plan,
+    readers: &[ThreadNo],
+    writer: ThreadNo,
+) -> Result<(), AllocError>
+    ensures { OnOk result (out.new.items
+        ≡ out.old.items ++ codes ": " ++ thread_names plan.now readers.now
+        ++ reading_words (length readers.now) ++ thread_name plan.now writer.0
+        ++ codes " came first") }
+{
+    out.extend_from_slice(b": ")?;
+    push_threads(out, plan, readers)?;
+    push_named(out, reading(readers.len()), plan.thread_name(writer))?;
+    out.extend_from_slice(b" came first")
+}
+
+#[tactic(auto, unfolding(crate::specs::Sentences::reading_words))]
+fn reading(readers: usize) -> &'static [u8]
+    ensures { result.now ≡ reading_words readers }
+{
+    if readers == 1 {
+        b" reads it, but "
+    } else {
+        b" read it, but "
     }
 }
 
 // The owner ran as one priority, and runs as the other now.
+#[tactic(auto, unfolding(crate::specs::Sentences::loan_words))]
 fn push_lends(
     out: &mut Vec<u8>,
     plan: &Plan,
     to: ThreadNo,
     lock: LockNo,
-    (before, prio): (Prio, Prio),
-) -> Result<(), AllocError> {
-    out.extend_from_slice(b" lends ")?;
-    if before != prio {
-        push_digits(out, u64::from(prio.0))?;
-        out.push(b' ')?;
+    before: Prio,
+    prio: Prio,
+) -> Result<(), AllocError>
+    ensures { OnOk result (out.new.items
+        ≡ out.old.items ++ loan_words plan.now to lock before prio) }
+{
+    if before == prio {
+        push_idle_loan(out, plan, to, lock, prio)
+    } else {
+        push_loan(out, plan, to, lock, before, prio)
     }
-    push_named(out, b"to ", plan.thread_name(to))?;
+}
+
+fn push_idle_loan(
+    out: &mut Vec<u8>,
+    plan: &Plan,
+    to: ThreadNo,
+    lock: LockNo,
+    prio: Prio,
+) -> Result<(), AllocError>
+    ensures { OnOk result (out.new.items
+        ≡ out.old.items ++ codes " lends to " ++ thread_name plan.now to.0
+        ++ codes ", the owner of " ++ lock_name plan.now lock.0
+        ++ codes ", which runs as " ++ decimal prio.0 ++ codes " already") }
+{
+    push_named(out, b" lends to ", plan.thread_name(to))?;
     push_named(out, b", the owner of ", plan.lock_name(lock))?;
-    if before != prio {
-        return push_change(out, before, prio);
-    }
-    out.extend_from_slice(b", which runs as ")?;
-    push_digits(out, u64::from(prio.0))?;
+    push_prio(out, b", which runs as ", prio)?;
     out.extend_from_slice(b" already")
 }
 
+fn push_loan(
+    out: &mut Vec<u8>,
+    plan: &Plan,
+    to: ThreadNo,
+    lock: LockNo,
+    before: Prio,
+    prio: Prio,
+) -> Result<(), AllocError>
+    ensures { OnOk result (out.new.items
+        ≡ out.old.items ++ codes " lends " ++ decimal prio.0 ++ codes " to "
+        ++ thread_name plan.now to.0 ++ codes ", the owner of " ++ lock_name plan.now lock.0
+        ++ change_words before prio) }
+{
+    push_prio(out, b" lends ", prio)?;
+    push_named(out, b" to ", plan.thread_name(to))?;
+    push_named(out, b", the owner of ", plan.lock_name(lock))?;
+    push_change(out, before, prio)
+}
+
+// Words, and a priority.
+fn push_prio(out: &mut Vec<u8>, words: &[u8], prio: Prio) -> Result<(), AllocError>
+    ensures { OnOk result (out.new.items ≡ out.old.items ++ words.now ++ decimal prio.0) }
+{
+    out.extend_from_slice(words)?;
+    push_digits(out, u64::from(prio.0))
+}
+
 // Of those whose turnstile the new owner has.
-fn push_claim(out: &mut Vec<u8>, before: Prio, prio: Prio) -> Result<(), AllocError> {
+#[tactic(auto, unfolding(crate::specs::Sentences::claim_words, crate::specs::Sentences::change_words))]
+fn push_claim(out: &mut Vec<u8>, before: Prio, prio: Prio) -> Result<(), AllocError>
+    ensures { OnOk result (out.new.items ≡ out.old.items ++ claim_words before prio) }
+{
     if before == prio {
         out.extend_from_slice(b" over from those who wait, and they lend it nothing better")
     } else {
@@ -135,7 +204,10 @@ fn push_claim(out: &mut Vec<u8>, before: Prio, prio: Prio) -> Result<(), AllocEr
 }
 
 // From which priority to which, as ` (200 → 10)`.
-fn push_change(out: &mut Vec<u8>, before: Prio, prio: Prio) -> Result<(), AllocError> {
+#[tactic(auto, unfolding(crate::specs::Sentences::change_words))]
+fn push_change(out: &mut Vec<u8>, before: Prio, prio: Prio) -> Result<(), AllocError>
+    ensures { OnOk result (out.new.items ≡ out.old.items ++ change_words before prio) }
+{
     out.extend_from_slice(b" (")?;
     push_digits(out, u64::from(before.0))?;
     out.extend_from_slice(" → ".as_bytes())?;
@@ -148,12 +220,45 @@ fn push_sorts(
     plan: &Plan,
     other: ThreadNo,
     lock: LockNo,
-) -> Result<(), AllocError> {
+) -> Result<(), AllocError>
+    ensures { OnOk result (out.new.items
+        ≡ out.old.items ++ codes " sorts " ++ thread_name plan.now other.0
+        ++ codes " anew among the waiters of " ++ lock_name plan.now lock.0) }
+{
     push_named(out, b" sorts ", plan.thread_name(other))?;
     push_named(out, b" anew among the waiters of ", plan.lock_name(lock))
 }
 
-fn push_given_back(out: &mut Vec<u8>, before: Prio, prio: Prio) -> Result<(), AllocError> {
+fn push_sleeps(out: &mut Vec<u8>, plan: &Plan, chan: ChanNo, lock: LockNo) -> Result<(), AllocError>
+    ensures { OnOk result (out.new.items
+        ≡ out.old.items ++ codes " sleeps on " ++ chan_name plan.now chan.0
+        ++ codes " and gives " ++ lock_name plan.now lock.0 ++ codes " up") }
+{
+    push_named(out, b" sleeps on ", plan.chan_name(chan))?;
+    push_named(out, b" and gives ", plan.lock_name(lock))?;
+    out.extend_from_slice(b" up")
+}
+
+fn push_refused(
+    out: &mut Vec<u8>,
+    plan: &Plan,
+    lock: LockNo,
+    held: ClassNo,
+) -> Result<(), AllocError>
+    ensures { OnOk result (out.new.items
+        ≡ out.old.items ++ codes " may not take " ++ lock_name plan.now lock.0
+        ++ codes " under class " ++ class_name plan.now held.0
+        ++ codes ": reversed, it would close a circle") }
+{
+    push_named(out, b" may not take ", plan.lock_name(lock))?;
+    push_class(out, plan, held)?;
+    out.extend_from_slice(b": reversed, it would close a circle")
+}
+
+#[tactic(auto, unfolding(crate::specs::Sentences::given_back_words, crate::specs::Sentences::change_words))]
+fn push_given_back(out: &mut Vec<u8>, before: Prio, prio: Prio) -> Result<(), AllocError>
+    ensures { OnOk result (out.new.items ≡ out.old.items ++ given_back_words before prio) }
+{
     if before == prio {
         return Ok(());
     }
@@ -161,12 +266,19 @@ fn push_given_back(out: &mut Vec<u8>, before: Prio, prio: Prio) -> Result<(), Al
     push_change(out, before, prio)
 }
 
-fn push_to_wake(out: &mut Vec<u8>, plan: &Plan, takes_off: &[ThreadNo]) -> Result<(), AllocError> {
+#[tactic(auto, unfolding(crate::specs::Sentences::to_wake_words))]
+fn push_to_wake(out: &mut Vec<u8>, plan: &Plan, takes_off: &[ThreadNo]) -> Result<(), AllocError>
+    ensures { OnOk result (out.new.items
+        ≡ out.old.items ++ to_wake_words plan.now takes_off.now) }
+{
     out.extend_from_slice(b", to wake ")?;
     push_threads(out, plan, takes_off)
 }
 
-fn push_heard(out: &mut Vec<u8>, plan: &Plan, takes_off: &[ThreadNo]) -> Result<(), AllocError> {
+#[tactic(auto, unfolding(crate::specs::Sentences::heard_words))]
+fn push_heard(out: &mut Vec<u8>, plan: &Plan, takes_off: &[ThreadNo]) -> Result<(), AllocError>
+    ensures { OnOk result (out.new.items ≡ out.old.items ++ heard_words plan.now takes_off.now) }
+{
     if takes_off.is_empty() {
         out.extend_from_slice(b", and nobody sleeps there")
     } else {
@@ -175,7 +287,10 @@ fn push_heard(out: &mut Vec<u8>, plan: &Plan, takes_off: &[ThreadNo]) -> Result<
 }
 
 /// How the run ended, in a few words.
-pub fn end_headline(end: &End) -> &'static str {
+#[tactic(auto, unfolding(crate::specs::Sentences::headline))]
+pub fn end_headline(end: &End) -> &'static str
+    ensures { result.now ≡ headline end.now }
+{
     match end {
         End::Done => "all threads came to their end",
         End::Stuck { .. } => "STUCK: nobody can run any more",
@@ -185,7 +300,10 @@ pub fn end_headline(end: &End) -> &'static str {
 }
 
 /// Pushes what is said of the end.
-pub fn push_end(out: &mut Vec<u8>, plan: &Plan, end: &End) -> Result<(), AllocError> {
+#[tactic(auto, unfolding(crate::specs::Sentences::end_words))]
+pub fn push_end(out: &mut Vec<u8>, plan: &Plan, end: &End) -> Result<(), AllocError>
+    ensures { OnOk result (out.new.items ≡ out.old.items ++ end_words plan.now end.now) }
+{
     match end {
         End::Done => out.extend_from_slice(b"all threads came to their end"),
         End::Stuck { waits } => {

@@ -1,12 +1,19 @@
 //! What is said of bars, arrows and marks.
 
-use crate::names::{push_queue, queue_name};
+ghost use Rattle.std.specs.Prelude.{◌≡◌, ◌++◌, ◌∷◌, [], decimal, OnOk};
+ghost use Rattle.lock_model.specs.Text.{spaced, mode_letter, lock_kind, lock_name};
+ghost use Rattle.chart_words.specs.Words.{arrow_words, bar_words, event_word, hold_word, mark_words, note_words, verb};
+
+use crate::names::{push_class, push_queue};
 use chart_layout::{Arrow, ArrowKind, BarKind, MarkKind};
-use lock_model::{Event, Kind, LockNo, Mode, Plan, StepKind, push_digits, push_number, push_word};
+use lock_model::{Event, Kind, LockNo, Mode, Plan, StepKind, push_number, push_word};
 use std::alloc::AllocError;
 
 /// Pushes what a bar says: `holds bus`, `reads data`, `waits for bus`, `taken off`, `woken`, `walks`.
-pub fn push_bar(out: &mut Vec<u8>, plan: &Plan, what: BarKind) -> Result<(), AllocError> {
+#[tactic(auto, unfolding(crate::specs::Words::bar_words))]
+pub fn push_bar(out: &mut Vec<u8>, plan: &Plan, what: BarKind) -> Result<(), AllocError>
+    ensures { OnOk result (out.new.items ≡ out.old.items ++ bar_words plan.now what) }
+{
     match what {
         BarKind::Holds { l, mode } => {
             out.extend_from_slice(hold_word(plan.lock_kind(l), mode))?;
@@ -19,7 +26,9 @@ pub fn push_bar(out: &mut Vec<u8>, plan: &Plan, what: BarKind) -> Result<(), All
     }
 }
 
-fn hold_word(kind: Kind, mode: Mode) -> &'static [u8] {
+fn hold_word(kind: Kind, mode: Mode) -> &'static [u8]
+    ensures { result.now ≡ hold_word kind mode }
+{
     match (kind, mode) {
         (_, Mode::Excl) | (Kind::Mtx, Mode::Shared) => b"holds",
         (Kind::Rw, Mode::Shared) => b"reads",
@@ -28,7 +37,10 @@ fn hold_word(kind: Kind, mode: Mode) -> &'static [u8] {
 }
 
 /// Pushes what an arrow says: `lends 10`, or `lends` where the owner ran so already, `wakes`, `blocks on`, `waits behind`.
-pub fn push_arrow(out: &mut Vec<u8>, arrow: Arrow) -> Result<(), AllocError> {
+#[tactic(auto, unfolding(crate::specs::Words::arrow_words))]
+pub fn push_arrow(out: &mut Vec<u8>, arrow: Arrow) -> Result<(), AllocError>
+    ensures { OnOk result (out.new.items ≡ out.old.items ++ arrow_words arrow) }
+{
     match arrow.kind {
         ArrowKind::Lends { before, prio } => {
             out.extend_from_slice(b"lends")?;
@@ -44,7 +56,10 @@ pub fn push_arrow(out: &mut Vec<u8>, arrow: Arrow) -> Result<(), AllocError> {
 }
 
 /// Pushes the word that stands at a mark: `lock bus`, `add`, `block`. An idle turn has none.
-pub fn push_mark(out: &mut Vec<u8>, plan: &Plan, what: MarkKind) -> Result<(), AllocError> {
+#[tactic(auto, unfolding(crate::specs::Words::mark_words))]
+pub fn push_mark(out: &mut Vec<u8>, plan: &Plan, what: MarkKind) -> Result<(), AllocError>
+    ensures { OnOk result (out.new.items ≡ out.old.items ++ mark_words plan.now what) }
+{
     match what {
         MarkKind::Noted(event) => push_event(out, plan, event),
         MarkKind::Did(kind) => out.extend_from_slice(verb_of(kind)),
@@ -53,7 +68,10 @@ pub fn push_mark(out: &mut Vec<u8>, plan: &Plan, what: MarkKind) -> Result<(), A
 }
 
 /// What a step is called.
-pub fn verb_of(kind: StepKind) -> &'static [u8] {
+#[tactic(auto, unfolding(crate::specs::Words::verb))]
+pub fn verb_of(kind: StepKind) -> &'static [u8]
+    ensures { result.now ≡ verb kind }
+{
     match kind {
         StepKind::Gain => b"gain",
         StepKind::Claim => b"claim",
@@ -73,7 +91,10 @@ pub fn verb_of(kind: StepKind) -> &'static [u8] {
 
 // The word of an event. A lock's name stands in it where the lock is taken, released or
 // refused.
-fn push_event(out: &mut Vec<u8>, plan: &Plan, event: Event) -> Result<(), AllocError> {
+#[tactic(auto, unfolding(crate::specs::Words::event_word))]
+fn push_event(out: &mut Vec<u8>, plan: &Plan, event: Event) -> Result<(), AllocError>
+    ensures { OnOk result (out.new.items ≡ out.old.items ++ event_word plan.now event) }
+{
     match event {
         Event::Locked { l, mode } => push_mode(out, plan, b"", l, mode, b"lock"),
         Event::Tried { l, mode } => push_mode(out, plan, b"try", l, mode, b"lock"),
@@ -93,7 +114,9 @@ fn push_event(out: &mut Vec<u8>, plan: &Plan, event: Event) -> Result<(), AllocE
     }
 }
 
-fn push_call(out: &mut Vec<u8>, word: &[u8], name: &[u8]) -> Result<(), AllocError> {
+fn push_call(out: &mut Vec<u8>, word: &[u8], name: &[u8]) -> Result<(), AllocError>
+    ensures { OnOk result (out.new.items ≡ out.old.items ++ word.now ++ 32 ∷ name.now) }
+{
     out.extend_from_slice(word)?;
     push_word(out, name)
 }
@@ -105,14 +128,20 @@ fn push_mode(
     l: LockNo,
     mode: Mode,
     behind: &[u8],
-) -> Result<(), AllocError> {
+) -> Result<(), AllocError>
+    ensures { OnOk result (out.new.items
+        ≡ out.old.items ++ before.now ++ mode_letter (lock_kind plan.now l.0) mode ++ behind.now
+        ++ 32 ∷ lock_name plan.now l.0) }
+{
     out.extend_from_slice(before)?;
     out.extend_from_slice(mode_letter(plan.lock_kind(l), mode))?;
     out.extend_from_slice(behind)?;
     push_word(out, plan.lock_name(l))
 }
 
-fn mode_letter(kind: Kind, mode: Mode) -> &'static [u8] {
+fn mode_letter(kind: Kind, mode: Mode) -> &'static [u8]
+    ensures { result.now ≡ mode_letter kind mode }
+{
     match (kind, mode) {
         (Kind::Mtx, _) => b"",
         (Kind::Rw, Mode::Excl) => b"w",
@@ -124,7 +153,10 @@ fn mode_letter(kind: Kind, mode: Mode) -> &'static [u8] {
 
 /// Pushes what an event tells beside its word: keys, values, priorities, and under which class a take was
 /// refused.
-pub fn push_note(out: &mut Vec<u8>, plan: &Plan, event: Event) -> Result<(), AllocError> {
+#[tactic(auto, unfolding(crate::specs::Words::note_words))]
+pub fn push_note(out: &mut Vec<u8>, plan: &Plan, event: Event) -> Result<(), AllocError>
+    ensures { OnOk result (out.new.items ≡ out.old.items ++ note_words plan.now event) }
+{
     match event {
         Event::Set { l, key, value } => push_edit(out, plan.lock_name(l), key, value),
         Event::Added { l, key, amount } => push_edit(out, plan.lock_name(l), key, amount),
@@ -148,15 +180,15 @@ pub fn push_note(out: &mut Vec<u8>, plan: &Plan, event: Event) -> Result<(), All
         | Event::WokeOne { c, .. }
         | Event::WokeAll { c, .. } => push_word(out, plan.chan_name(c)),
         Event::HaltedLock { l } => push_word(out, plan.lock_name(l)),
-        Event::Reversed { held, .. } => {
-            out.extend_from_slice(b" under class ")?;
-            out.extend_from_slice(plan.class_name(held))
-        }
+        Event::Reversed { held, .. } => push_class(out, plan, held),
         Event::Locked { .. } | Event::Tried { .. } | Event::Unlocked { .. } => Ok(()),
     }
 }
 
-fn push_edit(out: &mut Vec<u8>, lock: &[u8], key: u64, amount: u64) -> Result<(), AllocError> {
+fn push_edit(out: &mut Vec<u8>, lock: &[u8], key: u64, amount: u64) -> Result<(), AllocError>
+    ensures { OnOk result (out.new.items
+        ≡ out.old.items ++ spaced (lock.now ∷ decimal key ∷ decimal amount ∷ [])) }
+{
     push_word(out, lock)?;
     push_number(out, key)?;
     push_number(out, amount)
