@@ -1,7 +1,8 @@
 //! Bars and turns as slices, and priorities as counters.
 
-ghost use Rattle.std.specs.Prelude.{OnOk};
+ghost use Rattle.std.specs.Prelude.{◌≡◌, ◌++◌, flat_map, map, OnOk};
 ghost use Rattle.chart_escape.specs.JsonReader.{AddsItems, IsBehindItem};
+ghost use Rattle.chart_trace.specs.Events.{Counter, Slice, bar_event, begin_of, mark_events, next_line, next_lines, step_event, turn_slice};
 
 use crate::tracks::{TURNS, process_of, time_of, track_of};
 use chart_escape::{Piece, push_items};
@@ -18,23 +19,41 @@ pub fn push_bars(
     bars: &[Bar],
 ) -> Result<(), AllocError>
     requires { IsBehindItem out.old.items }
-    ensures { OnOk result (AddsItems out.old.items out.new.items) }
+    ensures pushed { OnOk result (out.new.items
+        ≡ out.old.items ++ next_lines (map (bar_event plan.now) bars.now)) }
+    ensures reads { OnOk result (AddsItems out.old.items out.new.items) }
 {
     for bar in bars {
-        let mut name = Vec::new(alloc);
-        push_bar(&mut name, plan, bar.what)?;
-        let begin = time_of(bar.first.saturating_sub(1));
-        let lasts = time_of(bar.last).saturating_sub(begin);
-        push_slice(
-            out,
-            process_of(bar.thread),
-            track_of(bar.what),
-            &name,
-            begin,
-            lasts,
-        )?;
+        push_one(alloc, out, plan, *bar)?;
     }
     Ok(())
+}
+
+fn push_one(alloc: Global, out: &mut Vec<u8>, plan: &Plan, bar: Bar) -> Result<(), AllocError>
+    requires { IsBehindItem out.old.items }
+    ensures pushed { OnOk result (out.new.items
+        ≡ out.old.items ++ next_line (bar_event plan.now bar)) }
+    ensures reads { OnOk result (AddsItems out.old.items out.new.items) }
+{
+    let mut name = Vec::new(alloc);
+    push_bar(&mut name, plan, bar.what)?;
+    let begin = begin_of(bar.first);
+    let lasts = time_of(bar.last).saturating_sub(begin);
+    push_slice(
+        out,
+        process_of(bar.thread),
+        track_of(bar.what),
+        &name,
+        begin,
+        lasts,
+    )
+}
+
+// The time from which a row is shown.
+fn begin_of(row: u32) -> u64
+    ensures { result ≡ begin_of row }
+{
+    time_of(row.saturating_sub(1))
 }
 
 /// Pushes turns as slices of a millisecond. Idle turns have none.
@@ -45,26 +64,45 @@ pub fn push_turns(
     marks: &[Mark],
 ) -> Result<(), AllocError>
     requires { IsBehindItem out.old.items }
-    ensures { OnOk result (AddsItems out.old.items out.new.items) }
+    ensures pushed { OnOk result (out.new.items
+        ≡ out.old.items ++ next_lines (flat_map (mark_events plan.now) marks.now)) }
+    ensures reads { OnOk result (AddsItems out.old.items out.new.items) }
 {
     for mark in marks {
-        let mut name = Vec::new(alloc);
-        push_mark(&mut name, plan, mark.what)?;
-        if let MarkKind::Noted(event) = mark.what {
-            push_note(&mut name, plan, event)?;
-        }
-        if !name.is_empty() {
-            push_slice(
-                out,
-                process_of(mark.thread),
-                TURNS,
-                &name,
-                time_of(mark.turn),
-                1000,
-            )?;
-        }
+        push_turn(alloc, out, plan, *mark)?;
     }
     Ok(())
+}
+
+fn push_turn(alloc: Global, out: &mut Vec<u8>, plan: &Plan, mark: Mark) -> Result<(), AllocError>
+    requires { IsBehindItem out.old.items }
+    ensures pushed { OnOk result (out.new.items
+        ≡ out.old.items ++ next_lines (mark_events plan.now mark)) }
+    ensures reads { OnOk result (AddsItems out.old.items out.new.items) }
+{
+    let mut name = Vec::new(alloc);
+    match mark.what {
+        MarkKind::Noted(event) => {
+            push_mark(&mut name, plan, mark.what)?;
+            push_note(&mut name, plan, event)?;
+            push_named_turn(out, mark, &name)
+        }
+        MarkKind::Did(_) => {
+            push_mark(&mut name, plan, mark.what)?;
+            push_named_turn(out, mark, &name)
+        }
+        MarkKind::Idle => Ok(()),
+    }
+}
+
+fn push_named_turn(out: &mut Vec<u8>, mark: Mark, name: &[u8]) -> Result<(), AllocError>
+    requires { IsBehindItem out.old.items }
+    ensures pushed { OnOk result (out.new.items
+        ≡ out.old.items ++ next_line (turn_slice mark name.now)) }
+    ensures reads { OnOk result (AddsItems out.old.items out.new.items) }
+{
+    let pid = process_of(mark.thread);
+    push_slice(out, pid, TURNS, name, time_of(mark.turn), 1000)
 }
 
 fn push_slice(
@@ -76,7 +114,9 @@ fn push_slice(
     lasts: u64,
 ) -> Result<(), AllocError>
     requires { IsBehindItem out.old.items }
-    ensures { OnOk result (AddsItems out.old.items out.new.items) }
+    ensures pushed { OnOk result (out.new.items
+        ≡ out.old.items ++ next_line (Slice pid tid name.now begin lasts)) }
+    ensures reads { OnOk result (AddsItems out.old.items out.new.items) }
 {
     push_items(
         out,
@@ -99,21 +139,42 @@ fn push_slice(
 /// Pushes the priorities by which threads run, as counters.
 pub fn push_steps(out: &mut Vec<u8>, steps: &[Step]) -> Result<(), AllocError>
     requires { IsBehindItem out.old.items }
-    ensures { OnOk result (AddsItems out.old.items out.new.items) }
+    ensures pushed { OnOk result (out.new.items
+        ≡ out.old.items ++ next_lines (map step_event steps.now)) }
+    ensures reads { OnOk result (AddsItems out.old.items out.new.items) }
 {
     for step in steps {
-        push_items(
-            out,
-            &[
-                Piece::Own(",\n{\"ph\":\"C\",\"name\":\"priority\",\"pid\":"),
-                Piece::Number(process_of(step.thread)),
-                Piece::Own(",\"ts\":"),
-                Piece::Number(time_of(step.first.saturating_sub(1))),
-                Piece::Own(",\"args\":{\"runs as\":"),
-                Piece::Number(u64::from(step.effective.0)),
-                Piece::Own("}}"),
-            ],
-        )?;
+        push_step(out, *step)?;
     }
     Ok(())
+}
+
+fn push_step(out: &mut Vec<u8>, step: Step) -> Result<(), AllocError>
+    requires { IsBehindItem out.old.items }
+    ensures pushed { OnOk result (out.new.items
+        ≡ out.old.items ++ next_line (step_event step)) }
+    ensures reads { OnOk result (AddsItems out.old.items out.new.items) }
+{
+    let pid = process_of(step.thread);
+    push_counter(out, pid, begin_of(step.first), u64::from(step.effective.0))
+}
+
+fn push_counter(out: &mut Vec<u8>, pid: u64, time: u64, prio: u64) -> Result<(), AllocError>
+    requires { IsBehindItem out.old.items }
+    ensures pushed { OnOk result (out.new.items
+        ≡ out.old.items ++ next_line (Counter pid time prio)) }
+    ensures reads { OnOk result (AddsItems out.old.items out.new.items) }
+{
+    push_items(
+        out,
+        &[
+            Piece::Own(",\n{\"ph\":\"C\",\"name\":\"priority\",\"pid\":"),
+            Piece::Number(pid),
+            Piece::Own(",\"ts\":"),
+            Piece::Number(time),
+            Piece::Own(",\"args\":{\"runs as\":"),
+            Piece::Number(prio),
+            Piece::Own("}}"),
+        ],
+    )
 }

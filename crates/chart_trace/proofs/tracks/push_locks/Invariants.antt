@@ -1,6 +1,9 @@
-use Rattle.std.proofs.Common.{◌≡◌}
+use Rattle.std.proofs.Common.{◌≡◌, ◌++◌, drop, flat_map, map, None}
 use Rattle.chart_escape.specs.JsonReader.{read}
+use Rattle.chart_trace.specs.Events.{next_lines, lock_tracks}
 use Rattle.chart_trace.proofs.tracks.push_locks.Given as goal
 
-abbrev pub invariant-loop-i : goal.invariant-loop-i
-invariant-loop-i l = read l.out.items ≡ read l.fn.out.items
+-- what is left to push
+abbrev pub invariant-loop-bar : goal.invariant-loop-bar
+invariant-loop-bar l = (l.out.items ++ next_lines (lock_tracks l.plan l.before (drop l.bar-index l.bars)) ≡ l.fn.out.items ++ next_lines (lock_tracks l.plan None l.bars))
+    × (read l.out.items ≡ read l.fn.out.items)
