@@ -1,5 +1,5 @@
 -- Lines of events, one behind the other.
-use Rattle.std.proofs.Common.{ℕ, ◌≡◌, ◌∙◌, ◌++◌, ap, sym, append_assoc, List, flat_map}
+use Rattle.std.proofs.Common.{ℕ, ◌≡◌, ◌∙◌, ◌++◌, ap, sym, append_assoc, List}
 use Rattle.std.proofs.lemmas.Grind.{flat_map-append}
 use Rattle.chart_trace.specs.Events.{Event, next_line, next_lines}
 

@@ -1,4 +1,4 @@
-use Rattle.std.proofs.Common.{◌≡◌, ◌++◌, drop, flat_map, map}
+use Rattle.std.proofs.Common.{◌≡◌, ◌++◌, drop}
 use Rattle.chart_escape.specs.JsonReader.{read}
 use Rattle.chart_trace.specs.Events.{next_lines, arrow_events}
 use Rattle.chart_trace.proofs.flows.push_flows.Given as goal

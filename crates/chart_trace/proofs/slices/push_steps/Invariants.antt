@@ -1,4 +1,4 @@
-use Rattle.std.proofs.Common.{◌≡◌, ◌++◌, drop, flat_map, map}
+use Rattle.std.proofs.Common.{◌≡◌, ◌++◌, drop, map}
 use Rattle.chart_escape.specs.JsonReader.{read}
 use Rattle.chart_trace.specs.Events.{next_lines, step_event}
 use Rattle.chart_trace.proofs.slices.push_steps.Given as goal

@@ -1,4 +1,4 @@
-use Rattle.std.proofs.Common.{◌≡◌, ◌++◌, drop, flat_map, map}
+use Rattle.std.proofs.Common.{◌≡◌, ◌++◌, drop, flat_map}
 use Rattle.chart_escape.specs.JsonReader.{read}
 use Rattle.chart_trace.specs.Events.{next_lines, mark_events}
 use Rattle.chart_trace.proofs.slices.push_turns.Given as goal

@@ -1,4 +1,4 @@
-use Rattle.std.proofs.Common.{ℕ, ◌∙◌, ◌++◌, ap, List, codes}
+use Rattle.std.proofs.Common.{◌∙◌, ◌++◌, ap, codes}
 use Rattle.std.proofs.lemmas.Result.{on_ok_weaker}
 use Rattle.chart_trace.specs.Events.{beginning, end_event, event_bytes}
 use Rattle.chart_trace.proofs.tracing.begin_trace.Goals as goal

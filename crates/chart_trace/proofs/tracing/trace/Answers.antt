@@ -1,4 +1,4 @@
-use Rattle.std.proofs.Common.{ℕ, ◌∙◌, ◌++◌, ap, List, codes}
+use Rattle.std.proofs.Common.{◌∙◌, ◌++◌, ap, codes}
 use Rattle.chart_trace.specs.Events.{beginning, end_event, event_bytes, next_lines, other_events}
 use Rattle.chart_trace.proofs.tracing.trace.Goals as goal
 

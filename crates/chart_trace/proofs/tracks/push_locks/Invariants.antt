@@ -1,4 +1,4 @@
-use Rattle.std.proofs.Common.{◌≡◌, ◌++◌, drop, flat_map, map, None}
+use Rattle.std.proofs.Common.{◌≡◌, ◌++◌, drop, None}
 use Rattle.chart_escape.specs.JsonReader.{read}
 use Rattle.chart_trace.specs.Events.{next_lines, lock_tracks}
 use Rattle.chart_trace.proofs.tracks.push_locks.Given as goal

@@ -1,4 +1,4 @@
-use Rattle.std.proofs.Common.{◌≡◌, ◌++◌, drop, flat_map, map}
+use Rattle.std.proofs.Common.{◌≡◌, ◌++◌, drop, flat_map}
 use Rattle.chart_escape.specs.JsonReader.{read}
 use Rattle.chart_trace.specs.Events.{next_lines, lane_events}
 use Rattle.chart_trace.proofs.tracks.push_names.Given as goal
