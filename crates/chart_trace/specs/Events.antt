@@ -1,5 +1,5 @@
--- What a trace tells: its events, which of them a chart has, and how each is written, in the format that Chrome's tracing
--- and Perfetto read. A thread of the plan is a process there, and a turn lasts a millisecond.
+-- What a trace tells: its events, which of them a chart has, and how each is written, in the format that Chrome's
+-- tracing and Perfetto read. A thread of the plan is a process there, and a turn lasts a millisecond.
 use Rattle.std.specs.Prelude.{ℕ, ◌+◌, ◌-◌, ◌*◌, ◌==◌, Bool, true, not, ◌&&◌, if◌then◌else◌, List, [], ◌∷◌, ◌++◌, map, flat_map, codes, decimal, Option, Some, None, option_map}
 use Rattle.std.specs.Option.{option_or}
 use Rattle.lock_model.specs.Text.{thread_name, lock_name}
@@ -50,6 +50,7 @@ turns_track = 1
 abbrev pub in_a_row : List (List ℕ) → List ℕ
 in_a_row parts = flat_map (λ part. part) parts
 
+-- how an event is written
 unfoldable pub event_bytes : Event → List ℕ
 event_bytes (Process pid name) = in_a_row (
     codes "{\"ph\":\"M\",\"name\":\"process_name\",\"pid\":" ∷ decimal pid
@@ -85,6 +86,7 @@ event_bytes (Instant name time) = in_a_row (
 abbrev pub next_line : Event → List ℕ
 next_line event = codes ",\n" ++ event_bytes event
 
+-- events behind others
 abbrev pub next_lines : List Event → List ℕ
 next_lines events = flat_map next_line events
 
@@ -104,6 +106,7 @@ walks_track = 3
 abbrev pub holds_track : LockNo → ℕ
 holds_track l = 10 + l.0
 
+-- the track of a bar, by what it says
 abbrev pub track_of : BarKind → ℕ
 track_of (bar.Holds l mode) = holds_track l
 track_of (bar.Waits q) = waits_track
@@ -134,6 +137,7 @@ abbrev pub is_other : Bar → Bar → Bool
 is_other before bar =
     not (before.thread.0 == bar.thread.0 && track_of before.what == track_of bar.what)
 
+-- whether a bar is the first on its track
 abbrev pub is_first_there : Option Bar → Bar → Bool
 is_first_there None bar = true
 is_first_there (Some before) bar = is_other before bar
@@ -164,16 +168,18 @@ abbrev pub bar_event : Plan → Bar → Event
 bar_event plan bar = Slice (process_of bar.thread) (track_of bar.what) (bar_words plan bar.what)
     (begin_of bar.first) (time_of bar.last - begin_of bar.first)
 
--- a turn is a slice of a millisecond, with its word and what its event tells; an idle turn is none
+-- a turn is a slice of a millisecond
 abbrev pub turn_slice : Mark → List ℕ → Event
 turn_slice m name = Slice (process_of m.thread) turns_track name (time_of m.turn) 1000
 
+-- its name is its word and what its event tells; an idle turn has no slice
 abbrev pub turn_events : Plan → Mark → MarkKind → List Event
 turn_events plan m (mark.Noted event) =
     turn_slice m (mark_words plan (mark.Noted event) ++ note_words plan event) ∷ []
 turn_events plan m (mark.Did kind) = turn_slice m (mark_words plan (mark.Did kind)) ∷ []
 turn_events plan m mark.Idle = []
 
+-- the slice of a mark, if its turn has one
 abbrev pub mark_events : Plan → Mark → List Event
 mark_events plan m = turn_events plan m m.what
 
@@ -181,7 +187,7 @@ mark_events plan m = turn_events plan m m.what
 abbrev pub step_event : Step → Event
 step_event step = Counter (process_of step.thread) (begin_of step.first) step.effective.0
 
--- the lock for which a sentence says that its thread lent, and that in a turn
+-- the lock for which a sentence says that its thread lent
 abbrev pub lock_lent : Saying → Option LockNo
 lock_lent (saying.Waits l holders behind) = None
 lock_lent (saying.Lends to l before prio goes_on) = Some l
@@ -192,10 +198,11 @@ lock_lent (saying.Sleeps c l) = None
 lock_lent (saying.Wakes c takes_off) = None
 lock_lent (saying.Refused l held) = None
 
+-- that of a sentence of the turn
 abbrev pub lent_in : Sentence → ℕ → Option LockNo
 lent_in s turn = if s.turn == turn then lock_lent s.saying else None
 
--- the lock for which a turn's thread lent, as the sentence of the turn says
+-- the lock for which a turn's thread lent, as the turn's sentence says, or the last of them
 abbrev pub loan_lock : List Sentence → ℕ → Option LockNo
 loan_lock [] turn = None
 loan_lock (s ∷ sentences) turn = option_or (loan_lock sentences turn) (lent_in s turn)
@@ -207,6 +214,7 @@ end_of l arrow.Wakes = Some waits_track
 end_of l arrow.BlockedOn = None
 end_of l arrow.Behind = None
 
+-- an arrow that ends on a track is a flow
 abbrev pub flow_to : ℕ → Arrow → Option ℕ → List Event
 flow_to id arrow None = []
 flow_to id arrow (Some track) = Flow id (arrow_words arrow)
@@ -232,11 +240,13 @@ other_events plan chart =
 
 -- 4. The whole trace: a title and the events
 
+-- what stands before the events: the unit of times, and the title
 unfoldable pub beginning : List ℕ → List ℕ
 beginning title = in_a_row (
     codes "{\"displayTimeUnit\":\"ms\",\"otherData\":{\"title\":" ∷ json_string title
     ∷ codes "},\"traceEvents\":" ∷ [])
 
+-- the title, and the events in an array, each on a line of its own
 abbrev pub trace_bytes : Plan → Chart → List ℕ → List ℕ
 trace_bytes plan chart title =
     beginning title ++ codes "[" ++ codes "\n" ++ event_bytes (end_event chart)

@@ -66,6 +66,7 @@ unfoldable pub heard_words : Plan → List ThreadNo → List ℕ
 heard_words plan [] = codes ", and nobody sleeps there"
 heard_words plan (t ∷ ts) = to_wake_words plan (t ∷ ts)
 
+-- what is said of a turn
 unfoldable pub saying_words : Plan → Saying → List ℕ
 saying_words plan (Waits l holders behind) = waiting_words plan l holders behind
 saying_words plan (Lends to l before prio goes_on) =
@@ -110,6 +111,7 @@ waits_behind plan sign (wait ∷ waits) =
     sign ++ thread_name plan wait.0.0 ++ 32 ∷ queue_words plan wait.1
     ++ waits_behind plan (codes ", ") waits
 
+-- what is said of the end
 unfoldable pub end_words : Plan → End → List ℕ
 end_words plan end.Done = codes "all threads came to their end"
 end_words plan (end.Stuck waits) = codes "stuck" ++ waits_behind plan (codes ": ") waits

@@ -76,6 +76,7 @@ arrow_kind_words arrow.Wakes = codes "wakes"
 arrow_kind_words arrow.BlockedOn = codes "blocks on"
 arrow_kind_words arrow.Behind = codes "waits behind"
 
+-- those of an arrow, by its kind
 unfoldable pub arrow_words : Arrow → List ℕ
 arrow_words arrow = arrow_kind_words arrow.kind
 
