@@ -1,1 +1,3 @@
+pub mod Tracks
+pub mod Data
 pub mod Page

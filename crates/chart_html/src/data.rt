@@ -1,6 +1,7 @@
 //! What the page knows of each row, as JSON.
-ghost use Rattle.std.specs.Prelude.{IfOk, OnOk};
+ghost use Rattle.std.specs.Prelude.{◌≡◌, ◌++◌, [], slice_get, unwrap_or, IfOk, OnOk};
 ghost use Rattle.chart_escape.specs.JsonReader.{AddsValue, IsAtValue, IsJson};
+ghost use Rattle.chart_html.specs.Data.{data_bytes, done_words, edits_bytes, lock_bytes, locks_bytes, marks_bytes, said_bytes};
 
 use crate::edits::edits_of;
 use crate::queues::push_changes;
@@ -22,7 +23,8 @@ pub fn data_of(
     rows: &Rows,
     chart: &Chart,
 ) -> Result<Vec<u8>, AllocError>
-    ensures { IfOk result (λ text. IsJson text.items) }
+    ensures told { IfOk result (λ text. text.items ≡ data_bytes plan.now rows.now chart.now) }
+    ensures reads { IfOk result (λ text. IsJson text.items) }
 {
     let mut out = Vec::new(alloc);
     begin_object(
@@ -58,7 +60,8 @@ fn push_marks(
     marks: &[Mark],
 ) -> Result<(), AllocError>
     requires { IsAtValue out.old.items }
-    ensures { OnOk result (AddsValue out.old.items out.new.items) }
+    ensures pushed { OnOk result (out.new.items ≡ out.old.items ++ marks_bytes plan.now marks.now) }
+    ensures reads { OnOk result (AddsValue out.old.items out.new.items) }
 {
     begin_array(out)?;
     for (i, mark) in marks.iter().enumerate() {
@@ -80,21 +83,34 @@ fn push_marks(
     end_array(out, marks.len())
 }
 
-fn words_of(alloc: Global, plan: &Plan, what: MarkKind) -> Result<Vec<u8>, AllocError> {
+fn words_of(alloc: Global, plan: &Plan, what: MarkKind) -> Result<Vec<u8>, AllocError>
+    ensures { IfOk result (λ words. words.items ≡ done_words plan.now what) }
+{
     let mut words = Vec::new(alloc);
-    push_mark(&mut words, plan, what)?;
-    match what {
-        MarkKind::Noted(event) => push_note(&mut words, plan, event)?,
-        MarkKind::Did(_) => {}
-        MarkKind::Idle => words.extend_from_slice(b"idle")?,
-    }
+    push_done(&mut words, plan, what)?;
     Ok(words)
+}
+
+// What was done, with all that its event tells.
+fn push_done(out: &mut Vec<u8>, plan: &Plan, what: MarkKind) -> Result<(), AllocError>
+    ensures { OnOk result (out.new.items ≡ out.old.items ++ done_words plan.now what) }
+{
+    match what {
+        MarkKind::Noted(event) => {
+            push_mark(out, plan, what)?;
+            push_note(out, plan, event)
+        }
+        MarkKind::Did(_) => push_mark(out, plan, what),
+        MarkKind::Idle => out.extend_from_slice(b"idle"),
+    }
 }
 
 // Sentences, each with its turn.
 fn push_said(alloc: Global, out: &mut Vec<u8>, plan: &Plan, chart: &Chart) -> Result<(), AllocError>
     requires { IsAtValue out.old.items }
-    ensures { OnOk result (AddsValue out.old.items out.new.items) }
+    ensures pushed { OnOk result (out.new.items
+        ≡ out.old.items ++ said_bytes plan.now chart.now.sentences) }
+    ensures reads { OnOk result (AddsValue out.old.items out.new.items) }
 {
     let sentences = chart.sentences.as_slice();
     begin_array(out)?;
@@ -118,25 +134,34 @@ fn push_said(alloc: Global, out: &mut Vec<u8>, plan: &Plan, chart: &Chart) -> Re
 
 fn push_locks(out: &mut Vec<u8>, plan: &Plan, rows: &Rows) -> Result<(), AllocError>
     requires { IsAtValue out.old.items }
-    ensures { OnOk result (AddsValue out.old.items out.new.items) }
+    ensures pushed { OnOk result (out.new.items
+        ≡ out.old.items ++ locks_bytes plan.now rows.now.words) }
+    ensures reads { OnOk result (AddsValue out.old.items out.new.items) }
 {
     let locks = plan.locks.as_slice();
     begin_array(out)?;
     for (l, lock) in locks.iter().enumerate() {
         begin_item(out, l)?;
-        let changes = match rows.words.as_slice().get(l) {
-            Some(track) => track.changes(),
-            None => &[],
-        };
-        push_lock(out, lock, changes)?;
+        push_lock(out, lock, track_of(rows, l))?;
     }
     end_array(out, locks.len())
+}
+
+// The track of a lock's word.
+fn track_of(rows: &Rows, l: usize) -> &[(u32, u64)]
+    ensures { result.now ≡ unwrap_or (slice_get rows.now.words l) [] }
+{
+    match rows.words.as_slice().get(l) {
+        Some(track) => track.changes(),
+        None => &[],
+    }
 }
 
 // A lock: its name, its kind, and its word.
 fn push_lock(out: &mut Vec<u8>, lock: &LockDecl, words: &[(u32, u64)]) -> Result<(), AllocError>
     requires { IsAtValue out.old.items }
-    ensures { OnOk result (AddsValue out.old.items out.new.items) }
+    ensures pushed { OnOk result (out.new.items ≡ out.old.items ++ lock_bytes lock.now words.now) }
+    ensures reads { OnOk result (AddsValue out.old.items out.new.items) }
 {
     let kind: &[u8] = match lock.kind {
         Kind::Mtx => b"mutex",
@@ -160,7 +185,8 @@ fn push_lock(out: &mut Vec<u8>, lock: &LockDecl, words: &[(u32, u64)]) -> Result
 // Edits of the locks' tables. A key and a value may have 64 bits, so they are strings.
 fn push_edits(alloc: Global, out: &mut Vec<u8>, rows: &Rows) -> Result<(), AllocError>
     requires { IsAtValue out.old.items }
-    ensures { OnOk result (AddsValue out.old.items out.new.items) }
+    ensures pushed { OnOk result (out.new.items ≡ out.old.items ++ edits_bytes rows.now) }
+    ensures reads { OnOk result (AddsValue out.old.items out.new.items) }
 {
     let edits = edits_of(alloc, rows)?;
     begin_array(out)?;
@@ -176,7 +202,7 @@ fn push_edits(alloc: Global, out: &mut Vec<u8>, rows: &Rows) -> Result<(), Alloc
                 Piece::Own(",\""),
                 Piece::Number(edit.key),
                 Piece::Own("\","),
-                Piece::Number(if edit.adds { 1 } else { 0 }),
+                Piece::Number(u64::from(edit.adds)),
                 Piece::Own(",\""),
                 Piece::Number(edit.amount),
                 Piece::Own("\"]"),

@@ -26,23 +26,24 @@ pub fn html(
     title: &str,
     subtitle: &str,
 ) -> Result<Vec<u8>, AllocError>
-    ensures { IfOk result (λ page. IsPage title.now page.items) }
+    ensures { IfOk result (λ page. IsPage plan.now rows.now chart.now title.now
+        page.items) }
 {
     let picture = svg(alloc, plan, chart, title, subtitle)?;
-    let rows = data_of(alloc, plan, rows, chart)?;
-    page_of(alloc, title, &picture, &rows)
+    let known = data_of(alloc, plan, rows, chart)?;
+    page_of(alloc, title, &picture, &known)
 }
 
 // The parts one behind the other.
-fn page_of(alloc: Global, title: &str, picture: &[u8], rows: &[u8]) -> Result<Vec<u8>, AllocError>
-    ensures { IfOk result (λ page. page.items ≡ page_bytes title.now picture.now rows.now) }
+fn page_of(alloc: Global, title: &str, picture: &[u8], known: &[u8]) -> Result<Vec<u8>, AllocError>
+    ensures { IfOk result (λ page. page.items ≡ page_bytes title.now picture.now known.now) }
 {
     let mut page = Vec::from_slice(alloc, BEGIN.as_bytes())?;
     push_text(&mut page, title.as_bytes())?;
     page.extend_from_slice(STYLE.as_bytes())?;
     page.extend_from_slice(picture)?;
     page.extend_from_slice(CONTROLS.as_bytes())?;
-    page.extend_from_slice(rows)?;
+    page.extend_from_slice(known)?;
     page.extend_from_slice(SCRIPT.as_bytes())?;
     Ok(page)
 }

@@ -1,5 +1,8 @@
 //! What was set and added in the locks' tables, each with its row.
 
+ghost use Rattle.std.specs.Prelude.{◌≡◌, ◌++◌, IfOk, OnOk};
+ghost use Rattle.chart_html.specs.Data.{edit, run_edits, turn_edits};
+
 use lock_model::{Event, LockNo};
 use run_rows::Rows;
 use std::alloc::{AllocError, Global};
@@ -17,21 +20,41 @@ pub struct Edit {
 }
 
 /// The edits of a run, by row. A turn makes one entry of the history, or none.
-pub fn edits_of(alloc: Global, rows: &Rows) -> Result<Vec<Edit>, AllocError> {
+pub fn edits_of(alloc: Global, rows: &Rows) -> Result<Vec<Edit>, AllocError>
+    ensures { IfOk result (λ edits. edits.items ≡ run_edits rows.now) }
+{
     let mut edits = Vec::new(alloc);
     let mut made = 0;
     for (turn, its) in rows.turns.as_slice().iter().enumerate() {
-        if its.entries > made {
-            if let Some(entry) = rows.outcome.history.at(made) {
-                push_edit(&mut edits, (turn as u64).saturating_add(1), entry.event)?;
-            }
-            made = its.entries;
-        }
+        push_made(&mut edits, rows, turn as u64 + 1, made, its.entries)?;
+        made = made.max(its.entries);
     }
     Ok(edits)
 }
 
-fn push_edit(edits: &mut Vec<Edit>, row: u64, event: Event) -> Result<(), AllocError> {
+// What a turn made, behind which the history has so many entries where it had `made`.
+fn push_made(
+    edits: &mut Vec<Edit>,
+    rows: &Rows,
+    row: u64,
+    made: u32,
+    entries: u32,
+) -> Result<(), AllocError>
+    ensures { OnOk result (edits.new.items ≡ edits.old.items
+        ++ turn_edits rows.now.outcome.history row made entries) }
+{
+    if made >= entries {
+        return Ok(());
+    }
+    match rows.outcome.history.at(made) {
+        Some(entry) => push_edit(edits, row, entry.event),
+        None => Ok(()),
+    }
+}
+
+fn push_edit(edits: &mut Vec<Edit>, row: u64, event: Event) -> Result<(), AllocError>
+    ensures { OnOk result (edits.new.items ≡ edits.old.items ++ edit row event) }
+{
     let (l, key, adds, amount) = if let Event::Set { l, key, value } = event {
         (l, key, false, value)
     } else if let Event::Added { l, key, amount } = event {

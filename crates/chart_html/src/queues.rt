@@ -1,6 +1,8 @@
 //! The queues that weren't empty, as JSON.
-ghost use Rattle.std.specs.Prelude.{OnOk};
+ghost use Rattle.std.specs.Prelude.{◌≡◌, ◌++◌, OnOk};
 ghost use Rattle.chart_escape.specs.JsonReader.{AddsValue, IsAtValue};
+ghost use Rattle.chart_html.specs.Data.{change_bytes, line_bytes, name_bytes, queues_bytes, waiters_bytes};
+ghost use Rattle.chart_html.specs.Tracks.{array_bytes};
 
 use chart_escape::{
     Piece, begin_array, begin_item, begin_member, begin_object, end_array, end_object, push_item,
@@ -14,7 +16,9 @@ use std::alloc::AllocError;
 /// Pushes the queues of a run, by the row from which on they hold.
 pub fn push_changes(out: &mut Vec<u8>, plan: &Plan, rows: &Rows) -> Result<(), AllocError>
     requires { IsAtValue out.old.items }
-    ensures { OnOk result (AddsValue out.old.items out.new.items) }
+    ensures pushed { OnOk result (out.new.items
+        ≡ out.old.items ++ queues_bytes plan.now rows.now.queues) }
+    ensures reads { OnOk result (AddsValue out.old.items out.new.items) }
 {
     let changes = rows.queues.changes();
     begin_array(out)?;
@@ -32,7 +36,9 @@ fn push_change(
     lines: &[QueueLine],
 ) -> Result<(), AllocError>
     requires { IsAtValue out.old.items }
-    ensures { OnOk result (AddsValue out.old.items out.new.items) }
+    ensures pushed { OnOk result (out.new.items
+        ≡ out.old.items ++ change_bytes plan.now (row, lines.now)) }
+    ensures reads { OnOk result (AddsValue out.old.items out.new.items) }
 {
     begin_object(
         out,
@@ -48,7 +54,9 @@ fn push_change(
 
 fn push_lines(out: &mut Vec<u8>, plan: &Plan, lines: &[QueueLine]) -> Result<(), AllocError>
     requires { IsAtValue out.old.items }
-    ensures { OnOk result (AddsValue out.old.items out.new.items) }
+    ensures pushed { OnOk result (out.new.items
+        ≡ out.old.items ++ array_bytes (line_bytes plan.now) lines.now) }
+    ensures reads { OnOk result (AddsValue out.old.items out.new.items) }
 {
     begin_array(out)?;
     for (i, line) in lines.iter().enumerate() {
@@ -60,7 +68,8 @@ fn push_lines(out: &mut Vec<u8>, plan: &Plan, lines: &[QueueLine]) -> Result<(),
 
 fn push_line(out: &mut Vec<u8>, plan: &Plan, line: &QueueLine) -> Result<(), AllocError>
     requires { IsAtValue out.old.items }
-    ensures { OnOk result (AddsValue out.old.items out.new.items) }
+    ensures pushed { OnOk result (out.new.items ≡ out.old.items ++ line_bytes plan.now line.now) }
+    ensures reads { OnOk result (AddsValue out.old.items out.new.items) }
 {
     begin_object(
         out,
@@ -84,7 +93,9 @@ fn push_line(out: &mut Vec<u8>, plan: &Plan, line: &QueueLine) -> Result<(), All
 
 fn push_names(out: &mut Vec<u8>, plan: &Plan, threads: &[ThreadNo]) -> Result<(), AllocError>
     requires { IsAtValue out.old.items }
-    ensures { OnOk result (AddsValue out.old.items out.new.items) }
+    ensures pushed { OnOk result (out.new.items
+        ≡ out.old.items ++ array_bytes (name_bytes plan.now) threads.now) }
+    ensures reads { OnOk result (AddsValue out.old.items out.new.items) }
 {
     begin_array(out)?;
     for (i, t) in threads.iter().enumerate() {
@@ -100,7 +111,9 @@ fn push_waiters(
     waiters: &[(ThreadNo, Prio)],
 ) -> Result<(), AllocError>
     requires { IsAtValue out.old.items }
-    ensures { OnOk result (AddsValue out.old.items out.new.items) }
+    ensures pushed { OnOk result (out.new.items
+        ≡ out.old.items ++ waiters_bytes plan.now waiters.now) }
+    ensures reads { OnOk result (AddsValue out.old.items out.new.items) }
 {
     begin_array(out)?;
     for (i, waiter) in waiters.iter().enumerate() {

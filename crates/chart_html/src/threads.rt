@@ -1,6 +1,8 @@
 //! What threads were, as JSON.
-ghost use Rattle.std.specs.Prelude.{◌≡◌, OnOk};
+ghost use Rattle.std.specs.Prelude.{◌≡◌, ◌++◌, codes, OnOk};
 ghost use Rattle.chart_escape.specs.JsonReader.{at, outer, read, AddsValue, BehindValue, IsAtValue, IsInObject};
+ghost use Rattle.chart_html.specs.Data.{done_bytes, held_bytes, lane_end, thread_bytes, threads_bytes};
+ghost use Rattle.lock_model.specs.Plans.{thread_name};
 
 use crate::tracks::{push_holds, push_prios, push_queues, push_stands, push_waits, push_walks};
 use chart_escape::{
@@ -20,7 +22,9 @@ pub fn push_threads(
     chart: &Chart,
 ) -> Result<(), AllocError>
     requires { IsAtValue out.old.items }
-    ensures { OnOk result (AddsValue out.old.items out.new.items) }
+    ensures pushed { OnOk result (out.new.items
+        ≡ out.old.items ++ threads_bytes plan.now rows.now.threads chart.now) }
+    ensures reads { OnOk result (AddsValue out.old.items out.new.items) }
 {
     let threads = rows.threads.as_slice();
     begin_array(out)?;
@@ -38,7 +42,9 @@ pub fn push_threads(
     end_array(out, threads.len())
 }
 
-fn name_of(plan: &Plan, t: usize) -> &[u8] {
+fn name_of(plan: &Plan, t: usize) -> &[u8]
+    ensures { result.now ≡ thread_name plan.now t }
+{
     match plan.threads.as_slice().get(t) {
         Some(thread) => thread.name.as_bytes(),
         None => b"",
@@ -46,7 +52,9 @@ fn name_of(plan: &Plan, t: usize) -> &[u8] {
 }
 
 // The first row in which the thread has come to its end.
-fn ended_of(chart: &Chart, t: usize) -> Option<u32> {
+fn ended_of(chart: &Chart, t: usize) -> Option<u32>
+    ensures { result ≡ lane_end chart.now t }
+{
     chart.lanes.as_slice().get(t)?.ended
 }
 
@@ -59,7 +67,9 @@ fn push_thread(
     ended: Option<u32>,
 ) -> Result<(), AllocError>
     requires { IsAtValue out.old.items }
-    ensures { OnOk result (AddsValue out.old.items out.new.items) }
+    ensures pushed { OnOk result (out.new.items
+        ≡ out.old.items ++ thread_bytes plan.now name.now thread.now ended) }
+    ensures reads { OnOk result (AddsValue out.old.items out.new.items) }
 {
     begin_object(
         out,
@@ -88,7 +98,8 @@ fn push_thread(
 // By lock: how the thread held it.
 fn push_held(out: &mut Vec<u8>, thread: &ThreadRows) -> Result<(), AllocError>
     requires { IsAtValue out.old.items }
-    ensures { OnOk result (AddsValue out.old.items out.new.items) }
+    ensures pushed { OnOk result (out.new.items ≡ out.old.items ++ held_bytes thread.now) }
+    ensures reads { OnOk result (AddsValue out.old.items out.new.items) }
 {
     let held = thread.held.as_slice();
     begin_array(out)?;
@@ -102,7 +113,8 @@ fn push_held(out: &mut Vec<u8>, thread: &ThreadRows) -> Result<(), AllocError>
 // The first row in which it has come to its end, if it has.
 fn end_thread(out: &mut Vec<u8>, ended: Option<u32>) -> Result<(), AllocError>
     requires { IsInObject out.old.items }
-    ensures { OnOk result (read out.new.items
+    ensures pushed { OnOk result (out.new.items ≡ out.old.items ++ done_bytes ended ++ codes "}") }
+    ensures reads { OnOk result (read out.new.items
         ≡ at BehindValue (outer (read out.old.items).opens)) }
 {
     match ended {

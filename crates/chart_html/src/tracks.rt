@@ -1,6 +1,9 @@
 //! Tracks as JSON: arrays of pairs, each a row and the value that holds from it on.
-ghost use Rattle.std.specs.Prelude.{OnOk};
+ghost use Rattle.std.specs.Prelude.{◌≡◌, ◌++◌, decimal, IfOk, OnOk};
+ghost use Rattle.chart_escape.specs.Json.{json_string};
 ghost use Rattle.chart_escape.specs.JsonReader.{AddsItem, AddsValue, AreBehind, IsAtValue};
+ghost use Rattle.chart_escape.specs.Pieces.{comma};
+ghost use Rattle.chart_html.specs.Tracks.{hold_bytes, pair_bytes, prio_bytes, queue_bytes, stand_bytes, standing_words, track_bytes, wait_bytes, walk_bytes};
 
 use chart_escape::{Piece, begin_array, end_array, push_item};
 use chart_words::{push_queue, queue_name};
@@ -11,7 +14,9 @@ use step_world::{Wait, Walk};
 /// Pushes a track of priorities.
 pub fn push_prios(out: &mut Vec<u8>, changes: &[(u32, Prio)]) -> Result<(), AllocError>
     requires { IsAtValue out.old.items }
-    ensures { OnOk result (AddsValue out.old.items out.new.items) }
+    ensures pushed { OnOk result (out.new.items
+        ≡ out.old.items ++ track_bytes prio_bytes changes.now) }
+    ensures reads { OnOk result (AddsValue out.old.items out.new.items) }
 {
     begin_array(out)?;
     for (i, change) in changes.iter().enumerate() {
@@ -23,7 +28,9 @@ pub fn push_prios(out: &mut Vec<u8>, changes: &[(u32, Prio)]) -> Result<(), Allo
 /// Pushes a track of lock words.
 pub fn push_words(out: &mut Vec<u8>, changes: &[(u32, u64)]) -> Result<(), AllocError>
     requires { IsAtValue out.old.items }
-    ensures { OnOk result (AddsValue out.old.items out.new.items) }
+    ensures pushed { OnOk result (out.new.items
+        ≡ out.old.items ++ track_bytes decimal changes.now) }
+    ensures reads { OnOk result (AddsValue out.old.items out.new.items) }
 {
     begin_array(out)?;
     for (i, change) in changes.iter().enumerate() {
@@ -35,7 +42,9 @@ pub fn push_words(out: &mut Vec<u8>, changes: &[(u32, u64)]) -> Result<(), Alloc
 /// Pushes a track of wait words.
 pub fn push_waits(out: &mut Vec<u8>, changes: &[(u32, Wait)]) -> Result<(), AllocError>
     requires { IsAtValue out.old.items }
-    ensures { OnOk result (AddsValue out.old.items out.new.items) }
+    ensures pushed { OnOk result (out.new.items
+        ≡ out.old.items ++ track_bytes wait_bytes changes.now) }
+    ensures reads { OnOk result (AddsValue out.old.items out.new.items) }
 {
     begin_array(out)?;
     for (i, change) in changes.iter().enumerate() {
@@ -56,7 +65,9 @@ pub fn push_queues(
     changes: &[(u32, Option<QueueName>)],
 ) -> Result<(), AllocError>
     requires { IsAtValue out.old.items }
-    ensures { OnOk result (AddsValue out.old.items out.new.items) }
+    ensures pushed { OnOk result (out.new.items
+        ≡ out.old.items ++ track_bytes (queue_bytes plan.now) changes.now) }
+    ensures reads { OnOk result (AddsValue out.old.items out.new.items) }
 {
     begin_array(out)?;
     for (i, change) in changes.iter().enumerate() {
@@ -77,7 +88,9 @@ pub fn push_stands(
     changes: &[(u32, Option<QueueName>)],
 ) -> Result<(), AllocError>
     requires { IsAtValue out.old.items }
-    ensures { OnOk result (AddsValue out.old.items out.new.items) }
+    ensures pushed { OnOk result (out.new.items
+        ≡ out.old.items ++ track_bytes (stand_bytes plan.now) changes.now) }
+    ensures reads { OnOk result (AddsValue out.old.items out.new.items) }
 {
     begin_array(out)?;
     for (i, change) in changes.iter().enumerate() {
@@ -88,7 +101,9 @@ pub fn push_stands(
 }
 
 // What waiting on a queue is called; on none, nothing.
-fn words_of(alloc: Global, plan: &Plan, q: Option<QueueName>) -> Result<Vec<u8>, AllocError> {
+fn words_of(alloc: Global, plan: &Plan, q: Option<QueueName>) -> Result<Vec<u8>, AllocError>
+    ensures { IfOk result (λ words. words.items ≡ standing_words plan.now q) }
+{
     let mut words = Vec::new(alloc);
     if let Some(q) = q {
         push_queue(&mut words, plan, q)?;
@@ -99,7 +114,9 @@ fn words_of(alloc: Global, plan: &Plan, q: Option<QueueName>) -> Result<Vec<u8>,
 /// Pushes a track of walks, by the name of what a walk stands at.
 pub fn push_walks(out: &mut Vec<u8>, plan: &Plan, changes: &[(u32, Walk)]) -> Result<(), AllocError>
     requires { IsAtValue out.old.items }
-    ensures { OnOk result (AddsValue out.old.items out.new.items) }
+    ensures pushed { OnOk result (out.new.items
+        ≡ out.old.items ++ track_bytes (walk_bytes plan.now) changes.now) }
+    ensures reads { OnOk result (AddsValue out.old.items out.new.items) }
 {
     begin_array(out)?;
     for (i, change) in changes.iter().enumerate() {
@@ -116,7 +133,9 @@ pub fn push_walks(out: &mut Vec<u8>, plan: &Plan, changes: &[(u32, Walk)]) -> Re
 /// Pushes a track of holds: `x` for exclusive, `s` for shared.
 pub fn push_holds(out: &mut Vec<u8>, changes: &[(u32, Option<Mode>)]) -> Result<(), AllocError>
     requires { IsAtValue out.old.items }
-    ensures { OnOk result (AddsValue out.old.items out.new.items) }
+    ensures pushed { OnOk result (out.new.items
+        ≡ out.old.items ++ track_bytes hold_bytes changes.now) }
+    ensures reads { OnOk result (AddsValue out.old.items out.new.items) }
 {
     begin_array(out)?;
     for (i, change) in changes.iter().enumerate() {
@@ -132,7 +151,9 @@ pub fn push_holds(out: &mut Vec<u8>, changes: &[(u32, Option<Mode>)]) -> Result<
 
 fn push_number(out: &mut Vec<u8>, i: usize, row: u32, n: u64) -> Result<(), AllocError>
     requires { AreBehind i out.old.items }
-    ensures { OnOk result (AddsItem i out.old.items out.new.items) }
+    ensures pushed { OnOk result (out.new.items
+        ≡ out.old.items ++ comma i ++ pair_bytes row (decimal n)) }
+    ensures reads { OnOk result (AddsItem i out.old.items out.new.items) }
 {
     push_item(
         out,
@@ -149,7 +170,9 @@ fn push_number(out: &mut Vec<u8>, i: usize, row: u32, n: u64) -> Result<(), Allo
 
 fn push_word(out: &mut Vec<u8>, i: usize, row: u32, word: &[u8]) -> Result<(), AllocError>
     requires { AreBehind i out.old.items }
-    ensures { OnOk result (AddsItem i out.old.items out.new.items) }
+    ensures pushed { OnOk result (out.new.items
+        ≡ out.old.items ++ comma i ++ pair_bytes row (json_string word.now)) }
+    ensures reads { OnOk result (AddsItem i out.old.items out.new.items) }
 {
     push_item(
         out,

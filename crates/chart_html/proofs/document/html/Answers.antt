@@ -8,7 +8,8 @@ pub returns : goal.returns
 returns c =
     IfOk-weaker c.page_of.result
     (λ page. page.items ≡ page_bytes c.args.title.now c.deref.result.now c.deref-2.result.now)
-    (λ page. IsPage c.args.title.now page.items)
-    (λ page e. are_page c.args.title.now c.deref.result.now c.deref-2.result.now c.in_ok-picture.picture.items c.in_ok-rows.rows.items
-    page.items c.deref.ensures.value c.deref-2.ensures.value c.in_ok-picture.ensures c.in_ok-rows.ensures e)
+    (λ page. IsPage c.args.plan.now c.args.rows.now c.args.chart.now c.args.title.now page.items)
+    (λ page e. are_page c.args.plan.now c.args.rows.now c.args.chart.now c.args.title.now c.deref.result.now c.deref-2.result.now
+    c.in_ok-picture.picture.items c.in_ok-known.known.items page.items c.deref.ensures.value c.deref-2.ensures.value
+    c.in_ok-picture.ensures c.in_ok-known.ensures.told c.in_ok-known.ensures.reads e)
     c.page_of.ensures

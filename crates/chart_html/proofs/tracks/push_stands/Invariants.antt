@@ -1,6 +1,11 @@
-use Rattle.std.proofs.Common.{◌≡◌}
+use Rattle.std.proofs.Common.{◌≡◌, ◌++◌}
 use Rattle.chart_escape.specs.JsonReader.{behind_items, read}
+use Rattle.chart_html.proofs.Arrays.{rest_of_track}
+use Rattle.chart_html.specs.Tracks.{stand_bytes, track_bytes}
 use Rattle.chart_html.proofs.tracks.push_stands.Given as goal
 
 abbrev pub invariant-loop-i : goal.invariant-loop-i
-invariant-loop-i l = read l.out.items ≡ behind_items l.i (read l.fn.out.items).opens
+invariant-loop-i l = record {
+  pushed : l.out.items ++ rest_of_track (stand_bytes l.plan) l.i l.changes ≡ l.fn.out.items ++ track_bytes (stand_bytes l.plan) l.changes;
+  reads : read l.out.items ≡ behind_items l.i (read l.fn.out.items).opens;
+}
