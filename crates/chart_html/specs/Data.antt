@@ -202,7 +202,7 @@ edit_bytes edit =
     ++ codes ",\"" ++ decimal edit.key ++ codes "\"," ++ decimal (if edit.adds then 1 else 0)
     ++ codes ",\"" ++ decimal edit.amount ++ codes "\"]"
 
--- the edits of a run
+-- all of them
 abbrev pub edits_bytes : Rows → List ℕ
 edits_bytes rows = array_bytes edit_bytes (run_edits rows)
 
