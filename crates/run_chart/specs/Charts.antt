@@ -1,23 +1,33 @@
 -- What a chart shows of the scheduled run of its plan. Row n is the run behind n turns, and turn n leads from row n to
 -- row n + 1. A bar covers a row, and an arrow stands at a turn, exactly where what it says is so in the run.
-use Rattle.std.specs.Prelude.{◌≡◌, ◌≢◌, ◌↔◌, ◌≤◌, ◌<◌, ◌+◌, ℕ, true, false, All, Any, Contains, [], ◌∷◌, length, slice_get, Option, Some, None}
+use Rattle.std.specs.Prelude.{◌≡◌, ◌≢◌, ◌↔◌, ◌≤◌, ◌<◌, ◌+◌, ℕ, true, false, All, Any, Contains, List, [], ◌∷◌, length, slice_get, Option, Some, None}
 use Rattle.chart_layout.specs.declared.layout.Arrow.{Arrow}
 use Rattle.chart_layout.specs.declared.layout.ArrowKind.{ArrowKind}
-use Rattle.chart_layout.specs.declared.layout.ArrowKind.TheVariants.{Lends, Wakes}
+use Rattle.chart_layout.specs.declared.layout.ArrowKind.TheVariants.{Lends, Wakes, BlockedOn, Behind}
 use Rattle.chart_layout.specs.declared.layout.Bar.{Bar}
 use Rattle.chart_layout.specs.declared.layout.BarKind.{BarKind}
 use Rattle.chart_layout.specs.declared.layout.BarKind.TheVariants as bar
 use Rattle.chart_layout.specs.declared.layout.Chart.{Chart}
 use Rattle.chart_layout.specs.declared.layout.Lane.{Lane}
+use Rattle.chart_layout.specs.declared.layout.Mark.{Mark}
+use Rattle.chart_layout.specs.declared.layout.MarkKind.{MarkKind}
+use Rattle.chart_layout.specs.declared.layout.MarkKind.TheVariants as marked
+use Rattle.chart_layout.specs.declared.sentence.End.{End}
+use Rattle.chart_layout.specs.declared.sentence.End.TheVariants as end
 use Rattle.lock_model.specs.Holds.{Holds}
-use Rattle.lock_model.specs.Queues.{BySignal, stands}
+use Rattle.lock_model.specs.Queues.{Lists, Waiter, BySignal, lock_queue, stands}
+use Rattle.lock_model.specs.Text as text
 use Rattle.lock_model.specs.Words.{owner_of}
+use Rattle.lock_model.specs.declared.event.Entry.{Entry}
+use Rattle.lock_model.specs.declared.event.Event.{Event}
+use Rattle.lock_model.specs.declared.numbers.ThreadNo.{ThreadNo}
+use Rattle.lock_model.specs.declared.plan.Mode.{Mode}
 use Rattle.lock_model.specs.declared.plan.Plan.{Plan}
 use Rattle.lock_model.specs.declared.plan.QueueName.{QueueName}
 use Rattle.lock_model.specs.declared.turn.StepKind.{StepKind}
-use Rattle.lock_model.specs.declared.turn.StepKind.TheVariants.{Lend, Mark}
-use Rattle.lock_model.specs.declared.turn.Turn.TheVariants.{Did}
-use Rattle.lock_state.specs.Run.{course_after, has_ended}
+use Rattle.lock_model.specs.declared.turn.StepKind.TheVariants as step
+use Rattle.lock_model.specs.declared.turn.Turn.TheVariants as answer
+use Rattle.lock_state.specs.Run.{course_after, ending_of, has_ended}
 use Rattle.lock_state.specs.State.{State, AtLock, NoWalk, Queued, Woken}
 use Rattle.run_chart.specs.Steps.{prios_at, IsStepOf}
 use Rattle.run_rows.specs.Rows.{run_in}
@@ -82,12 +92,12 @@ wake n from to = arrow n Wakes from to
 
 -- the turn was the thread's, and made this step
 abbrev pub Made : Plan → ℕ → ℕ → StepKind → Type 0
-Made plan n t kind = next_turn plan (course_after plan n) ≡ Some (t, Did kind)
+Made plan n t kind = next_turn plan (course_after plan n) ≡ Some (t, answer.Did kind)
 
 -- the turn lent to the owner of the lock at which the thread's walk stood; that ran as one priority before the turn, and
 -- runs as the other behind it
 pub record Lent (plan : Plan) (n from to before prio : ℕ) : Type 0 where
-  pub made : Made plan n from Lend
+  pub made : Made plan n from step.Lend
   pub lock : ℕ
   pub walk : (run_in plan n).state.walk from ≡ AtLock lock
   pub owner : owner_of ((run_in plan n).state.word lock).holder ≡ Some to
@@ -96,13 +106,83 @@ pub record Lent (plan : Plan) (n from to before prio : ℕ) : Type 0 where
 
 -- the turn woke a thread that was queued
 pub record WokeUp (plan : Plan) (n from to : ℕ) : Type 0 where
-  pub made : Made plan n from Mark
+  pub made : Made plan n from step.Mark
   pub thread : to < length plan.threads
   pub queued : (run_in plan n).state.wait to ≡ Queued
   pub queue : QueueName
   pub woken : (run_in plan (n + 1)).state.wait to ≡ Woken queue BySignal
 
--- 4. Charts
+-- the turn blocked its thread on the lock
+pub record Blocked (plan : Plan) (n t lock : ℕ) : Type 0 where
+  pub made : Made plan n t step.Enter
+  pub on : (run_in plan (n + 1)).state.blocked_on t ≡ Some (lock_queue lock)
+
+-- who waits for a lock in a row
+abbrev pub waiters_in : Plan → ℕ → ℕ → Lists
+waiters_in plan n lock = (run_in plan n).state.lists (lock_queue lock)
+
+-- the waiter of a thread is the first of a list
+abbrev pub IsFirstOf : List Waiter → ℕ → Type 0
+IsFirstOf [] t = ⊥
+IsFirstOf (w ∷ ws) t = w.thread ≡ t
+
+-- the turn blocked its thread on a lock that no thread owned, to share it; and of those that wait to hold the lock alone the
+-- other is the first
+pub record WentBehind (plan : Plan) (n from to : ℕ) : Type 0 where
+  pub lock : ℕ
+  pub blocked : Blocked plan n from lock
+  pub unowned : owner_of ((run_in plan n).state.word lock).holder ≡ None
+  pub shares : Any (λ w. w.thread ≡ from) (waiters_in plan (n + 1) lock).shared
+  pub first : IsFirstOf (waiters_in plan (n + 1) lock).exclusive to
+
+-- the turn blocked its thread on a lock that the other held, and behind nobody
+pub record WentOn (plan : Plan) (n from to : ℕ) : Type 0 where
+  pub lock : ℕ
+  pub blocked : Blocked plan n from lock
+  pub mode : Mode
+  pub held : (run_in plan n).state.held to lock ≡ Holds mode
+  pub behind_none : (t : ℕ) → WentBehind plan n from t → ⊥
+
+-- 4. Marks
+
+abbrev pub mark : ℕ → ℕ → MarkKind → Mark
+mark n t what = record { turn = n; thread = record { 0 = t }; what = what }
+
+-- the history in a row, its newest entry first
+abbrev pub history_in : Plan → ℕ → List Entry
+history_in plan n = (run_in plan n).state.history
+
+-- the turn was the thread's, and noted the event
+pub record HasNoted (plan : Plan) (n t : ℕ) (event : Event) : Type 0 where
+  pub kind : StepKind
+  pub made : Made plan n t kind
+  pub entry : Entry
+  pub of_event : entry.event ≡ event
+  pub noted : history_in plan (n + 1) ≡ entry ∷ history_in plan n
+
+-- what a mark says of a turn is so: the thread noted this, or made this step and noted nothing, or was idle
+abbrev pub IsDone : Plan → ℕ → ℕ → MarkKind → Type 0
+IsDone plan n t (marked.Noted event) = HasNoted plan n t event
+IsDone plan n t (marked.Did kind) =
+    Made plan n t kind × (history_in plan (n + 1) ≡ history_in plan n)
+IsDone plan n t marked.Idle = next_turn plan (course_after plan n) ≡ Some (t, answer.Idle)
+
+-- 5. The end
+
+-- just those threads are named that stand on a queue in the row, each with its queue
+abbrev pub AreStanding : Plan → ℕ → List (ThreadNo × QueueName) → Type 0
+AreStanding plan n waits = (t : ℕ) (q : QueueName) → Contains waits (record { 0 = t }, q)
+    ↔ 0 < stands t ((run_in plan n).state.lists q)
+
+-- the end is that of a run of so many turns, and where it is stuck, these wait
+abbrev pub IsEnd : Plan → ℕ → End → Type 0
+IsEnd plan turns end.Done = ending_of plan (course_after plan turns) ≡ text.IsDone
+IsEnd plan turns (end.Stuck waits) = (ending_of plan (course_after plan turns) ≡ text.IsStuck)
+    × AreStanding plan turns waits
+IsEnd plan turns end.Reversed = ending_of plan (course_after plan turns) ≡ text.IsReversed
+IsEnd plan turns end.TooLong = ending_of plan (course_after plan turns) ≡ text.IsTooLong
+
+-- 6. Charts
 
 -- the rows of a chart, and its turns, each of which leads from one to the next
 abbrev pub IsRow : Chart → ℕ → Type 0
@@ -113,8 +193,9 @@ IsTurn chart n = (chart.first ≤ n) × (n < chart.last)
 
 -- Each thread has a lane, in order. Bars say what is so: a thread's bar at a lock covers a row exactly where the thread
 -- holds the lock, and one of a wait exactly where it stands on that queue. One step of the priorities covers each row, and
--- is the effective priority there, beside the base. An arrow of a loan stands exactly at a turn that lent, and one of a
--- wake exactly at a turn that woke.
+-- is the effective priority there, beside the base. An arrow of a loan stands exactly at a turn that lent, one of a wake
+-- exactly at a turn that woke, and one of blocking exactly at a turn that blocked on whom, or behind whom, it says. A mark
+-- stands exactly at a turn that did what it says. The end is that of the whole run.
 pub record Shows (plan : Plan) (chart : Chart) : Type 0 where
   pub lane_each : length chart.lanes ≡ length plan.threads
   pub lanes : (t : ℕ) (lane : Lane) → slice_get chart.lanes t ≡ Some lane
@@ -131,3 +212,10 @@ pub record Shows (plan : Plan) (chart : Chart) : Type 0 where
       ↔ (IsTurn chart n × Lent plan n from to before prio)
   pub wakes : (n from to : ℕ) → Contains chart.arrows (wake n from to)
       ↔ (IsTurn chart n × WokeUp plan n from to)
+  pub blocks : (n from to : ℕ) → Contains chart.arrows (arrow n BlockedOn from to)
+      ↔ (IsTurn chart n × WentOn plan n from to)
+  pub behinds : (n from to : ℕ) → Contains chart.arrows (arrow n Behind from to)
+      ↔ (IsTurn chart n × WentBehind plan n from to)
+  pub marks : (n t : ℕ) (what : MarkKind) → Contains chart.marks (mark n t what)
+      ↔ (IsTurn chart n × IsDone plan n t what)
+  pub ended : IsEnd plan chart.turns chart.end

@@ -5,3 +5,5 @@ pub mod Steps
 pub mod Charts
 pub mod Lanes
 pub mod Arrows
+pub mod Marks
+pub mod Ends

@@ -1,7 +1,8 @@
 //! The arrows of a turn: whom its thread lent to, woke, blocked on, or blocked behind.
-ghost use Rattle.std.specs.Prelude.{◌≡◌, ◌≤◌, ◌<◌, ◌++◌, length, slice_get, true, IfOk, OnOk};
+ghost use Rattle.std.specs.Prelude.{◌≡◌, ◌≤◌, ◌<◌, ◌++◌, ◌∷◌, [], length, slice_get, IfOk, OnOk};
 ghost use Rattle.lock_model.specs.declared.plan.Plan as plans;
-ghost use Rattle.run_chart.specs.Arrows.{is_block, loan_arrows, loan_in, wake_arrows, wakes_up, AddsBlocks, Gains, Has};
+ghost use Rattle.run_chart.specs.Arrows.{block_arrows, hold_arrows, loan_arrows, loan_in, lock_in, wake_arrows, wakes_up, Gains, Has};
+ghost use Rattle.run_chart.specs.Charts.{arrow};
 ghost use Rattle.run_chart.specs.Runs.{IsRunOf};
 
 use crate::lookup::{behind_whom, holds, loan_of, lock_of};
@@ -129,9 +130,11 @@ fn push_blocks(
     from: ThreadNo,
 ) -> Result<(), AllocError>
     requires run { (plan : plans.Plan) × IsRunOf plan rows.now }
-    requires few { length rows.now.threads ≤ 256 }
     requires turn { turn < length rows.now.turns }
-    ensures { OnOk result (AddsBlocks arrows.old.items arrows.new.items) }
+    requires thread { from.0 < length rows.now.threads }
+    ensures { OnOk result ((plan : plans.Plan) → IsRunOf plan rows.now
+        → arrows.new.items ≡ arrows.old.items
+        ++ block_arrows plan turn from.0 rows.now.threads (lock_in plan turn from.0)) }
 {
     let Some(l) = lock_of(rows, turn, from) else {
         return Ok(());
@@ -151,7 +154,8 @@ fn push_holders(
     l: LockNo,
 ) -> Result<(), AllocError>
     requires { length threads.now ≤ 256 }
-    ensures { OnOk result (AddsBlocks arrows.old.items arrows.new.items) }
+    ensures { OnOk result (arrows.new.items
+        ≡ arrows.old.items ++ hold_arrows turn from.0 l.0 threads.now) }
 {
     for (to, thread) in threads.iter().enumerate() {
         if holds(thread, l, turn) {
@@ -169,8 +173,8 @@ fn push_block(
     from: ThreadNo,
     to: ThreadNo,
 ) -> Result<(), AllocError>
-    requires { is_block kind ≡ true }
-    ensures { OnOk result (AddsBlocks arrows.old.items arrows.new.items) }
+    ensures { OnOk result (arrows.new.items
+        ≡ arrows.old.items ++ arrow turn kind from.0 to.0 ∷ []) }
 {
     arrows.push(Arrow {
         turn,

@@ -1,8 +1,10 @@
 //! What the rows of a run say of a turn: whom it lent to, on which lock its thread blocked, and behind whom.
-ghost use Rattle.std.specs.Prelude.{◌≡◌, ◌<◌, length, option_map, slice_get};
+ghost use Rattle.std.specs.Prelude.{◌≡◌, ◌<◌, ◌≤◌, None, Some, length, option_map, slice_get};
+ghost use Rattle.std.specs.List.{find, list_any};
 ghost use Rattle.lock_model.specs.Words.{owner_of};
 ghost use Rattle.lock_model.specs.declared.plan.Plan as plans;
-ghost use Rattle.run_chart.specs.Arrows.{hop_of, loan_in};
+ghost use Rattle.run_chart.specs.Arrows.{behind_in, behind_of, first_in, holds_in, hop_of, is_line_of, is_waiter, lists_of, loan_in, lock_in, lock_named};
+ghost use Rattle.run_chart.specs.Charts.{waiters_in};
 ghost use Rattle.run_chart.specs.Runs.{IsRunOf};
 ghost use Rattle.run_rows.specs.Rows.{run_in};
 
@@ -68,18 +70,29 @@ fn word_rows(rows: &Rows, l: LockNo) -> Option<&Track<u64>>
 }
 
 /// The lock on which a thread blocked in a turn.
-pub fn lock_of(rows: &Rows, turn: u32, from: ThreadNo) -> Option<LockNo> {
-    match thread_rows(rows, from)?
-        .blocked_on
-        .at(turn.saturating_add(1))?
-    {
+pub fn lock_of(rows: &Rows, turn: u32, from: ThreadNo) -> Option<LockNo>
+    requires run { (plan : plans.Plan) × IsRunOf plan rows.now }
+    requires turn { turn < length rows.now.turns }
+    ensures { (plan : plans.Plan) → IsRunOf plan rows.now → from.0 < length rows.now.threads
+        → option_map (λ l. l.0) result ≡ lock_in plan turn from.0 }
+{
+    let named = thread_rows(rows, from)?.blocked_on.at(turn + 1);
+    lock_named(named)
+}
+
+fn lock_named(q: Option<QueueName>) -> Option<LockNo>
+    ensures { option_map (λ l. l.0) result ≡ lock_named q }
+{
+    match q? {
         QueueName::Lock(l) => Some(l),
         QueueName::Chan(_) => None,
     }
 }
 
 /// Whether a thread holds the lock in a row.
-pub fn holds(thread: &ThreadRows, l: LockNo, row: u32) -> bool {
+pub fn holds(thread: &ThreadRows, l: LockNo, row: u32) -> bool
+    ensures { result ≡ holds_in row l.0 thread.now }
+{
     match thread.held.as_slice().get(usize::from(l.0)) {
         Some(track) => track.at(row).is_some(),
         None => false,
@@ -91,23 +104,50 @@ pub fn holds(thread: &ThreadRows, l: LockNo, row: u32) -> bool {
 pub fn behind_whom(rows: &Rows, turn: u32, who: ThreadNo, l: LockNo) -> Option<ThreadNo>
     requires run { (plan : plans.Plan) × IsRunOf plan rows.now }
     requires turn { turn < length rows.now.turns }
+    ensures { (plan : plans.Plan) → IsRunOf plan rows.now
+        → option_map (λ t. t.0) result ≡ behind_in plan turn who.0 l.0 }
 {
     if owner_in(rows, turn, l).is_some() {
         return None;
     }
-    let line = queue_line(rows, turn + 1, QueueName::Lock(l))?;
-    if line.shared.as_slice().iter().any(|waiter| waiter.0 == who) {
-        Some(line.excl.as_slice().first()?.0)
+    behind_in_line(line_in(rows, turn + 1, l)?, who)
+}
+
+// The line of a lock's queue in a row.
+fn line_in(rows: &Rows, row: u32, l: LockNo) -> Option<&QueueLine>
+    requires row { row ≤ length rows.now.turns }
+    ensures { (plan : plans.Plan) → IsRunOf plan rows.now
+        → lists_of (option_map (λ line. line.now) result) ≡ waiters_in plan row l.0 }
+{
+    line_of(rows.queues.get(row).as_slice(), l)
+}
+
+fn line_of(lines: &[QueueLine], l: LockNo) -> Option<&QueueLine>
+    ensures { option_map (λ line. line.now) result ≡ find (is_line_of l.0) lines.now }
+{
+    lines.iter().find(|line| line.q == QueueName::Lock(l))
+}
+
+// The first that waits to hold the lock alone, where the thread waits there to share it.
+fn behind_in_line(line: &QueueLine, who: ThreadNo) -> Option<ThreadNo>
+    ensures { option_map (λ t. t.0) result ≡ behind_of None (lists_of (Some line.now)) who.0 }
+{
+    if waits_in(line.shared.as_slice(), who) {
+        first_in(line.excl.as_slice())
     } else {
         None
     }
 }
 
-// The line of a queue in a row.
-fn queue_line(rows: &Rows, row: u32, q: QueueName) -> Option<&QueueLine> {
-    rows.queues
-        .get(row)
-        .as_slice()
-        .iter()
-        .find(|line| line.q == q)
+fn waits_in(waiters: &[(ThreadNo, Prio)], who: ThreadNo) -> bool
+    ensures { result ≡ list_any (is_waiter who.0) waiters.now }
+{
+    waiters.iter().any(|waiter| waiter.0 == who)
+}
+
+fn first_in(waiters: &[(ThreadNo, Prio)]) -> Option<ThreadNo>
+    ensures { option_map (λ t. t.0) result ≡ first_in waiters.now }
+{
+    let (first, _) = waiters.first()?;
+    Some(*first)
 }

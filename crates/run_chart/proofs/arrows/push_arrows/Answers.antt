@@ -4,7 +4,8 @@ use Rattle.std.proofs.lemmas.Result.{on_ok_weaker}
 use Rattle.lock_model.specs.declared.turn.StepKind.TheVariants.{Enter, Lend, Mark}
 use Rattle.lock_model.specs.declared.turn.Turn.TheVariants.{Did}
 use Rattle.run_chart.specs.Arrows.{wake_arrows}
-use Rattle.run_chart.proofs.Turns.{gains_loan, gains_none, gains_wakes, made_by}
+use Rattle.run_chart.proofs.Blocked.{gains_blocks}
+use Rattle.run_chart.proofs.Turns.{gains_loan, gains_wakes, made_by, draws_none, no_arrows}
 use Rattle.run_chart.proofs.arrows.push_arrows.Goals as goal
 
 pub returns-in-Lend : goal.returns-in-Lend
@@ -20,5 +21,9 @@ returns-in-Mark c =
 
 pub returns-in-Enter : goal.returns-in-Enter
 returns-in-Enter c =
-    on_ok_weaker c.push_blocks.result (λ e plan h. gains_none plan c.args.turn c.args.row.who.0 (Did Enter) (made_by plan c.args.rows.now h c.args.turn c.args.row (Did Enter) c.requires.turn (c.in-Did.is ∙ ap Did c.in-Enter.is))
-    c.args.arrows.now.items c.push_blocks.new.arrows.items (λ i. cc) (λ i. cc) e) c.push_blocks.ensures
+    on_ok_weaker c.push_blocks.result (λ e plan h. gains_blocks plan c.args.rows.now h c.args.turn c.args.row.who.0 (slice_get_within c.args.rows.now.turns c.args.turn c.args.row c.requires.turn)
+    (made_by plan c.args.rows.now h c.args.turn c.args.row (Did Enter) c.requires.turn (c.in-Did.is ∙ ap Did c.in-Enter.is)) c.args.arrows.now.items c.push_blocks.new.arrows.items (e plan h)) c.push_blocks.ensures
+
+pub returns-in-Gain : goal.returns-in-Gain
+returns-in-Gain c plan h =
+    no_arrows plan c.args.rows.now h c.args.turn c.args.row (Did c.in-Did.kind) c.requires.turn c.in-Did.is (draws_none c.in-Did.kind c.in-Gain.is) c.args.arrows.now.items

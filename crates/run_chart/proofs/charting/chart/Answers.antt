@@ -1,9 +1,11 @@
 use Rattle.std.proofs.Common.{◌≡◌, ℕ, ◌≤◌, ◌&&◌, length, ap, refl, subst, sym, arith, ◌∙◌}
 use Rattle.std.specs.List.{All}
+use Rattle.chart_layout.specs.declared.layout.ArrowKind.TheVariants.{BlockedOn, Behind}
 use Rattle.run_chart.specs.Arrows.{Has}
 use Rattle.run_chart.specs.Bars.{is_said, threads_tell}
-use Rattle.run_chart.specs.Charts.{IsLane}
+use Rattle.run_chart.specs.Charts.{arrow, loan, mark, wake, IsEnd, IsLane}
 use Rattle.run_chart.specs.Lanes.{AreLanes}
+use Rattle.run_chart.specs.Marks.{HasMarks}
 use Rattle.run_chart.specs.Runs.{IsRunOf}
 use Rattle.run_chart.specs.Spans.{is_between}
 use Rattle.run_chart.specs.Steps.{prios_at, strips_tell, IsStepOf}
@@ -24,6 +26,7 @@ returns c =
     let are : AreLanes rows.threads c.from_vec.result =
     subst (AreLanes rows.threads) (sym c.from_vec.ensures) (subst (λ threads. AreLanes threads c.in_ok-lanes.field-0.items) c.as_slice-threads.ensures c.in_ok-lanes.ensures) in
     let has : Has plan from to c.from_vec-4.result = subst (Has plan from to) (sym c.from_vec-4.ensures) (c.in_ok-arrows.ensures plan h) in
+    let marked : HasMarks plan from to c.from_vec-5.result = subst (HasMarks plan from to) (sym c.from_vec-5.ensures) (c.in_ok-marks.ensures plan h) in
     record {
       first = refl;
       last = refl;
@@ -38,7 +41,11 @@ returns c =
             ∙ steps_law plan rows h t n l (omega (arith, row.1, within));
         bars_last = subst (All (λ bar. bar.first ≤ bar.last)) (sym c.from_vec-2.ensures) c.in_ok-bars.ensures.lasts;
         steps_within = rw c.from_vec-3.ensures (subst (λ (k : ℕ). All (IsStepOf k from to) c.in_ok-steps.steps.items) each c.in_ok-steps.ensures.within);
-        loans = has.loans;
-        wakes = has.wakes;
+        loans = λ n f t before prio. has (loan n f t before prio);
+        wakes = λ n f t. has (wake n f t);
+        blocks = λ n f t. has (arrow n BlockedOn f t);
+        behinds = λ n f t. has (arrow n Behind f t);
+        marks = λ n t what. marked (mark n t what);
+        ended = subst (λ (k : ℕ). IsEnd plan k c.in_ok-end.field-0) (sym turns) (c.in_ok-end.ensures plan h);
       };
     }
