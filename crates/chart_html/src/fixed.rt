@@ -28,12 +28,16 @@ body{margin:0;font-family:system-ui,-apple-system,'Segoe UI',Roboto,'Noto Sans',
 table{border-collapse:collapse}
 th,td{text-align:left;padding:2px 14px 2px 0;border-bottom:1px solid #e2e8f0;font-weight:400;white-space:nowrap;font-variant-numeric:tabular-nums}
 th{color:#64748b;font-size:11px}
+#words{padding:0 24px 24px;max-width:70em;line-height:1.5}
+#words summary{cursor:pointer;color:#64748b}
+#words dl{display:grid;grid-template-columns:max-content 1fr;gap:2px 16px;margin:8px 0 0}
+#words dd{margin:0}
 td.changed,tr.gone td{background:#fdf0d8}
 tr.gone td{color:#64748b}
 @media(prefers-color-scheme:dark){
 :focus-visible{outline-color:#60a5fa}
 body{color:#e2e8f0;background:#0f141c}
-#picture{border-color:#334155}#state h2,th,tr.gone td{color:#94a3b8}th,td{border-color:#233044}
+#picture{border-color:#334155}#state h2,th,tr.gone td,#words summary{color:#94a3b8}th,td{border-color:#233044}
 #row{accent-color:#60a5fa}
 #said{color:#f6ad55}td.changed,tr.gone td{background:#3a2c12}#cursor{stroke:#60a5fa;fill:#60a5fa}
 }
@@ -43,7 +47,7 @@ body{color:#e2e8f0;background:#0f141c}
 <div id='picture' role='region' aria-label='picture of the run' tabindex='0'>
 ";
 
-/// Behind the picture, up to the data: the slider, its buttons, and the tables.
+/// Behind the picture, up to the data: the slider, its buttons, the tables, and what their columns say.
 pub const CONTROLS: &str = "</div>
 <div id='controls'>
 <button id='play' aria-label='play' title='play and stop: space key'>&#9654;</button>
@@ -59,6 +63,17 @@ pub const CONTROLS: &str = "</div>
 <section><h2>Queues</h2><table id='queues' aria-label='queues'></table></section>
 <section><h2>Tables</h2><table id='tables' aria-label='tables'></table></section>
 </div>
+<details id='words'>
+<summary>What the tables say</summary>
+<dl>
+<dt>base, runs as</dt><dd>The thread's own priority, and the one it runs as: the best that is lent to it, or its own. The smaller number is the more important.</dd>
+<dt>walk at</dt><dd>The lock or the thread at which the thread's walk along the chain of owners stands: there it lends next.</dd>
+<dt>word</dt><dd>The lock's one word in memory. It says who holds the lock and on which sides threads wait for it, as the columns beside it tell.</dd>
+<dt>slot</dt><dd>The number of the hash chain in which the lock's queue lies.</dd>
+<dt>head, free list</dt><dd>Each thread brings a queue of its own, so that blocking takes no memory. Waiters stand on the one that the first of them lent, the head; those of the others are kept in the free list.</dd>
+<dt>exclusive, shared</dt><dd>Who waits to have the lock alone, and who to share it. Behind the @ is the priority by which the queue keeps its order.</dd>
+</dl>
+</details>
 <script type='application/json' id='rows'>
 ";
 
@@ -236,7 +251,7 @@ document.addEventListener('keydown', event => {
   if (event.target === slider && event.key.startsWith('Arrow')) return;
   if (event.key === 'ArrowLeft') move(-1);
   else if (event.key === 'ArrowRight') move(1);
-  else if (event.key === ' ' && event.target.tagName !== 'BUTTON') play();
+  else if (event.key === ' ' && !['BUTTON', 'SUMMARY'].includes(event.target.tagName)) play();
   else return;
   event.preventDefault();
 });
