@@ -1,1 +1,4 @@
 pub mod Elements
+pub mod Laying
+pub mod Standing
+pub mod Whole

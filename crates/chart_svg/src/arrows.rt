@@ -2,6 +2,7 @@
 //! before all of these.
 ghost use Rattle.std.specs.Prelude.{OnOk};
 ghost use Rattle.chart_escape.specs.Reader.{AddsElements, IsBetweenTags};
+ghost use Rattle.chart_svg.specs.Drawn.{Keeps};
 
 use crate::packing::{covering, is_wait};
 use crate::page::{Lane, Page};
@@ -16,7 +17,8 @@ use std::alloc::{AllocError, Global};
 /// Pushes the lines of all arrows.
 pub fn push_arrows(out: &mut Vec<u8>, page: &Page<'_>) -> Result<(), AllocError>
     requires { IsBetweenTags out.old.items }
-    ensures { OnOk result (AddsElements out.old.items out.new.items) }
+    ensures whole { OnOk result (AddsElements out.old.items out.new.items) }
+    ensures keeps { OnOk result (Keeps out.old.items out.new.items) }
 {
     for arrow in page.chart.arrows.as_slice() {
         if let Some((from, to)) = ends_of(page, *arrow) {
@@ -29,7 +31,8 @@ pub fn push_arrows(out: &mut Vec<u8>, page: &Page<'_>) -> Result<(), AllocError>
 /// Pushes the heads of all arrows, and their words where there is room for words.
 pub fn push_arrow_heads(alloc: Global, out: &mut Vec<u8>, page: &Page<'_>) -> Result<(), AllocError>
     requires { IsBetweenTags out.old.items }
-    ensures { OnOk result (AddsElements out.old.items out.new.items) }
+    ensures whole { OnOk result (AddsElements out.old.items out.new.items) }
+    ensures keeps { OnOk result (Keeps out.old.items out.new.items) }
 {
     for arrow in page.chart.arrows.as_slice() {
         if let Some((from, to)) = ends_of(page, *arrow) {
@@ -54,7 +57,8 @@ fn push_arrow_line(
     to: &Lane,
 ) -> Result<(), AllocError>
     requires { IsBetweenTags out.old.items }
-    ensures { OnOk result (AddsElements out.old.items out.new.items) }
+    ensures whole { OnOk result (AddsElements out.old.items out.new.items) }
+    ensures keeps { OnOk result (Keeps out.old.items out.new.items) }
 {
     let class = match arrow.kind {
         ArrowKind::Lends { .. } => Class::of("lends"),
@@ -79,7 +83,8 @@ fn push_arrow_head(
     to: &Lane,
 ) -> Result<(), AllocError>
     requires { IsBetweenTags out.old.items }
-    ensures { OnOk result (AddsElements out.old.items out.new.items) }
+    ensures whole { OnOk result (AddsElements out.old.items out.new.items) }
+    ensures keeps { OnOk result (Keeps out.old.items out.new.items) }
 {
     let class = match arrow.kind {
         ArrowKind::Lends { .. } => Class::of("lendhead"),
@@ -133,7 +138,8 @@ fn push_own_words(
     to: &Lane,
 ) -> Result<(), AllocError>
     requires { IsBetweenTags out.old.items }
-    ensures { OnOk result (AddsElements out.old.items out.new.items) }
+    ensures whole { OnOk result (AddsElements out.old.items out.new.items) }
+    ensures keeps { OnOk result (Keeps out.old.items out.new.items) }
 {
     let class = match arrow.kind {
         ArrowKind::Lends { .. } => Class::of("lend"),

@@ -1,20 +1,25 @@
 //! The bars of a lane.
-ghost use Rattle.std.specs.Prelude.{OnOk};
+ghost use Rattle.std.specs.Prelude.{◌≡◌, All, IfOk, OnOk};
 ghost use Rattle.chart_escape.specs.Reader.{AddsElements, IsBetweenTags};
+ghost use Rattle.chart_svg.specs.Drawn.{bar_area, bar_class, bar_height, bar_title, class_bytes, Keeps};
+ghost use Rattle.chart_svg.specs.Lanes.{scale_of, IsDrawnOn, LaneIsDrawn};
 
 use crate::page::{Lane, Page};
 use crate::pixels::{Px, count, width_of};
-use crate::shapes::{Area, push_rect, push_words};
+use crate::shapes::{Area, push_rect, push_rect_said, push_words};
 use crate::tags::Class;
 use chart_layout::{Bar, BarKind, End, Saying};
 use chart_words::{push_bar, queue_name};
-use lock_model::{Mode, QueueName, ThreadNo, push_number};
+use lock_model::{Mode, QueueName, ThreadNo, push_number, push_word};
 use std::alloc::{AllocError, Global};
 
 /// Pushes the bars of all lanes.
 pub fn push_bars(alloc: Global, out: &mut Vec<u8>, page: &Page<'_>) -> Result<(), AllocError>
     requires { IsBetweenTags out.old.items }
-    ensures { OnOk result (AddsElements out.old.items out.new.items) }
+    ensures whole { OnOk result (AddsElements out.old.items out.new.items) }
+    ensures keeps { OnOk result (Keeps out.old.items out.new.items) }
+    ensures drawn { OnOk result
+        (All (LaneIsDrawn page.now out.new.items) page.now.lanes.items) }
 {
     for lane in &page.lanes {
         push_levels(alloc, out, page, lane)?;
@@ -30,7 +35,10 @@ fn push_levels(
     lane: &Lane,
 ) -> Result<(), AllocError>
     requires { IsBetweenTags out.old.items }
-    ensures { OnOk result (AddsElements out.old.items out.new.items) }
+    ensures whole { OnOk result (AddsElements out.old.items out.new.items) }
+    ensures keeps { OnOk result (Keeps out.old.items out.new.items) }
+    ensures drawn { OnOk result (All (λ bars. All (IsDrawnOn page.now out.new.items) bars.items)
+        lane.now.bars.levels.items) }
 {
     for (level, bars) in lane.bars.levels.iter().enumerate() {
         push_level(alloc, out, page, bars, lane.bar_top(count(level)))?;
@@ -46,7 +54,9 @@ fn push_level(
     top: Px,
 ) -> Result<(), AllocError>
     requires { IsBetweenTags out.old.items }
-    ensures { OnOk result (AddsElements out.old.items out.new.items) }
+    ensures whole { OnOk result (AddsElements out.old.items out.new.items) }
+    ensures keeps { OnOk result (Keeps out.old.items out.new.items) }
+    ensures drawn { OnOk result (All (IsDrawnOn page.now out.new.items) bars.now) }
 {
     for bar in bars {
         push_one(alloc, out, page, *bar, top)?;
@@ -61,7 +71,10 @@ fn push_walks(
     lane: &Lane,
 ) -> Result<(), AllocError>
     requires { IsBetweenTags out.old.items }
-    ensures { OnOk result (AddsElements out.old.items out.new.items) }
+    ensures whole { OnOk result (AddsElements out.old.items out.new.items) }
+    ensures keeps { OnOk result (Keeps out.old.items out.new.items) }
+    ensures drawn { OnOk result (All (λ walk. IsDrawnOn page.now out.new.items walk.0)
+        lane.now.bars.walks.items) }
 {
     for (bar, level) in &lane.bars.walks {
         push_walk(alloc, out, page, *bar, lane.bar_bottom(*level).plus(2))?;
@@ -69,11 +82,24 @@ fn push_walks(
     Ok(())
 }
 
-// What is said where a bar is pointed at: `low holds bus, turns 0 to 7`.
-fn said_of(alloc: Global, page: &Page<'_>, bar: Bar) -> Result<Vec<u8>, AllocError> {
+// What a bar is, in words: `holds bus`.
+fn words_of(alloc: Global, page: &Page<'_>, bar: Bar) -> Result<Vec<u8>, AllocError> {
+    let mut words = Vec::new(alloc);
+    push_bar(&mut words, page.plan, bar.what)?;
+    Ok(words)
+}
+
+// What is said where it is pointed at: `low holds bus, turn 0 to 7`.
+fn said_of(
+    alloc: Global,
+    page: &Page<'_>,
+    bar: Bar,
+    words: &[u8],
+) -> Result<Vec<u8>, AllocError>
+    ensures { IfOk result (λ said. said.items ≡ bar_title page.now.plan.now bar words.now) }
+{
     let mut said = Vec::from_slice(alloc, page.plan.thread_name(bar.thread))?;
-    said.push(b' ')?;
-    push_bar(&mut said, page.plan, bar.what)?;
+    push_word(&mut said, words)?;
     said.extend_from_slice(b", turn")?;
     push_number(&mut said, u64::from(bar.first.saturating_sub(1)))?;
     said.extend_from_slice(b" to")?;
@@ -89,46 +115,94 @@ fn push_one(
     top: Px,
 ) -> Result<(), AllocError>
     requires { IsBetweenTags out.old.items }
-    ensures { OnOk result (AddsElements out.old.items out.new.items) }
+    ensures whole { OnOk result (AddsElements out.old.items out.new.items) }
+    ensures keeps { OnOk result (Keeps out.old.items out.new.items) }
+    ensures drawn { OnOk result (IsDrawnOn page.now out.new.items bar) }
 {
-    let area = area_of(page, bar, top, 18);
-    let said = said_of(alloc, page, bar)?;
-    push_rect(out, Class::of("paper"), area, b"")?;
-    push_rect(out, class_of(bar.what), area, &said)?;
+    push_rect(out, Class::of("paper"), area_of(page, bar, top))?;
+    push_shape(alloc, out, page, bar, top)?;
+    push_own_words(alloc, out, page, bar, top)?;
+    push_never(out, page, bar, top)
+}
+
+// A bar without the words on it.
+fn push_shape(
+    alloc: Global,
+    out: &mut Vec<u8>,
+    page: &Page<'_>,
+    bar: Bar,
+    top: Px,
+) -> Result<(), AllocError>
+    requires { IsBetweenTags out.old.items }
+    ensures whole { OnOk result (AddsElements out.old.items out.new.items) }
+    ensures keeps { OnOk result (Keeps out.old.items out.new.items) }
+    ensures drawn { OnOk result (IsDrawnOn page.now out.new.items bar) }
+{
     let words = words_of(alloc, page, bar)?;
+    let said = said_of(alloc, page, bar, &words)?;
+    push_rect_said(out, class_of(bar.what), area_of(page, bar, top), &said)
+}
+
+// The words on it, where it has room for them.
+fn push_own_words(
+    alloc: Global,
+    out: &mut Vec<u8>,
+    page: &Page<'_>,
+    bar: Bar,
+    top: Px,
+) -> Result<(), AllocError>
+    requires { IsBetweenTags out.old.items }
+    ensures whole { OnOk result (AddsElements out.old.items out.new.items) }
+    ensures keeps { OnOk result (Keeps out.old.items out.new.items) }
+{
+    let area = area_of(page, bar, top);
+    let mut words = words_of(alloc, page, bar)?;
+    push_writer(&mut words, page, bar)?;
     let room = area.width.saturating_sub(8);
     let fitting = if width_of(words.len(), 72) <= room {
         words.as_slice()
     } else {
         short_name(page, bar.what)
     };
-    let y = top.plus(13);
     if width_of(fitting.len(), 72) <= room {
-        push_words(out, words_class(bar.what), area.x.plus(6), y, fitting)?;
+        push_words(out, words_class(bar.what), area.x.plus(6), top.plus(13), fitting)
+    } else {
+        Ok(())
     }
-    push_never(out, page, bar, area.x.plus(area.width).plus(6), y)
 }
 
 // Where a bar is, whose top is there.
-fn area_of(page: &Page<'_>, bar: Bar, top: Px, height: u32) -> Area {
+fn area_of(page: &Page<'_>, bar: Bar, top: Px) -> Area
+    ensures { result ≡ bar_area (scale_of page.now) page.now.chart.now bar top.0 }
+{
     let begin = page.row_begin(bar.first);
     Area {
         x: begin,
         y: top,
         width: page.row_end(bar.last).from(begin),
-        height,
+        height: height_of(bar.what),
     }
 }
 
-// What stands on a bar. One that waits behind a writer says so.
-fn words_of(alloc: Global, page: &Page<'_>, bar: Bar) -> Result<Vec<u8>, AllocError> {
-    let mut words = Vec::new(alloc);
-    push_bar(&mut words, page.plan, bar.what)?;
+fn height_of(what: BarKind) -> u32
+    ensures { result ≡ bar_height what }
+{
+    match what {
+        BarKind::Holds { .. }
+        | BarKind::Waits { .. }
+        | BarKind::TakenOff { .. }
+        | BarKind::Woken { .. } => 18,
+        BarKind::Walks => 3,
+    }
+}
+
+// A wait behind a writer says so on its bar.
+fn push_writer(words: &mut Vec<u8>, page: &Page<'_>, bar: Bar) -> Result<(), AllocError> {
     if let (BarKind::Waits { .. }, Some(writer)) = (bar.what, writer_before(page, bar)) {
         words.extend_from_slice(b", behind ")?;
         words.extend_from_slice(page.plan.thread_name(writer))?;
     }
-    Ok(words)
+    Ok(())
 }
 
 // The writer behind which a bar's thread waits, as the sentence of the turn says that began it.
@@ -147,7 +221,9 @@ fn writer_before(page: &Page<'_>, bar: Bar) -> Option<ThreadNo> {
 }
 
 // The class of a bar, and that of its words.
-fn class_of(what: BarKind) -> Class {
+fn class_of(what: BarKind) -> Class
+    ensures { class_bytes result ≡ bar_class what }
+{
     match what {
         BarKind::Holds { l, mode } => match mode {
             Mode::Excl => Class::of_lock("holds", l),
@@ -197,14 +273,17 @@ fn short_name<'c>(page: &Page<'c>, what: BarKind) -> &'c [u8] {
 }
 
 // Behind a wait that the run's end leaves.
-fn push_never(out: &mut Vec<u8>, page: &Page<'_>, bar: Bar, x: Px, y: Px) -> Result<(), AllocError>
+fn push_never(out: &mut Vec<u8>, page: &Page<'_>, bar: Bar, top: Px) -> Result<(), AllocError>
     requires { IsBetweenTags out.old.items }
-    ensures { OnOk result (AddsElements out.old.items out.new.items) }
+    ensures whole { OnOk result (AddsElements out.old.items out.new.items) }
+    ensures keeps { OnOk result (Keeps out.old.items out.new.items) }
 {
     let is_last = bar.last == page.chart.turns;
     match (bar.what, &page.chart.end) {
         (BarKind::Waits { .. }, End::Stuck { .. }) if is_last => {
-            push_words(out, Class::of("never"), x, y, b"never woken")
+            let area = area_of(page, bar, top);
+            let x = area.x.plus(area.width).plus(6);
+            push_words(out, Class::of("never"), x, top.plus(13), b"never woken")
         }
         (BarKind::Waits { .. }, _)
         | (BarKind::Holds { .. }, _)
@@ -223,17 +302,33 @@ fn push_walk(
     top: Px,
 ) -> Result<(), AllocError>
     requires { IsBetweenTags out.old.items }
-    ensures { OnOk result (AddsElements out.old.items out.new.items) }
+    ensures whole { OnOk result (AddsElements out.old.items out.new.items) }
+    ensures keeps { OnOk result (Keeps out.old.items out.new.items) }
+    ensures drawn { OnOk result (IsDrawnOn page.now out.new.items bar) }
 {
-    let area = area_of(page, bar, top, 3);
-    push_rect(out, Class::of("walks"), area, &said_of(alloc, page, bar)?)?;
+    push_shape(alloc, out, page, bar, top)?;
+    push_walk_words(out, page, bar, top)
+}
+
+fn push_walk_words(
+    out: &mut Vec<u8>,
+    page: &Page<'_>,
+    bar: Bar,
+    top: Px,
+) -> Result<(), AllocError>
+    requires { IsBetweenTags out.old.items }
+    ensures whole { OnOk result (AddsElements out.old.items out.new.items) }
+    ensures keeps { OnOk result (Keeps out.old.items out.new.items) }
+{
+    let area = area_of(page, bar, top);
     let words: &[u8] = if area.width > 90 {
         b"walks the chain"
     } else {
         b"walks"
     };
     if area.width > 34 {
-        push_words(out, Class::of("walk"), area.x.plus(4), top.plus(12), words)?;
+        push_words(out, Class::of("walk"), area.x.plus(4), top.plus(12), words)
+    } else {
+        Ok(())
     }
-    Ok(())
 }

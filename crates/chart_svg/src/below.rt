@@ -1,6 +1,7 @@
 //! What stands below the lanes: numbered sentences, and the printed end.
 ghost use Rattle.std.specs.Prelude.{OnOk};
 ghost use Rattle.chart_escape.specs.Reader.{AddsElements, IsBetweenTags};
+ghost use Rattle.chart_svg.specs.Drawn.{Keeps};
 
 use crate::lines::{Line, push_lines, widest, wrap};
 use crate::page::Page;
@@ -105,7 +106,8 @@ fn line_class(end: &End, line: &[u8]) -> Class {
 /// Pushes what stands below the lanes.
 pub fn push_below(out: &mut Vec<u8>, below: &Below) -> Result<(), AllocError>
     requires { IsBetweenTags out.old.items }
-    ensures { OnOk result (AddsElements out.old.items out.new.items) }
+    ensures whole { OnOk result (AddsElements out.old.items out.new.items) }
+    ensures keeps { OnOk result (Keeps out.old.items out.new.items) }
 {
     let first = below.top.plus(20);
     push_words(out, Class::of("head"), Px(24), below.top, b"What happened")?;

@@ -1,6 +1,8 @@
 //! The whole picture.
-ghost use Rattle.std.specs.Prelude.{IfOk, OnOk};
+ghost use Rattle.std.specs.Prelude.{All, IfOk, OnOk};
 ghost use Rattle.chart_escape.specs.Reader.{AddsElements, IsBetweenTags, IsWellFormed};
+ghost use Rattle.chart_svg.specs.Drawn.{Draws, Keeps};
+ghost use Rattle.chart_svg.specs.Lanes.{LaneIsDrawn};
 
 use crate::arrows::{push_arrow_heads, push_arrows};
 use crate::bars::push_bars;
@@ -29,7 +31,8 @@ pub fn svg(
     title: &str,
     subtitle: &str,
 ) -> Result<Vec<u8>, AllocError>
-    ensures { IfOk result (λ picture. IsWellFormed picture.items) }
+    ensures whole { IfOk result (λ picture. IsWellFormed picture.items) }
+    ensures draws { IfOk result (λ picture. Draws plan.now chart.now picture.items) }
 {
     let head = Head::make(alloc, title, subtitle)?;
     let page = Page::make(alloc, plan, chart, head.bottom)?;
@@ -51,7 +54,10 @@ pub fn svg(
 // What stands in the lanes, the words in front.
 fn push_lanes(alloc: Global, out: &mut Vec<u8>, page: &Page<'_>) -> Result<(), AllocError>
     requires { IsBetweenTags out.old.items }
-    ensures { OnOk result (AddsElements out.old.items out.new.items) }
+    ensures whole { OnOk result (AddsElements out.old.items out.new.items) }
+    ensures keeps { OnOk result (Keeps out.old.items out.new.items) }
+    ensures drawn { OnOk result
+        (All (LaneIsDrawn page.now out.new.items) page.now.lanes.items) }
 {
     push_strips(alloc, out, page)?;
     push_arrows(out, page)?;

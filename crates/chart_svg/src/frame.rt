@@ -89,7 +89,7 @@ pub fn push_paper(out: &mut Vec<u8>, size: (u32, u32)) -> Result<(), AllocError>
         width: size.0,
         height: size.1,
     };
-    push_rect(out, Class::of("paper"), all, b"")
+    push_rect(out, Class::of("paper"), all)
 }
 
 /// Pushes the columns with the numbers of the turns, and the names of the lanes.
@@ -121,7 +121,7 @@ fn push_zebra(out: &mut Vec<u8>, page: &Page<'_>) -> Result<(), AllocError>
                 width: page.column,
                 height: page.bottom.plus(2).from(page.top),
             };
-            push_rect(out, Class::of("zebra"), area, b"")?;
+            push_rect(out, Class::of("zebra"), area)?;
         }
     }
     Ok(())

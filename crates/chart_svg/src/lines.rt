@@ -1,6 +1,7 @@
 //! Text in lines, which are broken at blanks.
 ghost use Rattle.std.specs.Prelude.{OnOk};
 ghost use Rattle.chart_escape.specs.Reader.{AddsElements, IsBetweenTags};
+ghost use Rattle.chart_svg.specs.Drawn.{Keeps};
 
 use crate::pixels::{Px, width_of};
 use crate::shapes::{push_label, push_words};
@@ -67,7 +68,8 @@ pub fn push_lines(
     pitch: u32,
 ) -> Result<(), AllocError>
     requires { IsBetweenTags out.old.items }
-    ensures { OnOk result (AddsElements out.old.items out.new.items) }
+    ensures whole { OnOk result (AddsElements out.old.items out.new.items) }
+    ensures keeps { OnOk result (Keeps out.old.items out.new.items) }
 {
     let mut y = y;
     for line in lines {

@@ -1,6 +1,7 @@
 //! The marks of the turns, with their words where there is room for words.
 ghost use Rattle.std.specs.Prelude.{OnOk};
 ghost use Rattle.chart_escape.specs.Reader.{AddsElements, IsBetweenTags};
+ghost use Rattle.chart_svg.specs.Drawn.{Keeps};
 
 use crate::page::{Lane, Page};
 use crate::pixels::width_of;
@@ -14,7 +15,8 @@ use std::alloc::{AllocError, Global};
 /// Pushes all marks.
 pub fn push_marks(alloc: Global, out: &mut Vec<u8>, page: &Page<'_>) -> Result<(), AllocError>
     requires { IsBetweenTags out.old.items }
-    ensures { OnOk result (AddsElements out.old.items out.new.items) }
+    ensures whole { OnOk result (AddsElements out.old.items out.new.items) }
+    ensures keeps { OnOk result (Keeps out.old.items out.new.items) }
 {
     for mark in page.chart.marks.as_slice() {
         if let Some(lane) = page.lanes.get(usize::from(mark.thread.0)) {
@@ -32,7 +34,8 @@ fn push_one(
     lane: &Lane,
 ) -> Result<(), AllocError>
     requires { IsBetweenTags out.old.items }
-    ensures { OnOk result (AddsElements out.old.items out.new.items) }
+    ensures whole { OnOk result (AddsElements out.old.items out.new.items) }
+    ensures keeps { OnOk result (Keeps out.old.items out.new.items) }
 {
     let x = page.turn_at(mark.turn);
     let y = lane.marks();
@@ -96,7 +99,8 @@ fn said_of(alloc: Global, page: &Page<'_>, mark: Mark) -> Result<Vec<u8>, AllocE
 /// Pushes why something was refused, or that nobody heard it, above the words of its mark.
 pub fn push_reasons(out: &mut Vec<u8>, page: &Page<'_>) -> Result<(), AllocError>
     requires { IsBetweenTags out.old.items }
-    ensures { OnOk result (AddsElements out.old.items out.new.items) }
+    ensures whole { OnOk result (AddsElements out.old.items out.new.items) }
+    ensures keeps { OnOk result (Keeps out.old.items out.new.items) }
 {
     for mark in &page.reasons {
         if let Some(lane) = page.lanes.get(usize::from(mark.thread.0)) {

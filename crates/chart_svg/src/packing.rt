@@ -2,6 +2,10 @@
 //! a level overlap: a bar comes on the first level that is free there, and one of a thread that was taken off its queue
 //! or woken on that of its wait.
 
+ghost use Rattle.std.specs.Prelude.{◌≡◌, ◌<◌, ℕ, vec_len, All, IfOk, OnOk};
+ghost use Rattle.chart_layout.specs.declared.layout.Bar.{Bar};
+ghost use Rattle.chart_svg.specs.Lanes.{IsAt, IsLaid};
+
 use crate::pixels::count;
 use chart_layout::{Bar, BarKind};
 use std::alloc::{AllocError, Global};
@@ -16,17 +20,42 @@ pub struct Packed {
 }
 
 impl Packed {
-    // One bar more on a level, which may be the next one.
-    fn put(&mut self, alloc: Global, level: u32, bar: Bar) -> Result<(), AllocError> {
-        match self.levels.get_mut(level as usize) {
-            Some(bars) => bars.push(bar)?,
-            None => {
-                let mut bars = Vec::new(alloc);
-                bars.push(bar)?;
-                self.levels.push(bars)?;
-            }
+    // One bar more. A thread waits on that level, and the level of its wait is returned.
+    fn lay(&mut self, alloc: Global, waits_on: u32, bar: Bar) -> Result<u32, AllocError>
+        ensures keeps { OnOk result ((other : Bar) → IsLaid self.old other → IsLaid self.new other) }
+        ensures lays { OnOk result (IsLaid self.new bar) }
+    {
+        if is_walk(bar.what) {
+            self.walks.push((bar, waits_on))?;
+            return Ok(waits_on);
         }
-        Ok(())
+        let level = self.level_of(waits_on, bar);
+        self.put(alloc, level as usize, bar)?;
+        Ok(if is_wait(bar.what) { level } else { waits_on })
+    }
+
+    // On which level a bar comes.
+    fn level_of(&self, waits_on: u32, bar: Bar) -> u32 {
+        if is_off(bar.what) && self.is_free(waits_on, bar.first) {
+            waits_on
+        } else {
+            self.first_free(bar.first)
+        }
+    }
+
+    // One bar more on a level, which may be the next one.
+    fn put(&mut self, alloc: Global, level: usize, bar: Bar) -> Result<(), AllocError>
+        ensures keeps { OnOk result ((other : Bar) → IsLaid self.old other → IsLaid self.new other) }
+        ensures puts { OnOk result (IsLaid self.new bar) }
+    {
+        if level < self.levels.len() {
+            put_at(&mut self.levels, level, bar)
+        } else {
+            let mut bars = Vec::new(alloc);
+            bars.push(bar)?;
+            self.levels.push(bars)?;
+            Ok(())
+        }
     }
 
     // Whether no bar of the level reaches that row.
@@ -52,8 +81,26 @@ fn ends_before(bars: &[Bar], row: u32) -> bool {
     }
 }
 
+/// Puts a bar behind those of the list at a place, if there is one.
+pub fn put_at(lists: &mut Vec<Vec<Bar>>, place: usize, bar: Bar) -> Result<(), AllocError>
+    ensures len { vec_len lists.new ≡ vec_len lists.old }
+    ensures keeps { OnOk result ((at : ℕ) (other : Bar)
+        → IsAt lists.old.items at other → IsAt lists.new.items at other) }
+    ensures puts { OnOk result (place < vec_len lists.old → IsAt lists.new.items place bar) }
+{
+    match lists.get_mut(place) {
+        Some(bars) => {
+            bars.push(bar)?;
+            Ok(())
+        }
+        None => Ok(()),
+    }
+}
+
 /// The bars of a lane on their levels.
-pub fn pack(alloc: Global, bars: &[Bar]) -> Result<Packed, AllocError> {
+pub fn pack(alloc: Global, bars: &[Bar]) -> Result<Packed, AllocError>
+    ensures { IfOk result (λ packed. All (IsLaid packed) bars.now) }
+{
     let mut sorted = Vec::from_slice(alloc, bars)?;
     sorted.sort_by_key(|bar| (bar.first, is_walk(bar.what)))?;
     let mut packed = Packed {
@@ -62,20 +109,8 @@ pub fn pack(alloc: Global, bars: &[Bar]) -> Result<Packed, AllocError> {
     };
     let mut waits_on = 0;
     for bar in &sorted {
-        if is_walk(bar.what) {
-            packed.walks.push((*bar, waits_on))?;
-        } else {
-            let goes_on = is_off(bar.what) && packed.is_free(waits_on, bar.first);
-            let level = if goes_on {
-                waits_on
-            } else {
-                packed.first_free(bar.first)
-            };
-            packed.put(alloc, level, *bar)?;
-            if is_wait(bar.what) {
-                waits_on = level;
-            }
-        }
+        let level = packed.lay(alloc, waits_on, *bar)?;
+        waits_on = level;
     }
     Ok(packed)
 }

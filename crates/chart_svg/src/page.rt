@@ -1,8 +1,11 @@
 //! Where all columns and lanes are. A column is a turn, and its mark stands in the middle of it; a row of the run goes
 //! from the middle of one column to the middle of the next.
-ghost use Rattle.std.specs.Prelude.{◌≤◌, length};
+ghost use Rattle.std.specs.Prelude.{◌≡◌, ◌≤◌, length, vec_len, All, IfOk, OnOk};
+ghost use Rattle.chart_layout.specs.declared.layout.Bar.{Bar};
+ghost use Rattle.chart_svg.specs.Drawn.{right_edge, row_begin, row_end, turn_at};
+ghost use Rattle.chart_svg.specs.Lanes.{scale_of, HasBars, IsByLane, IsInLane, IsLaid};
 
-use crate::packing::{Packed, pack};
+use crate::packing::{Packed, pack, put_at};
 use crate::pixels::{Px, count, width_of};
 use chart_layout::{Arrow, ArrowKind, Bar, Chart, Mark, Sentence, Step};
 use chart_words::{push_arrow, push_mark};
@@ -73,6 +76,21 @@ impl Lane {
         self.bar_top(level).plus(18)
     }
 
+    // Its strip below its bars, where it was lent to, and the end of the lane.
+    fn put_strip(&mut self, height: u32)
+        ensures { self.new.bars ≡ self.old.bars }
+    {
+        let room = if self.bars.walks.is_empty() { 4 } else { 13 };
+        let end = self.bars_end().plus(room);
+        let is_lent_to = self.steps.iter().any(|step| step.effective != step.base);
+        self.strip = if is_lent_to { Some(end.plus(5)) } else { None };
+        self.bottom = if is_lent_to {
+            end.plus(height).plus(27)
+        } else {
+            end.plus(20)
+        };
+    }
+
     // The bottom of its last bars.
     fn bars_end(&self) -> Px {
         self.bar_bottom(count(self.bars.levels.len()).saturating_sub(1))
@@ -86,7 +104,12 @@ impl<'c> Page<'c> {
         plan: &'c Plan,
         chart: &'c Chart,
         top: Px,
-    ) -> Result<Page<'c>, AllocError> {
+    ) -> Result<Page<'c>, AllocError>
+        ensures plan { IfOk result (λ page. page.plan.now ≡ plan.now) }
+        ensures chart { IfOk result (λ page. page.chart.now ≡ chart.now) }
+        ensures width { IfOk result (λ page. 9 ≤ page.column) }
+        ensures bars { IfOk result (λ page. HasBars page chart.now) }
+    {
         let columns = chart.last.saturating_sub(chart.first).max(1);
         let has_words = columns <= MOST_WORDS;
         let column = column_of(alloc, plan, chart, columns)?;
@@ -112,22 +135,48 @@ impl<'c> Page<'c> {
     }
 
     // The lanes, one below the other.
-    fn put_lanes(&mut self, alloc: Global) -> Result<(), AllocError> {
-        let mut bars = self.chart.bars.as_slice();
+    fn put_lanes(&mut self, alloc: Global) -> Result<(), AllocError>
+        ensures plan { self.new.plan ≡ self.old.plan }
+        ensures chart { self.new.chart ≡ self.old.chart }
+        ensures left { self.new.left ≡ self.old.left }
+        ensures column { self.new.column ≡ self.old.column }
+        ensures bars { OnOk result (HasBars self.new self.old.chart.now) }
+    {
+        let lanes = self.chart.lanes.as_slice();
+        let own = bars_by_lane(alloc, lanes.len(), self.chart.bars.as_slice())?;
         let mut steps = self.chart.steps.as_slice();
-        for lane in self.chart.lanes.as_slice() {
-            let thread = lane.thread;
-            let (own, others) = bars.split_at(bars_of(bars, thread));
+        for (i, bars) in own.iter().enumerate() {
+            let thread = lanes[i].thread;
             let (strip, behind) = steps.split_at(steps_of(steps, thread));
-            let has_reason = self.reasons.iter().any(|mark| mark.thread == thread);
-            let begin = self.bottom.plus(if has_reason { 12 } else { 0 });
-            let mut lane = lane_at(alloc, thread, begin, own, strip, self.strip_height())?;
-            lane.top = self.bottom;
-            self.bottom = lane.bottom;
-            self.lanes.push(lane)?;
-            bars = others;
+            self.put_lane(alloc, thread, bars, strip)?;
             steps = behind;
         }
+        Ok(())
+    }
+
+    // One lane more.
+    fn put_lane(
+        &mut self,
+        alloc: Global,
+        thread: ThreadNo,
+        bars: &[Bar],
+        steps: &[Step],
+    ) -> Result<(), AllocError>
+        ensures plan { self.new.plan ≡ self.old.plan }
+        ensures chart { self.new.chart ≡ self.old.chart }
+        ensures left { self.new.left ≡ self.old.left }
+        ensures column { self.new.column ≡ self.old.column }
+        ensures keeps { OnOk result ((bar : Bar) → IsInLane self.old.lanes.items bar
+            → IsInLane self.new.lanes.items bar) }
+        ensures bars { OnOk result (All (IsInLane self.new.lanes.items) bars.now) }
+    {
+        let has_reason = self.reasons.iter().any(|mark| mark.thread == thread);
+        let begin = self.bottom.plus(if has_reason { 12 } else { 0 });
+        let mut lane = lane_at(alloc, thread, begin, bars, steps)?;
+        lane.top = self.bottom;
+        lane.put_strip(self.strip_height());
+        self.bottom = lane.bottom;
+        self.lanes.push(lane)?;
         Ok(())
     }
 
@@ -143,13 +192,17 @@ impl<'c> Page<'c> {
     }
 
     /// Where the lanes' columns end.
-    pub fn right(&self) -> Px {
+    pub fn right(&self) -> Px
+        ensures { result.0 ≡ right_edge (scale_of self.now) self.now.chart.now }
+    {
         let columns = self.chart.last.saturating_sub(self.chart.first).max(1);
         self.left.plus_times(columns, self.column)
     }
 
     /// The middle of a turn's column.
-    pub fn turn_at(&self, turn: u32) -> Px {
+    pub fn turn_at(&self, turn: u32) -> Px
+        ensures { result.0 ≡ turn_at (scale_of self.now) self.now.chart.now turn }
+    {
         let columns = turn.saturating_sub(self.chart.first);
         self.left
             .plus_times(columns, self.column)
@@ -157,7 +210,9 @@ impl<'c> Page<'c> {
     }
 
     /// Where a row begins and ends.
-    pub fn row_begin(&self, row: u32) -> Px {
+    pub fn row_begin(&self, row: u32) -> Px
+        ensures { result.0 ≡ row_begin (scale_of self.now) self.now.chart.now row }
+    {
         if row <= self.chart.first {
             self.left
         } else {
@@ -165,7 +220,9 @@ impl<'c> Page<'c> {
         }
     }
 
-    pub fn row_end(&self, row: u32) -> Px {
+    pub fn row_end(&self, row: u32) -> Px
+        ensures { result.0 ≡ row_end (scale_of self.now) self.now.chart.now row }
+    {
         if row >= self.chart.last {
             self.right()
         } else {
@@ -191,48 +248,56 @@ impl<'c> Page<'c> {
     }
 }
 
-// How many of the bars at the front are of that thread.
-fn bars_of(bars: &[Bar], t: ThreadNo) -> usize
-    ensures { result ≤ length bars.now }
+// The bars of each of so many lanes.
+fn bars_by_lane(alloc: Global, lanes: usize, bars: &[Bar]) -> Result<Vec<Vec<Bar>>, AllocError>
+    ensures len { IfOk result (λ own. vec_len own ≡ lanes) }
+    ensures bars { IfOk result (λ own. All (IsByLane own.items lanes) bars.now) }
 {
-    bars.iter().take_while(|bar| bar.thread == t).count()
+    let mut own = empty_lists(alloc, lanes)?;
+    for bar in bars {
+        put_at(&mut own, usize::from(bar.thread.0), *bar)?;
+    }
+    Ok(own)
 }
 
+fn empty_lists(alloc: Global, n: usize) -> Result<Vec<Vec<Bar>>, AllocError>
+    ensures { IfOk result (λ lists. vec_len lists ≡ n) }
+{
+    let mut lists = Vec::new(alloc);
+    for _ in 0..n {
+        lists.push(Vec::new(alloc))?;
+    }
+    Ok(lists)
+}
+
+// How many of the steps at the front are of that thread.
 fn steps_of(steps: &[Step], t: ThreadNo) -> usize
     ensures { result ≤ length steps.now }
 {
     steps.iter().take_while(|step| step.thread == t).count()
 }
 
-// A lane whose marks' words begin there.
+// A lane whose marks' words begin there, without its strip.
 fn lane_at(
     alloc: Global,
     thread: ThreadNo,
     begin: Px,
     bars: &[Bar],
     steps: &[Step],
-    strip_height: u32,
-) -> Result<Lane, AllocError> {
-    let bars = pack(alloc, bars)?;
-    let has_walk = !bars.walks.is_empty();
-    let mut lane = Lane {
+) -> Result<Lane, AllocError>
+    ensures { IfOk result (λ lane. All (IsLaid lane.bars) bars.now) }
+{
+    let packed = pack(alloc, bars)?;
+    Ok(Lane {
         thread,
         top: begin,
         begin,
         bottom: begin,
-        pitch: if has_walk { 33 } else { 22 },
+        pitch: if packed.walks.is_empty() { 22 } else { 33 },
         strip: None,
-        bars,
+        bars: packed,
         steps: Vec::from_slice(alloc, steps)?,
-    };
-    let end = lane.bars_end().plus(if has_walk { 13 } else { 4 });
-    if steps.iter().any(|step| step.effective != step.base) {
-        lane.strip = Some(end.plus(5));
-        lane.bottom = end.plus(strip_height).plus(27);
-    } else {
-        lane.bottom = end.plus(20);
-    }
-    Ok(lane)
+    })
 }
 
 // Beside the longest name.
@@ -245,7 +310,9 @@ fn left_of(plan: &Plan) -> Px {
 }
 
 // Wide enough for the words of the marks and of the loans, where they stand there.
-fn column_of(alloc: Global, plan: &Plan, chart: &Chart, columns: u32) -> Result<u32, AllocError> {
+fn column_of(alloc: Global, plan: &Plan, chart: &Chart, columns: u32) -> Result<u32, AllocError>
+    ensures { IfOk result (λ column. 9 ≤ column) }
+{
     match columns {
         0..=MOST_WORDS => {
             let marks = widest_mark(alloc, plan, chart.marks.as_slice())?;

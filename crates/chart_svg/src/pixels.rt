@@ -1,12 +1,17 @@
 //! Places on the page, in pixels from its top left corner, and about what text takes of it.
 
+ghost use Rattle.std.specs.Prelude.{◌≡◌, ◌+◌, ◌-◌, ◌*◌};
+ghost use Rattle.chart_svg.specs.Drawn.{pixels};
+
 /// A distance from the left or from the top. It stops at 0 and at the greatest number.
 #[derive(Clone, Copy, Debug, PartialEq, Eq, PartialOrd, Ord)]
 pub struct Px(pub u32);
 
 impl Px {
     /// So much further to the right or down.
-    pub fn plus(self, by: u32) -> Px {
+    pub fn plus(self, by: u32) -> Px
+        ensures { result.0 ≡ pixels (self.0 + by) }
+    {
         Px(self.0.saturating_add(by))
     }
 
@@ -16,12 +21,16 @@ impl Px {
     }
 
     /// So many times that much further.
-    pub fn plus_times(self, times: u32, by: u32) -> Px {
+    pub fn plus_times(self, times: u32, by: u32) -> Px
+        ensures { result.0 ≡ pixels (self.0 + times * by) }
+    {
         self.plus(times.saturating_mul(by))
     }
 
     /// How far it is from there.
-    pub fn from(self, there: Px) -> u32 {
+    pub fn from(self, there: Px) -> u32
+        ensures { result ≡ self.0 - there.0 }
+    {
         self.0.saturating_sub(there.0)
     }
 }

@@ -1,12 +1,14 @@
 //! The few elements that a picture is made of. Each is written whole, so that behind it a reader is between tags again.
 ghost use Rattle.std.specs.Prelude.{OnOk};
 ghost use Rattle.chart_escape.specs.Reader.{AddsElements, IsBetweenTags};
+ghost use Rattle.chart_svg.specs.Drawn.{class_bytes, rect_bytes, Keeps, Stands};
 
 use crate::pixels::Px;
 use crate::tags::{
     Attribute, Class, Tag, close_tag, close_tag_number, close_tag_said, open_tag, push_attribute,
     push_path,
 };
+use chart_escape::{Piece, push_pieces};
 use lock_model::{push_digits, push_number};
 use std::alloc::{AllocError, Global};
 
@@ -30,10 +32,11 @@ pub enum Figure {
     Cross,
 }
 
-/// Pushes a rectangle with round corners, and what is said of it where it is pointed at, if anything.
-pub fn push_rect(out: &mut Vec<u8>, class: Class, area: Area, said: &[u8]) -> Result<(), AllocError>
+/// Pushes a rectangle with round corners.
+pub fn push_rect(out: &mut Vec<u8>, class: Class, area: Area) -> Result<(), AllocError>
     requires { IsBetweenTags out.old.items }
-    ensures { OnOk result (AddsElements out.old.items out.new.items) }
+    ensures whole { OnOk result (AddsElements out.old.items out.new.items) }
+    ensures keeps { OnOk result (Keeps out.old.items out.new.items) }
 {
     open_tag(out, Tag::Rect, class)?;
     push_attribute(out, Attribute::X, area.x.0)?;
@@ -41,11 +44,41 @@ pub fn push_rect(out: &mut Vec<u8>, class: Class, area: Area, said: &[u8]) -> Re
     push_attribute(out, Attribute::Width, area.width)?;
     push_attribute(out, Attribute::Height, area.height)?;
     push_attribute(out, Attribute::Corner, 3)?;
-    if said.is_empty() {
-        close_tag(out, Tag::Rect, b"")
-    } else {
-        close_tag_said(out, Tag::Rect, said)
-    }
+    close_tag(out, Tag::Rect, b"")
+}
+
+/// The same, and what is said of it where it is pointed at.
+pub fn push_rect_said(
+    out: &mut Vec<u8>,
+    class: Class,
+    area: Area,
+    said: &[u8],
+) -> Result<(), AllocError>
+    requires { IsBetweenTags out.old.items }
+    ensures whole { OnOk result (AddsElements out.old.items out.new.items) }
+    ensures keeps { OnOk result (Keeps out.old.items out.new.items) }
+    ensures stands { OnOk result (Stands out.new.items
+        (rect_bytes (class_bytes class) area said.now)) }
+{
+    push_pieces(
+        out,
+        &[
+            Piece::Own("<rect class='"),
+            Piece::Text(class.word.as_bytes()),
+            Piece::Optional(class.lock),
+            Piece::Own("' x='"),
+            Piece::Number(u64::from(area.x.0)),
+            Piece::Own("' y='"),
+            Piece::Number(u64::from(area.y.0)),
+            Piece::Own("' width='"),
+            Piece::Number(u64::from(area.width)),
+            Piece::Own("' height='"),
+            Piece::Number(u64::from(area.height)),
+            Piece::Own("' rx='3'><title>"),
+            Piece::Text(said),
+            Piece::Own("</title></rect>\n"),
+        ],
+    )
 }
 
 /// Pushes a dot, and what is said of it.
@@ -57,7 +90,8 @@ pub fn push_dot(
     said: &[u8],
 ) -> Result<(), AllocError>
     requires { IsBetweenTags out.old.items }
-    ensures { OnOk result (AddsElements out.old.items out.new.items) }
+    ensures whole { OnOk result (AddsElements out.old.items out.new.items) }
+    ensures keeps { OnOk result (Keeps out.old.items out.new.items) }
 {
     open_tag(out, Tag::Circle, class)?;
     push_attribute(out, Attribute::CenterX, x.0)?;
@@ -74,7 +108,8 @@ pub fn push_line(
     to: (Px, Px),
 ) -> Result<(), AllocError>
     requires { IsBetweenTags out.old.items }
-    ensures { OnOk result (AddsElements out.old.items out.new.items) }
+    ensures whole { OnOk result (AddsElements out.old.items out.new.items) }
+    ensures keeps { OnOk result (Keeps out.old.items out.new.items) }
 {
     open_tag(out, Tag::Line, class)?;
     push_attribute(out, Attribute::FromX, from.0.0)?;
@@ -94,7 +129,8 @@ pub fn push_figure(
     said: &[u8],
 ) -> Result<(), AllocError>
     requires { IsBetweenTags out.old.items }
-    ensures { OnOk result (AddsElements out.old.items out.new.items) }
+    ensures whole { OnOk result (AddsElements out.old.items out.new.items) }
+    ensures keeps { OnOk result (Keeps out.old.items out.new.items) }
 {
     let mut path = begin_path(alloc, at.0, at.1)?;
     path.extend_from_slice(match figure {
@@ -121,7 +157,8 @@ pub fn push_curve(
     said: &[u8],
 ) -> Result<(), AllocError>
     requires { IsBetweenTags out.old.items }
-    ensures { OnOk result (AddsElements out.old.items out.new.items) }
+    ensures whole { OnOk result (AddsElements out.old.items out.new.items) }
+    ensures keeps { OnOk result (Keeps out.old.items out.new.items) }
 {
     open_tag(out, Tag::Path, class)?;
     push_path(out, path)?;
@@ -137,7 +174,8 @@ pub fn push_words(
     words: &[u8],
 ) -> Result<(), AllocError>
     requires { IsBetweenTags out.old.items }
-    ensures { OnOk result (AddsElements out.old.items out.new.items) }
+    ensures whole { OnOk result (AddsElements out.old.items out.new.items) }
+    ensures keeps { OnOk result (Keeps out.old.items out.new.items) }
 {
     open_tag(out, Tag::Text, class)?;
     push_attribute(out, Attribute::X, x.0)?;
@@ -154,7 +192,8 @@ pub fn push_label(
     number: u64,
 ) -> Result<(), AllocError>
     requires { IsBetweenTags out.old.items }
-    ensures { OnOk result (AddsElements out.old.items out.new.items) }
+    ensures whole { OnOk result (AddsElements out.old.items out.new.items) }
+    ensures keeps { OnOk result (Keeps out.old.items out.new.items) }
 {
     open_tag(out, Tag::Text, class)?;
     push_attribute(out, Attribute::X, x.0)?;

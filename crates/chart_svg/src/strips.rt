@@ -2,11 +2,12 @@
 //! step. More important is up.
 ghost use Rattle.std.specs.Prelude.{OnOk};
 ghost use Rattle.chart_escape.specs.Reader.{AddsElements, IsBetweenTags};
+ghost use Rattle.chart_svg.specs.Drawn.{Keeps};
 
 use crate::frame::end_of;
 use crate::page::{Lane, Page, prios_of};
 use crate::pixels::{Px, width_of};
-use crate::shapes::{Area, begin_path, push_curve, push_label, push_line, push_rect, push_words};
+use crate::shapes::{Area, begin_path, push_curve, push_label, push_line, push_rect_said, push_words};
 use crate::tags::Class;
 use chart_layout::Step;
 use lock_model::{Prio, push_digits, push_number};
@@ -15,7 +16,8 @@ use std::alloc::{AllocError, Global};
 /// Pushes the strips of all lanes, without the words of their loans.
 pub fn push_strips(alloc: Global, out: &mut Vec<u8>, page: &Page<'_>) -> Result<(), AllocError>
     requires { IsBetweenTags out.old.items }
-    ensures { OnOk result (AddsElements out.old.items out.new.items) }
+    ensures whole { OnOk result (AddsElements out.old.items out.new.items) }
+    ensures keeps { OnOk result (Keeps out.old.items out.new.items) }
 {
     for lane in &page.lanes {
         push_strip(alloc, out, page, lane)?;
@@ -30,7 +32,8 @@ fn push_strip(
     lane: &Lane,
 ) -> Result<(), AllocError>
     requires { IsBetweenTags out.old.items }
-    ensures { OnOk result (AddsElements out.old.items out.new.items) }
+    ensures whole { OnOk result (AddsElements out.old.items out.new.items) }
+    ensures keeps { OnOk result (Keeps out.old.items out.new.items) }
 {
     let Some(strip) = lane.strip else {
         return Ok(());
@@ -54,7 +57,8 @@ fn push_ticks(
     prios: &[Prio],
 ) -> Result<(), AllocError>
     requires { IsBetweenTags out.old.items }
-    ensures { OnOk result (AddsElements out.old.items out.new.items) }
+    ensures whole { OnOk result (AddsElements out.old.items out.new.items) }
+    ensures keeps { OnOk result (Keeps out.old.items out.new.items) }
 {
     let x = page.left.minus(6);
     let mut free = strip;
@@ -77,14 +81,15 @@ fn push_loan(
     step: Step,
 ) -> Result<(), AllocError>
     requires { IsBetweenTags out.old.items }
-    ensures { OnOk result (AddsElements out.old.items out.new.items) }
+    ensures whole { OnOk result (AddsElements out.old.items out.new.items) }
+    ensures keeps { OnOk result (Keeps out.old.items out.new.items) }
 {
     if step.effective == step.base {
         return Ok(());
     }
     let area = loan_area(page, strip, step);
     let (right, base) = (area.x.plus(area.width), area.y.plus(area.height));
-    push_rect(out, Class::of("loan"), area, &loan_words(alloc, step)?)?;
+    push_rect_said(out, Class::of("loan"), area, &loan_words(alloc, step)?)?;
     push_line(out, Class::of("base"), (area.x, base), (right, base))
 }
 
@@ -109,7 +114,8 @@ fn loan_words(alloc: Global, step: Step) -> Result<Vec<u8>, AllocError> {
 /// Pushes the words of the loans of all lanes.
 pub fn push_strip_words(alloc: Global, out: &mut Vec<u8>, page: &Page<'_>) -> Result<(), AllocError>
     requires { IsBetweenTags out.old.items }
-    ensures { OnOk result (AddsElements out.old.items out.new.items) }
+    ensures whole { OnOk result (AddsElements out.old.items out.new.items) }
+    ensures keeps { OnOk result (Keeps out.old.items out.new.items) }
 {
     for lane in &page.lanes {
         if let Some(strip) = lane.strip {
@@ -127,7 +133,8 @@ fn push_words_of(
     steps: &[Step],
 ) -> Result<(), AllocError>
     requires { IsBetweenTags out.old.items }
-    ensures { OnOk result (AddsElements out.old.items out.new.items) }
+    ensures whole { OnOk result (AddsElements out.old.items out.new.items) }
+    ensures keeps { OnOk result (Keeps out.old.items out.new.items) }
 {
     for step in steps {
         let area = loan_area(page, strip, *step);
@@ -149,7 +156,8 @@ fn push_run(
     steps: &[Step],
 ) -> Result<(), AllocError>
     requires { IsBetweenTags out.old.items }
-    ensures { OnOk result (AddsElements out.old.items out.new.items) }
+    ensures whole { OnOk result (AddsElements out.old.items out.new.items) }
+    ensures keeps { OnOk result (Keeps out.old.items out.new.items) }
 {
     let Some((first, others)) = steps.split_first() else {
         return Ok(());

@@ -1,6 +1,8 @@
 //! Tags: an element of a picture is opened, given its attributes, and closed with what it contains.
-ghost use Rattle.std.specs.Prelude.{◌≡◌, [], ◌∷◌, true, OnOk};
+ghost use Rattle.std.specs.Prelude.{◌≡◌, [], ◌∷◌, ◌++◌, true, decimal, OnOk};
+ghost use Rattle.chart_escape.specs.Markup.{escaped};
 ghost use Rattle.chart_escape.specs.Reader.{at, behind_words, is_in_tag, read, AddsElements, InTag, InText, IsBetweenTags, IsWellFormed, Between};
+ghost use Rattle.chart_svg.specs.Drawn.{class_bytes, Keeps};
 ghost use Rattle.chart_svg.specs.Tags.{attribute_bytes, begin_bytes, end_bytes, picture, tag_name, IsIn};
 
 use chart_escape::{Piece, push_pieces};
@@ -41,16 +43,20 @@ pub enum Attribute {
 /// A class of the style: a word, and for what has a lock's colour the lock's number behind it.
 #[derive(Clone, Copy, Debug)]
 pub struct Class {
-    word: &'static str,
-    lock: Option<u64>,
+    pub word: &'static str,
+    pub lock: Option<u64>,
 }
 
 impl Class {
-    pub fn of(word: &'static str) -> Class {
+    pub fn of(word: &'static str) -> Class
+        ensures { class_bytes result ≡ escaped word.now }
+    {
         Class { word, lock: None }
     }
 
-    pub fn of_lock(word: &'static str, l: LockNo) -> Class {
+    pub fn of_lock(word: &'static str, l: LockNo) -> Class
+        ensures { class_bytes result ≡ escaped word.now ++ decimal l.0 }
+    {
         Class {
             word,
             lock: Some(u64::from(l.0)),
@@ -114,8 +120,9 @@ impl Attribute {
 /// Opens an element with its class.
 pub fn open_tag(out: &mut Vec<u8>, tag: Tag, class: Class) -> Result<(), AllocError>
     requires { IsBetweenTags out.old.items }
-    ensures { OnOk result (read out.new.items
+    ensures reads { OnOk result (read out.new.items
         ≡ at (InTag (tag_name tag)) (read out.old.items).elements) }
+    ensures keeps { OnOk result (Keeps out.old.items out.new.items) }
 {
     push_pieces(
         out,
@@ -131,7 +138,8 @@ pub fn open_tag(out: &mut Vec<u8>, tag: Tag, class: Class) -> Result<(), AllocEr
 /// Gives it an attribute.
 pub fn push_attribute(out: &mut Vec<u8>, attribute: Attribute, n: u32) -> Result<(), AllocError>
     requires { is_in_tag (read out.old.items).place ≡ true }
-    ensures { OnOk result (read out.new.items ≡ read out.old.items) }
+    ensures reads { OnOk result (read out.new.items ≡ read out.old.items) }
+    ensures keeps { OnOk result (Keeps out.old.items out.new.items) }
 {
     push_pieces(
         out,
@@ -146,7 +154,8 @@ pub fn push_attribute(out: &mut Vec<u8>, attribute: Attribute, n: u32) -> Result
 /// Gives it a path, as SVG writes one.
 pub fn push_path(out: &mut Vec<u8>, path: &[u8]) -> Result<(), AllocError>
     requires { is_in_tag (read out.old.items).place ≡ true }
-    ensures { OnOk result (read out.new.items ≡ read out.old.items) }
+    ensures reads { OnOk result (read out.new.items ≡ read out.old.items) }
+    ensures keeps { OnOk result (Keeps out.old.items out.new.items) }
 {
     push_pieces(
         out,
@@ -157,8 +166,9 @@ pub fn push_path(out: &mut Vec<u8>, path: &[u8]) -> Result<(), AllocError>
 /// Closes it with words.
 pub fn close_tag(out: &mut Vec<u8>, tag: Tag, words: &[u8]) -> Result<(), AllocError>
     requires { IsIn tag (read out.old.items) }
-    ensures { OnOk result (read out.new.items
+    ensures reads { OnOk result (read out.new.items
         ≡ at (InText Between) (read out.old.items).elements) }
+    ensures keeps { OnOk result (Keeps out.old.items out.new.items) }
 {
     push_pieces(
         out,
@@ -169,8 +179,9 @@ pub fn close_tag(out: &mut Vec<u8>, tag: Tag, words: &[u8]) -> Result<(), AllocE
 /// Closes it with a number.
 pub fn close_tag_number(out: &mut Vec<u8>, tag: Tag, n: u64) -> Result<(), AllocError>
     requires { IsIn tag (read out.old.items) }
-    ensures { OnOk result (read out.new.items
+    ensures reads { OnOk result (read out.new.items
         ≡ at (InText Between) (read out.old.items).elements) }
+    ensures keeps { OnOk result (Keeps out.old.items out.new.items) }
 {
     push_pieces(
         out,
@@ -181,8 +192,9 @@ pub fn close_tag_number(out: &mut Vec<u8>, tag: Tag, n: u64) -> Result<(), Alloc
 /// Closes it with what is said of it where it is pointed at.
 pub fn close_tag_said(out: &mut Vec<u8>, tag: Tag, said: &[u8]) -> Result<(), AllocError>
     requires { IsIn tag (read out.old.items) }
-    ensures { OnOk result (read out.new.items
+    ensures reads { OnOk result (read out.new.items
         ≡ at (InText Between) (read out.old.items).elements) }
+    ensures keeps { OnOk result (Keeps out.old.items out.new.items) }
 {
     push_pieces(
         out,
@@ -236,7 +248,8 @@ pub fn begin_picture(out: &mut Vec<u8>) -> Result<(), AllocError>
 /// Closes the picture.
 pub fn close_picture(out: &mut Vec<u8>) -> Result<(), AllocError>
     requires { read out.old.items ≡ at (InText Between) (picture ∷ []) }
-    ensures { OnOk result (IsWellFormed out.new.items) }
+    ensures whole { OnOk result (IsWellFormed out.new.items) }
+    ensures keeps { OnOk result (Keeps out.old.items out.new.items) }
 {
     push_pieces(out, &[Piece::Own("</svg>\n")])
 }

@@ -1,6 +1,8 @@
-use Rattle.std.proofs.Common.{◌≡◌}
+use Rattle.std.proofs.Common.{◌≡◌, take, All}
 use Rattle.chart_escape.specs.Reader.{read}
+use Rattle.chart_svg.specs.Drawn.{Keeps}
+use Rattle.chart_svg.specs.Lanes.{IsDrawnOn}
 use Rattle.chart_svg.proofs.bars.push_walks.Given as goal
 
 abbrev pub invariant-loop-bar : goal.invariant-loop-bar
-invariant-loop-bar l = read l.out.items ≡ read l.fn.out.items
+invariant-loop-bar l = record { whole : read l.out.items ≡ read l.fn.out.items; keeps : Keeps l.fn.out.items l.out.items; drawn : All (λ walk. IsDrawnOn l.page l.out.items walk.0) (take l.bar-index l.lane.bars.walks.items) }

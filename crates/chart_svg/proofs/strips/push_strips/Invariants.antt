@@ -1,6 +1,7 @@
 use Rattle.std.proofs.Common.{◌≡◌}
 use Rattle.chart_escape.specs.Reader.{read}
+use Rattle.chart_svg.specs.Drawn.{Keeps}
 use Rattle.chart_svg.proofs.strips.push_strips.Given as goal
 
 abbrev pub invariant-loop-lane : goal.invariant-loop-lane
-invariant-loop-lane l = read l.out.items ≡ read l.fn.out.items
+invariant-loop-lane l = record { whole : read l.out.items ≡ read l.fn.out.items; keeps : Keeps l.fn.out.items l.out.items }
