@@ -67,7 +67,7 @@ rect_stands old new class word area x y width height said ew ex ey e1 e2 e =
 -- 2. Bars
 
 pub drawn_still : (page : Page) (old new : List ℕ) (bar : Bar) → Keeps old new → IsDrawnOn page old bar → IsDrawnOn page new bar
-drawn_still page old new bar keeps h = record { top = h.top; words = h.words; stands = keeps _ h.stands }
+drawn_still page old new bar keeps h = record { top = h.top; stands = keeps _ h.stands }
 
 pub bars_still : (page : Page) (old new : List ℕ) (bars : List Bar) → Keeps old new → All (IsDrawnOn page old) bars → All (IsDrawnOn page new) bars
 bars_still page old new bars keeps h = All-weaker (IsDrawnOn page old) (IsDrawnOn page new) (λ bar. drawn_still page old new bar keeps) bars h
@@ -91,15 +91,15 @@ lane_still page old new lane keeps h = record {
 pub lanes_still : (page : Page) (old new : List ℕ) (lanes : List Lane) → Keeps old new → All (LaneIsDrawn page old) lanes → All (LaneIsDrawn page new) lanes
 lanes_still page old new lanes keeps h = All-weaker (LaneIsDrawn page old) (LaneIsDrawn page new) (λ lane. lane_still page old new lane keeps) lanes h
 
-pub shape_drawn : (page : Page) (picture : List ℕ) (bar : Bar) (top : ℕ) (class : List ℕ) (area : Area) (said words : List ℕ)
-    → class ≡ bar_class bar.what → area ≡ bar_area (scale_of page) page.chart.now bar top → said ≡ bar_title page.plan.now bar words
+pub shape_drawn : (page : Page) (picture : List ℕ) (bar : Bar) (top : ℕ) (class : List ℕ) (area : Area) (said : List ℕ)
+    → class ≡ bar_class bar.what → area ≡ bar_area (scale_of page) page.chart.now bar top → said ≡ bar_title page.plan.now bar
     → Stands picture (rect_bytes class area said) → IsDrawnOn page picture bar
-shape_drawn page picture bar top class area said words ec ea es h =
-    let same : rect_bytes class area said ≡ rect_bytes (bar_class bar.what) (bar_area (scale_of page) page.chart.now bar top) (bar_title page.plan.now bar words) =
+shape_drawn page picture bar top class area said ec ea es h =
+    let same : rect_bytes class area said ≡ rect_bytes (bar_class bar.what) (bar_area (scale_of page) page.chart.now bar top) (bar_title page.plan.now bar) =
         ap (λ c. rect_bytes c area said) ec ∙ ap (λ a. rect_bytes (bar_class bar.what) a said) ea
         ∙ ap (λ t. rect_bytes (bar_class bar.what) (bar_area (scale_of page) page.chart.now bar top) t) es in
     let P : List ℕ → Type 0 = λ part. Stands picture part in
-    record { top = top; words = words; stands = subst P same h }
+    record { top = top; stands = subst P same h }
 
 -- 3. Loops
 

@@ -7,6 +7,7 @@ use Rattle.chart_layout.specs.declared.layout.Bar.{Bar}
 use Rattle.chart_layout.specs.declared.layout.BarKind.{BarKind}
 use Rattle.chart_layout.specs.declared.layout.BarKind.TheVariants.{Holds, Waits, TakenOff, Woken, Walks}
 use Rattle.chart_layout.specs.declared.layout.Chart.{Chart}
+use Rattle.chart_words.specs.Words.{bar_words}
 use Rattle.lock_model.specs.Plans.{thread_name}
 use Rattle.lock_model.specs.declared.plan.Mode.TheVariants.{Excl, Shared}
 use Rattle.lock_model.specs.declared.plan.Plan.{Plan}
@@ -101,18 +102,18 @@ bar_area scale chart bar top = record {
   height = bar_height bar.what;
 }
 
--- what a bar says: whose it is, some words, and from which turn to which it lasts
-abbrev pub bar_title : Plan → Bar → List ℕ → List ℕ
-bar_title plan bar words =
-    thread_name plan bar.thread.0 ++ codes " " ++ words
+-- what a bar says: whose it is, what, and from which turn to which it lasts
+abbrev pub bar_title : Plan → Bar → List ℕ
+bar_title plan bar =
+    thread_name plan bar.thread.0 ++ codes " " ++ bar_words plan bar.what
     ++ codes ", turn " ++ decimal (bar.first - 1) ++ codes " to " ++ decimal bar.last
 
 -- the bar stands in the picture
-pub record IsDrawn (plan : Plan) (chart : Chart) (scale : Scale) (picture : List ℕ) (bar : Bar) : Type 0 where
+pub record IsDrawn (plan : Plan) (chart : Chart) (scale : Scale) (picture : List ℕ) (bar : Bar)
+    : Type 0 where
   pub top : ℕ
-  pub words : List ℕ
   pub stands : Stands picture (rect_bytes (bar_class bar.what) (bar_area scale chart bar top)
-      (bar_title plan bar words))
+      (bar_title plan bar))
 
 -- by one scale, each bar whose thread has a lane stands in the picture
 pub record Draws (plan : Plan) (chart : Chart) (picture : List ℕ) : Type 0 where

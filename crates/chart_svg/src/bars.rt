@@ -10,7 +10,7 @@ use crate::shapes::{Area, push_rect, push_rect_said, push_words};
 use crate::tags::Class;
 use chart_layout::{Bar, BarKind, End, Saying};
 use chart_words::{push_bar, queue_name};
-use lock_model::{Mode, QueueName, ThreadNo, push_number, push_word};
+use lock_model::{Mode, QueueName, ThreadNo, push_number};
 use std::alloc::{AllocError, Global};
 
 /// Pushes the bars of all lanes.
@@ -82,24 +82,13 @@ fn push_walks(
     Ok(())
 }
 
-// What a bar is, in words: `holds bus`.
-fn words_of(alloc: Global, page: &Page<'_>, bar: Bar) -> Result<Vec<u8>, AllocError> {
-    let mut words = Vec::new(alloc);
-    push_bar(&mut words, page.plan, bar.what)?;
-    Ok(words)
-}
-
-// What is said where it is pointed at: `low holds bus, turn 0 to 7`.
-fn said_of(
-    alloc: Global,
-    page: &Page<'_>,
-    bar: Bar,
-    words: &[u8],
-) -> Result<Vec<u8>, AllocError>
-    ensures { IfOk result (λ said. said.items ≡ bar_title page.now.plan.now bar words.now) }
+// What is said where a bar is pointed at: `low holds bus, turn 0 to 7`.
+fn said_of(alloc: Global, page: &Page<'_>, bar: Bar) -> Result<Vec<u8>, AllocError>
+    ensures { IfOk result (λ said. said.items ≡ bar_title page.now.plan.now bar) }
 {
     let mut said = Vec::from_slice(alloc, page.plan.thread_name(bar.thread))?;
-    push_word(&mut said, words)?;
+    said.extend_from_slice(b" ")?;
+    push_bar(&mut said, page.plan, bar.what)?;
     said.extend_from_slice(b", turn")?;
     push_number(&mut said, u64::from(bar.first.saturating_sub(1)))?;
     said.extend_from_slice(b" to")?;
@@ -138,8 +127,7 @@ fn push_shape(
     ensures keeps { OnOk result (Keeps out.old.items out.new.items) }
     ensures drawn { OnOk result (IsDrawnOn page.now out.new.items bar) }
 {
-    let words = words_of(alloc, page, bar)?;
-    let said = said_of(alloc, page, bar, &words)?;
+    let said = said_of(alloc, page, bar)?;
     push_rect_said(out, class_of(bar.what), area_of(page, bar, top), &said)
 }
 
@@ -156,8 +144,7 @@ fn push_own_words(
     ensures keeps { OnOk result (Keeps out.old.items out.new.items) }
 {
     let area = area_of(page, bar, top);
-    let mut words = words_of(alloc, page, bar)?;
-    push_writer(&mut words, page, bar)?;
+    let words = words_of(alloc, page, bar)?;
     let room = area.width.saturating_sub(8);
     let fitting = if width_of(words.len(), 72) <= room {
         words.as_slice()
@@ -196,13 +183,15 @@ fn height_of(what: BarKind) -> u32
     }
 }
 
-// A wait behind a writer says so on its bar.
-fn push_writer(words: &mut Vec<u8>, page: &Page<'_>, bar: Bar) -> Result<(), AllocError> {
+// What stands on a bar. One that waits behind a writer says so.
+fn words_of(alloc: Global, page: &Page<'_>, bar: Bar) -> Result<Vec<u8>, AllocError> {
+    let mut words = Vec::new(alloc);
+    push_bar(&mut words, page.plan, bar.what)?;
     if let (BarKind::Waits { .. }, Some(writer)) = (bar.what, writer_before(page, bar)) {
         words.extend_from_slice(b", behind ")?;
         words.extend_from_slice(page.plan.thread_name(writer))?;
     }
-    Ok(())
+    Ok(words)
 }
 
 // The writer behind which a bar's thread waits, as the sentence of the turn says that began it.

@@ -7,6 +7,7 @@ use Rattle.chart_escape.specs.JsonReader.{IsJson}
 use Rattle.chart_escape.specs.Reader.{IsWellFormed}
 use Rattle.chart_html.specs.Page.{IsPage}
 use Rattle.chart_layout.specs.declared.layout.Chart.{Chart}
+use Rattle.chart_svg.specs.Drawn.{Draws}
 use Rattle.chart_trace.specs.Events.{trace_bytes}
 use Rattle.chart_top.specs.Heading.{Text, subtitle_of, title_of}
 use Rattle.lock_model.specs.Script.{IsAccepted}
@@ -19,10 +20,11 @@ use Rattle.run_rows.specs.declared.rows.Rows.{Rows}
 abbrev pub Rendering : Type 1
 Rendering = Form → Plan → Rows → Chart → Text → Text → Text → Type 0
 
--- what is known of a text under a title, by its form: a picture is well-formed markup; a page is whole round one, and
--- has the data of just these rows and this chart; a trace is JSON, and just that of the chart
+-- What is known of a text under a title, by its form: a picture is well-formed markup in which each bar of the chart
+-- stands; a page is whole round one, and has the data of just these rows and this chart; a trace is JSON, and just that
+-- of the chart.
 abbrev pub IsInForm : Form → Plan → Rows → Chart → Text → Text → Type 0
-IsInForm Svg plan rows chart title text = IsWellFormed text
+IsInForm Svg plan rows chart title text = IsWellFormed text × Draws plan chart text
 IsInForm Html plan rows chart title text = IsPage plan rows chart title text
 IsInForm Trace plan rows chart title text =
     IsJson text × (text ≡ trace_bytes plan chart title)

@@ -5,6 +5,6 @@ use Rattle.chart_svg.proofs.bars.push_shape.Goals as goal
 
 pub returns-clause-drawn : goal.returns-clause-drawn
 returns-clause-drawn c = on_ok_weaker c.push_rect_said.result
-    (shape_drawn c.args.page.now c.push_rect_said.new.out.items c.args.bar c.args.top.0 _ _ _ c.deref.result.now
-    c.class_of.ensures c.area_of.ensures (c.deref-2.ensures.value ∙ c.in_ok-said.ensures))
+    (shape_drawn c.args.page.now c.push_rect_said.new.out.items c.args.bar c.args.top.0 _ _ _
+    c.class_of.ensures c.area_of.ensures (c.deref.ensures.value ∙ c.in_ok-said.ensures))
     c.push_rect_said.ensures.stands
