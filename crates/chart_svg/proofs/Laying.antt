@@ -1,9 +1,9 @@
 -- What is laid stays laid when one bar more is put on a level, behind the walks, or in a lane.
-use Rattle.std.proofs.Common.{ℕ, ◌+◌, ◌<◌, ◌≤◌, ◌≡◌, ◌≢◌, ◌∙◌, ◌++◌, ◌⊎◌, inl, inr, ap, subst, sym, refl, List, [], ◌∷◌, length, take, get_or, set, All, Contains, arith}
+use Rattle.std.proofs.Common.{ℕ, ◌+◌, ◌<◌, ◌≡◌, ◌∙◌, ◌++◌, inl, inr, ap, subst, sym, refl, List, [], ◌∷◌, length, take, get_or, set, All, Contains, arith}
 use Rattle.std.specs.Global.{Vec}
 use Rattle.std.proofs.lemmas.Bool.Decides.{eqb_tells}
 use Rattle.std.proofs.lemmas.List.{get_or-set_same, get_or-set_other, length-set, length-append, get_or_append_left, get_or_default}
-use Rattle.std.proofs.lemmas.List.Elements.{All-contains, All-weaker, Contains-append_left, Contains-append_right, Contains-push, Contains-get_or}
+use Rattle.std.proofs.lemmas.List.Elements.{All-contains, All-weaker, Contains-append_left, Contains-push}
 use Rattle.chart_layout.specs.declared.layout.Bar.{Bar}
 use Rattle.std.proofs.lemmas.Grind.{get_or_at_push}
 use Rattle.chart_svg.proofs.Standing.{all_more}
@@ -17,9 +17,9 @@ pub put_keeps : (lists : List (Vec Bar)) (place : ℕ) (was more : Vec Bar) (bar
 put_keeps lists place was more bar is items at other h =
     let in_range : at < length (set lists place more) = subst (λ n. at < n) (sym (length-set lists place more)) h.within in
     elim (eqb_tells at place) [
-      inl (t, e) ↦ (let lt : place < length lists = subst (λ n. n < length lists) e h.within in
+      | inl (t, e) ↦ (let lt : place < length lists = subst (λ n. n < length lists) e h.within in
           let same : h.bars ≡ was =
-            sym h.is ∙ ap (λ n. get_or lists n h.bars) e ∙ get_or_default lists place h.bars was lt ∙ sym is in
+          sym h.is ∙ ap (λ n. get_or lists n h.bars) e ∙ get_or_default lists place h.bars was lt ∙ sym is in
           let had : Contains was.items other = subst (λ (v : Vec Bar). Contains v.items other) same h.has in
           record {
             bars = more;
@@ -27,7 +27,7 @@ put_keeps lists place was more bar is items at other h =
             is = ap (λ n. get_or (set lists place more) n more) e ∙ get_or-set_same lists place more more lt;
             has = subst (λ (xs : List Bar). Contains xs other) (sym items) (Contains-append_left was.items (bar ∷ []) other had);
           })
-    | inr (f, ne) ↦ record {
+      | inr (f, ne) ↦ record {
         bars = h.bars;
         within = in_range;
         is = get_or-set_other lists place at more h.bars ne ∙ h.is;
@@ -71,9 +71,9 @@ pushed_puts lists new more was bar e items =
 pub laid_still : (old : Packed) (levels : Vec (Vec Bar)) → ((at : ℕ) (other : Bar) → IsAt old.levels.items at other → IsAt levels.items at other)
     → (other : Bar) → IsLaid old other → IsLaid (record { levels = levels; walks = old.walks }) other
 laid_still old levels keeps other h = elim h [
-    inl (level, at) ↦ inl (level, keeps level other at)
+  | inl (level, at) ↦ inl (level, keeps level other at)
   | inr walk ↦ inr walk
-  ]
+]
 
 -- bars go to their lanes
 pub by_lane_more : (bars : List Bar) (i : ℕ) (d : Bar) (old new : List (Vec Bar)) (lanes place : ℕ) → i < length bars → place ≡ (get_or bars i d).thread.0
@@ -105,9 +105,9 @@ pub lanes_more : (lists : List (Vec Bar)) (i : ℕ) (old new : List Lane) (own :
     → (k : ℕ) (bar : Bar) → k < i + 1 → IsAt lists k bar → IsInLane new bar
 lanes_more lists i old new own is keeps all was k bar lt at =
     elim (eqb_tells k i) [
-      inl (t, e) ↦ (let within : i < length lists = subst (λ n. n < length lists) e at.within in
+      | inl (t, e) ↦ (let within : i < length lists = subst (λ n. n < length lists) e at.within in
           let same : at.bars ≡ own = sym at.is ∙ ap (λ n. get_or lists n at.bars) e ∙ get_or_default lists i at.bars own within ∙ sym is in
           let has : Contains own.items bar = subst (λ (v : Vec Bar). Contains v.items bar) same at.has in
           All-contains (IsInLane new) own.items bar all has)
-    | inr (f, ne) ↦ (let below : k < i = omega arith in keeps bar (was k bar below at))
+      | inr (f, ne) ↦ (let below : k < i = omega arith in keeps bar (was k bar below at))
     ]

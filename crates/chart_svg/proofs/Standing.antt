@@ -1,5 +1,5 @@
 -- What stands in a text stands there still when more is put behind it.
-use Rattle.std.proofs.Common.{ℕ, ◌+◌, ◌<◌, ◌≤◌, length, take, get_or, subst, ◌≡◌, ◌∙◌, ◌++◌, ap, sym, refl, List, [], ◌∷◌, append_assoc, append-nil, Some, None, Option, Bor, All, Contains, codes, decimal}
+use Rattle.std.proofs.Common.{ℕ, ◌+◌, ◌<◌, ◌≤◌, length, take, get_or, subst, ◌≡◌, ◌∙◌, ◌++◌, ap, sym, refl, List, [], ◌∷◌, append_assoc, append-nil, Some, None, Option, Bor, All, codes}
 use Rattle.std.proofs.lemmas.List.Elements.{All-more, All-same, All-weaker}
 use Rattle.std.proofs.lemmas.List.{take_all}
 use Rattle.chart_escape.specs.Markup.{escaped}
@@ -8,7 +8,7 @@ use Rattle.chart_escape.specs.Reader.{AreElements}
 use Rattle.chart_escape.specs.declared.piece.Piece.{Piece}
 use Rattle.chart_escape.specs.declared.piece.Piece.TheVariants as piece
 use Rattle.chart_layout.specs.declared.layout.Bar.{Bar}
-use Rattle.chart_svg.specs.Drawn.{bar_area, bar_class, bar_title, class_bytes, rect_bytes, Stands, Keeps, IsDrawn}
+use Rattle.chart_svg.specs.Drawn.{bar_area, bar_class, bar_title, class_bytes, rect_bytes, Stands, Keeps}
 use Rattle.chart_svg.specs.Lanes.{scale_of, IsDrawnOn, LaneIsDrawn}
 use Rattle.chart_svg.specs.declared.page.Lane.{Lane}
 use Rattle.chart_svg.specs.declared.page.Page.{Page}
@@ -96,8 +96,8 @@ pub shape_drawn : (page : Page) (picture : List ℕ) (bar : Bar) (top : ℕ) (cl
     → Stands picture (rect_bytes class area said) → IsDrawnOn page picture bar
 shape_drawn page picture bar top class area said ec ea es h =
     let same : rect_bytes class area said ≡ rect_bytes (bar_class bar.what) (bar_area (scale_of page) page.chart.now bar top) (bar_title page.plan.now bar) =
-        ap (λ c. rect_bytes c area said) ec ∙ ap (λ a. rect_bytes (bar_class bar.what) a said) ea
-        ∙ ap (λ t. rect_bytes (bar_class bar.what) (bar_area (scale_of page) page.chart.now bar top) t) es in
+    ap (λ c. rect_bytes c area said) ec ∙ ap (λ a. rect_bytes (bar_class bar.what) a said) ea
+    ∙ ap (λ t. rect_bytes (bar_class bar.what) (bar_area (scale_of page) page.chart.now bar top) t) es in
     let P : List ℕ → Type 0 = λ part. Stands picture part in
     record { top = top; stands = subst P same h }
 

@@ -1,5 +1,5 @@
 -- A picture in which all lanes of a page are drawn draws the bars of the page's chart.
-use Rattle.std.proofs.Common.{ℕ, ◌<◌, ◌≤◌, ◌≡◌, ◌⊎◌, inl, inr, subst, List, length, get_or, All, Contains}
+use Rattle.std.proofs.Common.{ℕ, ◌≤◌, ◌≡◌, inl, inr, subst, List, All}
 use Rattle.std.specs.Global.{Vec}
 use Rattle.std.proofs.lemmas.List.Elements.{All-contains, All-get_or}
 use Rattle.chart_layout.specs.declared.layout.Bar.{Bar}
@@ -20,9 +20,9 @@ level_drawn page picture levels level bar h at =
 
 laid_drawn : (page : Page) (picture : List ℕ) (lane : Lane) (bar : Bar) → LaneIsDrawn page picture lane → IsLaid lane.bars bar → IsDrawnOn page picture bar
 laid_drawn page picture lane bar h laid = elim laid [
-    inl (level, at) ↦ level_drawn page picture lane.bars.levels.items level bar h.levels at
+  | inl (level, at) ↦ level_drawn page picture lane.bars.levels.items level bar h.levels at
   | inr (level, has) ↦ All-contains (λ walk. IsDrawnOn page picture walk.0) lane.bars.walks.items (bar, level) h.walks has
-  ]
+]
 
 pub picture_draws : (page : Page) (plan : Plan) (chart : Chart) (old new : List ℕ) → page.plan.now ≡ plan → page.chart.now ≡ chart → 9 ≤ page.column
     → HasBars page chart → All (LaneIsDrawn page old) page.lanes.items → Keeps old new → Draws plan chart new

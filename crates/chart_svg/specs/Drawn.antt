@@ -1,5 +1,5 @@
 -- Where the bars of a chart stand in its picture.
-use Rattle.std.specs.Prelude.{◌≡◌, ℕ, ◌+◌, ◌-◌, ◌*◌, ◌/◌, ◌<◌, ◌≤◌, nat_lt, min, max, if◌then◌else◌, List, [], ◌∷◌, ◌++◌, length, codes, decimal, Contains}
+use Rattle.std.specs.Prelude.{◌≡◌, ℕ, ◌+◌, ◌-◌, ◌*◌, ◌/◌, ◌<◌, ◌≤◌, nat_lt, min, max, if◌then◌else◌, List, ◌++◌, length, codes, decimal, Contains}
 use Rattle.chart_escape.specs.Markup.{escaped}
 use Rattle.chart_escape.specs.Pieces.{piece_bytes}
 use Rattle.chart_escape.specs.declared.piece.Piece.TheVariants.{Optional}

@@ -152,7 +152,13 @@ fn push_own_words(
         short_name(page, bar.what)
     };
     if width_of(fitting.len(), 72) <= room {
-        push_words(out, words_class(bar.what), area.x.plus(6), top.plus(13), fitting)
+        push_words(
+            out,
+            words_class(bar.what),
+            area.x.plus(6),
+            top.plus(13),
+            fitting,
+        )
     } else {
         Ok(())
     }
@@ -299,12 +305,7 @@ fn push_walk(
     push_walk_words(out, page, bar, top)
 }
 
-fn push_walk_words(
-    out: &mut Vec<u8>,
-    page: &Page<'_>,
-    bar: Bar,
-    top: Px,
-) -> Result<(), AllocError>
+fn push_walk_words(out: &mut Vec<u8>, page: &Page<'_>, bar: Bar, top: Px) -> Result<(), AllocError>
     requires { IsBetweenTags out.old.items }
     ensures whole { OnOk result (AddsElements out.old.items out.new.items) }
     ensures keeps { OnOk result (Keeps out.old.items out.new.items) }

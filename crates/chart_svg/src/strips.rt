@@ -7,7 +7,9 @@ ghost use Rattle.chart_svg.specs.Drawn.{Keeps};
 use crate::frame::end_of;
 use crate::page::{Lane, Page, prios_of};
 use crate::pixels::{Px, width_of};
-use crate::shapes::{Area, begin_path, push_curve, push_label, push_line, push_rect_said, push_words};
+use crate::shapes::{
+    Area, begin_path, push_curve, push_label, push_line, push_rect_said, push_words,
+};
 use crate::tags::Class;
 use chart_layout::Step;
 use lock_model::{Prio, push_digits, push_number};

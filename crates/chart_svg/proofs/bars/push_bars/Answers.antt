@@ -1,6 +1,6 @@
-use Rattle.std.proofs.Common.{◌∙◌, sym, refl, All}
+use Rattle.std.proofs.Common.{◌∙◌}
 use Rattle.chart_svg.proofs.Standing.{levels_still, all_in_all, all_more_item, lanes_still}
-use Rattle.chart_svg.specs.Lanes.{IsDrawnOn, LaneIsDrawn}
+use Rattle.chart_svg.specs.Lanes.{LaneIsDrawn}
 use Rattle.chart_svg.proofs.bars.push_bars.Goals as goal
 
 pub loop-lane-preserved : goal.loop-lane-preserved

@@ -1,6 +1,6 @@
-use Rattle.std.proofs.Common.{◌∙◌, sym, refl, All}
+use Rattle.std.proofs.Common.{◌∙◌, refl}
 use Rattle.chart_svg.proofs.Standing.{all_in_all, all_more, bars_still}
-use Rattle.chart_svg.specs.Lanes.{IsDrawnOn, LaneIsDrawn}
+use Rattle.chart_svg.specs.Lanes.{IsDrawnOn}
 use Rattle.chart_svg.proofs.bars.push_level.Goals as goal
 
 pub loop-bar-preserved : goal.loop-bar-preserved

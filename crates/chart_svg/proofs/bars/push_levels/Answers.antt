@@ -1,6 +1,6 @@
 use Rattle.std.proofs.Common.{◌∙◌, subst, List, All}
 use Rattle.chart_svg.proofs.Standing.{all_in_all, all_more_item, levels_still}
-use Rattle.chart_svg.specs.Lanes.{IsDrawnOn, LaneIsDrawn}
+use Rattle.chart_svg.specs.Lanes.{IsDrawnOn}
 use Rattle.chart_layout.specs.declared.layout.Bar.{Bar}
 use Rattle.chart_svg.proofs.bars.push_levels.Goals as goal
 

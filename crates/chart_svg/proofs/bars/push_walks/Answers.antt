@@ -1,6 +1,6 @@
-use Rattle.std.proofs.Common.{◌∙◌, sym, refl, All}
+use Rattle.std.proofs.Common.{◌∙◌}
 use Rattle.chart_svg.proofs.Standing.{all_in_all, all_more, walks_still}
-use Rattle.chart_svg.specs.Lanes.{IsDrawnOn, LaneIsDrawn}
+use Rattle.chart_svg.specs.Lanes.{IsDrawnOn}
 use Rattle.chart_svg.proofs.bars.push_walks.Goals as goal
 
 pub loop-bar-preserved : goal.loop-bar-preserved

@@ -15,10 +15,10 @@ loop-bar-preserved c =
 pub returns : goal.returns
 returns c =
     let seen : All (IsLaid c.loop-bar.packed) c.deref-bar-items.result.now =
-        all_in_all (IsLaid c.loop-bar.packed) c.deref-bar-items.result.now c.deref-bar-items.result.now c.loop-bar.bar-index
-        refl c.loop-bar-test.false c.loop-bar.invariant in
+    all_in_all (IsLaid c.loop-bar.packed) c.deref-bar-items.result.now c.deref-bar-items.result.now c.loop-bar.bar-index
+    refl c.loop-bar-test.false c.loop-bar.invariant in
     let all : All (IsLaid c.loop-bar.packed) c.sort_by_key.new.self.items =
-        All-same (IsLaid c.loop-bar.packed) c.sort_by_key.new.self.items c.deref-bar-items.result.now (sym c.deref-bar-items.ensures.value) seen in
+    All-same (IsLaid c.loop-bar.packed) c.sort_by_key.new.self.items c.deref-bar-items.result.now (sym c.deref-bar-items.ensures.value) seen in
     All-same (IsLaid c.loop-bar.packed) c.args.bars.now c.in_ok-sorted.sorted.items (sym c.in_ok-sorted.ensures.items)
     (All-permutation (IsLaid c.loop-bar.packed) c.sort_by_key.new.self.items c.in_ok-sorted.sorted.items
     (IsPermutation-sym c.in_ok-sorted.sorted.items c.sort_by_key.new.self.items c.sort_by_key.ensures.permutation) all)

@@ -11,6 +11,8 @@ returns-in_ok-push-2-clause-keeps c = laid_still c.args.self.now c.push-else-lev
     (pushed_keeps c.args.self.now.levels.items c.push-else-level-len.new.self.items c.push.new.self c.in_ok-push-2.ensures.items)
 
 pub returns-in_ok-push-2-clause-puts : goal.returns-in_ok-push-2-clause-puts
-returns-in_ok-push-2-clause-puts c = inl (length c.args.self.now.levels.items,
-    pushed_puts c.args.self.now.levels.items c.push-else-level-len.new.self.items c.push.new.self c.new-bars.result.items c.args.bar
-    c.in_ok-push-2.ensures.items c.in_ok-push.ensures.items)
+returns-in_ok-push-2-clause-puts c = inl (
+  length c.args.self.now.levels.items,
+  pushed_puts c.args.self.now.levels.items c.push-else-level-len.new.self.items c.push.new.self c.new-bars.result.items c.args.bar
+      c.in_ok-push-2.ensures.items c.in_ok-push.ensures.items,
+)

@@ -28,8 +28,8 @@ returns-clause-bars c = λ bar has lt.
     let among : Contains c.as_slice.result.now bar = subst P (sym c.as_slice.ensures) has in
     let reached : bar.thread.0 < length c.as_slice-lanes.result.now = subst Q (sym c.as_slice-lanes.ensures) lt in
     let by : IsByLane c.in_ok-own.own.items (length c.as_slice-lanes.result.now) bar =
-        All-contains (IsByLane c.in_ok-own.own.items (length c.as_slice-lanes.result.now)) c.as_slice.result.now bar
-        c.in_ok-own.ensures.bars among in
+    All-contains (IsByLane c.in_ok-own.own.items (length c.as_slice-lanes.result.now)) c.as_slice.result.now bar
+    c.in_ok-own.ensures.bars among in
     let at : IsAt c.deref-bars-items.result.now bar.thread.0 bar = subst R (sym c.deref-bars-items.ensures.value) (by reached) in
     let within : bar.thread.0 < length c.deref-bars-items.result.now = at.within in
     let below : bar.thread.0 < c.loop-i.i = omega arith in
