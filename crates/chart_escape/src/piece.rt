@@ -44,7 +44,8 @@ pub fn push_pieces(out: &mut Vec<u8>, pieces: &[Piece<'_>]) -> Result<(), AllocE
 pub fn push_elements(out: &mut Vec<u8>, pieces: &[Piece<'_>]) -> Result<(), AllocError>
     requires between { IsBetweenTags out.old.items }
     requires whole { AreElements pieces.now }
-    ensures { OnOk result (AddsElements out.old.items out.new.items) }
+    ensures pushed { OnOk result (out.new.items ≡ out.old.items ++ pieces_bytes pieces.now) }
+    ensures reads { OnOk result (AddsElements out.old.items out.new.items) }
 {
     push_pieces(out, pieces)
 }

@@ -2,7 +2,7 @@ use Rattle.std.proofs.lemmas.Result.{on_ok_weaker}
 use Rattle.chart_escape.proofs.Readings.{adds}
 use Rattle.chart_escape.proofs.piece.push_elements.Goals as goal
 
-pub returns : goal.returns
-returns c = on_ok_weaker c.push_pieces.result
+pub returns-clause-reads : goal.returns-clause-reads
+returns-clause-reads c = on_ok_weaker c.push_pieces.result
     (λ e. adds c.args.out.now.items c.push_pieces.new.out.items c.args.pieces.now c.requires.between e c.requires.whole)
     c.push_pieces.ensures.reads
