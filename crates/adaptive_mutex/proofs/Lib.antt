@@ -3,3 +3,4 @@ pub mod Words
 pub mod Acquired
 pub mod Released
 pub mod Pairs
+pub mod First

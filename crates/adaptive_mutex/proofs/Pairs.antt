@@ -1,10 +1,9 @@
 -- What the test begins with: its plan, of a mutex and two threads that take it and release it, is one that some script
--- gives; and a pass is ready as it is made.
+-- gives.
 use Rattle.std.proofs.Common.{◌≡◌, ℕ, zero, suc, ◌<◌, ◌≤◌, false, List, [], ◌∷◌, length, sum, Some, refl, sym, subst, arith}
 use Rattle.std.proofs.lemmas.List.Elements.{All-nil, All-cons}
 use Rattle.std.proofs.lemmas.Option.{none-some, same_Some}
 use Rattle.std.specs.Prelude.{slice_get}
-use Rattle.lock_model.specs.History.{sections_in}
 use Rattle.lock_model.specs.Limits.{most_operations}
 use Rattle.lock_model.specs.Operations.{operation_tests, held_of, Fit, IsProper}
 use Rattle.lock_model.specs.Plans.{operations_of}
@@ -19,11 +18,7 @@ use Rattle.lock_model.specs.declared.plan.Op.{Op}
 use Rattle.lock_model.specs.declared.plan.Op.TheVariants.{Take, Try, EndTry, Release}
 use Rattle.lock_model.specs.declared.plan.Plan.{Plan}
 use Rattle.lock_model.specs.declared.plan.ThreadDecl.{ThreadDecl}
-use Rattle.lock_floor.specs.Floors.{Floor}
-use Rattle.lock_floor.specs.Passes.{IsReady, first_pass}
 use Rattle.adaptive_mutex.specs.Mutexes.{as_held}
-
--- 1. The plan
 
 abbrev m : LockNo
 m = record { 0 = 0 }
@@ -99,25 +94,3 @@ proper class name t u first second = record {
     fits zero = subst (Fit (mutex name ∷ []) []) (sym first) (fits_both name)
     fits (suc zero) = subst (Fit (mutex name ∷ []) []) (sym second) (fits_both name)
     fits (suc (suc k)) = fits_none (mutex name ∷ [])
-
--- 2. A pass
-
-pub ready_first : (f : Floor Plan) (t : ℕ) → IsReady f (first_pass f.table f.plan t)
-unfolding sections_in
-ready_first f t = record {
-  own = record { table = refl; plan = refl; going = refl };
-  rest = record {
-    nothing_out = refl;
-    no_walk = refl;
-    unmarked = refl;
-    wants_nothing = refl;
-    takes_nothing = refl;
-    no_round = refl;
-    no_looks = refl;
-    unnoted = refl;
-    stamped = refl;
-    awake = refl;
-    sections = λ l. refl;
-    begun = λ l held. absurd (held refl);
-  };
-}

@@ -8,7 +8,6 @@ use Rattle.std.proofs.lemmas.Map.Keys.{any_passes_from_place}
 use Rattle.std.proofs.lemmas.Option.{none-some, slice_get-map, slice_get_within, get_or_from_slice_get}
 use Rattle.lock_model.proofs.LeastCodes.{passed}
 use Rattle.lock_model.specs.Holds.{Hold, NotHeld, Holds, is_exclusive}
-use Rattle.lock_model.specs.History.{sections_in}
 use Rattle.lock_model.specs.Keys.{op_names, plan_names}
 use Rattle.lock_model.specs.Law.{LeadsTo, Gives, Before, IsAtEnd}
 use Rattle.lock_model.specs.Law as law
@@ -38,6 +37,7 @@ use Rattle.floor_table.specs.Views.{Knowledge}
 use Rattle.lock_floor.specs.Floors.{Floor, Pass}
 use Rattle.lock_floor.specs.Passes.{IsReady, MakesEntry, first_pass}
 use Rattle.lock_floor.specs.Views.{entry_by}
+use Rattle.adaptive_mutex.proofs.First.{ready_first}
 use Rattle.adaptive_mutex.specs.Mutexes.{MayAcquire, MayRelease, WasBusy, as_held}
 use Rattle.floor_run.specs.Progress.{IsBefore}
 use Rattle.floor_run.specs.Runs.{HasOnlyMutexes}
@@ -47,25 +47,8 @@ use Rattle.floor_run.specs.Workers.{WasStamped, WereStamped, IsWhole}
 
 -- before a thread's first operation
 pub at_first : (f : Floor Plan) (t : ℕ) → IsBefore f t 0 (first_pass f.table f.plan t)
-unfolding sections_in
 at_first f t = record {
-  ready = record {
-    own = record { table = refl; plan = refl; going = refl };
-    rest = record {
-      nothing_out = refl;
-      no_walk = refl;
-      unmarked = refl;
-      wants_nothing = refl;
-      takes_nothing = refl;
-      no_round = refl;
-      no_looks = refl;
-      unnoted = refl;
-      stamped = refl;
-      awake = refl;
-      sections = λ l. refl;
-      begun = λ l held. absurd (held refl);
-    };
-  };
+  ready = ready_first f t;
   thread = refl;
   within = omega arith;
   held = refl;

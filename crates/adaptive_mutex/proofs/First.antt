@@ -1,0 +1,26 @@
+-- A pass is ready as it is made.
+use Rattle.std.proofs.Common.{ℕ, refl}
+use Rattle.lock_model.specs.History.{sections_in}
+use Rattle.lock_model.specs.declared.plan.Plan.{Plan}
+use Rattle.lock_floor.specs.Floors.{Floor}
+use Rattle.lock_floor.specs.Passes.{IsReady, first_pass}
+
+pub ready_first : (f : Floor Plan) (t : ℕ) → IsReady f (first_pass f.table f.plan t)
+unfolding sections_in
+ready_first f t = record {
+  own = record { table = refl; plan = refl; going = refl };
+  rest = record {
+    nothing_out = refl;
+    no_walk = refl;
+    unmarked = refl;
+    wants_nothing = refl;
+    takes_nothing = refl;
+    no_round = refl;
+    no_looks = refl;
+    unnoted = refl;
+    stamped = refl;
+    awake = refl;
+    sections = λ l. refl;
+    begun = λ l held. absurd (held refl);
+  };
+}
