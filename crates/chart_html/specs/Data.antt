@@ -1,5 +1,5 @@
 -- What the page knows of a run: its data, byte for byte.
-use Rattle.std.specs.Prelude.{ℕ, ◌+◌, max, nat_lt, if◌then◌else◌, true, false, List, [], ◌∷◌, ◌++◌, codes, decimal, slice_get, Option, Some, None, unwrap_or, option_and_then}
+use Rattle.std.specs.Prelude.{ℕ, ◌+◌, nat_lt, if◌then◌else◌, true, false, List, [], ◌∷◌, ◌++◌, codes, decimal, slice_get, Option, Some, None, unwrap_or, option_and_then}
 use Rattle.chart_escape.specs.Json.{json_string}
 use Rattle.chart_html.specs.Tracks.{array_bytes, hold_bytes, numbered_bytes, prio_bytes, queue_bytes, stand_bytes, track_bytes, wait_bytes, walk_bytes}
 use Rattle.chart_html.specs.declared.edits.Edit.{Edit}
@@ -188,7 +188,7 @@ abbrev pub edits_behind : List Entry → ℕ → ℕ → List TurnRow → List E
 edits_behind history row made [] = []
 edits_behind history row made (turn ∷ turns) =
     turn_edits history (row + 1) made turn.entries
-    ++ edits_behind history (row + 1) (max made turn.entries) turns
+    ++ edits_behind history (row + 1) turn.entries turns
 
 -- the edits of a run, by row
 abbrev pub run_edits : Rows → List Edit

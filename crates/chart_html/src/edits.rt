@@ -27,7 +27,7 @@ pub fn edits_of(alloc: Global, rows: &Rows) -> Result<Vec<Edit>, AllocError>
     let mut made = 0;
     for (turn, its) in rows.turns.as_slice().iter().enumerate() {
         push_made(&mut edits, rows, turn as u64 + 1, made, its.entries)?;
-        made = made.max(its.entries);
+        made = its.entries;
     }
     Ok(edits)
 }

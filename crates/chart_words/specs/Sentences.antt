@@ -49,8 +49,8 @@ walk_words goes_on = if goes_on then codes ", and the walk goes on" else []
 unfoldable pub claim_words : Prio → Prio → List ℕ
 claim_words before prio =
     if before.0 == prio.0
-    then codes " over from those who wait, and they lend it nothing better"
-    else codes " over from those who wait, and they lend to it" ++ change_words before prio
+    then codes " while others wait, who lend it nothing better"
+    else codes " while others wait, who lend to it" ++ change_words before prio
 
 -- that a loan is given back, where there was one
 unfoldable pub given_back_words : Prio → Prio → List ℕ

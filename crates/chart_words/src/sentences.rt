@@ -196,9 +196,9 @@ fn push_claim(out: &mut Vec<u8>, before: Prio, prio: Prio) -> Result<(), AllocEr
     ensures { OnOk result (out.new.items ≡ out.old.items ++ claim_words before prio) }
 {
     if before == prio {
-        out.extend_from_slice(b" over from those who wait, and they lend it nothing better")
+        out.extend_from_slice(b" while others wait, who lend it nothing better")
     } else {
-        out.extend_from_slice(b" over from those who wait, and they lend to it")?;
+        out.extend_from_slice(b" while others wait, who lend to it")?;
         push_change(out, before, prio)
     }
 }
