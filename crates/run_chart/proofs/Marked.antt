@@ -82,3 +82,15 @@ noted plan n who kind made e is = was_done plan n who (Did kind) made (marked.No
     go : (o : Option Entry) → Some e ≡ option_map (λ x. x.event) o → marked_of (Did kind) o ≡ Some (marked.Noted e)
     go None f = absurd cc
     go (Some x) f = ap (λ v. Some (marked.Noted v)) (sym (same_Some e x.event f))
+
+-- and what was noted is the event of the turn's entry
+module _ (plan : Plan) (n who : ℕ) (e : Event) (h : HasNoted plan n who e) where
+  pub noted_event : option_map (λ x. x.event) (entry_in plan n) ≡ Some e
+  noted_event =
+      ap (λ es. option_map (λ x. x.event) (newest (history_in plan n) es)) h.noted ∙ ap (option_map (λ x. x.event)) (new_entry (history_in plan n) h.entry) ∙ ap Some h.of_event
+
+  pub one_event : (x : Event) → Some x ≡ option_map (λ x. x.event) (entry_in plan n) → x ≡ e
+  one_event x is = same_Some x e (is ∙ noted_event)
+
+  pub some_event : None ≡ option_map (λ x. x.event) (entry_in plan n) → ⊥
+  some_event none = let some : None ≡ Some e = none ∙ noted_event in cc

@@ -1,8 +1,10 @@
 -- Who is named by what threads' rows say: who holds a lock, and who was taken off a queue.
-use Rattle.std.proofs.Common.{◌≡◌, ℕ, ◌+◌, ◌<◌, ◌≤◌, Bool, true, false, not, ◌&&◌, List, [], ◌++◌, length, get_or, take, Option, Some, None, refl, sym, ap, subst, inl, inr, arith, ◌∙◌}
-use Rattle.std.specs.Prelude.{slice_get, Contains}
+use Rattle.std.proofs.Common.{◌≡◌, ℕ, ◌+◌, ◌<◌, ◌≤◌, Bool, true, false, not, ◌&&◌, List, [], ◌∷◌, ◌++◌, length, flat_map, get_or, take, Option, Some, None, refl, sym, ap, subst, inl, inr, arith, ◌∙◌}
+use Rattle.std.specs.Prelude.{slice_get, All, AllPairs, Contains}
+use Rattle.std.specs.List.{enumerate_from}
 use Rattle.std.proofs.lemmas.Bool.{and_parts, cases_Bool, cases_lt}
-use Rattle.std.proofs.lemmas.List.Elements.{Contains-push}
+use Rattle.std.proofs.lemmas.List.Elements.{All-cons, All-nil, All-weaker, Contains-push}
+use Rattle.std.proofs.lemmas.List.Kept.{AllPairs-cons}
 use Rattle.std.proofs.lemmas.Option.{same_Some}
 use Rattle.lock_laws.proofs.Kit.{is_queue_same, is_queue_true}
 use Rattle.lock_laws.proofs.Standing.{standing_thread}
@@ -32,19 +34,43 @@ one_named : (b : Bool) (place t : ℕ) → Contains (one_if b place) (record { 0
 one_named true place t c = let same : record { 0 = place } ≡ record { 0 = t } = contains_one _ _ c in (refl, ap (λ (u : ThreadNo). u.0) same)
 one_named false place t c = absurd (contains_none _ c)
 
-those_are : (passes : ThreadRows → Bool) (threads : List ThreadRows) (This : ℕ → Type 0) → ((t : ℕ) (thread : ThreadRows) → slice_get threads t ≡ Some thread → passes thread ≡ true → This t)
-    → ((t : ℕ) → This t → (thread : ThreadRows) × (slice_get threads t ≡ Some thread) × (passes thread ≡ true)) → AreThose (those passes threads) This
-those_are passes threads This so there t = (
-  λ c.
-      let at = contained (λ k. one_if (passes k.1) k.0) (record { 0 = t }) threads c in
-      let one = one_named (passes at.element) (0 + at.place) t at.so in
-      let place : at.place ≡ t = let e = one.1 in omega (arith, e) in
-      subst This place (so at.place at.element at.at one.0),
-  λ this.
-      let it = there t this in
-      contains_at (λ k. one_if (passes k.1) k.0) (record { 0 = t }) threads t it.0 it.1
-      (subst (λ b. Contains (one_if b t) (record { 0 = t })) (sym it.2) (Contains-push [] (record { 0 = t }))),
-)
+module _ (passes : ThreadRows → Bool) where
+  abbrev named : ℕ × ThreadRows → List ThreadNo
+  named k = one_if (passes k.1) k.0
+
+  -- they come in order, from the first number on,
+  abbrev InOrder : ℕ → List ThreadNo → Type 0
+  InOrder n ts = All (λ t. n ≤ t.0) ts × AllPairs (λ t later. t.0 < later.0) ts
+
+  one_more : (b : Bool) (n : ℕ) (ts : List ThreadNo) → InOrder (n + 1) ts → InOrder n (one_if b n ++ ts)
+  one_more true n ts h =
+      let first : ThreadNo = record { 0 = n } in (
+        All-cons (λ t. n ≤ t.0) first ts (omega arith) (All-weaker (λ t. n + 1 ≤ t.0) (λ t. n ≤ t.0) (λ t l. omega (arith, l)) ts h.0),
+        AllPairs-cons (λ t later. t.0 < later.0) first ts (All-weaker (λ t. n + 1 ≤ t.0) (λ t. n < t.0) (λ t l. omega (arith, l)) ts h.0) h.1,
+      )
+  one_more false n ts h = (All-weaker (λ t. n + 1 ≤ t.0) (λ t. n ≤ t.0) (λ t l. omega (arith, l)) ts h.0, h.1)
+
+  named_in_order : (n : ℕ) (threads : List ThreadRows) → InOrder n (flat_map named (enumerate_from n threads))
+  named_in_order n [] = (All-nil (λ t. n ≤ t.0), λ i j d l m. absurd (omega (arith, m)))
+  named_in_order n (x ∷ xs) = one_more (passes x) n (flat_map named (enumerate_from (n + 1) xs)) (named_in_order (n + 1) xs)
+
+  -- and are just those of which it is so
+  those_are : (threads : List ThreadRows) (This : ℕ → Type 0) → ((t : ℕ) (thread : ThreadRows) → slice_get threads t ≡ Some thread → passes thread ≡ true → This t)
+      → ((t : ℕ) → This t → (thread : ThreadRows) × (slice_get threads t ≡ Some thread) × (passes thread ≡ true)) → AreThose (those passes threads) This
+  those_are threads This so there = record {
+    those = λ t. (
+      λ c.
+          let at = contained named (record { 0 = t }) threads c in
+          let one = one_named (passes at.element) (0 + at.place) t at.so in
+          let place : at.place ≡ t = let e = one.1 in omega (arith, e) in
+          subst This place (so at.place at.element at.at one.0),
+      λ this.
+          let it = there t this in
+          contains_at named (record { 0 = t }) threads t it.0 it.1
+          (subst (λ b. Contains (one_if b t) (record { 0 = t })) (sym it.2) (Contains-push [] (record { 0 = t }))),
+    );
+    in_order = (named_in_order 0 threads).1;
+  }
 
 -- one row more
 pub named_more : (passes : ThreadRows → Bool) (threads : List ThreadRows) (t : ℕ) (d : ThreadRows) → t < length threads → (old new : List ThreadNo) (b : Bool) → old ≡ those passes (take t threads)
@@ -54,6 +80,10 @@ named_more passes threads t d l old new b before is passed =
     ∙ sym (each_more (λ k. one_if (passes k.1) k.0) threads t d l)
 
 -- 2. Who holds a lock
+
+-- a thread holds some lock in a row that it lacks in another
+abbrev pub HoldsOnlyIn : Plan → ℕ → ℕ → ℕ → Type 0
+HoldsOnlyIn plan n m t = (lock : ℕ) × HasLock plan n t lock × LacksLock plan m t lock
 
 module _ (plan : Plan) (rows : Rows) (h : IsRunOf plan rows) (n : ℕ) (l : n ≤ length rows.turns) where
   pub has_lock : (k t : ℕ) (thread : ThreadRows) → slice_get rows.threads t ≡ Some thread → holds_in n k thread ≡ true → HasLock plan n t k
@@ -67,6 +97,14 @@ module _ (plan : Plan) (rows : Rows) (h : IsRunOf plan rows) (n : ℕ) (l : n �
       go (Holds mode) is =
           let it = holds_it plan rows h n l k t mode is in
           let both : true ≡ false = sym it.2 ∙ ap (holds_in n k) (same_Some it.0 thread (sym it.1 ∙ at)) ∙ e in cc
+
+  -- where a thread holds no lock in this row that it lacks in another
+  pub holds_no_more : (m : ℕ) → m ≤ length rows.turns → (t : ℕ) (thread : ThreadRows) → slice_get rows.threads t ≡ Some thread
+      → ((k : ℕ) → holds_in n k thread ≡ true → holds_in m k thread ≡ true) → HoldsOnlyIn plan n m t → ⊥
+  holds_no_more m within t thread at more (k, has, lacks) =
+      let it = holds_it plan rows h n l k t has.mode has.held in
+      let there = holder plan rows h m within k t thread at (more k (ap (holds_in n k) (same_Some thread it.0 (sym at ∙ it.1)) ∙ it.2)) in
+      let both : Holds there.0 ≡ NotHeld = sym there.1 ∙ lacks in cc
 
   pub holders_are : (k : ℕ) → AreThose (those (holds_in n k) rows.threads) (λ t. HasLock plan n t k)
   holders_are k = those_are (holds_in n k) rows.threads (λ t. HasLock plan n t k) (has_lock k) (λ t has. holds_it plan rows h n l k t has.mode has.held)

@@ -1,6 +1,6 @@
 -- What a chart shows of the scheduled run of its plan. Row n is the run behind n turns, and turn n leads from row n to
 -- row n + 1. A bar covers a row, and an arrow stands at a turn, exactly where what it says is so in the run.
-use Rattle.std.specs.Prelude.{◌≡◌, ◌≢◌, ◌↔◌, ◌⊎◌, ◌≤◌, ◌<◌, ◌+◌, ℕ, Bool, true, false, All, Any, Contains, List, [], ◌∷◌, length, slice_get, Option, Some, None}
+use Rattle.std.specs.Prelude.{◌≡◌, ◌≢◌, ◌↔◌, ◌⊎◌, ◌≤◌, ◌<◌, ◌+◌, ℕ, Bool, true, false, All, AllPairs, Any, Contains, List, [], ◌∷◌, length, slice_get, Option, Some, None}
 use Rattle.chart_layout.specs.declared.layout.Arrow.{Arrow}
 use Rattle.chart_layout.specs.declared.layout.ArrowKind.{ArrowKind}
 use Rattle.chart_layout.specs.declared.layout.ArrowKind.TheVariants.{Lends, Wakes, BlockedOn, Behind}
@@ -25,6 +25,7 @@ use Rattle.lock_model.specs.declared.event.Entry.{Entry}
 use Rattle.lock_model.specs.declared.event.Event.{Event}
 use Rattle.lock_model.specs.declared.event.Event.TheVariants.{Sleeps, WokeOne, WokeAll, Reversed}
 use Rattle.lock_model.specs.declared.numbers.ChanNo.{ChanNo}
+use Rattle.lock_model.specs.declared.numbers.ClassNo.{ClassNo}
 use Rattle.lock_model.specs.declared.numbers.LockNo.{LockNo}
 use Rattle.lock_model.specs.declared.numbers.ThreadNo.{ThreadNo}
 use Rattle.lock_model.specs.declared.plan.ChanDecl.{ChanDecl}
@@ -177,9 +178,10 @@ IsDone plan n t marked.Idle = next_turn plan (course_after plan n) ≡ Some (t, 
 
 -- 5. Sentences
 
--- just those threads are named of which this is so
-abbrev pub AreThose : List ThreadNo → (ℕ → Type 0) → Type 0
-AreThose threads This = (t : ℕ) → Contains threads (record { 0 = t }) ↔ This t
+-- just those threads are named of which this is so, each once and in order
+pub record AreThose (threads : List ThreadNo) (This : ℕ → Type 0) : Type 0 where
+  pub those : (t : ℕ) → Contains threads (record { 0 = t }) ↔ This t
+  pub in_order : AllPairs (λ t later. t.0 < later.0) threads
 
 -- a thread holds the lock in a row
 pub record HasLock (plan : Plan) (n t lock : ℕ) : Type 0 where
@@ -226,7 +228,7 @@ pub record IsClaiming (plan : Plan) (n t lock before prio : ℕ) : Type 0 where
   pub has : HasLock plan (n + 1) t lock
   pub ran : RanAs plan n t before prio
 
--- the turn gave the lock up, on which others waited, and took these off its queue
+-- the turn gave the lock up, and took these off its queue
 pub record IsFreeing (plan : Plan) (n t lock before prio : ℕ) (takes_off : List ThreadNo)
     : Type 0 where
   pub made : Made plan n t step.OpenUp
@@ -235,7 +237,7 @@ pub record IsFreeing (plan : Plan) (n t lock before prio : ℕ) (takes_off : Lis
   pub ran : RanAs plan n t before prio
   pub taken : AreThose takes_off (WasTakenOff plan n (lock_queue lock))
 
--- the turn put its thread to sleep on the condition variable or channel, whose lock it gives up
+-- the turn put its thread to sleep on the condition variable or channel, for which the plan names the lock
 pub record IsSleeping (plan : Plan) (n t : ℕ) (c : ChanNo) (lock : LockNo) : Type 0 where
   pub made : Made plan n t step.Add
   pub noted : HasNoted plan n t (Sleeps c)
@@ -243,7 +245,7 @@ pub record IsSleeping (plan : Plan) (n t : ℕ) (c : ChanNo) (lock : LockNo) : T
   pub declared : slice_get plan.chans c.0 ≡ Some chan
   pub of_chan : chan.lock ≡ lock
 
--- the turn noted that the thread woke so many of those who sleep there: one at most, or all
+-- the turn noted that the thread woke these, as bits by their numbers: one sleeper at most, or all
 abbrev pub HasSignalled : Plan → ℕ → ℕ → ChanNo → ℕ → Type 0
 HasSignalled plan n t c woken =
     HasNoted plan n t (WokeOne c woken) ⊎ HasNoted plan n t (WokeAll c woken)
@@ -254,6 +256,11 @@ pub record IsWaking (plan : Plan) (n t : ℕ) (c : ChanNo) (takes_off : List Thr
   pub woken : ℕ
   pub noted : HasSignalled plan n t c woken
   pub taken : AreThose takes_off (WasTakenOff plan n (queue.Chan c))
+
+-- the turn noted that the thread may not take the lock, by the class of one that it holds
+pub record IsRefused (plan : Plan) (n t : ℕ) (l : LockNo) (class : ClassNo) : Type 0 where
+  pub made : Made plan n t step.Note
+  pub noted : HasNoted plan n t (Reversed l class)
 
 -- what a sentence says of a thread's turn is so
 abbrev pub IsSaid : Plan → ℕ → ℕ → Saying → Type 0
@@ -266,7 +273,7 @@ IsSaid plan n t (said.Frees l before prio takes_off) =
     IsFreeing plan n t l.0 before.0 prio.0 takes_off
 IsSaid plan n t (said.Sleeps c l) = IsSleeping plan n t c l
 IsSaid plan n t (said.Wakes c takes_off) = IsWaking plan n t c takes_off
-IsSaid plan n t (said.Refused l held) = HasNoted plan n t (Reversed l held)
+IsSaid plan n t (said.Refused l held) = IsRefused plan n t l held
 
 -- the sentence is that of the turn
 abbrev pub IsOfTurn : ℕ → Sentence → Type 0
@@ -300,8 +307,8 @@ IsTurn chart n = (chart.first ≤ n) × (n < chart.last)
 -- holds the lock, and one of a wait exactly where it stands on that queue. One step of the priorities covers each row, and
 -- is the effective priority there, beside the base. An arrow of a loan stands exactly at a turn that lent, one of a wake
 -- exactly at a turn that woke, and one of blocking exactly at a turn that blocked on whom, or behind whom, it says. A mark
--- stands exactly at a turn that did what it says. What a sentence says of its turn is so, and each turn that blocked or
--- lent has one. The end is that of the whole run.
+-- stands exactly at a turn that did what it says. What a sentence says of its turn is so, and each turn
+-- of which such a thing is so has one, in order. The end is that of the whole run.
 pub record Shows (plan : Plan) (chart : Chart) : Type 0 where
   pub lane_each : length chart.lanes ≡ length plan.threads
   pub lanes : (t : ℕ) (lane : Lane) → slice_get chart.lanes t ≡ Some lane
@@ -326,8 +333,7 @@ pub record Shows (plan : Plan) (chart : Chart) : Type 0 where
       ↔ (IsTurn chart n × IsDone plan n t what)
   pub sentences : All (λ s. IsTurn chart s.turn × IsSaid plan s.turn s.thread.0 s.saying)
       chart.sentences
-  pub tells_blocks : (n t lock : ℕ) → IsTurn chart n → Blocked plan n t lock
+  pub told_in_order : AllPairs (λ s later. s.turn < later.turn) chart.sentences
+  pub tells : (n t : ℕ) (saying : Saying) → IsTurn chart n → IsSaid plan n t saying
       → Any (IsOfTurn n) chart.sentences
-  pub tells_loans : (n from to before prio : ℕ) → IsTurn chart n
-      → Lent plan n from to before prio → Any (IsOfTurn n) chart.sentences
   pub ended : IsEnd plan chart.turns chart.end

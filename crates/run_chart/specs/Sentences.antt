@@ -1,5 +1,5 @@
 -- What the sentences of a chart say of the turns of a run.
-use Rattle.std.specs.Prelude.{◌≡◌, ◌⊎◌, ◌≤◌, ◌<◌, ◌+◌, ◌&&◌, ℕ, Bool, false, not, if◌then◌else◌, IfSome, IsSome, All, Any, List, [], ◌∷◌, Option, Some, None}
+use Rattle.std.specs.Prelude.{◌≡◌, ◌⊎◌, ◌≤◌, ◌<◌, ◌+◌, ◌&&◌, ℕ, Bool, false, not, if◌then◌else◌, IfSome, IsSome, All, AllPairs, Any, List, [], ◌∷◌, Option, Some, None}
 use Rattle.std.specs.List.{enumerate_from, flat_map}
 use Rattle.chart_layout.specs.declared.sentence.Saying.{Saying}
 use Rattle.chart_layout.specs.declared.sentence.Sentence.{Sentence}
@@ -10,7 +10,7 @@ use Rattle.lock_model.specs.declared.numbers.ChanNo.{ChanNo}
 use Rattle.lock_model.specs.declared.numbers.ThreadNo.{ThreadNo}
 use Rattle.lock_model.specs.declared.plan.Plan.{Plan}
 use Rattle.lock_model.specs.declared.plan.QueueName.{QueueName}
-use Rattle.run_chart.specs.Charts.{Blocked, IsOfTurn, IsSaid, Lent}
+use Rattle.run_chart.specs.Charts.{IsOfTurn, IsSaid}
 use Rattle.run_rows.specs.Tracks.{value_in}
 use Rattle.run_rows.specs.declared.columns.ThreadRows.{ThreadRows}
 
@@ -40,10 +40,9 @@ leaves n q rows = stands_in n q rows && not (stands_in (n + 1) q rows)
 
 -- 2. What is said of a turn
 
--- a turn that blocked its thread, or lent
-pub data MustBeTold (plan : Plan) (n : ℕ) : Type 0 where
-  has_blocked : (t lock : ℕ) → Blocked plan n t lock → MustBeTold plan n
-  has_lent : (from to before prio : ℕ) → Lent plan n from to before prio → MustBeTold plan n
+-- something is so of the turn that a sentence says
+abbrev pub MustBeTold : Plan → ℕ → Type 0
+MustBeTold plan n = (t : ℕ) × (saying : Saying) × IsSaid plan n t saying
 
 -- what is said of the turn is so, and something is where it must be told
 pub record TellsTurn (plan : Plan) (n t : ℕ) (saying : Option Saying) : Type 0 where
@@ -68,8 +67,9 @@ abbrev pub SaysSo : Plan → ℕ → ℕ → Sentence → Type 0
 SaysSo plan first last s =
     ((first ≤ s.turn) × (s.turn < last)) × IsSaid plan s.turn s.thread.0 s.saying
 
--- all are so, and each turn between the rows that must be told has one
+-- all are so and in order, and each turn between the rows that must be told has one
 pub record HasSentences (plan : Plan) (first last : ℕ) (sentences : List Sentence) : Type 0 where
   pub so : All (SaysSo plan first last) sentences
+  pub in_order : AllPairs (λ s later. s.turn < later.turn) sentences
   pub told : (n : ℕ) → first ≤ n → n < last → MustBeTold plan n
       → Any (IsOfTurn n) sentences

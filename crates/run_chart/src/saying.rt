@@ -1,9 +1,10 @@
 //! The sentence of a turn that changes who waits or who has lent.
-ghost use Rattle.std.specs.Prelude.{◌≡◌, ◌≤◌, ◌<◌, ◌++◌, true, false, length, option_map, slice_get, Some, IfOk, IfSome, OnOk};
+ghost use Rattle.std.specs.Prelude.{◌≡◌, ◌≤◌, ◌<◌, ◌++◌, ℕ, true, false, length, option_map, slice_get, Some, IfNone, IfOk, IfSome, OnOk};
+ghost use Rattle.lock_model.specs.declared.numbers.ChanNo.{ChanNo};
 ghost use Rattle.lock_model.specs.declared.plan.Plan as plans;
 ghost use Rattle.lock_model.specs.declared.turn.StepKind.TheVariants as step;
 ghost use Rattle.run_chart.specs.Arrows.{holds_in};
-ghost use Rattle.run_chart.specs.Charts.{IsSaid, Made};
+ghost use Rattle.run_chart.specs.Charts.{Made};
 ghost use Rattle.run_chart.specs.Runs.{IsRunOf};
 ghost use Rattle.run_chart.specs.Sentences.{leaves, one_if, sentences_of, stands_in, those, HasSentences, TellsTurn, WakesSleepers};
 
@@ -147,9 +148,10 @@ fn lends(rows: &Rows, turn: u32, who: ThreadNo) -> Option<Saying>
 }
 
 fn sorts(rows: &Rows, turn: u32, who: ThreadNo) -> Option<Saying>
-    requires { turn < length rows.now.turns }
+    requires turn { turn < length rows.now.turns }
+    requires thread { who.0 < length rows.now.threads }
     ensures { (plan : plans.Plan) → IsRunOf plan rows.now
-        → Made plan turn who.0 step.Shift → IfSome result (IsSaid plan turn who.0) }
+        → Made plan turn who.0 step.Shift → TellsTurn plan turn who.0 result }
 {
     let Walk::AtThread(other) = thread_rows(rows, who)?.walk.at(turn) else {
         return None;
@@ -161,8 +163,9 @@ fn sorts(rows: &Rows, turn: u32, who: ThreadNo) -> Option<Saying>
 fn claims(rows: &Rows, turn: u32, who: ThreadNo) -> Option<Saying>
     requires run { (plan : plans.Plan) × IsRunOf plan rows.now }
     requires turn { turn < length rows.now.turns }
+    requires thread { who.0 < length rows.now.threads }
     ensures { (plan : plans.Plan) → IsRunOf plan rows.now
-        → Made plan turn who.0 step.Claim → IfSome result (IsSaid plan turn who.0) }
+        → Made plan turn who.0 step.Claim → TellsTurn plan turn who.0 result }
 {
     let thread = thread_rows(rows, who)?;
     Some(Saying::Claims {
@@ -177,6 +180,8 @@ fn lock_held_only(thread: &ThreadRows, row: u32, other: u32) -> Option<LockNo>
     requires { length thread.now.held ≤ 256 }
     ensures held { IfSome result (λ lock. holds_in row lock.0 thread.now ≡ true) }
     ensures lacked { IfSome result (λ lock. holds_in other lock.0 thread.now ≡ false) }
+    ensures none { IfNone result ((l : ℕ) → holds_in row l thread.now ≡ true
+        → holds_in other l thread.now ≡ true) }
 {
     for l in 0..thread.held.as_slice().len() {
         let lock = LockNo(l as u8);
@@ -190,8 +195,9 @@ fn lock_held_only(thread: &ThreadRows, row: u32, other: u32) -> Option<LockNo>
 fn frees(alloc: Global, rows: &Rows, turn: u32, who: ThreadNo) -> Result<Option<Saying>, AllocError>
     requires run { (plan : plans.Plan) × IsRunOf plan rows.now }
     requires turn { turn < length rows.now.turns }
+    requires thread { who.0 < length rows.now.threads }
     ensures { IfOk result (λ saying. (plan : plans.Plan) → IsRunOf plan rows.now
-        → Made plan turn who.0 step.OpenUp → IfSome saying (IsSaid plan turn who.0)) }
+        → Made plan turn who.0 step.OpenUp → TellsTurn plan turn who.0 saying) }
 {
     let Some(thread) = thread_rows(rows, who) else {
         return Ok(None);
@@ -245,10 +251,10 @@ fn stands_on(thread: &ThreadRows, row: u32, q: QueueName) -> bool
 fn sleeps(plan: &Plan, rows: &Rows, turn: u32, row: TurnRow) -> Option<Saying>
     requires run { IsRunOf plan.now rows.now }
     requires turn { slice_get rows.now.turns turn ≡ Some row }
-    ensures { Made plan.now turn row.who.0 step.Add
-        → IfSome result (IsSaid plan.now turn row.who.0) }
+    ensures { Made plan.now turn row.who.0 step.Add → TellsTurn plan.now turn row.who.0 result }
 {
-    let Some(Event::Sleeps { c }) = event_of(rows, turn, row) else {
+    let event = event_of(rows, turn, row)?;
+    let Event::Sleeps { c } = event else {
         return None;
     };
     Some(Saying::Sleeps {
@@ -268,7 +274,7 @@ fn wakes(alloc: Global, rows: &Rows, turn: u32, row: TurnRow) -> Result<Option<S
     requires run { (plan : plans.Plan) × IsRunOf plan rows.now }
     requires turn { slice_get rows.now.turns turn ≡ Some row }
     ensures { IfOk result (λ saying. (plan : plans.Plan) → IsRunOf plan rows.now
-        → Made plan turn row.who.0 step.Wake → IfSome saying (IsSaid plan turn row.who.0)) }
+        → Made plan turn row.who.0 step.Wake → TellsTurn plan turn row.who.0 saying) }
 {
     let Some(c) = chan_woken(event_of(rows, turn, row)) else {
         return Ok(None);
@@ -281,7 +287,8 @@ fn wakes(alloc: Global, rows: &Rows, turn: u32, row: TurnRow) -> Result<Option<S
 
 // Where an event says that sleepers were woken.
 fn chan_woken(event: Option<Event>) -> Option<ChanNo>
-    ensures { IfSome result (λ c. WakesSleepers c event) }
+    ensures some { IfSome result (λ c. WakesSleepers c event) }
+    ensures none { IfNone result ((c : ChanNo) → WakesSleepers c event → ⊥) }
 {
     if let Some(Event::WokeOne { c, .. }) = event {
         return Some(c);
@@ -295,9 +302,10 @@ fn chan_woken(event: Option<Event>) -> Option<ChanNo>
 fn refused(rows: &Rows, turn: u32, row: TurnRow) -> Option<Saying>
     requires { slice_get rows.now.turns turn ≡ Some row }
     ensures { (plan : plans.Plan) → IsRunOf plan rows.now
-        → Made plan turn row.who.0 step.Note → IfSome result (IsSaid plan turn row.who.0) }
+        → Made plan turn row.who.0 step.Note → TellsTurn plan turn row.who.0 result }
 {
-    let Some(Event::Reversed { l, held }) = event_of(rows, turn, row) else {
+    let event = event_of(rows, turn, row)?;
+    let Event::Reversed { l, held } = event else {
         return None;
     };
     Some(Saying::Refused { lock: l, held })

@@ -7,7 +7,7 @@ use Rattle.run_chart.specs.Charts.{arrow, loan, mark, wake, IsEnd, IsLane}
 use Rattle.run_chart.specs.Lanes.{AreLanes}
 use Rattle.run_chart.specs.Marks.{HasMarks}
 use Rattle.run_chart.specs.Runs.{IsRunOf}
-use Rattle.run_chart.specs.Sentences.{has_blocked, has_lent, HasSentences}
+use Rattle.run_chart.specs.Sentences.{HasSentences}
 use Rattle.run_chart.specs.Spans.{is_between}
 use Rattle.run_chart.specs.Steps.{prios_at, strips_tell, IsStepOf}
 use Rattle.run_chart.proofs.Ends.{lanes_law}
@@ -49,8 +49,8 @@ returns c =
         behinds = λ n f t. has (arrow n Behind f t);
         marks = λ n t what. marked (mark n t what);
         sentences = said.so;
-        tells_blocks = λ n t lock turn blocked. said.told n turn.0 turn.1 (has_blocked t lock blocked);
-        tells_loans = λ n f t before prio turn lent. said.told n turn.0 turn.1 (has_lent f t before prio lent);
+        told_in_order = said.in_order;
+        tells = λ n t saying turn so. said.told n turn.0 turn.1 (t, saying, so);
         ended = subst (λ (k : ℕ). IsEnd plan k c.in_ok-end.field-0) (sym turns) (c.in_ok-end.ensures plan h);
       };
     }
