@@ -1,5 +1,5 @@
 -- The arrows of a turn that blocked its thread.
-use Rattle.std.proofs.Common.{◌≡◌, ℕ, ◌+◌, ◌<◌, Bool, true, false, cond, ◌==◌, ◌||◌, List, [], ◌∷◌, ◌++◌, length, map, Option, Some, None, refl, sym, ap, subst, arith, ◌∙◌, eq-eqb}
+use Rattle.std.proofs.Common.{◌≡◌, ℕ, ◌+◌, ◌<◌, ◌≤◌, Bool, true, false, cond, ◌==◌, ◌||◌, List, [], ◌∷◌, ◌++◌, length, map, Option, Some, None, refl, sym, ap, subst, arith, ◌∙◌, eq-eqb}
 use Rattle.std.specs.Prelude.{is_some, slice_get, Contains}
 use Rattle.std.specs.List.{list_any, Any}
 use Rattle.std.proofs.lemmas.Bool.{eqb-true}
@@ -87,7 +87,7 @@ line_behind line t b e =
 
 -- 2. On which lock
 
-named : (o : Option QueueName) (l : ℕ) → lock_named o ≡ Some l → o ≡ Some (lock_queue l)
+pub named : (o : Option QueueName) (l : ℕ) → lock_named o ≡ Some l → o ≡ Some (lock_queue l)
 named None l e = absurd cc
 named (Some (Lock k)) l e = let same : k.0 ≡ l = cc in ap (λ (j : ℕ). Some (lock_queue j)) same
 named (Some (Chan c)) l e = absurd cc
@@ -108,8 +108,8 @@ some_mode : (o : Option Mode) (mode : Mode) → hold_of o ≡ Holds mode → is_
 some_mode None mode e = absurd cc
 some_mode (Some other) mode e = refl
 
-module _ (plan : Plan) (rows : Rows) (h : IsRunOf plan rows) (n : ℕ) (l : n < length rows.turns) where
-  holder : (k to : ℕ) (thread : ThreadRows) → slice_get rows.threads to ≡ Some thread → holds_in n k thread ≡ true → (mode : Mode) × ((run_in plan n).state.held to k ≡ Holds mode)
+module _ (plan : Plan) (rows : Rows) (h : IsRunOf plan rows) (n : ℕ) (l : n ≤ length rows.turns) where
+  pub holder : (k to : ℕ) (thread : ThreadRows) → slice_get rows.threads to ≡ Some thread → holds_in n k thread ≡ true → (mode : Mode) × ((run_in plan n).state.held to k ≡ Holds mode)
   holder k to thread at e = go (slice_get thread.held k) refl e
     where
       go : (o : Option (List (ℕ × Option Mode))) → slice_get thread.held k ≡ o → track_holds n o ≡ true → (mode : Mode) × ((run_in plan n).state.held to k ≡ Holds mode)
@@ -119,7 +119,7 @@ module _ (plan : Plan) (rows : Rows) (h : IsRunOf plan rows) (n : ℕ) (l : n < 
           let told = (thread_at plan rows h to thread at).held k track i in
           (it.0, sym (so_at track (length rows.turns + 1) (λ m mode. hold_of mode ≡ (run_in plan m).state.held to k) told n (omega (arith, l)) (Some it.0) it.1))
 
-  holds_it : (k to : ℕ) (mode : Mode) → (run_in plan n).state.held to k ≡ Holds mode → (thread : ThreadRows) × (slice_get rows.threads to ≡ Some thread) × (holds_in n k thread ≡ true)
+  pub holds_it : (k to : ℕ) (mode : Mode) → (run_in plan n).state.held to k ≡ Holds mode → (thread : ThreadRows) × (slice_get rows.threads to ≡ Some thread) × (holds_in n k thread ≡ true)
   unfolding OnlyLocksAreHeld OnlyThreadsHold
   holds_it k to mode e =
       let on_track = behind_course plan n h.proper in
@@ -135,19 +135,19 @@ module _ (plan : Plan) (rows : Rows) (h : IsRunOf plan rows) (n : ℕ) (l : n < 
 -- 4. A turn that blocks
 
 module _ (plan : Plan) (rows : Rows) (h : IsRunOf plan rows) (n who : ℕ) (l : n < length rows.turns) (made : Made plan n who Enter) where
-  blocked : (k : ℕ) → lock_in plan n who ≡ Some k → Blocked plan n who k
+  pub blocked : (k : ℕ) → lock_in plan n who ≡ Some k → Blocked plan n who k
   blocked k e = record { made = made; on = named ((run_in plan (n + 1)).state.blocked_on who) k e }
 
-  it_went_behind : (k to : ℕ) → lock_in plan n who ≡ Some k → behind_in plan n who k ≡ Some to → WentBehind plan n who to
+  pub it_went_behind : (k to : ℕ) → lock_in plan n who ≡ Some k → behind_in plan n who k ≡ Some to → WentBehind plan n who to
   it_went_behind k to e f =
       let it = went_behind (owner_of ((run_in plan n).state.word k).holder) (waiters_in plan (n + 1) k) who to f in
       record { lock = k; blocked = blocked k e; unowned = it.unowned; shares = it.shares; first = it.first }
 
   -- a thread blocks on one lock
-  one_lock : (f k j : ℕ) → Blocked plan n f k → Blocked plan n f j → k ≡ j
+  pub one_lock : (f k j : ℕ) → Blocked plan n f k → Blocked plan n f j → k ≡ j
   one_lock f k j a b = same_lock k j (sym a.on ∙ b.on)
 
-  behind_is : (f to : ℕ) (w : WentBehind plan n f to) → behind_in plan n f w.lock ≡ Some to
+  pub behind_is : (f to : ℕ) (w : WentBehind plan n f to) → behind_in plan n f w.lock ≡ Some to
   behind_is f to w =
       goes_behind (owner_of ((run_in plan n).state.word w.lock).holder) (waiters_in plan (n + 1) w.lock) f to (record { unowned = w.unowned; shares = w.shares; first = w.first })
 
@@ -165,7 +165,7 @@ module _ (plan : Plan) (rows : Rows) (h : IsRunOf plan rows) (n who : ℕ) (l : 
   hold_said k e none x c =
       let at = contained (λ j. cond (holds_in n k j.1) (arrow n BlockedOn who j.0 ∷ []) []) x rows.threads c in
       let one = one_hold (holds_in n k at.element) (0 + at.place) x at.so in
-      let held = holder plan rows h n l k at.place at.element at.at one.0 in
+      let held = holder plan rows h n (omega (arith, l)) k at.place at.element at.at one.0 in
       let place : at.place ≡ 0 + at.place = omega arith in
       let here : WentOn plan n who at.place = record { lock = k; blocked = blocked k e; mode = held.0; held = held.1; behind_none = went_nowhere who k (blocked k e) none } in
       subst (λ (y : Arrow). (y.turn ≡ n) × IsSo plan y) one.1 (refl, subst (WentOn plan n who) place here)
@@ -189,7 +189,7 @@ module _ (plan : Plan) (rows : Rows) (h : IsRunOf plan rows) (n who : ℕ) (l : 
 
   hold_stands : (f k to : ℕ) (mode : Mode) → (run_in plan n).state.held to k ≡ Holds mode → Contains (hold_arrows n f k rows.threads) (arrow n BlockedOn f to)
   hold_stands f k to mode e =
-      let it = holds_it plan rows h n l k to mode e in
+      let it = holds_it plan rows h n (omega (arith, l)) k to mode e in
       contains_at (λ j. cond (holds_in n k j.1) (arrow n BlockedOn f j.0 ∷ []) []) (arrow n BlockedOn f to) rows.threads to it.0 it.1
       (subst (λ b. Contains (cond b (arrow n BlockedOn f to ∷ []) []) (arrow n BlockedOn f to)) (sym it.2) (Contains-push [] (arrow n BlockedOn f to)))
 

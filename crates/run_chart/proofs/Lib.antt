@@ -2,9 +2,12 @@ mod Blocked
 mod Entries
 mod Loans
 mod Marked
+mod Named
 mod Numbered
 mod Queued
 mod Said
+mod Sayings
+mod Sentences
 mod SameBars
 mod Shown
 mod Standing

@@ -1,18 +1,19 @@
 -- The mark of a turn, by who had it and what it answered.
 use Rattle.std.proofs.Common.{◌≡◌, ◌⊎◌, ◌↔◌, ℕ, ◌+◌, List, [], ◌∷◌, ◌++◌, Option, Some, None, refl, sym, ap, subst, ◌∙◌}
-use Rattle.std.specs.Prelude.{Contains}
+use Rattle.std.specs.Prelude.{option_map, Contains}
 use Rattle.std.proofs.lemmas.List.Elements.{Contains-push}
 use Rattle.std.proofs.lemmas.Option.{same_Some}
 use Rattle.chart_layout.specs.declared.layout.Mark.{Mark}
 use Rattle.chart_layout.specs.declared.layout.MarkKind.{MarkKind}
 use Rattle.chart_layout.specs.declared.layout.MarkKind.TheVariants as marked
 use Rattle.lock_model.specs.declared.event.Entry.{Entry}
+use Rattle.lock_model.specs.declared.event.Event.{Event}
 use Rattle.lock_model.specs.declared.plan.Plan.{Plan}
 use Rattle.lock_model.specs.declared.turn.StepKind.{StepKind}
 use Rattle.lock_model.specs.declared.turn.Turn.{Turn}
 use Rattle.lock_model.specs.declared.turn.Turn.TheVariants.{Did, Idle, Ended}
 use Rattle.lock_state.specs.Run.{course_after}
-use Rattle.run_chart.specs.Charts.{history_in, mark, IsDone, Made}
+use Rattle.run_chart.specs.Charts.{history_in, mark, HasNoted, IsDone, Made}
 use Rattle.run_chart.specs.Marks.{entry_in, marked_of, marks_of, newest}
 use Rattle.run_chart.proofs.Entries.{Grew, stayed, grew_by, grew, new_entry, no_entry}
 use Rattle.run_chart.proofs.Turns.{maker}
@@ -73,3 +74,23 @@ module _ (plan : Plan) (n who : ℕ) (a : Turn) (made : next_turn plan (course_a
 
   pub gains_mark : (old new : List Mark) → new ≡ old ++ marks_of n who what_is → (x : Mark) → Contains new x ↔ (Contains old x ⊎ ((x.turn ≡ n) × IsMarked plan x))
   gains_mark old new is = adds (λ (x : Mark). x.turn) (IsMarked plan) n old new (marks_of n who what_is) is (mark_said what_is refl) mark_stands
+
+-- the event of a turn's entry was noted
+pub noted : (plan : Plan) (n who : ℕ) (kind : StepKind) → Made plan n who kind → (e : Event) → Some e ≡ option_map (λ x. x.event) (entry_in plan n) → HasNoted plan n who e
+noted plan n who kind made e is = was_done plan n who (Did kind) made (marked.Noted e) (go (entry_in plan n) is)
+  where
+    go : (o : Option Entry) → Some e ≡ option_map (λ x. x.event) o → marked_of (Did kind) o ≡ Some (marked.Noted e)
+    go None f = absurd cc
+    go (Some x) f = ap (λ v. Some (marked.Noted v)) (sym (same_Some e x.event f))
+
+-- and what was noted is the event of the turn's entry
+module _ (plan : Plan) (n who : ℕ) (e : Event) (h : HasNoted plan n who e) where
+  pub noted_event : option_map (λ x. x.event) (entry_in plan n) ≡ Some e
+  noted_event =
+      ap (λ es. option_map (λ x. x.event) (newest (history_in plan n) es)) h.noted ∙ ap (option_map (λ x. x.event)) (new_entry (history_in plan n) h.entry) ∙ ap Some h.of_event
+
+  pub one_event : (x : Event) → Some x ≡ option_map (λ x. x.event) (entry_in plan n) → x ≡ e
+  one_event x is = same_Some x e (is ∙ noted_event)
+
+  pub some_event : None ≡ option_map (λ x. x.event) (entry_in plan n) → ⊥
+  some_event none = let some : None ≡ Some e = none ∙ noted_event in cc

@@ -44,6 +44,9 @@ element_at xs i l = elim ((slice_get_cases xs i).1) [
   | inr past ↦ let less : length xs ≤ i = past.0 in absurd (omega arith)
 ]
 
+pub no_element : {X : Type 0} (xs : List X) (i : ℕ) → i < length xs → None ≡ slice_get xs i → ⊥
+no_element xs i l none = let it = element_at xs i l in let both : None ≡ Some it.0 = none ∙ it.1 in cc
+
 -- 2. Who holds a lock
 
 held_by : (o : ℕ) (x : Holder) → owner_of x ≡ Some o → owns o x ≡ true

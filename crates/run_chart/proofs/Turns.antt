@@ -114,13 +114,13 @@ gains_added plan n old new added is said stands = adds (λ (x : Arrow). x.turn) 
 -- 2. The hop of a walk
 
 -- what a loan is, by the walk
-record Hops (before behind : Run) (w : Walk) (to l was prio : ℕ) : Type 0 where
-  walk : w ≡ AtLock l
-  owner : owner_of (before.state.word l).holder ≡ Some to
-  ran_as : before.state.effective to ≡ was
-  runs_as : behind.state.effective to ≡ prio
+pub record Hops (before behind : Run) (w : Walk) (to l was prio : ℕ) : Type 0 where
+  pub walk : w ≡ AtLock l
+  pub owner : owner_of (before.state.word l).holder ≡ Some to
+  pub ran_as : before.state.effective to ≡ was
+  pub runs_as : behind.state.effective to ≡ prio
 
-hops : (before behind : Run) (w : Walk) (to l was prio : ℕ) → loan_at before behind w ≡ Some (to, l, was, prio) → Hops before behind w to l was prio
+pub hops : (before behind : Run) (w : Walk) (to l was prio : ℕ) → loan_at before behind w ≡ Some (to, l, was, prio) → Hops before behind w to l was prio
 hops before behind NoWalk to l was prio e = absurd cc
 hops before behind (AtThread t) to l was prio e = absurd cc
 hops before behind (AtLock k) to l was prio e = go (owner_of (before.state.word k).holder) refl e
@@ -135,7 +135,7 @@ hops before behind (AtLock k) to l was prio e = go (owner_of (before.state.word 
         let runs_as : behind.state.effective u ≡ prio = ap (λ v. v.3) same in
         record { walk = ap AtLock lock; ran_as = sym (ap before.state.effective who) ∙ ran_as; owner = subst (λ (j : ℕ). owner_of (before.state.word j).holder ≡ Some to) lock (i ∙ ap Some who); runs_as = sym (ap behind.state.effective who) ∙ runs_as }
 
-loan_of_hops : (before behind : Run) (w : Walk) (to l was prio : ℕ) → Hops before behind w to l was prio → loan_at before behind w ≡ Some (to, l, was, prio)
+pub loan_of_hops : (before behind : Run) (w : Walk) (to l was prio : ℕ) → Hops before behind w to l was prio → loan_at before behind w ≡ Some (to, l, was, prio)
 loan_of_hops before behind w to l was prio h =
     ap (loan_at before behind) h.walk ∙ ap (option_map {U = Hop} (λ u. (u, l, before.state.effective u, behind.state.effective u))) h.owner
     ∙ ap (λ p. Some (to, l, p, behind.state.effective to)) h.ran_as ∙ ap (λ p. Some (to, l, was, p)) h.runs_as

@@ -7,3 +7,4 @@ pub mod Lanes
 pub mod Arrows
 pub mod Marks
 pub mod Ends
+pub mod Sentences

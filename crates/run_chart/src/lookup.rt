@@ -80,7 +80,8 @@ pub fn lock_of(rows: &Rows, turn: u32, from: ThreadNo) -> Option<LockNo>
     lock_named(named)
 }
 
-fn lock_named(q: Option<QueueName>) -> Option<LockNo>
+/// The lock whose queue is named.
+pub fn lock_named(q: Option<QueueName>) -> Option<LockNo>
     ensures { option_map (λ l. l.0) result ≡ lock_named q }
 {
     match q? {

@@ -64,7 +64,11 @@ fn mark_of(rows: &Rows, turn: u32, row: TurnRow) -> Option<MarkKind>
 }
 
 /// What was noted in a turn. A turn makes one entry at most.
-pub fn event_of(rows: &Rows, turn: u32, row: TurnRow) -> Option<Event> {
+pub fn event_of(rows: &Rows, turn: u32, row: TurnRow) -> Option<Event>
+    ensures { (plan : plans.Plan) → IsRunOf plan rows.now
+        → slice_get rows.now.turns turn ≡ Some row
+        → result ≡ option_map (λ entry. entry.event) (entry_in plan turn) }
+{
     Some(entry_of(rows, turn, row)?.event)
 }
 

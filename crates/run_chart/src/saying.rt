@@ -1,15 +1,18 @@
 //! The sentence of a turn that changes who waits or who has lent.
-ghost use Rattle.std.specs.Prelude.{◌≡◌, ◌≤◌, ◌<◌, length, slice_get, Some};
+ghost use Rattle.std.specs.Prelude.{◌≡◌, ◌≤◌, ◌<◌, ◌++◌, ℕ, true, false, length, option_map, slice_get, Some, IfNone, IfOk, IfSome, OnOk};
+ghost use Rattle.lock_model.specs.declared.numbers.ChanNo.{ChanNo};
 ghost use Rattle.lock_model.specs.declared.plan.Plan as plans;
+ghost use Rattle.lock_model.specs.declared.turn.StepKind.TheVariants as step;
+ghost use Rattle.run_chart.specs.Arrows.{holds_in};
+ghost use Rattle.run_chart.specs.Charts.{Made};
 ghost use Rattle.run_chart.specs.Runs.{IsRunOf};
+ghost use Rattle.run_chart.specs.Sentences.{leaves, one_if, sentences_of, stands_in, those, HasSentences, TellsTurn, WakesSleepers};
 
-use crate::lookup::{behind_whom, holds, loan_of, lock_of, thread_rows};
+use crate::lookup::{behind_whom, holds, loan_of, lock_named, lock_of, thread_rows};
 use crate::marks::event_of;
 use chart_layout::{Saying, Sentence};
-use lock_model::{
-    ChanNo, Event, LockNo, Plan, Prio, QueueName, Sequence, StepKind, ThreadNo, Turn,
-};
-use run_rows::{Rows, TurnRow};
+use lock_model::{ChanNo, Event, LockNo, Plan, QueueName, Sequence, StepKind, ThreadNo, Turn};
+use run_rows::{Rows, ThreadRows, TurnRow};
 use std::alloc::{AllocError, Global};
 use step_world::Walk;
 
@@ -22,21 +25,36 @@ pub fn sentences(
     to: u32,
 ) -> Result<Vec<Sentence>, AllocError>
     requires run { IsRunOf plan.now rows.now }
-    requires few { length rows.now.threads ≤ 256 }
+    requires in_order { from ≤ to }
     requires within { to ≤ length rows.now.turns }
+    ensures { IfOk result (λ sentences. HasSentences plan.now from to sentences.items) }
 {
     let mut sentences = Vec::new(alloc);
     for turn in from..to {
         let row = rows.turns.as_slice()[turn as usize];
-        if let Some(saying) = saying(alloc, plan, rows, turn, row)? {
-            sentences.push(Sentence {
-                turn,
-                thread: row.who,
-                saying,
-            })?;
-        }
+        let saying = saying(alloc, plan, rows, turn, row)?;
+        push_sentence(&mut sentences, turn, row.who, saying)?;
     }
     Ok(sentences)
+}
+
+fn push_sentence(
+    sentences: &mut Vec<Sentence>,
+    turn: u32,
+    thread: ThreadNo,
+    saying: Option<Saying>,
+) -> Result<(), AllocError>
+    ensures { OnOk result (sentences.new.items
+        ≡ sentences.old.items ++ sentences_of turn thread.0 saying) }
+{
+    if let Some(saying) = saying {
+        sentences.push(Sentence {
+            turn,
+            thread,
+            saying,
+        })?;
+    }
+    Ok(())
 }
 
 fn saying(
@@ -47,8 +65,8 @@ fn saying(
     row: TurnRow,
 ) -> Result<Option<Saying>, AllocError>
     requires run { IsRunOf plan.now rows.now }
-    requires few { length rows.now.threads ≤ 256 }
     requires turn { slice_get rows.now.turns turn ≡ Some row }
+    ensures { IfOk result (TellsTurn plan.now turn row.who.0) }
 {
     let Turn::Did(kind) = row.answer else {
         return Ok(None);
@@ -57,7 +75,7 @@ fn saying(
         StepKind::Enter => waits(alloc, rows, turn, row.who),
         StepKind::Lend => Ok(lends(rows, turn, row.who)),
         StepKind::Shift => Ok(sorts(rows, turn, row.who)),
-        StepKind::Claim => Ok(claims(plan, rows, turn, row)),
+        StepKind::Claim => Ok(claims(rows, turn, row.who)),
         StepKind::OpenUp => frees(alloc, rows, turn, row.who),
         StepKind::Add => Ok(sleeps(plan, rows, turn, row)),
         StepKind::Wake => wakes(alloc, rows, turn, row),
@@ -70,124 +88,173 @@ fn saying(
 
 fn waits(alloc: Global, rows: &Rows, turn: u32, who: ThreadNo) -> Result<Option<Saying>, AllocError>
     requires run { (plan : plans.Plan) × IsRunOf plan rows.now }
-    requires few { length rows.now.threads ≤ 256 }
     requires turn { turn < length rows.now.turns }
+    requires thread { who.0 < length rows.now.threads }
+    ensures { IfOk result (λ saying. (plan : plans.Plan) → IsRunOf plan rows.now
+        → Made plan turn who.0 step.Enter → TellsTurn plan turn who.0 saying) }
 {
     let Some(lock) = lock_of(rows, turn, who) else {
         return Ok(None);
     };
-    let mut holders = Vec::new(alloc);
-    for (t, thread) in rows.threads.as_slice().iter().enumerate() {
-        if holds(thread, lock, turn) {
-            holders.push(ThreadNo(t as u8))?;
-        }
-    }
     Ok(Some(Saying::Waits {
         lock,
-        holders: Sequence::from_vec(holders),
+        holders: holders(alloc, rows.threads.as_slice(), lock, turn)?,
         behind: behind_whom(rows, turn, who, lock),
     }))
+}
+
+// Who holds a lock in a row.
+fn holders(
+    alloc: Global,
+    threads: &[ThreadRows],
+    lock: LockNo,
+    row: u32,
+) -> Result<Sequence<ThreadNo>, AllocError>
+    requires { length threads.now ≤ 256 }
+    ensures { IfOk result (λ named. named ≡ those (holds_in row lock.0) threads.now) }
+{
+    let mut named = Vec::new(alloc);
+    for (t, thread) in threads.iter().enumerate() {
+        push_if(&mut named, ThreadNo(t as u8), holds(thread, lock, row))?;
+    }
+    Ok(Sequence::from_vec(named))
+}
+
+fn push_if(named: &mut Vec<ThreadNo>, t: ThreadNo, is_named: bool) -> Result<(), AllocError>
+    ensures { OnOk result (named.new.items ≡ named.old.items ++ one_if is_named t.0) }
+{
+    if is_named {
+        named.push(t)?;
+    }
+    Ok(())
 }
 
 fn lends(rows: &Rows, turn: u32, who: ThreadNo) -> Option<Saying>
     requires run { (plan : plans.Plan) × IsRunOf plan rows.now }
     requires turn { turn < length rows.now.turns }
     requires thread { who.0 < length rows.now.threads }
+    ensures { (plan : plans.Plan) → IsRunOf plan rows.now
+        → Made plan turn who.0 step.Lend → TellsTurn plan turn who.0 result }
 {
     let loan = loan_of(rows, turn, who)?;
+    let walk = thread_rows(rows, who)?.walk.at(turn + 1);
     Some(Saying::Lends {
         to: loan.to,
         lock: loan.lock,
         before: loan.before,
         prio: loan.prio,
-        goes_on: thread_rows(rows, who)?.walk.at(turn.saturating_add(1)) != Walk::None,
+        goes_on: walk != Walk::None,
     })
 }
 
-fn sorts(rows: &Rows, turn: u32, who: ThreadNo) -> Option<Saying> {
+fn sorts(rows: &Rows, turn: u32, who: ThreadNo) -> Option<Saying>
+    requires turn { turn < length rows.now.turns }
+    requires thread { who.0 < length rows.now.threads }
+    ensures { (plan : plans.Plan) → IsRunOf plan rows.now
+        → Made plan turn who.0 step.Shift → TellsTurn plan turn who.0 result }
+{
     let Walk::AtThread(other) = thread_rows(rows, who)?.walk.at(turn) else {
         return None;
     };
-    match thread_rows(rows, other)?.blocked_on.at(turn)? {
-        QueueName::Lock(lock) => Some(Saying::Sorts { other, lock }),
-        QueueName::Chan(_) => None,
+    let lock = lock_named(thread_rows(rows, other)?.blocked_on.at(turn))?;
+    Some(Saying::Sorts { other, lock })
+}
+
+fn claims(rows: &Rows, turn: u32, who: ThreadNo) -> Option<Saying>
+    requires run { (plan : plans.Plan) × IsRunOf plan rows.now }
+    requires turn { turn < length rows.now.turns }
+    requires thread { who.0 < length rows.now.threads }
+    ensures { (plan : plans.Plan) → IsRunOf plan rows.now
+        → Made plan turn who.0 step.Claim → TellsTurn plan turn who.0 result }
+{
+    let thread = thread_rows(rows, who)?;
+    Some(Saying::Claims {
+        lock: lock_held_only(thread, turn + 1, turn)?,
+        before: thread.effective.at(turn),
+        prio: thread.effective.at(turn + 1),
+    })
+}
+
+// The first lock that a thread holds in a row and not in another.
+fn lock_held_only(thread: &ThreadRows, row: u32, other: u32) -> Option<LockNo>
+    requires { length thread.now.held ≤ 256 }
+    ensures held { IfSome result (λ lock. holds_in row lock.0 thread.now ≡ true) }
+    ensures lacked { IfSome result (λ lock. holds_in other lock.0 thread.now ≡ false) }
+    ensures none { IfNone result ((l : ℕ) → holds_in row l thread.now ≡ true
+        → holds_in other l thread.now ≡ true) }
+{
+    for l in 0..thread.held.as_slice().len() {
+        let lock = LockNo(l as u8);
+        if holds(thread, lock, row) && !holds(thread, lock, other) {
+            return Some(lock);
+        }
     }
-}
-
-fn claims(plan: &Plan, rows: &Rows, turn: u32, row: TurnRow) -> Option<Saying> {
-    let (before, prio) = effective_around(rows, turn, row.who)?;
-    let lock = match event_of(rows, turn, row)? {
-        Event::Locked { l, .. } | Event::Tried { l, .. } => l,
-        Event::Woke { c } => lock_of_chan(plan, c)?,
-        Event::Busy { .. }
-        | Event::Unlocked { .. }
-        | Event::Set { .. }
-        | Event::Added { .. }
-        | Event::Got { .. }
-        | Event::Base { .. }
-        | Event::Shown { .. }
-        | Event::Sleeps { .. }
-        | Event::HaltedChan { .. }
-        | Event::HaltedLock { .. }
-        | Event::WokeOne { .. }
-        | Event::WokeAll { .. }
-        | Event::Reversed { .. } => return None,
-    };
-    Some(Saying::Claims { lock, before, prio })
-}
-
-// How a thread ran before a turn, and behind it.
-fn effective_around(rows: &Rows, turn: u32, t: ThreadNo) -> Option<(Prio, Prio)> {
-    let effective = &thread_rows(rows, t)?.effective;
-    Some((effective.at(turn), effective.at(turn.saturating_add(1))))
+    None
 }
 
 fn frees(alloc: Global, rows: &Rows, turn: u32, who: ThreadNo) -> Result<Option<Saying>, AllocError>
-    requires { length rows.now.threads ≤ 256 }
+    requires run { (plan : plans.Plan) × IsRunOf plan rows.now }
+    requires turn { turn < length rows.now.turns }
+    requires thread { who.0 < length rows.now.threads }
+    ensures { IfOk result (λ saying. (plan : plans.Plan) → IsRunOf plan rows.now
+        → Made plan turn who.0 step.OpenUp → TellsTurn plan turn who.0 saying) }
 {
-    let Some((before, prio)) = effective_around(rows, turn, who) else {
+    let Some(thread) = thread_rows(rows, who) else {
         return Ok(None);
     };
-    let Some(lock) = lock_freed(rows, turn, who) else {
+    let Some(lock) = lock_held_only(thread, turn, turn + 1) else {
         return Ok(None);
     };
     Ok(Some(Saying::Frees {
         lock,
-        before,
-        prio,
-        takes_off: taken_off(alloc, rows, turn, QueueName::Lock(lock))?,
+        before: thread.effective.at(turn),
+        prio: thread.effective.at(turn + 1),
+        takes_off: taken_off(alloc, rows.threads.as_slice(), turn, QueueName::Lock(lock))?,
     }))
-}
-
-// The lock that a thread holds before the turn, and not behind it.
-fn lock_freed(rows: &Rows, turn: u32, who: ThreadNo) -> Option<LockNo> {
-    let behind = turn.saturating_add(1);
-    let held = thread_rows(rows, who)?.held.as_slice();
-    let l = held.iter().position(|track| track.at(turn).is_some() && track.at(behind).is_none())?;
-    Some(LockNo(u8::try_from(l).ok()?))
 }
 
 // Those who stand on a queue before the turn, and not behind it.
 fn taken_off(
     alloc: Global,
-    rows: &Rows,
+    threads: &[ThreadRows],
     turn: u32,
     q: QueueName,
 ) -> Result<Sequence<ThreadNo>, AllocError>
-    requires { length rows.now.threads ≤ 256 }
+    requires few { length threads.now ≤ 256 }
+    requires turn { turn < 1000000 }
+    ensures { IfOk result (λ taken. taken ≡ those (leaves turn q) threads.now) }
 {
     let mut taken = Vec::new(alloc);
-    for (t, thread) in rows.threads.as_slice().iter().enumerate() {
-        let stands = &thread.stands_on;
-        if stands.at(turn) == Some(q) && stands.at(turn.saturating_add(1)) != Some(q) {
-            taken.push(ThreadNo(t as u8))?;
-        }
+    for (t, thread) in threads.iter().enumerate() {
+        push_if(&mut taken, ThreadNo(t as u8), leaves(thread, turn, q))?;
     }
     Ok(Sequence::from_vec(taken))
 }
 
-fn sleeps(plan: &Plan, rows: &Rows, turn: u32, row: TurnRow) -> Option<Saying> {
-    let Some(Event::Sleeps { c }) = event_of(rows, turn, row) else {
+fn leaves(thread: &ThreadRows, turn: u32, q: QueueName) -> bool
+    requires { turn < 1000000 }
+    ensures { result ≡ leaves turn q thread.now }
+{
+    stands_on(thread, turn, q) && !stands_on(thread, turn + 1, q)
+}
+
+// Whether a thread stands on the queue in a row.
+fn stands_on(thread: &ThreadRows, row: u32, q: QueueName) -> bool
+    ensures { result ≡ stands_in row q thread.now }
+{
+    match thread.stands_on.at(row) {
+        Some(on) => on == q,
+        None => false,
+    }
+}
+
+fn sleeps(plan: &Plan, rows: &Rows, turn: u32, row: TurnRow) -> Option<Saying>
+    requires run { IsRunOf plan.now rows.now }
+    requires turn { slice_get rows.now.turns turn ≡ Some row }
+    ensures { Made plan.now turn row.who.0 step.Add → TellsTurn plan.now turn row.who.0 result }
+{
+    let event = event_of(rows, turn, row)?;
+    let Event::Sleeps { c } = event else {
         return None;
     };
     Some(Saying::Sleeps {
@@ -196,25 +263,49 @@ fn sleeps(plan: &Plan, rows: &Rows, turn: u32, row: TurnRow) -> Option<Saying> {
     })
 }
 
-fn lock_of_chan(plan: &Plan, c: ChanNo) -> Option<LockNo> {
+fn lock_of_chan(plan: &Plan, c: ChanNo) -> Option<LockNo>
+    ensures { result ≡ option_map (λ chan. chan.lock) (slice_get plan.now.chans c.0) }
+{
     let chan = plan.chans.as_slice().get(usize::from(c.0))?;
     Some(chan.lock)
 }
 
 fn wakes(alloc: Global, rows: &Rows, turn: u32, row: TurnRow) -> Result<Option<Saying>, AllocError>
-    requires { length rows.now.threads ≤ 256 }
+    requires run { (plan : plans.Plan) × IsRunOf plan rows.now }
+    requires turn { slice_get rows.now.turns turn ≡ Some row }
+    ensures { IfOk result (λ saying. (plan : plans.Plan) → IsRunOf plan rows.now
+        → Made plan turn row.who.0 step.Wake → TellsTurn plan turn row.who.0 saying) }
 {
-    let Some(Event::WokeOne { c, .. } | Event::WokeAll { c, .. }) = event_of(rows, turn, row) else {
+    let Some(c) = chan_woken(event_of(rows, turn, row)) else {
         return Ok(None);
     };
     Ok(Some(Saying::Wakes {
         chan: c,
-        takes_off: taken_off(alloc, rows, turn, QueueName::Chan(c))?,
+        takes_off: taken_off(alloc, rows.threads.as_slice(), turn, QueueName::Chan(c))?,
     }))
 }
 
-fn refused(rows: &Rows, turn: u32, row: TurnRow) -> Option<Saying> {
-    let Some(Event::Reversed { l, held }) = event_of(rows, turn, row) else {
+// Where an event says that sleepers were woken.
+fn chan_woken(event: Option<Event>) -> Option<ChanNo>
+    ensures some { IfSome result (λ c. WakesSleepers c event) }
+    ensures none { IfNone result ((c : ChanNo) → WakesSleepers c event → ⊥) }
+{
+    if let Some(Event::WokeOne { c, .. }) = event {
+        return Some(c);
+    }
+    let Some(Event::WokeAll { c, .. }) = event else {
+        return None;
+    };
+    Some(c)
+}
+
+fn refused(rows: &Rows, turn: u32, row: TurnRow) -> Option<Saying>
+    requires { slice_get rows.now.turns turn ≡ Some row }
+    ensures { (plan : plans.Plan) → IsRunOf plan rows.now
+        → Made plan turn row.who.0 step.Note → TellsTurn plan turn row.who.0 result }
+{
+    let event = event_of(rows, turn, row)?;
+    let Event::Reversed { l, held } = event else {
         return None;
     };
     Some(Saying::Refused { lock: l, held })

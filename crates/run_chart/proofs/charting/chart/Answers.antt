@@ -7,6 +7,7 @@ use Rattle.run_chart.specs.Charts.{arrow, loan, mark, wake, IsEnd, IsLane}
 use Rattle.run_chart.specs.Lanes.{AreLanes}
 use Rattle.run_chart.specs.Marks.{HasMarks}
 use Rattle.run_chart.specs.Runs.{IsRunOf}
+use Rattle.run_chart.specs.Sentences.{HasSentences}
 use Rattle.run_chart.specs.Spans.{is_between}
 use Rattle.run_chart.specs.Steps.{prios_at, strips_tell, IsStepOf}
 use Rattle.run_chart.proofs.Ends.{lanes_law}
@@ -27,6 +28,7 @@ returns c =
     subst (AreLanes rows.threads) (sym c.from_vec.ensures) (subst (λ threads. AreLanes threads c.in_ok-lanes.field-0.items) c.as_slice-threads.ensures c.in_ok-lanes.ensures) in
     let has : Has plan from to c.from_vec-4.result = subst (Has plan from to) (sym c.from_vec-4.ensures) (c.in_ok-arrows.ensures plan h) in
     let marked : HasMarks plan from to c.from_vec-5.result = subst (HasMarks plan from to) (sym c.from_vec-5.ensures) (c.in_ok-marks.ensures plan h) in
+    let said : HasSentences plan from to c.from_vec-6.result = subst (HasSentences plan from to) (sym c.from_vec-6.ensures) c.in_ok-sentences.ensures in
     record {
       first = refl;
       last = refl;
@@ -46,6 +48,9 @@ returns c =
         blocks = λ n f t. has (arrow n BlockedOn f t);
         behinds = λ n f t. has (arrow n Behind f t);
         marks = λ n t what. marked (mark n t what);
+        sentences = said.so;
+        told_in_order = said.in_order;
+        tells = λ n t saying turn so. said.told n turn.0 turn.1 (t, saying, so);
         ended = subst (λ (k : ℕ). IsEnd plan k c.in_ok-end.field-0) (sym turns) (c.in_ok-end.ensures plan h);
       };
     }

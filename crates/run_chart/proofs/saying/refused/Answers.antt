@@ -1,0 +1,27 @@
+use Rattle.std.proofs.Common.{Some, ap, subst, sym, ◌∙◌}
+use Rattle.lock_model.specs.declared.event.Event.TheVariants.{Reversed}
+use Rattle.lock_model.specs.declared.turn.StepKind.TheVariants.{Note}
+use Rattle.lock_model.specs.declared.turn.Turn.TheVariants.{Did}
+use Rattle.run_chart.specs.Sentences.{TellsTurn}
+use Rattle.run_chart.proofs.Marked.{noted, one_event, some_event}
+use Rattle.run_chart.proofs.Sayings.{tells, tells_none}
+use Rattle.run_chart.proofs.saying.refused.Goals as goal
+
+pub returns-in_err-event : goal.returns-in_err-event
+returns-in_err-event c plan h made =
+    let who = c.args.row.who.0 in
+    subst (TellsTurn plan c.args.turn who) (sym c.from_residual.ensures)
+    (tells_none plan c.args.turn who (Did Note) made
+    (λ has. some_event plan c.args.turn who (Reversed has.0 has.1) has.2.noted (c.in_err-event.ensures plan h c.requires)))
+
+pub returns-in_default : goal.returns-in_default
+returns-in_default c plan h made =
+    let who = c.args.row.who.0 in
+    tells_none plan c.args.turn who (Did Note) made
+    (λ has. c.in_default.not-Reversed has.0 has.1 (one_event plan c.args.turn who (Reversed has.0 has.1) has.2.noted c.in_ok-event.event (c.in_ok-event.ensures plan h c.requires)))
+
+pub returns : goal.returns
+returns c plan h made =
+    let who = c.args.row.who.0 in
+    let event = ap Some (sym c.in-Reversed.is) ∙ c.in_ok-event.ensures plan h c.requires in
+    tells plan c.args.turn who _ (record { made = made; noted = noted plan c.args.turn who Note made (Reversed c.in-Reversed.l c.in-Reversed.held) event })
