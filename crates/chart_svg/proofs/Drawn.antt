@@ -1,12 +1,12 @@
 -- What is drawn of the lanes of a page stands still when more is put behind it.
 use Rattle.std.proofs.Common.{ℕ, zero, suc, ◌+◌, ◌*◌, ◌≤◌, ◌≡◌, ◌∙◌, ◌<◌, inl, inr, take, get_or, length, ap, subst, arith, List, All}
 use Rattle.std.proofs.lemmas.Bool.{cases_lt}
-use Rattle.std.proofs.lemmas.List.Elements.{All-weaker}
 use Rattle.chart_layout.specs.declared.layout.Bar.{Bar}
 use Rattle.chart_layout.specs.declared.layout.Step.{Step}
-use Rattle.chart_svg.proofs.Standing.{all_more}
+use Rattle.chart_svg.proofs.Standing.{all_still, drawn_more, IsKept}
 use Rattle.chart_svg.specs.Drawn.{pixels, rect_bytes, Keeps, Stands}
 use Rattle.chart_svg.specs.Lanes.{bar_bottom, bar_top, BarsAreDrawn, IsDrawnAt, IsLentAt, LoansAreDrawn}
+use Rattle.chart_svg.specs.Pages.{ArrowIsOn, HeadIsDrawn, LineIsDrawn, MarkIsOn, NameIsOn}
 use Rattle.chart_svg.specs.declared.page.Lane.{Lane}
 use Rattle.chart_svg.specs.declared.page.Page.{Page}
 use Rattle.chart_svg.specs.declared.shapes.Area.{Area}
@@ -24,47 +24,48 @@ bar_top-count lane level = elim (cases_lt level 4294967296) [
   | inr ge ↦ far (pixels (lane.begin.0 + 27)) level lane.pitch ge
 ]
 
--- all of a level
-pub level_still : (page : Page) (old new : List ℕ) (top : ℕ) (bars : List Bar) → Keeps old new → All (IsDrawnAt page old top) bars → All (IsDrawnAt page new top) bars
-level_still page old new top bars keeps h = All-weaker (IsDrawnAt page old top) (IsDrawnAt page new top) (λ bar. keeps _) bars h
+-- a walk that is drawn below its level
+abbrev pub WalkIsDrawn : Page → Lane → List ℕ → Bar × ℕ → Type 0
+WalkIsDrawn page lane picture walk = IsDrawnAt page picture (pixels (bar_bottom lane walk.1 + 2)) walk.0
 
--- the walks of a lane
-pub walks_still : (page : Page) (lane : Lane) (old new : List ℕ) (walks : List (Bar × ℕ)) → Keeps old new
-    → All (λ walk. IsDrawnAt page old (pixels (bar_bottom lane walk.1 + 2)) walk.0) walks → All (λ walk. IsDrawnAt page new (pixels (bar_bottom lane walk.1 + 2)) walk.0) walks
-walks_still page lane old new walks keeps h =
-    All-weaker (λ walk. IsDrawnAt page old (pixels (bar_bottom lane walk.1 + 2)) walk.0) (λ walk. IsDrawnAt page new (pixels (bar_bottom lane walk.1 + 2)) walk.0) (λ walk. keeps _) walks h
+-- 2. What stays drawn
+
+pub walk_kept : (page : Page) (lane : Lane) → IsKept (WalkIsDrawn page lane)
+walk_kept page lane old new walk keeps = keeps _
 
 pub walks_more : (page : Page) (lane : Lane) (old new : List ℕ) (walks own : List (Bar × ℕ)) (i : ℕ) (d : Bar × ℕ) (top : ℕ) → own ≡ walks → i < length own
-    → top ≡ pixels (bar_bottom lane (get_or own i d).1 + 2) → IsDrawnAt page new top (get_or own i d).0 → Keeps old new
-    → All (λ walk. IsDrawnAt page old (pixels (bar_bottom lane walk.1 + 2)) walk.0) (take i walks)
-    → All (λ walk. IsDrawnAt page new (pixels (bar_bottom lane walk.1 + 2)) walk.0) (take (i + 1) walks)
-walks_more page lane old new walks own i d top e lt at drawn keeps h =
-    let New : Bar × ℕ → Type 0 = λ walk. IsDrawnAt page new (pixels (bar_bottom lane walk.1 + 2)) walk.0 in
-    let At : ℕ → Type 0 = λ y. IsDrawnAt page new y (get_or own i d).0 in
-    all_more New walks own i d e lt (walks_still page lane old new (take i walks) keeps h) (subst At at drawn)
+    → top ≡ pixels (bar_bottom lane (get_or own i d).1 + 2) → Keeps old new → All (WalkIsDrawn page lane old) (take i walks) → IsDrawnAt page new top (get_or own i d).0
+    → All (WalkIsDrawn page lane new) (take (i + 1) walks)
+walks_more page lane old new walks own i d top e lt at keeps h drawn =
+    drawn_more (WalkIsDrawn page lane) (walk_kept page lane) old new walks own i d e lt keeps h (subst (λ y. IsDrawnAt page new y (get_or own i d).0) at drawn)
 
--- all bars
-pub bars_still : (page : Page) (old new : List ℕ) (lanes : List Lane) → Keeps old new → All (BarsAreDrawn page old) lanes → All (BarsAreDrawn page new) lanes
-bars_still page old new lanes keeps h =
-    All-weaker (BarsAreDrawn page old) (BarsAreDrawn page new)
-    (λ lane was. record {
-      levels = λ level bar at. keeps _ (was.levels level bar at);
-      walks = walks_still page lane old new lane.bars.walks.items keeps was.walks;
-    })
-    lanes h
+pub bars_kept : (page : Page) → IsKept (BarsAreDrawn page)
+bars_kept page old new lane keeps was = record {
+  levels = λ level bar at. keeps _ (was.levels level bar at);
+  walks = all_still (WalkIsDrawn page lane) (walk_kept page lane) old new lane.bars.walks.items keeps was.walks;
+}
 
--- 2. Loans
+pub loan_kept : (page : Page) (strip : ℕ) → IsKept (λ picture. IsLentAt page picture strip)
+loan_kept page strip old new step keeps was is lent = keeps _ (was is lent)
 
--- those of one strip
-pub strip_still : (page : Page) (old new : List ℕ) (strip : ℕ) (steps : List Step) → Keeps old new → All (IsLentAt page old strip) steps → All (IsLentAt page new strip) steps
-strip_still page old new strip steps keeps h =
-    All-weaker (IsLentAt page old strip) (IsLentAt page new strip) (λ step was is lent. keeps _ (was is lent)) steps h
+pub loans_kept : (page : Page) → IsKept (LoansAreDrawn page)
+loans_kept page old new lane keeps was y is = all_still (λ picture. IsLentAt page picture y.0) (loan_kept page y.0) old new lane.steps.items keeps (was y is)
 
--- all loans
-pub loans_still : (page : Page) (old new : List ℕ) (lanes : List Lane) → Keeps old new → All (LoansAreDrawn page old) lanes → All (LoansAreDrawn page new) lanes
-loans_still page old new lanes keeps h =
-    All-weaker (LoansAreDrawn page old) (LoansAreDrawn page new)
-    (λ lane was y is. strip_still page old new y.0 lane.steps.items keeps (was y is)) lanes h
+pub line_kept : (page : Page) → IsKept (LineIsDrawn page)
+line_kept page old new one keeps = keeps _
+
+pub head_kept : (page : Page) → IsKept (HeadIsDrawn page)
+head_kept page old new one keeps = keeps _
+
+pub name_kept : (page : Page) → IsKept (NameIsOn page)
+name_kept page old new lane keeps = keeps _
+
+pub arrow_kept : (page : Page) → IsKept (ArrowIsOn page)
+arrow_kept page old new arrow keeps was ends =
+    let h = was ends in record { begin = h.begin; tip = h.tip; begins = h.begins; ends = h.ends; line = keeps _ h.line; head = keeps _ h.head }
+
+pub mark_kept : (page : Page) → IsKept (MarkIsOn page)
+mark_kept page old new mark keeps was has = let h = was has in record { y = h.y; in_lane = h.in_lane; stands = keeps _ h.stands }
 
 -- 3. Rectangles
 

@@ -7,22 +7,16 @@ use Rattle.chart_layout.specs.declared.layout.Lane.{Lane as ChartLane}
 use Rattle.lock_model.specs.Plans.{thread_name}
 use Rattle.lock_model.specs.declared.numbers.ThreadNo.{ThreadNo}
 use Rattle.chart_svg.proofs.Places.{among, in_lane}
-use Rattle.chart_svg.proofs.Standing.{all_more, told, IsKept}
+use Rattle.chart_svg.proofs.Standing.{all_more, told}
 use Rattle.chart_svg.specs.Drawn.{arrow_title, figure_bytes, head_class, head_figure, pixels, turn_at, words_bytes, ArrowIsDrawn, HasLane, NameIsDrawn}
 use Rattle.chart_svg.specs.Lanes.{scale_of, top_of, Fits, HasLanes, HasRoom}
-use Rattle.chart_svg.specs.Pages.{ArrowIsOn, HasEnds, HeadIsDrawn, IsAmong, IsPlaced, IsWithin, LineIsDrawn, MarkIsOn, NameIsOn}
+use Rattle.chart_svg.specs.Pages.{ArrowIsOn, HasEnds, HeadIsDrawn, IsAmong, IsPlaced, LineIsDrawn, NameIsOn}
 use Rattle.chart_svg.specs.declared.arrows.Placed.{Placed}
 use Rattle.chart_svg.specs.declared.page.Lane.{Lane}
 use Rattle.chart_svg.specs.declared.page.Page.{Page}
 use Rattle.chart_svg.specs.declared.shapes.Figure.TheVariants.{Up, Down}
 
--- 1. Places
-
--- a place near where the words of its marks begin
-pub near_begin : (page : Page) (lane : Lane) (n : ℕ) → n ≤ 45 → Fits page lane → IsWithin lane (pixels (lane.begin.0 + n))
-near_begin page lane n le fits =
-    let top = fits.begins in let most = fits.begin_fits in let room = fits.has_room in
-    (grind arith, grind arith)
+-- 1. Places of arrows
 
 -- the head points to the other lane
 pub head_told : (page : Page) (arrow : Arrow) (from to : Lane) → slice_get page.lanes.items arrow.from.0 ≡ Some from
@@ -80,20 +74,6 @@ arrows_drawn page picture placed arrows among all lines heads =
     one_drawn page picture h.0 arrow h.2 (All-contains (IsPlaced page) placed h.0 all h.1)
     (All-contains (LineIsDrawn page picture) placed h.0 lines h.1) (All-contains (HeadIsDrawn page picture) placed h.0 heads h.1))
     arrows among
-
--- an arrow and a mark stay drawn
-pub arrow_kept : (page : Page) → IsKept (ArrowIsOn page)
-arrow_kept page old new arrow keeps was ends = let h = was ends in record {
-  begin = h.begin;
-  tip = h.tip;
-  begins = h.begins;
-  ends = h.ends;
-  line = keeps _ h.line;
-  head = keeps _ h.head;
-}
-
-pub mark_kept : (page : Page) → IsKept (MarkIsOn page)
-mark_kept page old new mark keeps was has = let h = was has in record { y = h.y; in_lane = h.in_lane; stands = keeps _ h.stands }
 
 -- 3. Names
 

@@ -115,3 +115,7 @@ all_more_item {X} P xs ys i x e lt is h p = all_more P xs ys i x e lt h (subst P
 pub drawn_more : {X : Type 0} (P : List ℕ → X → Type 0) → IsKept P → (old new : List ℕ) (xs ys : List X) (i : ℕ) (d : X) → ys ≡ xs → i < length ys
     → Keeps old new → All (P old) (take i xs) → P new (get_or ys i d) → All (P new) (take (i + 1) xs)
 drawn_more {X} P still old new xs ys i d e lt keeps h p = all_more (P new) xs ys i d e lt (all_still P still old new (take i xs) keeps h) p
+
+pub item_drawn : {X : Type 0} (P : List ℕ → X → Type 0) → IsKept P → (old new : List ℕ) (xs ys : List X) (i : ℕ) (x : X) → ys ≡ xs → i < length ys → x ≡ get_or ys i x
+    → Keeps old new → All (P old) (take i xs) → P new x → All (P new) (take (i + 1) xs)
+item_drawn {X} P still old new xs ys i x e lt is keeps h p = drawn_more P still old new xs ys i x e lt keeps h (subst (P new) is p)

@@ -3,19 +3,19 @@ use Rattle.std.proofs.Common.{ℕ, ◌≤◌, ◌≡◌, arith, subst, sym, List
 use Rattle.std.proofs.lemmas.List.Elements.{All-contains}
 use Rattle.chart_layout.specs.declared.layout.Chart.{Chart}
 use Rattle.lock_model.specs.declared.plan.Plan.{Plan}
-use Rattle.chart_svg.proofs.Drawn.{bars_still, loans_still}
+use Rattle.chart_svg.proofs.Drawn.{arrow_kept, bars_kept, loans_kept, mark_kept, name_kept}
 use Rattle.chart_svg.proofs.Places.{bars_drawn, lanes_apart, loans_drawn, ranks_apart}
-use Rattle.chart_svg.proofs.Placing.{arrow_kept, has_lane, mark_kept, names_drawn}
+use Rattle.chart_svg.proofs.Placing.{has_lane, names_drawn}
 use Rattle.chart_svg.proofs.Standing.{all_still, keeps_then}
 use Rattle.chart_svg.specs.Drawn.{Draws, Keeps}
-use Rattle.chart_svg.specs.Lanes.{scale_of, HasBars, HasLanes, HasPrios, HasRoom, HasSteps}
+use Rattle.chart_svg.specs.Lanes.{scale_of, BarsAreDrawn, HasBars, HasLanes, HasPrios, HasRoom, HasSteps, LoansAreDrawn}
 use Rattle.chart_svg.specs.Pages.{ArrowIsOn, LanesAreDrawn, MarkIsOn, NameIsOn}
 use Rattle.chart_svg.specs.declared.page.Page.{Page}
 
 lanes_still : (page : Page) (old new : List ℕ) → Keeps old new → LanesAreDrawn page old → LanesAreDrawn page new
 lanes_still page old new keeps h = record {
-  bars = bars_still page old new page.lanes.items keeps h.bars;
-  loans = loans_still page old new page.lanes.items keeps h.loans;
+  bars = all_still (BarsAreDrawn page) (bars_kept page) old new page.lanes.items keeps h.bars;
+  loans = all_still (LoansAreDrawn page) (loans_kept page) old new page.lanes.items keeps h.loans;
   arrows = all_still (ArrowIsOn page) (arrow_kept page) old new page.chart.now.arrows keeps h.arrows;
   marks = all_still (MarkIsOn page) (mark_kept page) old new page.chart.now.marks keeps h.marks;
 }
@@ -45,6 +45,6 @@ picture_draws page plan chart framed laned picture ep ec wide room lanes bars st
     let draws : Draws page.plan.now page.chart.now picture = page_drawn page picture wide room
     (subst (λ (c : Chart). HasLanes page c) is lanes) (subst (λ (c : Chart). HasBars page c) is bars) (subst (λ (c : Chart). HasSteps page c) is steps)
     (subst (λ (c : Chart). HasPrios page.prios.items c.steps) is prios)
-    (all_still (NameIsOn page) (λ old new lane keep. keep _) framed picture page.lanes.items (keeps_then framed laned picture lanes_keep keeps) names)
+    (all_still (NameIsOn page) (name_kept page) framed picture page.lanes.items (keeps_then framed laned picture lanes_keep keeps) names)
     (lanes_still page laned picture keeps drawn) in
     subst (λ (c : Chart). Draws plan c picture) ec (subst (λ (p : Plan). Draws p page.chart.now picture) ep draws)

@@ -1,9 +1,10 @@
 use Rattle.std.proofs.Common.{List, All, subst}
 use Rattle.std.proofs.lemmas.Result.{on_ok_weaker}
-use Rattle.chart_svg.proofs.Drawn.{bars_still, loans_still}
-use Rattle.chart_svg.proofs.Placing.{arrows_drawn, mark_kept}
+use Rattle.chart_svg.proofs.Drawn.{bars_kept, head_kept, line_kept, loans_kept, mark_kept}
+use Rattle.chart_svg.proofs.Placing.{arrows_drawn}
 use Rattle.chart_svg.proofs.Standing.{all_still, keeps_then}
 use Rattle.chart_svg.specs.Drawn.{Keeps}
+use Rattle.chart_svg.specs.Lanes.{BarsAreDrawn, LoansAreDrawn}
 use Rattle.chart_svg.specs.Pages.{HeadIsDrawn, LineIsDrawn, MarkIsOn}
 use Rattle.chart_svg.specs.declared.arrows.Placed.{Placed}
 use Rattle.chart_svg.proofs.drawing.push_lanes.Goals as goal
@@ -32,11 +33,11 @@ returns-clause-drawn c =
     let behind_lines : Keeps c.push_arrows.new.out.items out = keeps_then _ _ _ c.in_ok-push_bars.ensures.keeps behind_bars in
     let behind_strips : Keeps c.push_strips.new.out.items out = keeps_then _ _ _ c.in_ok-push_arrows.ensures.keeps behind_lines in
     record {
-      bars = bars_still page _ _ page.lanes.items behind_bars c.in_ok-push_bars.ensures.drawn;
-      loans = loans_still page _ _ page.lanes.items behind_strips c.in_ok-push_strips.ensures.drawn;
+      bars = all_still (BarsAreDrawn page) (bars_kept page) _ _ page.lanes.items behind_bars c.in_ok-push_bars.ensures.drawn;
+      loans = all_still (LoansAreDrawn page) (loans_kept page) _ _ page.lanes.items behind_strips c.in_ok-push_strips.ensures.drawn;
       arrows = arrows_drawn page _ placed page.chart.now.arrows c.in_ok-placed.ensures.all c.in_ok-placed.ensures.placed
-          (all_still (LineIsDrawn page) (λ old new one keep. keep _) _ _ placed behind_lines lines)
-          (all_still (HeadIsDrawn page) (λ old new one keep. keep _) _ _ placed behind_heads heads);
+          (all_still (LineIsDrawn page) (line_kept page) _ _ placed behind_lines lines)
+          (all_still (HeadIsDrawn page) (head_kept page) _ _ placed behind_heads heads);
       marks = all_still (MarkIsOn page) (mark_kept page) _ _ page.chart.now.marks behind_marks c.in_ok-push_marks.ensures.drawn;
     })
     c.push_reasons.ensures.keeps

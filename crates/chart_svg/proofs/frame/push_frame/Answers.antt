@@ -1,6 +1,7 @@
 use Rattle.std.proofs.Common.{◌∙◌}
 use Rattle.std.proofs.lemmas.Result.{on_ok_weaker}
-use Rattle.chart_svg.proofs.Standing.{all_in_all, all_more_item, all_still, keeps_then}
+use Rattle.chart_svg.proofs.Drawn.{name_kept}
+use Rattle.chart_svg.proofs.Standing.{all_in_all, all_still, item_drawn, keeps_then}
 use Rattle.chart_svg.specs.Pages.{NameIsOn}
 use Rattle.chart_svg.proofs.frame.push_frame.Goals as goal
 
@@ -8,9 +9,8 @@ pub loop-lane-preserved : goal.loop-lane-preserved
 loop-lane-preserved c = record {
   whole = c.in_ok-push_lane.ensures.whole ∙ c.loop-lane.invariant.whole;
   keeps = keeps_then _ _ _ c.loop-lane.invariant.keeps c.in_ok-push_lane.ensures.keeps;
-  names = all_more_item (NameIsOn c.args.page.now c.push_lane.new.out.items) c.args.page.now.lanes.items c.deref-lane-items.result.now c.loop-lane.lane-index c.lane-item.result c.deref-lane-items.ensures.value c.loop-lane-test.true c.lane-item.is
-      (all_still (NameIsOn c.args.page.now) (λ old new lane keeps. keeps _) _ _ _ c.in_ok-push_lane.ensures.keeps c.loop-lane.invariant.names)
-      c.in_ok-push_lane.ensures.name;
+  names = item_drawn (NameIsOn c.args.page.now) (name_kept c.args.page.now) _ _ c.args.page.now.lanes.items c.deref-lane-items.result.now c.loop-lane.lane-index c.lane-item.result c.deref-lane-items.ensures.value c.loop-lane-test.true c.lane-item.is
+      c.in_ok-push_lane.ensures.keeps c.loop-lane.invariant.names c.in_ok-push_lane.ensures.name;
 }
 
 pub returns-clause-keeps : goal.returns-clause-keeps
@@ -18,6 +18,6 @@ returns-clause-keeps c = on_ok_weaker c.push_hint.result (keeps_then _ _ _ c.loo
 
 pub returns-clause-names : goal.returns-clause-names
 returns-clause-names c = on_ok_weaker c.push_hint.result
-    (λ keeps. all_still (NameIsOn c.args.page.now) (λ old new lane keeps. keeps _) _ _ c.args.page.now.lanes.items keeps
+    (λ keeps. all_still (NameIsOn c.args.page.now) (name_kept c.args.page.now) _ _ c.args.page.now.lanes.items keeps
     (all_in_all (NameIsOn c.args.page.now c.loop-lane.out.items) c.args.page.now.lanes.items c.deref-lane-items.result.now c.loop-lane.lane-index c.deref-lane-items.ensures.value c.loop-lane-test.false c.loop-lane.invariant.names))
     c.push_hint.ensures.keeps

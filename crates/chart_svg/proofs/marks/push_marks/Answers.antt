@@ -1,5 +1,5 @@
 use Rattle.std.proofs.Common.{◌∙◌}
-use Rattle.chart_svg.proofs.Placing.{mark_kept}
+use Rattle.chart_svg.proofs.Drawn.{mark_kept}
 use Rattle.chart_svg.proofs.Standing.{all_in_all, drawn_more, keeps_then}
 use Rattle.chart_svg.specs.Pages.{MarkIsOn}
 use Rattle.chart_svg.proofs.marks.push_marks.Goals as goal
