@@ -20,7 +20,7 @@ lane_begins : (page : Page) (t : ℕ) (lane : Lane) → slice_get page.lanes.ite
 lane_begins page t lane is = ap (top_of page.bottom.0) is
 
 -- what stands between the top and the bottom of a lane
-pub in_lane : (page : Page) (t : ℕ) (lane : Lane) (y : ℕ) → HasRoom page → slice_get page.lanes.items t ≡ Some lane → lane.top.0 ≤ y → y ≤ lane.bottom.0
+pub in_lane : (page : Page) (t : ℕ) (lane : Lane) (y : ℕ) → HasRoom page → slice_get page.lanes.items t ≡ Some lane → lane.top.0 ≤ y → pixels (y + 1) ≤ lane.bottom.0
     → IsInLane (scale_of page) t y
 in_lane page t lane y room is top bottom = record {
   begins = omega (arith, lane_begins page t lane is);
@@ -55,13 +55,13 @@ bars_drawn page picture room has drawn bar in_chart lt =
     let lane : BarsAreDrawn page picture of.lane = All-contains (BarsAreDrawn page picture) page.lanes.items of.lane drawn (among page.lanes.items bar.thread.0 of.lane of.is) in
     elim of.has [
       | inl (level, at) ↦ (let within : level < length of.lane.bars.levels.items = at.within in
-          let below : pixels (bar_bottom of.lane level + 2) ≤ of.lane.bottom.0 = fit.bars level (omega arith) in
+          let below : pixels (bar_bottom of.lane level + 20) ≤ of.lane.bottom.0 = fit.bars level (omega arith) in
           record {
             top = bar_top of.lane level;
             in_lane = in_lane page bar.thread.0 of.lane (bar_top of.lane level) room of.is (omega (arith, fit.begins, fit.begin_fits)) (omega (arith, fit.bottom_fits));
             stands = lane.levels level bar at;
           })
-      | inr (level, reached, walk) ↦ (let below : pixels (bar_bottom of.lane level + 2) ≤ of.lane.bottom.0 = fit.bars level reached in
+      | inr (level, reached, walk) ↦ (let below : pixels (bar_bottom of.lane level + 20) ≤ of.lane.bottom.0 = fit.bars level reached in
           record {
             top = pixels (bar_bottom of.lane level + 2);
             in_lane = in_lane page bar.thread.0 of.lane (pixels (bar_bottom of.lane level + 2)) room of.is (omega (arith, fit.begins, fit.begin_fits)) below;

@@ -20,7 +20,7 @@ rank-le prios prio = omega (arith, length-filter (λ other. nat_lt other.0 prio)
 
 -- a strip that begins below the bars ends before the lane does
 strip_room : (end y rank gaps pitch bottom : ℕ) → y ≡ pixels (end + 5) → rank ≤ gaps + 1 → pitch ≤ 15
-    → pixels (pixels (end + pixels (pitch * gaps)) + 27) ≤ bottom → pixels (y + rank * pitch) ≤ bottom
+    → pixels (pixels (end + pixels (pitch * gaps)) + 27) ≤ bottom → pixels (y + rank * pitch + 1) ≤ bottom
 strip_room end y rank gaps pitch bottom is le small room =
     let low : rank * pitch ≤ (gaps + 1) * pitch = mul-le-mul_right pitch le in
     omega arith
@@ -58,7 +58,7 @@ fits_still old new lane same h = record {
   strip_begins = h.strip_begins;
   strip_fits = h.strip_fits;
   strip_ends = λ y prio is.
-      let P = λ (prios : List Prio). pixels (y.0 + rank_in prios prio * pitch_of (length prios)) ≤ lane.bottom.0 in
+      let P = λ (prios : List Prio). pixels (y.0 + rank_in prios prio * pitch_of (length prios) + 1) ≤ lane.bottom.0 in
       subst P (sym (ap (λ v. v.items) same)) (h.strip_ends y prio is);
 }
 

@@ -89,8 +89,8 @@ words_bytes class x y words =
 -- 3. Columns, lanes and priorities
 
 -- The scale of a picture in pixels: where its columns begin, and how wide one is; where the lane of each thread begins,
--- which ends where the next begins; where the strip of priorities of each lane begins; how many steps of a strip each
--- priority is below its begin, and how far two steps lie apart.
+-- which ends where the next begins; where the strip of priorities of each lane begins; how many places each priority is
+-- below that, and how far two places lie apart.
 pub record Scale : Type 0 where
   pub left : ℕ
   pub column : ℕ
@@ -99,7 +99,7 @@ pub record Scale : Type 0 where
   pub rank : ℕ → ℕ
   pub pitch : ℕ
 
--- a place, which stops at the greatest number of 32 bits
+-- a place, which stops at the greatest number of 32 bits: all that would lie beyond lies there
 abbrev pub pixels : ℕ → ℕ
 pixels n = min n 4294967295
 
@@ -123,10 +123,10 @@ abbrev pub row_end : Scale → Chart → ℕ → ℕ
 row_end scale chart row =
     if nat_lt row chart.last then turn_at scale chart row else right_edge scale chart
 
--- a place in the lane of a thread
+-- a place in the lane of a thread, above the begin of the next
 pub record IsInLane (scale : Scale) (t y : ℕ) : Type 0 where
   pub begins : scale.lane t ≤ y
-  pub ends : y ≤ scale.lane (t + 1)
+  pub ends : pixels (y + 1) ≤ scale.lane (t + 1)
 
 -- where a priority is in the strip of a thread
 abbrev pub prio_at : Scale → ℕ → ℕ → ℕ
@@ -136,7 +136,7 @@ prio_at scale t prio = pixels (scale.strip t + scale.rank prio * scale.pitch)
 abbrev pub IsPrioOf : ℕ → Step → Type 0
 IsPrioOf prio step = (step.effective.0 ≡ prio) ⊎ (step.base.0 ≡ prio)
 
--- 4. Names
+-- 4. Names and ends of threads
 
 -- the name of the thread that has the t-th lane stands in that lane
 pub record NameIsDrawn (plan : Plan) (scale : Scale) (picture : List ℕ) (t : ℕ) (lane : Lane)
@@ -144,6 +144,15 @@ pub record NameIsDrawn (plan : Plan) (scale : Scale) (picture : List ℕ) (t : �
   pub y : ℕ
   pub in_lane : IsInLane scale t y
   pub stands : Stands picture (words_bytes (codes "name") 24 y (thread_name plan lane.thread.0))
+
+-- a stroke stands in the t-th lane where a row begins
+pub record StopIsDrawn (chart : Chart) (scale : Scale) (picture : List ℕ) (t row : ℕ)
+    : Type 0 where
+  pub begin : ℕ
+  pub end : ℕ
+  pub begins : IsInLane scale t begin
+  pub ends : IsInLane scale t end
+  pub stands : Stands picture (line_bytes (codes "stops") (row_begin scale chart row) begin end)
 
 -- 5. Bars
 
@@ -175,19 +184,31 @@ bar_area scale chart bar top = record {
   height = bar_height bar.what;
 }
 
--- what a bar says: whose it is, what, and from which turn to which it lasts
-abbrev pub bar_title : Plan → Bar → List ℕ
-bar_title plan bar =
+-- from which turn to which a bar lasts, as far as the window shows its begin and its end
+abbrev pub lasting_words : Chart → Bar → List ℕ
+lasting_words chart bar =
+    if nat_lt chart.first bar.first
+    then (if nat_lt bar.last chart.last
+      then codes ", turn " ++ decimal (bar.first - 1) ++ codes " to " ++ decimal bar.last
+      else codes ", from turn " ++ decimal (bar.first - 1) ++ codes " on")
+    else (if nat_lt bar.last chart.last
+      then codes ", up to turn " ++ decimal bar.last
+      else codes ", throughout")
+
+-- what a bar says: whose it is, what, and how long it lasts
+abbrev pub bar_title : Plan → Chart → Bar → List ℕ
+bar_title plan chart bar =
     thread_name plan bar.thread.0 ++ codes " " ++ bar_words plan bar.what
-    ++ codes ", turn " ++ decimal (bar.first - 1) ++ codes " to " ++ decimal bar.last
+    ++ lasting_words chart bar
 
 -- the bar stands in its thread's lane
 pub record BarIsDrawn (plan : Plan) (chart : Chart) (scale : Scale) (picture : List ℕ) (bar : Bar)
     : Type 0 where
   pub top : ℕ
   pub in_lane : IsInLane scale bar.thread.0 top
+  pub ends_in_lane : pixels (top + bar_height bar.what) ≤ scale.lane (bar.thread.0 + 1)
   pub stands : Stands picture (rect_bytes (bar_class bar.what) (bar_area scale chart bar top)
-      (bar_title plan bar))
+      (bar_title plan chart bar))
 
 -- 6. Loans: steps in which a thread runs as another priority than its own
 
@@ -288,12 +309,13 @@ pub record MarkIsDrawn (plan : Plan) (chart : Chart) (scale : Scale) (picture : 
 
 -- 9. Pictures
 
--- what concerns a thread that has a lane
+-- the thread has a lane in the chart
 abbrev pub HasLane : Chart → ℕ → Type 0
 HasLane chart t = t < length chart.lanes
 
--- By one scale, on which lanes lie one below the other and the more important priority above the other, each name, bar,
--- loan, arrow and mark of a chart stands in its picture, if those whom it concerns have lanes.
+-- By one scale each name, end, bar, loan, arrow and mark of a chart stands in its picture, if those whom it concerns have
+-- lanes. A column is at least 9 wide; lanes lie one below the other, each at least 45 high; and the more important of two
+-- priorities lies at least 2 above the other. What else stands there isn't said.
 pub record Draws (plan : Plan) (chart : Chart) (picture : List ℕ) : Type 0 where
   pub scale : Scale
   pub has_width : 9 ≤ scale.column
@@ -302,6 +324,9 @@ pub record Draws (plan : Plan) (chart : Chart) (picture : List ℕ) : Type 0 whe
   pub ranks : (p q : ℕ) → p < q → Any (IsPrioOf p) chart.steps → scale.rank p < scale.rank q
   pub names : (t : ℕ) (lane : Lane) → slice_get chart.lanes t ≡ Some lane
       → NameIsDrawn plan scale picture t lane
+  pub stops : (t row : ℕ) (lane : Lane) → slice_get chart.lanes t ≡ Some lane
+      → lane.thread.0 ≡ t → lane.ended ≡ Some row → row ≤ chart.last
+      → StopIsDrawn chart scale picture t row
   pub bars : (bar : Bar) → Contains chart.bars bar → HasLane chart bar.thread.0
       → BarIsDrawn plan chart scale picture bar
   pub loans : (step : Step) → Contains chart.steps step → HasLane chart step.thread.0

@@ -68,11 +68,11 @@ pub record Fits (page : Page) (lane : Lane) : Type 0 where
   pub bottom_fits : lane.bottom.0 ≤ 4294967295
   pub has_room : pixels (lane.begin.0 + 45) ≤ lane.bottom.0
   pub bars : (level : ℕ) → level ≤ length lane.bars.levels.items - 1
-      → pixels (bar_bottom lane level + 2) ≤ lane.bottom.0
+      → pixels (bar_bottom lane level + 20) ≤ lane.bottom.0
   pub strip_begins : (y : Px) → lane.strip ≡ Some y → lane.top.0 ≤ y.0
   pub strip_fits : (y : Px) → lane.strip ≡ Some y → y.0 ≤ 4294967295
   pub strip_ends : (y : Px) (prio : ℕ) → lane.strip ≡ Some y
-      → pixels (y.0 + rank_in page.prios.items prio * pitch_of (length page.prios.items))
+      → pixels (y.0 + rank_in page.prios.items prio * pitch_of (length page.prios.items) + 1)
       ≤ lane.bottom.0
 
 -- each lane of a page has room for what stands in it, and ends where the next begins
@@ -121,7 +121,7 @@ HasBars page chart = (bar : Bar) → Contains chart.bars bar → bar.thread.0 < 
 abbrev pub IsDrawnAt : Page → List ℕ → ℕ → Bar → Type 0
 IsDrawnAt page picture top bar =
     Stands picture (rect_bytes (bar_class bar.what)
-    (bar_area (scale_of page) page.chart.now bar top) (bar_title page.plan.now bar))
+    (bar_area (scale_of page) page.chart.now bar top) (bar_title page.plan.now page.chart.now bar))
 
 -- all bars of a lane stand in the picture, those of each level, and the walks below theirs
 pub record BarsAreDrawn (page : Page) (picture : List ℕ) (lane : Lane) : Type 0 where

@@ -15,9 +15,9 @@ use Rattle.chart_svg.specs.declared.page.Page.{Page}
 abbrev pub HasPlaces : Lane → Type 0
 HasPlaces lane = (page : Page) × Fits page lane
 
--- a place from the top of a lane to its bottom
+-- a place in a lane
 abbrev pub IsWithin : Lane → ℕ → Type 0
-IsWithin lane y = (lane.top.0 ≤ y) × (y ≤ lane.bottom.0)
+IsWithin lane y = (lane.top.0 ≤ y) × (pixels (y + 1) ≤ lane.bottom.0)
 
 -- the lanes from which and to which an arrow goes are there
 abbrev pub HasEnds : Page → Arrow → Type 0

@@ -1,15 +1,15 @@
 //! The bars of a lane.
-ghost use Rattle.std.specs.Prelude.{◌≡◌, ℕ, ◌+◌, All, IfOk, OnOk};
+ghost use Rattle.std.specs.Prelude.{◌≡◌, ℕ, ◌+◌, ◌++◌, All, IfOk, OnOk};
 ghost use Rattle.chart_layout.specs.declared.layout.Bar.{Bar};
 ghost use Rattle.chart_escape.specs.Reader.{AddsElements, IsBetweenTags};
-ghost use Rattle.chart_svg.specs.Drawn.{bar_area, bar_class, bar_height, bar_title, class_bytes, pixels, Keeps};
+ghost use Rattle.chart_svg.specs.Drawn.{bar_area, bar_class, bar_height, bar_title, class_bytes, lasting_words, pixels, Keeps};
 ghost use Rattle.chart_svg.specs.Lanes.{bar_bottom, bar_top, scale_of, BarsAreDrawn, IsAt, IsDrawnAt};
 
 use crate::page::{Lane, Page};
 use crate::pixels::{Px, count, width_of};
 use crate::shapes::{Area, push_rect, push_rect_said, push_words};
 use crate::tags::Class;
-use chart_layout::{Bar, BarKind, End, Saying};
+use chart_layout::{Bar, BarKind, Chart, End, Saying};
 use chart_words::{push_bar, queue_name};
 use lock_model::{Mode, QueueName, ThreadNo, push_number};
 use std::alloc::{AllocError, Global};
@@ -85,16 +85,39 @@ fn push_walks(
 
 // What is said where a bar is pointed at: `low holds bus, turn 0 to 7`.
 fn said_of(alloc: Global, page: &Page<'_>, bar: Bar) -> Result<Vec<u8>, AllocError>
-    ensures { IfOk result (λ said. said.items ≡ bar_title page.now.plan.now bar) }
+    ensures { IfOk result (λ said. said.items ≡ bar_title page.now.plan.now page.now.chart.now bar) }
 {
     let mut said = Vec::from_slice(alloc, page.plan.thread_name(bar.thread))?;
     said.extend_from_slice(b" ")?;
     push_bar(&mut said, page.plan, bar.what)?;
-    said.extend_from_slice(b", turn")?;
-    push_number(&mut said, u64::from(bar.first.saturating_sub(1)))?;
-    said.extend_from_slice(b" to")?;
-    push_number(&mut said, u64::from(bar.last))?;
+    push_lasting(&mut said, page.chart, bar)?;
     Ok(said)
+}
+
+// How long a bar lasts, as far as the window shows its begin and its end.
+fn push_lasting(out: &mut Vec<u8>, chart: &Chart, bar: Bar) -> Result<(), AllocError>
+    ensures { OnOk result (out.new.items ≡ out.old.items ++ lasting_words chart.now bar) }
+{
+    let begin = u64::from(bar.first.saturating_sub(1));
+    let end = u64::from(bar.last);
+    match (chart.first < bar.first, bar.last < chart.last) {
+        (true, true) => {
+            out.extend_from_slice(b", turn")?;
+            push_number(out, begin)?;
+            out.extend_from_slice(b" to")?;
+            push_number(out, end)
+        }
+        (true, false) => {
+            out.extend_from_slice(b", from turn")?;
+            push_number(out, begin)?;
+            out.extend_from_slice(b" on")
+        }
+        (false, true) => {
+            out.extend_from_slice(b", up to turn")?;
+            push_number(out, end)
+        }
+        (false, false) => out.extend_from_slice(b", throughout"),
+    }
 }
 
 fn push_one(
