@@ -2,7 +2,6 @@
 use Rattle.std.proofs.Common.{ℕ, zero, suc, ◌+◌, ◌*◌, ◌≤◌, ◌≡◌, ◌∙◌, ◌<◌, inl, inr, take, get_or, length, ap, subst, arith, List, All}
 use Rattle.std.proofs.lemmas.Bool.{cases_lt}
 use Rattle.chart_layout.specs.declared.layout.Bar.{Bar}
-use Rattle.chart_layout.specs.declared.layout.Step.{Step}
 use Rattle.chart_svg.proofs.Standing.{all_still, drawn_more, IsKept}
 use Rattle.chart_svg.specs.Drawn.{pixels, rect_bytes, Keeps, Stands}
 use Rattle.chart_svg.specs.Lanes.{bar_bottom, bar_top, BarsAreDrawn, IsDrawnAt, IsLentAt, LoansAreDrawn}

@@ -1,5 +1,5 @@
 -- Arrows, marks and names are drawn in the lanes of their threads.
-use Rattle.std.proofs.Common.{ℕ, ◌+◌, ◌<◌, ◌≤◌, ◌≡◌, ◌∙◌, ◌++◌, inl, inr, arith, ap, sym, subst, get_or, take, nat_lt, if◌then◌else◌, length, List, [], ◌∷◌, Option, Some, slice_get, codes, All}
+use Rattle.std.proofs.Common.{ℕ, ◌+◌, ◌<◌, ◌≡◌, ◌∙◌, ◌++◌, inl, inr, arith, ap, sym, subst, get_or, take, nat_lt, if◌then◌else◌, length, List, [], ◌∷◌, Option, Some, slice_get, codes, All}
 use Rattle.std.proofs.lemmas.List.Elements.{All-contains, All-push, All-weaker, Contains-append_left, Contains-push}
 use Rattle.std.proofs.lemmas.Option.{slice_get_cases, slice_get_within}
 use Rattle.chart_layout.specs.declared.layout.Arrow.{Arrow}
