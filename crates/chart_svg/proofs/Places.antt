@@ -4,9 +4,11 @@ use Rattle.std.specs.Prelude.{slice_get, Any}
 use Rattle.std.proofs.lemmas.List.Elements.{All-contains}
 use Rattle.std.proofs.lemmas.Option.{get_or_from_slice_get, slice_get_cases, slice_get_within}
 use Rattle.chart_layout.specs.declared.layout.Bar.{Bar}
+use Rattle.chart_layout.specs.declared.layout.BarKind.{BarKind}
+use Rattle.chart_layout.specs.declared.layout.BarKind.TheVariants as bars
 use Rattle.chart_layout.specs.declared.layout.Step.{Step}
 use Rattle.chart_svg.proofs.Ranks.{rank-lt}
-use Rattle.chart_svg.specs.Drawn.{pixels, BarIsDrawn, HasLane, IsInLane, IsPrioOf, LoanIsDrawn}
+use Rattle.chart_svg.specs.Drawn.{bar_height, pixels, BarIsDrawn, HasLane, IsInLane, IsPrioOf, LoanIsDrawn}
 use Rattle.chart_svg.specs.Lanes.{bar_bottom, bar_top, begin_of, lane_top, pitch_of, rank_in, scale_of, strip_of, top_of, BarsAreDrawn, Fits, HasBars, HasLanes, HasPrios, HasRoom, HasSteps, IsDrawnAt, IsLentAt, LoansAreDrawn}
 use Rattle.chart_svg.specs.declared.page.Lane.{Lane}
 use Rattle.chart_svg.specs.declared.page.Page.{Page}
@@ -47,6 +49,23 @@ ranks_apart page has p q lt (k, step, within, is, which) =
 
 -- 2. Bars
 
+low : (what : BarKind) → bar_height what ≤ 18
+low (bars.Holds l mode) = omega arith
+low (bars.Waits q) = omega arith
+low (bars.TakenOff q) = omega arith
+low (bars.Woken q) = omega arith
+low bars.Walks = omega arith
+
+-- what stands there with room for a bar
+bar_drawn : (page : Page) (picture : List ℕ) (lane : Lane) (bar : Bar) (top : ℕ) → HasRoom page → slice_get page.lanes.items bar.thread.0 ≡ Some lane
+    → lane.top.0 ≤ top → pixels (top + 18) ≤ lane.bottom.0 → IsDrawnAt page picture top bar → BarIsDrawn page.plan.now page.chart.now (scale_of page) picture bar
+bar_drawn page picture lane bar top room is begins ends stands = record {
+  top = top;
+  in_lane = in_lane page bar.thread.0 lane top room is begins (omega arith);
+  ends_in_lane = omega (arith, room.ends bar.thread.0 lane is, low bar.what);
+  stands = stands;
+}
+
 pub bars_drawn : (page : Page) (picture : List ℕ) → HasRoom page → HasBars page page.chart.now → All (BarsAreDrawn page picture) page.lanes.items
     → (bar : Bar) → Contains page.chart.now.bars bar → HasLane page.chart.now bar.thread.0 → BarIsDrawn page.plan.now page.chart.now (scale_of page) picture bar
 bars_drawn page picture room has drawn bar in_chart lt =
@@ -56,17 +75,10 @@ bars_drawn page picture room has drawn bar in_chart lt =
     elim of.has [
       | inl (level, at) ↦ (let within : level < length of.lane.bars.levels.items = at.within in
           let below : pixels (bar_bottom of.lane level + 20) ≤ of.lane.bottom.0 = fit.bars level (omega arith) in
-          record {
-            top = bar_top of.lane level;
-            in_lane = in_lane page bar.thread.0 of.lane (bar_top of.lane level) room of.is (omega (arith, fit.begins, fit.begin_fits)) (omega (arith, fit.bottom_fits));
-            stands = lane.levels level bar at;
-          })
+          bar_drawn page picture of.lane bar (bar_top of.lane level) room of.is (omega (arith, fit.begins, fit.begin_fits)) (omega arith) (lane.levels level bar at))
       | inr (level, reached, walk) ↦ (let below : pixels (bar_bottom of.lane level + 20) ≤ of.lane.bottom.0 = fit.bars level reached in
-          record {
-            top = pixels (bar_bottom of.lane level + 2);
-            in_lane = in_lane page bar.thread.0 of.lane (pixels (bar_bottom of.lane level + 2)) room of.is (omega (arith, fit.begins, fit.begin_fits)) below;
-            stands = All-contains (λ w. IsDrawnAt page picture (pixels (bar_bottom of.lane w.1 + 2)) w.0) of.lane.bars.walks.items (bar, level) lane.walks walk;
-          })
+          bar_drawn page picture of.lane bar (pixels (bar_bottom of.lane level + 2)) room of.is (omega (arith, fit.begins, fit.begin_fits)) (omega arith)
+          (All-contains (λ w. IsDrawnAt page picture (pixels (bar_bottom of.lane w.1 + 2)) w.0) of.lane.bars.walks.items (bar, level) lane.walks walk))
     ]
 
 -- 3. Loans
