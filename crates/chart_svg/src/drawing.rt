@@ -67,5 +67,5 @@ fn push_lanes(alloc: Global, out: &mut Vec<u8>, page: &Page<'_>) -> Result<(), A
     push_strip_words(alloc, out, page)?;
     push_arrow_heads(alloc, out, page, &placed)?;
     push_marks(alloc, out, page)?;
-    push_reasons(out, page)
+    push_reasons(alloc, out, page)
 }

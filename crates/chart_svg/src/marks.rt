@@ -57,28 +57,28 @@ fn push_in_lane(
 {
     let x = page.turn_at(mark.turn);
     push_shape(alloc, out, page, mark, (x, lane.marks()))?;
-    push_own_words(alloc, out, page, mark.what, (x, lane.words()))
+    push_own_words(alloc, out, page, mark, (x, lane.words()))
 }
 
-// The words of a mark, where there is room for words.
+// The words of a mark, where there is room for words, and where they don't stand before its reason.
 fn push_own_words(
     alloc: Global,
     out: &mut Vec<u8>,
     page: &Page<'_>,
-    what: MarkKind,
+    mark: Mark,
     at: (Px, Px),
 ) -> Result<(), AllocError>
     requires { IsBetweenTags out.old.items }
     ensures whole { OnOk result (AddsElements out.old.items out.new.items) }
     ensures keeps { OnOk result (Keeps out.old.items out.new.items) }
 {
-    if !page.has_words {
+    if !page.has_words || page.has_reason(mark) {
         return Ok(());
     }
     let mut words = Vec::new(alloc);
-    push_mark(&mut words, page.plan, what)?;
+    push_mark(&mut words, page.plan, mark.what)?;
     let fitting = fitting(&words, page.column);
-    push_words(out, word_class(what), at.0, at.1, fitting)
+    push_words(out, word_class(mark.what), at.0, at.1, fitting)
 }
 
 // A mark without its words.
@@ -156,8 +156,8 @@ fn push_own_note(out: &mut Vec<u8>, page: &Page<'_>, what: MarkKind) -> Result<(
     }
 }
 
-/// Pushes why something was refused, or that nobody heard it, above the words of its mark.
-pub fn push_reasons(out: &mut Vec<u8>, page: &Page<'_>) -> Result<(), AllocError>
+/// Pushes the words of refusals, each with its reason, above the words of other marks.
+pub fn push_reasons(alloc: Global, out: &mut Vec<u8>, page: &Page<'_>) -> Result<(), AllocError>
     requires { IsBetweenTags out.old.items }
     ensures whole { OnOk result (AddsElements out.old.items out.new.items) }
     ensures keeps { OnOk result (Keeps out.old.items out.new.items) }
@@ -165,15 +165,19 @@ pub fn push_reasons(out: &mut Vec<u8>, page: &Page<'_>) -> Result<(), AllocError
     for mark in &page.reasons {
         if let Some(lane) = page.lane_of(mark.thread) {
             let (x, y) = (page.turn_at(mark.turn), lane.begin.minus(1));
-            push_words(out, Class::of("no"), x, y, reason(mark.what))?;
+            push_words(out, Class::of("no"), x, y, &reason_words(alloc, page, *mark)?)?;
         }
     }
     Ok(())
 }
 
-fn reason(what: MarkKind) -> &'static [u8] {
-    match what {
-        MarkKind::Noted(Event::Reversed { .. }) => b"it would close a circle",
-        MarkKind::Noted(_) | MarkKind::Did(_) | MarkKind::Idle => b"nobody sleeps there: lost",
-    }
+// What was refused, and why: `refused fork1: it would close a circle`.
+fn reason_words(alloc: Global, page: &Page<'_>, mark: Mark) -> Result<Vec<u8>, AllocError> {
+    let mut words = Vec::new(alloc);
+    push_mark(&mut words, page.plan, mark.what)?;
+    words.extend_from_slice(match mark.what {
+        MarkKind::Noted(Event::Reversed { .. }) => b": it would close a circle",
+        MarkKind::Noted(_) | MarkKind::Did(_) | MarkKind::Idle => b": lost, nobody sleeps there",
+    })?;
+    Ok(words)
 }

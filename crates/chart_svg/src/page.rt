@@ -32,7 +32,7 @@ pub struct Page<'c> {
     pub lanes: Vec<Lane>,
     /// The priorities that occur, the most important first.
     pub prios: Vec<Prio>,
-    /// The refusals whose reason stands above their words, by turn.
+    /// The refusals whose words have their reason with them, and stand above those of other marks, by turn.
     pub reasons: Vec<Mark>,
 }
 
@@ -216,6 +216,11 @@ impl<'c> Page<'c> {
         self.lanes.get(usize::from(t.0))
     }
 
+    /// Whether the words of a mark have their reason with them.
+    pub fn has_reason(&self, mark: Mark) -> bool {
+        self.reasons.iter().any(|other| *other == mark)
+    }
+
     /// What is said of a turn.
     pub fn sentence_at(&self, turn: u32) -> Option<&'c Sentence> {
         let sentences = self.chart.sentences.as_slice();
@@ -392,7 +397,7 @@ fn reasons_of(alloc: Global, marks: &[Mark], column: u32) -> Result<Vec<Mark>, A
 fn is_near(reasons: &[Mark], mark: Mark, column: u32) -> bool {
     reasons.iter().any(|other| {
         let turns = mark.turn.saturating_sub(other.turn);
-        other.thread == mark.thread && turns.saturating_mul(column) < 150
+        other.thread == mark.thread && turns.saturating_mul(column) < 250
     })
 }
 
