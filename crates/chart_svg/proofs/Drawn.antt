@@ -1,11 +1,11 @@
 -- What is drawn of the lanes of a page stands still when more is put behind it.
-use Rattle.std.proofs.Common.{ℕ, zero, suc, ◌+◌, ◌*◌, ◌≤◌, ◌≡◌, ◌∙◌, ◌<◌, inl, inr, take, get_or, length, ap, subst, arith, List, All}
+use Rattle.std.proofs.Common.{ℕ, zero, suc, ◌+◌, ◌*◌, ◌≤◌, ◌≡◌, ◌∙◌, ◌<◌, inl, inr, take, get_or, length, ap, subst, arith, List, All, Option, Some, None}
 use Rattle.std.proofs.lemmas.Bool.{cases_lt}
 use Rattle.chart_layout.specs.declared.layout.Bar.{Bar}
 use Rattle.chart_svg.proofs.Standing.{all_still, drawn_more, IsKept}
 use Rattle.chart_svg.specs.Drawn.{pixels, rect_bytes, Keeps, Stands}
 use Rattle.chart_svg.specs.Lanes.{bar_bottom, bar_top, BarsAreDrawn, IsDrawnAt, IsLentAt, LoansAreDrawn}
-use Rattle.chart_svg.specs.Pages.{ArrowIsOn, HeadIsDrawn, LineIsDrawn, MarkIsOn, NameIsOn}
+use Rattle.chart_svg.specs.Pages.{stop_at, ArrowIsOn, FrameIsOn, HeadIsDrawn, LineIsDrawn, MarkIsOn, StopsAt}
 use Rattle.chart_svg.specs.declared.page.Lane.{Lane}
 use Rattle.chart_svg.specs.declared.page.Page.{Page}
 use Rattle.chart_svg.specs.declared.shapes.Area.{Area}
@@ -56,8 +56,15 @@ line_kept page old new one keeps = keeps _
 pub head_kept : (page : Page) → IsKept (HeadIsDrawn page)
 head_kept page old new one keeps = keeps _
 
-pub name_kept : (page : Page) → IsKept (NameIsOn page)
-name_kept page old new lane keeps = keeps _
+stop_kept : (lane : Lane) (at : Option ℕ) (old new : List ℕ) → Keeps old new → StopsAt old lane at → StopsAt new lane at
+stop_kept lane None old new keeps was = was
+stop_kept lane (Some x) old new keeps was = keeps _ was
+
+pub frame_kept : (page : Page) → IsKept (FrameIsOn page)
+frame_kept page old new lane keeps was = record {
+  name = keeps _ was.name;
+  stop = stop_kept lane (stop_at page lane.thread.0) old new keeps was.stop;
+}
 
 pub arrow_kept : (page : Page) → IsKept (ArrowIsOn page)
 arrow_kept page old new arrow keeps was ends =

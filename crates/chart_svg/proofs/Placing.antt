@@ -1,5 +1,6 @@
--- Arrows, marks and names are drawn in the lanes of their threads.
-use Rattle.std.proofs.Common.{ℕ, ◌+◌, ◌<◌, ◌≡◌, ◌∙◌, ◌++◌, inl, inr, arith, ap, sym, subst, get_or, take, nat_lt, if◌then◌else◌, length, List, [], ◌∷◌, Option, Some, slice_get, codes, All}
+-- Arrows, marks, and the names and ends of threads are drawn in the lanes of these.
+use Rattle.std.proofs.Common.{ℕ, ◌+◌, ◌<◌, ◌≤◌, ◌≡◌, ◌∙◌, ◌++◌, inl, inr, arith, ap, sym, subst, get_or, take, nat_lt, if◌then◌else◌, length, List, [], ◌∷◌, Option, Some, None, false, slice_get, codes, All}
+use Rattle.std.proofs.lemmas.Bool.{le-ltb}
 use Rattle.std.proofs.lemmas.List.Elements.{All-contains, All-push, All-weaker, Contains-append_left, Contains-push}
 use Rattle.std.proofs.lemmas.Option.{slice_get_cases, slice_get_within}
 use Rattle.chart_layout.specs.declared.layout.Arrow.{Arrow}
@@ -8,9 +9,9 @@ use Rattle.lock_model.specs.Plans.{thread_name}
 use Rattle.lock_model.specs.declared.numbers.ThreadNo.{ThreadNo}
 use Rattle.chart_svg.proofs.Places.{among, in_lane}
 use Rattle.chart_svg.proofs.Standing.{all_more, told}
-use Rattle.chart_svg.specs.Drawn.{arrow_title, figure_bytes, head_class, head_figure, pixels, turn_at, words_bytes, ArrowIsDrawn, HasLane, NameIsDrawn}
+use Rattle.chart_svg.specs.Drawn.{arrow_title, figure_bytes, head_class, head_figure, pixels, row_begin, turn_at, words_bytes, ArrowIsDrawn, HasLane, NameIsDrawn, StopIsDrawn}
 use Rattle.chart_svg.specs.Lanes.{scale_of, top_of, Fits, HasLanes, HasRoom}
-use Rattle.chart_svg.specs.Pages.{ArrowIsOn, HasEnds, HeadIsDrawn, IsAmong, IsPlaced, LineIsDrawn, NameIsOn}
+use Rattle.chart_svg.specs.Pages.{ArrowIsOn, HasEnds, HeadIsDrawn, IsAmong, IsPlaced, LineIsDrawn, begin_in, row_of, stop_at, FrameIsOn, StopsAt}
 use Rattle.chart_svg.specs.declared.arrows.Placed.{Placed}
 use Rattle.chart_svg.specs.declared.page.Lane.{Lane}
 use Rattle.chart_svg.specs.declared.page.Page.{Page}
@@ -75,19 +76,45 @@ arrows_drawn page picture placed arrows among all lines heads =
     (All-contains (LineIsDrawn page picture) placed h.0 lines h.1) (All-contains (HeadIsDrawn page picture) placed h.0 heads h.1))
     arrows among
 
--- 3. Names
+-- 3. Names and ends of threads
 
-pub names_drawn : (page : Page) (picture : List ℕ) → HasRoom page → HasLanes page page.chart.now → All (NameIsOn page picture) page.lanes.items
+pub names_drawn : (page : Page) (picture : List ℕ) → HasRoom page → HasLanes page page.chart.now → All (FrameIsOn page picture) page.lanes.items
     → (t : ℕ) (lane : ChartLane) → slice_get page.chart.now.lanes t ≡ Some lane → NameIsDrawn page.plan.now (scale_of page) picture t lane
 names_drawn page picture room has drawn t lane is =
     let of = has t lane is in
     let y = pixels (pixels (of.lane.begin.0 + 36) + 4) in
     let fit : Fits page of.lane = room.fits t of.lane of.is in
-    let stands : NameIsOn page picture of.lane = All-contains (NameIsOn page picture) page.lanes.items of.lane drawn (among page.lanes.items t of.lane of.is) in
+    let frame : FrameIsOn page picture of.lane = All-contains (FrameIsOn page picture) page.lanes.items of.lane drawn (among page.lanes.items t of.lane of.is) in
     record {
       y = y;
       in_lane = in_lane page t of.lane y room of.is (omega (arith, fit.begins, fit.begin_fits)) (omega (arith, fit.has_room));
-      stands = told picture _ _ (ap (λ (thread : ThreadNo). words_bytes (codes "name") 24 y (thread_name page.plan.now thread.0)) of.has) stands;
+      stands = told picture _ _ (ap (λ (thread : ThreadNo). words_bytes (codes "name") 24 y (thread_name page.plan.now thread.0)) of.has) frame.name;
+    }
+
+stop_told : (page : Page) (t row : ℕ) (own : ThreadNo) (lane : ChartLane) → slice_get page.chart.now.lanes t ≡ Some lane → own ≡ lane.thread → lane.thread.0 ≡ t
+    → lane.ended ≡ Some row → row ≤ page.chart.now.last → stop_at page own.0 ≡ Some (row_begin (scale_of page) page.chart.now row)
+stop_told page t row own lane is same thread ended within =
+    let scale = scale_of page in
+    let chart = page.chart.now in
+    let late : nat_lt chart.last row ≡ false = le-ltb chart.last row within in
+    ap (λ (n : ThreadNo). stop_at page n.0) same ∙ ap (stop_at page) thread
+    ∙ ap (λ o. begin_in scale chart (row_of o)) is ∙ ap (begin_in scale chart) ended
+    ∙ ap (λ b. if b then None else Some (row_begin scale chart row)) late
+
+pub stops_drawn : (page : Page) (picture : List ℕ) → HasRoom page → HasLanes page page.chart.now → All (FrameIsOn page picture) page.lanes.items
+    → (t row : ℕ) (lane : ChartLane) → slice_get page.chart.now.lanes t ≡ Some lane → lane.thread.0 ≡ t → lane.ended ≡ Some row → row ≤ page.chart.now.last
+    → StopIsDrawn page.chart.now (scale_of page) picture t row
+stops_drawn page picture room has drawn t row lane is thread ended within =
+    let of = has t lane is in
+    let fit : Fits page of.lane = room.fits t of.lane of.is in
+    let frame : FrameIsOn page picture of.lane = All-contains (FrameIsOn page picture) page.lanes.items of.lane drawn (among page.lanes.items t of.lane of.is) in
+    let P : Option ℕ → Type 0 = λ at. StopsAt picture of.lane at in
+    record {
+      begin = pixels (of.lane.begin.0 + 25);
+      end = pixels (of.lane.begin.0 + 47);
+      begins = in_lane page t of.lane (pixels (of.lane.begin.0 + 25)) room of.is (omega (arith, fit.begins, fit.begin_fits)) (omega (arith, fit.has_room));
+      ends = in_lane page t of.lane (pixels (of.lane.begin.0 + 47)) room of.is (omega (arith, fit.begins, fit.begin_fits)) (omega (arith, fit.has_room));
+      stands = subst P (stop_told page t row of.lane.thread lane is of.has thread ended within) frame.stop;
     }
 
 -- 4. Lanes

@@ -1,4 +1,4 @@
--- Where the names, bars, loans, arrows and marks of a chart stand in its picture.
+-- Where the names of threads and their ends, bars, loans, arrows and marks of a chart stand in its picture.
 use Rattle.std.specs.Prelude.{◌≡◌, ◌≢◌, ◌⊎◌, ℕ, ◌+◌, ◌-◌, ◌*◌, ◌/◌, ◌<◌, ◌≤◌, nat_lt, min, max, if◌then◌else◌, Any, List, [], ◌∷◌, ◌++◌, length, slice_get, Some, codes, decimal, Contains}
 use Rattle.chart_escape.specs.Markup.{escaped}
 use Rattle.chart_escape.specs.Pieces.{piece_bytes}
@@ -136,7 +136,7 @@ prio_at scale t prio = pixels (scale.strip t + scale.rank prio * scale.pitch)
 abbrev pub IsPrioOf : ℕ → Step → Type 0
 IsPrioOf prio step = (step.effective.0 ≡ prio) ⊎ (step.base.0 ≡ prio)
 
--- 4. Names
+-- 4. Names and ends of threads
 
 -- the name of the thread that has the t-th lane stands in that lane
 pub record NameIsDrawn (plan : Plan) (scale : Scale) (picture : List ℕ) (t : ℕ) (lane : Lane)
@@ -144,6 +144,15 @@ pub record NameIsDrawn (plan : Plan) (scale : Scale) (picture : List ℕ) (t : �
   pub y : ℕ
   pub in_lane : IsInLane scale t y
   pub stands : Stands picture (words_bytes (codes "name") 24 y (thread_name plan lane.thread.0))
+
+-- a stroke stands in the t-th lane where the row begins
+pub record StopIsDrawn (chart : Chart) (scale : Scale) (picture : List ℕ) (t row : ℕ)
+    : Type 0 where
+  pub begin : ℕ
+  pub end : ℕ
+  pub begins : IsInLane scale t begin
+  pub ends : IsInLane scale t end
+  pub stands : Stands picture (line_bytes (codes "stops") (row_begin scale chart row) begin end)
 
 -- 5. Bars
 
@@ -304,7 +313,7 @@ pub record MarkIsDrawn (plan : Plan) (chart : Chart) (scale : Scale) (picture : 
 abbrev pub HasLane : Chart → ℕ → Type 0
 HasLane chart t = t < length chart.lanes
 
--- By one scale each name, bar, loan, arrow and mark of a chart stands in its picture, if those whom it concerns have
+-- By one scale each name, end, bar, loan, arrow and mark of a chart stands in its picture, if those whom it concerns have
 -- lanes. A column is at least 9 wide; lanes lie one below the other, each at least 45 high; and the more important of two
 -- priorities lies at least 2 above the other. What else stands there isn't said.
 pub record Draws (plan : Plan) (chart : Chart) (picture : List ℕ) : Type 0 where
@@ -315,6 +324,9 @@ pub record Draws (plan : Plan) (chart : Chart) (picture : List ℕ) : Type 0 whe
   pub ranks : (p q : ℕ) → p < q → Any (IsPrioOf p) chart.steps → scale.rank p < scale.rank q
   pub names : (t : ℕ) (lane : Lane) → slice_get chart.lanes t ≡ Some lane
       → NameIsDrawn plan scale picture t lane
+  pub stops : (t row : ℕ) (lane : Lane) → slice_get chart.lanes t ≡ Some lane
+      → lane.thread.0 ≡ t → lane.ended ≡ Some row → row ≤ chart.last
+      → StopIsDrawn chart scale picture t row
   pub bars : (bar : Bar) → Contains chart.bars bar → HasLane chart bar.thread.0
       → BarIsDrawn plan chart scale picture bar
   pub loans : (step : Step) → Contains chart.steps step → HasLane chart step.thread.0

@@ -66,7 +66,7 @@ pub record Fits (page : Page) (lane : Lane) : Type 0 where
   pub begins : lane.top.0 ≤ lane.begin.0
   pub begin_fits : lane.begin.0 ≤ 4294967295
   pub bottom_fits : lane.bottom.0 ≤ 4294967295
-  pub has_room : pixels (lane.begin.0 + 45) ≤ lane.bottom.0
+  pub has_room : pixels (lane.begin.0 + 48) ≤ lane.bottom.0
   pub bars : (level : ℕ) → level ≤ length lane.bars.levels.items - 1
       → pixels (bar_bottom lane level + 20) ≤ lane.bottom.0
   pub strip_begins : (y : Px) → lane.strip ≡ Some y → lane.top.0 ≤ y.0

@@ -1,9 +1,11 @@
--- What is drawn of a page: its arrows, marks and names.
-use Rattle.std.specs.Prelude.{◌≡◌, ℕ, ◌+◌, ◌<◌, ◌≤◌, List, length, codes, All, Contains}
+-- What is drawn of a page: its arrows and marks, and the names and ends of its threads.
+use Rattle.std.specs.Prelude.{◌≡◌, ⊤, ℕ, ◌+◌, ◌<◌, ◌≤◌, nat_lt, if◌then◌else◌, List, length, slice_get, codes, All, Contains, Option, Some, None}
 use Rattle.chart_layout.specs.declared.layout.Arrow.{Arrow}
+use Rattle.chart_layout.specs.declared.layout.Chart.{Chart}
+use Rattle.chart_layout.specs.declared.layout.Lane.{Lane as ChartLane}
 use Rattle.chart_layout.specs.declared.layout.Mark.{Mark}
 use Rattle.lock_model.specs.Plans.{thread_name}
-use Rattle.chart_svg.specs.Drawn.{arrow_title, figure_bytes, head_class, head_figure, line_bytes, line_class, pixels, turn_at, words_bytes, ArrowIsDrawn, IsInLane, MarkIsDrawn, Stands}
+use Rattle.chart_svg.specs.Drawn.{arrow_title, figure_bytes, head_class, head_figure, line_bytes, line_class, pixels, row_begin, turn_at, words_bytes, ArrowIsDrawn, IsInLane, MarkIsDrawn, Scale, Stands}
 use Rattle.chart_svg.specs.Lanes.{scale_of, BarsAreDrawn, Fits, LoansAreDrawn}
 use Rattle.chart_svg.specs.declared.arrows.Placed.{Placed}
 use Rattle.chart_svg.specs.declared.page.Lane.{Lane}
@@ -68,9 +70,36 @@ pub record LanesAreDrawn (page : Page) (picture : List ℕ) : Type 0 where
   pub arrows : All (ArrowIsOn page picture) page.chart.now.arrows
   pub marks : All (MarkIsOn page picture) page.chart.now.marks
 
--- 4. Names
+-- 4. Names and ends of threads
 
 -- the name of a lane's thread stands beside its line
 abbrev pub NameIsOn : Page → List ℕ → Lane → Type 0
 NameIsOn page picture lane = Stands picture (words_bytes (codes "name") 24
     (pixels (pixels (lane.begin.0 + 36) + 4)) (thread_name page.plan.now lane.thread.0))
+
+-- the row in which a lane of a chart ends, if it does
+abbrev pub row_of : Option ChartLane → Option ℕ
+row_of None = None
+row_of (Some lane) = lane.ended
+
+-- where a row begins that is in the window
+abbrev pub begin_in : Scale → Chart → Option ℕ → Option ℕ
+begin_in scale chart None = None
+begin_in scale chart (Some row) =
+    if nat_lt chart.last row then None else Some (row_begin scale chart row)
+
+-- where the line of a thread stops, if that is on the page
+abbrev pub stop_at : Page → ℕ → Option ℕ
+stop_at page t =
+    begin_in (scale_of page) page.chart.now (row_of (slice_get page.chart.now.lanes t))
+
+-- the line stops there by a stroke from 11 above it to 11 below
+abbrev pub StopsAt : List ℕ → Lane → Option ℕ → Type 0
+StopsAt picture lane None = ⊤
+StopsAt picture lane (Some x) = Stands picture
+    (line_bytes (codes "stops") x (pixels (lane.begin.0 + 25)) (pixels (lane.begin.0 + 47)))
+
+-- the name of a lane's thread and the end of its line
+pub record FrameIsOn (page : Page) (picture : List ℕ) (lane : Lane) : Type 0 where
+  pub name : NameIsOn page picture lane
+  pub stop : StopsAt picture lane (stop_at page lane.thread.0)

@@ -1,8 +1,8 @@
 //! What stands round the lanes: the begin of the file, the names of the threads and the numbers of the turns.
-ghost use Rattle.std.specs.Prelude.{◌≡◌, ◌<◌, ◌∷◌, true, All, OnOk};
+ghost use Rattle.std.specs.Prelude.{◌≡◌, ◌<◌, ◌∷◌, true, option_map, Some, All, OnOk};
 ghost use Rattle.chart_escape.specs.Reader.{at, is_in_tag, read, AddsElements, Between, InText, IsBetweenTags};
 ghost use Rattle.chart_svg.specs.Drawn.{Keeps};
-ghost use Rattle.chart_svg.specs.Pages.{NameIsOn};
+ghost use Rattle.chart_svg.specs.Pages.{stop_at, FrameIsOn, NameIsOn, StopsAt};
 ghost use Rattle.chart_svg.specs.Tags.{picture};
 
 use crate::page::{Lane, Page};
@@ -99,7 +99,7 @@ pub fn push_frame(alloc: Global, out: &mut Vec<u8>, page: &Page<'_>) -> Result<(
     requires { IsBetweenTags out.old.items }
     ensures whole { OnOk result (AddsElements out.old.items out.new.items) }
     ensures keeps { OnOk result (Keeps out.old.items out.new.items) }
-    ensures names { OnOk result (All (NameIsOn page.now out.new.items) page.now.lanes.items) }
+    ensures lanes { OnOk result (All (FrameIsOn page.now out.new.items) page.now.lanes.items) }
 {
     push_zebra(out, page)?;
     push_axis(out, page)?;
@@ -186,28 +186,56 @@ fn push_lane(
     ensures whole { OnOk result (AddsElements out.old.items out.new.items) }
     ensures keeps { OnOk result (Keeps out.old.items out.new.items) }
     ensures name { OnOk result (NameIsOn page.now out.new.items lane.now) }
+    ensures stop { OnOk result (StopsAt out.new.items lane.now (stop_at page.now lane.now.thread.0)) }
+{
+    push_name(alloc, out, page, lane)?;
+    push_own_line(out, page, lane)
+}
+
+fn push_name(
+    alloc: Global,
+    out: &mut Vec<u8>,
+    page: &Page<'_>,
+    lane: &Lane,
+) -> Result<(), AllocError>
+    requires { IsBetweenTags out.old.items }
+    ensures whole { OnOk result (AddsElements out.old.items out.new.items) }
+    ensures keeps { OnOk result (Keeps out.old.items out.new.items) }
+    ensures name { OnOk result (NameIsOn page.now out.new.items lane.now) }
 {
     let t = lane.thread;
     let name = page.plan.thread_name(t);
     push_words(out, Class::of("name"), Px(24), lane.line().plus(4), name)?;
-    push_priority(alloc, out, page, t, lane.line().plus(20))?;
-    push_own_line(out, page, t, lane.line())
+    push_priority(alloc, out, page, t, lane.line().plus(20))
 }
 
-// The line of a thread, to its end.
-fn push_own_line(out: &mut Vec<u8>, page: &Page<'_>, t: ThreadNo, y: Px) -> Result<(), AllocError>
+// The line of a lane's thread, to its end.
+fn push_own_line(out: &mut Vec<u8>, page: &Page<'_>, lane: &Lane) -> Result<(), AllocError>
     requires { IsBetweenTags out.old.items }
     ensures whole { OnOk result (AddsElements out.old.items out.new.items) }
     ensures keeps { OnOk result (Keeps out.old.items out.new.items) }
+    ensures stop { OnOk result (StopsAt out.new.items lane.now (stop_at page.now lane.now.thread.0)) }
 {
-    let end = end_of(page, t);
-    let right = end.unwrap_or(page.right());
-    push_line(out, Class::of("line"), (page.left, y), (right, y))?;
-    if let Some(x) = end {
-        push_line(out, Class::of("stops"), (x, y.minus(11)), (x, y.plus(11)))?;
-        push_words(out, Class::of("gray"), x.plus(5), y.plus(4), b"done")?;
+    let y = lane.line();
+    match end_of(page, lane.thread) {
+        Some(x) => {
+            push_line(out, Class::of("line"), (page.left, y), (x, y))?;
+            push_stop(out, x, lane)
+        }
+        None => push_line(out, Class::of("line"), (page.left, y), (page.right(), y)),
     }
-    Ok(())
+}
+
+// A stroke across the line, and a word.
+fn push_stop(out: &mut Vec<u8>, x: Px, lane: &Lane) -> Result<(), AllocError>
+    requires { IsBetweenTags out.old.items }
+    ensures whole { OnOk result (AddsElements out.old.items out.new.items) }
+    ensures keeps { OnOk result (Keeps out.old.items out.new.items) }
+    ensures stands { OnOk result (StopsAt out.new.items lane.now (Some x.0)) }
+{
+    push_words(out, Class::of("gray"), x.plus(5), lane.line().plus(4), b"done")?;
+    let (begin, end) = (lane.begin.plus(25), lane.begin.plus(47));
+    push_line(out, Class::of("stops"), (x, begin), (x, end))
 }
 
 // Below the first lane's priority: which of two goes first.
@@ -229,7 +257,9 @@ fn push_hint(out: &mut Vec<u8>, page: &Page<'_>) -> Result<(), AllocError>
 }
 
 /// Where a thread came to its end, where that is on the page.
-pub fn end_of(page: &Page<'_>, t: ThreadNo) -> Option<Px> {
+pub fn end_of(page: &Page<'_>, t: ThreadNo) -> Option<Px>
+    ensures { option_map (λ x. x.0) result ≡ stop_at page.now t.0 }
+{
     let lane = page.chart.lanes.as_slice().get(usize::from(t.0))?;
     let row = lane.ended?;
     if row > page.chart.last {
