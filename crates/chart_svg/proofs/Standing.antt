@@ -1,20 +1,13 @@
 -- What stands in a text stands there still when more is put behind it.
-use Rattle.std.proofs.Common.{ℕ, ◌+◌, ◌<◌, ◌≤◌, length, take, get_or, subst, ◌≡◌, ◌∙◌, ◌++◌, ap, sym, refl, List, [], ◌∷◌, append_assoc, append-nil, Some, None, Option, Bor, All, codes}
+use Rattle.std.proofs.Common.{ℕ, ◌+◌, ◌<◌, ◌≤◌, length, take, get_or, subst, ◌≡◌, ◌∙◌, ◌++◌, ap, refl, sym, List, [], append_assoc, append-nil, All, codes, decimal}
+use Rattle.std.specs.Fmt.{digits}
 use Rattle.std.proofs.lemmas.List.Elements.{All-more, All-same, All-weaker}
 use Rattle.std.proofs.lemmas.List.{take_all}
+use Rattle.chart_svg.specs.Drawn.{words_bytes, Stands, Keeps}
 use Rattle.chart_escape.specs.Markup.{escaped}
-use Rattle.chart_escape.specs.Pieces.{piece_bytes, pieces_bytes}
-use Rattle.chart_escape.specs.Reader.{AreElements}
-use Rattle.chart_escape.specs.declared.piece.Piece.{Piece}
-use Rattle.chart_escape.specs.declared.piece.Piece.TheVariants as piece
-use Rattle.chart_layout.specs.declared.layout.Bar.{Bar}
-use Rattle.chart_svg.specs.Drawn.{bar_area, bar_class, bar_title, class_bytes, rect_bytes, Stands, Keeps}
-use Rattle.chart_svg.specs.Lanes.{scale_of, IsDrawnOn, LaneIsDrawn}
-use Rattle.chart_svg.specs.declared.page.Lane.{Lane}
-use Rattle.chart_svg.specs.declared.page.Page.{Page}
-use Rattle.std.specs.Global.{Vec}
-use Rattle.chart_svg.specs.declared.shapes.Area.{Area}
-use Rattle.chart_svg.specs.declared.tags.Class.{Class}
+use Rattle.chart_svg.specs.Tags.{attribute_bytes, begin_bytes, close_bytes, end_bytes, number_bytes, open_bytes, path_bytes, said_bytes}
+use Rattle.chart_svg.specs.declared.tags.Attribute.{Attribute}
+use Rattle.chart_svg.specs.declared.tags.Tag.{Tag}
 
 pub keeps_pushed : (old new more : List ℕ) → new ≡ old ++ more → Keeps old new
 keeps_pushed old new more e part h = record {
@@ -30,76 +23,75 @@ stands_pushed old new more e = record {
   is = e ∙ ap (λ b. old ++ b) (sym (append-nil more));
 }
 
--- 1. Rectangles
+pub told : (picture part other : List ℕ) → part ≡ other → Stands picture part → Stands picture other
+told picture part other same h = subst (λ p. Stands picture p) same h
 
-abbrev pub own : List ℕ → Bor (List ℕ)
-own bytes = record { ref_ptr = (0, 0); now = bytes }
+-- 1. Shapes, part by part
 
--- the pieces of a rectangle
-abbrev pub rect_pieces : Bor (List ℕ) → Option ℕ → ℕ → ℕ → ℕ → ℕ → Bor (List ℕ) → List Piece
-rect_pieces word lock x y width height said =
-    piece.Own (own (codes "<rect class='")) ∷ piece.Text word ∷ piece.Optional lock
-    ∷ piece.Own (own (codes "' x='")) ∷ piece.Number x ∷ piece.Own (own (codes "' y='")) ∷ piece.Number y
-    ∷ piece.Own (own (codes "' width='")) ∷ piece.Number width ∷ piece.Own (own (codes "' height='")) ∷ piece.Number height
-    ∷ piece.Own (own (codes "' rx='3'><title>")) ∷ piece.Text said ∷ piece.Own (own (codes "</title></rect>\n")) ∷ []
+-- a text was written behind another: a body, and an end that the next part may go on with
+pub record Written (old new body end : List ℕ) : Type 0 where
+  pub is : new ≡ old ++ (body ++ end)
 
-rect_is : (word : Bor (List ℕ)) (lock : Option ℕ) (area : Area) (said : Bor (List ℕ))
-    → pieces_bytes (rect_pieces word lock area.x.0 area.y.0 area.width area.height said) ≡ rect_bytes (escaped word.now ++ piece_bytes (piece.Optional lock)) area said.now
-rect_is word lock area said = simp append_assoc
+part_more : (old mid new body end name value quote : List ℕ) → mid ≡ old ++ (body ++ end) → new ≡ mid ++ (name ++ value ++ quote)
+    → new ≡ old ++ (body ++ (end ++ name) ++ value ++ quote)
+part_more old mid new body end name value quote is e = e ∙ ap (λ m. m ++ (name ++ value ++ quote)) is ∙ simp append_assoc
 
-pub rect_whole : (word : Bor (List ℕ)) (lock : Option ℕ) (x y width height : ℕ) (said : Bor (List ℕ)) → AreElements (rect_pieces word lock x y width height said)
-rect_whole word None x y width height said elements = refl
-rect_whole word (Some n) x y width height said elements = refl
+pub opened : {old new : List ℕ} (tag : Tag) (class : List ℕ) → new ≡ old ++ open_bytes tag class → Written old new (begin_bytes tag ++ class) (codes "'")
+opened tag class e = record { is = e }
 
-pub rect_stands : (old new : List ℕ) (class : Class) (word : Bor (List ℕ)) (area : Area) (x y width height : ℕ) (said : Bor (List ℕ))
-    → word.now ≡ class.word.now → x ≡ area.x.0 → y ≡ area.y.0 → width ≡ area.width → height ≡ area.height
-    → new ≡ old ++ pieces_bytes (rect_pieces word class.lock x y width height said) → Stands new (rect_bytes (class_bytes class) area said.now)
-rect_stands old new class word area x y width height said ew ex ey e1 e2 e =
-    stands_pushed old new (rect_bytes (class_bytes class) area said.now)
-    (e ∙ ap (λ p. old ++ p) (
-    ap (λ n. pieces_bytes (rect_pieces word class.lock n y width height said)) ex
-    ∙ ap (λ n. pieces_bytes (rect_pieces word class.lock area.x.0 n width height said)) ey
-    ∙ ap (λ n. pieces_bytes (rect_pieces word class.lock area.x.0 area.y.0 n height said)) e1
-    ∙ ap (λ n. pieces_bytes (rect_pieces word class.lock area.x.0 area.y.0 area.width n said)) e2
-    ∙ rect_is word class.lock area said
-    ∙ ap (λ w. rect_bytes (escaped w ++ piece_bytes (piece.Optional class.lock)) area said.now) ew))
+pub number : {old mid new body end : List ℕ} (a : Attribute) (n : ℕ) → Written old mid body end → new ≡ mid ++ number_bytes a n
+    → Written old new (body ++ (end ++ attribute_bytes a) ++ decimal n) (codes "'")
+number {old} {mid} {new} {body} {end} a n h e = record { is = part_more old mid new body end (attribute_bytes a) (decimal n) (codes "'") h.is e }
 
--- 2. Bars
+pub path : {old mid new body end : List ℕ} (d : List ℕ) → Written old mid body end → new ≡ mid ++ path_bytes d
+    → Written old new (body ++ (end ++ codes " d='") ++ escaped d) (codes "'")
+path {old} {mid} {new} {body} {end} d h e = record { is = part_more old mid new body end (codes " d='") (escaped d) (codes "'") h.is e }
 
-pub drawn_still : (page : Page) (old new : List ℕ) (bar : Bar) → Keeps old new → IsDrawnOn page old bar → IsDrawnOn page new bar
-drawn_still page old new bar keeps h = record { top = h.top; stands = keeps _ h.stands }
+pub closed : {old mid new body end : List ℕ} (tag : Tag) (content : List ℕ) → Written old mid body end → new ≡ mid ++ close_bytes tag content
+    → Written old new (body ++ (end ++ codes ">") ++ content) (end_bytes tag)
+closed {old} {mid} {new} {body} {end} tag content h e = record { is = part_more old mid new body end (codes ">") content (end_bytes tag) h.is e }
 
-pub bars_still : (page : Page) (old new : List ℕ) (bars : List Bar) → Keeps old new → All (IsDrawnOn page old) bars → All (IsDrawnOn page new) bars
-bars_still page old new bars keeps h = All-weaker (IsDrawnOn page old) (IsDrawnOn page new) (λ bar. drawn_still page old new bar keeps) bars h
+pub said : {old mid new body end : List ℕ} (tag : Tag) (title : List ℕ) → Written old mid body end → new ≡ mid ++ said_bytes tag title
+    → Written old new (body ++ (end ++ codes "><title>") ++ escaped title) (codes "</title>" ++ end_bytes tag)
+said {old} {mid} {new} {body} {end} tag title h e =
+    record { is = part_more old mid new body end (codes "><title>") (escaped title) (codes "</title>" ++ end_bytes tag) h.is e }
 
-pub levels_still : (page : Page) (old new : List ℕ) (levels : List (Vec Bar)) → Keeps old new
-    → All (λ bars. All (IsDrawnOn page old) bars.items) levels → All (λ bars. All (IsDrawnOn page new) bars.items) levels
-levels_still page old new levels keeps h =
-    All-weaker (λ bars. All (IsDrawnOn page old) bars.items) (λ bars. All (IsDrawnOn page new) bars.items) (λ bars. bars_still page old new bars.items keeps) levels h
+decimal_3 : decimal 3 ≡ codes "3"
+unfolding digits
+decimal_3 = refl
 
-pub walks_still : (page : Page) (old new : List ℕ) (walks : List (Bar × ℕ)) → Keeps old new
-    → All (λ walk. IsDrawnOn page old walk.0) walks → All (λ walk. IsDrawnOn page new walk.0) walks
-walks_still page old new walks keeps h =
-    All-weaker (λ walk. IsDrawnOn page old walk.0) (λ walk. IsDrawnOn page new walk.0) (λ walk. drawn_still page old new walk.0 keeps) walks h
-
-pub lane_still : (page : Page) (old new : List ℕ) (lane : Lane) → Keeps old new → LaneIsDrawn page old lane → LaneIsDrawn page new lane
-lane_still page old new lane keeps h = record {
-  levels = levels_still page old new lane.bars.levels.items keeps h.levels;
-  walks = walks_still page old new lane.bars.walks.items keeps h.walks;
+-- an attribute that is always 3
+pub three : {old mid new body end : List ℕ} (a : Attribute) → Written old mid body end → new ≡ mid ++ number_bytes a 3
+    → Written old new body (end ++ attribute_bytes a ++ codes "3'")
+three {old} {mid} {new} {body} {end} a h e = record {
+  is = (number a 3 h e).is ∙ ap (λ d. old ++ (body ++ (end ++ attribute_bytes a) ++ d ++ codes "'")) decimal_3 ∙ simp append_assoc;
 }
 
-pub lanes_still : (page : Page) (old new : List ℕ) (lanes : List Lane) → Keeps old new → All (LaneIsDrawn page old) lanes → All (LaneIsDrawn page new) lanes
-lanes_still page old new lanes keeps h = All-weaker (LaneIsDrawn page old) (LaneIsDrawn page new) (λ lane. lane_still page old new lane keeps) lanes h
+-- an element that contains nothing
+pub empty : {old mid new body end : List ℕ} (tag : Tag) → Written old mid body end → new ≡ mid ++ close_bytes tag []
+    → Written old new body (end ++ (codes ">" ++ end_bytes tag))
+empty {old} {mid} {new} {body} {end} tag h e = record { is = (closed tag [] h e).is ∙ simp (append_assoc, append-nil) }
 
-pub shape_drawn : (page : Page) (picture : List ℕ) (bar : Bar) (top : ℕ) (class : List ℕ) (area : Area) (said : List ℕ)
-    → class ≡ bar_class bar.what → area ≡ bar_area (scale_of page) page.chart.now bar top → said ≡ bar_title page.plan.now bar
-    → Stands picture (rect_bytes class area said) → IsDrawnOn page picture bar
-shape_drawn page picture bar top class area said ec ea es h =
-    let same : rect_bytes class area said ≡ rect_bytes (bar_class bar.what) (bar_area (scale_of page) page.chart.now bar top) (bar_title page.plan.now bar) =
-    ap (λ c. rect_bytes c area said) ec ∙ ap (λ a. rect_bytes (bar_class bar.what) a said) ea
-    ∙ ap (λ t. rect_bytes (bar_class bar.what) (bar_area (scale_of page) page.chart.now bar top) t) es in
-    let P : List ℕ → Type 0 = λ part. Stands picture part in
-    record { top = top; stands = subst P same h }
+pub written_stands : {old new body end : List ℕ} → Written old new body end → Stands new (body ++ end)
+written_stands {old} {new} {body} {end} h = stands_pushed old new (body ++ end) h.is
+
+-- words that are told by equal parts
+pub words_told : (picture class1 class2 : List ℕ) (x y1 y2 : ℕ) (words1 words2 : List ℕ) → class1 ≡ class2 → y1 ≡ y2 → words1 ≡ words2
+    → Stands picture (words_bytes class1 x y1 words1) → Stands picture (words_bytes class2 x y2 words2)
+words_told picture class1 class2 x y1 y2 words1 words2 ec ey ew =
+    told picture _ _ (ap (λ c. words_bytes c x y1 words1) ec ∙ ap (λ y. words_bytes class2 x y words1) ey ∙ ap (words_bytes class2 x y2) ew)
+
+-- 2. What stays drawn
+
+pub keeps_then : (old mid new : List ℕ) → Keeps old mid → Keeps mid new → Keeps old new
+keeps_then old mid new before behind part h = behind part (before part h)
+
+-- what is so of a thing by a text is so by each text that keeps it
+abbrev pub IsKept : {X : Type 0} → (List ℕ → X → Type 0) → Type 0
+IsKept {X} P = (old new : List ℕ) (x : X) → Keeps old new → P old x → P new x
+
+pub all_still : {X : Type 0} (P : List ℕ → X → Type 0) → IsKept P → (old new : List ℕ) (xs : List X) → Keeps old new → All (P old) xs → All (P new) xs
+all_still {X} P still old new xs keeps h = All-weaker (P old) (P new) (λ x. still old new x keeps) xs h
 
 -- 3. Loops
 
@@ -118,3 +110,12 @@ all_in_all {X} P xs ys i e le h =
 pub all_more_item : {X : Type 0} (P : X → Type 0) (xs ys : List X) (i : ℕ) (x : X) → ys ≡ xs → i < length ys → x ≡ get_or ys i x
     → All P (take i xs) → P x → All P (take (i + 1) xs)
 all_more_item {X} P xs ys i x e lt is h p = all_more P xs ys i x e lt h (subst P is p)
+
+-- a thing more is drawn
+pub drawn_more : {X : Type 0} (P : List ℕ → X → Type 0) → IsKept P → (old new : List ℕ) (xs ys : List X) (i : ℕ) (d : X) → ys ≡ xs → i < length ys
+    → Keeps old new → All (P old) (take i xs) → P new (get_or ys i d) → All (P new) (take (i + 1) xs)
+drawn_more {X} P still old new xs ys i d e lt keeps h p = all_more (P new) xs ys i d e lt (all_still P still old new (take i xs) keeps h) p
+
+pub item_drawn : {X : Type 0} (P : List ℕ → X → Type 0) → IsKept P → (old new : List ℕ) (xs ys : List X) (i : ℕ) (x : X) → ys ≡ xs → i < length ys → x ≡ get_or ys i x
+    → Keeps old new → All (P old) (take i xs) → P new x → All (P new) (take (i + 1) xs)
+item_drawn {X} P still old new xs ys i x e lt is keeps h p = drawn_more P still old new xs ys i x e lt keeps h (subst (P new) is p)

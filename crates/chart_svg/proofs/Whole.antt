@@ -1,39 +1,51 @@
--- A picture in which all lanes of a page are drawn draws the bars of the page's chart.
-use Rattle.std.proofs.Common.{ℕ, ◌≤◌, ◌≡◌, inl, inr, subst, List, All}
-use Rattle.std.specs.Global.{Vec}
-use Rattle.std.proofs.lemmas.List.Elements.{All-contains, All-get_or}
-use Rattle.chart_layout.specs.declared.layout.Bar.{Bar}
+-- A picture in which all that stands on a page is drawn draws the page's chart.
+use Rattle.std.proofs.Common.{ℕ, ◌≤◌, ◌≡◌, arith, subst, sym, List, All}
+use Rattle.std.proofs.lemmas.List.Elements.{All-contains}
 use Rattle.chart_layout.specs.declared.layout.Chart.{Chart}
 use Rattle.lock_model.specs.declared.plan.Plan.{Plan}
-use Rattle.chart_svg.proofs.Standing.{drawn_still}
-use Rattle.chart_svg.specs.Drawn.{Draws, IsDrawn, Keeps}
-use Rattle.chart_svg.specs.Lanes.{scale_of, HasBars, IsAt, IsDrawnOn, IsInLane, IsLaid, LaneIsDrawn}
-use Rattle.chart_svg.specs.declared.page.Lane.{Lane}
+use Rattle.chart_svg.proofs.Drawn.{arrow_kept, bars_kept, frame_kept, loans_kept, mark_kept}
+use Rattle.chart_svg.proofs.Places.{bars_drawn, lanes_apart, loans_drawn, ranks_apart}
+use Rattle.chart_svg.proofs.Placing.{has_lane, names_drawn, stops_drawn}
+use Rattle.chart_svg.proofs.Standing.{all_still, keeps_then}
+use Rattle.chart_svg.specs.Drawn.{Draws, Keeps}
+use Rattle.chart_svg.specs.Lanes.{scale_of, BarsAreDrawn, HasBars, HasLanes, HasPrios, HasRoom, HasSteps, LoansAreDrawn}
+use Rattle.chart_svg.specs.Pages.{ArrowIsOn, FrameIsOn, LanesAreDrawn, MarkIsOn}
 use Rattle.chart_svg.specs.declared.page.Page.{Page}
 
-level_drawn : (page : Page) (picture : List ℕ) (levels : List (Vec Bar)) (level : ℕ) (bar : Bar)
-    → All (λ bars. All (IsDrawnOn page picture) bars.items) levels → IsAt levels level bar → IsDrawnOn page picture bar
-level_drawn page picture levels level bar h at =
-    let P : Vec Bar → Type 0 = λ bars. All (IsDrawnOn page picture) bars.items in
-    let all : P at.bars = subst P at.is (All-get_or P levels level at.bars at.within h) in
-    All-contains (IsDrawnOn page picture) at.bars.items bar all at.has
-
-laid_drawn : (page : Page) (picture : List ℕ) (lane : Lane) (bar : Bar) → LaneIsDrawn page picture lane → IsLaid lane.bars bar → IsDrawnOn page picture bar
-laid_drawn page picture lane bar h laid = elim laid [
-  | inl (level, at) ↦ level_drawn page picture lane.bars.levels.items level bar h.levels at
-  | inr (level, has) ↦ All-contains (λ walk. IsDrawnOn page picture walk.0) lane.bars.walks.items (bar, level) h.walks has
-]
-
-pub picture_draws : (page : Page) (plan : Plan) (chart : Chart) (old new : List ℕ) → page.plan.now ≡ plan → page.chart.now ≡ chart → 9 ≤ page.column
-    → HasBars page chart → All (LaneIsDrawn page old) page.lanes.items → Keeps old new → Draws plan chart new
-picture_draws page plan chart old new ep ec wide has drawn keeps = record {
-  scale = scale_of page;
-  has_width = wide;
-  bars = λ bar among lt.
-      let laid : IsInLane page.lanes.items bar = has bar among lt in
-      let lane : LaneIsDrawn page old laid.lane = All-contains (LaneIsDrawn page old) page.lanes.items laid.lane drawn laid.among in
-      let on : IsDrawnOn page new bar = drawn_still page old new bar keeps (laid_drawn page old laid.lane bar lane laid.laid) in
-      let P : Plan → Type 0 = λ p. IsDrawn p page.chart.now (scale_of page) new bar in
-      let Q : Chart → Type 0 = λ c. IsDrawn plan c (scale_of page) new bar in
-      subst Q ec (subst P ep on);
+lanes_still : (page : Page) (old new : List ℕ) → Keeps old new → LanesAreDrawn page old → LanesAreDrawn page new
+lanes_still page old new keeps h = record {
+  bars = all_still (BarsAreDrawn page) (bars_kept page) old new page.lanes.items keeps h.bars;
+  loans = all_still (LoansAreDrawn page) (loans_kept page) old new page.lanes.items keeps h.loans;
+  arrows = all_still (ArrowIsOn page) (arrow_kept page) old new page.chart.now.arrows keeps h.arrows;
+  marks = all_still (MarkIsOn page) (mark_kept page) old new page.chart.now.marks keeps h.marks;
 }
+
+page_drawn : (page : Page) (picture : List ℕ) → 9 ≤ page.column → HasRoom page → HasLanes page page.chart.now → HasBars page page.chart.now → HasSteps page page.chart.now
+    → HasPrios page.prios.items page.chart.now.steps → All (FrameIsOn page picture) page.lanes.items → LanesAreDrawn page picture → Draws page.plan.now page.chart.now picture
+page_drawn page picture wide room lanes bars steps prios frame drawn =
+    let has = has_lane page lanes in
+    record {
+      scale = scale_of page;
+      has_width = wide;
+      has_height = omega arith;
+      lanes = lanes_apart page room lanes;
+      ranks = ranks_apart page prios;
+      names = names_drawn page picture room lanes frame;
+      stops = stops_drawn page picture room lanes frame;
+      bars = bars_drawn page picture room bars drawn.bars;
+      loans = loans_drawn page picture room steps drawn.loans;
+      arrows = λ arrow in_chart from to. All-contains (ArrowIsOn page picture) page.chart.now.arrows arrow drawn.arrows in_chart (has arrow.from.0 from, has arrow.to.0 to);
+      marks = λ mark in_chart on. All-contains (MarkIsOn page picture) page.chart.now.marks mark drawn.marks in_chart (has mark.thread.0 on);
+    }
+
+pub picture_draws : (page : Page) (plan : Plan) (chart : Chart) (framed laned picture : List ℕ) → page.plan.now ≡ plan → page.chart.now ≡ chart → 9 ≤ page.column → HasRoom page
+    → HasLanes page chart → HasBars page chart → HasSteps page chart → HasPrios page.prios.items chart.steps
+    → All (FrameIsOn page framed) page.lanes.items → LanesAreDrawn page laned → Keeps framed laned → Keeps laned picture → Draws plan chart picture
+picture_draws page plan chart framed laned picture ep ec wide room lanes bars steps prios frame drawn lanes_keep keeps =
+    let is = sym ec in
+    let draws : Draws page.plan.now page.chart.now picture = page_drawn page picture wide room
+    (subst (λ (c : Chart). HasLanes page c) is lanes) (subst (λ (c : Chart). HasBars page c) is bars) (subst (λ (c : Chart). HasSteps page c) is steps)
+    (subst (λ (c : Chart). HasPrios page.prios.items c.steps) is prios)
+    (all_still (FrameIsOn page) (frame_kept page) framed picture page.lanes.items (keeps_then framed laned picture lanes_keep keeps) frame)
+    (lanes_still page laned picture keeps drawn) in
+    subst (λ (c : Chart). Draws plan c picture) ec (subst (λ (p : Plan). Draws p page.chart.now picture) ep draws)

@@ -1,18 +1,29 @@
--- Where the bars of a chart stand in its picture.
-use Rattle.std.specs.Prelude.{◌≡◌, ℕ, ◌+◌, ◌-◌, ◌*◌, ◌/◌, ◌<◌, ◌≤◌, nat_lt, min, max, if◌then◌else◌, List, ◌++◌, length, codes, decimal, Contains}
+-- Where the names of threads and their ends, bars, loans, arrows and marks of a chart stand in its picture.
+use Rattle.std.specs.Prelude.{◌≡◌, ◌≢◌, ◌⊎◌, ℕ, ◌+◌, ◌-◌, ◌*◌, ◌/◌, ◌<◌, ◌≤◌, nat_lt, min, max, if◌then◌else◌, Any, List, [], ◌∷◌, ◌++◌, length, slice_get, Some, codes, decimal, Contains}
 use Rattle.chart_escape.specs.Markup.{escaped}
 use Rattle.chart_escape.specs.Pieces.{piece_bytes}
 use Rattle.chart_escape.specs.declared.piece.Piece.TheVariants.{Optional}
+use Rattle.chart_layout.specs.Marks.{is_refusal}
+use Rattle.chart_layout.specs.declared.layout.Arrow.{Arrow}
+use Rattle.chart_layout.specs.declared.layout.ArrowKind.{ArrowKind}
+use Rattle.chart_layout.specs.declared.layout.ArrowKind.TheVariants.{Lends, Wakes, BlockedOn, Behind}
 use Rattle.chart_layout.specs.declared.layout.Bar.{Bar}
 use Rattle.chart_layout.specs.declared.layout.BarKind.{BarKind}
 use Rattle.chart_layout.specs.declared.layout.BarKind.TheVariants.{Holds, Waits, TakenOff, Woken, Walks}
 use Rattle.chart_layout.specs.declared.layout.Chart.{Chart}
-use Rattle.chart_words.specs.Words.{bar_words}
+use Rattle.chart_layout.specs.declared.layout.Lane.{Lane}
+use Rattle.chart_layout.specs.declared.layout.Mark.{Mark}
+use Rattle.chart_layout.specs.declared.layout.MarkKind.{MarkKind}
+use Rattle.chart_layout.specs.declared.layout.MarkKind.TheVariants.{Noted, Did, Idle}
+use Rattle.chart_layout.specs.declared.layout.Step.{Step}
+use Rattle.chart_words.specs.Words.{arrow_words, bar_words, mark_words, note_words}
 use Rattle.lock_model.specs.Plans.{thread_name}
 use Rattle.lock_model.specs.declared.plan.Mode.TheVariants.{Excl, Shared}
 use Rattle.lock_model.specs.declared.plan.Plan.{Plan}
 use Rattle.lock_model.specs.declared.plan.QueueName.TheVariants.{Lock, Chan}
 use Rattle.chart_svg.specs.declared.shapes.Area.{Area}
+use Rattle.chart_svg.specs.declared.shapes.Figure.{Figure}
+use Rattle.chart_svg.specs.declared.shapes.Figure.TheVariants.{Up, Down, Cross}
 use Rattle.chart_svg.specs.declared.tags.Class.{Class}
 
 -- 1. What stands in a text
@@ -27,13 +38,13 @@ pub record Stands (text part : List ℕ) : Type 0 where
 abbrev pub Keeps : List ℕ → List ℕ → Type 0
 Keeps old new = (part : List ℕ) → Stands old part → Stands new part
 
--- 2. Rectangles
+-- 2. Shapes, each of a class. What a shape says is shown where it is pointed at.
 
 -- a class as it is written: its word, and the number of its lock if it has one
 abbrev pub class_bytes : Class → List ℕ
 class_bytes class = escaped class.word.now ++ piece_bytes (Optional class.lock)
 
--- a rectangle of a class, and what it says where it is pointed at
+-- a rectangle, and what it says
 abbrev pub rect_bytes : List ℕ → Area → List ℕ → List ℕ
 rect_bytes class area said =
     codes "<rect class='" ++ class
@@ -41,14 +52,54 @@ rect_bytes class area said =
     ++ codes "' width='" ++ decimal area.width ++ codes "' height='" ++ decimal area.height
     ++ codes "' rx='3'><title>" ++ escaped said ++ codes "</title></rect>\n"
 
--- 3. Columns
+-- a line straight up or down, from one height to another
+abbrev pub line_bytes : List ℕ → ℕ → ℕ → ℕ → List ℕ
+line_bytes class x begin end =
+    codes "<line class='" ++ class
+    ++ codes "' x1='" ++ decimal x ++ codes "' y1='" ++ decimal begin
+    ++ codes "' x2='" ++ decimal x ++ codes "' y2='" ++ decimal end ++ codes "'></line>\n"
 
--- the scale of a picture in pixels: where its columns begin, and how wide one is
+-- a dot round a point, and what it says
+abbrev pub dot_bytes : List ℕ → ℕ → ℕ → List ℕ → List ℕ
+dot_bytes class x y said =
+    codes "<circle class='" ++ class
+    ++ codes "' cx='" ++ decimal x ++ codes "' cy='" ++ decimal y
+    ++ codes "' r='3'><title>" ++ escaped said ++ codes "</title></circle>\n"
+
+-- the outline of a figure, from its point
+abbrev pub outline : Figure → List ℕ
+outline Up = codes "l-4 8h8z"
+outline Down = codes "l-4-8h8z"
+outline Cross = codes "m-5-5l10 10m0-10l-10 10"
+
+-- a figure at its point, and what it says
+abbrev pub figure_bytes : List ℕ → Figure → ℕ → ℕ → List ℕ → List ℕ
+figure_bytes class figure x y said =
+    codes "<path class='" ++ class
+    ++ codes "' d='" ++ escaped (codes "M" ++ decimal x ++ 32 ∷ decimal y ++ outline figure)
+    ++ codes "'><title>" ++ escaped said ++ codes "</title></path>\n"
+
+-- words at a point
+abbrev pub words_bytes : List ℕ → ℕ → ℕ → List ℕ → List ℕ
+words_bytes class x y words =
+    codes "<text class='" ++ class
+    ++ codes "' x='" ++ decimal x ++ codes "' y='" ++ decimal y
+    ++ codes "'>" ++ escaped words ++ codes "</text>\n"
+
+-- 3. Columns, lanes and priorities
+
+-- The scale of a picture in pixels: where its columns begin, and how wide one is; where the lane of each thread begins,
+-- which ends where the next begins; where the strip of priorities of each lane begins; how many places each priority is
+-- below that, and how far two places lie apart.
 pub record Scale : Type 0 where
   pub left : ℕ
   pub column : ℕ
+  pub lane : ℕ → ℕ
+  pub strip : ℕ → ℕ
+  pub rank : ℕ → ℕ
+  pub pitch : ℕ
 
--- a place, which stops at the greatest number of 32 bits
+-- a place, which stops at the greatest number of 32 bits: all that would lie beyond lies there
 abbrev pub pixels : ℕ → ℕ
 pixels n = min n 4294967295
 
@@ -72,7 +123,38 @@ abbrev pub row_end : Scale → Chart → ℕ → ℕ
 row_end scale chart row =
     if nat_lt row chart.last then turn_at scale chart row else right_edge scale chart
 
--- 4. Bars
+-- a place in the lane of a thread, above the begin of the next
+pub record IsInLane (scale : Scale) (t y : ℕ) : Type 0 where
+  pub begins : scale.lane t ≤ y
+  pub ends : pixels (y + 1) ≤ scale.lane (t + 1)
+
+-- where a priority is in the strip of a thread
+abbrev pub prio_at : Scale → ℕ → ℕ → ℕ
+prio_at scale t prio = pixels (scale.strip t + scale.rank prio * scale.pitch)
+
+-- a thread runs as the priority in a step, or has it as its own
+abbrev pub IsPrioOf : ℕ → Step → Type 0
+IsPrioOf prio step = (step.effective.0 ≡ prio) ⊎ (step.base.0 ≡ prio)
+
+-- 4. Names and ends of threads
+
+-- the name of the thread that has the t-th lane stands in that lane
+pub record NameIsDrawn (plan : Plan) (scale : Scale) (picture : List ℕ) (t : ℕ) (lane : Lane)
+    : Type 0 where
+  pub y : ℕ
+  pub in_lane : IsInLane scale t y
+  pub stands : Stands picture (words_bytes (codes "name") 24 y (thread_name plan lane.thread.0))
+
+-- a stroke stands in the t-th lane where the row begins
+pub record StopIsDrawn (chart : Chart) (scale : Scale) (picture : List ℕ) (t row : ℕ)
+    : Type 0 where
+  pub begin : ℕ
+  pub end : ℕ
+  pub begins : IsInLane scale t begin
+  pub ends : IsInLane scale t end
+  pub stands : Stands picture (line_bytes (codes "stops") (row_begin scale chart row) begin end)
+
+-- 5. Bars
 
 -- the class of a bar
 abbrev pub bar_class : BarKind → List ℕ
@@ -102,22 +184,155 @@ bar_area scale chart bar top = record {
   height = bar_height bar.what;
 }
 
--- what a bar says: whose it is, what, and from which turn to which it lasts
-abbrev pub bar_title : Plan → Bar → List ℕ
-bar_title plan bar =
-    thread_name plan bar.thread.0 ++ codes " " ++ bar_words plan bar.what
-    ++ codes ", turn " ++ decimal (bar.first - 1) ++ codes " to " ++ decimal bar.last
+-- from which turn to which a bar lasts, as far as the window shows its begin and its end
+abbrev pub lasting_words : Chart → Bar → List ℕ
+lasting_words chart bar =
+    if nat_lt chart.first bar.first
+    then (if nat_lt bar.last chart.last
+      then codes ", turn " ++ decimal (bar.first - 1) ++ codes " to " ++ decimal bar.last
+      else codes ", from turn " ++ decimal (bar.first - 1) ++ codes " on")
+    else (if nat_lt bar.last chart.last
+      then codes ", up to turn " ++ decimal bar.last
+      else codes ", throughout")
 
--- the bar stands in the picture
-pub record IsDrawn (plan : Plan) (chart : Chart) (scale : Scale) (picture : List ℕ) (bar : Bar)
+-- what a bar says: whose it is, what, and how long it lasts
+abbrev pub bar_title : Plan → Chart → Bar → List ℕ
+bar_title plan chart bar =
+    thread_name plan bar.thread.0 ++ codes " " ++ bar_words plan bar.what
+    ++ lasting_words chart bar
+
+-- the bar stands in its thread's lane
+pub record BarIsDrawn (plan : Plan) (chart : Chart) (scale : Scale) (picture : List ℕ) (bar : Bar)
     : Type 0 where
   pub top : ℕ
+  pub in_lane : IsInLane scale bar.thread.0 top
+  pub ends_in_lane : pixels (top + bar_height bar.what) ≤ scale.lane (bar.thread.0 + 1)
   pub stands : Stands picture (rect_bytes (bar_class bar.what) (bar_area scale chart bar top)
-      (bar_title plan bar))
+      (bar_title plan chart bar))
 
--- by one scale, each bar whose thread has a lane stands in the picture
+-- 6. Loans: steps in which a thread runs as another priority than its own
+
+-- from the place of the priority as which it runs down to that of its own
+abbrev pub loan_area : Scale → Chart → Step → Area
+loan_area scale chart step = record {
+  x = record { 0 = row_begin scale chart step.first };
+  y = record { 0 = prio_at scale step.thread.0 step.effective.0 };
+  width = row_end scale chart step.last - row_begin scale chart step.first;
+  height = prio_at scale step.thread.0 step.base.0
+      - prio_at scale step.thread.0 step.effective.0;
+}
+
+-- the loan stands in the strip of its thread's lane
+pub record LoanIsDrawn (chart : Chart) (scale : Scale) (picture : List ℕ) (step : Step)
+    : Type 0 where
+  pub top_in_lane : IsInLane scale step.thread.0 (prio_at scale step.thread.0 step.effective.0)
+  pub base_in_lane : IsInLane scale step.thread.0 (prio_at scale step.thread.0 step.base.0)
+  pub stands : Stands picture (rect_bytes (codes "loan") (loan_area scale chart step)
+      (codes "runs as " ++ decimal step.effective.0))
+
+-- 7. Arrows
+
+abbrev pub line_class : ArrowKind → List ℕ
+line_class (Lends before prio) = codes "lends"
+line_class Wakes = codes "wakes"
+line_class BlockedOn = codes "block"
+line_class Behind = codes "block"
+
+abbrev pub head_class : ArrowKind → List ℕ
+head_class (Lends before prio) = codes "lendhead"
+head_class Wakes = codes "wakehead"
+head_class BlockedOn = codes "blockhead"
+head_class Behind = codes "blockhead"
+
+-- the head points to the lane to which the arrow goes
+abbrev pub head_figure : Scale → Arrow → Figure
+head_figure scale arrow =
+    if nat_lt (scale.lane arrow.to.0) (scale.lane arrow.from.0) then Up else Down
+
+-- a loan is lent to somebody; the other words name whom they concern
+abbrev pub to_word : ArrowKind → List ℕ
+to_word (Lends before prio) = codes " to "
+to_word Wakes = codes " "
+to_word BlockedOn = codes " "
+to_word Behind = codes " "
+
+-- what an arrow says: from whom, what, and to whom
+abbrev pub arrow_title : Plan → Arrow → List ℕ
+arrow_title plan arrow =
+    thread_name plan arrow.from.0 ++ codes " " ++ arrow_words arrow
+    ++ to_word arrow.kind ++ thread_name plan arrow.to.0
+
+-- the arrow stands in the column of its turn, and goes from the one lane to the other
+pub record ArrowIsDrawn (plan : Plan) (chart : Chart) (scale : Scale) (picture : List ℕ)
+    (arrow : Arrow) : Type 0 where
+  pub begin : ℕ
+  pub tip : ℕ
+  pub begins : IsInLane scale arrow.from.0 begin
+  pub ends : IsInLane scale arrow.to.0 tip
+  pub line : Stands picture (line_bytes (line_class arrow.kind)
+      (turn_at scale chart arrow.turn) begin tip)
+  pub head : Stands picture (figure_bytes (head_class arrow.kind) (head_figure scale arrow)
+      (turn_at scale chart arrow.turn) tip (arrow_title plan arrow))
+
+-- 8. Marks
+
+-- what a mark says behind the word of what was done
+abbrev pub note_of : Plan → MarkKind → List ℕ
+note_of plan (Noted event) = note_words plan event
+note_of plan (Did kind) = []
+note_of plan Idle = codes "idle"
+
+-- what a mark says: in which turn who did what
+abbrev pub mark_title : Plan → Mark → List ℕ
+mark_title plan mark =
+    codes "turn " ++ decimal mark.turn ++ codes ", " ++ thread_name plan mark.thread.0
+    ++ codes ": " ++ mark_words plan mark.what ++ note_of plan mark.what
+
+abbrev pub dot_class : MarkKind → List ℕ
+dot_class (Noted event) = codes "dot"
+dot_class (Did kind) = codes "dot"
+dot_class Idle = codes "idle"
+
+-- what was refused has a cross, and all else a dot
+abbrev pub mark_bytes : Plan → Mark → ℕ → ℕ → List ℕ
+mark_bytes plan mark x y =
+    if is_refusal mark.what
+    then figure_bytes (codes "cross") Cross x y (mark_title plan mark)
+    else dot_bytes (dot_class mark.what) x y (mark_title plan mark)
+
+-- the mark stands in the column of its turn and in its thread's lane
+pub record MarkIsDrawn (plan : Plan) (chart : Chart) (scale : Scale) (picture : List ℕ)
+    (mark : Mark) : Type 0 where
+  pub y : ℕ
+  pub in_lane : IsInLane scale mark.thread.0 y
+  pub stands : Stands picture (mark_bytes plan mark (turn_at scale chart mark.turn) y)
+
+-- 9. Pictures
+
+-- the thread has a lane in the chart
+abbrev pub HasLane : Chart → ℕ → Type 0
+HasLane chart t = t < length chart.lanes
+
+-- By one scale each name, end, bar, loan, arrow and mark of a chart stands in its picture, if those whom it concerns have
+-- lanes. A column is at least 9 wide; lanes lie one below the other, each at least 45 high; and the more important of two
+-- priorities lies at least 2 above the other. What else stands there isn't said.
 pub record Draws (plan : Plan) (chart : Chart) (picture : List ℕ) : Type 0 where
   pub scale : Scale
   pub has_width : 9 ≤ scale.column
-  pub bars : (bar : Bar) → Contains chart.bars bar → bar.thread.0 < length chart.lanes
-      → IsDrawn plan chart scale picture bar
+  pub has_height : 2 ≤ scale.pitch
+  pub lanes : (t : ℕ) → HasLane chart t → pixels (scale.lane t + 45) ≤ scale.lane (t + 1)
+  pub ranks : (p q : ℕ) → p < q → Any (IsPrioOf p) chart.steps → scale.rank p < scale.rank q
+  pub names : (t : ℕ) (lane : Lane) → slice_get chart.lanes t ≡ Some lane
+      → NameIsDrawn plan scale picture t lane
+  pub stops : (t row : ℕ) (lane : Lane) → slice_get chart.lanes t ≡ Some lane
+      → lane.thread.0 ≡ t → lane.ended ≡ Some row → row ≤ chart.last
+      → StopIsDrawn chart scale picture t row
+  pub bars : (bar : Bar) → Contains chart.bars bar → HasLane chart bar.thread.0
+      → BarIsDrawn plan chart scale picture bar
+  pub loans : (step : Step) → Contains chart.steps step → HasLane chart step.thread.0
+      → step.effective ≢ step.base → LoanIsDrawn chart scale picture step
+  pub arrows : (arrow : Arrow) → Contains chart.arrows arrow
+      → HasLane chart arrow.from.0 → HasLane chart arrow.to.0
+      → ArrowIsDrawn plan chart scale picture arrow
+  pub marks : (mark : Mark) → Contains chart.marks mark → HasLane chart mark.thread.0
+      → MarkIsDrawn plan chart scale picture mark

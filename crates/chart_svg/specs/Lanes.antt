@@ -1,50 +1,168 @@
--- In which lane and on which level a bar is laid.
-use Rattle.std.specs.Prelude.{◌≡◌, ℕ, ◌<◌, ◌⊎◌, List, length, slice_index_or, Contains, All}
+-- Where the lanes of a page are, and what stands in them.
+use Rattle.std.specs.Prelude.{◌≡◌, ◌≢◌, ℕ, ◌+◌, ◌-◌, ◌*◌, ◌/◌, ◌<◌, ◌≤◌, ◌⊎◌, nat_lt, min, max, List, [], ◌∷◌, ◌++◌, length, slice_get, slice_index_or, codes, decimal, Contains, All, Option, Some, None}
 use Rattle.std.specs.Global.{Vec}
+use Rattle.std.specs.List.{filter}
 use Rattle.chart_layout.specs.declared.layout.Bar.{Bar}
 use Rattle.chart_layout.specs.declared.layout.Chart.{Chart}
+use Rattle.chart_layout.specs.declared.layout.Lane.{Lane as ChartLane}
+use Rattle.chart_layout.specs.declared.layout.Step.{Step}
+use Rattle.lock_model.specs.declared.numbers.Prio.{Prio}
+use Rattle.lock_model.specs.declared.numbers.ThreadNo.{ThreadNo}
+use Rattle.chart_svg.specs.Drawn.{bar_area, bar_class, bar_title, loan_area, pixels, rect_bytes, Scale, Stands}
 use Rattle.chart_svg.specs.declared.packing.Packed.{Packed}
-use Rattle.chart_svg.specs.Drawn.{Scale, IsDrawn}
 use Rattle.chart_svg.specs.declared.page.Lane.{Lane}
 use Rattle.chart_svg.specs.declared.page.Page.{Page}
+use Rattle.chart_svg.specs.declared.pixels.Px.{Px}
 
--- the scale of a page
+-- 1. The scale of a page
+
+-- where a lane begins; where there is none, the lanes end
+abbrev pub top_of : ℕ → Option Lane → ℕ
+top_of bottom None = bottom
+top_of bottom (Some lane) = lane.top.0
+
+abbrev pub lane_top : Page → ℕ → ℕ
+lane_top page t = top_of page.bottom.0 (slice_get page.lanes.items t)
+
+-- where the strip of a lane begins, if it has one
+abbrev pub begin_of : Option Px → ℕ
+begin_of None = 0
+begin_of (Some y) = y.0
+
+abbrev pub strip_of : Option Lane → ℕ
+strip_of None = 0
+strip_of (Some lane) = begin_of lane.strip
+
+-- how many of the priorities go before one
+abbrev pub rank_in : List Prio → ℕ → ℕ
+rank_in prios prio = length (filter (λ other. nat_lt other.0 prio) prios)
+
+-- how far so many priorities lie apart in a strip
+abbrev pub pitch_of : ℕ → ℕ
+pitch_of prios = min (max (84 / max (prios - 1) 1) 2) 15
+
 abbrev pub scale_of : Page → Scale
-scale_of page = record { left = page.left.0; column = page.column }
+scale_of page = record {
+  left = page.left.0;
+  column = page.column;
+  lane = lane_top page;
+  strip = λ t. strip_of (slice_get page.lanes.items t);
+  rank = rank_in page.prios.items;
+  pitch = pitch_of (length page.prios.items);
+}
 
--- the bar stands in the picture of a page
-abbrev pub IsDrawnOn : Page → List ℕ → Bar → Type 0
-IsDrawnOn page picture bar = IsDrawn page.plan.now page.chart.now (scale_of page) picture bar
+-- 2. Places in a lane
 
--- all bars of a lane stand in it, those on levels and the walks
-pub record LaneIsDrawn (page : Page) (picture : List ℕ) (lane : Lane) : Type 0 where
-  pub levels : All (λ bars. All (IsDrawnOn page picture) bars.items) lane.bars.levels.items
-  pub walks : All (λ walk. IsDrawnOn page picture walk.0) lane.bars.walks.items
+-- the top and the bottom of the bars of a level
+abbrev pub bar_top : Lane → ℕ → ℕ
+bar_top lane level = pixels (pixels (lane.begin.0 + 27) + level * lane.pitch)
 
--- the bar is among those of the list at the place
-pub record IsAt (lists : List (Vec Bar)) (place : ℕ) (bar : Bar) : Type 0 where
-  pub bars : Vec Bar
+abbrev pub bar_bottom : Lane → ℕ → ℕ
+bar_bottom lane level = pixels (bar_top lane level + 18)
+
+-- what stands in a lane stands between its top and its bottom: marks, the line of its thread, bars on all levels with a
+-- walk below them, and each priority of the strip
+pub record Fits (page : Page) (lane : Lane) : Type 0 where
+  pub begins : lane.top.0 ≤ lane.begin.0
+  pub begin_fits : lane.begin.0 ≤ 4294967295
+  pub bottom_fits : lane.bottom.0 ≤ 4294967295
+  pub has_room : pixels (lane.begin.0 + 48) ≤ lane.bottom.0
+  pub bars : (level : ℕ) → level ≤ length lane.bars.levels.items - 1
+      → pixels (bar_bottom lane level + 20) ≤ lane.bottom.0
+  pub strip_begins : (y : Px) → lane.strip ≡ Some y → lane.top.0 ≤ y.0
+  pub strip_fits : (y : Px) → lane.strip ≡ Some y → y.0 ≤ 4294967295
+  pub strip_ends : (y : Px) (prio : ℕ) → lane.strip ≡ Some y
+      → pixels (y.0 + rank_in page.prios.items prio * pitch_of (length page.prios.items) + 1)
+      ≤ lane.bottom.0
+
+-- each lane of a page has room for what stands in it, and ends where the next begins
+pub record HasRoom (page : Page) : Type 0 where
+  pub fits : (t : ℕ) (lane : Lane) → slice_get page.lanes.items t ≡ Some lane → Fits page lane
+  pub ends : (t : ℕ) (lane : Lane) → slice_get page.lanes.items t ≡ Some lane
+      → lane.bottom.0 ≡ lane_top page (t + 1)
+  pub bottom_fits : page.bottom.0 ≤ 4294967295
+
+-- 3. What is of a thread
+
+-- the thing is in the list at the place
+pub record IsAt {X : Type 0} (lists : List (Vec X)) (place : ℕ) (x : X) : Type 0 where
+  pub list : Vec X
   pub within : place < length lists
-  pub is : slice_index_or lists place bars ≡ bars
-  pub has : Contains bars.items bar
+  pub is : slice_index_or lists place list ≡ list
+  pub has : Contains list.items x
 
--- if so many lanes reach to its thread, the bar is in the list of its thread
-abbrev pub IsByLane : List (Vec Bar) → ℕ → Bar → Type 0
-IsByLane lists lanes bar = bar.thread.0 < lanes → IsAt lists bar.thread.0 bar
+-- the thing of a thread is in the lane of the thread
+pub record IsOf {X : Type 0} (Has : Lane → X → Type 0) (lanes : List Lane) (t : ℕ) (x : X)
+    : Type 0 where
+  pub lane : Lane
+  pub is : slice_get lanes t ≡ Some lane
+  pub has : Has lane x
+
+-- a page has the lanes of a chart, in order
+abbrev pub HasLanes : Page → Chart → Type 0
+HasLanes page chart = (t : ℕ) (lane : ChartLane) → slice_get chart.lanes t ≡ Some lane
+    → IsOf (λ own named. own.thread ≡ named.thread) page.lanes.items t lane
+
+-- 4. Bars
 
 -- the bar lies on some level, or is a walk below one
 abbrev pub IsLaid : Packed → Bar → Type 0
 IsLaid packed bar =
     ((level : ℕ) × IsAt packed.levels.items level bar)
-    ⊎ ((level : ℕ) × Contains packed.walks.items (bar, level))
+    ⊎ ((level : ℕ) × (level ≤ length packed.levels.items - 1)
+    × Contains packed.walks.items (bar, level))
 
--- it is laid in one of the lanes
-pub record IsInLane (lanes : List Lane) (bar : Bar) : Type 0 where
-  pub lane : Lane
-  pub among : Contains lanes lane
-  pub laid : IsLaid lane.bars bar
-
--- each bar of a chart whose thread has a lane is laid in one
+-- each bar of a chart whose thread has a lane is laid in that lane
 abbrev pub HasBars : Page → Chart → Type 0
 HasBars page chart = (bar : Bar) → Contains chart.bars bar → bar.thread.0 < length chart.lanes
-    → IsInLane page.lanes.items bar
+    → IsOf (λ lane. IsLaid lane.bars) page.lanes.items bar.thread.0 bar
+
+-- the bar stands in the picture with its top there
+abbrev pub IsDrawnAt : Page → List ℕ → ℕ → Bar → Type 0
+IsDrawnAt page picture top bar =
+    Stands picture (rect_bytes (bar_class bar.what)
+    (bar_area (scale_of page) page.chart.now bar top) (bar_title page.plan.now page.chart.now bar))
+
+-- all bars of a lane stand in the picture, those of each level, and the walks below theirs
+pub record BarsAreDrawn (page : Page) (picture : List ℕ) (lane : Lane) : Type 0 where
+  pub levels : (level : ℕ) (bar : Bar) → IsAt lane.bars.levels.items level bar
+      → IsDrawnAt page picture (bar_top lane level) bar
+  pub walks : All (λ walk. IsDrawnAt page picture (pixels (bar_bottom lane walk.1 + 2)) walk.0)
+      lane.bars.walks.items
+
+-- 5. Steps and loans
+
+-- the priorities by which the threads of a chart run, and their own, are among those of a page
+abbrev pub HasPrios : List Prio → List Step → Type 0
+HasPrios prios steps = All (λ step. Contains prios step.effective × Contains prios step.base) steps
+
+-- the step is among those of the lane, which has a strip if it is a loan
+pub record HasStep (lane : Lane) (step : Step) : Type 0 where
+  pub among : Contains lane.steps.items step
+  pub has_strip : step.effective ≢ step.base → (y : Px) × (lane.strip ≡ Some y)
+
+-- the lanes are one more, with the bars and the steps of its thread
+pub record HasLaneMore (old new : List Lane) (thread : ThreadNo) (bars : List Bar)
+    (steps : List Step) : Type 0 where
+  pub lane : Lane
+  pub pushed : new ≡ old ++ lane ∷ []
+  pub named : lane.thread ≡ thread
+  pub has_bars : All (IsLaid lane.bars) bars
+  pub has_steps : All (HasStep lane) steps
+
+-- each step of a chart whose thread has a lane is in that lane
+abbrev pub HasSteps : Page → Chart → Type 0
+HasSteps page chart = (step : Step) → Contains chart.steps step
+    → step.thread.0 < length chart.lanes → IsOf HasStep page.lanes.items step.thread.0 step
+
+-- a loan stands in the picture if the strip of its thread's lane begins there
+abbrev pub IsLentAt : Page → List ℕ → ℕ → Step → Type 0
+IsLentAt page picture strip step =
+    (scale_of page).strip step.thread.0 ≡ strip → step.effective ≢ step.base
+    → Stands picture (rect_bytes (codes "loan")
+    (loan_area (scale_of page) page.chart.now step) (codes "runs as " ++ decimal step.effective.0))
+
+-- all loans of a lane that has a strip stand in the picture
+abbrev pub LoansAreDrawn : Page → List ℕ → Lane → Type 0
+LoansAreDrawn page picture lane = (y : Px) → lane.strip ≡ Some y
+    → All (IsLentAt page picture y.0) lane.steps.items

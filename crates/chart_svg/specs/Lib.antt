@@ -1,3 +1,5 @@
 pub mod Drawn
 pub mod Lanes
+pub mod Pages
+pub mod Shapes
 pub mod Tags

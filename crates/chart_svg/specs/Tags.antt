@@ -1,5 +1,6 @@
 -- How elements and attributes of a picture are called.
-use Rattle.std.specs.Prelude.{◌≡◌, ℕ, List, codes}
+use Rattle.std.specs.Prelude.{◌≡◌, ℕ, List, ◌++◌, codes, decimal}
+use Rattle.chart_escape.specs.Markup.{escaped}
 use Rattle.chart_escape.specs.Reader.{Reader, InTag}
 use Rattle.chart_svg.specs.declared.tags.Attribute.{Attribute}
 use Rattle.chart_svg.specs.declared.tags.Attribute.TheVariants.{X, Y, Width, Height, Corner, CenterX, CenterY, Radius, FromX, FromY, ToX, ToY, Left, Column, Top, Bottom}
@@ -49,6 +50,26 @@ attribute_bytes Left = codes " data-left='"
 attribute_bytes Column = codes " data-column='"
 attribute_bytes Top = codes " data-top='"
 attribute_bytes Bottom = codes " data-bottom='"
+
+-- an element that is opened, with its class
+abbrev pub open_bytes : Tag → List ℕ → List ℕ
+open_bytes tag class = begin_bytes tag ++ class ++ codes "'"
+
+-- an attribute, with its number
+abbrev pub number_bytes : Attribute → ℕ → List ℕ
+number_bytes attribute n = attribute_bytes attribute ++ decimal n ++ codes "'"
+
+-- the attribute of a path
+abbrev pub path_bytes : List ℕ → List ℕ
+path_bytes path = codes " d='" ++ escaped path ++ codes "'"
+
+-- an element that is closed with what it contains
+abbrev pub close_bytes : Tag → List ℕ → List ℕ
+close_bytes tag content = codes ">" ++ content ++ end_bytes tag
+
+-- an element that is closed with what is said of it
+abbrev pub said_bytes : Tag → List ℕ → List ℕ
+said_bytes tag said = codes "><title>" ++ escaped said ++ (codes "</title>" ++ end_bytes tag)
 
 -- a reader is in that tag
 abbrev pub IsIn : Tag → Reader → Type 0

@@ -1,14 +1,15 @@
 //! The bars of a lane.
-ghost use Rattle.std.specs.Prelude.{◌≡◌, All, IfOk, OnOk};
+ghost use Rattle.std.specs.Prelude.{◌≡◌, ℕ, ◌+◌, ◌++◌, All, IfOk, OnOk};
+ghost use Rattle.chart_layout.specs.declared.layout.Bar.{Bar};
 ghost use Rattle.chart_escape.specs.Reader.{AddsElements, IsBetweenTags};
-ghost use Rattle.chart_svg.specs.Drawn.{bar_area, bar_class, bar_height, bar_title, class_bytes, Keeps};
-ghost use Rattle.chart_svg.specs.Lanes.{scale_of, IsDrawnOn, LaneIsDrawn};
+ghost use Rattle.chart_svg.specs.Drawn.{bar_area, bar_class, bar_height, bar_title, class_bytes, lasting_words, pixels, Keeps};
+ghost use Rattle.chart_svg.specs.Lanes.{bar_bottom, bar_top, scale_of, BarsAreDrawn, IsAt, IsDrawnAt};
 
 use crate::page::{Lane, Page};
 use crate::pixels::{Px, count, width_of};
 use crate::shapes::{Area, push_rect, push_rect_said, push_words};
 use crate::tags::Class;
-use chart_layout::{Bar, BarKind, End, Saying};
+use chart_layout::{Bar, BarKind, Chart, End, Saying};
 use chart_words::{push_bar, queue_name};
 use lock_model::{Mode, QueueName, ThreadNo, push_number};
 use std::alloc::{AllocError, Global};
@@ -19,7 +20,7 @@ pub fn push_bars(alloc: Global, out: &mut Vec<u8>, page: &Page<'_>) -> Result<()
     ensures whole { OnOk result (AddsElements out.old.items out.new.items) }
     ensures keeps { OnOk result (Keeps out.old.items out.new.items) }
     ensures drawn { OnOk result
-        (All (LaneIsDrawn page.now out.new.items) page.now.lanes.items) }
+        (All (BarsAreDrawn page.now out.new.items) page.now.lanes.items) }
 {
     for lane in &page.lanes {
         push_levels(alloc, out, page, lane)?;
@@ -37,8 +38,8 @@ fn push_levels(
     requires { IsBetweenTags out.old.items }
     ensures whole { OnOk result (AddsElements out.old.items out.new.items) }
     ensures keeps { OnOk result (Keeps out.old.items out.new.items) }
-    ensures drawn { OnOk result (All (λ bars. All (IsDrawnOn page.now out.new.items) bars.items)
-        lane.now.bars.levels.items) }
+    ensures drawn { OnOk result ((level : ℕ) (bar : Bar) → IsAt lane.now.bars.levels.items level bar
+        → IsDrawnAt page.now out.new.items (bar_top lane.now level) bar) }
 {
     for (level, bars) in lane.bars.levels.iter().enumerate() {
         push_level(alloc, out, page, bars, lane.bar_top(count(level)))?;
@@ -56,7 +57,7 @@ fn push_level(
     requires { IsBetweenTags out.old.items }
     ensures whole { OnOk result (AddsElements out.old.items out.new.items) }
     ensures keeps { OnOk result (Keeps out.old.items out.new.items) }
-    ensures drawn { OnOk result (All (IsDrawnOn page.now out.new.items) bars.now) }
+    ensures drawn { OnOk result (All (IsDrawnAt page.now out.new.items top.0) bars.now) }
 {
     for bar in bars {
         push_one(alloc, out, page, *bar, top)?;
@@ -73,8 +74,8 @@ fn push_walks(
     requires { IsBetweenTags out.old.items }
     ensures whole { OnOk result (AddsElements out.old.items out.new.items) }
     ensures keeps { OnOk result (Keeps out.old.items out.new.items) }
-    ensures drawn { OnOk result (All (λ walk. IsDrawnOn page.now out.new.items walk.0)
-        lane.now.bars.walks.items) }
+    ensures drawn { OnOk result (All (λ walk. IsDrawnAt page.now out.new.items
+        (pixels (bar_bottom lane.now walk.1 + 2)) walk.0) lane.now.bars.walks.items) }
 {
     for (bar, level) in &lane.bars.walks {
         push_walk(alloc, out, page, *bar, lane.bar_bottom(*level).plus(2))?;
@@ -84,16 +85,39 @@ fn push_walks(
 
 // What is said where a bar is pointed at: `low holds bus, turn 0 to 7`.
 fn said_of(alloc: Global, page: &Page<'_>, bar: Bar) -> Result<Vec<u8>, AllocError>
-    ensures { IfOk result (λ said. said.items ≡ bar_title page.now.plan.now bar) }
+    ensures { IfOk result (λ said. said.items ≡ bar_title page.now.plan.now page.now.chart.now bar) }
 {
     let mut said = Vec::from_slice(alloc, page.plan.thread_name(bar.thread))?;
     said.extend_from_slice(b" ")?;
     push_bar(&mut said, page.plan, bar.what)?;
-    said.extend_from_slice(b", turn")?;
-    push_number(&mut said, u64::from(bar.first.saturating_sub(1)))?;
-    said.extend_from_slice(b" to")?;
-    push_number(&mut said, u64::from(bar.last))?;
+    push_lasting(&mut said, page.chart, bar)?;
     Ok(said)
+}
+
+// How long a bar lasts, as far as the window shows its begin and its end.
+fn push_lasting(out: &mut Vec<u8>, chart: &Chart, bar: Bar) -> Result<(), AllocError>
+    ensures { OnOk result (out.new.items ≡ out.old.items ++ lasting_words chart.now bar) }
+{
+    let begin = u64::from(bar.first.saturating_sub(1));
+    let end = u64::from(bar.last);
+    match (chart.first < bar.first, bar.last < chart.last) {
+        (true, true) => {
+            out.extend_from_slice(b", turn")?;
+            push_number(out, begin)?;
+            out.extend_from_slice(b" to")?;
+            push_number(out, end)
+        }
+        (true, false) => {
+            out.extend_from_slice(b", from turn")?;
+            push_number(out, begin)?;
+            out.extend_from_slice(b" on")
+        }
+        (false, true) => {
+            out.extend_from_slice(b", up to turn")?;
+            push_number(out, end)
+        }
+        (false, false) => out.extend_from_slice(b", throughout"),
+    }
 }
 
 fn push_one(
@@ -106,7 +130,7 @@ fn push_one(
     requires { IsBetweenTags out.old.items }
     ensures whole { OnOk result (AddsElements out.old.items out.new.items) }
     ensures keeps { OnOk result (Keeps out.old.items out.new.items) }
-    ensures drawn { OnOk result (IsDrawnOn page.now out.new.items bar) }
+    ensures drawn { OnOk result (IsDrawnAt page.now out.new.items top.0 bar) }
 {
     push_rect(out, Class::of("paper"), area_of(page, bar, top))?;
     push_shape(alloc, out, page, bar, top)?;
@@ -125,7 +149,7 @@ fn push_shape(
     requires { IsBetweenTags out.old.items }
     ensures whole { OnOk result (AddsElements out.old.items out.new.items) }
     ensures keeps { OnOk result (Keeps out.old.items out.new.items) }
-    ensures drawn { OnOk result (IsDrawnOn page.now out.new.items bar) }
+    ensures drawn { OnOk result (IsDrawnAt page.now out.new.items top.0 bar) }
 {
     let said = said_of(alloc, page, bar)?;
     push_rect_said(out, class_of(bar.what), area_of(page, bar, top), &said)
@@ -299,7 +323,7 @@ fn push_walk(
     requires { IsBetweenTags out.old.items }
     ensures whole { OnOk result (AddsElements out.old.items out.new.items) }
     ensures keeps { OnOk result (Keeps out.old.items out.new.items) }
-    ensures drawn { OnOk result (IsDrawnOn page.now out.new.items bar) }
+    ensures drawn { OnOk result (IsDrawnAt page.now out.new.items top.0 bar) }
 {
     push_shape(alloc, out, page, bar, top)?;
     push_walk_words(out, page, bar, top)

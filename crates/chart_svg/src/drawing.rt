@@ -1,10 +1,11 @@
 //! The whole picture.
-ghost use Rattle.std.specs.Prelude.{All, IfOk, OnOk};
+ghost use Rattle.std.specs.Prelude.{IfOk, OnOk};
 ghost use Rattle.chart_escape.specs.Reader.{AddsElements, IsBetweenTags, IsWellFormed};
 ghost use Rattle.chart_svg.specs.Drawn.{Draws, Keeps};
-ghost use Rattle.chart_svg.specs.Lanes.{LaneIsDrawn};
+ghost use Rattle.chart_svg.specs.Lanes.{HasRoom};
+ghost use Rattle.chart_svg.specs.Pages.{LanesAreDrawn};
 
-use crate::arrows::{push_arrow_heads, push_arrows};
+use crate::arrows::{place_arrows, push_arrow_heads, push_arrows};
 use crate::bars::push_bars;
 use crate::below::{Below, push_below};
 use crate::frame::{push_begin, push_frame, push_paper};
@@ -53,17 +54,18 @@ pub fn svg(
 
 // What stands in the lanes, the words in front.
 fn push_lanes(alloc: Global, out: &mut Vec<u8>, page: &Page<'_>) -> Result<(), AllocError>
-    requires { IsBetweenTags out.old.items }
+    requires between { IsBetweenTags out.old.items }
+    requires room { HasRoom page.now }
     ensures whole { OnOk result (AddsElements out.old.items out.new.items) }
     ensures keeps { OnOk result (Keeps out.old.items out.new.items) }
-    ensures drawn { OnOk result
-        (All (LaneIsDrawn page.now out.new.items) page.now.lanes.items) }
+    ensures drawn { OnOk result (LanesAreDrawn page.now out.new.items) }
 {
+    let placed = place_arrows(alloc, page)?;
     push_strips(alloc, out, page)?;
-    push_arrows(out, page)?;
+    push_arrows(out, page, &placed)?;
     push_bars(alloc, out, page)?;
     push_strip_words(alloc, out, page)?;
-    push_arrow_heads(alloc, out, page)?;
+    push_arrow_heads(alloc, out, page, &placed)?;
     push_marks(alloc, out, page)?;
-    push_reasons(out, page)
+    push_reasons(alloc, out, page)
 }

@@ -1,6 +1,8 @@
 //! What stands round the lanes: the begin of the file, the names of the threads and the numbers of the turns.
-ghost use Rattle.std.specs.Prelude.{◌≡◌, ◌<◌, ◌∷◌, true, OnOk};
+ghost use Rattle.std.specs.Prelude.{◌≡◌, ◌<◌, ◌∷◌, true, option_map, Some, All, OnOk};
 ghost use Rattle.chart_escape.specs.Reader.{at, is_in_tag, read, AddsElements, Between, InText, IsBetweenTags};
+ghost use Rattle.chart_svg.specs.Drawn.{Keeps};
+ghost use Rattle.chart_svg.specs.Pages.{stop_at, FrameIsOn, NameIsOn, StopsAt};
 ghost use Rattle.chart_svg.specs.Tags.{picture};
 
 use crate::page::{Lane, Page};
@@ -95,9 +97,12 @@ pub fn push_paper(out: &mut Vec<u8>, size: (u32, u32)) -> Result<(), AllocError>
 /// Pushes the columns with the numbers of the turns, and the names of the lanes.
 pub fn push_frame(alloc: Global, out: &mut Vec<u8>, page: &Page<'_>) -> Result<(), AllocError>
     requires { IsBetweenTags out.old.items }
-    ensures { OnOk result (AddsElements out.old.items out.new.items) }
+    ensures whole { OnOk result (AddsElements out.old.items out.new.items) }
+    ensures keeps { OnOk result (Keeps out.old.items out.new.items) }
+    ensures lanes { OnOk result (All (FrameIsOn page.now out.new.items) page.now.lanes.items) }
 {
     push_zebra(out, page)?;
+    push_axis(out, page)?;
     push_turns(out, page)?;
     for lane in &page.lanes {
         push_lane(alloc, out, page, lane)?;
@@ -108,7 +113,8 @@ pub fn push_frame(alloc: Global, out: &mut Vec<u8>, page: &Page<'_>) -> Result<(
 // Every other column is shaded.
 fn push_zebra(out: &mut Vec<u8>, page: &Page<'_>) -> Result<(), AllocError>
     requires { IsBetweenTags out.old.items }
-    ensures { OnOk result (AddsElements out.old.items out.new.items) }
+    ensures whole { OnOk result (AddsElements out.old.items out.new.items) }
+    ensures keeps { OnOk result (Keeps out.old.items out.new.items) }
 {
     if !page.has_words {
         return Ok(());
@@ -127,19 +133,29 @@ fn push_zebra(out: &mut Vec<u8>, page: &Page<'_>) -> Result<(), AllocError>
     Ok(())
 }
 
-// The numbers of the turns, below the lanes.
-fn push_turns(out: &mut Vec<u8>, page: &Page<'_>) -> Result<(), AllocError>
+// The line below the lanes.
+fn push_axis(out: &mut Vec<u8>, page: &Page<'_>) -> Result<(), AllocError>
     requires { IsBetweenTags out.old.items }
-    ensures { OnOk result (AddsElements out.old.items out.new.items) }
+    ensures whole { OnOk result (AddsElements out.old.items out.new.items) }
+    ensures keeps { OnOk result (Keeps out.old.items out.new.items) }
 {
     let y = page.bottom;
     push_line(out, Class::of("axis"), (page.left, y), (page.right(), y))?;
-    push_words(out, Class::of("gray"), Px(24), y.plus(15), b"turn")?;
+    push_words(out, Class::of("gray"), Px(24), y.plus(15), b"turn")
+}
+
+// The numbers of the turns below it.
+fn push_turns(out: &mut Vec<u8>, page: &Page<'_>) -> Result<(), AllocError>
+    requires { IsBetweenTags out.old.items }
+    ensures whole { OnOk result (AddsElements out.old.items out.new.items) }
+    ensures keeps { OnOk result (Keeps out.old.items out.new.items) }
+{
+    let y = page.bottom.plus(15);
     let every = turns_apart(page);
     for turn in page.chart.first..page.chart.last {
         if turn % every == 0 {
             let x = page.turn_at(turn);
-            push_label(out, Class::of("turn"), x, y.plus(15), u64::from(turn))?;
+            push_label(out, Class::of("turn"), x, y, u64::from(turn))?;
         }
     }
     Ok(())
@@ -159,7 +175,7 @@ fn turns_apart(page: &Page<'_>) -> u32
     }
 }
 
-// The name of a lane, its priority, and the line of its thread, to its end.
+// The name of a lane's thread, its priority, and its line.
 fn push_lane(
     alloc: Global,
     out: &mut Vec<u8>,
@@ -167,26 +183,66 @@ fn push_lane(
     lane: &Lane,
 ) -> Result<(), AllocError>
     requires { IsBetweenTags out.old.items }
-    ensures { OnOk result (AddsElements out.old.items out.new.items) }
+    ensures whole { OnOk result (AddsElements out.old.items out.new.items) }
+    ensures keeps { OnOk result (Keeps out.old.items out.new.items) }
+    ensures name { OnOk result (NameIsOn page.now out.new.items lane.now) }
+    ensures stop { OnOk result (StopsAt out.new.items lane.now (stop_at page.now lane.now.thread.0)) }
+{
+    push_name(alloc, out, page, lane)?;
+    push_own_line(out, page, lane)
+}
+
+fn push_name(
+    alloc: Global,
+    out: &mut Vec<u8>,
+    page: &Page<'_>,
+    lane: &Lane,
+) -> Result<(), AllocError>
+    requires { IsBetweenTags out.old.items }
+    ensures whole { OnOk result (AddsElements out.old.items out.new.items) }
+    ensures keeps { OnOk result (Keeps out.old.items out.new.items) }
+    ensures name { OnOk result (NameIsOn page.now out.new.items lane.now) }
 {
     let t = lane.thread;
     let name = page.plan.thread_name(t);
     push_words(out, Class::of("name"), Px(24), lane.line().plus(4), name)?;
-    push_priority(alloc, out, page, t, lane.line().plus(20))?;
-    let end = end_of(page, t);
-    let (y, right) = (lane.line(), end.unwrap_or(page.right()));
-    push_line(out, Class::of("line"), (page.left, y), (right, y))?;
-    if let Some(x) = end {
-        push_line(out, Class::of("stops"), (x, y.minus(11)), (x, y.plus(11)))?;
-        push_words(out, Class::of("gray"), x.plus(5), y.plus(4), b"done")?;
+    push_priority(alloc, out, page, t, lane.line().plus(20))
+}
+
+// The line of a lane's thread, to its end.
+fn push_own_line(out: &mut Vec<u8>, page: &Page<'_>, lane: &Lane) -> Result<(), AllocError>
+    requires { IsBetweenTags out.old.items }
+    ensures whole { OnOk result (AddsElements out.old.items out.new.items) }
+    ensures keeps { OnOk result (Keeps out.old.items out.new.items) }
+    ensures stop { OnOk result (StopsAt out.new.items lane.now (stop_at page.now lane.now.thread.0)) }
+{
+    let y = lane.line();
+    match end_of(page, lane.thread) {
+        Some(x) => {
+            push_line(out, Class::of("line"), (page.left, y), (x, y))?;
+            push_stop(out, x, lane)
+        }
+        None => push_line(out, Class::of("line"), (page.left, y), (page.right(), y)),
     }
-    Ok(())
+}
+
+// A stroke across the line, and a word.
+fn push_stop(out: &mut Vec<u8>, x: Px, lane: &Lane) -> Result<(), AllocError>
+    requires { IsBetweenTags out.old.items }
+    ensures whole { OnOk result (AddsElements out.old.items out.new.items) }
+    ensures keeps { OnOk result (Keeps out.old.items out.new.items) }
+    ensures stands { OnOk result (StopsAt out.new.items lane.now (Some x.0)) }
+{
+    push_words(out, Class::of("gray"), x.plus(5), lane.line().plus(4), b"done")?;
+    let (begin, end) = (lane.begin.plus(25), lane.begin.plus(47));
+    push_line(out, Class::of("stops"), (x, begin), (x, end))
 }
 
 // Below the first lane's priority: which of two goes first.
 fn push_hint(out: &mut Vec<u8>, page: &Page<'_>) -> Result<(), AllocError>
     requires { IsBetweenTags out.old.items }
-    ensures { OnOk result (AddsElements out.old.items out.new.items) }
+    ensures whole { OnOk result (AddsElements out.old.items out.new.items) }
+    ensures keeps { OnOk result (Keeps out.old.items out.new.items) }
 {
     match page.lanes.first() {
         Some(lane) => push_words(
@@ -201,7 +257,9 @@ fn push_hint(out: &mut Vec<u8>, page: &Page<'_>) -> Result<(), AllocError>
 }
 
 /// Where a thread came to its end, where that is on the page.
-pub fn end_of(page: &Page<'_>, t: ThreadNo) -> Option<Px> {
+pub fn end_of(page: &Page<'_>, t: ThreadNo) -> Option<Px>
+    ensures { option_map (λ x. x.0) result ≡ stop_at page.now t.0 }
+{
     let lane = page.chart.lanes.as_slice().get(usize::from(t.0))?;
     let row = lane.ended?;
     if row > page.chart.last {
@@ -219,7 +277,8 @@ fn push_priority(
     y: Px,
 ) -> Result<(), AllocError>
     requires { IsBetweenTags out.old.items }
-    ensures { OnOk result (AddsElements out.old.items out.new.items) }
+    ensures whole { OnOk result (AddsElements out.old.items out.new.items) }
+    ensures keeps { OnOk result (Keeps out.old.items out.new.items) }
 {
     let Some(thread) = page.plan.threads.as_slice().get(usize::from(t.0)) else {
         return Ok(());

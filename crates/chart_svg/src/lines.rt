@@ -73,11 +73,19 @@ pub fn push_lines(
 {
     let mut y = y;
     for line in lines {
-        if let Some(number) = line.number {
-            push_label(out, Class::of("nr"), x.minus(10), y, u64::from(number))?;
-        }
-        push_words(out, line.class, x, y, &line.words)?;
+        push_one(out, line, x, y)?;
         y = y.plus(pitch);
     }
     Ok(())
+}
+
+fn push_one(out: &mut Vec<u8>, line: &Line, x: Px, y: Px) -> Result<(), AllocError>
+    requires { IsBetweenTags out.old.items }
+    ensures whole { OnOk result (AddsElements out.old.items out.new.items) }
+    ensures keeps { OnOk result (Keeps out.old.items out.new.items) }
+{
+    if let Some(number) = line.number {
+        push_label(out, Class::of("nr"), x.minus(10), y, u64::from(number))?;
+    }
+    push_words(out, line.class, x, y, &line.words)
 }

@@ -1,10 +1,12 @@
 //! The marks of the turns, with their words where there is room for words.
-ghost use Rattle.std.specs.Prelude.{OnOk};
+ghost use Rattle.std.specs.Prelude.{◌≡◌, ◌+◌, ◌++◌, All, IfOk, OnOk};
 ghost use Rattle.chart_escape.specs.Reader.{AddsElements, IsBetweenTags};
-ghost use Rattle.chart_svg.specs.Drawn.{Keeps};
+ghost use Rattle.chart_svg.specs.Drawn.{class_bytes, dot_class, mark_bytes, mark_title, note_of, pixels, turn_at, Keeps, Stands};
+ghost use Rattle.chart_svg.specs.Lanes.{scale_of, HasRoom};
+ghost use Rattle.chart_svg.specs.Pages.{MarkIsOn};
 
 use crate::page::{Lane, Page};
-use crate::pixels::width_of;
+use crate::pixels::{Px, width_of};
 use crate::shapes::{Figure, push_dot, push_figure, push_words};
 use crate::tags::Class;
 use chart_layout::{Mark, MarkKind};
@@ -14,19 +16,32 @@ use std::alloc::{AllocError, Global};
 
 /// Pushes all marks.
 pub fn push_marks(alloc: Global, out: &mut Vec<u8>, page: &Page<'_>) -> Result<(), AllocError>
-    requires { IsBetweenTags out.old.items }
+    requires between { IsBetweenTags out.old.items }
+    requires room { HasRoom page.now }
     ensures whole { OnOk result (AddsElements out.old.items out.new.items) }
     ensures keeps { OnOk result (Keeps out.old.items out.new.items) }
+    ensures drawn { OnOk result (All (MarkIsOn page.now out.new.items) page.now.chart.now.marks) }
 {
     for mark in page.chart.marks.as_slice() {
-        if let Some(lane) = page.lanes.get(usize::from(mark.thread.0)) {
-            push_one(alloc, out, page, *mark, lane)?;
-        }
+        push_one(alloc, out, page, *mark)?;
     }
     Ok(())
 }
 
-fn push_one(
+fn push_one(alloc: Global, out: &mut Vec<u8>, page: &Page<'_>, mark: Mark) -> Result<(), AllocError>
+    requires between { IsBetweenTags out.old.items }
+    requires room { HasRoom page.now }
+    ensures whole { OnOk result (AddsElements out.old.items out.new.items) }
+    ensures keeps { OnOk result (Keeps out.old.items out.new.items) }
+    ensures drawn { OnOk result (MarkIsOn page.now out.new.items mark) }
+{
+    match page.lane_of(mark.thread) {
+        Some(lane) => push_in_lane(alloc, out, page, mark, lane),
+        None => Ok(()),
+    }
+}
+
+fn push_in_lane(
     alloc: Global,
     out: &mut Vec<u8>,
     page: &Page<'_>,
@@ -36,22 +51,56 @@ fn push_one(
     requires { IsBetweenTags out.old.items }
     ensures whole { OnOk result (AddsElements out.old.items out.new.items) }
     ensures keeps { OnOk result (Keeps out.old.items out.new.items) }
+    ensures stands { OnOk result (Stands out.new.items (mark_bytes page.now.plan.now mark
+        (turn_at (scale_of page.now) page.now.chart.now mark.turn)
+        (pixels (lane.now.begin.0 + 19)))) }
 {
     let x = page.turn_at(mark.turn);
-    let y = lane.marks();
-    let said = said_of(alloc, page, mark)?;
+    push_shape(alloc, out, page, mark, (x, lane.marks()))?;
+    push_own_words(alloc, out, page, mark, (x, lane.words()))
+}
+
+// The words of a mark, where there is room for words, and where they don't stand before its reason.
+fn push_own_words(
+    alloc: Global,
+    out: &mut Vec<u8>,
+    page: &Page<'_>,
+    mark: Mark,
+    at: (Px, Px),
+) -> Result<(), AllocError>
+    requires { IsBetweenTags out.old.items }
+    ensures whole { OnOk result (AddsElements out.old.items out.new.items) }
+    ensures keeps { OnOk result (Keeps out.old.items out.new.items) }
+{
+    if !page.has_words || page.has_reason(mark) {
+        return Ok(());
+    }
     let mut words = Vec::new(alloc);
     push_mark(&mut words, page.plan, mark.what)?;
+    let fitting = fitting(&words, page.column);
+    push_words(out, word_class(mark.what), at.0, at.1, fitting)
+}
+
+// A mark without its words.
+fn push_shape(
+    alloc: Global,
+    out: &mut Vec<u8>,
+    page: &Page<'_>,
+    mark: Mark,
+    at: (Px, Px),
+) -> Result<(), AllocError>
+    requires { IsBetweenTags out.old.items }
+    ensures whole { OnOk result (AddsElements out.old.items out.new.items) }
+    ensures keeps { OnOk result (Keeps out.old.items out.new.items) }
+    ensures stands { OnOk result (Stands out.new.items
+        (mark_bytes page.now.plan.now mark at.0.0 at.1.0)) }
+{
+    let said = said_of(alloc, page, mark)?;
     if mark.what.is_refusal() {
-        push_figure(alloc, out, Class::of("cross"), Figure::Cross, (x, y), &said)?;
+        push_figure(alloc, out, Class::of("cross"), Figure::Cross, at, &said)
     } else {
-        push_dot(out, dot_class(mark.what), x, y, &said)?;
+        push_dot(out, dot_class(mark.what), at.0, at.1, &said)
     }
-    if page.has_words {
-        let fitting = fitting(&words, page.column);
-        push_words(out, word_class(mark.what), x, lane.words(), fitting)?;
-    }
-    Ok(())
 }
 
 // What has room in a column: the words, or else the first of them.
@@ -65,7 +114,9 @@ fn fitting(words: &[u8], column: u32) -> &[u8] {
     }
 }
 
-fn dot_class(what: MarkKind) -> Class {
+fn dot_class(what: MarkKind) -> Class
+    ensures { class_bytes result ≡ dot_class what }
+{
     match what {
         MarkKind::Idle => Class::of("idle"),
         MarkKind::Noted(_) | MarkKind::Did(_) => Class::of("dot"),
@@ -81,39 +132,52 @@ fn word_class(what: MarkKind) -> Class {
 }
 
 // What is said where a mark is pointed at: `turn 3, low: add bus 1 1`.
-fn said_of(alloc: Global, page: &Page<'_>, mark: Mark) -> Result<Vec<u8>, AllocError> {
+fn said_of(alloc: Global, page: &Page<'_>, mark: Mark) -> Result<Vec<u8>, AllocError>
+    ensures { IfOk result (λ said. said.items ≡ mark_title page.now.plan.now mark) }
+{
     let mut said = Vec::from_slice(alloc, b"turn ")?;
     push_digits(&mut said, u64::from(mark.turn))?;
     said.extend_from_slice(b", ")?;
     said.extend_from_slice(page.plan.thread_name(mark.thread))?;
     said.extend_from_slice(b": ")?;
     push_mark(&mut said, page.plan, mark.what)?;
-    match mark.what {
-        MarkKind::Noted(event) => push_note(&mut said, page.plan, event)?,
-        MarkKind::Did(_) => {}
-        MarkKind::Idle => said.extend_from_slice(b"idle")?,
-    }
+    push_own_note(&mut said, page, mark.what)?;
     Ok(said)
 }
 
-/// Pushes why something was refused, or that nobody heard it, above the words of its mark.
-pub fn push_reasons(out: &mut Vec<u8>, page: &Page<'_>) -> Result<(), AllocError>
+// What it says behind the word of what was done.
+fn push_own_note(out: &mut Vec<u8>, page: &Page<'_>, what: MarkKind) -> Result<(), AllocError>
+    ensures { OnOk result (out.new.items ≡ out.old.items ++ note_of page.now.plan.now what) }
+{
+    match what {
+        MarkKind::Noted(event) => push_note(out, page.plan, event),
+        MarkKind::Did(_) => Ok(()),
+        MarkKind::Idle => out.extend_from_slice(b"idle"),
+    }
+}
+
+/// Pushes the words of refusals, each with its reason, above the words of other marks.
+pub fn push_reasons(alloc: Global, out: &mut Vec<u8>, page: &Page<'_>) -> Result<(), AllocError>
     requires { IsBetweenTags out.old.items }
     ensures whole { OnOk result (AddsElements out.old.items out.new.items) }
     ensures keeps { OnOk result (Keeps out.old.items out.new.items) }
 {
     for mark in &page.reasons {
-        if let Some(lane) = page.lanes.get(usize::from(mark.thread.0)) {
+        if let Some(lane) = page.lane_of(mark.thread) {
             let (x, y) = (page.turn_at(mark.turn), lane.begin.minus(1));
-            push_words(out, Class::of("no"), x, y, reason(mark.what))?;
+            push_words(out, Class::of("no"), x, y, &reason_words(alloc, page, *mark)?)?;
         }
     }
     Ok(())
 }
 
-fn reason(what: MarkKind) -> &'static [u8] {
-    match what {
-        MarkKind::Noted(Event::Reversed { .. }) => b"it would close a circle",
-        MarkKind::Noted(_) | MarkKind::Did(_) | MarkKind::Idle => b"nobody sleeps there: lost",
-    }
+// What was refused, and why: `refused fork1: it would close a circle`.
+fn reason_words(alloc: Global, page: &Page<'_>, mark: Mark) -> Result<Vec<u8>, AllocError> {
+    let mut words = Vec::new(alloc);
+    push_mark(&mut words, page.plan, mark.what)?;
+    words.extend_from_slice(match mark.what {
+        MarkKind::Noted(Event::Reversed { .. }) => b": it would close a circle",
+        MarkKind::Noted(_) | MarkKind::Did(_) | MarkKind::Idle => b": lost, nobody sleeps there",
+    })?;
+    Ok(words)
 }

@@ -2,10 +2,11 @@
 //! a level overlap: a bar comes on the first level that is free there, and one of a thread that was taken off its queue
 //! or woken on that of its wait.
 
-ghost use Rattle.std.specs.Prelude.{◌≡◌, ◌<◌, ℕ, vec_len, All, IfOk, OnOk};
+ghost use Rattle.std.specs.Prelude.{◌-◌, ◌≤◌, vec_len, All, IfOk, OnOk};
 ghost use Rattle.chart_layout.specs.declared.layout.Bar.{Bar};
-ghost use Rattle.chart_svg.specs.Lanes.{IsAt, IsLaid};
+ghost use Rattle.chart_svg.specs.Lanes.{IsLaid};
 
+use crate::grouping::put_at;
 use crate::pixels::count;
 use chart_layout::{Bar, BarKind};
 use std::alloc::{AllocError, Global};
@@ -22,8 +23,10 @@ pub struct Packed {
 impl Packed {
     // One bar more. A thread waits on that level, and the level of its wait is returned.
     fn lay(&mut self, alloc: Global, waits_on: u32, bar: Bar) -> Result<u32, AllocError>
+        requires { waits_on ≤ vec_len self.old.levels - 1 }
         ensures keeps { OnOk result ((other : Bar) → IsLaid self.old other → IsLaid self.new other) }
         ensures lays { OnOk result (IsLaid self.new bar) }
+        ensures waits { IfOk result (λ level. level ≤ vec_len self.new.levels - 1) }
     {
         if is_walk(bar.what) {
             self.walks.push((bar, waits_on))?;
@@ -35,7 +38,10 @@ impl Packed {
     }
 
     // On which level a bar comes.
-    fn level_of(&self, waits_on: u32, bar: Bar) -> u32 {
+    fn level_of(&self, waits_on: u32, bar: Bar) -> u32
+        requires { waits_on ≤ vec_len self.now.levels - 1 }
+        ensures { result ≤ vec_len self.now.levels }
+    {
         if is_off(bar.what) && self.is_free(waits_on, bar.first) {
             waits_on
         } else {
@@ -47,6 +53,9 @@ impl Packed {
     fn put(&mut self, alloc: Global, level: usize, bar: Bar) -> Result<(), AllocError>
         ensures keeps { OnOk result ((other : Bar) → IsLaid self.old other → IsLaid self.new other) }
         ensures puts { OnOk result (IsLaid self.new bar) }
+        ensures long { OnOk result (level ≤ vec_len self.old.levels
+            → level ≤ vec_len self.new.levels - 1) }
+        ensures grows { OnOk result (vec_len self.old.levels ≤ vec_len self.new.levels) }
     {
         if level < self.levels.len() {
             put_at(&mut self.levels, level, bar)
@@ -66,7 +75,9 @@ impl Packed {
         }
     }
 
-    fn first_free(&self, row: u32) -> u32 {
+    fn first_free(&self, row: u32) -> u32
+        ensures { result ≤ vec_len self.now.levels }
+    {
         match self.levels.iter().position(|bars| ends_before(bars, row)) {
             Some(level) => count(level),
             None => count(self.levels.len()),
@@ -78,22 +89,6 @@ fn ends_before(bars: &[Bar], row: u32) -> bool {
     match bars.last() {
         Some(bar) => bar.last < row,
         None => true,
-    }
-}
-
-/// Puts a bar behind those of the list at a place, if there is one.
-pub fn put_at(lists: &mut Vec<Vec<Bar>>, place: usize, bar: Bar) -> Result<(), AllocError>
-    ensures len { vec_len lists.new ≡ vec_len lists.old }
-    ensures keeps { OnOk result ((at : ℕ) (other : Bar)
-        → IsAt lists.old.items at other → IsAt lists.new.items at other) }
-    ensures puts { OnOk result (place < vec_len lists.old → IsAt lists.new.items place bar) }
-{
-    match lists.get_mut(place) {
-        Some(bars) => {
-            bars.push(bar)?;
-            Ok(())
-        }
-        None => Ok(()),
     }
 }
 

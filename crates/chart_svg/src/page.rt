@@ -1,11 +1,11 @@
 //! Where all columns and lanes are. A column is a turn, and its mark stands in the middle of it; a row of the run goes
 //! from the middle of one column to the middle of the next.
-ghost use Rattle.std.specs.Prelude.{◌≡◌, ◌≤◌, length, vec_len, All, IfOk, OnOk};
-ghost use Rattle.chart_layout.specs.declared.layout.Bar.{Bar};
-ghost use Rattle.chart_svg.specs.Drawn.{right_edge, row_begin, row_end, turn_at};
-ghost use Rattle.chart_svg.specs.Lanes.{scale_of, HasBars, IsByLane, IsInLane, IsLaid};
+ghost use Rattle.std.specs.Prelude.{◌≡◌, false, ℕ, ◌+◌, ◌-◌, ◌*◌, ◌≤◌, length, All, IfOk, OnOk, slice_get, MatchOption, Some};
+ghost use Rattle.chart_svg.specs.Drawn.{pixels, right_edge, row_begin, row_end, turn_at};
+ghost use Rattle.chart_svg.specs.Lanes.{bar_bottom, bar_top, pitch_of, rank_in, scale_of, Fits, HasBars, HasLaneMore, HasLanes, HasPrios, HasRoom, HasStep, HasSteps, IsLaid};
 
-use crate::packing::{Packed, pack, put_at};
+use crate::grouping::by_thread;
+use crate::packing::{Packed, pack};
 use crate::pixels::{Px, count, width_of};
 use chart_layout::{Arrow, ArrowKind, Bar, Chart, Mark, Sentence, Step};
 use chart_words::{push_arrow, push_mark};
@@ -32,7 +32,7 @@ pub struct Page<'c> {
     pub lanes: Vec<Lane>,
     /// The priorities that occur, the most important first.
     pub prios: Vec<Prio>,
-    /// The refusals whose reason stands above their words, by turn.
+    /// The refusals whose words have their reason with them, and stand above those of other marks, by turn.
     pub reasons: Vec<Mark>,
 }
 
@@ -55,45 +55,70 @@ pub struct Lane {
 
 impl Lane {
     /// Where the words of its marks stand, the marks, and the line of its thread.
-    pub fn words(&self) -> Px {
+    pub fn words(&self) -> Px
+        ensures { result.0 ≡ pixels (self.now.begin.0 + 11) }
+    {
         self.begin.plus(11)
     }
 
-    pub fn marks(&self) -> Px {
+    pub fn marks(&self) -> Px
+        ensures { result.0 ≡ pixels (self.now.begin.0 + 19) }
+    {
         self.begin.plus(19)
     }
 
-    pub fn line(&self) -> Px {
+    pub fn line(&self) -> Px
+        ensures { result.0 ≡ pixels (self.now.begin.0 + 36) }
+    {
         self.begin.plus(36)
     }
 
     /// The top and the bottom of the bars of a level.
-    pub fn bar_top(&self, level: u32) -> Px {
+    pub fn bar_top(&self, level: u32) -> Px
+        ensures { result.0 ≡ bar_top self.now level }
+    {
         self.begin.plus(27).plus_times(level, self.pitch)
     }
 
-    pub fn bar_bottom(&self, level: u32) -> Px {
+    pub fn bar_bottom(&self, level: u32) -> Px
+        ensures { result.0 ≡ bar_bottom self.now level }
+    {
         self.bar_top(level).plus(18)
     }
 
     // Its strip below its bars, where it was lent to, and the end of the lane.
-    fn put_strip(&mut self, height: u32)
-        ensures { self.new.bars ≡ self.old.bars }
+    fn put_strip(&mut self, page: &Page<'_>)
+        requires begins { self.old.top.0 ≤ self.old.begin.0 }
+        requires begin_fits { self.old.begin.0 ≤ 4294967295 }
+        ensures same { self.new
+            ≡ record self.old { strip = self.new.strip; bottom = self.new.bottom } }
+        ensures fits { Fits page.now self.new }
+        ensures steps { All (HasStep self.new) self.new.steps.items }
     {
-        let room = if self.bars.walks.is_empty() { 4 } else { 13 };
-        let end = self.bars_end().plus(room);
-        let is_lent_to = self.steps.iter().any(|step| step.effective != step.base);
-        self.strip = if is_lent_to { Some(end.plus(5)) } else { None };
-        self.bottom = if is_lent_to {
-            end.plus(height).plus(27)
+        let end = self.bars_end();
+        if self.is_lent_to() {
+            self.strip = Some(end.plus(5));
+            self.bottom = end.plus(page.strip_height()).plus(27);
         } else {
-            end.plus(20)
-        };
+            self.strip = None;
+            self.bottom = end.plus(20);
+        }
     }
 
-    // The bottom of its last bars.
-    fn bars_end(&self) -> Px {
+    // Below its last bars, and the walks there.
+    fn bars_end(&self) -> Px
+        ensures { (level : ℕ) → level ≤ length self.now.bars.levels.items - 1
+            → pixels (bar_bottom self.now level + 4) ≤ result.0 }
+    {
+        let room = if self.bars.walks.is_empty() { 4 } else { 13 };
         self.bar_bottom(count(self.bars.levels.len()).saturating_sub(1))
+            .plus(room)
+    }
+
+    fn is_lent_to(&self) -> bool
+        ensures { result ≡ false → All (λ step. step.effective ≡ step.base) self.now.steps.items }
+    {
+        self.steps.iter().any(|step| step.effective != step.base)
     }
 }
 
@@ -108,7 +133,11 @@ impl<'c> Page<'c> {
         ensures plan { IfOk result (λ page. page.plan.now ≡ plan.now) }
         ensures chart { IfOk result (λ page. page.chart.now ≡ chart.now) }
         ensures width { IfOk result (λ page. 9 ≤ page.column) }
+        ensures room { IfOk result HasRoom }
+        ensures lanes { IfOk result (λ page. HasLanes page chart.now) }
         ensures bars { IfOk result (λ page. HasBars page chart.now) }
+        ensures steps { IfOk result (λ page. HasSteps page chart.now) }
+        ensures prios { IfOk result (λ page. HasPrios page.prios.items chart.now.steps) }
     {
         let columns = chart.last.saturating_sub(chart.first).max(1);
         let has_words = columns <= MOST_WORDS;
@@ -136,20 +165,20 @@ impl<'c> Page<'c> {
 
     // The lanes, one below the other.
     fn put_lanes(&mut self, alloc: Global) -> Result<(), AllocError>
-        ensures plan { self.new.plan ≡ self.old.plan }
-        ensures chart { self.new.chart ≡ self.old.chart }
-        ensures left { self.new.left ≡ self.old.left }
-        ensures column { self.new.column ≡ self.old.column }
+        requires none { length self.old.lanes.items ≡ 0 }
+        requires fits { self.old.bottom.0 ≤ 4294967295 }
+        ensures same { self.new
+            ≡ record self.old { lanes = self.new.lanes; bottom = self.new.bottom } }
+        ensures room { OnOk result (HasRoom self.new) }
+        ensures lanes { OnOk result (HasLanes self.new self.old.chart.now) }
         ensures bars { OnOk result (HasBars self.new self.old.chart.now) }
+        ensures steps { OnOk result (HasSteps self.new self.old.chart.now) }
     {
         let lanes = self.chart.lanes.as_slice();
-        let own = bars_by_lane(alloc, lanes.len(), self.chart.bars.as_slice())?;
-        let mut steps = self.chart.steps.as_slice();
-        for (i, bars) in own.iter().enumerate() {
-            let thread = lanes[i].thread;
-            let (strip, behind) = steps.split_at(steps_of(steps, thread));
-            self.put_lane(alloc, thread, bars, strip)?;
-            steps = behind;
+        let bars = by_thread(alloc, lanes.len(), self.chart.bars.as_slice())?;
+        let steps = by_thread(alloc, lanes.len(), self.chart.steps.as_slice())?;
+        for (t, lane) in lanes.iter().enumerate() {
+            self.put_lane(alloc, lane.thread, &bars[t], &steps[t])?;
         }
         Ok(())
     }
@@ -162,22 +191,34 @@ impl<'c> Page<'c> {
         bars: &[Bar],
         steps: &[Step],
     ) -> Result<(), AllocError>
-        ensures plan { self.new.plan ≡ self.old.plan }
-        ensures chart { self.new.chart ≡ self.old.chart }
-        ensures left { self.new.left ≡ self.old.left }
-        ensures column { self.new.column ≡ self.old.column }
-        ensures keeps { OnOk result ((bar : Bar) → IsInLane self.old.lanes.items bar
-            → IsInLane self.new.lanes.items bar) }
-        ensures bars { OnOk result (All (IsInLane self.new.lanes.items) bars.now) }
+        requires { HasRoom self.old }
+        ensures same { self.new
+            ≡ record self.old { lanes = self.new.lanes; bottom = self.new.bottom } }
+        ensures room { OnOk result (HasRoom self.new) }
+        ensures more { OnOk result
+            (HasLaneMore self.old.lanes.items self.new.lanes.items thread bars.now steps.now) }
     {
         let has_reason = self.reasons.iter().any(|mark| mark.thread == thread);
         let begin = self.bottom.plus(if has_reason { 12 } else { 0 });
         let mut lane = lane_at(alloc, thread, begin, bars, steps)?;
         lane.top = self.bottom;
-        lane.put_strip(self.strip_height());
+        lane.put_strip(self);
         self.bottom = lane.bottom;
         self.lanes.push(lane)?;
         Ok(())
+    }
+
+    /// The lane of a thread, if it has one.
+    pub fn lane_of(&self, t: ThreadNo) -> Option<&Lane>
+        ensures { MatchOption result (length self.now.lanes.items ≤ t.0)
+            (λ lane. slice_get self.now.lanes.items t.0 ≡ Some lane.now) }
+    {
+        self.lanes.get(usize::from(t.0))
+    }
+
+    /// Whether the words of a mark have their reason with them.
+    pub fn has_reason(&self, mark: Mark) -> bool {
+        self.reasons.iter().any(|other| *other == mark)
     }
 
     /// What is said of a turn.
@@ -231,50 +272,39 @@ impl<'c> Page<'c> {
     }
 
     /// How far the priorities of a strip lie apart, and how high a strip is.
-    pub fn prio_pitch(&self) -> u32 {
-        let gaps = self.prios.len().saturating_sub(1).clamp(1, 255) as u32;
-        (84 / gaps).clamp(2, 15)
+    pub fn prio_pitch(&self) -> u32
+        ensures { result ≡ pitch_of (length self.now.prios.items) }
+    {
+        (84 / self.gaps().max(1)).clamp(2, 15)
     }
 
-    pub fn strip_height(&self) -> u32 {
-        let gaps = self.prios.len().saturating_sub(1).min(255) as u32;
-        self.prio_pitch().saturating_mul(gaps)
+    pub fn strip_height(&self) -> u32
+        ensures { result ≡ pixels
+            (pitch_of (length self.now.prios.items) * (length self.now.prios.items - 1)) }
+    {
+        self.prio_pitch().saturating_mul(self.gaps())
+    }
+
+    fn gaps(&self) -> u32
+        ensures { result ≡ pixels (length self.now.prios.items) - 1 }
+    {
+        count(self.prios.len()).saturating_sub(1)
     }
 
     /// Where a priority is in a strip that begins there. More important is up.
-    pub fn prio_at(&self, strip: Px, prio: Prio) -> Px {
-        let rank = count(self.prios.partition_point(|other| *other < prio));
-        strip.plus_times(rank, self.prio_pitch())
+    pub fn prio_at(&self, strip: Px, prio: Prio) -> Px
+        ensures { result.0 ≡ pixels (strip.0 + rank_in self.now.prios.items prio.0
+            * pitch_of (length self.now.prios.items)) }
+    {
+        strip.plus_times(count(self.rank_of(prio)), self.prio_pitch())
     }
-}
 
-// The bars of each of so many lanes.
-fn bars_by_lane(alloc: Global, lanes: usize, bars: &[Bar]) -> Result<Vec<Vec<Bar>>, AllocError>
-    ensures len { IfOk result (λ own. vec_len own ≡ lanes) }
-    ensures bars { IfOk result (λ own. All (IsByLane own.items lanes) bars.now) }
-{
-    let mut own = empty_lists(alloc, lanes)?;
-    for bar in bars {
-        put_at(&mut own, usize::from(bar.thread.0), *bar)?;
+    // How many priorities are more important.
+    fn rank_of(&self, prio: Prio) -> usize
+        ensures { result ≡ rank_in self.now.prios.items prio.0 }
+    {
+        self.prios.iter().filter(|other| other.0 < prio.0).count()
     }
-    Ok(own)
-}
-
-fn empty_lists(alloc: Global, n: usize) -> Result<Vec<Vec<Bar>>, AllocError>
-    ensures { IfOk result (λ lists. vec_len lists ≡ n) }
-{
-    let mut lists = Vec::new(alloc);
-    for _ in 0..n {
-        lists.push(Vec::new(alloc))?;
-    }
-    Ok(lists)
-}
-
-// How many of the steps at the front are of that thread.
-fn steps_of(steps: &[Step], t: ThreadNo) -> usize
-    ensures { result ≤ length steps.now }
-{
-    steps.iter().take_while(|step| step.thread == t).count()
 }
 
 // A lane whose marks' words begin there, without its strip.
@@ -285,7 +315,10 @@ fn lane_at(
     bars: &[Bar],
     steps: &[Step],
 ) -> Result<Lane, AllocError>
-    ensures { IfOk result (λ lane. All (IsLaid lane.bars) bars.now) }
+    ensures thread { IfOk result (λ lane. lane.thread ≡ thread) }
+    ensures begin { IfOk result (λ lane. lane.begin ≡ begin) }
+    ensures bars { IfOk result (λ lane. All (IsLaid lane.bars) bars.now) }
+    ensures steps { IfOk result (λ lane. lane.steps.items ≡ steps.now) }
 {
     let packed = pack(alloc, bars)?;
     Ok(Lane {
@@ -364,12 +397,14 @@ fn reasons_of(alloc: Global, marks: &[Mark], column: u32) -> Result<Vec<Mark>, A
 fn is_near(reasons: &[Mark], mark: Mark, column: u32) -> bool {
     reasons.iter().any(|other| {
         let turns = mark.turn.saturating_sub(other.turn);
-        other.thread == mark.thread && turns.saturating_mul(column) < 150
+        other.thread == mark.thread && turns.saturating_mul(column) < 250
     })
 }
 
 /// The priorities that occur in steps, each once, the most important first.
-pub fn prios_of(alloc: Global, steps: &[Step]) -> Result<Vec<Prio>, AllocError> {
+pub fn prios_of(alloc: Global, steps: &[Step]) -> Result<Vec<Prio>, AllocError>
+    ensures { IfOk result (λ prios. HasPrios prios.items steps.now) }
+{
     let mut prios = Vec::new(alloc);
     for step in steps {
         prios.push(step.effective)?;

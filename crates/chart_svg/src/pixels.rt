@@ -36,7 +36,9 @@ impl Px {
 }
 
 /// So many, and the greatest number where there are more.
-pub fn count(n: usize) -> u32 {
+pub fn count(n: usize) -> u32
+    ensures { result ≡ pixels n }
+{
     n.min(0xffff_ffff) as u32
 }
 

@@ -1,14 +1,14 @@
 //! The few elements that a picture is made of. Each is written whole, so that behind it a reader is between tags again.
-ghost use Rattle.std.specs.Prelude.{OnOk};
+ghost use Rattle.std.specs.Prelude.{◌≡◌, ◌++◌, ◌∷◌, codes, decimal, IfOk, OnOk};
 ghost use Rattle.chart_escape.specs.Reader.{AddsElements, IsBetweenTags};
-ghost use Rattle.chart_svg.specs.Drawn.{class_bytes, rect_bytes, Keeps, Stands};
+ghost use Rattle.chart_svg.specs.Drawn.{class_bytes, dot_bytes, figure_bytes, outline, rect_bytes, words_bytes, Keeps, Stands};
+ghost use Rattle.chart_svg.specs.Shapes.{curve_bytes, label_bytes, plain_rect_bytes, stroke_bytes};
 
 use crate::pixels::Px;
 use crate::tags::{
     Attribute, Class, Tag, close_tag, close_tag_number, close_tag_said, open_tag, push_attribute,
     push_path,
 };
-use chart_escape::{Piece, push_pieces};
 use lock_model::{push_digits, push_number};
 use std::alloc::{AllocError, Global};
 
@@ -32,11 +32,26 @@ pub enum Figure {
     Cross,
 }
 
+impl Figure {
+    // Its outline, as SVG writes one, from its point.
+    fn outline(self) -> &'static [u8]
+        ensures { result.now ≡ outline self }
+    {
+        match self {
+            Figure::Up => b"l-4 8h8z",
+            Figure::Down => b"l-4-8h8z",
+            Figure::Cross => b"m-5-5l10 10m0-10l-10 10",
+        }
+    }
+}
+
 /// Pushes a rectangle with round corners.
 pub fn push_rect(out: &mut Vec<u8>, class: Class, area: Area) -> Result<(), AllocError>
     requires { IsBetweenTags out.old.items }
     ensures whole { OnOk result (AddsElements out.old.items out.new.items) }
     ensures keeps { OnOk result (Keeps out.old.items out.new.items) }
+    ensures stands { OnOk result (Stands out.new.items
+        (plain_rect_bytes (class_bytes class) area)) }
 {
     open_tag(out, Tag::Rect, class)?;
     push_attribute(out, Attribute::X, area.x.0)?;
@@ -60,25 +75,13 @@ pub fn push_rect_said(
     ensures stands { OnOk result (Stands out.new.items
         (rect_bytes (class_bytes class) area said.now)) }
 {
-    push_pieces(
-        out,
-        &[
-            Piece::Own("<rect class='"),
-            Piece::Text(class.word.as_bytes()),
-            Piece::Optional(class.lock),
-            Piece::Own("' x='"),
-            Piece::Number(u64::from(area.x.0)),
-            Piece::Own("' y='"),
-            Piece::Number(u64::from(area.y.0)),
-            Piece::Own("' width='"),
-            Piece::Number(u64::from(area.width)),
-            Piece::Own("' height='"),
-            Piece::Number(u64::from(area.height)),
-            Piece::Own("' rx='3'><title>"),
-            Piece::Text(said),
-            Piece::Own("</title></rect>\n"),
-        ],
-    )
+    open_tag(out, Tag::Rect, class)?;
+    push_attribute(out, Attribute::X, area.x.0)?;
+    push_attribute(out, Attribute::Y, area.y.0)?;
+    push_attribute(out, Attribute::Width, area.width)?;
+    push_attribute(out, Attribute::Height, area.height)?;
+    push_attribute(out, Attribute::Corner, 3)?;
+    close_tag_said(out, Tag::Rect, said)
 }
 
 /// Pushes a dot, and what is said of it.
@@ -92,6 +95,8 @@ pub fn push_dot(
     requires { IsBetweenTags out.old.items }
     ensures whole { OnOk result (AddsElements out.old.items out.new.items) }
     ensures keeps { OnOk result (Keeps out.old.items out.new.items) }
+    ensures stands { OnOk result (Stands out.new.items
+        (dot_bytes (class_bytes class) x.0 y.0 said.now)) }
 {
     open_tag(out, Tag::Circle, class)?;
     push_attribute(out, Attribute::CenterX, x.0)?;
@@ -110,6 +115,8 @@ pub fn push_line(
     requires { IsBetweenTags out.old.items }
     ensures whole { OnOk result (AddsElements out.old.items out.new.items) }
     ensures keeps { OnOk result (Keeps out.old.items out.new.items) }
+    ensures stands { OnOk result (Stands out.new.items
+        (stroke_bytes (class_bytes class) from.0.0 from.1.0 to.0.0 to.1.0)) }
 {
     open_tag(out, Tag::Line, class)?;
     push_attribute(out, Attribute::FromX, from.0.0)?;
@@ -131,18 +138,18 @@ pub fn push_figure(
     requires { IsBetweenTags out.old.items }
     ensures whole { OnOk result (AddsElements out.old.items out.new.items) }
     ensures keeps { OnOk result (Keeps out.old.items out.new.items) }
+    ensures stands { OnOk result (Stands out.new.items
+        (figure_bytes (class_bytes class) figure at.0.0 at.1.0 said.now)) }
 {
     let mut path = begin_path(alloc, at.0, at.1)?;
-    path.extend_from_slice(match figure {
-        Figure::Up => b"l-4 8h8z",
-        Figure::Down => b"l-4-8h8z",
-        Figure::Cross => b"m-5-5l10 10m0-10l-10 10",
-    })?;
+    path.extend_from_slice(figure.outline())?;
     push_curve(out, class, &path, said)
 }
 
 /// The begin of a path, as SVG writes one, at a point.
-pub fn begin_path(alloc: Global, x: Px, y: Px) -> Result<Vec<u8>, AllocError> {
+pub fn begin_path(alloc: Global, x: Px, y: Px) -> Result<Vec<u8>, AllocError>
+    ensures { IfOk result (λ path. path.items ≡ codes "M" ++ decimal x.0 ++ 32 ∷ decimal y.0) }
+{
     let mut path = Vec::from_slice(alloc, b"M")?;
     push_digits(&mut path, u64::from(x.0))?;
     push_number(&mut path, u64::from(y.0))?;
@@ -159,6 +166,8 @@ pub fn push_curve(
     requires { IsBetweenTags out.old.items }
     ensures whole { OnOk result (AddsElements out.old.items out.new.items) }
     ensures keeps { OnOk result (Keeps out.old.items out.new.items) }
+    ensures stands { OnOk result (Stands out.new.items
+        (curve_bytes (class_bytes class) path.now said.now)) }
 {
     open_tag(out, Tag::Path, class)?;
     push_path(out, path)?;
@@ -176,6 +185,8 @@ pub fn push_words(
     requires { IsBetweenTags out.old.items }
     ensures whole { OnOk result (AddsElements out.old.items out.new.items) }
     ensures keeps { OnOk result (Keeps out.old.items out.new.items) }
+    ensures stands { OnOk result (Stands out.new.items
+        (words_bytes (class_bytes class) x.0 y.0 words.now)) }
 {
     open_tag(out, Tag::Text, class)?;
     push_attribute(out, Attribute::X, x.0)?;
@@ -194,6 +205,8 @@ pub fn push_label(
     requires { IsBetweenTags out.old.items }
     ensures whole { OnOk result (AddsElements out.old.items out.new.items) }
     ensures keeps { OnOk result (Keeps out.old.items out.new.items) }
+    ensures stands { OnOk result (Stands out.new.items
+        (label_bytes (class_bytes class) x.0 y.0 number)) }
 {
     open_tag(out, Tag::Text, class)?;
     push_attribute(out, Attribute::X, x.0)?;

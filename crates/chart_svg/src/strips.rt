@@ -1,8 +1,9 @@
 //! The strips of priorities, in the lanes that were lent to: a line where the thread runs, and the loan as a filled
 //! step. More important is up.
-ghost use Rattle.std.specs.Prelude.{OnOk};
+ghost use Rattle.std.specs.Prelude.{◌≡◌, ◌++◌, codes, decimal, All, IfOk, OnOk};
 ghost use Rattle.chart_escape.specs.Reader.{AddsElements, IsBetweenTags};
-ghost use Rattle.chart_svg.specs.Drawn.{Keeps};
+ghost use Rattle.chart_svg.specs.Drawn.{loan_area, Keeps};
+ghost use Rattle.chart_svg.specs.Lanes.{scale_of, IsLentAt, LoansAreDrawn};
 
 use crate::frame::end_of;
 use crate::page::{Lane, Page, prios_of};
@@ -20,6 +21,8 @@ pub fn push_strips(alloc: Global, out: &mut Vec<u8>, page: &Page<'_>) -> Result<
     requires { IsBetweenTags out.old.items }
     ensures whole { OnOk result (AddsElements out.old.items out.new.items) }
     ensures keeps { OnOk result (Keeps out.old.items out.new.items) }
+    ensures drawn { OnOk result
+        (All (LoansAreDrawn page.now out.new.items) page.now.lanes.items) }
 {
     for lane in &page.lanes {
         push_strip(alloc, out, page, lane)?;
@@ -36,6 +39,7 @@ fn push_strip(
     requires { IsBetweenTags out.old.items }
     ensures whole { OnOk result (AddsElements out.old.items out.new.items) }
     ensures keeps { OnOk result (Keeps out.old.items out.new.items) }
+    ensures drawn { OnOk result (LoansAreDrawn page.now out.new.items lane.now) }
 {
     let Some(strip) = lane.strip else {
         return Ok(());
@@ -85,6 +89,7 @@ fn push_loan(
     requires { IsBetweenTags out.old.items }
     ensures whole { OnOk result (AddsElements out.old.items out.new.items) }
     ensures keeps { OnOk result (Keeps out.old.items out.new.items) }
+    ensures drawn { OnOk result (IsLentAt page.now out.new.items strip.0 step) }
 {
     if step.effective == step.base {
         return Ok(());
@@ -96,7 +101,10 @@ fn push_loan(
 }
 
 // From the priority as which it runs, down to its own.
-fn loan_area(page: &Page<'_>, strip: Px, step: Step) -> Area {
+fn loan_area(page: &Page<'_>, strip: Px, step: Step) -> Area
+    ensures { (scale_of page.now).strip step.thread.0 ≡ strip.0
+        → result ≡ loan_area (scale_of page.now) page.now.chart.now step }
+{
     let begin = page.row_begin(step.first);
     let y = page.prio_at(strip, step.effective);
     Area {
@@ -107,7 +115,9 @@ fn loan_area(page: &Page<'_>, strip: Px, step: Step) -> Area {
     }
 }
 
-fn loan_words(alloc: Global, step: Step) -> Result<Vec<u8>, AllocError> {
+fn loan_words(alloc: Global, step: Step) -> Result<Vec<u8>, AllocError>
+    ensures { IfOk result (λ words. words.items ≡ codes "runs as " ++ decimal step.effective.0) }
+{
     let mut words = Vec::from_slice(alloc, b"runs as")?;
     push_number(&mut words, u64::from(step.effective.0))?;
     Ok(words)
@@ -139,14 +149,31 @@ fn push_words_of(
     ensures keeps { OnOk result (Keeps out.old.items out.new.items) }
 {
     for step in steps {
-        let area = loan_area(page, strip, *step);
-        let words = loan_words(alloc, *step)?;
-        let middle = area.y.plus(area.height / 2).plus(4);
-        if area.height >= 12 && width_of(words.len(), 68) <= area.width {
-            push_words(out, Class::of("as"), area.x.plus(6), middle, &words)?;
-        }
+        push_own_words(alloc, out, page, strip, *step)?;
     }
     Ok(())
+}
+
+// Those of a loan, where it has room for them.
+fn push_own_words(
+    alloc: Global,
+    out: &mut Vec<u8>,
+    page: &Page<'_>,
+    strip: Px,
+    step: Step,
+) -> Result<(), AllocError>
+    requires { IsBetweenTags out.old.items }
+    ensures whole { OnOk result (AddsElements out.old.items out.new.items) }
+    ensures keeps { OnOk result (Keeps out.old.items out.new.items) }
+{
+    let area = loan_area(page, strip, step);
+    let words = loan_words(alloc, step)?;
+    let middle = area.y.plus(area.height / 2).plus(4);
+    if area.height >= 12 && width_of(words.len(), 68) <= area.width {
+        push_words(out, Class::of("as"), area.x.plus(6), middle, &words)
+    } else {
+        Ok(())
+    }
 }
 
 // The line along which the thread runs, to its end.

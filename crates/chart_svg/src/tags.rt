@@ -3,7 +3,7 @@ ghost use Rattle.std.specs.Prelude.{◌≡◌, [], ◌∷◌, ◌++◌, true, de
 ghost use Rattle.chart_escape.specs.Markup.{escaped};
 ghost use Rattle.chart_escape.specs.Reader.{at, behind_words, is_in_tag, read, AddsElements, InTag, InText, IsBetweenTags, IsWellFormed, Between};
 ghost use Rattle.chart_svg.specs.Drawn.{class_bytes, Keeps};
-ghost use Rattle.chart_svg.specs.Tags.{attribute_bytes, begin_bytes, end_bytes, picture, tag_name, IsIn};
+ghost use Rattle.chart_svg.specs.Tags.{attribute_bytes, begin_bytes, close_bytes, end_bytes, number_bytes, open_bytes, path_bytes, picture, said_bytes, tag_name, IsIn};
 
 use chart_escape::{Piece, push_pieces};
 use lock_model::LockNo;
@@ -122,6 +122,8 @@ pub fn open_tag(out: &mut Vec<u8>, tag: Tag, class: Class) -> Result<(), AllocEr
     requires { IsBetweenTags out.old.items }
     ensures reads { OnOk result (read out.new.items
         ≡ at (InTag (tag_name tag)) (read out.old.items).elements) }
+    ensures pushed { OnOk result (out.new.items
+        ≡ out.old.items ++ open_bytes tag (class_bytes class)) }
     ensures keeps { OnOk result (Keeps out.old.items out.new.items) }
 {
     push_pieces(
@@ -139,6 +141,8 @@ pub fn open_tag(out: &mut Vec<u8>, tag: Tag, class: Class) -> Result<(), AllocEr
 pub fn push_attribute(out: &mut Vec<u8>, attribute: Attribute, n: u32) -> Result<(), AllocError>
     requires { is_in_tag (read out.old.items).place ≡ true }
     ensures reads { OnOk result (read out.new.items ≡ read out.old.items) }
+    ensures pushed { OnOk result (out.new.items
+        ≡ out.old.items ++ number_bytes attribute n) }
     ensures keeps { OnOk result (Keeps out.old.items out.new.items) }
 {
     push_pieces(
@@ -155,6 +159,8 @@ pub fn push_attribute(out: &mut Vec<u8>, attribute: Attribute, n: u32) -> Result
 pub fn push_path(out: &mut Vec<u8>, path: &[u8]) -> Result<(), AllocError>
     requires { is_in_tag (read out.old.items).place ≡ true }
     ensures reads { OnOk result (read out.new.items ≡ read out.old.items) }
+    ensures pushed { OnOk result (out.new.items
+        ≡ out.old.items ++ path_bytes path.now) }
     ensures keeps { OnOk result (Keeps out.old.items out.new.items) }
 {
     push_pieces(
@@ -168,6 +174,8 @@ pub fn close_tag(out: &mut Vec<u8>, tag: Tag, words: &[u8]) -> Result<(), AllocE
     requires { IsIn tag (read out.old.items) }
     ensures reads { OnOk result (read out.new.items
         ≡ at (InText Between) (read out.old.items).elements) }
+    ensures pushed { OnOk result (out.new.items
+        ≡ out.old.items ++ close_bytes tag (escaped words.now)) }
     ensures keeps { OnOk result (Keeps out.old.items out.new.items) }
 {
     push_pieces(
@@ -181,6 +189,8 @@ pub fn close_tag_number(out: &mut Vec<u8>, tag: Tag, n: u64) -> Result<(), Alloc
     requires { IsIn tag (read out.old.items) }
     ensures reads { OnOk result (read out.new.items
         ≡ at (InText Between) (read out.old.items).elements) }
+    ensures pushed { OnOk result (out.new.items
+        ≡ out.old.items ++ close_bytes tag (decimal n)) }
     ensures keeps { OnOk result (Keeps out.old.items out.new.items) }
 {
     push_pieces(
@@ -194,6 +204,8 @@ pub fn close_tag_said(out: &mut Vec<u8>, tag: Tag, said: &[u8]) -> Result<(), Al
     requires { IsIn tag (read out.old.items) }
     ensures reads { OnOk result (read out.new.items
         ≡ at (InText Between) (read out.old.items).elements) }
+    ensures pushed { OnOk result (out.new.items
+        ≡ out.old.items ++ said_bytes tag said.now) }
     ensures keeps { OnOk result (Keeps out.old.items out.new.items) }
 {
     push_pieces(

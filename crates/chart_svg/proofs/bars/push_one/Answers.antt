@@ -1,5 +1,4 @@
 use Rattle.std.proofs.lemmas.Result.{on_ok_weaker}
-use Rattle.chart_svg.proofs.Standing.{drawn_still}
 use Rattle.chart_svg.proofs.bars.push_one.Goals as goal
 
 pub returns-clause-keeps : goal.returns-clause-keeps
@@ -9,5 +8,5 @@ returns-clause-keeps c = on_ok_weaker c.push_never.result
 
 pub returns-clause-drawn : goal.returns-clause-drawn
 returns-clause-drawn c = on_ok_weaker c.push_never.result
-    (λ keeps. drawn_still c.args.page.now _ _ c.args.bar keeps (drawn_still c.args.page.now _ _ c.args.bar c.in_ok-push_own_words.ensures.keeps c.in_ok-push_shape.ensures.drawn))
+    (λ keeps. keeps _ (c.in_ok-push_own_words.ensures.keeps _ c.in_ok-push_shape.ensures.drawn))
     c.push_never.ensures.keeps

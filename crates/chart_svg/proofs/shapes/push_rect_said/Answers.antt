@@ -1,21 +1,18 @@
 use Rattle.std.proofs.lemmas.Result.{on_ok_weaker}
-use Rattle.chart_escape.proofs.Readings.{adds}
-use Rattle.chart_svg.proofs.Standing.{keeps_pushed, rect_pieces, rect_stands, rect_whole}
+use Rattle.chart_svg.specs.Drawn.{class_bytes}
+use Rattle.chart_svg.specs.declared.tags.Tag.TheVariants.{Rect}
+use Rattle.chart_svg.specs.declared.tags.Attribute.TheVariants.{X, Y, Width, Height, Corner}
+use Rattle.chart_svg.proofs.Standing.{number, opened, said, three, written_stands}
 use Rattle.chart_svg.proofs.shapes.push_rect_said.Goals as goal
 
-pub returns-clause-whole : goal.returns-clause-whole
-returns-clause-whole c = on_ok_weaker c.push_pieces.result
-    (λ e. adds c.args.out.now.items c.push_pieces.new.out.items
-    (rect_pieces c.as_bytes.result c.args.class.lock c.from.result c.from-2.result c.from-3.result c.from-4.result c.args.said) c.requires e
-    (rect_whole c.as_bytes.result c.args.class.lock c.from.result c.from-2.result c.from-3.result c.from-4.result c.args.said))
-    c.push_pieces.ensures.reads
-
-pub returns-clause-keeps : goal.returns-clause-keeps
-returns-clause-keeps c = on_ok_weaker c.push_pieces.result (keeps_pushed _ _ _) c.push_pieces.ensures.pushed
-
 pub returns-clause-stands : goal.returns-clause-stands
-returns-clause-stands c = on_ok_weaker c.push_pieces.result
-    (rect_stands c.args.out.now.items c.push_pieces.new.out.items c.args.class c.as_bytes.result c.args.area
-    c.from.result c.from-2.result c.from-3.result c.from-4.result c.args.said
-    c.as_bytes.ensures.value c.from.ensures c.from-2.ensures c.from-3.ensures c.from-4.ensures)
-    c.push_pieces.ensures.pushed
+returns-clause-stands c = on_ok_weaker c.close_tag_said.result
+    (λ e. written_stands (said Rect c.args.said.now
+    (three Corner
+    (number Height c.args.area.height
+    (number Width c.args.area.width
+    (number Y c.args.area.y.0
+    (number X c.args.area.x.0
+    (opened Rect (class_bytes c.args.class) c.in_ok-open_tag.ensures.pushed) c.in_ok-push_attribute.ensures.pushed) c.in_ok-push_attribute-2.ensures.pushed) c.in_ok-push_attribute-3.ensures.pushed) c.in_ok-push_attribute-4.ensures.pushed) c.in_ok-push_attribute-5.ensures.pushed)
+    e))
+    c.close_tag_said.ensures.pushed

@@ -1,36 +1,56 @@
-use Rattle.std.proofs.Common.{◌∙◌, ◌<◌, List, length, subst, sym, arith, All, Contains}
-use Rattle.std.specs.Global.{Vec}
-use Rattle.std.proofs.lemmas.List.Elements.{All-contains}
+use Rattle.std.proofs.Common.{◌∙◌, ◌<◌, List, [], ◌∷◌, length, ap, subst, refl, arith, All}
+use Rattle.std.proofs.lemmas.List.{length-append}
 use Rattle.chart_layout.specs.declared.layout.Bar.{Bar}
-use Rattle.chart_layout.specs.declared.layout.Lane.{Lane}
-use Rattle.chart_svg.proofs.Laying.{lanes_more}
-use Rattle.chart_svg.specs.Lanes.{IsAt, IsByLane, IsInLane}
+use Rattle.chart_layout.specs.declared.layout.Step.{Step}
+use Rattle.std.proofs.lemmas.Option.{slice_get_within}
+use Rattle.std.specs.Prelude.{slice_get}
+use Rattle.chart_svg.specs.declared.page.Page.{Page}
+use Rattle.chart_svg.proofs.Laying.{lanes_more, of_all, of_more}
+use Rattle.chart_svg.proofs.Room.{room_none}
+use Rattle.chart_svg.specs.Lanes.{HasStep, IsLaid, IsOf}
 use Rattle.chart_svg.proofs.page.Page.put_lanes.Goals as goal
 
-pub loop-i-preserved : goal.loop-i-preserved
-loop-i-preserved c =
-    let P : List Bar → Type 0 = λ xs. All (IsInLane c.put_lane.new.self.lanes.items) xs in
+pub loop-t-init : goal.loop-t-init
+loop-t-init c = record {
+  same = refl;
+  long = c.requires.none;
+  room = room_none c.args.self.now c.requires.none c.requires.fits;
+  lanes = λ k lane lt. absurd (omega arith);
+  bars = λ k bar lt. absurd (omega arith);
+  steps = λ k step lt. absurd (omega arith);
+}
+
+pub loop-t-preserved : goal.loop-t-preserved
+loop-t-preserved c =
+    let more = c.in_ok-put_lane.ensures.more in
+    let P : List Bar → Type 0 = λ xs. All (IsLaid more.lane.bars) xs in
+    let Q : List Step → Type 0 = λ xs. All (HasStep more.lane) xs in
+    let put : Page → Page = λ p. record p { lanes = c.put_lane.new.self.lanes; bottom = c.put_lane.new.self.bottom } in
     record {
-      plan = c.put_lane.ensures.plan ∙ c.loop-i.invariant.plan;
-      chart = c.put_lane.ensures.chart ∙ c.loop-i.invariant.chart;
-      left = c.put_lane.ensures.left ∙ c.loop-i.invariant.left;
-      column = c.put_lane.ensures.column ∙ c.loop-i.invariant.column;
-      bars = lanes_more c.deref-bars-items.result.now c.loop-i.i c.loop-i.self.lanes.items c.put_lane.new.self.lanes.items
-          c.bars-item.result c.bars-item.is c.in_ok-put_lane.ensures.keeps
-          (subst P c.deref.ensures.value c.in_ok-put_lane.ensures.bars) c.loop-i.invariant.bars;
+      same = c.put_lane.ensures.same ∙ ap put c.loop-t.invariant.same;
+      long = omega (arith, ap length more.pushed, length-append c.loop-t.self.lanes.items (more.lane ∷ []), c.loop-t.invariant.long);
+      room = c.in_ok-put_lane.ensures.room;
+      lanes = lanes_more c.loop-t.self.lanes.items c.put_lane.new.self.lanes.items more.lane more.pushed c.loop-t.t c.loop-t.invariant.long
+          c.as_slice-lanes.result.now _ more.named c.loop-t-test.true c.loop-t.invariant.lanes;
+      bars = of_more (λ lane. IsLaid lane.bars) c.loop-t.self.lanes.items c.put_lane.new.self.lanes.items more.lane more.pushed c.loop-t.t c.loop-t.invariant.long
+          c.in_ok-bars.bars.items c.index.result.now c.index.ensures (subst P c.deref.ensures.value more.has_bars) c.loop-t.invariant.bars;
+      steps = of_more HasStep c.loop-t.self.lanes.items c.put_lane.new.self.lanes.items more.lane more.pushed c.loop-t.t c.loop-t.invariant.long
+          c.in_ok-steps.steps.items c.index-in-loop-t.result.now c.index-in-loop-t.ensures (subst Q c.deref-in-loop-t.ensures.value more.has_steps)
+          c.loop-t.invariant.steps;
     }
 
+pub returns-clause-lanes : goal.returns-clause-lanes
+returns-clause-lanes c = λ t lane is.
+    let read = ap (λ xs. slice_get xs t) c.as_slice-lanes.ensures ∙ is in
+    let within : t < c.loop-t.t = omega (arith, slice_get_within c.as_slice-lanes.result.now t lane read) in
+    c.loop-t.invariant.lanes t lane within read
+
 pub returns-clause-bars : goal.returns-clause-bars
-returns-clause-bars c = λ bar has lt.
-    let P : List Bar → Type 0 = λ xs. Contains xs bar in
-    let Q : List Lane → Type 0 = λ xs. bar.thread.0 < length xs in
-    let R : List (Vec Bar) → Type 0 = λ xs. IsAt xs bar.thread.0 bar in
-    let among : Contains c.as_slice.result.now bar = subst P (sym c.as_slice.ensures) has in
-    let reached : bar.thread.0 < length c.as_slice-lanes.result.now = subst Q (sym c.as_slice-lanes.ensures) lt in
-    let by : IsByLane c.in_ok-own.own.items (length c.as_slice-lanes.result.now) bar =
-    All-contains (IsByLane c.in_ok-own.own.items (length c.as_slice-lanes.result.now)) c.as_slice.result.now bar
-    c.in_ok-own.ensures.bars among in
-    let at : IsAt c.deref-bars-items.result.now bar.thread.0 bar = subst R (sym c.deref-bars-items.ensures.value) (by reached) in
-    let within : bar.thread.0 < length c.deref-bars-items.result.now = at.within in
-    let below : bar.thread.0 < c.loop-i.i = omega arith in
-    c.loop-i.invariant.bars bar.thread.0 bar below at
+returns-clause-bars c = of_all (λ (bar : Bar). bar.thread.0) (IsOf (λ lane. IsLaid lane.bars) c.loop-t.self.lanes.items) c.as_slice.result.now c.args.self.now.chart.now.bars
+    c.as_slice.ensures c.in_ok-bars.bars.items (length c.as_slice-lanes.result.now) (length c.args.self.now.chart.now.lanes) c.loop-t.t
+    (ap length c.as_slice-lanes.ensures) c.loop-t-test.false c.in_ok-bars.ensures.has c.loop-t.invariant.bars
+
+pub returns-clause-steps : goal.returns-clause-steps
+returns-clause-steps c = of_all (λ (step : Step). step.thread.0) (IsOf HasStep c.loop-t.self.lanes.items) c.as_slice-2.result.now c.args.self.now.chart.now.steps
+    c.as_slice-2.ensures c.in_ok-steps.steps.items (length c.as_slice-lanes.result.now) (length c.args.self.now.chart.now.lanes) c.loop-t.t
+    (ap length c.as_slice-lanes.ensures) c.loop-t-test.false c.in_ok-steps.ensures.has c.loop-t.invariant.steps

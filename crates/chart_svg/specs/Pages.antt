@@ -1,0 +1,105 @@
+-- What is drawn of a page: its arrows and marks, and the names and ends of its threads.
+use Rattle.std.specs.Prelude.{◌≡◌, ⊤, ℕ, ◌+◌, ◌<◌, ◌≤◌, nat_lt, if◌then◌else◌, List, length, slice_get, codes, All, Contains, Option, Some, None}
+use Rattle.chart_layout.specs.declared.layout.Arrow.{Arrow}
+use Rattle.chart_layout.specs.declared.layout.Chart.{Chart}
+use Rattle.chart_layout.specs.declared.layout.Lane.{Lane as ChartLane}
+use Rattle.chart_layout.specs.declared.layout.Mark.{Mark}
+use Rattle.lock_model.specs.Plans.{thread_name}
+use Rattle.chart_svg.specs.Drawn.{arrow_title, figure_bytes, head_class, head_figure, line_bytes, line_class, pixels, row_begin, turn_at, words_bytes, ArrowIsDrawn, IsInLane, MarkIsDrawn, Scale, Stands}
+use Rattle.chart_svg.specs.Lanes.{scale_of, BarsAreDrawn, Fits, LoansAreDrawn}
+use Rattle.chart_svg.specs.declared.arrows.Placed.{Placed}
+use Rattle.chart_svg.specs.declared.page.Lane.{Lane}
+use Rattle.chart_svg.specs.declared.page.Page.{Page}
+
+-- 1. Arrows
+
+-- a lane with room for what stands in it, on some page
+abbrev pub HasPlaces : Lane → Type 0
+HasPlaces lane = (page : Page) × Fits page lane
+
+-- a place in a lane
+abbrev pub IsWithin : Lane → ℕ → Type 0
+IsWithin lane y = (lane.top.0 ≤ y) × (pixels (y + 1) ≤ lane.bottom.0)
+
+-- the lanes from which and to which an arrow goes are there
+abbrev pub HasEnds : Page → Arrow → Type 0
+HasEnds page arrow =
+    (arrow.from.0 < length page.lanes.items) × (arrow.to.0 < length page.lanes.items)
+
+-- the arrow begins in the one lane and ends in the other, to which its head points
+pub record IsPlaced (page : Page) (placed : Placed) : Type 0 where
+  pub begins : IsInLane (scale_of page) placed.arrow.from.0 placed.begin.0
+  pub ends : IsInLane (scale_of page) placed.arrow.to.0 placed.tip.0
+  pub head : placed.head ≡ head_figure (scale_of page) placed.arrow
+
+-- an arrow whose lanes are there is among those that are placed
+abbrev pub IsAmong : Page → List Placed → Arrow → Type 0
+IsAmong page placed arrow = HasEnds page arrow
+    → (one : Placed) × Contains placed one × (one.arrow ≡ arrow)
+
+-- the line of a placed arrow stands in the picture
+abbrev pub LineIsDrawn : Page → List ℕ → Placed → Type 0
+LineIsDrawn page picture placed = Stands picture (line_bytes (line_class placed.arrow.kind)
+    (turn_at (scale_of page) page.chart.now placed.arrow.turn) placed.begin.0 placed.tip.0)
+
+-- its head stands there
+abbrev pub HeadIsDrawn : Page → List ℕ → Placed → Type 0
+HeadIsDrawn page picture placed =
+    Stands picture (figure_bytes (head_class placed.arrow.kind) placed.head
+    (turn_at (scale_of page) page.chart.now placed.arrow.turn) placed.tip.0
+    (arrow_title page.plan.now placed.arrow))
+
+-- the arrow is drawn if its lanes are there
+abbrev pub ArrowIsOn : Page → List ℕ → Arrow → Type 0
+ArrowIsOn page picture arrow = HasEnds page arrow
+    → ArrowIsDrawn page.plan.now page.chart.now (scale_of page) picture arrow
+
+-- 2. Marks
+
+-- the mark of a thread that has a lane is drawn
+abbrev pub MarkIsOn : Page → List ℕ → Mark → Type 0
+MarkIsOn page picture mark = mark.thread.0 < length page.lanes.items
+    → MarkIsDrawn page.plan.now page.chart.now (scale_of page) picture mark
+
+-- 3. Lanes
+
+-- what stands in the lanes is drawn
+pub record LanesAreDrawn (page : Page) (picture : List ℕ) : Type 0 where
+  pub bars : All (BarsAreDrawn page picture) page.lanes.items
+  pub loans : All (LoansAreDrawn page picture) page.lanes.items
+  pub arrows : All (ArrowIsOn page picture) page.chart.now.arrows
+  pub marks : All (MarkIsOn page picture) page.chart.now.marks
+
+-- 4. Names and ends of threads
+
+-- the name of a lane's thread stands beside its line
+abbrev pub NameIsOn : Page → List ℕ → Lane → Type 0
+NameIsOn page picture lane = Stands picture (words_bytes (codes "name") 24
+    (pixels (pixels (lane.begin.0 + 36) + 4)) (thread_name page.plan.now lane.thread.0))
+
+-- the row in which a lane of a chart ends, if it does
+abbrev pub row_of : Option ChartLane → Option ℕ
+row_of None = None
+row_of (Some lane) = lane.ended
+
+-- where a row begins that is in the window
+abbrev pub begin_in : Scale → Chart → Option ℕ → Option ℕ
+begin_in scale chart None = None
+begin_in scale chart (Some row) =
+    if nat_lt chart.last row then None else Some (row_begin scale chart row)
+
+-- where the line of a thread stops, if that is on the page
+abbrev pub stop_at : Page → ℕ → Option ℕ
+stop_at page t =
+    begin_in (scale_of page) page.chart.now (row_of (slice_get page.chart.now.lanes t))
+
+-- the line stops there by a stroke from 11 above it to 11 below
+abbrev pub StopsAt : List ℕ → Lane → Option ℕ → Type 0
+StopsAt picture lane None = ⊤
+StopsAt picture lane (Some x) = Stands picture
+    (line_bytes (codes "stops") x (pixels (lane.begin.0 + 25)) (pixels (lane.begin.0 + 47)))
+
+-- the name of a lane's thread and the end of its line
+pub record FrameIsOn (page : Page) (picture : List ℕ) (lane : Lane) : Type 0 where
+  pub name : NameIsOn page picture lane
+  pub stop : StopsAt picture lane (stop_at page lane.thread.0)
