@@ -189,11 +189,11 @@ abbrev pub lasting_words : Chart → Bar → List ℕ
 lasting_words chart bar =
     if nat_lt chart.first bar.first
     then (if nat_lt bar.last chart.last
-      then codes ", turn " ++ decimal (bar.first - 1) ++ codes " to " ++ decimal bar.last
-      else codes ", from turn " ++ decimal (bar.first - 1) ++ codes " on")
+    then codes ", turn " ++ decimal (bar.first - 1) ++ codes " to " ++ decimal bar.last
+    else codes ", from turn " ++ decimal (bar.first - 1) ++ codes " on")
     else (if nat_lt bar.last chart.last
-      then codes ", up to turn " ++ decimal bar.last
-      else codes ", throughout")
+    then codes ", up to turn " ++ decimal bar.last
+    else codes ", throughout")
 
 -- what a bar says: whose it is, what, and how long it lasts
 abbrev pub bar_title : Plan → Chart → Bar → List ℕ
@@ -313,9 +313,9 @@ pub record MarkIsDrawn (plan : Plan) (chart : Chart) (scale : Scale) (picture : 
 abbrev pub HasLane : Chart → ℕ → Type 0
 HasLane chart t = t < length chart.lanes
 
--- By one scale each name, end, bar, loan, arrow and mark of a chart stands in its picture, if those whom it concerns have
--- lanes. A column is at least 9 wide; lanes lie one below the other, each at least 45 high; and the more important of two
--- priorities lies at least 2 above the other. What else stands there isn't said.
+-- By one scale each name, end, bar, loan, arrow and mark of a chart stands in its picture, if those whom it concerns
+-- have lanes. A column is at least 9 wide; lanes lie one below the other, each at least 45 high; and the more important
+-- of two priorities lies at least 2 above the other. What else stands there isn't said.
 pub record Draws (plan : Plan) (chart : Chart) (picture : List ℕ) : Type 0 where
   pub scale : Scale
   pub has_width : 9 ≤ scale.column

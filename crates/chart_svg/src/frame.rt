@@ -233,7 +233,13 @@ fn push_stop(out: &mut Vec<u8>, x: Px, lane: &Lane) -> Result<(), AllocError>
     ensures keeps { OnOk result (Keeps out.old.items out.new.items) }
     ensures stands { OnOk result (StopsAt out.new.items lane.now (Some x.0)) }
 {
-    push_words(out, Class::of("gray"), x.plus(5), lane.line().plus(4), b"done")?;
+    push_words(
+        out,
+        Class::of("gray"),
+        x.plus(5),
+        lane.line().plus(4),
+        b"done",
+    )?;
     let (begin, end) = (lane.begin.plus(25), lane.begin.plus(47));
     push_line(out, Class::of("stops"), (x, begin), (x, end))
 }

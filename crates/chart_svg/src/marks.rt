@@ -165,7 +165,13 @@ pub fn push_reasons(alloc: Global, out: &mut Vec<u8>, page: &Page<'_>) -> Result
     for mark in &page.reasons {
         if let Some(lane) = page.lane_of(mark.thread) {
             let (x, y) = (page.turn_at(mark.turn), lane.begin.minus(1));
-            push_words(out, Class::of("no"), x, y, &reason_words(alloc, page, *mark)?)?;
+            push_words(
+                out,
+                Class::of("no"),
+                x,
+                y,
+                &reason_words(alloc, page, *mark)?,
+            )?;
         }
     }
     Ok(())

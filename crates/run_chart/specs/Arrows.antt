@@ -104,8 +104,8 @@ first_in (w ∷ ws) = Some w.0.0
 abbrev pub first_of : List Waiter → Option ℕ
 first_of ws = option_map (λ w. w.thread) (slice_get ws 0)
 
--- Behind whom a thread blocks, where the lock has no owner and the thread waits to share it: the first of those that wait
--- to hold it alone.
+-- Behind whom a thread blocks, where the lock has no owner and the thread waits to share it: the first of those that
+-- wait to hold it alone.
 abbrev pub behind_of : Option ℕ → Lists → ℕ → Option ℕ
 behind_of (Some o) waiters t = None
 behind_of None waiters t =

@@ -44,8 +44,8 @@ abbrev pub waited_kind : Option QueueName → Option BarKind
 waited_kind None = None
 waited_kind (Some q) = Some (kinds.Waits q)
 
--- of a wait word, of what the record names and of where the thread stands: it was woken where the word says so, and else
--- was taken off the queue that is named, where it stands on none
+-- of a wait word, of what the record names and of where the thread stands: it was woken where the word says so, and
+-- else was taken off the queue that is named, where it stands on none
 abbrev pub woken_kind : (Wait × Option QueueName) × Option QueueName → Option BarKind
 woken_kind ((waits.Woken q, named), stands) = Some (kinds.Woken q)
 woken_kind ((waits.Running, Some q), None) = Some (kinds.TakenOff q)

@@ -103,8 +103,8 @@ wake n from to = arrow n Wakes from to
 abbrev pub Made : Plan → ℕ → ℕ → StepKind → Type 0
 Made plan n t kind = next_turn plan (course_after plan n) ≡ Some (t, answer.Did kind)
 
--- the turn lent to the owner of the lock at which the thread's walk stood; that ran as one priority before the turn, and
--- runs as the other behind it
+-- the turn lent to the owner of the lock at which the thread's walk stood; that ran as one priority before the turn,
+-- and runs as the other behind it
 pub record Lent (plan : Plan) (n from to before prio : ℕ) : Type 0 where
   pub made : Made plan n from step.Lend
   pub lock : ℕ
@@ -135,8 +135,8 @@ abbrev pub IsFirstOf : List Waiter → ℕ → Type 0
 IsFirstOf [] t = ⊥
 IsFirstOf (w ∷ ws) t = w.thread ≡ t
 
--- the turn blocked its thread on a lock that no thread owned, to share it; and of those that wait to hold the lock alone the
--- other is the first
+-- the turn blocked its thread on a lock that no thread owned, to share it; and of those that wait to hold the lock
+-- alone the other is the first
 pub record WentBehind (plan : Plan) (n from to : ℕ) : Type 0 where
   pub lock : ℕ
   pub blocked : Blocked plan n from lock
@@ -304,11 +304,11 @@ abbrev pub IsTurn : Chart → ℕ → Type 0
 IsTurn chart n = (chart.first ≤ n) × (n < chart.last)
 
 -- Each thread has a lane, in order. Bars say what is so: a thread's bar at a lock covers a row exactly where the thread
--- holds the lock, and one of a wait exactly where it stands on that queue. One step of the priorities covers each row, and
--- is the effective priority there, beside the base. An arrow of a loan stands exactly at a turn that lent, one of a wake
--- exactly at a turn that woke, and one of blocking exactly at a turn that blocked on whom, or behind whom, it says. A mark
--- stands exactly at a turn that did what it says. What a sentence says of its turn is so, and each turn
--- of which such a thing is so has one, in order. The end is that of the whole run.
+-- holds the lock, and one of a wait exactly where it stands on that queue. One step of the priorities covers each row,
+-- and is the effective priority there, beside the base. An arrow of a loan stands exactly at a turn that lent, one of a
+-- wake exactly at a turn that woke, and one of blocking exactly at a turn that blocked on whom, or behind whom, it
+-- says. A mark stands exactly at a turn that did what it says. What a sentence says of its turn is so, and each turn of
+-- which such a thing is so has one, in order. The end is that of the whole run.
 pub record Shows (plan : Plan) (chart : Chart) : Type 0 where
   pub lane_each : length chart.lanes ≡ length plan.threads
   pub lanes : (t : ℕ) (lane : Lane) → slice_get chart.lanes t ≡ Some lane

@@ -16,8 +16,8 @@ use lock_model::{Plan, Sequence};
 use run_rows::Rows;
 use std::alloc::{AllocError, Global};
 
-/// The chart of a run of the plan, in the rows `from..=to`, which are rows of the run. It shows just what is so in these:
-/// `Shows` of `specs/Charts.antt` says of what. It fails where memory runs out.
+/// The chart of a run of the plan, in the rows `from..=to`, which are rows of the run. It shows just what is so in
+/// these: `Shows` of `specs/Charts.antt` says of what. It fails where memory runs out.
 ///
 /// ```
 /// let rows = rows_of(alloc, &plan, 16, 1000)?;

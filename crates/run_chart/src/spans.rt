@@ -15,8 +15,8 @@ pub struct Span<T> {
     pub value: T,
 }
 
-/// What the rows `from..=to` show of a track, by its changes: spans that follow upon each other, in time in proportion to
-/// them and in the logarithm of the changes.
+/// What the rows `from..=to` show of a track, by its changes: spans that follow upon each other, in time in proportion
+/// to them and in the logarithm of the changes.
 pub fn spans<T: Copy>(
     alloc: Global,
     changes: &[(u32, T)],
