@@ -5,7 +5,5 @@
 #![tactic(auto)]
 
 mod mutex;
-#[cfg(test)]
-mod tests;
 
 pub use mutex::{lock, try_lock, unlock};

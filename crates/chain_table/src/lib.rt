@@ -11,8 +11,6 @@ mod chain;
 mod head;
 mod objects;
 mod slot;
-#[cfg(test)]
-mod tests;
 
 pub use chain::Chain;
 pub use head::Head;

@@ -8,8 +8,6 @@
 
 mod reading;
 mod rule;
-#[cfg(test)]
-mod tests;
 mod words;
 
 pub use reading::read_words;

@@ -14,8 +14,6 @@ mod ended;
 mod forms;
 mod heading;
 mod renderer;
-#[cfg(test)]
-mod tests;
 mod top;
 
 pub use crate::ended::Ended;

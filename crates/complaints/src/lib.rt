@@ -11,8 +11,6 @@ mod program;
 mod saying;
 mod sentence;
 mod status;
-#[cfg(test)]
-mod tests;
 mod text;
 
 pub use program::Program;

@@ -8,8 +8,6 @@
 
 mod plans;
 mod run;
-#[cfg(test)]
-mod tests;
 mod worker;
 
 pub use plans::has_only_mutexes;

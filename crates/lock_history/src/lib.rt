@@ -24,6 +24,3 @@ pub use outcome::{Last, Outcome, QueueLine};
 pub use replaying::replay;
 pub use tables::Tables;
 pub use text::{print, print_counts, print_fault};
-
-#[cfg(test)]
-mod tests;

@@ -187,6 +187,3 @@ fn push_row(out: &mut Vec<u8>, lock: &[u8], key: u64, value: u64) -> Result<(), 
     out.push(b'\n')?;
     Ok(())
 }
-
-#[cfg(test)]
-mod tests;

@@ -9,8 +9,6 @@
 
 mod answer;
 mod serving;
-#[cfg(test)]
-mod tests;
 mod top;
 
 pub use crate::top::{lockrun, lockrun_live, lockrun_plain};

@@ -233,6 +233,3 @@ fn is_exclusive(w: u64) -> bool
 {
     w / EXCLUSIVE % 2 == 1
 }
-
-#[cfg(test)]
-mod tests;

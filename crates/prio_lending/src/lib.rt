@@ -7,8 +7,6 @@
 #![tactic(auto)]
 
 mod hops;
-#[cfg(test)]
-mod tests;
 mod walk;
 
 pub use hops::{lend, settle_release, shift};

@@ -8,8 +8,6 @@
 
 mod columns;
 mod rows;
-#[cfg(test)]
-mod tests;
 mod track;
 
 pub use columns::{QueueRows, ThreadRows};

@@ -57,6 +57,3 @@ pub fn one_plan_each()
     ensures either { (bytes : List ℕ) (a : plans.Plan) (line code : ℕ)
         → IsAccepted bytes a → IsFaulty bytes line code → ⊥ }
 {}
-
-#[cfg(test)]
-mod tests;

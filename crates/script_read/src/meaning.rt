@@ -43,6 +43,3 @@ pub fn meaning_of(code: u8) -> Option<&'static str>
         _ => None,
     }
 }
-
-#[cfg(test)]
-mod tests;

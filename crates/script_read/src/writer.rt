@@ -130,6 +130,3 @@ fn push_names(out: &mut Vec<u8>, plan: &Plan, threads: &[ThreadNo]) -> Result<()
     }
     Ok(())
 }
-
-#[cfg(test)]
-mod tests;

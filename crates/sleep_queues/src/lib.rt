@@ -8,7 +8,4 @@
 //! They stand in `wait_objects`, over the body that they share with turnstiles.
 #![tactic(auto)]
 
-#[cfg(test)]
-mod tests;
-
 pub use wait_objects::{SleepQueue, SleepTaken, Sleeper};

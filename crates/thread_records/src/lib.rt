@@ -8,7 +8,5 @@
 
 mod loans;
 mod record;
-#[cfg(test)]
-mod tests;
 
 pub use record::ThreadRec;

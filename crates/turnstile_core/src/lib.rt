@@ -9,7 +9,4 @@
 //! They stand in `wait_objects`, over the body that they share with sleep queues.
 #![tactic(auto)]
 
-#[cfg(test)]
-mod tests;
-
 pub use wait_objects::{Loan, Taken, Turnstile, Waiter};

@@ -10,8 +10,6 @@
 mod bits;
 mod laws;
 mod orders;
-#[cfg(test)]
-mod tests;
 
 pub use laws::{
     admissions_bring_no_cycle, paths_only_grow, refusals_have_their_cause, same_edges_answer_alike,

@@ -1,0 +1,226 @@
+//! Calls of `lockchart`: titles and windows as a user sees them, ends that fail, a source that is too big, words that are
+//! no form, and how what is written in each form begins and ends.
+use crate::fixtures::{Case, FIRST, NEVER, REVERSED, bytes_of, ends, words_of};
+use chart_command::Form;
+use chart_layout::Chart;
+use chart_top::{Ended, Heading, Renderer, lockchart, lockchart_by};
+use complaints::Status;
+use complaints::Status::{BadScript, Done, ReadFault, TooBig, Usage, WriteFault};
+use lock_io::{MemSink, MemSource};
+use lock_model::Plan;
+use run_rows::Rows;
+use std::alloc::{AllocError, Global};
+use std::test::Fail;
+
+// A renderer that spells what it is given.
+struct Spelled;
+
+impl Renderer for Spelled {
+    ghost renders = { λ form plan rows chart title subtitle text. Unit {0} };
+
+    fn render(
+        &self,
+        alloc: Global,
+        form: Form,
+        _plan: &Plan,
+        _rows: &Rows,
+        chart: &Chart,
+        heading: Heading<'_>,
+    ) -> Result<Vec<u8>, AllocError> {
+        let Heading { title, subtitle } = heading;
+        let (first, last, turns) = (chart.first, chart.last, chart.turns);
+        let text = format!(in alloc; "{form:?} {first} {last} {turns} {title}/{subtitle}")?;
+        Vec::from_slice(alloc, text.as_bytes())
+    }
+}
+
+// As FIRST, with comments and a turn less.
+const TITLED: &str = "lockrun 1;# A bus;#and who holds it;# first;\
+    mutex m a;thread t 100;lock m;unlock m;end;done;";
+
+// A comment that isn't at the head.
+const BELOW: &str = "lockrun 1;;# A bus;thread t 100;end;thread u 100;end;done;";
+
+// Comments that say nothing, and one that begins with a blank.
+const BLANK: &str = "lockrun 1;#;#  bus;thread t 100;end;done;";
+
+// By the words and the script what a renderer is given: the form, the first row and the last, the turns, the heading.
+const GIVEN: &[(&str, &str, &str)] = &[
+    ("", FIRST, "Svg 0 3 3 A run of 1 thread/"),
+    ("", TITLED, "Svg 0 2 2 A bus/and who holds it"),
+    ("", BELOW, "Svg 0 0 0 A run of 2 threads/"),
+    ("", BLANK, "Svg 0 0 0 / bus"),
+    (
+        "--title The_bus",
+        TITLED,
+        "Svg 0 2 2 The bus/and who holds it",
+    ),
+    ("--title=", FIRST, "Svg 0 3 3 /"),
+    ("--title=", TITLED, "Svg 0 2 2 /and who holds it"),
+    (
+        "--form html --from 1",
+        FIRST,
+        "Html 1 3 3 A run of 1 thread/",
+    ),
+    (
+        "--form=trace --to=2",
+        FIRST,
+        "Trace 0 2 3 A run of 1 thread/",
+    ),
+    ("--from 2 --to 2", FIRST, "Svg 2 2 3 A run of 1 thread/"),
+    ("--from 2 --to 9", FIRST, "Svg 2 3 3 A run of 1 thread/"),
+    ("--from 8 --to 9", FIRST, "Svg 3 3 3 A run of 1 thread/"),
+    ("--turns 2", FIRST, "Svg 0 2 2 A run of 1 thread/"),
+    ("--turns 2 --to 3", FIRST, "Svg 0 2 2 A run of 1 thread/"),
+];
+
+#[test]
+fn what_a_renderer_is_given(rt: HostRuntime) -> Result<(), Fail> {
+    let alloc = rt.alloc();
+    for &(line, script, text) in GIVEN {
+        let bytes = bytes_of(alloc, script, 0)?;
+        let (ended, sink) = call(alloc, line, bytes, NEVER, NEVER)?;
+        assert_eq!(rt; ended.status, Done, "{line:?} on {script:?}");
+        assert_eq!(rt; sink.bytes(), text.as_bytes(), "{line:?} on {script:?}");
+        assert!(rt; ended.fault.is_empty(), "{line:?} on {script:?}");
+    }
+    Ok(())
+}
+
+// A script that ends its thread with a lock held.
+const FAULTY: &str = "lockrun 1;mutex m a;thread t 1;lock m;end;";
+
+// FIRST has 68 bytes: seventeen calls of the source, and one that finds its end. Its picture has 28 bytes: seven calls of
+// the sink, and the flush. The text of a case is what the sink holds in the end, or what is told of a faulty script.
+const CASES: &[Case] = &[
+    ("", FIRST, 0, 0, NEVER, ReadFault, ""),
+    ("", FIRST, 0, 8, NEVER, ReadFault, ""),
+    ("", FIRST, 0, 17, NEVER, ReadFault, ""),
+    ("", FIRST, 0, NEVER, 0, WriteFault, ""),
+    ("", FIRST, 0, NEVER, 1, WriteFault, "Svg "),
+    ("", FIRST, 0, NEVER, 2, WriteFault, "Svg 0 3 "),
+    ("", FIRST, 0, NEVER, 3, WriteFault, "Svg 0 3 3 A "),
+    ("", FIRST, 0, NEVER, 4, WriteFault, "Svg 0 3 3 A run "),
+    ("", FIRST, 0, NEVER, 5, WriteFault, "Svg 0 3 3 A run of 1"),
+    (
+        "",
+        FIRST,
+        0,
+        NEVER,
+        6,
+        WriteFault,
+        "Svg 0 3 3 A run of 1 thr",
+    ),
+    (
+        "",
+        FIRST,
+        0,
+        NEVER,
+        7,
+        WriteFault,
+        "Svg 0 3 3 A run of 1 thread/",
+    ),
+    ("", "", 1_048_577, NEVER, NEVER, TooBig, ""),
+    (
+        "",
+        "",
+        1_048_576,
+        NEVER,
+        NEVER,
+        BadScript,
+        "line 1 code 1\n",
+    ),
+    (
+        "--form html",
+        FAULTY,
+        0,
+        NEVER,
+        NEVER,
+        BadScript,
+        "line 5 code 14\n",
+    ),
+    // Nothing is read, since the source would fail at its first call.
+    ("step", FIRST, 0, 0, NEVER, Usage, ""),
+    ("--from 2 --to 1", FIRST, 0, 0, NEVER, Usage, ""),
+    ("--form png", FIRST, 0, 0, NEVER, Usage, ""),
+    ("--help=svg", FIRST, 0, 0, NEVER, Usage, ""),
+];
+
+#[test]
+fn ends_in_memory(rt: HostRuntime) -> Result<(), Fail> {
+    let alloc = rt.alloc();
+    for &(line, script, more, source_fails, sink_fails, status, text) in CASES {
+        let bytes = bytes_of(alloc, script, more)?;
+        let (ended, sink) = call(alloc, line, bytes, source_fails, sink_fails)?;
+        let (held, fault) = if status == BadScript {
+            ("", text)
+        } else {
+            (text, "")
+        };
+        assert_eq!(rt;
+            ended.status,
+            status,
+            "{line:?}, {source_fails}, {sink_fails}"
+        );
+        assert_eq!(rt;
+            ended.fault.as_slice(),
+            fault.as_bytes(),
+            "{line:?}, {source_fails}, {sink_fails}"
+        );
+        assert_eq!(rt;
+            sink.bytes(),
+            held.as_bytes(),
+            "{line:?}, {source_fails}, {sink_fails}"
+        );
+    }
+    Ok(())
+}
+
+// The end of a call with the renderer that spells, and its sink.
+fn call(
+    alloc: Global,
+    line: &str,
+    bytes: Vec<u8>,
+    source_fails: u32,
+    sink_fails: u32,
+) -> Result<(Ended, MemSink), Fail> {
+    let words = words_of(alloc, line)?;
+    let (mut source, mut sink) = ends(alloc, bytes, source_fails, sink_fails)?;
+    let ended = lockchart_by(&Spelled, alloc, &words, &mut source, &mut sink);
+    Ok((ended, sink))
+}
+
+const STUCK: &str = "lockrun 1;mutex m a;cond c m;thread t 100;lock m;wait c;unlock m;end;done;";
+
+// How what is written begins and ends, whatever becomes of the run.
+const WRITTEN: &[(&str, &str, &str, &str)] = &[
+    ("--form svg", TITLED, "<svg ", "</svg>\n"),
+    ("--form html", TITLED, "<!doctype html>\n", "</html>\n"),
+    ("--form trace", TITLED, "{", "]}\n"),
+    ("", STUCK, "<svg ", "</svg>\n"),
+    ("", REVERSED, "<svg ", "</svg>\n"),
+    ("--turns 1", FIRST, "<svg ", "</svg>\n"),
+    ("--help", "", "Draws ", "Print help\n"),
+    ("--turns 1 -h", "", "Draws ", "Print help\n"),
+];
+
+#[test]
+fn forms(rt: HostRuntime) -> Result<(), Fail> {
+    let alloc = rt.alloc();
+    for &(line, script, begins, ends) in WRITTEN {
+        let words = words_of(alloc, line)?;
+        let mut source = MemSource::new(bytes_of(alloc, script, 0)?, 4096, Vec::new(alloc));
+        let mut sink = MemSink::new(alloc, 1 << 20, 4096, Vec::new(alloc))?;
+        let ended = lockchart(alloc, &words, &mut source, &mut sink);
+        assert_eq!(rt; ended.status, Done, "{line:?} on {script:?}");
+        assert!(rt;
+            sink.bytes().starts_with(begins.as_bytes()),
+            "{line:?} on {script:?}"
+        );
+        assert!(rt;
+            sink.bytes().ends_with(ends.as_bytes()),
+            "{line:?} on {script:?}"
+        );
+    }
+    Ok(())
+}

@@ -1,0 +1,124 @@
+//! Calls of `lockrun`: what no file of `example_rows` can say. Ends that fail, a source that is too big, words that are
+//! no form, for which nothing is read, and threads that meet at a gate.
+use crate::fixtures::{Case, FIRST, MEETINGS, NEVER, bytes_of, ends, words_of};
+use complaints::Status;
+use complaints::Status::{BadScript, Done, ReadFault, TooBig, Usage, WriteFault};
+use lock_io::{Gate, Meeting, MemSink, OpenGate};
+use lock_top::lockrun;
+use std::alloc::Global;
+use std::sync::Wait;
+use std::test::Fail;
+use std::thread::Threads;
+
+// In either order of its takes a thread sleeps with one lock, and the other blocks.
+const TWO_QUEUES: &str = "lockrun 1;mutex m k;sx s j;cond c m;\
+    thread a 100;xlock s;lock m;wait c;unlock m;xunlock s;end;\
+    thread b 50;xlock s;xunlock s;end;done;";
+
+// FIRST has 68 bytes: seventeen calls of the source, and one that finds its end. Behind the pieces of a text the sink is
+// flushed: at `ok` that is call 1. The text of a case is what the sink holds in the end.
+const CASES: &[Case] = &[
+    (
+        "step",
+        FIRST,
+        0,
+        NEVER,
+        NEVER,
+        Done,
+        "0 t lock m\n1 t set m 1 5\n2 t unlock m\nthread t base 100 eff 100\ntable m 1 5\nok\n",
+    ),
+    ("step", FIRST, 0, NEVER, 2, WriteFault, "0 t lock"),
+    ("step", FIRST, 0, NEVER, 0, WriteFault, ""),
+    ("step", "lockrun 1;done;", 0, NEVER, 1, WriteFault, "ok\n"),
+    (
+        "step --turns 2",
+        FIRST,
+        0,
+        NEVER,
+        3,
+        WriteFault,
+        "0 t lock m\n1",
+    ),
+    ("check", FIRST, 0, NEVER, 2, WriteFault, "ok threa"),
+    (
+        "--turns 1 run",
+        TWO_QUEUES,
+        0,
+        NEVER,
+        2,
+        WriteFault,
+        "line 0 c",
+    ),
+    ("step", FIRST, 0, 1, NEVER, ReadFault, ""),
+    ("step", FIRST, 0, 17, NEVER, ReadFault, ""),
+    ("check", FIRST, 0, 1, NEVER, ReadFault, ""),
+    ("run", TWO_QUEUES, 0, 1, NEVER, ReadFault, ""),
+    ("check", "", 1_048_577, NEVER, NEVER, TooBig, ""),
+    ("run", "", 1_048_577, NEVER, NEVER, TooBig, ""),
+    ("step", "", 1_048_577, NEVER, NEVER, TooBig, ""),
+    (
+        "step",
+        "",
+        1_048_576,
+        NEVER,
+        NEVER,
+        BadScript,
+        "line 1 code 1\n",
+    ),
+    // Nothing is read, since the source would fail at its first call.
+    ("", FIRST, 0, 0, NEVER, Usage, ""),
+    ("run 1", FIRST, 0, 0, NEVER, Usage, ""),
+    ("walk", FIRST, 0, 0, NEVER, Usage, ""),
+    ("step step", FIRST, 0, 0, NEVER, Usage, ""),
+    ("step --help", FIRST, 0, 0, NEVER, Usage, ""),
+    ("step --turns 0", FIRST, 0, 0, NEVER, Usage, ""),
+    ("check --chains 65", FIRST, 0, 0, NEVER, Usage, ""),
+];
+
+#[test]
+fn ends_in_memory(rt: HostRuntime) -> Result<(), Fail> {
+    let alloc = rt.alloc();
+    for &(line, script, more, source_fails, sink_fails, status, text) in CASES {
+        let bytes = bytes_of(alloc, script, more)?;
+        let (answer, sink) = call(&rt, alloc, line, bytes, source_fails, sink_fails, &OpenGate)?;
+        assert_eq!(rt; answer, status, "{line:?}, {source_fails}, {sink_fails}");
+        assert_eq!(rt;
+            sink.bytes(),
+            text.as_bytes(),
+            "{line:?}, {source_fails}, {sink_fails}"
+        );
+    }
+    Ok(())
+}
+
+// Threads run beside each other, and the text is that of their run.
+#[test]
+fn threads_meet(rt: HostRuntime) -> Result<(), Fail> {
+    let alloc = rt.alloc();
+    for &(script, first, second, begins) in MEETINGS {
+        let gate = Meeting::new(first, second);
+        let bytes = bytes_of(alloc, script, 0)?;
+        let (status, sink) = call(&rt, alloc, "run", bytes, NEVER, NEVER, &gate)?;
+        assert_eq!(rt; status, Done);
+        assert!(rt; !gate.missed(), "{begins}");
+        assert_eq!(rt; gate.came(), (2, 2));
+        assert!(rt; sink.bytes().starts_with(begins.as_bytes()), "{begins}");
+    }
+    Ok(())
+}
+
+// The status of a call, and its sink.
+fn call<R: Threads + Wait + Sync, G: Gate>(
+    rt: &R,
+    alloc: Global,
+    line: &str,
+    bytes: Vec<u8>,
+    source_fails: u32,
+    sink_fails: u32,
+    gate: &G,
+) -> Result<(Status, MemSink), Fail> {
+    let words = words_of(alloc, line)?;
+    let (mut source, mut sink) = ends(alloc, bytes, source_fails, sink_fails)?;
+    let status = lockrun(rt, alloc, &words, &mut source, &mut sink, gate);
+    Ok((status, sink))
+}

@@ -1,0 +1,315 @@
+//! Logs, histories and tables, and printed texts.
+use crate::briefs::plan_of;
+use lock_history::{
+    History, Last, Log, Outcome, QueueLine, Tables, merge, print, print_fault, replay,
+};
+use lock_model::{
+    ChanNo, ClassNo, Entry, Event, LockNo, Mode, Prio, QueueName, Sequence, ThreadNo,
+};
+use std::alloc::Global;
+use std::test::Fail;
+
+// The thread t sets a key of the mutex m and reads it.
+const PLAN: &str = "lockrun 1;mutex m mem;rw w disk;sx s disk;cond v m;chan h m;\
+    thread t 100;lock m;set m 1 5;get m 1;unlock m;end;\
+    thread u 100;end;thread sixteen_bytes_xy 100;end;done;";
+
+const M: LockNo = LockNo(0);
+
+const W: LockNo = LockNo(1);
+
+const S: LockNo = LockNo(2);
+
+const V: ChanNo = ChanNo(0);
+
+const H: ChanNo = ChanNo(1);
+
+const X: Mode = Mode::Excl;
+
+const R: Mode = Mode::Shared;
+
+const MOST: u64 = u64::MAX;
+
+const T: ThreadNo = ThreadNo(0);
+
+const U: ThreadNo = ThreadNo(1);
+
+// An edit, and the value that its key has then.
+const EDITS: &[(Event, u64, u64)] = &[
+    (
+        Event::Set {
+            l: M,
+            key: 1,
+            value: 5,
+        },
+        1,
+        5,
+    ),
+    (
+        Event::Added {
+            l: M,
+            key: 2,
+            amount: MOST,
+        },
+        2,
+        MOST,
+    ),
+    (
+        Event::Added {
+            l: M,
+            key: 2,
+            amount: 2,
+        },
+        2,
+        1,
+    ),
+    (Event::Base { prio: Prio(5) }, 2, 1),
+];
+
+#[test]
+fn edits(rt: HostRuntime) -> Result<(), Fail> {
+    let plan = plan_of(rt.alloc(), PLAN)?;
+    assert!(rt; plan.keys_of(rt.alloc(), M)?.as_slice() == [1].as_slice());
+    let mut tables = Tables::make(rt.alloc(), &plan)?;
+    assert!(rt; tables.get(M, 1) == None);
+    for (event, key, value) in EDITS {
+        tables.edit(*event)?;
+        assert!(rt; tables.get(M, *key) == Some(*value), "{value} at {key}");
+        assert!(rt; tables.at(0) == Some((M, 1, 5)));
+    }
+    Ok(())
+}
+
+#[test]
+fn a_log_and_its_history(rt: HostRuntime) -> Result<(), Fail> {
+    let first = Entry {
+        ticket: 0,
+        thread: T,
+        event: Event::Woke { c: V },
+    };
+    let mut log = Log::make(rt.alloc(), 2)?;
+    log.put(first);
+    assert!(rt; (log.len(), log.spare()) == (1, 1));
+    let history = History::of_log(log);
+    assert!(rt; (history.len(), history.at(0), history.at(1)) == (1, Some(first), None));
+    assert!(rt; history.as_slice() == [first].as_slice());
+    Ok(())
+}
+
+// Each kind of event, with its words behind the thread's name.
+const WORDS: &[(Event, &str)] = &[
+    (Event::Locked { l: M, mode: X }, "lock m"),
+    (Event::Locked { l: W, mode: R }, "rlock w"),
+    (Event::Locked { l: W, mode: X }, "wlock w"),
+    (Event::Locked { l: S, mode: R }, "slock s"),
+    (Event::Locked { l: S, mode: X }, "xlock s"),
+    (Event::Tried { l: M, mode: X }, "trylock m"),
+    (Event::Tried { l: W, mode: R }, "tryrlock w"),
+    (Event::Tried { l: W, mode: X }, "trywlock w"),
+    (Event::Tried { l: S, mode: R }, "tryslock s"),
+    (Event::Tried { l: S, mode: X }, "tryxlock s"),
+    (Event::Unlocked { l: M, mode: X }, "unlock m"),
+    (Event::Unlocked { l: W, mode: R }, "runlock w"),
+    (Event::Unlocked { l: W, mode: X }, "wunlock w"),
+    (Event::Unlocked { l: S, mode: R }, "sunlock s"),
+    (Event::Unlocked { l: S, mode: X }, "xunlock s"),
+    (Event::Busy { l: W, seen: 29 }, "busy w 29"),
+    (
+        Event::Set {
+            l: M,
+            key: 9,
+            value: MOST,
+        },
+        "set m 9 18446744073709551615",
+    ),
+    (
+        Event::Added {
+            l: S,
+            key: 0,
+            amount: 1,
+        },
+        "add s 0 1",
+    ),
+    (
+        Event::Got {
+            l: S,
+            key: 10,
+            found: Some(0),
+        },
+        "get s 10 0",
+    ),
+    (
+        Event::Got {
+            l: W,
+            key: MOST,
+            found: None,
+        },
+        "get w 18446744073709551615 -",
+    ),
+    (Event::Base { prio: Prio(255) }, "prio 255"),
+    (
+        Event::Shown {
+            base: Prio(100),
+            eff: Prio(0),
+        },
+        "show 100 0",
+    ),
+    (Event::Sleeps { c: V }, "wait v"),
+    (Event::Sleeps { c: H }, "msleep h"),
+    (Event::Woke { c: V }, "woke v"),
+    (Event::HaltedChan { c: H }, "halted h"),
+    (Event::HaltedLock { l: S }, "halted s"),
+    (Event::WokeOne { c: V, woken: 0 }, "signal v -"),
+    (
+        Event::WokeOne { c: H, woken: 4 },
+        "wakeup_one h sixteen_bytes_xy",
+    ),
+    (
+        Event::WokeAll { c: V, woken: 5 },
+        "broadcast v t sixteen_bytes_xy",
+    ),
+    (Event::WokeAll { c: H, woken: 3 }, "wakeup h t u"),
+    (
+        Event::Reversed {
+            l: M,
+            held: ClassNo(1),
+        },
+        "reversed m disk",
+    ),
+];
+
+const ENDINGS: &[(Last, &str)] = &[
+    (Last::Done, "ok"),
+    (Last::Stuck, "stuck"),
+    (Last::Reversed, "reversed"),
+    (Last::TooLong, "toolong"),
+];
+
+const WRITERS: &[(ThreadNo, Prio)] = &[(ThreadNo(2), Prio(6)), (T, Prio(50)), (U, Prio(100))];
+
+const READERS: &[(ThreadNo, Prio)] = &[(T, Prio(80)), (U, Prio(90))];
+
+const SLEEPER: &[(ThreadNo, Prio)] = &[(U, Prio(0))];
+
+// A queue whose head is the object of u: what it belongs to, its free list, and its waiters on either side.
+type Queue = (
+    QueueName,
+    &'static [ThreadNo],
+    &'static [(ThreadNo, Prio)],
+    &'static [(ThreadNo, Prio)],
+);
+
+const QUEUES: &[Queue] = &[
+    (QueueName::Lock(M), &[ThreadNo(2), T], WRITERS, &[]),
+    (QueueName::Lock(W), &[T], &[], READERS),
+    (QueueName::Chan(V), &[], SLEEPER, &[]),
+];
+
+fn queues(alloc: Global) -> Result<Sequence<QueueLine>, Fail> {
+    let mut queues = Vec::new(alloc);
+    for (q, free, excl, shared) in QUEUES {
+        queues.push(QueueLine {
+            q: *q,
+            slot: 0,
+            head: U,
+            free: Sequence::from_vec(Vec::from_slice(alloc, free)?),
+            excl: Sequence::from_vec(Vec::from_slice(alloc, excl)?),
+            shared: Sequence::from_vec(Vec::from_slice(alloc, shared)?),
+        })?;
+    }
+    Ok(Sequence::from_vec(queues))
+}
+
+const FINALS: &[(Prio, Prio)] = &[
+    (Prio(255), Prio(0)),
+    (Prio(50), Prio(50)),
+    (Prio(7), Prio(6)),
+];
+
+// The logs of t, which begins with that event, and of u, put together.
+fn history_with(alloc: Global, event: Event) -> Result<History, Fail> {
+    let mut one = Log::make(alloc, 2)?;
+    one.put(Entry {
+        ticket: 0,
+        thread: T,
+        event,
+    });
+    one.put(Entry {
+        ticket: 2,
+        thread: T,
+        event: Event::Set {
+            l: M,
+            key: 10,
+            value: 7,
+        },
+    });
+    let mut other = Log::make(alloc, 2)?;
+    other.put(Entry {
+        ticket: 1,
+        thread: U,
+        event: Event::Set {
+            l: S,
+            key: 0,
+            value: 8,
+        },
+    });
+    other.put(Entry {
+        ticket: 3,
+        thread: U,
+        event: Event::Set {
+            l: M,
+            key: 9,
+            value: 255,
+        },
+    });
+    Ok(merge(alloc, &[one, other])?)
+}
+
+fn outcome_with(alloc: Global, event: Event, last: Last) -> Result<Outcome, Fail> {
+    let history = history_with(alloc, event)?;
+    let tables = replay(alloc, &history)?;
+    let queues = queues(alloc)?;
+    let finals = Vec::from_slice(alloc, FINALS)?;
+    Ok(Outcome {
+        history,
+        queues,
+        finals: Sequence::from_vec(finals),
+        tables,
+        last,
+    })
+}
+
+// The text of a run that begins with that event and ends so.
+fn text_with(alloc: Global, event: Event, last: Last) -> Result<Vec<u8>, Fail> {
+    let plan = plan_of(alloc, PLAN)?;
+    let outcome = outcome_with(alloc, event, last)?;
+    Ok(print(alloc, &plan, &outcome)?)
+}
+
+// What stands between that event and the end. Threads stand in order of declaration, and keys by lock and then by
+// number.
+const REST: &str = "1 u set s 0 8\n2 t set m 10 7\n3 u set m 9 255\n\
+    queue m slot 0 head u free sixteen_bytes_xy,t excl sixteen_bytes_xy@6,t@50,u@100 shared -\n\
+    queue w slot 0 head u free t excl - shared t@80,u@90\n\
+    queue v slot 0 head u free - excl u@0 shared -\n\
+    thread t base 255 eff 0\nthread u base 50 eff 50\nthread sixteen_bytes_xy base 7 eff 6\n\
+    table m 9 255\ntable m 10 7\ntable s 0 8";
+
+#[test]
+fn texts_of_runs(rt: HostRuntime) -> Result<(), Fail> {
+    for (last, word) in ENDINGS {
+        for (event, words) in WORDS {
+            let text = text_with(rt.alloc(), *event, *last)?;
+            let expected = format!(in rt.alloc(); "0 t {words}\n{REST}\n{word}\n")?;
+            assert!(rt; text.as_slice() == expected.as_bytes(), "{words}, {word}");
+        }
+    }
+    Ok(())
+}
+
+#[test]
+fn text_of_a_fault(rt: HostRuntime) -> Result<(), Fail> {
+    let text = print_fault(rt.alloc(), 12, 20)?;
+    assert!(rt; text.as_slice() == b"line 12 code 20\n".as_slice());
+    Ok(())
+}

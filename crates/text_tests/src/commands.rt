@@ -1,0 +1,301 @@
+//! Command lines that a user types, and what they say.
+use crate::briefs::words_of;
+use chart_command::{Asked, Form};
+use command_line::Command;
+use std::test::Fail;
+
+const CHECK: Command = Command::Check;
+
+const STEP: Command = Command::Step;
+
+const RUN: Command = Command::Run;
+
+// The most turns.
+const ALL: u32 = 1_000_000;
+
+// Words of lockrun, and what they say: the command, and the numbers of chains and of turns.
+const RUNS: &[(&str, Command, u32, u32)] = &[
+    ("check", CHECK, 16, ALL),
+    ("step", STEP, 16, ALL),
+    ("step --chains 4", STEP, 4, ALL),
+    ("step --chains=4", STEP, 4, ALL),
+    ("--chains 4 step", STEP, 4, ALL),
+    ("--chains=4 step", STEP, 4, ALL),
+    ("step --turns 3", STEP, 16, 3),
+    ("step --turns=3", STEP, 16, 3),
+    ("step --chains 1 --turns 1", STEP, 1, 1),
+    ("step --turns 1000000 --chains 64", STEP, 64, ALL),
+    ("--turns=5 step --chains=7", STEP, 7, 5),
+    ("--turns 5 --chains 7 check", CHECK, 7, 5),
+    ("--chains=7 --turns 5 check", CHECK, 7, 5),
+    ("check --chains 2", CHECK, 2, ALL),
+    ("check --turns 2", CHECK, 16, 2),
+    ("step --chains +4", STEP, 4, ALL),
+    ("step --chains=+4", STEP, 4, ALL),
+    ("step --chains 04", STEP, 4, ALL),
+    ("step --turns 0000000000000000000007", STEP, 16, 7),
+    ("-- step", STEP, 16, ALL),
+    ("step --", STEP, 16, ALL),
+    ("--turns 9 -- check", CHECK, 16, 9),
+    ("run", RUN, 16, ALL),
+    ("--chains=1 run", RUN, 1, ALL),
+    ("run --turns 9 --chains 64", RUN, 64, 9),
+];
+
+const NO_RUNS: &[&str] = &[
+    "",
+    "''",
+    "--",
+    "gen",
+    "gen 1",
+    "Step",
+    "steps",
+    "ste",
+    "step step",
+    "step check",
+    "run step",
+    "Run",
+    "run 1",
+    "run --turns 0",
+    "step ''",
+    "step 1",
+    "step -- --chains 4",
+    "step --chains 4 step",
+    "-- --chains 4 step",
+    "-- step --",
+    "--chains 4",
+    "--chains step",
+    "step --chains",
+    "step --chains --turns 5",
+    "step --chains --turns",
+    "step --chains -- 4",
+    "step --chains 0",
+    "step --chains 65",
+    "step --chains=0",
+    "step --chains=65",
+    "step --chains=",
+    "step --chains ''",
+    "step --chains 4 4",
+    "step --chains four",
+    "step --chains 4x",
+    "step --chains 0x4",
+    "step --chains 1_0",
+    "step --chains ++4",
+    "step --chains -4",
+    "step --chains=-4",
+    "step --chains=4=4",
+    "step --chains -",
+    "step --chains 18446744073709551620",
+    "step --chains 4 --chains 4",
+    "step --chains=4 --chains=5",
+    "--turns 5 step --turns 5",
+    "step --turns 0",
+    "step --turns 1000001",
+    "step --turns=-1",
+    "step --turns 4294967297",
+    "step --turn 5",
+    "step --chain 5",
+    "step --Chains 5",
+    "step --chains4",
+    "step --=4",
+    "step -c 4",
+    "step -c4",
+    "step -t",
+    "step -",
+    "step -h",
+    "step --help",
+    "step --version",
+    "help",
+];
+
+#[test]
+fn words_of_lockrun(rt: HostRuntime) -> Result<(), Fail> {
+    for (line, command, chains, turns) in RUNS {
+        let said = command_line::Words {
+            command: *command,
+            chains: *chains,
+            turns: *turns,
+        };
+        let read = command_line::read_words(rt.alloc(), &words_of(rt.alloc(), line)?);
+        assert!(rt; read == Ok(said), "{line}");
+    }
+    for line in NO_RUNS {
+        let read = command_line::read_words(rt.alloc(), &words_of(rt.alloc(), line)?);
+        assert!(rt; read == Err(command_line::WordsError::Usage), "{line}");
+    }
+    Ok(())
+}
+
+const SVG: Form = Form::Svg;
+
+const HTML: Form = Form::Html;
+
+const TRACE: Form = Form::Trace;
+
+// What words of lockchart say: turns, chains, the first row and the last, the title and the form.
+type Said = (u32, u32, u32, u32, Option<&'static str>, Form);
+
+const PICTURES: &[(&str, Said)] = &[
+    ("", (ALL, 16, 0, ALL, None, SVG)),
+    ("--", (ALL, 16, 0, ALL, None, SVG)),
+    ("--turns 3", (3, 16, 0, ALL, None, SVG)),
+    ("--turns=3", (3, 16, 0, ALL, None, SVG)),
+    ("--turns 1000000", (ALL, 16, 0, ALL, None, SVG)),
+    ("--turns +3 --", (3, 16, 0, ALL, None, SVG)),
+    ("--turns 0003", (3, 16, 0, ALL, None, SVG)),
+    ("--chains 1", (ALL, 1, 0, ALL, None, SVG)),
+    ("--chains=64", (ALL, 64, 0, ALL, None, SVG)),
+    ("--from 0", (ALL, 16, 0, ALL, None, SVG)),
+    ("--from=7", (ALL, 16, 7, ALL, None, SVG)),
+    ("--from 1000000", (ALL, 16, ALL, ALL, None, SVG)),
+    ("--to 0", (ALL, 16, 0, 0, None, SVG)),
+    ("--to=20", (ALL, 16, 0, 20, None, SVG)),
+    ("--from 5 --to 5", (ALL, 16, 5, 5, None, SVG)),
+    ("--to 6 --from 5", (ALL, 16, 5, 6, None, SVG)),
+    ("--title bus", (ALL, 16, 0, ALL, Some("bus"), SVG)),
+    ("--title=bus", (ALL, 16, 0, ALL, Some("bus"), SVG)),
+    (
+        "--title The_bus,_again",
+        (ALL, 16, 0, ALL, Some("The bus, again"), SVG),
+    ),
+    ("--title ''", (ALL, 16, 0, ALL, Some(""), SVG)),
+    ("--title=", (ALL, 16, 0, ALL, Some(""), SVG)),
+    ("--title=-bus", (ALL, 16, 0, ALL, Some("-bus"), SVG)),
+    ("--title=--bus", (ALL, 16, 0, ALL, Some("--bus"), SVG)),
+    ("--title=--help", (ALL, 16, 0, ALL, Some("--help"), SVG)),
+    ("--title=a=b", (ALL, 16, 0, ALL, Some("a=b"), SVG)),
+    ("--title -", (ALL, 16, 0, ALL, Some("-"), SVG)),
+    ("--title bu\u{df}", (ALL, 16, 0, ALL, Some("bu\u{df}"), SVG)),
+    ("--form svg", (ALL, 16, 0, ALL, None, SVG)),
+    ("--form html", (ALL, 16, 0, ALL, None, HTML)),
+    ("--form=trace", (ALL, 16, 0, ALL, None, TRACE)),
+    (
+        "--form html --title t --to 9 --from 2 --chains 4 --turns 10",
+        (10, 4, 2, 9, Some("t"), HTML),
+    ),
+    (
+        "--turns=10 --chains=4 --from=2 --to=9 --title=t --form=trace --",
+        (10, 4, 2, 9, Some("t"), TRACE),
+    ),
+    ("--title t --form svg", (ALL, 16, 0, ALL, Some("t"), SVG)),
+];
+
+const NO_PICTURES: &[&str] = &[
+    "''",
+    "-",
+    "step",
+    "svg",
+    "help",
+    "-- --",
+    "-- --turns 3",
+    "-- --help",
+    "--turns",
+    "--turns 0",
+    "--turns=0",
+    "--turns 1000001",
+    "--turns=",
+    "--turns ''",
+    "--turns -1",
+    "--turns=-1",
+    "--turns three",
+    "--turns 3 3",
+    "--turns 3 --turns 3",
+    "--turns --chains 3",
+    "--turns --help",
+    "--turns -h",
+    "--turns -- 3",
+    "--turns 0 --help",
+    "--turns 3 --turns 4 -h",
+    "--turns 18446744073709551619",
+    "--chains 0",
+    "--chains 65",
+    "--from -1",
+    "--from 1000001",
+    "--from 1 --from 1",
+    "--to",
+    "--to 1000001",
+    "--to 3 --from 4",
+    "--from 4 --to=3",
+    "--title",
+    "--title -t",
+    "--title --t",
+    "--title --",
+    "--title --help",
+    "--title -h",
+    "--title a b",
+    "--title a --title a",
+    "--form",
+    "--form png",
+    "--form SVG",
+    "--form ''",
+    "--form svg --form svg",
+    "--Form svg",
+    "--format svg",
+    "--for svg",
+    "--help=svg",
+    "-x",
+    "-t 3",
+    "--version",
+    "-V",
+];
+
+const HELPS: &[&str] = &[
+    "--help",
+    "-h",
+    "-hx",
+    "-h=3",
+    "--turns 3 --help",
+    "--turns=3 -h --turns 0",
+    "--help --bogus",
+    "--from 4 --to 3 --help",
+];
+
+const HELP: &str = "\
+Draws the scheduled run of a script of threads and blocking locks.
+
+Usage: lockchart [--turns N] [--chains N] [--from A] [--to B] [--title TEXT] [--form svg|html|trace] < SCRIPT
+
+Options:
+      --turns <N>     The run has at most N turns, from 1 to 1000000
+      --chains <N>    There are N chains of each sort of queue, from 1 to 64
+      --from <A>      The first state that is drawn is the one behind A turns
+      --to <B>        The last state that is drawn is the one behind B turns
+      --title <TEXT>  The title, in place of the script's first comment
+      --form <FORM>   What the picture is written as [possible values: svg, html, trace]
+  -h, --help          Print help
+";
+
+#[test]
+fn words_of_lockchart(rt: HostRuntime) -> Result<(), Fail> {
+    for (line, (turns, chains, from, to, title, form)) in PICTURES {
+        let said = chart_command::Words {
+            turns: *turns,
+            chains: *chains,
+            from: *from,
+            to: *to,
+            title: *title,
+            form: *form,
+        };
+        let is_read = match chart_command::read_words(rt.alloc(), &words_of(rt.alloc(), line)?) {
+            Ok(Asked::Picture(read)) => read == said,
+            Ok(Asked::Help(_)) | Err(_) => false,
+        };
+        assert!(rt; is_read, "{line}");
+    }
+    for line in NO_PICTURES {
+        let words = words_of(rt.alloc(), line)?;
+        let read = chart_command::read_words(rt.alloc(), &words);
+        assert!(rt;
+            matches!(read, Err(chart_command::WordsError::Usage)),
+            "{line}"
+        );
+    }
+    for line in HELPS {
+        let is_helped = match chart_command::read_words(rt.alloc(), &words_of(rt.alloc(), line)?) {
+            Ok(Asked::Help(text)) => text.as_str() == HELP,
+            Ok(Asked::Picture(_)) | Err(_) => false,
+        };
+        assert!(rt; is_helped, "{line}");
+    }
+    Ok(())
+}

@@ -1,0 +1,109 @@
+//! Texts read and written whole, calls that fail, limits, and the adapters over std.
+use lock_io::{
+    Failed, MemSink, MemSource, ReadAllError, Sink, Source, StdSink, StdSource, read_all, write_all,
+};
+use std::io;
+use std::io::{ErrorKind, Read, Write};
+use std::test::Fail;
+
+// The limit, the call that fails, and the answer, where ten bytes come in pieces of four.
+const READINGS: &[(usize, u32, Result<(), ReadAllError>)] = &[
+    (9, 9, Err(ReadAllError::TooBig)),
+    (10, 9, Ok(())),
+    (9, 1, Err(ReadAllError::Fault(Failed))),
+    (10, 3, Err(ReadAllError::Fault(Failed))),
+];
+
+// The room, the call that fails, the answer, and the bytes that are held then.
+const WRITINGS: &[(usize, u32, Result<(), Failed>, &[u8])] = &[
+    (10, 9, Ok(()), b"0 t lock m"),
+    (20, 2, Err(Failed), b"0 t lock"),
+    (20, 0, Err(Failed), b""),
+    (6, 9, Err(Failed), b"0 t lo"),
+    (20, 3, Err(Failed), b"0 t lock m"),
+];
+
+#[test]
+fn ends_in_memory(rt: HostRuntime) -> Result<(), Fail> {
+    for (limit, fails_at, answer) in READINGS {
+        let bytes = Vec::from_slice(rt.alloc(), b"0123456789")?;
+        let mut source = MemSource::new(bytes, 4, vec![in rt.alloc(); *fails_at]?);
+        let read = read_all(rt.alloc(), &mut source, *limit);
+        assert!(rt; read.map(|_| ()) == *answer, "at the limit {limit}");
+    }
+    for (room, fails_at, answer, held) in WRITINGS {
+        let mut sink = MemSink::new(rt.alloc(), *room, 4, vec![in rt.alloc(); *fails_at]?)?;
+        assert!(rt;
+            write_all(&mut sink, b"0 t lock m") == *answer,
+            "with room for {room}"
+        );
+        assert!(rt; sink.bytes() == *held, "with room for {room}");
+    }
+    Ok(())
+}
+
+// A reader and writer of std that is interrupted at its first call, moves a byte at its second, breaks at its third,
+// and moves none then.
+#[derive(Drop)]
+struct Scripted {
+    calls: u8,
+}
+
+impl Scripted {
+    fn turn(&mut self) -> io::Result<usize> {
+        self.calls = self.calls.saturating_add(1);
+        match self.calls {
+            1 => Err(io::Error::from(ErrorKind::Interrupted)),
+            2 => Ok(1),
+            3 => Err(io::Error::from(ErrorKind::BrokenPipe)),
+            _ => Ok(0),
+        }
+    }
+}
+
+impl Read for Scripted {
+    fn read(&mut self, buf: &mut [u8]) -> io::Result<usize> {
+        Ok(self.turn()?.min(buf.len()))
+    }
+}
+
+impl Write for Scripted {
+    fn write(&mut self, buf: &[u8]) -> io::Result<usize> {
+        Ok(self.turn()?.min(buf.len()))
+    }
+
+    fn flush(&mut self) -> io::Result<()> {
+        self.turn()?;
+        Ok(())
+    }
+}
+
+// What a read answers, and what a write. A call that is interrupted is made again.
+const CALLS: &[(Result<usize, Failed>, Result<usize, Failed>)] = &[
+    (Ok(1), Ok(1)),
+    (Err(Failed), Err(Failed)),
+    (Ok(0), Err(Failed)),
+];
+
+#[test]
+fn calls_of_std(rt: HostRuntime) {
+    let mut reader = StdSource::new(Scripted { calls: 0 });
+    let mut writer = StdSink::new(Scripted { calls: 0 });
+    let mut into = [0; 4];
+    for (read, written) in CALLS {
+        assert!(rt; reader.read(&mut into) == *read);
+        assert!(rt; writer.write(b"ab") == *written);
+    }
+    assert!(rt; writer.flush() == Ok(()));
+    let mut broken = StdSink::new(Scripted { calls: 2 });
+    assert!(rt; broken.flush() == Err(Failed));
+}
+
+#[test]
+fn streams_of_std(rt: HostRuntime) {
+    let mut source = StdSource::new(b"lockrun 1\n".as_slice());
+    let read = read_all(rt.alloc(), &mut source, 10);
+    assert!(rt; read.map(|text| text.len()) == Ok(10));
+    let mut sink = StdSink::new(Vec::new(rt.alloc()));
+    assert!(rt; write_all(&mut sink, b"ok\n") == Ok(()));
+}

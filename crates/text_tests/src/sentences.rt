@@ -1,0 +1,167 @@
+//! What a program says on standard error: the sentence of each status.
+use complaints::{Program, Status, complaint, fixed_complaint, say, speaker};
+use std::alloc::Global;
+use std::test::Fail;
+
+const LOCKRUN: Program = Program {
+    name: "lockrun",
+    form: "lockrun check|step|run [--chains N] [--turns N] < SCRIPT",
+};
+
+const STUCK: &str = "0 t1 lock a
+1 t2 lock b
+queue a slot 0 head t2 free - excl t2@100 shared -
+queue b slot 1 head t1 free - excl t1@100 shared -
+thread t1 base 100 eff 100
+thread t2 base 100 eff 100
+stuck
+";
+
+const SLEEPERS: &str = "queue c slot 0 head a free d,b excl a@100,ab@70 shared b@50
+thread b base 50 eff 50
+thread d base 1 eff 1
+thread ab base 70 eff 70
+thread a base 100 eff 100
+table a 0 0
+stuck
+";
+
+const REVERSED: &str = "0 p lock m
+1 p reversed d kd
+2 p unlock m
+3 reversed lock m
+4 reversed reversed d km
+thread p base 100 eff 100
+thread reversed base 100 eff 100
+reversed
+";
+
+const SAID: &[(Status, &str, &str)] = &[
+    (Status::Done, "ok\n", ""),
+    (Status::Done, STUCK, ""),
+    (
+        Status::BadScript,
+        "line 1 code 1\n",
+        "lockrun: line 1: the first line isn't `lockrun 1` (code 1)\n",
+    ),
+    (
+        Status::BadScript,
+        "line 5 code 11\n",
+        "lockrun: line 5: the lock isn't held here (code 11)\n",
+    ),
+    (
+        Status::BadScript,
+        "line 4294967295 code 20\n",
+        "lockrun: line 4294967295: the lock is held shared, so its table may not be changed (code 20)\n",
+    ),
+    (
+        Status::BadScript,
+        "line 5 code 21\n",
+        "lockrun: the source is no script\n",
+    ),
+    (
+        Status::BadScript,
+        "line 5 code 267\n",
+        "lockrun: the source is no script\n",
+    ),
+    (
+        Status::BadScript,
+        "line 5 code x\n",
+        "lockrun: the source is no script\n",
+    ),
+    (
+        Status::BadScript,
+        "line 5\n",
+        "lockrun: the source is no script\n",
+    ),
+    (Status::BadScript, "", "lockrun: the source is no script\n"),
+    (
+        Status::BadScript,
+        "line 0 code 0\n",
+        "lockrun: threads run on mutexes alone so far, and the script declares another lock, \
+        a condition variable or a channel\n",
+    ),
+    (
+        Status::BadScript,
+        "line 1 code 0\n",
+        "lockrun: the source is no script\n",
+    ),
+    (
+        Status::ReadFault,
+        "",
+        "lockrun: could not read standard input\n",
+    ),
+    (
+        Status::WriteFault,
+        "0 t1 lo",
+        "lockrun: could not write standard output\n",
+    ),
+    (Status::NoMemory, "", "lockrun: out of memory\n"),
+    (
+        Status::Stuck,
+        STUCK,
+        "lockrun: stuck: t1 waits for b, t2 for a\n",
+    ),
+    (
+        Status::Stuck,
+        SLEEPERS,
+        "lockrun: stuck: b waits for c, ab for c, a for c\n",
+    ),
+    (Status::Stuck, "stuck\n", "lockrun: stuck\n"),
+    (Status::Stuck, "", "lockrun: stuck\n"),
+    (
+        Status::Reversed,
+        REVERSED,
+        "lockrun: reversed: p may not take d under class kd, reversed may not take d under class km\n",
+    ),
+    (Status::Reversed, "reversed\n", "lockrun: reversed\n"),
+    (
+        Status::Reversed,
+        "1 p reversed d kd",
+        "lockrun: reversed: p may not take d under class kd\n",
+    ),
+    (
+        Status::TooLong,
+        "toolong\n",
+        "lockrun: the turns were used up before all threads had ended\n",
+    ),
+    (
+        Status::TooBig,
+        "",
+        "lockrun: the source has more than 1,048,576 bytes\n",
+    ),
+    (
+        Status::Usage,
+        "",
+        "usage: lockrun check|step|run [--chains N] [--turns N] < SCRIPT\n",
+    ),
+    (
+        Status::Usage,
+        STUCK,
+        "usage: lockrun check|step|run [--chains N] [--turns N] < SCRIPT\n",
+    ),
+];
+
+// What is heard on the stream.
+fn heard(alloc: Global, status: Status, text: &str) -> Vec<u8> {
+    let mut out = Vec::new(alloc);
+    say(alloc, &mut out, LOCKRUN, status, text.as_bytes());
+    out
+}
+
+#[test]
+fn sentences(rt: HostRuntime) -> Result<(), Fail> {
+    for (status, text, line) in SAID {
+        let said = complaint(rt.alloc(), LOCKRUN, *status, text.as_bytes())?;
+        assert!(rt; said.as_slice() == line.as_bytes(), "{line}");
+        assert!(rt;
+            heard(rt.alloc(), *status, text).as_slice() == line.as_bytes(),
+            "{line}"
+        );
+        if let Some(fixed) = fixed_complaint(LOCKRUN, *status) {
+            let whole = format!(in rt.alloc(); "{}: {fixed}\n", speaker(LOCKRUN, *status))?;
+            assert!(rt; whole.as_str() == *line, "{line}");
+        }
+    }
+    Ok(())
+}
