@@ -1,7 +1,7 @@
 -- A mutex is gained and noted, or found busy and that noted: each step may be made, and the thread is at rest again.
 use Rattle.std.proofs.Common.{◌≡◌, ◌≢◌, ℕ, suc, ◌+◌, ◌≤◌, Bool, true, false, cond, Option, Some, None, List, [], ◌∷◌, ◌++◌, replicate, refl, sym, ap, ◌∙◌, subst, inr, arith, eq-eqb}
 use Rattle.lock_laws.proofs.HeldLists.{gained_order-push, hold_in-push}
-use Rattle.lock_laws.specs.OnTrack.{gained_order}
+use Rattle.lock_state.specs.State.{gained_order, State, Look}
 use Rattle.lock_model.specs.Config.{Config}
 use Rattle.lock_model.specs.Holds.{NotHeld, Holds}
 use Rattle.lock_model.specs.Operations.{hold_in}
@@ -15,7 +15,6 @@ use Rattle.lock_model.specs.declared.plan.Kind.{Kind}
 use Rattle.lock_model.specs.declared.plan.Kind.TheVariants.{Mtx}
 use Rattle.lock_model.specs.declared.plan.Mode.TheVariants.{Excl}
 use Rattle.lock_model.specs.declared.plan.Plan.{Plan}
-use Rattle.lock_state.specs.State.{State, Look}
 use Rattle.lock_state.specs.Steps as steps
 use Rattle.lock_state.specs.Steps.{Looks, Stamps, FitsRound, NotesInRound, HasOutForEntry}
 use Rattle.lock_state.specs.Steps.LockWords.{Asks, Begins, IsGainedLast}

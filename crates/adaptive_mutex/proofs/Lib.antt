@@ -2,5 +2,4 @@ pub mod Looks
 pub mod Words
 pub mod Acquired
 pub mod Released
-pub mod Pairs
 pub mod First

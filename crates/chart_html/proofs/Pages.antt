@@ -8,7 +8,7 @@ use Rattle.chart_html.specs.Page.{page_bytes, IsPage}
 use Rattle.chart_svg.specs.Drawn.{Draws}
 use Rattle.chart_layout.specs.declared.layout.Chart.{Chart}
 use Rattle.lock_model.specs.declared.plan.Plan.{Plan}
-use Rattle.run_rows.specs.declared.rows.Rows.{Rows}
+use Rattle.run_tracks.specs.declared.rows.Rows.{Rows}
 
 pub are_page : (plan : Plan) (rows : Rows) (chart : Chart) (title drawn its_data picture known page : List ℕ) → drawn ≡ picture → its_data ≡ known
     → IsWellFormed picture → Draws plan chart picture → known ≡ data_bytes plan rows chart → IsJson known → page ≡ page_bytes title drawn its_data → IsPage plan rows chart title page

@@ -9,7 +9,7 @@ use Rattle.chart_html.specs.declared.fixed.TheConstants.{BEGIN, CONTROLS, SCRIPT
 use Rattle.chart_svg.specs.Drawn.{Draws}
 use Rattle.chart_layout.specs.declared.layout.Chart.{Chart}
 use Rattle.lock_model.specs.declared.plan.Plan.{Plan}
-use Rattle.run_rows.specs.declared.rows.Rows.{Rows}
+use Rattle.run_tracks.specs.declared.rows.Rows.{Rows}
 
 -- the title, the picture and the data, and fixed text round them
 abbrev pub page_bytes : List ℕ → List ℕ → List ℕ → List ℕ

@@ -11,8 +11,8 @@ use Rattle.lock_model.specs.declared.plan.Plan.{Plan}
 use Rattle.lock_model.specs.declared.plan.QueueName.{QueueName}
 use Rattle.prio_lending.specs.declared.walk.Walk.{Walk}
 use Rattle.prio_lending.specs.declared.walk.Walk.TheVariants as walk
-use Rattle.step_world.specs.declared.thread.Wait.{Wait}
-use Rattle.step_world.specs.declared.thread.Wait.TheVariants.{Running, Queued, Woken}
+use Rattle.lock_objects.specs.declared.wait.Wait.{Wait}
+use Rattle.lock_objects.specs.declared.wait.Wait.TheVariants.{Running, Queued, Woken}
 
 -- 1. Arrays
 

@@ -13,7 +13,7 @@ use chart_escape::{
 use chart_layout::{Chart, Mark, MarkKind};
 use chart_words::{push_mark, push_note, push_sentence};
 use lock_model::{Kind, LockDecl, Plan};
-use run_rows::Rows;
+use run_tracks::Rows;
 use std::alloc::{AllocError, Global};
 
 /// The data of a page.

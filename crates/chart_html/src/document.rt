@@ -8,7 +8,7 @@ use chart_escape::push_text;
 use chart_layout::Chart;
 use chart_svg::svg;
 use lock_model::Plan;
-use run_rows::Rows;
+use run_tracks::Rows;
 use std::alloc::{AllocError, Global};
 
 /// The page of a chart of the plan and of the rows that it shows, with a title and a line below it, either of which may

@@ -4,7 +4,7 @@ ghost use Rattle.std.specs.Prelude.{◌≡◌, ◌++◌, IfOk, OnOk};
 ghost use Rattle.chart_html.specs.Data.{edit, run_edits, turn_edits};
 
 use lock_model::{Event, LockNo};
-use run_rows::Rows;
+use run_tracks::Rows;
 use std::alloc::{AllocError, Global};
 
 /// An edit of a lock's table.

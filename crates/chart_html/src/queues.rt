@@ -10,7 +10,7 @@ use chart_escape::{
 use chart_words::queue_name;
 use lock_history::QueueLine;
 use lock_model::{Plan, Prio, ThreadNo};
-use run_rows::Rows;
+use run_tracks::Rows;
 use std::alloc::AllocError;
 
 /// Pushes the queues of a run, by the row from which on they hold.

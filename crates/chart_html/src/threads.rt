@@ -10,7 +10,7 @@ use chart_escape::{
 };
 use chart_layout::Chart;
 use lock_model::Plan;
-use run_rows::{Rows, ThreadRows};
+use run_tracks::{Rows, ThreadRows};
 use std::alloc::{AllocError, Global};
 
 /// Pushes the threads of a run.

@@ -8,8 +8,8 @@ ghost use Rattle.chart_html.specs.Tracks.{hold_bytes, pair_bytes, prio_bytes, qu
 use chart_escape::{Piece, begin_array, end_array, push_item};
 use chart_words::{push_queue, queue_name};
 use lock_model::{Mode, Plan, Prio, QueueName};
+use run_tracks::{Wait, Walk};
 use std::alloc::{AllocError, Global};
-use step_world::{Wait, Walk};
 
 /// Pushes a track of priorities.
 pub fn push_prios(out: &mut Vec<u8>, changes: &[(u32, Prio)]) -> Result<(), AllocError>

@@ -9,8 +9,8 @@ use Rattle.complaints.specs.declared.status.Status.{Status}
 use Rattle.complaints.specs.declared.status.Status.TheVariants.{NoMemory}
 use Rattle.lock_model.specs.declared.plan.Plan.{Plan}
 use Rattle.run_chart.specs.Charts.{Shows}
-use Rattle.run_rows.specs.Rows.{TellsRun}
-use Rattle.run_rows.specs.declared.rows.Rows.{Rows}
+use Rattle.run_tracks.specs.Rows.{TellsRun}
+use Rattle.run_tracks.specs.declared.rows.Rows.{Rows}
 use Rattle.top_ends.proofs.Takes.{unread}
 use Rattle.top_ends.specs.Calls.{Told}
 

@@ -13,8 +13,8 @@ use Rattle.chart_top.specs.Heading.{Text, subtitle_of, title_of}
 use Rattle.lock_model.specs.Script.{IsAccepted}
 use Rattle.lock_model.specs.declared.plan.Plan.{Plan}
 use Rattle.run_chart.specs.Charts.{Shows}
-use Rattle.run_rows.specs.Rows.{TellsRun}
-use Rattle.run_rows.specs.declared.rows.Rows.{Rows}
+use Rattle.run_tracks.specs.Rows.{TellsRun}
+use Rattle.run_tracks.specs.declared.rows.Rows.{Rows}
 
 -- which texts a renderer makes of the rows and the chart of a plan, under a title and the line below it
 abbrev pub Rendering : Type 1

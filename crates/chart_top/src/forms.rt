@@ -10,7 +10,7 @@ use chart_layout::Chart;
 use chart_svg::svg;
 use chart_trace::trace;
 use lock_model::Plan;
-use run_rows::Rows;
+use run_tracks::Rows;
 use std::alloc::{AllocError, Global};
 
 /// A picture, a page with a slider, and a trace for a viewer that zooms.

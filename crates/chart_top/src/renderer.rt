@@ -6,7 +6,7 @@ use crate::heading::Heading;
 use chart_command::Form;
 use chart_layout::Chart;
 use lock_model::Plan;
-use run_rows::Rows;
+use run_tracks::Rows;
 use std::alloc::{AllocError, Global};
 
 /// What writes a chart down, in the form that is asked for. So what is promised of a call of the program is said of any

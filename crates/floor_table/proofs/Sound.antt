@@ -5,8 +5,8 @@ use Rattle.lock_state.specs.State.{State, start_state}
 use Rattle.lock_state.specs.Steps.{Step, May, HasOut, HasSeen, IsFloorStep, after, after_all}
 use Rattle.lock_laws.proofs.FloorSteps as floor
 use Rattle.lock_laws.proofs.Rounds as rounds
-use Rattle.lock_laws.proofs.SleepFacts as sleep_facts
-use Rattle.lock_laws.proofs.SleepFacts.Floor as sleepers
+use Rattle.sleep_laws.proofs.SleepFacts as sleep_facts
+use Rattle.sleep_laws.proofs.SleepFacts.Floor as sleepers
 use Rattle.floor_table.specs.Past.{chains, none, more, past_with}
 use Rattle.floor_table.specs.Steps.{IsSound, MayAll}
 

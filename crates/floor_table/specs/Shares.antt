@@ -2,14 +2,13 @@
 -- state say of it.
 use Rattle.std.specs.Prelude.{ℕ, Bool, false, ◌==◌, List, [], Option, None}
 use Rattle.std.specs.List.{list_any}
-use Rattle.lock_laws.specs.OnTrack.{gained_order}
+use Rattle.lock_state.specs.State.{gained_order, State, Walk, NoWalk, Look, Round, Note, Wake, HeldLock, Phase, Awake}
 use Rattle.lock_model.specs.Counts.{times}
 use Rattle.lock_model.specs.Holds.{Hold}
 use Rattle.lock_model.specs.Operations.{hold_in}
 use Rattle.lock_model.specs.Queues.{Mark}
 use Rattle.lock_model.specs.declared.event.Entry.{Entry}
 use Rattle.lock_model.specs.declared.event.Held.{Held}
-use Rattle.lock_state.specs.State.{State, Walk, NoWalk, Look, Round, Note, Wake, HeldLock, Phase, Awake}
 
 -- what a thread is about
 pub record Doing : Type 0 where

@@ -10,7 +10,7 @@ use Rattle.lock_state.specs.Facts.{LawfulFloor}
 use Rattle.lock_state.specs.Steps.{Step, May, HasOut, HasSeen, after, after_all}
 use Rattle.lock_state.specs.Steps.Items.{Item, item_with}
 use Rattle.lock_laws.specs.Rounds.{LawfulRounds}
-use Rattle.lock_laws.specs.Sleepers.{SleepersFit, by_chain}
+use Rattle.sleep_laws.specs.Sleepers.{SleepersFit, by_chain}
 use Rattle.floor_table.specs.declared.slot.Slot.{Slot}
 use Rattle.floor_table.specs.Past.{chains, maker, LeadsTo, IsSeenBy, past_with}
 use Rattle.floor_table.specs.Places.{slot_of}

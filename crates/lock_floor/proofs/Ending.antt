@@ -8,8 +8,8 @@ use Rattle.std.specs.declared.alloc.Global.{Global}
 use Rattle.std.specs.declared.boxed.Box.{Box}
 use Rattle.atomic_table.specs.Table.{Final, Seen}
 use Rattle.lock_history.proofs.Places.{place_total, place_exact}
-use Rattle.lock_laws.proofs.LegalRuns.{legal_so_far, may_halt}
-use Rattle.lock_laws.specs.Sleepers.{by_chain}
+use Rattle.sleep_laws.proofs.LegalSoFar.{legal_so_far, may_halt}
+use Rattle.sleep_laws.specs.Sleepers.{by_chain}
 use Rattle.lock_model.specs.History.{value_at, tables_of}
 use Rattle.lock_model.specs.Plans.{config_of}
 use Rattle.lock_model.specs.declared.plan.Plan.{Plan}

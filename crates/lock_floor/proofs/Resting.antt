@@ -4,7 +4,7 @@ use Rattle.std.proofs.Common.{◌≡◌, ◌≢◌, ℕ, suc, ◌+◌, ◌≤◌
 use Rattle.std.proofs.lemmas.Bool.{cases_eq, ne_eqb}
 use Rattle.atomic_table.specs.Table.{rest}
 use Rattle.lock_laws.proofs.HeldLists.{hold_in-push}
-use Rattle.lock_laws.proofs.OnTrack.{own_section}
+use Rattle.lock_laws.proofs.Sections.{own_section}
 use Rattle.lock_laws.proofs.OwnEntries.{sections_stay}
 use Rattle.lock_model.specs.Config.{Config}
 use Rattle.lock_model.specs.History.{Sections, open_in, sections_in, sections_by, replaced}

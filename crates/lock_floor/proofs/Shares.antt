@@ -4,7 +4,7 @@ use Rattle.std.specs.Prelude.{◌==◌}
 use Rattle.std.proofs.lemmas.Bool.{cases_eq, ne_eqb, eqb-true}
 use Rattle.lock_laws.proofs.HeldLists.{gained_order-push, gained_order-without}
 use Rattle.lock_laws.proofs.Kit.{put_same, put_other, put_at_same, put_at_row, put_at_beside}
-use Rattle.lock_laws.specs.OnTrack.{gained_order}
+use Rattle.lock_state.specs.State.{gained_order, State, put, put_at}
 use Rattle.lock_model.specs.Config.{Config}
 use Rattle.lock_model.specs.Holds.{NotHeld, Holds}
 use Rattle.lock_model.specs.Operations.{hold_in, without_lock}
@@ -12,7 +12,6 @@ use Rattle.lock_model.specs.declared.event.Event.{Event}
 use Rattle.lock_model.specs.declared.event.Event.TheVariants.{Locked, Tried, Busy, Unlocked, Set, Added, Got, Base, Shown, Sleeps, Woke, HaltedChan, HaltedLock, WokeOne, WokeAll, Reversed}
 use Rattle.lock_model.specs.declared.event.Held.{Held}
 use Rattle.lock_objects.proofs.Held.{apart_once, once_push, once_without, column_push, column_without}
-use Rattle.lock_state.specs.State.{State, put, put_at}
 use Rattle.lock_state.specs.Steps.LockWords.{round_of, after_seek, after_look, after_gain, after_drop, after_stamp, without_held, entry_of, begun_after, looks_after, round_after, taking_after, unstamped_after}
 use Rattle.lock_state.specs.Steps.Items.{Item, after_take, after_give, is_chain, in_its_chain, seen_after}
 use Rattle.floor_table.specs.declared.slot.Slot.{Slot}

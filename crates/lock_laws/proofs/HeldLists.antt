@@ -22,9 +22,8 @@ use Rattle.lock_model.specs.declared.plan.Op.TheVariants.{Take, Try, EndTry, Rel
 use Rattle.lock_model.specs.declared.plan.Plan.{Plan}
 use Rattle.lock_model.specs.declared.event.Held.{Held}
 use Rattle.lock_model.specs.declared.numbers.LockNo.{LockNo}
-use Rattle.lock_state.specs.State.{HeldLock}
+use Rattle.lock_state.specs.State.{HeldLock, gained_order}
 use Rattle.lock_state.specs.Steps.LockWords.{without_held}
-use Rattle.lock_laws.specs.OnTrack.{gained_order}
 use Rattle.lock_laws.proofs.Endtries.{at_next}
 
 -- 1. Lists

@@ -26,38 +26,10 @@ pub mod StateAtStart
 pub mod Steps
 pub mod Best
 pub mod Derived
-pub mod Rows
-pub mod Histories
-mod OrderHistories
 pub mod Endtries
 pub mod HeldLists
-pub mod LastHeld
-pub mod Table
-pub mod Follows
-pub mod Entries
-pub mod OnTrack
-pub mod Shares
-pub mod Walks
-pub mod TurnsOfWalks
-pub mod TurnsOfWaits
-pub mod TurnsOfGains
-pub mod TurnsOfReleases
-pub mod TurnsOfNotes
-pub mod TurnsOfSleeps
-pub mod TurnsOfOrders
-pub mod Turning
-pub mod KeepingOrder
-pub mod LegalRuns
-pub mod Reaching
-pub mod Stuck
-pub mod OrderedRuns
-pub mod Idle
-pub mod Endings
 pub mod AtTurn
-pub mod OtherThreads
-mod FloorGuards
-mod SleepGuards
-mod OrderGuards
+pub mod FloorGuards
 pub mod Props
 pub mod Sleepers
 pub mod EnterSleep
@@ -69,17 +41,6 @@ pub mod HeadsOfWaiters
 pub mod NodesOfHeads
 pub mod Sums
 pub mod Beyond
-pub mod AcceptedLists
-mod CanonicalWords
-mod CanonicalReading
-mod CanonicalNames
-mod CanonicalOperations
-mod CanonicalThreads
-mod CanonicalKept
-mod CanonicalDeclarations
-mod CanonicalTexts
-pub mod AcceptedBlocks
-pub mod Accepted
 pub mod WordsAndHeads
 pub mod FloorSteps
 pub mod Looks
@@ -90,6 +51,6 @@ pub mod ComingToStand
 pub mod TakingOff
 pub mod LockQueues
 pub mod SleepQueues
-pub mod SleepFacts
-pub mod OrderFacts
-pub mod TakeFacts
+pub mod Bits
+pub mod Dealt
+pub mod Taken

@@ -1,11 +1,11 @@
 -- Laws of sections: who has one open holds the lock, and no two that exclude each other are open.
-use Rattle.std.proofs.Common.{◌≡◌, ℕ, Bool, true, false, cond, refl, sym, ap, arith, ◌∙◌}
+use Rattle.std.proofs.Common.{◌≡◌, ℕ, Bool, true, false, cond, refl, sym, ap, eq-eqb, arith, ◌∙◌}
 use Rattle.lock_model.specs.Words.{sharers}
 use Rattle.lock_model.specs.Config.{Config}
 use Rattle.lock_state.specs.State.{State}
 use Rattle.lock_model.specs.Holds.{Hold, NotHeld, Holds}
-use Rattle.lock_model.specs.History.{sections_in, sections_by, open_in, left_in, begun_by, ends, replaced, IsAlone, IsInSection, IsReplayed}
-use Rattle.lock_state.specs.Steps.LockWords.{Asks}
+use Rattle.lock_model.specs.History.{Sections, sections_in, sections_by, open_in, left_in, begun_by, ends, replaced, IsAlone, IsInSection, IsReplayed}
+use Rattle.lock_state.specs.Steps.LockWords.{Asks, after_stamp}
 use Rattle.lock_state.specs.Facts.{Lawful, SectionsAreHeld, OnlyThreadsHold, TablesReplay}
 use Rattle.lock_model.specs.declared.plan.Mode.{Mode}
 use Rattle.lock_model.specs.declared.plan.Mode.TheVariants.{Excl, Shared}
@@ -67,3 +67,11 @@ module _ (c : Config) (s : State) (h : Lawful c s) where
   unfolding TablesReplay
   asks_replayed t (Got l k v) a = a.1 ∙ h.books.tables_replay_logs l.0 k
   asks_replayed t other a = tt
+
+-- its own sections behind an entry of a thread, and that which is open
+pub own_sections_by : (c : Config) (s : State) (t : ℕ) (e : Event) (l : ℕ) → sections_in c (after_stamp c s t e).history t l ≡ sections_by c e l (sections_in c s.history t l)
+unfolding after_stamp sections_in
+own_sections_by c s t e l = ap (λ b. cond b (sections_by c e l (sections_in c s.history t l)) (sections_in c s.history t l)) (eq-eqb t t refl)
+
+pub own_section : (c : Config) (s : State) (t : ℕ) (e : Event) (l : ℕ) → open_in c (after_stamp c s t e).history t l ≡ (sections_by c e l (sections_in c s.history t l)).now
+own_section c s t e l = ap (λ (x : Sections). x.now) (own_sections_by c s t e l)

@@ -1,3 +1,1 @@
-pub mod OnTrack
 pub mod Rounds
-pub mod Sleepers

@@ -17,8 +17,8 @@ use Rattle.lock_state.specs.Steps.SleepQueues.{after_enter_sleep, after_open_sle
 use Rattle.lock_laws.proofs.Kit.{is_queue_true, put_queue_same, put_queue_other, at_put_queue}
 use Rattle.lock_laws.proofs.Standing.{standing_named, asleep_out}
 use Rattle.lock_laws.proofs.Sums.{zero_unless}
-use Rattle.lock_laws.proofs.SleepFacts.Marks.{threads-dealt}
-use Rattle.lock_laws.proofs.SleepFacts.Taken.{objects_enough}
+use Rattle.lock_laws.proofs.Dealt.{threads-dealt}
+use Rattle.lock_laws.proofs.Taken.{objects_enough}
 use Rattle.turnstile_core.specs.Seen.{Turnstile}
 use Rattle.sleep_queues.specs.Seen.{SleepQueue, Place}
 use Rattle.wait_objects.specs.Seen.{Contents}

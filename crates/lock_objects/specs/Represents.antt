@@ -15,8 +15,12 @@ use Rattle.sleep_queues.specs.Seen.{SleepQueue}
 use Rattle.thread_records.specs.Records.{Record}
 use Rattle.thread_records.specs.Loans.{loan_for, loans_for}
 use Rattle.chain_table.specs.Chains.{head_of}
+use Rattle.lock_model.specs.Holds.{Hold, NotHeld, Holds}
+use Rattle.lock_model.specs.declared.plan.Mode.{Mode}
 use Rattle.prio_lending.specs.declared.walk.Walk as walks
 use Rattle.prio_lending.specs.declared.walk.Walk.TheVariants as walk
+use Rattle.lock_objects.specs.declared.wait.Wait as waits
+use Rattle.lock_objects.specs.declared.wait.Wait.TheVariants as wait
 
 -- 1. Turnstiles
 
@@ -132,10 +136,21 @@ abbrev pub mark_of : QueueName → Place → Mark
 mark_of q p =
     record { thread = p.thread; object = unwrap_or p.object 0; queue = q; cause = BySignal }
 
--- 5. Walks
+-- 5. Walks, wait words and holds
 
 -- where a thread's walk stands
 abbrev pub walk_of : walks.Walk → state.Walk
 walk_of walk.None = state.NoWalk
 walk_of (walk.AtLock l) = state.AtLock l.0
 walk_of (walk.AtThread t) = state.AtThread t.0
+
+-- what a thread's wait word says
+abbrev pub wait_of : waits.Wait → state.Wait
+wait_of wait.Running = state.Running
+wait_of wait.Queued = state.Queued
+wait_of (wait.Woken q) = state.Woken q BySignal
+
+-- how a lock is held, where there is a mode
+abbrev pub hold_of : Option Mode → Hold
+hold_of None = NotHeld
+hold_of (Some mode) = Holds mode

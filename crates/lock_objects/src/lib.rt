@@ -12,6 +12,7 @@
 //! - `sleeping`: a thread goes to stand on a sleep queue, and sleepers are taken off it.
 //! - `put_back`: what becomes of a turnstile or a sleep queue off which waiters were taken.
 //! - `marked`: those that were taken off a queue, and how they are woken.
+//! - `wait`: the wait word of a thread.
 //! - `walks`: priority is lent to an owner, by a claim and along a chain of owners.
 #![tactic(auto)]
 
@@ -19,11 +20,13 @@ mod blocking;
 mod marked;
 mod put_back;
 mod sleeping;
+mod wait;
 mod waking;
 mod walks;
 
 pub use blocking::enter;
 pub use marked::{Marked, Woken, wake};
 pub use sleeping::{bits_of, fall_asleep, take_off};
+pub use wait::Wait;
 pub use waking::open;
 pub use walks::{claim, lend_to_owner, sort_anew};

@@ -1,11 +1,11 @@
 -- The scheduled run: one thread of control gives the threads their turns, first by the plan's schedule and then in
 -- rounds. A turn is the first row that fits of a table, and its steps are those of threads. The table is this
 -- project's own.
-use Rattle.std.specs.Prelude.{ℕ, zero, suc, ◌%◌, Bool, true, false, not, ◌&&◌, ◌||◌, nat_le, nat_lt, if◌then◌else◌, List, [], ◌∷◌, ◌++◌, unwrap_or, is_some, option_map, length, map, filter, flat_map, reverse, slice_get, Option, Some, None}
+use Rattle.std.specs.Prelude.{ℕ, zero, suc, ◌%◌, Bool, true, false, not, ◌&&◌, ◌||◌, nat_le, nat_lt, if◌then◌else◌, List, [], ◌∷◌, ◌++◌, unwrap_or, is_some, option_map, length, map, filter, flat_map, reverse, slice_get, Option, Some, None, take}
 use Rattle.std.specs.List.{list_all, range_with_len}
 use Rattle.std.specs.FinMap.{entries}
 use Rattle.lock_model.specs.Plans.{config_of, operations_of}
-use Rattle.lock_model.specs.Operations.{next_at}
+use Rattle.lock_model.specs.Operations.{next_at, held_of, without_lock}
 use Rattle.lock_model.specs.Counts.{any_below, is_empty}
 use Rattle.lock_model.specs.Words.{admits, bits_of, is_plain, is_drop, is_turnstile, owner_of}
 use Rattle.lock_model.specs.Config.{Config}
@@ -36,6 +36,7 @@ use Rattle.lock_model.specs.declared.turn.StepKind.TheVariants.{Gain, Claim, Dro
 use Rattle.lock_model.specs.declared.turn.Turn.{Turn}
 use Rattle.lock_model.specs.declared.turn.Turn.TheVariants.{Did, Idle, Ended}
 use Rattle.lock_model.specs.declared.event.Event.{Event}
+use Rattle.lock_model.specs.declared.event.Held.{Held}
 use Rattle.lock_model.specs.declared.event.Event.TheVariants as event
 
 -- 1. Runs
@@ -82,6 +83,24 @@ holds_none c s t = not (any_below c.locks (λ l. not (is_unheld (s.held t l))))
 -- whether a thread was cut: a take of it was refused, and its operations from there on are not made
 abbrev pub was_cut : State → ℕ → Bool
 was_cut s t = has_reversal (s.log t)
+
+-- what a thread's operations so far lead to, in order of gaining
+abbrev pub held_before : Plan → Run → ℕ → List Held
+held_before plan r t = held_of (operations_of plan t) (r.next_op t)
+
+-- the same without a lock that is not held
+abbrev pub without_unheld : (ℕ → Hold) → Option ℕ → List Held → List Held
+without_unheld held None hs = hs
+without_unheld held (Some l) hs = if is_unheld (held l) then without_lock l hs else hs
+
+-- what a thread holds now: what its operations so far lead to, but for the lock of its wait, from its release until it
+-- is taken back. One that was cut holds the first of them, as many as it has left
+abbrev pub held_now : Plan → Run → ℕ → List Held
+held_now plan r t =
+    if was_cut r.state t
+    then take (length (r.state.held_locks t)) (held_before plan r t)
+    else without_unheld (r.state.held t) (lock_of_wait (config_of plan) r.state t)
+    (held_before plan r t)
 
 -- a thread has ended where all its operations are done or cut, nothing is owed and nothing is held
 unfoldable pub has_ended : Plan → Run → ℕ → Bool
@@ -365,6 +384,16 @@ is_over plan k = all_ended plan k.run || is_stuck k
 -- one turn more, save where the run has come to its end
 abbrev pub go_on : Plan → Course → Course
 go_on plan k = if is_over plan k then k else after_turn plan k k.coming
+
+-- the turn of the first of those who come: who it is, and the answer
+abbrev pub first_turn : Plan → Run → List ℕ → Option (ℕ × Turn)
+first_turn plan r [] = None
+first_turn plan r (t ∷ ts) = Some (t, (turn_of plan r t).answer)
+
+-- the next turn of a course, of those who still come and behind them those of the next round; none where it is over
+abbrev pub next_turn : Plan → Course → Option (ℕ × Turn)
+next_turn plan k =
+    if is_over plan k then None else first_turn plan k.run (k.coming ++ round_of plan k.run)
 
 -- the run after a number of turns, or at its end where that comes first
 unfoldable pub course_after : Plan → ℕ → Course

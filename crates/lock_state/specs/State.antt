@@ -1,13 +1,14 @@
 -- The state of a run as plain data: a column for each thing that a lock, a queue, a thread or a table has. Between
 -- two steps this is all there is to know. Columns range over all numbers; out of a plan's range they stay as they
 -- began.
-use Rattle.std.specs.Prelude.{ℕ, Bool, true, false, ◌&&◌, ◌==◌, if◌then◌else◌, List, [], Option, Some, None}
+use Rattle.std.specs.Prelude.{ℕ, Bool, true, false, ◌&&◌, ◌==◌, if◌then◌else◌, List, [], map, reverse, Option, Some, None}
 use Rattle.lock_model.specs.Words.{Word, free_word}
 use Rattle.lock_model.specs.Config.{Config}
 use Rattle.lock_model.specs.Holds.{Hold, NotHeld}
 use Rattle.lock_model.specs.Queues.{Cause, Lists, Mark, is_queue}
 use Rattle.lock_model.specs.declared.plan.QueueName.{QueueName}
 use Rattle.lock_model.specs.declared.event.Entry.{Entry}
+use Rattle.lock_model.specs.declared.event.Held.{Held}
 
 -- what a thread's wait word says
 pub data Wait : Type 0 where
@@ -56,6 +57,10 @@ pub record Round : Type 0 where
 pub record HeldLock : Type 0 where
   pub lock : ℕ
   pub by_try : Bool
+
+-- held locks as a state lists them, the one gained last first
+abbrev pub gained_order : List Held → List HeldLock
+gained_order hs = reverse (map (λ h. record { lock = h.l.0; by_try = h.by_try }) hs)
 
 -- Where a thread of a running floor is with its counting. Awake: it is counted among those that are awake. Asleep: it
 -- counted itself out, and somebody was left. Last: its counting out left nobody. Halting: it counted itself in after

@@ -10,11 +10,11 @@ use Rattle.lock_model.specs.Script.{IsAccepted, IsFaulty}
 use Rattle.lock_model.specs.Text.{fault_text}
 use Rattle.lock_model.specs.declared.plan.Plan.{Plan}
 use Rattle.lock_model.specs.declared.event.Entry.{Entry}
-use Rattle.lock_laws.proofs.Accepted.{accepted_proper}
+use Rattle.script_laws.proofs.Accepted.{accepted_proper}
 use Rattle.lock_laws.proofs.Derived.{effective, tables}
-use Rattle.lock_laws.proofs.OrderFacts.Cycle.{no_cycle}
-use Rattle.lock_laws.proofs.LegalRuns.{outcomes_are_legal}
-use Rattle.lock_laws.proofs.Turning.{behind_course}
+use Rattle.order_laws.proofs.OrderFacts.Cycle.{no_cycle}
+use Rattle.run_laws.proofs.LegalRuns.{outcomes_are_legal}
+use Rattle.run_laws.proofs.Turning.{behind_course}
 use Rattle.lock_model.specs.Plans.{config_of}
 use Rattle.script_read.specs.declared.fault.ScriptFault.{ScriptFault}
 use Rattle.script_read.specs.declared.fault.ReadError.TheVariants.{Script}

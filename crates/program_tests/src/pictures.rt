@@ -8,7 +8,7 @@ use complaints::Status;
 use complaints::Status::{BadScript, Done, ReadFault, TooBig, Usage, WriteFault};
 use lock_io::{MemSink, MemSource};
 use lock_model::Plan;
-use run_rows::Rows;
+use run_tracks::Rows;
 use std::alloc::{AllocError, Global};
 use std::test::Fail;
 

@@ -12,7 +12,7 @@ use Rattle.chart_layout.specs.declared.layout.ArrowKind.TheVariants.{Lends, Wake
 use Rattle.lock_history.specs.Outcomes.{waiter_seen}
 use Rattle.lock_history.specs.declared.outcome.QueueLine.{QueueLine}
 use Rattle.lock_laws.proofs.Kit.{same_lock}
-use Rattle.lock_laws.proofs.Turning.{behind_course}
+use Rattle.run_laws.proofs.Turning.{behind_course}
 use Rattle.lock_model.specs.Holds.{Holds}
 use Rattle.lock_model.specs.Queues.{Lists, Waiter, lock_queue}
 use Rattle.lock_model.specs.Words.{owner_of}
@@ -32,11 +32,11 @@ use Rattle.run_chart.proofs.Numbered.{contained, contains_at}
 use Rattle.run_chart.proofs.Told.{element_at, so_at, thread_at, value_at}
 use Rattle.run_chart.proofs.Turns.{gains_added, maker}
 use Rattle.run_chart.proofs.Windows.{contains_none, contains_one}
-use Rattle.run_rows.specs.Rows.{run_in}
-use Rattle.run_rows.specs.Tracks.{value_in}
-use Rattle.run_rows.specs.declared.columns.ThreadRows.{ThreadRows}
-use Rattle.run_rows.specs.declared.rows.Rows.{Rows}
-use Rattle.step_world.specs.Represents.{hold_of}
+use Rattle.run_tracks.specs.Rows.{run_in}
+use Rattle.run_tracks.specs.Tracks.{value_in}
+use Rattle.run_tracks.specs.declared.threads.ThreadRows.{ThreadRows}
+use Rattle.run_tracks.specs.declared.rows.Rows.{Rows}
+use Rattle.lock_objects.specs.Represents.{hold_of}
 
 -- 1. Whom a thread goes behind
 

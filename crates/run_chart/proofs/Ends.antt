@@ -5,7 +5,7 @@ use Rattle.std.specs.List.{All}
 use Rattle.std.proofs.lemmas.Bool.{cases_Bool, cases_eq, cases_lt, le-leb}
 use Rattle.std.proofs.lemmas.Option.{same_Some, slice_get_within}
 use Rattle.chart_layout.specs.declared.layout.Lane.{Lane}
-use Rattle.lock_laws.proofs.AcceptedLists.{get_push, get_push_other}
+use Rattle.script_laws.proofs.AcceptedLists.{get_push, get_push_other}
 use Rattle.lock_model.specs.declared.plan.Plan.{Plan}
 use Rattle.lock_state.specs.Run.{has_ended}
 use Rattle.run_chart.specs.Charts.{EndsAt, IsLane}
@@ -13,10 +13,10 @@ use Rattle.run_chart.specs.Lanes.{first_row, AreLanes, IsFirst, IsLaneOf}
 use Rattle.run_chart.specs.Runs.{IsRunOf}
 use Rattle.run_chart.proofs.Told.{element_at, thread_at, value_at}
 use Rattle.run_chart.proofs.Values.{first_is_least, replaced, rest_ascends, unchanged, Ascend}
-use Rattle.run_rows.specs.Rows.{run_in}
-use Rattle.run_rows.specs.Tracks.{value_in, IsTrack}
-use Rattle.run_rows.specs.declared.columns.ThreadRows.{ThreadRows}
-use Rattle.run_rows.specs.declared.rows.Rows.{Rows}
+use Rattle.run_tracks.specs.Rows.{run_in}
+use Rattle.run_tracks.specs.Tracks.{value_in, IsTrack}
+use Rattle.run_tracks.specs.declared.threads.ThreadRows.{ThreadRows}
+use Rattle.run_tracks.specs.declared.rows.Rows.{Rows}
 
 -- 1. The first change to so
 

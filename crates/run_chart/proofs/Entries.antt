@@ -3,9 +3,9 @@ use Rattle.std.proofs.Common.{◌≡◌, ℕ, zero, suc, ◌+◌, ◌-◌, ◌<�
 use Rattle.std.specs.Prelude.{reverse, slice_get}
 use Rattle.std.proofs.lemmas.Bool.{le-ltb, lt-ltb}
 use Rattle.std.proofs.lemmas.List.{length-reverse, reverse-append}
-use Rattle.lock_laws.proofs.Table as table
-use Rattle.lock_laws.proofs.Table.{Acquires, Entering, Fits, GivingBack}
-use Rattle.lock_laws.specs.OnTrack.{admitted}
+use Rattle.run_laws.proofs.Table as table
+use Rattle.run_laws.proofs.Table.{Acquires, Entering, Fits, GivingBack}
+use Rattle.run_laws.specs.OnTrack.{admitted}
 use Rattle.lock_model.specs.Config.{Config}
 use Rattle.lock_model.specs.Plans.{config_of}
 use Rattle.lock_model.specs.Text as text
@@ -26,9 +26,9 @@ use Rattle.lock_state.specs.Steps.Orders.{after_admit, after_refuse}
 use Rattle.run_chart.specs.Charts.{history_in}
 use Rattle.run_chart.specs.Marks.{entry_in, newest}
 use Rattle.run_chart.specs.Runs.{IsRunOf}
-use Rattle.run_rows.specs.declared.rows.Rows.{Rows}
-use Rattle.run_rows.specs.declared.rows.TurnRow.{TurnRow}
-use Rattle.step_world.proofs.TurnsOfCourses.{none_made, one_more}
+use Rattle.run_tracks.specs.declared.rows.Rows.{Rows}
+use Rattle.run_tracks.specs.declared.rows.TurnRow.{TurnRow}
+use Rattle.run_laws.proofs.TurnsOfCourses.{none_made, one_more}
 
 -- 1. A turn makes one entry at most
 

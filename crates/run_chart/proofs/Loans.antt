@@ -12,10 +12,10 @@ use Rattle.prio_lending.specs.declared.walk.Walk.TheVariants as walks
 use Rattle.run_chart.specs.Arrows.{loan_at, loan_in}
 use Rattle.run_chart.specs.Runs.{IsRunOf}
 use Rattle.run_chart.proofs.Told.{element_at, owned_is_lock, owner_is_thread, so_at, thread_at, word_fits}
-use Rattle.run_rows.specs.Rows.{run_in}
-use Rattle.run_rows.specs.Tracks.{value_in}
-use Rattle.run_rows.specs.declared.columns.ThreadRows.{ThreadRows}
-use Rattle.run_rows.specs.declared.rows.Rows.{Rows}
+use Rattle.run_tracks.specs.Rows.{run_in}
+use Rattle.run_tracks.specs.Tracks.{value_in}
+use Rattle.run_tracks.specs.declared.threads.ThreadRows.{ThreadRows}
+use Rattle.run_tracks.specs.declared.rows.Rows.{Rows}
 
 module _ (plan : Plan) (rows : Rows) (h : IsRunOf plan rows) (n : ℕ) (l : n < length rows.turns) where
   -- 1. The owner of a lock

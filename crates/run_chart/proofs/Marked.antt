@@ -12,13 +12,12 @@ use Rattle.lock_model.specs.declared.plan.Plan.{Plan}
 use Rattle.lock_model.specs.declared.turn.StepKind.{StepKind}
 use Rattle.lock_model.specs.declared.turn.Turn.{Turn}
 use Rattle.lock_model.specs.declared.turn.Turn.TheVariants.{Did, Idle, Ended}
-use Rattle.lock_state.specs.Run.{course_after}
+use Rattle.lock_state.specs.Run.{course_after, next_turn}
 use Rattle.run_chart.specs.Charts.{history_in, mark, HasNoted, IsDone, Made}
 use Rattle.run_chart.specs.Marks.{entry_in, marked_of, marks_of, newest}
 use Rattle.run_chart.proofs.Entries.{Grew, stayed, grew_by, grew, new_entry, no_entry}
 use Rattle.run_chart.proofs.Turns.{maker}
 use Rattle.run_chart.proofs.Windows.{adds, contains_none, contains_one}
-use Rattle.step_world.specs.Courses.{next_turn}
 
 -- what a mark says is so
 abbrev pub IsMarked : Plan → Mark → Type 0

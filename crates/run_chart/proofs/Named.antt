@@ -8,7 +8,7 @@ use Rattle.std.proofs.lemmas.List.Kept.{AllPairs-cons}
 use Rattle.std.proofs.lemmas.Option.{same_Some}
 use Rattle.lock_laws.proofs.Kit.{is_queue_same, is_queue_true}
 use Rattle.lock_laws.proofs.Standing.{standing_thread}
-use Rattle.lock_laws.proofs.Turning.{behind_course}
+use Rattle.run_laws.proofs.Turning.{behind_course}
 use Rattle.lock_model.specs.Holds.{Hold, Holds, NotHeld}
 use Rattle.lock_model.specs.Plans.{config_of}
 use Rattle.lock_model.specs.Queues.{stands}
@@ -23,10 +23,10 @@ use Rattle.run_chart.proofs.Blocked.{holder, holds_it}
 use Rattle.run_chart.proofs.Numbered.{contained, contains_at, each_more}
 use Rattle.run_chart.proofs.Told.{element_at, thread_at, value_at, Known}
 use Rattle.run_chart.proofs.Windows.{contains_none, contains_one}
-use Rattle.run_rows.specs.Rows.{IsWhereItStands, run_in}
-use Rattle.run_rows.specs.Tracks.{value_in}
-use Rattle.run_rows.specs.declared.columns.ThreadRows.{ThreadRows}
-use Rattle.run_rows.specs.declared.rows.Rows.{Rows}
+use Rattle.run_tracks.specs.Rows.{IsWhereItStands, run_in}
+use Rattle.run_tracks.specs.Tracks.{value_in}
+use Rattle.run_tracks.specs.declared.threads.ThreadRows.{ThreadRows}
+use Rattle.run_tracks.specs.declared.rows.Rows.{Rows}
 
 -- 1. Those whose rows pass
 

@@ -9,7 +9,7 @@ use Rattle.lock_history.specs.Outcomes.{line_seen}
 use Rattle.lock_history.specs.declared.outcome.QueueLine.{QueueLine}
 use Rattle.lock_laws.proofs.Beyond.{beyond_none}
 use Rattle.lock_laws.proofs.Kit.{is_queue_same}
-use Rattle.lock_laws.proofs.Turning.{behind_course}
+use Rattle.run_laws.proofs.Turning.{behind_course}
 use Rattle.lock_model.specs.Operations.{IsProper}
 use Rattle.lock_model.specs.Plans.{config_of}
 use Rattle.lock_model.specs.Queues.{Lists, Waiter, is_queue, chan_queue, lock_queue, waiting}
@@ -26,9 +26,9 @@ use Rattle.run_chart.specs.Arrows.{is_line_of, lists_of}
 use Rattle.run_chart.specs.Charts.{waiters_in}
 use Rattle.run_chart.specs.Runs.{IsRunOf}
 use Rattle.run_chart.proofs.Told.{so_at}
-use Rattle.run_rows.specs.Rows.{run_in}
-use Rattle.run_rows.specs.Tracks.{value_in}
-use Rattle.run_rows.specs.declared.rows.Rows.{Rows}
+use Rattle.run_tracks.specs.Rows.{run_in}
+use Rattle.run_tracks.specs.Tracks.{value_in}
+use Rattle.run_tracks.specs.declared.rows.Rows.{Rows}
 
 -- 1. The first line of a queue
 

@@ -13,7 +13,7 @@ use Rattle.run_chart.specs.Spans.{covers, is_between, values_at, IsWithin}
 use Rattle.run_chart.specs.declared.spans.Span.{Span}
 use Rattle.run_chart.proofs.Numbered.{any_more}
 use Rattle.run_chart.proofs.Values.{values_more, values_outside}
-use Rattle.run_rows.specs.declared.columns.ThreadRows.{ThreadRows}
+use Rattle.run_tracks.specs.declared.threads.ThreadRows.{ThreadRows}
 
 -- 1. Tests
 

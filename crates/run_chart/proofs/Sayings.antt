@@ -4,7 +4,7 @@ use Rattle.std.specs.Prelude.{option_map, slice_get}
 use Rattle.std.proofs.lemmas.Option.{same_Some}
 use Rattle.chart_layout.specs.declared.sentence.Saying.{Saying}
 use Rattle.chart_layout.specs.declared.sentence.Saying.TheVariants as said
-use Rattle.lock_laws.proofs.Turning.{behind_course}
+use Rattle.run_laws.proofs.Turning.{behind_course}
 use Rattle.lock_model.specs.declared.event.Event.{Event}
 use Rattle.lock_model.specs.declared.event.Event.TheVariants.{Sleeps, WokeAll, WokeOne}
 use Rattle.lock_model.specs.declared.numbers.ChanNo.{ChanNo}
@@ -21,7 +21,7 @@ use Rattle.lock_model.specs.declared.turn.Turn.{Turn}
 use Rattle.lock_model.specs.declared.turn.Turn.TheVariants.{Did, Idle, Ended}
 use Rattle.lock_model.specs.Queues.{lock_queue}
 use Rattle.lock_objects.specs.Represents.{walk_of}
-use Rattle.lock_state.specs.Run.{course_after}
+use Rattle.lock_state.specs.Run.{course_after, next_turn}
 use Rattle.lock_state.specs.Facts.{OnlyThreadsStand}
 use Rattle.lock_state.specs.State as state
 use Rattle.lock_state.specs.State.{NoWalk}
@@ -38,11 +38,10 @@ use Rattle.run_chart.proofs.Marked.{noted, noted_event}
 use Rattle.run_chart.proofs.Named.{holders_are, HoldsOnlyIn}
 use Rattle.run_chart.proofs.Told.{no_element, so_at, thread_at}
 use Rattle.run_chart.proofs.Turns.{hops, loan_of_hops, maker}
-use Rattle.run_rows.specs.Rows.{run_in}
-use Rattle.run_rows.specs.Tracks.{value_in}
-use Rattle.run_rows.specs.declared.columns.ThreadRows.{ThreadRows}
-use Rattle.run_rows.specs.declared.rows.Rows.{Rows}
-use Rattle.step_world.specs.Courses.{next_turn}
+use Rattle.run_tracks.specs.Rows.{run_in}
+use Rattle.run_tracks.specs.Tracks.{value_in}
+use Rattle.run_tracks.specs.declared.threads.ThreadRows.{ThreadRows}
+use Rattle.run_tracks.specs.declared.rows.Rows.{Rows}
 
 -- 1. Turns by their step
 

@@ -7,14 +7,14 @@ use Rattle.std.proofs.lemmas.Option.{same_Some, slice_get_within}
 use Rattle.chart_layout.specs.declared.layout.Bar.{Bar}
 use Rattle.chart_layout.specs.declared.layout.BarKind.{BarKind}
 use Rattle.chart_layout.specs.declared.layout.BarKind.TheVariants as bar
-use Rattle.lock_laws.proofs.Turning.{behind_course}
+use Rattle.run_laws.proofs.Turning.{behind_course}
 use Rattle.lock_model.specs.Holds.{Holds}
 use Rattle.lock_model.specs.Operations.{IsProper}
 use Rattle.lock_model.specs.Queues.{BySignal, stands}
 use Rattle.lock_model.specs.declared.plan.Mode.{Mode}
 use Rattle.lock_model.specs.declared.plan.Plan.{Plan}
 use Rattle.lock_model.specs.declared.plan.QueueName.{QueueName}
-use Rattle.lock_objects.specs.Represents.{walk_of}
+use Rattle.lock_objects.specs.Represents.{walk_of, hold_of, wait_of}
 use Rattle.lock_state.specs.Facts.{OnlyLocksAreHeld}
 use Rattle.lock_state.specs.State as state
 use Rattle.lock_state.specs.State.{State}
@@ -28,13 +28,12 @@ use Rattle.run_chart.specs.Steps.{numbers_of, strip_tells, strips_tell}
 use Rattle.run_chart.proofs.SameBars.{is_kind, passes_this, said, says_it, this_passes}
 use Rattle.run_chart.proofs.Numbered.{any_at, found}
 use Rattle.run_chart.proofs.Told.{Known, element_at, thread_at, value_at}
-use Rattle.run_rows.specs.Rows.{IsWhereItStands, TellsThread, run_in}
-use Rattle.run_rows.specs.Tracks.{value_in}
-use Rattle.run_rows.specs.declared.columns.ThreadRows.{ThreadRows}
-use Rattle.run_rows.specs.declared.rows.Rows.{Rows}
-use Rattle.step_world.specs.Represents.{hold_of, wait_of}
-use Rattle.step_world.specs.declared.thread.Wait.{Wait}
-use Rattle.step_world.specs.declared.thread.Wait.TheVariants as waits
+use Rattle.run_tracks.specs.Rows.{IsWhereItStands, TellsThread, run_in}
+use Rattle.run_tracks.specs.Tracks.{value_in}
+use Rattle.run_tracks.specs.declared.threads.ThreadRows.{ThreadRows}
+use Rattle.run_tracks.specs.declared.rows.Rows.{Rows}
+use Rattle.lock_objects.specs.declared.wait.Wait.{Wait}
+use Rattle.lock_objects.specs.declared.wait.Wait.TheVariants as waits
 
 -- 1. What is shown of a value is so
 

@@ -5,7 +5,7 @@ use Rattle.std.proofs.lemmas.Bool.{cases_lt}
 use Rattle.std.proofs.lemmas.List.Elements.{Contains-push}
 use Rattle.lock_history.specs.Endings as seen
 use Rattle.lock_laws.proofs.Standing.{standing_thread}
-use Rattle.lock_laws.proofs.Turning.{behind_course}
+use Rattle.run_laws.proofs.Turning.{behind_course}
 use Rattle.lock_model.specs.Plans.{config_of}
 use Rattle.lock_model.specs.Queues.{stands}
 use Rattle.lock_model.specs.Text as text
@@ -19,11 +19,11 @@ use Rattle.run_chart.specs.Runs.{IsRunOf}
 use Rattle.run_chart.proofs.Numbered.{contained, contains_at}
 use Rattle.run_chart.proofs.Told.{element_at, so_at, thread_at, value_at}
 use Rattle.run_chart.proofs.Windows.{contains_none, contains_one}
-use Rattle.run_rows.specs.Rows.{IsWhereItStands, run_in}
-use Rattle.run_rows.specs.Tracks.{value_in}
-use Rattle.run_rows.specs.declared.columns.ThreadRows.{ThreadRows}
-use Rattle.run_rows.specs.declared.rows.Rows.{Rows}
-use Rattle.step_world.proofs.TurnsOfCourses.{stays_over}
+use Rattle.run_tracks.specs.Rows.{IsWhereItStands, run_in}
+use Rattle.run_tracks.specs.Tracks.{value_in}
+use Rattle.run_tracks.specs.declared.threads.ThreadRows.{ThreadRows}
+use Rattle.run_tracks.specs.declared.rows.Rows.{Rows}
+use Rattle.run_laws.proofs.TurnsOfCourses.{stays_over}
 
 -- a wait that is named
 record Names (place t : ℕ) (q : QueueName) (told : Option (Option QueueName)) : Type 0 where

@@ -4,8 +4,8 @@ use Rattle.std.specs.Prelude.{slice_get, IsSomeAnd}
 use Rattle.std.proofs.lemmas.Bool.{eq-eqb}
 use Rattle.std.proofs.lemmas.Option.{slice_get_cases}
 use Rattle.lock_laws.proofs.AtTurn.{well_formed}
-use Rattle.lock_laws.proofs.Turning.{behind_course}
-use Rattle.lock_laws.specs.OnTrack.{IsOnTrack}
+use Rattle.run_laws.proofs.Turning.{behind_course}
+use Rattle.run_laws.specs.OnTrack.{IsOnTrack}
 use Rattle.lock_model.specs.Holds.{Hold, Holds, NotHeld, is_exclusive}
 use Rattle.lock_model.specs.Operations.{IsProper}
 use Rattle.lock_model.specs.Plans.{config_of}
@@ -15,10 +15,10 @@ use Rattle.lock_model.specs.declared.plan.Plan.{Plan}
 use Rattle.lock_state.specs.Facts.{OnlyLocksAreHeld, OnlyThreadsHold, WordsMatchHolders}
 use Rattle.lock_state.specs.Facts.Words.{owns}
 use Rattle.run_chart.specs.Runs.{IsRunOf}
-use Rattle.run_rows.specs.Rows.{TellsThread, run_in}
-use Rattle.run_rows.specs.Tracks.{value_in, Tells}
-use Rattle.run_rows.specs.declared.columns.ThreadRows.{ThreadRows}
-use Rattle.run_rows.specs.declared.rows.Rows.{Rows}
+use Rattle.run_tracks.specs.Rows.{TellsThread, run_in}
+use Rattle.run_tracks.specs.Tracks.{value_in, Tells}
+use Rattle.run_tracks.specs.declared.threads.ThreadRows.{ThreadRows}
+use Rattle.run_tracks.specs.declared.rows.Rows.{Rows}
 
 -- 1. Tracks
 

@@ -14,7 +14,7 @@ use Rattle.lock_model.specs.declared.turn.StepKind.{StepKind}
 use Rattle.lock_model.specs.declared.turn.StepKind.TheVariants.{Gain, Claim, Drop, Enter, OpenUp, Mark, Resume, Lend, Shift, WalkEnd, Add, Wake, Note}
 use Rattle.lock_model.specs.declared.turn.Turn.{Turn}
 use Rattle.lock_model.specs.declared.turn.Turn.TheVariants.{Did, Idle, Ended}
-use Rattle.lock_state.specs.Run.{Run, course_after}
+use Rattle.lock_state.specs.Run.{Run, course_after, next_turn}
 use Rattle.lock_state.specs.State as state
 use Rattle.lock_state.specs.State.{Walk, NoWalk, AtLock, AtThread}
 use Rattle.run_chart.specs.Arrows.{is_queued, is_woken, loan_arrows, loan_at, loan_in, wake_arrows, wakes_up, Gains, Hop, IsSo, IsSoOf}
@@ -23,15 +23,14 @@ use Rattle.run_chart.specs.Runs.{IsRunOf}
 use Rattle.run_chart.proofs.Numbered.{contained, contains_at}
 use Rattle.run_chart.proofs.Told.{element_at, so_at, thread_at, value_at}
 use Rattle.run_chart.proofs.Windows.{adds, contains_none, contains_one}
-use Rattle.run_rows.specs.Rows.{run_in}
-use Rattle.run_rows.specs.Tracks.{value_in}
-use Rattle.run_rows.specs.declared.columns.ThreadRows.{ThreadRows}
-use Rattle.run_rows.specs.declared.rows.Rows.{Rows}
-use Rattle.run_rows.specs.declared.rows.TurnRow.{TurnRow}
-use Rattle.step_world.specs.Courses.{next_turn}
-use Rattle.step_world.specs.Represents.{wait_of}
-use Rattle.step_world.specs.declared.thread.Wait.{Wait}
-use Rattle.step_world.specs.declared.thread.Wait.TheVariants as waits
+use Rattle.run_tracks.specs.Rows.{run_in}
+use Rattle.run_tracks.specs.Tracks.{value_in}
+use Rattle.run_tracks.specs.declared.threads.ThreadRows.{ThreadRows}
+use Rattle.run_tracks.specs.declared.rows.Rows.{Rows}
+use Rattle.run_tracks.specs.declared.rows.TurnRow.{TurnRow}
+use Rattle.lock_objects.specs.Represents.{wait_of}
+use Rattle.lock_objects.specs.declared.wait.Wait.{Wait}
+use Rattle.lock_objects.specs.declared.wait.Wait.TheVariants as waits
 
 -- 1. Who had the turn, and what it did
 

@@ -7,7 +7,7 @@ use Rattle.std.proofs.lemmas.Bool.{cases_eq, and_parts, cases_lt, le-leb, lt-leb
 use Rattle.std.proofs.lemmas.List.Elements.{All-append, All-cons, filter-append, filter_more}
 use Rattle.std.proofs.lemmas.Grind.{flat_map-append}
 use Rattle.std.proofs.lemmas.List.{length-drop, map-append, take-append-drop}
-use Rattle.run_rows.specs.Tracks.{value_in}
+use Rattle.run_tracks.specs.Tracks.{value_in}
 use Rattle.run_chart.specs.Spans.{covers, last_before, span_of, beside, values_at, with_value, IsWithin}
 use Rattle.run_chart.specs.declared.spans.Span.{Span}
 

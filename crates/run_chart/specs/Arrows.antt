@@ -18,11 +18,11 @@ use Rattle.lock_state.specs.Run.{Run}
 use Rattle.lock_state.specs.State.{Walk, NoWalk, AtLock, AtThread}
 use Rattle.run_chart.specs.Charts.{arrow, loan, wake, waiters_in, Lent, WentBehind, WentOn, WokeUp}
 use Rattle.run_chart.specs.declared.lookup.Loan.{Loan}
-use Rattle.run_rows.specs.Rows.{run_in}
-use Rattle.run_rows.specs.Tracks.{value_in}
-use Rattle.run_rows.specs.declared.columns.ThreadRows.{ThreadRows}
-use Rattle.step_world.specs.declared.thread.Wait.{Wait}
-use Rattle.step_world.specs.declared.thread.Wait.TheVariants as waits
+use Rattle.run_tracks.specs.Rows.{run_in}
+use Rattle.run_tracks.specs.Tracks.{value_in}
+use Rattle.run_tracks.specs.declared.threads.ThreadRows.{ThreadRows}
+use Rattle.lock_objects.specs.declared.wait.Wait.{Wait}
+use Rattle.lock_objects.specs.declared.wait.Wait.TheVariants as waits
 
 -- 1. Loans: to whom, of which lock, and by which priorities that ran before the turn and runs behind it
 

@@ -9,10 +9,10 @@ use Rattle.lock_model.specs.declared.plan.QueueName.{QueueName}
 use Rattle.prio_lending.specs.declared.walk.Walk.{Walk}
 use Rattle.prio_lending.specs.declared.walk.Walk.TheVariants as walks
 use Rattle.run_chart.specs.Spans.{beside, is_between}
-use Rattle.run_rows.specs.Tracks.{value_in}
-use Rattle.run_rows.specs.declared.columns.ThreadRows.{ThreadRows}
-use Rattle.step_world.specs.declared.thread.Wait.{Wait}
-use Rattle.step_world.specs.declared.thread.Wait.TheVariants as waits
+use Rattle.run_tracks.specs.Tracks.{value_in}
+use Rattle.run_tracks.specs.declared.threads.ThreadRows.{ThreadRows}
+use Rattle.lock_objects.specs.declared.wait.Wait.{Wait}
+use Rattle.lock_objects.specs.declared.wait.Wait.TheVariants as waits
 
 -- 1. Bars
 

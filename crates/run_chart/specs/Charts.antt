@@ -36,11 +36,10 @@ use Rattle.lock_model.specs.declared.plan.QueueName.TheVariants as queue
 use Rattle.lock_model.specs.declared.turn.StepKind.{StepKind}
 use Rattle.lock_model.specs.declared.turn.StepKind.TheVariants as step
 use Rattle.lock_model.specs.declared.turn.Turn.TheVariants as answer
-use Rattle.lock_state.specs.Run.{course_after, ending_of, has_ended}
+use Rattle.lock_state.specs.Run.{course_after, ending_of, has_ended, next_turn}
 use Rattle.lock_state.specs.State.{State, AtLock, AtThread, NoWalk, Queued, Woken}
 use Rattle.run_chart.specs.Steps.{prios_at, IsStepOf}
-use Rattle.run_rows.specs.Rows.{run_in}
-use Rattle.step_world.specs.Courses.{next_turn}
+use Rattle.run_tracks.specs.Rows.{run_in}
 
 -- 1. Lanes
 

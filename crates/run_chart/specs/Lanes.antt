@@ -1,8 +1,8 @@
 -- The lanes of a chart, by the tracks that tell whether threads have come to their end.
 use Rattle.std.specs.Prelude.{◌≡◌, ◌≢◌, ◌<◌, ℕ, Bool, true, if◌then◌else◌, List, [], ◌∷◌, length, slice_get, Option, Some, None}
 use Rattle.chart_layout.specs.declared.layout.Lane.{Lane}
-use Rattle.run_rows.specs.Tracks.{value_in}
-use Rattle.run_rows.specs.declared.columns.ThreadRows.{ThreadRows}
+use Rattle.run_tracks.specs.Tracks.{value_in}
+use Rattle.run_tracks.specs.declared.threads.ThreadRows.{ThreadRows}
 
 -- the row of the first change to so
 abbrev pub first_row : List (ℕ × Bool) → Option ℕ

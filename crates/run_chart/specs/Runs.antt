@@ -2,8 +2,8 @@
 use Rattle.std.specs.Prelude.{◌≤◌, ℕ, length}
 use Rattle.lock_model.specs.Operations.{IsProper}
 use Rattle.lock_model.specs.declared.plan.Plan.{Plan}
-use Rattle.run_rows.specs.Rows.{TellsRun}
-use Rattle.run_rows.specs.declared.rows.Rows.{Rows}
+use Rattle.run_tracks.specs.Rows.{TellsRun}
+use Rattle.run_tracks.specs.declared.rows.Rows.{Rows}
 
 -- the rows tell a scheduled run of the plan, which is one that some script gives
 pub record IsRunOf (plan : Plan) (rows : Rows) : Type 0 where

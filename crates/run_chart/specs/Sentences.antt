@@ -11,8 +11,8 @@ use Rattle.lock_model.specs.declared.numbers.ThreadNo.{ThreadNo}
 use Rattle.lock_model.specs.declared.plan.Plan.{Plan}
 use Rattle.lock_model.specs.declared.plan.QueueName.{QueueName}
 use Rattle.run_chart.specs.Charts.{IsOfTurn, IsSaid}
-use Rattle.run_rows.specs.Tracks.{value_in}
-use Rattle.run_rows.specs.declared.columns.ThreadRows.{ThreadRows}
+use Rattle.run_tracks.specs.Tracks.{value_in}
+use Rattle.run_tracks.specs.declared.threads.ThreadRows.{ThreadRows}
 
 -- 1. Who is named
 

@@ -4,8 +4,8 @@ use Rattle.std.specs.List.{enumerate_from, flat_map}
 use Rattle.chart_layout.specs.declared.layout.Step.{Step}
 use Rattle.lock_model.specs.declared.numbers.Prio.{Prio}
 use Rattle.run_chart.specs.Spans.{beside, is_between}
-use Rattle.run_rows.specs.Tracks.{value_in}
-use Rattle.run_rows.specs.declared.columns.ThreadRows.{ThreadRows}
+use Rattle.run_tracks.specs.Tracks.{value_in}
+use Rattle.run_tracks.specs.declared.threads.ThreadRows.{ThreadRows}
 
 -- whether a step is the thread's and covers the row
 abbrev pub is_step_at : ℕ → ℕ → Step → Bool

@@ -8,9 +8,8 @@ ghost use Rattle.run_chart.specs.Runs.{IsRunOf};
 use crate::lookup::{behind_whom, holds, loan_of, lock_of};
 use chart_layout::{Arrow, ArrowKind};
 use lock_model::{LockNo, StepKind, ThreadNo, Turn};
-use run_rows::{Rows, ThreadRows, TurnRow};
+use run_tracks::{Rows, ThreadRows, TurnRow, Wait};
 use std::alloc::{AllocError, Global};
-use step_world::Wait;
 
 /// The arrows of the turns between the rows `from..=to`.
 pub fn arrows(alloc: Global, rows: &Rows, from: u32, to: u32) -> Result<Vec<Arrow>, AllocError>

@@ -8,9 +8,8 @@ ghost use Rattle.run_chart.specs.Spans.{is_between, values_at};
 use crate::spans::{Span, paired, spans};
 use chart_layout::{Bar, BarKind};
 use lock_model::{LockNo, Mode, QueueName, ThreadNo};
-use run_rows::{ThreadRows, Track};
+use run_tracks::{ThreadRows, Track, Wait, Walk};
 use std::alloc::{AllocError, Global};
-use step_world::{Wait, Walk};
 
 /// The bars of threads in the rows `from..=to`, by thread.
 pub fn bars(

@@ -2,7 +2,7 @@
 ghost use Rattle.std.specs.Prelude.{◌≡◌, ◌≤◌, ℕ, length, IfOk};
 ghost use Rattle.lock_model.specs.Operations.{IsProper};
 ghost use Rattle.run_chart.specs.Charts.{Shows};
-ghost use Rattle.run_rows.specs.Rows.{TellsRun};
+ghost use Rattle.run_tracks.specs.Rows.{TellsRun};
 
 use crate::arrows::arrows;
 use crate::bars::bars;
@@ -13,7 +13,7 @@ use crate::saying::sentences;
 use crate::steps::steps;
 use chart_layout::Chart;
 use lock_model::{Plan, Sequence};
-use run_rows::Rows;
+use run_tracks::Rows;
 use std::alloc::{AllocError, Global};
 
 /// The chart of a run of the plan, in the rows `from..=to`, which are rows of the run. It shows just what is so in

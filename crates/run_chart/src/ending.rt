@@ -8,7 +8,7 @@ ghost use Rattle.run_chart.specs.Runs.{IsRunOf};
 use chart_layout::End;
 use lock_history::{Last, Outcome, print};
 use lock_model::{Plan, QueueName, Sequence, ThreadNo};
-use run_rows::{Rows, ThreadRows};
+use run_tracks::{Rows, ThreadRows};
 use std::alloc::{AllocError, Global};
 
 /// How the run ended, and who stands on which queue where it is stuck.

@@ -4,7 +4,7 @@ ghost use Rattle.run_chart.specs.Lanes.{first_row, AreLanes};
 
 use chart_layout::Lane;
 use lock_model::ThreadNo;
-use run_rows::ThreadRows;
+use run_tracks::ThreadRows;
 use std::alloc::{AllocError, Global};
 
 /// A lane for each thread, which ends in the first row in which the thread has come to its end.

@@ -6,13 +6,12 @@ ghost use Rattle.lock_model.specs.declared.plan.Plan as plans;
 ghost use Rattle.run_chart.specs.Arrows.{behind_in, behind_of, first_in, holds_in, hop_of, is_line_of, is_waiter, lists_of, loan_in, lock_in, lock_named};
 ghost use Rattle.run_chart.specs.Charts.{waiters_in};
 ghost use Rattle.run_chart.specs.Runs.{IsRunOf};
-ghost use Rattle.run_rows.specs.Rows.{run_in};
+ghost use Rattle.run_tracks.specs.Rows.{run_in};
 
 use lock_history::QueueLine;
 use lock_model::{LockNo, Prio, QueueName, ThreadNo};
 use lock_words::owner_of;
-use run_rows::{Rows, ThreadRows, Track};
-use step_world::Walk;
+use run_tracks::{Rows, ThreadRows, Track, Walk};
 
 /// The rows of a thread.
 pub fn thread_rows(rows: &Rows, t: ThreadNo) -> Option<&ThreadRows>

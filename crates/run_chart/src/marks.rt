@@ -7,7 +7,7 @@ ghost use Rattle.run_chart.specs.Runs.{IsRunOf};
 
 use chart_layout::{Mark, MarkKind};
 use lock_model::{Entry, Event, ThreadNo, Turn};
-use run_rows::{Rows, TurnRow};
+use run_tracks::{Rows, TurnRow};
 use std::alloc::{AllocError, Global};
 
 /// The marks of the turns between the rows `from..=to`: one each, save where its thread had ended before.

@@ -12,9 +12,8 @@ use crate::lookup::{behind_whom, holds, loan_of, lock_named, lock_of, thread_row
 use crate::marks::event_of;
 use chart_layout::{Saying, Sentence};
 use lock_model::{ChanNo, Event, LockNo, Plan, QueueName, Sequence, StepKind, ThreadNo, Turn};
-use run_rows::{Rows, ThreadRows, TurnRow};
+use run_tracks::{Rows, ThreadRows, TurnRow, Walk};
 use std::alloc::{AllocError, Global};
-use step_world::Walk;
 
 /// What is said of the turns between the rows `from..=to`, where there is something to say.
 pub fn sentences(

@@ -3,7 +3,7 @@
 ghost use Rattle.std.specs.Prelude.{◌≡◌, ℕ, ◌≤◌, ◌<◌, ◌++◌, ◌∷◌, [], map, IfOk, OnOk, option_to_list};
 ghost use Rattle.std.specs.List.{All, AllPairs};
 ghost use Rattle.run_chart.specs.Spans.{beside, last_before, span_of, values_at, with_value, IsWithin};
-ghost use Rattle.run_rows.specs.Tracks.{value_in, IsTrack};
+ghost use Rattle.run_tracks.specs.Tracks.{value_in, IsTrack};
 
 use std::alloc::{AllocError, Global};
 

@@ -7,7 +7,7 @@ ghost use Rattle.run_chart.specs.Steps.{numbers_of, prios_at, strip_tells, strip
 use crate::spans::{Span, paired, spans};
 use chart_layout::Step;
 use lock_model::{Prio, ThreadNo};
-use run_rows::ThreadRows;
+use run_tracks::ThreadRows;
 use std::alloc::{AllocError, Global};
 
 /// The steps of threads in the rows `from..=to`, by thread. Those of a thread follow upon each other.

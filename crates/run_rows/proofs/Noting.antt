@@ -7,9 +7,9 @@ use Rattle.std.proofs.lemmas.List.{length-set}
 use Rattle.std.proofs.lemmas.List.Elements.{All-push}
 use Rattle.std.proofs.lemmas.List.Sums.{fold-append}
 use Rattle.std.proofs.lemmas.Option.{same_Some, slice_get-get_or, slice_get_read, slice_get_within}
-use Rattle.lock_laws.proofs.AcceptedLists.{get_push, get_push_other, get_set, get_set_other}
-use Rattle.run_rows.specs.Tracks.{EachTells, Tells, value_in}
-use Rattle.run_rows.proofs.Changes.{replaced}
+use Rattle.script_laws.proofs.AcceptedLists.{get_push, get_push_other, get_set, get_set_other}
+use Rattle.run_tracks.specs.Tracks.{EachTells, Tells, value_in}
+use Rattle.run_tracks.proofs.Changes.{replaced}
 
 module _ {T : Type 0} where
   -- 1. One change more

@@ -4,25 +4,24 @@ use Rattle.std.proofs.lemmas.Bool.{cases_Bool, cases_lt}
 use Rattle.std.proofs.lemmas.Option.{same_Some}
 use Rattle.lock_history.specs.Outcomes.{line_seen}
 use Rattle.lock_history.specs.declared.outcome.QueueLine.{QueueLine}
-use Rattle.lock_laws.proofs.Idle.{changes_nothing}
+use Rattle.run_laws.proofs.Idle.{changes_nothing}
 use Rattle.lock_model.specs.Plans.{config_of}
 use Rattle.lock_model.specs.Words.{word_of}
 use Rattle.lock_model.specs.declared.plan.Plan.{Plan}
 use Rattle.lock_model.specs.declared.turn.Turn.{Turn}
 use Rattle.lock_model.specs.declared.turn.Turn.TheVariants.{Idle, Ended}
-use Rattle.lock_objects.specs.Represents.{walk_of}
+use Rattle.lock_objects.specs.Represents.{walk_of, hold_of, wait_of}
 use Rattle.lock_state.specs.Run as run
-use Rattle.lock_state.specs.Run.{Run, after_turn, course_after, go_on, has_ended, is_over, queue_lines, round_of, run_behind, start_course, turn_of, with_turn}
-use Rattle.step_world.specs.Courses.{Course, IsCourse, first_turn, next_turn}
-use Rattle.step_world.specs.Represents.{hold_of, wait_of}
+use Rattle.lock_state.specs.Run.{Run, after_turn, course_after, go_on, has_ended, is_over, queue_lines, round_of, run_behind, start_course, turn_of, with_turn, first_turn, next_turn}
+use Rattle.step_world.specs.Courses.{Course, IsCourse}
 use Rattle.step_world.specs.Worlds.{World, Represents}
-use Rattle.step_world.proofs.TurnsOfCourses.{none_made, one_more, stays_over}
+use Rattle.run_laws.proofs.TurnsOfCourses.{none_made, one_more, stays_over}
 use Rattle.run_rows.specs.Making.{HasMade, IsAt}
-use Rattle.run_rows.specs.Rows.{IsWhereItStands, TellsColumns, TellsThread, run_in}
-use Rattle.run_rows.specs.Tracks.{Tells}
+use Rattle.run_tracks.specs.Rows.{IsWhereItStands, TellsColumns, TellsThread, run_in}
+use Rattle.run_tracks.specs.Tracks.{Tells}
 use Rattle.run_rows.specs.declared.columns.Columns.{Columns}
-use Rattle.run_rows.specs.declared.columns.ThreadRows.{ThreadRows}
-use Rattle.run_rows.specs.declared.rows.TurnRow.{TurnRow}
+use Rattle.run_tracks.specs.declared.threads.ThreadRows.{ThreadRows}
+use Rattle.run_tracks.specs.declared.rows.TurnRow.{TurnRow}
 use Rattle.run_rows.proofs.Noting.{stays}
 
 -- 1. Who had the turn

@@ -3,9 +3,9 @@ use Rattle.std.specs.Prelude.{◌≡◌, ℕ, ◌+◌, ◌<◌, ◌≤◌, true,
 use Rattle.lock_model.specs.declared.plan.Plan.{Plan}
 use Rattle.lock_state.specs.Run.{course_after, is_over}
 use Rattle.step_world.specs.Courses.{Course, IsCourse}
-use Rattle.run_rows.specs.Rows.{IsTurn, TellsColumns, run_in}
+use Rattle.run_tracks.specs.Rows.{IsTurn, TellsColumns, run_in}
 use Rattle.run_rows.specs.declared.columns.Columns.{Columns}
-use Rattle.run_rows.specs.declared.rows.TurnRow.{TurnRow}
+use Rattle.run_tracks.specs.declared.rows.TurnRow.{TurnRow}
 
 -- the course is that of the plan behind n turns, and the tracks tell of the rows up to there
 pub record IsAt (plan : Plan) (chains n : ℕ) (course : Course) (columns : Columns) : Type 0 where

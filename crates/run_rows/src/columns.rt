@@ -3,42 +3,16 @@
 ghost use Rattle.std.specs.Prelude.{◌≡◌, ◌+◌, ◌<◌, ℕ, length, IfOk, OnOk};
 ghost use Rattle.lock_model.specs.Words.{word_of};
 ghost use Rattle.lock_state.specs.Run.{Run};
-ghost use Rattle.run_rows.specs.Rows.{TellsColumns, TellsThread, TellsThreads};
-ghost use Rattle.run_rows.specs.Tracks.{EachTells};
-ghost use Rattle.step_world.specs.Represents.{hold_of};
+ghost use Rattle.run_tracks.specs.Rows.{TellsColumns, TellsThread, TellsThreads};
+ghost use Rattle.run_tracks.specs.Tracks.{EachTells};
+ghost use Rattle.lock_objects.specs.Represents.{hold_of};
 ghost use Rattle.step_world.specs.Worlds.{Represents};
 
-use crate::track::Track;
-use lock_history::QueueLine;
-use lock_model::{LockNo, Mode, Prio, QueueName, Sequence, ThreadNo};
+use lock_model::{LockNo, Mode, Sequence, ThreadNo};
+use run_tracks::{QueueRows, ThreadRows, Track};
 use std::alloc::{AllocError, Global};
 use std::mem;
-use step_world::{Wait, Walk, World};
-
-/// What a thread was in each row.
-#[derive(Drop)]
-pub struct ThreadRows {
-    /// Its base priority.
-    pub base: Track<Prio>,
-    /// Its effective priority: the better of the base and all that was lent.
-    pub effective: Track<Prio>,
-    /// Whether it ran, was queued or was woken.
-    pub wait: Track<Wait>,
-    /// The queue that its record named.
-    pub blocked_on: Track<Option<QueueName>>,
-    /// The queue in whose lists it stood.
-    pub stands_on: Track<Option<QueueName>>,
-    /// Where its lending walk stood.
-    pub walk: Track<Walk>,
-    /// Whether it had come to its end.
-    pub ended: Track<bool>,
-    /// By lock: the mode in which it held the lock.
-    pub held: Sequence<Track<Option<Mode>>>,
-}
-
-/// The queues that weren't empty, by the row from which on they hold: those of the locks by number, and then those of
-/// the channels.
-pub type QueueRows = Track<Sequence<QueueLine>>;
+use step_world::World;
 
 /// The tracks of a run under way.
 #[derive(Drop)]
@@ -84,50 +58,48 @@ impl Columns {
     }
 }
 
-impl ThreadRows {
-    // Those of a thread at the begin.
-    fn begin(alloc: Global, world: &World<'_>, t: ThreadNo) -> Result<ThreadRows, AllocError>
-        requires { t.0 < length world.now.plan.threads }
-        ensures { IfOk result (λ a. (runs : ℕ → Run) → Represents world.now (runs 0)
-            → TellsThread world.now.plan runs 1 t.0 a) }
-    {
-        let (base, effective) = world.priorities(t);
-        Ok(ThreadRows {
-            base: Track::begin(alloc, base)?,
-            effective: Track::begin(alloc, effective)?,
-            wait: Track::begin(alloc, world.wait(t))?,
-            blocked_on: Track::begin(alloc, world.blocked_on(t))?,
-            stands_on: Track::begin(alloc, world.stands_on(t))?,
-            walk: Track::begin(alloc, world.walk(t))?,
-            ended: Track::begin(alloc, world.has_ended(t))?,
-            held: Sequence::from_vec(begin_holds(alloc, world, t)?),
-        })
-    }
+// Those of a thread at the begin.
+fn begin_thread(alloc: Global, world: &World<'_>, t: ThreadNo) -> Result<ThreadRows, AllocError>
+    requires { t.0 < length world.now.plan.threads }
+    ensures { IfOk result (λ a. (runs : ℕ → Run) → Represents world.now (runs 0)
+        → TellsThread world.now.plan runs 1 t.0 a) }
+{
+    let (base, effective) = world.priorities(t);
+    Ok(ThreadRows {
+        base: Track::begin(alloc, base)?,
+        effective: Track::begin(alloc, effective)?,
+        wait: Track::begin(alloc, world.wait(t))?,
+        blocked_on: Track::begin(alloc, world.blocked_on(t))?,
+        stands_on: Track::begin(alloc, world.stands_on(t))?,
+        walk: Track::begin(alloc, world.walk(t))?,
+        ended: Track::begin(alloc, world.has_ended(t))?,
+        held: Sequence::from_vec(begin_holds(alloc, world, t)?),
+    })
+}
 
-    // Notes what a thread is in the next row.
-    fn note(
-        &mut self,
-        alloc: Global,
-        world: &World<'_>,
-        t: ThreadNo,
-        row: u32,
-    ) -> Result<(), AllocError>
-        requires thread { t.0 < length world.now.plan.threads }
-        requires told { (runs : ℕ → Run) × TellsThread world.now.plan runs row t.0 self.old }
-        ensures { OnOk result ((runs : ℕ → Run) → Represents world.now (runs row)
-            → TellsThread world.now.plan runs row t.0 self.old
-            → TellsThread world.now.plan runs (row + 1) t.0 self.new) }
-    {
-        let (base, effective) = world.priorities(t);
-        self.base.note(row, base)?;
-        self.effective.note(row, effective)?;
-        self.wait.note(row, world.wait(t))?;
-        self.blocked_on.note(row, world.blocked_on(t))?;
-        self.stands_on.note(row, world.stands_on(t))?;
-        self.walk.note(row, world.walk(t))?;
-        self.ended.note(row, world.has_ended(t))?;
-        note_holds(&mut self.held, alloc, world, t, row)
-    }
+// Notes what a thread is in the next row.
+fn note_thread(
+    tracks: &mut ThreadRows,
+    alloc: Global,
+    world: &World<'_>,
+    t: ThreadNo,
+    row: u32,
+) -> Result<(), AllocError>
+    requires thread { t.0 < length world.now.plan.threads }
+    requires told { (runs : ℕ → Run) × TellsThread world.now.plan runs row t.0 tracks.old }
+    ensures { OnOk result ((runs : ℕ → Run) → Represents world.now (runs row)
+        → TellsThread world.now.plan runs row t.0 tracks.old
+        → TellsThread world.now.plan runs (row + 1) t.0 tracks.new) }
+{
+    let (base, effective) = world.priorities(t);
+    tracks.base.note(row, base)?;
+    tracks.effective.note(row, effective)?;
+    tracks.wait.note(row, world.wait(t))?;
+    tracks.blocked_on.note(row, world.blocked_on(t))?;
+    tracks.stands_on.note(row, world.stands_on(t))?;
+    tracks.walk.note(row, world.walk(t))?;
+    tracks.ended.note(row, world.has_ended(t))?;
+    note_holds(&mut tracks.held, alloc, world, t, row)
 }
 
 // Those of each thread at the begin.
@@ -138,7 +110,7 @@ fn begin_threads(alloc: Global, world: &World<'_>) -> Result<Vec<ThreadRows>, Al
 {
     let mut threads = Vec::new(alloc);
     for t in 0..world.threads() {
-        threads.push(ThreadRows::begin(alloc, world, ThreadNo(t))?)?;
+        threads.push(begin_thread(alloc, world, ThreadNo(t))?)?;
     }
     Ok(threads)
 }
@@ -189,7 +161,7 @@ fn note_threads(
         → TellsThreads world.now.plan runs (row + 1) threads.new.items) }
 {
     for t in 0..world.threads() {
-        threads[usize::from(t)].note(alloc, world, ThreadNo(t), row)?;
+        note_thread(&mut threads[usize::from(t)], alloc, world, ThreadNo(t), row)?;
     }
     Ok(())
 }

@@ -1,15 +1,12 @@
-//! The rows of a scheduled run: who had each turn and what it answered, and what each thing of the run was between
-//! turns. Row 0 is the begin, and row n is behind n turns.
+//! The scheduled run, row by row: who had each turn and what it answered, and what each thing of the run was between
+//! turns. Row 0 is the begin, and row n is behind n turns. The rows are the types of `run_tracks`.
 //!
-//! - `track`: what one thing was, row by row, kept as its changes.
 //! - `columns`: the tracks of a run's threads, locks and queues, and how they are noted behind a turn.
 //! - `rows`: the run itself, turn by turn.
 #![tactic(auto)]
 
 mod columns;
 mod rows;
-mod track;
 
-pub use columns::{QueueRows, ThreadRows};
-pub use rows::{Rows, TurnRow, rows_of};
-pub use track::{Noted, Track};
+pub use rows::rows_of;
+pub use run_tracks::{Noted, QueueRows, Rows, ThreadRows, Track, TurnRow};

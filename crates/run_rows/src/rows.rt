@@ -1,46 +1,15 @@
-//! The rows of a run: each turn with who had it and what it answered, and the tracks of all that changes.
+//! A run, turn by turn, and its rows.
 ghost use Rattle.std.specs.Prelude.{◌<◌, ◌≤◌, ℕ, IfOk};
 ghost use Rattle.lock_model.specs.Operations.{IsProper};
 ghost use Rattle.lock_model.specs.declared.plan.Plan as plans;
 ghost use Rattle.run_rows.specs.Making.{IsAt, GoesOn, HasMade};
-ghost use Rattle.run_rows.specs.Rows.{TellsRun};
+ghost use Rattle.run_tracks.specs.Rows.{TellsRun};
 
-use crate::columns::{Columns, QueueRows, ThreadRows};
-use crate::track::Track;
-use lock_history::Outcome;
+use crate::columns::Columns;
 use lock_model::{Plan, Sequence, ThreadNo, Turn};
+use run_tracks::{Rows, TurnRow};
 use std::alloc::{AllocError, Global};
 use step_world::Course;
-
-/// A turn of the run.
-///
-/// ```
-/// let turn = TurnRow { who: ThreadNo(0), answer: Turn::Idle, entries: 0 };
-/// ```
-#[derive(Clone, Copy, Debug, PartialEq, Eq)]
-pub struct TurnRow {
-    /// Who had it.
-    pub who: ThreadNo,
-    /// What it answered.
-    pub answer: Turn,
-    /// How many entries the history has behind it.
-    pub entries: u32,
-}
-
-/// A run, row by row. Row 0 is the begin, and row n is behind the first n turns.
-#[derive(Drop)]
-pub struct Rows {
-    /// The turns in order: the n-th, from 0, lies between the rows n and n + 1.
-    pub turns: Sequence<TurnRow>,
-    /// By thread: what it was.
-    pub threads: Sequence<ThreadRows>,
-    /// By lock: its word.
-    pub words: Sequence<Track<u64>>,
-    /// The queues that weren't empty.
-    pub queues: QueueRows,
-    /// What the run left.
-    pub outcome: Outcome,
-}
 
 /// The scheduled run of a plan, row by row: the run of `step_world::run_schedule`. There are 1 to 64 chains of each
 /// sort, of which only the slots of queues tell, and 1 to 1,000,000 turns. The plan is one that some script gives. A

@@ -13,12 +13,13 @@ use Rattle.lock_model.specs.declared.event.Event.{Event}
 use Rattle.lock_model.specs.declared.event.Event.TheVariants as event
 use Rattle.lock_model.specs.declared.plan.Plan.{Plan}
 use Rattle.lock_laws.proofs.Kit.{put_same}
-use Rattle.lock_laws.proofs.OnTrack.{IsAwake}
-use Rattle.lock_laws.proofs.OtherThreads.{own_steps, other_next}
-use Rattle.lock_laws.proofs.Shares.{all_leave}
-use Rattle.lock_laws.proofs.Table as table
-use Rattle.step_world.specs.Steps.{Progress}
-use Rattle.step_world.specs.Runs.{IsAsFar, IsBehind, held_at}
+use Rattle.run_laws.proofs.OnTrack.{IsAwake}
+use Rattle.run_laws.proofs.OtherThreads.{own_steps, other_next}
+use Rattle.run_laws.proofs.Shares.{all_leave}
+use Rattle.run_laws.proofs.Table as table
+use Rattle.step_machine.specs.Steps.{Progress}
+use Rattle.step_machine.specs.Runs.{IsAsFar, held_at}
+use Rattle.step_world.specs.Runs.{IsBehind}
 
 -- 1. A value that there is
 

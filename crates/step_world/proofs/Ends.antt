@@ -5,25 +5,25 @@ use Rattle.lock_model.specs.Plans.{config_of, operations_of}
 use Rattle.lock_model.specs.Counts.{any_below, is_empty}
 use Rattle.lock_model.specs.Holds.{is_unheld, Hold, Holds}
 use Rattle.lock_model.specs.Operations.{IsProper, hold_in}
-use Rattle.lock_state.specs.Run.{Run, is_walking, has_ended, holds_none, waits_on, was_cut}
+use Rattle.lock_state.specs.Run.{Run, is_walking, has_ended, holds_none, waits_on, was_cut, held_now}
 use Rattle.lock_state.specs.Facts.{OnlyLocksAreHeld}
 use Rattle.lock_model.specs.declared.plan.Plan.{Plan}
 use Rattle.lock_model.specs.declared.plan.Mode.{Mode}
 use Rattle.lock_model.specs.declared.event.Held.{Held}
 use Rattle.lock_laws.proofs.Shown.{true-any_below}
 use Rattle.lock_laws.proofs.Best.{any_below-true}
-use Rattle.lock_laws.specs.OnTrack.{held_now}
-use Rattle.lock_laws.proofs.Idle.{done_awake}
-use Rattle.lock_laws.proofs.OnTrack.{cut_no_wait}
+use Rattle.run_laws.proofs.Idle.{done_awake}
+use Rattle.run_laws.proofs.OnTrack.{cut_no_wait}
 use Rattle.lock_objects.specs.Marked.{places_of}
 use Rattle.prio_lending.specs.declared.walk.Walk as walks
 use Rattle.prio_lending.specs.declared.walk.Walk.TheVariants as walk
-use Rattle.step_world.specs.declared.machine.Machine.{Machine}
-use Rattle.step_world.specs.declared.thread.Thread.{Thread}
+use Rattle.step_machine.specs.declared.machine.Machine.{Machine}
+use Rattle.step_machine.specs.declared.thread.Thread.{Thread}
 use Rattle.lock_objects.specs.Represents.{walk_of}
-use Rattle.step_world.specs.Threads.{has_no_walk, thread_has_ended}
-use Rattle.step_world.specs.Steps.{progress_of}
-use Rattle.step_world.specs.Runs.{IsRunOf, IsAsFar}
+use Rattle.step_machine.specs.Threads.{has_no_walk, thread_has_ended}
+use Rattle.step_machine.specs.Steps.{progress_of}
+use Rattle.step_world.specs.Runs.{IsRunOf}
+use Rattle.step_machine.specs.Runs.{IsAsFar}
 
 -- 1. What is held
 

@@ -1,14 +1,3 @@
-pub mod Beginning
-pub mod Kit
-pub mod Waking
-pub mod Marking
-pub mod Walking
-pub mod Blocking
-pub mod Ending
-pub mod Holding
-pub mod Stamping
-pub mod Ordering
-pub mod Opening
 pub mod Ends
 pub mod AsFar
 pub mod Turning
@@ -22,7 +11,6 @@ pub mod RowsOfTurns
 pub mod Scheduling
 pub mod Readings
 pub mod Outcomes
-pub mod TurnsOfCourses
 pub mod OneTurn
 pub mod Printed
 pub mod Telling

@@ -7,18 +7,18 @@ use Rattle.std.proofs.lemmas.Bool.{cases_Bool}
 use Rattle.lock_model.specs.Counts.{one}
 use Rattle.lock_model.specs.Operations.{IsProper}
 use Rattle.lock_state.specs.Run as run
-use Rattle.lock_state.specs.Run.{Run, turn_of, run_behind, has_ended, is_idle, with_turn}
+use Rattle.lock_state.specs.Run.{Run, turn_of, run_behind, has_ended, is_idle, with_turn, first_turn}
 use Rattle.lock_model.specs.declared.numbers.ThreadNo.{ThreadNo}
 use Rattle.lock_model.specs.declared.plan.Plan.{Plan}
 use Rattle.lock_model.specs.declared.turn.Turn.{Turn}
 use Rattle.lock_model.specs.declared.turn.Turn.TheVariants.{Did, Idle, Ended}
-use Rattle.lock_laws.proofs.Idle.{ended_exactly, changes_nothing}
+use Rattle.run_laws.proofs.Idle.{ended_exactly, changes_nothing}
 use Rattle.lock_laws.proofs.Kit.{sum_below-same}
-use Rattle.step_world.specs.Courses.{IsCourse, IsSound, ended_in, newly_ended, first_turn}
-use Rattle.step_world.specs.Runs.{IsAsFar}
-use Rattle.step_world.specs.Steps.{progress_of}
+use Rattle.step_world.specs.Courses.{IsCourse, IsSound, ended_in, newly_ended}
+use Rattle.step_machine.specs.Runs.{IsAsFar}
+use Rattle.step_machine.specs.Steps.{progress_of}
 use Rattle.step_world.specs.Worlds.{World, Represents}
-use Rattle.step_world.specs.declared.thread.Thread.{Thread}
+use Rattle.step_machine.specs.declared.thread.Thread.{Thread}
 use Rattle.step_world.proofs.Ends.{ends_as_said}
 use Rattle.step_world.proofs.Scheduling.{ended_behind, few_ended}
 

@@ -18,10 +18,10 @@ use Rattle.wait_objects.specs.Changes.{lists_of}
 use Rattle.turnstile_core.specs.Seen.{Turnstile}
 use Rattle.sleep_queues.specs.Seen.{SleepQueue}
 use Rattle.chain_table.specs.Chains.{head_of}
-use Rattle.step_world.specs.declared.machine.Machine.{Machine}
-use Rattle.step_world.specs.declared.thread.Thread.{Thread}
+use Rattle.step_machine.specs.declared.machine.Machine.{Machine}
+use Rattle.step_machine.specs.declared.thread.Thread.{Thread}
 use Rattle.step_world.specs.Outcomes.{line_at, line_of_lock, lines_of, finals_of, IsShort, HasShortQueues}
-use Rattle.step_world.specs.Runs.{RepresentsRun}
+use Rattle.step_machine.specs.Runs.{RepresentsRun}
 use Rattle.lock_objects.specs.Represents.{RepresentsQueue, RepresentsSleepQueue, queue_in, sleepers_in}
 
 -- 1. Queues

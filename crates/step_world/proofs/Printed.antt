@@ -15,7 +15,7 @@ use Rattle.lock_history.specs.Endings.{ending_of, numbers_of}
 use Rattle.lock_history.specs.Outcomes.{outcome_seen, line_seen}
 use Rattle.lock_history.specs.declared.outcome.Outcome.{Outcome}
 use Rattle.lock_history.proofs.Merged.{InOrder-reverse}
-use Rattle.step_world.specs.declared.machine.Machine.{Machine}
+use Rattle.step_machine.specs.declared.machine.Machine.{Machine}
 use Rattle.step_world.specs.Outcomes.{finals_of}
 use Rattle.step_world.specs.Runs.{IsRunOf}
 use Rattle.step_world.specs.Worlds.{World, Represents}

@@ -12,7 +12,7 @@ use Rattle.lock_model.specs.declared.plan.Kind.TheVariants.{Mtx}
 use Rattle.lock_model.specs.declared.plan.LockDecl.{LockDecl}
 use Rattle.lock_model.specs.declared.plan.Plan.{Plan}
 use Rattle.chain_table.specs.Chains.{head_of}
-use Rattle.step_world.specs.declared.machine.Machine.{Machine}
+use Rattle.step_machine.specs.declared.machine.Machine.{Machine}
 use Rattle.step_world.specs.Outcomes.{line_at, line_of_lock}
 
 -- 1. A list that is read until a place is past its end

@@ -11,14 +11,14 @@ use Rattle.lock_model.specs.Holds.{NotHeld, Holds}
 use Rattle.lock_model.specs.Queues.{lock_queue}
 use Rattle.lock_model.specs.Takes.{has_reversal}
 use Rattle.lock_model.specs.Words.{word_of, bits_of, IsWellFormed, admits, is_plain, is_drop, is_turnstile}
-use Rattle.lock_state.specs.State.{State, HeldLock, put_at}
+use Rattle.lock_state.specs.State.{State, HeldLock, put_at, gained_order}
 use Rattle.lock_state.specs.Facts.{Lawful}
 use Rattle.lock_state.specs.Steps.{Step, Looks, Gains, Claims, Stamps, Readies, Enters, EntersSleepQueue, Drops, Opens, OpensSleepQueue, May as MayMake, MayAll, after, after_all}
 use Rattle.lock_state.specs.Steps.LockWords.{without_held, MayStamp, after_gain, after_drop, after_look, after_ready, after_stamp}
 use Rattle.lock_state.specs.Steps.Turnstiles.{after_enter, after_open}
 use Rattle.lock_state.specs.Steps.SleepQueues.{after_enter_sleep, after_open_sleep}
 use Rattle.lock_state.specs.Steps.Lending.{after_claim}
-use Rattle.lock_state.specs.Run.{Run, ends, does, blocks, takes, operates, mode_held, waits_on}
+use Rattle.lock_state.specs.Run.{Run, ends, does, blocks, takes, operates, mode_held, waits_on, held_now}
 use Rattle.lock_model.specs.declared.numbers.LockNo.{LockNo}
 use Rattle.lock_model.specs.declared.event.Held.{Held}
 use Rattle.lock_model.specs.declared.plan.Kind.{Kind}
@@ -33,22 +33,23 @@ use Rattle.lock_model.specs.declared.event.Event.TheVariants as event
 use Rattle.lock_model.specs.declared.turn.StepKind.{StepKind}
 use Rattle.lock_model.specs.declared.turn.StepKind.TheVariants as kinds
 use Rattle.lock_model.specs.declared.turn.Turn.TheVariants.{Did, Idle}
-use Rattle.lock_laws.specs.OnTrack.{IsAtOperation, held_now, gained_order}
+use Rattle.run_laws.specs.OnTrack.{IsAtOperation}
 use Rattle.lock_laws.proofs.AtTurn.{well_formed}
 use Rattle.lock_laws.proofs.Steps.{keeps}
 use Rattle.lock_laws.proofs.Kit.{put_same}
 use Rattle.lock_laws.proofs.HeldLists.{held_few, try_passes, release_fits, gained_order-push}
-use Rattle.lock_laws.proofs.OnTrack.{awake, before, behind, fit, IsAwake}
-use Rattle.lock_laws.proofs.Table.{Taking, anew, back, Gaining, by_taking, by_trying, makes_operation, goes_by_wait}
-use Rattle.lock_laws.proofs.TurnsOfGains.{Finds, finds}
-use Rattle.lock_laws.proofs.TurnsOfReleases as releases
-use Rattle.step_world.specs.declared.machine.Machine.{Machine}
-use Rattle.step_world.specs.declared.thread.Thread.{Thread}
-use Rattle.step_world.specs.Represents.{Represents}
-use Rattle.step_world.specs.Steps.{Makes, HoldsFew, Progress, progress, ChangesProgress, KeepsBooks, with_released, enters, opens}
+use Rattle.run_laws.proofs.OnTrack.{awake, before, behind, fit, IsAwake}
+use Rattle.run_laws.proofs.Table.{Taking, anew, back, Gaining, by_taking, by_trying, makes_operation, goes_by_wait}
+use Rattle.run_laws.proofs.TurnsOfGains.{Finds, finds}
+use Rattle.run_laws.proofs.TurnsOfReleases as releases
+use Rattle.step_machine.specs.declared.machine.Machine.{Machine}
+use Rattle.step_machine.specs.declared.thread.Thread.{Thread}
+use Rattle.step_machine.specs.Represents.{Represents}
+use Rattle.step_machine.specs.Steps.{Makes, HoldsFew, Progress, progress, ChangesProgress, KeepsBooks, with_released, enters, opens}
 use Rattle.step_world.specs.declared.turns.Made.TheVariants.{Does, Ends, Skips}
-use Rattle.step_world.specs.Runs.{HasState, IsRunOf, IsTurn, IsMade, IsAsFar, IsTake, IsGain, IsGivingUp, GivesBack, MayGiveBack, MayUnlock, Unlocks, back_in, unlocks}
-use Rattle.step_world.proofs.Kit.{word_read}
+use Rattle.step_world.specs.Runs.{HasState, IsRunOf, IsTurn, IsMade, IsTake, IsGain, IsGivingUp, GivesBack, MayGiveBack, MayUnlock, Unlocks, back_in, unlocks}
+use Rattle.step_machine.specs.Runs.{IsAsFar}
+use Rattle.step_machine.proofs.Kit.{word_read}
 use Rattle.step_world.proofs.AsFar.{waits_behind, cut_behind, awake_behind, behind_cut}
 use Rattle.step_world.proofs.Turning.{SameRoom, of_books, IsTurning, goes, all_made, Begins, begins, made, made_behind, made_still, still, stays}
 use Rattle.step_world.proofs.Ends.{aside_is}

@@ -13,12 +13,12 @@ use Rattle.lock_model.specs.declared.plan.Plan.{Plan}
 use Rattle.lock_model.specs.declared.plan.ThreadDecl.{ThreadDecl}
 use Rattle.lock_model.specs.declared.event.Event.{Event}
 use Rattle.lock_model.specs.declared.turn.Turn.TheVariants.{Idle}
-use Rattle.lock_laws.specs.OnTrack.{IsAtOperation}
-use Rattle.lock_laws.proofs.Table.{Notes, sets, adds, gets, changes_base, shows, makes_operation}
-use Rattle.lock_laws.proofs.TurnsOfNotes.{is_noted}
-use Rattle.lock_laws.proofs.OnTrack.{awake}
-use Rattle.step_world.specs.declared.machine.Machine.{Machine}
-use Rattle.step_world.specs.Steps.{HasKey}
+use Rattle.run_laws.specs.OnTrack.{IsAtOperation}
+use Rattle.run_laws.proofs.Table.{Notes, sets, adds, gets, changes_base, shows, makes_operation}
+use Rattle.run_laws.proofs.TurnsOfNotes.{is_noted}
+use Rattle.run_laws.proofs.OnTrack.{awake}
+use Rattle.step_machine.specs.declared.machine.Machine.{Machine}
+use Rattle.step_machine.specs.Steps.{HasKey}
 use Rattle.step_world.specs.Runs.{IsRunOf, IsNote, IsMade}
 use Rattle.step_world.specs.declared.turns.Made.TheVariants.{Does}
 use Rattle.step_world.proofs.Turning.{Begins, begins, made_still}
@@ -29,7 +29,7 @@ use Rattle.lock_model.specs.declared.numbers.Prio.{Prio}
 use Rattle.lock_model.specs.declared.plan.Op.TheVariants.{EndTry, Get, Show}
 use Rattle.lock_model.specs.declared.event.Event.TheVariants as event
 use Rattle.lock_laws.proofs.Derived as derived
-use Rattle.step_world.specs.declared.thread.Thread.{Thread}
+use Rattle.step_machine.specs.declared.thread.Thread.{Thread}
 
 -- 1. Keys
 

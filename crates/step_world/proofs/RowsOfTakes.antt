@@ -15,11 +15,11 @@ use Rattle.lock_model.specs.Plans.{config_of, lock_class}
 use Rattle.lock_model.specs.Queues.{lock_queue}
 use Rattle.lock_model.specs.Words.{admits, is_plain}
 use Rattle.lock_model.proofs.Orders.{found_none, found_first, same_admitted, same_first}
-use Rattle.lock_state.specs.State.{State, HeldLock}
+use Rattle.lock_state.specs.State.{State, HeldLock, gained_order}
 use Rattle.lock_state.specs.Steps.{Gains, Claims, Admits, Stamps, MayAll, after, after_all}
 use Rattle.lock_state.specs.Steps.LockWords.{after_stamp}
 use Rattle.lock_state.specs.Steps.Orders.{MayAdmit, classes_held, after_admit, after_refuse}
-use Rattle.lock_state.specs.Run.{Run, Row, does, ends, blocks, takes, turn_of, run_after, run_behind}
+use Rattle.lock_state.specs.Run.{Run, Row, does, ends, blocks, takes, turn_of, run_after, run_behind, held_now}
 use Rattle.lock_model.specs.declared.numbers.ClassNo.{ClassNo}
 use Rattle.lock_model.specs.declared.numbers.LockNo.{LockNo}
 use Rattle.lock_model.specs.declared.event.Event.{Event}
@@ -31,19 +31,20 @@ use Rattle.lock_model.specs.declared.plan.Plan.{Plan}
 use Rattle.lock_model.specs.declared.turn.StepKind.TheVariants as kinds
 use Rattle.lock_model.specs.declared.turn.Turn.{Turn}
 use Rattle.lock_model.specs.declared.turn.Turn.TheVariants.{Did, Idle, Ended}
-use Rattle.lock_laws.specs.OnTrack.{IsAtOperation, BeginsTake, admitted, first_against, gained_order, held_now}
+use Rattle.run_laws.specs.OnTrack.{IsAtOperation, BeginsTake, admitted, first_against}
 use Rattle.lock_laws.proofs.HeldLists.{gain_passes, held_few}
-use Rattle.lock_laws.proofs.OnTrack.{fit, is_awake}
-use Rattle.lock_laws.proofs.Table.{anew, at_take, admitted_wants, makes_operation}
-use Rattle.lock_laws.proofs.TurnsOfOrders as orders
+use Rattle.run_laws.proofs.OnTrack.{fit, is_awake}
+use Rattle.run_laws.proofs.Table.{anew, at_take, admitted_wants, makes_operation}
+use Rattle.run_laws.proofs.TurnsOfOrders as orders
 use Rattle.witness_orders.specs.Graph.{numbers_of}
-use Rattle.step_world.specs.declared.machine.Machine.{Machine}
-use Rattle.step_world.specs.declared.thread.Thread.{Thread}
+use Rattle.step_machine.specs.declared.machine.Machine.{Machine}
+use Rattle.step_machine.specs.declared.thread.Thread.{Thread}
 use Rattle.step_world.specs.declared.turns.Made.{Made}
 use Rattle.step_world.specs.declared.turns.Made.TheVariants.{Does}
-use Rattle.step_world.specs.Represents.{Represents}
-use Rattle.step_world.specs.Steps.{May, MakesAllWhere, progress, KeepsProgress, KeepsBooks, AreClasses, refuses}
-use Rattle.step_world.specs.Runs.{IsRunOf, IsAsFar, IsAside, IsMade, IsTake, IsAdmission, KeepsWhereIdle, answer_of, row_of}
+use Rattle.step_machine.specs.Represents.{Represents}
+use Rattle.step_machine.specs.Steps.{May, MakesAllWhere, progress, KeepsProgress, KeepsBooks, AreClasses, refuses}
+use Rattle.step_world.specs.Runs.{IsRunOf, IsAside, IsMade, IsTake, IsAdmission, KeepsWhereIdle, answer_of, row_of}
+use Rattle.step_machine.specs.Runs.{IsAsFar}
 use Rattle.step_world.proofs.AsFar.{so_is, still_as_far, cut_behind, waits_behind, behind_cut}
 use Rattle.step_world.proofs.Ends.{aside_is, are_locks}
 use Rattle.step_world.proofs.Turning.{SameRoom, of_books, same_room, same_keys, IsTurning, made_all, may_by, has_room, Begins, begins, made}

@@ -15,19 +15,19 @@ use Rattle.lock_model.specs.declared.plan.Plan.{Plan}
 use Rattle.lock_model.specs.declared.plan.QueueName.{QueueName}
 use Rattle.lock_model.specs.declared.turn.StepKind.TheVariants as kinds
 use Rattle.lock_model.specs.declared.turn.Turn.TheVariants.{Idle, Ended}
-use Rattle.lock_laws.specs.OnTrack.{IsAtOperation}
-use Rattle.lock_laws.proofs.Table.{goes_by_wait, marks_first}
+use Rattle.run_laws.specs.OnTrack.{IsAtOperation}
+use Rattle.run_laws.proofs.Table.{goes_by_wait, marks_first}
 use Rattle.wait_objects.specs.Seen.{Place}
 use Rattle.prio_lending.specs.declared.walk.Walk.TheVariants as walk
-use Rattle.step_world.specs.declared.machine.Machine.{Machine}
-use Rattle.step_world.specs.declared.thread.Thread.{Thread}
-use Rattle.step_world.specs.declared.thread.Wait.TheVariants as wait
-use Rattle.lock_objects.specs.Represents.{walk_of, mark_of}
+use Rattle.step_machine.specs.declared.machine.Machine.{Machine}
+use Rattle.step_machine.specs.declared.thread.Thread.{Thread}
+use Rattle.lock_objects.specs.declared.wait.Wait.TheVariants as wait
+use Rattle.lock_objects.specs.Represents.{walk_of, mark_of, wait_of}
 use Rattle.lock_objects.specs.Marked.{places_of}
-use Rattle.step_world.specs.Represents.{RepresentsThread, wait_of}
-use Rattle.step_world.specs.Threads.{thread_has_ended}
+use Rattle.step_machine.specs.Represents.{RepresentsThread}
+use Rattle.step_machine.specs.Threads.{thread_has_ended}
 use Rattle.step_world.specs.Runs.{IsRunOf, IsTurn, IsDoneWaking, IsFree, IsGivingUp}
-use Rattle.step_world.proofs.Kit.{read}
+use Rattle.step_machine.proofs.Kit.{read}
 use Rattle.step_world.proofs.Ends.{ends_as_said, aside_is}
 use Rattle.step_world.proofs.Turning.{Begins, begins, still}
 

@@ -13,7 +13,7 @@ use Rattle.lock_state.specs.State.{State, Running}
 use Rattle.lock_state.specs.Steps.{Step, Readies, Stamps, Adds, Wakes, after, after_all}
 use Rattle.lock_state.specs.Steps.LockWords.{bits_of_threads, after_ready, after_stamp}
 use Rattle.lock_state.specs.Steps.SleepQueues.{MayWake, after_add, after_wake}
-use Rattle.lock_state.specs.Run.{Run, does, ends, mode_held, waits_on, was_cut, lock_of_wait, to_release, owed_release, turn_of, run_after}
+use Rattle.lock_state.specs.Run.{Run, does, ends, mode_held, waits_on, was_cut, lock_of_wait, to_release, owed_release, turn_of, run_after, held_now}
 use Rattle.lock_model.specs.declared.numbers.LockNo.{LockNo}
 use Rattle.lock_model.specs.declared.numbers.ChanNo.{ChanNo}
 use Rattle.lock_model.specs.declared.event.Held.{Held}
@@ -26,17 +26,18 @@ use Rattle.lock_model.specs.declared.plan.QueueName.TheVariants.{Chan}
 use Rattle.lock_model.specs.declared.turn.StepKind.{StepKind}
 use Rattle.lock_model.specs.declared.turn.StepKind.TheVariants as kinds
 use Rattle.lock_model.specs.declared.turn.Turn.TheVariants.{Did}
-use Rattle.lock_laws.specs.OnTrack.{IsAtOperation, held_now}
-use Rattle.lock_laws.proofs.OnTrack.{is_awake, waits_uncut, before, behind, fit, put_at_own, IsAwake}
-use Rattle.lock_laws.proofs.Table.{back, lock_with, mode_left, its_mode, makes_operation, gives_up_first}
-use Rattle.lock_laws.proofs.TurnsOfReleases as releases
-use Rattle.lock_laws.proofs.TurnsOfSleeps as sleeps
-use Rattle.lock_laws.proofs.TurnsOfWaits.{given_up}
-use Rattle.step_world.specs.declared.machine.Machine.{Machine}
-use Rattle.step_world.specs.declared.thread.Thread.{Thread}
+use Rattle.run_laws.specs.OnTrack.{IsAtOperation}
+use Rattle.run_laws.proofs.OnTrack.{is_awake, waits_uncut, before, behind, fit, put_at_own, IsAwake}
+use Rattle.run_laws.proofs.Table.{back, lock_with, mode_left, its_mode, makes_operation, gives_up_first}
+use Rattle.run_laws.proofs.TurnsOfReleases as releases
+use Rattle.run_laws.proofs.TurnsOfSleeps as sleeps
+use Rattle.run_laws.proofs.TurnsOfWaits.{given_up}
+use Rattle.step_machine.specs.declared.machine.Machine.{Machine}
+use Rattle.step_machine.specs.declared.thread.Thread.{Thread}
 use Rattle.step_world.specs.declared.turns.Made.TheVariants.{Does, Ends}
-use Rattle.step_world.specs.Steps.{May, Progress, progress, progress_of, ChangesProgress, KeepsBooks, mode_left as mode_left_by, with_released}
-use Rattle.step_world.specs.Runs.{HasState, IsRunOf, IsTurn, IsMade, IsAsFar, IsBehind, IsTake, IsWake, IsDoneWaking, GivesBack, MayGiveBack, back_in}
+use Rattle.step_machine.specs.Steps.{May, Progress, progress, progress_of, ChangesProgress, KeepsBooks, mode_left as mode_left_by, with_released}
+use Rattle.step_world.specs.Runs.{HasState, IsRunOf, IsTurn, IsMade, IsBehind, IsTake, IsWake, IsDoneWaking, GivesBack, MayGiveBack, back_in}
+use Rattle.step_machine.specs.Runs.{IsAsFar}
 use Rattle.step_world.proofs.AsFar.{waits_behind, cut_behind, awake_behind, that_is}
 use Rattle.step_world.proofs.Turning.{has_room, may_next, IsTurning, Begins, begins, made, made_behind, stays}
 use Rattle.step_world.proofs.RowsOfLocks.{is_take, given, kind_is, back_keeps_log, back_puts}

@@ -19,12 +19,12 @@ use Rattle.lock_model.specs.declared.plan.QueueName.TheVariants.{Lock, Chan}
 use Rattle.lock_model.specs.declared.turn.StepKind.TheVariants as kinds
 use Rattle.turnstile_core.specs.Seen.{Turnstile}
 use Rattle.chain_table.specs.Chains.{head_of}
-use Rattle.lock_laws.proofs.Table.{walks_from_lock, walks_from_thread}
+use Rattle.run_laws.proofs.Table.{walks_from_lock, walks_from_thread}
 use Rattle.lock_laws.proofs.AtTurn as at_turn
-use Rattle.step_world.specs.declared.machine.Machine.{Machine}
-use Rattle.step_world.specs.declared.thread.Thread.{Thread}
+use Rattle.step_machine.specs.declared.machine.Machine.{Machine}
+use Rattle.step_machine.specs.declared.thread.Thread.{Thread}
 use Rattle.lock_objects.specs.Represents.{RepresentsQueue, RepresentsHead, queue_in}
-use Rattle.step_world.specs.Represents.{Represents}
+use Rattle.step_machine.specs.Represents.{Represents}
 use Rattle.step_world.specs.Runs.{IsRunOf, IsNowhere, StandsAt}
 use Rattle.step_world.proofs.Turning.{Begins, begins}
 

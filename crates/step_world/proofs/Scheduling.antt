@@ -10,10 +10,10 @@ use Rattle.std.proofs.lemmas.List.Sums.{list_all-from_AllPass}
 use Rattle.lock_model.specs.Counts.{is_empty, one, sum_below}
 use Rattle.lock_laws.proofs.Kit.{sum_below-change}
 use Rattle.lock_laws.proofs.Sums.{sum_below-most}
-use Rattle.lock_laws.proofs.OtherThreads.{ends_no_other}
-use Rattle.step_world.specs.Courses.{Course, IsCourse, ended_in, first_turn, turn_seen}
+use Rattle.run_laws.proofs.OtherThreads.{ends_no_other}
+use Rattle.step_world.specs.Courses.{Course, IsCourse, ended_in, turn_seen}
+use Rattle.lock_state.specs.Run.{first_turn, Run, run_behind, is_stuck, is_over, go_on, course_after, all_ended, has_ended, threads_of, round_of, with_turn, after_turn}
 use Rattle.lock_state.specs.Run as run
-use Rattle.lock_state.specs.Run.{Run, run_behind, is_stuck, is_over, go_on, course_after, all_ended, has_ended, threads_of, round_of, with_turn, after_turn}
 use Rattle.lock_model.specs.declared.plan.Plan.{Plan}
 use Rattle.lock_model.specs.declared.numbers.ThreadNo.{ThreadNo}
 use Rattle.lock_model.specs.declared.turn.Turn.{Turn}

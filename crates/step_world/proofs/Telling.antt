@@ -16,18 +16,17 @@ use Rattle.lock_model.specs.declared.plan.QueueName.{QueueName}
 use Rattle.lock_model.specs.declared.plan.QueueName.TheVariants.{Lock, Chan}
 use Rattle.lock_laws.proofs.AtTurn.{none_stands}
 use Rattle.lock_laws.proofs.Kit.{at_queue_one}
-use Rattle.lock_laws.specs.OnTrack.{gained_order}
+use Rattle.lock_state.specs.State.{gained_order, State}
 use Rattle.lock_objects.specs.Represents.{RepresentsQueue, RepresentsSleepQueue, queue_in, sleepers_in}
 use Rattle.lock_state.specs.Facts.{Lawful, StandsOnce}
 use Rattle.lock_state.specs.Run.{Run, queue_lines}
-use Rattle.lock_state.specs.State.{State}
 use Rattle.chain_table.specs.Chains.{head_of}
 use Rattle.sleep_queues.specs.Seen.{SleepQueue}
 use Rattle.turnstile_core.specs.Seen.{Turnstile}
 use Rattle.wait_objects.specs.Changes.{waits}
-use Rattle.step_world.specs.declared.machine.Machine.{Machine}
-use Rattle.step_world.specs.declared.thread.Thread.{Thread}
-use Rattle.step_world.specs.Represents.{Represents}
+use Rattle.step_machine.specs.declared.machine.Machine.{Machine}
+use Rattle.step_machine.specs.declared.thread.Thread.{Thread}
+use Rattle.step_machine.specs.Represents.{Represents}
 use Rattle.step_world.specs.Runs.{IsRunOf}
 use Rattle.step_world.specs.Worlds as worlds
 use Rattle.step_world.proofs.Ends.{aside_is}

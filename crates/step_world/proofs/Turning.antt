@@ -18,20 +18,21 @@ use Rattle.lock_model.specs.declared.plan.Plan.{Plan}
 use Rattle.lock_model.specs.declared.turn.StepKind.{StepKind}
 use Rattle.lock_model.specs.declared.turn.Turn.{Turn}
 use Rattle.lock_model.specs.declared.turn.Turn.TheVariants.{Did}
-use Rattle.lock_laws.specs.OnTrack.{IsAtOperation}
+use Rattle.run_laws.specs.OnTrack.{IsAtOperation}
 use Rattle.lock_laws.proofs.Kit.{put_same}
 use Rattle.lock_laws.proofs.Steps.{keeps, all_keep}
-use Rattle.lock_laws.proofs.Turning.{row_may, turned}
-use Rattle.lock_laws.proofs.Entries.{entries_below, cut_entries_below}
+use Rattle.run_laws.proofs.Turning.{row_may, turned}
+use Rattle.run_laws.proofs.Entries.{entries_below, cut_entries_below}
 use Rattle.lock_laws.proofs.HeldLists.{next_holds}
-use Rattle.lock_laws.proofs.OnTrack.{left, IsAwake}
-use Rattle.step_world.specs.declared.machine.Machine.{Machine}
-use Rattle.step_world.specs.Represents.{Represents}
-use Rattle.step_world.specs.Steps.{Progress, progress, May, Makes, MakesWhere, MakesAllWhere, KeepsProgress, ChangesProgress, KeepsBooks}
-use Rattle.step_world.proofs.Kit.{looked}
+use Rattle.run_laws.proofs.OnTrack.{left, IsAwake}
+use Rattle.step_machine.specs.declared.machine.Machine.{Machine}
+use Rattle.step_machine.specs.Represents.{Represents}
+use Rattle.step_machine.specs.Steps.{Progress, progress, May, Makes, MakesWhere, MakesAllWhere, KeepsProgress, ChangesProgress, KeepsBooks}
+use Rattle.step_machine.proofs.Kit.{looked}
 use Rattle.step_world.specs.declared.turns.Made.{Made}
 use Rattle.step_world.specs.declared.turns.Made.TheVariants.{Does}
-use Rattle.step_world.specs.Runs.{RepresentsRun, IsRunOf, IsTurn, IsAsFar, IsBehind, IsMade, HasRoom, HasKeys, held_at, answer_of, next_of, row_of}
+use Rattle.step_machine.specs.Runs.{RepresentsRun, IsAsFar, HasRoom, HasKeys, held_at}
+use Rattle.step_world.specs.Runs.{IsRunOf, IsTurn, IsBehind, IsMade, answer_of, next_of, row_of}
 use Rattle.step_world.proofs.AsFar.{that_is, is_such, so_is, still_as_far, behind_still, behind_made, others_still}
 
 -- 1. Room

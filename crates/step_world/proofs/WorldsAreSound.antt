@@ -5,9 +5,10 @@ use Rattle.lock_model.specs.Plans.{config_of}
 use Rattle.lock_state.specs.Run.{Run, start_run, run_behind}
 use Rattle.lock_model.specs.declared.plan.Plan.{Plan}
 use Rattle.lock_model.specs.declared.turn.Turn.{Turn}
-use Rattle.lock_laws.proofs.Turning.{begins_on_track, turned}
-use Rattle.step_world.specs.Runs.{RepresentsRun, IsRunOf, Follows}
-use Rattle.step_world.specs.declared.machine.Machine.{Machine}
+use Rattle.run_laws.proofs.Turning.{begins_on_track, turned}
+use Rattle.step_machine.specs.Runs.{RepresentsRun}
+use Rattle.step_world.specs.Runs.{IsRunOf, Follows}
+use Rattle.step_machine.specs.declared.machine.Machine.{Machine}
 
 -- what a machine shows at the begin
 pub at_begin : (plan : Plan) (m : Machine) → IsProper plan → RepresentsRun plan m (start_run (config_of plan)) → IsRunOf plan m (start_run (config_of plan))

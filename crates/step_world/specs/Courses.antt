@@ -1,12 +1,12 @@
 -- A run under way, as the schedule keeps it.
-use Rattle.std.specs.Prelude.{◌≡◌, ◌⊎◌, ℕ, ◌≤◌, ◌<◌, ◌++◌, if◌then◌else◌, Bool, List, [], ◌∷◌, length, option_map, Option, Some, None}
+use Rattle.std.specs.Prelude.{◌≡◌, ◌⊎◌, ℕ, ◌≤◌, ◌<◌, Bool, List, length, option_map, Option}
 use Rattle.std.specs.Global.{Vec}
 use Rattle.std.specs.List.{All}
 use Rattle.std.specs.Vec.{vec_capacity}
 use Rattle.lock_model.specs.Counts.{one, sum_below}
 use Rattle.lock_model.specs.Operations.{IsProper}
 use Rattle.lock_state.specs.Run as run
-use Rattle.lock_state.specs.Run.{Run, has_ended, is_over, round_of, turn_of}
+use Rattle.lock_state.specs.Run.{Run, has_ended}
 use Rattle.lock_model.specs.declared.numbers.ThreadNo.{ThreadNo}
 use Rattle.lock_model.specs.declared.plan.Plan.{Plan}
 use Rattle.lock_model.specs.declared.turn.Turn.{Turn}
@@ -49,16 +49,6 @@ abbrev pub newly_ended : Turn → Bool → ℕ
 newly_ended Ended has_ended = 0
 newly_ended Idle has_ended = one has_ended
 newly_ended (Did kind) has_ended = one has_ended
-
--- the turn of the first of those who come: who it is, and the answer
-abbrev pub first_turn : Plan → Run → List ℕ → Option (ℕ × Turn)
-first_turn plan r [] = None
-first_turn plan r (t ∷ ts) = Some (t, (turn_of plan r t).answer)
-
--- the next turn of a course, of those who still come and behind them those of the next round; none where it is over
-abbrev pub next_turn : Plan → run.Course → Option (ℕ × Turn)
-next_turn plan k =
-    if is_over plan k then None else first_turn plan k.run (k.coming ++ round_of plan k.run)
 
 -- a turn that was made, as the definition has it
 abbrev pub turn_seen : Option (ThreadNo × Turn) → Option (ℕ × Turn)

@@ -1,7 +1,3 @@
-pub mod Represents
-pub mod Threads
-pub mod Noted
-pub mod Steps
 pub mod Runs
 pub mod Worlds
 pub mod Outcomes

@@ -9,7 +9,7 @@ use Rattle.lock_model.specs.declared.plan.QueueName.{QueueName}
 use Rattle.lock_model.specs.Text.{QueueLine}
 use Rattle.wait_objects.specs.Seen.{Contents, Object}
 use Rattle.chain_table.specs.Chains.{head_of}
-use Rattle.step_world.specs.declared.machine.Machine.{Machine}
+use Rattle.step_machine.specs.declared.machine.Machine.{Machine}
 
 -- the line of a queue with its slot, by the object that is lent to it
 abbrev pub line_at : {E : Type 0} → QueueName → ℕ → Option (Object E) → List QueueLine

@@ -1,16 +1,13 @@
--- Which run of a plan a machine represents, and that a turn of the machine is the turn of the table.
-use Rattle.std.specs.Prelude.{◌≡◌, ◌≢◌, ◌⊎◌, ℕ, suc, ◌+◌, ◌*◌, ◌<◌, Bool, true, false, List, [], ◌∷◌, ◌++◌, length, slice_get, is_some, Option, Some, None, IsSomeAnd, IsTrue}
-use Rattle.std.specs.List.{Contains}
-use Rattle.lock_model.specs.Plans.{config_of, operations_of, lock_kind}
+-- That a machine represents a run of a plan that is on track, and that its turn is the turn of the table.
+use Rattle.std.specs.Prelude.{◌≡◌, ◌≢◌, ◌⊎◌, ℕ, suc, ◌+◌, ◌<◌, Bool, true, false, List, [], ◌∷◌, ◌++◌, length, is_some, Option, Some, None, IsSomeAnd}
+use Rattle.lock_model.specs.Plans.{config_of, lock_kind}
 use Rattle.lock_model.specs.Config.{Config}
-use Rattle.lock_model.specs.Holds.{NotHeld, Holds}
+use Rattle.lock_model.specs.Holds.{Holds}
 use Rattle.lock_model.specs.Words.{is_turnstile}
-use Rattle.lock_model.specs.Keys.{plan_names}
-use Rattle.lock_model.specs.Operations.{held_of, hold_in, operations_in_all}
 use Rattle.lock_model.specs.Limits.{most_held}
 use Rattle.lock_state.specs.Facts.{Lawful}
 use Rattle.lock_state.specs.Steps.{Step, Stamps, May, MayAll, after, after_all}
-use Rattle.lock_state.specs.Run.{Run, Row, has_ended, turn_of, run_behind, operates, notes, gains, takes, gives_back, lock_of_wait}
+use Rattle.lock_state.specs.Run.{Run, Row, has_ended, turn_of, run_behind, operates, notes, gains, takes, gives_back, held_now}
 use Rattle.lock_state.specs.State.{State, NoWalk}
 use Rattle.lock_model.specs.Queues.{lock_queue, stands}
 use Rattle.lock_model.specs.declared.plan.Op.{Op}
@@ -22,51 +19,20 @@ use Rattle.lock_model.specs.declared.numbers.LockNo.{LockNo}
 use Rattle.lock_model.specs.declared.plan.Mode.{Mode}
 use Rattle.lock_model.specs.declared.event.Event.{Event}
 use Rattle.lock_model.specs.declared.event.Event.TheVariants.{Unlocked}
-use Rattle.lock_model.specs.declared.event.Held.{Held}
 use Rattle.lock_model.specs.declared.plan.Plan.{Plan}
 use Rattle.lock_model.specs.declared.turn.Turn.{Turn}
 use Rattle.lock_model.specs.declared.turn.Turn.TheVariants.{Did, Idle, Ended}
 use Rattle.lock_model.specs.declared.turn.StepKind.{StepKind}
 use Rattle.lock_model.specs.declared.turn.StepKind.TheVariants.{Note}
-use Rattle.lock_laws.specs.OnTrack.{IsOnTrack, OwesNothing, IsAtOperation, IsCutShort, held_now, held_before, admitted, first_against}
-use Rattle.step_world.specs.declared.machine.Machine.{Machine}
-use Rattle.lock_model.specs.declared.plan.ThreadDecl.{ThreadDecl}
-use Rattle.step_world.specs.declared.thread.Thread.{Thread}
+use Rattle.run_laws.specs.OnTrack.{IsOnTrack, OwesNothing, IsAtOperation, IsCutShort, admitted, first_against}
+use Rattle.step_machine.specs.declared.machine.Machine.{Machine}
 use Rattle.step_world.specs.declared.turns.Made.{Made}
 use Rattle.step_world.specs.declared.turns.Made.TheVariants.{Does, Ends, Skips}
-use Rattle.step_world.specs.Represents.{Represents}
-use Rattle.step_world.specs.Threads.{IsNew}
-use Rattle.step_world.specs.Steps.{Progress, progress}
+use Rattle.step_machine.specs.Represents.{Represents}
+use Rattle.step_machine.specs.Steps.{Progress, progress}
+use Rattle.step_machine.specs.Runs.{held_at, IsAsFar, HasRoom, HasKeys, RepresentsRun}
 
--- what a thread's operations before the n-th lead to
-abbrev pub held_at : Plan → ℕ → ℕ → List Held
-held_at plan t n = held_of (operations_of plan t) n
-
--- A thread is as far as the run says: it comes to its next operation, and holds what its operations so far and the wait
--- that it is in lead to. Where it has released the lock of its wait, that is the lock that it released last.
-pub record IsAsFar (plan : Plan) (r : Run) (t : ℕ) (a : Progress) : Type 0 where
-  pub next_op : a.next_op ≡ r.next_op t
-  pub held : a.held ≡ held_now plan r t
-  pub left : (l : ℕ) → lock_of_wait (config_of plan) r.state t ≡ Some l
-      → r.state.held t l ≡ NotHeld → hold_in (held_before plan r t) l ≡ Holds a.left
-
--- there is room for two entries of each operation,
-abbrev pub HasRoom : Plan → Machine → Type 0
-HasRoom plan m = length m.log.entries + m.log.spare ≡ 2 * operations_in_all plan
-
--- and for each key that the plan names
-abbrev pub HasKeys : Plan → Machine → Type 0
-HasKeys plan m = (l key : ℕ) → IsTrue (plan_names plan l key) → Contains m.tables.places (l, key)
-
--- The machine represents the run: its objects represent the run's state, each thread is as far as the run says, and
--- there is room.
-pub record RepresentsRun (plan : Plan) (m : Machine) (r : Run) : Type 0 where
-  pub shows : Represents (config_of plan) m r.state
-  pub progress : (t : ℕ) → t < length plan.threads → IsSomeAnd (progress m t) (IsAsFar plan r t)
-  pub room : HasRoom plan m
-  pub keys : HasKeys plan m
-
--- and the run is on track
+-- The machine represents the run, and that is on track.
 pub record IsRunOf (plan : Plan) (m : Machine) (r : Run) : Type 0 where
   pub shows : RepresentsRun plan m r
   pub on_track : IsOnTrack plan r
@@ -250,11 +216,3 @@ pub record IsGivingUp (plan : Plan) (r : Run) (t : ℕ) : Type 0 where
 pub record IsAdmission (plan : Plan) (r : Run) (t : ℕ) (l : LockNo) (m : Machine) : Type 0 where
   pub none_against : first_against plan r t l ≡ None
   pub shows : IsRunOf plan m (admitted plan r t l)
-
--- 5. The begin of a run
-
--- threads of a plan at their begin, in order
-pub record AreNew (decls : List ThreadDecl) (ths : List Thread) : Type 0 where
-  pub number : length ths ≡ length decls
-  pub each : (t : ℕ) (th : Thread) (d : ThreadDecl) → slice_get ths t ≡ Some th
-      → slice_get decls t ≡ Some d → IsNew t d.base.0 th

@@ -3,7 +3,7 @@ use Rattle.std.specs.Prelude.{ℕ, ◌≤◌}
 use Rattle.lock_model.specs.Operations.{IsProper}
 use Rattle.lock_state.specs.Run.{Run}
 use Rattle.lock_model.specs.declared.plan.Plan.{Plan}
-use Rattle.step_world.specs.declared.machine.Machine.{Machine}
+use Rattle.step_machine.specs.declared.machine.Machine.{Machine}
 use Rattle.step_world.specs.Runs.{IsRunOf}
 
 -- the plan that it runs, the number of chains, and its objects

@@ -7,11 +7,11 @@ ghost use Rattle.wait_objects.specs.Changes.{waiters};
 ghost use Rattle.chain_table.specs.Chains.{head_of};
 ghost use Rattle.step_world.specs.Outcomes.{line_at, lines_of, finals_of, IsShort, HasShortQueues};
 
-use crate::machine::Machine;
 use chain_table::{Chain, slot_of};
 use lock_history::QueueLine;
 use lock_model::{ChanNo, Kind, LockNo, Plan, Prio, QueueName, Sequence, Side, ThreadNo};
 use std::alloc::{AllocError, Global};
+use step_machine::Machine;
 use wait_objects::{Object, Own};
 
 /// A line for each queue that isn't empty: those of the locks by number, and then those of the channels.

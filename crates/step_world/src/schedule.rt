@@ -7,9 +7,8 @@ ghost use Rattle.lock_history.specs.Endings.{ending_of};
 ghost use Rattle.lock_history.specs.Outcomes.{outcome_seen};
 ghost use Rattle.lock_model.specs.Operations.{IsProper};
 ghost use Rattle.lock_state.specs.Run as run;
-ghost use Rattle.lock_state.specs.Run.{start_course, course_after, go_on, with_turn, is_over, is_stuck, all_ended, round_of, scheduled_run, outcome_of, whole_ending, HasLegalHistory};
-ghost use Rattle.lock_state.specs.Run.{ending_of as ending_of_course};
-ghost use Rattle.step_world.specs.Courses.{IsCourse, Tells, GoesTo, KeepsWhereIdle, ended_in, newly_ended, first_turn, next_turn, turn_seen};
+ghost use Rattle.lock_state.specs.Run.{start_course, course_after, go_on, with_turn, is_over, is_stuck, all_ended, round_of, scheduled_run, outcome_of, whole_ending, HasLegalHistory, ending_of as ending_of_course, first_turn, next_turn};
+ghost use Rattle.step_world.specs.Courses.{IsCourse, Tells, GoesTo, KeepsWhereIdle, ended_in, newly_ended, turn_seen};
 ghost use Rattle.step_world.specs.Worlds.{Represents};
 
 use crate::outcome::finals;
@@ -69,7 +68,7 @@ impl<'p> Model for Course<'p> {
     ghost use Rattle.std.specs.Prelude.{map, drop};
     ghost use Rattle.std.specs.Coded.{codes};
     ghost use Rattle.step_world.specs.Courses.{Course as Seen, IsSound};
-    ghost use Rattle.step_world.specs.contracts.machine.Machine as machines;
+    ghost use Rattle.step_machine.specs.contracts.machine.Machine as machines;
 
     ghost Value = { Seen };
 

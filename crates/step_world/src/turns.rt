@@ -6,15 +6,15 @@
 //! - `waits`: the operations that wait and wake, and the release after a wait's first turn.
 ghost use Rattle.std.specs.Prelude.{◌<◌, length, Some};
 ghost use Rattle.lock_model.specs.Operations.{IsProper};
-ghost use Rattle.lock_laws.specs.OnTrack.{IsAtOperation};
-ghost use Rattle.step_world.specs.Steps.{HasKey};
+ghost use Rattle.run_laws.specs.OnTrack.{IsAtOperation};
+ghost use Rattle.step_machine.specs.Steps.{HasKey};
 ghost use Rattle.step_world.specs.Runs.{HasRun, Follows, MakesRow, KeepsWhereIdle, IsFree, IsNote, answer_of};
 
-use crate::machine::Machine;
-use crate::thread::Wait;
 use lock_model::{Event, Op, Plan, StepKind, ThreadNo, Turn};
+use lock_objects::Wait;
 use locks::{give_last_back, release, take_in_order, try_lock};
 use prio_lending::Walk;
+use step_machine::Machine;
 use waits::{by_release, sleep, wake};
 use walks::{walk_at_lock, walk_at_thread};
 

@@ -4,15 +4,15 @@ ghost use Rattle.lock_state.specs.Facts.{LawfulTurn, Ordered};
 ghost use Rattle.lock_model.specs.Operations.{IsProper};
 ghost use Rattle.lock_model.specs.Plans.{config_of};
 ghost use Rattle.lock_state.specs.Run.{Run, start_run, turn_of, run_behind, has_ended};
-ghost use Rattle.lock_laws.specs.OnTrack.{IsSleeping};
+ghost use Rattle.run_laws.specs.OnTrack.{IsSleeping};
 ghost use Rattle.lock_state.specs.Best.{HasBest, HasCycle};
 ghost use Rattle.step_world.specs.Worlds.{Represents};
 
-use crate::machine::Machine;
 use crate::turns::turn;
 use lock_model::{Plan, ThreadNo, Turn};
 use std::alloc::{AllocError, Global};
 use std::marker::Model;
+use step_machine::Machine;
 
 mod reading;
 
@@ -26,7 +26,7 @@ pub struct World<'p> {
 
 impl<'p> Model for World<'p> {
     ghost use Rattle.step_world.specs.Worlds.{World as Seen, IsSound};
-    ghost use Rattle.step_world.specs.contracts.machine.Machine as machines;
+    ghost use Rattle.step_machine.specs.contracts.machine.Machine as machines;
     ghost use Rattle.std.specs.Coded.{codes};
 
     ghost Value = { Seen };

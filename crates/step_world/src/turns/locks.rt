@@ -7,19 +7,19 @@ ghost use Rattle.lock_model.specs.declared.plan.Op.TheVariants.{Take, Try, Relea
 ghost use Rattle.lock_model.specs.Words.{word_of, IsWellFormed, admits, is_plain};
 ghost use Rattle.lock_state.specs.State.{State};
 ghost use Rattle.lock_state.specs.Run.{Run};
-ghost use Rattle.lock_laws.specs.OnTrack.{IsAtOperation, BeginsTake, first_against};
+ghost use Rattle.run_laws.specs.OnTrack.{IsAtOperation, BeginsTake, first_against};
 ghost use Rattle.witness_orders.specs.Graph.{numbers_of};
-ghost use Rattle.step_world.specs.Represents.{Represents};
-ghost use Rattle.step_world.specs.Steps.{HasKey, ChangesProgress, KeepsBooks, with_released};
+ghost use Rattle.step_machine.specs.Represents.{Represents};
+ghost use Rattle.step_machine.specs.Steps.{HasKey, ChangesProgress, KeepsBooks, with_released};
 ghost use Rattle.step_world.specs.Runs.{HasRun, HasState, IsRunOf, MakesRow, KeepsWhereIdle, IsGain, IsTake, Follows, MayGiveBack, GivesBack, MayUnlock, Unlocks, IsGivingUp, IsAdmission, answer_of};
 
-use crate::machine::Machine;
 use crate::turns::Made;
 use lock_model::limits::HELD;
 use lock_model::{
     ClassNo, Event, Held, Kind, LockNo, Mode, Plan, Reversal, StepKind, ThreadNo, Turn,
 };
 use lock_words::{admits, is_drop, is_plain};
+use step_machine::Machine;
 
 /// A take's first turn checks the order of its lock. From that turn on the lock is taken.
 pub fn take_in_order(machine: &mut Machine, plan: &Plan, t: ThreadNo, l: LockNo, mode: Mode) -> Made

@@ -4,13 +4,13 @@ ghost use Rattle.lock_model.specs.Operations.{IsProper};
 ghost use Rattle.lock_model.specs.Plans.{config_of};
 ghost use Rattle.lock_model.specs.declared.plan.Op.TheVariants.{Sleep};
 ghost use Rattle.lock_state.specs.Run.{Run, owed_release};
-ghost use Rattle.lock_laws.specs.OnTrack.{IsAtOperation};
+ghost use Rattle.run_laws.specs.OnTrack.{IsAtOperation};
 ghost use Rattle.step_world.specs.Runs.{HasRun, IsRunOf, Follows, MakesRow, KeepsWhereIdle, IsDoneWaking, IsWake, answer_of};
 
-use crate::machine::Machine;
 use crate::turns::locks::{give_back, take};
 use crate::turns::{Made, by_wait};
 use lock_model::{ChanNo, Event, LockNo, Plan, StepKind, ThreadNo, Turn};
+use step_machine::Machine;
 
 /// A thread that has gone to sleep gives the lock of its wait back first, without an entry.
 pub fn by_release(machine: &mut Machine, plan: &Plan, t: ThreadNo) -> Turn

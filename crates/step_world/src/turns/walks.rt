@@ -7,11 +7,11 @@ ghost use Rattle.lock_state.specs.State.{State, AtLock, AtThread};
 ghost use Rattle.lock_model.specs.Plans.{config_of};
 ghost use Rattle.lock_model.specs.Queues.{lock_queue, names_turnstile};
 ghost use Rattle.lock_model.specs.Words.{is_turnstile};
-ghost use Rattle.step_world.specs.Represents.{Represents};
+ghost use Rattle.step_machine.specs.Represents.{Represents};
 ghost use Rattle.step_world.specs.Runs.{HasRun, Follows, KeepsWhereIdle, IsNowhere, StandsAt};
 
-use crate::machine::Machine;
 use lock_model::{Kind, LockNo, Plan, QueueName, StepKind, ThreadNo, Turn};
+use step_machine::Machine;
 
 /// A walk at a lock lends to the lock's owner, or ends where there is none or nobody waits.
 pub fn walk_at_lock(machine: &mut Machine, plan: &Plan, t: ThreadNo, l: LockNo) -> Turn

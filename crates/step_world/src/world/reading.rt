@@ -4,30 +4,28 @@ ghost use Rattle.std.specs.Prelude.{◌≡◌, ◌↔◌, ◌<◌, ◌^◌, ℕ,
 ghost use Rattle.std.specs.Option.{option_map_or};
 ghost use Rattle.chain_table.specs.Chains.{head_of};
 ghost use Rattle.lock_history.specs.Outcomes.{line_seen};
-ghost use Rattle.lock_laws.specs.OnTrack.{gained_order};
+ghost use Rattle.lock_state.specs.State.{gained_order, State};
 ghost use Rattle.lock_model.specs.Operations.{hold_in};
 ghost use Rattle.lock_model.specs.Plans.{config_of};
 ghost use Rattle.lock_model.specs.Queues.{stands, is_turnstile_queue};
 ghost use Rattle.lock_model.specs.Words.{word_of};
 ghost use Rattle.lock_model.specs.declared.plan.QueueName as names;
-ghost use Rattle.lock_objects.specs.Represents.{walk_of};
+ghost use Rattle.lock_objects.specs.Represents.{walk_of, hold_of, wait_of};
 ghost use Rattle.lock_state.specs.Facts.{Lawful};
 ghost use Rattle.lock_state.specs.Run.{Run, queue_lines};
-ghost use Rattle.lock_state.specs.State.{State};
-ghost use Rattle.step_world.specs.Represents as objects;
-ghost use Rattle.step_world.specs.Represents.{hold_of, wait_of};
+ghost use Rattle.step_machine.specs.Represents as objects;
 ghost use Rattle.step_world.specs.Worlds.{Represents};
 ghost use Rattle.wait_objects.specs.Changes.{waits};
 
 use super::World;
-use crate::machine::Machine;
 use crate::outcome::queue_lines;
-use crate::thread::{Thread, Wait};
 use chain_table::Chain;
 use lock_history::QueueLine;
 use lock_model::{Entry, Held, Kind, LockNo, Mode, Plan, Prio, QueueName, ThreadNo};
+use lock_objects::Wait;
 use prio_lending::Walk;
 use std::alloc::{AllocError, Global};
+use step_machine::{Machine, Thread};
 use wait_objects::{Object, Own};
 
 impl<'p> World<'p> {

@@ -1,4 +1,4 @@
-use Rattle.lock_laws.proofs.Accepted.{accepted_proper}
+use Rattle.script_laws.proofs.Accepted.{accepted_proper}
 use Rattle.chart_top.proofs.top.show.Goals as goal
 
 pub draw-requires-clause-proper : goal.draw-requires-clause-proper

@@ -1,4 +1,4 @@
-use Rattle.lock_laws.proofs.Accepted.{accepted_proper}
+use Rattle.script_laws.proofs.Accepted.{accepted_proper}
 use Rattle.lock_bench.proofs.timing.plan_of.Goals as goal
 
 pub returns-clause-proper : goal.returns-clause-proper

@@ -1,5 +1,5 @@
 use Rattle.std.proofs.Common.{subst}
-use Rattle.lock_laws.proofs.Accepted.{accepted_proper}
+use Rattle.script_laws.proofs.Accepted.{accepted_proper}
 use Rattle.script_read.specs.Reading.{Refuses}
 use Rattle.lock_top.proofs.Outcome.{accepted_answer, refused_output}
 use Rattle.lock_top.proofs.serving.answer.Goals as goal

@@ -4,7 +4,7 @@ use Rattle.run_chart.specs.Bars.{held_kind, holds_tell, tells}
 use Rattle.run_chart.proofs.Numbered.{any_more}
 use Rattle.run_chart.proofs.Said.{adds_from, adds_more}
 use Rattle.run_chart.proofs.bars.push_holds.Goals as goal
-use Rattle.run_rows.specs.Tracks.{value_in}
+use Rattle.run_tracks.specs.Tracks.{value_in}
 
 pub loop-l-preserved : goal.loop-l-preserved
 loop-l-preserved c =

@@ -6,7 +6,7 @@ use Rattle.run_chart.specs.Bars.{wakes_tell, woken_kind}
 use Rattle.run_chart.specs.Spans.{beside, values_at, IsWithin}
 use Rattle.run_chart.proofs.Said.{adds_from}
 use Rattle.run_chart.proofs.bars.push_wakes.Goals as goal
-use Rattle.run_rows.specs.Tracks.{value_in}
+use Rattle.run_tracks.specs.Tracks.{value_in}
 
 pub push_woken-requires : goal.push_woken-requires
 push_woken-requires c =

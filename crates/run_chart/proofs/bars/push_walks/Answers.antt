@@ -4,7 +4,7 @@ use Rattle.std.proofs.lemmas.Result.{on_ok_weaker}
 use Rattle.run_chart.specs.Bars.{walked_kind, walks_tell}
 use Rattle.run_chart.proofs.Said.{adds_from}
 use Rattle.run_chart.proofs.bars.push_walks.Goals as goal
-use Rattle.run_rows.specs.Tracks.{value_in}
+use Rattle.run_tracks.specs.Tracks.{value_in}
 
 pub returns : goal.returns
 returns c =

@@ -4,8 +4,8 @@ use Rattle.run_chart.specs.Charts.{AreStanding}
 use Rattle.run_chart.specs.Ends.{waits_in}
 use Rattle.run_chart.proofs.Standing.{are_standing, ending_is}
 use Rattle.run_chart.proofs.ending.end.Goals as goal
-use Rattle.run_rows.specs.declared.columns.ThreadRows.{ThreadRows}
-use Rattle.run_rows.specs.declared.rows.TurnRow.{TurnRow}
+use Rattle.run_tracks.specs.declared.threads.ThreadRows.{ThreadRows}
+use Rattle.run_tracks.specs.declared.rows.TurnRow.{TurnRow}
 
 pub returns-in-Done : goal.returns-in-Done
 returns-in-Done c plan h = sym (ending_is plan c.args.rows.now h) ∙ ap seen.ending_of c.in-Done.is

@@ -2,8 +2,8 @@ use Rattle.std.proofs.Common.{◌++◌, Some, take, ap, sym, ◌∙◌}
 use Rattle.run_chart.specs.Ends.{wait_of, waits_in}
 use Rattle.run_chart.proofs.Numbered.{each_more}
 use Rattle.run_chart.proofs.ending.waits.Goals as goal
-use Rattle.run_rows.specs.Tracks.{value_in}
-use Rattle.run_rows.specs.declared.columns.ThreadRows.{ThreadRows}
+use Rattle.run_tracks.specs.Tracks.{value_in}
+use Rattle.run_tracks.specs.declared.threads.ThreadRows.{ThreadRows}
 
 pub loop-t-preserved : goal.loop-t-preserved
 loop-t-preserved c =

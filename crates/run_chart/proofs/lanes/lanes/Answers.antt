@@ -4,7 +4,7 @@ use Rattle.chart_layout.specs.declared.layout.Lane.{Lane}
 use Rattle.run_chart.specs.Lanes.{first_row, AreLanes, IsFirst, IsLaneOf}
 use Rattle.run_chart.proofs.Ends.{is_first, lanes_more}
 use Rattle.run_chart.proofs.lanes.lanes.Goals as goal
-use Rattle.run_rows.specs.declared.columns.ThreadRows.{ThreadRows}
+use Rattle.run_tracks.specs.declared.threads.ThreadRows.{ThreadRows}
 
 pub loop-t-preserved : goal.loop-t-preserved
 loop-t-preserved c =

@@ -3,8 +3,8 @@ use Rattle.std.specs.List.Sorted.{IsPartitionPoint, IsPartitionedBy}
 use Rattle.std.proofs.lemmas.Bool.{leb-true}
 use Rattle.std.proofs.lemmas.List.{take_all, length-drop}
 use Rattle.std.proofs.lemmas.List.Sorted.{IsPartitionedBy-leb, IsPartitionPoint-from_clause}
-use Rattle.run_rows.specs.Tracks.{value_in}
-use Rattle.run_rows.proofs.Changes.{some_up_to}
+use Rattle.run_tracks.specs.Tracks.{value_in}
+use Rattle.run_tracks.proofs.Changes.{some_up_to}
 use Rattle.run_chart.proofs.Values.{dropped, rises}
 use Rattle.run_chart.proofs.spans.from_row.Given.{Over}
 use Rattle.run_chart.proofs.spans.from_row.Goals as goal

@@ -1,6 +1,6 @@
 use Rattle.std.proofs.Common.{◌≡◌, ◌∙◌, ◌++◌, ◌<◌, ◌≤◌, ap, subst, sym, length, map, get_or}
 use Rattle.std.proofs.lemmas.List.{take_all}
-use Rattle.run_rows.specs.Tracks.{value_in}
+use Rattle.run_tracks.specs.Tracks.{value_in}
 use Rattle.run_chart.specs.Spans.{beside, values_at, with_value, IsWithin}
 use Rattle.run_chart.proofs.Values.{pairs_more, within_more}
 use Rattle.run_chart.proofs.spans.paired.Goals as goal

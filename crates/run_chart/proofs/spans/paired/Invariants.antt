@@ -1,7 +1,7 @@
 use Rattle.std.proofs.Common.{◌≡◌, ℕ, ◌≤◌, take}
 use Rattle.std.specs.List.{All}
 use Rattle.run_chart.specs.Spans.{beside, values_at, IsWithin}
-use Rattle.run_rows.specs.Tracks.{value_in}
+use Rattle.run_tracks.specs.Tracks.{value_in}
 use Rattle.run_chart.proofs.spans.paired.Given as goal
 
 abbrev pub invariant-loop-span : goal.invariant-loop-span

@@ -2,7 +2,7 @@ use Rattle.std.proofs.Common.{◌≡◌, ℕ, ◌<◌, ◌≤◌, ◌++◌, leng
 use Rattle.std.specs.Prelude.{option_to_list}
 use Rattle.std.specs.List.{All, AllPairs}
 use Rattle.run_chart.specs.Spans.{values_at, IsWithin}
-use Rattle.run_rows.specs.Tracks.{value_in}
+use Rattle.run_tracks.specs.Tracks.{value_in}
 use Rattle.run_chart.proofs.spans.spans.Given as goal
 
 abbrev pub invariant-loop-change : goal.invariant-loop-change

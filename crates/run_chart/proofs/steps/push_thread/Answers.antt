@@ -6,7 +6,7 @@ use Rattle.run_chart.specs.Spans.{beside, values_at, IsWithin}
 use Rattle.run_chart.specs.Steps.{numbers_of, prios_at}
 use Rattle.run_chart.proofs.steps.push_thread.Goals as goal
 use Rattle.run_chart.proofs.steps.push_thread.Goals.{After-drop-effective-2}
-use Rattle.run_rows.specs.Tracks.{value_in}
+use Rattle.run_tracks.specs.Tracks.{value_in}
 
 within-1 : (c : After-drop-effective-2) → All (IsWithin c.args.from c.args.to) c.deref.result.now
 within-1 c = subst (All (IsWithin c.args.from c.args.to)) (sym c.deref.ensures.value) c.in_ok-effective.ensures.within

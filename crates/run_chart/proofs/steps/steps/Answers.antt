@@ -2,7 +2,7 @@ use Rattle.std.proofs.Common.{ℕ, ◌++◌, ◌==◌, cond, [], length, take, a
 use Rattle.run_chart.specs.Steps.{strip_tells, strips_tell}
 use Rattle.run_chart.proofs.Numbered.{each_more}
 use Rattle.run_chart.proofs.steps.steps.Goals as goal
-use Rattle.run_rows.specs.declared.columns.ThreadRows.{ThreadRows}
+use Rattle.run_tracks.specs.declared.threads.ThreadRows.{ThreadRows}
 
 pub loop-t-preserved : goal.loop-t-preserved
 loop-t-preserved c =

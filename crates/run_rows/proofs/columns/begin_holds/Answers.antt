@@ -1,6 +1,6 @@
 use Rattle.std.proofs.Common.{◌≡◌, ℕ, ◌+◌, length, ap, ◌∙◌}
 use Rattle.std.proofs.lemmas.List.{length_push}
-use Rattle.step_world.specs.Represents.{hold_of}
+use Rattle.lock_objects.specs.Represents.{hold_of}
 use Rattle.run_rows.proofs.Noting.{one_begun}
 use Rattle.run_rows.proofs.columns.begin_holds.Goals as goal
 

@@ -1,7 +1,7 @@
 use Rattle.std.proofs.Common.{◌≡◌, ℕ, length}
 use Rattle.lock_state.specs.Run.{Run}
 use Rattle.step_world.specs.Worlds.{Represents}
-use Rattle.run_rows.specs.Rows.{TellsThreads}
+use Rattle.run_tracks.specs.Rows.{TellsThreads}
 use Rattle.run_rows.proofs.columns.begin_threads.Given as goal
 
 -- the first threads have tracks that tell of the begin

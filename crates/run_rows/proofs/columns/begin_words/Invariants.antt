@@ -2,7 +2,7 @@ use Rattle.std.proofs.Common.{◌≡◌, ℕ, length}
 use Rattle.lock_model.specs.Words.{word_of}
 use Rattle.lock_state.specs.Run.{Run}
 use Rattle.step_world.specs.Worlds.{Represents}
-use Rattle.run_rows.specs.Tracks.{EachTells}
+use Rattle.run_tracks.specs.Tracks.{EachTells}
 use Rattle.run_rows.proofs.columns.begin_words.Given as goal
 
 -- the first locks have tracks that tell of the begin

@@ -1,6 +1,6 @@
 use Rattle.std.proofs.Common.{◌≡◌, ◌≤◌, ◌+◌, length, sym, ap, arith, ◌∙◌}
-use Rattle.step_world.specs.Represents.{hold_of}
-use Rattle.run_rows.specs.Tracks.{Tells}
+use Rattle.lock_objects.specs.Represents.{hold_of}
+use Rattle.run_tracks.specs.Tracks.{Tells}
 use Rattle.run_rows.proofs.Noting.{all_done, left_more, next, none_done, one_noted}
 use Rattle.run_rows.proofs.columns.note_holds.Goals as goal
 

@@ -1,8 +1,8 @@
 use Rattle.std.proofs.Common.{◌≡◌, ◌+◌, ℕ}
-use Rattle.step_world.specs.Represents.{hold_of}
+use Rattle.lock_objects.specs.Represents.{hold_of}
 use Rattle.lock_state.specs.Run.{Run}
 use Rattle.step_world.specs.Worlds.{Represents}
-use Rattle.run_rows.specs.Tracks.{EachTells, Tells}
+use Rattle.run_tracks.specs.Tracks.{EachTells, Tells}
 use Rattle.run_rows.proofs.Noting.{AreDone, AreLeft}
 use Rattle.run_rows.proofs.columns.note_holds.Given as goal
 

@@ -1,5 +1,5 @@
 use Rattle.std.proofs.Common.{◌≤◌, ◌+◌, length, sym, arith, ◌∙◌}
-use Rattle.run_rows.specs.Rows.{TellsThread}
+use Rattle.run_tracks.specs.Rows.{TellsThread}
 use Rattle.run_rows.proofs.Noting.{all_done, done_more, left_more, next}
 use Rattle.run_rows.proofs.columns.note_threads.Goals as goal
 
@@ -13,12 +13,12 @@ loop-t-preserved c =
     let row = c.args.row in
     let now = next before threads t c.from.result c.threads-t-end.result c.index_mut.result.now i.left c.from.ensures c.loop-t-test.true (c.threads-t-end.ensures.number ∙ sym c.requires.number) c.index_mut.ensures.value in
     record {
-      left = left_more before threads t c.from.result c.note.new.self c.from.ensures i.left;
-      done = λ runs h each. rw c.from.ensures (done_more (TellsThread plan runs (row + 1)) threads t c.note.new.self now.within (i.done runs h each) (c.in_ok-note.ensures runs h (each t c.index_mut.result.now now.there)));
+      left = left_more before threads t c.from.result c.note_thread.new.tracks c.from.ensures i.left;
+      done = λ runs h each. rw c.from.ensures (done_more (TellsThread plan runs (row + 1)) threads t c.note_thread.new.tracks now.within (i.done runs h each) (c.in_ok-note_thread.ensures runs h (each t c.index_mut.result.now now.there)));
     }
 
-pub note-requires-clause-told : goal.note-requires-clause-told
-note-requires-clause-told c =
+pub note_thread-requires-clause-told : goal.note_thread-requires-clause-told
+note_thread-requires-clause-told c =
     let now = next c.args.threads.now.items c.loop-t.threads.items c.loop-t.t c.from.result c.threads-t-end.result c.index_mut.result.now c.loop-t.invariant.left c.from.ensures c.loop-t-test.true (c.threads-t-end.ensures.number ∙ sym c.requires.number) c.index_mut.ensures.value in
     let told = c.requires.told in
     (told.0, told.1 c.loop-t.t c.index_mut.result.now now.there)

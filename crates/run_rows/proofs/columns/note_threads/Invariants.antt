@@ -2,7 +2,7 @@ use Rattle.std.proofs.Common.{◌+◌, ℕ}
 use Rattle.lock_state.specs.Run.{Run}
 use Rattle.step_world.specs.Worlds.{Represents}
 use Rattle.run_rows.proofs.Noting.{AreDone, AreLeft}
-use Rattle.run_rows.specs.Rows.{TellsThread, TellsThreads}
+use Rattle.run_tracks.specs.Rows.{TellsThread, TellsThreads}
 use Rattle.run_rows.proofs.columns.note_threads.Given as goal
 
 -- the tracks of the first threads tell of one row more

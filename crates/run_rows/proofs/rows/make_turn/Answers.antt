@@ -2,11 +2,11 @@ use Rattle.std.proofs.Common.{◌≡◌, ◌+◌, length, Some, sym, ap, subst, 
 use Rattle.std.proofs.lemmas.List.{length-reverse}
 use Rattle.lock_model.specs.declared.plan.Plan.{Plan}
 use Rattle.lock_state.specs.Run as run
-use Rattle.lock_state.specs.Run.{course_after, go_on}
-use Rattle.step_world.specs.Courses.{IsCourse, next_turn}
+use Rattle.lock_state.specs.Run.{course_after, go_on, next_turn}
+use Rattle.step_world.specs.Courses.{IsCourse}
 use Rattle.step_world.specs.Worlds.{World, Represents}
-use Rattle.step_world.proofs.TurnsOfCourses.{one_more}
-use Rattle.run_rows.specs.Rows.{TellsColumns, run_in}
+use Rattle.run_laws.proofs.TurnsOfCourses.{one_more}
+use Rattle.run_tracks.specs.Rows.{TellsColumns, run_in}
 use Rattle.run_rows.proofs.Turns.{columns_stay, made_by, same_run}
 use Rattle.run_rows.proofs.rows.make_turn.Goals as goal
 use Rattle.run_rows.proofs.rows.make_turn.Goals.{in-Did+in_ok-note-in-Did, in-Idle}

@@ -2,7 +2,7 @@ use Rattle.std.proofs.Common.{ℕ, ◌+◌, length, ap, arith, ◌∙◌}
 use Rattle.std.proofs.lemmas.List.{length_push}
 use Rattle.lock_model.specs.declared.plan.Plan.{Plan}
 use Rattle.run_rows.specs.Making.{IsAt}
-use Rattle.run_rows.specs.Rows.{IsTurn}
+use Rattle.run_tracks.specs.Rows.{IsTurn}
 use Rattle.run_rows.proofs.Noting.{each_push}
 use Rattle.run_rows.proofs.rows.make_turns.Goals as goal
 use Rattle.run_rows.proofs.rows.make_turns.Goals.{In_ok-push, else-loop-n-test, then-loop-n-test+in_ok-turn+in_default}

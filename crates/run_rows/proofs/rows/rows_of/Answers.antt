@@ -1,6 +1,6 @@
 use Rattle.std.proofs.Common.{◌≡◌, ℕ, length, ap, subst, sym, ◌∙◌}
 use Rattle.lock_history.specs.Outcomes.{outcome_seen}
-use Rattle.lock_laws.proofs.LegalRuns.{outcomes_are_legal}
+use Rattle.run_laws.proofs.LegalRuns.{outcomes_are_legal}
 use Rattle.lock_model.specs.Text as text
 use Rattle.lock_model.specs.declared.plan.Plan.{Plan}
 use Rattle.lock_state.specs.Run as run

@@ -3,7 +3,7 @@ use Rattle.lock_model.specs.declared.plan.Plan.{Plan}
 use Rattle.lock_state.specs.Run as run
 use Rattle.lock_state.specs.Run.{go_on, is_over, course_after}
 use Rattle.step_world.specs.Courses.{IsCourse}
-use Rattle.step_world.proofs.TurnsOfCourses.{none_made, one_more, stays_over}
+use Rattle.run_laws.proofs.TurnsOfCourses.{none_made, one_more, stays_over}
 use Rattle.step_world.proofs.schedule.make_turns.Goals as goal
 
 pub loop-made-init : goal.loop-made-init

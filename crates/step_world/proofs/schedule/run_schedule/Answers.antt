@@ -6,7 +6,7 @@ use Rattle.lock_state.specs.Run.{start_course, course_after, outcome_of, schedul
 use Rattle.lock_model.specs.declared.plan.Plan.{Plan}
 use Rattle.lock_history.specs.Outcomes.{outcome_seen}
 use Rattle.lock_history.specs.declared.outcome.Outcome.{Outcome}
-use Rattle.lock_laws.proofs.LegalRuns.{outcomes_are_legal}
+use Rattle.run_laws.proofs.LegalRuns.{outcomes_are_legal}
 use Rattle.step_world.specs.Courses.{Course, IsCourse}
 use Rattle.step_world.proofs.schedule.run_schedule.Goals as goal
 use Rattle.step_world.proofs.schedule.run_schedule.Goals.{After-into_outcome}

@@ -1,5 +1,5 @@
 use Rattle.lock_model.specs.Plans.{config_of}
-use Rattle.lock_laws.proofs.Table.{sets, adds, changes_base}
+use Rattle.run_laws.proofs.Table.{sets, adds, changes_base}
 use Rattle.step_world.proofs.Turning.{is_there}
 use Rattle.step_world.proofs.RowsOfTurns.{here}
 use Rattle.step_world.proofs.RowsOfOperations as rows

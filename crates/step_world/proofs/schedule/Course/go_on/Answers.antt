@@ -5,8 +5,8 @@ use Rattle.lock_model.specs.Counts.{is_empty}
 use Rattle.lock_model.specs.declared.numbers.ThreadNo.{ThreadNo}
 use Rattle.lock_model.specs.declared.turn.Turn.{Turn}
 use Rattle.lock_state.specs.Run as run
-use Rattle.lock_state.specs.Run.{after_turn, round_of, is_over}
-use Rattle.step_world.specs.Courses.{Course, IsCourse, first_turn}
+use Rattle.lock_state.specs.Run.{after_turn, round_of, is_over, first_turn}
+use Rattle.step_world.specs.Courses.{Course, IsCourse}
 use Rattle.step_world.proofs.Scheduling.{IsReady, none_left, none_comes, one_made, round_ready, still_ready}
 use Rattle.step_world.proofs.schedule.Course.go_on.Goals as goal
 use Rattle.step_world.proofs.schedule.Course.go_on.Goals.{After-make_turn, then-self-len, else-self-len}

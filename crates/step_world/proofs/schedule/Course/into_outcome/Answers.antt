@@ -7,7 +7,7 @@ use Rattle.lock_state.specs.Run.{outcome_of}
 use Rattle.step_world.specs.Courses.{Course}
 use Rattle.step_world.specs.Outcomes.{finals_of}
 use Rattle.step_world.specs.Worlds.{World, Represents}
-use Rattle.step_world.specs.declared.machine.Machine.{Machine}
+use Rattle.step_machine.specs.declared.machine.Machine.{Machine}
 use Rattle.step_world.proofs.Printed.{log_in_order, printed}
 use Rattle.step_world.proofs.schedule.Course.into_outcome.Goals as goal
 

@@ -1,4 +1,4 @@
-use Rattle.lock_laws.specs.OnTrack.{admitted}
+use Rattle.run_laws.specs.OnTrack.{admitted}
 use Rattle.step_world.proofs.RowsOfTakes as rows
 use Rattle.step_world.proofs.turns.locks.begin_take.Goals as goal
 

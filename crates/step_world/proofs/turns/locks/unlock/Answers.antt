@@ -1,5 +1,5 @@
 use Rattle.lock_model.specs.Plans.{config_of}
-use Rattle.step_world.proofs.Kit.{read}
+use Rattle.step_machine.proofs.Kit.{read}
 use Rattle.step_world.proofs.RowsOfLocks as rows
 use Rattle.step_world.proofs.turns.locks.unlock.Goals as goal
 

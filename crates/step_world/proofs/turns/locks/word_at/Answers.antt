@@ -1,5 +1,5 @@
 use Rattle.lock_model.specs.Plans.{config_of}
-use Rattle.step_world.proofs.Kit.{word_read}
+use Rattle.step_machine.proofs.Kit.{word_read}
 use Rattle.step_world.proofs.RowsOfLocks.{is_well_formed}
 use Rattle.step_world.proofs.turns.locks.word_at.Goals as goal
 

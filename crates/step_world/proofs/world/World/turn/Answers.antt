@@ -3,10 +3,10 @@ use Rattle.lock_model.specs.Plans.{config_of}
 use Rattle.lock_model.specs.declared.turn.Turn.{Turn}
 use Rattle.lock_model.specs.declared.turn.Turn.TheVariants.{Idle, Ended}
 use Rattle.lock_state.specs.Run.{Run, run_behind, has_ended}
-use Rattle.lock_laws.specs.OnTrack.{IsSleeping}
+use Rattle.run_laws.specs.OnTrack.{IsSleeping}
 use Rattle.lock_laws.proofs.Best.{effective_best}
-use Rattle.lock_laws.proofs.Idle as idle
-use Rattle.lock_laws.proofs.OrderFacts.Cycle.{no_cycle}
+use Rattle.run_laws.proofs.Idle as idle
+use Rattle.order_laws.proofs.OrderFacts.Cycle.{no_cycle}
 use Rattle.step_world.specs.Worlds.{World}
 use Rattle.step_world.proofs.WorldsAreSound.{behind_turn}
 use Rattle.step_world.proofs.world.World.turn.Goals as goal

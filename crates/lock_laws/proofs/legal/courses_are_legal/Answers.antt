@@ -1,5 +1,0 @@
-use Rattle.lock_laws.proofs.LegalRuns as law
-use Rattle.lock_laws.proofs.legal.courses_are_legal.Goals as goal
-
-pub returns : goal.returns
-returns c = law.courses_are_legal

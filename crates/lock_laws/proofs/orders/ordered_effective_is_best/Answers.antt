@@ -1,5 +1,0 @@
-use Rattle.lock_laws.proofs.OrderFacts.Cycle as law
-use Rattle.lock_laws.proofs.orders.ordered_effective_is_best.Goals as goal
-
-pub returns : goal.returns
-returns c = law.best

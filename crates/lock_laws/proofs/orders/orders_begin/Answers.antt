@@ -1,5 +1,0 @@
-use Rattle.lock_laws.proofs.OrderFacts as law
-use Rattle.lock_laws.proofs.orders.orders_begin.Goals as goal
-
-pub returns : goal.returns
-returns c = law.begins

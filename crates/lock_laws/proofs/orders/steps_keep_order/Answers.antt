@@ -1,5 +1,0 @@
-use Rattle.lock_laws.proofs.OrderFacts.Steps as law
-use Rattle.lock_laws.proofs.orders.steps_keep_order.Goals as goal
-
-pub returns : goal.returns
-returns c = law.keeps

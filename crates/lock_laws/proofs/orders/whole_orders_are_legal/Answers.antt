@@ -1,5 +1,0 @@
-use Rattle.lock_laws.proofs.TakeFacts.Whole as law
-use Rattle.lock_laws.proofs.orders.whole_orders_are_legal.Goals as goal
-
-pub returns : goal.returns
-returns c = law.legal

@@ -1,5 +1,0 @@
-use Rattle.lock_laws.proofs.Turning as law
-use Rattle.lock_laws.proofs.runs.courses_are_reachable.Goals as goal
-
-pub returns : goal.returns
-returns c = law.courses_reachable

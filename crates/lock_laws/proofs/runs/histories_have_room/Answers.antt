@@ -1,8 +1,0 @@
-use Rattle.lock_laws.proofs.Entries as law
-use Rattle.lock_laws.proofs.runs.histories_have_room.Goals as goal
-
-pub returns-clause-operation : goal.returns-clause-operation
-returns-clause-operation c = law.entries_below
-
-pub returns-clause-cut : goal.returns-clause-cut
-returns-clause-cut c = law.cut_entries_below

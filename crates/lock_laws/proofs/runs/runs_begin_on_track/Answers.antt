@@ -1,5 +1,0 @@
-use Rattle.lock_laws.proofs.Turning as law
-use Rattle.lock_laws.proofs.runs.runs_begin_on_track.Goals as goal
-
-pub returns : goal.returns
-returns c = law.begins_on_track

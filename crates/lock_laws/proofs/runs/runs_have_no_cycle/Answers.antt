@@ -1,6 +1,0 @@
-use Rattle.lock_model.specs.Plans.{config_of}
-use Rattle.lock_laws.proofs.OrderFacts.Cycle as law
-use Rattle.lock_laws.proofs.runs.runs_have_no_cycle.Goals as goal
-
-pub returns : goal.returns
-returns c = λ plan r k. law.no_cycle (config_of plan) r.state k.ordered

@@ -1,5 +1,0 @@
-use Rattle.lock_laws.proofs.Stuck as law
-use Rattle.lock_laws.proofs.runs.stuck_runs_sleep_on_channels.Goals as goal
-
-pub returns : goal.returns
-returns c = law.stuck_on_channels

@@ -1,5 +1,0 @@
-use Rattle.lock_laws.proofs.OtherThreads as law
-use Rattle.lock_laws.proofs.runs.turns_end_no_other.Goals as goal
-
-pub returns : goal.returns
-returns c = law.ends_no_other

@@ -1,5 +1,0 @@
-use Rattle.lock_laws.proofs.Turning as law
-use Rattle.lock_laws.proofs.runs.turns_may.Goals as goal
-
-pub returns : goal.returns
-returns c = law.turns_may

@@ -1,5 +1,0 @@
-use Rattle.lock_laws.proofs.SleepFacts as law
-use Rattle.lock_laws.proofs.sleeps.sleepers_begin.Goals as goal
-
-pub returns : goal.returns
-returns c = law.begins

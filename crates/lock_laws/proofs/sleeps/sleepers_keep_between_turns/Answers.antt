@@ -1,5 +1,0 @@
-use Rattle.lock_laws.proofs.SleepFacts.Turns as law
-use Rattle.lock_laws.proofs.sleeps.sleepers_keep_between_turns.Goals as goal
-
-pub returns : goal.returns
-returns c = law.turn_ends

@@ -1,4 +1,0 @@
-use Rattle.lock_laws.proofs.sleeps.wakings_name_sleepers.Goals as goal
-
-pub returns : goal.returns
-returns c at_work d s h = h.wakings_name_sleepers

@@ -1,0 +1,3 @@
+pub mod OrderFacts
+pub mod TakeFacts
+mod OrderGuards

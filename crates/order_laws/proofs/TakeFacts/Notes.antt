@@ -1,0 +1,159 @@
+-- A resume and an entry that keep to the order keep the facts of takes.
+use Rattle.std.proofs.Common.{◌≡◌, ◌⊎◌, ℕ, Bool, true, false, not, ◌&&◌, eqb, List, ◌∷◌, Option, Some, None, refl, sym, ap, inl, inr, subst, ◌∙◌}
+use Rattle.std.proofs.lemmas.Bool.{cases_eq}
+use Rattle.lock_model.specs.Config.{Config}
+use Rattle.lock_model.specs.Counts.{any_below}
+use Rattle.lock_model.specs.Holds.{Holds, is_unheld}
+use Rattle.lock_model.specs.History.{open_in}
+use Rattle.lock_model.specs.Orders.{IsEdge}
+use Rattle.lock_model.specs.Takes.{taken_by, take_edges, has_open, ReversalHasCause}
+use Rattle.lock_model.specs.Queues.{Cause, BySignal, ByAbort}
+use Rattle.lock_state.specs.State.{State, Note, OrderRefused, put}
+use Rattle.lock_state.specs.Steps.{EndsTake, IsBackFrom}
+use Rattle.lock_state.specs.Steps.LockWords.{MayStamp, is_taking_back, taking_after, entry_of, after_stamp}
+use Rattle.lock_state.specs.Steps.Turnstiles.{taking_by, noted_after, after_resume}
+use Rattle.lock_state.specs.Facts.{Taken, EdgesAreOfTakes, TakersAreOpen, RefusalsHaveCause, ReversalsHaveCause}
+use Rattle.lock_model.specs.declared.plan.QueueName.{QueueName}
+use Rattle.lock_model.specs.declared.plan.QueueName.TheVariants.{Lock, Chan}
+use Rattle.lock_model.specs.declared.event.Event.{Event}
+use Rattle.lock_model.specs.declared.event.Event.TheVariants.{Locked, Woke, HaltedChan, HaltedLock, Reversed}
+use Rattle.lock_model.specs.declared.event.Entry.{Entry}
+use Rattle.lock_laws.proofs.Kit.{put_same, put_other}
+use Rattle.lock_laws.proofs.OwnEntries.{other_sections}
+use Rattle.order_laws.proofs.TakeFacts.Tests.{InProgress, take_stays, take_gives}
+use Rattle.order_laws.proofs.TakeFacts.Holds.{carried}
+
+-- 1. A resume
+
+back_takes : (c : Config) (s : State) (t : ℕ) (q : QueueName) → IsBackFrom s t q → is_taking_back (s.log t) ≡ false → taking_by c q (s.taking t) ≡ s.taking t
+back_takes c s t (Lock l) k b = refl
+back_takes c s t (Chan d) k b = absurd (let z : true ≡ false = sym k ∙ b in cc)
+
+refused_before : (q : QueueName) (cause : Cause) (back : Bool) (o : Option Note) (l k : ℕ) → noted_after q cause back o ≡ Some (OrderRefused l k) → o ≡ Some (OrderRefused l k)
+refused_before q BySignal back o l k e = e
+refused_before (Lock j) ByAbort true o l k e = e
+refused_before (Lock j) ByAbort false o l k e = absurd cc
+refused_before (Chan d) ByAbort back o l k e = absurd cc
+
+module _ (c : Config) (s : State) (t : ℕ) (q : QueueName) (cause : Cause) (k : IsBackFrom s t q) (h : Taken c s) where
+  abbrev resumed : ℕ → Option ℕ
+  resumed = put s.taking t (taking_by c q (s.taking t))
+
+  -- who doesn't take a lock back takes what it took
+  same_taking : (u : ℕ) → is_taking_back (s.log u) ≡ false → resumed u ≡ s.taking u
+  same_taking u b = elim (cases_eq t u) [
+    | inl x ↦ ap resumed (sym x) ∙ put_same s.taking t (taking_by c q (s.taking t)) ∙ back_takes c s t q k (ap (λ v. is_taking_back (s.log v)) x ∙ b) ∙ ap s.taking x
+    | inr x ↦ put_other s.taking t (taking_by c q (s.taking t)) u x
+  ]
+
+  resume_edges : EdgesAreOfTakes c s.edges resumed s.log s.held s.history
+  resume_edges = carried c s.edges s.taking resumed s.log s.log s.held s.held s.history s.history
+      (λ a b p. inr (record { thread = p.thread; its = p.its; lock = p.lock; other = p.other; below = p.below; mode = p.mode; takes = same_taking p.thread p.not_back ∙ p.takes; not_back = p.not_back; holds = p.holds; apart = p.apart; from = p.from; to = p.to }))
+      (λ a b i. i) h.edges_are_of_takes
+
+  resume_open : TakersAreOpen c resumed s.log s.held s.history
+  unfolding TakersAreOpen
+  resume_open u i e b j m f ne = h.takers_are_open u i (sym (same_taking u b) ∙ e) b j m f ne
+
+  resume_refusals : RefusalsHaveCause c (put s.noted t (noted_after q cause (is_taking_back (s.log t)) (s.noted t))) s.edges s.history
+  unfolding RefusalsHaveCause
+  resume_refusals u l j e = h.refusals_have_cause u l j (elim (cases_eq t u) [
+    | inl x ↦ ap s.noted (sym x) ∙ refused_before q cause (is_taking_back (s.log t)) (s.noted t) l j (sym (put_same s.noted t _) ∙ ap (put s.noted t _) x ∙ e)
+    | inr x ↦ sym (put_other s.noted t _ u x) ∙ e
+  ])
+
+  pub resumes : Taken c (after_resume c s t q cause)
+  unfolding after_resume
+  resumes = assumption (h, resume_edges, resume_open, resume_refusals)
+
+-- 2. An entry
+
+none_after : (e : Event) → taking_after e None ≡ None
+none_after (Locked l mode) = refl
+none_after (HaltedLock l) = refl
+none_after (Woke d) = refl
+none_after (HaltedChan d) = refl
+none_after other = refl
+
+-- an entry that ends a take, or the wait of a thread in one, leaves nothing to take
+ended : (c : Config) (back : Bool) (e : Event) (l : ℕ) (o : Option ℕ) → EndsTake c back e l → taking_after e o ≡ None
+ended c back (Locked k mode) l o i = refl
+ended c back (HaltedLock k) l o i = refl
+ended c back (Woke d) l o i = refl
+ended c back (HaltedChan d) l o i = refl
+ended c back other l o i = absurd i
+
+-- outside a wait it ends a take
+ends_take : (c : Config) (back : Bool) (e : Event) (l : ℕ) → EndsTake c back e l → back ≡ false → taken_by e ≡ Some l
+ends_take c back (Locked k mode) l i b = ap Some i.0
+ends_take c back (HaltedLock k) l i b = ap Some i.0
+ends_take c back (Woke d) l i b = absurd (let z : true ≡ false = sym i.1 ∙ b in cc)
+ends_take c back (HaltedChan d) l i b = absurd (let z : true ≡ false = sym i.1 ∙ b in cc)
+ends_take c back other l i b = absurd i
+
+module _ (c : Config) (s : State) (t : ℕ) (e : Event) (g : MayStamp c s t e) (k : (l : ℕ) → s.taking t ≡ Some l → EndsTake c (is_taking_back (s.log t)) e l) (h : Taken c s) where
+  abbrev new : Entry
+  new = entry_of s t e
+
+  abbrev now : ℕ → Option ℕ
+  now = put s.taking t (taking_after e (s.taking t))
+
+  abbrev log : ℕ → List Entry
+  log = put s.log t (new ∷ s.log t)
+
+  -- then the thread takes nothing
+  none_now : now t ≡ None
+  none_now = put_same s.taking t (taking_after e (s.taking t)) ∙ go (s.taking t) refl
+    where
+      go : (o : Option ℕ) → s.taking t ≡ o → taking_after e (s.taking t) ≡ None
+      go None i = ap (taking_after e) i ∙ none_after e
+      go (Some l) i = ended c (is_taking_back (s.log t)) e l (s.taking t) (k l i)
+
+  noted_or_on : (a b : ℕ) → InProgress c s.taking s.log s.held a b → IsEdge (take_edges c (new ∷ s.history)) a b ⊎ InProgress c now log s.held a b
+  unfolding TakersAreOpen
+  noted_or_on a b p = elim (cases_eq t p.thread) [
+    | inl j ↦
+        let x : taken_by e ≡ Some p.lock = ends_take c (is_taking_back (s.log t)) e p.lock (k p.lock (ap s.taking j ∙ p.takes)) (ap (λ v. is_taking_back (s.log v)) j ∙ p.not_back) in
+        let o : open_in c s.history t p.other ≡ Holds p.mode = ap (λ v. open_in c s.history v p.other) j ∙ h.takers_are_open p.thread p.lock p.takes p.not_back p.other p.mode p.holds p.apart in
+        let i = take_gives c new s.history p.lock p.other p.mode x p.below o in
+        inl (subst (λ v. IsEdge (take_edges c (new ∷ s.history)) v b) p.from (subst (λ v. IsEdge (take_edges c (new ∷ s.history)) (c.class p.other) v) p.to i))
+    | inr j ↦ inr (record { thread = p.thread; its = p.its; lock = p.lock; other = p.other; below = p.below; mode = p.mode; takes = put_other s.taking t (taking_after e (s.taking t)) p.thread j ∙ p.takes; not_back = ap is_taking_back (put_other s.log t (new ∷ s.log t) p.thread j) ∙ p.not_back; holds = p.holds; apart = p.apart; from = p.from; to = p.to })
+  ]
+
+  stamp_edges : EdgesAreOfTakes c s.edges now log s.held (new ∷ s.history)
+  stamp_edges = carried c s.edges s.taking now s.log log s.held s.held s.history (new ∷ s.history) noted_or_on (take_stays c new s.history) h.edges_are_of_takes
+
+  -- the sections of another thread
+  others_open : (u j : ℕ) → (t ≡ u → ⊥) → open_in c (new ∷ s.history) u j ≡ open_in c s.history u j
+  unfolding after_stamp
+  others_open u j n = ap (λ x. x.now) (other_sections c s t e u j n)
+
+  stamp_open : TakersAreOpen c now log s.held (new ∷ s.history)
+  unfolding TakersAreOpen
+  stamp_open u i a b j m f ne = elim (cases_eq t u) [
+    | inl x ↦ absurd (let q : None ≡ Some i = sym none_now ∙ ap now x ∙ a in cc)
+    | inr x ↦ others_open u j x ∙ h.takers_are_open u i (sym (put_other s.taking t (taking_after e (s.taking t)) u x) ∙ a) (ap is_taking_back (sym (put_other s.log t (new ∷ s.log t) u x)) ∙ b) j m f ne
+  ]
+
+  stamp_refusals : RefusalsHaveCause c (put s.noted t None) s.edges (new ∷ s.history)
+  unfolding RefusalsHaveCause
+  stamp_refusals u l j a = elim (cases_eq t u) [
+    | inl x ↦ absurd (let z : None ≡ Some (OrderRefused l j) = sym (put_same s.noted t None) ∙ ap (put s.noted t None) x ∙ a in cc)
+    | inr x ↦
+        let r = h.refusals_have_cause u l j (sym (put_other s.noted t None u x) ∙ a) in
+        let same : has_open c (new ∷ s.history) u j ≡ has_open c s.history u j = λ i. any_below c.locks (λ v. eqb (c.class v) j && not (is_unheld (others_open u v x i))) in
+        (same ∙ r.0, r.1)
+  ]
+
+  reversal : (a : Event) → MayStamp c s t a → ReversalHasCause c s.edges a s.history t
+  unfolding RefusalsHaveCause
+  reversal (Reversed l held) x = h.refusals_have_cause t l.0 held.0 x.asks
+  reversal other x = tt
+
+  stamp_reversals : ReversalsHaveCause c s.edges (new ∷ s.history)
+  unfolding ReversalsHaveCause
+  stamp_reversals = (reversal e g, h.reversals_have_cause)
+
+  pub stamps : Taken c (after_stamp c s t e)
+  unfolding after_stamp
+  stamps = assumption (h, stamp_edges, stamp_open, stamp_refusals, stamp_reversals)

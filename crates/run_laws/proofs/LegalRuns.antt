@@ -1,0 +1,137 @@
+-- Each run of a proper plan has a legal history, and a whole one where all threads have ended.
+use Rattle.std.proofs.Common.{◌≡◌, ℕ, zero, suc, ◌+◌, ◌<◌, ◌≤◌, Bool, true, false, cond, List, [], ◌∷◌, length, map, reverse, slice_get, All, Option, Some, None, refl, sym, ap, inl, inr, eq-eqb, arith, ◌∙◌, subst}
+use Rattle.std.specs.Prelude.{not, ◌&&◌, ◌||◌, nat_le, unwrap_or}
+use Rattle.std.specs.List.{list_all, range_with_len}
+use Rattle.std.proofs.lemmas.Bool.{cases_eq, cases_lt, and_parts, or_cases, leb-true, true≢false}
+use Rattle.std.proofs.lemmas.List.{reverse-reverse, length-map}
+use Rattle.std.proofs.lemmas.Option.{slice_get_past}
+use Rattle.lock_model.specs.Holds.{Hold, NotHeld, Holds, is_unheld}
+use Rattle.lock_model.specs.Operations.{IsProper, hold_in}
+use Rattle.lock_model.specs.Plans.{config_of, operations_of}
+use Rattle.lock_model.specs.Text.{IsStuck, IsTooLong}
+use Rattle.lock_model.specs.Config.{Config}
+use Rattle.lock_model.specs.Law.{IsLegal, IsLegalSoFar, IsAtEnd, EntriesFollowOperations, HaltsOnlyWhenRunning}
+use Rattle.lock_model.specs.declared.plan.Plan.{Plan}
+use Rattle.lock_model.specs.declared.plan.ThreadDecl.{ThreadDecl}
+use Rattle.lock_model.specs.declared.event.Entry.{Entry}
+use Rattle.lock_model.specs.declared.event.Held.{Held}
+use Rattle.lock_state.specs.Facts.{Lawful, OnlyThreadsHold, OnlyLocksAreHeld}
+use Rattle.lock_state.specs.State.{State}
+use Rattle.lock_state.specs.Run.{Run, Course, was_cut, waits_on, has_ended, owes, holds_none, all_ended, after_turns, course_after, is_stuck, whole_ending, ending_of, is_cut_short, HasLegalHistory, scheduled_run, held_now}
+use Rattle.run_laws.specs.OnTrack.{IsOnTrack, place_by, place_in}
+use Rattle.sleep_laws.specs.Sleepers.{nobody}
+use Rattle.sleep_laws.proofs.LegalSoFar.{legal_so_far}
+use Rattle.lock_laws.proofs.Shown.{true-any_below}
+use Rattle.order_laws.proofs.TakeFacts.Whole.{legal as orders_legal}
+use Rattle.run_laws.proofs.Idle.{done_awake}
+use Rattle.run_laws.proofs.Turning.{behind_turns, behind_course}
+
+-- 1. The end of a run: each thread has made all its operations or was cut, and holds and takes nothing
+
+passes_at : (f : ℕ → Bool) (a n t : ℕ) → list_all f (range_with_len a n) ≡ true → a ≤ t → t < a + n → f t ≡ true
+passes_at f a zero t e i l = absurd (omega arith)
+passes_at f a (suc n) t e i l =
+    let parts = and_parts (f a) (list_all f (range_with_len (a + 1) n)) e in
+    elim (cases_eq a t) [
+      | inl j ↦ subst (λ m. f m ≡ true) j parts.0
+      | inr j ↦ passes_at f (a + 1) n t parts.1 (omega (arith, j)) (omega arith)
+    ]
+
+-- a number that is no thread's has no operations
+no_operations : (plan : Plan) (t : ℕ) → length plan.threads ≤ t → length (operations_of plan t) ≡ 0
+no_operations plan t i = ap (λ o. length (unwrap_or o [])) (slice_get_past (map (λ (d : ThreadDecl). d.ops) plan.threads) t (omega (arith, i, length-map plan.threads (λ (d : ThreadDecl). d.ops))))
+
+module _ (plan : Plan) (r : Run) (k : IsOnTrack plan r) (ended : all_ended plan r ≡ true) where
+  -- each thread has made all its operations, unless it was cut,
+  all_made : (t : ℕ) → was_cut r.state t ≡ false → length (operations_of plan t) ≤ r.next_op t
+  unfolding has_ended
+  all_made t uncut = elim (cases_lt t (length plan.threads)) [
+    | inl i ↦
+        let its : has_ended plan r t ≡ true = passes_at (has_ended plan r) 0 (length plan.threads) t ended (omega arith) (omega (arith, i)) in
+        let over = nat_le (length (operations_of plan t)) (r.next_op t) || was_cut r.state t in
+        let first = and_parts (over && not (owes (config_of plan) r.state t)) (holds_none (config_of plan) r.state t) its in
+        elim (or_cases (nat_le (length (operations_of plan t)) (r.next_op t)) (was_cut r.state t) (and_parts over (not (owes (config_of plan) r.state t)) first.0).0) [
+          | inl x ↦ leb-true (length (operations_of plan t)) (r.next_op t) x
+          | inr x ↦ absurd (true≢false (sym x ∙ uncut))
+        ]
+    | inr i ↦ omega (arith, no_operations plan t i)
+  ]
+
+  -- and holds nothing
+  unheld : (t l : ℕ) → r.state.held t l ≡ NotHeld
+  unfolding has_ended OnlyThreadsHold OnlyLocksAreHeld
+  unheld t l = go (r.state.held t l) refl
+    where
+      go : (h : Hold) → r.state.held t l ≡ h → h ≡ NotHeld
+      go NotHeld e = refl
+      go (Holds mode) e =
+          let i = k.lawful.lawful.words.only_threads_hold t l mode e in
+          let its : has_ended plan r t ≡ true = passes_at (has_ended plan r) 0 (length plan.threads) t ended (omega arith) (omega (arith, i)) in
+          let some = true-any_below (length plan.locks) (λ l. not (is_unheld (r.state.held t l))) l (k.taken.only_locks_are_held t l mode e) (ap (λ (x : Hold). not (is_unheld x)) e) in
+          absurd (true≢false (sym (and_parts _ _ its).1 ∙ ap not some))
+
+  -- so its entries have led it to the end
+  nothing_now : (t : ℕ) → held_now plan r t ≡ []
+  nothing_now t = go (held_now plan r t) refl
+    where
+      go : (hs : List Held) → held_now plan r t ≡ hs → hs ≡ []
+      go [] e = refl
+      go (h ∷ hs) e =
+          let first : hold_in (h ∷ hs) h.l.0 ≡ Holds h.mode = rw (eq-eqb h.l.0 h.l.0 refl) refl in
+          absurd (let z : NotHeld ≡ Holds h.mode = sym (unheld t h.l.0) ∙ k.holds t h.l.0 ∙ ap (λ (xs : List Held). hold_in xs h.l.0) e ∙ first in cc)
+
+  at_end : (t : ℕ) → IsAtEnd (operations_of plan t) (place_in plan r t)
+  at_end t = go (was_cut r.state t) refl
+    where
+      go : (b : Bool) → was_cut r.state t ≡ b → IsAtEnd (operations_of plan t) (place_by b (held_now plan r t) (r.next_op t) (waits_on (r.state.log t)))
+      go true e = ap (λ (hs : List Held). reverse hs) (nothing_now t)
+      go false e = let made = all_made t e in rw (done_awake plan r t k made) (omega (arith, k.within t, made))
+
+  -- and takes no lock
+  takes_nothing : (t : ℕ) → r.state.taking t ≡ None
+  takes_nothing t = k.taking t ∙ go (was_cut r.state t) refl
+    where
+      wants : was_cut r.state t ≡ false → (o : Option ℕ) → r.state.wanted t ≡ o → o ≡ None
+      wants e None f = refl
+      wants e (Some l) f =
+          let made = all_made t e in
+          let none : slice_get (operations_of plan t) (r.next_op t) ≡ None = slice_get_past (operations_of plan t) (r.next_op t) made in
+          absurd (rw (done_awake plan r t k made, none) at (k.wants t l f))
+
+      go : (b : Bool) → was_cut r.state t ≡ b → r.state.wanted t ≡ None
+      go true e = k.cut_wants_nothing t e
+      go false e = wants e (r.state.wanted t) refl
+
+-- 2. The law
+
+legal_on_track : (plan : Plan) (r : Run) (cut_short : Bool) → IsOnTrack plan r → (cut_short ≡ false → all_ended plan r ≡ true) → IsLegal plan false cut_short r.state.history
+unfolding EntriesFollowOperations
+legal_on_track plan r cut_short k whole = record {
+  so_far = legal_so_far nobody (config_of plan) r.state false k.lawful.lawful k.sleepers k.no_halts;
+  entries_follow_operations = λ t. record {
+    place = place_in plan r t;
+    leads = k.follows t;
+    whole = λ e. at_end plan r k (whole e) t;
+  };
+  orders_are_legal = λ z e. orders_legal (config_of plan) r.state k.ordered k.taken (takes_nothing plan r k (whole e));
+}
+
+pub runs_are_legal : (plan : Plan) (turns : List ℕ) → IsProper plan → All (λ t. t < length plan.threads) turns → IsLegal plan false true (after_turns plan turns).state.history
+runs_are_legal plan turns p a = legal_on_track plan (after_turns plan turns) true (behind_turns plan turns p a) (λ e. absurd cc)
+
+-- a run that wasn't cut short has come to the end of all its threads
+pub not_cut : (plan : Plan) (k : Course) → is_cut_short (ending_of plan k) ≡ false → all_ended plan k.run ≡ true
+not_cut plan k e = go (all_ended plan k.run) (is_stuck k) e
+  where
+    go : (ended stuck : Bool) → is_cut_short (cond ended (whole_ending k.run.state.history) (cond stuck IsStuck IsTooLong)) ≡ false → ended ≡ true
+    go true stuck e = refl
+    go false true e = absurd cc
+    go false false e = absurd cc
+
+pub courses_are_legal : (plan : Plan) (n : ℕ) → IsProper plan → IsLegal plan false (is_cut_short (ending_of plan (course_after plan n))) (course_after plan n).run.state.history
+courses_are_legal plan n p =
+    legal_on_track plan (course_after plan n).run (is_cut_short (ending_of plan (course_after plan n))) (behind_course plan n p) (not_cut plan (course_after plan n))
+
+pub outcomes_are_legal : (plan : Plan) (chains turns : ℕ) → IsProper plan → HasLegalHistory plan (scheduled_run plan chains turns)
+unfolding scheduled_run
+outcomes_are_legal plan chains turns p = rw (reverse-reverse (course_after plan turns).run.state.history) (courses_are_legal plan turns p)

@@ -1,0 +1,27 @@
+pub mod Histories
+pub mod Rows
+mod OrderHistories
+pub mod LastHeld
+pub mod Table
+pub mod Follows
+pub mod Entries
+pub mod OnTrack
+pub mod Shares
+pub mod Walks
+pub mod TurnsOfWalks
+pub mod TurnsOfWaits
+pub mod TurnsOfGains
+pub mod TurnsOfReleases
+pub mod TurnsOfNotes
+pub mod TurnsOfSleeps
+pub mod TurnsOfOrders
+pub mod Turning
+pub mod KeepingOrder
+pub mod LegalRuns
+pub mod Reaching
+pub mod Stuck
+pub mod OrderedRuns
+pub mod Idle
+pub mod Endings
+pub mod OtherThreads
+pub mod TurnsOfCourses

@@ -1,0 +1,433 @@
+-- The turns of a thread that takes or tries a lock, or takes one back after a wait: it gains or claims it, blocks, or finds
+-- it busy. Their steps may be made, and they leave the run on track.
+use Rattle.std.proofs.Common.{◌≡◌, ◌≢◌, ◌⊎◌, ℕ, suc, ◌<◌, ◌≤◌, Bool, true, false, cond, eqb, List, [], ◌∷◌, ◌++◌, length, Option, Some, None, option_map, refl, sym, ap, inl, inr, arith, eq-eqb, ◌∙◌, subst}
+use Rattle.std.specs.Prelude.{unwrap_or, is_some}
+use Rattle.std.proofs.lemmas.Bool.{not-false, eqb-true}
+use Rattle.std.proofs.lemmas.Option.{none-some}
+use Rattle.lock_model.specs.Counts.{one}
+use Rattle.lock_model.specs.Events.{OfSleep, NoSleep, FallsAsleep, WakesUp, IsHalted, IsHaltedAtLock, WakesOne, WakesAll, of_sleep, fell_asleep, begins_sleep}
+use Rattle.lock_model.specs.Words.{Word, is_free, is_plain, shows_waiters, admits, bits_of}
+use Rattle.lock_model.specs.Plans.{config_of, lock_kind, operations_of}
+use Rattle.lock_model.specs.Operations.{IsProper, hold_in}
+use Rattle.lock_model.specs.Config.{Config}
+use Rattle.lock_model.specs.Holds.{Hold, NotHeld, Holds}
+use Rattle.lock_model.specs.Queues.{lock_queue}
+use Rattle.lock_model.specs.History.{Sections, sections_by, sections_in, open_in, left_in, replaced}
+use Rattle.lock_state.specs.State.{State, Queued, HeldLock, put, put_at, gained_order}
+use Rattle.lock_state.specs.Steps.{Step, Gains, Claims, Stamps, Readies, May, MayAll}
+use Rattle.lock_state.specs.Steps.Items.{IsOnItsWay}
+use Rattle.lock_state.specs.Steps.LockWords.{Asks, begun_after, taking_after, entry_of, MayGain, MayStamp, after_look, after_gain, after_stamp, after_ready}
+use Rattle.lock_state.specs.Steps.SleepQueues.{has_slept, after_enter_sleep}
+use Rattle.lock_state.specs.Steps.Turnstiles.{MustWait, after_enter}
+use Rattle.lock_state.specs.Steps.Lending.{MayClaim, after_claim}
+use Rattle.lock_state.specs.Facts.{FreeMutexShowsNone}
+use Rattle.lock_state.specs.Facts.Sleeps.{is_signalled, signals_noted}
+use Rattle.lock_state.specs.Facts.Waits.{busy}
+use Rattle.lock_state.specs.Run.{Run, ends, does, finds_busy, waits_on, to_release, lock_of_wait, held_now}
+use Rattle.lock_model.specs.declared.plan.Kind.{Kind}
+use Rattle.lock_model.specs.declared.plan.Kind.TheVariants.{Mtx, Rw, Sx}
+use Rattle.lock_model.specs.declared.plan.Mode.{Mode}
+use Rattle.lock_model.specs.declared.plan.Mode.TheVariants.{Excl, Shared}
+use Rattle.lock_model.specs.declared.plan.Op.{Op}
+use Rattle.lock_model.specs.declared.plan.Op.TheVariants.{Take, Try, Sleep}
+use Rattle.lock_model.specs.declared.plan.Plan.{Plan}
+use Rattle.lock_model.specs.declared.plan.QueueName.TheVariants.{Lock}
+use Rattle.lock_model.specs.declared.numbers.LockNo.{LockNo}
+use Rattle.lock_model.specs.declared.numbers.ChanNo.{ChanNo}
+use Rattle.lock_model.specs.declared.turn.StepKind.TheVariants as kind
+use Rattle.lock_model.specs.declared.event.Event.{Event}
+use Rattle.lock_model.specs.declared.event.Event.TheVariants as event
+use Rattle.lock_model.specs.declared.event.Entry.{Entry}
+use Rattle.lock_model.specs.declared.event.Held.{Held}
+use Rattle.run_laws.specs.OnTrack.{IsOnTrack, IsAtOperation}
+use Rattle.sleep_laws.specs.Sleepers.{AsleepAreOnTheirWay, ResumedSlept}
+use Rattle.lock_laws.proofs.Kit.{columns, put_same, put_at_same}
+use Rattle.lock_laws.proofs.Words.{free_is, refused_held}
+use Rattle.lock_laws.proofs.HeldLists.{GainFits, gain_passes, PassesBlock, try_passes, WaitFits, wait_fits, last_is, hold_in-push, gained_order-push}
+use Rattle.lock_laws.proofs.AtTurn.{has_turnstile, has_sleep_queue, shown_head, seen_again}
+use Rattle.run_laws.proofs.TurnsOfWaits.{given_up}
+use Rattle.sleep_laws.proofs.SleepFacts.Entries.{one_channel}
+use Rattle.sleep_laws.proofs.SleepFacts.Known.{asleep}
+use Rattle.lock_laws.proofs.Dealt.{signals_nowhere}
+use Rattle.run_laws.proofs.OnTrack.{KeepsTrack, EndsWell, LetsGoOn, lets_go_on, goes_on, IsWhere, share_in, is_there, now_stands, not_running, put_at_own, noted_behind, none_unnoted, unnamed, acting, acting_in, ends_quietly, IsAwake, awake, is_awake, waits_back, awake_behind, before, behind, left, fit, are_locks, holds_all, all_open, wants_none, wants_it}
+use Rattle.lock_laws.proofs.Sections.{own_section}
+use Rattle.run_laws.proofs.Table.{Taking, anew, back, Gaining, by_taking, by_trying, Entering, on_turnstile, on_sleep_queue, lock_with, mode_left, its_mode}
+
+-- a gain that isn't plain is an exclusive one, of a free rw lock that shows waiters
+pub record IsClaim (kind : Kind) (w : Word) (mode : Mode) : Type 0 where
+  pub exclusive : mode ≡ Excl
+  pub is_rw : kind ≡ Rw
+  pub free : is_free w.holder ≡ true
+  pub shown : shows_waiters w ≡ true
+
+is_claim : (kind : Kind) (w : Word) (mode : Mode) → (kind ≡ Mtx → one (shows_waiters w) ≤ busy w.holder) → admits kind w mode ≡ true → is_plain kind w mode ≡ false → IsClaim kind w mode
+is_claim kind w Shared m e f = absurd cc
+is_claim Sx w Excl m e f = absurd cc
+is_claim Rw w Excl m e f = record { exclusive = refl; is_rw = refl; free = e; shown = not-false (shows_waiters w) f }
+is_claim Mtx w Excl m e f =
+    let shown = ap one (not-false (shows_waiters w) f) in
+    let free = ap busy (free_is w.holder e) in
+    absurd (omega (arith, shown, free, m refl))
+
+-- the section that an entry begins, beside the hold that changes
+gained_section : (b : Bool) (m : Mode) (x y : Hold) → x ≡ y → replaced (cond b (Holds m) NotHeld) x ≡ cond b (Holds m) y
+gained_section true m x y e = refl
+gained_section false m x y e = e
+
+-- a log says that its thread waits where its newest entry is the Sleeps entry
+pub waits_slept : (es : List Entry) (d : ℕ) → waits_on es ≡ Some d → has_slept d es ≡ true
+waits_slept [] d e = absurd cc
+waits_slept (x ∷ es) d e = go (of_sleep x.event) e
+  where
+    go : (o : OfSleep) → fell_asleep o ≡ Some d → begins_sleep o d ≡ true
+    go NoSleep f = absurd (none-some d f)
+    go (FallsAsleep j) f = let same : j ≡ d = cc in eq-eqb j d same
+    go (WakesUp j) f = absurd (none-some d f)
+    go (IsHalted j) f = absurd (none-some d f)
+    go (IsHaltedAtLock l) f = absurd (none-some d f)
+    go (WakesOne j woken) f = absurd (none-some d f)
+    go (WakesAll j woken) f = absurd (none-some d f)
+
+-- 1. What a gain finds: the lock may be gained, what is held and open then, and what its entry asks and says
+
+pub record Finds (plan : Plan) (r : Run) (t : ℕ) (l : LockNo) (mode : Mode) (by_try : Bool) (e : Event) : Type 0 where
+  pub lock : l.0 < length plan.locks
+  pub mutex : lock_kind plan l.0 ≡ Mtx → mode ≡ Excl
+  pub unheld : r.state.held t l.0 ≡ NotHeld
+  pub wants : (r.state.wanted t ≡ Some l.0) ⊎ (r.state.wanted t ≡ None)
+  pub opened : (j : ℕ) → open_in (config_of plan) r.state.history t j ≡ r.state.held t j
+  -- the operation adds the lock to what is held
+  pub adds : held_now plan r t ++ (record { l = l; mode = mode; by_try = by_try }) ∷ [] ≡ behind plan r t
+  -- the entry begins the lock's section, in the mode; it lets its thread go on, and ends what it takes
+  pub section : (j : ℕ) → (sections_by (config_of plan) e j (sections_in (config_of plan) r.state.history t j)).now
+      ≡ replaced (cond (eqb l.0 j) (Holds mode) NotHeld) (open_in (config_of plan) r.state.history t j)
+  pub begun : (f : ℕ → ℕ → Bool) → begun_after (config_of plan) e t f ≡ put_at f t l.0 true
+  pub lets : LetsGoOn e
+  pub taken : taking_after e (r.state.taking t) ≡ None
+  pub asks : (n : State) → n.history ≡ r.state.history → n.woken_from ≡ r.state.woken_from → n.held t l.0 ≡ Holds mode
+      → n.held_locks t ≡ record { lock = l.0; by_try = by_try } ∷ r.state.held_locks t → Asks (config_of plan) n t e
+
+module _ (plan : Plan) (r : Run) (t : ℕ) (p : IsProper plan) (k : IsOnTrack plan r) (lt : t < length plan.threads) where
+  abbrev c : Config
+  c = config_of plan
+
+  abbrev s : State
+  s = r.state
+
+  -- a take, or a try
+  anew_finds : (l : LockNo) (mode : Mode) (by_try : Bool) (e : Event) → IsAwake s t → GainFits plan l mode by_try (before plan r t) (behind plan r t)
+      → ((s.wanted t ≡ Some l.0) ⊎ (s.wanted t ≡ None))
+      → ((j : ℕ) (x : Sections) → (sections_by c e j x).now ≡ replaced (cond (eqb l.0 j) (Holds mode) NotHeld) x.now)
+      → ((f : ℕ → ℕ → Bool) → begun_after c e t f ≡ put_at f t l.0 true) → LetsGoOn e → taking_after e (s.taking t) ≡ None
+      → ((n : State) → (n.held t l.0 ≡ Holds mode) → (open_in c n.history t l.0 ≡ NotHeld) → (others : List HeldLock) → n.held_locks t ≡ record { lock = l.0; by_try = by_try } ∷ others → Asks c n t e)
+      → Finds plan r t l mode by_try e
+  anew_finds l mode by_try e up fits wants section begun lets taken asks = record {
+    lock = fits.lock;
+    mutex = fits.mutex;
+    unheld = holds_all plan r t k up l.0 ∙ fits.unheld;
+    wants = wants;
+    opened = all_open plan r t k up.no_wait;
+    adds = rw (up.uncut, up.no_wait) fits.behind;
+    section = λ j. section j (sections_in c s.history t j);
+    begun = begun;
+    lets = lets;
+    taken = taken;
+    asks = λ n same woken held listed.
+        asks n held (ap (λ es. open_in c es t l.0) same ∙ all_open plan r t k up.no_wait l.0 ∙ holds_all plan r t k up l.0 ∙ fits.unheld) (s.held_locks t) listed;
+  }
+
+  -- 2. A wait that is over: the lock was released, and is taken back as it was held
+
+  module _ (d : ChanNo) (e : ℕ) (w : waits_on (s.log t) ≡ Some e) (i : IsAtOperation plan r t (Some (Sleep d))) where
+    abbrev pub wait_lock : ℕ
+    wait_lock = c.chan_lock d.0
+
+    same_chan : e ≡ d.0
+    same_chan = let at = k.waiting t e w in cc
+
+    pub waits : waits_on (s.log t) ≡ Some d.0
+    waits = w ∙ ap Some same_chan
+
+    pub wait_finds : WaitFits plan d.0 (before plan r t) (behind plan r t)
+    wait_finds = wait_fits plan d (before plan r t) (behind plan r t) (fit plan r t p (Sleep d) i.next)
+
+    its_lock : lock_of_wait c s t ≡ Some wait_lock
+    its_lock = ap (λ o. option_map c.chan_lock o) waits
+
+    released : s.held t wait_lock ≡ NotHeld
+    released = given_up (s.held t) wait_lock (ap (to_release (s.held t)) (sym its_lock) ∙ i.free.released)
+
+    -- its thread was woken from the channel by a signal
+    slept : has_slept d.0 (s.log t) ≡ true
+    slept = waits_slept (s.log t) d.0 waits
+
+    pub was_woken : s.woken_from t ≡ Some d.0
+    unfolding ResumedSlept AsleepAreOnTheirWay
+    was_woken = go (s.woken_from t) refl
+      where
+        none : (v : ℕ) → v < c.threads → signals_noted t (s.unstamped v) (s.marked v) ≡ 0
+        none v l = rw (none_unnoted plan r v k) (signals_nowhere c s t k.lawful.lawful v l (unnamed plan r t k i.running))
+
+        go : (o : Option ℕ) → s.woken_from t ≡ o → o ≡ Some d.0
+        go None f =
+            let a = asleep k.lawful.lawful k.sleepers t d.0 slept none (ap is_signalled i.running) f in
+            absurd (none-some t (k.sleepers.asleep_are_on_their_way t d.0 a (unnamed plan r t k i.running)).2)
+        go (Some x) f = ap Some (one_channel x d.0 (s.log t) (k.sleepers.resumed_slept t x f) slept)
+
+    left_so : left_in c s.history t wait_lock ≡ hold_in (before plan r t) wait_lock
+    left_so = k.left t wait_lock its_lock
+
+    left_mode : left_in c s.history t wait_lock ≡ Holds (mode_left plan r t d)
+    left_mode = its_mode (left_in c s.history t wait_lock) (λ z. wait_finds.held (sym left_so ∙ z))
+
+    back_opened : (j : ℕ) → open_in c s.history t j ≡ s.held t j
+    back_opened j = k.sections t j ∙ rw its_lock (go (eqb wait_lock j) refl)
+      where
+        go : (b : Bool) → eqb wait_lock j ≡ b → cond b NotHeld (s.held t j) ≡ s.held t j
+        go true x = sym (subst (λ m. s.held t m ≡ NotHeld) (eqb-true wait_lock j x) released)
+        go false x = refl
+
+    back_section : (j : ℕ) → (sections_by c (event.Woke d) j (sections_in c s.history t j)).now ≡ replaced (cond (eqb wait_lock j) (Holds (mode_left plan r t d)) NotHeld) (open_in c s.history t j)
+    back_section j = ap (λ x. replaced x (open_in c s.history t j)) (go (eqb wait_lock j) refl)
+      where
+        go : (b : Bool) → eqb wait_lock j ≡ b → cond b (left_in c s.history t j) NotHeld ≡ cond b (Holds (mode_left plan r t d)) NotHeld
+        go true x = subst (λ m. left_in c s.history t m ≡ Holds (mode_left plan r t d)) (eqb-true wait_lock j x) left_mode
+        go false x = refl
+
+    back_finds : Finds plan r t (lock_with plan d) (mode_left plan r t d) false (event.Woke d)
+    back_finds = record {
+      lock = (are_locks plan r t p).within wait_lock wait_finds.held;
+      mutex = (are_locks plan r t p).mutexes wait_lock (mode_left plan r t d) (sym left_so ∙ left_mode);
+      unheld = released;
+      wants = inl (wants_it plan r t k (back d e w) i);
+      opened = back_opened;
+      adds = rw (i.uncut, its_lock, released) (last_is (lock_with plan d) (mode_left plan r t d) (before plan r t) wait_finds.last (are_locks plan r t p).apart (sym left_so ∙ left_mode) ∙ wait_finds.same);
+      section = back_section;
+      begun = λ f. refl;
+      lets = lets_go_on refl refl refl;
+      taken = refl;
+      asks = λ n same woken held listed.
+          let at : left_in c n.history t wait_lock ≡ Holds (mode_left plan r t d) = ap (λ es. left_in c es t wait_lock) same ∙ left_mode in
+          (record { held = held ∙ sym at; holds = λ z. let y : NotHeld ≡ Holds (mode_left plan r t d) = sym z ∙ held in cc; closed = ap (λ es. open_in c es t wait_lock) same ∙ back_opened wait_lock ∙ released }, ap (λ f. f t) woken ∙ was_woken);
+    }
+
+  -- 3. A gain
+
+  taking_finds : {l : LockNo} {mode : Mode} {op : Op} {e : Event} → Taking plan r t l mode op e → IsAtOperation plan r t (Some op) → Finds plan r t l mode false e
+  taking_finds (anew l mode j e) i =
+      let up = is_awake plan r t k (Take l mode) i refl in
+      let f = fit plan r t p (Take l mode) i.next in
+      anew_finds l mode false (event.Locked l mode) up (gain_passes plan l mode false _ _ f.passes f.behind) (inl (wants_it plan r t k (anew l mode j e) i))
+      (λ j x. refl) (λ g. refl) (lets_go_on refl refl refl) refl (λ n held closed others listed. (record { held = held; closed = closed }, record { others = others; last = listed }))
+  taking_finds (back d e w) i = back_finds d e w i
+
+  pub finds : {l : LockNo} {mode : Mode} {op : Op} {by_try : Bool} {e : Event} → Gaining plan r t l mode op by_try e → IsAtOperation plan r t (Some op) → Finds plan r t l mode by_try e
+  finds (by_taking g) i = taking_finds g i
+  finds (by_trying l mode past) i =
+      let up = is_awake plan r t k (Try l mode past) i refl in
+      let none = wants_none plan r t k up.no_wait (Try l mode past) i.next refl in
+      let f = fit plan r t p (Try l mode past) i.next in
+      anew_finds l mode true (event.Tried l mode) up (gain_passes plan l mode true _ _ f.passes f.behind) (inr none)
+      (λ j x. refl) (λ g. refl) (lets_go_on refl refl refl) (k.taking t ∙ none)
+      (λ n held closed others listed. (record { held = held; closed = closed }, record { others = others; last = listed }))
+
+  module _ {l : LockNo} {mode : Mode} {op : Op} {by_try : Bool} {noted : Event} (g : Gaining plan r t l mode op by_try noted) (i : IsAtOperation plan r t (Some op)) where
+    found : Finds plan r t l mode by_try noted
+    found = finds g i
+
+    -- plain, or a claim
+
+    may_gain : admits (c.kind l.0) (s.word l.0) mode ≡ true → is_plain (c.kind l.0) (s.word l.0) mode ≡ true → MayGain c s t l.0 mode
+    may_gain e f = record { thread = lt; lock = found.lock; admitted = e; plainly = f; unheld = found.unheld; acting = acting plan r t k i.running; wants = found.wants }
+
+    claims : admits (c.kind l.0) (s.word l.0) mode ≡ true → is_plain (c.kind l.0) (s.word l.0) mode ≡ false → IsClaim (c.kind l.0) (s.word l.0) mode
+    unfolding FreeMutexShowsNone
+    claims e f = is_claim (c.kind l.0) (s.word l.0) mode (k.lawful.lawful.waits.free_mutex_shows_none l.0) e f
+
+    abbrev pub head : ℕ
+    head = unwrap_or (s.head (lock_queue l.0)) t
+
+    may_claim : admits (c.kind l.0) (s.word l.0) mode ≡ true → is_plain (c.kind l.0) (s.word l.0) mode ≡ false → MayClaim c s t l.0 head
+    may_claim e f =
+        let claim = claims e f in
+        let stands = shown_head c s l.0 k.lawful.lawful claim.shown in
+        record {
+          thread = lt;
+          lock = found.lock;
+          kind = claim.is_rw;
+          free = claim.free;
+          shown = claim.shown;
+          head = rw stands.1 refl;
+          unheld = found.unheld;
+          acting = acting plan r t k i.running;
+          wants = found.wants;
+        }
+
+    -- the entry may be made behind either
+    may_stamp : (n : State) → n.blocked_on t ≡ s.blocked_on t → n.wait t ≡ s.wait t → n.history ≡ s.history → n.woken_from ≡ s.woken_from → n.held t l.0 ≡ Holds mode
+        → n.held_locks t ≡ record { lock = l.0; by_try = by_try } ∷ s.held_locks t → MayStamp c n t noted
+    may_stamp n named says same woken held listed = record { thread = lt; acting = acting_in plan r t k n named says i.running; asks = found.asks n same woken held listed }
+
+    pub may_gain_all : admits (c.kind l.0) (s.word l.0) mode ≡ true → is_plain (c.kind l.0) (s.word l.0) mode ≡ true → MayAll c s (Gains t l.0 mode by_try ∷ Stamps t noted ∷ [])
+    unfolding after_gain
+    may_gain_all e f = (may_gain e f, (may_stamp (after_gain s t l.0 mode by_try) refl refl refl refl (put_at_same s.held t l.0 (Holds mode)) (put_same s.held_locks t _), tt))
+
+    pub may_claim_all : admits (c.kind l.0) (s.word l.0) mode ≡ true → is_plain (c.kind l.0) (s.word l.0) mode ≡ false → MayAll c s (Claims t l.0 head by_try ∷ Stamps t noted ∷ [])
+    unfolding after_claim
+    may_claim_all e f =
+        let held = put_at_same s.held t l.0 (Holds Excl) ∙ ap Holds (sym (claims e f).exclusive) in
+        (may_claim e f, (may_stamp (after_claim c s t l.0 head by_try) refl refl refl refl held (put_same s.held_locks t _), tt))
+
+    -- what either leaves
+
+    abbrev gained : Held
+    gained = record { l = l; mode = mode; by_try = by_try }
+
+    abbrev entry : Entry
+    entry = entry_of s t noted
+
+    ends_gained : (n : State) → n.log ≡ put s.log t (entry ∷ s.log t) → n.history ≡ entry ∷ s.history → n.held ≡ put_at s.held t l.0 (Holds mode)
+        → n.held_locks ≡ put s.held_locks t (record { lock = l.0; by_try = by_try } ∷ s.held_locks t)
+        → n.has_begun ≡ begun_after c noted t (put_at s.has_begun t l.0 false) → n.wanted ≡ put s.wanted t None → n.taking ≡ put s.taking t (taking_after noted (s.taking t)) → n.noted ≡ put s.noted t None
+        → EndsWell plan r t (suc (r.next_op t)) noted n
+    unfolding after_stamp
+    ends_gained n log history held listed begun wanted taking unnoted = record {
+      awake = awake_behind r t noted n found.lets i.uncut log;
+      no_halt = found.lets.no_halt;
+      history = history;
+      within = left plan r t op i.next;
+      holds = λ j.
+          holds j ∙ ap (cond (eqb l.0 j) (Holds mode)) (k.holds t j) ∙ sym (hold_in-push (held_now plan r t) gained j (sym (k.holds t l.0) ∙ found.unheld))
+          ∙ ap (λ (hs : List Held). hold_in hs j) found.adds;
+      listed = ap (λ f. f t) listed ∙ put_same s.held_locks t _ ∙ ap (λ hs. record { lock = l.0; by_try = by_try } ∷ hs) (k.listed t) ∙ sym (gained_order-push (held_now plan r t) gained)
+          ∙ ap gained_order found.adds;
+      sections = λ j.
+          ap (λ es. open_in c es t j) history ∙ own_section c s t noted j ∙ found.section j ∙ gained_section (eqb l.0 j) mode (open_in c s.history t j) (s.held t j) (found.opened j)
+          ∙ sym (holds j);
+      begun = λ j x. ap (λ (f : ℕ → ℕ → Bool). f t j) (begun ∙ found.begun (put_at s.has_begun t l.0 false)) ∙ began j (λ z. x (ap (λ (f : ℕ → ℕ → Hold). f t j) held ∙ z));
+      wants = ap (λ f. f t) wanted ∙ put_same s.wanted t None;
+      taking = ap (λ f. f t) taking ∙ put_same s.taking t _ ∙ found.taken;
+      unnoted = ap (λ f. f t) unnoted ∙ put_same s.noted t None;
+    }
+      where
+        holds : (j : ℕ) → n.held t j ≡ cond (eqb l.0 j) (Holds mode) (s.held t j)
+        holds j = ap (λ (f : ℕ → ℕ → Hold). f t j) held ∙ put_at_own s.held t l.0 (Holds mode) j
+
+        began : (j : ℕ) → put_at s.held t l.0 (Holds mode) t j ≢ NotHeld → put_at (put_at s.has_begun t l.0 false) t l.0 true t j ≡ true
+        began j = grind (arith, columns, k.begun t j)
+
+    pub gained_keeps : KeepsTrack plan r t (ends r t kind.Gain (Gains t l.0 mode by_try ∷ Stamps t noted ∷ []))
+    unfolding after_gain after_stamp
+    gained_keeps = goes_on plan r t (suc (r.next_op t)) kind.Gain (Gains t l.0 mode by_try ∷ Stamps t noted ∷ []) noted k (tt, ((λ d f. refl), tt)) k.lawful.nothing_out k.lawful.queued_stands
+        (noted_behind plan r t noted k) (ends_gained _ refl refl refl refl refl refl refl refl)
+
+    pub claimed_keeps : admits (c.kind l.0) (s.word l.0) mode ≡ true → is_plain (c.kind l.0) (s.word l.0) mode ≡ false
+        → KeepsTrack plan r t (ends r t kind.Claim (Claims t l.0 head by_try ∷ Stamps t noted ∷ []))
+    unfolding after_claim after_stamp
+    claimed_keeps e f = goes_on plan r t (suc (r.next_op t)) kind.Claim (Claims t l.0 head by_try ∷ Stamps t noted ∷ []) noted k (tt, ((λ d f. refl), tt)) k.lawful.nothing_out k.lawful.queued_stands
+        (noted_behind plan r t noted k) (ends_gained _ refl refl (ap (λ m. put_at s.held t l.0 (Holds m)) (sym (claims e f).exclusive)) refl refl refl refl refl)
+
+  -- 4. A take, or a taking back, whose lock refuses it blocks
+
+  module _ {l : LockNo} {mode : Mode} {op : Op} {noted : Event} (g : Taking plan r t l mode op noted) (i : IsAtOperation plan r t (Some op)) where
+    takes : Finds plan r t l mode false noted
+    takes = taking_finds g i
+
+    its_turnstile : s.turnstile t ≡ Some (unwrap_or (s.turnstile t) t)
+    its_turnstile = let x = has_turnstile c s t k.lawful.lawful (unnamed plan r t k i.running) in rw x.1 refl
+
+    its_sleep_queue : s.sleep_queue t ≡ Some (unwrap_or (s.sleep_queue t) t)
+    its_sleep_queue = let x = has_sleep_queue c s t k.lawful.lawful (unnamed plan r t k i.running) in rw x.1 refl
+
+    must_wait : admits (c.kind l.0) (s.word l.0) mode ≡ false → MustWait c (after_ready s t) t l.0 mode
+    unfolding after_ready
+    must_wait e = record {
+      thread = lt;
+      lock = takes.lock;
+      held = refused_held (c.kind l.0) (s.word l.0) mode takes.mutex e;
+      refused = e;
+      queued = put_same s.wait t Queued;
+      unnamed = unnamed plan r t k i.running;
+      wants = takes.wants;
+      no_walk = i.free.no_walk;
+      sections = λ j m f. takes.opened j ∙ f;
+    }
+
+    may_enter : {step : Step} → admits (c.kind l.0) (s.word l.0) mode ≡ false → Entering plan r t l.0 mode step → May c (after_ready s t) step
+    unfolding after_ready
+    may_enter e (on_turnstile f) = record { waits = must_wait e; turnstile = f; mutex = takes.mutex; own = its_turnstile }
+    may_enter e (on_sleep_queue f) = record { waits = must_wait e; sleeps = f; own = its_sleep_queue }
+
+    pub may_enter_all : {step : Step} → admits (c.kind l.0) (s.word l.0) mode ≡ false → Entering plan r t l.0 mode step → MayAll c s (Readies t (Lock l) ∷ step ∷ [])
+    may_enter_all e f = (record { thread = lt; running = i.running }, (may_enter e f, tt))
+
+    -- it isn't on its way to a channel
+    off : IsOnItsWay (after_ready s t) t → ⊥
+    unfolding after_ready
+    off w = go g i
+      where
+        go : {x : LockNo} {m : Mode} {o : Op} {e : Event} → Taking plan r t x m o e → IsAtOperation plan r t (Some o) → ⊥
+        go (anew x m j e) at = let z = sym w.slept ∙ waits_back (s.log t) ∙ ap is_some (awake plan r t k (Take x m) at.next refl) in cc
+        go (back d e waits) at = none-some d.0 (sym w.unwoken ∙ was_woken d e waits at)
+
+    -- it wants the lock before and behind
+    there : IsWhere plan t (record (share_in plan s t (r.next_op t)) { wanted = put s.wanted t (Some l.0) t })
+    there = rw (put_same s.wanted t (Some l.0), ← wants_it plan r t k g i) (is_there plan r t k)
+
+    pub entered_keeps : {step : Step} → Entering plan r t l.0 mode step → KeepsTrack plan r t (does kind.Enter (Readies t (Lock l) ∷ step ∷ []))
+    unfolding after_ready after_enter after_enter_sleep
+    entered_keeps (on_turnstile f) = record {
+      asks = (tt, (off, tt));
+      out = k.lawful.nothing_out;
+      stands = now_stands s.wait s.blocked_on t (lock_queue l.0) k.lawful.queued_stands;
+      noted = none_unnoted plan r t k;
+      no_halts = k.no_halts;
+      there = there;
+      back = λ d e runs. not_running s.wait t runs;
+    }
+    entered_keeps (on_sleep_queue f) = record {
+      asks = (tt, (off, tt));
+      out = k.lawful.nothing_out;
+      stands = now_stands s.wait s.blocked_on t (lock_queue l.0) k.lawful.queued_stands;
+      noted = none_unnoted plan r t k;
+      no_halts = k.no_halts;
+      there = there;
+      back = λ d e runs. not_running s.wait t runs;
+    }
+
+  -- 5. A try whose lock refuses it finds it busy
+
+  module _ (l : LockNo) (mode : Mode) (past : ℕ) (i : IsAtOperation plan r t (Some (Try l mode past))) where
+    abbrev seen : ℕ
+    seen = bits_of (s.word l.0)
+
+    tried : Finds plan r t l mode true (event.Tried l mode)
+    tried = finds (by_trying l mode past) i
+
+    passes : PassesBlock (operations_of plan t) (r.next_op t) past
+    passes = try_passes plan p t (r.next_op t) l mode past i.next
+
+    may_stamp_busy : admits (c.kind l.0) (s.word l.0) mode ≡ false → MayStamp c (after_look s t l.0 false) t (event.Busy l seen)
+    unfolding after_look
+    may_stamp_busy e = record {
+      thread = lt;
+      acting = acting_in plan r t k (after_look s t l.0 false) refl refl i.running;
+      asks = (
+        mode,
+        rw (seen_again c s l.0 k.lawful.lawful) (record {
+          unheld = tried.unheld;
+          looked = put_same s.last_look t (Some (record { lock = l.0; word = s.word l.0 }));
+          refused = e;
+          mutex = tried.mutex;
+        }),
+      );
+    }
+
+    pub may_find_busy_all : admits (c.kind l.0) (s.word l.0) mode ≡ false → MayAll c s (finds_busy r t l past).steps
+    may_find_busy_all e = (record { thread = lt; lock = tried.lock; room = λ e. absurd cc }, (may_stamp_busy e, tt))
+
+    pub found_busy_keeps : KeepsTrack plan r t (finds_busy r t l past)
+    unfolding after_look after_stamp
+    found_busy_keeps = goes_on plan r t past kind.Note (finds_busy r t l past).steps (event.Busy l seen) k (tt, ((λ d f. refl), tt)) k.lawful.nothing_out k.lawful.queued_stands
+        (noted_behind plan r t (event.Busy l seen) k)
+        (ends_quietly plan r t past (Try l mode past) (event.Busy l seen) _ k i (record { no_take = refl; no_wait = refl; within = passes.within; same = sym passes.leaves; quiet = refl; lets = lets_go_on refl refl refl }) refl refl refl refl refl refl refl refl)

@@ -1,0 +1,58 @@
+-- A walk begins at a turnstile and goes on to turnstiles.
+use Rattle.std.proofs.Common.{◌≡◌, ℕ, Bool, true, false, List, [], ◌∷◌, Option, Some, None}
+use Rattle.lock_model.specs.Config.{Config}
+use Rattle.lock_model.specs.Queues.{lock_queue}
+use Rattle.lock_model.specs.Words.{is_turnstile, owner_of}
+use Rattle.lock_state.specs.State.{State, Walk, NoWalk, AtLock, put}
+use Rattle.lock_state.specs.Steps.{Step, Seeks, Looks, TakesItem, GivesItem, Gains, Drops, Stamps, Readies, Unreadies, Enters, Opens, EntersSleepQueue, OpensSleepQueue, Adds, Wakes, Marks, Resumes, Claims, Lends, Shifts, EndsWalk, Admits, Refuses, May, MayAll, after, after_all}
+use Rattle.lock_state.specs.Steps.Items.{after_take, after_give}
+use Rattle.lock_state.specs.Steps.LockWords.{after_seek, after_look, after_gain, after_drop, after_stamp, after_ready, after_unready}
+use Rattle.lock_state.specs.Steps.Turnstiles.{walk_up, after_enter, after_open, after_mark, after_resume}
+use Rattle.lock_state.specs.Steps.SleepQueues.{after_enter_sleep, after_open_sleep, after_add, after_wake}
+use Rattle.lock_state.specs.Steps.Lending.{walk_to, after_claim, after_lend, after_shift, after_end_walk}
+use Rattle.lock_state.specs.Steps.Orders.{after_admit, after_refuse}
+use Rattle.run_laws.specs.OnTrack.{WalksAtTurnstiles}
+use Rattle.lock_laws.proofs.Kit.{at_put}
+
+module _ (c : Config) (s : State) (h : WalksAtTurnstiles c s.walk) where
+  -- one thread's walk goes on
+  moved : (t : ℕ) (w : Walk) → ((l : ℕ) → w ≡ AtLock l → is_turnstile (c.kind l) ≡ true) → WalksAtTurnstiles c (put s.walk t w)
+  moved t w here u l = at_put (λ v x. x ≡ AtLock l → is_turnstile (c.kind l) ≡ true) s.walk t w (here l) (λ v ne. h v l) u
+
+  up : (k : ℕ) (o : Option ℕ) → is_turnstile (c.kind k) ≡ true → (l : ℕ) → walk_up k o ≡ AtLock l → is_turnstile (c.kind l) ≡ true
+  up k None e l i = absurd cc
+  up k (Some o) e l i = let same : k ≡ l = cc in rw same at e
+
+  to : (o : ℕ) (b : Bool) (l : ℕ) → walk_to o b ≡ AtLock l → is_turnstile (c.kind l) ≡ true
+  to o true l i = absurd cc
+  to o false l i = absurd cc
+
+  keeps : (step : Step) → May c s step → WalksAtTurnstiles c (after c s step).walk
+  unfolding after_seek after_look after_take after_give after_gain after_drop after_stamp after_ready after_unready after_enter after_open after_mark after_resume after_enter_sleep after_open_sleep after_add after_wake after_claim after_lend after_shift after_end_walk after_admit after_refuse
+  keeps (Seeks t l by_try) g = h
+  keeps (Looks t l in_round) g = h
+  keeps (TakesItem t i) g = h
+  keeps (GivesItem t i) g = h
+  keeps (Gains t l mode by_try) g = h
+  keeps (Drops t l mode) g = h
+  keeps (Stamps t e) g = h
+  keeps (Readies t q) g = h
+  keeps (Unreadies t q) g = h
+  keeps (Enters t l mode x) g = moved t _ (up l (owner_of (s.word l).holder) g.turnstile)
+  keeps (Opens t l mode) g = h
+  keeps (EntersSleepQueue t l mode x) g = h
+  keeps (OpensSleepQueue t l mode) g = h
+  keeps (Adds t d x) g = h
+  keeps (Wakes t d all) g = h
+  keeps (Marks t m ms) g = h
+  keeps (Resumes t q cause) g = h
+  keeps (Claims t l x by_try) g = h
+  keeps (Lends t l o x) g = moved t _ (to o _)
+  keeps (Shifts t o l) g = moved t _ (up l (s.owner (lock_queue l)) g.turnstile)
+  keeps (EndsWalk t) g = moved t NoWalk (λ l i. absurd cc)
+  keeps (Admits t l) g = h
+  keeps (Refuses t l k) g = h
+
+pub walks_keep : (c : Config) (s : State) (steps : List Step) → MayAll c s steps → WalksAtTurnstiles c s.walk → WalksAtTurnstiles c (after_all c s steps).walk
+walks_keep c s [] g h = h
+walks_keep c s (step ∷ steps) g h = walks_keep c (after c s step) steps g.1 (keeps c s h step g.0)

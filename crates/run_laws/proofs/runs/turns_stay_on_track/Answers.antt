@@ -1,0 +1,5 @@
+use Rattle.run_laws.proofs.Turning as law
+use Rattle.run_laws.proofs.runs.turns_stay_on_track.Goals as goal
+
+pub returns : goal.returns
+returns c = law.stays

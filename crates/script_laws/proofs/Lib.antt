@@ -1,0 +1,11 @@
+pub mod AcceptedLists
+pub mod AcceptedBlocks
+pub mod Accepted
+mod CanonicalWords
+mod CanonicalReading
+mod CanonicalNames
+mod CanonicalOperations
+mod CanonicalThreads
+mod CanonicalKept
+mod CanonicalDeclarations
+mod CanonicalTexts

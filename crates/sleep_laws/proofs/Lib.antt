@@ -1,0 +1,3 @@
+pub mod SleepFacts
+mod SleepGuards
+pub mod LegalSoFar

@@ -1,0 +1,60 @@
+-- An enter on a lock's queue, of either sort, keeps the facts of sleepers: its thread doesn't sleep on a channel.
+use Rattle.std.proofs.Common.{◌≡◌, ℕ, true, Option, Some, None, arith}
+use Rattle.lock_model.specs.Config.{Config}
+use Rattle.lock_model.specs.Law.{is_asleep}
+use Rattle.lock_model.specs.Queues.{lock_queue}
+use Rattle.lock_model.specs.declared.plan.Mode.{Mode}
+use Rattle.lock_model.specs.declared.plan.QueueName.{QueueName}
+use Rattle.lock_state.specs.State.{State, put, put_queue}
+use Rattle.lock_state.specs.Steps.Turnstiles.{after_enter}
+use Rattle.lock_state.specs.Steps.SleepQueues.{after_enter_sleep}
+use Rattle.lock_state.specs.Steps.Items.{IsOnItsWay}
+use Rattle.lock_state.specs.Facts.{Lawful}
+use Rattle.sleep_laws.specs.Sleepers.{SleepersFit, SleepersSlept, SleepersWantNothing, SleepersAreUnwoken, AsleepStandThere, AsleepAreOnTheirWay, SleepersInOrder, LatecomersAreLater, SleepersKeepBase, SleepersAreExclusive, UnnotedIsFair}
+use Rattle.lock_laws.proofs.Kit.{columns}
+use Rattle.sleep_laws.proofs.SleepFacts.Known.{on_its_way}
+
+module _ {at_work : ℕ → Option ℕ} {c : Config} {s : State} (l : Lawful c s)
+    (h : SleepersFit at_work c s) (t k : ℕ) (unnamed : s.blocked_on t ≡ None)
+    (off : IsOnItsWay s t → ⊥) where
+  abbrev blocked_on : ℕ → Option QueueName
+  blocked_on = put s.blocked_on t (Some (lock_queue k))
+
+  abbrev wanted : ℕ → Option ℕ
+  wanted = put s.wanted t (Some k)
+
+  awake : (d : ℕ) → is_asleep s.history d t ≡ true → ⊥
+  awake d a = off (on_its_way l h t d a unnamed)
+
+  slept : SleepersSlept blocked_on s.log
+  unfolding SleepersSlept
+  slept u d = grind (arith, columns, h.sleepers_slept u d)
+
+  wants : SleepersWantNothing blocked_on wanted
+  unfolding SleepersWantNothing
+  wants u d = grind (arith, columns, h.sleepers_want_nothing u d)
+
+  unwoken : SleepersAreUnwoken blocked_on s.woken_from
+  unfolding SleepersAreUnwoken
+  unwoken u d = grind (arith, columns, h.sleepers_are_unwoken u d)
+
+  there : AsleepStandThere s.history blocked_on
+  unfolding AsleepStandThere
+  there u d q = grind (arith, columns, h.asleep_stand_there u d q, awake d)
+
+  way : AsleepAreOnTheirWay s.history blocked_on s.wait wanted at_work
+  unfolding AsleepAreOnTheirWay
+  way u d = grind (arith, columns, h.asleep_are_on_their_way u d)
+
+  later : LatecomersAreLater s.history blocked_on s.lists
+  unfolding LatecomersAreLater
+  later u d a b = h.latecomers_are_later u d a (grind (arith, columns))
+
+  pub enters : (mode : Mode) (x : ℕ) → SleepersFit at_work c (after_enter s t k mode x)
+  unfolding after_enter put_queue SleepersInOrder LatecomersAreLater SleepersKeepBase SleepersAreExclusive UnnotedIsFair
+  enters mode x = assumption (h, slept, wants, unwoken, there, way, later)
+
+  pub enters_sleep_queue : (mode : Mode) (x : ℕ)
+      → SleepersFit at_work c (after_enter_sleep s t k mode x)
+  unfolding after_enter_sleep put_queue SleepersInOrder LatecomersAreLater SleepersKeepBase SleepersAreExclusive UnnotedIsFair
+  enters_sleep_queue mode x = assumption (h, slept, wants, unwoken, there, way, later)

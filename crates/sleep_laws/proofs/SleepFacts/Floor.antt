@@ -1,0 +1,90 @@
+-- On a running floor who has a channel's chain out is at work on it: each step of a thread of the floor asks of
+-- sleepers what it must, and only where a chain is taken or given back another is at work.
+use Rattle.std.proofs.Common.{◌≡◌, ◌⊎◌, ℕ, ◌%◌, true, Some, None, sym, ap, inl, inr, ◌∙◌, subst}
+use Rattle.std.proofs.lemmas.Bool.{eqb-true}
+use Rattle.lock_model.specs.Config.{Config}
+use Rattle.lock_model.specs.Law.{sleeps_on}
+use Rattle.lock_model.specs.declared.event.Event.{Event}
+use Rattle.lock_model.specs.declared.event.Event.TheVariants.{Sleeps}
+use Rattle.lock_state.specs.State.{State}
+use Rattle.lock_state.specs.Facts.{Lawful}
+use Rattle.lock_state.specs.Steps.LockWords.{after_seek, after_look, after_gain, after_drop, after_stamp, after_ready, after_unready}
+use Rattle.lock_state.specs.Steps.Turnstiles.{after_enter, after_open, after_mark, after_resume}
+use Rattle.lock_state.specs.Steps.SleepQueues.{after_enter_sleep, after_open_sleep, after_add, after_wake}
+use Rattle.lock_state.specs.Steps.Lending.{after_claim, after_lend, after_shift, after_end_walk}
+use Rattle.lock_state.specs.Steps.Items.{Item, SleepChain, IsDoneWith, MayTake, MayGive, item_with, after_take, after_give}
+use Rattle.lock_state.specs.Steps.Orders.{after_admit, after_refuse}
+use Rattle.lock_state.specs.Steps.{Step, TakesItem, GivesItem, Stamps, Unreadies, Enters, EntersSleepQueue, Adds, Wakes, May, HasOut, HasOutForEntry, HasSeen, after, IsFloorStep}
+use Rattle.sleep_laws.specs.Sleepers.{SleepersFit, AsksOfSleepers, AsleepAreOnTheirWay, by_chain}
+use Rattle.lock_laws.proofs.Items.{beside}
+use Rattle.sleep_laws.proofs.SleepFacts.Moves.{moves}
+use Rattle.sleep_laws.proofs.SleepFacts.Steps as core
+
+module _ (chains : ℕ) (c : Config) (s : State) where
+  -- 1. What a step asks
+
+  sleeps_in_chain : (t : ℕ) (e : Event) → HasOutForEntry chains s t e
+      → (d : ℕ) → sleeps_on e d ≡ true → by_chain chains s d ≡ Some t
+  sleeps_in_chain t (Sleeps k) o d x = ap (by_chain chains s) (sym (eqb-true k.0 d x)) ∙ o
+  sleeps_in_chain t other o d x = absurd cc
+
+  asks : (step : Step) → HasOut chains c s step → HasSeen chains c s step
+      → AsksOfSleepers (by_chain chains s) s step
+  asks (Stamps t e) o x = sleeps_in_chain t e o
+  asks (Unreadies t q) o x = x
+  asks (Enters t l mode y) o x = x.off
+  asks (EntersSleepQueue t l mode y) o x = x.off
+  asks (Adds t d y) o x = record { works = o.0; noted = x.stamped }
+  asks (Wakes t d all) o x = o
+  asks other o x = tt
+
+  -- 2. Who is at work behind it
+
+  abbrev Keeps : State → Type 0
+  Keeps n = (u k : ℕ) → s.sleep_chain_with k ≡ Some u → n.sleep_chain_with k ≡ Some u
+
+  -- no chain that is out is taken
+  taken : (t : ℕ) (i : Item) → MayTake c s t i → Keeps (after_take s t i)
+  unfolding after_take
+  taken t i g u k e = elim (beside s i (Some t) (SleepChain k)) [
+    | inl x ↦ absurd (let z : None ≡ Some u = sym g.home ∙ ap (item_with s) x ∙ e in cc)
+    | inr x ↦ x ∙ e
+  ]
+
+  -- and one that is out is given back only where its thread is done with it
+  given : (t : ℕ) (i : Item) → MayGive c s t i → (u k : ℕ) → s.sleep_chain_with k ≡ Some u
+      → IsDoneWith s u (SleepChain k) ⊎ ((after_give s t i).sleep_chain_with k ≡ Some u)
+  unfolding after_give
+  given t i g u k e = elim (beside s i None (SleepChain k)) [
+    | inl x ↦
+        let z : Some t ≡ Some u = sym g.out ∙ ap (item_with s) x ∙ e in
+        let same : t ≡ u = cc in
+        inl (subst (λ v. IsDoneWith s v (SleepChain k)) same (subst (IsDoneWith s t) x g.done))
+    | inr x ↦ inr (x ∙ e)
+  ]
+
+  moved : (step : Step) → May c s step → SleepersFit (by_chain chains s) c (after c s step)
+      → SleepersFit (by_chain chains (after c s step)) c (after c s step)
+  unfolding AsleepAreOnTheirWay after_seek after_look after_gain after_drop after_stamp after_ready after_unready after_enter after_open after_mark after_resume after_enter_sleep after_open_sleep after_add after_wake after_claim after_lend after_shift after_end_walk after_admit after_refuse after_take after_give
+  moved (TakesItem t i) g n =
+      let after = after_take s t i in
+      moves (by_chain chains s) (by_chain chains after) c after n
+      (λ u d a b. taken t i g u (d % chains)) (λ u w e. taken t i g u (w.chan % chains))
+  moved (GivesItem t i) g n =
+      let after = after_give s t i in
+      moves (by_chain chains s) (by_chain chains after) c after n
+      (λ u d a b e. elim (given t i g u (d % chains) e) [
+        | inl done ↦ absurd (done.2 (n.asleep_are_on_their_way u d a b).0 b)
+        | inr out ↦ out
+      ])
+      (λ u w f e. elim (given t i g u (w.chan % chains) e) [
+        | inl done ↦ absurd (let z : None ≡ Some w = sym done.1 ∙ f in cc)
+        | inr out ↦ out
+      ])
+  moved other g n = n
+
+pub keeps : (chains : ℕ) (c : Config) (s n : State) → IsFloorStep chains c s n → Lawful c s
+    → SleepersFit (by_chain chains s) c s → SleepersFit (by_chain chains n) c n
+keeps chains c s n p l h =
+    let there = core.keeps (by_chain chains s) c s p.0 p.1 (asks chains c s p.0 p.2 p.3) l h in
+    subst (λ m. SleepersFit (by_chain chains m) c m) (sym p.4) (moved chains c s p.0 p.1 there)

@@ -1,0 +1,107 @@
+-- A mark keeps the facts of sleepers: who was taken off a channel and is woken was named by its waking.
+use Rattle.std.proofs.Common.{◌≡◌, ℕ, ◌≤◌, true, List, ◌∷◌, Option, Some, None, refl, ap, arith, eq-eqb, subst}
+use Rattle.std.proofs.lemmas.Bool.Decides.{nat_tests}
+use Rattle.lock_model.specs.Config.{Config}
+use Rattle.lock_model.specs.Law.{is_asleep}
+use Rattle.lock_model.specs.Queues.{BySignal, Mark, chan_queue}
+use Rattle.lock_model.specs.declared.plan.QueueName.{QueueName}
+use Rattle.lock_state.specs.State.{State, Wait, Woken, put}
+use Rattle.lock_state.specs.Steps.Turnstiles.{MayMark, after_mark}
+use Rattle.lock_state.specs.Facts.{Lawful, StandingIsQueued}
+use Rattle.lock_state.specs.Facts.Sleeps.{AreSignals, signals, signals_noted, is_signalled}
+use Rattle.sleep_laws.specs.Sleepers.{SleepersFit, NamedAreWoken, MarksAreSignals, WokenBySignal, SleepersSlept, WokenSlept, SleepersWantNothing, SleepersAreUnwoken, AsleepStandThere, AsleepAreOnTheirWay, LatecomersAreLater, UnnotedAreMarked}
+use Rattle.lock_laws.proofs.Kit.{columns, at_put, sum_below-at}
+use Rattle.lock_laws.proofs.Standing.{marked_named}
+use Rattle.sleep_laws.proofs.SleepFacts.Entries.{asleep_unnamed}
+use Rattle.lock_laws.proofs.Dealt.{marked_sum}
+
+module _ {at_work : ℕ → Option ℕ} {c : Config} {s : State} (l : Lawful c s)
+    (h : SleepersFit at_work c s) (t : ℕ) (m : Mark) (ms : List Mark) (g : MayMark c s t m ms) where
+  abbrev blocked_on : ℕ → Option QueueName
+  blocked_on = put s.blocked_on m.thread None
+
+  abbrev wait : ℕ → Wait
+  wait = put s.wait m.thread (Woken m.queue m.cause)
+
+  abbrev marked : ℕ → List Mark
+  marked = put s.marked t ms
+
+  stood : s.blocked_on m.thread ≡ Some m.queue
+  stood = marked_named c s t m ms l g.thread g.marked
+
+  by_signal : (m.cause ≡ BySignal) × AreSignals ms
+  unfolding MarksAreSignals
+  by_signal = subst AreSignals g.marked (h.marks_are_signals t)
+
+  -- 1. Who was named
+
+  named : NamedAreWoken c s.history marked s.unstamped wait s.woken_from
+  unfolding NamedAreWoken StandingIsQueued
+  named u =
+      let q = ap is_signalled (l.waits.standing_is_queued m.thread m.queue stood) in
+      let a = marked_sum c.threads t u s.unstamped s.marked ms g.thread in
+      grind (arith, nat_tests, columns, h.named_are_woken u, g.stamped, g.marked)
+
+  listed : MarksAreSignals marked
+  unfolding MarksAreSignals
+  listed = at_put (λ u x. AreSignals x) s.marked t ms by_signal.1 (λ u ne. h.marks_are_signals u)
+
+  causes : WokenBySignal wait
+  unfolding WokenBySignal
+  causes u q cause = grind (arith, columns, h.woken_by_signal u q cause, by_signal.0)
+
+  took : UnnotedAreMarked s.unstamped marked
+  unfolding UnnotedAreMarked
+  took v w u e =
+      let p = h.unnoted_are_marked v w u e in
+      (grind (arith, columns, p.0, g.stamped), grind (arith, columns, p.1, g.stamped))
+
+  -- 2. Who stands, was woken or sleeps
+
+  slept : SleepersSlept blocked_on s.log
+  unfolding SleepersSlept
+  slept u d = grind (arith, columns, h.sleepers_slept u d)
+
+  woken : WokenSlept wait s.log
+  unfolding WokenSlept SleepersSlept
+  woken u d cause =
+      grind (arith, columns, h.woken_slept u d cause, h.sleepers_slept u d, stood)
+
+  wants : SleepersWantNothing blocked_on s.wanted
+  unfolding SleepersWantNothing
+  wants u d = grind (arith, columns, h.sleepers_want_nothing u d)
+
+  unwoken : SleepersAreUnwoken blocked_on s.woken_from
+  unfolding SleepersAreUnwoken
+  unwoken u d = grind (arith, columns, h.sleepers_are_unwoken u d)
+
+  there : AsleepStandThere s.history blocked_on
+  unfolding AsleepStandThere
+  there u d q = grind (arith, columns, h.asleep_stand_there u d q)
+
+  in_the_list : (d : ℕ) → m.queue ≡ chan_queue d → 1 ≤ signals m.thread (m ∷ ms)
+  in_the_list d q = rw (q, by_signal.0, eq-eqb m.thread m.thread refl) (omega arith)
+
+  -- the marked thread doesn't sleep in the history any more
+  awake : (d : ℕ) → is_asleep s.history d m.thread ≡ true → ⊥
+  unfolding NamedAreWoken AsleepStandThere
+  awake d a =
+      let q = h.asleep_stand_there m.thread d m.queue a stood in
+      let f = in_the_list d q in
+      let z = asleep_unnamed s.history d m.thread a in
+      let in_list = λ (v : ℕ). signals_noted m.thread (s.unstamped v) (s.marked v) in
+      let b = sum_below-at c.threads in_list t g.thread in
+      grind (arith, h.named_are_woken m.thread, g.stamped, g.marked)
+
+  way : AsleepAreOnTheirWay s.history blocked_on wait s.wanted at_work
+  unfolding AsleepAreOnTheirWay
+  way u d = grind (arith, columns, h.asleep_are_on_their_way u d, awake d)
+
+  later : LatecomersAreLater s.history blocked_on s.lists
+  unfolding LatecomersAreLater
+  later u d a b = h.latecomers_are_later u d a (grind (arith, columns, awake d))
+
+  pub marks : SleepersFit at_work c (after_mark c s t m ms)
+  unfolding after_mark
+  marks =
+      assumption (h, named, listed, causes, took, slept, woken, wants, unwoken, there, way, later)

@@ -1,0 +1,103 @@
+-- Gains, claims, the steps on a thread's own wait word that put it on no queue, and those that check the order of
+-- locks, keep the facts of sleepers.
+use Rattle.std.proofs.Common.{◌≡◌, ℕ, Bool, true, false, Option, Some, None, refl, sym, ap, arith, ◌∙◌}
+use Rattle.lock_model.specs.Config.{Config}
+use Rattle.lock_model.specs.Law.{is_asleep}
+use Rattle.lock_model.specs.declared.plan.Mode.{Mode}
+use Rattle.lock_model.specs.declared.plan.QueueName.{QueueName}
+use Rattle.lock_state.specs.State.{State, Wait, Running, Queued, OrderRefused, put}
+use Rattle.lock_state.specs.Steps.LockWords.{is_woken, MayReady, MayUnready, after_gain, after_ready, after_unready}
+use Rattle.lock_state.specs.Steps.Lending.{after_claim}
+use Rattle.lock_state.specs.Steps.Items.{IsOnItsWay}
+use Rattle.lock_state.specs.Steps.Orders.{IsFreeToTake, after_admit, after_refuse}
+use Rattle.lock_state.specs.Facts.{Lawful, StandingIsQueued}
+use Rattle.sleep_laws.specs.Sleepers.{SleepersFit, NamedAreWoken, WokenBySignal, WokenSlept, SleepersWantNothing, AsleepAreOnTheirWay, NoSleepIsHalted}
+use Rattle.lock_laws.proofs.Kit.{columns}
+use Rattle.sleep_laws.proofs.SleepFacts.Known.{on_its_way}
+
+module _ {at_work : ℕ → Option ℕ} {c : Config} {s : State} (h : SleepersFit at_work c s)
+    (t : ℕ) where
+  -- 1. A gain and a claim: the thread wants nothing
+
+  wants : SleepersWantNothing s.blocked_on (put s.wanted t None)
+  unfolding SleepersWantNothing
+  wants u d = grind (arith, columns, h.sleepers_want_nothing u d)
+
+  way : AsleepAreOnTheirWay s.history s.blocked_on s.wait (put s.wanted t None) at_work
+  unfolding AsleepAreOnTheirWay
+  way u d = grind (arith, columns, h.asleep_are_on_their_way u d)
+
+  pub gains : (l : ℕ) (mode : Mode) (by_try : Bool)
+      → SleepersFit at_work c (after_gain s t l mode by_try)
+  unfolding after_gain
+  gains l mode by_try = assumption (h, wants, way)
+
+  pub claims : (l x : ℕ) (by_try : Bool) → SleepersFit at_work c (after_claim c s t l x by_try)
+  unfolding after_claim
+  claims l x by_try = assumption (h, wants, way)
+
+  -- 2. The thread is made ready, or runs
+
+  module _ (w : Wait) (is : is_woken w ≡ false) where
+    pub by_signal : WokenBySignal (put s.wait t w)
+    unfolding WokenBySignal
+    by_signal u q cause = grind (arith, columns, h.woken_by_signal u q cause)
+
+    pub woken_slept : WokenSlept (put s.wait t w) s.log
+    unfolding WokenSlept
+    woken_slept u d cause = grind (arith, columns, h.woken_slept u d cause)
+
+    module _ (was : is_woken (s.wait t) ≡ false)
+        (stays : (d : ℕ) → is_asleep s.history d t ≡ true → s.blocked_on t ≡ None
+        → w ≡ Queued) where
+      named : NamedAreWoken c s.history s.marked s.unstamped (put s.wait t w) s.woken_from
+      unfolding NamedAreWoken
+      named u = grind (arith, columns, h.named_are_woken u)
+
+      still_way : AsleepAreOnTheirWay s.history s.blocked_on (put s.wait t w) s.wanted at_work
+      unfolding AsleepAreOnTheirWay
+      still_way u d = grind (arith, columns, h.asleep_are_on_their_way u d, stays d)
+
+      waits : SleepersFit at_work c (record s { wait = put s.wait t w })
+      waits = assumption (h, by_signal, woken_slept, named, still_way)
+
+  pub readies : MayReady c s t → SleepersFit at_work c (after_ready s t)
+  unfolding after_ready
+  readies g = waits Queued refl (ap is_woken g.running) (λ d a n. refl)
+
+  pub unreadies : MayUnready c s t → Lawful c s → (IsOnItsWay s t → ⊥)
+      → SleepersFit at_work c (after_unready s t)
+  unfolding after_unready
+  unreadies g l off =
+      waits Running refl (ap is_woken g.queued) (λ d a n. absurd (off (on_its_way l h t d a n)))
+
+  -- 3. The thread, which runs, is admitted to a lock or refused it
+
+  module _ (l : ℕ) (g : IsFreeToTake c s t l) (f : Lawful c s) where
+    nowhere : (q : QueueName) → s.blocked_on t ≡ Some q → ⊥
+    unfolding StandingIsQueued
+    nowhere q e = let z : Running ≡ Queued = sym g.running ∙ f.waits.standing_is_queued t q e in cc
+
+    admitted_wants : SleepersWantNothing s.blocked_on (put s.wanted t (Some l))
+    unfolding SleepersWantNothing
+    admitted_wants u d = grind (arith, columns, h.sleepers_want_nothing u d, nowhere)
+
+    admitted_way : AsleepAreOnTheirWay s.history s.blocked_on s.wait (put s.wanted t (Some l)) at_work
+    unfolding AsleepAreOnTheirWay
+    admitted_way u d = grind (arith, columns, h.asleep_are_on_their_way u d, g.running)
+
+    admits_it : SleepersFit at_work c (after_admit c s t l)
+    unfolding after_admit
+    admits_it = assumption (h, admitted_wants, admitted_way)
+
+  refused : (l k : ℕ) → NoSleepIsHalted (put s.noted t (Some (OrderRefused l k)))
+  unfolding NoSleepIsHalted
+  refused l k u q = grind (arith, columns, h.no_sleep_is_halted u q)
+
+  pub refuses : (l k : ℕ) → SleepersFit at_work c (after_refuse s t l k)
+  unfolding after_refuse
+  refuses l k = assumption (h, refused l k)
+
+pub admits : {at_work : ℕ → Option ℕ} {c : Config} {s : State} → Lawful c s → SleepersFit at_work c s
+    → (t l : ℕ) → IsFreeToTake c s t l → SleepersFit at_work c (after_admit c s t l)
+admits f h t l g = admits_it h t l g f

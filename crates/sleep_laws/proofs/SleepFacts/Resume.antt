@@ -1,0 +1,84 @@
+-- A resume keeps the facts of sleepers: who was woken from a channel says so until its next entry.
+use Rattle.std.proofs.Common.{◌≡◌, ℕ, ◌+◌, true, Option, Some, refl, ap, arith, subst}
+use Rattle.lock_model.specs.Config.{Config}
+use Rattle.lock_model.specs.Counts.{some}
+use Rattle.lock_model.specs.Queues.{Cause, BySignal, ByAbort, chan_queue}
+use Rattle.lock_model.specs.declared.plan.QueueName.{QueueName}
+use Rattle.lock_model.specs.declared.plan.QueueName.TheVariants.{Lock, Chan}
+use Rattle.lock_state.specs.State.{State, Running, Woken, Note, put}
+use Rattle.lock_state.specs.Steps.LockWords.{is_taking_back}
+use Rattle.lock_state.specs.Steps.Turnstiles.{MayResume, after_resume, wanted_after, noted_after, woken_from_by}
+use Rattle.lock_state.specs.Steps.SleepQueues.{has_slept}
+use Rattle.lock_state.specs.Facts.{Lawful}
+use Rattle.lock_state.specs.Facts.Sleeps.{is_signalled}
+use Rattle.sleep_laws.specs.Sleepers.{SleepersFit, NamedAreWoken, WokenBySignal, NoSleepIsHalted, WokenSlept, ResumedSlept, SleepersWantNothing, SleepersAreUnwoken, AsleepAreOnTheirWay}
+use Rattle.lock_laws.proofs.Kit.{columns, at_put}
+use Rattle.lock_laws.proofs.Resume.{unnamed}
+use Rattle.sleep_laws.proofs.SleepFacts.Own.{by_signal, woken_slept}
+
+module _ {at_work : ℕ → Option ℕ} {c : Config} {s : State} (l : Lawful c s)
+    (h : SleepersFit at_work c s) (t : ℕ) (q : QueueName) (cause : Cause)
+    (g : MayResume c s t q cause) where
+  abbrev wanted : ℕ → Option ℕ
+  wanted = put s.wanted t (wanted_after c q cause (is_taking_back (s.log t)) (s.wanted t))
+
+  abbrev noted : ℕ → Option Note
+  noted = put s.noted t (noted_after q cause (is_taking_back (s.log t)) (s.noted t))
+
+  abbrev woken_from : ℕ → Option ℕ
+  woken_from = put s.woken_from t (woken_from_by q cause (s.woken_from t))
+
+  named : NamedAreWoken c s.history s.marked s.unstamped (put s.wait t Running) woken_from
+  unfolding NamedAreWoken
+  named u =
+      let e = ap is_signalled g.woken in
+      grind (arith, columns, h.named_are_woken u, by_queue q cause g.woken)
+    where
+      by_queue : (q : QueueName) (cause : Cause) → s.wait t ≡ Woken q cause
+          → some (woken_from_by q cause (s.woken_from t))
+          ≡ is_signalled (Woken q cause) + some (s.woken_from t)
+      by_queue (Lock k) a e = omega arith
+      by_queue (Chan d) ByAbort e = omega arith
+      by_queue (Chan d) BySignal e = grind (arith, h.named_are_woken t, ap is_signalled e)
+
+  unhalted : NoSleepIsHalted noted
+  unfolding NoSleepIsHalted WokenBySignal
+  unhalted u r =
+      let e = h.woken_by_signal t q cause g.woken in
+      grind (arith, columns, h.no_sleep_is_halted u r)
+
+  stands_nowhere : (r : QueueName) → s.blocked_on t ≡ Some r → ⊥
+  stands_nowhere = unnamed c s t q cause g l
+
+  wants : SleepersWantNothing s.blocked_on wanted
+  unfolding SleepersWantNothing
+  wants u d = grind (arith, columns, h.sleepers_want_nothing u d, stands_nowhere (chan_queue d))
+
+  unwoken : SleepersAreUnwoken s.blocked_on woken_from
+  unfolding SleepersAreUnwoken
+  unwoken u d = grind (arith, columns, h.sleepers_are_unwoken u d, stands_nowhere (chan_queue d))
+
+  way : AsleepAreOnTheirWay s.history s.blocked_on (put s.wait t Running) wanted at_work
+  unfolding AsleepAreOnTheirWay
+  way u d = grind (arith, columns, h.asleep_are_on_their_way u d, g.woken)
+
+  resumed_slept : ResumedSlept woken_from s.log
+  unfolding ResumedSlept WokenSlept
+  resumed_slept u d =
+      at_put (λ v o. o ≡ Some d → has_slept d (s.log v) ≡ true) s.woken_from t _
+      (by_queue q cause g.woken) (λ v ne. h.resumed_slept v d) u
+    where
+      by_queue : (q : QueueName) (cause : Cause) → s.wait t ≡ Woken q cause
+          → woken_from_by q cause (s.woken_from t) ≡ Some d → has_slept d (s.log t) ≡ true
+      by_queue (Lock k) a w e = h.resumed_slept t d e
+      by_queue (Chan k) ByAbort w e = h.resumed_slept t d e
+      by_queue (Chan k) BySignal w e =
+          let x : k.0 ≡ d = cc in
+          subst (λ j. has_slept j (s.log t) ≡ true) x (h.woken_slept t k.0 BySignal w)
+
+  pub resumes : SleepersFit at_work c (after_resume c s t q cause)
+  unfolding after_resume
+  resumes =
+      let causes = by_signal h t Running refl in
+      let still_slept = woken_slept h t Running refl in
+      assumption (h, causes, still_slept, named, unhalted, wants, unwoken, way, resumed_slept)

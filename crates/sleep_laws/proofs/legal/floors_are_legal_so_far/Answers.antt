@@ -1,0 +1,7 @@
+use Rattle.std.proofs.Common.{true}
+use Rattle.sleep_laws.proofs.LegalSoFar as law
+use Rattle.sleep_laws.specs.Sleepers.{by_chain}
+use Rattle.sleep_laws.proofs.legal.floors_are_legal_so_far.Goals as goal
+
+pub returns : goal.returns
+returns c chains config s h k = law.legal_so_far (by_chain chains s) config s true h.lawful k (law.may_halt s.history)

@@ -1,0 +1,11 @@
+pub mod Beginning
+pub mod Kit
+pub mod Waking
+pub mod Marking
+pub mod Walking
+pub mod Blocking
+pub mod Ending
+pub mod Holding
+pub mod Stamping
+pub mod Ordering
+pub mod Opening

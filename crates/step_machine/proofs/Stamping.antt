@@ -1,0 +1,130 @@
+-- An entry of the history is made, with what it says of a table, of a thread's base priority, of its wait, or of its being cut.
+use Rattle.std.proofs.Common.{◌≡◌, ℕ, ◌<◌, ◌≤◌, Bool, ◌||◌, List, [], ◌∷◌, ◌++◌, length, reverse, slice_get, slice_set, Option, Some, option_map, refl, sym, ap, subst, ◌∙◌}
+use Rattle.std.proofs.lemmas.List.{reverse-append, length-reverse}
+use Rattle.std.specs.Box.{with_value}
+use Rattle.lock_state.specs.Facts.{Lawful, NextIsNew}
+use Rattle.lock_model.specs.History.{edited, tables_of}
+use Rattle.lock_state.specs.Steps.LockWords.{MayStamp, after_stamp, effective_of, entry_of}
+use Rattle.lock_model.specs.Config.{Config}
+use Rattle.lock_state.specs.State.{State}
+use Rattle.lock_model.specs.Events.{of_sleep, fell_asleep, new_base}
+use Rattle.lock_model.specs.Takes.{is_reversal, has_reversal}
+use Rattle.lock_state.specs.Run.{waits_on, was_cut}
+use Rattle.lock_model.specs.declared.numbers.ChanNo.{ChanNo}
+use Rattle.lock_model.specs.declared.numbers.Prio.{Prio}
+use Rattle.lock_model.specs.declared.numbers.ThreadNo.{ThreadNo}
+use Rattle.lock_model.specs.declared.event.Entry.{Entry}
+use Rattle.lock_model.specs.declared.event.Event.{Event}
+use Rattle.lock_model.specs.declared.event.Event.TheVariants.{Base}
+use Rattle.lock_laws.proofs.Kit.{put_same, put_other}
+use Rattle.thread_records.specs.Loans.{loans_for}
+use Rattle.thread_records.specs.Records.{Record, with_base}
+use Rattle.lock_objects.specs.Represents.{RepresentsQueues, RepresentsSleepers, RepresentsRecord, queue_in, sleepers_in, record_in, columns_of}
+use Rattle.lock_objects.proofs.Records.{with_other_base, none_beyond}
+use Rattle.step_machine.specs.declared.machine.Machine.{Machine}
+use Rattle.step_machine.specs.declared.thread.Thread.{Thread}
+use Rattle.step_machine.specs.Noted.{IsNoted, record_behind}
+use Rattle.step_machine.specs.Represents.{Represents, RepresentsWords, RepresentsThread, RepresentsThreads, RepresentsOrders, thread_in, thread_of}
+use Rattle.step_machine.specs.Steps.{progress_of}
+use Rattle.step_machine.proofs.Kit.{OthersStay, thread_changed, record_of, aside_stays}
+
+-- 1. The thread
+
+-- the thread with another record in its box, with another channel on which it waits, and cut or not
+abbrev pub noted : Thread → Option ChanNo → Bool → Record → Thread
+noted th waits_on cut r = record th { «record» = with_value th.record r; waits_on = waits_on; cut = cut }
+
+pub is_noted : (e : Event) (t i : ℕ) (ths : List Thread) (th : Thread) (w : Option ChanNo) (b : Bool) (r : Record) → i ≡ t → slice_get ths t ≡ Some th → option_map (λ d. d.0) w ≡ fell_asleep (of_sleep e) → b ≡ (is_reversal e || th.cut) → r ≡ record_behind (new_base e) th.record.value
+    → IsNoted e t ths (slice_set ths i (noted th w b r))
+is_noted e t i ths th w b r at was waits cut new = record {
+  before = th;
+  behind = noted th w b r;
+  was = was;
+  is = ap (λ (j : ℕ). slice_set ths j (noted th w b r)) at;
+  its_record = new;
+  waits_on = waits;
+  its_cut = cut;
+  others = refl;
+}
+
+-- an event that sets a base sets that of the record, and any other event leaves the record as it is
+pub base_set : {e : Event} (p : Prio) (r : Record) → e ≡ Base p → with_base p.0 r ≡ record_behind (new_base e) r
+base_set p r is = ap (λ x. record_behind (new_base x) r) (sym is)
+
+pub no_base_set : (e : Event) (r : Record) → ((p : Prio) → e ≡ Base p → ⊥) → r ≡ record_behind (new_base e) r
+no_base_set (Base p) r none = absurd (none p refl)
+no_base_set e r none = refl
+
+module _ (c : Config) (s : State) (t : ℕ) where
+  others : (e : Event) → OthersStay s (after_stamp c s t e) t
+  unfolding after_stamp
+  others (Base p) u ne = λ i. record (thread_in s u) {
+    its_record = record (record_in s u) { base = put_other s.base t p.0 u (λ e. ne (sym e)) i; effective = put_other s.effective t (effective_of c (s.loan t) p.0) u (λ e. ne (sym e)) i };
+    chan = waits_on (put_other s.log t (entry_of s t (Base p) ∷ s.log t) u (λ e. ne (sym e)) i);
+    cut = has_reversal (put_other s.log t (entry_of s t (Base p) ∷ s.log t) u (λ e. ne (sym e)) i);
+  }
+  others e u ne = λ i. record (thread_in s u) { chan = waits_on (put_other s.log t (entry_of s t e ∷ s.log t) u (λ e. ne (sym e)) i); cut = has_reversal (put_other s.log t (entry_of s t e ∷ s.log t) u (λ e. ne (sym e)) i) }
+
+  -- the record behind an event shows the columns behind it
+  record_noted : (e : Event) (b r : Record) → Lawful c s → RepresentsRecord b (record_in s t) → r ≡ record_behind (new_base e) b → RepresentsRecord r (record_in (after_stamp c s t e) t)
+  unfolding after_stamp
+  record_noted (Base p) b r lawful old is =
+      let rec = with_other_base c p.0 (none_beyond c s t lawful) old in
+      record {
+        columns = ap columns_of is ∙ rec.columns ∙ sym (λ j. record (record_in s t) { base = put_same s.base t p.0 j; effective = put_same s.effective t (effective_of c (s.loan t) p.0) j });
+        one_loan_each = λ l. subst (λ (v : Record). loans_for l v.loans ≤ 1) (sym is) (old.one_loan_each l);
+      }
+  record_noted e b r lawful old is = subst (λ (v : Record). RepresentsRecord v (record_in s t)) (sym is) old
+
+  -- of the other columns only those of the channel and of its being cut change
+  columns_noted : (e : Event) → thread_in (after_stamp c s t e) t ≡ record (thread_in s t) { its_record = record_in (after_stamp c s t e) t; chan = fell_asleep (of_sleep e); cut = is_reversal e || was_cut s t }
+  unfolding after_stamp
+  columns_noted e = λ i. record (thread_in s t) { its_record = record_in (after_stamp c s t e) t; chan = waits_on (put_same s.log t (entry_of s t e ∷ s.log t) i); cut = has_reversal (put_same s.log t (entry_of s t e ∷ s.log t) i) }
+
+  thread_noted : (e : Event) (old new : List Thread) (h : IsNoted e t old new) → Lawful c s → RepresentsThread h.before c s t → RepresentsThread h.behind c (after_stamp c s t e) t
+  thread_noted e old new h lawful shows =
+      let rec = record_noted e h.before.record.value h.behind.record.value lawful (record_of shows) h.its_record in
+      record {
+        columns = (λ i. record ((ap thread_of h.others ∙ (λ j. record (shows.columns j) { its_record = columns_of h.behind.record.value; chan = option_map (λ (d : ChanNo). d.0) h.behind.waits_on; cut = h.behind.cut })) i) {
+          its_record = rec.columns i;
+          chan = h.waits_on i;
+          cut = (h.its_cut ∙ ap (λ b. is_reversal e || b) (ap (λ x. x.cut) shows.columns)) i;
+        }) ∙ sym (columns_noted e);
+        one_loan_each = rec.one_loan_each;
+        held = rw h.others shows.held;
+        marked = rw h.others shows.marked;
+      }
+
+  noted_all : (e : Event) (old new : List Thread) → IsNoted e t old new → t < c.threads → Lawful c s → RepresentsThreads old c s → RepresentsThreads new c (after_stamp c s t e)
+  noted_all e old new h lt lawful shows =
+      subst (λ (ths : List Thread). RepresentsThreads ths c (after_stamp c s t e)) (sym h.is)
+      (thread_changed (after_stamp c s t e) h.behind shows lt (thread_noted e old new h lawful (shows.thread t h.before h.was)) (others e))
+
+-- what no column tells of a thread stays
+pub asides_kept : (e : Event) (t : ℕ) (old new : List Thread) → IsNoted e t old new → (u : ℕ) → option_map progress_of (slice_get new u) ≡ option_map progress_of (slice_get old u)
+asides_kept e t old new h u = ap (λ (ths : List Thread). option_map progress_of (slice_get ths u)) h.is ∙ aside_stays old t h.behind h.before h.was (ap progress_of h.others) u
+
+-- 2. The history
+
+history_seen : (log : List Entry) (s : State) (t : ThreadNo) (e : Event) (ticket : ℕ) → log ≡ reverse s.history → ticket ≡ length log → NextIsNew s.next s.history
+    → log ++ (record { ticket = ticket; thread = t; event = e }) ∷ [] ≡ reverse (entry_of s t.0 e ∷ s.history)
+unfolding NextIsNew
+history_seen log s t e ticket shows is new =
+    let next : ticket ≡ s.next = is ∙ ap length shows ∙ length-reverse s.history ∙ sym new in
+    ap (λ (k : ℕ). log ++ (record { ticket = k; thread = t; event = e }) ∷ []) next ∙ ap (λ es. es ++ entry_of s t.0 e ∷ []) shows ∙ sym (reverse-append (entry_of s t.0 e ∷ []) s.history)
+
+pub stamped : (m n : Machine) (c : Config) (s : State) (t : ThreadNo) (e : Event) (ticket : ℕ) → n ≡ record m { threads = n.threads; log = n.log; tables = n.tables }
+    → IsNoted e t.0 m.threads.items n.threads.items → n.tables.present ≡ edited e m.tables.present
+    → n.log.entries ≡ m.log.entries ++ (record { ticket = ticket; thread = t; event = e }) ∷ [] → ticket ≡ length m.log.entries
+    → Represents c m s → Lawful c s → MayStamp c s t.0 e → Represents c n (after_stamp c s t.0 e)
+unfolding after_stamp tables_of
+stamped m n c s t e ticket same threads tables log is h lawful g = record {
+  within = h.within;
+  words = subst (λ (k : Machine). RepresentsWords k.words.items c s.word) (sym same) h.words;
+  sleepers = subst (λ (k : Machine). RepresentsSleepers c k.sleepers (sleepers_in s)) (sym same) h.sleepers;
+  queues = subst (λ (k : Machine). RepresentsQueues c k.chain (queue_in s) s.loan_home) (sym same) h.queues;
+  threads = noted_all c s t.0 e m.threads.items n.threads.items threads g.thread lawful h.threads;
+  history = log ∙ history_seen m.log.entries s t e ticket h.history is lawful.books.next_is_new;
+  tables = tables ∙ ap (edited e) h.tables;
+  orders = subst (λ (k : Machine). RepresentsOrders c k.orders s.edges) (sym same) h.orders;
+}

@@ -1,0 +1,29 @@
+use Rattle.std.proofs.Common.{◌≡◌, true, false, ◌||◌, sym, ap, ◌∙◌}
+use Rattle.lock_model.specs.Takes.{is_reversal}
+use Rattle.thread_records.specs.Records.{with_base}
+use Rattle.step_machine.proofs.Ending.{read_at}
+use Rattle.step_machine.proofs.Stamping.{is_noted, base_set, no_base_set}
+use Rattle.step_machine.proofs.machine.Machine.edit.Goals.{then-is_reversal, else-is_reversal}
+use Rattle.step_machine.proofs.machine.Machine.edit.Goals as goal
+
+pub returns-in-Base-clause-threads : goal.returns-in-Base-clause-threads
+returns-in-Base-clause-threads c =
+    let ths = c.args.self.now.threads.items in
+    let th = c.index_mut-thread.result.now in
+    let at = read_at ths c.args.t.0 c.from.result th c.from.ensures c.requires.thread c.index_mut-thread.ensures.value in
+    let cut : c.if-is_reversal.thread ≡ (is_reversal c.args.event || th.cut) = elim c.if-is_reversal.branch [
+      | then-is_reversal w ↦ let e : (is_reversal c.args.event) ≡ true = sym c.is_reversal.ensures ∙ w.if-is_reversal.true in w.thread-is ∙ w.if-is_reversal.true ∙ sym (ap (λ b. b || th.cut) e)
+      | else-is_reversal w ↦ let e : (is_reversal c.args.event) ≡ false = sym c.is_reversal.ensures ∙ w.if-is_reversal.false in w.thread-is ∙ sym (ap (λ b. b || th.cut) e)
+    ] in
+    is_noted c.args.event c.args.t.0 c.from.result ths th c.fell_asleep-thread.result c.if-is_reversal.thread c.set_base.new.self c.from.ensures at c.fell_asleep-thread.ensures cut (c.set_base.ensures ∙ ap (with_base c.in-Base.prio.0) c.deref_mut.ensures.value ∙ base_set c.in-Base.prio th.record.value c.in-Base.is)
+
+pub returns-in_default-clause-threads : goal.returns-in_default-clause-threads
+returns-in_default-clause-threads c =
+    let ths = c.args.self.now.threads.items in
+    let th = c.index_mut-thread.result.now in
+    let at = read_at ths c.args.t.0 c.from.result th c.from.ensures c.requires.thread c.index_mut-thread.ensures.value in
+    let cut : c.if-is_reversal.thread ≡ (is_reversal c.args.event || th.cut) = elim c.if-is_reversal.branch [
+      | then-is_reversal w ↦ let e : (is_reversal c.args.event) ≡ true = sym c.is_reversal.ensures ∙ w.if-is_reversal.true in w.thread-is ∙ w.if-is_reversal.true ∙ sym (ap (λ b. b || th.cut) e)
+      | else-is_reversal w ↦ let e : (is_reversal c.args.event) ≡ false = sym c.is_reversal.ensures ∙ w.if-is_reversal.false in w.thread-is ∙ sym (ap (λ b. b || th.cut) e)
+    ] in
+    is_noted c.args.event c.args.t.0 c.from.result ths th c.fell_asleep-thread.result c.if-is_reversal.thread th.record.value c.from.ensures at c.fell_asleep-thread.ensures cut (no_base_set c.args.event th.record.value c.in_default.not-Base)

@@ -1,0 +1,5 @@
+pub mod Represents
+pub mod Threads
+pub mod Noted
+pub mod Steps
+pub mod Runs

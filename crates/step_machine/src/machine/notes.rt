@@ -1,0 +1,79 @@
+//! Entries of the history.
+ghost use Rattle.std.specs.Prelude.{◌≡◌, ◌≤◌, ◌<◌, ◌+◌, length, option_map};
+ghost use Rattle.lock_model.specs.Events.{of_sleep, fell_asleep};
+ghost use Rattle.lock_model.specs.History.{edited};
+ghost use Rattle.lock_model.specs.Takes.{is_reversal, has_reversal};
+ghost use Rattle.lock_state.specs.Steps.{Stamps};
+ghost use Rattle.lock_state.specs.Steps.LockWords.{MayStamp};
+ghost use Rattle.step_machine.specs.Noted.{IsNoted};
+ghost use Rattle.step_machine.specs.Steps.{May, Makes, KeepsProgress, HasKey};
+
+use super::Machine;
+use lock_model::{ChanNo, Entry, Event, ThreadNo};
+
+impl Machine {
+    /// Makes an entry with the next ticket, and what the entry says of a table, of the thread's base priority, of a wait of
+    /// the thread, or of its being cut.
+    pub fn stamp(&mut self, t: ThreadNo, event: Event)
+        requires may { May self.old (λ c s. MayStamp c s t.0 event) }
+        requires room { 1 ≤ self.old.log.spare }
+        requires key { HasKey self.old event }
+        ensures step { Makes self.old self.new (Stamps t.0 event) }
+        ensures progress { KeepsProgress self.old self.new }
+        ensures places { self.new.tables.places ≡ self.old.tables.places }
+        ensures room { length self.new.log.entries + self.new.log.spare
+            ≡ length self.old.log.entries + self.old.log.spare }
+    {
+        self.edit(t, event);
+        let ticket = self.log.len();
+        self.log.put(Entry {
+            ticket,
+            thread: t,
+            event,
+        });
+    }
+
+    /// Whether a take was refused.
+    pub fn has_reversal(&self) -> bool
+        ensures { result ≡ has_reversal self.now.log.entries }
+    {
+        self.log.as_slice().iter().any(|e| is_reversal(e.event))
+    }
+
+    // Changes what an event changes beside the history.
+    fn edit(&mut self, t: ThreadNo, event: Event)
+        requires thread { t.0 < length self.old.threads.items }
+        requires key { HasKey self.old event }
+        ensures tables { self.new.tables
+            ≡ record self.old.tables { present = edited event self.old.tables.present } }
+        ensures threads { IsNoted event t.0 self.old.threads.items self.new.threads.items }
+        ensures others { self.new
+            ≡ record self.old { threads = self.new.threads; tables = self.new.tables } }
+    {
+        self.tables.edit(event).unwrap();
+        let thread = &mut self.threads[usize::from(t.0)];
+        thread.waits_on = fell_asleep(event);
+        thread.cut = is_reversal(event) || thread.cut;
+        if let Event::Base { prio } = event {
+            thread.record.set_base(prio);
+        }
+    }
+}
+
+// Whether an event is the refusal of a take.
+fn is_reversal(event: Event) -> bool
+    ensures { result ≡ is_reversal event }
+{
+    matches!(event, Event::Reversed { .. })
+}
+
+// The channel on which the thread of an event goes to sleep.
+fn fell_asleep(event: Event) -> Option<ChanNo>
+    ensures { option_map (λ c. c.0) result ≡ fell_asleep (of_sleep event) }
+{
+    if let Event::Sleeps { c } = event {
+        Some(c)
+    } else {
+        None
+    }
+}
