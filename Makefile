@@ -5,7 +5,7 @@ FORM ?= svg
 LOCKRUN := crates/lockrun/out/lockrun
 
 .DEFAULT_GOAL := help
-.PHONY: help step run chart proved examples bench
+.PHONY: help step run chart proved examples bench costs
 
 # Says what there is to type.
 help:
@@ -15,6 +15,7 @@ help:
 	@echo 'make proved SCRIPT=PATH   proves lockrun and all below it, makes $(LOCKRUN), and runs a script'
 	@echo 'make examples             runs each example by the proved program; stops at the first that is not as written'
 	@echo 'make bench                times long scripts by the proved program, and adds the figures to bench/results.md'
+	@echo 'make costs                counts what one more case of each sort makes somebody write, and what is proved again'
 	@echo 'rt ci                     the gate: proves every crate, tries the edits that must fail, runs tests and programs'
 	@echo 'A script may end with a status other than 0; make then says Error and that number.'
 
@@ -54,3 +55,7 @@ examples:
 # Times long scripts by the proved program.
 bench:
 	@bench/run
+
+# Counts what a change costs: the files that one more case of each sort makes somebody write, and what is proved again.
+costs:
+	@tools/costs
