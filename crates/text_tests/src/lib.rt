@@ -1,6 +1,6 @@
 //! Tests of the crates that read and write text, over their public calls alone: what comes of texts, words and books
-//! that were written out by hand. A crate that has tests is proved a second time whole for them, so those that carry
-//! proofs have none of their own, and this one has nothing else.
+//! that were written out by hand. A crate that has tests is proved a second time whole for them, so the crates below
+//! have none of their own, and this one has nothing else.
 //!
 //! - `briefs`: scripts and words in brief.
 //! - `ends`: sources and sinks, in memory and over std (`lock_io`).

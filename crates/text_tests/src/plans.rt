@@ -179,6 +179,7 @@ fn is_declared(plan: &Plan) -> bool {
         && (v.cond, v.lock, z.cond, z.lock) == (true, LockNo(0), false, LockNo(2))
         && (t.base, u.base) == (Prio(100), Prio(0))
         && (*first, *second, *third) == (ThreadNo(1), ThreadNo(0), ThreadNo(1))
+        && plan.classes.as_slice().len() == 2
 }
 
 #[test]
