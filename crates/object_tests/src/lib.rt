@@ -1,8 +1,8 @@
 //! Tests of lock words, of the order of classes, and of the objects in which threads wait. A crate with tests is proved
 //! twice, so these stand apart from the crates that carry proofs, and nothing but tests is here.
 //!
-//! The contracts give what each call answers. The tests add that a clause means the rule, by values that were worked out
-//! by hand from the rule, and that a call succeeds where there is memory.
+//! The contracts give what each call answers. The tests add that a clause means the rule, by values that were worked
+//! out by hand from the rule, and that a call succeeds where there is memory.
 //!
 //! - `words`: the worked lock words, and the steps of one.
 //! - `orders`: which acquisitions a graph of orders admits, and which it refuses.

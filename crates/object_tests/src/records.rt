@@ -27,7 +27,8 @@ fn takes_back_what_it_lent(rt: HostRuntime) -> Result<(), Fail> {
 
 /// A loan for a lock, by the loan node of a thread's turnstile.
 fn loan(alloc: Global, thread: u8, l: u8, prio: u8) -> Result<Box<Loan>, AllocError>
-    ensures { IfOk result (λ b. b.value ≡ record { terms = record { number = thread; lock = l; prio = prio }; next = [] }) }
+    ensures lock { IfOk result (λ b. b.value.terms.lock ≡ l) }
+    ensures alone { IfOk result (λ b. b.value.next ≡ []) }
 {
     let mut loan = Turnstile::make(alloc, ThreadNo(thread))?
         .take_loan()

@@ -1,5 +1,8 @@
 //! A turnstile on which three threads wait. The tests of chains and of lending begin with its heads.
 ghost use Rattle.std.specs.Prelude.{◌≡◌, None, Some, true, [], ◌∷◌, IfOk};
+ghost use Rattle.lock_model.specs.declared.plan.Side.TheVariants.{X};
+ghost use Rattle.turnstile_core.specs.Seen.{idle_contents};
+ghost use Rattle.turnstile_core.specs.Changes.{begun};
 
 use lock_model::{LockNo, Prio, QueueName, Side, ThreadNo};
 use std::alloc::{AllocError, Global};
@@ -9,7 +12,9 @@ use turnstile_core::{Taken, Turnstile, Waiter};
 
 /// The turnstile of a thread, lent to a lock for which the thread waits with 100.
 pub(crate) fn lent(alloc: Global, thread: u8, l: u8) -> Result<Box<Turnstile>, AllocError>
-    ensures { IfOk result (λ b. b.value ≡ record { contents = record { number = thread; exclusive = record { thread = thread; kept = 100 } ∷ []; shared = []; free = []; own = record { lock = Some l; owner = None; loan_home = true } }; next = [] }) }
+    ensures contents { IfOk result (λ b. b.value.contents
+        ≡ begun l (record { thread = thread; kept = 100 }) X (idle_contents thread)) }
+    ensures link { IfOk result (λ b. b.value.next ≡ []) }
 {
     let mut head = Turnstile::make(alloc, ThreadNo(thread))?;
     let node = Waiter::make(alloc, ThreadNo(thread))?;
@@ -19,7 +24,12 @@ pub(crate) fn lent(alloc: Global, thread: u8, l: u8) -> Result<Box<Turnstile>, A
 
 /// Threads 0, 1 and 2 wait for lock 0, in this order: the second with 50, the others with 100.
 pub(crate) fn three_waiters(alloc: Global) -> Result<Box<Turnstile>, AllocError>
-    ensures { IfOk result (λ b. b.value ≡ record { contents = record { number = 0; exclusive = record { thread = 1; kept = 50 } ∷ record { thread = 0; kept = 100 } ∷ record { thread = 2; kept = 100 } ∷ []; shared = []; free = 2 ∷ 1 ∷ []; own = record { lock = Some 0; owner = None; loan_home = true } }; next = [] }) }
+    ensures waiters { IfOk result (λ b. b.value.contents.exclusive
+        ≡ record { thread = 1; kept = 50 } ∷ record { thread = 0; kept = 100 }
+        ∷ record { thread = 2; kept = 100 } ∷ []) }
+    ensures own { IfOk result (λ b. b.value.contents.own
+        ≡ record { lock = Some 0; owner = None; loan_home = true }) }
+    ensures link { IfOk result (λ b. b.value.next ≡ []) }
 {
     let mut head = lent(alloc, 0, 0)?;
     let (own, node) = ThreadRec::make(alloc, ThreadNo(1), Prio(50))?.lend_turnstile();
