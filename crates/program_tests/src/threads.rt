@@ -4,23 +4,23 @@ use crate::barrier::Barrier;
 use crate::fixtures::{MEETINGS, plan_of_mutexes};
 use floor_run::run_plan;
 use lock_history::print;
-use lock_io::Meeting;
+use lock_io::{Gate, Meeting};
+use std::alloc::Global;
+use std::sync::Wait;
 use std::test::Fail;
+use std::thread::Threads;
 
 #[test]
 fn two_threads_meet(rt: HostRuntime) -> Result<(), Fail> {
     for &(script, first, second, begins) in MEETINGS {
-        let plan = plan_of_mutexes(rt.alloc(), script)?;
         let gate = Meeting::new(first, second);
-        let (outcome, _closing) = run_plan(&rt, rt.alloc(), &plan, 1, &gate)?;
-        let printed = print(rt.alloc(), &plan, &outcome)?;
-        assert!(rt; !gate.missed(), "{begins}");
-        assert_eq!(rt; gate.came(), (2, 2));
-        assert_eq!(rt; outcome.history.len(), 4);
-        assert!(rt;
-            printed.as_slice().starts_with(begins.as_bytes()),
+        let (entries, text) = run(&rt, rt.alloc(), script, &gate)?;
+        assert_eq!(rt;
+            (gate.missed(), gate.came(), entries),
+            (false, (2, 2), 4),
             "{begins}"
         );
+        assert!(rt; text.as_slice().starts_with(begins.as_bytes()), "{begins}");
     }
     Ok(())
 }
@@ -33,11 +33,21 @@ const THREE: &str = "lockrun 1;mutex m k;mutex n k;mutex o k;\
 // Two threads of the system would serve two of the three first, and these would miss the third at the gate.
 #[test]
 fn a_thread_of_the_system_for_each(rt: HostRuntime) -> Result<(), Fail> {
-    let plan = plan_of_mutexes(rt.alloc(), THREE)?;
     let gate = Barrier::new(3);
-    let (outcome, _closing) = run_plan(&rt, rt.alloc(), &plan, 1, &gate)?;
-    assert!(rt; !gate.missed());
-    assert_eq!(rt; gate.came(), 3);
-    assert_eq!(rt; outcome.history.len(), 6);
+    let (entries, _text) = run(&rt, rt.alloc(), THREE, &gate)?;
+    assert_eq!(rt; (gate.missed(), gate.came(), entries), (false, 3, 6));
     Ok(())
+}
+
+// How many entries the history of a script's run has, and the text of the run.
+fn run<R: Threads + Wait + Sync, G: Gate>(
+    rt: &R,
+    alloc: Global,
+    script: &str,
+    gate: &G,
+) -> Result<(u32, Vec<u8>), Fail> {
+    let plan = plan_of_mutexes(alloc, script)?;
+    let (outcome, _closing) = run_plan(rt, alloc, &plan, 1, gate)?;
+    let text = print(alloc, &plan, &outcome)?;
+    Ok((outcome.history.len(), text))
 }
