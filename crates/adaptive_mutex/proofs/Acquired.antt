@@ -35,7 +35,7 @@ use Rattle.adaptive_mutex.proofs.Looks.{each_append, uncounted, look_knows, no_l
 -- 1. The gain
 
 pub acquires : (plan : Plan) (l : ℕ) (v : Knowledge) → IsAtRest plan v → MayAcquire plan l v → MayGain plan l v
-acquires plan l v r m = record { unheld = m.unheld; few = m.few; wants_nothing = r.wants_nothing; no_round = r.no_round }
+acquires plan l v r m = record { unheld = m.unheld; few = m.few; wants_nothing = r.wants_nothing; takes_nothing = r.takes_nothing; no_round = r.no_round; going = r.going }
 
 -- a gain without a look before
 pub gains_at_once : (plan : Plan) (l : LockNo) (v w : Knowledge) → w ≡ seeing w.seen (gained v (as_held l true)) → Makes plan (steps.Gains v.thread l.0 Excl true ∷ []) v w → Gains plan (as_held l true) 0 v w
@@ -47,7 +47,9 @@ may_gain_on plan l n u v m x = subst (MayGain plan l) (sym x.knows) record {
   unheld = m.unheld;
   few = m.few;
   wants_nothing = m.wants_nothing;
+  takes_nothing = m.takes_nothing;
   no_round = m.no_round;
+  going = m.going;
 }
 
 plainly : (k : Kind) → k ≡ Mtx → is_plain k (word_of 0) Excl ≡ true
@@ -56,7 +58,7 @@ plainly k e = ap (λ (x : Kind). is_plain x (word_of 0) Excl) e
 pub may_gain_free : (plan : Plan) (l : ℕ) (by_try : Bool) (v : Knowledge) → IsMutex plan l → MayGain plan l v → MayMake plan v (λ s. s.word l ≡ word_of 0) (steps.Gains v.thread l Excl by_try ∷ [])
 may_gain_free plan l by_try v mutex m =
     may_gain plan v l Excl by_try (word_of 0) mutex.lock refl (plainly ((config_of plan).kind l) mutex.kind) m.unheld (inr m.wants_nothing)
-    (subst (λ r. FitsRound r l by_try) (sym m.no_round) tt)
+    (subst (λ r. FitsRound r l by_try) (sym m.no_round) tt) (λ k e. absurd (let z : None ≡ Some k = sym m.takes_nothing ∙ e in cc)) m.going
 
 -- 2. Its entry
 
@@ -96,8 +98,8 @@ module _ (plan : Plan) (v : Knowledge) (l : LockNo) (by_try : Bool) (r : IsAtRes
   pub may_note_gain : MayMake plan w (λ s. Unit {0}) (Stamps v.thread (gain_event h) ∷ [])
   may_note_gain =
       may_stamp plan w (gain_event h) asks tt
-      (λ e. absurd (let z : false ≡ true = sym r.awake ∙ e in cc))
-      (λ ne. absurd (ne r.stamped))
+      (λ e. absurd (let z : false ≡ true = sym r.no_wait ∙ e in cc))
+      r.going r.takes_nothing
 
 -- 3. Both
 
@@ -218,8 +220,8 @@ module _ (plan : Plan) (l : LockNo) (seen : ℕ) (old v : Knowledge) (r : IsAtRe
   may_note_busy =
       subst (λ (k : Knowledge). MayMake plan k (λ s. Unit {0}) (Stamps k.thread note ∷ [])) (sym saw)
       (may_stamp plan q note asks_busy (subst (λ o. NotesInRound o note) (sym r.no_round) tt)
-      (λ e. absurd (let z : false ≡ true = sym r.awake ∙ e in cc))
-      (λ ne. absurd (ne r.stamped)))
+      (λ e. absurd (let z : false ≡ true = sym r.no_wait ∙ e in cc))
+      r.going r.takes_nothing)
 
   pub room_for_busy : 1 ≤ v.spare
   room_for_busy = subst (λ (k : Knowledge). 1 ≤ k.spare) (sym saw) m.room

@@ -8,7 +8,7 @@ use Rattle.lock_floor.specs.Passes.{IsReady, first_pass}
 pub ready_first : (f : Floor Plan) (t : ℕ) → IsReady f (first_pass f.table f.plan t)
 unfolding sections_in
 ready_first f t = record {
-  own = record { table = refl; plan = refl; going = refl };
+  own = record { table = refl; plan = refl; unfinished = refl };
   rest = record {
     nothing_out = refl;
     no_walk = refl;
@@ -18,8 +18,8 @@ ready_first f t = record {
     no_round = refl;
     no_looks = refl;
     unnoted = refl;
-    stamped = refl;
-    awake = refl;
+    going = record { awake = refl; unended = refl; stamped = refl };
+    no_wait = refl;
     sections = λ l. refl;
     begun = λ l held. absurd (held refl);
   };

@@ -5,10 +5,9 @@ use Rattle.lock_model.specs.Words.{Word}
 use Rattle.lock_model.specs.declared.plan.Plan.{Plan}
 use Rattle.lock_state.specs.State.{Look}
 use Rattle.lock_state.specs.Steps.{Step, Looks, seeks}
-use Rattle.lock_state.specs.Steps.Items.{is_bound}
 use Rattle.floor_table.specs.Steps.{Makes, MakesEach, MayMake}
 use Rattle.floor_table.specs.Views.{Knowledge, seeing}
-use Rattle.lock_floor.specs.Passes.{IsAtRest}
+use Rattle.lock_floor.specs.Passes.{IsGoing, IsAtRest}
 use Rattle.lock_floor.specs.Views.{counts, looked}
 use Rattle.lock_floor.proofs.May.{may_look}
 use Rattle.adaptive_mutex.specs.Waiting.{with_looks, HasLooked}
@@ -25,11 +24,11 @@ module _ (plan : Plan) (v : Knowledge) (l : ℕ) (no_round : v.share.doing.round
   pub uncounted : counts v l ≡ false
   uncounted = ap (seeks l) no_round
 
-  pub may_look_on : l < length plan.locks → MayMake plan v (λ s. Unit {0}) (Looks v.thread l (counts v l) ∷ [])
-  may_look_on low =
-      may_look plan v l low
+  pub may_look_on : l < length plan.locks → IsGoing v → MayMake plan v (λ s. Unit {0}) (Looks v.thread l (counts v l) ∷ [])
+  may_look_on low going =
+      may_look plan v l low going
       (λ e. absurd (let z : false ≡ true = sym uncounted ∙ e in cc))
-      (λ e. absurd (let z : false ≡ true = sym (ap is_bound no_round) ∙ e in cc))
+      (λ ne. absurd (ne no_round))
 
   pub look_knows : (word : Word) → looked v l word ≡ with_looks v (suc v.share.doing.looks_in_all) (Some (record { lock = l; word = word })) (Some (record { lock = l; word = word }))
   look_knows word =
@@ -80,6 +79,9 @@ look_more plan l n m u v w x y =
 pub still_no_round : (plan : Plan) (l n : ℕ) (u v : Knowledge) → u.share.doing.round ≡ None → HasLooked plan l n u v → v.share.doing.round ≡ None
 still_no_round plan l n u v no_round x = ap (λ (k : Knowledge). k.share.doing.round) x.knows ∙ no_round
 
+pub still_going : (plan : Plan) (l n : ℕ) (u v : Knowledge) → IsGoing u → HasLooked plan l n u v → IsGoing v
+still_going plan l n u v going x = subst IsGoing (sym x.knows) going
+
 pub look_again : (plan : Plan) (l : ℕ) (u v w : Knowledge) (word : Word) → u.share.doing.round ≡ None → (n : ℕ) × HasLooked plan l n u v → w ≡ seeing w.seen (looked v l word) → Makes plan (Looks v.thread l (counts v l) ∷ []) v w → (n : ℕ) × HasLooked plan l n u w
 look_again plan l u v w word no_round x view step =
     (x.0 + 1, look_more plan l x.0 1 u v w x.1 (look_once plan v l (still_no_round plan l x.0 u v no_round x.1) word w view step))
@@ -99,8 +101,8 @@ looks_rest plan v all last seen steps r = record {
   no_round = r.no_round;
   no_looks = r.no_looks;
   unnoted = r.unnoted;
-  stamped = r.stamped;
-  awake = r.awake;
+  going = r.going;
+  no_wait = r.no_wait;
   sections = r.sections;
   begun = r.begun;
 }

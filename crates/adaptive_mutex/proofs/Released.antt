@@ -33,17 +33,17 @@ module _ (plan : Plan) (v : Knowledge) (l : LockNo) (r : IsAtRest plan v) (held 
   pub may_note_release : MayMake plan v (λ s. Unit {0}) (Stamps v.thread (Unlocked l Excl) ∷ [])
   may_note_release =
       may_stamp plan v (Unlocked l Excl) asks (subst (λ o. NotesInRound o (Unlocked l Excl)) (sym r.no_round) tt)
-      (λ e. absurd (let z : false ≡ true = sym r.awake ∙ e in cc))
-      (λ ne. absurd (ne r.stamped))
+      (λ e. absurd (let z : false ≡ true = sym r.no_wait ∙ e in cc))
+      r.going r.takes_nothing
 
   pub may_put_down : (ticket : ℕ) (w : Knowledge) → w ≡ seeing w.seen (stamped (config_of plan) v (entry_by v.thread ticket (Unlocked l Excl))) → MayPutDown plan l.0 w
   may_put_down ticket w is =
       let x = leaves plan v l Excl ticket r held in
-      subst (MayPutDown plan l.0) (sym is) record { held = held; closed = x.closed; begun = r.begun l.0 (λ q. absurd (let z : Holds Excl ≡ NotHeld = sym held ∙ q in cc)); no_round = r.no_round }
+      subst (MayPutDown plan l.0) (sym is) record { held = held; closed = x.closed; begun = r.begun l.0 (λ q. absurd (let z : Holds Excl ≡ NotHeld = sym held ∙ q in cc)); no_round = r.no_round; going = r.going }
 
 -- the thread's number is one of the plan's, which are few
 pub few_threads : (plan : Plan) (l : LockNo) (v w : Knowledge) (ticket : ℕ) → w ≡ seeing w.seen (stamped (config_of plan) v (entry_by v.thread ticket (Unlocked l Excl))) → Makes plan (Stamps v.thread (Unlocked l Excl) ∷ []) v w → w.thread ≤ 63
-few_threads plan l v w ticket is m = omega (arith, ap (λ (k : Knowledge). k.thread) is, m.may.0.thread, m.represents.sizes.few_threads)
+few_threads plan l v w ticket is m = omega (arith, ap (λ (k : Knowledge). k.thread) is, m.may.0.may.thread, m.represents.sizes.few_threads)
 
 -- 2. The drop
 
@@ -53,6 +53,7 @@ may_put_on plan l n u v m x = subst (MayPutDown plan l) (sym x.knows) record {
   closed = m.closed;
   begun = m.begun;
   no_round = m.no_round;
+  going = m.going;
 }
 
 -- the word of a mutex that the thread holds
@@ -63,7 +64,7 @@ pub own_is_held : (own t : ℕ) → word_of own ≡ gained (word_of 0) t Excl �
 own_is_held own t is = subst (λ (w : Word). IsHeldIn w.holder Excl) (sym is) tt
 
 pub may_drop_own : (plan : Plan) (l own t : ℕ) (v : Knowledge) → l < length plan.locks → word_of own ≡ gained (word_of 0) t Excl → MayPutDown plan l v → MayMake plan v (λ s. s.word l ≡ word_of own) (Drops v.thread l Excl ∷ [])
-may_drop_own plan l own t v low is m = may_drop plan v l Excl (word_of own) low m.held (own_drops own t is) m.closed m.begun
+may_drop_own plan l own t v low is m = may_drop plan v l Excl (word_of own) low m.held (own_drops own t is) m.closed m.begun m.going
 
 -- 3. Both
 
@@ -93,8 +94,8 @@ module _ (plan : Plan) (l : LockNo) (n ticket : ℕ) (old v new : Knowledge) (r 
           no_round = x.about.no_round;
           no_looks = x.about.no_looks;
           unnoted = x.about.unnoted;
-          stamped = x.about.stamped;
-          awake = x.about.awake;
+          going = x.about.going;
+          no_wait = x.about.no_wait;
         };
         held = x.held;
         closed = x.closed;

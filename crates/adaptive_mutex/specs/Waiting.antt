@@ -15,6 +15,7 @@ use Rattle.lock_state.specs.Steps.{Looks, Drops}
 use Rattle.floor_table.specs.Shares.{Doing, is_among}
 use Rattle.floor_table.specs.Steps.{Makes, MakesEach}
 use Rattle.floor_table.specs.Views.{Knowledge, seeing}
+use Rattle.lock_floor.specs.Passes.{IsGoing}
 use Rattle.lock_floor.specs.Views.{gained, put_down}
 
 -- with so many looks in all, and with others seen last
@@ -35,12 +36,15 @@ pub record HasLooked (plan : Plan) (l n : ℕ) (old new : Knowledge) : Type 0 wh
   pub knows : new ≡ seeing new.seen (with_looks old all last seen)
   pub steps : MakesEach plan (replicate n (Looks old.thread l false ∷ [])) old new
 
--- the thread may gain the lock where its word is free: it doesn't hold it, has room for it, wants none and is in no round
+-- the thread may gain the lock where its word is free: it is awake, doesn't hold it, has room for it, wants and takes
+-- none and is in no round
 pub record MayGain (plan : Plan) (l : ℕ) (v : Knowledge) : Type 0 where
   pub unheld : hold_in v.share.held l ≡ NotHeld
   pub few : length v.share.held < most_held
   pub wants_nothing : v.share.doing.wanted ≡ None
+  pub takes_nothing : v.share.doing.taking ≡ None
   pub no_round : v.share.doing.round ≡ None
+  pub going : IsGoing v
 
 -- it gained the lock behind so many looks
 pub record Gains (plan : Plan) (h : Held) (n : ℕ) (old new : Knowledge) : Type 0 where
@@ -49,12 +53,14 @@ pub record Gains (plan : Plan) (h : Held) (n : ℕ) (old new : Knowledge) : Type
   pub view : new ≡ seeing new.seen (gained between h)
   pub step : Makes plan (steps.Gains old.thread h.l.0 h.mode h.by_try ∷ []) between new
 
--- the thread may put the lock down: it holds it, its section of it began and is closed, and it is in no round
+-- the thread may put the lock down: it is awake and holds it, its section of it began and is closed, and it is in no
+-- round
 pub record MayPutDown (plan : Plan) (l : ℕ) (v : Knowledge) : Type 0 where
   pub held : hold_in v.share.held l ≡ Holds Excl
   pub closed : open_in (config_of plan) v.share.log v.thread l ≡ NotHeld
   pub begun : is_among l v.share.begun ≡ true
   pub no_round : v.share.doing.round ≡ None
+  pub going : IsGoing v
 
 -- it put the lock down behind so many looks
 pub record PutsDown (plan : Plan) (l n : ℕ) (old new : Knowledge) : Type 0 where

@@ -4,7 +4,7 @@ ghost use Rattle.lock_model.specs.Operations.{without_lock};
 ghost use Rattle.lock_model.specs.declared.event.Event.TheVariants as event;
 ghost use Rattle.lock_model.specs.declared.plan.Mode.TheVariants.{Excl};
 ghost use Rattle.floor_table.specs.Steps.{MakesEach};
-ghost use Rattle.lock_floor.specs.Passes.{IsOf, IsReady, MakesEntry};
+ghost use Rattle.lock_floor.specs.Passes.{IsOf, IsGoing, IsReady, MakesEntry};
 ghost use Rattle.adaptive_mutex.specs.Mutexes.{IsMutex, MayAcquire, MayRelease, as_held, locks, tries, unlocks, WasBusy};
 ghost use Rattle.adaptive_mutex.specs.Waiting.{HasLooked, MayGain, Gains, MayPutDown, PutsDown};
 
@@ -126,6 +126,7 @@ fn watch<R: Wait>(floor: &Floor, rt: &R, pass: &mut Pass, l: LockNo, backoff: &B
     requires own { IsOf floor.now pass.old }
     requires lock { l.0 < length floor.now.plan.locks }
     requires no_round { pass.old.view.share.doing.round ≡ None }
+    requires going { IsGoing pass.old.view }
     ensures own { IsOf floor.now pass.new }
     ensures looked { (n : ℕ) × HasLooked floor.now.plan l.0 n pass.old.view pass.new.view }
 {

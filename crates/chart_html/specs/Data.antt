@@ -11,10 +11,12 @@ use Rattle.chart_layout.specs.declared.sentence.Sentence.{Sentence}
 use Rattle.chart_words.specs.Sentences.{sentence_words}
 use Rattle.chart_words.specs.Words.{mark_words, note_words, queue_name}
 use Rattle.lock_history.specs.declared.outcome.QueueLine.{QueueLine}
+use Rattle.lock_model.specs.Events.{facets}
 use Rattle.lock_model.specs.Plans.{thread_name}
 use Rattle.lock_model.specs.declared.event.Entry.{Entry}
 use Rattle.lock_model.specs.declared.event.Event.{Event}
-use Rattle.lock_model.specs.declared.event.Event.TheVariants.{Locked, Tried, Busy, Unlocked, Set, Added, Got, Base, Shown, Sleeps, Woke, HaltedChan, HaltedLock, WokeOne, WokeAll, Reversed}
+use Rattle.lock_model.specs.declared.event.OfTable.{OfTable}
+use Rattle.lock_model.specs.declared.event.OfTable.TheVariants.{NoTable, SetsTo, AddsTo, Reads}
 use Rattle.lock_model.specs.declared.numbers.Prio.{Prio}
 use Rattle.lock_model.specs.declared.numbers.ThreadNo.{ThreadNo}
 use Rattle.lock_model.specs.declared.plan.Kind.{Kind}
@@ -152,25 +154,16 @@ said_bytes plan sentences = array_bytes (sentence_bytes plan) sentences
 -- 5. Edits
 
 -- what an event sets in a lock's table, or adds there; other events edit none
-abbrev pub edit : ℕ → Event → List Edit
-edit row (Set l key value) =
+abbrev pub edit_at : ℕ → OfTable → List Edit
+edit_at row NoTable = []
+edit_at row (SetsTo l key value) =
     record { row = row; l = l; key = key; adds = false; amount = value } ∷ []
-edit row (Added l key amount) =
+edit_at row (AddsTo l key amount) =
     record { row = row; l = l; key = key; adds = true; amount = amount } ∷ []
-edit row (Locked l m) = []
-edit row (Tried l m) = []
-edit row (Busy l seen) = []
-edit row (Unlocked l m) = []
-edit row (Got l key found) = []
-edit row (Base prio) = []
-edit row (Shown base eff) = []
-edit row (Sleeps c) = []
-edit row (Woke c) = []
-edit row (HaltedChan c) = []
-edit row (HaltedLock l) = []
-edit row (WokeOne c woken) = []
-edit row (WokeAll c woken) = []
-edit row (Reversed l held) = []
+edit_at row (Reads l key found) = []
+
+abbrev pub edit : ℕ → Event → List Edit
+edit row event = edit_at row (facets event).table
 
 -- the edit that an entry of the history is, if it is one
 abbrev pub entry_edit : ℕ → Option Entry → List Edit

@@ -3,7 +3,7 @@
 ghost use Rattle.std.specs.Prelude.{◌≡◌, ◌++◌, IfOk, OnOk};
 ghost use Rattle.chart_html.specs.Data.{edit, run_edits, turn_edits};
 
-use lock_model::{Event, LockNo};
+use lock_model::{Event, LockNo, OfTable};
 use run_tracks::Rows;
 use std::alloc::{AllocError, Global};
 
@@ -55,12 +55,10 @@ fn push_made(
 fn push_edit(edits: &mut Vec<Edit>, row: u64, event: Event) -> Result<(), AllocError>
     ensures { OnOk result (edits.new.items ≡ edits.old.items ++ edit row event) }
 {
-    let (l, key, adds, amount) = if let Event::Set { l, key, value } = event {
-        (l, key, false, value)
-    } else if let Event::Added { l, key, amount } = event {
-        (l, key, true, amount)
-    } else {
-        return Ok(());
+    let (l, key, adds, amount) = match event.at_table() {
+        OfTable::SetsTo { l, key, value } => (l, key, false, value),
+        OfTable::AddsTo { l, key, amount } => (l, key, true, amount),
+        OfTable::NoTable | OfTable::Reads { .. } => return Ok(()),
     };
     edits.push(Edit {
         row,

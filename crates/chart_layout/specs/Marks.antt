@@ -1,30 +1,17 @@
 -- What a mark says.
-use Rattle.std.specs.Prelude.{Bool, true, false, ◌==◌}
+use Rattle.std.specs.Prelude.{Bool, false, ◌||◌}
 use Rattle.lock_model.specs.declared.event.Event.{Event}
-use Rattle.lock_model.specs.declared.event.Event.TheVariants.{Locked, Tried, Busy, Unlocked, Set, Added, Got, Base, Shown, Sleeps, Woke, HaltedChan, HaltedLock, WokeOne, WokeAll, Reversed}
+use Rattle.lock_model.specs.Events.{wakes_nobody}
+use Rattle.lock_model.specs.Takes.{is_reversal}
 use Rattle.chart_layout.specs.declared.layout.MarkKind.{MarkKind}
 use Rattle.chart_layout.specs.declared.layout.MarkKind.TheVariants.{Noted, Did, Idle}
 
 -- a take that was refused for its order, or a wake that found nobody asleep
-abbrev pub is_refused : Event → Bool
-is_refused (Reversed l held) = true
-is_refused (WokeOne c woken) = woken == 0
-is_refused (WokeAll c woken) = woken == 0
-is_refused (Locked l m) = false
-is_refused (Tried l m) = false
-is_refused (Busy l seen) = false
-is_refused (Unlocked l m) = false
-is_refused (Set l key value) = false
-is_refused (Added l key amount) = false
-is_refused (Got l key found) = false
-is_refused (Base prio) = false
-is_refused (Shown base eff) = false
-is_refused (Sleeps c) = false
-is_refused (Woke c) = false
-is_refused (HaltedChan c) = false
-is_refused (HaltedLock l) = false
+abbrev pub came_to_nothing : Event → Bool
+came_to_nothing event = is_reversal event || wakes_nobody event
 
+-- whether a mark is of one
 abbrev pub is_refusal : MarkKind → Bool
-is_refusal (Noted event) = is_refused event
+is_refusal (Noted event) = came_to_nothing event
 is_refusal (Did kind) = false
 is_refusal Idle = false

@@ -2,7 +2,7 @@
 //! their numbers in the plan.
 
 ghost use Rattle.std.specs.Prelude.{◌≡◌};
-ghost use Rattle.chart_layout.specs.Marks.{is_refusal, is_refused};
+ghost use Rattle.chart_layout.specs.Marks.{is_refusal};
 
 use crate::sentence::{End, Sentence};
 use lock_model::{Event, LockNo, Mode, Prio, QueueName, Sequence, StepKind, ThreadNo};
@@ -171,30 +171,8 @@ impl MarkKind {
         ensures { result ≡ is_refusal self }
     {
         match self {
-            MarkKind::Noted(event) => is_refused(event),
+            MarkKind::Noted(event) => event.is_reversal() || event.wakes_nobody(),
             MarkKind::Did(_) | MarkKind::Idle => false,
         }
-    }
-}
-
-fn is_refused(event: Event) -> bool
-    ensures { result ≡ is_refused event }
-{
-    match event {
-        Event::Reversed { .. } => true,
-        Event::WokeOne { woken, .. } | Event::WokeAll { woken, .. } => woken == 0,
-        Event::Locked { .. }
-        | Event::Tried { .. }
-        | Event::Busy { .. }
-        | Event::Unlocked { .. }
-        | Event::Set { .. }
-        | Event::Added { .. }
-        | Event::Got { .. }
-        | Event::Base { .. }
-        | Event::Shown { .. }
-        | Event::Sleeps { .. }
-        | Event::Woke { .. }
-        | Event::HaltedChan { .. }
-        | Event::HaltedLock { .. } => false,
     }
 }

@@ -217,15 +217,22 @@ fn height_of(what: BarKind) -> u32
 fn words_of(alloc: Global, page: &Page<'_>, bar: Bar) -> Result<Vec<u8>, AllocError> {
     let mut words = Vec::new(alloc);
     push_bar(&mut words, page.plan, bar.what)?;
-    if let (BarKind::Waits { .. }, Some(writer)) = (bar.what, writer_before(page, bar)) {
+    if let Some(writer) = writer_before(page, bar) {
         words.extend_from_slice(b", behind ")?;
         words.extend_from_slice(page.plan.thread_name(writer))?;
     }
     Ok(words)
 }
 
-// The writer behind which a bar's thread waits, as the sentence of the turn says that began it.
+// The writer behind which a bar's thread waits, if it waits, as the sentence of the turn says that began it.
 fn writer_before(page: &Page<'_>, bar: Bar) -> Option<ThreadNo> {
+    match bar.what {
+        BarKind::Waits { .. } => {}
+        BarKind::Holds { .. } | BarKind::TakenOff { .. } | BarKind::Woken { .. } | BarKind::Walks =>
+            {
+                return None;
+            }
+    }
     let sentence = page.sentence_at(bar.first.checked_sub(1)?)?;
     match &sentence.saying {
         Saying::Waits { behind, .. } => *behind,

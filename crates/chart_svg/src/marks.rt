@@ -11,7 +11,7 @@ use crate::shapes::{Figure, push_dot, push_figure, push_words};
 use crate::tags::Class;
 use chart_layout::{Mark, MarkKind};
 use chart_words::{push_mark, push_note};
-use lock_model::{Event, push_digits};
+use lock_model::push_digits;
 use std::alloc::{AllocError, Global};
 
 /// Pushes all marks.
@@ -181,9 +181,21 @@ pub fn push_reasons(alloc: Global, out: &mut Vec<u8>, page: &Page<'_>) -> Result
 fn reason_words(alloc: Global, page: &Page<'_>, mark: Mark) -> Result<Vec<u8>, AllocError> {
     let mut words = Vec::new(alloc);
     push_mark(&mut words, page.plan, mark.what)?;
-    words.extend_from_slice(match mark.what {
-        MarkKind::Noted(Event::Reversed { .. }) => b": it would close a circle",
-        MarkKind::Noted(_) | MarkKind::Did(_) | MarkKind::Idle => b": lost, nobody sleeps there",
-    })?;
+    words.extend_from_slice(reason(mark.what))?;
     Ok(words)
+}
+
+// Why a mark's take was refused, or its wake was lost.
+fn reason(what: MarkKind) -> &'static [u8] {
+    let event = match what {
+        MarkKind::Noted(event) => event,
+        MarkKind::Did(_) | MarkKind::Idle => return b"",
+    };
+    if event.is_reversal() {
+        b": it would close a circle"
+    } else if event.wakes_nobody() {
+        b": lost, nobody sleeps there"
+    } else {
+        b""
+    }
 }

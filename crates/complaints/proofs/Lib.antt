@@ -1,2 +1,3 @@
 mod Items
 mod Appends
+mod Fronts

@@ -14,6 +14,6 @@ mod status;
 mod text;
 
 pub use program::Program;
-pub use saying::say;
+pub use saying::{Unsaid, say};
 pub use sentence::{complaint, fixed_complaint, speaker};
 pub use status::Status;

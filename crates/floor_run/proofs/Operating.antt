@@ -12,7 +12,7 @@ use Rattle.lock_model.specs.Keys.{op_names, plan_names}
 use Rattle.lock_model.specs.Law.{LeadsTo, Gives, Before, IsAtEnd}
 use Rattle.lock_model.specs.Law as law
 use Rattle.lock_model.specs.Limits.{most_held}
-use Rattle.lock_model.specs.Operations.{IsProper, held_of, held_behind, hold_in, without_lock, gaining_tests, edit_tests, channel_test}
+use Rattle.lock_model.specs.Operations.{IsProper, held_of, held_behind, hold_in, without_lock, acquiring_tests, edit_tests, channel_test}
 use Rattle.lock_model.specs.Plans.{config_of, operations_of, lock_kind}
 use Rattle.lock_model.specs.Tests.{Test, Passes}
 use Rattle.lock_model.specs.declared.numbers.LockNo.{LockNo}
@@ -114,7 +114,7 @@ module _ (f : Floor Plan) (p : IsProper f.plan) (m : HasOnlyMutexes f.plan) (t n
   holds_so : (l : ℕ) → hold_in x.view.share.held l ≡ hold_in held l
   holds_so l = ap (λ hs. hold_in hs l) b.held
 
-  may_acquire : (op : Op) (l : LockNo) (mode : Mode) → slice_get ops n ≡ Some op → Passes (gaining_tests f.plan.locks l mode held) → MayAcquire f.plan l.0 x.view
+  may_acquire : (op : Op) (l : LockNo) (mode : Mode) → slice_get ops n ≡ Some op → Passes (acquiring_tests f.plan.locks l mode held) → MayAcquire f.plan l.0 x.view
   may_acquire op l mode e tests =
       let g = gain_passes f.plan l mode false held _ tests refl in
       record {
@@ -176,7 +176,7 @@ module _ (f : Floor Plan) (p : IsProper f.plan) (m : HasOnlyMutexes f.plan) (t n
 
   -- 5. Operation by operation
 
-  its_mode : (l : LockNo) (mode : Mode) → Passes (gaining_tests f.plan.locks l mode held) → mode ≡ Excl
+  its_mode : (l : LockNo) (mode : Mode) → Passes (acquiring_tests f.plan.locks l mode held) → mode ≡ Excl
   its_mode l mode tests = (gain_passes f.plan l mode false held _ tests refl).mutex (mutex_kind f.plan m l.0)
 
   pub took : (y : Pass Knowledge) (l : LockNo) (mode : Mode) → slice_get ops n ≡ Some (Take l mode) → IsReady f y → MakesEntry f.plan (event.Locked l Excl) (x.view.share.held ++ as_held l false ∷ []) x.view y.view → IsBefore f t (suc n) y

@@ -149,7 +149,11 @@ module _ (plan : Plan) (x : Closing) (closing : IsClosing plan (threads_of plan)
       }
 
   pub is_run : (o : text.Outcome) → IsLegal plan true false history → o ≡ outcome_of plan history → IsRunOf plan o x
-  is_run o legal same = record { run = record { history = history; legal = legal; outcome = same }; closing = closing; same = refl }
+  is_run o legal same = record {
+    run = record { history = history; legal = legal; no_refusal = closing.no_refusal; outcome = same };
+    closing = closing;
+    same = refl;
+  }
 
 -- 4. Histories from the oldest entry on
 

@@ -1,8 +1,7 @@
 //! Running all threads of a plan.
 ghost use Rattle.std.specs.Prelude.{◌≡◌, ℕ, ◌≤◌, ◌<◌, ◌++◌, length, map, reverse, slice_index_or, IfOk};
-ghost use Rattle.lock_model.specs.Law.{is_halt};
 ghost use Rattle.lock_model.specs.Operations.{IsProper};
-ghost use Rattle.lock_model.specs.Takes.{is_reversal, has_reversal};
+ghost use Rattle.lock_model.specs.Takes.{has_reversal};
 ghost use Rattle.lock_history.specs.Endings.{numbers_of, ending_of};
 ghost use Rattle.lock_history.specs.Outcomes.{outcome_seen};
 ghost use Rattle.lock_state.specs.Run.{threads_of};
@@ -15,7 +14,7 @@ use crate::worker::work;
 use lock_floor::{Closing, Floor, Keeper, Pass};
 use lock_history::{Last, Outcome, merge, replay};
 use lock_io::Gate;
-use lock_model::{Entry, Event, Plan, Prio, Sequence};
+use lock_model::{Entry, Plan, Prio, Sequence};
 use std::alloc::{AllocError, Global};
 use std::sync::Wait;
 use std::thread;
@@ -142,24 +141,12 @@ fn last_of(history: &[Entry]) -> Last
 fn has_halt(history: &[Entry]) -> bool
     ensures { result ≡ has_halt history.now }
 {
-    history.iter().any(|e| is_halt(e.event))
-}
-
-fn is_halt(event: Event) -> bool
-    ensures { result ≡ is_halt event }
-{
-    matches!(event, Event::HaltedChan { .. } | Event::HaltedLock { .. })
+    history.iter().any(|e| e.event.is_halt())
 }
 
 // Whether an entry is the refusal of a take.
 fn has_reversal(history: &[Entry]) -> bool
     ensures { result ≡ has_reversal history.now }
 {
-    history.iter().any(|e| is_reversal(e.event))
-}
-
-fn is_reversal(event: Event) -> bool
-    ensures { result ≡ is_reversal event }
-{
-    matches!(event, Event::Reversed { .. })
+    history.iter().any(|e| e.event.is_reversal())
 }

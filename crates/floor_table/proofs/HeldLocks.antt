@@ -53,7 +53,7 @@ at_start c t l mode e = absurd cc
 
 reached : (c : Config) {past : List Step} (s : State) → LeadsTo c past s → OnlyLocksAreHeld c s.held
 reached c s none = at_start c
-reached c n (more {s} step r p) = kept c s step p.0 (reached c s r)
+reached c n (more {s} step r p) = kept c s step p.may (reached c s r)
 
 pub only_locks : (c : Config) {past : List Step} (s : State) (t l : ℕ) (mode : Mode) → LeadsTo c past s → s.held t l ≡ Holds mode → l < c.locks
 unfolding OnlyLocksAreHeld

@@ -6,6 +6,7 @@ pub mod Seats
 pub mod Items
 pub mod Known
 pub mod Stepped
+pub mod Unrefused
 pub mod Sound
 pub mod Seen
 pub mod Made

@@ -1,6 +1,9 @@
 -- A step of a thread, on whatever table its seat is at: what is asked of the step on a table that represents a sound state,
 -- and what it tells then.
-use Rattle.std.proofs.Common.{◌≡◌, ◌≢◌, ℕ, suc, ◌<◌, eqb, Option, Some, None, List, ◌∷◌, length, set, refl, sym, ap, ◌∙◌, subst, arith, length-set, get_or-set_same}
+use Rattle.std.proofs.Common.{◌≡◌, ◌≢◌, ℕ, suc, ◌<◌, eqb, Option, Some, None, List, [], ◌∷◌, length, set, refl, sym, ap, ◌∙◌, subst, inl, inr, arith, length-set, get_or-set_same}
+use Rattle.std.proofs.lemmas.Bool.{cases_lt}
+use Rattle.std.proofs.lemmas.List.{set-get_or}
+use Rattle.std.proofs.lemmas.List.Elements.{All-nil}
 use Rattle.std.specs.Prelude.{slice_index}
 use mathlib.Core.Option as slots
 use mathlib.Core.Option.{some}
@@ -15,23 +18,24 @@ use Rattle.lock_state.specs.State.{State, put}
 use Rattle.lock_state.specs.Steps.Items.{Item, item_with}
 use Rattle.lock_laws.proofs.Kit.{put_back as put_again}
 use Rattle.lock_laws.proofs.Items.{with_then}
-use Rattle.lock_state.specs.Steps.{Step, after_all}
+use Rattle.lock_state.specs.Steps.{Step, after_all, maker}
 use Rattle.floor_table.specs.declared.slot.Slot.{Slot}
-use Rattle.floor_table.specs.Views.{OfThread, Knowledge, nothing}
+use Rattle.floor_table.specs.Views.{OfThread, OfNobody, Knowledge, nothing, seeing}
 use Rattle.floor_table.specs.Places.{spot, lock_line, ticket_line, turn_line, word_at, lock_word, turn_word, slots_for, slot_of, home_at}
 use Rattle.floor_table.specs.Shares.{share_in}
 use Rattle.floor_table.specs.Shelves.{Shelves}
-use Rattle.floor_table.specs.Past.{past_with, AreSeen}
+use Rattle.floor_table.specs.Past.{past_with, IsSeenBy, AreSeen}
 use Rattle.floor_table.specs.Represents.{Board, RepresentsLocks, RepresentsTurns, RepresentsObjects, objects_in, IsSeatOf, to_come, Represents, keeper_in, thread_in}
-use Rattle.floor_table.specs.Steps.{IsSound, MayAll, Fits, Makes}
+use Rattle.floor_table.specs.Steps.{IsSound, FitAll, Fits, Makes}
 use Rattle.floor_table.specs.Rule.{FloorHolds}
-use Rattle.floor_table.proofs.Lists.{inside, at_or, field_set}
+use Rattle.floor_table.proofs.Lists.{inside, at_or, or_at, or_past, field_set}
 use Rattle.floor_table.proofs.Known.{fits_of, seen_of}
-use Rattle.floor_table.proofs.Seen.{AreOf, seen_stepped}
+use Rattle.floor_table.proofs.Seen.{AreOf, seen_on, seen_stepped}
 use Rattle.floor_table.proofs.Sound.{sound_kept}
+use Rattle.floor_table.proofs.Unrefused.{RefuseNothing}
 use Rattle.floor_table.proofs.Items.{place_low, turns_changed}
 use Rattle.floor_table.proofs.Shelved.{shelf_taken, shelf_given}
-use Rattle.floor_table.proofs.Stepped.{lock_stepped, ticket_stepped, turn_stepped}
+use Rattle.floor_table.proofs.Stepped.{lock_stepped, ticket_stepped, turn_stepped, seat_stepped}
 
 -- 1. What a step owes
 
@@ -66,9 +70,6 @@ finds plan b i v holds at is =
       },
     )
 
-pub rule_of : (plan : Plan) (v : Knowledge) (b : Board) → Finds plan v b → FloorHolds plan b
-rule_of plan v b h = record { past = h.past; state = h.state; sound = h.sound; represents = h.represents; seen = h.seen }
-
 -- so it may be made on each table
 pub allows : (plan : Plan) (slots id : ℕ) (me : Me Slot Knowledge) (i : ℕ) (f : ℕ → ℕ) (told : ℕ → Me Slot Knowledge → Type 0) → me.0.role ≡ OfThread
     → ((b : Board) → Finds plan me.0 b → slice_index b.words i < 18446744073709551616 → Steps plan me i (slice_index b.words i) (f (slice_index b.words i)) told b) → Allows (FloorHolds plan) slots id me i f told
@@ -93,11 +94,12 @@ pub record OwnSteps (v w : Knowledge) (past steps : List Step) (s n : State) : T
   pub role : w.role ≡ OfThread
   pub seen : w.seen ≡ past_with past steps
   pub makers : AreOf v.thread steps
+  pub no_refusal : RefuseNothing steps
   pub seat : IsSeatOf w n v.thread
   pub others : (u : ℕ) → u ≢ v.thread → share_in n u ≡ share_in s u
 
 -- where the table then represents the state behind steps that may be made, the rule holds, and the thread made them
-pub made : (plan : Plan) (steps : List Step) (b behind : Board) (v w : Knowledge) (h : Finds plan v b) → v.role ≡ OfThread → MayAll (config_of plan) h.state steps → OwnSteps v w h.past steps h.state (after_all (config_of plan) h.state steps) → behind.views ≡ set b.views (suc v.thread) w
+pub made : (plan : Plan) (steps : List Step) (b behind : Board) (v w : Knowledge) (h : Finds plan v b) → v.role ≡ OfThread → FitAll (config_of plan) h.state steps → OwnSteps v w h.past steps h.state (after_all (config_of plan) h.state steps) → behind.views ≡ set b.views (suc v.thread) w
     → Represents plan behind (after_all (config_of plan) h.state steps) → FloorHolds plan behind × Makes plan steps v w
 made plan steps b behind v w h role may own views r =
     let here : thread_in b.views v.thread ≡ v = at_or b.views (suc v.thread) v nothing h.there in
@@ -105,7 +107,7 @@ made plan steps b behind v w h role may own views r =
       record {
         past = past_with h.past steps;
         state = after_all (config_of plan) h.state steps;
-        sound = sound_kept (config_of plan) h.state steps may h.sound;
+        sound = sound_kept (config_of plan) h.state steps own.no_refusal may h.sound;
         represents = r;
         seen = subst (λ vs. AreSeen vs (past_with h.past steps)) (sym views) (seen_stepped b.views v.thread v w h.past steps h.there low own.seen own.makers h.seen);
       },
@@ -137,7 +139,7 @@ pub record SameRest (s n : State) : Type 0 where
   pub objects : objects_in n ≡ objects_in s
   pub begun : to_come n ≡ to_come s
 
-module _ (plan : Plan) (steps : List Step) (b : Board) (v w : Knowledge) (h : Finds plan v b) (was : v.role ≡ OfThread) (may : MayAll (config_of plan) h.state steps) (own : OwnSteps v w h.past steps h.state (after_all (config_of plan) h.state steps)) (cs : List (ℕ × Slot)) where
+module _ (plan : Plan) (steps : List Step) (b : Board) (v w : Knowledge) (h : Finds plan v b) (was : v.role ≡ OfThread) (may : FitAll (config_of plan) h.state steps) (own : OwnSteps v w h.past steps h.state (after_all (config_of plan) h.state steps)) (cs : List (ℕ × Slot)) where
   abbrev s : State
   s = h.state
 
@@ -220,3 +222,56 @@ module _ (plan : Plan) (steps : List Step) (b : Board) (v w : Knowledge) (h : Fi
       (λ k. (sym (ap home_at homes ∙ field_set (λ (o : slots.Option Slot). o) b.homes j (some x) slots.none fits) k, sym out k))
       (shelf_given (slots_for plan) (turn_word b.words) (home_at b.homes) outs r.content r.shelves j v.thread x xs (own_out ∙ was_out)))
       (subst (RepresentsObjects plan r.content) (sym rest.objects) r.objects))
+
+-- 4. No step
+
+-- an exchange that misses, or a load: the seat has seen all steps that were made before it
+pub none_made : (plan : Plan) (b : Board) (v : Knowledge) (h : Finds plan v b) → v.role ≡ OfThread → (i : ℕ) (cs : List (ℕ × Slot))
+    → FloorHolds plan (stepped b i (slice_index b.words i) (suc v.thread) cs (seeing h.past v) keeps) × (m : Makes plan [] v (seeing h.past v)) × (m.state ≡ h.state)
+unfolding made
+none_made plan b v h was i cs =
+    let w : Knowledge = seeing h.past v in
+    let behind : Board = stepped b i (slice_index b.words i) (suc v.thread) cs w keeps in
+    let own : OwnSteps v w h.past [] h.state h.state = record {
+      role = was;
+      seen = refl;
+      makers = All-nil (λ step. maker step ≡ v.thread);
+      seat = record { thread = refl; share = h.fits.share };
+      others = λ u ne. refl;
+      no_refusal = tt;
+    } in
+    let r : Represents plan (record { words = b.words; homes = b.homes; views = set b.views (suc v.thread) w }) h.state = seat_stepped plan b h.state h.represents v.thread v w h.there was was own.seat refl refl in
+    let done = made plan [] b behind v w h was tt own refl (subst (λ ws. Represents plan (record { words = ws; homes = b.homes; views = set b.views (suc v.thread) w }) h.state) (sym (set-get_or b.words i 0)) r) in
+    (done.0, done.1, refl)
+
+-- a step of a thread that saw more since its last one is a step from what it knew before
+pub sooner : (plan : Plan) (steps seen : List Step) (old new : Knowledge) → IsSeenBy old.thread old.seen seen → Makes plan steps (seeing seen old) new → Makes plan steps old new
+sooner plan steps seen old new since m =
+    let t = old.thread in
+    let vs : List Knowledge = m.before.views in
+    let is : (thread_in vs t).role ≡ OfThread = ap (λ (k : Knowledge). k.role) m.was ∙ m.role in
+    let low : suc t < length vs = seat_low vs t is in
+    let its = subst (λ (k : Knowledge). IsSeatOf k m.state t) m.was (m.represents.seats.thread t is) in
+    record {
+      role = m.role;
+      role_behind = m.role_behind;
+      past = m.past;
+      since = seen_on t old.seen seen m.past since m.since;
+      own = m.own;
+      seen = m.seen;
+      before = record { words = m.before.words; homes = m.before.homes; views = set vs (suc t) old };
+      behind = m.behind;
+      state = m.state;
+      sound = m.sound;
+      represents = seat_stepped plan m.before m.state m.represents t (seeing seen old) old (or_at vs (suc t) nothing low ∙ ap some m.was) m.role m.role (record { thread = its.thread; share = its.share }) refl refl;
+      may = m.may;
+      represents_behind = m.represents_behind;
+      was = get_or-set_same vs (suc t) old nothing low;
+      is = m.is;
+    }
+  where
+    seat_low : (vs : List Knowledge) (t : ℕ) → (thread_in vs t).role ≡ OfThread → suc t < length vs
+    seat_low vs t is = elim (cases_lt (suc t) (length vs)) [
+      | inl l ↦ l
+      | inr past ↦ absurd (let z : OfNobody ≡ OfThread = ap (λ (k : Knowledge). k.role) (sym (or_past vs (suc t) nothing past)) ∙ is in cc)
+    ]

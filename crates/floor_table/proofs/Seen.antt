@@ -1,13 +1,13 @@
 -- How far back seats have seen the steps, behind steps of one thread: that thread has seen all, and of what another has
 -- seen the new ones are later and not its own.
-use Rattle.std.proofs.Common.{◌≡◌, ◌≢◌, ℕ, suc, ◌<◌, ◌≤◌, List, [], ◌∷◌, set, sym, ap, ◌∙◌, subst, inl, inr, arith, get_or-set_same, get_or-set_other}
+use Rattle.std.proofs.Common.{◌≡◌, ◌≢◌, ℕ, suc, ◌<◌, ◌≤◌, List, [], ◌∷◌, ◌++◌, append_assoc, set, sym, ap, ◌∙◌, subst, inl, inr, arith, get_or-set_same, get_or-set_other}
 use Rattle.std.proofs.lemmas.Bool.{cases_eq}
-use Rattle.std.proofs.lemmas.List.Elements.{All-nil, All-cons}
+use Rattle.std.proofs.lemmas.List.Elements.{All-nil, All-cons, All-append}
 use Rattle.std.specs.List.{All}
 use mathlib.Core.Option.{some}
 use lib.ListN.{get_elem?}
-use Rattle.lock_state.specs.Steps.{Step}
-use Rattle.floor_table.specs.Past.{maker, past_with, AreOfOthers, IsSeen, IsSeenBy, AreSeen}
+use Rattle.lock_state.specs.Steps.{Step, maker}
+use Rattle.floor_table.specs.Past.{past_with, AreOfOthers, IsSeen, IsSeenBy, AreSeen}
 use Rattle.floor_table.specs.Represents.{keeper_in, thread_in}
 use Rattle.floor_table.specs.Views.{OfThread, Knowledge, nothing}
 use Rattle.floor_table.proofs.Lists.{inside}
@@ -43,6 +43,14 @@ module _ (t u : ℕ) (ne : u ≢ t) where
     is = ap (λ xs. step ∷ xs) h.is;
     of_others = one_more step h.later (own 0 step (omega arith)) h.of_others;
   }
+
+-- what was seen of what was seen
+pub seen_on : (t : ℕ) (first then last : List Step) → IsSeenBy t first then → IsSeenBy t then last → IsSeenBy t first last
+seen_on t first then last h k = record {
+  later = k.later ++ h.later;
+  is = k.is ∙ ap (λ xs. k.later ++ xs) h.is ∙ sym (append_assoc k.later h.later first);
+  of_others = All-append (λ s. maker s ≢ t) k.later h.later k.of_others h.of_others;
+}
 
 -- 2. The seats behind them
 

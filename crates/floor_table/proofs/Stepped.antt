@@ -10,14 +10,14 @@ use Rattle.lock_model.specs.Words.{Word, word_of}
 use Rattle.lock_model.specs.declared.plan.Plan.{Plan}
 use Rattle.lock_state.specs.State.{State, put}
 use Rattle.lock_state.specs.Steps.Items.{Item, item_with}
-use Rattle.lock_laws.proofs.Kit.{put_same, put_other}
+use Rattle.lock_laws.proofs.Kit.{put_same, put_other, put_back as put_again}
 use Rattle.floor_table.specs.declared.slot.Slot.{Slot}
 use Rattle.floor_table.specs.Places.{spot, lock_line, ticket_line, turn_line, lock_word, turn_word, word_at, slots_for, home_at}
 use Rattle.floor_table.specs.Shares.{share_in}
 use Rattle.floor_table.specs.Shelves.{Shelves}
 use Rattle.floor_table.specs.Views.{OfThread, Knowledge, nothing}
 use Rattle.floor_table.specs.Represents.{Board, RepresentsTurns, RepresentsLocks, RepresentsObjects, objects_in, thread_in, spare, IsSeatOf, to_come, HasSizes, Represents}
-use Rattle.floor_table.proofs.Lists.{inside}
+use Rattle.floor_table.proofs.Lists.{inside, at_or}
 use Rattle.floor_table.proofs.Words.{word_here, word_there, locks_stay, lock_changes, turns_stay, turn_changes}
 use Rattle.floor_table.proofs.Seats.{total_set, seats_stepped}
 
@@ -109,3 +109,33 @@ module _ (plan : Plan) (b : Board) (s n : State) (r : Represents plan b s) (t : 
         seats = seats_stepped plan b.views s r.seats n t v w at was is mine others;
         begun = begun ∙ r.begun;
       }
+
+-- 4. No word: a seat has seen more, and its share, what it has out and its room for entries stay
+
+module _ (plan : Plan) (b : Board) (s : State) (r : Represents plan b s) (t : ℕ) (v w : Knowledge) (at : get_elem? b.views (suc t) ≡ some v) (was : v.role ≡ OfThread) (is : w.role ≡ OfThread) (mine : IsSeatOf w s t) (spares : w.spare ≡ v.spare) (out : w.out ≡ v.out) where
+  abbrev old_outs : ℕ → List (ℕ × Slot)
+  old_outs u = (thread_in b.views u).out
+
+  outs_stay : (λ u. (thread_in (set b.views (suc t) w) u).out) ≡ old_outs
+  outs_stay =
+      let mine_was : old_outs t ≡ w.out = ap (λ (x : Knowledge). x.out) (at_or b.views (suc t) v nothing at) ∙ sym out in
+      outs_after b.views t w (inside b.views (suc t) v at) ∙ put_again old_outs t w.out mine_was
+
+  pub seat_stepped : Represents plan (record { words = b.words; homes = b.homes; views = set b.views (suc t) w }) s
+  seat_stepped = record {
+    sizes = record {
+      words = r.sizes.words;
+      slots = r.sizes.slots;
+      few_locks = r.sizes.few_locks;
+      few_threads = r.sizes.few_threads;
+    };
+    locks = r.locks;
+    ticket = r.ticket;
+    room = let p = total_set spare b.views (suc t) v w at in omega (arith, p, r.room, spares);
+    turns = r.turns;
+    content = r.content;
+    shelves = subst (λ (z : ℕ → List (ℕ × Slot)). Shelves (slots_for plan) (turn_word b.words) (home_at b.homes) z r.content) (sym outs_stay) r.shelves;
+    objects = r.objects;
+    seats = seats_stepped plan b.views s r.seats s t v w at was is mine (λ u ne. refl);
+    begun = r.begun;
+  }

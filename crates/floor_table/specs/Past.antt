@@ -3,7 +3,7 @@ use Rattle.std.specs.Prelude.{◌≡◌, ◌≢◌, ℕ, ◌≤◌, List, [], �
 use Rattle.std.specs.List.{All}
 use Rattle.lock_model.specs.Config.{Config}
 use Rattle.lock_state.specs.State.{State, start_state}
-use Rattle.lock_state.specs.Steps.{Step, Seeks, Looks, TakesItem, GivesItem, Gains, Drops, Stamps, Readies, Unreadies, Enters, Opens, EntersSleepQueue, OpensSleepQueue, Adds, Wakes, Marks, Resumes, Claims, Lends, Shifts, EndsWalk, Admits, Refuses, May, HasOut, HasSeen, after}
+use Rattle.lock_state.specs.Steps.{Step, after, FitsFloor, maker}
 use Rattle.floor_table.specs.Represents.{keeper_in, thread_in}
 use Rattle.floor_table.specs.Views.{Knowledge, OfThread}
 
@@ -11,38 +11,11 @@ use Rattle.floor_table.specs.Views.{Knowledge, OfThread}
 abbrev pub chains : ℕ
 chains = 1
 
--- who makes a step
-abbrev pub maker : Step → ℕ
-maker (Seeks t l by_try) = t
-maker (Looks t l in_round) = t
-maker (TakesItem t i) = t
-maker (GivesItem t i) = t
-maker (Gains t l mode by_try) = t
-maker (Drops t l mode) = t
-maker (Stamps t e) = t
-maker (Readies t q) = t
-maker (Unreadies t q) = t
-maker (Enters t l mode x) = t
-maker (Opens t l mode) = t
-maker (EntersSleepQueue t l mode x) = t
-maker (OpensSleepQueue t l mode) = t
-maker (Adds t d x) = t
-maker (Wakes t d all) = t
-maker (Marks t m ms) = t
-maker (Resumes t q cause) = t
-maker (Claims t l h by_try) = t
-maker (Lends t l o h) = t
-maker (Shifts t o l) = t
-maker (EndsWalk t) = t
-maker (Admits t l) = t
-maker (Refuses t l k) = t
-
 -- The steps of threads of a floor that lead from the start to a state, the newest first. Each might be made where it came.
 pub data LeadsTo (c : Config) : List Step → State → Type 0 where
   none : LeadsTo c [] (start_state c)
   more : {past : List Step} {s : State} (step : Step) → LeadsTo c past s
-      → May c s step × HasOut chains c s step × HasSeen chains c s step
-      → LeadsTo c (step ∷ past) (after c s step)
+      → FitsFloor chains c s step → LeadsTo c (step ∷ past) (after c s step)
 
 -- the steps, and then those of a list, made in order
 abbrev pub past_with : List Step → List Step → List Step

@@ -70,7 +70,8 @@ slots_for plan = length plan.threads + length (cells_of plan)
 abbrev pub is_cell : ℕ → ℕ → ℕ × ℕ → Bool
 is_cell l key cell = (cell.0 == l) && (cell.1 == key)
 
--- the place of an item among the values. Chains and the class graph have none yet
+-- The place of an item among the values. Chains and the class graph have none yet, so no thread of a floor takes one:
+-- who gives a sort a place decides here where
 abbrev pub slot_of : Plan → Item → Option ℕ
 slot_of plan (TurnstileChain k) = None
 slot_of plan (SleepChain k) = None

@@ -11,7 +11,7 @@ use Rattle.lock_model.specs.Words.{Word, word_of}
 use Rattle.lock_model.specs.declared.plan.Plan.{Plan}
 use Rattle.lock_model.specs.declared.plan.QueueName.{QueueName}
 use Rattle.lock_state.specs.State.{State, Wait, start_state}
-use Rattle.lock_state.specs.Steps.Items.{Item, RecordOf, CellOf, item_with}
+use Rattle.lock_state.specs.Steps.Items.{Item, TurnstileChain, SleepChain, RecordOf, CellOf, ClassGraph, item_with}
 use Rattle.lock_objects.specs.Held.{holds_of}
 use Rattle.lock_objects.specs.Represents.{RecordColumns, RepresentsRecord, record_in}
 use Rattle.floor_table.specs.declared.slot.Slot.{Slot}
@@ -48,11 +48,19 @@ pub record Objects : Type 0 where
 abbrev pub objects_in : State → Objects
 objects_in s = record { record_of = record_in s; table = s.table }
 
--- a value says of its item what the columns say
+-- A value says of its item what the columns say. The cases are listed, so that a value of another sort must be decided
+-- here: of chains and the class graph no value says anything yet
 abbrev pub IsOf : Objects → Item → Slot → Type 0
+IsOf x (TurnstileChain k) (Record b) = ⊥
+IsOf x (TurnstileChain k) (Cell value) = ⊥
+IsOf x (SleepChain k) (Record b) = ⊥
+IsOf x (SleepChain k) (Cell value) = ⊥
 IsOf x (RecordOf t) (Record b) = RepresentsRecord b.value (x.record_of t)
+IsOf x (RecordOf t) (Cell value) = ⊥
+IsOf x (CellOf l key) (Record b) = ⊥
 IsOf x (CellOf l key) (Cell value) = value ≡ x.table l key
-IsOf x other another = ⊥
+IsOf x ClassGraph (Record b) = ⊥
+IsOf x ClassGraph (Cell value) = ⊥
 
 pub record RepresentsObjects (plan : Plan) (content : ℕ → Slot) (x : Objects) : Type 0 where
   pub each : (i : Item) (j : ℕ) → slot_of plan i ≡ Some j → IsOf x i (content j)

@@ -1,22 +1,30 @@
 -- What the threads of a floor do: each makes steps of `lock_state`, under what a running floor asks beside.
-use Rattle.std.specs.Prelude.{◌≡◌, ℕ, ◌<◌, List, [], ◌∷◌, length, Some, ⊤}
+use Rattle.std.specs.Prelude.{◌≡◌, ◌≢◌, ℕ, ◌<◌, false, List, [], ◌∷◌, length, Option, Some}
 use Rattle.std.specs.List.{All}
 use mathlib.Core.Option.{some}
 use Rattle.lock_model.specs.Config.{Config}
 use Rattle.lock_model.specs.Plans.{config_of}
+use Rattle.lock_model.specs.Takes.{has_reversal}
+use Rattle.lock_model.specs.declared.event.Entry.{Entry}
 use Rattle.lock_model.specs.declared.plan.Plan.{Plan}
-use Rattle.lock_state.specs.State.{State, Running}
+use Rattle.lock_state.specs.State.{State, Note, OrderRefused, Running}
 use Rattle.lock_state.specs.Facts.{LawfulFloor}
-use Rattle.lock_state.specs.Steps.{Step, May, HasOut, HasSeen, after, after_all}
+use Rattle.lock_state.specs.Steps.{Step, EachStep, after_all, FitsFloor, maker}
 use Rattle.lock_state.specs.Steps.Items.{Item, item_with}
 use Rattle.lock_laws.specs.Rounds.{LawfulRounds}
 use Rattle.sleep_laws.specs.Sleepers.{SleepersFit, by_chain}
 use Rattle.floor_table.specs.declared.slot.Slot.{Slot}
-use Rattle.floor_table.specs.Past.{chains, maker, LeadsTo, IsSeenBy, past_with}
+use Rattle.floor_table.specs.Past.{chains, LeadsTo, IsSeenBy, past_with}
 use Rattle.floor_table.specs.Places.{slot_of}
 use Rattle.floor_table.specs.Shelves.{found}
 use Rattle.floor_table.specs.Views.{OfThread, Knowledge}
 use Rattle.floor_table.specs.Represents.{Board, RepresentsShare, IsOf, Represents, objects_in, thread_in}
+
+-- Orders of locks aren't checked on a floor yet: no thread has the refusal of a take to note, and none stands in the
+-- history
+pub record NothingIsRefused (noted : ℕ → Option Note) (history : List Entry) : Type 0 where
+  pub to_note : (t l k : ℕ) → noted t ≢ Some (OrderRefused l k)
+  pub in_history : has_reversal history ≡ false
 
 -- what holds of a state between two steps of threads of a floor, to which these steps led
 pub record IsSound (c : Config) (past : List Step) (s : State) : Type 0 where
@@ -24,13 +32,11 @@ pub record IsSound (c : Config) (past : List Step) (s : State) : Type 0 where
   pub floor : LawfulFloor c s
   pub rounds : LawfulRounds chains c s
   pub sleepers : SleepersFit (by_chain chains s) c s
+  pub no_refusal : NothingIsRefused s.noted s.history
 
 -- each of the steps may be made by a thread of a floor, where it comes
-abbrev pub MayAll : Config → State → List Step → Type 0
-MayAll c s [] = ⊤
-MayAll c s (step ∷ steps) =
-    May c s step × HasOut chains c s step × HasSeen chains c s step
-    × MayAll c (after c s step) steps
+abbrev pub FitAll : Config → State → List Step → Type 0
+FitAll c s steps = EachStep (FitsFloor chains c) c s steps
 
 -- 1. What a thread knows of the state
 
@@ -41,8 +47,8 @@ pub record HasJust (plan : Plan) (out : List (ℕ × Slot)) (s : State) (t : ℕ
   pub no_other : (i : Item) → item_with s i ≡ Some t
       → (j : ℕ) × (slot_of plan i ≡ Some j) × ((x : Slot) × (found j out ≡ some x))
 
--- The state is one of which a thread's seat may know what it knows: others' steps led to it from the one behind the
--- thread's last step. The thread runs.
+-- The state is one of which a thread's seat may know what it knows: others' steps led to it from the one behind all
+-- steps that the seat has seen. The thread runs.
 pub record Fits (plan : Plan) (v : Knowledge) (s : State) : Type 0 where
   pub past : List Step
   pub sound : IsSound (config_of plan) past s
@@ -55,7 +61,7 @@ pub record Fits (plan : Plan) (v : Knowledge) (s : State) : Type 0 where
 -- whatever the state is, if something holds of it, the thread may make the steps
 abbrev pub MayMake : Plan → Knowledge → (State → Type 0) → List Step → Type 0
 MayMake plan v premise steps =
-    (s : State) → Fits plan v s → premise s → MayAll (config_of plan) s steps
+    (s : State) → Fits plan v s → premise s → FitAll (config_of plan) s steps
 
 -- 2. What it did
 
@@ -74,7 +80,7 @@ pub record Makes (plan : Plan) (steps : List Step) (old new : Knowledge) : Type 
   pub state : State
   pub sound : IsSound (config_of plan) past state
   pub represents : Represents plan before state
-  pub may : MayAll (config_of plan) state steps
+  pub may : FitAll (config_of plan) state steps
   pub represents_behind : Represents plan behind (after_all (config_of plan) state steps)
   pub was : thread_in before.views old.thread ≡ old
   pub is : thread_in behind.views old.thread ≡ new

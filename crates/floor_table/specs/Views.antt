@@ -17,8 +17,8 @@ pub data Role : Type 0 where
 pub record Knowledge : Type 0 where
   pub role : Role
   pub plan : Plan
-  -- the steps that had been made, the newest first: of a thread when it made its last one, with that one; of the keeper
-  -- when the last of the passes that it took in had made its last
+  -- the steps that had been made, the newest first: of a thread when it made its last one, with that one, or found an
+  -- item out since; of the keeper those that the passes it took in have seen
   pub seen : List Step
   -- how many entries may still be made
   pub spare : ℕ

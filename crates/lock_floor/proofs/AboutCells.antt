@@ -51,7 +51,7 @@ module _ (plan : Plan) (v : Knowledge) (calm : IsAtRest plan v) (l : LockNo) (ke
   is_lock (Holds mode) e held s f = only_locks c s v.thread l.0 mode f.sound.reached (holds_it plan v s f l.0 ∙ e)
 
   pub may_take_cell : hold_in v.share.held l.0 ≢ NotHeld → MayMake plan v (λ s. item_with s cell ≡ None) (TakesItem v.thread cell ∷ [])
-  may_take_cell held = may_take plan v cell calm.nothing_out calm.no_round (is_lock (hold_in v.share.held l.0) refl held)
+  may_take_cell held = may_take plan v cell calm.nothing_out calm.no_round calm.going (is_lock (hold_in v.share.held l.0) refl held)
 
   -- once it has the cell
   module _ (a : Knowledge) (taken : Takes plan cell j v a) where

@@ -76,9 +76,12 @@ module _ (x : Objects) (a b : ℕ) (v : Option ℕ) where
       go (RecordOf u) (Cell w) ne h = absurd h
       go (CellOf l key) (Cell w) ne h = h ∙ sym (beside l key ne)
       go (CellOf l key) (Record r) ne h = absurd h
-      go (TurnstileChain k) z ne h = absurd h
-      go (SleepChain k) z ne h = absurd h
-      go ClassGraph z ne h = absurd h
+      go (TurnstileChain k) (Record r) ne h = absurd h
+      go (TurnstileChain k) (Cell w) ne h = absurd h
+      go (SleepChain k) (Record r) ne h = absurd h
+      go (SleepChain k) (Cell w) ne h = absurd h
+      go ClassGraph (Record r) ne h = absurd h
+      go ClassGraph (Cell w) ne h = absurd h
 
 -- a thread's record changes
 record_changes : (x y : Objects) (t : ℕ) → ((u : ℕ) → t ≢ u → y.record_of u ≡ x.record_of u) → y.table ≡ x.table → OnlyChanges x y (RecordOf t)
@@ -89,9 +92,12 @@ record_changes x y t same tables = record { others = go; tables = λ l key ne i.
     go (RecordOf u) (Cell w) ne h = absurd h
     go (CellOf l key) (Cell w) ne h = h ∙ sym (λ i. tables i l key)
     go (CellOf l key) (Record r) ne h = absurd h
-    go (TurnstileChain k) z ne h = absurd h
-    go (SleepChain k) z ne h = absurd h
-    go ClassGraph z ne h = absurd h
+    go (TurnstileChain k) (Record r) ne h = absurd h
+    go (TurnstileChain k) (Cell w) ne h = absurd h
+    go (SleepChain k) (Record r) ne h = absurd h
+    go (SleepChain k) (Cell w) ne h = absurd h
+    go ClassGraph (Record r) ne h = absurd h
+    go ClassGraph (Cell w) ne h = absurd h
 
 -- 2. The object that an event is about
 
@@ -112,24 +118,27 @@ module _ (c : Config) (s : State) (t : ℕ) (lawful : Lawful c s) where
       (with_other_base c p.0 (none_beyond c s t lawful) h)
   base_is p (Cell v) h = absurd h
 
+  the_one : (i k : Item) → ◌≡◌ {A = List Item} (k ∷ []) (i ∷ []) → k ≡ i
+  the_one i k e = cc
+
   its_object : (e : Event) (i : Item) (x : Slot) → IsChangeOf t e i → IsOf (objects_in s) i x → ItsObject e i x
   unfolding after_stamp
   its_object (Set l key v) i x is h =
-      subst (λ q. ItsObject (Set l key v) q x) (sym is)
-      (key_changes (objects_in s) l.0 key (Some v), cell_is l.0 key x (Set l key v) (Some v) (subst (λ q. IsOf (objects_in s) q x) is h) (λ before e same. ap (changed (Set l key v)) e))
+      subst (λ q. ItsObject (Set l key v) q x) (the_one i _ is)
+      (key_changes (objects_in s) l.0 key (Some v), cell_is l.0 key x (Set l key v) (Some v) (subst (λ q. IsOf (objects_in s) q x) (sym (the_one i _ is)) h) (λ before e same. ap (changed (Set l key v)) e))
   its_object (Added l key n) i x is h =
-      subst (λ q. ItsObject (Added l key n) q x) (sym is) (
+      subst (λ q. ItsObject (Added l key n) q x) (the_one i _ is) (
         key_changes (objects_in s) l.0 key (Some (added (s.table l.0 key) n)),
-        cell_is l.0 key x (Added l key n) (Some (added (s.table l.0 key) n)) (subst (λ q. IsOf (objects_in s) q x) is h)
+        cell_is l.0 key x (Added l key n) (Some (added (s.table l.0 key) n)) (subst (λ q. IsOf (objects_in s) q x) (sym (the_one i _ is)) h)
             (λ before e same. ap (changed (Added l key n)) e ∙ ap (λ o. Cell (Some (added o n))) same),
       )
   its_object (Base p) i x is h =
-      subst (λ q. ItsObject (Base p) q x) (sym is) (
+      subst (λ q. ItsObject (Base p) q x) (the_one i _ is) (
         record_changes (objects_in s) (objects_in (after_stamp c s t (Base p))) t
             (λ u ne k. record (record_in s u) { base = put_other s.base t p.0 u ne k; effective = put_other s.effective t (effective_of c (s.loan t) p.0) u ne k }) refl,
-        base_is p x (subst (λ q. IsOf (objects_in s) q x) is h),
+        base_is p x (subst (λ q. IsOf (objects_in s) q x) (sym (the_one i _ is)) h),
       )
-  its_object other i x is h = absurd is
+  its_object other i x is h = absurd cc
 
 -- 3. So it is stamped with the value changed
 

@@ -97,6 +97,7 @@ module _ (plan : Plan) (v : Knowledge) (ws : List ℕ) (xs : List Slot) (final :
             no_other = closed.no_other plan v ws xs final all;
           };
           legal = legal_so_far (by_chain chains s) (config_of plan) s true sound.floor.lawful sound.sleepers (may_halt s.history);
+          no_refusal = sound.no_refusal.in_history;
           few = few_entries;
           count = h.count;
           home = λ t d low. closed.home_of plan s sound begun t (get_or x.recs.items t d).value (its_record t d low);

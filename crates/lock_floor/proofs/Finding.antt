@@ -37,7 +37,9 @@ module _ (plan : Plan) (l : ℕ) (counts : Bool) (old new : Knowledge) (m : Make
       ap (λ (x : ShareColumns). x.doing.last_look) share.columns ∙ put_same m.state.last_look old.thread (Some (record { lock = l; word = m.state.word l }))
 
   behind : IsSound (config_of plan) (Looks old.thread l counts ∷ m.past) n
-  behind = sound_kept (config_of plan) m.state (Looks old.thread l counts ∷ []) m.may m.sound
+  behind =
+      let steps : List Step = Looks old.thread l counts ∷ [] in
+      sound_kept (config_of plan) m.state steps (λ u k j e. absurd cc, tt) m.may m.sound
 
   -- a look leaves the words, so one right behind it finds the same
   pub finds_it_again : (again : Bool) (last : Knowledge) (k : Makes plan (Looks new.thread l again ∷ []) new last) → k.past ≡ new.seen → k.state.word l ≡ m.state.word l

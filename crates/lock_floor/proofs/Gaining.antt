@@ -6,7 +6,7 @@ use Rattle.lock_laws.proofs.Kit.{put_at_same}
 use Rattle.lock_model.specs.Holds.{NotHeld}
 use Rattle.lock_model.specs.Operations.{hold_in}
 use Rattle.lock_model.specs.Words as words
-use Rattle.lock_model.specs.Words.{Word, word_of}
+use Rattle.lock_model.specs.Words.{word_of}
 use Rattle.lock_model.specs.declared.event.Held.{Held}
 use Rattle.lock_model.specs.declared.plan.Mode.{Mode}
 use Rattle.lock_model.specs.declared.plan.Plan.{Plan}
@@ -69,7 +69,8 @@ module _ (plan : Plan) (me : Me Slot Knowledge) (was : me.0.role ≡ OfThread) (
         role = was;
         seen = refl;
         makers = one_own v.thread step refl;
-        seat = record { thread = refl; share = gain_own h.state v h.fits.share x allowed.0.unheld };
+        no_refusal = (λ u k j e. absurd cc, tt);
+        seat = record { thread = refl; share = gain_own h.state v h.fits.share x allowed.0.may.unheld };
         others = λ u ne. gain_others h.state v.thread u ne x;
       } in
       let says_now : word_of new ≡ words.gained (h.state.word l) v.thread x.mode = says ∙ ap (λ y. words.gained y v.thread x.mode) (sym its_word) in
@@ -94,6 +95,7 @@ module _ (plan : Plan) (me : Me Slot Knowledge) (was : me.0.role ≡ OfThread) (
         role = was;
         seen = refl;
         makers = one_own v.thread step refl;
+        no_refusal = (λ u k j e. absurd cc, tt);
         seat = record { thread = refl; share = drop_own h.state v h.fits.share l };
         others = λ u ne. drop_others h.state v.thread u ne l;
       } in

@@ -1,19 +1,20 @@
 -- The rule when the keeper takes a pass in, and what it tells the keeper then.
 use Rattle.std.proofs.Common.{◌≡◌, ◌≢◌, ℕ, zero, suc, ◌<◌, ◌≤◌, Bool, true, false, List, [], ◌∷◌, ◌++◌, length, set, refl, sym, ap, ◌∙◌, subst, inl, inr, arith, length-set, length-append, get_or-set_same, get_or-set_other}
 use Rattle.std.proofs.lemmas.Bool.{cases_eq, eq-eqb}
+use Rattle.std.proofs.lemmas.List.{set-get_or}
 use Rattle.std.proofs.lemmas.List.Elements.{All-push}
 use Rattle.std.proofs.lemmas.List.Folds.{list_any-append}
-use Rattle.std.specs.Prelude.{◌==◌, ◌||◌, nat_lt, if◌then◌else◌}
+use Rattle.std.specs.Prelude.{◌==◌, ◌||◌, nat_lt, if◌then◌else◌, slice_index}
 use Rattle.std.specs.List.{All, list_any}
-use mathlib.Core.Option.{some}
+use mathlib.Core.Option.{some, some-injective}
 use lib.ListN.{get_elem?}
-use Rattle.atomic_table.specs.Table.{Me, Joins, Allows, keeps}
+use Rattle.atomic_table.specs.Table.{Me, Joins, Allows, keeps, stepped}
 use Rattle.lock_model.specs.declared.plan.Plan.{Plan}
 use Rattle.lock_state.specs.State.{State}
 use Rattle.lock_state.specs.Steps.{Step}
 use Rattle.floor_table.specs.declared.slot.Slot.{Slot}
 use Rattle.floor_table.specs.Past.{IsSeen, IsSeenBy, AreSeen}
-use Rattle.floor_table.specs.Places.{slots_for, turn_word, home_at}
+use Rattle.floor_table.specs.Places.{spot, ticket_line, slots_for, turn_word, home_at}
 use Rattle.floor_table.specs.Shares.{Share}
 use Rattle.floor_table.specs.Shelves.{Shelves}
 use Rattle.floor_table.specs.Views.{OfThread, OfNobody, Knowledge, nothing}
@@ -22,7 +23,6 @@ use Rattle.floor_table.specs.Rule.{FloorHolds}
 use Rattle.floor_table.proofs.Lists.{inside, at_or}
 use Rattle.floor_table.proofs.Seats.{total_set}
 use Rattle.lock_floor.specs.Views.{longer, with_pass_taken}
-use Rattle.lock_floor.proofs.Taking.{nothing_stepped}
 
 -- 1. A pass fewer
 
@@ -180,16 +180,25 @@ joins plan v (suc t) w was rest b holds at apart there = record {
 
 -- 2. No more passes are taken in than the plan has threads
 
+-- a step that changes no word and no view changes nothing
+view_again : {A : Type 0} (xs : List A) (i : ℕ) (x : A) → get_elem? xs i ≡ some x → set xs i x ≡ xs
+view_again [] i x e = refl
+view_again (y ∷ ys) zero x e = ap (λ z. z ∷ ys) (sym (some-injective y x e))
+view_again (y ∷ ys) (suc i) x e = ap (λ zs. y ∷ zs) (view_again ys i x e)
+
+nothing_stepped : (b : Board) (i id : ℕ) (cs : List (ℕ × Slot)) (v : Knowledge) → get_elem? b.views id ≡ some v → stepped b i (slice_index b.words i) id cs v keeps ≡ b
+nothing_stepped b i id cs v at = λ k. record { words = set-get_or b.words i 0 k; homes = b.homes; views = view_again b.views id v at k }
+
 -- what a read tells
 abbrev pub Asked : Plan → Me Slot Knowledge → ℕ → Me Slot Knowledge → Type 0
 Asked plan me found behind = (behind ≡ me) × (length me.0.gathered ≤ length plan.threads)
 
-pub ask_allowed : (plan : Plan) (slots : ℕ) (me : Me Slot Knowledge) → Allows (FloorHolds plan) slots 0 me 0 (λ n. n) (Asked plan me)
+pub ask_allowed : (plan : Plan) (slots : ℕ) (me : Me Slot Knowledge) → Allows (FloorHolds plan) slots 0 me (spot ticket_line) (λ n. n) (Asked plan me)
 ask_allowed plan slots me b holds deep at small = (
   me.0,
   keeps,
   tt,
-  subst (FloorHolds plan) (sym (nothing_stepped b 0 0 me.1 me.0 at)) holds,
+  subst (FloorHolds plan) (sym (nothing_stepped b (spot ticket_line) 0 me.1 me.0 at)) holds,
   (
     refl,
     let seats = holds.represents.seats in

@@ -21,7 +21,8 @@ use Rattle.lock_state.specs.Steps.Items.{Item, TurnstileChain, SleepChain, Recor
 use Rattle.thread_records.specs.Records.{Record, made}
 use Rattle.floor_table.specs.declared.slot.Slot.{Slot}
 use Rattle.floor_table.specs.declared.slot.Slot.TheVariants.{Record as Recorded, Cell}
-use Rattle.floor_table.specs.Past.{maker, IsSeen, IsSeenBy, AreSeen}
+use Rattle.lock_state.specs.Steps.{maker}
+use Rattle.floor_table.specs.Past.{IsSeen, IsSeenBy, AreSeen}
 use Rattle.floor_table.specs.Places.{spot, turn_line, ticket_line, words_for, slots_for, slot_of, taker, turn_word, lock_word, home_at}
 use Rattle.floor_table.specs.Shares.{Share}
 use Rattle.floor_table.specs.Shelves.{Shelves}

@@ -14,7 +14,7 @@ use Rattle.floor_table.specs.Past.{past_with}
 use Rattle.floor_table.specs.Places.{spot, lock_line, lock_word}
 use Rattle.floor_table.specs.Represents.{Board, RepresentsLocks, RepresentsShare}
 use Rattle.floor_table.specs.Rule.{FloorHolds}
-use Rattle.floor_table.specs.Steps.{MayMake, MayAll, Makes}
+use Rattle.floor_table.specs.Steps.{MayMake, FitAll, Makes}
 use Rattle.floor_table.specs.Views.{Knowledge, OfThread, seeing}
 use Rattle.floor_table.proofs.Made.{Finds, Steps, allows, lock_seen, OwnSteps}
 use Rattle.floor_table.proofs.Seen.{one_own, two_own}
@@ -43,7 +43,7 @@ module _ (plan : Plan) (me : Me Slot Knowledge) (l : ℕ) (was : me.0.role ≡ O
   v = me.0
 
   -- on a table where it may be made
-  pub looks : (b : Board) (h : Finds plan v b) → MayAll (config_of plan) h.state (Looks v.thread l (counts v l) ∷ []) → Steps plan me (spot (lock_line l)) (lock_word b.words l) (lock_word b.words l) (Looked plan l me) b
+  pub looks : (b : Board) (h : Finds plan v b) → FitAll (config_of plan) h.state (Looks v.thread l (counts v l) ∷ []) → Steps plan me (spot (lock_line l)) (lock_word b.words l) (lock_word b.words l) (Looked plan l me) b
   unfolding after_look
   looks b h may =
       let word : Word = word_of (lock_word b.words l) in
@@ -54,6 +54,7 @@ module _ (plan : Plan) (me : Me Slot Knowledge) (l : ℕ) (was : me.0.role ≡ O
         role = was;
         seen = refl;
         makers = one_own v.thread step refl;
+        no_refusal = (λ u k j e. absurd cc, tt);
         seat = record { thread = refl; share = subst (λ y. RepresentsShare (looked v l y).share (after_look h.state v.thread l (counts v l)) v.thread) (sym found.0) (look_own h.state v h.fits.share l) };
         others = λ u ne. look_others h.state v.thread u ne l (counts v l);
       } in
@@ -69,7 +70,7 @@ module _ (plan : Plan) (me : Me Slot Knowledge) (l : ℕ) (was : me.0.role ≡ O
     abbrev both : List Step
     both = Seeks v.thread l by_try ∷ Looks v.thread l true ∷ []
 
-    pub first_looks : (b : Board) (h : Finds plan v b) → MayAll (config_of plan) h.state both → Steps plan me (spot (lock_line l)) (lock_word b.words l) (lock_word b.words l) (Sought plan l by_try me) b
+    pub first_looks : (b : Board) (h : Finds plan v b) → FitAll (config_of plan) h.state both → Steps plan me (spot (lock_line l)) (lock_word b.words l) (lock_word b.words l) (Sought plan l by_try me) b
     unfolding after_look after_seek
     first_looks b h may =
         let word : Word = word_of (lock_word b.words l) in
@@ -85,6 +86,7 @@ module _ (plan : Plan) (me : Me Slot Knowledge) (l : ℕ) (was : me.0.role ≡ O
           role = was;
           seen = refl;
           makers = two_own v.thread (Seeks v.thread l by_try) (Looks v.thread l true) refl refl;
+          no_refusal = (λ u k j e. absurd cc, (λ u k j e. absurd cc, tt));
           seat = record { thread = refl; share = subst (λ y. RepresentsShare (looked x l y).share n v.thread) (sym found.0) share };
           others = λ u ne. look_others s v.thread u ne l true ∙ seek_others h.state v.thread u ne l by_try;
         } in

@@ -47,7 +47,7 @@ record_out plan t j v a taken =
 
 -- a thread at rest may take it
 pub may_take_own : (plan : Plan) (v : Knowledge) → IsAtRest plan v → MayMake plan v (λ s. s.record_with v.thread ≡ None) (TakesItem v.thread (RecordOf v.thread) ∷ [])
-may_take_own plan v r = may_take plan v (RecordOf v.thread) r.nothing_out r.no_round (λ s f. f.thread)
+may_take_own plan v r = may_take plan v (RecordOf v.thread) r.nothing_out r.no_round r.going (λ s f. f.thread)
 
 module _ (plan : Plan) (v a : Knowledge) (j : ℕ) (b : Box ThreadRec Global) (place : slot_of plan (RecordOf v.thread) ≡ Some j) (r : IsAtRest plan v) (taken : Takes plan (RecordOf v.thread) j v a) (last : a.out ≡ (j, Record b) ∷ rest a.out) where
   its : a.thread ≡ v.thread

@@ -57,10 +57,12 @@ module _ (plan : Plan) (e : Event) (old new : Knowledge) (m : Makes plan (Stamps
   replayed l k = tables c s l k m.sound.floor.lawful
 
   pub replayed_behind : (l k : ℕ) → n.table l k ≡ value_at n.history l k
-  replayed_behind l k = tables c n l k (sound_kept c s (Stamps old.thread e ∷ []) m.may m.sound).floor.lawful
+  replayed_behind l k =
+      let behind = sound_kept c s (Stamps old.thread e ∷ []) (λ u k j e. absurd cc, tt) m.may m.sound in
+      tables c n l k behind.floor.lawful
 
 pub found_is : (plan : Plan) (l : LockNo) (key : ℕ) (found : Option ℕ) (old new : Knowledge) (m : Makes plan (Stamps old.thread (Got l key found) ∷ []) old new) → found ≡ value_at m.state.history l.0 key
-found_is plan l key found old new m = m.may.0.asks.1 ∙ replayed plan (Got l key found) old new m l.0 key
+found_is plan l key found old new m = m.may.0.may.asks.1 ∙ replayed plan (Got l key found) old new m l.0 key
 
 -- a change of a key changes that key alone
 pub tables_changed : (c : Config) (s : State) (t : ℕ) (l : LockNo) (key : ℕ) (change : Change) → (after_stamp c s t (event_of l key change)).table ≡ table_after (event_of l key change) s.table

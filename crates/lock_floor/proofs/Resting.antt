@@ -30,7 +30,7 @@ use Rattle.floor_table.specs.Steps.{Fits, MayMake, Makes, MakesEach}
 use Rattle.floor_table.specs.Views.{Knowledge, seeing}
 use Rattle.lock_floor.specs.Changes.{changed, last_changed, stamped_change}
 use Rattle.lock_floor.specs.Floors.{Floor, Pass}
-use Rattle.lock_floor.specs.Passes.{IsOf, IsAtRest, IsReady, MakesEntry, with_item}
+use Rattle.lock_floor.specs.Passes.{IsOf, IsGoing, IsAtRest, IsReady, MakesEntry, with_item}
 use Rattle.lock_floor.specs.Turns.{Takes}
 use Rattle.lock_floor.specs.Views.{counts, looked, others, gained, put_down, begun_by, took, gave, entry_by, stamped}
 use Rattle.lock_floor.proofs.Gaining.{dropped_unheld}
@@ -48,8 +48,8 @@ pub record IsIdle (v : Knowledge) : Type 0 where
   pub no_round : v.share.doing.round ≡ None
   pub no_looks : v.share.doing.looks ≡ 0
   pub unnoted : v.share.doing.noted ≡ None
-  pub stamped : v.share.doing.unstamped ≡ None
-  pub awake : is_taking_back v.share.log ≡ false
+  pub going : IsGoing v
+  pub no_wait : is_taking_back v.share.log ≡ false
 
 abbrev pub idle : (plan : Plan) (v : Knowledge) → IsAtRest plan v → IsIdle v
 idle plan v r = record {
@@ -61,8 +61,8 @@ idle plan v r = record {
   no_round = r.no_round;
   no_looks = r.no_looks;
   unnoted = r.unnoted;
-  stamped = r.stamped;
-  awake = r.awake;
+  going = r.going;
+  no_wait = r.no_wait;
 }
 
 -- the sections open in its log are of just its locks, and each began since its lock was gained
@@ -82,8 +82,8 @@ at_rest plan v i sections begun = record {
   no_round = i.no_round;
   no_looks = i.no_looks;
   unnoted = i.unnoted;
-  stamped = i.stamped;
-  awake = i.awake;
+  going = i.going;
+  no_wait = i.no_wait;
   sections = sections;
   begun = begun;
 }
@@ -99,8 +99,8 @@ rest_seeing plan v steps r = record {
   no_round = r.no_round;
   no_looks = r.no_looks;
   unnoted = r.unnoted;
-  stamped = r.stamped;
-  awake = r.awake;
+  going = r.going;
+  no_wait = r.no_wait;
   sections = r.sections;
   begun = r.begun;
 }
@@ -122,7 +122,7 @@ taking_gone (Woke d) k is = refl
 taking_gone (HaltedChan d) k is = refl
 taking_gone other k is = is
 
-wake_gone : (e : Event) (w : Option Wake) → w ≡ None → unstamped_after e w ≡ None
+pub wake_gone : (e : Event) (w : Option Wake) → w ≡ None → unstamped_after e w ≡ None
 wake_gone (WokeOne d woken) w is = refl
 wake_gone (WokeAll d woken) w is = refl
 wake_gone other w is = is
@@ -163,8 +163,8 @@ module _ (plan : Plan) (v : Knowledge) where
     no_round = round_gone e v.share.doing.round i.no_round;
     no_looks = looks_gone e v.share.doing.looks i.no_looks;
     unnoted = refl;
-    stamped = wake_gone e v.share.doing.unstamped i.stamped;
-    awake = wakeful;
+    going = record { awake = i.going.awake; unended = i.going.unended; stamped = wake_gone e v.share.doing.unstamped i.going.stamped };
+    no_wait = wakeful;
   }
 
   -- of an event that begins and ends no section
@@ -189,8 +189,8 @@ module _ (plan : Plan) (v : Knowledge) where
     no_round = i.no_round;
     no_looks = ap (λ b. cond b (suc v.share.doing.looks) v.share.doing.looks) (uncounted l i) ∙ i.no_looks;
     unnoted = i.unnoted;
-    stamped = i.stamped;
-    awake = i.awake;
+    going = i.going;
+    no_wait = i.no_wait;
   }
 
   pub rest_looked : (l : ℕ) (word : Word) → IsAtRest plan v → IsAtRest plan (looked v l word)
@@ -206,8 +206,8 @@ module _ (plan : Plan) (a : Knowledge) (r : IsAtRest plan (record a { out = [] }
   pub may_note : (e : Event) → ((s : State) → Fits plan a s → Asks (config_of plan) s a.thread e × HasOutForEntry chains s a.thread e) → MayMake plan a (λ s. Unit {0}) (Stamps a.thread e ∷ [])
   may_note e asks =
       may_stamp plan a e asks (subst (λ o. NotesInRound o e) (sym r.no_round) tt)
-      (λ q. absurd (let z : true ≡ false = sym q ∙ r.awake in cc))
-      (λ ne. absurd (ne r.stamped))
+      (λ q. absurd (let z : true ≡ false = sym q ∙ r.no_wait in cc))
+      r.going r.takes_nothing
 
 -- with an item that it took
 pub rest_with : (plan : Plan) (v a : Knowledge) (i : Item) (j : ℕ) → is_chain i ≡ false → IsAtRest plan v → Takes plan i j v a → IsAtRest plan (record a { out = [] })
@@ -221,8 +221,8 @@ rest_with plan v a i j plain r taken = subst (λ (w : Knowledge). IsAtRest plan 
       no_round = ap (λ b. cond b (in_its_chain v.share.doing.round) v.share.doing.round) plain ∙ r.no_round;
       no_looks = r.no_looks;
       unnoted = r.unnoted;
-      stamped = r.stamped;
-      awake = r.awake;
+      going = r.going;
+      no_wait = r.no_wait;
     } r.sections r.begun)
 
 -- 5. Behind the use of an item: it is taken, an entry is made, and it is given back
@@ -326,8 +326,8 @@ idle_gained v h i = record {
   no_round = refl;
   no_looks = refl;
   unnoted = i.unnoted;
-  stamped = i.stamped;
-  awake = i.awake;
+  going = i.going;
+  no_wait = i.no_wait;
 }
 
 -- a section that begins, or else the one before
@@ -439,8 +439,8 @@ module _ (plan : Plan) (l : ℕ) (mode : Mode) (v : Knowledge) (h : IsLeaving pl
           no_round = i.no_round;
           no_looks = i.no_looks;
           unnoted = i.unnoted;
-          stamped = i.stamped;
-          awake = i.awake;
+          going = i.going;
+          no_wait = i.no_wait;
         } sections begun
       where
         unheld : hold_in (without_lock l v.share.held) l ≡ NotHeld

@@ -6,19 +6,19 @@ use Rattle.lock_laws.proofs.HeldLists.{gained_order-push, gained_order-without}
 use Rattle.lock_laws.proofs.Kit.{put_same, put_other, put_at_same, put_at_row, put_at_beside}
 use Rattle.lock_state.specs.State.{gained_order, State, put, put_at}
 use Rattle.lock_model.specs.Config.{Config}
+use Rattle.lock_model.specs.Events.{OfSection, NoSection, BeginsIn, EndsFrom, LeftFor, TakenBack, facets}
 use Rattle.lock_model.specs.Holds.{NotHeld, Holds}
 use Rattle.lock_model.specs.Operations.{hold_in, without_lock}
 use Rattle.lock_model.specs.declared.event.Event.{Event}
-use Rattle.lock_model.specs.declared.event.Event.TheVariants.{Locked, Tried, Busy, Unlocked, Set, Added, Got, Base, Shown, Sleeps, Woke, HaltedChan, HaltedLock, WokeOne, WokeAll, Reversed}
 use Rattle.lock_model.specs.declared.event.Held.{Held}
 use Rattle.lock_objects.proofs.Held.{apart_once, once_push, once_without, column_push, column_without}
-use Rattle.lock_state.specs.Steps.LockWords.{round_of, after_seek, after_look, after_gain, after_drop, after_stamp, without_held, entry_of, begun_after, looks_after, round_after, taking_after, unstamped_after}
+use Rattle.lock_state.specs.Steps.LockWords.{round_of, taking_from, after_seek, after_look, after_gain, after_drop, after_stamp, without_held, entry_of, begun_after, begun_with, looks_after, round_after, taking_after, unstamped_after}
 use Rattle.lock_state.specs.Steps.Items.{Item, after_take, after_give, is_chain, in_its_chain, seen_after}
 use Rattle.floor_table.specs.declared.slot.Slot.{Slot}
 use Rattle.floor_table.specs.Shares.{ShareColumns, columns_of, share_in, is_among}
 use Rattle.floor_table.specs.Views.{Knowledge}
 use Rattle.floor_table.specs.Represents.{RepresentsShare}
-use Rattle.lock_floor.specs.Views.{counts, looked, sought, others, gained, put_down, begun_by, stamped, took, gave}
+use Rattle.lock_floor.specs.Views.{counts, looked, sought, others, gained, put_down, begun_behind, begun_by, stamped, took, gave}
 
 -- 1. Locks of which a section began
 
@@ -54,42 +54,23 @@ module _ (f : ℕ → ℕ → Bool) (t : ℕ) (ks : List ℕ) (is : (k : ℕ) �
         | inr ne ↦ ap (λ b. b || is_among k ks) (ne_eqb l k ne) ∙ is k ∙ sym (put_at_beside f t l true t k ne)
       ]
 
+  begun_by_section : (c : Config) (x : OfSection) (k : ℕ) → is_among k (begun_behind c x ks) ≡ begun_with c x t f t k
+  begun_by_section c NoSection k = is k
+  begun_by_section c (BeginsIn l mode) k = begun_more l k
+  begun_by_section c (EndsFrom l mode) k = is k
+  begun_by_section c (LeftFor d) k = is k
+  begun_by_section c (TakenBack d) k = begun_more (c.chan_lock d) k
+
   begun_stamped : (c : Config) (e : Event) (k : ℕ) → is_among k (begun_by c e ks) ≡ begun_after c e t f t k
-  begun_stamped c (Locked l mode) k = begun_more l.0 k
-  begun_stamped c (Tried l mode) k = begun_more l.0 k
-  begun_stamped c (Busy l seen) k = is k
-  begun_stamped c (Unlocked l mode) k = is k
-  begun_stamped c (Set l key v) k = is k
-  begun_stamped c (Added l key n) k = is k
-  begun_stamped c (Got l key v) k = is k
-  begun_stamped c (Base p) k = is k
-  begun_stamped c (Shown b e) k = is k
-  begun_stamped c (Sleeps d) k = is k
-  begun_stamped c (Woke d) k = begun_more (c.chan_lock d.0) k
-  begun_stamped c (HaltedChan d) k = begun_more (c.chan_lock d.0) k
-  begun_stamped c (HaltedLock l) k = is k
-  begun_stamped c (WokeOne d woken) k = is k
-  begun_stamped c (WokeAll d woken) k = is k
-  begun_stamped c (Reversed l h) k = is k
+  begun_stamped c e k = begun_by_section c (facets e).section k
 
 -- those of another thread stay
-begun_others : (c : Config) (f : ℕ → ℕ → Bool) (t u : ℕ) (e : Event) → (t ≡ u → ⊥) → begun_after c e t f u ≡ f u
-begun_others c f t u (Locked l mode) ne = put_at_row f t l.0 true u ne
-begun_others c f t u (Tried l mode) ne = put_at_row f t l.0 true u ne
-begun_others c f t u (Busy l seen) ne = refl
-begun_others c f t u (Unlocked l mode) ne = refl
-begun_others c f t u (Set l key v) ne = refl
-begun_others c f t u (Added l key n) ne = refl
-begun_others c f t u (Got l key v) ne = refl
-begun_others c f t u (Base p) ne = refl
-begun_others c f t u (Shown b e) ne = refl
-begun_others c f t u (Sleeps d) ne = refl
-begun_others c f t u (Woke d) ne = put_at_row f t (c.chan_lock d.0) true u ne
-begun_others c f t u (HaltedChan d) ne = put_at_row f t (c.chan_lock d.0) true u ne
-begun_others c f t u (HaltedLock l) ne = refl
-begun_others c f t u (WokeOne d woken) ne = refl
-begun_others c f t u (WokeAll d woken) ne = refl
-begun_others c f t u (Reversed l h) ne = refl
+begun_others : (c : Config) (f : ℕ → ℕ → Bool) (t u : ℕ) (x : OfSection) → (t ≡ u → ⊥) → begun_with c x t f u ≡ f u
+begun_others c f t u NoSection ne = refl
+begun_others c f t u (BeginsIn l mode) ne = put_at_row f t l true u ne
+begun_others c f t u (EndsFrom l mode) ne = refl
+begun_others c f t u (LeftFor d) ne = refl
+begun_others c f t u (TakenBack d) ne = put_at_row f t (c.chan_lock d) true u ne
 
 -- 2. The own share
 
@@ -119,6 +100,7 @@ module _ (s : State) (v : Knowledge) (fit : RepresentsShare v.share s v.thread) 
   seek_own l by_try = record {
     columns = λ i. record (e i) {
       doing = record (e i).doing {
+        taking = (ap (λ (x : ShareColumns). taking_from by_try x.doing.wanted l x.doing.taking) e ∙ sym (put_same s.taking t (taking_from by_try (s.wanted t) l (s.taking t)))) i;
         looks = sym (put_same s.looks t 0) i;
         round = sym (put_same s.round t (Some (round_of l by_try))) i;
       };
@@ -235,8 +217,10 @@ module _ (s : State) (t u : ℕ) (other : u ≢ t) where
   unfolding after_seek
   seek_others l by_try =
       let round_is : (after_seek s t l by_try).round u ≡ s.round u = put_other s.round t _ u ne in
+      let taking_is : (after_seek s t l by_try).taking u ≡ s.taking u = put_other s.taking t _ u ne in
       λ i. record (share_in s u) {
         doing = record (share_in s u).doing {
+          taking = taking_is i;
           looks = put_other s.looks t 0 u ne i;
           round = round_is i;
         };
@@ -278,7 +262,7 @@ module _ (s : State) (t u : ℕ) (other : u ≢ t) where
       let taking_is : (after_stamp c s t event).taking u ≡ s.taking u = put_other s.taking t _ u ne in
       let unstamped_is : (after_stamp c s t event).unstamped u ≡ s.unstamped u = put_other s.unstamped t _ u ne in
       λ i. record (share_in s u) {
-        has_begun = begun_others c s.has_begun t u event ne i;
+        has_begun = begun_others c s.has_begun t u (facets event).section ne i;
         log = log_is i;
         doing = record (share_in s u).doing {
           looks = looks_is i;

@@ -17,7 +17,7 @@ use Rattle.floor_table.specs.Places.{spot, ticket_line, word_at, turn_word, slot
 use Rattle.floor_table.specs.Shelves.{Shelves}
 use Rattle.floor_table.specs.Represents.{Board, RepresentsShare, RepresentsObjects, objects_in, thread_in}
 use Rattle.floor_table.specs.Rule.{FloorHolds}
-use Rattle.floor_table.specs.Steps.{MayMake, MayAll, Makes}
+use Rattle.floor_table.specs.Steps.{MayMake, FitAll, Makes}
 use Rattle.floor_table.specs.Views.{Knowledge, OfThread, nothing, seeing}
 use Rattle.floor_table.proofs.Lists.{at_or}
 use Rattle.floor_table.proofs.Made.{Finds, Steps, allows, ticket_made, OwnSteps}
@@ -42,7 +42,7 @@ module _ (plan : Plan) (me : Me Slot Knowledge) (was : me.0.role ≡ OfThread) (
   step = Stamps v.thread event ∷ []
 
   -- on a table where it may be made, with what lies behind the turns then
-  pub stamps : (b : Board) (h : Finds plan v b) (content : ℕ → Slot) → MayAll (config_of plan) h.state step
+  pub stamps : (b : Board) (h : Finds plan v b) (content : ℕ → Slot) → FitAll (config_of plan) h.state step
       → Shelves (slots_for plan) (turn_word b.words) (home_at b.homes) (put (λ u. (thread_in b.views u).out) v.thread (out me)) content
       → RepresentsObjects plan content (objects_in (after_stamp (config_of plan) h.state v.thread event))
       → Steps plan me (spot ticket_line) (word_at b.words ticket_line) ((word_at b.words ticket_line + 1) % 18446744073709551616) (StampedWith plan event out me) b
@@ -60,6 +60,7 @@ module _ (plan : Plan) (me : Me Slot Knowledge) (was : me.0.role ≡ OfThread) (
         role = was;
         seen = refl;
         makers = one_own v.thread (Stamps v.thread event) refl;
+        no_refusal = (λ u k j e. absurd cc, tt);
         seat = record { thread = refl; share = share };
         others = λ u ne. stamp_others s v.thread u ne c event;
       } in

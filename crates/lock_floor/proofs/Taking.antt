@@ -1,62 +1,52 @@
 -- Turns: an item goes out with the thread that finds it at home, and comes home again.
-use Rattle.std.proofs.Common.{◌≡◌, ◌≢◌, ℕ, zero, suc, ◌<◌, eqb, Some, None, List, [], ◌∷◌, length, get_or, set, cond, lt-ltb, refl, sym, ap, ◌∙◌, subst, arith}
-use Rattle.std.specs.Prelude.{slice_index}
+use Rattle.std.proofs.Common.{◌≡◌, ◌≢◌, ℕ, zero, suc, ◌<◌, eqb, Some, None, List, [], ◌∷◌, length, cond, lt-ltb, refl, sym, ap, ◌∙◌, subst, arith}
+use Rattle.std.proofs.lemmas.List.Elements.{All-nil}
 use mathlib.Core.Option as slots
 use mathlib.Core.Option.{some}
 use lib.ListN.{get_elem?}
 use prog.Atomic.{either}
-use Rattle.atomic_table.specs.Table.{Me, keeps, takes, gives, rest, stepped, Allows}
+use Rattle.atomic_table.specs.Table.{Me, keeps, takes, gives, rest, Allows}
 use Rattle.lock_model.specs.Plans.{config_of}
 use Rattle.lock_model.specs.declared.plan.Plan.{Plan}
 use Rattle.lock_state.specs.State.{State}
-use Rattle.lock_state.specs.Steps.{Step, TakesItem, GivesItem}
+use Rattle.lock_state.specs.Steps.{Step, TakesItem, GivesItem, maker}
 use Rattle.lock_state.specs.Steps.Items.{Item, TurnstileChain, SleepChain, RecordOf, CellOf, ClassGraph, item_with, after_take, after_give}
 use Rattle.floor_table.specs.declared.slot.Slot.{Slot}
 use Rattle.floor_table.specs.declared.slot.Slot.TheVariants.{Record, Cell}
 use Rattle.lock_objects.specs.Represents.{RecordColumns}
+use Rattle.floor_table.specs.Past.{IsSeenBy}
 use Rattle.floor_table.specs.Places.{spot, turn_line, turn_word, slot_of, slots_for, taker}
 use Rattle.floor_table.specs.Represents.{Board, RepresentsTurns, taken_from, IsOf, objects_in}
 use Rattle.floor_table.specs.Rule.{FloorHolds}
-use Rattle.floor_table.specs.Steps.{MayMake, MayAll, Makes}
+use Rattle.floor_table.specs.Steps.{MayMake, FitAll, Makes}
 use Rattle.floor_table.specs.Views.{Knowledge, OfThread, seeing}
 use Rattle.floor_table.proofs.Items.{place_low, one_place}
 use Rattle.floor_table.proofs.Lists.{or_at}
-use Rattle.floor_table.proofs.Made.{Finds, rule_of, Steps, allows, exchange_allows, take_made, give_made, OwnSteps}
-use Rattle.floor_table.proofs.Seen.{one_own}
+use Rattle.floor_table.proofs.Made.{Finds, Steps, allows, exchange_allows, take_made, give_made, none_made, sooner, OwnSteps}
+use Rattle.floor_table.proofs.Seen.{one_own, seen_on}
 use Rattle.lock_floor.specs.Turns.{FindsOut, Takes, IsOfKind}
 use Rattle.lock_floor.specs.Views.{took, gave}
 use Rattle.lock_floor.proofs.Shares.{take_own, take_others, give_own, give_others}
 
 -- 1. A take
 
--- what it tells: where the turn was free, the thread has what the place has, and else somebody has it
+-- what it tells: where the turn was free, the thread has what the place has, and else somebody has it at that moment
 abbrev pub Taken : Plan → ℕ → Me Slot Knowledge → ℕ → Me Slot Knowledge → Type 0
 Taken plan j me found behind =
     (found ≡ 0 → (i : Item) → slot_of plan i ≡ Some j → (taken : Takes plan i j me.0 behind.0) × (behind.1 ≡ (j, taken.value) ∷ me.1))
-    × (found ≢ 0 → (behind ≡ me) × ((i : Item) → slot_of plan i ≡ Some j → FindsOut plan i me.0))
+    × (found ≢ 0 → (behind ≡ (seeing behind.0.seen me.0, me.1)) × ((i : Item) → slot_of plan i ≡ Some j → FindsOut plan i me.0 behind.0))
 
 kind_of : (s : State) (i : Item) (y : Slot) → IsOf (objects_in s) i y → IsOfKind i y
 kind_of s (RecordOf t) (Record b) h = ap (λ (r : RecordColumns). r.thread) h.columns
 kind_of s (RecordOf t) (Cell value) h = h
 kind_of s (CellOf l key) (Record b) h = h
 kind_of s (CellOf l key) (Cell value) h = tt
-kind_of s (TurnstileChain k) y h = absurd h
-kind_of s (SleepChain k) y h = absurd h
-kind_of s ClassGraph y h = absurd h
-
--- a step that changes no word and no view changes nothing
-set_again : {A : Type 0} (xs : List A) (i : ℕ) (x : A) → get_elem? xs i ≡ some x → set xs i x ≡ xs
-set_again [] i x e = refl
-set_again (y ∷ ys) zero x e = ap (λ z. z ∷ ys) (sym (slots.some-injective y x e))
-set_again (y ∷ ys) (suc i) x e = ap (λ zs. y ∷ zs) (set_again ys i x e)
-
-word_again : (ws : List ℕ) (i : ℕ) → set ws i (get_or ws i 0) ≡ ws
-word_again [] i = refl
-word_again (w ∷ ws) zero = refl
-word_again (w ∷ ws) (suc i) = ap (λ zs. w ∷ zs) (word_again ws i)
-
-pub nothing_stepped : (b : Board) (i id : ℕ) (cs : List (ℕ × Slot)) (v : Knowledge) → get_elem? b.views id ≡ some v → stepped b i (slice_index b.words i) id cs v keeps ≡ b
-nothing_stepped b i id cs v at = λ k. record { words = word_again b.words i k; homes = b.homes; views = set_again b.views id v at k }
+kind_of s (TurnstileChain k) (Record r) h = absurd h
+kind_of s (TurnstileChain k) (Cell w) h = absurd h
+kind_of s (SleepChain k) (Record r) h = absurd h
+kind_of s (SleepChain k) (Cell w) h = absurd h
+kind_of s ClassGraph (Record r) h = absurd h
+kind_of s ClassGraph (Cell w) h = absurd h
 
 module _ (plan : Plan) (me : Me Slot Knowledge) (was : me.0.role ≡ OfThread) (i : Item) (j : ℕ) (place : slot_of plan i ≡ Some j) where
   abbrev v : Knowledge
@@ -68,18 +58,13 @@ module _ (plan : Plan) (me : Me Slot Knowledge) (was : me.0.role ≡ OfThread) (
   is_home b h free = h.represents.turns i ∙ ap (taken_from (turn_word b.words)) place ∙ ap taker free
 
   -- and else it is out with the thread that the word names
-  is_out : (b : Board) (h : Finds plan v b) → turn_word b.words j ≢ 0 → FindsOut plan i v
+  is_out : (b : Board) (h : Finds plan v b) → turn_word b.words j ≢ 0 → (t : ℕ) × (item_with h.state i ≡ Some t)
   unfolding RepresentsTurns
   is_out b h ne = go (turn_word b.words j) refl
     where
-      go : (n : ℕ) → turn_word b.words j ≡ n → FindsOut plan i v
+      go : (n : ℕ) → turn_word b.words j ≡ n → (t : ℕ) × (item_with h.state i ≡ Some t)
       go zero e = absurd (ne e)
-      go (suc t) e = record {
-        state = h.state;
-        fits = h.fits;
-        taker = t;
-        out = h.represents.turns i ∙ ap (taken_from (turn_word b.words)) place ∙ ap taker e;
-      }
+      go (suc t) e = (t, h.represents.turns i ∙ ap (taken_from (turn_word b.words)) place ∙ ap taker e)
 
   take_hit : (b : Board) (h : Finds plan v b) → MayMake plan v (λ s. item_with s i ≡ None) (TakesItem v.thread i ∷ []) → turn_word b.words j ≡ 0
       → Steps plan me (spot (turn_line j)) (turn_word b.words j) (suc v.thread) (Taken plan j me) b
@@ -96,6 +81,7 @@ module _ (plan : Plan) (me : Me Slot Knowledge) (was : me.0.role ≡ OfThread) (
         role = was;
         seen = refl;
         makers = one_own v.thread step refl;
+        no_refusal = (λ u k j e. absurd cc, tt);
         seat = record { thread = refl; share = take_own s v h.fits.share i j x };
         others = λ u ne. take_others s v.thread u ne i;
       } in
@@ -113,13 +99,17 @@ module _ (plan : Plan) (me : Me Slot Knowledge) (was : me.0.role ≡ OfThread) (
       )
 
   take_missed : (b : Board) (h : Finds plan v b) → turn_word b.words j ≢ 0 → Steps plan me (spot (turn_line j)) (turn_word b.words j) (turn_word b.words j) (Taken plan j me) b
-  take_missed b h ne = (
-    v,
-    keeps,
-    tt,
-    subst (FloorHolds plan) (sym (nothing_stepped b (spot (turn_line j)) (suc v.thread) me.1 v h.there)) (rule_of plan v b h),
-    (λ e. absurd (ne e), λ _. (refl, λ k at. subst (λ m. FindsOut plan m v) (one_place plan i k j place at) (is_out b h ne))),
-  )
+  take_missed b h ne =
+      let w : Knowledge = seeing h.past v in
+      let seen = none_made plan b v h was (spot (turn_line j)) me.1 in
+      let out = is_out b h ne in
+      let finds : FindsOut plan i v w = record {
+        taker = out.0;
+        moment = seen.1;
+        out = ap (λ (s : State). item_with s i) seen.2 ∙ out.1;
+        itself = λ e. h.fits.out.no_other i (out.1 ∙ ap Some e);
+      } in
+      (w, keeps, tt, seen.0, (λ e. absurd (ne e), λ _. (refl, λ k at. subst (λ m. FindsOut plan m v w) (one_place plan i k j place at) finds)))
 
   pub take_allowed : (slots id : ℕ) → MayMake plan v (λ s. item_with s i ≡ None) (TakesItem v.thread i ∷ []) → Allows (FloorHolds plan) slots id me (spot (turn_line j)) (λ n. either (eqb n 0) (suc v.thread) n) (Taken plan j me)
   take_allowed slots id may =
@@ -132,7 +122,7 @@ abbrev pub Given : Plan → ℕ → Me Slot Knowledge → ℕ → Me Slot Knowle
 Given plan j me found behind = (i : Item) → slot_of plan i ≡ Some j → (behind ≡ (seeing behind.0.seen (gave me.0 i), rest me.1)) × Makes plan (GivesItem me.0.thread i ∷ []) me.0 behind.0
 
 module _ (plan : Plan) (me : Me Slot Knowledge) (was : me.0.role ≡ OfThread) (i : Item) (j : ℕ) (place : slot_of plan i ≡ Some j) (x : Slot) (tied : me.1 ≡ me.0.out) (last : me.0.out ≡ (j, x) ∷ rest me.0.out) where
-  gives_it : (b : Board) (h : Finds plan me.0 b) → MayAll (config_of plan) h.state (GivesItem me.0.thread i ∷ []) → Steps plan me (spot (turn_line j)) (turn_word b.words j) 0 (λ found. Given plan j me 0) b
+  gives_it : (b : Board) (h : Finds plan me.0 b) → FitAll (config_of plan) h.state (GivesItem me.0.thread i ∷ []) → Steps plan me (spot (turn_line j)) (turn_word b.words j) 0 (λ found. Given plan j me 0) b
   unfolding after_give
   gives_it b h allowed =
       let s : State = h.state in
@@ -144,6 +134,7 @@ module _ (plan : Plan) (me : Me Slot Knowledge) (was : me.0.role ≡ OfThread) (
         role = was;
         seen = refl;
         makers = one_own v.thread step refl;
+        no_refusal = (λ u k j e. absurd cc, tt);
         seat = record { thread = refl; share = give_own s v h.fits.share i };
         others = λ u ne. give_others s v.thread u ne i;
       } in
@@ -153,7 +144,46 @@ module _ (plan : Plan) (me : Me Slot Knowledge) (was : me.0.role ≡ OfThread) (
   pub give_allowed : (slots id : ℕ) → MayMake plan me.0 (λ s. Unit {0}) (GivesItem me.0.thread i ∷ []) → Allows (FloorHolds plan) slots id me (spot (turn_line j)) (λ n. 0) (λ n. Given plan j me 0)
   give_allowed slots id may = allows plan slots id me (spot (turn_line j)) (λ n. 0) (λ n. Given plan j me 0) was (λ b h small. gives_it b h (may h.state h.fits tt))
 
--- 3. Records
+-- 3. Waiting for an item
+
+-- what a thread knows that has found it out so far: what it knew, and more of others' steps
+pub record HasWaited (old new : Knowledge) : Type 0 where
+  pub view : new ≡ seeing new.seen old
+  pub since : IsSeenBy old.thread old.seen new.seen
+
+pub waits_none : (v : Knowledge) → HasWaited v v
+waits_none v = record { view = refl; since = record { later = []; is = refl; of_others = All-nil (λ step. maker step ≢ v.thread) } }
+
+pub waits_on : (plan : Plan) (i : Item) (old mid new : Knowledge) → HasWaited old mid → new ≡ seeing new.seen mid → FindsOut plan i mid new → HasWaited old new
+waits_on plan i old mid new h view out =
+    let m = out.moment in
+    let same : mid.thread ≡ old.thread = ap (λ (k : Knowledge). k.thread) h.view in
+    let since : IsSeenBy old.thread mid.seen new.seen = subst (λ (z : ℕ × List Step). IsSeenBy z.0 mid.seen z.1) (λ k. (same k, sym m.seen k)) m.since in
+    record { view = view ∙ ap (seeing new.seen) h.view; since = seen_on old.thread old.seen mid.seen new.seen h.since since }
+
+-- it may take it then if it may take it before
+pub may_still : (plan : Plan) (i : Item) (old new : Knowledge) → HasWaited old new → MayMake plan old (λ s. item_with s i ≡ None) (TakesItem old.thread i ∷ []) → MayMake plan new (λ s. item_with s i ≡ None) (TakesItem new.thread i ∷ [])
+may_still plan i old new h may = subst (λ (k : Knowledge). MayMake plan k (λ s. item_with s i ≡ None) (TakesItem k.thread i ∷ [])) (sym h.view) there
+  where
+    there : MayMake plan (seeing new.seen old) (λ s. item_with s i ≡ None) (TakesItem old.thread i ∷ [])
+    there s f home =
+        may s (record {
+          past = f.past;
+          sound = f.sound;
+          seen = seen_on old.thread old.seen new.seen f.past h.since f.seen;
+          thread = f.thread;
+          share = f.share;
+          out = f.out;
+          runs = f.runs;
+        }) home
+
+-- who takes it then takes it from what it knew before
+pub takes_then : (plan : Plan) (i : Item) (j : ℕ) (old mid new : Knowledge) → HasWaited old mid → Takes plan i j mid new → Takes plan i j old new
+takes_then plan i j old mid new h taken =
+    let t : Takes plan i j (seeing mid.seen old) new = subst (λ (k : Knowledge). Takes plan i j k new) h.view taken in
+    record { value = t.value; view = t.view; step = sooner plan (TakesItem old.thread i ∷ []) mid.seen old new h.since t.step; kind = t.kind }
+
+-- 4. Records
 
 -- a thread's record is in the place of its number
 pub record_at : (plan : Plan) (t : ℕ) → t < length plan.threads → slot_of plan (RecordOf t) ≡ Some t

@@ -58,7 +58,12 @@ tied_taken who locks book fin me behind plan i j found place going h told =
             tied_on who locks book fin me behind going h (ap (λ w. w.role) v) (ap (λ w. w.plan) v) (ap (λ w. w.thread) v) (ap (λ w. w.share.held) v) (ap (λ w. w.share.log) v) (ap (λ w. w.spare) v) (t.1 ∙ ap (λ xs. (j, t.0.value) ∷ xs) h.out ∙ sym (ap (λ w. w.out) v)),
             ap (λ w. w.plan) v,
           )
-      | inr ne ↦ let same = (told.1 ne).0 in (subst (IsTied who locks book fin) (sym same) h, ap (λ (m : Me Slot Knowledge). m.0.plan) same)
+      | inr ne ↦
+          let v : behind.0 ≡ seeing behind.0.seen me.0 = ap (λ (m : Me Slot Knowledge). m.0) (told.1 ne).0 in
+          let out : behind.1 ≡ me.1 = ap (λ (m : Me Slot Knowledge). m.1) (told.1 ne).0 in (
+            tied_on who locks book fin me behind going h (ap (λ w. w.role) v) (ap (λ w. w.plan) v) (ap (λ w. w.thread) v) (ap (λ w. w.share.held) v) (ap (λ w. w.share.log) v) (ap (λ w. w.spare) v) (out ∙ h.out ∙ sym (ap (λ w. w.out) v)),
+            ap (λ w. w.plan) v,
+          )
     ]
 
 -- after a give

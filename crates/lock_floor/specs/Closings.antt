@@ -6,6 +6,7 @@ use Rattle.lock_model.specs.Counts.{times}
 use Rattle.lock_model.specs.History.{base_in, entries_of, tables_of}
 use Rattle.lock_model.specs.Law.{IsLegalSoFar}
 use Rattle.lock_model.specs.Plans.{config_of}
+use Rattle.lock_model.specs.Takes.{has_reversal}
 use Rattle.lock_model.specs.declared.event.Entry.{Entry}
 use Rattle.lock_model.specs.declared.plan.Plan.{Plan}
 use Rattle.thread_records.specs.Records.{Record}
@@ -41,12 +42,13 @@ Differ part recs =
     → part (record_at recs t d) ≡ part (record_at recs u d) → t ≡ u
 
 -- What is left of a floor for a plan, which took in the passes of these threads, in that order: the logs of a history
--- that keeps the law as far as it says nothing of operations; each thread's record, in its place; and the tables that
--- the history leaves. Nobody is halted yet.
+-- that keeps the law as far as it says nothing of operations, without a refused take, since orders of locks aren't
+-- checked yet; each thread's record, in its place; and the tables that the history leaves. Nobody is halted yet.
 pub record IsClosing (plan : Plan) (threads : List ℕ) (x : Closing) : Type 0 where
   pub history : List Entry
   pub logs : AreLogsOf threads (map (λ b. b.entries) x.logs.items) history
   pub legal : IsLegalSoFar (config_of plan) true history
+  pub no_refusal : has_reversal history ≡ false
   pub few : length history < 2 ^ 32
   pub count : length x.recs.items ≡ length plan.threads
   pub home : (t : ℕ) (d : Box ThreadRec Global) → t < length plan.threads

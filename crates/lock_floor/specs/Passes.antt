@@ -1,15 +1,14 @@
 -- Passes as calls need them and give them.
-use Rattle.std.specs.Prelude.{◌≡◌, ◌≢◌, ℕ, ◌+◌, true, false, List, [], ◌∷◌, Option, None, Some}
+use Rattle.std.specs.Prelude.{◌≡◌, ◌≢◌, ℕ, ◌+◌, Bool, true, false, List, [], ◌∷◌, Option, None}
 use Rattle.atomic_table.specs.Seated.{TableId}
-use Rattle.lock_model.specs.Holds.{Hold, NotHeld, Holds}
+use Rattle.lock_model.specs.Holds.{NotHeld}
 use Rattle.lock_model.specs.History.{open_in}
 use Rattle.lock_model.specs.Operations.{hold_in}
 use Rattle.lock_model.specs.Plans.{config_of}
 use Rattle.lock_model.specs.declared.event.Event.{Event}
 use Rattle.lock_model.specs.declared.event.Held.{Held}
-use Rattle.lock_model.specs.declared.plan.Mode.{Mode}
 use Rattle.lock_model.specs.declared.plan.Plan.{Plan}
-use Rattle.lock_state.specs.State.{NoWalk}
+use Rattle.lock_state.specs.State.{NoWalk, Phase, Awake, Wake}
 use Rattle.lock_state.specs.Steps.{Step, TakesItem, Stamps, GivesItem}
 use Rattle.lock_state.specs.Steps.Items.{Item}
 use Rattle.lock_state.specs.Steps.LockWords.{is_taking_back}
@@ -23,7 +22,7 @@ use Rattle.lock_floor.specs.Views.{entry_by}
 pub record IsOf (f : Floor Plan) (p : Pass Knowledge) : Type 0 where
   pub table : p.table ≡ f.table
   pub plan : p.view.plan ≡ f.plan
-  pub going : p.finished ≡ false
+  pub unfinished : p.finished ≡ false
 
 -- the pass was made with the floor, and is finished
 pub record IsFinished (f : Floor Plan) (p : Pass Knowledge) : Type 0 where
@@ -41,14 +40,19 @@ abbrev pub first_pass : TableId → Plan → ℕ → Pass Knowledge
 first_pass table plan t =
     record { table = table; view = first_view plan t; finished = false }
 
--- how a lock is held, where there is a mode
-abbrev pub hold_of : Option Mode → Hold
-hold_of None = NotHeld
-hold_of (Some mode) = Holds mode
+-- awake, not ended, and with no wake to note
+pub record CanStep (phase : Phase) (has_ended : Bool) (unstamped : Option Wake) : Type 0 where
+  pub awake : phase ≡ Awake
+  pub unended : has_ended ≡ false
+  pub stamped : unstamped ≡ None
 
--- A thread at rest: it has nothing out, no walk and nobody to mark, wants no lock and seeks none, has nothing to note
--- and doesn't sleep in its log; the sections open in its log are of just the locks that it holds, in their modes, and
--- each began since its lock was gained.
+-- the thread is so
+abbrev pub IsGoing : Knowledge → Type 0
+IsGoing v = CanStep v.share.doing.phase v.share.doing.has_ended v.share.doing.unstamped
+
+-- A thread at rest: it is awake and has nothing out, no walk and nobody to mark, wants no lock and seeks none, has
+-- nothing to note and doesn't sleep in its log; the sections open in its log are of just the locks that it holds, in
+-- their modes, and each began since its lock was gained.
 pub record IsAtRest (plan : Plan) (v : Knowledge) : Type 0 where
   pub nothing_out : v.out ≡ []
   pub no_walk : v.share.doing.walk ≡ NoWalk
@@ -58,8 +62,8 @@ pub record IsAtRest (plan : Plan) (v : Knowledge) : Type 0 where
   pub no_round : v.share.doing.round ≡ None
   pub no_looks : v.share.doing.looks ≡ 0
   pub unnoted : v.share.doing.noted ≡ None
-  pub stamped : v.share.doing.unstamped ≡ None
-  pub awake : is_taking_back v.share.log ≡ false
+  pub going : IsGoing v
+  pub no_wait : is_taking_back v.share.log ≡ false
   pub sections : (l : ℕ) → open_in (config_of plan) v.share.log v.thread l ≡ hold_in v.share.held l
   pub begun : (l : ℕ) → hold_in v.share.held l ≢ NotHeld → is_among l v.share.begun ≡ true
 

@@ -1,27 +1,44 @@
 -- What a thread takes out of its home, or finds out.
 use Rattle.std.specs.Prelude.{◌≡◌, ℕ, [], ◌∷◌, Some, ⊤}
+use mathlib.Core.Option.{some}
 use Rattle.lock_model.specs.declared.plan.Plan.{Plan}
-use Rattle.lock_state.specs.State.{State}
 use Rattle.lock_state.specs.Steps.{TakesItem}
-use Rattle.lock_state.specs.Steps.Items.{Item, RecordOf, CellOf, item_with}
+use Rattle.lock_state.specs.Steps.Items.{Item, TurnstileChain, SleepChain, RecordOf, CellOf, ClassGraph, item_with}
 use Rattle.floor_table.specs.declared.slot.Slot.{Slot}
 use Rattle.floor_table.specs.declared.slot.Slot.TheVariants.{Record, Cell}
-use Rattle.floor_table.specs.Steps.{Fits, Makes}
+use Rattle.floor_table.specs.Places.{slot_of}
+use Rattle.floor_table.specs.Shelves.{found}
+use Rattle.floor_table.specs.Steps.{Makes}
 use Rattle.floor_table.specs.Views.{Knowledge, seeing}
 use Rattle.lock_floor.specs.Views.{took}
 
--- what a value of an item is: a record of a thread, or a cell of a table
+-- what a value of an item is: a record of a thread, or a cell of a table; there is none of a chain or the class graph
+-- yet
 abbrev pub IsOfKind : Item → Slot → Type 0
+IsOfKind (TurnstileChain k) (Record b) = ⊥
+IsOfKind (TurnstileChain k) (Cell value) = ⊥
+IsOfKind (SleepChain k) (Record b) = ⊥
+IsOfKind (SleepChain k) (Cell value) = ⊥
 IsOfKind (RecordOf t) (Record b) = b.value.thread ≡ t
+IsOfKind (RecordOf t) (Cell value) = ⊥
+IsOfKind (CellOf l key) (Record b) = ⊥
 IsOfKind (CellOf l key) (Cell value) = ⊤
-IsOfKind other another = ⊥
+IsOfKind ClassGraph (Record b) = ⊥
+IsOfKind ClassGraph (Cell value) = ⊥
 
--- the thread found the item out: others' steps led to a state in which a thread has it
-pub record FindsOut (plan : Plan) (i : Item) (v : Knowledge) : Type 0 where
-  pub state : State
-  pub fits : Fits plan v state
+-- the seat itself has out what the item's place has
+abbrev pub HasItOut : Plan → Item → Knowledge → Type 0
+HasItOut plan i v =
+    (j : ℕ) × (slot_of plan i ≡ Some j) × ((x : Slot) × (found j v.out ≡ some x))
+
+-- The thread found the item out. It made no step; at that moment, in the state to which all steps led that had been
+-- made by then, a thread had the item out, and the seat has seen these steps. It was the thread itself only where its
+-- own seat has the item.
+pub record FindsOut (plan : Plan) (i : Item) (old new : Knowledge) : Type 0 where
   pub taker : ℕ
-  pub out : item_with state i ≡ Some taker
+  pub moment : Makes plan [] old new
+  pub out : item_with moment.state i ≡ Some taker
+  pub itself : taker ≡ old.thread → HasItOut plan i old
 
 -- the thread took the item out of its place
 pub record Takes (plan : Plan) (i : Item) (j : ℕ) (old new : Knowledge) : Type 0 where

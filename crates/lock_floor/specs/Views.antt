@@ -2,15 +2,15 @@
 use Rattle.std.specs.Prelude.{ℕ, suc, ◌-◌, Bool, not, nat_lt, ◌==◌, if◌then◌else◌, List, [], ◌∷◌, ◌++◌, length, filter, None, Some}
 use Rattle.atomic_table.specs.Table.{rest}
 use Rattle.lock_model.specs.Config.{Config}
+use Rattle.lock_model.specs.Events.{OfSection, NoSection, BeginsIn, EndsFrom, LeftFor, TakenBack, facets}
 use Rattle.lock_model.specs.Operations.{without_lock}
 use Rattle.lock_model.specs.Words.{Word}
 use Rattle.lock_model.specs.declared.event.Entry.{Entry}
 use Rattle.lock_model.specs.declared.event.Event.{Event}
-use Rattle.lock_model.specs.declared.event.Event.TheVariants.{Locked, Tried, Woke, HaltedChan}
 use Rattle.lock_model.specs.declared.event.Held.{Held}
 use Rattle.lock_state.specs.State.{Look}
 use Rattle.lock_state.specs.Steps.{Step, seeks}
-use Rattle.lock_state.specs.Steps.LockWords.{round_of, looks_after, round_after, taking_after, unstamped_after}
+use Rattle.lock_state.specs.Steps.LockWords.{taking_from, round_of, looks_after, round_after, taking_after, unstamped_after}
 use Rattle.lock_state.specs.Steps.Items.{Item, is_chain, in_its_chain, seen_after}
 use Rattle.floor_table.specs.declared.slot.Slot.{Slot}
 use Rattle.floor_table.specs.Shares.{Share, Doing}
@@ -59,7 +59,12 @@ looked v l word =
 -- after an acquiring round has begun
 abbrev pub sought : Knowledge → ℕ → Bool → Knowledge
 sought v l by_try =
-    let after : Doing = record v.share.doing { looks = 0; round = Some (round_of l by_try) } in
+    let x : Doing = v.share.doing in
+    let after : Doing = record x {
+      taking = taking_from by_try x.wanted l x.taking;
+      looks = 0;
+      round = Some (round_of l by_try);
+    } in
     record v { share = record v.share { doing = after } }
 
 -- the numbers other than one
@@ -90,12 +95,15 @@ put_down v l =
     record v { share = record v.share { held = without_lock l v.share.held; doing = after } }
 
 -- the locks of which a section began since they were gained, after an event
+abbrev pub begun_behind : Config → OfSection → List ℕ → List ℕ
+begun_behind c NoSection begun = begun
+begun_behind c (BeginsIn l mode) begun = l ∷ begun
+begun_behind c (EndsFrom l mode) begun = begun
+begun_behind c (LeftFor d) begun = begun
+begun_behind c (TakenBack d) begun = c.chan_lock d ∷ begun
+
 abbrev pub begun_by : Config → Event → List ℕ → List ℕ
-begun_by c (Locked l mode) begun = l.0 ∷ begun
-begun_by c (Tried l mode) begun = l.0 ∷ begun
-begun_by c (Woke d) begun = c.chan_lock d.0 ∷ begun
-begun_by c (HaltedChan d) begun = c.chan_lock d.0 ∷ begun
-begun_by c other begun = begun
+begun_by c e begun = begun_behind c (facets e).section begun
 
 -- after what a place has was taken
 abbrev pub took : Knowledge → Item → ℕ → Slot → Knowledge

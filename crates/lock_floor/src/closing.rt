@@ -7,7 +7,7 @@ ghost use Rattle.std.specs.Mem.Slots.Ownership.{Filled};
 ghost use mathlib.Core.Option.{some};
 ghost use lib.ListN.{get_elem?};
 ghost use Rattle.atomic_table.specs.Table.{Allows};
-ghost use Rattle.floor_table.specs.Places.{is_cell};
+ghost use Rattle.floor_table.specs.Places.{is_cell, spot, ticket_line};
 ghost use Rattle.floor_table.specs.Rule.{FloorHolds};
 ghost use Rattle.floor_table.specs.declared.slot.Slot.TheVariants.{Record, Cell};
 ghost use Rattle.lock_floor.specs.Closings.{IsClosing};
@@ -17,7 +17,7 @@ use crate::floor::{Floor, FloorOf};
 use crate::keeper::{HandOut, Keeper};
 use crate::pass::{Pass, PassOf};
 use atomic_table::{Closed, Join};
-use floor_table::{Board, Law, Place, Slot, Tells, Told, View};
+use floor_table::{Board, Law, Place, Slot, Tells, Told, View, ticket_spot};
 use lock_history::{Log, Tables};
 use lock_model::{LockNo, Plan};
 use std::alloc::Global;
@@ -73,13 +73,15 @@ impl Join<View> for HandOut {
 }
 
 impl Keeper {
-    /// Takes in a pass that is finished, with its log. It never waits and takes no memory.
+    /// Takes in a pass that is finished, with its log. It never waits and takes no memory. By a load it learns that no
+    /// more passes were taken in than the plan has threads, so that there is room for the log.
     pub fn gather(&mut self, floor: &Floor, pass: Pass)
         requires mine { IsKeeperOf floor.now self.old }
         requires finished { IsFinished floor.now pass }
         ensures mine { IsKeeperOf floor.entry.now self.new }
         ensures gathered { self.new.view.gathered
             ≡ self.old.view.gathered ++ (pass.view.thread, pass.view.share) ∷ [] }
+        ensures few { length self.new.view.gathered ≤ length floor.entry.now.plan.threads }
     {
         let PassOf {
             seat,
@@ -99,17 +101,18 @@ impl Keeper {
     }
 }
 
-// Reads a word, so that the seat is told something that the rule says.
+// Reads the ticket word, which is no lock's, so that the seat is told something that the rule says. It is no step of a
+// thread.
 fn ask<J: Tells>(board: &Board, seat: &mut Place) -> u64
     requires own { seat.old.table_id ≡ board.now.shared.table_id }
-    requires within { 0 < board.now.shared.table_id.words }
+    requires within { spot ticket_line < board.now.shared.table_id.words }
     requires may { Allows (FloorHolds board.now.shared.key) board.now.shared.table_id.slots
-        seat.old.id seat.old.me 0 (λ n. n) (J.told seat.old.me) }
+        seat.old.id seat.old.me (spot ticket_line) (λ n. n) (J.told seat.old.me) }
     ensures own { seat.new.table_id ≡ seat.old.table_id }
     ensures id { seat.new.id ≡ seat.old.id }
     ensures told { J.told seat.old.me result seat.new.me }
 {
-    board.shared.load::<Told<J>>(seat, 0)
+    board.shared.load::<Told<J>>(seat, ticket_spot())
 }
 
 impl FloorOf<Slot, View, Plan, Law> {

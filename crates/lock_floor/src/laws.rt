@@ -1,5 +1,6 @@
 //! What steps say of the state in which they are made, and of the one behind it: a look finds the word that the lock has
-//! then, and reads and changes of tables act on what all entries with earlier tickets leave.
+//! then, a try that fails finds its item out then, and reads and changes of tables act on what all entries with earlier
+//! tickets leave.
 ghost use Rattle.std.specs.Prelude.{◌≡◌, ◌≢◌, ℕ, Bool, List, [], ◌∷◌, length, Option, Some};
 ghost use Rattle.lock_model.specs.History.{value_at};
 ghost use Rattle.lock_model.specs.Plans.{config_of};
@@ -8,11 +9,13 @@ ghost use Rattle.lock_model.specs.declared.event.Event.TheVariants.{Got};
 ghost use Rattle.lock_model.specs.declared.numbers.LockNo.{LockNo};
 ghost use Rattle.lock_model.specs.declared.plan.Plan.{Plan};
 ghost use Rattle.lock_state.specs.Steps.{Step, Looks, Stamps, after_all};
+ghost use Rattle.lock_state.specs.Steps.Items.{Item};
 ghost use Rattle.lock_state.specs.Steps.LockWords.{table_after};
 ghost use Rattle.floor_table.specs.Steps.{Makes};
 ghost use Rattle.floor_table.specs.Views.{Knowledge};
 ghost use Rattle.lock_floor.specs.declared.tables.Change.{Change};
 ghost use Rattle.lock_floor.specs.Changes.{event_of, cell_after};
+ghost use Rattle.lock_floor.specs.Turns.{FindsOut};
 ghost use Rattle.lock_floor.specs.Views.{entry_by};
 
 /// Steps that were made behind the same steps were made in the same state.
@@ -36,6 +39,15 @@ pub fn looks_find_words()
         (m : Makes plan (Looks u.thread l first ∷ []) u v)
         (k : Makes plan (Looks v.thread l second ∷ []) v w)
         → k.past ≡ v.seen → w.share.doing.last_look ≡ v.share.doing.last_look }
+{}
+
+/// A try that fails finds the item out at that very moment: in the state to which all steps lead that its seat has seen
+/// then. It is out with another thread, where the seat has nothing out itself.
+pub fn tries_find_takers()
+    ensures seen { (plan : Plan) (i : Item) (old new : Knowledge) (f : FindsOut plan i old new)
+        → new.seen ≡ f.moment.past }
+    ensures other { (plan : Plan) (i : Item) (old new : Knowledge) (f : FindsOut plan i old new)
+        → old.out ≡ [] → f.taker ≢ old.thread }
 {}
 
 /// An entry of a thread gets as its ticket the number of those before it: it stands behind them in the history, and behind

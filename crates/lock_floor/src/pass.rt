@@ -1,7 +1,7 @@
 //! What a thread of a floor steps with.
 ghost use Rattle.std.specs.Prelude.{◌≡◌};
 ghost use Rattle.lock_model.specs.Operations.{hold_in};
-ghost use Rattle.lock_floor.specs.Passes.{hold_of};
+ghost use Rattle.lock_objects.specs.Represents.{hold_of};
 
 use crate::ties::Ties;
 use atomic_table::Seat;

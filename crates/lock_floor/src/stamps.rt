@@ -17,7 +17,7 @@ ghost use Rattle.lock_floor.specs.Views.{entry_by, stamped};
 use crate::floor::FloorOf;
 use crate::pass::Pass;
 use floor_table::{Board, Law, Place, Slot, Tells, View, add, ticket_spot};
-use lock_model::{Entry, Event, Plan, ThreadNo};
+use lock_model::{Entry, Event, OfTable, Plan, ThreadNo};
 use std::marker::Brand;
 use thread_records::ThreadRec;
 
@@ -84,23 +84,10 @@ fn change(board: &Board, seat: &mut Place, slot: usize, event: Event)
 fn cell_behind(event: Event, before: Option<u64>) -> Option<u64>
     ensures { result ≡ cell_after event before }
 {
-    match event {
-        Event::Set { value, .. } => Some(value),
-        Event::Added { amount, .. } => Some(before.unwrap_or(0).wrapping_add(amount)),
-        Event::Locked { .. }
-        | Event::Tried { .. }
-        | Event::Busy { .. }
-        | Event::Unlocked { .. }
-        | Event::Got { .. }
-        | Event::Base { .. }
-        | Event::Shown { .. }
-        | Event::Sleeps { .. }
-        | Event::Woke { .. }
-        | Event::HaltedChan { .. }
-        | Event::HaltedLock { .. }
-        | Event::WokeOne { .. }
-        | Event::WokeAll { .. }
-        | Event::Reversed { .. } => before,
+    match event.at_table() {
+        OfTable::SetsTo { value, .. } => Some(value),
+        OfTable::AddsTo { amount, .. } => Some(before.unwrap_or(0).wrapping_add(amount)),
+        OfTable::NoTable | OfTable::Reads { .. } => before,
     }
 }
 
@@ -108,23 +95,8 @@ fn cell_behind(event: Event, before: Option<u64>) -> Option<u64>
 fn note(rec: &mut ThreadRec, event: Event)
     ensures { rec.new ≡ record_after event rec.old }
 {
-    match event {
-        Event::Base { prio } => rec.set_base(prio),
-        Event::Locked { .. }
-        | Event::Tried { .. }
-        | Event::Busy { .. }
-        | Event::Unlocked { .. }
-        | Event::Set { .. }
-        | Event::Added { .. }
-        | Event::Got { .. }
-        | Event::Shown { .. }
-        | Event::Sleeps { .. }
-        | Event::Woke { .. }
-        | Event::HaltedChan { .. }
-        | Event::HaltedLock { .. }
-        | Event::WokeOne { .. }
-        | Event::WokeAll { .. }
-        | Event::Reversed { .. } => {}
+    if let Some(prio) = event.new_base() {
+        rec.set_base(prio);
     }
 }
 

@@ -23,7 +23,8 @@ use std::marker::Brand;
 use std::sync::Wait;
 
 impl FloorOf<Slot, View, Plan, Law> {
-    /// Takes the record of a thread, if it is at home. `false` comes only where a thread has it out.
+    /// Takes the record of a thread, if it is at home. `false` comes only where another thread had it out at the moment
+    /// of this call's own exchange, or the pass itself has it.
     pub fn try_take_rec(&self, pass: &mut Pass, t: ThreadNo) -> bool
         requires own { IsOf self.now pass.old }
         requires thread { t.0 < length self.now.plan.threads }
@@ -32,9 +33,10 @@ impl FloorOf<Slot, View, Plan, Law> {
         ensures own { IsOf self.now pass.new }
         ensures out { result ≡ true
             → Takes self.now.plan (RecordOf t.0) t.0 pass.old.view pass.new.view }
-        ensures left { result ≡ false → pass.new.view ≡ pass.old.view }
+        ensures left { result ≡ false → pass.new.view
+            ≡ seeing pass.new.view.seen pass.old.view }
         ensures elsewhere { result ≡ false
-            → FindsOut self.now.plan (RecordOf t.0) pass.old.view }
+            → FindsOut self.now.plan (RecordOf t.0) pass.old.view pass.new.view }
     {
         self.try_take(pass, usize::from(t.0))
     }
@@ -76,9 +78,10 @@ impl FloorOf<Slot, View, Plan, Law> {
         ensures own { IsOf self.now pass.new }
         ensures out { result ≡ true → (i : Item) → slot_of self.now.plan i ≡ Some slot
             → Takes self.now.plan i slot pass.old.view pass.new.view }
-        ensures left { result ≡ false → pass.new.view ≡ pass.old.view }
+        ensures left { result ≡ false → pass.new.view
+            ≡ seeing pass.new.view.seen pass.old.view }
         ensures elsewhere { result ≡ false → (i : Item) → slot_of self.now.plan i ≡ Some slot
-            → FindsOut self.now.plan i pass.old.view }
+            → FindsOut self.now.plan i pass.old.view pass.new.view }
     {
         take_turn::<Brand>(&self.board, &mut pass.seat, pass.who, slot) == 0
     }

@@ -3,10 +3,12 @@ use Rattle.std.specs.Prelude.{ℕ, List, [], ◌∷◌, Option, Some, None, IfSo
 use Rattle.std.specs.Coded.{Coded, code_by, coded×, coded_list, coded_ℕ}
 use Rattle.std.specs.FinMap.{FinMap, code, from_sorted}
 use Rattle.std.specs.List.{Contains}
+use Rattle.lock_model.specs.Events.{facets}
 use Rattle.lock_model.specs.History.{place_cmp}
 use Rattle.lock_model.specs.declared.event.Entry.{Entry}
 use Rattle.lock_model.specs.declared.event.Event.{Event}
-use Rattle.lock_model.specs.declared.event.Event.TheVariants.{Locked, Tried, Busy, Unlocked, Set, Added, Got, Base, Shown, Sleeps, Woke, HaltedChan, HaltedLock, WokeOne, WokeAll, Reversed}
+use Rattle.lock_model.specs.declared.event.OfTable.{OfTable}
+use Rattle.lock_model.specs.declared.event.OfTable.TheVariants.{NoTable, SetsTo, AddsTo, Reads}
 use Rattle.lock_model.specs.declared.numbers.LockNo.{LockNo}
 
 -- the entries of a log, and how many more it has room for
@@ -44,23 +46,14 @@ abbrev pub row_seen : LockNo × ℕ × ℕ → (ℕ × ℕ) × ℕ
 row_seen r = ((r.0.0, r.1), r.2)
 
 -- the lock and the key of its table that an event changes
+abbrev pub place_edited : OfTable → Option (ℕ × ℕ)
+place_edited NoTable = None
+place_edited (SetsTo l key value) = Some (l.0, key)
+place_edited (AddsTo l key amount) = Some (l.0, key)
+place_edited (Reads l key found) = None
+
 abbrev pub place_changed : Event → Option (ℕ × ℕ)
-place_changed (Set l key value) = Some (l.0, key)
-place_changed (Added l key amount) = Some (l.0, key)
-place_changed (Locked l mode) = None
-place_changed (Tried l mode) = None
-place_changed (Busy l seen) = None
-place_changed (Unlocked l mode) = None
-place_changed (Got l key found) = None
-place_changed (Base prio) = None
-place_changed (Shown base effective) = None
-place_changed (Sleeps c) = None
-place_changed (Woke c) = None
-place_changed (HaltedChan c) = None
-place_changed (HaltedLock l) = None
-place_changed (WokeOne c woken) = None
-place_changed (WokeAll c woken) = None
-place_changed (Reversed l held) = None
+place_changed e = place_edited (facets e).table
 
 -- tables have room for the key that an event changes
 abbrev pub HasRoom : List (ℕ × ℕ) → Event → Type 0

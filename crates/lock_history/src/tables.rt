@@ -8,7 +8,7 @@ ghost use Rattle.lock_model.specs.History.{place_cmp, edited};
 ghost use Rattle.lock_model.specs.Keys.{op_names, plan_names};
 ghost use Rattle.lock_history.specs.Books.{filled, row_seen, HasRoom};
 
-use lock_model::{Event, LockNo, Op, Plan};
+use lock_model::{Event, LockNo, OfTable, Op, Plan};
 use std::alloc::{AllocError, Global};
 use std::collections::BTreeMap;
 use std::marker::Model;
@@ -76,26 +76,13 @@ impl Tables {
         ensures succeeds { HasRoom self.old.places event → IsOk result }
         ensures places { HasRoom self.old.places event → self.new.places ≡ self.old.places }
     {
-        match event {
-            Event::Set { l, key, value } => self.set(l, key, value),
-            Event::Added { l, key, amount } => {
+        match event.at_table() {
+            OfTable::SetsTo { l, key, value } => self.set(l, key, value),
+            OfTable::AddsTo { l, key, amount } => {
                 let before = self.get(l, key).unwrap_or(0);
                 self.set(l, key, before.wrapping_add(amount))
             }
-            Event::Locked { .. }
-            | Event::Tried { .. }
-            | Event::Busy { .. }
-            | Event::Unlocked { .. }
-            | Event::Got { .. }
-            | Event::Base { .. }
-            | Event::Shown { .. }
-            | Event::Sleeps { .. }
-            | Event::Woke { .. }
-            | Event::HaltedChan { .. }
-            | Event::HaltedLock { .. }
-            | Event::WokeOne { .. }
-            | Event::WokeAll { .. }
-            | Event::Reversed { .. } => Ok(()),
+            OfTable::NoTable | OfTable::Reads { .. } => Ok(()),
         }
     }
 

@@ -1,3 +1,4 @@
+pub mod Copies
 pub mod Faults
 pub mod Memory
 pub mod StdEnds

@@ -5,11 +5,13 @@
 //! - `whole`: reading a source to its end, and writing a whole text to a sink.
 //! - `mem_source`, `mem_sink`: ends in memory for tests, over `calls`, which lets chosen calls fail.
 //! - `std_source`, `std_sink`: a reader and a writer of std as ends of the program.
+//! - `copied_sink`: a sink with a copy of what it took.
 //! - `gate`: what a thread passes before each of its operations; `meeting`: one for tests, at which two threads wait for each
 //!   other.
 #![tactic(auto)]
 
 mod calls;
+mod copied_sink;
 mod failed;
 mod gate;
 mod meeting;
@@ -21,6 +23,7 @@ mod std_sink;
 mod std_source;
 mod whole;
 
+pub use copied_sink::CopiedSink;
 pub use failed::Failed;
 pub use gate::{Gate, OpenGate};
 pub use meeting::Meeting;

@@ -61,5 +61,5 @@ begins c = record { lawful = start.lawful c; queued_has_record = λ t e f. absur
 
 pub floor_keeps : (chains : ℕ) (c : Config) (s n : State) → IsFloorStep chains c s n → LawfulFloor c s → LawfulFloor c n
 floor_keeps chains c s n p h =
-    let there : LawfulFloor c (after c s p.0) = record { lawful = keeps c s p.0 p.1 h.lawful; queued_has_record = record_kept chains c s p.0 p.1 p.2 h.queued_has_record } in
-    subst (LawfulFloor c) (sym p.4) there
+    let there : LawfulFloor c (after c s p.0) = record { lawful = keeps c s p.0 p.1.may h.lawful; queued_has_record = record_kept chains c s p.0 p.1.may p.1.has_out h.queued_has_record } in
+    subst (LawfulFloor c) (sym p.2) there

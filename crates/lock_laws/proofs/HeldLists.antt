@@ -6,7 +6,7 @@ use Rattle.std.proofs.lemmas.List.{take_all, append-nil, reverse-append}
 use Rattle.std.proofs.lemmas.Option.{none-some, same_Some, slice_get-map, slice_get_within}
 use Rattle.lock_model.specs.Holds.{Hold, NotHeld, Holds, is_unheld}
 use Rattle.lock_model.specs.Limits.{most_held}
-use Rattle.lock_model.specs.Operations.{wait_tests, channel_test, hold_in, without_lock, is_last, held_behind, held_through, held_of, is_kind, may_be_held, gaining_tests, operation_tests, IsBlock, next_at, IsProper}
+use Rattle.lock_model.specs.Operations.{of_locks, wait_tests, channel_test, hold_in, without_lock, is_last, held_after, held_behind, held_through, held_of, is_kind, may_be_held, acquiring_tests, tests_of, operation_tests, IsBlock, next_at, IsProper}
 use Rattle.lock_model.specs.Plans.{lock_kind, chan_lock, operations_of}
 use Rattle.lock_model.specs.Tests.{Test, Passes, where_some}
 use Rattle.lock_model.proofs.LeastCodes.{passed}
@@ -18,7 +18,9 @@ use Rattle.lock_model.specs.declared.numbers.ChanNo.{ChanNo}
 use Rattle.lock_model.specs.declared.plan.Mode.{Mode}
 use Rattle.lock_model.specs.declared.plan.Mode.TheVariants.{Excl, Shared}
 use Rattle.lock_model.specs.declared.plan.Op.{Op}
-use Rattle.lock_model.specs.declared.plan.Op.TheVariants.{Take, Try, EndTry, Release, Set, Add, Get, Base, Show, Sleep, WakeOne, WakeAll}
+use Rattle.lock_model.specs.declared.plan.Op.TheVariants.{Try, EndTry, Release, Sleep}
+use Rattle.lock_model.specs.declared.plan.OfLocks.{OfLocks}
+use Rattle.lock_model.specs.declared.plan.OfLocks.TheVariants.{NoLock, Acquires, ClosesBlock, Releases, EditsAt, ReadsAt, SleepsOn, WakesOn}
 use Rattle.lock_model.specs.declared.plan.Plan.{Plan}
 use Rattle.lock_model.specs.declared.event.Held.{Held}
 use Rattle.lock_model.specs.declared.numbers.LockNo.{LockNo}
@@ -245,7 +247,7 @@ module _ (plan : Plan) where
             absurd (let z : (false || false) ≡ true = rw k at f in cc),
       )
 
-  pub gain_passes : (l : LockNo) (mode : Mode) (by_try : Bool) (hs xs : List Held) → Passes (gaining_tests plan.locks l mode hs) → hs ++ (record { l = l; mode = mode; by_try = by_try }) ∷ [] ≡ xs
+  pub gain_passes : (l : LockNo) (mode : Mode) (by_try : Bool) (hs xs : List Held) → Passes (acquiring_tests plan.locks l mode hs) → hs ++ (record { l = l; mode = mode; by_try = by_try }) ∷ [] ≡ xs
       → GainFits plan l mode by_try hs xs
   gain_passes l mode by_try hs xs e behind =
       let room = passed _ _ e in
@@ -280,44 +282,33 @@ module _ (plan : Plan) where
   wake_fits d tests e = ltb-true d.0 (length plan.chans) (passed _ _ e).0
 
   leads_locks : (op : Op) (hs xs : List Held) → Leads plan op hs xs → AreLocks plan hs → AreLocks plan xs
-  leads_locks op hs xs f a = subst (AreLocks plan) f.behind (go op f.passes)
+  leads_locks op hs xs f a = subst (AreLocks plan) f.behind (go (of_locks op) f.passes)
     where
-      gained : (l : LockNo) (mode : Mode) (by_try : Bool) → Passes (gaining_tests plan.locks l mode hs) → AreLocks plan (hs ++ (record { l = l; mode = mode; by_try = by_try }) ∷ [])
-      gained l mode by_try e = let g = gain_passes l mode by_try hs _ e refl in one_gained plan (record { l = l; mode = mode; by_try = by_try }) hs g.lock g.mutex g.unheld a
-
-      go : (o : Op) → Passes (operation_tests plan.locks plan.chans o hs) → AreLocks plan (held_behind o hs)
-      go (Take l mode) e = gained l mode false e
-      go (Try l mode past) e = gained l mode true e
-      go EndTry e = a
-      go (Release l) e = one_released plan l.0 hs a
-      go (Set l key value) e = a
-      go (Add l key amount) e = a
-      go (Get l key) e = a
-      go (Base prio) e = a
-      go Show e = a
-      go (Sleep c) e = a
-      go (WakeOne c) e = a
-      go (WakeAll c) e = a
+      go : (o : OfLocks) → Passes (tests_of plan.locks plan.chans o hs) → AreLocks plan (held_after o hs)
+      go NoLock e = a
+      go (Acquires h) e =
+          let g = gain_passes h.l h.mode h.by_try hs _ e refl in
+          one_gained plan h hs g.lock g.mutex g.unheld a
+      go ClosesBlock e = a
+      go (Releases l) e = one_released plan l.0 hs a
+      go (EditsAt l key) e = a
+      go (ReadsAt l key) e = a
+      go (SleepsOn c) e = a
+      go (WakesOn c) e = a
 
   leads_few : (op : Op) (hs xs : List Held) → Leads plan op hs xs → length hs ≤ most_held → length xs ≤ most_held
-  leads_few op hs xs f few = subst (λ (ys : List Held). length ys ≤ most_held) f.behind (go op f.passes)
+  leads_few op hs xs f few = subst (λ (ys : List Held). length ys ≤ most_held) f.behind (go (of_locks op) f.passes)
     where
-      gained : (x : Held) → Passes (gaining_tests plan.locks x.l x.mode hs) → length (hs ++ x ∷ []) ≤ most_held
-      gained x e = let room = ltb-true (length hs) most_held (passed _ _ e).0 in omega (arith, room, length-append hs (x ∷ []))
-
-      go : (o : Op) → Passes (operation_tests plan.locks plan.chans o hs) → length (held_behind o hs) ≤ most_held
-      go (Take l mode) e = gained _ e
-      go (Try l mode past) e = gained _ e
-      go EndTry e = few
-      go (Release l) e = omega (arith, fewer_without l.0 hs, few)
-      go (Set l key value) e = few
-      go (Add l key amount) e = few
-      go (Get l key) e = few
-      go (Base prio) e = few
-      go Show e = few
-      go (Sleep c) e = few
-      go (WakeOne c) e = few
-      go (WakeAll c) e = few
+      go : (o : OfLocks) → Passes (tests_of plan.locks plan.chans o hs) → length (held_after o hs) ≤ most_held
+      go NoLock e = few
+      go (Acquires h) e =
+          omega (arith, ltb-true (length hs) most_held (passed _ _ e).0, length-append hs (h ∷ []))
+      go ClosesBlock e = few
+      go (Releases l) e = omega (arith, fewer_without l.0 hs, few)
+      go (EditsAt l key) e = few
+      go (ReadsAt l key) e = few
+      go (SleepsOn c) e = few
+      go (WakesOn c) e = few
 
 -- 4. What a thread's first operations lead to
 

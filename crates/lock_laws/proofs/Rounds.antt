@@ -9,14 +9,14 @@ use Rattle.lock_model.specs.declared.event.Event.TheVariants.{Busy}
 use Rattle.lock_model.specs.declared.plan.QueueName.{QueueName}
 use Rattle.lock_state.specs.State.{State, Round, Running, Queued, Woken, put, start_state}
 use Rattle.lock_state.specs.Facts.{Lawful}
-use Rattle.lock_state.specs.Steps.LockWords.{round_after, round_of, is_woken, after_seek, after_look, after_gain, after_drop, after_stamp, after_ready, after_unready}
+use Rattle.lock_state.specs.Steps.LockWords.{round_after, round_of, is_woken, after_seek, after_look, after_gain, after_drop, after_stamp, after_ready, after_unready, bound_to}
 use Rattle.lock_state.specs.Steps.Turnstiles.{round_for, after_enter, after_open, after_mark, after_resume}
 use Rattle.lock_state.specs.Steps.SleepQueues.{after_enter_sleep, after_open_sleep, after_add, after_wake}
 use Rattle.lock_state.specs.Steps.Lending.{after_claim, after_lend, after_shift, after_end_walk}
 use Rattle.lock_state.specs.Steps.Items.{Item, TurnstileChain, SleepChain, MayTake, MayGive, IsDoneWith, item_with, out_with, is_chain, is_bound, in_its_chain, after_take, after_give}
 use Rattle.lock_state.specs.Steps.Orders.{after_admit, after_refuse}
-use Rattle.lock_state.specs.Steps.{Step, Seeks, TakesItem, GivesItem, Gains, Stamps, Readies, Unreadies, Enters, EntersSleepQueue, Adds, Marks, Resumes, Claims, Admits, Refuses, May, after, chain_of, IsOfRound, FitsRound, NotesInRound, HasOut, HasSeen, IsFloorStep}
-use Rattle.lock_laws.specs.Rounds.{IsBoundTo, bound_to, BoundHasChain, RoundsAreActing, LawfulRounds, EndsRound}
+use Rattle.lock_state.specs.Steps.{Step, Seeks, TakesItem, GivesItem, Gains, Stamps, Readies, Unreadies, Enters, EntersSleepQueue, Adds, Marks, Resumes, Claims, Admits, Refuses, May, after, chain_of, IsOfRound, FitsRound, NotesInRound, HasOut, HasSeen, IsFloorStep, EndsRound}
+use Rattle.lock_laws.specs.Rounds.{IsBoundTo, BoundHasChain, RoundsAreActing, LawfulRounds}
 use Rattle.lock_laws.proofs.Kit.{columns, put_same, put_other}
 use Rattle.lock_laws.proofs.Items.{with_then, at_itself, beside}
 use Rattle.lock_laws.proofs.Mark as mark
@@ -233,8 +233,8 @@ begins chains c = record { bound_has_chain = λ t l e. absurd cc; rounds_are_act
 
 pub rounds_keep : (chains : ℕ) (c : Config) (s n : State) → IsFloorStep chains c s n → Lawful c s → LawfulRounds chains c s → LawfulRounds chains c n
 rounds_keep chains c s n p w h =
-    let there : LawfulRounds chains c (after c s p.0) = record { bound_has_chain = chain_kept chains c s p.0 p.1 p.2 p.3 h.bound_has_chain; rounds_are_acting = acting_kept chains c s p.0 p.1 p.3 w h.rounds_are_acting } in
-    subst (LawfulRounds chains c) (sym p.4) there
+    let there : LawfulRounds chains c (after c s p.0) = record { bound_has_chain = chain_kept chains c s p.0 p.1.may p.1.has_out p.1.has_seen h.bound_has_chain; rounds_are_acting = acting_kept chains c s p.0 p.1.may p.1.has_seen w h.rounds_are_acting } in
+    subst (LawfulRounds chains c) (sym p.2) there
 
 -- 4. How a round ends
 

@@ -5,8 +5,8 @@ ghost use Rattle.std.specs.Prelude.{◌≡◌, ◌≤◌, ◌⊎◌, ℕ};
 ghost use Rattle.lock_model.specs.Config.{Config};
 ghost use Rattle.lock_state.specs.State.{State, start_state};
 ghost use Rattle.lock_state.specs.Facts.{Lawful, LawfulFloor};
-ghost use Rattle.lock_state.specs.Steps.{Step, May, HasSeen, after, IsReachable, IsFloorStep};
-ghost use Rattle.lock_laws.specs.Rounds.{IsBoundTo, LawfulRounds, EndsRound};
+ghost use Rattle.lock_state.specs.Steps.{Step, May, HasSeen, after, IsReachable, IsFloorStep, EndsRound};
+ghost use Rattle.lock_laws.specs.Rounds.{IsBoundTo, LawfulRounds};
 
 /// The state at the start of a plan is one of a running floor,
 pub fn floors_begin()

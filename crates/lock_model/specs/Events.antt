@@ -1,9 +1,17 @@
--- What an event says of sleepers: the one place in which each event is sorted by it; and the base priority that it gives
--- its thread.
-use Rattle.std.specs.Prelude.{ℕ, Bool, true, false, ◌==◌, Option, Some, None}
+-- What each event says, one row an event: of a lock's table, of sections, of priorities, how a take came out, what the
+-- event ends, and of sleepers. What stands elsewhere of events reads these facets; which operation gives an event (`Law`)
+-- and the words of events (`Text`) are tables of their own. What code asks of a table's facet is declared beside
+-- `Event`.
+use Rattle.std.specs.Prelude.{ℕ, Bool, true, false, ◌==◌, Option, Some, None, is_some}
+use Rattle.lock_model.specs.declared.plan.Mode.{Mode}
 use Rattle.lock_model.specs.declared.event.Event.{Event}
+use Rattle.lock_model.specs.declared.event.OfTable.{OfTable}
+use Rattle.lock_model.specs.declared.event.OfTable.TheVariants.{NoTable, SetsTo, AddsTo, Reads}
 use Rattle.lock_model.specs.declared.event.Event.TheVariants.{Locked, Tried, Busy, Unlocked, Set, Added, Got, Base, Shown, Sleeps, Woke, HaltedChan, HaltedLock, WokeOne, WokeAll, Reversed}
 
+-- 1. Facets
+
+-- what it says of sleepers
 pub data OfSleep : Type 0 where
   -- nothing
   NoSleep : OfSleep
@@ -17,42 +25,99 @@ pub data OfSleep : Type 0 where
   WakesOne : ℕ → ℕ → OfSleep
   WakesAll : ℕ → ℕ → OfSleep
 
+-- which section of its thread it begins or ends: one of a lock, in a mode, or that of a channel's lock, which ends
+-- with a sleep and begins again behind it
+pub data OfSection : Type 0 where
+  NoSection : OfSection
+  BeginsIn : ℕ → Mode → OfSection
+  EndsFrom : ℕ → Mode → OfSection
+  LeftFor : ℕ → OfSection
+  TakenBack : ℕ → OfSection
+
+-- what it says of its thread's priorities: a new base, or the base and the effective one that it shows
+pub data OfPrio : Type 0 where
+  NoPrio : OfPrio
+  NewBase : ℕ → OfPrio
+  ShowsPrios : ℕ → ℕ → OfPrio
+
+-- how a take or a try of a lock came out: gained, and whether by a try; found busy, with the word seen; ended by a
+-- halt; or refused, for a class
+pub data OfTake : Type 0 where
+  NoTake : OfTake
+  GainedBy : ℕ → Bool → OfTake
+  FoundBusy : ℕ → ℕ → OfTake
+  HaltedFor : ℕ → OfTake
+  RefusedBy : ℕ → ℕ → OfTake
+
+-- what it ends: the take of a lock, or a wait on a channel. A refusal ends no take: none had begun
+pub data OfEnd : Type 0 where
+  NoEnd : OfEnd
+  EndsTakeOf : ℕ → OfEnd
+  EndsWaitOn : ℕ → OfEnd
+
+-- 2. Rows
+
+-- all that an event says
+pub record Facets : Type 0 where
+  -- what it does at a key of a lock's table
+  pub table : OfTable
+  -- the section that it begins or ends
+  pub section : OfSection
+  -- what it says of its thread's priorities
+  pub prio : OfPrio
+  -- how a take or a try came out
+  pub take : OfTake
+  -- the take or the wait that it ends
+  pub end : OfEnd
+  -- what it says of sleepers
+  pub sleep : OfSleep
+
+-- a row, with each facet written: an event says of all of them what it does, or that it does nothing
+abbrev pub says : OfTable → OfSection → OfPrio → OfTake → OfEnd → OfSleep → Facets
+says table section prio take ended sleep = record {
+  table = table;
+  section = section;
+  prio = prio;
+  take = take;
+  end = ended;
+  sleep = sleep;
+}
+
+-- the row of each event
+abbrev pub facets : Event → Facets
+facets (Locked l mode) =
+    says NoTable (BeginsIn l.0 mode) NoPrio (GainedBy l.0 false) (EndsTakeOf l.0) NoSleep
+facets (Tried l mode) = says NoTable (BeginsIn l.0 mode) NoPrio (GainedBy l.0 true) NoEnd NoSleep
+facets (Busy l seen) = says NoTable NoSection NoPrio (FoundBusy l.0 seen) NoEnd NoSleep
+facets (Unlocked l mode) = says NoTable (EndsFrom l.0 mode) NoPrio NoTake NoEnd NoSleep
+facets (Set l k v) = says (SetsTo l k v) NoSection NoPrio NoTake NoEnd NoSleep
+facets (Added l k n) = says (AddsTo l k n) NoSection NoPrio NoTake NoEnd NoSleep
+facets (Got l k found) = says (Reads l k found) NoSection NoPrio NoTake NoEnd NoSleep
+facets (Base p) = says NoTable NoSection (NewBase p.0) NoTake NoEnd NoSleep
+facets (Shown b e) = says NoTable NoSection (ShowsPrios b.0 e.0) NoTake NoEnd NoSleep
+facets (Sleeps d) = says NoTable (LeftFor d.0) NoPrio NoTake NoEnd (FallsAsleep d.0)
+facets (Woke d) = says NoTable (TakenBack d.0) NoPrio NoTake (EndsWaitOn d.0) (WakesUp d.0)
+facets (HaltedChan d) = says NoTable (TakenBack d.0) NoPrio NoTake (EndsWaitOn d.0) (IsHalted d.0)
+facets (HaltedLock l) =
+    says NoTable NoSection NoPrio (HaltedFor l.0) (EndsTakeOf l.0) (IsHaltedAtLock l.0)
+facets (WokeOne d woken) = says NoTable NoSection NoPrio NoTake NoEnd (WakesOne d.0 woken)
+facets (WokeAll d woken) = says NoTable NoSection NoPrio NoTake NoEnd (WakesAll d.0 woken)
+facets (Reversed l held) = says NoTable NoSection NoPrio (RefusedBy l.0 held.0) NoEnd NoSleep
+
+-- 3. What is asked of a facet
+
+-- what an event says of sleepers
 abbrev pub of_sleep : Event → OfSleep
-of_sleep (Locked l mode) = NoSleep
-of_sleep (Tried l mode) = NoSleep
-of_sleep (Busy l seen) = NoSleep
-of_sleep (Unlocked l mode) = NoSleep
-of_sleep (Set l k v) = NoSleep
-of_sleep (Added l k n) = NoSleep
-of_sleep (Got l k found) = NoSleep
-of_sleep (Base p) = NoSleep
-of_sleep (Shown b e) = NoSleep
-of_sleep (Sleeps d) = FallsAsleep d.0
-of_sleep (Woke d) = WakesUp d.0
-of_sleep (HaltedChan d) = IsHalted d.0
-of_sleep (HaltedLock l) = IsHaltedAtLock l.0
-of_sleep (WokeOne d woken) = WakesOne d.0 woken
-of_sleep (WokeAll d woken) = WakesAll d.0 woken
-of_sleep (Reversed l held) = NoSleep
+of_sleep e = (facets e).sleep
 
 -- the base priority that its thread has from there on, where it gives it one
+abbrev pub base_given : OfPrio → Option ℕ
+base_given NoPrio = None
+base_given (NewBase p) = Some p
+base_given (ShowsPrios b e) = None
+
 abbrev pub new_base : Event → Option ℕ
-new_base (Locked l mode) = None
-new_base (Tried l mode) = None
-new_base (Busy l seen) = None
-new_base (Unlocked l mode) = None
-new_base (Set l k v) = None
-new_base (Added l k n) = None
-new_base (Got l k found) = None
-new_base (Base p) = Some p.0
-new_base (Shown b e) = None
-new_base (Sleeps d) = None
-new_base (Woke d) = None
-new_base (HaltedChan d) = None
-new_base (HaltedLock l) = None
-new_base (WokeOne d woken) = None
-new_base (WokeAll d woken) = None
-new_base (Reversed l held) = None
+new_base e = base_given (facets e).prio
 
 -- whether its thread goes to sleep on the channel
 abbrev pub begins_sleep : OfSleep → ℕ → Bool
@@ -67,16 +132,6 @@ begins_sleep (WakesAll d woken) k = false
 abbrev pub sleeps_on : Event → ℕ → Bool
 sleeps_on e k = begins_sleep (of_sleep e) k
 
--- whether its thread goes to sleep on some channel
-abbrev pub is_falling : OfSleep → Bool
-is_falling NoSleep = false
-is_falling (FallsAsleep d) = true
-is_falling (WakesUp d) = false
-is_falling (IsHalted d) = false
-is_falling (IsHaltedAtLock l) = false
-is_falling (WakesOne d woken) = false
-is_falling (WakesAll d woken) = false
-
 -- the channel on which its thread goes to sleep
 abbrev pub fell_asleep : OfSleep → Option ℕ
 fell_asleep NoSleep = None
@@ -86,6 +141,10 @@ fell_asleep (IsHalted d) = None
 fell_asleep (IsHaltedAtLock l) = None
 fell_asleep (WakesOne d woken) = None
 fell_asleep (WakesAll d woken) = None
+
+-- whether its thread goes to sleep on some channel
+abbrev pub is_falling : OfSleep → Bool
+is_falling o = is_some (fell_asleep o)
 
 -- whether a halt ended its thread's sleep on a channel
 abbrev pub ends_by_halt : OfSleep → Bool
@@ -117,12 +176,29 @@ is_end (IsHaltedAtLock l) = false
 is_end (WakesOne d woken) = false
 is_end (WakesAll d woken) = false
 
+-- the channel whose sleepers its thread wakes
+abbrev pub woken_chan : OfSleep → Option ℕ
+woken_chan NoSleep = None
+woken_chan (FallsAsleep d) = None
+woken_chan (WakesUp d) = None
+woken_chan (IsHalted d) = None
+woken_chan (IsHaltedAtLock l) = None
+woken_chan (WakesOne d woken) = Some d
+woken_chan (WakesAll d woken) = Some d
+
 -- whether its thread wakes others
 abbrev pub is_waking_of : OfSleep → Bool
-is_waking_of NoSleep = false
-is_waking_of (FallsAsleep d) = false
-is_waking_of (WakesUp d) = false
-is_waking_of (IsHalted d) = false
-is_waking_of (IsHaltedAtLock l) = false
-is_waking_of (WakesOne d woken) = true
-is_waking_of (WakesAll d woken) = true
+is_waking_of o = is_some (woken_chan o)
+
+-- whether it is a waking that found nobody asleep
+abbrev pub is_for_nobody : OfSleep → Bool
+is_for_nobody NoSleep = false
+is_for_nobody (FallsAsleep d) = false
+is_for_nobody (WakesUp d) = false
+is_for_nobody (IsHalted d) = false
+is_for_nobody (IsHaltedAtLock l) = false
+is_for_nobody (WakesOne d woken) = woken == 0
+is_for_nobody (WakesAll d woken) = woken == 0
+
+abbrev pub wakes_nobody : Event → Bool
+wakes_nobody e = is_for_nobody (of_sleep e)

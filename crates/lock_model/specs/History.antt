@@ -12,7 +12,9 @@ use Rattle.lock_model.specs.Words.{is_turnstile}
 use Rattle.lock_model.specs.declared.plan.Mode.{Mode}
 use Rattle.lock_model.specs.declared.plan.Mode.TheVariants.{Excl, Shared}
 use Rattle.lock_model.specs.declared.event.Event.{Event}
-use Rattle.lock_model.specs.declared.event.Event.TheVariants.{Locked, Tried, Unlocked, Set, Added, Got, Base, Shown, Sleeps, Woke, HaltedChan}
+use Rattle.lock_model.specs.Events.{OfSection, NoSection, BeginsIn, EndsFrom, LeftFor, TakenBack, OfPrio, NoPrio, NewBase, ShowsPrios, facets, new_base}
+use Rattle.lock_model.specs.declared.event.OfTable.{OfTable}
+use Rattle.lock_model.specs.declared.event.OfTable.TheVariants.{NoTable, SetsTo, AddsTo, Reads}
 use Rattle.lock_model.specs.declared.event.Entry.{Entry}
 
 -- 1. Tables
@@ -26,10 +28,14 @@ abbrev pub added : Option ℕ → ℕ → ℕ
 added before n = (unwrap_or before 0 + n) % 2 ^ 64
 
 -- what an event makes of the tables
+abbrev pub edit : OfTable → FinMap place_cmp ℕ → FinMap place_cmp ℕ
+edit NoTable m = m
+edit (SetsTo l k v) m = insert m (l.0, k) v
+edit (AddsTo l k n) m = insert m (l.0, k) (added (get m (l.0, k)) n)
+edit (Reads l k found) m = m
+
 abbrev pub edited : Event → FinMap place_cmp ℕ → FinMap place_cmp ℕ
-edited (Set l k v) m = insert m (l.0, k) v
-edited (Added l k n) m = insert m (l.0, k) (added (get m (l.0, k)) n)
-edited other m = m
+edited e m = edit (facets e).table m
 
 -- the tables that a history leaves: its edits in the order of their tickets, begun with empty tables
 unfoldable pub tables_of : List Entry → FinMap place_cmp ℕ
@@ -48,23 +54,37 @@ pub record Sections : Type 0 where
   pub left : Hold
 
 -- the section of the lock that an event begins. After a wait it begins in the mode that the wait left
+abbrev pub section_begun : Config → OfSection → Hold → ℕ → Hold
+section_begun c NoSection left l = NotHeld
+section_begun c (BeginsIn k mode) left l = if k == l then Holds mode else NotHeld
+section_begun c (EndsFrom k mode) left l = NotHeld
+section_begun c (LeftFor d) left l = NotHeld
+section_begun c (TakenBack d) left l = if c.chan_lock d == l then left else NotHeld
+
 abbrev pub begun_by : Config → Event → Hold → ℕ → Hold
-begun_by c (Locked k mode) left l = if k.0 == l then Holds mode else NotHeld
-begun_by c (Tried k mode) left l = if k.0 == l then Holds mode else NotHeld
-begun_by c (Woke d) left l = if c.chan_lock d.0 == l then left else NotHeld
-begun_by c (HaltedChan d) left l = if c.chan_lock d.0 == l then left else NotHeld
-begun_by c other left l = NotHeld
+begun_by c e left l = section_begun c (facets e).section left l
 
 -- whether an event ends a section of the lock
+abbrev pub is_ended : Config → OfSection → ℕ → Bool
+is_ended c NoSection l = false
+is_ended c (BeginsIn k mode) l = false
+is_ended c (EndsFrom k mode) l = k == l
+is_ended c (LeftFor d) l = c.chan_lock d == l
+is_ended c (TakenBack d) l = false
+
 abbrev pub ends : Config → Event → ℕ → Bool
-ends c (Unlocked k mode) l = k.0 == l
-ends c (Sleeps d) l = c.chan_lock d.0 == l
-ends c other l = false
+ends c e l = is_ended c (facets e).section l
 
 -- whether an event begins a sleep with the lock
+abbrev pub is_left : Config → OfSection → ℕ → Bool
+is_left c NoSection l = false
+is_left c (BeginsIn k mode) l = false
+is_left c (EndsFrom k mode) l = false
+is_left c (LeftFor d) l = c.chan_lock d == l
+is_left c (TakenBack d) l = false
+
 abbrev pub sleeps_with : Config → Event → ℕ → Bool
-sleeps_with c (Sleeps d) l = c.chan_lock d.0 == l
-sleeps_with c other l = false
+sleeps_with c e l = is_left c (facets e).section l
 
 -- the section that an event begins, or else the one before
 abbrev pub replaced : Hold → Hold → Hold
@@ -101,8 +121,7 @@ entries_of (e ∷ es) t = if e.thread.0 == t then e ∷ entries_of es t else ent
 
 -- a thread's base priority after an event of its own
 abbrev pub base_by : Event → ℕ → ℕ
-base_by (Base p) before = p.0
-base_by other before = before
+base_by e before = unwrap_or (new_base e) before
 
 -- the thread's base priority behind a history: that of its last Base entry, or the declared one
 abbrev pub base_in : Config → List Entry → ℕ → ℕ
@@ -110,9 +129,13 @@ base_in c [] t = c.declared_base t
 base_in c (e ∷ es) t = if e.thread.0 == t then base_by e.event (base_in c es t) else base_in c es t
 
 -- whether an event sets a base priority to p
+abbrev pub is_base : OfPrio → ℕ → Bool
+is_base NoPrio p = false
+is_base (NewBase q) p = q == p
+is_base (ShowsPrios b e) p = false
+
 abbrev pub sets_base : Event → ℕ → Bool
-sets_base (Base q) p = q.0 == p
-sets_base other p = false
+sets_base e p = is_base (facets e).prio p
 
 -- whether a Base entry has the priority
 abbrev pub has_base : List Entry → ℕ → Bool
@@ -143,11 +166,14 @@ SectionsExclude c (e ∷ es) =
     → IsAlone c es l mode) × SectionsExclude c es
 
 -- the section that an event of the thread needs
+abbrev pub NeedsSection : Config → OfTable → List Entry → ℕ → Type 0
+NeedsSection c NoTable es t = ⊤
+NeedsSection c (SetsTo l k v) es t = open_in c es t l.0 ≡ Holds Excl
+NeedsSection c (AddsTo l k n) es t = open_in c es t l.0 ≡ Holds Excl
+NeedsSection c (Reads l k found) es t = open_in c es t l.0 ≢ NotHeld
+
 abbrev pub IsInSection : Config → Event → List Entry → ℕ → Type 0
-IsInSection c (Set l k v) es t = open_in c es t l.0 ≡ Holds Excl
-IsInSection c (Added l k n) es t = open_in c es t l.0 ≡ Holds Excl
-IsInSection c (Got l k v) es t = open_in c es t l.0 ≢ NotHeld
-IsInSection c other es t = ⊤
+IsInSection c e es t = NeedsSection c (facets e).table es t
 
 -- edits stand in exclusive sections of their thread, and reads in a section of it
 unfoldable pub EditsInSections : Config → List Entry → Type 0
@@ -155,9 +181,14 @@ EditsInSections c [] = ⊤
 EditsInSections c (e ∷ es) = IsInSection c e.event es e.thread.0 × EditsInSections c es
 
 -- what a read shows
+abbrev pub FindsWhatIs : OfTable → List Entry → Type 0
+FindsWhatIs NoTable es = ⊤
+FindsWhatIs (SetsTo l k v) es = ⊤
+FindsWhatIs (AddsTo l k n) es = ⊤
+FindsWhatIs (Reads l k found) es = found ≡ value_at es l.0 k
+
 abbrev pub IsReplayed : Event → List Entry → Type 0
-IsReplayed (Got l k v) es = v ≡ value_at es l.0 k
-IsReplayed other es = ⊤
+IsReplayed e es = FindsWhatIs (facets e).table es
 
 -- each read shows what the entries before it leave at its key
 unfoldable pub ReadsReplay : List Entry → Type 0
@@ -178,9 +209,13 @@ pub record IsExplained (c : Config) (es : List Entry) (t base effective : ℕ) :
   pub lent : effective < base → is_known c es effective ≡ true
 
 -- what a thread shows of its priorities
+abbrev pub ExplainsPrio : Config → OfPrio → List Entry → ℕ → Type 0
+ExplainsPrio c NoPrio es t = ⊤
+ExplainsPrio c (NewBase p) es t = ⊤
+ExplainsPrio c (ShowsPrios base effective) es t = IsExplained c es t base effective
+
 abbrev pub IsShown : Config → Event → List Entry → ℕ → Type 0
-IsShown c (Shown base effective) es t = IsExplained c es t base.0 effective.0
-IsShown c other es t = ⊤
+IsShown c e es t = ExplainsPrio c (facets e).prio es t
 
 -- what each thread shows of its priorities is explained
 unfoldable pub ShownIsExplained : Config → List Entry → Type 0

@@ -2,23 +2,24 @@
 use Rattle.std.specs.Prelude.{ℕ, Bool, false, ◌&&◌, ◌==◌, Option, Some, None}
 use Rattle.std.specs.List.{list_any}
 use Rattle.lock_model.specs.declared.plan.Op.{Op}
-use Rattle.lock_model.specs.declared.plan.Op.TheVariants.{Take, Try, EndTry, Release, Set, Add, Get, Base, Show, Sleep, WakeOne, WakeAll}
+use Rattle.lock_model.specs.Operations.{of_locks}
+use Rattle.lock_model.specs.declared.plan.OfLocks.{OfLocks}
+use Rattle.lock_model.specs.declared.plan.OfLocks.TheVariants.{NoLock, Acquires, ClosesBlock, Releases, EditsAt, ReadsAt, SleepsOn, WakesOn}
 use Rattle.lock_model.specs.declared.plan.Plan.{Plan}
 
 -- the lock and the key of its table that an operation sets, adds to or reads
+abbrev pub place_at : OfLocks → Option (ℕ × ℕ)
+place_at NoLock = None
+place_at (Acquires h) = None
+place_at ClosesBlock = None
+place_at (Releases l) = None
+place_at (EditsAt l key) = Some (l.0, key)
+place_at (ReadsAt l key) = Some (l.0, key)
+place_at (SleepsOn c) = None
+place_at (WakesOn c) = None
+
 abbrev pub place_of : Op → Option (ℕ × ℕ)
-place_of (Set l key value) = Some (l.0, key)
-place_of (Add l key amount) = Some (l.0, key)
-place_of (Get l key) = Some (l.0, key)
-place_of (Take l mode) = None
-place_of (Try l mode past) = None
-place_of EndTry = None
-place_of (Release l) = None
-place_of (Base prio) = None
-place_of Show = None
-place_of (Sleep c) = None
-place_of (WakeOne c) = None
-place_of (WakeAll c) = None
+place_of op = place_at (of_locks op)
 
 -- whether it is there, and of that lock and key
 abbrev pub is_at : ℕ → ℕ → Option (ℕ × ℕ) → Bool

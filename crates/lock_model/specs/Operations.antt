@@ -1,6 +1,6 @@
 -- What operations do to the list of locks that a thread holds, which operations fit it, and the plans whose threads'
 -- operations fit from their begin to their end. Each script's plan is such a plan.
-use Rattle.std.specs.Prelude.{◌≡◌, ℕ, suc, ◌+◌, ◌≤◌, ◌<◌, Bool, true, false, not, ◌&&◌, ◌||◌, ◌==◌, nat_lt, if◌then◌else◌, List, [], ◌∷◌, ◌++◌, length, map, sum, take, take_while, drop, fold, option_map, slice_get, Option, Some}
+use Rattle.std.specs.Prelude.{◌≡◌, ℕ, suc, ◌+◌, ◌≤◌, ◌<◌, Bool, true, false, not, ◌&&◌, ◌||◌, ◌==◌, nat_lt, if◌then◌else◌, List, [], ◌∷◌, ◌++◌, length, map, sum, take, take_while, drop, fold, option_map, slice_get, Option, Some, None}
 use Rattle.std.specs.List.{All, list_all}
 use Rattle.lock_model.specs.Holds.{Hold, NotHeld, Holds, is_unheld, is_exclusive}
 use Rattle.lock_model.specs.Limits.{most_threads, most_locks, most_channels, most_classes, most_held, most_operations, most_scheduled}
@@ -14,12 +14,30 @@ use Rattle.lock_model.specs.declared.plan.LockDecl.{LockDecl}
 use Rattle.lock_model.specs.declared.plan.ChanDecl.{ChanDecl}
 use Rattle.lock_model.specs.declared.plan.Op.{Op}
 use Rattle.lock_model.specs.declared.plan.Op.TheVariants.{Take, Try, EndTry, Release, Set, Add, Get, Base, Show, Sleep, WakeOne, WakeAll}
+use Rattle.lock_model.specs.declared.plan.OfLocks.{OfLocks}
+use Rattle.lock_model.specs.declared.plan.OfLocks.TheVariants.{NoLock, Acquires, ClosesBlock, Releases, EditsAt, ReadsAt, SleepsOn, WakesOn}
 use Rattle.lock_model.specs.declared.plan.Plan.{Plan}
 use Rattle.lock_model.specs.declared.event.Held.{Held}
 use Rattle.lock_model.specs.declared.numbers.LockNo.{LockNo}
 use Rattle.lock_model.specs.declared.numbers.ChanNo.{ChanNo}
 
--- 1. Lists of held locks, in order of acquisition
+-- 1. What an operation does with locks: the one place in which operations are sorted
+
+abbrev pub of_locks : Op → OfLocks
+of_locks (Take l mode) = Acquires (record { l = l; mode = mode; by_try = false })
+of_locks (Try l mode past) = Acquires (record { l = l; mode = mode; by_try = true })
+of_locks EndTry = ClosesBlock
+of_locks (Release l) = Releases l
+of_locks (Set l key value) = EditsAt l key
+of_locks (Add l key amount) = EditsAt l key
+of_locks (Get l key) = ReadsAt l key
+of_locks (Base prio) = NoLock
+of_locks Show = NoLock
+of_locks (Sleep c) = SleepsOn c
+of_locks (WakeOne c) = WakesOn c
+of_locks (WakeAll c) = WakesOn c
+
+-- 2. Lists of held locks, in order of acquisition
 
 abbrev pub holds_lock : LockNo → Held → Bool
 holds_lock l h = h.l.0 == l.0
@@ -40,21 +58,20 @@ is_last l [] = false
 is_last l (h ∷ []) = h.l.0 == l && not h.by_try
 is_last l (h ∷ g ∷ hs) = is_last l (g ∷ hs)
 
--- What a thread holds behind an operation. A wait leaves the list as it is, and the lines of a try's block are read
--- with its lock held.
+-- What a thread holds behind an operation, by what that does with locks. A wait leaves the list as it is, and the lines
+-- of a try's block are read with its lock held.
+abbrev pub held_after : OfLocks → List Held → List Held
+held_after NoLock held = held
+held_after (Acquires h) held = held ++ h ∷ []
+held_after ClosesBlock held = held
+held_after (Releases l) held = without_lock l.0 held
+held_after (EditsAt l key) held = held
+held_after (ReadsAt l key) held = held
+held_after (SleepsOn c) held = held
+held_after (WakesOn c) held = held
+
 abbrev pub held_behind : Op → List Held → List Held
-held_behind (Take l mode) held = held ++ (record { l = l; mode = mode; by_try = false }) ∷ []
-held_behind (Try l mode past) held = held ++ (record { l = l; mode = mode; by_try = true }) ∷ []
-held_behind EndTry held = held
-held_behind (Release l) held = without_lock l.0 held
-held_behind (Set l key value) held = held
-held_behind (Add l key amount) held = held
-held_behind (Get l key) held = held
-held_behind (Base prio) held = held
-held_behind Show held = held
-held_behind (Sleep c) held = held
-held_behind (WakeOne c) held = held
-held_behind (WakeAll c) held = held
+held_behind op held = held_after (of_locks op) held
 
 -- the same behind operations in order
 abbrev pub held_through : List Op → List Held → List Held
@@ -64,13 +81,16 @@ held_through ops held = fold (λ hs op. held_behind op hs) held ops
 abbrev pub held_of : List Op → ℕ → List Held
 held_of ops n = held_through (take n ops) []
 
--- 2. Which operations fit what is held
+-- 3. Which operations fit what is held
+
+abbrev pub kind_number : Kind → ℕ
+kind_number Mtx = 0
+kind_number Rw = 1
+kind_number Sx = 2
 
 abbrev pub is_kind : Kind → Option Kind → Bool
-is_kind Mtx (Some Mtx) = true
-is_kind Rw (Some Rw) = true
-is_kind Sx (Some Sx) = true
-is_kind kind other = false
+is_kind kind None = false
+is_kind kind (Some other) = kind_number kind == kind_number other
 
 abbrev pub is_of_kind : List LockDecl → Kind → LockNo → Bool
 is_of_kind locks kind l = is_kind kind (option_map (λ d. d.kind) (slice_get locks l.0))
@@ -82,8 +102,8 @@ may_be_held locks Shared l = is_of_kind locks Rw l || is_of_kind locks Sx l
 
 -- A take or a try: there is room for a lock more; the lock's kind has that mode; it isn't held; and no mutex or rw lock
 -- is held where it is an sx lock.
-abbrev pub gaining_tests : List LockDecl → LockNo → Mode → List Held → List Test
-gaining_tests locks l mode held =
+abbrev pub acquiring_tests : List LockDecl → LockNo → Mode → List Held → List Test
+acquiring_tests locks l mode held =
     test 7 (nat_lt (length held) most_held)
     ∷ test 8 (may_be_held locks mode l)
     ∷ test 9 (is_unheld (hold_in held l.0))
@@ -110,24 +130,23 @@ wait_tests locks l held =
 abbrev pub channel_test : List ChanDecl → ChanNo → Test
 channel_test chans c = test 5 (nat_lt c.0 (length chans))
 
--- the tests of an operation, by what the thread holds
-abbrev pub operation_tests : List LockDecl → List ChanDecl → Op → List Held → List Test
-operation_tests locks chans (Take l mode) held = gaining_tests locks l mode held
-operation_tests locks chans (Try l mode past) held = gaining_tests locks l mode held
-operation_tests locks chans EndTry held = []
-operation_tests locks chans (Release l) held = held_test l held ∷ []
-operation_tests locks chans (Set l key value) held = edit_tests l held
-operation_tests locks chans (Add l key amount) held = edit_tests l held
-operation_tests locks chans (Get l key) held = held_test l held ∷ []
-operation_tests locks chans (Base prio) held = []
-operation_tests locks chans Show held = []
-operation_tests locks chans (Sleep c) held =
+-- the tests of an operation, by what it does with locks and what the thread holds
+abbrev pub tests_of : List LockDecl → List ChanDecl → OfLocks → List Held → List Test
+tests_of locks chans NoLock held = []
+tests_of locks chans (Acquires h) held = acquiring_tests locks h.l h.mode held
+tests_of locks chans ClosesBlock held = []
+tests_of locks chans (Releases l) held = held_test l held ∷ []
+tests_of locks chans (EditsAt l key) held = edit_tests l held
+tests_of locks chans (ReadsAt l key) held = held_test l held ∷ []
+tests_of locks chans (SleepsOn c) held =
     channel_test chans c
     ∷ where_some (λ (d : ChanDecl). wait_tests locks d.lock held) (slice_get chans c.0)
-operation_tests locks chans (WakeOne c) held = channel_test chans c ∷ []
-operation_tests locks chans (WakeAll c) held = channel_test chans c ∷ []
+tests_of locks chans (WakesOn c) held = channel_test chans c ∷ []
 
--- 3. Blocks of tries
+abbrev pub operation_tests : List LockDecl → List ChanDecl → Op → List Held → List Test
+operation_tests locks chans op held = tests_of locks chans (of_locks op) held
+
+-- 4. Blocks of tries
 
 -- The block of the try n: its endtry stands behind it, the operations go on behind that, and there the thread holds
 -- what it held before the try.
@@ -146,19 +165,18 @@ pub record EndsBlock (ops : List Op) (n : ℕ) : Type 0 where
   pub before : tried < n
   pub its_try : slice_get ops tried ≡ Some (Try lock mode (suc n))
 
+abbrev pub closes_block : OfLocks → Bool
+closes_block NoLock = false
+closes_block (Acquires h) = false
+closes_block ClosesBlock = true
+closes_block (Releases l) = false
+closes_block (EditsAt l key) = false
+closes_block (ReadsAt l key) = false
+closes_block (SleepsOn c) = false
+closes_block (WakesOn c) = false
+
 abbrev pub is_endtry : Op → Bool
-is_endtry (Take l mode) = false
-is_endtry (Try l mode past) = false
-is_endtry EndTry = true
-is_endtry (Release l) = false
-is_endtry (Set l key value) = false
-is_endtry (Add l key amount) = false
-is_endtry (Get l key) = false
-is_endtry (Base prio) = false
-is_endtry Show = false
-is_endtry (Sleep c) = false
-is_endtry (WakeOne c) = false
-is_endtry (WakeAll c) = false
+is_endtry op = closes_block (of_locks op)
 
 -- the first operation from the n-th on that is no endtry: an endtry takes no turn
 abbrev pub next_at : List Op → ℕ → ℕ
@@ -182,7 +200,7 @@ pub record Fit (locks : List LockDecl) (chans : List ChanDecl) (ops : List Op) :
   pub nested : AreNested ops
   pub released : held_of ops (length ops) ≡ []
 
--- 4. Plans
+-- 5. Plans
 
 -- the operations of all threads. A wait makes two entries and every other operation one at most; and each lock that a cut
 -- thread gives back was gained by an operation that made one

@@ -3,27 +3,28 @@
 use Rattle.std.specs.Prelude.{◌≡◌, ℕ, ◌<◌, Bool, true, false, length, slice_get, Some}
 use Rattle.std.specs.List.{All}
 use Rattle.lock_model.specs.Plans.{operations_of, lock_class}
-use Rattle.lock_model.specs.Operations.{held_of}
+use Rattle.lock_model.specs.Operations.{of_locks, held_of}
 use Rattle.lock_model.specs.declared.numbers.LockNo.{LockNo}
 use Rattle.lock_model.specs.declared.plan.Mode.{Mode}
 use Rattle.lock_model.specs.declared.plan.Op.{Op}
-use Rattle.lock_model.specs.declared.plan.Op.TheVariants.{Take, Try, EndTry, Release, Set, Add, Get, Base, Show, Sleep, WakeOne, WakeAll}
+use Rattle.lock_model.specs.declared.plan.Op.TheVariants.{Take}
+use Rattle.lock_model.specs.declared.plan.OfLocks.{OfLocks}
+use Rattle.lock_model.specs.declared.plan.OfLocks.TheVariants.{NoLock, Acquires, ClosesBlock, Releases, EditsAt, ReadsAt, SleepsOn, WakesOn}
 use Rattle.lock_model.specs.declared.plan.Plan.{Plan}
 
 -- whether an operation is a wait or a try
+abbrev pub sleeps_or_tries : OfLocks → Bool
+sleeps_or_tries NoLock = false
+sleeps_or_tries (Acquires h) = h.by_try
+sleeps_or_tries ClosesBlock = false
+sleeps_or_tries (Releases l) = false
+sleeps_or_tries (EditsAt l key) = false
+sleeps_or_tries (ReadsAt l key) = false
+sleeps_or_tries (SleepsOn c) = true
+sleeps_or_tries (WakesOn c) = false
+
 abbrev pub waits_or_tries : Op → Bool
-waits_or_tries (Take l mode) = false
-waits_or_tries (Try l mode past) = true
-waits_or_tries EndTry = false
-waits_or_tries (Release l) = false
-waits_or_tries (Set l key value) = false
-waits_or_tries (Add l key amount) = false
-waits_or_tries (Get l key) = false
-waits_or_tries (Base prio) = false
-waits_or_tries Show = false
-waits_or_tries (Sleep c) = true
-waits_or_tries (WakeOne c) = false
-waits_or_tries (WakeAll c) = false
+waits_or_tries op = sleeps_or_tries (of_locks op)
 
 -- There is no wait and no try, each lock has a class of its own, and each take's lock is declared behind every lock
 -- that its thread holds there.

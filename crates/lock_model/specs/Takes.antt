@@ -1,35 +1,25 @@
 -- The takes of a history: the edges that they gave the graph of lock orders, and the part of the law that speaks of
 -- them. That part is true of whole histories, in which each take has come to its end.
-use Rattle.std.specs.Prelude.{◌≡◌, ℕ, zero, suc, Bool, true, false, not, ◌&&◌, ◌||◌, ◌==◌, if◌then◌else◌, List, [], ◌∷◌, Option, Some, None, ⊤}
+use Rattle.std.specs.Prelude.{◌≡◌, ℕ, zero, suc, Bool, true, false, not, ◌&&◌, ◌||◌, ◌==◌, if◌then◌else◌, List, [], ◌∷◌, Option, Some, None, is_some, ⊤}
 use Rattle.lock_model.specs.Config.{Config}
 use Rattle.lock_model.specs.Counts.{any_below}
 use Rattle.lock_model.specs.Holds.{is_unheld}
 use Rattle.lock_model.specs.History.{open_in}
 use Rattle.lock_model.specs.Orders.{HasNoCycle, edges_behind, forbids}
 use Rattle.lock_model.specs.declared.event.Event.{Event}
-use Rattle.lock_model.specs.declared.event.Event.TheVariants.{Locked, Tried, Busy, Unlocked, Set, Added, Got, Base, Shown, Sleeps, Woke, HaltedChan, HaltedLock, WokeOne, WokeAll, Reversed}
+use Rattle.lock_model.specs.Events.{OfEnd, NoEnd, EndsTakeOf, EndsWaitOn, OfTake, NoTake, GainedBy, FoundBusy, HaltedFor, RefusedBy, facets}
 use Rattle.lock_model.specs.declared.event.Entry.{Entry}
 
 -- 1. Edges
 
 -- the lock of the take that ended with the event: it was gained, or a halt ended the wait for it
+abbrev pub taken : OfEnd → Option ℕ
+taken NoEnd = None
+taken (EndsTakeOf l) = Some l
+taken (EndsWaitOn d) = None
+
 abbrev pub taken_by : Event → Option ℕ
-taken_by (Locked l mode) = Some l.0
-taken_by (Tried l mode) = None
-taken_by (Busy l seen) = None
-taken_by (Unlocked l mode) = None
-taken_by (Set l k v) = None
-taken_by (Added l k n) = None
-taken_by (Got l k found) = None
-taken_by (Base p) = None
-taken_by (Shown b e) = None
-taken_by (Sleeps d) = None
-taken_by (Woke d) = None
-taken_by (HaltedChan d) = None
-taken_by (HaltedLock l) = Some l.0
-taken_by (WokeOne d woken) = None
-taken_by (WokeAll d woken) = None
-taken_by (Reversed l held) = None
+taken_by e = taken (facets e).end
 
 -- the classes of the locks below n of which the thread has an open section
 unfoldable pub classes_open : Config → List Entry → ℕ → ℕ → List ℕ
@@ -50,24 +40,20 @@ take_edges c (e ∷ es) = edges_by c (taken_by e.event) es e.thread.0 (take_edge
 
 -- 2. Refusals
 
+-- the lock that an event refuses, and the class that forbids it
+abbrev pub refused : OfTake → Option (ℕ × ℕ)
+refused NoTake = None
+refused (GainedBy l by_try) = None
+refused (FoundBusy l seen) = None
+refused (HaltedFor l) = None
+refused (RefusedBy l class) = Some (l, class)
+
 -- whether an event is one: a take was refused, and its thread cut
+abbrev pub is_refused : OfTake → Bool
+is_refused o = is_some (refused o)
+
 abbrev pub is_reversal : Event → Bool
-is_reversal (Locked l mode) = false
-is_reversal (Tried l mode) = false
-is_reversal (Busy l seen) = false
-is_reversal (Unlocked l mode) = false
-is_reversal (Set l k v) = false
-is_reversal (Added l k n) = false
-is_reversal (Got l k found) = false
-is_reversal (Base p) = false
-is_reversal (Shown b e) = false
-is_reversal (Sleeps d) = false
-is_reversal (Woke d) = false
-is_reversal (HaltedChan d) = false
-is_reversal (HaltedLock l) = false
-is_reversal (WokeOne d woken) = false
-is_reversal (WokeAll d woken) = false
-is_reversal (Reversed l held) = true
+is_reversal e = is_refused (facets e).take
 
 -- whether one stands among entries
 abbrev pub has_reversal : List Entry → Bool
@@ -80,24 +66,16 @@ has_open c es t k =
     any_below c.locks (λ l. (c.class l == k) && not (is_unheld (open_in c es t l)))
 
 -- a Reversed entry names a class of which its thread has an open section, and which forbids that of the lock
+abbrev pub RefusalHasCause : Config → List (ℕ × ℕ) → OfTake → List Entry → ℕ → Type 0
+RefusalHasCause c edges NoTake es t = ⊤
+RefusalHasCause c edges (GainedBy l by_try) es t = ⊤
+RefusalHasCause c edges (FoundBusy l seen) es t = ⊤
+RefusalHasCause c edges (HaltedFor l) es t = ⊤
+RefusalHasCause c edges (RefusedBy l class) es t =
+    (has_open c es t class ≡ true) × (forbids edges class (c.class l) ≡ true)
+
 abbrev pub ReversalHasCause : Config → List (ℕ × ℕ) → Event → List Entry → ℕ → Type 0
-ReversalHasCause c edges (Locked l mode) es t = ⊤
-ReversalHasCause c edges (Tried l mode) es t = ⊤
-ReversalHasCause c edges (Busy l seen) es t = ⊤
-ReversalHasCause c edges (Unlocked l mode) es t = ⊤
-ReversalHasCause c edges (Set l k v) es t = ⊤
-ReversalHasCause c edges (Added l k n) es t = ⊤
-ReversalHasCause c edges (Got l k found) es t = ⊤
-ReversalHasCause c edges (Base p) es t = ⊤
-ReversalHasCause c edges (Shown b e) es t = ⊤
-ReversalHasCause c edges (Sleeps d) es t = ⊤
-ReversalHasCause c edges (Woke d) es t = ⊤
-ReversalHasCause c edges (HaltedChan d) es t = ⊤
-ReversalHasCause c edges (HaltedLock l) es t = ⊤
-ReversalHasCause c edges (WokeOne d woken) es t = ⊤
-ReversalHasCause c edges (WokeAll d woken) es t = ⊤
-ReversalHasCause c edges (Reversed l held) es t =
-    (has_open c es t held.0 ≡ true) × (forbids edges held.0 (c.class l.0) ≡ true)
+ReversalHasCause c edges e es t = RefusalHasCause c edges (facets e).take es t
 
 unfoldable pub ReversalsHaveCause : Config → List (ℕ × ℕ) → List Entry → Type 0
 ReversalsHaveCause c edges [] = ⊤

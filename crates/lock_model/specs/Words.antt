@@ -101,8 +101,9 @@ admits Sx w Shared = not (is_owned w.holder)
 -- claim. Any other gain keeps the waiters' bits.
 abbrev pub is_plain : Kind → Word → Mode → Bool
 is_plain kind w Shared = true
+is_plain Mtx w Excl = not (shows_waiters w)
+is_plain Rw w Excl = not (shows_waiters w)
 is_plain Sx w Excl = true
-is_plain kind w Excl = not (shows_waiters w)
 
 -- 4. What a word becomes
 

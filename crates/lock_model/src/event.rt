@@ -1,8 +1,11 @@
 //! What happened in a run: events, and entries of the history with their tickets; what a thread holds;
 //! and the refusals of the calls that take locks.
 
-ghost use Rattle.std.specs.Prelude.{◌≡◌, ◌==◌};
+ghost use Rattle.std.specs.Prelude.{◌≡◌, ◌==◌, option_map};
 ghost use Rattle.std.specs.List.{position};
+ghost use Rattle.lock_model.specs.Events.{facets, new_base, of_sleep, fell_asleep, woken_chan, wakes_nobody};
+ghost use Rattle.lock_model.specs.Law.{is_halt};
+ghost use Rattle.lock_model.specs.Takes.{is_reversal, refused};
 
 use crate::numbers::{ChanNo, ClassNo, LockNo, Prio, ThreadNo};
 use crate::plan::Mode;
@@ -98,6 +101,209 @@ pub enum Event {
         l: LockNo,
         held: ClassNo,
     },
+}
+
+/// What an event does at a key of a lock's table.
+///
+/// ```
+/// let done = OfTable::SetsTo { l: LockNo(0), key: 7, value: 1 };
+/// ```
+#[derive(Clone, Copy, Debug, PartialEq, Eq, Hash)]
+pub enum OfTable {
+    /// It is about no table.
+    NoTable,
+    /// It sets the value.
+    SetsTo {
+        l: LockNo,
+        key: u64,
+        value: u64,
+    },
+    /// It adds to the value, modulo 2^64.
+    AddsTo {
+        l: LockNo,
+        key: u64,
+        amount: u64,
+    },
+    /// It reads the value, and found that or none.
+    Reads {
+        l: LockNo,
+        key: u64,
+        found: Option<u64>,
+    },
+}
+
+impl Event {
+    /// What it does at a key of a lock's table.
+    pub fn at_table(self) -> OfTable
+        ensures { result ≡ (facets self).table }
+    {
+        match self {
+            Event::Set { l, key, value } => OfTable::SetsTo { l, key, value },
+            Event::Added { l, key, amount } => OfTable::AddsTo { l, key, amount },
+            Event::Got { l, key, found } => OfTable::Reads { l, key, found },
+            Event::Locked { .. }
+            | Event::Tried { .. }
+            | Event::Busy { .. }
+            | Event::Unlocked { .. }
+            | Event::Base { .. }
+            | Event::Shown { .. }
+            | Event::Sleeps { .. }
+            | Event::Woke { .. }
+            | Event::HaltedChan { .. }
+            | Event::HaltedLock { .. }
+            | Event::WokeOne { .. }
+            | Event::WokeAll { .. }
+            | Event::Reversed { .. } => OfTable::NoTable,
+        }
+    }
+
+    /// The base priority that its thread has from there on, where it gives it one.
+    pub fn new_base(self) -> Option<Prio>
+        ensures { option_map (λ p. p.0) result ≡ new_base self }
+    {
+        match self {
+            Event::Base { prio } => Some(prio),
+            Event::Locked { .. }
+            | Event::Tried { .. }
+            | Event::Busy { .. }
+            | Event::Unlocked { .. }
+            | Event::Set { .. }
+            | Event::Added { .. }
+            | Event::Got { .. }
+            | Event::Shown { .. }
+            | Event::Sleeps { .. }
+            | Event::Woke { .. }
+            | Event::HaltedChan { .. }
+            | Event::HaltedLock { .. }
+            | Event::WokeOne { .. }
+            | Event::WokeAll { .. }
+            | Event::Reversed { .. } => None,
+        }
+    }
+
+    /// The lock that it refuses to take, and the class of a held lock that forbids it, if it does.
+    pub fn refused(self) -> Option<(LockNo, ClassNo)>
+        ensures { option_map (λ r. (r.0.0, r.1.0)) result ≡ refused (facets self).take }
+    {
+        match self {
+            Event::Reversed { l, held } => Some((l, held)),
+            Event::Locked { .. }
+            | Event::Tried { .. }
+            | Event::Busy { .. }
+            | Event::Unlocked { .. }
+            | Event::Set { .. }
+            | Event::Added { .. }
+            | Event::Got { .. }
+            | Event::Base { .. }
+            | Event::Shown { .. }
+            | Event::Sleeps { .. }
+            | Event::Woke { .. }
+            | Event::HaltedChan { .. }
+            | Event::HaltedLock { .. }
+            | Event::WokeOne { .. }
+            | Event::WokeAll { .. } => None,
+        }
+    }
+
+    /// Whether it is the refusal of a take.
+    pub fn is_reversal(self) -> bool
+        ensures { result ≡ is_reversal self }
+    {
+        self.refused().is_some()
+    }
+
+    /// Whether a halt ended its thread's sleep.
+    pub fn is_halt(self) -> bool
+        ensures { result ≡ is_halt self }
+    {
+        match self {
+            Event::HaltedChan { .. } | Event::HaltedLock { .. } => true,
+            Event::Locked { .. }
+            | Event::Tried { .. }
+            | Event::Busy { .. }
+            | Event::Unlocked { .. }
+            | Event::Set { .. }
+            | Event::Added { .. }
+            | Event::Got { .. }
+            | Event::Base { .. }
+            | Event::Shown { .. }
+            | Event::Sleeps { .. }
+            | Event::Woke { .. }
+            | Event::WokeOne { .. }
+            | Event::WokeAll { .. }
+            | Event::Reversed { .. } => false,
+        }
+    }
+
+    /// The condition variable or channel on which its thread goes to sleep, if it does.
+    pub fn fell_asleep(self) -> Option<ChanNo>
+        ensures { option_map (λ c. c.0) result ≡ fell_asleep (of_sleep self) }
+    {
+        match self {
+            Event::Sleeps { c } => Some(c),
+            Event::Locked { .. }
+            | Event::Tried { .. }
+            | Event::Busy { .. }
+            | Event::Unlocked { .. }
+            | Event::Set { .. }
+            | Event::Added { .. }
+            | Event::Got { .. }
+            | Event::Base { .. }
+            | Event::Shown { .. }
+            | Event::Woke { .. }
+            | Event::HaltedChan { .. }
+            | Event::HaltedLock { .. }
+            | Event::WokeOne { .. }
+            | Event::WokeAll { .. }
+            | Event::Reversed { .. } => None,
+        }
+    }
+
+    /// The condition variable or channel whose sleepers its thread wakes, if it does.
+    pub fn woken_chan(self) -> Option<ChanNo>
+        ensures { option_map (λ c. c.0) result ≡ woken_chan (of_sleep self) }
+    {
+        match self {
+            Event::WokeOne { c, .. } | Event::WokeAll { c, .. } => Some(c),
+            Event::Locked { .. }
+            | Event::Tried { .. }
+            | Event::Busy { .. }
+            | Event::Unlocked { .. }
+            | Event::Set { .. }
+            | Event::Added { .. }
+            | Event::Got { .. }
+            | Event::Base { .. }
+            | Event::Shown { .. }
+            | Event::Sleeps { .. }
+            | Event::Woke { .. }
+            | Event::HaltedChan { .. }
+            | Event::HaltedLock { .. }
+            | Event::Reversed { .. } => None,
+        }
+    }
+
+    /// Whether it is a waking that found nobody asleep.
+    pub fn wakes_nobody(self) -> bool
+        ensures { result ≡ wakes_nobody self }
+    {
+        match self {
+            Event::WokeOne { woken, .. } | Event::WokeAll { woken, .. } => woken == 0,
+            Event::Locked { .. }
+            | Event::Tried { .. }
+            | Event::Busy { .. }
+            | Event::Unlocked { .. }
+            | Event::Set { .. }
+            | Event::Added { .. }
+            | Event::Got { .. }
+            | Event::Base { .. }
+            | Event::Shown { .. }
+            | Event::Sleeps { .. }
+            | Event::Woke { .. }
+            | Event::HaltedChan { .. }
+            | Event::HaltedLock { .. }
+            | Event::Reversed { .. } => false,
+        }
+    }
 }
 
 /// An event of a thread, with its ticket: its place in the one history of all threads, from 0.

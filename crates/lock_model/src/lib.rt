@@ -20,10 +20,12 @@ mod sequence;
 mod turn;
 mod words;
 
-pub use event::{Busy, Entry, Event, Halted, Held, Refused, Reversal, place_held};
+pub use event::{Busy, Entry, Event, Halted, Held, OfTable, Refused, Reversal, place_held};
 pub use name::Name;
 pub use numbers::{ChanNo, ClassNo, LockNo, Prio, ThreadNo};
-pub use plan::{ChanDecl, Declared, Kind, LockDecl, Mode, Op, Plan, QueueName, Side, ThreadDecl};
+pub use plan::{
+    ChanDecl, Declared, Kind, LockDecl, Mode, OfLocks, Op, Plan, QueueName, Side, ThreadDecl,
+};
 pub use sequence::Sequence;
 pub use turn::{StepKind, Turn};
 pub use words::{push_digits, push_number, push_word};

@@ -4,9 +4,11 @@ ghost use Rattle.std.specs.Prelude.{◌≡◌, ℕ, ◌<◌, ◌^◌, ◌↔◌,
 ghost use Rattle.std.specs.List.{Contains, list_any};
 ghost use Rattle.std.specs.List.Sorted.{IsStrictlyIncreasing};
 ghost use Rattle.lock_model.specs.Keys.{place_of, op_names, plan_names};
-ghost use Rattle.lock_model.specs.Operations.{operations_in_all};
+ghost use Rattle.lock_model.specs.Operations.{operations_in_all, of_locks};
+ghost use Rattle.lock_model.specs.declared.plan.OfLocks.TheVariants.{Acquires};
 ghost use Rattle.lock_model.specs.Plans.{operations_of, thread_name, lock_name, lock_kind, chan_name, is_cond, class_name};
 
+use crate::event::Held;
 use crate::name::Name;
 use crate::numbers::{ChanNo, ClassNo, LockNo, Prio, ThreadNo};
 use crate::sequence::Sequence;
@@ -193,23 +195,70 @@ pub enum Op {
     WakeAll { c: ChanNo },
 }
 
+/// What an operation does with locks.
+///
+/// ```
+/// let done = OfLocks::EditsAt { l: LockNo(0), key: 7 };
+/// ```
+#[derive(Clone, Copy, Debug, PartialEq, Eq, Hash)]
+pub enum OfLocks {
+    /// It is about no lock.
+    NoLock,
+    /// It acquires a lock, by a take or by a try.
+    Acquires { held: Held },
+    /// It closes the block of a try.
+    ClosesBlock,
+    /// It releases a lock.
+    Releases { l: LockNo },
+    /// It changes the value at a key of a lock's table.
+    EditsAt { l: LockNo, key: u64 },
+    /// It reads the value at a key of a lock's table.
+    ReadsAt { l: LockNo, key: u64 },
+    /// It gives up the lock of the condition variable or channel, and takes it again.
+    SleepsOn { c: ChanNo },
+    /// It wakes some that sleep on the condition variable or channel.
+    WakesOn { c: ChanNo },
+}
+
 impl Op {
+    /// What it does with locks.
+    pub fn of_locks(self) -> OfLocks
+        ensures { result ≡ of_locks self }
+    {
+        match self {
+            Op::Take { l, mode } => acquires(l, mode, false),
+            Op::Try { l, mode, .. } => acquires(l, mode, true),
+            Op::EndTry => OfLocks::ClosesBlock,
+            Op::Release { l } => OfLocks::Releases { l },
+            Op::Set { l, key, .. } | Op::Add { l, key, .. } => OfLocks::EditsAt { l, key },
+            Op::Get { l, key } => OfLocks::ReadsAt { l, key },
+            Op::Base { .. } | Op::Show => OfLocks::NoLock,
+            Op::Sleep { c } => OfLocks::SleepsOn { c },
+            Op::WakeOne { c } | Op::WakeAll { c } => OfLocks::WakesOn { c },
+        }
+    }
+
     /// The lock and the key of its table that the operation sets, adds to or reads.
     pub fn place(self) -> Option<(LockNo, u64)>
         ensures { option_map (λ p. (p.0.0, p.1)) result ≡ place_of self }
     {
-        match self {
-            Op::Set { l, key, .. } | Op::Add { l, key, .. } | Op::Get { l, key } => Some((l, key)),
-            Op::Take { .. }
-            | Op::Try { .. }
-            | Op::EndTry
-            | Op::Release { .. }
-            | Op::Base { .. }
-            | Op::Show
-            | Op::Sleep { .. }
-            | Op::WakeOne { .. }
-            | Op::WakeAll { .. } => None,
+        match self.of_locks() {
+            OfLocks::EditsAt { l, key } | OfLocks::ReadsAt { l, key } => Some((l, key)),
+            OfLocks::NoLock
+            | OfLocks::Acquires { .. }
+            | OfLocks::ClosesBlock
+            | OfLocks::Releases { .. }
+            | OfLocks::SleepsOn { .. }
+            | OfLocks::WakesOn { .. } => None,
         }
+    }
+}
+
+fn acquires(l: LockNo, mode: Mode, by_try: bool) -> OfLocks
+    ensures { result ≡ Acquires (record { l = l; mode = mode; by_try = by_try }) }
+{
+    OfLocks::Acquires {
+        held: Held { l, mode, by_try },
     }
 }
 

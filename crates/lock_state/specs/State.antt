@@ -125,7 +125,8 @@ pub record State : Type 0 where
   -- the locks that it holds, the one gained last first
   pub held_locks : ℕ → List HeldLock
   pub wanted : ℕ → Option ℕ
-  -- the lock of a take that was admitted, or of a wait from which it was woken, whose entry is still to come
+  -- the lock of a take that was admitted, or sought in a blocking call's round, or of a wait from which it was woken,
+  -- whose entry is still to come
   pub taking : ℕ → Option ℕ
   pub called : ℕ → Option ℕ
   pub walk : ℕ → Walk

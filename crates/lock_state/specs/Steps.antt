@@ -1,29 +1,31 @@
--- The steps of threads, one case per kind. A step asks its guard, and its effect is computed. What only a running
--- floor asks of its threads stands in records of its own below.
+-- The steps of threads, one case and one record per kind. A step asks its guard, and its effect is computed. What
+-- else is asked of it, on a running floor, of lock orders and of sleepers, stands in the record of its kind.
 pub mod LockWords
 pub mod Items
 pub mod Turnstiles
 pub mod SleepQueues
 pub mod Lending
 pub mod Orders
-use Rattle.std.specs.Prelude.{◌≡◌, ◌≢◌, ◌⊎◌, ℕ, ◌%◌, Bool, true, false, not, ◌&&◌, ◌==◌, if◌then◌else◌, List, [], ◌∷◌, Option, Some, None, ⊤, ◌<◌}
+use Rattle.std.specs.Prelude.{◌≡◌, ◌≢◌, ◌⊎◌, ℕ, ◌%◌, Bool, true, false, not, ◌&&◌, ◌==◌, if◌then◌else◌, List, [], ◌∷◌, ◌++◌, Option, Some, None, ⊤, ◌<◌}
 use Rattle.lock_model.specs.Config.{Config}
-use Rattle.lock_model.specs.Events.{of_sleep, is_end, is_waking_of}
-use Rattle.lock_state.specs.State.{State, Walk, NoWalk, AtLock, AtThread, Round, SleepHalted, start_state}
+use Rattle.lock_model.specs.Events.{OfEnd, NoEnd, EndsTakeOf, EndsWaitOn, OfPrio, NoPrio, NewBase, ShowsPrios, OfTake, NoTake, GainedBy, FoundBusy, HaltedFor, RefusedBy, OfSleep, NoSleep, FallsAsleep, WakesUp, IsHalted, IsHaltedAtLock, WakesOne, WakesAll, facets, of_sleep, is_waking_of, is_end, sleeps_on}
+use Rattle.lock_state.specs.State.{State, Walk, NoWalk, AtLock, AtThread, Round, SleepHalted, Phase, Awake, Asleep, Last, Halting, Aborting, SelfAborted, is_parked, start_state}
 use Rattle.lock_model.specs.Queues.{Cause, Mark, lock_queue}
 use Rattle.lock_model.specs.Words.{Word, is_turnstile, admits}
-use Rattle.lock_state.specs.Steps.LockWords.{is_taking_back, MaySeek, MayLook, MayGain, MayDrop, MayStamp, MayReady, MayUnready, IsGainedLast, after_seek, after_look, after_gain, after_drop, after_stamp, after_ready, after_unready}
+use Rattle.lock_state.specs.Steps.LockWords.{bound_to, AllHold, is_taking_back, MaySeek, MayLook, MayGain, MayDrop, MayStamp, MayReady, MayUnready, IsGainedLast, after_seek, after_look, after_gain, after_drop, after_stamp, after_ready, after_unready}
 use Rattle.lock_state.specs.Steps.Turnstiles.{MayEnter, MayOpen, MayMark, MayResume, after_enter, after_open, after_mark, after_resume}
 use Rattle.lock_state.specs.Steps.SleepQueues.{MayEnterSleep, MayOpenSleep, MayAdd, MayWake, after_enter_sleep, after_open_sleep, after_add, after_wake}
 use Rattle.lock_state.specs.Steps.Lending.{MayClaim, MayLend, MayShift, MayEndWalk, after_claim, after_lend, after_shift, after_end_walk}
 use Rattle.lock_state.specs.Steps.Orders.{MayAdmit, MayRefuse, after_admit, after_refuse}
-use Rattle.lock_state.specs.Steps.Items.{Item, TurnstileChain, SleepChain, RecordOf, CellOf, ClassGraph, item_with, is_chain, is_bound, IsOnItsWay, MayTake, MayGive, after_take, after_give}
+use Rattle.lock_state.specs.Steps.Items.{Item, TurnstileChain, SleepChain, RecordOf, CellOf, ClassGraph, item_with, is_chain, IsOnItsWay, MayTake, MayGive, after_take, after_give}
+use Rattle.lock_model.specs.Holds.{NotHeld}
 use Rattle.lock_model.specs.declared.plan.Mode.{Mode}
 use Rattle.lock_model.specs.declared.plan.Mode.TheVariants.{Excl}
 use Rattle.lock_model.specs.declared.plan.QueueName.{QueueName}
 use Rattle.lock_model.specs.declared.plan.QueueName.TheVariants.{Lock, Chan}
 use Rattle.lock_model.specs.declared.event.Event.{Event}
-use Rattle.lock_model.specs.declared.event.Event.TheVariants.{Locked, Tried, Busy, Unlocked, Set, Added, Got, Base, Shown, Sleeps, Woke, HaltedChan, HaltedLock, WokeOne, WokeAll, Reversed}
+use Rattle.lock_model.specs.declared.event.OfTable.{OfTable}
+use Rattle.lock_model.specs.declared.event.OfTable.TheVariants.{NoTable, SetsTo, AddsTo, Reads}
 
 -- 1. Steps
 
@@ -72,77 +74,6 @@ pub data Step : Type 0 where
   -- the same, and the class of a held lock that forbids it
   Refuses : ℕ → ℕ → ℕ → Step
 
--- what a step asks of the state
-abbrev pub May : Config → State → Step → Type 0
-May c s (Seeks t l by_try) = MaySeek c s t l by_try
-May c s (Looks t l in_round) = MayLook c s t l in_round
-May c s (TakesItem t i) = MayTake c s t i
-May c s (GivesItem t i) = MayGive c s t i
-May c s (Gains t l mode by_try) = MayGain c s t l mode
-May c s (Drops t l mode) = MayDrop c s t l mode
-May c s (Stamps t e) = MayStamp c s t e
-May c s (Readies t q) = MayReady c s t
-May c s (Unreadies t q) = MayUnready c s t
-May c s (Enters t l mode x) = MayEnter c s t l mode x
-May c s (Opens t l mode) = MayOpen c s t l mode
-May c s (EntersSleepQueue t l mode x) = MayEnterSleep c s t l mode x
-May c s (OpensSleepQueue t l mode) = MayOpenSleep c s t l mode
-May c s (Adds t d x) = MayAdd c s t d x
-May c s (Wakes t d all) = MayWake c s t d all
-May c s (Marks t m ms) = MayMark c s t m ms
-May c s (Resumes t q cause) = MayResume c s t q cause
-May c s (Claims t l h by_try) = MayClaim c s t l h
-May c s (Lends t l o h) = MayLend c s t l o h
-May c s (Shifts t o l) = MayShift c s t o l
-May c s (EndsWalk t) = MayEndWalk c s t
-May c s (Admits t l) = MayAdmit c s t l
-May c s (Refuses t l k) = MayRefuse c s t l k
-
--- what a step makes of the state
-abbrev pub after : Config → State → Step → State
-after c s (Seeks t l by_try) = after_seek s t l by_try
-after c s (Looks t l in_round) = after_look s t l in_round
-after c s (TakesItem t i) = after_take s t i
-after c s (GivesItem t i) = after_give s t i
-after c s (Gains t l mode by_try) = after_gain s t l mode by_try
-after c s (Drops t l mode) = after_drop s t l
-after c s (Stamps t e) = after_stamp c s t e
-after c s (Readies t q) = after_ready s t
-after c s (Unreadies t q) = after_unready s t
-after c s (Enters t l mode x) = after_enter s t l mode x
-after c s (Opens t l mode) = after_open c s t l
-after c s (EntersSleepQueue t l mode x) = after_enter_sleep s t l mode x
-after c s (OpensSleepQueue t l mode) = after_open_sleep c s t l
-after c s (Adds t d x) = after_add s t d x
-after c s (Wakes t d all) = after_wake s t d all
-after c s (Marks t m ms) = after_mark c s t m ms
-after c s (Resumes t q cause) = after_resume c s t q cause
-after c s (Claims t l h by_try) = after_claim c s t l h by_try
-after c s (Lends t l o h) = after_lend c s t l o h
-after c s (Shifts t o l) = after_shift s t o l
-after c s (EndsWalk t) = after_end_walk s t
-after c s (Admits t l) = after_admit c s t l
-after c s (Refuses t l k) = after_refuse s t l k
-
--- n comes from s by one step
-abbrev pub IsStep : Config → State → State → Type 0
-IsStep c s n = (step : Step) × May c s step × (n ≡ after c s step)
-
--- the states that steps reach from the start
-pub data IsReachable (c : Config) : State → Type 0 where
-  begins : IsReachable c (start_state c)
-  goes_on : {s n : State} → IsReachable c s → IsStep c s n → IsReachable c n
-
--- the state after the steps of a list, made in order
-abbrev pub after_all : Config → State → List Step → State
-after_all c s [] = s
-after_all c s (step ∷ steps) = after_all c (after c s step) steps
-
--- whether each step of a list may be made where it comes
-abbrev pub MayAll : Config → State → List Step → Type 0
-MayAll c s [] = ⊤
-MayAll c s (step ∷ steps) = May c s step × MayAll c (after c s step) steps
-
 -- 2. What a running floor asks beside. It has so many chains of each sort.
 
 -- The thread must have out what the step works on: a chain, a record, or a cell of a table.
@@ -169,24 +100,36 @@ IsItem chains c ClassGraph = ⊤
 abbrev pub HasItem : State → ℕ → Item → Type 0
 HasItem s t i = item_with s i ≡ Some t
 
--- a cell for an edit or a read, the own record for Base and Shown, the channel's chain for a sleep or a wake
+-- What each column of an entry needs out, as a list of facts.
+
+-- an edit and a read need the cell
+abbrev pub TableNeeds : State → ℕ → OfTable → List {1} (Type 0)
+TableNeeds s t NoTable = []
+TableNeeds s t (SetsTo l k v) = HasItem s t (CellOf l.0 k) ∷ []
+TableNeeds s t (AddsTo l k n) = HasItem s t (CellOf l.0 k) ∷ []
+TableNeeds s t (Reads l k found) = HasItem s t (CellOf l.0 k) ∷ []
+
+-- Base and Shown need the own record
+abbrev pub PrioNeeds : State → ℕ → OfPrio → List {1} (Type 0)
+PrioNeeds s t NoPrio = []
+PrioNeeds s t (NewBase p) = HasItem s t (RecordOf t) ∷ []
+PrioNeeds s t (ShowsPrios b e) = HasItem s t (RecordOf t) ∷ []
+
+-- a begin of sleep and a waking need the channel's chain
+abbrev pub SleepNeeds : ℕ → State → ℕ → OfSleep → List {1} (Type 0)
+SleepNeeds chains s t NoSleep = []
+SleepNeeds chains s t (FallsAsleep d) = HasItem s t (SleepChain (d % chains)) ∷ []
+SleepNeeds chains s t (WakesUp d) = []
+SleepNeeds chains s t (IsHalted d) = []
+SleepNeeds chains s t (IsHaltedAtLock l) = []
+SleepNeeds chains s t (WakesOne d woken) = HasItem s t (SleepChain (d % chains)) ∷ []
+SleepNeeds chains s t (WakesAll d woken) = HasItem s t (SleepChain (d % chains)) ∷ []
+
+-- what each entry needs out
 abbrev pub HasOutForEntry : ℕ → State → ℕ → Event → Type 0
-HasOutForEntry chains s t (Locked l mode) = ⊤
-HasOutForEntry chains s t (Tried l mode) = ⊤
-HasOutForEntry chains s t (Busy l seen) = ⊤
-HasOutForEntry chains s t (Unlocked l mode) = ⊤
-HasOutForEntry chains s t (Set l k v) = HasItem s t (CellOf l.0 k)
-HasOutForEntry chains s t (Added l k n) = HasItem s t (CellOf l.0 k)
-HasOutForEntry chains s t (Got l k v) = HasItem s t (CellOf l.0 k)
-HasOutForEntry chains s t (Base p) = HasItem s t (RecordOf t)
-HasOutForEntry chains s t (Shown b e) = HasItem s t (RecordOf t)
-HasOutForEntry chains s t (Sleeps d) = HasItem s t (SleepChain (d.0 % chains))
-HasOutForEntry chains s t (Woke d) = ⊤
-HasOutForEntry chains s t (HaltedChan d) = ⊤
-HasOutForEntry chains s t (HaltedLock l) = ⊤
-HasOutForEntry chains s t (WokeOne d woken) = HasItem s t (SleepChain (d.0 % chains))
-HasOutForEntry chains s t (WokeAll d woken) = HasItem s t (SleepChain (d.0 % chains))
-HasOutForEntry chains s t (Reversed l held) = ⊤
+HasOutForEntry chains s t e = AllHold
+    (TableNeeds s t (facets e).table ++ PrioNeeds s t (facets e).prio
+    ++ SleepNeeds chains s t (facets e).sleep)
 
 -- what the end of a walk needs where it stands
 abbrev pub HasOutForEnd : ℕ → Config → State → ℕ → Walk → Type 0
@@ -202,36 +145,21 @@ abbrev pub IsOfRound : ℕ → Config → Option Round → Item → Type 0
 IsOfRound chains c None i = ⊤
 IsOfRound chains c (Some r) i = is_chain i ≡ true → i ≡ chain_of chains c r.lock
 
--- what each kind of step needs out. A thread is made ready under the chain of the queue that it goes to, and resumes
--- with nothing out
-abbrev pub HasOut : ℕ → Config → State → Step → Type 0
-HasOut chains c s (Seeks t l by_try) = HasItem s t (chain_of chains c l) → ⊥
-HasOut chains c s (Looks t l in_round) = ⊤
-HasOut chains c s (TakesItem t i) = IsItem chains c i × IsOfRound chains c (s.round t) i
-HasOut chains c s (GivesItem t i) = HasItem s t i
-HasOut chains c s (Gains t l mode by_try) = ⊤
-HasOut chains c s (Drops t l mode) = ⊤
-HasOut chains c s (Stamps t e) = HasOutForEntry chains s t e
-HasOut chains c s (Readies t q) = HasItem s t (chain_of_queue chains c q) × HasItem s t (RecordOf t)
-HasOut chains c s (Unreadies t q) =
-    HasItem s t (chain_of_queue chains c q) × HasItem s t (RecordOf t)
-HasOut chains c s (Enters t l mode x) = HasItem s t (chain_of chains c l) × HasItem s t (RecordOf t)
-HasOut chains c s (Opens t l mode) = HasItem s t (chain_of chains c l) × HasItem s t (RecordOf t)
-HasOut chains c s (EntersSleepQueue t l mode x) =
-    HasItem s t (chain_of chains c l) × HasItem s t (RecordOf t)
-HasOut chains c s (OpensSleepQueue t l mode) =
-    HasItem s t (chain_of chains c l) × HasItem s t (RecordOf t)
-HasOut chains c s (Adds t d x) = HasItem s t (SleepChain (d % chains)) × HasItem s t (RecordOf t)
-HasOut chains c s (Wakes t d all) = HasItem s t (SleepChain (d % chains))
-HasOut chains c s (Marks t m ms) = HasItem s t (RecordOf m.thread)
-HasOut chains c s (Resumes t q cause) = ((i : Item) → HasItem s t i → ⊥) × (s.walk t ≡ NoWalk)
-HasOut chains c s (Claims t l h by_try) =
-    HasItem s t (chain_of chains c l) × HasItem s t (RecordOf t)
-HasOut chains c s (Lends t l o h) = HasItem s t (chain_of chains c l) × HasItem s t (RecordOf o)
-HasOut chains c s (Shifts t o l) = HasItem s t (chain_of chains c l) × HasItem s t (RecordOf o)
-HasOut chains c s (EndsWalk t) = HasOutForEnd chains c s t (s.walk t)
-HasOut chains c s (Admits t l) = HasItem s t ClassGraph
-HasOut chains c s (Refuses t l k) = HasItem s t ClassGraph
+-- Who halts others.
+
+-- whether a thread is at halting others: its counting out left nobody awake, it counted itself in again, and has
+-- neither resumed nor counted itself out since
+abbrev pub is_halting : Phase → Bool
+is_halting Awake = false
+is_halting Asleep = false
+is_halting Last = false
+is_halting Halting = true
+is_halting Aborting = true
+is_halting SelfAborted = true
+
+-- a thread at halting others (a finder, also once it has aborted), though it has ended or stands on a queue
+abbrev pub IsHalting : State → ℕ → Type 0
+IsHalting s t = is_halting (s.phase t) ≡ true
 
 -- What the thread must have seen, and in which round it acts.
 
@@ -250,17 +178,24 @@ abbrev pub counts_as_look : ℕ → Config → State → ℕ → ℕ → Bool
 counts_as_look chains c s t l =
     seeks l (s.round t) && not (is_with t (item_with s (chain_of chains c l)))
 
--- A gain in a round is of the round's lock and in its way. Outside a round it is the single exchange of a try, or that of a
--- blocking call which looks until it gains, and whose looks are not counted.
+-- A gain in a round is of the round's lock and in its way. Outside a round it is the single exchange of a try, or
+-- that of a blocking call which looks until it gains, and whose looks are not counted. Once blocking calls begin a
+-- round before their first exchange, the first line is `FitsRound None l by_try = by_try ≡ true`.
 abbrev pub FitsRound : Option Round → ℕ → Bool → Type 0
 FitsRound None l by_try = ⊤
 FitsRound (Some r) l by_try = (r.lock ≡ l) × (r.by_try ≡ by_try)
 
 -- in an acquiring round the one entry is that of a try which found the round's lock busy
+abbrev pub IsBusyTry : OfTake → Round → Type 0
+IsBusyTry NoTake r = ⊥
+IsBusyTry (GainedBy l by_try) r = ⊥
+IsBusyTry (FoundBusy l seen) r = (r.lock ≡ l) × (r.by_try ≡ true)
+IsBusyTry (HaltedFor l) r = ⊥
+IsBusyTry (RefusedBy l class) r = ⊥
+
 abbrev pub NotesInRound : Option Round → Event → Type 0
 NotesInRound None e = ⊤
-NotesInRound (Some r) (Busy l seen) = (r.lock ≡ l.0) × (r.by_try ≡ true)
-NotesInRound (Some r) other = ⊥
+NotesInRound (Some r) e = IsBusyTry (facets e).take r
 
 -- whether an event ends a sleep
 abbrev pub ends_sleep : Event → Bool
@@ -270,11 +205,39 @@ ends_sleep e = is_end (of_sleep e)
 abbrev pub is_waking : Event → Bool
 is_waking e = is_waking_of (of_sleep e)
 
--- The next entry behind Sleeps ends that sleep, and the next one behind a wake is its waking.
-pub record NotesInTurn (s : State) (t : ℕ) (e : Event) : Type 0 where
+-- an entry ends the take of a lock that is under way; or else, where the thread is in a wait, the wait with it
+abbrev pub EndsTakeOrWait : Config → Bool → OfEnd → ℕ → Type 0
+EndsTakeOrWait c back NoEnd l = ⊥
+EndsTakeOrWait c back (EndsTakeOf k) l = (k ≡ l) × (back ≡ false)
+EndsTakeOrWait c back (EndsWaitOn d) l = (c.chan_lock d ≡ l) × (back ≡ true)
+
+abbrev pub EndsTake : Config → Bool → Event → ℕ → Type 0
+EndsTake c back e l = EndsTakeOrWait c back (facets e).end l
+
+-- the next entry of a thread that takes a lock ends that take
+abbrev pub EndsItsTake : Config → State → ℕ → Event → Type 0
+EndsItsTake c s t e =
+    (l : ℕ) → s.taking t ≡ Some l → EndsTake c (is_taking_back (s.log t)) e l
+
+-- the thread takes no lock
+abbrev pub TakesNothing : State → ℕ → Type 0
+TakesNothing s t = s.taking t ≡ None
+
+-- The next entry behind Sleeps ends that sleep, the next one behind a wake is its waking, and the next one of a take
+-- ends it: so that behind a gain the section of its lock begins, also where no orders are checked. Admits and the round
+-- of a blocking call set what is taken; a gain that no round comes before, as a mutex makes it today, takes nothing
+-- yet.
+pub record IsNextEntry (c : Config) (s : State) (t : ℕ) (e : Event) : Type 0 where
   pub in_round : NotesInRound (s.round t) e
   pub asleep : is_taking_back (s.log t) ≡ true → ends_sleep e ≡ true
   pub wakes : s.unstamped t ≢ None → is_waking e ≡ true
+  pub takes : EndsItsTake c s t e
+
+-- A round of a thread that wants nothing begins where no take is under way. That a look, or a taking of a chain, in a
+-- blocking call's round is of the wanted lock can't be said of the begin of the round. Once orders run on a floor,
+-- Looks and TakesItem ask it: `(r : Round) → s.round t ≡ Some r → r.by_try ≡ false → s.wanted t ≡ Some r.lock`
+abbrev pub SeeksAnew : State → ℕ → Type 0
+SeeksAnew s t = s.wanted t ≡ None → TakesNothing s t
 
 -- what the thread saw last at the lock under the chain that it has out admits the mode
 abbrev pub SawAdmitting : ℕ → Config → State → ℕ → ℕ → Mode → Type 0
@@ -286,91 +249,93 @@ SawAdmitting chains c s t l mode =
 abbrev pub IsInRound : ℕ → Config → State → ℕ → ℕ → Type 0
 IsInRound chains c s t l = s.round t ≡ None → HasItem s t (chain_of chains c l) → ⊥
 
--- what a gain needs to have seen, and its round
+-- What a gain needs to have seen, and its round; a thread in the middle of a take gains no other lock. That a blocking
+-- call's gain is of the lock that is being taken isn't asked here yet: a mutex gains by an exchange that no round comes
+-- before. Once that exchange begins a round in the same step, it is one more line beside `others`, `takes : by_try ≡
+-- false → s.taking t ≡ Some l`, and then the entry of each blocking call's gain comes next.
 pub record GainsFromLook (chains : ℕ) (c : Config) (s : State) (t l : ℕ) (mode : Mode)
     (by_try : Bool) : Type 0 where
   pub fits : FitsRound (s.round t) l by_try
   pub in_round : IsInRound chains c s t l
   pub saw : SawAdmitting chains c s t l mode
+  pub others : (k : ℕ) → s.taking t ≡ Some k → k ≡ l
 
--- a look in a round that has taken its chain is at the round's lock
+-- A look in a round is at the round's lock, and one under a chain at a lock whose queue stands in that chain: no
+-- procedure looks elsewhere, and what was seen of the round's lock stays (this project's rule). Outside a round a
+-- thread looks under a chain only at a lock that it holds, to release it, or at halting others: there at the lock whose
+-- sleeper it aborts, under that lock's chain. Once blocking calls begin a round before their first exchange, it is one
+-- more line, `outside_takes : s.round t ≡ None → TakesNothing s t ⊎ IsHalting s t`
 pub record LooksInRound (chains : ℕ) (c : Config) (s : State) (t l : ℕ) (in_round : Bool) : Type 0
   where
     pub counts : in_round ≡ counts_as_look chains c s t l
-    pub in_chain : is_bound (s.round t) ≡ true → seeks l (s.round t) ≡ true
+    pub of_round : s.round t ≢ None → seeks l (s.round t) ≡ true
+    pub in_chain : (i : Item) → is_chain i ≡ true → HasItem s t i → i ≡ chain_of chains c l
+    pub outside : (i : Item) → s.round t ≡ None → is_chain i ≡ true → HasItem s t i
+        → (s.held t l ≢ NotHeld) ⊎ IsHalting s t
+    pub halting : IsHalting s t → HasItem s t (chain_of chains c l)
 
 -- a sleep on a channel begins outside the thread's rounds, with no wake to note and no halt
-pub record SleepsInTurn (s : State) (t : ℕ) : Type 0 where
+pub record SleepsOutsideRounds (s : State) (t : ℕ) : Type 0 where
   pub no_round : s.round t ≡ None
   pub stamped : s.unstamped t ≡ None
   pub unnoted : s.noted t ≡ None
 
 -- an enter is an exchange from the word that the last look saw, in a blocking call's round that has taken the lock's
--- chain. It is not made by a thread on its way to a channel
+-- chain
 pub record EntersFromLook (s : State) (t l : ℕ) : Type 0 where
   pub saw : s.last_look t ≡ Some (record { lock = l; word = s.word l })
-  pub round : s.round t ≡ Some (record { lock = l; by_try = false; in_chain = true })
-  pub off : IsOnItsWay s t → ⊥
+  pub round : s.round t ≡ Some (bound_to l)
 
--- Where a look in the lock's chain saw a word that doesn't admit, the thread enters and does not gain, until it looks
--- again. A thread sleeps on a channel outside its rounds, where it has no wake to note; between its Sleeps entry and
--- its add it neither enters a lock's queue nor runs again. The order of locks is checked outside a thread's rounds.
-abbrev pub HasSeen : ℕ → Config → State → Step → Type 0
-HasSeen chains c s (Seeks t l by_try) = ⊤
-HasSeen chains c s (Looks t l in_round) = LooksInRound chains c s t l in_round
-HasSeen chains c s (TakesItem t i) = ⊤
-HasSeen chains c s (GivesItem t i) = ⊤
-HasSeen chains c s (Gains t l mode by_try) = GainsFromLook chains c s t l mode by_try
-HasSeen chains c s (Drops t l mode) = ⊤
-HasSeen chains c s (Stamps t e) = NotesInTurn s t e
-HasSeen chains c s (Readies t q) = ⊤
-HasSeen chains c s (Unreadies t q) = IsOnItsWay s t → ⊥
-HasSeen chains c s (Enters t l mode x) = EntersFromLook s t l
-HasSeen chains c s (Opens t l mode) = ⊤
-HasSeen chains c s (EntersSleepQueue t l mode x) = EntersFromLook s t l
-HasSeen chains c s (OpensSleepQueue t l mode) = ⊤
-HasSeen chains c s (Adds t d x) = SleepsInTurn s t
-HasSeen chains c s (Wakes t d all) = ⊤
-HasSeen chains c s (Marks t m ms) = ⊤
-HasSeen chains c s (Resumes t q cause) = ⊤
-HasSeen chains c s (Claims t l h by_try) = GainsFromLook chains c s t l Excl by_try
-HasSeen chains c s (Lends t l o h) = ⊤
-HasSeen chains c s (Shifts t o l) = ⊤
-HasSeen chains c s (EndsWalk t) = ⊤
-HasSeen chains c s (Admits t l) = s.round t ≡ None
-HasSeen chains c s (Refuses t l k) = s.round t ≡ None
+-- Where the thread is that makes the step.
 
--- n comes from s by one step of a thread of a running floor
-abbrev pub IsFloorStep : ℕ → Config → State → State → Type 0
-IsFloorStep chains c s n =
-    (step : Step) × May c s step × HasOut chains c s step × HasSeen chains c s step
-    × (n ≡ after c s step)
+-- the thread is awake: it is neither parked nor at halting others, and hasn't ended
+pub record IsRunnable (s : State) (t : ℕ) : Type 0 where
+  pub phase : s.phase t ≡ Awake
+  pub unended : s.has_ended t ≡ false
+
+-- what is taken out to halt sleepers: the chains in which they stand, and their records
+abbrev pub is_for_halting : Item → Bool
+is_for_halting (TurnstileChain k) = false
+is_for_halting (SleepChain k) = true
+is_for_halting (RecordOf u) = true
+is_for_halting (CellOf l k) = false
+is_for_halting ClassGraph = false
+
+-- The thread has made what must follow its last step at once: the add behind its Sleeps entry, and the entry behind its
+-- wake. No other step of the thread comes between these (this project's rule: so a channel's queue differs from what
+-- the logs say only while its chain is out)
+pub record OwesNoStep (s : State) (t : ℕ) : Type 0 where
+  pub added : IsOnItsWay s t → ⊥
+  pub stamped : s.unstamped t ≡ None
+
+-- a thread that is awake and owes no other step
+pub record GoesOn (s : State) (t : ℕ) : Type 0 where
+  pub runs : IsRunnable s t
+  pub owes : OwesNoStep s t
+
+-- a thread that is awake, or one at halting others that takes out what it needs for that
+pub record GoesOnTaking (s : State) (t : ℕ) (i : Item) : Type 0 where
+  pub runs : IsRunnable s t ⊎ (IsHalting s t × (is_for_halting i ≡ true))
+  pub owes : OwesNoStep s t
+
+-- a thread that is awake, or one at halting others, wakes whom it took off a queue. So it looks at a lock: at halting
+-- others at the one whose sleeper it aborts
+pub record GoesOnOrHalts (s : State) (t : ℕ) : Type 0 where
+  pub runs : IsRunnable s t ⊎ IsHalting s t
+  pub owes : OwesNoStep s t
+
+-- a thread that isn't parked, also one that has ended or is at halting others, gives back what it has out
+pub record GivesBack (s : State) (t : ℕ) : Type 0 where
+  pub unparked : is_parked (s.phase t) ≡ false
+  pub owes : OwesNoStep s t
+
+-- a thread that is awake, and not between its Sleeps entry and its add, makes an entry
+pub record GoesOnNoting (s : State) (t : ℕ) : Type 0 where
+  pub runs : IsRunnable s t
+  pub added : IsOnItsWay s t → ⊥
 
 -- 3. What each step asks once lock orders are checked, in the scheduled run and on a floor: a take is admitted before
 -- its lock is sought
-
--- an entry ends the take of a lock that is under way; or else, where the thread is in a wait, the wait with it
-abbrev pub EndsTake : Config → Bool → Event → ℕ → Type 0
-EndsTake c back (Locked k mode) l = (k.0 ≡ l) × (back ≡ false)
-EndsTake c back (Tried k mode) l = ⊥
-EndsTake c back (Busy k seen) l = ⊥
-EndsTake c back (Unlocked k mode) l = ⊥
-EndsTake c back (Set k key v) l = ⊥
-EndsTake c back (Added k key n) l = ⊥
-EndsTake c back (Got k key found) l = ⊥
-EndsTake c back (Base p) l = ⊥
-EndsTake c back (Shown b e) l = ⊥
-EndsTake c back (Sleeps d) l = ⊥
-EndsTake c back (Woke d) l = (c.chan_lock d.0 ≡ l) × (back ≡ true)
-EndsTake c back (HaltedChan d) l = (c.chan_lock d.0 ≡ l) × (back ≡ true)
-EndsTake c back (HaltedLock k) l = (k.0 ≡ l) × (back ≡ false)
-EndsTake c back (WokeOne d woken) l = ⊥
-EndsTake c back (WokeAll d woken) l = ⊥
-EndsTake c back (Reversed k held) l = ⊥
-
--- the thread takes no lock
-abbrev pub TakesNothing : State → ℕ → Type 0
-TakesNothing s t = s.taking t ≡ None
 
 -- a blocking call gains the lock that it wants, and a thread that takes a lock gains no other; nor does one gain a lock
 -- that has the halt of a take to note
@@ -389,36 +354,253 @@ abbrev pub IsBackFrom : State → ℕ → QueueName → Type 0
 IsBackFrom s t (Lock l) = ⊤
 IsBackFrom s t (Chan d) = is_taking_back (s.log t) ≡ true
 
--- A step keeps to the order that was admitted. A blocking call seeks the lock that it takes, and looks at it in its
--- round alone; an enter is of the wanted lock; a release isn't of a thread that takes; and the next entry of one that
--- takes ends its take.
-abbrev pub KeepsToOrder : Config → State → Step → Type 0
-KeepsToOrder c s (Seeks t l by_try) = by_try ≡ false → s.wanted t ≡ Some l
-KeepsToOrder c s (Looks t l in_round) = s.taking t ≡ Some l → seeks l (s.round t) ≡ true
-KeepsToOrder c s (TakesItem t i) = ⊤
-KeepsToOrder c s (GivesItem t i) = ⊤
-KeepsToOrder c s (Gains t l mode by_try) = GainsInOrder s t l by_try
-KeepsToOrder c s (Drops t l mode) = TakesNothing s t
-KeepsToOrder c s (Stamps t e) =
-    (l : ℕ) → s.taking t ≡ Some l → EndsTake c (is_taking_back (s.log t)) e l
-KeepsToOrder c s (Readies t q) = ⊤
-KeepsToOrder c s (Unreadies t q) = ⊤
-KeepsToOrder c s (Enters t l mode x) = s.wanted t ≡ Some l
-KeepsToOrder c s (Opens t l mode) = TakesNothing s t
-KeepsToOrder c s (EntersSleepQueue t l mode x) = s.wanted t ≡ Some l
-KeepsToOrder c s (OpensSleepQueue t l mode) = TakesNothing s t
-KeepsToOrder c s (Adds t d x) = SleepsInOrder c s t d
-KeepsToOrder c s (Wakes t d all) = ⊤
-KeepsToOrder c s (Marks t m ms) = ⊤
-KeepsToOrder c s (Resumes t q cause) = IsBackFrom s t q
-KeepsToOrder c s (Claims t l h by_try) = GainsInOrder s t l by_try
-KeepsToOrder c s (Lends t l o h) = ⊤
-KeepsToOrder c s (Shifts t o l) = ⊤
-KeepsToOrder c s (EndsWalk t) = ⊤
-KeepsToOrder c s (Admits t l) = ⊤
-KeepsToOrder c s (Refuses t l k) = ⊤
+-- who is added to a channel's queue is at work on the channel, and has no wake to note
+pub record AddsAtWork (at_work : ℕ → Option ℕ) (s : State) (t d : ℕ) : Type 0 where
+  pub works : at_work d ≡ Some t
+  pub stamped : s.unstamped t ≡ None
 
--- so does each step of a list where it comes
+-- 4. What each kind of step is
+
+pub record KindOfStep : Type 1 where
+  -- who makes it
+  pub thread : ℕ
+  -- what it asks of the state
+  pub may : Config → State → Type 0
+  -- what it makes of the state
+  pub after : Config → State → State
+  -- what its thread must have out on a running floor, which has so many chains of each sort. A thread is made ready
+  -- under the chain of the queue that it goes to, and resumes with nothing out
+  pub has_out : ℕ → Config → State → Type 0
+  -- What the thread must have seen there, and in which round it acts. Where a look in the lock's chain saw a word
+  -- that doesn't admit, the thread enters and does not gain, until it looks again. A thread sleeps on a channel
+  -- outside its rounds, where it has no wake to note. The order of locks is checked outside a thread's rounds.
+  pub has_seen : ℕ → Config → State → Type 0
+  -- What it asks of its thread there: that it is awake, hasn't ended, and owes no other step. That a thread which
+  -- resumes is parked, or has aborted itself, comes with counting
+  pub asks_of_thread : State → Type 0
+  -- How it keeps to the order that was admitted. A blocking call seeks the lock that it takes, and looks at it in
+  -- its round alone; an enter is of the wanted lock; a release isn't of a thread that takes; and the next entry of
+  -- one that takes ends its take.
+  pub keeps_order : Config → State → Type 0
+  -- whether by it the thread gains the lock, or comes to stand on its queue
+  pub ends_round : ℕ → ℕ → Type 0
+  -- What it asks of sleepers, given who is at work on each channel. A Sleeps entry, an add and a wake are by the
+  -- thread that is at work on the channel. A thread on its way to a channel neither enters a lock's queue nor runs
+  -- again.
+  pub asks_of_sleepers : (ℕ → Option ℕ) → State → Type 0
+
+-- a kind that asks nothing beside but that its thread is awake and owes no other step, and that ends no round
+abbrev pub plain : ℕ → (Config → State → Type 0) → (Config → State → State) → KindOfStep
+plain t may after = record {
+  thread = t;
+  may = may;
+  after = after;
+  has_out = λ chains c s. ⊤;
+  has_seen = λ chains c s. ⊤;
+  asks_of_thread = λ s. GoesOn s t;
+  keeps_order = λ c s. ⊤;
+  ends_round = λ u k. ⊥;
+  asks_of_sleepers = λ at_work s. ⊤;
+}
+
+-- the kind of each step
+abbrev pub kind_of : Step → KindOfStep
+kind_of (Seeks t l by_try) =
+    record (plain t (λ c s. MaySeek c s t l by_try) (λ c s. after_seek s t l by_try)) {
+      has_out = λ chains c s. HasItem s t (chain_of chains c l) → ⊥;
+      has_seen = λ chains c s. SeeksAnew s t;
+      keeps_order = λ c s. by_try ≡ false → s.wanted t ≡ Some l;
+    }
+kind_of (Looks t l in_round) =
+    record (plain t (λ c s. MayLook c s t l in_round) (λ c s. after_look s t l in_round)) {
+      has_seen = λ chains c s. LooksInRound chains c s t l in_round;
+      asks_of_thread = λ s. GoesOnOrHalts s t;
+      keeps_order = λ c s. s.taking t ≡ Some l → seeks l (s.round t) ≡ true;
+    }
+kind_of (TakesItem t i) = record (plain t (λ c s. MayTake c s t i) (λ c s. after_take s t i)) {
+  has_out = λ chains c s. IsItem chains c i × IsOfRound chains c (s.round t) i;
+  asks_of_thread = λ s. GoesOnTaking s t i;
+}
+kind_of (GivesItem t i) = record (plain t (λ c s. MayGive c s t i) (λ c s. after_give s t i)) {
+  has_out = λ chains c s. HasItem s t i;
+  asks_of_thread = λ s. GivesBack s t;
+}
+kind_of (Gains t l mode by_try) =
+    record (plain t (λ c s. MayGain c s t l mode) (λ c s. after_gain s t l mode by_try)) {
+      has_seen = λ chains c s. GainsFromLook chains c s t l mode by_try;
+      keeps_order = λ c s. GainsInOrder s t l by_try;
+      ends_round = λ u k. (t ≡ u) × (l ≡ k);
+    }
+kind_of (Drops t l mode) =
+    record (plain t (λ c s. MayDrop c s t l mode) (λ c s. after_drop s t l)) {
+      keeps_order = λ c s. TakesNothing s t;
+    }
+kind_of (Stamps t e) = record (plain t (λ c s. MayStamp c s t e) (λ c s. after_stamp c s t e)) {
+  has_out = λ chains c s. HasOutForEntry chains s t e;
+  has_seen = λ chains c s. IsNextEntry c s t e;
+  asks_of_thread = λ s. GoesOnNoting s t;
+  keeps_order = λ c s. EndsItsTake c s t e;
+  asks_of_sleepers = λ at_work s. (d : ℕ) → sleeps_on e d ≡ true → at_work d ≡ Some t;
+}
+kind_of (Readies t q) = record (plain t (λ c s. MayReady c s t) (λ c s. after_ready s t)) {
+  has_out = λ chains c s. HasItem s t (chain_of_queue chains c q) × HasItem s t (RecordOf t);
+}
+kind_of (Unreadies t q) = record (plain t (λ c s. MayUnready c s t) (λ c s. after_unready s t)) {
+  has_out = λ chains c s. HasItem s t (chain_of_queue chains c q) × HasItem s t (RecordOf t);
+  asks_of_sleepers = λ at_work s. IsOnItsWay s t → ⊥;
+}
+kind_of (Enters t l mode x) =
+    record (plain t (λ c s. MayEnter c s t l mode x) (λ c s. after_enter s t l mode x)) {
+      has_out = λ chains c s. HasItem s t (chain_of chains c l) × HasItem s t (RecordOf t);
+      has_seen = λ chains c s. EntersFromLook s t l;
+      keeps_order = λ c s. s.wanted t ≡ Some l;
+      ends_round = λ u k. (t ≡ u) × (l ≡ k);
+      asks_of_sleepers = λ at_work s. IsOnItsWay s t → ⊥;
+    }
+kind_of (Opens t l mode) =
+    record (plain t (λ c s. MayOpen c s t l mode) (λ c s. after_open c s t l)) {
+      has_out = λ chains c s. HasItem s t (chain_of chains c l) × HasItem s t (RecordOf t);
+      keeps_order = λ c s. TakesNothing s t;
+    }
+kind_of (EntersSleepQueue t l mode x) =
+    record (plain t (λ c s. MayEnterSleep c s t l mode x) (λ c s. after_enter_sleep s t l mode x)) {
+      has_out = λ chains c s. HasItem s t (chain_of chains c l) × HasItem s t (RecordOf t);
+      has_seen = λ chains c s. EntersFromLook s t l;
+      keeps_order = λ c s. s.wanted t ≡ Some l;
+      ends_round = λ u k. (t ≡ u) × (l ≡ k);
+      asks_of_sleepers = λ at_work s. IsOnItsWay s t → ⊥;
+    }
+kind_of (OpensSleepQueue t l mode) =
+    record (plain t (λ c s. MayOpenSleep c s t l mode) (λ c s. after_open_sleep c s t l)) {
+      has_out = λ chains c s. HasItem s t (chain_of chains c l) × HasItem s t (RecordOf t);
+      keeps_order = λ c s. TakesNothing s t;
+    }
+kind_of (Adds t d x) = record (plain t (λ c s. MayAdd c s t d x) (λ c s. after_add s t d x)) {
+  has_out = λ chains c s. HasItem s t (SleepChain (d % chains)) × HasItem s t (RecordOf t);
+  has_seen = λ chains c s. SleepsOutsideRounds s t;
+  asks_of_thread = λ s. IsRunnable s t;
+  keeps_order = λ c s. SleepsInOrder c s t d;
+  asks_of_sleepers = λ at_work s. AddsAtWork at_work s t d;
+}
+kind_of (Wakes t d all) =
+    record (plain t (λ c s. MayWake c s t d all) (λ c s. after_wake s t d all)) {
+      has_out = λ chains c s. HasItem s t (SleepChain (d % chains));
+      asks_of_sleepers = λ at_work s. at_work d ≡ Some t;
+    }
+kind_of (Marks t m ms) =
+    record (plain t (λ c s. MayMark c s t m ms) (λ c s. after_mark c s t m ms)) {
+      has_out = λ chains c s. HasItem s t (RecordOf m.thread);
+      asks_of_thread = λ s. GoesOnOrHalts s t;
+    }
+kind_of (Resumes t q cause) =
+    record (plain t (λ c s. MayResume c s t q cause) (λ c s. after_resume c s t q cause)) {
+      has_out = λ chains c s. ((i : Item) → HasItem s t i → ⊥) × (s.walk t ≡ NoWalk);
+      asks_of_thread = λ s. OwesNoStep s t;
+      keeps_order = λ c s. IsBackFrom s t q;
+    }
+kind_of (Claims t l h by_try) =
+    record (plain t (λ c s. MayClaim c s t l h) (λ c s. after_claim c s t l h by_try)) {
+      has_out = λ chains c s. HasItem s t (chain_of chains c l) × HasItem s t (RecordOf t);
+      has_seen = λ chains c s. GainsFromLook chains c s t l Excl by_try;
+      keeps_order = λ c s. GainsInOrder s t l by_try;
+      ends_round = λ u k. (t ≡ u) × (l ≡ k);
+    }
+kind_of (Lends t l o h) =
+    record (plain t (λ c s. MayLend c s t l o h) (λ c s. after_lend c s t l o h)) {
+      has_out = λ chains c s. HasItem s t (chain_of chains c l) × HasItem s t (RecordOf o);
+    }
+kind_of (Shifts t o l) = record (plain t (λ c s. MayShift c s t o l) (λ c s. after_shift s t o l)) {
+  has_out = λ chains c s. HasItem s t (chain_of chains c l) × HasItem s t (RecordOf o);
+}
+kind_of (EndsWalk t) = record (plain t (λ c s. MayEndWalk c s t) (λ c s. after_end_walk s t)) {
+  has_out = λ chains c s. HasOutForEnd chains c s t (s.walk t);
+}
+kind_of (Admits t l) = record (plain t (λ c s. MayAdmit c s t l) (λ c s. after_admit c s t l)) {
+  has_out = λ chains c s. HasItem s t ClassGraph;
+  has_seen = λ chains c s. s.round t ≡ None;
+}
+kind_of (Refuses t l k) =
+    record (plain t (λ c s. MayRefuse c s t l k) (λ c s. after_refuse s t l k)) {
+      has_out = λ chains c s. HasItem s t ClassGraph;
+      has_seen = λ chains c s. s.round t ≡ None;
+    }
+
+-- who makes a step
+abbrev pub maker : Step → ℕ
+maker step = (kind_of step).thread
+
+-- what a step asks of the state
+abbrev pub May : Config → State → Step → Type 0
+May c s step = (kind_of step).may c s
+
+-- what a step makes of the state
+abbrev pub after : Config → State → Step → State
+after c s step = (kind_of step).after c s
+
+-- what its thread must have out on a running floor
+abbrev pub HasOut : ℕ → Config → State → Step → Type 0
+HasOut chains c s step = (kind_of step).has_out chains c s
+
+-- what it must have seen there
+abbrev pub HasSeen : ℕ → Config → State → Step → Type 0
+HasSeen chains c s step = (kind_of step).has_seen chains c s
+
+-- what a running floor asks of the thread itself
+abbrev pub AsksOfThread : State → Step → Type 0
+AsksOfThread s step = (kind_of step).asks_of_thread s
+
+-- a step keeps to the order that was admitted
+abbrev pub KeepsToOrder : Config → State → Step → Type 0
+KeepsToOrder c s step = (kind_of step).keeps_order c s
+
+-- by the step the thread gains the lock, or comes to stand on its queue
+abbrev pub EndsRound : Step → ℕ → ℕ → Type 0
+EndsRound step t l = (kind_of step).ends_round t l
+
+-- what a step asks of sleepers
+abbrev pub AsksOfSleepers : (ℕ → Option ℕ) → State → Step → Type 0
+AsksOfSleepers at_work s step = (kind_of step).asks_of_sleepers at_work s
+
+-- 5. Steps that are made
+
+-- n comes from s by one step
+abbrev pub IsStep : Config → State → State → Type 0
+IsStep c s n = (step : Step) × May c s step × (n ≡ after c s step)
+
+-- the states that steps reach from the start
+pub data IsReachable (c : Config) : State → Type 0 where
+  begins : IsReachable c (start_state c)
+  goes_on : {s n : State} → IsReachable c s → IsStep c s n → IsReachable c n
+
+-- the state after the steps of a list, made in order
+abbrev pub after_all : Config → State → List Step → State
+after_all c s [] = s
+after_all c s (step ∷ steps) = after_all c (after c s step) steps
+
+-- each step of a list is so where it comes
+abbrev pub EachStep : (State → Step → Type 0) → Config → State → List Step → Type 0
+EachStep P c s [] = ⊤
+EachStep P c s (step ∷ steps) = P s step × EachStep P c (after c s step) steps
+
+-- each step of a list may be made where it comes
+abbrev pub MayAll : Config → State → List Step → Type 0
+MayAll c s steps = EachStep (May c) c s steps
+
+-- each step of a list keeps to the order where it comes
 abbrev pub KeepToOrder : Config → State → List Step → Type 0
-KeepToOrder c s [] = ⊤
-KeepToOrder c s (step ∷ steps) = KeepsToOrder c s step × KeepToOrder c (after c s step) steps
+KeepToOrder c s steps = EachStep (KeepsToOrder c) c s steps
+
+-- what is asked of a step that a thread of a running floor makes
+pub record FitsFloor (chains : ℕ) (c : Config) (s : State) (step : Step) : Type 0 where
+  -- its guard
+  pub may : May c s step
+  -- what its thread has out
+  pub has_out : HasOut chains c s step
+  -- what its thread has seen, and its round
+  pub has_seen : HasSeen chains c s step
+  -- that its thread may make a step now
+  pub asks_of_thread : AsksOfThread s step
+
+-- n comes from s by one step of a thread of a running floor
+abbrev pub IsFloorStep : ℕ → Config → State → State → Type 0
+IsFloorStep chains c s n = (step : Step) × FitsFloor chains c s step × (n ≡ after c s step)

@@ -32,6 +32,7 @@ lawful_state plan n proper =
       lawful = on.lawful;
       ordered = on.ordered;
       no_cycle = no_cycle (config_of plan) (state_behind plan n) on.ordered;
+      taken = on.taken;
       best = λ still free t within. effective (config_of plan) (state_behind plan n) t on.lawful.lawful still free within;
     }
 

@@ -16,7 +16,7 @@ use Rattle.lock_model.specs.History.{place_cmp, tables_of}
 use Rattle.lock_model.specs.Text.{Ending, Outcome, IsDone, IsStuck, IsReversed, IsTooLong, text_of, counts_text, fault_text}
 use Rattle.lock_model.specs.declared.plan.Plan.{Plan}
 use Rattle.lock_state.specs.Best.{HasBest, HasCycle}
-use Rattle.lock_state.specs.Facts.{LawfulTurn, Ordered}
+use Rattle.lock_state.specs.Facts.{LawfulTurn, Ordered, Taken}
 use Rattle.lock_state.specs.Run.{HasLegalHistory, course_after, scheduled_run}
 use Rattle.lock_state.specs.State.{State}
 use Rattle.top_ends.specs.Statuses.{reads_all}
@@ -31,8 +31,9 @@ status_of IsTooLong = TooLong
 abbrev pub output_of : Plan → Outcome → Status × List ℕ
 output_of plan o = (status_of o.ending, text_of plan o)
 
--- A status and a text belong to a run of a plan's threads. Which threads meet which is not said, so each outcome of such a
--- run has its own. A plan that declares anything beside mutexes has one that tells that its threads can't run yet.
+-- A status and a text belong to a run of a plan's threads. Which threads meet which is not said, so each outcome of
+-- such a run has its own; in none of them is a take refused. A plan that declares anything beside mutexes has one that
+-- tells that its threads can't run yet.
 pub record IsOutputOfThreads (plan : Plan) (pair : Status × List ℕ) : Type 0 where
   pub ran : HasOnlyMutexes plan → (o : Outcome) × IsOutcome plan o × (pair ≡ output_of plan o)
   pub refused : (HasOnlyMutexes plan → ⊥) → pair ≡ (BadScript, fault_text 0 0)
@@ -84,12 +85,14 @@ writes = reads_all
 abbrev pub state_behind : Plan → ℕ → State
 state_behind plan n = (course_after plan n).run.state
 
--- A state between two turns is lawful; the class graph has no cycle and orders what is held and wanted, so nobody waits
--- in a cycle; and where that is so and no walk is under way, each thread's effective priority is the best behind it.
+-- A state between two turns is lawful. The class graph has no cycle and orders what is held and wanted, so nobody waits
+-- in a cycle. Its edges are those of the takes, and each refusal has its cause. Where nobody waits in a cycle and no walk
+-- is under way, each thread's effective priority is the best behind it.
 pub record IsLawfulState (c : Config) (s : State) : Type 0 where
   pub lawful : LawfulTurn c s
   pub ordered : Ordered c s
   pub no_cycle : HasCycle s → ⊥
+  pub taken : Taken c s
   pub best : HasBest c s
 
 -- rows of keys and values are a state's tables: one for each key that has a value, ascending

@@ -4,11 +4,8 @@
 //! library `lock_top`, and the sentence in `complaints`; here the words and the streams are picked up.
 #![tactic(auto)]
 
-mod copied;
-
 use complaints::say;
-use copied::CopiedSink;
-use lock_io::{OpenGate, StdSink, StdSource};
+use lock_io::{CopiedSink, OpenGate, StdSink, StdSource};
 use lock_top::{LOCKRUN, lockrun};
 use std::io;
 use std::process::ExitCode;
@@ -23,6 +20,8 @@ fn main(rt: HostRuntime) -> ExitCode {
         }
         Err(status) => status,
     };
-    say(rt.alloc(), &mut rt.stderr(), LOCKRUN, status, sink.copy());
+    // Nobody may listen there, which changes nothing.
+    let mut out = StdSink::new(rt.stderr());
+    let _ = say(rt.alloc(), &mut out, LOCKRUN, status, sink.copy());
     ExitCode::from(status as u8)
 }

@@ -11,7 +11,7 @@ use Rattle.lock_state.specs.Steps.LockWords.{AllOpen, after_seek, after_look, af
 use Rattle.lock_state.specs.Steps.Items.{ClassGraph, after_take}
 use Rattle.lock_state.specs.Steps.Orders.{after_admit, after_refuse}
 use Rattle.lock_state.specs.Steps.{Step, Seeks, Looks, TakesItem, Gains, Stamps, Drops, Admits, Refuses, KeepToOrder, after_all}
-use Rattle.lock_laws.proofs.FloorGuards.{FloorAll, floor_plan, none_out}
+use Rattle.lock_laws.proofs.FloorGuards.{FloorAll, floor_plan, none_out, running, owes, goes, looks_on}
 
 -- a floor with two mutexes of one class
 unfoldable one_class : Config
@@ -28,29 +28,17 @@ is_refused =
 admitted_may : FloorAll 16 one_class (start_state one_class) is_admitted
 unfolding floor_plan one_class is_admitted start_state after_take after_admit after_seek after_look after_gain after_stamp put put_at sections_in
 admitted_may = (
-  record { thread = omega arith; home = refl; together = λ j e. absurd (none_out (λ k. None) (λ k. None) (λ k. refl) (λ k. refl) j 0 e); orders = record { unnamed = refl; unwoken = refl } },
-  (tt, tt),
-  tt,
+  record { asks_of_thread = record { runs = inl (record { phase = refl; unended = refl }); owes = owes _ _ refl (running _ _ refl) }; may = record { thread = omega arith; home = refl; together = λ j e. absurd (none_out (λ k. None) (λ k. None) (λ k. refl) (λ k. refl) j 0 e); orders = record { unnamed = refl; unwoken = refl } }; has_out = (tt, tt); has_seen = tt },
   (
-    record { free = record { thread = omega arith; lock = omega arith; running = refl; wants = refl; takes = refl; unnoted = refl; awake = refl; sections = λ l mode e. absurd cc }; admitted = tt },
-    refl,
-    refl,
+    record { asks_of_thread = goes _ _ refl refl refl (running _ _ refl); may = record { free = record { thread = omega arith; lock = omega arith; running = refl; wants = refl; takes = refl; unnoted = refl; awake = refl; sections = λ l mode e. absurd cc }; admitted = tt }; has_out = refl; has_seen = refl },
     (
-      record { thread = omega arith; lock = omega arith; unheld = refl; acting = record { unnamed = refl; unwoken = refl }; wants = inl refl; tries_want_nothing = λ e. absurd cc; no_round = refl },
-      (λ e. absurd cc),
-      tt,
+      record { asks_of_thread = goes _ _ refl refl refl (running _ _ refl); may = record { thread = omega arith; lock = omega arith; unheld = refl; acting = record { unnamed = refl; unwoken = refl }; wants = inl refl; tries_want_nothing = λ e. absurd cc; no_round = refl }; has_out = (λ e. absurd cc); has_seen = λ e. absurd cc },
       (
-        record { thread = omega arith; lock = omega arith; room = λ e. omega arith },
-        tt,
-        record { counts = refl; in_chain = λ e. absurd cc },
+        record { asks_of_thread = looks_on _ _ refl refl refl (running _ _ refl); may = record { thread = omega arith; lock = omega arith; room = λ e. omega arith }; has_out = tt; has_seen = record { counts = refl; of_round = λ e. refl; in_chain = λ i x e. absurd (none_out (λ k. None) (λ k. None) (λ k. refl) (λ k. refl) i 0 e); outside = λ i n x e. absurd (none_out (λ k. None) (λ k. None) (λ k. refl) (λ k. refl) i 0 e); halting = λ e. absurd cc } },
         (
-          record { thread = omega arith; lock = omega arith; admitted = refl; plainly = refl; unheld = refl; acting = record { unnamed = refl; unwoken = refl }; wants = inl refl },
-          tt,
-          record { fits = (refl, refl); in_round = λ e i. absurd cc; saw = λ w i e. absurd cc },
+          record { asks_of_thread = goes _ _ refl refl refl (running _ _ refl); may = record { thread = omega arith; lock = omega arith; admitted = refl; plainly = refl; unheld = refl; acting = record { unnamed = refl; unwoken = refl }; wants = inl refl }; has_out = tt; has_seen = record { fits = (refl, refl); in_round = λ e i. absurd cc; saw = λ w i e. absurd cc; others = λ k e. cc } },
           (
-            record { thread = omega arith; acting = record { unnamed = refl; unwoken = refl }; asks = (record { held = refl; closed = refl }, record { others = []; last = refl }) },
-            tt,
-            record { in_round = tt; asleep = λ e. absurd cc; wakes = λ e. absurd (e refl) },
+            record { asks_of_thread = record { runs = record { phase = refl; unended = refl }; added = running _ _ refl }; may = record { thread = omega arith; acting = record { unnamed = refl; unwoken = refl }; asks = (record { held = refl; closed = refl }, record { others = []; last = refl }) }; has_out = tt; has_seen = record { in_round = tt; asleep = λ e. absurd cc; wakes = λ e. absurd (e refl); takes = λ l e. (cc, refl) } },
             tt,
           ),
         ),
@@ -75,25 +63,15 @@ is_open l mode e = go (eqb 0 l) e
 refused_may : FloorAll 16 one_class (after_all one_class (start_state one_class) is_admitted) is_refused
 unfolding floor_plan one_class is_admitted is_refused start_state after_take after_admit after_refuse after_seek after_look after_gain after_drop after_stamp put put_at sections_in
 refused_may = (
-  record { thread = omega arith; home = refl; together = λ j e. absurd (none_out (λ k. None) (λ k. None) (λ k. refl) (λ k. refl) j 0 e); orders = record { unnamed = refl; unwoken = refl } },
-  (tt, tt),
-  tt,
+  record { asks_of_thread = record { runs = inl (record { phase = refl; unended = refl }); owes = owes _ _ refl (running _ _ refl) }; may = record { thread = omega arith; home = refl; together = λ j e. absurd (none_out (λ k. None) (λ k. None) (λ k. refl) (λ k. refl) j 0 e); orders = record { unnamed = refl; unwoken = refl } }; has_out = (tt, tt); has_seen = tt },
   (
-    record { free = record { thread = omega arith; lock = omega arith; running = refl; wants = refl; takes = refl; unnoted = refl; awake = refl; sections = is_open }; refused = inl (inl refl, refl) },
-    refl,
-    refl,
+    record { asks_of_thread = goes _ _ refl refl refl (running _ _ refl); may = record { free = record { thread = omega arith; lock = omega arith; running = refl; wants = refl; takes = refl; unnoted = refl; awake = refl; sections = is_open }; refused = inl (inl refl, refl) }; has_out = refl; has_seen = refl },
     (
-      record { thread = omega arith; acting = record { unnamed = refl; unwoken = refl }; asks = refl },
-      tt,
-      record { in_round = tt; asleep = λ e. absurd cc; wakes = λ e. absurd (e refl) },
+      record { asks_of_thread = record { runs = record { phase = refl; unended = refl }; added = running _ _ refl }; may = record { thread = omega arith; acting = record { unnamed = refl; unwoken = refl }; asks = refl }; has_out = tt; has_seen = record { in_round = tt; asleep = λ e. absurd cc; wakes = λ e. absurd (e refl); takes = λ l e. absurd cc } },
       (
-        record { thread = omega arith; acting = record { unnamed = refl; unwoken = refl }; asks = refl },
-        tt,
-        record { in_round = tt; asleep = λ e. absurd cc; wakes = λ e. absurd (e refl) },
+        record { asks_of_thread = record { runs = record { phase = refl; unended = refl }; added = running _ _ refl }; may = record { thread = omega arith; acting = record { unnamed = refl; unwoken = refl }; asks = refl }; has_out = tt; has_seen = record { in_round = tt; asleep = λ e. absurd cc; wakes = λ e. absurd (e refl); takes = λ l e. absurd cc } },
         (
-          record { thread = omega arith; lock = omega arith; held = refl; stays = refl; closed = refl; begun = refl },
-          tt,
-          tt,
+          record { asks_of_thread = goes _ _ refl refl refl (running _ _ refl); may = record { thread = omega arith; lock = omega arith; held = refl; stays = refl; closed = refl; begun = refl }; has_out = tt; has_seen = tt },
           tt,
         ),
       ),

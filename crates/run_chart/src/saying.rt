@@ -1,6 +1,9 @@
 //! The sentence of a turn that changes who waits or who has lent.
-ghost use Rattle.std.specs.Prelude.{◌≡◌, ◌≤◌, ◌<◌, ◌++◌, ℕ, true, false, length, option_map, slice_get, Some, IfNone, IfOk, IfSome, OnOk};
+ghost use Rattle.std.specs.Prelude.{◌≡◌, ◌≢◌, ◌≤◌, ◌<◌, ◌++◌, ℕ, true, false, length, option_map, slice_get, Some, IfNone, IfOk, IfSome, OnOk};
+ghost use Rattle.lock_model.specs.declared.event.Event.TheVariants.{Reversed, Sleeps};
 ghost use Rattle.lock_model.specs.declared.numbers.ChanNo.{ChanNo};
+ghost use Rattle.lock_model.specs.declared.numbers.ClassNo.{ClassNo};
+ghost use Rattle.lock_model.specs.declared.numbers.LockNo.{LockNo};
 ghost use Rattle.lock_model.specs.declared.plan.Plan as plans;
 ghost use Rattle.lock_model.specs.declared.turn.StepKind.TheVariants as step;
 ghost use Rattle.run_chart.specs.Arrows.{holds_in};
@@ -11,7 +14,9 @@ ghost use Rattle.run_chart.specs.Sentences.{leaves, one_if, sentences_of, stands
 use crate::lookup::{behind_whom, holds, loan_of, lock_named, lock_of, thread_rows};
 use crate::marks::event_of;
 use chart_layout::{Saying, Sentence};
-use lock_model::{ChanNo, Event, LockNo, Plan, QueueName, Sequence, StepKind, ThreadNo, Turn};
+use lock_model::{
+    ChanNo, ClassNo, Event, LockNo, Plan, QueueName, Sequence, StepKind, ThreadNo, Turn,
+};
 use run_tracks::{Rows, ThreadRows, TurnRow, Walk};
 use std::alloc::{AllocError, Global};
 
@@ -253,13 +258,19 @@ fn sleeps(plan: &Plan, rows: &Rows, turn: u32, row: TurnRow) -> Option<Saying>
     ensures { Made plan.now turn row.who.0 step.Add → TellsTurn plan.now turn row.who.0 result }
 {
     let event = event_of(rows, turn, row)?;
-    let Event::Sleeps { c } = event else {
-        return None;
-    };
+    let chan = chan_slept(event)?;
     Some(Saying::Sleeps {
-        chan: c,
-        lock: lock_of_chan(plan, c)?,
+        chan,
+        lock: lock_of_chan(plan, chan)?,
     })
+}
+
+// The channel on which an event's thread goes to sleep, if it does.
+fn chan_slept(event: Event) -> Option<ChanNo>
+    ensures some { IfSome result (λ c. event ≡ Sleeps c) }
+    ensures none { IfNone result ((c : ChanNo) → event ≢ Sleeps c) }
+{
+    event.fell_asleep()
 }
 
 fn lock_of_chan(plan: &Plan, c: ChanNo) -> Option<LockNo>
@@ -289,13 +300,7 @@ fn chan_woken(event: Option<Event>) -> Option<ChanNo>
     ensures some { IfSome result (λ c. WakesSleepers c event) }
     ensures none { IfNone result ((c : ChanNo) → WakesSleepers c event → ⊥) }
 {
-    if let Some(Event::WokeOne { c, .. }) = event {
-        return Some(c);
-    }
-    let Some(Event::WokeAll { c, .. }) = event else {
-        return None;
-    };
-    Some(c)
+    event?.woken_chan()
 }
 
 fn refused(rows: &Rows, turn: u32, row: TurnRow) -> Option<Saying>
@@ -304,8 +309,14 @@ fn refused(rows: &Rows, turn: u32, row: TurnRow) -> Option<Saying>
         → Made plan turn row.who.0 step.Note → TellsTurn plan turn row.who.0 result }
 {
     let event = event_of(rows, turn, row)?;
-    let Event::Reversed { l, held } = event else {
-        return None;
-    };
-    Some(Saying::Refused { lock: l, held })
+    let (lock, held) = refusal_in(event)?;
+    Some(Saying::Refused { lock, held })
+}
+
+// The lock that an event says was refused, and the class of the held one that forbids it.
+fn refusal_in(event: Event) -> Option<(LockNo, ClassNo)>
+    ensures some { IfSome result (λ r. event ≡ Reversed r.0 r.1) }
+    ensures none { IfNone result ((l : LockNo) (held : ClassNo) → event ≢ Reversed l held) }
+{
+    event.refused()
 }

@@ -11,13 +11,15 @@ use Rattle.std.proofs.lemmas.List.{length-map, length-reverse}
 use Rattle.std.proofs.lemmas.List.Sums.{sum-map, sum_by-cons}
 use Rattle.lock_model.specs.Counts.{sum_below}
 use Rattle.lock_model.specs.Plans.{config_of, operations_of}
-use Rattle.lock_model.specs.Operations.{IsProper, operations_in_all, held_of, held_behind}
+use Rattle.lock_model.specs.Operations.{IsProper, of_locks, operations_in_all, held_of, held_after}
 use Rattle.lock_model.specs.History.{entries_of}
 use Rattle.lock_model.specs.Law.{LeadsTo, Gives, Place, Before, Asleep, Cut}
 use Rattle.lock_model.specs.Law as law
 use Rattle.lock_state.specs.Run.{Run, was_cut, waits_on, held_now}
 use Rattle.lock_model.specs.declared.plan.Op.{Op}
-use Rattle.lock_model.specs.declared.plan.Op.TheVariants.{Take, Try, EndTry, Release, Set, Add, Get, Base, Show, Sleep, WakeOne, WakeAll}
+use Rattle.lock_model.specs.declared.plan.Op.TheVariants.{EndTry, Sleep}
+use Rattle.lock_model.specs.declared.plan.OfLocks.{OfLocks}
+use Rattle.lock_model.specs.declared.plan.OfLocks.TheVariants.{NoLock, Acquires, ClosesBlock, Releases, EditsAt, ReadsAt, SleepsOn, WakesOn}
 use Rattle.lock_model.specs.declared.plan.Plan.{Plan}
 use Rattle.lock_model.specs.declared.plan.ThreadDecl.{ThreadDecl}
 use Rattle.lock_model.specs.declared.event.Entry.{Entry}
@@ -82,19 +84,15 @@ most_at ops (Asleep n) = 2 * n + 1
 most_at ops (Cut hs) = 2 * length ops
 
 -- an operation gains one lock at most
-gains_one : (op : Op) (hs : List Held) → length (held_behind op hs) ≤ length hs + 1
-gains_one (Take l mode) hs = omega (arith, length-append hs ((record { l = l; mode = mode; by_try = false }) ∷ []))
-gains_one (Try l mode past) hs = omega (arith, length-append hs ((record { l = l; mode = mode; by_try = true }) ∷ []))
-gains_one EndTry hs = omega arith
-gains_one (Release l) hs = omega (arith, fewer_without l.0 hs)
-gains_one (Set l key value) hs = omega arith
-gains_one (Add l key amount) hs = omega arith
-gains_one (Get l key) hs = omega arith
-gains_one (Base prio) hs = omega arith
-gains_one Show hs = omega arith
-gains_one (Sleep d) hs = omega arith
-gains_one (WakeOne d) hs = omega arith
-gains_one (WakeAll d) hs = omega arith
+gains_one : (o : OfLocks) (hs : List Held) → length (held_after o hs) ≤ length hs + 1
+gains_one NoLock hs = omega arith
+gains_one (Acquires h) hs = omega (arith, length-append hs (h ∷ []))
+gains_one ClosesBlock hs = omega arith
+gains_one (Releases l) hs = omega (arith, fewer_without l.0 hs)
+gains_one (EditsAt l key) hs = omega arith
+gains_one (ReadsAt l key) hs = omega arith
+gains_one (SleepsOn d) hs = omega arith
+gains_one (WakesOn d) hs = omega arith
 
 module _ (plan : Plan) (p : IsProper plan) (t : ℕ) where
   abbrev ops : List Op
@@ -104,25 +102,21 @@ module _ (plan : Plan) (p : IsProper plan) (t : ℕ) where
   held n = length (held_of ops n)
 
   next_held : (n : ℕ) (op : Op) → slice_get ops n ≡ Some op → held (suc n) ≤ held n + 1
-  next_held n op e = omega (arith, ap length (next_leads plan p t n op e).behind, gains_one op (held_of ops n))
+  next_held n op e =
+      omega (arith, ap length (next_leads plan p t n op e).behind, gains_one (of_locks op) (held_of ops n))
 
   -- the first entry of an operation leads on
   gives_few : (n : ℕ) (op : Op) (e : Event) (place : Place) (m : ℕ) → Gives (config_of plan).kind (held_of ops n) n op e place → slice_get ops n ≡ Some op → m + held n ≤ 2 * n
       → suc m + held_at ops place ≤ most_at ops place
-  gives_few n _ _ _ m (law.locks l mode) e h = omega (arith, next_held n (Take l mode) e)
-  gives_few n _ _ _ m (law.is_reversed l mode class) e h = omega (arith, length-reverse (held_of ops n), slice_get_within ops n (Take l mode) e)
-  gives_few n _ _ _ m (law.is_halted l mode sx) e h = omega (arith, length-reverse (held_of ops n), slice_get_within ops n (Take l mode) e)
-  gives_few n _ _ _ m (law.tries l mode past) e h = omega (arith, next_held n (Try l mode past) e)
-  gives_few n _ _ _ m (law.finds_busy l mode past seen w f a) e h = let b = try_passes plan p t n l mode past e in omega (arith, b.further, ap length b.leaves)
-  gives_few n _ _ _ m (law.unlocks l mode f) e h = omega (arith, next_held n (Release l) e)
-  gives_few n _ _ _ m (law.sets l key value) e h = omega (arith, next_held n (Set l key value) e)
-  gives_few n _ _ _ m (law.adds l key amount) e h = omega (arith, next_held n (Add l key amount) e)
-  gives_few n _ _ _ m (law.gets l key found) e h = omega (arith, next_held n (Get l key) e)
-  gives_few n _ _ _ m (law.changes_base prio) e h = omega (arith, next_held n (Base prio) e)
-  gives_few n _ _ _ m (law.shows base effective) e h = omega (arith, next_held n Show e)
+  gives_few n _ _ _ m (law.is_reversed l mode class) e h =
+      omega (arith, length-reverse (held_of ops n), slice_get_within ops n _ e)
+  gives_few n _ _ _ m (law.is_halted l mode sx) e h =
+      omega (arith, length-reverse (held_of ops n), slice_get_within ops n _ e)
+  gives_few n _ _ _ m (law.finds_busy l mode past seen w f a) e h =
+      let b = try_passes plan p t n l mode past e in
+      omega (arith, b.further, ap length b.leaves)
   gives_few n _ _ _ m (law.sleeps d) e h = omega arith
-  gives_few n _ _ _ m (law.wakes_one d woken) e h = omega (arith, next_held n (WakeOne d) e)
-  gives_few n _ _ _ m (law.wakes_all d woken) e h = omega (arith, next_held n (WakeAll d) e)
+  gives_few n op event place m gives e h = omega (arith, next_held n op e)
 
   -- so do all of them
   leads_few : (es : List Entry) (place : Place) → LeadsTo (config_of plan).kind ops es place → length es + held_at ops place ≤ most_at ops place

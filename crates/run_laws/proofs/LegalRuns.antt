@@ -9,14 +9,11 @@ use Rattle.lock_model.specs.Holds.{Hold, NotHeld, Holds, is_unheld}
 use Rattle.lock_model.specs.Operations.{IsProper, hold_in}
 use Rattle.lock_model.specs.Plans.{config_of, operations_of}
 use Rattle.lock_model.specs.Text.{IsStuck, IsTooLong}
-use Rattle.lock_model.specs.Config.{Config}
-use Rattle.lock_model.specs.Law.{IsLegal, IsLegalSoFar, IsAtEnd, EntriesFollowOperations, HaltsOnlyWhenRunning}
+use Rattle.lock_model.specs.Law.{IsLegal, IsAtEnd, EntriesFollowOperations}
 use Rattle.lock_model.specs.declared.plan.Plan.{Plan}
 use Rattle.lock_model.specs.declared.plan.ThreadDecl.{ThreadDecl}
-use Rattle.lock_model.specs.declared.event.Entry.{Entry}
 use Rattle.lock_model.specs.declared.event.Held.{Held}
-use Rattle.lock_state.specs.Facts.{Lawful, OnlyThreadsHold, OnlyLocksAreHeld}
-use Rattle.lock_state.specs.State.{State}
+use Rattle.lock_state.specs.Facts.{OnlyThreadsHold, OnlyLocksAreHeld}
 use Rattle.lock_state.specs.Run.{Run, Course, was_cut, waits_on, has_ended, owes, holds_none, all_ended, after_turns, course_after, is_stuck, whole_ending, ending_of, is_cut_short, HasLegalHistory, scheduled_run, held_now}
 use Rattle.run_laws.specs.OnTrack.{IsOnTrack, place_by, place_in}
 use Rattle.sleep_laws.specs.Sleepers.{nobody}

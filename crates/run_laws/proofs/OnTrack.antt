@@ -3,21 +3,24 @@ use Rattle.std.proofs.Common.{◌≡◌, ◌≢◌, ℕ, suc, ◌<◌, ◌≤◌
 use Rattle.std.specs.Prelude.{is_some}
 use Rattle.std.proofs.lemmas.Option.{none-some, same_Some, slice_get_within}
 use Rattle.lock_model.specs.Plans.{config_of, operations_of}
-use Rattle.lock_model.specs.Operations.{IsProper, hold_in, held_of, next_at}
+use Rattle.lock_model.specs.Operations.{of_locks, IsProper, hold_in, held_of, next_at}
 use Rattle.lock_model.specs.Config.{Config}
+use Rattle.lock_model.specs.Events.{OfSection, NoSection, BeginsIn, EndsFrom, LeftFor, TakenBack, facets}
 use Rattle.lock_model.specs.Holds.{Hold, NotHeld}
 use Rattle.lock_model.specs.Events.{OfSleep, NoSleep, FallsAsleep, WakesUp, IsHalted, IsHaltedAtLock, WakesOne, WakesAll, of_sleep, fell_asleep, is_falling}
-use Rattle.lock_model.specs.History.{Sections, open_in, sections_in, sections_by, entries_of}
+use Rattle.lock_model.specs.History.{Sections, open_in, sections_in, entries_of}
 use Rattle.lock_model.specs.Law as law
 use Rattle.lock_model.specs.Law.{LeadsTo, Gives, Place, Before, Asleep, Cut, is_halt, HaltsOnlyWhenRunning}
 use Rattle.lock_model.specs.Takes.{is_reversal, has_reversal}
 use Rattle.lock_state.specs.State.{State, Wait, Running, Queued, Wake, Note, HeldLock, put, put_at, gained_order}
 use Rattle.lock_state.specs.Steps.{Step, MayAll, KeepToOrder, after_all, is_with}
-use Rattle.lock_state.specs.Steps.LockWords.{IsActing, is_woken, is_taking_back, begun_after, unstamped_after, taking_after, changes_sections, after_stamp, entry_of}
+use Rattle.lock_state.specs.Steps.LockWords.{IsActing, is_woken, is_taking_back, begun_after, begun_with, is_of_section, unstamped_after, taking_after, changes_sections, after_stamp, entry_of}
 use Rattle.lock_state.specs.Facts.{Lawful, NothingIsOut, QueuedStands, StandingIsQueued, LogsAreParts}
 use Rattle.lock_state.specs.Run.{Run, Row, was_cut, waits_on, run_after, held_now, without_unheld}
 use Rattle.lock_model.specs.declared.plan.Op.{Op}
-use Rattle.lock_model.specs.declared.plan.Op.TheVariants.{Take, Try, EndTry, Release, Set, Add, Get, Base, Show, Sleep, WakeOne, WakeAll}
+use Rattle.lock_model.specs.declared.plan.Op.TheVariants.{Take, EndTry, Sleep}
+use Rattle.lock_model.specs.declared.plan.OfLocks.{OfLocks}
+use Rattle.lock_model.specs.declared.plan.OfLocks.TheVariants.{NoLock, Acquires, ClosesBlock, Releases, EditsAt, ReadsAt, SleepsOn, WakesOn}
 use Rattle.lock_model.specs.declared.plan.Kind.{Kind}
 use Rattle.lock_model.specs.declared.plan.Mode.{Mode}
 use Rattle.lock_model.specs.declared.plan.Plan.{Plan}
@@ -29,7 +32,7 @@ use Rattle.lock_model.specs.declared.event.Event.{Event}
 use Rattle.lock_model.specs.declared.event.Event.TheVariants as event
 use Rattle.lock_model.specs.declared.event.Entry.{Entry}
 use Rattle.lock_model.specs.declared.event.Held.{Held}
-use Rattle.run_laws.specs.OnTrack.{IsOnTrack, IsAtOperation, TakesLock, place_by, place_in}
+use Rattle.run_laws.specs.OnTrack.{IsOnTrack, IsAtOperation, TakesLock, lock_of_take, place_by, place_in}
 use Rattle.sleep_laws.specs.Sleepers.{SleepersFit, AsksOfSleepersAll, AsleepAreOnTheirWay, UnnotedIsAtWork, by_turn, nobody}
 use Rattle.lock_laws.proofs.Kit.{put_same, put_other, each_place}
 use Rattle.run_laws.proofs.Shares.{SameShare, AllBy, all_leave}
@@ -41,7 +44,6 @@ use Rattle.order_laws.proofs.TakeFacts.Steps.{all_keep as takes_keep}
 use Rattle.run_laws.proofs.Walks.{walks_keep}
 use Rattle.lock_laws.proofs.Endtries.{next_is_none}
 use Rattle.lock_laws.proofs.OwnEntries.{sections_stay}
-use Rattle.lock_laws.proofs.Sections.{own_sections_by, own_section}
 use Rattle.sleep_laws.proofs.SleepFacts.Turns.{turn_keeps, turn_ends}
 use Rattle.lock_laws.proofs.HeldLists.{AreLocks, Leads, next_leads, next_holds, next_within, held_are_locks}
 
@@ -53,23 +55,12 @@ unfolding put_at
 put_at_own f i k v l = ap (λ b. cond (b && eqb k l) v (f i l)) (eq-eqb i i refl)
 
 -- an entry that changes no section begins none
-begun_stays : (c : Config) (e : Event) (t : ℕ) (has_begun : ℕ → ℕ → Bool) → changes_sections e ≡ false → begun_after c e t has_begun ≡ has_begun
-begun_stays c (event.Locked l mode) t has_begun x = absurd cc
-begun_stays c (event.Tried l mode) t has_begun x = absurd cc
-begun_stays c (event.Busy l seen) t has_begun x = refl
-begun_stays c (event.Unlocked l mode) t has_begun x = refl
-begun_stays c (event.Set l key value) t has_begun x = refl
-begun_stays c (event.Added l key amount) t has_begun x = refl
-begun_stays c (event.Got l key found) t has_begun x = refl
-begun_stays c (event.Base prio) t has_begun x = refl
-begun_stays c (event.Shown base effective) t has_begun x = refl
-begun_stays c (event.Sleeps d) t has_begun x = refl
-begun_stays c (event.Woke d) t has_begun x = absurd cc
-begun_stays c (event.HaltedChan d) t has_begun x = absurd cc
-begun_stays c (event.HaltedLock l) t has_begun x = refl
-begun_stays c (event.WokeOne d woken) t has_begun x = refl
-begun_stays c (event.WokeAll d woken) t has_begun x = refl
-begun_stays c (event.Reversed l held) t has_begun x = refl
+begun_stays : (c : Config) (x : OfSection) (t : ℕ) (has_begun : ℕ → ℕ → Bool) → is_of_section x ≡ false → begun_with c x t has_begun ≡ has_begun
+begun_stays c NoSection t has_begun x = refl
+begun_stays c (BeginsIn l mode) t has_begun x = absurd cc
+begun_stays c (EndsFrom l mode) t has_begun x = refl
+begun_stays c (LeftFor d) t has_begun x = refl
+begun_stays c (TakenBack d) t has_begun x = absurd cc
 
 -- 2. Where a thread is, by its columns
 
@@ -386,12 +377,20 @@ not_running wait t e = absurd (let z : Queued ≡ Running = sym (put_same wait t
 -- 5. What is known at the operation of a running thread
 
 abbrev pub is_take : Op → Bool
-is_take (Take l mode) = true
-is_take other = false
+is_take op = is_some (lock_of_take (of_locks op))
+
+abbrev sleeps : OfLocks → Bool
+sleeps NoLock = false
+sleeps (Acquires h) = false
+sleeps ClosesBlock = false
+sleeps (Releases l) = false
+sleeps (EditsAt l key) = false
+sleeps (ReadsAt l key) = false
+sleeps (SleepsOn d) = true
+sleeps (WakesOn d) = false
 
 abbrev pub is_wait : Op → Bool
-is_wait (Sleep d) = true
-is_wait other = false
+is_wait op = sleeps (of_locks op)
 
 -- a thread that was cut made an entry that cut it, or one that gave a lock back
 abbrev is_cut : Place → Bool
@@ -411,20 +410,6 @@ cut_awake kind ops _ _ (law.skips_endtry h next) f = absurd cc
 cut_awake kind ops _ _ (law.wakes_up e h next x) f = absurd cc
 cut_awake kind ops _ _ (law.is_woken_by_a_halt e h next x) f = ap (λ v. fell_asleep (of_sleep v)) x
 cut_awake kind ops _ _ (law.gives_back e h x) f = ap (λ v. fell_asleep (of_sleep v)) x
-
-takes_none : (c : Config) (l : ℕ) (op : Op) → is_take op ≡ false → TakesLock c l None (Some op) → ⊥
-takes_none c l (Take k mode) e w = absurd cc
-takes_none c l (Try k mode past) e w = w
-takes_none c l EndTry e w = w
-takes_none c l (Release k) e w = w
-takes_none c l (Set k key value) e w = w
-takes_none c l (Add k key amount) e w = w
-takes_none c l (Get k key) e w = w
-takes_none c l (Base prio) e w = w
-takes_none c l Show e w = w
-takes_none c l (Sleep d) e w = w
-takes_none c l (WakeOne d) e w = w
-takes_none c l (WakeAll d) e w = w
 
 -- what it holds before and behind the operation
 abbrev pub before : Plan → Run → ℕ → List Held
@@ -519,11 +504,13 @@ module _ (plan : Plan) (r : Run) (t : ℕ) (k : IsOnTrack plan r) where
       where
         go : (o : Option ℕ) → r.state.wanted t ≡ o → o ≡ None
         go None i = refl
-        go (Some l) i = absurd (takes_none (config_of plan) l op f (rw (no, e) at (k.wants t l i)))
+        go (Some l) i =
+            let takes : lock_of_take (of_locks op) ≡ Some l = rw (no, e) at (k.wants t l i) in
+            absurd (let z = sym f ∙ ap is_some takes in cc)
 
     -- and a take's lock at most
     pub wants_this : (l : LockNo) (mode : Mode) → Next plan r t (Take l mode) → (j : ℕ) → r.state.wanted t ≡ Some j → l.0 ≡ j
-    wants_this l mode e j i = rw (no, e) at (k.wants t j i)
+    wants_this l mode e j i = same_Some l.0 j (rw (no, e) at (k.wants t j i))
 
   -- a take that was admitted, or a taking back after a wait, wants its lock
   pub wants_it : {l : LockNo} {mode : Mode} {op : Op} {e : Event} → table.Taking plan r t l mode op e → IsAtOperation plan r t (Some op) → r.state.wanted t ≡ Some l.0
@@ -557,7 +544,7 @@ ends_quietly plan r t n op e s k i q log history held listed begun wanted taking
   sections = λ l.
       ap (λ es. open_in c es t l) history ∙ ap (λ (x : Sections). x.now) (sections_stay c r.state t e t l q.quiet) ∙ all_open plan r t k up.no_wait l ∙ ap (λ (f : ℕ → ℕ → Hold). f t l) (sym held);
   begun = λ l x.
-      ap (λ (f : ℕ → ℕ → Bool). f t l) (begun ∙ begun_stays c e t r.state.has_begun q.quiet) ∙ k.begun t l (λ z. x (ap (λ (f : ℕ → ℕ → Hold). f t l) held ∙ z));
+      ap (λ (f : ℕ → ℕ → Bool). f t l) (begun ∙ begun_stays c (facets e).section t r.state.has_begun q.quiet) ∙ k.begun t l (λ z. x (ap (λ (f : ℕ → ℕ → Hold). f t l) held ∙ z));
   wants = ap (λ (f : ℕ → Option ℕ). f t) wanted ∙ wants;
   taking = ap (λ (f : ℕ → Option ℕ). f t) taking ∙ put_same r.state.taking t _ ∙ none_taken e (r.state.taking t) (k.taking t ∙ wants);
   unnoted = ap (λ (f : ℕ → Option Note). f t) noted ∙ put_same r.state.noted t None;

@@ -5,42 +5,16 @@ use Rattle.std.specs.Prelude.{⊤}
 use Rattle.lock_model.specs.Config.{Config}
 use Rattle.lock_model.specs.History.{sections_in}
 use Rattle.lock_state.specs.State.{State, Running}
-use Rattle.lock_state.specs.Steps.{Step, Seeks, Looks, TakesItem, GivesItem, Gains, Drops, Stamps, Readies, Unreadies, Enters, Opens, EntersSleepQueue, OpensSleepQueue, Adds, Wakes, Marks, Resumes, Claims, Lends, Shifts, EndsWalk, Admits, Refuses, after, after_all}
+use Rattle.lock_state.specs.Steps.{Step, Seeks, Gains, Drops, Stamps, Readies, Unreadies, Enters, Opens, EntersSleepQueue, OpensSleepQueue, Wakes, Marks, Resumes, Claims, Lends, Shifts, EndsWalk, Admits, Refuses, after, after_all, maker}
 use Rattle.lock_state.specs.Steps.Items.{after_take, after_give}
-use Rattle.lock_state.specs.Steps.LockWords.{after_seek, after_look, after_gain, after_drop, after_stamp, after_ready, after_unready, begun_after}
+use Rattle.lock_state.specs.Steps.LockWords.{after_seek, after_look, after_gain, after_drop, after_stamp, after_ready, after_unready, begun_with}
 use Rattle.lock_state.specs.Steps.Turnstiles.{after_enter, after_open, after_mark, after_resume}
 use Rattle.lock_state.specs.Steps.SleepQueues.{after_enter_sleep, after_open_sleep, after_add, after_wake}
 use Rattle.lock_state.specs.Steps.Lending.{after_claim, after_lend, after_shift, after_end_walk}
 use Rattle.lock_state.specs.Steps.Orders.{after_admit, after_refuse}
-use Rattle.lock_model.specs.declared.event.Event.{Event}
-use Rattle.lock_model.specs.declared.event.Event.TheVariants.{Locked, Tried, Woke, HaltedChan}
+use Rattle.lock_model.specs.Events.{OfSection, NoSection, BeginsIn, EndsFrom, LeftFor, TakenBack, facets}
 use Rattle.lock_laws.proofs.Kit.{at_put, put_other, put_at_other, put_at_row}
 use Rattle.lock_laws.proofs.OwnEntries.{other_sections}
-
-abbrev pub maker : Step → ℕ
-maker (Seeks t l by_try) = t
-maker (Looks t l in_round) = t
-maker (TakesItem t i) = t
-maker (GivesItem t i) = t
-maker (Gains t l mode by_try) = t
-maker (Drops t l mode) = t
-maker (Stamps t e) = t
-maker (Readies t q) = t
-maker (Unreadies t q) = t
-maker (Enters t l mode x) = t
-maker (Opens t l mode) = t
-maker (EntersSleepQueue t l mode x) = t
-maker (OpensSleepQueue t l mode) = t
-maker (Adds t d x) = t
-maker (Wakes t d all) = t
-maker (Marks t m ms) = t
-maker (Resumes t q cause) = t
-maker (Claims t l h by_try) = t
-maker (Lends t l o h) = t
-maker (Shifts t o l) = t
-maker (EndsWalk t) = t
-maker (Admits t l) = t
-maker (Refuses t l k) = t
 
 -- a list of steps of one thread
 abbrev pub AllBy : ℕ → List Step → Type 0
@@ -61,12 +35,12 @@ pub record SameShare (c : Config) (u : ℕ) (s n : State) : Type 0 where
   pub marked : n.marked u ≡ s.marked u
   pub running : n.wait u ≡ Running → s.wait u ≡ Running
 
-begun_other : (c : Config) (e : Event) (t : ℕ) (f : ℕ → ℕ → Bool) (u l : ℕ) → (t ≡ u → ⊥) → begun_after c e t f u l ≡ f u l
-begun_other c (Locked k mode) t f u l ne = put_at_other f t k.0 true u l ne
-begun_other c (Tried k mode) t f u l ne = put_at_other f t k.0 true u l ne
-begun_other c (Woke d) t f u l ne = put_at_other f t (c.chan_lock d.0) true u l ne
-begun_other c (HaltedChan d) t f u l ne = put_at_other f t (c.chan_lock d.0) true u l ne
-begun_other c other t f u l ne = refl
+begun_other : (c : Config) (x : OfSection) (t : ℕ) (f : ℕ → ℕ → Bool) (u l : ℕ) → (t ≡ u → ⊥) → begun_with c x t f u l ≡ f u l
+begun_other c NoSection t f u l ne = refl
+begun_other c (BeginsIn k mode) t f u l ne = put_at_other f t k true u l ne
+begun_other c (EndsFrom k mode) t f u l ne = refl
+begun_other c (LeftFor d) t f u l ne = refl
+begun_other c (TakenBack d) t f u l ne = put_at_other f t (c.chan_lock d) true u l ne
 
 module _ (c : Config) (u : ℕ) where
   same : (s : State) → SameShare c u s s
@@ -75,20 +49,16 @@ module _ (c : Config) (u : ℕ) where
   -- one step, of another thread
   pub leaves : (s : State) (step : Step) → (maker step ≡ u → ⊥) → SameShare c u s (after c s step)
   unfolding after_seek after_look after_take after_give after_gain after_drop after_stamp after_ready after_unready after_enter after_open after_mark after_resume after_enter_sleep after_open_sleep after_add after_wake after_claim after_lend after_shift after_end_walk after_admit after_refuse
-  leaves s (Seeks t l by_try) ne = assumption (same s)
-  leaves s (Looks t l in_round) ne = assumption (same s)
-  leaves s (TakesItem t i) ne = assumption (same s)
-  leaves s (GivesItem t i) ne = assumption (same s)
+  leaves s (Seeks t l by_try) ne = record { held = refl; held_locks = refl; log = refl; sections = λ l. refl; has_begun = refl; wanted = refl; taking = put_other s.taking t _ u ne; noted = refl; walk = refl; marked = refl; running = λ e. e }
   leaves s (Gains t l mode by_try) ne = record { held = put_at_row s.held t l _ u ne; held_locks = put_other s.held_locks t _ u ne; log = refl; sections = λ l. refl; has_begun = put_at_row s.has_begun t l _ u ne; wanted = put_other s.wanted t _ u ne; taking = refl; noted = refl; walk = refl; marked = refl; running = λ e. e }
   leaves s (Drops t l mode) ne = record { held = put_at_row s.held t l _ u ne; held_locks = put_other s.held_locks t _ u ne; log = refl; sections = λ l. refl; has_begun = refl; wanted = refl; taking = refl; noted = refl; walk = refl; marked = refl; running = λ e. e }
-  leaves s (Stamps t e) ne = record { held = refl; held_locks = refl; log = put_other s.log t _ u ne; sections = λ l. other_sections c s t e u l ne; has_begun = λ i l. begun_other c e t s.has_begun u l ne i; wanted = refl; taking = put_other s.taking t _ u ne; noted = put_other s.noted t _ u ne; walk = refl; marked = refl; running = λ e. e }
+  leaves s (Stamps t e) ne = record { held = refl; held_locks = refl; log = put_other s.log t _ u ne; sections = λ l. other_sections c s t e u l ne; has_begun = λ i l. begun_other c (facets e).section t s.has_begun u l ne i; wanted = refl; taking = put_other s.taking t _ u ne; noted = put_other s.noted t _ u ne; walk = refl; marked = refl; running = λ e. e }
   leaves s (Readies t q) ne = record { held = refl; held_locks = refl; log = refl; sections = λ l. refl; has_begun = refl; wanted = refl; taking = refl; noted = refl; walk = refl; marked = refl; running = λ e. sym (put_other s.wait t _ u ne) ∙ e }
   leaves s (Unreadies t q) ne = record { held = refl; held_locks = refl; log = refl; sections = λ l. refl; has_begun = refl; wanted = refl; taking = refl; noted = refl; walk = refl; marked = refl; running = λ e. sym (put_other s.wait t _ u ne) ∙ e }
   leaves s (Enters t l mode x) ne = record { held = refl; held_locks = refl; log = refl; sections = λ l. refl; has_begun = refl; wanted = put_other s.wanted t _ u ne; taking = refl; noted = refl; walk = put_other s.walk t _ u ne; marked = refl; running = λ e. e }
   leaves s (Opens t l mode) ne = record { held = put_at_row s.held t l _ u ne; held_locks = put_other s.held_locks t _ u ne; log = refl; sections = λ l. refl; has_begun = refl; wanted = refl; taking = refl; noted = refl; walk = refl; marked = put_other s.marked t _ u ne; running = λ e. e }
   leaves s (EntersSleepQueue t l mode x) ne = record { held = refl; held_locks = refl; log = refl; sections = λ l. refl; has_begun = refl; wanted = put_other s.wanted t _ u ne; taking = refl; noted = refl; walk = refl; marked = refl; running = λ e. e }
   leaves s (OpensSleepQueue t l mode) ne = record { held = put_at_row s.held t l _ u ne; held_locks = put_other s.held_locks t _ u ne; log = refl; sections = λ l. refl; has_begun = refl; wanted = refl; taking = refl; noted = refl; walk = refl; marked = put_other s.marked t _ u ne; running = λ e. e }
-  leaves s (Adds t d x) ne = assumption (same s)
   leaves s (Wakes t d all) ne = record { held = refl; held_locks = refl; log = refl; sections = λ l. refl; has_begun = refl; wanted = refl; taking = refl; noted = refl; walk = refl; marked = put_other s.marked t _ u ne; running = λ e. e }
   leaves s (Marks t m ms) ne = record { held = refl; held_locks = refl; log = refl; sections = λ l. refl; has_begun = refl; wanted = refl; taking = refl; noted = refl; walk = refl; marked = put_other s.marked t _ u ne; running = at_put (λ v w. w ≡ Running → s.wait v ≡ Running) s.wait m.thread _ (λ e. absurd cc) (λ v n e. e) u }
   leaves s (Resumes t q cause) ne = record { held = refl; held_locks = refl; log = refl; sections = λ l. refl; has_begun = refl; wanted = put_other s.wanted t _ u ne; taking = put_other s.taking t _ u ne; noted = put_other s.noted t _ u ne; walk = refl; marked = refl; running = λ e. sym (put_other s.wait t _ u ne) ∙ e }
@@ -98,6 +68,7 @@ module _ (c : Config) (u : ℕ) where
   leaves s (EndsWalk t) ne = record { held = refl; held_locks = refl; log = refl; sections = λ l. refl; has_begun = refl; wanted = refl; taking = refl; noted = refl; walk = put_other s.walk t _ u ne; marked = refl; running = λ e. e }
   leaves s (Admits t l) ne = record { held = refl; held_locks = refl; log = refl; sections = λ l. refl; has_begun = refl; wanted = put_other s.wanted t _ u ne; taking = put_other s.taking t _ u ne; noted = refl; walk = refl; marked = refl; running = λ e. e }
   leaves s (Refuses t l k) ne = record { held = refl; held_locks = refl; log = refl; sections = λ l. refl; has_begun = refl; wanted = refl; taking = refl; noted = put_other s.noted t _ u ne; walk = refl; marked = refl; running = λ e. e }
+  leaves s other ne = assumption (same s)
 
   behind : {s m n : State} → SameShare c u s m → SameShare c u m n → SameShare c u s n
   behind a b = record {

@@ -83,7 +83,7 @@ module _ (plan : Plan) (r : Run) (t : ℕ) (l : LockNo) (mode : Mode) (p : IsPro
     noted = none_unnoted plan r t k;
     no_halts = k.no_halts;
     there = rw (put_same s.wanted t (Some l.0), put_same s.taking t (Some l.0)) (there_wanting plan r t (Some l.0) (Some l.0) k refl (record {
-      takes = λ j e. rw (up.no_wait, b.at.next) (same_Some l.0 j e);
+      takes = λ j e. rw (up.no_wait, b.at.next) e;
       unheld = λ j e. subst (λ m. s.held t m ≡ NotHeld) (same_Some l.0 j e) (holds_all plan r t k up l.0 ∙ fits.unheld);
       uncut = λ e. absurd (let z = sym e ∙ b.at.uncut in cc);
     }));

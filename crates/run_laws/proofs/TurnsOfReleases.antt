@@ -12,7 +12,7 @@ use Rattle.lock_model.specs.History.{open_in}
 use Rattle.lock_model.specs.Law.{HaltsOnlyWhenRunning}
 use Rattle.lock_model.specs.Takes.{has_reversal}
 use Rattle.lock_state.specs.State.{State, HeldLock, Running, put, put_at, gained_order}
-use Rattle.lock_state.specs.Steps.{Step, Stamps, May, MayAll, after}
+use Rattle.lock_state.specs.Steps.{Step, Stamps, May, MayAll, after, AsksOfSleepers}
 use Rattle.lock_state.specs.Steps.LockWords.{without_held, entry_of, after_drop, after_stamp}
 use Rattle.lock_state.specs.Steps.Turnstiles.{IsLastHolder, after_open}
 use Rattle.lock_state.specs.Steps.SleepQueues.{after_open_sleep}
@@ -26,7 +26,7 @@ use Rattle.lock_model.specs.declared.turn.StepKind.{StepKind}
 use Rattle.lock_model.specs.declared.event.Event.TheVariants as event
 use Rattle.lock_model.specs.declared.event.Held.{Held}
 use Rattle.run_laws.specs.OnTrack.{IsOnTrack, OwesNothing, IsAtOperation, IsCutShort, TakesLock}
-use Rattle.sleep_laws.specs.Sleepers.{AsksOfSleepers, by_turn}
+use Rattle.sleep_laws.specs.Sleepers.{by_turn}
 use Rattle.lock_laws.proofs.Kit.{put_same}
 use Rattle.lock_laws.proofs.HeldLists.{Apart, release_fits, still_unheld, hold_in-without, gained_order-without}
 use Rattle.run_laws.proofs.LastHeld.{GivesLast, gives_last, apart-take}

@@ -2,6 +2,7 @@
 -- on track.
 use Rattle.std.proofs.Common.{◌≡◌, ◌≢◌, ℕ, suc, ◌<◌, Bool, false, cond, eqb, List, [], ◌∷◌, length, map, Option, Some, None, refl, sym, ap, eq-eqb, ◌∙◌, subst}
 use Rattle.std.specs.Prelude.{unwrap_or}
+use Rattle.std.proofs.lemmas.Bool.{ne_eqb}
 use Rattle.std.proofs.lemmas.Option.{none-some, same_Some}
 use Rattle.lock_model.specs.Plans.{config_of}
 use Rattle.lock_model.specs.Operations.{IsProper, hold_in, without_lock}
@@ -84,7 +85,14 @@ module _ (plan : Plan) (r : Run) (t : ℕ) (p : IsProper plan) (k : IsOnTrack pl
     may_note = record {
       thread = lt;
       acting = record { unnamed = unnamed plan r t k i.running; unwoken = ap is_woken (put_same s.wait t Queued) };
-      asks = record { chan = finds.chan; queued = put_same s.wait t Queued; wants = wants_nothing; opened = section; last = record { others = gained_order (without_lock l (before plan r t)); last = gained_last } };
+      asks = record {
+        chan = finds.chan;
+        queued = put_same s.wait t Queued;
+        wants = wants_nothing;
+        opened = section;
+        last = record { others = gained_order (without_lock l (before plan r t)); last = gained_last };
+        sections = λ j mode h ne. all_open plan r t k no j ∙ h;
+      };
     }
 
     may_add : MayAdd c noted t d.0 x
@@ -98,6 +106,8 @@ module _ (plan : Plan) (r : Run) (t : ℕ) (p : IsProper plan) (k : IsOnTrack pl
       wants = wants_nothing;
       slept = ap (has_slept d.0) (put_same s.log t _) ∙ eq-eqb d.0 d.0 refl;
       unwoken = put_same s.woken_from t None;
+      sections = λ j mode h ne. ap (λ (y : Sections). y.now) (own_sections_by c (after_ready s t) t (event.Sleeps d) j) ∙ ap (λ b. cond b NotHeld (open_in c s.history t j)) (ne_eqb l j (λ e. ne (sym e)))
+          ∙ all_open plan r t k no j ∙ h;
     }
 
     pub may_sleep_all : MayAll c s (Readies t (Chan d) ∷ Stamps t (event.Sleeps d) ∷ Adds t d.0 x ∷ [])
@@ -144,7 +154,7 @@ module _ (plan : Plan) (r : Run) (t : ℕ) (p : IsProper plan) (k : IsOnTrack pl
     pub slept_keeps : KeepsTrack plan r t (does kind.Add (Readies t (Chan d) ∷ Stamps t (event.Sleeps d) ∷ Adds t d.0 x ∷ []))
     unfolding after_ready after_stamp after_add HaltsOnlyWhenRunning
     slept_keeps = record {
-      asks = (tt, ((λ e f. refl), (record { works = refl; noted = noted_behind plan r t (event.Sleeps d) k }, tt)));
+      asks = (tt, ((λ e f. refl), (record { works = refl; stamped = noted_behind plan r t (event.Sleeps d) k }, tt)));
       out = k.lawful.nothing_out;
       stands = now_stands s.wait s.blocked_on t (chan_queue d.0) k.lawful.queued_stands;
       noted = noted_behind plan r t (event.Sleeps d) k;

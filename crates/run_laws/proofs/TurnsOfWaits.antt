@@ -137,4 +137,8 @@ module _ (plan : Plan) (r : Run) (t : ℕ) (k : IsOnTrack plan r) (lt : t < leng
     }
       where
         still : put s.noted t (noted_after q cause (is_taking_back (s.log t)) (s.noted t)) t ≡ s.noted t
-        still = put_same s.noted t _ ∙ rw signal refl
+        still = put_same s.noted t _ ∙ rw signal (unchanged q)
+          where
+            unchanged : (x : QueueName) → noted_after x BySignal (is_taking_back (s.log t)) (s.noted t) ≡ s.noted t
+            unchanged (Lock j) = refl
+            unchanged (Chan d) = refl

@@ -4,7 +4,7 @@ use Rattle.lock_model.specs.Config.{Config}
 use Rattle.lock_model.specs.Queues.{lock_queue}
 use Rattle.lock_model.specs.Words.{is_turnstile, owner_of}
 use Rattle.lock_state.specs.State.{State, Walk, NoWalk, AtLock, put}
-use Rattle.lock_state.specs.Steps.{Step, Seeks, Looks, TakesItem, GivesItem, Gains, Drops, Stamps, Readies, Unreadies, Enters, Opens, EntersSleepQueue, OpensSleepQueue, Adds, Wakes, Marks, Resumes, Claims, Lends, Shifts, EndsWalk, Admits, Refuses, May, MayAll, after, after_all}
+use Rattle.lock_state.specs.Steps.{Step, Enters, Lends, Shifts, EndsWalk, May, MayAll, after, after_all}
 use Rattle.lock_state.specs.Steps.Items.{after_take, after_give}
 use Rattle.lock_state.specs.Steps.LockWords.{after_seek, after_look, after_gain, after_drop, after_stamp, after_ready, after_unready}
 use Rattle.lock_state.specs.Steps.Turnstiles.{walk_up, after_enter, after_open, after_mark, after_resume}
@@ -29,29 +29,11 @@ module _ (c : Config) (s : State) (h : WalksAtTurnstiles c s.walk) where
 
   keeps : (step : Step) → May c s step → WalksAtTurnstiles c (after c s step).walk
   unfolding after_seek after_look after_take after_give after_gain after_drop after_stamp after_ready after_unready after_enter after_open after_mark after_resume after_enter_sleep after_open_sleep after_add after_wake after_claim after_lend after_shift after_end_walk after_admit after_refuse
-  keeps (Seeks t l by_try) g = h
-  keeps (Looks t l in_round) g = h
-  keeps (TakesItem t i) g = h
-  keeps (GivesItem t i) g = h
-  keeps (Gains t l mode by_try) g = h
-  keeps (Drops t l mode) g = h
-  keeps (Stamps t e) g = h
-  keeps (Readies t q) g = h
-  keeps (Unreadies t q) g = h
   keeps (Enters t l mode x) g = moved t _ (up l (owner_of (s.word l).holder) g.turnstile)
-  keeps (Opens t l mode) g = h
-  keeps (EntersSleepQueue t l mode x) g = h
-  keeps (OpensSleepQueue t l mode) g = h
-  keeps (Adds t d x) g = h
-  keeps (Wakes t d all) g = h
-  keeps (Marks t m ms) g = h
-  keeps (Resumes t q cause) g = h
-  keeps (Claims t l x by_try) g = h
   keeps (Lends t l o x) g = moved t _ (to o _)
   keeps (Shifts t o l) g = moved t _ (up l (s.owner (lock_queue l)) g.turnstile)
   keeps (EndsWalk t) g = moved t NoWalk (λ l i. absurd cc)
-  keeps (Admits t l) g = h
-  keeps (Refuses t l k) g = h
+  keeps other g = h
 
 pub walks_keep : (c : Config) (s : State) (steps : List Step) → MayAll c s steps → WalksAtTurnstiles c s.walk → WalksAtTurnstiles c (after_all c s steps).walk
 walks_keep c s [] g h = h

@@ -3,7 +3,7 @@
 use Rattle.std.specs.Prelude.{◌≡◌, ◌≢◌, ℕ, ◌≤◌, Bool, true, false, if◌then◌else◌, List, [], length, reverse, slice_get, Option, Some, None}
 use Rattle.lock_model.specs.Config.{Config}
 use Rattle.lock_model.specs.Plans.{config_of, operations_of}
-use Rattle.lock_model.specs.Operations.{hold_in}
+use Rattle.lock_model.specs.Operations.{of_locks, hold_in}
 use Rattle.lock_model.specs.Holds.{Hold, NotHeld}
 use Rattle.lock_model.specs.Orders.{first_to_forbid}
 use Rattle.lock_model.specs.Words.{is_turnstile}
@@ -15,7 +15,9 @@ use Rattle.lock_state.specs.Steps.{Admits, after, is_with}
 use Rattle.lock_state.specs.Steps.Orders.{classes_held}
 use Rattle.lock_state.specs.Run.{Run, has_ended, was_cut, waits_on, lock_of_wait, owed_release, held_before, held_now}
 use Rattle.lock_model.specs.declared.plan.Op.{Op}
-use Rattle.lock_model.specs.declared.plan.Op.TheVariants.{Take, Try, EndTry, Release, Set, Add, Get, Base, Show, Sleep, WakeOne, WakeAll}
+use Rattle.lock_model.specs.declared.plan.Op.TheVariants.{Take, EndTry, Sleep}
+use Rattle.lock_model.specs.declared.plan.OfLocks.{OfLocks}
+use Rattle.lock_model.specs.declared.plan.OfLocks.TheVariants.{NoLock, Acquires, ClosesBlock, Releases, EditsAt, ReadsAt, SleepsOn, WakesOn}
 use Rattle.lock_model.specs.declared.plan.Plan.{Plan}
 use Rattle.lock_model.specs.declared.event.Held.{Held}
 use Rattle.lock_model.specs.declared.plan.Mode.{Mode}
@@ -48,22 +50,22 @@ abbrev pub open_now : Plan → Run → ℕ → ℕ → Hold
 open_now plan r t l =
     if is_with l (lock_of_wait (config_of plan) r.state t) then NotHeld else r.state.held t l
 
+-- the lock of a take, by what an operation does with locks
+abbrev pub lock_of_take : OfLocks → Option ℕ
+lock_of_take NoLock = None
+lock_of_take (Acquires h) = if h.by_try then None else Some h.l.0
+lock_of_take ClosesBlock = None
+lock_of_take (Releases k) = None
+lock_of_take (EditsAt k key) = None
+lock_of_take (ReadsAt k key) = None
+lock_of_take (SleepsOn d) = None
+lock_of_take (WakesOn d) = None
+
 -- an operation takes a lock; a wait, once its Sleeps entry is made, takes its channel's lock back
 abbrev pub TakesLock : Config → ℕ → Option ℕ → Option Op → Type 0
 TakesLock c l (Some d) op = c.chan_lock d ≡ l
 TakesLock c l None None = ⊥
-TakesLock c l None (Some (Take k mode)) = k.0 ≡ l
-TakesLock c l None (Some (Try k mode past)) = ⊥
-TakesLock c l None (Some EndTry) = ⊥
-TakesLock c l None (Some (Release k)) = ⊥
-TakesLock c l None (Some (Set k key value)) = ⊥
-TakesLock c l None (Some (Add k key amount)) = ⊥
-TakesLock c l None (Some (Get k key)) = ⊥
-TakesLock c l None (Some (Base prio)) = ⊥
-TakesLock c l None (Some Show) = ⊥
-TakesLock c l None (Some (Sleep d)) = ⊥
-TakesLock c l None (Some (WakeOne d)) = ⊥
-TakesLock c l None (Some (WakeAll d)) = ⊥
+TakesLock c l None (Some op) = lock_of_take (of_locks op) ≡ Some l
 
 -- walks are at locks whose queues are turnstiles, and at threads
 abbrev pub WalksAtTurnstiles : Config → (ℕ → Walk) → Type 0

@@ -89,7 +89,7 @@ module _ (locks threads : ℕ) (k : Known) (name : List ℕ) (h : AreWithin lock
 
 -- 2. What the lines so far make known is sound
 
-abbrev OpenIsSound : List LockDecl → List ChanDecl → Option OpenThread → Type 0
+abbrev pub OpenIsSound : List LockDecl → List ChanDecl → Option OpenThread → Type 0
 OpenIsSound locks chans None = Unit {0}
 OpenIsSound locks chans (Some t) = IsSoundOpen locks chans t
 
@@ -106,7 +106,7 @@ operations_of_open (Some t) = length t.ops
 abbrev begun : Known → ℕ
 begun k = length k.threads + opened k.open_thread
 
-record IsSound (k : Known) : Type 0 where
+pub record IsSound (k : Known) : Type 0 where
   names : AreWithin (length k.locks) (begun k) k.names
   locks : length k.locks ≤ most_locks
   chans : length k.chans ≤ most_channels
@@ -115,13 +115,13 @@ record IsSound (k : Known) : Type 0 where
   chan_locks : All (λ d. d.lock.0 < length k.locks) k.chans
   threads : begun k ≤ most_threads
   fits : All (λ d. Fit k.locks k.chans d.ops) k.threads
-  open_thread : OpenIsSound k.locks k.chans k.open_thread
+  pub open_thread : OpenIsSound k.locks k.chans k.open_thread
   operations : k.operations ≤ most_operations
   counted : sum (map (λ d. length d.ops) k.threads) + operations_of_open k.open_thread ≡ k.operations
   scheduled : length k.schedule ≤ most_scheduled
   schedule : All (λ t. t.0 < length k.threads) k.schedule
 
-nothing_sound : IsSound nothing_known
+pub nothing_sound : IsSound nothing_known
 nothing_sound = record {
   names = All-nil _;
   locks = omega arith;
@@ -388,7 +388,7 @@ statement_sound k EndsTry h place names = endtry_line k h k.open_thread refl (pa
 
 -- 4. Lines and scripts
 
-line_sound : (k : Known) (line : List ℕ) → IsSound k → line_fault k line ≡ None → IsSound (behind_line k line)
+pub line_sound : (k : Known) (line : List ℕ) → IsSound k → line_fault k line ≡ None → IsSound (behind_line k line)
 unfolding line_fault behind_line
 line_sound k line h e = meaning (has_meaning line) (stages_pass (byte_tests line) _ e).1
   where

@@ -109,7 +109,12 @@ pub record IsSoundOpen (locks : List LockDecl) (chans : List ChanDecl) (t : Open
   nested : AreNested t.ops
   all : GoOnBefore (length t.ops) t.ops
   opened : AreOpen t.ops (length t.ops) t.blocks
-  held : held_through t.ops [] ≡ t.held
+  pub held : held_through t.ops [] ≡ t.held
+
+-- the try of the innermost open block
+pub innermost_try : (locks : List LockDecl) (chans : List ChanDecl) (t : OpenThread) (b : Block) (bs : List Block)
+    → IsSoundOpen locks chans t → t.blocks ≡ b ∷ bs → slice_get t.ops b.opened_at ≡ Some (Try b.lock b.mode 0)
+innermost_try locks chans t b bs h inside = (subst (AreOpen t.ops (length t.ops)) inside h.opened).1.its_try
 
 -- 3. What operations that differ at one place keep
 

@@ -29,7 +29,7 @@ use Rattle.lock_model.specs.declared.numbers.LockNo.{LockNo}
 use Rattle.lock_model.specs.declared.plan.Plan.{Plan}
 use Rattle.lock_model.specs.declared.plan.Op.{Op}
 use Rattle.lock_model.specs.declared.plan.Op.TheVariants.{Take, Try, Release, Set, Add, Get, Base, Sleep, WakeOne, WakeAll}
-use Rattle.script_laws.proofs.Accepted.{faulty-reads, not_inside, none_left}
+use Rattle.script_laws.proofs.Accepted.{OpenIsSound, IsSound, nothing_sound, line_sound, faulty-reads, not_inside, none_left}
 use Rattle.script_laws.proofs.AcceptedLists.{none_is, empty_is, stages_pass}
 use Rattle.script_laws.proofs.CanonicalNames.{name_in, AreNamed, named_more, more_locks, more_chans, more_threads}
 use Rattle.script_laws.proofs.CanonicalOperations.{IsReadable, behind}
@@ -232,50 +232,59 @@ made_kept k t made h o same replayed = record {
   open_thread = replayed;
 }
 
-said_kept : (k : Known) (o : Operation) → IsKept k → (x : Option OpenThread) → k.open_thread ≡ x → Passes (where_some (tests_in_thread k o) x) → IsKept (with_operation k x (op_of k o))
-said_kept k o h None e passes = h
-said_kept k o h (Some t) e passes =
+said_kept : (k : Known) (o : Operation) → IsSound k → IsKept k → (x : Option OpenThread) → k.open_thread ≡ x
+    → Passes (where_some (tests_in_thread k o) x) → IsKept (with_operation k x (op_of k o))
+said_kept k o s h None e passes = h
+said_kept k o s h (Some t) e passes =
     let later = passed_both (operation_words k t o) (has_room most_operations k.operations ∷ where_some (λ op. operation_tests k.locks k.chans op t.held) (op_of k o)) passes in
     go (op_of k o) (λ op q. readable k t o op q later.0) (passed _ _ later.1).1
   where
     go : (x : Option Op) → ((op : Op) → x ≡ Some op → IsReadable t op) → Passes (where_some (λ op. operation_tests k.locks k.chans op t.held) x) → IsKept (with_operation k (Some t) x)
     go None r q = h
-    go (Some op) r q = made_kept k t (behind t op) h e refl (operation_replayed k.locks k.chans t (subst (OpenIsReplayed k.locks k.chans) e h.open_thread) op (r op refl) q)
+    go (Some op) r q =
+        made_kept k t (behind t op) h e refl
+        (operation_replayed k.locks k.chans t (subst (OpenIsSound k.locks k.chans) e s.open_thread)
+        (subst (OpenIsReplayed k.locks k.chans) e h.open_thread) op (r op refl) q)
 
-endtry_kept : (k : Known) → IsKept k → (x : Option OpenThread) → k.open_thread ≡ x → is_in_block x ≡ true → Passes (where_some (λ (t : OpenThread). endtry_tests k t t.blocks) x) → IsKept (with_endtry k x)
-endtry_kept k h None e inside passes = absurd (false≢true inside)
-endtry_kept k h (Some t) e inside passes = go t.blocks refl inside passes
+endtry_kept : (k : Known) → IsSound k → IsKept k → (x : Option OpenThread) → k.open_thread ≡ x → is_in_block x ≡ true
+    → Passes (where_some (λ (t : OpenThread). endtry_tests k t t.blocks) x) → IsKept (with_endtry k x)
+endtry_kept k s h None e inside passes = absurd (false≢true inside)
+endtry_kept k s h (Some t) e inside passes = go t.blocks refl inside passes
   where
     go : (bs : List Block) → t.blocks ≡ bs → not (is_empty bs) ≡ true → Passes (endtry_tests k t bs) → IsKept (record k { open_thread = Some (without_block t bs); operations = suc k.operations })
     go [] f inside q = absurd (false≢true inside)
     go (b ∷ bs) f inside q =
-        made_kept k t (without_block t (b ∷ bs)) h e refl (endtry_replayed k.locks k.chans t (subst (OpenIsReplayed k.locks k.chans) e h.open_thread) b bs f (passed _ _ (passed _ _ q).1).0)
+        made_kept k t (without_block t (b ∷ bs)) h e refl
+        (endtry_replayed k.locks k.chans t (subst (OpenIsSound k.locks k.chans) e s.open_thread)
+        (subst (OpenIsReplayed k.locks k.chans) e h.open_thread) b bs f (passed _ _ (passed _ _ q).1).0)
 
-statement_kept : (k : Known) (s : Statement) → IsKept k → Passes (place_tests k s) → Passes (name_tests k s) → IsKept (learned k s)
-statement_kept k (Declares kind name class) h place tests = lock_kept k kind name class h place tests
-statement_kept k (DeclaresChan on_cond name lock) h place tests = chan_kept k on_cond name lock (unwrap_or (lock_named k lock) (record { 0 = 0 })) h place tests
-statement_kept k (Begins name prio) h place tests = begin_kept k name prio h place tests
-statement_kept k Ends h place tests = go k.open_thread refl (passed _ _ (passed _ _ place).1).0 tests
+statement_kept : (k : Known) (s : Statement) → IsSound k → IsKept k → Passes (place_tests k s) → Passes (name_tests k s)
+    → IsKept (learned k s)
+statement_kept k (Declares kind name class) sound h place tests = lock_kept k kind name class h place tests
+statement_kept k (DeclaresChan on_cond name lock) sound h place tests =
+    chan_kept k on_cond name lock (unwrap_or (lock_named k lock) (record { 0 = 0 })) h place tests
+statement_kept k (Begins name prio) sound h place tests = begin_kept k name prio h place tests
+statement_kept k Ends sound h place tests = go k.open_thread refl (passed _ _ (passed _ _ place).1).0 tests
   where
     go : (o : Option OpenThread) → k.open_thread ≡ o → not (is_in_block o) ≡ true → Passes (where_some (λ (t : OpenThread). test 14 (is_empty t.held) ∷ []) o) → IsKept (with_end k o)
     go None e closed q = h
     go (Some t) e closed q = end_kept k t h e (none_left t.blocks closed) (empty_is t.held (passed _ _ q).0)
-statement_kept k (Schedules names) h place tests = record { named = h.named; classes = h.classes; threads = h.threads; open_thread = h.open_thread }
-statement_kept k IsDone h place tests = record { named = h.named; classes = h.classes; threads = h.threads; open_thread = h.open_thread }
-statement_kept k (Operates o) h place tests = said_kept k o h k.open_thread refl tests
-statement_kept k EndsTry h place tests = endtry_kept k h k.open_thread refl (passed _ _ place).0 tests
+statement_kept k (Schedules names) sound h place tests = assumption h
+statement_kept k IsDone sound h place tests = assumption h
+statement_kept k (Operates o) sound h place tests = said_kept k o sound h k.open_thread refl tests
+statement_kept k EndsTry sound h place tests = endtry_kept k sound h k.open_thread refl (passed _ _ place).0 tests
 
 -- 3. Each line keeps it
 
-line_kept : (k : Known) (line : List ℕ) → IsKept k → line_fault k line ≡ None → IsKept (behind_line k line)
+line_kept : (k : Known) (line : List ℕ) → IsSound k → IsKept k → line_fault k line ≡ None → IsKept (behind_line k line)
 unfolding line_fault behind_line
-line_kept k line h e = meaning (has_meaning line) (stages_pass (byte_tests line) _ e).1
+line_kept k line sound h e = meaning (has_meaning line) (stages_pass (byte_tests line) _ e).1
   where
     says : (s : Option Statement) → first_fault (statement_stages k s) ≡ None → IsKept (learned_from k s)
     says None q = h
     says (Some s) q =
         let p = stages_pass (place_tests k s) (name_tests k s ∷ []) q in
-        statement_kept k s h p.0 (stages_pass (name_tests k s) [] p.1).0
+        statement_kept k s sound h p.0 (stages_pass (name_tests k s) [] p.1).0
 
     meaning : (b : Bool) → first_fault (cond b (word_tests k line ∷ statement_stages k (statement_of line)) []) ≡ None → IsKept (cond b (learned_from k (statement_of line)) k)
     meaning true q = says (statement_of line) (stages_pass (word_tests k line) _ q).1
@@ -287,16 +296,18 @@ pub record IsWritten (plan : Plan) : Type 0 where
   pub kept : IsKept last
   pub its : plan_of last ≡ plan
 
-lines_written : (n : ℕ) (k : Known) (lines : List (List ℕ)) (plan : Plan) → IsKept k → reading_from n k lines ≡ Reads plan → IsWritten plan
+lines_written : (n : ℕ) (k : Known) (lines : List (List ℕ)) (plan : Plan) → IsSound k → IsKept k
+    → reading_from n k lines ≡ Reads plan → IsWritten plan
 unfolding reading_from
-lines_written n k [] plan h e = go k.is_done e
+lines_written n k [] plan sound h e = go k.is_done e
   where
     go : (b : Bool) → cond b (Reads (plan_of k)) (Faulty (told n) 17) ≡ Reads plan → IsWritten plan
     go true q = record { last = k; kept = h; its = cc q }
     go false q = absurd cc
-lines_written n k (line ∷ lines) plan h e =
+lines_written n k (line ∷ lines) plan sound h e =
     let q = faulty-reads n (line_fault k line) _ plan e in
-    lines_written (suc n) (behind_line k line) lines plan (line_kept k line h q.0) q.1
+    lines_written (suc n) (behind_line k line) lines plan
+    (line_sound k line sound q.0) (line_kept k line sound h q.0) q.1
 
 -- that of a script
 pub accepted_written : (bytes : List ℕ) (plan : Plan) → IsAccepted bytes plan → IsWritten plan
@@ -308,5 +319,5 @@ accepted_written bytes plan e = go (lines_of bytes) e
     go (header ∷ lines) e = by (is_same header (codes "lockrun 1")) e
       where
         by : (b : Bool) → cond b (reading_from 2 nothing_known lines) (Faulty 1 1) ≡ Reads plan → IsWritten plan
-        by true q = lines_written 2 nothing_known lines plan nothing_kept q
+        by true q = lines_written 2 nothing_known lines plan nothing_sound nothing_kept q
         by false q = absurd cc

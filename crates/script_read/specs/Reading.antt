@@ -5,7 +5,7 @@ use Rattle.lock_model.specs.Script.{Reading, Reads, Faulty, IsFaulty}
 use Rattle.lock_model.specs.Names.{is_name}
 use Rattle.lock_model.specs.Script.Lines.{words_of}
 use Rattle.lock_model.specs.Limits.{most_operations}
-use Rattle.lock_model.specs.Operations.{gaining_tests, channel_test}
+use Rattle.lock_model.specs.Operations.{acquiring_tests, channel_test}
 use Rattle.lock_model.specs.Script.Faults.{statement_stages, name_tests, tests_in_thread, of_kind, of_sort, has_room}
 use Rattle.lock_model.specs.Script.Learning.{Known, OpenThread, learned}
 use Rattle.lock_model.specs.Script.Statements.{Statement, Operation}
@@ -78,7 +78,7 @@ operation_fault k o t = least_code (tests_in_thread k o t)
 -- the tests of a take or a try whose lock is known
 abbrev pub gain_tests : Known → OpenThread → Kind → Mode → LockNo → List Test
 gain_tests k t kind mode l =
-    of_kind k kind l ∷ has_room most_operations k.operations ∷ gaining_tests k.locks l mode t.held
+    of_kind k kind l ∷ has_room most_operations k.operations ∷ acquiring_tests k.locks l mode t.held
 
 -- the tests that waits and wakes share, where the channel is known
 abbrev pub sort_tests : Known → Bool → ChanNo → List Test

@@ -1,12 +1,11 @@
 -- Sleepers: the channels' queues fit the entries of the history, and each waking takes whom it may. At most one thread
 -- is at work on a channel: between its Sleeps entry and its place on the queue, or between a wake and its entry.
-use Rattle.std.specs.Prelude.{◌≡◌, ◌⊎◌, ℕ, ◌%◌, ◌≤◌, true, List, [], ◌∷◌, Option, Some, None, ⊤}
+use Rattle.std.specs.Prelude.{◌≡◌, ◌⊎◌, ℕ, ◌%◌, ◌≤◌, List, Option, Some, None}
 use Rattle.lock_model.specs.Config.{Config}
-use Rattle.lock_model.specs.Law.{WakingsNameSleepers, sleeps_on}
+use Rattle.lock_model.specs.Law.{WakingsNameSleepers}
 use Rattle.lock_model.specs.Queues.{chan_queue, stands}
 use Rattle.lock_state.specs.State.{State, Wake}
-use Rattle.lock_state.specs.Steps.Items.{IsOnItsWay}
-use Rattle.lock_state.specs.Steps.{Step, Seeks, Looks, TakesItem, GivesItem, Gains, Drops, Stamps, Readies, Unreadies, Enters, Opens, EntersSleepQueue, OpensSleepQueue, Adds, Wakes, Marks, Resumes, Claims, Lends, Shifts, EndsWalk, Admits, Refuses, after}
+use Rattle.lock_state.specs.Steps.{Step, EachStep, AsksOfSleepers}
 use Rattle.lock_state.specs.Facts.Waits.{times_marked}
 unfoldable pub use Rattle.lock_state.specs.Facts.Sleeps.{NamedAreWoken, MarksAreSignals, WokenBySignal, NoSleepIsHalted, SleepersSlept, WokenSlept, ResumedSlept, SleepersWantNothing, SleepersAreUnwoken, AsleepStandThere, AsleepAreOnTheirWay, SleepersInOrder, LatecomersAreLater, SleepersKeepBase, SleepersAreExclusive, UnnotedAreMarked, UnnotedIsAtWork, UnnotedIsFair, NobodyIsPassedOver}
 
@@ -24,10 +23,12 @@ nobody d = None
 
 -- 1. The facts
 
--- a state in which the facts of sleepers hold
+-- A state in which the facts of sleepers hold. An abort ends seven of them, each of which says so: their own facts come
+-- in place of these once aborts and halts are steps
 pub record SleepersFit (at_work : ℕ → Option ℕ) (c : Config) (s : State) : Type 0 where
   -- who was named, and how wakes come
   pub named_are_woken : NamedAreWoken c s.history s.marked s.unstamped s.wait s.woken_from
+  -- (an abort ends the next three)
   pub marks_are_signals : MarksAreSignals s.marked
   pub woken_by_signal : WokenBySignal s.wait
   pub no_sleep_is_halted : NoSleepIsHalted s.noted
@@ -37,13 +38,15 @@ pub record SleepersFit (at_work : ℕ → Option ℕ) (c : Config) (s : State) :
   pub resumed_slept : ResumedSlept s.woken_from s.log
   pub sleepers_want_nothing : SleepersWantNothing s.blocked_on s.wanted
   pub sleepers_are_unwoken : SleepersAreUnwoken s.blocked_on s.woken_from
-  -- who sleeps
+  -- who sleeps (an abort ends both)
   pub asleep_stand_there : AsleepStandThere s.history s.blocked_on
   pub asleep_are_on_their_way :
       AsleepAreOnTheirWay s.history s.blocked_on s.wait s.wanted at_work
   -- the order of the queues
   pub sleepers_in_order : SleepersInOrder s.history s.lists
+  -- (an abort ends this)
   pub latecomers_are_later : LatecomersAreLater s.history s.blocked_on s.lists
+  -- what the queues keep
   pub sleepers_keep_base : SleepersKeepBase s.base s.lists
   pub sleepers_are_exclusive : SleepersAreExclusive s.lists
   -- wakes that are not noted yet
@@ -52,6 +55,7 @@ pub record SleepersFit (at_work : ℕ → Option ℕ) (c : Config) (s : State) :
   pub unnoted_is_fair : UnnotedIsFair c s.history s.unstamped s.lists
   -- the law of the history
   pub wakings_name_sleepers : WakingsNameSleepers c s.history
+  -- (an abort ends this)
   pub nobody_is_passed_over : NobodyIsPassedOver c s.history
 
 -- a thread that is at work on a channel took another off it, and has yet to note that
@@ -69,40 +73,6 @@ IsWithChannel at_work s t d =
 
 -- 2. What a step asks of sleepers, beside what it asks of the state, so that it keeps these facts
 
--- who is added to a channel's queue is at work on the channel, and has no wake to note
-pub record AddsAtWork (at_work : ℕ → Option ℕ) (s : State) (t d : ℕ) : Type 0 where
-  pub works : at_work d ≡ Some t
-  pub noted : s.unstamped t ≡ None
-
--- A Sleeps entry, an add and a wake are by the thread that is at work on the channel. A thread on its way to a channel
--- neither enters a lock's queue nor runs again.
-abbrev pub AsksOfSleepers : (ℕ → Option ℕ) → State → Step → Type 0
-AsksOfSleepers at_work s (Seeks t l by_try) = ⊤
-AsksOfSleepers at_work s (Looks t l in_round) = ⊤
-AsksOfSleepers at_work s (TakesItem t i) = ⊤
-AsksOfSleepers at_work s (GivesItem t i) = ⊤
-AsksOfSleepers at_work s (Gains t l mode by_try) = ⊤
-AsksOfSleepers at_work s (Drops t l mode) = ⊤
-AsksOfSleepers at_work s (Stamps t e) = (d : ℕ) → sleeps_on e d ≡ true → at_work d ≡ Some t
-AsksOfSleepers at_work s (Readies t q) = ⊤
-AsksOfSleepers at_work s (Unreadies t q) = IsOnItsWay s t → ⊥
-AsksOfSleepers at_work s (Enters t l mode x) = IsOnItsWay s t → ⊥
-AsksOfSleepers at_work s (Opens t l mode) = ⊤
-AsksOfSleepers at_work s (EntersSleepQueue t l mode x) = IsOnItsWay s t → ⊥
-AsksOfSleepers at_work s (OpensSleepQueue t l mode) = ⊤
-AsksOfSleepers at_work s (Adds t d x) = AddsAtWork at_work s t d
-AsksOfSleepers at_work s (Wakes t d all) = at_work d ≡ Some t
-AsksOfSleepers at_work s (Marks t m ms) = ⊤
-AsksOfSleepers at_work s (Resumes t q cause) = ⊤
-AsksOfSleepers at_work s (Claims t l h by_try) = ⊤
-AsksOfSleepers at_work s (Lends t l o h) = ⊤
-AsksOfSleepers at_work s (Shifts t o l) = ⊤
-AsksOfSleepers at_work s (EndsWalk t) = ⊤
-AsksOfSleepers at_work s (Admits t l) = ⊤
-AsksOfSleepers at_work s (Refuses t l k) = ⊤
-
 -- what each step of a list asks where it comes
 abbrev pub AsksOfSleepersAll : (ℕ → Option ℕ) → Config → State → List Step → Type 0
-AsksOfSleepersAll at_work c s [] = ⊤
-AsksOfSleepersAll at_work c s (step ∷ steps) =
-    AsksOfSleepers at_work s step × AsksOfSleepersAll at_work c (after c s step) steps
+AsksOfSleepersAll at_work c s steps = EachStep (AsksOfSleepers at_work) c s steps

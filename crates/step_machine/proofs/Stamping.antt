@@ -1,5 +1,5 @@
 -- An entry of the history is made, with what it says of a table, of a thread's base priority, of its wait, or of its being cut.
-use Rattle.std.proofs.Common.{◌≡◌, ℕ, ◌<◌, ◌≤◌, Bool, ◌||◌, List, [], ◌∷◌, ◌++◌, length, reverse, slice_get, slice_set, Option, Some, option_map, refl, sym, ap, subst, ◌∙◌}
+use Rattle.std.proofs.Common.{◌≡◌, ℕ, ◌<◌, ◌≤◌, Bool, ◌||◌, List, [], ◌∷◌, ◌++◌, length, reverse, slice_get, slice_set, Option, Some, None, option_map, refl, sym, ap, subst, ◌∙◌}
 use Rattle.std.proofs.lemmas.List.{reverse-append, length-reverse}
 use Rattle.std.specs.Box.{with_value}
 use Rattle.lock_state.specs.Facts.{Lawful, NextIsNew}
@@ -18,12 +18,12 @@ use Rattle.lock_model.specs.declared.event.Event.{Event}
 use Rattle.lock_model.specs.declared.event.Event.TheVariants.{Base}
 use Rattle.lock_laws.proofs.Kit.{put_same, put_other}
 use Rattle.thread_records.specs.Loans.{loans_for}
-use Rattle.thread_records.specs.Records.{Record, with_base}
+use Rattle.thread_records.specs.Records.{Record, with_base, with_given_base}
 use Rattle.lock_objects.specs.Represents.{RepresentsQueues, RepresentsSleepers, RepresentsRecord, queue_in, sleepers_in, record_in, columns_of}
 use Rattle.lock_objects.proofs.Records.{with_other_base, none_beyond}
 use Rattle.step_machine.specs.declared.machine.Machine.{Machine}
 use Rattle.step_machine.specs.declared.thread.Thread.{Thread}
-use Rattle.step_machine.specs.Noted.{IsNoted, record_behind}
+use Rattle.step_machine.specs.Noted.{IsNoted}
 use Rattle.step_machine.specs.Represents.{Represents, RepresentsWords, RepresentsThread, RepresentsThreads, RepresentsOrders, thread_in, thread_of}
 use Rattle.step_machine.specs.Steps.{progress_of}
 use Rattle.step_machine.proofs.Kit.{OthersStay, thread_changed, record_of, aside_stays}
@@ -34,7 +34,7 @@ use Rattle.step_machine.proofs.Kit.{OthersStay, thread_changed, record_of, aside
 abbrev pub noted : Thread → Option ChanNo → Bool → Record → Thread
 noted th waits_on cut r = record th { «record» = with_value th.record r; waits_on = waits_on; cut = cut }
 
-pub is_noted : (e : Event) (t i : ℕ) (ths : List Thread) (th : Thread) (w : Option ChanNo) (b : Bool) (r : Record) → i ≡ t → slice_get ths t ≡ Some th → option_map (λ d. d.0) w ≡ fell_asleep (of_sleep e) → b ≡ (is_reversal e || th.cut) → r ≡ record_behind (new_base e) th.record.value
+pub is_noted : (e : Event) (t i : ℕ) (ths : List Thread) (th : Thread) (w : Option ChanNo) (b : Bool) (r : Record) → i ≡ t → slice_get ths t ≡ Some th → option_map (λ d. d.0) w ≡ fell_asleep (of_sleep e) → b ≡ (is_reversal e || th.cut) → r ≡ with_given_base (new_base e) th.record.value
     → IsNoted e t ths (slice_set ths i (noted th w b r))
 is_noted e t i ths th w b r at was waits cut new = record {
   before = th;
@@ -47,13 +47,13 @@ is_noted e t i ths th w b r at was waits cut new = record {
   others = refl;
 }
 
--- an event that sets a base sets that of the record, and any other event leaves the record as it is
-pub base_set : {e : Event} (p : Prio) (r : Record) → e ≡ Base p → with_base p.0 r ≡ record_behind (new_base e) r
-base_set p r is = ap (λ x. record_behind (new_base x) r) (sym is)
+-- an event that gives a base sets that of the record, and any other event leaves the record as it is
+pub base_set : (e : Event) (o : Option Prio) (p : Prio) (r : Record) → option_map (λ q. q.0) o ≡ new_base e → o ≡ Some p → with_base p.0 r ≡ with_given_base (new_base e) r
+base_set e o p r given is = ap (λ b. with_given_base b r) (sym (ap (option_map (λ q. q.0)) is) ∙ given)
 
-pub no_base_set : (e : Event) (r : Record) → ((p : Prio) → e ≡ Base p → ⊥) → r ≡ record_behind (new_base e) r
-no_base_set (Base p) r none = absurd (none p refl)
-no_base_set e r none = refl
+pub no_base_set : (e : Event) (o : Option Prio) (r : Record) → option_map (λ q. q.0) o ≡ new_base e → ((p : Prio) → o ≡ Some p → ⊥) → r ≡ with_given_base (new_base e) r
+no_base_set e None r given none = ap (λ b. with_given_base b r) given
+no_base_set e (Some p) r given none = absurd (none p refl)
 
 module _ (c : Config) (s : State) (t : ℕ) where
   others : (e : Event) → OthersStay s (after_stamp c s t e) t
@@ -66,7 +66,7 @@ module _ (c : Config) (s : State) (t : ℕ) where
   others e u ne = λ i. record (thread_in s u) { chan = waits_on (put_other s.log t (entry_of s t e ∷ s.log t) u (λ e. ne (sym e)) i); cut = has_reversal (put_other s.log t (entry_of s t e ∷ s.log t) u (λ e. ne (sym e)) i) }
 
   -- the record behind an event shows the columns behind it
-  record_noted : (e : Event) (b r : Record) → Lawful c s → RepresentsRecord b (record_in s t) → r ≡ record_behind (new_base e) b → RepresentsRecord r (record_in (after_stamp c s t e) t)
+  record_noted : (e : Event) (b r : Record) → Lawful c s → RepresentsRecord b (record_in s t) → r ≡ with_given_base (new_base e) b → RepresentsRecord r (record_in (after_stamp c s t e) t)
   unfolding after_stamp
   record_noted (Base p) b r lawful old is =
       let rec = with_other_base c p.0 (none_beyond c s t lawful) old in

@@ -23,7 +23,6 @@ use Rattle.lock_objects.specs.Marked.{places_of, AreOfKind}
 use Rattle.lock_objects.specs.declared.marked.Marked.{Marked}
 use Rattle.lock_objects.specs.Represents.{RecordColumns, RepresentsQueues, RepresentsSleepers, queue_in, sleepers_in, record_in, columns_of, mark_of, walk_of, wait_of}
 use Rattle.step_machine.specs.declared.thread.Thread.{Thread}
-use Rattle.lock_objects.specs.declared.wait.Wait.TheVariants as wait
 use Rattle.step_machine.specs.declared.machine.Machine.{Machine}
 
 -- 1. Words

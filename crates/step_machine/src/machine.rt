@@ -15,7 +15,7 @@ ghost use Rattle.step_machine.specs.Steps.{ChangesProgress, KeepsBooks};
 use crate::thread::Thread;
 use chain_table::Chain;
 use lock_history::{Log, Tables};
-use lock_model::{Op, Plan, ThreadDecl, ThreadNo};
+use lock_model::{OfLocks, Op, Plan, ThreadDecl, ThreadNo};
 use sleep_queues::SleepQueue;
 use std::alloc::{AllocError, Global};
 use turnstile_core::Turnstile;
@@ -90,7 +90,16 @@ fn next_at(ops: &[Op], n: usize) -> usize
 fn is_endtry(op: &Op) -> bool
     ensures { result ≡ is_endtry op.now }
 {
-    matches!(op, Op::EndTry)
+    match op.of_locks() {
+        OfLocks::ClosesBlock => true,
+        OfLocks::NoLock
+        | OfLocks::Acquires { .. }
+        | OfLocks::Releases { .. }
+        | OfLocks::EditsAt { .. }
+        | OfLocks::ReadsAt { .. }
+        | OfLocks::SleepsOn { .. }
+        | OfLocks::WakesOn { .. } => false,
+    }
 }
 
 // The threads of a plan at their begin.

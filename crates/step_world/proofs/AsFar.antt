@@ -84,41 +84,13 @@ cut_behind c s t e = ap has_reversal (put_same s.log t (entry_of s t e ∷ s.log
 
 -- a running thread's entry is not that it goes to sleep
 pub runs_on : (c : Config) (s : State) (t : ℕ) (e : Event) → MayStamp c s t e → s.wait t ≡ Running → fell_asleep (of_sleep e) ≡ None
-runs_on c s t (event.Locked l mode) g w = refl
-runs_on c s t (event.Tried l mode) g w = refl
-runs_on c s t (event.Busy l seen) g w = refl
-runs_on c s t (event.Unlocked l mode) g w = refl
-runs_on c s t (event.Set l key value) g w = refl
-runs_on c s t (event.Added l key amount) g w = refl
-runs_on c s t (event.Got l key found) g w = refl
-runs_on c s t (event.Base prio) g w = refl
-runs_on c s t (event.Shown base effective) g w = refl
 runs_on c s t (event.Sleeps d) g w = absurd (let z : Running ≡ Queued = sym w ∙ g.asks.queued in cc)
-runs_on c s t (event.Woke d) g w = refl
-runs_on c s t (event.HaltedChan d) g w = refl
-runs_on c s t (event.HaltedLock l) g w = refl
-runs_on c s t (event.WokeOne d woken) g w = refl
-runs_on c s t (event.WokeAll d woken) g w = refl
-runs_on c s t (event.Reversed l held) g w = refl
+runs_on c s t other g w = refl
 
 -- and where it has nothing to note it isn't the refusal of a take
 none_refused : (c : Config) (s : State) (t : ℕ) (e : Event) → MayStamp c s t e → s.noted t ≡ None → is_reversal e ≡ false
-none_refused c s t (event.Locked l mode) g none = refl
-none_refused c s t (event.Tried l mode) g none = refl
-none_refused c s t (event.Busy l seen) g none = refl
-none_refused c s t (event.Unlocked l mode) g none = refl
-none_refused c s t (event.Set l key value) g none = refl
-none_refused c s t (event.Added l key amount) g none = refl
-none_refused c s t (event.Got l key found) g none = refl
-none_refused c s t (event.Base prio) g none = refl
-none_refused c s t (event.Shown base effective) g none = refl
-none_refused c s t (event.Sleeps d) g none = refl
-none_refused c s t (event.Woke d) g none = refl
-none_refused c s t (event.HaltedChan d) g none = refl
-none_refused c s t (event.HaltedLock l) g none = refl
-none_refused c s t (event.WokeOne d woken) g none = refl
-none_refused c s t (event.WokeAll d woken) g none = refl
 none_refused c s t (event.Reversed l held) g none = absurd (none-some (OrderRefused l.0 held.0) (sym none ∙ g.asks))
+none_refused c s t other g none = refl
 
 -- so it is awake
 pub awake_behind : (c : Config) (s : State) (t : ℕ) (e : Event) → MayStamp c s t e → s.wait t ≡ Running → s.noted t ≡ None → was_cut s t ≡ false → IsAwake (after c s (Stamps t e)) t

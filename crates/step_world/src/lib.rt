@@ -4,7 +4,7 @@
 //!
 //! A turn is the first row that fits of a table (`lock_state`'s `specs/Run.antt`), and a row is a list of steps: a
 //! thread first makes its lending walk, then wakes those that it took off a queue, then waits, resumes, or makes its
-//! next operation. `lock_laws` shows that each step may be made and keeps the state lawful. `step_machine` shows
+//! next operation. `run_laws` shows that each step may be made and keeps the state lawful. `step_machine` shows
 //! that each method of the machine is a step, and this crate that a turn calls the methods of its row.
 //!
 //! A take's first turn checks the order of its lock in the graph of `witness_orders`. Where it is refused, its thread is

@@ -2,7 +2,9 @@
 use crate::briefs::words_of;
 use chart_command::{Asked, Form};
 use command_line::Command;
+use std::env::{Env, FillError};
 use std::test::Fail;
+use top_ends::given_words;
 
 const CHECK: Command = Command::Check;
 
@@ -298,4 +300,54 @@ fn words_of_lockchart(rt: HostRuntime) -> Result<(), Fail> {
         assert!(rt; is_helped, "{line}");
     }
     Ok(())
+}
+
+// The words that the system gives, of which the first is the program's name.
+#[derive(Drop)]
+struct Given {
+    words: &'static [&'static str],
+}
+
+impl Env for Given {
+    fn arg(&self, i: usize, buf: &mut [u8]) -> Result<usize, FillError> {
+        let Some(word) = self.words.get(i) else {
+            return Err(FillError::NotPresent);
+        };
+        let bytes = word.as_bytes();
+        if buf.len() < bytes.len() {
+            return Err(FillError::TooLong);
+        }
+        buf[..bytes.len()].copy_from_slice(bytes);
+        Ok(bytes.len())
+    }
+
+    fn var(&self, _name: &str, _buf: &mut [u8]) -> Result<usize, FillError> {
+        Err(FillError::NotPresent)
+    }
+
+    fn var_at(&self, _i: usize, _buf: &mut [u8]) -> Result<usize, FillError> {
+        Err(FillError::NotPresent)
+    }
+}
+
+const GIVEN: &[&[&str]] = &[
+    &[],
+    &["lockrun"],
+    &["lockrun", "step"],
+    &["lockrun", "", "step", "step", "--turns", "3", "lockrun"],
+];
+
+#[test]
+fn words_of_the_system(rt: HostRuntime) {
+    for words in GIVEN {
+        let given = given_words(&(Given { words }, rt.alloc()));
+        let is_all = given.is_ok_and(|given| {
+            given.len() == words.len().saturating_sub(1)
+                && given
+                    .iter()
+                    .zip(words.iter().skip(1))
+                    .all(|(word, wanted)| word.as_str() == *wanted)
+        });
+        assert!(rt; is_all, "of {} words", words.len());
+    }
 }

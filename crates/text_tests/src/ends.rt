@@ -1,6 +1,7 @@
 //! Texts read and written whole, calls that fail, limits, and the adapters over std.
 use lock_io::{
-    Failed, MemSink, MemSource, ReadAllError, Sink, Source, StdSink, StdSource, read_all, write_all,
+    CopiedSink, Failed, MemSink, MemSource, ReadAllError, Sink, Source, StdSink, StdSource,
+    read_all, write_all,
 };
 use std::io;
 use std::io::{ErrorKind, Read, Write};
@@ -38,6 +39,13 @@ fn ends_in_memory(rt: HostRuntime) -> Result<(), Fail> {
             "with room for {room}"
         );
         assert!(rt; sink.bytes() == *held, "with room for {room}");
+        let sink = MemSink::new(rt.alloc(), *room, 4, vec![in rt.alloc(); *fails_at]?)?;
+        let mut copied = CopiedSink::new(rt.alloc(), sink);
+        assert!(rt;
+            write_all(&mut copied, b"0 t lock m") == *answer,
+            "copied, with room for {room}"
+        );
+        assert!(rt; copied.copy() == *held, "copied, with room for {room}");
     }
     Ok(())
 }

@@ -4,7 +4,8 @@
 //!
 //! - `briefs`: scripts and words in brief.
 //! - `ends`: sources and sinks, in memory and over std (`lock_io`).
-//! - `commands`: the command lines of both programs (`command_line`, `chart_command`).
+//! - `commands`: the words that the system gives (`top_ends`), and the command lines of both programs (`command_line`,
+//!   `chart_command`).
 //! - `faults`: the first fault of a script, and what its code means (`script_read`).
 //! - `plans`: the plan of a script, and its canonical text (`script_read`).
 //! - `books`: logs, histories, tables, and the printed text (`lock_history`).

@@ -1,6 +1,7 @@
 //! What a program says on standard error: the sentence of each status.
 use complaints::{Program, Status, complaint, fixed_complaint, say, speaker};
-use std::alloc::Global;
+use lock_io::MemSink;
+use std::alloc::{AllocError, Global};
 use std::test::Fail;
 
 const LOCKRUN: Program = Program {
@@ -142,11 +143,11 @@ const SAID: &[(Status, &str, &str)] = &[
     ),
 ];
 
-// What is heard on the stream.
-fn heard(alloc: Global, status: Status, text: &str) -> Vec<u8> {
-    let mut out = Vec::new(alloc);
-    say(alloc, &mut out, LOCKRUN, status, text.as_bytes());
-    out
+// Whether just the line is heard on a stream that takes a few bytes at a time.
+fn is_heard(alloc: Global, status: Status, text: &str, line: &str) -> Result<bool, AllocError> {
+    let mut out = MemSink::new(alloc, 1000, 7, Vec::new(alloc))?;
+    let said = say(alloc, &mut out, LOCKRUN, status, text.as_bytes());
+    Ok(said == Ok(()) && out.bytes() == line.as_bytes())
 }
 
 #[test]
@@ -154,10 +155,7 @@ fn sentences(rt: HostRuntime) -> Result<(), Fail> {
     for (status, text, line) in SAID {
         let said = complaint(rt.alloc(), LOCKRUN, *status, text.as_bytes())?;
         assert!(rt; said.as_slice() == line.as_bytes(), "{line}");
-        assert!(rt;
-            heard(rt.alloc(), *status, text).as_slice() == line.as_bytes(),
-            "{line}"
-        );
+        assert!(rt; is_heard(rt.alloc(), *status, text, line)?, "{line}");
         if let Some(fixed) = fixed_complaint(LOCKRUN, *status) {
             let whole = format!(in rt.alloc(); "{}: {fixed}\n", speaker(LOCKRUN, *status))?;
             assert!(rt; whole.as_str() == *line, "{line}");

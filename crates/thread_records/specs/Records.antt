@@ -33,6 +33,11 @@ made t k =
 abbrev pub with_base : ℕ → Record → Record
 with_base k r = record r { base = k; effective = least_with k (prios r.loans) }
 
+-- with another base, where one is given
+abbrev pub with_given_base : Option ℕ → Record → Record
+with_given_base None r = r
+with_given_base (Some k) r = with_base k r
+
 -- with other loans
 abbrev pub with_loans : List Terms → Record → Record
 with_loans ts r = record r { loans = ts; effective = least_with r.base (prios ts) }

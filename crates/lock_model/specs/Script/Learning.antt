@@ -3,7 +3,7 @@ use Rattle.std.specs.Prelude.{ℕ, suc, Bool, true, false, if◌then◌else◌, 
 use Rattle.std.specs.List.{list_any, position_or_len}
 use Rattle.std.specs.Map.{lookup}
 use Rattle.lock_model.specs.Names.{is_name}
-use Rattle.lock_model.specs.Operations.{held_behind}
+use Rattle.lock_model.specs.Operations.{of_locks, held_behind}
 use Rattle.lock_model.specs.Script.Lines.{is_same, number_of, priority_of}
 use Rattle.lock_model.specs.Script.Statements.{Statement, Declares, DeclaresChan, Begins, Ends, Schedules, IsDone, Operates, EndsTry, Operation}
 use Rattle.lock_model.specs.Script.Statements as say
@@ -15,6 +15,8 @@ use Rattle.lock_model.specs.declared.plan.LockDecl.{LockDecl}
 use Rattle.lock_model.specs.declared.plan.ChanDecl.{ChanDecl}
 use Rattle.lock_model.specs.declared.plan.ThreadDecl.{ThreadDecl}
 use Rattle.lock_model.specs.declared.plan.Op.{Op}
+use Rattle.lock_model.specs.declared.plan.OfLocks.{OfLocks}
+use Rattle.lock_model.specs.declared.plan.OfLocks.TheVariants.{NoLock, Acquires, ClosesBlock, Releases, EditsAt, ReadsAt, SleepsOn, WakesOn}
 use Rattle.lock_model.specs.declared.plan.Op.TheVariants.{Take, Try, EndTry, Release, Set, Add, Get, Base, Show, Sleep, WakeOne, WakeAll}
 use Rattle.lock_model.specs.declared.event.Held.{Held}
 use Rattle.lock_model.specs.declared.numbers.ChanNo.{ChanNo}
@@ -179,20 +181,21 @@ with_end k (Some t) = record k {
 }
 
 -- the blocks that are open behind an operation: a try opens one
+abbrev pub blocks_after : OpenThread → OfLocks → List Block
+blocks_after t NoLock = t.blocks
+blocks_after t (Acquires h) =
+    if h.by_try
+    then record { lock = h.l; mode = h.mode; opened_at = length t.ops; before = t.held } ∷ t.blocks
+    else t.blocks
+blocks_after t ClosesBlock = t.blocks
+blocks_after t (Releases l) = t.blocks
+blocks_after t (EditsAt l key) = t.blocks
+blocks_after t (ReadsAt l key) = t.blocks
+blocks_after t (SleepsOn c) = t.blocks
+blocks_after t (WakesOn c) = t.blocks
+
 abbrev pub blocks_behind : OpenThread → Op → List Block
-blocks_behind t (Take l mode) = t.blocks
-blocks_behind t (Try l mode past) =
-    record { lock = l; mode = mode; opened_at = length t.ops; before = t.held } ∷ t.blocks
-blocks_behind t EndTry = t.blocks
-blocks_behind t (Release l) = t.blocks
-blocks_behind t (Set l key value) = t.blocks
-blocks_behind t (Add l key amount) = t.blocks
-blocks_behind t (Get l key) = t.blocks
-blocks_behind t (Base prio) = t.blocks
-blocks_behind t Show = t.blocks
-blocks_behind t (Sleep c) = t.blocks
-blocks_behind t (WakeOne c) = t.blocks
-blocks_behind t (WakeAll c) = t.blocks
+blocks_behind t op = blocks_after t (of_locks op)
 
 -- the open thread has made an operation
 abbrev pub with_operation : Known → Option OpenThread → Option Op → Known

@@ -100,11 +100,21 @@ form_of word = lookup (is_same word) forms
 -- what a form says with these words behind it
 abbrev pub said : Form → List (List ℕ) → Option Statement
 said (Alone s) [] = Some s
+said (Alone s) (a ∷ more) = None
+said (WithOne f) [] = None
 said (WithOne f) (a ∷ []) = Some (f a)
+said (WithOne f) (a ∷ b ∷ more) = None
+said (WithTwo f) [] = None
+said (WithTwo f) (a ∷ []) = None
 said (WithTwo f) (a ∷ b ∷ []) = Some (f a b)
+said (WithTwo f) (a ∷ b ∷ c ∷ more) = None
+said (WithThree f) [] = None
+said (WithThree f) (a ∷ []) = None
+said (WithThree f) (a ∷ b ∷ []) = None
 said (WithThree f) (a ∷ b ∷ c ∷ []) = Some (f a b c)
+said (WithThree f) (a ∷ b ∷ c ∷ d ∷ more) = None
+said (WithSome f) [] = None
 said (WithSome f) (a ∷ more) = Some (f (a ∷ more))
-said form words = None
 
 abbrev pub said_by : List (List ℕ) → Option Statement
 said_by [] = None

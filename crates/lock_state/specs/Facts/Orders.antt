@@ -10,7 +10,7 @@ use Rattle.lock_state.specs.State.{HeldLock, Wait, Woken, Note, SleepHalted}
 use Rattle.lock_model.specs.declared.plan.Mode.{Mode}
 use Rattle.lock_model.specs.declared.plan.QueueName.{QueueName}
 use Rattle.lock_model.specs.declared.event.Event.{Event}
-use Rattle.lock_model.specs.declared.event.Event.TheVariants.{Locked, Tried, Busy, Unlocked, Set, Added, Got, Base, Shown, Sleeps, Woke, HaltedChan, HaltedLock, WokeOne, WokeAll, Reversed}
+use Rattle.lock_model.specs.Events.{OfEnd, NoEnd, EndsTakeOf, EndsWaitOn, facets}
 use Rattle.lock_model.specs.declared.event.Entry.{Entry}
 
 -- 1. Locks that are held and one that is taken
@@ -73,24 +73,15 @@ HaltsAreOrdered c noted held edges =
 
 -- 3. What is noted
 
--- an entry that ends a take: each lock of which its thread has an open section leads to the lock of the take
+-- where a take ends, each lock of which its thread has an open section leads to the lock of the take
+abbrev pub EndIsInGraph : Config → List (ℕ × ℕ) → OfEnd → List Entry → ℕ → Type 0
+EndIsInGraph c edges NoEnd es t = ⊤
+EndIsInGraph c edges (EndsTakeOf l) es t = LeadTo c edges (open_in c es t) l
+EndIsInGraph c edges (EndsWaitOn d) es t = ⊤
+
+-- so it is of an entry that ends a take
 abbrev pub TakeIsInGraph : Config → List (ℕ × ℕ) → Event → List Entry → ℕ → Type 0
-TakeIsInGraph c edges (Locked l mode) es t = LeadTo c edges (open_in c es t) l.0
-TakeIsInGraph c edges (Tried l mode) es t = ⊤
-TakeIsInGraph c edges (Busy l seen) es t = ⊤
-TakeIsInGraph c edges (Unlocked l mode) es t = ⊤
-TakeIsInGraph c edges (Set l k v) es t = ⊤
-TakeIsInGraph c edges (Added l k n) es t = ⊤
-TakeIsInGraph c edges (Got l k found) es t = ⊤
-TakeIsInGraph c edges (Base p) es t = ⊤
-TakeIsInGraph c edges (Shown b e) es t = ⊤
-TakeIsInGraph c edges (Sleeps d) es t = ⊤
-TakeIsInGraph c edges (Woke d) es t = ⊤
-TakeIsInGraph c edges (HaltedChan d) es t = ⊤
-TakeIsInGraph c edges (HaltedLock l) es t = LeadTo c edges (open_in c es t) l.0
-TakeIsInGraph c edges (WokeOne d woken) es t = ⊤
-TakeIsInGraph c edges (WokeAll d woken) es t = ⊤
-TakeIsInGraph c edges (Reversed l held) es t = ⊤
+TakeIsInGraph c edges e es t = EndIsInGraph c edges (facets e).end es t
 
 -- each take of a history is in the graph
 unfoldable pub TakesAreInGraph : Config → List (ℕ × ℕ) → List Entry → Type 0

@@ -48,7 +48,9 @@ abbrev pub AreSignals : List Mark → Type 0
 AreSignals [] = ⊤
 AreSignals (m ∷ ms) = (m.cause ≡ BySignal) × AreSignals ms
 
--- no sleeper is aborted. Aborts and halts are no steps yet; their own facts come in place of these three
+-- No sleeper is aborted. Aborts and halts are no steps yet; their own facts come in place of these three, and of the
+-- four facts further down of which a line says that an abort ends them: a thread that was aborted off a channel sleeps
+-- in the history, and stands there no more
 unfoldable pub MarksAreSignals : (ℕ → List Mark) → Type 0
 MarksAreSignals marked = (t : ℕ) → AreSignals (marked t)
 
@@ -88,13 +90,15 @@ SleepersAreUnwoken blocked_on woken_from =
 
 -- 3. Who sleeps in the history
 
--- a thread that sleeps on a channel stands on no other queue
+-- A thread that sleeps on a channel stands on no other queue. An abort ends this: an aborted sleeper sleeps in
+-- the history while it stands on the queue of the lock that it takes back
 unfoldable pub AsleepStandThere : List Entry → (ℕ → Option QueueName) → Type 0
 AsleepStandThere history blocked_on =
     (t d : ℕ) (q : QueueName)
     → is_asleep history d t ≡ true → blocked_on t ≡ Some q → q ≡ chan_queue d
 
--- where it stands on none it is on its way to the channel's, and at work on the channel
+-- Where it stands on none it is on its way to the channel's, and at work on the channel. An abort ends this: an aborted
+-- sleeper stands on none, and is woken
 unfoldable pub AsleepAreOnTheirWay : List Entry → (ℕ → Option QueueName) → (ℕ → Wait)
     → (ℕ → Option ℕ) → (ℕ → Option ℕ) → Type 0
 AsleepAreOnTheirWay history blocked_on wait wanted at_work =
@@ -113,7 +117,8 @@ InOrder es (w ∷ ws) =
 unfoldable pub SleepersInOrder : List Entry → (QueueName → Lists) → Type 0
 SleepersInOrder history lists = (d : ℕ) → InOrder history (lists (chan_queue d)).exclusive
 
--- who is on its way to the channel comes last
+-- Who is on its way to the channel comes last. An abort ends this: an aborted sleeper sleeps in the history and stands
+-- on no queue, while others go to sleep behind it
 unfoldable pub LatecomersAreLater : List Entry → (ℕ → Option QueueName) → (QueueName → Lists)
     → Type 0
 LatecomersAreLater history blocked_on lists =
@@ -159,6 +164,7 @@ UnnotedIsFair c history unstamped lists =
     (t : ℕ) (w : Wake) → t < c.threads → unstamped t ≡ Some w
     → LeavesNobodyBefore c history w.all w.taken (lists (chan_queue w.chan)).exclusive
 
--- 6. Nobody is passed over by a waking: as with the aborts, until there are halts
+-- 6. Nobody is passed over by a waking. An abort ends this: a waking passes over an aborted sleeper, until its halt is
+-- noted
 unfoldable pub NobodyIsPassedOver : Config → List Entry → Type 0
 NobodyIsPassedOver c history = (t : ℕ) → is_passed_over c history t ≡ false

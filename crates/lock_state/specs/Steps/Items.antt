@@ -28,18 +28,34 @@ abbrev pub item_with : State → Item → Option ℕ
 item_with s =
     out_with s.turnstile_chain_with s.sleep_chain_with s.record_with s.cell_with s.graph_with
 
--- whether a thread may have both out: one chain and one record, or else one cell alone, or the class graph alone
+-- Whether a thread may have both out: one chain and one record, or else one cell alone, or the class graph alone. Each
+-- pair is listed, so that an item of another sort must be decided here
 abbrev pub go_together : Item → Item → Bool
 go_together (TurnstileChain i) (TurnstileChain j) = i == j
-go_together (SleepChain i) (SleepChain j) = i == j
-go_together (RecordOf t) (RecordOf u) = t == u
-go_together (CellOf l k) (CellOf m j) = (l == m) && (k == j)
-go_together ClassGraph ClassGraph = true
+go_together (TurnstileChain i) (SleepChain j) = false
 go_together (TurnstileChain i) (RecordOf t) = true
+go_together (TurnstileChain i) (CellOf l k) = false
+go_together (TurnstileChain i) ClassGraph = false
+go_together (SleepChain i) (TurnstileChain j) = false
+go_together (SleepChain i) (SleepChain j) = i == j
 go_together (SleepChain i) (RecordOf t) = true
+go_together (SleepChain i) (CellOf l k) = false
+go_together (SleepChain i) ClassGraph = false
 go_together (RecordOf t) (TurnstileChain i) = true
 go_together (RecordOf t) (SleepChain i) = true
-go_together other another = false
+go_together (RecordOf t) (RecordOf u) = t == u
+go_together (RecordOf t) (CellOf l k) = false
+go_together (RecordOf t) ClassGraph = false
+go_together (CellOf l k) (TurnstileChain i) = false
+go_together (CellOf l k) (SleepChain i) = false
+go_together (CellOf l k) (RecordOf t) = false
+go_together (CellOf l k) (CellOf m j) = (l == m) && (k == j)
+go_together (CellOf l k) ClassGraph = false
+go_together ClassGraph (TurnstileChain i) = false
+go_together ClassGraph (SleepChain i) = false
+go_together ClassGraph (RecordOf t) = false
+go_together ClassGraph (CellOf l k) = false
+go_together ClassGraph ClassGraph = true
 
 -- the class graph is taken only by a thread that is on no queue, in no marked list and not woken
 abbrev pub MayCheckOrders : State → ℕ → Item → Type 0

@@ -1,19 +1,20 @@
 -- Steps of one thread on lock words, tickets and its own wait word: what each asks of the state (May..), and what it
 -- makes of it (after_..). Only the named columns change.
-use Rattle.std.specs.Prelude.{◌≡◌, ◌≢◌, ◌⊎◌, ℕ, suc, ◌+◌, ◌^◌, ◌<◌, Bool, true, false, ◌==◌, if◌then◌else◌, List, [], ◌∷◌, Option, Some, None, ⊤}
+use Rattle.std.specs.Prelude.{◌≡◌, ◌≢◌, ◌⊎◌, ℕ, suc, ◌+◌, ◌^◌, ◌<◌, Bool, true, false, ◌==◌, if◌then◌else◌, List, [], ◌∷◌, Option, Some, None, ⊤, is_some, ◌++◌}
 use Rattle.lock_model.specs.Counts.{least}
 use Rattle.lock_model.specs.Words.{Word, word_of, admits, is_plain, gained, dropped, is_drop}
 use Rattle.lock_model.specs.History.{added, open_in, left_in}
 use Rattle.lock_model.specs.Config.{Config}
-use Rattle.lock_model.specs.Events.{of_sleep, is_falling}
+use Rattle.lock_model.specs.Queues.{lock_queue, chan_queue}
+use Rattle.lock_model.specs.Events.{OfEnd, NoEnd, EndsTakeOf, EndsWaitOn, OfSection, NoSection, BeginsIn, EndsFrom, LeftFor, TakenBack, OfPrio, NoPrio, NewBase, ShowsPrios, OfTake, NoTake, GainedBy, FoundBusy, HaltedFor, RefusedBy, OfSleep, NoSleep, FallsAsleep, WakesUp, IsHalted, IsHaltedAtLock, WakesOne, WakesAll, facets, new_base, of_sleep, is_falling, is_waking_of}
 use Rattle.lock_state.specs.State.{State, Wait, Running, Queued, Woken, OrderRefused, SleepHalted, Loan, Wake, Round, HeldLock, put, put_at}
 use Rattle.lock_model.specs.Holds.{Hold, NotHeld, Holds}
 use Rattle.lock_model.specs.declared.plan.Kind.TheVariants.{Mtx}
-use Rattle.lock_model.specs.declared.plan.QueueName.TheVariants.{Lock, Chan}
 use Rattle.lock_model.specs.declared.plan.Mode.{Mode}
 use Rattle.lock_model.specs.declared.plan.Mode.TheVariants.{Excl}
 use Rattle.lock_model.specs.declared.event.Event.{Event}
-use Rattle.lock_model.specs.declared.event.Event.TheVariants.{Locked, Tried, Busy, Unlocked, Set, Added, Got, Base, Shown, Sleeps, Woke, HaltedChan, HaltedLock, WokeOne, WokeAll, Reversed}
+use Rattle.lock_model.specs.declared.event.OfTable.{OfTable}
+use Rattle.lock_model.specs.declared.event.OfTable.TheVariants.{NoTable, SetsTo, AddsTo, Reads}
 use Rattle.lock_model.specs.declared.event.Entry.{Entry}
 
 -- whether a wait word says Woken
@@ -22,6 +23,7 @@ is_woken Running = false
 is_woken Queued = false
 is_woken (Woken q cause) = true
 
+-- whether an event begins its thread's sleep on a channel
 abbrev pub is_sleep : Event → Bool
 is_sleep e = is_falling (of_sleep e)
 
@@ -39,6 +41,12 @@ pub record IsActing (s : State) (t : ℕ) : Type 0 where
 abbrev pub AllOpen : Config → State → ℕ → Type 0
 AllOpen c s t =
     (l : ℕ) (mode : Mode) → s.held t l ≡ Holds mode → open_in c s.history t l ≡ Holds mode
+
+-- The section of each held lock but one is open. Of the others whoever waits for them can say who has an open section
+-- there (this project's rule: a halt is explained by what the logs say)
+abbrev pub OthersOpen : Config → State → ℕ → ℕ → Type 0
+OthersOpen c s t l =
+    (k : ℕ) (mode : Mode) → s.held t k ≡ Holds mode → k ≢ l → open_in c s.history t k ≡ Holds mode
 
 -- the lock is the one that the thread gained last, by a try or by a blocking call
 pub record IsGainedLast (s : State) (t l : ℕ) (by_try : Bool) : Type 0 where
@@ -62,9 +70,21 @@ pub record MaySeek (c : Config) (s : State) (t l : ℕ) (by_try : Bool) : Type 0
 abbrev pub round_of : ℕ → Bool → Round
 round_of l by_try = record { lock = l; by_try = by_try; in_chain = false }
 
+-- the round of a blocking call that has taken the lock's chain
+abbrev pub bound_to : ℕ → Round
+bound_to l = record { lock = l; by_try = false; in_chain = true }
+
+-- The lock that is being taken, once a round has begun. A blocking call of a thread that wants nothing yet begins the
+-- take of its lock by it (this project's rule); who wants a lock takes that one already, and a try is no take
+abbrev pub taking_from : Bool → Option ℕ → ℕ → Option ℕ → Option ℕ
+taking_from true wanted l taking = taking
+taking_from false None l taking = Some l
+taking_from false (Some k) l taking = taking
+
 -- the round is under way, without a look
 unfoldable pub after_seek : State → ℕ → ℕ → Bool → State
 after_seek s t l by_try = record s {
+  taking = put s.taking t (taking_from by_try (s.wanted t) l (s.taking t));
   looks = put s.looks t 0;
   round = put s.round t (Some (round_of l by_try));
 }
@@ -164,17 +184,17 @@ pub record SawBusy (c : Config) (s : State) (t l : ℕ) (word : Word) (mode : Mo
 pub record ShowsOwn (c : Config) (s : State) (t base effective : ℕ) : Type 0 where
   pub its_base : base ≡ s.base t
   pub its_effective : effective ≡ s.effective t
-  pub sections : (l : ℕ) (mode : Mode) → s.held t l ≡ Holds mode
-      → open_in c s.history t l ≡ Holds mode
+  pub sections : AllOpen c s t
 
 -- a thread that was made ready goes to sleep on a channel with the lock that it gained last, by a blocking call. It
--- wants nothing
+-- wants nothing, and the sections of all locks that it holds are open: as an enter asks it
 pub record GoesToSleep (c : Config) (s : State) (t d : ℕ) : Type 0 where
   pub chan : d < c.chans
   pub queued : s.wait t ≡ Queued
   pub wants : s.wanted t ≡ None
   pub opened : open_in c s.history t (c.chan_lock d) ≢ NotHeld
   pub last : IsGainedLast s t (c.chan_lock d) false
+  pub sections : OthersOpen c s t (c.chan_lock d)
 
 -- the threads as a set of bits
 abbrev pub bits_of_threads : List ℕ → ℕ
@@ -187,25 +207,64 @@ IsTheWake None d all woken = ⊥
 IsTheWake (Some wake) d all woken =
     (wake.chan ≡ d) × (wake.all ≡ all) × (woken ≡ bits_of_threads wake.taken)
 
--- what each event asks. A thread sleeps with the lock of its channel, and wakes with that lock held as it was
+-- What each column of an event asks, as a list of facts.
+
+-- an edit stands in an exclusive section of its lock, and a read, of what is there, in a section
+abbrev pub TableAsks : Config → State → ℕ → OfTable → List {1} (Type 0)
+TableAsks c s t NoTable = []
+TableAsks c s t (SetsTo l k v) = (open_in c s.history t l.0 ≡ Holds Excl) ∷ []
+TableAsks c s t (AddsTo l k n) = (open_in c s.history t l.0 ≡ Holds Excl) ∷ []
+TableAsks c s t (Reads l k found) =
+    (open_in c s.history t l.0 ≢ NotHeld) ∷ (found ≡ s.table l.0 k) ∷ []
+
+-- a section begins where none is open, and ends as it is open. A thread sleeps with the lock of its channel, and
+-- wakes with that lock held as it was
+abbrev pub SectionAsks : Config → State → ℕ → OfSection → List {1} (Type 0)
+SectionAsks c s t NoSection = []
+SectionAsks c s t (BeginsIn l mode) = Begins c s t l (Holds mode) ∷ []
+SectionAsks c s t (EndsFrom l mode) = (open_in c s.history t l ≡ Holds mode) ∷ []
+SectionAsks c s t (LeftFor d) = GoesToSleep c s t d ∷ []
+SectionAsks c s t (TakenBack d) = Returns c s t (c.chan_lock d) ∷ []
+
+-- a gain is that of the lock gained last; a busy word is what the last look saw; a halt and a refusal stand in the
+-- thread's share
+abbrev pub TakeAsks : Config → State → ℕ → OfTake → List {1} (Type 0)
+TakeAsks c s t NoTake = []
+TakeAsks c s t (GainedBy l by_try) = IsGainedLast s t l by_try ∷ []
+TakeAsks c s t (FoundBusy l seen) = ((mode : Mode) × SawBusy c s t l (word_of seen) mode) ∷ []
+TakeAsks c s t (HaltedFor l) =
+    (s.noted t ≡ Some (SleepHalted (lock_queue l))) ∷ (s.held t l ≡ NotHeld) ∷ []
+TakeAsks c s t (RefusedBy l k) = (s.noted t ≡ Some (OrderRefused l k)) ∷ []
+
+-- a sleep ends as the thread's share says, and a waking names whom the thread took off. Of a begin of sleep the
+-- section's facet asks, of a halt at a lock the take's
+abbrev pub SleepAsks : Config → State → ℕ → OfSleep → List {1} (Type 0)
+SleepAsks c s t NoSleep = []
+SleepAsks c s t (FallsAsleep d) = []
+SleepAsks c s t (WakesUp d) = (s.woken_from t ≡ Some d) ∷ []
+SleepAsks c s t (IsHalted d) = (s.noted t ≡ Some (SleepHalted (chan_queue d))) ∷ []
+SleepAsks c s t (IsHaltedAtLock l) = []
+SleepAsks c s t (WakesOne d woken) = IsTheWake (s.unstamped t) d false woken ∷ []
+SleepAsks c s t (WakesAll d woken) = IsTheWake (s.unstamped t) d true woken ∷ []
+
+-- a thread shows its own priorities
+abbrev pub PrioAsks : Config → State → ℕ → OfPrio → List {1} (Type 0)
+PrioAsks c s t NoPrio = []
+PrioAsks c s t (NewBase p) = []
+PrioAsks c s t (ShowsPrios base effective) = ShowsOwn c s t base effective ∷ []
+
+-- the facts of a list, of which one alone is that fact itself
+abbrev pub AllHold : List {1} (Type 0) → Type 0
+AllHold [] = ⊤
+AllHold (P ∷ []) = P
+AllHold (P ∷ Q ∷ Ps) = P × AllHold (Q ∷ Ps)
+
+-- what each event asks
 abbrev pub Asks : Config → State → ℕ → Event → Type 0
-Asks c s t (Locked l mode) = Begins c s t l.0 (Holds mode) × IsGainedLast s t l.0 false
-Asks c s t (Tried l mode) = Begins c s t l.0 (Holds mode) × IsGainedLast s t l.0 true
-Asks c s t (Busy l seen) = (mode : Mode) × SawBusy c s t l.0 (word_of seen) mode
-Asks c s t (Unlocked l mode) = open_in c s.history t l.0 ≡ Holds mode
-Asks c s t (Set l k v) = open_in c s.history t l.0 ≡ Holds Excl
-Asks c s t (Added l k n) = open_in c s.history t l.0 ≡ Holds Excl
-Asks c s t (Got l k found) = (open_in c s.history t l.0 ≢ NotHeld) × (found ≡ s.table l.0 k)
-Asks c s t (Base p) = ⊤
-Asks c s t (Shown base effective) = ShowsOwn c s t base.0 effective.0
-Asks c s t (Sleeps d) = GoesToSleep c s t d.0
-Asks c s t (Woke d) = Returns c s t (c.chan_lock d.0) × (s.woken_from t ≡ Some d.0)
-Asks c s t (HaltedChan d) =
-    Returns c s t (c.chan_lock d.0) × (s.noted t ≡ Some (SleepHalted (Chan d)))
-Asks c s t (HaltedLock l) = (s.noted t ≡ Some (SleepHalted (Lock l))) × (s.held t l.0 ≡ NotHeld)
-Asks c s t (WokeOne d woken) = IsTheWake (s.unstamped t) d.0 false woken
-Asks c s t (WokeAll d woken) = IsTheWake (s.unstamped t) d.0 true woken
-Asks c s t (Reversed l held) = s.noted t ≡ Some (OrderRefused l.0 held.0)
+Asks c s t e = AllHold
+    (TableAsks c s t (facets e).table ++ SectionAsks c s t (facets e).section
+    ++ TakeAsks c s t (facets e).take ++ SleepAsks c s t (facets e).sleep
+    ++ PrioAsks c s t (facets e).prio)
 
 -- what a stamp asks; the thread is on no queue, in no marked list and not woken
 pub record MayStamp (c : Config) (s : State) (t : ℕ) (e : Event) : Type 0 where
@@ -222,110 +281,96 @@ prio_of (Some loan) = Some loan.prio
 abbrev pub effective_of : Config → (ℕ → Option Loan) → ℕ → ℕ
 effective_of c loan base = least c.locks (λ l. prio_of (loan l)) base
 
+-- a new value of a thread's, where there is one
+abbrev pub put_new : Option ℕ → ℕ → (ℕ → ℕ) → ℕ → ℕ
+put_new None t f = f
+put_new (Some x) t f = put f t x
+
 -- base priorities after an event of thread t
 abbrev pub base_after : Event → ℕ → (ℕ → ℕ) → ℕ → ℕ
-base_after (Base p) t base = put base t p.0
-base_after other t base = base
+base_after e t base = put_new (new_base e) t base
 
 -- effective priorities after an event of thread t
+abbrev pub effective_with : Config → Option ℕ → ℕ → (ℕ → ℕ → Option Loan) → (ℕ → ℕ) → ℕ → ℕ
+effective_with c None t loan effective = effective
+effective_with c (Some p) t loan effective = put effective t (effective_of c (loan t) p)
+
 abbrev pub effective_after : Config → Event → ℕ → (ℕ → ℕ → Option Loan) → (ℕ → ℕ) → ℕ → ℕ
-effective_after c (Base p) t loan effective = put effective t (effective_of c (loan t) p.0)
-effective_after c other t loan effective = effective
+effective_after c e t loan effective = effective_with c (new_base e) t loan effective
 
 -- the tables after an event
+abbrev pub table_with : OfTable → (ℕ → ℕ → Option ℕ) → ℕ → ℕ → Option ℕ
+table_with NoTable table = table
+table_with (SetsTo l k v) table = put_at table l.0 k (Some v)
+table_with (AddsTo l k n) table = put_at table l.0 k (Some (added (table l.0 k) n))
+table_with (Reads l k found) table = table
+
 abbrev pub table_after : Event → (ℕ → ℕ → Option ℕ) → ℕ → ℕ → Option ℕ
-table_after (Set l k v) table = put_at table l.0 k (Some v)
-table_after (Added l k n) table = put_at table l.0 k (Some (added (table l.0 k) n))
-table_after other table = table
+table_after e table = table_with (facets e).table table
 
 -- whether an event changes a base priority
 abbrev pub changes_base : Event → Bool
-changes_base (Locked l mode) = false
-changes_base (Tried l mode) = false
-changes_base (Busy l seen) = false
-changes_base (Unlocked l mode) = false
-changes_base (Set l k v) = false
-changes_base (Added l k n) = false
-changes_base (Got l k found) = false
-changes_base (Base p) = true
-changes_base (Shown b e) = false
-changes_base (Sleeps d) = false
-changes_base (Woke d) = false
-changes_base (HaltedChan d) = false
-changes_base (HaltedLock l) = false
-changes_base (WokeOne d woken) = false
-changes_base (WokeAll d woken) = false
-changes_base (Reversed l held) = false
+changes_base e = is_some (new_base e)
 
 -- whether it changes a table
+abbrev pub is_edit : OfTable → Bool
+is_edit NoTable = false
+is_edit (SetsTo l k v) = true
+is_edit (AddsTo l k n) = true
+is_edit (Reads l k found) = false
+
 abbrev pub changes_table : Event → Bool
-changes_table (Locked l mode) = false
-changes_table (Tried l mode) = false
-changes_table (Busy l seen) = false
-changes_table (Unlocked l mode) = false
-changes_table (Set l k v) = true
-changes_table (Added l k n) = true
-changes_table (Got l k found) = false
-changes_table (Base p) = false
-changes_table (Shown b e) = false
-changes_table (Sleeps d) = false
-changes_table (Woke d) = false
-changes_table (HaltedChan d) = false
-changes_table (HaltedLock l) = false
-changes_table (WokeOne d woken) = false
-changes_table (WokeAll d woken) = false
-changes_table (Reversed l held) = false
+changes_table e = is_edit (facets e).table
 
 -- whether it begins or ends a section of a lock
+abbrev pub is_of_section : OfSection → Bool
+is_of_section NoSection = false
+is_of_section (BeginsIn l mode) = true
+is_of_section (EndsFrom l mode) = true
+is_of_section (LeftFor d) = true
+is_of_section (TakenBack d) = true
+
 abbrev pub changes_sections : Event → Bool
-changes_sections (Locked l mode) = true
-changes_sections (Tried l mode) = true
-changes_sections (Busy l seen) = false
-changes_sections (Unlocked l mode) = true
-changes_sections (Set l k v) = false
-changes_sections (Added l k n) = false
-changes_sections (Got l k found) = false
-changes_sections (Base p) = false
-changes_sections (Shown b e) = false
-changes_sections (Sleeps d) = true
-changes_sections (Woke d) = true
-changes_sections (HaltedChan d) = true
-changes_sections (HaltedLock l) = false
-changes_sections (WokeOne d woken) = false
-changes_sections (WokeAll d woken) = false
-changes_sections (Reversed l held) = false
+changes_sections e = is_of_section (facets e).section
 
 -- whether a section began since the gain, after an event of thread t
+abbrev pub begun_with : Config → OfSection → ℕ → (ℕ → ℕ → Bool) → ℕ → ℕ → Bool
+begun_with c NoSection t has_begun = has_begun
+begun_with c (BeginsIn l mode) t has_begun = put_at has_begun t l true
+begun_with c (EndsFrom l mode) t has_begun = has_begun
+begun_with c (LeftFor d) t has_begun = has_begun
+begun_with c (TakenBack d) t has_begun = put_at has_begun t (c.chan_lock d) true
+
 abbrev pub begun_after : Config → Event → ℕ → (ℕ → ℕ → Bool) → ℕ → ℕ → Bool
-begun_after c (Locked l mode) t has_begun = put_at has_begun t l.0 true
-begun_after c (Tried l mode) t has_begun = put_at has_begun t l.0 true
-begun_after c (Woke d) t has_begun = put_at has_begun t (c.chan_lock d.0) true
-begun_after c (HaltedChan d) t has_begun = put_at has_begun t (c.chan_lock d.0) true
-begun_after c other t has_begun = has_begun
+begun_after c e t has_begun = begun_with c (facets e).section t has_begun
 
 -- looks after an event
+abbrev pub is_busy : OfTake → Bool
+is_busy NoTake = false
+is_busy (GainedBy l by_try) = false
+is_busy (FoundBusy l seen) = true
+is_busy (HaltedFor l) = false
+is_busy (RefusedBy l class) = false
+
 abbrev pub looks_after : Event → ℕ → ℕ
-looks_after (Busy l seen) looks = 0
-looks_after other looks = looks
+looks_after e looks = if is_busy (facets e).take then 0 else looks
 
 -- the acquiring round after an event: a failed try has ended
 abbrev pub round_after : Event → Option Round → Option Round
-round_after (Busy l seen) round = None
-round_after other round = round
+round_after e round = if is_busy (facets e).take then None else round
 
 -- the wake that is not noted yet, after an event
 abbrev pub unstamped_after : Event → Option Wake → Option Wake
-unstamped_after (WokeOne d woken) wake = None
-unstamped_after (WokeAll d woken) wake = None
-unstamped_after other wake = wake
+unstamped_after e wake = if is_waking_of (of_sleep e) then None else wake
 
 -- the lock that is being taken, after an event: the entry of a take, or of a wait that has ended, is made
+abbrev pub ends_take_or_wait : OfEnd → Bool
+ends_take_or_wait NoEnd = false
+ends_take_or_wait (EndsTakeOf l) = true
+ends_take_or_wait (EndsWaitOn d) = true
+
 abbrev pub taking_after : Event → Option ℕ → Option ℕ
-taking_after (Locked l mode) taking = None
-taking_after (HaltedLock l) taking = None
-taking_after (Woke d) taking = None
-taking_after (HaltedChan d) taking = None
-taking_after other taking = taking
+taking_after e taking = if ends_take_or_wait (facets e).end then None else taking
 
 -- the entry that a stamp makes
 abbrev pub entry_of : State → ℕ → Event → Entry

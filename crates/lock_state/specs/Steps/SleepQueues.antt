@@ -4,6 +4,7 @@ use Rattle.std.specs.Prelude.{◌≡◌, ℕ, ◌<◌, Bool, true, false, List, 
 use Rattle.lock_model.specs.Words.{is_turnstile}
 use Rattle.lock_model.specs.Config.{Config}
 use Rattle.lock_model.specs.Events.{sleeps_on}
+use Rattle.lock_state.specs.Steps.LockWords.{OthersOpen}
 use Rattle.lock_state.specs.Steps.Turnstiles.{MustWait, IsLastHolder, with_waiter, waiting_for, with_marked, after_last_release}
 use Rattle.lock_state.specs.State.{State, Queued, put}
 use Rattle.lock_model.specs.Queues.{Waiter, lock_queue, chan_queue, side_of, list_of, with_list, with_last, taken_off, left_on}
@@ -42,7 +43,8 @@ pub record MayOpenSleep (c : Config) (s : State) (t l : ℕ) (mode : Mode) : Typ
 unfoldable pub after_open_sleep : Config → State → ℕ → ℕ → State
 after_open_sleep c s t l = after_last_release c s t l
 
--- 3. An add: a thread sleeps on a channel, behind its Sleeps entry, which is the newest of its log. It wants nothing
+-- 3. An add: a thread sleeps on a channel, behind its Sleeps entry, which is the newest of its log. It wants nothing,
+-- and the sections of all other locks that it holds are open
 
 -- whether the newest entry is a Sleeps entry on the channel
 abbrev pub has_slept : ℕ → List Entry → Bool
@@ -59,6 +61,7 @@ pub record MayAdd (c : Config) (s : State) (t d x : ℕ) : Type 0 where
   pub wants : s.wanted t ≡ None
   pub slept : has_slept d (s.log t) ≡ true
   pub unwoken : s.woken_from t ≡ None
+  pub sections : OthersOpen c s t (c.chan_lock d)
 
 -- the thread stands at the tail of the exclusive side, and its sleep queue is lent
 unfoldable pub after_add : State → ℕ → ℕ → ℕ → State

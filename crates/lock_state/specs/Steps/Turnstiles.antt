@@ -182,7 +182,9 @@ pub record MayResume (c : Config) (s : State) (t : ℕ) (q : QueueName) (cause :
 -- the lock that the thread is called for
 abbrev pub called_after : QueueName → Cause → Option ℕ → Option ℕ
 called_after (Lock l) BySignal called = Some l.0
-called_after other cause called = called
+called_after (Lock l) ByAbort called = called
+called_after (Chan d) BySignal called = called
+called_after (Chan d) ByAbort called = called
 
 -- the lock that the thread wants
 abbrev pub wanted_after : Config → QueueName → Cause → Bool → Option ℕ → Option ℕ
@@ -202,8 +204,9 @@ round_for (Some l) = Some (round_of l false)
 
 -- what the thread has yet to note
 abbrev pub noted_after : QueueName → Cause → Bool → Option Note → Option Note
-noted_after q BySignal back noted = noted
+noted_after (Lock l) BySignal back noted = noted
 noted_after (Lock l) ByAbort back noted = if back then noted else Some (SleepHalted (Lock l))
+noted_after (Chan d) BySignal back noted = noted
 noted_after (Chan d) ByAbort back noted = Some (SleepHalted (Chan d))
 
 -- the channel from which the thread was woken by a signal since its last entry, after the resume

@@ -7,7 +7,7 @@ use Rattle.lock_state.specs.Steps.LockWords.{after_seek, after_look}
 use Rattle.lock_state.specs.Steps.SleepQueues.{after_wake}
 use Rattle.lock_state.specs.Steps.Lending.{after_lend, after_shift, after_end_walk}
 use Rattle.lock_state.specs.Steps.Items.{after_take, after_give}
-use Rattle.lock_state.specs.Steps.{Step, Seeks, Looks, TakesItem, GivesItem, Gains, Drops, Stamps, Readies, Unreadies, Enters, Opens, EntersSleepQueue, OpensSleepQueue, Adds, Wakes, Marks, Resumes, Claims, Lends, Shifts, EndsWalk, Admits, Refuses, May, MayAll, KeepsToOrder, KeepToOrder, after, after_all}
+use Rattle.lock_state.specs.Steps.{Step, Gains, Drops, Stamps, Readies, Unreadies, Enters, Opens, EntersSleepQueue, OpensSleepQueue, Adds, Marks, Resumes, Claims, Admits, Refuses, May, MayAll, KeepsToOrder, KeepToOrder, after, after_all}
 use Rattle.lock_laws.proofs.Steps as lawful
 use Rattle.order_laws.proofs.OrderFacts.Admit as admit
 use Rattle.order_laws.proofs.OrderFacts.Entries as entries
@@ -17,10 +17,6 @@ use Rattle.order_laws.proofs.OrderFacts.Wait as wait
 
 pub keeps : (c : Config) (s : State) (step : Step) → May c s step → KeepsToOrder c s step → Lawful c s → Ordered c s → Ordered c (after c s step)
 unfolding after_seek after_look after_take after_give after_wake after_lend after_shift after_end_walk
-keeps c s (Seeks t l by_try) g k f h = assumption h
-keeps c s (Looks t l in_round) g k f h = assumption h
-keeps c s (TakesItem t i) g k f h = assumption h
-keeps c s (GivesItem t i) g k f h = assumption h
 keeps c s (Gains t l mode by_try) g k f h = gain.gains c s t l mode by_try g.acting k f h
 keeps c s (Drops t l mode) g k f h = release.drops c s t l h
 keeps c s (Stamps t e) g k f h = entries.stamps c s t e g f h
@@ -31,15 +27,12 @@ keeps c s (Opens t l mode) g k f h = release.opens c s t l h
 keeps c s (EntersSleepQueue t l mode x) g k f h = wait.enters_sleep_queue c s t l k h mode x
 keeps c s (OpensSleepQueue t l mode) g k f h = release.opens_sleep_queue c s t l h
 keeps c s (Adds t d x) g k f h = wait.adds c s t d x k.last f h
-keeps c s (Wakes t d all) g k f h = assumption h
 keeps c s (Marks t m ms) g k f h = wait.marks c s t m ms g f h
 keeps c s (Resumes t q cause) g k f h = wait.resumes c s t q cause g h
 keeps c s (Claims t l x by_try) g k f h = gain.claims c s t l x by_try g.acting k f h
-keeps c s (Lends t l o x) g k f h = assumption h
-keeps c s (Shifts t o l) g k f h = assumption h
-keeps c s (EndsWalk t) g k f h = assumption h
 keeps c s (Admits t l) g k f h = admit.admits c s t l g f h
 keeps c s (Refuses t l class) g k f h = admit.refuses c s t l class h
+keeps c s other g k f h = assumption h
 
 pub all_keep : (c : Config) (s : State) (steps : List Step) → MayAll c s steps → KeepToOrder c s steps → Lawful c s → Ordered c s → Ordered c (after_all c s steps)
 all_keep c s [] g k f h = h

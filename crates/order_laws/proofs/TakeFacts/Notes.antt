@@ -1,4 +1,4 @@
--- A resume and an entry that keep to the order keep the facts of takes.
+-- The begin of a round, a resume and an entry that keep to the order keep the facts of takes.
 use Rattle.std.proofs.Common.{◌≡◌, ◌⊎◌, ℕ, Bool, true, false, not, ◌&&◌, eqb, List, ◌∷◌, Option, Some, None, refl, sym, ap, inl, inr, subst, ◌∙◌}
 use Rattle.std.proofs.lemmas.Bool.{cases_eq}
 use Rattle.lock_model.specs.Config.{Config}
@@ -10,7 +10,7 @@ use Rattle.lock_model.specs.Takes.{taken_by, take_edges, has_open, ReversalHasCa
 use Rattle.lock_model.specs.Queues.{Cause, BySignal, ByAbort}
 use Rattle.lock_state.specs.State.{State, Note, OrderRefused, put}
 use Rattle.lock_state.specs.Steps.{EndsTake, IsBackFrom}
-use Rattle.lock_state.specs.Steps.LockWords.{MayStamp, is_taking_back, taking_after, entry_of, after_stamp}
+use Rattle.lock_state.specs.Steps.LockWords.{MayStamp, is_taking_back, taking_from, taking_after, entry_of, after_seek, after_stamp}
 use Rattle.lock_state.specs.Steps.Turnstiles.{taking_by, noted_after, after_resume}
 use Rattle.lock_state.specs.Facts.{Taken, EdgesAreOfTakes, TakersAreOpen, RefusalsHaveCause, ReversalsHaveCause}
 use Rattle.lock_model.specs.declared.plan.QueueName.{QueueName}
@@ -23,14 +23,42 @@ use Rattle.lock_laws.proofs.OwnEntries.{other_sections}
 use Rattle.order_laws.proofs.TakeFacts.Tests.{InProgress, take_stays, take_gives}
 use Rattle.order_laws.proofs.TakeFacts.Holds.{carried}
 
--- 1. A resume
+-- 1. The begin of a round. In order a blocking call seeks the lock that it wants, and so takes already
+
+sought_before : (by_try : Bool) (wanted : Option ℕ) (l : ℕ) (taking : Option ℕ) → (by_try ≡ false → wanted ≡ Some l) → taking_from by_try wanted l taking ≡ taking
+sought_before true wanted l taking k = refl
+sought_before false None l taking k = absurd (let z : None ≡ Some l = k refl in cc)
+sought_before false (Some j) l taking k = refl
+
+module _ (c : Config) (s : State) (t l : ℕ) (by_try : Bool) (k : by_try ≡ false → s.wanted t ≡ Some l) (h : Taken c s) where
+  abbrev sought : ℕ → Option ℕ
+  sought = put s.taking t (taking_from by_try (s.wanted t) l (s.taking t))
+
+  takes_as_before : (u : ℕ) → s.taking u ≡ sought u
+  takes_as_before u = elim (cases_eq t u) [
+    | inl x ↦ sym (ap sought (sym x) ∙ put_same s.taking t _ ∙ sought_before by_try (s.wanted t) l (s.taking t) k ∙ ap s.taking x)
+    | inr x ↦ sym (put_other s.taking t _ u x)
+  ]
+
+  seek_edges : EdgesAreOfTakes c s.edges sought s.log s.held s.history
+  seek_edges = subst (λ f. EdgesAreOfTakes c s.edges f s.log s.held s.history) (λ i u. takes_as_before u i) h.edges_are_of_takes
+
+  seek_open : TakersAreOpen c sought s.log s.held s.history
+  seek_open = subst (λ f. TakersAreOpen c f s.log s.held s.history) (λ i u. takes_as_before u i) h.takers_are_open
+
+  pub seeks : Taken c (after_seek s t l by_try)
+  unfolding after_seek
+  seeks = assumption (h, seek_edges, seek_open)
+
+-- 2. A resume
 
 back_takes : (c : Config) (s : State) (t : ℕ) (q : QueueName) → IsBackFrom s t q → is_taking_back (s.log t) ≡ false → taking_by c q (s.taking t) ≡ s.taking t
 back_takes c s t (Lock l) k b = refl
 back_takes c s t (Chan d) k b = absurd (let z : true ≡ false = sym k ∙ b in cc)
 
 refused_before : (q : QueueName) (cause : Cause) (back : Bool) (o : Option Note) (l k : ℕ) → noted_after q cause back o ≡ Some (OrderRefused l k) → o ≡ Some (OrderRefused l k)
-refused_before q BySignal back o l k e = e
+refused_before (Lock j) BySignal back o l k e = e
+refused_before (Chan d) BySignal back o l k e = e
 refused_before (Lock j) ByAbort true o l k e = e
 refused_before (Lock j) ByAbort false o l k e = absurd cc
 refused_before (Chan d) ByAbort back o l k e = absurd cc
@@ -66,7 +94,7 @@ module _ (c : Config) (s : State) (t : ℕ) (q : QueueName) (cause : Cause) (k :
   unfolding after_resume
   resumes = assumption (h, resume_edges, resume_open, resume_refusals)
 
--- 2. An entry
+-- 3. An entry
 
 none_after : (e : Event) → taking_after e None ≡ None
 none_after (Locked l mode) = refl

@@ -3,42 +3,30 @@ use Rattle.std.proofs.Common.{List, [], ◌∷◌}
 use Rattle.lock_model.specs.Config.{Config}
 use Rattle.lock_state.specs.State.{State}
 use Rattle.lock_state.specs.Facts.{Lawful, Taken}
-use Rattle.lock_state.specs.Steps.LockWords.{after_seek, after_look, after_ready, after_unready}
+use Rattle.lock_state.specs.Steps.LockWords.{after_look, after_ready, after_unready}
 use Rattle.lock_state.specs.Steps.Turnstiles.{after_enter, after_mark}
 use Rattle.lock_state.specs.Steps.SleepQueues.{after_enter_sleep, after_add, after_wake}
 use Rattle.lock_state.specs.Steps.Lending.{after_lend, after_shift, after_end_walk}
 use Rattle.lock_state.specs.Steps.Items.{after_take, after_give}
-use Rattle.lock_state.specs.Steps.{Step, Seeks, Looks, TakesItem, GivesItem, Gains, Drops, Stamps, Readies, Unreadies, Enters, Opens, EntersSleepQueue, OpensSleepQueue, Adds, Wakes, Marks, Resumes, Claims, Lends, Shifts, EndsWalk, Admits, Refuses, May, MayAll, KeepsToOrder, KeepToOrder, after, after_all}
+use Rattle.lock_state.specs.Steps.{Step, Seeks, Gains, Drops, Stamps, Opens, OpensSleepQueue, Resumes, Claims, Admits, Refuses, May, MayAll, KeepsToOrder, KeepToOrder, after, after_all}
 use Rattle.lock_laws.proofs.Steps as lawful
 use Rattle.order_laws.proofs.TakeFacts.Admit as admit
 use Rattle.order_laws.proofs.TakeFacts.Holds as holds
 use Rattle.order_laws.proofs.TakeFacts.Notes as notes
 
 pub keeps : (c : Config) (s : State) (step : Step) → May c s step → KeepsToOrder c s step → Lawful c s → Taken c s → Taken c (after c s step)
-unfolding after_seek after_look after_ready after_unready after_enter after_mark after_enter_sleep after_add after_wake after_lend after_shift after_end_walk after_take after_give
-keeps c s (Seeks t l by_try) g k f h = assumption h
-keeps c s (Looks t l in_round) g k f h = assumption h
-keeps c s (TakesItem t i) g k f h = assumption h
-keeps c s (GivesItem t i) g k f h = assumption h
+unfolding after_look after_ready after_unready after_enter after_mark after_enter_sleep after_add after_wake after_lend after_shift after_end_walk after_take after_give
+keeps c s (Seeks t l by_try) g k f h = notes.seeks c s t l by_try k h
 keeps c s (Gains t l mode by_try) g k f h = holds.gains c s t l mode by_try g.lock g.unheld k.takes h
 keeps c s (Drops t l mode) g k f h = holds.drops c s t l k h
 keeps c s (Stamps t e) g k f h = notes.stamps c s t e g k h
-keeps c s (Readies t q) g k f h = assumption h
-keeps c s (Unreadies t q) g k f h = assumption h
-keeps c s (Enters t l mode x) g k f h = assumption h
 keeps c s (Opens t l mode) g k f h = holds.opens c s t l k h
-keeps c s (EntersSleepQueue t l mode x) g k f h = assumption h
 keeps c s (OpensSleepQueue t l mode) g k f h = holds.opens_sleep_queue c s t l k h
-keeps c s (Adds t d x) g k f h = assumption h
-keeps c s (Wakes t d all) g k f h = assumption h
-keeps c s (Marks t m ms) g k f h = assumption h
 keeps c s (Resumes t q cause) g k f h = notes.resumes c s t q cause k h
 keeps c s (Claims t l x by_try) g k f h = holds.claims c s t l x by_try g.lock g.unheld k.takes h
-keeps c s (Lends t l o x) g k f h = assumption h
-keeps c s (Shifts t o l) g k f h = assumption h
-keeps c s (EndsWalk t) g k f h = assumption h
 keeps c s (Admits t l) g k f h = admit.admits c s t l g f h
 keeps c s (Refuses t l class) g k f h = admit.refuses c s t l class g f h
+keeps c s other g k f h = assumption h
 
 pub all_keep : (c : Config) (s : State) (steps : List Step) → MayAll c s steps → KeepToOrder c s steps → Lawful c s → Taken c s → Taken c (after_all c s steps)
 all_keep c s [] g k f h = h

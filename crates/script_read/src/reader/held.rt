@@ -1,11 +1,11 @@
 //! The list of locks that a thread holds, in order of acquisition: how a lock is held, and what an operation changes.
-ghost use Rattle.std.specs.Prelude.{◌≡◌, ◌++◌, ◌∷◌, [], OnOk};
+ghost use Rattle.std.specs.Prelude.{◌≡◌, OnOk};
 ghost use Rattle.std.specs.Cmp.Lexicographic.{pointwise};
 ghost use Rattle.lock_model.specs.Script.Faults.{is_same_held};
 ghost use Rattle.lock_model.specs.Operations.{hold_in, held_behind, is_last};
 ghost use Rattle.script_read.specs.Readers.{hold};
 
-use lock_model::{Held, LockNo, Mode, Op, place_held};
+use lock_model::{Held, LockNo, Mode, OfLocks, Op, place_held};
 use std::alloc::AllocError;
 
 /// The mode in which a lock is held, if it is.
@@ -35,31 +35,19 @@ pub fn is_last(held: &[Held], l: LockNo) -> bool
 pub fn hold_behind(held: &mut Vec<Held>, op: Op) -> Result<(), AllocError>
     ensures { OnOk result (held.new.items ≡ held_behind op held.old.items) }
 {
-    match op {
-        Op::Take { l, mode } => gain(held, l, mode, false)?,
-        Op::Try { l, mode, .. } => gain(held, l, mode, true)?,
-        Op::Release { l } => {
+    match op.of_locks() {
+        OfLocks::Acquires { held: acquired } => held.push(acquired)?,
+        OfLocks::Releases { l } => {
             if let Some(place) = place_held(l, held) {
                 held.remove(place);
             }
         }
-        Op::EndTry
-        | Op::Set { .. }
-        | Op::Add { .. }
-        | Op::Get { .. }
-        | Op::Base { .. }
-        | Op::Show
-        | Op::Sleep { .. }
-        | Op::WakeOne { .. }
-        | Op::WakeAll { .. } => {}
+        OfLocks::NoLock
+        | OfLocks::ClosesBlock
+        | OfLocks::EditsAt { .. }
+        | OfLocks::ReadsAt { .. }
+        | OfLocks::SleepsOn { .. }
+        | OfLocks::WakesOn { .. } => {}
     }
-    Ok(())
-}
-
-fn gain(held: &mut Vec<Held>, l: LockNo, mode: Mode, by_try: bool) -> Result<(), AllocError>
-    ensures { OnOk result (held.new.items
-        ≡ held.old.items ++ (record { l = l; mode = mode; by_try = by_try }) ∷ []) }
-{
-    held.push(Held { l, mode, by_try })?;
     Ok(())
 }

@@ -5,7 +5,7 @@ ghost use Rattle.lock_model.specs.Script.Learning.{blocks_behind};
 ghost use Rattle.lock_model.specs.declared.plan.Op.TheVariants.{Try};
 ghost use Rattle.script_read.specs.OpenThreads.{thread_of, block_of};
 
-use lock_model::{Held, LockNo, Mode, Name, Op, Prio};
+use lock_model::{Held, LockNo, Mode, Name, OfLocks, Op, Prio};
 use std::alloc::{AllocError, Global};
 
 /// A try's block that is open: the try, its place among the thread's operations, and what the thread held before it.
@@ -34,24 +34,21 @@ impl OpenThread {
         ensures { IfOk result (λ block. blocks_behind (thread_of self.now) op
             ≡ option_to_list (option_map block_of block) ++ (thread_of self.now).blocks) }
     {
-        match op {
-            Op::Try { l, mode, .. } => Ok(Some(Block {
-                lock: l,
-                mode,
+        match op.of_locks() {
+            OfLocks::Acquires { held } if held.by_try => Ok(Some(Block {
+                lock: held.l,
+                mode: held.mode,
                 opened_at: self.ops.len(),
                 before: Vec::from_slice(alloc, &self.held)?,
             })),
-            Op::Take { .. }
-            | Op::EndTry
-            | Op::Release { .. }
-            | Op::Set { .. }
-            | Op::Add { .. }
-            | Op::Get { .. }
-            | Op::Base { .. }
-            | Op::Show
-            | Op::Sleep { .. }
-            | Op::WakeOne { .. }
-            | Op::WakeAll { .. } => Ok(None),
+            OfLocks::NoLock
+            | OfLocks::Acquires { .. }
+            | OfLocks::ClosesBlock
+            | OfLocks::Releases { .. }
+            | OfLocks::EditsAt { .. }
+            | OfLocks::ReadsAt { .. }
+            | OfLocks::SleepsOn { .. }
+            | OfLocks::WakesOn { .. } => Ok(None),
         }
     }
 

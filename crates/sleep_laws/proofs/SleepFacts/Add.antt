@@ -9,7 +9,8 @@ use Rattle.lock_state.specs.Steps.SleepQueues.{MayAdd, after_add}
 use Rattle.lock_state.specs.Facts.{Lawful}
 use Rattle.lock_state.specs.Facts.Loans.{Each}
 use Rattle.lock_state.specs.Facts.Sleeps.{is_signalled, InOrder}
-use Rattle.sleep_laws.specs.Sleepers.{SleepersFit, AddsAtWork, SleepersSlept, SleepersWantNothing, SleepersAreUnwoken, AsleepStandThere, AsleepAreOnTheirWay, SleepersInOrder, LatecomersAreLater, SleepersKeepBase, SleepersAreExclusive, UnnotedIsFair}
+use Rattle.lock_state.specs.Steps.{AddsAtWork}
+use Rattle.sleep_laws.specs.Sleepers.{SleepersFit, SleepersSlept, SleepersWantNothing, SleepersAreUnwoken, AsleepStandThere, AsleepAreOnTheirWay, SleepersInOrder, LatecomersAreLater, SleepersKeepBase, SleepersAreExclusive, UnnotedIsFair}
 use Rattle.lock_laws.proofs.Kit.{columns, put_chan_other}
 use Rattle.sleep_laws.proofs.SleepFacts.Best.{KeepsBase, at_put_chan, each-last, in_order-last}
 use Rattle.sleep_laws.proofs.SleepFacts.Entries.{one_channel}
@@ -104,7 +105,7 @@ module _ {at_work : ℕ → Option ℕ} {c : Config} {s : State} (l : Lawful c s
       other : k ≡ w.chan → ⊥
       other e =
           let same : t ≡ v = its_thread l h t k v w a.works f e in
-          let z : None ≡ Some w = sym a.noted ∙ ap s.unstamped same ∙ f in
+          let z : None ≡ Some w = sym a.stamped ∙ ap s.unstamped same ∙ f in
           cc
 
   pub adds : SleepersFit at_work c (after_add s t k x)

@@ -14,8 +14,8 @@ use Rattle.lock_state.specs.Steps.SleepQueues.{after_enter_sleep, after_open_sle
 use Rattle.lock_state.specs.Steps.Lending.{after_claim, after_lend, after_shift, after_end_walk}
 use Rattle.lock_state.specs.Steps.Items.{Item, SleepChain, IsDoneWith, MayTake, MayGive, item_with, after_take, after_give}
 use Rattle.lock_state.specs.Steps.Orders.{after_admit, after_refuse}
-use Rattle.lock_state.specs.Steps.{Step, TakesItem, GivesItem, Stamps, Unreadies, Enters, EntersSleepQueue, Adds, Wakes, May, HasOut, HasOutForEntry, HasSeen, after, IsFloorStep}
-use Rattle.sleep_laws.specs.Sleepers.{SleepersFit, AsksOfSleepers, AsleepAreOnTheirWay, by_chain}
+use Rattle.lock_state.specs.Steps.{Step, TakesItem, GivesItem, Stamps, Unreadies, Enters, EntersSleepQueue, Adds, Wakes, May, HasOut, HasOutForEntry, HasSeen, AsksOfThread, after, IsFloorStep, AsksOfSleepers}
+use Rattle.sleep_laws.specs.Sleepers.{SleepersFit, AsleepAreOnTheirWay, by_chain}
 use Rattle.lock_laws.proofs.Items.{beside}
 use Rattle.sleep_laws.proofs.SleepFacts.Moves.{moves}
 use Rattle.sleep_laws.proofs.SleepFacts.Steps as core
@@ -28,15 +28,15 @@ module _ (chains : ℕ) (c : Config) (s : State) where
   sleeps_in_chain t (Sleeps k) o d x = ap (by_chain chains s) (sym (eqb-true k.0 d x)) ∙ o
   sleeps_in_chain t other o d x = absurd cc
 
-  asks : (step : Step) → HasOut chains c s step → HasSeen chains c s step
+  asks : (step : Step) → HasOut chains c s step → HasSeen chains c s step → AsksOfThread s step
       → AsksOfSleepers (by_chain chains s) s step
-  asks (Stamps t e) o x = sleeps_in_chain t e o
-  asks (Unreadies t q) o x = x
-  asks (Enters t l mode y) o x = x.off
-  asks (EntersSleepQueue t l mode y) o x = x.off
-  asks (Adds t d y) o x = record { works = o.0; noted = x.stamped }
-  asks (Wakes t d all) o x = o
-  asks other o x = tt
+  asks (Stamps t e) o x a = sleeps_in_chain t e o
+  asks (Unreadies t q) o x a = a.owes.added
+  asks (Enters t l mode y) o x a = a.owes.added
+  asks (EntersSleepQueue t l mode y) o x a = a.owes.added
+  asks (Adds t d y) o x a = record { works = o.0; stamped = x.stamped }
+  asks (Wakes t d all) o x a = o
+  asks other o x a = tt
 
   -- 2. Who is at work behind it
 
@@ -86,5 +86,5 @@ module _ (chains : ℕ) (c : Config) (s : State) where
 pub keeps : (chains : ℕ) (c : Config) (s n : State) → IsFloorStep chains c s n → Lawful c s
     → SleepersFit (by_chain chains s) c s → SleepersFit (by_chain chains n) c n
 keeps chains c s n p l h =
-    let there = core.keeps (by_chain chains s) c s p.0 p.1 (asks chains c s p.0 p.2 p.3) l h in
-    subst (λ m. SleepersFit (by_chain chains m) c m) (sym p.4) (moved chains c s p.0 p.1 there)
+    let there = core.keeps (by_chain chains s) c s p.0 p.1.may (asks chains c s p.0 p.1.has_out p.1.has_seen p.1.asks_of_thread) l h in
+    subst (λ m. SleepersFit (by_chain chains m) c m) (sym p.2) (moved chains c s p.0 p.1.may there)

@@ -6,8 +6,8 @@ use Rattle.lock_state.specs.Facts.{Lawful}
 use Rattle.lock_state.specs.Steps.LockWords.{after_seek, after_look, after_drop}
 use Rattle.lock_state.specs.Steps.Lending.{after_lend, after_shift, after_end_walk}
 use Rattle.lock_state.specs.Steps.Items.{after_take, after_give}
-use Rattle.lock_state.specs.Steps.{Step, Seeks, Looks, TakesItem, GivesItem, Gains, Drops, Stamps, Readies, Unreadies, Enters, Opens, EntersSleepQueue, OpensSleepQueue, Adds, Wakes, Marks, Resumes, Claims, Lends, Shifts, EndsWalk, Admits, Refuses, May, MayAll, after, after_all}
-use Rattle.sleep_laws.specs.Sleepers.{SleepersFit, AsksOfSleepers, AsksOfSleepersAll, SleepersInOrder, LatecomersAreLater, SleepersKeepBase, SleepersAreExclusive, UnnotedIsFair}
+use Rattle.lock_state.specs.Steps.{Step, Seeks, Looks, TakesItem, GivesItem, Gains, Drops, Stamps, Readies, Unreadies, Enters, Opens, EntersSleepQueue, OpensSleepQueue, Adds, Wakes, Marks, Resumes, Claims, Lends, Shifts, EndsWalk, Admits, Refuses, May, MayAll, after, after_all, AsksOfSleepers}
+use Rattle.sleep_laws.specs.Sleepers.{SleepersFit, AsksOfSleepersAll, SleepersInOrder, LatecomersAreLater, SleepersKeepBase, SleepersAreExclusive, UnnotedIsFair}
 use Rattle.lock_laws.proofs.Steps as lawful
 use Rattle.sleep_laws.proofs.SleepFacts.Add as add
 use Rattle.sleep_laws.proofs.SleepFacts.Enter as enter

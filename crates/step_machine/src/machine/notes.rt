@@ -1,15 +1,14 @@
 //! Entries of the history.
-ghost use Rattle.std.specs.Prelude.{◌≡◌, ◌≤◌, ◌<◌, ◌+◌, length, option_map};
-ghost use Rattle.lock_model.specs.Events.{of_sleep, fell_asleep};
+ghost use Rattle.std.specs.Prelude.{◌≡◌, ◌≤◌, ◌<◌, ◌+◌, length};
 ghost use Rattle.lock_model.specs.History.{edited};
-ghost use Rattle.lock_model.specs.Takes.{is_reversal, has_reversal};
+ghost use Rattle.lock_model.specs.Takes.{has_reversal};
 ghost use Rattle.lock_state.specs.Steps.{Stamps};
 ghost use Rattle.lock_state.specs.Steps.LockWords.{MayStamp};
 ghost use Rattle.step_machine.specs.Noted.{IsNoted};
 ghost use Rattle.step_machine.specs.Steps.{May, Makes, KeepsProgress, HasKey};
 
 use super::Machine;
-use lock_model::{ChanNo, Entry, Event, ThreadNo};
+use lock_model::{Entry, Event, ThreadNo};
 
 impl Machine {
     /// Makes an entry with the next ticket, and what the entry says of a table, of the thread's base priority, of a wait of
@@ -37,7 +36,7 @@ impl Machine {
     pub fn has_reversal(&self) -> bool
         ensures { result ≡ has_reversal self.now.log.entries }
     {
-        self.log.as_slice().iter().any(|e| is_reversal(e.event))
+        self.log.as_slice().iter().any(|e| e.event.is_reversal())
     }
 
     // Changes what an event changes beside the history.
@@ -52,28 +51,10 @@ impl Machine {
     {
         self.tables.edit(event).unwrap();
         let thread = &mut self.threads[usize::from(t.0)];
-        thread.waits_on = fell_asleep(event);
-        thread.cut = is_reversal(event) || thread.cut;
-        if let Event::Base { prio } = event {
+        thread.waits_on = event.fell_asleep();
+        thread.cut = event.is_reversal() || thread.cut;
+        if let Some(prio) = event.new_base() {
             thread.record.set_base(prio);
         }
-    }
-}
-
-// Whether an event is the refusal of a take.
-fn is_reversal(event: Event) -> bool
-    ensures { result ≡ is_reversal event }
-{
-    matches!(event, Event::Reversed { .. })
-}
-
-// The channel on which the thread of an event goes to sleep.
-fn fell_asleep(event: Event) -> Option<ChanNo>
-    ensures { option_map (λ c. c.0) result ≡ fell_asleep (of_sleep event) }
-{
-    if let Event::Sleeps { c } = event {
-        Some(c)
-    } else {
-        None
     }
 }

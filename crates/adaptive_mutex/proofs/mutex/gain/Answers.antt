@@ -1,7 +1,8 @@
-use Rattle.std.proofs.Common.{false}
+use Rattle.std.proofs.Common.{false, sym, subst}
 use Rattle.lock_model.specs.Words.{word_of}
+use Rattle.lock_floor.specs.Passes.{IsGoing}
 use Rattle.adaptive_mutex.proofs.Acquired.{may_gain_on, may_gain_free}
-use Rattle.adaptive_mutex.proofs.Looks.{may_look_on, no_look, look_again, look_on, still_no_round}
+use Rattle.adaptive_mutex.proofs.Looks.{may_look_on, no_look, look_again, look_on, still_no_round, still_going}
 use Rattle.adaptive_mutex.proofs.mutex.gain.Goals as goal
 
 pub loop-init : goal.loop-init
@@ -18,7 +19,12 @@ gain-requires-clause-may g c =
 pub gain-requires-clause-may_look : goal.gain-requires-clause-may_look
 gain-requires-clause-may_look g c =
     let x = c.loop.invariant.looked in
-    may_look_on c.args.floor.now.plan c.loop.pass.view c.args.l.0 (still_no_round c.args.floor.now.plan c.args.l.0 x.0 c.args.pass.now.view c.loop.pass.view c.requires.may.no_round x.1) c.requires.mutex.lock
+    may_look_on c.args.floor.now.plan c.loop.pass.view c.args.l.0 (still_no_round c.args.floor.now.plan c.args.l.0 x.0 c.args.pass.now.view c.loop.pass.view c.requires.may.no_round x.1) c.requires.mutex.lock (still_going c.args.floor.now.plan c.args.l.0 x.0 c.args.pass.now.view c.loop.pass.view c.requires.may.going x.1)
+
+pub watch-requires-clause-going : goal.watch-requires-clause-going
+watch-requires-clause-going g c =
+    let x = c.loop.invariant.looked in
+    subst IsGoing (sym c.in-Err.ensures.looked) (still_going c.args.floor.now.plan c.args.l.0 x.0 c.args.pass.now.view c.loop.pass.view c.requires.may.going x.1)
 
 pub loop-preserved : goal.loop-preserved
 loop-preserved g c = record {

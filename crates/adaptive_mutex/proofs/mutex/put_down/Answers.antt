@@ -1,5 +1,5 @@
 use Rattle.lock_model.specs.Words.{word_of}
-use Rattle.adaptive_mutex.proofs.Looks.{may_look_on, no_look, look_again, still_no_round}
+use Rattle.adaptive_mutex.proofs.Looks.{may_look_on, no_look, look_again, still_no_round, still_going}
 use Rattle.adaptive_mutex.proofs.Released.{may_put_on, may_drop_own}
 use Rattle.adaptive_mutex.proofs.mutex.put_down.Goals as goal
 
@@ -18,7 +18,7 @@ put_down-requires-clause-may g c =
 pub put_down-requires-clause-may_look : goal.put_down-requires-clause-may_look
 put_down-requires-clause-may_look g c =
     let x = c.loop.invariant.looked in
-    may_look_on c.args.floor.now.plan c.loop.pass.view c.args.l.0 (still_no_round c.args.floor.now.plan c.args.l.0 x.0 c.args.pass.now.view c.loop.pass.view c.requires.may.no_round x.1) c.requires.mutex.lock
+    may_look_on c.args.floor.now.plan c.loop.pass.view c.args.l.0 (still_no_round c.args.floor.now.plan c.args.l.0 x.0 c.args.pass.now.view c.loop.pass.view c.requires.may.no_round x.1) c.requires.mutex.lock (still_going c.args.floor.now.plan c.args.l.0 x.0 c.args.pass.now.view c.loop.pass.view c.requires.may.going x.1)
 
 pub loop-preserved : goal.loop-preserved
 loop-preserved g c = record {

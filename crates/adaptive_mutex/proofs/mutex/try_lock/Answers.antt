@@ -9,7 +9,7 @@ pub gain-requires-clause-may : goal.gain-requires-clause-may
 gain-requires-clause-may c = may_gain_free c.args.floor.now.plan c.args.l.0 true c.args.pass.now.view c.requires.may.mutex (acquires c.args.floor.now.plan c.args.l.0 c.args.pass.now.view c.requires.ready.rest c.requires.may)
 
 pub gain-requires-clause-may_look : goal.gain-requires-clause-may_look
-gain-requires-clause-may_look c = may_look_on c.args.floor.now.plan c.args.pass.now.view c.args.l.0 c.requires.ready.rest.no_round c.requires.may.mutex.lock
+gain-requires-clause-may_look c = may_look_on c.args.floor.now.plan c.args.pass.now.view c.args.l.0 c.requires.ready.rest.no_round c.requires.may.mutex.lock c.requires.ready.rest.going
 
 -- 1. It gained the mutex
 

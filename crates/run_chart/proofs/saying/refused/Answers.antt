@@ -14,14 +14,15 @@ returns-in_err-event c plan h made =
     (tells_none plan c.args.turn who (Did Note) made
     (λ has. some_event plan c.args.turn who (Reversed has.0 has.1) has.2.noted (c.in_err-event.ensures plan h c.requires)))
 
-pub returns-in_default : goal.returns-in_default
-returns-in_default c plan h made =
+pub returns-in_err-lock : goal.returns-in_err-lock
+returns-in_err-lock c plan h made =
     let who = c.args.row.who.0 in
-    tells_none plan c.args.turn who (Did Note) made
-    (λ has. c.in_default.not-Reversed has.0 has.1 (one_event plan c.args.turn who (Reversed has.0 has.1) has.2.noted c.in_ok-event.event (c.in_ok-event.ensures plan h c.requires)))
+    subst (TellsTurn plan c.args.turn who) (sym c.from_residual-in_err-lock.ensures)
+    (tells_none plan c.args.turn who (Did Note) made
+    (λ has. c.in_err-lock.ensures.none has.0 has.1 (one_event plan c.args.turn who (Reversed has.0 has.1) has.2.noted c.in_ok-event.event (c.in_ok-event.ensures plan h c.requires))))
 
 pub returns : goal.returns
 returns c plan h made =
     let who = c.args.row.who.0 in
-    let event = ap Some (sym c.in-Reversed.is) ∙ c.in_ok-event.ensures plan h c.requires in
-    tells plan c.args.turn who _ (record { made = made; noted = noted plan c.args.turn who Note made (Reversed c.in-Reversed.l c.in-Reversed.held) event })
+    let event = ap Some (sym c.in_ok-lock.ensures.some) ∙ c.in_ok-event.ensures plan h c.requires in
+    tells plan c.args.turn who _ (record { made = made; noted = noted plan c.args.turn who Note made (Reversed c.in_ok-lock.lock c.in_ok-lock.held) event })

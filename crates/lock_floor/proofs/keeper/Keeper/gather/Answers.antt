@@ -10,6 +10,7 @@ use Rattle.floor_table.specs.Views.{Knowledge, nothing}
 use Rattle.lock_floor.specs.Floors.{Floor, Pass, Keeper}
 use Rattle.lock_floor.specs.Ties.{IsKept}
 use Rattle.lock_floor.specs.Views.{with_pass_taken}
+use Rattle.floor_table.specs.Places.{spot, ticket_line}
 use Rattle.lock_floor.proofs.Joining.{Asked, joins, ask_allowed}
 use Rattle.lock_floor.proofs.keeper.Keeper.gather.Goals as goal
 use Rattle.lock_floor.proofs.keeper.Keeper.gather.Goals.{After-push_reserved-arg-1, After-drop-pass-inside}
@@ -36,7 +37,7 @@ ask-requires-clause-may c =
     let key : Plan = c.floor.inside.board.shared.key in
     let slots = c.floor.inside.board.shared.table_id.slots in
     let me : Me Slot Knowledge = c.join_seat.new.seat.me in
-    subst (λ i. Allows (FloorHolds key) slots i me 0 (λ n. n) (Asked key me)) (sym (c.join_seat.ensures.1 ∙ c.self.invariant.first)) (ask_allowed key slots me)
+    subst (λ i. Allows (FloorHolds key) slots i me (spot ticket_line) (λ n. n) (Asked key me)) (sym (c.join_seat.ensures.1 ∙ c.self.invariant.first)) (ask_allowed key slots me)
 
 -- what the keeper's seat knows at the end
 behind : (c : After-drop-pass-inside) → c.ask.new.seat.me ≡ (with_pass_taken c.self.inside.seat.me.0 c.pass.inside.seat.me.0, c.self.inside.seat.me.1)

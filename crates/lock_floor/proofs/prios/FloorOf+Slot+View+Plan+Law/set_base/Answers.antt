@@ -1,4 +1,4 @@
-use Rattle.std.proofs.Common.{◌≤◌, refl, sym, ap, subst}
+use Rattle.std.proofs.Common.{◌≤◌, [], ◌∷◌, refl, sym, ap, subst, ◌∙◌}
 use Rattle.lock_model.specs.Plans.{config_of}
 use Rattle.lock_model.specs.declared.event.Event.TheVariants.{Base}
 use Rattle.lock_state.specs.Steps.Items.{RecordOf}
@@ -6,7 +6,7 @@ use Rattle.floor_table.specs.Views.{Knowledge}
 use Rattle.lock_floor.specs.Views.{entry_by}
 use Rattle.lock_floor.proofs.May.{may_give}
 use Rattle.lock_floor.proofs.Priorities.{record_out, may_take_own, may_base}
-use Rattle.lock_floor.proofs.Resting.{Used, uses_change, taken_out, changed_out}
+use Rattle.lock_floor.proofs.Resting.{Used, uses_change, taken_out, changed_out, wake_gone}
 use Rattle.lock_floor.proofs.prios.FloorOf+Slot+View+Plan+Law.set_base.Given as given
 use Rattle.lock_floor.proofs.prios.FloorOf+Slot+View+Plan+Law.set_base.Goals as goal
 
@@ -24,7 +24,7 @@ stamp_change-requires-clause-item g c =
     let v : Knowledge = c.args.pass.now.view in
     let place = c.record_slot-slot.ensures in
     let taken = c.take.ensures.out (RecordOf v.thread) place in
-    (RecordOf v.thread, ap (λ (w : Knowledge). RecordOf w.thread) (sym taken.view), place)
+    (RecordOf v.thread, ap (λ (w : Knowledge). RecordOf w.thread ∷ []) taken.view, place)
 
 pub stamp_change-requires-clause-last : goal.stamp_change-requires-clause-last
 stamp_change-requires-clause-last g c =
@@ -61,8 +61,13 @@ give-requires-clause-may g c =
     let place = c.record_slot-slot.ensures in
     let taken = c.take.ensures.out (RecordOf v.thread) place in
     let entry = entry_by c.take.new.pass.view.thread c.stamp_change.result (Base c.args.prio) in
-    let out = changed_out (config_of plan) plan v c.take.new.pass.view c.stamp_change.new.pass.view (RecordOf v.thread) j entry taken c.stamp_change.ensures.view in
-    (RecordOf v.thread, place, may_give plan c.stamp_change.new.pass.view (RecordOf v.thread) j _ place out)
+    let out = changed_out (config_of plan) plan v c.take.new.pass.view c.stamp_change.new.pass.view (RecordOf v.thread) j entry taken c.stamp_change.ensures.view in (
+      RecordOf v.thread,
+      place,
+      may_give plan c.stamp_change.new.pass.view (RecordOf v.thread) j _ place out
+          (ap (λ (w : Knowledge). w.share.doing.phase) c.stamp_change.ensures.view ∙ ap (λ (w : Knowledge). w.share.doing.phase) taken.view ∙ c.requires.ready.rest.going.awake)
+          (ap (λ (w : Knowledge). w.share.doing.unstamped) c.stamp_change.ensures.view ∙ wake_gone (Base c.args.prio) _ (ap (λ (w : Knowledge). w.share.doing.unstamped) taken.view ∙ c.requires.ready.rest.going.stamped)),
+    )
 
 used : (g : given.Over) (c : goal.After-give g) → Used c.args.self.now (RecordOf c.args.pass.now.view.thread) (Base c.args.prio) c.args.pass.now c.give.new.pass
 used g c =

@@ -9,7 +9,7 @@ use Rattle.lock_floor.specs.Floors.{Pass}
 use Rattle.lock_floor.specs.Turns.{Takes}
 use Rattle.lock_floor.proofs.May.{may_give}
 use Rattle.lock_floor.proofs.Priorities.{record_out, may_take_own, may_show}
-use Rattle.lock_floor.proofs.Resting.{Used, uses}
+use Rattle.lock_floor.proofs.Resting.{Used, uses, wake_gone}
 use Rattle.lock_floor.proofs.prios.FloorOf+Slot+View+Plan+Law.show.Given as given
 use Rattle.lock_floor.proofs.prios.FloorOf+Slot+View+Plan+Law.show.Goals as goal
 
@@ -56,8 +56,13 @@ give-requires-clause-may g c =
     let j = c.record_slot-slot.result in
     let place = c.record_slot-slot.ensures in
     let taken = c.take.ensures.out (RecordOf v.thread) place in
-    let same = ap (λ (w : Knowledge). w.out) c.stamp.ensures.view ∙ ap (λ (p : Pass Knowledge). p.view.out) c.priorities.ensures.same ∙ ap (λ (w : Knowledge). w.out) taken.view in
-    (RecordOf v.thread, place, may_give plan c.stamp.new.pass.view (RecordOf v.thread) j taken.value place (subst (λ o. o ≡ (j, taken.value) ∷ rest o) (sym same) refl))
+    let same = ap (λ (w : Knowledge). w.out) c.stamp.ensures.view ∙ ap (λ (p : Pass Knowledge). p.view.out) c.priorities.ensures.same ∙ ap (λ (w : Knowledge). w.out) taken.view in (
+      RecordOf v.thread,
+      place,
+      may_give plan c.stamp.new.pass.view (RecordOf v.thread) j taken.value place (subst (λ o. o ≡ (j, taken.value) ∷ rest o) (sym same) refl)
+          (ap (λ (w : Knowledge). w.share.doing.phase) c.stamp.ensures.view ∙ ap (λ (p : Pass Knowledge). p.view.share.doing.phase) c.priorities.ensures.same ∙ ap (λ (w : Knowledge). w.share.doing.phase) taken.view ∙ c.requires.ready.rest.going.awake)
+          (ap (λ (w : Knowledge). w.share.doing.unstamped) c.stamp.ensures.view ∙ wake_gone (Shown c.priorities.result.0 c.priorities.result.1) _ (ap (λ (p : Pass Knowledge). p.view.share.doing.unstamped) c.priorities.ensures.same ∙ ap (λ (w : Knowledge). w.share.doing.unstamped) taken.view ∙ c.requires.ready.rest.going.stamped)),
+    )
 
 used : (g : given.Over) (c : goal.After-give g) → Used c.args.self.now (RecordOf c.args.pass.now.view.thread) (Shown c.priorities.result.0 c.priorities.result.1) c.args.pass.now c.give.new.pass
 used g c =

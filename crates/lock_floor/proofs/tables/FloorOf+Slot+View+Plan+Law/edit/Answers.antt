@@ -1,4 +1,4 @@
-use Rattle.std.proofs.Common.{◌≡◌, ◌≢◌, ◌≤◌, [], ◌∷◌, refl, sym, ◌∙◌, subst}
+use Rattle.std.proofs.Common.{◌≡◌, ◌≢◌, ◌≤◌, [], ◌∷◌, refl, sym, ◌∙◌, subst, ap}
 use Rattle.lock_model.specs.Holds.{NotHeld, Holds}
 use Rattle.lock_model.specs.Operations.{hold_in}
 use Rattle.lock_model.specs.Plans.{config_of}
@@ -12,7 +12,7 @@ use Rattle.lock_floor.specs.Changes.{event_of, IsChangeOf, stamped_change}
 use Rattle.lock_floor.specs.Views.{entry_by}
 use Rattle.lock_floor.proofs.AboutCells.{change_of, change_is_quiet, may_take_cell, may_change}
 use Rattle.lock_floor.proofs.May.{may_give}
-use Rattle.lock_floor.proofs.Resting.{Used, uses_change, taken_out, changed_out}
+use Rattle.lock_floor.proofs.Resting.{Used, uses_change, taken_out, changed_out, wake_gone}
 use Rattle.lock_floor.proofs.tables.FloorOf+Slot+View+Plan+Law.edit.Given as given
 use Rattle.lock_floor.proofs.tables.FloorOf+Slot+View+Plan+Law.edit.Goals as goal
 
@@ -66,8 +66,13 @@ give-requires-clause-may g c =
     let place = c.cell_slot-slot.ensures in
     let taken = c.take.ensures.out cell place in
     let entry = entry_by c.take.new.pass.view.thread c.stamp_change.result c.event.result in
-    let out = changed_out (config_of plan) plan c.args.pass.now.view c.take.new.pass.view c.stamp_change.new.pass.view cell c.cell_slot-slot.result entry taken c.stamp_change.ensures.view in
-    (cell, place, may_give plan c.stamp_change.new.pass.view cell c.cell_slot-slot.result _ place out)
+    let out = changed_out (config_of plan) plan c.args.pass.now.view c.take.new.pass.view c.stamp_change.new.pass.view cell c.cell_slot-slot.result entry taken c.stamp_change.ensures.view in (
+      cell,
+      place,
+      may_give plan c.stamp_change.new.pass.view cell c.cell_slot-slot.result _ place out
+          (ap (λ (w : Knowledge). w.share.doing.phase) c.stamp_change.ensures.view ∙ ap (λ (w : Knowledge). w.share.doing.phase) taken.view ∙ c.requires.ready.rest.going.awake)
+          (ap (λ (w : Knowledge). w.share.doing.unstamped) c.stamp_change.ensures.view ∙ wake_gone c.event.result _ (ap (λ (w : Knowledge). w.share.doing.unstamped) taken.view ∙ c.requires.ready.rest.going.stamped)),
+    )
 
 used : (g : given.Over) (c : goal.After-give g) → Used c.args.self.now (CellOf c.args.l.0 c.args.key) (event_of c.args.l c.args.key c.args.change) c.args.pass.now c.give.new.pass
 used g c =

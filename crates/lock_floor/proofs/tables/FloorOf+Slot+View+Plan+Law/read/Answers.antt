@@ -10,7 +10,7 @@ use Rattle.lock_floor.specs.Floors.{Pass}
 use Rattle.lock_floor.specs.Turns.{Takes}
 use Rattle.lock_floor.proofs.AboutCells.{may_take_cell, may_tell, cell_out}
 use Rattle.lock_floor.proofs.May.{may_give}
-use Rattle.lock_floor.proofs.Resting.{Used, uses}
+use Rattle.lock_floor.proofs.Resting.{Used, uses, wake_gone}
 use Rattle.lock_floor.proofs.tables.FloorOf+Slot+View+Plan+Law.read.Given as given
 use Rattle.lock_floor.proofs.tables.FloorOf+Slot+View+Plan+Law.read.Goals as goal
 
@@ -51,8 +51,13 @@ give-requires-clause-may g c =
     let j = c.cell_slot-slot.result in
     let place = c.cell_slot-slot.ensures in
     let x = Cell c.value-found.result in
-    let same = ap (λ (w : Knowledge). w.out) c.stamp.ensures.view ∙ ap (λ (p : Pass Knowledge). p.view.out) c.value-found.ensures.same in
-    (cell, place, may_give c.args.self.now.plan c.stamp.new.pass.view cell j x place (subst (λ o. o ≡ (j, x) ∷ rest o) (sym same) c.value-found.ensures.value))
+    let same = ap (λ (w : Knowledge). w.out) c.stamp.ensures.view ∙ ap (λ (p : Pass Knowledge). p.view.out) c.value-found.ensures.same in (
+      cell,
+      place,
+      may_give c.args.self.now.plan c.stamp.new.pass.view cell j x place (subst (λ o. o ≡ (j, x) ∷ rest o) (sym same) c.value-found.ensures.value)
+          (ap (λ (w : Knowledge). w.share.doing.phase) c.stamp.ensures.view ∙ ap (λ (p : Pass Knowledge). p.view.share.doing.phase) c.value-found.ensures.same ∙ ap (λ (w : Knowledge). w.share.doing.phase) (c.take.ensures.out cell place).view ∙ c.requires.ready.rest.going.awake)
+          (ap (λ (w : Knowledge). w.share.doing.unstamped) c.stamp.ensures.view ∙ wake_gone (Got c.args.l c.args.key c.value-found.result) _ (ap (λ (p : Pass Knowledge). p.view.share.doing.unstamped) c.value-found.ensures.same ∙ ap (λ (w : Knowledge). w.share.doing.unstamped) (c.take.ensures.out cell place).view ∙ c.requires.ready.rest.going.stamped)),
+    )
 
 used : (g : given.Over) (c : goal.After-give g) → Used c.args.self.now (CellOf c.args.l.0 c.args.key) (Got c.args.l c.args.key c.value-found.result) c.args.pass.now c.give.new.pass
 used g c =

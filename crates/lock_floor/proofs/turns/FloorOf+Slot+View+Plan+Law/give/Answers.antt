@@ -29,13 +29,13 @@ behind_is : (c : goal.After-give_turn) → c.give_turn.new.seat.me ≡ (seeing c
 behind_is c = (c.give_turn.ensures.told (item c).0 (item c).1).0
 
 pub invariant_of-pass : goal.invariant_of-pass
-invariant_of-pass c = tied_given c.pass.inside.who.0 c.pass.inside.held c.pass.inside.log c.pass.inside.finished c.pass.inside.seat.me c.give_turn.new.seat.me (item c).0 (ap (λ (p : Pass Knowledge). p.finished) c.pass.view_is ∙ c.requires.own.going) c.pass.invariant (behind_is c)
+invariant_of-pass c = tied_given c.pass.inside.who.0 c.pass.inside.held c.pass.inside.log c.pass.inside.finished c.pass.inside.seat.me c.give_turn.new.seat.me (item c).0 (ap (λ (p : Pass Knowledge). p.finished) c.pass.view_is ∙ c.requires.own.unfinished) c.pass.invariant (behind_is c)
 
 pub returns-clause-own : goal.returns-clause-own
 returns-clause-own c = record {
   table = c.give_turn.ensures.own ∙ ap (λ (p : Pass Knowledge). p.table) c.pass.view_is ∙ c.requires.own.table;
   plan = ap (λ (m : Me Slot Knowledge). m.0.plan) (behind_is c) ∙ ap (λ (p : Pass Knowledge). p.view.plan) c.pass.view_is ∙ c.requires.own.plan;
-  going = ap (λ (p : Pass Knowledge). p.finished) c.pass.view_is ∙ c.requires.own.going;
+  unfinished = ap (λ (p : Pass Knowledge). p.finished) c.pass.view_is ∙ c.requires.own.unfinished;
 }
 
 pub returns-clause-view : goal.returns-clause-view

@@ -1,9 +1,9 @@
-use Rattle.std.proofs.Common.{◌≡◌}
 use Rattle.lock_floor.specs.Passes.{IsOf}
+use Rattle.lock_floor.proofs.Taking.{HasWaited}
 use Rattle.lock_floor.proofs.turns.FloorOf+Slot+View+Plan+Law.take.Given as goal
 
 abbrev pub invariant-loop : goal.invariant-loop
 invariant-loop g l = record {
   own : IsOf l.self l.pass;
-  view : l.pass.view ≡ l.initial.pass.view;
+  waited : HasWaited l.initial.pass.view l.pass.view;
 }

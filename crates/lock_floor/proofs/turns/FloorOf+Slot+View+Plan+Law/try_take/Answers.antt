@@ -9,7 +9,7 @@ use Rattle.floor_table.specs.declared.slot.Slot.{Slot}
 use Rattle.floor_table.specs.Places.{slot_of, spot, turn_line}
 use Rattle.floor_table.specs.Rule.{FloorHolds}
 use Rattle.floor_table.specs.Steps.{MayMake}
-use Rattle.floor_table.specs.Views.{Knowledge}
+use Rattle.floor_table.specs.Views.{Knowledge, seeing}
 use Rattle.lock_floor.specs.Floors.{Floor, Pass}
 use Rattle.lock_floor.specs.Ties.{IsTied}
 use Rattle.lock_floor.specs.Turns.{FindsOut, Takes}
@@ -32,7 +32,7 @@ item : (c : goal.After-take_turn) → (i : Item) × (slot_of c.self.inside.board
 item c = (c.requires.may.0, subst (λ (f : Floor Plan). slot_of f.plan c.requires.may.0 ≡ Some c.args.slot) (sym c.self.view_is) c.requires.may.1)
 
 tied : (c : goal.After-take_turn) → IsTied c.pass.inside.who.0 c.pass.inside.held c.pass.inside.log c.pass.inside.finished c.take_turn.new.seat.me × (c.take_turn.new.seat.me.0.plan ≡ c.pass.inside.seat.me.0.plan)
-tied c = tied_taken c.pass.inside.who.0 c.pass.inside.held c.pass.inside.log c.pass.inside.finished c.pass.inside.seat.me c.take_turn.new.seat.me c.self.inside.board.shared.key (item c).0 c.args.slot c.take_turn.result (item c).1 (ap (λ (p : Pass Knowledge). p.finished) c.pass.view_is ∙ c.requires.own.going) c.pass.invariant c.take_turn.ensures.told
+tied c = tied_taken c.pass.inside.who.0 c.pass.inside.held c.pass.inside.log c.pass.inside.finished c.pass.inside.seat.me c.take_turn.new.seat.me c.self.inside.board.shared.key (item c).0 c.args.slot c.take_turn.result (item c).1 (ap (λ (p : Pass Knowledge). p.finished) c.pass.view_is ∙ c.requires.own.unfinished) c.pass.invariant c.take_turn.ensures.told
 
 pub invariant_of-pass : goal.invariant_of-pass
 invariant_of-pass c = (tied c).0
@@ -41,7 +41,7 @@ pub returns-clause-own : goal.returns-clause-own
 returns-clause-own c = record {
   table = c.take_turn.ensures.own ∙ ap (λ (p : Pass Knowledge). p.table) c.pass.view_is ∙ c.requires.own.table;
   plan = (tied c).1 ∙ ap (λ (p : Pass Knowledge). p.view.plan) c.pass.view_is ∙ c.requires.own.plan;
-  going = ap (λ (p : Pass Knowledge). p.finished) c.pass.view_is ∙ c.requires.own.going;
+  unfinished = ap (λ (p : Pass Knowledge). p.finished) c.pass.view_is ∙ c.requires.own.unfinished;
 }
 
 pub returns-clause-out : goal.returns-clause-out
@@ -57,9 +57,11 @@ found_other n missed e = absurd (let z : true ≡ false = sym (eq-eqb n 0 e) ∙
 
 pub returns-clause-left : goal.returns-clause-left
 returns-clause-left c missed =
-    ap (λ (m : Me Slot Knowledge). m.0) (c.take_turn.ensures.told.1 (found_other c.take_turn.result missed)).0 ∙ ap (λ (p : Pass Knowledge). p.view) c.pass.view_is
+    ap (λ (m : Me Slot Knowledge). m.0) (c.take_turn.ensures.told.1 (found_other c.take_turn.result missed)).0
+    ∙ ap (λ (p : Pass Knowledge). seeing c.take_turn.new.seat.me.0.seen p.view) c.pass.view_is
 
 pub returns-clause-elsewhere : goal.returns-clause-elsewhere
 returns-clause-elsewhere c missed i place =
     let at = subst (λ (f : Floor Plan). slot_of f.plan i ≡ Some c.args.slot) (sym c.self.view_is) place in
-    subst (λ (z : Floor Plan × Pass Knowledge). FindsOut z.0.plan i z.1.view) (λ i. (c.self.view_is i, c.pass.view_is i)) ((c.take_turn.ensures.told.1 (found_other c.take_turn.result missed)).1 i at)
+    subst (λ (z : Floor Plan × Pass Knowledge). FindsOut z.0.plan i z.1.view c.take_turn.new.seat.me.0) (λ i. (c.self.view_is i, c.pass.view_is i))
+    ((c.take_turn.ensures.told.1 (found_other c.take_turn.result missed)).1 i at)
