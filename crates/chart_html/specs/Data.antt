@@ -4,9 +4,9 @@ use Rattle.chart_escape.specs.Json.{json_string}
 use Rattle.chart_html.specs.Tracks.{array_bytes, hold_bytes, numbered_bytes, prio_bytes, queue_bytes, stand_bytes, track_bytes, wait_bytes, walk_bytes}
 use Rattle.chart_html.specs.declared.edits.Edit.{Edit}
 use Rattle.chart_layout.specs.declared.layout.Chart.{Chart}
-use Rattle.chart_layout.specs.declared.layout.Mark.{Mark}
 use Rattle.chart_layout.specs.declared.layout.MarkKind.{MarkKind}
 use Rattle.chart_layout.specs.declared.layout.MarkKind.TheVariants.{Noted, Did, Idle}
+use Rattle.chart_layout.specs.declared.layout.TurnMark.{TurnMark}
 use Rattle.chart_layout.specs.declared.sentence.Sentence.{Sentence}
 use Rattle.chart_words.specs.Sentences.{sentence_words}
 use Rattle.chart_words.specs.Words.{mark_words, note_words, queue_name}
@@ -132,13 +132,13 @@ done_words plan (Did kind) = mark_words plan (Did kind)
 done_words plan Idle = codes "idle"
 
 -- a turn: its number, its thread, and what was done
-abbrev pub mark_bytes : Plan → Mark → List ℕ
+abbrev pub mark_bytes : Plan → TurnMark → List ℕ
 mark_bytes plan mark =
     codes "[" ++ decimal mark.turn ++ codes "," ++ decimal mark.thread.0
     ++ codes "," ++ json_string (done_words plan mark.what) ++ codes "]"
 
 -- what was done, by turn
-abbrev pub marks_bytes : Plan → List Mark → List ℕ
+abbrev pub marks_bytes : Plan → List TurnMark → List ℕ
 marks_bytes plan marks = array_bytes (mark_bytes plan) marks
 
 -- a sentence: the number of its turn, and its words

@@ -10,7 +10,7 @@ use crate::tracks::push_words;
 use chart_escape::{
     Piece, begin_array, begin_item, begin_member, begin_object, end_array, end_object, push_item,
 };
-use chart_layout::{Chart, Mark, MarkKind};
+use chart_layout::{Chart, MarkKind, TurnMark};
 use chart_words::{push_mark, push_note, push_sentence};
 use lock_model::{Kind, LockDecl, Plan};
 use run_tracks::Rows;
@@ -57,7 +57,7 @@ fn push_marks(
     alloc: Global,
     out: &mut Vec<u8>,
     plan: &Plan,
-    marks: &[Mark],
+    marks: &[TurnMark],
 ) -> Result<(), AllocError>
     requires { IsAtValue out.old.items }
     ensures pushed { OnOk result (out.new.items ≡ out.old.items ++ marks_bytes plan.now marks.now) }

@@ -26,11 +26,11 @@ pub struct Chart {
     /// What threads hold, wait for and walk along, by thread.
     pub bars: Sequence<Bar>,
     /// The priorities by which threads run, by thread and then by row.
-    pub steps: Sequence<Step>,
+    pub steps: Sequence<PrioSpan>,
     /// From thread to thread, by turn.
     pub arrows: Sequence<Arrow>,
     /// What was done, by turn.
-    pub marks: Sequence<Mark>,
+    pub marks: Sequence<TurnMark>,
     /// What happened, by turn.
     pub sentences: Sequence<Sentence>,
     /// How the whole run ended.
@@ -94,7 +94,7 @@ pub enum BarKind {
 /// let is_lent_to = step.effective < step.base;
 /// ```
 #[derive(Clone, Copy, Debug, PartialEq, Eq)]
-pub struct Step {
+pub struct PrioSpan {
     pub thread: ThreadNo,
     pub first: u32,
     pub last: u32,
@@ -141,10 +141,10 @@ pub enum ArrowKind {
 /// What a thread did in its turn. A turn of a thread that has ended has no mark.
 ///
 /// ```
-/// let mark = Mark { turn: 3, thread: ThreadNo(0), what: MarkKind::Idle };
+/// let mark = TurnMark { turn: 3, thread: ThreadNo(0), what: MarkKind::Idle };
 /// ```
 #[derive(Clone, Copy, Debug, PartialEq, Eq)]
-pub struct Mark {
+pub struct TurnMark {
     pub turn: u32,
     pub thread: ThreadNo,
     pub what: MarkKind,

@@ -9,5 +9,5 @@
 mod layout;
 mod sentence;
 
-pub use layout::{Arrow, ArrowKind, Bar, BarKind, Chart, Lane, Mark, MarkKind, Step};
+pub use layout::{Arrow, ArrowKind, Bar, BarKind, Chart, Lane, MarkKind, PrioSpan, TurnMark};
 pub use sentence::{End, Saying, Sentence};

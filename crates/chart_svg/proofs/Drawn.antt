@@ -6,7 +6,7 @@ use Rattle.chart_svg.proofs.Standing.{all_still, drawn_more, IsKept}
 use Rattle.chart_svg.specs.Drawn.{pixels, rect_bytes, Keeps, Stands}
 use Rattle.chart_svg.specs.Lanes.{bar_bottom, bar_top, BarsAreDrawn, IsDrawnAt, IsLentAt, LoansAreDrawn}
 use Rattle.chart_svg.specs.Pages.{stop_at, ArrowIsOn, FrameIsOn, HeadIsDrawn, LineIsDrawn, MarkIsOn, StopsAt}
-use Rattle.chart_svg.specs.declared.page.Lane.{Lane}
+use Rattle.chart_svg.specs.declared.page.LaneBand.{LaneBand}
 use Rattle.chart_svg.specs.declared.page.Page.{Page}
 use Rattle.chart_svg.specs.declared.shapes.Area.{Area}
 
@@ -17,22 +17,22 @@ far begin level zero ge = omega arith
 far begin level (suc pitch) ge = omega arith
 
 -- a level is counted up to the greatest number, where all are at the greatest place
-pub bar_top-count : (lane : Lane) (level : ℕ) → bar_top lane (pixels level) ≡ bar_top lane level
+pub bar_top-count : (lane : LaneBand) (level : ℕ) → bar_top lane (pixels level) ≡ bar_top lane level
 bar_top-count lane level = elim (cases_lt level 4294967296) [
   | inl lt ↦ (let same : pixels level ≡ level = omega arith in ap (bar_top lane) same)
   | inr ge ↦ far (pixels (lane.begin.0 + 27)) level lane.pitch ge
 ]
 
 -- a walk that is drawn below its level
-abbrev pub WalkIsDrawn : Page → Lane → List ℕ → Bar × ℕ → Type 0
+abbrev pub WalkIsDrawn : Page → LaneBand → List ℕ → Bar × ℕ → Type 0
 WalkIsDrawn page lane picture walk = IsDrawnAt page picture (pixels (bar_bottom lane walk.1 + 2)) walk.0
 
 -- 2. What stays drawn
 
-pub walk_kept : (page : Page) (lane : Lane) → IsKept (WalkIsDrawn page lane)
+pub walk_kept : (page : Page) (lane : LaneBand) → IsKept (WalkIsDrawn page lane)
 walk_kept page lane old new walk keeps = keeps _
 
-pub walks_more : (page : Page) (lane : Lane) (old new : List ℕ) (walks own : List (Bar × ℕ)) (i : ℕ) (d : Bar × ℕ) (top : ℕ) → own ≡ walks → i < length own
+pub walks_more : (page : Page) (lane : LaneBand) (old new : List ℕ) (walks own : List (Bar × ℕ)) (i : ℕ) (d : Bar × ℕ) (top : ℕ) → own ≡ walks → i < length own
     → top ≡ pixels (bar_bottom lane (get_or own i d).1 + 2) → Keeps old new → All (WalkIsDrawn page lane old) (take i walks) → IsDrawnAt page new top (get_or own i d).0
     → All (WalkIsDrawn page lane new) (take (i + 1) walks)
 walks_more page lane old new walks own i d top e lt at keeps h drawn =
@@ -56,7 +56,8 @@ line_kept page old new one keeps = keeps _
 pub head_kept : (page : Page) → IsKept (HeadIsDrawn page)
 head_kept page old new one keeps = keeps _
 
-stop_kept : (lane : Lane) (at : Option ℕ) (old new : List ℕ) → Keeps old new → StopsAt old lane at → StopsAt new lane at
+stop_kept : (lane : LaneBand) (at : Option ℕ) (old new : List ℕ) → Keeps old new → StopsAt old lane at
+    → StopsAt new lane at
 stop_kept lane None old new keeps was = was
 stop_kept lane (Some x) old new keeps was = keeps _ was
 

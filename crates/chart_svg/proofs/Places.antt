@@ -6,23 +6,23 @@ use Rattle.std.proofs.lemmas.Option.{get_or_from_slice_get, slice_get_cases, sli
 use Rattle.chart_layout.specs.declared.layout.Bar.{Bar}
 use Rattle.chart_layout.specs.declared.layout.BarKind.{BarKind}
 use Rattle.chart_layout.specs.declared.layout.BarKind.TheVariants as bars
-use Rattle.chart_layout.specs.declared.layout.Step.{Step}
+use Rattle.chart_layout.specs.declared.layout.PrioSpan.{PrioSpan}
 use Rattle.chart_svg.proofs.Ranks.{rank-lt}
 use Rattle.chart_svg.specs.Drawn.{bar_height, pixels, BarIsDrawn, HasLane, IsInLane, IsPrioOf, LoanIsDrawn}
 use Rattle.chart_svg.specs.Lanes.{bar_bottom, bar_top, begin_of, lane_top, pitch_of, rank_in, scale_of, strip_of, top_of, BarsAreDrawn, Fits, HasBars, HasLanes, HasPrios, HasRoom, HasSteps, IsDrawnAt, IsLentAt, LoansAreDrawn}
-use Rattle.chart_svg.specs.declared.page.Lane.{Lane}
+use Rattle.chart_svg.specs.declared.page.LaneBand.{LaneBand}
 use Rattle.chart_svg.specs.declared.page.Page.{Page}
 
 -- 1. Lanes
 
-pub among : (lanes : List Lane) (t : ℕ) (lane : Lane) → slice_get lanes t ≡ Some lane → Contains lanes lane
+pub among : (lanes : List LaneBand) (t : ℕ) (lane : LaneBand) → slice_get lanes t ≡ Some lane → Contains lanes lane
 among lanes t lane is = (t, slice_get_within lanes t lane is, get_or_from_slice_get lanes t lane lane is)
 
-lane_begins : (page : Page) (t : ℕ) (lane : Lane) → slice_get page.lanes.items t ≡ Some lane → lane_top page t ≡ lane.top.0
+lane_begins : (page : Page) (t : ℕ) (lane : LaneBand) → slice_get page.lanes.items t ≡ Some lane → lane_top page t ≡ lane.top.0
 lane_begins page t lane is = ap (top_of page.bottom.0) is
 
 -- what stands between the top and the bottom of a lane
-pub in_lane : (page : Page) (t : ℕ) (lane : Lane) (y : ℕ) → HasRoom page → slice_get page.lanes.items t ≡ Some lane → lane.top.0 ≤ y → pixels (y + 1) ≤ lane.bottom.0
+pub in_lane : (page : Page) (t : ℕ) (lane : LaneBand) (y : ℕ) → HasRoom page → slice_get page.lanes.items t ≡ Some lane → lane.top.0 ≤ y → pixels (y + 1) ≤ lane.bottom.0
     → IsInLane (scale_of page) t y
 in_lane page t lane y room is top bottom = record {
   begins = omega (arith, lane_begins page t lane is);
@@ -40,7 +40,7 @@ lanes_apart page room has t lt = elim (slice_get_cases page.chart.now.lanes t).1
 pub ranks_apart : (page : Page) → HasPrios page.prios.items page.chart.now.steps → (p q : ℕ) → p < q → Any (IsPrioOf p) page.chart.now.steps
     → rank_in page.prios.items p < rank_in page.prios.items q
 ranks_apart page has p q lt (k, step, within, is, which) =
-    let P : Step → Type 0 = λ s. Contains page.prios.items s.effective × Contains page.prios.items s.base in
+    let P : PrioSpan → Type 0 = λ s. Contains page.prios.items s.effective × Contains page.prios.items s.base in
     let both : P step = All-contains P page.chart.now.steps step has (k, within, is) in
     elim which [
       | inl e ↦ rank-lt page.prios.items step.effective p q e lt both.0
@@ -57,7 +57,7 @@ low (bars.Woken q) = omega arith
 low bars.Walks = omega arith
 
 -- what stands there with room for a bar
-bar_drawn : (page : Page) (picture : List ℕ) (lane : Lane) (bar : Bar) (top : ℕ) → HasRoom page → slice_get page.lanes.items bar.thread.0 ≡ Some lane
+bar_drawn : (page : Page) (picture : List ℕ) (lane : LaneBand) (bar : Bar) (top : ℕ) → HasRoom page → slice_get page.lanes.items bar.thread.0 ≡ Some lane
     → lane.top.0 ≤ top → pixels (top + 18) ≤ lane.bottom.0 → IsDrawnAt page picture top bar → BarIsDrawn page.plan.now page.chart.now (scale_of page) picture bar
 bar_drawn page picture lane bar top room is begins ends stands = record {
   top = top;
@@ -84,7 +84,7 @@ bars_drawn page picture room has drawn bar in_chart lt =
 -- 3. Loans
 
 pub loans_drawn : (page : Page) (picture : List ℕ) → HasRoom page → HasSteps page page.chart.now → All (LoansAreDrawn page picture) page.lanes.items
-    → (step : Step) → Contains page.chart.now.steps step → HasLane page.chart.now step.thread.0 → step.effective ≢ step.base
+    → (step : PrioSpan) → Contains page.chart.now.steps step → HasLane page.chart.now step.thread.0 → step.effective ≢ step.base
     → LoanIsDrawn page.chart.now (scale_of page) picture step
 loans_drawn page picture room has drawn step in_chart lt lent =
     let of = has step in_chart lt in

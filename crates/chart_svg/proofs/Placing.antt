@@ -13,18 +13,18 @@ use Rattle.chart_svg.specs.Drawn.{arrow_title, figure_bytes, head_class, head_fi
 use Rattle.chart_svg.specs.Lanes.{scale_of, top_of, Fits, HasLanes, HasRoom}
 use Rattle.chart_svg.specs.Pages.{ArrowIsOn, HasEnds, HeadIsDrawn, IsAmong, IsPlaced, LineIsDrawn, begin_in, row_of, stop_at, FrameIsOn, StopsAt}
 use Rattle.chart_svg.specs.declared.arrows.Placed.{Placed}
-use Rattle.chart_svg.specs.declared.page.Lane.{Lane}
+use Rattle.chart_svg.specs.declared.page.LaneBand.{LaneBand}
 use Rattle.chart_svg.specs.declared.page.Page.{Page}
 use Rattle.chart_svg.specs.declared.shapes.Figure.TheVariants.{Up, Down}
 
 -- 1. Places of arrows
 
 -- the head points to the other lane
-pub head_told : (page : Page) (arrow : Arrow) (from to : Lane) → slice_get page.lanes.items arrow.from.0 ≡ Some from
+pub head_told : (page : Page) (arrow : Arrow) (from to : LaneBand) → slice_get page.lanes.items arrow.from.0 ≡ Some from
     → slice_get page.lanes.items arrow.to.0 ≡ Some to → (if nat_lt to.top.0 from.top.0 then Up else Down) ≡ head_figure (scale_of page) arrow
 head_told page arrow from to is_from is_to =
-    ap (λ (o : Option Lane). if nat_lt (top_of page.bottom.0 o) from.top.0 then Up else Down) (sym is_to)
-    ∙ ap (λ (o : Option Lane). if nat_lt (top_of page.bottom.0 (slice_get page.lanes.items arrow.to.0)) (top_of page.bottom.0 o) then Up else Down) (sym is_from)
+    ap (λ (o : Option LaneBand). if nat_lt (top_of page.bottom.0 o) from.top.0 then Up else Down) (sym is_to)
+    ∙ ap (λ (o : Option LaneBand). if nat_lt (top_of page.bottom.0 (slice_get page.lanes.items arrow.to.0)) (top_of page.bottom.0 o) then Up else Down) (sym is_from)
 
 -- an arrow more is placed
 pub placed_more : (page : Page) (arrows ys : List Arrow) (i : ℕ) (d : Arrow) (old new : List Placed) (one : Placed) → ys ≡ arrows → i < length ys

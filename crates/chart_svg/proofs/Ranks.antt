@@ -5,7 +5,7 @@ use Rattle.std.specs.List.{filter}
 use Rattle.std.proofs.lemmas.Bool.Decides.{nat_tests, Decides-eqb}
 use Rattle.lock_model.specs.declared.numbers.Prio.{Prio}
 use Rattle.std.proofs.lemmas.List.Elements.{All-weaker, Contains-append_left, Contains-push}
-use Rattle.chart_layout.specs.declared.layout.Step.{Step}
+use Rattle.chart_layout.specs.declared.layout.PrioSpan.{PrioSpan}
 use Rattle.chart_svg.proofs.Standing.{all_more}
 use Rattle.chart_svg.specs.Lanes.{rank_in, HasPrios}
 
@@ -39,11 +39,11 @@ pub same_prio : (x y : Prio) → nat_eq x.0 y.0 ≡ true → x ≡ y
 same_prio x y e = let prio : ℕ → Prio = λ n. record { 0 = n } in ap prio ((Decides-eqb x.0 y.0).0 e)
 
 -- the priorities of a step more
-pub prios_more : (steps : List Step) (i : ℕ) (d : Step) (old mid new : List Prio) → i < length steps → mid ≡ old ++ (get_or steps i d).effective ∷ []
+pub prios_more : (steps : List PrioSpan) (i : ℕ) (d : PrioSpan) (old mid new : List Prio) → i < length steps → mid ≡ old ++ (get_or steps i d).effective ∷ []
     → new ≡ mid ++ (get_or steps i d).base ∷ [] → HasPrios old (take i steps) → HasPrios new (take (i + 1) steps)
 prios_more steps i d old mid new lt effective base h =
-    let Old : Step → Type 0 = λ step. Contains old step.effective × Contains old step.base in
-    let New : Step → Type 0 = λ step. Contains new step.effective × Contains new step.base in
+    let Old : PrioSpan → Type 0 = λ step. Contains old step.effective × Contains old step.base in
+    let New : PrioSpan → Type 0 = λ step. Contains new step.effective × Contains new step.base in
     let in_mid : (p : Prio) → Contains mid p → Contains new p = λ p in_it. rw base (Contains-append_left mid ((get_or steps i d).base ∷ []) p in_it) in
     let in_old : (p : Prio) → Contains old p → Contains new p = λ p in_it. in_mid p (rw effective (Contains-append_left old ((get_or steps i d).effective ∷ []) p in_it)) in
     all_more New steps steps i d refl lt

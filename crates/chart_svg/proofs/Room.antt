@@ -9,7 +9,7 @@ use Rattle.lock_model.specs.declared.numbers.Prio.{Prio}
 use Rattle.chart_svg.proofs.Laying.{slice_get-push}
 use Rattle.chart_svg.specs.Drawn.{pixels}
 use Rattle.chart_svg.specs.Lanes.{bar_bottom, lane_top, pitch_of, rank_in, top_of, Fits, HasRoom}
-use Rattle.chart_svg.specs.declared.page.Lane.{Lane}
+use Rattle.chart_svg.specs.declared.page.LaneBand.{LaneBand}
 use Rattle.chart_svg.specs.declared.page.Page.{Page}
 use Rattle.chart_svg.specs.declared.pixels.Px.{Px}
 
@@ -26,7 +26,7 @@ strip_room end y rank gaps pitch bottom is le small room =
     omega arith
 
 -- a lane that was lent to
-pub fits_lent : (page : Page) (lane : Lane) (end strip : Px) → lane.top.0 ≤ lane.begin.0 → lane.begin.0 ≤ 4294967295
+pub fits_lent : (page : Page) (lane : LaneBand) (end strip : Px) → lane.top.0 ≤ lane.begin.0 → lane.begin.0 ≤ 4294967295
     → ((level : ℕ) → level ≤ length lane.bars.levels.items - 1 → pixels (bar_bottom lane level + 4) ≤ end.0) → lane.strip ≡ Some strip → strip.0 ≡ pixels (end.0 + 5)
     → lane.bottom.0 ≡ pixels (pixels (end.0 + pixels (pitch_of (length page.prios.items) * (length page.prios.items - 1))) + 27)
     → Fits page lane
@@ -48,7 +48,7 @@ fits_lent page lane end strip top begin bars is place bottom =
           strip_room end.0 y.0 (rank_in page.prios.items prio) (length page.prios.items - 1) (pitch_of (length page.prios.items)) lane.bottom.0 (same y e) le small room);
     }
 
-fits_still : (old new : Page) (lane : Lane) → new.prios ≡ old.prios → Fits old lane → Fits new lane
+fits_still : (old new : Page) (lane : LaneBand) → new.prios ≡ old.prios → Fits old lane → Fits new lane
 fits_still old new lane same h = record {
   begins = h.begins;
   begin_fits = h.begin_fits;
@@ -72,20 +72,20 @@ room_none page none bottom = record {
 }
 
 -- a page has one lane more
-top_more : (lanes : List Lane) (lane : Lane) (old new t : ℕ) → lane.top.0 ≡ old → t ≤ length lanes
+top_more : (lanes : List LaneBand) (lane : LaneBand) (old new t : ℕ) → lane.top.0 ≡ old → t ≤ length lanes
     → top_of new (slice_get (lanes ++ lane ∷ []) t) ≡ top_of old (slice_get lanes t)
 top_more [] lane old new zero is le = is
 top_more [] lane old new (suc t) is le = absurd (omega arith)
 top_more (l ∷ lanes) lane old new zero is le = refl
 top_more (l ∷ lanes) lane old new (suc t) is le = top_more lanes lane old new t is (omega arith)
 
-top_past : (lanes : List Lane) (t new : ℕ) → length lanes ≤ t → top_of new (slice_get lanes t) ≡ new
+top_past : (lanes : List LaneBand) (t new : ℕ) → length lanes ≤ t → top_of new (slice_get lanes t) ≡ new
 top_past lanes t new le = ap (λ o. top_of new o) (slice_get_past lanes t le)
 
-pub room_more : (old new : Page) (lane : Lane) → new.lanes.items ≡ old.lanes.items ++ lane ∷ [] → new.prios ≡ old.prios → new.bottom.0 ≡ lane.bottom.0
+pub room_more : (old new : Page) (lane : LaneBand) → new.lanes.items ≡ old.lanes.items ++ lane ∷ [] → new.prios ≡ old.prios → new.bottom.0 ≡ lane.bottom.0
     → lane.top.0 ≡ old.bottom.0 → Fits old lane → HasRoom old → HasRoom new
 room_more old new lane pushed prios bottom top fit h =
-    let read : (t : ℕ) (own : Lane) → slice_get new.lanes.items t ≡ Some own
+    let read : (t : ℕ) (own : LaneBand) → slice_get new.lanes.items t ≡ Some own
     → ((t < length old.lanes.items) × (slice_get old.lanes.items t ≡ Some own)) ⊎ ((t ≡ length old.lanes.items) × (lane ≡ own)) =
     λ t own is. slice_get-push old.lanes.items lane t own (ap (λ xs. slice_get xs t) (sym pushed) ∙ is) in
     let tops : (t : ℕ) → t ≤ length old.lanes.items → lane_top new t ≡ lane_top old t =
@@ -96,7 +96,7 @@ room_more old new lane pushed prios bottom top fit h =
       bottom_fits = omega (arith, fit.bottom_fits);
       fits = λ t own is. elim (read t own is) [
         | inl (lt, was) ↦ fits_still old new own prios (h.fits t own was)
-        | inr (e, same) ↦ (let P = λ (l : Lane). Fits old l in fits_still old new own prios (subst P same fit))
+        | inr (e, same) ↦ (let P = λ (l : LaneBand). Fits old l in fits_still old new own prios (subst P same fit))
       ];
       ends = λ t own is. elim (read t own is) [
         | inl (lt, was) ↦ h.ends t own was ∙ sym (tops (t + 1) (omega arith))

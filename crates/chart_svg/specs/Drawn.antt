@@ -12,10 +12,10 @@ use Rattle.chart_layout.specs.declared.layout.BarKind.{BarKind}
 use Rattle.chart_layout.specs.declared.layout.BarKind.TheVariants.{Holds, Waits, TakenOff, Woken, Walks}
 use Rattle.chart_layout.specs.declared.layout.Chart.{Chart}
 use Rattle.chart_layout.specs.declared.layout.Lane.{Lane}
-use Rattle.chart_layout.specs.declared.layout.Mark.{Mark}
 use Rattle.chart_layout.specs.declared.layout.MarkKind.{MarkKind}
 use Rattle.chart_layout.specs.declared.layout.MarkKind.TheVariants.{Noted, Did, Idle}
-use Rattle.chart_layout.specs.declared.layout.Step.{Step}
+use Rattle.chart_layout.specs.declared.layout.PrioSpan.{PrioSpan}
+use Rattle.chart_layout.specs.declared.layout.TurnMark.{TurnMark}
 use Rattle.chart_words.specs.Words.{arrow_words, bar_words, mark_words, note_words}
 use Rattle.lock_model.specs.Plans.{thread_name}
 use Rattle.lock_model.specs.declared.plan.Mode.TheVariants.{Excl, Shared}
@@ -133,7 +133,7 @@ abbrev pub prio_at : Scale → ℕ → ℕ → ℕ
 prio_at scale t prio = pixels (scale.strip t + scale.rank prio * scale.pitch)
 
 -- a thread runs as the priority in a step, or has it as its own
-abbrev pub IsPrioOf : ℕ → Step → Type 0
+abbrev pub IsPrioOf : ℕ → PrioSpan → Type 0
 IsPrioOf prio step = (step.effective.0 ≡ prio) ⊎ (step.base.0 ≡ prio)
 
 -- 4. Names and ends of threads
@@ -213,7 +213,7 @@ pub record BarIsDrawn (plan : Plan) (chart : Chart) (scale : Scale) (picture : L
 -- 6. Loans: steps in which a thread runs as another priority than its own
 
 -- from the place of the priority as which it runs down to that of its own
-abbrev pub loan_area : Scale → Chart → Step → Area
+abbrev pub loan_area : Scale → Chart → PrioSpan → Area
 loan_area scale chart step = record {
   x = record { 0 = row_begin scale chart step.first };
   y = record { 0 = prio_at scale step.thread.0 step.effective.0 };
@@ -223,7 +223,7 @@ loan_area scale chart step = record {
 }
 
 -- the loan stands in the strip of its thread's lane
-pub record LoanIsDrawn (chart : Chart) (scale : Scale) (picture : List ℕ) (step : Step)
+pub record LoanIsDrawn (chart : Chart) (scale : Scale) (picture : List ℕ) (step : PrioSpan)
     : Type 0 where
   pub top_in_lane : IsInLane scale step.thread.0 (prio_at scale step.thread.0 step.effective.0)
   pub base_in_lane : IsInLane scale step.thread.0 (prio_at scale step.thread.0 step.base.0)
@@ -283,7 +283,7 @@ note_of plan (Did kind) = []
 note_of plan Idle = codes "idle"
 
 -- what a mark says: in which turn who did what
-abbrev pub mark_title : Plan → Mark → List ℕ
+abbrev pub mark_title : Plan → TurnMark → List ℕ
 mark_title plan mark =
     codes "turn " ++ decimal mark.turn ++ codes ", " ++ thread_name plan mark.thread.0
     ++ codes ": " ++ mark_words plan mark.what ++ note_of plan mark.what
@@ -294,7 +294,7 @@ dot_class (Did kind) = codes "dot"
 dot_class Idle = codes "idle"
 
 -- what was refused has a cross, and all else a dot
-abbrev pub mark_bytes : Plan → Mark → ℕ → ℕ → List ℕ
+abbrev pub mark_bytes : Plan → TurnMark → ℕ → ℕ → List ℕ
 mark_bytes plan mark x y =
     if is_refusal mark.what
     then figure_bytes (codes "cross") Cross x y (mark_title plan mark)
@@ -302,7 +302,7 @@ mark_bytes plan mark x y =
 
 -- the mark stands in the column of its turn and in its thread's lane
 pub record MarkIsDrawn (plan : Plan) (chart : Chart) (scale : Scale) (picture : List ℕ)
-    (mark : Mark) : Type 0 where
+    (mark : TurnMark) : Type 0 where
   pub y : ℕ
   pub in_lane : IsInLane scale mark.thread.0 y
   pub stands : Stands picture (mark_bytes plan mark (turn_at scale chart mark.turn) y)
@@ -329,10 +329,10 @@ pub record Draws (plan : Plan) (chart : Chart) (picture : List ℕ) : Type 0 whe
       → StopIsDrawn chart scale picture t row
   pub bars : (bar : Bar) → Contains chart.bars bar → HasLane chart bar.thread.0
       → BarIsDrawn plan chart scale picture bar
-  pub loans : (step : Step) → Contains chart.steps step → HasLane chart step.thread.0
+  pub loans : (step : PrioSpan) → Contains chart.steps step → HasLane chart step.thread.0
       → step.effective ≢ step.base → LoanIsDrawn chart scale picture step
   pub arrows : (arrow : Arrow) → Contains chart.arrows arrow
       → HasLane chart arrow.from.0 → HasLane chart arrow.to.0
       → ArrowIsDrawn plan chart scale picture arrow
-  pub marks : (mark : Mark) → Contains chart.marks mark → HasLane chart mark.thread.0
+  pub marks : (mark : TurnMark) → Contains chart.marks mark → HasLane chart mark.thread.0
       → MarkIsDrawn plan chart scale picture mark

@@ -5,19 +5,19 @@ use Rattle.std.specs.List.{filter}
 use Rattle.chart_layout.specs.declared.layout.Bar.{Bar}
 use Rattle.chart_layout.specs.declared.layout.Chart.{Chart}
 use Rattle.chart_layout.specs.declared.layout.Lane.{Lane as ChartLane}
-use Rattle.chart_layout.specs.declared.layout.Step.{Step}
+use Rattle.chart_layout.specs.declared.layout.PrioSpan.{PrioSpan}
 use Rattle.lock_model.specs.declared.numbers.Prio.{Prio}
 use Rattle.lock_model.specs.declared.numbers.ThreadNo.{ThreadNo}
 use Rattle.chart_svg.specs.Drawn.{bar_area, bar_class, bar_title, loan_area, pixels, rect_bytes, Scale, Stands}
 use Rattle.chart_svg.specs.declared.packing.Packed.{Packed}
-use Rattle.chart_svg.specs.declared.page.Lane.{Lane}
+use Rattle.chart_svg.specs.declared.page.LaneBand.{LaneBand}
 use Rattle.chart_svg.specs.declared.page.Page.{Page}
 use Rattle.chart_svg.specs.declared.pixels.Px.{Px}
 
 -- 1. The scale of a page
 
 -- where a lane begins; where there is none, the lanes end
-abbrev pub top_of : ℕ → Option Lane → ℕ
+abbrev pub top_of : ℕ → Option LaneBand → ℕ
 top_of bottom None = bottom
 top_of bottom (Some lane) = lane.top.0
 
@@ -29,7 +29,7 @@ abbrev pub begin_of : Option Px → ℕ
 begin_of None = 0
 begin_of (Some y) = y.0
 
-abbrev pub strip_of : Option Lane → ℕ
+abbrev pub strip_of : Option LaneBand → ℕ
 strip_of None = 0
 strip_of (Some lane) = begin_of lane.strip
 
@@ -54,15 +54,15 @@ scale_of page = record {
 -- 2. Places in a lane
 
 -- the top and the bottom of the bars of a level
-abbrev pub bar_top : Lane → ℕ → ℕ
+abbrev pub bar_top : LaneBand → ℕ → ℕ
 bar_top lane level = pixels (pixels (lane.begin.0 + 27) + level * lane.pitch)
 
-abbrev pub bar_bottom : Lane → ℕ → ℕ
+abbrev pub bar_bottom : LaneBand → ℕ → ℕ
 bar_bottom lane level = pixels (bar_top lane level + 18)
 
 -- what stands in a lane stands between its top and its bottom: marks, the line of its thread, bars on all levels with a
 -- walk below them, and each priority of the strip
-pub record Fits (page : Page) (lane : Lane) : Type 0 where
+pub record Fits (page : Page) (lane : LaneBand) : Type 0 where
   pub begins : lane.top.0 ≤ lane.begin.0
   pub begin_fits : lane.begin.0 ≤ 4294967295
   pub bottom_fits : lane.bottom.0 ≤ 4294967295
@@ -77,8 +77,8 @@ pub record Fits (page : Page) (lane : Lane) : Type 0 where
 
 -- each lane of a page has room for what stands in it, and ends where the next begins
 pub record HasRoom (page : Page) : Type 0 where
-  pub fits : (t : ℕ) (lane : Lane) → slice_get page.lanes.items t ≡ Some lane → Fits page lane
-  pub ends : (t : ℕ) (lane : Lane) → slice_get page.lanes.items t ≡ Some lane
+  pub fits : (t : ℕ) (lane : LaneBand) → slice_get page.lanes.items t ≡ Some lane → Fits page lane
+  pub ends : (t : ℕ) (lane : LaneBand) → slice_get page.lanes.items t ≡ Some lane
       → lane.bottom.0 ≡ lane_top page (t + 1)
   pub bottom_fits : page.bottom.0 ≤ 4294967295
 
@@ -92,9 +92,9 @@ pub record IsAt {X : Type 0} (lists : List (Vec X)) (place : ℕ) (x : X) : Type
   pub has : Contains list.items x
 
 -- the thing of a thread is in the lane of the thread
-pub record IsOf {X : Type 0} (Has : Lane → X → Type 0) (lanes : List Lane) (t : ℕ) (x : X)
+pub record IsOf {X : Type 0} (Has : LaneBand → X → Type 0) (lanes : List LaneBand) (t : ℕ) (x : X)
     : Type 0 where
-  pub lane : Lane
+  pub lane : LaneBand
   pub is : slice_get lanes t ≡ Some lane
   pub has : Has lane x
 
@@ -124,7 +124,7 @@ IsDrawnAt page picture top bar =
     (bar_area (scale_of page) page.chart.now bar top) (bar_title page.plan.now page.chart.now bar))
 
 -- all bars of a lane stand in the picture, those of each level, and the walks below theirs
-pub record BarsAreDrawn (page : Page) (picture : List ℕ) (lane : Lane) : Type 0 where
+pub record BarsAreDrawn (page : Page) (picture : List ℕ) (lane : LaneBand) : Type 0 where
   pub levels : (level : ℕ) (bar : Bar) → IsAt lane.bars.levels.items level bar
       → IsDrawnAt page picture (bar_top lane level) bar
   pub walks : All (λ walk. IsDrawnAt page picture (pixels (bar_bottom lane walk.1 + 2)) walk.0)
@@ -133,18 +133,18 @@ pub record BarsAreDrawn (page : Page) (picture : List ℕ) (lane : Lane) : Type 
 -- 5. Steps and loans
 
 -- the priorities by which the threads of a chart run, and their own, are among those of a page
-abbrev pub HasPrios : List Prio → List Step → Type 0
+abbrev pub HasPrios : List Prio → List PrioSpan → Type 0
 HasPrios prios steps = All (λ step. Contains prios step.effective × Contains prios step.base) steps
 
 -- the step is among those of the lane, which has a strip if it is a loan
-pub record HasStep (lane : Lane) (step : Step) : Type 0 where
+pub record HasStep (lane : LaneBand) (step : PrioSpan) : Type 0 where
   pub among : Contains lane.steps.items step
   pub has_strip : step.effective ≢ step.base → (y : Px) × (lane.strip ≡ Some y)
 
 -- the lanes are one more, with the bars and the steps of its thread
-pub record HasLaneMore (old new : List Lane) (thread : ThreadNo) (bars : List Bar)
-    (steps : List Step) : Type 0 where
-  pub lane : Lane
+pub record HasLaneMore (old new : List LaneBand) (thread : ThreadNo) (bars : List Bar)
+    (steps : List PrioSpan) : Type 0 where
+  pub lane : LaneBand
   pub pushed : new ≡ old ++ lane ∷ []
   pub named : lane.thread ≡ thread
   pub has_bars : All (IsLaid lane.bars) bars
@@ -152,17 +152,17 @@ pub record HasLaneMore (old new : List Lane) (thread : ThreadNo) (bars : List Ba
 
 -- each step of a chart whose thread has a lane is in that lane
 abbrev pub HasSteps : Page → Chart → Type 0
-HasSteps page chart = (step : Step) → Contains chart.steps step
+HasSteps page chart = (step : PrioSpan) → Contains chart.steps step
     → step.thread.0 < length chart.lanes → IsOf HasStep page.lanes.items step.thread.0 step
 
 -- a loan stands in the picture if the strip of its thread's lane begins there
-abbrev pub IsLentAt : Page → List ℕ → ℕ → Step → Type 0
+abbrev pub IsLentAt : Page → List ℕ → ℕ → PrioSpan → Type 0
 IsLentAt page picture strip step =
     (scale_of page).strip step.thread.0 ≡ strip → step.effective ≢ step.base
     → Stands picture (rect_bytes (codes "loan")
     (loan_area (scale_of page) page.chart.now step) (codes "runs as " ++ decimal step.effective.0))
 
 -- all loans of a lane that has a strip stand in the picture
-abbrev pub LoansAreDrawn : Page → List ℕ → Lane → Type 0
+abbrev pub LoansAreDrawn : Page → List ℕ → LaneBand → Type 0
 LoansAreDrawn page picture lane = (y : Px) → lane.strip ≡ Some y
     → All (IsLentAt page picture y.0) lane.steps.items

@@ -3,22 +3,22 @@ use Rattle.std.specs.Prelude.{◌≡◌, ⊤, ℕ, ◌+◌, ◌<◌, ◌≤◌, 
 use Rattle.chart_layout.specs.declared.layout.Arrow.{Arrow}
 use Rattle.chart_layout.specs.declared.layout.Chart.{Chart}
 use Rattle.chart_layout.specs.declared.layout.Lane.{Lane as ChartLane}
-use Rattle.chart_layout.specs.declared.layout.Mark.{Mark}
+use Rattle.chart_layout.specs.declared.layout.TurnMark.{TurnMark}
 use Rattle.lock_model.specs.Plans.{thread_name}
 use Rattle.chart_svg.specs.Drawn.{arrow_title, figure_bytes, head_class, head_figure, line_bytes, line_class, pixels, row_begin, turn_at, words_bytes, ArrowIsDrawn, IsInLane, MarkIsDrawn, Scale, Stands}
 use Rattle.chart_svg.specs.Lanes.{scale_of, BarsAreDrawn, Fits, LoansAreDrawn}
 use Rattle.chart_svg.specs.declared.arrows.Placed.{Placed}
-use Rattle.chart_svg.specs.declared.page.Lane.{Lane}
+use Rattle.chart_svg.specs.declared.page.LaneBand.{LaneBand}
 use Rattle.chart_svg.specs.declared.page.Page.{Page}
 
 -- 1. Arrows
 
 -- a lane with room for what stands in it, on some page
-abbrev pub HasPlaces : Lane → Type 0
+abbrev pub HasPlaces : LaneBand → Type 0
 HasPlaces lane = (page : Page) × Fits page lane
 
 -- a place in a lane
-abbrev pub IsWithin : Lane → ℕ → Type 0
+abbrev pub IsWithin : LaneBand → ℕ → Type 0
 IsWithin lane y = (lane.top.0 ≤ y) × (pixels (y + 1) ≤ lane.bottom.0)
 
 -- the lanes from which and to which an arrow goes are there
@@ -57,7 +57,7 @@ ArrowIsOn page picture arrow = HasEnds page arrow
 -- 2. Marks
 
 -- the mark of a thread that has a lane is drawn
-abbrev pub MarkIsOn : Page → List ℕ → Mark → Type 0
+abbrev pub MarkIsOn : Page → List ℕ → TurnMark → Type 0
 MarkIsOn page picture mark = mark.thread.0 < length page.lanes.items
     → MarkIsDrawn page.plan.now page.chart.now (scale_of page) picture mark
 
@@ -73,7 +73,7 @@ pub record LanesAreDrawn (page : Page) (picture : List ℕ) : Type 0 where
 -- 4. Names and ends of threads
 
 -- the name of a lane's thread stands beside its line
-abbrev pub NameIsOn : Page → List ℕ → Lane → Type 0
+abbrev pub NameIsOn : Page → List ℕ → LaneBand → Type 0
 NameIsOn page picture lane = Stands picture (words_bytes (codes "name") 24
     (pixels (pixels (lane.begin.0 + 36) + 4)) (thread_name page.plan.now lane.thread.0))
 
@@ -94,12 +94,12 @@ stop_at page t =
     begin_in (scale_of page) page.chart.now (row_of (slice_get page.chart.now.lanes t))
 
 -- the line stops there by a stroke from 11 above it to 11 below
-abbrev pub StopsAt : List ℕ → Lane → Option ℕ → Type 0
+abbrev pub StopsAt : List ℕ → LaneBand → Option ℕ → Type 0
 StopsAt picture lane None = ⊤
 StopsAt picture lane (Some x) = Stands picture
     (line_bytes (codes "stops") x (pixels (lane.begin.0 + 25)) (pixels (lane.begin.0 + 47)))
 
 -- the name of a lane's thread and the end of its line
-pub record FrameIsOn (page : Page) (picture : List ℕ) (lane : Lane) : Type 0 where
+pub record FrameIsOn (page : Page) (picture : List ℕ) (lane : LaneBand) : Type 0 where
   pub name : NameIsOn page picture lane
   pub stop : StopsAt picture lane (stop_at page lane.thread.0)

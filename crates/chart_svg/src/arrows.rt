@@ -8,7 +8,7 @@ ghost use Rattle.chart_svg.specs.Pages.{HasEnds, HasPlaces, HeadIsDrawn, IsAmong
 ghost use Rattle.chart_svg.specs.declared.shapes.Figure.TheVariants.{Up, Down};
 
 use crate::packing::{covering, is_wait};
-use crate::page::{Lane, Page};
+use crate::page::{LaneBand, Page};
 use crate::pixels::{Px, count};
 use crate::shapes::{Figure, push_figure, push_line, push_words};
 use crate::tags::Class;
@@ -70,7 +70,7 @@ fn head_of(goes_up: bool) -> Figure
 }
 
 // Above or below the lane from which it comes.
-fn words_of(from: &Lane, goes_up: bool) -> Px {
+fn words_of(from: &LaneBand, goes_up: bool) -> Px {
     if goes_up {
         from.top.minus(3)
     } else {
@@ -207,7 +207,7 @@ fn push_own_words(
 
 // Where an arrow begins. One that goes down begins below the wait of a thread that blocks or lends, and at the line of
 // one that wakes.
-fn begin_of(arrow: Arrow, from: &Lane, goes_up: bool) -> Px
+fn begin_of(arrow: Arrow, from: &LaneBand, goes_up: bool) -> Px
     requires { HasPlaces from.now }
     ensures { IsWithin from.now result.0 }
 {
@@ -224,7 +224,7 @@ fn begin_of(arrow: Arrow, from: &Lane, goes_up: bool) -> Px
 
 // Where an arrow ends: a loan at the step of the priority, one that blocks at the bar of the lock, and one that wakes,
 // or that goes to a writer, at the wait.
-fn tip_of(page: &Page<'_>, arrow: Arrow, to: &Lane, goes_up: bool) -> Px
+fn tip_of(page: &Page<'_>, arrow: Arrow, to: &LaneBand, goes_up: bool) -> Px
     requires { Fits page.now to.now }
     ensures { IsWithin to.now result.0 }
 {
@@ -264,7 +264,7 @@ enum Sought {
 }
 
 // The level of the bar that covers the row.
-fn level_of(lane: &Lane, row: u32, sought: Sought) -> u32
+fn level_of(lane: &LaneBand, row: u32, sought: Sought) -> u32
     ensures { result ≤ length lane.now.bars.levels.items - 1 }
 {
     let level = lane.bars.levels.iter().position(|bars| match covering(bars, row) {

@@ -5,7 +5,7 @@ ghost use Rattle.chart_escape.specs.Reader.{AddsElements, IsBetweenTags};
 ghost use Rattle.chart_svg.specs.Drawn.{bar_area, bar_class, bar_height, bar_title, class_bytes, lasting_words, pixels, Keeps};
 ghost use Rattle.chart_svg.specs.Lanes.{bar_bottom, bar_top, scale_of, BarsAreDrawn, IsAt, IsDrawnAt};
 
-use crate::page::{Lane, Page};
+use crate::page::{LaneBand, Page};
 use crate::pixels::{Px, count, width_of};
 use crate::shapes::{Area, push_rect, push_rect_said, push_words};
 use crate::tags::Class;
@@ -33,7 +33,7 @@ fn push_levels(
     alloc: Global,
     out: &mut Vec<u8>,
     page: &Page<'_>,
-    lane: &Lane,
+    lane: &LaneBand,
 ) -> Result<(), AllocError>
     requires { IsBetweenTags out.old.items }
     ensures whole { OnOk result (AddsElements out.old.items out.new.items) }
@@ -69,7 +69,7 @@ fn push_walks(
     alloc: Global,
     out: &mut Vec<u8>,
     page: &Page<'_>,
-    lane: &Lane,
+    lane: &LaneBand,
 ) -> Result<(), AllocError>
     requires { IsBetweenTags out.old.items }
     ensures whole { OnOk result (AddsElements out.old.items out.new.items) }

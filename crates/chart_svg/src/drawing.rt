@@ -9,7 +9,7 @@ use crate::arrows::{place_arrows, push_arrow_heads, push_arrows};
 use crate::bars::push_bars;
 use crate::below::{Below, push_below};
 use crate::frame::{push_begin, push_frame, push_paper};
-use crate::head::{Head, push_head};
+use crate::head::{TitleBlock, push_head};
 use crate::marks::{push_marks, push_reasons};
 use crate::page::Page;
 use crate::strips::{push_strip_words, push_strips};
@@ -35,7 +35,7 @@ pub fn svg(
     ensures whole { IfOk result (λ picture. IsWellFormed picture.items) }
     ensures draws { IfOk result (λ picture. Draws plan.now chart.now picture.items) }
 {
-    let head = Head::make(alloc, title, subtitle)?;
+    let head = TitleBlock::make(alloc, title, subtitle)?;
     let page = Page::make(alloc, plan, chart, head.bottom)?;
     let below = Below::make(alloc, &page)?;
     let width = page.right().plus(118).max(below.right).max(head.width());

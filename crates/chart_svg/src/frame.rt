@@ -5,7 +5,7 @@ ghost use Rattle.chart_svg.specs.Drawn.{Keeps};
 ghost use Rattle.chart_svg.specs.Pages.{stop_at, FrameIsOn, NameIsOn, StopsAt};
 ghost use Rattle.chart_svg.specs.Tags.{picture};
 
-use crate::page::{Lane, Page};
+use crate::page::{LaneBand, Page};
 use crate::pixels::{Px, width_of};
 use crate::shapes::{Area, push_label, push_line, push_rect, push_words};
 use crate::tags::{Attribute, Class, begin_picture, open_picture, push_attribute, push_view};
@@ -180,7 +180,7 @@ fn push_lane(
     alloc: Global,
     out: &mut Vec<u8>,
     page: &Page<'_>,
-    lane: &Lane,
+    lane: &LaneBand,
 ) -> Result<(), AllocError>
     requires { IsBetweenTags out.old.items }
     ensures whole { OnOk result (AddsElements out.old.items out.new.items) }
@@ -196,7 +196,7 @@ fn push_name(
     alloc: Global,
     out: &mut Vec<u8>,
     page: &Page<'_>,
-    lane: &Lane,
+    lane: &LaneBand,
 ) -> Result<(), AllocError>
     requires { IsBetweenTags out.old.items }
     ensures whole { OnOk result (AddsElements out.old.items out.new.items) }
@@ -210,7 +210,7 @@ fn push_name(
 }
 
 // The line of a lane's thread, to its end.
-fn push_own_line(out: &mut Vec<u8>, page: &Page<'_>, lane: &Lane) -> Result<(), AllocError>
+fn push_own_line(out: &mut Vec<u8>, page: &Page<'_>, lane: &LaneBand) -> Result<(), AllocError>
     requires { IsBetweenTags out.old.items }
     ensures whole { OnOk result (AddsElements out.old.items out.new.items) }
     ensures keeps { OnOk result (Keeps out.old.items out.new.items) }
@@ -227,7 +227,7 @@ fn push_own_line(out: &mut Vec<u8>, page: &Page<'_>, lane: &Lane) -> Result<(), 
 }
 
 // A stroke across the line, and a word.
-fn push_stop(out: &mut Vec<u8>, x: Px, lane: &Lane) -> Result<(), AllocError>
+fn push_stop(out: &mut Vec<u8>, x: Px, lane: &LaneBand) -> Result<(), AllocError>
     requires { IsBetweenTags out.old.items }
     ensures whole { OnOk result (AddsElements out.old.items out.new.items) }
     ensures keeps { OnOk result (Keeps out.old.items out.new.items) }

@@ -3,7 +3,7 @@
 ghost use Rattle.std.specs.Prelude.{◌≡◌, ◌<◌, ℕ, vec_len, All, IfOk, OnOk};
 ghost use Rattle.chart_svg.specs.Lanes.{IsAt};
 
-use chart_layout::{Bar, Step};
+use chart_layout::{Bar, PrioSpan};
 use lock_model::ThreadNo;
 use std::alloc::{AllocError, Global};
 
@@ -23,7 +23,7 @@ impl OfThread for Bar {
     }
 }
 
-impl OfThread for Step {
+impl OfThread for PrioSpan {
     ghost number = { λ step. step.thread.0 };
 
     fn thread(self) -> ThreadNo {

@@ -14,7 +14,7 @@ use std::alloc::{AllocError, Global};
 
 /// The titles, in lines.
 #[derive(Drop)]
-pub struct Head {
+pub struct TitleBlock {
     titles: Vec<Line>,
     subtitles: Vec<Line>,
     /// The first line of the second.
@@ -22,8 +22,8 @@ pub struct Head {
     pub bottom: Px,
 }
 
-impl Head {
-    pub fn make(alloc: Global, title: &str, subtitle: &str) -> Result<Head, AllocError> {
+impl TitleBlock {
+    pub fn make(alloc: Global, title: &str, subtitle: &str) -> Result<TitleBlock, AllocError> {
         let mut titles = Vec::new(alloc);
         wrap(
             alloc,
@@ -44,7 +44,7 @@ impl Head {
         )?;
         let under = Px(32).plus_times(count(titles.len()), 24);
         let bottom = under.plus_times(count(subtitles.len()), 18).plus(4);
-        Ok(Head {
+        Ok(TitleBlock {
             titles,
             subtitles,
             under,
@@ -65,7 +65,7 @@ pub fn push_head(
     alloc: Global,
     out: &mut Vec<u8>,
     page: &Page<'_>,
-    head: &Head,
+    head: &TitleBlock,
     right: Px,
 ) -> Result<(), AllocError>
     requires { IsBetweenTags out.old.items }

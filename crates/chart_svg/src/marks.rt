@@ -5,11 +5,11 @@ ghost use Rattle.chart_svg.specs.Drawn.{class_bytes, dot_class, mark_bytes, mark
 ghost use Rattle.chart_svg.specs.Lanes.{scale_of, HasRoom};
 ghost use Rattle.chart_svg.specs.Pages.{MarkIsOn};
 
-use crate::page::{Lane, Page};
+use crate::page::{LaneBand, Page};
 use crate::pixels::{Px, width_of};
 use crate::shapes::{Figure, push_dot, push_figure, push_words};
 use crate::tags::Class;
-use chart_layout::{Mark, MarkKind};
+use chart_layout::{MarkKind, TurnMark};
 use chart_words::{push_mark, push_note};
 use lock_model::push_digits;
 use std::alloc::{AllocError, Global};
@@ -28,7 +28,12 @@ pub fn push_marks(alloc: Global, out: &mut Vec<u8>, page: &Page<'_>) -> Result<(
     Ok(())
 }
 
-fn push_one(alloc: Global, out: &mut Vec<u8>, page: &Page<'_>, mark: Mark) -> Result<(), AllocError>
+fn push_one(
+    alloc: Global,
+    out: &mut Vec<u8>,
+    page: &Page<'_>,
+    mark: TurnMark,
+) -> Result<(), AllocError>
     requires between { IsBetweenTags out.old.items }
     requires room { HasRoom page.now }
     ensures whole { OnOk result (AddsElements out.old.items out.new.items) }
@@ -45,8 +50,8 @@ fn push_in_lane(
     alloc: Global,
     out: &mut Vec<u8>,
     page: &Page<'_>,
-    mark: Mark,
-    lane: &Lane,
+    mark: TurnMark,
+    lane: &LaneBand,
 ) -> Result<(), AllocError>
     requires { IsBetweenTags out.old.items }
     ensures whole { OnOk result (AddsElements out.old.items out.new.items) }
@@ -65,7 +70,7 @@ fn push_own_words(
     alloc: Global,
     out: &mut Vec<u8>,
     page: &Page<'_>,
-    mark: Mark,
+    mark: TurnMark,
     at: (Px, Px),
 ) -> Result<(), AllocError>
     requires { IsBetweenTags out.old.items }
@@ -86,7 +91,7 @@ fn push_shape(
     alloc: Global,
     out: &mut Vec<u8>,
     page: &Page<'_>,
-    mark: Mark,
+    mark: TurnMark,
     at: (Px, Px),
 ) -> Result<(), AllocError>
     requires { IsBetweenTags out.old.items }
@@ -132,7 +137,7 @@ fn word_class(what: MarkKind) -> Class {
 }
 
 // What is said where a mark is pointed at: `turn 3, low: add bus 1 1`.
-fn said_of(alloc: Global, page: &Page<'_>, mark: Mark) -> Result<Vec<u8>, AllocError>
+fn said_of(alloc: Global, page: &Page<'_>, mark: TurnMark) -> Result<Vec<u8>, AllocError>
     ensures { IfOk result (λ said. said.items ≡ mark_title page.now.plan.now mark) }
 {
     let mut said = Vec::from_slice(alloc, b"turn ")?;
@@ -178,7 +183,7 @@ pub fn push_reasons(alloc: Global, out: &mut Vec<u8>, page: &Page<'_>) -> Result
 }
 
 // What was refused, and why: `refused fork1: it would close a circle`.
-fn reason_words(alloc: Global, page: &Page<'_>, mark: Mark) -> Result<Vec<u8>, AllocError> {
+fn reason_words(alloc: Global, page: &Page<'_>, mark: TurnMark) -> Result<Vec<u8>, AllocError> {
     let mut words = Vec::new(alloc);
     push_mark(&mut words, page.plan, mark.what)?;
     words.extend_from_slice(reason(mark.what))?;

@@ -7,7 +7,7 @@ ghost use Rattle.chart_svg.specs.Lanes.{bar_bottom, bar_top, pitch_of, rank_in, 
 use crate::grouping::by_thread;
 use crate::packing::{Packed, pack};
 use crate::pixels::{Px, count, width_of};
-use chart_layout::{Arrow, ArrowKind, Bar, Chart, Mark, Sentence, Step};
+use chart_layout::{Arrow, ArrowKind, Bar, Chart, PrioSpan, Sentence, TurnMark};
 use chart_words::{push_arrow, push_mark};
 use lock_model::{Plan, Prio, ThreadNo};
 use std::alloc::{AllocError, Global};
@@ -29,16 +29,16 @@ pub struct Page<'c> {
     pub top: Px,
     pub bottom: Px,
     /// By thread.
-    pub lanes: Vec<Lane>,
+    pub lanes: Vec<LaneBand>,
     /// The priorities that occur, the most important first.
     pub prios: Vec<Prio>,
     /// The refusals whose words have their reason with them, and stand above those of other marks, by turn.
-    pub reasons: Vec<Mark>,
+    pub reasons: Vec<TurnMark>,
 }
 
 /// Where the lane of a thread is.
 #[derive(Drop)]
-pub struct Lane {
+pub struct LaneBand {
     pub thread: ThreadNo,
     pub top: Px,
     /// Where the words of its marks begin, below its reasons.
@@ -50,10 +50,10 @@ pub struct Lane {
     pub strip: Option<Px>,
     pub bars: Packed,
     /// Those of its strip.
-    pub steps: Vec<Step>,
+    pub steps: Vec<PrioSpan>,
 }
 
-impl Lane {
+impl LaneBand {
     /// Where the words of its marks stand, the marks, and the line of its thread.
     pub fn words(&self) -> Px
         ensures { result.0 ≡ pixels (self.now.begin.0 + 11) }
@@ -189,7 +189,7 @@ impl<'c> Page<'c> {
         alloc: Global,
         thread: ThreadNo,
         bars: &[Bar],
-        steps: &[Step],
+        steps: &[PrioSpan],
     ) -> Result<(), AllocError>
         requires { HasRoom self.old }
         ensures same { self.new
@@ -209,7 +209,7 @@ impl<'c> Page<'c> {
     }
 
     /// The lane of a thread, if it has one.
-    pub fn lane_of(&self, t: ThreadNo) -> Option<&Lane>
+    pub fn lane_of(&self, t: ThreadNo) -> Option<&LaneBand>
         ensures { MatchOption result (length self.now.lanes.items ≤ t.0)
             (λ lane. slice_get self.now.lanes.items t.0 ≡ Some lane.now) }
     {
@@ -217,7 +217,7 @@ impl<'c> Page<'c> {
     }
 
     /// Whether the words of a mark have their reason with them.
-    pub fn has_reason(&self, mark: Mark) -> bool {
+    pub fn has_reason(&self, mark: TurnMark) -> bool {
         self.reasons.iter().any(|other| *other == mark)
     }
 
@@ -313,15 +313,15 @@ fn lane_at(
     thread: ThreadNo,
     begin: Px,
     bars: &[Bar],
-    steps: &[Step],
-) -> Result<Lane, AllocError>
+    steps: &[PrioSpan],
+) -> Result<LaneBand, AllocError>
     ensures thread { IfOk result (λ lane. lane.thread ≡ thread) }
     ensures begin { IfOk result (λ lane. lane.begin ≡ begin) }
     ensures bars { IfOk result (λ lane. All (IsLaid lane.bars) bars.now) }
     ensures steps { IfOk result (λ lane. lane.steps.items ≡ steps.now) }
 {
     let packed = pack(alloc, bars)?;
-    Ok(Lane {
+    Ok(LaneBand {
         thread,
         top: begin,
         begin,
@@ -361,7 +361,7 @@ fn column_of(alloc: Global, plan: &Plan, chart: &Chart, columns: u32) -> Result<
     }
 }
 
-fn widest_mark(alloc: Global, plan: &Plan, marks: &[Mark]) -> Result<u32, AllocError> {
+fn widest_mark(alloc: Global, plan: &Plan, marks: &[TurnMark]) -> Result<u32, AllocError> {
     let mut widest = 0;
     for mark in marks {
         let mut words = Vec::new(alloc);
@@ -384,8 +384,8 @@ fn widest_loan(alloc: Global, arrows: &[Arrow]) -> Result<u32, AllocError> {
 }
 
 // The refusals, but those of a thread that stand too near to an earlier one of it.
-fn reasons_of(alloc: Global, marks: &[Mark], column: u32) -> Result<Vec<Mark>, AllocError> {
-    let mut reasons: Vec<Mark> = Vec::new(alloc);
+fn reasons_of(alloc: Global, marks: &[TurnMark], column: u32) -> Result<Vec<TurnMark>, AllocError> {
+    let mut reasons: Vec<TurnMark> = Vec::new(alloc);
     for mark in marks {
         if mark.what.is_refusal() && !is_near(&reasons, *mark, column) {
             reasons.push(*mark)?;
@@ -394,7 +394,7 @@ fn reasons_of(alloc: Global, marks: &[Mark], column: u32) -> Result<Vec<Mark>, A
     Ok(reasons)
 }
 
-fn is_near(reasons: &[Mark], mark: Mark, column: u32) -> bool {
+fn is_near(reasons: &[TurnMark], mark: TurnMark, column: u32) -> bool {
     reasons.iter().any(|other| {
         let turns = mark.turn.saturating_sub(other.turn);
         other.thread == mark.thread && turns.saturating_mul(column) < 250
@@ -402,7 +402,7 @@ fn is_near(reasons: &[Mark], mark: Mark, column: u32) -> bool {
 }
 
 /// The priorities that occur in steps, each once, the most important first.
-pub fn prios_of(alloc: Global, steps: &[Step]) -> Result<Vec<Prio>, AllocError>
+pub fn prios_of(alloc: Global, steps: &[PrioSpan]) -> Result<Vec<Prio>, AllocError>
     ensures { IfOk result (λ prios. HasPrios prios.items steps.now) }
 {
     let mut prios = Vec::new(alloc);

@@ -6,13 +6,13 @@ ghost use Rattle.chart_svg.specs.Drawn.{loan_area, Keeps};
 ghost use Rattle.chart_svg.specs.Lanes.{scale_of, IsLentAt, LoansAreDrawn};
 
 use crate::frame::end_of;
-use crate::page::{Lane, Page, prios_of};
+use crate::page::{LaneBand, Page, prios_of};
 use crate::pixels::{Px, width_of};
 use crate::shapes::{
     Area, begin_path, push_curve, push_label, push_line, push_rect_said, push_words,
 };
 use crate::tags::Class;
-use chart_layout::Step;
+use chart_layout::PrioSpan;
 use lock_model::{Prio, push_digits, push_number};
 use std::alloc::{AllocError, Global};
 
@@ -34,7 +34,7 @@ fn push_strip(
     alloc: Global,
     out: &mut Vec<u8>,
     page: &Page<'_>,
-    lane: &Lane,
+    lane: &LaneBand,
 ) -> Result<(), AllocError>
     requires { IsBetweenTags out.old.items }
     ensures whole { OnOk result (AddsElements out.old.items out.new.items) }
@@ -84,7 +84,7 @@ fn push_loan(
     out: &mut Vec<u8>,
     page: &Page<'_>,
     strip: Px,
-    step: Step,
+    step: PrioSpan,
 ) -> Result<(), AllocError>
     requires { IsBetweenTags out.old.items }
     ensures whole { OnOk result (AddsElements out.old.items out.new.items) }
@@ -101,7 +101,7 @@ fn push_loan(
 }
 
 // From the priority as which it runs, down to its own.
-fn loan_area(page: &Page<'_>, strip: Px, step: Step) -> Area
+fn loan_area(page: &Page<'_>, strip: Px, step: PrioSpan) -> Area
     ensures { (scale_of page.now).strip step.thread.0 ≡ strip.0
         → result ≡ loan_area (scale_of page.now) page.now.chart.now step }
 {
@@ -115,7 +115,7 @@ fn loan_area(page: &Page<'_>, strip: Px, step: Step) -> Area
     }
 }
 
-fn loan_words(alloc: Global, step: Step) -> Result<Vec<u8>, AllocError>
+fn loan_words(alloc: Global, step: PrioSpan) -> Result<Vec<u8>, AllocError>
     ensures { IfOk result (λ words. words.items ≡ codes "runs as " ++ decimal step.effective.0) }
 {
     let mut words = Vec::from_slice(alloc, b"runs as")?;
@@ -142,7 +142,7 @@ fn push_words_of(
     out: &mut Vec<u8>,
     page: &Page<'_>,
     strip: Px,
-    steps: &[Step],
+    steps: &[PrioSpan],
 ) -> Result<(), AllocError>
     requires { IsBetweenTags out.old.items }
     ensures whole { OnOk result (AddsElements out.old.items out.new.items) }
@@ -160,7 +160,7 @@ fn push_own_words(
     out: &mut Vec<u8>,
     page: &Page<'_>,
     strip: Px,
-    step: Step,
+    step: PrioSpan,
 ) -> Result<(), AllocError>
     requires { IsBetweenTags out.old.items }
     ensures whole { OnOk result (AddsElements out.old.items out.new.items) }
@@ -182,7 +182,7 @@ fn push_run(
     out: &mut Vec<u8>,
     page: &Page<'_>,
     strip: Px,
-    steps: &[Step],
+    steps: &[PrioSpan],
 ) -> Result<(), AllocError>
     requires { IsBetweenTags out.old.items }
     ensures whole { OnOk result (AddsElements out.old.items out.new.items) }

@@ -8,7 +8,7 @@ use Rattle.chart_top.specs.Pictures.{IsPictureOfPlan, Rendering}
 use Rattle.complaints.specs.declared.status.Status.{Status}
 use Rattle.complaints.specs.declared.status.Status.TheVariants.{NoMemory}
 use Rattle.lock_model.specs.declared.plan.Plan.{Plan}
-use Rattle.run_chart.specs.Charts.{Shows}
+use Rattle.run_chart.specs.Charts.{IsChartOf}
 use Rattle.run_tracks.specs.Rows.{TellsRun}
 use Rattle.run_tracks.specs.declared.rows.Rows.{Rows}
 use Rattle.top_ends.proofs.Takes.{unread}
@@ -16,7 +16,7 @@ use Rattle.top_ends.specs.Calls.{Told}
 
 -- what was rendered of a chart of the run is a picture of the plan
 pub drawn : {V E : Type 0} (items : V → Text) (renders : Rendering) (wanted : Wanted) (bytes : Text) (plan : Plan) (rows : Rows) (chart : Chart) (title subtitle : Text) (r : Result V E)
-    → TellsRun plan wanted.chains wanted.turns rows → Shows plan chart
+    → TellsRun plan wanted.chains wanted.turns rows → IsChartOf plan chart
     → chart.first ≡ min wanted.from (length rows.turns) → chart.last ≡ min wanted.to (length rows.turns)
     → title ≡ title_of wanted bytes plan → subtitle ≡ subtitle_of bytes
     → IfOk r (λ v. renders wanted.form plan rows chart title subtitle (items v))

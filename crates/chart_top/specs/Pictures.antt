@@ -12,7 +12,7 @@ use Rattle.chart_trace.specs.Events.{trace_bytes}
 use Rattle.chart_top.specs.Heading.{Text, subtitle_of, title_of}
 use Rattle.lock_model.specs.Script.{IsAccepted}
 use Rattle.lock_model.specs.declared.plan.Plan.{Plan}
-use Rattle.run_chart.specs.Charts.{Shows}
+use Rattle.run_chart.specs.Charts.{IsChartOf}
 use Rattle.run_tracks.specs.Rows.{TellsRun}
 use Rattle.run_tracks.specs.declared.rows.Rows.{Rows}
 
@@ -39,7 +39,7 @@ pub record IsPictureOfPlan (renders : Rendering) (wanted : Wanted) (bytes : Text
   pub rows : Rows
   pub run : TellsRun plan wanted.chains wanted.turns rows
   pub chart : Chart
-  pub shows : Shows plan chart
+  pub shows : IsChartOf plan chart
   pub first : chart.first ≡ min wanted.from (length rows.turns)
   pub last : chart.last ≡ min wanted.to (length rows.turns)
   pub rendered : renders wanted.form plan rows chart (title_of wanted bytes plan)

@@ -15,10 +15,10 @@ use Rattle.chart_layout.specs.declared.layout.BarKind.{BarKind}
 use Rattle.chart_layout.specs.declared.layout.BarKind.TheVariants as bar
 use Rattle.chart_layout.specs.declared.layout.Chart.{Chart}
 use Rattle.chart_layout.specs.declared.layout.Lane.{Lane}
-use Rattle.chart_layout.specs.declared.layout.Mark.{Mark}
 use Rattle.chart_layout.specs.declared.layout.MarkKind.{MarkKind}
 use Rattle.chart_layout.specs.declared.layout.MarkKind.TheVariants as mark
-use Rattle.chart_layout.specs.declared.layout.Step.{Step}
+use Rattle.chart_layout.specs.declared.layout.PrioSpan.{PrioSpan}
+use Rattle.chart_layout.specs.declared.layout.TurnMark.{TurnMark}
 use Rattle.chart_layout.specs.declared.sentence.Saying.{Saying}
 use Rattle.chart_layout.specs.declared.sentence.Saying.TheVariants as saying
 use Rattle.chart_layout.specs.declared.sentence.Sentence.{Sentence}
@@ -169,22 +169,22 @@ bar_event plan bar = Slice (process_of bar.thread) (track_of bar.what) (bar_word
     (begin_of bar.first) (time_of bar.last - begin_of bar.first)
 
 -- a turn is a slice of a millisecond
-abbrev pub turn_slice : Mark → List ℕ → Event
+abbrev pub turn_slice : TurnMark → List ℕ → Event
 turn_slice m name = Slice (process_of m.thread) turns_track name (time_of m.turn) 1000
 
 -- its name is its word and what its event tells; an idle turn has no slice
-abbrev pub turn_events : Plan → Mark → MarkKind → List Event
+abbrev pub turn_events : Plan → TurnMark → MarkKind → List Event
 turn_events plan m (mark.Noted event) =
     turn_slice m (mark_words plan (mark.Noted event) ++ note_words plan event) ∷ []
 turn_events plan m (mark.Did kind) = turn_slice m (mark_words plan (mark.Did kind)) ∷ []
 turn_events plan m mark.Idle = []
 
 -- the slice of a mark, if its turn has one
-abbrev pub mark_events : Plan → Mark → List Event
+abbrev pub mark_events : Plan → TurnMark → List Event
 mark_events plan m = turn_events plan m m.what
 
 -- a step of priorities is the priority by which its thread runs from then on
-abbrev pub step_event : Step → Event
+abbrev pub step_event : PrioSpan → Event
 step_event step = Counter (process_of step.thread) (begin_of step.first) step.effective.0
 
 -- the lock for which a sentence says that its thread lent

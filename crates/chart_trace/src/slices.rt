@@ -6,7 +6,7 @@ ghost use Rattle.chart_trace.specs.Events.{Counter, Slice, bar_event, begin_of, 
 
 use crate::tracks::{TURNS, process_of, time_of, track_of};
 use chart_escape::{Piece, push_items};
-use chart_layout::{Bar, Mark, MarkKind, Step};
+use chart_layout::{Bar, MarkKind, PrioSpan, TurnMark};
 use chart_words::{push_bar, push_mark, push_note};
 use lock_model::Plan;
 use std::alloc::{AllocError, Global};
@@ -61,7 +61,7 @@ pub fn push_turns(
     alloc: Global,
     out: &mut Vec<u8>,
     plan: &Plan,
-    marks: &[Mark],
+    marks: &[TurnMark],
 ) -> Result<(), AllocError>
     requires { IsBehindItem out.old.items }
     ensures pushed { OnOk result (out.new.items
@@ -74,7 +74,12 @@ pub fn push_turns(
     Ok(())
 }
 
-fn push_turn(alloc: Global, out: &mut Vec<u8>, plan: &Plan, mark: Mark) -> Result<(), AllocError>
+fn push_turn(
+    alloc: Global,
+    out: &mut Vec<u8>,
+    plan: &Plan,
+    mark: TurnMark,
+) -> Result<(), AllocError>
     requires { IsBehindItem out.old.items }
     ensures pushed { OnOk result (out.new.items
         ≡ out.old.items ++ next_lines (mark_events plan.now mark)) }
@@ -95,7 +100,7 @@ fn push_turn(alloc: Global, out: &mut Vec<u8>, plan: &Plan, mark: Mark) -> Resul
     }
 }
 
-fn push_named_turn(out: &mut Vec<u8>, mark: Mark, name: &[u8]) -> Result<(), AllocError>
+fn push_named_turn(out: &mut Vec<u8>, mark: TurnMark, name: &[u8]) -> Result<(), AllocError>
     requires { IsBehindItem out.old.items }
     ensures pushed { OnOk result (out.new.items
         ≡ out.old.items ++ next_line (turn_slice mark name.now)) }
@@ -137,7 +142,7 @@ fn push_slice(
 }
 
 /// Pushes the priorities by which threads run, as counters.
-pub fn push_steps(out: &mut Vec<u8>, steps: &[Step]) -> Result<(), AllocError>
+pub fn push_steps(out: &mut Vec<u8>, steps: &[PrioSpan]) -> Result<(), AllocError>
     requires { IsBehindItem out.old.items }
     ensures pushed { OnOk result (out.new.items
         ≡ out.old.items ++ next_lines (map step_event steps.now)) }
@@ -149,7 +154,7 @@ pub fn push_steps(out: &mut Vec<u8>, steps: &[Step]) -> Result<(), AllocError>
     Ok(())
 }
 
-fn push_step(out: &mut Vec<u8>, step: Step) -> Result<(), AllocError>
+fn push_step(out: &mut Vec<u8>, step: PrioSpan) -> Result<(), AllocError>
     requires { IsBehindItem out.old.items }
     ensures pushed { OnOk result (out.new.items
         ≡ out.old.items ++ next_line (step_event step)) }

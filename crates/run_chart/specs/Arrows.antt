@@ -17,7 +17,7 @@ use Rattle.lock_model.specs.declared.plan.QueueName.TheVariants as queue
 use Rattle.lock_state.specs.Run.{Run}
 use Rattle.lock_state.specs.State.{Walk, NoWalk, AtLock, AtThread}
 use Rattle.run_chart.specs.Charts.{arrow, loan, wake, waiters_in, Lent, WentBehind, WentOn, WokeUp}
-use Rattle.run_chart.specs.declared.lookup.Loan.{Loan}
+use Rattle.run_chart.specs.declared.lookup.HopLoan.{HopLoan}
 use Rattle.run_tracks.specs.Rows.{run_in}
 use Rattle.run_tracks.specs.Tracks.{value_in}
 use Rattle.run_tracks.specs.declared.threads.ThreadRows.{ThreadRows}
@@ -29,7 +29,7 @@ use Rattle.lock_objects.specs.declared.wait.Wait.TheVariants as waits
 abbrev pub Hop : Type 0
 Hop = ℕ × ℕ × ℕ × ℕ
 
-abbrev pub hop_of : Loan → Hop
+abbrev pub hop_of : HopLoan → Hop
 hop_of v = (v.to.0, v.lock.0, v.before.0, v.prio.0)
 
 -- where a walk stands at a lock, the loan is to the lock's owner

@@ -9,9 +9,9 @@ use Rattle.chart_layout.specs.declared.layout.BarKind.{BarKind}
 use Rattle.chart_layout.specs.declared.layout.BarKind.TheVariants as bar
 use Rattle.chart_layout.specs.declared.layout.Chart.{Chart}
 use Rattle.chart_layout.specs.declared.layout.Lane.{Lane}
-use Rattle.chart_layout.specs.declared.layout.Mark.{Mark}
 use Rattle.chart_layout.specs.declared.layout.MarkKind.{MarkKind}
 use Rattle.chart_layout.specs.declared.layout.MarkKind.TheVariants as marked
+use Rattle.chart_layout.specs.declared.layout.TurnMark.{TurnMark}
 use Rattle.chart_layout.specs.declared.sentence.End.{End}
 use Rattle.chart_layout.specs.declared.sentence.End.TheVariants as end
 use Rattle.chart_layout.specs.declared.sentence.Saying.{Saying}
@@ -153,7 +153,7 @@ pub record WentOn (plan : Plan) (n from to : ℕ) : Type 0 where
 
 -- 4. Marks
 
-abbrev pub mark : ℕ → ℕ → MarkKind → Mark
+abbrev pub mark : ℕ → ℕ → MarkKind → TurnMark
 mark n t what = record { turn = n; thread = record { 0 = t }; what = what }
 
 -- the history in a row, its newest entry first
@@ -308,7 +308,7 @@ IsTurn chart n = (chart.first ≤ n) × (n < chart.last)
 -- wake exactly at a turn that woke, and one of blocking exactly at a turn that blocked on whom, or behind whom, it
 -- says. A mark stands exactly at a turn that did what it says. What a sentence says of its turn is so, and each turn of
 -- which such a thing is so has one, in order. The end is that of the whole run.
-pub record Shows (plan : Plan) (chart : Chart) : Type 0 where
+pub record IsChartOf (plan : Plan) (chart : Chart) : Type 0 where
   pub lane_each : length chart.lanes ≡ length plan.threads
   pub lanes : (t : ℕ) (lane : Lane) → slice_get chart.lanes t ≡ Some lane
       → IsLane plan chart.turns t lane

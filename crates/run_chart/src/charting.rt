@@ -1,7 +1,7 @@
 //! The chart of a run.
 ghost use Rattle.std.specs.Prelude.{◌≡◌, ◌≤◌, ℕ, length, IfOk};
 ghost use Rattle.lock_model.specs.Operations.{IsProper};
-ghost use Rattle.run_chart.specs.Charts.{Shows};
+ghost use Rattle.run_chart.specs.Charts.{IsChartOf};
 ghost use Rattle.run_tracks.specs.Rows.{TellsRun};
 
 use crate::arrows::arrows;
@@ -17,7 +17,7 @@ use run_tracks::Rows;
 use std::alloc::{AllocError, Global};
 
 /// The chart of a run of the plan, in the rows `from..=to`, which are rows of the run. It shows just what is so in
-/// these: `Shows` of `specs/Charts.antt` says of what. It fails where memory runs out.
+/// these: `IsChartOf` of `specs/Charts.antt` says of what. It fails where memory runs out.
 ///
 /// ```
 /// let rows = rows_of(alloc, &plan, 16, 1000)?;
@@ -38,7 +38,7 @@ pub fn chart(
     ensures first { IfOk result (λ chart. chart.first ≡ from) }
     ensures last { IfOk result (λ chart. chart.last ≡ to) }
     ensures turns { IfOk result (λ chart. chart.turns ≡ length rows.now.turns) }
-    ensures shows { IfOk result (Shows plan.now) }
+    ensures shows { IfOk result (IsChartOf plan.now) }
 {
     let threads = rows.threads.as_slice();
     let bars = bars(alloc, threads, from, to)?;

@@ -23,7 +23,7 @@ pub fn thread_rows(rows: &Rows, t: ThreadNo) -> Option<&ThreadRows>
 /// What a hop of a walk lent: to the owner of a lock, which ran as one priority before the turn and as the other behind
 /// it.
 #[derive(Clone, Copy, Debug)]
-pub struct Loan {
+pub struct HopLoan {
     pub to: ThreadNo,
     pub lock: LockNo,
     pub before: Prio,
@@ -31,7 +31,7 @@ pub struct Loan {
 }
 
 /// What was lent in a turn, if its thread's walk stood at a lock that has an owner.
-pub fn loan_of(rows: &Rows, turn: u32, from: ThreadNo) -> Option<Loan>
+pub fn loan_of(rows: &Rows, turn: u32, from: ThreadNo) -> Option<HopLoan>
     requires run { (plan : plans.Plan) × IsRunOf plan rows.now }
     requires turn { turn < length rows.now.turns }
     requires thread { from.0 < length rows.now.threads }
@@ -43,7 +43,7 @@ pub fn loan_of(rows: &Rows, turn: u32, from: ThreadNo) -> Option<Loan>
     };
     let to = owner_in(rows, turn, l)?;
     let owner = thread_rows(rows, to)?;
-    Some(Loan {
+    Some(HopLoan {
         to,
         lock: l,
         before: owner.effective.at(turn),

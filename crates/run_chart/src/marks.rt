@@ -5,13 +5,13 @@ ghost use Rattle.run_chart.specs.Charts.{history_in};
 ghost use Rattle.run_chart.specs.Marks.{entry_in, marked_of, marks_of, GainsMark, HasMarks};
 ghost use Rattle.run_chart.specs.Runs.{IsRunOf};
 
-use chart_layout::{Mark, MarkKind};
+use chart_layout::{MarkKind, TurnMark};
 use lock_model::{Entry, Event, ThreadNo, Turn};
 use run_tracks::{Rows, TurnRow};
 use std::alloc::{AllocError, Global};
 
 /// The marks of the turns between the rows `from..=to`: one each, save where its thread had ended before.
-pub fn marks(alloc: Global, rows: &Rows, from: u32, to: u32) -> Result<Vec<Mark>, AllocError>
+pub fn marks(alloc: Global, rows: &Rows, from: u32, to: u32) -> Result<Vec<TurnMark>, AllocError>
     requires in_order { from ≤ to }
     requires within { to ≤ length rows.now.turns }
     ensures { IfOk result (λ marks. (plan : plans.Plan) → IsRunOf plan rows.now
@@ -24,7 +24,12 @@ pub fn marks(alloc: Global, rows: &Rows, from: u32, to: u32) -> Result<Vec<Mark>
     Ok(marks)
 }
 
-fn push_mark(marks: &mut Vec<Mark>, rows: &Rows, turn: u32, row: TurnRow) -> Result<(), AllocError>
+fn push_mark(
+    marks: &mut Vec<TurnMark>,
+    rows: &Rows,
+    turn: u32,
+    row: TurnRow,
+) -> Result<(), AllocError>
     requires { slice_get rows.now.turns turn ≡ Some row }
     ensures { OnOk result ((plan : plans.Plan) → IsRunOf plan rows.now
         → GainsMark plan turn marks.old.items marks.new.items) }
@@ -34,7 +39,7 @@ fn push_mark(marks: &mut Vec<Mark>, rows: &Rows, turn: u32, row: TurnRow) -> Res
 }
 
 fn push(
-    marks: &mut Vec<Mark>,
+    marks: &mut Vec<TurnMark>,
     turn: u32,
     thread: ThreadNo,
     what: Option<MarkKind>,
@@ -42,7 +47,7 @@ fn push(
     ensures { OnOk result (marks.new.items ≡ marks.old.items ++ marks_of turn thread.0 what) }
 {
     if let Some(what) = what {
-        marks.push(Mark { turn, thread, what })?;
+        marks.push(TurnMark { turn, thread, what })?;
     }
     Ok(())
 }

@@ -5,7 +5,7 @@ ghost use Rattle.run_chart.specs.Spans.{values_at, IsWithin};
 ghost use Rattle.run_chart.specs.Steps.{numbers_of, prios_at, strip_tells, strips_tell, IsStepOf};
 
 use crate::spans::{Span, paired, spans};
-use chart_layout::Step;
+use chart_layout::PrioSpan;
 use lock_model::{Prio, ThreadNo};
 use run_tracks::ThreadRows;
 use std::alloc::{AllocError, Global};
@@ -16,7 +16,7 @@ pub fn steps(
     threads: &[ThreadRows],
     from: u32,
     to: u32,
-) -> Result<Vec<Step>, AllocError>
+) -> Result<Vec<PrioSpan>, AllocError>
     requires { length threads.now ≤ 256 }
     ensures prios { IfOk result (λ steps. (t n : ℕ) → from ≤ n → n ≤ to
         → prios_at t n steps.items ≡ strips_tell t n threads.now) }
@@ -32,7 +32,7 @@ pub fn steps(
 
 fn push_thread(
     alloc: Global,
-    steps: &mut Vec<Step>,
+    steps: &mut Vec<PrioSpan>,
     thread: ThreadNo,
     rows: &ThreadRows,
     from: u32,
@@ -51,7 +51,7 @@ fn push_thread(
 }
 
 fn push_strip(
-    steps: &mut Vec<Step>,
+    steps: &mut Vec<PrioSpan>,
     thread: ThreadNo,
     spans: &[Span<(Prio, Prio)>],
 ) -> Result<(), AllocError>
@@ -64,7 +64,7 @@ fn push_strip(
 {
     for span in spans {
         let (effective, base) = span.value;
-        steps.push(Step {
+        steps.push(PrioSpan {
             thread,
             first: span.first,
             last: span.last,

@@ -4,7 +4,7 @@ use Rattle.std.proofs.lemmas.List.Elements.{All-weaker}
 use Rattle.std.proofs.lemmas.List.Filters.{dedup_is}
 use Rattle.std.proofs.lemmas.List.Kept.{Contains-dedup}
 use Rattle.std.proofs.lemmas.List.Sorted.{Contains-permutation}
-use Rattle.chart_layout.specs.declared.layout.Step.{Step}
+use Rattle.chart_layout.specs.declared.layout.PrioSpan.{PrioSpan}
 use Rattle.lock_model.specs.declared.numbers.Prio.{Prio}
 use Rattle.chart_svg.proofs.Ranks.{prios_more, same_prio}
 use Rattle.chart_svg.proofs.Standing.{all_in_all}
@@ -16,8 +16,8 @@ loop-step-preserved c = prios_more c.args.steps.now c.loop-step.step-index _ c.l
 
 pub returns : goal.returns
 returns c =
-    let Old : Step → Type 0 = λ step. Contains c.loop-step.prios.items step.effective × Contains c.loop-step.prios.items step.base in
-    let New : Step → Type 0 = λ step. Contains c.dedup.new.self.items step.effective × Contains c.dedup.new.self.items step.base in
+    let Old : PrioSpan → Type 0 = λ step. Contains c.loop-step.prios.items step.effective × Contains c.loop-step.prios.items step.base in
+    let New : PrioSpan → Type 0 = λ step. Contains c.dedup.new.self.items step.effective × Contains c.dedup.new.self.items step.base in
     let is = dedup_is _ _ _ c.dedup.ensures.filtered in
     let kept : (p : Prio) → Contains c.loop-step.prios.items p → Contains c.dedup.new.self.items p =
     λ p has. rw is (Contains-dedup (on_equiv (λ (prio : Prio). prio.0) nat_eq_equiv) same_prio _ p (Contains-permutation _ _ p c.sort_unstable.ensures.permutation has)) in

@@ -3,8 +3,8 @@ use Rattle.std.proofs.lemmas.Result.{on_ok_weaker}
 use Rattle.chart_layout.specs.declared.layout.Arrow.{Arrow}
 use Rattle.chart_layout.specs.declared.layout.Bar.{Bar}
 use Rattle.chart_layout.specs.declared.layout.Lane.{Lane}
-use Rattle.chart_layout.specs.declared.layout.Mark.{Mark}
-use Rattle.chart_layout.specs.declared.layout.Step.{Step}
+use Rattle.chart_layout.specs.declared.layout.PrioSpan.{PrioSpan}
+use Rattle.chart_layout.specs.declared.layout.TurnMark.{TurnMark}
 use Rattle.chart_layout.specs.declared.sentence.Sentence.{Sentence}
 use Rattle.chart_trace.specs.Events.{arrow_events, bar_event, lane_events, lock_tracks, mark_events, next_lines, other_events, step_event}
 use Rattle.chart_trace.proofs.Rows.{lines_more}
@@ -19,8 +19,8 @@ returns-clause-pushed c =
     let lanes = λ (xs : List Lane). flat_map (lane_events plan) xs in
     let tracks = λ (xs : List Bar). lock_tracks plan None xs in
     let bars = λ (xs : List Bar). map (bar_event plan) xs in
-    let marks = λ (xs : List Mark). flat_map (mark_events plan) xs in
-    let steps = λ (xs : List Step). map step_event xs in
+    let marks = λ (xs : List TurnMark). flat_map (mark_events plan) xs in
+    let steps = λ (xs : List PrioSpan). map step_event xs in
     let named : c.push_names.new.out.items ≡ o ++ next_lines (lanes chart.lanes) =
     c.in_ok-push_names.ensures.pushed ∙ ap (λ xs. o ++ next_lines (lanes xs)) c.as_slice.ensures in
     let tracked = lines_more o c.push_names.new.out.items c.push_locks.new.out.items (lanes chart.lanes) (tracks c.as_slice-bars.result.now) (tracks chart.bars)

@@ -1,7 +1,7 @@
 use Rattle.std.proofs.Common.{◌∙◌, ◌<◌, List, [], ◌∷◌, length, ap, subst, refl, arith, All}
 use Rattle.std.proofs.lemmas.List.{length-append}
 use Rattle.chart_layout.specs.declared.layout.Bar.{Bar}
-use Rattle.chart_layout.specs.declared.layout.Step.{Step}
+use Rattle.chart_layout.specs.declared.layout.PrioSpan.{PrioSpan}
 use Rattle.std.proofs.lemmas.Option.{slice_get_within}
 use Rattle.std.specs.Prelude.{slice_get}
 use Rattle.chart_svg.specs.declared.page.Page.{Page}
@@ -24,7 +24,7 @@ pub loop-t-preserved : goal.loop-t-preserved
 loop-t-preserved c =
     let more = c.in_ok-put_lane.ensures.more in
     let P : List Bar → Type 0 = λ xs. All (IsLaid more.lane.bars) xs in
-    let Q : List Step → Type 0 = λ xs. All (HasStep more.lane) xs in
+    let Q : List PrioSpan → Type 0 = λ xs. All (HasStep more.lane) xs in
     let put : Page → Page = λ p. record p { lanes = c.put_lane.new.self.lanes; bottom = c.put_lane.new.self.bottom } in
     record {
       same = c.put_lane.ensures.same ∙ ap put c.loop-t.invariant.same;
@@ -51,6 +51,6 @@ returns-clause-bars c = of_all (λ (bar : Bar). bar.thread.0) (IsOf (λ lane. Is
     (ap length c.as_slice-lanes.ensures) c.loop-t-test.false c.in_ok-bars.ensures.has c.loop-t.invariant.bars
 
 pub returns-clause-steps : goal.returns-clause-steps
-returns-clause-steps c = of_all (λ (step : Step). step.thread.0) (IsOf HasStep c.loop-t.self.lanes.items) c.as_slice-2.result.now c.args.self.now.chart.now.steps
+returns-clause-steps c = of_all (λ (step : PrioSpan). step.thread.0) (IsOf HasStep c.loop-t.self.lanes.items) c.as_slice-2.result.now c.args.self.now.chart.now.steps
     c.as_slice-2.ensures c.in_ok-steps.steps.items (length c.as_slice-lanes.result.now) (length c.args.self.now.chart.now.lanes) c.loop-t.t
     (ap length c.as_slice-lanes.ensures) c.loop-t-test.false c.in_ok-steps.ensures.has c.loop-t.invariant.steps

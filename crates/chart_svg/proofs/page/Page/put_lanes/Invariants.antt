@@ -2,7 +2,7 @@ use Rattle.std.proofs.Common.{◌≡◌, ◌<◌, ℕ, length, Some}
 use Rattle.std.specs.Prelude.{slice_get}
 use Rattle.chart_layout.specs.declared.layout.Bar.{Bar}
 use Rattle.chart_layout.specs.declared.layout.Lane.{Lane as ChartLane}
-use Rattle.chart_layout.specs.declared.layout.Step.{Step}
+use Rattle.chart_layout.specs.declared.layout.PrioSpan.{PrioSpan}
 use Rattle.chart_svg.specs.Lanes.{HasRoom, HasStep, IsAt, IsLaid, IsOf}
 use Rattle.chart_svg.proofs.page.Page.put_lanes.Given as goal
 
@@ -13,5 +13,5 @@ invariant-loop-t l = record {
   room : HasRoom l.self;
   lanes : (k : ℕ) (lane : ChartLane) → k < l.t → slice_get l.lanes k ≡ Some lane → IsOf (λ own named. own.thread ≡ named.thread) l.self.lanes.items k lane;
   bars : (k : ℕ) (bar : Bar) → k < l.t → IsAt l.bars.items k bar → IsOf (λ lane. IsLaid lane.bars) l.self.lanes.items k bar;
-  steps : (k : ℕ) (step : Step) → k < l.t → IsAt l.steps.items k step → IsOf HasStep l.self.lanes.items k step;
+  steps : (k : ℕ) (step : PrioSpan) → k < l.t → IsAt l.steps.items k step → IsOf HasStep l.self.lanes.items k step;
 }

@@ -2,7 +2,7 @@ use Rattle.std.proofs.Common.{◌∙◌, ◌+◌, ap, refl}
 use Rattle.std.proofs.lemmas.List.Elements.{Contains-get_or}
 use Rattle.chart_svg.proofs.Room.{fits_lent}
 use Rattle.chart_svg.specs.Drawn.{pixels}
-use Rattle.chart_svg.proofs.page.Lane.put_strip.Goals as goal
+use Rattle.chart_svg.proofs.page.LaneBand.put_strip.Goals as goal
 
 pub returns-then-is_lent_to-clause-fits : goal.returns-then-is_lent_to-clause-fits
 returns-then-is_lent_to-clause-fits c =
