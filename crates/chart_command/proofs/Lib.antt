@@ -1,7 +1,1 @@
-mod Mistakes
-mod Rules
-mod Rows
-mod Walks
-mod Steps
-mod Whole
 mod Read

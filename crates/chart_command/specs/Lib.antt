@@ -1,3 +1,2 @@
 pub mod Forms
-pub mod Rule
 pub mod Words

@@ -2,14 +2,12 @@
 //! weren't read where they aren't.
 //!
 //! - `words`: what the words say.
-//! - `rule`: the rule of the command line, as `clap` is told it.
-//! - `reading`: reading them by that rule.
+//! - `reading`: reading them, by a table of options.
 #![tactic(auto)]
 
 mod reading;
-mod rule;
 mod words;
 
-pub use reading::read_words;
-pub use rule::FORM;
-pub use words::{Asked, Form, Words, WordsError};
+pub use option_words::WordsError;
+pub use reading::{FORM, read_words};
+pub use words::{Asked, Form, Words};

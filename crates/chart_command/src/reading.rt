@@ -1,20 +1,66 @@
 //! Reading the words of the command line.
-ghost use Rattle.std.specs.Prelude.{◌≡◌, map, Err, IfOk, None, Some, true};
-ghost use Rattle.std.specs.Option.{ForSome};
+ghost use Rattle.std.specs.Prelude.{◌≡◌, map, Err, IfOk, None, Some};
 ghost use Rattle.std.specs.String.{string_bytes};
-ghost use Rattle.clap.specs.Words.{first_value, found_of, kind_of, one_text};
-ghost use Rattle.chart_command.specs.Forms.{Flag, asking_of, is_taken, name_of, wanted_by};
-ghost use Rattle.chart_command.specs.Words.{CanBeDrawn, HasRanges, asking, wanted};
+ghost use Rattle.option_words.specs.Words.{text_in};
+ghost use Rattle.chart_command.specs.Forms.{asking_of, wanted_by};
+ghost use Rattle.chart_command.specs.Words.{CanBeDrawn, asking, wanted};
 
-use crate::rule::rule;
-use crate::words::{Asked, Form, Words, WordsError};
-use clap::ArgMatches;
-use clap::error::ErrorKind;
-use lock_model::limits::{DEFAULT_CHAINS, TURNS};
+use crate::words::{Asked, Form, Words};
+use lock_model::limits::{CHAINS, DEFAULT_CHAINS, TURNS};
+use option_words::{GivenTexts, Help, LongOption, Request, Synopsis, ValueKind, WordsError, read};
 use std::alloc::Global;
 
-// The names of the forms of a picture.
-static NAMES: [&str; 3] = ["svg", "html", "trace"];
+/// The form of the command line.
+pub const FORM: &str = "lockchart [--turns N] [--chains N] [--from A] [--to B] [--title TEXT] \
+    [--form svg|html|trace] < SCRIPT";
+
+// What the words may be.
+const SYNOPSIS: Synopsis<'static> = Synopsis {
+    program: "lockchart",
+    operands: &[],
+    options: &[
+        LongOption {
+            name: "turns",
+            kind: ValueKind::Number(1, TURNS),
+            value_name: "N",
+            help: "The run has at most N turns, from 1 to 1000000",
+        },
+        LongOption {
+            name: "chains",
+            kind: ValueKind::Number(1, CHAINS),
+            value_name: "N",
+            help: "There are N chains of each sort of queue, from 1 to 64",
+        },
+        LongOption {
+            name: "from",
+            kind: ValueKind::Number(0, TURNS),
+            value_name: "A",
+            help: "The first state that is drawn is the one behind A turns",
+        },
+        LongOption {
+            name: "to",
+            kind: ValueKind::Number(0, TURNS),
+            value_name: "B",
+            help: "The last state that is drawn is the one behind B turns",
+        },
+        LongOption {
+            name: "title",
+            kind: ValueKind::AnyText,
+            value_name: "TEXT",
+            help: "The title, in place of the script's first comment",
+        },
+        LongOption {
+            name: "form",
+            kind: ValueKind::OneOf(&["svg", "html", "trace"]),
+            value_name: "FORM",
+            help: "What the picture is written as",
+        },
+    ],
+    help: Some(Help {
+        about: "Draws the scheduled run of a script of threads and blocking locks.",
+        usage: FORM,
+    }),
+};
 
 /// What the words of the command line ask for, without the program's name. `Usage` comes exactly where they are no form,
 /// and `Memory` only for want of memory.
@@ -28,38 +74,30 @@ pub fn read_words<'a>(alloc: Global, words: &'a [String]) -> Result<Asked<'a>, W
     ensures ranges { IfOk result CanBeDrawn }
     ensures usage { result ≡ Err WordsError.Usage → asking_of (map string_bytes words.entry.now) ≡ None }
 {
-    let matches = match rule(alloc, NAMES.as_slice())?.try_get_matches_from(words) {
-        Ok(matches) => matches,
-        Err(e) => match e.kind() {
-            ErrorKind::DisplayHelp => return Ok(Asked::Help(format!(in alloc; "{e}")?)),
-            ErrorKind::OutOfMemory => return Err(WordsError::Memory),
-            _ => return Err(WordsError::Usage),
-        },
-    };
-    let said = said_by(&matches);
-    if said.from > said.to {
-        return Err(WordsError::Usage);
+    match read(alloc, &SYNOPSIS, words)? {
+        Request::Texts(given) => {
+            let said = said_by(&given);
+            if said.from > said.to {
+                return Err(WordsError::Usage);
+            }
+            Ok(Asked::Picture(said))
+        }
+        Request::Help(text) => Ok(Asked::Help(text)),
     }
-    Ok(Asked::Picture(said))
 }
 
-// What the matches say of a picture.
-fn said_by<'a>(matches: &ArgMatches<'a>) -> Words<'a>
-    requires taken { (f : Flag) → ForSome (first_value (found_of matches.now) (name_of f))
-        (λ text. is_taken f text ≡ true) }
-    requires written { (f : Flag) → one_text (found_of matches.now) (name_of f)
-        ≡ first_value (found_of matches.now) (name_of f) }
-    ensures wanted { wanted result ≡ wanted_by (λ f. first_value (found_of matches.now) (name_of f)) }
-    ensures ranges { HasRanges result }
+// What the texts say of a picture that were given.
+fn said_by<'a>(given: &GivenTexts<'a>) -> Words<'a>
+    ensures { wanted result ≡ wanted_by (text_in given.now) }
 {
     Words {
-        turns: matches.get_one::<u32>("turns").unwrap_or(TURNS),
-        chains: matches.get_one::<u32>("chains").unwrap_or(DEFAULT_CHAINS),
-        from: matches.get_one::<u32>("from").unwrap_or(0),
-        to: matches.get_one::<u32>("to").unwrap_or(TURNS),
-        title: matches.get_str("title"),
-        form: matches
-            .get_str("form")
+        turns: given.number("turns").unwrap_or(TURNS),
+        chains: given.number("chains").unwrap_or(DEFAULT_CHAINS),
+        from: given.number("from").unwrap_or(0),
+        to: given.number("to").unwrap_or(TURNS),
+        title: given.text("title"),
+        form: given
+            .text("form")
             .and_then(Form::named)
             .unwrap_or(Form::Svg),
     }

@@ -1,11 +1,6 @@
-//! What the words of a command line say, or why they weren't read.
+//! What the words of a command line say.
 ghost use Rattle.std.specs.Prelude.{◌≡◌};
-ghost use Rattle.clap.specs.Words.{kind_of};
-ghost use Rattle.clap.specs.declared.error.kind.ErrorKind.TheVariants.{OutOfMemory};
 ghost use Rattle.chart_command.specs.Forms.{form_of};
-ghost use Rattle.chart_command.specs.declared.words.WordsError.TheVariants.{Memory, Usage};
-
-use std::alloc::AllocError;
 
 /// What a user asks for.
 #[derive(Drop, Debug)]
@@ -50,22 +45,5 @@ impl Form {
             "trace" => Some(Form::Trace),
             _ => None,
         }
-    }
-}
-
-/// Why the words weren't read.
-#[derive(Clone, Copy, Debug, PartialEq, Eq)]
-pub enum WordsError {
-    /// They are no form of the command line.
-    Usage,
-    /// Memory was wanting.
-    Memory,
-}
-
-impl From<AllocError> for WordsError {
-    ghost from_gives = { λ _ e. e ≡ Memory };
-
-    fn from(_e: AllocError) -> WordsError {
-        WordsError::Memory
     }
 }

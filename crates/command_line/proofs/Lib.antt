@@ -1,6 +1,1 @@
-mod Rules
-mod Rows
-mod Doomed
-mod Steps
-mod Whole
 mod Read

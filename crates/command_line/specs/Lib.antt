@@ -1,3 +1,2 @@
 pub mod Forms
 pub mod Ranges
-pub mod Rule

@@ -1,11 +1,12 @@
 //! The words of the command line: what they say where they are a form, and why they weren't read where they aren't.
 //!
 //! - `words`: what the words say.
-//! - `reading`: reading them, by the rule of `clap` for one simple command.
+//! - `reading`: reading them, by a table of options.
 #![tactic(auto)]
 
 mod reading;
 mod words;
 
+pub use option_words::WordsError;
 pub use reading::read_words;
-pub use words::{Command, Words, WordsError};
+pub use words::{Command, Words};

@@ -1,16 +1,35 @@
 //! Reading the words of the command line.
 ghost use Rattle.std.specs.Prelude.{◌≡◌, Err, IfOk, None, Some, map};
 ghost use Rattle.std.specs.String.{string_bytes};
-ghost use Rattle.clap.specs.Words.{app_of};
-ghost use Rattle.command_line.specs.Forms.{words_of};
+ghost use Rattle.option_words.specs.Words.{text_in};
+ghost use Rattle.command_line.specs.Forms.{words_by, words_of};
 ghost use Rattle.command_line.specs.Ranges.{HasRanges};
-ghost use Rattle.command_line.specs.Rule.{rule_for};
 
-use crate::words::{Command, Words, WordsError};
-use clap::Arg;
-use clap::builder::ValueParser;
+use crate::words::{Command, Words};
 use lock_model::limits::{CHAINS, DEFAULT_CHAINS, TURNS};
-use std::alloc::{AllocError, Global};
+use option_words::{GivenTexts, LongOption, Request, Synopsis, ValueKind, WordsError, read};
+use std::alloc::Global;
+
+// What the words may be. There is no help.
+const SYNOPSIS: Synopsis<'static> = Synopsis {
+    program: "lockrun",
+    operands: &["check", "step", "run"],
+    options: &[
+        LongOption {
+            name: "chains",
+            kind: ValueKind::Number(1, CHAINS),
+            value_name: "N",
+            help: "There are N chains of each sort of queue, from 1 to 64",
+        },
+        LongOption {
+            name: "turns",
+            kind: ValueKind::Number(1, TURNS),
+            value_name: "N",
+            help: "The run has at most N turns, from 1 to 1000000",
+        },
+    ],
+    help: None,
+};
 
 /// What the words of the command line say, without the program's name. `Usage` comes exactly where they are no form,
 /// and `Memory` only for want of memory.
@@ -24,35 +43,19 @@ pub fn read_words(alloc: Global, words: &[String]) -> Result<Words, WordsError>
     ensures ranges { IfOk result HasRanges }
     ensures usage { result ≡ Err WordsError.Usage → words_of (map string_bytes words.now) ≡ None }
 {
-    let names = ["check", "step", "run"];
-    let matches = rule(alloc, names.as_slice())?.try_get_matches_from(words)?;
-    let Some(word) = matches.get_str("command") else {
-        return Err(WordsError::Usage);
-    };
-    Ok(Words {
-        command: Command::named(word).ok_or(WordsError::Usage)?,
-        chains: matches.get_one::<u32>("chains").unwrap_or(DEFAULT_CHAINS),
-        turns: matches.get_one::<u32>("turns").unwrap_or(TURNS),
-    })
+    match read(alloc, &SYNOPSIS, words)? {
+        Request::Texts(given) => said_by(&given).ok_or(WordsError::Usage),
+        Request::Help(_) => Err(WordsError::Usage),
+    }
 }
 
-// The rule of the command line, where the names are those of the commands.
-fn rule<'a>(alloc: Global, names: &'a [&'a str]) -> Result<clap::Command<'a>, AllocError>
-    ensures { IfOk result (λ r. app_of r ≡ rule_for names.entry) }
+// What the texts say that were given, where one names a command.
+fn said_by(given: &GivenTexts<'_>) -> Option<Words>
+    ensures { result ≡ words_by (text_in given.now) }
 {
-    let command = Arg::new(alloc, "command")
-        .required(true)
-        .value_parser(names);
-    let chains = Arg::new(alloc, "chains")
-        .long("chains")
-        .value_parser(ValueParser::unsigned(1, CHAINS as u64));
-    let turns = Arg::new(alloc, "turns")
-        .long("turns")
-        .value_parser(ValueParser::unsigned(1, TURNS as u64));
-    clap::Command::new(alloc, "lockrun")
-        .no_binary_name(true)
-        .disable_help_flag(true)
-        .arg(command)?
-        .arg(chains)?
-        .arg(turns)
+    Some(Words {
+        command: given.operand().and_then(Command::named)?,
+        chains: given.number("chains").unwrap_or(DEFAULT_CHAINS),
+        turns: given.number("turns").unwrap_or(TURNS),
+    })
 }

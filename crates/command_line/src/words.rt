@@ -1,12 +1,6 @@
-//! What the words of a command line say, or why they weren't read.
+//! What the words of a command line say.
 ghost use Rattle.std.specs.Prelude.{◌≡◌};
-ghost use Rattle.clap.specs.Words.{kind_of};
-ghost use Rattle.clap.specs.declared.error.kind.ErrorKind.TheVariants.{OutOfMemory};
 ghost use Rattle.command_line.specs.Forms.{command_of};
-ghost use Rattle.command_line.specs.declared.words.WordsError.TheVariants.{Memory, Usage};
-
-use clap::error::ErrorKind;
-use std::alloc::AllocError;
 
 /// What the program is to do.
 #[derive(Clone, Copy, Debug, PartialEq, Eq)]
@@ -41,32 +35,4 @@ pub struct Words {
     pub chains: u32,
     /// Turns of the scheduled run at most, from 1 to 1,000,000. They bound no other command.
     pub turns: u32,
-}
-
-/// Why the words weren't read.
-#[derive(Clone, Copy, Debug, PartialEq, Eq)]
-pub enum WordsError {
-    /// They are no form of the command line.
-    Usage,
-    /// Memory was wanting.
-    Memory,
-}
-
-impl From<AllocError> for WordsError {
-    ghost from_gives = { λ _ e. e ≡ Memory };
-
-    fn from(_e: AllocError) -> WordsError {
-        WordsError::Memory
-    }
-}
-
-impl From<clap::Error> for WordsError {
-    ghost from_gives = { λ x e. (e ≡ Usage) → (kind_of x ≡ OutOfMemory → ⊥) };
-
-    fn from(e: clap::Error) -> WordsError {
-        match e.kind() {
-            ErrorKind::OutOfMemory => WordsError::Memory,
-            _ => WordsError::Usage,
-        }
-    }
 }

@@ -1,0 +1,7 @@
+mod Mistakes
+mod Rules
+mod Rows
+mod Walks
+mod Steps
+mod Whole
+pub mod Numbers

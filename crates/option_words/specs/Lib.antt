@@ -1,0 +1,3 @@
+pub mod Forms
+pub mod Rule
+pub mod Words
