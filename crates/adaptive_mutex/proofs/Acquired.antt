@@ -5,7 +5,6 @@ use Rattle.lock_state.specs.State.{gained_order, State, Look}
 use Rattle.lock_model.specs.Config.{Config}
 use Rattle.lock_model.specs.Holds.{NotHeld, Holds}
 use Rattle.lock_model.specs.Operations.{hold_in}
-use Rattle.lock_model.specs.Plans.{config_of}
 use Rattle.lock_model.specs.Words.{Word, word_of, IsWellFormed, is_free, is_plain}
 use Rattle.lock_model.specs.declared.event.Event.{Event}
 use Rattle.lock_model.specs.declared.event.Event.TheVariants.{Busy}
@@ -14,12 +13,12 @@ use Rattle.lock_model.specs.declared.numbers.LockNo.{LockNo}
 use Rattle.lock_model.specs.declared.plan.Kind.{Kind}
 use Rattle.lock_model.specs.declared.plan.Kind.TheVariants.{Mtx}
 use Rattle.lock_model.specs.declared.plan.Mode.TheVariants.{Excl}
-use Rattle.lock_model.specs.declared.plan.Plan.{Plan}
 use Rattle.lock_state.specs.Steps as steps
 use Rattle.lock_state.specs.Steps.{Looks, Stamps, FitsRound, NotesInRound, HasOutForEntry}
 use Rattle.lock_state.specs.Steps.LockWords.{Asks, Begins, IsGainedLast}
+use Rattle.floor_table.specs.Descriptions.{config_in}
+use Rattle.floor_table.specs.declared.description.Description.{Description}
 use Rattle.floor_table.specs.Shares.{ShareColumns}
-use Rattle.floor_table.specs.Past.{chains}
 use Rattle.floor_table.specs.Steps.{Fits, Makes, MakesEach, MayMake}
 use Rattle.floor_table.specs.Views.{Knowledge, seeing}
 use Rattle.lock_floor.specs.Passes.{IsAtRest, MakesEntry}
@@ -34,16 +33,17 @@ use Rattle.adaptive_mutex.proofs.Looks.{each_append, uncounted, look_knows, no_l
 
 -- 1. The gain
 
-pub acquires : (plan : Plan) (l : ℕ) (v : Knowledge) → IsAtRest plan v → MayAcquire plan l v → MayGain plan l v
-acquires plan l v r m = record { unheld = m.unheld; few = m.few; wants_nothing = r.wants_nothing; takes_nothing = r.takes_nothing; no_round = r.no_round; going = r.going }
+pub acquires : (floor : Description) (l : ℕ) (v : Knowledge) → IsAtRest floor v → MayAcquire floor l v
+    → MayGain floor l v
+acquires floor l v r m = record { unheld = m.unheld; few = m.few; wants_nothing = r.wants_nothing; takes_nothing = r.takes_nothing; no_round = r.no_round; going = r.going }
 
 -- a gain without a look before
-pub gains_at_once : (plan : Plan) (l : LockNo) (v w : Knowledge) → w ≡ seeing w.seen (gained v (as_held l true)) → Makes plan (steps.Gains v.thread l.0 Excl true ∷ []) v w → Gains plan (as_held l true) 0 v w
-gains_at_once plan l v w view step = record { between = v; looked = no_look plan l.0 v; view = view; step = step }
+pub gains_at_once : (floor : Description) (l : LockNo) (v w : Knowledge) → w ≡ seeing w.seen (gained v (as_held l true)) → Makes floor (steps.Gains v.thread l.0 Excl true ∷ []) v w → Gains floor (as_held l true) 0 v w
+gains_at_once floor l v w view step = record { between = v; looked = no_look floor l.0 v; view = view; step = step }
 
 -- behind looks too
-pub may_gain_on : (plan : Plan) (l n : ℕ) (u v : Knowledge) → MayGain plan l u → HasLooked plan l n u v → MayGain plan l v
-may_gain_on plan l n u v m x = subst (MayGain plan l) (sym x.knows) record {
+pub may_gain_on : (floor : Description) (l n : ℕ) (u v : Knowledge) → MayGain floor l u → HasLooked floor l n u v → MayGain floor l v
+may_gain_on floor l n u v m x = subst (MayGain floor l) (sym x.knows) record {
   unheld = m.unheld;
   few = m.few;
   wants_nothing = m.wants_nothing;
@@ -55,16 +55,16 @@ may_gain_on plan l n u v m x = subst (MayGain plan l) (sym x.knows) record {
 plainly : (k : Kind) → k ≡ Mtx → is_plain k (word_of 0) Excl ≡ true
 plainly k e = ap (λ (x : Kind). is_plain x (word_of 0) Excl) e
 
-pub may_gain_free : (plan : Plan) (l : ℕ) (by_try : Bool) (v : Knowledge) → IsMutex plan l → MayGain plan l v → MayMake plan v (λ s. s.word l ≡ word_of 0) (steps.Gains v.thread l Excl by_try ∷ [])
-may_gain_free plan l by_try v mutex m =
-    may_gain plan v l Excl by_try (word_of 0) mutex.lock refl (plainly ((config_of plan).kind l) mutex.kind) m.unheld (inr m.wants_nothing)
+pub may_gain_free : (floor : Description) (l : ℕ) (by_try : Bool) (v : Knowledge) → IsMutex floor l → MayGain floor l v → MayMake floor v (λ s. s.word l ≡ word_of 0) (steps.Gains v.thread l Excl by_try ∷ [])
+may_gain_free floor l by_try v mutex m =
+    may_gain floor v l Excl by_try (word_of 0) mutex.lock refl (plainly ((config_in floor).kind l) mutex.kind) m.unheld (inr m.wants_nothing)
     (subst (λ r. FitsRound r l by_try) (sym m.no_round) tt) (λ k e. absurd (let z : None ≡ Some k = sym m.takes_nothing ∙ e in cc)) m.going
 
 -- 2. Its entry
 
-module _ (plan : Plan) (v : Knowledge) (l : LockNo) (by_try : Bool) (r : IsAtRest plan v) (unheld : hold_in v.share.held l.0 ≡ NotHeld) (seen : List steps.Step) where
+module _ (floor : Description) (v : Knowledge) (l : LockNo) (by_try : Bool) (r : IsAtRest floor v) (unheld : hold_in v.share.held l.0 ≡ NotHeld) (seen : List steps.Step) where
   abbrev c : Config
-  c = config_of plan
+  c = config_in floor
 
   abbrev h : Held
   h = as_held l by_try
@@ -75,11 +75,11 @@ module _ (plan : Plan) (v : Knowledge) (l : LockNo) (by_try : Bool) (r : IsAtRes
   pushed : hold_in (v.share.held ++ h ∷ []) l.0 ≡ Holds Excl
   pushed = hold_in-push v.share.held h l.0 unheld ∙ ap (λ b. cond b (Holds Excl) (hold_in v.share.held l.0)) (eq-eqb l.0 l.0 refl)
 
-  module _ (s : State) (f : Fits plan w s) where
+  module _ (s : State) (f : Fits floor w s) where
     begins : Begins c s v.thread l.0 (Holds Excl)
     begins = record {
       held = sym (ap (λ (x : ShareColumns). x.held l.0) f.share.columns) ∙ pushed;
-      closed = own_log plan w s f l.0 ∙ r.sections l.0 ∙ unheld;
+      closed = own_log floor w s f l.0 ∙ r.sections l.0 ∙ unheld;
     }
 
     last : IsGainedLast s v.thread l.0 by_try
@@ -88,28 +88,28 @@ module _ (plan : Plan) (v : Knowledge) (l : LockNo) (by_try : Bool) (r : IsAtRes
       last = sym (ap (λ (x : ShareColumns). x.held_locks) f.share.columns) ∙ gained_order-push v.share.held h;
     }
 
-    asks : Asks c s v.thread (gain_event h) × HasOutForEntry chains s v.thread (gain_event h)
+    asks : Asks c s v.thread (gain_event h) × HasOutForEntry floor.chains s v.thread (gain_event h)
     asks = go by_try last
       where
-        go : (b : Bool) → IsGainedLast s v.thread l.0 b → Asks c s v.thread (gain_event (as_held l b)) × HasOutForEntry chains s v.thread (gain_event (as_held l b))
+        go : (b : Bool) → IsGainedLast s v.thread l.0 b → Asks c s v.thread (gain_event (as_held l b)) × HasOutForEntry floor.chains s v.thread (gain_event (as_held l b))
         go true g = ((begins, g), tt)
         go false g = ((begins, g), tt)
 
-  pub may_note_gain : MayMake plan w (λ s. Unit {0}) (Stamps v.thread (gain_event h) ∷ [])
+  pub may_note_gain : MayMake floor w (λ s. Unit {0}) (Stamps v.thread (gain_event h) ∷ [])
   may_note_gain =
-      may_stamp plan w (gain_event h) asks tt
+      may_stamp floor w (gain_event h) asks tt
       (λ e. absurd (let z : false ≡ true = sym r.no_wait ∙ e in cc))
       r.going r.takes_nothing
 
 -- 3. Both
 
 -- a call that gained the mutex, behind looks, and noted it
-pub record Acquires (plan : Plan) (l : LockNo) (by_try : Bool) (n : ℕ) (old new : Knowledge) : Type 0 where
-  pub rest : IsAtRest plan new
-  pub entry : MakesEntry plan (gain_event (as_held l by_try)) (old.share.held ++ as_held l by_try ∷ []) old new
-  pub steps : MakesEach plan (after_looks old.thread l.0 n (steps.Gains old.thread l.0 Excl by_try) ++ (Stamps old.thread (gain_event (as_held l by_try)) ∷ []) ∷ []) old new
+pub record Acquires (floor : Description) (l : LockNo) (by_try : Bool) (n : ℕ) (old new : Knowledge) : Type 0 where
+  pub rest : IsAtRest floor new
+  pub entry : MakesEntry floor (gain_event (as_held l by_try)) (old.share.held ++ as_held l by_try ∷ []) old new
+  pub steps : MakesEach floor (after_looks old.thread l.0 n (steps.Gains old.thread l.0 Excl by_try) ++ (Stamps old.thread (gain_event (as_held l by_try)) ∷ []) ∷ []) old new
 
-module _ (plan : Plan) (l : LockNo) (by_try : Bool) (n : ℕ) (old v : Knowledge) (r : IsAtRest plan old) (m : MayAcquire plan l.0 old) (g : Gains plan (as_held l by_try) n old v) where
+module _ (floor : Description) (l : LockNo) (by_try : Bool) (n : ℕ) (old v : Knowledge) (r : IsAtRest floor old) (m : MayAcquire floor l.0 old) (g : Gains floor (as_held l by_try) n old v) where
   abbrev hold : Held
   hold = as_held l by_try
 
@@ -123,24 +123,24 @@ module _ (plan : Plan) (l : LockNo) (by_try : Bool) (n : ℕ) (old v : Knowledge
   knew : v ≡ seeing v.seen (gained u hold)
   knew = g.view ∙ ap (λ k. seeing v.seen (gained k hold)) g.looked.knows
 
-  rested : IsAtRest plan u
-  rested = looks_rest plan old g.looked.all g.looked.last g.looked.seen old.seen r
+  rested : IsAtRest floor u
+  rested = looks_rest floor old g.looked.all g.looked.last g.looked.seen old.seen r
 
-  pub may_note : MayMake plan v (λ s. Unit {0}) (Stamps v.thread e ∷ [])
-  may_note = subst (λ (k : Knowledge). MayMake plan k (λ s. Unit {0}) (Stamps k.thread e ∷ [])) (sym knew) (may_note_gain plan u l by_try rested m.unheld v.seen)
+  pub may_note : MayMake floor v (λ s. Unit {0}) (Stamps v.thread e ∷ [])
+  may_note = subst (λ (k : Knowledge). MayMake floor k (λ s. Unit {0}) (Stamps k.thread e ∷ [])) (sym knew) (may_note_gain floor u l by_try rested m.unheld v.seen)
 
   pub room_to_note : 1 ≤ v.spare
   room_to_note = subst (λ (k : Knowledge). 1 ≤ k.spare) (sym knew) m.room
 
-  pub acquired : (new : Knowledge) (ticket : ℕ) → new ≡ seeing new.seen (stamped (config_of plan) v (entry_by v.thread ticket e)) → Makes plan (Stamps v.thread e ∷ []) v new → Acquires plan l by_try n old new
+  pub acquired : (new : Knowledge) (ticket : ℕ) → new ≡ seeing new.seen (stamped (config_in floor) v (entry_by v.thread ticket e)) → Makes floor (Stamps v.thread e ∷ []) v new → Acquires floor l by_try n old new
   acquired new ticket view step =
-      let is : new ≡ seeing new.seen (stamped (config_of plan) (gained u hold) (entry_by old.thread ticket e)) =
-      view ∙ ap (λ (k : Knowledge). seeing new.seen (stamped (config_of plan) k (entry_by k.thread ticket e))) knew in
-      let noted : Makes plan (Stamps old.thread e ∷ []) v new = subst (λ t. Makes plan (Stamps t e ∷ []) v new) (ap (λ (k : Knowledge). k.thread) knew) step in
+      let is : new ≡ seeing new.seen (stamped (config_in floor) (gained u hold) (entry_by old.thread ticket e)) =
+      view ∙ ap (λ (k : Knowledge). seeing new.seen (stamped (config_in floor) k (entry_by k.thread ticket e))) knew in
+      let noted : Makes floor (Stamps old.thread e ∷ []) v new = subst (λ t. Makes floor (Stamps t e ∷ []) v new) (ap (λ (k : Knowledge). k.thread) knew) step in
       let look : List steps.Step = Looks old.thread l.0 false ∷ [] in
       let gain : List steps.Step = steps.Gains old.thread l.0 Excl by_try ∷ [] in
       record {
-        rest = subst (IsAtRest plan) (sym is) (rest_seeing plan (stamped (config_of plan) (gained u hold) (entry_by old.thread ticket e)) new.seen (rest_gained plan u hold ticket rested m.unheld));
+        rest = subst (IsAtRest floor) (sym is) (rest_seeing floor (stamped (config_in floor) (gained u hold) (entry_by old.thread ticket e)) new.seen (rest_gained floor u hold ticket rested m.unheld));
         entry = record {
           ticket = ticket;
           log = ap (λ (k : Knowledge). k.share.log) is;
@@ -154,8 +154,8 @@ module _ (plan : Plan) (l : LockNo) (by_try : Bool) (n : ℕ) (old v : Knowledge
           log_before = ap (λ (k : Knowledge). k.share.log) knew;
           log_behind = refl;
         };
-        steps = each_append plan (replicate n look ++ gain ∷ []) ((Stamps old.thread e ∷ []) ∷ []) old v new
-            (each_append plan (replicate n look) (gain ∷ []) old g.between v g.looked.steps (v, g.step, refl))
+        steps = each_append floor (replicate n look ++ gain ∷ []) ((Stamps old.thread e ∷ []) ∷ []) old v new
+            (each_append floor (replicate n look) (gain ∷ []) old g.between v g.looked.steps (v, g.step, refl))
             (new, noted, refl);
       }
 
@@ -172,20 +172,20 @@ word_seen l a b same = ap seen (sym same)
     seen (Some x) = x.word
 
 -- the word that a look saw, where it isn't the free one, is that of a held mutex
-pub saw_held : (plan : Plan) (l seen : ℕ) (old v : Knowledge) → (config_of plan).kind l ≡ Mtx → seen ≢ 0 → v ≡ seeing v.seen (looked old l (word_of seen)) → Makes plan (Looks old.thread l (counts old l) ∷ []) old v → is_free (word_of seen).holder ≡ false
-saw_held plan l seen old v mutex other view m =
-    let saw : Some (look_at l (word_of seen)) ≡ Some (look_at l (m.state.word l)) = sym (ap (λ (w : Knowledge). w.share.doing.last_look) view) ∙ finds_word plan l (counts old l) old v m in
-    mutex_is_held plan m.state l seen m.sound mutex (word_seen l (word_of seen) (m.state.word l) saw) other
+pub saw_held : (floor : Description) (l seen : ℕ) (old v : Knowledge) → (config_in floor).kind l ≡ Mtx → seen ≢ 0 → v ≡ seeing v.seen (looked old l (word_of seen)) → Makes floor (Looks old.thread l (counts old l) ∷ []) old v → is_free (word_of seen).holder ≡ false
+saw_held floor l seen old v mutex other view m =
+    let saw : Some (look_at l (word_of seen)) ≡ Some (look_at l (m.state.word l)) = sym (ap (λ (w : Knowledge). w.share.doing.last_look) view) ∙ finds_word floor l (counts old l) old v m in
+    mutex_is_held floor m.state l seen m.sound mutex (word_seen l (word_of seen) (m.state.word l) saw) other
 
 -- a try that saw the word of a held mutex, and noted it
-pub record FindsBusy (plan : Plan) (l : LockNo) (seen : ℕ) (old new : Knowledge) : Type 0 where
-  pub rest : IsAtRest plan new
-  pub busy : WasBusy plan old.thread l seen old new
-  pub entry : MakesEntry plan (Busy l seen) old.share.held old new
+pub record FindsBusy (floor : Description) (l : LockNo) (seen : ℕ) (old new : Knowledge) : Type 0 where
+  pub rest : IsAtRest floor new
+  pub busy : WasBusy floor old.thread l seen old new
+  pub entry : MakesEntry floor (Busy l seen) old.share.held old new
 
-module _ (plan : Plan) (l : LockNo) (seen : ℕ) (old v : Knowledge) (r : IsAtRest plan old) (m : MayAcquire plan l.0 old) (held : is_free (word_of seen).holder ≡ false) (view : v ≡ seeing v.seen (looked old l.0 (word_of seen))) where
+module _ (floor : Description) (l : LockNo) (seen : ℕ) (old v : Knowledge) (r : IsAtRest floor old) (m : MayAcquire floor l.0 old) (held : is_free (word_of seen).holder ≡ false) (view : v ≡ seeing v.seen (looked old l.0 (word_of seen))) where
   abbrev bc : Config
-  bc = config_of plan
+  bc = config_in floor
 
   abbrev note : Event
   note = Busy l seen
@@ -197,12 +197,12 @@ module _ (plan : Plan) (l : LockNo) (seen : ℕ) (old v : Knowledge) (r : IsAtRe
   q = seeing v.seen (with_looks old (suc old.share.doing.looks_in_all) (Some look) (Some look))
 
   saw : v ≡ q
-  saw = view ∙ ap (seeing v.seen) (look_knows plan old l.0 r.no_round (word_of seen))
+  saw = view ∙ ap (seeing v.seen) (look_knows floor old l.0 r.no_round (word_of seen))
 
-  resting : IsAtRest plan q
-  resting = looks_rest plan old (suc old.share.doing.looks_in_all) (Some look) (Some look) v.seen r
+  resting : IsAtRest floor q
+  resting = looks_rest floor old (suc old.share.doing.looks_in_all) (Some look) (Some look) v.seen r
 
-  asks_busy : (s : State) → Fits plan q s → Asks bc s old.thread note × HasOutForEntry chains s old.thread note
+  asks_busy : (s : State) → Fits floor q s → Asks bc s old.thread note × HasOutForEntry floor.chains s old.thread note
   asks_busy s f = (
     (
       Excl,
@@ -216,25 +216,25 @@ module _ (plan : Plan) (l : LockNo) (seen : ℕ) (old v : Knowledge) (r : IsAtRe
     tt,
   )
 
-  pub may_note_busy : MayMake plan v (λ s. Unit {0}) (Stamps v.thread note ∷ [])
+  pub may_note_busy : MayMake floor v (λ s. Unit {0}) (Stamps v.thread note ∷ [])
   may_note_busy =
-      subst (λ (k : Knowledge). MayMake plan k (λ s. Unit {0}) (Stamps k.thread note ∷ [])) (sym saw)
-      (may_stamp plan q note asks_busy (subst (λ o. NotesInRound o note) (sym r.no_round) tt)
+      subst (λ (k : Knowledge). MayMake floor k (λ s. Unit {0}) (Stamps k.thread note ∷ [])) (sym saw)
+      (may_stamp floor q note asks_busy (subst (λ o. NotesInRound o note) (sym r.no_round) tt)
       (λ e. absurd (let z : false ≡ true = sym r.no_wait ∙ e in cc))
       r.going r.takes_nothing)
 
   pub room_for_busy : 1 ≤ v.spare
   room_for_busy = subst (λ (k : Knowledge). 1 ≤ k.spare) (sym saw) m.room
 
-  pub found_busy : IsWellFormed (word_of seen) → Makes plan (Looks old.thread l.0 (counts old l.0) ∷ []) old v
-      → (new : Knowledge) (ticket : ℕ) → new ≡ seeing new.seen (stamped (config_of plan) v (entry_by v.thread ticket note)) → Makes plan (Stamps v.thread note ∷ []) v new → FindsBusy plan l seen old new
+  pub found_busy : IsWellFormed (word_of seen) → Makes floor (Looks old.thread l.0 (counts old l.0) ∷ []) old v
+      → (new : Knowledge) (ticket : ℕ) → new ≡ seeing new.seen (stamped (config_in floor) v (entry_by v.thread ticket note)) → Makes floor (Stamps v.thread note ∷ []) v new → FindsBusy floor l seen old new
   found_busy formed looks new ticket says step =
-      let is : new ≡ seeing new.seen (stamped (config_of plan) q (entry_by old.thread ticket note)) = says ∙ ap (λ (k : Knowledge). seeing new.seen (stamped (config_of plan) k (entry_by k.thread ticket note))) saw in
-      let noted : Makes plan (Stamps old.thread note ∷ []) v new = subst (λ t. Makes plan (Stamps t note ∷ []) v new) (ap (λ (k : Knowledge). k.thread) saw) step in
-      let uncounted_look : Makes plan (Looks old.thread l.0 false ∷ []) old v = subst (λ b. Makes plan (Looks old.thread l.0 b ∷ []) old v) (uncounted plan old l.0 r.no_round) looks in
+      let is : new ≡ seeing new.seen (stamped (config_in floor) q (entry_by old.thread ticket note)) = says ∙ ap (λ (k : Knowledge). seeing new.seen (stamped (config_in floor) k (entry_by k.thread ticket note))) saw in
+      let noted : Makes floor (Stamps old.thread note ∷ []) v new = subst (λ t. Makes floor (Stamps t note ∷ []) v new) (ap (λ (k : Knowledge). k.thread) saw) step in
+      let uncounted_look : Makes floor (Looks old.thread l.0 false ∷ []) old v = subst (λ b. Makes floor (Looks old.thread l.0 b ∷ []) old v) (uncounted floor old l.0 r.no_round) looks in
       let more : suc old.share.doing.looks_in_all ≡ new.share.doing.looks_in_all = sym (ap (λ (k : Knowledge). k.share.doing.looks_in_all) is) in
       record {
-        rest = subst (IsAtRest plan) (sym is) (rest_seeing plan (stamped (config_of plan) q (entry_by old.thread ticket note)) new.seen (rest_stamped plan q ticket note refl resting));
+        rest = subst (IsAtRest floor) (sym is) (rest_seeing floor (stamped (config_in floor) q (entry_by old.thread ticket note)) new.seen (rest_stamped floor q ticket note refl resting));
         busy = record {
           between = v;
           look = uncounted_look;

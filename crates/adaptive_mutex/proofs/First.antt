@@ -1,14 +1,14 @@
 -- A pass is ready as it is made.
 use Rattle.std.proofs.Common.{ℕ, refl}
 use Rattle.lock_model.specs.History.{sections_in}
-use Rattle.lock_model.specs.declared.plan.Plan.{Plan}
+use Rattle.floor_table.specs.declared.description.Description.{Description}
 use Rattle.lock_floor.specs.Floors.{Floor}
 use Rattle.lock_floor.specs.Passes.{IsReady, first_pass}
 
-pub ready_first : (f : Floor Plan) (t : ℕ) → IsReady f (first_pass f.table f.plan t)
+pub ready_first : (f : Floor Description) (t : ℕ) → IsReady f (first_pass f.table f.description t)
 unfolding sections_in
 ready_first f t = record {
-  own = record { table = refl; plan = refl; unfinished = refl };
+  own = record { table = refl; description = refl; unfinished = refl };
   rest = record {
     nothing_out = refl;
     no_walk = refl;

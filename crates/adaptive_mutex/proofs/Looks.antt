@@ -2,9 +2,9 @@
 use Rattle.std.proofs.Common.{◌≡◌, ℕ, suc, ◌+◌, ◌<◌, false, true, cond, Option, Some, None, List, [], ◌∷◌, ◌++◌, length, replicate, refl, sym, ap, ◌∙◌, subst}
 use Rattle.std.proofs.lemmas.List.{replicate-append-replicate}
 use Rattle.lock_model.specs.Words.{Word}
-use Rattle.lock_model.specs.declared.plan.Plan.{Plan}
 use Rattle.lock_state.specs.State.{Look}
 use Rattle.lock_state.specs.Steps.{Step, Looks, seeks}
+use Rattle.floor_table.specs.declared.description.Description.{Description}
 use Rattle.floor_table.specs.Steps.{Makes, MakesEach, MayMake}
 use Rattle.floor_table.specs.Views.{Knowledge, seeing}
 use Rattle.lock_floor.specs.Passes.{IsGoing, IsAtRest}
@@ -14,19 +14,19 @@ use Rattle.adaptive_mutex.specs.Waiting.{with_looks, HasLooked}
 
 -- 1. Steps one behind the other
 
-pub each_append : (plan : Plan) (xs ys : List (List Step)) (u v w : Knowledge) → MakesEach plan xs u v → MakesEach plan ys v w → MakesEach plan (xs ++ ys) u w
-each_append plan [] ys u v w e m = subst (λ x. MakesEach plan ys x w) (sym e) m
-each_append plan (x ∷ xs) ys u v w m k = (m.0, m.1, each_append plan xs ys m.0 v w m.2 k)
+pub each_append : (floor : Description) (xs ys : List (List Step)) (u v w : Knowledge) → MakesEach floor xs u v → MakesEach floor ys v w → MakesEach floor (xs ++ ys) u w
+each_append floor [] ys u v w e m = subst (λ x. MakesEach floor ys x w) (sym e) m
+each_append floor (x ∷ xs) ys u v w m k = (m.0, m.1, each_append floor xs ys m.0 v w m.2 k)
 
 -- 2. One look
 
-module _ (plan : Plan) (v : Knowledge) (l : ℕ) (no_round : v.share.doing.round ≡ None) where
+module _ (floor : Description) (v : Knowledge) (l : ℕ) (no_round : v.share.doing.round ≡ None) where
   pub uncounted : counts v l ≡ false
   uncounted = ap (seeks l) no_round
 
-  pub may_look_on : l < length plan.locks → IsGoing v → MayMake plan v (λ s. Unit {0}) (Looks v.thread l (counts v l) ∷ [])
+  pub may_look_on : l < length floor.locks → IsGoing v → MayMake floor v (λ s. Unit {0}) (Looks v.thread l (counts v l) ∷ [])
   may_look_on low going =
-      may_look plan v l low going
+      may_look floor v l low going
       (λ e. absurd (let z : false ≡ true = sym uncounted ∙ e in cc))
       (λ ne. absurd (ne no_round))
 
@@ -44,19 +44,19 @@ module _ (plan : Plan) (v : Knowledge) (l : ℕ) (no_round : v.share.doing.round
         };
       }) uncounted
 
-  pub look_once : (word : Word) (new : Knowledge) → new ≡ seeing new.seen (looked v l word) → Makes plan (Looks v.thread l (counts v l) ∷ []) v new → HasLooked plan l 1 v new
+  pub look_once : (word : Word) (new : Knowledge) → new ≡ seeing new.seen (looked v l word) → Makes floor (Looks v.thread l (counts v l) ∷ []) v new → HasLooked floor l 1 v new
   look_once word new is m = record {
     all = suc v.share.doing.looks_in_all;
     last = Some (record { lock = l; word = word });
     seen = Some (record { lock = l; word = word });
     knows = is ∙ ap (seeing new.seen) (look_knows word);
-    steps = (new, subst (λ b. Makes plan (Looks v.thread l b ∷ []) v new) uncounted m, refl);
+    steps = (new, subst (λ b. Makes floor (Looks v.thread l b ∷ []) v new) uncounted m, refl);
   }
 
 -- 3. Several
 
-pub no_look : (plan : Plan) (l : ℕ) (v : Knowledge) → HasLooked plan l 0 v v
-no_look plan l v = record {
+pub no_look : (floor : Description) (l : ℕ) (v : Knowledge) → HasLooked floor l 0 v v
+no_look floor l v = record {
   all = v.share.doing.looks_in_all;
   last = v.share.doing.last_look;
   seen = v.share.doing.seen_in_section;
@@ -64,35 +64,35 @@ no_look plan l v = record {
   steps = refl;
 }
 
-pub look_more : (plan : Plan) (l n m : ℕ) (u v w : Knowledge) → HasLooked plan l n u v → HasLooked plan l m v w → HasLooked plan l (n + m) u w
-look_more plan l n m u v w x y =
+pub look_more : (floor : Description) (l n m : ℕ) (u v w : Knowledge) → HasLooked floor l n u v → HasLooked floor l m v w → HasLooked floor l (n + m) u w
+look_more floor l n m u v w x y =
     let look : List Step = Looks u.thread l false ∷ [] in
-    let more : MakesEach plan (replicate m look) v w = subst (λ t. MakesEach plan (replicate m (Looks t l false ∷ [])) v w) (ap (λ (k : Knowledge). k.thread) x.knows) y.steps in
+    let more : MakesEach floor (replicate m look) v w = subst (λ t. MakesEach floor (replicate m (Looks t l false ∷ [])) v w) (ap (λ (k : Knowledge). k.thread) x.knows) y.steps in
     record {
       all = y.all;
       last = y.last;
       seen = y.seen;
       knows = y.knows ∙ ap (λ k. seeing w.seen (with_looks k y.all y.last y.seen)) x.knows;
-      steps = subst (λ xs. MakesEach plan xs u w) (replicate-append-replicate n m look) (each_append plan (replicate n look) (replicate m look) u v w x.steps more);
+      steps = subst (λ xs. MakesEach floor xs u w) (replicate-append-replicate n m look) (each_append floor (replicate n look) (replicate m look) u v w x.steps more);
     }
 
-pub still_no_round : (plan : Plan) (l n : ℕ) (u v : Knowledge) → u.share.doing.round ≡ None → HasLooked plan l n u v → v.share.doing.round ≡ None
-still_no_round plan l n u v no_round x = ap (λ (k : Knowledge). k.share.doing.round) x.knows ∙ no_round
+pub still_no_round : (floor : Description) (l n : ℕ) (u v : Knowledge) → u.share.doing.round ≡ None → HasLooked floor l n u v → v.share.doing.round ≡ None
+still_no_round floor l n u v no_round x = ap (λ (k : Knowledge). k.share.doing.round) x.knows ∙ no_round
 
-pub still_going : (plan : Plan) (l n : ℕ) (u v : Knowledge) → IsGoing u → HasLooked plan l n u v → IsGoing v
-still_going plan l n u v going x = subst IsGoing (sym x.knows) going
+pub still_going : (floor : Description) (l n : ℕ) (u v : Knowledge) → IsGoing u → HasLooked floor l n u v → IsGoing v
+still_going floor l n u v going x = subst IsGoing (sym x.knows) going
 
-pub look_again : (plan : Plan) (l : ℕ) (u v w : Knowledge) (word : Word) → u.share.doing.round ≡ None → (n : ℕ) × HasLooked plan l n u v → w ≡ seeing w.seen (looked v l word) → Makes plan (Looks v.thread l (counts v l) ∷ []) v w → (n : ℕ) × HasLooked plan l n u w
-look_again plan l u v w word no_round x view step =
-    (x.0 + 1, look_more plan l x.0 1 u v w x.1 (look_once plan v l (still_no_round plan l x.0 u v no_round x.1) word w view step))
+pub look_again : (floor : Description) (l : ℕ) (u v w : Knowledge) (word : Word) → u.share.doing.round ≡ None → (n : ℕ) × HasLooked floor l n u v → w ≡ seeing w.seen (looked v l word) → Makes floor (Looks v.thread l (counts v l) ∷ []) v w → (n : ℕ) × HasLooked floor l n u w
+look_again floor l u v w word no_round x view step =
+    (x.0 + 1, look_more floor l x.0 1 u v w x.1 (look_once floor v l (still_no_round floor l x.0 u v no_round x.1) word w view step))
 
-pub look_on : (plan : Plan) (l : ℕ) (u v w : Knowledge) → (n : ℕ) × HasLooked plan l n u v → (n : ℕ) × HasLooked plan l n v w → (n : ℕ) × HasLooked plan l n u w
-look_on plan l u v w x y = (x.0 + y.0, look_more plan l x.0 y.0 u v w x.1 y.1)
+pub look_on : (floor : Description) (l : ℕ) (u v w : Knowledge) → (n : ℕ) × HasLooked floor l n u v → (n : ℕ) × HasLooked floor l n v w → (n : ℕ) × HasLooked floor l n u w
+look_on floor l u v w x y = (x.0 + y.0, look_more floor l x.0 y.0 u v w x.1 y.1)
 
 -- 4. A thread at rest stays so, whatever steps its seat has seen
 
-pub looks_rest : (plan : Plan) (v : Knowledge) (all : ℕ) (last seen : Option Look) (steps : List Step) → IsAtRest plan v → IsAtRest plan (seeing steps (with_looks v all last seen))
-looks_rest plan v all last seen steps r = record {
+pub looks_rest : (floor : Description) (v : Knowledge) (all : ℕ) (last seen : Option Look) (steps : List Step) → IsAtRest floor v → IsAtRest floor (seeing steps (with_looks v all last seen))
+looks_rest floor v all last seen steps r = record {
   nothing_out = r.nothing_out;
   no_walk = r.no_walk;
   unmarked = r.unmarked;

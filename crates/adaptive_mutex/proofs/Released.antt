@@ -2,17 +2,16 @@
 use Rattle.std.proofs.Common.{◌≡◌, ℕ, ◌+◌, ◌<◌, ◌≤◌, true, false, Option, List, [], ◌∷◌, ◌++◌, length, replicate, refl, sym, ap, ◌∙◌, subst, arith}
 use Rattle.lock_model.specs.Holds.{NotHeld, Holds}
 use Rattle.lock_model.specs.Operations.{hold_in, without_lock}
-use Rattle.lock_model.specs.Plans.{config_of}
 use Rattle.lock_model.specs.Words.{Word, word_of, gained, is_drop}
 use Rattle.lock_model.specs.declared.event.Event.{Event}
 use Rattle.lock_model.specs.declared.event.Event.TheVariants.{Unlocked}
 use Rattle.lock_model.specs.declared.numbers.LockNo.{LockNo}
 use Rattle.lock_model.specs.declared.plan.Mode.TheVariants.{Excl}
-use Rattle.lock_model.specs.declared.plan.Plan.{Plan}
 use Rattle.lock_state.specs.State.{State, Look}
 use Rattle.lock_state.specs.Steps.{Step, Looks, Drops, Stamps, HasOutForEntry, NotesInRound}
 use Rattle.lock_state.specs.Steps.LockWords.{Asks}
-use Rattle.floor_table.specs.Past.{chains}
+use Rattle.floor_table.specs.Descriptions.{config_in}
+use Rattle.floor_table.specs.declared.description.Description.{Description}
 use Rattle.floor_table.specs.Steps.{Fits, Makes, MakesEach, MayMake}
 use Rattle.floor_table.specs.Views.{Knowledge, seeing}
 use Rattle.lock_floor.specs.Passes.{IsAtRest, MakesEntry}
@@ -26,29 +25,29 @@ use Rattle.adaptive_mutex.proofs.Looks.{each_append}
 
 -- 1. The entry
 
-module _ (plan : Plan) (v : Knowledge) (l : LockNo) (r : IsAtRest plan v) (held : hold_in v.share.held l.0 ≡ Holds Excl) where
-  asks : (s : State) → Fits plan v s → Asks (config_of plan) s v.thread (Unlocked l Excl) × HasOutForEntry chains s v.thread (Unlocked l Excl)
-  asks s f = (own_log plan v s f l.0 ∙ r.sections l.0 ∙ held, tt)
+module _ (floor : Description) (v : Knowledge) (l : LockNo) (r : IsAtRest floor v) (held : hold_in v.share.held l.0 ≡ Holds Excl) where
+  asks : (s : State) → Fits floor v s → Asks (config_in floor) s v.thread (Unlocked l Excl) × HasOutForEntry floor.chains s v.thread (Unlocked l Excl)
+  asks s f = (own_log floor v s f l.0 ∙ r.sections l.0 ∙ held, tt)
 
-  pub may_note_release : MayMake plan v (λ s. Unit {0}) (Stamps v.thread (Unlocked l Excl) ∷ [])
+  pub may_note_release : MayMake floor v (λ s. Unit {0}) (Stamps v.thread (Unlocked l Excl) ∷ [])
   may_note_release =
-      may_stamp plan v (Unlocked l Excl) asks (subst (λ o. NotesInRound o (Unlocked l Excl)) (sym r.no_round) tt)
+      may_stamp floor v (Unlocked l Excl) asks (subst (λ o. NotesInRound o (Unlocked l Excl)) (sym r.no_round) tt)
       (λ e. absurd (let z : false ≡ true = sym r.no_wait ∙ e in cc))
       r.going r.takes_nothing
 
-  pub may_put_down : (ticket : ℕ) (w : Knowledge) → w ≡ seeing w.seen (stamped (config_of plan) v (entry_by v.thread ticket (Unlocked l Excl))) → MayPutDown plan l.0 w
+  pub may_put_down : (ticket : ℕ) (w : Knowledge) → w ≡ seeing w.seen (stamped (config_in floor) v (entry_by v.thread ticket (Unlocked l Excl))) → MayPutDown floor l.0 w
   may_put_down ticket w is =
-      let x = leaves plan v l Excl ticket r held in
-      subst (MayPutDown plan l.0) (sym is) record { held = held; closed = x.closed; begun = r.begun l.0 (λ q. absurd (let z : Holds Excl ≡ NotHeld = sym held ∙ q in cc)); no_round = r.no_round; going = r.going }
+      let x = leaves floor v l Excl ticket r held in
+      subst (MayPutDown floor l.0) (sym is) record { held = held; closed = x.closed; begun = r.begun l.0 (λ q. absurd (let z : Holds Excl ≡ NotHeld = sym held ∙ q in cc)); no_round = r.no_round; going = r.going }
 
--- the thread's number is one of the plan's, which are few
-pub few_threads : (plan : Plan) (l : LockNo) (v w : Knowledge) (ticket : ℕ) → w ≡ seeing w.seen (stamped (config_of plan) v (entry_by v.thread ticket (Unlocked l Excl))) → Makes plan (Stamps v.thread (Unlocked l Excl) ∷ []) v w → w.thread ≤ 63
-few_threads plan l v w ticket is m = omega (arith, ap (λ (k : Knowledge). k.thread) is, m.may.0.may.thread, m.represents.sizes.few_threads)
+-- the thread's number is one of the floor's, which are few
+pub few_threads : (floor : Description) (l : LockNo) (v w : Knowledge) (ticket : ℕ) → w ≡ seeing w.seen (stamped (config_in floor) v (entry_by v.thread ticket (Unlocked l Excl))) → Makes floor (Stamps v.thread (Unlocked l Excl) ∷ []) v w → w.thread ≤ 63
+few_threads floor l v w ticket is m = omega (arith, ap (λ (k : Knowledge). k.thread) is, m.may.0.may.thread, m.represents.sizes.sized.threads)
 
 -- 2. The drop
 
-pub may_put_on : (plan : Plan) (l n : ℕ) (u v : Knowledge) → MayPutDown plan l u → HasLooked plan l n u v → MayPutDown plan l v
-may_put_on plan l n u v m x = subst (MayPutDown plan l) (sym x.knows) record {
+pub may_put_on : (floor : Description) (l n : ℕ) (u v : Knowledge) → MayPutDown floor l u → HasLooked floor l n u v → MayPutDown floor l v
+may_put_on floor l n u v m x = subst (MayPutDown floor l) (sym x.knows) record {
   held = m.held;
   closed = m.closed;
   begun = m.begun;
@@ -63,27 +62,27 @@ own_drops own t is = ap (λ (w : Word). is_drop w) is
 pub own_is_held : (own t : ℕ) → word_of own ≡ gained (word_of 0) t Excl → IsHeldIn (word_of own).holder Excl
 own_is_held own t is = subst (λ (w : Word). IsHeldIn w.holder Excl) (sym is) tt
 
-pub may_drop_own : (plan : Plan) (l own t : ℕ) (v : Knowledge) → l < length plan.locks → word_of own ≡ gained (word_of 0) t Excl → MayPutDown plan l v → MayMake plan v (λ s. s.word l ≡ word_of own) (Drops v.thread l Excl ∷ [])
-may_drop_own plan l own t v low is m = may_drop plan v l Excl (word_of own) low m.held (own_drops own t is) m.closed m.begun m.going
+pub may_drop_own : (floor : Description) (l own t : ℕ) (v : Knowledge) → l < length floor.locks → word_of own ≡ gained (word_of 0) t Excl → MayPutDown floor l v → MayMake floor v (λ s. s.word l ≡ word_of own) (Drops v.thread l Excl ∷ [])
+may_drop_own floor l own t v low is m = may_drop floor v l Excl (word_of own) low m.held (own_drops own t is) m.closed m.begun m.going
 
 -- 3. Both
 
 -- a call that noted the release and put the mutex down
-pub record Releases (plan : Plan) (l : LockNo) (n : ℕ) (old new : Knowledge) : Type 0 where
-  pub rest : IsAtRest plan new
-  pub entry : MakesEntry plan (Unlocked l Excl) (without_lock l.0 old.share.held) old new
-  pub steps : MakesEach plan (unlocks old.thread l n) old new
+pub record Releases (floor : Description) (l : LockNo) (n : ℕ) (old new : Knowledge) : Type 0 where
+  pub rest : IsAtRest floor new
+  pub entry : MakesEntry floor (Unlocked l Excl) (without_lock l.0 old.share.held) old new
+  pub steps : MakesEach floor (unlocks old.thread l n) old new
 
-module _ (plan : Plan) (l : LockNo) (n ticket : ℕ) (old v new : Knowledge) (r : IsAtRest plan old) (m : MayRelease plan l.0 old) where
+module _ (floor : Description) (l : LockNo) (n ticket : ℕ) (old v new : Knowledge) (r : IsAtRest floor old) (m : MayRelease floor l.0 old) where
   abbrev e : Event
   e = Unlocked l Excl
 
   abbrev noted : Knowledge
-  noted = stamped (config_of plan) old (entry_by old.thread ticket e)
+  noted = stamped (config_in floor) old (entry_by old.thread ticket e)
 
-  leaves_on : (all : ℕ) (last seen : Option Look) (steps : List Step) → IsLeaving plan l.0 Excl (seeing steps (with_looks noted all last seen))
+  leaves_on : (all : ℕ) (last seen : Option Look) (steps : List Step) → IsLeaving floor l.0 Excl (seeing steps (with_looks noted all last seen))
   leaves_on all last seen steps =
-      let x = leaves plan old l Excl ticket r m.held in
+      let x = leaves floor old l Excl ticket r m.held in
       record {
         about = record {
           nothing_out = x.about.nothing_out;
@@ -103,7 +102,7 @@ module _ (plan : Plan) (l : LockNo) (n ticket : ℕ) (old v new : Knowledge) (r 
         begun = x.begun;
       }
 
-  pub released : v ≡ seeing v.seen noted → Makes plan (Stamps old.thread e ∷ []) old v → PutsDown plan l.0 n v new → Releases plan l n old new
+  pub released : v ≡ seeing v.seen noted → Makes floor (Stamps old.thread e ∷ []) old v → PutsDown floor l.0 n v new → Releases floor l n old new
   released says step d =
       let look = λ (t : ℕ). Looks t l.0 false ∷ [] in
       let drop = λ (t : ℕ). Drops t l.0 Excl ∷ [] in
@@ -111,10 +110,11 @@ module _ (plan : Plan) (l : LockNo) (n ticket : ℕ) (old v new : Knowledge) (r 
       let between : d.between ≡ left = d.looked.knows ∙ ap (λ k. seeing d.between.seen (with_looks k d.looked.all d.looked.last d.looked.seen)) says in
       let is : new ≡ seeing new.seen (put_down left l.0) = d.view ∙ ap (λ k. seeing new.seen (put_down k l.0)) between in
       let its : v.thread ≡ old.thread = ap (λ (k : Knowledge). k.thread) says in
-      let drops : Makes plan (drop old.thread) left (seeing new.seen (put_down left l.0)) =
-      subst (λ (z : Knowledge × Knowledge × ℕ). Makes plan (drop z.2) z.0 z.1) (λ i. (between i, is i, its i)) d.step in
+      let drops : Makes floor (drop old.thread) left (seeing new.seen (put_down left l.0)) =
+      subst (λ (z : Knowledge × Knowledge × ℕ). Makes floor (drop z.2) z.0 z.1)
+      (λ i. (between i, is i, its i)) d.step in
       record {
-        rest = subst (IsAtRest plan) (sym is) (rest_left plan l.0 Excl left (leaves_on d.looked.all d.looked.last d.looked.seen d.between.seen) new.seen drops);
+        rest = subst (IsAtRest floor) (sym is) (rest_left floor l.0 Excl left (leaves_on d.looked.all d.looked.last d.looked.seen d.between.seen) new.seen drops);
         entry = record {
           ticket = ticket;
           log = ap (λ (k : Knowledge). k.share.log) is;
@@ -131,7 +131,7 @@ module _ (plan : Plan) (l : LockNo) (n ticket : ℕ) (old v new : Knowledge) (r 
         steps = (
           v,
           step,
-          subst (λ t. MakesEach plan (replicate n (look t) ++ drop t ∷ []) v new) its
-              (each_append plan (replicate n (look v.thread)) (drop v.thread ∷ []) v d.between new d.looked.steps (new, d.step, refl)),
+          subst (λ t. MakesEach floor (replicate n (look t) ++ drop t ∷ []) v new) its
+              (each_append floor (replicate n (look v.thread)) (drop v.thread ∷ []) v d.between new d.looked.steps (new, d.step, refl)),
         );
       }

@@ -2,14 +2,14 @@
 use Rattle.std.proofs.Common.{◌≡◌, ◌≢◌, ℕ, zero, suc, ◌/◌, ◌%◌, ◌≤◌, Bool, true, false, ◌||◌, List, refl, sym, ◌∙◌, subst, arith, eq-eqb}
 use Rattle.std.specs.Prelude.{◌==◌}
 use Rattle.lock_model.specs.Counts.{one}
-use Rattle.lock_model.specs.Plans.{config_of}
 use Rattle.lock_model.specs.Words.{Word, Holder, Free, HeldBy, SharedBy, holder_of, word_of, is_free, shows_waiters}
 use Rattle.lock_model.specs.declared.plan.Kind.TheVariants.{Mtx}
-use Rattle.lock_model.specs.declared.plan.Plan.{Plan}
 use Rattle.lock_state.specs.Facts.{FreeMutexShowsNone}
 use Rattle.lock_state.specs.Facts.Waits.{busy}
 use Rattle.lock_state.specs.State.{State}
 use Rattle.lock_state.specs.Steps.{Step}
+use Rattle.floor_table.specs.Descriptions.{config_in}
+use Rattle.floor_table.specs.declared.description.Description.{Description}
 use Rattle.floor_table.specs.Steps.{IsSound}
 
 -- 1. Words that show neither a holder nor waiters
@@ -49,12 +49,12 @@ shows_none w few free = go w.holder (shows_waiters w) few free
     go (HeldBy t) b few free = absurd (cc)
     go (SharedBy n) b few free = absurd (cc)
 
-pub mutex_is_held : (plan : Plan) {past : List Step} (s : State) (l seen : ℕ) → IsSound (config_of plan) past s → (config_of plan).kind l ≡ Mtx → s.word l ≡ word_of seen → seen ≢ 0 → is_free (word_of seen).holder ≡ false
+pub mutex_is_held : (floor : Description) {past : List Step} (s : State) (l seen : ℕ) → IsSound floor past s → (config_in floor).kind l ≡ Mtx → s.word l ≡ word_of seen → seen ≢ 0 → is_free (word_of seen).holder ≡ false
 unfolding FreeMutexShowsNone
-mutex_is_held plan s l seen sound mutex is other = go (is_free (word_of seen).holder) refl
+mutex_is_held floor s l seen sound mutex is other = go (is_free (word_of seen).holder) refl
   where
     few : one (shows_waiters (word_of seen)) ≤ busy (word_of seen).holder
-    few = subst (λ (w : Word). one (shows_waiters w) ≤ busy w.holder) is (sound.floor.lawful.waits.free_mutex_shows_none l mutex)
+    few = subst (λ (w : Word). one (shows_waiters w) ≤ busy w.holder) is (sound.facts.lawful.waits.free_mutex_shows_none l mutex)
 
     go : (b : Bool) → is_free (word_of seen).holder ≡ b → b ≡ false
     go false e = refl

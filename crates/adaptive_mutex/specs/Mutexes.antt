@@ -3,33 +3,33 @@ use Rattle.std.specs.Prelude.{◌≡◌, ℕ, ◌<◌, ◌≤◌, Bool, true, fa
 use Rattle.lock_model.specs.Holds.{NotHeld, Holds}
 use Rattle.lock_model.specs.Limits.{most_held}
 use Rattle.lock_model.specs.Operations.{hold_in}
-use Rattle.lock_model.specs.Plans.{config_of}
 use Rattle.lock_model.specs.Words.{word_of, IsWellFormed, is_free}
 use Rattle.lock_model.specs.declared.event.Event.{Event}
 use Rattle.lock_model.specs.declared.event.Held.{Held}
 use Rattle.lock_model.specs.declared.numbers.LockNo.{LockNo}
 use Rattle.lock_model.specs.declared.plan.Kind.TheVariants.{Mtx}
 use Rattle.lock_model.specs.declared.plan.Mode.TheVariants.{Excl}
-use Rattle.lock_model.specs.declared.plan.Plan.{Plan}
 use Rattle.lock_state.specs.Steps.{Step, Looks, Gains, Drops, Stamps}
+use Rattle.floor_table.specs.Descriptions.{config_in}
+use Rattle.floor_table.specs.declared.description.Description.{Description}
 use Rattle.floor_table.specs.Steps.{Makes}
 use Rattle.floor_table.specs.Views.{Knowledge}
 
--- the lock is one of the plan's mutexes
-pub record IsMutex (plan : Plan) (l : ℕ) : Type 0 where
-  pub lock : l < length plan.locks
-  pub kind : (config_of plan).kind l ≡ Mtx
+-- the lock is one of the floor's mutexes
+pub record IsMutex (floor : Description) (l : ℕ) : Type 0 where
+  pub lock : l < length floor.locks
+  pub kind : (config_in floor).kind l ≡ Mtx
 
 -- the thread may gain the mutex: it doesn't hold it, may hold one more lock, and has room for an entry
-pub record MayAcquire (plan : Plan) (l : ℕ) (v : Knowledge) : Type 0 where
-  pub mutex : IsMutex plan l
+pub record MayAcquire (floor : Description) (l : ℕ) (v : Knowledge) : Type 0 where
+  pub mutex : IsMutex floor l
   pub unheld : hold_in v.share.held l ≡ NotHeld
   pub few : length v.share.held < most_held
   pub room : 1 ≤ v.spare
 
 -- it may release it: it holds it, and has room for an entry
-pub record MayRelease (plan : Plan) (l : ℕ) (v : Knowledge) : Type 0 where
-  pub mutex : IsMutex plan l
+pub record MayRelease (floor : Description) (l : ℕ) (v : Knowledge) : Type 0 where
+  pub mutex : IsMutex floor l
   pub held : hold_in v.share.held l ≡ Holds Excl
   pub room : 1 ≤ v.spare
 
@@ -55,13 +55,13 @@ unlocks t l n = (Stamps t (Event.Unlocked l Excl) ∷ []) ∷ after_looks t l.0 
 
 -- A try found the mutex held: its exchange failed, and so was a look that saw the word of a held mutex; it noted that
 -- word, and nothing else.
-pub record WasBusy (plan : Plan) (t : ℕ) (l : LockNo) (seen : ℕ) (old new : Knowledge) : Type 0
-  where
-    pub between : Knowledge
-    pub look : Makes plan (Looks t l.0 false ∷ []) old between
-    pub saw : between.share.doing.last_look ≡ Some (record { lock = l.0; word = word_of seen })
-    pub note : Makes plan (Stamps t (Event.Busy l seen) ∷ []) between new
-    pub well_formed : IsWellFormed (word_of seen)
-    pub held : is_free (word_of seen).holder ≡ false
-    pub looked : old.share.doing.looks_in_all < new.share.doing.looks_in_all
-    pub no_last_look : new.share.doing.last_look ≡ None
+pub record WasBusy (floor : Description) (t : ℕ) (l : LockNo) (seen : ℕ)
+    (old new : Knowledge) : Type 0 where
+  pub between : Knowledge
+  pub look : Makes floor (Looks t l.0 false ∷ []) old between
+  pub saw : between.share.doing.last_look ≡ Some (record { lock = l.0; word = word_of seen })
+  pub note : Makes floor (Stamps t (Event.Busy l seen) ∷ []) between new
+  pub well_formed : IsWellFormed (word_of seen)
+  pub held : is_free (word_of seen).holder ≡ false
+  pub looked : old.share.doing.looks_in_all < new.share.doing.looks_in_all
+  pub no_last_look : new.share.doing.last_look ≡ None

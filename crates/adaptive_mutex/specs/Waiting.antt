@@ -5,13 +5,13 @@ use Rattle.lock_model.specs.Holds.{NotHeld, Holds}
 use Rattle.lock_model.specs.History.{open_in}
 use Rattle.lock_model.specs.Limits.{most_held}
 use Rattle.lock_model.specs.Operations.{hold_in}
-use Rattle.lock_model.specs.Plans.{config_of}
 use Rattle.lock_model.specs.declared.event.Held.{Held}
 use Rattle.lock_model.specs.declared.plan.Mode.TheVariants.{Excl}
-use Rattle.lock_model.specs.declared.plan.Plan.{Plan}
 use Rattle.lock_state.specs.State.{Look}
 use Rattle.lock_state.specs.Steps as steps
 use Rattle.lock_state.specs.Steps.{Looks, Drops}
+use Rattle.floor_table.specs.Descriptions.{config_in}
+use Rattle.floor_table.specs.declared.description.Description.{Description}
 use Rattle.floor_table.specs.Shares.{Doing, is_among}
 use Rattle.floor_table.specs.Steps.{Makes, MakesEach}
 use Rattle.floor_table.specs.Views.{Knowledge, seeing}
@@ -29,16 +29,16 @@ with_looks v all last seen =
     record v { share = record v.share { doing = after } }
 
 -- the thread made so many looks at a lock, outside acquiring rounds, and knows nothing else anew
-pub record HasLooked (plan : Plan) (l n : ℕ) (old new : Knowledge) : Type 0 where
+pub record HasLooked (floor : Description) (l n : ℕ) (old new : Knowledge) : Type 0 where
   pub all : ℕ
   pub last : Option Look
   pub seen : Option Look
   pub knows : new ≡ seeing new.seen (with_looks old all last seen)
-  pub steps : MakesEach plan (replicate n (Looks old.thread l false ∷ [])) old new
+  pub steps : MakesEach floor (replicate n (Looks old.thread l false ∷ [])) old new
 
 -- the thread may gain the lock where its word is free: it is awake, doesn't hold it, has room for it, wants and takes
 -- none and is in no round
-pub record MayGain (plan : Plan) (l : ℕ) (v : Knowledge) : Type 0 where
+pub record MayGain (floor : Description) (l : ℕ) (v : Knowledge) : Type 0 where
   pub unheld : hold_in v.share.held l ≡ NotHeld
   pub few : length v.share.held < most_held
   pub wants_nothing : v.share.doing.wanted ≡ None
@@ -47,24 +47,24 @@ pub record MayGain (plan : Plan) (l : ℕ) (v : Knowledge) : Type 0 where
   pub going : IsGoing v
 
 -- it gained the lock behind so many looks
-pub record Gains (plan : Plan) (h : Held) (n : ℕ) (old new : Knowledge) : Type 0 where
+pub record Gains (floor : Description) (h : Held) (n : ℕ) (old new : Knowledge) : Type 0 where
   pub between : Knowledge
-  pub looked : HasLooked plan h.l.0 n old between
+  pub looked : HasLooked floor h.l.0 n old between
   pub view : new ≡ seeing new.seen (gained between h)
-  pub step : Makes plan (steps.Gains old.thread h.l.0 h.mode h.by_try ∷ []) between new
+  pub step : Makes floor (steps.Gains old.thread h.l.0 h.mode h.by_try ∷ []) between new
 
 -- the thread may put the lock down: it is awake and holds it, its section of it began and is closed, and it is in no
 -- round
-pub record MayPutDown (plan : Plan) (l : ℕ) (v : Knowledge) : Type 0 where
+pub record MayPutDown (floor : Description) (l : ℕ) (v : Knowledge) : Type 0 where
   pub held : hold_in v.share.held l ≡ Holds Excl
-  pub closed : open_in (config_of plan) v.share.log v.thread l ≡ NotHeld
+  pub closed : open_in (config_in floor) v.share.log v.thread l ≡ NotHeld
   pub begun : is_among l v.share.begun ≡ true
   pub no_round : v.share.doing.round ≡ None
   pub going : IsGoing v
 
 -- it put the lock down behind so many looks
-pub record PutsDown (plan : Plan) (l n : ℕ) (old new : Knowledge) : Type 0 where
+pub record PutsDown (floor : Description) (l n : ℕ) (old new : Knowledge) : Type 0 where
   pub between : Knowledge
-  pub looked : HasLooked plan l n old between
+  pub looked : HasLooked floor l n old between
   pub view : new ≡ seeing new.seen (put_down between l)
-  pub step : Makes plan (Drops old.thread l Excl ∷ []) between new
+  pub step : Makes floor (Drops old.thread l Excl ∷ []) between new

@@ -20,12 +20,12 @@ const FREE: u64 = 0;
 /// mutex is never refused.
 pub fn lock<R: Wait>(floor: &Floor, rt: &R, pass: &mut Pass, l: LockNo) -> Result<(), Reversal>
     requires ready { IsReady floor.now pass.old }
-    requires may { MayAcquire floor.now.plan l.0 pass.old.view }
+    requires may { MayAcquire floor.now.description l.0 pass.old.view }
     ensures never_refused { IsOk result }
     ensures ready { IsReady floor.now pass.new }
-    ensures entry { MakesEntry floor.now.plan (event.Locked l Excl)
+    ensures entry { MakesEntry floor.now.description (event.Locked l Excl)
         (pass.old.view.share.held ++ as_held l false ∷ []) pass.old.view pass.new.view }
-    ensures steps { (n : ℕ) × MakesEach floor.now.plan (locks pass.old.view.thread l n)
+    ensures steps { (n : ℕ) × MakesEach floor.now.description (locks pass.old.view.thread l n)
         pass.old.view pass.new.view }
 {
     gain(floor, rt, pass, l);
@@ -43,15 +43,15 @@ pub fn lock<R: Wait>(floor: &Floor, rt: &R, pass: &mut Pass, l: LockNo) -> Resul
 /// that word. It never waits.
 pub fn try_lock(floor: &Floor, pass: &mut Pass, l: LockNo) -> Result<(), Busy>
     requires ready { IsReady floor.now pass.old }
-    requires may { MayAcquire floor.now.plan l.0 pass.old.view }
+    requires may { MayAcquire floor.now.description l.0 pass.old.view }
     ensures ready { IsReady floor.now pass.new }
-    ensures gained { IfOk result (λ _. MakesEntry floor.now.plan (event.Tried l Excl)
+    ensures gained { IfOk result (λ _. MakesEntry floor.now.description (event.Tried l Excl)
         (pass.old.view.share.held ++ as_held l true ∷ []) pass.old.view pass.new.view) }
-    ensures steps { IfOk result (λ _. MakesEach floor.now.plan (tries pass.old.view.thread l)
+    ensures steps { IfOk result (λ _. MakesEach floor.now.description (tries pass.old.view.thread l)
         pass.old.view pass.new.view) }
-    ensures busy { IfErr result (λ b. WasBusy floor.now.plan pass.old.view.thread l b.seen
+    ensures busy { IfErr result (λ b. WasBusy floor.now.description pass.old.view.thread l b.seen
         pass.old.view pass.new.view) }
-    ensures noted { IfErr result (λ b. MakesEntry floor.now.plan (event.Busy l b.seen)
+    ensures noted { IfErr result (λ b. MakesEntry floor.now.description (event.Busy l b.seen)
         pass.old.view.share.held pass.old.view pass.new.view) }
 {
     let hold = Held {
@@ -80,11 +80,11 @@ pub fn try_lock(floor: &Floor, pass: &mut Pass, l: LockNo) -> Result<(), Busy>
 /// Releases a mutex.
 pub fn unlock<R: Wait>(floor: &Floor, rt: &R, pass: &mut Pass, l: LockNo)
     requires ready { IsReady floor.now pass.old }
-    requires may { MayRelease floor.now.plan l.0 pass.old.view }
+    requires may { MayRelease floor.now.description l.0 pass.old.view }
     ensures ready { IsReady floor.now pass.new }
-    ensures entry { MakesEntry floor.now.plan (event.Unlocked l Excl)
+    ensures entry { MakesEntry floor.now.description (event.Unlocked l Excl)
         (without_lock l.0 pass.old.view.share.held) pass.old.view pass.new.view }
-    ensures steps { (n : ℕ) × MakesEach floor.now.plan (unlocks pass.old.view.thread l n)
+    ensures steps { (n : ℕ) × MakesEach floor.now.description (unlocks pass.old.view.thread l n)
         pass.old.view pass.new.view }
 {
     floor.stamp(
@@ -100,11 +100,11 @@ pub fn unlock<R: Wait>(floor: &Floor, rt: &R, pass: &mut Pass, l: LockNo)
 // Gains a mutex: an exchange from the free word that misses is a look, and then the thread looks until it sees that word.
 fn gain<R: Wait>(floor: &Floor, rt: &R, pass: &mut Pass, l: LockNo)
     requires own { IsOf floor.now pass.old }
-    requires mutex { IsMutex floor.now.plan l.0 }
-    requires may { MayGain floor.now.plan l.0 pass.old.view }
+    requires mutex { IsMutex floor.now.description l.0 }
+    requires may { MayGain floor.now.description l.0 pass.old.view }
     ensures own { IsOf floor.now pass.new }
     ensures gained { (n : ℕ)
-        × Gains floor.now.plan (as_held l false) n pass.old.view pass.new.view }
+        × Gains floor.now.description (as_held l false) n pass.old.view pass.new.view }
 {
     let hold = Held {
         l,
@@ -124,11 +124,11 @@ fn gain<R: Wait>(floor: &Floor, rt: &R, pass: &mut Pass, l: LockNo)
 // Looks at a lock until its word is free.
 fn watch<R: Wait>(floor: &Floor, rt: &R, pass: &mut Pass, l: LockNo, backoff: &Backoff)
     requires own { IsOf floor.now pass.old }
-    requires lock { l.0 < length floor.now.plan.locks }
+    requires lock { l.0 < length floor.now.description.locks }
     requires no_round { pass.old.view.share.doing.round ≡ None }
     requires going { IsGoing pass.old.view }
     ensures own { IsOf floor.now pass.new }
-    ensures looked { (n : ℕ) × HasLooked floor.now.plan l.0 n pass.old.view pass.new.view }
+    ensures looked { (n : ℕ) × HasLooked floor.now.description l.0 n pass.old.view pass.new.view }
 {
     for _ in rt.forever() {
         backoff.spin();
@@ -142,11 +142,11 @@ fn watch<R: Wait>(floor: &Floor, rt: &R, pass: &mut Pass, l: LockNo, backoff: &B
 // Puts a mutex down, whose word is that of its holder.
 fn put_down<R: Wait>(floor: &Floor, rt: &R, pass: &mut Pass, l: LockNo)
     requires own { IsOf floor.now pass.old }
-    requires mutex { IsMutex floor.now.plan l.0 }
+    requires mutex { IsMutex floor.now.description l.0 }
     requires thread { pass.old.view.thread ≤ 63 }
-    requires may { MayPutDown floor.now.plan l.0 pass.old.view }
+    requires may { MayPutDown floor.now.description l.0 pass.old.view }
     ensures own { IsOf floor.now pass.new }
-    ensures dropped { (n : ℕ) × PutsDown floor.now.plan l.0 n pass.old.view pass.new.view }
+    ensures dropped { (n : ℕ) × PutsDown floor.now.description l.0 n pass.old.view pass.new.view }
 {
     let own = lock_words::gained(FREE, pass.thread(), Mode::Excl);
     let backoff = Backoff::new();

@@ -1,7 +1,7 @@
 -- What a thread's next operation finds, and where its entry leads the thread.
 use Rattle.std.proofs.Common.{◌≡◌, ◌≢◌, ℕ, zero, suc, ◌^◌, ◌<◌, ◌≤◌, Bool, true, false, ◌&&◌, arith, List, [], ◌∷◌, ◌++◌, length, slice_get, map, sum, Option, Some, None, option_map, refl, sym, ap, eq-eqb, ◌∙◌, subst}
 use Rattle.std.specs.Prelude.{IsTrue, unwrap_or, ◌==◌}
-use Rattle.std.specs.List.{list_any}
+use Rattle.std.specs.List.{Contains, list_any}
 use Rattle.std.proofs.lemmas.Bool.{not-true}
 use Rattle.std.proofs.lemmas.List.Sums.{sum_by-cons}
 use Rattle.std.proofs.lemmas.Map.Keys.{any_passes_from_place}
@@ -32,13 +32,17 @@ use Rattle.lock_model.specs.declared.plan.Plan.{Plan}
 use Rattle.lock_model.specs.declared.plan.ThreadDecl.{ThreadDecl}
 use Rattle.lock_laws.proofs.HeldLists.{held_is, gain_passes, release_fits, wake_fits, next_leads, held_are_locks, try_passes}
 use Rattle.lock_state.specs.Steps.{Stamps}
+use Rattle.floor_table.specs.Descriptions.{config_in, room_for, keys_in, IsFor}
+use Rattle.floor_table.specs.declared.description.Description.{Description}
 use Rattle.floor_table.specs.Steps.{Makes}
 use Rattle.floor_table.specs.Views.{Knowledge}
+use Rattle.floor_table.proofs.Descriptions.{same_config, its_room}
+use Rattle.floor_table.proofs.PlanKeys.{keys_are_named, found_key}
 use Rattle.lock_floor.specs.Floors.{Floor, Pass}
 use Rattle.lock_floor.specs.Passes.{IsReady, MakesEntry, first_pass}
 use Rattle.lock_floor.specs.Views.{entry_by}
 use Rattle.adaptive_mutex.proofs.First.{ready_first}
-use Rattle.adaptive_mutex.specs.Mutexes.{MayAcquire, MayRelease, WasBusy, as_held}
+use Rattle.adaptive_mutex.specs.Mutexes.{IsMutex, MayAcquire, MayRelease, WasBusy, as_held}
 use Rattle.floor_run.specs.Progress.{IsBefore}
 use Rattle.floor_run.specs.Runs.{HasOnlyMutexes}
 use Rattle.floor_run.specs.Workers.{WasStamped, WereStamped, IsWhole}
@@ -46,20 +50,21 @@ use Rattle.floor_run.specs.Workers.{WasStamped, WereStamped, IsWhole}
 -- 1. The begin and the end
 
 -- before a thread's first operation
-pub at_first : (f : Floor Plan) (t : ℕ) → IsBefore f t 0 (first_pass f.table f.plan t)
-at_first f t = record {
+pub at_first : (plan : Plan) (f : Floor Description) → IsFor plan f.description → (t : ℕ)
+    → IsBefore plan f t 0 (first_pass f.table f.description t)
+at_first plan f given t = record {
   ready = ready_first f t;
   thread = refl;
   within = omega arith;
   held = refl;
   leads = law.begins;
   stamped = tt;
-  room = omega arith;
+  room = omega (arith, ap (λ d. room_for d t) given, its_room plan f.description.chains t);
 }
 
 -- behind its last
-pub at_last : (f : Floor Plan) (t n : ℕ) (x : Pass Knowledge) → IsBefore f t n x → length (operations_of f.plan t) ≤ n → IsWhole f.plan t x.view.share.log
-at_last f t n x b over = record { place = Before n; leads = b.leads; at_end = omega (arith, b.within, over); stamped = b.stamped }
+pub at_last : (plan : Plan) (f : Floor Description) (t n : ℕ) (x : Pass Knowledge) → IsBefore plan f t n x → length (operations_of plan t) ≤ n → IsWhole plan f.description t x.view.share.log
+at_last plan f t n x b over = record { place = Before n; leads = b.leads; at_end = omega (arith, b.within, over); stamped = b.stamped }
 
 -- 2. Kinds and keys
 
@@ -71,8 +76,8 @@ mutex_kind plan m l = ap (λ k. unwrap_or k Mtx) (slice_get-map (λ (d : LockDec
     go (Some d) e = ap (λ (x : LockDecl). x.kind) (sym (get_or_from_slice_get plan.locks l d d e)) ∙ m.locks l d (slice_get_within plan.locks l d e)
 
 -- an operation of the thread that names a key
-named : (plan : Plan) (t n l key : ℕ) (op : Op) → slice_get (operations_of plan t) n ≡ Some op → op_names l key op ≡ true → IsTrue (plan_names plan l key)
-named plan t n l key op e i = go (slice_get plan.threads t) refl
+plan_named : (plan : Plan) (t n l key : ℕ) (op : Op) → slice_get (operations_of plan t) n ≡ Some op → op_names l key op ≡ true → IsTrue (plan_names plan l key)
+plan_named plan t n l key op e i = go (slice_get plan.threads t) refl
   where
     test : ThreadDecl → Bool
     test d = list_any (op_names l key) d.ops
@@ -82,6 +87,20 @@ named plan t n l key op e i = go (slice_get plan.threads t) refl
     go (Some d) f =
         let ops : operations_of plan t ≡ d.ops = ap (λ x. unwrap_or x []) (slice_get-map (λ d. d.ops) plan.threads t ∙ ap (option_map (λ (d : ThreadDecl). d.ops)) f) in
         any_passes_from_place test plan.threads t d f (any_passes_from_place (op_names l key) d.ops n op (rw ops at e) i)
+
+-- so the key is one of the floor's
+named : (plan : Plan) (floor : Description) → IsFor plan floor → (t n l key : ℕ) (op : Op)
+    → slice_get (operations_of plan t) n ≡ Some op → op_names l key op ≡ true → Contains floor.keys (l, key)
+named plan floor given t n l key op e i =
+    subst (λ ks. Contains ks (l, key)) (sym (ap (λ (d : Description). d.keys) given))
+    (found_key l key (keys_in plan.threads) (keys_are_named plan l key ∙ plan_named plan t n l key op e i))
+
+-- a lock of the plan is one of the floor's, and a mutex there too
+is_mutex : (plan : Plan) (floor : Description) → IsFor plan floor → HasOnlyMutexes plan → (l : ℕ)
+    → l < length plan.locks → IsMutex floor l
+is_mutex plan floor given m l low =
+    let same : config_in floor ≡ config_of plan = ap config_in given ∙ same_config plan floor.chains in
+    record { lock = subst (λ c. l < c.locks) (sym same) low; kind = ap (λ c. c.kind l) same ∙ mutex_kind plan m l }
 
 -- a thread has as many operations as all have together, or fewer
 few_ops : (threads : List ThreadDecl) (t : ℕ) → length (unwrap_or (slice_get (map (λ d. d.ops) threads) t) []) ≤ sum (map (λ d. length d.ops) threads)
@@ -100,9 +119,9 @@ exclusive_is x e = grind arith
 
 -- 3. What the next operation finds
 
-module _ (f : Floor Plan) (p : IsProper f.plan) (m : HasOnlyMutexes f.plan) (t n : ℕ) (x : Pass Knowledge) (b : IsBefore f t n x) where
+module _ (plan : Plan) (f : Floor Description) (given : IsFor plan f.description) (p : IsProper plan) (m : HasOnlyMutexes plan) (t n : ℕ) (x : Pass Knowledge) (b : IsBefore plan f t n x) where
   abbrev ops : List Op
-  ops = operations_of f.plan t
+  ops = operations_of plan t
 
   abbrev held : List Held
   held = held_of ops n
@@ -114,48 +133,48 @@ module _ (f : Floor Plan) (p : IsProper f.plan) (m : HasOnlyMutexes f.plan) (t n
   holds_so : (l : ℕ) → hold_in x.view.share.held l ≡ hold_in held l
   holds_so l = ap (λ hs. hold_in hs l) b.held
 
-  may_acquire : (op : Op) (l : LockNo) (mode : Mode) → slice_get ops n ≡ Some op → Passes (acquiring_tests f.plan.locks l mode held) → MayAcquire f.plan l.0 x.view
+  may_acquire : (op : Op) (l : LockNo) (mode : Mode) → slice_get ops n ≡ Some op → Passes (acquiring_tests plan.locks l mode held) → MayAcquire f.description l.0 x.view
   may_acquire op l mode e tests =
-      let g = gain_passes f.plan l mode false held _ tests refl in
+      let g = gain_passes plan l mode false held _ tests refl in
       record {
-        mutex = record { lock = g.lock; kind = mutex_kind f.plan m l.0 };
+        mutex = is_mutex plan f.description given m l.0 g.lock;
         unheld = holds_so l.0 ∙ g.unheld;
         few = subst (λ (hs : List Held). length hs < most_held) (sym b.held) g.few;
         room = room_for_one op e;
       }
 
-  pub may_take : (l : LockNo) (mode : Mode) → slice_get ops n ≡ Some (Take l mode) → MayAcquire f.plan l.0 x.view
-  may_take l mode e = may_acquire (Take l mode) l mode e (next_leads f.plan p t n (Take l mode) e).passes
+  pub may_take : (l : LockNo) (mode : Mode) → slice_get ops n ≡ Some (Take l mode) → MayAcquire f.description l.0 x.view
+  may_take l mode e = may_acquire (Take l mode) l mode e (next_leads plan p t n (Take l mode) e).passes
 
-  pub may_try : (l : LockNo) (mode : Mode) (past : ℕ) → slice_get ops n ≡ Some (Try l mode past) → MayAcquire f.plan l.0 x.view
-  may_try l mode past e = may_acquire (Try l mode past) l mode e (next_leads f.plan p t n (Try l mode past) e).passes
+  pub may_try : (l : LockNo) (mode : Mode) (past : ℕ) → slice_get ops n ≡ Some (Try l mode past) → MayAcquire f.description l.0 x.view
+  may_try l mode past e = may_acquire (Try l mode past) l mode e (next_leads plan p t n (Try l mode past) e).passes
 
   -- a lock that is held is one of the plan's, and held exclusively
-  held_so : (l : ℕ) → hold_in held l ≢ NotHeld → (l < length f.plan.locks) × (hold_in held l ≡ Holds Excl)
+  held_so : (l : ℕ) → hold_in held l ≢ NotHeld → (l < length plan.locks) × (hold_in held l ≡ Holds Excl)
   held_so l some =
-      let locks = held_are_locks f.plan p t n in
-      (locks.within l some, go (hold_in held l) refl some (λ mode e. locks.mutexes l mode e (mutex_kind f.plan m l)))
+      let locks = held_are_locks plan p t n in
+      (locks.within l some, go (hold_in held l) refl some (λ mode e. locks.mutexes l mode e (mutex_kind plan m l)))
     where
       go : (h : Hold) → hold_in held l ≡ h → h ≢ NotHeld → ((mode : Mode) → hold_in held l ≡ Holds mode → mode ≡ Excl) → h ≡ Holds Excl
       go NotHeld e other its = absurd (other refl)
       go (Holds mode) e other its = ap Holds (its mode e)
 
-  pub may_release : (l : LockNo) → slice_get ops n ≡ Some (Release l) → MayRelease f.plan l.0 x.view
+  pub may_release : (l : LockNo) → slice_get ops n ≡ Some (Release l) → MayRelease f.description l.0 x.view
   may_release l e =
-      let so = held_so l.0 (release_fits f.plan l held _ (next_leads f.plan p t n (Release l) e)).0 in
-      record { mutex = record { lock = so.0; kind = mutex_kind f.plan m l.0 }; held = holds_so l.0 ∙ so.1; room = room_for_one (Release l) e }
+      let so = held_so l.0 (release_fits plan l held _ (next_leads plan p t n (Release l) e)).0 in
+      record { mutex = is_mutex plan f.description given m l.0 so.0; held = holds_so l.0 ∙ so.1; room = room_for_one (Release l) e }
 
   -- 4. Where its entry leads
 
-  pub entry_leads : (y : Pass Knowledge) (op : Op) (e : Event) (hs : List Held) (next : ℕ) → slice_get ops n ≡ Some op → Gives (config_of f.plan).kind held n op e (Before next)
-      → hs ≡ held_of ops next → n < next → next ≤ length ops → IsReady f y → MakesEntry f.plan e hs x.view y.view → IsBefore f t next y
+  pub entry_leads : (y : Pass Knowledge) (op : Op) (e : Event) (hs : List Held) (next : ℕ) → slice_get ops n ≡ Some op → Gives (config_of plan).kind held n op e (Before next)
+      → hs ≡ held_of ops next → n < next → next ≤ length ops → IsReady f y → MakesEntry f.description e hs x.view y.view → IsBefore plan f t next y
   entry_leads y op e hs next at gives holds further within ready made =
       let entry : Entry = entry_by x.view.thread made.ticket e in
-      let stamped : WasStamped f.plan t entry x.view.share.log = record {
+      let stamped : WasStamped f.description t entry x.view.share.log = record {
         before = made.before;
         behind = made.behind;
         thread = made.of ∙ b.thread;
-        step = subst (λ u. Makes f.plan (Stamps u e ∷ []) made.before made.behind) b.thread made.step;
+        step = subst (λ u. Makes f.description (Stamps u e ∷ []) made.before made.behind) b.thread made.step;
         was = made.log_before;
         is = made.log_behind ∙ made.log;
       } in
@@ -164,104 +183,104 @@ module _ (f : Floor Plan) (p : IsProper f.plan) (m : HasOnlyMutexes f.plan) (t n
         thread = made.thread ∙ b.thread;
         within = within;
         held = made.held ∙ holds;
-        leads = subst (λ (es : List Entry). LeadsTo (config_of f.plan).kind ops es (Before next)) (sym made.log) (law.goes_on entry b.leads at gives);
-        stamped = subst (λ (es : List Entry). WereStamped f.plan t es) (sym made.log) (stamped, b.stamped);
+        leads = subst (λ (es : List Entry). LeadsTo (config_of plan).kind ops es (Before next)) (sym made.log) (law.goes_on entry b.leads at gives);
+        stamped = subst (λ (es : List Entry). WereStamped f.description t es) (sym made.log) (stamped, b.stamped);
         room = omega (arith, b.room, made.spare, further);
       }
 
   -- one that leaves what is held
-  keeps : (y : Pass Knowledge) (op : Op) (e : Event) → slice_get ops n ≡ Some op → held_behind op held ≡ held → Gives (config_of f.plan).kind held n op e (Before (suc n)) → IsReady f y
-      → MakesEntry f.plan e x.view.share.held x.view y.view → IsBefore f t (suc n) y
-  keeps y op e at still gives ready made = entry_leads y op e x.view.share.held (suc n) at gives (b.held ∙ sym still ∙ (next_leads f.plan p t n op at).behind) (omega arith) (omega (arith, slice_get_within ops n op at)) ready made
+  keeps : (y : Pass Knowledge) (op : Op) (e : Event) → slice_get ops n ≡ Some op → held_behind op held ≡ held → Gives (config_of plan).kind held n op e (Before (suc n)) → IsReady f y
+      → MakesEntry f.description e x.view.share.held x.view y.view → IsBefore plan f t (suc n) y
+  keeps y op e at still gives ready made = entry_leads y op e x.view.share.held (suc n) at gives (b.held ∙ sym still ∙ (next_leads plan p t n op at).behind) (omega arith) (omega (arith, slice_get_within ops n op at)) ready made
 
   -- 5. Operation by operation
 
-  its_mode : (l : LockNo) (mode : Mode) → Passes (acquiring_tests f.plan.locks l mode held) → mode ≡ Excl
-  its_mode l mode tests = (gain_passes f.plan l mode false held _ tests refl).mutex (mutex_kind f.plan m l.0)
+  its_mode : (l : LockNo) (mode : Mode) → Passes (acquiring_tests plan.locks l mode held) → mode ≡ Excl
+  its_mode l mode tests = (gain_passes plan l mode false held _ tests refl).mutex (mutex_kind plan m l.0)
 
-  pub took : (y : Pass Knowledge) (l : LockNo) (mode : Mode) → slice_get ops n ≡ Some (Take l mode) → IsReady f y → MakesEntry f.plan (event.Locked l Excl) (x.view.share.held ++ as_held l false ∷ []) x.view y.view → IsBefore f t (suc n) y
+  pub took : (y : Pass Knowledge) (l : LockNo) (mode : Mode) → slice_get ops n ≡ Some (Take l mode) → IsReady f y → MakesEntry f.description (event.Locked l Excl) (x.view.share.held ++ as_held l false ∷ []) x.view y.view → IsBefore plan f t (suc n) y
   took y l mode e ready made =
-      let at : slice_get ops n ≡ Some (Take l Excl) = e ∙ ap (λ k. Some (Take l k)) (its_mode l mode (next_leads f.plan p t n (Take l mode) e).passes) in
-      entry_leads y (Take l Excl) (event.Locked l Excl) _ (suc n) at (law.locks l Excl) (ap (λ hs. hs ++ as_held l false ∷ []) b.held ∙ (next_leads f.plan p t n (Take l Excl) at).behind) (omega arith)
+      let at : slice_get ops n ≡ Some (Take l Excl) = e ∙ ap (λ k. Some (Take l k)) (its_mode l mode (next_leads plan p t n (Take l mode) e).passes) in
+      entry_leads y (Take l Excl) (event.Locked l Excl) _ (suc n) at (law.locks l Excl) (ap (λ hs. hs ++ as_held l false ∷ []) b.held ∙ (next_leads plan p t n (Take l Excl) at).behind) (omega arith)
       (omega (arith, slice_get_within ops n (Take l Excl) at)) ready made
 
   try_at : (l : LockNo) (mode : Mode) (past : ℕ) → slice_get ops n ≡ Some (Try l mode past) → slice_get ops n ≡ Some (Try l Excl past)
-  try_at l mode past e = e ∙ ap (λ k. Some (Try l k past)) (its_mode l mode (next_leads f.plan p t n (Try l mode past) e).passes)
+  try_at l mode past e = e ∙ ap (λ k. Some (Try l k past)) (its_mode l mode (next_leads plan p t n (Try l mode past) e).passes)
 
-  pub tried : (y : Pass Knowledge) (l : LockNo) (mode : Mode) (past : ℕ) → slice_get ops n ≡ Some (Try l mode past) → IsReady f y → MakesEntry f.plan (event.Tried l Excl) (x.view.share.held ++ as_held l true ∷ []) x.view y.view → IsBefore f t (suc n) y
+  pub tried : (y : Pass Knowledge) (l : LockNo) (mode : Mode) (past : ℕ) → slice_get ops n ≡ Some (Try l mode past) → IsReady f y → MakesEntry f.description (event.Tried l Excl) (x.view.share.held ++ as_held l true ∷ []) x.view y.view → IsBefore plan f t (suc n) y
   tried y l mode past e ready made =
       let at = try_at l mode past e in
-      entry_leads y (Try l Excl past) (event.Tried l Excl) _ (suc n) at (law.tries l Excl past) (ap (λ hs. hs ++ as_held l true ∷ []) b.held ∙ (next_leads f.plan p t n (Try l Excl past) at).behind) (omega arith)
+      entry_leads y (Try l Excl past) (event.Tried l Excl) _ (suc n) at (law.tries l Excl past) (ap (λ hs. hs ++ as_held l true ∷ []) b.held ∙ (next_leads plan p t n (Try l Excl past) at).behind) (omega arith)
       (omega (arith, slice_get_within ops n (Try l Excl past) at)) ready made
 
   pub further_on : (l : LockNo) (mode : Mode) (past : ℕ) → slice_get ops n ≡ Some (Try l mode past) → n < past
-  further_on l mode past e = (try_passes f.plan p t n l mode past e).further
+  further_on l mode past e = (try_passes plan p t n l mode past e).further
 
-  pub found_busy : (y : Pass Knowledge) (l : LockNo) (mode : Mode) (past seen : ℕ) → slice_get ops n ≡ Some (Try l mode past) → IsReady f y → WasBusy f.plan x.view.thread l seen x.view y.view → MakesEntry f.plan (event.Busy l seen) x.view.share.held x.view y.view
-      → IsBefore f t past y
+  pub found_busy : (y : Pass Knowledge) (l : LockNo) (mode : Mode) (past seen : ℕ) → slice_get ops n ≡ Some (Try l mode past) → IsReady f y → WasBusy f.description x.view.thread l seen x.view y.view → MakesEntry f.description (event.Busy l seen) x.view.share.held x.view y.view
+      → IsBefore plan f t past y
   found_busy y l mode past seen e ready was made =
-      let on = try_passes f.plan p t n l mode past e in
+      let on = try_passes plan p t n l mode past e in
       entry_leads y (Try l Excl past) (event.Busy l seen) x.view.share.held past (try_at l mode past e) (law.finds_busy l Excl past seen was.well_formed was.held was.held) (b.held ∙ sym on.leaves) on.further on.within ready made
 
-  pub passed_endtry : slice_get ops n ≡ Some EndTry → IsBefore f t (suc n) x
+  pub passed_endtry : slice_get ops n ≡ Some EndTry → IsBefore plan f t (suc n) x
   passed_endtry e = record {
     ready = b.ready;
     thread = b.thread;
     within = omega (arith, slice_get_within ops n EndTry e);
-    held = b.held ∙ (next_leads f.plan p t n EndTry e).behind;
+    held = b.held ∙ (next_leads plan p t n EndTry e).behind;
     leads = law.skips_endtry b.leads e;
     stamped = b.stamped;
     room = omega (arith, b.room);
   }
 
-  pub released : (y : Pass Knowledge) (l : LockNo) → slice_get ops n ≡ Some (Release l) → IsReady f y → MakesEntry f.plan (event.Unlocked l Excl) (without_lock l.0 x.view.share.held) x.view y.view → IsBefore f t (suc n) y
+  pub released : (y : Pass Knowledge) (l : LockNo) → slice_get ops n ≡ Some (Release l) → IsReady f y → MakesEntry f.description (event.Unlocked l Excl) (without_lock l.0 x.view.share.held) x.view y.view → IsBefore plan f t (suc n) y
   released y l e ready made =
-      let leads = next_leads f.plan p t n (Release l) e in
-      let so = held_so l.0 (release_fits f.plan l held _ leads).0 in
+      let leads = next_leads plan p t n (Release l) e in
+      let so = held_so l.0 (release_fits plan l held _ leads).0 in
       entry_leads y (Release l) (event.Unlocked l Excl) _ (suc n) e (law.unlocks l Excl so.1) (ap (without_lock l.0) b.held ∙ leads.behind) (omega arith) (omega (arith, slice_get_within ops n (Release l) e)) ready made
 
   -- a key is named for a lock that is held exclusively, and there is room for an entry
   abbrev pub MayEdit : ℕ → ℕ → Type 0
-  MayEdit l key = (hold_in x.view.share.held l ≡ Holds Excl) × IsTrue (plan_names f.plan l key) × (1 ≤ x.view.spare)
+  MayEdit l key = (hold_in x.view.share.held l ≡ Holds Excl) × Contains f.description.keys (l, key) × (1 ≤ x.view.spare)
 
   may_edit : (op : Op) (l : LockNo) (key : ℕ) → slice_get ops n ≡ Some op → op_names l.0 key op ≡ true → Passes (edit_tests l held) → MayEdit l.0 key
-  may_edit op l key e names tests = (holds_so l.0 ∙ exclusive_is (hold_in held l.0) (passed _ _ (passed _ _ tests).1).0, named f.plan t n l.0 key op e names, room_for_one op e)
+  may_edit op l key e names tests = (holds_so l.0 ∙ exclusive_is (hold_in held l.0) (passed _ _ (passed _ _ tests).1).0, named plan f.description given t n l.0 key op e names, room_for_one op e)
 
   pub may_set : (l : LockNo) (key value : ℕ) → slice_get ops n ≡ Some (Set l key value) → MayEdit l.0 key
-  may_set l key value e = may_edit (Set l key value) l key e (both_same l.0 key) (next_leads f.plan p t n (Set l key value) e).passes
+  may_set l key value e = may_edit (Set l key value) l key e (both_same l.0 key) (next_leads plan p t n (Set l key value) e).passes
 
   pub may_add : (l : LockNo) (key amount : ℕ) → slice_get ops n ≡ Some (Add l key amount) → MayEdit l.0 key
-  may_add l key amount e = may_edit (Add l key amount) l key e (both_same l.0 key) (next_leads f.plan p t n (Add l key amount) e).passes
+  may_add l key amount e = may_edit (Add l key amount) l key e (both_same l.0 key) (next_leads plan p t n (Add l key amount) e).passes
 
-  pub may_get : (l : LockNo) (key : ℕ) → slice_get ops n ≡ Some (Get l key) → (hold_in x.view.share.held l.0 ≢ NotHeld) × IsTrue (plan_names f.plan l.0 key) × (1 ≤ x.view.spare)
+  pub may_get : (l : LockNo) (key : ℕ) → slice_get ops n ≡ Some (Get l key) → (hold_in x.view.share.held l.0 ≢ NotHeld) × Contains f.description.keys (l.0, key) × (1 ≤ x.view.spare)
   may_get l key e =
-      let tests = (next_leads f.plan p t n (Get l key) e).passes in
-      (λ z. held_is (hold_in held l.0) (not-true _ (passed _ _ tests).0) (sym (holds_so l.0) ∙ z), named f.plan t n l.0 key (Get l key) e (both_same l.0 key), room_for_one (Get l key) e)
+      let tests = (next_leads plan p t n (Get l key) e).passes in
+      (λ z. held_is (hold_in held l.0) (not-true _ (passed _ _ tests).0) (sym (holds_so l.0) ∙ z), named plan f.description given t n l.0 key (Get l key) e (both_same l.0 key), room_for_one (Get l key) e)
 
-  pub set : (y : Pass Knowledge) (l : LockNo) (key value : ℕ) → slice_get ops n ≡ Some (Set l key value) → IsReady f y → MakesEntry f.plan (event.Set l key value) x.view.share.held x.view y.view → IsBefore f t (suc n) y
+  pub set : (y : Pass Knowledge) (l : LockNo) (key value : ℕ) → slice_get ops n ≡ Some (Set l key value) → IsReady f y → MakesEntry f.description (event.Set l key value) x.view.share.held x.view y.view → IsBefore plan f t (suc n) y
   set y l key value e = keeps y (Set l key value) (event.Set l key value) e refl (law.sets l key value)
 
-  pub added : (y : Pass Knowledge) (l : LockNo) (key amount : ℕ) → slice_get ops n ≡ Some (Add l key amount) → IsReady f y → MakesEntry f.plan (event.Added l key amount) x.view.share.held x.view y.view → IsBefore f t (suc n) y
+  pub added : (y : Pass Knowledge) (l : LockNo) (key amount : ℕ) → slice_get ops n ≡ Some (Add l key amount) → IsReady f y → MakesEntry f.description (event.Added l key amount) x.view.share.held x.view y.view → IsBefore plan f t (suc n) y
   added y l key amount e = keeps y (Add l key amount) (event.Added l key amount) e refl (law.adds l key amount)
 
-  pub got : (y : Pass Knowledge) (l : LockNo) (key : ℕ) (found : Option ℕ) → slice_get ops n ≡ Some (Get l key) → IsReady f y → MakesEntry f.plan (event.Got l key found) x.view.share.held x.view y.view → IsBefore f t (suc n) y
+  pub got : (y : Pass Knowledge) (l : LockNo) (key : ℕ) (found : Option ℕ) → slice_get ops n ≡ Some (Get l key) → IsReady f y → MakesEntry f.description (event.Got l key found) x.view.share.held x.view y.view → IsBefore plan f t (suc n) y
   got y l key found e = keeps y (Get l key) (event.Got l key found) e refl (law.gets l key found)
 
-  pub based : (y : Pass Knowledge) (prio : Prio) → slice_get ops n ≡ Some (Base prio) → IsReady f y → MakesEntry f.plan (event.Base prio) x.view.share.held x.view y.view → IsBefore f t (suc n) y
+  pub based : (y : Pass Knowledge) (prio : Prio) → slice_get ops n ≡ Some (Base prio) → IsReady f y → MakesEntry f.description (event.Base prio) x.view.share.held x.view y.view → IsBefore plan f t (suc n) y
   based y prio e = keeps y (Base prio) (event.Base prio) e refl (law.changes_base prio)
 
-  pub shown : (y : Pass Knowledge) (base eff : Prio) → slice_get ops n ≡ Some Show → IsReady f y → MakesEntry f.plan (event.Shown base eff) x.view.share.held x.view y.view → IsBefore f t (suc n) y
+  pub shown : (y : Pass Knowledge) (base eff : Prio) → slice_get ops n ≡ Some Show → IsReady f y → MakesEntry f.description (event.Shown base eff) x.view.share.held x.view y.view → IsBefore plan f t (suc n) y
   shown y base eff e = keeps y Show (event.Shown base eff) e refl (law.shows base eff)
 
   -- a plan of mutexes alone has no channels
-  no_channel : (d : ChanNo) (tests : List Test) → Passes (channel_test f.plan.chans d ∷ tests) → ⊥
-  no_channel d tests e = absurd (omega (arith, wake_fits f.plan d tests e, ap (λ ds. length ds) m.chans))
+  no_channel : (d : ChanNo) (tests : List Test) → Passes (channel_test plan.chans d ∷ tests) → ⊥
+  no_channel d tests e = absurd (omega (arith, wake_fits plan d tests e, ap (λ ds. length ds) m.chans))
 
   pub no_sleep : (d : ChanNo) → slice_get ops n ≡ Some (Sleep d) → ⊥
-  no_sleep d e = no_channel d _ (next_leads f.plan p t n (Sleep d) e).passes
+  no_sleep d e = no_channel d _ (next_leads plan p t n (Sleep d) e).passes
 
   pub no_wake_one : (d : ChanNo) → slice_get ops n ≡ Some (WakeOne d) → ⊥
-  no_wake_one d e = no_channel d _ (next_leads f.plan p t n (WakeOne d) e).passes
+  no_wake_one d e = no_channel d _ (next_leads plan p t n (WakeOne d) e).passes
 
   pub no_wake_all : (d : ChanNo) → slice_get ops n ≡ Some (WakeAll d) → ⊥
-  no_wake_all d e = no_channel d _ (next_leads f.plan p t n (WakeAll d) e).passes
+  no_wake_all d e = no_channel d _ (next_leads plan p t n (WakeAll d) e).passes

@@ -12,7 +12,7 @@ use Rattle.std.proofs.lemmas.List.Sorted.{IsPermutation-reverse, list_any-IsPerm
 use Rattle.std.proofs.lemmas.Option.{slice_get-map}
 use Rattle.lock_model.specs.Counts.{one, times}
 use Rattle.lock_model.specs.History.{base_in, entries_of, tables_of}
-use Rattle.lock_model.specs.Law.{LeadsTo, Before, is_halt, IsLegal, FollowsOperations, EntriesFollowOperations}
+use Rattle.lock_model.specs.Law.{LeadsTo, Before, is_halt, IsLegalSoFar, IsLegal, FollowsOperations, EntriesFollowOperations}
 use Rattle.lock_model.specs.Law as law
 use Rattle.lock_model.specs.Plans.{config_of, operations_of}
 use Rattle.lock_model.specs.Takes.{is_reversal, has_reversal}
@@ -26,8 +26,11 @@ use Rattle.lock_history.specs.Outcomes.{outcome_seen, line_seen}
 use Rattle.lock_history.specs.declared.outcome.Outcome.{Outcome}
 use Rattle.lock_state.specs.Run.{threads_of}
 use Rattle.thread_records.specs.declared.record.ThreadRec.{ThreadRec}
+use Rattle.floor_table.specs.Descriptions.{config_in, thread_part, description_of}
+use Rattle.floor_table.specs.declared.description.Description.{Description}
 use Rattle.floor_table.specs.Shares.{Share}
 use Rattle.floor_table.specs.Views.{Knowledge}
+use Rattle.floor_table.proofs.Descriptions.{same_config}
 use Rattle.lock_floor.specs.Closings.{IsClosing}
 use Rattle.lock_floor.specs.Floors.{Floor, Pass}
 use Rattle.lock_floor.specs.Passes.{first_pass}
@@ -64,8 +67,8 @@ abbrev pub parts : List (Pass Knowledge) → List (ℕ × Share)
 parts passes = map (λ p. (p.view.thread, p.view.share)) passes
 
 -- each pass is that of the thread of its place, and its worker is done
-abbrev pub AreDone : Floor Plan → List (Pass Knowledge) → Type 0
-AreDone f passes = (t : ℕ) (d : Pass Knowledge) → t < length passes → IsDone f t (get_or passes t d)
+abbrev pub AreDone : Plan → Floor Description → List (Pass Knowledge) → Type 0
+AreDone plan f passes = (t : ℕ) (d : Pass Knowledge) → t < length passes → IsDone plan f t (get_or passes t d)
 
 -- what is so at each place of a list, by the places
 map_same : {A B : Type 0} (xs : List A) (f : A → B) (g : ℕ → B) (a : ℕ) → ((k : ℕ) (d : A) → k < length xs → f (get_or xs k d) ≡ g (a + k)) → map f xs ≡ map g (range_with_len a (length xs))
@@ -79,8 +82,8 @@ fused : (passes : List (Pass Knowledge)) → map (λ g. g.0) (parts passes) ≡ 
 fused [] = refl
 fused (p ∷ ps) = ap (λ ts. p.view.thread ∷ ts) (fused ps)
 
-pub threads_in_order : (f : Floor Plan) (passes : List (Pass Knowledge)) → length passes ≡ length f.plan.threads → AreDone f passes → map (λ g. g.0) (parts passes) ≡ threads_of f.plan
-threads_in_order f passes count done =
+pub threads_in_order : (plan : Plan) (f : Floor Description) (passes : List (Pass Knowledge)) → length passes ≡ length plan.threads → AreDone plan f passes → map (λ g. g.0) (parts passes) ≡ threads_of plan
+threads_in_order plan f passes count done =
     fused passes
     ∙ map_same passes (λ p. p.view.thread) (λ t. t) 0 (λ k d lt. omega (arith, (done k d lt).thread))
     ∙ map-id (range_with_len 0 (length passes))
@@ -93,9 +96,19 @@ its_base r = (r.value.base, r.value.base)
 abbrev pub base_behind : Plan → List Entry → ℕ → ℕ × ℕ
 base_behind plan history t = (base_in (config_of plan) history t, base_in (config_of plan) history t)
 
-module _ (plan : Plan) (x : Closing) (closing : IsClosing plan (threads_of plan) x) where
+module _ (plan : Plan) (chains : ℕ) (x : Closing)
+    (closing : IsClosing (description_of plan chains) (threads_of plan) x) where
+  abbrev floor : Description
+  floor = description_of plan chains
+
   abbrev history : List Entry
   history = closing.history
+
+  same_plan : config_in floor ≡ config_of plan
+  same_plan = same_config plan chains
+
+  count : length x.recs.items ≡ length plan.threads
+  count = closing.count ∙ length-map plan.threads thread_part
 
   -- a thread's part of the history, where the logs are those
   its_part : (logs : List (List Entry)) → map (λ b. b.entries) x.logs.items ≡ map reverse logs → (t : ℕ) → t < length plan.threads → get_or logs t [] ≡ entries_of history t
@@ -107,10 +120,11 @@ module _ (plan : Plan) (x : Closing) (closing : IsClosing plan (threads_of plan)
       ∙ get_or-map-range_with_len (λ u. reverse (entries_of history u)) 0 (length plan.threads) t t [] lt (omega arith) in
       sym (reverse-reverse (get_or logs t [])) ∙ ap reverse at ∙ reverse-reverse (entries_of history t)
 
-  follows : (logs : List (List Entry)) → map (λ b. b.entries) x.logs.items ≡ map reverse logs → ((t : ℕ) → t < length plan.threads → IsWhole plan t (get_or logs t [])) → (t : ℕ) → FollowsOperations plan false history t
+  follows : (logs : List (List Entry)) → map (λ b. b.entries) x.logs.items ≡ map reverse logs → ((t : ℕ) → t < length plan.threads → IsWhole plan floor t (get_or logs t [])) → (t : ℕ) → FollowsOperations plan false history t
   follows logs same whole t = elim (cases_lt t (length plan.threads)) [
     | inl lt ↦
-        let w : IsWhole plan t (entries_of history t) = subst (IsWhole plan t) (its_part logs same t lt) (whole t lt) in
+        let w : IsWhole plan floor t (entries_of history t) =
+        subst (IsWhole plan floor t) (its_part logs same t lt) (whole t lt) in
         record { place = w.place; leads = w.leads; whole = λ e. w.at_end }
     | inr le ↦
         let none : entries_of history t ≡ [] = none_of (entries_of history t) (λ some. absurd (omega (arith, closing.logs.no_other t some, absent_from 0 (length plan.threads) t (omega (arith, le))))) in
@@ -122,18 +136,18 @@ module _ (plan : Plan) (x : Closing) (closing : IsClosing plan (threads_of plan)
         }
   ]
 
-  pub is_legal : (logs : List (List Entry)) → map (λ b. b.entries) x.logs.items ≡ map reverse logs → ((t : ℕ) → t < length plan.threads → IsWhole plan t (get_or logs t [])) → IsLegal plan true false history
+  pub is_legal : (logs : List (List Entry)) → map (λ b. b.entries) x.logs.items ≡ map reverse logs → ((t : ℕ) → t < length plan.threads → IsWhole plan floor t (get_or logs t [])) → IsLegal plan true false history
   unfolding EntriesFollowOperations
-  is_legal logs same whole = record { so_far = closing.legal; entries_follow_operations = follows logs same whole; orders_are_legal = λ e. absurd cc }
+  is_legal logs same whole = record { so_far = subst (λ c. IsLegalSoFar c true history) same_plan closing.legal; entries_follow_operations = follows logs same whole; orders_are_legal = λ e. absurd cc }
 
   -- 3. What is printed
 
   bases : map its_base x.recs.items ≡ map (base_behind plan history) (threads_of plan)
   bases =
-      map_same x.recs.items its_base (base_behind plan history) 0 (λ k d lt. let its = (closing.home k d (omega (arith, lt, closing.count))).base in
+      map_same x.recs.items its_base (base_behind plan history) 0 (λ k d lt. let its = (closing.home k d (omega (arith, lt, closing.count))).base ∙ ap (λ c. base_in c history k) same_plan in
       let same : its_base (get_or x.recs.items k d) ≡ base_behind plan history k = λ j. (its j, its j) in
       same ∙ ap (base_behind plan history) (omega arith))
-      ∙ ap (λ n. map (base_behind plan history) (range_with_len 0 n)) closing.count
+      ∙ ap (λ n. map (base_behind plan history) (range_with_len 0 n)) count
 
   pub outcome_same : (o : Outcome) → o.history ≡ reverse history → o.queues ≡ [] → numbers_of o.finals ≡ map its_base x.recs.items → o.tables.present ≡ tables_of (reverse o.history)
       → ending_of o.last ≡ ending_of_run (reverse o.history) → outcome_seen o ≡ outcome_of plan history
@@ -148,7 +162,8 @@ module _ (plan : Plan) (x : Closing) (closing : IsClosing plan (threads_of plan)
         ending = (ending ∙ ap ending_of_run back) j;
       }
 
-  pub is_run : (o : text.Outcome) → IsLegal plan true false history → o ≡ outcome_of plan history → IsRunOf plan o x
+  pub is_run : (o : text.Outcome) → IsLegal plan true false history → o ≡ outcome_of plan history
+      → IsRunOf plan chains o x
   is_run o legal same = record {
     run = record { history = history; legal = legal; no_refusal = closing.no_refusal; outcome = same };
     closing = closing;
@@ -178,17 +193,23 @@ logs_in : (passes : List (Pass Knowledge)) → map (λ g. reverse g.1.log) (part
 logs_in [] = refl
 logs_in (p ∷ ps) = ap (λ ls. reverse p.view.share.log ∷ ls) (logs_in ps)
 
-module _ (f : Floor Plan) (plan : Plan) (same : f.plan ≡ plan) (passes : List (Pass Knowledge)) (count : length passes ≡ length plan.threads) (done : AreDone f passes) (gathered : List (ℕ × Share)) (are : gathered ≡ parts passes) (x : Closing) where
-  pub is_closing : IsClosing f.plan (map (λ g. g.0) gathered) x → IsClosing plan (threads_of plan) x
-  is_closing closing =
-      let threads : map (λ g. g.0) gathered ≡ threads_of plan =
-      ap (map (λ g. g.0)) are ∙ threads_in_order f passes (count ∙ ap (λ (p : Plan). length p.threads) (sym same)) done ∙ ap threads_of same in
-      subst (λ (z : Plan × List ℕ). IsClosing z.0 z.1 x) (λ i. (same i, threads i)) closing
+-- the passes that the workers leave are taken in as they are
+pub all_done : (plan : Plan) (f : Floor Description) (items changed : List (Pass Knowledge)) (n : ℕ) → length changed ≡ length items → n ≡ length items → AreDone plan f changed → AreDone plan f (take n (changed ++ drop (length changed) items))
+all_done plan f items changed n same count done =
+    subst (AreDone plan f) (sym (written_back items changed n same count)) done
 
-  pub left_legal : map (λ b. b.entries) x.logs.items ≡ map (λ g. reverse g.1.log) gathered → (closing : IsClosing plan (threads_of plan) x) → IsLegal plan true false closing.history
+module _ (plan : Plan) (chains : ℕ) (f : Floor Description) (given : f.description ≡ description_of plan chains) (passes : List (Pass Knowledge)) (count : length passes ≡ length plan.threads) (done : AreDone plan f passes) (gathered : List (ℕ × Share)) (are : gathered ≡ parts passes) (x : Closing) where
+  pub is_closing : IsClosing f.description (map (λ g. g.0) gathered) x
+      → IsClosing (description_of plan chains) (threads_of plan) x
+  is_closing closing =
+      let threads : map (λ g. g.0) gathered ≡ threads_of plan = ap (map (λ g. g.0)) are ∙ threads_in_order plan f passes count done in
+      subst (λ (z : Description × List ℕ). IsClosing z.0 z.1 x) (λ i. (given i, threads i)) closing
+
+  pub left_legal : map (λ b. b.entries) x.logs.items ≡ map (λ g. reverse g.1.log) gathered → (closing : IsClosing (description_of plan chains) (threads_of plan) x) → IsLegal plan true false closing.history
   left_legal logs closing =
       let own : Pass Knowledge → List Entry = λ p. p.view.share.log in
-      is_legal plan x closing (map own passes) (logs ∙ ap (map (λ g. reverse g.1.log)) are ∙ logs_in passes) (λ t lt.
-      let d : Pass Knowledge = first_pass f.table f.plan t in
+      is_legal plan chains x closing (map own passes)
+      (logs ∙ ap (map (λ g. reverse g.1.log)) are ∙ logs_in passes) (λ t lt.
+      let d : Pass Knowledge = first_pass f.table f.description t in
       let within : t < length passes = omega (arith, lt, count) in
-      subst (λ (z : Plan × List Entry). IsWhole z.0 t z.1) (λ i. (same i, sym (get_or-map own passes t d [] within) i)) (done t d within).whole)
+      subst (λ (z : Description × List Entry). IsWhole plan z.0 t z.1) (λ i. (given i, sym (get_or-map own passes t d [] within) i)) (done t d within).whole)

@@ -1,5 +1,5 @@
 -- What a run of a plan's threads leaves to be printed.
-use Rattle.std.specs.Prelude.{◌≡◌, Bool, true, false, if◌then◌else◌, List, [], map, reverse}
+use Rattle.std.specs.Prelude.{◌≡◌, ℕ, Bool, true, false, if◌then◌else◌, List, [], map, reverse}
 use Rattle.std.specs.FinMap.{entries}
 use Rattle.std.specs.List.{All, list_any}
 use Rattle.lock_model.specs.History.{base_in, tables_of}
@@ -11,6 +11,7 @@ use Rattle.lock_model.specs.declared.event.Entry.{Entry}
 use Rattle.lock_model.specs.declared.plan.Kind.TheVariants.{Mtx}
 use Rattle.lock_model.specs.declared.plan.Plan.{Plan}
 use Rattle.lock_state.specs.Run.{threads_of, whole_ending}
+use Rattle.floor_table.specs.Descriptions.{description_of}
 use Rattle.lock_floor.specs.Closings.{IsClosing}
 use Rattle.lock_floor.specs.declared.closing.Closing.{Closing}
 
@@ -41,10 +42,10 @@ pub record IsOutcome (plan : Plan) (o : Outcome) : Type 0 where
   pub no_refusal : has_reversal history ≡ false
   pub outcome : o ≡ outcome_of plan history
 
--- the run left its floor so, and its history is that of the floor
-pub record IsRunOf (plan : Plan) (o : Outcome) (x : Closing) : Type 0 where
+-- the run left its floor so, which the plan gave with so many chains, and its history is that of the floor
+pub record IsRunOf (plan : Plan) (chains : ℕ) (o : Outcome) (x : Closing) : Type 0 where
   pub run : IsOutcome plan o
-  pub closing : IsClosing plan (threads_of plan) x
+  pub closing : IsClosing (description_of plan chains) (threads_of plan) x
   pub same : closing.history ≡ run.history
 
 -- a plan of mutexes alone, without condition variables and channels: the plans whose threads run so far

@@ -5,8 +5,9 @@ ghost use Rattle.lock_model.specs.Takes.{has_reversal};
 ghost use Rattle.lock_history.specs.Endings.{numbers_of, ending_of};
 ghost use Rattle.lock_history.specs.Outcomes.{outcome_seen};
 ghost use Rattle.lock_state.specs.Run.{threads_of};
+ghost use Rattle.floor_table.specs.Descriptions.{IsFor, description_of};
 ghost use Rattle.lock_floor.specs.Closings.{IsClosing};
-ghost use Rattle.lock_floor.specs.Passes.{IsKeeperOf};
+ghost use Rattle.lock_floor.specs.Passes.{IsKeeperOf, IsFinished};
 ghost use Rattle.floor_run.specs.Progress.{IsNew, IsDone};
 ghost use Rattle.floor_run.specs.Runs.{IsRunOf, HasOnlyMutexes, has_halt, ending_of_run, outcome_of};
 
@@ -25,8 +26,8 @@ use thread_records::ThreadRec;
 /// come to their end. Gives what is to be printed of the run, and what is left of the floor. It takes no memory between
 /// the start of the first worker and the end of the last.
 ///
-/// The plan is one that some script gives, of mutexes alone. Of the sorts of chains there is one each so far, whatever
-/// `chains` says. Where no thread can be started, the workers run one after another, and the call may then not return.
+/// The plan is one that some script gives, of mutexes alone, and the floor has so many chains of each sort. Where no
+/// thread can be started, the workers run one after another, and the call may then not return.
 pub fn run_plan<R: Threads + Wait + Sync, G: Gate>(
     rt: &R,
     alloc: Global,
@@ -38,13 +39,13 @@ pub fn run_plan<R: Threads + Wait + Sync, G: Gate>(
     requires mutexes { HasOnlyMutexes plan.now }
     requires some_chains { 1 ≤ chains }
     requires few_chains { chains ≤ 64 }
-    ensures { IfOk result (λ r. IsRunOf plan.now (outcome_seen r.0) r.1) }
+    ensures { IfOk result (λ r. IsRunOf plan.now chains (outcome_seen r.0) r.1) }
 {
-    let (floor, mut keeper, mut passes) = Floor::make(alloc, plan)?;
+    let (floor, mut keeper, mut passes) = Floor::make(alloc, plan, chains)?;
     work_all(rt, &floor, passes.as_mut_slice(), plan, gate);
     gather_all(&floor, &mut keeper, passes);
     let closing = floor.close(keeper);
-    let outcome = outcome_of(alloc, plan, &closing)?;
+    let outcome = outcome_of(alloc, plan, chains, &closing)?;
     Ok((outcome, closing))
 }
 
@@ -56,13 +57,13 @@ fn work_all<R: Threads + Wait + Sync, G: Gate>(
     plan: &Plan,
     gate: &G,
 )
-    requires plan { floor.now.plan ≡ plan.now }
+    requires given { IsFor plan.now floor.now.description }
     requires proper { IsProper plan.now }
     requires mutexes { HasOnlyMutexes plan.now }
     requires new { (t : ℕ) (d : _) → t < length passes.old
         → IsNew floor.now t (slice_index_or passes.old t d) }
     ensures done { (t : ℕ) (d : _) → t < length passes.old
-        → IsDone floor.entry.now t (slice_index_or passes.new t d) }
+        → IsDone plan.entry.now floor.entry.now t (slice_index_or passes.new t d) }
 {
     let workers = passes.len().max(1);
     thread::for_each_mut(
@@ -70,9 +71,9 @@ fn work_all<R: Threads + Wait + Sync, G: Gate>(
         passes,
         workers,
         &|t, pass: &mut Pass|
-            requires { IsProper floor.now.plan × HasOnlyMutexes floor.now.plan
-                × (floor.now.plan ≡ plan.now) × IsNew floor.now t pass.now }
-            ensures { IsDone floor.entry.now t pass.exit.now }
+            requires { IsFor plan.now floor.now.description × IsProper plan.now
+                × HasOnlyMutexes plan.now × IsNew floor.now t pass.now }
+            ensures { IsDone plan.entry.now floor.entry.now t pass.exit.now }
         { work(rt, floor, pass, plan, gate) },
     );
 }
@@ -80,13 +81,11 @@ fn work_all<R: Threads + Wait + Sync, G: Gate>(
 // Takes in the passes, in their order.
 fn gather_all(floor: &Floor, keeper: &mut Keeper, passes: Vec<Pass>)
     requires mine { IsKeeperOf floor.now keeper.old }
-    requires done { (t : ℕ) (d : _) → t < length passes.items
-        → IsDone floor.now t (slice_index_or passes.items t d) }
+    requires finished { (t : ℕ) (d : _) → t < length passes.items
+        → IsFinished floor.now (slice_index_or passes.items t d) }
     ensures mine { IsKeeperOf floor.entry.now keeper.new }
     ensures gathered { keeper.new.view.gathered
         ≡ keeper.old.view.gathered ++ map (λ p. (p.view.thread, p.view.share)) passes.items }
-    ensures done { (t : ℕ) (d : _) → t < length passes.items
-        → IsDone floor.entry.now t (slice_index_or passes.items t d) }
 {
     for pass in passes {
         keeper.gather(floor, pass);
@@ -94,9 +93,15 @@ fn gather_all(floor: &Floor, keeper: &mut Keeper, passes: Vec<Pass>)
 }
 
 // What is printed of a run that left its floor so.
-fn outcome_of(alloc: Global, plan: &Plan, closing: &Closing) -> Result<Outcome, AllocError>
-    requires closing { IsClosing plan.now (threads_of plan.now) closing.now }
-    ensures { IfOk result (λ o. (x : IsClosing plan.now (threads_of plan.now) closing.now)
+fn outcome_of(
+    alloc: Global,
+    plan: &Plan,
+    chains: u32,
+    closing: &Closing,
+) -> Result<Outcome, AllocError>
+    requires closing { IsClosing (description_of plan.now chains) (threads_of plan.now) closing.now }
+    ensures { IfOk result (λ o.
+        (x : IsClosing (description_of plan.now chains) (threads_of plan.now) closing.now)
         → outcome_seen o ≡ outcome_of plan.now x.history) }
 {
     let history = merge(alloc, closing.logs())?;

@@ -2,6 +2,7 @@
 ghost use Rattle.std.specs.Prelude.{◌≡◌, ℕ, ◌<◌, [], length, slice_get, Some};
 ghost use Rattle.lock_model.specs.Operations.{IsProper};
 ghost use Rattle.lock_model.specs.Plans.{operations_of};
+ghost use Rattle.floor_table.specs.Descriptions.{IsFor};
 ghost use Rattle.lock_floor.specs.Passes.{IsFinished, first_pass};
 ghost use Rattle.floor_run.specs.Progress.{IsBefore};
 ghost use Rattle.floor_run.specs.Runs.{HasOnlyMutexes};
@@ -17,32 +18,35 @@ use std::sync::Wait;
 /// It asks the gate before each operation, with its place from 0, and so before an `endtry` that it comes to, which makes
 /// no entry. Of the operations in the block of a try that failed it makes none, and asks before none.
 pub fn work<R: Wait, G: Gate>(rt: &R, floor: &Floor, pass: &mut Pass, plan: &Plan, gate: &G)
-    requires plan { floor.now.plan ≡ plan.now }
+    requires given { IsFor plan.now floor.now.description }
     requires proper { IsProper plan.now }
     requires mutexes { HasOnlyMutexes plan.now }
     requires thread { pass.old.view.thread < length plan.now.threads }
-    requires first { pass.old ≡ first_pass floor.now.table plan.now pass.old.view.thread }
+    requires first { pass.old
+        ≡ first_pass floor.now.table floor.now.description pass.old.view.thread }
     ensures finished { IsFinished floor.now pass.new }
     ensures thread { pass.new.view.thread ≡ pass.old.view.thread }
     ensures unheld { pass.new.view.share.held ≡ [] }
-    ensures whole { IsWhole plan.now pass.new.view.thread pass.new.view.share.log }
+    ensures whole { IsWhole plan.now floor.now.description pass.new.view.thread
+        pass.new.view.share.log }
 {
     let ops = plan.operations_of(pass.thread());
     let mut next = 0;
     while next < ops.len() {
         gate.at(pass.thread(), next as u32);
-        next = operate(rt, floor, pass, ops[next], next);
+        next = operate(rt, floor, pass, plan, ops[next], next);
     }
     floor.finish(rt, pass);
 }
 
-// Makes an operation of the pass's thread, and answers which is its next.
-fn operate<R: Wait>(rt: &R, floor: &Floor, pass: &mut Pass, op: Op, n: usize) -> usize
-    requires proper { IsProper floor.now.plan }
-    requires mutexes { HasOnlyMutexes floor.now.plan }
-    requires before { IsBefore floor.now pass.old.view.thread n pass.old }
-    requires op { slice_get (operations_of floor.now.plan pass.old.view.thread) n ≡ Some op }
-    ensures before { IsBefore floor.now pass.old.view.thread result pass.new }
+// Makes an operation that the plan has for the pass's thread, and answers which is its next.
+fn operate<R: Wait>(rt: &R, floor: &Floor, pass: &mut Pass, plan: &Plan, op: Op, n: usize) -> usize
+    requires given { IsFor plan.now floor.now.description }
+    requires proper { IsProper plan.now }
+    requires mutexes { HasOnlyMutexes plan.now }
+    requires before { IsBefore plan.now floor.now pass.old.view.thread n pass.old }
+    requires op { slice_get (operations_of plan.now pass.old.view.thread) n ≡ Some op }
+    ensures before { IsBefore plan.now floor.now pass.old.view.thread result pass.new }
     ensures further { n < result }
 {
     match op {

@@ -1,5 +1,5 @@
--- On a running floor only the plan's locks are held.
-use Rattle.std.proofs.Common.{◌≡◌, ℕ, ◌<◌, List, sym, ◌∙◌, subst, inl, inr}
+-- On a running floor only the floor's own locks are held.
+use Rattle.std.proofs.Common.{◌≡◌, ℕ, ◌<◌, List, length, sym, ◌∙◌, subst, inl, inr}
 use Rattle.std.proofs.lemmas.Bool.{cases_eq}
 use Rattle.lock_model.specs.Config.{Config}
 use Rattle.lock_model.specs.Holds.{Hold, NotHeld, Holds}
@@ -15,6 +15,8 @@ use Rattle.lock_state.specs.Steps.Items.{after_take, after_give}
 use Rattle.lock_state.specs.Steps.Orders.{after_admit, after_refuse}
 use Rattle.lock_state.specs.Steps.{Step, Gains, Drops, Opens, OpensSleepQueue, Claims, May, after}
 use Rattle.lock_laws.proofs.Kit.{put_at_same, put_at_other, put_at_beside}
+use Rattle.floor_table.specs.Descriptions.{config_in}
+use Rattle.floor_table.specs.declared.description.Description.{Description}
 use Rattle.floor_table.specs.Past.{LeadsTo, none, more}
 
 module _ (c : Config) (held : ℕ → ℕ → Hold) (h : OnlyLocksAreHeld c held) (t l : ℕ) where
@@ -51,10 +53,11 @@ at_start : (c : Config) → OnlyLocksAreHeld c (start_state c).held
 unfolding start_state OnlyLocksAreHeld
 at_start c t l mode e = absurd cc
 
-reached : (c : Config) {past : List Step} (s : State) → LeadsTo c past s → OnlyLocksAreHeld c s.held
-reached c s none = at_start c
-reached c n (more {s} step r p) = kept c s step p.may (reached c s r)
+reached : (floor : Description) {past : List Step} (s : State) → LeadsTo floor past s
+    → OnlyLocksAreHeld (config_in floor) s.held
+reached floor s none = at_start (config_in floor)
+reached floor n (more {s} step r p) = kept (config_in floor) s step p.may (reached floor s r)
 
-pub only_locks : (c : Config) {past : List Step} (s : State) (t l : ℕ) (mode : Mode) → LeadsTo c past s → s.held t l ≡ Holds mode → l < c.locks
+pub only_locks : (floor : Description) {past : List Step} (s : State) (t l : ℕ) (mode : Mode) → LeadsTo floor past s → s.held t l ≡ Holds mode → l < length floor.locks
 unfolding OnlyLocksAreHeld
-only_locks c s t l mode r e = reached c s r t l mode e
+only_locks floor s t l mode r e = reached floor s r t l mode e

@@ -7,13 +7,13 @@ use Rattle.std.proofs.lemmas.Option.{cond_some, same_Some}
 use Rattle.std.proofs.lemmas.List.Quantifiers.{position-Some}
 use mathlib.Core.Option as slots
 use mathlib.Core.Option.{some}
-use Rattle.lock_model.specs.declared.plan.Plan.{Plan}
 use Rattle.lock_state.specs.State.{State, put}
 use Rattle.lock_state.specs.Steps.Items.{Item, TurnstileChain, SleepChain, RecordOf, CellOf, ClassGraph, item_with}
 use Rattle.lock_laws.proofs.Kit.{put_same, put_other}
 use Rattle.lock_laws.proofs.Items.{with_then, at_itself, beside}
+use Rattle.floor_table.specs.declared.description.Description.{Description}
 use Rattle.floor_table.specs.declared.slot.Slot.{Slot}
-use Rattle.floor_table.specs.Places.{cells_of, slots_for, is_cell, slot_of, taker}
+use Rattle.floor_table.specs.Places.{slots_for, is_cell, slot_of, taker}
 use Rattle.floor_table.specs.Shelves.{found, Shelves}
 use Rattle.floor_table.specs.Represents.{taken_from, RepresentsTurns, RepresentsObjects, IsOf, objects_in}
 use Rattle.floor_table.specs.Steps.{HasJust}
@@ -33,40 +33,41 @@ mapped : (f : ℕ → ℕ) (o : Option ℕ) (j : ℕ) → option_map f o ≡ Som
 mapped f None j e = absurd cc
 mapped f (Some i) j e = (i, refl, same_Some (f i) j e)
 
-pub record_place : (plan : Plan) (t j : ℕ) → slot_of plan (RecordOf t) ≡ Some j → (t < length plan.threads) × (t ≡ j)
-record_place plan t j e = let f = cond_some (nat_lt t (length plan.threads)) t j e in (ltb-true t (length plan.threads) f.0, f.1)
+pub record_place : (floor : Description) (t j : ℕ) → slot_of floor (RecordOf t) ≡ Some j
+    → (t < length floor.threads) × (t ≡ j)
+record_place floor t j e = let f = cond_some (nat_lt t (length floor.threads)) t j e in (ltb-true t (length floor.threads) f.0, f.1)
 
-pub cell_place : (plan : Plan) (l key j : ℕ) (d : ℕ × ℕ) → slot_of plan (CellOf l key) ≡ Some j → (i : ℕ) × (i < length (cells_of plan)) × (length plan.threads + i ≡ j) × (get_or (cells_of plan) i d ≡ (l, key))
-cell_place plan l key j d e =
-    let m = mapped (λ i. length plan.threads + i) (position (is_cell l key) (cells_of plan)) j e in
-    let p = position-Some (is_cell l key) (cells_of plan) m.0 d m.1 in
-    (m.0, p.0, m.2, its_cell l key (get_or (cells_of plan) m.0 d) p.1)
+pub cell_place : (floor : Description) (l key j : ℕ) (d : ℕ × ℕ) → slot_of floor (CellOf l key) ≡ Some j → (i : ℕ) × (i < length floor.keys) × (length floor.threads + i ≡ j) × (get_or floor.keys i d ≡ (l, key))
+cell_place floor l key j d e =
+    let m = mapped (λ i. length floor.threads + i) (position (is_cell l key) floor.keys) j e in
+    let p = position-Some (is_cell l key) floor.keys m.0 d m.1 in
+    (m.0, p.0, m.2, its_cell l key (get_or floor.keys m.0 d) p.1)
 
 -- a place is one of the table's
-pub place_low : (plan : Plan) (i : Item) (j : ℕ) → slot_of plan i ≡ Some j → j < slots_for plan
-place_low plan (TurnstileChain k) j e = absurd cc
-place_low plan (SleepChain k) j e = absurd cc
-place_low plan (RecordOf t) j e = let p = record_place plan t j e in omega (arith, p.0, p.1)
-place_low plan (CellOf l key) j e = let p = cell_place plan l key j (0, 0) e in omega (arith, p.1, p.2)
-place_low plan ClassGraph j e = absurd cc
+pub place_low : (floor : Description) (i : Item) (j : ℕ) → slot_of floor i ≡ Some j → j < slots_for floor
+place_low floor (TurnstileChain k) j e = absurd cc
+place_low floor (SleepChain k) j e = absurd cc
+place_low floor (RecordOf t) j e = let p = record_place floor t j e in omega (arith, p.0, p.1)
+place_low floor (CellOf l key) j e = let p = cell_place floor l key j (0, 0) e in omega (arith, p.1, p.2)
+place_low floor ClassGraph j e = absurd cc
 
 -- and of one item alone
-pub one_place : (plan : Plan) (i k : Item) (j : ℕ) → slot_of plan i ≡ Some j → slot_of plan k ≡ Some j → i ≡ k
-one_place plan (RecordOf t) (RecordOf u) j e f = ap RecordOf ((record_place plan t j e).1 ∙ sym (record_place plan u j f).1)
-one_place plan (RecordOf t) (CellOf l key) j e f = absurd (let p = record_place plan t j e in let q = cell_place plan l key j (0, 0) f in omega (arith, p.0, p.1, q.2))
-one_place plan (CellOf l key) (RecordOf u) j e f = absurd (let p = record_place plan u j f in let q = cell_place plan l key j (0, 0) e in omega (arith, p.0, p.1, q.2))
-one_place plan (CellOf l key) (CellOf m other) j e f =
-    let p = cell_place plan l key j (0, 0) e in
-    let q = cell_place plan m other j (0, 0) f in
+pub one_place : (floor : Description) (i k : Item) (j : ℕ) → slot_of floor i ≡ Some j → slot_of floor k ≡ Some j → i ≡ k
+one_place floor (RecordOf t) (RecordOf u) j e f = ap RecordOf ((record_place floor t j e).1 ∙ sym (record_place floor u j f).1)
+one_place floor (RecordOf t) (CellOf l key) j e f = absurd (let p = record_place floor t j e in let q = cell_place floor l key j (0, 0) f in omega (arith, p.0, p.1, q.2))
+one_place floor (CellOf l key) (RecordOf u) j e f = absurd (let p = record_place floor u j f in let q = cell_place floor l key j (0, 0) e in omega (arith, p.0, p.1, q.2))
+one_place floor (CellOf l key) (CellOf m other) j e f =
+    let p = cell_place floor l key j (0, 0) e in
+    let q = cell_place floor m other j (0, 0) f in
     let same : p.0 ≡ q.0 = omega (arith, p.2, q.2) in
-    let cell : (l, key) ≡ (m, other) = sym p.3 ∙ ap (λ i. get_or (cells_of plan) i (0, 0)) same ∙ q.3 in
+    let cell : (l, key) ≡ (m, other) = sym p.3 ∙ ap (λ i. get_or floor.keys i (0, 0)) same ∙ q.3 in
     λ i. CellOf (cell i).0 (cell i).1
-one_place plan (TurnstileChain a) k j e f = absurd cc
-one_place plan (SleepChain a) k j e f = absurd cc
-one_place plan ClassGraph k j e f = absurd cc
-one_place plan i (TurnstileChain a) j e f = absurd cc
-one_place plan i (SleepChain a) j e f = absurd cc
-one_place plan i ClassGraph j e f = absurd cc
+one_place floor (TurnstileChain a) k j e f = absurd cc
+one_place floor (SleepChain a) k j e f = absurd cc
+one_place floor ClassGraph k j e f = absurd cc
+one_place floor i (TurnstileChain a) j e f = absurd cc
+one_place floor i (SleepChain a) j e f = absurd cc
+one_place floor i ClassGraph j e f = absurd cc
 
 -- 2. Turns
 
@@ -75,37 +76,37 @@ taker_is zero t e = absurd cc
 taker_is (suc u) t e = ap suc (same_Some u t e)
 
 -- where one turn word changes, its item goes to the thread that it names, or home
-pub turns_changed : (plan : Plan) (s : State) (turn : ℕ → ℕ) (i : Item) (j x : ℕ) (o : Option ℕ) → slot_of plan i ≡ Some j → taker x ≡ o → RepresentsTurns plan turn (item_with s) → RepresentsTurns plan (put turn j x) (with_then s i o)
+pub turns_changed : (floor : Description) (s : State) (turn : ℕ → ℕ) (i : Item) (j x : ℕ) (o : Option ℕ) → slot_of floor i ≡ Some j → taker x ≡ o → RepresentsTurns floor turn (item_with s) → RepresentsTurns floor (put turn j x) (with_then s i o)
 unfolding RepresentsTurns
-turns_changed plan s turn i j x o place is h k = go (slot_of plan k) refl
+turns_changed floor s turn i j x o place is h k = go (slot_of floor k) refl
   where
-    go : (p : Option ℕ) → slot_of plan k ≡ p → with_then s i o k ≡ taken_from (put turn j x) p
+    go : (p : Option ℕ) → slot_of floor k ≡ p → with_then s i o k ≡ taken_from (put turn j x) p
     go None e = elim (beside s i o k) [
-      | inl q ↦ absurd (let z : Some j ≡ None = sym place ∙ ap (slot_of plan) q ∙ e in cc)
+      | inl q ↦ absurd (let z : Some j ≡ None = sym place ∙ ap (slot_of floor) q ∙ e in cc)
       | inr q ↦ q ∙ h k ∙ ap (taken_from turn) e
     ]
     go (Some m) e = elim (cases_eq j m) [
       | inl q ↦
-          let same : i ≡ k = one_place plan i k j place (e ∙ ap Some (sym q)) in
+          let same : i ≡ k = one_place floor i k j place (e ∙ ap Some (sym q)) in
           subst (λ n. with_then s i o k ≡ taker (put turn j x n)) q (ap (with_then s i o) (sym same) ∙ at_itself s i o ∙ sym is ∙ ap taker (sym (put_same turn j x)))
       | inr ne ↦ elim (beside s i o k) [
-        | inl q ↦ absurd (ne (same_Some j m (sym place ∙ ap (slot_of plan) q ∙ e)))
+        | inl q ↦ absurd (ne (same_Some j m (sym place ∙ ap (slot_of floor) q ∙ e)))
         | inr q ↦ q ∙ h k ∙ ap (taken_from turn) e ∙ ap taker (sym (put_other turn j x m ne))
       ]
     ]
 
 -- 3. What a thread has out
 
-pub has_just : (plan : Plan) (s : State) (turn : ℕ → ℕ) (home : ℕ → slots.Option Slot) (out : ℕ → List (ℕ × Slot)) (content : ℕ → Slot) (t : ℕ)
-    → RepresentsTurns plan turn (item_with s) → Shelves (slots_for plan) turn home out content → RepresentsObjects plan content (objects_in s) → HasJust plan (out t) s t
+pub has_just : (floor : Description) (s : State) (turn : ℕ → ℕ) (home : ℕ → slots.Option Slot) (out : ℕ → List (ℕ × Slot)) (content : ℕ → Slot) (t : ℕ)
+    → RepresentsTurns floor turn (item_with s) → Shelves (slots_for floor) turn home out content → RepresentsObjects floor content (objects_in s) → HasJust floor (out t) s t
 unfolding RepresentsTurns
-has_just plan s turn home out content t turns shelves objects = record {
+has_just floor s turn home out content t turns shelves objects = record {
   each = λ i j x place there.
       let q = shelves.taken j t x there in
       (turns i ∙ ap (taken_from turn) place ∙ ap taker q.1, subst (λ y. IsOf (objects_in s) i y) (sym q.2) (objects.each i j place));
-  no_other = λ i e. go i (slot_of plan i) refl (sym (turns i) ∙ e);
+  no_other = λ i e. go i (slot_of floor i) refl (sym (turns i) ∙ e);
 }
   where
-    go : (i : Item) (p : Option ℕ) → slot_of plan i ≡ p → taken_from turn (slot_of plan i) ≡ Some t → (j : ℕ) × (slot_of plan i ≡ Some j) × ((x : Slot) × (found j (out t) ≡ some x))
+    go : (i : Item) (p : Option ℕ) → slot_of floor i ≡ p → taken_from turn (slot_of floor i) ≡ Some t → (j : ℕ) × (slot_of floor i ≡ Some j) × ((x : Slot) × (found j (out t) ≡ some x))
     go i None e f = absurd (let z : None ≡ Some t = ap (taken_from turn) (sym e) ∙ f in cc)
-    go i (Some j) e f = (j, e, (content j, shelves.away j t (place_low plan i j e) (taker_is (turn j) t (ap (taken_from turn) (sym e) ∙ f))))
+    go i (Some j) e f = (j, e, (content j, shelves.away j t (place_low floor i j e) (taker_is (turn j) t (ap (taken_from turn) (sym e) ∙ f))))

@@ -3,10 +3,10 @@ use Rattle.std.proofs.Common.{◌≡◌, ℕ, suc, List, ap, ◌∙◌, subst}
 use mathlib.Core.Option.{some}
 use lib.ListN.{get_elem?}
 use Rattle.lock_model.specs.Config.{Config}
-use Rattle.lock_model.specs.Plans.{config_of}
-use Rattle.lock_model.specs.declared.plan.Plan.{Plan}
 use Rattle.lock_state.specs.State.{State, Running, start_state}
 use Rattle.lock_state.specs.Steps.{Step}
+use Rattle.floor_table.specs.Descriptions.{config_in}
+use Rattle.floor_table.specs.declared.description.Description.{Description}
 use Rattle.floor_table.specs.Past.{IsSeenBy, AreSeen}
 use Rattle.floor_table.specs.Places.{turn_word, home_at}
 use Rattle.floor_table.specs.Views.{OfThread, Knowledge, nothing}
@@ -25,12 +25,12 @@ all_run c s t e = ap (λ (x : ToCome). x.wait t) e
 pub seen_of : (vs : List Knowledge) (past : List Step) (v : Knowledge) → thread_in vs v.thread ≡ v → AreSeen vs past → v.role ≡ OfThread → IsSeenBy v.thread v.seen past
 seen_of vs past v here seen is = subst (λ (w : Knowledge). IsSeenBy v.thread w.seen past) here (seen.thread v.thread (ap (λ (w : Knowledge). w.role) here ∙ is))
 
-pub fits_of : (plan : Plan) (b : Board) {past : List Step} (s : State) (i : ℕ) (v : Knowledge) → IsSound (config_of plan) past s → Represents plan b s → AreSeen b.views past → get_elem? b.views i ≡ some v → v.role ≡ OfThread
-    → (i ≡ suc v.thread) × Fits plan v s
-fits_of plan b {past} s i v sound r seen at is =
-    let seat = seat_of plan b.views s r.seats i v at is in
+pub fits_of : (floor : Description) (b : Board) {past : List Step} (s : State) (i : ℕ) (v : Knowledge) → IsSound floor past s → Represents floor b s → AreSeen b.views past → get_elem? b.views i ≡ some v → v.role ≡ OfThread
+    → (i ≡ suc v.thread) × Fits floor v s
+fits_of floor b {past} s i v sound r seen at is =
+    let seat = seat_of floor b.views s r.seats i v at is in
     let here : thread_in b.views v.thread ≡ v = at_or b.views (suc v.thread) v nothing (subst (λ j. get_elem? b.views j ≡ some v) seat.0 at) in
-    let just = has_just plan s (turn_word b.words) (home_at b.homes) (λ t. (thread_in b.views t).out) r.content v.thread r.turns r.shelves r.objects in (
+    let just = has_just floor s (turn_word b.words) (home_at b.homes) (λ t. (thread_in b.views t).out) r.content v.thread r.turns r.shelves r.objects in (
       seat.0,
       record {
         past = past;
@@ -38,7 +38,7 @@ fits_of plan b {past} s i v sound r seen at is =
         seen = seen_of b.views past v here seen is;
         thread = seat.1;
         share = seat.2;
-        out = subst (λ (w : Knowledge). HasJust plan w.out s v.thread) here just;
-        runs = all_run (config_of plan) s v.thread r.begun;
+        out = subst (λ (w : Knowledge). HasJust floor w.out s v.thread) here just;
+        runs = all_run (config_in floor) s v.thread r.to_come;
       },
     )

@@ -11,3 +11,5 @@ pub mod Sound
 pub mod Seen
 pub mod Made
 pub mod HeldLocks
+pub mod PlanKeys
+pub mod Descriptions

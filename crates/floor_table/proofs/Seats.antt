@@ -5,8 +5,8 @@ use Rattle.std.specs.Prelude.{◌==◌}
 use Rattle.std.specs.List.{list_any}
 use mathlib.Core.Option.{some, some-injective, some-ne-none}
 use lib.ListN.{get_elem?}
-use Rattle.lock_model.specs.declared.plan.Plan.{Plan}
 use Rattle.lock_state.specs.State.{State}
+use Rattle.floor_table.specs.declared.description.Description.{Description}
 use Rattle.floor_table.specs.Shares.{Share, share_in}
 use Rattle.floor_table.specs.Views.{OfKeeper, OfThread, Knowledge, nothing}
 use Rattle.floor_table.specs.Represents.{RepresentsShare, keeper_in, thread_in, total, live, one_thread, IsSeatOf, IsTakenIn, RepresentsSeats}
@@ -30,17 +30,17 @@ total_at f (x ∷ xs) (suc i) v e = let p = total_at f xs i v e in omega arith
 pub same_share : {x : Share} {a b : State} {t : ℕ} → share_in b t ≡ share_in a t → RepresentsShare x a t → RepresentsShare x b t
 same_share e h = record { columns = h.columns ∙ sym e; held_once = h.held_once }
 
-module _ (plan : Plan) (vs : List Knowledge) (a : State) (r : RepresentsSeats plan vs a) where
+module _ (floor : Description) (vs : List Knowledge) (a : State) (r : RepresentsSeats floor vs a) where
   -- a thread's seat stands behind the keeper's, at the thread's number
-  pub seat_of : (i : ℕ) (v : Knowledge) → get_elem? vs i ≡ some v → v.role ≡ OfThread → (i ≡ suc v.thread) × (v.thread < length plan.threads) × RepresentsShare v.share a v.thread
+  pub seat_of : (i : ℕ) (v : Knowledge) → get_elem? vs i ≡ some v → v.role ≡ OfThread → (i ≡ suc v.thread) × (v.thread < length floor.threads) × RepresentsShare v.share a v.thread
   seat_of zero v at is = absurd (let e : OfKeeper ≡ OfThread = sym r.keeper ∙ ap (λ (w : Knowledge). w.role) (at_or vs 0 v nothing at) ∙ is in cc)
   seat_of (suc t) v at is =
       let here : thread_in vs t ≡ v = at_or vs (suc t) v nothing at in
       let h = r.thread t (ap (λ (w : Knowledge). w.role) here ∙ is) in
       let same : v.thread ≡ t = ap (λ (w : Knowledge). w.thread) (sym here) ∙ h.thread in
-      let low : t < length plan.threads = let p = inside vs (suc t) v at in omega (arith, r.made, r.few, p) in (
+      let low : t < length floor.threads = let p = inside vs (suc t) v at in omega (arith, r.made, r.few, p) in (
         ap suc (sym same),
-        subst (λ u. u < length plan.threads) (sym same) low,
+        subst (λ u. u < length floor.threads) (sym same) low,
         subst (λ u. RepresentsShare v.share a u) (sym same) (subst (λ (w : Knowledge). RepresentsShare w.share a t) here h.share),
       )
 
@@ -83,11 +83,11 @@ module _ (plan : Plan) (vs : List Knowledge) (a : State) (r : RepresentsSeats pl
           share = same_share (others u ne) h.share;
         }
 
-    pub seats_stepped : RepresentsSeats plan new b
+    pub seats_stepped : RepresentsSeats floor new b
     seats_stepped = record {
       keeper = ap (λ (k : Knowledge). k.role) first_stays ∙ r.keeper;
       made = length-set vs (suc t) w ∙ r.made ∙ ap (λ (k : Knowledge). suc k.made) (sym first_stays);
-      few = subst (λ (k : Knowledge). k.made ≤ length plan.threads) (sym first_stays) r.few;
+      few = subst (λ (k : Knowledge). k.made ≤ length floor.threads) (sym first_stays) r.few;
       thread = threads_are;
       unmade = λ u past. let n : (keeper_in vs).made ≤ u = subst (λ (k : Knowledge). k.made ≤ u) first_stays past in others u (λ e. let m = made_before in omega arith) ∙ r.unmade u n;
       taken_in = λ i d low. let same = ap (λ (k : Knowledge). k.gathered) first_stays in

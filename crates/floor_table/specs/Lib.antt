@@ -1,3 +1,4 @@
+pub mod Descriptions
 pub mod Places
 pub mod Shares
 pub mod Views

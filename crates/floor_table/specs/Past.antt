@@ -1,21 +1,19 @@
 -- The steps that the threads of a floor have made, the newest first, and how far back a seat has seen them.
 use Rattle.std.specs.Prelude.{◌≡◌, ◌≢◌, ℕ, ◌≤◌, List, [], ◌∷◌, ◌++◌}
 use Rattle.std.specs.List.{All}
-use Rattle.lock_model.specs.Config.{Config}
 use Rattle.lock_state.specs.State.{State, start_state}
 use Rattle.lock_state.specs.Steps.{Step, after, FitsFloor, maker}
+use Rattle.floor_table.specs.Descriptions.{config_in}
+use Rattle.floor_table.specs.declared.description.Description.{Description}
 use Rattle.floor_table.specs.Represents.{keeper_in, thread_in}
 use Rattle.floor_table.specs.Views.{Knowledge, OfThread}
 
--- there is one chain of each sort so far
-abbrev pub chains : ℕ
-chains = 1
-
 -- The steps of threads of a floor that lead from the start to a state, the newest first. Each might be made where it came.
-pub data LeadsTo (c : Config) : List Step → State → Type 0 where
-  none : LeadsTo c [] (start_state c)
-  more : {past : List Step} {s : State} (step : Step) → LeadsTo c past s
-      → FitsFloor chains c s step → LeadsTo c (step ∷ past) (after c s step)
+pub data LeadsTo (floor : Description) : List Step → State → Type 0 where
+  none : LeadsTo floor [] (start_state (config_in floor))
+  more : {past : List Step} {s : State} (step : Step) → LeadsTo floor past s
+      → FitsFloor floor.chains (config_in floor) s step
+      → LeadsTo floor (step ∷ past) (after (config_in floor) s step)
 
 -- the steps, and then those of a list, made in order
 abbrev pub past_with : List Step → List Step → List Step

@@ -1,15 +1,16 @@
 -- Which state of `lock_state` a floor's table represents: its words, what is at home and what is out, and what its seats
 -- know. Each column of the state that the table tells of is pinned; those of which it doesn't tell yet have the value
--- that they began with.
+-- that they began with, and `state_from` shows that a state has no others.
 use Rattle.std.specs.Prelude.{◌≡◌, ◌≢◌, ℕ, suc, ◌+◌, ◌^◌, ◌<◌, ◌≤◌, Bool, true, ◌==◌, List, [], ◌∷◌, length, slice_index_or, Option, Some, None}
 use Rattle.std.specs.List.{All, list_any}
 use Rattle.atomic_table.specs.Table as table
 use Rattle.lock_model.specs.Config.{Config}
-use Rattle.lock_model.specs.Plans.{config_of}
+use Rattle.floor_table.specs.Descriptions.{config_in, IsSized}
 use Rattle.lock_model.specs.Queues.{Lists}
 use Rattle.lock_model.specs.Words.{Word, word_of}
-use Rattle.lock_model.specs.declared.plan.Plan.{Plan}
+use Rattle.floor_table.specs.declared.description.Description.{Description}
 use Rattle.lock_model.specs.declared.plan.QueueName.{QueueName}
+use Rattle.lock_model.specs.declared.event.Entry.{Entry}
 use Rattle.lock_state.specs.State.{State, Wait, start_state}
 use Rattle.lock_state.specs.Steps.Items.{Item, TurnstileChain, SleepChain, RecordOf, CellOf, ClassGraph, item_with}
 use Rattle.lock_objects.specs.Held.{holds_of}
@@ -17,7 +18,7 @@ use Rattle.lock_objects.specs.Represents.{RecordColumns, RepresentsRecord, recor
 use Rattle.floor_table.specs.declared.slot.Slot.{Slot}
 use Rattle.floor_table.specs.declared.slot.Slot.TheVariants.{Record, Cell}
 use Rattle.floor_table.specs.Places.{lock_word, turn_word, word_at, ticket_line, words_for, slots_for, slot_of, taker, home_at}
-use Rattle.floor_table.specs.Shares.{Share, columns_of, share_in, start_share}
+use Rattle.floor_table.specs.Shares.{Share, ShareColumns, columns_of, share_in, start_share}
 use Rattle.floor_table.specs.Shelves.{Shelves}
 use Rattle.floor_table.specs.Views.{Role, OfKeeper, OfThread, OfNobody, Knowledge, nothing}
 
@@ -35,8 +36,8 @@ taken_from turn None = None
 taken_from turn (Some j) = taker (turn j)
 
 -- an item is out with the thread that its turn word names
-unfoldable pub RepresentsTurns : Plan → (ℕ → ℕ) → (Item → Option ℕ) → Type 0
-RepresentsTurns plan turn out = (i : Item) → out i ≡ taken_from turn (slot_of plan i)
+unfoldable pub RepresentsTurns : Description → (ℕ → ℕ) → (Item → Option ℕ) → Type 0
+RepresentsTurns floor turn out = (i : Item) → out i ≡ taken_from turn (slot_of floor i)
 
 -- 2. Values behind turns
 
@@ -62,9 +63,9 @@ IsOf x (CellOf l key) (Cell value) = value ≡ x.table l key
 IsOf x ClassGraph (Record b) = ⊥
 IsOf x ClassGraph (Cell value) = ⊥
 
-pub record RepresentsObjects (plan : Plan) (content : ℕ → Slot) (x : Objects) : Type 0 where
-  pub each : (i : Item) (j : ℕ) → slot_of plan i ≡ Some j → IsOf x i (content j)
-  pub unnamed : (l key : ℕ) → slot_of plan (CellOf l key) ≡ None → x.table l key ≡ None
+pub record RepresentsObjects (floor : Description) (content : ℕ → Slot) (x : Objects) : Type 0 where
+  pub each : (i : Item) (j : ℕ) → slot_of floor i ≡ Some j → IsOf x i (content j)
+  pub unnamed : (l key : ℕ) → slot_of floor (CellOf l key) ≡ None → x.table l key ≡ None
 
 -- 3. What seats know
 
@@ -113,10 +114,10 @@ pub record IsTakenIn (views : List Knowledge) (s : State) (t : ℕ) (x : Share) 
 
 -- Each thread's share is with its seat, or with the keeper, or as it began where its pass isn't made yet. A seat that is
 -- no thread's has nothing out.
-pub record RepresentsSeats (plan : Plan) (views : List Knowledge) (s : State) : Type 0 where
+pub record RepresentsSeats (floor : Description) (views : List Knowledge) (s : State) : Type 0 where
   pub keeper : (keeper_in views).role ≡ OfKeeper
   pub made : length views ≡ suc (keeper_in views).made
-  pub few : (keeper_in views).made ≤ length plan.threads
+  pub few : (keeper_in views).made ≤ length floor.threads
   pub thread : (t : ℕ) → (thread_in views t).role ≡ OfThread → IsSeatOf (thread_in views t) s t
   pub unmade : (t : ℕ) → (keeper_in views).made ≤ t → share_in s t ≡ columns_of start_share
   pub taken_in : All (λ g. IsTakenIn views s g.0 g.1) (keeper_in views).gathered
@@ -153,24 +154,77 @@ to_come s = record {
   halted = s.halted;
 }
 
+-- The state with columns that are told, and those that are to come. Each column stands here, so that who adds one
+-- decides what tells it
+abbrev pub state_from : (ℕ → Word) → ℕ → (Item → Option ℕ) → Objects → (ℕ → ShareColumns)
+    → List Entry → ToCome → State
+state_from word next out x share history rest = record {
+  word = word;
+  lists = rest.lists;
+  free_list = rest.free_list;
+  head = rest.head;
+  owner = rest.owner;
+  base = λ t. (x.record_of t).base;
+  effective = λ t. (x.record_of t).effective;
+  turnstile = λ t. (x.record_of t).turnstile;
+  sleep_queue = λ t. (x.record_of t).sleep_queue;
+  loan = λ t. (x.record_of t).loan;
+  blocked_on = λ t. (x.record_of t).blocked_on;
+  loan_home = rest.loan_home;
+  wait = rest.wait;
+  held = λ t. (share t).held;
+  held_locks = λ t. (share t).held_locks;
+  wanted = λ t. (share t).doing.wanted;
+  taking = λ t. (share t).doing.taking;
+  called = λ t. (share t).doing.called;
+  walk = λ t. (share t).doing.walk;
+  marked = λ t. (share t).doing.marked;
+  looks = λ t. (share t).doing.looks;
+  looks_in_all = λ t. (share t).doing.looks_in_all;
+  last_look = λ t. (share t).doing.last_look;
+  seen_in_section = λ t. (share t).doing.seen_in_section;
+  round = λ t. (share t).doing.round;
+  noted = λ t. (share t).doing.noted;
+  woken_from = λ t. (share t).doing.woken_from;
+  unstamped = λ t. (share t).doing.unstamped;
+  counted_out = λ t. (share t).doing.counted_out;
+  counted_in = λ t. (share t).counted_in;
+  counting = λ t. (share t).doing.counting;
+  phase = λ t. (share t).doing.phase;
+  has_ended = λ t. (share t).doing.has_ended;
+  log = λ t. (share t).log;
+  has_begun = λ t. (share t).has_begun;
+  turnstile_chain_with = λ k. out (TurnstileChain k);
+  sleep_chain_with = λ k. out (SleepChain k);
+  record_with = λ t. out (RecordOf t);
+  cell_with = λ l k. out (CellOf l k);
+  graph_with = out ClassGraph;
+  table = x.table;
+  next = next;
+  history = history;
+  edges = rest.edges;
+  awake = rest.awake;
+  ended = rest.ended;
+  halted = rest.halted;
+}
+
 -- 5. The table
 
--- how many words and values there are, and what bounds the numbers of locks and threads
-pub record HasSizes (plan : Plan) (b : Board) : Type 0 where
-  pub words : length b.words ≡ words_for (slots_for plan)
-  pub slots : length b.homes ≡ slots_for plan
-  pub few_locks : length plan.locks ≤ 64
-  pub few_threads : length plan.threads ≤ 32
+-- how many words and values there are
+pub record HasSizes (floor : Description) (b : Board) : Type 0 where
+  pub words : length b.words ≡ words_for (slots_for floor)
+  pub slots : length b.homes ≡ slots_for floor
+  pub sized : IsSized floor
 
-pub record Represents (plan : Plan) (b : Board) (s : State) : Type 0 where
-  pub sizes : HasSizes plan b
-  pub locks : RepresentsLocks (config_of plan) (lock_word b.words) s.word
+pub record Represents (floor : Description) (b : Board) (s : State) : Type 0 where
+  pub sizes : HasSizes floor b
+  pub locks : RepresentsLocks (config_in floor) (lock_word b.words) s.word
   pub ticket : word_at b.words ticket_line ≡ s.next
   pub room : s.next + total spare b.views < 2 ^ 32
-  pub turns : RepresentsTurns plan (turn_word b.words) (item_with s)
+  pub turns : RepresentsTurns floor (turn_word b.words) (item_with s)
   pub content : ℕ → Slot
-  pub shelves : Shelves (slots_for plan) (turn_word b.words) (home_at b.homes)
+  pub shelves : Shelves (slots_for floor) (turn_word b.words) (home_at b.homes)
       (λ t. (thread_in b.views t).out) content
-  pub objects : RepresentsObjects plan content (objects_in s)
-  pub seats : RepresentsSeats plan b.views s
-  pub begun : to_come s ≡ to_come (start_state (config_of plan))
+  pub objects : RepresentsObjects floor content (objects_in s)
+  pub seats : RepresentsSeats floor b.views s
+  pub to_come : to_come s ≡ to_come (start_state (config_in floor))

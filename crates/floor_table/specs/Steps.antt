@@ -2,11 +2,10 @@
 use Rattle.std.specs.Prelude.{◌≡◌, ◌≢◌, ℕ, ◌<◌, false, List, [], ◌∷◌, length, Option, Some}
 use Rattle.std.specs.List.{All}
 use mathlib.Core.Option.{some}
-use Rattle.lock_model.specs.Config.{Config}
-use Rattle.lock_model.specs.Plans.{config_of}
+use Rattle.floor_table.specs.Descriptions.{config_in}
 use Rattle.lock_model.specs.Takes.{has_reversal}
 use Rattle.lock_model.specs.declared.event.Entry.{Entry}
-use Rattle.lock_model.specs.declared.plan.Plan.{Plan}
+use Rattle.floor_table.specs.declared.description.Description.{Description}
 use Rattle.lock_state.specs.State.{State, Note, OrderRefused, Running}
 use Rattle.lock_state.specs.Facts.{LawfulFloor}
 use Rattle.lock_state.specs.Steps.{Step, EachStep, after_all, FitsFloor, maker}
@@ -14,7 +13,7 @@ use Rattle.lock_state.specs.Steps.Items.{Item, item_with}
 use Rattle.lock_laws.specs.Rounds.{LawfulRounds}
 use Rattle.sleep_laws.specs.Sleepers.{SleepersFit, by_chain}
 use Rattle.floor_table.specs.declared.slot.Slot.{Slot}
-use Rattle.floor_table.specs.Past.{chains, LeadsTo, IsSeenBy, past_with}
+use Rattle.floor_table.specs.Past.{LeadsTo, IsSeenBy, past_with}
 use Rattle.floor_table.specs.Places.{slot_of}
 use Rattle.floor_table.specs.Shelves.{found}
 use Rattle.floor_table.specs.Views.{OfThread, Knowledge}
@@ -27,48 +26,49 @@ pub record NothingIsRefused (noted : ℕ → Option Note) (history : List Entry)
   pub in_history : has_reversal history ≡ false
 
 -- what holds of a state between two steps of threads of a floor, to which these steps led
-pub record IsSound (c : Config) (past : List Step) (s : State) : Type 0 where
-  pub reached : LeadsTo c past s
-  pub floor : LawfulFloor c s
-  pub rounds : LawfulRounds chains c s
-  pub sleepers : SleepersFit (by_chain chains s) c s
+pub record IsSound (floor : Description) (past : List Step) (s : State) : Type 0 where
+  pub reached : LeadsTo floor past s
+  pub facts : LawfulFloor (config_in floor) s
+  pub rounds : LawfulRounds floor.chains (config_in floor) s
+  pub sleepers : SleepersFit (by_chain floor.chains s) (config_in floor) s
   pub no_refusal : NothingIsRefused s.noted s.history
 
 -- each of the steps may be made by a thread of a floor, where it comes
-abbrev pub FitAll : Config → State → List Step → Type 0
-FitAll c s steps = EachStep (FitsFloor chains c) c s steps
+abbrev pub FitAll : Description → State → List Step → Type 0
+FitAll floor s steps =
+    EachStep (FitsFloor floor.chains (config_in floor)) (config_in floor) s steps
 
 -- 1. What a thread knows of the state
 
 -- it has out what its seat has, which says what the columns say, and nothing else
-pub record HasJust (plan : Plan) (out : List (ℕ × Slot)) (s : State) (t : ℕ) : Type 0 where
-  pub each : (i : Item) (j : ℕ) (x : Slot) → slot_of plan i ≡ Some j → found j out ≡ some x
+pub record HasJust (floor : Description) (out : List (ℕ × Slot)) (s : State) (t : ℕ) : Type 0 where
+  pub each : (i : Item) (j : ℕ) (x : Slot) → slot_of floor i ≡ Some j → found j out ≡ some x
       → (item_with s i ≡ Some t) × IsOf (objects_in s) i x
   pub no_other : (i : Item) → item_with s i ≡ Some t
-      → (j : ℕ) × (slot_of plan i ≡ Some j) × ((x : Slot) × (found j out ≡ some x))
+      → (j : ℕ) × (slot_of floor i ≡ Some j) × ((x : Slot) × (found j out ≡ some x))
 
 -- The state is one of which a thread's seat may know what it knows: others' steps led to it from the one behind all
 -- steps that the seat has seen. The thread runs.
-pub record Fits (plan : Plan) (v : Knowledge) (s : State) : Type 0 where
+pub record Fits (floor : Description) (v : Knowledge) (s : State) : Type 0 where
   pub past : List Step
-  pub sound : IsSound (config_of plan) past s
+  pub sound : IsSound floor past s
   pub seen : IsSeenBy v.thread v.seen past
-  pub thread : v.thread < length plan.threads
+  pub thread : v.thread < length floor.threads
   pub share : RepresentsShare v.share s v.thread
-  pub out : HasJust plan v.out s v.thread
+  pub out : HasJust floor v.out s v.thread
   pub runs : s.wait v.thread ≡ Running
 
 -- whatever the state is, if something holds of it, the thread may make the steps
-abbrev pub MayMake : Plan → Knowledge → (State → Type 0) → List Step → Type 0
-MayMake plan v premise steps =
-    (s : State) → Fits plan v s → premise s → FitAll (config_of plan) s steps
+abbrev pub MayMake : Description → Knowledge → (State → Type 0) → List Step → Type 0
+MayMake floor v premise steps =
+    (s : State) → Fits floor v s → premise s → FitAll floor s steps
 
 -- 2. What it did
 
 -- The thread made the steps, all its own, on the one table, of which all steps so far are `past`: the ones that its seat
 -- had seen, and then others' steps. The table represented the state to which these lead, in which the thread may make
 -- its steps, and then it represented the state behind them; the seat has seen them, and nobody made one in between.
-pub record Makes (plan : Plan) (steps : List Step) (old new : Knowledge) : Type 0 where
+pub record Makes (floor : Description) (steps : List Step) (old new : Knowledge) : Type 0 where
   pub role : old.role ≡ OfThread
   pub role_behind : new.role ≡ OfThread
   pub past : List Step
@@ -78,16 +78,16 @@ pub record Makes (plan : Plan) (steps : List Step) (old new : Knowledge) : Type 
   pub before : Board
   pub behind : Board
   pub state : State
-  pub sound : IsSound (config_of plan) past state
-  pub represents : Represents plan before state
-  pub may : FitAll (config_of plan) state steps
-  pub represents_behind : Represents plan behind (after_all (config_of plan) state steps)
+  pub sound : IsSound floor past state
+  pub represents : Represents floor before state
+  pub may : FitAll floor state steps
+  pub represents_behind : Represents floor behind (after_all (config_in floor) state steps)
   pub was : thread_in before.views old.thread ≡ old
   pub is : thread_in behind.views old.thread ≡ new
 
 -- The same of a call that makes several atomic steps, each on the table that it finds: in between other threads make
 -- theirs. Of each atomic step it says which steps of `lock_state` that one is.
-abbrev pub MakesEach : Plan → List (List Step) → Knowledge → Knowledge → Type 0
-MakesEach plan [] old new = old ≡ new
-MakesEach plan (steps ∷ more) old new =
-    (between : Knowledge) × Makes plan steps old between × MakesEach plan more between new
+abbrev pub MakesEach : Description → List (List Step) → Knowledge → Knowledge → Type 0
+MakesEach floor [] old new = old ≡ new
+MakesEach floor (steps ∷ more) old new =
+    (between : Knowledge) × Makes floor steps old between × MakesEach floor more between new

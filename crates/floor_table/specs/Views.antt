@@ -1,10 +1,8 @@
 -- What a seat at a floor's table knows.
-use Rattle.std.specs.Prelude.{ℕ, ◌*◌, List, [], length, map, sum}
-use Rattle.lock_model.specs.Plans.{operations_of}
-use Rattle.lock_model.specs.declared.plan.Op.{Op}
-use Rattle.lock_model.specs.declared.plan.Plan.{Plan}
-use Rattle.lock_model.specs.declared.plan.ThreadDecl.{ThreadDecl}
+use Rattle.std.specs.Prelude.{ℕ, List, []}
 use Rattle.lock_state.specs.Steps.{Step}
+use Rattle.floor_table.specs.Descriptions.{room_for, room_in_all}
+use Rattle.floor_table.specs.declared.description.Description.{Description}
 use Rattle.floor_table.specs.declared.slot.Slot.{Slot}
 use Rattle.floor_table.specs.Shares.{Share, start_share}
 
@@ -16,7 +14,7 @@ pub data Role : Type 0 where
 
 pub record Knowledge : Type 0 where
   pub role : Role
-  pub plan : Plan
+  pub description : Description
   -- the steps that had been made, the newest first: of a thread when it made its last one, with that one, or found an
   -- item out since; of the keeper those that the passes it took in have seen
   pub seen : List Step
@@ -34,7 +32,7 @@ pub record Knowledge : Type 0 where
 abbrev pub nothing : Knowledge
 nothing = record {
   role = OfNobody;
-  plan = record { classes = []; locks = []; chans = []; threads = []; schedule = [] };
+  description = record { threads = []; locks = []; chans = []; keys = []; chains = 0 };
   seen = [];
   spare = 0;
   thread = 0;
@@ -48,21 +46,19 @@ nothing = record {
 abbrev pub seeing : List Step → Knowledge → Knowledge
 seeing steps v = record v { seen = steps }
 
--- room for the entries of a thread: two for each operation
-abbrev pub room_of : List Op → ℕ
-room_of ops = 2 * length ops
-
-abbrev pub room_for : Plan → ℕ → ℕ
-room_for plan t = room_of (operations_of plan t)
-
-abbrev pub room_in_all : List ThreadDecl → ℕ
-room_in_all threads = sum (map (λ d. room_of d.ops) threads)
-
 -- what the first seat knows, before a pass is made
-abbrev pub keeper : Plan → Knowledge
-keeper plan = record nothing { role = OfKeeper; plan = plan; spare = room_in_all plan.threads }
+abbrev pub keeper : Description → Knowledge
+keeper floor = record nothing {
+  role = OfKeeper;
+  description = floor;
+  spare = room_in_all floor.threads;
+}
 
 -- what a thread's seat knows at the thread's begin
-abbrev pub first_view : Plan → ℕ → Knowledge
-first_view plan t =
-    record nothing { role = OfThread; plan = plan; spare = room_for plan t; thread = t }
+abbrev pub first_view : Description → ℕ → Knowledge
+first_view floor t = record nothing {
+  role = OfThread;
+  description = floor;
+  spare = room_for floor t;
+  thread = t;
+}

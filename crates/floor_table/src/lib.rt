@@ -9,21 +9,26 @@
 //! and what is out, and what the seats know say what the columns say (`specs/Represents.antt`). So each atomic step of a
 //! thread has to be a step of `lock_state`, and `lock_laws` shows that this keeps the state lawful.
 //!
-//! - `board`: the table and its rule. What it is told once is the plan.
+//! - `description`: what a floor is made for, and what a plan gives.
+//! - `board`: the table and its rule. What it is told once is a description.
 //! - `places`: where its words are.
 //! - `told`: its atomic steps, each of which tells the call that makes it what it did.
+//! - `laws`: what a plan gives fits a table and says what the plan says, and a state has no column that nothing tells.
 //!
 //! `proofs/` has one lemma for each kind of word: a table in which such a word was changed by a step of `lock_state`
 //! represents the state behind it.
 #![tactic(auto)]
 
 mod board;
+mod description;
+pub mod laws;
 mod places;
 mod slot;
 mod told;
 mod view;
 
 pub use board::{Board, Law, Place};
+pub use description::{Description, LockPart, ThreadPart};
 pub use places::{lock_spot, ticket_spot, turn_spot, words_for};
 pub use slot::Slot;
 pub use told::{Tells, Told, add, exchange, load, store};

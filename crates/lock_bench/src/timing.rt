@@ -1,6 +1,7 @@
 //! Timing one run: a floor of its own, whose workers begin together.
 ghost use Rattle.std.specs.Prelude.{◌≡◌, ℕ, ◌<◌, length, slice_index_or, IfOk};
 ghost use Rattle.lock_model.specs.Operations.{IsProper};
+ghost use Rattle.floor_table.specs.Descriptions.{IsFor};
 ghost use Rattle.floor_run.specs.Progress.{IsNew};
 ghost use Rattle.floor_run.specs.Runs.{HasOnlyMutexes};
 
@@ -18,6 +19,9 @@ use std::sync::atomic::{AtomicU64, AtomicUsize, Ordering};
 use std::thread;
 use std::thread::Threads;
 use std::time::{Duration, Instant};
+
+// The chains of each sort of queue. Mutexes whose threads look have no use for them yet.
+const CHAINS: u32 = 16;
 
 // How often a worker looks at most for the others. They don't come where no thread can be started.
 const MOST_LOOKS: u32 = 1_000_000;
@@ -39,7 +43,7 @@ pub fn time_of<R: Threads + Wait + Clock + Sync>(rt: &R, alloc: Global, plan: &P
     requires proper { IsProper plan.now }
     requires mutexes { HasOnlyMutexes plan.now }
 {
-    let (floor, _keeper, mut passes) = Floor::make(alloc, plan)?;
+    let (floor, _keeper, mut passes) = Floor::make(alloc, plan, CHAINS)?;
     let workers = passes.len();
     let meeting = Meeting::new(workers);
     time_all(rt, &floor, passes.as_mut_slice(), plan, &meeting);
@@ -57,7 +61,7 @@ fn time_all<R: Threads + Wait + Clock + Sync>(
     plan: &Plan,
     meeting: &Meeting,
 )
-    requires plan { floor.now.plan ≡ plan.now }
+    requires given { IsFor plan.now floor.now.description }
     requires proper { IsProper plan.now }
     requires mutexes { HasOnlyMutexes plan.now }
     requires new { (t : ℕ) (d : _) → t < length passes.old
@@ -69,8 +73,8 @@ fn time_all<R: Threads + Wait + Clock + Sync>(
         passes,
         workers,
         &|t, pass: &mut Pass|
-            requires { IsProper floor.now.plan × HasOnlyMutexes floor.now.plan
-                × (floor.now.plan ≡ plan.now) × IsNew floor.now t pass.now }
+            requires { IsFor plan.now floor.now.description × IsProper plan.now
+                × HasOnlyMutexes plan.now × IsNew floor.now t pass.now }
         { time_work(rt, floor, pass, plan, meeting) },
     );
 }
@@ -83,7 +87,7 @@ fn time_work<R: Wait + Clock>(
     plan: &Plan,
     meeting: &Meeting,
 )
-    requires plan { floor.now.plan ≡ plan.now }
+    requires given { IsFor plan.now floor.now.description }
     requires proper { IsProper plan.now }
     requires mutexes { HasOnlyMutexes plan.now }
     requires new { IsNew floor.now pass.old.view.thread pass.old }

@@ -5,15 +5,15 @@ use Rattle.lock_model.specs.Config.{Config}
 use Rattle.lock_model.specs.History.{open_in}
 use Rattle.lock_model.specs.Holds.{Hold, NotHeld, Holds}
 use Rattle.lock_model.specs.Operations.{hold_in}
-use Rattle.lock_model.specs.Plans.{config_of}
 use Rattle.lock_model.specs.declared.event.Event.TheVariants.{Got}
 use Rattle.lock_model.specs.declared.numbers.LockNo.{LockNo}
 use Rattle.lock_model.specs.declared.plan.Mode.TheVariants.{Excl}
-use Rattle.lock_model.specs.declared.plan.Plan.{Plan}
 use Rattle.lock_state.specs.State.{State}
 use Rattle.lock_state.specs.Steps.{TakesItem, Stamps}
 use Rattle.lock_state.specs.Steps.Items.{Item, CellOf, item_with}
 use Rattle.lock_state.specs.Steps.LockWords.{changes_sections}
+use Rattle.floor_table.specs.Descriptions.{config_in}
+use Rattle.floor_table.specs.declared.description.Description.{Description}
 use Rattle.floor_table.specs.declared.slot.Slot.{Slot}
 use Rattle.floor_table.specs.declared.slot.Slot.TheVariants.{Record, Cell}
 use Rattle.floor_table.specs.Places.{slot_of}
@@ -38,46 +38,46 @@ pub change_is_quiet : (l : LockNo) (key : ℕ) (change : Change) → changes_sec
 change_is_quiet l key (Set value) = refl
 change_is_quiet l key (Add amount) = refl
 
-module _ (plan : Plan) (v : Knowledge) (calm : IsAtRest plan v) (l : LockNo) (key j : ℕ) (place : slot_of plan (CellOf l.0 key) ≡ Some j) where
+module _ (floor : Description) (v : Knowledge) (calm : IsAtRest floor v) (l : LockNo) (key j : ℕ) (place : slot_of floor (CellOf l.0 key) ≡ Some j) where
   abbrev c : Config
-  c = config_of plan
+  c = config_in floor
 
   abbrev cell : Item
   cell = CellOf l.0 key
 
-  -- a lock that is held is one of the plan's
-  is_lock : (x : Hold) → hold_in v.share.held l.0 ≡ x → hold_in v.share.held l.0 ≢ NotHeld → (s : State) → Fits plan v s → l.0 < length plan.locks
+  -- a lock that is held is one of the floor's
+  is_lock : (x : Hold) → hold_in v.share.held l.0 ≡ x → hold_in v.share.held l.0 ≢ NotHeld → (s : State) → Fits floor v s → l.0 < length floor.locks
   is_lock NotHeld e held s f = absurd (held e)
-  is_lock (Holds mode) e held s f = only_locks c s v.thread l.0 mode f.sound.reached (holds_it plan v s f l.0 ∙ e)
+  is_lock (Holds mode) e held s f = only_locks floor s v.thread l.0 mode f.sound.reached (holds_it floor v s f l.0 ∙ e)
 
-  pub may_take_cell : hold_in v.share.held l.0 ≢ NotHeld → MayMake plan v (λ s. item_with s cell ≡ None) (TakesItem v.thread cell ∷ [])
-  may_take_cell held = may_take plan v cell calm.nothing_out calm.no_round calm.going (is_lock (hold_in v.share.held l.0) refl held)
+  pub may_take_cell : hold_in v.share.held l.0 ≢ NotHeld → MayMake floor v (λ s. item_with s cell ≡ None) (TakesItem v.thread cell ∷ [])
+  may_take_cell held = may_take floor v cell calm.nothing_out calm.no_round calm.going (is_lock (hold_in v.share.held l.0) refl held)
 
   -- once it has the cell
-  module _ (a : Knowledge) (taken : Takes plan cell j v a) where
-    calm_with : IsAtRest plan (record a { out = [] })
-    calm_with = rest_with plan v a cell j refl calm taken
+  module _ (a : Knowledge) (taken : Takes floor cell j v a) where
+    calm_with : IsAtRest floor (record a { out = [] })
+    calm_with = rest_with floor v a cell j refl calm taken
 
-    has_cell : (s : State) (f : Fits plan a s) (x : Slot) → a.out ≡ (j, x) ∷ rest a.out → (item_with s cell ≡ Some a.thread) × IsOf (objects_in s) cell x
-    has_cell s f x last = says_its plan a cell j x place last s f
+    has_cell : (s : State) (f : Fits floor a s) (x : Slot) → a.out ≡ (j, x) ∷ rest a.out → (item_with s cell ≡ Some a.thread) × IsOf (objects_in s) cell x
+    has_cell s f x last = says_its floor a cell j x place last s f
 
-    section : (s : State) → Fits plan a s → open_in c s.history a.thread l.0 ≡ hold_in v.share.held l.0
-    section s f = own_log plan a s f l.0 ∙ calm_with.sections l.0 ∙ ap (λ (w : Knowledge). hold_in w.share.held l.0) taken.view
+    section : (s : State) → Fits floor a s → open_in c s.history a.thread l.0 ≡ hold_in v.share.held l.0
+    section s f = own_log floor a s f l.0 ∙ calm_with.sections l.0 ∙ ap (λ (w : Knowledge). hold_in w.share.held l.0) taken.view
 
-    pub may_change : (change : Change) → hold_in v.share.held l.0 ≡ Holds Excl → MayMake plan a (λ s. Unit {0}) (Stamps a.thread (event_of l key change) ∷ [])
+    pub may_change : (change : Change) → hold_in v.share.held l.0 ≡ Holds Excl → MayMake floor a (λ s. Unit {0}) (Stamps a.thread (event_of l key change) ∷ [])
     may_change (Set value) held =
-        may_note plan a calm_with (event_of l key (Set value)) (λ s f. (section s f ∙ held, (has_cell s f taken.value (taken_out plan v a cell j taken)).0))
+        may_note floor a calm_with (event_of l key (Set value)) (λ s f. (section s f ∙ held, (has_cell s f taken.value (taken_out floor v a cell j taken)).0))
     may_change (Add amount) held =
-        may_note plan a calm_with (event_of l key (Add amount)) (λ s f. (section s f ∙ held, (has_cell s f taken.value (taken_out plan v a cell j taken)).0))
+        may_note floor a calm_with (event_of l key (Add amount)) (λ s f. (section s f ∙ held, (has_cell s f taken.value (taken_out floor v a cell j taken)).0))
 
     pub cell_out : (x : Option ℕ) × (a.out ≡ (j, Cell x) ∷ rest a.out)
-    cell_out = go taken.value taken.kind (taken_out plan v a cell j taken)
+    cell_out = go taken.value taken.kind (taken_out floor v a cell j taken)
       where
         go : (y : Slot) → IsOfKind cell y → a.out ≡ (j, y) ∷ rest a.out → (x : Option ℕ) × (a.out ≡ (j, Cell x) ∷ rest a.out)
         go (Cell x) its last = (x, last)
         go (Record b) its last = absurd its
 
-    pub may_tell : (found : Option ℕ) → a.out ≡ (j, Cell found) ∷ rest a.out → hold_in v.share.held l.0 ≢ NotHeld → MayMake plan a (λ s. Unit {0}) (Stamps a.thread (Got l key found) ∷ [])
+    pub may_tell : (found : Option ℕ) → a.out ≡ (j, Cell found) ∷ rest a.out → hold_in v.share.held l.0 ≢ NotHeld → MayMake floor a (λ s. Unit {0}) (Stamps a.thread (Got l key found) ∷ [])
     may_tell found last held =
-        may_note plan a calm_with (Got l key found)
+        may_note floor a calm_with (Got l key found)
         (λ s f. let its = has_cell s f (Cell found) last in ((λ unheld. held (sym (section s f) ∙ unheld), its.1), its.0))

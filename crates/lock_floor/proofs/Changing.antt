@@ -7,11 +7,9 @@ use Rattle.atomic_table.specs.Table.{Me, rest, Allows}
 use Rattle.lock_laws.proofs.Kit.{put_same, put_other, put_at_same, put_at_other, put_at_beside}
 use Rattle.lock_model.specs.Config.{Config}
 use Rattle.lock_model.specs.History.{added}
-use Rattle.lock_model.specs.Plans.{config_of}
 use Rattle.lock_model.specs.declared.event.Event.{Event}
 use Rattle.lock_model.specs.declared.event.Event.TheVariants.{Set, Added, Base}
 use Rattle.lock_model.specs.declared.numbers.Prio.{Prio}
-use Rattle.lock_model.specs.declared.plan.Plan.{Plan}
 use Rattle.lock_objects.proofs.Records.{with_other_base, none_beyond}
 use Rattle.lock_objects.specs.Represents.{RepresentsRecord, record_in}
 use Rattle.lock_state.specs.Facts.{Lawful}
@@ -19,6 +17,8 @@ use Rattle.lock_state.specs.State.{State, put, put_at}
 use Rattle.lock_state.specs.Steps.{Stamps}
 use Rattle.lock_state.specs.Steps.Items.{Item, TurnstileChain, SleepChain, RecordOf, CellOf, ClassGraph}
 use Rattle.lock_state.specs.Steps.LockWords.{after_stamp, effective_of}
+use Rattle.floor_table.specs.Descriptions.{config_in}
+use Rattle.floor_table.specs.declared.description.Description.{Description}
 use Rattle.floor_table.specs.declared.slot.Slot.{Slot}
 use Rattle.floor_table.specs.declared.slot.Slot.TheVariants.{Record, Cell}
 use Rattle.floor_table.specs.Places.{spot, ticket_line, word_at, turn_word, slots_for, slot_of, home_at}
@@ -41,19 +41,19 @@ record OnlyChanges (x y : Objects) (i : Item) : Type 0 where
   others : (k : Item) (z : Slot) → k ≢ i → IsOf x k z → IsOf y k z
   tables : (l key : ℕ) → CellOf l key ≢ i → y.table l key ≡ x.table l key
 
-object_changed : (plan : Plan) (content : ℕ → Slot) (x y : Objects) (i : Item) (j : ℕ) (z : Slot) → slot_of plan i ≡ Some j → OnlyChanges x y i → IsOf y i z → RepresentsObjects plan content x → RepresentsObjects plan (put content j z) y
-object_changed plan content x y i j z place only is h = record {
+object_changed : (floor : Description) (content : ℕ → Slot) (x y : Objects) (i : Item) (j : ℕ) (z : Slot) → slot_of floor i ≡ Some j → OnlyChanges x y i → IsOf y i z → RepresentsObjects floor content x → RepresentsObjects floor (put content j z) y
+object_changed floor content x y i j z place only is h = record {
   each = λ k m at.
       elim (cases_eq j m) [
         | inl e ↦
-            let same : i ≡ k = one_place plan i k j place (at ∙ ap Some (sym e)) in
+            let same : i ≡ k = one_place floor i k j place (at ∙ ap Some (sym e)) in
             subst (λ n. IsOf y k (put content j z n)) e (subst (λ w. IsOf y k w) (sym (put_same content j z)) (subst (λ q. IsOf y q z) same is))
         | inr ne ↦
-            let other : k ≢ i = λ q. ne (same_Some j m (sym place ∙ ap (slot_of plan) (sym q) ∙ at)) in
+            let other : k ≢ i = λ q. ne (same_Some j m (sym place ∙ ap (slot_of floor) (sym q) ∙ at)) in
             subst (λ w. IsOf y k w) (sym (put_other content j z m ne)) (only.others k (content m) other (h.each k m at))
       ];
   unnamed = λ l key none.
-      only.tables l key (λ q. absurd (let e : None ≡ Some j = sym none ∙ ap (slot_of plan) q ∙ place in cc)) ∙ h.unnamed l key none;
+      only.tables l key (λ q. absurd (let e : None ≡ Some j = sym none ∙ ap (slot_of floor) q ∙ place in cc)) ∙ h.unnamed l key none;
 }
 
 -- a key of a table gets a value
@@ -142,13 +142,13 @@ module _ (c : Config) (s : State) (t : ℕ) (lawful : Lawful c s) where
 
 -- 3. So it is stamped with the value changed
 
-pub change_allowed : (plan : Plan) (me : Me Slot Knowledge) (event : Event) (slots id : ℕ) (i : Item) (j : ℕ) (x : Slot) → me.0.role ≡ OfThread → 1 ≤ me.0.spare → IsChangeOf me.0.thread event i → slot_of plan i ≡ Some j
-    → me.0.out ≡ (j, x) ∷ rest me.0.out → me.1 ≡ last_changed event me.0.out → MayMake plan me.0 (λ s. Unit {0}) (Stamps me.0.thread event ∷ [])
-    → Allows (FloorHolds plan) slots id me (spot ticket_line) (λ n. (n + 1) % 18446744073709551616) (StampedWith plan event (λ me. me.1) me)
-change_allowed plan me event slots id i j x was room about place last changes may =
-    allows plan slots id me (spot ticket_line) (λ n. (n + 1) % 18446744073709551616) (StampedWith plan event (λ me. me.1) me) was (λ b h small. step b h)
+pub change_allowed : (floor : Description) (me : Me Slot Knowledge) (event : Event) (slots id : ℕ) (i : Item) (j : ℕ) (x : Slot) → me.0.role ≡ OfThread → 1 ≤ me.0.spare → IsChangeOf me.0.thread event i → slot_of floor i ≡ Some j
+    → me.0.out ≡ (j, x) ∷ rest me.0.out → me.1 ≡ last_changed event me.0.out → MayMake floor me.0 (λ s. Unit {0}) (Stamps me.0.thread event ∷ [])
+    → Allows (FloorHolds floor) slots id me (spot ticket_line) (λ n. (n + 1) % 18446744073709551616) (StampedWith floor event (λ me. me.1) me)
+change_allowed floor me event slots id i j x was room about place last changes may =
+    allows floor slots id me (spot ticket_line) (λ n. (n + 1) % 18446744073709551616) (StampedWith floor event (λ me. me.1) me) was (λ b h small. step b h)
   where
-    step : (b : Board) (h : Finds plan me.0 b) → Steps plan me (spot ticket_line) (word_at b.words ticket_line) ((word_at b.words ticket_line + 1) % 18446744073709551616) (StampedWith plan event (λ me. me.1) me) b
+    step : (b : Board) (h : Finds floor me.0 b) → Steps floor me (spot ticket_line) (word_at b.words ticket_line) ((word_at b.words ticket_line + 1) % 18446744073709551616) (StampedWith floor event (λ me. me.1) me) b
     step b h =
         let r = h.represents in
         let t : ℕ = me.0.thread in
@@ -157,8 +157,8 @@ change_allowed plan me event slots id i j x was room about place last changes ma
         let y : Slot = changed event x in
         let now : me.1 ≡ (j, y) ∷ rest me.0.out = changes ∙ ap (last_changed event) last in
         let is_its = (h.fits.out.each i j x place (ap (found j) last ∙ found_first j x (rest me.0.out))).1 in
-        let its = its_object (config_of plan) h.state t h.sound.floor.lawful event i x about is_its in
-        stamps plan me was room event (λ me. me.1) b h (put r.content j y) (may h.state h.fits tt)
-        (subst (λ o. Shelves (slots_for plan) (turn_word b.words) (home_at b.homes) (put outs t o) (put r.content j y)) (sym now)
-        (shelf_changed (slots_for plan) (turn_word b.words) (home_at b.homes) outs r.content r.shelves j t x y (rest me.0.out) mine))
-        (object_changed plan r.content (objects_in h.state) (objects_in (after_stamp (config_of plan) h.state t event)) i j y place its.0 its.1 r.objects)
+        let its = its_object (config_in floor) h.state t h.sound.facts.lawful event i x about is_its in
+        stamps floor me was room event (λ me. me.1) b h (put r.content j y) (may h.state h.fits tt)
+        (subst (λ o. Shelves (slots_for floor) (turn_word b.words) (home_at b.homes) (put outs t o) (put r.content j y)) (sym now)
+        (shelf_changed (slots_for floor) (turn_word b.words) (home_at b.homes) outs r.content r.shelves j t x y (rest me.0.out) mine))
+        (object_changed floor r.content (objects_in h.state) (objects_in (after_stamp (config_in floor) h.state t event)) i j y place its.0 its.1 r.objects)

@@ -12,9 +12,7 @@ use Rattle.std.specs.declared.boxed.Box.{Box}
 use Rattle.atomic_table.specs.Table.{Final, Seen}
 use Rattle.lock_model.specs.Counts.{some as count, one, sum_below, at_option, times}
 use Rattle.lock_model.specs.History.{entries_of}
-use Rattle.lock_model.specs.Plans.{config_of}
 use Rattle.lock_model.specs.Queues.{lock_queue, names_turnstile, names_sleep_queue}
-use Rattle.lock_model.specs.declared.plan.Plan.{Plan}
 use Rattle.lock_model.specs.declared.plan.QueueName.{QueueName}
 use Rattle.lock_objects.specs.Represents.{RecordColumns, RepresentsRecord, record_in, loan_of}
 use Rattle.lock_state.specs.Facts.{TurnstileIsLent, SleepQueueIsLent, OneTurnstileEach, OneSleepQueueEach, StandingIsQueued, LoansAreWithOwners, BasesReplay, LogsAreParts}
@@ -27,9 +25,11 @@ use Rattle.thread_records.specs.Loans.{loan_for}
 use Rattle.thread_records.specs.Records.{Record}
 use Rattle.thread_records.specs.declared.record.ThreadRec.{ThreadRec}
 use Rattle.turnstile_core.specs.Seen.{Terms}
+use Rattle.floor_table.specs.Descriptions.{config_in}
+use Rattle.floor_table.specs.declared.description.Description.{Description}
 use Rattle.floor_table.specs.declared.slot.Slot.{Slot}
 use Rattle.floor_table.specs.declared.slot.Slot.TheVariants.{Record as Recorded, Cell}
-use Rattle.floor_table.specs.Places.{slots_for, cells_of, turn_word}
+use Rattle.floor_table.specs.Places.{slots_for, turn_word}
 use Rattle.floor_table.specs.Shares.{Share, ShareColumns}
 use Rattle.floor_table.specs.Views.{OfThread, Knowledge, nothing}
 use Rattle.floor_table.specs.Represents.{Board, IsOf, objects_in, seat, keeper_in, thread_in, total, live, one_thread, IsTakenIn, ToCome, to_come, Represents}
@@ -64,32 +64,32 @@ unlent : (owner : Option ℕ) (t : ℕ) (o : Option Loan) → owner ≡ None →
 unlent owner t None e h = refl
 unlent owner t (Some x) e h = absurd (let z : None ≡ Some t = sym e ∙ h x refl in cc)
 
-module _ (plan : Plan) {past : List Step} (s : State) (sound : IsSound (config_of plan) past s) (begun : to_come s ≡ to_come (start_state (config_of plan))) where
+module _ (floor : Description) {past : List Step} (s : State) (sound : IsSound floor past s) (still : to_come s ≡ to_come (start_state (config_in floor))) where
   stands_nowhere : (t : ℕ) → s.blocked_on t ≡ None
   unfolding StandingIsQueued
-  stands_nowhere t = nowhere (s.wait t) (s.blocked_on t) (all_run (config_of plan) s t begun) (sound.floor.lawful.waits.standing_is_queued t)
+  stands_nowhere t = nowhere (s.wait t) (s.blocked_on t) (all_run (config_in floor) s t still) (sound.facts.lawful.waits.standing_is_queued t)
 
   no_owner : (l : ℕ) → s.owner (lock_queue l) ≡ None
   unfolding start_state
-  no_owner l = ap (λ (x : ToCome). x.owner (lock_queue l)) begun
+  no_owner l = ap (λ (x : ToCome). x.owner (lock_queue l)) still
 
   lends_nothing : (t l : ℕ) → s.loan t l ≡ None
   unfolding LoansAreWithOwners
-  lends_nothing t l = unlent (s.owner (lock_queue l)) t (s.loan t l) (no_owner l) (sound.floor.lawful.loans.loans_are_with_owners t l)
+  lends_nothing t l = unlent (s.owner (lock_queue l)) t (s.loan t l) (no_owner l) (sound.facts.lawful.loans.loans_are_with_owners t l)
 
   has_turnstile : (t : ℕ) → IsSome (s.turnstile t)
   unfolding TurnstileIsLent
-  has_turnstile t = one_there (s.turnstile t) (ap (λ o. count (s.turnstile t) + one (names_turnstile (config_of plan) o)) (sym (stands_nowhere t)) ∙ sound.floor.lawful.queues.turnstile_is_lent t)
+  has_turnstile t = one_there (s.turnstile t) (ap (λ o. count (s.turnstile t) + one (names_turnstile (config_in floor) o)) (sym (stands_nowhere t)) ∙ sound.facts.lawful.queues.turnstile_is_lent t)
 
   has_sleep_queue : (t : ℕ) → IsSome (s.sleep_queue t)
   unfolding SleepQueueIsLent
-  has_sleep_queue t = one_there (s.sleep_queue t) (ap (λ o. count (s.sleep_queue t) + one (names_sleep_queue (config_of plan) o)) (sym (stands_nowhere t)) ∙ sound.floor.lawful.queues.sleep_queue_is_lent t)
+  has_sleep_queue t = one_there (s.sleep_queue t) (ap (λ o. count (s.sleep_queue t) + one (names_sleep_queue (config_in floor) o)) (sym (stands_nowhere t)) ∙ sound.facts.lawful.queues.sleep_queue_is_lent t)
 
-  pub home_of : (t : ℕ) (r : Record) → RepresentsRecord r (record_in s t) → IsHome plan s.history t r
+  pub home_of : (t : ℕ) (r : Record) → RepresentsRecord r (record_in s t) → IsHome floor s.history t r
   unfolding BasesReplay
   home_of t r h = record {
     thread = ap (λ (x : RecordColumns). x.thread) h.columns;
-    base = ap (λ (x : RecordColumns). x.base) h.columns ∙ sound.floor.lawful.books.bases_replay t;
+    base = ap (λ (x : RecordColumns). x.base) h.columns ∙ sound.facts.lawful.books.bases_replay t;
     turnstile = subst IsSome (sym (ap (λ (x : RecordColumns). x.turnstile) h.columns)) (has_turnstile t);
     sleep_queue = subst IsSome (sym (ap (λ (x : RecordColumns). x.sleep_queue) h.columns)) (has_sleep_queue t);
     no_loans = no_loans r.loans (λ l. ap (λ (x : RecordColumns). x.loan l) h.columns ∙ lends_nothing t l);
@@ -98,7 +98,7 @@ module _ (plan : Plan) {past : List Step} (s : State) (sound : IsSound (config_o
 
   -- 2. No two threads have one turnstile, or one sleep queue
 
-  differ : (column : ℕ → Option ℕ) → ((n : ℕ) → sum_below (length plan.threads) (λ t. at_option n (column t)) ≤ 1) → ((t : ℕ) → IsSome (column t)) → (t u : ℕ) → t < length plan.threads → u < length plan.threads → column t ≡ column u → t ≡ u
+  differ : (column : ℕ → Option ℕ) → ((n : ℕ) → sum_below (length floor.threads) (λ t. at_option n (column t)) ≤ 1) → ((t : ℕ) → IsSome (column t)) → (t u : ℕ) → t < length floor.threads → u < length floor.threads → column t ≡ column u → t ≡ u
   differ column once there t u i j same = go (column t) refl (there t)
     where
       go : (o : Option ℕ) → column t ≡ o → IsSome o → t ≡ u
@@ -108,20 +108,20 @@ module _ (plan : Plan) {past : List Step} (s : State) (sound : IsSound (config_o
         | inr ne ↦
             let first : at_option n (column t) ≡ 1 = ap (at_option n) e ∙ one_same n in
             let second : at_option n (column u) ≡ 1 = ap (at_option n) (sym same) ∙ first in
-            absurd (let both = sum_below-two (length plan.threads) (λ k. at_option n (column k)) t u i j ne in let most = once n in omega (arith, first, second, both, most))
+            absurd (let both = sum_below-two (length floor.threads) (λ k. at_option n (column k)) t u i j ne in let most = once n in omega (arith, first, second, both, most))
       ]
 
   most_one : (b : Bool) → one b ≤ 1
   most_one true = omega arith
   most_one false = omega arith
 
-  pub turnstiles_differ : (t u : ℕ) → t < length plan.threads → u < length plan.threads → s.turnstile t ≡ s.turnstile u → t ≡ u
+  pub turnstiles_differ : (t u : ℕ) → t < length floor.threads → u < length floor.threads → s.turnstile t ≡ s.turnstile u → t ≡ u
   unfolding OneTurnstileEach turnstile_places
-  turnstiles_differ = differ s.turnstile (λ n. let p = sound.floor.lawful.queues.one_turnstile_each n in let m = most_one (nat_lt n (length plan.threads)) in omega (arith, p, m)) has_turnstile
+  turnstiles_differ = differ s.turnstile (λ n. let p = sound.facts.lawful.queues.one_turnstile_each n in let m = most_one (nat_lt n (length floor.threads)) in omega (arith, p, m)) has_turnstile
 
-  pub sleep_queues_differ : (t u : ℕ) → t < length plan.threads → u < length plan.threads → s.sleep_queue t ≡ s.sleep_queue u → t ≡ u
+  pub sleep_queues_differ : (t u : ℕ) → t < length floor.threads → u < length floor.threads → s.sleep_queue t ≡ s.sleep_queue u → t ≡ u
   unfolding OneSleepQueueEach sleep_queue_places
-  sleep_queues_differ = differ s.sleep_queue (λ n. let p = sound.floor.lawful.queues.one_sleep_queue_each n in let m = most_one (nat_lt n (length plan.threads)) in omega (arith, p, m)) has_sleep_queue
+  sleep_queues_differ = differ s.sleep_queue (λ n. let p = sound.facts.lawful.queues.one_sleep_queue_each n in let m = most_one (nat_lt n (length floor.threads)) in omega (arith, p, m)) has_sleep_queue
 
 -- 3. All passes are taken in
 
@@ -138,17 +138,17 @@ cell_there : (s : State) (l key : ℕ) (x : Slot) → IsOf (objects_in s) (CellO
 cell_there s l key (Recorded b) h = absurd h
 cell_there s l key (Cell value) h = ap Cell h
 
-module _ (plan : Plan) (v : Knowledge) (ws : List ℕ) (xs : List Slot) (final : Final (Seen (FloorHolds plan) 0 v) ws xs) (all : length v.gathered ≡ length plan.threads) where
+module _ (floor : Description) (v : Knowledge) (ws : List ℕ) (xs : List Slot) (final : Final (Seen (FloorHolds floor) 0 v) ws xs) (all : length v.gathered ≡ length floor.threads) where
   abbrev b : Board
   b = final.0
 
   abbrev pub left : State
   left = final.1.0.state
 
-  abbrev pub sound : IsSound (config_of plan) final.1.0.past left
+  abbrev pub sound : IsSound floor final.1.0.past left
   sound = final.1.0.sound
 
-  abbrev pub represents : Represents plan b left
+  abbrev pub represents : Represents floor b left
   represents = final.1.0.represents
 
   keeper : keeper_in b.views ≡ v
@@ -157,36 +157,36 @@ module _ (plan : Plan) (v : Knowledge) (ws : List ℕ) (xs : List Slot) (final :
   gathered : (keeper_in b.views).gathered ≡ v.gathered
   gathered = ap (λ (k : Knowledge). k.gathered) keeper
 
-  all_made : ((keeper_in b.views).made ≡ length plan.threads) × (total live b.views ≡ 0)
+  all_made : ((keeper_in b.views).made ≡ length floor.threads) × (total live b.views ≡ 0)
   all_made = let n = ap length gathered in let seats = represents.seats in (omega (arith, n, all, seats.counted, seats.few), omega (arith, n, all, seats.counted, seats.few))
 
   nobody : (t : ℕ) → (thread_in b.views t).role ≢ OfThread
   nobody t e = let p = live_at b.views (suc t) in let q : live (thread_in b.views t) ≡ 1 = ap one_thread e in omega (arith, p, q, all_made.1)
 
-  free : (j : ℕ) → j < slots_for plan → turn_word b.words j ≡ 0
+  free : (j : ℕ) → j < slots_for floor → turn_word b.words j ≡ 0
   free j low = go (turn_word b.words j) refl
     where
       go : (n : ℕ) → turn_word b.words j ≡ n → n ≡ 0
       go zero e = refl
       go (suc t) e = absurd (some-ne-none (represents.content j) (sym (represents.shelves.away j t low e) ∙ ap (found j) (represents.seats.none_out t (nobody t))))
 
-  in_place : (j : ℕ) → j < slots_for plan → get_elem? xs j ≡ some (represents.content j)
+  in_place : (j : ℕ) → j < slots_for floor → get_elem? xs j ≡ some (represents.content j)
   in_place j low = final.4 j (represents.content j) (or_at b.homes j none (omega (arith, low, represents.sizes.slots)) ∙ ap some (represents.shelves.at_home j low (free j low)))
 
-  pub record_home : (t : ℕ) → t < length plan.threads → (b : Box ThreadRec Global) × (get_elem? xs t ≡ some (Recorded b)) × RepresentsRecord b.value (record_in left t)
+  pub record_home : (t : ℕ) → t < length floor.threads → (b : Box ThreadRec Global) × (get_elem? xs t ≡ some (Recorded b)) × RepresentsRecord b.value (record_in left t)
   record_home t low =
-      let place = record_at plan t low in
+      let place = record_at floor t low in
       let p = record_there left t (represents.content t) (represents.objects.each (RecordOf t) t place) in
-      (p.0, in_place t (place_low plan (RecordOf t) t place) ∙ ap some p.1, p.2)
+      (p.0, in_place t (place_low floor (RecordOf t) t place) ∙ ap some p.1, p.2)
 
-  pub cell_home : (i : ℕ) (d : ℕ × ℕ) → i < length (cells_of plan) → get_elem? xs (length plan.threads + i) ≡ some (Cell (left.table (get_or (cells_of plan) i d).0 (get_or (cells_of plan) i d).1))
+  pub cell_home : (i : ℕ) (d : ℕ × ℕ) → i < length floor.keys → get_elem? xs (length floor.threads + i) ≡ some (Cell (left.table (get_or floor.keys i d).0 (get_or floor.keys i d).1))
   cell_home i d low =
-      let x : ℕ × ℕ = get_or (cells_of plan) i d in
-      let j : ℕ = length plan.threads + i in
-      let place = cell_at plan i d low in
-      in_place j (place_low plan (CellOf x.0 x.1) j place) ∙ ap some (cell_there left x.0 x.1 (represents.content j) (represents.objects.each (CellOf x.0 x.1) j place))
+      let x : ℕ × ℕ = get_or floor.keys i d in
+      let j : ℕ = length floor.threads + i in
+      let place = cell_at floor represents.sizes.sized i d low in
+      in_place j (place_low floor (CellOf x.0 x.1) j place) ∙ ap some (cell_there left x.0 x.1 (represents.content j) (represents.objects.each (CellOf x.0 x.1) j place))
 
-  pub places : length xs ≡ slots_for plan
+  pub places : length xs ≡ slots_for floor
   places = sym final.3 ∙ represents.sizes.slots
 
   -- 4. Logs
@@ -194,24 +194,24 @@ module _ (plan : Plan) (v : Knowledge) (ws : List ℕ) (xs : List Slot) (final :
   taken_in : All (λ g. IsTakenIn b.views left g.0 g.1) v.gathered
   taken_in = subst (All (λ g. IsTakenIn b.views left g.0 g.1)) gathered represents.seats.taken_in
 
-  below : All (λ (g : ℕ × Share). g.0 < length plan.threads) v.gathered
+  below : All (λ (g : ℕ × Share). g.0 < length floor.threads) v.gathered
   below i d low = let h = taken_in i d low in subst (λ n. (get_or v.gathered i d).0 < n) all_made.0 h.made
 
-  named : (t : ℕ) → t < length plan.threads → list_any (λ (g : ℕ × Share). g.0 == t) v.gathered ≡ true
+  named : (t : ℕ) → t < length floor.threads → list_any (λ (g : ℕ × Share). g.0 == t) v.gathered ≡ true
   named t low = subst (λ gs. list_any (λ (g : ℕ × Share). g.0 == t) gs ≡ true) gathered (represents.seats.each t (subst (λ n. t < n) (sym all_made.0) low) (nobody t))
 
   pub once : (t : ℕ) → times t (map (λ g. g.0) v.gathered) ≤ 1
-  once = stands_once (λ (g : ℕ × Share). g.0) (length plan.threads) v.gathered all below named
+  once = stands_once (λ (g : ℕ × Share). g.0) (length floor.threads) v.gathered all below named
 
   its_log : (t : ℕ) (x : Share) → IsTakenIn b.views left t x → x.log ≡ entries_of left.history t
   unfolding LogsAreParts
-  its_log t x h = ap (λ (y : ShareColumns). y.log) h.share.columns ∙ sound.floor.lawful.books.logs_are_parts t
+  its_log t x h = ap (λ (y : ShareColumns). y.log) h.share.columns ∙ sound.facts.lawful.books.logs_are_parts t
 
   pub no_other : (t : ℕ) → entries_of left.history t ≢ [] → times t (map (λ g. g.0) v.gathered) ≡ 1
   unfolding LogsAreParts
-  no_other t some_entry = elim (cases_lt t (length plan.threads)) [
-    | inl low ↦ stands_there (λ (g : ℕ × Share). g.0) (length plan.threads) v.gathered all below named t low
-    | inr past ↦ absurd (some_entry (sym (sound.floor.lawful.books.logs_are_parts t) ∙ ap (λ (y : ShareColumns). y.log) (represents.seats.unmade t (subst (λ n. n ≤ t) (sym all_made.0) past))))
+  no_other t some_entry = elim (cases_lt t (length floor.threads)) [
+    | inl low ↦ stands_there (λ (g : ℕ × Share). g.0) (length floor.threads) v.gathered all below named t low
+    | inr past ↦ absurd (some_entry (sym (sound.facts.lawful.books.logs_are_parts t) ∙ ap (λ (y : ShareColumns). y.log) (represents.seats.unmade t (subst (λ n. n ≤ t) (sym all_made.0) past))))
   ]
 
   pub parts : map (λ g. reverse g.1.log) v.gathered ≡ map (λ t. reverse (entries_of left.history t)) (map (λ g. g.0) v.gathered)

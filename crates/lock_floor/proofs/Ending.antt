@@ -11,17 +11,16 @@ use Rattle.lock_history.proofs.Places.{place_total, place_exact}
 use Rattle.sleep_laws.proofs.LegalSoFar.{legal_so_far, may_halt}
 use Rattle.sleep_laws.specs.Sleepers.{by_chain}
 use Rattle.lock_model.specs.History.{value_at, tables_of}
-use Rattle.lock_model.specs.Plans.{config_of}
-use Rattle.lock_model.specs.declared.plan.Plan.{Plan}
 use Rattle.lock_objects.specs.Represents.{RecordColumns, RepresentsRecord, record_in, columns_of}
 use Rattle.lock_state.specs.Facts.{TablesReplay, NextIsNew}
 use Rattle.lock_state.specs.State.{State}
 use Rattle.thread_records.specs.declared.record.ThreadRec.{ThreadRec}
+use Rattle.floor_table.specs.Descriptions.{config_in}
+use Rattle.floor_table.specs.declared.description.Description.{Description}
 use Rattle.floor_table.specs.declared.slot.Slot.{Slot}
 use Rattle.floor_table.specs.declared.slot.Slot.TheVariants.{Record as Recorded, Cell}
-use Rattle.floor_table.specs.Places.{cells_of, is_cell}
+use Rattle.floor_table.specs.Places.{is_cell}
 use Rattle.floor_table.specs.Rule.{FloorHolds}
-use Rattle.floor_table.specs.Past.{chains}
 use Rattle.floor_table.specs.Views.{Knowledge}
 use Rattle.lock_floor.specs.Closings.{IsClosing}
 use Rattle.lock_floor.specs.declared.closing.Closing.{Closing}
@@ -37,72 +36,73 @@ unfolding recorded
 same_record b c e = ap (λ x. recorded x b) (some-injective (Recorded b) (Recorded c) e)
 
 -- the last table, of which the keeper's seat, the first, tells
-pub last : (plan : Plan) (v : Knowledge) (i : ℕ) (ws : List ℕ) (xs : List Slot) → i ≡ 0 → Final (Seen (FloorHolds plan) i v) ws xs → Final (Seen (FloorHolds plan) 0 v) ws xs
-last plan v i ws xs first final = subst (λ k. Final (Seen (FloorHolds plan) k v) ws xs) first final
+pub last : (floor : Description) (v : Knowledge) (i : ℕ) (ws : List ℕ) (xs : List Slot) → i ≡ 0 → Final (Seen (FloorHolds floor) i v) ws xs → Final (Seen (FloorHolds floor) 0 v) ws xs
+last floor v i ws xs first final = subst (λ k. Final (Seen (FloorHolds floor) k v) ws xs) first final
 
-module _ (plan : Plan) (v : Knowledge) (ws : List ℕ) (xs : List Slot) (final : Final (Seen (FloorHolds plan) 0 v) ws xs) (all : length v.gathered ≡ length plan.threads) where
+module _ (floor : Description) (v : Knowledge) (ws : List ℕ) (xs : List Slot) (final : Final (Seen (FloorHolds floor) 0 v) ws xs) (all : length v.gathered ≡ length floor.threads) where
   abbrev s : State
-  s = closed.left plan v ws xs final all
+  s = closed.left floor v ws xs final all
 
   -- the cells are in their places, however these are written
-  pub cells_out : (threads : ℕ) (keys : List (ℕ × ℕ)) (ys : List Slot) → threads ≡ length plan.threads → keys ≡ cells_of plan → ys ≡ xs
+  pub cells_out : (threads : ℕ) (keys : List (ℕ × ℕ)) (ys : List Slot) → threads ≡ length floor.threads → keys ≡ floor.keys → ys ≡ xs
       → (i : ℕ) (d : ℕ × ℕ) → i < length keys → get_elem? ys (threads + i) ≡ some (Cell (s.table (get_or keys i d).0 (get_or keys i d).1))
   cells_out threads keys ys same_threads same_keys same_items =
       subst (λ (z : ℕ × List (ℕ × ℕ) × List Slot). (i : ℕ) (d : ℕ × ℕ) → i < length z.1 → get_elem? z.2 (z.0 + i) ≡ some (Cell (s.table (get_or z.1 i d).0 (get_or z.1 i d).1)))
-      (λ j. (sym same_threads j, sym same_keys j, sym same_items j)) (closed.cell_home plan v ws xs final all)
+      (λ j. (sym same_threads j, sym same_keys j, sym same_items j)) (closed.cell_home floor v ws xs final all)
 
   -- what the records, the tables and the logs have then
   pub record HasAll (x : Closing) : Type 0 where
     pub logs : map (λ b. b.entries) x.logs.items ≡ map (λ g. reverse g.1.log) v.gathered
-    pub count : length x.recs.items ≡ length plan.threads
-    pub records : (t : ℕ) (d : Box ThreadRec Global) → t < length plan.threads → get_elem? xs t ≡ some (Recorded (get_or x.recs.items t d))
-    pub values : (l key : ℕ) → get x.tables.present (l, key) ≡ cond (list_any (is_cell l key) (cells_of plan)) (s.table l key) None
+    pub count : length x.recs.items ≡ length floor.threads
+    pub records : (t : ℕ) (d : Box ThreadRec Global) → t < length floor.threads → get_elem? xs t ≡ some (Recorded (get_or x.recs.items t d))
+    pub values : (l key : ℕ) → get x.tables.present (l, key) ≡ cond (list_any (is_cell l key) floor.keys) (s.table l key) None
     pub going : x.halted ≡ false
 
   module _ (x : Closing) (h : HasAll x) where
-    its_record : (t : ℕ) (d : Box ThreadRec Global) → t < length plan.threads → RepresentsRecord (get_or x.recs.items t d).value (record_in s t)
+    its_record : (t : ℕ) (d : Box ThreadRec Global) → t < length floor.threads → RepresentsRecord (get_or x.recs.items t d).value (record_in s t)
     its_record t d low =
-        let p = closed.record_home plan v ws xs final all t low in
+        let p = closed.record_home floor v ws xs final all t low in
         let same : p.0 ≡ get_or x.recs.items t d = same_record p.0 (get_or x.recs.items t d) (sym p.1 ∙ h.records t d low) in
         subst (λ (b : Box ThreadRec Global). RepresentsRecord b.value (record_in s t)) same p.2
 
-    value : (l key : ℕ) (b : Bool) → list_any (is_cell l key) (cells_of plan) ≡ b → cond b (s.table l key) None ≡ s.table l key
+    value : (l key : ℕ) (b : Bool) → list_any (is_cell l key) floor.keys ≡ b → cond b (s.table l key) None ≡ s.table l key
     value l key true e = refl
-    value l key false e = sym ((closed.represents plan v ws xs final all).objects.unnamed l key (no_cell plan l key e))
+    value l key false e =
+        sym ((closed.represents floor v ws xs final all).objects.unnamed l key (no_cell floor l key e))
 
     replayed : (q : ℕ × ℕ) → get x.tables.present q ≡ get (tables_of s.history) q
     unfolding TablesReplay value_at
-    replayed q = h.values q.0 q.1 ∙ value q.0 q.1 (list_any (is_cell q.0 q.1) (cells_of plan)) refl ∙ (closed.sound plan v ws xs final all).floor.lawful.books.tables_replay_logs q.0 q.1
+    replayed q = h.values q.0 q.1 ∙ value q.0 q.1 (list_any (is_cell q.0 q.1) floor.keys) refl ∙ (closed.sound floor v ws xs final all).facts.lawful.books.tables_replay_logs q.0 q.1
 
     few_entries : length s.history < 4294967296
     unfolding NextIsNew
-    few_entries = omega (arith, (closed.sound plan v ws xs final all).floor.lawful.books.next_is_new, (closed.represents plan v ws xs final all).room)
+    few_entries = omega (arith, (closed.sound floor v ws xs final all).facts.lawful.books.next_is_new, (closed.represents floor v ws xs final all).room)
 
-    part_differs : {A : Type 0} (part : RecordColumns → A) → ((t u : ℕ) → t < length plan.threads → u < length plan.threads → part (record_in s t) ≡ part (record_in s u) → t ≡ u)
+    part_differs : {A : Type 0} (part : RecordColumns → A) → ((t u : ℕ) → t < length floor.threads → u < length floor.threads → part (record_in s t) ≡ part (record_in s u) → t ≡ u)
         → (t u : ℕ) (d : Box ThreadRec Global) → t < length x.recs.items → u < length x.recs.items → part (columns_of (get_or x.recs.items t d).value) ≡ part (columns_of (get_or x.recs.items u d).value) → t ≡ u
     part_differs part apart t u d i j e =
-        let i' : t < length plan.threads = omega (arith, i, h.count) in
-        let j' : u < length plan.threads = omega (arith, j, h.count) in
+        let i' : t < length floor.threads = omega (arith, i, h.count) in
+        let j' : u < length floor.threads = omega (arith, j, h.count) in
         apart t u i' j' (ap part (sym (its_record t d i').columns) ∙ e ∙ ap part (its_record u d j').columns)
 
-    pub is_closing : IsClosing plan (map (λ g. g.0) v.gathered) x
+    pub is_closing : IsClosing floor (map (λ g. g.0) v.gathered) x
     is_closing =
-        let sound = closed.sound plan v ws xs final all in
-        let begun = (closed.represents plan v ws xs final all).begun in
+        let sound = closed.sound floor v ws xs final all in
+        let still = (closed.represents floor v ws xs final all).to_come in
         record {
           history = s.history;
           logs = record {
-            parts = h.logs ∙ closed.parts plan v ws xs final all;
-            once = closed.once plan v ws xs final all;
-            no_other = closed.no_other plan v ws xs final all;
+            parts = h.logs ∙ closed.parts floor v ws xs final all;
+            once = closed.once floor v ws xs final all;
+            no_other = closed.no_other floor v ws xs final all;
           };
-          legal = legal_so_far (by_chain chains s) (config_of plan) s true sound.floor.lawful sound.sleepers (may_halt s.history);
+          legal = legal_so_far (by_chain floor.chains s) (config_in floor) s true sound.facts.lawful sound.sleepers (may_halt s.history);
           no_refusal = sound.no_refusal.in_history;
           few = few_entries;
           count = h.count;
-          home = λ t d low. closed.home_of plan s sound begun t (get_or x.recs.items t d).value (its_record t d low);
-          turnstiles_differ = part_differs (λ r. r.turnstile) (closed.turnstiles_differ plan s sound begun);
-          sleep_queues_differ = part_differs (λ r. r.sleep_queue) (closed.sleep_queues_differ plan s sound begun);
+          home = λ t d low. closed.home_of floor s sound still t (get_or x.recs.items t d).value (its_record t d low);
+          turnstiles_differ = part_differs (λ r. r.turnstile) (closed.turnstiles_differ floor s sound still);
+          sleep_queues_differ = part_differs (λ r. r.sleep_queue) (closed.sleep_queues_differ floor s sound still);
           tables = same_map place_total place_exact x.tables.present (tables_of s.history) replayed;
           halted = h.going;
         }

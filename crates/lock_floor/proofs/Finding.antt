@@ -1,12 +1,11 @@
 -- A look finds the word that the lock has in the state to which all steps before it lead.
 use Rattle.std.proofs.Common.{◌≡◌, ℕ, Bool, Some, List, [], ◌∷◌, refl, sym, ap, ◌∙◌, subst}
 use Rattle.lock_laws.proofs.Kit.{put_same}
-use Rattle.lock_model.specs.Config.{Config}
-use Rattle.lock_model.specs.Plans.{config_of}
-use Rattle.lock_model.specs.declared.plan.Plan.{Plan}
 use Rattle.lock_state.specs.State.{State}
 use Rattle.lock_state.specs.Steps.{Step, Looks, after}
 use Rattle.lock_state.specs.Steps.LockWords.{after_look}
+use Rattle.floor_table.specs.Descriptions.{config_in}
+use Rattle.floor_table.specs.declared.description.Description.{Description}
 use Rattle.floor_table.specs.Past.{LeadsTo, none, more}
 use Rattle.floor_table.specs.Represents.{RepresentsShare}
 use Rattle.floor_table.specs.Shares.{ShareColumns}
@@ -16,16 +15,16 @@ use Rattle.floor_table.proofs.Sound.{sound_kept}
 
 -- 1. Steps lead to one state
 
-one_state : (c : Config) {past : List Step} {s n : State} → LeadsTo c past s → LeadsTo c past n → s ≡ n
-one_state c none none = refl
-one_state c (more step r p) (more again q k) = ap (λ x. after c x step) (one_state c r q)
+one_state : (floor : Description) {past : List Step} {s n : State} → LeadsTo floor past s → LeadsTo floor past n → s ≡ n
+one_state floor none none = refl
+one_state floor (more step r p) (more again q k) = ap (λ x. after (config_in floor) x step) (one_state floor r q)
 
-pub same_state : (plan : Plan) (steps others : List Step) (u v x y : Knowledge) (m : Makes plan steps u v) (k : Makes plan others x y) → m.past ≡ k.past → m.state ≡ k.state
-same_state plan steps others u v x y m k e = one_state (config_of plan) (subst (λ past. LeadsTo (config_of plan) past m.state) e m.sound.reached) k.sound.reached
+pub same_state : (floor : Description) (steps others : List Step) (u v x y : Knowledge) (m : Makes floor steps u v) (k : Makes floor others x y) → m.past ≡ k.past → m.state ≡ k.state
+same_state floor steps others u v x y m k e = one_state floor (subst (λ past. LeadsTo floor past m.state) e m.sound.reached) k.sound.reached
 
 -- 2. What a look finds
 
-module _ (plan : Plan) (l : ℕ) (counts : Bool) (old new : Knowledge) (m : Makes plan (Looks old.thread l counts ∷ []) old new) where
+module _ (floor : Description) (l : ℕ) (counts : Bool) (old new : Knowledge) (m : Makes floor (Looks old.thread l counts ∷ []) old new) where
   abbrev n : State
   n = after_look m.state old.thread l counts
 
@@ -36,18 +35,18 @@ module _ (plan : Plan) (l : ℕ) (counts : Bool) (old new : Knowledge) (m : Make
       let share : RepresentsShare new.share n old.thread = subst (λ (k : Knowledge). RepresentsShare k.share n old.thread) m.is its.share in
       ap (λ (x : ShareColumns). x.doing.last_look) share.columns ∙ put_same m.state.last_look old.thread (Some (record { lock = l; word = m.state.word l }))
 
-  behind : IsSound (config_of plan) (Looks old.thread l counts ∷ m.past) n
+  behind : IsSound floor (Looks old.thread l counts ∷ m.past) n
   behind =
       let steps : List Step = Looks old.thread l counts ∷ [] in
-      sound_kept (config_of plan) m.state steps (λ u k j e. absurd cc, tt) m.may m.sound
+      sound_kept floor m.state steps (λ u k j e. absurd cc, tt) m.may m.sound
 
   -- a look leaves the words, so one right behind it finds the same
-  pub finds_it_again : (again : Bool) (last : Knowledge) (k : Makes plan (Looks new.thread l again ∷ []) new last) → k.past ≡ new.seen → k.state.word l ≡ m.state.word l
+  pub finds_it_again : (again : Bool) (last : Knowledge) (k : Makes floor (Looks new.thread l again ∷ []) new last) → k.past ≡ new.seen → k.state.word l ≡ m.state.word l
   unfolding after_look
   finds_it_again again last k e =
-      let reached : LeadsTo (config_of plan) (Looks old.thread l counts ∷ m.past) k.state = subst (λ past. LeadsTo (config_of plan) past k.state) (e ∙ m.seen) k.sound.reached in
-      ap (λ (s : State). s.word l) (one_state (config_of plan) reached behind.reached)
+      let reached : LeadsTo floor (Looks old.thread l counts ∷ m.past) k.state = subst (λ past. LeadsTo floor past k.state) (e ∙ m.seen) k.sound.reached in
+      ap (λ (s : State). s.word l) (one_state floor reached behind.reached)
 
-pub same_look : (plan : Plan) (l : ℕ) (first second : Bool) (u v w : Knowledge) (m : Makes plan (Looks u.thread l first ∷ []) u v) (k : Makes plan (Looks v.thread l second ∷ []) v w) → k.past ≡ v.seen → w.share.doing.last_look ≡ v.share.doing.last_look
-same_look plan l first second u v w m k e =
-    finds_word plan l second v w k ∙ ap (λ y. Some (record { lock = l; word = y })) (finds_it_again plan l first u v m second w k e) ∙ sym (finds_word plan l first u v m)
+pub same_look : (floor : Description) (l : ℕ) (first second : Bool) (u v w : Knowledge) (m : Makes floor (Looks u.thread l first ∷ []) u v) (k : Makes floor (Looks v.thread l second ∷ []) v w) → k.past ≡ v.seen → w.share.doing.last_look ≡ v.share.doing.last_look
+same_look floor l first second u v w m k e =
+    finds_word floor l second v w k ∙ ap (λ y. Some (record { lock = l; word = y })) (finds_it_again floor l first u v m second w k e) ∙ sym (finds_word floor l first u v m)

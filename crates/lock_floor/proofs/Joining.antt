@@ -9,9 +9,9 @@ use Rattle.std.specs.List.{All, list_any}
 use mathlib.Core.Option.{some, some-injective}
 use lib.ListN.{get_elem?}
 use Rattle.atomic_table.specs.Table.{Me, Joins, Allows, keeps, stepped}
-use Rattle.lock_model.specs.declared.plan.Plan.{Plan}
 use Rattle.lock_state.specs.State.{State}
 use Rattle.lock_state.specs.Steps.{Step}
+use Rattle.floor_table.specs.declared.description.Description.{Description}
 use Rattle.floor_table.specs.declared.slot.Slot.{Slot}
 use Rattle.floor_table.specs.Past.{IsSeen, IsSeenBy, AreSeen}
 use Rattle.floor_table.specs.Places.{spot, ticket_line, slots_for, turn_word, home_at}
@@ -26,7 +26,7 @@ use Rattle.lock_floor.specs.Views.{longer, with_pass_taken}
 
 -- 1. A pass fewer
 
-module _ (plan : Plan) (b : Board) (s : State) (r : Represents plan b s) (v w : Knowledge) (t : ℕ) (at : get_elem? b.views 0 ≡ some v) (there : get_elem? (set b.views 0 (with_pass_taken v w)) (suc t) ≡ some w) (was : w.role ≡ OfThread) (rest : w.out ≡ []) where
+module _ (floor : Description) (b : Board) (s : State) (r : Represents floor b s) (v w : Knowledge) (t : ℕ) (at : get_elem? b.views 0 ≡ some v) (there : get_elem? (set b.views 0 (with_pass_taken v w)) (suc t) ≡ some w) (was : w.role ≡ OfThread) (rest : w.out ≡ []) where
   abbrev vs : List Knowledge
   vs = b.views
 
@@ -112,11 +112,11 @@ module _ (plan : Plan) (b : Board) (s : State) (r : Represents plan b s) (v w : 
       or_true true = refl
       or_true false = refl
 
-  seats_joined : RepresentsSeats plan new s
+  seats_joined : RepresentsSeats floor new s
   seats_joined = record {
     keeper = ap (λ (k : Knowledge). k.role) new_keeper ∙ sym (ap (λ (k : Knowledge). k.role) old_keeper) ∙ r.seats.keeper;
     made = length-set between (suc t) nothing ∙ length-set vs 0 both ∙ r.seats.made ∙ ap suc (sym same_made);
-    few = subst (λ n. n ≤ length plan.threads) (sym same_made) r.seats.few;
+    few = subst (λ n. n ≤ length floor.threads) (sym same_made) r.seats.few;
     thread = λ u e. let p = was_thread u e in subst (λ (k : Knowledge). IsSeatOf k s u) (sym (others_stay u p.0)) (r.seats.thread u p.1);
     unmade = λ u past. r.seats.unmade u (subst (λ n. n ≤ u) same_made past);
     taken_in = subst (All (λ g. IsTakenIn new s g.0 g.1)) (sym more) all_taken;
@@ -133,9 +133,9 @@ module _ (plan : Plan) (b : Board) (s : State) (r : Represents plan b s) (v w : 
         omega (arith, first, second, one, n, same_made, r.seats.counted);
   }
 
-  represents_joined : Represents plan (record { words = b.words; homes = b.homes; views = new }) s
+  represents_joined : Represents floor (record { words = b.words; homes = b.homes; views = new }) s
   represents_joined = record {
-    sizes = record { words = r.sizes.words; slots = r.sizes.slots; few_locks = r.sizes.few_locks; few_threads = r.sizes.few_threads };
+    sizes = record { words = r.sizes.words; slots = r.sizes.slots; sized = r.sizes.sized };
     locks = r.locks;
     ticket = r.ticket;
     room =
@@ -144,10 +144,10 @@ module _ (plan : Plan) (b : Board) (s : State) (r : Represents plan b s) (v w : 
         omega (arith, first, second, r.room);
     turns = r.turns;
     content = r.content;
-    shelves = subst (λ o. Shelves (slots_for plan) (turn_word b.words) (home_at b.homes) o r.content) (λ i u. sym (field_stays (λ (k : Knowledge). k.out) (sym rest) u) i) r.shelves;
+    shelves = subst (λ o. Shelves (slots_for floor) (turn_word b.words) (home_at b.homes) o r.content) (λ i u. sym (field_stays (λ (k : Knowledge). k.out) (sym rest) u) i) r.shelves;
     objects = r.objects;
     seats = seats_joined;
-    begun = r.begun;
+    to_come = r.to_come;
   }
 
   -- what the two have seen is of the one list, and so is the longer
@@ -168,17 +168,17 @@ module _ (plan : Plan) (b : Board) (s : State) (r : Represents plan b s) (v w : 
         unmade = λ u after. h.unmade u (subst (λ n. n ≤ u) same_made after);
       }
 
-pub joins : (plan : Plan) (v : Knowledge) (i : ℕ) (w : Knowledge) → w.role ≡ OfThread → w.out ≡ [] → Joins (FloorHolds plan) 0 v i w (with_pass_taken v w) nothing
-joins plan v zero w was rest b holds at apart there = absurd (apart refl)
-joins plan v (suc t) w was rest b holds at apart there = record {
+pub joins : (floor : Description) (v : Knowledge) (i : ℕ) (w : Knowledge) → w.role ≡ OfThread → w.out ≡ [] → Joins (FloorHolds floor) 0 v i w (with_pass_taken v w) nothing
+joins floor v zero w was rest b holds at apart there = absurd (apart refl)
+joins floor v (suc t) w was rest b holds at apart there = record {
   past = holds.past;
   state = holds.state;
   sound = holds.sound;
-  represents = represents_joined plan b holds.state holds.represents v w t at there was rest;
-  seen = seen_joined plan b holds.state holds.represents v w t at there was rest holds.past holds.seen;
+  represents = represents_joined floor b holds.state holds.represents v w t at there was rest;
+  seen = seen_joined floor b holds.state holds.represents v w t at there was rest holds.past holds.seen;
 }
 
--- 2. No more passes are taken in than the plan has threads
+-- 2. No more passes are taken in than the floor has threads
 
 -- a step that changes no word and no view changes nothing
 view_again : {A : Type 0} (xs : List A) (i : ℕ) (x : A) → get_elem? xs i ≡ some x → set xs i x ≡ xs
@@ -190,15 +190,15 @@ nothing_stepped : (b : Board) (i id : ℕ) (cs : List (ℕ × Slot)) (v : Knowle
 nothing_stepped b i id cs v at = λ k. record { words = set-get_or b.words i 0 k; homes = b.homes; views = view_again b.views id v at k }
 
 -- what a read tells
-abbrev pub Asked : Plan → Me Slot Knowledge → ℕ → Me Slot Knowledge → Type 0
-Asked plan me found behind = (behind ≡ me) × (length me.0.gathered ≤ length plan.threads)
+abbrev pub Asked : Description → Me Slot Knowledge → ℕ → Me Slot Knowledge → Type 0
+Asked floor me found behind = (behind ≡ me) × (length me.0.gathered ≤ length floor.threads)
 
-pub ask_allowed : (plan : Plan) (slots : ℕ) (me : Me Slot Knowledge) → Allows (FloorHolds plan) slots 0 me (spot ticket_line) (λ n. n) (Asked plan me)
-ask_allowed plan slots me b holds deep at small = (
+pub ask_allowed : (floor : Description) (slots : ℕ) (me : Me Slot Knowledge) → Allows (FloorHolds floor) slots 0 me (spot ticket_line) (λ n. n) (Asked floor me)
+ask_allowed floor slots me b holds deep at small = (
   me.0,
   keeps,
   tt,
-  subst (FloorHolds plan) (sym (nothing_stepped b (spot ticket_line) 0 me.1 me.0 at)) holds,
+  subst (FloorHolds floor) (sym (nothing_stepped b (spot ticket_line) 0 me.1 me.0 at)) holds,
   (
     refl,
     let seats = holds.represents.seats in

@@ -9,16 +9,15 @@ use lib.ListN.{get_elem?}
 use Rattle.std.specs.List.{list_any}
 use mathlib.Core.Option.{some, some-ne-none}
 use Rattle.atomic_table.specs.Table.{opening, Splits}
-use Rattle.lock_model.specs.Plans.{config_of, declared_base}
-use Rattle.lock_model.specs.declared.plan.Plan.{Plan}
-use Rattle.lock_model.specs.declared.plan.ThreadDecl.{ThreadDecl}
-use Rattle.lock_model.specs.Operations.{IsProper}
 use Rattle.lock_model.specs.Words.{word_of}
 use Rattle.lock_objects.specs.Represents.{RepresentsRecord}
 use Rattle.lock_state.specs.State.{State, start_state}
 use Rattle.lock_state.specs.Steps.{Step}
 use Rattle.lock_state.specs.Steps.Items.{Item, TurnstileChain, SleepChain, RecordOf, CellOf, ClassGraph, item_with}
 use Rattle.thread_records.specs.Records.{Record, made}
+use Rattle.floor_table.specs.Descriptions.{config_in, room_for, room_in_all, IsSized}
+use Rattle.floor_table.specs.declared.description.Description.{Description}
+use Rattle.floor_table.specs.declared.description.ThreadPart.{ThreadPart}
 use Rattle.floor_table.specs.declared.slot.Slot.{Slot}
 use Rattle.floor_table.specs.declared.slot.Slot.TheVariants.{Record as Recorded, Cell}
 use Rattle.lock_state.specs.Steps.{maker}
@@ -26,7 +25,7 @@ use Rattle.floor_table.specs.Past.{IsSeen, IsSeenBy, AreSeen}
 use Rattle.floor_table.specs.Places.{spot, turn_line, ticket_line, words_for, slots_for, slot_of, taker, turn_word, lock_word, home_at}
 use Rattle.floor_table.specs.Shares.{Share}
 use Rattle.floor_table.specs.Shelves.{Shelves}
-use Rattle.floor_table.specs.Views.{OfThread, OfNobody, Knowledge, nothing, room_of, room_for, room_in_all, keeper}
+use Rattle.floor_table.specs.Views.{OfThread, OfNobody, Knowledge, nothing, keeper}
 use Rattle.floor_table.specs.Represents.{Board, RepresentsLocks, RepresentsTurns, taken_from, RepresentsObjects, IsOf, objects_in, seat, keeper_in, thread_in, total, spare, live, IsSeatOf, IsTakenIn, RepresentsSeats, Represents}
 use Rattle.floor_table.specs.Rule.{FloorHolds}
 use Rattle.floor_table.proofs.Items.{record_place, cell_place, place_low}
@@ -42,7 +41,7 @@ total_snoc : (f : Knowledge → ℕ) (vs : List Knowledge) (x : Knowledge) → t
 total_snoc f [] x = omega arith
 total_snoc f (v ∷ vs) x = let p = total_snoc f vs x in omega arith
 
-module _ (plan : Plan) (b : Board) (s : State) (r : Represents plan b s) (v : Knowledge) (at : get_elem? b.views 0 ≡ some v) (few : v.made < length plan.threads) (mine : v.plan ≡ plan) where
+module _ (floor : Description) (b : Board) (s : State) (r : Represents floor b s) (v : Knowledge) (at : get_elem? b.views 0 ≡ some v) (few : v.made < length floor.threads) (mine : v.description ≡ floor) where
   abbrev vs : List Knowledge
   vs = b.views
 
@@ -117,7 +116,7 @@ module _ (plan : Plan) (b : Board) (s : State) (r : Represents plan b s) (v : Kn
         share = h.share;
       }
 
-  seats_with : RepresentsSeats plan new s
+  seats_with : RepresentsSeats floor new s
   seats_with = record {
     keeper = ap (λ (k : Knowledge). k.role) new_keeper ∙ sym (ap (λ (k : Knowledge). k.role) old_keeper) ∙ r.seats.keeper;
     made = longer ∙ ap suc (sym new_made);
@@ -141,9 +140,9 @@ module _ (plan : Plan) (b : Board) (s : State) (r : Represents plan b s) (v : Kn
         omega (arith, sums, snoc, n, old_made, new_made, r.seats.counted);
   }
 
-  represents_with : room_for v.plan v.made ≤ v.spare → Represents plan (record { words = b.words; homes = b.homes; views = new }) s
+  represents_with : room_for v.description v.made ≤ v.spare → Represents floor (record { words = b.words; homes = b.homes; views = new }) s
   represents_with fits = record {
-    sizes = record { words = r.sizes.words; slots = r.sizes.slots; few_locks = r.sizes.few_locks; few_threads = r.sizes.few_threads };
+    sizes = record { words = r.sizes.words; slots = r.sizes.slots; sized = r.sizes.sized };
     locks = r.locks;
     ticket = r.ticket;
     room =
@@ -152,10 +151,10 @@ module _ (plan : Plan) (b : Board) (s : State) (r : Represents plan b s) (v : Kn
         omega (arith, sums, snoc, r.room, fits);
     turns = r.turns;
     content = r.content;
-    shelves = subst (λ o. Shelves (slots_for plan) (turn_word b.words) (home_at b.homes) o r.content) (λ i t. sym (field_stays (λ (k : Knowledge). k.out) refl t) i) r.shelves;
+    shelves = subst (λ o. Shelves (slots_for floor) (turn_word b.words) (home_at b.homes) o r.content) (λ i t. sym (field_stays (λ (k : Knowledge). k.out) refl t) i) r.shelves;
     objects = r.objects;
     seats = seats_with;
-    begun = r.begun;
+    to_come = r.to_come;
   }
 
   -- the new pass has seen none of the steps, of which its thread made none
@@ -172,13 +171,13 @@ module _ (plan : Plan) (b : Board) (s : State) (r : Represents plan b s) (v : Kn
     unmade = λ t after. h.unmade t (omega (arith, after, old_made, new_made));
   }
 
-pub forks : (plan : Plan) (v : Knowledge) → v.plan ≡ plan → v.made < length plan.threads → room_for v.plan v.made ≤ v.spare → Splits (FloorHolds plan) 0 v (with_pass_made v) (new_pass v)
-forks plan v mine few fits b holds at = record {
+pub forks : (floor : Description) (v : Knowledge) → v.description ≡ floor → v.made < length floor.threads → room_for v.description v.made ≤ v.spare → Splits (FloorHolds floor) 0 v (with_pass_made v) (new_pass v)
+forks floor v mine few fits b holds at = record {
   past = holds.past;
   state = holds.state;
   sound = holds.sound;
-  represents = represents_with plan b holds.state holds.represents v at few mine fits;
-  seen = seen_with plan b holds.state holds.represents v at few mine holds.past holds.seen;
+  represents = represents_with floor b holds.state holds.represents v at few mine fits;
+  seen = seen_with floor b holds.state holds.represents v at few mine holds.past holds.seen;
 }
 
 -- 2. The start
@@ -197,47 +196,41 @@ alone : (v : Knowledge) (P : Knowledge → Type 0) → P v → P nothing → (i 
 alone v P here there zero = here
 alone v P here there (suc i) = there
 
-none_out : (plan : Plan) (i : Item) → item_with (start_state (config_of plan)) i ≡ None
+none_out : (floor : Description) (i : Item) → item_with (start_state (config_in floor)) i ≡ None
 unfolding start_state
-none_out plan (TurnstileChain j) = refl
-none_out plan (SleepChain j) = refl
-none_out plan (RecordOf t) = refl
-none_out plan (CellOf l j) = refl
-none_out plan ClassGraph = refl
+none_out floor (TurnstileChain j) = refl
+none_out floor (SleepChain j) = refl
+none_out floor (RecordOf t) = refl
+none_out floor (CellOf l j) = refl
+none_out floor ClassGraph = refl
 
 none_taken : (turn : ℕ → ℕ) → ((j : ℕ) → turn j ≡ 0) → (o : Option ℕ) → taken_from turn o ≡ None
 none_taken turn free None = refl
 none_taken turn free (Some j) = ap taker (free j)
 
-module _ (plan : Plan) where
+module _ (floor : Description) where
   abbrev start : State
-  start = start_state (config_of plan)
+  start = start_state (config_in floor)
 
-  first_record : (t : ℕ) (r : Record) → r ≡ made t (declared_base plan t) → RepresentsRecord r ((objects_in start).record_of t)
+  first_record : (t : ℕ) (r : Record) → r ≡ made t ((config_in floor).declared_base t) → RepresentsRecord r ((objects_in start).record_of t)
   unfolding start_state
   first_record t r e = subst (λ r. RepresentsRecord r ((objects_in start).record_of t)) (sym e) record { columns = refl; one_loan_each = λ l. omega arith }
 
-  first_value : (i : Item) (j : ℕ) (x : Slot) → slot_of plan i ≡ Some j → IsFirst plan j x → IsOf (objects_in start) i x
+  first_value : (i : Item) (j : ℕ) (x : Slot) → slot_of floor i ≡ Some j → IsFirst floor j x
+      → IsOf (objects_in start) i x
   unfolding start_state
   first_value (RecordOf t) j (Recorded b) e h =
-      let p = record_place plan t j e in
-      first_record t b.value (subst (λ u. b.value ≡ made u (declared_base plan u)) (sym p.1) h.1)
-  first_value (RecordOf t) j (Cell value) e h = absurd (let p = record_place plan t j e in omega (arith, p.0, p.1, h.0))
-  first_value (CellOf l key) j (Recorded b) e h = absurd (let p = cell_place plan l key j (0, 0) e in omega (arith, p.2, h.0))
+      let p = record_place floor t j e in
+      first_record t b.value (subst (λ u. b.value ≡ made u ((config_in floor).declared_base u)) (sym p.1) h.1)
+  first_value (RecordOf t) j (Cell value) e h =
+      absurd (let p = record_place floor t j e in omega (arith, p.0, p.1, h.0))
+  first_value (CellOf l key) j (Recorded b) e h = absurd (let p = cell_place floor l key j (0, 0) e in omega (arith, p.2, h.0))
   first_value (CellOf l key) j (Cell value) e h = h.1
   first_value (TurnstileChain k) j x e h = absurd cc
   first_value (SleepChain k) j x e h = absurd cc
   first_value ClassGraph j x e h = absurd cc
 
-  small_rooms : (ds : List ThreadDecl) → room_in_all ds ≡ 2 * sum (map (λ (d : ThreadDecl). length d.ops) ds)
-  small_rooms [] = refl
-  small_rooms (d ∷ ds) =
-      let p = small_rooms ds in
-      let rooms = sum_by-cons (λ (n : ℕ). n) (room_of d.ops) (map (λ (e : ThreadDecl). room_of e.ops) ds) in
-      let ops = sum_by-cons (λ (n : ℕ). n) (length d.ops) (map (λ (e : ThreadDecl). length e.ops) ds) in
-      omega (arith, p, rooms, ops)
-
-  first_seats : RepresentsSeats plan (keeper plan ∷ []) start
+  first_seats : RepresentsSeats floor (keeper floor ∷ []) start
   unfolding start_state
   first_seats = record {
     keeper = refl;
@@ -251,25 +244,25 @@ module _ (plan : Plan) where
     counted = refl;
   }
 
-  module _ (xs : List Slot) (proper : IsProper plan) (long : length xs ≡ slots_for plan) (first : (j : ℕ) (d : Slot) → j < length xs → IsFirst plan j (get_or xs j d)) where
+  module _ (xs : List Slot) (sized : IsSized floor) (long : length xs ≡ slots_for floor) (first : (j : ℕ) (d : Slot) → j < length xs → IsFirst floor j (get_or xs j d)) where
     abbrev zeros : List ℕ
-    zeros = replicate (words_for (slots_for plan)) 0
+    zeros = replicate (words_for (slots_for floor)) 0
 
     abbrev opened : Board
-    opened = opening zeros xs (keeper plan)
+    opened = opening zeros xs (keeper floor)
 
     no_word : (i : ℕ) → get_or zeros i 0 ≡ 0
-    no_word i = all_zero (words_for (slots_for plan)) i
+    no_word i = all_zero (words_for (slots_for floor)) i
 
-    free_locks : RepresentsLocks (config_of plan) (lock_word zeros) start.word
+    free_locks : RepresentsLocks (config_in floor) (lock_word zeros) start.word
     unfolding start_state RepresentsLocks
     free_locks = λ l low. ap word_of (no_word (spot l))
 
-    free_turns : RepresentsTurns plan (turn_word zeros) (item_with start)
+    free_turns : RepresentsTurns floor (turn_word zeros) (item_with start)
     unfolding RepresentsTurns
-    free_turns = λ i. none_out plan i ∙ sym (none_taken (turn_word zeros) (λ j. no_word (spot (turn_line j))) (slot_of plan i))
+    free_turns = λ i. none_out floor i ∙ sym (none_taken (turn_word zeros) (λ j. no_word (spot (turn_line j))) (slot_of floor i))
 
-    first_shelves : Shelves (slots_for plan) (turn_word zeros) (home_at (map some xs)) (λ t. (thread_in (keeper plan ∷ []) t).out) (λ j. get_or xs j (Cell None))
+    first_shelves : Shelves (slots_for floor) (turn_word zeros) (home_at (map some xs)) (λ t. (thread_in (keeper floor ∷ []) t).out) (λ j. get_or xs j (Cell None))
     first_shelves = record {
       at_home = λ j low free. all_home xs j (Cell None) (omega (arith, long, low));
       away = λ j t low out. absurd (let z = no_word (spot (turn_line j)) in omega (arith, z, out));
@@ -277,87 +270,71 @@ module _ (plan : Plan) where
       apart = λ t. tt;
     }
 
-    first_objects : RepresentsObjects plan (λ j. get_or xs j (Cell None)) (objects_in start)
+    first_objects : RepresentsObjects floor (λ j. get_or xs j (Cell None)) (objects_in start)
     unfolding start_state
     first_objects = record {
-      each = λ i j place. first_value i j (get_or xs j (Cell None)) place (first j (Cell None) (omega (arith, long, place_low plan i j place)));
+      each = λ i j place. first_value i j (get_or xs j (Cell None)) place (first j (Cell None) (omega (arith, long, place_low floor i j place)));
       unnamed = λ l key e. refl;
     }
 
-    represents_first : Represents plan opened start
+    represents_first : Represents floor opened start
     unfolding start_state
     represents_first = record {
       sizes = record {
-        words = length-replicate {A = ℕ} (words_for (slots_for plan)) 0;
+        words = length-replicate {A = ℕ} (words_for (slots_for floor)) 0;
         slots = length-map xs some ∙ long;
-        few_locks = proper.locks;
-        few_threads = proper.threads;
+        sized = sized;
       };
       locks = free_locks;
       ticket = no_word (spot ticket_line);
-      room = let p = small_rooms plan.threads in omega (arith, p, proper.threads, proper.operations);
+      room = omega (arith, sized.room);
       turns = free_turns;
       content = λ j. get_or xs j (Cell None);
       shelves = first_shelves;
       objects = first_objects;
       seats = first_seats;
-      begun = refl;
+      to_come = refl;
     }
 
-    none_seen : AreSeen (keeper plan ∷ []) []
+    none_seen : AreSeen (keeper floor ∷ []) []
     none_seen = record {
       keeper = record { later = []; is = refl };
       thread = λ t role. absurd (let e : OfNobody ≡ OfThread = role in cc);
       unmade = λ t after. All-nil (λ step. maker step ≢ t);
     }
 
-    pub opens : FloorHolds plan opened
-    opens = record { past = []; state = start; sound = sound_begins (config_of plan); represents = represents_first; seen = none_seen }
+    pub opens : FloorHolds floor opened
+    opens = record { past = []; state = start; sound = sound_begins floor; represents = represents_first; seen = none_seen }
 
 -- 3. Room for the entries of threads
 
 -- of those whose passes are yet to come
-abbrev pub rooms_from : Plan → ℕ → ℕ
-rooms_from plan t = room_in_all (drop t plan.threads)
+abbrev pub rooms_from : Description → ℕ → ℕ
+rooms_from floor t = room_in_all (drop t floor.threads)
 
-one_room : (ds : List ThreadDecl) (t : ℕ) (d : ThreadDecl) → t < length ds → room_in_all (drop t ds) ≡ room_of (get_or ds t d).ops + room_in_all (drop (suc t) ds)
+one_room : (xs : List ThreadPart) (t : ℕ) (d : ThreadPart) → t < length xs → room_in_all (drop t xs) ≡ (get_or xs t d).room + room_in_all (drop (suc t) xs)
 one_room [] t d h = absurd (omega arith)
-one_room (x ∷ xs) zero d h = sum_by-cons (λ (n : ℕ). n) (room_of x.ops) (map (λ (e : ThreadDecl). room_of e.ops) xs)
+one_room (x ∷ xs) zero d h = sum_by-cons (λ (n : ℕ). n) x.room (map (λ (y : ThreadPart). y.room) xs)
 one_room (x ∷ xs) (suc t) d h = one_room xs t d (omega arith)
 
-its_operations : (ds : List ThreadDecl) (t : ℕ) (d : ThreadDecl) → t < length ds → unwrap_or (slice_get (map (λ (e : ThreadDecl). e.ops) ds) t) [] ≡ (get_or ds t d).ops
-its_operations [] t d h = absurd (omega arith)
-its_operations (x ∷ xs) zero d h = refl
-its_operations (x ∷ xs) (suc t) d h = its_operations xs t d (omega arith)
-
-fewer_rooms : (ds : List ThreadDecl) (t : ℕ) → room_in_all (drop t ds) ≤ room_in_all ds
-fewer_rooms [] zero = omega arith
-fewer_rooms [] (suc t) = omega arith
-fewer_rooms (x ∷ xs) zero = omega arith
-fewer_rooms (x ∷ xs) (suc t) =
-    let p = fewer_rooms xs t in
-    let q = sum_by-cons (λ (n : ℕ). n) (room_of x.ops) (map (λ (e : ThreadDecl). room_of e.ops) xs) in
-    omega (arith, p, q)
+its_room : (xs : List ThreadPart) (t : ℕ) (d : ThreadPart) → t < length xs → unwrap_or (slice_get (map (λ (y : ThreadPart). y.room) xs) t) 0 ≡ (get_or xs t d).room
+its_room [] t d h = absurd (omega arith)
+its_room (x ∷ xs) zero d h = refl
+its_room (x ∷ xs) (suc t) d h = its_room xs t d (omega arith)
 
 -- what a pass more takes of it
-pub next_room : (plan : Plan) (t : ℕ) (d : ThreadDecl) → t < length plan.threads → (rooms_from plan t ≡ room_for plan t + rooms_from plan (suc t)) × (room_for plan t ≡ room_of (get_or plan.threads t d).ops)
-next_room plan t d h =
-    let ops : room_for plan t ≡ room_of (get_or plan.threads t d).ops = ap room_of (its_operations plan.threads t d h) in
-    (one_room plan.threads t d h ∙ ap (λ n. n + rooms_from plan (suc t)) (sym ops), ops)
-
-pub small_room : (plan : Plan) (t : ℕ) → IsProper plan → rooms_from plan t ≤ 40000
-small_room plan t proper =
-    let p = small_rooms plan plan.threads in
-    let q = fewer_rooms plan.threads t in
-    omega (arith, p, q, proper.threads, proper.operations)
+pub next_room : (floor : Description) (t : ℕ) (d : ThreadPart) → t < length floor.threads → (rooms_from floor t ≡ room_for floor t + rooms_from floor (suc t)) × (room_for floor t ≡ (get_or floor.threads t d).room)
+next_room floor t d h =
+    let room : room_for floor t ≡ (get_or floor.threads t d).room = its_room floor.threads t d h in
+    (one_room floor.threads t d h ∙ ap (λ n. n + rooms_from floor (suc t)) (sym room), room)
 
 -- none is left
-pub no_rooms : (plan : Plan) → rooms_from plan (length plan.threads) ≡ 0
-no_rooms plan = ap room_in_all (drop_all plan.threads)
+pub no_rooms : (floor : Description) → rooms_from floor (length floor.threads) ≡ 0
+no_rooms floor = ap room_in_all (drop_all floor.threads)
   where
-    drop_all : (ds : List ThreadDecl) → drop (length ds) ds ≡ []
+    drop_all : (xs : List ThreadPart) → drop (length xs) xs ≡ []
     drop_all [] = refl
-    drop_all (d ∷ ds) = drop_all ds
+    drop_all (x ∷ xs) = drop_all xs
 
 -- 4. Passes, as they are handed out
 

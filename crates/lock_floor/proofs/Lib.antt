@@ -1,4 +1,3 @@
-pub mod Cells
 pub mod Keeping
 pub mod Joining
 pub mod Emptying

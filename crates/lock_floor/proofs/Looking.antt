@@ -3,12 +3,12 @@
 use Rattle.std.proofs.Common.{◌≡◌, ℕ, ◌<◌, Bool, true, List, [], ◌∷◌, length, refl, sym, ◌∙◌, subst, arith, eq-eqb}
 use Rattle.atomic_table.specs.Table.{Me, keeps, Allows}
 use Rattle.lock_laws.proofs.AtTurn.{well_formed}
-use Rattle.lock_model.specs.Plans.{config_of}
 use Rattle.lock_model.specs.Words.{Word, word_of, IsWellFormed}
-use Rattle.lock_model.specs.declared.plan.Plan.{Plan}
 use Rattle.lock_state.specs.State.{State}
 use Rattle.lock_state.specs.Steps.{Step, Looks, Seeks}
 use Rattle.lock_state.specs.Steps.LockWords.{after_look, after_seek}
+use Rattle.floor_table.specs.Descriptions.{config_in}
+use Rattle.floor_table.specs.declared.description.Description.{Description}
 use Rattle.floor_table.specs.declared.slot.Slot.{Slot}
 use Rattle.floor_table.specs.Past.{past_with}
 use Rattle.floor_table.specs.Places.{spot, lock_line, lock_word}
@@ -22,34 +22,35 @@ use Rattle.lock_floor.specs.Views.{counts, looked, sought}
 use Rattle.lock_floor.proofs.Shares.{look_own, look_others, seek_own, seek_others}
 
 -- what it tells
-abbrev pub Looked : Plan → ℕ → Me Slot Knowledge → ℕ → Me Slot Knowledge → Type 0
-Looked plan l me found behind =
-    IsWellFormed (word_of found) × (behind ≡ (seeing behind.0.seen (looked me.0 l (word_of found)), me.1)) × Makes plan (Looks me.0.thread l (counts me.0 l) ∷ []) me.0 behind.0
+abbrev pub Looked : Description → ℕ → Me Slot Knowledge → ℕ → Me Slot Knowledge → Type 0
+Looked floor l me found behind =
+    IsWellFormed (word_of found) × (behind ≡ (seeing behind.0.seen (looked me.0 l (word_of found)), me.1)) × Makes floor (Looks me.0.thread l (counts me.0 l) ∷ []) me.0 behind.0
 
-abbrev pub Sought : Plan → ℕ → Bool → Me Slot Knowledge → ℕ → Me Slot Knowledge → Type 0
-Sought plan l by_try me found behind =
+abbrev pub Sought : Description → ℕ → Bool → Me Slot Knowledge → ℕ → Me Slot Knowledge → Type 0
+Sought floor l by_try me found behind =
     IsWellFormed (word_of found) × (behind ≡ (seeing behind.0.seen (looked (sought me.0 l by_try) l (word_of found)), me.1))
-    × Makes plan (Seeks me.0.thread l by_try ∷ Looks me.0.thread l true ∷ []) me.0 behind.0
+    × Makes floor (Seeks me.0.thread l by_try ∷ Looks me.0.thread l true ∷ []) me.0 behind.0
 
 -- the word that is found says the lock's column, and is well formed
-pub found_word : (plan : Plan) (b : Board) (v : Knowledge) (h : Finds plan v b) (l : ℕ) → l < length plan.locks → (word_of (lock_word b.words l) ≡ h.state.word l) × IsWellFormed (word_of (lock_word b.words l))
+pub found_word : (floor : Description) (b : Board) (v : Knowledge) (h : Finds floor v b) (l : ℕ) → l < length floor.locks → (word_of (lock_word b.words l) ≡ h.state.word l) × IsWellFormed (word_of (lock_word b.words l))
 unfolding RepresentsLocks
-found_word plan b v h l low =
+found_word floor b v h l low =
     let says : word_of (lock_word b.words l) ≡ h.state.word l = h.represents.locks l low in
-    (says, subst IsWellFormed (sym says) (well_formed (config_of plan) h.state l h.sound.floor.lawful (omega (arith, h.represents.sizes.few_threads))))
+    (says, subst IsWellFormed (sym says) (well_formed (config_in floor) h.state l h.sound.facts.lawful (omega (arith, h.represents.sizes.sized.threads))))
 
-module _ (plan : Plan) (me : Me Slot Knowledge) (l : ℕ) (was : me.0.role ≡ OfThread) (low : l < length plan.locks) where
+module _ (floor : Description) (me : Me Slot Knowledge) (l : ℕ) (was : me.0.role ≡ OfThread)
+    (low : l < length floor.locks) where
   abbrev v : Knowledge
   v = me.0
 
   -- on a table where it may be made
-  pub looks : (b : Board) (h : Finds plan v b) → FitAll (config_of plan) h.state (Looks v.thread l (counts v l) ∷ []) → Steps plan me (spot (lock_line l)) (lock_word b.words l) (lock_word b.words l) (Looked plan l me) b
+  pub looks : (b : Board) (h : Finds floor v b) → FitAll floor h.state (Looks v.thread l (counts v l) ∷ []) → Steps floor me (spot (lock_line l)) (lock_word b.words l) (lock_word b.words l) (Looked floor l me) b
   unfolding after_look
   looks b h may =
       let word : Word = word_of (lock_word b.words l) in
       let step : Step = Looks v.thread l (counts v l) in
       let w : Knowledge = seeing (step ∷ h.past) (looked v l word) in
-      let found = found_word plan b v h l low in
+      let found = found_word floor b v h l low in
       let own : OwnSteps v w h.past (step ∷ []) h.state (after_look h.state v.thread l (counts v l)) = record {
         role = was;
         seen = refl;
@@ -58,11 +59,11 @@ module _ (plan : Plan) (me : Me Slot Knowledge) (l : ℕ) (was : me.0.role ≡ O
         seat = record { thread = refl; share = subst (λ y. RepresentsShare (looked v l y).share (after_look h.state v.thread l (counts v l)) v.thread) (sym found.0) (look_own h.state v h.fits.share l) };
         others = λ u ne. look_others h.state v.thread u ne l (counts v l);
       } in
-      let made = lock_seen plan (step ∷ []) b v w h was may own me.1 l low refl (record { next = refl; items = refl; objects = refl; begun = refl }) refl refl in
+      let made = lock_seen floor (step ∷ []) b v w h was may own me.1 l low refl (record { next = refl; items = refl; objects = refl; to_come = refl }) refl refl in
       (w, keeps, tt, made.0, (found.1, refl, made.1))
 
-  pub look_allowed : (slots id : ℕ) → MayMake plan v (λ s. Unit {0}) (Looks v.thread l (counts v l) ∷ []) → Allows (FloorHolds plan) slots id me (spot (lock_line l)) (λ n. n) (Looked plan l me)
-  look_allowed slots id may = allows plan slots id me (spot (lock_line l)) (λ n. n) (Looked plan l me) was (λ b h small. looks b h (may h.state h.fits tt))
+  pub look_allowed : (slots id : ℕ) → MayMake floor v (λ s. Unit {0}) (Looks v.thread l (counts v l) ∷ []) → Allows (FloorHolds floor) slots id me (spot (lock_line l)) (λ n. n) (Looked floor l me)
+  look_allowed slots id may = allows floor slots id me (spot (lock_line l)) (λ n. n) (Looked floor l me) was (λ b h small. looks b h (may h.state h.fits tt))
 
   -- 2. The first look of an acquiring round
 
@@ -70,7 +71,7 @@ module _ (plan : Plan) (me : Me Slot Knowledge) (l : ℕ) (was : me.0.role ≡ O
     abbrev both : List Step
     both = Seeks v.thread l by_try ∷ Looks v.thread l true ∷ []
 
-    pub first_looks : (b : Board) (h : Finds plan v b) → FitAll (config_of plan) h.state both → Steps plan me (spot (lock_line l)) (lock_word b.words l) (lock_word b.words l) (Sought plan l by_try me) b
+    pub first_looks : (b : Board) (h : Finds floor v b) → FitAll floor h.state both → Steps floor me (spot (lock_line l)) (lock_word b.words l) (lock_word b.words l) (Sought floor l by_try me) b
     unfolding after_look after_seek
     first_looks b h may =
         let word : Word = word_of (lock_word b.words l) in
@@ -78,7 +79,7 @@ module _ (plan : Plan) (me : Me Slot Knowledge) (l : ℕ) (was : me.0.role ≡ O
         let n : State = after_look s v.thread l true in
         let x : Knowledge = sought v l by_try in
         let w : Knowledge = seeing (past_with h.past both) (looked x l word) in
-        let found = found_word plan b v h l low in
+        let found = found_word floor b v h l low in
         let counted : counts x l ≡ true = eq-eqb l l refl in
         let share : RepresentsShare (looked x l (s.word l)).share n v.thread =
         subst (λ c. RepresentsShare (looked x l (s.word l)).share (after_look s v.thread l c) v.thread) counted (look_own s x (seek_own h.state v h.fits.share l by_try) l) in
@@ -90,8 +91,8 @@ module _ (plan : Plan) (me : Me Slot Knowledge) (l : ℕ) (was : me.0.role ≡ O
           seat = record { thread = refl; share = subst (λ y. RepresentsShare (looked x l y).share n v.thread) (sym found.0) share };
           others = λ u ne. look_others s v.thread u ne l true ∙ seek_others h.state v.thread u ne l by_try;
         } in
-        let made = lock_seen plan both b v w h was may own me.1 l low refl (record { next = refl; items = refl; objects = refl; begun = refl }) refl refl in
+        let made = lock_seen floor both b v w h was may own me.1 l low refl (record { next = refl; items = refl; objects = refl; to_come = refl }) refl refl in
         (w, keeps, tt, made.0, (found.1, refl, made.1))
 
-    pub seek_allowed : (slots id : ℕ) → MayMake plan v (λ s. Unit {0}) both → Allows (FloorHolds plan) slots id me (spot (lock_line l)) (λ n. n) (Sought plan l by_try me)
-    seek_allowed slots id may = allows plan slots id me (spot (lock_line l)) (λ n. n) (Sought plan l by_try me) was (λ b h small. first_looks b h (may h.state h.fits tt))
+    pub seek_allowed : (slots id : ℕ) → MayMake floor v (λ s. Unit {0}) both → Allows (FloorHolds floor) slots id me (spot (lock_line l)) (λ n. n) (Sought floor l by_try me)
+    seek_allowed slots id may = allows floor slots id me (spot (lock_line l)) (λ n. n) (Sought floor l by_try me) was (λ b h small. first_looks b h (may h.state h.fits tt))

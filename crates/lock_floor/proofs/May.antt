@@ -10,23 +10,22 @@ use Rattle.lock_model.specs.Config.{Config}
 use Rattle.lock_model.specs.History.{open_in}
 use Rattle.lock_model.specs.Holds.{NotHeld, Holds}
 use Rattle.lock_model.specs.Operations.{hold_in}
-use Rattle.lock_model.specs.Plans.{config_of}
 use Rattle.lock_model.specs.Words.{Word, admits, is_plain, is_drop, is_turnstile}
 use Rattle.lock_model.specs.declared.event.Event.{Event}
 use Rattle.lock_model.specs.declared.plan.Mode.{Mode}
-use Rattle.lock_model.specs.declared.plan.Plan.{Plan}
 use Rattle.lock_model.specs.declared.plan.QueueName.{QueueName}
 use Rattle.lock_state.specs.Facts.{LogsAreParts, StandingIsQueued}
 use Rattle.lock_state.specs.State.{State, Running, Queued, Round, Awake, is_parked}
 use Rattle.lock_state.specs.Steps.{Looks, Seeks, Gains, Drops, TakesItem, GivesItem, chain_of, seeks, is_with, Stamps, FitsRound, IsItem, IsOfRound, HasItem, HasOutForEntry, NotesInRound, ends_sleep, is_halting, IsHalting, IsRunnable, OwesNoStep, GoesOn}
 use Rattle.lock_state.specs.Steps.Items.{Item, TurnstileChain, SleepChain, RecordOf, CellOf, ClassGraph, item_with, is_chain, IsOnItsWay, MayCheckOrders, IsDoneWith}
 use Rattle.lock_state.specs.Steps.LockWords.{Asks, IsActing, is_woken, is_taking_back, round_of, after_seek}
+use Rattle.floor_table.specs.Descriptions.{config_in}
+use Rattle.floor_table.specs.declared.description.Description.{Description}
 use Rattle.floor_table.specs.declared.slot.Slot.{Slot}
 use Rattle.floor_table.specs.Places.{slot_of}
 use Rattle.floor_table.specs.Represents.{IsOf, objects_in}
 use Rattle.floor_table.specs.Shelves.{found}
 use Rattle.floor_table.specs.Shares.{Doing, ShareColumns, columns_of, share_in, is_among}
-use Rattle.floor_table.specs.Past.{chains}
 use Rattle.floor_table.specs.Steps.{Fits, MayMake}
 use Rattle.floor_table.specs.Views.{Knowledge}
 use Rattle.floor_table.proofs.Shelved.{found_first}
@@ -37,16 +36,16 @@ and_true : (b : Bool) → (b && true) ≡ b
 and_true true = refl
 and_true false = refl
 
-module _ (plan : Plan) (v : Knowledge) where
+module _ (floor : Description) (v : Knowledge) where
   abbrev c : Config
-  c = config_of plan
+  c = config_in floor
 
   abbrev t : ℕ
   t = v.thread
 
   -- 1. What fits
 
-  module _ (s : State) (f : Fits plan v s) where
+  module _ (s : State) (f : Fits floor v s) where
     column : {A : Type 0} (g : ShareColumns → A) → g (columns_of v.share) ≡ g (share_in s t)
     column g = ap g f.share.columns
 
@@ -57,17 +56,18 @@ module _ (plan : Plan) (v : Knowledge) where
       where
         go : (o : Option QueueName) → s.blocked_on t ≡ o → s.blocked_on t ≡ None
         go None e = e
-        go (Some q) e = absurd (let z : Running ≡ Queued = sym f.runs ∙ f.sound.floor.lawful.waits.standing_is_queued t q e in cc)
+        go (Some q) e = absurd (let z : Running ≡ Queued = sym f.runs ∙ f.sound.facts.lawful.waits.standing_is_queued t q e in cc)
 
     -- it has no chain out, since there is no place for one
-    no_chain : (l : ℕ) → HasItem s t (chain_of chains c l) → ⊥
+    no_chain : (l : ℕ) → HasItem s t (chain_of floor.chains c l) → ⊥
     no_chain l out =
-        let there = f.out.no_other (chain_of chains c l) out in
-        let none : slot_of plan (chain_of chains c l) ≡ None = nowhere (is_turnstile (c.kind l)) (l % chains) in
+        let there = f.out.no_other (chain_of floor.chains c l) out in
+        let none : slot_of floor (chain_of floor.chains c l) ≡ None =
+        nowhere (is_turnstile (c.kind l)) (l % floor.chains) in
         let z : None ≡ Some there.0 = sym none ∙ there.1 in
         cc
       where
-        nowhere : (b : Bool) (k : ℕ) → slot_of plan (cond b (TurnstileChain k) (SleepChain k)) ≡ None
+        nowhere : (b : Bool) (k : ℕ) → slot_of floor (cond b (TurnstileChain k) (SleepChain k)) ≡ None
         nowhere true k = refl
         nowhere false k = refl
 
@@ -79,10 +79,10 @@ module _ (plan : Plan) (v : Knowledge) where
     no_chain_out (CellOf l key) x out = absurd cc
     no_chain_out ClassGraph x out = absurd cc
 
-    counted : (l : ℕ) (r : Option Round) → (seeks l r && not (is_with t (item_with s (chain_of chains c l)))) ≡ seeks l r
-    counted l r = go (item_with s (chain_of chains c l)) refl
+    counted : (l : ℕ) (r : Option Round) → (seeks l r && not (is_with t (item_with s (chain_of floor.chains c l)))) ≡ seeks l r
+    counted l r = go (item_with s (chain_of floor.chains c l)) refl
       where
-        go : (o : Option ℕ) → item_with s (chain_of chains c l) ≡ o → (seeks l r && not (is_with t o)) ≡ seeks l r
+        go : (o : Option ℕ) → item_with s (chain_of floor.chains c l) ≡ o → (seeks l r && not (is_with t o)) ≡ seeks l r
         go None e = and_true (seeks l r)
         go (Some u) e = elim (u == t) as (λ b. (u == t) ≡ b → (seeks l r && not b) ≡ seeks l r) [
           | true ↦ λ same. absurd (no_chain l (e ∙ ap Some (eqb-true u t same)))
@@ -92,7 +92,7 @@ module _ (plan : Plan) (v : Knowledge) where
     -- its sections are those of its log
     pub own_log : (l : ℕ) → open_in c s.history t l ≡ open_in c v.share.log t l
     unfolding LogsAreParts
-    own_log l = own_section c s.history t l ∙ ap (λ es. open_in c es t l) (sym (f.sound.floor.lawful.books.logs_are_parts t) ∙ sym (column (λ x. x.log)))
+    own_log l = own_section c s.history t l ∙ ap (λ es. open_in c es t l) (sym (f.sound.facts.lawful.books.logs_are_parts t) ∙ sym (column (λ x. x.log)))
 
     -- what it holds, wants, seeks and does
     pub holds_it : (l : ℕ) → s.held t l ≡ hold_in v.share.held l
@@ -120,7 +120,7 @@ module _ (plan : Plan) (v : Knowledge) where
 
   -- 2. Steps on lock words
 
-  pub may_look : (l : ℕ) → l < length plan.locks → IsGoing v → (counts v l ≡ true → v.share.doing.looks < 100) → (v.share.doing.round ≢ None → counts v l ≡ true) → MayMake plan v (λ s. Unit {0}) (Looks t l (counts v l) ∷ [])
+  pub may_look : (l : ℕ) → l < length floor.locks → IsGoing v → (counts v l ≡ true → v.share.doing.looks < 100) → (v.share.doing.round ≢ None → counts v l ≡ true) → MayMake floor v (λ s. Unit {0}) (Looks t l (counts v l) ∷ [])
   may_look l low going few of_round s f _ =
       let round : s.round t ≡ v.share.doing.round = doing_it s f (λ d. d.round) in
       let looks : s.looks t ≡ v.share.doing.looks = doing_it s f (λ d. d.looks) in (
@@ -128,7 +128,7 @@ module _ (plan : Plan) (v : Knowledge) where
           may = record { thread = f.thread; lock = low; room = λ e. subst (λ n. n < 100) (sym looks) (few e) };
           has_out = tt;
           has_seen = record {
-            counts = sym (ap (λ r. seeks l r && not (is_with t (item_with s (chain_of chains c l)))) round ∙ counted s f l v.share.doing.round);
+            counts = sym (ap (λ r. seeks l r && not (is_with t (item_with s (chain_of floor.chains c l)))) round ∙ counted s f l v.share.doing.round);
             of_round = λ ne. ap (seeks l) round ∙ of_round (λ e. ne (round ∙ e));
             in_chain = λ i x out. absurd (no_chain_out s f i x out);
             outside = λ i n x out. absurd (no_chain_out s f i x out);
@@ -139,8 +139,8 @@ module _ (plan : Plan) (v : Knowledge) where
         tt,
       )
 
-  pub may_seek : (l : ℕ) (by_try : Bool) → l < length plan.locks → hold_in v.share.held l ≡ NotHeld → (v.share.doing.wanted ≡ Some l) ⊎ (v.share.doing.wanted ≡ None) → (by_try ≡ true → v.share.doing.wanted ≡ None) → (v.share.doing.wanted ≡ None → v.share.doing.taking ≡ None) → v.share.doing.round ≡ None → IsGoing v
-      → MayMake plan v (λ s. Unit {0}) (Seeks t l by_try ∷ Looks t l true ∷ [])
+  pub may_seek : (l : ℕ) (by_try : Bool) → l < length floor.locks → hold_in v.share.held l ≡ NotHeld → (v.share.doing.wanted ≡ Some l) ⊎ (v.share.doing.wanted ≡ None) → (by_try ≡ true → v.share.doing.wanted ≡ None) → (v.share.doing.wanted ≡ None → v.share.doing.taking ≡ None) → v.share.doing.round ≡ None → IsGoing v
+      → MayMake floor v (λ s. Unit {0}) (Seeks t l by_try ∷ Looks t l true ∷ [])
   unfolding after_seek
   may_seek l by_try low unheld wants tries anew none going s f _ =
       let round : s.round t ≡ v.share.doing.round = doing_it s f (λ d. d.round) in
@@ -167,7 +167,7 @@ module _ (plan : Plan) (v : Knowledge) where
             may = record { thread = f.thread; lock = low; room = λ _. subst (λ n. n < 100) (sym looks) (omega arith) };
             has_out = tt;
             has_seen = record {
-              counts = sym (ap (λ r. seeks l r && not (is_with t (item_with s (chain_of chains c l)))) begun ∙ counted s f l (Some (round_of l by_try)) ∙ sought);
+              counts = sym (ap (λ r. seeks l r && not (is_with t (item_with s (chain_of floor.chains c l)))) begun ∙ counted s f l (Some (round_of l by_try)) ∙ sought);
               of_round = λ _. ap (seeks l) begun ∙ sought;
               in_chain = λ i x out. absurd (no_chain_out s f i x out);
               outside = λ i n x out. absurd (no_chain_out s f i x out);
@@ -179,8 +179,8 @@ module _ (plan : Plan) (v : Knowledge) where
         ),
       )
 
-  pub may_gain : (l : ℕ) (mode : Mode) (by_try : Bool) (word : Word) → l < length plan.locks → admits (c.kind l) word mode ≡ true → is_plain (c.kind l) word mode ≡ true → hold_in v.share.held l ≡ NotHeld
-      → (v.share.doing.wanted ≡ Some l) ⊎ (v.share.doing.wanted ≡ None) → FitsRound v.share.doing.round l by_try → ((k : ℕ) → v.share.doing.taking ≡ Some k → k ≡ l) → IsGoing v → MayMake plan v (λ s. s.word l ≡ word) (Gains t l mode by_try ∷ [])
+  pub may_gain : (l : ℕ) (mode : Mode) (by_try : Bool) (word : Word) → l < length floor.locks → admits (c.kind l) word mode ≡ true → is_plain (c.kind l) word mode ≡ true → hold_in v.share.held l ≡ NotHeld
+      → (v.share.doing.wanted ≡ Some l) ⊎ (v.share.doing.wanted ≡ None) → FitsRound v.share.doing.round l by_try → ((k : ℕ) → v.share.doing.taking ≡ Some k → k ≡ l) → IsGoing v → MayMake floor v (λ s. s.word l ≡ word) (Gains t l mode by_try ∷ [])
   may_gain l mode by_try word low admitted plain unheld wants fits others going s f its =
       let round : s.round t ≡ v.share.doing.round = doing_it s f (λ d. d.round) in
       let wanted : s.wanted t ≡ v.share.doing.wanted = doing_it s f (λ d. d.wanted) in (
@@ -206,8 +206,8 @@ module _ (plan : Plan) (v : Knowledge) where
         tt,
       )
 
-  pub may_drop : (l : ℕ) (mode : Mode) (word : Word) → l < length plan.locks → hold_in v.share.held l ≡ Holds mode → is_drop word ≡ true → open_in c v.share.log t l ≡ NotHeld → is_among l v.share.begun ≡ true → IsGoing v
-      → MayMake plan v (λ s. s.word l ≡ word) (Drops t l mode ∷ [])
+  pub may_drop : (l : ℕ) (mode : Mode) (word : Word) → l < length floor.locks → hold_in v.share.held l ≡ Holds mode → is_drop word ≡ true → open_in c v.share.log t l ≡ NotHeld → is_among l v.share.begun ≡ true → IsGoing v
+      → MayMake floor v (λ s. s.word l ≡ word) (Drops t l mode ∷ [])
   may_drop l mode word low held stays closed begun going s f its = (
     record {
       may = record {
@@ -227,8 +227,8 @@ module _ (plan : Plan) (v : Knowledge) where
 
   -- 3. Entries
 
-  pub may_stamp : (e : Event) → ((s : State) → Fits plan v s → Asks c s t e × HasOutForEntry chains s t e) → NotesInRound v.share.doing.round e → (is_taking_back v.share.log ≡ true → ends_sleep e ≡ true) → IsGoing v → v.share.doing.taking ≡ None
-      → MayMake plan v (λ s. Unit {0}) (Stamps t e ∷ [])
+  pub may_stamp : (e : Event) → ((s : State) → Fits floor v s → Asks c s t e × HasOutForEntry floor.chains s t e) → NotesInRound v.share.doing.round e → (is_taking_back v.share.log ≡ true → ends_sleep e ≡ true) → IsGoing v → v.share.doing.taking ≡ None
+      → MayMake floor v (λ s. Unit {0}) (Stamps t e ∷ [])
   may_stamp e asks in_round asleep going takes_nothing s f _ =
       let a = asks s f in
       let round : s.round t ≡ v.share.doing.round = doing_it s f (λ d. d.round) in
@@ -250,7 +250,7 @@ module _ (plan : Plan) (v : Knowledge) where
 
   -- 4. Items
 
-  may_check : (s : State) → Fits plan v s → (i : Item) → MayCheckOrders s t i
+  may_check : (s : State) → Fits floor v s → (i : Item) → MayCheckOrders s t i
   may_check s f (TurnstileChain k) = tt
   may_check s f (SleepChain k) = tt
   may_check s f (RecordOf u) = tt
@@ -258,26 +258,26 @@ module _ (plan : Plan) (v : Knowledge) where
   may_check s f ClassGraph = is_acting s f
 
   -- where nothing is out
-  nothing_with : (s : State) → Fits plan v s → v.out ≡ [] → (i : Item) → HasItem s t i → ⊥
+  nothing_with : (s : State) → Fits floor v s → v.out ≡ [] → (i : Item) → HasItem s t i → ⊥
   nothing_with s f empty i out =
       let there = f.out.no_other i out in
       some-ne-none there.2.0 (sym there.2.1 ∙ ap (found there.0) empty)
 
-  pub may_take : (i : Item) → v.out ≡ [] → v.share.doing.round ≡ None → IsGoing v → ((s : State) → Fits plan v s → IsItem chains c i) → MayMake plan v (λ s. item_with s i ≡ None) (TakesItem t i ∷ [])
+  pub may_take : (i : Item) → v.out ≡ [] → v.share.doing.round ≡ None → IsGoing v → ((s : State) → Fits floor v s → IsItem floor.chains c i) → MayMake floor v (λ s. item_with s i ≡ None) (TakesItem t i ∷ [])
   may_take i empty no_round going there s f home = (
-    record { may = record { thread = f.thread; home = home; together = λ k out. absurd (nothing_with s f empty k out); orders = may_check s f i }; has_out = (there s f, subst (λ r. IsOfRound chains c r i) (sym (doing_it s f (λ d. d.round) ∙ no_round)) tt); has_seen = tt; asks_of_thread = record { runs = inl (is_awake s f going); owes = owes_none s f going } },
+    record { may = record { thread = f.thread; home = home; together = λ k out. absurd (nothing_with s f empty k out); orders = may_check s f i }; has_out = (there s f, subst (λ r. IsOfRound floor.chains c r i) (sym (doing_it s f (λ d. d.round) ∙ no_round)) tt); has_seen = tt; asks_of_thread = record { runs = inl (is_awake s f going); owes = owes_none s f going } },
     tt,
   )
 
   -- what was taken last
-  module _ (i : Item) (j : ℕ) (x : Slot) (place : slot_of plan i ≡ Some j) (last : v.out ≡ (j, x) ∷ rest v.out) where
-    pub says_its : (s : State) → Fits plan v s → HasItem s t i × IsOf (objects_in s) i x
+  module _ (i : Item) (j : ℕ) (x : Slot) (place : slot_of floor i ≡ Some j) (last : v.out ≡ (j, x) ∷ rest v.out) where
+    pub says_its : (s : State) → Fits floor v s → HasItem s t i × IsOf (objects_in s) i x
     says_its s f = f.out.each i j x place (ap (found j) last ∙ found_first j x (rest v.out))
 
-    pub may_give : v.share.doing.phase ≡ Awake → v.share.doing.unstamped ≡ None → MayMake plan v (λ s. Unit {0}) (GivesItem t i ∷ [])
+    pub may_give : v.share.doing.phase ≡ Awake → v.share.doing.unstamped ≡ None → MayMake floor v (λ s. Unit {0}) (GivesItem t i ∷ [])
     may_give awake noted s f _ = (record { may = record { thread = f.thread; out = (says_its s f).0; done = done i place }; has_out = (says_its s f).0; has_seen = tt; asks_of_thread = record { unparked = ap is_parked (doing_it s f (λ d. d.phase) ∙ awake); owes = record { added = off s f; stamped = doing_it s f (λ d. d.unstamped) ∙ noted } } }, tt)
       where
-        done : (k : Item) → slot_of plan k ≡ Some j → IsDoneWith s t k
+        done : (k : Item) → slot_of floor k ≡ Some j → IsDoneWith s t k
         done (TurnstileChain k) at = absurd (let z : None ≡ Some j = at in cc)
         done (SleepChain k) at = absurd (let z : None ≡ Some j = at in cc)
         done (RecordOf u) at = λ own queued. absurd (let z : Running ≡ Queued = sym f.runs ∙ queued in cc)

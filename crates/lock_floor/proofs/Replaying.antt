@@ -5,15 +5,15 @@ use Rattle.lock_laws.proofs.Derived.{tables}
 use Rattle.lock_laws.proofs.Kit.{put_same, put_at_same, put_at_other, put_at_beside}
 use Rattle.lock_model.specs.Config.{Config}
 use Rattle.lock_model.specs.History.{added, value_at}
-use Rattle.lock_model.specs.Plans.{config_of}
 use Rattle.lock_model.specs.declared.event.Event.{Event}
 use Rattle.lock_model.specs.declared.event.Event.TheVariants.{Got}
 use Rattle.lock_model.specs.declared.numbers.LockNo.{LockNo}
-use Rattle.lock_model.specs.declared.plan.Plan.{Plan}
 use Rattle.lock_state.specs.Facts.{NextIsNew}
 use Rattle.lock_state.specs.State.{State, put_at}
 use Rattle.lock_state.specs.Steps.{Stamps}
 use Rattle.lock_state.specs.Steps.LockWords.{after_stamp, entry_of, table_after}
+use Rattle.floor_table.specs.Descriptions.{config_in}
+use Rattle.floor_table.specs.declared.description.Description.{Description}
 use Rattle.floor_table.specs.Shares.{ShareColumns}
 use Rattle.floor_table.specs.Steps.{Makes}
 use Rattle.floor_table.specs.Views.{Knowledge}
@@ -23,9 +23,10 @@ use Rattle.lock_floor.specs.declared.tables.Change.TheVariants.{Set, Add}
 use Rattle.lock_floor.specs.Changes.{event_of, cell_after}
 use Rattle.lock_floor.specs.Views.{entry_by}
 
-module _ (plan : Plan) (e : Event) (old new : Knowledge) (m : Makes plan (Stamps old.thread e ∷ []) old new) where
+module _ (floor : Description) (e : Event) (old new : Knowledge)
+    (m : Makes floor (Stamps old.thread e ∷ []) old new) where
   abbrev c : Config
-  c = config_of plan
+  c = config_in floor
 
   abbrev s : State
   s = m.state
@@ -35,7 +36,7 @@ module _ (plan : Plan) (e : Event) (old new : Knowledge) (m : Makes plan (Stamps
 
   ticket : s.next ≡ length s.history
   unfolding NextIsNew
-  ticket = m.sound.floor.lawful.books.next_is_new
+  ticket = m.sound.facts.lawful.books.next_is_new
 
   pub next_entry : n.history ≡ entry_by old.thread (length s.history) e ∷ s.history
   unfolding after_stamp
@@ -54,15 +55,15 @@ module _ (plan : Plan) (e : Event) (old new : Knowledge) (m : Makes plan (Stamps
       ∙ ap (λ es. entry_by old.thread (length s.history) e ∷ es) (sym own_log)
 
   pub replayed : (l k : ℕ) → s.table l k ≡ value_at s.history l k
-  replayed l k = tables c s l k m.sound.floor.lawful
+  replayed l k = tables c s l k m.sound.facts.lawful
 
   pub replayed_behind : (l k : ℕ) → n.table l k ≡ value_at n.history l k
   replayed_behind l k =
-      let behind = sound_kept c s (Stamps old.thread e ∷ []) (λ u k j e. absurd cc, tt) m.may m.sound in
-      tables c n l k behind.floor.lawful
+      let behind = sound_kept floor s (Stamps old.thread e ∷ []) (λ u k j e. absurd cc, tt) m.may m.sound in
+      tables c n l k behind.facts.lawful
 
-pub found_is : (plan : Plan) (l : LockNo) (key : ℕ) (found : Option ℕ) (old new : Knowledge) (m : Makes plan (Stamps old.thread (Got l key found) ∷ []) old new) → found ≡ value_at m.state.history l.0 key
-found_is plan l key found old new m = m.may.0.may.asks.1 ∙ replayed plan (Got l key found) old new m l.0 key
+pub found_is : (floor : Description) (l : LockNo) (key : ℕ) (found : Option ℕ) (old new : Knowledge) (m : Makes floor (Stamps old.thread (Got l key found) ∷ []) old new) → found ≡ value_at m.state.history l.0 key
+found_is floor l key found old new m = m.may.0.may.asks.1 ∙ replayed floor (Got l key found) old new m l.0 key
 
 -- a change of a key changes that key alone
 pub tables_changed : (c : Config) (s : State) (t : ℕ) (l : LockNo) (key : ℕ) (change : Change) → (after_stamp c s t (event_of l key change)).table ≡ table_after (event_of l key change) s.table

@@ -10,7 +10,6 @@ use Rattle.lock_model.specs.Config.{Config}
 use Rattle.lock_model.specs.History.{Sections, open_in, sections_in, sections_by, replaced}
 use Rattle.lock_model.specs.Holds.{Hold, NotHeld, Holds}
 use Rattle.lock_model.specs.Operations.{hold_in, without_lock}
-use Rattle.lock_model.specs.Plans.{config_of}
 use Rattle.lock_model.specs.Words.{Word}
 use Rattle.lock_model.specs.declared.event.Entry.{Entry}
 use Rattle.lock_model.specs.declared.event.Event.{Event}
@@ -18,14 +17,14 @@ use Rattle.lock_model.specs.declared.event.Event.TheVariants.{Locked, Tried, Bus
 use Rattle.lock_model.specs.declared.event.Held.{Held}
 use Rattle.lock_model.specs.declared.numbers.LockNo.{LockNo}
 use Rattle.lock_model.specs.declared.plan.Mode.{Mode}
-use Rattle.lock_model.specs.declared.plan.Plan.{Plan}
 use Rattle.lock_state.specs.State.{State, NoWalk, Round, Wake, start_state}
 use Rattle.lock_state.specs.Steps.{Step, Stamps, Drops, GivesItem, seeks, NotesInRound, HasOutForEntry}
 use Rattle.lock_state.specs.Steps.Items.{Item, is_chain, in_its_chain, seen_after}
 use Rattle.lock_state.specs.Steps.LockWords.{Asks, is_sleep, is_taking_back, changes_sections, looks_after, round_after, taking_after, unstamped_after, after_stamp}
+use Rattle.floor_table.specs.Descriptions.{config_in}
+use Rattle.floor_table.specs.declared.description.Description.{Description}
 use Rattle.floor_table.specs.declared.slot.Slot.{Slot}
 use Rattle.floor_table.specs.Shares.{Doing, ShareColumns, is_among}
-use Rattle.floor_table.specs.Past.{chains}
 use Rattle.floor_table.specs.Steps.{Fits, MayMake, Makes, MakesEach}
 use Rattle.floor_table.specs.Views.{Knowledge, seeing}
 use Rattle.lock_floor.specs.Changes.{changed, last_changed, stamped_change}
@@ -51,8 +50,8 @@ pub record IsIdle (v : Knowledge) : Type 0 where
   pub going : IsGoing v
   pub no_wait : is_taking_back v.share.log ≡ false
 
-abbrev pub idle : (plan : Plan) (v : Knowledge) → IsAtRest plan v → IsIdle v
-idle plan v r = record {
+abbrev pub idle : (floor : Description) (v : Knowledge) → IsAtRest floor v → IsIdle v
+idle floor v r = record {
   nothing_out = r.nothing_out;
   no_walk = r.no_walk;
   unmarked = r.unmarked;
@@ -66,14 +65,14 @@ idle plan v r = record {
 }
 
 -- the sections open in its log are of just its locks, and each began since its lock was gained
-abbrev pub Sectioned : Plan → Knowledge → Type 0
-Sectioned plan v = (l : ℕ) → open_in (config_of plan) v.share.log v.thread l ≡ hold_in v.share.held l
+abbrev pub Sectioned : Description → Knowledge → Type 0
+Sectioned floor v = (l : ℕ) → open_in (config_in floor) v.share.log v.thread l ≡ hold_in v.share.held l
 
 abbrev pub Begun : Knowledge → Type 0
 Begun v = (l : ℕ) → hold_in v.share.held l ≢ NotHeld → is_among l v.share.begun ≡ true
 
-at_rest : (plan : Plan) (v : Knowledge) → IsIdle v → Sectioned plan v → Begun v → IsAtRest plan v
-at_rest plan v i sections begun = record {
+at_rest : (floor : Description) (v : Knowledge) → IsIdle v → Sectioned floor v → Begun v → IsAtRest floor v
+at_rest floor v i sections begun = record {
   nothing_out = i.nothing_out;
   no_walk = i.no_walk;
   unmarked = i.unmarked;
@@ -89,8 +88,9 @@ at_rest plan v i sections begun = record {
 }
 
 -- whatever steps its seat has seen
-pub rest_seeing : (plan : Plan) (v : Knowledge) (steps : List Step) → IsAtRest plan v → IsAtRest plan (seeing steps v)
-rest_seeing plan v steps r = record {
+pub rest_seeing : (floor : Description) (v : Knowledge) (steps : List Step) → IsAtRest floor v
+    → IsAtRest floor (seeing steps v)
+rest_seeing floor v steps r = record {
   nothing_out = r.nothing_out;
   no_walk = r.no_walk;
   unmarked = r.unmarked;
@@ -146,9 +146,9 @@ same_section : (c : Config) (log : List Entry) (t ticket l : ℕ) (e : Event) �
 unfolding after_stamp
 same_section c log t ticket l e quiet = ap (λ (x : Sections). x.now) (sections_stay c (behind c log ticket) t e t l quiet)
 
-module _ (plan : Plan) (v : Knowledge) where
+module _ (floor : Description) (v : Knowledge) where
   abbrev c : Config
-  c = config_of plan
+  c = config_in floor
 
   abbrev t : ℕ
   t = v.thread
@@ -168,9 +168,9 @@ module _ (plan : Plan) (v : Knowledge) where
   }
 
   -- of an event that begins and ends no section
-  pub rest_stamped : (ticket : ℕ) (e : Event) → changes_sections e ≡ false → IsAtRest plan v → IsAtRest plan (stamped c v (entry_by t ticket e))
+  pub rest_stamped : (ticket : ℕ) (e : Event) → changes_sections e ≡ false → IsAtRest floor v → IsAtRest floor (stamped c v (entry_by t ticket e))
   rest_stamped ticket e quiet r =
-      at_rest plan (stamped c v (entry_by t ticket e)) (idle_stamped ticket e (no_sleep e quiet) (idle plan v r))
+      at_rest floor (stamped c v (entry_by t ticket e)) (idle_stamped ticket e (no_sleep e quiet) (idle floor v r))
       (λ l. same_section c v.share.log t ticket l e quiet ∙ r.sections l)
       (λ l held. ap (is_among l) (begun_kept c e v.share.begun quiet) ∙ r.begun l held)
 
@@ -193,26 +193,27 @@ module _ (plan : Plan) (v : Knowledge) where
     no_wait = i.no_wait;
   }
 
-  pub rest_looked : (l : ℕ) (word : Word) → IsAtRest plan v → IsAtRest plan (looked v l word)
-  rest_looked l word r = at_rest plan (looked v l word) (idle_looked l word (idle plan v r)) r.sections r.begun
+  pub rest_looked : (l : ℕ) (word : Word) → IsAtRest floor v → IsAtRest floor (looked v l word)
+  rest_looked l word r = at_rest floor (looked v l word) (idle_looked l word (idle floor v r)) r.sections r.begun
 
 -- 4. What it may note, whatever it has out: with nothing out it is at rest
 
-module _ (plan : Plan) (a : Knowledge) (r : IsAtRest plan (record a { out = [] })) where
+module _ (floor : Description) (a : Knowledge) (r : IsAtRest floor (record a { out = [] })) where
   -- the sections that it has open are of what it holds
-  pub open_as_held : (s : State) → Fits plan a s → (l : ℕ) → open_in (config_of plan) s.history a.thread l ≡ s.held a.thread l
-  open_as_held s f l = own_log plan a s f l ∙ r.sections l ∙ ap (λ (x : ShareColumns). x.held l) f.share.columns
+  pub open_as_held : (s : State) → Fits floor a s → (l : ℕ) → open_in (config_in floor) s.history a.thread l ≡ s.held a.thread l
+  open_as_held s f l = own_log floor a s f l ∙ r.sections l ∙ ap (λ (x : ShareColumns). x.held l) f.share.columns
 
-  pub may_note : (e : Event) → ((s : State) → Fits plan a s → Asks (config_of plan) s a.thread e × HasOutForEntry chains s a.thread e) → MayMake plan a (λ s. Unit {0}) (Stamps a.thread e ∷ [])
+  pub may_note : (e : Event) → ((s : State) → Fits floor a s → Asks (config_in floor) s a.thread e × HasOutForEntry floor.chains s a.thread e) → MayMake floor a (λ s. Unit {0}) (Stamps a.thread e ∷ [])
   may_note e asks =
-      may_stamp plan a e asks (subst (λ o. NotesInRound o e) (sym r.no_round) tt)
+      may_stamp floor a e asks (subst (λ o. NotesInRound o e) (sym r.no_round) tt)
       (λ q. absurd (let z : true ≡ false = sym q ∙ r.no_wait in cc))
       r.going r.takes_nothing
 
 -- with an item that it took
-pub rest_with : (plan : Plan) (v a : Knowledge) (i : Item) (j : ℕ) → is_chain i ≡ false → IsAtRest plan v → Takes plan i j v a → IsAtRest plan (record a { out = [] })
-rest_with plan v a i j plain r taken = subst (λ (w : Knowledge). IsAtRest plan (record w { out = [] })) (sym taken.view)
-    (at_rest plan (record (seeing a.seen (took v i j taken.value)) { out = [] }) record {
+pub rest_with : (floor : Description) (v a : Knowledge) (i : Item) (j : ℕ) → is_chain i ≡ false → IsAtRest floor v → Takes floor i j v a → IsAtRest floor (record a { out = [] })
+rest_with floor v a i j plain r taken =
+    subst (λ (w : Knowledge). IsAtRest floor (record w { out = [] })) (sym taken.view)
+    (at_rest floor (record (seeing a.seen (took v i j taken.value)) { out = [] }) record {
       nothing_out = refl;
       no_walk = r.no_walk;
       unmarked = r.unmarked;
@@ -242,36 +243,36 @@ used_is c v entry i j k x y plain =
     }) plain
 
 -- what it took last
-pub taken_out : (plan : Plan) (v a : Knowledge) (i : Item) (j : ℕ) (taken : Takes plan i j v a) → a.out ≡ (j, taken.value) ∷ rest a.out
-taken_out plan v a i j taken = subst (λ (w : Knowledge). w.out ≡ (j, taken.value) ∷ rest w.out) (sym taken.view) refl
+pub taken_out : (floor : Description) (v a : Knowledge) (i : Item) (j : ℕ) (taken : Takes floor i j v a) → a.out ≡ (j, taken.value) ∷ rest a.out
+taken_out floor v a i j taken = subst (λ (w : Knowledge). w.out ≡ (j, taken.value) ∷ rest w.out) (sym taken.view) refl
 
 -- a call that did that, on a pass that was ready, leaves it ready
-pub record Used (f : Floor Plan) (i : Item) (e : Event) (p q : Pass Knowledge) : Type 0 where
+pub record Used (f : Floor Description) (i : Item) (e : Event) (p q : Pass Knowledge) : Type 0 where
   pub ready : IsReady f q
-  pub entry : MakesEntry f.plan e p.view.share.held p.view q.view
-  pub steps : MakesEach f.plan (with_item p.view.thread i e) p.view q.view
+  pub entry : MakesEntry f.description e p.view.share.held p.view q.view
+  pub steps : MakesEach f.description (with_item p.view.thread i e) p.view q.view
 
 -- what the thread knows behind the entry: the value of the item may be another then
-abbrev pub Noted : Plan → ℕ → Event → ℕ → Slot → Knowledge → Knowledge → Type 0
-Noted plan ticket e j y old new = new ≡ seeing new.seen (record (stamped (config_of plan) old (entry_by old.thread ticket e)) { out = (j, y) ∷ rest old.out })
+abbrev pub Noted : Description → ℕ → Event → ℕ → Slot → Knowledge → Knowledge → Type 0
+Noted floor ticket e j y old new = new ≡ seeing new.seen (record (stamped (config_in floor) old (entry_by old.thread ticket e)) { out = (j, y) ∷ rest old.out })
 
-module _ (f : Floor Plan) (i : Item) (j : ℕ) (e : Event) (plain : is_chain i ≡ false) (quiet : changes_sections e ≡ false) where
-  pub uses_changed : (p a b q : Pass Knowledge) (ticket : ℕ) (y : Slot) → IsReady f p → 1 ≤ p.view.spare → Takes f.plan i j p.view a.view
-      → Noted f.plan ticket e j y a.view b.view → Makes f.plan (Stamps a.view.thread e ∷ []) a.view b.view
-      → IsOf f q → q.view ≡ seeing q.view.seen (gave b.view i) → Makes f.plan (GivesItem b.view.thread i ∷ []) b.view q.view → Used f i e p q
+module _ (f : Floor Description) (i : Item) (j : ℕ) (e : Event) (plain : is_chain i ≡ false) (quiet : changes_sections e ≡ false) where
+  pub uses_changed : (p a b q : Pass Knowledge) (ticket : ℕ) (y : Slot) → IsReady f p → 1 ≤ p.view.spare → Takes f.description i j p.view a.view
+      → Noted f.description ticket e j y a.view b.view → Makes f.description (Stamps a.view.thread e ∷ []) a.view b.view
+      → IsOf f q → q.view ≡ seeing q.view.seen (gave b.view i) → Makes f.description (GivesItem b.view.thread i ∷ []) b.view q.view → Used f i e p q
   uses_changed p a b q ticket y ready room taken noted stamps own given gives =
       let v : Knowledge = p.view in
       let made : Entry = entry_by v.thread ticket e in
-      let with_it : b.view ≡ seeing b.view.seen (record (stamped (config_of f.plan) (took v i j taken.value) made) { out = (j, y) ∷ v.out }) =
-      noted ∙ ap (λ (w : Knowledge). seeing b.view.seen (record (stamped (config_of f.plan) w (entry_by w.thread ticket e)) { out = (j, y) ∷ rest w.out })) taken.view in
-      let is : q.view ≡ seeing q.view.seen (stamped (config_of f.plan) v made) =
-      given ∙ ap (λ (w : Knowledge). seeing q.view.seen (gave w i)) with_it ∙ ap (seeing q.view.seen) (used_is (config_of f.plan) v made i j j taken.value y plain) in
+      let with_it : b.view ≡ seeing b.view.seen (record (stamped (config_in f.description) (took v i j taken.value) made) { out = (j, y) ∷ v.out }) =
+      noted ∙ ap (λ (w : Knowledge). seeing b.view.seen (record (stamped (config_in f.description) w (entry_by w.thread ticket e)) { out = (j, y) ∷ rest w.out })) taken.view in
+      let is : q.view ≡ seeing q.view.seen (stamped (config_in f.description) v made) =
+      given ∙ ap (λ (w : Knowledge). seeing q.view.seen (gave w i)) with_it ∙ ap (seeing q.view.seen) (used_is (config_in f.description) v made i j j taken.value y plain) in
       let its : a.view.thread ≡ v.thread = ap (λ (w : Knowledge). w.thread) taken.view in
       let its_then : b.view.thread ≡ v.thread = ap (λ (w : Knowledge). w.thread) with_it in
-      let step : Makes f.plan (Stamps v.thread e ∷ []) a.view b.view = subst (λ t. Makes f.plan (Stamps t e ∷ []) a.view b.view) its stamps in
-      let back : Makes f.plan (GivesItem v.thread i ∷ []) b.view q.view = subst (λ t. Makes f.plan (GivesItem t i ∷ []) b.view q.view) its_then gives in
+      let step : Makes f.description (Stamps v.thread e ∷ []) a.view b.view = subst (λ t. Makes f.description (Stamps t e ∷ []) a.view b.view) its stamps in
+      let back : Makes f.description (GivesItem v.thread i ∷ []) b.view q.view = subst (λ t. Makes f.description (GivesItem t i ∷ []) b.view q.view) its_then gives in
       record {
-        ready = record { own = own; rest = subst (IsAtRest f.plan) (sym is) (rest_seeing f.plan (stamped (config_of f.plan) v made) q.view.seen (rest_stamped f.plan v ticket e quiet ready.rest)) };
+        ready = record { own = own; rest = subst (IsAtRest f.description) (sym is) (rest_seeing f.description (stamped (config_in f.description) v made) q.view.seen (rest_stamped f.description v ticket e quiet ready.rest)) };
         entry = record {
           ticket = ticket;
           log = ap (λ (w : Knowledge). w.share.log) is;
@@ -288,26 +289,27 @@ module _ (f : Floor Plan) (i : Item) (j : ℕ) (e : Event) (plain : is_chain i �
         steps = (a.view, taken.step, (b.view, step, (q.view, back, refl)));
       }
 
-  pub uses : (p a b q : Pass Knowledge) (ticket : ℕ) → IsReady f p → 1 ≤ p.view.spare → Takes f.plan i j p.view a.view
-      → b.view ≡ seeing b.view.seen (stamped (config_of f.plan) a.view (entry_by a.view.thread ticket e)) → Makes f.plan (Stamps a.view.thread e ∷ []) a.view b.view
-      → IsOf f q → q.view ≡ seeing q.view.seen (gave b.view i) → Makes f.plan (GivesItem b.view.thread i ∷ []) b.view q.view → Used f i e p q
+  pub uses : (p a b q : Pass Knowledge) (ticket : ℕ) → IsReady f p → 1 ≤ p.view.spare
+      → Takes f.description i j p.view a.view
+      → b.view ≡ seeing b.view.seen (stamped (config_in f.description) a.view (entry_by a.view.thread ticket e)) → Makes f.description (Stamps a.view.thread e ∷ []) a.view b.view
+      → IsOf f q → q.view ≡ seeing q.view.seen (gave b.view i) → Makes f.description (GivesItem b.view.thread i ∷ []) b.view q.view → Used f i e p q
   uses p a b q ticket ready room taken noted =
-      let same : Noted f.plan ticket e j taken.value a.view b.view =
-      noted ∙ ap (λ o. seeing b.view.seen (record (stamped (config_of f.plan) a.view (entry_by a.view.thread ticket e)) { out = o })) (taken_out f.plan p.view a.view i j taken) in
+      let same : Noted f.description ticket e j taken.value a.view b.view =
+      noted ∙ ap (λ o. seeing b.view.seen (record (stamped (config_in f.description) a.view (entry_by a.view.thread ticket e)) { out = o })) (taken_out f.description p.view a.view i j taken) in
       uses_changed p a b q ticket taken.value ready room taken same
 
   -- the same where the entry changed the value
-  pub uses_change : (p a b q : Pass Knowledge) (ticket : ℕ) → IsReady f p → 1 ≤ p.view.spare → Takes f.plan i j p.view a.view → b.view ≡ seeing b.view.seen (stamped_change (config_of f.plan) a.view (entry_by a.view.thread ticket e))
-      → Makes f.plan (Stamps a.view.thread e ∷ []) a.view b.view → IsOf f q → q.view ≡ seeing q.view.seen (gave b.view i) → Makes f.plan (GivesItem b.view.thread i ∷ []) b.view q.view → Used f i e p q
+  pub uses_change : (p a b q : Pass Knowledge) (ticket : ℕ) → IsReady f p → 1 ≤ p.view.spare → Takes f.description i j p.view a.view → b.view ≡ seeing b.view.seen (stamped_change (config_in f.description) a.view (entry_by a.view.thread ticket e))
+      → Makes f.description (Stamps a.view.thread e ∷ []) a.view b.view → IsOf f q → q.view ≡ seeing q.view.seen (gave b.view i) → Makes f.description (GivesItem b.view.thread i ∷ []) b.view q.view → Used f i e p q
   uses_change p a b q ticket ready room taken noted =
-      let same : Noted f.plan ticket e j (changed e taken.value) a.view b.view =
-      noted ∙ ap (λ o. seeing b.view.seen (record (stamped (config_of f.plan) a.view (entry_by a.view.thread ticket e)) { out = last_changed e o })) (taken_out f.plan p.view a.view i j taken) in
+      let same : Noted f.description ticket e j (changed e taken.value) a.view b.view =
+      noted ∙ ap (λ o. seeing b.view.seen (record (stamped (config_in f.description) a.view (entry_by a.view.thread ticket e)) { out = last_changed e o })) (taken_out f.description p.view a.view i j taken) in
       uses_changed p a b q ticket (changed e taken.value) ready room taken same
 
 -- what is out once an entry has changed it
-pub changed_out : (c : Config) (plan : Plan) (v a b : Knowledge) (i : Item) (j : ℕ) (entry : Entry) (taken : Takes plan i j v a) → b ≡ seeing b.seen (stamped_change c a entry) → b.out ≡ (j, changed entry.event taken.value) ∷ rest b.out
-changed_out c plan v a b i j entry taken is =
-    let same : b.out ≡ (j, changed entry.event taken.value) ∷ rest a.out = ap (λ (w : Knowledge). w.out) is ∙ ap (last_changed entry.event) (taken_out plan v a i j taken) in
+pub changed_out : (c : Config) (floor : Description) (v a b : Knowledge) (i : Item) (j : ℕ) (entry : Entry) (taken : Takes floor i j v a) → b ≡ seeing b.seen (stamped_change c a entry) → b.out ≡ (j, changed entry.event taken.value) ∷ rest b.out
+changed_out c floor v a b i j entry taken is =
+    let same : b.out ≡ (j, changed entry.event taken.value) ∷ rest a.out = ap (λ (w : Knowledge). w.out) is ∙ ap (last_changed entry.event) (taken_out floor v a i j taken) in
     subst (λ o. o ≡ (j, changed entry.event taken.value) ∷ rest o) (sym same) refl
 
 -- 6. Behind a gain with its entry
@@ -335,9 +337,9 @@ begins_or : (b : Bool) (mode : Mode) (x : Hold) → replaced (cond b (Holds mode
 begins_or true mode x = refl
 begins_or false mode x = refl
 
-module _ (plan : Plan) (v : Knowledge) (h : Held) where
+module _ (floor : Description) (v : Knowledge) (h : Held) where
   abbrev gc : Config
-  gc = config_of plan
+  gc = config_in floor
 
   gain_section : (ticket k : ℕ) → open_in gc (entry_by v.thread ticket (gain_event h) ∷ v.share.log) v.thread k ≡ cond (eqb h.l.0 k) (Holds h.mode) (open_in gc v.share.log v.thread k)
   unfolding after_stamp
@@ -370,20 +372,20 @@ module _ (plan : Plan) (v : Knowledge) (h : Held) where
       go true = refl
       go false = refl
 
-  pub rest_gained : (ticket : ℕ) → IsAtRest plan v → hold_in v.share.held h.l.0 ≡ NotHeld → IsAtRest plan (stamped (config_of plan) (gained v h) (entry_by v.thread ticket (gain_event h)))
+  pub rest_gained : (ticket : ℕ) → IsAtRest floor v → hold_in v.share.held h.l.0 ≡ NotHeld → IsAtRest floor (stamped (config_in floor) (gained v h) (entry_by v.thread ticket (gain_event h)))
   rest_gained ticket r unheld =
-      at_rest plan (stamped gc (gained v h) (entry_by v.thread ticket (gain_event h))) (idle_stamped plan (gained v h) ticket (gain_event h) no_sleep_gained (idle_gained v h (idle plan v r)))
+      at_rest floor (stamped gc (gained v h) (entry_by v.thread ticket (gain_event h))) (idle_stamped floor (gained v h) ticket (gain_event h) no_sleep_gained (idle_gained v h (idle floor v r)))
       (λ k. gain_section ticket k ∙ ap (cond (eqb h.l.0 k) (Holds h.mode)) (r.sections k) ∙ sym (hold_in-push v.share.held h k unheld))
       (λ k held. ap (is_among k) (begun_gained (others h.l.0 v.share.begun)) ∙ gain_begun r.begun unheld k held)
 
 -- 7. Behind a release: its entry is made first, and then the lock is put down, maybe after looks
 
 -- a thread that has noted the release of a lock and holds it still
-pub record IsLeaving (plan : Plan) (l : ℕ) (mode : Mode) (v : Knowledge) : Type 0 where
+pub record IsLeaving (floor : Description) (l : ℕ) (mode : Mode) (v : Knowledge) : Type 0 where
   pub about : IsIdle v
   pub held : hold_in v.share.held l ≡ Holds mode
-  pub closed : open_in (config_of plan) v.share.log v.thread l ≡ NotHeld
-  pub beside : (k : ℕ) → l ≢ k → open_in (config_of plan) v.share.log v.thread k ≡ hold_in v.share.held k
+  pub closed : open_in (config_in floor) v.share.log v.thread l ≡ NotHeld
+  pub beside : (k : ℕ) → l ≢ k → open_in (config_in floor) v.share.log v.thread k ≡ hold_in v.share.held k
   pub begun : Begun v
 
 -- without a lock the others are held as before
@@ -395,27 +397,27 @@ held_beside l (h ∷ hs) k ne =
       | inr n ↦ rw (ne_eqb h.l.0 l n) (ap (cond (eqb h.l.0 k) (Holds h.mode)) (held_beside l hs k ne))
     ]
 
-module _ (plan : Plan) (v : Knowledge) (l : LockNo) (mode : Mode) where
+module _ (floor : Description) (v : Knowledge) (l : LockNo) (mode : Mode) where
   abbrev lc : Config
-  lc = config_of plan
+  lc = config_in floor
 
   release_section : (ticket k : ℕ) → open_in lc (entry_by v.thread ticket (Unlocked l mode) ∷ v.share.log) v.thread k ≡ cond (eqb l.0 k) NotHeld (open_in lc v.share.log v.thread k)
   unfolding after_stamp
   release_section ticket k = own_section lc (behind lc v.share.log ticket) v.thread (Unlocked l mode) k
 
-  pub leaves : (ticket : ℕ) → IsAtRest plan v → hold_in v.share.held l.0 ≡ Holds mode → IsLeaving plan l.0 mode (stamped (config_of plan) v (entry_by v.thread ticket (Unlocked l mode)))
+  pub leaves : (ticket : ℕ) → IsAtRest floor v → hold_in v.share.held l.0 ≡ Holds mode → IsLeaving floor l.0 mode (stamped (config_in floor) v (entry_by v.thread ticket (Unlocked l mode)))
   leaves ticket r held = record {
-    about = idle_stamped plan v ticket (Unlocked l mode) refl (idle plan v r);
+    about = idle_stamped floor v ticket (Unlocked l mode) refl (idle floor v r);
     held = held;
     closed = release_section ticket l.0 ∙ ap (λ b. cond b NotHeld (open_in lc v.share.log v.thread l.0)) (eq-eqb l.0 l.0 refl);
     beside = λ k ne. release_section ticket k ∙ ap (λ b. cond b NotHeld (open_in lc v.share.log v.thread k)) (ne_eqb l.0 k ne) ∙ r.sections k;
     begun = r.begun;
   }
 
-module _ (plan : Plan) (l : ℕ) (mode : Mode) (v : Knowledge) (h : IsLeaving plan l mode v) where
-  pub leaving_looked : (k : ℕ) (word : Word) → IsLeaving plan l mode (looked v k word)
+module _ (floor : Description) (l : ℕ) (mode : Mode) (v : Knowledge) (h : IsLeaving floor l mode v) where
+  pub leaving_looked : (k : ℕ) (word : Word) → IsLeaving floor l mode (looked v k word)
   leaving_looked k word = record {
-    about = idle_looked plan v k word h.about;
+    about = idle_looked floor v k word h.about;
     held = h.held;
     closed = h.closed;
     beside = h.beside;
@@ -427,10 +429,10 @@ module _ (plan : Plan) (l : ℕ) (mode : Mode) (v : Knowledge) (h : IsLeaving pl
     abbrev left : Knowledge
     left = seeing steps (put_down v l)
 
-    pub rest_left : Makes plan (Drops v.thread l mode ∷ []) v left → IsAtRest plan left
+    pub rest_left : Makes floor (Drops v.thread l mode ∷ []) v left → IsAtRest floor left
     rest_left made =
         let i = h.about in
-        at_rest plan left record {
+        at_rest floor left record {
           nothing_out = i.nothing_out;
           no_walk = i.no_walk;
           unmarked = i.unmarked;
@@ -444,12 +446,12 @@ module _ (plan : Plan) (l : ℕ) (mode : Mode) (v : Knowledge) (h : IsLeaving pl
         } sections begun
       where
         unheld : hold_in (without_lock l v.share.held) l ≡ NotHeld
-        unheld = dropped_unheld plan v left l mode made
+        unheld = dropped_unheld floor v left l mode made
 
-        sections : Sectioned plan left
+        sections : Sectioned floor left
         sections k =
             elim (cases_eq l k) [
-              | inl e ↦ subst (λ m. open_in (config_of plan) v.share.log v.thread m ≡ hold_in (without_lock l v.share.held) m) e (h.closed ∙ sym unheld)
+              | inl e ↦ subst (λ m. open_in (config_in floor) v.share.log v.thread m ≡ hold_in (without_lock l v.share.held) m) e (h.closed ∙ sym unheld)
               | inr ne ↦ h.beside k ne ∙ sym (held_beside l v.share.held k ne)
             ]
 

@@ -4,13 +4,13 @@ use Rattle.atomic_table.specs.Table.{Me, keeps, Allows}
 use Rattle.lock_laws.proofs.Kit.{put_back}
 use Rattle.lock_laws.proofs.OwnEntries.{bases_stay, effective_stays, tables_stay}
 use Rattle.lock_model.specs.Config.{Config}
-use Rattle.lock_model.specs.Plans.{config_of}
 use Rattle.lock_model.specs.declared.event.Event.{Event}
-use Rattle.lock_model.specs.declared.plan.Plan.{Plan}
 use Rattle.lock_objects.specs.Represents.{record_in}
 use Rattle.lock_state.specs.State.{State, put}
 use Rattle.lock_state.specs.Steps.{Step, Stamps}
 use Rattle.lock_state.specs.Steps.LockWords.{after_stamp, changes_base, changes_table}
+use Rattle.floor_table.specs.Descriptions.{config_in}
+use Rattle.floor_table.specs.declared.description.Description.{Description}
 use Rattle.floor_table.specs.declared.slot.Slot.{Slot}
 use Rattle.floor_table.specs.Past.{past_with}
 use Rattle.floor_table.specs.Places.{spot, ticket_line, word_at, turn_word, slots_for, home_at}
@@ -26,15 +26,15 @@ use Rattle.lock_floor.specs.Views.{entry_by, stamped}
 use Rattle.lock_floor.proofs.Shares.{stamp_own, stamp_others}
 
 -- what it tells, where out is what the thread has out then
-abbrev pub StampedWith : Plan → Event → (Me Slot Knowledge → List (ℕ × Slot)) → Me Slot Knowledge → ℕ → Me Slot Knowledge → Type 0
-StampedWith plan event out me found behind =
-    (found < 2 ^ 32) × (behind ≡ (seeing behind.0.seen (record (stamped (config_of plan) me.0 (entry_by me.0.thread found event)) { out = out me }), me.1))
-    × Makes plan (Stamps me.0.thread event ∷ []) me.0 behind.0
+abbrev pub StampedWith : Description → Event → (Me Slot Knowledge → List (ℕ × Slot)) → Me Slot Knowledge → ℕ → Me Slot Knowledge → Type 0
+StampedWith floor event out me found behind =
+    (found < 2 ^ 32) × (behind ≡ (seeing behind.0.seen (record (stamped (config_in floor) me.0 (entry_by me.0.thread found event)) { out = out me }), me.1))
+    × Makes floor (Stamps me.0.thread event ∷ []) me.0 behind.0
 
-abbrev pub Stamped : Plan → Event → Me Slot Knowledge → ℕ → Me Slot Knowledge → Type 0
-Stamped plan event = StampedWith plan event (λ me. me.0.out)
+abbrev pub Stamped : Description → Event → Me Slot Knowledge → ℕ → Me Slot Knowledge → Type 0
+Stamped floor event = StampedWith floor event (λ me. me.0.out)
 
-module _ (plan : Plan) (me : Me Slot Knowledge) (was : me.0.role ≡ OfThread) (room : 1 ≤ me.0.spare) (event : Event) (out : Me Slot Knowledge → List (ℕ × Slot)) where
+module _ (floor : Description) (me : Me Slot Knowledge) (was : me.0.role ≡ OfThread) (room : 1 ≤ me.0.spare) (event : Event) (out : Me Slot Knowledge → List (ℕ × Slot)) where
   abbrev v : Knowledge
   v = me.0
 
@@ -42,13 +42,13 @@ module _ (plan : Plan) (me : Me Slot Knowledge) (was : me.0.role ≡ OfThread) (
   step = Stamps v.thread event ∷ []
 
   -- on a table where it may be made, with what lies behind the turns then
-  pub stamps : (b : Board) (h : Finds plan v b) (content : ℕ → Slot) → FitAll (config_of plan) h.state step
-      → Shelves (slots_for plan) (turn_word b.words) (home_at b.homes) (put (λ u. (thread_in b.views u).out) v.thread (out me)) content
-      → RepresentsObjects plan content (objects_in (after_stamp (config_of plan) h.state v.thread event))
-      → Steps plan me (spot ticket_line) (word_at b.words ticket_line) ((word_at b.words ticket_line + 1) % 18446744073709551616) (StampedWith plan event out me) b
+  pub stamps : (b : Board) (h : Finds floor v b) (content : ℕ → Slot) → FitAll floor h.state step
+      → Shelves (slots_for floor) (turn_word b.words) (home_at b.homes) (put (λ u. (thread_in b.views u).out) v.thread (out me)) content
+      → RepresentsObjects floor content (objects_in (after_stamp (config_in floor) h.state v.thread event))
+      → Steps floor me (spot ticket_line) (word_at b.words ticket_line) ((word_at b.words ticket_line + 1) % 18446744073709551616) (StampedWith floor event out me) b
   unfolding after_stamp
   stamps b h content may shelves objects =
-      let c : Config = config_of plan in
+      let c : Config = config_in floor in
       let s : State = h.state in
       let n : State = after_stamp c s v.thread event in
       let ticket : ℕ = word_at b.words ticket_line in
@@ -66,7 +66,7 @@ module _ (plan : Plan) (me : Me Slot Knowledge) (was : me.0.role ≡ OfThread) (
       } in
       let more : (ticket + 1) % 18446744073709551616 ≡ suc ticket = omega (arith, small) in
       let spares : suc w.spare ≡ v.spare = omega (arith, room) in
-      let made = ticket_made plan step b v w h was may own me.1 ((ticket + 1) % 18446744073709551616) content more refl refl refl refl spares shelves objects in
+      let made = ticket_made floor step b v w h was may own me.1 ((ticket + 1) % 18446744073709551616) content more refl refl refl refl spares shelves objects in
       (w, keeps, tt, made.0, (small, refl, made.1))
 
 -- an event that changes no priority and no table leaves the objects
@@ -78,16 +78,16 @@ quiet_objects c s t e base table = λ i. record {
 }
 
 -- so it is stamped with what is out as it is
-pub stamp_allowed : (plan : Plan) (me : Me Slot Knowledge) (event : Event) (slots id : ℕ) → me.0.role ≡ OfThread → 1 ≤ me.0.spare → changes_base event ≡ false → changes_table event ≡ false
-    → MayMake plan me.0 (λ s. Unit {0}) (Stamps me.0.thread event ∷ []) → Allows (FloorHolds plan) slots id me (spot ticket_line) (λ n. (n + 1) % 18446744073709551616) (Stamped plan event me)
-stamp_allowed plan me event slots id was room base table may =
-    allows plan slots id me (spot ticket_line) (λ n. (n + 1) % 18446744073709551616) (Stamped plan event me) was (λ b h small. step b h)
+pub stamp_allowed : (floor : Description) (me : Me Slot Knowledge) (event : Event) (slots id : ℕ) → me.0.role ≡ OfThread → 1 ≤ me.0.spare → changes_base event ≡ false → changes_table event ≡ false
+    → MayMake floor me.0 (λ s. Unit {0}) (Stamps me.0.thread event ∷ []) → Allows (FloorHolds floor) slots id me (spot ticket_line) (λ n. (n + 1) % 18446744073709551616) (Stamped floor event me)
+stamp_allowed floor me event slots id was room base table may =
+    allows floor slots id me (spot ticket_line) (λ n. (n + 1) % 18446744073709551616) (Stamped floor event me) was (λ b h small. step b h)
   where
-    step : (b : Board) (h : Finds plan me.0 b) → Steps plan me (spot ticket_line) (word_at b.words ticket_line) ((word_at b.words ticket_line + 1) % 18446744073709551616) (Stamped plan event me) b
+    step : (b : Board) (h : Finds floor me.0 b) → Steps floor me (spot ticket_line) (word_at b.words ticket_line) ((word_at b.words ticket_line + 1) % 18446744073709551616) (Stamped floor event me) b
     step b h =
         let r = h.represents in
         let outs : ℕ → List (ℕ × Slot) = λ u. (thread_in b.views u).out in
         let mine : outs me.0.thread ≡ me.0.out = ap (λ (k : Knowledge). k.out) (at_or b.views (suc me.0.thread) me.0 nothing h.there) in
-        stamps plan me was room event (λ me. me.0.out) b h r.content (may h.state h.fits tt)
-        (subst (λ o. Shelves (slots_for plan) (turn_word b.words) (home_at b.homes) o r.content) (sym (put_back outs me.0.thread me.0.out mine)) r.shelves)
-        (subst (RepresentsObjects plan r.content) (sym (quiet_objects (config_of plan) h.state me.0.thread event base table)) r.objects)
+        stamps floor me was room event (λ me. me.0.out) b h r.content (may h.state h.fits tt)
+        (subst (λ o. Shelves (slots_for floor) (turn_word b.words) (home_at b.homes) o r.content) (sym (put_back outs me.0.thread me.0.out mine)) r.shelves)
+        (subst (RepresentsObjects floor r.content) (sym (quiet_objects (config_in floor) h.state me.0.thread event base table)) r.objects)

@@ -6,11 +6,11 @@ use mathlib.Core.Option.{some}
 use lib.ListN.{get_elem?}
 use prog.Atomic.{either}
 use Rattle.atomic_table.specs.Table.{Me, keeps, takes, gives, rest, Allows}
-use Rattle.lock_model.specs.Plans.{config_of}
-use Rattle.lock_model.specs.declared.plan.Plan.{Plan}
 use Rattle.lock_state.specs.State.{State}
 use Rattle.lock_state.specs.Steps.{Step, TakesItem, GivesItem, maker}
 use Rattle.lock_state.specs.Steps.Items.{Item, TurnstileChain, SleepChain, RecordOf, CellOf, ClassGraph, item_with, after_take, after_give}
+use Rattle.floor_table.specs.Descriptions.{config_in}
+use Rattle.floor_table.specs.declared.description.Description.{Description}
 use Rattle.floor_table.specs.declared.slot.Slot.{Slot}
 use Rattle.floor_table.specs.declared.slot.Slot.TheVariants.{Record, Cell}
 use Rattle.lock_objects.specs.Represents.{RecordColumns}
@@ -31,10 +31,10 @@ use Rattle.lock_floor.proofs.Shares.{take_own, take_others, give_own, give_other
 -- 1. A take
 
 -- what it tells: where the turn was free, the thread has what the place has, and else somebody has it at that moment
-abbrev pub Taken : Plan → ℕ → Me Slot Knowledge → ℕ → Me Slot Knowledge → Type 0
-Taken plan j me found behind =
-    (found ≡ 0 → (i : Item) → slot_of plan i ≡ Some j → (taken : Takes plan i j me.0 behind.0) × (behind.1 ≡ (j, taken.value) ∷ me.1))
-    × (found ≢ 0 → (behind ≡ (seeing behind.0.seen me.0, me.1)) × ((i : Item) → slot_of plan i ≡ Some j → FindsOut plan i me.0 behind.0))
+abbrev pub Taken : Description → ℕ → Me Slot Knowledge → ℕ → Me Slot Knowledge → Type 0
+Taken floor j me found behind =
+    (found ≡ 0 → (i : Item) → slot_of floor i ≡ Some j → (taken : Takes floor i j me.0 behind.0) × (behind.1 ≡ (j, taken.value) ∷ me.1))
+    × (found ≢ 0 → (behind ≡ (seeing behind.0.seen me.0, me.1)) × ((i : Item) → slot_of floor i ≡ Some j → FindsOut floor i me.0 behind.0))
 
 kind_of : (s : State) (i : Item) (y : Slot) → IsOf (objects_in s) i y → IsOfKind i y
 kind_of s (RecordOf t) (Record b) h = ap (λ (r : RecordColumns). r.thread) h.columns
@@ -48,17 +48,17 @@ kind_of s (SleepChain k) (Cell w) h = absurd h
 kind_of s ClassGraph (Record r) h = absurd h
 kind_of s ClassGraph (Cell w) h = absurd h
 
-module _ (plan : Plan) (me : Me Slot Knowledge) (was : me.0.role ≡ OfThread) (i : Item) (j : ℕ) (place : slot_of plan i ≡ Some j) where
+module _ (floor : Description) (me : Me Slot Knowledge) (was : me.0.role ≡ OfThread) (i : Item) (j : ℕ) (place : slot_of floor i ≡ Some j) where
   abbrev v : Knowledge
   v = me.0
 
   -- an item whose turn word is 0 is at home
-  is_home : (b : Board) (h : Finds plan v b) → turn_word b.words j ≡ 0 → item_with h.state i ≡ None
+  is_home : (b : Board) (h : Finds floor v b) → turn_word b.words j ≡ 0 → item_with h.state i ≡ None
   unfolding RepresentsTurns
   is_home b h free = h.represents.turns i ∙ ap (taken_from (turn_word b.words)) place ∙ ap taker free
 
   -- and else it is out with the thread that the word names
-  is_out : (b : Board) (h : Finds plan v b) → turn_word b.words j ≢ 0 → (t : ℕ) × (item_with h.state i ≡ Some t)
+  is_out : (b : Board) (h : Finds floor v b) → turn_word b.words j ≢ 0 → (t : ℕ) × (item_with h.state i ≡ Some t)
   unfolding RepresentsTurns
   is_out b h ne = go (turn_word b.words j) refl
     where
@@ -66,8 +66,8 @@ module _ (plan : Plan) (me : Me Slot Knowledge) (was : me.0.role ≡ OfThread) (
       go zero e = absurd (ne e)
       go (suc t) e = (t, h.represents.turns i ∙ ap (taken_from (turn_word b.words)) place ∙ ap taker e)
 
-  take_hit : (b : Board) (h : Finds plan v b) → MayMake plan v (λ s. item_with s i ≡ None) (TakesItem v.thread i ∷ []) → turn_word b.words j ≡ 0
-      → Steps plan me (spot (turn_line j)) (turn_word b.words j) (suc v.thread) (Taken plan j me) b
+  take_hit : (b : Board) (h : Finds floor v b) → MayMake floor v (λ s. item_with s i ≡ None) (TakesItem v.thread i ∷ []) → turn_word b.words j ≡ 0
+      → Steps floor me (spot (turn_line j)) (turn_word b.words j) (suc v.thread) (Taken floor j me) b
   unfolding after_take
   take_hit b h may free =
       let s : State = h.state in
@@ -76,7 +76,7 @@ module _ (plan : Plan) (me : Me Slot Knowledge) (was : me.0.role ≡ OfThread) (
       let step : Step = TakesItem v.thread i in
       let w : Knowledge = seeing (step ∷ h.past) (took v i j x) in
       let allowed = may s h.fits (is_home b h free) in
-      let low : j < slots_for plan = place_low plan i j place in
+      let low : j < slots_for floor = place_low floor i j place in
       let own : OwnSteps v w h.past (step ∷ []) s n = record {
         role = was;
         seen = refl;
@@ -85,44 +85,44 @@ module _ (plan : Plan) (me : Me Slot Knowledge) (was : me.0.role ≡ OfThread) (
         seat = record { thread = refl; share = take_own s v h.fits.share i j x };
         others = λ u ne. take_others s v.thread u ne i;
       } in
-      let made = take_made plan (step ∷ []) b v w h was allowed own me.1 i j place free (record { word = refl; next = refl; items = refl; objects = refl; begun = refl }) refl refl in
+      let made = take_made floor (step ∷ []) b v w h was allowed own me.1 i j place free (record { word = refl; next = refl; items = refl; objects = refl; to_come = refl }) refl refl in
       let there : get_elem? b.homes j ≡ some (some x) = or_at b.homes j slots.none (omega (arith, low, h.represents.sizes.slots)) ∙ ap some (h.represents.shelves.at_home j low free) in
-      let taken : Takes plan i j v w = record { value = x; view = refl; step = made.1; kind = kind_of s i x (h.represents.objects.each i j place) } in (
+      let taken : Takes floor i j v w = record { value = x; view = refl; step = made.1; kind = kind_of s i x (h.represents.objects.each i j place) } in (
         w,
         takes j x,
         there,
         made.0,
         (
-          λ e k at. subst (λ m. (taken : Takes plan m j v w) × ((j, x) ∷ me.1 ≡ (j, taken.value) ∷ me.1)) (one_place plan i k j place at) (taken, refl),
+          λ e k at. subst (λ m. (taken : Takes floor m j v w) × ((j, x) ∷ me.1 ≡ (j, taken.value) ∷ me.1)) (one_place floor i k j place at) (taken, refl),
           λ ne. absurd (ne free),
         ),
       )
 
-  take_missed : (b : Board) (h : Finds plan v b) → turn_word b.words j ≢ 0 → Steps plan me (spot (turn_line j)) (turn_word b.words j) (turn_word b.words j) (Taken plan j me) b
+  take_missed : (b : Board) (h : Finds floor v b) → turn_word b.words j ≢ 0 → Steps floor me (spot (turn_line j)) (turn_word b.words j) (turn_word b.words j) (Taken floor j me) b
   take_missed b h ne =
       let w : Knowledge = seeing h.past v in
-      let seen = none_made plan b v h was (spot (turn_line j)) me.1 in
+      let seen = none_made floor b v h was (spot (turn_line j)) me.1 in
       let out = is_out b h ne in
-      let finds : FindsOut plan i v w = record {
+      let finds : FindsOut floor i v w = record {
         taker = out.0;
         moment = seen.1;
         out = ap (λ (s : State). item_with s i) seen.2 ∙ out.1;
         itself = λ e. h.fits.out.no_other i (out.1 ∙ ap Some e);
       } in
-      (w, keeps, tt, seen.0, (λ e. absurd (ne e), λ _. (refl, λ k at. subst (λ m. FindsOut plan m v w) (one_place plan i k j place at) finds)))
+      (w, keeps, tt, seen.0, (λ e. absurd (ne e), λ _. (refl, λ k at. subst (λ m. FindsOut floor m v w) (one_place floor i k j place at) finds)))
 
-  pub take_allowed : (slots id : ℕ) → MayMake plan v (λ s. item_with s i ≡ None) (TakesItem v.thread i ∷ []) → Allows (FloorHolds plan) slots id me (spot (turn_line j)) (λ n. either (eqb n 0) (suc v.thread) n) (Taken plan j me)
+  pub take_allowed : (slots id : ℕ) → MayMake floor v (λ s. item_with s i ≡ None) (TakesItem v.thread i ∷ []) → Allows (FloorHolds floor) slots id me (spot (turn_line j)) (λ n. either (eqb n 0) (suc v.thread) n) (Taken floor j me)
   take_allowed slots id may =
-      exchange_allows plan slots id me (spot (turn_line j)) 0 (suc v.thread) (Taken plan j me) was (λ b h free. take_hit b h may free) (λ b h ne small. take_missed b h ne)
+      exchange_allows floor slots id me (spot (turn_line j)) 0 (suc v.thread) (Taken floor j me) was (λ b h free. take_hit b h may free) (λ b h ne small. take_missed b h ne)
 
 -- 2. A give of what was taken last
 
 -- what it tells, of the item of the place
-abbrev pub Given : Plan → ℕ → Me Slot Knowledge → ℕ → Me Slot Knowledge → Type 0
-Given plan j me found behind = (i : Item) → slot_of plan i ≡ Some j → (behind ≡ (seeing behind.0.seen (gave me.0 i), rest me.1)) × Makes plan (GivesItem me.0.thread i ∷ []) me.0 behind.0
+abbrev pub Given : Description → ℕ → Me Slot Knowledge → ℕ → Me Slot Knowledge → Type 0
+Given floor j me found behind = (i : Item) → slot_of floor i ≡ Some j → (behind ≡ (seeing behind.0.seen (gave me.0 i), rest me.1)) × Makes floor (GivesItem me.0.thread i ∷ []) me.0 behind.0
 
-module _ (plan : Plan) (me : Me Slot Knowledge) (was : me.0.role ≡ OfThread) (i : Item) (j : ℕ) (place : slot_of plan i ≡ Some j) (x : Slot) (tied : me.1 ≡ me.0.out) (last : me.0.out ≡ (j, x) ∷ rest me.0.out) where
-  gives_it : (b : Board) (h : Finds plan me.0 b) → FitAll (config_of plan) h.state (GivesItem me.0.thread i ∷ []) → Steps plan me (spot (turn_line j)) (turn_word b.words j) 0 (λ found. Given plan j me 0) b
+module _ (floor : Description) (me : Me Slot Knowledge) (was : me.0.role ≡ OfThread) (i : Item) (j : ℕ) (place : slot_of floor i ≡ Some j) (x : Slot) (tied : me.1 ≡ me.0.out) (last : me.0.out ≡ (j, x) ∷ rest me.0.out) where
+  gives_it : (b : Board) (h : Finds floor me.0 b) → FitAll floor h.state (GivesItem me.0.thread i ∷ []) → Steps floor me (spot (turn_line j)) (turn_word b.words j) 0 (λ found. Given floor j me 0) b
   unfolding after_give
   gives_it b h allowed =
       let s : State = h.state in
@@ -138,11 +138,11 @@ module _ (plan : Plan) (me : Me Slot Knowledge) (was : me.0.role ≡ OfThread) (
         seat = record { thread = refl; share = give_own s v h.fits.share i };
         others = λ u ne. give_others s v.thread u ne i;
       } in
-      let made = give_made plan (step ∷ []) b v w h was allowed own me.1 i j x (rest v.out) (rest v.out) place (tied ∙ last) last (record { word = refl; next = refl; items = refl; objects = refl; begun = refl }) refl refl in
-      (w, gives, tt, made.0, λ k at. subst (λ m. ◌≡◌ {A = Me Slot Knowledge} (w, rest me.1) (seeing w.seen (gave v m), rest me.1) × Makes plan (GivesItem v.thread m ∷ []) v w) (one_place plan i k j place at) (refl, made.1))
+      let made = give_made floor (step ∷ []) b v w h was allowed own me.1 i j x (rest v.out) (rest v.out) place (tied ∙ last) last (record { word = refl; next = refl; items = refl; objects = refl; to_come = refl }) refl refl in
+      (w, gives, tt, made.0, λ k at. subst (λ m. ◌≡◌ {A = Me Slot Knowledge} (w, rest me.1) (seeing w.seen (gave v m), rest me.1) × Makes floor (GivesItem v.thread m ∷ []) v w) (one_place floor i k j place at) (refl, made.1))
 
-  pub give_allowed : (slots id : ℕ) → MayMake plan me.0 (λ s. Unit {0}) (GivesItem me.0.thread i ∷ []) → Allows (FloorHolds plan) slots id me (spot (turn_line j)) (λ n. 0) (λ n. Given plan j me 0)
-  give_allowed slots id may = allows plan slots id me (spot (turn_line j)) (λ n. 0) (λ n. Given plan j me 0) was (λ b h small. gives_it b h (may h.state h.fits tt))
+  pub give_allowed : (slots id : ℕ) → MayMake floor me.0 (λ s. Unit {0}) (GivesItem me.0.thread i ∷ []) → Allows (FloorHolds floor) slots id me (spot (turn_line j)) (λ n. 0) (λ n. Given floor j me 0)
+  give_allowed slots id may = allows floor slots id me (spot (turn_line j)) (λ n. 0) (λ n. Given floor j me 0) was (λ b h small. gives_it b h (may h.state h.fits tt))
 
 -- 3. Waiting for an item
 
@@ -154,18 +154,18 @@ pub record HasWaited (old new : Knowledge) : Type 0 where
 pub waits_none : (v : Knowledge) → HasWaited v v
 waits_none v = record { view = refl; since = record { later = []; is = refl; of_others = All-nil (λ step. maker step ≢ v.thread) } }
 
-pub waits_on : (plan : Plan) (i : Item) (old mid new : Knowledge) → HasWaited old mid → new ≡ seeing new.seen mid → FindsOut plan i mid new → HasWaited old new
-waits_on plan i old mid new h view out =
+pub waits_on : (floor : Description) (i : Item) (old mid new : Knowledge) → HasWaited old mid → new ≡ seeing new.seen mid → FindsOut floor i mid new → HasWaited old new
+waits_on floor i old mid new h view out =
     let m = out.moment in
     let same : mid.thread ≡ old.thread = ap (λ (k : Knowledge). k.thread) h.view in
     let since : IsSeenBy old.thread mid.seen new.seen = subst (λ (z : ℕ × List Step). IsSeenBy z.0 mid.seen z.1) (λ k. (same k, sym m.seen k)) m.since in
     record { view = view ∙ ap (seeing new.seen) h.view; since = seen_on old.thread old.seen mid.seen new.seen h.since since }
 
 -- it may take it then if it may take it before
-pub may_still : (plan : Plan) (i : Item) (old new : Knowledge) → HasWaited old new → MayMake plan old (λ s. item_with s i ≡ None) (TakesItem old.thread i ∷ []) → MayMake plan new (λ s. item_with s i ≡ None) (TakesItem new.thread i ∷ [])
-may_still plan i old new h may = subst (λ (k : Knowledge). MayMake plan k (λ s. item_with s i ≡ None) (TakesItem k.thread i ∷ [])) (sym h.view) there
+pub may_still : (floor : Description) (i : Item) (old new : Knowledge) → HasWaited old new → MayMake floor old (λ s. item_with s i ≡ None) (TakesItem old.thread i ∷ []) → MayMake floor new (λ s. item_with s i ≡ None) (TakesItem new.thread i ∷ [])
+may_still floor i old new h may = subst (λ (k : Knowledge). MayMake floor k (λ s. item_with s i ≡ None) (TakesItem k.thread i ∷ [])) (sym h.view) there
   where
-    there : MayMake plan (seeing new.seen old) (λ s. item_with s i ≡ None) (TakesItem old.thread i ∷ [])
+    there : MayMake floor (seeing new.seen old) (λ s. item_with s i ≡ None) (TakesItem old.thread i ∷ [])
     there s f home =
         may s (record {
           past = f.past;
@@ -178,13 +178,13 @@ may_still plan i old new h may = subst (λ (k : Knowledge). MayMake plan k (λ s
         }) home
 
 -- who takes it then takes it from what it knew before
-pub takes_then : (plan : Plan) (i : Item) (j : ℕ) (old mid new : Knowledge) → HasWaited old mid → Takes plan i j mid new → Takes plan i j old new
-takes_then plan i j old mid new h taken =
-    let t : Takes plan i j (seeing mid.seen old) new = subst (λ (k : Knowledge). Takes plan i j k new) h.view taken in
-    record { value = t.value; view = t.view; step = sooner plan (TakesItem old.thread i ∷ []) mid.seen old new h.since t.step; kind = t.kind }
+pub takes_then : (floor : Description) (i : Item) (j : ℕ) (old mid new : Knowledge) → HasWaited old mid → Takes floor i j mid new → Takes floor i j old new
+takes_then floor i j old mid new h taken =
+    let t : Takes floor i j (seeing mid.seen old) new = subst (λ (k : Knowledge). Takes floor i j k new) h.view taken in
+    record { value = t.value; view = t.view; step = sooner floor (TakesItem old.thread i ∷ []) mid.seen old new h.since t.step; kind = t.kind }
 
 -- 4. Records
 
 -- a thread's record is in the place of its number
-pub record_at : (plan : Plan) (t : ℕ) → t < length plan.threads → slot_of plan (RecordOf t) ≡ Some t
-record_at plan t low = ap (λ b. cond b (Some t) None) (lt-ltb t (length plan.threads) low)
+pub record_at : (floor : Description) (t : ℕ) → t < length floor.threads → slot_of floor (RecordOf t) ≡ Some t
+record_at floor t low = ap (λ b. cond b (Some t) None) (lt-ltb t (length floor.threads) low)

@@ -6,8 +6,8 @@ use Rattle.atomic_table.specs.Table.{Me, rest}
 use Rattle.lock_history.specs.Books.{Book}
 use Rattle.lock_model.specs.Operations.{without_lock}
 use Rattle.lock_model.specs.declared.event.Held.{Held}
-use Rattle.lock_model.specs.declared.plan.Plan.{Plan}
 use Rattle.lock_state.specs.Steps.Items.{Item}
+use Rattle.floor_table.specs.declared.description.Description.{Description}
 use Rattle.floor_table.specs.declared.slot.Slot.{Slot}
 use Rattle.floor_table.specs.Places.{slot_of}
 use Rattle.floor_table.specs.Views.{Knowledge, seeing}
@@ -16,12 +16,12 @@ use Rattle.lock_floor.specs.Views.{put_down, took, gave}
 use Rattle.lock_floor.proofs.Taking.{Taken}
 
 -- where its locks and its log stay
-pub tied_on : (who : ℕ) (locks : Vec Held) (book : Book) (fin : Bool) (me behind : Me Slot Knowledge) → fin ≡ false → IsTied who locks book fin me → behind.0.role ≡ me.0.role → behind.0.plan ≡ me.0.plan → behind.0.thread ≡ me.0.thread → behind.0.share.held ≡ me.0.share.held → behind.0.share.log ≡ me.0.share.log
+pub tied_on : (who : ℕ) (locks : Vec Held) (book : Book) (fin : Bool) (me behind : Me Slot Knowledge) → fin ≡ false → IsTied who locks book fin me → behind.0.role ≡ me.0.role → behind.0.description ≡ me.0.description → behind.0.thread ≡ me.0.thread → behind.0.share.held ≡ me.0.share.held → behind.0.share.log ≡ me.0.share.log
     → behind.0.spare ≡ me.0.spare → behind.1 ≡ behind.0.out → IsTied who locks book fin behind
-tied_on who locks book fin me behind going h role plan thread held log spare out = record {
+tied_on who locks book fin me behind going h role floor thread held log spare out = record {
   role = role ∙ h.role;
   thread = h.thread ∙ sym thread;
-  of_plan = subst (λ (p : Plan). who < length p.threads) (sym plan) h.of_plan;
+  of_floor = subst (λ (d : Description). who < length d.threads) (sym floor) h.of_floor;
   few = h.few;
   held = h.held ∙ sym held;
   room = h.room;
@@ -37,7 +37,7 @@ tied_without who l locks left book fin me behind h e items room =
     subst (IsTied who left book fin) (sym e) record {
       role = h.role;
       thread = h.thread;
-      of_plan = h.of_plan;
+      of_floor = h.of_floor;
       few = h.few;
       held = items ∙ ap (without_lock l) h.held;
       room = room;
@@ -48,21 +48,21 @@ tied_without who l locks left book fin me behind h e items room =
     }
 
 -- after a try to take what a place has
-pub tied_taken : (who : ℕ) (locks : Vec Held) (book : Book) (fin : Bool) (me behind : Me Slot Knowledge) (plan : Plan) (i : Item) (j found : ℕ) → slot_of plan i ≡ Some j → fin ≡ false → IsTied who locks book fin me → Taken plan j me found behind
-    → IsTied who locks book fin behind × (behind.0.plan ≡ me.0.plan)
-tied_taken who locks book fin me behind plan i j found place going h told =
+pub tied_taken : (who : ℕ) (locks : Vec Held) (book : Book) (fin : Bool) (me behind : Me Slot Knowledge) (floor : Description) (i : Item) (j found : ℕ) → slot_of floor i ≡ Some j → fin ≡ false → IsTied who locks book fin me → Taken floor j me found behind
+    → IsTied who locks book fin behind × (behind.0.description ≡ me.0.description)
+tied_taken who locks book fin me behind floor i j found place going h told =
     elim (cases_eq found 0) [
       | inl e ↦
           let t = told.0 e i place in
           let v : behind.0 ≡ seeing behind.0.seen (took me.0 i j t.0.value) = t.0.view in (
-            tied_on who locks book fin me behind going h (ap (λ w. w.role) v) (ap (λ w. w.plan) v) (ap (λ w. w.thread) v) (ap (λ w. w.share.held) v) (ap (λ w. w.share.log) v) (ap (λ w. w.spare) v) (t.1 ∙ ap (λ xs. (j, t.0.value) ∷ xs) h.out ∙ sym (ap (λ w. w.out) v)),
-            ap (λ w. w.plan) v,
+            tied_on who locks book fin me behind going h (ap (λ w. w.role) v) (ap (λ w. w.description) v) (ap (λ w. w.thread) v) (ap (λ w. w.share.held) v) (ap (λ w. w.share.log) v) (ap (λ w. w.spare) v) (t.1 ∙ ap (λ xs. (j, t.0.value) ∷ xs) h.out ∙ sym (ap (λ w. w.out) v)),
+            ap (λ w. w.description) v,
           )
       | inr ne ↦
           let v : behind.0 ≡ seeing behind.0.seen me.0 = ap (λ (m : Me Slot Knowledge). m.0) (told.1 ne).0 in
           let out : behind.1 ≡ me.1 = ap (λ (m : Me Slot Knowledge). m.1) (told.1 ne).0 in (
-            tied_on who locks book fin me behind going h (ap (λ w. w.role) v) (ap (λ w. w.plan) v) (ap (λ w. w.thread) v) (ap (λ w. w.share.held) v) (ap (λ w. w.share.log) v) (ap (λ w. w.spare) v) (out ∙ h.out ∙ sym (ap (λ w. w.out) v)),
-            ap (λ w. w.plan) v,
+            tied_on who locks book fin me behind going h (ap (λ w. w.role) v) (ap (λ w. w.description) v) (ap (λ w. w.thread) v) (ap (λ w. w.share.held) v) (ap (λ w. w.share.log) v) (ap (λ w. w.spare) v) (out ∙ h.out ∙ sym (ap (λ w. w.out) v)),
+            ap (λ w. w.description) v,
           )
     ]
 
@@ -70,4 +70,4 @@ tied_taken who locks book fin me behind plan i j found place going h told =
 pub tied_given : (who : ℕ) (locks : Vec Held) (book : Book) (fin : Bool) (me behind : Me Slot Knowledge) (i : Item) → fin ≡ false → IsTied who locks book fin me → behind ≡ (seeing behind.0.seen (gave me.0 i), rest me.1) → IsTied who locks book fin behind
 tied_given who locks book fin me behind i going h is =
     let v : behind.0 ≡ seeing behind.0.seen (gave me.0 i) = ap (λ (m : Me Slot Knowledge). m.0) is in
-    tied_on who locks book fin me behind going h (ap (λ w. w.role) v) (ap (λ w. w.plan) v) (ap (λ w. w.thread) v) (ap (λ w. w.share.held) v) (ap (λ w. w.share.log) v) (ap (λ w. w.spare) v) (ap (λ (m : Me Slot Knowledge). m.1) is ∙ ap rest h.out ∙ sym (ap (λ w. w.out) v))
+    tied_on who locks book fin me behind going h (ap (λ w. w.role) v) (ap (λ w. w.description) v) (ap (λ w. w.thread) v) (ap (λ w. w.share.held) v) (ap (λ w. w.share.log) v) (ap (λ w. w.spare) v) (ap (λ (m : Me Slot Knowledge). m.1) is ∙ ap rest h.out ∙ sym (ap (λ w. w.out) v))

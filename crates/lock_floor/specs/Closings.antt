@@ -5,12 +5,12 @@ use Rattle.std.specs.declared.boxed.Box.{Box}
 use Rattle.lock_model.specs.Counts.{times}
 use Rattle.lock_model.specs.History.{base_in, entries_of, tables_of}
 use Rattle.lock_model.specs.Law.{IsLegalSoFar}
-use Rattle.lock_model.specs.Plans.{config_of}
 use Rattle.lock_model.specs.Takes.{has_reversal}
 use Rattle.lock_model.specs.declared.event.Entry.{Entry}
-use Rattle.lock_model.specs.declared.plan.Plan.{Plan}
 use Rattle.thread_records.specs.Records.{Record}
 use Rattle.thread_records.specs.declared.record.ThreadRec.{ThreadRec}
+use Rattle.floor_table.specs.Descriptions.{config_in}
+use Rattle.floor_table.specs.declared.description.Description.{Description}
 use Rattle.lock_floor.specs.declared.closing.Closing.{Closing}
 
 -- Logs are those of these threads, in their order, behind a history, whose newest entry is first: each is its thread's
@@ -24,9 +24,9 @@ pub record AreLogsOf (threads : List ℕ) (logs : List (List Entry)) (history : 
 
 -- a thread's record behind a history: it has its last base, a turnstile and a sleep queue at home, and no loan, and it
 -- names no queue
-pub record IsHome (plan : Plan) (history : List Entry) (t : ℕ) (r : Record) : Type 0 where
+pub record IsHome (floor : Description) (history : List Entry) (t : ℕ) (r : Record) : Type 0 where
   pub thread : r.thread ≡ t
-  pub base : r.base ≡ base_in (config_of plan) history t
+  pub base : r.base ≡ base_in (config_in floor) history t
   pub turnstile : IsSome r.turnstile
   pub sleep_queue : IsSome r.sleep_queue
   pub no_loans : r.loans ≡ []
@@ -41,18 +41,18 @@ Differ part recs =
     (t u : ℕ) (d : Box ThreadRec Global) → t < length recs → u < length recs
     → part (record_at recs t d) ≡ part (record_at recs u d) → t ≡ u
 
--- What is left of a floor for a plan, which took in the passes of these threads, in that order: the logs of a history
+-- What is left of a floor, which took in the passes of these threads, in that order: the logs of a history
 -- that keeps the law as far as it says nothing of operations, without a refused take, since orders of locks aren't
 -- checked yet; each thread's record, in its place; and the tables that the history leaves. Nobody is halted yet.
-pub record IsClosing (plan : Plan) (threads : List ℕ) (x : Closing) : Type 0 where
+pub record IsClosing (floor : Description) (threads : List ℕ) (x : Closing) : Type 0 where
   pub history : List Entry
   pub logs : AreLogsOf threads (map (λ b. b.entries) x.logs.items) history
-  pub legal : IsLegalSoFar (config_of plan) true history
+  pub legal : IsLegalSoFar (config_in floor) true history
   pub no_refusal : has_reversal history ≡ false
   pub few : length history < 2 ^ 32
-  pub count : length x.recs.items ≡ length plan.threads
-  pub home : (t : ℕ) (d : Box ThreadRec Global) → t < length plan.threads
-      → IsHome plan history t (record_at x.recs.items t d)
+  pub count : length x.recs.items ≡ length floor.threads
+  pub home : (t : ℕ) (d : Box ThreadRec Global) → t < length floor.threads
+      → IsHome floor history t (record_at x.recs.items t d)
   pub turnstiles_differ : Differ (λ r. r.turnstile) x.recs.items
   pub sleep_queues_differ : Differ (λ r. r.sleep_queue) x.recs.items
   pub tables : x.tables.present ≡ tables_of history

@@ -3,10 +3,10 @@ use Rattle.std.specs.Prelude.{Bool}
 use Rattle.atomic_table.specs.Seated.{TableId}
 use Rattle.floor_table.specs.Views.{Knowledge}
 
--- which table a floor has, and the plan that it was made for
+-- which table a floor has, and what it was made for
 pub record Floor (K : Type 0) : Type 0 where
   pub table : TableId
-  pub plan : K
+  pub description : K
 
 -- which table a pass has a seat at, what its seat knows, and whether it is finished
 pub record Pass (V : Type 0) : Type 0 where

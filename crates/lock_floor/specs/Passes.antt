@@ -4,14 +4,14 @@ use Rattle.atomic_table.specs.Seated.{TableId}
 use Rattle.lock_model.specs.Holds.{NotHeld}
 use Rattle.lock_model.specs.History.{open_in}
 use Rattle.lock_model.specs.Operations.{hold_in}
-use Rattle.lock_model.specs.Plans.{config_of}
 use Rattle.lock_model.specs.declared.event.Event.{Event}
 use Rattle.lock_model.specs.declared.event.Held.{Held}
-use Rattle.lock_model.specs.declared.plan.Plan.{Plan}
 use Rattle.lock_state.specs.State.{NoWalk, Phase, Awake, Wake}
 use Rattle.lock_state.specs.Steps.{Step, TakesItem, Stamps, GivesItem}
 use Rattle.lock_state.specs.Steps.Items.{Item}
 use Rattle.lock_state.specs.Steps.LockWords.{is_taking_back}
+use Rattle.floor_table.specs.Descriptions.{config_in}
+use Rattle.floor_table.specs.declared.description.Description.{Description}
 use Rattle.floor_table.specs.Shares.{is_among}
 use Rattle.floor_table.specs.Steps.{Makes}
 use Rattle.floor_table.specs.Views.{Knowledge, first_view}
@@ -19,26 +19,26 @@ use Rattle.lock_floor.specs.Floors.{Floor, Pass, Keeper}
 use Rattle.lock_floor.specs.Views.{entry_by}
 
 -- the pass was made with the floor, and is not finished
-pub record IsOf (f : Floor Plan) (p : Pass Knowledge) : Type 0 where
+pub record IsOf (f : Floor Description) (p : Pass Knowledge) : Type 0 where
   pub table : p.table ≡ f.table
-  pub plan : p.view.plan ≡ f.plan
+  pub description : p.view.description ≡ f.description
   pub unfinished : p.finished ≡ false
 
 -- the pass was made with the floor, and is finished
-pub record IsFinished (f : Floor Plan) (p : Pass Knowledge) : Type 0 where
+pub record IsFinished (f : Floor Description) (p : Pass Knowledge) : Type 0 where
   pub table : p.table ≡ f.table
-  pub plan : p.view.plan ≡ f.plan
+  pub description : p.view.description ≡ f.description
   pub finished : p.finished ≡ true
 
 -- the keeper was made with the floor
-pub record IsKeeperOf (f : Floor Plan) (k : Keeper) : Type 0 where
+pub record IsKeeperOf (f : Floor Description) (k : Keeper) : Type 0 where
   pub table : k.table ≡ f.table
-  pub plan : k.view.plan ≡ f.plan
+  pub description : k.view.description ≡ f.description
 
 -- the pass of a thread as it is made: the thread holds nothing and is about nothing, and has room for its entries
-abbrev pub first_pass : TableId → Plan → ℕ → Pass Knowledge
-first_pass table plan t =
-    record { table = table; view = first_view plan t; finished = false }
+abbrev pub first_pass : TableId → Description → ℕ → Pass Knowledge
+first_pass table floor t =
+    record { table = table; view = first_view floor t; finished = false }
 
 -- awake, not ended, and with no wake to note
 pub record CanStep (phase : Phase) (has_ended : Bool) (unstamped : Option Wake) : Type 0 where
@@ -53,7 +53,7 @@ IsGoing v = CanStep v.share.doing.phase v.share.doing.has_ended v.share.doing.un
 -- A thread at rest: it is awake and has nothing out, no walk and nobody to mark, wants no lock and seeks none, has
 -- nothing to note and doesn't sleep in its log; the sections open in its log are of just the locks that it holds, in
 -- their modes, and each began since its lock was gained.
-pub record IsAtRest (plan : Plan) (v : Knowledge) : Type 0 where
+pub record IsAtRest (floor : Description) (v : Knowledge) : Type 0 where
   pub nothing_out : v.out ≡ []
   pub no_walk : v.share.doing.walk ≡ NoWalk
   pub unmarked : v.share.doing.marked ≡ []
@@ -64,28 +64,28 @@ pub record IsAtRest (plan : Plan) (v : Knowledge) : Type 0 where
   pub unnoted : v.share.doing.noted ≡ None
   pub going : IsGoing v
   pub no_wait : is_taking_back v.share.log ≡ false
-  pub sections : (l : ℕ) → open_in (config_of plan) v.share.log v.thread l ≡ hold_in v.share.held l
+  pub sections : (l : ℕ) → open_in (config_in floor) v.share.log v.thread l ≡ hold_in v.share.held l
   pub begun : (l : ℕ) → hold_in v.share.held l ≢ NotHeld → is_among l v.share.begun ≡ true
 
 -- A pass as most calls need it and leave it: it was made with the floor, is not finished, and its thread is at rest.
-pub record IsReady (f : Floor Plan) (p : Pass Knowledge) : Type 0 where
+pub record IsReady (f : Floor Description) (p : Pass Knowledge) : Type 0 where
   pub own : IsOf f p
-  pub rest : IsAtRest f.plan p.view
+  pub rest : IsAtRest f.description p.view
 
 -- The thread's log has one entry more, of that event, which an atomic step made, and the thread holds these locks then.
-pub record MakesEntry (plan : Plan) (e : Event) (locks : List Held) (old new : Knowledge) : Type 0
-  where
-    pub ticket : ℕ
-    pub log : new.share.log ≡ entry_by old.thread ticket e ∷ old.share.log
-    pub held : new.share.held ≡ locks
-    pub spare : new.spare + 1 ≡ old.spare
-    pub thread : new.thread ≡ old.thread
-    pub before : Knowledge
-    pub behind : Knowledge
-    pub of : before.thread ≡ old.thread
-    pub step : Makes plan (Stamps old.thread e ∷ []) before behind
-    pub log_before : before.share.log ≡ old.share.log
-    pub log_behind : behind.share.log ≡ new.share.log
+pub record MakesEntry (floor : Description) (e : Event) (locks : List Held)
+    (old new : Knowledge) : Type 0 where
+  pub ticket : ℕ
+  pub log : new.share.log ≡ entry_by old.thread ticket e ∷ old.share.log
+  pub held : new.share.held ≡ locks
+  pub spare : new.spare + 1 ≡ old.spare
+  pub thread : new.thread ≡ old.thread
+  pub before : Knowledge
+  pub behind : Knowledge
+  pub of : before.thread ≡ old.thread
+  pub step : Makes floor (Stamps old.thread e ∷ []) before behind
+  pub log_before : before.share.log ≡ old.share.log
+  pub log_behind : behind.share.log ≡ new.share.log
 
 -- the atomic steps of an entry about an item: it is taken, used, and given back
 abbrev pub with_item : ℕ → Item → Event → List (List Step)

@@ -1,5 +1,5 @@
 -- What ties a floor to its table, and a pass and the keeper to what their seats know.
-use Rattle.std.specs.Prelude.{◌≡◌, ℕ, ◌^◌, ◌<◌, ◌≤◌, Bool, true, List, [], length, map, reverse}
+use Rattle.std.specs.Prelude.{◌≡◌, ℕ, ◌<◌, ◌≤◌, Bool, true, List, [], length, map, reverse}
 use Rattle.std.specs.FinMap.{empty}
 use Rattle.std.specs.Global.{Vec}
 use Rattle.std.specs.List.{Contains}
@@ -10,22 +10,19 @@ use Rattle.atomic_table.specs.Table.{Me}
 use Rattle.atomic_table.specs.Seated.{TableId}
 use Rattle.lock_history.specs.Books.{Book, Slots}
 use Rattle.lock_model.specs.declared.event.Held.{Held}
-use Rattle.lock_model.specs.declared.plan.Plan.{Plan}
+use Rattle.floor_table.specs.Descriptions.{IsSized}
+use Rattle.floor_table.specs.declared.description.Description.{Description}
 use Rattle.floor_table.specs.declared.slot.Slot.{Slot}
-use Rattle.floor_table.specs.Places.{words_for, slots_for, cells_of}
+use Rattle.floor_table.specs.Places.{words_for, slots_for}
 use Rattle.floor_table.specs.Views.{Knowledge, OfKeeper, OfThread}
 use Rattle.thread_records.specs.declared.record.ThreadRec.{ThreadRec}
 
--- the table has the plan's words and values, and the number of threads and the cells are the plan's
-pub record IsLaid (plan : Plan) (table : TableId) (count : ℕ) (keys : List (ℕ × ℕ)) : Type 0
-  where
-    pub words : table.words ≡ words_for (slots_for plan)
-    pub slots : table.slots ≡ slots_for plan
-    pub threads : count ≡ length plan.threads
-    pub cells : keys ≡ cells_of plan
-    pub few_locks : length plan.locks ≤ 64
-    pub few_threads : length plan.threads ≤ 32
-    pub few_cells : length keys < 2 ^ 16
+-- the table has the words and values of what the floor was made for, which the floor keeps, and which fits a table
+pub record IsLaid (floor : Description) (table : TableId) (own : Description) : Type 0 where
+  pub kept : own ≡ floor
+  pub words : table.words ≡ words_for (slots_for floor)
+  pub slots : table.slots ≡ slots_for floor
+  pub sized : IsSized floor
 
 -- the pass has the locks and the entries that its seat knows of, room for as many as its thread may hold, and just those
 -- values out that its seat has out: none where it is finished
@@ -33,7 +30,7 @@ pub record IsTied (who : ℕ) (locks : Vec Held) (book : Book) (finished : Bool)
     (me : Me Slot Knowledge) : Type 0 where
   pub role : me.0.role ≡ OfThread
   pub thread : who ≡ me.0.thread
-  pub of_plan : who < length me.0.plan.threads
+  pub of_floor : who < length me.0.description.threads
   pub few : who < 32
   pub held : locks.items ≡ me.0.share.held
   pub room : 8 ≤ vec_capacity locks
@@ -50,9 +47,9 @@ pub record IsKept (logs : Vec Book) (recs : Vec (Box ThreadRec Global)) (tables 
   pub role : me.0.role ≡ OfKeeper
   pub none_out : me.1 ≡ []
   pub logs_are : map (λ b. b.entries) logs.items ≡ map (λ g. reverse g.1.log) me.0.gathered
-  pub room_for_logs : length me.0.plan.threads ≤ vec_capacity logs
-  pub room_for_records : length me.0.plan.threads ≤ vec_capacity recs
+  pub room_for_logs : length me.0.description.threads ≤ vec_capacity logs
+  pub room_for_records : length me.0.description.threads ≤ vec_capacity recs
   pub no_records : recs.items ≡ []
-  pub room_for_cells : (l key : ℕ) → Contains (cells_of me.0.plan) (l, key)
+  pub room_for_keys : (l key : ℕ) → Contains me.0.description.keys (l, key)
       → Contains tables.places (l, key)
   pub no_values : tables.present ≡ empty

@@ -1,9 +1,9 @@
 -- What a thread takes out of its home, or finds out.
 use Rattle.std.specs.Prelude.{◌≡◌, ℕ, [], ◌∷◌, Some, ⊤}
 use mathlib.Core.Option.{some}
-use Rattle.lock_model.specs.declared.plan.Plan.{Plan}
 use Rattle.lock_state.specs.Steps.{TakesItem}
 use Rattle.lock_state.specs.Steps.Items.{Item, TurnstileChain, SleepChain, RecordOf, CellOf, ClassGraph, item_with}
+use Rattle.floor_table.specs.declared.description.Description.{Description}
 use Rattle.floor_table.specs.declared.slot.Slot.{Slot}
 use Rattle.floor_table.specs.declared.slot.Slot.TheVariants.{Record, Cell}
 use Rattle.floor_table.specs.Places.{slot_of}
@@ -27,22 +27,22 @@ IsOfKind ClassGraph (Record b) = ⊥
 IsOfKind ClassGraph (Cell value) = ⊥
 
 -- the seat itself has out what the item's place has
-abbrev pub HasItOut : Plan → Item → Knowledge → Type 0
-HasItOut plan i v =
-    (j : ℕ) × (slot_of plan i ≡ Some j) × ((x : Slot) × (found j v.out ≡ some x))
+abbrev pub HasItOut : Description → Item → Knowledge → Type 0
+HasItOut floor i v =
+    (j : ℕ) × (slot_of floor i ≡ Some j) × ((x : Slot) × (found j v.out ≡ some x))
 
 -- The thread found the item out. It made no step; at that moment, in the state to which all steps led that had been
 -- made by then, a thread had the item out, and the seat has seen these steps. It was the thread itself only where its
 -- own seat has the item.
-pub record FindsOut (plan : Plan) (i : Item) (old new : Knowledge) : Type 0 where
+pub record FindsOut (floor : Description) (i : Item) (old new : Knowledge) : Type 0 where
   pub taker : ℕ
-  pub moment : Makes plan [] old new
+  pub moment : Makes floor [] old new
   pub out : item_with moment.state i ≡ Some taker
-  pub itself : taker ≡ old.thread → HasItOut plan i old
+  pub itself : taker ≡ old.thread → HasItOut floor i old
 
 -- the thread took the item out of its place
-pub record Takes (plan : Plan) (i : Item) (j : ℕ) (old new : Knowledge) : Type 0 where
+pub record Takes (floor : Description) (i : Item) (j : ℕ) (old new : Knowledge) : Type 0 where
   pub value : Slot
   pub view : new ≡ seeing new.seen (took old i j value)
-  pub step : Makes plan (TakesItem old.thread i ∷ []) old new
+  pub step : Makes floor (TakesItem old.thread i ∷ []) old new
   pub kind : IsOfKind i value

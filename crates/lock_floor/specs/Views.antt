@@ -12,19 +12,20 @@ use Rattle.lock_state.specs.State.{Look}
 use Rattle.lock_state.specs.Steps.{Step, seeks}
 use Rattle.lock_state.specs.Steps.LockWords.{taking_from, round_of, looks_after, round_after, taking_after, unstamped_after}
 use Rattle.lock_state.specs.Steps.Items.{Item, is_chain, in_its_chain, seen_after}
+use Rattle.floor_table.specs.Descriptions.{room_for}
 use Rattle.floor_table.specs.declared.slot.Slot.{Slot}
 use Rattle.floor_table.specs.Shares.{Share, Doing}
-use Rattle.floor_table.specs.Views.{Knowledge, room_for, first_view}
+use Rattle.floor_table.specs.Views.{Knowledge, first_view}
 
 -- 1. Making passes and taking them in
 
 -- the keeper, when it makes a pass, and the thread's seat with it
 abbrev pub with_pass_made : Knowledge → Knowledge
 with_pass_made v =
-    record v { made = suc v.made; spare = v.spare - room_for v.plan v.made }
+    record v { made = suc v.made; spare = v.spare - room_for v.description v.made }
 
 abbrev pub new_pass : Knowledge → Knowledge
-new_pass v = first_view v.plan v.made
+new_pass v = first_view v.description v.made
 
 -- the longer of two lists of steps
 abbrev pub longer : List Step → List Step → List Step

@@ -17,9 +17,9 @@ use crate::floor::{Floor, FloorOf};
 use crate::keeper::{HandOut, Keeper};
 use crate::pass::{Pass, PassOf};
 use atomic_table::{Closed, Join};
-use floor_table::{Board, Law, Place, Slot, Tells, Told, View, ticket_spot};
+use floor_table::{Board, Description, Law, Place, Slot, Tells, Told, View, ticket_spot};
 use lock_history::{Log, Tables};
-use lock_model::{LockNo, Plan};
+use lock_model::LockNo;
 use std::alloc::Global;
 use std::marker::Brand;
 use thread_records::ThreadRec;
@@ -74,14 +74,14 @@ impl Join<View> for HandOut {
 
 impl Keeper {
     /// Takes in a pass that is finished, with its log. It never waits and takes no memory. By a load it learns that no
-    /// more passes were taken in than the plan has threads, so that there is room for the log.
+    /// more passes were taken in than the floor has threads, so that there is room for the log.
     pub fn gather(&mut self, floor: &Floor, pass: Pass)
         requires mine { IsKeeperOf floor.now self.old }
         requires finished { IsFinished floor.now pass }
         ensures mine { IsKeeperOf floor.entry.now self.new }
         ensures gathered { self.new.view.gathered
             ≡ self.old.view.gathered ++ (pass.view.thread, pass.view.share) ∷ [] }
-        ensures few { length self.new.view.gathered ≤ length floor.entry.now.plan.threads }
+        ensures few { length self.new.view.gathered ≤ length floor.entry.now.description.threads }
     {
         let PassOf {
             seat,
@@ -115,29 +115,31 @@ fn ask<J: Tells>(board: &Board, seat: &mut Place) -> u64
     board.shared.load::<Told<J>>(seat, ticket_spot())
 }
 
-impl FloorOf<Slot, View, Plan, Law> {
+impl FloorOf<Slot, View, Description, Law> {
     /// Closes the floor once all its passes were taken in. It never waits and takes no memory.
     pub fn close(self, keeper: Keeper) -> Closing
         requires mine { IsKeeperOf self keeper }
-        requires all { length keeper.view.gathered ≡ length self.plan.threads }
-        ensures closing { IsClosing self.plan (map (λ g. g.0) keeper.view.gathered) result }
+        requires all { length keeper.view.gathered ≡ length self.description.threads }
+        ensures closing { IsClosing self.description (map (λ g. g.0) keeper.view.gathered) result }
         ensures logs { map (λ b. b.entries) result.logs.items
             ≡ map (λ g. reverse g.1.log) keeper.view.gathered }
     {
-        let FloorOf {
-            board,
-            threads,
-            cells,
-        } = self;
+        let FloorOf { board, description } = self;
         let Keeper {
             seat,
             logs,
             mut recs,
             mut tables,
         } = keeper;
+        let threads = description.threads.as_slice().len();
         let mut closed = board.close_with(seat);
         take_records(&mut closed, threads, &mut recs);
-        take_cells(&mut closed, threads, &cells, &mut tables);
+        take_cells(
+            &mut closed,
+            threads,
+            description.keys.as_slice(),
+            &mut tables,
+        );
         closed.free();
         Closing {
             recs,
@@ -178,29 +180,29 @@ fn take_records(closed: &mut Closed<Slot, Global>, threads: usize, recs: &mut Ve
 fn take_cells(
     closed: &mut Closed<Slot, Global>,
     threads: usize,
-    cells: &[(u8, u64)],
+    keys: &[(u8, u64)],
     tables: &mut Tables,
 )
-    requires few { threads + length cells.now < 2 ^ 32 }
-    requires places { slots_len closed.old.slots ≡ threads + length cells.now }
+    requires few { threads + length keys.now < 2 ^ 32 }
+    requires places { slots_len closed.old.slots ≡ threads + length keys.now }
     requires taken { (k : ℕ) → k < threads
         → slice_index_or (slots_filled closed.old.slots) k false ≡ false }
     requires left { Filled (slots_filled closed.old.slots) threads (slots_len closed.old.slots) }
-    requires cells { (i : ℕ) → i < length cells.now
+    requires cells { (i : ℕ) → i < length keys.now
         → (x : _) × (get_elem? (slots_items closed.old.slots) (threads + i) ≡ some (Cell x)) }
     requires none { tables.old.present ≡ empty }
-    requires room { (l key : ℕ) → Contains cells.now (l, key)
+    requires room { (l key : ℕ) → Contains keys.now (l, key)
         → Contains tables.old.places (l, key) }
     ensures values { (column : ℕ → ℕ → Option ℕ)
-        → ((i : ℕ) (d : ℕ × ℕ) → i < length cells.now
+        → ((i : ℕ) (d : ℕ × ℕ) → i < length keys.now
         → get_elem? (slots_items closed.old.slots) (threads + i)
-        ≡ some (Cell (column (slice_index_or cells.now i d).0 (slice_index_or cells.now i d).1)))
+        ≡ some (Cell (column (slice_index_or keys.now i d).0 (slice_index_or keys.now i d).1)))
         → (l key : ℕ) → get tables.new.present (l, key)
-        ≡ (if list_any (is_cell l key) cells.now then column l key else None) }
+        ≡ (if list_any (is_cell l key) keys.now then column l key else None) }
     ensures taken { (k : ℕ) → k < slots_len closed.new.slots
         → slice_index_or (slots_filled closed.new.slots) k false ≡ false }
 {
-    for (i, (l, key)) in cells.iter().enumerate() {
+    for (i, (l, key)) in keys.iter().enumerate() {
         match closed.take(threads + i) {
             Slot::Cell(value) => put(tables, LockNo(*l), *key, value),
             Slot::Record(_) => unreachable!(),

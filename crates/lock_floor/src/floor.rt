@@ -1,9 +1,8 @@
-//! The floor, which all threads of a plan share.
+//! The floor, which all its threads share.
 
 use crate::ties::Ties;
 use atomic_table::{Table, TableRule};
-use floor_table::{Law, Slot, View};
-use lock_model::Plan;
+use floor_table::{Description, Law, Slot, View};
 use std::alloc::Global;
 use std::marker::Model;
 
@@ -11,10 +10,8 @@ use std::marker::Model;
 #[derive(Drop)]
 pub struct FloorOf<S, V, K, P: TableRule<S, V, K> + Ties<S, V, K>> {
     pub(crate) board: Table<S, V, K, P, Global>,
-    /// How many threads the plan has.
-    pub(crate) threads: usize,
-    /// The keys of the tables that the plan names, by lock and then by key.
-    pub(crate) cells: Vec<(u8, u64)>,
+    /// What it was made for, as the table was told.
+    pub(crate) description: K,
 }
 
 impl<S, V, K, P: TableRule<S, V, K> + Ties<S, V, K>> Model for FloorOf<S, V, K, P> {
@@ -24,11 +21,11 @@ impl<S, V, K, P: TableRule<S, V, K> + Ties<S, V, K>> Model for FloorOf<S, V, K, 
 
     ghost view = { λ f. record {
       table = f.board.shared.table_id;
-      plan = f.board.shared.key;
+      description = f.board.shared.key;
     } };
 
-    ghost invariant = { λ f. P.laid f.board.shared.key f.board.shared.table_id f.threads f.cells.items };
+    ghost invariant = { λ f. P.laid f.board.shared.key f.board.shared.table_id f.description };
 }
 
-/// The floor of a plan.
-pub type Floor = FloorOf<Slot, View, Plan, Law>;
+/// A floor that was made for a description, which a plan may give.
+pub type Floor = FloorOf<Slot, View, Description, Law>;

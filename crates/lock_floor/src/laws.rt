@@ -3,14 +3,14 @@
 //! tickets leave.
 ghost use Rattle.std.specs.Prelude.{◌≡◌, ◌≢◌, ℕ, Bool, List, [], ◌∷◌, length, Option, Some};
 ghost use Rattle.lock_model.specs.History.{value_at};
-ghost use Rattle.lock_model.specs.Plans.{config_of};
 ghost use Rattle.lock_model.specs.declared.event.Event.{Event};
 ghost use Rattle.lock_model.specs.declared.event.Event.TheVariants.{Got};
 ghost use Rattle.lock_model.specs.declared.numbers.LockNo.{LockNo};
-ghost use Rattle.lock_model.specs.declared.plan.Plan.{Plan};
 ghost use Rattle.lock_state.specs.Steps.{Step, Looks, Stamps, after_all};
 ghost use Rattle.lock_state.specs.Steps.Items.{Item};
 ghost use Rattle.lock_state.specs.Steps.LockWords.{table_after};
+ghost use Rattle.floor_table.specs.Descriptions.{config_in};
+ghost use Rattle.floor_table.specs.declared.description.Description.{Description};
 ghost use Rattle.floor_table.specs.Steps.{Makes};
 ghost use Rattle.floor_table.specs.Views.{Knowledge};
 ghost use Rattle.lock_floor.specs.declared.tables.Change.{Change};
@@ -20,8 +20,8 @@ ghost use Rattle.lock_floor.specs.Views.{entry_by};
 
 /// Steps that were made behind the same steps were made in the same state.
 pub fn steps_lead_to_one_state()
-    ensures { (plan : Plan) (steps others : List Step) (u v x y : Knowledge)
-        (m : Makes plan steps u v) (k : Makes plan others x y)
+    ensures { (floor : Description) (steps others : List Step) (u v x y : Knowledge)
+        (m : Makes floor steps u v) (k : Makes floor others x y)
         → m.past ≡ k.past → m.state ≡ k.state }
 {}
 
@@ -29,70 +29,74 @@ pub fn steps_lead_to_one_state()
 /// it. Behind it the thread has seen these and its look, and where it looks again before anybody makes another step, it
 /// finds the same word.
 pub fn looks_find_words()
-    ensures word { (plan : Plan) (l : ℕ) (counts : Bool) (old new : Knowledge)
-        (m : Makes plan (Looks old.thread l counts ∷ []) old new)
+    ensures word { (floor : Description) (l : ℕ) (counts : Bool) (old new : Knowledge)
+        (m : Makes floor (Looks old.thread l counts ∷ []) old new)
         → new.share.doing.last_look ≡ Some (record { lock = l; word = m.state.word l }) }
-    ensures seen { (plan : Plan) (l : ℕ) (counts : Bool) (old new : Knowledge)
-        (m : Makes plan (Looks old.thread l counts ∷ []) old new)
+    ensures seen { (floor : Description) (l : ℕ) (counts : Bool) (old new : Knowledge)
+        (m : Makes floor (Looks old.thread l counts ∷ []) old new)
         → new.seen ≡ Looks old.thread l counts ∷ m.past }
-    ensures again { (plan : Plan) (l : ℕ) (first second : Bool) (u v w : Knowledge)
-        (m : Makes plan (Looks u.thread l first ∷ []) u v)
-        (k : Makes plan (Looks v.thread l second ∷ []) v w)
+    ensures again { (floor : Description) (l : ℕ) (first second : Bool) (u v w : Knowledge)
+        (m : Makes floor (Looks u.thread l first ∷ []) u v)
+        (k : Makes floor (Looks v.thread l second ∷ []) v w)
         → k.past ≡ v.seen → w.share.doing.last_look ≡ v.share.doing.last_look }
 {}
 
 /// A try that fails finds the item out at that very moment: in the state to which all steps lead that its seat has seen
 /// then. It is out with another thread, where the seat has nothing out itself.
 pub fn tries_find_takers()
-    ensures seen { (plan : Plan) (i : Item) (old new : Knowledge) (f : FindsOut plan i old new)
-        → new.seen ≡ f.moment.past }
-    ensures other { (plan : Plan) (i : Item) (old new : Knowledge) (f : FindsOut plan i old new)
-        → old.out ≡ [] → f.taker ≢ old.thread }
+    ensures seen { (floor : Description) (i : Item) (old new : Knowledge)
+        (f : FindsOut floor i old new) → new.seen ≡ f.moment.past }
+    ensures other { (floor : Description) (i : Item) (old new : Knowledge)
+        (f : FindsOut floor i old new) → old.out ≡ [] → f.taker ≢ old.thread }
 {}
 
 /// An entry of a thread gets as its ticket the number of those before it: it stands behind them in the history, and behind
 /// the thread's own in its log.
 pub fn entries_are_next()
-    ensures history { (plan : Plan) (e : Event) (old new : Knowledge)
-        (m : Makes plan (Stamps old.thread e ∷ []) old new)
-        → (after_all (config_of plan) m.state (Stamps old.thread e ∷ [])).history
+    ensures history { (floor : Description) (e : Event) (old new : Knowledge)
+        (m : Makes floor (Stamps old.thread e ∷ []) old new)
+        → (after_all (config_in floor) m.state (Stamps old.thread e ∷ [])).history
         ≡ entry_by old.thread (length m.state.history) e ∷ m.state.history }
-    ensures log { (plan : Plan) (e : Event) (old new : Knowledge)
-        (m : Makes plan (Stamps old.thread e ∷ []) old new)
+    ensures log { (floor : Description) (e : Event) (old new : Knowledge)
+        (m : Makes floor (Stamps old.thread e ∷ []) old new)
         → new.share.log
         ≡ entry_by old.thread (length m.state.history) e ∷ old.share.log }
 {}
 
 /// A read finds at its key what all entries with earlier tickets leave there.
 pub fn reads_find_changes()
-    ensures { (plan : Plan) (l : LockNo) (key : ℕ) (found : Option ℕ) (old new : Knowledge)
-        (m : Makes plan (Stamps old.thread (Got l key found) ∷ []) old new)
+    ensures { (floor : Description) (l : LockNo) (key : ℕ) (found : Option ℕ) (old new : Knowledge)
+        (m : Makes floor (Stamps old.thread (Got l key found) ∷ []) old new)
         → found ≡ value_at m.state.history l.0 key }
 {}
 
 /// A change acts on what all entries with earlier tickets leave at its key, and on that key alone: the tables behind it
 /// are what the history behind it leaves.
 pub fn changes_act_on_changes()
-    ensures tables { (plan : Plan) (l : LockNo) (key : ℕ) (change : Change) (old new : Knowledge)
-        (m : Makes plan (Stamps old.thread (event_of l key change) ∷ []) old new)
-        → (after_all (config_of plan) m.state
+    ensures tables { (floor : Description) (l : LockNo) (key : ℕ) (change : Change)
+        (old new : Knowledge)
+        (m : Makes floor (Stamps old.thread (event_of l key change) ∷ []) old new)
+        → (after_all (config_in floor) m.state
         (Stamps old.thread (event_of l key change) ∷ [])).table
         ≡ table_after (event_of l key change) m.state.table }
-    ensures value { (plan : Plan) (l : LockNo) (key : ℕ) (change : Change) (old new : Knowledge)
-        (m : Makes plan (Stamps old.thread (event_of l key change) ∷ []) old new)
-        → (after_all (config_of plan) m.state
+    ensures value { (floor : Description) (l : LockNo) (key : ℕ) (change : Change)
+        (old new : Knowledge)
+        (m : Makes floor (Stamps old.thread (event_of l key change) ∷ []) old new)
+        → (after_all (config_in floor) m.state
         (Stamps old.thread (event_of l key change) ∷ [])).table l.0 key
         ≡ cell_after (event_of l key change) (value_at m.state.history l.0 key) }
-    ensures others { (plan : Plan) (l : LockNo) (key : ℕ) (change : Change) (old new : Knowledge)
-        (m : Makes plan (Stamps old.thread (event_of l key change) ∷ []) old new)
+    ensures others { (floor : Description) (l : LockNo) (key : ℕ) (change : Change)
+        (old new : Knowledge)
+        (m : Makes floor (Stamps old.thread (event_of l key change) ∷ []) old new)
         (k other : ℕ) → (k ≡ l.0 → other ≢ key)
-        → (after_all (config_of plan) m.state
+        → (after_all (config_in floor) m.state
         (Stamps old.thread (event_of l key change) ∷ [])).table k other
         ≡ m.state.table k other }
-    ensures replay { (plan : Plan) (l : LockNo) (key : ℕ) (change : Change) (old new : Knowledge)
-        (m : Makes plan (Stamps old.thread (event_of l key change) ∷ []) old new) (k other : ℕ)
-        → (after_all (config_of plan) m.state
+    ensures replay { (floor : Description) (l : LockNo) (key : ℕ) (change : Change)
+        (old new : Knowledge)
+        (m : Makes floor (Stamps old.thread (event_of l key change) ∷ []) old new) (k other : ℕ)
+        → (after_all (config_in floor) m.state
         (Stamps old.thread (event_of l key change) ∷ [])).table k other
-        ≡ value_at (after_all (config_of plan) m.state
+        ≡ value_at (after_all (config_in floor) m.state
         (Stamps old.thread (event_of l key change) ∷ [])).history k other }
 {}

@@ -1,4 +1,4 @@
-//! A running floor: threads of a plan run beside each other on the lock words, turns and records of one table, and each
+//! A running floor: threads run beside each other on the lock words, turns and records of one table, and each
 //! of their atomic steps is a step of `lock_state`, so that the table represents a lawful state between any two.
 //!
 //! - `floor`: the floor, which all threads share.

@@ -5,9 +5,9 @@ ghost use Rattle.lock_objects.specs.Represents.{hold_of};
 
 use crate::ties::Ties;
 use atomic_table::Seat;
-use floor_table::{Law, Slot, View};
+use floor_table::{Description, Law, Slot, View};
 use lock_history::Log;
-use lock_model::{Held, LockNo, Mode, Plan, ThreadNo, place_held};
+use lock_model::{Held, LockNo, Mode, ThreadNo, place_held};
 use std::marker::{Model, PhantomData};
 
 /// A pass to a table of any values, views and keys.
@@ -39,9 +39,9 @@ impl<S, V, K, P: Ties<S, V, K>> Model for PassOf<S, V, K, P> {
 }
 
 /// The pass of a thread: its seat at the floor's table, the locks that it holds, and its log.
-pub type Pass = PassOf<Slot, View, Plan, Law>;
+pub type Pass = PassOf<Slot, View, Description, Law>;
 
-impl PassOf<Slot, View, Plan, Law> {
+impl PassOf<Slot, View, Description, Law> {
     /// The thread.
     pub fn thread(&self) -> ThreadNo
         ensures { result.0 ≡ self.now.view.thread }

@@ -11,19 +11,19 @@ ghost use Rattle.lock_floor.specs.Passes.{IsOf, IsReady, MakesEntry, with_item};
 
 use crate::floor::FloorOf;
 use crate::pass::Pass;
-use floor_table::{Law, Slot, View};
-use lock_model::{Event, Plan, Prio};
+use floor_table::{Description, Law, Slot, View};
+use lock_model::{Event, Prio};
 use std::sync::Wait;
 
-impl FloorOf<Slot, View, Plan, Law> {
+impl FloorOf<Slot, View, Description, Law> {
     /// Sets the thread's base priority. It waits while another thread has the record out.
     pub fn set_base<R: Wait>(&self, rt: &R, pass: &mut Pass, prio: Prio)
         requires ready { IsReady self.now pass.old }
         requires room { 1 ≤ pass.old.view.spare }
         ensures ready { IsReady self.now pass.new }
-        ensures entry { MakesEntry self.now.plan (Base prio)
+        ensures entry { MakesEntry self.now.description (Base prio)
             pass.old.view.share.held pass.old.view pass.new.view }
-        ensures steps { MakesEach self.now.plan
+        ensures steps { MakesEach self.now.description
             (with_item pass.old.view.thread (RecordOf pass.old.view.thread) (Base prio))
             pass.old.view pass.new.view }
     {
@@ -38,9 +38,9 @@ impl FloorOf<Slot, View, Plan, Law> {
         requires ready { IsReady self.now pass.old }
         requires room { 1 ≤ pass.old.view.spare }
         ensures ready { IsReady self.now pass.new }
-        ensures entry { MakesEntry self.now.plan (Shown result.0 result.1)
+        ensures entry { MakesEntry self.now.description (Shown result.0 result.1)
             pass.old.view.share.held pass.old.view pass.new.view }
-        ensures steps { MakesEach self.now.plan
+        ensures steps { MakesEach self.now.description
             (with_item pass.old.view.thread (RecordOf pass.old.view.thread) (Shown result.0 result.1))
             pass.old.view pass.new.view }
     {
@@ -64,7 +64,7 @@ impl FloorOf<Slot, View, Plan, Law> {
     // Where the thread's own record lies.
     fn record_slot(&self, pass: &Pass) -> usize
         requires { IsOf self.now pass.now }
-        ensures { slot_of self.now.plan (RecordOf pass.now.view.thread) ≡ Some result }
+        ensures { slot_of self.now.description (RecordOf pass.now.view.thread) ≡ Some result }
     {
         usize::from(pass.who.0)
     }

@@ -2,10 +2,10 @@
 //! entry that changes a priority or a table changes the value that was taken last first, and its step commits both.
 ghost use Rattle.std.specs.Prelude.{ℕ, ◌≡◌, ◌≤◌, ◌<◌, ◌+◌, ◌%◌, ◌^◌, ⊤, false, Some, [], ◌∷◌};
 ghost use Rattle.atomic_table.specs.Table.{Allows, Me, rest};
-ghost use Rattle.lock_model.specs.Plans.{config_of};
 ghost use Rattle.lock_state.specs.Steps.{Stamps};
 ghost use Rattle.lock_state.specs.Steps.Items.{Item};
 ghost use Rattle.lock_state.specs.Steps.LockWords.{changes_base, changes_table};
+ghost use Rattle.floor_table.specs.Descriptions.{config_in};
 ghost use Rattle.floor_table.specs.Places.{spot, ticket_line, slot_of};
 ghost use Rattle.floor_table.specs.Rule.{FloorHolds};
 ghost use Rattle.floor_table.specs.Steps.{MayMake, Makes};
@@ -16,25 +16,25 @@ ghost use Rattle.lock_floor.specs.Views.{entry_by, stamped};
 
 use crate::floor::FloorOf;
 use crate::pass::Pass;
-use floor_table::{Board, Law, Place, Slot, Tells, View, add, ticket_spot};
-use lock_model::{Entry, Event, OfTable, Plan, ThreadNo};
+use floor_table::{Board, Description, Law, Place, Slot, Tells, View, add, ticket_spot};
+use lock_model::{Entry, Event, OfTable, ThreadNo};
 use std::marker::Brand;
 use thread_records::ThreadRec;
 
-impl FloorOf<Slot, View, Plan, Law> {
+impl FloorOf<Slot, View, Description, Law> {
     /// Makes an entry of an event that changes no priority and no table. Answers its ticket.
     pub fn stamp(&self, pass: &mut Pass, event: Event) -> u32
         requires own { IsOf self.now pass.old }
         requires room { 1 ≤ pass.old.view.spare }
         requires base { changes_base event ≡ false }
         requires table { changes_table event ≡ false }
-        requires may { MayMake self.now.plan pass.old.view (λ s. ⊤)
+        requires may { MayMake self.now.description pass.old.view (λ s. ⊤)
             (Stamps pass.old.view.thread event ∷ []) }
         ensures own { IsOf self.now pass.new }
         ensures view { pass.new.view ≡ seeing pass.new.view.seen
-            (stamped (config_of self.now.plan) pass.old.view
+            (stamped (config_in self.now.description) pass.old.view
             (entry_by pass.old.view.thread result event)) }
-        ensures step { Makes self.now.plan (Stamps pass.old.view.thread event ∷ [])
+        ensures step { Makes self.now.description (Stamps pass.old.view.thread event ∷ [])
             pass.old.view pass.new.view }
     {
         let entry = next_entry::<Brand>(&self.board, &mut pass.seat, pass.who, event);
@@ -48,15 +48,15 @@ impl FloorOf<Slot, View, Plan, Law> {
         requires own { IsOf self.now pass.old }
         requires room { 1 ≤ pass.old.view.spare }
         requires item { (i : Item) × IsChangeOf pass.old.view.thread event i
-            × (slot_of self.now.plan i ≡ Some slot) }
+            × (slot_of self.now.description i ≡ Some slot) }
         requires last { (x : _) × (pass.old.view.out ≡ (slot, x) ∷ rest pass.old.view.out) }
-        requires may { MayMake self.now.plan pass.old.view (λ s. ⊤)
+        requires may { MayMake self.now.description pass.old.view (λ s. ⊤)
             (Stamps pass.old.view.thread event ∷ []) }
         ensures own { IsOf self.now pass.new }
         ensures view { pass.new.view ≡ seeing pass.new.view.seen
-            (stamped_change (config_of self.now.plan) pass.old.view
+            (stamped_change (config_in self.now.description) pass.old.view
             (entry_by pass.old.view.thread result event)) }
-        ensures step { Makes self.now.plan (Stamps pass.old.view.thread event ∷ [])
+        ensures step { Makes self.now.description (Stamps pass.old.view.thread event ∷ [])
             pass.old.view pass.new.view }
     {
         change(&self.board, &mut pass.seat, slot, event);

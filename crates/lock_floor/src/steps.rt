@@ -14,22 +14,22 @@ ghost use Rattle.lock_floor.specs.Views.{counts, looked, sought, gained, put_dow
 
 use crate::floor::FloorOf;
 use crate::pass::Pass;
-use floor_table::{Board, Law, Place, Slot, Tells, View, exchange, load, lock_spot};
-use lock_model::{Held, LockNo, Mode, Plan, ThreadNo, place_held};
+use floor_table::{Board, Description, Law, Place, Slot, Tells, View, exchange, load, lock_spot};
+use lock_model::{Held, LockNo, Mode, ThreadNo, place_held};
 use std::marker::Brand;
 
-impl FloorOf<Slot, View, Plan, Law> {
+impl FloorOf<Slot, View, Description, Law> {
     /// Looks at the word of a lock.
     pub fn look(&self, pass: &mut Pass, l: LockNo) -> u64
         requires own { IsOf self.now pass.old }
-        requires lock { l.0 < length self.now.plan.locks }
-        requires may { MayMake self.now.plan pass.old.view (λ s. ⊤)
+        requires lock { l.0 < length self.now.description.locks }
+        requires may { MayMake self.now.description pass.old.view (λ s. ⊤)
             (Looks pass.old.view.thread l.0 (counts pass.old.view l.0) ∷ []) }
         ensures own { IsOf self.now pass.new }
         ensures word { IsWellFormed (word_of result) }
         ensures view { pass.new.view
             ≡ seeing pass.new.view.seen (looked pass.old.view l.0 (word_of result)) }
-        ensures step { Makes self.now.plan
+        ensures step { Makes self.now.description
             (Looks pass.old.view.thread l.0 (counts pass.old.view l.0) ∷ [])
             pass.old.view pass.new.view }
     {
@@ -39,14 +39,14 @@ impl FloorOf<Slot, View, Plan, Law> {
     /// Begins an acquiring round of a lock, for a try or for a blocking call, with a first look at its word.
     pub fn seek(&self, pass: &mut Pass, l: LockNo, by_try: bool) -> u64
         requires own { IsOf self.now pass.old }
-        requires lock { l.0 < length self.now.plan.locks }
-        requires may { MayMake self.now.plan pass.old.view (λ s. ⊤)
+        requires lock { l.0 < length self.now.description.locks }
+        requires may { MayMake self.now.description pass.old.view (λ s. ⊤)
             (Seeks pass.old.view.thread l.0 by_try ∷ Looks pass.old.view.thread l.0 true ∷ []) }
         ensures own { IsOf self.now pass.new }
         ensures word { IsWellFormed (word_of result) }
         ensures view { pass.new.view ≡ seeing pass.new.view.seen
             (looked (sought pass.old.view l.0 by_try) l.0 (word_of result)) }
-        ensures steps { Makes self.now.plan
+        ensures steps { Makes self.now.description
             (Seeks pass.old.view.thread l.0 by_try ∷ Looks pass.old.view.thread l.0 true ∷ [])
             pass.old.view pass.new.view }
     {
@@ -57,24 +57,25 @@ impl FloorOf<Slot, View, Plan, Law> {
     /// and then the call was a look.
     pub fn gain(&self, pass: &mut Pass, hold: Held, seen: u64) -> Result<(), u64>
         requires own { IsOf self.now pass.old }
-        requires lock { hold.l.0 < length self.now.plan.locks }
+        requires lock { hold.l.0 < length self.now.description.locks }
         requires room { length pass.old.view.share.held < 8 }
         requires word { IsWellFormed (word_of seen) }
         requires fits { MayGain (word_of seen).holder hold.mode }
-        requires may { MayMake self.now.plan pass.old.view (λ s. s.word hold.l.0 ≡ word_of seen)
+        requires may { MayMake self.now.description pass.old.view
+            (λ s. s.word hold.l.0 ≡ word_of seen)
             (Gains pass.old.view.thread hold.l.0 hold.mode hold.by_try ∷ []) }
-        requires may_look { MayMake self.now.plan pass.old.view (λ s. ⊤)
+        requires may_look { MayMake self.now.description pass.old.view (λ s. ⊤)
             (Looks pass.old.view.thread hold.l.0 (counts pass.old.view hold.l.0) ∷ []) }
         ensures own { IsOf self.now pass.new }
         ensures view { IfOk result (λ _. pass.new.view
             ≡ seeing pass.new.view.seen (gained pass.old.view hold)) }
-        ensures step { IfOk result (λ _. Makes self.now.plan
+        ensures step { IfOk result (λ _. Makes self.now.description
             (Gains pass.old.view.thread hold.l.0 hold.mode hold.by_try ∷ [])
             pass.old.view pass.new.view) }
         ensures found { IfErr result (λ found. (found ≢ seen) × IsWellFormed (word_of found)) }
         ensures looked { IfErr result (λ found. pass.new.view
             ≡ seeing pass.new.view.seen (looked pass.old.view hold.l.0 (word_of found))) }
-        ensures look { IfErr result (λ found. Makes self.now.plan
+        ensures look { IfErr result (λ found. Makes self.now.description
             (Looks pass.old.view.thread hold.l.0 (counts pass.old.view hold.l.0) ∷ [])
             pass.old.view pass.new.view) }
     {
@@ -90,23 +91,23 @@ impl FloorOf<Slot, View, Plan, Law> {
     /// stays, or no waiter is shown. `Err` has the word that stands there else, and then the call was a look.
     pub fn put_down(&self, pass: &mut Pass, l: LockNo, mode: Mode, seen: u64) -> Result<(), u64>
         requires own { IsOf self.now pass.old }
-        requires lock { l.0 < length self.now.plan.locks }
+        requires lock { l.0 < length self.now.description.locks }
         requires word { IsWellFormed (word_of seen) }
         requires held { IsHeldIn (word_of seen).holder mode }
         requires drop { is_drop (word_of seen) ≡ true }
-        requires may { MayMake self.now.plan pass.old.view (λ s. s.word l.0 ≡ word_of seen)
+        requires may { MayMake self.now.description pass.old.view (λ s. s.word l.0 ≡ word_of seen)
             (Drops pass.old.view.thread l.0 mode ∷ []) }
-        requires may_look { MayMake self.now.plan pass.old.view (λ s. ⊤)
+        requires may_look { MayMake self.now.description pass.old.view (λ s. ⊤)
             (Looks pass.old.view.thread l.0 (counts pass.old.view l.0) ∷ []) }
         ensures own { IsOf self.now pass.new }
         ensures view { IfOk result (λ _. pass.new.view
             ≡ seeing pass.new.view.seen (put_down pass.old.view l.0)) }
-        ensures step { IfOk result (λ _. Makes self.now.plan
+        ensures step { IfOk result (λ _. Makes self.now.description
             (Drops pass.old.view.thread l.0 mode ∷ []) pass.old.view pass.new.view) }
         ensures found { IfErr result (λ found. (found ≢ seen) × IsWellFormed (word_of found)) }
         ensures looked { IfErr result (λ found. pass.new.view
             ≡ seeing pass.new.view.seen (looked pass.old.view l.0 (word_of found))) }
-        ensures look { IfErr result (λ found. Makes self.now.plan
+        ensures look { IfErr result (λ found. Makes self.now.description
             (Looks pass.old.view.thread l.0 (counts pass.old.view l.0) ∷ [])
             pass.old.view pass.new.view) }
     {

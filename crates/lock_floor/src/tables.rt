@@ -1,9 +1,9 @@
 //! Changes and reads of the locks' tables by a thread at rest. Each call takes the value at a key out of its home, makes
 //! one entry, and gives the value back. None takes memory.
-ghost use Rattle.std.specs.Prelude.{◌≡◌, ◌≢◌, ◌≤◌, IsTrue, Some, ◌∷◌};
+ghost use Rattle.std.specs.Prelude.{◌≡◌, ◌≢◌, ◌≤◌, Some, ◌∷◌};
+ghost use Rattle.std.specs.List.{Contains};
 ghost use Rattle.atomic_table.specs.Table.{rest};
 ghost use Rattle.lock_model.specs.Holds.{NotHeld, Holds};
-ghost use Rattle.lock_model.specs.Keys.{plan_names};
 ghost use Rattle.lock_model.specs.Operations.{hold_in};
 ghost use Rattle.lock_model.specs.declared.event.Event.TheVariants.{Got};
 ghost use Rattle.lock_model.specs.declared.plan.Mode.TheVariants.{Excl};
@@ -16,8 +16,8 @@ ghost use Rattle.lock_floor.specs.Passes.{IsOf, IsReady, MakesEntry, with_item};
 
 use crate::floor::FloorOf;
 use crate::pass::Pass;
-use floor_table::{Law, Slot, View};
-use lock_model::{Event, LockNo, Plan};
+use floor_table::{Description, Law, Slot, View};
+use lock_model::{Event, LockNo};
 use std::sync::Wait;
 
 /// What a change makes of the value at a key of a lock's table.
@@ -41,18 +41,18 @@ impl Change {
     }
 }
 
-impl FloorOf<Slot, View, Plan, Law> {
-    /// Changes the value at a key of the table of a lock that is held exclusively. The plan names the key for the lock.
-    /// It waits while another thread has the value out.
+impl FloorOf<Slot, View, Description, Law> {
+    /// Changes the value at a key of the table of a lock that is held exclusively. The key is one of the floor's. It
+    /// waits while another thread has the value out.
     pub fn edit<R: Wait>(&self, rt: &R, pass: &mut Pass, l: LockNo, key: u64, change: Change)
         requires ready { IsReady self.now pass.old }
         requires held { hold_in pass.old.view.share.held l.0 ≡ Holds Excl }
-        requires named { IsTrue (plan_names self.now.plan l.0 key) }
+        requires named { Contains self.now.description.keys (l.0, key) }
         requires room { 1 ≤ pass.old.view.spare }
         ensures ready { IsReady self.now pass.new }
-        ensures entry { MakesEntry self.now.plan (event_of l key change)
+        ensures entry { MakesEntry self.now.description (event_of l key change)
             pass.old.view.share.held pass.old.view pass.new.view }
-        ensures steps { MakesEach self.now.plan
+        ensures steps { MakesEach self.now.description
             (with_item pass.old.view.thread (CellOf l.0 key) (event_of l key change))
             pass.old.view pass.new.view }
     {
@@ -62,17 +62,17 @@ impl FloorOf<Slot, View, Plan, Law> {
         self.give(pass, slot);
     }
 
-    /// The value at a key of the table of a lock that is held. The plan names the key for the lock. `None` comes exactly
-    /// where the key is absent. It waits while another thread has the value out.
+    /// The value at a key of the table of a lock that is held. The key is one of the floor's. `None` comes exactly where
+    /// the key is absent. It waits while another thread has the value out.
     pub fn read<R: Wait>(&self, rt: &R, pass: &mut Pass, l: LockNo, key: u64) -> Option<u64>
         requires ready { IsReady self.now pass.old }
         requires held { hold_in pass.old.view.share.held l.0 ≢ NotHeld }
-        requires named { IsTrue (plan_names self.now.plan l.0 key) }
+        requires named { Contains self.now.description.keys (l.0, key) }
         requires room { 1 ≤ pass.old.view.spare }
         ensures ready { IsReady self.now pass.new }
-        ensures entry { MakesEntry self.now.plan (Got l key result)
+        ensures entry { MakesEntry self.now.description (Got l key result)
             pass.old.view.share.held pass.old.view pass.new.view }
-        ensures steps { MakesEach self.now.plan
+        ensures steps { MakesEach self.now.description
             (with_item pass.old.view.thread (CellOf l.0 key) (Got l key result))
             pass.old.view pass.new.view }
     {
@@ -86,11 +86,11 @@ impl FloorOf<Slot, View, Plan, Law> {
 
     // Where the value at a key of a lock's table lies.
     fn cell_slot(&self, l: LockNo, key: u64) -> usize
-        requires { IsTrue (plan_names self.now.plan l.0 key) }
-        ensures { slot_of self.now.plan (CellOf l.0 key) ≡ Some result }
+        requires { Contains self.now.description.keys (l.0, key) }
+        ensures { slot_of self.now.description (CellOf l.0 key) ≡ Some result }
     {
-        match self.cells.binary_search(&(l.0, key)) {
-            Ok(i) => self.threads + i,
+        match self.description.keys.as_slice().binary_search(&(l.0, key)) {
+            Ok(i) => self.description.threads.as_slice().len() + i,
             Err(_) => unreachable!(),
         }
     }

@@ -1,24 +1,23 @@
 //! What is true of each floor and of each pass, as members of the rule of the table: so both are found to cross threads,
 //! whatever lies in the slots.
 
-use floor_table::{Law, Slot, View};
-use lock_model::Plan;
+use floor_table::{Description, Law, Slot, View};
 
 /// What ties a floor to its table, and a pass to what its seat knows.
 pub trait Ties<S, V, K> {
-    ghost use Rattle.std.specs.Prelude.{ℕ, Bool, List};
+    ghost use Rattle.std.specs.Prelude.{ℕ, Bool};
     ghost use Rattle.std.specs.Global.{Vec};
     ghost use Rattle.atomic_table.specs.Table.{Me};
     ghost use Rattle.atomic_table.specs.Seated.{TableId};
     ghost use Rattle.lock_history.specs.Books.{Book};
     ghost use Rattle.lock_model.specs.declared.event.Held.{Held};
 
-    ghost laid: { K → TableId → ℕ → List (ℕ × ℕ) → Type 0 };
+    ghost laid: { K → TableId → K → Type 0 };
 
     ghost tied: { ℕ → Vec Held → Book → Bool → Me S V → Type 0 };
 }
 
-impl Ties<Slot, View, Plan> for Law {
+impl Ties<Slot, View, Description> for Law {
     ghost use Rattle.lock_floor.specs.Ties.{IsLaid, IsTied};
 
     ghost laid = { IsLaid };

@@ -16,27 +16,27 @@ ghost use Rattle.lock_floor.specs.Views.{gave};
 
 use crate::floor::FloorOf;
 use crate::pass::Pass;
-use floor_table::{Board, Law, Place, Slot, Tells, View, exchange, store, turn_spot};
-use lock_model::{Plan, ThreadNo};
+use floor_table::{Board, Description, Law, Place, Slot, Tells, View, exchange, store, turn_spot};
+use lock_model::ThreadNo;
 use std::hint;
 use std::marker::Brand;
 use std::sync::Wait;
 
-impl FloorOf<Slot, View, Plan, Law> {
+impl FloorOf<Slot, View, Description, Law> {
     /// Takes the record of a thread, if it is at home. `false` comes only where another thread had it out at the moment
     /// of this call's own exchange, or the pass itself has it.
     pub fn try_take_rec(&self, pass: &mut Pass, t: ThreadNo) -> bool
         requires own { IsOf self.now pass.old }
-        requires thread { t.0 < length self.now.plan.threads }
-        requires may { MayMake self.now.plan pass.old.view (λ s. s.record_with t.0 ≡ None)
+        requires thread { t.0 < length self.now.description.threads }
+        requires may { MayMake self.now.description pass.old.view (λ s. s.record_with t.0 ≡ None)
             (TakesItem pass.old.view.thread (RecordOf t.0) ∷ []) }
         ensures own { IsOf self.now pass.new }
         ensures out { result ≡ true
-            → Takes self.now.plan (RecordOf t.0) t.0 pass.old.view pass.new.view }
+            → Takes self.now.description (RecordOf t.0) t.0 pass.old.view pass.new.view }
         ensures left { result ≡ false → pass.new.view
             ≡ seeing pass.new.view.seen pass.old.view }
         ensures elsewhere { result ≡ false
-            → FindsOut self.now.plan (RecordOf t.0) pass.old.view pass.new.view }
+            → FindsOut self.now.description (RecordOf t.0) pass.old.view pass.new.view }
     {
         self.try_take(pass, usize::from(t.0))
     }
@@ -44,11 +44,11 @@ impl FloorOf<Slot, View, Plan, Law> {
     /// Takes the record of a thread, when it is at home.
     pub fn take_rec<R: Wait>(&self, rt: &R, pass: &mut Pass, t: ThreadNo)
         requires own { IsOf self.now pass.old }
-        requires thread { t.0 < length self.now.plan.threads }
-        requires may { MayMake self.now.plan pass.old.view (λ s. s.record_with t.0 ≡ None)
+        requires thread { t.0 < length self.now.description.threads }
+        requires may { MayMake self.now.description pass.old.view (λ s. s.record_with t.0 ≡ None)
             (TakesItem pass.old.view.thread (RecordOf t.0) ∷ []) }
         ensures own { IsOf self.now pass.new }
-        ensures out { Takes self.now.plan (RecordOf t.0) t.0 pass.old.view pass.new.view }
+        ensures out { Takes self.now.description (RecordOf t.0) t.0 pass.old.view pass.new.view }
     {
         self.take(rt, pass, usize::from(t.0));
     }
@@ -56,14 +56,15 @@ impl FloorOf<Slot, View, Plan, Law> {
     /// Gives back the record of a thread, which was taken last.
     pub fn give_rec(&self, pass: &mut Pass, t: ThreadNo)
         requires own { IsOf self.now pass.old }
-        requires thread { t.0 < length self.now.plan.threads }
+        requires thread { t.0 < length self.now.description.threads }
         requires last { (x : _) × (pass.old.view.out ≡ (t.0, Record x) ∷ rest pass.old.view.out) }
-        requires may { MayMake self.now.plan pass.old.view (λ s. ⊤)
+        requires may { MayMake self.now.description pass.old.view (λ s. ⊤)
             (GivesItem pass.old.view.thread (RecordOf t.0) ∷ []) }
         ensures own { IsOf self.now pass.new }
         ensures view { pass.new.view
             ≡ seeing pass.new.view.seen (gave pass.old.view (RecordOf t.0)) }
-        ensures step { Makes self.now.plan (GivesItem pass.old.view.thread (RecordOf t.0) ∷ [])
+        ensures step { Makes self.now.description
+            (GivesItem pass.old.view.thread (RecordOf t.0) ∷ [])
             pass.old.view pass.new.view }
     {
         self.give(pass, usize::from(t.0));
@@ -72,16 +73,16 @@ impl FloorOf<Slot, View, Plan, Law> {
     // Takes what a place has, if it is at home there.
     pub(crate) fn try_take(&self, pass: &mut Pass, slot: usize) -> bool
         requires own { IsOf self.now pass.old }
-        requires may { (i : Item) × (slot_of self.now.plan i ≡ Some slot)
-            × MayMake self.now.plan pass.old.view (λ s. item_with s i ≡ None)
+        requires may { (i : Item) × (slot_of self.now.description i ≡ Some slot)
+            × MayMake self.now.description pass.old.view (λ s. item_with s i ≡ None)
             (TakesItem pass.old.view.thread i ∷ []) }
         ensures own { IsOf self.now pass.new }
-        ensures out { result ≡ true → (i : Item) → slot_of self.now.plan i ≡ Some slot
-            → Takes self.now.plan i slot pass.old.view pass.new.view }
+        ensures out { result ≡ true → (i : Item) → slot_of self.now.description i ≡ Some slot
+            → Takes self.now.description i slot pass.old.view pass.new.view }
         ensures left { result ≡ false → pass.new.view
             ≡ seeing pass.new.view.seen pass.old.view }
-        ensures elsewhere { result ≡ false → (i : Item) → slot_of self.now.plan i ≡ Some slot
-            → FindsOut self.now.plan i pass.old.view pass.new.view }
+        ensures elsewhere { result ≡ false → (i : Item) → slot_of self.now.description i ≡ Some slot
+            → FindsOut self.now.description i pass.old.view pass.new.view }
     {
         take_turn::<Brand>(&self.board, &mut pass.seat, pass.who, slot) == 0
     }
@@ -89,12 +90,12 @@ impl FloorOf<Slot, View, Plan, Law> {
     // Takes what a place has, when it is at home there.
     pub(crate) fn take<R: Wait>(&self, rt: &R, pass: &mut Pass, slot: usize)
         requires own { IsOf self.now pass.old }
-        requires may { (i : Item) × (slot_of self.now.plan i ≡ Some slot)
-            × MayMake self.now.plan pass.old.view (λ s. item_with s i ≡ None)
+        requires may { (i : Item) × (slot_of self.now.description i ≡ Some slot)
+            × MayMake self.now.description pass.old.view (λ s. item_with s i ≡ None)
             (TakesItem pass.old.view.thread i ∷ []) }
         ensures own { IsOf self.now pass.new }
-        ensures out { (i : Item) → slot_of self.now.plan i ≡ Some slot
-            → Takes self.now.plan i slot pass.old.view pass.new.view }
+        ensures out { (i : Item) → slot_of self.now.description i ≡ Some slot
+            → Takes self.now.description i slot pass.old.view pass.new.view }
     {
         for _ in rt.forever() {
             if self.try_take(pass, slot) {
@@ -109,14 +110,14 @@ impl FloorOf<Slot, View, Plan, Law> {
     pub(crate) fn give(&self, pass: &mut Pass, slot: usize)
         requires own { IsOf self.now pass.old }
         requires last { (x : _) × (pass.old.view.out ≡ (slot, x) ∷ rest pass.old.view.out) }
-        requires may { (i : Item) × (slot_of self.now.plan i ≡ Some slot)
-            × MayMake self.now.plan pass.old.view (λ s. ⊤)
+        requires may { (i : Item) × (slot_of self.now.description i ≡ Some slot)
+            × MayMake self.now.description pass.old.view (λ s. ⊤)
             (GivesItem pass.old.view.thread i ∷ []) }
         ensures own { IsOf self.now pass.new }
-        ensures view { (i : Item) → slot_of self.now.plan i ≡ Some slot
+        ensures view { (i : Item) → slot_of self.now.description i ≡ Some slot
             → pass.new.view ≡ seeing pass.new.view.seen (gave pass.old.view i) }
-        ensures step { (i : Item) → slot_of self.now.plan i ≡ Some slot
-            → Makes self.now.plan (GivesItem pass.old.view.thread i ∷ [])
+        ensures step { (i : Item) → slot_of self.now.description i ≡ Some slot
+            → Makes self.now.description (GivesItem pass.old.view.thread i ∷ [])
             pass.old.view pass.new.view }
     {
         give_turn::<Brand>(&self.board, &mut pass.seat, slot);

@@ -152,6 +152,19 @@ module _ (l key : ℕ) where
       ∙ or_step false (has_room start) (list_any q (take i ops)) (q (get_or ops i d)) (ap (naming.is_at l key) named)
       ∙ ap (λ b. has_room start || b) (sym (list_any_more q ops i d lt))
 
+  -- one key of a list more
+  pub room_for_one : (m n : BTreeMap (ℕ × ℕ) (Option ℕ)) (keys : List (ℕ × ℕ)) (i : ℕ) (d : ℕ × ℕ) → i < length keys
+      → has_room m ≡ list_any (eq_by_cmp place_cmp (l, key)) (take i keys)
+      → Updates place_cmp m n (get_or keys i d) (Some None)
+      → has_room n ≡ list_any (eq_by_cmp place_cmp (l, key)) (take (i + 1) keys)
+  room_for_one m n keys i d lt before u =
+      let q = eq_by_cmp place_cmp (l, key) in
+      ap is_some (u.0 (l, key)) ∙ some_or _ (Some None) _ refl
+      ∙ ap (λ b. b || has_room m) ((eq_by_cmp_equiv place_total).symm (get_or keys i d) (l, key))
+      ∙ ap (λ b. q (get_or keys i d) || b) before
+      ∙ or_step (q (get_or keys i d)) false (list_any q (take i keys)) (q (get_or keys i d)) refl
+      ∙ sym (list_any_more q keys i d lt)
+
 -- a place that stands among the keys is found
 pub is_found : (m : BTreeMap (ℕ × ℕ) (Option ℕ)) (k : ℕ × ℕ) → Contains (tree.keys m) k → is_some (tree.get place_cmp m k) ≡ true
 is_found m k h = (btree_map_contains_key_iff place_total place_exact m k).1 h

@@ -58,6 +58,20 @@ impl Tables {
         Ok(Tables { slots })
     }
 
+    /// Tables with room for each of these keys, which stand behind their locks' numbers, and no key present. It
+    /// fails where memory runs out.
+    pub fn with_room(alloc: Global, keys: &[(u8, u64)]) -> Result<Tables, AllocError>
+        ensures empty { IfOk result (λ t. t.present ≡ empty) }
+        ensures room { IfOk result (λ t. (l key : ℕ) →
+            Contains t.places (l, key) ↔ Contains keys.now (l, key)) }
+    {
+        let mut slots = BTreeMap::new(alloc);
+        for key in keys {
+            slots.insert(*key, None)?;
+        }
+        Ok(Tables { slots })
+    }
+
     /// Sets a key that there is room for, and leaves the others. It takes no memory, and time in the
     /// logarithm of the keys.
     pub fn put(&mut self, l: LockNo, key: u64, value: u64)

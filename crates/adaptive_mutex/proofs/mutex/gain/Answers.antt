@@ -8,28 +8,29 @@ use Rattle.adaptive_mutex.proofs.mutex.gain.Goals as goal
 pub loop-init : goal.loop-init
 loop-init g c = record {
   own = c.requires.own;
-  looked = (0, no_look c.args.floor.now.plan c.args.l.0 c.args.pass.now.view);
+  looked = (0, no_look c.args.floor.now.description c.args.l.0 c.args.pass.now.view);
 }
 
 pub gain-requires-clause-may : goal.gain-requires-clause-may
 gain-requires-clause-may g c =
     let x = c.loop.invariant.looked in
-    may_gain_free c.args.floor.now.plan c.args.l.0 false c.loop.pass.view c.requires.mutex (may_gain_on c.args.floor.now.plan c.args.l.0 x.0 c.args.pass.now.view c.loop.pass.view c.requires.may x.1)
+    may_gain_free c.args.floor.now.description c.args.l.0 false c.loop.pass.view c.requires.mutex (may_gain_on c.args.floor.now.description c.args.l.0 x.0 c.args.pass.now.view c.loop.pass.view c.requires.may x.1)
 
 pub gain-requires-clause-may_look : goal.gain-requires-clause-may_look
 gain-requires-clause-may_look g c =
     let x = c.loop.invariant.looked in
-    may_look_on c.args.floor.now.plan c.loop.pass.view c.args.l.0 (still_no_round c.args.floor.now.plan c.args.l.0 x.0 c.args.pass.now.view c.loop.pass.view c.requires.may.no_round x.1) c.requires.mutex.lock (still_going c.args.floor.now.plan c.args.l.0 x.0 c.args.pass.now.view c.loop.pass.view c.requires.may.going x.1)
+    may_look_on c.args.floor.now.description c.loop.pass.view c.args.l.0 (still_no_round c.args.floor.now.description c.args.l.0 x.0 c.args.pass.now.view c.loop.pass.view c.requires.may.no_round x.1) c.requires.mutex.lock (still_going c.args.floor.now.description c.args.l.0 x.0 c.args.pass.now.view c.loop.pass.view c.requires.may.going x.1)
 
 pub watch-requires-clause-going : goal.watch-requires-clause-going
 watch-requires-clause-going g c =
     let x = c.loop.invariant.looked in
-    subst IsGoing (sym c.in-Err.ensures.looked) (still_going c.args.floor.now.plan c.args.l.0 x.0 c.args.pass.now.view c.loop.pass.view c.requires.may.going x.1)
+    subst IsGoing (sym c.in-Err.ensures.looked) (still_going c.args.floor.now.description c.args.l.0 x.0 c.args.pass.now.view c.loop.pass.view c.requires.may.going x.1)
 
 pub loop-preserved : goal.loop-preserved
 loop-preserved g c = record {
   own = c.watch.ensures.own;
-  looked = look_on c.args.floor.now.plan c.args.l.0 c.args.pass.now.view c.gain.new.pass.view c.watch.new.pass.view
-      (look_again c.args.floor.now.plan c.args.l.0 c.args.pass.now.view c.loop.pass.view c.gain.new.pass.view (word_of c.in-Err.field-0) c.requires.may.no_round c.loop.invariant.looked c.in-Err.ensures.looked c.in-Err.ensures.look)
+  looked = look_on c.args.floor.now.description c.args.l.0 c.args.pass.now.view c.gain.new.pass.view
+      c.watch.new.pass.view
+      (look_again c.args.floor.now.description c.args.l.0 c.args.pass.now.view c.loop.pass.view c.gain.new.pass.view (word_of c.in-Err.field-0) c.requires.may.no_round c.loop.invariant.looked c.in-Err.ensures.looked c.in-Err.ensures.look)
       c.watch.ensures.looked;
 }

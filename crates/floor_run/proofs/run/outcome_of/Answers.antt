@@ -31,4 +31,4 @@ returns c x =
     let queues : o.queues ≡ [] = c.from_vec.ensures ∙ c.new.ensures.items in
     let finals : numbers_of o.finals ≡ map its_base c.args.closing.now.recs.items = ap numbers_of c.from_vec-2.ensures ∙ c.in_ok-finals.ensures ∙ ap (map its_base) c.recs.ensures in
     let ending : ending_of o.last ≡ ending_of_run (reverse o.history) = c.last_of-last.ensures ∙ ap (λ (h : List Entry). ending_of_run (reverse h)) c.as_slice.ensures in
-    outcome_same c.args.plan.now c.args.closing.now x o merged queues finals c.in_ok-tables.ensures ending
+    outcome_same c.args.plan.now c.args.chains c.args.closing.now x o merged queues finals c.in_ok-tables.ensures ending

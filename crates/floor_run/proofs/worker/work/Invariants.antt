@@ -3,7 +3,7 @@ use Rattle.floor_run.specs.Progress.{IsBefore}
 use Rattle.floor_run.proofs.worker.work.Given as goal
 
 abbrev pub invariant-loop-next : goal.invariant-loop-next
-invariant-loop-next g l = IsBefore l.floor l.initial.pass.view.thread l.next l.pass
+invariant-loop-next g l = IsBefore l.plan l.floor l.initial.pass.view.thread l.next l.pass
 
 abbrev pub decreases-loop-next : goal.decreases-loop-next
 decreases-loop-next g l = length l.ops - l.next

@@ -22,9 +22,9 @@ loop-i-init c = record {
 
 pub put-requires : goal.put-requires
 put-requires c =
-    let cells = c.args.cells.now in
+    let keys = c.args.keys.now in
     let i = c.loop-i.i in
-    record { room = subst (λ ps. Contains ps (get_or cells i (0, 0))) (sym c.loop-i.invariant.room) (c.requires.room _ _ (Contains-get_or cells i (0, 0) c.loop-i-test.true)) }
+    record { room = subst (λ ps. Contains ps (get_or keys i (0, 0))) (sym c.loop-i.invariant.room) (c.requires.room _ _ (Contains-get_or keys i (0, 0) c.loop-i-test.true)) }
 
 pub unreachable-requires : goal.unreachable-requires
 unreachable-requires c =
@@ -38,13 +38,13 @@ loop-i-preserved c =
     let i = c.loop-i.invariant in
     let others = c.take.ensures.others in
     let flags = slots_filled c.loop-i.closed.slots in
-    let cells = c.args.cells.now in
-    let cell = get_or cells c.loop-i.i (0, 0) in
+    let keys = c.args.keys.now in
+    let cell = get_or keys c.loop-i.i (0, 0) in
     let low = c.loop-i-test.true in
     record {
       values = λ column is.
           let here = same_value (column cell.0 cell.1) c.in-Cell.value (sym (is c.loop-i.i (0, 0) low) ∙ ap (λ xs. get_elem? xs t) (sym i.items) ∙ c.take.ensures.value ∙ ap some c.in-Cell.is) in
-          shows_more cells c.loop-i.i column c.loop-i.tables.present low (i.values column is) cell (get_or_default cells c.loop-i.i (0, 0) cell low) c.in-Cell.value c.put.new.tables.present here c.put.ensures.some c.put.ensures.none;
+          shows_more keys c.loop-i.i column c.loop-i.tables.present low (i.values column is) cell (get_or_default keys c.loop-i.i (0, 0) cell low) c.in-Cell.value c.put.new.tables.present here c.put.ensures.some c.put.ensures.none;
       room = c.put.ensures.places ∙ i.room;
       items = others.0 ∙ i.items;
       places = others.2 ∙ i.places;

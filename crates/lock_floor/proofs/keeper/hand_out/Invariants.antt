@@ -9,8 +9,8 @@ abbrev pub invariant-loop-t : goal.invariant-loop-t
 invariant-loop-t l = record {
   table : l.seat.table_id ≡ l.board.shared.table_id;
   first : l.seat.id ≡ 0;
-  me : l.seat.me ≡ (record (keeper l.plan) { made = l.t; spare = rooms_from l.plan l.t }, []);
+  me : l.seat.me ≡ (record (keeper l.description) { made = l.t; spare = rooms_from l.description l.t }, []);
   count : length l.passes.items ≡ l.t;
-  room : length l.plan.threads ≤ vec_capacity l.passes;
-  each : (k : ℕ) (d : Pass Knowledge) → k < l.t → get_or l.passes.items k d ≡ first_pass l.board.shared.table_id l.plan k;
+  room : length l.description.threads ≤ vec_capacity l.passes;
+  each : (k : ℕ) (d : Pass Knowledge) → k < l.t → get_or l.passes.items k d ≡ first_pass l.board.shared.table_id l.description k;
 }

@@ -5,7 +5,7 @@ pub returns-clause-word : goal.returns-clause-word
 returns-clause-word c = law.finds_word
 
 pub returns-clause-seen : goal.returns-clause-seen
-returns-clause-seen c plan l counts old new m = m.seen
+returns-clause-seen c floor l counts old new m = m.seen
 
 pub returns-clause-again : goal.returns-clause-again
 returns-clause-again c = law.same_look

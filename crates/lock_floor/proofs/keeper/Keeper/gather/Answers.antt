@@ -2,7 +2,7 @@ use Rattle.std.proofs.Common.{◌≡◌, ℕ, ◌+◌, [], ◌∷◌, ◌++◌, 
 use Rattle.std.proofs.lemmas.List.{length-map, map_push}
 use Rattle.atomic_table.specs.Table.{Me, Joins, Allows}
 use Rattle.lock_history.specs.Books.{Book}
-use Rattle.lock_model.specs.declared.plan.Plan.{Plan}
+use Rattle.floor_table.specs.declared.description.Description.{Description}
 use Rattle.floor_table.specs.declared.slot.Slot.{Slot}
 use Rattle.floor_table.specs.Rule.{FloorHolds}
 use Rattle.floor_table.specs.Shares.{Share}
@@ -17,10 +17,10 @@ use Rattle.lock_floor.proofs.keeper.Keeper.gather.Goals.{After-push_reserved-arg
 
 pub join_seat-requires : goal.join_seat-requires
 join_seat-requires c =
-    let key : Plan = c.floor.inside.board.shared.key in
+    let key : Description = c.floor.inside.board.shared.key in
     let v : Knowledge = c.self.inside.seat.me.0 in
     let w : Knowledge = c.pass.inside.seat.me.0 in
-    let floor : c.floor.inside.board.shared.table_id ≡ c.args.floor.now.table = ap (λ (f : Floor Plan). f.table) c.floor.view_is in
+    let floor : c.floor.inside.board.shared.table_id ≡ c.args.floor.now.table = ap (λ (f : Floor Description). f.table) c.floor.view_is in
     let rest : w.out ≡ [] = c.pass.invariant.done (ap (λ (p : Pass Knowledge). p.finished) c.pass.view_is ∙ c.requires.finished.finished) in (
       ap (λ (k : Keeper). k.table) c.self.view_is ∙ c.requires.mine.table ∙ sym floor,
       ap (λ (p : Pass Knowledge). p.table) c.pass.view_is ∙ c.requires.finished.table ∙ sym floor,
@@ -34,7 +34,7 @@ ask-requires-clause-within c = omega (arith, c.floor.invariant.words)
 
 pub ask-requires-clause-may : goal.ask-requires-clause-may
 ask-requires-clause-may c =
-    let key : Plan = c.floor.inside.board.shared.key in
+    let key : Description = c.floor.inside.board.shared.key in
     let slots = c.floor.inside.board.shared.table_id.slots in
     let me : Me Slot Knowledge = c.join_seat.new.seat.me in
     subst (λ i. Allows (FloorHolds key) slots i me (spot ticket_line) (λ n. n) (Asked key me)) (sym (c.join_seat.ensures.1 ∙ c.self.invariant.first)) (ask_allowed key slots me)
@@ -43,20 +43,21 @@ ask-requires-clause-may c =
 behind : (c : After-drop-pass-inside) → c.ask.new.seat.me ≡ (with_pass_taken c.self.inside.seat.me.0 c.pass.inside.seat.me.0, c.self.inside.seat.me.1)
 behind c = c.ask.ensures.told.0 ∙ c.join_seat.ensures.2
 
--- its plan is the floor's
-its_plan : (c : After-push_reserved-arg-1) → c.self.inside.seat.me.0.plan ≡ c.floor.inside.board.shared.key
-its_plan c = ap (λ (k : Keeper). k.view.plan) c.self.view_is ∙ c.requires.mine.plan ∙ sym (ap (λ (f : Floor Plan). f.plan) c.floor.view_is)
+-- its description is the floor's
+its_floor : (c : After-push_reserved-arg-1) → c.self.inside.seat.me.0.description ≡ c.floor.inside.board.shared.key
+its_floor c = ap (λ (k : Keeper). k.view.description) c.self.view_is ∙ c.requires.mine.description ∙ sym (ap (λ (f : Floor Description). f.description) c.floor.view_is)
 
 pub push_reserved-requires : goal.push_reserved-requires
 push_reserved-requires c =
     let v : Knowledge = c.self.inside.seat.me.0 in
     let w : Knowledge = c.pass.inside.seat.me.0 in
-    let key : Plan = c.floor.inside.board.shared.key in
+    let key : Description = c.floor.inside.board.shared.key in
     let logs = c.self.inside.logs.items in
     let long : length logs ≡ length v.gathered = sym (length-map logs (λ (b : Book). b.entries)) ∙ ap length c.self.invariant.logs_are ∙ length-map v.gathered (λ (g : ℕ × Share). reverse g.1.log) in
     let more : length c.join_seat.new.seat.me.0.gathered ≡ length v.gathered + 1 = ap (λ (m : Me Slot Knowledge). length m.0.gathered) c.join_seat.ensures.2 ∙ length-append v.gathered ((w.thread, w.share) ∷ []) in
-    let plan : length v.plan.threads ≡ length key.threads = ap (λ (p : Plan). length p.threads) (its_plan c) in
-    omega (arith, long, more, plan, c.ask.ensures.told.1, c.self.invariant.room_for_logs)
+    let threads : length v.description.threads ≡ length key.threads =
+    ap (λ (d : Description). length d.threads) (its_floor c) in
+    omega (arith, long, more, threads, c.ask.ensures.told.1, c.self.invariant.room_for_logs)
 
 pub invariant_of-self : goal.invariant_of-self
 invariant_of-self c =
@@ -75,14 +76,14 @@ invariant_of-self c =
       room_for_logs = omega (arith, k.room_for_logs, c.push_reserved.ensures.capacity);
       room_for_records = k.room_for_records;
       no_records = k.no_records;
-      room_for_cells = k.room_for_cells;
+      room_for_keys = k.room_for_keys;
       no_values = k.no_values;
     }
 
 pub returns-clause-mine : goal.returns-clause-mine
 returns-clause-mine c = record {
   table = c.ask.ensures.own ∙ c.join_seat.ensures.0 ∙ ap (λ (k : Keeper). k.table) c.self.view_is ∙ c.requires.mine.table;
-  plan = ap (λ (m : Me Slot Knowledge). m.0.plan) (behind c) ∙ ap (λ (k : Keeper). k.view.plan) c.self.view_is ∙ c.requires.mine.plan;
+  description = ap (λ (m : Me Slot Knowledge). m.0.description) (behind c) ∙ ap (λ (k : Keeper). k.view.description) c.self.view_is ∙ c.requires.mine.description;
 }
 
 pub returns-clause-gathered : goal.returns-clause-gathered

@@ -1,0 +1,34 @@
+use Rattle.std.proofs.Common.{◌≡◌, ◌+◌, ℕ, List, length, Some, Result, Ok, Err, sym, ap, ◌∙◌, subst}
+use Rattle.std.specs.List.Sorted.{IsSearchInRange, IsBinarySearchResult}
+use Rattle.lock_model.specs.History.{place_cmp}
+use Rattle.floor_table.specs.Descriptions.{IsSized}
+use Rattle.floor_table.specs.declared.description.Description.{Description}
+use Rattle.lock_floor.specs.Floors.{Floor}
+use Rattle.lock_floor.proofs.Searching.{searched}
+use Rattle.lock_floor.proofs.tables.FloorOf+Slot+View+Description+Law.cell_slot.Goals as goal
+
+-- a search among the keys that the floor keeps is one among those that its table was told
+abbrev pub Answers : ℕ × ℕ → List (ℕ × ℕ) → Result ℕ ℕ → Type 0
+Answers q ks r = IsSearchInRange r (length ks) × IsBinarySearchResult (λ y. place_cmp y q) ks r
+
+pub unreachable-requires : goal.unreachable-requires
+unreachable-requires c =
+    let floor = c.args.self.now.description in
+    let q : ℕ × ℕ = (c.args.l.0, c.args.key) in
+    let told = ap (λ (f : Floor Description). f.description) c.self.view_is in
+    let keys = c.as_slice.ensures ∙ ap (λ (d : Description). d.keys) (c.self.invariant.kept ∙ told) in
+    let at = subst (λ ks. Answers q ks (Err c.in-Err.field-0)) keys (c.in-Err.ensures.bound, c.in-Err.ensures.position) in
+    let sized = subst IsSized told c.self.invariant.sized in
+    searched floor sized c.args.l.0 c.args.key (Err c.in-Err.field-0) c.requires at.0 at.1
+
+pub returns : goal.returns
+returns c =
+    let floor = c.args.self.now.description in
+    let q : ℕ × ℕ = (c.args.l.0, c.args.key) in
+    let i = c.in-Ok.i in
+    let told = ap (λ (f : Floor Description). f.description) c.self.view_is in
+    let keys = c.as_slice.ensures ∙ ap (λ (d : Description). d.keys) (c.self.invariant.kept ∙ told) in
+    let at = subst (λ ks. Answers q ks (Ok i)) keys (c.in-Ok.ensures.bound, c.in-Ok.ensures.position) in
+    let parts = c.as_slice-in-Ok.ensures ∙ ap (λ (d : Description). d.threads) (c.self.invariant.kept ∙ told) in
+    searched floor (subst IsSized told c.self.invariant.sized) c.args.l.0 c.args.key (Ok i) c.requires at.0 at.1
+    ∙ ap (λ n. Some (n + i)) (sym (ap length parts))

@@ -1,9 +1,0 @@
-use Rattle.lock_floor.specs.Passes.{IsOf}
-use Rattle.lock_floor.proofs.Taking.{HasWaited}
-use Rattle.lock_floor.proofs.turns.FloorOf+Slot+View+Plan+Law.take.Given as goal
-
-abbrev pub invariant-loop : goal.invariant-loop
-invariant-loop g l = record {
-  own : IsOf l.self l.pass;
-  waited : HasWaited l.initial.pass.view l.pass.view;
-}

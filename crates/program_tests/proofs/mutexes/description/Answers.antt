@@ -1,0 +1,27 @@
+use Rattle.std.proofs.Common.{ℕ, ◌<◌, ◌≤◌, ◌^◌, List, [], length, subst, sym, ◌∙◌, arith}
+use Rattle.std.specs.List.Sorted.{IsStrictlySortedBy}
+use Rattle.lock_model.specs.History.{place_cmp}
+use Rattle.lock_model.specs.Limits.{most_threads, most_locks}
+use Rattle.floor_table.specs.declared.description.LockPart.{LockPart}
+use Rattle.floor_table.specs.declared.description.ThreadPart.{ThreadPart}
+use Rattle.floor_table.specs.Descriptions.{room_in_all}
+use Rattle.program_tests.proofs.mutexes.description.Goals as goal
+
+none_rise : IsStrictlySortedBy place_cmp []
+unfolding IsStrictlySortedBy
+none_rise = tt
+
+pub returns-clause-sized : goal.returns-clause-sized
+returns-clause-sized c =
+    let threads = sym (c.from_vec.ensures ∙ c.in_ok-vec.ensures.items) in
+    let locks = sym (c.from_vec-2.ensures ∙ c.in_ok-vec-2.ensures.items) in
+    let keys = sym (c.from_vec-4.ensures ∙ c.new-2.ensures.items) in
+    record {
+      threads = subst (λ (xs : List ThreadPart). length xs ≤ most_threads) threads (omega arith);
+      locks = subst (λ (xs : List LockPart). length xs ≤ most_locks) locks (omega arith);
+      keys = subst (λ (xs : List (ℕ × ℕ)). length xs < 2 ^ 16) keys (omega arith);
+      rising = subst (IsStrictlySortedBy place_cmp) keys none_rise;
+      room = subst (λ (xs : List ThreadPart). room_in_all xs < 2 ^ 32) threads (omega arith);
+      some_chains = omega arith;
+      few_chains = omega arith;
+    }
