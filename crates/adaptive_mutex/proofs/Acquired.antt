@@ -27,7 +27,7 @@ use Rattle.lock_floor.proofs.Finding.{finds_word}
 use Rattle.lock_floor.proofs.May.{own_log, may_gain, may_stamp}
 use Rattle.lock_floor.proofs.Resting.{gain_event, rest_seeing, rest_gained, rest_stamped}
 use Rattle.adaptive_mutex.specs.Mutexes.{IsMutex, MayAcquire, as_held, after_looks, WasBusy}
-use Rattle.adaptive_mutex.specs.Waiting.{with_looks, HasLooked, MayGain, Gains}
+use Rattle.adaptive_mutex.specs.Waiting.{with_looks, HasLooked, MayGain, LooksThenGains}
 use Rattle.adaptive_mutex.proofs.Words.{mutex_is_held}
 use Rattle.adaptive_mutex.proofs.Looks.{each_append, uncounted, look_knows, no_look, looks_rest}
 
@@ -38,7 +38,7 @@ pub acquires : (floor : Description) (l : ℕ) (v : Knowledge) → IsAtRest floo
 acquires floor l v r m = record { unheld = m.unheld; few = m.few; wants_nothing = r.wants_nothing; takes_nothing = r.takes_nothing; no_round = r.no_round; going = r.going }
 
 -- a gain without a look before
-pub gains_at_once : (floor : Description) (l : LockNo) (v w : Knowledge) → w ≡ seeing w.seen (gained v (as_held l true)) → Makes floor (steps.Gains v.thread l.0 Excl true ∷ []) v w → Gains floor (as_held l true) 0 v w
+pub gains_at_once : (floor : Description) (l : LockNo) (v w : Knowledge) → w ≡ seeing w.seen (gained v (as_held l true)) → Makes floor (steps.Gains v.thread l.0 Excl true ∷ []) v w → LooksThenGains floor (as_held l true) 0 v w
 gains_at_once floor l v w view step = record { between = v; looked = no_look floor l.0 v; view = view; step = step }
 
 -- behind looks too
@@ -109,7 +109,7 @@ pub record Acquires (floor : Description) (l : LockNo) (by_try : Bool) (n : ℕ)
   pub entry : MakesEntry floor (gain_event (as_held l by_try)) (old.share.held ++ as_held l by_try ∷ []) old new
   pub steps : MakesEach floor (after_looks old.thread l.0 n (steps.Gains old.thread l.0 Excl by_try) ++ (Stamps old.thread (gain_event (as_held l by_try)) ∷ []) ∷ []) old new
 
-module _ (floor : Description) (l : LockNo) (by_try : Bool) (n : ℕ) (old v : Knowledge) (r : IsAtRest floor old) (m : MayAcquire floor l.0 old) (g : Gains floor (as_held l by_try) n old v) where
+module _ (floor : Description) (l : LockNo) (by_try : Bool) (n : ℕ) (old v : Knowledge) (r : IsAtRest floor old) (m : MayAcquire floor l.0 old) (g : LooksThenGains floor (as_held l by_try) n old v) where
   abbrev hold : Held
   hold = as_held l by_try
 

@@ -20,7 +20,7 @@ use Rattle.lock_floor.proofs.May.{own_log, may_drop, may_stamp}
 use Rattle.lock_floor.proofs.Resting.{IsLeaving, leaves, rest_left}
 use Rattle.lock_words.specs.Views.{IsHeldIn}
 use Rattle.adaptive_mutex.specs.Mutexes.{MayRelease, unlocks}
-use Rattle.adaptive_mutex.specs.Waiting.{with_looks, HasLooked, MayPutDown, PutsDown}
+use Rattle.adaptive_mutex.specs.Waiting.{with_looks, HasLooked, MayPutDown, LooksThenPutsDown}
 use Rattle.adaptive_mutex.proofs.Looks.{each_append}
 
 -- 1. The entry
@@ -102,7 +102,7 @@ module _ (floor : Description) (l : LockNo) (n ticket : ℕ) (old v new : Knowle
         begun = x.begun;
       }
 
-  pub released : v ≡ seeing v.seen noted → Makes floor (Stamps old.thread e ∷ []) old v → PutsDown floor l.0 n v new → Releases floor l n old new
+  pub released : v ≡ seeing v.seen noted → Makes floor (Stamps old.thread e ∷ []) old v → LooksThenPutsDown floor l.0 n v new → Releases floor l n old new
   released says step d =
       let look = λ (t : ℕ). Looks t l.0 false ∷ [] in
       let drop = λ (t : ℕ). Drops t l.0 Excl ∷ [] in

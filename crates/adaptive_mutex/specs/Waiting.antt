@@ -47,7 +47,8 @@ pub record MayGain (floor : Description) (l : ℕ) (v : Knowledge) : Type 0 wher
   pub going : IsGoing v
 
 -- it gained the lock behind so many looks
-pub record Gains (floor : Description) (h : Held) (n : ℕ) (old new : Knowledge) : Type 0 where
+pub record LooksThenGains (floor : Description) (h : Held) (n : ℕ) (old new : Knowledge) :
+    Type 0 where
   pub between : Knowledge
   pub looked : HasLooked floor h.l.0 n old between
   pub view : new ≡ seeing new.seen (gained between h)
@@ -63,7 +64,7 @@ pub record MayPutDown (floor : Description) (l : ℕ) (v : Knowledge) : Type 0 w
   pub going : IsGoing v
 
 -- it put the lock down behind so many looks
-pub record PutsDown (floor : Description) (l n : ℕ) (old new : Knowledge) : Type 0 where
+pub record LooksThenPutsDown (floor : Description) (l n : ℕ) (old new : Knowledge) : Type 0 where
   pub between : Knowledge
   pub looked : HasLooked floor l n old between
   pub view : new ≡ seeing new.seen (put_down between l)

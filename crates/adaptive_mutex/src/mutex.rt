@@ -6,7 +6,7 @@ ghost use Rattle.lock_model.specs.declared.plan.Mode.TheVariants.{Excl};
 ghost use Rattle.floor_table.specs.Steps.{MakesEach};
 ghost use Rattle.lock_floor.specs.Passes.{IsOf, IsGoing, IsReady, MakesEntry};
 ghost use Rattle.adaptive_mutex.specs.Mutexes.{IsMutex, MayAcquire, MayRelease, as_held, locks, tries, unlocks, WasBusy};
-ghost use Rattle.adaptive_mutex.specs.Waiting.{HasLooked, MayGain, Gains, MayPutDown, PutsDown};
+ghost use Rattle.adaptive_mutex.specs.Waiting.{HasLooked, MayGain, LooksThenGains, MayPutDown, LooksThenPutsDown};
 
 use crossbeam_utils::Backoff;
 use lock_floor::{Floor, Pass};
@@ -104,7 +104,7 @@ fn gain<R: Wait>(floor: &Floor, rt: &R, pass: &mut Pass, l: LockNo)
     requires may { MayGain floor.now.description l.0 pass.old.view }
     ensures own { IsOf floor.now pass.new }
     ensures gained { (n : ℕ)
-        × Gains floor.now.description (as_held l false) n pass.old.view pass.new.view }
+        × LooksThenGains floor.now.description (as_held l false) n pass.old.view pass.new.view }
 {
     let hold = Held {
         l,
@@ -146,7 +146,8 @@ fn put_down<R: Wait>(floor: &Floor, rt: &R, pass: &mut Pass, l: LockNo)
     requires thread { pass.old.view.thread ≤ 63 }
     requires may { MayPutDown floor.now.description l.0 pass.old.view }
     ensures own { IsOf floor.now pass.new }
-    ensures dropped { (n : ℕ) × PutsDown floor.now.description l.0 n pass.old.view pass.new.view }
+    ensures dropped { (n : ℕ)
+        × LooksThenPutsDown floor.now.description l.0 n pass.old.view pass.new.view }
 {
     let own = lock_words::gained(FREE, pass.thread(), Mode::Excl);
     let backoff = Backoff::new();

@@ -4,10 +4,10 @@ use Rattle.lock_model.specs.declared.limits.TheConstants.{CHAINS, DEFAULT_CHAINS
 use Rattle.option_words.proofs.Numbers.{in_range}
 use Rattle.option_words.specs.Forms.{Text, Texts, is_taken_by}
 use Rattle.chart_command.specs.Forms.{table, wanted_by}
-use Rattle.chart_command.specs.Words.{HasRanges, wanted}
-use Rattle.chart_command.specs.declared.words.Words.{Words}
+use Rattle.chart_command.specs.Args.{HasRanges, wanted}
+use Rattle.chart_command.specs.declared.args.LockchartArgs.{LockchartArgs}
 
-pub ranges : (given : Texts) (said : Words)
+pub ranges : (given : Texts) (said : LockchartArgs)
     → ((name text : Text) → given name ≡ Some text → is_taken_by table name text ≡ true)
     → wanted said ≡ wanted_by given → HasRanges said
 ranges given said taken is =

@@ -8,8 +8,8 @@ use Rattle.std.specs.Prelude.{◌∷◌, ℕ, true, List, [], Option, Some, None
 use Rattle.std.specs.Str.{bytes_eq}
 use Rattle.lock_model.specs.declared.limits.TheConstants.{CHAINS, DEFAULT_CHAINS, TURNS}
 use Rattle.option_words.specs.Forms.{Meaning, Table, Text, Texts, Gives, WantsHelp, any_text, meaning_of, number, number_or, one_of, option}
-use Rattle.chart_command.specs.declared.words.Form.{Form}
-use Rattle.chart_command.specs.declared.words.Form.TheVariants.{Html, Svg, Trace}
+use Rattle.chart_command.specs.declared.args.Form.{Form}
+use Rattle.chart_command.specs.declared.args.Form.TheVariants.{Html, Svg, Trace}
 
 -- the options, which are this project's own
 abbrev pub table : Table

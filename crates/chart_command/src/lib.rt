@@ -5,9 +5,9 @@
 //! - `reading`: reading them, by a table of options.
 #![tactic(auto)]
 
+mod args;
 mod reading;
-mod words;
 
+pub use args::{Asked, Form, LockchartArgs};
 pub use option_words::WordsError;
 pub use reading::{FORM, read_words};
-pub use words::{Asked, Form, Words};

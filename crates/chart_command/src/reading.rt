@@ -3,9 +3,9 @@ ghost use Rattle.std.specs.Prelude.{◌≡◌, map, Err, IfOk, None, Some};
 ghost use Rattle.std.specs.String.{string_bytes};
 ghost use Rattle.option_words.specs.Words.{text_in};
 ghost use Rattle.chart_command.specs.Forms.{asking_of, wanted_by};
-ghost use Rattle.chart_command.specs.Words.{CanBeDrawn, asking, wanted};
+ghost use Rattle.chart_command.specs.Args.{CanBeDrawn, asking, wanted};
 
-use crate::words::{Asked, Form, Words};
+use crate::args::{Asked, Form, LockchartArgs};
 use lock_model::limits::{CHAINS, DEFAULT_CHAINS, TURNS};
 use option_words::{GivenTexts, Help, LongOption, Request, Synopsis, ValueKind, WordsError, read};
 use std::alloc::Global;
@@ -87,10 +87,10 @@ pub fn read_words<'a>(alloc: Global, words: &'a [String]) -> Result<Asked<'a>, W
 }
 
 // What the texts say of a picture that were given.
-fn said_by<'a>(given: &GivenTexts<'a>) -> Words<'a>
+fn said_by<'a>(given: &GivenTexts<'a>) -> LockchartArgs<'a>
     ensures { wanted result ≡ wanted_by (text_in given.now) }
 {
-    Words {
+    LockchartArgs {
         turns: given.number("turns").unwrap_or(TURNS),
         chains: given.number("chains").unwrap_or(DEFAULT_CHAINS),
         from: given.number("from").unwrap_or(0),

@@ -1,8 +1,8 @@
 -- Which text is a picture of a plan, and which belongs to the bytes of a source.
 use Rattle.std.specs.Prelude.{◌≡◌, ℕ, List, length, min}
 use Rattle.chart_command.specs.Forms.{Wanted}
-use Rattle.chart_command.specs.declared.words.Form.{Form}
-use Rattle.chart_command.specs.declared.words.Form.TheVariants.{Html, Svg, Trace}
+use Rattle.chart_command.specs.declared.args.Form.{Form}
+use Rattle.chart_command.specs.declared.args.Form.TheVariants.{Html, Svg, Trace}
 use Rattle.chart_escape.specs.JsonReader.{IsJson}
 use Rattle.chart_escape.specs.Reader.{IsWellFormed}
 use Rattle.chart_html.specs.Page.{IsPage}

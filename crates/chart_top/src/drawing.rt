@@ -1,12 +1,12 @@
 //! The picture of a plan: its scheduled run, the chart of a window of that, and the chart's text.
 ghost use Rattle.std.specs.Prelude.{◌≤◌, IfOk};
-ghost use Rattle.chart_command.specs.Words.{HasRanges, wanted};
+ghost use Rattle.chart_command.specs.Args.{HasRanges, wanted};
 ghost use Rattle.chart_top.specs.Pictures.{IsPictureOfPlan};
 ghost use Rattle.lock_model.specs.Operations.{IsProper};
 
 use crate::heading::{Heading, plain_title};
 use crate::renderer::Renderer;
-use chart_command::Words;
+use chart_command::LockchartArgs;
 use lock_model::Plan;
 use run_chart::chart;
 use run_rows::rows_of;
@@ -16,7 +16,7 @@ use std::alloc::{AllocError, Global};
 pub fn draw<R: Renderer>(
     renderer: &R,
     alloc: Global,
-    said: &Words<'_>,
+    said: &LockchartArgs<'_>,
     bytes: &[u8],
     plan: &Plan,
 ) -> Result<Vec<u8>, AllocError>

@@ -10,7 +10,7 @@
 ghost use Rattle.std.specs.Prelude.{◌≡◌, ◌≢◌, ◌≤◌, map, false, Some};
 ghost use Rattle.std.specs.String.{string_bytes};
 ghost use Rattle.chart_command.specs.Forms.{AsksPicture, Wanted, asking_of};
-ghost use Rattle.chart_command.specs.Words.{HasRanges, wanted};
+ghost use Rattle.chart_command.specs.Args.{HasRanges, wanted};
 ghost use Rattle.chart_top.specs.Calls.{AnswersAll, Draws, TellsFault, TellsForms, WritesPicture, writes};
 ghost use Rattle.chart_top.specs.Pictures.{in_forms};
 ghost use Rattle.lock_io.specs.Faults.{Rose};
@@ -20,7 +20,7 @@ use crate::drawing::draw;
 use crate::ended::Ended;
 use crate::forms::Forms;
 use crate::renderer::Renderer;
-use chart_command::{Asked, Words, WordsError, read_words};
+use chart_command::{Asked, LockchartArgs, WordsError, read_words};
 use complaints::Status;
 use lock_io::{Sink, Source};
 use script_read::{ReadError, read_script};
@@ -91,7 +91,7 @@ pub fn lockchart_by<R: Renderer, S: Source, K: Sink>(
 fn show<R: Renderer, S: Source, K: Sink>(
     renderer: &R,
     alloc: Global,
-    said: &Words<'_>,
+    said: &LockchartArgs<'_>,
     source: &mut S,
     sink: &mut K,
 ) -> Ended

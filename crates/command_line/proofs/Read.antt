@@ -9,28 +9,32 @@ use Rattle.option_words.specs.declared.given.WordsError.{WordsError}
 use Rattle.option_words.specs.declared.given.WordsError.TheVariants.{Usage}
 use Rattle.command_line.specs.Forms.{command_of, table, words_by, words_with}
 use Rattle.command_line.specs.Ranges.{HasRanges}
-use Rattle.command_line.specs.declared.words.Command.{Command}
-use Rattle.command_line.specs.declared.words.Words.{Words}
+use Rattle.command_line.specs.declared.args.Command.{Command}
+use Rattle.command_line.specs.declared.args.LockrunArgs.{LockrunArgs}
 
-ranges : (given : Texts) → ((name text : Text) → given name ≡ Some text → is_taken_by table name text ≡ true) → IfSome (words_by given) HasRanges
+ranges : (given : Texts) → ((name text : Text) → given name ≡ Some text → is_taken_by table name text ≡ true)
+    → IfSome (words_by given) HasRanges
 ranges given taken = go (option_and_then command_of (given operand))
   where
     go : (o : Option Command) → IfSome (option_map (words_with given) o) HasRanges
     go None = tt
     go (Some c) =
-        let chains = in_range 1 CHAINS DEFAULT_CHAINS (given (codes "chains")) (omega arith) (omega arith) (taken (codes "chains")) in
-        let turns = in_range 1 TURNS TURNS (given (codes "turns")) (omega arith) (omega arith) (taken (codes "turns")) in
+        let chains = in_range 1 CHAINS DEFAULT_CHAINS (given (codes "chains")) (omega arith) (omega arith)
+        (taken (codes "chains")) in
+        let turns = in_range 1 TURNS TURNS (given (codes "turns")) (omega arith) (omega arith) (taken (codes "turns"))
+        in
         record { some_chains = chains.0; few_chains = chains.1; some_turns = turns.0; few_turns = turns.1 }
 
-pub record Answers (form : Option Words) (r : Result Words WordsError) : Type 0 where
+pub record Answers (form : Option LockrunArgs) (r : Result LockrunArgs WordsError) : Type 0 where
   pub said : IfOk r (λ said. form ≡ Some said)
   pub ranges : IfOk r HasRanges
   pub usage : r ≡ Err Usage → form ≡ None
 
-pub answers : (given : Texts) (form : Option Words) (r : Result Words WordsError) → ((name text : Text) → given name ≡ Some text → is_taken_by table name text ≡ true)
+pub answers : (given : Texts) (form : Option LockrunArgs) (r : Result LockrunArgs WordsError)
+    → ((name text : Text) → given name ≡ Some text → is_taken_by table name text ≡ true)
     → form ≡ words_by given → r ≡ ok_or (words_by given) Usage → Answers form r
 answers given form r taken is answer = subst (Answers form) (sym answer) (go (words_by given) is (ranges given taken))
   where
-    go : (o : Option Words) → form ≡ o → IfSome o HasRanges → Answers form (ok_or o Usage)
+    go : (o : Option LockrunArgs) → form ≡ o → IfSome o HasRanges → Answers form (ok_or o Usage)
     go None same within = record { said = tt; ranges = tt; usage = λ _. same }
     go (Some said) same within = record { said = same; ranges = within; usage = λ e. absurd (cc) }

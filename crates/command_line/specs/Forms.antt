@@ -8,9 +8,9 @@ use Rattle.std.specs.Option.{option_map_or}
 use Rattle.std.specs.Str.{bytes_eq}
 use Rattle.lock_model.specs.declared.limits.TheConstants.{CHAINS, DEFAULT_CHAINS, TURNS}
 use Rattle.option_words.specs.Forms.{Meaning, Table, Text, Texts, Gives, WantsHelp, meaning_of, number, number_or, operand, option}
-use Rattle.command_line.specs.declared.words.Command.{Command}
-use Rattle.command_line.specs.declared.words.Command.TheVariants.{Check, Run, Step}
-use Rattle.command_line.specs.declared.words.Words.{Words}
+use Rattle.command_line.specs.declared.args.Command.{Command}
+use Rattle.command_line.specs.declared.args.Command.TheVariants.{Check, Run, Step}
+use Rattle.command_line.specs.declared.args.LockrunArgs.{LockrunArgs}
 
 -- the commands and the options, which are this project's own
 abbrev pub table : Table
@@ -27,22 +27,22 @@ command_of word = if bytes_eq (codes "check") word then Some Check
     else (if bytes_eq (codes "run") word then Some Run else None))
 
 -- what the texts say that were given with a command; what wasn't said has its default
-abbrev pub words_with : Texts → Command → Words
+abbrev pub words_with : Texts → Command → LockrunArgs
 words_with given command = record {
   command = command;
   chains = number_or DEFAULT_CHAINS (given (codes "chains"));
   turns = number_or TURNS (given (codes "turns"));
 }
 
-abbrev pub words_by : Texts → Option Words
+abbrev pub words_by : Texts → Option LockrunArgs
 words_by given = option_map (words_with given) (option_and_then command_of (given operand))
 
-abbrev pub words_in : Meaning → Option Words
+abbrev pub words_in : Meaning → Option LockrunArgs
 words_in (Gives given) = words_by given
 words_in WantsHelp = None
 
 -- what the words of a command line say, where they are a form
-abbrev pub words_of : List Text → Option Words
+abbrev pub words_of : List Text → Option LockrunArgs
 words_of words = option_and_then words_in (meaning_of table words)
 
 abbrev pub is_form : List Text → Bool

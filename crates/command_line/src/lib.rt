@@ -4,9 +4,9 @@
 //! - `reading`: reading them, by a table of options.
 #![tactic(auto)]
 
+mod args;
 mod reading;
-mod words;
 
+pub use args::{Command, LockrunArgs};
 pub use option_words::WordsError;
 pub use reading::read_words;
-pub use words::{Command, Words};

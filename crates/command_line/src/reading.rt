@@ -5,7 +5,7 @@ ghost use Rattle.option_words.specs.Words.{text_in};
 ghost use Rattle.command_line.specs.Forms.{words_by, words_of};
 ghost use Rattle.command_line.specs.Ranges.{HasRanges};
 
-use crate::words::{Command, Words};
+use crate::args::{Command, LockrunArgs};
 use lock_model::limits::{CHAINS, DEFAULT_CHAINS, TURNS};
 use option_words::{GivenTexts, LongOption, Request, Synopsis, ValueKind, WordsError, read};
 use std::alloc::Global;
@@ -36,9 +36,9 @@ const SYNOPSIS: Synopsis<'static> = Synopsis {
 ///
 /// ```
 /// let words = read_words(alloc, &["step", "--chains=4"])?;
-/// // Words { command: Command::Step, chains: 4, turns: 1_000_000 }
+/// // LockrunArgs { command: Command::Step, chains: 4, turns: 1_000_000 }
 /// ```
-pub fn read_words(alloc: Global, words: &[String]) -> Result<Words, WordsError>
+pub fn read_words(alloc: Global, words: &[String]) -> Result<LockrunArgs, WordsError>
     ensures said { IfOk result (λ said. words_of (map string_bytes words.now) ≡ Some said) }
     ensures ranges { IfOk result HasRanges }
     ensures usage { result ≡ Err WordsError.Usage → words_of (map string_bytes words.now) ≡ None }
@@ -50,10 +50,10 @@ pub fn read_words(alloc: Global, words: &[String]) -> Result<Words, WordsError>
 }
 
 // What the texts say that were given, where one names a command.
-fn said_by(given: &GivenTexts<'_>) -> Option<Words>
+fn said_by(given: &GivenTexts<'_>) -> Option<LockrunArgs>
     ensures { result ≡ words_by (text_in given.now) }
 {
-    Some(Words {
+    Some(LockrunArgs {
         command: given.operand().and_then(Command::named)?,
         chains: given.number("chains").unwrap_or(DEFAULT_CHAINS),
         turns: given.number("turns").unwrap_or(TURNS),

@@ -4,7 +4,8 @@ use Rattle.script_read.specs.Reading.{Lacks}
 use Rattle.script_read.proofs.Cuts.{lacks-first}
 use Rattle.complaints.specs.Complaints.{items_of}
 
-step : (b : ℕ) (bs item : List ℕ) (more : List (List ℕ)) → (b == 44) ≡ false → items_of bs ≡ item ∷ more → items_of (b ∷ bs) ≡ (b ∷ item) ∷ more
+step : (b : ℕ) (bs item : List ℕ) (more : List (List ℕ)) → (b == 44) ≡ false → items_of bs ≡ item ∷ more
+    → items_of (b ∷ bs) ≡ (b ∷ item) ∷ more
 step b bs item more h e = rw (h, e) refl
 
 -- an item with a comma behind it

@@ -64,7 +64,7 @@ at_first plan f given t = record {
 
 -- behind its last
 pub at_last : (plan : Plan) (f : Floor Description) (t n : ℕ) (x : Pass Knowledge) → IsBefore plan f t n x → length (operations_of plan t) ≤ n → IsWhole plan f.description t x.view.share.log
-at_last plan f t n x b over = record { place = Before n; leads = b.leads; at_end = omega (arith, b.within, over); stamped = b.stamped }
+at_last plan f t n x b over = record { point = Before n; leads = b.leads; at_end = omega (arith, b.within, over); stamped = b.stamped }
 
 -- 2. Kinds and keys
 

@@ -125,12 +125,12 @@ module _ (plan : Plan) (chains : ℕ) (x : Closing)
     | inl lt ↦
         let w : IsWhole plan floor t (entries_of history t) =
         subst (IsWhole plan floor t) (its_part logs same t lt) (whole t lt) in
-        record { place = w.place; leads = w.leads; whole = λ e. w.at_end }
+        record { point = w.point; leads = w.leads; whole = λ e. w.at_end }
     | inr le ↦
         let none : entries_of history t ≡ [] = none_of (entries_of history t) (λ some. absurd (omega (arith, closing.logs.no_other t some, absent_from 0 (length plan.threads) t (omega (arith, le))))) in
         let ops : operations_of plan t ≡ [] = no_operations plan t le in
         record {
-          place = Before 0;
+          point = Before 0;
           leads = subst (λ (es : List Entry). LeadsTo (config_of plan).kind (operations_of plan t) es (Before 0)) (sym none) law.begins;
           whole = λ e. sym (ap (λ (os : List Op). length os) ops);
         }

@@ -1,6 +1,6 @@
 -- What a worker leaves of its thread's log.
 use Rattle.std.specs.Prelude.{◌≡◌, ℕ, List, [], ◌∷◌, ⊤}
-use Rattle.lock_model.specs.Law.{LeadsTo, Place, IsAtEnd}
+use Rattle.lock_model.specs.Law.{LeadsTo, Point, IsAtEnd}
 use Rattle.lock_model.specs.Plans.{config_of, operations_of}
 use Rattle.lock_model.specs.declared.event.Entry.{Entry}
 use Rattle.lock_model.specs.declared.plan.Plan.{Plan}
@@ -26,7 +26,7 @@ WereStamped floor t (e ∷ es) = WasStamped floor t e es × WereStamped floor t 
 -- The entries of a thread's log, whose newest is first, lead from its first operation in the plan to its end, and each
 -- was made by a step of the floor.
 pub record IsWhole (plan : Plan) (floor : Description) (t : ℕ) (log : List Entry) : Type 0 where
-  pub place : Place
-  pub leads : LeadsTo (config_of plan).kind (operations_of plan t) log place
-  pub at_end : IsAtEnd (operations_of plan t) place
+  pub point : Point
+  pub leads : LeadsTo (config_of plan).kind (operations_of plan t) log point
+  pub at_end : IsAtEnd (operations_of plan t) point
   pub stamped : WereStamped floor t log

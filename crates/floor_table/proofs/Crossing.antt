@@ -1,4 +1,4 @@
--- The values behind turns may cross threads.
+-- The values behind latches may cross threads.
 use denote.Param.Send.{IsSend, sendable}
 use Rattle.std.proofs.Crossing.{crosses}
 use Rattle.wait_objects.proofs.free_list.FreeList.TheLaws.TheKnot as objects

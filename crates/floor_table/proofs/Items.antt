@@ -1,4 +1,4 @@
--- Items and their places: no two items have one place, and a change of one turn word takes its item out or home.
+-- Items and their places: no two items have one place, and a change of one latch takes its item out or home.
 use Rattle.std.proofs.Common.{◌≡◌, ℕ, zero, suc, ◌+◌, ◌<◌, Bool, true, false, ◌&&◌, nat_lt, List, length, get_or, Option, Some, None, refl, sym, ap, ◌∙◌, subst, inl, inr, arith}
 use Rattle.std.specs.Prelude.{◌==◌, option_map}
 use Rattle.std.specs.List.{position}
@@ -15,7 +15,7 @@ use Rattle.floor_table.specs.declared.description.Description.{Description}
 use Rattle.floor_table.specs.declared.slot.Slot.{Slot}
 use Rattle.floor_table.specs.Places.{slots_for, is_cell, slot_of, taker}
 use Rattle.floor_table.specs.Shelves.{found, Shelves}
-use Rattle.floor_table.specs.Represents.{taken_from, RepresentsTurns, RepresentsObjects, IsOf, objects_in}
+use Rattle.floor_table.specs.Represents.{taken_from, RepresentsLatches, RepresentsObjects, IsOf, objects_in}
 use Rattle.floor_table.specs.Steps.{HasJust}
 
 -- 1. Places
@@ -69,44 +69,44 @@ one_place floor i (TurnstileChain a) j e f = absurd cc
 one_place floor i (SleepChain a) j e f = absurd cc
 one_place floor i ClassGraph j e f = absurd cc
 
--- 2. Turns
+-- 2. Latches
 
 pub taker_is : (n t : ℕ) → taker n ≡ Some t → n ≡ suc t
 taker_is zero t e = absurd cc
 taker_is (suc u) t e = ap suc (same_Some u t e)
 
--- where one turn word changes, its item goes to the thread that it names, or home
-pub turns_changed : (floor : Description) (s : State) (turn : ℕ → ℕ) (i : Item) (j x : ℕ) (o : Option ℕ) → slot_of floor i ≡ Some j → taker x ≡ o → RepresentsTurns floor turn (item_with s) → RepresentsTurns floor (put turn j x) (with_then s i o)
-unfolding RepresentsTurns
-turns_changed floor s turn i j x o place is h k = go (slot_of floor k) refl
+-- where one latch changes, its item goes to the thread that it names, or home
+pub latches_changed : (floor : Description) (s : State) (latch : ℕ → ℕ) (i : Item) (j x : ℕ) (o : Option ℕ) → slot_of floor i ≡ Some j → taker x ≡ o → RepresentsLatches floor latch (item_with s) → RepresentsLatches floor (put latch j x) (with_then s i o)
+unfolding RepresentsLatches
+latches_changed floor s latch i j x o place is h k = go (slot_of floor k) refl
   where
-    go : (p : Option ℕ) → slot_of floor k ≡ p → with_then s i o k ≡ taken_from (put turn j x) p
+    go : (p : Option ℕ) → slot_of floor k ≡ p → with_then s i o k ≡ taken_from (put latch j x) p
     go None e = elim (beside s i o k) [
       | inl q ↦ absurd (let z : Some j ≡ None = sym place ∙ ap (slot_of floor) q ∙ e in cc)
-      | inr q ↦ q ∙ h k ∙ ap (taken_from turn) e
+      | inr q ↦ q ∙ h k ∙ ap (taken_from latch) e
     ]
     go (Some m) e = elim (cases_eq j m) [
       | inl q ↦
           let same : i ≡ k = one_place floor i k j place (e ∙ ap Some (sym q)) in
-          subst (λ n. with_then s i o k ≡ taker (put turn j x n)) q (ap (with_then s i o) (sym same) ∙ at_itself s i o ∙ sym is ∙ ap taker (sym (put_same turn j x)))
+          subst (λ n. with_then s i o k ≡ taker (put latch j x n)) q (ap (with_then s i o) (sym same) ∙ at_itself s i o ∙ sym is ∙ ap taker (sym (put_same latch j x)))
       | inr ne ↦ elim (beside s i o k) [
         | inl q ↦ absurd (ne (same_Some j m (sym place ∙ ap (slot_of floor) q ∙ e)))
-        | inr q ↦ q ∙ h k ∙ ap (taken_from turn) e ∙ ap taker (sym (put_other turn j x m ne))
+        | inr q ↦ q ∙ h k ∙ ap (taken_from latch) e ∙ ap taker (sym (put_other latch j x m ne))
       ]
     ]
 
 -- 3. What a thread has out
 
-pub has_just : (floor : Description) (s : State) (turn : ℕ → ℕ) (home : ℕ → slots.Option Slot) (out : ℕ → List (ℕ × Slot)) (content : ℕ → Slot) (t : ℕ)
-    → RepresentsTurns floor turn (item_with s) → Shelves (slots_for floor) turn home out content → RepresentsObjects floor content (objects_in s) → HasJust floor (out t) s t
-unfolding RepresentsTurns
-has_just floor s turn home out content t turns shelves objects = record {
+pub has_just : (floor : Description) (s : State) (latch : ℕ → ℕ) (home : ℕ → slots.Option Slot) (out : ℕ → List (ℕ × Slot)) (content : ℕ → Slot) (t : ℕ)
+    → RepresentsLatches floor latch (item_with s) → Shelves (slots_for floor) latch home out content → RepresentsObjects floor content (objects_in s) → HasJust floor (out t) s t
+unfolding RepresentsLatches
+has_just floor s latch home out content t latches shelves objects = record {
   each = λ i j x place there.
       let q = shelves.taken j t x there in
-      (turns i ∙ ap (taken_from turn) place ∙ ap taker q.1, subst (λ y. IsOf (objects_in s) i y) (sym q.2) (objects.each i j place));
-  no_other = λ i e. go i (slot_of floor i) refl (sym (turns i) ∙ e);
+      (latches i ∙ ap (taken_from latch) place ∙ ap taker q.1, subst (λ y. IsOf (objects_in s) i y) (sym q.2) (objects.each i j place));
+  no_other = λ i e. go i (slot_of floor i) refl (sym (latches i) ∙ e);
 }
   where
-    go : (i : Item) (p : Option ℕ) → slot_of floor i ≡ p → taken_from turn (slot_of floor i) ≡ Some t → (j : ℕ) × (slot_of floor i ≡ Some j) × ((x : Slot) × (found j (out t) ≡ some x))
-    go i None e f = absurd (let z : None ≡ Some t = ap (taken_from turn) (sym e) ∙ f in cc)
-    go i (Some j) e f = (j, e, (content j, shelves.away j t (place_low floor i j e) (taker_is (turn j) t (ap (taken_from turn) (sym e) ∙ f))))
+    go : (i : Item) (p : Option ℕ) → slot_of floor i ≡ p → taken_from latch (slot_of floor i) ≡ Some t → (j : ℕ) × (slot_of floor i ≡ Some j) × ((x : Slot) × (found j (out t) ≡ some x))
+    go i None e f = absurd (let z : None ≡ Some t = ap (taken_from latch) (sym e) ∙ f in cc)
+    go i (Some j) e f = (j, e, (content j, shelves.away j t (place_low floor i j e) (taker_is (latch j) t (ap (taken_from latch) (sym e) ∙ f))))

@@ -8,7 +8,7 @@ use Rattle.lock_state.specs.Steps.{Step}
 use Rattle.floor_table.specs.Descriptions.{config_in}
 use Rattle.floor_table.specs.declared.description.Description.{Description}
 use Rattle.floor_table.specs.Past.{IsSeenBy, AreSeen}
-use Rattle.floor_table.specs.Places.{turn_word, home_at}
+use Rattle.floor_table.specs.Places.{latch_word, home_at}
 use Rattle.floor_table.specs.Views.{OfThread, Knowledge, nothing}
 use Rattle.floor_table.specs.Represents.{Board, Represents, thread_in, ToCome, to_come}
 use Rattle.floor_table.specs.Steps.{IsSound, HasJust, Fits}
@@ -30,7 +30,7 @@ pub fits_of : (floor : Description) (b : Board) {past : List Step} (s : State) (
 fits_of floor b {past} s i v sound r seen at is =
     let seat = seat_of floor b.views s r.seats i v at is in
     let here : thread_in b.views v.thread ≡ v = at_or b.views (suc v.thread) v nothing (subst (λ j. get_elem? b.views j ≡ some v) seat.0 at) in
-    let just = has_just floor s (turn_word b.words) (home_at b.homes) (λ t. (thread_in b.views t).out) r.content v.thread r.turns r.shelves r.objects in (
+    let just = has_just floor s (latch_word b.words) (home_at b.homes) (λ t. (thread_in b.views t).out) r.content v.thread r.latches r.shelves r.objects in (
       seat.0,
       record {
         past = past;

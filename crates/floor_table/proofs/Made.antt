@@ -21,11 +21,11 @@ use Rattle.floor_table.specs.Descriptions.{config_in}
 use Rattle.floor_table.specs.declared.description.Description.{Description}
 use Rattle.floor_table.specs.declared.slot.Slot.{Slot}
 use Rattle.floor_table.specs.Views.{OfThread, OfNobody, Knowledge, nothing, seeing}
-use Rattle.floor_table.specs.Places.{spot, lock_line, ticket_line, turn_line, word_at, lock_word, turn_word, slots_for, slot_of, home_at}
+use Rattle.floor_table.specs.Places.{spot, lock_line, ticket_line, latch_line, word_at, lock_word, latch_word, slots_for, slot_of, home_at}
 use Rattle.floor_table.specs.Shares.{share_in}
 use Rattle.floor_table.specs.Shelves.{Shelves}
 use Rattle.floor_table.specs.Past.{past_with, IsSeenBy, AreSeen}
-use Rattle.floor_table.specs.Represents.{Board, RepresentsLocks, RepresentsTurns, RepresentsObjects, objects_in, IsSeatOf, to_come, Represents, keeper_in, thread_in}
+use Rattle.floor_table.specs.Represents.{Board, RepresentsLocks, RepresentsLatches, RepresentsObjects, objects_in, IsSeatOf, to_come, Represents, keeper_in, thread_in}
 use Rattle.floor_table.specs.Steps.{IsSound, FitAll, Fits, Makes}
 use Rattle.floor_table.specs.Rule.{FloorHolds}
 use Rattle.floor_table.proofs.Lists.{inside, at_or, or_at, or_past, field_set}
@@ -33,9 +33,9 @@ use Rattle.floor_table.proofs.Known.{fits_of, seen_of}
 use Rattle.floor_table.proofs.Seen.{AreOf, seen_on, seen_stepped}
 use Rattle.floor_table.proofs.Sound.{sound_kept}
 use Rattle.floor_table.proofs.Unrefused.{RefuseNothing}
-use Rattle.floor_table.proofs.Items.{place_low, turns_changed}
+use Rattle.floor_table.proofs.Items.{place_low, latches_changed}
 use Rattle.floor_table.proofs.Shelved.{shelf_taken, shelf_given}
-use Rattle.floor_table.proofs.Stepped.{lock_stepped, ticket_stepped, turn_stepped, seat_stepped}
+use Rattle.floor_table.proofs.Stepped.{lock_stepped, ticket_stepped, latch_stepped, seat_stepped}
 
 -- 1. What a step owes
 
@@ -55,7 +55,8 @@ pub record Finds (floor : Description) (v : Knowledge) (b : Board) : Type 0 wher
   pub fits : Fits floor v state
   pub there : get_elem? b.views (suc v.thread) ≡ some v
 
-pub finds : (floor : Description) (b : Board) (i : ℕ) (v : Knowledge) → FloorHolds floor b → get_elem? b.views i ≡ some v → v.role ≡ OfThread → (i ≡ suc v.thread) × Finds floor v b
+pub finds : (floor : Description) (b : Board) (i : ℕ) (v : Knowledge) → FloorHolds floor b
+    → get_elem? b.views i ≡ some v → v.role ≡ OfThread → (i ≡ suc v.thread) × Finds floor v b
 finds floor b i v holds at is =
     let p = fits_of floor b holds.state i v holds.sound holds.represents holds.seen at is in (
       p.0,
@@ -71,21 +72,34 @@ finds floor b i v holds at is =
     )
 
 -- so it may be made on each table
-pub allows : (floor : Description) (slots id : ℕ) (me : Me Slot Knowledge) (i : ℕ) (f : ℕ → ℕ) (told : ℕ → Me Slot Knowledge → Type 0) → me.0.role ≡ OfThread
-    → ((b : Board) → Finds floor me.0 b → slice_index b.words i < 18446744073709551616 → Steps floor me i (slice_index b.words i) (f (slice_index b.words i)) told b) → Allows (FloorHolds floor) slots id me i f told
+pub allows : (floor : Description) (slots id : ℕ) (me : Me Slot Knowledge) (i : ℕ) (f : ℕ → ℕ)
+    (told : ℕ → Me Slot Knowledge → Type 0) → me.0.role ≡ OfThread
+    → ((b : Board) → Finds floor me.0 b → slice_index b.words i < 18446744073709551616
+    → Steps floor me i (slice_index b.words i) (f (slice_index b.words i)) told b)
+    → Allows (FloorHolds floor) slots id me i f told
 allows floor slots id me i f told is step b holds deep at small =
     let p = finds floor b id me.0 holds at is in
-    let q = step b p.1 small in
-    (q.0, q.1, q.2, subst (λ j. FloorHolds floor (stepped b i (f (slice_index b.words i)) j me.1 q.0 q.1)) (sym p.0) q.3, q.4)
+    let q = step b p.1 small in (
+      q.0,
+      q.1,
+      q.2,
+      subst (λ j. FloorHolds floor (stepped b i (f (slice_index b.words i)) j me.1 q.0 q.1)) (sym p.0)
+          q.3,
+      q.4,
+    )
 
 -- an exchange hits, or misses and changes no word
-pub exchange_allows : (floor : Description) (slots id : ℕ) (me : Me Slot Knowledge) (i old new : ℕ) (told : ℕ → Me Slot Knowledge → Type 0) → me.0.role ≡ OfThread
-    → ((b : Board) → Finds floor me.0 b → slice_index b.words i ≡ old → Steps floor me i (slice_index b.words i) new told b)
-    → ((b : Board) → Finds floor me.0 b → slice_index b.words i ≢ old → slice_index b.words i < 18446744073709551616 → Steps floor me i (slice_index b.words i) (slice_index b.words i) told b)
+pub exchange_allows : (floor : Description) (slots id : ℕ) (me : Me Slot Knowledge) (i old new : ℕ)
+    (told : ℕ → Me Slot Knowledge → Type 0) → me.0.role ≡ OfThread
+    → ((b : Board) → Finds floor me.0 b → slice_index b.words i ≡ old
+    → Steps floor me i (slice_index b.words i) new told b)
+    → ((b : Board) → Finds floor me.0 b → slice_index b.words i ≢ old → slice_index b.words i < 18446744073709551616
+    → Steps floor me i (slice_index b.words i) (slice_index b.words i) told b)
     → Allows (FloorHolds floor) slots id me i (λ n. either (eqb n old) new n) told
 exchange_allows floor slots id me i old new told is hit miss =
     allows floor slots id me i (λ n. either (eqb n old) new n) told is (λ b h small.
-    exchanged (slice_index b.words i) old new (λ y. Steps floor me i (slice_index b.words i) y told b) (λ e. hit b h e) (λ ne. miss b h ne small))
+    exchanged (slice_index b.words i) old new (λ y. Steps floor me i (slice_index b.words i) y told b) (λ e. hit b h e)
+    (λ ne. miss b h ne small))
 
 -- 2. What it tells
 
@@ -99,18 +113,23 @@ pub record OwnSteps (v w : Knowledge) (past steps : List Step) (s n : State) : T
   pub others : (u : ℕ) → u ≢ v.thread → share_in n u ≡ share_in s u
 
 -- where the table then represents the state behind steps that may be made, the rule holds, and the thread made them
-pub made : (floor : Description) (steps : List Step) (b behind : Board) (v w : Knowledge) (h : Finds floor v b) → v.role ≡ OfThread → FitAll floor h.state steps → OwnSteps v w h.past steps h.state (after_all (config_in floor) h.state steps) → behind.views ≡ set b.views (suc v.thread) w
+pub made : (floor : Description) (steps : List Step) (b behind : Board) (v w : Knowledge) (h : Finds floor v b)
+    → v.role ≡ OfThread → FitAll floor h.state steps
+    → OwnSteps v w h.past steps h.state (after_all (config_in floor) h.state steps)
+    → behind.views ≡ set b.views (suc v.thread) w
     → Represents floor behind (after_all (config_in floor) h.state steps)
     → FloorHolds floor behind × Makes floor steps v w
 made floor steps b behind v w h role may own views r =
     let here : thread_in b.views v.thread ≡ v = at_or b.views (suc v.thread) v nothing h.there in
-    let low : v.thread < (keeper_in b.views).made = let p = inside b.views (suc v.thread) v h.there in omega (arith, p, h.represents.seats.made) in (
+    let low : v.thread < (keeper_in b.views).made = let p = inside b.views (suc v.thread) v h.there in
+    omega (arith, p, h.represents.seats.made) in (
       record {
         past = past_with h.past steps;
         state = after_all (config_in floor) h.state steps;
         sound = sound_kept floor h.state steps own.no_refusal may h.sound;
         represents = r;
-        seen = subst (λ vs. AreSeen vs (past_with h.past steps)) (sym views) (seen_stepped b.views v.thread v w h.past steps h.there low own.seen own.makers h.seen);
+        seen = subst (λ vs. AreSeen vs (past_with h.past steps)) (sym views)
+            (seen_stepped b.views v.thread v w h.past steps h.there low own.seen own.makers h.seen);
       },
       record {
         role = role;
@@ -127,7 +146,8 @@ made floor steps b behind v w h role may own views r =
         may = may;
         represents_behind = r;
         was = here;
-        is = ap (λ vs. thread_in vs v.thread) views ∙ get_or-set_same b.views (suc v.thread) w nothing (inside b.views (suc v.thread) v h.there);
+        is = ap (λ vs. thread_in vs v.thread) views
+            ∙ get_or-set_same b.views (suc v.thread) w nothing (inside b.views (suc v.thread) v h.there);
       },
     )
 
@@ -140,7 +160,9 @@ pub record SameRest (s n : State) : Type 0 where
   pub objects : objects_in n ≡ objects_in s
   pub to_come : to_come n ≡ to_come s
 
-module _ (floor : Description) (steps : List Step) (b : Board) (v w : Knowledge) (h : Finds floor v b) (was : v.role ≡ OfThread) (may : FitAll floor h.state steps) (own : OwnSteps v w h.past steps h.state (after_all (config_in floor) h.state steps)) (cs : List (ℕ × Slot)) where
+module _ (floor : Description) (steps : List Step) (b : Board) (v w : Knowledge) (h : Finds floor v b)
+    (was : v.role ≡ OfThread) (may : FitAll floor h.state steps)
+    (own : OwnSteps v w h.past steps h.state (after_all (config_in floor) h.state steps)) (cs : List (ℕ × Slot)) where
   abbrev s : State
   s = h.state
 
@@ -157,30 +179,39 @@ module _ (floor : Description) (steps : List Step) (b : Board) (v w : Knowledge)
   outs_stay : w.out ≡ v.out → outs ≡ put outs v.thread w.out
   outs_stay e = sym (put_again outs v.thread w.out (own_out ∙ sym e))
 
-  pub lock_made : (l x : ℕ) (y : Word) → l < length floor.locks → word_of x ≡ y → n.word ≡ put s.word l y → SameRest s n → w.spare ≡ v.spare → w.out ≡ v.out
+  pub lock_made : (l x : ℕ) (y : Word) → l < length floor.locks → word_of x ≡ y → n.word ≡ put s.word l y → SameRest s n
+      → w.spare ≡ v.spare → w.out ≡ v.out
       → FloorHolds floor (stepped b (spot (lock_line l)) x (suc v.thread) cs w keeps) × Makes floor steps v w
   lock_made l x y low says column rest spares out =
       let behind : Board = stepped b (spot (lock_line l)) x (suc v.thread) cs w keeps in
       let r = h.represents in
       made floor steps b behind v w h was may own refl
-      (lock_stepped floor b s n r v.thread v w h.there was own.role own.seat own.others rest.to_come cs l x y r.content low says column rest.next rest.items spares
-      (subst (λ o. Shelves (slots_for floor) (turn_word b.words) (home_at b.homes) o r.content) (outs_stay out) r.shelves)
+      (lock_stepped floor b s n r v.thread v w h.there was own.role own.seat own.others rest.to_come cs l x y r.content
+      low says column rest.next rest.items spares
+      (subst (λ o. Shelves (slots_for floor) (latch_word b.words) (home_at b.homes) o r.content) (outs_stay out)
+      r.shelves)
       (subst (RepresentsObjects floor r.content) (sym rest.objects) r.objects))
 
   -- the word stays
   pub lock_seen : (l : ℕ) → l < length floor.locks → n.word ≡ s.word → SameRest s n → w.spare ≡ v.spare → w.out ≡ v.out
-      → FloorHolds floor (stepped b (spot (lock_line l)) (lock_word b.words l) (suc v.thread) cs w keeps) × Makes floor steps v w
+      → FloorHolds floor (stepped b (spot (lock_line l)) (lock_word b.words l) (suc v.thread) cs w keeps)
+      × Makes floor steps v w
   unfolding RepresentsLocks
-  lock_seen l low column rest spares out = lock_made l (lock_word b.words l) (s.word l) low (h.represents.locks l low) (column ∙ sym (put_again s.word l (s.word l) refl)) rest spares out
+  lock_seen l low column rest spares out =
+      lock_made l (lock_word b.words l) (s.word l) low (h.represents.locks l low)
+      (column ∙ sym (put_again s.word l (s.word l) refl)) rest spares out
 
   -- an entry is made, by which values that are out may change
-  pub ticket_made : (x : ℕ) (content : ℕ → Slot) → x ≡ suc (word_at b.words ticket_line) → n.word ≡ s.word → n.next ≡ suc s.next → item_with n ≡ item_with s → to_come n ≡ to_come s → suc w.spare ≡ v.spare
-      → Shelves (slots_for floor) (turn_word b.words) (home_at b.homes) (put outs v.thread w.out) content → RepresentsObjects floor content (objects_in n)
+  pub ticket_made : (x : ℕ) (content : ℕ → Slot) → x ≡ suc (word_at b.words ticket_line) → n.word ≡ s.word
+      → n.next ≡ suc s.next → item_with n ≡ item_with s → to_come n ≡ to_come s → suc w.spare ≡ v.spare
+      → Shelves (slots_for floor) (latch_word b.words) (home_at b.homes) (put outs v.thread w.out) content
+      → RepresentsObjects floor content (objects_in n)
       → FloorHolds floor (stepped b (spot ticket_line) x (suc v.thread) cs w keeps) × Makes floor steps v w
   ticket_made x content more column next items still spares shelves objects =
       let behind : Board = stepped b (spot ticket_line) x (suc v.thread) cs w keeps in
       made floor steps b behind v w h was may own refl
-      (ticket_stepped floor b s n h.represents v.thread v w h.there was own.role own.seat own.others still cs x content more column next items spares shelves objects)
+      (ticket_stepped floor b s n h.represents v.thread v w h.there was own.role own.seat own.others still cs x content
+      more column next items spares shelves objects)
 
   -- the states differ at most in who has an item out
   pub record SameButOut (i : Item) (o : Option ℕ) : Type 0 where
@@ -190,46 +221,65 @@ module _ (floor : Description) (steps : List Step) (b : Board) (v w : Knowledge)
     pub objects : objects_in n ≡ objects_in s
     pub to_come : to_come n ≡ to_come s
 
-  -- the value of a free turn goes out
-  pub take_made : (i : Item) (j : ℕ) → slot_of floor i ≡ Some j → turn_word b.words j ≡ 0 → SameButOut i (Some v.thread) → w.spare ≡ v.spare → w.out ≡ (j, h.represents.content j) ∷ v.out
-      → FloorHolds floor (stepped b (spot (turn_line j)) (suc v.thread) (suc v.thread) cs w (takes j (h.represents.content j))) × Makes floor steps v w
+  -- the value of a free latch goes out
+  pub take_made : (i : Item) (j : ℕ) → slot_of floor i ≡ Some j → latch_word b.words j ≡ 0
+      → SameButOut i (Some v.thread) → w.spare ≡ v.spare → w.out ≡ (j, h.represents.content j) ∷ v.out
+      → FloorHolds floor (stepped b (spot (latch_line j)) (suc v.thread) (suc v.thread) cs w
+      (takes j (h.represents.content j))) × Makes floor steps v w
   take_made i j place free rest spares out =
       let r = h.represents in
       let x : Slot = r.content j in
-      let behind : Board = stepped b (spot (turn_line j)) (suc v.thread) (suc v.thread) cs w (takes j x) in
+      let behind : Board = stepped b (spot (latch_line j)) (suc v.thread) (suc v.thread) cs w (takes j x) in
       let low = place_low floor i j place in
       let fits : j < length b.homes = omega (arith, low, r.sizes.slots) in
       made floor steps b behind v w h was may own refl
-      (turn_stepped floor b s n r v.thread v w h.there was own.role own.seat own.others rest.to_come cs j (suc v.thread) (takes j x) r.content low (length-set b.homes j slots.none) rest.word rest.next spares
-      (subst (RepresentsTurns floor (put (turn_word b.words) j (suc v.thread))) (sym rest.items) (turns_changed floor s (turn_word b.words) i j (suc v.thread) (Some v.thread) place refl r.turns))
-      (subst (λ (z : (ℕ → slots.Option Slot) × List (ℕ × Slot)). Shelves (slots_for floor) (put (turn_word b.words) j (suc v.thread)) z.0 (put outs v.thread z.1) r.content)
-      (λ k. (sym (field_set (λ (o : slots.Option Slot). o) b.homes j slots.none slots.none fits) k, (ap (λ os. (j, x) ∷ os) own_out ∙ sym out) k))
-      (shelf_taken (slots_for floor) (turn_word b.words) (home_at b.homes) outs r.content r.shelves j v.thread
+      (latch_stepped floor b s n r v.thread v w h.there was own.role own.seat own.others rest.to_come cs j
+      (suc v.thread) (takes j x) r.content low (length-set b.homes j slots.none) rest.word rest.next spares
+      (subst (RepresentsLatches floor (put (latch_word b.words) j (suc v.thread))) (sym rest.items)
+      (latches_changed floor s (latch_word b.words) i j (suc v.thread) (Some v.thread) place refl r.latches))
+      (subst (λ (z : (ℕ → slots.Option Slot) × List (ℕ × Slot)). Shelves (slots_for floor)
+      (put (latch_word b.words) j (suc v.thread)) z.0 (put outs v.thread z.1) r.content)
+      (λ k. (
+        sym (field_set (λ (o : slots.Option Slot). o) b.homes j slots.none slots.none fits) k,
+        (ap (λ os. (j, x) ∷ os) own_out ∙ sym out) k,
+      ))
+      (shelf_taken (slots_for floor) (latch_word b.words) (home_at b.homes) outs r.content r.shelves j v.thread
       low free))
       (subst (RepresentsObjects floor r.content) (sym rest.objects) r.objects))
 
   -- the value taken last comes home
-  pub give_made : (i : Item) (j : ℕ) (x : Slot) (xs more : List (ℕ × Slot)) → slot_of floor i ≡ Some j → cs ≡ (j, x) ∷ more → v.out ≡ (j, x) ∷ xs → SameButOut i None → w.spare ≡ v.spare → w.out ≡ xs
-      → FloorHolds floor (stepped b (spot (turn_line j)) 0 (suc v.thread) cs w gives) × Makes floor steps v w
+  pub give_made : (i : Item) (j : ℕ) (x : Slot) (xs more : List (ℕ × Slot)) → slot_of floor i ≡ Some j
+      → cs ≡ (j, x) ∷ more → v.out ≡ (j, x) ∷ xs → SameButOut i None → w.spare ≡ v.spare → w.out ≡ xs
+      → FloorHolds floor (stepped b (spot (latch_line j)) 0 (suc v.thread) cs w gives) × Makes floor steps v w
   give_made i j x xs more place carried was_out rest spares out =
       let r = h.represents in
-      let behind : Board = stepped b (spot (turn_line j)) 0 (suc v.thread) cs w gives in
+      let behind : Board = stepped b (spot (latch_line j)) 0 (suc v.thread) cs w gives in
       let low = place_low floor i j place in
       let fits : j < length b.homes = omega (arith, low, r.sizes.slots) in
       let homes : homes_after b.homes cs gives ≡ set b.homes j (some x) = ap (put_back b.homes) carried in
       made floor steps b behind v w h was may own refl
-      (turn_stepped floor b s n r v.thread v w h.there was own.role own.seat own.others rest.to_come cs j 0 gives r.content low (ap (λ hs. length hs) homes ∙ length-set b.homes j (some x)) rest.word rest.next spares
-      (subst (RepresentsTurns floor (put (turn_word b.words) j 0)) (sym rest.items) (turns_changed floor s (turn_word b.words) i j 0 None place refl r.turns))
-      (subst (λ (z : (ℕ → slots.Option Slot) × List (ℕ × Slot)). Shelves (slots_for floor) (put (turn_word b.words) j 0) z.0 (put outs v.thread z.1) r.content)
-      (λ k. (sym (ap home_at homes ∙ field_set (λ (o : slots.Option Slot). o) b.homes j (some x) slots.none fits) k, sym out k))
-      (shelf_given (slots_for floor) (turn_word b.words) (home_at b.homes) outs r.content r.shelves j v.thread x xs (own_out ∙ was_out)))
+      (latch_stepped floor b s n r v.thread v w h.there was own.role own.seat own.others rest.to_come cs j 0 gives
+      r.content low (ap (λ hs. length hs) homes ∙ length-set b.homes j (some x)) rest.word rest.next spares
+      (subst (RepresentsLatches floor (put (latch_word b.words) j 0)) (sym rest.items)
+      (latches_changed floor s (latch_word b.words) i j 0 None place refl r.latches))
+      (subst (λ (z : (ℕ → slots.Option Slot) × List (ℕ × Slot)). Shelves (slots_for floor)
+      (put (latch_word b.words) j 0) z.0 (put outs v.thread z.1) r.content)
+      (λ k. (
+        sym (ap home_at homes ∙ field_set (λ (o : slots.Option Slot). o) b.homes j (some x) slots.none fits) k,
+        sym
+            out k,
+      ))
+      (shelf_given (slots_for floor) (latch_word b.words) (home_at b.homes) outs r.content r.shelves j v.thread x xs
+      (own_out ∙ was_out)))
       (subst (RepresentsObjects floor r.content) (sym rest.objects) r.objects))
 
 -- 4. No step
 
 -- an exchange that misses, or a load: the seat has seen all steps that were made before it
-pub none_made : (floor : Description) (b : Board) (v : Knowledge) (h : Finds floor v b) → v.role ≡ OfThread → (i : ℕ) (cs : List (ℕ × Slot))
-    → FloorHolds floor (stepped b i (slice_index b.words i) (suc v.thread) cs (seeing h.past v) keeps) × (m : Makes floor [] v (seeing h.past v)) × (m.state ≡ h.state)
+pub none_made : (floor : Description) (b : Board) (v : Knowledge) (h : Finds floor v b) → v.role ≡ OfThread
+    → (i : ℕ) (cs : List (ℕ × Slot))
+    → FloorHolds floor (stepped b i (slice_index b.words i) (suc v.thread) cs (seeing h.past v) keeps)
+    × (m : Makes floor [] v (seeing h.past v)) × (m.state ≡ h.state)
 unfolding made
 none_made floor b v h was i cs =
     let w : Knowledge = seeing h.past v in
@@ -242,12 +292,16 @@ none_made floor b v h was i cs =
       others = λ u ne. refl;
       no_refusal = tt;
     } in
-    let r : Represents floor (record { words = b.words; homes = b.homes; views = set b.views (suc v.thread) w }) h.state = seat_stepped floor b h.state h.represents v.thread v w h.there was was own.seat refl refl in
-    let done = made floor [] b behind v w h was tt own refl (subst (λ ws. Represents floor (record { words = ws; homes = b.homes; views = set b.views (suc v.thread) w }) h.state) (sym (set-get_or b.words i 0)) r) in
+    let r : Represents floor (record { words = b.words; homes = b.homes; views = set b.views (suc v.thread) w })
+    h.state = seat_stepped floor b h.state h.represents v.thread v w h.there was was own.seat refl refl in
+    let done = made floor [] b behind v w h was tt own refl
+    (subst (λ ws. Represents floor (record { words = ws; homes = b.homes; views = set b.views (suc v.thread) w })
+    h.state) (sym (set-get_or b.words i 0)) r) in
     (done.0, done.1, refl)
 
 -- a step of a thread that saw more since its last one is a step from what it knew before
-pub sooner : (floor : Description) (steps seen : List Step) (old new : Knowledge) → IsSeenBy old.thread old.seen seen → Makes floor steps (seeing seen old) new → Makes floor steps old new
+pub sooner : (floor : Description) (steps seen : List Step) (old new : Knowledge) → IsSeenBy old.thread old.seen seen
+    → Makes floor steps (seeing seen old) new → Makes floor steps old new
 sooner floor steps seen old new since m =
     let t = old.thread in
     let vs : List Knowledge = m.before.views in
@@ -265,7 +319,9 @@ sooner floor steps seen old new since m =
       behind = m.behind;
       state = m.state;
       sound = m.sound;
-      represents = seat_stepped floor m.before m.state m.represents t (seeing seen old) old (or_at vs (suc t) nothing low ∙ ap some m.was) m.role m.role (record { thread = its.thread; share = its.share }) refl refl;
+      represents = seat_stepped floor m.before m.state m.represents t (seeing seen old) old
+          (or_at vs (suc t) nothing low ∙ ap some m.was) m.role m.role
+          (record { thread = its.thread; share = its.share }) refl refl;
       may = m.may;
       represents_behind = m.represents_behind;
       was = get_or-set_same vs (suc t) old nothing low;
@@ -275,5 +331,6 @@ sooner floor steps seen old new since m =
     seat_low : (vs : List Knowledge) (t : ℕ) → (thread_in vs t).role ≡ OfThread → suc t < length vs
     seat_low vs t is = elim (cases_lt (suc t) (length vs)) [
       | inl l ↦ l
-      | inr past ↦ absurd (let z : OfNobody ≡ OfThread = ap (λ (k : Knowledge). k.role) (sym (or_past vs (suc t) nothing past)) ∙ is in cc)
+      | inr past ↦ absurd (let z : OfNobody ≡ OfThread = ap (λ (k : Knowledge). k.role)
+          (sym (or_past vs (suc t) nothing past)) ∙ is in cc)
     ]

@@ -125,20 +125,20 @@ both : (a b : Bool) → T (a && b) → T a × T b
 both true b h = (tt, h)
 both false b h = absurd h
 
-abbrev Row : Type 0
-Row = (ℕ × ℕ) × Unit {0}
+abbrev KeyEntry : Type 0
+KeyEntry = (ℕ × ℕ) × Unit {0}
 
-abbrev keys_on : List Row → List (ℕ × ℕ)
-keys_on es = map (λ (e : Row). e.0) es
+abbrev keys_on : List KeyEntry → List (ℕ × ℕ)
+keys_on es = map (λ (e : KeyEntry). e.0) es
 
-below_key : (x : ℕ × ℕ) (es : List Row) → T (below_all place_cmp x es)
+below_key : (x : ℕ × ℕ) (es : List KeyEntry) → T (below_all place_cmp x es)
     → AllByRecursion (λ y. place_cmp x y ≡ Less) (keys_on es)
 below_key x [] h = tt
 below_key x (e ∷ es) h =
     let p = both (is_lt (place_cmp x e.0)) (below_all place_cmp x es) h in
     (is_less (place_cmp x e.0) p.0, below_key x es p.1)
 
-rise : (es : List Row) → T (is_sorted place_cmp es) → IsStrictlySortedBy place_cmp (keys_on es)
+rise : (es : List KeyEntry) → T (is_sorted place_cmp es) → IsStrictlySortedBy place_cmp (keys_on es)
 unfolding IsStrictlySortedBy
 rise [] h = tt
 rise (e ∷ es) h =

@@ -12,13 +12,13 @@ use Rattle.lock_laws.proofs.Kit.{put_same, put_other, put_back as put_again}
 use Rattle.floor_table.specs.Descriptions.{config_in}
 use Rattle.floor_table.specs.declared.description.Description.{Description}
 use Rattle.floor_table.specs.declared.slot.Slot.{Slot}
-use Rattle.floor_table.specs.Places.{spot, lock_line, ticket_line, turn_line, lock_word, turn_word, word_at, slots_for, home_at}
+use Rattle.floor_table.specs.Places.{spot, lock_line, ticket_line, latch_line, lock_word, latch_word, word_at, slots_for, home_at}
 use Rattle.floor_table.specs.Shares.{share_in}
 use Rattle.floor_table.specs.Shelves.{Shelves}
 use Rattle.floor_table.specs.Views.{OfThread, Knowledge, nothing}
-use Rattle.floor_table.specs.Represents.{Board, RepresentsTurns, RepresentsLocks, RepresentsObjects, objects_in, thread_in, spare, IsSeatOf, to_come, HasSizes, Represents}
+use Rattle.floor_table.specs.Represents.{Board, RepresentsLatches, RepresentsLocks, RepresentsObjects, objects_in, thread_in, spare, IsSeatOf, to_come, HasSizes, Represents}
 use Rattle.floor_table.proofs.Lists.{inside, at_or}
-use Rattle.floor_table.proofs.Words.{word_here, word_there, locks_stay, lock_changes, turns_stay, turn_changes}
+use Rattle.floor_table.proofs.Words.{word_here, word_there, locks_stay, lock_changes, latches_stay, latch_changes}
 use Rattle.floor_table.proofs.Seats.{total_set, seats_stepped}
 
 -- what is out with each thread, after a write of one seat
@@ -50,40 +50,40 @@ module _ (floor : Description) (b : Board) (s n : State) (r : Represents floor b
   -- 1. The word of a lock
 
   pub lock_stepped : (l x : ℕ) (y : Word) (content : ℕ → Slot) → l < length floor.locks → word_of x ≡ y → n.word ≡ put s.word l y → n.next ≡ s.next → item_with n ≡ item_with s → w.spare ≡ v.spare
-      → Shelves (slots_for floor) (turn_word b.words) (home_at b.homes) (put outs t w.out) content → RepresentsObjects floor content (objects_in n) → Represents floor (stepped b (spot (lock_line l)) x (suc t) cs w keeps) n
+      → Shelves (slots_for floor) (latch_word b.words) (home_at b.homes) (put outs t w.out) content → RepresentsObjects floor content (objects_in n) → Represents floor (stepped b (spot (lock_line l)) x (suc t) cs w keeps) n
   lock_stepped l x y content low says column next items spares shelves objects =
       let few = r.sizes.sized.locks in
       let fits : spot (lock_line l) < length b.words = omega (arith, r.sizes.words, few, low) in
-      let turns : turn_word (set b.words (spot (lock_line l)) x) ≡ turn_word b.words = turns_stay b.words l x (omega (arith, few, low)) in
+      let latches : latch_word (set b.words (spot (lock_line l)) x) ≡ latch_word b.words = latches_stay b.words l x (omega (arith, few, low)) in
       record {
         sizes = sizes_stay (spot (lock_line l)) x keeps refl;
         locks = subst (RepresentsLocks (config_in floor) (lock_word (set b.words (spot (lock_line l)) x))) (sym column) (lock_changes (config_in floor) b.words l x s.word y fits says r.locks);
         ticket = word_there b.words (lock_line l) x ticket_line (λ e. omega (arith, e, few, low)) ∙ r.ticket ∙ sym next;
         room = let p = total_set spare b.views (suc t) v w at in omega (arith, p, r.room, spares, next);
-        turns = subst (λ (z : (ℕ → ℕ) × (Item → Option ℕ)). RepresentsTurns floor z.0 z.1) (λ i. (sym turns i, sym items i)) r.turns;
+        latches = subst (λ (z : (ℕ → ℕ) × (Item → Option ℕ)). RepresentsLatches floor z.0 z.1) (λ i. (sym latches i, sym items i)) r.latches;
         content = content;
-        shelves = subst (λ (z : (ℕ → ℕ) × (ℕ → List (ℕ × Slot))). Shelves (slots_for floor) z.0 (home_at b.homes) z.1 content) (λ i. (sym turns i, sym (outs_after b.views t w seats_fit) i)) shelves;
+        shelves = subst (λ (z : (ℕ → ℕ) × (ℕ → List (ℕ × Slot))). Shelves (slots_for floor) z.0 (home_at b.homes) z.1 content) (λ i. (sym latches i, sym (outs_after b.views t w seats_fit) i)) shelves;
         objects = objects;
         seats = seats_stepped floor b.views s r.seats n t v w at was is mine others;
         to_come = still ∙ r.to_come;
       }
 
-  -- 2. A turn word, by which a value goes out or comes home
+  -- 2. A latch, by which a value goes out or comes home
 
-  pub turn_stepped : (j x : ℕ) (act : Act Slot) (content : ℕ → Slot) → j < slots_for floor → length (homes_after b.homes cs act) ≡ length b.homes → n.word ≡ s.word → n.next ≡ s.next → w.spare ≡ v.spare
-      → RepresentsTurns floor (put (turn_word b.words) j x) (item_with n)
-      → Shelves (slots_for floor) (put (turn_word b.words) j x) (home_at (homes_after b.homes cs act)) (put outs t w.out) content → RepresentsObjects floor content (objects_in n) → Represents floor (stepped b (spot (turn_line j)) x (suc t) cs w act) n
-  turn_stepped j x act content low homes column next spares turned shelves objects =
-      let fits : spot (turn_line j) < length b.words = omega (arith, r.sizes.words, low) in
-      let turns : turn_word (set b.words (spot (turn_line j)) x) ≡ put (turn_word b.words) j x = turn_changes b.words j x fits in
+  pub latch_stepped : (j x : ℕ) (act : Act Slot) (content : ℕ → Slot) → j < slots_for floor → length (homes_after b.homes cs act) ≡ length b.homes → n.word ≡ s.word → n.next ≡ s.next → w.spare ≡ v.spare
+      → RepresentsLatches floor (put (latch_word b.words) j x) (item_with n)
+      → Shelves (slots_for floor) (put (latch_word b.words) j x) (home_at (homes_after b.homes cs act)) (put outs t w.out) content → RepresentsObjects floor content (objects_in n) → Represents floor (stepped b (spot (latch_line j)) x (suc t) cs w act) n
+  latch_stepped j x act content low homes column next spares latched shelves objects =
+      let fits : spot (latch_line j) < length b.words = omega (arith, r.sizes.words, low) in
+      let latches : latch_word (set b.words (spot (latch_line j)) x) ≡ put (latch_word b.words) j x = latch_changes b.words j x fits in
       record {
-        sizes = sizes_stay (spot (turn_line j)) x act homes;
-        locks = subst (RepresentsLocks (config_in floor) (lock_word (set b.words (spot (turn_line j)) x))) (sym column) (locks_stay (config_in floor) b.words (turn_line j) x s.word (omega (arith, r.sizes.sized.locks)) r.locks);
-        ticket = word_there b.words (turn_line j) x ticket_line (λ e. omega (arith, e)) ∙ r.ticket ∙ sym next;
+        sizes = sizes_stay (spot (latch_line j)) x act homes;
+        locks = subst (RepresentsLocks (config_in floor) (lock_word (set b.words (spot (latch_line j)) x))) (sym column) (locks_stay (config_in floor) b.words (latch_line j) x s.word (omega (arith, r.sizes.sized.locks)) r.locks);
+        ticket = word_there b.words (latch_line j) x ticket_line (λ e. omega (arith, e)) ∙ r.ticket ∙ sym next;
         room = let p = total_set spare b.views (suc t) v w at in omega (arith, p, r.room, spares, next);
-        turns = subst (λ (z : ℕ → ℕ). RepresentsTurns floor z (item_with n)) (sym turns) turned;
+        latches = subst (λ (z : ℕ → ℕ). RepresentsLatches floor z (item_with n)) (sym latches) latched;
         content = content;
-        shelves = subst (λ (z : (ℕ → ℕ) × (ℕ → List (ℕ × Slot))). Shelves (slots_for floor) z.0 (home_at (homes_after b.homes cs act)) z.1 content) (λ i. (sym turns i, sym (outs_after b.views t w seats_fit) i)) shelves;
+        shelves = subst (λ (z : (ℕ → ℕ) × (ℕ → List (ℕ × Slot))). Shelves (slots_for floor) z.0 (home_at (homes_after b.homes cs act)) z.1 content) (λ i. (sym latches i, sym (outs_after b.views t w seats_fit) i)) shelves;
         objects = objects;
         seats = seats_stepped floor b.views s r.seats n t v w at was is mine others;
         to_come = still ∙ r.to_come;
@@ -92,18 +92,18 @@ module _ (floor : Description) (b : Board) (s n : State) (r : Represents floor b
   -- 3. The ticket word, by which an entry is made
 
   pub ticket_stepped : (x : ℕ) (content : ℕ → Slot) → x ≡ suc (word_at b.words ticket_line) → n.word ≡ s.word → n.next ≡ suc s.next → item_with n ≡ item_with s → suc w.spare ≡ v.spare
-      → Shelves (slots_for floor) (turn_word b.words) (home_at b.homes) (put outs t w.out) content → RepresentsObjects floor content (objects_in n) → Represents floor (stepped b (spot ticket_line) x (suc t) cs w keeps) n
+      → Shelves (slots_for floor) (latch_word b.words) (home_at b.homes) (put outs t w.out) content → RepresentsObjects floor content (objects_in n) → Represents floor (stepped b (spot ticket_line) x (suc t) cs w keeps) n
   ticket_stepped x content more column next items spares shelves objects =
       let fits : spot ticket_line < length b.words = omega (arith, r.sizes.words) in
-      let turns : turn_word (set b.words (spot ticket_line) x) ≡ turn_word b.words = turns_stay b.words ticket_line x (omega arith) in
+      let latches : latch_word (set b.words (spot ticket_line) x) ≡ latch_word b.words = latches_stay b.words ticket_line x (omega arith) in
       record {
         sizes = sizes_stay (spot ticket_line) x keeps refl;
         locks = subst (RepresentsLocks (config_in floor) (lock_word (set b.words (spot ticket_line) x))) (sym column) (locks_stay (config_in floor) b.words ticket_line x s.word (omega (arith, r.sizes.sized.locks)) r.locks);
         ticket = word_here b.words ticket_line x fits ∙ more ∙ ap suc r.ticket ∙ sym next;
         room = let p = total_set spare b.views (suc t) v w at in omega (arith, p, r.room, spares, next);
-        turns = subst (λ (z : (ℕ → ℕ) × (Item → Option ℕ)). RepresentsTurns floor z.0 z.1) (λ i. (sym turns i, sym items i)) r.turns;
+        latches = subst (λ (z : (ℕ → ℕ) × (Item → Option ℕ)). RepresentsLatches floor z.0 z.1) (λ i. (sym latches i, sym items i)) r.latches;
         content = content;
-        shelves = subst (λ (z : (ℕ → ℕ) × (ℕ → List (ℕ × Slot))). Shelves (slots_for floor) z.0 (home_at b.homes) z.1 content) (λ i. (sym turns i, sym (outs_after b.views t w seats_fit) i)) shelves;
+        shelves = subst (λ (z : (ℕ → ℕ) × (ℕ → List (ℕ × Slot))). Shelves (slots_for floor) z.0 (home_at b.homes) z.1 content) (λ i. (sym latches i, sym (outs_after b.views t w seats_fit) i)) shelves;
         objects = objects;
         seats = seats_stepped floor b.views s r.seats n t v w at was is mine others;
         to_come = still ∙ r.to_come;
@@ -130,9 +130,9 @@ module _ (floor : Description) (b : Board) (s : State) (r : Represents floor b s
     locks = r.locks;
     ticket = r.ticket;
     room = let p = total_set spare b.views (suc t) v w at in omega (arith, p, r.room, spares);
-    turns = r.turns;
+    latches = r.latches;
     content = r.content;
-    shelves = subst (λ (z : ℕ → List (ℕ × Slot)). Shelves (slots_for floor) (turn_word b.words) (home_at b.homes) z r.content) (sym outs_stay) r.shelves;
+    shelves = subst (λ (z : ℕ → List (ℕ × Slot)). Shelves (slots_for floor) (latch_word b.words) (home_at b.homes) z r.content) (sym outs_stay) r.shelves;
     objects = r.objects;
     seats = seats_stepped floor b.views s r.seats s t v w at was is mine (λ u ne. refl);
     to_come = r.to_come;

@@ -5,7 +5,7 @@ use Rattle.lock_model.specs.Config.{Config}
 use Rattle.lock_model.specs.Words.{Word, word_of}
 use Rattle.lock_state.specs.State.{put}
 use Rattle.lock_laws.proofs.Kit.{put_same, put_other}
-use Rattle.floor_table.specs.Places.{spot, word_at, lock_line, turn_line, lock_word, turn_word}
+use Rattle.floor_table.specs.Places.{spot, word_at, lock_line, latch_line, lock_word, latch_word}
 use Rattle.floor_table.specs.Represents.{RepresentsLocks}
 
 pub word_here : (ws : List ℕ) (n x : ℕ) → spot n < length ws → word_at (set ws (spot n) x) n ≡ x
@@ -29,16 +29,16 @@ lock_changes c ws l x column y fits is h k low =
       | inr ne ↦ ap word_of (word_there ws l x k (λ e. ne (sym e))) ∙ h k low ∙ sym (put_other column l y k ne)
     ]
 
--- the turn words, where none of them changes,
-pub turns_stay : (ws : List ℕ) (n x : ℕ) → n < 128 → turn_word (set ws (spot n) x) ≡ turn_word ws
-turns_stay ws n x before = λ i j. word_there ws n x (turn_line j) (λ e. omega arith) i
+-- the latches, where none of them changes,
+pub latches_stay : (ws : List ℕ) (n x : ℕ) → n < 128 → latch_word (set ws (spot n) x) ≡ latch_word ws
+latches_stay ws n x before = λ i j. word_there ws n x (latch_line j) (λ e. omega arith) i
 
 -- and where one does
-pub turn_changes : (ws : List ℕ) (j x : ℕ) → spot (turn_line j) < length ws → turn_word (set ws (spot (turn_line j)) x) ≡ put (turn_word ws) j x
-turn_changes ws j x fits = λ i k. at k i
+pub latch_changes : (ws : List ℕ) (j x : ℕ) → spot (latch_line j) < length ws → latch_word (set ws (spot (latch_line j)) x) ≡ put (latch_word ws) j x
+latch_changes ws j x fits = λ i k. at k i
   where
-    at : (k : ℕ) → turn_word (set ws (spot (turn_line j)) x) k ≡ put (turn_word ws) j x k
+    at : (k : ℕ) → latch_word (set ws (spot (latch_line j)) x) k ≡ put (latch_word ws) j x k
     at k = elim (cases_eq j k) [
-      | inl e ↦ subst (λ m. turn_word (set ws (spot (turn_line j)) x) m ≡ put (turn_word ws) j x m) e (word_here ws (turn_line j) x fits ∙ sym (put_same (turn_word ws) j x))
-      | inr ne ↦ word_there ws (turn_line j) x (turn_line k) (λ e. ne (omega arith)) ∙ sym (put_other (turn_word ws) j x k ne)
+      | inl e ↦ subst (λ m. latch_word (set ws (spot (latch_line j)) x) m ≡ put (latch_word ws) j x m) e (word_here ws (latch_line j) x fits ∙ sym (put_same (latch_word ws) j x))
+      | inr ne ↦ word_there ws (latch_line j) x (latch_line k) (λ e. ne (omega arith)) ∙ sym (put_other (latch_word ws) j x k ne)
     ]

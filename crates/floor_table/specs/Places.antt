@@ -16,28 +16,28 @@ abbrev pub word_at : List ℕ → ℕ → ℕ
 word_at words line = slice_index_or words (spot line) 0
 
 -- the lines: first the words of locks, then room for those of waiting threads, then the ticket word with room for
--- other words of which there is one, and then the turn words
+-- other words of which there is one, and then the latches
 abbrev pub lock_line : ℕ → ℕ
 lock_line l = l
 
 abbrev pub ticket_line : ℕ
 ticket_line = 96
 
-abbrev pub turn_line : ℕ → ℕ
-turn_line j = 128 + j
+abbrev pub latch_line : ℕ → ℕ
+latch_line j = 128 + j
 
--- the words of locks and of turns
+-- the words of locks and of latches
 abbrev pub lock_word : List ℕ → ℕ → ℕ
 lock_word words l = word_at words (lock_line l)
 
-abbrev pub turn_word : List ℕ → ℕ → ℕ
-turn_word words j = word_at words (turn_line j)
+abbrev pub latch_word : List ℕ → ℕ → ℕ
+latch_word words j = word_at words (latch_line j)
 
 -- how many words there are
 abbrev pub words_for : ℕ → ℕ
-words_for slots = spot (turn_line slots)
+words_for slots = spot (latch_line slots)
 
--- 2. Values behind turns: the records of threads, and then a cell for each key of a table
+-- 2. Values behind latches: the records of threads, and then a cell for each key of a lock's table
 
 -- how many values there are
 abbrev pub slots_for : Description → ℕ
@@ -57,7 +57,7 @@ slot_of floor (CellOf l key) =
     option_map (λ i. length floor.threads + i) (position (is_cell l key) floor.keys)
 slot_of floor ClassGraph = None
 
--- the thread that a turn word names: it is 0 where the value is at home, and else one more than the thread's number
+-- the thread that a latch names: it is 0 where the value is at home, and else one more than the thread's number
 abbrev pub taker : ℕ → Option ℕ
 taker zero = None
 taker (suc t) = Some t

@@ -17,7 +17,7 @@ use Rattle.lock_objects.specs.Held.{holds_of}
 use Rattle.lock_objects.specs.Represents.{RecordColumns, RepresentsRecord, record_in}
 use Rattle.floor_table.specs.declared.slot.Slot.{Slot}
 use Rattle.floor_table.specs.declared.slot.Slot.TheVariants.{Record, Cell}
-use Rattle.floor_table.specs.Places.{lock_word, turn_word, word_at, ticket_line, words_for, slots_for, slot_of, taker, home_at}
+use Rattle.floor_table.specs.Places.{lock_word, latch_word, word_at, ticket_line, words_for, slots_for, slot_of, taker, home_at}
 use Rattle.floor_table.specs.Shares.{Share, ShareColumns, columns_of, share_in, start_share}
 use Rattle.floor_table.specs.Shelves.{Shelves}
 use Rattle.floor_table.specs.Views.{Role, OfKeeper, OfThread, OfNobody, Knowledge, nothing}
@@ -32,14 +32,14 @@ RepresentsLocks c lock column = (l : ℕ) → l < c.locks → word_of (lock l) �
 
 -- the thread that has the value of a place
 abbrev pub taken_from : (ℕ → ℕ) → Option ℕ → Option ℕ
-taken_from turn None = None
-taken_from turn (Some j) = taker (turn j)
+taken_from latch None = None
+taken_from latch (Some j) = taker (latch j)
 
--- an item is out with the thread that its turn word names
-unfoldable pub RepresentsTurns : Description → (ℕ → ℕ) → (Item → Option ℕ) → Type 0
-RepresentsTurns floor turn out = (i : Item) → out i ≡ taken_from turn (slot_of floor i)
+-- an item is out with the thread that its latch names
+unfoldable pub RepresentsLatches : Description → (ℕ → ℕ) → (Item → Option ℕ) → Type 0
+RepresentsLatches floor latch out = (i : Item) → out i ≡ taken_from latch (slot_of floor i)
 
--- 2. Values behind turns
+-- 2. Values behind latches
 
 -- what the columns say of them
 pub record Objects : Type 0 where
@@ -221,9 +221,9 @@ pub record Represents (floor : Description) (b : Board) (s : State) : Type 0 whe
   pub locks : RepresentsLocks (config_in floor) (lock_word b.words) s.word
   pub ticket : word_at b.words ticket_line ≡ s.next
   pub room : s.next + total spare b.views < 2 ^ 32
-  pub turns : RepresentsTurns floor (turn_word b.words) (item_with s)
+  pub latches : RepresentsLatches floor (latch_word b.words) (item_with s)
   pub content : ℕ → Slot
-  pub shelves : Shelves (slots_for floor) (turn_word b.words) (home_at b.homes)
+  pub shelves : Shelves (slots_for floor) (latch_word b.words) (home_at b.homes)
       (λ t. (thread_in b.views t).out) content
   pub objects : RepresentsObjects floor content (objects_in s)
   pub seats : RepresentsSeats floor b.views s

@@ -22,4 +22,4 @@ impl TableRule<Slot, View, Description> for Law {
 pub type Board = Table<Slot, View, Description, Law, Global>;
 
 /// A seat at the table.
-pub type Place = Seat<Slot, View>;
+pub type FloorSeat = Seat<Slot, View>;

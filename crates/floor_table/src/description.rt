@@ -114,7 +114,7 @@ fn locks_of(alloc: Global, chans: &[ChanDecl]) -> Result<Vec<LockNo>, AllocError
     Ok(locks)
 }
 
-// The keys of tables that the threads' operations name, by lock and then by key, each once.
+// The keys of locks' tables that the threads' operations name, by lock and then by key, each once.
 fn keys_of(alloc: Global, threads: &[ThreadDecl]) -> Result<Vec<(u8, u64)>, AllocError>
     ensures { IfOk result (λ keys. keys.items ≡ keys_in threads.now) }
 {

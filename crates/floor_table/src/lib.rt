@@ -1,9 +1,9 @@
 //! The one table that the threads of a running floor share, and what holds of it between any two of their steps.
 //!
-//! The table has a word for each lock, turn words, and a word for the next ticket, each on a cache line of its own
-//! (`specs/Places.antt`). Behind turn words lie the records of threads and the cells of the locks' tables (`slot`): the
-//! thread that has the turn has the value out. Each thread steps with a seat, which knows the thread's share of the state
-//! (`view`).
+//! The table has a word for each lock, latches, and a word for the next ticket, each on a cache line of its own
+//! (`specs/Places.antt`). Behind latches lie the records of threads and the cells of the locks' tables (`slot`): the
+//! thread that has the latch has the value out. Each thread steps with a seat, which knows the thread's share of the
+//! state (`view`).
 //!
 //! The rule (`specs/Rule.antt`) is that the table represents a lawful state of `lock_state`: its words, what is at home
 //! and what is out, and what the seats know say what the columns say (`specs/Represents.antt`). So each atomic step of a
@@ -27,9 +27,9 @@ mod slot;
 mod told;
 mod view;
 
-pub use board::{Board, Law, Place};
+pub use board::{Board, FloorSeat, Law};
 pub use description::{Description, LockPart, ThreadPart};
-pub use places::{lock_spot, ticket_spot, turn_spot, words_for};
+pub use places::{latch_spot, lock_spot, ticket_spot, words_for};
 pub use slot::Slot;
 pub use told::{Tells, Told, add, exchange, load, store};
 pub use view::View;

@@ -1,6 +1,6 @@
 //! Where the words of a floor's table are.
 ghost use Rattle.std.specs.Prelude.{◌≡◌, ◌<◌, ◌^◌};
-ghost use Rattle.floor_table.specs.Places.{spot, lock_line, ticket_line, turn_line, words_for};
+ghost use Rattle.floor_table.specs.Places.{spot, lock_line, ticket_line, latch_line, words_for};
 
 use lock_model::LockNo;
 
@@ -10,8 +10,8 @@ const LINE: usize = 8;
 // The line of the ticket word, behind room for the words of 64 locks and of 32 threads.
 const TICKET: usize = 96;
 
-// The line of the first turn word.
-const TURNS: usize = 128;
+// The line of the first latch.
+const LATCHES: usize = 128;
 
 /// Where a lock's word is.
 pub fn lock_spot(l: LockNo) -> usize
@@ -27,12 +27,12 @@ pub fn ticket_spot() -> usize
     LINE * TICKET
 }
 
-/// Where the turn word of a value is.
-pub fn turn_spot(slot: usize) -> usize
+/// Where the latch of a value is.
+pub fn latch_spot(slot: usize) -> usize
     requires { slot < 2 ^ 32 }
-    ensures { result ≡ spot (turn_line slot) }
+    ensures { result ≡ spot (latch_line slot) }
 {
-    LINE * (TURNS + slot)
+    LINE * (LATCHES + slot)
 }
 
 /// How many words a table with so many values has.
@@ -40,5 +40,5 @@ pub fn words_for(slots: usize) -> usize
     requires { slots < 2 ^ 32 }
     ensures { result ≡ words_for slots }
 {
-    turn_spot(slots)
+    latch_spot(slots)
 }

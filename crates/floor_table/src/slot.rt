@@ -1,4 +1,4 @@
-//! What lies behind the turn words of a floor's table.
+//! What lies behind the latches of a floor's table.
 
 use thread_records::ThreadRec;
 

@@ -5,7 +5,7 @@ ghost use prog.Atomic.{either};
 ghost use Rattle.atomic_table.specs.Table.{Allows};
 ghost use Rattle.floor_table.specs.Rule.{FloorHolds};
 
-use crate::board::{Board, Place};
+use crate::board::{Board, FloorSeat};
 use crate::slot::Slot;
 use crate::view::View;
 use atomic_table::Play;
@@ -38,7 +38,7 @@ impl<J: Tells> Play<Slot, View> for Told<J> {
 }
 
 /// Reads a word.
-pub fn load<J: Tells>(board: &Board, seat: &mut Place, word: usize) -> u64
+pub fn load<J: Tells>(board: &Board, seat: &mut FloorSeat, word: usize) -> u64
     requires own { seat.old.table_id ≡ board.now.shared.table_id }
     requires within { word < board.now.shared.table_id.words }
     requires may { Allows (FloorHolds board.now.shared.key) board.now.shared.table_id.slots
@@ -50,7 +50,13 @@ pub fn load<J: Tells>(board: &Board, seat: &mut Place, word: usize) -> u64
 }
 
 /// Makes a word `new` where it is `old`, and answers what it was.
-pub fn exchange<J: Tells>(board: &Board, seat: &mut Place, word: usize, old: u64, new: u64) -> u64
+pub fn exchange<J: Tells>(
+    board: &Board,
+    seat: &mut FloorSeat,
+    word: usize,
+    old: u64,
+    new: u64,
+) -> u64
     requires own { seat.old.table_id ≡ board.now.shared.table_id }
     requires within { word < board.now.shared.table_id.words }
     requires may { Allows (FloorHolds board.now.shared.key) board.now.shared.table_id.slots
@@ -64,7 +70,7 @@ pub fn exchange<J: Tells>(board: &Board, seat: &mut Place, word: usize, old: u64
 }
 
 /// Adds to a word, and answers what it was.
-pub fn add<J: Tells>(board: &Board, seat: &mut Place, word: usize, n: u64) -> u64
+pub fn add<J: Tells>(board: &Board, seat: &mut FloorSeat, word: usize, n: u64) -> u64
     requires own { seat.old.table_id ≡ board.now.shared.table_id }
     requires within { word < board.now.shared.table_id.words }
     requires may { Allows (FloorHolds board.now.shared.key) board.now.shared.table_id.slots
@@ -76,7 +82,7 @@ pub fn add<J: Tells>(board: &Board, seat: &mut Place, word: usize, n: u64) -> u6
 }
 
 /// Makes a word `new`.
-pub fn store<J: Tells>(board: &Board, seat: &mut Place, word: usize, new: u64)
+pub fn store<J: Tells>(board: &Board, seat: &mut FloorSeat, word: usize, new: u64)
     requires own { seat.old.table_id ≡ board.now.shared.table_id }
     requires within { word < board.now.shared.table_id.words }
     requires may { Allows (FloorHolds board.now.shared.key) board.now.shared.table_id.slots

@@ -25,7 +25,7 @@ use Rattle.lock_floor.specs.declared.tables.Change.{Change}
 use Rattle.lock_floor.specs.declared.tables.Change.TheVariants.{Set, Add}
 use Rattle.lock_floor.specs.Changes.{IsChangeOf, event_of}
 use Rattle.lock_floor.specs.Passes.{IsAtRest}
-use Rattle.lock_floor.specs.Turns.{IsOfKind, Takes}
+use Rattle.lock_floor.specs.Latches.{IsOfKind, Takes}
 use Rattle.lock_floor.proofs.May.{may_take, says_its, holds_it, own_log}
 use Rattle.lock_floor.proofs.Resting.{may_note, rest_with, taken_out}
 

@@ -21,7 +21,7 @@ use Rattle.floor_table.specs.Descriptions.{config_in}
 use Rattle.floor_table.specs.declared.description.Description.{Description}
 use Rattle.floor_table.specs.declared.slot.Slot.{Slot}
 use Rattle.floor_table.specs.declared.slot.Slot.TheVariants.{Record, Cell}
-use Rattle.floor_table.specs.Places.{spot, ticket_line, word_at, turn_word, slots_for, slot_of, home_at}
+use Rattle.floor_table.specs.Places.{spot, ticket_line, word_at, latch_word, slots_for, slot_of, home_at}
 use Rattle.floor_table.specs.Represents.{Board, Objects, IsOf, RepresentsObjects, objects_in, thread_in}
 use Rattle.floor_table.specs.Rule.{FloorHolds}
 use Rattle.floor_table.specs.Shelves.{found, Shelves}
@@ -56,7 +56,7 @@ object_changed floor content x y i j z place only is h = record {
       only.tables l key (λ q. absurd (let e : None ≡ Some j = sym none ∙ ap (slot_of floor) q ∙ place in cc)) ∙ h.unnamed l key none;
 }
 
--- a key of a table gets a value
+-- a key of a lock's table gets a value
 module _ (x : Objects) (a b : ℕ) (v : Option ℕ) where
   abbrev y : Objects
   y = record x { table = put_at x.table a b v }
@@ -159,6 +159,6 @@ change_allowed floor me event slots id i j x was room about place last changes m
         let is_its = (h.fits.out.each i j x place (ap (found j) last ∙ found_first j x (rest me.0.out))).1 in
         let its = its_object (config_in floor) h.state t h.sound.facts.lawful event i x about is_its in
         stamps floor me was room event (λ me. me.1) b h (put r.content j y) (may h.state h.fits tt)
-        (subst (λ o. Shelves (slots_for floor) (turn_word b.words) (home_at b.homes) (put outs t o) (put r.content j y)) (sym now)
-        (shelf_changed (slots_for floor) (turn_word b.words) (home_at b.homes) outs r.content r.shelves j t x y (rest me.0.out) mine))
+        (subst (λ o. Shelves (slots_for floor) (latch_word b.words) (home_at b.homes) (put outs t o) (put r.content j y)) (sym now)
+        (shelf_changed (slots_for floor) (latch_word b.words) (home_at b.homes) outs r.content r.shelves j t x y (rest me.0.out) mine))
         (object_changed floor r.content (objects_in h.state) (objects_in (after_stamp (config_in floor) h.state t event)) i j y place its.0 its.1 r.objects)

@@ -29,7 +29,7 @@ use Rattle.floor_table.specs.Descriptions.{config_in}
 use Rattle.floor_table.specs.declared.description.Description.{Description}
 use Rattle.floor_table.specs.declared.slot.Slot.{Slot}
 use Rattle.floor_table.specs.declared.slot.Slot.TheVariants.{Record as Recorded, Cell}
-use Rattle.floor_table.specs.Places.{slots_for, turn_word}
+use Rattle.floor_table.specs.Places.{slots_for, latch_word}
 use Rattle.floor_table.specs.Shares.{Share, ShareColumns}
 use Rattle.floor_table.specs.Views.{OfThread, Knowledge, nothing}
 use Rattle.floor_table.specs.Represents.{Board, IsOf, objects_in, seat, keeper_in, thread_in, total, live, one_thread, IsTakenIn, ToCome, to_come, Represents}
@@ -163,10 +163,10 @@ module _ (floor : Description) (v : Knowledge) (ws : List ℕ) (xs : List Slot) 
   nobody : (t : ℕ) → (thread_in b.views t).role ≢ OfThread
   nobody t e = let p = live_at b.views (suc t) in let q : live (thread_in b.views t) ≡ 1 = ap one_thread e in omega (arith, p, q, all_made.1)
 
-  free : (j : ℕ) → j < slots_for floor → turn_word b.words j ≡ 0
-  free j low = go (turn_word b.words j) refl
+  free : (j : ℕ) → j < slots_for floor → latch_word b.words j ≡ 0
+  free j low = go (latch_word b.words j) refl
     where
-      go : (n : ℕ) → turn_word b.words j ≡ n → n ≡ 0
+      go : (n : ℕ) → latch_word b.words j ≡ n → n ≡ 0
       go zero e = refl
       go (suc t) e = absurd (some-ne-none (represents.content j) (sym (represents.shelves.away j t low e) ∙ ap (found j) (represents.seats.none_out t (nobody t))))
 

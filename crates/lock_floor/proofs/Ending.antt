@@ -50,7 +50,7 @@ module _ (floor : Description) (v : Knowledge) (ws : List ℕ) (xs : List Slot) 
       subst (λ (z : ℕ × List (ℕ × ℕ) × List Slot). (i : ℕ) (d : ℕ × ℕ) → i < length z.1 → get_elem? z.2 (z.0 + i) ≡ some (Cell (s.table (get_or z.1 i d).0 (get_or z.1 i d).1)))
       (λ j. (sym same_threads j, sym same_keys j, sym same_items j)) (closed.cell_home floor v ws xs final all)
 
-  -- what the records, the tables and the logs have then
+  -- what the records, the locks' tables and the logs have then
   pub record HasAll (x : Closing) : Type 0 where
     pub logs : map (λ b. b.entries) x.logs.items ≡ map (λ g. reverse g.1.log) v.gathered
     pub count : length x.recs.items ≡ length floor.threads

@@ -14,7 +14,7 @@ use Rattle.lock_state.specs.Steps.{Step}
 use Rattle.floor_table.specs.declared.description.Description.{Description}
 use Rattle.floor_table.specs.declared.slot.Slot.{Slot}
 use Rattle.floor_table.specs.Past.{IsSeen, IsSeenBy, AreSeen}
-use Rattle.floor_table.specs.Places.{spot, ticket_line, slots_for, turn_word, home_at}
+use Rattle.floor_table.specs.Places.{spot, ticket_line, slots_for, latch_word, home_at}
 use Rattle.floor_table.specs.Shares.{Share}
 use Rattle.floor_table.specs.Shelves.{Shelves}
 use Rattle.floor_table.specs.Views.{OfThread, OfNobody, Knowledge, nothing}
@@ -142,9 +142,9 @@ module _ (floor : Description) (b : Board) (s : State) (r : Represents floor b s
         let first = total_set spare vs 0 v both at in
         let second = total_set spare between (suc t) w nothing there in
         omega (arith, first, second, r.room);
-    turns = r.turns;
+    latches = r.latches;
     content = r.content;
-    shelves = subst (λ o. Shelves (slots_for floor) (turn_word b.words) (home_at b.homes) o r.content) (λ i u. sym (field_stays (λ (k : Knowledge). k.out) (sym rest) u) i) r.shelves;
+    shelves = subst (λ o. Shelves (slots_for floor) (latch_word b.words) (home_at b.homes) o r.content) (λ i u. sym (field_stays (λ (k : Knowledge). k.out) (sym rest) u) i) r.shelves;
     objects = r.objects;
     seats = seats_joined;
     to_come = r.to_come;

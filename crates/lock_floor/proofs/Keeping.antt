@@ -22,11 +22,11 @@ use Rattle.floor_table.specs.declared.slot.Slot.{Slot}
 use Rattle.floor_table.specs.declared.slot.Slot.TheVariants.{Record as Recorded, Cell}
 use Rattle.lock_state.specs.Steps.{maker}
 use Rattle.floor_table.specs.Past.{IsSeen, IsSeenBy, AreSeen}
-use Rattle.floor_table.specs.Places.{spot, turn_line, ticket_line, words_for, slots_for, slot_of, taker, turn_word, lock_word, home_at}
+use Rattle.floor_table.specs.Places.{spot, latch_line, ticket_line, words_for, slots_for, slot_of, taker, latch_word, lock_word, home_at}
 use Rattle.floor_table.specs.Shares.{Share}
 use Rattle.floor_table.specs.Shelves.{Shelves}
 use Rattle.floor_table.specs.Views.{OfThread, OfNobody, Knowledge, nothing, keeper}
-use Rattle.floor_table.specs.Represents.{Board, RepresentsLocks, RepresentsTurns, taken_from, RepresentsObjects, IsOf, objects_in, seat, keeper_in, thread_in, total, spare, live, IsSeatOf, IsTakenIn, RepresentsSeats, Represents}
+use Rattle.floor_table.specs.Represents.{Board, RepresentsLocks, RepresentsLatches, taken_from, RepresentsObjects, IsOf, objects_in, seat, keeper_in, thread_in, total, spare, live, IsSeatOf, IsTakenIn, RepresentsSeats, Represents}
 use Rattle.floor_table.specs.Rule.{FloorHolds}
 use Rattle.floor_table.proofs.Items.{record_place, cell_place, place_low}
 use Rattle.floor_table.proofs.Lists.{inside, at_or, or_past, snoc_before, snoc_there}
@@ -149,9 +149,9 @@ module _ (floor : Description) (b : Board) (s : State) (r : Represents floor b s
         let sums = total_set spare vs 0 v left at in
         let snoc = total_snoc spare (set vs 0 left) right in
         omega (arith, sums, snoc, r.room, fits);
-    turns = r.turns;
+    latches = r.latches;
     content = r.content;
-    shelves = subst (λ o. Shelves (slots_for floor) (turn_word b.words) (home_at b.homes) o r.content) (λ i t. sym (field_stays (λ (k : Knowledge). k.out) refl t) i) r.shelves;
+    shelves = subst (λ o. Shelves (slots_for floor) (latch_word b.words) (home_at b.homes) o r.content) (λ i t. sym (field_stays (λ (k : Knowledge). k.out) refl t) i) r.shelves;
     objects = r.objects;
     seats = seats_with;
     to_come = r.to_come;
@@ -204,9 +204,9 @@ none_out floor (RecordOf t) = refl
 none_out floor (CellOf l j) = refl
 none_out floor ClassGraph = refl
 
-none_taken : (turn : ℕ → ℕ) → ((j : ℕ) → turn j ≡ 0) → (o : Option ℕ) → taken_from turn o ≡ None
-none_taken turn free None = refl
-none_taken turn free (Some j) = ap taker (free j)
+none_taken : (latch : ℕ → ℕ) → ((j : ℕ) → latch j ≡ 0) → (o : Option ℕ) → taken_from latch o ≡ None
+none_taken latch free None = refl
+none_taken latch free (Some j) = ap taker (free j)
 
 module _ (floor : Description) where
   abbrev start : State
@@ -258,14 +258,14 @@ module _ (floor : Description) where
     unfolding start_state RepresentsLocks
     free_locks = λ l low. ap word_of (no_word (spot l))
 
-    free_turns : RepresentsTurns floor (turn_word zeros) (item_with start)
-    unfolding RepresentsTurns
-    free_turns = λ i. none_out floor i ∙ sym (none_taken (turn_word zeros) (λ j. no_word (spot (turn_line j))) (slot_of floor i))
+    free_latches : RepresentsLatches floor (latch_word zeros) (item_with start)
+    unfolding RepresentsLatches
+    free_latches = λ i. none_out floor i ∙ sym (none_taken (latch_word zeros) (λ j. no_word (spot (latch_line j))) (slot_of floor i))
 
-    first_shelves : Shelves (slots_for floor) (turn_word zeros) (home_at (map some xs)) (λ t. (thread_in (keeper floor ∷ []) t).out) (λ j. get_or xs j (Cell None))
+    first_shelves : Shelves (slots_for floor) (latch_word zeros) (home_at (map some xs)) (λ t. (thread_in (keeper floor ∷ []) t).out) (λ j. get_or xs j (Cell None))
     first_shelves = record {
       at_home = λ j low free. all_home xs j (Cell None) (omega (arith, long, low));
-      away = λ j t low out. absurd (let z = no_word (spot (turn_line j)) in omega (arith, z, out));
+      away = λ j t low out. absurd (let z = no_word (spot (latch_line j)) in omega (arith, z, out));
       taken = λ j t x e. absurd (some-ne-none x (sym e));
       apart = λ t. tt;
     }
@@ -288,7 +288,7 @@ module _ (floor : Description) where
       locks = free_locks;
       ticket = no_word (spot ticket_line);
       room = omega (arith, sized.room);
-      turns = free_turns;
+      latches = free_latches;
       content = λ j. get_or xs j (Cell None);
       shelves = first_shelves;
       objects = first_objects;

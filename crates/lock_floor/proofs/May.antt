@@ -56,7 +56,8 @@ module _ (floor : Description) (v : Knowledge) where
       where
         go : (o : Option QueueName) → s.blocked_on t ≡ o → s.blocked_on t ≡ None
         go None e = e
-        go (Some q) e = absurd (let z : Running ≡ Queued = sym f.runs ∙ f.sound.facts.lawful.waits.standing_is_queued t q e in cc)
+        go (Some q) e = absurd
+            (let z : Running ≡ Queued = sym f.runs ∙ f.sound.facts.lawful.waits.standing_is_queued t q e in cc)
 
     -- it has no chain out, since there is no place for one
     no_chain : (l : ℕ) → HasItem s t (chain_of floor.chains c l) → ⊥
@@ -73,13 +74,16 @@ module _ (floor : Description) (v : Knowledge) where
 
     -- nor another chain
     no_chain_out : (i : Item) → is_chain i ≡ true → HasItem s t i → ⊥
-    no_chain_out (TurnstileChain k) x out = let there = f.out.no_other (TurnstileChain k) out in let z : None ≡ Some there.0 = there.1 in cc
-    no_chain_out (SleepChain k) x out = let there = f.out.no_other (SleepChain k) out in let z : None ≡ Some there.0 = there.1 in cc
+    no_chain_out (TurnstileChain k) x out = let there = f.out.no_other (TurnstileChain k) out in
+        let z : None ≡ Some there.0 = there.1 in cc
+    no_chain_out (SleepChain k) x out = let there = f.out.no_other (SleepChain k) out in let z : None ≡ Some there.0 =
+        there.1 in cc
     no_chain_out (RecordOf u) x out = absurd cc
     no_chain_out (CellOf l key) x out = absurd cc
     no_chain_out ClassGraph x out = absurd cc
 
-    counted : (l : ℕ) (r : Option Round) → (seeks l r && not (is_with t (item_with s (chain_of floor.chains c l)))) ≡ seeks l r
+    counted : (l : ℕ) (r : Option Round)
+        → (seeks l r && not (is_with t (item_with s (chain_of floor.chains c l)))) ≡ seeks l r
     counted l r = go (item_with s (chain_of floor.chains c l)) refl
       where
         go : (o : Option ℕ) → item_with s (chain_of floor.chains c l) ≡ o → (seeks l r && not (is_with t o)) ≡ seeks l r
@@ -92,7 +96,8 @@ module _ (floor : Description) (v : Knowledge) where
     -- its sections are those of its log
     pub own_log : (l : ℕ) → open_in c s.history t l ≡ open_in c v.share.log t l
     unfolding LogsAreParts
-    own_log l = own_section c s.history t l ∙ ap (λ es. open_in c es t l) (sym (f.sound.facts.lawful.books.logs_are_parts t) ∙ sym (column (λ x. x.log)))
+    own_log l = own_section c s.history t l
+        ∙ ap (λ es. open_in c es t l) (sym (f.sound.facts.lawful.books.logs_are_parts t) ∙ sym (column (λ x. x.log)))
 
     -- what it holds, wants, seeks and does
     pub holds_it : (l : ℕ) → s.held t l ≡ hold_in v.share.held l
@@ -107,7 +112,10 @@ module _ (floor : Description) (v : Knowledge) where
 
     module _ (going : IsGoing v) where
       pub is_awake : IsRunnable s t
-      is_awake = record { phase = doing_it (λ d. d.phase) ∙ going.awake; unended = doing_it (λ d. d.has_ended) ∙ going.unended }
+      is_awake = record {
+        phase = doing_it (λ d. d.phase) ∙ going.awake;
+        unended = doing_it (λ d. d.has_ended) ∙ going.unended;
+      }
 
       pub owes_none : OwesNoStep s t
       owes_none = record { added = off; stamped = doing_it (λ d. d.unstamped) ∙ going.stamped }
@@ -120,7 +128,8 @@ module _ (floor : Description) (v : Knowledge) where
 
   -- 2. Steps on lock words
 
-  pub may_look : (l : ℕ) → l < length floor.locks → IsGoing v → (counts v l ≡ true → v.share.doing.looks < 100) → (v.share.doing.round ≢ None → counts v l ≡ true) → MayMake floor v (λ s. Unit {0}) (Looks t l (counts v l) ∷ [])
+  pub may_look : (l : ℕ) → l < length floor.locks → IsGoing v → (counts v l ≡ true → v.share.doing.looks < 100)
+      → (v.share.doing.round ≢ None → counts v l ≡ true) → MayMake floor v (λ s. Unit {0}) (Looks t l (counts v l) ∷ [])
   may_look l low going few of_round s f _ =
       let round : s.round t ≡ v.share.doing.round = doing_it s f (λ d. d.round) in
       let looks : s.looks t ≡ v.share.doing.looks = doing_it s f (λ d. d.looks) in (
@@ -128,7 +137,8 @@ module _ (floor : Description) (v : Knowledge) where
           may = record { thread = f.thread; lock = low; room = λ e. subst (λ n. n < 100) (sym looks) (few e) };
           has_out = tt;
           has_seen = record {
-            counts = sym (ap (λ r. seeks l r && not (is_with t (item_with s (chain_of floor.chains c l)))) round ∙ counted s f l v.share.doing.round);
+            counts = sym (ap (λ r. seeks l r && not (is_with t (item_with s (chain_of floor.chains c l)))) round
+                ∙ counted s f l v.share.doing.round);
             of_round = λ ne. ap (seeks l) round ∙ of_round (λ e. ne (round ∙ e));
             in_chain = λ i x out. absurd (no_chain_out s f i x out);
             outside = λ i n x out. absurd (no_chain_out s f i x out);
@@ -139,14 +149,17 @@ module _ (floor : Description) (v : Knowledge) where
         tt,
       )
 
-  pub may_seek : (l : ℕ) (by_try : Bool) → l < length floor.locks → hold_in v.share.held l ≡ NotHeld → (v.share.doing.wanted ≡ Some l) ⊎ (v.share.doing.wanted ≡ None) → (by_try ≡ true → v.share.doing.wanted ≡ None) → (v.share.doing.wanted ≡ None → v.share.doing.taking ≡ None) → v.share.doing.round ≡ None → IsGoing v
+  pub may_seek : (l : ℕ) (by_try : Bool) → l < length floor.locks → hold_in v.share.held l ≡ NotHeld
+      → (v.share.doing.wanted ≡ Some l) ⊎ (v.share.doing.wanted ≡ None) → (by_try ≡ true → v.share.doing.wanted ≡ None)
+      → (v.share.doing.wanted ≡ None → v.share.doing.taking ≡ None) → v.share.doing.round ≡ None → IsGoing v
       → MayMake floor v (λ s. Unit {0}) (Seeks t l by_try ∷ Looks t l true ∷ [])
   unfolding after_seek
   may_seek l by_try low unheld wants tries anew none going s f _ =
       let round : s.round t ≡ v.share.doing.round = doing_it s f (λ d. d.round) in
       let wanted : s.wanted t ≡ v.share.doing.wanted = doing_it s f (λ d. d.wanted) in
       let looks : (after_seek s t l by_try).looks t ≡ 0 = put_same s.looks t 0 in
-      let begun : (after_seek s t l by_try).round t ≡ Some (round_of l by_try) = put_same s.round t (Some (round_of l by_try)) in
+      let begun : (after_seek s t l by_try).round t ≡ Some (round_of l by_try) =
+      put_same s.round t (Some (round_of l by_try)) in
       let sought : seeks l (Some (round_of l by_try)) ≡ true = eq-eqb l l refl in (
         record {
           may = record {
@@ -167,20 +180,39 @@ module _ (floor : Description) (v : Knowledge) where
             may = record { thread = f.thread; lock = low; room = λ _. subst (λ n. n < 100) (sym looks) (omega arith) };
             has_out = tt;
             has_seen = record {
-              counts = sym (ap (λ r. seeks l r && not (is_with t (item_with s (chain_of floor.chains c l)))) begun ∙ counted s f l (Some (round_of l by_try)) ∙ sought);
+              counts = sym (ap (λ r. seeks l r && not (is_with t (item_with s (chain_of floor.chains c l)))) begun
+                  ∙ counted s f l (Some (round_of l by_try)) ∙ sought);
               of_round = λ _. ap (seeks l) begun ∙ sought;
               in_chain = λ i x out. absurd (no_chain_out s f i x out);
               outside = λ i n x out. absurd (no_chain_out s f i x out);
               halting = λ e. absurd (not_halting s f going e);
             };
-            asks_of_thread = record { runs = inl (record { phase = (is_awake s f going).phase; unended = (is_awake s f going).unended }); owes = record { added = λ o. off s f record { queued = o.queued; nowhere = o.nowhere; wants = o.wants; slept = o.slept; unwoken = o.unwoken; unhalted = o.unhalted }; stamped = (owes_none s f going).stamped } };
+            asks_of_thread = record {
+              runs = inl
+                  (record { phase = (is_awake s f going).phase; unended = (is_awake s f going).unended });
+              owes = record {
+                added = λ o. off s f
+                    record {
+                      queued = o.queued;
+                      nowhere = o.nowhere;
+                      wants = o.wants;
+                      slept = o.slept;
+                      unwoken = o.unwoken;
+                      unhalted = o.unhalted;
+                    };
+                stamped = (owes_none s f going).stamped;
+              };
+            };
           },
           tt,
         ),
       )
 
-  pub may_gain : (l : ℕ) (mode : Mode) (by_try : Bool) (word : Word) → l < length floor.locks → admits (c.kind l) word mode ≡ true → is_plain (c.kind l) word mode ≡ true → hold_in v.share.held l ≡ NotHeld
-      → (v.share.doing.wanted ≡ Some l) ⊎ (v.share.doing.wanted ≡ None) → FitsRound v.share.doing.round l by_try → ((k : ℕ) → v.share.doing.taking ≡ Some k → k ≡ l) → IsGoing v → MayMake floor v (λ s. s.word l ≡ word) (Gains t l mode by_try ∷ [])
+  pub may_gain : (l : ℕ) (mode : Mode) (by_try : Bool) (word : Word) → l < length floor.locks
+      → admits (c.kind l) word mode ≡ true → is_plain (c.kind l) word mode ≡ true → hold_in v.share.held l ≡ NotHeld
+      → (v.share.doing.wanted ≡ Some l) ⊎ (v.share.doing.wanted ≡ None) → FitsRound v.share.doing.round l by_try
+      → ((k : ℕ) → v.share.doing.taking ≡ Some k → k ≡ l) → IsGoing v
+      → MayMake floor v (λ s. s.word l ≡ word) (Gains t l mode by_try ∷ [])
   may_gain l mode by_try word low admitted plain unheld wants fits others going s f its =
       let round : s.round t ≡ v.share.doing.round = doing_it s f (λ d. d.round) in
       let wanted : s.wanted t ≡ v.share.doing.wanted = doing_it s f (λ d. d.wanted) in (
@@ -206,7 +238,8 @@ module _ (floor : Description) (v : Knowledge) where
         tt,
       )
 
-  pub may_drop : (l : ℕ) (mode : Mode) (word : Word) → l < length floor.locks → hold_in v.share.held l ≡ Holds mode → is_drop word ≡ true → open_in c v.share.log t l ≡ NotHeld → is_among l v.share.begun ≡ true → IsGoing v
+  pub may_drop : (l : ℕ) (mode : Mode) (word : Word) → l < length floor.locks → hold_in v.share.held l ≡ Holds mode
+      → is_drop word ≡ true → open_in c v.share.log t l ≡ NotHeld → is_among l v.share.begun ≡ true → IsGoing v
       → MayMake floor v (λ s. s.word l ≡ word) (Drops t l mode ∷ [])
   may_drop l mode word low held stays closed begun going s f its = (
     record {
@@ -227,7 +260,9 @@ module _ (floor : Description) (v : Knowledge) where
 
   -- 3. Entries
 
-  pub may_stamp : (e : Event) → ((s : State) → Fits floor v s → Asks c s t e × HasOutForEntry floor.chains s t e) → NotesInRound v.share.doing.round e → (is_taking_back v.share.log ≡ true → ends_sleep e ≡ true) → IsGoing v → v.share.doing.taking ≡ None
+  pub may_stamp : (e : Event) → ((s : State) → Fits floor v s → Asks c s t e × HasOutForEntry floor.chains s t e)
+      → NotesInRound v.share.doing.round e → (is_taking_back v.share.log ≡ true → ends_sleep e ≡ true) → IsGoing v
+      → v.share.doing.taking ≡ None
       → MayMake floor v (λ s. Unit {0}) (Stamps t e ∷ [])
   may_stamp e asks in_round asleep going takes_nothing s f _ =
       let a = asks s f in
@@ -241,7 +276,8 @@ module _ (floor : Description) (v : Knowledge) where
             in_round = subst (λ r. NotesInRound r e) (sym round) in_round;
             asleep = λ q. asleep (ap is_taking_back (sym log) ∙ q);
             wakes = λ ne. absurd (ne (unstamped ∙ going.stamped));
-            takes = λ l q. absurd (let z : None ≡ Some l = sym takes_nothing ∙ sym (doing_it s f (λ d. d.taking)) ∙ q in cc);
+            takes = λ l q. absurd
+                (let z : None ≡ Some l = sym takes_nothing ∙ sym (doing_it s f (λ d. d.taking)) ∙ q in cc);
           };
           asks_of_thread = record { runs = is_awake s f going; added = off s f };
         },
@@ -263,9 +299,25 @@ module _ (floor : Description) (v : Knowledge) where
       let there = f.out.no_other i out in
       some-ne-none there.2.0 (sym there.2.1 ∙ ap (found there.0) empty)
 
-  pub may_take : (i : Item) → v.out ≡ [] → v.share.doing.round ≡ None → IsGoing v → ((s : State) → Fits floor v s → IsItem floor.chains c i) → MayMake floor v (λ s. item_with s i ≡ None) (TakesItem t i ∷ [])
+  pub may_take : (i : Item) → v.out ≡ [] → v.share.doing.round ≡ None → IsGoing v
+      → ((s : State) → Fits floor v s → IsItem floor.chains c i)
+      → MayMake floor v (λ s. item_with s i ≡ None) (TakesItem t i ∷ [])
   may_take i empty no_round going there s f home = (
-    record { may = record { thread = f.thread; home = home; together = λ k out. absurd (nothing_with s f empty k out); orders = may_check s f i }; has_out = (there s f, subst (λ r. IsOfRound floor.chains c r i) (sym (doing_it s f (λ d. d.round) ∙ no_round)) tt); has_seen = tt; asks_of_thread = record { runs = inl (is_awake s f going); owes = owes_none s f going } },
+    record {
+      may = record {
+        thread = f.thread;
+        home = home;
+        together = λ k out. absurd (nothing_with s f empty k out);
+        orders = may_check s f i;
+      };
+      has_out = (
+        there s f,
+        subst (λ r. IsOfRound floor.chains c r i) (sym (doing_it s f (λ d. d.round) ∙ no_round))
+            tt,
+      );
+      has_seen = tt;
+      asks_of_thread = record { runs = inl (is_awake s f going); owes = owes_none s f going };
+    },
     tt,
   )
 
@@ -274,8 +326,20 @@ module _ (floor : Description) (v : Knowledge) where
     pub says_its : (s : State) → Fits floor v s → HasItem s t i × IsOf (objects_in s) i x
     says_its s f = f.out.each i j x place (ap (found j) last ∙ found_first j x (rest v.out))
 
-    pub may_give : v.share.doing.phase ≡ Awake → v.share.doing.unstamped ≡ None → MayMake floor v (λ s. Unit {0}) (GivesItem t i ∷ [])
-    may_give awake noted s f _ = (record { may = record { thread = f.thread; out = (says_its s f).0; done = done i place }; has_out = (says_its s f).0; has_seen = tt; asks_of_thread = record { unparked = ap is_parked (doing_it s f (λ d. d.phase) ∙ awake); owes = record { added = off s f; stamped = doing_it s f (λ d. d.unstamped) ∙ noted } } }, tt)
+    pub may_give : v.share.doing.phase ≡ Awake → v.share.doing.unstamped ≡ None
+        → MayMake floor v (λ s. Unit {0}) (GivesItem t i ∷ [])
+    may_give awake noted s f _ = (
+      record {
+        may = record { thread = f.thread; out = (says_its s f).0; done = done i place };
+        has_out = (says_its s f).0;
+        has_seen = tt;
+        asks_of_thread = record {
+          unparked = ap is_parked (doing_it s f (λ d. d.phase) ∙ awake);
+          owes = record { added = off s f; stamped = doing_it s f (λ d. d.unstamped) ∙ noted };
+        };
+      },
+      tt,
+    )
       where
         done : (k : Item) → slot_of floor k ≡ Some j → IsDoneWith s t k
         done (TurnstileChain k) at = absurd (let z : None ≡ Some j = at in cc)

@@ -22,7 +22,7 @@ use Rattle.floor_table.specs.Steps.{Fits, MayMake}
 use Rattle.floor_table.specs.Views.{Knowledge}
 use Rattle.lock_floor.specs.Passes.{IsAtRest}
 use Rattle.lock_floor.specs.Ties.{IsTied}
-use Rattle.lock_floor.specs.Turns.{IsOfKind, Takes}
+use Rattle.lock_floor.specs.Latches.{IsOfKind, Takes}
 use Rattle.lock_floor.proofs.May.{may_take, says_its}
 use Rattle.lock_floor.proofs.Resting.{open_as_held, may_note, rest_with}
 use Rattle.lock_floor.proofs.Taking.{record_at}

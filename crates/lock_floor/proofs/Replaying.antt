@@ -1,4 +1,4 @@
--- An entry takes the next ticket, and a table is what the entries before it leave.
+-- An entry takes the next ticket, and a lock's table is what the entries before it leave.
 use Rattle.std.proofs.Common.{◌≡◌, ◌≢◌, ℕ, Option, Some, [], ◌∷◌, length, refl, sym, ap, ◌∙◌, inl, inr}
 use Rattle.std.proofs.lemmas.Bool.{cases_eq}
 use Rattle.lock_laws.proofs.Derived.{tables}

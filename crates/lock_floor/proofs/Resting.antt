@@ -30,7 +30,7 @@ use Rattle.floor_table.specs.Views.{Knowledge, seeing}
 use Rattle.lock_floor.specs.Changes.{changed, last_changed, stamped_change}
 use Rattle.lock_floor.specs.Floors.{Floor, Pass}
 use Rattle.lock_floor.specs.Passes.{IsOf, IsGoing, IsAtRest, IsReady, MakesEntry, with_item}
-use Rattle.lock_floor.specs.Turns.{Takes}
+use Rattle.lock_floor.specs.Latches.{Takes}
 use Rattle.lock_floor.specs.Views.{counts, looked, others, gained, put_down, begun_by, took, gave, entry_by, stamped}
 use Rattle.lock_floor.proofs.Gaining.{dropped_unheld}
 use Rattle.lock_floor.proofs.May.{own_log, may_stamp}

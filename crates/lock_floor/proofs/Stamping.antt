@@ -13,7 +13,7 @@ use Rattle.floor_table.specs.Descriptions.{config_in}
 use Rattle.floor_table.specs.declared.description.Description.{Description}
 use Rattle.floor_table.specs.declared.slot.Slot.{Slot}
 use Rattle.floor_table.specs.Past.{past_with}
-use Rattle.floor_table.specs.Places.{spot, ticket_line, word_at, turn_word, slots_for, home_at}
+use Rattle.floor_table.specs.Places.{spot, ticket_line, word_at, latch_word, slots_for, home_at}
 use Rattle.floor_table.specs.Shelves.{Shelves}
 use Rattle.floor_table.specs.Represents.{Board, RepresentsShare, RepresentsObjects, objects_in, thread_in}
 use Rattle.floor_table.specs.Rule.{FloorHolds}
@@ -41,9 +41,9 @@ module _ (floor : Description) (me : Me Slot Knowledge) (was : me.0.role ≡ OfT
   abbrev step : List Step
   step = Stamps v.thread event ∷ []
 
-  -- on a table where it may be made, with what lies behind the turns then
+  -- on a table where it may be made, with what lies behind the latches then
   pub stamps : (b : Board) (h : Finds floor v b) (content : ℕ → Slot) → FitAll floor h.state step
-      → Shelves (slots_for floor) (turn_word b.words) (home_at b.homes) (put (λ u. (thread_in b.views u).out) v.thread (out me)) content
+      → Shelves (slots_for floor) (latch_word b.words) (home_at b.homes) (put (λ u. (thread_in b.views u).out) v.thread (out me)) content
       → RepresentsObjects floor content (objects_in (after_stamp (config_in floor) h.state v.thread event))
       → Steps floor me (spot ticket_line) (word_at b.words ticket_line) ((word_at b.words ticket_line + 1) % 18446744073709551616) (StampedWith floor event out me) b
   unfolding after_stamp
@@ -69,7 +69,7 @@ module _ (floor : Description) (me : Me Slot Knowledge) (was : me.0.role ≡ OfT
       let made = ticket_made floor step b v w h was may own me.1 ((ticket + 1) % 18446744073709551616) content more refl refl refl refl spares shelves objects in
       (w, keeps, tt, made.0, (small, refl, made.1))
 
--- an event that changes no priority and no table leaves the objects
+-- an event that changes no priority and no lock's table leaves the objects
 quiet_objects : (c : Config) (s : State) (t : ℕ) (e : Event) → changes_base e ≡ false → changes_table e ≡ false → objects_in (after_stamp c s t e) ≡ objects_in s
 unfolding after_stamp
 quiet_objects c s t e base table = λ i. record {
@@ -89,5 +89,5 @@ stamp_allowed floor me event slots id was room base table may =
         let outs : ℕ → List (ℕ × Slot) = λ u. (thread_in b.views u).out in
         let mine : outs me.0.thread ≡ me.0.out = ap (λ (k : Knowledge). k.out) (at_or b.views (suc me.0.thread) me.0 nothing h.there) in
         stamps floor me was room event (λ me. me.0.out) b h r.content (may h.state h.fits tt)
-        (subst (λ o. Shelves (slots_for floor) (turn_word b.words) (home_at b.homes) o r.content) (sym (put_back outs me.0.thread me.0.out mine)) r.shelves)
+        (subst (λ o. Shelves (slots_for floor) (latch_word b.words) (home_at b.homes) o r.content) (sym (put_back outs me.0.thread me.0.out mine)) r.shelves)
         (subst (RepresentsObjects floor r.content) (sym (quiet_objects (config_in floor) h.state me.0.thread event base table)) r.objects)

@@ -1,4 +1,4 @@
--- Turns: an item goes out with the thread that finds it at home, and comes home again.
+-- Latches: an item goes out with the thread that finds it at home, and comes home again.
 use Rattle.std.proofs.Common.{◌≡◌, ◌≢◌, ℕ, zero, suc, ◌<◌, eqb, Some, None, List, [], ◌∷◌, length, cond, lt-ltb, refl, sym, ap, ◌∙◌, subst, arith}
 use Rattle.std.proofs.lemmas.List.Elements.{All-nil}
 use mathlib.Core.Option as slots
@@ -15,8 +15,8 @@ use Rattle.floor_table.specs.declared.slot.Slot.{Slot}
 use Rattle.floor_table.specs.declared.slot.Slot.TheVariants.{Record, Cell}
 use Rattle.lock_objects.specs.Represents.{RecordColumns}
 use Rattle.floor_table.specs.Past.{IsSeenBy}
-use Rattle.floor_table.specs.Places.{spot, turn_line, turn_word, slot_of, slots_for, taker}
-use Rattle.floor_table.specs.Represents.{Board, RepresentsTurns, taken_from, IsOf, objects_in}
+use Rattle.floor_table.specs.Places.{spot, latch_line, latch_word, slot_of, slots_for, taker}
+use Rattle.floor_table.specs.Represents.{Board, RepresentsLatches, taken_from, IsOf, objects_in}
 use Rattle.floor_table.specs.Rule.{FloorHolds}
 use Rattle.floor_table.specs.Steps.{MayMake, FitAll, Makes}
 use Rattle.floor_table.specs.Views.{Knowledge, OfThread, seeing}
@@ -24,17 +24,19 @@ use Rattle.floor_table.proofs.Items.{place_low, one_place}
 use Rattle.floor_table.proofs.Lists.{or_at}
 use Rattle.floor_table.proofs.Made.{Finds, Steps, allows, exchange_allows, take_made, give_made, none_made, sooner, OwnSteps}
 use Rattle.floor_table.proofs.Seen.{one_own, seen_on}
-use Rattle.lock_floor.specs.Turns.{FindsOut, Takes, IsOfKind}
+use Rattle.lock_floor.specs.Latches.{FindsOut, Takes, IsOfKind}
 use Rattle.lock_floor.specs.Views.{took, gave}
 use Rattle.lock_floor.proofs.Shares.{take_own, take_others, give_own, give_others}
 
 -- 1. A take
 
--- what it tells: where the turn was free, the thread has what the place has, and else somebody has it at that moment
+-- what it tells: where the latch was free, the thread has what the place has, and else somebody has it at that moment
 abbrev pub Taken : Description → ℕ → Me Slot Knowledge → ℕ → Me Slot Knowledge → Type 0
 Taken floor j me found behind =
-    (found ≡ 0 → (i : Item) → slot_of floor i ≡ Some j → (taken : Takes floor i j me.0 behind.0) × (behind.1 ≡ (j, taken.value) ∷ me.1))
-    × (found ≢ 0 → (behind ≡ (seeing behind.0.seen me.0, me.1)) × ((i : Item) → slot_of floor i ≡ Some j → FindsOut floor i me.0 behind.0))
+    (found ≡ 0 → (i : Item) → slot_of floor i ≡ Some j → (taken : Takes floor i j me.0 behind.0)
+    × (behind.1 ≡ (j, taken.value) ∷ me.1))
+    × (found ≢ 0 → (behind ≡ (seeing behind.0.seen me.0, me.1))
+    × ((i : Item) → slot_of floor i ≡ Some j → FindsOut floor i me.0 behind.0))
 
 kind_of : (s : State) (i : Item) (y : Slot) → IsOf (objects_in s) i y → IsOfKind i y
 kind_of s (RecordOf t) (Record b) h = ap (λ (r : RecordColumns). r.thread) h.columns
@@ -48,26 +50,28 @@ kind_of s (SleepChain k) (Cell w) h = absurd h
 kind_of s ClassGraph (Record r) h = absurd h
 kind_of s ClassGraph (Cell w) h = absurd h
 
-module _ (floor : Description) (me : Me Slot Knowledge) (was : me.0.role ≡ OfThread) (i : Item) (j : ℕ) (place : slot_of floor i ≡ Some j) where
+module _ (floor : Description) (me : Me Slot Knowledge) (was : me.0.role ≡ OfThread) (i : Item) (j : ℕ)
+    (place : slot_of floor i ≡ Some j) where
   abbrev v : Knowledge
   v = me.0
 
-  -- an item whose turn word is 0 is at home
-  is_home : (b : Board) (h : Finds floor v b) → turn_word b.words j ≡ 0 → item_with h.state i ≡ None
-  unfolding RepresentsTurns
-  is_home b h free = h.represents.turns i ∙ ap (taken_from (turn_word b.words)) place ∙ ap taker free
+  -- an item whose latch is 0 is at home
+  is_home : (b : Board) (h : Finds floor v b) → latch_word b.words j ≡ 0 → item_with h.state i ≡ None
+  unfolding RepresentsLatches
+  is_home b h free = h.represents.latches i ∙ ap (taken_from (latch_word b.words)) place ∙ ap taker free
 
   -- and else it is out with the thread that the word names
-  is_out : (b : Board) (h : Finds floor v b) → turn_word b.words j ≢ 0 → (t : ℕ) × (item_with h.state i ≡ Some t)
-  unfolding RepresentsTurns
-  is_out b h ne = go (turn_word b.words j) refl
+  is_out : (b : Board) (h : Finds floor v b) → latch_word b.words j ≢ 0 → (t : ℕ) × (item_with h.state i ≡ Some t)
+  unfolding RepresentsLatches
+  is_out b h ne = go (latch_word b.words j) refl
     where
-      go : (n : ℕ) → turn_word b.words j ≡ n → (t : ℕ) × (item_with h.state i ≡ Some t)
+      go : (n : ℕ) → latch_word b.words j ≡ n → (t : ℕ) × (item_with h.state i ≡ Some t)
       go zero e = absurd (ne e)
-      go (suc t) e = (t, h.represents.turns i ∙ ap (taken_from (turn_word b.words)) place ∙ ap taker e)
+      go (suc t) e = (t, h.represents.latches i ∙ ap (taken_from (latch_word b.words)) place ∙ ap taker e)
 
-  take_hit : (b : Board) (h : Finds floor v b) → MayMake floor v (λ s. item_with s i ≡ None) (TakesItem v.thread i ∷ []) → turn_word b.words j ≡ 0
-      → Steps floor me (spot (turn_line j)) (turn_word b.words j) (suc v.thread) (Taken floor j me) b
+  take_hit : (b : Board) (h : Finds floor v b) → MayMake floor v (λ s. item_with s i ≡ None) (TakesItem v.thread i ∷ [])
+      → latch_word b.words j ≡ 0
+      → Steps floor me (spot (latch_line j)) (latch_word b.words j) (suc v.thread) (Taken floor j me) b
   unfolding after_take
   take_hit b h may free =
       let s : State = h.state in
@@ -85,64 +89,100 @@ module _ (floor : Description) (me : Me Slot Knowledge) (was : me.0.role ≡ OfT
         seat = record { thread = refl; share = take_own s v h.fits.share i j x };
         others = λ u ne. take_others s v.thread u ne i;
       } in
-      let made = take_made floor (step ∷ []) b v w h was allowed own me.1 i j place free (record { word = refl; next = refl; items = refl; objects = refl; to_come = refl }) refl refl in
-      let there : get_elem? b.homes j ≡ some (some x) = or_at b.homes j slots.none (omega (arith, low, h.represents.sizes.slots)) ∙ ap some (h.represents.shelves.at_home j low free) in
-      let taken : Takes floor i j v w = record { value = x; view = refl; step = made.1; kind = kind_of s i x (h.represents.objects.each i j place) } in (
+      let made = take_made floor (step ∷ []) b v w h was allowed own me.1 i j place free
+      (record { word = refl; next = refl; items = refl; objects = refl; to_come = refl }) refl refl in
+      let there : get_elem? b.homes j ≡ some (some x) =
+      or_at b.homes j slots.none (omega (arith, low, h.represents.sizes.slots))
+      ∙ ap some (h.represents.shelves.at_home j low free) in
+      let taken : Takes floor i j v w =
+      record { value = x; view = refl; step = made.1; kind = kind_of s i x (h.represents.objects.each i j place) }
+      in (
         w,
         takes j x,
         there,
         made.0,
         (
-          λ e k at. subst (λ m. (taken : Takes floor m j v w) × ((j, x) ∷ me.1 ≡ (j, taken.value) ∷ me.1)) (one_place floor i k j place at) (taken, refl),
+          λ e k at. subst (λ m. (taken : Takes floor m j v w) × ((j, x) ∷ me.1 ≡ (j, taken.value) ∷ me.1))
+              (one_place floor i k j place at) (taken, refl),
           λ ne. absurd (ne free),
         ),
       )
 
-  take_missed : (b : Board) (h : Finds floor v b) → turn_word b.words j ≢ 0 → Steps floor me (spot (turn_line j)) (turn_word b.words j) (turn_word b.words j) (Taken floor j me) b
+  take_missed : (b : Board) (h : Finds floor v b) → latch_word b.words j ≢ 0
+      → Steps floor me (spot (latch_line j)) (latch_word b.words j) (latch_word b.words j) (Taken floor j me) b
   take_missed b h ne =
       let w : Knowledge = seeing h.past v in
-      let seen = none_made floor b v h was (spot (turn_line j)) me.1 in
+      let seen = none_made floor b v h was (spot (latch_line j)) me.1 in
       let out = is_out b h ne in
       let finds : FindsOut floor i v w = record {
         taker = out.0;
         moment = seen.1;
         out = ap (λ (s : State). item_with s i) seen.2 ∙ out.1;
         itself = λ e. h.fits.out.no_other i (out.1 ∙ ap Some e);
-      } in
-      (w, keeps, tt, seen.0, (λ e. absurd (ne e), λ _. (refl, λ k at. subst (λ m. FindsOut floor m v w) (one_place floor i k j place at) finds)))
+      } in (
+        w,
+        keeps,
+        tt,
+        seen.0,
+        (
+          λ e. absurd (ne e),
+          λ _.
+              (refl, λ k at. subst (λ m. FindsOut floor m v w) (one_place floor i k j place at) finds),
+        ),
+      )
 
-  pub take_allowed : (slots id : ℕ) → MayMake floor v (λ s. item_with s i ≡ None) (TakesItem v.thread i ∷ []) → Allows (FloorHolds floor) slots id me (spot (turn_line j)) (λ n. either (eqb n 0) (suc v.thread) n) (Taken floor j me)
+  pub take_allowed : (slots id : ℕ) → MayMake floor v (λ s. item_with s i ≡ None) (TakesItem v.thread i ∷ [])
+      → Allows (FloorHolds floor) slots id me (spot (latch_line j)) (λ n. either (eqb n 0) (suc v.thread) n)
+      (Taken floor j me)
   take_allowed slots id may =
-      exchange_allows floor slots id me (spot (turn_line j)) 0 (suc v.thread) (Taken floor j me) was (λ b h free. take_hit b h may free) (λ b h ne small. take_missed b h ne)
+      exchange_allows floor slots id me (spot (latch_line j)) 0 (suc v.thread) (Taken floor j me) was
+      (λ b h free. take_hit b h may free) (λ b h ne small. take_missed b h ne)
 
 -- 2. A give of what was taken last
 
 -- what it tells, of the item of the place
 abbrev pub Given : Description → ℕ → Me Slot Knowledge → ℕ → Me Slot Knowledge → Type 0
-Given floor j me found behind = (i : Item) → slot_of floor i ≡ Some j → (behind ≡ (seeing behind.0.seen (gave me.0 i), rest me.1)) × Makes floor (GivesItem me.0.thread i ∷ []) me.0 behind.0
+Given floor j me found behind = (i : Item) → slot_of floor i ≡ Some j
+    → (behind ≡ (seeing behind.0.seen (gave me.0 i), rest me.1))
+    × Makes floor (GivesItem me.0.thread i ∷ []) me.0 behind.0
 
-module _ (floor : Description) (me : Me Slot Knowledge) (was : me.0.role ≡ OfThread) (i : Item) (j : ℕ) (place : slot_of floor i ≡ Some j) (x : Slot) (tied : me.1 ≡ me.0.out) (last : me.0.out ≡ (j, x) ∷ rest me.0.out) where
-  gives_it : (b : Board) (h : Finds floor me.0 b) → FitAll floor h.state (GivesItem me.0.thread i ∷ []) → Steps floor me (spot (turn_line j)) (turn_word b.words j) 0 (λ found. Given floor j me 0) b
-  unfolding after_give
-  gives_it b h allowed =
-      let s : State = h.state in
-      let v : Knowledge = me.0 in
-      let n : State = after_give s v.thread i in
-      let step : Step = GivesItem v.thread i in
-      let w : Knowledge = seeing (step ∷ h.past) (gave v i) in
-      let own : OwnSteps v w h.past (step ∷ []) s n = record {
-        role = was;
-        seen = refl;
-        makers = one_own v.thread step refl;
-        no_refusal = (λ u k j e. absurd cc, tt);
-        seat = record { thread = refl; share = give_own s v h.fits.share i };
-        others = λ u ne. give_others s v.thread u ne i;
-      } in
-      let made = give_made floor (step ∷ []) b v w h was allowed own me.1 i j x (rest v.out) (rest v.out) place (tied ∙ last) last (record { word = refl; next = refl; items = refl; objects = refl; to_come = refl }) refl refl in
-      (w, gives, tt, made.0, λ k at. subst (λ m. ◌≡◌ {A = Me Slot Knowledge} (w, rest me.1) (seeing w.seen (gave v m), rest me.1) × Makes floor (GivesItem v.thread m ∷ []) v w) (one_place floor i k j place at) (refl, made.1))
+module _ (floor : Description) (me : Me Slot Knowledge) (was : me.0.role ≡ OfThread) (i : Item) (j : ℕ)
+    (place : slot_of floor i ≡ Some j) (x : Slot) (tied : me.1 ≡ me.0.out) (last : me.0.out ≡ (j, x) ∷ rest me.0.out)
+  where
+    gives_it : (b : Board) (h : Finds floor me.0 b) → FitAll floor h.state (GivesItem me.0.thread i ∷ [])
+        → Steps floor me (spot (latch_line j)) (latch_word b.words j) 0 (λ found. Given floor j me 0) b
+    unfolding after_give
+    gives_it b h allowed =
+        let s : State = h.state in
+        let v : Knowledge = me.0 in
+        let n : State = after_give s v.thread i in
+        let step : Step = GivesItem v.thread i in
+        let w : Knowledge = seeing (step ∷ h.past) (gave v i) in
+        let own : OwnSteps v w h.past (step ∷ []) s n = record {
+          role = was;
+          seen = refl;
+          makers = one_own v.thread step refl;
+          no_refusal = (λ u k j e. absurd cc, tt);
+          seat = record { thread = refl; share = give_own s v h.fits.share i };
+          others = λ u ne. give_others s v.thread u ne i;
+        } in
+        let made = give_made floor (step ∷ []) b v w h was allowed own me.1 i j x (rest v.out) (rest v.out) place
+        (tied ∙ last) last (record { word = refl; next = refl; items = refl; objects = refl; to_come = refl }) refl
+        refl in (
+          w,
+          gives,
+          tt,
+          made.0,
+          λ k at. subst
+              (λ m. ◌≡◌ {A = Me Slot Knowledge} (w, rest me.1) (seeing w.seen (gave v m), rest me.1)
+              × Makes floor (GivesItem v.thread m ∷ []) v w) (one_place floor i k j place at) (refl, made.1),
+        )
 
-  pub give_allowed : (slots id : ℕ) → MayMake floor me.0 (λ s. Unit {0}) (GivesItem me.0.thread i ∷ []) → Allows (FloorHolds floor) slots id me (spot (turn_line j)) (λ n. 0) (λ n. Given floor j me 0)
-  give_allowed slots id may = allows floor slots id me (spot (turn_line j)) (λ n. 0) (λ n. Given floor j me 0) was (λ b h small. gives_it b h (may h.state h.fits tt))
+    pub give_allowed : (slots id : ℕ) → MayMake floor me.0 (λ s. Unit {0}) (GivesItem me.0.thread i ∷ [])
+        → Allows (FloorHolds floor) slots id me (spot (latch_line j)) (λ n. 0) (λ n. Given floor j me 0)
+    give_allowed slots id may =
+        allows floor slots id me (spot (latch_line j)) (λ n. 0) (λ n. Given floor j me 0) was
+        (λ b h small. gives_it b h (may h.state h.fits tt))
 
 -- 3. Waiting for an item
 
@@ -152,18 +192,30 @@ pub record HasWaited (old new : Knowledge) : Type 0 where
   pub since : IsSeenBy old.thread old.seen new.seen
 
 pub waits_none : (v : Knowledge) → HasWaited v v
-waits_none v = record { view = refl; since = record { later = []; is = refl; of_others = All-nil (λ step. maker step ≢ v.thread) } }
+waits_none v = record {
+  view = refl;
+  since = record { later = []; is = refl; of_others = All-nil (λ step. maker step ≢ v.thread) };
+}
 
-pub waits_on : (floor : Description) (i : Item) (old mid new : Knowledge) → HasWaited old mid → new ≡ seeing new.seen mid → FindsOut floor i mid new → HasWaited old new
+pub waits_on : (floor : Description) (i : Item) (old mid new : Knowledge) → HasWaited old mid
+    → new ≡ seeing new.seen mid → FindsOut floor i mid new → HasWaited old new
 waits_on floor i old mid new h view out =
     let m = out.moment in
     let same : mid.thread ≡ old.thread = ap (λ (k : Knowledge). k.thread) h.view in
-    let since : IsSeenBy old.thread mid.seen new.seen = subst (λ (z : ℕ × List Step). IsSeenBy z.0 mid.seen z.1) (λ k. (same k, sym m.seen k)) m.since in
-    record { view = view ∙ ap (seeing new.seen) h.view; since = seen_on old.thread old.seen mid.seen new.seen h.since since }
+    let since : IsSeenBy old.thread mid.seen new.seen =
+    subst (λ (z : ℕ × List Step). IsSeenBy z.0 mid.seen z.1) (λ k. (same k, sym m.seen k)) m.since in
+    record {
+      view = view ∙ ap (seeing new.seen) h.view;
+      since = seen_on old.thread old.seen mid.seen new.seen h.since since;
+    }
 
 -- it may take it then if it may take it before
-pub may_still : (floor : Description) (i : Item) (old new : Knowledge) → HasWaited old new → MayMake floor old (λ s. item_with s i ≡ None) (TakesItem old.thread i ∷ []) → MayMake floor new (λ s. item_with s i ≡ None) (TakesItem new.thread i ∷ [])
-may_still floor i old new h may = subst (λ (k : Knowledge). MayMake floor k (λ s. item_with s i ≡ None) (TakesItem k.thread i ∷ [])) (sym h.view) there
+pub may_still : (floor : Description) (i : Item) (old new : Knowledge) → HasWaited old new
+    → MayMake floor old (λ s. item_with s i ≡ None) (TakesItem old.thread i ∷ [])
+    → MayMake floor new (λ s. item_with s i ≡ None) (TakesItem new.thread i ∷ [])
+may_still floor i old new h may =
+    subst (λ (k : Knowledge). MayMake floor k (λ s. item_with s i ≡ None) (TakesItem k.thread i ∷ [])) (sym h.view)
+    there
   where
     there : MayMake floor (seeing new.seen old) (λ s. item_with s i ≡ None) (TakesItem old.thread i ∷ [])
     there s f home =
@@ -178,10 +230,16 @@ may_still floor i old new h may = subst (λ (k : Knowledge). MayMake floor k (λ
         }) home
 
 -- who takes it then takes it from what it knew before
-pub takes_then : (floor : Description) (i : Item) (j : ℕ) (old mid new : Knowledge) → HasWaited old mid → Takes floor i j mid new → Takes floor i j old new
+pub takes_then : (floor : Description) (i : Item) (j : ℕ) (old mid new : Knowledge) → HasWaited old mid
+    → Takes floor i j mid new → Takes floor i j old new
 takes_then floor i j old mid new h taken =
     let t : Takes floor i j (seeing mid.seen old) new = subst (λ (k : Knowledge). Takes floor i j k new) h.view taken in
-    record { value = t.value; view = t.view; step = sooner floor (TakesItem old.thread i ∷ []) mid.seen old new h.since t.step; kind = t.kind }
+    record {
+      value = t.value;
+      view = t.view;
+      step = sooner floor (TakesItem old.thread i ∷ []) mid.seen old new h.since t.step;
+      kind = t.kind;
+    }
 
 -- 4. Records
 

@@ -1,5 +1,5 @@
--- What a change of a table's value says in a log, and what such an entry, or that of a base priority, makes of the value
--- that it is about.
+-- What a change of a value of a lock's table says in a log, and what such an entry, or that of a base priority, makes
+-- of the value that it is about.
 use Rattle.std.specs.Prelude.{◌≡◌, ℕ, List, [], ◌∷◌, ◌++◌, Option, Some}
 use Rattle.std.specs.Box.{with_value}
 use Rattle.lock_model.specs.Config.{Config}
@@ -57,7 +57,7 @@ cell_after e before = value_with (facets e).table before
 abbrev pub record_after : Event → Record → Record
 record_after e before = with_given_base (new_base e) before
 
--- what lies behind a turn word, after an event about it
+-- what lies behind a latch, after an event about it
 abbrev pub changed : Event → Slot → Slot
 changed e (slot.Cell before) = slot.Cell (cell_after e before)
 changed e (slot.Record before) = slot.Record (with_value before (record_after e before.value))

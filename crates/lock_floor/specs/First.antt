@@ -1,4 +1,4 @@
--- The values behind turns when a floor is made.
+-- The values behind latches when a floor is made.
 use Rattle.std.specs.Prelude.{◌≡◌, ℕ, ◌<◌, ◌≤◌, length, None}
 use Rattle.thread_records.specs.Records.{made}
 use Rattle.floor_table.specs.Descriptions.{config_in}

@@ -3,6 +3,6 @@ pub mod Ties
 pub mod Views
 pub mod Passes
 pub mod First
-pub mod Turns
+pub mod Latches
 pub mod Closings
 pub mod Changes

@@ -17,7 +17,7 @@ use crate::floor::{Floor, FloorOf};
 use crate::keeper::{HandOut, Keeper};
 use crate::pass::{Pass, PassOf};
 use atomic_table::{Closed, Join};
-use floor_table::{Board, Description, Law, Place, Slot, Tells, Told, View, ticket_spot};
+use floor_table::{Board, Description, FloorSeat, Law, Slot, Tells, Told, View, ticket_spot};
 use lock_history::{Log, Tables};
 use lock_model::LockNo;
 use std::alloc::Global;
@@ -103,7 +103,7 @@ impl Keeper {
 
 // Reads the ticket word, which is no lock's, so that the seat is told something that the rule says. It is no step of a
 // thread.
-fn ask<J: Tells>(board: &Board, seat: &mut Place) -> u64
+fn ask<J: Tells>(board: &Board, seat: &mut FloorSeat) -> u64
     requires own { seat.old.table_id ≡ board.now.shared.table_id }
     requires within { spot ticket_line < board.now.shared.table_id.words }
     requires may { Allows (FloorHolds board.now.shared.key) board.now.shared.table_id.slots

@@ -10,7 +10,7 @@ ghost use Rattle.lock_floor.specs.Passes.{IsKeeperOf, first_pass};
 use crate::floor::{Floor, FloorOf};
 use crate::pass::{Pass, PassOf};
 use atomic_table::Split;
-use floor_table::{Board, Description, Law, Place, Slot, View, words_for};
+use floor_table::{Board, Description, FloorSeat, Law, Slot, View, words_for};
 use lock_history::{Log, Tables};
 use lock_model::{Plan, ThreadNo};
 use std::alloc::{AllocError, Global};
@@ -23,7 +23,7 @@ const HELD_ROOM: usize = 64;
 /// Who makes the passes of a floor and takes them in.
 #[derive(Drop)]
 pub struct Keeper {
-    pub(crate) seat: Place,
+    pub(crate) seat: FloorSeat,
     /// The logs of the passes that it took in, in that order.
     pub(crate) logs: Vec<Log>,
     /// Room for what a floor leaves when it is closed.
@@ -152,7 +152,7 @@ fn hand_out(
     alloc: Global,
     description: &Description,
     board: &Board,
-    seat: &mut Place,
+    seat: &mut FloorSeat,
     passes: &mut Vec<Pass>,
 ) -> Result<(), AllocError>
     requires few { length description.now.threads ≤ 32 }

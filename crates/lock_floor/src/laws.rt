@@ -1,6 +1,6 @@
-//! What steps say of the state in which they are made, and of the one behind it: a look finds the word that the lock has
-//! then, a try that fails finds its item out then, and reads and changes of tables act on what all entries with earlier
-//! tickets leave.
+//! What steps say of the state in which they are made, and of the one behind it: a look finds the word that the lock
+//! has then, a try that fails finds its item out then, and reads and changes of locks' tables act on what all entries
+//! with earlier tickets leave.
 ghost use Rattle.std.specs.Prelude.{◌≡◌, ◌≢◌, ℕ, Bool, List, [], ◌∷◌, length, Option, Some};
 ghost use Rattle.lock_model.specs.History.{value_at};
 ghost use Rattle.lock_model.specs.declared.event.Event.{Event};
@@ -15,7 +15,7 @@ ghost use Rattle.floor_table.specs.Steps.{Makes};
 ghost use Rattle.floor_table.specs.Views.{Knowledge};
 ghost use Rattle.lock_floor.specs.declared.tables.Change.{Change};
 ghost use Rattle.lock_floor.specs.Changes.{event_of, cell_after};
-ghost use Rattle.lock_floor.specs.Turns.{FindsOut};
+ghost use Rattle.lock_floor.specs.Latches.{FindsOut};
 ghost use Rattle.lock_floor.specs.Views.{entry_by};
 
 /// Steps that were made behind the same steps were made in the same state.

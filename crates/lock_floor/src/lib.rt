@@ -1,4 +1,4 @@
-//! A running floor: threads run beside each other on the lock words, turns and records of one table, and each
+//! A running floor: threads run beside each other on the lock words, latches and records of one table, and each
 //! of their atomic steps is a step of `lock_state`, so that the table represents a lawful state between any two.
 //!
 //! - `floor`: the floor, which all threads share.
@@ -10,13 +10,14 @@
 //! - `keeper`: making a floor with its passes.
 //! - `prios`: the priorities of a thread, and its end.
 //! - `closing`: taking passes in, and what is left of a floor that is closed.
-//! - `turns`: those that take a record or a cell out and give it back.
+//! - `latches`: those that take a record or a cell out and give it back.
 //! - `ties`: what is true of each floor and pass.
 #![tactic(auto)]
 
 mod closing;
 mod floor;
 mod keeper;
+mod latches;
 pub mod laws;
 mod pass;
 mod prios;
@@ -24,7 +25,6 @@ mod stamps;
 mod steps;
 mod tables;
 mod ties;
-mod turns;
 
 pub use closing::Closing;
 pub use floor::{Floor, FloorOf};

@@ -16,13 +16,13 @@ ghost use Rattle.lock_floor.specs.Views.{entry_by, stamped};
 
 use crate::floor::FloorOf;
 use crate::pass::Pass;
-use floor_table::{Board, Description, Law, Place, Slot, Tells, View, add, ticket_spot};
+use floor_table::{Board, Description, FloorSeat, Law, Slot, Tells, View, add, ticket_spot};
 use lock_model::{Entry, Event, OfTable, ThreadNo};
 use std::marker::Brand;
 use thread_records::ThreadRec;
 
 impl FloorOf<Slot, View, Description, Law> {
-    /// Makes an entry of an event that changes no priority and no table. Answers its ticket.
+    /// Makes an entry of an event that changes no priority and no lock's table. Answers its ticket.
     pub fn stamp(&self, pass: &mut Pass, event: Event) -> u32
         requires own { IsOf self.now pass.old }
         requires room { 1 ≤ pass.old.view.spare }
@@ -67,7 +67,7 @@ impl FloorOf<Slot, View, Description, Law> {
 }
 
 // Changes the value that was taken last as an event says.
-fn change(board: &Board, seat: &mut Place, slot: usize, event: Event)
+fn change(board: &Board, seat: &mut FloorSeat, slot: usize, event: Event)
     requires own { seat.old.table_id ≡ board.now.shared.table_id }
     requires last { (x : _) × (seat.old.me.1 ≡ (slot, x) ∷ rest seat.old.me.1) }
     ensures own { seat.new.table_id ≡ seat.old.table_id }
@@ -101,7 +101,7 @@ fn note(rec: &mut ThreadRec, event: Event)
 }
 
 // The entry of an event with the next ticket.
-fn next_entry<J: Tells>(board: &Board, seat: &mut Place, who: ThreadNo, event: Event) -> Entry
+fn next_entry<J: Tells>(board: &Board, seat: &mut FloorSeat, who: ThreadNo, event: Event) -> Entry
     requires own { seat.old.table_id ≡ board.now.shared.table_id }
     requires within { spot ticket_line < board.now.shared.table_id.words }
     requires may { Allows (FloorHolds board.now.shared.key) board.now.shared.table_id.slots

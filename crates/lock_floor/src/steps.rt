@@ -14,7 +14,9 @@ ghost use Rattle.lock_floor.specs.Views.{counts, looked, sought, gained, put_dow
 
 use crate::floor::FloorOf;
 use crate::pass::Pass;
-use floor_table::{Board, Description, Law, Place, Slot, Tells, View, exchange, load, lock_spot};
+use floor_table::{
+    Board, Description, FloorSeat, Law, Slot, Tells, View, exchange, load, lock_spot,
+};
 use lock_model::{Held, LockNo, Mode, ThreadNo, place_held};
 use std::marker::Brand;
 
@@ -123,7 +125,7 @@ impl FloorOf<Slot, View, Description, Law> {
 }
 
 // Reads the word of a lock.
-fn read_word<J: Tells>(board: &Board, seat: &mut Place, l: LockNo) -> u64
+fn read_word<J: Tells>(board: &Board, seat: &mut FloorSeat, l: LockNo) -> u64
     requires own { seat.old.table_id ≡ board.now.shared.table_id }
     requires within { spot (lock_line l.0) < board.now.shared.table_id.words }
     requires may { Allows (FloorHolds board.now.shared.key) board.now.shared.table_id.slots
@@ -135,7 +137,7 @@ fn read_word<J: Tells>(board: &Board, seat: &mut Place, l: LockNo) -> u64
 }
 
 // The same, at the begin of a round.
-fn read_first<J: Tells>(board: &Board, seat: &mut Place, l: LockNo, _by_try: bool) -> u64
+fn read_first<J: Tells>(board: &Board, seat: &mut FloorSeat, l: LockNo, _by_try: bool) -> u64
     requires own { seat.old.table_id ≡ board.now.shared.table_id }
     requires within { spot (lock_line l.0) < board.now.shared.table_id.words }
     requires may { Allows (FloorHolds board.now.shared.key) board.now.shared.table_id.slots
@@ -147,7 +149,13 @@ fn read_first<J: Tells>(board: &Board, seat: &mut Place, l: LockNo, _by_try: boo
 }
 
 // Makes a word that is the seen one another with a holder more. Answers the word that it found.
-fn gain_word<J: Tells>(board: &Board, seat: &mut Place, who: ThreadNo, hold: Held, seen: u64) -> u64
+fn gain_word<J: Tells>(
+    board: &Board,
+    seat: &mut FloorSeat,
+    who: ThreadNo,
+    hold: Held,
+    seen: u64,
+) -> u64
     requires own { seat.old.table_id ≡ board.now.shared.table_id }
     requires within { spot (lock_line hold.l.0) < board.now.shared.table_id.words }
     requires thread { who.0 ≤ 63 }
@@ -165,7 +173,7 @@ fn gain_word<J: Tells>(board: &Board, seat: &mut Place, who: ThreadNo, hold: Hel
 }
 
 // Makes a word that is the seen one another with a holder less. Answers the word that it found.
-fn drop_word<J: Tells>(board: &Board, seat: &mut Place, l: LockNo, mode: Mode, seen: u64) -> u64
+fn drop_word<J: Tells>(board: &Board, seat: &mut FloorSeat, l: LockNo, mode: Mode, seen: u64) -> u64
     requires own { seat.old.table_id ≡ board.now.shared.table_id }
     requires within { spot (lock_line l.0) < board.now.shared.table_id.words }
     requires word { IsWellFormed (word_of seen) }

@@ -36,19 +36,30 @@ pub owes : (s : State) (t : ℕ) → s.unstamped t ≡ None → (IsOnItsWay s t 
 owes s t e f = record { added = f; stamped = e }
 
 -- a thread that is awake and owes no step goes on
-pub goes : (s : State) (t : ℕ) → s.phase t ≡ Awake → s.has_ended t ≡ false → s.unstamped t ≡ None → (IsOnItsWay s t → ⊥) → GoesOn s t
+pub goes : (s : State) (t : ℕ) → s.phase t ≡ Awake → s.has_ended t ≡ false → s.unstamped t ≡ None → (IsOnItsWay s t → ⊥)
+    → GoesOn s t
 goes s t a b e f = record { runs = record { phase = a; unended = b }; owes = owes s t e f }
 
 -- and so it may look at a lock
-pub looks_on : (s : State) (t : ℕ) → s.phase t ≡ Awake → s.has_ended t ≡ false → s.unstamped t ≡ None → (IsOnItsWay s t → ⊥) → GoesOnOrHalts s t
+pub looks_on : (s : State) (t : ℕ) → s.phase t ≡ Awake → s.has_ended t ≡ false → s.unstamped t ≡ None
+    → (IsOnItsWay s t → ⊥) → GoesOnOrHalts s t
 looks_on s t a b e f = record { runs = inl (record { phase = a; unended = b }); owes = owes s t e f }
 
 -- two threads, a mutex and a channel with it
 unfoldable pub floor_plan : Config
-floor_plan = record { threads = 2; locks = 1; chans = 1; kind = λ l. Mtx; class = λ l. l; chan_lock = λ d. 0; declared_base = λ t. 100 }
+floor_plan = record {
+  threads = 2;
+  locks = 1;
+  chans = 1;
+  kind = λ l. Mtx;
+  class = λ l. l;
+  chan_lock = λ d. 0;
+  declared_base = λ t. 100;
+}
 
 -- no item is out where none is out of two columns and the rest is home
-pub none_out : (chains records : ℕ → Option ℕ) → ((k : ℕ) → chains k ≡ None) → ((k : ℕ) → records k ≡ None) → (j : Item) (t : ℕ) → out_with (λ k. None) chains records (λ l k. None) None j ≡ Some t → ⊥
+pub none_out : (chains records : ℕ → Option ℕ) → ((k : ℕ) → chains k ≡ None) → ((k : ℕ) → records k ≡ None)
+    → (j : Item) (t : ℕ) → out_with (λ k. None) chains records (λ l k. None) None j ≡ Some t → ⊥
 none_out chains records a b (TurnstileChain k) t e = cc
 none_out chains records a b (SleepChain k) t e = let z = a k in cc
 none_out chains records a b (RecordOf k) t e = let z = b k in cc
@@ -59,16 +70,75 @@ none_out chains records a b ClassGraph t e = cc
 unfoldable pub taking : List Step
 taking = Seeks 0 0 false ∷ Looks 0 0 true ∷ Gains 0 0 Excl false ∷ Stamps 0 (Locked (record { 0 = 0 }) Excl) ∷ []
 
-pub takes_first : (steps : List Step) → FloorAll 16 floor_plan (after_all floor_plan (start_state floor_plan) taking) steps → FloorAll 16 floor_plan (start_state floor_plan) (taking ++ steps)
-unfolding floor_plan taking start_state after_seek after_look after_gain after_stamp put put_at put_queue least sum_below sections_in
+pub takes_first : (steps : List Step)
+    → FloorAll 16 floor_plan (after_all floor_plan (start_state floor_plan) taking) steps
+    → FloorAll 16 floor_plan (start_state floor_plan) (taking ++ steps)
+unfolding floor_plan taking start_state after_seek after_look after_gain after_stamp put put_at put_queue least
+    sum_below sections_in
 takes_first steps then = (
-  record { asks_of_thread = goes _ _ refl refl refl (unslept _ _ refl); may = record { thread = omega arith; lock = omega arith; unheld = refl; acting = record { unnamed = refl; unwoken = refl }; wants = inr refl; tries_want_nothing = λ e. absurd cc; no_round = refl }; has_out = (λ e. absurd cc); has_seen = λ e. refl },
+  record {
+    asks_of_thread = goes _ _ refl refl refl (unslept _ _ refl);
+    may = record {
+      thread = omega arith;
+      lock = omega arith;
+      unheld = refl;
+      acting = record { unnamed = refl; unwoken = refl };
+      wants = inr refl;
+      tries_want_nothing = λ e. absurd cc;
+      no_round = refl;
+    };
+    has_out = (λ e. absurd cc);
+    has_seen = λ e. refl;
+  },
   (
-    record { asks_of_thread = looks_on _ _ refl refl refl (unslept _ _ refl); may = record { thread = omega arith; lock = omega arith; room = λ e. omega arith }; has_out = tt; has_seen = record { counts = refl; of_round = λ e. refl; in_chain = λ i x e. absurd (none_out (λ k. None) (λ k. None) (λ k. refl) (λ k. refl) i 0 e); outside = λ i n x e. absurd (none_out (λ k. None) (λ k. None) (λ k. refl) (λ k. refl) i 0 e); halting = λ e. absurd cc } },
+    record {
+      asks_of_thread = looks_on _ _ refl refl refl (unslept _ _ refl);
+      may = record { thread = omega arith; lock = omega arith; room = λ e. omega arith };
+      has_out = tt;
+      has_seen = record {
+        counts = refl;
+        of_round = λ e. refl;
+        in_chain = λ i x e. absurd (none_out (λ k. None) (λ k. None) (λ k. refl) (λ k. refl) i 0 e);
+        outside = λ i n x e. absurd (none_out (λ k. None) (λ k. None) (λ k. refl) (λ k. refl) i 0 e);
+        halting = λ e. absurd cc;
+      };
+    },
     (
-      record { asks_of_thread = goes _ _ refl refl refl (unslept _ _ refl); may = record { thread = omega arith; lock = omega arith; admitted = refl; plainly = refl; unheld = refl; acting = record { unnamed = refl; unwoken = refl }; wants = inr refl }; has_out = tt; has_seen = record { fits = (refl, refl); in_round = λ e i. absurd cc; saw = λ w i e. absurd cc; others = λ k e. cc } },
+      record {
+        asks_of_thread = goes _ _ refl refl refl (unslept _ _ refl);
+        may = record {
+          thread = omega arith;
+          lock = omega arith;
+          admitted = refl;
+          plainly = refl;
+          unheld = refl;
+          acting = record { unnamed = refl; unwoken = refl };
+          wants = inr refl;
+        };
+        has_out = tt;
+        has_seen = record {
+          fits = (refl, refl);
+          in_round = λ e i. absurd cc;
+          saw = λ w i e. absurd cc;
+          others = λ k e. cc;
+        };
+      },
       (
-        record { asks_of_thread = record { runs = record { phase = refl; unended = refl }; added = unslept _ _ refl }; may = record { thread = omega arith; acting = record { unnamed = refl; unwoken = refl }; asks = (record { held = refl; closed = refl }, record { others = []; last = refl }) }; has_out = tt; has_seen = record { in_round = tt; asleep = λ e. absurd cc; wakes = λ e. absurd (e refl); takes = λ l e. (cc, refl) } },
+        record {
+          asks_of_thread = record { runs = record { phase = refl; unended = refl }; added = unslept _ _ refl };
+          may = record {
+            thread = omega arith;
+            acting = record { unnamed = refl; unwoken = refl };
+            asks = (record { held = refl; closed = refl }, record { others = []; last = refl });
+          };
+          has_out = tt;
+          has_seen = record {
+            in_round = tt;
+            asleep = λ e. absurd cc;
+            wakes = λ e. absurd (e refl);
+            takes = λ l e. (cc, refl);
+          };
+        },
         then,
       ),
     ),
@@ -82,7 +152,8 @@ entering =
     ∷ Readies 1 (lock_queue 0) ∷ Enters 1 0 Excl 1 ∷ GivesItem 1 (RecordOf 1) ∷ GivesItem 1 (TurnstileChain 0) ∷ []
 
 -- a record goes together with each item that is out where only chains are
-pub chain_out : (f g : ℕ → Option ℕ) (j : Item) (t u : ℕ) → out_with f g (λ k. None) (λ l k. None) None j ≡ Some t → (go_together (RecordOf u) j ≡ true) × (go_together j (RecordOf u) ≡ true)
+pub chain_out : (f g : ℕ → Option ℕ) (j : Item) (t u : ℕ) → out_with f g (λ k. None) (λ l k. None) None j ≡ Some t
+    → (go_together (RecordOf u) j ≡ true) × (go_together j (RecordOf u) ≡ true)
 chain_out f g (TurnstileChain k) t u e = (refl, refl)
 chain_out f g (SleepChain k) t u e = (refl, refl)
 chain_out f g (RecordOf k) t u e = absurd cc
@@ -90,11 +161,14 @@ chain_out f g (CellOf l k) t u e = absurd cc
 chain_out f g ClassGraph t u e = absurd cc
 
 -- the one chain that is out is that of the mutex
-one_chain : (i : Item) → is_chain i ≡ true → out_with (put (λ k. None) 0 (Some 1)) (λ k. None) (put (λ k. None) 1 (Some 1)) (λ l k. None) None i ≡ Some 1 → i ≡ TurnstileChain 0
+one_chain : (i : Item) → is_chain i ≡ true
+    → out_with (put (λ k. None) 0 (Some 1)) (λ k. None) (put (λ k. None) 1 (Some 1)) (λ l k. None) None i ≡ Some 1
+    → i ≡ TurnstileChain 0
 one_chain (TurnstileChain k) x e =
     elim (cases_eq 0 k) [
       | inl y ↦ ap TurnstileChain (sym y)
-      | inr ne ↦ absurd (let z : ◌≡◌ {A = Option ℕ} None (Some 1) = sym (put_other (λ j. None) 0 (Some 1) k ne) ∙ e in cc)
+      | inr ne ↦ absurd (let z : ◌≡◌ {A = Option ℕ} None (Some 1) = sym (put_other (λ j. None) 0 (Some 1) k ne)
+          ∙ e in cc)
     ]
 one_chain (SleepChain k) x e = absurd cc
 one_chain (RecordOf k) x e = absurd cc
@@ -102,29 +176,126 @@ one_chain (CellOf l k) x e = absurd cc
 one_chain ClassGraph x e = absurd cc
 
 entering_may : FloorAll 16 floor_plan (start_state floor_plan) (taking ++ entering)
-unfolding floor_plan taking entering start_state after_seek after_look after_gain after_stamp after_take after_give after_ready after_enter put put_at put_queue least sum_below sections_in
+unfolding floor_plan taking entering start_state after_seek after_look after_gain after_stamp after_take after_give
+    after_ready after_enter put put_at put_queue least sum_below sections_in
 entering_may = takes_first entering
     -- q seeks it and looks outside its chain
     (
-      record { asks_of_thread = goes _ _ refl refl refl (unslept _ _ refl); may = record { thread = omega arith; lock = omega arith; unheld = refl; acting = record { unnamed = refl; unwoken = refl }; wants = inr refl; tries_want_nothing = λ e. absurd cc; no_round = refl }; has_out = (λ e. absurd cc); has_seen = λ e. refl },
+      record {
+        asks_of_thread = goes _ _ refl refl refl (unslept _ _ refl);
+        may = record {
+          thread = omega arith;
+          lock = omega arith;
+          unheld = refl;
+          acting = record { unnamed = refl; unwoken = refl };
+          wants = inr refl;
+          tries_want_nothing = λ e. absurd cc;
+          no_round = refl;
+        };
+        has_out = (λ e. absurd cc);
+        has_seen = λ e. refl;
+      },
       (
-        record { asks_of_thread = looks_on _ _ refl refl refl (unslept _ _ refl); may = record { thread = omega arith; lock = omega arith; room = λ e. omega arith }; has_out = tt; has_seen = record { counts = refl; of_round = λ e. refl; in_chain = λ i x e. absurd (none_out (λ k. None) (λ k. None) (λ k. refl) (λ k. refl) i 1 e); outside = λ i n x e. absurd (none_out (λ k. None) (λ k. None) (λ k. refl) (λ k. refl) i 1 e); halting = λ e. absurd cc } },
+        record {
+          asks_of_thread = looks_on _ _ refl refl refl (unslept _ _ refl);
+          may = record { thread = omega arith; lock = omega arith; room = λ e. omega arith };
+          has_out = tt;
+          has_seen = record {
+            counts = refl;
+            of_round = λ e. refl;
+            in_chain = λ i x e. absurd (none_out (λ k. None) (λ k. None) (λ k. refl) (λ k. refl) i 1 e);
+            outside = λ i n x e. absurd (none_out (λ k. None) (λ k. None) (λ k. refl) (λ k. refl) i 1 e);
+            halting = λ e. absurd cc;
+          };
+        },
         -- it takes the chain and its own record, looks again and enters
         (
-          record { asks_of_thread = record { runs = inl (record { phase = refl; unended = refl }); owes = owes _ _ refl (unslept _ _ refl) }; may = record { thread = omega arith; home = refl; together = λ j e. absurd (none_out (λ k. None) (λ k. None) (λ k. refl) (λ k. refl) j 1 e); orders = tt }; has_out = (omega arith, λ e. refl); has_seen = tt },
+          record {
+            asks_of_thread = record {
+              runs = inl (record { phase = refl; unended = refl });
+              owes = owes _ _ refl (unslept _ _ refl);
+            };
+            may = record {
+              thread = omega arith;
+              home = refl;
+              together = λ j e. absurd (none_out (λ k. None) (λ k. None) (λ k. refl) (λ k. refl) j 1 e);
+              orders = tt;
+            };
+            has_out = (omega arith, λ e. refl);
+            has_seen = tt;
+          },
           (
-            record { asks_of_thread = record { runs = inl (record { phase = refl; unended = refl }); owes = owes _ _ refl (unslept _ _ refl) }; may = record { thread = omega arith; home = refl; together = λ j e. chain_out _ _ j 1 1 e; orders = tt }; has_out = (omega arith, λ e. absurd cc); has_seen = tt },
+            record {
+              asks_of_thread = record {
+                runs = inl (record { phase = refl; unended = refl });
+                owes = owes _ _ refl (unslept _ _ refl);
+              };
+              may = record {
+                thread = omega arith;
+                home = refl;
+                together = λ j e. chain_out _ _ j 1 1 e;
+                orders = tt;
+              };
+              has_out = (omega arith, λ e. absurd cc);
+              has_seen = tt;
+            },
             (
-              record { asks_of_thread = looks_on _ _ refl refl refl (unslept _ _ refl); may = record { thread = omega arith; lock = omega arith; room = λ e. absurd cc }; has_out = tt; has_seen = record { counts = refl; of_round = λ e. refl; in_chain = one_chain; outside = λ i e. absurd cc; halting = λ e. absurd cc } },
+              record {
+                asks_of_thread = looks_on _ _ refl refl refl (unslept _ _ refl);
+                may = record { thread = omega arith; lock = omega arith; room = λ e. absurd cc };
+                has_out = tt;
+                has_seen = record {
+                  counts = refl;
+                  of_round = λ e. refl;
+                  in_chain = one_chain;
+                  outside = λ i e. absurd cc;
+                  halting = λ e. absurd cc;
+                };
+              },
               (
-                record { asks_of_thread = goes _ _ refl refl refl (unslept _ _ refl); may = record { thread = omega arith; running = refl }; has_out = (refl, refl); has_seen = tt },
+                record {
+                  asks_of_thread = goes _ _ refl refl refl (unslept _ _ refl);
+                  may = record { thread = omega arith; running = refl };
+                  has_out = (refl, refl);
+                  has_seen = tt;
+                },
                 (
-                  record { asks_of_thread = goes _ _ refl refl refl (unslept _ _ refl); may = record { waits = record { thread = omega arith; lock = omega arith; held = refl; refused = refl; queued = refl; unnamed = refl; wants = inr refl; no_walk = refl; sections = λ l mode e. absurd cc }; turnstile = refl; mutex = λ e. refl; own = refl }; has_out = (refl, refl); has_seen = record { saw = refl; round = refl } },
+                  record {
+                    asks_of_thread = goes _ _ refl refl refl (unslept _ _ refl);
+                    may = record {
+                      waits = record {
+                        thread = omega arith;
+                        lock = omega arith;
+                        held = refl;
+                        refused = refl;
+                        queued = refl;
+                        unnamed = refl;
+                        wants = inr refl;
+                        no_walk = refl;
+                        sections = λ l mode e. absurd cc;
+                      };
+                      turnstile = refl;
+                      mutex = λ e. refl;
+                      own = refl;
+                    };
+                    has_out = (refl, refl);
+                    has_seen = record { saw = refl; round = refl };
+                  },
                   -- both go home
                   (
-                    record { asks_of_thread = record { unparked = refl; owes = owes _ _ refl (unslept _ _ refl) }; may = record { thread = omega arith; out = refl; done = λ e w n. cc }; has_out = refl; has_seen = tt },
+                    record {
+                      asks_of_thread = record { unparked = refl; owes = owes _ _ refl (unslept _ _ refl) };
+                      may = record { thread = omega arith; out = refl; done = λ e w n. cc };
+                      has_out = refl;
+                      has_seen = tt;
+                    },
                     (
-                      record { asks_of_thread = record { unparked = refl; owes = owes _ _ refl (unslept _ _ refl) }; may = record { thread = omega arith; out = refl; done = (refl, λ w n. cc) }; has_out = refl; has_seen = tt },
+                      record {
+                        asks_of_thread = record { unparked = refl; owes = owes _ _ refl (unslept _ _ refl) };
+                        may = record { thread = omega arith; out = refl; done = (refl, λ w n. cc) };
+                        has_out = refl;
+                        has_seen = tt;
+                      },
                       tt,
                     ),
                   ),

@@ -1,6 +1,6 @@
 -- What each event says, one row an event: of a lock's table, of sections, of priorities, how a take came out, what the
--- event ends, and of sleepers. What stands elsewhere of events reads these facets; which operation gives an event (`Law`)
--- and the words of events (`Text`) are tables of their own. What code asks of a table's facet is declared beside
+-- event ends, and of sleepers. What stands elsewhere of events reads these facets; which operation gives an event
+-- (`Law`) and the words of events (`Text`) are tables of their own. What code asks of a facet is declared beside
 -- `Event`.
 use Rattle.std.specs.Prelude.{ℕ, Bool, true, false, ◌==◌, Option, Some, None, is_some}
 use Rattle.lock_model.specs.declared.plan.Mode.{Mode}

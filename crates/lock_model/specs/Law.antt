@@ -31,18 +31,18 @@ use Rattle.lock_model.specs.declared.event.Held.{Held}
 -- 1. The entries of each thread follow its operations in order
 
 -- where a thread is in its operations
-pub data Place : Type 0 where
+pub data Point : Type 0 where
   -- the operation of that number is its next
-  Before : ℕ → Place
+  Before : ℕ → Point
   -- it sleeps in that operation, a wait
-  Asleep : ℕ → Place
+  Asleep : ℕ → Point
   -- it was cut short, and gives back what it holds: the locks that are left, the one acquired last first
-  Cut : List Held → Place
+  Cut : List Held → Point
 
 -- What an operation's first entry is, and where it leads. A take gives Locked, Reversed or, of an sx lock,
 -- HaltedLock; a try gives Tried, or Busy with a held word that doesn't admit it, and then the operations behind the
 -- block; a wait gives Sleeps; every other operation but an `endtry` gives its one entry.
-pub data Gives (kind : ℕ → Kind) (held : List Held) (n : ℕ) : Op → Event → Place → Type 0 where
+pub data Gives (kind : ℕ → Kind) (held : List Held) (n : ℕ) : Op → Event → Point → Type 0 where
   locks : (l : LockNo) (mode : Mode)
       → Gives kind held n (op.Take l mode) (Locked l mode) (Before (suc n))
   is_reversed : (l : LockNo) (mode : Mode) (class : ClassNo)
@@ -71,11 +71,11 @@ pub data Gives (kind : ℕ → Kind) (held : List Held) (n : ℕ) : Op → Event
   wakes_all : (d : ChanNo) (woken : ℕ)
       → Gives kind held n (op.WakeAll d) (WokeAll d woken) (Before (suc n))
 
--- A thread's own entries, the newest first, lead it from its first operation to a place. After Reversed, HaltedLock
+-- A thread's own entries, the newest first, lead it from its first operation to a point. After Reversed, HaltedLock
 -- or HaltedChan only Unlocked entries follow, of the locks held, last first.
-pub data LeadsTo (kind : ℕ → Kind) (ops : List Op) : List Entry → Place → Type 0 where
+pub data LeadsTo (kind : ℕ → Kind) (ops : List Op) : List Entry → Point → Type 0 where
   begins : LeadsTo kind ops [] (Before 0)
-  goes_on : {es : List Entry} {n : ℕ} {o : Op} {p : Place} (e : Entry)
+  goes_on : {es : List Entry} {n : ℕ} {o : Op} {p : Point} (e : Entry)
       → LeadsTo kind ops es (Before n) → slice_get ops n ≡ Some o
       → Gives kind (held_of ops n) n o e.event p → LeadsTo kind ops (e ∷ es) p
   skips_endtry : {es : List Entry} {n : ℕ} → LeadsTo kind ops es (Before n)
@@ -92,18 +92,18 @@ pub data LeadsTo (kind : ℕ → Kind) (ops : List Op) : List Entry → Place �
       → LeadsTo kind ops (e ∷ es) (Cut hs)
 
 -- whether no entry is left to make
-abbrev pub IsAtEnd : List Op → Place → Type 0
+abbrev pub IsAtEnd : List Op → Point → Type 0
 IsAtEnd ops (Before n) = n ≡ length ops
 IsAtEnd ops (Asleep n) = ⊥
 IsAtEnd ops (Cut held) = held ≡ []
 
--- the place to which a thread's entries lead: the end, save in a run that was cut short
+-- the point to which a thread's entries lead: the end, save in a run that was cut short
 pub record FollowsOperations (plan : Plan) (cut_short : Bool) (history : List Entry) (t : ℕ) :
     Type 0 where
-  pub place : Place
+  pub point : Point
   pub leads : LeadsTo (config_of plan).kind (operations_of plan t)
-      (entries_of history t) place
-  pub whole : cut_short ≡ false → IsAtEnd (operations_of plan t) place
+      (entries_of history t) point
+  pub whole : cut_short ≡ false → IsAtEnd (operations_of plan t) point
 
 -- the entries of each thread follow its operations, and a number that is no thread's has none
 unfoldable pub EntriesFollowOperations : Plan → Bool → List Entry → Type 0

@@ -1,8 +1,8 @@
 //! What a step of a thread does to the objects that block threads: turnstiles and sleep queues in a chain each, and the
 //! records of threads.
 //!
-//! Two engines make these steps: the scheduled run on a machine of its own, and running threads behind the turns of a
-//! shared table. Both do the same work on the same objects, so it stands here once. A chain shows the columns of a
+//! Two engines make these steps: the scheduled run on a machine of its own, and running threads behind the latches of
+//! a floor's table. Both do the same work on the same objects, so it stands here once. A chain shows the columns of a
 //! state by queue, and a record those of its thread (`specs/Represents.antt`); each function says what it makes of its
 //! objects, and all but `wake`, which gives a record its own object back, that they show the columns behind the step
 //! where they showed those before it.

@@ -1,6 +1,6 @@
 -- The scheduled run: one thread of control gives the threads their turns, first by the plan's schedule and then in
--- rounds. A turn is the first row that fits of a table, and its steps are those of threads. The table is this
--- project's own.
+-- rounds. A turn is the first action that fits, in the order of this file, and its steps are those of threads. Which
+-- actions there are is this project's own.
 use Rattle.std.specs.Prelude.{ℕ, zero, suc, ◌%◌, Bool, true, false, not, ◌&&◌, ◌||◌, nat_le, nat_lt, if◌then◌else◌, List, [], ◌∷◌, ◌++◌, unwrap_or, is_some, option_map, length, map, filter, flat_map, reverse, slice_get, Option, Some, None, take}
 use Rattle.std.specs.List.{list_all, range_with_len}
 use Rattle.std.specs.FinMap.{entries}
@@ -109,36 +109,36 @@ has_ended plan r t =
     && not (owes (config_of plan) r.state t)
     && holds_none (config_of plan) r.state t
 
--- 2. The table of turns
+-- 2. The actions of turns
 
 -- what a thread does in its turn: the answer, its steps in order, and with which operation it goes on behind them,
 -- where that changes
-pub record Row : Type 0 where
+pub record Action : Type 0 where
   pub answer : Turn
   pub steps : List Step
   pub next : Option ℕ
 
 -- a turn that does nothing
-abbrev pub nothing : Turn → Row
+abbrev pub nothing : Turn → Action
 nothing answer = record { answer = answer; steps = []; next = None }
 
 -- a turn behind which the thread's operation is still to make
-abbrev pub does : StepKind → List Step → Row
+abbrev pub does : StepKind → List Step → Action
 does kind steps = record { answer = Did kind; steps = steps; next = None }
 
 -- a turn that ends the thread's operation
-abbrev pub ends : Run → ℕ → StepKind → List Step → Row
+abbrev pub ends : Run → ℕ → StepKind → List Step → Action
 ends r t kind steps = record { answer = Did kind; steps = steps; next = Some (suc (r.next_op t)) }
 
 -- a walk at a lock: it lends where the lock's word has an exclusive owner and a turnstile stands there, and else it
 -- ends
-abbrev pub walks_at_lock : ℕ → ℕ → Option ℕ → Option ℕ → Row
+abbrev pub walks_at_lock : ℕ → ℕ → Option ℕ → Option ℕ → Action
 walks_at_lock t l (Some o) (Some h) = does Lend (Lends t l o h ∷ [])
 walks_at_lock t l (Some o) None = does WalkEnd (EndsWalk t ∷ [])
 walks_at_lock t l None h = does WalkEnd (EndsWalk t ∷ [])
 
 -- a walk at a thread: it sorts the thread anew where that stands on a turnstile, and else it ends
-abbrev pub walks_at_thread : Config → Run → ℕ → ℕ → Option QueueName → Row
+abbrev pub walks_at_thread : Config → Run → ℕ → ℕ → Option QueueName → Action
 walks_at_thread c r t o (Some (Lock l)) =
     if is_turnstile (c.kind l.0) && nat_lt 0 (stands o (r.state.lists (lock_queue l.0)))
     then does Shift (Shifts t o l.0 ∷ [])
@@ -147,7 +147,7 @@ walks_at_thread c r t o (Some (Chan d)) = does WalkEnd (EndsWalk t ∷ [])
 walks_at_thread c r t o None = does WalkEnd (EndsWalk t ∷ [])
 
 -- a thread is made ready and enters the lock's queue with the turnstile or the sleep queue that it has at home
-abbrev pub blocks : Config → Run → ℕ → LockNo → Mode → Row
+abbrev pub blocks : Config → Run → ℕ → LockNo → Mode → Action
 blocks c r t l mode =
     does Enter (Readies t (Lock l)
     ∷ (if is_turnstile (c.kind l.0)
@@ -156,7 +156,7 @@ blocks c r t l mode =
 
 -- A thread gains a lock whose word admits the mode, and notes it. An exclusive gain of an rw lock whose word shows
 -- waiters is a claim: the thread becomes the owner of their turnstile.
-abbrev pub gains : Config → Run → ℕ → LockNo → Mode → Bool → Event → Row
+abbrev pub gains : Config → Run → ℕ → LockNo → Mode → Bool → Event → Action
 gains c r t l mode by_try noted =
     if is_plain (c.kind l.0) (r.state.word l.0) mode
     then ends r t Gain (Gains t l.0 mode by_try ∷ Stamps t noted ∷ [])
@@ -164,7 +164,7 @@ gains c r t l mode by_try noted =
     ∷ Stamps t noted ∷ [])
 
 -- A take gains the lock where the word admits the mode; else the thread blocks, and takes again when it has been woken.
-abbrev pub takes : Config → Run → ℕ → LockNo → Mode → Event → Row
+abbrev pub takes : Config → Run → ℕ → LockNo → Mode → Event → Action
 takes c r t l mode noted =
     if admits (c.kind l.0) (r.state.word l.0) mode
     then gains c r t l mode false noted
@@ -173,7 +173,7 @@ takes c r t l mode noted =
 -- A take's first turn checks the order of its lock behind those that the thread holds. Where the class of one of them
 -- forbids that of the lock, the refusal is noted with the first class that does, and the thread is cut. Else the lock is
 -- admitted, and taken from that turn on.
-abbrev pub begins_take : Config → Run → ℕ → LockNo → Mode → Option ℕ → Row
+abbrev pub begins_take : Config → Run → ℕ → LockNo → Mode → Option ℕ → Action
 begins_take c r t l mode (Some k) =
     does Note (Refuses t l.0 k ∷ Stamps t (event.Reversed l (record { 0 = k })) ∷ [])
 begins_take c r t l mode None =
@@ -182,14 +182,14 @@ begins_take c r t l mode None =
     }
 
 -- it is the first where the lock isn't wanted yet
-abbrev pub takes_in_order : Config → Run → ℕ → LockNo → Mode → Option ℕ → Row
+abbrev pub takes_in_order : Config → Run → ℕ → LockNo → Mode → Option ℕ → Action
 takes_in_order c r t l mode None =
     begins_take c r t l mode
     (first_to_forbid r.state.edges (classes_held c r.state t) (c.class l.0))
 takes_in_order c r t l mode (Some k) = takes c r t l mode (event.Locked l mode)
 
 -- a try that the word doesn't admit notes the word that it saw, and the thread goes on behind the block
-abbrev pub finds_busy : Run → ℕ → LockNo → ℕ → Row
+abbrev pub finds_busy : Run → ℕ → LockNo → ℕ → Action
 finds_busy r t l past = record {
   answer = Did Note;
   steps = Looks t l.0 false ∷ Stamps t (event.Busy l (bits_of (r.state.word l.0))) ∷ [];
@@ -197,7 +197,7 @@ finds_busy r t l past = record {
 }
 
 -- a try gains the lock where the word admits the mode, and else finds it busy; it never blocks
-abbrev pub tries : Config → Run → ℕ → LockNo → Mode → ℕ → Row
+abbrev pub tries : Config → Run → ℕ → LockNo → Mode → ℕ → Action
 tries c r t l mode past =
     if admits (c.kind l.0) (r.state.word l.0) mode
     then gains c r t l mode true (event.Tried l mode)
@@ -217,13 +217,13 @@ gives_back c r t l mode =
     )
 
 -- an operation that releases notes it
-abbrev pub releases : Config → Run → ℕ → LockNo → Mode → Row
+abbrev pub releases : Config → Run → ℕ → LockNo → Mode → Action
 releases c r t l mode =
     let back = gives_back c r t l.0 mode in
     ends r t back.0 (Stamps t (event.Unlocked l mode) ∷ back.1 ∷ [])
 
 -- A thread that was cut gives back the lock that it gained last, and notes it. One that holds nothing any more has ended.
-abbrev pub gives_last_back : Config → Run → ℕ → List HeldLock → Row
+abbrev pub gives_last_back : Config → Run → ℕ → List HeldLock → Action
 gives_last_back c r t [] = nothing Idle
 gives_last_back c r t (h ∷ hs) =
     let mode = mode_held (r.state.held t h.lock) in
@@ -231,14 +231,14 @@ gives_last_back c r t (h ∷ hs) =
     does back.0 (Stamps t (event.Unlocked (record { 0 = h.lock }) mode) ∷ back.1 ∷ [])
 
 -- a thread that has gone to sleep releases the lock of its wait, without an entry
-abbrev pub gives_up : Config → Run → ℕ → ℕ → Row
+abbrev pub gives_up : Config → Run → ℕ → ℕ → Action
 gives_up c r t l =
     let back = gives_back c r t l (mode_held (r.state.held t l)) in
     does back.0 (back.1 ∷ [])
 
 -- A wait's first turn: the thread is made ready, notes it, and stands on the channel's queue. Once it has been woken and
 -- runs again, it takes the lock back in the mode in which it held it, without a check of its order, and notes that.
-abbrev pub sleeps : Config → Run → ℕ → ChanNo → Option ℕ → Row
+abbrev pub sleeps : Config → Run → ℕ → ChanNo → Option ℕ → Action
 sleeps c r t d None =
     does Add (Readies t (Chan d) ∷ Stamps t (event.Sleeps d)
     ∷ Adds t d.0 (unwrap_or (r.state.sleep_queue t) t) ∷ [])
@@ -247,19 +247,19 @@ sleeps c r t d (Some e) =
     (mode_held (left_in c r.state.history t (c.chan_lock d.0))) (event.Woke d)
 
 -- a wake takes sleepers off the channel, the best or all, and notes who they are
-abbrev pub wakes : Run → ℕ → ChanNo → Bool → (ℕ → Event) → Row
+abbrev pub wakes : Run → ℕ → ChanNo → Bool → (ℕ → Event) → Action
 wakes r t d all noted =
     let taken = taken_off all (r.state.lists (chan_queue d.0)).exclusive in
     ends r t Wake (Wakes t d.0 all
     ∷ Stamps t (noted (bits_of_threads (map (λ w. w.thread) taken))) ∷ [])
 
 -- an operation that only makes an entry
-abbrev pub notes : Run → ℕ → Event → Row
+abbrev pub notes : Run → ℕ → Event → Action
 notes r t e = ends r t Note (Stamps t e ∷ [])
 
 -- A running thread makes its operation. No thread is at an endtry; and a thread without an operation that hasn't ended
 -- holds a lock still, as no thread of a script does.
-abbrev pub operates : Config → Run → ℕ → Option Op → Row
+abbrev pub operates : Config → Run → ℕ → Option Op → Action
 operates c r t None = nothing Idle
 operates c r t (Some (Take l mode)) = takes_in_order c r t l mode (r.state.wanted t)
 operates c r t (Some (Try l mode past)) = tries c r t l mode past
@@ -277,7 +277,7 @@ operates c r t (Some (WakeAll d)) = wakes r t d true (event.WokeAll d)
 
 -- a queued thread is idle, a woken one runs again, and a running one makes its operation, or gives back what it holds
 -- where it was cut
-abbrev pub by_wait : Plan → Run → ℕ → Wait → Row
+abbrev pub by_wait : Plan → Run → ℕ → Wait → Action
 by_wait plan r t Queued = nothing Idle
 by_wait plan r t (Woken q cause) = does Resume (Resumes t q cause ∷ [])
 by_wait plan r t Running =
@@ -286,24 +286,24 @@ by_wait plan r t Running =
     else operates (config_of plan) r t (slice_get (operations_of plan t) (r.next_op t))
 
 -- a release after a wait goes before the wait word
-abbrev pub by_release : Plan → Run → ℕ → Option ℕ → Row
+abbrev pub by_release : Plan → Run → ℕ → Option ℕ → Action
 by_release plan r t (Some l) = gives_up (config_of plan) r t l
 by_release plan r t None = by_wait plan r t (r.state.wait t)
 
 -- the first of a marked list gets its object back and is woken
-abbrev pub by_marked : Plan → Run → ℕ → List Mark → Row
+abbrev pub by_marked : Plan → Run → ℕ → List Mark → Action
 by_marked plan r t (m ∷ ms) = does Marked (Marks t m ms ∷ [])
 by_marked plan r t [] = by_release plan r t (owed_release (config_of plan) r.state t)
 
 -- a walk goes before the marked list
-abbrev pub by_walk : Plan → Run → ℕ → Walk → Row
+abbrev pub by_walk : Plan → Run → ℕ → Walk → Action
 by_walk plan r t (AtLock l) =
     walks_at_lock t l (owner_of (r.state.word l).holder) (r.state.head (lock_queue l))
 by_walk plan r t (AtThread o) = walks_at_thread (config_of plan) r t o (r.state.blocked_on o)
 by_walk plan r t NoWalk = by_marked plan r t (r.state.marked t)
 
--- a turn of a thread: the first row of the table that fits
-unfoldable pub turn_of : Plan → Run → ℕ → Row
+-- a turn of a thread: the first action that fits
+unfoldable pub turn_of : Plan → Run → ℕ → Action
 turn_of plan r t = if has_ended plan r t then nothing Ended else by_walk plan r t (r.state.walk t)
 
 -- the threads' next operations, where that of one changes; endtrys are skipped
@@ -311,11 +311,11 @@ abbrev pub next_ops : List Op → (ℕ → ℕ) → ℕ → Option ℕ → ℕ �
 next_ops ops next_op t None = next_op
 next_ops ops next_op t (Some n) = put next_op t (next_at ops n)
 
--- the run behind a row of the table
-abbrev pub run_after : Plan → Run → ℕ → Row → Run
-run_after plan r t row = record {
-  state = after_all (config_of plan) r.state row.steps;
-  next_op = next_ops (operations_of plan t) r.next_op t row.next;
+-- the run behind an action
+abbrev pub run_after : Plan → Run → ℕ → Action → Run
+run_after plan r t action = record {
+  state = after_all (config_of plan) r.state action.steps;
+  next_op = next_ops (operations_of plan t) r.next_op t action.next;
 }
 
 -- the run behind a thread's turn

@@ -7,5 +7,5 @@
 //! - `Facts`: what holds between any two steps: a lawful state. Its rooms are `Queues`, `Waits`, `Words`, `Loans` and
 //!   `Books`. Those of `Sleeps`, `Orders` and `Takes` hold beside, where each step asks what they need.
 //! - `Best`: the best priority behind a thread, and cycles of waiting threads.
-//! - `Run`: the scheduled run and its table of turns.
+//! - `Run`: the scheduled run and the actions of its turns.
 #![tactic(auto)]

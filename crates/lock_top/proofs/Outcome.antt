@@ -21,7 +21,7 @@ use Rattle.script_read.specs.declared.fault.ReadError.TheVariants.{Script}
 use Rattle.script_read.specs.Reading.{Refuses}
 use Rattle.complaints.specs.declared.status.Status.{Status}
 use Rattle.complaints.specs.declared.status.Status.TheVariants.{BadScript}
-use Rattle.command_line.specs.declared.words.Words.{Words}
+use Rattle.command_line.specs.declared.args.LockrunArgs.{LockrunArgs}
 use Rattle.lock_top.specs.Output.{IsLawfulRun, IsLawfulState, IsOutputOfPlan, IsOutputOfReading, IsOutputSaid, TellsTables, state_behind}
 
 -- each state of the run of a proper plan is lawful
@@ -55,13 +55,14 @@ pub accepted_lawful : (bytes : List ℕ) (plan : Plan) (chains turns : ℕ) → 
 accepted_lawful bytes plan chains turns accepted = lawful_run plan chains turns (accepted_proper bytes plan accepted)
 
 -- the output of a script is that of its plan
-pub accepted_output : (said : Words) (bytes : List ℕ) (plan : Plan) (pair : Status × List ℕ) → IsAccepted bytes plan
+pub accepted_output : (said : LockrunArgs) (bytes : List ℕ) (plan : Plan) (pair : Status × List ℕ)
+    → IsAccepted bytes plan
     → IsOutputOfPlan said.command said.chains said.turns plan pair → IsOutputSaid said bytes pair
 unfolding IsOutputSaid IsAccepted
 accepted_output said bytes plan pair accepted made = subst (λ r. IsOutputOfReading said r pair) (sym accepted) made
 
 -- and that of other bytes the line of their first fault
-pub refused_output : (said : Words) (bytes : List ℕ) (fault : ScriptFault) (text : List ℕ) → Refuses bytes (Script fault) → text ≡ fault_text fault.line fault.code
+pub refused_output : (said : LockrunArgs) (bytes : List ℕ) (fault : ScriptFault) (text : List ℕ) → Refuses bytes (Script fault) → text ≡ fault_text fault.line fault.code
     → IsOutputSaid said bytes (BadScript, text)
 unfolding IsOutputSaid IsFaulty
 refused_output said bytes fault text refused is =
@@ -69,7 +70,7 @@ refused_output said bytes fault text refused is =
     subst (λ r. IsOutputOfReading said r (BadScript, text)) (sym refused) (ap (λ (t : List ℕ). pair BadScript t) is)
 
 -- an answer for a script's plan is one for the bytes
-pub accepted_answer : {V E : Type 0} (items : V → List ℕ) (said : Words) (bytes : List ℕ) (plan : Plan) (r : Result (Status × V) E) → IsAccepted bytes plan
+pub accepted_answer : {V E : Type 0} (items : V → List ℕ) (said : LockrunArgs) (bytes : List ℕ) (plan : Plan) (r : Result (Status × V) E) → IsAccepted bytes plan
     → IfOk r (λ a. IsOutputOfPlan said.command said.chains said.turns plan (a.0, items a.1)) → IfOk r (λ a. IsOutputSaid said bytes (a.0, items a.1))
 accepted_answer items said bytes plan (Ok a) accepted made = accepted_output said bytes plan (a.0, items a.1) accepted made
 accepted_answer items said bytes plan (Err e) accepted made = tt

@@ -3,9 +3,9 @@
 use Rattle.std.specs.Prelude.{◌≡◌, ℕ, Bool, false, true, List, [], reverse, Option, Some, None}
 use Rattle.std.specs.FinMap.{FinMap, entries, get}
 use Rattle.command_line.specs.Forms.{words_of}
-use Rattle.command_line.specs.declared.words.Command.{Command}
-use Rattle.command_line.specs.declared.words.Command.TheVariants.{Check, Run, Step}
-use Rattle.command_line.specs.declared.words.Words.{Words}
+use Rattle.command_line.specs.declared.args.Command.{Command}
+use Rattle.command_line.specs.declared.args.Command.TheVariants.{Check, Run, Step}
+use Rattle.command_line.specs.declared.args.LockrunArgs.{LockrunArgs}
 use Rattle.complaints.specs.declared.status.Status.{Status}
 use Rattle.complaints.specs.declared.status.Status.TheVariants.{Done, BadScript, ReadFault, WriteFault, NoMemory, Stuck, Reversed, TooLong, TooBig, Usage}
 use Rattle.floor_run.specs.Runs.{HasOnlyMutexes, IsOutcome}
@@ -46,17 +46,17 @@ IsOutputOfPlan Step chains turns plan pair = pair ≡ output_of plan (scheduled_
 IsOutputOfPlan Run chains turns plan pair = IsOutputOfThreads plan pair
 
 -- to what a source comes to: to its plan, or to the line of its first fault, whatever the command is
-abbrev pub IsOutputOfReading : Words → Reading → Status × List ℕ → Type 0
+abbrev pub IsOutputOfReading : LockrunArgs → Reading → Status × List ℕ → Type 0
 IsOutputOfReading said (Reads plan) pair =
     IsOutputOfPlan said.command said.chains said.turns plan pair
 IsOutputOfReading said (Faulty line code) pair = pair ≡ (BadScript, fault_text line code)
 
 -- to the bytes of a source, by what the words of the command line say
-unfoldable pub IsOutputSaid : Words → List ℕ → Status × List ℕ → Type 0
+unfoldable pub IsOutputSaid : LockrunArgs → List ℕ → Status × List ℕ → Type 0
 IsOutputSaid said bytes pair = IsOutputOfReading said (reading_of bytes) pair
 
 -- without words that are a form there is no text
-abbrev pub IsOutputWhereSaid : Option Words → List ℕ → Status × List ℕ → Type 0
+abbrev pub IsOutputWhereSaid : Option LockrunArgs → List ℕ → Status × List ℕ → Type 0
 IsOutputWhereSaid None bytes pair = pair ≡ (Usage, [])
 IsOutputWhereSaid (Some said) bytes pair = IsOutputSaid said bytes pair
 
@@ -86,8 +86,8 @@ abbrev pub state_behind : Plan → ℕ → State
 state_behind plan n = (course_after plan n).run.state
 
 -- A state between two turns is lawful. The class graph has no cycle and orders what is held and wanted, so nobody waits
--- in a cycle. Its edges are those of the takes, and each refusal has its cause. Where nobody waits in a cycle and no walk
--- is under way, each thread's effective priority is the best behind it.
+-- in a cycle. Its edges are those of the takes, and each refusal has its cause. Where nobody waits in a cycle and no
+-- walk is under way, each thread's effective priority is the best behind it.
 pub record IsLawfulState (c : Config) (s : State) : Type 0 where
   pub lawful : LawfulTurn c s
   pub ordered : Ordered c s

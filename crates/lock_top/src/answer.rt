@@ -7,7 +7,7 @@ ghost use Rattle.lock_history.specs.Endings.{ending_of};
 ghost use Rattle.lock_history.specs.Outcomes.{outcome_seen};
 ghost use Rattle.lock_top.specs.Output.{has_text, IsOutputOfPlan, IsOutputOfThreads, output_of, status_of};
 
-use command_line::{Command, Words};
+use command_line::{Command, LockrunArgs};
 use complaints::Status;
 use floor_run::{has_only_mutexes, run_plan};
 use lock_history::{Last, Outcome, print, print_counts, print_fault};
@@ -19,7 +19,11 @@ use std::thread::Threads;
 use step_world::run_schedule;
 
 /// Those of a plan where no thread is started: `check` counts what it has, and `step` makes its scheduled run.
-pub fn plainly(alloc: Global, said: Words, plan: &Plan) -> Result<(Status, Vec<u8>), AllocError>
+pub fn plainly(
+    alloc: Global,
+    said: LockrunArgs,
+    plan: &Plan,
+) -> Result<(Status, Vec<u8>), AllocError>
     requires command { runs_threads said.command ≡ false }
     requires ranges { HasRanges said }
     requires proper { IsProper plan.now }

@@ -10,7 +10,7 @@ ghost use Rattle.lock_top.specs.Calls.{TellsForms, WritesAll, WritesOutput};
 ghost use Rattle.lock_top.specs.Output.{has_text, IsOutputOfPlan, IsOutputSaid};
 ghost use Rattle.top_ends.specs.Calls.{ReadsBytes, TellsFaults};
 
-use command_line::{Words, WordsError, read_words};
+use command_line::{LockrunArgs, WordsError, read_words};
 use complaints::Status;
 use lock_history::print_fault;
 use lock_io::{Sink, Source};
@@ -21,19 +21,17 @@ use top_ends::{read_bytes, write_text};
 
 /// Reads the words, and the source to its end, and writes the text that the command makes of the plan. It takes memory
 /// until the text is made, and none from then on.
-pub fn serve<S: Source, K: Sink, F: FnOnce(Words, Plan) -> Result<(Status, Vec<u8>), AllocError>>(
-    alloc: Global,
-    words: &[String],
-    source: &mut S,
-    sink: &mut K,
-    of_plan: F,
-) -> Status
-    requires callable { (said : Words) (plan : Plan) → words_of (map string_bytes words.now) ≡ Some said
-        → HasRanges said → IsProper plan → F.pre of_plan said plan }
-    requires answers { (said : Words) (plan : Plan) (r : _)
+pub fn serve<
+    S: Source,
+    K: Sink,
+    F: FnOnce(LockrunArgs, Plan) -> Result<(Status, Vec<u8>), AllocError>,
+>(alloc: Global, words: &[String], source: &mut S, sink: &mut K, of_plan: F) -> Status
+    requires callable { (said : LockrunArgs) (plan : Plan)
+        → words_of (map string_bytes words.now) ≡ Some said → HasRanges said → IsProper plan → F.pre of_plan said plan }
+    requires answers { (said : LockrunArgs) (plan : Plan) (r : _)
         → words_of (map string_bytes words.now) ≡ Some said → F.post of_plan said plan r
         → IfOk r (λ a. IsOutputOfPlan said.command said.chains said.turns plan (a.0, a.1.items)) }
-    requires has_text { (said : Words) (plan : Plan) (r : _) → F.post of_plan said plan r
+    requires has_text { (said : LockrunArgs) (plan : Plan) (r : _) → F.post of_plan said plan r
         → IfOk r (λ a. has_text a.0 ≡ true) }
     ensures forms { TellsForms (map string_bytes words.now) result (S.remaining source.old)
         (S.remaining source.new) }
@@ -62,9 +60,9 @@ pub fn serve<S: Source, K: Sink, F: FnOnce(Words, Plan) -> Result<(Status, Vec<u
 }
 
 // The status and the text of the bytes: those that the command makes of their plan, or the line of their first fault.
-fn answer<F: FnOnce(Words, Plan) -> Result<(Status, Vec<u8>), AllocError>>(
+fn answer<F: FnOnce(LockrunArgs, Plan) -> Result<(Status, Vec<u8>), AllocError>>(
     alloc: Global,
-    said: Words,
+    said: LockrunArgs,
     bytes: &[u8],
     of_plan: F,
 ) -> Result<(Status, Vec<u8>), AllocError>

@@ -1,9 +1,9 @@
 -- Which words are a form of a command line under a table of options, and what they say.
 --
 -- The options may stand in any order, each at most once, with the text as the next word or behind a `=`. A text that is
--- the next word doesn't begin with a hyphen, or is a hyphen alone. Where the table has operands, just one word that is one
--- of them stands before, between or behind the options. The word `--` ends the options. Where the table has a help, words
--- ask for it by `--help`, or a word that begins with `-h`, if those before are a form so far.
+-- the next word doesn't begin with a hyphen, or is a hyphen alone. Where the table has operands, just one word that is
+-- one of them stands before, between or behind the options. The word `--` ends the options. Where the table has a help,
+-- words ask for it by `--help`, or a word that begins with `-h`, if those before are a form so far.
 use Rattle.std.specs.Prelude.{◌&&◌, ◌||◌, ◌==◌, ◌∷◌, ◌++◌, ◌^◌, ℕ, Bool, true, false, not, List, [], Option, Some, None, codes, find, length, nat_le, nat_lt, is_some, option_and_then, option_map, slice_get, if◌then◌else◌, unwrap_or}
 use Rattle.std.specs.List.{list_all, list_any}
 use Rattle.std.specs.Option.{option_map_or}
@@ -113,7 +113,8 @@ with_letter t letter = if t.has_help && 104 == letter then AsksHelp else Fails
 
 -- a word that is no long option: it begins with one hyphen and a letter, or it is the operand
 abbrev pub with_other : Table → Said → Text → Reading
-with_other t s word = option_map_or (with_letter t) (short_flag word) (with_text s (operand_of t) word)
+with_other t s word =
+    option_map_or (with_letter t) (short_flag word) (with_text s (operand_of t) word)
 
 -- where no text is awaited
 abbrev pub with_plain : Table → Said → Text → Reading

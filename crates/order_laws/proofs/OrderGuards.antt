@@ -19,26 +19,118 @@ one_class = record floor_plan { locks = 2; class = λ l. 0 }
 
 unfoldable is_admitted : List Step
 is_admitted =
-    TakesItem 0 ClassGraph ∷ Admits 0 0 ∷ Seeks 0 0 false ∷ Looks 0 0 true ∷ Gains 0 0 Excl false ∷ Stamps 0 (Locked (record { 0 = 0 }) Excl) ∷ []
+    TakesItem 0 ClassGraph ∷ Admits 0 0 ∷ Seeks 0 0 false ∷ Looks 0 0 true ∷ Gains 0 0 Excl false ∷ Stamps 0
+    (Locked (record { 0 = 0 }) Excl) ∷ []
 
 unfoldable is_refused : List Step
 is_refused =
-    TakesItem 0 ClassGraph ∷ Refuses 0 1 0 ∷ Stamps 0 (Reversed (record { 0 = 1 }) (record { 0 = 0 })) ∷ Stamps 0 (Unlocked (record { 0 = 0 }) Excl) ∷ Drops 0 0 Excl ∷ []
+    TakesItem 0 ClassGraph ∷ Refuses 0 1 0 ∷ Stamps 0 (Reversed (record { 0 = 1 }) (record { 0 = 0 })) ∷ Stamps 0
+    (Unlocked (record { 0 = 0 }) Excl) ∷ Drops 0 0 Excl ∷ []
 
 admitted_may : FloorAll 16 one_class (start_state one_class) is_admitted
-unfolding floor_plan one_class is_admitted start_state after_take after_admit after_seek after_look after_gain after_stamp put put_at sections_in
+unfolding floor_plan one_class is_admitted start_state after_take after_admit after_seek after_look after_gain
+    after_stamp put put_at sections_in
 admitted_may = (
-  record { asks_of_thread = record { runs = inl (record { phase = refl; unended = refl }); owes = owes _ _ refl (running _ _ refl) }; may = record { thread = omega arith; home = refl; together = λ j e. absurd (none_out (λ k. None) (λ k. None) (λ k. refl) (λ k. refl) j 0 e); orders = record { unnamed = refl; unwoken = refl } }; has_out = (tt, tt); has_seen = tt },
+  record {
+    asks_of_thread = record {
+      runs = inl (record { phase = refl; unended = refl });
+      owes = owes _ _ refl (running _ _ refl);
+    };
+    may = record {
+      thread = omega arith;
+      home = refl;
+      together = λ j e. absurd (none_out (λ k. None) (λ k. None) (λ k. refl) (λ k. refl) j 0 e);
+      orders = record { unnamed = refl; unwoken = refl };
+    };
+    has_out = (tt, tt);
+    has_seen = tt;
+  },
   (
-    record { asks_of_thread = goes _ _ refl refl refl (running _ _ refl); may = record { free = record { thread = omega arith; lock = omega arith; running = refl; wants = refl; takes = refl; unnoted = refl; awake = refl; sections = λ l mode e. absurd cc }; admitted = tt }; has_out = refl; has_seen = refl },
+    record {
+      asks_of_thread = goes _ _ refl refl refl (running _ _ refl);
+      may = record {
+        free = record {
+          thread = omega arith;
+          lock = omega arith;
+          running = refl;
+          wants = refl;
+          takes = refl;
+          unnoted = refl;
+          awake = refl;
+          sections = λ l mode e. absurd cc;
+        };
+        admitted = tt;
+      };
+      has_out = refl;
+      has_seen = refl;
+    },
     (
-      record { asks_of_thread = goes _ _ refl refl refl (running _ _ refl); may = record { thread = omega arith; lock = omega arith; unheld = refl; acting = record { unnamed = refl; unwoken = refl }; wants = inl refl; tries_want_nothing = λ e. absurd cc; no_round = refl }; has_out = (λ e. absurd cc); has_seen = λ e. absurd cc },
+      record {
+        asks_of_thread = goes _ _ refl refl refl (running _ _ refl);
+        may = record {
+          thread = omega arith;
+          lock = omega arith;
+          unheld = refl;
+          acting = record { unnamed = refl; unwoken = refl };
+          wants = inl refl;
+          tries_want_nothing = λ e. absurd cc;
+          no_round = refl;
+        };
+        has_out = (λ e. absurd cc);
+        has_seen = λ e. absurd cc;
+      },
       (
-        record { asks_of_thread = looks_on _ _ refl refl refl (running _ _ refl); may = record { thread = omega arith; lock = omega arith; room = λ e. omega arith }; has_out = tt; has_seen = record { counts = refl; of_round = λ e. refl; in_chain = λ i x e. absurd (none_out (λ k. None) (λ k. None) (λ k. refl) (λ k. refl) i 0 e); outside = λ i n x e. absurd (none_out (λ k. None) (λ k. None) (λ k. refl) (λ k. refl) i 0 e); halting = λ e. absurd cc } },
+        record {
+          asks_of_thread = looks_on _ _ refl refl refl (running _ _ refl);
+          may = record { thread = omega arith; lock = omega arith; room = λ e. omega arith };
+          has_out = tt;
+          has_seen = record {
+            counts = refl;
+            of_round = λ e. refl;
+            in_chain = λ i x e. absurd (none_out (λ k. None) (λ k. None) (λ k. refl) (λ k. refl) i 0 e);
+            outside = λ i n x e. absurd (none_out (λ k. None) (λ k. None) (λ k. refl) (λ k. refl) i 0 e);
+            halting = λ e. absurd cc;
+          };
+        },
         (
-          record { asks_of_thread = goes _ _ refl refl refl (running _ _ refl); may = record { thread = omega arith; lock = omega arith; admitted = refl; plainly = refl; unheld = refl; acting = record { unnamed = refl; unwoken = refl }; wants = inl refl }; has_out = tt; has_seen = record { fits = (refl, refl); in_round = λ e i. absurd cc; saw = λ w i e. absurd cc; others = λ k e. cc } },
+          record {
+            asks_of_thread = goes _ _ refl refl refl (running _ _ refl);
+            may = record {
+              thread = omega arith;
+              lock = omega arith;
+              admitted = refl;
+              plainly = refl;
+              unheld = refl;
+              acting = record { unnamed = refl; unwoken = refl };
+              wants = inl refl;
+            };
+            has_out = tt;
+            has_seen = record {
+              fits = (refl, refl);
+              in_round = λ e i. absurd cc;
+              saw = λ w i e. absurd cc;
+              others = λ k e. cc;
+            };
+          },
           (
-            record { asks_of_thread = record { runs = record { phase = refl; unended = refl }; added = running _ _ refl }; may = record { thread = omega arith; acting = record { unnamed = refl; unwoken = refl }; asks = (record { held = refl; closed = refl }, record { others = []; last = refl }) }; has_out = tt; has_seen = record { in_round = tt; asleep = λ e. absurd cc; wakes = λ e. absurd (e refl); takes = λ l e. (cc, refl) } },
+            record {
+              asks_of_thread = record {
+                runs = record { phase = refl; unended = refl };
+                added = running _ _ refl;
+              };
+              may = record {
+                thread = omega arith;
+                acting = record { unnamed = refl; unwoken = refl };
+                asks = (record { held = refl; closed = refl }, record { others = []; last = refl });
+              };
+              has_out = tt;
+              has_seen = record {
+                in_round = tt;
+                asleep = λ e. absurd cc;
+                wakes = λ e. absurd (e refl);
+                takes = λ l e. (cc, refl);
+              };
+            },
             tt,
           ),
         ),
@@ -48,30 +140,100 @@ admitted_may = (
 )
 
 admitted_keep : KeepToOrder one_class (start_state one_class) is_admitted
-unfolding floor_plan one_class is_admitted start_state after_take after_admit after_seek after_look after_gain after_stamp put put_at sections_in
-admitted_keep = (tt, (tt, ((λ e. refl), ((λ e. refl), (record { wants = λ e. refl; takes = λ k e. cc; unhalted = λ k e. cc }, ((λ l e. (cc, refl)), tt))))))
+unfolding floor_plan one_class is_admitted start_state after_take after_admit after_seek after_look after_gain
+    after_stamp put put_at sections_in
+admitted_keep = (
+  tt,
+  (
+    tt,
+    (
+      (λ e. refl),
+      (
+        (λ e. refl),
+        (record { wants = λ e. refl; takes = λ k e. cc; unhalted = λ k e. cc }, ((λ l e. (cc, refl)), tt)),
+      ),
+    ),
+  ),
+)
 
 -- the section of the mutex that p holds is open
 is_open : AllOpen one_class (after_all one_class (start_state one_class) is_admitted) 0
-unfolding floor_plan one_class is_admitted start_state after_take after_admit after_seek after_look after_gain after_stamp put put_at sections_in
+unfolding floor_plan one_class is_admitted start_state after_take after_admit after_seek after_look after_gain
+    after_stamp put put_at sections_in
 is_open l mode e = go (eqb 0 l) e
   where
-    go : (b : Bool) → cond b (Holds Excl) NotHeld ≡ Holds mode → replaced (cond b (Holds Excl) NotHeld) NotHeld ≡ Holds mode
+    go : (b : Bool) → cond b (Holds Excl) NotHeld ≡ Holds mode
+        → replaced (cond b (Holds Excl) NotHeld) NotHeld ≡ Holds mode
     go true i = i
     go false i = i
 
 refused_may : FloorAll 16 one_class (after_all one_class (start_state one_class) is_admitted) is_refused
-unfolding floor_plan one_class is_admitted is_refused start_state after_take after_admit after_refuse after_seek after_look after_gain after_drop after_stamp put put_at sections_in
+unfolding floor_plan one_class is_admitted is_refused start_state after_take after_admit after_refuse after_seek
+    after_look after_gain after_drop after_stamp put put_at sections_in
 refused_may = (
-  record { asks_of_thread = record { runs = inl (record { phase = refl; unended = refl }); owes = owes _ _ refl (running _ _ refl) }; may = record { thread = omega arith; home = refl; together = λ j e. absurd (none_out (λ k. None) (λ k. None) (λ k. refl) (λ k. refl) j 0 e); orders = record { unnamed = refl; unwoken = refl } }; has_out = (tt, tt); has_seen = tt },
+  record {
+    asks_of_thread = record {
+      runs = inl (record { phase = refl; unended = refl });
+      owes = owes _ _ refl (running _ _ refl);
+    };
+    may = record {
+      thread = omega arith;
+      home = refl;
+      together = λ j e. absurd (none_out (λ k. None) (λ k. None) (λ k. refl) (λ k. refl) j 0 e);
+      orders = record { unnamed = refl; unwoken = refl };
+    };
+    has_out = (tt, tt);
+    has_seen = tt;
+  },
   (
-    record { asks_of_thread = goes _ _ refl refl refl (running _ _ refl); may = record { free = record { thread = omega arith; lock = omega arith; running = refl; wants = refl; takes = refl; unnoted = refl; awake = refl; sections = is_open }; refused = inl (inl refl, refl) }; has_out = refl; has_seen = refl },
+    record {
+      asks_of_thread = goes _ _ refl refl refl (running _ _ refl);
+      may = record {
+        free = record {
+          thread = omega arith;
+          lock = omega arith;
+          running = refl;
+          wants = refl;
+          takes = refl;
+          unnoted = refl;
+          awake = refl;
+          sections = is_open;
+        };
+        refused = inl (inl refl, refl);
+      };
+      has_out = refl;
+      has_seen = refl;
+    },
     (
-      record { asks_of_thread = record { runs = record { phase = refl; unended = refl }; added = running _ _ refl }; may = record { thread = omega arith; acting = record { unnamed = refl; unwoken = refl }; asks = refl }; has_out = tt; has_seen = record { in_round = tt; asleep = λ e. absurd cc; wakes = λ e. absurd (e refl); takes = λ l e. absurd cc } },
+      record {
+        asks_of_thread = record { runs = record { phase = refl; unended = refl }; added = running _ _ refl };
+        may = record { thread = omega arith; acting = record { unnamed = refl; unwoken = refl }; asks = refl };
+        has_out = tt;
+        has_seen =
+            record { in_round = tt; asleep = λ e. absurd cc; wakes = λ e. absurd (e refl); takes = λ l e. absurd cc };
+      },
       (
-        record { asks_of_thread = record { runs = record { phase = refl; unended = refl }; added = running _ _ refl }; may = record { thread = omega arith; acting = record { unnamed = refl; unwoken = refl }; asks = refl }; has_out = tt; has_seen = record { in_round = tt; asleep = λ e. absurd cc; wakes = λ e. absurd (e refl); takes = λ l e. absurd cc } },
+        record {
+          asks_of_thread = record { runs = record { phase = refl; unended = refl }; added = running _ _ refl };
+          may = record { thread = omega arith; acting = record { unnamed = refl; unwoken = refl }; asks = refl };
+          has_out = tt;
+          has_seen =
+              record { in_round = tt; asleep = λ e. absurd cc; wakes = λ e. absurd (e refl); takes = λ l e. absurd cc };
+        },
         (
-          record { asks_of_thread = goes _ _ refl refl refl (running _ _ refl); may = record { thread = omega arith; lock = omega arith; held = refl; stays = refl; closed = refl; begun = refl }; has_out = tt; has_seen = tt },
+          record {
+            asks_of_thread = goes _ _ refl refl refl (running _ _ refl);
+            may = record {
+              thread = omega arith;
+              lock = omega arith;
+              held = refl;
+              stays = refl;
+              closed = refl;
+              begun = refl;
+            };
+            has_out = tt;
+            has_seen = tt;
+          },
           tt,
         ),
       ),
@@ -80,5 +242,6 @@ refused_may = (
 )
 
 refused_keep : KeepToOrder one_class (after_all one_class (start_state one_class) is_admitted) is_refused
-unfolding floor_plan one_class is_admitted is_refused start_state after_take after_admit after_refuse after_seek after_look after_gain after_drop after_stamp put put_at sections_in
+unfolding floor_plan one_class is_admitted is_refused start_state after_take after_admit after_refuse after_seek
+    after_look after_gain after_drop after_stamp put put_at sections_in
 refused_keep = (tt, (tt, ((λ l e. absurd cc), ((λ l e. absurd cc), (refl, tt)))))

@@ -25,7 +25,7 @@ use Rattle.lock_model.specs.declared.plan.QueueName.TheVariants.{Lock, Chan}
 use Rattle.lock_model.specs.declared.turn.StepKind.TheVariants.{Enter, Lend, Mark}
 use Rattle.lock_model.specs.declared.turn.Turn.TheVariants.{Did}
 use Rattle.lock_state.specs.Facts.{OnlyLocksAreHeld, OnlyThreadsHold}
-use Rattle.run_chart.specs.Arrows.{behind_arrows, behind_in, behind_of, block_arrows, first_in, first_of, hold_arrows, holds_in, is_held, is_waiter, lists_of, lock_in, lock_named, track_holds, Gains, IsSo, IsSoOf}
+use Rattle.run_chart.specs.Arrows.{behind_arrows, behind_in, behind_of, block_arrows, first_in, first_of, hold_arrows, holds_in, is_held, is_waiter, lists_of, lock_in, lock_named, track_holds, AddsArrows, IsSo, IsSoOf}
 use Rattle.run_chart.specs.Charts.{arrow, waiters_in, Blocked, IsFirstOf, Made, WentBehind, WentOn}
 use Rattle.run_chart.specs.Runs.{IsRunOf}
 use Rattle.run_chart.proofs.Numbered.{contained, contains_at}
@@ -205,5 +205,5 @@ module _ (plan : Plan) (rows : Rows) (h : IsRunOf plan rows) (n who : ℕ) (l : 
           let it = went_behind (owner_of ((run_in plan n).state.word w.lock).holder) (waiters_in plan (n + 1) w.lock) f t e in
           absurd (w.behind_none t (record { lock = w.lock; blocked = w.blocked; unowned = it.unowned; shares = it.shares; first = it.first }))
 
-  pub gains_blocks : (old new : List Arrow) → new ≡ old ++ block_arrows plan n who rows.threads (lock_in plan n who) → Gains plan n old new
+  pub gains_blocks : (old new : List Arrow) → new ≡ old ++ block_arrows plan n who rows.threads (lock_in plan n who) → AddsArrows plan n old new
   gains_blocks old new is = gains_added plan n old new (block_arrows plan n who rows.threads (lock_in plan n who)) is (block_said (lock_in plan n who) refl) block_stands

@@ -3,8 +3,8 @@ use Rattle.std.proofs.Common.{◌≡◌, ℕ, zero, suc, ◌+◌, ◌-◌, ◌<�
 use Rattle.std.specs.Prelude.{reverse, slice_get}
 use Rattle.std.proofs.lemmas.Bool.{le-ltb, lt-ltb}
 use Rattle.std.proofs.lemmas.List.{length-reverse, reverse-append}
-use Rattle.run_laws.proofs.Table as table
-use Rattle.run_laws.proofs.Table.{Acquires, Entering, Fits, GivingBack}
+use Rattle.run_laws.proofs.Actions as actions
+use Rattle.run_laws.proofs.Actions.{Acquires, Entering, Fits, GivingBack}
 use Rattle.run_laws.specs.OnTrack.{admitted}
 use Rattle.lock_model.specs.Config.{Config}
 use Rattle.lock_model.specs.Plans.{config_of}
@@ -15,7 +15,7 @@ use Rattle.lock_model.specs.declared.event.Event.TheVariants as event
 use Rattle.lock_model.specs.declared.plan.Mode.{Mode}
 use Rattle.lock_model.specs.declared.plan.Plan.{Plan}
 use Rattle.lock_model.specs.declared.turn.StepKind.{StepKind}
-use Rattle.lock_state.specs.Run.{Course, Row, Run, after_turn, course_after, go_on, is_over, mode_held, round_of, run_behind, scheduled_run, turn_of, with_turn}
+use Rattle.lock_state.specs.Run.{Course, Action, Run, after_turn, course_after, go_on, is_over, mode_held, round_of, run_behind, scheduled_run, turn_of, with_turn}
 use Rattle.lock_state.specs.State.{State, start_state}
 use Rattle.lock_state.specs.Steps.{Step, after, after_all}
 use Rattle.lock_state.specs.Steps.LockWords.{after_drop, after_gain, after_look, after_ready, after_stamp}
@@ -41,15 +41,15 @@ module _ (c : Config) (s : State) where
   -- the step that comes to stand on a queue notes nothing,
   entering : (plan : Plan) (r : Run) (t l : ℕ) (mode : Mode) (step : Step) → Entering plan r t l mode step → (after c s step).history ≡ s.history
   unfolding after_enter after_enter_sleep
-  entering plan r t l mode _ (table.on_turnstile e) = refl
-  entering plan r t l mode _ (table.on_sleep_queue e) = refl
+  entering plan r t l mode _ (actions.on_turnstile e) = refl
+  entering plan r t l mode _ (actions.on_sleep_queue e) = refl
 
   -- nor does one that gives a lock back
   giving_back : (plan : Plan) (r : Run) (t l : ℕ) (mode : Mode) (kind : StepKind) (step : Step) → GivingBack plan r t l mode kind step → (after c s step).history ≡ s.history
   unfolding after_drop after_open after_open_sleep
-  giving_back plan r t l mode _ _ (table.drops e) = refl
-  giving_back plan r t l mode _ _ (table.opens e f) = refl
-  giving_back plan r t l mode _ _ (table.opens_sleep_queue e f) = refl
+  giving_back plan r t l mode _ _ (actions.drops e) = refl
+  giving_back plan r t l mode _ _ (actions.opens e f) = refl
+  giving_back plan r t l mode _ _ (actions.opens_sleep_queue e f) = refl
 
   stamped : (t : ℕ) (e : Event) → Grew s.history (after_stamp c s t e).history
   unfolding after_stamp
@@ -63,47 +63,47 @@ module _ (plan : Plan) (t : ℕ) where
   c = config_of plan
 
   -- the history behind the steps of a row
-  abbrev behind_row : Run → Row → List Entry
-  behind_row r row = (after_all c r.state row.steps).history
+  abbrev behind_action : Run → Action → List Entry
+  behind_action r action = (after_all c r.state action.steps).history
 
-  acquired : (r : Run) (row : Row) → Acquires plan r t row → Grew r.state.history (behind_row r row)
+  acquired : (r : Run) (action : Action) → Acquires plan r t action → Grew r.state.history (behind_action r action)
   unfolding after_gain after_claim after_stamp after_ready
-  acquired r _ (table.gains by i a p) = grew_by _
-  acquired r _ (table.claims by i a p) = grew_by _
-  acquired r _ (table.enters {l = l} {mode = mode} {step = step} by i a e) = same (entering c (after_ready r.state t) plan r t l.0 mode step e)
+  acquired r _ (actions.gains by i a p) = grew_by _
+  acquired r _ (actions.claims by i a p) = grew_by _
+  acquired r _ (actions.enters {l = l} {mode = mode} {step = step} by i a e) = same (entering c (after_ready r.state t) plan r t l.0 mode step e)
 
-  row_grew : (r : Run) (row : Row) → Fits plan r t row → Grew r.state.history (behind_row r row)
+  action_grew : (r : Run) (action : Action) → Fits plan r t action → Grew r.state.history (behind_action r action)
   unfolding after_lend after_end_walk after_shift after_mark after_resume after_admit after_refuse after_look after_stamp after_ready after_add after_wake
-  row_grew r _ (table.is_over e) = stayed
-  row_grew r _ (table.lends l o h w e f) = stayed
-  row_grew r _ (table.ends_at_lock l w e) = stayed
-  row_grew r _ (table.shifts o l w e f) = stayed
-  row_grew r _ (table.ends_at_thread o w e) = stayed
-  row_grew r _ (table.marks m ms w e) = stayed
-  row_grew r _ (table.gives_up {l = l} {kind = kind} {step = step} w e f g) = same (giving_back c r.state plan r t l (mode_held (r.state.held t l)) kind step g)
-  row_grew r _ (table.is_queued e f w) = stayed
-  row_grew r _ (table.resumes q cause f w) = stayed
-  row_grew r row (table.acquires a) = acquired r row a
-  row_grew r _ (table.is_admitted {l = l} {row = row} b f a) = acquired (admitted plan r t l) row a
-  row_grew r _ (table.is_refused k b f) = grew_by _
-  row_grew r _ (table.finds_busy l mode past i a) = grew_by _
-  row_grew r _ (table.releases {kind = kind} {step = step} l i g) =
+  action_grew r _ (actions.is_over e) = stayed
+  action_grew r _ (actions.lends l o h w e f) = stayed
+  action_grew r _ (actions.ends_at_lock l w e) = stayed
+  action_grew r _ (actions.shifts o l w e f) = stayed
+  action_grew r _ (actions.ends_at_thread o w e) = stayed
+  action_grew r _ (actions.marks m ms w e) = stayed
+  action_grew r _ (actions.gives_up {l = l} {kind = kind} {step = step} w e f g) = same (giving_back c r.state plan r t l (mode_held (r.state.held t l)) kind step g)
+  action_grew r _ (actions.is_queued e f w) = stayed
+  action_grew r _ (actions.resumes q cause f w) = stayed
+  action_grew r action (actions.acquires a) = acquired r action a
+  action_grew r _ (actions.is_admitted {l = l} {action = action} b f a) = acquired (admitted plan r t l) action a
+  action_grew r _ (actions.is_refused k b f) = grew_by _
+  action_grew r _ (actions.finds_busy l mode past i a) = grew_by _
+  action_grew r _ (actions.releases {kind = kind} {step = step} l i g) =
       let e = event.Unlocked l (mode_held (r.state.held t l.0)) in
       subst (Grew r.state.history) (sym (giving_back c (after_stamp c r.state t e) plan r t l.0 (mode_held (r.state.held t l.0)) kind step g)) (stamped c r.state t e)
-  row_grew r _ (table.sleeps d i e) = grew_by _
-  row_grew r _ (table.wakes d w i) = grew_by _
-  row_grew r _ (table.makes_entry op e i n) = grew_by _
-  row_grew r _ (table.gives_last_back {kind = kind} {step = step} h hs i held g) =
+  action_grew r _ (actions.sleeps d i e) = grew_by _
+  action_grew r _ (actions.wakes d w i) = grew_by _
+  action_grew r _ (actions.makes_entry op e i n) = grew_by _
+  action_grew r _ (actions.gives_last_back {kind = kind} {step = step} h hs i held g) =
       let mode = mode_held (r.state.held t h.lock) in
       let e = event.Unlocked (record { 0 = h.lock }) mode in
       subst (Grew r.state.history) (sym (giving_back c (after_stamp c r.state t e) plan r t h.lock mode kind step g)) (stamped c r.state t e)
-  row_grew r _ (table.has_nothing_left e i f) = stayed
-  row_grew r _ (table.has_no_operation e i) = stayed
-  row_grew r _ (table.is_at_endtry i) = stayed
+  action_grew r _ (actions.has_nothing_left e i f) = stayed
+  action_grew r _ (actions.has_no_operation e i) = stayed
+  action_grew r _ (actions.is_at_endtry i) = stayed
 
   turn_grew : (r : Run) → Grew r.state.history (run_behind plan r t).state.history
   unfolding run_behind
-  turn_grew r = row_grew r (turn_of plan r t) (table.fits plan r t)
+  turn_grew r = action_grew r (turn_of plan r t) (actions.fits plan r t)
 
 with_turn_grew : (plan : Plan) (r : Run) (ts : List ℕ) (idle : Bool) → Grew r.state.history (with_turn plan r ts idle).run.state.history
 with_turn_grew plan r [] idle = stayed

@@ -17,7 +17,7 @@ use Rattle.lock_model.specs.declared.turn.Turn.TheVariants.{Did, Idle, Ended}
 use Rattle.lock_state.specs.Run.{Run, course_after, next_turn}
 use Rattle.lock_state.specs.State as state
 use Rattle.lock_state.specs.State.{Walk, NoWalk, AtLock, AtThread}
-use Rattle.run_chart.specs.Arrows.{is_queued, is_woken, loan_arrows, loan_at, loan_in, wake_arrows, wakes_up, Gains, Hop, IsSo, IsSoOf}
+use Rattle.run_chart.specs.Arrows.{is_queued, is_woken, loan_arrows, loan_at, loan_in, wake_arrows, wakes_up, AddsArrows, Hop, IsSo, IsSoOf}
 use Rattle.run_chart.specs.Charts.{arrow, loan, wake, Lent, Made, WokeUp}
 use Rattle.run_chart.specs.Runs.{IsRunOf}
 use Rattle.run_chart.proofs.Numbered.{contained, contains_at}
@@ -86,7 +86,7 @@ module _ (plan : Plan) (n who : ℕ) (a : Turn) (made : next_turn plan (course_a
       (ap (λ p. p.0) same, ap (λ p. p.1) same)
 
   -- a turn without arrows
-  pub gains_none : may_draw a ≡ false → (arrows : List Arrow) → Gains plan n arrows arrows
+  pub gains_none : may_draw a ≡ false → (arrows : List Arrow) → AddsArrows plan n arrows arrows
   gains_none none arrows x = (λ c. inl c, λ o. elim o [ inl before ↦ before | inr it ↦ absurd (no_arrow it.0 it.1) ])
     where
       no_arrow : x.turn ≡ n → IsSo plan x → ⊥
@@ -99,12 +99,12 @@ module _ (plan : Plan) (n who : ℕ) (a : Turn) (made : next_turn plan (course_a
 pub made_by : (plan : Plan) (rows : Rows) → IsRunOf plan rows → (n : ℕ) (row : TurnRow) (a : Turn) → slice_get rows.turns n ≡ Some row → row.answer ≡ a → next_turn plan (course_after plan n) ≡ Some (row.who.0, a)
 made_by plan rows h n row a at is = (h.told.each n row at).made ∙ ap (λ (b : Turn). Some (row.who.0, b)) is
 
-pub no_arrows : (plan : Plan) (rows : Rows) → IsRunOf plan rows → (n : ℕ) (row : TurnRow) (a : Turn) → slice_get rows.turns n ≡ Some row → row.answer ≡ a → may_draw a ≡ false → (arrows : List Arrow) → Gains plan n arrows arrows
+pub no_arrows : (plan : Plan) (rows : Rows) → IsRunOf plan rows → (n : ℕ) (row : TurnRow) (a : Turn) → slice_get rows.turns n ≡ Some row → row.answer ≡ a → may_draw a ≡ false → (arrows : List Arrow) → AddsArrows plan n arrows arrows
 no_arrows plan rows h n row a at is none arrows = gains_none plan n row.who.0 a (made_by plan rows h n row a at is) none arrows
 
 -- what is added is just so
 pub gains_added : (plan : Plan) (n : ℕ) (old new added : List Arrow) → new ≡ old ++ added → ((x : Arrow) → Contains added x → (x.turn ≡ n) × IsSo plan x)
-    → ((f to : ℕ) (k : ArrowKind) → IsSoOf plan n k f to → Contains added (arrow n k f to)) → Gains plan n old new
+    → ((f to : ℕ) (k : ArrowKind) → IsSoOf plan n k f to → Contains added (arrow n k f to)) → AddsArrows plan n old new
 gains_added plan n old new added is said stands = adds (λ (x : Arrow). x.turn) (IsSo plan) n old new added is said there
   where
     there : (x : Arrow) → x.turn ≡ n → IsSo plan x → Contains added x
@@ -160,7 +160,7 @@ module _ (plan : Plan) (n who : ℕ) (made : Made plan n who Lend) where
   loan_stands f to BlockedOn h = let other = (maker plan n who (Did Lend) made f Enter h.blocked.made).1 in absurd cc
   loan_stands f to Behind h = let other = (maker plan n who (Did Lend) made f Enter h.blocked.made).1 in absurd cc
 
-  pub gains_loan : (old new : List Arrow) → new ≡ old ++ loan_arrows n who (loan_in plan n who) → Gains plan n old new
+  pub gains_loan : (old new : List Arrow) → new ≡ old ++ loan_arrows n who (loan_in plan n who) → AddsArrows plan n old new
   gains_loan old new is = gains_added plan n old new (loan_arrows n who (loan_in plan n who)) is (loan_said (loan_in plan n who) refl) loan_stands
 
 -- 4. A turn that wakes
@@ -236,5 +236,5 @@ module _ (plan : Plan) (rows : Rows) (h : IsRunOf plan rows) (n who : ℕ) (l : 
   wake_stands f to BlockedOn h = let other = (maker plan n who (Did Mark) made f Enter h.blocked.made).1 in absurd cc
   wake_stands f to Behind h = let other = (maker plan n who (Did Mark) made f Enter h.blocked.made).1 in absurd cc
 
-  pub gains_wakes : (old new : List Arrow) → new ≡ old ++ wake_arrows n who rows.threads → Gains plan n old new
+  pub gains_wakes : (old new : List Arrow) → new ≡ old ++ wake_arrows n who rows.threads → AddsArrows plan n old new
   gains_wakes old new is = gains_added plan n old new (wake_arrows n who rows.threads) is wake_said wake_stands

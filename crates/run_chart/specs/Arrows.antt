@@ -163,8 +163,8 @@ abbrev pub IsSo : Plan → Arrow → Type 0
 IsSo plan a = IsSoOf plan a.turn a.kind a.from.0 a.to.0
 
 -- just those of the n-th turn are added
-abbrev pub Gains : Plan → ℕ → List Arrow → List Arrow → Type 0
-Gains plan n old new =
+abbrev pub AddsArrows : Plan → ℕ → List Arrow → List Arrow → Type 0
+AddsArrows plan n old new =
     (a : Arrow) → Contains new a ↔ (Contains old a ⊎ ((a.turn ≡ n) × IsSo plan a))
 
 -- just the arrows of the turns between two rows

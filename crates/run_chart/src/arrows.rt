@@ -1,7 +1,7 @@
 //! The arrows of a turn: whom its thread lent to, woke, blocked on, or blocked behind.
 ghost use Rattle.std.specs.Prelude.{◌≡◌, ◌≤◌, ◌<◌, ◌++◌, ◌∷◌, [], length, slice_get, IfOk, OnOk};
 ghost use Rattle.lock_model.specs.declared.plan.Plan as plans;
-ghost use Rattle.run_chart.specs.Arrows.{block_arrows, hold_arrows, loan_arrows, loan_in, lock_in, wake_arrows, wakes_up, Gains, Has};
+ghost use Rattle.run_chart.specs.Arrows.{block_arrows, hold_arrows, loan_arrows, loan_in, lock_in, wake_arrows, wakes_up, AddsArrows, Has};
 ghost use Rattle.run_chart.specs.Charts.{arrow};
 ghost use Rattle.run_chart.specs.Runs.{IsRunOf};
 
@@ -40,7 +40,7 @@ fn push_arrows(
     requires run { (plan : plans.Plan) × IsRunOf plan rows.now }
     requires turn { slice_get rows.now.turns turn ≡ Some row }
     ensures { OnOk result ((plan : plans.Plan) → IsRunOf plan rows.now
-        → Gains plan turn arrows.old.items arrows.new.items) }
+        → AddsArrows plan turn arrows.old.items arrows.new.items) }
 {
     let Turn::Did(kind) = row.answer else {
         return Ok(());

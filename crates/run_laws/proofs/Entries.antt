@@ -13,7 +13,7 @@ use Rattle.lock_model.specs.Counts.{sum_below}
 use Rattle.lock_model.specs.Plans.{config_of, operations_of}
 use Rattle.lock_model.specs.Operations.{IsProper, of_locks, operations_in_all, held_of, held_after}
 use Rattle.lock_model.specs.History.{entries_of}
-use Rattle.lock_model.specs.Law.{LeadsTo, Gives, Place, Before, Asleep, Cut}
+use Rattle.lock_model.specs.Law.{LeadsTo, Gives, Point, Before, Asleep, Cut}
 use Rattle.lock_model.specs.Law as law
 use Rattle.lock_state.specs.Run.{Run, was_cut, waits_on, held_now}
 use Rattle.lock_model.specs.declared.plan.Op.{Op}
@@ -25,7 +25,7 @@ use Rattle.lock_model.specs.declared.plan.ThreadDecl.{ThreadDecl}
 use Rattle.lock_model.specs.declared.event.Entry.{Entry}
 use Rattle.lock_model.specs.declared.event.Event.{Event}
 use Rattle.lock_model.specs.declared.event.Held.{Held}
-use Rattle.run_laws.specs.OnTrack.{IsOnTrack, place_by, place_in}
+use Rattle.run_laws.specs.OnTrack.{IsOnTrack, point_by, point_in}
 use Rattle.lock_state.specs.State.{gained_order}
 use Rattle.lock_laws.proofs.Kit.{sum_below-same, sum_below-change, sum_below-at, sum_below-zero}
 use Rattle.lock_laws.proofs.HeldLists.{fewer_without, next_leads, try_passes}
@@ -69,16 +69,16 @@ unfolding sum_below
 in_all [] = refl
 in_all (d ∷ ds) = sum_by-cons (λ (d : ThreadDecl). length d.ops) d ds ∙ ap (λ n. length d.ops + n) (in_all ds) ∙ sym (sum_below-first (length ds) (λ t. length (operations_at (d ∷ ds) t)))
 
--- 2. The entries that lead a thread to a place
+-- 2. The entries that lead a thread to a point
 
 -- how many locks it holds there
-abbrev held_at : List Op → Place → ℕ
+abbrev held_at : List Op → Point → ℕ
 held_at ops (Before n) = length (held_of ops n)
 held_at ops (Asleep n) = length (held_of ops n)
 held_at ops (Cut hs) = length hs
 
 -- how many entries lead there at most, with those locks
-abbrev most_at : List Op → Place → ℕ
+abbrev most_at : List Op → Point → ℕ
 most_at ops (Before n) = 2 * n
 most_at ops (Asleep n) = 2 * n + 1
 most_at ops (Cut hs) = 2 * length ops
@@ -106,8 +106,8 @@ module _ (plan : Plan) (p : IsProper plan) (t : ℕ) where
       omega (arith, ap length (next_leads plan p t n op e).behind, gains_one (of_locks op) (held_of ops n))
 
   -- the first entry of an operation leads on
-  gives_few : (n : ℕ) (op : Op) (e : Event) (place : Place) (m : ℕ) → Gives (config_of plan).kind (held_of ops n) n op e place → slice_get ops n ≡ Some op → m + held n ≤ 2 * n
-      → suc m + held_at ops place ≤ most_at ops place
+  gives_few : (n : ℕ) (op : Op) (e : Event) (point : Point) (m : ℕ) → Gives (config_of plan).kind (held_of ops n) n op e point → slice_get ops n ≡ Some op → m + held n ≤ 2 * n
+      → suc m + held_at ops point ≤ most_at ops point
   gives_few n _ _ _ m (law.is_reversed l mode class) e h =
       omega (arith, length-reverse (held_of ops n), slice_get_within ops n _ e)
   gives_few n _ _ _ m (law.is_halted l mode sx) e h =
@@ -116,12 +116,12 @@ module _ (plan : Plan) (p : IsProper plan) (t : ℕ) where
       let b = try_passes plan p t n l mode past e in
       omega (arith, b.further, ap length b.leaves)
   gives_few n _ _ _ m (law.sleeps d) e h = omega arith
-  gives_few n op event place m gives e h = omega (arith, next_held n op e)
+  gives_few n op event point m gives e h = omega (arith, next_held n op e)
 
   -- so do all of them
-  leads_few : (es : List Entry) (place : Place) → LeadsTo (config_of plan).kind ops es place → length es + held_at ops place ≤ most_at ops place
+  leads_few : (es : List Entry) (point : Point) → LeadsTo (config_of plan).kind ops es point → length es + held_at ops point ≤ most_at ops point
   leads_few _ _ law.begins = omega arith
-  leads_few _ _ (law.goes_on {es} {n} {o = op} {p = place} e l next gives) = gives_few n op e.event place (length es) gives next (leads_few es (Before n) l)
+  leads_few _ _ (law.goes_on {es} {n} {o = op} {p = point} e l next gives) = gives_few n op e.event point (length es) gives next (leads_few es (Before n) l)
   leads_few es _ (law.skips_endtry {n = n} l next) = omega (arith, next_held n EndTry next, leads_few es (Before n) l)
   leads_few _ _ (law.wakes_up {es} {n} {d} e l next its) = omega (arith, ap length (next_leads plan p t n (Sleep d) next).behind, leads_few es (Asleep n) l)
   leads_few _ _ (law.is_woken_by_a_halt {es} {n} {d} e l next its) = omega (arith, length-reverse (held_of ops n), slice_get_within ops n (Sleep d) next, leads_few es (Asleep n) l)
@@ -166,14 +166,14 @@ module _ (plan : Plan) (r : Run) (p : IsProper plan) (k : IsOnTrack plan r) wher
   abbrev entries : ℕ → ℕ
   entries u = length (entries_of r.state.history u)
 
-  led : (u : ℕ) → entries u + held_at (its_ops u) (place_in plan r u) ≤ most_at (its_ops u) (place_in plan r u)
-  led u = leads_few plan p u (entries_of r.state.history u) (place_in plan r u) (k.follows u)
+  led : (u : ℕ) → entries u + held_at (its_ops u) (point_in plan r u) ≤ most_at (its_ops u) (point_in plan r u)
+  led u = leads_few plan p u (entries_of r.state.history u) (point_in plan r u) (k.follows u)
 
   -- a thread that is in a wait has that operation left
-  within : (u : ℕ) → most_at (its_ops u) (place_in plan r u) ≤ 2 * length (its_ops u)
+  within : (u : ℕ) → most_at (its_ops u) (point_in plan r u) ≤ 2 * length (its_ops u)
   within u = go (was_cut r.state u) (waits_on (r.state.log u)) refl
     where
-      go : (b : Bool) (o : Option ℕ) → waits_on (r.state.log u) ≡ o → most_at (its_ops u) (place_by b (held_now plan r u) (r.next_op u) o) ≤ 2 * length (its_ops u)
+      go : (b : Bool) (o : Option ℕ) → waits_on (r.state.log u) ≡ o → most_at (its_ops u) (point_by b (held_now plan r u) (r.next_op u) o) ≤ 2 * length (its_ops u)
       go true o e = omega arith
       go false None e = omega (arith, k.within u)
       go false (Some d) e = omega (arith, slice_get_within (its_ops u) (r.next_op u) _ (k.waiting u d e))
@@ -205,11 +205,11 @@ module _ (plan : Plan) (r : Run) (p : IsProper plan) (k : IsOnTrack plan r) wher
   cut_fewer : (t : ℕ) → was_cut r.state t ≡ true → r.state.held_locks t ≢ [] → entries t < 2 * length (its_ops t)
   cut_fewer t cut holds = go (held_now plan r t) refl
     where
-      place : Bool → Place
-      place b = place_by b (held_now plan r t) (r.next_op t) (waits_on (r.state.log t))
+      point : Bool → Point
+      point b = point_by b (held_now plan r t) (r.next_op t) (waits_on (r.state.log t))
 
       few : entries t + length (reverse (held_now plan r t)) ≤ 2 * length (its_ops t)
-      few = subst (λ b. entries t + held_at (its_ops t) (place b) ≤ most_at (its_ops t) (place b)) cut (led t)
+      few = subst (λ b. entries t + held_at (its_ops t) (point b) ≤ most_at (its_ops t) (point b)) cut (led t)
 
       go : (hs : List Held) → held_now plan r t ≡ hs → entries t < 2 * length (its_ops t)
       go [] e = absurd (holds (k.listed t ∙ ap gained_order e))

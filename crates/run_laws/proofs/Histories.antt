@@ -4,7 +4,7 @@ use Rattle.std.proofs.Common.{◌≡◌, ℕ, zero, suc, true, false, List, [], 
 use Rattle.std.proofs.lemmas.Option.{same_Some}
 use Rattle.lock_model.specs.Config.{Config}
 use Rattle.lock_model.specs.Law as law
-use Rattle.lock_model.specs.Law.{LeadsTo, Gives, Place, Before, Asleep, Cut, is_asleep, is_named, entries_up_to, is_passed_over, WakingsNameSleepers, HaltsOnlyWhenRunning}
+use Rattle.lock_model.specs.Law.{LeadsTo, Gives, Point, Before, Asleep, Cut, is_asleep, is_named, entries_up_to, is_passed_over, WakingsNameSleepers, HaltsOnlyWhenRunning}
 use Rattle.lock_model.specs.Counts.{any_below, has_bit}
 use Rattle.lock_model.specs.Operations.{held_of}
 use Rattle.lock_model.specs.declared.numbers.LockNo.{LockNo}
@@ -45,7 +45,7 @@ unfolding busy tries
 busy_goes_on = law.goes_on busy law.begins refl (law.finds_busy (lock 0) Excl 3 12 (omega arith) refl refl)
 
 -- and nowhere else
-abbrev number : Place → ℕ
+abbrev number : Point → ℕ
 number (Before n) = n
 number (Asleep n) = n
 number (Cut hs) = 0
@@ -54,7 +54,7 @@ abbrev past_of : Op → ℕ
 past_of (Try l mode past) = past
 past_of other = 0
 
-begins_at : (p : Place) → LeadsTo kind tries [] p → p ≡ Before 0
+begins_at : (p : Point) → LeadsTo kind tries [] p → p ≡ Before 0
 unfolding tries
 begins_at p law.begins = refl
 begins_at p (law.skips_endtry {n = n} w e) =
@@ -62,10 +62,10 @@ begins_at p (law.skips_endtry {n = n} w e) =
     let f : slice_get tries 0 ≡ Some EndTry = subst (λ m. slice_get tries m ≡ Some EndTry) z e in
     absurd cc
 
-given_busy : (held : List Held) (n : ℕ) (o : Op) (p : Place) → Gives kind held n o (Busy (lock 0) 12) p → p ≡ Before (past_of o)
+given_busy : (held : List Held) (n : ℕ) (o : Op) (p : Point) → Gives kind held n o (Busy (lock 0) 12) p → p ≡ Before (past_of o)
 given_busy held n o p (law.finds_busy l mode past seen well_formed is_held refused) = refl
 
-busy_goes_only_on : (p : Place) → LeadsTo kind tries (busy ∷ []) p → p ≡ Before 3
+busy_goes_only_on : (p : Point) → LeadsTo kind tries (busy ∷ []) p → p ≡ Before 3
 unfolding tries busy
 busy_goes_only_on p (law.goes_on {n = n} {o = o} e w i g) =
     let z : n ≡ 0 = ap number (begins_at (Before n) w) in

@@ -13,7 +13,7 @@ use Rattle.lock_model.specs.Queues.{Mark, stands}
 use Rattle.lock_state.specs.State.{State, Queued, gained_order}
 use Rattle.lock_state.specs.Facts.{LawfulTurn, QueuedStands, StandsOnce}
 use Rattle.lock_state.specs.Facts.Waits.{times_marked, at_queue}
-use Rattle.lock_state.specs.Run.{Run, Row, Course, nothing, turn_of, run_behind, run_after, has_ended, was_cut, owes, waits_on, lock_of_wait, is_walking, holds_none, round_of, threads_of, with_turn, after_turn, go_on, is_over, is_stuck, is_idle, course_after, without_unheld, held_now}
+use Rattle.lock_state.specs.Run.{Run, Action, Course, nothing, turn_of, run_behind, run_after, has_ended, was_cut, owes, waits_on, lock_of_wait, is_walking, holds_none, round_of, threads_of, with_turn, after_turn, go_on, is_over, is_stuck, is_idle, course_after, without_unheld, held_now}
 use Rattle.lock_model.specs.declared.plan.Plan.{Plan}
 use Rattle.lock_model.specs.declared.plan.QueueName.{QueueName}
 use Rattle.lock_model.specs.declared.turn.StepKind.{StepKind}
@@ -25,7 +25,7 @@ use Rattle.lock_laws.proofs.Kit.{sum_below-zero, is_queue_same}
 use Rattle.lock_laws.proofs.HeldLists.{held_none}
 use Rattle.run_laws.proofs.LastHeld.{length-gained}
 use Rattle.run_laws.proofs.Turning.{behind_course}
-use Rattle.run_laws.proofs.Table as table
+use Rattle.run_laws.proofs.Actions as actions
 
 -- 1. A turn
 
@@ -79,69 +79,69 @@ ended_unmarked plan r t e =
     go (m ∷ ms) true owed i = absurd cc
     go (m ∷ ms) false owed i = absurd cc
 
--- what a row answers: that the thread has ended; that it is idle, and then it sleeps in a proper plan's run on track; or
--- what it did
-data Answers (plan : Plan) (r : Run) (t : ℕ) (row : Row) : Type 0 where
-  ended : row ≡ nothing Ended → has_ended plan r t ≡ true → Answers plan r t row
-  idles : row ≡ nothing Idle → (IsProper plan → IsOnTrack plan r → IsSleeping plan r t) → Answers plan r t row
-  acts : (kind : StepKind) → row.answer ≡ Did kind → Answers plan r t row
+-- what an action answers: that the thread has ended; that it is idle, and then it sleeps in a proper plan's run on
+-- track; or what it did
+data Answers (plan : Plan) (r : Run) (t : ℕ) (action : Action) : Type 0 where
+  ended : action ≡ nothing Ended → has_ended plan r t ≡ true → Answers plan r t action
+  idles : action ≡ nothing Idle → (IsProper plan → IsOnTrack plan r → IsSleeping plan r t) → Answers plan r t action
+  acts : (kind : StepKind) → action.answer ≡ Did kind → Answers plan r t action
 
 -- a thread that gains a lock, or blocks, does something
-acquiring : (plan : Plan) (r : Run) (t : ℕ) (row : Row) → table.Acquires plan r t row → (kind : StepKind) × (row.answer ≡ Did kind)
-acquiring plan r t _ (table.gains by i a f) = (_, refl)
-acquiring plan r t _ (table.claims by i a f) = (_, refl)
-acquiring plan r t _ (table.enters by i a stands) = (_, refl)
+acquiring : (plan : Plan) (r : Run) (t : ℕ) (action : Action) → actions.Acquires plan r t action → (kind : StepKind) × (action.answer ≡ Did kind)
+acquiring plan r t _ (actions.gains by i a f) = (_, refl)
+acquiring plan r t _ (actions.claims by i a f) = (_, refl)
+acquiring plan r t _ (actions.enters by i a stands) = (_, refl)
 
 module _ (plan : Plan) (r : Run) (t : ℕ) where
-  answered : (row : Row) → table.Fits plan r t row → Answers plan r t row
-  answered _ (table.is_over e) = ended refl e
-  answered _ (table.lends l o h w e f) = acts _ refl
-  answered _ (table.ends_at_lock l w e) = acts _ refl
-  answered _ (table.shifts o l w e f) = acts _ refl
-  answered _ (table.ends_at_thread o w f) = acts _ refl
-  answered _ (table.marks m ms w e) = acts _ refl
-  answered _ (table.gives_up w e f back) = acts _ refl
-  answered _ (table.is_queued e f q) = idles refl (λ p k. record { going = e; queued = q; free = f })
-  answered _ (table.resumes q cause f e) = acts _ refl
-  answered row (table.acquires a) = let z = acquiring plan r t row a in acts z.0 z.1
-  answered _ (table.is_admitted {l} {row = row} b e a) = let z = acquiring plan (admitted plan r t l) t row a in acts z.0 z.1
-  answered _ (table.is_refused k b e) = acts _ refl
-  answered _ (table.finds_busy l mode past i e) = acts _ refl
-  answered _ (table.releases l i back) = acts _ refl
-  answered _ (table.sleeps d i e) = acts _ refl
-  answered _ (table.wakes d by i) = acts _ refl
-  answered _ (table.makes_entry op e i n) = acts _ refl
-  answered _ (table.gives_last_back h hs i e back) = acts _ refl
-  answered _ (table.has_nothing_left e i f) = idles refl (λ p k. absurd (let z = sym e ∙ nothing_left plan r t k i f in cc))
-  answered _ (table.has_no_operation e i) = idles refl (λ p k. absurd (let z = sym e ∙ no_operation_left plan r t p k i in cc))
-  answered _ (table.is_at_endtry i) = idles refl (λ p k. absurd (k.no_endtry t i.next))
+  answered : (action : Action) → actions.Fits plan r t action → Answers plan r t action
+  answered _ (actions.is_over e) = ended refl e
+  answered _ (actions.lends l o h w e f) = acts _ refl
+  answered _ (actions.ends_at_lock l w e) = acts _ refl
+  answered _ (actions.shifts o l w e f) = acts _ refl
+  answered _ (actions.ends_at_thread o w f) = acts _ refl
+  answered _ (actions.marks m ms w e) = acts _ refl
+  answered _ (actions.gives_up w e f back) = acts _ refl
+  answered _ (actions.is_queued e f q) = idles refl (λ p k. record { going = e; queued = q; free = f })
+  answered _ (actions.resumes q cause f e) = acts _ refl
+  answered action (actions.acquires a) = let z = acquiring plan r t action a in acts z.0 z.1
+  answered _ (actions.is_admitted {l} {action = action} b e a) = let z = acquiring plan (admitted plan r t l) t action a in acts z.0 z.1
+  answered _ (actions.is_refused k b e) = acts _ refl
+  answered _ (actions.finds_busy l mode past i e) = acts _ refl
+  answered _ (actions.releases l i back) = acts _ refl
+  answered _ (actions.sleeps d i e) = acts _ refl
+  answered _ (actions.wakes d by i) = acts _ refl
+  answered _ (actions.makes_entry op e i n) = acts _ refl
+  answered _ (actions.gives_last_back h hs i e back) = acts _ refl
+  answered _ (actions.has_nothing_left e i f) = idles refl (λ p k. absurd (let z = sym e ∙ nothing_left plan r t k i f in cc))
+  answered _ (actions.has_no_operation e i) = idles refl (λ p k. absurd (let z = sym e ∙ no_operation_left plan r t p k i in cc))
+  answered _ (actions.is_at_endtry i) = idles refl (λ p k. absurd (k.no_endtry t i.next))
 
   answer : Answers plan r t (turn_of plan r t)
-  answer = answered (turn_of plan r t) (table.fits plan r t)
+  answer = answered (turn_of plan r t) (actions.fits plan r t)
 
-  where_idle : (row : Row) → Answers plan r t row → IsProper plan → IsOnTrack plan r → row.answer ≡ Idle → IsSleeping plan r t
-  where_idle row (ended f e) p k i = absurd (let z = ap (λ (x : Row). x.answer) (sym f) ∙ i in cc)
-  where_idle row (idles f sleeps) p k i = sleeps p k
-  where_idle row (acts kind e) p k i = absurd (let z = sym e ∙ i in cc)
+  where_idle : (action : Action) → Answers plan r t action → IsProper plan → IsOnTrack plan r → action.answer ≡ Idle → IsSleeping plan r t
+  where_idle action (ended f e) p k i = absurd (let z = ap (λ (x : Action). x.answer) (sym f) ∙ i in cc)
+  where_idle action (idles f sleeps) p k i = sleeps p k
+  where_idle action (acts kind e) p k i = absurd (let z = sym e ∙ i in cc)
 
   sleeping : IsSleeping plan r t → (turn_of plan r t).answer ≡ Idle
   unfolding turn_of
   sleeping z = rw (z.going, z.free.no_walk, z.free.unmarked, z.free.released, z.queued) refl
 
-  over : (row : Row) → Answers plan r t row → row.answer ≡ Ended → has_ended plan r t ≡ true
-  over row (ended f e) i = e
-  over row (idles f sleeps) i = absurd (let z = ap (λ (x : Row). x.answer) (sym f) ∙ i in cc)
-  over row (acts kind e) i = absurd (let z = sym e ∙ i in cc)
+  over : (action : Action) → Answers plan r t action → action.answer ≡ Ended → has_ended plan r t ≡ true
+  over action (ended f e) i = e
+  over action (idles f sleeps) i = absurd (let z = ap (λ (x : Action). x.answer) (sym f) ∙ i in cc)
+  over action (acts kind e) i = absurd (let z = sym e ∙ i in cc)
 
   over_answer : has_ended plan r t ≡ true → (turn_of plan r t).answer ≡ Ended
   unfolding turn_of
   over_answer e = rw e refl
 
-  same_run : (row : Row) → Answers plan r t row → (row.answer ≡ Idle) ⊎ (row.answer ≡ Ended) → run_after plan r t row ≡ r
-  same_run row (ended f e) i = ap (run_after plan r t) f
-  same_run row (idles f sleeps) i = ap (run_after plan r t) f
-  same_run row (acts kind e) (inl i) = absurd (let z = sym e ∙ i in cc)
-  same_run row (acts kind e) (inr i) = absurd (let z = sym e ∙ i in cc)
+  same_run : (action : Action) → Answers plan r t action → (action.answer ≡ Idle) ⊎ (action.answer ≡ Ended) → run_after plan r t action ≡ r
+  same_run action (ended f e) i = ap (run_after plan r t) f
+  same_run action (idles f sleeps) i = ap (run_after plan r t) f
+  same_run action (acts kind e) (inl i) = absurd (let z = sym e ∙ i in cc)
+  same_run action (acts kind e) (inr i) = absurd (let z = sym e ∙ i in cc)
 
 pub idle_exactly : (plan : Plan) (r : Run) (t : ℕ) → IsProper plan → IsOnTrack plan r → (turn_of plan r t).answer ≡ Idle ↔ IsSleeping plan r t
 idle_exactly plan r t p k = (where_idle plan r t (turn_of plan r t) (answer plan r t) p k, sleeping plan r t)

@@ -14,7 +14,7 @@ use Rattle.lock_state.specs.Steps.Orders.{after_admit, after_refuse}
 use Rattle.lock_state.specs.Steps.SleepQueues.{after_wake}
 use Rattle.lock_state.specs.Steps.Lending.{after_claim}
 use Rattle.lock_state.specs.Facts.Sleeps.{WokenSlept}
-use Rattle.lock_state.specs.Run.{Run, Row, waits_on, owed_release}
+use Rattle.lock_state.specs.Run.{Run, Action, waits_on, owed_release}
 use Rattle.lock_model.specs.declared.plan.Mode.{Mode}
 use Rattle.lock_model.specs.declared.plan.Op.{Op}
 use Rattle.lock_model.specs.declared.plan.Op.TheVariants.{Take, Try, Release, Sleep}
@@ -32,35 +32,36 @@ use Rattle.run_laws.proofs.OnTrack.{waits_back, awake, wants_none, wants_it, is_
 use Rattle.run_laws.proofs.TurnsOfOrders.{admitted_on_track, found_admitted}
 use Rattle.run_laws.proofs.TurnsOfSleeps.{gained_last}
 use Rattle.sleep_laws.proofs.SleepFacts.Entries.{slept_back}
-use Rattle.run_laws.proofs.Table as table
+use Rattle.run_laws.proofs.Actions as actions
 
 -- a thread that takes nothing takes no lock;
 none_taken : {P : Type 0} (r : Run) (t l : ℕ) → TakesNothing r.state t → r.state.taking t ≡ Some l → P
 none_taken r t l none f = absurd (none-some l (sym none ∙ f))
 
 -- it gives one back, or first notes that
-gives_quietly : (plan : Plan) (r : Run) (t l : ℕ) (mode : Mode) {kind : StepKind} {step : Step} (s : State) → table.GivingBack plan r t l mode kind step → TakesNothing s t → KeepToOrder (config_of plan) s (step ∷ [])
-gives_quietly plan r t l mode s (table.drops e) none = (none, tt)
-gives_quietly plan r t l mode s (table.opens e f) none = (none, tt)
-gives_quietly plan r t l mode s (table.opens_sleep_queue e f) none = (none, tt)
+gives_quietly : (plan : Plan) (r : Run) (t l : ℕ) (mode : Mode) {kind : StepKind} {step : Step} (s : State) → actions.GivingBack plan r t l mode kind step → TakesNothing s t → KeepToOrder (config_of plan) s (step ∷ [])
+gives_quietly plan r t l mode s (actions.drops e) none = (none, tt)
+gives_quietly plan r t l mode s (actions.opens e f) none = (none, tt)
+gives_quietly plan r t l mode s (actions.opens_sleep_queue e f) none = (none, tt)
 
-gives_back : (plan : Plan) (r : Run) (t l : ℕ) (mode : Mode) (k : LockNo) (noted : Mode) {kind : StepKind} {step : Step} → table.GivingBack plan r t l mode kind step → TakesNothing r.state t
+gives_back : (plan : Plan) (r : Run) (t l : ℕ) (mode : Mode) (k : LockNo) (noted : Mode) {kind : StepKind} {step : Step} → actions.GivingBack plan r t l mode kind step → TakesNothing r.state t
     → KeepToOrder (config_of plan) r.state (Stamps t (event.Unlocked k noted) ∷ step ∷ [])
 unfolding after_stamp
 gives_back plan r t l mode k noted back none =
     (λ j. none_taken r t j none, gives_quietly plan r t l mode _ back (put_same r.state.taking t (r.state.taking t) ∙ none))
 
 -- an operation that only makes an entry is no take and no wait, nor is a wake
-is_quiet : (r : Run) (t : ℕ) (op : Op) (e : Event) → table.Notes r t op e → (is_take op ≡ false) × (is_wait op ≡ false)
-is_quiet r t _ _ (table.sets l key value) = (refl, refl)
-is_quiet r t _ _ (table.adds l key amount) = (refl, refl)
-is_quiet r t _ _ (table.gets l key) = (refl, refl)
-is_quiet r t _ _ (table.changes_base prio) = (refl, refl)
-is_quiet r t _ _ table.shows = (refl, refl)
+is_quiet : (r : Run) (t : ℕ) (op : Op) (e : Event) → actions.Notes r t op e
+    → (is_take op ≡ false) × (is_wait op ≡ false)
+is_quiet r t _ _ (actions.sets l key value) = (refl, refl)
+is_quiet r t _ _ (actions.adds l key amount) = (refl, refl)
+is_quiet r t _ _ (actions.gets l key) = (refl, refl)
+is_quiet r t _ _ (actions.changes_base prio) = (refl, refl)
+is_quiet r t _ _ actions.shows = (refl, refl)
 
-wake_is_quiet : (d : ChanNo) {op : Op} {all : Bool} {noted : ℕ → Event} → table.Waking d op all noted → (is_take op ≡ false) × (is_wait op ≡ false)
-wake_is_quiet d table.of_one = (refl, refl)
-wake_is_quiet d table.of_all = (refl, refl)
+wake_is_quiet : (d : ChanNo) {op : Op} {all : Bool} {noted : ℕ → Event} → actions.Waking d op all noted → (is_take op ≡ false) × (is_wait op ≡ false)
+wake_is_quiet d actions.of_one = (refl, refl)
+wake_is_quiet d actions.of_all = (refl, refl)
 
 module _ (plan : Plan) (r : Run) (t : ℕ) (p : IsProper plan) (k : IsOnTrack plan r) where
   abbrev c : Config
@@ -93,26 +94,26 @@ module _ (plan : Plan) (r : Run) (t : ℕ) (p : IsProper plan) (k : IsOnTrack pl
 
   -- 2. Gains, and their entries: they are of what the thread takes, if anything
 
-  in_order : {l : LockNo} {mode : Mode} {op : Op} {by_try : Bool} {e : Event} → table.Gaining plan r t l mode op by_try e → IsAtOperation plan r t (Some op) → GainsInOrder s t l.0 by_try
-  in_order {l} (table.by_taking by) i = record {
+  in_order : {l : LockNo} {mode : Mode} {op : Op} {by_try : Bool} {e : Event} → actions.Gaining plan r t l mode op by_try e → IsAtOperation plan r t (Some op) → GainsInOrder s t l.0 by_try
+  in_order {l} (actions.by_taking by) i = record {
     wants = λ x. wants_it plan r t k by i;
     takes = λ j f. same_Some j l.0 (sym f ∙ k.taking t ∙ wants_it plan r t k by i);
     unhalted = λ j f. none-some _ (sym (k.unnoted t) ∙ f);
   }
-  in_order (table.by_trying l mode past) i = record {
+  in_order (actions.by_trying l mode past) i = record {
     wants = λ x. absurd cc;
     takes = λ j f. none_taken r t j (at_operation (Try l mode past) i refl refl) f;
     unhalted = λ j f. none-some _ (sym (k.unnoted t) ∙ f);
   }
 
-  ends_take : {l : LockNo} {mode : Mode} {op : Op} {e : Event} → table.Taking plan r t l mode op e → IsAtOperation plan r t (Some op) → EndsTake c (is_taking_back (s.log t)) e l.0
-  ends_take (table.anew l mode j e) i = (refl, waits_back (s.log t) ∙ ap is_some (awake plan r t k (Take l mode) i.next refl))
-  ends_take (table.back d e w) i = (refl, waits_back (s.log t) ∙ ap is_some w)
+  ends_take : {l : LockNo} {mode : Mode} {op : Op} {e : Event} → actions.Taking plan r t l mode op e → IsAtOperation plan r t (Some op) → EndsTake c (is_taking_back (s.log t)) e l.0
+  ends_take (actions.anew l mode j e) i = (refl, waits_back (s.log t) ∙ ap is_some (awake plan r t k (Take l mode) i.next refl))
+  ends_take (actions.back d e w) i = (refl, waits_back (s.log t) ∙ ap is_some w)
 
-  notes_gain : {l : LockNo} {mode : Mode} {op : Op} {by_try : Bool} {e : Event} → table.Gaining plan r t l mode op by_try e → IsAtOperation plan r t (Some op)
+  notes_gain : {l : LockNo} {mode : Mode} {op : Op} {by_try : Bool} {e : Event} → actions.Gaining plan r t l mode op by_try e → IsAtOperation plan r t (Some op)
       → (j : ℕ) → s.taking t ≡ Some j → EndsTake c (is_taking_back (s.log t)) e j
-  notes_gain {l} {e = e} (table.by_taking by) i j f = subst (EndsTake c (is_taking_back (s.log t)) e) (same_Some l.0 j (sym (wants_it plan r t k by i) ∙ sym (k.taking t) ∙ f)) (ends_take by i)
-  notes_gain (table.by_trying l mode past) i j f = none_taken r t j (at_operation (Try l mode past) i refl refl) f
+  notes_gain {l} {e = e} (actions.by_taking by) i j f = subst (EndsTake c (is_taking_back (s.log t)) e) (same_Some l.0 j (sym (wants_it plan r t k by i) ∙ sym (k.taking t) ∙ f)) (ends_take by i)
+  notes_gain (actions.by_trying l mode past) i j f = none_taken r t j (at_operation (Try l mode past) i refl refl) f
 
   -- 3. A thread that runs again
 
@@ -120,42 +121,42 @@ module _ (plan : Plan) (r : Run) (t : ℕ) (p : IsProper plan) (k : IsOnTrack pl
   back_from (Lock l) h = tt
   back_from (Chan d) h = h d refl
 
--- 4. Row by row of the table
+-- 4. Action by action
 
-acquired : (plan : Plan) (r : Run) (t : ℕ) (row : Row) → IsProper plan → IsOnTrack plan r → table.Acquires plan r t row → KeepToOrder (config_of plan) r.state row.steps
+acquired : (plan : Plan) (r : Run) (t : ℕ) (action : Action) → IsProper plan → IsOnTrack plan r → actions.Acquires plan r t action → KeepToOrder (config_of plan) r.state action.steps
 unfolding after_gain after_claim after_ready
-acquired plan r t _ p k (table.gains by i a f) = (in_order plan r t p k by i, (notes_gain plan r t p k by i, tt))
-acquired plan r t _ p k (table.claims by i a f) = (in_order plan r t p k by i, (notes_gain plan r t p k by i, tt))
-acquired plan r t _ p k (table.enters by i a (table.on_turnstile x)) = (tt, (wants_it plan r t k by i, tt))
-acquired plan r t _ p k (table.enters by i a (table.on_sleep_queue x)) = (tt, (wants_it plan r t k by i, tt))
+acquired plan r t _ p k (actions.gains by i a f) = (in_order plan r t p k by i, (notes_gain plan r t p k by i, tt))
+acquired plan r t _ p k (actions.claims by i a f) = (in_order plan r t p k by i, (notes_gain plan r t p k by i, tt))
+acquired plan r t _ p k (actions.enters by i a (actions.on_turnstile x)) = (tt, (wants_it plan r t k by i, tt))
+acquired plan r t _ p k (actions.enters by i a (actions.on_sleep_queue x)) = (tt, (wants_it plan r t k by i, tt))
 
-pub row_keeps_order : (plan : Plan) (r : Run) (t : ℕ) (row : Row) → IsProper plan → IsOnTrack plan r → t < length plan.threads → table.Fits plan r t row → KeepToOrder (config_of plan) r.state row.steps
+pub action_keeps_order : (plan : Plan) (r : Run) (t : ℕ) (action : Action) → IsProper plan → IsOnTrack plan r → t < length plan.threads → actions.Fits plan r t action → KeepToOrder (config_of plan) r.state action.steps
 unfolding after_look after_stamp after_ready after_wake after_admit after_refuse WokenSlept
-row_keeps_order plan r t _ p k lt (table.is_over e) = tt
-row_keeps_order plan r t _ p k lt (table.lends l o h w e f) = (tt, tt)
-row_keeps_order plan r t _ p k lt (table.ends_at_lock l w e) = (tt, tt)
-row_keeps_order plan r t _ p k lt (table.shifts o l w e f) = (tt, tt)
-row_keeps_order plan r t _ p k lt (table.ends_at_thread o w f) = (tt, tt)
-row_keeps_order plan r t _ p k lt (table.marks m ms w e) = (tt, tt)
-row_keeps_order plan r t _ p k lt (table.gives_up {l} w u e back) = gives_quietly plan r t l _ r.state back (releasing plan r t p k l e)
-row_keeps_order plan r t _ p k lt (table.is_queued e f i) = tt
-row_keeps_order plan r t _ p k lt (table.resumes q cause f e) =
+action_keeps_order plan r t _ p k lt (actions.is_over e) = tt
+action_keeps_order plan r t _ p k lt (actions.lends l o h w e f) = (tt, tt)
+action_keeps_order plan r t _ p k lt (actions.ends_at_lock l w e) = (tt, tt)
+action_keeps_order plan r t _ p k lt (actions.shifts o l w e f) = (tt, tt)
+action_keeps_order plan r t _ p k lt (actions.ends_at_thread o w f) = (tt, tt)
+action_keeps_order plan r t _ p k lt (actions.marks m ms w e) = (tt, tt)
+action_keeps_order plan r t _ p k lt (actions.gives_up {l} w u e back) = gives_quietly plan r t l _ r.state back (releasing plan r t p k l e)
+action_keeps_order plan r t _ p k lt (actions.is_queued e f i) = tt
+action_keeps_order plan r t _ p k lt (actions.resumes q cause f e) =
     (back_from plan r t p k q (λ d i. slept_back d.0 (r.state.log t) (k.sleepers.woken_slept t d.0 cause (e ∙ ap (λ (x : QueueName). Woken x cause) i))), tt)
-row_keeps_order plan r t row p k lt (table.acquires a) = acquired plan r t row p k a
-row_keeps_order plan r t _ p k lt (table.is_admitted {l} {mode} {row} b e a) =
-    (tt, acquired plan (admitted plan r t l) t row p (admitted_on_track plan r t l mode p k lt b (found_admitted plan r t l mode p k lt b e)) a)
-row_keeps_order plan r t _ p k lt (table.is_refused j b e) = (tt, (λ j. none_taken r t j (quiet plan r t p k b.wants), tt))
-row_keeps_order plan r t _ p k lt (table.finds_busy l mode past i e) =
+action_keeps_order plan r t action p k lt (actions.acquires a) = acquired plan r t action p k a
+action_keeps_order plan r t _ p k lt (actions.is_admitted {l} {mode} {action} b e a) =
+    (tt, acquired plan (admitted plan r t l) t action p (admitted_on_track plan r t l mode p k lt b (found_admitted plan r t l mode p k lt b e)) a)
+action_keeps_order plan r t _ p k lt (actions.is_refused j b e) = (tt, (λ j. none_taken r t j (quiet plan r t p k b.wants), tt))
+action_keeps_order plan r t _ p k lt (actions.finds_busy l mode past i e) =
     let none = at_operation plan r t p k (Try l mode past) i refl refl in
     (none_taken r t l.0 none, (λ j. none_taken r t j none, tt))
-row_keeps_order plan r t _ p k lt (table.releases l i back) = gives_back plan r t l.0 _ l _ back (at_operation plan r t p k (Release l) i refl refl)
-row_keeps_order plan r t _ p k lt (table.sleeps d i e) =
+action_keeps_order plan r t _ p k lt (actions.releases l i back) = gives_back plan r t l.0 _ l _ back (at_operation plan r t p k (Release l) i refl refl)
+action_keeps_order plan r t _ p k lt (actions.sleeps d i e) =
     let none = quiet plan r t p k (wants_none plan r t k e (Sleep d) i.next refl) in
     let still = put_same r.state.taking t (r.state.taking t) ∙ none in
     (tt, (λ j. none_taken r t j none, (record { takes = still; last = record { others = _; last = gained_last plan r t p k lt d i e } }, tt)))
-row_keeps_order plan r t _ p k lt (table.wakes {op} d by i) = let q = wake_is_quiet d by in (tt, (λ j. none_taken r t j (at_operation plan r t p k op i q.0 q.1), tt))
-row_keeps_order plan r t _ p k lt (table.makes_entry op e i n) = let q = is_quiet r t op e n in (λ j. none_taken r t j (at_operation plan r t p k op i q.0 q.1), tt)
-row_keeps_order plan r t _ p k lt (table.gives_last_back h hs i e back) = gives_back plan r t h.lock _ (record { 0 = h.lock }) _ back (quiet plan r t p k (k.cut_wants_nothing t i.cut))
-row_keeps_order plan r t _ p k lt (table.has_nothing_left e i f) = tt
-row_keeps_order plan r t _ p k lt (table.has_no_operation e i) = tt
-row_keeps_order plan r t _ p k lt (table.is_at_endtry i) = tt
+action_keeps_order plan r t _ p k lt (actions.wakes {op} d by i) = let q = wake_is_quiet d by in (tt, (λ j. none_taken r t j (at_operation plan r t p k op i q.0 q.1), tt))
+action_keeps_order plan r t _ p k lt (actions.makes_entry op e i n) = let q = is_quiet r t op e n in (λ j. none_taken r t j (at_operation plan r t p k op i q.0 q.1), tt)
+action_keeps_order plan r t _ p k lt (actions.gives_last_back h hs i e back) = gives_back plan r t h.lock _ (record { 0 = h.lock }) _ back (quiet plan r t p k (k.cut_wants_nothing t i.cut))
+action_keeps_order plan r t _ p k lt (actions.has_nothing_left e i f) = tt
+action_keeps_order plan r t _ p k lt (actions.has_no_operation e i) = tt
+action_keeps_order plan r t _ p k lt (actions.is_at_endtry i) = tt

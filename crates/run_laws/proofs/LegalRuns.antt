@@ -15,7 +15,7 @@ use Rattle.lock_model.specs.declared.plan.ThreadDecl.{ThreadDecl}
 use Rattle.lock_model.specs.declared.event.Held.{Held}
 use Rattle.lock_state.specs.Facts.{OnlyThreadsHold, OnlyLocksAreHeld}
 use Rattle.lock_state.specs.Run.{Run, Course, was_cut, waits_on, has_ended, owes, holds_none, all_ended, after_turns, course_after, is_stuck, whole_ending, ending_of, is_cut_short, HasLegalHistory, scheduled_run, held_now}
-use Rattle.run_laws.specs.OnTrack.{IsOnTrack, place_by, place_in}
+use Rattle.run_laws.specs.OnTrack.{IsOnTrack, point_by, point_in}
 use Rattle.sleep_laws.specs.Sleepers.{nobody}
 use Rattle.sleep_laws.proofs.LegalSoFar.{legal_so_far}
 use Rattle.lock_laws.proofs.Shown.{true-any_below}
@@ -77,10 +77,10 @@ module _ (plan : Plan) (r : Run) (k : IsOnTrack plan r) (ended : all_ended plan 
           let first : hold_in (h ∷ hs) h.l.0 ≡ Holds h.mode = rw (eq-eqb h.l.0 h.l.0 refl) refl in
           absurd (let z : NotHeld ≡ Holds h.mode = sym (unheld t h.l.0) ∙ k.holds t h.l.0 ∙ ap (λ (xs : List Held). hold_in xs h.l.0) e ∙ first in cc)
 
-  at_end : (t : ℕ) → IsAtEnd (operations_of plan t) (place_in plan r t)
+  at_end : (t : ℕ) → IsAtEnd (operations_of plan t) (point_in plan r t)
   at_end t = go (was_cut r.state t) refl
     where
-      go : (b : Bool) → was_cut r.state t ≡ b → IsAtEnd (operations_of plan t) (place_by b (held_now plan r t) (r.next_op t) (waits_on (r.state.log t)))
+      go : (b : Bool) → was_cut r.state t ≡ b → IsAtEnd (operations_of plan t) (point_by b (held_now plan r t) (r.next_op t) (waits_on (r.state.log t)))
       go true e = ap (λ (hs : List Held). reverse hs) (nothing_now t)
       go false e = let made = all_made t e in rw (done_awake plan r t k made) (omega (arith, k.within t, made))
 
@@ -106,7 +106,7 @@ unfolding EntriesFollowOperations
 legal_on_track plan r cut_short k whole = record {
   so_far = legal_so_far nobody (config_of plan) r.state false k.lawful.lawful k.sleepers k.no_halts;
   entries_follow_operations = λ t. record {
-    place = place_in plan r t;
+    point = point_in plan r t;
     leads = k.follows t;
     whole = λ e. at_end plan r k (whole e) t;
   };

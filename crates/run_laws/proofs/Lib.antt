@@ -2,7 +2,7 @@ pub mod Histories
 pub mod Rows
 mod OrderHistories
 pub mod LastHeld
-pub mod Table
+pub mod Actions
 pub mod Follows
 pub mod Entries
 pub mod OnTrack

@@ -10,13 +10,13 @@ use Rattle.lock_model.specs.Holds.{Hold, NotHeld}
 use Rattle.lock_model.specs.Events.{OfSleep, NoSleep, FallsAsleep, WakesUp, IsHalted, IsHaltedAtLock, WakesOne, WakesAll, of_sleep, fell_asleep, is_falling}
 use Rattle.lock_model.specs.History.{Sections, open_in, sections_in, entries_of}
 use Rattle.lock_model.specs.Law as law
-use Rattle.lock_model.specs.Law.{LeadsTo, Gives, Place, Before, Asleep, Cut, is_halt, HaltsOnlyWhenRunning}
+use Rattle.lock_model.specs.Law.{LeadsTo, Gives, Point, Before, Asleep, Cut, is_halt, HaltsOnlyWhenRunning}
 use Rattle.lock_model.specs.Takes.{is_reversal, has_reversal}
 use Rattle.lock_state.specs.State.{State, Wait, Running, Queued, Wake, Note, HeldLock, put, put_at, gained_order}
 use Rattle.lock_state.specs.Steps.{Step, MayAll, KeepToOrder, after_all, is_with}
 use Rattle.lock_state.specs.Steps.LockWords.{IsActing, is_woken, is_taking_back, begun_after, begun_with, is_of_section, unstamped_after, taking_after, changes_sections, after_stamp, entry_of}
 use Rattle.lock_state.specs.Facts.{Lawful, NothingIsOut, QueuedStands, StandingIsQueued, LogsAreParts}
-use Rattle.lock_state.specs.Run.{Run, Row, was_cut, waits_on, run_after, held_now, without_unheld}
+use Rattle.lock_state.specs.Run.{Run, Action, was_cut, waits_on, run_after, held_now, without_unheld}
 use Rattle.lock_model.specs.declared.plan.Op.{Op}
 use Rattle.lock_model.specs.declared.plan.Op.TheVariants.{Take, EndTry, Sleep}
 use Rattle.lock_model.specs.declared.plan.OfLocks.{OfLocks}
@@ -32,11 +32,11 @@ use Rattle.lock_model.specs.declared.event.Event.{Event}
 use Rattle.lock_model.specs.declared.event.Event.TheVariants as event
 use Rattle.lock_model.specs.declared.event.Entry.{Entry}
 use Rattle.lock_model.specs.declared.event.Held.{Held}
-use Rattle.run_laws.specs.OnTrack.{IsOnTrack, IsAtOperation, TakesLock, lock_of_take, place_by, place_in}
+use Rattle.run_laws.specs.OnTrack.{IsOnTrack, IsAtOperation, TakesLock, lock_of_take, point_by, point_in}
 use Rattle.sleep_laws.specs.Sleepers.{SleepersFit, AsksOfSleepersAll, AsleepAreOnTheirWay, UnnotedIsAtWork, by_turn, nobody}
 use Rattle.lock_laws.proofs.Kit.{put_same, put_other, each_place}
 use Rattle.run_laws.proofs.Shares.{SameShare, AllBy, all_leave}
-use Rattle.run_laws.proofs.Table as table
+use Rattle.run_laws.proofs.Actions as actions
 use Rattle.run_laws.proofs.OtherThreads.{other_next as next_stays}
 use Rattle.lock_laws.proofs.Steps.{all_keep}
 use Rattle.order_laws.proofs.OrderFacts.Steps.{all_keep as orders_keep}
@@ -161,21 +161,21 @@ WantsBack plan s t = (d : ℕ) → waits_on (s.log t) ≡ Some d → s.wait t �
 
 -- the entries of a thread lead it to where it is
 abbrev pub IsLed : Plan → Run → ℕ → Type 0
-IsLed plan r t = LeadsTo (config_of plan).kind (operations_of plan t) (r.state.log t) (place_in plan r t)
+IsLed plan r t = LeadsTo (config_of plan).kind (operations_of plan t) (r.state.log t) (point_in plan r t)
 
--- what a turn of t by the row leaves of t, and of the state
-pub record KeepsTrack (plan : Plan) (r : Run) (t : ℕ) (row : Row) : Type 0 where
-  pub asks : AsksOfSleepersAll (by_turn t) (config_of plan) r.state row.steps
-  pub out : NoneOut (run_after plan r t row).state
-  pub stands : QueuedStands (run_after plan r t row).state.wait (run_after plan r t row).state.blocked_on
-  pub noted : (run_after plan r t row).state.unstamped t ≡ None
-  pub no_halts : HaltsOnlyWhenRunning false (run_after plan r t row).state.history
-  pub there : IsThere plan (run_after plan r t row) t
-  pub back : WantsBack plan (run_after plan r t row).state t
+-- what a turn of t by the action leaves of t, and of the state
+pub record KeepsTrack (plan : Plan) (r : Run) (t : ℕ) (action : Action) : Type 0 where
+  pub asks : AsksOfSleepersAll (by_turn t) (config_of plan) r.state action.steps
+  pub out : NoneOut (run_after plan r t action).state
+  pub stands : QueuedStands (run_after plan r t action).state.wait (run_after plan r t action).state.blocked_on
+  pub noted : (run_after plan r t action).state.unstamped t ≡ None
+  pub no_halts : HaltsOnlyWhenRunning false (run_after plan r t action).state.history
+  pub there : IsThere plan (run_after plan r t action) t
+  pub back : WantsBack plan (run_after plan r t action).state t
 
--- its place, by its columns
-abbrev place_at : Plan → ℕ → Share → Place
-place_at plan t x = place_by x.cut (holding plan t x) x.next x.waits
+-- its point, by its columns
+abbrev point_at : Plan → ℕ → Share → Point
+point_at plan t x = point_by x.cut (holding plan t x) x.next x.waits
 
 -- no wake is left to note between two turns
 pub none_unnoted : (plan : Plan) (r : Run) (t : ℕ) → IsOnTrack plan r → r.state.unstamped t ≡ None
@@ -189,19 +189,19 @@ none_unnoted plan r t k = go (r.state.unstamped t) refl
 -- each thread's entries lead it to where it is
 pub is_led : (plan : Plan) (r : Run) (t : ℕ) → IsOnTrack plan r → IsLed plan r t
 unfolding LogsAreParts
-is_led plan r t k = subst (λ (es : List Entry). LeadsTo (config_of plan).kind (operations_of plan t) es (place_in plan r t)) (sym (k.lawful.lawful.books.logs_are_parts t)) (k.follows t)
+is_led plan r t k = subst (λ (es : List Entry). LeadsTo (config_of plan).kind (operations_of plan t) es (point_in plan r t)) (sym (k.lawful.lawful.books.logs_are_parts t)) (k.follows t)
 
-module _ (plan : Plan) (r : Run) (t : ℕ) (row : Row) (k : IsOnTrack plan r) (may : MayAll (config_of plan) r.state row.steps) (orders : KeepToOrder (config_of plan) r.state row.steps) (own : AllBy t row.steps)
-    (w : KeepsTrack plan r t row) (led : IsLed plan (run_after plan r t row) t) where
+module _ (plan : Plan) (r : Run) (t : ℕ) (action : Action) (k : IsOnTrack plan r) (may : MayAll (config_of plan) r.state action.steps) (orders : KeepToOrder (config_of plan) r.state action.steps) (own : AllBy t action.steps)
+    (w : KeepsTrack plan r t action) (led : IsLed plan (run_after plan r t action) t) where
   abbrev n : Run
-  n = run_after plan r t row
+  n = run_after plan r t action
 
   -- each other thread is where it was
   other_next : (u : ℕ) → (t ≡ u → ⊥) → n.next_op u ≡ r.next_op u
-  other_next u ne = next_stays plan r t u ne row.next
+  other_next u ne = next_stays plan r t u ne action.next
 
   share : (u : ℕ) → (t ≡ u → ⊥) → SameShare (config_of plan) u r.state n.state
-  share u ne = all_leave (config_of plan) u t r.state row.steps ne own
+  share u ne = all_leave (config_of plan) u t r.state action.steps ne own
 
   same_share : (u : ℕ) → (t ≡ u → ⊥) → share_in plan r.state u (r.next_op u) ≡ share_in plan n.state u (n.next_op u)
   same_share u ne =
@@ -224,21 +224,21 @@ module _ (plan : Plan) (r : Run) (t : ℕ) (row : Row) (k : IsOnTrack plan r) (m
       (λ v ne d e runs. let x = share v ne in x.wanted ∙ k.back_wants v d (sym (ap waits_on x.log) ∙ e) (x.running runs)) u
 
   lawful : Lawful (config_of plan) n.state
-  lawful = all_keep (config_of plan) r.state row.steps may k.lawful.lawful
+  lawful = all_keep (config_of plan) r.state action.steps may k.lawful.lawful
 
-  follows : (u : ℕ) → LeadsTo (config_of plan).kind (operations_of plan u) (entries_of n.state.history u) (place_in plan n u)
+  follows : (u : ℕ) → LeadsTo (config_of plan).kind (operations_of plan u) (entries_of n.state.history u) (point_in plan n u)
   unfolding LogsAreParts
-  follows u = subst (λ (es : List Entry). LeadsTo (config_of plan).kind (operations_of plan u) es (place_in plan n u)) (lawful.books.logs_are_parts u)
+  follows u = subst (λ (es : List Entry). LeadsTo (config_of plan).kind (operations_of plan u) es (point_in plan n u)) (lawful.books.logs_are_parts u)
       (each_place t (IsLed plan n) led (λ v ne.
       let log = sym (share v ne).log in
       let same = same_share v ne in
-      subst (λ (es : List Entry). LeadsTo (config_of plan).kind (operations_of plan v) es (place_in plan n v)) log
-      (subst (λ x. LeadsTo (config_of plan).kind (operations_of plan v) (r.state.log v) (place_at plan v x)) same (is_led plan r v k))) u)
+      subst (λ (es : List Entry). LeadsTo (config_of plan).kind (operations_of plan v) es (point_in plan n v)) log
+      (subst (λ x. LeadsTo (config_of plan).kind (operations_of plan v) (r.state.log v) (point_at plan v x)) same (is_led plan r v k))) u)
 
   sleepers : SleepersFit nobody (config_of plan) n.state
   unfolding QueuedStands AsleepAreOnTheirWay
   sleepers =
-      let fit = turn_keeps (config_of plan) r.state t row.steps may w.asks k.lawful.lawful k.sleepers in
+      let fit = turn_keeps (config_of plan) r.state t action.steps may w.asks k.lawful.lawful k.sleepers in
       turn_ends (config_of plan) n.state t (λ d a none. w.stands t (fit.asleep_are_on_their_way t d a none).0 none) w.noted fit
 
   -- so the run stays on track
@@ -262,9 +262,9 @@ module _ (plan : Plan) (r : Run) (t : ℕ) (row : Row) (k : IsOnTrack plan r) (m
     back_wants = back;
     taking = λ u. (there u).taking;
     unnoted = λ u. (there u).unnoted;
-    ordered = orders_keep (config_of plan) r.state row.steps may orders k.lawful.lawful k.ordered;
-    taken = takes_keep (config_of plan) r.state row.steps may orders k.lawful.lawful k.taken;
-    walks = walks_keep (config_of plan) r.state row.steps may k.walks;
+    ordered = orders_keep (config_of plan) r.state action.steps may orders k.lawful.lawful k.ordered;
+    taken = takes_keep (config_of plan) r.state action.steps may orders k.lawful.lawful k.taken;
+    walks = walks_keep (config_of plan) r.state action.steps may k.walks;
   }
 
 -- 4. The end of an operation
@@ -393,17 +393,17 @@ abbrev pub is_wait : Op → Bool
 is_wait op = sleeps (of_locks op)
 
 -- a thread that was cut made an entry that cut it, or one that gave a lock back
-abbrev is_cut : Place → Bool
+abbrev is_cut : Point → Bool
 is_cut (Before n) = false
 is_cut (Asleep n) = false
 is_cut (Cut hs) = true
 
-cut_by : (kind : ℕ → Kind) (held : List Held) (n : ℕ) (op : Op) (e : Event) (p : Place) → Gives kind held n op e p → is_cut p ≡ true → fell_asleep (of_sleep e) ≡ None
+cut_by : (kind : ℕ → Kind) (held : List Held) (n : ℕ) (op : Op) (e : Event) (p : Point) → Gives kind held n op e p → is_cut p ≡ true → fell_asleep (of_sleep e) ≡ None
 cut_by kind held n _ _ _ (law.is_reversed l mode class) f = refl
 cut_by kind held n _ _ _ (law.is_halted l mode x) f = refl
 cut_by kind held n op e p g f = absurd cc
 
-cut_awake : (kind : ℕ → Kind) (ops : List Op) (es : List Entry) (p : Place) → LeadsTo kind ops es p → is_cut p ≡ true → waits_on es ≡ None
+cut_awake : (kind : ℕ → Kind) (ops : List Op) (es : List Entry) (p : Point) → LeadsTo kind ops es p → is_cut p ≡ true → waits_on es ≡ None
 cut_awake kind ops _ _ law.begins f = absurd cc
 cut_awake kind ops _ p (law.goes_on {n = n} {o = o} e h next g) f = cut_by kind (held_of ops n) n o e.event p g f
 cut_awake kind ops _ _ (law.skips_endtry h next) f = absurd cc
@@ -478,7 +478,7 @@ module _ (plan : Plan) (r : Run) (t : ℕ) (k : IsOnTrack plan r) where
   -- one that was cut doesn't wait
   pub cut_no_wait : was_cut r.state t ≡ true → waits_on (r.state.log t) ≡ None
   cut_no_wait e =
-      cut_awake _ _ _ _ (subst (λ b. LeadsTo (config_of plan).kind (operations_of plan t) (r.state.log t) (place_by b (held_now plan r t) (r.next_op t) (waits_on (r.state.log t)))) e (is_led plan r t k)) refl
+      cut_awake _ _ _ _ (subst (λ b. LeadsTo (config_of plan).kind (operations_of plan t) (r.state.log t) (point_by b (held_now plan r t) (r.next_op t) (waits_on (r.state.log t)))) e (is_led plan r t k)) refl
 
   pub waits_uncut : (d : ℕ) → waits_on (r.state.log t) ≡ Some d → was_cut r.state t ≡ false
   waits_uncut d e = go (was_cut r.state t) refl
@@ -513,9 +513,9 @@ module _ (plan : Plan) (r : Run) (t : ℕ) (k : IsOnTrack plan r) where
     wants_this l mode e j i = same_Some l.0 j (rw (no, e) at (k.wants t j i))
 
   -- a take that was admitted, or a taking back after a wait, wants its lock
-  pub wants_it : {l : LockNo} {mode : Mode} {op : Op} {e : Event} → table.Taking plan r t l mode op e → IsAtOperation plan r t (Some op) → r.state.wanted t ≡ Some l.0
-  wants_it (table.anew l mode j e) i = e ∙ ap Some (sym (wants_this (awake (Take l mode) i.next refl) l mode i.next j e))
-  wants_it (table.back d e w) i =
+  pub wants_it : {l : LockNo} {mode : Mode} {op : Op} {e : Event} → actions.Taking plan r t l mode op e → IsAtOperation plan r t (Some op) → r.state.wanted t ≡ Some l.0
+  wants_it (actions.anew l mode j e) i = e ∙ ap Some (sym (wants_this (awake (Take l mode) i.next refl) l mode i.next j e))
+  wants_it (actions.back d e w) i =
       let same : e ≡ d.0 = let at = sym (k.waiting t e w) ∙ i.next in cc in
       k.back_wants t e w i.running ∙ ap (λ n. Some ((config_of plan).chan_lock n)) same
 

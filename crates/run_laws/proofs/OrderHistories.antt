@@ -1,6 +1,6 @@
 -- Worked histories and runs of lock orders: which histories the law lets through and which it refuses, which plans are
--- ordered, and what the table of turns makes of plans. A definition that is turned so that it asks for less, or a table
--- whose refusals name another class, is proved all the same: nothing else here notices such turns.
+-- ordered, and what turns make of plans. A definition that is changed so that it asks for less, or a table
+-- whose refusals name another class, is proved all the same: nothing else here notices such changes.
 use Rattle.std.proofs.Common.{◌≡◌, ℕ, zero, suc, ◌<◌, true, false, List, [], ◌∷◌, map, slice_get, Some, None, refl, subst, arith, rules}
 use Rattle.std.specs.List.{All}
 use Rattle.std.proofs.lemmas.List.Elements.{All-nil, All-cons}

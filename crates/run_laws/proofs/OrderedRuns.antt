@@ -31,7 +31,7 @@ use Rattle.lock_state.specs.Steps.SleepQueues.{after_enter_sleep, after_open_sle
 use Rattle.lock_state.specs.Steps.Lending.{after_claim, after_lend, after_shift, after_end_walk}
 use Rattle.lock_state.specs.Steps.Orders.{classes_held, after_admit, after_refuse}
 use Rattle.lock_state.specs.Facts.Sleeps.{SleepersSlept}
-use Rattle.lock_state.specs.Run.{Run, Row, Course, waits_on, has_ended, turn_of, run_behind, round_of, with_turn, after_turn, go_on, is_over, all_ended, is_stuck, course_after, ending_of, held_before, held_now}
+use Rattle.lock_state.specs.Run.{Run, Action, Course, waits_on, has_ended, turn_of, run_behind, round_of, with_turn, after_turn, go_on, is_over, all_ended, is_stuck, course_after, ending_of, held_before, held_now}
 use Rattle.run_laws.specs.OnTrack.{IsOnTrack, BeginsTake, admitted, first_against}
 use Rattle.lock_laws.proofs.HeldLists.{gain_passes}
 use Rattle.order_laws.proofs.TakeFacts.Admit.{has_held, first_among}
@@ -39,7 +39,7 @@ use Rattle.lock_laws.proofs.Standing.{standing_named}
 use Rattle.run_laws.proofs.Stuck.{stuck_on_channels}
 use Rattle.run_laws.proofs.Turning.{behind_course}
 use Rattle.run_laws.proofs.TurnsOfWaits.{slept_waits}
-use Rattle.run_laws.proofs.Table as table
+use Rattle.run_laws.proofs.Actions as actions
 
 -- 1. Edges that lead from each lock to those declared behind it
 
@@ -134,70 +134,70 @@ module _ (plan : Plan) (o : IsOrdered plan) where
           not_forbidden s.edges u.up h.lock l.0 (lower_lock h.lock h.mode h.holds) its_lock
           (subst (λ a. Forbids s.edges a (c.class l.0)) (sym h.from) (first_forbids s.edges (classes_held c s t) (c.class l.0) i f))
 
--- 3. Row by row of the table
+-- 3. Action by action
 
--- the state behind the steps of a row
-abbrev IsUpBehind : Plan → Run → Row → Type 0
-IsUpBehind plan r row = IsUpward plan (after_all (config_of plan) r.state row.steps).edges (after_all (config_of plan) r.state row.steps).history
+-- the state behind the steps of an action
+abbrev IsUpBehind : Plan → Run → Action → Type 0
+IsUpBehind plan r action = IsUpward plan (after_all (config_of plan) r.state action.steps).edges (after_all (config_of plan) r.state action.steps).history
 
 -- an entry that is no refusal
 one_more : {plan : Plan} {edges : List (ℕ × ℕ)} {history : List Entry} (e : Entry) → is_reversal e.event ≡ false → IsUpward plan edges history → IsUpward plan edges (e ∷ history)
 one_more e i u = record { up = u.up; unrefused = rw (i, u.unrefused) refl }
 
 -- as that of a wake is none
-no_refusal : (d : ChanNo) {op : Op} {all : Bool} {noted : ℕ → Event} (woken : ℕ) → table.Waking d op all noted → is_reversal (noted woken) ≡ false
-no_refusal d woken table.of_one = refl
-no_refusal d woken table.of_all = refl
+no_refusal : (d : ChanNo) {op : Op} {all : Bool} {noted : ℕ → Event} (woken : ℕ) → actions.Waking d op all noted → is_reversal (noted woken) ≡ false
+no_refusal d woken actions.of_one = refl
+no_refusal d woken actions.of_all = refl
 
-acquired : (plan : Plan) (r : Run) (t : ℕ) (row : Row) → table.Acquires plan r t row → IsUpward plan r.state.edges r.state.history → IsUpBehind plan r row
+acquired : (plan : Plan) (r : Run) (t : ℕ) (action : Action) → actions.Acquires plan r t action → IsUpward plan r.state.edges r.state.history → IsUpBehind plan r action
 unfolding after_gain after_stamp after_ready after_enter after_enter_sleep after_claim
-acquired plan r t _ (table.gains (table.by_taking (table.anew l mode j w)) i a f) u = one_more _ refl u
-acquired plan r t _ (table.gains (table.by_taking (table.back d e w)) i a f) u = one_more _ refl u
-acquired plan r t _ (table.gains (table.by_trying l mode past) i a f) u = one_more _ refl u
-acquired plan r t _ (table.claims (table.by_taking (table.anew l mode j w)) i a f) u = one_more _ refl u
-acquired plan r t _ (table.claims (table.by_taking (table.back d e w)) i a f) u = one_more _ refl u
-acquired plan r t _ (table.claims (table.by_trying l mode past) i a f) u = one_more _ refl u
-acquired plan r t _ (table.enters by i a (table.on_turnstile x)) u = u
-acquired plan r t _ (table.enters by i a (table.on_sleep_queue x)) u = u
+acquired plan r t _ (actions.gains (actions.by_taking (actions.anew l mode j w)) i a f) u = one_more _ refl u
+acquired plan r t _ (actions.gains (actions.by_taking (actions.back d e w)) i a f) u = one_more _ refl u
+acquired plan r t _ (actions.gains (actions.by_trying l mode past) i a f) u = one_more _ refl u
+acquired plan r t _ (actions.claims (actions.by_taking (actions.anew l mode j w)) i a f) u = one_more _ refl u
+acquired plan r t _ (actions.claims (actions.by_taking (actions.back d e w)) i a f) u = one_more _ refl u
+acquired plan r t _ (actions.claims (actions.by_trying l mode past) i a f) u = one_more _ refl u
+acquired plan r t _ (actions.enters by i a (actions.on_turnstile x)) u = u
+acquired plan r t _ (actions.enters by i a (actions.on_sleep_queue x)) u = u
 
 module _ (plan : Plan) (o : IsOrdered plan) (p : IsProper plan) (r : Run) (k : IsOnTrack plan r) (t : ℕ) (u : IsUpward plan r.state.edges r.state.history) where
-  made : (row : Row) → table.Fits plan r t row → IsUpBehind plan r row
+  made : (action : Action) → actions.Fits plan r t action → IsUpBehind plan r action
   unfolding after_look after_stamp after_drop after_ready after_open after_mark after_resume after_open_sleep after_add after_wake after_lend after_shift after_end_walk after_refuse
-  made _ (table.is_over e) = u
-  made _ (table.lends l o h w e f) = u
-  made _ (table.ends_at_lock l w e) = u
-  made _ (table.shifts o l w e f) = u
-  made _ (table.ends_at_thread o w f) = u
-  made _ (table.marks m ms w e) = u
-  made _ (table.gives_up w e f (table.drops x)) = u
-  made _ (table.gives_up w e f (table.opens x y)) = u
-  made _ (table.gives_up w e f (table.opens_sleep_queue x y)) = u
-  made _ (table.is_queued e f i) = u
-  made _ (table.resumes q cause f e) = u
-  made row (table.acquires by) = acquired plan r t row by u
-  made _ (table.is_admitted {l} {row = row} g e by) = acquired plan (admitted plan r t l) t row by (admits_up plan o p r k t g u)
-  made _ (table.is_refused i g e) = absurd (none_forbids plan o p r k t g u i e)
-  made _ (table.finds_busy l mode past i e) = one_more _ refl u
-  made _ (table.releases l i (table.drops x)) = one_more _ refl u
-  made _ (table.releases l i (table.opens x y)) = one_more _ refl u
-  made _ (table.releases l i (table.opens_sleep_queue x y)) = one_more _ refl u
-  made _ (table.sleeps d i e) = one_more _ refl u
-  made _ (table.wakes d by i) = one_more _ (no_refusal d _ by) u
-  made _ (table.makes_entry _ _ i (table.sets l key value)) = one_more _ refl u
-  made _ (table.makes_entry _ _ i (table.adds l key amount)) = one_more _ refl u
-  made _ (table.makes_entry _ _ i (table.gets l key)) = one_more _ refl u
-  made _ (table.makes_entry _ _ i (table.changes_base prio)) = one_more _ refl u
-  made _ (table.makes_entry _ _ i table.shows) = one_more _ refl u
-  made _ (table.gives_last_back h hs i e (table.drops x)) = one_more _ refl u
-  made _ (table.gives_last_back h hs i e (table.opens x y)) = one_more _ refl u
-  made _ (table.gives_last_back h hs i e (table.opens_sleep_queue x y)) = one_more _ refl u
-  made _ (table.has_nothing_left e i f) = u
-  made _ (table.has_no_operation e i) = u
-  made _ (table.is_at_endtry i) = u
+  made _ (actions.is_over e) = u
+  made _ (actions.lends l o h w e f) = u
+  made _ (actions.ends_at_lock l w e) = u
+  made _ (actions.shifts o l w e f) = u
+  made _ (actions.ends_at_thread o w f) = u
+  made _ (actions.marks m ms w e) = u
+  made _ (actions.gives_up w e f (actions.drops x)) = u
+  made _ (actions.gives_up w e f (actions.opens x y)) = u
+  made _ (actions.gives_up w e f (actions.opens_sleep_queue x y)) = u
+  made _ (actions.is_queued e f i) = u
+  made _ (actions.resumes q cause f e) = u
+  made action (actions.acquires by) = acquired plan r t action by u
+  made _ (actions.is_admitted {l} {action = action} g e by) = acquired plan (admitted plan r t l) t action by (admits_up plan o p r k t g u)
+  made _ (actions.is_refused i g e) = absurd (none_forbids plan o p r k t g u i e)
+  made _ (actions.finds_busy l mode past i e) = one_more _ refl u
+  made _ (actions.releases l i (actions.drops x)) = one_more _ refl u
+  made _ (actions.releases l i (actions.opens x y)) = one_more _ refl u
+  made _ (actions.releases l i (actions.opens_sleep_queue x y)) = one_more _ refl u
+  made _ (actions.sleeps d i e) = one_more _ refl u
+  made _ (actions.wakes d by i) = one_more _ (no_refusal d _ by) u
+  made _ (actions.makes_entry _ _ i (actions.sets l key value)) = one_more _ refl u
+  made _ (actions.makes_entry _ _ i (actions.adds l key amount)) = one_more _ refl u
+  made _ (actions.makes_entry _ _ i (actions.gets l key)) = one_more _ refl u
+  made _ (actions.makes_entry _ _ i (actions.changes_base prio)) = one_more _ refl u
+  made _ (actions.makes_entry _ _ i actions.shows) = one_more _ refl u
+  made _ (actions.gives_last_back h hs i e (actions.drops x)) = one_more _ refl u
+  made _ (actions.gives_last_back h hs i e (actions.opens x y)) = one_more _ refl u
+  made _ (actions.gives_last_back h hs i e (actions.opens_sleep_queue x y)) = one_more _ refl u
+  made _ (actions.has_nothing_left e i f) = u
+  made _ (actions.has_no_operation e i) = u
+  made _ (actions.is_at_endtry i) = u
 
   turned : IsUpward plan (run_behind plan r t).state.edges (run_behind plan r t).state.history
   unfolding run_behind
-  turned = made (turn_of plan r t) (table.fits plan r t)
+  turned = made (turn_of plan r t) (actions.fits plan r t)
 
 -- 4. The scheduled run
 

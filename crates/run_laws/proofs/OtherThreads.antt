@@ -8,49 +8,50 @@ use Rattle.lock_model.specs.Holds.{is_unheld, Hold}
 use Rattle.lock_model.specs.Queues.{Mark}
 use Rattle.lock_model.specs.Takes.{has_reversal}
 use Rattle.lock_state.specs.State.{Walk}
-use Rattle.lock_state.specs.Run.{Run, Row, is_walking, waits_on, to_release, turn_of, has_ended, next_ops, run_after, run_behind}
+use Rattle.lock_state.specs.Run.{Run, Action, is_walking, waits_on, to_release, turn_of, has_ended, next_ops, run_after, run_behind}
 use Rattle.lock_model.specs.declared.plan.Plan.{Plan}
 use Rattle.lock_model.specs.declared.event.Entry.{Entry}
 use Rattle.run_laws.specs.OnTrack.{admitted}
 use Rattle.lock_laws.proofs.Kit.{put_other}
 use Rattle.run_laws.proofs.Shares.{SameShare, AllBy, all_leave}
-use Rattle.run_laws.proofs.Table as table
+use Rattle.run_laws.proofs.Actions as actions
 
--- the steps of a thread's row are its own
-acquiring : (plan : Plan) (r : Run) (t : ℕ) (row : Row) → table.Acquires plan r t row → AllBy t row.steps
-acquiring plan r t _ (table.gains by i a f) = (refl, (refl, tt))
-acquiring plan r t _ (table.claims by i a f) = (refl, (refl, tt))
-acquiring plan r t _ (table.enters by i e (table.on_turnstile x)) = (refl, (refl, tt))
-acquiring plan r t _ (table.enters by i e (table.on_sleep_queue x)) = (refl, (refl, tt))
+-- the steps of a thread's action are its own
+acquiring : (plan : Plan) (r : Run) (t : ℕ) (action : Action) → actions.Acquires plan r t action → AllBy t action.steps
+acquiring plan r t _ (actions.gains by i a f) = (refl, (refl, tt))
+acquiring plan r t _ (actions.claims by i a f) = (refl, (refl, tt))
+acquiring plan r t _ (actions.enters by i e (actions.on_turnstile x)) = (refl, (refl, tt))
+acquiring plan r t _ (actions.enters by i e (actions.on_sleep_queue x)) = (refl, (refl, tt))
 
-pub own_steps : (plan : Plan) (r : Run) (t : ℕ) (row : Row) → table.Fits plan r t row → AllBy t row.steps
-own_steps plan r t _ (table.is_over e) = tt
-own_steps plan r t _ (table.lends l o h w e f) = (refl, tt)
-own_steps plan r t _ (table.ends_at_lock l w e) = (refl, tt)
-own_steps plan r t _ (table.shifts o l w e f) = (refl, tt)
-own_steps plan r t _ (table.ends_at_thread o w f) = (refl, tt)
-own_steps plan r t _ (table.marks m ms w e) = (refl, tt)
-own_steps plan r t _ (table.gives_up w e f (table.drops x)) = (refl, tt)
-own_steps plan r t _ (table.gives_up w e f (table.opens x y)) = (refl, tt)
-own_steps plan r t _ (table.gives_up w e f (table.opens_sleep_queue x y)) = (refl, tt)
-own_steps plan r t _ (table.is_queued e f i) = tt
-own_steps plan r t _ (table.resumes q cause f e) = (refl, tt)
-own_steps plan r t row (table.acquires a) = acquiring plan r t row a
-own_steps plan r t _ (table.is_admitted {l} {mode} {row} b f a) = (refl, acquiring plan (admitted plan r t l) t row a)
-own_steps plan r t _ (table.is_refused k b f) = (refl, (refl, tt))
-own_steps plan r t _ (table.finds_busy l mode past i e) = (refl, (refl, tt))
-own_steps plan r t _ (table.releases l i (table.drops x)) = (refl, (refl, tt))
-own_steps plan r t _ (table.releases l i (table.opens x y)) = (refl, (refl, tt))
-own_steps plan r t _ (table.releases l i (table.opens_sleep_queue x y)) = (refl, (refl, tt))
-own_steps plan r t _ (table.sleeps d i e) = (refl, (refl, (refl, tt)))
-own_steps plan r t _ (table.wakes d by i) = (refl, (refl, tt))
-own_steps plan r t _ (table.makes_entry op e i n) = (refl, tt)
-own_steps plan r t _ (table.gives_last_back h hs i e (table.drops x)) = (refl, (refl, tt))
-own_steps plan r t _ (table.gives_last_back h hs i e (table.opens x y)) = (refl, (refl, tt))
-own_steps plan r t _ (table.gives_last_back h hs i e (table.opens_sleep_queue x y)) = (refl, (refl, tt))
-own_steps plan r t _ (table.has_nothing_left g i e) = tt
-own_steps plan r t _ (table.has_no_operation e i) = tt
-own_steps plan r t _ (table.is_at_endtry i) = tt
+pub own_steps : (plan : Plan) (r : Run) (t : ℕ) (action : Action) → actions.Fits plan r t action → AllBy t action.steps
+own_steps plan r t _ (actions.is_over e) = tt
+own_steps plan r t _ (actions.lends l o h w e f) = (refl, tt)
+own_steps plan r t _ (actions.ends_at_lock l w e) = (refl, tt)
+own_steps plan r t _ (actions.shifts o l w e f) = (refl, tt)
+own_steps plan r t _ (actions.ends_at_thread o w f) = (refl, tt)
+own_steps plan r t _ (actions.marks m ms w e) = (refl, tt)
+own_steps plan r t _ (actions.gives_up w e f (actions.drops x)) = (refl, tt)
+own_steps plan r t _ (actions.gives_up w e f (actions.opens x y)) = (refl, tt)
+own_steps plan r t _ (actions.gives_up w e f (actions.opens_sleep_queue x y)) = (refl, tt)
+own_steps plan r t _ (actions.is_queued e f i) = tt
+own_steps plan r t _ (actions.resumes q cause f e) = (refl, tt)
+own_steps plan r t action (actions.acquires a) = acquiring plan r t action a
+own_steps plan r t _ (actions.is_admitted {l} {mode} {action} b f a) =
+    (refl, acquiring plan (admitted plan r t l) t action a)
+own_steps plan r t _ (actions.is_refused k b f) = (refl, (refl, tt))
+own_steps plan r t _ (actions.finds_busy l mode past i e) = (refl, (refl, tt))
+own_steps plan r t _ (actions.releases l i (actions.drops x)) = (refl, (refl, tt))
+own_steps plan r t _ (actions.releases l i (actions.opens x y)) = (refl, (refl, tt))
+own_steps plan r t _ (actions.releases l i (actions.opens_sleep_queue x y)) = (refl, (refl, tt))
+own_steps plan r t _ (actions.sleeps d i e) = (refl, (refl, (refl, tt)))
+own_steps plan r t _ (actions.wakes d by i) = (refl, (refl, tt))
+own_steps plan r t _ (actions.makes_entry op e i n) = (refl, tt)
+own_steps plan r t _ (actions.gives_last_back h hs i e (actions.drops x)) = (refl, (refl, tt))
+own_steps plan r t _ (actions.gives_last_back h hs i e (actions.opens x y)) = (refl, (refl, tt))
+own_steps plan r t _ (actions.gives_last_back h hs i e (actions.opens_sleep_queue x y)) = (refl, (refl, tt))
+own_steps plan r t _ (actions.has_nothing_left g i e) = tt
+own_steps plan r t _ (actions.has_no_operation e i) = tt
+own_steps plan r t _ (actions.is_at_endtry i) = tt
 
 pub other_next : (plan : Plan) (r : Run) (t u : ℕ) → (t ≡ u → ⊥) → (next : Option ℕ) → next_ops (operations_of plan t) r.next_op t next u ≡ r.next_op u
 other_next plan r t u ne None = refl
@@ -76,5 +77,5 @@ pub ends_no_other : (plan : Plan) (r : Run) (t u : ℕ) → u ≢ t → has_ende
 unfolding run_behind
 ends_no_other plan r t u n =
     let ne : t ≡ u → ⊥ = λ e. n (sym e) in
-    let row = turn_of plan r t in
-    same_end plan u r (run_after plan r t row) (other_next plan r t u ne row.next) (all_leave (config_of plan) u t r.state row.steps ne (own_steps plan r t row (table.fits plan r t)))
+    let action = turn_of plan r t in
+    same_end plan u r (run_after plan r t action) (other_next plan r t u ne action.next) (all_leave (config_of plan) u t r.state action.steps ne (own_steps plan r t action (actions.fits plan r t)))

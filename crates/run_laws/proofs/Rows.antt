@@ -158,7 +158,7 @@ claimed_is : (s : State) → s ≡ after_all (readers 95) (start_state (readers 
 unfolding readers woken_writer start_state after_look after_gain after_stamp after_drop after_take after_give after_ready after_enter after_open after_mark after_resume after_claim after_lend after_shift after_end_walk put put_at put_queue least sum_below at plan takes blocks opens mark
 claimed_is s e = rw e (refl, refl, refl, refl)
 
--- so the table of turns has it make a claim
+-- so its turn is a claim
 makes_claim : (r : Run) → r.state ≡ after_all (readers 95) (start_state (readers 95)) woken_writer
     → run.gains (readers 95) r 4 (record { 0 = 0 }) Excl false (Locked (record { 0 = 0 }) Excl) ≡ run.ends r 4 Claim (Claims 4 0 1 false ∷ Stamps 4 (Locked (record { 0 = 0 }) Excl) ∷ [])
 unfolding readers woken_writer start_state after_look after_gain after_stamp after_drop after_take after_give after_ready after_enter after_open after_mark after_resume after_claim after_lend after_shift after_end_walk put put_at put_queue least sum_below at plan takes blocks opens mark
@@ -177,7 +177,7 @@ tried_is : (s : State) → s ≡ after_all behind (start_state behind) (takes 0 
 unfolding behind start_state after_look after_gain after_stamp after_drop after_take after_give after_ready after_enter after_open after_mark after_resume after_claim after_lend after_shift after_end_walk put put_at put_queue least sum_below at plan takes blocks opens mark
 tried_is s e = rw e (refl, refl)
 
--- the table of turns has it find the lock busy, and go on behind its block
+-- its turn finds the lock busy, and it goes on behind its block
 finds_busy_is : (r : Run) (past : ℕ) → r.state ≡ after_all behind (start_state behind) (takes 0 0 Shared ++ blocks 1 0 Excl 1)
     → run.tries behind r 2 (record { 0 = 0 }) Shared past ≡ record { answer = Did Note; steps = Looks 2 0 false ∷ Stamps 2 (Busy (record { 0 = 0 }) 9) ∷ []; next = Some past }
 unfolding behind start_state after_look after_gain after_stamp after_drop after_take after_give after_ready after_enter after_open after_mark after_resume after_claim after_lend after_shift after_end_walk put put_at put_queue least sum_below at plan takes blocks opens mark
@@ -212,7 +212,7 @@ exclusive_next_is : (s : State) → s ≡ after_all exclusive (start_state exclu
 unfolding exclusive sleeps opens_sleep both_wait start_state after_look after_gain after_stamp after_drop after_take after_give after_ready after_enter after_open after_mark after_resume after_claim after_lend after_shift after_end_walk after_enter_sleep after_open_sleep after_add after_wake put put_at put_queue least sum_below at plan takes blocks opens mark
 exclusive_next_is s e = rw e (refl, refl, refl)
 
--- so the table of turns has the owner open the sleep queue
+-- so the owner's turn opens the sleep queue
 opens_sleep_queue : (r : Run) → r.state ≡ after_all exclusive (start_state exclusive) both_wait
     → run.releases exclusive r 0 (record { 0 = 0 }) Excl ≡ run.ends r 0 OpenUp (opens_sleep 0 Excl)
 unfolding exclusive sleeps opens_sleep both_wait start_state after_look after_gain after_stamp after_drop after_take after_give after_ready after_enter after_open after_mark after_resume after_claim after_lend after_shift after_end_walk after_enter_sleep after_open_sleep after_add after_wake put put_at put_queue least sum_below at plan takes blocks opens mark
@@ -231,7 +231,7 @@ signalled_is : (s : State) → s ≡ after_all signals (start_state signals) (go
 unfolding signals goes_to_sleep start_state after_look after_gain after_stamp after_drop after_take after_give after_ready after_enter after_open after_mark after_resume after_claim after_lend after_shift after_end_walk after_enter_sleep after_open_sleep after_add after_wake put put_at put_queue least sum_below at plan takes blocks opens mark
 signalled_is s e = rw e (refl, refl, refl, refl)
 
--- so the table of turns has a signal name a, and a wake of all name both
+-- so a signal names a, and a wake of all names both
 names_longest : (r : Run) → r.state ≡ after_all signals (start_state signals) (goes_to_sleep 0 ++ goes_to_sleep 1)
     → (run.wakes r 2 (record { 0 = 0 }) false (WokeOne (record { 0 = 0 })) ≡ run.ends r 2 Wake (Wakes 2 0 false ∷ Stamps 2 (WokeOne (record { 0 = 0 }) 1) ∷ []))
     × (run.wakes r 2 (record { 0 = 0 }) true (WokeAll (record { 0 = 0 })) ≡ run.ends r 2 Wake (Wakes 2 0 true ∷ Stamps 2 (WokeAll (record { 0 = 0 }) 3) ∷ []))

@@ -51,7 +51,7 @@ use Rattle.sleep_laws.proofs.SleepFacts.Known.{asleep}
 use Rattle.lock_laws.proofs.Dealt.{signals_nowhere}
 use Rattle.run_laws.proofs.OnTrack.{KeepsTrack, EndsWell, LetsGoOn, lets_go_on, goes_on, IsWhere, share_in, is_there, now_stands, not_running, put_at_own, noted_behind, none_unnoted, unnamed, acting, acting_in, ends_quietly, IsAwake, awake, is_awake, waits_back, awake_behind, before, behind, left, fit, are_locks, holds_all, all_open, wants_none, wants_it}
 use Rattle.lock_laws.proofs.Sections.{own_section}
-use Rattle.run_laws.proofs.Table.{Taking, anew, back, Gaining, by_taking, by_trying, Entering, on_turnstile, on_sleep_queue, lock_with, mode_left, its_mode}
+use Rattle.run_laws.proofs.Actions.{Taking, anew, back, Gaining, by_taking, by_trying, Entering, on_turnstile, on_sleep_queue, lock_with, mode_left, its_mode}
 
 -- a gain that isn't plain is an exclusive one, of a free rw lock that shows waiters
 pub record IsClaim (kind : Kind) (w : Word) (mode : Mode) : Type 0 where

@@ -21,7 +21,7 @@ use Rattle.run_laws.specs.OnTrack.{IsOnTrack, IsAtOperation}
 use Rattle.lock_laws.proofs.Shown.{exclusive_is}
 use Rattle.lock_laws.proofs.HeldLists.{held_is}
 use Rattle.run_laws.proofs.OnTrack.{KeepsTrack, LetsGoOn, lets_go_on, goes_on, ends_quietly, noted_behind, acting, awake, is_awake, all_open, holds_all, before, behind, left, fit, is_take, is_wait}
-use Rattle.run_laws.proofs.Table.{Notes, sets, adds, gets, changes_base, shows}
+use Rattle.run_laws.proofs.Actions.{Notes, sets, adds, gets, changes_base, shows}
 
 -- an operation that leaves what is held, is no take and no wait, and whose entry the sections allow; the entry changes no
 -- section and lets its thread go on

@@ -32,8 +32,8 @@ use Rattle.lock_laws.proofs.HeldLists.{Apart, release_fits, still_unheld, hold_i
 use Rattle.run_laws.proofs.LastHeld.{GivesLast, gives_last, apart-take}
 use Rattle.run_laws.proofs.OnTrack.{KeepsTrack, EndsWell, NoneOut, IsWhere, share_in, goes_on, put_at_own, noted_behind, none_unnoted, unnamed, acting, IsAwake, lets_go_on, is_awake, awake_behind, cut_no_wait, waits_uncut, before, behind, left, fit, are_locks, holds_all, all_listed, all_open, wants_none}
 use Rattle.lock_laws.proofs.Sections.{own_section}
-use Rattle.run_laws.proofs.Table.{GivingBack, its_mode}
-use Rattle.run_laws.proofs.Table as table
+use Rattle.run_laws.proofs.Actions.{GivingBack, its_mode}
+use Rattle.run_laws.proofs.Actions as actions
 
 -- what a release that is no drop finds
 open_finds : (w : Word) → is_drop w ≡ false → (is_free (without_one w.holder) ≡ true) × (shows_waiters w ≡ true)
@@ -74,9 +74,9 @@ module _ (plan : Plan) (r : Run) (t : ℕ) (p : IsProper plan) (k : IsOnTrack pl
       record { thread = lt; lock = f.lock; held = f.held; last = finds.0; shown = finds.1; unmarked = f.unmarked; closed = f.closed; begun = f.begun }
 
   may_give_back : {kind : StepKind} {step : Step} (n : State) (l : ℕ) (mode : Mode) → GivingBack plan r t l mode kind step → CanGive n l mode → May c n step
-  may_give_back n l mode (table.drops e) f = record { thread = lt; lock = f.lock; held = f.held; stays = ap (λ w. is_drop (w l)) f.word ∙ e; closed = f.closed; begun = f.begun }
-  may_give_back n l mode (table.opens e i) f = record { releases = releases n l mode e f; turnstile = i; off_turnstiles = f.off_turnstiles }
-  may_give_back n l mode (table.opens_sleep_queue e i) f = record { releases = releases n l mode e f; sleeps = i }
+  may_give_back n l mode (actions.drops e) f = record { thread = lt; lock = f.lock; held = f.held; stays = ap (λ w. is_drop (w l)) f.word ∙ e; closed = f.closed; begun = f.begun }
+  may_give_back n l mode (actions.opens e i) f = record { releases = releases n l mode e f; turnstile = i; off_turnstiles = f.off_turnstiles }
+  may_give_back n l mode (actions.opens_sleep_queue e i) f = record { releases = releases n l mode e f; sleeps = i }
 
   -- what it makes of it, by the columns that the run's track is of
   pub record GaveBack (n m : State) (l : ℕ) (step : Step) : Type 0 where
@@ -96,11 +96,11 @@ module _ (plan : Plan) (r : Run) (t : ℕ) (p : IsProper plan) (k : IsOnTrack pl
 
   pub gave_back : {kind : StepKind} {step : Step} (n : State) (l : ℕ) (mode : Mode) → GivingBack plan r t l mode kind step → GaveBack n (after c n step) l step
   unfolding after_drop after_open after_open_sleep
-  gave_back n l mode (table.drops e) =
+  gave_back n l mode (actions.drops e) =
       record { asks = tt; held = refl; held_locks = refl; log = refl; history = refl; has_begun = refl; wanted = refl; taking = refl; noted = refl; wait = refl; unstamped = refl; out = λ h. h; stands = λ h. h }
-  gave_back n l mode (table.opens e i) =
+  gave_back n l mode (actions.opens e i) =
       record { asks = tt; held = refl; held_locks = refl; log = refl; history = refl; has_begun = refl; wanted = refl; taking = refl; noted = refl; wait = refl; unstamped = refl; out = λ h. h; stands = λ h. h }
-  gave_back n l mode (table.opens_sleep_queue e i) =
+  gave_back n l mode (actions.opens_sleep_queue e i) =
       record { asks = tt; held = refl; held_locks = refl; log = refl; history = refl; has_begun = refl; wanted = refl; taking = refl; noted = refl; wait = refl; unstamped = refl; out = λ h. h; stands = λ h. h }
 
   -- 2. A running thread that doesn't wait and gives a lock back that it holds, behind the entry of that

@@ -33,7 +33,7 @@ use Rattle.lock_laws.proofs.HeldLists.{WaitFits, wait_fits, wake_fits, last_is, 
 use Rattle.lock_laws.proofs.AtTurn.{has_sleep_queue}
 use Rattle.run_laws.proofs.OnTrack.{KeepsTrack, IsWhere, LetsGoOn, lets_go_on, share_in, not_running, goes_on, ends_quietly, now_stands, noted_behind, none_unnoted, unnamed, acting_in, IsAwake, before, behind, left, fit, are_locks, holds_all, all_listed, all_open, wants_none, is_take, is_wait}
 use Rattle.lock_laws.proofs.Sections.{own_sections_by}
-use Rattle.run_laws.proofs.Table.{Waking, of_one, of_all, lock_with, its_mode}
+use Rattle.run_laws.proofs.Actions.{Waking, of_one, of_all, lock_with, its_mode}
 
 module _ (plan : Plan) (r : Run) (t : ℕ) (p : IsProper plan) (k : IsOnTrack plan r) (lt : t < length plan.threads) where
   abbrev c : Config

@@ -19,7 +19,7 @@ use Rattle.lock_model.specs.declared.turn.StepKind.TheVariants as kind
 use Rattle.run_laws.specs.OnTrack.{IsOnTrack}
 use Rattle.lock_laws.proofs.HeadsAndNodes.{head_lock}
 use Rattle.run_laws.proofs.OnTrack.{KeepsTrack, none_unnoted, is_there}
-use Rattle.run_laws.proofs.Table.{stands_at}
+use Rattle.run_laws.proofs.Actions.{stands_at}
 
 module _ (plan : Plan) (r : Run) (t : ℕ) (p : IsProper plan) (k : IsOnTrack plan r) (lt : t < length plan.threads) where
   abbrev c : Config

@@ -9,7 +9,7 @@ use Rattle.lock_model.specs.Orders.{first_to_forbid}
 use Rattle.lock_model.specs.Words.{is_turnstile}
 use Rattle.lock_state.specs.State.{gained_order, Running, Queued, Walk, NoWalk, AtLock}
 use Rattle.lock_model.specs.History.{open_in, left_in, entries_of}
-use Rattle.lock_model.specs.Law.{LeadsTo, Place, Before, Asleep, Cut, HaltsOnlyWhenRunning}
+use Rattle.lock_model.specs.Law.{LeadsTo, Point, Before, Asleep, Cut, HaltsOnlyWhenRunning}
 use Rattle.lock_state.specs.Facts.{LawfulTurn, Ordered, Taken}
 use Rattle.lock_state.specs.Steps.{Admits, after, is_with}
 use Rattle.lock_state.specs.Steps.Orders.{classes_held}
@@ -26,14 +26,14 @@ use Rattle.sleep_laws.specs.Sleepers.{SleepersFit, nobody}
 
 -- where a thread is in its operations: before its next one, or asleep in that, a wait; or it was cut, and gives back what
 -- it holds
-abbrev pub place_by : Bool → List Held → ℕ → Option ℕ → Place
-place_by true held n w = Cut (reverse held)
-place_by false held n None = Before n
-place_by false held n (Some d) = Asleep n
+abbrev pub point_by : Bool → List Held → ℕ → Option ℕ → Point
+point_by true held n w = Cut (reverse held)
+point_by false held n None = Before n
+point_by false held n (Some d) = Asleep n
 
-abbrev pub place_in : Plan → Run → ℕ → Place
-place_in plan r t =
-    place_by (was_cut r.state t) (held_now plan r t) (r.next_op t) (waits_on (r.state.log t))
+abbrev pub point_in : Plan → Run → ℕ → Point
+point_in plan r t =
+    point_by (was_cut r.state t) (held_now plan r t) (r.next_op t) (waits_on (r.state.log t))
 
 -- the run in which the lock of a take was admitted, and the take goes on
 abbrev pub admitted : Plan → Run → ℕ → LockNo → Run
@@ -84,7 +84,7 @@ pub record IsOnTrack (plan : Plan) (r : Run) : Type 0 where
   pub no_endtry : (t : ℕ) → slice_get (operations_of plan t) (r.next_op t) ≢ Some EndTry
   -- the entries follow the operations, to where it is
   pub follows : (t : ℕ) → LeadsTo (config_of plan).kind (operations_of plan t)
-      (entries_of r.state.history t) (place_in plan r t)
+      (entries_of r.state.history t) (point_in plan r t)
   pub waiting : (t d : ℕ) → waits_on (r.state.log t) ≡ Some d
       → slice_get (operations_of plan t) (r.next_op t) ≡ Some (Sleep (record { 0 = d }))
   -- each thread holds what its operations so far lead to, but for the lock of its wait and what it gave back when it was

@@ -21,7 +21,8 @@ use Rattle.lock_laws.proofs.Kit.{put_at_beside}
 
 unfoldable sleeping : List Step
 sleeping =
-    TakesItem 0 (SleepChain 0) ∷ TakesItem 0 (RecordOf 0) ∷ Readies 0 (chan_queue 0) ∷ Stamps 0 (Sleeps (record { 0 = 0 })) ∷ Adds 0 0 0
+    TakesItem 0 (SleepChain 0) ∷ TakesItem 0 (RecordOf 0) ∷ Readies 0 (chan_queue 0) ∷ Stamps 0
+    (Sleeps (record { 0 = 0 })) ∷ Adds 0 0 0
     ∷ GivesItem 0 (RecordOf 0) ∷ GivesItem 0 (SleepChain 0) ∷ Drops 0 0 Excl ∷ []
 
 abbrev p_marked : Mark
@@ -31,7 +32,8 @@ unfoldable waking : List Step
 waking =
     TakesItem 1 (SleepChain 0) ∷ Wakes 1 0 false ∷ Stamps 1 (WokeOne (record { 0 = 0 }) 1) ∷ GivesItem 1 (SleepChain 0)
     ∷ TakesItem 1 (RecordOf 0) ∷ Marks 1 p_marked [] ∷ GivesItem 1 (RecordOf 0)
-    ∷ Resumes 0 (chan_queue 0) BySignal ∷ Looks 0 0 true ∷ Gains 0 0 Excl false ∷ Stamps 0 (Woke (record { 0 = 0 })) ∷ []
+    ∷ Resumes 0 (chan_queue 0) BySignal ∷ Looks 0 0 true ∷ Gains 0 0 Excl false ∷ Stamps 0 (Woke (record { 0 = 0 })) ∷
+    []
 
 -- what p took and gave back is home, and so it is once q has done the same
 abbrev there : ℕ → Option ℕ
@@ -55,30 +57,125 @@ again k = go (eqb 0 k)
 
 -- p holds no other lock than the mutex
 no_other : (k : ℕ) (mode : Mode) → put_at (λ t l. NotHeld) 0 0 (Holds Excl) 0 k ≡ Holds mode → (k ≡ 0 → ⊥) → ⊥
-no_other k mode e ne = let z : NotHeld ≡ Holds mode = sym (put_at_beside (λ t l. NotHeld) 0 0 (Holds Excl) 0 k (λ x. ne (sym x))) ∙ e in cc
+no_other k mode e ne = let z : NotHeld ≡ Holds mode =
+    sym (put_at_beside (λ t l. NotHeld) 0 0 (Holds Excl) 0 k (λ x. ne (sym x))) ∙ e in cc
 
 sleeping_may : FloorAll 16 floor_plan (start_state floor_plan) (taking ++ sleeping)
-unfolding floor_plan taking sleeping start_state after_seek after_look after_gain after_drop after_stamp after_take after_give after_ready after_add put put_at put_queue least sum_below sections_in
+unfolding floor_plan taking sleeping start_state after_seek after_look after_gain after_drop after_stamp after_take
+    after_give after_ready after_add put put_at put_queue least sum_below sections_in
 sleeping_may = takes_first sleeping
     -- it takes the chain and its own record, and is made ready
     (
-      record { asks_of_thread = record { runs = inl (record { phase = refl; unended = refl }); owes = owes _ _ refl (unslept _ _ refl) }; may = record { thread = omega arith; home = refl; together = λ j e. absurd (none_out (λ k. None) (λ k. None) (λ k. refl) (λ k. refl) j 0 e); orders = tt }; has_out = (omega arith, tt); has_seen = tt },
+      record {
+        asks_of_thread = record {
+          runs = inl (record { phase = refl; unended = refl });
+          owes = owes _ _ refl (unslept _ _ refl);
+        };
+        may = record {
+          thread = omega arith;
+          home = refl;
+          together = λ j e. absurd (none_out (λ k. None) (λ k. None) (λ k. refl) (λ k. refl) j 0 e);
+          orders = tt;
+        };
+        has_out = (omega arith, tt);
+        has_seen = tt;
+      },
       (
-        record { asks_of_thread = record { runs = inl (record { phase = refl; unended = refl }); owes = owes _ _ refl (unslept _ _ refl) }; may = record { thread = omega arith; home = refl; together = λ j e. chain_out (λ k. None) (put (λ k. None) 0 (Some 0)) j 0 0 e; orders = tt }; has_out = (omega arith, tt); has_seen = tt },
+        record {
+          asks_of_thread = record {
+            runs = inl (record { phase = refl; unended = refl });
+            owes = owes _ _ refl (unslept _ _ refl);
+          };
+          may = record {
+            thread = omega arith;
+            home = refl;
+            together = λ j e. chain_out (λ k. None) (put (λ k. None) 0 (Some 0)) j 0 0 e;
+            orders = tt;
+          };
+          has_out = (omega arith, tt);
+          has_seen = tt;
+        },
         (
-          record { asks_of_thread = goes _ _ refl refl refl (unslept _ _ refl); may = record { thread = omega arith; running = refl }; has_out = (refl, refl); has_seen = tt },
+          record {
+            asks_of_thread = goes _ _ refl refl refl (unslept _ _ refl);
+            may = record { thread = omega arith; running = refl };
+            has_out = (refl, refl);
+            has_seen = tt;
+          },
           -- it goes to sleep
           (
-            record { asks_of_thread = record { runs = record { phase = refl; unended = refl }; added = unslept _ _ refl }; may = record { thread = omega arith; acting = record { unnamed = refl; unwoken = refl }; asks = record { chan = omega arith; queued = refl; wants = refl; opened = λ e. cc; last = record { others = []; last = refl }; sections = λ k mode e ne. absurd (no_other k mode e ne) } }; has_out = refl; has_seen = record { in_round = tt; asleep = λ e. absurd cc; wakes = λ e. absurd (e refl); takes = λ l e. absurd cc } },
+            record {
+              asks_of_thread = record {
+                runs = record { phase = refl; unended = refl };
+                added = unslept _ _ refl;
+              };
+              may = record {
+                thread = omega arith;
+                acting = record { unnamed = refl; unwoken = refl };
+                asks = record {
+                  chan = omega arith;
+                  queued = refl;
+                  wants = refl;
+                  opened = λ e. cc;
+                  last = record { others = []; last = refl };
+                  sections = λ k mode e ne. absurd (no_other k mode e ne);
+                };
+              };
+              has_out = refl;
+              has_seen =
+                  record {
+                    in_round = tt;
+                    asleep = λ e. absurd cc;
+                    wakes = λ e. absurd (e refl);
+                    takes = λ l e. absurd cc;
+                  };
+            },
             (
-              record { asks_of_thread = record { phase = refl; unended = refl }; may = record { thread = omega arith; chan = omega arith; queued = refl; unnamed = refl; own = refl; wants = refl; slept = refl; unwoken = refl; sections = λ k mode e ne. absurd (no_other k mode e ne) }; has_out = (refl, refl); has_seen = record { no_round = refl; stamped = refl; unnoted = refl } },
+              record {
+                asks_of_thread = record { phase = refl; unended = refl };
+                may = record {
+                  thread = omega arith;
+                  chan = omega arith;
+                  queued = refl;
+                  unnamed = refl;
+                  own = refl;
+                  wants = refl;
+                  slept = refl;
+                  unwoken = refl;
+                  sections = λ k mode e ne. absurd (no_other k mode e ne);
+                };
+                has_out = (refl, refl);
+                has_seen = record { no_round = refl; stamped = refl; unnoted = refl };
+              },
               -- both go home, and the mutex is free
               (
-                record { asks_of_thread = record { unparked = refl; owes = owes _ _ refl (standing _ _ _ refl) }; may = record { thread = omega arith; out = refl; done = λ e w n. cc }; has_out = refl; has_seen = tt },
+                record {
+                  asks_of_thread = record { unparked = refl; owes = owes _ _ refl (standing _ _ _ refl) };
+                  may = record { thread = omega arith; out = refl; done = λ e w n. cc };
+                  has_out = refl;
+                  has_seen = tt;
+                },
                 (
-                  record { asks_of_thread = record { unparked = refl; owes = owes _ _ refl (standing _ _ _ refl) }; may = record { thread = omega arith; out = refl; done = (refl, refl, λ w n. cc) }; has_out = refl; has_seen = tt },
+                  record {
+                    asks_of_thread = record { unparked = refl; owes = owes _ _ refl (standing _ _ _ refl) };
+                    may = record { thread = omega arith; out = refl; done = (refl, refl, λ w n. cc) };
+                    has_out = refl;
+                    has_seen = tt;
+                  },
                   (
-                    record { asks_of_thread = goes _ _ refl refl refl (standing _ _ _ refl); may = record { thread = omega arith; lock = omega arith; held = refl; stays = refl; closed = refl; begun = refl }; has_out = tt; has_seen = tt },
+                    record {
+                      asks_of_thread = goes _ _ refl refl refl (standing _ _ _ refl);
+                      may = record {
+                        thread = omega arith;
+                        lock = omega arith;
+                        held = refl;
+                        stays = refl;
+                        closed = refl;
+                        begun = refl;
+                      };
+                      has_out = tt;
+                      has_seen = tt;
+                    },
                     tt,
                   ),
                 ),
@@ -90,32 +187,153 @@ sleeping_may = takes_first sleeping
     )
 
 waking_may : FloorAll 16 floor_plan (after_all floor_plan (start_state floor_plan) (taking ++ sleeping)) waking
-unfolding floor_plan taking sleeping waking start_state after_seek after_look after_gain after_drop after_stamp after_take after_give after_ready after_add after_wake after_mark after_resume put put_at put_queue least sum_below sections_in
+unfolding floor_plan taking sleeping waking start_state after_seek after_look after_gain after_drop after_stamp
+    after_take after_give after_ready after_add after_wake after_mark after_resume put put_at put_queue least sum_below
+    sections_in
 waking_may = (
   -- q takes p off the channel and notes that
-  record { asks_of_thread = record { runs = inl (record { phase = refl; unended = refl }); owes = owes _ _ refl (running _ _ refl) }; may = record { thread = omega arith; home = refl; together = λ j e. absurd (none_out there there back back j 1 e); orders = tt }; has_out = (omega arith, tt); has_seen = tt },
+  record {
+    asks_of_thread = record {
+      runs = inl (record { phase = refl; unended = refl });
+      owes = owes _ _ refl (running _ _ refl);
+    };
+    may = record {
+      thread = omega arith;
+      home = refl;
+      together = λ j e. absurd (none_out there there back back j 1 e);
+      orders = tt;
+    };
+    has_out = (omega arith, tt);
+    has_seen = tt;
+  },
   (
-    record { asks_of_thread = goes _ _ refl refl refl (running _ _ refl); may = record { thread = omega arith; chan = omega arith; unmarked = refl; stamped = refl }; has_out = refl; has_seen = tt },
+    record {
+      asks_of_thread = goes _ _ refl refl refl (running _ _ refl);
+      may = record { thread = omega arith; chan = omega arith; unmarked = refl; stamped = refl };
+      has_out = refl;
+      has_seen = tt;
+    },
     (
-      record { asks_of_thread = record { runs = record { phase = refl; unended = refl }; added = running _ _ refl }; may = record { thread = omega arith; acting = record { unnamed = refl; unwoken = refl }; asks = (refl, refl, refl) }; has_out = refl; has_seen = record { in_round = tt; asleep = λ e. absurd cc; wakes = λ e. refl; takes = λ l e. absurd cc } },
+      record {
+        asks_of_thread = record { runs = record { phase = refl; unended = refl }; added = running _ _ refl };
+        may = record {
+          thread = omega arith;
+          acting = record { unnamed = refl; unwoken = refl };
+          asks = (refl, refl, refl);
+        };
+        has_out = refl;
+        has_seen = record { in_round = tt; asleep = λ e. absurd cc; wakes = λ e. refl; takes = λ l e. absurd cc };
+      },
       -- it wakes p
       (
-        record { asks_of_thread = record { unparked = refl; owes = owes _ _ refl (running _ _ refl) }; may = record { thread = omega arith; out = refl; done = (refl, refl, λ w n. cc) }; has_out = refl; has_seen = tt },
+        record {
+          asks_of_thread = record { unparked = refl; owes = owes _ _ refl (running _ _ refl) };
+          may = record { thread = omega arith; out = refl; done = (refl, refl, λ w n. cc) };
+          has_out = refl;
+          has_seen = tt;
+        },
         (
-          record { asks_of_thread = record { runs = inl (record { phase = refl; unended = refl }); owes = owes _ _ refl (running _ _ refl) }; may = record { thread = omega arith; home = refl; together = λ j e. absurd (none_out (put (put there 0 (Some 1)) 0 None) there again back j 1 e); orders = tt }; has_out = (omega arith, tt); has_seen = tt },
+          record {
+            asks_of_thread = record {
+              runs = inl (record { phase = refl; unended = refl });
+              owes = owes _ _ refl (running _ _ refl);
+            };
+            may = record {
+              thread = omega arith;
+              home = refl;
+              together = λ j e. absurd (none_out (put (put there 0 (Some 1)) 0 None) there again back j 1 e);
+              orders = tt;
+            };
+            has_out = (omega arith, tt);
+            has_seen = tt;
+          },
           (
-            record { asks_of_thread = record { runs = inl (record { phase = refl; unended = refl }); owes = owes _ _ refl (running _ _ refl) }; may = record { thread = omega arith; marked = refl; stamped = refl }; has_out = refl; has_seen = tt },
+            record {
+              asks_of_thread = record {
+                runs = inl (record { phase = refl; unended = refl });
+                owes = owes _ _ refl (running _ _ refl);
+              };
+              may = record { thread = omega arith; marked = refl; stamped = refl };
+              has_out = refl;
+              has_seen = tt;
+            },
             (
-              record { asks_of_thread = record { unparked = refl; owes = owes _ _ refl (running _ _ refl) }; may = record { thread = omega arith; out = refl; done = λ e w n. cc }; has_out = refl; has_seen = tt },
+              record {
+                asks_of_thread = record { unparked = refl; owes = owes _ _ refl (running _ _ refl) };
+                may = record { thread = omega arith; out = refl; done = λ e w n. cc };
+                has_out = refl;
+                has_seen = tt;
+              },
               -- p resumes, takes the mutex back and notes that
               (
-                record { asks_of_thread = owes _ _ refl (λ o. let z : Woken (chan_queue 0) BySignal ≡ Queued = o.queued in cc); may = record { thread = omega arith; woken = refl; released = refl }; has_out = (λ i e. none_out (put (put there 0 (Some 1)) 0 None) (put (put there 0 (Some 1)) 0 None) again again i 0 e, refl); has_seen = tt },
+                record {
+                  asks_of_thread = owes _ _ refl
+                      (λ o. let z : Woken (chan_queue 0) BySignal ≡ Queued = o.queued in cc);
+                  may = record { thread = omega arith; woken = refl; released = refl };
+                  has_out = (
+                    λ i e. none_out (put (put there 0 (Some 1)) 0 None) (put (put there 0 (Some 1)) 0 None)
+                        again again i 0 e,
+                    refl,
+                  );
+                  has_seen = tt;
+                },
                 (
-                  record { asks_of_thread = looks_on _ _ refl refl refl (running _ _ refl); may = record { thread = omega arith; lock = omega arith; room = λ e. omega arith }; has_out = tt; has_seen = record { counts = refl; of_round = λ e. refl; in_chain = λ i x e. absurd (none_out (put (put there 0 (Some 1)) 0 None) (put (put there 0 (Some 1)) 0 None) again again i 0 e); outside = λ i n x e. absurd (none_out (put (put there 0 (Some 1)) 0 None) (put (put there 0 (Some 1)) 0 None) again again i 0 e); halting = λ e. absurd cc } },
+                  record {
+                    asks_of_thread = looks_on _ _ refl refl refl (running _ _ refl);
+                    may = record { thread = omega arith; lock = omega arith; room = λ e. omega arith };
+                    has_out = tt;
+                    has_seen = record {
+                      counts = refl;
+                      of_round = λ e. refl;
+                      in_chain = λ i x e. absurd
+                          (none_out (put (put there 0 (Some 1)) 0 None) (put (put there 0 (Some 1)) 0 None) again again i 0
+                          e);
+                      outside = λ i n x e. absurd
+                          (none_out (put (put there 0 (Some 1)) 0 None) (put (put there 0 (Some 1)) 0 None) again again i 0
+                          e);
+                      halting = λ e. absurd cc;
+                    };
+                  },
                   (
-                    record { asks_of_thread = goes _ _ refl refl refl (running _ _ refl); may = record { thread = omega arith; lock = omega arith; admitted = refl; plainly = refl; unheld = refl; acting = record { unnamed = refl; unwoken = refl }; wants = inl refl }; has_out = tt; has_seen = record { fits = (refl, refl); in_round = λ e i. absurd cc; saw = λ w i e. absurd cc; others = λ k e. cc } },
+                    record {
+                      asks_of_thread = goes _ _ refl refl refl (running _ _ refl);
+                      may = record {
+                        thread = omega arith;
+                        lock = omega arith;
+                        admitted = refl;
+                        plainly = refl;
+                        unheld = refl;
+                        acting = record { unnamed = refl; unwoken = refl };
+                        wants = inl refl;
+                      };
+                      has_out = tt;
+                      has_seen =
+                          record {
+                            fits = (refl, refl);
+                            in_round = λ e i. absurd cc;
+                            saw = λ w i e. absurd cc;
+                            others = λ k e. cc;
+                          };
+                    },
                     (
-                      record { asks_of_thread = record { runs = record { phase = refl; unended = refl }; added = running _ _ refl }; may = record { thread = omega arith; acting = record { unnamed = refl; unwoken = refl }; asks = (record { held = refl; holds = λ e. cc; closed = refl }, refl) }; has_out = tt; has_seen = record { in_round = tt; asleep = λ e. refl; wakes = λ e. absurd (e refl); takes = λ l e. (cc, refl) } },
+                      record {
+                        asks_of_thread = record {
+                          runs = record { phase = refl; unended = refl };
+                          added = running _ _ refl;
+                        };
+                        may = record {
+                          thread = omega arith;
+                          acting = record { unnamed = refl; unwoken = refl };
+                          asks = (record { held = refl; holds = λ e. cc; closed = refl }, refl);
+                        };
+                        has_out = tt;
+                        has_seen = record {
+                          in_round = tt;
+                          asleep = λ e. refl;
+                          wakes = λ e. absurd (e refl);
+                          takes = λ l e. (cc, refl);
+                        };
+                      },
                       tt,
                     ),
                   ),
@@ -136,34 +354,147 @@ two_locks = record floor_plan { locks = 2; chan_lock = λ d. 1 }
 -- p gains s, notes that, and is made ready to sleep with it
 unfoldable going : List Step
 going =
-    Gains 0 1 Excl false ∷ Stamps 0 (Locked (record { 0 = 1 }) Excl) ∷ TakesItem 0 (SleepChain 0) ∷ TakesItem 0 (RecordOf 0) ∷ Readies 0 (chan_queue 0) ∷ []
+    Gains 0 1 Excl false ∷ Stamps 0 (Locked (record { 0 = 1 }) Excl) ∷ TakesItem 0 (SleepChain 0) ∷ TakesItem 0
+    (RecordOf 0) ∷ Readies 0 (chan_queue 0) ∷ []
 
 -- 1. A sleeper with a closed section: p gains m, notes that, does the same with s, notes the release of m and keeps m's
 -- word
 unfoldable closing : List Step
 closing =
-    Gains 0 0 Excl false ∷ Stamps 0 (Locked (record { 0 = 0 }) Excl) ∷ Gains 0 1 Excl false ∷ Stamps 0 (Locked (record { 0 = 1 }) Excl)
-    ∷ Stamps 0 (Unlocked (record { 0 = 0 }) Excl) ∷ TakesItem 0 (SleepChain 0) ∷ TakesItem 0 (RecordOf 0) ∷ Readies 0 (chan_queue 0) ∷ []
+    Gains 0 0 Excl false ∷ Stamps 0 (Locked (record { 0 = 0 }) Excl) ∷ Gains 0 1 Excl false ∷ Stamps 0
+    (Locked (record { 0 = 1 }) Excl)
+    ∷ Stamps 0 (Unlocked (record { 0 = 0 }) Excl) ∷ TakesItem 0 (SleepChain 0) ∷ TakesItem 0 (RecordOf 0) ∷ Readies 0
+    (chan_queue 0) ∷ []
 
 -- each step of this may be made,
 closing_may : FloorAll 16 two_locks (start_state two_locks) closing
-unfolding floor_plan two_locks closing start_state after_gain after_stamp after_take after_ready put put_at put_queue least sum_below sections_in
+unfolding floor_plan two_locks closing start_state after_gain after_stamp after_take after_ready put put_at put_queue
+    least sum_below sections_in
 closing_may = (
-  record { asks_of_thread = goes _ _ refl refl refl (unslept _ _ refl); may = record { thread = omega arith; lock = omega arith; admitted = refl; plainly = refl; unheld = refl; acting = record { unnamed = refl; unwoken = refl }; wants = inr refl }; has_out = tt; has_seen = record { fits = tt; in_round = λ e i. absurd cc; saw = λ w i e. absurd cc; others = λ k e. absurd cc } },
+  record {
+    asks_of_thread = goes _ _ refl refl refl (unslept _ _ refl);
+    may = record {
+      thread = omega arith;
+      lock = omega arith;
+      admitted = refl;
+      plainly = refl;
+      unheld = refl;
+      acting = record { unnamed = refl; unwoken = refl };
+      wants = inr refl;
+    };
+    has_out = tt;
+    has_seen = record {
+      fits = tt;
+      in_round = λ e i. absurd cc;
+      saw = λ w i e. absurd cc;
+      others = λ k e. absurd cc;
+    };
+  },
   (
-    record { asks_of_thread = record { runs = record { phase = refl; unended = refl }; added = unslept _ _ refl }; may = record { thread = omega arith; acting = record { unnamed = refl; unwoken = refl }; asks = (record { held = refl; closed = refl }, record { others = []; last = refl }) }; has_out = tt; has_seen = record { in_round = tt; asleep = λ e. absurd cc; wakes = λ e. absurd (e refl); takes = λ l e. absurd cc } },
+    record {
+      asks_of_thread = record { runs = record { phase = refl; unended = refl }; added = unslept _ _ refl };
+      may = record {
+        thread = omega arith;
+        acting = record { unnamed = refl; unwoken = refl };
+        asks = (record { held = refl; closed = refl }, record { others = []; last = refl });
+      };
+      has_out = tt;
+      has_seen = record {
+        in_round = tt;
+        asleep = λ e. absurd cc;
+        wakes = λ e. absurd (e refl);
+        takes = λ l e. absurd cc;
+      };
+    },
     (
-      record { asks_of_thread = goes _ _ refl refl refl (unslept _ _ refl); may = record { thread = omega arith; lock = omega arith; admitted = refl; plainly = refl; unheld = refl; acting = record { unnamed = refl; unwoken = refl }; wants = inr refl }; has_out = tt; has_seen = record { fits = tt; in_round = λ e i. absurd cc; saw = λ w i e. absurd cc; others = λ k e. absurd cc } },
+      record {
+        asks_of_thread = goes _ _ refl refl refl (unslept _ _ refl);
+        may = record {
+          thread = omega arith;
+          lock = omega arith;
+          admitted = refl;
+          plainly = refl;
+          unheld = refl;
+          acting = record { unnamed = refl; unwoken = refl };
+          wants = inr refl;
+        };
+        has_out = tt;
+        has_seen = record {
+          fits = tt;
+          in_round = λ e i. absurd cc;
+          saw = λ w i e. absurd cc;
+          others = λ k e. absurd cc;
+        };
+      },
       (
-        record { asks_of_thread = record { runs = record { phase = refl; unended = refl }; added = unslept _ _ refl }; may = record { thread = omega arith; acting = record { unnamed = refl; unwoken = refl }; asks = (record { held = refl; closed = refl }, record { others = record { lock = 0; by_try = false } ∷ []; last = refl }) }; has_out = tt; has_seen = record { in_round = tt; asleep = λ e. absurd cc; wakes = λ e. absurd (e refl); takes = λ l e. absurd cc } },
+        record {
+          asks_of_thread = record { runs = record { phase = refl; unended = refl }; added = unslept _ _ refl };
+          may = record {
+            thread = omega arith;
+            acting = record { unnamed = refl; unwoken = refl };
+            asks = (
+              record { held = refl; closed = refl },
+              record { others = record { lock = 0; by_try = false } ∷ []; last = refl },
+            );
+          };
+          has_out = tt;
+          has_seen = record {
+            in_round = tt;
+            asleep = λ e. absurd cc;
+            wakes = λ e. absurd (e refl);
+            takes = λ l e. absurd cc;
+          };
+        },
         (
-          record { asks_of_thread = record { runs = record { phase = refl; unended = refl }; added = unslept _ _ refl }; may = record { thread = omega arith; acting = record { unnamed = refl; unwoken = refl }; asks = refl }; has_out = tt; has_seen = record { in_round = tt; asleep = λ e. absurd cc; wakes = λ e. absurd (e refl); takes = λ l e. absurd cc } },
+          record {
+            asks_of_thread = record { runs = record { phase = refl; unended = refl }; added = unslept _ _ refl };
+            may = record { thread = omega arith; acting = record { unnamed = refl; unwoken = refl }; asks = refl };
+            has_out = tt;
+            has_seen =
+                record {
+                  in_round = tt;
+                  asleep = λ e. absurd cc;
+                  wakes = λ e. absurd (e refl);
+                  takes = λ l e. absurd cc;
+                };
+          },
           (
-            record { asks_of_thread = record { runs = inl (record { phase = refl; unended = refl }); owes = owes _ _ refl (unslept _ _ refl) }; may = record { thread = omega arith; home = refl; together = λ j e. absurd (none_out (λ k. None) (λ k. None) (λ k. refl) (λ k. refl) j 0 e); orders = tt }; has_out = (omega arith, tt); has_seen = tt },
+            record {
+              asks_of_thread = record {
+                runs = inl (record { phase = refl; unended = refl });
+                owes = owes _ _ refl (unslept _ _ refl);
+              };
+              may = record {
+                thread = omega arith;
+                home = refl;
+                together = λ j e. absurd (none_out (λ k. None) (λ k. None) (λ k. refl) (λ k. refl) j 0 e);
+                orders = tt;
+              };
+              has_out = (omega arith, tt);
+              has_seen = tt;
+            },
             (
-              record { asks_of_thread = record { runs = inl (record { phase = refl; unended = refl }); owes = owes _ _ refl (unslept _ _ refl) }; may = record { thread = omega arith; home = refl; together = λ j e. chain_out (λ k. None) (put (λ k. None) 0 (Some 0)) j 0 0 e; orders = tt }; has_out = (omega arith, tt); has_seen = tt },
+              record {
+                asks_of_thread = record {
+                  runs = inl (record { phase = refl; unended = refl });
+                  owes = owes _ _ refl (unslept _ _ refl);
+                };
+                may = record {
+                  thread = omega arith;
+                  home = refl;
+                  together = λ j e. chain_out (λ k. None) (put (λ k. None) 0 (Some 0)) j 0 0 e;
+                  orders = tt;
+                };
+                has_out = (omega arith, tt);
+                has_seen = tt;
+              },
               (
-                record { asks_of_thread = goes _ _ refl refl refl (unslept _ _ refl); may = record { thread = omega arith; running = refl }; has_out = (refl, refl); has_seen = tt },
+                record {
+                  asks_of_thread = goes _ _ refl refl refl (unslept _ _ refl);
+                  may = record { thread = omega arith; running = refl };
+                  has_out = (refl, refl);
+                  has_seen = tt;
+                },
                 tt,
               ),
             ),
@@ -175,18 +506,27 @@ closing_may = (
 )
 
 -- but then p can't go to sleep
-closed_sleeper_refused : FitsFloor 16 two_locks (after_all two_locks (start_state two_locks) closing) (Stamps 0 (Sleeps (record { 0 = 0 }))) → ⊥
-unfolding floor_plan two_locks closing start_state after_gain after_stamp after_take after_ready put put_at put_queue least sum_below sections_in
+closed_sleeper_refused : FitsFloor 16 two_locks (after_all two_locks (start_state two_locks) closing)
+    (Stamps 0 (Sleeps (record { 0 = 0 }))) → ⊥
+unfolding floor_plan two_locks closing start_state after_gain after_stamp after_take after_ready put put_at put_queue
+    least sum_below sections_in
 closed_sleeper_refused f = let x : NotHeld ≡ Holds Excl = f.may.asks.sections 0 Excl refl (λ e. cc) in cc
 
 -- 2. A gain between a Sleeps entry and its add: p goes to sleep with s, and can't gain m before it stands on the
 -- channel
-gain_before_add_refused : FitsFloor 16 two_locks (after_all two_locks (start_state two_locks) (going ++ Stamps 0 (Sleeps (record { 0 = 0 })) ∷ [])) (Gains 0 0 Excl false) → ⊥
-unfolding floor_plan two_locks going start_state after_gain after_stamp after_take after_ready put put_at put_queue least sum_below sections_in
-gain_before_add_refused f = f.asks_of_thread.owes.added record { queued = refl; nowhere = refl; wants = refl; slept = refl; unwoken = refl; unhalted = λ q e. cc }
+gain_before_add_refused : FitsFloor 16 two_locks
+    (after_all two_locks (start_state two_locks) (going ++ Stamps 0 (Sleeps (record { 0 = 0 })) ∷ []))
+    (Gains 0 0 Excl false) → ⊥
+unfolding floor_plan two_locks going start_state after_gain after_stamp after_take after_ready put put_at put_queue
+    least sum_below sections_in
+gain_before_add_refused f =
+    f.asks_of_thread.owes.added
+    record { queued = refl; nowhere = refl; wants = refl; slept = refl; unwoken = refl; unhalted = λ q e. cc }
 
 -- 3. A look at another lock in a round: p seeks m, and can't look at s
-other_look_refused : (in_round : Bool) → FitsFloor 16 two_locks (after_all two_locks (start_state two_locks) (Seeks 0 0 false ∷ [])) (Looks 0 1 in_round) → ⊥
+other_look_refused : (in_round : Bool)
+    → FitsFloor 16 two_locks (after_all two_locks (start_state two_locks) (Seeks 0 0 false ∷ [])) (Looks 0 1 in_round)
+    → ⊥
 unfolding floor_plan two_locks start_state after_seek put
 other_look_refused in_round f = let x : false ≡ true = f.has_seen.of_round (λ e. cc) in cc
 
@@ -194,10 +534,13 @@ other_look_refused in_round f = let x : false ≡ true = f.has_seen.of_round (λ
 -- look at s, also where s has the same chain
 unfoldable releasing : List Step
 releasing =
-    Gains 0 0 Excl false ∷ Stamps 0 (Locked (record { 0 = 0 }) Excl) ∷ Stamps 0 (Unlocked (record { 0 = 0 }) Excl) ∷ TakesItem 0 (TurnstileChain 0) ∷ []
+    Gains 0 0 Excl false ∷ Stamps 0 (Locked (record { 0 = 0 }) Excl) ∷ Stamps 0 (Unlocked (record { 0 = 0 }) Excl) ∷
+    TakesItem 0 (TurnstileChain 0) ∷ []
 
-other_look_in_release_refused : (chains : ℕ) (in_round : Bool) → FitsFloor chains two_locks (after_all two_locks (start_state two_locks) releasing) (Looks 0 1 in_round) → ⊥
-unfolding floor_plan two_locks releasing start_state after_gain after_stamp after_take put put_at put_queue least sum_below sections_in
+other_look_in_release_refused : (chains : ℕ) (in_round : Bool)
+    → FitsFloor chains two_locks (after_all two_locks (start_state two_locks) releasing) (Looks 0 1 in_round) → ⊥
+unfolding floor_plan two_locks releasing start_state after_gain after_stamp after_take put put_at put_queue least
+    sum_below sections_in
 other_look_in_release_refused chains in_round f = elim (f.has_seen.outside (TurnstileChain 0) refl refl refl) [
   | inl unheld ↦ unheld refl
   | inr e ↦ cc

@@ -1,5 +1,5 @@
--- A thread's turn under way: while a machine has made the first steps of the turn's row, it represents the lawful state
--- behind them, and the next step may be made. So behind the last it represents the run behind the turn.
+-- A thread's turn under way: while a machine has made the first steps of the turn's action, it represents the lawful
+-- state behind them, and the next step may be made. So behind the last it represents the run behind the turn.
 use Rattle.std.proofs.Common.{◌≡◌, ◌≢◌, ℕ, ◌+◌, ◌<◌, ◌≤◌, ◌==◌, Bool, true, false, cond, List, [], ◌∷◌, length, Option, Some, None, IsSomeAnd, option_map, refl, sym, ap, subst, inl, inr, arith, eq-eqb, ◌∙◌}
 use Rattle.std.specs.Prelude.{vec_len}
 use Rattle.std.specs.List.{Contains}
@@ -11,7 +11,7 @@ use Rattle.lock_model.specs.Config.{Config}
 use Rattle.lock_state.specs.State.{State}
 use Rattle.lock_state.specs.Facts.{Lawful}
 use Rattle.lock_state.specs.Steps.{Step, Looks, Stamps, May as MayMake, MayAll, after, after_all}
-use Rattle.lock_state.specs.Run.{Run, Row, turn_of, next_ops, run_after, run_behind, was_cut, nothing, does}
+use Rattle.lock_state.specs.Run.{Run, Action, turn_of, next_ops, run_after, run_behind, was_cut, nothing, does}
 use Rattle.lock_model.specs.declared.event.Event.{Event}
 use Rattle.lock_model.specs.declared.plan.Op.{Op}
 use Rattle.lock_model.specs.declared.plan.Plan.{Plan}
@@ -21,7 +21,7 @@ use Rattle.lock_model.specs.declared.turn.Turn.TheVariants.{Did}
 use Rattle.run_laws.specs.OnTrack.{IsAtOperation}
 use Rattle.lock_laws.proofs.Kit.{put_same}
 use Rattle.lock_laws.proofs.Steps.{keeps, all_keep}
-use Rattle.run_laws.proofs.Turning.{row_may, turned}
+use Rattle.run_laws.proofs.Turning.{action_may, turned}
 use Rattle.run_laws.proofs.Entries.{entries_below, cut_entries_below}
 use Rattle.lock_laws.proofs.HeldLists.{next_holds}
 use Rattle.run_laws.proofs.OnTrack.{left, IsAwake}
@@ -32,7 +32,7 @@ use Rattle.step_machine.proofs.Kit.{looked}
 use Rattle.step_world.specs.declared.turns.Made.{Made}
 use Rattle.step_world.specs.declared.turns.Made.TheVariants.{Does}
 use Rattle.step_machine.specs.Runs.{RepresentsRun, IsAsFar, HasRoom, HasKeys, held_at}
-use Rattle.step_world.specs.Runs.{IsRunOf, IsTurn, IsBehind, IsMade, answer_of, next_of, row_of}
+use Rattle.step_world.specs.Runs.{IsRunOf, IsTurn, IsBehind, IsMade, answer_of, next_of, action_of}
 use Rattle.step_world.proofs.AsFar.{that_is, is_such, so_is, still_as_far, behind_still, behind_made, others_still}
 
 -- 1. Room
@@ -133,15 +133,15 @@ pub record IsTurning (plan : Plan) (r : Run) (t : ℕ) (m : Machine) (s : State)
   pub may : MayAll (config_of plan) s rest
   pub aside : IsUnderWay plan r t m a
 
--- the turn is the row, whose steps are to make, and the thread is as far as the run says
-pub record Begins (plan : Plan) (r : Run) (t : ℕ) (m : Machine) (row : Row) : Type 0 where
-  pub is : turn_of plan r t ≡ row
+-- the turn is the action, whose steps are to make, and the thread is as far as the run says
+pub record Begins (plan : Plan) (r : Run) (t : ℕ) (m : Machine) (action : Action) : Type 0 where
+  pub is : turn_of plan r t ≡ action
   pub at : Progress
   pub as_far : IsAsFar plan r t at
-  pub turning : IsTurning plan r t m r.state at row.steps
+  pub turning : IsTurning plan r t m r.state at action.steps
 
-pub begins : {plan : Plan} {m : Machine} {r : Run} {t : ℕ} {row : Row} → IsProper plan → t < length plan.threads → IsRunOf plan m r → turn_of plan r t ≡ row → Begins plan r t m row
-begins {plan} {m} {r} {t} {row} p lt h e =
+pub begins : {plan : Plan} {m : Machine} {r : Run} {t : ℕ} {action : Action} → IsProper plan → t < length plan.threads → IsRunOf plan m r → turn_of plan r t ≡ action → Begins plan r t m action
+begins {plan} {m} {r} {t} {action} p lt h e =
     let own = that_is (progress m t) (h.shows.progress t lt) in
     record {
       is = e;
@@ -150,7 +150,7 @@ begins {plan} {m} {r} {t} {row} p lt h e =
       turning = record {
         shows = h.shows.shows;
         lawful = h.on_track.lawful.lawful;
-        may = row_may plan r t row p h.on_track lt e;
+        may = action_may plan r t action p h.on_track lt e;
         aside = record { own = own.1; others = λ u l ne. h.shows.progress u l; room = h.shows.room; keys = h.shows.keys };
       };
     }
@@ -209,33 +209,33 @@ has_room_cut {plan} {r} {t} {m} p lt h cut some =
 -- a turn that does nothing
 pub still : (plan : Plan) (r : Run) (t : ℕ) {m : Machine} (answer : Turn) → turn_of plan r t ≡ nothing answer → RepresentsRun plan m r → IsTurn plan r t m answer
 unfolding run_behind
-still plan r t {m} answer e h = (sym (ap (λ (x : Row). x.answer) e), subst (λ (x : Row). RepresentsRun plan m (run_after plan r t x)) (sym e) h)
+still plan r t {m} answer e h = (sym (ap (λ (x : Action). x.answer) e), subst (λ (x : Action). RepresentsRun plan m (run_after plan r t x)) (sym e) h)
 
--- the row is made, and the thread is as far as the run behind it says, before it goes on
-pub made : {plan : Plan} {r : Run} {t : ℕ} {m n : Machine} {steps : List Step} {a : Progress} (result : Made) → Begins plan r t m (row_of result (r.next_op t) steps)
-    → IsTurning plan r t n (after_all (config_of plan) r.state steps) a [] → IsBehind plan r (run_after plan r t (row_of result (r.next_op t) steps)) t a → IsMade plan r t n result
+-- the action is made, and the thread is as far as the run behind it says, before it goes on
+pub made : {plan : Plan} {r : Run} {t : ℕ} {m n : Machine} {steps : List Step} {a : Progress} (result : Made) → Begins plan r t m (action_of result (r.next_op t) steps)
+    → IsTurning plan r t n (after_all (config_of plan) r.state steps) a [] → IsBehind plan r (run_after plan r t (action_of result (r.next_op t) steps)) t a → IsMade plan r t n result
 unfolding run_behind
 made {plan} {r} {t} {n = n} {steps = steps} {a = a} result b h far = record {
   steps = steps;
-  row = b.is;
+  action = b.is;
   shows = h.shows;
   aside = record {
-    own = is_such (IsBehind plan r (run_behind plan r t) t) a h.aside.own (subst (λ (x : Row). IsBehind plan r (run_after plan r t x) t a) (sym b.is) far);
+    own = is_such (IsBehind plan r (run_behind plan r t) t) a h.aside.own (subst (λ (x : Action). IsBehind plan r (run_after plan r t x) t a) (sym b.is) far);
     others = h.aside.others;
     room = h.aside.room;
     keys = h.aside.keys;
   };
 }
 
--- a row that leaves the operation to make, and what says how far the thread is,
-pub made_still : {plan : Plan} {r : Run} {t : ℕ} {m n : Machine} {steps : List Step} {answer : Turn} (b : Begins plan r t m (row_of (Does answer) (r.next_op t) steps))
+-- an action that leaves the operation to make, and what says how far the thread is,
+pub made_still : {plan : Plan} {r : Run} {t : ℕ} {m n : Machine} {steps : List Step} {answer : Turn} (b : Begins plan r t m (action_of (Does answer) (r.next_op t) steps))
     → IsTurning plan r t n (after_all (config_of plan) r.state steps) b.at [] → (after_all (config_of plan) r.state steps).held t ≡ r.state.held t
     → (after_all (config_of plan) r.state steps).held_locks t ≡ r.state.held_locks t → (after_all (config_of plan) r.state steps).log t ≡ r.state.log t → IsMade plan r t n (Does answer)
 made_still {answer = answer} b h held listed log = made (Does answer) b h (behind_still (record { next_op = refl; held = held; listed = listed; log = log }) b.as_far)
 
 -- and one that ends it, where the thread holds what it is to go on with
 pub made_behind : {plan : Plan} {r : Run} {t : ℕ} {m n : Machine} {steps : List Step} {a : Progress} (result : Made) (k : ℕ) → next_of result (r.next_op t) ≡ Some k
-    → Begins plan r t m (row_of result (r.next_op t) steps) → IsTurning plan r t n (after_all (config_of plan) r.state steps) a [] → IsAwake (after_all (config_of plan) r.state steps) t
+    → Begins plan r t m (action_of result (r.next_op t) steps) → IsTurning plan r t n (after_all (config_of plan) r.state steps) a [] → IsAwake (after_all (config_of plan) r.state steps) t
     → a.next_op ≡ r.next_op t → a.held ≡ held_at plan t k → IsMade plan r t n result
 made_behind {plan} {r} {t} {a = a} result k next b h up same held =
     made result b h (behind_made up same (held ∙ sym (next_holds (operations_of plan t) k)
@@ -248,15 +248,15 @@ module _ (plan : Plan) (r : Run) (t : ℕ) (m : Machine) (result : Made) (h : Is
   abbrev ops : List Op
   ops = operations_of plan t
 
-  -- the next operation of the thread behind the row
+  -- the next operation of the thread behind the action
   next_behind : n.next_op t ≡ next_ops ops r.next_op t (next_of result (r.next_op t)) t
   unfolding run_behind
-  next_behind = ap (λ (x : Row). next_ops ops r.next_op t x.next t) h.row
+  next_behind = ap (λ (x : Action). next_ops ops r.next_op t x.next t) h.action
 
   -- what represents the state behind it
   shown : (w : Machine) → Represents (config_of plan) w (after_all (config_of plan) r.state h.steps) → Represents (config_of plan) w n.state
   unfolding run_behind
-  shown w x = subst (λ (row : Row). Represents (config_of plan) w (after_all (config_of plan) r.state row.steps)) (sym h.row) x
+  shown w x = subst (λ (action : Action). Represents (config_of plan) w (after_all (config_of plan) r.state action.steps)) (sym h.action) x
 
   -- the other threads are as far as the run behind it says
   others : (u : ℕ) → u < length plan.threads → u ≢ t → IsSomeAnd (progress m u) (IsAsFar plan n u)
@@ -266,7 +266,7 @@ module _ (plan : Plan) (r : Run) (t : ℕ) (m : Machine) (result : Made) (h : Is
   turned_to : (w : Machine) → Represents (config_of plan) w (after_all (config_of plan) r.state h.steps) → IsSomeAnd (progress w t) (IsAsFar plan n t)
       → ((u : ℕ) → u ≢ t → progress w u ≡ progress m u) → SameRoom m w → IsTurn plan r t w (answer_of result)
   turned_to w shows own same books = (
-    sym (ap (λ (x : Row). x.answer) h.row),
+    sym (ap (λ (x : Action). x.answer) h.action),
     record {
       shows = shown w shows;
       progress = λ u l. elim (cases_eq u t) [
@@ -303,7 +303,7 @@ pub within : {plan : Plan} {r : Run} {t : ℕ} {m n : Machine} (result : Made) (
 unfolding run_behind
 within {plan} {r} {t} result k p h lt its next =
     let ops = operations_of plan t in
-    let there : (run_behind plan r t).next_op t ≡ next_at ops k = ap (λ (x : Row). next_ops ops r.next_op t x.next t) its.row ∙ ap (λ (o : Option ℕ). next_ops ops r.next_op t o t) next ∙ put_same r.next_op t (next_at ops k) in
+    let there : (run_behind plan r t).next_op t ≡ next_at ops k = ap (λ (x : Action). next_ops ops r.next_op t x.next t) its.action ∙ ap (λ (o : Option ℕ). next_ops ops r.next_op t o t) next ∙ put_same r.next_op t (next_at ops k) in
     omega (arith, (turned plan r t p h.on_track lt).within t, there)
 
 -- 7. A turn of one step, behind which the operation is still to make

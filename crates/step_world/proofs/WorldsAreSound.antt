@@ -1,4 +1,4 @@
--- A world shows a run on track from its begin on, and each turn of it is the turn of the table.
+-- A world shows a run on track from its begin on, and each turn of it is the run's.
 use Rattle.std.proofs.Common.{ℕ, ◌<◌, length}
 use Rattle.lock_model.specs.Operations.{IsProper}
 use Rattle.lock_model.specs.Plans.{config_of}

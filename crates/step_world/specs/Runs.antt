@@ -1,4 +1,4 @@
--- That a machine represents a run of a plan that is on track, and that its turn is the turn of the table.
+-- That a machine represents a run of a plan that is on track, and that its turn is the run's.
 use Rattle.std.specs.Prelude.{◌≡◌, ◌≢◌, ◌⊎◌, ℕ, suc, ◌+◌, ◌<◌, Bool, true, false, List, [], ◌∷◌, ◌++◌, length, is_some, Option, Some, None, IsSomeAnd}
 use Rattle.lock_model.specs.Plans.{config_of, lock_kind}
 use Rattle.lock_model.specs.Config.{Config}
@@ -7,7 +7,7 @@ use Rattle.lock_model.specs.Words.{is_turnstile}
 use Rattle.lock_model.specs.Limits.{most_held}
 use Rattle.lock_state.specs.Facts.{Lawful}
 use Rattle.lock_state.specs.Steps.{Step, Stamps, May, MayAll, after, after_all}
-use Rattle.lock_state.specs.Run.{Run, Row, has_ended, turn_of, run_behind, operates, notes, gains, takes, gives_back, held_now}
+use Rattle.lock_state.specs.Run.{Run, Action, has_ended, turn_of, run_behind, operates, notes, gains, takes, gives_back, held_now}
 use Rattle.lock_state.specs.State.{State, NoWalk}
 use Rattle.lock_model.specs.Queues.{lock_queue, stands}
 use Rattle.lock_model.specs.declared.plan.Op.{Op}
@@ -94,9 +94,9 @@ next_of (Does turn) n = None
 next_of (Ends kind) n = Some (suc n)
 next_of (Skips past) n = Some past
 
--- so the row of the table, with these steps
-abbrev pub row_of : Made → ℕ → List Step → Row
-row_of made n steps =
+-- so the action, with these steps
+abbrev pub action_of : Made → ℕ → List Step → Action
+action_of made n steps =
     record { answer = answer_of made; steps = steps; next = next_of made n }
 
 -- a thread is as far as the run n says, but for its next operation, which is still that of r
@@ -112,16 +112,16 @@ pub record IsAside (plan : Plan) (r n : Run) (t : ℕ) (m : Machine) : Type 0 wh
   pub room : HasRoom plan m
   pub keys : HasKeys plan m
 
--- The turn is this row, and the machine has made its steps. What the thread holds is what it is to go on with.
+-- The turn is this action, and the machine has made its steps. What the thread holds is what it is to go on with.
 pub record IsMade (plan : Plan) (r : Run) (t : ℕ) (m : Machine) (made : Made) : Type 0 where
   pub steps : List Step
-  pub row : turn_of plan r t ≡ row_of made (r.next_op t) steps
+  pub action : turn_of plan r t ≡ action_of made (r.next_op t) steps
   pub shows : Represents (config_of plan) m (after_all (config_of plan) r.state steps)
   pub aside : IsAside plan r (run_behind plan r t) t m
 
 -- so from whatever run it was of which something holds
-abbrev pub MakesRow : Plan → ℕ → Machine → Machine → Made → (Run → Type 0) → Type 0
-MakesRow plan t old new made premise = (r : Run) → IsRunOf plan old r → premise r
+abbrev pub MakesAction : Plan → ℕ → Machine → Machine → Made → (Run → Type 0) → Type 0
+MakesAction plan t old new made premise = (r : Run) → IsRunOf plan old r → premise r
     → IsMade plan r t new made
 
 -- a running thread's next operation is one that only makes an entry, with the event, and leaves what is held

@@ -2,17 +2,17 @@
 //! objects that block threads in FreeBSD, those of `step_machine`: lock words, turnstiles in chains, and the records of
 //! threads.
 //!
-//! A turn is the first row that fits of a table (`lock_state`'s `specs/Run.antt`), and a row is a list of steps: a
+//! A turn is the first action that fits (`lock_state`'s `specs/Run.antt`), and an action is a list of steps: a
 //! thread first makes its lending walk, then wakes those that it took off a queue, then waits, resumes, or makes its
 //! next operation. `run_laws` shows that each step may be made and keeps the state lawful. `step_machine` shows
-//! that each method of the machine is a step, and this crate that a turn calls the methods of its row.
+//! that each method of the machine is a step, and this crate that a turn calls the methods of its action.
 //!
 //! A take's first turn checks the order of its lock in the graph of `witness_orders`. Where it is refused, its thread is
 //! cut: it makes no other operation, gives back what it holds, the lock gained last first, and ends.
 //!
 //! - `world`: the world and its turns. After `World::make` no turn takes memory.
 //! - `schedule`: the run by a plan's schedule and then in rounds, to its outcome.
-//! - `turns`: the table, one function a row: which steps a thread makes in its turn.
+//! - `turns`: one function an action: which steps a thread makes in its turn.
 //! - `outcome`: what is printed of a run.
 #![tactic(auto)]
 

@@ -1,5 +1,5 @@
-//! The table of turns: which steps a thread makes when it has its turn. Each function is a row, or the operations of
-//! one sort, and makes the steps of the definition's row (`lock_state`'s `specs/Run.antt`) one by one.
+//! Turns: which steps a thread makes when it has its turn. Each function is an action, or the operations of
+//! one sort, and makes the steps of the definition's action (`lock_state`'s `specs/Run.antt`) one by one.
 //!
 //! - `walks`: the hops of a lending walk.
 //! - `locks`: the operations that gain and release locks.
@@ -8,7 +8,7 @@ ghost use Rattle.std.specs.Prelude.{◌<◌, length, Some};
 ghost use Rattle.lock_model.specs.Operations.{IsProper};
 ghost use Rattle.run_laws.specs.OnTrack.{IsAtOperation};
 ghost use Rattle.step_machine.specs.Steps.{HasKey};
-ghost use Rattle.step_world.specs.Runs.{HasRun, Follows, MakesRow, KeepsWhereIdle, IsFree, IsNote, answer_of};
+ghost use Rattle.step_world.specs.Runs.{HasRun, Follows, MakesAction, KeepsWhereIdle, IsFree, IsNote, answer_of};
 
 use lock_model::{Event, Op, Plan, StepKind, ThreadNo, Turn};
 use lock_objects::Wait;
@@ -112,7 +112,7 @@ fn make_operation(machine: &mut Machine, plan: &Plan, t: ThreadNo, op: Op) -> Ma
     requires proper { IsProper plan.now }
     requires thread { t.0 < length plan.now.threads }
     requires run { HasRun plan.now machine.old (λ r. IsAtOperation plan.now r t.0 (Some op)) }
-    ensures makes { MakesRow plan.now t.0 machine.old machine.new result
+    ensures makes { MakesAction plan.now t.0 machine.old machine.new result
         (λ r. IsAtOperation plan.now r t.0 (Some op)) }
     ensures unchanged { KeepsWhereIdle (answer_of result) machine.old machine.new }
 {
@@ -146,7 +146,7 @@ fn note(machine: &mut Machine, plan: &Plan, t: ThreadNo, event: Event) -> Made
     requires thread { t.0 < length plan.now.threads }
     requires run { HasRun plan.now machine.old (λ r. IsNote plan.now r t.0 event) }
     requires key { HasKey machine.old event }
-    ensures makes { MakesRow plan.now t.0 machine.old machine.new result
+    ensures makes { MakesAction plan.now t.0 machine.old machine.new result
         (λ r. IsNote plan.now r t.0 event) }
     ensures unchanged { KeepsWhereIdle (answer_of result) machine.old machine.new }
 {

@@ -65,7 +65,7 @@ impl<'p> World<'p> {
         })
     }
 
-    /// Makes one turn of a thread, which the plan declares: the first row of the table that fits, with its answer.
+    /// Makes one turn of a thread, which the plan declares: the first action that fits, with its answer.
     /// `Ended` comes exactly where the thread has ended, and `Idle` exactly where it sleeps: it hasn't ended, its wait
     /// word says Queued, and it owes nothing. Both change nothing. Locks are held and wanted in the order that was
     /// admitted, so no threads wait in a cycle. It takes no memory.

@@ -113,7 +113,7 @@ const NO_RUNS: &[&str] = &[
 #[test]
 fn words_of_lockrun(rt: HostRuntime) -> Result<(), Fail> {
     for (line, command, chains, turns) in RUNS {
-        let said = command_line::Words {
+        let said = command_line::LockrunArgs {
             command: *command,
             chains: *chains,
             turns: *turns,
@@ -270,7 +270,7 @@ Options:
 #[test]
 fn words_of_lockchart(rt: HostRuntime) -> Result<(), Fail> {
     for (line, (turns, chains, from, to, title, form)) in PICTURES {
-        let said = chart_command::Words {
+        let said = chart_command::LockchartArgs {
             turns: *turns,
             chains: *chains,
             from: *from,

@@ -1,4 +1,4 @@
--- What lies behind turn words, and the steps that take it out of its home and give it back.
+-- What lies behind latches, and the steps that take it out of its home and give it back.
 use Rattle.std.specs.Prelude.{◌≡◌, ◌≢◌, ℕ, ◌<◌, Bool, true, false, not, ◌&&◌, ◌==◌, if◌then◌else◌, Option, Some, None, ⊤}
 use Rattle.lock_model.specs.Config.{Config}
 use Rattle.lock_state.specs.State.{State, Queued, SleepHalted, Look, Round, put, put_at}

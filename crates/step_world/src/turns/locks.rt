@@ -1,4 +1,4 @@
-//! The rows of a running thread that takes, tries or releases a lock.
+//! The actions of a running thread that takes, tries or releases a lock.
 ghost use Rattle.std.specs.Prelude.{◌≡◌, ◌+◌, ◌≤◌, ◌<◌, length, map, take, Some, MatchResult};
 ghost use Rattle.lock_model.specs.Operations.{IsProper};
 ghost use Rattle.lock_model.specs.Plans.{lock_kind, lock_class, config_of};
@@ -11,7 +11,7 @@ ghost use Rattle.run_laws.specs.OnTrack.{IsAtOperation, BeginsTake, first_agains
 ghost use Rattle.witness_orders.specs.Graph.{numbers_of};
 ghost use Rattle.step_machine.specs.Represents.{Represents};
 ghost use Rattle.step_machine.specs.Steps.{HasKey, ChangesProgress, KeepsBooks, with_released};
-ghost use Rattle.step_world.specs.Runs.{HasRun, HasState, IsRunOf, MakesRow, KeepsWhereIdle, IsGain, IsTake, Follows, MayGiveBack, GivesBack, MayUnlock, Unlocks, IsGivingUp, IsAdmission, answer_of};
+ghost use Rattle.step_world.specs.Runs.{HasRun, HasState, IsRunOf, MakesAction, KeepsWhereIdle, IsGain, IsTake, Follows, MayGiveBack, GivesBack, MayUnlock, Unlocks, IsGivingUp, IsAdmission, answer_of};
 
 use crate::turns::Made;
 use lock_model::limits::HELD;
@@ -27,7 +27,7 @@ pub fn take_in_order(machine: &mut Machine, plan: &Plan, t: ThreadNo, l: LockNo,
     requires thread { t.0 < length plan.now.threads }
     requires run { HasRun plan.now machine.old
         (λ r. IsAtOperation plan.now r t.0 (Some (Take l mode))) }
-    ensures makes { MakesRow plan.now t.0 machine.old machine.new result
+    ensures makes { MakesAction plan.now t.0 machine.old machine.new result
         (λ r. IsAtOperation plan.now r t.0 (Some (Take l mode))) }
     ensures unchanged { KeepsWhereIdle (answer_of result) machine.old machine.new }
 {
@@ -43,7 +43,7 @@ fn begin_take(machine: &mut Machine, plan: &Plan, t: ThreadNo, l: LockNo, mode: 
     requires proper { IsProper plan.now }
     requires thread { t.0 < length plan.now.threads }
     requires run { HasRun plan.now machine.old (λ r. BeginsTake plan.now r t.0 l mode) }
-    ensures makes { MakesRow plan.now t.0 machine.old machine.new result
+    ensures makes { MakesAction plan.now t.0 machine.old machine.new result
         (λ r. BeginsTake plan.now r t.0 l mode) }
     ensures unchanged { KeepsWhereIdle (answer_of result) machine.old machine.new }
 {
@@ -114,7 +114,7 @@ pub fn take(
     requires thread { t.0 < length plan.now.threads }
     requires run { HasRun plan.now machine.old (λ r. IsTake plan.now r t.0 l mode event) }
     requires key { HasKey machine.old event }
-    ensures makes { MakesRow plan.now t.0 machine.old machine.new result
+    ensures makes { MakesAction plan.now t.0 machine.old machine.new result
         (λ r. IsTake plan.now r t.0 l mode event) }
     ensures unchanged { KeepsWhereIdle (answer_of result) machine.old machine.new }
 {
@@ -140,7 +140,7 @@ pub fn try_lock(
     requires thread { t.0 < length plan.now.threads }
     requires run { HasRun plan.now machine.old
         (λ r. IsAtOperation plan.now r t.0 (Some (Try l mode past))) }
-    ensures makes { MakesRow plan.now t.0 machine.old machine.new result
+    ensures makes { MakesAction plan.now t.0 machine.old machine.new result
         (λ r. IsAtOperation plan.now r t.0 (Some (Try l mode past))) }
     ensures unchanged { KeepsWhereIdle (answer_of result) machine.old machine.new }
 {
@@ -169,7 +169,7 @@ fn gain_or_claim(
     requires run { HasRun plan.now machine.old
         (λ r. IsGain plan.now r t.0 l mode by_try event) }
     requires key { HasKey machine.old event }
-    ensures makes { MakesRow plan.now t.0 machine.old machine.new result
+    ensures makes { MakesAction plan.now t.0 machine.old machine.new result
         (λ r. IsGain plan.now r t.0 l mode by_try event) }
     ensures unchanged { KeepsWhereIdle (answer_of result) machine.old machine.new }
 {
@@ -190,7 +190,7 @@ pub fn release(machine: &mut Machine, plan: &Plan, t: ThreadNo, l: LockNo) -> Ma
     requires thread { t.0 < length plan.now.threads }
     requires run { HasRun plan.now machine.old
         (λ r. IsAtOperation plan.now r t.0 (Some (Release l))) }
-    ensures makes { MakesRow plan.now t.0 machine.old machine.new result
+    ensures makes { MakesAction plan.now t.0 machine.old machine.new result
         (λ r. IsAtOperation plan.now r t.0 (Some (Release l))) }
     ensures unchanged { KeepsWhereIdle (answer_of result) machine.old machine.new }
 {
@@ -272,7 +272,7 @@ fn gains_plainly(machine: &Machine, plan: &Plan, l: LockNo, mode: Mode) -> bool
 }
 
 // The word of a lock.
-#[tactic(auto, using(crate::proofs::RowsOfLocks::words))]
+#[tactic(auto, using(crate::proofs::ActionsOfLocks::words))]
 fn word_at(machine: &Machine, plan: &Plan, l: LockNo) -> u64
     requires lock { l.0 < length plan.now.locks }
     requires shows { HasState plan.now machine.now (λ s. Unit) }

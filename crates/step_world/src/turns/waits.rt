@@ -1,11 +1,11 @@
-//! The rows of a thread that waits on a channel or wakes others from it.
+//! The actions of a thread that waits on a channel or wakes others from it.
 ghost use Rattle.std.specs.Prelude.{◌≡◌, ◌<◌, length, Some, option_map};
 ghost use Rattle.lock_model.specs.Operations.{IsProper};
 ghost use Rattle.lock_model.specs.Plans.{config_of};
 ghost use Rattle.lock_model.specs.declared.plan.Op.TheVariants.{Sleep};
 ghost use Rattle.lock_state.specs.Run.{Run, owed_release};
 ghost use Rattle.run_laws.specs.OnTrack.{IsAtOperation};
-ghost use Rattle.step_world.specs.Runs.{HasRun, IsRunOf, Follows, MakesRow, KeepsWhereIdle, IsDoneWaking, IsWake, answer_of};
+ghost use Rattle.step_world.specs.Runs.{HasRun, IsRunOf, Follows, MakesAction, KeepsWhereIdle, IsDoneWaking, IsWake, answer_of};
 
 use crate::turns::locks::{give_back, take};
 use crate::turns::{Made, by_wait};
@@ -46,7 +46,7 @@ pub fn sleep(machine: &mut Machine, plan: &Plan, t: ThreadNo, c: ChanNo) -> Made
     requires thread { t.0 < length plan.now.threads }
     requires run { HasRun plan.now machine.old
         (λ r. IsAtOperation plan.now r t.0 (Some (Sleep c))) }
-    ensures makes { MakesRow plan.now t.0 machine.old machine.new result
+    ensures makes { MakesAction plan.now t.0 machine.old machine.new result
         (λ r. IsAtOperation plan.now r t.0 (Some (Sleep c))) }
     ensures unchanged { KeepsWhereIdle (answer_of result) machine.old machine.new }
 {
@@ -66,7 +66,7 @@ pub fn wake(machine: &mut Machine, plan: &Plan, t: ThreadNo, c: ChanNo, all: boo
     requires proper { IsProper plan.now }
     requires thread { t.0 < length plan.now.threads }
     requires run { HasRun plan.now machine.old (λ r. IsWake plan.now r t.0 c all) }
-    ensures makes { MakesRow plan.now t.0 machine.old machine.new result
+    ensures makes { MakesAction plan.now t.0 machine.old machine.new result
         (λ r. IsWake plan.now r t.0 c all) }
     ensures unchanged { KeepsWhereIdle (answer_of result) machine.old machine.new }
 {

@@ -1,4 +1,4 @@
-//! The rows of a thread with a lending walk.
+//! The actions of a thread with a lending walk.
 ghost use Rattle.std.specs.Prelude.{◌≡◌, ◌<◌, true, length, Some, IfSome, option_map, is_some, MatchOption};
 ghost use Rattle.lock_state.specs.Facts.{Lawful};
 ghost use Rattle.lock_model.specs.Operations.{IsProper};
@@ -36,7 +36,7 @@ pub fn walk_at_lock(machine: &mut Machine, plan: &Plan, t: ThreadNo, l: LockNo) 
 }
 
 // The owner of the turnstile that is lent to a mutex or an rw lock.
-#[tactic(auto, using(crate::proofs::RowsOfWalks::owner_at, crate::proofs::RowsOfWalks::no_owner_at))]
+#[tactic(auto, using(crate::proofs::ActionsOfWalks::owner_at, crate::proofs::ActionsOfWalks::no_owner_at))]
 fn owner_at(machine: &Machine, l: LockNo) -> Option<ThreadNo>
     ensures { (c : Config) (s : State) → Represents c machine.now s → Lawful c s
         → is_turnstile (c.kind l.0) ≡ true
@@ -70,7 +70,7 @@ pub fn walk_at_thread(machine: &mut Machine, plan: &Plan, t: ThreadNo, o: Thread
 }
 
 // The lock on whose turnstile a thread stands, and whether the turnstile has an owner.
-#[tactic(auto, using(crate::proofs::RowsOfWalks::none_stands_at))]
+#[tactic(auto, using(crate::proofs::ActionsOfWalks::none_stands_at))]
 fn stands_at(machine: &Machine, plan: &Plan, o: ThreadNo) -> Option<(LockNo, bool)>
     ensures { (s : State) → Represents (config_of plan.now) machine.now s
         → Lawful (config_of plan.now) s
@@ -101,7 +101,7 @@ fn turnstile_named(machine: &Machine, plan: &Plan, o: ThreadNo) -> Option<LockNo
 }
 
 // The queue that a thread's record names. There is none where the plan has no such thread.
-#[tactic(auto, using(crate::proofs::RowsOfWalks::named_at, crate::proofs::RowsOfWalks::none_named_at))]
+#[tactic(auto, using(crate::proofs::ActionsOfWalks::named_at, crate::proofs::ActionsOfWalks::none_named_at))]
 fn blocked_on(machine: &Machine, o: ThreadNo) -> Option<QueueName>
     ensures { (c : Config) (s : State) → Represents c machine.now s → Lawful c s
         → result ≡ s.blocked_on o.0 }

@@ -1,6 +1,6 @@
 use Rattle.std.proofs.Common.{◌≡◌, ◌∙◌, ℕ, List, length, min, ap, option_map, arith}
 use Rattle.std.proofs.lemmas.Grind.{common_steps}
-use Rattle.chart_command.specs.Words.{wanted}
+use Rattle.chart_command.specs.Args.{wanted}
 use Rattle.chart_top.proofs.Pictures.{drawn}
 use Rattle.chart_top.specs.Heading.{title_by}
 use Rattle.chart_top.proofs.drawing.draw.Goals as goal

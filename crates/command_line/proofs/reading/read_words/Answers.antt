@@ -13,8 +13,11 @@ pub returns-in-Texts : goal.returns-in-Texts
 returns-in-Texts c =
     let words = map string_bytes c.args.words.now in
     let given = text_in c.in-Texts.given in
-    let asked : meaning_of table words ≡ Some (Gives given) = c.in_ok-given.ensures.asked ∙ ap (λ a. Some (meaning a)) c.in-Texts.is in
-    let taken : (name text : Text) → given name ≡ Some text → is_taken_by table name text ≡ true = subst (AreTaken table) c.in-Texts.is c.in_ok-given.ensures.kinds in
-    let all : Answers (words_of words) c.ok_or.result = answers given (words_of words) c.ok_or.result taken (ap (option_and_then words_in) asked)
+    let asked : meaning_of table words ≡ Some (Gives given) = c.in_ok-given.ensures.asked
+    ∙ ap (λ a. Some (meaning a)) c.in-Texts.is in
+    let taken : (name text : Text) → given name ≡ Some text
+    → is_taken_by table name text ≡ true = subst (AreTaken table) c.in-Texts.is c.in_ok-given.ensures.kinds in
+    let all : Answers (words_of words) c.ok_or.result =
+    answers given (words_of words) c.ok_or.result taken (ap (option_and_then words_in) asked)
     (c.ok_or.ensures.value ∙ ap (λ o. ok_or o Usage) c.said_by.ensures) in
     record { said = all.said; ranges = all.ranges; usage = all.usage }

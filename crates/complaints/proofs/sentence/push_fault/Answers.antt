@@ -23,9 +23,12 @@ returns c =
     let other : is_of_threads line ≡ false = search rules in
     let is : meaning_by (word_at 3 line) ≡ Some meaning =
     ap meaning_by (sym c.word_at-code.ensures) ∙ sym c.meaning_by.ensures ∙ ap (option_map (λ s. s.now)) c.in-Some.is in
-    seven out (codes "line ") c.word_at.result.now (codes ": ") c.as_bytes-2.result.now (codes " (code ") code (codes ")")
-    c.in_ok-extend_from_slice-3.ensures.items c.in_ok-extend_from_slice-4.ensures.items c.in_ok-extend_from_slice-5.ensures.items
-    c.in_ok-extend_from_slice-6.ensures.items c.in_ok-extend_from_slice-7.ensures.items c.in_ok-extend_from_slice-8.ensures.items
+    seven out (codes "line ") c.word_at.result.now (codes ": ") c.as_bytes-2.result.now (codes " (code ") code
+    (codes ")")
+    c.in_ok-extend_from_slice-3.ensures.items c.in_ok-extend_from_slice-4.ensures.items
+    c.in_ok-extend_from_slice-5.ensures.items
+    c.in_ok-extend_from_slice-6.ensures.items c.in_ok-extend_from_slice-7.ensures.items
+    c.in_ok-extend_from_slice-8.ensures.items
     c.in_ok-extend_from_slice-9.ensures.items
     ∙ (λ i. out ++ (codes "line " ++ (c.word_at.ensures i ++ (codes ": " ++ (c.as_bytes-2.ensures.value i
     ++ (codes " (code " ++ (c.word_at-code.ensures i ++ codes ")")))))))

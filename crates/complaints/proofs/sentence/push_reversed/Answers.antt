@@ -6,7 +6,8 @@ use Rattle.complaints.proofs.sentence.push_reversed.Goals as goal
 
 pub loop-line-init : goal.loop-line-init
 loop-line-init c =
-    sym (two c.args.out.now.items (codes "reversed") (reversals_said (lines_of c.args.text.now) (codes ": ")) c.in_ok-extend_from_slice.ensures.items refl)
+    sym (two c.args.out.now.items (codes "reversed") (reversals_said (lines_of c.args.text.now) (codes ": "))
+    c.in_ok-extend_from_slice.ensures.items refl)
 
 pub loop-line-preserved-in_ok-push_reversal : goal.loop-line-preserved-in_ok-push_reversal
 loop-line-preserved-in_ok-push_reversal c =
@@ -16,8 +17,10 @@ loop-line-preserved-in_ok-push_reversal c =
     let lines = lines_of c.in-Some.behind.now in
     let is : is_reversal line ≡ true = search rules in
     c.loop-line.invariant ∙ ap (λ ls. out ++ reversals_said ls between) c.in-Some.ensures.lines
-    ∙ ap (λ b. out ++ cond b (between ++ (reversal_said line ++ reversals_said lines (codes ", "))) (reversals_said lines between)) is
-    ∙ sym (three out between (reversal_said line) (reversals_said lines (codes ", ")) c.in_ok-extend_from_slice-2.ensures.items c.in_ok-push_reversal.ensures refl)
+    ∙ ap (λ b. out ++ cond b (between ++ (reversal_said line ++ reversals_said lines (codes ", ")))
+    (reversals_said lines between)) is
+    ∙ sym (three out between (reversal_said line) (reversals_said lines (codes ", "))
+    c.in_ok-extend_from_slice-2.ensures.items c.in_ok-push_reversal.ensures refl)
 
 pub loop-line-preserved : goal.loop-line-preserved
 loop-line-preserved c =
@@ -27,10 +30,12 @@ loop-line-preserved c =
     let lines = lines_of c.in-Some.behind.now in
     let is : is_reversal line ≡ false = search rules in
     c.loop-line.invariant ∙ ap (λ ls. out ++ reversals_said ls between) c.in-Some.ensures.lines
-    ∙ ap (λ b. out ++ cond b (between ++ (reversal_said line ++ reversals_said lines (codes ", "))) (reversals_said lines between)) is
+    ∙ ap (λ b. out ++ cond b (between ++ (reversal_said line ++ reversals_said lines (codes ", ")))
+    (reversals_said lines between)) is
 
 pub returns : goal.returns
 returns c =
     let text = c.args.text.now in
     done c.args.out.now.items (codes "reversed" ++ reversals_said (lines_of text) (codes ": ")) c.loop-line.out.items
-    (c.loop-line.invariant ∙ ap (λ ls. c.loop-line.out.items ++ reversals_said ls c.loop-line.between.now) c.in_default.ensures.lines)
+    (c.loop-line.invariant
+    ∙ ap (λ ls. c.loop-line.out.items ++ reversals_said ls c.loop-line.between.now) c.in_default.ensures.lines)

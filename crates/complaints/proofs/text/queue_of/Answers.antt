@@ -7,8 +7,11 @@ use Rattle.complaints.proofs.text.queue_of.Goals as goal
 pub returns-then-waits_in : goal.returns-then-waits_in
 returns-then-waits_in c =
     let p = waits_in c.args.thread.now in
-    ap (λ w. Some w) c.word_at.ensures ∙ sym (ap (option_map (word_at 1)) (c.loop-line.invariant ∙ ap (find p) c.in-Some.ensures.lines
-    ∙ ap (λ b. cond b (Some c.in-Some.line.now) (find p (lines_of c.in-Some.behind.now))) (sym c.waits_in.ensures ∙ c.if-waits_in.true)))
+    ap (λ w. Some w) c.word_at.ensures
+    ∙ sym (ap (option_map (word_at 1)) (c.loop-line.invariant ∙ ap (find p) c.in-Some.ensures.lines
+    ∙ ap (λ b. cond b (Some c.in-Some.line.now) (find p (lines_of c.in-Some.behind.now)))
+    (sym c.waits_in.ensures ∙ c.if-waits_in.true)))
 
 pub returns : goal.returns
-returns c = sym (ap (option_map (word_at 1)) (c.loop-line.invariant ∙ ap (find (waits_in c.args.thread.now)) c.in_default.ensures.lines))
+returns c = sym (ap (option_map (word_at 1))
+    (c.loop-line.invariant ∙ ap (find (waits_in c.args.thread.now)) c.in_default.ensures.lines))

@@ -4,7 +4,7 @@ use Rattle.run_laws.proofs.Entries.{next_op_below}
 use Rattle.run_laws.proofs.OnTrack.{left}
 use Rattle.step_world.specs.declared.turns.Made.TheVariants.{Ends, Skips}
 use Rattle.step_world.proofs.Turning.{is_there, within, stays, went_on}
-use Rattle.step_world.proofs.RowsOfTurns.{here, following}
+use Rattle.step_world.proofs.ActionsOfTurns.{here, following}
 use Rattle.step_world.proofs.turns.operate.Goals as goal
 
 pub index-requires : goal.index-requires

@@ -6,7 +6,7 @@ use Rattle.lock_state.specs.Steps.Items.{RecordOf}
 use Rattle.floor_table.specs.Steps.{MayMake}
 use Rattle.floor_table.specs.Views.{Knowledge}
 use Rattle.lock_floor.specs.Floors.{Pass}
-use Rattle.lock_floor.specs.Turns.{Takes}
+use Rattle.lock_floor.specs.Latches.{Takes}
 use Rattle.lock_floor.proofs.May.{may_give}
 use Rattle.lock_floor.proofs.Priorities.{record_out, may_take_own, may_show}
 use Rattle.lock_floor.proofs.Resting.{Used, uses, wake_gone}

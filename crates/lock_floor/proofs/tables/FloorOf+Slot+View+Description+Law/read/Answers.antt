@@ -7,7 +7,7 @@ use Rattle.floor_table.specs.declared.slot.Slot.TheVariants.{Cell}
 use Rattle.floor_table.specs.Steps.{MayMake}
 use Rattle.floor_table.specs.Views.{Knowledge}
 use Rattle.lock_floor.specs.Floors.{Pass}
-use Rattle.lock_floor.specs.Turns.{Takes}
+use Rattle.lock_floor.specs.Latches.{Takes}
 use Rattle.lock_floor.proofs.AboutCells.{may_take_cell, may_tell, cell_out}
 use Rattle.lock_floor.proofs.May.{may_give}
 use Rattle.lock_floor.proofs.Resting.{Used, uses, wake_gone}

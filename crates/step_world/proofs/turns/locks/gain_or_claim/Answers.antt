@@ -1,8 +1,8 @@
 use Rattle.std.proofs.Common.{◌≤◌, sym, subst, ◌∙◌}
 use Rattle.lock_model.specs.declared.plan.Mode.TheVariants.{Excl}
 use Rattle.step_world.proofs.Turning.{has_room, may_next, may_by, goes, of_method, of_entry}
-use Rattle.step_world.proofs.RowsOfLocks as rows
-use Rattle.step_world.proofs.RowsOfLocks.{holding}
+use Rattle.step_world.proofs.ActionsOfLocks as actions
+use Rattle.step_world.proofs.ActionsOfLocks.{holding}
 use Rattle.step_world.proofs.turns.locks.gain_or_claim.Goals as goal
 
 pub gains_plainly-requires-clause-lock : goal.gains_plainly-requires-clause-lock
@@ -14,17 +14,17 @@ gains_plainly-requires-clause-run c = let q = c.requires.run in (q.0, q.1, tt)
 pub gain-requires-clause-may : goal.gain-requires-clause-may
 gain-requires-clause-may c =
     let q = c.requires.run in
-    may_next (rows.gains_row c.requires.proper c.requires.thread q.1 q.2 (sym (c.gains_plainly.ensures q.0 q.1) ∙ c.if-gains_plainly.true)).turning
+    may_next (actions.gains_action c.requires.proper c.requires.thread q.1 q.2 (sym (c.gains_plainly.ensures q.0 q.1) ∙ c.if-gains_plainly.true)).turning
 
 pub gain-requires-clause-room : goal.gain-requires-clause-room
-gain-requires-clause-room c = let q = c.requires.run in rows.few c.requires.proper c.requires.thread q.1 q.2
+gain-requires-clause-room c = let q = c.requires.run in actions.few c.requires.proper c.requires.thread q.1 q.2
 
 pub stamp-requires-clause-may : goal.stamp-requires-clause-may
 stamp-requires-clause-may c =
     let q = c.requires.run in
     let a = c.gain.ensures in
-    let row = rows.gains_row c.requires.proper c.requires.thread q.1 q.2 (sym (c.gains_plainly.ensures q.0 q.1) ∙ c.if-gains_plainly.true) in
-    may_next (goes row.turning (of_method (holding c.args.l c.args.mode c.args.by_try) a.step a.progress a.books))
+    let action = actions.gains_action c.requires.proper c.requires.thread q.1 q.2 (sym (c.gains_plainly.ensures q.0 q.1) ∙ c.if-gains_plainly.true) in
+    may_next (goes action.turning (of_method (holding c.args.l c.args.mode c.args.by_try) a.step a.progress a.books))
 
 pub stamp-requires-clause-room : goal.stamp-requires-clause-room
 stamp-requires-clause-room c =
@@ -36,24 +36,24 @@ returns-then-gains_plainly-clause-makes c r h g =
     let a = c.gain.ensures in
     let b = c.stamp.ensures in
     let plain = sym (c.gains_plainly.ensures r h) ∙ c.if-gains_plainly.true in
-    let row = rows.gains_row c.requires.proper c.requires.thread h g plain in
-    rows.gained c.requires.proper c.requires.thread h g plain (goes (goes row.turning (of_method (holding c.args.l c.args.mode c.args.by_try) a.step a.progress a.books)) (of_entry b.step b.progress b.places b.room))
+    let action = actions.gains_action c.requires.proper c.requires.thread h g plain in
+    actions.gained c.requires.proper c.requires.thread h g plain (goes (goes action.turning (of_method (holding c.args.l c.args.mode c.args.by_try) a.step a.progress a.books)) (of_entry b.step b.progress b.places b.room))
 
 pub claim-requires-clause-may : goal.claim-requires-clause-may
 claim-requires-clause-may c =
     let q = c.requires.run in
-    let row = rows.claims_row c.requires.proper c.requires.thread q.1 q.2 (sym (c.gains_plainly.ensures q.0 q.1) ∙ c.if-gains_plainly.false) in
-    may_by row.turning _ (_, row.turning.may.0)
+    let action = actions.claims_action c.requires.proper c.requires.thread q.1 q.2 (sym (c.gains_plainly.ensures q.0 q.1) ∙ c.if-gains_plainly.false) in
+    may_by action.turning _ (_, action.turning.may.0)
 
 pub claim-requires-clause-room : goal.claim-requires-clause-room
-claim-requires-clause-room c = let q = c.requires.run in rows.few c.requires.proper c.requires.thread q.1 q.2
+claim-requires-clause-room c = let q = c.requires.run in actions.few c.requires.proper c.requires.thread q.1 q.2
 
 pub stamp-requires-else-gains_plainly-clause-may : goal.stamp-requires-else-gains_plainly-clause-may
 stamp-requires-else-gains_plainly-clause-may c =
     let q = c.requires.run in
     let a = c.claim.ensures in
-    let row = rows.claims_row c.requires.proper c.requires.thread q.1 q.2 (sym (c.gains_plainly.ensures q.0 q.1) ∙ c.if-gains_plainly.false) in
-    may_next (goes row.turning (of_method (holding c.args.l Excl c.args.by_try) (a.step _) a.progress a.books))
+    let action = actions.claims_action c.requires.proper c.requires.thread q.1 q.2 (sym (c.gains_plainly.ensures q.0 q.1) ∙ c.if-gains_plainly.false) in
+    may_next (goes action.turning (of_method (holding c.args.l Excl c.args.by_try) (a.step _) a.progress a.books))
 
 pub stamp-requires-else-gains_plainly-clause-room : goal.stamp-requires-else-gains_plainly-clause-room
 stamp-requires-else-gains_plainly-clause-room c =
@@ -65,5 +65,5 @@ returns-else-gains_plainly-clause-makes c r h g =
     let a = c.claim.ensures in
     let b = c.stamp-else-gains_plainly.ensures in
     let claim = sym (c.gains_plainly.ensures r h) ∙ c.if-gains_plainly.false in
-    let row = rows.claims_row c.requires.proper c.requires.thread h g claim in
-    rows.claimed c.requires.proper c.requires.thread h g claim (goes (goes row.turning (of_method (holding c.args.l Excl c.args.by_try) (a.step _) a.progress a.books)) (of_entry b.step b.progress b.places b.room))
+    let action = actions.claims_action c.requires.proper c.requires.thread h g claim in
+    actions.claimed c.requires.proper c.requires.thread h g claim (goes (goes action.turning (of_method (holding c.args.l Excl c.args.by_try) (a.step _) a.progress a.books)) (of_entry b.step b.progress b.places b.room))

@@ -1,6 +1,6 @@
 use Rattle.lock_model.specs.Plans.{config_of}
 use Rattle.step_machine.proofs.Kit.{word_read}
-use Rattle.step_world.proofs.RowsOfLocks.{is_well_formed}
+use Rattle.step_world.proofs.ActionsOfLocks.{is_well_formed}
 use Rattle.step_world.proofs.turns.locks.word_at.Goals as goal
 
 pub returns-clause-well_formed : goal.returns-clause-well_formed

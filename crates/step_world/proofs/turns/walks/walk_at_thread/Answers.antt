@@ -1,15 +1,15 @@
 use Rattle.std.proofs.Common.{refl}
 use Rattle.lock_state.specs.Steps.Lending.{after_shift, after_end_walk}
 use Rattle.step_world.proofs.Turning.{may_by, may_next, of_step, one_made}
-use Rattle.step_world.proofs.RowsOfWalks.{shifts, ends_at_thread}
+use Rattle.step_world.proofs.ActionsOfWalks.{shifts, ends_at_thread}
 use Rattle.step_world.proofs.turns.walks.walk_at_thread.Goals as goal
 
 pub sort_anew-requires : goal.sort_anew-requires
 sort_anew-requires c =
     let q = c.requires.run in
     let at = c.in-Some.ensures q.0.state q.1.shows.shows q.1.on_track.lawful.lawful in
-    let row = shifts c.requires.proper c.requires.thread q.1 q.2 at in
-    record { may = may_by row.turning _ (row.turning.may.0, at.owner) }
+    let action = shifts c.requires.proper c.requires.thread q.1 q.2 at in
+    record { may = may_by action.turning _ (action.turning.may.0, at.owner) }
 
 pub end_walk-requires : goal.end_walk-requires
 end_walk-requires c =

@@ -34,7 +34,7 @@ returns-clause-turn c =
     let w = c.world.inside in
     rw (← c.world.view_is) (behind_turn w.plan.now w.machine c.turn.new.machine c.turn.result c.args.t.0 c.world.invariant.proper (within c) c.turn.ensures.follows)
 
--- what is said of the row's answer is said of the turn's
+-- what is said of the action's answer is said of the turn's
 pub returns-clause-idle : goal.returns-clause-idle
 returns-clause-idle c =
     let w = c.world.inside in

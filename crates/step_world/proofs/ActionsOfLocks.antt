@@ -1,4 +1,4 @@
--- The rows of the table for a running thread that takes, tries or releases a lock, by what it reads.
+-- The actions of a running thread that takes, tries or releases a lock, by what it reads.
 use Rattle.std.proofs.Common.{◌≡◌, ◌≢◌, ℕ, suc, ◌+◌, ◌-◌, ◌<◌, Bool, true, false, cond, List, [], ◌∷◌, ◌++◌, length, take, length-append, slice_get, get_or, Option, Some, None, IsSomeAnd, unwrap_or, refl, sym, ap, subst, arith, ◌∙◌}
 use Rattle.std.specs.Prelude.{IfSome, vec_len}
 use Rattle.std.proofs.lemmas.List.{take_all, take_more}
@@ -39,7 +39,7 @@ use Rattle.lock_laws.proofs.Steps.{keeps}
 use Rattle.lock_laws.proofs.Kit.{put_same}
 use Rattle.lock_laws.proofs.HeldLists.{held_few, try_passes, release_fits, gained_order-push}
 use Rattle.run_laws.proofs.OnTrack.{awake, before, behind, fit, IsAwake}
-use Rattle.run_laws.proofs.Table.{Taking, anew, back, Gaining, by_taking, by_trying, makes_operation, goes_by_wait}
+use Rattle.run_laws.proofs.Actions.{Taking, anew, back, Gaining, by_taking, by_trying, makes_operation, goes_by_wait}
 use Rattle.run_laws.proofs.TurnsOfGains.{Finds, finds}
 use Rattle.run_laws.proofs.TurnsOfReleases as releases
 use Rattle.step_machine.specs.declared.machine.Machine.{Machine}
@@ -232,11 +232,11 @@ module _ {plan : Plan} {m : Machine} {t : ℕ} {r : Run} (p : IsProper plan) (lt
   pub is_take : {l : LockNo} {mode : Mode} {op : Op} {e : Event} → Taking plan r t l mode op e → IsAtOperation plan r t (Some op) → IsTake plan r t l mode e
   is_take {l} {mode} {op} {e} by at =
       let f = its (by_taking by) at in
-      record { op = op; at = at; taken = row by; lock = f.lock; kind = f.mutex; few = few_so _ f.adds; holds_more = f.adds }
+      record { op = op; at = at; taken = action by; lock = f.lock; kind = f.mutex; few = few_so _ f.adds; holds_more = f.adds }
     where
-      row : {k : LockNo} {x : Mode} {o : Op} {v : Event} → Taking plan r t k x o v → operates c r t (Some o) ≡ takes c r t k x v
-      row (anew k x n w) = rw w refl
-      row (back d b w) = rw w refl
+      action : {k : LockNo} {x : Mode} {o : Op} {v : Event} → Taking plan r t k x o v → operates c r t (Some o) ≡ takes c r t k x v
+      action (anew k x n w) = rw w refl
+      action (back d b w) = rw w refl
 
   -- gains the lock where its word admits the mode
   pub takes_it : {l : LockNo} {mode : Mode} {e : Event} → IsTake plan r t l mode e → admits (c.kind l.0) (s.word l.0) mode ≡ true → IsGain plan r t l mode false e
@@ -262,14 +262,14 @@ module _ {plan : Plan} {m : Machine} {t : ℕ} {r : Run} (p : IsProper plan) (lt
         go (Some a) f = subst (λ (hs : List Held). length hs < 8) (sym f.held) g.few
 
     -- plainly,
-    pub gains_row : is_plain (c.kind l.0) (s.word l.0) mode ≡ true → Begins plan r t m (ends r t kinds.Gain (Gains t l.0 mode by_try ∷ Stamps t e ∷ []))
-    gains_row i = begins p lt h (makes_operation plan r t g.op g.at ∙ g.gained ∙ rw i refl)
+    pub gains_action : is_plain (c.kind l.0) (s.word l.0) mode ≡ true → Begins plan r t m (ends r t kinds.Gain (Gains t l.0 mode by_try ∷ Stamps t e ∷ []))
+    gains_action i = begins p lt h (makes_operation plan r t g.op g.at ∙ g.gained ∙ rw i refl)
 
     pub gained : {n : Machine} (i : is_plain (c.kind l.0) (s.word l.0) mode ≡ true)
-        → IsTurning plan r t n (after_all c s (Gains t l.0 mode by_try ∷ Stamps t e ∷ [])) (holding l mode by_try (gains_row i).at) [] → IsMade plan r t n (Ends kinds.Gain)
+        → IsTurning plan r t n (after_all c s (Gains t l.0 mode by_try ∷ Stamps t e ∷ [])) (holding l mode by_try (gains_action i).at) [] → IsMade plan r t n (Ends kinds.Gain)
     unfolding after_gain
     gained i now =
-        let b = gains_row i in
+        let b = gains_action i in
         let up = awake_behind c (after_gain s t l.0 mode by_try) t e b.turning.may.1.0 g.at.running (h.on_track.unnoted t) g.at.uncut in
         made_behind (Ends kinds.Gain) (suc (r.next_op t)) refl b now up b.as_far.next_op (ap (λ (hs : List Held). hs ++ (record { l = l; mode = mode; by_try = by_try }) ∷ []) b.as_far.held ∙ g.holds_more)
 
@@ -277,14 +277,14 @@ module _ {plan : Plan} {m : Machine} {t : ℕ} {r : Run} (p : IsProper plan) (lt
     abbrev head : ℕ
     head = unwrap_or (s.head (lock_queue l.0)) t
 
-    pub claims_row : is_plain (c.kind l.0) (s.word l.0) mode ≡ false → Begins plan r t m (ends r t kinds.Claim (Claims t l.0 head by_try ∷ Stamps t e ∷ []))
-    claims_row i = begins p lt h (makes_operation plan r t g.op g.at ∙ g.gained ∙ rw i refl)
+    pub claims_action : is_plain (c.kind l.0) (s.word l.0) mode ≡ false → Begins plan r t m (ends r t kinds.Claim (Claims t l.0 head by_try ∷ Stamps t e ∷ []))
+    claims_action i = begins p lt h (makes_operation plan r t g.op g.at ∙ g.gained ∙ rw i refl)
 
     pub claimed : {n : Machine} (i : is_plain (c.kind l.0) (s.word l.0) mode ≡ false)
-        → IsTurning plan r t n (after_all c s (Claims t l.0 head by_try ∷ Stamps t e ∷ [])) (holding l Excl by_try (claims_row i).at) [] → IsMade plan r t n (Ends kinds.Claim)
+        → IsTurning plan r t n (after_all c s (Claims t l.0 head by_try ∷ Stamps t e ∷ [])) (holding l Excl by_try (claims_action i).at) [] → IsMade plan r t n (Ends kinds.Claim)
     unfolding after_claim
     claimed i now =
-        let b = claims_row i in
+        let b = claims_action i in
         let up = awake_behind c (after_claim c s t l.0 head by_try) t e b.turning.may.1.0 g.at.running (h.on_track.unnoted t) g.at.uncut in
         made_behind (Ends kinds.Claim) (suc (r.next_op t)) refl b now up b.as_far.next_op
         (ap (λ (hs : List Held). hs ++ (record { l = l; mode = Excl; by_try = by_try }) ∷ []) b.as_far.held ∙ ap (λ (x : Mode). held_now plan r t ++ (record { l = l; mode = x; by_try = by_try }) ∷ []) (sym (exclusive mode i)) ∙ g.holds_more)
@@ -310,12 +310,12 @@ module _ {plan : Plan} {m : Machine} {t : ℕ} {r : Run} (p : IsProper plan) (lt
         go true x y = refl
         go false x y = refl
 
-    pub blocks_row : Begins plan r t m (does kinds.Enter blocking)
-    blocks_row = begins p lt h (makes_operation plan r t g.op g.at ∙ g.taken ∙ rw a blocks_by)
+    pub blocks_action : Begins plan r t m (does kinds.Enter blocking)
+    blocks_action = begins p lt h (makes_operation plan r t g.op g.at ∙ g.taken ∙ rw a blocks_by)
 
-    pub blocked : {n : Machine} → IsTurning plan r t n (after_all c s blocking) blocks_row.at [] → IsMade plan r t n (Does (Did kinds.Enter))
+    pub blocked : {n : Machine} → IsTurning plan r t n (after_all c s blocking) blocks_action.at [] → IsMade plan r t n (Does (Did kinds.Enter))
     unfolding after_ready after_enter after_enter_sleep
-    blocked now = made_still blocks_row now (ap (λ f. f t) stays.0) (ap (λ f. f t) stays.1) (ap (λ f. f t) stays.2)
+    blocked now = made_still blocks_action now (ap (λ f. f t) stays.0) (ap (λ f. f t) stays.1) (ap (λ f. f t) stays.2)
       where
         by_kind : (b : Bool) (x : ℕ) → let n = after c (after_ready s t) (cond b (Enters t l.0 mode x) (EntersSleepQueue t l.0 mode x)) in (n.held ≡ s.held) × (n.held_locks ≡ s.held_locks) × (n.log ≡ s.log)
         by_kind true x = (refl, refl, refl)
@@ -330,13 +330,13 @@ module _ {plan : Plan} {m : Machine} {t : ℕ} {r : Run} (p : IsProper plan) (lt
     abbrev busy : List Step
     busy = Looks t l.0 false ∷ Stamps t (event.Busy l w) ∷ []
 
-    pub busy_row : Begins plan r t m (record { answer = Did kinds.Note; steps = busy; next = Some past })
-    busy_row = begins p lt h (makes_operation plan r t (Try l mode past) at ∙ rw (a, ← e, bits_again w) refl)
+    pub busy_action : Begins plan r t m (record { answer = Did kinds.Note; steps = busy; next = Some past })
+    busy_action = begins p lt h (makes_operation plan r t (Try l mode past) at ∙ rw (a, ← e, bits_again w) refl)
 
-    pub found_busy : {n : Machine} → IsTurning plan r t n (after_all c s busy) busy_row.at [] → IsMade plan r t n (Skips past)
+    pub found_busy : {n : Machine} → IsTurning plan r t n (after_all c s busy) busy_action.at [] → IsMade plan r t n (Skips past)
     unfolding after_look
     found_busy now =
-        let b = busy_row in
+        let b = busy_action in
         let none = awake plan r t h.on_track (Try l mode past) at.next refl in
         let up = awake_behind c (after_look s t l.0 false) t (event.Busy l w) b.turning.may.1.0 at.running (h.on_track.unnoted t) at.uncut in
         made_behind (Skips past) past refl b now up b.as_far.next_op
@@ -384,12 +384,12 @@ module _ {plan : Plan} {m : Machine} {t : ℕ} {r : Run} (p : IsProper plan) (lt
     abbrev mode : Mode
     mode = mode_held (s.held t l.0)
 
-    pub releases_row : Begins plan r t m (ends r t (back_in c s t l.0 mode).0 (unlocks c s t l mode))
-    releases_row = begins p lt h (makes_operation plan r t (Release l) at)
+    pub releases_action : Begins plan r t m (ends r t (back_in c s t l.0 mode).0 (unlocks c s t l mode))
+    releases_action = begins p lt h (makes_operation plan r t (Release l) at)
 
     pub released : {n : Machine} {kind : StepKind} → Unlocks plan m n t l kind → ChangesProgress m n t (with_released l.0) → SameRoom m n → IsMade plan r t n (Ends kind)
     released {n} gave moves room =
-        let b = releases_row in
+        let b = releases_action in
         let none = awake plan r t h.on_track (Release l) at.next refl in
         let noted_up = awake_behind c s t (event.Unlocked l mode) b.turning.may.0 at.running (h.on_track.unnoted t) at.uncut in
         let log = log_then l mode in
@@ -423,12 +423,12 @@ module _ {plan : Plan} {m : Machine} {t : ℕ} {r : Run} (p : IsProper plan) (lt
       pub some_left : s.held_locks t ≢ []
       some_left z = absurd (let e : [] ≡ listed x ∷ gained_order hs = sym z ∙ listed_last in cc)
 
-      pub gives_last_row : Begins plan r t m (does (back_in c s t x.l.0 mode_of_last).0 (unlocks c s t x.l mode_of_last))
-      gives_last_row = begins p lt h (goes_by_wait plan r t g.going g.cut.free ∙ rw (g.cut.running, g.cut.cut, listed_last) refl)
+      pub gives_last_action : Begins plan r t m (does (back_in c s t x.l.0 mode_of_last).0 (unlocks c s t x.l mode_of_last))
+      gives_last_action = begins p lt h (goes_by_wait plan r t g.going g.cut.free ∙ rw (g.cut.running, g.cut.cut, listed_last) refl)
 
       pub gave_last : {n : Machine} {kind : StepKind} → Unlocks plan m n t x.l kind → ChangesProgress m n t (with_released x.l.0) → SameRoom m n → IsTurn plan r t n (Did kind)
       gave_last {n} gave moves room =
-          let b = gives_last_row in
+          let b = gives_last_action in
           let log = log_then x.l mode_of_last in
           let noted_cut = cut_behind c s t (event.Unlocked x.l mode_of_last) ∙ g.cut.cut in
           let noted_awake = waits_behind c s t (event.Unlocked x.l mode_of_last) in

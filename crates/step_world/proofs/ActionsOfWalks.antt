@@ -1,4 +1,4 @@
--- The rows of the table for a thread with a walk, and what the walk reads where it stands.
+-- The actions of a thread with a walk, and what the walk reads where it stands.
 use Rattle.std.proofs.Common.{◌≡◌, ℕ, ◌<◌, ◌≤◌, Bool, true, ltb, List, [], ◌∷◌, length, get_or, slice_get, Option, Some, None, refl, sym, ap, subst, inl, inr, arith, ◌∙◌}
 use Rattle.std.proofs.lemmas.Bool.{and_right, and_from, cases_Bool, lt-ltb}
 use Rattle.std.proofs.lemmas.Option.{slice_get_read}
@@ -19,7 +19,7 @@ use Rattle.lock_model.specs.declared.plan.QueueName.TheVariants.{Lock, Chan}
 use Rattle.lock_model.specs.declared.turn.StepKind.TheVariants as kinds
 use Rattle.turnstile_core.specs.Seen.{Turnstile}
 use Rattle.chain_table.specs.Chains.{head_of}
-use Rattle.run_laws.proofs.Table.{walks_from_lock, walks_from_thread}
+use Rattle.run_laws.proofs.Actions.{walks_from_lock, walks_from_thread}
 use Rattle.lock_laws.proofs.AtTurn as at_turn
 use Rattle.step_machine.specs.declared.machine.Machine.{Machine}
 use Rattle.step_machine.specs.declared.thread.Thread.{Thread}
@@ -52,7 +52,7 @@ module _ (m : Machine) (c : Config) (s : State) (shown : Represents c m s) (h : 
   pub none_named_at : (t : ℕ) → length m.threads.items ≤ t → None ≡ s.blocked_on t
   none_named_at t l = sym (at_turn.beyond_unnamed c s t h (omega (arith, shown.threads.threads, l)))
 
--- 2. The rows
+-- 2. The actions
 
 module _ {plan : Plan} {m : Machine} {t : ℕ} (p : IsProper plan) (lt : t < length plan.threads) {r : Run} (h : IsRunOf plan m r) where
   abbrev c : Config

@@ -1,4 +1,4 @@
--- The rows of the table for a thread that has gone to sleep, goes to sleep, or wakes others, by what it reads.
+-- The actions of a thread that has gone to sleep, goes to sleep, or wakes others, by what it reads.
 use Rattle.std.proofs.Common.{◌≡◌, ◌≢◌, ℕ, suc, ◌<◌, ◌≤◌, Bool, true, false, not, cond, List, [], ◌∷◌, length, map, slice_get, Option, Some, None, option_map, refl, sym, ap, subst, eq-eqb, ◌∙◌}
 use Rattle.std.specs.Prelude.{unwrap_or, is_some}
 use Rattle.std.specs.Bool.{then_some}
@@ -28,7 +28,7 @@ use Rattle.lock_model.specs.declared.turn.StepKind.TheVariants as kinds
 use Rattle.lock_model.specs.declared.turn.Turn.TheVariants.{Did}
 use Rattle.run_laws.specs.OnTrack.{IsAtOperation}
 use Rattle.run_laws.proofs.OnTrack.{is_awake, waits_uncut, before, behind, fit, put_at_own, IsAwake}
-use Rattle.run_laws.proofs.Table.{back, lock_with, mode_left, its_mode, makes_operation, gives_up_first}
+use Rattle.run_laws.proofs.Actions.{back, lock_with, mode_left, its_mode, makes_operation, gives_up_first}
 use Rattle.run_laws.proofs.TurnsOfReleases as releases
 use Rattle.run_laws.proofs.TurnsOfSleeps as sleeps
 use Rattle.run_laws.proofs.TurnsOfWaits.{given_up}
@@ -40,7 +40,7 @@ use Rattle.step_world.specs.Runs.{HasState, IsRunOf, IsTurn, IsMade, IsBehind, I
 use Rattle.step_machine.specs.Runs.{IsAsFar}
 use Rattle.step_world.proofs.AsFar.{waits_behind, cut_behind, awake_behind, that_is}
 use Rattle.step_world.proofs.Turning.{has_room, may_next, IsTurning, Begins, begins, made, made_behind, stays}
-use Rattle.step_world.proofs.RowsOfLocks.{is_take, given, kind_is, back_keeps_log, back_puts}
+use Rattle.step_world.proofs.ActionsOfLocks.{is_take, given, kind_is, back_keeps_log, back_puts}
 
 -- the entry of a wake
 abbrev pub noting : ChanNo → Bool → ℕ → Event
@@ -93,11 +93,11 @@ module _ {plan : Plan} {m : Machine} {t : ℕ} {r : Run} (p : IsProper plan) (lt
     abbrev its_back : StepKind × Step
     its_back = back_in c s t l mode
 
-    pub gives_up_row : Begins plan r t m (does its_back.0 (its_back.1 ∷ []))
-    gives_up_row = begins p lt h (gives_up_first plan r t l d.no_walk d.unmarked owed)
+    pub gives_up_action : Begins plan r t m (does its_back.0 (its_back.1 ∷ []))
+    gives_up_action = begins p lt h (gives_up_first plan r t l d.no_walk d.unmarked owed)
 
     pub may_give_up : HasState plan m (λ x. (y : Mode) × MayGiveBack c x t l y)
-    may_give_up = let b = gives_up_row.turning in (s, b.shows, b.lawful, (mode, b.may.0))
+    may_give_up = let b = gives_up_action.turning in (s, b.shows, b.lawful, (mode, b.may.0))
 
     waits : lock_of_wait c s t ≡ Some l
     waits = (releases.owes_it plan r t p h.on_track lt l d.unmarked owed).0
@@ -146,7 +146,7 @@ module _ {plan : Plan} {m : Machine} {t : ℕ} {r : Run} (p : IsProper plan) (lt
 
     pub gave_up : {x : Machine} {kind : StepKind} → GivesBack plan m x t l kind → ChangesProgress m x t (with_released l) → KeepsBooks m x → IsTurn plan r t x (Did kind)
     gave_up {x} gave moves books =
-        let b = gives_up_row in
+        let b = gives_up_action in
         subst (λ (y : StepKind). IsTurn plan r t x (Did y)) (sym (kind_is l mode b.turning gave))
         (stays (made (Does (Did its_back.0)) b (given l mode b.turning gave moves books) (gone_back b.at b.as_far)))
 
@@ -186,8 +186,8 @@ module _ {plan : Plan} {m : Machine} {t : ℕ} {r : Run} (p : IsProper plan) (lt
         abbrev sleeping : List Step
         sleeping = Readies t (Chan d) ∷ Stamps t (event.Sleeps d) ∷ Adds t d.0 own ∷ []
 
-        pub sleeps_row : Begins plan r t m (does kinds.Add sleeping)
-        sleeps_row = begins p lt h (makes_operation plan r t (Sleep d) at ∙ rw up refl)
+        pub sleeps_action : Begins plan r t m (does kinds.Add sleeping)
+        sleeps_action = begins p lt h (makes_operation plan r t (Sleep d) at ∙ rw up refl)
 
         abbrev asleep : State
         asleep = after_all c s sleeping
@@ -223,8 +223,9 @@ module _ {plan : Plan} {m : Machine} {t : ℕ} {r : Run} (p : IsProper plan) (lt
           };
         }
 
-        pub fallen_asleep : {x : Machine} → IsTurning plan r t x asleep sleeps_row.at [] → IsMade plan r t x (Does (Did kinds.Add))
-        fallen_asleep now = made (Does (Did kinds.Add)) sleeps_row now (gone_to_sleep sleeps_row.at sleeps_row.as_far)
+        pub fallen_asleep : {x : Machine} → IsTurning plan r t x asleep sleeps_action.at [] → IsMade plan r t x (Does (Did kinds.Add))
+        fallen_asleep now =
+            made (Does (Did kinds.Add)) sleeps_action now (gone_to_sleep sleeps_action.at sleeps_action.as_far)
 
   -- 5. A wake
 
@@ -242,8 +243,8 @@ module _ {plan : Plan} {m : Machine} {t : ℕ} {r : Run} (p : IsProper plan) (lt
     abbrev waking : List Step
     waking = Wakes t d.0 all ∷ Stamps t noted ∷ []
 
-    pub wakes_row : Begins plan r t m (ends r t kinds.Wake waking)
-    wakes_row = begins p lt h (go all w ∙ ap (λ x. ends r t kinds.Wake (Wakes t d.0 all ∷ Stamps t x ∷ [])) (ap (noting d all) (sym bits) ∙ sym e))
+    pub wakes_action : Begins plan r t m (ends r t kinds.Wake waking)
+    wakes_action = begins p lt h (go all w ∙ ap (λ x. ends r t kinds.Wake (Wakes t d.0 all ∷ Stamps t x ∷ [])) (ap (noting d all) (sym bits) ∙ sym e))
       where
         go : (b : Bool) → IsWake plan r t d b → turn_of plan r t ≡ ends r t kinds.Wake (Wakes t d.0 b ∷ Stamps t (noting d b (bits_of_threads (map (λ (x : Waiter). x.thread) (taken_off b (s.lists (chan_queue d.0)).exclusive)))) ∷ [])
         go true at = makes_operation plan r t (WakeAll d) at
@@ -257,9 +258,9 @@ module _ {plan : Plan} {m : Machine} {t : ℕ} {r : Run} (p : IsProper plan) (lt
         go true at = (at.running, is_awake plan r t h.on_track (WakeAll d) at refl, (fit plan r t p (WakeAll d) at.next).behind)
         go false at = (at.running, is_awake plan r t h.on_track (WakeOne d) at refl, (fit plan r t p (WakeOne d) at.next).behind)
 
-    pub woke : {x : Machine} → IsTurning plan r t x (after_all c s waking) wakes_row.at [] → IsMade plan r t x (Ends kinds.Wake)
+    pub woke : {x : Machine} → IsTurning plan r t x (after_all c s waking) wakes_action.at [] → IsMade plan r t x (Ends kinds.Wake)
     unfolding after_wake
     woke now =
-        let b = wakes_row in
+        let b = wakes_action in
         let up = awake_behind c (after_wake s t d.0 all) t noted b.turning.may.1.0 leaves.0 (h.on_track.unnoted t) leaves.1.uncut in
         made_behind (Ends kinds.Wake) (suc (r.next_op t)) refl b now up b.as_far.next_op (b.as_far.held ∙ rw (leaves.1.uncut, leaves.1.no_wait) refl ∙ leaves.2)

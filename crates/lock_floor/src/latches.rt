@@ -1,30 +1,32 @@
-//! Turns: a thread takes a record or a table's cell out of its home, and gives it back. Each try is one atomic step, never
-//! waits and takes no memory.
+//! Latches: a thread takes a record or a cell of a lock's table out of its home, and gives it back. Each try is one
+//! atomic step, never waits and takes no memory.
 ghost use Rattle.std.specs.Prelude.{ℕ, ◌≡◌, ◌<◌, ◌+◌, ◌^◌, ◌==◌, suc, ⊤, true, false, None, Some, [], ◌∷◌, length};
 ghost use prog.Atomic.{either};
 ghost use Rattle.atomic_table.specs.Table.{Allows, Me, rest};
 ghost use Rattle.lock_state.specs.Steps.{TakesItem, GivesItem};
 ghost use Rattle.lock_state.specs.Steps.Items.{Item, RecordOf, item_with};
 ghost use Rattle.floor_table.specs.declared.slot.Slot.TheVariants.{Record};
-ghost use Rattle.floor_table.specs.Places.{spot, turn_line, slots_for, slot_of};
+ghost use Rattle.floor_table.specs.Places.{spot, latch_line, slots_for, slot_of};
 ghost use Rattle.floor_table.specs.Rule.{FloorHolds};
 ghost use Rattle.floor_table.specs.Steps.{MayMake, Makes};
 ghost use Rattle.floor_table.specs.Views.{seeing};
 ghost use Rattle.lock_floor.specs.Passes.{IsOf};
-ghost use Rattle.lock_floor.specs.Turns.{FindsOut, Takes};
+ghost use Rattle.lock_floor.specs.Latches.{FindsOut, Takes};
 ghost use Rattle.lock_floor.specs.Views.{gave};
 
 use crate::floor::FloorOf;
 use crate::pass::Pass;
-use floor_table::{Board, Description, Law, Place, Slot, Tells, View, exchange, store, turn_spot};
+use floor_table::{
+    Board, Description, FloorSeat, Law, Slot, Tells, View, exchange, latch_spot, store,
+};
 use lock_model::ThreadNo;
 use std::hint;
 use std::marker::Brand;
 use std::sync::Wait;
 
 impl FloorOf<Slot, View, Description, Law> {
-    /// Takes the record of a thread, if it is at home. `false` comes only where another thread had it out at the moment
-    /// of this call's own exchange, or the pass itself has it.
+    /// Takes the record of a thread, if it is at home. `false` comes only where another thread had it out at a moment
+    /// between the pass's last step and this call's return, or the pass itself has it.
     pub fn try_take_rec(&self, pass: &mut Pass, t: ThreadNo) -> bool
         requires own { IsOf self.now pass.old }
         requires thread { t.0 < length self.now.description.threads }
@@ -84,7 +86,7 @@ impl FloorOf<Slot, View, Description, Law> {
         ensures elsewhere { result ≡ false → (i : Item) → slot_of self.now.description i ≡ Some slot
             → FindsOut self.now.description i pass.old.view pass.new.view }
     {
-        take_turn::<Brand>(&self.board, &mut pass.seat, pass.who, slot) == 0
+        take_latch::<Brand>(&self.board, &mut pass.seat, pass.who, slot) == 0
     }
 
     // Takes what a place has, when it is at home there.
@@ -120,34 +122,34 @@ impl FloorOf<Slot, View, Description, Law> {
             → Makes self.now.description (GivesItem pass.old.view.thread i ∷ [])
             pass.old.view pass.new.view }
     {
-        give_turn::<Brand>(&self.board, &mut pass.seat, slot);
+        give_latch::<Brand>(&self.board, &mut pass.seat, slot);
     }
 }
 
-// Makes a turn word that is 0 one more than the thread's number. Answers the word that it found.
-fn take_turn<J: Tells>(board: &Board, seat: &mut Place, who: ThreadNo, slot: usize) -> u64
+// Makes a latch that is 0 one more than the thread's number. Answers the word that it found.
+fn take_latch<J: Tells>(board: &Board, seat: &mut FloorSeat, who: ThreadNo, slot: usize) -> u64
     requires own { seat.old.table_id ≡ board.now.shared.table_id }
     requires slot { slot < 2 ^ 32 }
-    requires within { spot (turn_line slot) < board.now.shared.table_id.words }
+    requires within { spot (latch_line slot) < board.now.shared.table_id.words }
     requires may { Allows (FloorHolds board.now.shared.key) board.now.shared.table_id.slots
-        seat.old.id seat.old.me (spot (turn_line slot)) (λ n. either (n == 0) (suc who.0) n)
+        seat.old.id seat.old.me (spot (latch_line slot)) (λ n. either (n == 0) (suc who.0) n)
         (J.told seat.old.me) }
     ensures own { seat.new.table_id ≡ seat.old.table_id }
     ensures told { J.told seat.old.me result seat.new.me }
 {
-    exchange::<J>(board, seat, turn_spot(slot), 0, u64::from(who.0) + 1)
+    exchange::<J>(board, seat, latch_spot(slot), 0, u64::from(who.0) + 1)
 }
 
-// Makes a turn word 0.
-fn give_turn<J: Tells>(board: &Board, seat: &mut Place, slot: usize)
+// Makes a latch 0.
+fn give_latch<J: Tells>(board: &Board, seat: &mut FloorSeat, slot: usize)
     requires own { seat.old.table_id ≡ board.now.shared.table_id }
     requires slot { slot < 2 ^ 32 }
-    requires within { spot (turn_line slot) < board.now.shared.table_id.words }
+    requires within { spot (latch_line slot) < board.now.shared.table_id.words }
     requires may { Allows (FloorHolds board.now.shared.key) board.now.shared.table_id.slots
-        seat.old.id seat.old.me (spot (turn_line slot)) (λ _. 0)
+        seat.old.id seat.old.me (spot (latch_line slot)) (λ _. 0)
         (λ _. J.told seat.old.me 0) }
     ensures own { seat.new.table_id ≡ seat.old.table_id }
     ensures told { J.told seat.old.me 0 seat.new.me }
 {
-    store::<J>(board, seat, turn_spot(slot), 0);
+    store::<J>(board, seat, latch_spot(slot), 0);
 }

@@ -2,12 +2,12 @@
 use Rattle.std.specs.Prelude.{◌≤◌, option_map}
 use Rattle.lock_model.specs.declared.limits.TheConstants.{CHAINS, TURNS}
 use Rattle.chart_command.specs.Forms.{Asking, AsksForHelp, AsksPicture, Wanted}
-use Rattle.chart_command.specs.declared.words.Asked.{Asked}
-use Rattle.chart_command.specs.declared.words.Asked.TheVariants.{Help, Picture}
-use Rattle.chart_command.specs.declared.words.Words.{Words}
+use Rattle.chart_command.specs.declared.args.Asked.{Asked}
+use Rattle.chart_command.specs.declared.args.Asked.TheVariants.{Help, Picture}
+use Rattle.chart_command.specs.declared.args.LockchartArgs.{LockchartArgs}
 
 -- what they say of a picture
-abbrev pub wanted : Words → Wanted
+abbrev pub wanted : LockchartArgs → Wanted
 wanted said = record {
   turns = said.turns;
   chains = said.chains;
@@ -23,7 +23,7 @@ asking (Picture said) = AsksPicture (wanted said)
 asking (Help text) = AsksForHelp
 
 -- from 1 to 1,000,000 turns, and from 1 to 64 chains of each sort
-pub record HasRanges (said : Words) : Type 0 where
+pub record HasRanges (said : LockchartArgs) : Type 0 where
   pub some_turns : 1 ≤ said.turns
   pub few_turns : said.turns ≤ TURNS
   pub some_chains : 1 ≤ said.chains

@@ -1,5 +1,5 @@
--- The table of turns, row by row: each row with what the thread is found at where that row is the first that fits.
--- What is proved of a turn is proved by these cases.
+-- The actions of turns, one by one: each with what the thread is found at where it is the first that fits. What is
+-- proved of a turn is proved by these cases.
 use Rattle.std.proofs.Common.{◌≡◌, ◌≢◌, ◌⊎◌, ℕ, Bool, true, false, cond, ◌&&◌, ◌||◌, ltb, nat_le, List, [], ◌∷◌, length, slice_get, Option, Some, None, refl, sym, inl, inr, arith, ◌∙◌}
 use Rattle.std.specs.Prelude.{unwrap_or}
 use Rattle.std.proofs.lemmas.Bool.{lt-leb}
@@ -12,7 +12,7 @@ use Rattle.lock_model.specs.Config.{Config}
 use Rattle.lock_state.specs.State.{State, HeldLock, Wait, Running, Queued, Woken, Walk, NoWalk, AtLock, AtThread}
 use Rattle.lock_state.specs.Steps.{Step, Gains, Claims, Drops, Stamps, Readies, Enters, Opens, EntersSleepQueue, OpensSleepQueue, Adds, Marks, Resumes, Lends, Shifts, EndsWalk, Admits, Refuses}
 use Rattle.lock_model.specs.History.{left_in}
-use Rattle.lock_state.specs.Run.{Run, Row, turn_of, has_ended, was_cut, owes, owed_release, waits_on, holds_none, nothing, does, ends, blocks, notes, takes, tries, gives_back, mode_held, operates, by_wait, by_release, by_marked, by_walk, walks_at_lock, walks_at_thread}
+use Rattle.lock_state.specs.Run.{Run, Action, turn_of, has_ended, was_cut, owes, owed_release, waits_on, holds_none, nothing, does, ends, blocks, notes, takes, tries, gives_back, mode_held, operates, by_wait, by_release, by_marked, by_walk, walks_at_lock, walks_at_thread}
 use Rattle.lock_state.specs.Run as run
 use Rattle.lock_model.specs.declared.numbers.LockNo.{LockNo}
 use Rattle.lock_model.specs.declared.numbers.ChanNo.{ChanNo}
@@ -32,7 +32,7 @@ use Rattle.lock_laws.proofs.Kit.{put_same}
 use Rattle.run_laws.specs.OnTrack.{OwesNothing, IsAtOperation, IsCutShort, BeginsTake, admitted, first_against}
 use Rattle.lock_state.specs.Steps.Orders.{after_admit}
 
--- 1. What an operation asks of a row
+-- 1. What an operation asks of an action
 
 -- the entry of an operation that only makes one
 pub data Notes (r : Run) (t : ℕ) : Op → Event → Type 0 where
@@ -80,14 +80,14 @@ pub data Waking (d : ChanNo) : Op → Bool → (ℕ → Event) → Type 0 where
   of_one : Waking d (WakeOne d) false (event.WokeOne d)
   of_all : Waking d (WakeAll d) true (event.WokeAll d)
 
--- 2. The rows
+-- 2. The actions
 
 -- whether a thread stands on the lock's turnstile
 abbrev pub stands_at : Plan → Run → ℕ → ℕ → Bool
 stands_at plan r o l = is_turnstile ((config_of plan).kind l) && ltb 0 (stands o (r.state.lists (lock_queue l)))
 
--- the rows of a thread that gains a lock, or blocks for one that it takes
-pub data Acquires (plan : Plan) (r : Run) (t : ℕ) : Row → Type 0 where
+-- the actions of a thread that gains a lock, or blocks for one that it takes
+pub data Acquires (plan : Plan) (r : Run) (t : ℕ) : Action → Type 0 where
   gains : {l : LockNo} {mode : Mode} {op : Op} {by_try : Bool} {e : Event} → Gaining plan r t l mode op by_try e → IsAtOperation plan r t (Some op)
       → admits ((config_of plan).kind l.0) (r.state.word l.0) mode ≡ true → is_plain ((config_of plan).kind l.0) (r.state.word l.0) mode ≡ true
       → Acquires plan r t (ends r t kind.Gain (Gains t l.0 mode by_try ∷ Stamps t e ∷ []))
@@ -98,8 +98,8 @@ pub data Acquires (plan : Plan) (r : Run) (t : ℕ) : Row → Type 0 where
       → admits ((config_of plan).kind l.0) (r.state.word l.0) mode ≡ false → Entering plan r t l.0 mode step
       → Acquires plan r t (does kind.Enter (Readies t (Lock l) ∷ step ∷ []))
 
--- the first row that fits a thread
-pub data Fits (plan : Plan) (r : Run) (t : ℕ) : Row → Type 0 where
+-- the first action that fits a thread
+pub data Fits (plan : Plan) (r : Run) (t : ℕ) : Action → Type 0 where
   is_over : has_ended plan r t ≡ true → Fits plan r t (nothing Ended)
   lends : (l o h : ℕ) → r.state.walk t ≡ AtLock l → owner_of (r.state.word l).holder ≡ Some o → r.state.head (lock_queue l) ≡ Some h
       → Fits plan r t (does kind.Lend (Lends t l o h ∷ []))
@@ -114,10 +114,10 @@ pub data Fits (plan : Plan) (r : Run) (t : ℕ) : Row → Type 0 where
       → GivingBack plan r t l (mode_held (r.state.held t l)) kind step → Fits plan r t (does kind (step ∷ []))
   is_queued : has_ended plan r t ≡ false → OwesNothing plan r t → r.state.wait t ≡ Queued → Fits plan r t (nothing Idle)
   resumes : (q : QueueName) (cause : Cause) → OwesNothing plan r t → r.state.wait t ≡ Woken q cause → Fits plan r t (does kind.Resume (Resumes t q cause ∷ []))
-  acquires : {row : Row} → Acquires plan r t row → Fits plan r t row
+  acquires : {action : Action} → Acquires plan r t action → Fits plan r t action
   -- a take's first turn: its lock is admitted, and the turn goes on as a later one,
-  is_admitted : {l : LockNo} {mode : Mode} {row : Row} → BeginsTake plan r t l mode → first_against plan r t l ≡ None → Acquires plan (admitted plan r t l) t row
-      → Fits plan r t (record row { steps = Admits t l.0 ∷ row.steps })
+  is_admitted : {l : LockNo} {mode : Mode} {action : Action} → BeginsTake plan r t l mode → first_against plan r t l ≡ None → Acquires plan (admitted plan r t l) t action
+      → Fits plan r t (record action { steps = Admits t l.0 ∷ action.steps })
   -- or it is refused
   is_refused : {l : LockNo} {mode : Mode} (k : ℕ) → BeginsTake plan r t l mode → first_against plan r t l ≡ Some k
       → Fits plan r t (does kind.Note (Refuses t l.0 k ∷ Stamps t (event.Reversed l (record { 0 = k })) ∷ []))
@@ -144,10 +144,10 @@ module _ (plan : Plan) (r : Run) (t : ℕ) where
       → admits ((config_of plan).kind l.0) (r.state.word l.0) mode ≡ true → Acquires plan r t (run.gains (config_of plan) r t l mode by_try e)
   gained {l} {mode} {op} {by_try} {e} by i a = go (is_plain ((config_of plan).kind l.0) (r.state.word l.0) mode) refl
     where
-      plain : Row
+      plain : Action
       plain = ends r t kind.Gain (Gains t l.0 mode by_try ∷ Stamps t e ∷ [])
 
-      claim : Row
+      claim : Action
       claim = ends r t kind.Claim (Claims t l.0 (unwrap_or (r.state.head (lock_queue l.0)) t) by_try ∷ Stamps t e ∷ [])
 
       go : (b : Bool) → is_plain ((config_of plan).kind l.0) (r.state.word l.0) mode ≡ b → Acquires plan r t (cond b plain claim)
@@ -282,7 +282,7 @@ module _ (plan : Plan) (r : Run) (t : ℕ) where
       go true e = is_over e
       go false e = walked e (s.walk t) refl
 
-  -- 3. A row is found
+  -- 3. An action is found
 
   found : has_ended plan r t ≡ false → turn_of plan r t ≡ by_walk plan r t (s.walk t)
   unfolding turn_of

@@ -1,6 +1,6 @@
 use Rattle.lock_floor.specs.Passes.{IsOf}
 use Rattle.lock_floor.proofs.Taking.{HasWaited}
-use Rattle.lock_floor.proofs.turns.FloorOf+Slot+View+Description+Law.take.Given as goal
+use Rattle.lock_floor.proofs.latches.FloorOf+Slot+View+Description+Law.take.Given as goal
 
 abbrev pub invariant-loop : goal.invariant-loop
 invariant-loop g l = record {

@@ -12,8 +12,8 @@ use Rattle.floor_table.specs.Steps.{Makes}
 use Rattle.floor_table.specs.Views.{Knowledge, seeing}
 use Rattle.lock_floor.specs.Views.{took}
 
--- what a value of an item is: a record of a thread, or a cell of a table; there is none of a chain or the class graph
--- yet
+-- what a value of an item is: a record of a thread, or a cell of a lock's table; there is none of a chain or the class
+-- graph yet
 abbrev pub IsOfKind : Item → Slot → Type 0
 IsOfKind (TurnstileChain k) (Record b) = ⊥
 IsOfKind (TurnstileChain k) (Cell value) = ⊥

@@ -1,4 +1,4 @@
--- The rows of the table for the first turn of a take: its lock is admitted, and taken in the run behind that; or it is
+-- The actions of the first turn of a take: its lock is admitted, and taken in the run behind that; or it is
 -- refused.
 use Rattle.std.proofs.Common.{◌≡◌, ◌⊎◌, ℕ, ◌<◌, ◌≤◌, Bool, true, false, cond, List, [], ◌∷◌, ◌++◌, length, map, reverse, slice_get, eqb, eq-eqb, Option, Some, None, is_some, IsSomeAnd, refl, sym, ap, subst, inl, inr, ◌∙◌}
 use Rattle.std.specs.List.{All}
@@ -19,7 +19,7 @@ use Rattle.lock_state.specs.State.{State, HeldLock, gained_order}
 use Rattle.lock_state.specs.Steps.{Gains, Claims, Admits, Stamps, MayAll, after, after_all}
 use Rattle.lock_state.specs.Steps.LockWords.{after_stamp}
 use Rattle.lock_state.specs.Steps.Orders.{MayAdmit, classes_held, after_admit, after_refuse}
-use Rattle.lock_state.specs.Run.{Run, Row, does, ends, blocks, takes, turn_of, run_after, run_behind, held_now}
+use Rattle.lock_state.specs.Run.{Run, Action, does, ends, blocks, takes, turn_of, run_after, run_behind, held_now}
 use Rattle.lock_model.specs.declared.numbers.ClassNo.{ClassNo}
 use Rattle.lock_model.specs.declared.numbers.LockNo.{LockNo}
 use Rattle.lock_model.specs.declared.event.Event.{Event}
@@ -34,7 +34,7 @@ use Rattle.lock_model.specs.declared.turn.Turn.TheVariants.{Did, Idle, Ended}
 use Rattle.run_laws.specs.OnTrack.{IsAtOperation, BeginsTake, admitted, first_against}
 use Rattle.lock_laws.proofs.HeldLists.{gain_passes, held_few}
 use Rattle.run_laws.proofs.OnTrack.{fit, is_awake}
-use Rattle.run_laws.proofs.Table.{anew, at_take, admitted_wants, makes_operation}
+use Rattle.run_laws.proofs.Actions.{anew, at_take, admitted_wants, makes_operation}
 use Rattle.run_laws.proofs.TurnsOfOrders as orders
 use Rattle.witness_orders.specs.Graph.{numbers_of}
 use Rattle.step_machine.specs.declared.machine.Machine.{Machine}
@@ -43,12 +43,12 @@ use Rattle.step_world.specs.declared.turns.Made.{Made}
 use Rattle.step_world.specs.declared.turns.Made.TheVariants.{Does}
 use Rattle.step_machine.specs.Represents.{Represents}
 use Rattle.step_machine.specs.Steps.{May, MakesAllWhere, progress, KeepsProgress, KeepsBooks, AreClasses, refuses}
-use Rattle.step_world.specs.Runs.{IsRunOf, IsAside, IsMade, IsTake, IsAdmission, KeepsWhereIdle, answer_of, row_of}
+use Rattle.step_world.specs.Runs.{IsRunOf, IsAside, IsMade, IsTake, IsAdmission, KeepsWhereIdle, answer_of, action_of}
 use Rattle.step_machine.specs.Runs.{IsAsFar}
 use Rattle.step_world.proofs.AsFar.{so_is, still_as_far, cut_behind, waits_behind, behind_cut}
 use Rattle.step_world.proofs.Ends.{aside_is, are_locks}
 use Rattle.step_world.proofs.Turning.{SameRoom, of_books, same_room, same_keys, IsTurning, made_all, may_by, has_room, Begins, begins, made}
-use Rattle.step_world.proofs.RowsOfLocks.{is_take}
+use Rattle.step_world.proofs.ActionsOfLocks.{is_take}
 
 -- 1. The classes of held locks
 
@@ -220,10 +220,10 @@ module _ {plan : Plan} {t : ℕ} {r : Run} {l : LockNo} {mode : Mode} (p : IsPro
   moving : is_did (takes k then t l mode noted).answer ≡ true
   moving = go (admits (k.kind l.0) (then.state.word l.0) mode) (is_plain (k.kind l.0) (then.state.word l.0) mode)
     where
-      gain : Row
+      gain : Action
       gain = ends then t kinds.Gain (Gains t l.0 mode false ∷ Stamps t noted ∷ [])
 
-      claim : Row
+      claim : Action
       claim = ends then t kinds.Claim (Claims t l.0 (unwrap_or (then.state.head (lock_queue l.0)) t) false ∷ Stamps t noted ∷ [])
 
       go : (a b : Bool) → is_did (cond a (cond b gain claim) (blocks k then t l mode)).answer ≡ true
@@ -233,30 +233,30 @@ module _ {plan : Plan} {t : ℕ} {r : Run} {l : LockNo} {mode : Mode} (p : IsPro
 
   not_idle : (answer : Turn) → answer ≡ (turn_of plan then t).answer → (answer ≡ Idle) ⊎ (answer ≡ Ended) → ⊥
   not_idle answer e i =
-      let did : is_did answer ≡ true = ap is_did (e ∙ ap (λ (x : Row). x.answer) turn_then) ∙ moving in
+      let did : is_did answer ≡ true = ap is_did (e ∙ ap (λ (x : Action). x.answer) turn_then) ∙ moving in
       elim i [
         | inl x ↦ let z = sym did ∙ ap is_did x in cc
         | inr x ↦ let z = sym did ∙ ap is_did x in cc
       ]
 
   pub moves : {m : Machine} (result : Made) (old new : Machine) → IsMade plan then t m result → KeepsWhereIdle (answer_of result) old new
-  moves result old new g i = absurd (not_idle (answer_of result) (sym (ap (λ (x : Row). x.answer) g.row)) i)
+  moves result old new g i = absurd (not_idle (answer_of result) (sym (ap (λ (x : Action). x.answer) g.action)) i)
 
   -- and with the admission before its steps that of the first run
   module _ {m : Machine} (result : Made) (none : first_against plan r t l ≡ None) (g : IsMade plan then t m result) where
-    row_is : turn_of plan r t ≡ row_of result (r.next_op t) (Admits t l.0 ∷ g.steps)
+    action_is : turn_of plan r t ≡ action_of result (r.next_op t) (Admits t l.0 ∷ g.steps)
     unfolding after_admit
-    row_is = makes_operation plan r t (Take l mode) b.at ∙ rw (b.wants, none) refl ∙ ap (λ (x : Row). record x { steps = Admits t l.0 ∷ x.steps }) (sym turn_then ∙ g.row)
+    action_is = makes_operation plan r t (Take l mode) b.at ∙ rw (b.wants, none) refl ∙ ap (λ (x : Action). record x { steps = Admits t l.0 ∷ x.steps }) (sym turn_then ∙ g.action)
 
     same_behind : run_behind plan then t ≡ run_behind plan r t
     unfolding run_behind after_admit
-    same_behind = ap (run_after plan then t) g.row ∙ sym (ap (run_after plan r t) row_is)
+    same_behind = ap (run_after plan then t) g.action ∙ sym (ap (run_after plan r t) action_is)
 
     pub made_admitted : IsMade plan r t m result
     unfolding after_admit
     made_admitted = record {
       steps = Admits t l.0 ∷ g.steps;
-      row = row_is;
+      action = action_is;
       shows = g.shows;
       aside = subst (λ (n : Run). IsAside plan r n t m) same_behind (record {
         own = so_is (progress m t) (λ x f. record { next_op = f.next_op; as_far = f.as_far }) g.aside.own;
@@ -269,13 +269,13 @@ module _ {plan : Plan} {t : ℕ} {r : Run} {l : LockNo} {mode : Mode} (p : IsPro
 -- 4. Or the lock is refused
 
 module _ {plan : Plan} {m : Machine} {t : ℕ} {r : Run} {l : LockNo} {mode : Mode} (p : IsProper plan) (lt : t < length plan.threads) (h : IsRunOf plan m r) (b : BeginsTake plan r t l mode) (class : ClassNo) (against : first_against plan r t l ≡ Some class.0) where
-  pub refused_row : Begins plan r t m (does kinds.Note (refuses t l class))
-  refused_row = begins p lt h (makes_operation plan r t (Take l mode) b.at ∙ rw (b.wants, against) refl)
+  pub refused_action : Begins plan r t m (does kinds.Note (refuses t l class))
+  refused_action = begins p lt h (makes_operation plan r t (Take l mode) b.at ∙ rw (b.wants, against) refl)
 
-  refused_then : {n : Machine} → IsTurning plan r t n (after_all (config_of plan) r.state (refuses t l class)) refused_row.at [] → IsMade plan r t n (Does (Did kinds.Note))
+  refused_then : {n : Machine} → IsTurning plan r t n (after_all (config_of plan) r.state (refuses t l class)) refused_action.at [] → IsMade plan r t n (Does (Did kinds.Note))
   unfolding after_stamp after_refuse
   refused_then now =
-      let x = refused_row in
+      let x = refused_action in
       let up = is_awake plan r t h.on_track (Take l mode) b.at refl in
       let behind : State = after_refuse r.state t l.0 class.0 in
       made (Does (Did kinds.Note)) x now (behind_cut (cut_behind (config_of plan) behind t (event.Reversed l class)) (waits_behind (config_of plan) behind t (event.Reversed l class)) x.as_far.next_op
@@ -284,11 +284,11 @@ module _ {plan : Plan} {m : Machine} {t : ℕ} {r : Run} {l : LockNo} {mode : Mo
   -- by a machine that is the same
   module _ {old : Machine} (same : old ≡ m) where
     pub may_refuse : May old (λ d s. MayAll d s (refuses t l class))
-    may_refuse = subst (λ x. May x (λ d s. MayAll d s (refuses t l class))) (sym same) (may_by refused_row.turning _ refused_row.turning.may)
+    may_refuse = subst (λ x. May x (λ d s. MayAll d s (refuses t l class))) (sym same) (may_by refused_action.turning _ refused_action.turning.may)
 
     pub room_for_refusal : 1 ≤ old.log.spare
     room_for_refusal = subst (λ (x : Machine). 1 ≤ x.log.spare) (sym same) (has_room p lt h b.at)
 
     pub refused : {n : Machine} → MakesAllWhere (λ d. Unit {0}) old n (refuses t l class) → KeepsProgress old n → SameRoom old n → IsMade plan r t n (Does (Did kinds.Note))
     refused {n} makes kept room =
-        refused_then (made_all refused_row.turning tt (subst (λ (x : Machine). MakesAllWhere (λ d. Unit {0}) x n (refuses t l class)) same makes) (subst (λ (x : Machine). KeepsProgress x n) same kept) (subst (λ (x : Machine). SameRoom x n) same room))
+        refused_then (made_all refused_action.turning tt (subst (λ (x : Machine). MakesAllWhere (λ d. Unit {0}) x n (refuses t l class)) same makes) (subst (λ (x : Machine). KeepsProgress x n) same kept) (subst (λ (x : Machine). SameRoom x n) same room))

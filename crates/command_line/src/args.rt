@@ -29,7 +29,7 @@ impl Command {
 
 /// What the words of a command line say.
 #[derive(Clone, Copy, Debug, PartialEq, Eq)]
-pub struct Words {
+pub struct LockrunArgs {
     pub command: Command,
     /// Chains of each sort, from 1 to 64.
     pub chains: u32,

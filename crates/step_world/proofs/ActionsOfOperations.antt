@@ -1,4 +1,4 @@
--- The row of the table for a running thread's operation, and for one that only makes an entry.
+-- The action of a running thread's operation, and for one that only makes an entry.
 use Rattle.std.proofs.Common.{◌≡◌, ℕ, ◌<◌, Bool, true, ◌&&◌, [], length, slice_get, Option, Some, None, option_map, refl, sym, ap, subst, eq-eqb, ◌∙◌}
 use Rattle.std.specs.Prelude.{IsTrue, unwrap_or, ◌==◌}
 use Rattle.std.specs.List.{list_any}
@@ -14,7 +14,7 @@ use Rattle.lock_model.specs.declared.plan.ThreadDecl.{ThreadDecl}
 use Rattle.lock_model.specs.declared.event.Event.{Event}
 use Rattle.lock_model.specs.declared.turn.Turn.TheVariants.{Idle}
 use Rattle.run_laws.specs.OnTrack.{IsAtOperation}
-use Rattle.run_laws.proofs.Table.{Notes, sets, adds, gets, changes_base, shows, makes_operation}
+use Rattle.run_laws.proofs.Actions.{Notes, sets, adds, gets, changes_base, shows, makes_operation}
 use Rattle.run_laws.proofs.TurnsOfNotes.{is_noted}
 use Rattle.run_laws.proofs.OnTrack.{awake}
 use Rattle.step_machine.specs.declared.machine.Machine.{Machine}
@@ -99,7 +99,7 @@ module _ {plan : Plan} {m : Machine} {r : Run} {t : ℕ} {op : Op} (p : IsProper
       subst (λ (n : ℕ). IsNote plan r t (event.Shown (record { 0 = n }) effective)) (sym (b ∙ ap (λ x. x.its_record.base) old.columns))
       (subst (λ (n : ℕ). IsNote plan r t (event.Shown (record { 0 = r.state.base t }) (record { 0 = n }))) (sym (f ∙ ap (λ x. x.its_record.effective) old.columns)) (is_note p lt h (is_at e at) shows))
 
--- 4. The row of an operation that only makes an entry
+-- 4. The action of an operation that only makes an entry
 
-pub notes_row : {plan : Plan} {m : Machine} {r : Run} {t : ℕ} {e : Event} → IsProper plan → t < length plan.threads → IsRunOf plan m r → IsNote plan r t e → Begins plan r t m (notes r t e)
-notes_row {plan} {r = r} {t = t} p lt h n = begins p lt h (makes_operation plan r t n.op n.at ∙ n.noted)
+pub notes_action : {plan : Plan} {m : Machine} {r : Run} {t : ℕ} {e : Event} → IsProper plan → t < length plan.threads → IsRunOf plan m r → IsNote plan r t e → Begins plan r t m (notes r t e)
+notes_action {plan} {r = r} {t = t} p lt h n = begins p lt h (makes_operation plan r t n.op n.at ∙ n.noted)

@@ -1,5 +1,5 @@
 use Rattle.lock_floor.proofs.Taking.{may_still, takes_then, waits_none, waits_on}
-use Rattle.lock_floor.proofs.turns.FloorOf+Slot+View+Description+Law.take.Goals as goal
+use Rattle.lock_floor.proofs.latches.FloorOf+Slot+View+Description+Law.take.Goals as goal
 
 pub try_take-requires-clause-may : goal.try_take-requires-clause-may
 try_take-requires-clause-may g c =

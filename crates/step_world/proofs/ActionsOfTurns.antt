@@ -1,4 +1,4 @@
--- Which row of the table a turn is, by what the thread's objects say.
+-- Which action a turn is, by what the thread's objects say.
 use Rattle.std.proofs.Common.{◌≡◌, ℕ, suc, ◌+◌, ◌<◌, ◌≤◌, Bool, true, false, List, [], ◌∷◌, length, map, get_or, slice_get, Option, Some, None, refl, sym, ap, arith, ◌∙◌}
 use Rattle.std.proofs.lemmas.Option.{slice_get_read, slice_get_past}
 use Rattle.lock_model.specs.Plans.{config_of, operations_of}
@@ -16,7 +16,7 @@ use Rattle.lock_model.specs.declared.plan.QueueName.{QueueName}
 use Rattle.lock_model.specs.declared.turn.StepKind.TheVariants as kinds
 use Rattle.lock_model.specs.declared.turn.Turn.TheVariants.{Idle, Ended}
 use Rattle.run_laws.specs.OnTrack.{IsAtOperation}
-use Rattle.run_laws.proofs.Table.{goes_by_wait, marks_first}
+use Rattle.run_laws.proofs.Actions.{goes_by_wait, marks_first}
 use Rattle.wait_objects.specs.Seen.{Place}
 use Rattle.prio_lending.specs.declared.walk.Walk.TheVariants as walk
 use Rattle.step_machine.specs.declared.machine.Machine.{Machine}

@@ -6,14 +6,14 @@ ghost use Rattle.chart_command.specs.Forms.{form_of};
 #[derive(Drop, Debug)]
 pub enum Asked<'a> {
     /// A picture.
-    Picture(Words<'a>),
+    Picture(LockchartArgs<'a>),
     /// The help, which is this text.
     Help(String),
 }
 
 /// What the words say of a picture.
 #[derive(Clone, Copy, Debug, PartialEq, Eq)]
-pub struct Words<'a> {
+pub struct LockchartArgs<'a> {
     /// Turns of the run at most, from 1 to 1,000,000.
     pub turns: u32,
     /// Chains of each sort, from 1 to 64.
