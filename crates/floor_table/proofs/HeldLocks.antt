@@ -9,10 +9,11 @@ use Rattle.lock_state.specs.State.{State, put_at, start_state}
 use Rattle.lock_state.specs.Facts.{OnlyLocksAreHeld}
 use Rattle.lock_state.specs.Steps.LockWords.{after_seek, after_look, after_gain, after_drop, after_stamp, after_ready, after_unready}
 use Rattle.lock_state.specs.Steps.Turnstiles.{after_enter, after_open, after_mark, after_resume}
-use Rattle.lock_state.specs.Steps.SleepQueues.{after_enter_sleep, after_open_sleep, after_add, after_wake}
+use Rattle.lock_state.specs.Steps.SleepQueues.{after_enter_sleep, after_open_sleep, after_add, after_wake, after_abort}
 use Rattle.lock_state.specs.Steps.Lending.{after_claim, after_lend, after_shift, after_end_walk}
 use Rattle.lock_state.specs.Steps.Items.{after_take, after_give}
 use Rattle.lock_state.specs.Steps.Orders.{after_admit, after_refuse}
+use Rattle.lock_state.specs.Steps.Counting.{after_count_out, after_count_in, after_count_self_in, after_count_end, after_halt}
 use Rattle.lock_state.specs.Steps.{Step, Gains, Drops, Opens, OpensSleepQueue, Claims, May, after}
 use Rattle.lock_laws.proofs.Kit.{put_at_same, put_at_other, put_at_beside}
 use Rattle.floor_table.specs.Descriptions.{config_in}
@@ -41,7 +42,7 @@ module _ (c : Config) (held : ℕ → ℕ → Hold) (h : OnlyLocksAreHeld c held
   ]
 
 kept : (c : Config) (s : State) (step : Step) → May c s step → OnlyLocksAreHeld c s.held → OnlyLocksAreHeld c (after c s step).held
-unfolding after_seek after_look after_gain after_drop after_stamp after_ready after_unready after_enter after_open after_mark after_resume after_enter_sleep after_open_sleep after_add after_wake after_claim after_lend after_shift after_end_walk after_admit after_refuse after_take after_give
+unfolding after_seek after_look after_gain after_drop after_stamp after_ready after_unready after_enter after_open after_mark after_resume after_enter_sleep after_open_sleep after_add after_wake after_claim after_lend after_shift after_end_walk after_admit after_refuse after_take after_give after_count_out after_count_in after_count_self_in after_count_end after_halt after_abort
 kept c s (Gains t l mode by_try) g h = gained c s.held h t l mode g.lock
 kept c s (Drops t l mode) g h = left c s.held h t l
 kept c s (Opens t l mode) g h = left c s.held h t l

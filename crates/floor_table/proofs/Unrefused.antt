@@ -11,10 +11,11 @@ use Rattle.lock_model.specs.declared.plan.QueueName.TheVariants.{Lock, Chan}
 use Rattle.lock_state.specs.State.{State, Note, OrderRefused, put, start_state}
 use Rattle.lock_state.specs.Steps.LockWords.{MayStamp, after_seek, after_look, after_gain, after_drop, after_stamp, after_ready, after_unready}
 use Rattle.lock_state.specs.Steps.Turnstiles.{noted_after, after_enter, after_open, after_mark, after_resume}
-use Rattle.lock_state.specs.Steps.SleepQueues.{after_enter_sleep, after_open_sleep, after_add, after_wake}
+use Rattle.lock_state.specs.Steps.SleepQueues.{after_enter_sleep, after_open_sleep, after_add, after_wake, after_abort}
 use Rattle.lock_state.specs.Steps.Lending.{after_claim, after_lend, after_shift, after_end_walk}
 use Rattle.lock_state.specs.Steps.Items.{after_take, after_give}
 use Rattle.lock_state.specs.Steps.Orders.{after_admit, after_refuse}
+use Rattle.lock_state.specs.Steps.Counting.{after_count_out, after_count_in, after_count_self_in, after_count_end, after_halt}
 use Rattle.lock_state.specs.Steps.{Step, Stamps, Resumes, Refuses, May, after}
 use Rattle.lock_laws.proofs.Kit.{put_same, put_other}
 use Rattle.floor_table.specs.Steps.{NothingIsRefused}
@@ -64,7 +65,7 @@ unrefused_begins c = record { to_note = λ t l k e. absurd cc; in_history = refl
 
 pub unrefused_kept : (c : Config) (s : State) (step : Step) → May c s step → IsNoRefusal step → Unrefused s
     → Unrefused (after c s step)
-unfolding after_seek after_look after_gain after_drop after_stamp after_ready after_unready after_enter after_open after_mark after_resume after_enter_sleep after_open_sleep after_add after_wake after_claim after_lend after_shift after_end_walk after_admit after_refuse after_take after_give
+unfolding after_seek after_look after_gain after_drop after_stamp after_ready after_unready after_enter after_open after_mark after_resume after_enter_sleep after_open_sleep after_add after_wake after_claim after_lend after_shift after_end_walk after_admit after_refuse after_take after_give after_count_out after_count_in after_count_self_in after_count_end after_halt after_abort
 unrefused_kept c s (Stamps t e) g other h = record {
   to_note = noted s.noted t None (λ l k z. absurd cc) h.to_note;
   in_history = ap (λ b. b || has_reversal s.history) (stamped c s t e g (h.to_note t)) ∙ h.in_history;

@@ -139,6 +139,7 @@ pub record ToCome : Type 0 where
   pub awake : ℕ
   pub ended : ℕ
   pub halted : Bool
+  pub halted_at : ℕ
 
 abbrev pub to_come : State → ToCome
 to_come s = record {
@@ -152,6 +153,7 @@ to_come s = record {
   awake = s.awake;
   ended = s.ended;
   halted = s.halted;
+  halted_at = s.halted_at;
 }
 
 -- The state with columns that are told, and those that are to come. Each column stands here, so that who adds one
@@ -206,6 +208,7 @@ state_from word next out x share history rest = record {
   awake = rest.awake;
   ended = rest.ended;
   halted = rest.halted;
+  halted_at = rest.halted_at;
 }
 
 -- 5. The table

@@ -7,10 +7,11 @@ use Rattle.lock_state.specs.State.{State, Running, Queued, Woken, put, start_sta
 use Rattle.lock_state.specs.Facts.{LawfulFloor, QueuedHasRecord}
 use Rattle.lock_state.specs.Steps.LockWords.{after_seek, after_look, after_gain, after_drop, after_stamp, after_ready, after_unready}
 use Rattle.lock_state.specs.Steps.Turnstiles.{after_enter, after_open, after_mark, after_resume}
-use Rattle.lock_state.specs.Steps.SleepQueues.{after_enter_sleep, after_open_sleep, after_add, after_wake}
+use Rattle.lock_state.specs.Steps.SleepQueues.{after_enter_sleep, after_open_sleep, after_add, after_wake, after_abort}
 use Rattle.lock_state.specs.Steps.Lending.{after_claim, after_lend, after_shift, after_end_walk}
 use Rattle.lock_state.specs.Steps.Items.{RecordOf, after_take, after_give}
 use Rattle.lock_state.specs.Steps.Orders.{after_admit, after_refuse}
+use Rattle.lock_state.specs.Steps.Counting.{after_count_out, after_count_in, after_count_self_in, after_count_end, after_halt}
 use Rattle.lock_state.specs.Steps.{Step, TakesItem, GivesItem, Readies, Unreadies, Enters, EntersSleepQueue, Adds, Marks, Resumes, May, after, HasOut, IsFloorStep}
 use Rattle.lock_laws.proofs.Kit.{columns}
 use Rattle.lock_laws.proofs.Steps.{keeps}
@@ -43,7 +44,7 @@ module _ (s : State) (h : QueuedHasRecord s.wait s.blocked_on s.record_with) whe
 
 record_kept : (chains : ℕ) (c : Config) (s : State) (step : Step) → May c s step → HasOut chains c s step → QueuedHasRecord s.wait s.blocked_on s.record_with
     → QueuedHasRecord (after c s step).wait (after c s step).blocked_on (after c s step).record_with
-unfolding after_seek after_look after_gain after_drop after_stamp after_ready after_unready after_enter after_open after_mark after_resume after_enter_sleep after_open_sleep after_add after_wake after_claim after_lend after_shift after_end_walk after_admit after_refuse after_take after_give
+unfolding after_seek after_look after_gain after_drop after_stamp after_ready after_unready after_enter after_open after_mark after_resume after_enter_sleep after_open_sleep after_add after_wake after_claim after_lend after_shift after_end_walk after_admit after_refuse after_count_out after_count_in after_count_self_in after_count_end after_halt after_abort after_take after_give
 record_kept chains c s (TakesItem t (RecordOf v)) g o h = taken s h t v g.home
 record_kept chains c s (GivesItem t (RecordOf v)) g o h = given s h t v g.out g.done
 record_kept chains c s (Readies t q) g o h = ready s h t o.1

@@ -22,6 +22,7 @@ pub mod Claim
 pub mod Lend
 pub mod Shift
 pub mod Admit
+pub mod Counting
 pub mod StateAtStart
 pub mod Steps
 pub mod Best
@@ -51,6 +52,7 @@ pub mod ComingToStand
 pub mod TakingOff
 pub mod LockQueues
 pub mod SleepQueues
+pub mod Abort
 pub mod Bits
 pub mod Dealt
 pub mod Taken

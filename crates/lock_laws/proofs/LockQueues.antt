@@ -32,7 +32,7 @@ pub record WordsKept (c : Config) (n : State) : Type 0 where
   pub free_mutex : FreeMutexShowsNone c n.word
   pub holders : WordsMatchHolders c n.word n.held
 
-bits_put : (s : State) → BitsShowWaiters s.word s.lists → (l : ℕ) (w : Word) (lists : Lists)
+pub bits_put : (s : State) → BitsShowWaiters s.word s.lists → (l : ℕ) (w : Word) (lists : Lists)
     → ShowsItsWaiters w lists
     → BitsShowWaiters (put s.word l w) (put_queue s.lists (lock_queue l) lists)
 unfolding BitsShowWaiters

@@ -11,10 +11,11 @@ use Rattle.lock_state.specs.State.{State, Round, Running, Queued, Woken, put, st
 use Rattle.lock_state.specs.Facts.{Lawful}
 use Rattle.lock_state.specs.Steps.LockWords.{round_after, round_of, is_woken, after_seek, after_look, after_gain, after_drop, after_stamp, after_ready, after_unready, bound_to}
 use Rattle.lock_state.specs.Steps.Turnstiles.{round_for, after_enter, after_open, after_mark, after_resume}
-use Rattle.lock_state.specs.Steps.SleepQueues.{after_enter_sleep, after_open_sleep, after_add, after_wake}
+use Rattle.lock_state.specs.Steps.SleepQueues.{after_enter_sleep, after_open_sleep, after_add, after_wake, after_abort}
 use Rattle.lock_state.specs.Steps.Lending.{after_claim, after_lend, after_shift, after_end_walk}
 use Rattle.lock_state.specs.Steps.Items.{Item, TurnstileChain, SleepChain, MayTake, MayGive, IsDoneWith, item_with, out_with, is_chain, is_bound, in_its_chain, after_take, after_give}
 use Rattle.lock_state.specs.Steps.Orders.{after_admit, after_refuse}
+use Rattle.lock_state.specs.Steps.Counting.{after_count_out, after_count_in, after_count_self_in, after_count_end, after_halt}
 use Rattle.lock_state.specs.Steps.{Step, Seeks, TakesItem, GivesItem, Gains, Stamps, Readies, Unreadies, Enters, EntersSleepQueue, Adds, Marks, Resumes, Claims, Admits, Refuses, May, after, chain_of, IsOfRound, FitsRound, NotesInRound, HasOut, HasSeen, IsFloorStep, EndsRound}
 use Rattle.lock_laws.specs.Rounds.{IsBoundTo, BoundHasChain, RoundsAreActing, LawfulRounds}
 use Rattle.lock_laws.proofs.Kit.{columns, put_same, put_other}
@@ -127,7 +128,7 @@ no_bound_noted (Some r) other l f e = f
 
 chain_kept : (chains : ℕ) (c : Config) (s : State) (step : Step) → May c s step → HasOut chains c s step → HasSeen chains c s step → BoundHasChain chains c s.round (item_with s)
     → BoundHasChain chains c (after c s step).round (item_with (after c s step))
-unfolding after_seek after_look after_gain after_drop after_stamp after_ready after_unready after_enter after_open after_mark after_resume after_enter_sleep after_open_sleep after_add after_wake after_claim after_lend after_shift after_end_walk after_admit after_refuse after_take after_give
+unfolding after_seek after_look after_gain after_drop after_stamp after_ready after_unready after_enter after_open after_mark after_resume after_enter_sleep after_open_sleep after_add after_wake after_claim after_lend after_shift after_end_walk after_admit after_refuse after_count_out after_count_in after_count_self_in after_count_end after_halt after_abort after_take after_give
 chain_kept chains c s (Seeks t l by_try) g o x h = round_put chains c s h t (Some (round_of l by_try)) (λ k. no_bound_sought k l by_try)
 chain_kept chains c s (TakesItem t i) g o x h = taken chains c s h t i g o.1 (is_chain i) refl
 chain_kept chains c s (GivesItem t i) g o x h = given chains c s h t i g
@@ -206,7 +207,7 @@ module _ (s : State) (h : RoundsAreActing s.round s.blocked_on s.wait) where
 
 acting_kept : (chains : ℕ) (c : Config) (s : State) (step : Step) → May c s step → HasSeen chains c s step → Lawful c s → RoundsAreActing s.round s.blocked_on s.wait
     → RoundsAreActing (after c s step).round (after c s step).blocked_on (after c s step).wait
-unfolding RoundsAreActing after_seek after_look after_gain after_drop after_stamp after_ready after_unready after_enter after_open after_mark after_resume after_enter_sleep after_open_sleep after_add after_wake after_claim after_lend after_shift after_end_walk after_admit after_refuse after_take after_give
+unfolding RoundsAreActing after_seek after_look after_gain after_drop after_stamp after_ready after_unready after_enter after_open after_mark after_resume after_enter_sleep after_open_sleep after_add after_wake after_claim after_lend after_shift after_end_walk after_admit after_refuse after_count_out after_count_in after_count_self_in after_count_end after_halt after_abort after_take after_give
 acting_kept chains c s (Seeks t l by_try) g x w h = acting_put s h t (Some (round_of l by_try)) (λ r e. (g.acting.unnamed, g.acting.unwoken))
 acting_kept chains c s (TakesItem t i) g x w h = acting_put s h t _ (λ r e. let p = in_chain_of (is_chain i) (s.round t) r e in h t p.0 p.1)
 acting_kept chains c s (Gains t l mode by_try) g x w h = acting_put s h t None (λ r e. absurd cc)
@@ -260,7 +261,7 @@ entered_bound None l k e f = absurd cc
 entered_bound (Some r) l k e f = sym (ap lock_of f) ∙ ap lock_of e
 
 pub ends : (chains : ℕ) (c : Config) (s : State) (step : Step) (t l : ℕ) → May c s step → HasSeen chains c s step → LawfulRounds chains c s → IsBoundTo s t l → IsBoundTo (after c s step) t l ⊎ EndsRound step t l
-unfolding RoundsAreActing after_seek after_look after_gain after_drop after_stamp after_ready after_unready after_enter after_open after_mark after_resume after_enter_sleep after_open_sleep after_add after_wake after_claim after_lend after_shift after_end_walk after_admit after_refuse after_take after_give
+unfolding RoundsAreActing after_seek after_look after_gain after_drop after_stamp after_ready after_unready after_enter after_open after_mark after_resume after_enter_sleep after_open_sleep after_add after_wake after_claim after_lend after_shift after_end_walk after_admit after_refuse after_count_out after_count_in after_count_self_in after_count_end after_halt after_abort after_take after_give
 ends chains c s (Seeks u k by_try) t l g x h e = left s u t l _ ⊥ e (λ i. let z : None ≡ Some (bound_to l) = sym g.no_round ∙ ap s.round i ∙ e in cc)
 ends chains c s (TakesItem u i) t l g x h e =
     inl (elim (cases_eq u t) [

@@ -3,7 +3,7 @@ use Rattle.std.proofs.Common.{List, [], ◌∷◌, subst, sym, refl}
 use Rattle.lock_model.specs.Config.{Config}
 use Rattle.lock_state.specs.State.{State}
 use Rattle.lock_state.specs.Facts.{Lawful}
-use Rattle.lock_state.specs.Steps.{Step, Seeks, Looks, TakesItem, GivesItem, Gains, Drops, Stamps, Readies, Unreadies, Enters, Opens, EntersSleepQueue, OpensSleepQueue, Adds, Wakes, Marks, Resumes, Claims, Lends, Shifts, EndsWalk, Admits, Refuses, May, MayAll, after, after_all, IsStep, IsReachable, begins, goes_on}
+use Rattle.lock_state.specs.Steps.{Step, Seeks, Looks, TakesItem, GivesItem, Gains, Drops, Stamps, Readies, Unreadies, Enters, Opens, EntersSleepQueue, OpensSleepQueue, Adds, Wakes, Marks, Resumes, Claims, Lends, Shifts, EndsWalk, Admits, Refuses, CountsOut, CountsIn, CountsSelfIn, CountsEnd, Halts, Aborts, May, MayAll, after, after_all, IsStep, IsReachable, begins, goes_on}
 use Rattle.lock_laws.proofs.OwnWaits.{seek_lawful, look_lawful, ready_lawful, unready_lawful}
 use Rattle.lock_laws.proofs.Items.{take_lawful, give_lawful}
 use Rattle.lock_laws.proofs.StateAtStart as start
@@ -21,6 +21,8 @@ use Rattle.lock_laws.proofs.Claim as claim
 use Rattle.lock_laws.proofs.Lend as lend
 use Rattle.lock_laws.proofs.Shift as shift
 use Rattle.lock_laws.proofs.Admit.{admit_lawful, refuse_lawful}
+use Rattle.lock_laws.proofs.Counting.{out_lawful, in_lawful, self_in_lawful, end_lawful, halt_lawful}
+use Rattle.lock_laws.proofs.Abort as abort
 
 pub keeps : (c : Config) (s : State) (step : Step) → May c s step → Lawful c s → Lawful c (after c s step)
 keeps c s (Seeks t l by_try) g h = seek_lawful c s t l by_try g h
@@ -46,6 +48,12 @@ keeps c s (Shifts t o l) g h = shift.lawful c s t o l g h
 keeps c s (EndsWalk t) g h = shift.end_lawful c s t g h
 keeps c s (Admits t l) g h = admit_lawful c s t l g.free h
 keeps c s (Refuses t l k) g h = refuse_lawful c s t l k h
+keeps c s (CountsOut t) g h = out_lawful c s h t
+keeps c s (CountsIn t u) g h = in_lawful c s h t u
+keeps c s (CountsSelfIn t) g h = self_in_lawful c s h t
+keeps c s (CountsEnd t) g h = end_lawful c s h t
+keeps c s (Halts t) g h = halt_lawful c s h
+keeps c s (Aborts t q side u) g h = abort.lawful c s t q side u g h
 
 -- so does each list of steps that may be made
 pub all_keep : (c : Config) (s : State) (steps : List Step) → MayAll c s steps → Lawful c s → Lawful c (after_all c s steps)

@@ -16,5 +16,6 @@ pub mod Operations
 pub mod OrderedPlans
 pub mod Events
 pub mod Law
+pub mod Halts
 pub mod Text
 pub mod Keys

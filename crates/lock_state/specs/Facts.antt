@@ -7,6 +7,8 @@ pub mod Books
 pub mod Sleeps
 pub mod Orders
 pub mod Takes
+pub mod Counts
+pub mod Halts
 use Rattle.lock_model.specs.Config.{Config}
 use Rattle.lock_state.specs.State.{State}
 unfoldable pub use Rattle.lock_model.specs.History.{TicketsRun, SectionsExclude, EditsInSections, ReadsReplay, ShownIsExplained}
@@ -20,6 +22,8 @@ unfoldable pub use Rattle.lock_model.specs.Orders.{HasNoCycle}
 unfoldable pub use Rattle.lock_state.specs.Facts.Orders.{WantsAreOrdered, HoldsAreOrdered, SleepersAreOrdered, WokenAreOrdered, AbortedWant, HaltsAreOrdered, TakesAreInGraph}
 unfoldable pub use Rattle.lock_model.specs.Takes.{ReversalsHaveCause}
 unfoldable pub use Rattle.lock_state.specs.Facts.Takes.{OnlyLocksAreHeld, EdgesAreOfTakes, TakersAreOpen, RefusalsHaveCause}
+unfoldable pub use Rattle.lock_state.specs.Facts.Counts.{AwakeIsCounted, TermsFitParking, CountedInIsNextMarked, ParkedHasNoWalk, RestingHasNoMarks, ParkedHasNothingOut, RestingStands, SelfAbortedIsWoken, EndedRuns, EndedIsBare, EndedIsCounted, FinderIsAlone}
+unfoldable pub use Rattle.lock_state.specs.Facts.Halts.{StandersAreOpen, RestingHasReleased, WantedIsTaken, SleepersTakeNothing, HaltedWantNothing, UnhaltedBefore, HaltedSince, HaltsHaveCauses}
 
 -- where objects are, who stands in which order, and what a word shows of it
 pub record QueueFacts (c : Config) (s : State) : Type 0 where
@@ -124,3 +128,31 @@ pub record Taken (c : Config) (s : State) : Type 0 where
   pub takers_are_open : TakersAreOpen c s.taking s.log s.held s.history
   pub refusals_have_cause : RefusalsHaveCause c s.noted s.edges s.history
   pub reversals_have_cause : ReversalsHaveCause c s.edges s.history
+
+-- A state of a running floor whose threads are counted: beside a lawful one.
+pub record Counted (c : Config) (s : State) : Type 0 where
+  pub awake_is_counted : AwakeIsCounted c s.awake s.counted_out s.counted_in
+  pub terms_fit_parking : TermsFitParking c s.counted_out s.counted_in s.phase s.wait s.counting
+  pub counted_in_is_next_marked : CountedInIsNextMarked s.counting s.marked s.record_with
+  pub parked_has_no_walk : ParkedHasNoWalk s.phase s.walk
+  pub resting_has_no_marks : RestingHasNoMarks s.phase s.marked
+  pub parked_has_nothing_out : ParkedHasNothingOut s.phase s.turnstile_chain_with
+      s.sleep_chain_with s.record_with s.cell_with s.graph_with
+  pub resting_stands : RestingStands s.phase s.has_ended s.blocked_on s.wait
+  pub self_aborted_is_woken : SelfAbortedIsWoken s.phase s.wait
+  pub ended_runs : EndedRuns s.has_ended s.wait
+  pub ended_is_bare : EndedIsBare s.has_ended s.held s.wanted
+  pub ended_is_counted : EndedIsCounted c s.ended s.has_ended
+  pub finder_is_alone : FinderIsAlone c s.phase s.wait s.counting
+
+-- A state of a running floor whose halts are explained: beside one whose threads are counted, and whose steps kept to
+-- the order.
+pub record Explained (c : Config) (s : State) : Type 0 where
+  pub standers_are_open : StandersAreOpen c s.blocked_on s.held s.history
+  pub resting_has_released : RestingHasReleased c s.phase s.blocked_on s.held
+  pub wanted_is_taken : WantedIsTaken s.wanted s.taking
+  pub sleepers_take_nothing : SleepersTakeNothing s.blocked_on s.wait s.taking
+  pub halted_want_nothing : HaltedWantNothing s.noted s.wanted s.blocked_on s.wait
+  pub unhalted_before : UnhaltedBefore c s.halted s.history
+  pub halted_since : HaltedSince c s.halted s.halted_at s.next s.history
+  pub halts_have_causes : HaltsHaveCauses c s.halted s.halted_at s.has_ended s.taking s.history

@@ -169,6 +169,8 @@ pub record State : Type 0 where
   pub awake : ℕ
   pub ended : ℕ
   pub halted : Bool
+  -- the next ticket at the moment at which the halt word was set
+  pub halted_at : ℕ
 
 -- the column f with v at the place i
 unfoldable pub put : {A : Type 0} → (ℕ → A) → ℕ → A → ℕ → A
@@ -233,4 +235,5 @@ start_state c = record {
   awake = c.threads;
   ended = 0;
   halted = false;
+  halted_at = 0;
 }

@@ -6,6 +6,7 @@ pub mod Turnstiles
 pub mod SleepQueues
 pub mod Lending
 pub mod Orders
+pub mod Counting
 use Rattle.std.specs.Prelude.{◌≡◌, ◌≢◌, ◌⊎◌, ℕ, ◌%◌, Bool, true, false, not, ◌&&◌, ◌==◌, if◌then◌else◌, List, [], ◌∷◌, ◌++◌, Option, Some, None, ⊤, ◌<◌}
 use Rattle.lock_model.specs.Config.{Config}
 use Rattle.lock_model.specs.Events.{OfEnd, NoEnd, EndsTakeOf, EndsWaitOn, OfPrio, NoPrio, NewBase, ShowsPrios, OfTake, NoTake, GainedBy, FoundBusy, HaltedFor, RefusedBy, OfSleep, NoSleep, FallsAsleep, WakesUp, IsHalted, IsHaltedAtLock, WakesOne, WakesAll, facets, of_sleep, is_waking_of, is_end, sleeps_on}
@@ -14,13 +15,15 @@ use Rattle.lock_model.specs.Queues.{Cause, Mark, lock_queue}
 use Rattle.lock_model.specs.Words.{Word, is_turnstile, admits}
 use Rattle.lock_state.specs.Steps.LockWords.{bound_to, AllHold, is_taking_back, MaySeek, MayLook, MayGain, MayDrop, MayStamp, MayReady, MayUnready, IsGainedLast, after_seek, after_look, after_gain, after_drop, after_stamp, after_ready, after_unready}
 use Rattle.lock_state.specs.Steps.Turnstiles.{MayEnter, MayOpen, MayMark, MayResume, after_enter, after_open, after_mark, after_resume}
-use Rattle.lock_state.specs.Steps.SleepQueues.{MayEnterSleep, MayOpenSleep, MayAdd, MayWake, after_enter_sleep, after_open_sleep, after_add, after_wake}
+use Rattle.lock_state.specs.Steps.SleepQueues.{MayEnterSleep, MayOpenSleep, MayAdd, MayWake, MayAbort, after_enter_sleep, after_open_sleep, after_add, after_wake, after_abort}
 use Rattle.lock_state.specs.Steps.Lending.{MayClaim, MayLend, MayShift, MayEndWalk, after_claim, after_lend, after_shift, after_end_walk}
 use Rattle.lock_state.specs.Steps.Orders.{MayAdmit, MayRefuse, after_admit, after_refuse}
+use Rattle.lock_state.specs.Steps.Counting.{MayCountOut, MayCountIn, MayCountSelfIn, MayCountEnd, MayHalt, after_count_out, after_count_in, after_count_self_in, after_count_end, after_halt}
 use Rattle.lock_state.specs.Steps.Items.{Item, TurnstileChain, SleepChain, RecordOf, CellOf, ClassGraph, item_with, is_chain, IsOnItsWay, MayTake, MayGive, after_take, after_give}
 use Rattle.lock_model.specs.Holds.{NotHeld}
 use Rattle.lock_model.specs.declared.plan.Mode.{Mode}
 use Rattle.lock_model.specs.declared.plan.Mode.TheVariants.{Excl}
+use Rattle.lock_model.specs.declared.plan.Side.{Side}
 use Rattle.lock_model.specs.declared.plan.QueueName.{QueueName}
 use Rattle.lock_model.specs.declared.plan.QueueName.TheVariants.{Lock, Chan}
 use Rattle.lock_model.specs.declared.event.Event.{Event}
@@ -73,6 +76,17 @@ pub data Step : Type 0 where
   Admits : ℕ → ℕ → Step
   -- the same, and the class of a held lock that forbids it
   Refuses : ℕ → ℕ → ℕ → Step
+  -- its own counting out
+  CountsOut : ℕ → Step
+  -- the first of its marked list
+  CountsIn : ℕ → ℕ → Step
+  -- its own counting in
+  CountsSelfIn : ℕ → Step
+  -- its own end
+  CountsEnd : ℕ → Step
+  Halts : ℕ → Step
+  -- the queue, the side and the sleeper
+  Aborts : ℕ → QueueName → Side → ℕ → Step
 
 -- 2. What a running floor asks beside. It has so many chains of each sort.
 
@@ -318,13 +332,14 @@ pub record GoesOnTaking (s : State) (t : ℕ) (i : Item) : Type 0 where
   pub runs : IsRunnable s t ⊎ (IsHalting s t × (is_for_halting i ≡ true))
   pub owes : OwesNoStep s t
 
--- a thread that is awake, or one at halting others, wakes whom it took off a queue. So it looks at a lock: at halting
--- others at the one whose sleeper it aborts
+-- a thread that is awake, or one at halting others, counts in and wakes whom it took off a queue. So it looks at a
+-- lock: at halting others at the one whose sleeper it aborts
 pub record GoesOnOrHalts (s : State) (t : ℕ) : Type 0 where
   pub runs : IsRunnable s t ⊎ IsHalting s t
   pub owes : OwesNoStep s t
 
--- a thread that isn't parked, also one that has ended or is at halting others, gives back what it has out
+-- a thread that isn't parked, also one that has ended or is at halting others, gives back what it has out, and counts
+-- itself out
 pub record GivesBack (s : State) (t : ℕ) : Type 0 where
   pub unparked : is_parked (s.phase t) ≡ false
   pub owes : OwesNoStep s t
@@ -333,6 +348,11 @@ pub record GivesBack (s : State) (t : ℕ) : Type 0 where
 pub record GoesOnNoting (s : State) (t : ℕ) : Type 0 where
   pub runs : IsRunnable s t
   pub added : IsOnItsWay s t → ⊥
+
+-- a thread at halting others sets the halt word, and aborts
+pub record HaltsOthers (s : State) (t : ℕ) : Type 0 where
+  pub halting : IsHalting s t
+  pub owes : OwesNoStep s t
 
 -- 3. What each step asks once lock orders are checked, in the scheduled run and on a floor: a take is admitted before
 -- its lock is sought
@@ -354,12 +374,27 @@ abbrev pub IsBackFrom : State → ℕ → QueueName → Type 0
 IsBackFrom s t (Lock l) = ⊤
 IsBackFrom s t (Chan d) = is_taking_back (s.log t) ≡ true
 
--- who is added to a channel's queue is at work on the channel, and has no wake to note
+-- who is added to a channel's queue is at work on the channel, and has no wake and no halt to note
 pub record AddsAtWork (at_work : ℕ → Option ℕ) (s : State) (t d : ℕ) : Type 0 where
   pub works : at_work d ≡ Some t
   pub stamped : s.unstamped t ≡ None
+  pub unnoted : s.noted t ≡ None
 
--- 4. What each kind of step is
+-- 4. What each step asks once threads are counted, on a running floor
+
+-- a thread wakes whom it has counted in, or itself
+abbrev pub IsCountedIn : State → ℕ → ℕ → Type 0
+IsCountedIn s t u = (s.counting t ≡ Some u) ⊎ (t ≡ u)
+
+-- a thread resumes where it is parked, or aborted itself
+abbrev pub IsAtResume : Phase → Type 0
+IsAtResume phase = (is_parked phase ≡ true) ⊎ (phase ≡ SelfAborted)
+
+-- the record of a thread that was counted in stays out until that one is woken
+abbrev pub KeepsCountedOut : State → ℕ → Item → Type 0
+KeepsCountedOut s t i = (u : ℕ) → i ≡ RecordOf u → s.counting t ≡ Some u → ⊥
+
+-- 5. What each kind of step is
 
 pub record KindOfStep : Type 1 where
   -- who makes it
@@ -375,13 +410,16 @@ pub record KindOfStep : Type 1 where
   -- that doesn't admit, the thread enters and does not gain, until it looks again. A thread sleeps on a channel
   -- outside its rounds, where it has no wake to note. The order of locks is checked outside a thread's rounds.
   pub has_seen : ℕ → Config → State → Type 0
-  -- What it asks of its thread there: that it is awake, hasn't ended, and owes no other step. That a thread which
-  -- resumes is parked, or has aborted itself, comes with counting
+  -- What it asks of its thread there: that it is awake, hasn't ended, and owes no other step; or else where the thread
+  -- is, where it has ended, is at halting others or is parked
   pub asks_of_thread : State → Type 0
   -- How it keeps to the order that was admitted. A blocking call seeks the lock that it takes, and looks at it in
   -- its round alone; an enter is of the wanted lock; a release isn't of a thread that takes; and the next entry of
   -- one that takes ends its take.
   pub keeps_order : Config → State → Type 0
+  -- How it keeps the count of those that are awake: whom it wakes was counted in, and a thread resumes from where it
+  -- was parked
+  pub keeps_count : State → Type 0
   -- whether by it the thread gains the lock, or comes to stand on its queue
   pub ends_round : ℕ → ℕ → Type 0
   -- What it asks of sleepers, given who is at work on each channel. A Sleeps entry, an add and a wake are by the
@@ -399,6 +437,7 @@ plain t may after = record {
   has_seen = λ chains c s. ⊤;
   asks_of_thread = λ s. GoesOn s t;
   keeps_order = λ c s. ⊤;
+  keeps_count = λ s. ⊤;
   ends_round = λ u k. ⊥;
   asks_of_sleepers = λ at_work s. ⊤;
 }
@@ -424,6 +463,7 @@ kind_of (TakesItem t i) = record (plain t (λ c s. MayTake c s t i) (λ c s. aft
 kind_of (GivesItem t i) = record (plain t (λ c s. MayGive c s t i) (λ c s. after_give s t i)) {
   has_out = λ chains c s. HasItem s t i;
   asks_of_thread = λ s. GivesBack s t;
+  keeps_count = λ s. KeepsCountedOut s t i;
 }
 kind_of (Gains t l mode by_try) =
     record (plain t (λ c s. MayGain c s t l mode) (λ c s. after_gain s t l mode by_try)) {
@@ -491,12 +531,14 @@ kind_of (Marks t m ms) =
     record (plain t (λ c s. MayMark c s t m ms) (λ c s. after_mark c s t m ms)) {
       has_out = λ chains c s. HasItem s t (RecordOf m.thread);
       asks_of_thread = λ s. GoesOnOrHalts s t;
+      keeps_count = λ s. IsCountedIn s t m.thread;
     }
 kind_of (Resumes t q cause) =
     record (plain t (λ c s. MayResume c s t q cause) (λ c s. after_resume c s t q cause)) {
       has_out = λ chains c s. ((i : Item) → HasItem s t i → ⊥) × (s.walk t ≡ NoWalk);
       asks_of_thread = λ s. OwesNoStep s t;
       keeps_order = λ c s. IsBackFrom s t q;
+      keeps_count = λ s. IsAtResume (s.phase t);
     }
 kind_of (Claims t l h by_try) =
     record (plain t (λ c s. MayClaim c s t l h) (λ c s. after_claim c s t l h by_try)) {
@@ -523,6 +565,32 @@ kind_of (Refuses t l k) =
     record (plain t (λ c s. MayRefuse c s t l k) (λ c s. after_refuse s t l k)) {
       has_out = λ chains c s. HasItem s t ClassGraph;
       has_seen = λ chains c s. s.round t ≡ None;
+    }
+kind_of (CountsOut t) =
+    record (plain t (λ c s. MayCountOut c s t) (λ c s. after_count_out s t)) {
+      has_out = λ chains c s. (i : Item) → HasItem s t i → ⊥;
+      asks_of_thread = λ s. GivesBack s t;
+    }
+kind_of (CountsIn t u) =
+    record (plain t (λ c s. MayCountIn c s t u) (λ c s. after_count_in s t u)) {
+      has_out = λ chains c s. HasItem s t (RecordOf u);
+      asks_of_thread = λ s. GoesOnOrHalts s t;
+    }
+kind_of (CountsSelfIn t) =
+    record (plain t (λ c s. MayCountSelfIn c s t) (λ c s. after_count_self_in s t)) {
+      asks_of_thread = λ s. OwesNoStep s t;
+    }
+kind_of (CountsEnd t) =
+    record (plain t (λ c s. MayCountEnd c s t) (λ c s. after_count_end s t)) {
+      has_out = λ chains c s. HasItem s t (RecordOf t);
+    }
+kind_of (Halts t) = record (plain t (λ c s. MayHalt c s t) (λ c s. after_halt s)) {
+  asks_of_thread = λ s. HaltsOthers s t;
+}
+kind_of (Aborts t q side u) =
+    record (plain t (λ c s. MayAbort c s t q side u) (λ c s. after_abort s t q side u)) {
+      has_out = λ chains c s. HasItem s t (chain_of_queue chains c q);
+      asks_of_thread = λ s. HaltsOthers s t;
     }
 
 -- who makes a step
@@ -553,6 +621,10 @@ AsksOfThread s step = (kind_of step).asks_of_thread s
 abbrev pub KeepsToOrder : Config → State → Step → Type 0
 KeepsToOrder c s step = (kind_of step).keeps_order c s
 
+-- a step keeps the count of those that are awake
+abbrev pub KeepsCount : State → Step → Type 0
+KeepsCount s step = (kind_of step).keeps_count s
+
 -- by the step the thread gains the lock, or comes to stand on its queue
 abbrev pub EndsRound : Step → ℕ → ℕ → Type 0
 EndsRound step t l = (kind_of step).ends_round t l
@@ -561,7 +633,7 @@ EndsRound step t l = (kind_of step).ends_round t l
 abbrev pub AsksOfSleepers : (ℕ → Option ℕ) → State → Step → Type 0
 AsksOfSleepers at_work s step = (kind_of step).asks_of_sleepers at_work s
 
--- 5. Steps that are made
+-- 6. Steps that are made
 
 -- n comes from s by one step
 abbrev pub IsStep : Config → State → State → Type 0

@@ -35,7 +35,7 @@ use Rattle.lock_model.specs.declared.event.Held.{Held}
 use Rattle.run_laws.specs.OnTrack.{IsOnTrack, IsAtOperation, TakesLock, lock_of_take, point_by, point_in}
 use Rattle.sleep_laws.specs.Sleepers.{SleepersFit, AsksOfSleepersAll, AsleepAreOnTheirWay, UnnotedIsAtWork, by_turn, nobody}
 use Rattle.lock_laws.proofs.Kit.{put_same, put_other, each_place}
-use Rattle.run_laws.proofs.Shares.{SameShare, AllBy, all_leave}
+use Rattle.run_laws.proofs.Shares.{SameShare, AllBy, halt_nobody, all_leave}
 use Rattle.run_laws.proofs.Actions as actions
 use Rattle.run_laws.proofs.OtherThreads.{other_next as next_stays}
 use Rattle.lock_laws.proofs.Steps.{all_keep}
@@ -44,6 +44,7 @@ use Rattle.order_laws.proofs.TakeFacts.Steps.{all_keep as takes_keep}
 use Rattle.run_laws.proofs.Walks.{walks_keep}
 use Rattle.lock_laws.proofs.Endtries.{next_is_none}
 use Rattle.lock_laws.proofs.OwnEntries.{sections_stay}
+use Rattle.sleep_laws.proofs.SleepFacts.Steps.{all_stay}
 use Rattle.sleep_laws.proofs.SleepFacts.Turns.{turn_keeps, turn_ends}
 use Rattle.lock_laws.proofs.HeldLists.{AreLocks, Leads, next_leads, next_holds, next_within, held_are_locks}
 
@@ -238,14 +239,15 @@ module _ (plan : Plan) (r : Run) (t : ℕ) (action : Action) (k : IsOnTrack plan
   sleepers : SleepersFit nobody (config_of plan) n.state
   unfolding QueuedStands AsleepAreOnTheirWay
   sleepers =
-      let fit = turn_keeps (config_of plan) r.state t action.steps may w.asks k.lawful.lawful k.sleepers in
-      turn_ends (config_of plan) n.state t (λ d a none. w.stands t (fit.asleep_are_on_their_way t d a none).0 none) w.noted fit
+      let fit = turn_keeps (config_of plan) r.state t action.steps may w.asks (halt_nobody t action.steps own) k.halted k.lawful.lawful k.sleepers in
+      turn_ends (config_of plan) n.state t (λ d a z none. w.stands t (fit.asleep_are_on_their_way t d a z none).0 none) w.noted fit
 
   -- so the run stays on track
   pub stays_on_track : IsOnTrack plan n
   stays_on_track = record {
     lawful = record { lawful = lawful; nothing_out = w.out; queued_stands = w.stands };
     sleepers = sleepers;
+    halted = all_stay (config_of plan) r.state action.steps (halt_nobody t action.steps own) ∙ k.halted;
     no_halts = w.no_halts;
     within = λ u. (there u).within;
     no_endtry = λ u. (there u).no_endtry;

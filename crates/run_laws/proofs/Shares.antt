@@ -1,25 +1,39 @@
 -- The thread that makes a step, and what each other thread has left of its own behind it: its holds, its log with the
 -- sections in it, what it wants and takes, what it has to note, its walk and its marked list. It doesn't begin to run.
-use Rattle.std.proofs.Common.{◌≡◌, ℕ, Bool, true, List, [], ◌∷◌, refl, sym, ◌∙◌}
+use Rattle.std.proofs.Common.{◌≡◌, ℕ, Bool, true, false, List, [], ◌∷◌, refl, sym, ap, ◌∙◌}
 use Rattle.std.specs.Prelude.{⊤}
 use Rattle.lock_model.specs.Config.{Config}
 use Rattle.lock_model.specs.History.{sections_in}
 use Rattle.lock_state.specs.State.{State, Running}
-use Rattle.lock_state.specs.Steps.{Step, Seeks, Gains, Drops, Stamps, Readies, Unreadies, Enters, Opens, EntersSleepQueue, OpensSleepQueue, Wakes, Marks, Resumes, Claims, Lends, Shifts, EndsWalk, Admits, Refuses, after, after_all, maker}
+use Rattle.lock_state.specs.Steps.{Step, Seeks, Gains, Drops, Stamps, Readies, Unreadies, Enters, Opens, EntersSleepQueue, OpensSleepQueue, Wakes, Marks, Resumes, Claims, Lends, Shifts, EndsWalk, Admits, Refuses, Halts, Aborts, after, after_all, maker}
 use Rattle.lock_state.specs.Steps.Items.{after_take, after_give}
 use Rattle.lock_state.specs.Steps.LockWords.{after_seek, after_look, after_gain, after_drop, after_stamp, after_ready, after_unready, begun_with}
 use Rattle.lock_state.specs.Steps.Turnstiles.{after_enter, after_open, after_mark, after_resume}
-use Rattle.lock_state.specs.Steps.SleepQueues.{after_enter_sleep, after_open_sleep, after_add, after_wake}
+use Rattle.lock_state.specs.Steps.SleepQueues.{after_enter_sleep, after_open_sleep, after_add, after_wake, after_abort}
 use Rattle.lock_state.specs.Steps.Lending.{after_claim, after_lend, after_shift, after_end_walk}
 use Rattle.lock_state.specs.Steps.Orders.{after_admit, after_refuse}
+use Rattle.lock_state.specs.Steps.Counting.{after_count_out, after_count_in, after_count_self_in, after_count_end, after_halt}
+use Rattle.sleep_laws.specs.Sleepers.{HaltNobody}
 use Rattle.lock_model.specs.Events.{OfSection, NoSection, BeginsIn, EndsFrom, LeftFor, TakenBack, facets}
 use Rattle.lock_laws.proofs.Kit.{at_put, put_other, put_at_other, put_at_row}
 use Rattle.lock_laws.proofs.OwnEntries.{other_sections}
 
--- a list of steps of one thread
+-- whether a step sets the halt word
+abbrev pub sets_halt : Step → Bool
+sets_halt (Halts t) = true
+sets_halt other = false
+
+-- a list of steps of one thread, none of which sets the halt word
 abbrev pub AllBy : ℕ → List Step → Type 0
 AllBy t [] = ⊤
-AllBy t (step ∷ steps) = (maker step ≡ t) × AllBy t steps
+AllBy t (step ∷ steps) = ◌≡◌ {A = ℕ × Bool} (maker step, sets_halt step) (t, false) × AllBy t steps
+
+pub halt_nobody : (t : ℕ) (steps : List Step) → AllBy t steps → HaltNobody steps
+halt_nobody t [] by = tt
+halt_nobody t (step ∷ steps) by = (
+  λ u e. let z : true ≡ false = sym (ap sets_halt e) ∙ ap (λ p. p.1) by.0 in cc,
+  halt_nobody t steps by.1,
+)
 
 -- both states have the same of thread u, and it runs in n only where it did in s
 pub record SameShare (c : Config) (u : ℕ) (s n : State) : Type 0 where
@@ -48,7 +62,7 @@ module _ (c : Config) (u : ℕ) where
 
   -- one step, of another thread
   pub leaves : (s : State) (step : Step) → (maker step ≡ u → ⊥) → SameShare c u s (after c s step)
-  unfolding after_seek after_look after_take after_give after_gain after_drop after_stamp after_ready after_unready after_enter after_open after_mark after_resume after_enter_sleep after_open_sleep after_add after_wake after_claim after_lend after_shift after_end_walk after_admit after_refuse
+  unfolding after_seek after_look after_take after_give after_gain after_drop after_stamp after_ready after_unready after_enter after_open after_mark after_resume after_enter_sleep after_open_sleep after_add after_wake after_claim after_lend after_shift after_end_walk after_admit after_refuse after_count_out after_count_in after_count_self_in after_count_end after_halt after_abort
   leaves s (Seeks t l by_try) ne = record { held = refl; held_locks = refl; log = refl; sections = λ l. refl; has_begun = refl; wanted = refl; taking = put_other s.taking t _ u ne; noted = refl; walk = refl; marked = refl; running = λ e. e }
   leaves s (Gains t l mode by_try) ne = record { held = put_at_row s.held t l _ u ne; held_locks = put_other s.held_locks t _ u ne; log = refl; sections = λ l. refl; has_begun = put_at_row s.has_begun t l _ u ne; wanted = put_other s.wanted t _ u ne; taking = refl; noted = refl; walk = refl; marked = refl; running = λ e. e }
   leaves s (Drops t l mode) ne = record { held = put_at_row s.held t l _ u ne; held_locks = put_other s.held_locks t _ u ne; log = refl; sections = λ l. refl; has_begun = refl; wanted = refl; taking = refl; noted = refl; walk = refl; marked = refl; running = λ e. e }
@@ -68,6 +82,7 @@ module _ (c : Config) (u : ℕ) where
   leaves s (EndsWalk t) ne = record { held = refl; held_locks = refl; log = refl; sections = λ l. refl; has_begun = refl; wanted = refl; taking = refl; noted = refl; walk = put_other s.walk t _ u ne; marked = refl; running = λ e. e }
   leaves s (Admits t l) ne = record { held = refl; held_locks = refl; log = refl; sections = λ l. refl; has_begun = refl; wanted = put_other s.wanted t _ u ne; taking = put_other s.taking t _ u ne; noted = refl; walk = refl; marked = refl; running = λ e. e }
   leaves s (Refuses t l k) ne = record { held = refl; held_locks = refl; log = refl; sections = λ l. refl; has_begun = refl; wanted = refl; taking = refl; noted = put_other s.noted t _ u ne; walk = refl; marked = refl; running = λ e. e }
+  leaves s (Aborts t q side w) ne = record { held = refl; held_locks = refl; log = refl; sections = λ l. refl; has_begun = refl; wanted = refl; taking = refl; noted = refl; walk = refl; marked = put_other s.marked t _ u ne; running = λ e. e }
   leaves s other ne = assumption (same s)
 
   behind : {s m n : State} → SameShare c u s m → SameShare c u m n → SameShare c u s n
@@ -88,4 +103,4 @@ module _ (c : Config) (u : ℕ) where
   -- and a list of steps of another thread
   pub all_leave : (t : ℕ) (s : State) (steps : List Step) → (t ≡ u → ⊥) → AllBy t steps → SameShare c u s (after_all c s steps)
   all_leave t s [] ne by = same s
-  all_leave t s (step ∷ steps) ne by = behind (leaves s step (λ e. ne (sym by.0 ∙ e))) (all_leave t (after c s step) steps ne by.1)
+  all_leave t s (step ∷ steps) ne by = behind (leaves s step (λ e. ne (sym (ap (λ p. p.0) by.0) ∙ e))) (all_leave t (after c s step) steps ne by.1)

@@ -114,7 +114,7 @@ module _ (plan : Plan) (r : Run) (k : IsOnTrack plan r) where
     not_woken t l lt Queued e = refl
     not_woken t l lt (Woken (Chan d) cause) e = refl
     not_woken t l lt (Woken (Lock j) cause) e =
-        let by = k.sleepers.woken_by_signal t (Lock j) cause e in
+        let by = k.sleepers.woken_by_signal k.halted t (Lock j) cause e in
         let wants = k.lawful.lawful.waits.woken_wants t j.0 (e ∙ ap (Woken (Lock j)) by) in
         let z : Woken (Lock j) cause ≡ Queued = sym e ∙ wants_queued t j.0 lt wants in
         cc

@@ -53,6 +53,7 @@ unfolding start_state sections_in QueuedStands HaltsOnlyWhenRunning
 begins_on_track plan p = record {
   lawful = record { lawful = start.lawful (config_of plan); nothing_out = nothing_out (config_of plan); queued_stands = λ t e. absurd cc };
   sleepers = sleepers_begin nobody (config_of plan);
+  halted = refl;
   no_halts = tt;
   within = λ t. omega arith;
   no_endtry = λ t e. let b = (p.fits t).endtries 0 e in absurd (omega (arith, b.before));

@@ -16,7 +16,7 @@ use Rattle.lock_model.specs.History.{Sections, sections_by, sections_in, open_in
 use Rattle.lock_state.specs.State.{State, Queued, HeldLock, put, put_at, gained_order}
 use Rattle.lock_state.specs.Steps.{Step, Gains, Claims, Stamps, Readies, May, MayAll}
 use Rattle.lock_state.specs.Steps.Items.{IsOnItsWay}
-use Rattle.lock_state.specs.Steps.LockWords.{Asks, begun_after, taking_after, entry_of, MayGain, MayStamp, after_look, after_gain, after_stamp, after_ready}
+use Rattle.lock_state.specs.Steps.LockWords.{is_woken, Asks, begun_after, taking_after, entry_of, MayGain, MayStamp, after_look, after_gain, after_stamp, after_ready}
 use Rattle.lock_state.specs.Steps.SleepQueues.{has_slept, after_enter_sleep}
 use Rattle.lock_state.specs.Steps.Turnstiles.{MustWait, after_enter}
 use Rattle.lock_state.specs.Steps.Lending.{MayClaim, after_claim}
@@ -48,6 +48,7 @@ use Rattle.lock_laws.proofs.AtTurn.{has_turnstile, has_sleep_queue, shown_head, 
 use Rattle.run_laws.proofs.TurnsOfWaits.{given_up}
 use Rattle.sleep_laws.proofs.SleepFacts.Entries.{one_channel}
 use Rattle.sleep_laws.proofs.SleepFacts.Known.{asleep}
+use Rattle.sleep_laws.proofs.SleepFacts.Off.{off_acting, unnoted_unhalted}
 use Rattle.lock_laws.proofs.Dealt.{signals_nowhere}
 use Rattle.run_laws.proofs.OnTrack.{KeepsTrack, EndsWell, LetsGoOn, lets_go_on, goes_on, IsWhere, share_in, is_there, now_stands, not_running, put_at_own, noted_behind, none_unnoted, unnamed, acting, acting_in, ends_quietly, IsAwake, awake, is_awake, waits_back, awake_behind, before, behind, left, fit, are_locks, holds_all, all_open, wants_none, wants_it}
 use Rattle.lock_laws.proofs.Sections.{own_section}
@@ -171,7 +172,9 @@ module _ (plan : Plan) (r : Run) (t : ℕ) (p : IsProper plan) (k : IsOnTrack pl
         go : (o : Option ℕ) → s.woken_from t ≡ o → o ≡ Some d.0
         go None f =
             let a = asleep k.lawful.lawful k.sleepers t d.0 slept none (ap is_signalled i.running) f in
-            absurd (none-some t (k.sleepers.asleep_are_on_their_way t d.0 a (unnamed plan r t k i.running)).2)
+            let here = unnamed plan r t k i.running in
+            let z = off_acting c s t k.lawful.lawful here (ap is_woken i.running) ∙ unnoted_unhalted (s.noted t) (k.unnoted t) in
+            absurd (none-some t (k.sleepers.asleep_are_on_their_way t d.0 a z here).2)
         go (Some x) f = ap Some (one_channel x d.0 (s.log t) (k.sleepers.resumed_slept t x f) slept)
 
     left_so : left_in c s.history t wait_lock ≡ hold_in (before plan r t) wait_lock

@@ -154,7 +154,7 @@ module _ (plan : Plan) (r : Run) (t : ℕ) (p : IsProper plan) (k : IsOnTrack pl
     pub slept_keeps : KeepsTrack plan r t (does kind.Add (Readies t (Chan d) ∷ Stamps t (event.Sleeps d) ∷ Adds t d.0 x ∷ []))
     unfolding after_ready after_stamp after_add HaltsOnlyWhenRunning
     slept_keeps = record {
-      asks = (tt, ((λ e f. refl), (record { works = refl; stamped = noted_behind plan r t (event.Sleeps d) k }, tt)));
+      asks = (tt, ((λ e f. refl), (record { works = refl; stamped = noted_behind plan r t (event.Sleeps d) k; unnoted = put_same s.noted t None }, tt)));
       out = k.lawful.nothing_out;
       stands = now_stands s.wait s.blocked_on t (chan_queue d.0) k.lawful.queued_stands;
       noted = noted_behind plan r t (event.Sleeps d) k;

@@ -99,7 +99,7 @@ module _ (plan : Plan) (r : Run) (t : ℕ) (k : IsOnTrack plan r) (lt : t < leng
 
     signal : cause ≡ BySignal
     unfolding WokenBySignal
-    signal = k.sleepers.woken_by_signal t q cause e
+    signal = k.sleepers.woken_by_signal k.halted t q cause e
 
     wants : Wants q cause
     unfolding WokenWants

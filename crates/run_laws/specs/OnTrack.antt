@@ -76,7 +76,8 @@ pub record IsOnTrack (plan : Plan) (r : Run) : Type 0 where
   pub lawful : LawfulTurn (config_of plan) r.state
   -- the channels' queues fit the entries: nobody is on its way to one, and each wake is noted
   pub sleepers : SleepersFit nobody (config_of plan) r.state
-  -- nobody was halted
+  -- nobody was halted, and the halt word isn't set
+  pub halted : r.state.halted ≡ false
   pub no_halts : HaltsOnlyWhenRunning false r.state.history
   -- no thread has more operations behind it than it has
   pub within : (t : ℕ) → r.next_op t ≤ length (operations_of plan t)

@@ -1,3 +1,3 @@
 pub mod SleepFacts
-mod SleepGuards
+pub mod SleepGuards
 pub mod LegalSoFar

@@ -4,6 +4,8 @@ pub mod Entries
 pub mod Best
 pub mod Known
 pub mod Found
+pub mod Off
+pub mod Abort
 pub mod Waking
 pub mod Own
 pub mod Enter
@@ -22,30 +24,33 @@ use Rattle.std.proofs.Common.{ℕ, Option, refl, arith}
 use Rattle.lock_model.specs.Config.{Config}
 use Rattle.lock_model.specs.Law.{is_asleep, is_named, is_passed_over, WakingsNameSleepers}
 use Rattle.lock_state.specs.State.{start_state}
-use Rattle.sleep_laws.specs.Sleepers.{SleepersFit, NamedAreWoken, MarksAreSignals, WokenBySignal, NoSleepIsHalted, SleepersSlept, WokenSlept, ResumedSlept, SleepersWantNothing, SleepersAreUnwoken, AsleepStandThere, AsleepAreOnTheirWay, SleepersInOrder, LatecomersAreLater, SleepersKeepBase, SleepersAreExclusive, UnnotedAreMarked, UnnotedIsAtWork, UnnotedIsFair, NobodyIsPassedOver}
+use Rattle.sleep_laws.specs.Sleepers.{SleepersFit, NamedAreWoken, MarksAreSignals, WokenBySignal, NoSleepIsHalted, SleepersSlept, WokenSlept, ResumedSlept, SleepersWantNothing, SleepersAreUnwoken, AsleepStandThere, AsleepAreOnTheirWay, SleepersInOrder, LatecomersAreLater, SleepersKeepBase, SleepersAreExclusive, UnnotedAreMarked, UnnotedIsAtWork, UnnotedIsFair, AbortedSleep, SleepersAreUnhalted, PassedOverAreAborted}
+use Rattle.lock_state.specs.Facts.Sleeps.{aborted}
 use Rattle.lock_laws.proofs.Kit.{sum_below-zero}
 
 pub begins : (at_work : ℕ → Option ℕ) (c : Config) → SleepersFit at_work c (start_state c)
-unfolding start_state NamedAreWoken MarksAreSignals WokenBySignal NoSleepIsHalted SleepersSlept WokenSlept ResumedSlept SleepersWantNothing SleepersAreUnwoken AsleepStandThere AsleepAreOnTheirWay SleepersInOrder LatecomersAreLater SleepersKeepBase SleepersAreExclusive UnnotedAreMarked UnnotedIsAtWork UnnotedIsFair WakingsNameSleepers NobodyIsPassedOver is_asleep is_named is_passed_over
+unfolding start_state NamedAreWoken MarksAreSignals WokenBySignal NoSleepIsHalted SleepersSlept WokenSlept ResumedSlept SleepersWantNothing SleepersAreUnwoken AsleepStandThere AsleepAreOnTheirWay SleepersInOrder LatecomersAreLater SleepersKeepBase SleepersAreExclusive UnnotedAreMarked UnnotedIsAtWork UnnotedIsFair WakingsNameSleepers AbortedSleep SleepersAreUnhalted PassedOverAreAborted aborted is_asleep is_named is_passed_over
 begins at_work c = record {
   named_are_woken = λ t. let z = sum_below-zero c.threads (λ u. 0) (λ u l. refl) in omega (arith);
-  marks_are_signals = λ t. tt;
-  woken_by_signal = λ t q cause e. absurd cc;
-  no_sleep_is_halted = λ t q e. cc;
+  aborted_sleep = λ t. let z = sum_below-zero c.threads (λ u. 0) (λ u l. refl) in omega (arith);
+  marks_are_signals = λ x t. tt;
+  woken_by_signal = λ x t q cause e. absurd cc;
+  no_sleep_is_halted = λ x t q e. cc;
   sleepers_slept = λ t d e. absurd cc;
   woken_slept = λ t d cause e. absurd cc;
   resumed_slept = λ t d e. absurd cc;
   sleepers_want_nothing = λ t d e. absurd cc;
   sleepers_are_unwoken = λ t d e. absurd cc;
-  asleep_stand_there = λ t d q a e. absurd cc;
-  asleep_are_on_their_way = λ t d a e. absurd cc;
+  sleepers_are_unhalted = λ t d e. absurd cc;
+  asleep_stand_there = λ t d q a z e. absurd cc;
+  asleep_are_on_their_way = λ t d a z e. absurd cc;
   sleepers_in_order = λ d. tt;
-  latecomers_are_later = λ t d a e. absurd cc;
+  latecomers_are_later = λ t d a z e. absurd cc;
   sleepers_keep_base = λ d. tt;
   sleepers_are_exclusive = λ d. refl;
   unnoted_are_marked = λ t w u e. absurd cc;
   unnoted_is_at_work = λ t w e. absurd cc;
   unnoted_is_fair = λ t w l e. absurd cc;
   wakings_name_sleepers = tt;
-  nobody_is_passed_over = λ t. refl;
+  passed_over_are_aborted = λ t e. absurd cc;
 }

@@ -19,7 +19,7 @@ use Rattle.lock_state.specs.Steps.{Step, FitsFloor, Seeks, Looks, TakesItem, Giv
 use Rattle.lock_laws.proofs.FloorGuards.{FloorAll, floor_plan, taking, takes_first, none_out, chain_out, unslept, running, standing, owes, goes, looks_on}
 use Rattle.lock_laws.proofs.Kit.{put_at_beside}
 
-unfoldable sleeping : List Step
+unfoldable pub sleeping : List Step
 sleeping =
     TakesItem 0 (SleepChain 0) ∷ TakesItem 0 (RecordOf 0) ∷ Readies 0 (chan_queue 0) ∷ Stamps 0
     (Sleeps (record { 0 = 0 })) ∷ Adds 0 0 0
@@ -36,10 +36,10 @@ waking =
     []
 
 -- what p took and gave back is home, and so it is once q has done the same
-abbrev there : ℕ → Option ℕ
+abbrev pub there : ℕ → Option ℕ
 there = put (put (λ k. None) 0 (Some 0)) 0 None
 
-back : (k : ℕ) → there k ≡ None
+pub back : (k : ℕ) → there k ≡ None
 unfolding put
 back k = go (eqb 0 k)
   where

@@ -1,5 +1,5 @@
 -- Facts of sleepers on channels: where a thread is that sleeps or was woken, and what a wake did that is not noted yet.
-use Rattle.std.specs.Prelude.{◌≡◌, ℕ, ◌+◌, ◌<◌, Bool, true, false, ◌&&◌, ◌==◌, List, [], ◌∷◌, Option, Some, None, ⊤}
+use Rattle.std.specs.Prelude.{◌≡◌, ℕ, ◌+◌, ◌<◌, ◌≤◌, Bool, true, false, not, ◌&&◌, ◌==◌, List, [], ◌∷◌, Option, Some, None, ⊤}
 use Rattle.lock_model.specs.Config.{Config}
 use Rattle.lock_model.specs.Counts.{sum_below, one, some, times}
 use Rattle.lock_model.specs.Law.{is_asleep, is_named, is_passed_over, entries_up_to, goes_before}
@@ -7,7 +7,8 @@ use Rattle.lock_model.specs.Queues.{Cause, BySignal, Waiter, Lists, Mark, chan_q
 use Rattle.lock_model.specs.declared.plan.QueueName.{QueueName}
 use Rattle.lock_model.specs.declared.plan.QueueName.TheVariants.{Lock, Chan}
 use Rattle.lock_model.specs.declared.event.Entry.{Entry}
-use Rattle.lock_state.specs.State.{Wait, Running, Queued, Woken, Wake, Note, SleepHalted}
+use Rattle.lock_state.specs.State.{Wait, Running, Queued, Woken, Wake, Note, OrderRefused, SleepHalted}
+use Rattle.lock_state.specs.Steps.LockWords.{is_taking_back}
 use Rattle.lock_state.specs.Steps.SleepQueues.{has_slept}
 use Rattle.lock_state.specs.Facts.Loans.{Each}
 use Rattle.lock_state.specs.Facts.Waits.{is_signal, times_marked}
@@ -48,20 +49,53 @@ abbrev pub AreSignals : List Mark → Type 0
 AreSignals [] = ⊤
 AreSignals (m ∷ ms) = (m.cause ≡ BySignal) × AreSignals ms
 
--- No sleeper is aborted. Aborts and halts are no steps yet; their own facts come in place of these three, and of the
--- four facts further down of which a line says that an abort ends them: a thread that was aborted off a channel sleeps
--- in the history, and stands there no more
-unfoldable pub MarksAreSignals : (ℕ → List Mark) → Type 0
-MarksAreSignals marked = (t : ℕ) → AreSignals (marked t)
+-- Until the halt word is set no sleeper is aborted: each mark and each wake is by a signal, and no sleep that was ended
+-- is to be noted
+unfoldable pub MarksAreSignals : Bool → (ℕ → List Mark) → Type 0
+MarksAreSignals halted marked = halted ≡ false → (t : ℕ) → AreSignals (marked t)
 
-unfoldable pub WokenBySignal : (ℕ → Wait) → Type 0
-WokenBySignal wait =
-    (t : ℕ) (q : QueueName) (cause : Cause) → wait t ≡ Woken q cause → cause ≡ BySignal
+unfoldable pub WokenBySignal : Bool → (ℕ → Wait) → Type 0
+WokenBySignal halted wait =
+    halted ≡ false → (t : ℕ) (q : QueueName) (cause : Cause) → wait t ≡ Woken q cause
+    → cause ≡ BySignal
 
-unfoldable pub NoSleepIsHalted : (ℕ → Option Note) → Type 0
-NoSleepIsHalted noted = (t : ℕ) (q : QueueName) → noted t ≡ Some (SleepHalted q) → ⊥
+unfoldable pub NoSleepIsHalted : Bool → (ℕ → Option Note) → Type 0
+NoSleepIsHalted halted noted =
+    halted ≡ false → (t : ℕ) (q : QueueName) → noted t ≡ Some (SleepHalted q) → ⊥
 
--- 2. Who stands on a channel's queue, is in a marked list from there, or was woken
+-- 2. Aborts from channels
+
+-- how often a thread stands in a marked list by an abort from a channel
+abbrev pub aborts : ℕ → List Mark → ℕ
+aborts t [] = 0
+aborts t (m ∷ ms) =
+    one (is_chan m.queue && (not (is_signal m.cause) && (t == m.thread))) + aborts t ms
+
+-- 1 where the wait word says that an abort woke the thread from a channel
+abbrev pub is_aborted : Wait → ℕ
+is_aborted Running = 0
+is_aborted Queued = 0
+is_aborted (Woken q cause) = one (is_chan q && not (is_signal cause))
+
+-- 1 where it is to be noted that a sleep on a channel was ended
+abbrev pub is_chan_halt : Option Note → ℕ
+is_chan_halt None = 0
+is_chan_halt (Some (OrderRefused l k)) = 0
+is_chan_halt (Some (SleepHalted q)) = one (is_chan q)
+
+-- how often a thread was aborted off a channel since its last entry: it is in a marked list or woken by that, or has
+-- resumed, and has yet to note it
+unfoldable pub aborted : Config → (ℕ → List Mark) → (ℕ → Wait) → (ℕ → Option Note) → ℕ → ℕ
+aborted c marked wait noted t =
+    sum_below c.threads (λ u. aborts t (marked u)) + is_aborted (wait t) + is_chan_halt (noted t)
+
+-- A thread that was aborted off a channel (off says how often) was so once, and sleeps in the history on: its newest
+-- entry is the Sleeps entry, and no waking names it since
+unfoldable pub AbortedSleep : List Entry → (ℕ → ℕ) → (ℕ → List Entry) → Type 0
+AbortedSleep history off log =
+    (t : ℕ) → off t + one (is_named history t) ≤ one (is_taking_back (log t))
+
+-- 3. Who stands on a channel's queue, is in a marked list from there, or was woken
 
 -- its newest entry is the Sleeps entry
 unfoldable pub SleepersSlept : (ℕ → Option QueueName) → (ℕ → List Entry) → Type 0
@@ -88,24 +122,27 @@ unfoldable pub SleepersAreUnwoken : (ℕ → Option QueueName) → (ℕ → Opti
 SleepersAreUnwoken blocked_on woken_from =
     (t d : ℕ) → blocked_on t ≡ Some (chan_queue d) → woken_from t ≡ None
 
--- 3. Who sleeps in the history
+-- and has no sleep to note that was ended
+unfoldable pub SleepersAreUnhalted : (ℕ → Option QueueName) → (ℕ → Option Note) → Type 0
+SleepersAreUnhalted blocked_on noted =
+    (t d : ℕ) → blocked_on t ≡ Some (chan_queue d) → is_chan_halt (noted t) ≡ 0
 
--- A thread that sleeps on a channel stands on no other queue. An abort ends this: an aborted sleeper sleeps in
--- the history while it stands on the queue of the lock that it takes back
-unfoldable pub AsleepStandThere : List Entry → (ℕ → Option QueueName) → Type 0
-AsleepStandThere history blocked_on =
+-- 4. Who sleeps in the history. A thread that was aborted does so while it takes the lock of its wait back
+
+-- a thread that sleeps on a channel, and wasn't aborted, stands on no other queue
+unfoldable pub AsleepStandThere : List Entry → (ℕ → Option QueueName) → (ℕ → ℕ) → Type 0
+AsleepStandThere history blocked_on off =
     (t d : ℕ) (q : QueueName)
-    → is_asleep history d t ≡ true → blocked_on t ≡ Some q → q ≡ chan_queue d
+    → is_asleep history d t ≡ true → off t ≡ 0 → blocked_on t ≡ Some q → q ≡ chan_queue d
 
--- Where it stands on none it is on its way to the channel's, and at work on the channel. An abort ends this: an aborted
--- sleeper stands on none, and is woken
-unfoldable pub AsleepAreOnTheirWay : List Entry → (ℕ → Option QueueName) → (ℕ → Wait)
+-- where it stands on none it is on its way to the channel's, and at work on the channel
+unfoldable pub AsleepAreOnTheirWay : List Entry → (ℕ → Option QueueName) → (ℕ → ℕ) → (ℕ → Wait)
     → (ℕ → Option ℕ) → (ℕ → Option ℕ) → Type 0
-AsleepAreOnTheirWay history blocked_on wait wanted at_work =
-    (t d : ℕ) → is_asleep history d t ≡ true → blocked_on t ≡ None
+AsleepAreOnTheirWay history blocked_on off wait wanted at_work =
+    (t d : ℕ) → is_asleep history d t ≡ true → off t ≡ 0 → blocked_on t ≡ None
     → (wait t ≡ Queued) × (wanted t ≡ None) × (at_work d ≡ Some t)
 
--- 4. The order of a channel's queue
+-- 5. The order of a channel's queue
 
 -- each has slept longer than those behind it
 abbrev pub InOrder : List Entry → List Waiter → Type 0
@@ -117,12 +154,11 @@ InOrder es (w ∷ ws) =
 unfoldable pub SleepersInOrder : List Entry → (QueueName → Lists) → Type 0
 SleepersInOrder history lists = (d : ℕ) → InOrder history (lists (chan_queue d)).exclusive
 
--- Who is on its way to the channel comes last. An abort ends this: an aborted sleeper sleeps in the history and stands
--- on no queue, while others go to sleep behind it
-unfoldable pub LatecomersAreLater : List Entry → (ℕ → Option QueueName) → (QueueName → Lists)
-    → Type 0
-LatecomersAreLater history blocked_on lists =
-    (t d : ℕ) → is_asleep history d t ≡ true → blocked_on t ≡ None
+-- who is on its way to the channel comes last
+unfoldable pub LatecomersAreLater : List Entry → (ℕ → Option QueueName) → (ℕ → ℕ)
+    → (QueueName → Lists) → Type 0
+LatecomersAreLater history blocked_on off lists =
+    (t d : ℕ) → is_asleep history d t ≡ true → off t ≡ 0 → blocked_on t ≡ None
     → Each (λ w. entries_up_to history w.thread < entries_up_to history t)
     (lists (chan_queue d)).exclusive
 
@@ -135,7 +171,7 @@ SleepersKeepBase base lists =
 unfoldable pub SleepersAreExclusive : (QueueName → Lists) → Type 0
 SleepersAreExclusive lists = (d : ℕ) → (lists (chan_queue d)).shared ≡ []
 
--- 5. A wake that is not noted yet
+-- 6. A wake that is not noted yet
 
 -- those that it took off are the marked list's from the channel, by signal
 unfoldable pub UnnotedAreMarked : (ℕ → Option Wake) → (ℕ → List Mark) → Type 0
@@ -164,7 +200,7 @@ UnnotedIsFair c history unstamped lists =
     (t : ℕ) (w : Wake) → t < c.threads → unstamped t ≡ Some w
     → LeavesNobodyBefore c history w.all w.taken (lists (chan_queue w.chan)).exclusive
 
--- 6. Nobody is passed over by a waking. An abort ends this: a waking passes over an aborted sleeper, until its halt is
--- noted
-unfoldable pub NobodyIsPassedOver : Config → List Entry → Type 0
-NobodyIsPassedOver c history = (t : ℕ) → is_passed_over c history t ≡ false
+-- 7. Who is passed over by a waking since its last entry was aborted, and has yet to note that
+unfoldable pub PassedOverAreAborted : Config → List Entry → (ℕ → ℕ) → Type 0
+PassedOverAreAborted c history off =
+    (t : ℕ) → is_passed_over c history t ≡ true → 1 ≤ off t

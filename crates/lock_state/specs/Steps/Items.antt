@@ -2,7 +2,7 @@
 use Rattle.std.specs.Prelude.{◌≡◌, ◌≢◌, ℕ, ◌<◌, Bool, true, false, not, ◌&&◌, ◌==◌, if◌then◌else◌, Option, Some, None, ⊤}
 use Rattle.lock_model.specs.Config.{Config}
 use Rattle.lock_state.specs.State.{State, Queued, SleepHalted, Look, Round, put, put_at}
-use Rattle.lock_model.specs.declared.plan.QueueName.{QueueName}
+use Rattle.lock_model.specs.Queues.{chan_queue}
 use Rattle.lock_state.specs.Steps.LockWords.{IsActing, is_taking_back}
 
 -- what a thread may have out: a chain of turnstiles or of sleep queues, a thread's record, a cell of a lock's table,
@@ -149,7 +149,7 @@ pub record IsOnItsWay (s : State) (t : ℕ) : Type 0 where
   pub wants : s.wanted t ≡ None
   pub slept : is_taking_back (s.log t) ≡ true
   pub unwoken : s.woken_from t ≡ None
-  pub unhalted : (q : QueueName) → s.noted t ≡ Some (SleepHalted q) → ⊥
+  pub unhalted : (d : ℕ) → s.noted t ≡ Some (SleepHalted (chan_queue d)) → ⊥
 
 -- the thread isn't about to stand on a queue
 abbrev pub IsSettled : State → ℕ → Type 0

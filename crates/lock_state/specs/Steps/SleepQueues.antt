@@ -1,17 +1,19 @@
 -- Steps that put a thread on a sleep queue, of an sx lock or of a condition variable or channel, and take sleepers
--- off again.
-use Rattle.std.specs.Prelude.{◌≡◌, ℕ, ◌<◌, Bool, true, false, List, [], ◌∷◌, map, Some, None}
-use Rattle.lock_model.specs.Words.{is_turnstile}
+-- off again, by a signal or by an abort.
+use Rattle.std.specs.Prelude.{◌≡◌, ℕ, ◌<◌, Bool, true, false, not, List, [], ◌∷◌, map, Some, None}
+use Rattle.lock_model.specs.Counts.{is_empty}
+use Rattle.lock_model.specs.Words.{Word, is_turnstile, with_bit}
 use Rattle.lock_model.specs.Config.{Config}
 use Rattle.lock_model.specs.Events.{sleeps_on}
 use Rattle.lock_state.specs.Steps.LockWords.{OthersOpen}
 use Rattle.lock_state.specs.Steps.Turnstiles.{MustWait, IsLastHolder, with_waiter, waiting_for, with_marked, after_last_release}
-use Rattle.lock_state.specs.State.{State, Queued, put}
-use Rattle.lock_model.specs.Queues.{Waiter, lock_queue, chan_queue, side_of, list_of, with_list, with_last, taken_off, left_on}
+use Rattle.lock_state.specs.State.{State, Queued, Phase, Awake, Asleep, Last, Halting, Aborting, SelfAborted, is_parked, found_nobody_awake, put, put_queue}
+use Rattle.lock_model.specs.Queues.{Waiter, Mark, ByAbort, lock_queue, chan_queue, is_turnstile_queue, side_of, list_of, with_list, with_last, times_waiting, taken_off, left_on, without, dealt, free_after, head_after}
 use Rattle.lock_model.specs.declared.plan.Mode.{Mode}
 use Rattle.lock_model.specs.declared.plan.Side.{Side}
 use Rattle.lock_model.specs.declared.plan.Side.TheVariants.{X}
 use Rattle.lock_model.specs.declared.plan.QueueName.{QueueName}
+use Rattle.lock_model.specs.declared.plan.QueueName.TheVariants.{Lock, Chan}
 use Rattle.lock_model.specs.declared.event.Entry.{Entry}
 
 -- 1. An enter on an sx lock: as on a turnstile, but the thread stands at the tail, ranked by its base priority, and
@@ -89,4 +91,64 @@ after_wake s t d all =
     record (with_marked s t q (with_list X (left_on all (s.lists q).exclusive) (s.lists q)) ws) {
       unstamped = put s.unstamped t
           (Some (record { chan = d; all = all; taken = map (λ w. w.thread) ws }));
+    }
+
+-- 5. An abort: a sleeper of an sx lock or of a channel goes to the marked list of a thread that found nobody awake, and
+-- an sx lock's bit follows its list
+
+-- the queue is one of the plan's
+abbrev pub IsQueueOf : Config → QueueName → Type 0
+IsQueueOf c (Lock l) = l.0 < c.locks
+IsQueueOf c (Chan d) = d.0 < c.chans
+
+-- What it asks. The halt word is set; the thread's last counting out left nobody awake, and it has neither resumed
+-- since nor is it parked. It wakes one sleeper after the other
+pub record MayAbort (c : Config) (s : State) (t : ℕ) (q : QueueName) (side : Side) (u : ℕ) : Type 0
+  where
+    pub thread : t < c.threads
+    pub halted : s.halted ≡ true
+    pub found : found_nobody_awake (s.phase t) ≡ true
+    pub unparked : is_parked (s.phase t) ≡ false
+    pub queue : IsQueueOf c q
+    pub sleeps : is_turnstile_queue c q ≡ false
+    pub unmarked : s.marked t ≡ []
+    pub stamped : s.unstamped t ≡ None
+    pub stands : 0 < times_waiting u (list_of side (s.lists q))
+
+-- the sleeper
+abbrev pub sleeper : State → ℕ → Waiter
+sleeper s u = record { thread = u; kept = s.base u }
+
+-- the marks of those whom an abort takes off, as a signal's but for their cause
+abbrev pub by_abort : List Mark → List Mark
+by_abort [] = []
+by_abort (m ∷ ms) = record m { cause = ByAbort } ∷ by_abort ms
+
+-- words after a list of the queue is changed: a lock's shows whether somebody stands on that side, a channel has none
+abbrev pub word_showing : QueueName → Side → List Waiter → (ℕ → Word) → ℕ → Word
+word_showing (Lock l) side ws word =
+    put word l.0 (with_bit (word l.0) side (not (is_empty ws)))
+word_showing (Chan d) side ws word = word
+
+-- a finder that aborts is none any more
+abbrev pub phase_aborting : Phase → Phase
+phase_aborting Awake = Awake
+phase_aborting Asleep = Asleep
+phase_aborting Last = Last
+phase_aborting Halting = Aborting
+phase_aborting Aborting = Aborting
+phase_aborting SelfAborted = SelfAborted
+
+-- the sleeper is in the marked list
+unfoldable pub after_abort : State → ℕ → QueueName → Side → ℕ → State
+after_abort s t q side u =
+    let left : List Waiter = without u (list_of side (s.lists q)) in
+    let taken : List Waiter = sleeper s u ∷ [] in
+    record s {
+      word = word_showing q side left s.word;
+      lists = put_queue s.lists q (with_list side left (s.lists q));
+      free_list = put_queue s.free_list q (free_after taken (s.free_list q));
+      head = put_queue s.head q (head_after taken (s.free_list q) (s.head q));
+      marked = put s.marked t (by_abort (dealt q taken (s.free_list q) (s.head q)));
+      phase = put s.phase t (phase_aborting (s.phase t));
     }

@@ -4,9 +4,10 @@ use Rattle.lock_model.specs.Config.{Config}
 use Rattle.lock_state.specs.State.{State}
 use Rattle.lock_state.specs.Facts.{Lawful, Ordered}
 use Rattle.lock_state.specs.Steps.LockWords.{after_seek, after_look}
-use Rattle.lock_state.specs.Steps.SleepQueues.{after_wake}
+use Rattle.lock_state.specs.Steps.SleepQueues.{after_wake, after_abort}
 use Rattle.lock_state.specs.Steps.Lending.{after_lend, after_shift, after_end_walk}
 use Rattle.lock_state.specs.Steps.Items.{after_take, after_give}
+use Rattle.lock_state.specs.Steps.Counting.{after_count_out, after_count_in, after_count_self_in, after_count_end, after_halt}
 use Rattle.lock_state.specs.Steps.{Step, Gains, Drops, Stamps, Readies, Unreadies, Enters, Opens, EntersSleepQueue, OpensSleepQueue, Adds, Marks, Resumes, Claims, Admits, Refuses, May, MayAll, KeepsToOrder, KeepToOrder, after, after_all}
 use Rattle.lock_laws.proofs.Steps as lawful
 use Rattle.order_laws.proofs.OrderFacts.Admit as admit
@@ -16,7 +17,7 @@ use Rattle.order_laws.proofs.OrderFacts.Release as release
 use Rattle.order_laws.proofs.OrderFacts.Wait as wait
 
 pub keeps : (c : Config) (s : State) (step : Step) → May c s step → KeepsToOrder c s step → Lawful c s → Ordered c s → Ordered c (after c s step)
-unfolding after_seek after_look after_take after_give after_wake after_lend after_shift after_end_walk
+unfolding after_seek after_look after_take after_give after_wake after_lend after_shift after_end_walk after_count_out after_count_in after_count_self_in after_count_end after_halt after_abort
 keeps c s (Gains t l mode by_try) g k f h = gain.gains c s t l mode by_try g.acting k f h
 keeps c s (Drops t l mode) g k f h = release.drops c s t l h
 keeps c s (Stamps t e) g k f h = entries.stamps c s t e g f h

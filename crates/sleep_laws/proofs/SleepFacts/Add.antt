@@ -8,14 +8,16 @@ use Rattle.lock_state.specs.State.{State, put, put_queue}
 use Rattle.lock_state.specs.Steps.SleepQueues.{MayAdd, after_add}
 use Rattle.lock_state.specs.Facts.{Lawful}
 use Rattle.lock_state.specs.Facts.Loans.{Each}
-use Rattle.lock_state.specs.Facts.Sleeps.{is_signalled, InOrder}
+use Rattle.lock_state.specs.Facts.Sleeps.{is_signalled, is_chan_halt, InOrder}
+use Rattle.lock_state.specs.Steps.LockWords.{is_woken}
 use Rattle.lock_state.specs.Steps.{AddsAtWork}
-use Rattle.sleep_laws.specs.Sleepers.{SleepersFit, SleepersSlept, SleepersWantNothing, SleepersAreUnwoken, AsleepStandThere, AsleepAreOnTheirWay, SleepersInOrder, LatecomersAreLater, SleepersKeepBase, SleepersAreExclusive, UnnotedIsFair}
+use Rattle.sleep_laws.specs.Sleepers.{SleepersFit, SleepersSlept, SleepersWantNothing, SleepersAreUnwoken, SleepersAreUnhalted, AsleepStandThere, AsleepAreOnTheirWay, SleepersInOrder, LatecomersAreLater, SleepersKeepBase, SleepersAreExclusive, UnnotedIsFair, off}
 use Rattle.lock_laws.proofs.Kit.{columns, put_chan_other}
 use Rattle.sleep_laws.proofs.SleepFacts.Best.{KeepsBase, at_put_chan, each-last, in_order-last}
 use Rattle.sleep_laws.proofs.SleepFacts.Entries.{one_channel}
 use Rattle.sleep_laws.proofs.SleepFacts.Known.{asleep, slept, is_at_work, its_thread}
 use Rattle.lock_laws.proofs.Dealt.{signals_nowhere}
+use Rattle.sleep_laws.proofs.SleepFacts.Off.{off_acting, unnoted_unhalted}
 
 module _ {at_work : ℕ → Option ℕ} {c : Config} {s : State} (l : Lawful c s)
     (h : SleepersFit at_work c s) (t k x : ℕ) (g : MayAdd c s t k x)
@@ -57,11 +59,21 @@ module _ {at_work : ℕ → Option ℕ} {c : Config} {s : State} (l : Lawful c s
   unfolding SleepersAreUnwoken
   unwoken u d = grind (arith, columns, h.sleepers_are_unwoken u d, g.unwoken)
 
-  there : AsleepStandThere s.history blocked_on
+  no_halt : is_chan_halt (s.noted t) ≡ 0
+  no_halt = unnoted_unhalted (s.noted t) a.unnoted
+
+  unaborted : off c s t ≡ 0
+  unaborted = off_acting c s t l g.unnamed (ap is_woken g.queued) ∙ no_halt
+
+  unhalted : SleepersAreUnhalted blocked_on s.noted
+  unfolding SleepersAreUnhalted
+  unhalted u d = grind (arith, columns, h.sleepers_are_unhalted u d, no_halt)
+
+  there : AsleepStandThere s.history blocked_on (off c s)
   unfolding AsleepStandThere
   there u d q = grind (arith, columns, h.asleep_stand_there u d q, there_alone d)
 
-  way : AsleepAreOnTheirWay s.history blocked_on s.wait s.wanted at_work
+  way : AsleepAreOnTheirWay s.history blocked_on (off c s) s.wait s.wanted at_work
   unfolding AsleepAreOnTheirWay
   way u d = grind (arith, columns, h.asleep_are_on_their_way u d)
 
@@ -70,21 +82,21 @@ module _ {at_work : ℕ → Option ℕ} {c : Config} {s : State} (l : Lawful c s
   order : SleepersInOrder s.history lists
   unfolding SleepersInOrder LatecomersAreLater
   order = at_put_chan (λ d q. InOrder s.history q.exclusive) s.lists k queue
-      (in_order-last s.history new ws (h.latecomers_are_later t k sleeps g.unnamed)
+      (in_order-last s.history new ws (h.latecomers_are_later t k sleeps unaborted g.unnamed)
       (h.sleepers_in_order k))
       h.sleepers_in_order
 
   -- who else is on its way to the channel would be at work on it
-  later : LatecomersAreLater s.history blocked_on lists
+  later : LatecomersAreLater s.history blocked_on (off c s) lists
   unfolding LatecomersAreLater
-  later u d i n = rw (put_chan_other s.lists k queue d other) (h.latecomers_are_later u d i away)
+  later u d i z n = rw (put_chan_other s.lists k queue d other) (h.latecomers_are_later u d i z away)
     where
       away : s.blocked_on u ≡ None
       away = grind (arith, columns, n)
 
       other : k ≡ d → ⊥
       other e =
-          let z : Some t ≡ Some u = sym a.works ∙ ap at_work e ∙ is_at_work l h u d i away in
+          let z : Some t ≡ Some u = sym a.works ∙ ap at_work e ∙ is_at_work l h u d i z away in
           grind (arith, columns, n)
 
   bases : SleepersKeepBase s.base lists
@@ -110,4 +122,4 @@ module _ {at_work : ℕ → Option ℕ} {c : Config} {s : State} (l : Lawful c s
 
   pub adds : SleepersFit at_work c (after_add s t k x)
   unfolding after_add
-  adds = assumption (h, newly_slept, wants, unwoken, there, way, order, later, bases, sides, fair)
+  adds = assumption (h, newly_slept, wants, unwoken, unhalted, there, way, order, later, bases, sides, fair)

@@ -58,7 +58,7 @@ pub each-last : (P : Waiter → Type 0) (w : Waiter) (ws : List Waiter) → P w 
 each-last P w [] p e = (p, tt)
 each-last P w (v ∷ vs) p e = (e.0, each-last P w vs p e.1)
 
-each-without : (P : Waiter → Type 0) (t : ℕ) (ws : List Waiter) → Each P ws → Each P (without t ws)
+pub each-without : (P : Waiter → Type 0) (t : ℕ) (ws : List Waiter) → Each P ws → Each P (without t ws)
 each-without P t [] e = tt
 each-without P t (w ∷ ws) e = elim (eqb t w.thread) as (λ b. Each P (cond b ws (w ∷ without t ws))) [
   | true ↦ e.1
@@ -79,7 +79,7 @@ module _ (es : List Entry) where
   in_order-last w (v ∷ vs) e o =
       (each-last (λ x. SleptLonger es x.thread v) w vs e.0 o.0, in_order-last w vs e.1 o.1)
 
-  in_order-without : (t : ℕ) (ws : List Waiter) → InOrder es ws → InOrder es (without t ws)
+  pub in_order-without : (t : ℕ) (ws : List Waiter) → InOrder es ws → InOrder es (without t ws)
   in_order-without t [] o = tt
   in_order-without t (w ∷ ws) o = elim (eqb t w.thread) as (λ b. InOrder es (cond b ws (w ∷ without t ws))) [
     | true ↦ o.1

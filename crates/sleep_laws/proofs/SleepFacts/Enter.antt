@@ -10,21 +10,21 @@ use Rattle.lock_state.specs.Steps.Turnstiles.{after_enter}
 use Rattle.lock_state.specs.Steps.SleepQueues.{after_enter_sleep}
 use Rattle.lock_state.specs.Steps.Items.{IsOnItsWay}
 use Rattle.lock_state.specs.Facts.{Lawful}
-use Rattle.sleep_laws.specs.Sleepers.{SleepersFit, SleepersSlept, SleepersWantNothing, SleepersAreUnwoken, AsleepStandThere, AsleepAreOnTheirWay, SleepersInOrder, LatecomersAreLater, SleepersKeepBase, SleepersAreExclusive, UnnotedIsFair}
+use Rattle.sleep_laws.specs.Sleepers.{SleepersFit, SleepersSlept, SleepersWantNothing, SleepersAreUnwoken, SleepersAreUnhalted, AsleepStandThere, AsleepAreOnTheirWay, SleepersInOrder, LatecomersAreLater, SleepersKeepBase, SleepersAreExclusive, UnnotedIsFair, off}
 use Rattle.lock_laws.proofs.Kit.{columns}
 use Rattle.sleep_laws.proofs.SleepFacts.Known.{on_its_way}
 
 module _ {at_work : ℕ → Option ℕ} {c : Config} {s : State} (l : Lawful c s)
     (h : SleepersFit at_work c s) (t k : ℕ) (unnamed : s.blocked_on t ≡ None)
-    (off : IsOnItsWay s t → ⊥) where
+    (settled : IsOnItsWay s t → ⊥) where
   abbrev blocked_on : ℕ → Option QueueName
   blocked_on = put s.blocked_on t (Some (lock_queue k))
 
   abbrev wanted : ℕ → Option ℕ
   wanted = put s.wanted t (Some k)
 
-  awake : (d : ℕ) → is_asleep s.history d t ≡ true → ⊥
-  awake d a = off (on_its_way l h t d a unnamed)
+  awake : (d : ℕ) → is_asleep s.history d t ≡ true → off c s t ≡ 0 → ⊥
+  awake d a z = settled (on_its_way l h t d a z unnamed)
 
   slept : SleepersSlept blocked_on s.log
   unfolding SleepersSlept
@@ -38,23 +38,27 @@ module _ {at_work : ℕ → Option ℕ} {c : Config} {s : State} (l : Lawful c s
   unfolding SleepersAreUnwoken
   unwoken u d = grind (arith, columns, h.sleepers_are_unwoken u d)
 
-  there : AsleepStandThere s.history blocked_on
+  unhalted : SleepersAreUnhalted blocked_on s.noted
+  unfolding SleepersAreUnhalted
+  unhalted u d = grind (arith, columns, h.sleepers_are_unhalted u d)
+
+  there : AsleepStandThere s.history blocked_on (off c s)
   unfolding AsleepStandThere
   there u d q = grind (arith, columns, h.asleep_stand_there u d q, awake d)
 
-  way : AsleepAreOnTheirWay s.history blocked_on s.wait wanted at_work
+  way : AsleepAreOnTheirWay s.history blocked_on (off c s) s.wait wanted at_work
   unfolding AsleepAreOnTheirWay
   way u d = grind (arith, columns, h.asleep_are_on_their_way u d)
 
-  later : LatecomersAreLater s.history blocked_on s.lists
+  later : LatecomersAreLater s.history blocked_on (off c s) s.lists
   unfolding LatecomersAreLater
-  later u d a b = h.latecomers_are_later u d a (grind (arith, columns))
+  later u d a z b = h.latecomers_are_later u d a z (grind (arith, columns))
 
   pub enters : (mode : Mode) (x : ℕ) → SleepersFit at_work c (after_enter s t k mode x)
   unfolding after_enter put_queue SleepersInOrder LatecomersAreLater SleepersKeepBase SleepersAreExclusive UnnotedIsFair
-  enters mode x = assumption (h, slept, wants, unwoken, there, way, later)
+  enters mode x = assumption (h, slept, wants, unwoken, unhalted, there, way, later)
 
   pub enters_sleep_queue : (mode : Mode) (x : ℕ)
       → SleepersFit at_work c (after_enter_sleep s t k mode x)
   unfolding after_enter_sleep put_queue SleepersInOrder LatecomersAreLater SleepersKeepBase SleepersAreExclusive UnnotedIsFair
-  enters_sleep_queue mode x = assumption (h, slept, wants, unwoken, there, way, later)
+  enters_sleep_queue mode x = assumption (h, slept, wants, unwoken, unhalted, there, way, later)

@@ -1,24 +1,31 @@
 -- On a running floor who has a channel's chain out is at work on it: each step of a thread of the floor asks of
 -- sleepers what it must, and only where a chain is taken or given back another is at work.
-use Rattle.std.proofs.Common.{◌≡◌, ◌⊎◌, ℕ, ◌%◌, true, Some, None, sym, ap, inl, inr, ◌∙◌, subst}
+use Rattle.std.proofs.Common.{◌≡◌, ◌⊎◌, ℕ, ◌%◌, ◌≤◌, Bool, true, false, Some, None, refl, sym, ap, inl, inr, arith, ◌∙◌, subst}
 use Rattle.std.proofs.lemmas.Bool.{eqb-true}
 use Rattle.lock_model.specs.Config.{Config}
-use Rattle.lock_model.specs.Law.{sleeps_on}
+use Rattle.lock_model.specs.Counts.{one, some}
+use Rattle.lock_model.specs.Law.{sleeps_on, is_halted_chan}
 use Rattle.lock_model.specs.declared.event.Event.{Event}
-use Rattle.lock_model.specs.declared.event.Event.TheVariants.{Sleeps}
+use Rattle.lock_model.specs.declared.event.Event.TheVariants.{Sleeps, Woke, HaltedChan}
 use Rattle.lock_state.specs.State.{State}
 use Rattle.lock_state.specs.Facts.{Lawful}
-use Rattle.lock_state.specs.Steps.LockWords.{after_seek, after_look, after_gain, after_drop, after_stamp, after_ready, after_unready}
+use Rattle.lock_state.specs.Facts.Sleeps.{is_chan_halt, aborted}
+use Rattle.lock_state.specs.Steps.LockWords.{is_taking_back, MayStamp, after_seek, after_look, after_gain, after_drop, after_stamp, after_ready, after_unready}
 use Rattle.lock_state.specs.Steps.Turnstiles.{after_enter, after_open, after_mark, after_resume}
-use Rattle.lock_state.specs.Steps.SleepQueues.{after_enter_sleep, after_open_sleep, after_add, after_wake}
+use Rattle.lock_state.specs.Steps.SleepQueues.{after_enter_sleep, after_open_sleep, after_add, after_wake, after_abort}
 use Rattle.lock_state.specs.Steps.Lending.{after_claim, after_lend, after_shift, after_end_walk}
 use Rattle.lock_state.specs.Steps.Items.{Item, SleepChain, IsDoneWith, MayTake, MayGive, item_with, after_take, after_give}
 use Rattle.lock_state.specs.Steps.Orders.{after_admit, after_refuse}
-use Rattle.lock_state.specs.Steps.{Step, TakesItem, GivesItem, Stamps, Unreadies, Enters, EntersSleepQueue, Adds, Wakes, May, HasOut, HasOutForEntry, HasSeen, AsksOfThread, after, IsFloorStep, AsksOfSleepers}
-use Rattle.sleep_laws.specs.Sleepers.{SleepersFit, AsleepAreOnTheirWay, by_chain}
+use Rattle.lock_state.specs.Steps.Counting.{after_count_out, after_count_in, after_count_self_in, after_count_end, after_halt}
+use Rattle.lock_state.specs.Steps.{Step, TakesItem, GivesItem, Stamps, Unreadies, Enters, EntersSleepQueue, Adds, Wakes, May, HasOut, HasOutForEntry, HasSeen, AsksOfThread, ends_sleep, after, IsFloorStep, AsksOfSleepers}
+use Rattle.sleep_laws.specs.Sleepers.{SleepersFit, NamedAreWoken, AbortedSleep, AsleepAreOnTheirWay, by_chain, off}
 use Rattle.lock_laws.proofs.Items.{beside}
 use Rattle.sleep_laws.proofs.SleepFacts.Moves.{moves}
 use Rattle.sleep_laws.proofs.SleepFacts.Steps as core
+
+one_most : (b : Bool) → one b ≤ 1
+one_most true = omega arith
+one_most false = omega arith
 
 module _ (chains : ℕ) (c : Config) (s : State) where
   -- 1. What a step asks
@@ -34,9 +41,33 @@ module _ (chains : ℕ) (c : Config) (s : State) where
   asks (Unreadies t q) o x a = a.owes.added
   asks (Enters t l mode y) o x a = a.owes.added
   asks (EntersSleepQueue t l mode y) o x a = a.owes.added
-  asks (Adds t d y) o x a = record { works = o.0; stamped = x.stamped }
+  asks (Adds t d y) o x a = record { works = o.0; stamped = x.stamped; unnoted = x.unnoted }
   asks (Wakes t d all) o x a = o
   asks other o x a = tt
+
+  -- the next entry of a thread that sleeps in its log ends that sleep, and of one that was aborted it tells of the halt
+  module _ (h : SleepersFit (by_chain chains s) c s) (t : ℕ) (k : 1 ≤ is_chan_halt (s.noted t)) where
+    halted : 1 ≤ off c s t
+    unfolding aborted
+    halted = omega (arith, k)
+
+    back : (b : Bool) → is_taking_back (s.log t) ≡ b → is_taking_back (s.log t) ≡ true
+    unfolding AbortedSleep
+    back true i = i
+    back false i = absurd (let z = ap one i in omega (arith, halted, h.aborted_sleep t))
+
+    tells : (e : Event) → MayStamp c s t e → ends_sleep e ≡ true → is_halted_chan e ≡ true
+    unfolding NamedAreWoken AbortedSleep
+    tells (Woke d) g i = absurd (
+        let z = ap some g.asks.1 in
+        let y = one_most (is_taking_back (s.log t)) in
+        omega (arith, h.named_are_woken t, halted, h.aborted_sleep t))
+    tells (HaltedChan d) g i = refl
+    tells other g i = absurd cc
+
+  notes : SleepersFit (by_chain chains s) c s → (step : Step) → May c s step → HasSeen chains c s step → core.NotesHalts s step
+  notes h (Stamps t e) g x = λ k. tells h t k e g (x.asleep (back h t k (is_taking_back (s.log t)) refl))
+  notes h other g x = tt
 
   -- 2. Who is at work behind it
 
@@ -65,16 +96,16 @@ module _ (chains : ℕ) (c : Config) (s : State) where
 
   moved : (step : Step) → May c s step → SleepersFit (by_chain chains s) c (after c s step)
       → SleepersFit (by_chain chains (after c s step)) c (after c s step)
-  unfolding AsleepAreOnTheirWay after_seek after_look after_gain after_drop after_stamp after_ready after_unready after_enter after_open after_mark after_resume after_enter_sleep after_open_sleep after_add after_wake after_claim after_lend after_shift after_end_walk after_admit after_refuse after_take after_give
+  unfolding AsleepAreOnTheirWay after_seek after_look after_gain after_drop after_stamp after_ready after_unready after_enter after_open after_mark after_resume after_enter_sleep after_open_sleep after_add after_wake after_claim after_lend after_shift after_end_walk after_admit after_refuse after_take after_give after_count_out after_count_in after_count_self_in after_count_end after_halt after_abort
   moved (TakesItem t i) g n =
       let after = after_take s t i in
       moves (by_chain chains s) (by_chain chains after) c after n
-      (λ u d a b. taken t i g u (d % chains)) (λ u w e. taken t i g u (w.chan % chains))
+      (λ u d a z b. taken t i g u (d % chains)) (λ u w e. taken t i g u (w.chan % chains))
   moved (GivesItem t i) g n =
       let after = after_give s t i in
       moves (by_chain chains s) (by_chain chains after) c after n
-      (λ u d a b e. elim (given t i g u (d % chains) e) [
-        | inl done ↦ absurd (done.2 (n.asleep_are_on_their_way u d a b).0 b)
+      (λ u d a z b e. elim (given t i g u (d % chains) e) [
+        | inl done ↦ absurd (done.2 (n.asleep_are_on_their_way u d a z b).0 b)
         | inr out ↦ out
       ])
       (λ u w f e. elim (given t i g u (w.chan % chains) e) [
@@ -86,5 +117,7 @@ module _ (chains : ℕ) (c : Config) (s : State) where
 pub keeps : (chains : ℕ) (c : Config) (s n : State) → IsFloorStep chains c s n → Lawful c s
     → SleepersFit (by_chain chains s) c s → SleepersFit (by_chain chains n) c n
 keeps chains c s n p l h =
-    let there = core.keeps (by_chain chains s) c s p.0 p.1.may (asks chains c s p.0 p.1.has_out p.1.has_seen p.1.asks_of_thread) l h in
+    let asked = asks chains c s p.0 p.1.has_out p.1.has_seen p.1.asks_of_thread in
+    let noted = notes chains c s h p.0 p.1.may p.1.has_seen in
+    let there = core.keeps (by_chain chains s) c s p.0 p.1.may asked noted l h in
     subst (λ m. SleepersFit (by_chain chains m) c m) (sym p.2) (moved chains c s p.0 p.1.may there)

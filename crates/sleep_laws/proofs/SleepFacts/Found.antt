@@ -1,6 +1,6 @@
 -- Who stands on a channel's queue sleeps in the history, and who sleeps in the history is found there, or is at work on
 -- the channel, or was taken off by the thread that is.
-use Rattle.std.proofs.Common.{◌≡◌, ℕ, zero, suc, ◌<◌, ◌≤◌, true, Option, Some, None, refl, sym, ap, inl, inr, arith, ◌∙◌}
+use Rattle.std.proofs.Common.{◌≡◌, ◌⊎◌, ℕ, zero, suc, ◌<◌, ◌≤◌, true, Option, Some, None, refl, sym, ap, inl, inr, arith, ◌∙◌}
 use Rattle.std.proofs.lemmas.Bool.{cases_eq}
 use Rattle.lock_model.specs.Config.{Config}
 use Rattle.lock_model.specs.Counts.{sum_below}
@@ -10,13 +10,14 @@ use Rattle.lock_model.specs.declared.plan.QueueName.{QueueName}
 use Rattle.lock_state.specs.State.{State, Wake}
 use Rattle.lock_state.specs.Facts.{Lawful, StandsOnce}
 use Rattle.lock_state.specs.Facts.Waits.{times_marked}
-use Rattle.lock_state.specs.Facts.Sleeps.{signals_noted}
-use Rattle.sleep_laws.specs.Sleepers.{SleepersFit, WasTakenBy, IsWithChannel, NamedAreWoken, MarksAreSignals, SleepersWantNothing, AsleepStandThere, UnnotedAreMarked, UnnotedIsAtWork}
+use Rattle.lock_state.specs.Facts.Sleeps.{signals_noted, aborts, aborted}
+use Rattle.sleep_laws.specs.Sleepers.{SleepersFit, WasTakenBy, IsWithChannel, WasAborted, NamedAreWoken, SleepersWantNothing, AsleepStandThere, UnnotedAreMarked, UnnotedIsAtWork, off}
 use Rattle.lock_laws.proofs.Kit.{sum_below-at, is_queue_same}
 use Rattle.lock_laws.proofs.Standing.{standing_named, times_named}
 use Rattle.sleep_laws.proofs.SleepFacts.Entries.{asleep_unnamed}
 use Rattle.sleep_laws.proofs.SleepFacts.Known.{named_asleep, is_at_work}
-use Rattle.lock_laws.proofs.Dealt.{signals_named, marks_signal}
+use Rattle.lock_laws.proofs.Dealt.{signals_named}
+use Rattle.sleep_laws.proofs.SleepFacts.Off.{marks_split}
 
 -- a sum that isn't 0 has an entry that isn't
 pub sum_below-some : (n : ℕ) (f : ℕ → ℕ) → 1 ≤ sum_below n f → (j : ℕ) × (j < n) × (1 ≤ f j)
@@ -48,19 +49,23 @@ module _ {at_work : ℕ → Option ℕ} {c : Config} {s : State} (l : Lawful c s
 
   -- 2. Who sleeps
 
-  module _ (a : is_asleep s.history d t ≡ true) where
+  module _ (a : is_asleep s.history d t ≡ true) (unaborted : off c s t ≡ 0) where
+    no_aborts : (v : ℕ) → v < c.threads → aborts t (s.marked v) ≡ 0
+    unfolding aborted
+    no_aborts v k = let b = sum_below-at c.threads (λ w. aborts t (s.marked w)) v k in omega (arith, unaborted)
+
     -- a mark of a thread that sleeps is of a wake that isn't noted yet
     taken_by : (v : ℕ) → v < c.threads → 1 ≤ times_marked t (chan_queue d) (s.marked v)
         → (o : Option Wake) → s.unstamped v ≡ o → WasTakenBy at_work s t d v
-    unfolding NamedAreWoken MarksAreSignals UnnotedAreMarked UnnotedIsAtWork
+    unfolding NamedAreWoken UnnotedAreMarked UnnotedIsAtWork
     taken_by v k i None e = absurd (
         let b = sum_below-at c.threads (λ w. signals_noted t (s.unstamped w) (s.marked w)) v k in
-        let m = marks_signal t d (s.marked v) (h.marks_are_signals v) in
-        grind (arith, h.named_are_woken t, asleep_unnamed s.history d t a))
+        let m = marks_split t d (s.marked v) in
+        grind (arith, h.named_are_woken t, asleep_unnamed s.history d t a, no_aborts v k))
     taken_by v k i (Some w) e =
         let p = h.unnoted_are_marked v w t e in
-        let m = marks_signal t d (s.marked v) (h.marks_are_signals v) in
-        let there = times_named c s t v (chan_queue w.chan) l k (omega (arith, p.0, p.1)) in
+        let m = marks_split t d (s.marked v) in
+        let there = times_named c s t v (chan_queue w.chan) l k (omega (arith, p.0, p.1, no_aborts v k)) in
         let here = times_named c s t v (chan_queue d) l k i in
         let j : w.chan ≡ d = grind (arith, there, here) in
         record {
@@ -72,9 +77,9 @@ module _ {at_work : ℕ → Option ℕ} {c : Config} {s : State} (l : Lawful c s
 
     found : (o : Option QueueName) → s.blocked_on t ≡ o → IsWithChannel at_work s t d
     unfolding StandsOnce AsleepStandThere
-    found None e = inr (inl (is_at_work l h t d a e))
+    found None e = inr (inl (is_at_work l h t d a unaborted e))
     found (Some q) e =
-        let y = h.asleep_stand_there t d q a e in
+        let y = h.asleep_stand_there t d q a unaborted e in
         let once = l.waits.stands_once t (chan_queue d) in
         let same = is_queue_same (chan_queue d) in
         elim (cases_eq (stands t (s.lists (chan_queue d))) 0) [
@@ -87,3 +92,9 @@ module _ {at_work : ℕ → Option ℕ} {c : Config} {s : State} (l : Lawful c s
 
     pub sleeper_found : IsWithChannel at_work s t d
     sleeper_found = found (s.blocked_on t) refl
+
+  pub found_or_aborted : is_asleep s.history d t ≡ true → WasAborted c s t ⊎ IsWithChannel at_work s t d
+  found_or_aborted a = elim (cases_eq (off c s t) 0) [
+    | inl z ↦ inr (sleeper_found a z)
+    | inr ne ↦ inl (omega (arith, ne))
+  ]

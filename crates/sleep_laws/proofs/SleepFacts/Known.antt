@@ -11,8 +11,8 @@ use Rattle.lock_state.specs.Steps.Items.{IsOnItsWay}
 use Rattle.lock_state.specs.Steps.SleepQueues.{has_slept}
 use Rattle.lock_state.specs.Facts.{Lawful, StandingIsQueued, LogsAreParts}
 use Rattle.lock_state.specs.Facts.Waits.{times_marked}
-use Rattle.lock_state.specs.Facts.Sleeps.{signals, signals_noted, is_signalled}
-use Rattle.sleep_laws.specs.Sleepers.{SleepersFit, NamedAreWoken, NoSleepIsHalted, SleepersSlept, SleepersAreUnwoken, AsleepAreOnTheirWay, UnnotedAreMarked, UnnotedIsAtWork}
+use Rattle.lock_state.specs.Facts.Sleeps.{signals, signals_noted, is_signalled, is_chan_halt, aborted}
+use Rattle.sleep_laws.specs.Sleepers.{SleepersFit, NamedAreWoken, SleepersSlept, SleepersAreUnwoken, AsleepAreOnTheirWay, UnnotedAreMarked, UnnotedIsAtWork, off}
 use Rattle.lock_laws.proofs.Kit.{sum_below-zero}
 use Rattle.lock_laws.proofs.Standing.{times_named}
 use Rattle.lock_laws.proofs.Bits.{bit_of}
@@ -49,24 +49,24 @@ module _ {at_work : ℕ → Option ℕ} {c : Config} {s : State} (l : Lawful c s
     unfolding LogsAreParts
     slept = ap (has_slept d) (l.books.logs_are_parts t) ∙ asleep_slept s.history d t a
 
-    -- it stands on no queue
-    module _ (n : s.blocked_on t ≡ None) where
+    -- it stands on no queue, and wasn't aborted
+    module _ (z : off c s t ≡ 0) (n : s.blocked_on t ≡ None) where
       pub is_at_work : at_work d ≡ Some t
       unfolding AsleepAreOnTheirWay
-      is_at_work = (h.asleep_are_on_their_way t d a n).2
+      is_at_work = (h.asleep_are_on_their_way t d a z n).2
 
       pub on_its_way : IsOnItsWay s t
-      unfolding AsleepAreOnTheirWay NamedAreWoken NoSleepIsHalted
+      unfolding AsleepAreOnTheirWay NamedAreWoken aborted
       on_its_way =
-          let p = h.asleep_are_on_their_way t d a n in
-          let z = asleep_unnamed s.history d t a in
+          let p = h.asleep_are_on_their_way t d a z n in
+          let unnamed = asleep_unnamed s.history d t a in
           record {
             queued = p.0;
             nowhere = n;
             wants = p.1;
             slept = slept_back d (s.log t) slept;
             unwoken = grind (arith, h.named_are_woken t);
-            unhalted = h.no_sleep_is_halted t;
+            unhalted = λ k e. let i = ap is_chan_halt e in omega (arith, z, i);
           }
 
   -- 2. A wake that is not noted yet

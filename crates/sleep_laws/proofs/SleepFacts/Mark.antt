@@ -1,16 +1,17 @@
 -- A mark keeps the facts of sleepers: who was taken off a channel and is woken was named by its waking.
-use Rattle.std.proofs.Common.{◌≡◌, ℕ, ◌≤◌, true, List, ◌∷◌, Option, Some, None, refl, ap, arith, eq-eqb, subst}
+use Rattle.std.proofs.Common.{◌≡◌, ℕ, ◌+◌, ◌≤◌, true, false, List, ◌∷◌, Option, Some, None, refl, ap, arith, eq-eqb, subst}
 use Rattle.std.proofs.lemmas.Bool.Decides.{nat_tests}
 use Rattle.lock_model.specs.Config.{Config}
 use Rattle.lock_model.specs.Law.{is_asleep}
-use Rattle.lock_model.specs.Queues.{BySignal, Mark, chan_queue}
+use Rattle.lock_model.specs.Queues.{Cause, BySignal, ByAbort, Mark, chan_queue}
 use Rattle.lock_model.specs.declared.plan.QueueName.{QueueName}
 use Rattle.lock_state.specs.State.{State, Wait, Woken, put}
 use Rattle.lock_state.specs.Steps.Turnstiles.{MayMark, after_mark}
 use Rattle.lock_state.specs.Facts.{Lawful, StandingIsQueued}
-use Rattle.lock_state.specs.Facts.Sleeps.{AreSignals, signals, signals_noted, is_signalled}
-use Rattle.sleep_laws.specs.Sleepers.{SleepersFit, NamedAreWoken, MarksAreSignals, WokenBySignal, SleepersSlept, WokenSlept, SleepersWantNothing, SleepersAreUnwoken, AsleepStandThere, AsleepAreOnTheirWay, LatecomersAreLater, UnnotedAreMarked}
-use Rattle.lock_laws.proofs.Kit.{columns, at_put, sum_below-at}
+use Rattle.lock_state.specs.Facts.Sleeps.{AreSignals, signals, signals_noted, is_signalled, aborts, is_aborted, is_chan_halt, aborted}
+use Rattle.lock_model.specs.Counts.{sum_below}
+use Rattle.sleep_laws.specs.Sleepers.{SleepersFit, NamedAreWoken, AbortedSleep, MarksAreSignals, WokenBySignal, SleepersSlept, WokenSlept, SleepersWantNothing, SleepersAreUnwoken, SleepersAreUnhalted, AsleepStandThere, AsleepAreOnTheirWay, LatecomersAreLater, UnnotedAreMarked, PassedOverAreAborted, off}
+use Rattle.lock_laws.proofs.Kit.{columns, at_put, sum_below-at, sum_below-put}
 use Rattle.lock_laws.proofs.Standing.{marked_named}
 use Rattle.sleep_laws.proofs.SleepFacts.Entries.{asleep_unnamed}
 use Rattle.lock_laws.proofs.Dealt.{marked_sum}
@@ -29,9 +30,9 @@ module _ {at_work : ℕ → Option ℕ} {c : Config} {s : State} (l : Lawful c s
   stood : s.blocked_on m.thread ≡ Some m.queue
   stood = marked_named c s t m ms l g.thread g.marked
 
-  by_signal : (m.cause ≡ BySignal) × AreSignals ms
+  by_signal : s.halted ≡ false → (m.cause ≡ BySignal) × AreSignals ms
   unfolding MarksAreSignals
-  by_signal = subst AreSignals g.marked (h.marks_are_signals t)
+  by_signal i = subst AreSignals g.marked (h.marks_are_signals i t)
 
   -- 1. Who was named
 
@@ -42,13 +43,37 @@ module _ {at_work : ℕ → Option ℕ} {c : Config} {s : State} (l : Lawful c s
       let a = marked_sum c.threads t u s.unstamped s.marked ms g.thread in
       grind (arith, nat_tests, columns, h.named_are_woken u, g.stamped, g.marked)
 
-  listed : MarksAreSignals marked
+  listed : MarksAreSignals s.halted marked
   unfolding MarksAreSignals
-  listed = at_put (λ u x. AreSignals x) s.marked t ms by_signal.1 (λ u ne. h.marks_are_signals u)
+  listed i = at_put (λ u x. AreSignals x) s.marked t ms (by_signal i).1 (λ u ne. h.marks_are_signals i u)
 
-  causes : WokenBySignal wait
+  causes : WokenBySignal s.halted wait
   unfolding WokenBySignal
-  causes u q cause = grind (arith, columns, h.woken_by_signal u q cause, by_signal.0)
+  causes i u q cause =
+      let z = (by_signal i).0 in
+      grind (arith, columns, h.woken_by_signal i u q cause)
+
+  -- the abort of a mark becomes that of a wait word
+  abbrev behind : ℕ → ℕ
+  behind = aborted c marked wait s.noted
+
+  same : behind ≡ off c s
+  unfolding aborted StandingIsQueued
+  same i u = here u i
+    where
+      here : (u : ℕ) → sum_below c.threads (λ v. aborts u (marked v)) + is_aborted (wait u) + is_chan_halt (s.noted u)
+          ≡ sum_below c.threads (λ v. aborts u (s.marked v)) + is_aborted (s.wait u) + is_chan_halt (s.noted u)
+      here u =
+          let q = ap is_aborted (l.waits.standing_is_queued m.thread m.queue stood) in
+          let a = sum_below-put c.threads (aborts u) s.marked t ms g.thread in
+          let e = ap (aborts u) g.marked in
+          grind (arith, nat_tests, columns)
+
+  slept_on : AbortedSleep s.history behind s.log
+  slept_on = rw same h.aborted_sleep
+
+  over : PassedOverAreAborted c s.history behind
+  over = rw same h.passed_over_are_aborted
 
   took : UnnotedAreMarked s.unstamped marked
   unfolding UnnotedAreMarked
@@ -75,33 +100,44 @@ module _ {at_work : ℕ → Option ℕ} {c : Config} {s : State} (l : Lawful c s
   unfolding SleepersAreUnwoken
   unwoken u d = grind (arith, columns, h.sleepers_are_unwoken u d)
 
-  there : AsleepStandThere s.history blocked_on
+  unhalted : SleepersAreUnhalted blocked_on s.noted
+  unfolding SleepersAreUnhalted
+  unhalted u d = grind (arith, columns, h.sleepers_are_unhalted u d)
+
+  there : AsleepStandThere s.history blocked_on behind
   unfolding AsleepStandThere
-  there u d q = grind (arith, columns, h.asleep_stand_there u d q)
+  there = rw same (λ u d q. grind (arith, columns, h.asleep_stand_there u d q))
 
-  in_the_list : (d : ℕ) → m.queue ≡ chan_queue d → 1 ≤ signals m.thread (m ∷ ms)
-  in_the_list d q = rw (q, by_signal.0, eq-eqb m.thread m.thread refl) (omega arith)
+  in_the_list : (d : ℕ) → m.queue ≡ chan_queue d → 1 ≤ signals m.thread (m ∷ ms) + aborts m.thread (m ∷ ms)
+  in_the_list d q = go m.cause refl
+    where
+      go : (cause : Cause) → m.cause ≡ cause → 1 ≤ signals m.thread (m ∷ ms) + aborts m.thread (m ∷ ms)
+      go BySignal i = rw (q, i, eq-eqb m.thread m.thread refl) (omega arith)
+      go ByAbort i = rw (q, i, eq-eqb m.thread m.thread refl) (omega arith)
 
-  -- the marked thread doesn't sleep in the history any more
-  awake : (d : ℕ) → is_asleep s.history d m.thread ≡ true → ⊥
-  unfolding NamedAreWoken AsleepStandThere
-  awake d a =
-      let q = h.asleep_stand_there m.thread d m.queue a stood in
+  -- the marked thread doesn't sleep in the history any more, where it wasn't aborted
+  awake : (d : ℕ) → is_asleep s.history d m.thread ≡ true → off c s m.thread ≡ 0 → ⊥
+  unfolding NamedAreWoken AsleepStandThere aborted
+  awake d a z =
+      let q = h.asleep_stand_there m.thread d m.queue a z stood in
       let f = in_the_list d q in
-      let z = asleep_unnamed s.history d m.thread a in
+      let unnamed = asleep_unnamed s.history d m.thread a in
       let in_list = λ (v : ℕ). signals_noted m.thread (s.unstamped v) (s.marked v) in
       let b = sum_below-at c.threads in_list t g.thread in
+      let b2 = sum_below-at c.threads (λ v. aborts m.thread (s.marked v)) t g.thread in
+      let e2 = ap (aborts m.thread) g.marked in
+      let none : aborts m.thread (m ∷ ms) ≡ 0 = omega (arith, z) in
       grind (arith, h.named_are_woken m.thread, g.stamped, g.marked)
 
-  way : AsleepAreOnTheirWay s.history blocked_on wait s.wanted at_work
+  way : AsleepAreOnTheirWay s.history blocked_on behind wait s.wanted at_work
   unfolding AsleepAreOnTheirWay
-  way u d = grind (arith, columns, h.asleep_are_on_their_way u d, awake d)
+  way = rw same (λ u d. grind (arith, columns, h.asleep_are_on_their_way u d, awake d))
 
-  later : LatecomersAreLater s.history blocked_on s.lists
+  later : LatecomersAreLater s.history blocked_on behind s.lists
   unfolding LatecomersAreLater
-  later u d a b = h.latecomers_are_later u d a (grind (arith, columns, awake d))
+  later = rw same (λ u d a z b. h.latecomers_are_later u d a z (grind (arith, columns, awake d)))
 
   pub marks : SleepersFit at_work c (after_mark c s t m ms)
   unfolding after_mark
   marks =
-      assumption (h, named, listed, causes, took, slept, woken, wants, unwoken, there, way, later)
+      assumption (h, named, listed, causes, took, slept_on, over, slept, woken, wants, unwoken, unhalted, there, way, later)

@@ -3,16 +3,16 @@ use Rattle.std.proofs.Common.{◌≡◌, ℕ, true, Option, Some, None}
 use Rattle.lock_model.specs.Config.{Config}
 use Rattle.lock_model.specs.Law.{is_asleep}
 use Rattle.lock_state.specs.State.{State, Wake}
-use Rattle.sleep_laws.specs.Sleepers.{SleepersFit, AsleepAreOnTheirWay, UnnotedIsAtWork}
+use Rattle.sleep_laws.specs.Sleepers.{SleepersFit, AsleepAreOnTheirWay, UnnotedIsAtWork, off}
 
 module _ (was is : ℕ → Option ℕ) (c : Config) (s : State) (h : SleepersFit was c s)
-    (on_way : (t d : ℕ) → is_asleep s.history d t ≡ true → s.blocked_on t ≡ None
+    (on_way : (t d : ℕ) → is_asleep s.history d t ≡ true → off c s t ≡ 0 → s.blocked_on t ≡ None
     → was d ≡ Some t → is d ≡ Some t)
     (to_note : (t : ℕ) (w : Wake) → s.unstamped t ≡ Some w → was w.chan ≡ Some t
     → is w.chan ≡ Some t) where
-  way : AsleepAreOnTheirWay s.history s.blocked_on s.wait s.wanted is
+  way : AsleepAreOnTheirWay s.history s.blocked_on (off c s) s.wait s.wanted is
   unfolding AsleepAreOnTheirWay
-  way t d a n = let p = h.asleep_are_on_their_way t d a n in (p.0, p.1, on_way t d a n p.2)
+  way t d a z n = let p = h.asleep_are_on_their_way t d a z n in (p.0, p.1, on_way t d a z n p.2)
 
   unnoted : UnnotedIsAtWork s.unstamped is
   unfolding UnnotedIsAtWork

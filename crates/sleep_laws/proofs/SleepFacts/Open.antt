@@ -1,6 +1,6 @@
 -- An open of a lock, of either sort, keeps the facts of sleepers: the marked list was empty, and gets no mark of a
 -- channel.
-use Rattle.std.proofs.Common.{◌≡◌, ℕ, ◌<◌, List, [], Option, refl, arith}
+use Rattle.std.proofs.Common.{◌≡◌, ℕ, ◌<◌, List, [], Option, refl, sym, ap, arith, ◌∙◌}
 use Rattle.lock_model.specs.Config.{Config}
 use Rattle.lock_model.specs.Queues.{Waiter, Mark, lock_queue, chan_queue, list_of, dealt}
 use Rattle.lock_model.specs.Words.{side_woken}
@@ -8,11 +8,12 @@ use Rattle.lock_state.specs.State.{State, put, put_queue}
 use Rattle.lock_state.specs.Steps.Turnstiles.{after_open}
 use Rattle.lock_state.specs.Steps.SleepQueues.{after_open_sleep}
 use Rattle.lock_state.specs.Facts.Waits.{times_marked}
-use Rattle.lock_state.specs.Facts.Sleeps.{AreSignals, signals}
-use Rattle.sleep_laws.specs.Sleepers.{SleepersFit, NamedAreWoken, MarksAreSignals, SleepersInOrder, LatecomersAreLater, SleepersKeepBase, SleepersAreExclusive, UnnotedAreMarked, UnnotedIsFair}
+use Rattle.lock_state.specs.Facts.Sleeps.{AreSignals, signals, aborts, aborted}
+use Rattle.sleep_laws.specs.Sleepers.{SleepersFit, NamedAreWoken, AbortedSleep, MarksAreSignals, AsleepStandThere, AsleepAreOnTheirWay, SleepersInOrder, LatecomersAreLater, SleepersKeepBase, SleepersAreExclusive, UnnotedAreMarked, UnnotedIsFair, PassedOverAreAborted, off}
 use Rattle.lock_laws.proofs.Kit.{columns, at_put}
 use Rattle.lock_laws.proofs.Queues.{times_marked-elsewhere}
 use Rattle.lock_laws.proofs.Dealt.{marked_sum, no_signals_of_lock, all_signals-dealt}
+use Rattle.sleep_laws.proofs.SleepFacts.Off.{off_marked, no_aborts-dealt}
 
 module _ {at_work : ℕ → Option ℕ} {c : Config} {s : State} (h : SleepersFit at_work c s)
     (t k : ℕ) (lt : t < c.threads) (unmarked : s.marked t ≡ []) where
@@ -43,10 +44,31 @@ module _ {at_work : ℕ → Option ℕ} {c : Config} {s : State} (h : SleepersFi
       let a = marked_sum c.threads t u s.unstamped s.marked ms lt in
       grind (arith, columns, h.named_are_woken u, no_signals u, unmarked)
 
-  listed : MarksAreSignals marked
+  listed : MarksAreSignals s.halted marked
   unfolding MarksAreSignals
-  listed = at_put (λ u x. AreSignals x) s.marked t ms
-      (all_signals-dealt (lock_queue k) ws free head) (λ u ne. h.marks_are_signals u)
+  listed i = at_put (λ u x. AreSignals x) s.marked t ms
+      (all_signals-dealt (lock_queue k) ws free head) (λ u ne. h.marks_are_signals i u)
+
+  abbrev behind : ℕ → ℕ
+  behind = aborted c marked s.wait s.noted
+
+  same : behind ≡ off c s
+  same = off_marked c s t ms lt (λ u. ap (aborts u) unmarked ∙ sym (no_aborts-dealt u (lock_queue k) ws free head))
+
+  slept_on : AbortedSleep s.history behind s.log
+  slept_on = rw same h.aborted_sleep
+
+  there : AsleepStandThere s.history s.blocked_on behind
+  there = rw same h.asleep_stand_there
+
+  way : AsleepAreOnTheirWay s.history s.blocked_on behind s.wait s.wanted at_work
+  way = rw same h.asleep_are_on_their_way
+
+  later : LatecomersAreLater s.history s.blocked_on behind s.lists
+  later = rw same h.latecomers_are_later
+
+  over : PassedOverAreAborted c s.history behind
+  over = rw same h.passed_over_are_aborted
 
   took : UnnotedAreMarked s.unstamped marked
   unfolding UnnotedAreMarked
@@ -58,8 +80,8 @@ module _ {at_work : ℕ → Option ℕ} {c : Config} {s : State} (h : SleepersFi
 
   pub opens : SleepersFit at_work c (after_open c s t k)
   unfolding after_open put_queue SleepersInOrder LatecomersAreLater SleepersKeepBase SleepersAreExclusive UnnotedIsFair
-  opens = assumption (h, named, listed, took)
+  opens = assumption (h, named, listed, took, slept_on, there, way, later, over)
 
   pub opens_sleep_queue : SleepersFit at_work c (after_open_sleep c s t k)
   unfolding after_open_sleep put_queue SleepersInOrder LatecomersAreLater SleepersKeepBase SleepersAreExclusive UnnotedIsFair
-  opens_sleep_queue = assumption (h, named, listed, took)
+  opens_sleep_queue = assumption (h, named, listed, took, slept_on, there, way, later, over)

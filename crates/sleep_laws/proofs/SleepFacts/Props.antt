@@ -9,7 +9,7 @@ use Rattle.lock_model.specs.declared.event.Event.TheVariants.{Woke, HaltedChan, 
 use Rattle.lock_model.specs.declared.event.Entry.{Entry}
 use Rattle.lock_state.specs.State.{State}
 use Rattle.lock_state.specs.Facts.Sleeps.{AreSignals, InOrder, LeavesNobodyBefore}
-use Rattle.sleep_laws.specs.Sleepers.{SleepersFit, NamedAreWoken, MarksAreSignals, WokenBySignal, NoSleepIsHalted, SleepersSlept, WokenSlept, ResumedSlept, SleepersWantNothing, SleepersAreUnwoken, AsleepStandThere, AsleepAreOnTheirWay, SleepersInOrder, LatecomersAreLater, SleepersKeepBase, SleepersAreExclusive, UnnotedAreMarked, UnnotedIsAtWork, UnnotedIsFair, NobodyIsPassedOver}
+use Rattle.sleep_laws.specs.Sleepers.{SleepersFit, NamedAreWoken, MarksAreSignals, WokenBySignal, NoSleepIsHalted, SleepersSlept, WokenSlept, ResumedSlept, SleepersWantNothing, SleepersAreUnwoken, AsleepStandThere, AsleepAreOnTheirWay, SleepersInOrder, LatecomersAreLater, SleepersKeepBase, SleepersAreExclusive, UnnotedAreMarked, UnnotedIsAtWork, UnnotedIsFair, AbortedSleep, SleepersAreUnhalted, PassedOverAreAborted}
 use Rattle.lock_laws.proofs.Props.{Each-prop}
 
 AreSignals-prop : (ms : List Mark) → IsProp (AreSignals ms)
@@ -38,5 +38,5 @@ wakings c [] = hlevel
 wakings c (e ∷ es) = hlevel (props, FitsSleepers-prop e.event es e.thread.0, wakings c es)
 
 pub SleepersFit-prop : (at_work : ℕ → Option ℕ) (c : Config) (s : State) → IsProp (SleepersFit at_work c s)
-unfolding NamedAreWoken MarksAreSignals WokenBySignal NoSleepIsHalted SleepersSlept WokenSlept ResumedSlept SleepersWantNothing SleepersAreUnwoken AsleepStandThere AsleepAreOnTheirWay SleepersInOrder LatecomersAreLater SleepersKeepBase SleepersAreExclusive UnnotedAreMarked UnnotedIsAtWork UnnotedIsFair NobodyIsPassedOver
+unfolding NamedAreWoken MarksAreSignals WokenBySignal NoSleepIsHalted SleepersSlept WokenSlept ResumedSlept SleepersWantNothing SleepersAreUnwoken AsleepStandThere AsleepAreOnTheirWay SleepersInOrder LatecomersAreLater SleepersKeepBase SleepersAreExclusive UnnotedAreMarked UnnotedIsAtWork UnnotedIsFair AbortedSleep SleepersAreUnhalted PassedOverAreAborted
 SleepersFit-prop at_work c s = hlevel (props, AreSignals-prop, InOrder-prop, Each-prop, LeavesNobodyBefore-prop, wakings)

@@ -1,17 +1,17 @@
 -- A resume keeps the facts of sleepers: who was woken from a channel says so until its next entry.
-use Rattle.std.proofs.Common.{◌≡◌, ℕ, ◌+◌, true, Option, Some, refl, ap, arith, subst}
+use Rattle.std.proofs.Common.{◌≡◌, ℕ, ◌+◌, ◌≤◌, Bool, true, false, cond, Option, Some, refl, ap, arith, subst}
 use Rattle.lock_model.specs.Config.{Config}
-use Rattle.lock_model.specs.Counts.{some}
+use Rattle.lock_model.specs.Counts.{some, one, sum_below}
 use Rattle.lock_model.specs.Queues.{Cause, BySignal, ByAbort, chan_queue}
 use Rattle.lock_model.specs.declared.plan.QueueName.{QueueName}
 use Rattle.lock_model.specs.declared.plan.QueueName.TheVariants.{Lock, Chan}
-use Rattle.lock_state.specs.State.{State, Running, Woken, Note, put}
+use Rattle.lock_state.specs.State.{State, Running, Woken, Note, SleepHalted, put}
 use Rattle.lock_state.specs.Steps.LockWords.{is_taking_back}
 use Rattle.lock_state.specs.Steps.Turnstiles.{MayResume, after_resume, wanted_after, noted_after, woken_from_by}
 use Rattle.lock_state.specs.Steps.SleepQueues.{has_slept}
 use Rattle.lock_state.specs.Facts.{Lawful}
-use Rattle.lock_state.specs.Facts.Sleeps.{is_signalled}
-use Rattle.sleep_laws.specs.Sleepers.{SleepersFit, NamedAreWoken, WokenBySignal, NoSleepIsHalted, WokenSlept, ResumedSlept, SleepersWantNothing, SleepersAreUnwoken, AsleepAreOnTheirWay}
+use Rattle.lock_state.specs.Facts.Sleeps.{aborts, is_signalled, is_aborted, is_chan_halt, aborted}
+use Rattle.sleep_laws.specs.Sleepers.{SleepersFit, NamedAreWoken, AbortedSleep, WokenBySignal, NoSleepIsHalted, WokenSlept, ResumedSlept, SleepersWantNothing, SleepersAreUnwoken, SleepersAreUnhalted, AsleepStandThere, AsleepAreOnTheirWay, LatecomersAreLater, PassedOverAreAborted, off}
 use Rattle.lock_laws.proofs.Kit.{columns, at_put}
 use Rattle.lock_laws.proofs.Resume.{unnamed}
 use Rattle.sleep_laws.proofs.SleepFacts.Own.{by_signal, woken_slept}
@@ -41,11 +41,62 @@ module _ {at_work : ℕ → Option ℕ} {c : Config} {s : State} (l : Lawful c s
       by_queue (Chan d) ByAbort e = omega arith
       by_queue (Chan d) BySignal e = grind (arith, h.named_are_woken t, ap is_signalled e)
 
-  unhalted : NoSleepIsHalted noted
+  unhalted : NoSleepIsHalted s.halted noted
   unfolding NoSleepIsHalted WokenBySignal
-  unhalted u r =
-      let e = h.woken_by_signal t q cause g.woken in
-      grind (arith, columns, h.no_sleep_is_halted u r)
+  unhalted x u r =
+      let e = h.woken_by_signal x t q cause g.woken in
+      grind (arith, columns, h.no_sleep_is_halted x u r)
+
+  -- the abort of the wait word is the halt to be noted
+  abbrev behind : ℕ → ℕ
+  behind = aborted c s.marked (put s.wait t Running) noted
+
+  once : is_aborted (s.wait t) + is_chan_halt (s.noted t) ≤ one (is_taking_back (s.log t))
+  unfolding AbortedSleep aborted
+  once = let a = h.aborted_sleep t in omega arith
+
+  moved : (q : QueueName) (cause : Cause) → s.wait t ≡ Woken q cause
+      → is_chan_halt (noted_after q cause (is_taking_back (s.log t)) (s.noted t)) ≡ is_aborted (s.wait t) + is_chan_halt (s.noted t)
+  moved (Lock k) BySignal e = let a = ap is_aborted e in omega arith
+  moved (Chan k) BySignal e = let a = ap is_aborted e in omega arith
+  moved (Chan k) ByAbort e =
+      let a = ap is_aborted e in
+      let b = one_most (is_taking_back (s.log t)) in
+      omega (arith, once)
+    where
+      one_most : (b : Bool) → one b ≤ 1
+      one_most true = omega arith
+      one_most false = omega arith
+  moved (Lock k) ByAbort e = go (is_taking_back (s.log t)) refl
+    where
+      go : (b : Bool) → is_taking_back (s.log t) ≡ b
+          → is_chan_halt (cond b (s.noted t) (Some (SleepHalted (Lock k)))) ≡ is_aborted (s.wait t) + is_chan_halt (s.noted t)
+      go true i = let a = ap is_aborted e in omega arith
+      go false i = let b = ap one i in omega (arith, once)
+
+  same : behind ≡ off c s
+  unfolding aborted
+  same i u = here u i
+    where
+      here : (u : ℕ) → sum_below c.threads (λ v. aborts u (s.marked v)) + is_aborted (put s.wait t Running u) + is_chan_halt (noted u)
+          ≡ sum_below c.threads (λ v. aborts u (s.marked v)) + is_aborted (s.wait u) + is_chan_halt (s.noted u)
+      here u = grind (arith, columns, moved q cause g.woken)
+
+  slept_on : AbortedSleep s.history behind s.log
+  slept_on = rw same h.aborted_sleep
+
+  over : PassedOverAreAborted c s.history behind
+  over = rw same h.passed_over_are_aborted
+
+  there : AsleepStandThere s.history s.blocked_on behind
+  there = rw same h.asleep_stand_there
+
+  later : LatecomersAreLater s.history s.blocked_on behind s.lists
+  later = rw same h.latecomers_are_later
+
+  stands_unhalted : SleepersAreUnhalted s.blocked_on noted
+  unfolding SleepersAreUnhalted
+  stands_unhalted u d = grind (arith, columns, h.sleepers_are_unhalted u d, unnamed c s t q cause g l)
 
   stands_nowhere : (r : QueueName) → s.blocked_on t ≡ Some r → ⊥
   stands_nowhere = unnamed c s t q cause g l
@@ -58,9 +109,9 @@ module _ {at_work : ℕ → Option ℕ} {c : Config} {s : State} (l : Lawful c s
   unfolding SleepersAreUnwoken
   unwoken u d = grind (arith, columns, h.sleepers_are_unwoken u d, stands_nowhere (chan_queue d))
 
-  way : AsleepAreOnTheirWay s.history s.blocked_on (put s.wait t Running) wanted at_work
+  way : AsleepAreOnTheirWay s.history s.blocked_on behind (put s.wait t Running) wanted at_work
   unfolding AsleepAreOnTheirWay
-  way u d = grind (arith, columns, h.asleep_are_on_their_way u d, g.woken)
+  way = rw same (λ u d. grind (arith, columns, h.asleep_are_on_their_way u d, g.woken))
 
   resumed_slept : ResumedSlept woken_from s.log
   unfolding ResumedSlept WokenSlept
@@ -81,4 +132,4 @@ module _ {at_work : ℕ → Option ℕ} {c : Config} {s : State} (l : Lawful c s
   resumes =
       let causes = by_signal h t Running refl in
       let still_slept = woken_slept h t Running refl in
-      assumption (h, causes, still_slept, named, unhalted, wants, unwoken, way, resumed_slept)
+      assumption (h, causes, still_slept, named, unhalted, slept_on, over, there, later, stands_unhalted, wants, unwoken, way, resumed_slept)

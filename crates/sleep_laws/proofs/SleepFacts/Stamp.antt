@@ -1,29 +1,30 @@
 -- An entry keeps the facts of sleepers: who goes to sleep is on its way to its channel, and a waking names whom its
 -- wake took.
-use Rattle.std.proofs.Common.{◌≡◌, ◌≢◌, ℕ, ◌+◌, ◌≤◌, Bool, true, false, ◌||◌, List, [], ◌∷◌, Option, Some, None, refl, sym, ap, inl, inr, arith, eq-eqb, ◌∙◌}
-use Rattle.std.proofs.lemmas.Bool.{cases_eq}
+use Rattle.std.proofs.Common.{◌≡◌, ◌≢◌, ℕ, ◌+◌, ◌≤◌, Bool, true, false, ◌||◌, List, [], ◌∷◌, Option, Some, None, refl, sym, ap, inl, inr, arith, eq-eqb, ◌∙◌, subst}
+use Rattle.std.proofs.lemmas.Bool.{cases_eq, ne_eqb}
 use Rattle.std.proofs.lemmas.Bool.Decides.{nat_tests}
 use Rattle.lock_model.specs.Config.{Config}
-use Rattle.lock_model.specs.Counts.{one, times, has_bit}
-use Rattle.lock_model.specs.Law.{is_asleep, is_named, is_passed_over, entries_up_to, goes_before, wakes, sleeps_on, WakingsNameSleepers}
+use Rattle.lock_model.specs.Counts.{one, times, has_bit, sum_below}
+use Rattle.lock_model.specs.Law.{is_asleep, is_named, is_passed_over, entries_up_to, goes_before, wakes, sleeps_on, is_halted_chan, WakingsNameSleepers}
 use Rattle.lock_model.specs.Queues.{Waiter, chan_queue, times_waiting}
 use Rattle.lock_model.specs.declared.event.Event.{Event}
 use Rattle.lock_model.specs.declared.event.Event.TheVariants.{Base, Sleeps, WokeOne, WokeAll}
 use Rattle.lock_model.specs.declared.event.Entry.{Entry}
 use Rattle.lock_state.specs.State.{State, Queued, Wake, put}
-use Rattle.lock_state.specs.Steps.LockWords.{MayStamp, bits_of_threads, entry_of, base_after, unstamped_after, after_stamp}
+use Rattle.lock_state.specs.Steps.LockWords.{MayStamp, is_taking_back, bits_of_threads, entry_of, base_after, unstamped_after, after_stamp}
 use Rattle.lock_state.specs.Steps.SleepQueues.{has_slept}
 use Rattle.lock_state.specs.Facts.{Lawful}
-use Rattle.lock_state.specs.Facts.Sleeps.{signals, signals_noted, LeavesNobodyBefore}
-use Rattle.sleep_laws.specs.Sleepers.{SleepersFit, NamedAreWoken, NoSleepIsHalted, SleepersSlept, WokenSlept, ResumedSlept, SleepersAreUnwoken, AsleepStandThere, AsleepAreOnTheirWay, SleepersInOrder, LatecomersAreLater, SleepersKeepBase, UnnotedAreMarked, UnnotedIsAtWork, UnnotedIsFair, NobodyIsPassedOver}
+use Rattle.lock_state.specs.Facts.Sleeps.{signals, signals_noted, LeavesNobodyBefore, aborts, is_aborted, is_chan_halt, aborted}
+use Rattle.sleep_laws.specs.Sleepers.{SleepersFit, NamedAreWoken, AbortedSleep, NoSleepIsHalted, SleepersSlept, WokenSlept, ResumedSlept, SleepersAreUnwoken, SleepersAreUnhalted, AsleepStandThere, AsleepAreOnTheirWay, SleepersInOrder, LatecomersAreLater, SleepersKeepBase, UnnotedAreMarked, UnnotedIsAtWork, UnnotedIsFair, PassedOverAreAborted, off}
 use Rattle.lock_laws.proofs.Kit.{columns, at_put, put_other, sum_below-zero}
 use Rattle.lock_laws.proofs.Lending.{each-map}
 use Rattle.lock_laws.proofs.Standing.{standing_named}
 use Rattle.sleep_laws.proofs.SleepFacts.Best.{SleptLonger, KeepsBase, each_all, in_order-map}
-use Rattle.sleep_laws.proofs.SleepFacts.Entries.{asleep_unnamed, up_to_most}
+use Rattle.sleep_laws.proofs.SleepFacts.Entries.{asleep_unnamed, slept_back, up_to_most}
 use Rattle.sleep_laws.proofs.SleepFacts.Known.{taken_named, taken_asleep, taken_bits}
 use Rattle.lock_laws.proofs.Dealt.{in_lists, unstamped_sum, signals_nowhere}
 use Rattle.sleep_laws.proofs.SleepFacts.Waking.{the_wake, fits, over_nobody}
+use Rattle.sleep_laws.proofs.SleepFacts.Off.{off_acting, off_signalled}
 
 -- a wake that is not noted behind an entry was not noted before
 still_unnoted : (e : Event) (o : Option Wake) (w : Wake) → unstamped_after e o ≡ Some w → o ≡ Some w
@@ -86,6 +87,15 @@ module _ {at_work : ℕ → Option ℕ} {c : Config} {s : State} (l : Lawful c s
         let a = taken_bits l h t g.thread w f u in
         grind (arith, f, set, (h.unnoted_are_marked t w u f).0, taken_unnamed)
 
+    in_wake : has_bit u woken ≡ true → 1 ≤ times u w.taken
+    in_wake b = let a = taken_bits l h t g.thread w f u in grind (arith, set)
+
+    taken_unaborted : has_bit u woken ≡ true → off c s u ≡ 0
+    unfolding UnnotedAreMarked
+    taken_unaborted b =
+        let i = in_wake b in
+        off_signalled l h u w.chan (taken_named l h t g.thread w f u i) t g.thread (omega (arith, (h.unnoted_are_marked t w u f).0))
+
   by_event : (e : Event) → MayStamp c s t e → (u : ℕ)
       → one (wakes e u || is_named s.history u) + signals_noted u (s.unstamped t) (s.marked t)
       ≡ signals_noted u (unstamped_after e (s.unstamped t)) (s.marked t)
@@ -108,9 +118,75 @@ module _ {at_work : ℕ → Option ℕ} {c : Config} {s : State} (l : Lawful c s
       let b = unstamped_sum c.threads t u s.unstamped s.marked to_note g.thread in
       grind (arith, nat_tests, columns, h.named_are_woken u, by_event e g u, in_no_list u)
 
-  noted : NoSleepIsHalted (put s.noted t None)
+  noted : NoSleepIsHalted s.halted (put s.noted t None)
   unfolding NoSleepIsHalted
-  noted u q = grind (arith, columns, h.no_sleep_is_halted u q)
+  noted x u q = grind (arith, columns, h.no_sleep_is_halted x u q)
+
+  -- who was aborted: its thread has noted that
+  abbrev behind : ℕ → ℕ
+  behind = aborted c s.marked s.wait (put s.noted t None)
+
+  others_off : (u : ℕ) → t ≢ u → behind u ≡ off c s u
+  unfolding aborted
+  others_off u ne = ap (λ x. sum_below c.threads (λ v. aborts u (s.marked v)) + is_aborted (s.wait u) + is_chan_halt x) (put_other s.noted t None u ne)
+
+  own_off : off c s t ≡ is_chan_halt (s.noted t)
+  own_off = off_acting c s t l g.acting.unnamed g.acting.unwoken
+
+  now_unaborted : behind t ≡ 0
+  unfolding aborted
+  now_unaborted = let a = own_off in grind (arith, columns)
+
+  none_off : (u : ℕ) → t ≡ u → behind u ≡ 0
+  none_off u x = subst (λ v. behind v ≡ 0) x now_unaborted
+
+  -- whom a waking names was not aborted
+  named_unaborted : (e : Event) → MayStamp c s t e → (u : ℕ) → wakes e u ≡ true → off c s u ≡ 0
+  named_unaborted (WokeOne d woken) g u b =
+      let p = the_wake (s.unstamped t) d.0 woken false g.asks in
+      taken_unaborted p.0 p.1 woken p.4 u b
+  named_unaborted (WokeAll d woken) g u b =
+      let p = the_wake (s.unstamped t) d.0 woken true g.asks in
+      taken_unaborted p.0 p.1 woken p.4 u b
+  named_unaborted other g u b = absurd cc
+
+  own_slept : behind t + one (is_named history t) ≤ one (is_taking_back (log t))
+  unfolding is_named
+  own_slept = let z = now_unaborted in rw (eq-eqb t t refl) (omega (arith, z))
+
+  -- a waking may name another
+  newly_named : (u : ℕ) (b k : Bool) → (b ≡ true → off c s u ≡ 0) → off c s u + one k ≤ one (is_taking_back (s.log u))
+      → (b ≡ true → one (is_taking_back (s.log u)) ≡ 1) → off c s u + one (b || k) ≤ one (is_taking_back (s.log u))
+  newly_named u false k f i g = i
+  newly_named u true k f i g = omega (arith, f refl, g refl)
+
+  -- whom a waking names has gone to sleep in its log
+  named_slept : (e : Event) → MayStamp c s t e → (u : ℕ) → wakes e u ≡ true → one (is_taking_back (s.log u)) ≡ 1
+  unfolding SleepersSlept
+  named_slept (WokeOne d woken) g u b =
+      let p = the_wake (s.unstamped t) d.0 woken false g.asks in
+      ap one (slept_back p.0.chan (s.log u) (h.sleepers_slept u p.0.chan (taken_named l h t g.thread p.0 p.1 u (in_wake p.0 p.1 woken p.4 u b))))
+  named_slept (WokeAll d woken) g u b =
+      let p = the_wake (s.unstamped t) d.0 woken true g.asks in
+      ap one (slept_back p.0.chan (s.log u) (h.sleepers_slept u p.0.chan (taken_named l h t g.thread p.0 p.1 u (in_wake p.0 p.1 woken p.4 u b))))
+  named_slept other g u b = absurd cc
+
+  others_slept : (u : ℕ) → t ≢ u → behind u + one (is_named history u) ≤ one (is_taking_back (log u))
+  unfolding AbortedSleep is_named
+  others_slept u ne =
+      rw (others_off u ne, ne_eqb t u ne, put_other s.log t (entry ∷ s.log t) u ne)
+      (newly_named u (wakes e u) (is_named s.history u) (named_unaborted e g u) (h.aborted_sleep u) (named_slept e g u))
+
+  slept_on : AbortedSleep history behind log
+  unfolding AbortedSleep
+  slept_on u = elim (cases_eq t u) [
+    | inl x ↦ subst (λ v. behind v + one (is_named history v) ≤ one (is_taking_back (log v))) x own_slept
+    | inr ne ↦ others_slept u ne
+  ]
+
+  unhalted : SleepersAreUnhalted s.blocked_on (put s.noted t None)
+  unfolding SleepersAreUnhalted
+  unhalted u d = grind (arith, columns, h.sleepers_are_unhalted u d)
 
   -- 2. Logs
 
@@ -134,9 +210,9 @@ module _ {at_work : ℕ → Option ℕ} {c : Config} {s : State} (l : Lawful c s
 
   -- 3. Who sleeps
 
-  there : AsleepStandThere history s.blocked_on
+  there : AsleepStandThere history s.blocked_on behind
   unfolding AsleepStandThere is_asleep
-  there u d q = grind (arith, nat_tests, h.asleep_stand_there u d q, g.acting.unnamed)
+  there u d q = grind (arith, nat_tests, h.asleep_stand_there u d q, g.acting.unnamed, others_off u)
 
   goes : (e : Event) → MayStamp c s t e → (d : ℕ) → sleeps_on e d ≡ true
       → (s.wait t ≡ Queued) × (s.wanted t ≡ None)
@@ -144,9 +220,9 @@ module _ {at_work : ℕ → Option ℕ} {c : Config} {s : State} (l : Lawful c s
   goes other g d x = absurd cc
 
   way : ((d : ℕ) → sleeps_on e d ≡ true → at_work d ≡ Some t)
-      → AsleepAreOnTheirWay history s.blocked_on s.wait s.wanted at_work
+      → AsleepAreOnTheirWay history s.blocked_on behind s.wait s.wanted at_work
   unfolding AsleepAreOnTheirWay is_asleep
-  way works u d = grind (arith, nat_tests, h.asleep_are_on_their_way u d, works d, goes e g d)
+  way works u d = grind (arith, nat_tests, h.asleep_are_on_their_way u d, works d, goes e g d, others_off u)
 
   -- 4. The order of the queues
 
@@ -161,14 +237,14 @@ module _ {at_work : ℕ → Option ℕ} {c : Config} {s : State} (l : Lawful c s
       (each_all (λ w. entries_up_to history w.thread ≡ entries_up_to s.history w.thread) (ws d)
       (λ w i. up_to d w.thread i)) (h.sleepers_in_order d)
 
-  later : LatecomersAreLater history s.blocked_on s.lists
+  later : LatecomersAreLater history s.blocked_on behind s.lists
   unfolding LatecomersAreLater entries_up_to is_asleep
-  later u d a b = elim (cases_eq t u) [
+  later u d a z b = elim (cases_eq t u) [
     | inl x ↦ each_all (SleptLonger history u) (ws d) (λ w i.
         grind (arith, nat_tests, up_to d w.thread i, up_to_most s.history w.thread))
     | inr x ↦ each-map (SleptLonger s.history u) (SleptLonger history u) (ws d)
         (λ w i r. grind (arith, nat_tests, up_to d w.thread i))
-        (h.latecomers_are_later u d (grind (arith, nat_tests, a)) b)
+        (h.latecomers_are_later u d (grind (arith, nat_tests, a)) (sym (others_off u x) ∙ z) b)
   ]
 
   bases : SleepersKeepBase (base_after e t s.base) s.lists
@@ -215,20 +291,25 @@ module _ {at_work : ℕ → Option ℕ} {c : Config} {s : State} (l : Lawful c s
 
   -- 6. The law of the history
 
-  nobody : NobodyIsPassedOver c history
-  unfolding NobodyIsPassedOver is_passed_over
-  nobody u =
-      grind (arith, nat_tests, over_nobody l h t g.thread e g u, h.nobody_is_passed_over u)
+  over : PassedOverAreAborted c history behind
+  unfolding PassedOverAreAborted is_passed_over
+  over u p = elim (cases_eq t u) [
+    | inl x ↦ absurd (grind (arith, nat_tests, p))
+    | inr ne ↦ elim (cases_eq (off c s u) 0) [
+      | inl z ↦ absurd (grind (arith, nat_tests, p, over_nobody l h t g.thread e g u ne z, h.passed_over_are_aborted u))
+      | inr k ↦ let z = others_off u ne in omega (arith, k)
+    ]
+  ]
 
-  law : WakingsNameSleepers c history
-  unfolding WakingsNameSleepers NobodyIsPassedOver
-  law =
-      let none = h.nobody_is_passed_over t in
-      (fits l h t g.thread e g, λ x. absurd cc, h.wakings_name_sleepers)
+  law : (1 ≤ is_chan_halt (s.noted t) → is_halted_chan e ≡ true) → WakingsNameSleepers c history
+  unfolding WakingsNameSleepers PassedOverAreAborted
+  law notes = (fits l h t g.thread e g, λ x. notes (let z = h.passed_over_are_aborted t x in omega (arith, own_off)), h.wakings_name_sleepers)
 
   pub stamps : ((d : ℕ) → sleeps_on e d ≡ true → at_work d ≡ Some t)
+      → (1 ≤ is_chan_halt (s.noted t) → is_halted_chan e ≡ true)
       → SleepersFit at_work c (after_stamp c s t e)
   unfolding after_stamp
-  stamps works =
+  stamps works notes =
       let on_way = way works in
-      assumption (h, named, noted, slept, woken_slept, resumed_slept, unwoken, there, on_way, order, later, bases, marked, works_there, fair, nobody, law)
+      let legal = law notes in
+      assumption (h, named, noted, slept_on, unhalted, slept, woken_slept, resumed_slept, unwoken, there, on_way, order, later, bases, marked, works_there, fair, over, legal)

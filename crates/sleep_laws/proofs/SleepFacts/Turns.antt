@@ -1,24 +1,24 @@
 -- In a turn of a scheduled run its thread is at work on all channels, and between turns nobody is.
-use Rattle.std.proofs.Common.{◌≡◌, ◌≢◌, ℕ, true, List, None}
+use Rattle.std.proofs.Common.{◌≡◌, ◌≢◌, ℕ, true, false, List, None}
 use Rattle.lock_model.specs.Config.{Config}
 use Rattle.lock_model.specs.Law.{is_asleep}
 use Rattle.lock_state.specs.State.{State}
 use Rattle.lock_state.specs.Facts.{Lawful}
 use Rattle.lock_state.specs.Steps.{Step, MayAll, after_all}
-use Rattle.sleep_laws.specs.Sleepers.{SleepersFit, AsksOfSleepersAll, by_turn, nobody}
+use Rattle.sleep_laws.specs.Sleepers.{SleepersFit, AsksOfSleepersAll, HaltNobody, by_turn, nobody, off}
 use Rattle.sleep_laws.proofs.SleepFacts.Moves.{moves}
 use Rattle.sleep_laws.proofs.SleepFacts.Steps.{all_keep}
 
 pub turn_keeps : (c : Config) (s : State) (t : ℕ) (steps : List Step) → MayAll c s steps
-    → AsksOfSleepersAll (by_turn t) c s steps → Lawful c s → SleepersFit nobody c s
+    → AsksOfSleepersAll (by_turn t) c s steps → HaltNobody steps → s.halted ≡ false → Lawful c s → SleepersFit nobody c s
     → SleepersFit (by_turn t) c (after_all c s steps)
-turn_keeps c s t steps g a l h =
-    let begins = moves nobody (by_turn t) c s h (λ u d a n e. absurd cc) (λ u w f e. absurd cc) in
-    all_keep (by_turn t) c s steps g a l begins
+turn_keeps c s t steps g a k x l h =
+    let begins = moves nobody (by_turn t) c s h (λ u d a z n e. absurd cc) (λ u w f e. absurd cc) in
+    all_keep (by_turn t) c s steps g a k x l begins
 
 pub turn_ends : (c : Config) (s : State) (t : ℕ)
-    → ((d : ℕ) → is_asleep s.history d t ≡ true → s.blocked_on t ≢ None) → s.unstamped t ≡ None
+    → ((d : ℕ) → is_asleep s.history d t ≡ true → off c s t ≡ 0 → s.blocked_on t ≢ None) → s.unstamped t ≡ None
     → SleepersFit (by_turn t) c s → SleepersFit nobody c s
-turn_ends c s t off noted h = moves (by_turn t) nobody c s h
-    (λ u d a n e. let same : t ≡ u = cc in absurd (off d (rw same a) (rw same n)))
+turn_ends c s t away noted h = moves (by_turn t) nobody c s h
+    (λ u d a z n e. let same : t ≡ u = cc in absurd (away d (rw same a) (rw same z) (rw same n)))
     (λ u w f e. let same : t ≡ u = cc in let none = rw same at noted in absurd cc)

@@ -12,13 +12,14 @@ use Rattle.lock_state.specs.Steps.SleepQueues.{MayWake, after_wake}
 use Rattle.lock_state.specs.Facts.{Lawful, BasesReplay}
 use Rattle.lock_state.specs.Facts.Loans.{Each}
 use Rattle.lock_state.specs.Facts.Waits.{times_marked}
-use Rattle.lock_state.specs.Facts.Sleeps.{AreSignals, signals, InOrder, LeavesNobodyBefore}
-use Rattle.sleep_laws.specs.Sleepers.{SleepersFit, NamedAreWoken, MarksAreSignals, SleepersInOrder, LatecomersAreLater, SleepersKeepBase, SleepersAreExclusive, UnnotedAreMarked, UnnotedIsAtWork, UnnotedIsFair}
+use Rattle.lock_state.specs.Facts.Sleeps.{AreSignals, signals, aborts, aborted, InOrder, LeavesNobodyBefore}
+use Rattle.sleep_laws.specs.Sleepers.{SleepersFit, NamedAreWoken, AbortedSleep, MarksAreSignals, AsleepStandThere, AsleepAreOnTheirWay, SleepersInOrder, LatecomersAreLater, SleepersKeepBase, SleepersAreExclusive, UnnotedAreMarked, UnnotedIsAtWork, UnnotedIsFair, PassedOverAreAborted, off}
 use Rattle.lock_laws.proofs.Kit.{columns, at_put, put_same, put_other, put_chan_same, put_chan_other}
 use Rattle.lock_laws.proofs.Lending.{each-map}
 use Rattle.lock_laws.proofs.Queues.{times_marked-dealt}
 use Rattle.sleep_laws.proofs.SleepFacts.Best.{SleptLonger, KeepsBase, at_put_chan, each-left, in_order-left, wake_fair}
 use Rattle.sleep_laws.proofs.SleepFacts.Known.{its_thread}
+use Rattle.sleep_laws.proofs.SleepFacts.Off.{off_marked, no_aborts-dealt}
 use Rattle.lock_laws.proofs.Taken.{objects_enough}
 use Rattle.lock_laws.proofs.Dealt.{signals-dealt, all_signals-dealt, times-map, marked_sum, unstamped_sum}
 
@@ -65,10 +66,28 @@ module _ {at_work : ℕ → Option ℕ} {c : Config} {s : State} (l : Lawful c s
       let b = unstamped_sum c.threads t u s.unstamped marked (Some now) g.thread in
       grind (arith, columns, h.named_are_woken u, g.unmarked, g.stamped)
 
-  listed : MarksAreSignals marked
+  listed : MarksAreSignals s.halted marked
   unfolding MarksAreSignals
-  listed = at_put (λ u x. AreSignals x) s.marked t ms
-      (all_signals-dealt (chan_queue d) taken free head) (λ u ne. h.marks_are_signals u)
+  listed i = at_put (λ u x. AreSignals x) s.marked t ms
+      (all_signals-dealt (chan_queue d) taken free head) (λ u ne. h.marks_are_signals i u)
+
+  abbrev behind : ℕ → ℕ
+  behind = aborted c marked s.wait s.noted
+
+  same : behind ≡ off c s
+  same = off_marked c s t ms g.thread (λ u. ap (aborts u) g.unmarked ∙ sym (no_aborts-dealt u (chan_queue d) taken free head))
+
+  slept_on : AbortedSleep s.history behind s.log
+  slept_on = rw same h.aborted_sleep
+
+  there : AsleepStandThere s.history s.blocked_on behind
+  there = rw same h.asleep_stand_there
+
+  way : AsleepAreOnTheirWay s.history s.blocked_on behind s.wait s.wanted at_work
+  way = rw same h.asleep_are_on_their_way
+
+  over : PassedOverAreAborted c s.history behind
+  over = rw same h.passed_over_are_aborted
 
   enough : length taken ≤ length free + some head
   enough = objects_enough c s (chan_queue d) X all l
@@ -104,13 +123,16 @@ module _ {at_work : ℕ → Option ℕ} {c : Config} {s : State} (l : Lawful c s
   order = at_put_chan (λ k q. InOrder s.history q.exclusive) s.lists d queue
       (in_order-left s.history all ws (h.sleepers_in_order d)) h.sleepers_in_order
 
-  later : LatecomersAreLater s.history s.blocked_on lists
+  later : LatecomersAreLater s.history s.blocked_on (off c s) lists
   unfolding LatecomersAreLater
-  later u k a n =
+  later u k a z n =
       let Longer : Waiter → Type 0 = SleptLonger s.history u in
       at_put_chan (λ k q. is_asleep s.history k u ≡ true → Each Longer q.exclusive) s.lists d queue
-      (λ i. each-left Longer all ws (h.latecomers_are_later u d i n))
-      (λ k i. h.latecomers_are_later u k i n) k a
+      (λ i. each-left Longer all ws (h.latecomers_are_later u d i z n))
+      (λ k i. h.latecomers_are_later u k i z n) k a
+
+  later_behind : LatecomersAreLater s.history s.blocked_on behind lists
+  later_behind = rw same later
 
   bases : SleepersKeepBase s.base lists
   unfolding SleepersKeepBase
@@ -147,4 +169,4 @@ module _ {at_work : ℕ → Option ℕ} {c : Config} {s : State} (l : Lawful c s
 
   pub wakes : SleepersFit at_work c (after_wake s t d all)
   unfolding after_wake
-  wakes = assumption (h, named, listed, unnoted, works_there, order, later, bases, sides, fair)
+  wakes = assumption (h, named, listed, unnoted, works_there, slept_on, there, way, over, order, later_behind, bases, sides, fair)

@@ -1,20 +1,19 @@
 -- Each entry of a waking, and of a woken thread, fits the sleepers behind the history, and nobody is passed over.
-use Rattle.std.proofs.Common.{◌≡◌, ◌≢◌, ℕ, zero, suc, ◌<◌, ◌≤◌, Bool, true, false, eqb, ◌&&◌, List, [], ◌∷◌, Option, Some, None, refl, sym, ap, inl, inr, arith, ◌∙◌, subst}
+use Rattle.std.proofs.Common.{◌≡◌, ◌≢◌, ℕ, zero, suc, ◌+◌, ◌<◌, ◌≤◌, Bool, true, false, eqb, ◌&&◌, List, [], ◌∷◌, Option, Some, None, refl, sym, ap, inl, inr, arith, ◌∙◌, subst}
 use Rattle.std.proofs.lemmas.Bool.{ne_eqb}
 use Rattle.std.proofs.lemmas.Bool.Decides.{nat_tests}
 use Rattle.lock_model.specs.Config.{Config}
-use Rattle.lock_model.specs.Counts.{any_below, times, has_bit}
-use Rattle.lock_model.specs.Law.{is_asleep, passes_over, goes_before, comes_before_named, leaves_asleep, Fits, FitsSleepers}
+use Rattle.lock_model.specs.Counts.{any_below, one, times, has_bit}
+use Rattle.lock_model.specs.Law.{is_asleep, is_named, passes_over, goes_before, comes_before_named, leaves_asleep, Fits, FitsSleepers}
 use Rattle.lock_model.specs.Events.{WakesOne, WakesAll}
 use Rattle.lock_model.specs.Queues.{Waiter, chan_queue, times_waiting}
-use Rattle.lock_model.specs.declared.plan.QueueName.TheVariants.{Chan}
 use Rattle.lock_model.specs.declared.event.Event.{Event}
 use Rattle.lock_model.specs.declared.event.Event.TheVariants.{Woke, HaltedChan, WokeOne, WokeAll}
 use Rattle.lock_state.specs.State.{State, Wake}
-use Rattle.lock_state.specs.Steps.LockWords.{MayStamp, IsTheWake, bits_of_threads}
+use Rattle.lock_state.specs.Steps.LockWords.{MayStamp, IsTheWake, bits_of_threads, is_taking_back}
 use Rattle.lock_state.specs.Facts.{Lawful}
-use Rattle.lock_state.specs.Facts.Sleeps.{LeavesNobodyBefore}
-use Rattle.sleep_laws.specs.Sleepers.{SleepersFit, IsWithChannel, NamedAreWoken, NoSleepIsHalted, SleepersAreExclusive, UnnotedAreMarked, UnnotedIsAtWork, UnnotedIsFair}
+use Rattle.lock_state.specs.Facts.Sleeps.{LeavesNobodyBefore, is_chan_halt, aborted}
+use Rattle.sleep_laws.specs.Sleepers.{SleepersFit, IsWithChannel, NamedAreWoken, AbortedSleep, SleepersAreExclusive, UnnotedAreMarked, UnnotedIsAtWork, UnnotedIsFair, off}
 use Rattle.lock_laws.proofs.Bits.{no_bits}
 use Rattle.sleep_laws.proofs.SleepFacts.Best.{each_at}
 use Rattle.sleep_laws.proofs.SleepFacts.Found.{sleeper_found}
@@ -68,8 +67,8 @@ module _ {at_work : ℕ → Option ℕ} {c : Config} {s : State} (l : Lawful c s
 
     -- 2. It passes over nobody
 
-    module _ (u : ℕ) (ne : t ≢ u) where
-      -- a sleeper that it doesn't name is left on the queue
+    module _ (u : ℕ) (ne : t ≢ u) (unaborted : off c s u ≡ 0) where
+      -- a sleeper that it doesn't name, and that wasn't aborted, is left on the queue
       stays : times u w.taken ≡ 0 → IsWithChannel at_work s u w.chan → 1 ≤ times_waiting u left
       unfolding SleepersAreExclusive UnnotedAreMarked UnnotedIsAtWork
       stays z (inl x) = grind (arith, ap (times_waiting u) (h.sleepers_are_exclusive w.chan))
@@ -84,7 +83,7 @@ module _ {at_work : ℕ → Option ℕ} {c : Config} {s : State} (l : Lawful c s
       unnamed_stays : is_asleep s.history w.chan u ≡ true → has_bit u bits ≡ false
           → 1 ≤ times_waiting u left
       unnamed_stays a b =
-          stays (grind (arith, taken_bits l h t lt w e u)) (sleeper_found l h u w.chan a)
+          stays (grind (arith, taken_bits l h t lt w e u)) (sleeper_found l h u w.chan a unaborted)
 
       passes_none : w.all ≡ true → leaves_asleep c s.history (WakesAll w.chan bits) u ≡ false
       passes_none a = grind (arith, unnamed_stays, ap (times_waiting u) (leaves true a))
@@ -120,16 +119,16 @@ module _ {at_work : ℕ → Option ℕ} {c : Config} {s : State} (l : Lawful c s
       all_fit : Fits (WakesAll d woken) s.history t
       all_fit = rw (set, ← chan) names_asleep
 
-      one_leaves : w.all ≡ false → (u : ℕ) → t ≢ u
+      one_leaves : w.all ≡ false → (u : ℕ) → t ≢ u → off c s u ≡ 0
           → leaves_asleep c s.history (WakesOne d woken) u ≡ false
-      one_leaves a u ne = rw (set, ← chan) (passes_no_better u ne a)
+      one_leaves a u ne z = rw (set, ← chan) (passes_no_better u ne z a)
 
-      all_leave : w.all ≡ true → (u : ℕ) → t ≢ u
+      all_leave : w.all ≡ true → (u : ℕ) → t ≢ u → off c s u ≡ 0
           → leaves_asleep c s.history (WakesAll d woken) u ≡ false
-      all_leave a u ne = rw (set, ← chan) (passes_none u ne a)
+      all_leave a u ne z = rw (set, ← chan) (passes_none u ne z a)
 
   pub fits : (e : Event) → MayStamp c s t e → FitsSleepers e s.history t
-  unfolding NamedAreWoken NoSleepIsHalted
+  unfolding NamedAreWoken AbortedSleep aborted
   fits (WokeOne d woken) g =
       let p = the_wake (s.unstamped t) d.0 woken false g.asks in
       one_fits p.0 p.1 d.0 woken p.2 p.4 p.3
@@ -137,10 +136,17 @@ module _ {at_work : ℕ → Option ℕ} {c : Config} {s : State} (l : Lawful c s
       let p = the_wake (s.unstamped t) d.0 woken true g.asks in
       all_fit p.0 p.1 d.0 woken p.2 p.4
   fits (Woke d) g = grind (arith, h.named_are_woken t, g.asks.1)
-  fits (HaltedChan d) g = absurd (h.no_sleep_is_halted t (Chan d) g.asks.1)
+  fits (HaltedChan d) g =
+      let n = ap is_chan_halt g.asks.1 in
+      unnamed (is_named s.history t) refl (is_taking_back (s.log t)) (omega (arith, h.aborted_sleep t))
+    where
+      unnamed : (b : Bool) → is_named s.history t ≡ b → (k : Bool) → 1 + one (is_named s.history t) ≤ one k → is_named s.history t ≡ false
+      unnamed false e k i = e
+      unnamed true e true i = absurd (let z = ap one e in omega arith)
+      unnamed true e false i = absurd (omega arith)
   fits other g = tt
 
-  pub over_nobody : (e : Event) → MayStamp c s t e → (u : ℕ) → t ≢ u
+  pub over_nobody : (e : Event) → MayStamp c s t e → (u : ℕ) → t ≢ u → off c s u ≡ 0
       → passes_over c s.history e u ≡ false
   over_nobody (WokeOne d woken) g =
       let p = the_wake (s.unstamped t) d.0 woken false g.asks in
@@ -148,4 +154,4 @@ module _ {at_work : ℕ → Option ℕ} {c : Config} {s : State} (l : Lawful c s
   over_nobody (WokeAll d woken) g =
       let p = the_wake (s.unstamped t) d.0 woken true g.asks in
       all_leave p.0 p.1 d.0 woken p.2 p.4 p.3
-  over_nobody other g = λ u ne. refl
+  over_nobody other g = λ u ne z. refl

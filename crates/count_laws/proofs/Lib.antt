@@ -1,0 +1,13 @@
+pub mod Countings
+pub mod Counted
+pub mod Keeping
+pub mod Started
+pub mod Alone
+pub mod Moments
+pub mod Finders
+pub mod Explained
+pub mod Causes
+pub mod Explaining
+pub mod CountGuards
+pub mod Histories
+pub mod Props
