@@ -30,11 +30,11 @@ pub use fault::{ReadError, ScriptFault};
 pub use lines::{split_at_byte, split_line};
 use lock_model::Plan;
 pub use meaning::meaning_of;
-pub use numbers::number_of;
+pub use numbers::{number_of, priority_of};
 use reader::Reader;
+pub use reader::has_meaning;
 use std::alloc::Global;
-pub use words::cut_word;
-use words::is_word;
+pub use words::{cut_word, has_empty_word, is_word};
 pub use writer::write_script;
 
 /// The plan of a script. `Script` tells the first faulty line and its code, exactly where the bytes are no script, and

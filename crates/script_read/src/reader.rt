@@ -16,7 +16,7 @@ ghost use Rattle.script_read.specs.Statements.{meant, meant_operation};
 use crate::fault::{Code, LineError, ReadError, ScriptFault, test};
 use crate::lines::split_line;
 use crate::reader::open_thread::OpenThread;
-use crate::reader::stages::{has_meaning, test_bytes};
+use crate::reader::stages::test_bytes;
 use crate::statement::{Operation, Statement};
 use crate::words::cut_word;
 use indexmap::{IndexMap, IndexSet};
@@ -29,6 +29,8 @@ use std::alloc::{AllocError, Global};
 pub mod held;
 mod open_thread;
 mod stages;
+
+pub use stages::has_meaning;
 
 /// What is known behind some lines.
 #[derive(Drop)]

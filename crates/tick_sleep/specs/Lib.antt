@@ -1,0 +1,17 @@
+pub mod Limits
+pub mod Plans
+pub mod Ticks
+pub mod Text
+pub mod Statements
+pub mod Learning
+pub mod Faults
+pub mod Script
+pub mod Reading
+pub mod Readers
+pub mod Words
+pub mod Wheels
+pub mod Rolls
+pub mod RollFacts
+pub mod Tables
+pub mod Queues
+pub mod Expiry
