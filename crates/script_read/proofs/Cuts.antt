@@ -1,13 +1,15 @@
 -- How the front of a source is its first line, and the front of a line its first word.
-use Rattle.std.proofs.Common.{◌≡◌, if◌then◌else◌, ℕ, ◌-◌, drop, get_or, IfNone, add-one, one-add, drop-cons, length-drop, ◌≤◌, nat_lt, cond, ◌+◌, Bool, true, false, not, ◌&&◌, ◌==◌, List, [], ◌∷◌, ◌++◌, length, take, Option, Some, None, position, refl, sym, ap, ◌∙◌, subst, arith, true≢false}
+use Rattle.std.proofs.Common.{◌≡◌, if◌then◌else◌, ℕ, ◌-◌, drop, get_or, IfNone, add-one, one-add, drop-cons, length-drop, ◌≤◌, nat_lt, nat_le, cond, ◌+◌, Bool, true, false, not, ◌&&◌, ◌==◌, List, [], ◌∷◌, ◌++◌, length, take, Option, Some, None, position, refl, sym, ap, ◌∙◌, subst, arith, true≢false}
 use Rattle.std.proofs.lemmas.Bool.{false≢true, eqb-true}
-use Rattle.std.specs.List.{list_all, prefix_len}
+use Rattle.std.specs.List.{list_all, list_any, prefix_len}
 use Rattle.std.proofs.lemmas.Bool.Decides.{nat_tests}
 use Rattle.std.proofs.lemmas.Option.{cond_some}
 use Rattle.std.proofs.lemmas.List.{take_all, take-append-drop}
 use Rattle.std.proofs.lemmas.List.Quantifiers.{position-Some}
-use Rattle.lock_model.specs.Script.Lines.{lines_of, words_of, onto_first}
+use Rattle.lock_model.specs.Script.Lines.{lines_of, words_of, onto_first, is_printable}
+use Rattle.lock_model.specs.Counts.{is_empty}
 use Rattle.lock_model.specs.Script.Statements.{Statement, Alone, WithOne, WithTwo, WithThree, WithSome, said}
+use Rattle.script_read.specs.Statements.{said_by_words}
 use Rattle.script_read.specs.Reading.{Lacks}
 
 -- what a byte string lacks, its first byte isn't, and the rest lacks it
@@ -78,6 +80,33 @@ pub lines-whole : (line : List ℕ) → (length line == 0) ≡ false → Lacks 1
 lines-whole [] n h = absurd (true≢false n)
 lines-whole (b ∷ line) n h = lines-last b line h
 
+-- bytes that may stand in a script are no line end
+both : (a b : Bool) → (a && b) ≡ true → (a ≡ true) × (b ≡ true)
+both true b h = (refl, h)
+both false b h = absurd (false≢true h)
+
+pub printable-lacks : (bs : List ℕ) → list_all is_printable bs ≡ true → Lacks 10 bs
+printable-lacks [] h = refl
+printable-lacks (b ∷ bs) h =
+    let p = both (is_printable b) (list_all is_printable bs) h in
+    let above = both (nat_le 32 b) (nat_le b 126) p.0 in
+    let other : (b == 10) ≡ false = grind (arith, nat_tests, above.0) in
+    rw other (printable-lacks bs p.1)
+
+-- what stands before the first byte that may not
+twice : (b : Bool) → not (not b) ≡ b
+twice true = refl
+twice false = refl
+
+all_twice : (bs : List ℕ) → list_all (λ b. not (not (is_printable b))) bs ≡ list_all is_printable bs
+all_twice [] = refl
+all_twice (b ∷ bs) = rw (twice (is_printable b), all_twice bs) refl
+
+pub printable-before : (bs : List ℕ) (i : ℕ) → position (λ b. not (is_printable b)) bs ≡ Some i → list_all is_printable (take i bs) ≡ true
+printable-before bs i h =
+    let p = cond_some (nat_lt (prefix_len (λ b. not (not (is_printable b))) bs) (length bs)) _ i h in
+    sym (all_twice (take i bs)) ∙ subst (λ (n : ℕ). list_all (λ b. not (not (is_printable b))) (take n bs) ≡ true) p.1 (all_before (λ b. not (not (is_printable b))) bs)
+
 -- 2. Words
 
 words-step : (b : ℕ) (bs word : List ℕ) (more : List (List ℕ)) → (b == 32) ≡ false → words_of bs ≡ word ∷ more → words_of (b ∷ bs) ≡ (b ∷ word) ∷ more
@@ -97,6 +126,12 @@ words-last (b ∷ word) h =
     let p = lacks-first 32 b word h in
     words-step b word word [] p.0 (words-last word p.1)
 
+-- whether a word is empty of those that begin here or, where one has begun, of those behind it
+abbrev pub any_empty : Bool → List (List ℕ) → Bool
+any_empty true words = list_any is_empty words
+any_empty false [] = false
+any_empty false (w ∷ ws) = list_any is_empty ws
+
 -- 3. What stands behind a first word
 
 -- a text has a word
@@ -109,24 +144,41 @@ words_are (b ∷ bs) = by (b == 32) (words_of bs)
     by false [] = (b ∷ [], [], refl)
     by false (part ∷ parts) = (b ∷ part, parts, refl)
 
+-- nothing is said, whether or not a word is empty
+none_either : (b : Bool) (s : Option Statement) → s ≡ None → None ≡ (if b then None else s)
+none_either true s e = refl
+none_either false s e = sym e
+
 -- one too many, behind a word that stands alone or has one behind it
-pub alone_more : (s : Statement) (bs : List ℕ) → None ≡ said (Alone s) (words_of bs)
-alone_more s bs = let w = words_are bs in ap (said (Alone s)) (sym w.2)
+pub alone_more : (s : Statement) (bs : List ℕ) → None ≡ said_by_words (Alone s) (words_of bs)
+unfolding said_by_words
+alone_more s bs = let w = words_are bs in none_either (list_any is_empty (words_of bs)) _ (ap (said (Alone s)) w.2)
 
-pub one_more : (f : List ℕ → Statement) (w bs : List ℕ) → None ≡ said (WithOne f) (w ∷ words_of bs)
-one_more f w bs = let v = words_are bs in ap (λ (ws : List (List ℕ)). said (WithOne f) (w ∷ ws)) (sym v.2)
+pub one_more : (f : List ℕ → Statement) (w bs : List ℕ) → None ≡ said_by_words (WithOne f) (w ∷ words_of bs)
+unfolding said_by_words
+one_more f w bs = let v = words_are bs in none_either (list_any is_empty (w ∷ words_of bs)) _ (ap (λ (ws : List (List ℕ)). said (WithOne f) (w ∷ ws)) v.2)
 
-pub some_more : (f : List (List ℕ) → Statement) (bs : List ℕ) → Some (f (words_of bs)) ≡ said (WithSome f) (words_of bs)
-some_more f bs = let w = words_are bs in rw w.2 refl
+-- where none of them is empty
+pub some_filled : (f : List (List ℕ) → Statement) (bs : List ℕ) → list_any is_empty (words_of bs) ≡ false → Some (f (words_of bs)) ≡ said_by_words (WithSome f) (words_of bs)
+unfolding said_by_words
+some_filled f bs e = let w = words_are bs in rw (e, w.2) refl
 
 -- the first of two words, and of three
-pub two_more : (f : List ℕ → List ℕ → Statement) (w : List ℕ) (ws : List (List ℕ)) → said (WithOne (f w)) ws ≡ said (WithTwo f) (w ∷ ws)
+two_more : (f : List ℕ → List ℕ → Statement) (w : List ℕ) (ws : List (List ℕ)) → said (WithOne (f w)) ws ≡ said (WithTwo f) (w ∷ ws)
 two_more f w [] = refl
 two_more f w (a ∷ []) = refl
 two_more f w (a ∷ b ∷ ws) = refl
 
-pub three_more : (f : List ℕ → List ℕ → List ℕ → Statement) (w : List ℕ) (ws : List (List ℕ)) → said (WithTwo (f w)) ws ≡ said (WithThree f) (w ∷ ws)
+three_more : (f : List ℕ → List ℕ → List ℕ → Statement) (w : List ℕ) (ws : List (List ℕ)) → said (WithTwo (f w)) ws ≡ said (WithThree f) (w ∷ ws)
 three_more f w [] = refl
 three_more f w (a ∷ []) = refl
 three_more f w (a ∷ b ∷ []) = refl
 three_more f w (a ∷ b ∷ c ∷ ws) = refl
+
+pub two_filled : (f : List ℕ → List ℕ → Statement) (w : List ℕ) (ws : List (List ℕ)) → is_empty w ≡ false → said_by_words (WithOne (f w)) ws ≡ said_by_words (WithTwo f) (w ∷ ws)
+unfolding said_by_words
+two_filled f w ws e = rw e (ap (λ (s : Option Statement). if list_any is_empty ws then None else s) (two_more f w ws))
+
+pub three_filled : (f : List ℕ → List ℕ → List ℕ → Statement) (w : List ℕ) (ws : List (List ℕ)) → is_empty w ≡ false → said_by_words (WithTwo (f w)) ws ≡ said_by_words (WithThree f) (w ∷ ws)
+unfolding said_by_words
+three_filled f w ws e = rw e (ap (λ (s : Option Statement). if list_any is_empty ws then None else s) (three_more f w ws))

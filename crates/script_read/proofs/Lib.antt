@@ -1,9 +1,9 @@
 mod Channels
 pub mod Cuts
 mod Digits
+mod FirstWords
 mod LastHeld
 mod LineStages
 mod OpenBlocks
-mod Rooms
 mod Tens
 mod ToldLines

@@ -11,7 +11,7 @@ use Rattle.script_read.specs.declared.reader.open_thread.Block.{Block}
 pub as_many : (bs : List Block) → length (map block_of (reverse bs)) ≡ length bs
 as_many bs = rw (length-map, length-reverse) refl
 
-none_there : {A : Type 0} (xs : List A) → is_empty xs ≡ (length xs == 0)
+pub none_there : {A : Type 0} (xs : List A) → is_empty xs ≡ (length xs == 0)
 none_there [] = refl
 none_there (x ∷ xs) = grind (arith, nat_tests)
 

@@ -1,5 +1,7 @@
 -- What a statement and a first word of the code say, as the definition has them.
-use Rattle.std.specs.Prelude.{ℕ, if◌then◌else◌, List, ◌++◌, codes}
+use Rattle.std.specs.Prelude.{ℕ, ◌+◌, ◌-◌, ◌*◌, ◌/◌, ◌%◌, if◌then◌else◌, List, ◌++◌, length, codes, get_or, slice_get, unwrap_or, Option, None}
+use Rattle.std.specs.List.{list_any}
+use Rattle.lock_model.specs.Counts.{is_empty}
 use Rattle.lock_model.specs.Text.{mode_letter}
 use Rattle.lock_model.specs.Script.Canonical.{kind_word}
 use Rattle.lock_model.specs.Script.Lines.{words_of}
@@ -8,6 +10,7 @@ use Rattle.script_read.specs.declared.statement.Operation.{Operation}
 use Rattle.script_read.specs.declared.statement.Operation.TheVariants.{Take, Release, Try, Set, Add, Get, Prio, Show, Wait, WakeOne, WakeAll}
 use Rattle.script_read.specs.declared.statement.Statement as statements
 use Rattle.script_read.specs.declared.statement.Statement.TheVariants as statement
+use Rattle.script_read.specs.declared.statement.TheConstants.{VERBS, VERB_AT}
 use Rattle.script_read.specs.declared.statement.Verb as verbs
 use Rattle.script_read.specs.declared.statement.Verb.TheVariants as verb
 
@@ -80,3 +83,20 @@ word (verb.WakeAll cond) = if cond then codes "broadcast" else codes "wakeup"
 -- a first word, with what it says
 abbrev pub row : verbs.Verb → List ℕ × script.Form
 row v = (word v, form v)
+
+-- what a form says with these words behind it; none of them may be empty
+unfoldable pub said_by_words : script.Form → List (List ℕ) → Option script.Statement
+said_by_words f words = if list_any is_empty words then None else script.said f words
+
+-- a byte of a word, or 0 behind its end
+abbrev pub byte_at : List ℕ → ℕ → ℕ
+byte_at word i = unwrap_or (slice_get word i) 0
+
+-- the place of a first word in a table, by its length, its first byte and its middle one
+abbrev pub place : List ℕ → ℕ
+place word =
+    (5 * (length word % 16) + byte_at word 0 + 8 * byte_at word ((length word - 1) / 2)) % 128
+
+-- the one verb whose first word it may be
+abbrev pub verb_at : List ℕ → Option verbs.Verb
+verb_at word = slice_get VERBS (get_or VERB_AT (place word) 0)

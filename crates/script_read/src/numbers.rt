@@ -1,5 +1,5 @@
 //! Reading numbers: decimal digits without a sign and without leading zeros.
-ghost use Rattle.std.specs.Prelude.{◌≡◌, option_map};
+ghost use Rattle.std.specs.Prelude.{◌≡◌, ◌+◌, ◌*◌, ◌^◌, ◌<◌, ◌≤◌, option_map, MatchOption};
 ghost use Rattle.lock_model.specs.Script.Lines.{number_of, priority_of};
 
 use lock_model::Prio;
@@ -16,9 +16,23 @@ pub fn number_of(word: &[u8]) -> Option<u64>
         if !b.is_ascii_digit() {
             return None;
         }
-        number = number.checked_mul(10)?.checked_add(u64::from(*b - b'0'))?;
+        number = with_digit(number, *b - b'0')?;
     }
     Some(number)
+}
+
+// A number below this one has room for any digit more.
+const ROOM: u64 = 1_844_674_407_370_955_161;
+
+// A number with a digit more behind it, if it is below 2^64.
+fn with_digit(number: u64, digit: u8) -> Option<u64>
+    requires { digit < 10 }
+    ensures { MatchOption result (2 ^ 64 ≤ 10 * number + digit) (λ n. n ≡ 10 * number + digit) }
+{
+    if number < ROOM {
+        return Some(10 * number + u64::from(digit));
+    }
+    number.checked_mul(10)?.checked_add(u64::from(digit))
 }
 
 /// The priority that a word spells: a number up to 255.

@@ -1,20 +1,24 @@
 //! What the lines of a script have made known so far, and what each line adds to it. A line is tested first, and then
-//! learnt; behind a fault nothing is read, so what is known then doesn't matter.
+//! learnt; the names of a schedule are learnt as they are tested. Behind a fault nothing is read, so what is known then
+//! doesn't matter.
 #![tactic(auto, using(lock_model::proofs::LeastCodes::least_is_first))]
 
-ghost use Rattle.std.specs.Prelude.{◌≡◌, ◌<◌, ◌≤◌, None, Some, [], OnOk};
+ghost use Rattle.std.specs.Prelude.{◌≡◌, ◌<◌, ◌≤◌, None, Some, [], IfOk, OnOk, is_some, option_to_list};
+ghost use Rattle.std.specs.List.{list_all};
 ghost use Rattle.lock_model.specs.Limits.{most_operations};
 ghost use Rattle.lock_model.specs.Script.{reading_from};
 ghost use Rattle.lock_model.specs.Script.Faults.{line_fault, behind_line};
-ghost use Rattle.lock_model.specs.Script.Learning.{nothing_known, declared_as, with_operation};
-ghost use Rattle.lock_model.specs.Script.Lines.{lines_of, words_of};
+ghost use Rattle.lock_model.specs.Script.Learning.{nothing_known, declared_as, learned, thread_named, with_operation};
+ghost use Rattle.lock_model.specs.Names.{is_name};
+ghost use Rattle.lock_model.specs.Script.Lines.{is_printable, lines_of, words_of};
 ghost use Rattle.lock_model.specs.Script.Statements.{Declares, DeclaresChan, Begins, Ends, Schedules, IsDone, Operates, EndsTry};
-ghost use Rattle.script_read.specs.Reading.{Goes, GoesBy, Tells};
+ghost use Rattle.script_read.specs.Reading.{Goes, GoesBy, Tells, name_fault};
 ghost use Rattle.script_read.specs.OpenThreads.{operations_of};
 ghost use Rattle.script_read.specs.Statements.{meant, meant_operation};
 
 use crate::fault::{Code, LineError, ReadError, ScriptFault, test};
-use crate::lines::split_line;
+use crate::lines::split_judged;
+use crate::reader::names::{HINTS, hint_of};
 use crate::reader::open_thread::OpenThread;
 use crate::reader::stages::test_bytes;
 use crate::statement::{Operation, Statement};
@@ -27,6 +31,7 @@ use lock_model::{
 use std::alloc::{AllocError, Global};
 
 pub mod held;
+mod names;
 mod open_thread;
 mod stages;
 
@@ -36,6 +41,8 @@ pub use stages::has_meaning;
 #[derive(Drop)]
 pub struct Reader {
     names: IndexMap<Name, Declared>,
+    // Where a name likely stands among them, by `hint_of`.
+    hints: [u8; HINTS],
     classes: IndexSet<Name>,
     locks: Vec<LockDecl>,
     chans: Vec<ChanDecl>,
@@ -50,7 +57,7 @@ pub struct Reader {
 }
 
 impl Reader {
-    ghost use Rattle.script_read.specs.Readers.{known, with_name};
+    ghost use Rattle.script_read.specs.Readers.{known, with_name, with_turns};
 
     // What the header makes known: nothing.
     fn new(alloc: Global) -> Reader
@@ -58,6 +65,7 @@ impl Reader {
     {
         Reader {
             names: IndexMap::new(alloc),
+            hints: [0; HINTS],
             classes: IndexSet::new(alloc),
             locks: Vec::new(alloc),
             chans: Vec::new(alloc),
@@ -76,8 +84,8 @@ impl Reader {
         let mut reader = Reader::new(alloc);
         let mut number: u32 = 2;
         let mut rest = lines;
-        while let Some((line, after)) = split_line(rest) {
-            if let Err(e) = reader.read_line(alloc, line) {
+        while let Some((line, printable, after)) = split_judged(rest) {
+            if let Err(e) = reader.read_line(alloc, line, printable) {
                 return Err(e.at(number));
             }
             number = number.saturating_add(1);
@@ -103,12 +111,13 @@ impl Reader {
         })
     }
 
-    // Reads a line behind the header.
-    fn read_line(&mut self, alloc: Global, line: &[u8]) -> Result<(), LineError>
+    // Reads a line behind the header, of which is known whether each of its bytes may stand in a script.
+    fn read_line(&mut self, alloc: Global, line: &[u8], printable: bool) -> Result<(), LineError>
+        requires { printable ≡ list_all is_printable line.now }
         ensures { Goes (line_fault (known self.old) line.now) (behind_line (known self.old) line.now)
             (known self.new) result }
     {
-        test_bytes(line)?;
+        test_bytes(line, printable)?;
         if !has_meaning(line) {
             return Ok(());
         }
@@ -198,16 +207,45 @@ impl Reader {
         ensures { GoesBy (known self.old) (Schedules (words_of names.now)) (known self.new) result }
     {
         test(Code::INSIDE, self.open_thread.is_none())?;
-        self.test_schedule(names)?;
+        self.learn_schedule(names)
+    }
+
+    // Tests the names of a schedule, and learns them as it goes: behind a fault nothing is read. The whole line has the
+    // smallest code of all its names.
+    fn learn_schedule(&mut self, names: &[u8]) -> Result<(), LineError>
+        ensures { Goes (name_fault (known self.old) (Schedules (words_of names.now)))
+            (learned (known self.old) (Schedules (words_of names.now))) (known self.new) result }
+    {
+        let mut are_names = true;
+        let mut are_threads = true;
         let mut rest = Some(names);
         while let Some(text) = rest {
             let (name, behind) = cut_word(text);
-            if let Ok(thread) = self.thread_named(name) {
-                self.schedule.push(thread)?;
-            }
+            let (is_name, is_thread) = self.learn_turn(name)?;
+            are_names = are_names && is_name;
+            are_threads = are_threads && is_thread;
             rest = behind;
         }
+        test(Code::SPELLING, are_names)?;
+        test(Code::UNDECLARED, are_threads)?;
+        test(Code::LIMIT, self.schedule.len() <= limits::SCHEDULE)?;
         Ok(())
+    }
+
+    // Lets a thread have a turn. It tells whether the word spells a name, and whether a thread's.
+    fn learn_turn(&mut self, word: &[u8]) -> Result<(bool, bool), AllocError>
+        ensures spelled { IfOk result (λ r. r.0 ≡ is_name word.now) }
+        ensures named { IfOk result (λ r. r.1 ≡ is_some (thread_named (known self.old) word.now)) }
+        ensures learnt { OnOk result (known self.new ≡ with_turns (known self.old)
+            (option_to_list (thread_named (known self.old) word.now))) }
+    {
+        match self.thread_named(word) {
+            Ok(thread) => {
+                self.schedule.push(thread)?;
+                Ok((true, true))
+            }
+            Err(code) => Ok((code.0 != Code::SPELLING.0, false)),
+        }
     }
 
     // `done` ends the script.
@@ -249,6 +287,7 @@ impl Reader {
         requires { declared_as (known self.old) name ≡ None }
         ensures { OnOk result (known self.new ≡ with_name (known self.old) name declared) }
     {
+        self.hints[hint_of(name.as_bytes())] = (self.names.len() % 256) as u8;
         self.names.insert(name, declared)?;
         Ok(())
     }

@@ -1,11 +1,9 @@
 //! What a line says, by its first word and the number of words behind it.
-ghost use Rattle.std.specs.Prelude.{◌≡◌, ℕ, List, map, option_map, option_copied};
-ghost use Rattle.std.specs.Map.{lookup};
+ghost use Rattle.std.specs.Prelude.{◌≡◌, ◌<◌, ℕ, List, option_map, option_copied, slice_get};
 ghost use Rattle.lock_model.specs.Script.Statements as script;
-ghost use Rattle.lock_model.specs.Script.Statements.{Alone, WithOne, WithTwo, WithThree, form_of, said, statement_of};
+ghost use Rattle.lock_model.specs.Script.Statements.{Alone, WithOne, WithTwo, WithThree, WithSome, Schedules, form_of, statement_of};
 ghost use Rattle.script_read.specs.Reading.{words_behind};
-ghost use Rattle.script_read.specs.Statements.{form, meant, row, word};
-ghost use Rattle.lock_model.specs.Script.Lines.{is_same};
+ghost use Rattle.script_read.specs.Statements.{byte_at, form, meant, place, said_by_words, verb_at, word};
 
 use crate::words::{cut_word, has_empty_word, is_word};
 use lock_model::{Kind, Mode};
@@ -153,13 +151,25 @@ const VERBS: [Verb; 36] = [
     Verb::WakeAll(false),
 ];
 
+// How many places a first word may have.
+const PLACES: usize = 128;
+
+// Which of `VERBS` has the first word with that place, and 36 where none has. No two have the same: `all_placed` of
+// `proofs/FirstWords.antt`.
+const VERB_AT: [u8; PLACES] = [
+    36, 36, 36, 11, 15, 36, 36, 36, 12, 16, 36, 36, 1, 36, 36, 36, 26, 36, 36, 30, 28, 2, 36, 36,
+    36, 36, 36, 36, 36, 36, 27, 36, 36, 36, 5, 24, 36, 36, 0, 36, 36, 36, 25, 36, 20, 36, 36, 32,
+    36, 36, 36, 36, 22, 36, 36, 4, 36, 36, 36, 36, 36, 36, 36, 36, 36, 36, 36, 7, 36, 36, 36, 29,
+    36, 31, 36, 36, 36, 36, 36, 36, 36, 34, 36, 36, 21, 36, 36, 36, 36, 36, 36, 36, 23, 36, 36, 36,
+    36, 36, 36, 36, 6, 36, 36, 36, 36, 36, 36, 33, 36, 35, 36, 3, 8, 36, 36, 10, 36, 13, 17, 19, 9,
+    36, 14, 18, 36, 36, 36, 36,
+];
+
 /// What a line says. `None` comes where a word is empty, the first word unknown or the number of words wrong.
+#[tactic(auto, unfolding(crate::specs::Statements::said_by_words))]
 pub fn statement_of(line: &[u8]) -> Option<Statement<'_>>
     ensures { option_map meant result ≡ statement_of line.now }
 {
-    if has_empty_word(line) {
-        return None;
-    }
     let (word, rest) = cut_word(line);
     verb_of(word)?.with_words(rest)
 }
@@ -168,19 +178,43 @@ pub fn statement_of(line: &[u8]) -> Option<Statement<'_>>
 fn verb_of(word: &[u8]) -> Option<Verb>
     ensures { option_map form result ≡ form_of word.now }
 {
-    verb_in(&VERBS, word)
+    let verb = verb_at(word)?;
+    if is_word(word, verb.word()) {
+        Some(verb)
+    } else {
+        None
+    }
 }
 
-// What a table says of a word.
-fn verb_in(table: &[Verb], word: &[u8]) -> Option<Verb>
-    ensures { option_map form result ≡ lookup (is_same word.now) (map row table.now) }
+// The one verb whose first word it may be.
+fn verb_at(word: &[u8]) -> Option<Verb>
+    ensures { result ≡ verb_at word.now }
 {
-    for verb in table {
-        if is_word(word, verb.word()) {
-            return Some(*verb);
-        }
-    }
-    None
+    verb_in(&VERBS, usize::from(VERB_AT[place_of(word)]))
+}
+
+fn verb_in(table: &[Verb], i: usize) -> Option<Verb>
+    ensures { result ≡ slice_get table.now i }
+{
+    table.get(i).copied()
+}
+
+// A word's place, by its length, its first byte and its middle one.
+fn place_of(word: &[u8]) -> usize
+    ensures value { result ≡ place word.now }
+    ensures within { result < 128 }
+{
+    let first = byte_at(word, 0);
+    let middle = byte_at(word, word.len().saturating_sub(1) / 2);
+    (5 * (word.len() % 16) + first + 8 * middle) % PLACES
+}
+
+/// A byte of a word, or 0 behind its end.
+pub fn byte_at(word: &[u8], i: usize) -> usize
+    ensures value { result ≡ byte_at word.now i }
+    ensures within { result < 256 }
+{
+    usize::from(word.get(i).copied().unwrap_or(0))
 }
 
 impl Verb {
@@ -231,7 +265,7 @@ impl Verb {
     // What it says with what stands behind it.
     fn with_words<'a>(self, rest: Option<&'a [u8]>) -> Option<Statement<'a>>
         ensures { option_map meant result
-            ≡ said (form self) (words_behind (option_copied rest.entry)) }
+            ≡ said_by_words (form self) (words_behind (option_copied rest.entry)) }
     {
         match self {
             Verb::Declare(kind) => {
@@ -247,7 +281,7 @@ impl Verb {
                 Some(Statement::Thread { name, prio })
             }
             Verb::End => no_word(rest, Statement::End),
-            Verb::Schedule => Some(Statement::Schedule { names: rest? }),
+            Verb::Schedule => some_words(rest),
             Verb::Done => no_word(rest, Statement::Done),
             Verb::Take(kind, mode) => {
                 let lock = one_word(rest)?;
@@ -296,9 +330,10 @@ impl Verb {
 }
 
 // A statement that has no word behind its first one.
+#[tactic(auto, unfolding(crate::specs::Statements::said_by_words))]
 fn no_word<'a>(rest: Option<&[u8]>, statement: Statement<'a>) -> Option<Statement<'a>>
     ensures { option_map meant result
-        ≡ said (Alone (meant statement.entry)) (words_behind (option_copied rest.entry)) }
+        ≡ said_by_words (Alone (meant statement.entry)) (words_behind (option_copied rest.entry)) }
 {
     match rest {
         None => Some(statement),
@@ -307,12 +342,16 @@ fn no_word<'a>(rest: Option<&[u8]>, statement: Statement<'a>) -> Option<Statemen
 }
 
 // The one word behind the first.
+#[tactic(auto, unfolding(crate::specs::Statements::said_by_words))]
 fn one_word(rest: Option<&[u8]>) -> Option<&[u8]>
     ensures { (f : List ℕ → script.Statement) →
         option_map (λ w. f w.now) result
-        ≡ said (WithOne f) (words_behind (option_copied rest.entry)) }
+        ≡ said_by_words (WithOne f) (words_behind (option_copied rest.entry)) }
 {
     let (word, behind) = cut_word(rest?);
+    if word.is_empty() {
+        return None;
+    }
     match behind {
         None => Some(word),
         Some(_) => None,
@@ -320,23 +359,44 @@ fn one_word(rest: Option<&[u8]>) -> Option<&[u8]>
 }
 
 // The two words behind the first.
+#[tactic(auto, unfolding(crate::specs::Statements::said_by_words))]
 fn two_words(rest: Option<&[u8]>) -> Option<(&[u8], &[u8])>
     ensures { (f : List ℕ → List ℕ → script.Statement) →
         option_map (λ p. f p.0.now p.1.now) result
-        ≡ said (WithTwo f) (words_behind (option_copied rest.entry)) }
+        ≡ said_by_words (WithTwo f) (words_behind (option_copied rest.entry)) }
 {
     let (first, behind) = cut_word(rest?);
+    if first.is_empty() {
+        return None;
+    }
     let second = one_word(behind)?;
     Some((first, second))
 }
 
 // The three words behind the first.
+#[tactic(auto, unfolding(crate::specs::Statements::said_by_words))]
 fn three_words(rest: Option<&[u8]>) -> Option<(&[u8], &[u8], &[u8])>
     ensures { (f : List ℕ → List ℕ → List ℕ → script.Statement) →
         option_map (λ p. f p.0.now p.1.now p.2.now) result
-        ≡ said (WithThree f) (words_behind (option_copied rest.entry)) }
+        ≡ said_by_words (WithThree f) (words_behind (option_copied rest.entry)) }
 {
     let (first, behind) = cut_word(rest?);
+    if first.is_empty() {
+        return None;
+    }
     let (second, third) = two_words(behind)?;
     Some((first, second, third))
+}
+
+// The words behind `schedule`, one or more.
+#[tactic(auto, unfolding(crate::specs::Statements::said_by_words))]
+fn some_words(rest: Option<&[u8]>) -> Option<Statement<'_>>
+    ensures { option_map meant result
+        ≡ said_by_words (WithSome Schedules) (words_behind (option_copied rest.entry)) }
+{
+    let names = rest?;
+    if has_empty_word(names) {
+        return None;
+    }
+    Some(Statement::Schedule { names })
 }

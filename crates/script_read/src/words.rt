@@ -21,15 +21,15 @@ pub fn cut_word(text: &[u8]) -> (&[u8], Option<&[u8]>)
 pub fn has_empty_word(text: &[u8]) -> bool
     ensures { result ≡ list_any is_empty (words_of text.now) }
 {
-    let mut rest = Some(text);
-    while let Some(text) = rest {
-        let (word, behind) = cut_word(text);
-        if word.is_empty() {
+    // Whether a word begins here.
+    let mut begins = true;
+    for b in text {
+        if *b == b' ' && begins {
             return true;
         }
-        rest = behind;
+        begins = *b == b' ';
     }
-    false
+    begins
 }
 
 /// Whether a word is that text.

@@ -25,30 +25,17 @@ use crate::reader::Reader;
 use crate::reader::held::{is_last, mode_of};
 use crate::reader::open_thread::OpenThread;
 use crate::statement::{Operation, Statement, statement_of};
-use crate::words::cut_word;
 use lock_model::{
     ChanDecl, ChanNo, Declared, Held, Kind, LockNo, Mode, Name, Op, Prio, ThreadNo, limits,
 };
 
-/// The stage of a line's bytes.
-pub fn test_bytes(line: &[u8]) -> Result<(), Code>
+/// The stage of a line's bytes, of which is known whether each may stand in a script.
+pub fn test_bytes(line: &[u8], printable: bool) -> Result<(), Code>
+    requires { printable ≡ list_all is_printable line.now }
     ensures { Finds (least_code (byte_tests line.now)) result }
 {
     test(Code::LENGTH, line.len() <= limits::LINE_BYTES)?;
-    test(Code::BYTE, are_printable(line))
-}
-
-fn are_printable(bytes: &[u8]) -> bool
-    ensures { result ≡ list_all is_printable bytes.now }
-{
-    bytes.iter().all(|b| is_printable(*b))
-}
-
-// From a space to `~`.
-fn is_printable(b: u8) -> bool
-    ensures { result ≡ is_printable b }
-{
-    b == b' ' || b.is_ascii_graphic()
+    test(Code::BYTE, printable)
 }
 
 /// Whether a line says something: it isn't empty and no comment.
@@ -130,27 +117,6 @@ impl Reader {
         let base = priority_of(prio).ok_or(Code::NUMBER)?;
         test(Code::LIMIT, self.threads.len() < limits::THREADS)?;
         Ok((name, base))
-    }
-
-    /// What a schedule names. The whole line has the smallest code of all its names.
-    pub fn test_schedule(&self, names: &[u8]) -> Result<(), Code>
-        ensures { Finds (name_fault (known self.now) (Schedules (words_of names.now))) result }
-    {
-        let mut are_names = true;
-        let mut are_threads = true;
-        // How many more there is room for, if there is.
-        let mut room = limits::SCHEDULE.checked_sub(self.schedule.len());
-        let mut rest = Some(names);
-        while let Some(text) = rest {
-            let (name, behind) = cut_word(text);
-            are_names = are_names && spelled(name).is_ok();
-            are_threads = are_threads && self.thread_named(name).is_ok();
-            room = room.and_then(|n| n.checked_sub(1));
-            rest = behind;
-        }
-        test(Code::SPELLING, are_names)?;
-        test(Code::UNDECLARED, are_threads)?;
-        test(Code::LIMIT, room.is_some())
     }
 
     /// The operation that the words say, where it fits what the open thread holds.
@@ -351,13 +317,6 @@ impl Reader {
         test(Code::LIMIT, self.operations < limits::OPERATIONS)
     }
 
-    // The lock that a word names.
-    fn lock_named(&self, word: &[u8]) -> Result<LockNo, Code>
-        ensures { result ≡ named word.now (lock_named (known self.now) word.now) }
-    {
-        self.lock_of(&spelled(word)?)
-    }
-
     // The lock of a name.
     fn lock_of(&self, name: &Name) -> Result<LockNo, Code>
         ensures { result ≡ ok_or (option_and_then lock_of (declared_as (known self.now) name.now))
@@ -366,26 +325,6 @@ impl Reader {
         match self.names.get(name) {
             Some(Declared::Lock(l)) => Ok(*l),
             Some(Declared::Chan(_) | Declared::Thread(_)) | None => Err(Code::UNDECLARED),
-        }
-    }
-
-    // The condition variable or channel that a word names.
-    fn chan_named(&self, word: &[u8]) -> Result<ChanNo, Code>
-        ensures { result ≡ named word.now (chan_named (known self.now) word.now) }
-    {
-        match self.names.get(&spelled(word)?) {
-            Some(Declared::Chan(c)) => Ok(*c),
-            Some(Declared::Lock(_) | Declared::Thread(_)) | None => Err(Code::UNDECLARED),
-        }
-    }
-
-    /// The thread that a word names.
-    pub fn thread_named(&self, word: &[u8]) -> Result<ThreadNo, Code>
-        ensures { result ≡ named word.now (thread_named (known self.now) word.now) }
-    {
-        match self.names.get(&spelled(word)?) {
-            Some(Declared::Thread(t)) => Ok(*t),
-            Some(Declared::Lock(_) | Declared::Chan(_)) | None => Err(Code::UNDECLARED),
         }
     }
 
@@ -432,8 +371,8 @@ impl Reader {
     }
 }
 
-// The name that a word spells.
-fn spelled(word: &[u8]) -> Result<Name, Code>
+/// The name that a word spells.
+pub fn spelled(word: &[u8]) -> Result<Name, Code>
     ensures { result ≡ (if is_name word.now then Ok word.now else Err (record { 0 = 3 })) }
 {
     Name::of(word).ok_or(Code::SPELLING)

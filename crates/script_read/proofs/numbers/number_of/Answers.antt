@@ -5,17 +5,11 @@ use Rattle.script_read.proofs.Digits.{value-take, value-next, too_large, short_n
 use Rattle.script_read.proofs.numbers.number_of.Goals.{then-word-gt1, else-word-gt1}
 use Rattle.script_read.proofs.numbers.number_of.Goals as goal
 
-pub returns-in_err-checked_mul : goal.returns-in_err-checked_mul
-returns-in_err-checked_mul c =
-    let w = c.args.word.now in
-    let i = c.loop-b.b-index in
-    c.from_residual.ensures ∙ sym (too_large w (omega (arith, value-take w (i + 1), value-next w i c.loop-b-test.true, c.in_err-checked_mul.ensures)))
-
 pub returns-in_err-number : goal.returns-in_err-number
 returns-in_err-number c =
     let w = c.args.word.now in
     let i = c.loop-b.b-index in
-    c.from_residual-in_err-number.ensures ∙ sym (too_large w (omega (arith, value-take w (i + 1), value-next w i c.loop-b-test.true, c.in_ok-checked_mul.ensures, c.in_err-number.ensures)))
+    c.from_residual.ensures ∙ sym (too_large w (omega (arith, value-take w (i + 1), value-next w i c.loop-b-test.true, c.in_err-number.ensures)))
 
 pub returns : goal.returns
 returns c =
