@@ -29,13 +29,13 @@ use Rattle.lock_floor.proofs.Resting.{gain_event, rest_seeing, rest_gained, rest
 use Rattle.adaptive_mutex.specs.Mutexes.{IsMutex, MayAcquire, as_held, after_looks, WasBusy}
 use Rattle.adaptive_mutex.specs.Waiting.{with_looks, HasLooked, MayGain, LooksThenGains}
 use Rattle.adaptive_mutex.proofs.Words.{mutex_is_held}
-use Rattle.adaptive_mutex.proofs.Looks.{each_append, uncounted, look_knows, no_look, looks_rest}
+use Rattle.adaptive_mutex.proofs.Looks.{each_append, uncounted, look_knows, no_look, looks_still, rest_looks, looks_rest}
 
 -- 1. The gain
 
 pub acquires : (floor : Description) (l : ℕ) (v : Knowledge) → IsAtRest floor v → MayAcquire floor l v
     → MayGain floor l v
-acquires floor l v r m = record { unheld = m.unheld; few = m.few; wants_nothing = r.wants_nothing; takes_nothing = r.takes_nothing; no_round = r.no_round; going = r.going }
+acquires floor l v r m = record { unheld = m.unheld; few = m.few; wants_nothing = r.wants_nothing; takes_nothing = r.takes_nothing; looks = rest_looks floor v r }
 
 -- a gain without a look before
 pub gains_at_once : (floor : Description) (l : LockNo) (v w : Knowledge) → w ≡ seeing w.seen (gained v (as_held l true)) → Makes floor (steps.Gains v.thread l.0 Excl true ∷ []) v w → LooksThenGains floor (as_held l true) 0 v w
@@ -48,8 +48,7 @@ may_gain_on floor l n u v m x = subst (MayGain floor l) (sym x.knows) record {
   few = m.few;
   wants_nothing = m.wants_nothing;
   takes_nothing = m.takes_nothing;
-  no_round = m.no_round;
-  going = m.going;
+  looks = looks_still u x.all x.last x.seen v.seen m.looks;
 }
 
 plainly : (k : Kind) → k ≡ Mtx → is_plain k (word_of 0) Excl ≡ true
@@ -58,7 +57,7 @@ plainly k e = ap (λ (x : Kind). is_plain x (word_of 0) Excl) e
 pub may_gain_free : (floor : Description) (l : ℕ) (by_try : Bool) (v : Knowledge) → IsMutex floor l → MayGain floor l v → MayMake floor v (λ s. s.word l ≡ word_of 0) (steps.Gains v.thread l Excl by_try ∷ [])
 may_gain_free floor l by_try v mutex m =
     may_gain floor v l Excl by_try (word_of 0) mutex.lock refl (plainly ((config_in floor).kind l) mutex.kind) m.unheld (inr m.wants_nothing)
-    (subst (λ r. FitsRound r l by_try) (sym m.no_round) tt) (λ k e. absurd (let z : None ≡ Some k = sym m.takes_nothing ∙ e in cc)) m.going
+    (subst (λ r. FitsRound r l by_try) (sym m.looks.no_round) tt) (λ k e. absurd (let z : None ≡ Some k = sym m.takes_nothing ∙ e in cc)) m.looks.runs m.looks.nothing_out m.looks.going
 
 -- 2. Its entry
 
@@ -99,7 +98,7 @@ module _ (floor : Description) (v : Knowledge) (l : LockNo) (by_try : Bool) (r :
   may_note_gain =
       may_stamp floor w (gain_event h) asks tt
       (λ e. absurd (let z : false ≡ true = sym r.no_wait ∙ e in cc))
-      r.going r.takes_nothing
+      r.runs r.going r.takes_nothing
 
 -- 3. Both
 
@@ -221,7 +220,7 @@ module _ (floor : Description) (l : LockNo) (seen : ℕ) (old v : Knowledge) (r 
       subst (λ (k : Knowledge). MayMake floor k (λ s. Unit {0}) (Stamps k.thread note ∷ [])) (sym saw)
       (may_stamp floor q note asks_busy (subst (λ o. NotesInRound o note) (sym r.no_round) tt)
       (λ e. absurd (let z : false ≡ true = sym r.no_wait ∙ e in cc))
-      r.going r.takes_nothing)
+      r.runs r.going r.takes_nothing)
 
   pub room_for_busy : 1 ≤ v.spare
   room_for_busy = subst (λ (k : Knowledge). 1 ≤ k.spare) (sym saw) m.room

@@ -10,6 +10,7 @@ unfolding sections_in
 ready_first f t = record {
   own = record { table = refl; description = refl; unfinished = refl };
   rest = record {
+    runs = refl;
     nothing_out = refl;
     no_walk = refl;
     unmarked = refl;

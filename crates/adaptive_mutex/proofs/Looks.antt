@@ -1,16 +1,17 @@
 -- Looks at a lock outside acquiring rounds: they may always be made, and change only what the thread saw last.
-use Rattle.std.proofs.Common.{◌≡◌, ℕ, suc, ◌+◌, ◌<◌, false, true, cond, Option, Some, None, List, [], ◌∷◌, ◌++◌, length, replicate, refl, sym, ap, ◌∙◌, subst}
+use Rattle.std.proofs.Common.{◌≡◌, ℕ, suc, ◌+◌, ◌<◌, false, true, not, ◌&&◌, cond, Option, Some, None, List, [], ◌∷◌, ◌++◌, length, replicate, refl, sym, ap, ◌∙◌, subst}
 use Rattle.std.proofs.lemmas.List.{replicate-append-replicate}
 use Rattle.lock_model.specs.Words.{Word}
 use Rattle.lock_state.specs.State.{Look}
-use Rattle.lock_state.specs.Steps.{Step, Looks, seeks}
+use Rattle.lock_state.specs.Steps.{Step, Looks, chain_of, seeks}
+use Rattle.floor_table.specs.Descriptions.{config_in}
 use Rattle.floor_table.specs.declared.description.Description.{Description}
 use Rattle.floor_table.specs.Steps.{Makes, MakesEach, MayMake}
 use Rattle.floor_table.specs.Views.{Knowledge, seeing}
-use Rattle.lock_floor.specs.Passes.{IsGoing, IsAtRest}
-use Rattle.lock_floor.specs.Views.{counts, looked}
+use Rattle.lock_floor.specs.Passes.{IsAtRest}
+use Rattle.lock_floor.specs.Views.{has_item, counts, looked}
 use Rattle.lock_floor.proofs.May.{may_look}
-use Rattle.adaptive_mutex.specs.Waiting.{with_looks, HasLooked}
+use Rattle.adaptive_mutex.specs.Waiting.{CanLook, with_looks, HasLooked}
 
 -- 1. Steps one behind the other
 
@@ -22,13 +23,7 @@ each_append floor (x ∷ xs) ys u v w m k = (m.0, m.1, each_append floor xs ys m
 
 module _ (floor : Description) (v : Knowledge) (l : ℕ) (no_round : v.share.doing.round ≡ None) where
   pub uncounted : counts v l ≡ false
-  uncounted = ap (seeks l) no_round
-
-  pub may_look_on : l < length floor.locks → IsGoing v → MayMake floor v (λ s. Unit {0}) (Looks v.thread l (counts v l) ∷ [])
-  may_look_on low going =
-      may_look floor v l low going
-      (λ e. absurd (let z : false ≡ true = sym uncounted ∙ e in cc))
-      (λ ne. absurd (ne no_round))
+  uncounted = ap (λ r. seeks l r && not (has_item v (chain_of v.description.chains (config_in v.description) l))) no_round
 
   pub look_knows : (word : Word) → looked v l word ≡ with_looks v (suc v.share.doing.looks_in_all) (Some (record { lock = l; word = word })) (Some (record { lock = l; word = word }))
   look_knows word =
@@ -52,6 +47,12 @@ module _ (floor : Description) (v : Knowledge) (l : ℕ) (no_round : v.share.doi
     knows = is ∙ ap (seeing new.seen) (look_knows word);
     steps = (new, subst (λ b. Makes floor (Looks v.thread l b ∷ []) v new) uncounted m, refl);
   }
+
+pub may_look_on : (floor : Description) (v : Knowledge) (l : ℕ) → v.description ≡ floor → l < length floor.locks → CanLook v → MayMake floor v (λ s. Unit {0}) (Looks v.thread l (counts v l) ∷ [])
+may_look_on floor v l mine low k =
+    may_look floor v l mine low k.runs k.nothing_out k.going
+    (λ e. absurd (let z : false ≡ true = sym (uncounted floor v l k.no_round) ∙ e in cc))
+    (λ ne. absurd (ne k.no_round))
 
 -- 3. Several
 
@@ -79,8 +80,12 @@ look_more floor l n m u v w x y =
 pub still_no_round : (floor : Description) (l n : ℕ) (u v : Knowledge) → u.share.doing.round ≡ None → HasLooked floor l n u v → v.share.doing.round ≡ None
 still_no_round floor l n u v no_round x = ap (λ (k : Knowledge). k.share.doing.round) x.knows ∙ no_round
 
-pub still_going : (floor : Description) (l n : ℕ) (u v : Knowledge) → IsGoing u → HasLooked floor l n u v → IsGoing v
-still_going floor l n u v going x = subst IsGoing (sym x.knows) going
+-- looks leave a thread that can look so
+pub looks_still : (v : Knowledge) (all : ℕ) (last seen : Option Look) (steps : List Step) → CanLook v → CanLook (seeing steps (with_looks v all last seen))
+looks_still v all last seen steps k = record { runs = k.runs; nothing_out = k.nothing_out; no_round = k.no_round; going = k.going }
+
+pub can_look_on : (floor : Description) (l n : ℕ) (u v : Knowledge) → CanLook u → HasLooked floor l n u v → CanLook v
+can_look_on floor l n u v k x = subst CanLook (sym x.knows) (looks_still u x.all x.last x.seen v.seen k)
 
 pub look_again : (floor : Description) (l : ℕ) (u v w : Knowledge) (word : Word) → u.share.doing.round ≡ None → (n : ℕ) × HasLooked floor l n u v → w ≡ seeing w.seen (looked v l word) → Makes floor (Looks v.thread l (counts v l) ∷ []) v w → (n : ℕ) × HasLooked floor l n u w
 look_again floor l u v w word no_round x view step =
@@ -89,10 +94,14 @@ look_again floor l u v w word no_round x view step =
 pub look_on : (floor : Description) (l : ℕ) (u v w : Knowledge) → (n : ℕ) × HasLooked floor l n u v → (n : ℕ) × HasLooked floor l n v w → (n : ℕ) × HasLooked floor l n u w
 look_on floor l u v w x y = (x.0 + y.0, look_more floor l x.0 y.0 u v w x.1 y.1)
 
--- 4. A thread at rest stays so, whatever steps its seat has seen
+-- 4. A thread at rest can look, and stays at rest, whatever steps its seat has seen
+
+pub rest_looks : (floor : Description) (v : Knowledge) → IsAtRest floor v → CanLook v
+rest_looks floor v r = record { runs = r.runs; nothing_out = r.nothing_out; no_round = r.no_round; going = r.going }
 
 pub looks_rest : (floor : Description) (v : Knowledge) (all : ℕ) (last seen : Option Look) (steps : List Step) → IsAtRest floor v → IsAtRest floor (seeing steps (with_looks v all last seen))
 looks_rest floor v all last seen steps r = record {
+  runs = r.runs;
   nothing_out = r.nothing_out;
   no_walk = r.no_walk;
   unmarked = r.unmarked;

@@ -21,7 +21,7 @@ use Rattle.lock_floor.proofs.Resting.{IsLeaving, leaves, rest_left}
 use Rattle.lock_words.specs.Views.{IsHeldIn}
 use Rattle.adaptive_mutex.specs.Mutexes.{MayRelease, unlocks}
 use Rattle.adaptive_mutex.specs.Waiting.{with_looks, HasLooked, MayPutDown, LooksThenPutsDown}
-use Rattle.adaptive_mutex.proofs.Looks.{each_append}
+use Rattle.adaptive_mutex.proofs.Looks.{each_append, looks_still}
 
 -- 1. The entry
 
@@ -33,12 +33,12 @@ module _ (floor : Description) (v : Knowledge) (l : LockNo) (r : IsAtRest floor 
   may_note_release =
       may_stamp floor v (Unlocked l Excl) asks (subst (λ o. NotesInRound o (Unlocked l Excl)) (sym r.no_round) tt)
       (λ e. absurd (let z : false ≡ true = sym r.no_wait ∙ e in cc))
-      r.going r.takes_nothing
+      r.runs r.going r.takes_nothing
 
   pub may_put_down : (ticket : ℕ) (w : Knowledge) → w ≡ seeing w.seen (stamped (config_in floor) v (entry_by v.thread ticket (Unlocked l Excl))) → MayPutDown floor l.0 w
   may_put_down ticket w is =
       let x = leaves floor v l Excl ticket r held in
-      subst (MayPutDown floor l.0) (sym is) record { held = held; closed = x.closed; begun = r.begun l.0 (λ q. absurd (let z : Holds Excl ≡ NotHeld = sym held ∙ q in cc)); no_round = r.no_round; going = r.going }
+      subst (MayPutDown floor l.0) (sym is) record { held = held; closed = x.closed; begun = r.begun l.0 (λ q. absurd (let z : Holds Excl ≡ NotHeld = sym held ∙ q in cc)); looks = record { runs = r.runs; nothing_out = r.nothing_out; no_round = r.no_round; going = r.going } }
 
 -- the thread's number is one of the floor's, which are few
 pub few_threads : (floor : Description) (l : LockNo) (v w : Knowledge) (ticket : ℕ) → w ≡ seeing w.seen (stamped (config_in floor) v (entry_by v.thread ticket (Unlocked l Excl))) → Makes floor (Stamps v.thread (Unlocked l Excl) ∷ []) v w → w.thread ≤ 63
@@ -51,8 +51,7 @@ may_put_on floor l n u v m x = subst (MayPutDown floor l) (sym x.knows) record {
   held = m.held;
   closed = m.closed;
   begun = m.begun;
-  no_round = m.no_round;
-  going = m.going;
+  looks = looks_still u x.all x.last x.seen v.seen m.looks;
 }
 
 -- the word of a mutex that the thread holds
@@ -63,7 +62,7 @@ pub own_is_held : (own t : ℕ) → word_of own ≡ gained (word_of 0) t Excl �
 own_is_held own t is = subst (λ (w : Word). IsHeldIn w.holder Excl) (sym is) tt
 
 pub may_drop_own : (floor : Description) (l own t : ℕ) (v : Knowledge) → l < length floor.locks → word_of own ≡ gained (word_of 0) t Excl → MayPutDown floor l v → MayMake floor v (λ s. s.word l ≡ word_of own) (Drops v.thread l Excl ∷ [])
-may_drop_own floor l own t v low is m = may_drop floor v l Excl (word_of own) low m.held (own_drops own t is) m.closed m.begun m.going
+may_drop_own floor l own t v low is m = may_drop floor v l Excl (word_of own) low m.held (own_drops own t is) m.closed m.begun m.looks.runs m.looks.going
 
 -- 3. Both
 
@@ -85,6 +84,7 @@ module _ (floor : Description) (l : LockNo) (n ticket : ℕ) (old v new : Knowle
       let x = leaves floor old l Excl ticket r m.held in
       record {
         about = record {
+          runs = x.about.runs;
           nothing_out = x.about.nothing_out;
           no_walk = x.about.no_walk;
           unmarked = x.about.unmarked;

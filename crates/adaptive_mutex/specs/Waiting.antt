@@ -14,9 +14,16 @@ use Rattle.floor_table.specs.Descriptions.{config_in}
 use Rattle.floor_table.specs.declared.description.Description.{Description}
 use Rattle.floor_table.specs.Shares.{Doing, is_among}
 use Rattle.floor_table.specs.Steps.{Makes, MakesEach}
-use Rattle.floor_table.specs.Views.{Knowledge, seeing}
+use Rattle.floor_table.specs.Views.{Runs, Knowledge, seeing}
 use Rattle.lock_floor.specs.Passes.{IsGoing}
 use Rattle.lock_floor.specs.Views.{gained, put_down}
+
+-- the thread can look at locks outside acquiring rounds: it runs and is awake, has nothing out and is in no round
+pub record CanLook (v : Knowledge) : Type 0 where
+  pub runs : v.pose ≡ Runs
+  pub nothing_out : v.out ≡ []
+  pub no_round : v.share.doing.round ≡ None
+  pub going : IsGoing v
 
 -- with so many looks in all, and with others seen last
 abbrev pub with_looks : Knowledge → ℕ → Option Look → Option Look → Knowledge
@@ -36,15 +43,14 @@ pub record HasLooked (floor : Description) (l n : ℕ) (old new : Knowledge) : T
   pub knows : new ≡ seeing new.seen (with_looks old all last seen)
   pub steps : MakesEach floor (replicate n (Looks old.thread l false ∷ [])) old new
 
--- the thread may gain the lock where its word is free: it is awake, doesn't hold it, has room for it, wants and takes
--- none and is in no round
+-- the thread may gain the lock where its word is free: it can look, doesn't hold it, has room for it, and wants and
+-- takes none
 pub record MayGain (floor : Description) (l : ℕ) (v : Knowledge) : Type 0 where
   pub unheld : hold_in v.share.held l ≡ NotHeld
   pub few : length v.share.held < most_held
   pub wants_nothing : v.share.doing.wanted ≡ None
   pub takes_nothing : v.share.doing.taking ≡ None
-  pub no_round : v.share.doing.round ≡ None
-  pub going : IsGoing v
+  pub looks : CanLook v
 
 -- it gained the lock behind so many looks
 pub record LooksThenGains (floor : Description) (h : Held) (n : ℕ) (old new : Knowledge) :
@@ -54,14 +60,12 @@ pub record LooksThenGains (floor : Description) (h : Held) (n : ℕ) (old new : 
   pub view : new ≡ seeing new.seen (gained between h)
   pub step : Makes floor (steps.Gains old.thread h.l.0 h.mode h.by_try ∷ []) between new
 
--- the thread may put the lock down: it is awake and holds it, its section of it began and is closed, and it is in no
--- round
+-- the thread may put the lock down: it can look and holds it, and its section of it began and is closed
 pub record MayPutDown (floor : Description) (l : ℕ) (v : Knowledge) : Type 0 where
   pub held : hold_in v.share.held l ≡ Holds Excl
   pub closed : open_in (config_in floor) v.share.log v.thread l ≡ NotHeld
   pub begun : is_among l v.share.begun ≡ true
-  pub no_round : v.share.doing.round ≡ None
-  pub going : IsGoing v
+  pub looks : CanLook v
 
 -- it put the lock down behind so many looks
 pub record LooksThenPutsDown (floor : Description) (l n : ℕ) (old new : Knowledge) : Type 0 where

@@ -1,12 +1,12 @@
 //! The calls of mutexes.
-ghost use Rattle.std.specs.Prelude.{ℕ, ◌≡◌, ◌<◌, ◌≤◌, ◌++◌, [], ◌∷◌, true, false, None, length, IsOk, IfOk, IfErr};
+ghost use Rattle.std.specs.Prelude.{ℕ, ◌≡◌, ◌<◌, ◌≤◌, ◌++◌, [], ◌∷◌, true, false, length, IsOk, IfOk, IfErr};
 ghost use Rattle.lock_model.specs.Operations.{without_lock};
 ghost use Rattle.lock_model.specs.declared.event.Event.TheVariants as event;
 ghost use Rattle.lock_model.specs.declared.plan.Mode.TheVariants.{Excl};
 ghost use Rattle.floor_table.specs.Steps.{MakesEach};
-ghost use Rattle.lock_floor.specs.Passes.{IsOf, IsGoing, IsReady, MakesEntry};
+ghost use Rattle.lock_floor.specs.Passes.{IsOf, IsReady, MakesEntry};
 ghost use Rattle.adaptive_mutex.specs.Mutexes.{IsMutex, MayAcquire, MayRelease, as_held, locks, tries, unlocks, WasBusy};
-ghost use Rattle.adaptive_mutex.specs.Waiting.{HasLooked, MayGain, LooksThenGains, MayPutDown, LooksThenPutsDown};
+ghost use Rattle.adaptive_mutex.specs.Waiting.{CanLook, HasLooked, MayGain, LooksThenGains, MayPutDown, LooksThenPutsDown};
 
 use crossbeam_utils::Backoff;
 use lock_floor::{Floor, Pass};
@@ -125,8 +125,7 @@ fn gain<R: Wait>(floor: &Floor, rt: &R, pass: &mut Pass, l: LockNo)
 fn watch<R: Wait>(floor: &Floor, rt: &R, pass: &mut Pass, l: LockNo, backoff: &Backoff)
     requires own { IsOf floor.now pass.old }
     requires lock { l.0 < length floor.now.description.locks }
-    requires no_round { pass.old.view.share.doing.round ≡ None }
-    requires going { IsGoing pass.old.view }
+    requires looks { CanLook pass.old.view }
     ensures own { IsOf floor.now pass.new }
     ensures looked { (n : ℕ) × HasLooked floor.now.description l.0 n pass.old.view pass.new.view }
 {

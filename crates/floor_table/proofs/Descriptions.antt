@@ -2,7 +2,9 @@
 use Rattle.std.proofs.Common.{◌≡◌, ℕ, zero, suc, ◌*◌, ◌<◌, ◌≤◌, List, [], ◌∷◌, length, get_or, map, sum, slice_get, refl, ap, arith}
 use Rattle.std.specs.Prelude.{unwrap_or}
 use Rattle.std.proofs.lemmas.List.{length-map}
+use Rattle.std.proofs.lemmas.List.Elements.{All-map}
 use Rattle.std.proofs.lemmas.List.Sums.{sum_by-cons}
+use Rattle.lock_model.specs.Limits.{most_classes}
 use Rattle.lock_model.specs.Operations.{IsProper}
 use Rattle.lock_model.specs.Plans.{config_of, operations_of}
 use Rattle.lock_model.specs.declared.numbers.LockNo.{LockNo}
@@ -68,6 +70,7 @@ pub is_sized : (plan : Plan) (chains : ℕ) → IsProper plan → 1 ≤ chains �
 is_sized plan chains proper some few = record {
   threads = omega (arith, length-map plan.threads thread_part, proper.threads);
   locks = omega (arith, length-map plan.locks lock_part, proper.locks);
+  classes = All-map (λ (x : LockPart). x.class.0 < most_classes) lock_part plan.locks (λ i d low. omega (arith, proper.lock_classes i d low, proper.classes));
   keys = omega (arith, few_keys plan, proper.operations);
   rising = keys_rise plan.threads;
   room = omega (arith, rooms plan.threads, proper.operations);

@@ -1,5 +1,5 @@
 -- Items and their places: no two items have one place, and a change of one latch takes its item out or home.
-use Rattle.std.proofs.Common.{◌≡◌, ℕ, zero, suc, ◌+◌, ◌<◌, Bool, true, false, ◌&&◌, nat_lt, List, length, get_or, Option, Some, None, refl, sym, ap, ◌∙◌, subst, inl, inr, arith}
+use Rattle.std.proofs.Common.{◌≡◌, ◌⊎◌, ℕ, zero, suc, ◌+◌, ◌<◌, ◌≤◌, Bool, true, false, ◌&&◌, nat_lt, List, length, get_or, Option, Some, None, refl, sym, ap, ◌∙◌, subst, inl, inr, arith}
 use Rattle.std.specs.Prelude.{◌==◌, option_map}
 use Rattle.std.specs.List.{position}
 use Rattle.std.proofs.lemmas.Bool.{cases_eq, ltb-true, eqb-true}
@@ -13,7 +13,7 @@ use Rattle.lock_laws.proofs.Kit.{put_same, put_other}
 use Rattle.lock_laws.proofs.Items.{with_then, at_itself, beside}
 use Rattle.floor_table.specs.declared.description.Description.{Description}
 use Rattle.floor_table.specs.declared.slot.Slot.{Slot}
-use Rattle.floor_table.specs.Places.{slots_for, is_cell, slot_of, taker}
+use Rattle.floor_table.specs.Places.{first_cell, first_turnstile_chain, first_sleep_chain, graph_place, slots_for, is_cell, slot_of, taker}
 use Rattle.floor_table.specs.Shelves.{found, Shelves}
 use Rattle.floor_table.specs.Represents.{taken_from, RepresentsLatches, RepresentsObjects, IsOf, objects_in}
 use Rattle.floor_table.specs.Steps.{HasJust}
@@ -37,37 +37,85 @@ pub record_place : (floor : Description) (t j : ℕ) → slot_of floor (RecordOf
     → (t < length floor.threads) × (t ≡ j)
 record_place floor t j e = let f = cond_some (nat_lt t (length floor.threads)) t j e in (ltb-true t (length floor.threads) f.0, f.1)
 
-pub cell_place : (floor : Description) (l key j : ℕ) (d : ℕ × ℕ) → slot_of floor (CellOf l key) ≡ Some j → (i : ℕ) × (i < length floor.keys) × (length floor.threads + i ≡ j) × (get_or floor.keys i d ≡ (l, key))
+pub cell_place : (floor : Description) (l key j : ℕ) (d : ℕ × ℕ) → slot_of floor (CellOf l key) ≡ Some j → (i : ℕ) × (i < length floor.keys) × (first_cell floor + i ≡ j) × (get_or floor.keys i d ≡ (l, key))
 cell_place floor l key j d e =
-    let m = mapped (λ i. length floor.threads + i) (position (is_cell l key) floor.keys) j e in
+    let m = mapped (λ i. first_cell floor + i) (position (is_cell l key) floor.keys) j e in
     let p = position-Some (is_cell l key) floor.keys m.0 d m.1 in
     (m.0, p.0, m.2, its_cell l key (get_or floor.keys m.0 d) p.1)
 
+pub turnstile_chain_place : (floor : Description) (k j : ℕ) → slot_of floor (TurnstileChain k) ≡ Some j → (k < floor.chains) × (first_turnstile_chain floor + k ≡ j)
+turnstile_chain_place floor k j e = let f = cond_some (nat_lt k floor.chains) (first_turnstile_chain floor + k) j e in (ltb-true k floor.chains f.0, f.1)
+
+pub sleep_chain_place : (floor : Description) (k j : ℕ) → slot_of floor (SleepChain k) ≡ Some j → (k < floor.chains) × (first_sleep_chain floor + k ≡ j)
+sleep_chain_place floor k j e = let f = cond_some (nat_lt k floor.chains) (first_sleep_chain floor + k) j e in (ltb-true k floor.chains f.0, f.1)
+
+-- each sort of item has its part of the places
+abbrev first_of : Description → Item → ℕ
+first_of floor (TurnstileChain k) = first_turnstile_chain floor
+first_of floor (SleepChain k) = first_sleep_chain floor
+first_of floor (RecordOf t) = 0
+first_of floor (CellOf l key) = first_cell floor
+first_of floor ClassGraph = graph_place floor
+
+abbrev end_of : Description → Item → ℕ
+end_of floor (TurnstileChain k) = first_sleep_chain floor
+end_of floor (SleepChain k) = graph_place floor
+end_of floor (RecordOf t) = first_cell floor
+end_of floor (CellOf l key) = first_turnstile_chain floor
+end_of floor ClassGraph = slots_for floor
+
+pub its_part : (floor : Description) (i : Item) (j : ℕ) → slot_of floor i ≡ Some j → (first_of floor i ≤ j) × (j < end_of floor i)
+its_part floor (TurnstileChain k) j e = let p = turnstile_chain_place floor k j e in (omega (arith, p.0, p.1), omega (arith, p.0, p.1))
+its_part floor (SleepChain k) j e = let p = sleep_chain_place floor k j e in (omega (arith, p.0, p.1), omega (arith, p.0, p.1))
+its_part floor (RecordOf t) j e = let p = record_place floor t j e in (omega (arith, p.0, p.1), omega (arith, p.0, p.1))
+its_part floor (CellOf l key) j e = let p = cell_place floor l key j (0, 0) e in (omega (arith, p.1, p.2), omega (arith, p.1, p.2))
+its_part floor ClassGraph j e = let p = same_Some (graph_place floor) j e in (omega (arith, p), omega (arith, p))
+
 -- a place is one of the table's
 pub place_low : (floor : Description) (i : Item) (j : ℕ) → slot_of floor i ≡ Some j → j < slots_for floor
-place_low floor (TurnstileChain k) j e = absurd cc
-place_low floor (SleepChain k) j e = absurd cc
-place_low floor (RecordOf t) j e = let p = record_place floor t j e in omega (arith, p.0, p.1)
-place_low floor (CellOf l key) j e = let p = cell_place floor l key j (0, 0) e in omega (arith, p.1, p.2)
-place_low floor ClassGraph j e = absurd cc
+place_low floor (TurnstileChain k) j e = let p = its_part floor (TurnstileChain k) j e in omega (arith, p.1)
+place_low floor (SleepChain k) j e = let p = its_part floor (SleepChain k) j e in omega (arith, p.1)
+place_low floor (RecordOf t) j e = let p = its_part floor (RecordOf t) j e in omega (arith, p.1)
+place_low floor (CellOf l key) j e = let p = its_part floor (CellOf l key) j e in omega (arith, p.1)
+place_low floor ClassGraph j e = let p = its_part floor ClassGraph j e in omega (arith, p.1)
+
+-- two sorts have no place in common
+apart : (floor : Description) (i k : Item) (j : ℕ) → slot_of floor i ≡ Some j → slot_of floor k ≡ Some j → (end_of floor i ≤ first_of floor k) ⊎ (end_of floor k ≤ first_of floor i) → ⊥
+apart floor i k j e f (inl h) = let p = its_part floor i j e in let q = its_part floor k j f in omega (arith, p.1, q.0, h)
+apart floor i k j e f (inr h) = let p = its_part floor i j e in let q = its_part floor k j f in omega (arith, p.0, q.1, h)
 
 -- and of one item alone
 pub one_place : (floor : Description) (i k : Item) (j : ℕ) → slot_of floor i ≡ Some j → slot_of floor k ≡ Some j → i ≡ k
 one_place floor (RecordOf t) (RecordOf u) j e f = ap RecordOf ((record_place floor t j e).1 ∙ sym (record_place floor u j f).1)
-one_place floor (RecordOf t) (CellOf l key) j e f = absurd (let p = record_place floor t j e in let q = cell_place floor l key j (0, 0) f in omega (arith, p.0, p.1, q.2))
-one_place floor (CellOf l key) (RecordOf u) j e f = absurd (let p = record_place floor u j f in let q = cell_place floor l key j (0, 0) e in omega (arith, p.0, p.1, q.2))
 one_place floor (CellOf l key) (CellOf m other) j e f =
     let p = cell_place floor l key j (0, 0) e in
     let q = cell_place floor m other j (0, 0) f in
     let same : p.0 ≡ q.0 = omega (arith, p.2, q.2) in
     let cell : (l, key) ≡ (m, other) = sym p.3 ∙ ap (λ i. get_or floor.keys i (0, 0)) same ∙ q.3 in
     λ i. CellOf (cell i).0 (cell i).1
-one_place floor (TurnstileChain a) k j e f = absurd cc
-one_place floor (SleepChain a) k j e f = absurd cc
-one_place floor ClassGraph k j e f = absurd cc
-one_place floor i (TurnstileChain a) j e f = absurd cc
-one_place floor i (SleepChain a) j e f = absurd cc
-one_place floor i ClassGraph j e f = absurd cc
+one_place floor (TurnstileChain a) (TurnstileChain b) j e f = ap TurnstileChain (let p = turnstile_chain_place floor a j e in let q = turnstile_chain_place floor b j f in omega (arith, p.1, q.1))
+one_place floor (SleepChain a) (SleepChain b) j e f = ap SleepChain (let p = sleep_chain_place floor a j e in let q = sleep_chain_place floor b j f in omega (arith, p.1, q.1))
+one_place floor ClassGraph ClassGraph j e f = refl
+one_place floor (RecordOf t) (CellOf l1 key1) j e f = absurd (apart floor (RecordOf t) (CellOf l1 key1) j e f (inl (omega arith)))
+one_place floor (RecordOf t) (TurnstileChain a1) j e f = absurd (apart floor (RecordOf t) (TurnstileChain a1) j e f (inl (omega arith)))
+one_place floor (RecordOf t) (SleepChain b1) j e f = absurd (apart floor (RecordOf t) (SleepChain b1) j e f (inl (omega arith)))
+one_place floor (RecordOf t) ClassGraph j e f = absurd (apart floor (RecordOf t) ClassGraph j e f (inl (omega arith)))
+one_place floor (CellOf l key) (RecordOf t1) j e f = absurd (apart floor (CellOf l key) (RecordOf t1) j e f (inr (omega arith)))
+one_place floor (CellOf l key) (TurnstileChain a1) j e f = absurd (apart floor (CellOf l key) (TurnstileChain a1) j e f (inl (omega arith)))
+one_place floor (CellOf l key) (SleepChain b1) j e f = absurd (apart floor (CellOf l key) (SleepChain b1) j e f (inl (omega arith)))
+one_place floor (CellOf l key) ClassGraph j e f = absurd (apart floor (CellOf l key) ClassGraph j e f (inl (omega arith)))
+one_place floor (TurnstileChain a) (RecordOf t1) j e f = absurd (apart floor (TurnstileChain a) (RecordOf t1) j e f (inr (omega arith)))
+one_place floor (TurnstileChain a) (CellOf l1 key1) j e f = absurd (apart floor (TurnstileChain a) (CellOf l1 key1) j e f (inr (omega arith)))
+one_place floor (TurnstileChain a) (SleepChain b1) j e f = absurd (apart floor (TurnstileChain a) (SleepChain b1) j e f (inl (omega arith)))
+one_place floor (TurnstileChain a) ClassGraph j e f = absurd (apart floor (TurnstileChain a) ClassGraph j e f (inl (omega arith)))
+one_place floor (SleepChain b) (RecordOf t1) j e f = absurd (apart floor (SleepChain b) (RecordOf t1) j e f (inr (omega arith)))
+one_place floor (SleepChain b) (CellOf l1 key1) j e f = absurd (apart floor (SleepChain b) (CellOf l1 key1) j e f (inr (omega arith)))
+one_place floor (SleepChain b) (TurnstileChain a1) j e f = absurd (apart floor (SleepChain b) (TurnstileChain a1) j e f (inr (omega arith)))
+one_place floor (SleepChain b) ClassGraph j e f = absurd (apart floor (SleepChain b) ClassGraph j e f (inl (omega arith)))
+one_place floor ClassGraph (RecordOf t1) j e f = absurd (apart floor ClassGraph (RecordOf t1) j e f (inr (omega arith)))
+one_place floor ClassGraph (CellOf l1 key1) j e f = absurd (apart floor ClassGraph (CellOf l1 key1) j e f (inr (omega arith)))
+one_place floor ClassGraph (TurnstileChain a1) j e f = absurd (apart floor ClassGraph (TurnstileChain a1) j e f (inr (omega arith)))
+one_place floor ClassGraph (SleepChain b1) j e f = absurd (apart floor ClassGraph (SleepChain b1) j e f (inr (omega arith)))
 
 -- 2. Latches
 
@@ -103,7 +151,7 @@ unfolding RepresentsLatches
 has_just floor s latch home out content t latches shelves objects = record {
   each = λ i j x place there.
       let q = shelves.taken j t x there in
-      (latches i ∙ ap (taken_from latch) place ∙ ap taker q.1, subst (λ y. IsOf (objects_in s) i y) (sym q.2) (objects.each i j place));
+      (latches i ∙ ap (taken_from latch) place ∙ ap taker q.1, subst (λ y. IsOf floor (objects_in s) i y) (sym q.2) (objects.each i j place));
   no_other = λ i e. go i (slot_of floor i) refl (sym (latches i) ∙ e);
 }
   where

@@ -2,24 +2,17 @@
 use Rattle.std.proofs.Common.{◌≡◌, ℕ, suc, List, ap, ◌∙◌, subst}
 use mathlib.Core.Option.{some}
 use lib.ListN.{get_elem?}
-use Rattle.lock_model.specs.Config.{Config}
-use Rattle.lock_state.specs.State.{State, Running, start_state}
+use Rattle.lock_state.specs.State.{State}
 use Rattle.lock_state.specs.Steps.{Step}
-use Rattle.floor_table.specs.Descriptions.{config_in}
 use Rattle.floor_table.specs.declared.description.Description.{Description}
 use Rattle.floor_table.specs.Past.{IsSeenBy, AreSeen}
 use Rattle.floor_table.specs.Places.{latch_word, home_at}
 use Rattle.floor_table.specs.Views.{OfThread, Knowledge, nothing}
-use Rattle.floor_table.specs.Represents.{Board, Represents, thread_in, ToCome, to_come}
+use Rattle.floor_table.specs.Represents.{Board, IsPosed, Represents, thread_in}
 use Rattle.floor_table.specs.Steps.{IsSound, HasJust, Fits}
 use Rattle.floor_table.proofs.Lists.{at_or}
 use Rattle.floor_table.proofs.Seats.{seat_of}
 use Rattle.floor_table.proofs.Items.{has_just}
-
--- all threads run
-pub all_run : (c : Config) (s : State) (t : ℕ) → to_come s ≡ to_come (start_state c) → s.wait t ≡ Running
-unfolding start_state
-all_run c s t e = ap (λ (x : ToCome). x.wait t) e
 
 -- it has seen all steps up to its thread's last one
 pub seen_of : (vs : List Knowledge) (past : List Step) (v : Knowledge) → thread_in vs v.thread ≡ v → AreSeen vs past → v.role ≡ OfThread → IsSeenBy v.thread v.seen past
@@ -39,6 +32,6 @@ fits_of floor b {past} s i v sound r seen at is =
         thread = seat.1;
         share = seat.2;
         out = subst (λ (w : Knowledge). HasJust floor w.out s v.thread) here just;
-        runs = all_run (config_in floor) s v.thread r.to_come;
+        pose = subst (λ (w : Knowledge). IsPosed w.pose (s.wait v.thread) (s.blocked_on v.thread)) here (r.seats.poses v.thread);
       },
     )

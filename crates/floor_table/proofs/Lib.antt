@@ -4,6 +4,8 @@ pub mod Words
 pub mod Shelved
 pub mod Seats
 pub mod Items
+pub mod Objects
+pub mod Poses
 pub mod Known
 pub mod Stepped
 pub mod Unrefused

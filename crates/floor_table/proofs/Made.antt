@@ -12,7 +12,7 @@ use prog.Atomic.{either}
 use Rattle.atomic_table.specs.Table.{Me, Act, keeps, takes, gives, put_back, homes_after, Valid, Allows, stepped, carried_after}
 use Rattle.atomic_table.proofs.Lists.{exchanged}
 use Rattle.lock_model.specs.Words.{Word, word_of}
-use Rattle.lock_state.specs.State.{State, put}
+use Rattle.lock_state.specs.State.{State, Wait, put}
 use Rattle.lock_state.specs.Steps.Items.{Item, item_with}
 use Rattle.lock_laws.proofs.Kit.{put_back as put_again}
 use Rattle.lock_laws.proofs.Items.{with_then}
@@ -20,12 +20,12 @@ use Rattle.lock_state.specs.Steps.{Step, after_all, maker}
 use Rattle.floor_table.specs.Descriptions.{config_in}
 use Rattle.floor_table.specs.declared.description.Description.{Description}
 use Rattle.floor_table.specs.declared.slot.Slot.{Slot}
-use Rattle.floor_table.specs.Views.{OfThread, OfNobody, Knowledge, nothing, seeing}
-use Rattle.floor_table.specs.Places.{spot, lock_line, ticket_line, latch_line, word_at, lock_word, latch_word, slots_for, slot_of, home_at}
+use Rattle.floor_table.specs.Views.{OfThread, OfNobody, Pose, Knowledge, nothing, seeing}
+use Rattle.floor_table.specs.Places.{spot, lock_line, wait_line, ticket_line, latch_line, word_at, lock_word, latch_word, slots_for, slot_of, home_at}
 use Rattle.floor_table.specs.Shares.{share_in}
 use Rattle.floor_table.specs.Shelves.{Shelves}
 use Rattle.floor_table.specs.Past.{past_with, IsSeenBy, AreSeen}
-use Rattle.floor_table.specs.Represents.{Board, RepresentsLocks, RepresentsLatches, RepresentsObjects, objects_in, IsSeatOf, to_come, Represents, keeper_in, thread_in}
+use Rattle.floor_table.specs.Represents.{Board, words_in, wait_number, RepresentsLatches, RepresentsObjects, objects_in, IsSeatOf, IsPosed, Represents, keeper_in, thread_in}
 use Rattle.floor_table.specs.Steps.{IsSound, FitAll, Fits, Makes}
 use Rattle.floor_table.specs.Rule.{FloorHolds}
 use Rattle.floor_table.proofs.Lists.{inside, at_or, or_at, or_past, field_set}
@@ -35,7 +35,7 @@ use Rattle.floor_table.proofs.Sound.{sound_kept}
 use Rattle.floor_table.proofs.Unrefused.{RefuseNothing}
 use Rattle.floor_table.proofs.Items.{place_low, latches_changed}
 use Rattle.floor_table.proofs.Shelved.{shelf_taken, shelf_given}
-use Rattle.floor_table.proofs.Stepped.{lock_stepped, ticket_stepped, latch_stepped, seat_stepped}
+use Rattle.floor_table.proofs.Stepped.{lock_stepped, wait_stepped, ticket_stepped, latch_stepped, seat_stepped}
 
 -- 1. What a step owes
 
@@ -103,7 +103,8 @@ exchange_allows floor slots id me i old new told is hit miss =
 
 -- 2. What it tells
 
--- what a thread's seat knows behind its steps, and that the others' shares stay
+-- what a thread's seat knows behind its steps, and that the others' shares stay, and what others' seats know of where
+-- their threads are stays so
 pub record OwnSteps (v w : Knowledge) (past steps : List Step) (s n : State) : Type 0 where
   pub role : w.role ≡ OfThread
   pub seen : w.seen ≡ past_with past steps
@@ -111,6 +112,9 @@ pub record OwnSteps (v w : Knowledge) (past steps : List Step) (s n : State) : T
   pub no_refusal : RefuseNothing steps
   pub seat : IsSeatOf w n v.thread
   pub others : (u : ℕ) → u ≢ v.thread → share_in n u ≡ share_in s u
+  pub pose : IsPosed w.pose (n.wait v.thread) (n.blocked_on v.thread)
+  pub other_poses : (u : ℕ) → u ≢ v.thread → (p : Pose) → IsPosed p (s.wait u) (s.blocked_on u)
+      → IsPosed p (n.wait u) (n.blocked_on u)
 
 -- where the table then represents the state behind steps that may be made, the rule holds, and the thread made them
 pub made : (floor : Description) (steps : List Step) (b behind : Board) (v w : Knowledge) (h : Finds floor v b)
@@ -153,12 +157,10 @@ made floor steps b behind v w h role may own views r =
 
 -- 3. By kind of word
 
--- the states differ at most in a lock's word and in shares
+-- the states differ at most in what words say and in shares
 pub record SameRest (s n : State) : Type 0 where
-  pub next : n.next ≡ s.next
   pub items : item_with n ≡ item_with s
   pub objects : objects_in n ≡ objects_in s
-  pub to_come : to_come n ≡ to_come s
 
 module _ (floor : Description) (steps : List Step) (b : Board) (v w : Knowledge) (h : Finds floor v b)
     (was : v.role ≡ OfThread) (may : FitAll floor h.state steps)
@@ -172,54 +174,95 @@ module _ (floor : Description) (steps : List Step) (b : Board) (v w : Knowledge)
   abbrev outs : ℕ → List (ℕ × Slot)
   outs u = (thread_in b.views u).out
 
-  own_out : outs v.thread ≡ v.out
+  pub own_out : outs v.thread ≡ v.out
   own_out = ap (λ (k : Knowledge). k.out) (at_or b.views (suc v.thread) v nothing h.there)
 
   -- where nothing goes out or comes home
-  outs_stay : w.out ≡ v.out → outs ≡ put outs v.thread w.out
+  pub outs_stay : w.out ≡ v.out → outs ≡ put outs v.thread w.out
   outs_stay e = sym (put_again outs v.thread w.out (own_out ∙ sym e))
 
-  pub lock_made : (l x : ℕ) (y : Word) → l < length floor.locks → word_of x ≡ y → n.word ≡ put s.word l y → SameRest s n
-      → w.spare ≡ v.spare → w.out ≡ v.out
+  -- a word of a lock changes, and with it values that are out
+  pub lock_made_with : (l x : ℕ) (y : Word) (content : ℕ → Slot) → l < length floor.locks → word_of x ≡ y
+      → words_in n ≡ record (words_in s) { word = put s.word l y } → item_with n ≡ item_with s → w.spare ≡ v.spare
+      → Shelves (slots_for floor) (latch_word b.words) (home_at b.homes) (put outs v.thread w.out) content
+      → RepresentsObjects floor content (objects_in n)
       → FloorHolds floor (stepped b (spot (lock_line l)) x (suc v.thread) cs w keeps) × Makes floor steps v w
-  lock_made l x y low says column rest spares out =
+  lock_made_with l x y content low says columns items spares shelves objects =
       let behind : Board = stepped b (spot (lock_line l)) x (suc v.thread) cs w keeps in
-      let r = h.represents in
       made floor steps b behind v w h was may own refl
-      (lock_stepped floor b s n r v.thread v w h.there was own.role own.seat own.others rest.to_come cs l x y r.content
-      low says column rest.next rest.items spares
+      (lock_stepped floor b s n h.represents v.thread v w h.there was own.role own.seat own.others own.pose
+      own.other_poses cs l x y content low says columns items spares shelves objects)
+
+  -- and none of them
+  pub lock_made : (l x : ℕ) (y : Word) → l < length floor.locks → word_of x ≡ y
+      → words_in n ≡ record (words_in s) { word = put s.word l y } → SameRest s n → w.spare ≡ v.spare → w.out ≡ v.out
+      → FloorHolds floor (stepped b (spot (lock_line l)) x (suc v.thread) cs w keeps) × Makes floor steps v w
+  lock_made l x y low says columns rest spares out =
+      let r = h.represents in
+      lock_made_with l x y r.content low says columns rest.items spares
       (subst (λ o. Shelves (slots_for floor) (latch_word b.words) (home_at b.homes) o r.content) (outs_stay out)
       r.shelves)
-      (subst (RepresentsObjects floor r.content) (sym rest.objects) r.objects))
+      (subst (RepresentsObjects floor r.content) (sym rest.objects) r.objects)
 
   -- the word stays
-  pub lock_seen : (l : ℕ) → l < length floor.locks → n.word ≡ s.word → SameRest s n → w.spare ≡ v.spare → w.out ≡ v.out
+  pub lock_seen : (l : ℕ) → l < length floor.locks → words_in n ≡ words_in s → SameRest s n → w.spare ≡ v.spare
+      → w.out ≡ v.out
       → FloorHolds floor (stepped b (spot (lock_line l)) (lock_word b.words l) (suc v.thread) cs w keeps)
       × Makes floor steps v w
-  unfolding RepresentsLocks
-  lock_seen l low column rest spares out =
-      lock_made l (lock_word b.words l) (s.word l) low (h.represents.locks l low)
-      (column ∙ sym (put_again s.word l (s.word l) refl)) rest spares out
+  lock_seen l low columns rest spares out =
+      lock_made l (lock_word b.words l) (s.word l) low (h.represents.words.locks l low)
+      (columns ∙ ap (λ (f : ℕ → Word). record (words_in s) { word = f }) (sym (put_again s.word l (s.word l) refl)))
+      rest spares out
+
+  -- the wait word of a thread changes, and with it values that are out
+  pub wait_made : (u x : ℕ) (y : Wait) (content : ℕ → Slot) → u < length floor.threads → x ≡ wait_number y
+      → words_in n ≡ record (words_in s) { wait = put s.wait u y } → item_with n ≡ item_with s → w.spare ≡ v.spare
+      → Shelves (slots_for floor) (latch_word b.words) (home_at b.homes) (put outs v.thread w.out) content
+      → RepresentsObjects floor content (objects_in n)
+      → FloorHolds floor (stepped b (spot (wait_line u)) x (suc v.thread) cs w keeps) × Makes floor steps v w
+  wait_made u x y content low says columns items spares shelves objects =
+      let behind : Board = stepped b (spot (wait_line u)) x (suc v.thread) cs w keeps in
+      made floor steps b behind v w h was may own refl
+      (wait_stepped floor b s n h.represents v.thread v w h.there was own.role own.seat own.others own.pose
+      own.other_poses cs u x y content low says columns items spares shelves objects)
 
   -- an entry is made, by which values that are out may change
-  pub ticket_made : (x : ℕ) (content : ℕ → Slot) → x ≡ suc (word_at b.words ticket_line) → n.word ≡ s.word
-      → n.next ≡ suc s.next → item_with n ≡ item_with s → to_come n ≡ to_come s → suc w.spare ≡ v.spare
+  pub ticket_made : (x : ℕ) (content : ℕ → Slot) → x ≡ suc (word_at b.words ticket_line)
+      → words_in n ≡ record (words_in s) { next = suc s.next } → item_with n ≡ item_with s → suc w.spare ≡ v.spare
       → Shelves (slots_for floor) (latch_word b.words) (home_at b.homes) (put outs v.thread w.out) content
       → RepresentsObjects floor content (objects_in n)
       → FloorHolds floor (stepped b (spot ticket_line) x (suc v.thread) cs w keeps) × Makes floor steps v w
-  ticket_made x content more column next items still spares shelves objects =
+  ticket_made x content more columns items spares shelves objects =
       let behind : Board = stepped b (spot ticket_line) x (suc v.thread) cs w keeps in
       made floor steps b behind v w h was may own refl
-      (ticket_stepped floor b s n h.represents v.thread v w h.there was own.role own.seat own.others still cs x content
-      more column next items spares shelves objects)
+      (ticket_stepped floor b s n h.represents v.thread v w h.there was own.role own.seat own.others own.pose
+      own.other_poses cs x content more columns items spares shelves objects)
+
+  -- a latch is read, and with it values that are out change
+  pub latch_seen_with : (j : ℕ) (content : ℕ → Slot) → j < slots_for floor → words_in n ≡ words_in s
+      → item_with n ≡ item_with s → w.spare ≡ v.spare
+      → Shelves (slots_for floor) (latch_word b.words) (home_at b.homes) (put outs v.thread w.out) content
+      → RepresentsObjects floor content (objects_in n)
+      → FloorHolds floor (stepped b (spot (latch_line j)) (latch_word b.words j) (suc v.thread) cs w keeps)
+      × Makes floor steps v w
+  latch_seen_with j content low columns items spares shelves objects =
+      let r = h.represents in
+      let behind : Board = stepped b (spot (latch_line j)) (latch_word b.words j) (suc v.thread) cs w keeps in
+      let same : put (latch_word b.words) j (latch_word b.words j) ≡ latch_word b.words =
+      put_again (latch_word b.words) j (latch_word b.words j) refl in
+      made floor steps b behind v w h was may own refl
+      (latch_stepped floor b s n r v.thread v w h.there was own.role own.seat own.others own.pose own.other_poses cs j
+      (latch_word b.words j) keeps content low refl columns spares
+      (subst (λ (z : (ℕ → ℕ) × (Item → Option ℕ)). RepresentsLatches floor z.0 z.1) (λ i. (sym same i, sym items i))
+      r.latches)
+      (subst (λ (z : ℕ → ℕ). Shelves (slots_for floor) z (home_at b.homes) (put outs v.thread w.out) content) (sym same)
+      shelves) objects)
 
   -- the states differ at most in who has an item out
   pub record SameButOut (i : Item) (o : Option ℕ) : Type 0 where
-    pub word : n.word ≡ s.word
-    pub next : n.next ≡ s.next
+    pub words : words_in n ≡ words_in s
     pub items : item_with n ≡ with_then s i o
     pub objects : objects_in n ≡ objects_in s
-    pub to_come : to_come n ≡ to_come s
 
   -- the value of a free latch goes out
   pub take_made : (i : Item) (j : ℕ) → slot_of floor i ≡ Some j → latch_word b.words j ≡ 0
@@ -233,8 +276,8 @@ module _ (floor : Description) (steps : List Step) (b : Board) (v w : Knowledge)
       let low = place_low floor i j place in
       let fits : j < length b.homes = omega (arith, low, r.sizes.slots) in
       made floor steps b behind v w h was may own refl
-      (latch_stepped floor b s n r v.thread v w h.there was own.role own.seat own.others rest.to_come cs j
-      (suc v.thread) (takes j x) r.content low (length-set b.homes j slots.none) rest.word rest.next spares
+      (latch_stepped floor b s n r v.thread v w h.there was own.role own.seat own.others own.pose own.other_poses cs j
+      (suc v.thread) (takes j x) r.content low (length-set b.homes j slots.none) rest.words spares
       (subst (RepresentsLatches floor (put (latch_word b.words) j (suc v.thread))) (sym rest.items)
       (latches_changed floor s (latch_word b.words) i j (suc v.thread) (Some v.thread) place refl r.latches))
       (subst (λ (z : (ℕ → slots.Option Slot) × List (ℕ × Slot)). Shelves (slots_for floor)
@@ -258,8 +301,8 @@ module _ (floor : Description) (steps : List Step) (b : Board) (v w : Knowledge)
       let fits : j < length b.homes = omega (arith, low, r.sizes.slots) in
       let homes : homes_after b.homes cs gives ≡ set b.homes j (some x) = ap (put_back b.homes) carried in
       made floor steps b behind v w h was may own refl
-      (latch_stepped floor b s n r v.thread v w h.there was own.role own.seat own.others rest.to_come cs j 0 gives
-      r.content low (ap (λ hs. length hs) homes ∙ length-set b.homes j (some x)) rest.word rest.next spares
+      (latch_stepped floor b s n r v.thread v w h.there was own.role own.seat own.others own.pose own.other_poses cs j 0
+      gives r.content low (ap (λ hs. length hs) homes ∙ length-set b.homes j (some x)) rest.words spares
       (subst (RepresentsLatches floor (put (latch_word b.words) j 0)) (sym rest.items)
       (latches_changed floor s (latch_word b.words) i j 0 None place refl r.latches))
       (subst (λ (z : (ℕ → slots.Option Slot) × List (ℕ × Slot)). Shelves (slots_for floor)
@@ -290,10 +333,12 @@ none_made floor b v h was i cs =
       makers = All-nil (λ step. maker step ≡ v.thread);
       seat = record { thread = refl; share = h.fits.share };
       others = λ u ne. refl;
+      pose = h.fits.pose;
+      other_poses = λ u ne p k. k;
       no_refusal = tt;
     } in
     let r : Represents floor (record { words = b.words; homes = b.homes; views = set b.views (suc v.thread) w })
-    h.state = seat_stepped floor b h.state h.represents v.thread v w h.there was was own.seat refl refl in
+    h.state = seat_stepped floor b h.state h.represents v.thread v w h.there was was own.seat refl refl refl in
     let done = made floor [] b behind v w h was tt own refl
     (subst (λ ws. Represents floor (record { words = ws; homes = b.homes; views = set b.views (suc v.thread) w })
     h.state) (sym (set-get_or b.words i 0)) r) in
@@ -321,7 +366,7 @@ sooner floor steps seen old new since m =
       sound = m.sound;
       represents = seat_stepped floor m.before m.state m.represents t (seeing seen old) old
           (or_at vs (suc t) nothing low ∙ ap some m.was) m.role m.role
-          (record { thread = its.thread; share = its.share }) refl refl;
+          (record { thread = its.thread; share = its.share }) refl refl refl;
       may = m.may;
       represents_behind = m.represents_behind;
       was = get_or-set_same vs (suc t) old nothing low;

@@ -8,8 +8,8 @@ use lib.ListN.{get_elem?}
 use Rattle.lock_state.specs.State.{State}
 use Rattle.floor_table.specs.declared.description.Description.{Description}
 use Rattle.floor_table.specs.Shares.{Share, share_in}
-use Rattle.floor_table.specs.Views.{OfKeeper, OfThread, Knowledge, nothing}
-use Rattle.floor_table.specs.Represents.{RepresentsShare, keeper_in, thread_in, total, live, one_thread, IsSeatOf, IsTakenIn, RepresentsSeats}
+use Rattle.floor_table.specs.Views.{OfKeeper, OfThread, Pose, Knowledge, nothing}
+use Rattle.floor_table.specs.Represents.{RepresentsShare, keeper_in, thread_in, total, live, one_thread, IsSeatOf, IsTakenIn, IsPosed, RepresentsSeats}
 use Rattle.floor_table.proofs.Lists.{inside, at_or}
 
 -- 1. Sums over seats
@@ -44,9 +44,11 @@ module _ (floor : Description) (vs : List Knowledge) (a : State) (r : Represents
         subst (λ u. RepresentsShare v.share a u) (sym same) (subst (λ (w : Knowledge). RepresentsShare w.share a t) here h.share),
       )
 
-  -- 3. A step of a thread changes what its seat knows, and no share but its own
+  -- 3. A step of a thread changes what its seat knows, and no share but its own. What others' seats know of where their
+  -- threads are stays so
 
-  module _ (b : State) (t : ℕ) (v w : Knowledge) (at : get_elem? vs (suc t) ≡ some v) (was : v.role ≡ OfThread) (is : w.role ≡ OfThread) (mine : IsSeatOf w b t) (others : (u : ℕ) → u ≢ t → share_in b u ≡ share_in a u) where
+  module _ (b : State) (t : ℕ) (v w : Knowledge) (at : get_elem? vs (suc t) ≡ some v) (was : v.role ≡ OfThread) (is : w.role ≡ OfThread) (mine : IsSeatOf w b t) (others : (u : ℕ) → u ≢ t → share_in b u ≡ share_in a u)
+      (pose : IsPosed w.pose (b.wait t) (b.blocked_on t)) (other_poses : (u : ℕ) → u ≢ t → (p : Pose) → IsPosed p (a.wait u) (a.blocked_on u) → IsPosed p (b.wait u) (b.blocked_on u)) where
     abbrev new : List Knowledge
     new = set vs (suc t) w
 
@@ -83,6 +85,15 @@ module _ (floor : Description) (vs : List Knowledge) (a : State) (r : Represents
           share = same_share (others u ne) h.share;
         }
 
+    poses_are : (u : ℕ) → IsPosed (thread_in new u).pose (b.wait u) (b.blocked_on u)
+    poses_are u =
+        elim (cases_eq u t) [
+          | inl e ↦ subst (λ j. IsPosed (thread_in new j).pose (b.wait j) (b.blocked_on j)) (sym e)
+              (subst (λ (x : Knowledge). IsPosed x.pose (b.wait t) (b.blocked_on t)) (sym mine_is) pose)
+          | inr ne ↦ subst (λ (x : Knowledge). IsPosed x.pose (b.wait u) (b.blocked_on u)) (sym (others_are u ne))
+              (other_poses u ne (thread_in vs u).pose (r.poses u))
+        ]
+
     pub seats_stepped : RepresentsSeats floor new b
     seats_stepped = record {
       keeper = ap (λ (k : Knowledge). k.role) first_stays ∙ r.keeper;
@@ -107,4 +118,9 @@ module _ (floor : Description) (vs : List Knowledge) (a : State) (r : Represents
           let n = ap (λ (k : Knowledge). length k.gathered) first_stays in
           let m = ap (λ (k : Knowledge). k.made) first_stays in
           omega (arith, sums, one, n, m, r.counted);
+      poses = poses_are;
+      runs = λ u gone. elim (cases_eq u t) [
+        | inl e ↦ absurd (gone (ap (λ j. (thread_in new j).role) e ∙ ap (λ (k : Knowledge). k.role) mine_is ∙ is))
+        | inr ne ↦ ap (λ (k : Knowledge). k.pose) (others_are u ne) ∙ r.runs u (λ e. gone (ap (λ (k : Knowledge). k.role) (others_are u ne) ∙ e))
+      ];
     }

@@ -2,11 +2,12 @@
 -- of the locks' tables, and the number of chains. It speaks of no operations; a plan gives one.
 use Rattle.std.specs.Prelude.{◌≡◌, ℕ, ◌*◌, ◌^◌, ◌<◌, ◌≤◌, List, length, map, sum, flat_map, slice_get, option_to_list, unwrap_or}
 use Rattle.std.specs.FinMap.{FinMap, from_entries, keys}
+use Rattle.std.specs.List.{All}
 use Rattle.std.specs.List.Sorted.{IsStrictlySortedBy}
 use Rattle.lock_model.specs.Config.{Config}
 use Rattle.lock_model.specs.History.{place_cmp}
 use Rattle.lock_model.specs.Keys.{place_of}
-use Rattle.lock_model.specs.Limits.{most_threads, most_locks}
+use Rattle.lock_model.specs.Limits.{most_threads, most_locks, most_classes}
 use Rattle.lock_model.specs.declared.plan.Kind.TheVariants.{Mtx}
 use Rattle.lock_model.specs.declared.plan.LockDecl.{LockDecl}
 use Rattle.lock_model.specs.declared.plan.Op.{Op}
@@ -37,11 +38,13 @@ room_for floor t = unwrap_or (slice_get (map (λ x. x.room) floor.threads) t) 0
 abbrev pub room_in_all : List ThreadPart → ℕ
 room_in_all threads = sum (map (λ x. x.room) threads)
 
--- It fits a floor's table, which has a place for each thread, lock and key. The keys rise, by lock and then by key, so
--- that each is there once; and there is room for so few entries that each ticket is below 2^32
+-- It fits a floor's table, which has a place for each thread, lock and key, and a class graph of so many classes. The
+-- keys rise, by lock and then by key, so that each is there once; and there is room for so few entries that each ticket
+-- is below 2^32
 pub record IsSized (floor : Description) : Type 0 where
   pub threads : length floor.threads ≤ most_threads
   pub locks : length floor.locks ≤ most_locks
+  pub classes : All (λ x. x.class.0 < most_classes) floor.locks
   pub keys : length floor.keys < 2 ^ 16
   pub rising : IsStrictlySortedBy place_cmp floor.keys
   pub room : room_in_all floor.threads < 2 ^ 32

@@ -1,34 +1,74 @@
 -- Which state of `lock_state` a floor's table represents: its words, what is at home and what is out, and what its seats
--- know. Each column of the state that the table tells of is pinned; those of which it doesn't tell yet have the value
--- that they began with, and `state_from` shows that a state has no others.
-use Rattle.std.specs.Prelude.{◌≡◌, ◌≢◌, ℕ, suc, ◌+◌, ◌^◌, ◌<◌, ◌≤◌, Bool, true, ◌==◌, List, [], ◌∷◌, length, slice_index_or, Option, Some, None}
-use Rattle.std.specs.List.{All, list_any}
+-- know. Each column of the state is pinned: `state_from` shows that a state has no others.
+use Rattle.std.specs.Prelude.{◌≡◌, ◌≢◌, ◌⊎◌, ℕ, suc, ◌+◌, ◌^◌, ◌<◌, ◌≤◌, Bool, true, ◌==◌, List, [], ◌∷◌, length, slice_index_or, Option, Some, None}
+use Rattle.std.specs.List.{All, IsDistinct, list_any}
+use Rattle.std.specs.Map.{keys_of}
 use Rattle.atomic_table.specs.Table as table
-use Rattle.lock_model.specs.Config.{Config}
 use Rattle.floor_table.specs.Descriptions.{config_in, IsSized}
-use Rattle.lock_model.specs.Queues.{Lists}
+use Rattle.lock_model.specs.Counts.{one}
+use Rattle.lock_model.specs.Orders.{HaveSameEdges}
+use Rattle.lock_model.specs.Queues.{Cause, BySignal, ByAbort, is_queue}
 use Rattle.lock_model.specs.Words.{Word, word_of}
 use Rattle.floor_table.specs.declared.description.Description.{Description}
 use Rattle.lock_model.specs.declared.plan.QueueName.{QueueName}
 use Rattle.lock_model.specs.declared.event.Entry.{Entry}
-use Rattle.lock_state.specs.State.{State, Wait, start_state}
+use Rattle.lock_state.specs.State.{State, Wait, Running, Queued, Woken}
+use Rattle.lock_state.specs.Steps.{chain_of_queue}
 use Rattle.lock_state.specs.Steps.Items.{Item, TurnstileChain, SleepChain, RecordOf, CellOf, ClassGraph, item_with}
+use Rattle.turnstile_core.specs.Seen.{Turnstile}
+use Rattle.sleep_queues.specs.Seen.{SleepQueue}
+use Rattle.chain_table.specs.Chains.{head_of}
+use Rattle.witness_orders.specs.Graph as orders
 use Rattle.lock_objects.specs.Held.{holds_of}
-use Rattle.lock_objects.specs.Represents.{RecordColumns, RepresentsRecord, record_in}
+use Rattle.lock_objects.specs.Represents.{QueueColumns, queue_in, RepresentsQueue, SleepColumns, RepresentsSleepQueue, RecordColumns, RepresentsRecord, record_in}
 use Rattle.floor_table.specs.declared.slot.Slot.{Slot}
-use Rattle.floor_table.specs.declared.slot.Slot.TheVariants.{Record, Cell}
-use Rattle.floor_table.specs.Places.{lock_word, latch_word, word_at, ticket_line, words_for, slots_for, slot_of, taker, home_at}
+use Rattle.floor_table.specs.declared.slot.Slot.TheVariants.{Record, Cell, Turnstiles, SleepQueues, Graph}
+use Rattle.floor_table.specs.Places.{lock_word, wait_word, latch_word, word_at, ticket_line, awake_line, ended_line, halt_line, words_for, slots_for, slot_of, taker, home_at}
 use Rattle.floor_table.specs.Shares.{Share, ShareColumns, columns_of, share_in, start_share}
 use Rattle.floor_table.specs.Shelves.{Shelves}
-use Rattle.floor_table.specs.Views.{Role, OfKeeper, OfThread, OfNobody, Knowledge, nothing}
+use Rattle.floor_table.specs.Views.{Role, OfKeeper, OfThread, OfNobody, Pose, Runs, IsReady, StandsOn, Knowledge, nothing}
 
 abbrev pub Board : Type 0
 Board = table.State Slot Knowledge
 
 -- 1. Words
 
-unfoldable pub RepresentsLocks : Config → (ℕ → ℕ) → (ℕ → Word) → Type 0
-RepresentsLocks c lock column = (l : ℕ) → l < c.locks → word_of (lock l) ≡ column l
+-- what the columns say of words
+pub record WordColumns : Type 0 where
+  pub word : ℕ → Word
+  pub wait : ℕ → Wait
+  pub next : ℕ
+  pub awake : ℕ
+  pub ended : ℕ
+  pub halted : Bool
+
+-- those of a state
+abbrev pub words_in : State → WordColumns
+words_in s = record {
+  word = s.word;
+  wait = s.wait;
+  next = s.next;
+  awake = s.awake;
+  ended = s.ended;
+  halted = s.halted;
+}
+
+-- a wait word says that its thread runs, that it is Queued, or that it was woken, by a signal or by an abort. Off which
+-- queue it was woken, its own seat knows
+abbrev pub wait_number : Wait → ℕ
+wait_number Running = 0
+wait_number Queued = 1
+wait_number (Woken q BySignal) = 2
+wait_number (Woken q ByAbort) = 3
+
+-- each word says what the columns say; the halt word is 1 where they say that there was a halt
+pub record RepresentsWords (floor : Description) (words : List ℕ) (x : WordColumns) : Type 0 where
+  pub locks : (l : ℕ) → l < length floor.locks → word_of (lock_word words l) ≡ x.word l
+  pub waits : (t : ℕ) → t < length floor.threads → wait_word words t ≡ wait_number (x.wait t)
+  pub ticket : word_at words ticket_line ≡ x.next
+  pub awake : word_at words awake_line ≡ x.awake
+  pub ended : word_at words ended_line ≡ x.ended
+  pub halted : word_at words halt_line ≡ one x.halted
 
 -- the thread that has the value of a place
 abbrev pub taken_from : (ℕ → ℕ) → Option ℕ → Option ℕ
@@ -45,26 +85,84 @@ RepresentsLatches floor latch out = (i : Item) → out i ≡ taken_from latch (s
 pub record Objects : Type 0 where
   pub record_of : ℕ → RecordColumns
   pub table : ℕ → ℕ → Option ℕ
+  pub queues : QueueName → QueueColumns
+  pub loan_home : ℕ → Bool
+  pub edges : List (ℕ × ℕ)
 
 abbrev pub objects_in : State → Objects
-objects_in s = record { record_of = record_in s; table = s.table }
+objects_in s = record {
+  record_of = record_in s;
+  table = s.table;
+  queues = queue_in s;
+  loan_home = s.loan_home;
+  edges = s.edges;
+}
+
+-- what the columns say of a queue, as a sleep queue
+abbrev pub sleepers : QueueColumns → SleepColumns
+sleepers x = record { head = x.head; lists = x.lists; free_list = x.free_list }
+
+-- the queue stands in the chain: the lock's or the channel's number, by the number of chains, gives its chain's
+abbrev pub StandsIn : Description → Item → QueueName → Type 0
+StandsIn floor i q = chain_of_queue floor.chains (config_in floor) q ≡ i
+
+-- the names of a chain differ, and each is that of a queue which stands there
+pub record HasNames {H : Type 0} (floor : Description) (i : Item) (chain : List (QueueName × H))
+    : Type 0 where
+  pub distinct : IsDistinct is_queue (keys_of chain)
+  pub own : All (λ e. StandsIn floor i e.0) chain
+
+-- the k-th chain of turnstiles says of each queue that stands there what the columns say
+pub record RepresentsTurnstiles (floor : Description) (k : ℕ)
+    (chain : List (QueueName × Turnstile)) (x : Objects) : Type 0 where
+  pub names : HasNames floor (TurnstileChain k) chain
+  pub queue : (q : QueueName) → StandsIn floor (TurnstileChain k) q
+      → RepresentsQueue (head_of q chain) (x.queues q) x.loan_home
+
+-- the same of the k-th chain of sleep queues
+pub record RepresentsSleepChain (floor : Description) (k : ℕ)
+    (chain : List (QueueName × SleepQueue)) (x : Objects) : Type 0 where
+  pub names : HasNames floor (SleepChain k) chain
+  pub queue : (q : QueueName) → StandsIn floor (SleepChain k) q
+      → RepresentsSleepQueue (head_of q chain) (sleepers (x.queues q))
+
+-- the class graph has the class of each lock, and the edges of the column, in whatever order
+pub record RepresentsGraph (floor : Description) (graph : orders.Graph) (edges : List (ℕ × ℕ))
+    : Type 0 where
+  pub classes : (l : ℕ) → l < length floor.locks → (config_in floor).class l < graph.classes
+  pub same : HaveSameEdges graph.edges edges
 
 -- A value says of its item what the columns say. The cases are listed, so that a value of another sort must be decided
--- here: of chains and the class graph no value says anything yet
-abbrev pub IsOf : Objects → Item → Slot → Type 0
-IsOf x (TurnstileChain k) (Record b) = ⊥
-IsOf x (TurnstileChain k) (Cell value) = ⊥
-IsOf x (SleepChain k) (Record b) = ⊥
-IsOf x (SleepChain k) (Cell value) = ⊥
-IsOf x (RecordOf t) (Record b) = RepresentsRecord b.value (x.record_of t)
-IsOf x (RecordOf t) (Cell value) = ⊥
-IsOf x (CellOf l key) (Record b) = ⊥
-IsOf x (CellOf l key) (Cell value) = value ≡ x.table l key
-IsOf x ClassGraph (Record b) = ⊥
-IsOf x ClassGraph (Cell value) = ⊥
+-- here
+abbrev pub IsOf : Description → Objects → Item → Slot → Type 0
+IsOf floor x (TurnstileChain k) (Record b) = ⊥
+IsOf floor x (TurnstileChain k) (Cell value) = ⊥
+IsOf floor x (TurnstileChain k) (Turnstiles chain) = RepresentsTurnstiles floor k chain x
+IsOf floor x (TurnstileChain k) (SleepQueues chain) = ⊥
+IsOf floor x (TurnstileChain k) (Graph b) = ⊥
+IsOf floor x (SleepChain k) (Record b) = ⊥
+IsOf floor x (SleepChain k) (Cell value) = ⊥
+IsOf floor x (SleepChain k) (Turnstiles chain) = ⊥
+IsOf floor x (SleepChain k) (SleepQueues chain) = RepresentsSleepChain floor k chain x
+IsOf floor x (SleepChain k) (Graph b) = ⊥
+IsOf floor x (RecordOf t) (Record b) = RepresentsRecord b.value (x.record_of t)
+IsOf floor x (RecordOf t) (Cell value) = ⊥
+IsOf floor x (RecordOf t) (Turnstiles chain) = ⊥
+IsOf floor x (RecordOf t) (SleepQueues chain) = ⊥
+IsOf floor x (RecordOf t) (Graph b) = ⊥
+IsOf floor x (CellOf l key) (Record b) = ⊥
+IsOf floor x (CellOf l key) (Cell value) = value ≡ x.table l key
+IsOf floor x (CellOf l key) (Turnstiles chain) = ⊥
+IsOf floor x (CellOf l key) (SleepQueues chain) = ⊥
+IsOf floor x (CellOf l key) (Graph b) = ⊥
+IsOf floor x ClassGraph (Record b) = ⊥
+IsOf floor x ClassGraph (Cell value) = ⊥
+IsOf floor x ClassGraph (Turnstiles chain) = ⊥
+IsOf floor x ClassGraph (SleepQueues chain) = ⊥
+IsOf floor x ClassGraph (Graph b) = RepresentsGraph floor b.value x.edges
 
 pub record RepresentsObjects (floor : Description) (content : ℕ → Slot) (x : Objects) : Type 0 where
-  pub each : (i : Item) (j : ℕ) → slot_of floor i ≡ Some j → IsOf x i (content j)
+  pub each : (i : Item) (j : ℕ) → slot_of floor i ≡ Some j → IsOf floor x i (content j)
   pub unnamed : (l key : ℕ) → slot_of floor (CellOf l key) ≡ None → x.table l key ≡ None
 
 -- 3. What seats know
@@ -112,8 +210,16 @@ pub record IsTakenIn (views : List Knowledge) (s : State) (t : ℕ) (x : Share) 
   pub gone : (thread_in views t).role ≢ OfThread
   pub share : RepresentsShare x s t
 
+-- Where a seat knows that its thread is, the thread is, by its wait word and by the queue that its record names. Who
+-- stands on a queue may have been woken off it, which its seat doesn't know
+abbrev pub IsPosed : Pose → Wait → Option QueueName → Type 0
+IsPosed Runs wait blocked_on = wait ≡ Running
+IsPosed IsReady wait blocked_on = (wait ≡ Queued) × (blocked_on ≡ None)
+IsPosed (StandsOn q) wait blocked_on =
+    ((wait ≡ Queued) × (blocked_on ≡ Some q)) ⊎ ((cause : Cause) × (wait ≡ Woken q cause))
+
 -- Each thread's share is with its seat, or with the keeper, or as it began where its pass isn't made yet. A seat that is
--- no thread's has nothing out.
+-- no thread's has nothing out. Each seat knows where its thread is; a thread without one runs.
 pub record RepresentsSeats (floor : Description) (views : List Knowledge) (s : State) : Type 0 where
   pub keeper : (keeper_in views).role ≡ OfKeeper
   pub made : length views ≡ suc (keeper_in views).made
@@ -125,55 +231,30 @@ pub record RepresentsSeats (floor : Description) (views : List Knowledge) (s : S
       → list_any (λ g. g.0 == t) (keeper_in views).gathered ≡ true
   pub none_out : (t : ℕ) → (thread_in views t).role ≢ OfThread → (thread_in views t).out ≡ []
   pub counted : total live views + length (keeper_in views).gathered ≡ (keeper_in views).made
+  pub poses : (t : ℕ) → IsPosed (thread_in views t).pose (s.wait t) (s.blocked_on t)
+  pub runs : (t : ℕ) → (thread_in views t).role ≢ OfThread → (thread_in views t).pose ≡ Runs
 
--- 4. Columns of which the table doesn't tell yet
+-- 4. The columns that are told
 
-pub record ToCome : Type 0 where
-  pub lists : QueueName → Lists
-  pub free_list : QueueName → List ℕ
-  pub head : QueueName → Option ℕ
-  pub owner : QueueName → Option ℕ
-  pub loan_home : ℕ → Bool
-  pub wait : ℕ → Wait
-  pub edges : List (ℕ × ℕ)
-  pub awake : ℕ
-  pub ended : ℕ
-  pub halted : Bool
-  pub halted_at : ℕ
-
-abbrev pub to_come : State → ToCome
-to_come s = record {
-  lists = s.lists;
-  free_list = s.free_list;
-  head = s.head;
-  owner = s.owner;
-  loan_home = s.loan_home;
-  wait = s.wait;
-  edges = s.edges;
-  awake = s.awake;
-  ended = s.ended;
-  halted = s.halted;
-  halted_at = s.halted_at;
-}
-
--- The state with columns that are told, and those that are to come. Each column stands here, so that who adds one
--- decides what tells it
-abbrev pub state_from : (ℕ → Word) → ℕ → (Item → Option ℕ) → Objects → (ℕ → ShareColumns)
-    → List Entry → ToCome → State
-state_from word next out x share history rest = record {
-  word = word;
-  lists = rest.lists;
-  free_list = rest.free_list;
-  head = rest.head;
-  owner = rest.owner;
+-- The state with the columns that words, values, latches and seats tell; with a history, of which the logs are the
+-- parts; and with the moment of the first halt, which the steps tell that were made. Each column stands here, so that who
+-- adds one decides what tells it
+abbrev pub state_from : WordColumns → (Item → Option ℕ) → Objects → (ℕ → ShareColumns) → List Entry
+    → ℕ → State
+state_from told out x share history halted_at = record {
+  word = told.word;
+  lists = λ q. (x.queues q).lists;
+  free_list = λ q. (x.queues q).free_list;
+  head = λ q. (x.queues q).head;
+  owner = λ q. (x.queues q).owner;
   base = λ t. (x.record_of t).base;
   effective = λ t. (x.record_of t).effective;
   turnstile = λ t. (x.record_of t).turnstile;
   sleep_queue = λ t. (x.record_of t).sleep_queue;
   loan = λ t. (x.record_of t).loan;
   blocked_on = λ t. (x.record_of t).blocked_on;
-  loan_home = rest.loan_home;
-  wait = rest.wait;
+  loan_home = x.loan_home;
+  wait = told.wait;
   held = λ t. (share t).held;
   held_locks = λ t. (share t).held_locks;
   wanted = λ t. (share t).doing.wanted;
@@ -202,13 +283,13 @@ state_from word next out x share history rest = record {
   cell_with = λ l k. out (CellOf l k);
   graph_with = out ClassGraph;
   table = x.table;
-  next = next;
+  next = told.next;
   history = history;
-  edges = rest.edges;
-  awake = rest.awake;
-  ended = rest.ended;
-  halted = rest.halted;
-  halted_at = rest.halted_at;
+  edges = x.edges;
+  awake = told.awake;
+  ended = told.ended;
+  halted = told.halted;
+  halted_at = halted_at;
 }
 
 -- 5. The table
@@ -221,8 +302,7 @@ pub record HasSizes (floor : Description) (b : Board) : Type 0 where
 
 pub record Represents (floor : Description) (b : Board) (s : State) : Type 0 where
   pub sizes : HasSizes floor b
-  pub locks : RepresentsLocks (config_in floor) (lock_word b.words) s.word
-  pub ticket : word_at b.words ticket_line ≡ s.next
+  pub words : RepresentsWords floor b.words (words_in s)
   pub room : s.next + total spare b.views < 2 ^ 32
   pub latches : RepresentsLatches floor (latch_word b.words) (item_with s)
   pub content : ℕ → Slot
@@ -230,4 +310,3 @@ pub record Represents (floor : Description) (b : Board) (s : State) : Type 0 whe
       (λ t. (thread_in b.views t).out) content
   pub objects : RepresentsObjects floor content (objects_in s)
   pub seats : RepresentsSeats floor b.views s
-  pub to_come : to_come s ≡ to_come (start_state (config_in floor))

@@ -6,7 +6,7 @@ use Rattle.floor_table.specs.Descriptions.{config_in}
 use Rattle.lock_model.specs.Takes.{has_reversal}
 use Rattle.lock_model.specs.declared.event.Entry.{Entry}
 use Rattle.floor_table.specs.declared.description.Description.{Description}
-use Rattle.lock_state.specs.State.{State, Note, OrderRefused, Running}
+use Rattle.lock_state.specs.State.{State, Note, OrderRefused}
 use Rattle.lock_state.specs.Facts.{LawfulFloor}
 use Rattle.lock_state.specs.Steps.{Step, EachStep, after_all, FitsFloor, maker}
 use Rattle.lock_state.specs.Steps.Items.{Item, item_with}
@@ -17,7 +17,7 @@ use Rattle.floor_table.specs.Past.{LeadsTo, IsSeenBy, past_with}
 use Rattle.floor_table.specs.Places.{slot_of}
 use Rattle.floor_table.specs.Shelves.{found}
 use Rattle.floor_table.specs.Views.{OfThread, Knowledge}
-use Rattle.floor_table.specs.Represents.{Board, RepresentsShare, IsOf, Represents, objects_in, thread_in}
+use Rattle.floor_table.specs.Represents.{Board, RepresentsShare, IsPosed, IsOf, Represents, objects_in, thread_in}
 
 -- Orders of locks aren't checked on a floor yet: no thread has the refusal of a take to note, and none stands in the
 -- history
@@ -43,12 +43,12 @@ FitAll floor s steps =
 -- it has out what its seat has, which says what the columns say, and nothing else
 pub record HasJust (floor : Description) (out : List (ℕ × Slot)) (s : State) (t : ℕ) : Type 0 where
   pub each : (i : Item) (j : ℕ) (x : Slot) → slot_of floor i ≡ Some j → found j out ≡ some x
-      → (item_with s i ≡ Some t) × IsOf (objects_in s) i x
+      → (item_with s i ≡ Some t) × IsOf floor (objects_in s) i x
   pub no_other : (i : Item) → item_with s i ≡ Some t
       → (j : ℕ) × (slot_of floor i ≡ Some j) × ((x : Slot) × (found j out ≡ some x))
 
 -- The state is one of which a thread's seat may know what it knows: others' steps led to it from the one behind all
--- steps that the seat has seen. The thread runs.
+-- steps that the seat has seen.
 pub record Fits (floor : Description) (v : Knowledge) (s : State) : Type 0 where
   pub past : List Step
   pub sound : IsSound floor past s
@@ -56,7 +56,7 @@ pub record Fits (floor : Description) (v : Knowledge) (s : State) : Type 0 where
   pub thread : v.thread < length floor.threads
   pub share : RepresentsShare v.share s v.thread
   pub out : HasJust floor v.out s v.thread
-  pub runs : s.wait v.thread ≡ Running
+  pub pose : IsPosed v.pose (s.wait v.thread) (s.blocked_on v.thread)
 
 -- whatever the state is, if something holds of it, the thread may make the steps
 abbrev pub MayMake : Description → Knowledge → (State → Type 0) → List Step → Type 0

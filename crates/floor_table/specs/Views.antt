@@ -1,5 +1,6 @@
 -- What a seat at a floor's table knows.
-use Rattle.std.specs.Prelude.{ℕ, List, []}
+use Rattle.std.specs.Prelude.{ℕ, Bool, true, false, List, []}
+use Rattle.lock_model.specs.declared.plan.QueueName.{QueueName}
 use Rattle.lock_state.specs.Steps.{Step}
 use Rattle.floor_table.specs.Descriptions.{room_for, room_in_all}
 use Rattle.floor_table.specs.declared.description.Description.{Description}
@@ -12,6 +13,19 @@ pub data Role : Type 0 where
   OfThread : Role
   OfNobody : Role
 
+-- Where a thread's seat knows that the thread is: it runs; or it was made ready for a queue, and stands on none yet; or
+-- it came to stand on a queue, and others may have taken it off and woken it since
+pub data Pose : Type 0 where
+  Runs : Pose
+  IsReady : Pose
+  StandsOn : QueueName → Pose
+
+-- whether it knows that the thread stands on no queue
+abbrev pub is_off_queues : Pose → Bool
+is_off_queues Runs = true
+is_off_queues IsReady = true
+is_off_queues (StandsOn q) = false
+
 pub record Knowledge : Type 0 where
   pub role : Role
   pub description : Description
@@ -20,10 +34,11 @@ pub record Knowledge : Type 0 where
   pub seen : List Step
   -- how many entries may still be made
   pub spare : ℕ
-  -- of a thread: its number, its share, and what it has out, each with its place
+  -- of a thread: its number, its share, what it has out, each with its place, and where it is
   pub thread : ℕ
   pub share : Share
   pub out : List (ℕ × Slot)
+  pub pose : Pose
   -- of the keeper: how many passes it made, and the threads whose passes it took in, with their shares
   pub made : ℕ
   pub gathered : List (ℕ × Share)
@@ -38,6 +53,7 @@ nothing = record {
   thread = 0;
   share = start_share;
   out = [];
+  pose = Runs;
   made = 0;
   gathered = [];
 }

@@ -1,15 +1,21 @@
 //! What follows from the definitions alone.
-ghost use Rattle.std.specs.Prelude.{◌≡◌, ℕ, ◌≤◌, ◌↔◌, IsTrue};
+ghost use Rattle.std.specs.Prelude.{◌≡◌, ℕ, ◌≤◌, ◌↔◌, List, [], Option, IsTrue, IsSome, None, true};
 ghost use Rattle.std.specs.List.{Contains};
 ghost use Rattle.lock_model.specs.Keys.{plan_names};
 ghost use Rattle.lock_model.specs.Operations.{IsProper};
 ghost use Rattle.lock_model.specs.Plans.{config_of, operations_of};
 ghost use Rattle.lock_model.specs.declared.plan.Plan.{Plan};
-ghost use Rattle.lock_state.specs.State.{State};
-ghost use Rattle.lock_state.specs.Steps.Items.{item_with};
+ghost use Rattle.lock_model.specs.declared.plan.QueueName.{QueueName};
+ghost use Rattle.lock_state.specs.State.{State, Wait};
+ghost use Rattle.lock_state.specs.Steps.Items.{TurnstileChain, SleepChain, item_with};
 ghost use Rattle.floor_table.specs.Descriptions.{config_in, room_for, IsSized, room_of, description_of};
-ghost use Rattle.floor_table.specs.Represents.{objects_in, state_from, to_come};
+ghost use Rattle.floor_table.specs.Represents.{words_in, Objects, objects_in, state_from, wait_number, IsPosed, StandsIn, RepresentsTurnstiles, RepresentsSleepChain};
 ghost use Rattle.floor_table.specs.Shares.{share_in};
+ghost use Rattle.floor_table.specs.Steps.{Fits};
+ghost use Rattle.floor_table.specs.Views.{Pose, Knowledge, is_off_queues};
+ghost use Rattle.floor_table.specs.declared.description.Description.{Description};
+ghost use Rattle.sleep_queues.specs.Seen.{SleepQueue};
+ghost use Rattle.turnstile_core.specs.Seen.{Turnstile};
 
 /// What a plan gives says of threads, locks and channels what the plan says, and fits a floor's table where the plan is
 /// proper; a thread has room for two entries for each of its operations; and the keys are those that operations name.
@@ -24,8 +30,37 @@ pub fn plans_give_descriptions()
         → Contains (description_of plan chains).keys (l, key) ↔ IsTrue (plan_names plan l key) }
 {}
 
-/// Each column of a state is one that a floor's table tells, or one of which it doesn't tell yet.
-pub fn columns_are_told_or_to_come()
-    ensures { (s : State) → state_from s.word s.next (item_with s) (objects_in s) (share_in s)
-        s.history (to_come s) ≡ s }
+/// Each column of a state is one that a floor's table tells, but for the history, of which the logs are the parts, and
+/// the moment of the first halt, which the steps tell.
+pub fn columns_are_told()
+    ensures { (s : State) → state_from (words_in s) (item_with s) (objects_in s) (share_in s)
+        s.history s.halted_at ≡ s }
+{}
+
+/// Where a seat knows that its thread stands on no queue, the thread's record names none, and its turnstile and its sleep
+/// queue are at home.
+pub fn poses_tell_of_records()
+    ensures nowhere { (floor : Description) (v : Knowledge) (s : State) → Fits floor v s
+        → is_off_queues v.pose ≡ true → s.blocked_on v.thread ≡ None }
+    ensures turnstile { (floor : Description) (v : Knowledge) (s : State) → Fits floor v s
+        → is_off_queues v.pose ≡ true → IsSome (s.turnstile v.thread) }
+    ensures sleep_queue { (floor : Description) (v : Knowledge) (s : State) → Fits floor v s
+        → is_off_queues v.pose ≡ true → IsSome (s.sleep_queue v.thread) }
+{}
+
+/// Where a seat knows that its thread is, and what the thread's wait word says, tell how the thread waits: whether it runs,
+/// is Queued, or was woken, off which queue and how.
+pub fn waits_are_told()
+    ensures { (pose : Pose) (a b : Wait) (on other : Option QueueName) → IsPosed pose a on
+        → IsPosed pose b other → wait_number a ≡ wait_number b → a ≡ b }
+{}
+
+/// A chain has no name but those of queues that stand in it: where none of these has a head, it is empty.
+pub fn chains_have_no_other()
+    ensures turnstiles { (floor : Description) (k : ℕ) (chain : List (QueueName × Turnstile))
+        (x : Objects) → RepresentsTurnstiles floor k chain x → ((q : QueueName)
+        → StandsIn floor (TurnstileChain k) q → (x.queues q).head ≡ None) → chain ≡ [] }
+    ensures sleep_queues { (floor : Description) (k : ℕ) (chain : List (QueueName × SleepQueue))
+        (x : Objects) → RepresentsSleepChain floor k chain x → ((q : QueueName)
+        → StandsIn floor (SleepChain k) q → (x.queues q).head ≡ None) → chain ≡ [] }
 {}

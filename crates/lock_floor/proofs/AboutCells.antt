@@ -15,7 +15,7 @@ use Rattle.lock_state.specs.Steps.LockWords.{changes_sections}
 use Rattle.floor_table.specs.Descriptions.{config_in}
 use Rattle.floor_table.specs.declared.description.Description.{Description}
 use Rattle.floor_table.specs.declared.slot.Slot.{Slot}
-use Rattle.floor_table.specs.declared.slot.Slot.TheVariants.{Record, Cell}
+use Rattle.floor_table.specs.declared.slot.Slot.TheVariants.{Record, Cell, Turnstiles, SleepQueues, Graph}
 use Rattle.floor_table.specs.Places.{slot_of}
 use Rattle.floor_table.specs.Represents.{IsOf, objects_in}
 use Rattle.floor_table.specs.Steps.{Fits, MayMake}
@@ -51,14 +51,14 @@ module _ (floor : Description) (v : Knowledge) (calm : IsAtRest floor v) (l : Lo
   is_lock (Holds mode) e held s f = only_locks floor s v.thread l.0 mode f.sound.reached (holds_it floor v s f l.0 ∙ e)
 
   pub may_take_cell : hold_in v.share.held l.0 ≢ NotHeld → MayMake floor v (λ s. item_with s cell ≡ None) (TakesItem v.thread cell ∷ [])
-  may_take_cell held = may_take floor v cell calm.nothing_out calm.no_round calm.going (is_lock (hold_in v.share.held l.0) refl held)
+  may_take_cell held = may_take floor v cell calm.runs calm.nothing_out calm.no_round calm.going (is_lock (hold_in v.share.held l.0) refl held)
 
   -- once it has the cell
   module _ (a : Knowledge) (taken : Takes floor cell j v a) where
     calm_with : IsAtRest floor (record a { out = [] })
     calm_with = rest_with floor v a cell j refl calm taken
 
-    has_cell : (s : State) (f : Fits floor a s) (x : Slot) → a.out ≡ (j, x) ∷ rest a.out → (item_with s cell ≡ Some a.thread) × IsOf (objects_in s) cell x
+    has_cell : (s : State) (f : Fits floor a s) (x : Slot) → a.out ≡ (j, x) ∷ rest a.out → (item_with s cell ≡ Some a.thread) × IsOf floor (objects_in s) cell x
     has_cell s f x last = says_its floor a cell j x place last s f
 
     section : (s : State) → Fits floor a s → open_in c s.history a.thread l.0 ≡ hold_in v.share.held l.0
@@ -76,6 +76,9 @@ module _ (floor : Description) (v : Knowledge) (calm : IsAtRest floor v) (l : Lo
         go : (y : Slot) → IsOfKind cell y → a.out ≡ (j, y) ∷ rest a.out → (x : Option ℕ) × (a.out ≡ (j, Cell x) ∷ rest a.out)
         go (Cell x) its last = (x, last)
         go (Record b) its last = absurd its
+        go (Turnstiles chain) its last = absurd its
+        go (SleepQueues chain) its last = absurd its
+        go (Graph b) its last = absurd its
 
     pub may_tell : (found : Option ℕ) → a.out ≡ (j, Cell found) ∷ rest a.out → hold_in v.share.held l.0 ≢ NotHeld → MayMake floor a (λ s. Unit {0}) (Stamps a.thread (Got l key found) ∷ [])
     may_tell found last held =

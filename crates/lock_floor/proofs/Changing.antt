@@ -11,7 +11,7 @@ use Rattle.lock_model.specs.declared.event.Event.{Event}
 use Rattle.lock_model.specs.declared.event.Event.TheVariants.{Set, Added, Base}
 use Rattle.lock_model.specs.declared.numbers.Prio.{Prio}
 use Rattle.lock_objects.proofs.Records.{with_other_base, none_beyond}
-use Rattle.lock_objects.specs.Represents.{RepresentsRecord, record_in}
+use Rattle.lock_objects.specs.Represents.{RecordColumns, RepresentsRecord, record_in}
 use Rattle.lock_state.specs.Facts.{Lawful}
 use Rattle.lock_state.specs.State.{State, put, put_at}
 use Rattle.lock_state.specs.Steps.{Stamps}
@@ -20,7 +20,7 @@ use Rattle.lock_state.specs.Steps.LockWords.{after_stamp, effective_of}
 use Rattle.floor_table.specs.Descriptions.{config_in}
 use Rattle.floor_table.specs.declared.description.Description.{Description}
 use Rattle.floor_table.specs.declared.slot.Slot.{Slot}
-use Rattle.floor_table.specs.declared.slot.Slot.TheVariants.{Record, Cell}
+use Rattle.floor_table.specs.declared.slot.Slot.TheVariants.{Record, Cell, Turnstiles, SleepQueues, Graph}
 use Rattle.floor_table.specs.Places.{spot, ticket_line, word_at, latch_word, slots_for, slot_of, home_at}
 use Rattle.floor_table.specs.Represents.{Board, Objects, IsOf, RepresentsObjects, objects_in, thread_in}
 use Rattle.floor_table.specs.Rule.{FloorHolds}
@@ -30,6 +30,7 @@ use Rattle.floor_table.specs.Views.{Knowledge, OfThread, nothing}
 use Rattle.floor_table.proofs.Items.{one_place}
 use Rattle.floor_table.proofs.Lists.{at_or}
 use Rattle.floor_table.proofs.Made.{Finds, Steps, allows}
+use Rattle.floor_table.proofs.Objects.{SaySame, still_of}
 use Rattle.floor_table.proofs.Shelved.{found_first, shelf_changed}
 use Rattle.lock_floor.specs.Changes.{IsChangeOf, changed, last_changed}
 use Rattle.lock_floor.proofs.Stamping.{StampedWith, stamps}
@@ -37,27 +38,27 @@ use Rattle.lock_floor.proofs.Stamping.{StampedWith, stamps}
 -- 1. One object changes
 
 -- what the columns say of the other items stays
-record OnlyChanges (x y : Objects) (i : Item) : Type 0 where
-  others : (k : Item) (z : Slot) → k ≢ i → IsOf x k z → IsOf y k z
+record OnlyChanges (floor : Description) (x y : Objects) (i : Item) : Type 0 where
+  others : (k : Item) → k ≢ i → SaySame floor x y k
   tables : (l key : ℕ) → CellOf l key ≢ i → y.table l key ≡ x.table l key
 
-object_changed : (floor : Description) (content : ℕ → Slot) (x y : Objects) (i : Item) (j : ℕ) (z : Slot) → slot_of floor i ≡ Some j → OnlyChanges x y i → IsOf y i z → RepresentsObjects floor content x → RepresentsObjects floor (put content j z) y
+object_changed : (floor : Description) (content : ℕ → Slot) (x y : Objects) (i : Item) (j : ℕ) (z : Slot) → slot_of floor i ≡ Some j → OnlyChanges floor x y i → IsOf floor y i z → RepresentsObjects floor content x → RepresentsObjects floor (put content j z) y
 object_changed floor content x y i j z place only is h = record {
   each = λ k m at.
       elim (cases_eq j m) [
         | inl e ↦
             let same : i ≡ k = one_place floor i k j place (at ∙ ap Some (sym e)) in
-            subst (λ n. IsOf y k (put content j z n)) e (subst (λ w. IsOf y k w) (sym (put_same content j z)) (subst (λ q. IsOf y q z) same is))
+            subst (λ n. IsOf floor y k (put content j z n)) e (subst (λ w. IsOf floor y k w) (sym (put_same content j z)) (subst (λ q. IsOf floor y q z) same is))
         | inr ne ↦
             let other : k ≢ i = λ q. ne (same_Some j m (sym place ∙ ap (slot_of floor) (sym q) ∙ at)) in
-            subst (λ w. IsOf y k w) (sym (put_other content j z m ne)) (only.others k (content m) other (h.each k m at))
+            subst (λ w. IsOf floor y k w) (sym (put_other content j z m ne)) (still_of floor x y k (content m) (only.others k other) (h.each k m at))
       ];
   unnamed = λ l key none.
       only.tables l key (λ q. absurd (let e : None ≡ Some j = sym none ∙ ap (slot_of floor) q ∙ place in cc)) ∙ h.unnamed l key none;
 }
 
 -- a key of a lock's table gets a value
-module _ (x : Objects) (a b : ℕ) (v : Option ℕ) where
+module _ (floor : Description) (x : Objects) (a b : ℕ) (v : Option ℕ) where
   abbrev y : Objects
   y = record x { table = put_at x.table a b v }
 
@@ -68,75 +69,74 @@ module _ (x : Objects) (a b : ℕ) (v : Option ℕ) where
         | inr p ↦ put_at_other x.table a b v l key p
       ]
 
-  key_changes : OnlyChanges x y (CellOf a b)
+  key_changes : OnlyChanges floor x y (CellOf a b)
   key_changes = record { others = go; tables = beside }
     where
-      go : (k : Item) (z : Slot) → k ≢ CellOf a b → IsOf x k z → IsOf y k z
-      go (RecordOf u) (Record r) ne h = h
-      go (RecordOf u) (Cell w) ne h = absurd h
-      go (CellOf l key) (Cell w) ne h = h ∙ sym (beside l key ne)
-      go (CellOf l key) (Record r) ne h = absurd h
-      go (TurnstileChain k) (Record r) ne h = absurd h
-      go (TurnstileChain k) (Cell w) ne h = absurd h
-      go (SleepChain k) (Record r) ne h = absurd h
-      go (SleepChain k) (Cell w) ne h = absurd h
-      go ClassGraph (Record r) ne h = absurd h
-      go ClassGraph (Cell w) ne h = absurd h
+      go : (k : Item) → k ≢ CellOf a b → SaySame floor x y k
+      go (RecordOf u) ne = refl
+      go (CellOf l key) ne = beside l key ne
+      go (TurnstileChain k) ne = λ q there. record { queue = refl; loan_home = λ n e. refl }
+      go (SleepChain k) ne = λ q there. refl
+      go ClassGraph ne = refl
 
 -- a thread's record changes
-record_changes : (x y : Objects) (t : ℕ) → ((u : ℕ) → t ≢ u → y.record_of u ≡ x.record_of u) → y.table ≡ x.table → OnlyChanges x y (RecordOf t)
-record_changes x y t same tables = record { others = go; tables = λ l key ne i. tables i l key }
+record_changes : (floor : Description) (x : Objects) (f : ℕ → RecordColumns) (t : ℕ) → ((u : ℕ) → t ≢ u → f u ≡ x.record_of u) → OnlyChanges floor x (record x { record_of = f }) (RecordOf t)
+record_changes floor x f t same = record { others = go; tables = λ l key ne. refl }
   where
-    go : (k : Item) (z : Slot) → k ≢ RecordOf t → IsOf x k z → IsOf y k z
-    go (RecordOf u) (Record r) ne h = subst (RepresentsRecord r.value) (sym (same u (λ e. ne (ap RecordOf (sym e))))) h
-    go (RecordOf u) (Cell w) ne h = absurd h
-    go (CellOf l key) (Cell w) ne h = h ∙ sym (λ i. tables i l key)
-    go (CellOf l key) (Record r) ne h = absurd h
-    go (TurnstileChain k) (Record r) ne h = absurd h
-    go (TurnstileChain k) (Cell w) ne h = absurd h
-    go (SleepChain k) (Record r) ne h = absurd h
-    go (SleepChain k) (Cell w) ne h = absurd h
-    go ClassGraph (Record r) ne h = absurd h
-    go ClassGraph (Cell w) ne h = absurd h
+    go : (k : Item) → k ≢ RecordOf t → SaySame floor x (record x { record_of = f }) k
+    go (RecordOf u) ne = same u (λ e. ne (ap RecordOf (sym e)))
+    go (CellOf l key) ne = refl
+    go (TurnstileChain k) ne = λ q there. record { queue = refl; loan_home = λ n e. refl }
+    go (SleepChain k) ne = λ q there. refl
+    go ClassGraph ne = refl
 
 -- 2. The object that an event is about
 
-module _ (c : Config) (s : State) (t : ℕ) (lawful : Lawful c s) where
+module _ (floor : Description) (s : State) (t : ℕ) (lawful : Lawful (config_in floor) s) where
+  abbrev c : Config
+  c = config_in floor
+
   abbrev ItsObject : Event → Item → Slot → Type 0
-  ItsObject e i x = OnlyChanges (objects_in s) (objects_in (after_stamp c s t e)) i × IsOf (objects_in (after_stamp c s t e)) i (changed e x)
+  ItsObject e i x = OnlyChanges floor (objects_in s) (objects_in (after_stamp c s t e)) i × IsOf floor (objects_in (after_stamp c s t e)) i (changed e x)
 
-  cell_is : (l key : ℕ) (x : Slot) (e : Event) (v : Option ℕ) → IsOf (objects_in s) (CellOf l key) x → ((before : Option ℕ) → x ≡ Cell before → before ≡ s.table l key → changed e x ≡ Cell v)
-      → IsOf (record (objects_in s) { table = put_at s.table l key v }) (CellOf l key) (changed e x)
+  cell_is : (l key : ℕ) (x : Slot) (e : Event) (v : Option ℕ) → IsOf floor (objects_in s) (CellOf l key) x → ((before : Option ℕ) → x ≡ Cell before → before ≡ s.table l key → changed e x ≡ Cell v)
+      → IsOf floor (record (objects_in s) { table = put_at s.table l key v }) (CellOf l key) (changed e x)
   cell_is l key (Cell before) e v h is =
-      subst (IsOf (record (objects_in s) { table = put_at s.table l key v }) (CellOf l key)) (sym (is before refl h)) (sym (put_at_same s.table l key v))
+      subst (IsOf floor (record (objects_in s) { table = put_at s.table l key v }) (CellOf l key)) (sym (is before refl h)) (sym (put_at_same s.table l key v))
   cell_is l key (Record b) e v h is = absurd h
+  cell_is l key (Turnstiles chain) e v h is = absurd h
+  cell_is l key (SleepQueues chain) e v h is = absurd h
+  cell_is l key (Graph b) e v h is = absurd h
 
-  base_is : (p : Prio) (x : Slot) → IsOf (objects_in s) (RecordOf t) x → IsOf (objects_in (after_stamp c s t (Base p))) (RecordOf t) (changed (Base p) x)
+  base_is : (p : Prio) (x : Slot) → IsOf floor (objects_in s) (RecordOf t) x → IsOf floor (objects_in (after_stamp c s t (Base p))) (RecordOf t) (changed (Base p) x)
   unfolding after_stamp
   base_is p (Record b) h =
       subst (RepresentsRecord _) (sym (λ i. record (record_in s t) { base = put_same s.base t p.0 i; effective = put_same s.effective t (effective_of c (s.loan t) p.0) i }))
       (with_other_base c p.0 (none_beyond c s t lawful) h)
   base_is p (Cell v) h = absurd h
+  base_is p (Turnstiles chain) h = absurd h
+  base_is p (SleepQueues chain) h = absurd h
+  base_is p (Graph b) h = absurd h
 
   the_one : (i k : Item) → ◌≡◌ {A = List Item} (k ∷ []) (i ∷ []) → k ≡ i
   the_one i k e = cc
 
-  its_object : (e : Event) (i : Item) (x : Slot) → IsChangeOf t e i → IsOf (objects_in s) i x → ItsObject e i x
+  its_object : (e : Event) (i : Item) (x : Slot) → IsChangeOf t e i → IsOf floor (objects_in s) i x → ItsObject e i x
   unfolding after_stamp
   its_object (Set l key v) i x is h =
       subst (λ q. ItsObject (Set l key v) q x) (the_one i _ is)
-      (key_changes (objects_in s) l.0 key (Some v), cell_is l.0 key x (Set l key v) (Some v) (subst (λ q. IsOf (objects_in s) q x) (sym (the_one i _ is)) h) (λ before e same. ap (changed (Set l key v)) e))
+      (key_changes floor (objects_in s) l.0 key (Some v), cell_is l.0 key x (Set l key v) (Some v) (subst (λ q. IsOf floor (objects_in s) q x) (sym (the_one i _ is)) h) (λ before e same. ap (changed (Set l key v)) e))
   its_object (Added l key n) i x is h =
       subst (λ q. ItsObject (Added l key n) q x) (the_one i _ is) (
-        key_changes (objects_in s) l.0 key (Some (added (s.table l.0 key) n)),
-        cell_is l.0 key x (Added l key n) (Some (added (s.table l.0 key) n)) (subst (λ q. IsOf (objects_in s) q x) (sym (the_one i _ is)) h)
+        key_changes floor (objects_in s) l.0 key (Some (added (s.table l.0 key) n)),
+        cell_is l.0 key x (Added l key n) (Some (added (s.table l.0 key) n)) (subst (λ q. IsOf floor (objects_in s) q x) (sym (the_one i _ is)) h)
             (λ before e same. ap (changed (Added l key n)) e ∙ ap (λ o. Cell (Some (added o n))) same),
       )
   its_object (Base p) i x is h =
       subst (λ q. ItsObject (Base p) q x) (the_one i _ is) (
-        record_changes (objects_in s) (objects_in (after_stamp c s t (Base p))) t
-            (λ u ne k. record (record_in s u) { base = put_other s.base t p.0 u ne k; effective = put_other s.effective t (effective_of c (s.loan t) p.0) u ne k }) refl,
-        base_is p x (subst (λ q. IsOf (objects_in s) q x) (sym (the_one i _ is)) h),
+        record_changes floor (objects_in s) (record_in (after_stamp c s t (Base p))) t
+            (λ u ne k. record (record_in s u) { base = put_other s.base t p.0 u ne k; effective = put_other s.effective t (effective_of c (s.loan t) p.0) u ne k }),
+        base_is p x (subst (λ q. IsOf floor (objects_in s) q x) (sym (the_one i _ is)) h),
       )
   its_object other i x is h = absurd cc
 
@@ -157,7 +157,7 @@ change_allowed floor me event slots id i j x was room about place last changes m
         let y : Slot = changed event x in
         let now : me.1 ≡ (j, y) ∷ rest me.0.out = changes ∙ ap (last_changed event) last in
         let is_its = (h.fits.out.each i j x place (ap (found j) last ∙ found_first j x (rest me.0.out))).1 in
-        let its = its_object (config_in floor) h.state t h.sound.facts.lawful event i x about is_its in
+        let its = its_object floor h.state t h.sound.facts.lawful event i x about is_its in
         stamps floor me was room event (λ me. me.1) b h (put r.content j y) (may h.state h.fits tt)
         (subst (λ o. Shelves (slots_for floor) (latch_word b.words) (home_at b.homes) (put outs t o) (put r.content j y)) (sym now)
         (shelf_changed (slots_for floor) (latch_word b.words) (home_at b.homes) outs r.content r.shelves j t x y (rest me.0.out) mine))

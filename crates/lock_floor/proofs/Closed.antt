@@ -12,15 +12,16 @@ use Rattle.std.specs.declared.boxed.Box.{Box}
 use Rattle.atomic_table.specs.Table.{Final, Seen}
 use Rattle.lock_model.specs.Counts.{some as count, one, sum_below, at_option, times}
 use Rattle.lock_model.specs.History.{entries_of}
-use Rattle.lock_model.specs.Queues.{lock_queue, names_turnstile, names_sleep_queue}
+use Rattle.lock_model.specs.Queues.{Waiter, lock_queue, times_waiting, stands}
 use Rattle.lock_model.specs.declared.plan.QueueName.{QueueName}
 use Rattle.lock_objects.specs.Represents.{RecordColumns, RepresentsRecord, record_in, loan_of}
-use Rattle.lock_state.specs.Facts.{TurnstileIsLent, SleepQueueIsLent, OneTurnstileEach, OneSleepQueueEach, StandingIsQueued, LoansAreWithOwners, BasesReplay, LogsAreParts}
+use Rattle.lock_state.specs.Facts.{OneTurnstileEach, OneSleepQueueEach, HeadsFitWaiters, LoansAreOnHeads, BasesReplay, LogsAreParts}
 use Rattle.lock_state.specs.Facts.Queues.{turnstile_places, sleep_queue_places}
-use Rattle.lock_state.specs.State.{State, Loan, Wait, Running, Queued, start_state}
+use Rattle.lock_state.specs.State.{State, Loan, Running}
 use Rattle.lock_state.specs.Steps.{Step}
 use Rattle.lock_state.specs.Steps.Items.{RecordOf, CellOf}
 use Rattle.lock_laws.proofs.Kit.{sum_below-two, one_same}
+use Rattle.lock_laws.proofs.Standing.{standing_named}
 use Rattle.thread_records.specs.Loans.{loan_for}
 use Rattle.thread_records.specs.Records.{Record}
 use Rattle.thread_records.specs.declared.record.ThreadRec.{ThreadRec}
@@ -28,16 +29,16 @@ use Rattle.turnstile_core.specs.Seen.{Terms}
 use Rattle.floor_table.specs.Descriptions.{config_in}
 use Rattle.floor_table.specs.declared.description.Description.{Description}
 use Rattle.floor_table.specs.declared.slot.Slot.{Slot}
-use Rattle.floor_table.specs.declared.slot.Slot.TheVariants.{Record as Recorded, Cell}
+use Rattle.floor_table.specs.declared.slot.Slot.TheVariants.{Record as Recorded, Cell, Turnstiles, SleepQueues, Graph}
 use Rattle.floor_table.specs.Places.{slots_for, latch_word}
 use Rattle.floor_table.specs.Shares.{Share, ShareColumns}
-use Rattle.floor_table.specs.Views.{OfThread, Knowledge, nothing}
-use Rattle.floor_table.specs.Represents.{Board, IsOf, objects_in, seat, keeper_in, thread_in, total, live, one_thread, IsTakenIn, ToCome, to_come, Represents}
+use Rattle.floor_table.specs.Views.{OfThread, Runs, Knowledge, nothing}
+use Rattle.floor_table.specs.Represents.{Board, IsOf, objects_in, seat, keeper_in, thread_in, total, live, one_thread, IsTakenIn, IsPosed, Represents}
 use Rattle.floor_table.specs.Rule.{FloorHolds}
 use Rattle.floor_table.specs.Shelves.{found}
 use Rattle.floor_table.specs.Steps.{IsSound}
 use Rattle.floor_table.proofs.Items.{place_low}
-use Rattle.floor_table.proofs.Known.{all_run}
+use Rattle.floor_table.proofs.Poses.{stands_nowhere, has_turnstile, has_sleep_queue}
 use Rattle.floor_table.proofs.Lists.{at_or, or_at}
 use Rattle.lock_floor.specs.Closings.{IsHome}
 use Rattle.lock_floor.proofs.CellPlaces.{cell_at}
@@ -52,48 +53,56 @@ no_loans (t ∷ ts) h =
     let first : loan_for t.lock (t ∷ ts) ≡ Some t = ap (λ b. cond b (Some t) (loan_for t.lock ts)) (eq-eqb t.lock t.lock refl) in
     absurd (let z : Some (loan_of t) ≡ None = sym (ap (option_map loan_of) first) ∙ h t.lock in cc)
 
-one_there : (o : Option ℕ) → count o + 0 ≡ 1 → IsSome o
-one_there None e = absurd (omega (arith, e))
-one_there (Some n) e = refl
+-- a list in which nobody waits is empty
+none_waits : (ws : List Waiter) → ((t : ℕ) → times_waiting t ws ≡ 0) → length ws ≡ 0
+none_waits [] h = refl
+none_waits (w ∷ ws) h =
+    let here : one (w.thread == w.thread) ≡ 1 = ap one (eq-eqb w.thread w.thread refl) in
+    absurd (let none = h w.thread in omega (arith, here, none))
 
-nowhere : (wait : Wait) (o : Option QueueName) → wait ≡ Running → ((q : QueueName) → o ≡ Some q → wait ≡ Queued) → o ≡ None
-nowhere wait None runs h = refl
-nowhere wait (Some q) runs h = absurd (let z : Running ≡ Queued = sym runs ∙ h q refl in cc)
+unlent : (head : Option ℕ) (o : Option Loan) → count head ≡ 0 → ((x : Loan) → o ≡ Some x → head ≡ Some x.number) → o ≡ None
+unlent head None e h = refl
+unlent head (Some x) e h = absurd (let z : count head ≡ 1 = ap count (h x refl) in omega (arith, e, z))
 
-unlent : (owner : Option ℕ) (t : ℕ) (o : Option Loan) → owner ≡ None → ((x : Loan) → o ≡ Some x → owner ≡ Some t) → o ≡ None
-unlent owner t None e h = refl
-unlent owner t (Some x) e h = absurd (let z : None ≡ Some t = sym e ∙ h x refl in cc)
+module _ (floor : Description) {past : List Step} (s : State) (sound : IsSound floor past s) (running : (t : ℕ) → s.wait t ≡ Running) where
+  nowhere_at : (t : ℕ) → s.blocked_on t ≡ None
+  nowhere_at t = stands_nowhere (config_in floor) s sound.facts.lawful t Runs refl (running t)
 
-module _ (floor : Description) {past : List Step} (s : State) (sound : IsSound floor past s) (still : to_come s ≡ to_come (start_state (config_in floor))) where
-  stands_nowhere : (t : ℕ) → s.blocked_on t ≡ None
-  unfolding StandingIsQueued
-  stands_nowhere t = nowhere (s.wait t) (s.blocked_on t) (all_run (config_in floor) s t still) (sound.facts.lawful.waits.standing_is_queued t)
+  -- so nobody waits on a queue, which then has no turnstile to lend
+  stands_none : (q : QueueName) (t : ℕ) → stands t (s.lists q) ≡ 0
+  stands_none q t = go (stands t (s.lists q)) refl
+    where
+      go : (n : ℕ) → stands t (s.lists q) ≡ n → n ≡ 0
+      go zero e = refl
+      go (suc n) e = absurd (let z : None ≡ Some q = sym (nowhere_at t) ∙ standing_named (config_in floor) s t q sound.facts.lawful (omega (arith, e)) in cc)
 
-  no_owner : (l : ℕ) → s.owner (lock_queue l) ≡ None
-  unfolding start_state
-  no_owner l = ap (λ (x : ToCome). x.owner (lock_queue l)) still
+  no_head : (q : QueueName) → count (s.head q) ≡ 0
+  unfolding HeadsFitWaiters
+  no_head q =
+      let first = none_waits (s.lists q).exclusive (λ t. let n = stands_none q t in omega (arith, n)) in
+      let second = none_waits (s.lists q).shared (λ t. let n = stands_none q t in omega (arith, n)) in
+      let fits = (sound.facts.lawful.queues.heads_fit_waiters q).balanced in
+      omega (arith, first, second, fits)
 
   lends_nothing : (t l : ℕ) → s.loan t l ≡ None
-  unfolding LoansAreWithOwners
-  lends_nothing t l = unlent (s.owner (lock_queue l)) t (s.loan t l) (no_owner l) (sound.facts.lawful.loans.loans_are_with_owners t l)
+  unfolding LoansAreOnHeads
+  lends_nothing t l = unlent (s.head (lock_queue l)) (s.loan t l) (no_head (lock_queue l)) (sound.facts.lawful.loans.loans_are_on_heads t l)
 
-  has_turnstile : (t : ℕ) → IsSome (s.turnstile t)
-  unfolding TurnstileIsLent
-  has_turnstile t = one_there (s.turnstile t) (ap (λ o. count (s.turnstile t) + one (names_turnstile (config_in floor) o)) (sym (stands_nowhere t)) ∙ sound.facts.lawful.queues.turnstile_is_lent t)
+  turnstile_at : (t : ℕ) → IsSome (s.turnstile t)
+  turnstile_at t = has_turnstile (config_in floor) s sound.facts.lawful t (nowhere_at t)
 
-  has_sleep_queue : (t : ℕ) → IsSome (s.sleep_queue t)
-  unfolding SleepQueueIsLent
-  has_sleep_queue t = one_there (s.sleep_queue t) (ap (λ o. count (s.sleep_queue t) + one (names_sleep_queue (config_in floor) o)) (sym (stands_nowhere t)) ∙ sound.facts.lawful.queues.sleep_queue_is_lent t)
+  sleep_queue_at : (t : ℕ) → IsSome (s.sleep_queue t)
+  sleep_queue_at t = has_sleep_queue (config_in floor) s sound.facts.lawful t (nowhere_at t)
 
   pub home_of : (t : ℕ) (r : Record) → RepresentsRecord r (record_in s t) → IsHome floor s.history t r
   unfolding BasesReplay
   home_of t r h = record {
     thread = ap (λ (x : RecordColumns). x.thread) h.columns;
     base = ap (λ (x : RecordColumns). x.base) h.columns ∙ sound.facts.lawful.books.bases_replay t;
-    turnstile = subst IsSome (sym (ap (λ (x : RecordColumns). x.turnstile) h.columns)) (has_turnstile t);
-    sleep_queue = subst IsSome (sym (ap (λ (x : RecordColumns). x.sleep_queue) h.columns)) (has_sleep_queue t);
+    turnstile = subst IsSome (sym (ap (λ (x : RecordColumns). x.turnstile) h.columns)) (turnstile_at t);
+    sleep_queue = subst IsSome (sym (ap (λ (x : RecordColumns). x.sleep_queue) h.columns)) (sleep_queue_at t);
     no_loans = no_loans r.loans (λ l. ap (λ (x : RecordColumns). x.loan l) h.columns ∙ lends_nothing t l);
-    nowhere = ap (λ (x : RecordColumns). x.blocked_on) h.columns ∙ stands_nowhere t;
+    nowhere = ap (λ (x : RecordColumns). x.blocked_on) h.columns ∙ nowhere_at t;
   }
 
   -- 2. No two threads have one turnstile, or one sleep queue
@@ -117,11 +126,11 @@ module _ (floor : Description) {past : List Step} (s : State) (sound : IsSound f
 
   pub turnstiles_differ : (t u : ℕ) → t < length floor.threads → u < length floor.threads → s.turnstile t ≡ s.turnstile u → t ≡ u
   unfolding OneTurnstileEach turnstile_places
-  turnstiles_differ = differ s.turnstile (λ n. let p = sound.facts.lawful.queues.one_turnstile_each n in let m = most_one (nat_lt n (length floor.threads)) in omega (arith, p, m)) has_turnstile
+  turnstiles_differ = differ s.turnstile (λ n. let p = sound.facts.lawful.queues.one_turnstile_each n in let m = most_one (nat_lt n (length floor.threads)) in omega (arith, p, m)) turnstile_at
 
   pub sleep_queues_differ : (t u : ℕ) → t < length floor.threads → u < length floor.threads → s.sleep_queue t ≡ s.sleep_queue u → t ≡ u
   unfolding OneSleepQueueEach sleep_queue_places
-  sleep_queues_differ = differ s.sleep_queue (λ n. let p = sound.facts.lawful.queues.one_sleep_queue_each n in let m = most_one (nat_lt n (length floor.threads)) in omega (arith, p, m)) has_sleep_queue
+  sleep_queues_differ = differ s.sleep_queue (λ n. let p = sound.facts.lawful.queues.one_sleep_queue_each n in let m = most_one (nat_lt n (length floor.threads)) in omega (arith, p, m)) sleep_queue_at
 
 -- 3. All passes are taken in
 
@@ -130,13 +139,19 @@ live_at [] i = omega arith
 live_at (v ∷ vs) zero = omega arith
 live_at (v ∷ vs) (suc i) = let p = live_at vs i in omega (arith, p)
 
-record_there : (s : State) (t : ℕ) (x : Slot) → IsOf (objects_in s) (RecordOf t) x → (b : Box ThreadRec Global) × (x ≡ Recorded b) × RepresentsRecord b.value (record_in s t)
-record_there s t (Recorded b) h = (b, refl, h)
-record_there s t (Cell value) h = absurd h
+record_there : (floor : Description) (s : State) (t : ℕ) (x : Slot) → IsOf floor (objects_in s) (RecordOf t) x → (b : Box ThreadRec Global) × (x ≡ Recorded b) × RepresentsRecord b.value (record_in s t)
+record_there floor s t (Recorded b) h = (b, refl, h)
+record_there floor s t (Cell value) h = absurd h
+record_there floor s t (Turnstiles chain) h = absurd h
+record_there floor s t (SleepQueues chain) h = absurd h
+record_there floor s t (Graph b) h = absurd h
 
-cell_there : (s : State) (l key : ℕ) (x : Slot) → IsOf (objects_in s) (CellOf l key) x → x ≡ Cell (s.table l key)
-cell_there s l key (Recorded b) h = absurd h
-cell_there s l key (Cell value) h = ap Cell h
+cell_there : (floor : Description) (s : State) (l key : ℕ) (x : Slot) → IsOf floor (objects_in s) (CellOf l key) x → x ≡ Cell (s.table l key)
+cell_there floor s l key (Recorded b) h = absurd h
+cell_there floor s l key (Cell value) h = ap Cell h
+cell_there floor s l key (Turnstiles chain) h = absurd h
+cell_there floor s l key (SleepQueues chain) h = absurd h
+cell_there floor s l key (Graph b) h = absurd h
 
 module _ (floor : Description) (v : Knowledge) (ws : List ℕ) (xs : List Slot) (final : Final (Seen (FloorHolds floor) 0 v) ws xs) (all : length v.gathered ≡ length floor.threads) where
   abbrev b : Board
@@ -163,6 +178,10 @@ module _ (floor : Description) (v : Knowledge) (ws : List ℕ) (xs : List Slot) 
   nobody : (t : ℕ) → (thread_in b.views t).role ≢ OfThread
   nobody t e = let p = live_at b.views (suc t) in let q : live (thread_in b.views t) ≡ 1 = ap one_thread e in omega (arith, p, q, all_made.1)
 
+  -- so all threads run
+  pub running : (t : ℕ) → left.wait t ≡ Running
+  running t = subst (λ p. IsPosed p (left.wait t) (left.blocked_on t)) (represents.seats.runs t (nobody t)) (represents.seats.poses t)
+
   free : (j : ℕ) → j < slots_for floor → latch_word b.words j ≡ 0
   free j low = go (latch_word b.words j) refl
     where
@@ -176,7 +195,7 @@ module _ (floor : Description) (v : Knowledge) (ws : List ℕ) (xs : List Slot) 
   pub record_home : (t : ℕ) → t < length floor.threads → (b : Box ThreadRec Global) × (get_elem? xs t ≡ some (Recorded b)) × RepresentsRecord b.value (record_in left t)
   record_home t low =
       let place = record_at floor t low in
-      let p = record_there left t (represents.content t) (represents.objects.each (RecordOf t) t place) in
+      let p = record_there floor left t (represents.content t) (represents.objects.each (RecordOf t) t place) in
       (p.0, in_place t (place_low floor (RecordOf t) t place) ∙ ap some p.1, p.2)
 
   pub cell_home : (i : ℕ) (d : ℕ × ℕ) → i < length floor.keys → get_elem? xs (length floor.threads + i) ≡ some (Cell (left.table (get_or floor.keys i d).0 (get_or floor.keys i d).1))
@@ -184,7 +203,7 @@ module _ (floor : Description) (v : Knowledge) (ws : List ℕ) (xs : List Slot) 
       let x : ℕ × ℕ = get_or floor.keys i d in
       let j : ℕ = length floor.threads + i in
       let place = cell_at floor represents.sizes.sized i d low in
-      in_place j (place_low floor (CellOf x.0 x.1) j place) ∙ ap some (cell_there left x.0 x.1 (represents.content j) (represents.objects.each (CellOf x.0 x.1) j place))
+      in_place j (place_low floor (CellOf x.0 x.1) j place) ∙ ap some (cell_there floor left x.0 x.1 (represents.content j) (represents.objects.each (CellOf x.0 x.1) j place))
 
   pub places : length xs ≡ slots_for floor
   places = sym final.3 ∙ represents.sizes.slots

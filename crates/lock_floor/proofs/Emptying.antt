@@ -14,7 +14,7 @@ use Rattle.lock_history.proofs.Places.{get-insert_same, get-insert_other}
 use Rattle.lock_model.specs.History.{place_cmp}
 use Rattle.thread_records.specs.declared.record.ThreadRec.{ThreadRec}
 use Rattle.floor_table.specs.declared.slot.Slot.{Slot}
-use Rattle.floor_table.specs.declared.slot.Slot.TheVariants.{Record, Cell}
+use Rattle.floor_table.specs.declared.slot.Slot.TheVariants.{Record, Cell, Turnstiles, SleepQueues, Graph}
 use Rattle.floor_table.specs.Places.{is_cell}
 use Rattle.floor_table.proofs.Items.{its_cell}
 use Rattle.floor_table.proofs.Lists.{snoc_before, snoc_there}
@@ -36,10 +36,6 @@ still_empty fs i k h before =
 
 -- 2. Records
 
--- a record is no cell
-pub not_both : (x : Option ℕ) (b : Box ThreadRec Global) → some (Cell x) ≡ some (Record b) → ⊥
-not_both x b e = let z : Cell x ≡ Record b = some-injective (Cell x) (Record b) e in cc
-
 pub records_more : (xs : List Slot) (ys zs : List (Box ThreadRec Global)) (t : ℕ) (y : Box ThreadRec Global) → zs ≡ ys ++ y ∷ [] → length ys ≡ t → get_elem? xs t ≡ some (Record y)
     → ((k : ℕ) (d : Box ThreadRec Global) → k < t → get_elem? xs k ≡ some (Record (get_or ys k d))) → (k : ℕ) (d : Box ThreadRec Global) → k < t + 1 → get_elem? xs k ≡ some (Record (get_or zs k d))
 records_more xs ys zs t y is long here before k d low =
@@ -55,6 +51,9 @@ records_more xs ys zs t y is long here before k d low =
 value_of : Slot → Option ℕ
 value_of (Record b) = None
 value_of (Cell x) = x
+value_of (Turnstiles chain) = None
+value_of (SleepQueues chain) = None
+value_of (Graph b) = None
 
 pub same_value : (x y : Option ℕ) → some (Cell x) ≡ some (Cell y) → x ≡ y
 unfolding value_of

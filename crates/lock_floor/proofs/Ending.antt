@@ -18,7 +18,7 @@ use Rattle.thread_records.specs.declared.record.ThreadRec.{ThreadRec}
 use Rattle.floor_table.specs.Descriptions.{config_in}
 use Rattle.floor_table.specs.declared.description.Description.{Description}
 use Rattle.floor_table.specs.declared.slot.Slot.{Slot}
-use Rattle.floor_table.specs.declared.slot.Slot.TheVariants.{Record as Recorded, Cell}
+use Rattle.floor_table.specs.declared.slot.Slot.TheVariants.{Record as Recorded, Cell, Turnstiles, SleepQueues, Graph}
 use Rattle.floor_table.specs.Places.{is_cell}
 use Rattle.floor_table.specs.Rule.{FloorHolds}
 use Rattle.floor_table.specs.Views.{Knowledge}
@@ -30,6 +30,9 @@ use Rattle.lock_floor.proofs.Closed as closed
 recorded : Slot → Box ThreadRec Global → Box ThreadRec Global
 recorded (Recorded b) d = b
 recorded (Cell value) d = d
+recorded (Turnstiles chain) d = d
+recorded (SleepQueues chain) d = d
+recorded (Graph b) d = d
 
 same_record : (b c : Box ThreadRec Global) → some (Recorded b) ≡ some (Recorded c) → b ≡ c
 unfolding recorded
@@ -88,7 +91,7 @@ module _ (floor : Description) (v : Knowledge) (ws : List ℕ) (xs : List Slot) 
     pub is_closing : IsClosing floor (map (λ g. g.0) v.gathered) x
     is_closing =
         let sound = closed.sound floor v ws xs final all in
-        let still = (closed.represents floor v ws xs final all).to_come in
+        let running = closed.running floor v ws xs final all in
         record {
           history = s.history;
           logs = record {
@@ -100,9 +103,9 @@ module _ (floor : Description) (v : Knowledge) (ws : List ℕ) (xs : List Slot) 
           no_refusal = sound.no_refusal.in_history;
           few = few_entries;
           count = h.count;
-          home = λ t d low. closed.home_of floor s sound still t (get_or x.recs.items t d).value (its_record t d low);
-          turnstiles_differ = part_differs (λ r. r.turnstile) (closed.turnstiles_differ floor s sound still);
-          sleep_queues_differ = part_differs (λ r. r.sleep_queue) (closed.sleep_queues_differ floor s sound still);
+          home = λ t d low. closed.home_of floor s sound running t (get_or x.recs.items t d).value (its_record t d low);
+          turnstiles_differ = part_differs (λ r. r.turnstile) (closed.turnstiles_differ floor s sound running);
+          sleep_queues_differ = part_differs (λ r. r.sleep_queue) (closed.sleep_queues_differ floor s sound running);
           tables = same_map place_total place_exact x.tables.present (tables_of s.history) replayed;
           halted = h.going;
         }

@@ -72,9 +72,11 @@ module _ (floor : Description) (me : Me Slot Knowledge) (was : me.0.role ≡ OfT
         no_refusal = (λ u k j e. absurd cc, tt);
         seat = record { thread = refl; share = gain_own h.state v h.fits.share x allowed.0.may.unheld };
         others = λ u ne. gain_others h.state v.thread u ne x;
+        pose = h.fits.pose;
+        other_poses = λ u ne p k. k;
       } in
       let says_now : word_of new ≡ words.gained (h.state.word l) v.thread x.mode = says ∙ ap (λ y. words.gained y v.thread x.mode) (sym its_word) in
-      let made = lock_made floor (gain_step x me) b v w h was allowed own me.1 l new (words.gained (h.state.word l) v.thread x.mode) low says_now refl (record { next = refl; items = refl; objects = refl; to_come = refl }) refl refl in
+      let made = lock_made floor (gain_step x me) b v w h was allowed own me.1 l new (words.gained (h.state.word l) v.thread x.mode) low says_now refl (record { items = refl; objects = refl }) refl refl in
       (w, keeps, tt, made.0, (λ e. (refl, made.1), λ ne. absurd (ne same)))
 
   pub gain_allowed : (x : Held) → x.l.0 < length floor.locks → word_of new ≡ words.gained (word_of seen) v.thread x.mode → MayMake floor v (λ s. s.word x.l.0 ≡ word_of seen) (gain_step x me)
@@ -98,9 +100,11 @@ module _ (floor : Description) (me : Me Slot Knowledge) (was : me.0.role ≡ OfT
         no_refusal = (λ u k j e. absurd cc, tt);
         seat = record { thread = refl; share = drop_own h.state v h.fits.share l };
         others = λ u ne. drop_others h.state v.thread u ne l;
+        pose = h.fits.pose;
+        other_poses = λ u ne p k. k;
       } in
       let says_now : word_of new ≡ words.dropped (h.state.word l) = says ∙ ap (λ y. words.dropped y) (sym its_word) in
-      let made = lock_made floor (drop_step l mode me) b v w h was allowed own me.1 l new (words.dropped (h.state.word l)) low says_now refl (record { next = refl; items = refl; objects = refl; to_come = refl }) refl refl in
+      let made = lock_made floor (drop_step l mode me) b v w h was allowed own me.1 l new (words.dropped (h.state.word l)) low says_now refl (record { items = refl; objects = refl }) refl refl in
       (w, keeps, tt, made.0, (λ e. (refl, made.1), λ ne. absurd (ne same)))
 
   pub drop_allowed : (l : ℕ) (mode : Mode) → l < length floor.locks → word_of new ≡ words.dropped (word_of seen) → MayMake floor v (λ s. s.word l ≡ word_of seen) (drop_step l mode me)

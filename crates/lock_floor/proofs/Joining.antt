@@ -17,8 +17,8 @@ use Rattle.floor_table.specs.Past.{IsSeen, IsSeenBy, AreSeen}
 use Rattle.floor_table.specs.Places.{spot, ticket_line, slots_for, latch_word, home_at}
 use Rattle.floor_table.specs.Shares.{Share}
 use Rattle.floor_table.specs.Shelves.{Shelves}
-use Rattle.floor_table.specs.Views.{OfThread, OfNobody, Knowledge, nothing}
-use Rattle.floor_table.specs.Represents.{Board, keeper_in, thread_in, spare, live, one_thread, IsSeatOf, IsTakenIn, RepresentsSeats, Represents}
+use Rattle.floor_table.specs.Views.{OfThread, Runs, OfNobody, Knowledge, nothing}
+use Rattle.floor_table.specs.Represents.{Board, keeper_in, thread_in, spare, live, one_thread, IsSeatOf, IsTakenIn, IsPosed, RepresentsSeats, Represents}
 use Rattle.floor_table.specs.Rule.{FloorHolds}
 use Rattle.floor_table.proofs.Lists.{inside, at_or}
 use Rattle.floor_table.proofs.Seats.{total_set}
@@ -26,7 +26,7 @@ use Rattle.lock_floor.specs.Views.{longer, with_pass_taken}
 
 -- 1. A pass fewer
 
-module _ (floor : Description) (b : Board) (s : State) (r : Represents floor b s) (v w : Knowledge) (t : ℕ) (at : get_elem? b.views 0 ≡ some v) (there : get_elem? (set b.views 0 (with_pass_taken v w)) (suc t) ≡ some w) (was : w.role ≡ OfThread) (rest : w.out ≡ []) where
+module _ (floor : Description) (b : Board) (s : State) (r : Represents floor b s) (v w : Knowledge) (t : ℕ) (at : get_elem? b.views 0 ≡ some v) (there : get_elem? (set b.views 0 (with_pass_taken v w)) (suc t) ≡ some w) (was : w.role ≡ OfThread) (rest : w.out ≡ []) (runs : w.pose ≡ Runs) where
   abbrev vs : List Knowledge
   vs = b.views
 
@@ -131,13 +131,17 @@ module _ (floor : Description) (b : Board) (s : State) (r : Represents floor b s
         let one : live w ≡ 1 = ap one_thread was in
         let n = ap length more ∙ length-append (keeper_in vs).gathered ((w.thread, w.share) ∷ []) in
         omega (arith, first, second, one, n, same_made, r.seats.counted);
+    poses = λ u. subst (λ p. IsPosed p (s.wait u) (s.blocked_on u)) (sym (field_stays (λ (k : Knowledge). k.pose) (sym runs) u)) (r.seats.poses u);
+    runs = λ u none. elim (cases_eq u t) [
+      | inl e ↦ ap (λ j. (thread_in new j).pose) e ∙ ap (λ (k : Knowledge). k.pose) new_thread
+      | inr ne ↦ ap (λ (k : Knowledge). k.pose) (others_stay u ne) ∙ r.seats.runs u (λ e. none (ap (λ (k : Knowledge). k.role) (others_stay u ne) ∙ e))
+    ];
   }
 
   represents_joined : Represents floor (record { words = b.words; homes = b.homes; views = new }) s
   represents_joined = record {
     sizes = record { words = r.sizes.words; slots = r.sizes.slots; sized = r.sizes.sized };
-    locks = r.locks;
-    ticket = r.ticket;
+    words = r.words;
     room =
         let first = total_set spare vs 0 v both at in
         let second = total_set spare between (suc t) w nothing there in
@@ -147,7 +151,6 @@ module _ (floor : Description) (b : Board) (s : State) (r : Represents floor b s
     shelves = subst (λ o. Shelves (slots_for floor) (latch_word b.words) (home_at b.homes) o r.content) (λ i u. sym (field_stays (λ (k : Knowledge). k.out) (sym rest) u) i) r.shelves;
     objects = r.objects;
     seats = seats_joined;
-    to_come = r.to_come;
   }
 
   -- what the two have seen is of the one list, and so is the longer
@@ -168,14 +171,14 @@ module _ (floor : Description) (b : Board) (s : State) (r : Represents floor b s
         unmade = λ u after. h.unmade u (subst (λ n. n ≤ u) same_made after);
       }
 
-pub joins : (floor : Description) (v : Knowledge) (i : ℕ) (w : Knowledge) → w.role ≡ OfThread → w.out ≡ [] → Joins (FloorHolds floor) 0 v i w (with_pass_taken v w) nothing
-joins floor v zero w was rest b holds at apart there = absurd (apart refl)
-joins floor v (suc t) w was rest b holds at apart there = record {
+pub joins : (floor : Description) (v : Knowledge) (i : ℕ) (w : Knowledge) → w.role ≡ OfThread → w.out ≡ [] → w.pose ≡ Runs → Joins (FloorHolds floor) 0 v i w (with_pass_taken v w) nothing
+joins floor v zero w was rest runs b holds at apart there = absurd (apart refl)
+joins floor v (suc t) w was rest runs b holds at apart there = record {
   past = holds.past;
   state = holds.state;
   sound = holds.sound;
-  represents = represents_joined floor b holds.state holds.represents v w t at there was rest;
-  seen = seen_joined floor b holds.state holds.represents v w t at there was rest holds.past holds.seen;
+  represents = represents_joined floor b holds.state holds.represents v w t at there was rest runs;
+  seen = seen_joined floor b holds.state holds.represents v w t at there was rest runs holds.past holds.seen;
 }
 
 -- 2. No more passes are taken in than the floor has threads

@@ -1,38 +1,44 @@
 -- The rule when a floor is made, and when a pass is.
-use Rattle.std.proofs.Common.{◌≡◌, ◌≢◌, ℕ, zero, suc, ◌+◌, ◌*◌, ◌<◌, ◌≤◌, Option, Some, None, true, List, [], ◌∷◌, ◌++◌, length, get_or, set, drop, unwrap_or, sum, map, replicate, refl, sym, ap, ◌∙◌, subst, inl, inr, arith, length-set, length-append, get_or-set_same, get_or-set_other}
-use Rattle.std.proofs.lemmas.List.{append-nil, length-replicate, length-map}
-use Rattle.std.proofs.lemmas.List.Elements.{All-nil}
+use Rattle.std.proofs.Common.{◌≡◌, ◌≢◌, ℕ, zero, suc, ◌+◌, ◌-◌, ◌<◌, ◌≤◌, Option, Some, None, true, List, [], ◌∷◌, ◌++◌, length, get_or, set, drop, unwrap_or, map, replicate, refl, sym, ap, ◌∙◌, subst, inl, inr, arith, length-set, length-append, get_or-set_same, get_or-set_other}
+use Rattle.std.proofs.lemmas.List.{append-nil, length-replicate, length-map, get_or-replicate, get_or_append_left, get_or-append-add}
+use Rattle.std.proofs.lemmas.List.Elements.{All-nil, All-head, All-tail}
 use Rattle.std.proofs.lemmas.Bool.{cases_eq, cases_lt}
 use Rattle.std.proofs.lemmas.List.Sums.{sum_by-cons}
 use Rattle.std.specs.Prelude.{◌==◌, slice_get}
 use lib.ListN.{get_elem?}
-use Rattle.std.specs.List.{list_any}
+use Rattle.std.specs.List.{All, IsDistinct, list_any}
 use mathlib.Core.Option.{some, some-ne-none}
 use Rattle.atomic_table.specs.Table.{opening, Splits}
 use Rattle.lock_model.specs.Words.{word_of}
+use Rattle.lock_model.specs.Limits.{most_classes}
+use Rattle.lock_model.specs.Orders.{HaveSameEdges}
 use Rattle.lock_objects.specs.Represents.{RepresentsRecord}
+use Rattle.turnstile_core.specs.Seen.{Turnstile}
+use Rattle.sleep_queues.specs.Seen.{SleepQueue}
+use Rattle.witness_orders.specs.Graph as orders
 use Rattle.lock_state.specs.State.{State, start_state}
 use Rattle.lock_state.specs.Steps.{Step}
 use Rattle.lock_state.specs.Steps.Items.{Item, TurnstileChain, SleepChain, RecordOf, CellOf, ClassGraph, item_with}
 use Rattle.thread_records.specs.Records.{Record, made}
 use Rattle.floor_table.specs.Descriptions.{config_in, room_for, room_in_all, IsSized}
 use Rattle.floor_table.specs.declared.description.Description.{Description}
+use Rattle.floor_table.specs.declared.description.LockPart.{LockPart}
 use Rattle.floor_table.specs.declared.description.ThreadPart.{ThreadPart}
 use Rattle.floor_table.specs.declared.slot.Slot.{Slot}
-use Rattle.floor_table.specs.declared.slot.Slot.TheVariants.{Record as Recorded, Cell}
+use Rattle.floor_table.specs.declared.slot.Slot.TheVariants.{Record as Recorded, Cell, Turnstiles, SleepQueues, Graph}
 use Rattle.lock_state.specs.Steps.{maker}
 use Rattle.floor_table.specs.Past.{IsSeen, IsSeenBy, AreSeen}
-use Rattle.floor_table.specs.Places.{spot, latch_line, ticket_line, words_for, slots_for, slot_of, taker, latch_word, lock_word, home_at}
+use Rattle.floor_table.specs.Places.{spot, lock_line, wait_line, latch_line, ticket_line, awake_line, ended_line, halt_line, words_for, slots_for, slot_of, taker, latch_word, word_at, home_at}
 use Rattle.floor_table.specs.Shares.{Share}
 use Rattle.floor_table.specs.Shelves.{Shelves}
 use Rattle.floor_table.specs.Views.{OfThread, OfNobody, Knowledge, nothing, keeper}
-use Rattle.floor_table.specs.Represents.{Board, RepresentsLocks, RepresentsLatches, taken_from, RepresentsObjects, IsOf, objects_in, seat, keeper_in, thread_in, total, spare, live, IsSeatOf, IsTakenIn, RepresentsSeats, Represents}
+use Rattle.floor_table.specs.Represents.{Board, words_in, RepresentsWords, RepresentsLatches, taken_from, HasNames, RepresentsTurnstiles, RepresentsSleepChain, RepresentsGraph, RepresentsObjects, IsOf, objects_in, seat, keeper_in, thread_in, total, spare, live, IsSeatOf, IsTakenIn, IsPosed, RepresentsSeats, Represents}
 use Rattle.floor_table.specs.Rule.{FloorHolds}
-use Rattle.floor_table.proofs.Items.{record_place, cell_place, place_low}
+use Rattle.floor_table.proofs.Items.{record_place, its_part, place_low}
 use Rattle.floor_table.proofs.Lists.{inside, at_or, or_past, snoc_before, snoc_there}
 use Rattle.floor_table.proofs.Seats.{total_set}
 use Rattle.floor_table.proofs.Sound.{sound_begins}
-use Rattle.lock_floor.specs.First.{IsFirst}
+use Rattle.lock_floor.specs.First.{AreFirstWords, IsFirst}
 use Rattle.lock_floor.specs.Views.{with_pass_made, new_pass}
 
 -- 1. A pass more
@@ -138,13 +144,17 @@ module _ (floor : Description) (b : Board) (s : State) (r : Represents floor b s
         let snoc = total_snoc live (set vs 0 left) right in
         let n = ap length same_gathered in
         omega (arith, sums, snoc, n, old_made, new_made, r.seats.counted);
+    poses = λ t. subst (λ p. IsPosed p (s.wait t) (s.blocked_on t)) (sym (field_stays (λ (k : Knowledge). k.pose) refl t)) (r.seats.poses t);
+    runs = λ t gone. elim (cases_eq t v.made) [
+      | inl e ↦ absurd (gone (ap (λ u. (thread_in new u).role) e ∙ ap (λ (k : Knowledge). k.role) new_thread))
+      | inr ne ↦ ap (λ (k : Knowledge). k.pose) (others_stay t ne) ∙ r.seats.runs t (λ e. gone (ap (λ (k : Knowledge). k.role) (others_stay t ne) ∙ e))
+    ];
   }
 
   represents_with : room_for v.description v.made ≤ v.spare → Represents floor (record { words = b.words; homes = b.homes; views = new }) s
   represents_with fits = record {
     sizes = record { words = r.sizes.words; slots = r.sizes.slots; sized = r.sizes.sized };
-    locks = r.locks;
-    ticket = r.ticket;
+    words = r.words;
     room =
         let sums = total_set spare vs 0 v left at in
         let snoc = total_snoc spare (set vs 0 left) right in
@@ -154,7 +164,6 @@ module _ (floor : Description) (b : Board) (s : State) (r : Represents floor b s
     shelves = subst (λ o. Shelves (slots_for floor) (latch_word b.words) (home_at b.homes) o r.content) (λ i t. sym (field_stays (λ (k : Knowledge). k.out) refl t) i) r.shelves;
     objects = r.objects;
     seats = seats_with;
-    to_come = r.to_come;
   }
 
   -- the new pass has seen none of the steps, of which its thread made none
@@ -187,14 +196,21 @@ all_zero zero i = refl
 all_zero (suc n) zero = refl
 all_zero (suc n) (suc i) = all_zero n i
 
+-- zeros, with the number of threads in the awake word
+pub words_at_first : (threads slots : ℕ) → AreFirstWords threads slots (set (replicate (words_for slots) 0) (spot awake_line) threads)
+words_at_first threads slots =
+    let ws : List ℕ = replicate (words_for slots) 0 in
+    let long : length ws ≡ words_for slots = length-replicate {A = ℕ} (words_for slots) 0 in
+    record {
+      count = length-set ws (spot awake_line) threads ∙ long;
+      awake = get_or-set_same ws (spot awake_line) threads 0 (omega (arith, long));
+      others = λ i ne. get_or-set_other ws (spot awake_line) i threads 0 ne ∙ all_zero (words_for slots) i;
+    }
+
 all_home : (xs : List Slot) (j : ℕ) (d : Slot) → j < length xs → home_at (map some xs) j ≡ some (get_or xs j d)
 all_home [] j d h = absurd (omega arith)
 all_home (x ∷ xs) zero d h = refl
 all_home (x ∷ xs) (suc j) d h = all_home xs j d (omega arith)
-
-alone : (v : Knowledge) (P : Knowledge → Type 0) → P v → P nothing → (i : ℕ) → P (seat (v ∷ []) i)
-alone v P here there zero = here
-alone v P here there (suc i) = there
 
 none_out : (floor : Description) (i : Item) → item_with (start_state (config_in floor)) i ≡ None
 unfolding start_state
@@ -216,19 +232,53 @@ module _ (floor : Description) where
   unfolding start_state
   first_record t r e = subst (λ r. RepresentsRecord r ((objects_in start).record_of t)) (sym e) record { columns = refl; one_loan_each = λ l. omega arith }
 
-  first_value : (i : Item) (j : ℕ) (x : Slot) → slot_of floor i ≡ Some j → IsFirst floor j x
-      → IsOf (objects_in start) i x
+  -- a chain without a name
+  no_names : (H : Type 0) (i : Item) → HasNames {H = H} floor i []
+  unfolding IsDistinct
+  no_names H i = record { distinct = tt; own = λ k d low. absurd (omega arith) }
+
+  first_turnstiles : (k : ℕ) → RepresentsTurnstiles floor k [] (objects_in start)
+  unfolding start_state
+  first_turnstiles k = record { names = no_names Turnstile (TurnstileChain k); queue = λ q there. refl }
+
+  first_sleep_queues : (k : ℕ) → RepresentsSleepChain floor k [] (objects_in start)
+  unfolding start_state
+  first_sleep_queues k = record { names = no_names SleepQueue (SleepChain k); queue = λ q there. refl }
+
+  first_graph : (g : orders.Graph) → ((l : ℕ) → l < length floor.locks → (config_in floor).class l < g.classes) → g.edges ≡ [] → RepresentsGraph floor g (objects_in start).edges
+  unfolding start_state
+  first_graph g classes none = record { classes = classes; same = subst (λ es. HaveSameEdges es []) (sym none) (λ a b. refl) }
+
+  -- each sort of value is where its sort of item is
+  first_value : (i : Item) (j : ℕ) (x : Slot) → slot_of floor i ≡ Some j → IsFirst floor j x → IsOf floor (objects_in start) i x
   unfolding start_state
   first_value (RecordOf t) j (Recorded b) e h =
       let p = record_place floor t j e in
       first_record t b.value (subst (λ u. b.value ≡ made u ((config_in floor).declared_base u)) (sym p.1) h.1)
-  first_value (RecordOf t) j (Cell value) e h =
-      absurd (let p = record_place floor t j e in omega (arith, p.0, p.1, h.0))
-  first_value (CellOf l key) j (Recorded b) e h = absurd (let p = cell_place floor l key j (0, 0) e in omega (arith, p.2, h.0))
-  first_value (CellOf l key) j (Cell value) e h = h.1
-  first_value (TurnstileChain k) j x e h = absurd cc
-  first_value (SleepChain k) j x e h = absurd cc
-  first_value ClassGraph j x e h = absurd cc
+  first_value (CellOf l key) j (Cell value) e h = h.2
+  first_value (TurnstileChain k) j (Turnstiles chain) e h = subst (λ ch. RepresentsTurnstiles floor k ch (objects_in start)) (sym h.2) (first_turnstiles k)
+  first_value (SleepChain k) j (SleepQueues chain) e h = subst (λ ch. RepresentsSleepChain floor k ch (objects_in start)) (sym h.2) (first_sleep_queues k)
+  first_value ClassGraph j (Graph b) e h = first_graph b.value h.2 h.1
+  first_value (RecordOf t) j (Cell value) e h = absurd (let p = its_part floor (RecordOf t) j e in omega (arith, p.0, p.1, h.0, h.1))
+  first_value (RecordOf t) j (Turnstiles chain) e h = absurd (let p = its_part floor (RecordOf t) j e in omega (arith, p.0, p.1, h.0, h.1))
+  first_value (RecordOf t) j (SleepQueues chain) e h = absurd (let p = its_part floor (RecordOf t) j e in omega (arith, p.0, p.1, h.0, h.1))
+  first_value (RecordOf t) j (Graph b) e h = absurd (let p = its_part floor (RecordOf t) j e in omega (arith, p.0, p.1, h.0))
+  first_value (CellOf l key) j (Recorded b) e h = absurd (let p = its_part floor (CellOf l key) j e in omega (arith, p.0, p.1, h.0))
+  first_value (CellOf l key) j (Turnstiles chain) e h = absurd (let p = its_part floor (CellOf l key) j e in omega (arith, p.0, p.1, h.0, h.1))
+  first_value (CellOf l key) j (SleepQueues chain) e h = absurd (let p = its_part floor (CellOf l key) j e in omega (arith, p.0, p.1, h.0, h.1))
+  first_value (CellOf l key) j (Graph b) e h = absurd (let p = its_part floor (CellOf l key) j e in omega (arith, p.0, p.1, h.0))
+  first_value (TurnstileChain k) j (Recorded b) e h = absurd (let p = its_part floor (TurnstileChain k) j e in omega (arith, p.0, p.1, h.0))
+  first_value (TurnstileChain k) j (Cell value) e h = absurd (let p = its_part floor (TurnstileChain k) j e in omega (arith, p.0, p.1, h.0, h.1))
+  first_value (TurnstileChain k) j (SleepQueues chain) e h = absurd (let p = its_part floor (TurnstileChain k) j e in omega (arith, p.0, p.1, h.0, h.1))
+  first_value (TurnstileChain k) j (Graph b) e h = absurd (let p = its_part floor (TurnstileChain k) j e in omega (arith, p.0, p.1, h.0))
+  first_value (SleepChain k) j (Recorded b) e h = absurd (let p = its_part floor (SleepChain k) j e in omega (arith, p.0, p.1, h.0))
+  first_value (SleepChain k) j (Cell value) e h = absurd (let p = its_part floor (SleepChain k) j e in omega (arith, p.0, p.1, h.0, h.1))
+  first_value (SleepChain k) j (Turnstiles chain) e h = absurd (let p = its_part floor (SleepChain k) j e in omega (arith, p.0, p.1, h.0, h.1))
+  first_value (SleepChain k) j (Graph b) e h = absurd (let p = its_part floor (SleepChain k) j e in omega (arith, p.0, p.1, h.0))
+  first_value ClassGraph j (Recorded b) e h = absurd (let p = its_part floor ClassGraph j e in omega (arith, p.0, p.1, h.0))
+  first_value ClassGraph j (Cell value) e h = absurd (let p = its_part floor ClassGraph j e in omega (arith, p.0, p.1, h.0, h.1))
+  first_value ClassGraph j (Turnstiles chain) e h = absurd (let p = its_part floor ClassGraph j e in omega (arith, p.0, p.1, h.0, h.1))
+  first_value ClassGraph j (SleepQueues chain) e h = absurd (let p = its_part floor ClassGraph j e in omega (arith, p.0, p.1, h.0, h.1))
 
   first_seats : RepresentsSeats floor (keeper floor ∷ []) start
   unfolding start_state
@@ -242,30 +292,39 @@ module _ (floor : Description) where
     each = λ t low gone. absurd (omega arith);
     none_out = λ t gone. refl;
     counted = refl;
+    poses = λ t. refl;
+    runs = λ t gone. refl;
   }
 
-  module _ (xs : List Slot) (sized : IsSized floor) (long : length xs ≡ slots_for floor) (first : (j : ℕ) (d : Slot) → j < length xs → IsFirst floor j (get_or xs j d)) where
-    abbrev zeros : List ℕ
-    zeros = replicate (words_for (slots_for floor)) 0
-
+  module _ (ws : List ℕ) (xs : List Slot) (sized : IsSized floor) (long : length xs ≡ slots_for floor) (words : AreFirstWords (length floor.threads) (slots_for floor) ws) (first : (j : ℕ) (d : Slot) → j < length xs → IsFirst floor j (get_or xs j d)) where
     abbrev opened : Board
-    opened = opening zeros xs (keeper floor)
+    opened = opening ws xs (keeper floor)
 
-    no_word : (i : ℕ) → get_or zeros i 0 ≡ 0
-    no_word i = all_zero (words_for (slots_for floor)) i
+    no_word : (line : ℕ) → line ≢ awake_line → word_at ws line ≡ 0
+    no_word line ne = words.others (spot line) (λ e. ne (omega arith))
 
-    free_locks : RepresentsLocks (config_in floor) (lock_word zeros) start.word
-    unfolding start_state RepresentsLocks
-    free_locks = λ l low. ap word_of (no_word (spot l))
+    first_words : RepresentsWords floor ws (words_in start)
+    unfolding start_state
+    first_words = record {
+      locks = λ l low. ap word_of (no_word (lock_line l) (λ e. omega (arith, e, low, sized.locks)));
+      waits = λ t low. no_word (wait_line t) (λ e. omega (arith, e, low, sized.threads));
+      ticket = no_word ticket_line (λ e. omega (arith, e));
+      awake = words.awake;
+      ended = no_word ended_line (λ e. omega (arith, e));
+      halted = no_word halt_line (λ e. omega (arith, e));
+    }
 
-    free_latches : RepresentsLatches floor (latch_word zeros) (item_with start)
+    free_turn : (j : ℕ) → latch_word ws j ≡ 0
+    free_turn j = no_word (latch_line j) (λ e. omega (arith, e))
+
+    free_latches : RepresentsLatches floor (latch_word ws) (item_with start)
     unfolding RepresentsLatches
-    free_latches = λ i. none_out floor i ∙ sym (none_taken (latch_word zeros) (λ j. no_word (spot (latch_line j))) (slot_of floor i))
+    free_latches = λ i. none_out floor i ∙ sym (none_taken (latch_word ws) free_turn (slot_of floor i))
 
-    first_shelves : Shelves (slots_for floor) (latch_word zeros) (home_at (map some xs)) (λ t. (thread_in (keeper floor ∷ []) t).out) (λ j. get_or xs j (Cell None))
+    first_shelves : Shelves (slots_for floor) (latch_word ws) (home_at (map some xs)) (λ t. (thread_in (keeper floor ∷ []) t).out) (λ j. get_or xs j (Cell None))
     first_shelves = record {
       at_home = λ j low free. all_home xs j (Cell None) (omega (arith, long, low));
-      away = λ j t low out. absurd (let z = no_word (spot (latch_line j)) in omega (arith, z, out));
+      away = λ j t low out. absurd (let z = free_turn j in omega (arith, z, out));
       taken = λ j t x e. absurd (some-ne-none x (sym e));
       apart = λ t. tt;
     }
@@ -281,19 +340,17 @@ module _ (floor : Description) where
     unfolding start_state
     represents_first = record {
       sizes = record {
-        words = length-replicate {A = ℕ} (words_for (slots_for floor)) 0;
+        words = words.count;
         slots = length-map xs some ∙ long;
         sized = sized;
       };
-      locks = free_locks;
-      ticket = no_word (spot ticket_line);
+      words = first_words;
       room = omega (arith, sized.room);
       latches = free_latches;
       content = λ j. get_or xs j (Cell None);
       shelves = first_shelves;
       objects = first_objects;
       seats = first_seats;
-      to_come = refl;
     }
 
     none_seen : AreSeen (keeper floor ∷ []) []
@@ -306,7 +363,52 @@ module _ (floor : Description) where
     pub opens : FloorHolds floor opened
     opens = record { past = []; state = start; sound = sound_begins floor; represents = represents_first; seen = none_seen }
 
--- 3. Room for the entries of threads
+-- 3. The values, as they are laid out
+
+-- so many are there, each as it is at first
+pub record LaidOut (floor : Description) (m : ℕ) (xs : List Slot) : Type 0 where
+  pub count : length xs ≡ m
+  pub each : (j : ℕ) (d : Slot) → j < length xs → IsFirst floor j (get_or xs j d)
+
+-- and more of one sort behind them
+pub laid_more : (floor : Description) {n : ℕ} (m k : ℕ) (xs zs : List Slot) (y : Slot) → zs ≡ xs ++ replicate n y → n ≡ k → ((j : ℕ) → m ≤ j → j < m + k → IsFirst floor j y) → LaidOut floor m xs → LaidOut floor (m + k) zs
+laid_more floor {n} m k xs zs y is same fits h =
+    subst (LaidOut floor (m + k)) (sym is) record { count = omega (arith, long, many, same, h.count); each = each }
+  where
+    long : length (xs ++ replicate n y) ≡ length xs + length (replicate n y)
+    long = length-append xs (replicate n y)
+
+    many : length (replicate n y) ≡ n
+    many = length-replicate n y
+
+    each : (j : ℕ) (d : Slot) → j < length (xs ++ replicate n y) → IsFirst floor j (get_or (xs ++ replicate n y) j d)
+    each j d low = elim (cases_lt j (length xs)) [
+      | inl before ↦ subst (IsFirst floor j) (sym (get_or_append_left xs (replicate n y) d j before)) (h.each j d before)
+      | inr past ↦
+          let i : ℕ = j - length xs in
+          let there : length xs + i ≡ j = omega (arith, past) in
+          let small : i < n = omega (arith, low, long, many, there) in
+          subst (λ q. IsFirst floor q (get_or (xs ++ replicate n y) q d)) there
+          (subst (IsFirst floor (length xs + i)) (sym (get_or-append-add xs (replicate n y) i d ∙ get_or-replicate n i y d small))
+          (fits (length xs + i) (omega (arith, h.count)) (omega (arith, h.count, small, same))))
+    ]
+
+-- and one
+pub laid_one : (floor : Description) (m : ℕ) (xs zs : List Slot) (y : Slot) → zs ≡ xs ++ y ∷ [] → IsFirst floor m y → LaidOut floor m xs → LaidOut floor (suc m) zs
+laid_one floor m xs zs y is first h =
+    let done = laid_more floor {n = 1} m 1 xs zs y is refl (λ j past low. subst (λ q. IsFirst floor q y) (omega (arith, past, low)) first) h in
+    record { count = done.count ∙ omega arith; each = done.each }
+
+-- the class of each lock is one of as many classes as there may be
+pub classes_fit : (floor : Description) → IsSized floor → (n : ℕ) → n ≡ most_classes → (l : ℕ) → l < length floor.locks → (config_in floor).class l < n
+classes_fit floor sized n all l low = subst (λ k. (config_in floor).class l < k) (sym all) (go floor.locks l sized.classes low)
+  where
+    go : (xs : List LockPart) (i : ℕ) → All (λ x. x.class.0 < most_classes) xs → i < length xs → unwrap_or (slice_get (map (λ (x : LockPart). x.class.0) xs) i) 0 < most_classes
+    go [] i h low = absurd (omega arith)
+    go (x ∷ xs) zero h low = All-head (λ (y : LockPart). y.class.0 < most_classes) x xs h
+    go (x ∷ xs) (suc i) h low = go xs i (All-tail (λ (y : LockPart). y.class.0 < most_classes) x xs h) (omega arith)
+
+-- 4. Room for the entries of threads
 
 -- of those whose passes are yet to come
 abbrev pub rooms_from : Description → ℕ → ℕ
@@ -336,7 +438,7 @@ no_rooms floor = ap room_in_all (drop_all floor.threads)
     drop_all [] = refl
     drop_all (x ∷ xs) = drop_all xs
 
--- 4. Passes, as they are handed out
+-- 5. Passes, as they are handed out
 
 pub each_more : {A : Type 0} (xs : List A) (x : A) (t : ℕ) (f : ℕ → A) → length xs ≡ t → x ≡ f t → ((k : ℕ) (d : A) → k < t → get_or xs k d ≡ f k) → (k : ℕ) (d : A) → k < t + 1 → get_or (xs ++ x ∷ []) k d ≡ f k
 each_more xs x t f long is each k d low =

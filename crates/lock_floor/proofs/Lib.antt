@@ -12,6 +12,7 @@ pub mod Tied
 pub mod Stamping
 pub mod May
 pub mod Taking
+pub mod OwnRecords
 pub mod Resting
 pub mod Priorities
 pub mod Changing

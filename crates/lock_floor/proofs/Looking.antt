@@ -1,24 +1,27 @@
 -- A look at a lock's word: a load of the word, or an exchange that misses. It may be made on each table, and tells what
 -- the thread's seat knows then.
-use Rattle.std.proofs.Common.{◌≡◌, ℕ, ◌<◌, Bool, true, List, [], ◌∷◌, length, refl, sym, ◌∙◌, subst, arith, eq-eqb}
+use Rattle.std.proofs.Common.{◌≡◌, ℕ, ◌<◌, Bool, true, false, not, ◌&&◌, List, [], ◌∷◌, length, Option, Some, None, refl, sym, ap, ◌∙◌, subst, arith, eq-eqb}
+use Rattle.std.proofs.lemmas.Bool.{ne_eqb}
 use Rattle.atomic_table.specs.Table.{Me, keeps, Allows}
 use Rattle.lock_laws.proofs.AtTurn.{well_formed}
 use Rattle.lock_model.specs.Words.{Word, word_of, IsWellFormed}
 use Rattle.lock_state.specs.State.{State}
-use Rattle.lock_state.specs.Steps.{Step, Looks, Seeks}
+use Rattle.lock_state.specs.Steps.{Step, Looks, Seeks, chain_of, is_with}
+use Rattle.lock_state.specs.Steps.Items.{item_with}
 use Rattle.lock_state.specs.Steps.LockWords.{after_look, after_seek}
 use Rattle.floor_table.specs.Descriptions.{config_in}
 use Rattle.floor_table.specs.declared.description.Description.{Description}
 use Rattle.floor_table.specs.declared.slot.Slot.{Slot}
 use Rattle.floor_table.specs.Past.{past_with}
 use Rattle.floor_table.specs.Places.{spot, lock_line, lock_word}
-use Rattle.floor_table.specs.Represents.{Board, RepresentsLocks, RepresentsShare}
+use Rattle.floor_table.specs.Represents.{Board, RepresentsShare}
 use Rattle.floor_table.specs.Rule.{FloorHolds}
 use Rattle.floor_table.specs.Steps.{MayMake, FitAll, Makes}
 use Rattle.floor_table.specs.Views.{Knowledge, OfThread, seeing}
 use Rattle.floor_table.proofs.Made.{Finds, Steps, allows, lock_seen, OwnSteps}
 use Rattle.floor_table.proofs.Seen.{one_own, two_own}
-use Rattle.lock_floor.specs.Views.{counts, looked, sought}
+use Rattle.lock_floor.specs.Views.{has_item, counts, looked, sought}
+use Rattle.lock_floor.proofs.May.{its_item}
 use Rattle.lock_floor.proofs.Shares.{look_own, look_others, seek_own, seek_others}
 
 -- what it tells
@@ -33,9 +36,8 @@ Sought floor l by_try me found behind =
 
 -- the word that is found says the lock's column, and is well formed
 pub found_word : (floor : Description) (b : Board) (v : Knowledge) (h : Finds floor v b) (l : ℕ) → l < length floor.locks → (word_of (lock_word b.words l) ≡ h.state.word l) × IsWellFormed (word_of (lock_word b.words l))
-unfolding RepresentsLocks
 found_word floor b v h l low =
-    let says : word_of (lock_word b.words l) ≡ h.state.word l = h.represents.locks l low in
+    let says : word_of (lock_word b.words l) ≡ h.state.word l = h.represents.words.locks l low in
     (says, subst IsWellFormed (sym says) (well_formed (config_in floor) h.state l h.sound.facts.lawful (omega (arith, h.represents.sizes.sized.threads))))
 
 module _ (floor : Description) (me : Me Slot Knowledge) (l : ℕ) (was : me.0.role ≡ OfThread)
@@ -58,8 +60,10 @@ module _ (floor : Description) (me : Me Slot Knowledge) (l : ℕ) (was : me.0.ro
         no_refusal = (λ u k j e. absurd cc, tt);
         seat = record { thread = refl; share = subst (λ y. RepresentsShare (looked v l y).share (after_look h.state v.thread l (counts v l)) v.thread) (sym found.0) (look_own h.state v h.fits.share l) };
         others = λ u ne. look_others h.state v.thread u ne l (counts v l);
+        pose = h.fits.pose;
+        other_poses = λ u ne p k. k;
       } in
-      let made = lock_seen floor (step ∷ []) b v w h was may own me.1 l low refl (record { next = refl; items = refl; objects = refl; to_come = refl }) refl refl in
+      let made = lock_seen floor (step ∷ []) b v w h was may own me.1 l low refl (record { items = refl; objects = refl }) refl refl in
       (w, keeps, tt, made.0, (found.1, refl, made.1))
 
   pub look_allowed : (slots id : ℕ) → MayMake floor v (λ s. Unit {0}) (Looks v.thread l (counts v l) ∷ []) → Allows (FloorHolds floor) slots id me (spot (lock_line l)) (λ n. n) (Looked floor l me)
@@ -67,9 +71,19 @@ module _ (floor : Description) (me : Me Slot Knowledge) (l : ℕ) (was : me.0.ro
 
   -- 2. The first look of an acquiring round
 
-  module _ (by_try : Bool) where
+  module _ (by_try : Bool) (mine : v.description ≡ floor) where
     abbrev both : List Step
     both = Seeks v.thread l by_try ∷ Looks v.thread l true ∷ []
+
+    -- the thread doesn't have the lock's chain out
+    no_chain : (b : Board) (h : Finds floor v b) → FitAll floor h.state both → has_item v (chain_of v.description.chains (config_in v.description) l) ≡ false
+    no_chain b h may =
+        subst (λ (d : Description). has_item v (chain_of d.chains (config_in d) l) ≡ false) (sym mine)
+        (its_item floor v h.state h.fits mine (chain_of floor.chains (config_in floor) l) ∙ go (item_with h.state (chain_of floor.chains (config_in floor) l)) may.0.has_out)
+      where
+        go : (o : Option ℕ) → (o ≡ Some v.thread → ⊥) → is_with v.thread o ≡ false
+        go None gone = refl
+        go (Some u) gone = ne_eqb u v.thread (λ e. gone (ap Some e))
 
     pub first_looks : (b : Board) (h : Finds floor v b) → FitAll floor h.state both → Steps floor me (spot (lock_line l)) (lock_word b.words l) (lock_word b.words l) (Sought floor l by_try me) b
     unfolding after_look after_seek
@@ -80,7 +94,9 @@ module _ (floor : Description) (me : Me Slot Knowledge) (l : ℕ) (was : me.0.ro
         let x : Knowledge = sought v l by_try in
         let w : Knowledge = seeing (past_with h.past both) (looked x l word) in
         let found = found_word floor b v h l low in
-        let counted : counts x l ≡ true = eq-eqb l l refl in
+        let chain = chain_of v.description.chains (config_in v.description) l in
+        let away : has_item v chain ≡ false = no_chain b h may in
+        let counted : counts x l ≡ true = (λ i. eq-eqb l l refl i && not (away i)) in
         let share : RepresentsShare (looked x l (s.word l)).share n v.thread =
         subst (λ c. RepresentsShare (looked x l (s.word l)).share (after_look s v.thread l c) v.thread) counted (look_own s x (seek_own h.state v h.fits.share l by_try) l) in
         let own : OwnSteps v w h.past both h.state n = record {
@@ -90,8 +106,10 @@ module _ (floor : Description) (me : Me Slot Knowledge) (l : ℕ) (was : me.0.ro
           no_refusal = (λ u k j e. absurd cc, (λ u k j e. absurd cc, tt));
           seat = record { thread = refl; share = subst (λ y. RepresentsShare (looked x l y).share n v.thread) (sym found.0) share };
           others = λ u ne. look_others s v.thread u ne l true ∙ seek_others h.state v.thread u ne l by_try;
+          pose = h.fits.pose;
+          other_poses = λ u ne p k. k;
         } in
-        let made = lock_seen floor both b v w h was may own me.1 l low refl (record { next = refl; items = refl; objects = refl; to_come = refl }) refl refl in
+        let made = lock_seen floor both b v w h was may own me.1 l low refl (record { items = refl; objects = refl }) refl refl in
         (w, keeps, tt, made.0, (found.1, refl, made.1))
 
     pub seek_allowed : (slots id : ℕ) → MayMake floor v (λ s. Unit {0}) both → Allows (FloorHolds floor) slots id me (spot (lock_line l)) (λ n. n) (Sought floor l by_try me)

@@ -1,7 +1,8 @@
 -- What a thread's seat knows allows its steps: they may be made in whatever state fits it.
-use Rattle.std.proofs.Common.{◌≡◌, ◌≢◌, ◌⊎◌, ℕ, ◌<◌, Bool, true, false, not, ◌&&◌, ◌%◌, cond, Option, Some, None, [], ◌∷◌, length, refl, sym, ap, ◌∙◌, subst, inl, arith, eq-eqb}
-use Rattle.std.specs.Prelude.{◌==◌}
-use Rattle.std.proofs.lemmas.Bool.{eqb-true}
+use Rattle.std.proofs.Common.{◌≡◌, ◌≢◌, ◌⊎◌, ℕ, ◌<◌, Bool, true, false, not, ◌&&◌, Option, Some, None, [], ◌∷◌, length, refl, sym, ap, ◌∙◌, subst, inl, arith, eq-eqb}
+use Rattle.std.proofs.lemmas.Bool.{ne_eqb}
+use Rattle.std.proofs.lemmas.Option.{same_Some}
+use mathlib.Core.Option as slots
 use mathlib.Core.Option.{some-ne-none}
 use Rattle.atomic_table.specs.Table.{rest}
 use Rattle.lock_laws.proofs.Kit.{put_same}
@@ -10,27 +11,39 @@ use Rattle.lock_model.specs.Config.{Config}
 use Rattle.lock_model.specs.History.{open_in}
 use Rattle.lock_model.specs.Holds.{NotHeld, Holds}
 use Rattle.lock_model.specs.Operations.{hold_in}
-use Rattle.lock_model.specs.Words.{Word, admits, is_plain, is_drop, is_turnstile}
+use Rattle.lock_model.specs.Words.{Word, admits, is_plain, is_drop}
 use Rattle.lock_model.specs.declared.event.Event.{Event}
 use Rattle.lock_model.specs.declared.plan.Mode.{Mode}
-use Rattle.lock_model.specs.declared.plan.QueueName.{QueueName}
-use Rattle.lock_state.specs.Facts.{LogsAreParts, StandingIsQueued}
-use Rattle.lock_state.specs.State.{State, Running, Queued, Round, Awake, is_parked}
-use Rattle.lock_state.specs.Steps.{Looks, Seeks, Gains, Drops, TakesItem, GivesItem, chain_of, seeks, is_with, Stamps, FitsRound, IsItem, IsOfRound, HasItem, HasOutForEntry, NotesInRound, ends_sleep, is_halting, IsHalting, IsRunnable, OwesNoStep, GoesOn}
-use Rattle.lock_state.specs.Steps.Items.{Item, TurnstileChain, SleepChain, RecordOf, CellOf, ClassGraph, item_with, is_chain, IsOnItsWay, MayCheckOrders, IsDoneWith}
+use Rattle.lock_state.specs.Facts.{LogsAreParts}
+use Rattle.lock_state.specs.State.{State, Running, Queued, Awake, is_parked}
+use Rattle.lock_state.specs.Steps.{Looks, Seeks, Gains, Drops, TakesItem, GivesItem, chain_of, seeks, is_with, counts_as_look, Stamps, FitsRound, IsItem, IsOfRound, HasItem, HasOutForEntry, NotesInRound, ends_sleep, is_halting, IsHalting, IsRunnable, OwesNoStep, GoesOn}
+use Rattle.lock_state.specs.Steps.Items.{Item, TurnstileChain, SleepChain, RecordOf, CellOf, ClassGraph, item_with, IsOnItsWay, MayCheckOrders, IsDoneWith}
 use Rattle.lock_state.specs.Steps.LockWords.{Asks, IsActing, is_woken, is_taking_back, round_of, after_seek}
 use Rattle.floor_table.specs.Descriptions.{config_in}
 use Rattle.floor_table.specs.declared.description.Description.{Description}
 use Rattle.floor_table.specs.declared.slot.Slot.{Slot}
 use Rattle.floor_table.specs.Places.{slot_of}
-use Rattle.floor_table.specs.Represents.{IsOf, objects_in}
+use Rattle.floor_table.specs.Represents.{IsOf, IsPosed, objects_in}
 use Rattle.floor_table.specs.Shelves.{found}
 use Rattle.floor_table.specs.Shares.{Doing, ShareColumns, columns_of, share_in, is_among}
 use Rattle.floor_table.specs.Steps.{Fits, MayMake}
-use Rattle.floor_table.specs.Views.{Knowledge}
+use Rattle.floor_table.specs.Views.{Runs, is_off_queues, Knowledge}
+use Rattle.floor_table.proofs.Poses.{stands_nowhere}
 use Rattle.floor_table.proofs.Shelved.{found_first}
 use Rattle.lock_floor.specs.Passes.{IsGoing}
-use Rattle.lock_floor.specs.Views.{counts}
+use Rattle.lock_floor.specs.Views.{is_there, is_out, has_item, counts}
+
+both_true : (x y : Bool) → (x && y) ≡ true → (x ≡ true) × (y ≡ true)
+both_true true y e = (refl, e)
+both_true false y e = absurd cc
+
+-- items that neither block threads nor tell of orders
+abbrev pub is_record_or_cell : Item → Bool
+is_record_or_cell (TurnstileChain k) = false
+is_record_or_cell (SleepChain k) = false
+is_record_or_cell (RecordOf u) = true
+is_record_or_cell (CellOf l key) = true
+is_record_or_cell ClassGraph = false
 
 and_true : (b : Bool) → (b && true) ≡ b
 and_true true = refl
@@ -49,49 +62,32 @@ module _ (floor : Description) (v : Knowledge) where
     column : {A : Type 0} (g : ShareColumns → A) → g (columns_of v.share) ≡ g (share_in s t)
     column g = ap g f.share.columns
 
-    -- the thread stands on no queue and wasn't woken
-    pub is_acting : IsActing s t
-    unfolding StandingIsQueued
-    is_acting = record { unnamed = go (s.blocked_on t) refl; unwoken = ap is_woken f.runs }
+    -- it has out what its seat has, and nothing else
+    pub its_item : v.description ≡ floor → (i : Item) → has_item v i ≡ is_with t (item_with s i)
+    its_item mine i = ap (λ (d : Description). is_out v.out (slot_of d i)) mine ∙ go (slot_of floor i) refl
       where
-        go : (o : Option QueueName) → s.blocked_on t ≡ o → s.blocked_on t ≡ None
-        go None e = e
-        go (Some q) e = absurd
-            (let z : Running ≡ Queued = sym f.runs ∙ f.sound.facts.lawful.waits.standing_is_queued t q e in cc)
+        without : (o : Option ℕ) → (o ≡ Some t → ⊥) → false ≡ is_with t o
+        without None away = refl
+        without (Some u) away = sym (ne_eqb u t (λ e. away (ap Some e)))
 
-    -- it has no chain out, since there is no place for one
-    no_chain : (l : ℕ) → HasItem s t (chain_of floor.chains c l) → ⊥
-    no_chain l out =
-        let there = f.out.no_other (chain_of floor.chains c l) out in
-        let none : slot_of floor (chain_of floor.chains c l) ≡ None =
-        nowhere (is_turnstile (c.kind l)) (l % floor.chains) in
-        let z : None ≡ Some there.0 = sym none ∙ there.1 in
-        cc
-      where
-        nowhere : (b : Bool) (k : ℕ) → slot_of floor (cond b (TurnstileChain k) (SleepChain k)) ≡ None
-        nowhere true k = refl
-        nowhere false k = refl
+        there : (j : ℕ) → slot_of floor i ≡ Some j → (o : slots.Option Slot) → found j v.out ≡ o
+            → is_there o ≡ is_with t (item_with s i)
+        there j place slots.none e = without (item_with s i) (λ out.
+            let p = f.out.no_other i out in
+            let same : p.0 ≡ j = same_Some p.0 j (sym p.1 ∙ place) in
+            some-ne-none p.2.0 (sym p.2.1 ∙ ap (λ k. found k v.out) same ∙ e))
+        there j place (slots.some x) e = sym (ap (is_with t) (f.out.each i j x place e).0 ∙ eq-eqb t t refl)
 
-    -- nor another chain
-    no_chain_out : (i : Item) → is_chain i ≡ true → HasItem s t i → ⊥
-    no_chain_out (TurnstileChain k) x out = let there = f.out.no_other (TurnstileChain k) out in
-        let z : None ≡ Some there.0 = there.1 in cc
-    no_chain_out (SleepChain k) x out = let there = f.out.no_other (SleepChain k) out in let z : None ≡ Some there.0 =
-        there.1 in cc
-    no_chain_out (RecordOf u) x out = absurd cc
-    no_chain_out (CellOf l key) x out = absurd cc
-    no_chain_out ClassGraph x out = absurd cc
+        go : (o : Option ℕ) → slot_of floor i ≡ o → is_out v.out o ≡ is_with t (item_with s i)
+        go None e = without (item_with s i)
+            (λ out. let p = f.out.no_other i out in let z : None ≡ Some p.0 = sym e ∙ p.1 in cc)
+        go (Some j) e = there j e (found j v.out) refl
 
-    counted : (l : ℕ) (r : Option Round)
-        → (seeks l r && not (is_with t (item_with s (chain_of floor.chains c l)))) ≡ seeks l r
-    counted l r = go (item_with s (chain_of floor.chains c l)) refl
-      where
-        go : (o : Option ℕ) → item_with s (chain_of floor.chains c l) ≡ o → (seeks l r && not (is_with t o)) ≡ seeks l r
-        go None e = and_true (seeks l r)
-        go (Some u) e = elim (u == t) as (λ b. (u == t) ≡ b → (seeks l r && not b) ≡ seeks l r) [
-          | true ↦ λ same. absurd (no_chain l (e ∙ ap Some (eqb-true u t same)))
-          | false ↦ λ differ. and_true (seeks l r)
-        ] refl
+    -- where nothing is out
+    nothing_with : v.out ≡ [] → (i : Item) → HasItem s t i → ⊥
+    nothing_with empty i out =
+        let there = f.out.no_other i out in
+        some-ne-none there.2.0 (sym there.2.1 ∙ ap (found there.0) empty)
 
     -- its sections are those of its log
     pub own_log : (l : ℕ) → open_in c s.history t l ≡ open_in c v.share.log t l
@@ -106,11 +102,38 @@ module _ (floor : Description) (v : Knowledge) where
     doing_it : {A : Type 0} (g : Doing → A) → g (share_in s t).doing ≡ g v.share.doing
     doing_it g = sym (column (λ x. g x.doing))
 
-    -- a thread that runs isn't on its way to a channel
-    off : IsOnItsWay s t → ⊥
-    off o = let z : Running ≡ Queued = sym f.runs ∙ o.queued in cc
+    -- whether a look counts, as the state has it
+    counts_it : v.description ≡ floor → (l : ℕ) → counts v l ≡ counts_as_look floor.chains c s t l
+    counts_it mine l =
+        let chain : chain_of v.description.chains (config_in v.description) l ≡ chain_of floor.chains c l =
+        ap (λ (d : Description). chain_of d.chains (config_in d) l) mine in
+        (λ i. seeks l (sym (doing_it (λ d. d.round)) i) && not (has_item v (chain i)))
+        ∙ ap (λ b. seeks l (s.round t) && not b) (its_item mine (chain_of floor.chains c l))
 
-    module _ (going : IsGoing v) where
+    -- with nothing out
+    no_item : v.out ≡ [] → (i : Item) → is_with t (item_with s i) ≡ false
+    no_item empty i = go (item_with s i) refl
+      where
+        go : (o : Option ℕ) → item_with s i ≡ o → is_with t o ≡ false
+        go None e = refl
+        go (Some u) e = ne_eqb u t (λ q. nothing_with empty i (e ∙ ap Some q))
+
+    module _ (runs : v.pose ≡ Runs) where
+      is_running : s.wait t ≡ Running
+      is_running = subst (λ p. IsPosed p (s.wait t) (s.blocked_on t)) runs f.pose
+
+      -- the thread stands on no queue and wasn't woken
+      pub is_acting : IsActing s t
+      is_acting = record {
+        unnamed = stands_nowhere c s f.sound.facts.lawful t v.pose (ap is_off_queues runs) f.pose;
+        unwoken = ap is_woken is_running;
+      }
+
+      -- a thread that runs isn't on its way to a channel
+      off : IsOnItsWay s t → ⊥
+      off o = let z : Running ≡ Queued = sym is_running ∙ o.queued in cc
+
+    module _ (runs : v.pose ≡ Runs) (going : IsGoing v) where
       pub is_awake : IsRunnable s t
       is_awake = record {
         phase = doing_it (λ d. d.phase) ∙ going.awake;
@@ -118,7 +141,7 @@ module _ (floor : Description) (v : Knowledge) where
       }
 
       pub owes_none : OwesNoStep s t
-      owes_none = record { added = off; stamped = doing_it (λ d. d.unstamped) ∙ going.stamped }
+      owes_none = record { added = off runs; stamped = doing_it (λ d. d.unstamped) ∙ going.stamped }
 
       pub goes_on : GoesOn s t
       goes_on = record { runs = is_awake; owes = owes_none }
@@ -128,52 +151,68 @@ module _ (floor : Description) (v : Knowledge) where
 
   -- 2. Steps on lock words
 
-  pub may_look : (l : ℕ) → l < length floor.locks → IsGoing v → (counts v l ≡ true → v.share.doing.looks < 100)
-      → (v.share.doing.round ≢ None → counts v l ≡ true) → MayMake floor v (λ s. Unit {0}) (Looks t l (counts v l) ∷ [])
-  may_look l low going few of_round s f _ =
+  -- with nothing out, a look counts where a round of the lock is under way
+  none_has : v.out ≡ [] → (i : Item) → has_item v i ≡ false
+  none_has empty i = ap (λ xs. is_out xs (slot_of v.description i)) empty ∙ go (slot_of v.description i)
+    where
+      go : (o : Option ℕ) → is_out [] o ≡ false
+      go None = refl
+      go (Some j) = refl
+
+  pub may_look : (l : ℕ) → v.description ≡ floor → l < length floor.locks → v.pose ≡ Runs → v.out ≡ [] → IsGoing v
+      → (counts v l ≡ true → v.share.doing.looks < 100) → (v.share.doing.round ≢ None → counts v l ≡ true)
+      → MayMake floor v (λ s. Unit {0}) (Looks t l (counts v l) ∷ [])
+  may_look l mine low runs empty going few of_round s f _ =
       let round : s.round t ≡ v.share.doing.round = doing_it s f (λ d. d.round) in
-      let looks : s.looks t ≡ v.share.doing.looks = doing_it s f (λ d. d.looks) in (
+      let looks : s.looks t ≡ v.share.doing.looks = doing_it s f (λ d. d.looks) in
+      let counted = counts_it s f mine l in (
         record {
           may = record { thread = f.thread; lock = low; room = λ e. subst (λ n. n < 100) (sym looks) (few e) };
           has_out = tt;
           has_seen = record {
-            counts = sym (ap (λ r. seeks l r && not (is_with t (item_with s (chain_of floor.chains c l)))) round
-                ∙ counted s f l v.share.doing.round);
-            of_round = λ ne. ap (seeks l) round ∙ of_round (λ e. ne (round ∙ e));
-            in_chain = λ i x out. absurd (no_chain_out s f i x out);
-            outside = λ i n x out. absurd (no_chain_out s f i x out);
-            halting = λ e. absurd (not_halting s f going e);
+            counts = counted;
+            of_round = λ ne. ap (seeks l) round ∙ seeks_it l (of_round (λ e. ne (round ∙ e)));
+            in_chain = λ i x out. absurd (nothing_with s f empty i out);
+            outside = λ i n x out. absurd (nothing_with s f empty i out);
+            halting = λ e. absurd (not_halting s f runs going e);
           };
-          asks_of_thread = record { runs = inl (is_awake s f going); owes = owes_none s f going };
+          asks_of_thread = record { runs = inl (is_awake s f runs going); owes = owes_none s f runs going };
         },
         tt,
       )
+    where
+      seeks_it : (l : ℕ) → counts v l ≡ true → seeks l v.share.doing.round ≡ true
+      seeks_it l e = (both_true (seeks l v.share.doing.round) _ e).0
 
   pub may_seek : (l : ℕ) (by_try : Bool) → l < length floor.locks → hold_in v.share.held l ≡ NotHeld
       → (v.share.doing.wanted ≡ Some l) ⊎ (v.share.doing.wanted ≡ None) → (by_try ≡ true → v.share.doing.wanted ≡ None)
-      → (v.share.doing.wanted ≡ None → v.share.doing.taking ≡ None) → v.share.doing.round ≡ None → IsGoing v
+      → (v.share.doing.wanted ≡ None → v.share.doing.taking ≡ None) → v.share.doing.round ≡ None
+      → v.pose ≡ Runs → v.out ≡ [] → IsGoing v
       → MayMake floor v (λ s. Unit {0}) (Seeks t l by_try ∷ Looks t l true ∷ [])
   unfolding after_seek
-  may_seek l by_try low unheld wants tries anew none going s f _ =
+  may_seek l by_try low unheld wants tries anew none runs empty going s f _ =
       let round : s.round t ≡ v.share.doing.round = doing_it s f (λ d. d.round) in
       let wanted : s.wanted t ≡ v.share.doing.wanted = doing_it s f (λ d. d.wanted) in
       let looks : (after_seek s t l by_try).looks t ≡ 0 = put_same s.looks t 0 in
       let begun : (after_seek s t l by_try).round t ≡ Some (round_of l by_try) =
       put_same s.round t (Some (round_of l by_try)) in
-      let sought : seeks l (Some (round_of l by_try)) ≡ true = eq-eqb l l refl in (
+      let sought : seeks l (Some (round_of l by_try)) ≡ true = eq-eqb l l refl in
+      let acting = is_acting s f runs in
+      let awake = is_awake s f runs going in
+      let owes = owes_none s f runs going in (
         record {
           may = record {
             thread = f.thread;
             lock = low;
             unheld = holds_it s f l ∙ unheld;
-            acting = is_acting s f;
+            acting = acting;
             wants = subst (λ w. (w ≡ Some l) ⊎ (w ≡ None)) (sym wanted) wants;
             tries_want_nothing = λ e. wanted ∙ tries e;
             no_round = round ∙ none;
           };
-          has_out = no_chain s f l;
+          has_out = nothing_with s f empty (chain_of floor.chains c l);
           has_seen = λ e. doing_it s f (λ d. d.taking) ∙ anew (sym wanted ∙ e);
-          asks_of_thread = goes_on s f going;
+          asks_of_thread = goes_on s f runs going;
         },
         (
           record {
@@ -181,17 +220,18 @@ module _ (floor : Description) (v : Knowledge) where
             has_out = tt;
             has_seen = record {
               counts = sym (ap (λ r. seeks l r && not (is_with t (item_with s (chain_of floor.chains c l)))) begun
-                  ∙ counted s f l (Some (round_of l by_try)) ∙ sought);
+                  ∙ ap (λ b. seeks l (Some (round_of l by_try)) && not b)
+                  (no_item s f empty (chain_of floor.chains c l)) ∙ and_true (seeks l (Some (round_of l by_try)))
+                  ∙ sought);
               of_round = λ _. ap (seeks l) begun ∙ sought;
-              in_chain = λ i x out. absurd (no_chain_out s f i x out);
-              outside = λ i n x out. absurd (no_chain_out s f i x out);
-              halting = λ e. absurd (not_halting s f going e);
+              in_chain = λ i x out. absurd (nothing_with s f empty i out);
+              outside = λ i n x out. absurd (nothing_with s f empty i out);
+              halting = λ e. absurd (not_halting s f runs going e);
             };
             asks_of_thread = record {
-              runs = inl
-                  (record { phase = (is_awake s f going).phase; unended = (is_awake s f going).unended });
+              runs = inl (record { phase = awake.phase; unended = awake.unended });
               owes = record {
-                added = λ o. off s f
+                added = λ o. off s f runs
                     record {
                       queued = o.queued;
                       nowhere = o.nowhere;
@@ -200,7 +240,7 @@ module _ (floor : Description) (v : Knowledge) where
                       unwoken = o.unwoken;
                       unhalted = o.unhalted;
                     };
-                stamped = (owes_none s f going).stamped;
+                stamped = owes.stamped;
               };
             };
           },
@@ -211,9 +251,9 @@ module _ (floor : Description) (v : Knowledge) where
   pub may_gain : (l : ℕ) (mode : Mode) (by_try : Bool) (word : Word) → l < length floor.locks
       → admits (c.kind l) word mode ≡ true → is_plain (c.kind l) word mode ≡ true → hold_in v.share.held l ≡ NotHeld
       → (v.share.doing.wanted ≡ Some l) ⊎ (v.share.doing.wanted ≡ None) → FitsRound v.share.doing.round l by_try
-      → ((k : ℕ) → v.share.doing.taking ≡ Some k → k ≡ l) → IsGoing v
+      → ((k : ℕ) → v.share.doing.taking ≡ Some k → k ≡ l) → v.pose ≡ Runs → v.out ≡ [] → IsGoing v
       → MayMake floor v (λ s. s.word l ≡ word) (Gains t l mode by_try ∷ [])
-  may_gain l mode by_try word low admitted plain unheld wants fits others going s f its =
+  may_gain l mode by_try word low admitted plain unheld wants fits others runs empty going s f its =
       let round : s.round t ≡ v.share.doing.round = doing_it s f (λ d. d.round) in
       let wanted : s.wanted t ≡ v.share.doing.wanted = doing_it s f (λ d. d.wanted) in (
         record {
@@ -223,25 +263,26 @@ module _ (floor : Description) (v : Knowledge) where
             admitted = ap (λ w. admits (c.kind l) w mode) its ∙ admitted;
             plainly = ap (λ w. is_plain (c.kind l) w mode) its ∙ plain;
             unheld = holds_it s f l ∙ unheld;
-            acting = is_acting s f;
+            acting = is_acting s f runs;
             wants = subst (λ w. (w ≡ Some l) ⊎ (w ≡ None)) (sym wanted) wants;
           };
           has_out = tt;
           has_seen = record {
             fits = subst (λ r. FitsRound r l by_try) (sym round) fits;
-            in_round = λ _. no_chain s f l;
-            saw = λ w out _. absurd (no_chain s f l out);
+            in_round = λ _. nothing_with s f empty (chain_of floor.chains c l);
+            saw = λ w out _. absurd (nothing_with s f empty (chain_of floor.chains c l) out);
             others = λ k e. others k (sym (doing_it s f (λ d. d.taking)) ∙ e);
           };
-          asks_of_thread = goes_on s f going;
+          asks_of_thread = goes_on s f runs going;
         },
         tt,
       )
 
   pub may_drop : (l : ℕ) (mode : Mode) (word : Word) → l < length floor.locks → hold_in v.share.held l ≡ Holds mode
-      → is_drop word ≡ true → open_in c v.share.log t l ≡ NotHeld → is_among l v.share.begun ≡ true → IsGoing v
+      → is_drop word ≡ true → open_in c v.share.log t l ≡ NotHeld → is_among l v.share.begun ≡ true → v.pose ≡ Runs
+      → IsGoing v
       → MayMake floor v (λ s. s.word l ≡ word) (Drops t l mode ∷ [])
-  may_drop l mode word low held stays closed begun going s f its = (
+  may_drop l mode word low held stays closed begun runs going s f its = (
     record {
       may = record {
         thread = f.thread;
@@ -253,7 +294,7 @@ module _ (floor : Description) (v : Knowledge) where
       };
       has_out = tt;
       has_seen = tt;
-      asks_of_thread = goes_on s f going;
+      asks_of_thread = goes_on s f runs going;
     },
     tt,
   )
@@ -261,16 +302,16 @@ module _ (floor : Description) (v : Knowledge) where
   -- 3. Entries
 
   pub may_stamp : (e : Event) → ((s : State) → Fits floor v s → Asks c s t e × HasOutForEntry floor.chains s t e)
-      → NotesInRound v.share.doing.round e → (is_taking_back v.share.log ≡ true → ends_sleep e ≡ true) → IsGoing v
-      → v.share.doing.taking ≡ None
+      → NotesInRound v.share.doing.round e → (is_taking_back v.share.log ≡ true → ends_sleep e ≡ true) → v.pose ≡ Runs
+      → IsGoing v → v.share.doing.taking ≡ None
       → MayMake floor v (λ s. Unit {0}) (Stamps t e ∷ [])
-  may_stamp e asks in_round asleep going takes_nothing s f _ =
+  may_stamp e asks in_round asleep runs going takes_nothing s f _ =
       let a = asks s f in
       let round : s.round t ≡ v.share.doing.round = doing_it s f (λ d. d.round) in
       let unstamped : s.unstamped t ≡ v.share.doing.unstamped = doing_it s f (λ d. d.unstamped) in
       let log : s.log t ≡ v.share.log = sym (column s f (λ x. x.log)) in (
         record {
-          may = record { thread = f.thread; acting = is_acting s f; asks = a.0 };
+          may = record { thread = f.thread; acting = is_acting s f runs; asks = a.0 };
           has_out = a.1;
           has_seen = record {
             in_round = subst (λ r. NotesInRound r e) (sym round) in_round;
@@ -279,36 +320,30 @@ module _ (floor : Description) (v : Knowledge) where
             takes = λ l q. absurd
                 (let z : None ≡ Some l = sym takes_nothing ∙ sym (doing_it s f (λ d. d.taking)) ∙ q in cc);
           };
-          asks_of_thread = record { runs = is_awake s f going; added = off s f };
+          asks_of_thread = record { runs = is_awake s f runs going; added = off s f runs };
         },
         tt,
       )
 
   -- 4. Items
 
-  may_check : (s : State) → Fits floor v s → (i : Item) → MayCheckOrders s t i
-  may_check s f (TurnstileChain k) = tt
-  may_check s f (SleepChain k) = tt
-  may_check s f (RecordOf u) = tt
-  may_check s f (CellOf l key) = tt
-  may_check s f ClassGraph = is_acting s f
+  may_check : v.pose ≡ Runs → (s : State) → Fits floor v s → (i : Item) → MayCheckOrders s t i
+  may_check runs s f (TurnstileChain k) = tt
+  may_check runs s f (SleepChain k) = tt
+  may_check runs s f (RecordOf u) = tt
+  may_check runs s f (CellOf l key) = tt
+  may_check runs s f ClassGraph = is_acting s f runs
 
-  -- where nothing is out
-  nothing_with : (s : State) → Fits floor v s → v.out ≡ [] → (i : Item) → HasItem s t i → ⊥
-  nothing_with s f empty i out =
-      let there = f.out.no_other i out in
-      some-ne-none there.2.0 (sym there.2.1 ∙ ap (found there.0) empty)
-
-  pub may_take : (i : Item) → v.out ≡ [] → v.share.doing.round ≡ None → IsGoing v
+  pub may_take : (i : Item) → v.pose ≡ Runs → v.out ≡ [] → v.share.doing.round ≡ None → IsGoing v
       → ((s : State) → Fits floor v s → IsItem floor.chains c i)
       → MayMake floor v (λ s. item_with s i ≡ None) (TakesItem t i ∷ [])
-  may_take i empty no_round going there s f home = (
+  may_take i runs empty no_round going there s f home = (
     record {
       may = record {
         thread = f.thread;
         home = home;
         together = λ k out. absurd (nothing_with s f empty k out);
-        orders = may_check s f i;
+        orders = may_check runs s f i;
       };
       has_out = (
         there s f,
@@ -316,34 +351,36 @@ module _ (floor : Description) (v : Knowledge) where
             tt,
       );
       has_seen = tt;
-      asks_of_thread = record { runs = inl (is_awake s f going); owes = owes_none s f going };
+      asks_of_thread = record { runs = inl (is_awake s f runs going); owes = owes_none s f runs going };
     },
     tt,
   )
 
   -- what was taken last
   module _ (i : Item) (j : ℕ) (x : Slot) (place : slot_of floor i ≡ Some j) (last : v.out ≡ (j, x) ∷ rest v.out) where
-    pub says_its : (s : State) → Fits floor v s → HasItem s t i × IsOf (objects_in s) i x
+    pub says_its : (s : State) → Fits floor v s → HasItem s t i × IsOf floor (objects_in s) i x
     says_its s f = f.out.each i j x place (ap (found j) last ∙ found_first j x (rest v.out))
 
-    pub may_give : v.share.doing.phase ≡ Awake → v.share.doing.unstamped ≡ None
-        → MayMake floor v (λ s. Unit {0}) (GivesItem t i ∷ [])
-    may_give awake noted s f _ = (
+    -- a record or a cell goes home where the thread runs
+    pub may_give : is_record_or_cell i ≡ true → v.pose ≡ Runs → v.share.doing.phase ≡ Awake
+        → v.share.doing.unstamped ≡ None → MayMake floor v (λ s. Unit {0}) (GivesItem t i ∷ [])
+    may_give plain runs awake noted s f _ = (
       record {
-        may = record { thread = f.thread; out = (says_its s f).0; done = done i place };
+        may = record { thread = f.thread; out = (says_its s f).0; done = done i plain };
         has_out = (says_its s f).0;
         has_seen = tt;
         asks_of_thread = record {
           unparked = ap is_parked (doing_it s f (λ d. d.phase) ∙ awake);
-          owes = record { added = off s f; stamped = doing_it s f (λ d. d.unstamped) ∙ noted };
+          owes = record { added = off s f runs; stamped = doing_it s f (λ d. d.unstamped) ∙ noted };
         };
       },
       tt,
     )
       where
-        done : (k : Item) → slot_of floor k ≡ Some j → IsDoneWith s t k
-        done (TurnstileChain k) at = absurd (let z : None ≡ Some j = at in cc)
-        done (SleepChain k) at = absurd (let z : None ≡ Some j = at in cc)
-        done (RecordOf u) at = λ own queued. absurd (let z : Running ≡ Queued = sym f.runs ∙ queued in cc)
-        done (CellOf l key) at = tt
-        done ClassGraph at = absurd (let z : None ≡ Some j = at in cc)
+        done : (k : Item) → is_record_or_cell k ≡ true → IsDoneWith s t k
+        done (TurnstileChain k) it = absurd cc
+        done (SleepChain k) it = absurd cc
+        done (RecordOf u) it =
+            λ own queued. absurd (let z : Running ≡ Queued = sym (is_running s f runs) ∙ queued in cc)
+        done (CellOf l key) it = tt
+        done ClassGraph it = absurd cc

@@ -16,7 +16,7 @@ use Rattle.lock_state.specs.Steps.Items.{RecordOf}
 use Rattle.thread_records.specs.declared.record.ThreadRec.{ThreadRec}
 use Rattle.floor_table.specs.declared.description.Description.{Description}
 use Rattle.floor_table.specs.declared.slot.Slot.{Slot}
-use Rattle.floor_table.specs.declared.slot.Slot.TheVariants.{Record, Cell}
+use Rattle.floor_table.specs.declared.slot.Slot.TheVariants.{Record, Cell, Turnstiles, SleepQueues, Graph}
 use Rattle.floor_table.specs.Places.{slot_of}
 use Rattle.floor_table.specs.Steps.{Fits, MayMake}
 use Rattle.floor_table.specs.Views.{Knowledge}
@@ -38,6 +38,9 @@ own_place floor v me who locks book fin tied is its =
 a_record : (t : ℕ) (x : Slot) → IsOfKind (RecordOf t) x → (b : Box ThreadRec Global) × (x ≡ Record b)
 a_record t (Record b) its = (b, refl)
 a_record t (Cell value) its = absurd its
+a_record t (Turnstiles chain) its = absurd its
+a_record t (SleepQueues chain) its = absurd its
+a_record t (Graph b) its = absurd its
 
 -- so that is what the thread has out
 pub record_out : (floor : Description) (t j : ℕ) (v a : Knowledge) → Takes floor (RecordOf t) j v a → (b : Box ThreadRec Global) × (a.out ≡ (j, Record b) ∷ rest a.out)
@@ -47,7 +50,7 @@ record_out floor t j v a taken =
 
 -- a thread at rest may take it
 pub may_take_own : (floor : Description) (v : Knowledge) → IsAtRest floor v → MayMake floor v (λ s. s.record_with v.thread ≡ None) (TakesItem v.thread (RecordOf v.thread) ∷ [])
-may_take_own floor v r = may_take floor v (RecordOf v.thread) r.nothing_out r.no_round r.going (λ s f. f.thread)
+may_take_own floor v r = may_take floor v (RecordOf v.thread) r.runs r.nothing_out r.no_round r.going (λ s f. f.thread)
 
 module _ (floor : Description) (v a : Knowledge) (j : ℕ) (b : Box ThreadRec Global) (place : slot_of floor (RecordOf v.thread) ≡ Some j) (r : IsAtRest floor v) (taken : Takes floor (RecordOf v.thread) j v a) (last : a.out ≡ (j, Record b) ∷ rest a.out) where
   its : a.thread ≡ v.thread

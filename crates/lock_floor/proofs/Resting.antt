@@ -1,6 +1,6 @@
 -- A thread at rest is at rest again behind its calls: behind an entry, behind the use of an item, behind looks, behind a
 -- gain with its entry, and behind a release with its entry.
-use Rattle.std.proofs.Common.{◌≡◌, ◌≢◌, ℕ, suc, ◌+◌, ◌≤◌, Bool, true, false, ◌||◌, cond, eqb, Option, None, List, [], ◌∷◌, ◌++◌, refl, sym, ap, ◌∙◌, subst, inl, inr, arith, eq-eqb}
+use Rattle.std.proofs.Common.{◌≡◌, ◌≢◌, ℕ, suc, ◌+◌, ◌≤◌, Bool, true, false, not, ◌||◌, ◌&&◌, cond, eqb, Option, None, List, [], ◌∷◌, ◌++◌, refl, sym, ap, ◌∙◌, subst, inl, inr, arith, eq-eqb}
 use Rattle.std.proofs.lemmas.Bool.{cases_eq, ne_eqb}
 use Rattle.atomic_table.specs.Table.{rest}
 use Rattle.lock_laws.proofs.HeldLists.{hold_in-push}
@@ -18,7 +18,7 @@ use Rattle.lock_model.specs.declared.event.Held.{Held}
 use Rattle.lock_model.specs.declared.numbers.LockNo.{LockNo}
 use Rattle.lock_model.specs.declared.plan.Mode.{Mode}
 use Rattle.lock_state.specs.State.{State, NoWalk, Round, Wake, start_state}
-use Rattle.lock_state.specs.Steps.{Step, Stamps, Drops, GivesItem, seeks, NotesInRound, HasOutForEntry}
+use Rattle.lock_state.specs.Steps.{Step, Stamps, Drops, GivesItem, chain_of, seeks, NotesInRound, HasOutForEntry}
 use Rattle.lock_state.specs.Steps.Items.{Item, is_chain, in_its_chain, seen_after}
 use Rattle.lock_state.specs.Steps.LockWords.{Asks, is_sleep, is_taking_back, changes_sections, looks_after, round_after, taking_after, unstamped_after, after_stamp}
 use Rattle.floor_table.specs.Descriptions.{config_in}
@@ -26,12 +26,12 @@ use Rattle.floor_table.specs.declared.description.Description.{Description}
 use Rattle.floor_table.specs.declared.slot.Slot.{Slot}
 use Rattle.floor_table.specs.Shares.{Doing, ShareColumns, is_among}
 use Rattle.floor_table.specs.Steps.{Fits, MayMake, Makes, MakesEach}
-use Rattle.floor_table.specs.Views.{Knowledge, seeing}
+use Rattle.floor_table.specs.Views.{Runs, Knowledge, seeing}
 use Rattle.lock_floor.specs.Changes.{changed, last_changed, stamped_change}
 use Rattle.lock_floor.specs.Floors.{Floor, Pass}
 use Rattle.lock_floor.specs.Passes.{IsOf, IsGoing, IsAtRest, IsReady, MakesEntry, with_item}
 use Rattle.lock_floor.specs.Latches.{Takes}
-use Rattle.lock_floor.specs.Views.{counts, looked, others, gained, put_down, begun_by, took, gave, entry_by, stamped}
+use Rattle.lock_floor.specs.Views.{has_item, counts, looked, others, gained, put_down, begun_by, took, gave, entry_by, stamped}
 use Rattle.lock_floor.proofs.Gaining.{dropped_unheld}
 use Rattle.lock_floor.proofs.May.{own_log, may_stamp}
 use Rattle.lock_floor.proofs.Shares.{among_stays}
@@ -39,6 +39,7 @@ use Rattle.lock_floor.proofs.Shares.{among_stays}
 -- 1. What the thread is about, beside the locks that it holds
 
 pub record IsIdle (v : Knowledge) : Type 0 where
+  pub runs : v.pose ≡ Runs
   pub nothing_out : v.out ≡ []
   pub no_walk : v.share.doing.walk ≡ NoWalk
   pub unmarked : v.share.doing.marked ≡ []
@@ -52,6 +53,7 @@ pub record IsIdle (v : Knowledge) : Type 0 where
 
 abbrev pub idle : (floor : Description) (v : Knowledge) → IsAtRest floor v → IsIdle v
 idle floor v r = record {
+  runs = r.runs;
   nothing_out = r.nothing_out;
   no_walk = r.no_walk;
   unmarked = r.unmarked;
@@ -73,6 +75,7 @@ Begun v = (l : ℕ) → hold_in v.share.held l ≢ NotHeld → is_among l v.shar
 
 at_rest : (floor : Description) (v : Knowledge) → IsIdle v → Sectioned floor v → Begun v → IsAtRest floor v
 at_rest floor v i sections begun = record {
+  runs = i.runs;
   nothing_out = i.nothing_out;
   no_walk = i.no_walk;
   unmarked = i.unmarked;
@@ -91,6 +94,7 @@ at_rest floor v i sections begun = record {
 pub rest_seeing : (floor : Description) (v : Knowledge) (steps : List Step) → IsAtRest floor v
     → IsAtRest floor (seeing steps v)
 rest_seeing floor v steps r = record {
+  runs = r.runs;
   nothing_out = r.nothing_out;
   no_walk = r.no_walk;
   unmarked = r.unmarked;
@@ -155,6 +159,7 @@ module _ (floor : Description) (v : Knowledge) where
 
   idle_stamped : (ticket : ℕ) (e : Event) → is_sleep e ≡ false → IsIdle v → IsIdle (stamped c v (entry_by t ticket e))
   idle_stamped ticket e wakeful i = record {
+    runs = i.runs;
     nothing_out = i.nothing_out;
     no_walk = i.no_walk;
     unmarked = i.unmarked;
@@ -177,10 +182,11 @@ module _ (floor : Description) (v : Knowledge) where
   -- 3. Behind looks: none counts, since no round is under way
 
   pub uncounted : (l : ℕ) → IsIdle v → counts v l ≡ false
-  uncounted l i = ap (seeks l) i.no_round
+  uncounted l i = ap (λ o. seeks l o && not (has_item v (chain_of v.description.chains (config_in v.description) l))) i.no_round
 
   idle_looked : (l : ℕ) (word : Word) → IsIdle v → IsIdle (looked v l word)
   idle_looked l word i = record {
+    runs = i.runs;
     nothing_out = i.nothing_out;
     no_walk = i.no_walk;
     unmarked = i.unmarked;
@@ -207,13 +213,14 @@ module _ (floor : Description) (a : Knowledge) (r : IsAtRest floor (record a { o
   may_note e asks =
       may_stamp floor a e asks (subst (λ o. NotesInRound o e) (sym r.no_round) tt)
       (λ q. absurd (let z : true ≡ false = sym q ∙ r.no_wait in cc))
-      r.going r.takes_nothing
+      r.runs r.going r.takes_nothing
 
 -- with an item that it took
 pub rest_with : (floor : Description) (v a : Knowledge) (i : Item) (j : ℕ) → is_chain i ≡ false → IsAtRest floor v → Takes floor i j v a → IsAtRest floor (record a { out = [] })
 rest_with floor v a i j plain r taken =
     subst (λ (w : Knowledge). IsAtRest floor (record w { out = [] })) (sym taken.view)
     (at_rest floor (record (seeing a.seen (took v i j taken.value)) { out = [] }) record {
+      runs = r.runs;
       nothing_out = refl;
       no_walk = r.no_walk;
       unmarked = r.unmarked;
@@ -320,6 +327,7 @@ gain_event h = cond h.by_try (Tried h.l h.mode) (Locked h.l h.mode)
 
 idle_gained : (v : Knowledge) (h : Held) → IsIdle v → IsIdle (gained v h)
 idle_gained v h i = record {
+  runs = i.runs;
   nothing_out = i.nothing_out;
   no_walk = i.no_walk;
   unmarked = i.unmarked;
@@ -433,6 +441,7 @@ module _ (floor : Description) (l : ℕ) (mode : Mode) (v : Knowledge) (h : IsLe
     rest_left made =
         let i = h.about in
         at_rest floor left record {
+          runs = i.runs;
           nothing_out = i.nothing_out;
           no_walk = i.no_walk;
           unmarked = i.unmarked;

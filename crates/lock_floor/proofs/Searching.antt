@@ -1,5 +1,5 @@
 -- A binary search among the keys of a floor finds each of them, where its cell lies.
-use Rattle.std.proofs.Common.{◌≡◌, ℕ, ◌+◌, ◌<◌, Bool, true, false, ◌&&◌, cond, T, List, [], ◌∷◌, length, map, get_or, is_lt, is_eq, Some, None, Result, Ok, Err, refl, sym, ap, ◌∙◌, subst, inl, inr, arith, lt-ltb}
+use Rattle.std.proofs.Common.{◌≡◌, ℕ, ◌+◌, ◌<◌, true, false, cond, List, length, get_or, is_lt, is_eq, Some, None, Result, Ok, Err, refl, sym, ap, ◌∙◌, subst, inl, inr, arith, lt-ltb}
 use Rattle.std.specs.List.{Contains, position, position_or_len, list_any}
 use Rattle.std.specs.List.Sorted.{IsSearchInRange, IsBinarySearchResult, IsPartitionPoint, IsSorted}
 use Rattle.std.specs.Ordering.{ordering_reverse}

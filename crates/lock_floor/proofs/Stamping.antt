@@ -52,7 +52,7 @@ module _ (floor : Description) (me : Me Slot Knowledge) (was : me.0.role ≡ OfT
       let s : State = h.state in
       let n : State = after_stamp c s v.thread event in
       let ticket : ℕ = word_at b.words ticket_line in
-      let is : ticket ≡ s.next = h.represents.ticket in
+      let is : ticket ≡ s.next = h.represents.words.ticket in
       let w : Knowledge = seeing (past_with h.past step) (record (stamped c v (entry_by v.thread ticket event)) { out = out me }) in
       let small : ticket < 2 ^ 32 = omega (arith, is, h.represents.room) in
       let share : RepresentsShare w.share n v.thread = subst (λ k. RepresentsShare (stamped c v (entry_by v.thread k event)).share n v.thread) (sym is) (stamp_own s v h.fits.share c event) in
@@ -63,16 +63,18 @@ module _ (floor : Description) (me : Me Slot Knowledge) (was : me.0.role ≡ OfT
         no_refusal = (λ u k j e. absurd cc, tt);
         seat = record { thread = refl; share = share };
         others = λ u ne. stamp_others s v.thread u ne c event;
+        pose = h.fits.pose;
+        other_poses = λ u ne p k. k;
       } in
       let more : (ticket + 1) % 18446744073709551616 ≡ suc ticket = omega (arith, small) in
       let spares : suc w.spare ≡ v.spare = omega (arith, room) in
-      let made = ticket_made floor step b v w h was may own me.1 ((ticket + 1) % 18446744073709551616) content more refl refl refl refl spares shelves objects in
+      let made = ticket_made floor step b v w h was may own me.1 ((ticket + 1) % 18446744073709551616) content more refl refl spares shelves objects in
       (w, keeps, tt, made.0, (small, refl, made.1))
 
 -- an event that changes no priority and no lock's table leaves the objects
 quiet_objects : (c : Config) (s : State) (t : ℕ) (e : Event) → changes_base e ≡ false → changes_table e ≡ false → objects_in (after_stamp c s t e) ≡ objects_in s
 unfolding after_stamp
-quiet_objects c s t e base table = λ i. record {
+quiet_objects c s t e base table = λ i. record (objects_in s) {
   record_of = λ u. record (record_in s u) { base = bases_stay c s t e base i u; effective = effective_stays c s t e base i u };
   table = tables_stay c s t e table i;
 }

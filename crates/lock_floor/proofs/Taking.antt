@@ -9,10 +9,9 @@ use Rattle.atomic_table.specs.Table.{Me, keeps, takes, gives, rest, Allows}
 use Rattle.lock_state.specs.State.{State}
 use Rattle.lock_state.specs.Steps.{Step, TakesItem, GivesItem, maker}
 use Rattle.lock_state.specs.Steps.Items.{Item, TurnstileChain, SleepChain, RecordOf, CellOf, ClassGraph, item_with, after_take, after_give}
-use Rattle.floor_table.specs.Descriptions.{config_in}
 use Rattle.floor_table.specs.declared.description.Description.{Description}
 use Rattle.floor_table.specs.declared.slot.Slot.{Slot}
-use Rattle.floor_table.specs.declared.slot.Slot.TheVariants.{Record, Cell}
+use Rattle.floor_table.specs.declared.slot.Slot.TheVariants.{Record, Cell, Turnstiles, SleepQueues, Graph}
 use Rattle.lock_objects.specs.Represents.{RecordColumns}
 use Rattle.floor_table.specs.Past.{IsSeenBy}
 use Rattle.floor_table.specs.Places.{spot, latch_line, latch_word, slot_of, slots_for, taker}
@@ -38,17 +37,32 @@ Taken floor j me found behind =
     × (found ≢ 0 → (behind ≡ (seeing behind.0.seen me.0, me.1))
     × ((i : Item) → slot_of floor i ≡ Some j → FindsOut floor i me.0 behind.0))
 
-kind_of : (s : State) (i : Item) (y : Slot) → IsOf (objects_in s) i y → IsOfKind i y
-kind_of s (RecordOf t) (Record b) h = ap (λ (r : RecordColumns). r.thread) h.columns
-kind_of s (RecordOf t) (Cell value) h = h
-kind_of s (CellOf l key) (Record b) h = h
-kind_of s (CellOf l key) (Cell value) h = tt
-kind_of s (TurnstileChain k) (Record r) h = absurd h
-kind_of s (TurnstileChain k) (Cell w) h = absurd h
-kind_of s (SleepChain k) (Record r) h = absurd h
-kind_of s (SleepChain k) (Cell w) h = absurd h
-kind_of s ClassGraph (Record r) h = absurd h
-kind_of s ClassGraph (Cell w) h = absurd h
+kind_of : (floor : Description) (s : State) (i : Item) (y : Slot) → IsOf floor (objects_in s) i y → IsOfKind i y
+kind_of floor s (RecordOf t) (Record b) h = ap (λ (r : RecordColumns). r.thread) h.columns
+kind_of floor s (CellOf l key) (Cell value) h = tt
+kind_of floor s (TurnstileChain k) (Turnstiles chain) h = tt
+kind_of floor s (SleepChain k) (SleepQueues chain) h = tt
+kind_of floor s ClassGraph (Graph b) h = tt
+kind_of floor s (TurnstileChain k) (Record b) h = absurd h
+kind_of floor s (TurnstileChain k) (Cell value) h = absurd h
+kind_of floor s (TurnstileChain k) (SleepQueues chain) h = absurd h
+kind_of floor s (TurnstileChain k) (Graph b) h = absurd h
+kind_of floor s (SleepChain k) (Record b) h = absurd h
+kind_of floor s (SleepChain k) (Cell value) h = absurd h
+kind_of floor s (SleepChain k) (Turnstiles chain) h = absurd h
+kind_of floor s (SleepChain k) (Graph b) h = absurd h
+kind_of floor s (RecordOf t) (Cell value) h = absurd h
+kind_of floor s (RecordOf t) (Turnstiles chain) h = absurd h
+kind_of floor s (RecordOf t) (SleepQueues chain) h = absurd h
+kind_of floor s (RecordOf t) (Graph b) h = absurd h
+kind_of floor s (CellOf l key) (Record b) h = absurd h
+kind_of floor s (CellOf l key) (Turnstiles chain) h = absurd h
+kind_of floor s (CellOf l key) (SleepQueues chain) h = absurd h
+kind_of floor s (CellOf l key) (Graph b) h = absurd h
+kind_of floor s ClassGraph (Record b) h = absurd h
+kind_of floor s ClassGraph (Cell value) h = absurd h
+kind_of floor s ClassGraph (Turnstiles chain) h = absurd h
+kind_of floor s ClassGraph (SleepQueues chain) h = absurd h
 
 module _ (floor : Description) (me : Me Slot Knowledge) (was : me.0.role ≡ OfThread) (i : Item) (j : ℕ)
     (place : slot_of floor i ≡ Some j) where
@@ -88,15 +102,21 @@ module _ (floor : Description) (me : Me Slot Knowledge) (was : me.0.role ≡ OfT
         no_refusal = (λ u k j e. absurd cc, tt);
         seat = record { thread = refl; share = take_own s v h.fits.share i j x };
         others = λ u ne. take_others s v.thread u ne i;
+        pose = h.fits.pose;
+        other_poses = λ u ne p k. k;
       } in
       let made = take_made floor (step ∷ []) b v w h was allowed own me.1 i j place free
-      (record { word = refl; next = refl; items = refl; objects = refl; to_come = refl }) refl refl in
+      (record { words = refl; items = refl; objects = refl }) refl refl in
       let there : get_elem? b.homes j ≡ some (some x) =
       or_at b.homes j slots.none (omega (arith, low, h.represents.sizes.slots))
       ∙ ap some (h.represents.shelves.at_home j low free) in
       let taken : Takes floor i j v w =
-      record { value = x; view = refl; step = made.1; kind = kind_of s i x (h.represents.objects.each i j place) }
-      in (
+      record {
+        value = x;
+        view = refl;
+        step = made.1;
+        kind = kind_of floor s i x (h.represents.objects.each i j place);
+      } in (
         w,
         takes j x,
         there,
@@ -165,10 +185,11 @@ module _ (floor : Description) (me : Me Slot Knowledge) (was : me.0.role ≡ OfT
           no_refusal = (λ u k j e. absurd cc, tt);
           seat = record { thread = refl; share = give_own s v h.fits.share i };
           others = λ u ne. give_others s v.thread u ne i;
+          pose = h.fits.pose;
+          other_poses = λ u ne p k. k;
         } in
         let made = give_made floor (step ∷ []) b v w h was allowed own me.1 i j x (rest v.out) (rest v.out) place
-        (tied ∙ last) last (record { word = refl; next = refl; items = refl; objects = refl; to_come = refl }) refl
-        refl in (
+        (tied ∙ last) last (record { words = refl; items = refl; objects = refl }) refl refl in (
           w,
           gives,
           tt,
@@ -226,7 +247,7 @@ may_still floor i old new h may =
           thread = f.thread;
           share = f.share;
           out = f.out;
-          runs = f.runs;
+          pose = f.pose;
         }) home
 
 -- who takes it then takes it from what it knew before

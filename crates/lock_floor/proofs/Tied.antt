@@ -1,10 +1,15 @@
 -- A pass stays tied to what its seat knows.
-use Rattle.std.proofs.Common.{◌≡◌, ◌<◌, ◌≤◌, ℕ, Bool, true, false, Some, ◌∷◌, inl, inr, sym, ap, ◌∙◌, subst, reverse, length, vec_capacity}
+use Rattle.std.proofs.Common.{◌≡◌, ◌-◌, ◌<◌, ◌≤◌, ℕ, Bool, true, false, Some, List, [], ◌∷◌, ◌++◌, inl, inr, refl, sym, ap, ◌∙◌, subst, reverse, length, vec_capacity}
 use Rattle.std.proofs.lemmas.Bool.{cases_eq}
+use Rattle.std.proofs.lemmas.List.{reverse-append}
 use Rattle.std.specs.Global.{Vec}
 use Rattle.atomic_table.specs.Table.{Me, rest}
 use Rattle.lock_history.specs.Books.{Book}
 use Rattle.lock_model.specs.Operations.{without_lock}
+use Rattle.lock_model.specs.Config.{Config}
+use Rattle.lock_model.specs.declared.event.Entry.{Entry}
+use Rattle.lock_model.specs.declared.event.Event.{Event}
+use Rattle.lock_model.specs.declared.numbers.ThreadNo.{ThreadNo}
 use Rattle.lock_model.specs.declared.event.Held.{Held}
 use Rattle.lock_state.specs.Steps.Items.{Item}
 use Rattle.floor_table.specs.declared.description.Description.{Description}
@@ -12,7 +17,7 @@ use Rattle.floor_table.specs.declared.slot.Slot.{Slot}
 use Rattle.floor_table.specs.Places.{slot_of}
 use Rattle.floor_table.specs.Views.{Knowledge, seeing}
 use Rattle.lock_floor.specs.Ties.{IsTied}
-use Rattle.lock_floor.specs.Views.{put_down, took, gave}
+use Rattle.lock_floor.specs.Views.{put_down, took, gave, entry_by, stamped}
 use Rattle.lock_floor.proofs.Taking.{Taken}
 
 -- where its locks and its log stay
@@ -29,6 +34,7 @@ tied_on who locks book fin me behind going h role floor thread held log spare ou
   spare = h.spare ∙ sym spare;
   out = out;
   done = λ e. absurd (let z : false ≡ true = sym going ∙ e in cc);
+  runs = λ e. absurd (let z : false ≡ true = sym going ∙ e in cc);
 }
 
 -- without a lock that was put down
@@ -45,6 +51,7 @@ tied_without who l locks left book fin me behind h e items room =
       spare = h.spare;
       out = h.out;
       done = h.done;
+      runs = h.runs;
     }
 
 -- after a try to take what a place has
@@ -71,3 +78,27 @@ pub tied_given : (who : ℕ) (locks : Vec Held) (book : Book) (fin : Bool) (me b
 tied_given who locks book fin me behind i going h is =
     let v : behind.0 ≡ seeing behind.0.seen (gave me.0 i) = ap (λ (m : Me Slot Knowledge). m.0) is in
     tied_on who locks book fin me behind going h (ap (λ w. w.role) v) (ap (λ w. w.description) v) (ap (λ w. w.thread) v) (ap (λ w. w.share.held) v) (ap (λ w. w.share.log) v) (ap (λ w. w.spare) v) (ap (λ (m : Me Slot Knowledge). m.1) is ∙ ap rest h.out ∙ sym (ap (λ w. w.out) v))
+
+-- the entry that a call makes is that of its thread
+pub entry_made : (t : ℕ) (who : ThreadNo) (e : Entry) (event : Event) → who.0 ≡ t → e.thread ≡ who → e.event ≡ event → entry_by t e.ticket event ≡ e
+entry_made t who e event its thread is =
+    let by : e.thread ≡ record { 0 = t } = thread ∙ (λ i. record { 0 = its i }) in
+    sym (λ i. record { ticket = e.ticket; thread = by i; event = is i })
+
+-- after an entry, by which values that are out may have changed
+pub tied_stamped : (who : ℕ) (locks : Vec Held) (book after : Book) (fin : Bool) (me behind : Me Slot Knowledge) (c : Config) (e : Entry) (out : List (ℕ × Slot)) → fin ≡ false → IsTied who locks book fin me → after ≡ record { entries = book.entries ++ e ∷ []; spare = book.spare - 1 }
+    → behind ≡ (seeing behind.0.seen (record (stamped c me.0 e) { out = out }), out) → IsTied who locks after fin behind
+tied_stamped who locks book after fin me behind c e out going h put is =
+    subst (λ (z : Book × Me Slot Knowledge). IsTied who locks z.0 fin z.1) (λ i. (sym put i, sym is i)) record {
+      role = h.role;
+      thread = h.thread;
+      of_floor = h.of_floor;
+      few = h.few;
+      held = h.held;
+      room = h.room;
+      log = ap (λ es. es ++ e ∷ []) h.log ∙ sym (reverse-append (e ∷ []) me.0.share.log);
+      spare = ap (λ n. n - 1) h.spare;
+      out = refl;
+      done = λ q. absurd (let z : false ≡ true = sym going ∙ q in cc);
+      runs = λ q. absurd (let z : false ≡ true = sym going ∙ q in cc);
+    }

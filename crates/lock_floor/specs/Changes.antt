@@ -57,10 +57,13 @@ cell_after e before = value_with (facets e).table before
 abbrev pub record_after : Event → Record → Record
 record_after e before = with_given_base (new_base e) before
 
--- what lies behind a latch, after an event about it
+-- what lies behind a latch, after an event about it: no event is about a chain or the class graph
 abbrev pub changed : Event → Slot → Slot
 changed e (slot.Cell before) = slot.Cell (cell_after e before)
 changed e (slot.Record before) = slot.Record (with_value before (record_after e before.value))
+changed e (slot.Turnstiles before) = slot.Turnstiles before
+changed e (slot.SleepQueues before) = slot.SleepQueues before
+changed e (slot.Graph before) = slot.Graph before
 
 -- the values that are out, after an event about the one that was taken last
 abbrev pub last_changed : Event → List (ℕ × Slot) → List (ℕ × Slot)

@@ -14,7 +14,7 @@ use Rattle.floor_table.specs.Descriptions.{config_in}
 use Rattle.floor_table.specs.declared.description.Description.{Description}
 use Rattle.floor_table.specs.Shares.{is_among}
 use Rattle.floor_table.specs.Steps.{Makes}
-use Rattle.floor_table.specs.Views.{Knowledge, first_view}
+use Rattle.floor_table.specs.Views.{Runs, Knowledge, first_view}
 use Rattle.lock_floor.specs.Floors.{Floor, Pass, Keeper}
 use Rattle.lock_floor.specs.Views.{entry_by}
 
@@ -50,10 +50,11 @@ pub record CanStep (phase : Phase) (has_ended : Bool) (unstamped : Option Wake) 
 abbrev pub IsGoing : Knowledge → Type 0
 IsGoing v = CanStep v.share.doing.phase v.share.doing.has_ended v.share.doing.unstamped
 
--- A thread at rest: it is awake and has nothing out, no walk and nobody to mark, wants no lock and seeks none, has
--- nothing to note and doesn't sleep in its log; the sections open in its log are of just the locks that it holds, in
--- their modes, and each began since its lock was gained.
+-- A thread at rest: it runs, is awake and has nothing out, no walk and nobody to mark, wants no lock and seeks none,
+-- has nothing to note and doesn't sleep in its log; the sections open in its log are of just the locks that it holds,
+-- in their modes, and each began since its lock was gained.
 pub record IsAtRest (floor : Description) (v : Knowledge) : Type 0 where
+  pub runs : v.pose ≡ Runs
   pub nothing_out : v.out ≡ []
   pub no_walk : v.share.doing.walk ≡ NoWalk
   pub unmarked : v.share.doing.marked ≡ []

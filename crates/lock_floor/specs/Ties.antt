@@ -1,5 +1,5 @@
 -- What ties a floor to its table, and a pass and the keeper to what their seats know.
-use Rattle.std.specs.Prelude.{◌≡◌, ℕ, ◌<◌, ◌≤◌, Bool, true, List, [], length, map, reverse}
+use Rattle.std.specs.Prelude.{◌≡◌, ℕ, ◌<◌, ◌≤◌, Bool, true, [], length, map, reverse}
 use Rattle.std.specs.FinMap.{empty}
 use Rattle.std.specs.Global.{Vec}
 use Rattle.std.specs.List.{Contains}
@@ -14,7 +14,7 @@ use Rattle.floor_table.specs.Descriptions.{IsSized}
 use Rattle.floor_table.specs.declared.description.Description.{Description}
 use Rattle.floor_table.specs.declared.slot.Slot.{Slot}
 use Rattle.floor_table.specs.Places.{words_for, slots_for}
-use Rattle.floor_table.specs.Views.{Knowledge, OfKeeper, OfThread}
+use Rattle.floor_table.specs.Views.{Knowledge, OfKeeper, OfThread, Runs}
 use Rattle.thread_records.specs.declared.record.ThreadRec.{ThreadRec}
 
 -- the table has the words and values of what the floor was made for, which the floor keeps, and which fits a table
@@ -25,7 +25,7 @@ pub record IsLaid (floor : Description) (table : TableId) (own : Description) : 
   pub sized : IsSized floor
 
 -- the pass has the locks and the entries that its seat knows of, room for as many as its thread may hold, and just those
--- values out that its seat has out: none where it is finished
+-- values out that its seat has out: none where it is finished, and then its thread runs
 pub record IsTied (who : ℕ) (locks : Vec Held) (book : Book) (finished : Bool)
     (me : Me Slot Knowledge) : Type 0 where
   pub role : me.0.role ≡ OfThread
@@ -38,6 +38,7 @@ pub record IsTied (who : ℕ) (locks : Vec Held) (book : Book) (finished : Bool)
   pub spare : book.spare ≡ me.0.spare
   pub out : me.1 ≡ me.0.out
   pub done : finished ≡ true → me.0.out ≡ []
+  pub runs : finished ≡ true → me.0.pose ≡ Runs
 
 -- The keeper has the logs of the passes that it took in, in that order, and room for what it has yet to take in: all
 -- logs, all records and the tables.

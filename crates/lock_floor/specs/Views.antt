@@ -1,5 +1,6 @@
 -- What seats know after steps, and after a pass is made or taken in.
-use Rattle.std.specs.Prelude.{ℕ, suc, ◌-◌, Bool, not, nat_lt, ◌==◌, if◌then◌else◌, List, [], ◌∷◌, ◌++◌, length, filter, None, Some}
+use Rattle.std.specs.Prelude.{ℕ, suc, ◌-◌, Bool, true, false, not, ◌&&◌, nat_lt, ◌==◌, if◌then◌else◌, List, [], ◌∷◌, ◌++◌, length, filter, Option, None, Some}
+use mathlib.Core.Option as slots
 use Rattle.atomic_table.specs.Table.{rest}
 use Rattle.lock_model.specs.Config.{Config}
 use Rattle.lock_model.specs.Events.{OfSection, NoSection, BeginsIn, EndsFrom, LeftFor, TakenBack, facets}
@@ -9,12 +10,14 @@ use Rattle.lock_model.specs.declared.event.Entry.{Entry}
 use Rattle.lock_model.specs.declared.event.Event.{Event}
 use Rattle.lock_model.specs.declared.event.Held.{Held}
 use Rattle.lock_state.specs.State.{Look}
-use Rattle.lock_state.specs.Steps.{Step, seeks}
+use Rattle.lock_state.specs.Steps.{Step, seeks, chain_of}
 use Rattle.lock_state.specs.Steps.LockWords.{taking_from, round_of, looks_after, round_after, taking_after, unstamped_after}
 use Rattle.lock_state.specs.Steps.Items.{Item, is_chain, in_its_chain, seen_after}
-use Rattle.floor_table.specs.Descriptions.{room_for}
+use Rattle.floor_table.specs.Descriptions.{config_in, room_for}
+use Rattle.floor_table.specs.Places.{slot_of}
 use Rattle.floor_table.specs.declared.slot.Slot.{Slot}
 use Rattle.floor_table.specs.Shares.{Share, Doing}
+use Rattle.floor_table.specs.Shelves.{found}
 use Rattle.floor_table.specs.Views.{Knowledge, first_view}
 
 -- 1. Making passes and taking them in
@@ -40,9 +43,23 @@ with_pass_taken v w = record v {
 
 -- 2. Steps of a thread. That it has seen them is said beside, by `seeing`.
 
--- whether a look at a lock counts: it does in an acquiring round of the lock, since no thread has a chain out yet
+-- whether the value of a place is out
+abbrev pub is_there : slots.Option Slot → Bool
+is_there slots.none = false
+is_there (slots.some x) = true
+
+abbrev pub is_out : List (ℕ × Slot) → Option ℕ → Bool
+is_out out None = false
+is_out out (Some j) = is_there (found j out)
+
+-- whether the thread has the item out
+abbrev pub has_item : Knowledge → Item → Bool
+has_item v i = is_out v.out (slot_of v.description i)
+
+-- whether a look at a lock counts: it does in an acquiring round of the lock, outside the lock's chain
 abbrev pub counts : Knowledge → ℕ → Bool
 counts v l = seeks l v.share.doing.round
+    && not (has_item v (chain_of v.description.chains (config_in v.description) l))
 
 -- after a look at a lock, which saw the word
 abbrev pub looked : Knowledge → ℕ → Word → Knowledge

@@ -140,6 +140,7 @@ impl FloorOf<Slot, View, Description, Law> {
             description.keys.as_slice(),
             &mut tables,
         );
+        take_rest(&mut closed, threads + description.keys.as_slice().len());
         closed.free();
         Closing {
             recs,
@@ -169,14 +170,38 @@ fn take_records(closed: &mut Closed<Slot, Global>, threads: usize, recs: &mut Ve
     ensures left { Filled (slots_filled closed.new.slots) threads (slots_len closed.new.slots) }
 {
     for t in 0..threads {
-        match closed.take(t) {
-            Slot::Record(rec) => recs.push_reserved(rec),
-            Slot::Cell(_) => unreachable!(),
+        recs.push_reserved(record_from(closed.take(t)));
+    }
+}
+
+// The record that a value is.
+fn record_from(value: Slot) -> Box<ThreadRec>
+    requires { (b : _) × (value ≡ Record b) }
+    ensures { value ≡ Record result }
+{
+    match value {
+        Slot::Record(rec) => rec,
+        Slot::Cell(_) | Slot::Turnstiles(_) | Slot::SleepQueues(_) | Slot::Graph(_) => {
+            unreachable!()
+        }
+    }
+}
+
+// The cell that a value is.
+fn cell_from(value: Slot) -> Option<u64>
+    requires { (x : _) × (value ≡ Cell x) }
+    ensures { value ≡ Cell result }
+{
+    match value {
+        Slot::Cell(cell) => cell,
+        Slot::Record(_) | Slot::Turnstiles(_) | Slot::SleepQueues(_) | Slot::Graph(_) => {
+            unreachable!()
         }
     }
 }
 
 // Takes the cells out of their places, which are behind those of so many threads, and puts the value of each at its key.
+// What stands behind them stays in its place.
 fn take_cells(
     closed: &mut Closed<Slot, Global>,
     threads: usize,
@@ -184,7 +209,7 @@ fn take_cells(
     tables: &mut Tables,
 )
     requires few { threads + length keys.now < 2 ^ 32 }
-    requires places { slots_len closed.old.slots ≡ threads + length keys.now }
+    requires places { threads + length keys.now ≤ slots_len closed.old.slots }
     requires taken { (k : ℕ) → k < threads
         → slice_index_or (slots_filled closed.old.slots) k false ≡ false }
     requires left { Filled (slots_filled closed.old.slots) threads (slots_len closed.old.slots) }
@@ -199,14 +224,29 @@ fn take_cells(
         ≡ some (Cell (column (slice_index_or keys.now i d).0 (slice_index_or keys.now i d).1)))
         → (l key : ℕ) → get tables.new.present (l, key)
         ≡ (if list_any (is_cell l key) keys.now then column l key else None) }
+    ensures places { slots_len closed.new.slots ≡ slots_len closed.old.slots }
+    ensures taken { (k : ℕ) → k < threads + length keys.now
+        → slice_index_or (slots_filled closed.new.slots) k false ≡ false }
+    ensures left { Filled (slots_filled closed.new.slots) (threads + length keys.now)
+        (slots_len closed.new.slots) }
+{
+    for (i, (l, key)) in keys.iter().enumerate() {
+        let value = cell_from(closed.take(threads + i));
+        put(tables, LockNo(*l), *key, value);
+    }
+}
+
+// Takes out what stands behind so many places: the chains, in which nothing is left, and the class graph.
+fn take_rest(closed: &mut Closed<Slot, Global>, from: usize)
+    requires places { from ≤ slots_len closed.old.slots }
+    requires taken { (k : ℕ) → k < from
+        → slice_index_or (slots_filled closed.old.slots) k false ≡ false }
+    requires left { Filled (slots_filled closed.old.slots) from (slots_len closed.old.slots) }
     ensures taken { (k : ℕ) → k < slots_len closed.new.slots
         → slice_index_or (slots_filled closed.new.slots) k false ≡ false }
 {
-    for (i, (l, key)) in keys.iter().enumerate() {
-        match closed.take(threads + i) {
-            Slot::Cell(value) => put(tables, LockNo(*l), *key, value),
-            Slot::Record(_) => unreachable!(),
-        }
+    for i in from..closed.slot_count() {
+        drop(closed.take(i));
     }
 }
 

@@ -1,21 +1,25 @@
 //! Making a floor, with a pass for each thread.
-ghost use Rattle.std.specs.Prelude.{◌≡◌, ℕ, ◌+◌, ◌<◌, ◌≤◌, ◌^◌, [], length, slice_index_or, IfOk, OnOk, vec_capacity};
+ghost use Rattle.std.specs.Prelude.{◌≡◌, ℕ, ◌+◌, ◌<◌, ◌≤◌, ◌^◌, ◌++◌, [], None, length, replicate, slice_index_or, IfOk, OnOk, vec_capacity};
 ghost use Rattle.lock_model.specs.Operations.{IsProper};
 ghost use Rattle.floor_table.specs.Descriptions.{IsSized, description_of};
 ghost use Rattle.floor_table.specs.Places.{slots_for};
 ghost use Rattle.floor_table.specs.Views.{keeper};
-ghost use Rattle.lock_floor.specs.First.{IsFirst};
+ghost use Rattle.floor_table.specs.declared.slot.Slot.TheVariants.{Cell, Turnstiles, SleepQueues};
+ghost use Rattle.lock_floor.specs.First.{AreFirstWords, IsFirst};
 ghost use Rattle.lock_floor.specs.Passes.{IsKeeperOf, first_pass};
 
 use crate::floor::{Floor, FloorOf};
 use crate::pass::{Pass, PassOf};
 use atomic_table::Split;
-use floor_table::{Board, Description, FloorSeat, Law, Slot, View, words_for};
+use chain_table::Chain;
+use floor_table::{Board, Description, FloorSeat, Law, Slot, View, awake_spot, words_for};
 use lock_history::{Log, Tables};
+use lock_model::limits::CLASSES;
 use lock_model::{Plan, ThreadNo};
 use std::alloc::{AllocError, Global};
 use std::marker::{Model, PhantomData};
 use thread_records::ThreadRec;
+use witness_orders::Orders;
 
 // Room for the locks that a thread holds: more than it may hold, so that two threads' rooms share no cache line.
 const HELD_ROOM: usize = 64;
@@ -97,7 +101,7 @@ impl FloorOf<Slot, View, Description, Law> {
     {
         let count = description.threads.as_slice().len();
         let slots = first_slots(alloc, &description)?;
-        let words = vec![in alloc; 0; words_for(slots.len())]?;
+        let words = first_words(alloc, count, slots.len())?;
         let logs = Vec::with_capacity(alloc, count)?;
         let recs = Vec::with_capacity(alloc, count)?;
         let tables = Tables::with_room(alloc, description.keys.as_slice())?;
@@ -116,19 +120,62 @@ impl FloorOf<Slot, View, Description, Law> {
     }
 }
 
-// The records of the threads, and then a cell without a value for each key.
+// The words: so many threads are awake, and every other word is 0.
+fn first_words(alloc: Global, threads: usize, slots: usize) -> Result<Vec<u64>, AllocError>
+    requires threads { threads < 2 ^ 8 }
+    requires slots { slots < 2 ^ 32 }
+    ensures { IfOk result (λ words. AreFirstWords threads slots words.items) }
+{
+    let mut words = vec![in alloc; 0; words_for(slots)]?;
+    words[awake_spot()] = threads as u64;
+    Ok(words)
+}
+
+// The records of the threads, a cell without a value for each key, the chains with nothing in them, and the class graph
+// without an edge.
 fn first_slots(alloc: Global, description: &Description) -> Result<Vec<Slot>, AllocError>
-    requires { length description.now.threads < 2 ^ 8 }
+    requires { IsSized description.now }
     ensures count { IfOk result (λ slots. length slots.items ≡ slots_for description.now) }
     ensures each { IfOk result (λ slots. (j : ℕ) (d : _) → j < length slots.items
         → IsFirst description.now j (slice_index_or slots.items j d)) }
 {
-    let cells = description.keys.as_slice().len();
     let mut slots = first_records(alloc, description)?;
-    for _ in 0..cells {
+    push_cells(&mut slots, description.keys.as_slice().len())?;
+    push_turnstiles(&mut slots, description.chains)?;
+    push_sleep_queues(&mut slots, description.chains)?;
+    let orders = Orders::make(alloc, CLASSES as u32)?;
+    slots.push(Slot::Graph(Box::new(alloc, orders)?))?;
+    Ok(slots)
+}
+
+// So many cells without a value.
+fn push_cells(slots: &mut Vec<Slot>, count: usize) -> Result<(), AllocError>
+    ensures { OnOk result (slots.new.items ≡ slots.old.items ++ replicate count (Cell None)) }
+{
+    for _ in 0..count {
         slots.push(Slot::Cell(None))?;
     }
-    Ok(slots)
+    Ok(())
+}
+
+// So many chains of turnstiles with none in them.
+fn push_turnstiles(slots: &mut Vec<Slot>, chains: u32) -> Result<(), AllocError>
+    ensures { OnOk result (slots.new.items ≡ slots.old.items ++ replicate chains (Turnstiles [])) }
+{
+    for _ in 0..chains {
+        slots.push(Slot::Turnstiles(Chain::empty()))?;
+    }
+    Ok(())
+}
+
+// So many chains of sleep queues with none in them.
+fn push_sleep_queues(slots: &mut Vec<Slot>, chains: u32) -> Result<(), AllocError>
+    ensures { OnOk result (slots.new.items ≡ slots.old.items ++ replicate chains (SleepQueues [])) }
+{
+    for _ in 0..chains {
+        slots.push(Slot::SleepQueues(Chain::empty()))?;
+    }
+    Ok(())
 }
 
 // The records of the threads.

@@ -1,22 +1,26 @@
 //! What steps say of the state in which they are made, and of the one behind it: a look finds the word that the lock
 //! has then, a try that fails finds its item out then, and reads and changes of locks' tables act on what all entries
 //! with earlier tickets leave.
-ghost use Rattle.std.specs.Prelude.{◌≡◌, ◌≢◌, ℕ, Bool, List, [], ◌∷◌, length, Option, Some};
+ghost use Rattle.std.specs.Prelude.{◌≡◌, ◌≢◌, ℕ, Bool, true, List, [], ◌∷◌, length, Option, None, Some, IsSome};
+ghost use Rattle.std.specs.declared.alloc.Global.{Global};
+ghost use Rattle.std.specs.declared.boxed.Box.{Box};
 ghost use Rattle.lock_model.specs.History.{value_at};
 ghost use Rattle.lock_model.specs.declared.event.Event.{Event};
 ghost use Rattle.lock_model.specs.declared.event.Event.TheVariants.{Got};
 ghost use Rattle.lock_model.specs.declared.numbers.LockNo.{LockNo};
 ghost use Rattle.lock_state.specs.Steps.{Step, Looks, Stamps, after_all};
-ghost use Rattle.lock_state.specs.Steps.Items.{Item};
+ghost use Rattle.lock_state.specs.Steps.Items.{Item, RecordOf};
 ghost use Rattle.lock_state.specs.Steps.LockWords.{table_after};
 ghost use Rattle.floor_table.specs.Descriptions.{config_in};
 ghost use Rattle.floor_table.specs.declared.description.Description.{Description};
 ghost use Rattle.floor_table.specs.Steps.{Makes};
-ghost use Rattle.floor_table.specs.Views.{Knowledge};
+ghost use Rattle.floor_table.specs.Views.{Knowledge, is_off_queues};
+ghost use Rattle.floor_table.specs.declared.slot.Slot.TheVariants.{Record};
 ghost use Rattle.lock_floor.specs.declared.tables.Change.{Change};
 ghost use Rattle.lock_floor.specs.Changes.{event_of, cell_after};
-ghost use Rattle.lock_floor.specs.Latches.{FindsOut};
+ghost use Rattle.lock_floor.specs.Latches.{FindsOut, Takes};
 ghost use Rattle.lock_floor.specs.Views.{entry_by};
+ghost use Rattle.thread_records.specs.declared.record.ThreadRec.{ThreadRec};
 
 /// Steps that were made behind the same steps were made in the same state.
 pub fn steps_lead_to_one_state()
@@ -48,6 +52,20 @@ pub fn tries_find_takers()
         (f : FindsOut floor i old new) → new.seen ≡ f.moment.past }
     ensures other { (floor : Description) (i : Item) (old new : Knowledge)
         (f : FindsOut floor i old new) → old.out ≡ [] → f.taker ≢ old.thread }
+{}
+
+/// A thread that stands on no queue, as its seat knows, finds in its own record its turnstile and its sleep queue, and no
+/// queue named.
+pub fn own_records_are_whole()
+    ensures turnstile { (floor : Description) (old new : Knowledge) (b : Box ThreadRec Global)
+        (k : Takes floor (RecordOf old.thread) old.thread old new) → k.value ≡ Record b
+        → is_off_queues old.pose ≡ true → IsSome b.value.turnstile }
+    ensures sleep_queue { (floor : Description) (old new : Knowledge) (b : Box ThreadRec Global)
+        (k : Takes floor (RecordOf old.thread) old.thread old new) → k.value ≡ Record b
+        → is_off_queues old.pose ≡ true → IsSome b.value.sleep_queue }
+    ensures nowhere { (floor : Description) (old new : Knowledge) (b : Box ThreadRec Global)
+        (k : Takes floor (RecordOf old.thread) old.thread old new) → k.value ≡ Record b
+        → is_off_queues old.pose ≡ true → b.value.on ≡ None }
 {}
 
 /// An entry of a thread gets as its ticket the number of those before it: it stands behind them in the history, and behind

@@ -79,7 +79,8 @@ impl FloorOf<Slot, View, Description, Law> {
     {
         match pass.seat.slot_mut(&self.board.shared, slot) {
             Slot::Record(rec) => (rec.base(), rec.eff()),
-            Slot::Cell(_) => unreachable!(),
+            Slot::Cell(_) | Slot::Turnstiles(_) | Slot::SleepQueues(_) | Slot::Graph(_) =>
+                unreachable!(),
         }
     }
 }

@@ -77,6 +77,7 @@ fn change(board: &Board, seat: &mut FloorSeat, slot: usize, event: Event)
     match seat.slot_mut(&board.shared, slot) {
         Slot::Cell(cell) => *cell = cell_behind(event, *cell),
         Slot::Record(rec) => note(rec, event),
+        Slot::Turnstiles(_) | Slot::SleepQueues(_) | Slot::Graph(_) => {}
     }
 }
 

@@ -104,7 +104,8 @@ impl FloorOf<Slot, View, Description, Law> {
     {
         match pass.seat.slot_mut(&self.board.shared, slot) {
             Slot::Cell(value) => *value,
-            Slot::Record(_) => unreachable!(),
+            Slot::Record(_) | Slot::Turnstiles(_) | Slot::SleepQueues(_) | Slot::Graph(_) =>
+                unreachable!(),
         }
     }
 }

@@ -1,5 +1,5 @@
 use Rattle.lock_model.specs.Words.{word_of}
-use Rattle.adaptive_mutex.proofs.Looks.{may_look_on, no_look, look_again, still_no_round, still_going}
+use Rattle.adaptive_mutex.proofs.Looks.{may_look_on, no_look, look_again, can_look_on}
 use Rattle.adaptive_mutex.proofs.Released.{may_put_on, may_drop_own}
 use Rattle.adaptive_mutex.proofs.mutex.put_down.Goals as goal
 
@@ -18,10 +18,10 @@ put_down-requires-clause-may g c =
 pub put_down-requires-clause-may_look : goal.put_down-requires-clause-may_look
 put_down-requires-clause-may_look g c =
     let x = c.loop.invariant.looked in
-    may_look_on c.args.floor.now.description c.loop.pass.view c.args.l.0 (still_no_round c.args.floor.now.description c.args.l.0 x.0 c.args.pass.now.view c.loop.pass.view c.requires.may.no_round x.1) c.requires.mutex.lock (still_going c.args.floor.now.description c.args.l.0 x.0 c.args.pass.now.view c.loop.pass.view c.requires.may.going x.1)
+    may_look_on c.args.floor.now.description c.loop.pass.view c.args.l.0 c.loop.invariant.own.description c.requires.mutex.lock (can_look_on c.args.floor.now.description c.args.l.0 x.0 c.args.pass.now.view c.loop.pass.view c.requires.may.looks x.1)
 
 pub loop-preserved : goal.loop-preserved
 loop-preserved g c = record {
   own = c.in-Err.ensures.own;
-  looked = look_again c.args.floor.now.description c.args.l.0 c.args.pass.now.view c.loop.pass.view c.put_down.new.pass.view (word_of c.in-Err.field-0) c.requires.may.no_round c.loop.invariant.looked c.in-Err.ensures.looked c.in-Err.ensures.look;
+  looked = look_again c.args.floor.now.description c.args.l.0 c.args.pass.now.view c.loop.pass.view c.put_down.new.pass.view (word_of c.in-Err.field-0) c.requires.may.looks.no_round c.loop.invariant.looked c.in-Err.ensures.looked c.in-Err.ensures.look;
 }

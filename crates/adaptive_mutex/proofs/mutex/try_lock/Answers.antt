@@ -1,7 +1,7 @@
 use Rattle.std.proofs.Common.{◌≡◌, true, false}
 use Rattle.lock_model.specs.Words.{word_of, is_free}
 use Rattle.adaptive_mutex.proofs.Acquired.{may_gain_free, acquires, gains_at_once, may_note, acquired, saw_held, may_note_busy, found_busy}
-use Rattle.adaptive_mutex.proofs.Looks.{may_look_on}
+use Rattle.adaptive_mutex.proofs.Looks.{may_look_on, rest_looks}
 use Rattle.adaptive_mutex.proofs.mutex.try_lock.Goals as goal
 use Rattle.adaptive_mutex.proofs.mutex.try_lock.Goals.{In-Err}
 
@@ -9,7 +9,7 @@ pub gain-requires-clause-may : goal.gain-requires-clause-may
 gain-requires-clause-may c = may_gain_free c.args.floor.now.description c.args.l.0 true c.args.pass.now.view c.requires.may.mutex (acquires c.args.floor.now.description c.args.l.0 c.args.pass.now.view c.requires.ready.rest c.requires.may)
 
 pub gain-requires-clause-may_look : goal.gain-requires-clause-may_look
-gain-requires-clause-may_look c = may_look_on c.args.floor.now.description c.args.pass.now.view c.args.l.0 c.requires.ready.rest.no_round c.requires.may.mutex.lock c.requires.ready.rest.going
+gain-requires-clause-may_look c = may_look_on c.args.floor.now.description c.args.pass.now.view c.args.l.0 c.requires.ready.own.description c.requires.may.mutex.lock (rest_looks c.args.floor.now.description c.args.pass.now.view c.requires.ready.rest)
 
 -- 1. It gained the mutex
 

@@ -1,5 +1,5 @@
 use Rattle.std.proofs.Common.{◌+◌, ◌<◌, false, get_or, refl, sym, ap, ◌∙◌, subst, arith}
-use mathlib.Core.Option.{some}
+use mathlib.Core.Option.{some, some-injective}
 use lib.ListN.{get_elem?}
 use Rattle.std.specs.FinMap.{get, get-empty}
 use Rattle.std.specs.List.{Contains}
@@ -7,7 +7,7 @@ use Rattle.std.specs.Mem.Slots.{slots_filled}
 use Rattle.std.proofs.lemmas.List.{get_or_default}
 use Rattle.std.proofs.lemmas.List.Elements.{Contains-get_or}
 use Rattle.lock_model.specs.History.{place_cmp}
-use Rattle.lock_floor.proofs.Emptying.{still_full, still_empty, not_both, same_value, shows_more}
+use Rattle.lock_floor.proofs.Emptying.{still_full, still_empty, same_value, shows_more}
 use Rattle.lock_floor.proofs.closing.take_cells.Goals as goal
 
 pub loop-i-init : goal.loop-i-init
@@ -26,11 +26,11 @@ put-requires c =
     let i = c.loop-i.i in
     record { room = subst (λ ps. Contains ps (get_or keys i (0, 0))) (sym c.loop-i.invariant.room) (c.requires.room _ _ (Contains-get_or keys i (0, 0) c.loop-i-test.true)) }
 
-pub unreachable-requires : goal.unreachable-requires
-unreachable-requires c =
+pub cell_from-value-requires : goal.cell_from-value-requires
+cell_from-value-requires c =
     let i = c.loop-i.i in
     let known = c.requires.cells i c.loop-i-test.true in
-    not_both known.0 c.in-Record.field-0 (sym known.1 ∙ ap (λ xs. get_elem? xs (c.args.threads + i)) (sym c.loop-i.invariant.items) ∙ c.take.ensures.value ∙ ap some c.in-Record.is)
+    (known.0, some-injective _ _ (sym c.take.ensures.value ∙ ap (λ xs. get_elem? xs (c.args.threads + i)) c.loop-i.invariant.items ∙ known.1))
 
 pub loop-i-preserved : goal.loop-i-preserved
 loop-i-preserved c =
@@ -43,8 +43,8 @@ loop-i-preserved c =
     let low = c.loop-i-test.true in
     record {
       values = λ column is.
-          let here = same_value (column cell.0 cell.1) c.in-Cell.value (sym (is c.loop-i.i (0, 0) low) ∙ ap (λ xs. get_elem? xs t) (sym i.items) ∙ c.take.ensures.value ∙ ap some c.in-Cell.is) in
-          shows_more keys c.loop-i.i column c.loop-i.tables.present low (i.values column is) cell (get_or_default keys c.loop-i.i (0, 0) cell low) c.in-Cell.value c.put.new.tables.present here c.put.ensures.some c.put.ensures.none;
+          let here = same_value (column cell.0 cell.1) c.cell_from-value.result (sym (is c.loop-i.i (0, 0) low) ∙ ap (λ xs. get_elem? xs t) (sym i.items) ∙ c.take.ensures.value ∙ ap some c.cell_from-value.ensures) in
+          shows_more keys c.loop-i.i column c.loop-i.tables.present low (i.values column is) cell (get_or_default keys c.loop-i.i (0, 0) cell low) c.cell_from-value.result c.put.new.tables.present here c.put.ensures.some c.put.ensures.none;
       room = c.put.ensures.places ∙ i.room;
       items = others.0 ∙ i.items;
       places = others.2 ∙ i.places;

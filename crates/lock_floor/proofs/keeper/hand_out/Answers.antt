@@ -58,6 +58,7 @@ invariant_of-push_reserved c =
       spare = ap (λ (b : Book). b.spare) c.in_ok-log.ensures ∙ h.1;
       out = refl;
       done = λ e. absurd cc;
+      runs = λ e. absurd cc;
     }
 
 pub loop-t-preserved : goal.loop-t-preserved

@@ -1,7 +1,9 @@
 use Rattle.std.proofs.Common.{ℕ, ◌<◌, ◌≤◌, ◌^◌, List, [], length, subst, sym, ◌∙◌, arith}
+use Rattle.std.proofs.lemmas.List.Elements.{All-nil, All-cons}
+use Rattle.std.specs.List.{All}
 use Rattle.std.specs.List.Sorted.{IsStrictlySortedBy}
 use Rattle.lock_model.specs.History.{place_cmp}
-use Rattle.lock_model.specs.Limits.{most_threads, most_locks}
+use Rattle.lock_model.specs.Limits.{most_threads, most_locks, most_classes}
 use Rattle.floor_table.specs.declared.description.LockPart.{LockPart}
 use Rattle.floor_table.specs.declared.description.ThreadPart.{ThreadPart}
 use Rattle.floor_table.specs.Descriptions.{room_in_all}
@@ -11,6 +13,9 @@ none_rise : IsStrictlySortedBy place_cmp []
 unfolding IsStrictlySortedBy
 none_rise = tt
 
+abbrev IsFew : LockPart → Type 0
+IsFew x = x.class.0 < most_classes
+
 pub returns-clause-sized : goal.returns-clause-sized
 returns-clause-sized c =
     let threads = sym (c.from_vec.ensures ∙ c.in_ok-vec.ensures.items) in
@@ -19,6 +24,7 @@ returns-clause-sized c =
     record {
       threads = subst (λ (xs : List ThreadPart). length xs ≤ most_threads) threads (omega arith);
       locks = subst (λ (xs : List LockPart). length xs ≤ most_locks) locks (omega arith);
+      classes = subst (All IsFew) locks (All-cons IsFew _ [] (omega arith) (All-nil IsFew));
       keys = subst (λ (xs : List (ℕ × ℕ)). length xs < 2 ^ 16) keys (omega arith);
       rising = subst (IsStrictlySortedBy place_cmp) keys none_rise;
       room = subst (λ (xs : List ThreadPart). room_in_all xs < 2 ^ 32) threads (omega arith);

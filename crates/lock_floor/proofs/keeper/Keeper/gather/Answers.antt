@@ -21,12 +21,13 @@ join_seat-requires c =
     let v : Knowledge = c.self.inside.seat.me.0 in
     let w : Knowledge = c.pass.inside.seat.me.0 in
     let floor : c.floor.inside.board.shared.table_id ≡ c.args.floor.now.table = ap (λ (f : Floor Description). f.table) c.floor.view_is in
-    let rest : w.out ≡ [] = c.pass.invariant.done (ap (λ (p : Pass Knowledge). p.finished) c.pass.view_is ∙ c.requires.finished.finished) in (
+    let over = ap (λ (p : Pass Knowledge). p.finished) c.pass.view_is ∙ c.requires.finished.finished in
+    let rest : w.out ≡ [] = c.pass.invariant.done over in (
       ap (λ (k : Keeper). k.table) c.self.view_is ∙ c.requires.mine.table ∙ sym floor,
       ap (λ (p : Pass Knowledge). p.table) c.pass.view_is ∙ c.requires.finished.table ∙ sym floor,
       c.pass.invariant.out ∙ rest,
       omega (arith, c.floor.invariant.words),
-      subst (λ i. Joins (FloorHolds key) i v c.pass.inside.seat.id w (with_pass_taken v w) nothing) (sym c.self.invariant.first) (joins key v c.pass.inside.seat.id w c.pass.invariant.role rest),
+      subst (λ i. Joins (FloorHolds key) i v c.pass.inside.seat.id w (with_pass_taken v w) nothing) (sym c.self.invariant.first) (joins key v c.pass.inside.seat.id w c.pass.invariant.role rest (c.pass.invariant.runs over)),
     )
 
 pub ask-requires-clause-within : goal.ask-requires-clause-within

@@ -64,7 +64,8 @@ give-requires-clause-may g c =
     let out = changed_out (config_in floor) floor v c.take.new.pass.view c.stamp_change.new.pass.view (RecordOf v.thread) j entry taken c.stamp_change.ensures.view in (
       RecordOf v.thread,
       place,
-      may_give floor c.stamp_change.new.pass.view (RecordOf v.thread) j _ place out
+      may_give floor c.stamp_change.new.pass.view (RecordOf v.thread) j _ place out refl
+          (ap (λ (w : Knowledge). w.pose) c.stamp_change.ensures.view ∙ ap (λ (w : Knowledge). w.pose) taken.view ∙ c.requires.ready.rest.runs)
           (ap (λ (w : Knowledge). w.share.doing.phase) c.stamp_change.ensures.view ∙ ap (λ (w : Knowledge). w.share.doing.phase) taken.view ∙ c.requires.ready.rest.going.awake)
           (ap (λ (w : Knowledge). w.share.doing.unstamped) c.stamp_change.ensures.view ∙ wake_gone (Base c.args.prio) _ (ap (λ (w : Knowledge). w.share.doing.unstamped) taken.view ∙ c.requires.ready.rest.going.stamped)),
     )

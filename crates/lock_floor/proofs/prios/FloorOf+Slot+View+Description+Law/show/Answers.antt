@@ -59,7 +59,8 @@ give-requires-clause-may g c =
     let same = ap (λ (w : Knowledge). w.out) c.stamp.ensures.view ∙ ap (λ (p : Pass Knowledge). p.view.out) c.priorities.ensures.same ∙ ap (λ (w : Knowledge). w.out) taken.view in (
       RecordOf v.thread,
       place,
-      may_give floor c.stamp.new.pass.view (RecordOf v.thread) j taken.value place (subst (λ o. o ≡ (j, taken.value) ∷ rest o) (sym same) refl)
+      may_give floor c.stamp.new.pass.view (RecordOf v.thread) j taken.value place (subst (λ o. o ≡ (j, taken.value) ∷ rest o) (sym same) refl) refl
+          (ap (λ (w : Knowledge). w.pose) c.stamp.ensures.view ∙ ap (λ (p : Pass Knowledge). p.view.pose) c.priorities.ensures.same ∙ ap (λ (w : Knowledge). w.pose) taken.view ∙ c.requires.ready.rest.runs)
           (ap (λ (w : Knowledge). w.share.doing.phase) c.stamp.ensures.view ∙ ap (λ (p : Pass Knowledge). p.view.share.doing.phase) c.priorities.ensures.same ∙ ap (λ (w : Knowledge). w.share.doing.phase) taken.view ∙ c.requires.ready.rest.going.awake)
           (ap (λ (w : Knowledge). w.share.doing.unstamped) c.stamp.ensures.view ∙ wake_gone (Shown c.priorities.result.0 c.priorities.result.1) _ (ap (λ (p : Pass Knowledge). p.view.share.doing.unstamped) c.priorities.ensures.same ∙ ap (λ (w : Knowledge). w.share.doing.unstamped) taken.view ∙ c.requires.ready.rest.going.stamped)),
     )

@@ -1,8 +1,13 @@
-use Rattle.std.proofs.Common.{◌≤◌, [], ◌∷◌, sym, subst}
+use Rattle.std.proofs.Common.{◌≤◌, [], ◌∷◌, sym, ap, ◌∙◌, subst}
 use Rattle.lock_state.specs.Steps.{Stamps}
 use Rattle.floor_table.specs.declared.description.Description.{Description}
 use Rattle.floor_table.specs.Steps.{MayMake}
-use Rattle.floor_table.specs.Views.{Knowledge}
+use Rattle.atomic_table.specs.Table.{Me}
+use Rattle.floor_table.specs.Descriptions.{config_in}
+use Rattle.floor_table.specs.declared.slot.Slot.{Slot}
+use Rattle.floor_table.specs.Views.{Knowledge, seeing}
+use Rattle.lock_floor.specs.Views.{stamped}
+use Rattle.lock_floor.proofs.Tied.{entry_made, tied_stamped}
 use Rattle.lock_floor.specs.Floors.{Floor, Pass}
 use Rattle.lock_floor.proofs.Stamping.{stamp_allowed}
 use Rattle.lock_floor.proofs.stamps.FloorOf+Slot+View+Description+Law.stamp.Goals as goal
@@ -16,3 +21,12 @@ next_entry-entry-requires-clause-may c =
 
 pub next_entry-entry-requires-clause-small : goal.next_entry-entry-requires-clause-small
 next_entry-entry-requires-clause-small c n behind told = told.0
+
+pub invariant_of-pass : goal.invariant_of-pass
+invariant_of-pass c =
+    let me : Me Slot Knowledge = c.pass.inside.seat.me in
+    let behind : Me Slot Knowledge = c.next_entry-entry.new.seat.me in
+    let going = ap (λ (p : Pass Knowledge). p.finished) c.pass.view_is ∙ c.requires.own.unfinished in
+    let entry = entry_made me.0.thread c.pass.inside.who c.next_entry-entry.result c.args.event c.pass.invariant.thread c.next_entry-entry.ensures.thread c.next_entry-entry.ensures.event in
+    let is = c.next_entry-entry.ensures.told.1 ∙ (λ i. (seeing behind.0.seen (record (stamped (config_in c.self.inside.board.shared.key) me.0 (entry i)) { out = me.0.out }), c.pass.invariant.out i)) in
+    tied_stamped c.pass.inside.who.0 c.pass.inside.held c.pass.inside.log c.put.new.self c.pass.inside.finished me behind (config_in c.self.inside.board.shared.key) c.next_entry-entry.result me.0.out going c.pass.invariant c.put.ensures is

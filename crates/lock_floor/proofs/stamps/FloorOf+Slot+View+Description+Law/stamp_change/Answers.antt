@@ -1,12 +1,15 @@
 use Rattle.std.proofs.Common.{◌≡◌, ◌≤◌, Some, [], ◌∷◌, sym, ap, ◌∙◌, subst}
-use Rattle.atomic_table.specs.Table.{rest}
+use Rattle.atomic_table.specs.Table.{Me, rest}
 use Rattle.lock_state.specs.Steps.{Stamps}
 use Rattle.lock_state.specs.Steps.Items.{Item}
 use Rattle.floor_table.specs.declared.description.Description.{Description}
 use Rattle.floor_table.specs.declared.slot.Slot.{Slot}
 use Rattle.floor_table.specs.Places.{slot_of}
 use Rattle.floor_table.specs.Steps.{MayMake}
-use Rattle.floor_table.specs.Views.{Knowledge, OfThread}
+use Rattle.floor_table.specs.Views.{Knowledge, OfThread, seeing}
+use Rattle.floor_table.specs.Descriptions.{config_in}
+use Rattle.lock_floor.specs.Views.{entry_by, stamped}
+use Rattle.lock_floor.proofs.Tied.{entry_made, tied_stamped}
 use Rattle.lock_floor.specs.Changes.{IsChangeOf, last_changed}
 use Rattle.lock_floor.specs.Floors.{Floor, Pass}
 use Rattle.lock_floor.proofs.Changing.{change_allowed}
@@ -26,3 +29,17 @@ next_entry-entry-requires-clause-may c =
     let was : me.0.role ≡ OfThread = ap (λ (v : Knowledge). v.role) c.change.ensures.view ∙ c.pass.invariant.role in
     let changes : me.1 ≡ last_changed event me.0.out = c.change.ensures.value ∙ ap (last_changed event) (c.pass.invariant.out ∙ ap (λ (v : Knowledge). v.out) (sym c.change.ensures.view)) in
     change_allowed c.self.inside.board.shared.key me event c.self.inside.board.shared.table_id.slots c.change.new.seat.id item.0 c.args.slot last.0 was room item.1 item.2 last.1 changes may
+
+pub invariant_of-pass : goal.invariant_of-pass
+invariant_of-pass c =
+    let me : Me Slot Knowledge = c.pass.inside.seat.me in
+    let mid : Me Slot Knowledge = c.change.new.seat.me in
+    let behind : Me Slot Knowledge = c.next_entry-entry.new.seat.me in
+    let going = ap (λ (p : Pass Knowledge). p.finished) c.pass.view_is ∙ c.requires.own.unfinished in
+    let entry = entry_made me.0.thread c.pass.inside.who c.next_entry-entry.result c.args.event c.pass.invariant.thread c.next_entry-entry.ensures.thread c.next_entry-entry.ensures.event in
+    let view : mid.0 ≡ me.0 = c.change.ensures.view in
+    let config = config_in c.self.inside.board.shared.key in
+    let is = c.next_entry-entry.ensures.told.1
+    ∙ (λ i. (seeing behind.0.seen (record (stamped config (view i) (entry_by (view i).thread c.next_entry-entry.result.ticket c.args.event)) { out = mid.1 }), mid.1))
+    ∙ (λ i. (seeing behind.0.seen (record (stamped config me.0 (entry i)) { out = mid.1 }), mid.1)) in
+    tied_stamped c.pass.inside.who.0 c.pass.inside.held c.pass.inside.log c.put.new.self c.pass.inside.finished me behind config c.next_entry-entry.result mid.1 going c.pass.invariant c.put.ensures is

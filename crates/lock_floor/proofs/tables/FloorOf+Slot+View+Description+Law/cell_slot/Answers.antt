@@ -1,4 +1,4 @@
-use Rattle.std.proofs.Common.{◌≡◌, ◌+◌, ℕ, List, length, Some, Result, Ok, Err, sym, ap, ◌∙◌, subst}
+use Rattle.std.proofs.Common.{◌+◌, ℕ, List, length, Some, Result, Ok, Err, sym, ap, ◌∙◌, subst}
 use Rattle.std.specs.List.Sorted.{IsSearchInRange, IsBinarySearchResult}
 use Rattle.lock_model.specs.History.{place_cmp}
 use Rattle.floor_table.specs.Descriptions.{IsSized}

@@ -69,7 +69,8 @@ give-requires-clause-may g c =
     let out = changed_out (config_in floor) floor c.args.pass.now.view c.take.new.pass.view c.stamp_change.new.pass.view cell c.cell_slot-slot.result entry taken c.stamp_change.ensures.view in (
       cell,
       place,
-      may_give floor c.stamp_change.new.pass.view cell c.cell_slot-slot.result _ place out
+      may_give floor c.stamp_change.new.pass.view cell c.cell_slot-slot.result _ place out refl
+          (ap (λ (w : Knowledge). w.pose) c.stamp_change.ensures.view ∙ ap (λ (w : Knowledge). w.pose) taken.view ∙ c.requires.ready.rest.runs)
           (ap (λ (w : Knowledge). w.share.doing.phase) c.stamp_change.ensures.view ∙ ap (λ (w : Knowledge). w.share.doing.phase) taken.view ∙ c.requires.ready.rest.going.awake)
           (ap (λ (w : Knowledge). w.share.doing.unstamped) c.stamp_change.ensures.view ∙ wake_gone c.event.result _ (ap (λ (w : Knowledge). w.share.doing.unstamped) taken.view ∙ c.requires.ready.rest.going.stamped)),
     )

@@ -54,7 +54,8 @@ give-requires-clause-may g c =
     let same = ap (λ (w : Knowledge). w.out) c.stamp.ensures.view ∙ ap (λ (p : Pass Knowledge). p.view.out) c.value-found.ensures.same in (
       cell,
       place,
-      may_give c.args.self.now.description c.stamp.new.pass.view cell j x place (subst (λ o. o ≡ (j, x) ∷ rest o) (sym same) c.value-found.ensures.value)
+      may_give c.args.self.now.description c.stamp.new.pass.view cell j x place (subst (λ o. o ≡ (j, x) ∷ rest o) (sym same) c.value-found.ensures.value) refl
+          (ap (λ (w : Knowledge). w.pose) c.stamp.ensures.view ∙ ap (λ (p : Pass Knowledge). p.view.pose) c.value-found.ensures.same ∙ ap (λ (w : Knowledge). w.pose) (c.take.ensures.out cell place).view ∙ c.requires.ready.rest.runs)
           (ap (λ (w : Knowledge). w.share.doing.phase) c.stamp.ensures.view ∙ ap (λ (p : Pass Knowledge). p.view.share.doing.phase) c.value-found.ensures.same ∙ ap (λ (w : Knowledge). w.share.doing.phase) (c.take.ensures.out cell place).view ∙ c.requires.ready.rest.going.awake)
           (ap (λ (w : Knowledge). w.share.doing.unstamped) c.stamp.ensures.view ∙ wake_gone (Got c.args.l c.args.key c.value-found.result) _ (ap (λ (p : Pass Knowledge). p.view.share.doing.unstamped) c.value-found.ensures.same ∙ ap (λ (w : Knowledge). w.share.doing.unstamped) (c.take.ensures.out cell place).view ∙ c.requires.ready.rest.going.stamped)),
     )
