@@ -35,14 +35,23 @@ use Rattle.adaptive_mutex.proofs.Looks.{each_append, uncounted, look_knows, no_l
 
 pub acquires : (floor : Description) (l : ℕ) (v : Knowledge) → IsAtRest floor v → MayAcquire floor l v
     → MayGain floor l v
-acquires floor l v r m = record { unheld = m.unheld; few = m.few; wants_nothing = r.wants_nothing; takes_nothing = r.takes_nothing; looks = rest_looks floor v r }
+acquires floor l v r m =
+    record {
+      unheld = m.unheld;
+      few = m.few;
+      wants_nothing = r.wants_nothing;
+      takes_nothing = r.takes_nothing;
+      looks = rest_looks floor v r;
+    }
 
 -- a gain without a look before
-pub gains_at_once : (floor : Description) (l : LockNo) (v w : Knowledge) → w ≡ seeing w.seen (gained v (as_held l true)) → Makes floor (steps.Gains v.thread l.0 Excl true ∷ []) v w → LooksThenGains floor (as_held l true) 0 v w
+pub gains_at_once : (floor : Description) (l : LockNo) (v w : Knowledge) → w ≡ seeing w.seen (gained v (as_held l true))
+    → Makes floor (steps.Gains v.thread l.0 Excl true ∷ []) v w → LooksThenGains floor (as_held l true) 0 v w
 gains_at_once floor l v w view step = record { between = v; looked = no_look floor l.0 v; view = view; step = step }
 
 -- behind looks too
-pub may_gain_on : (floor : Description) (l n : ℕ) (u v : Knowledge) → MayGain floor l u → HasLooked floor l n u v → MayGain floor l v
+pub may_gain_on : (floor : Description) (l n : ℕ) (u v : Knowledge) → MayGain floor l u → HasLooked floor l n u v
+    → MayGain floor l v
 may_gain_on floor l n u v m x = subst (MayGain floor l) (sym x.knows) record {
   unheld = m.unheld;
   few = m.few;
@@ -54,14 +63,19 @@ may_gain_on floor l n u v m x = subst (MayGain floor l) (sym x.knows) record {
 plainly : (k : Kind) → k ≡ Mtx → is_plain k (word_of 0) Excl ≡ true
 plainly k e = ap (λ (x : Kind). is_plain x (word_of 0) Excl) e
 
-pub may_gain_free : (floor : Description) (l : ℕ) (by_try : Bool) (v : Knowledge) → IsMutex floor l → MayGain floor l v → MayMake floor v (λ s. s.word l ≡ word_of 0) (steps.Gains v.thread l Excl by_try ∷ [])
+pub may_gain_free : (floor : Description) (l : ℕ) (by_try : Bool) (v : Knowledge) → IsMutex floor l → MayGain floor l v
+    → MayMake floor v (λ s. s.word l ≡ word_of 0) (steps.Gains v.thread l Excl by_try ∷ [])
 may_gain_free floor l by_try v mutex m =
-    may_gain floor v l Excl by_try (word_of 0) mutex.lock refl (plainly ((config_in floor).kind l) mutex.kind) m.unheld (inr m.wants_nothing)
-    (subst (λ r. FitsRound r l by_try) (sym m.looks.no_round) tt) (λ k e. absurd (let z : None ≡ Some k = sym m.takes_nothing ∙ e in cc)) m.looks.runs m.looks.nothing_out m.looks.going
+    may_gain floor v l Excl by_try (word_of 0) mutex.lock refl (plainly ((config_in floor).kind l) mutex.kind) m.unheld
+    (inr m.wants_nothing)
+    (subst (λ r. FitsRound r l by_try) (sym m.looks.no_round) tt)
+    (λ k e. absurd (let z : None ≡ Some k = sym m.takes_nothing ∙ e in cc)) m.looks.runs m.looks.nothing_out
+    m.looks.going
 
 -- 2. Its entry
 
-module _ (floor : Description) (v : Knowledge) (l : LockNo) (by_try : Bool) (r : IsAtRest floor v) (unheld : hold_in v.share.held l.0 ≡ NotHeld) (seen : List steps.Step) where
+module _ (floor : Description) (v : Knowledge) (l : LockNo) (by_try : Bool) (r : IsAtRest floor v)
+    (unheld : hold_in v.share.held l.0 ≡ NotHeld) (seen : List steps.Step) where
   abbrev c : Config
   c = config_in floor
 
@@ -90,7 +104,8 @@ module _ (floor : Description) (v : Knowledge) (l : LockNo) (by_try : Bool) (r :
     asks : Asks c s v.thread (gain_event h) × HasOutForEntry floor.chains s v.thread (gain_event h)
     asks = go by_try last
       where
-        go : (b : Bool) → IsGainedLast s v.thread l.0 b → Asks c s v.thread (gain_event (as_held l b)) × HasOutForEntry floor.chains s v.thread (gain_event (as_held l b))
+        go : (b : Bool) → IsGainedLast s v.thread l.0 b → Asks c s v.thread (gain_event (as_held l b))
+            × HasOutForEntry floor.chains s v.thread (gain_event (as_held l b))
         go true g = ((begins, g), tt)
         go false g = ((begins, g), tt)
 
@@ -106,9 +121,12 @@ module _ (floor : Description) (v : Knowledge) (l : LockNo) (by_try : Bool) (r :
 pub record Acquires (floor : Description) (l : LockNo) (by_try : Bool) (n : ℕ) (old new : Knowledge) : Type 0 where
   pub rest : IsAtRest floor new
   pub entry : MakesEntry floor (gain_event (as_held l by_try)) (old.share.held ++ as_held l by_try ∷ []) old new
-  pub steps : MakesEach floor (after_looks old.thread l.0 n (steps.Gains old.thread l.0 Excl by_try) ++ (Stamps old.thread (gain_event (as_held l by_try)) ∷ []) ∷ []) old new
+  pub steps : MakesEach floor
+      (after_looks old.thread l.0 n (steps.Gains old.thread l.0 Excl by_try) ++
+      (Stamps old.thread (gain_event (as_held l by_try)) ∷ []) ∷ []) old new
 
-module _ (floor : Description) (l : LockNo) (by_try : Bool) (n : ℕ) (old v : Knowledge) (r : IsAtRest floor old) (m : MayAcquire floor l.0 old) (g : LooksThenGains floor (as_held l by_try) n old v) where
+module _ (floor : Description) (l : LockNo) (by_try : Bool) (n : ℕ) (old v : Knowledge) (r : IsAtRest floor old)
+    (m : MayAcquire floor l.0 old) (g : LooksThenGains floor (as_held l by_try) n old v) where
   abbrev hold : Held
   hold = as_held l by_try
 
@@ -126,20 +144,26 @@ module _ (floor : Description) (l : LockNo) (by_try : Bool) (n : ℕ) (old v : K
   rested = looks_rest floor old g.looked.all g.looked.last g.looked.seen old.seen r
 
   pub may_note : MayMake floor v (λ s. Unit {0}) (Stamps v.thread e ∷ [])
-  may_note = subst (λ (k : Knowledge). MayMake floor k (λ s. Unit {0}) (Stamps k.thread e ∷ [])) (sym knew) (may_note_gain floor u l by_try rested m.unheld v.seen)
+  may_note = subst (λ (k : Knowledge). MayMake floor k (λ s. Unit {0}) (Stamps k.thread e ∷ [])) (sym knew)
+      (may_note_gain floor u l by_try rested m.unheld v.seen)
 
   pub room_to_note : 1 ≤ v.spare
   room_to_note = subst (λ (k : Knowledge). 1 ≤ k.spare) (sym knew) m.room
 
-  pub acquired : (new : Knowledge) (ticket : ℕ) → new ≡ seeing new.seen (stamped (config_in floor) v (entry_by v.thread ticket e)) → Makes floor (Stamps v.thread e ∷ []) v new → Acquires floor l by_try n old new
+  pub acquired : (new : Knowledge) (ticket : ℕ)
+      → new ≡ seeing new.seen (stamped (config_in floor) v (entry_by v.thread ticket e))
+      → Makes floor (Stamps v.thread e ∷ []) v new → Acquires floor l by_try n old new
   acquired new ticket view step =
       let is : new ≡ seeing new.seen (stamped (config_in floor) (gained u hold) (entry_by old.thread ticket e)) =
       view ∙ ap (λ (k : Knowledge). seeing new.seen (stamped (config_in floor) k (entry_by k.thread ticket e))) knew in
-      let noted : Makes floor (Stamps old.thread e ∷ []) v new = subst (λ t. Makes floor (Stamps t e ∷ []) v new) (ap (λ (k : Knowledge). k.thread) knew) step in
+      let noted : Makes floor (Stamps old.thread e ∷ []) v new =
+      subst (λ t. Makes floor (Stamps t e ∷ []) v new) (ap (λ (k : Knowledge). k.thread) knew) step in
       let look : List steps.Step = Looks old.thread l.0 false ∷ [] in
       let gain : List steps.Step = steps.Gains old.thread l.0 Excl by_try ∷ [] in
       record {
-        rest = subst (IsAtRest floor) (sym is) (rest_seeing floor (stamped (config_in floor) (gained u hold) (entry_by old.thread ticket e)) new.seen (rest_gained floor u hold ticket rested m.unheld));
+        rest = subst (IsAtRest floor) (sym is)
+            (rest_seeing floor (stamped (config_in floor) (gained u hold) (entry_by old.thread ticket e)) new.seen
+            (rest_gained floor u hold ticket rested m.unheld));
         entry = record {
           ticket = ticket;
           log = ap (λ (k : Knowledge). k.share.log) is;
@@ -171,9 +195,12 @@ word_seen l a b same = ap seen (sym same)
     seen (Some x) = x.word
 
 -- the word that a look saw, where it isn't the free one, is that of a held mutex
-pub saw_held : (floor : Description) (l seen : ℕ) (old v : Knowledge) → (config_in floor).kind l ≡ Mtx → seen ≢ 0 → v ≡ seeing v.seen (looked old l (word_of seen)) → Makes floor (Looks old.thread l (counts old l) ∷ []) old v → is_free (word_of seen).holder ≡ false
+pub saw_held : (floor : Description) (l seen : ℕ) (old v : Knowledge) → (config_in floor).kind l ≡ Mtx → seen ≢ 0
+    → v ≡ seeing v.seen (looked old l (word_of seen)) → Makes floor (Looks old.thread l (counts old l) ∷ []) old v
+    → is_free (word_of seen).holder ≡ false
 saw_held floor l seen old v mutex other view m =
-    let saw : Some (look_at l (word_of seen)) ≡ Some (look_at l (m.state.word l)) = sym (ap (λ (w : Knowledge). w.share.doing.last_look) view) ∙ finds_word floor l (counts old l) old v m in
+    let saw : Some (look_at l (word_of seen)) ≡ Some (look_at l (m.state.word l)) =
+    sym (ap (λ (w : Knowledge). w.share.doing.last_look) view) ∙ finds_word floor l (counts old l) old v m in
     mutex_is_held floor m.state l seen m.sound mutex (word_seen l (word_of seen) (m.state.word l) saw) other
 
 -- a try that saw the word of a held mutex, and noted it
@@ -182,7 +209,9 @@ pub record FindsBusy (floor : Description) (l : LockNo) (seen : ℕ) (old new : 
   pub busy : WasBusy floor old.thread l seen old new
   pub entry : MakesEntry floor (Busy l seen) old.share.held old new
 
-module _ (floor : Description) (l : LockNo) (seen : ℕ) (old v : Knowledge) (r : IsAtRest floor old) (m : MayAcquire floor l.0 old) (held : is_free (word_of seen).holder ≡ false) (view : v ≡ seeing v.seen (looked old l.0 (word_of seen))) where
+module _ (floor : Description) (l : LockNo) (seen : ℕ) (old v : Knowledge) (r : IsAtRest floor old)
+    (m : MayAcquire floor l.0 old) (held : is_free (word_of seen).holder ≡ false)
+    (view : v ≡ seeing v.seen (looked old l.0 (word_of seen))) where
   abbrev bc : Config
   bc = config_in floor
 
@@ -226,14 +255,21 @@ module _ (floor : Description) (l : LockNo) (seen : ℕ) (old v : Knowledge) (r 
   room_for_busy = subst (λ (k : Knowledge). 1 ≤ k.spare) (sym saw) m.room
 
   pub found_busy : IsWellFormed (word_of seen) → Makes floor (Looks old.thread l.0 (counts old l.0) ∷ []) old v
-      → (new : Knowledge) (ticket : ℕ) → new ≡ seeing new.seen (stamped (config_in floor) v (entry_by v.thread ticket note)) → Makes floor (Stamps v.thread note ∷ []) v new → FindsBusy floor l seen old new
+      → (new : Knowledge) (ticket : ℕ)
+      → new ≡ seeing new.seen (stamped (config_in floor) v (entry_by v.thread ticket note))
+      → Makes floor (Stamps v.thread note ∷ []) v new → FindsBusy floor l seen old new
   found_busy formed looks new ticket says step =
-      let is : new ≡ seeing new.seen (stamped (config_in floor) q (entry_by old.thread ticket note)) = says ∙ ap (λ (k : Knowledge). seeing new.seen (stamped (config_in floor) k (entry_by k.thread ticket note))) saw in
-      let noted : Makes floor (Stamps old.thread note ∷ []) v new = subst (λ t. Makes floor (Stamps t note ∷ []) v new) (ap (λ (k : Knowledge). k.thread) saw) step in
-      let uncounted_look : Makes floor (Looks old.thread l.0 false ∷ []) old v = subst (λ b. Makes floor (Looks old.thread l.0 b ∷ []) old v) (uncounted floor old l.0 r.no_round) looks in
+      let is : new ≡ seeing new.seen (stamped (config_in floor) q (entry_by old.thread ticket note)) = says
+      ∙ ap (λ (k : Knowledge). seeing new.seen (stamped (config_in floor) k (entry_by k.thread ticket note))) saw in
+      let noted : Makes floor (Stamps old.thread note ∷ []) v new =
+      subst (λ t. Makes floor (Stamps t note ∷ []) v new) (ap (λ (k : Knowledge). k.thread) saw) step in
+      let uncounted_look : Makes floor (Looks old.thread l.0 false ∷ []) old v =
+      subst (λ b. Makes floor (Looks old.thread l.0 b ∷ []) old v) (uncounted floor old l.0 r.no_round) looks in
       let more : suc old.share.doing.looks_in_all ≡ new.share.doing.looks_in_all = sym (ap (λ (k : Knowledge). k.share.doing.looks_in_all) is) in
       record {
-        rest = subst (IsAtRest floor) (sym is) (rest_seeing floor (stamped (config_in floor) q (entry_by old.thread ticket note)) new.seen (rest_stamped floor q ticket note refl resting));
+        rest = subst (IsAtRest floor) (sym is)
+            (rest_seeing floor (stamped (config_in floor) q (entry_by old.thread ticket note)) new.seen
+            (rest_stamped floor q ticket note refl resting));
         busy = record {
           between = v;
           look = uncounted_look;

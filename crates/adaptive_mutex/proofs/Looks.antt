@@ -15,7 +15,8 @@ use Rattle.adaptive_mutex.specs.Waiting.{CanLook, with_looks, HasLooked}
 
 -- 1. Steps one behind the other
 
-pub each_append : (floor : Description) (xs ys : List (List Step)) (u v w : Knowledge) → MakesEach floor xs u v → MakesEach floor ys v w → MakesEach floor (xs ++ ys) u w
+pub each_append : (floor : Description) (xs ys : List (List Step)) (u v w : Knowledge) → MakesEach floor xs u v
+    → MakesEach floor ys v w → MakesEach floor (xs ++ ys) u w
 each_append floor [] ys u v w e m = subst (λ x. MakesEach floor ys x w) (sym e) m
 each_append floor (x ∷ xs) ys u v w m k = (m.0, m.1, each_append floor xs ys m.0 v w m.2 k)
 
@@ -23,7 +24,8 @@ each_append floor (x ∷ xs) ys u v w m k = (m.0, m.1, each_append floor xs ys m
 
 module _ (floor : Description) (v : Knowledge) (l : ℕ) (no_round : v.share.doing.round ≡ None) where
   pub uncounted : counts v l ≡ false
-  uncounted = ap (λ r. seeks l r && not (has_item v (chain_of v.description.chains (config_in v.description) l))) no_round
+  uncounted = ap (λ r. seeks l r && not (has_item v (chain_of v.description.chains (config_in v.description) l)))
+      no_round
 
   pub look_knows : (word : Word) → looked v l word ≡ with_looks v (suc v.share.doing.looks_in_all) (Some (record { lock = l; word = word })) (Some (record { lock = l; word = word }))
   look_knows word =
@@ -39,7 +41,8 @@ module _ (floor : Description) (v : Knowledge) (l : ℕ) (no_round : v.share.doi
         };
       }) uncounted
 
-  pub look_once : (word : Word) (new : Knowledge) → new ≡ seeing new.seen (looked v l word) → Makes floor (Looks v.thread l (counts v l) ∷ []) v new → HasLooked floor l 1 v new
+  pub look_once : (word : Word) (new : Knowledge) → new ≡ seeing new.seen (looked v l word)
+      → Makes floor (Looks v.thread l (counts v l) ∷ []) v new → HasLooked floor l 1 v new
   look_once word new is m = record {
     all = suc v.share.doing.looks_in_all;
     last = Some (record { lock = l; word = word });
@@ -48,7 +51,8 @@ module _ (floor : Description) (v : Knowledge) (l : ℕ) (no_round : v.share.doi
     steps = (new, subst (λ b. Makes floor (Looks v.thread l b ∷ []) v new) uncounted m, refl);
   }
 
-pub may_look_on : (floor : Description) (v : Knowledge) (l : ℕ) → v.description ≡ floor → l < length floor.locks → CanLook v → MayMake floor v (λ s. Unit {0}) (Looks v.thread l (counts v l) ∷ [])
+pub may_look_on : (floor : Description) (v : Knowledge) (l : ℕ) → v.description ≡ floor → l < length floor.locks
+    → CanLook v → MayMake floor v (λ s. Unit {0}) (Looks v.thread l (counts v l) ∷ [])
 may_look_on floor v l mine low k =
     may_look floor v l mine low k.runs k.nothing_out k.going
     (λ e. absurd (let z : false ≡ true = sym (uncounted floor v l k.no_round) ∙ e in cc))
@@ -65,33 +69,46 @@ no_look floor l v = record {
   steps = refl;
 }
 
-pub look_more : (floor : Description) (l n m : ℕ) (u v w : Knowledge) → HasLooked floor l n u v → HasLooked floor l m v w → HasLooked floor l (n + m) u w
+pub look_more : (floor : Description) (l n m : ℕ) (u v w : Knowledge) → HasLooked floor l n u v
+    → HasLooked floor l m v w → HasLooked floor l (n + m) u w
 look_more floor l n m u v w x y =
     let look : List Step = Looks u.thread l false ∷ [] in
-    let more : MakesEach floor (replicate m look) v w = subst (λ t. MakesEach floor (replicate m (Looks t l false ∷ [])) v w) (ap (λ (k : Knowledge). k.thread) x.knows) y.steps in
+    let more : MakesEach floor (replicate m look) v w =
+    subst (λ t. MakesEach floor (replicate m (Looks t l false ∷ [])) v w) (ap (λ (k : Knowledge). k.thread) x.knows)
+    y.steps in
     record {
       all = y.all;
       last = y.last;
       seen = y.seen;
       knows = y.knows ∙ ap (λ k. seeing w.seen (with_looks k y.all y.last y.seen)) x.knows;
-      steps = subst (λ xs. MakesEach floor xs u w) (replicate-append-replicate n m look) (each_append floor (replicate n look) (replicate m look) u v w x.steps more);
+      steps = subst (λ xs. MakesEach floor xs u w) (replicate-append-replicate n m look)
+          (each_append floor (replicate n look) (replicate m look) u v w x.steps more);
     }
 
-pub still_no_round : (floor : Description) (l n : ℕ) (u v : Knowledge) → u.share.doing.round ≡ None → HasLooked floor l n u v → v.share.doing.round ≡ None
+pub still_no_round : (floor : Description) (l n : ℕ) (u v : Knowledge) → u.share.doing.round ≡ None
+    → HasLooked floor l n u v → v.share.doing.round ≡ None
 still_no_round floor l n u v no_round x = ap (λ (k : Knowledge). k.share.doing.round) x.knows ∙ no_round
 
 -- looks leave a thread that can look so
-pub looks_still : (v : Knowledge) (all : ℕ) (last seen : Option Look) (steps : List Step) → CanLook v → CanLook (seeing steps (with_looks v all last seen))
-looks_still v all last seen steps k = record { runs = k.runs; nothing_out = k.nothing_out; no_round = k.no_round; going = k.going }
+pub looks_still : (v : Knowledge) (all : ℕ) (last seen : Option Look) (steps : List Step) → CanLook v
+    → CanLook (seeing steps (with_looks v all last seen))
+looks_still v all last seen steps k =
+    record { runs = k.runs; nothing_out = k.nothing_out; no_round = k.no_round; going = k.going }
 
 pub can_look_on : (floor : Description) (l n : ℕ) (u v : Knowledge) → CanLook u → HasLooked floor l n u v → CanLook v
 can_look_on floor l n u v k x = subst CanLook (sym x.knows) (looks_still u x.all x.last x.seen v.seen k)
 
-pub look_again : (floor : Description) (l : ℕ) (u v w : Knowledge) (word : Word) → u.share.doing.round ≡ None → (n : ℕ) × HasLooked floor l n u v → w ≡ seeing w.seen (looked v l word) → Makes floor (Looks v.thread l (counts v l) ∷ []) v w → (n : ℕ) × HasLooked floor l n u w
-look_again floor l u v w word no_round x view step =
-    (x.0 + 1, look_more floor l x.0 1 u v w x.1 (look_once floor v l (still_no_round floor l x.0 u v no_round x.1) word w view step))
+pub look_again : (floor : Description) (l : ℕ) (u v w : Knowledge) (word : Word) → u.share.doing.round ≡ None → (n : ℕ)
+    × HasLooked floor l n u v → w ≡ seeing w.seen (looked v l word)
+    → Makes floor (Looks v.thread l (counts v l) ∷ []) v w → (n : ℕ) × HasLooked floor l n u w
+look_again floor l u v w word no_round x view step = (
+  x.0 + 1,
+  look_more floor l x.0 1 u v w x.1
+      (look_once floor v l (still_no_round floor l x.0 u v no_round x.1) word w view step),
+)
 
-pub look_on : (floor : Description) (l : ℕ) (u v w : Knowledge) → (n : ℕ) × HasLooked floor l n u v → (n : ℕ) × HasLooked floor l n v w → (n : ℕ) × HasLooked floor l n u w
+pub look_on : (floor : Description) (l : ℕ) (u v w : Knowledge) → (n : ℕ) × HasLooked floor l n u v → (n : ℕ)
+    × HasLooked floor l n v w → (n : ℕ) × HasLooked floor l n u w
 look_on floor l u v w x y = (x.0 + y.0, look_more floor l x.0 y.0 u v w x.1 y.1)
 
 -- 4. A thread at rest can look, and stays at rest, whatever steps its seat has seen
@@ -99,7 +116,8 @@ look_on floor l u v w x y = (x.0 + y.0, look_more floor l x.0 y.0 u v w x.1 y.1)
 pub rest_looks : (floor : Description) (v : Knowledge) → IsAtRest floor v → CanLook v
 rest_looks floor v r = record { runs = r.runs; nothing_out = r.nothing_out; no_round = r.no_round; going = r.going }
 
-pub looks_rest : (floor : Description) (v : Knowledge) (all : ℕ) (last seen : Option Look) (steps : List Step) → IsAtRest floor v → IsAtRest floor (seeing steps (with_looks v all last seen))
+pub looks_rest : (floor : Description) (v : Knowledge) (all : ℕ) (last seen : Option Look) (steps : List Step)
+    → IsAtRest floor v → IsAtRest floor (seeing steps (with_looks v all last seen))
 looks_rest floor v all last seen steps r = record {
   runs = r.runs;
   nothing_out = r.nothing_out;

@@ -25,8 +25,10 @@ use Rattle.adaptive_mutex.proofs.Looks.{each_append, looks_still}
 
 -- 1. The entry
 
-module _ (floor : Description) (v : Knowledge) (l : LockNo) (r : IsAtRest floor v) (held : hold_in v.share.held l.0 ≡ Holds Excl) where
-  asks : (s : State) → Fits floor v s → Asks (config_in floor) s v.thread (Unlocked l Excl) × HasOutForEntry floor.chains s v.thread (Unlocked l Excl)
+module _ (floor : Description) (v : Knowledge) (l : LockNo) (r : IsAtRest floor v)
+    (held : hold_in v.share.held l.0 ≡ Holds Excl) where
+  asks : (s : State) → Fits floor v s → Asks (config_in floor) s v.thread (Unlocked l Excl)
+      × HasOutForEntry floor.chains s v.thread (Unlocked l Excl)
   asks s f = (own_log floor v s f l.0 ∙ r.sections l.0 ∙ held, tt)
 
   pub may_note_release : MayMake floor v (λ s. Unit {0}) (Stamps v.thread (Unlocked l Excl) ∷ [])
@@ -35,18 +37,30 @@ module _ (floor : Description) (v : Knowledge) (l : LockNo) (r : IsAtRest floor 
       (λ e. absurd (let z : false ≡ true = sym r.no_wait ∙ e in cc))
       r.runs r.going r.takes_nothing
 
-  pub may_put_down : (ticket : ℕ) (w : Knowledge) → w ≡ seeing w.seen (stamped (config_in floor) v (entry_by v.thread ticket (Unlocked l Excl))) → MayPutDown floor l.0 w
+  pub may_put_down : (ticket : ℕ) (w : Knowledge)
+      → w ≡ seeing w.seen (stamped (config_in floor) v (entry_by v.thread ticket (Unlocked l Excl)))
+      → MayPutDown floor l.0 w
   may_put_down ticket w is =
       let x = leaves floor v l Excl ticket r held in
-      subst (MayPutDown floor l.0) (sym is) record { held = held; closed = x.closed; begun = r.begun l.0 (λ q. absurd (let z : Holds Excl ≡ NotHeld = sym held ∙ q in cc)); looks = record { runs = r.runs; nothing_out = r.nothing_out; no_round = r.no_round; going = r.going } }
+      subst (MayPutDown floor l.0) (sym is)
+      record {
+        held = held;
+        closed = x.closed;
+        begun = r.begun l.0 (λ q. absurd (let z : Holds Excl ≡ NotHeld = sym held ∙ q in cc));
+        looks = record { runs = r.runs; nothing_out = r.nothing_out; no_round = r.no_round; going = r.going };
+      }
 
 -- the thread's number is one of the floor's, which are few
-pub few_threads : (floor : Description) (l : LockNo) (v w : Knowledge) (ticket : ℕ) → w ≡ seeing w.seen (stamped (config_in floor) v (entry_by v.thread ticket (Unlocked l Excl))) → Makes floor (Stamps v.thread (Unlocked l Excl) ∷ []) v w → w.thread ≤ 63
-few_threads floor l v w ticket is m = omega (arith, ap (λ (k : Knowledge). k.thread) is, m.may.0.may.thread, m.represents.sizes.sized.threads)
+pub few_threads : (floor : Description) (l : LockNo) (v w : Knowledge) (ticket : ℕ)
+    → w ≡ seeing w.seen (stamped (config_in floor) v (entry_by v.thread ticket (Unlocked l Excl)))
+    → Makes floor (Stamps v.thread (Unlocked l Excl) ∷ []) v w → w.thread ≤ 63
+few_threads floor l v w ticket is m =
+    omega (arith, ap (λ (k : Knowledge). k.thread) is, m.may.0.may.thread, m.represents.sizes.sized.threads)
 
 -- 2. The drop
 
-pub may_put_on : (floor : Description) (l n : ℕ) (u v : Knowledge) → MayPutDown floor l u → HasLooked floor l n u v → MayPutDown floor l v
+pub may_put_on : (floor : Description) (l n : ℕ) (u v : Knowledge) → MayPutDown floor l u → HasLooked floor l n u v
+    → MayPutDown floor l v
 may_put_on floor l n u v m x = subst (MayPutDown floor l) (sym x.knows) record {
   held = m.held;
   closed = m.closed;
@@ -61,8 +75,11 @@ own_drops own t is = ap (λ (w : Word). is_drop w) is
 pub own_is_held : (own t : ℕ) → word_of own ≡ gained (word_of 0) t Excl → IsHeldIn (word_of own).holder Excl
 own_is_held own t is = subst (λ (w : Word). IsHeldIn w.holder Excl) (sym is) tt
 
-pub may_drop_own : (floor : Description) (l own t : ℕ) (v : Knowledge) → l < length floor.locks → word_of own ≡ gained (word_of 0) t Excl → MayPutDown floor l v → MayMake floor v (λ s. s.word l ≡ word_of own) (Drops v.thread l Excl ∷ [])
-may_drop_own floor l own t v low is m = may_drop floor v l Excl (word_of own) low m.held (own_drops own t is) m.closed m.begun m.looks.runs m.looks.going
+pub may_drop_own : (floor : Description) (l own t : ℕ) (v : Knowledge) → l < length floor.locks
+    → word_of own ≡ gained (word_of 0) t Excl → MayPutDown floor l v
+    → MayMake floor v (λ s. s.word l ≡ word_of own) (Drops v.thread l Excl ∷ [])
+may_drop_own floor l own t v low is m =
+    may_drop floor v l Excl (word_of own) low m.held (own_drops own t is) m.closed m.begun m.looks.runs m.looks.going
 
 -- 3. Both
 
@@ -72,14 +89,16 @@ pub record Releases (floor : Description) (l : LockNo) (n : ℕ) (old new : Know
   pub entry : MakesEntry floor (Unlocked l Excl) (without_lock l.0 old.share.held) old new
   pub steps : MakesEach floor (unlocks old.thread l n) old new
 
-module _ (floor : Description) (l : LockNo) (n ticket : ℕ) (old v new : Knowledge) (r : IsAtRest floor old) (m : MayRelease floor l.0 old) where
+module _ (floor : Description) (l : LockNo) (n ticket : ℕ) (old v new : Knowledge) (r : IsAtRest floor old)
+    (m : MayRelease floor l.0 old) where
   abbrev e : Event
   e = Unlocked l Excl
 
   abbrev noted : Knowledge
   noted = stamped (config_in floor) old (entry_by old.thread ticket e)
 
-  leaves_on : (all : ℕ) (last seen : Option Look) (steps : List Step) → IsLeaving floor l.0 Excl (seeing steps (with_looks noted all last seen))
+  leaves_on : (all : ℕ) (last seen : Option Look) (steps : List Step)
+      → IsLeaving floor l.0 Excl (seeing steps (with_looks noted all last seen))
   leaves_on all last seen steps =
       let x = leaves floor old l Excl ticket r m.held in
       record {
@@ -102,7 +121,8 @@ module _ (floor : Description) (l : LockNo) (n ticket : ℕ) (old v new : Knowle
         begun = x.begun;
       }
 
-  pub released : v ≡ seeing v.seen noted → Makes floor (Stamps old.thread e ∷ []) old v → LooksThenPutsDown floor l.0 n v new → Releases floor l n old new
+  pub released : v ≡ seeing v.seen noted → Makes floor (Stamps old.thread e ∷ []) old v
+      → LooksThenPutsDown floor l.0 n v new → Releases floor l n old new
   released says step d =
       let look = λ (t : ℕ). Looks t l.0 false ∷ [] in
       let drop = λ (t : ℕ). Drops t l.0 Excl ∷ [] in
@@ -114,7 +134,9 @@ module _ (floor : Description) (l : LockNo) (n ticket : ℕ) (old v new : Knowle
       subst (λ (z : Knowledge × Knowledge × ℕ). Makes floor (drop z.2) z.0 z.1)
       (λ i. (between i, is i, its i)) d.step in
       record {
-        rest = subst (IsAtRest floor) (sym is) (rest_left floor l.0 Excl left (leaves_on d.looked.all d.looked.last d.looked.seen d.between.seen) new.seen drops);
+        rest = subst (IsAtRest floor) (sym is)
+            (rest_left floor l.0 Excl left (leaves_on d.looked.all d.looked.last d.looked.seen d.between.seen) new.seen
+            drops);
         entry = record {
           ticket = ticket;
           log = ap (λ (k : Knowledge). k.share.log) is;
@@ -132,6 +154,7 @@ module _ (floor : Description) (l : LockNo) (n ticket : ℕ) (old v new : Knowle
           v,
           step,
           subst (λ t. MakesEach floor (replicate n (look t) ++ drop t ∷ []) v new) its
-              (each_append floor (replicate n (look v.thread)) (drop v.thread ∷ []) v d.between new d.looked.steps (new, d.step, refl)),
+              (each_append floor (replicate n (look v.thread)) (drop v.thread ∷ []) v d.between new d.looked.steps
+              (new, d.step, refl)),
         );
       }

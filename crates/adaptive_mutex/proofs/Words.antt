@@ -49,12 +49,14 @@ shows_none w few free = go w.holder (shows_waiters w) few free
     go (HeldBy t) b few free = absurd (cc)
     go (SharedBy n) b few free = absurd (cc)
 
-pub mutex_is_held : (floor : Description) {past : List Step} (s : State) (l seen : ℕ) → IsSound floor past s → (config_in floor).kind l ≡ Mtx → s.word l ≡ word_of seen → seen ≢ 0 → is_free (word_of seen).holder ≡ false
+pub mutex_is_held : (floor : Description) {past : List Step} (s : State) (l seen : ℕ) → IsSound floor past s
+    → (config_in floor).kind l ≡ Mtx → s.word l ≡ word_of seen → seen ≢ 0 → is_free (word_of seen).holder ≡ false
 unfolding FreeMutexShowsNone
 mutex_is_held floor s l seen sound mutex is other = go (is_free (word_of seen).holder) refl
   where
     few : one (shows_waiters (word_of seen)) ≤ busy (word_of seen).holder
-    few = subst (λ (w : Word). one (shows_waiters w) ≤ busy w.holder) is (sound.facts.lawful.waits.free_mutex_shows_none l mutex)
+    few = subst (λ (w : Word). one (shows_waiters w) ≤ busy w.holder) is
+        (sound.facts.lawful.waits.free_mutex_shows_none l mutex)
 
     go : (b : Bool) → is_free (word_of seen).holder ≡ b → b ≡ false
     go false e = refl

@@ -97,7 +97,8 @@ pub fn unlock<R: Wait>(floor: &Floor, rt: &R, pass: &mut Pass, l: LockNo)
     put_down(floor, rt, pass, l);
 }
 
-// Gains a mutex: an exchange from the free word that misses is a look, and then the thread looks until it sees that word.
+// Gains a mutex: an exchange from the free word that misses is a look, and then the thread looks until it sees that
+// word.
 fn gain<R: Wait>(floor: &Floor, rt: &R, pass: &mut Pass, l: LockNo)
     requires own { IsOf floor.now pass.old }
     requires mutex { IsMutex floor.now.description l.0 }

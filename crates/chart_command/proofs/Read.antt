@@ -12,7 +12,8 @@ pub ranges : (given : Texts) (said : LockchartArgs)
     → wanted said ≡ wanted_by given → HasRanges said
 ranges given said taken is =
     let turns = in_range 1 TURNS TURNS (given (codes "turns")) (omega arith) (omega arith) (taken (codes "turns")) in
-    let chains = in_range 1 CHAINS DEFAULT_CHAINS (given (codes "chains")) (omega arith) (omega arith) (taken (codes "chains")) in
+    let chains = in_range 1 CHAINS DEFAULT_CHAINS (given (codes "chains")) (omega arith) (omega arith)
+    (taken (codes "chains")) in
     let turns_are = sym (ap (λ w. w.turns) is) in
     let chains_are = sym (ap (λ w. w.chains) is) in
     record {

@@ -1,9 +1,9 @@
 -- Which words are a form of the command line, and what they ask for.
 --
 -- Six options may stand there in any order, each at most once, with the text as the next word or behind a `=`. A text
--- that is the next word doesn't begin with a hyphen, or is a hyphen alone. The word `--` may stand last. Words ask for
--- help by `--help`, or a word that begins with `-h`, where those before are a form so far. How words are read by a table
--- of options is said in `option_words`.
+-- that is the next word doesn't begin with a hyphen, or is a hyphen alone. The word `--` may stand last. Words ask
+-- for help by `--help`, or a word that begins with `-h`, where those before are a form so far. How words are read by
+-- a table of options is said in `option_words`.
 use Rattle.std.specs.Prelude.{◌∷◌, ℕ, true, List, [], Option, Some, None, codes, nat_le, option_and_then, if◌then◌else◌, unwrap_or}
 use Rattle.std.specs.Str.{bytes_eq}
 use Rattle.lock_model.specs.declared.limits.TheConstants.{CHAINS, DEFAULT_CHAINS, TURNS}

@@ -62,8 +62,8 @@ const SYNOPSIS: Synopsis<'static> = Synopsis {
     }),
 };
 
-/// What the words of the command line ask for, without the program's name. `Usage` comes exactly where they are no form,
-/// and `Memory` only for want of memory.
+/// What the words of the command line ask for, without the program's name. `Usage` comes exactly where they are no
+/// form, and `Memory` only for want of memory.
 ///
 /// ```
 /// let asked = read_words(alloc, &["--form=html", "--to", "20"])?;

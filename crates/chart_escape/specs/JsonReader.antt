@@ -1,6 +1,6 @@
--- What a reader of JSON makes of bytes: where it is behind them, and which arrays and objects are open there. It reads a
--- part of JSON: its numbers have no sign, fraction or exponent, a number that stands alone has a blank behind it, there
--- is no word as `true`, and no `<`, which might be a tag of a page round it.
+-- What a reader of JSON makes of bytes: where it is behind them, and which arrays and objects are open there. It
+-- reads a part of JSON: its numbers have no sign, fraction or exponent, a number that stands alone has a blank behind
+-- it, there is no word as `true`, and no `<`, which might be a tag of a page round it.
 use Rattle.std.specs.Prelude.{◌≡◌, ℕ, ◌+◌, ◌-◌, Bool, true, false, ◌&&◌, ◌||◌, ◌==◌, nat_le, nat_lt, if◌then◌else◌, List, [], ◌∷◌, Some, None, decimal}
 use Rattle.chart_escape.specs.Json.{json_string}
 use Rattle.chart_escape.specs.Markup.{escaped}

@@ -1,5 +1,5 @@
-//! Somebody else's text in what the program writes: a title may hold any text, and neither the markup nor the JSON round
-//! it may change by that.
+//! Somebody else's text in what the program writes: a title may hold any text, and neither the markup nor the JSON
+//! round it may change by that.
 //!
 //! - `markup`: text in XML and HTML, between tags and in quoted attributes.
 //! - `json`: text as a JSON string, which may stand in a script of an HTML page too.

@@ -1,5 +1,5 @@
-//! The fixed text of a page: what it looks like, and what it does, by a small script without libraries. Between its four
-//! parts stand the title, the picture and the data.
+//! The fixed text of a page: what it looks like, and what it does, by a small script without libraries. Between its
+//! four parts stand the title, the picture and the data.
 
 /// Up to the title.
 pub const BEGIN: &str = "<!doctype html>

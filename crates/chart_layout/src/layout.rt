@@ -1,5 +1,5 @@
-//! What a chart is made of. Rows and turns are counted from 0 over the whole run; threads, locks and queues are named by
-//! their numbers in the plan.
+//! What a chart is made of. Rows and turns are counted from 0 over the whole run; threads, locks and queues are named
+//! by their numbers in the plan.
 
 ghost use Rattle.std.specs.Prelude.{◌≡◌};
 ghost use Rattle.chart_layout.specs.Marks.{is_refusal};
@@ -80,7 +80,8 @@ pub enum BarKind {
     Holds { l: LockNo, mode: Mode },
     /// The thread stands on the queue.
     Waits { q: QueueName },
-    /// The thread was taken off the queue, and nobody has woken it yet: its record names the queue, but it stands on none.
+    /// The thread was taken off the queue, and nobody has woken it yet: its record names the queue, but it stands on
+    /// none.
     TakenOff { q: QueueName },
     /// The thread was woken from the queue, as its wait word says, and doesn't run yet.
     Woken { q: QueueName },
@@ -127,8 +128,8 @@ pub struct Arrow {
 /// ```
 #[derive(Clone, Copy, Debug, PartialEq, Eq)]
 pub enum ArrowKind {
-    /// The walk of `from` lent to `to`, the owner of the lock at which it stood; `to` ran as `before` before the turn, and
-    /// runs as `prio` behind it.
+    /// The walk of `from` lent to `to`, the owner of the lock at which it stood; `to` ran as `before` before the turn,
+    /// and runs as `prio` behind it.
     Lends { before: Prio, prio: Prio },
     /// `from` woke `to`.
     Wakes,

@@ -1,5 +1,5 @@
-//! What is said below a chart: one sentence for each turn that changes who waits or who has lent, and one for the end. A
-//! sentence is its kind and the numbers of those it speaks of; a form makes words of it.
+//! What is said below a chart: one sentence for each turn that changes who waits or who has lent, and one for the end.
+//! A sentence is its kind and the numbers of those it speaks of; a form makes words of it.
 
 use lock_model::{ChanNo, ClassNo, LockNo, Prio, QueueName, Sequence, ThreadNo};
 
@@ -33,7 +33,8 @@ pub enum Saying {
         holders: Sequence<ThreadNo>,
         behind: Option<ThreadNo>,
     },
-    /// Its walk lent to the owner of the lock, which ran as `before` and runs as `prio` now; the walk goes on or is over.
+    /// Its walk lent to the owner of the lock, which ran as `before` and runs as `prio` now; the walk goes on or is
+    /// over.
     Lends {
         to: ThreadNo,
         lock: LockNo,

@@ -32,7 +32,8 @@ WalkIsDrawn page lane picture walk = IsDrawnAt page picture (pixels (bar_bottom 
 pub walk_kept : (page : Page) (lane : LaneBand) → IsKept (WalkIsDrawn page lane)
 walk_kept page lane old new walk keeps = keeps _
 
-pub walks_more : (page : Page) (lane : LaneBand) (old new : List ℕ) (walks own : List (Bar × ℕ)) (i : ℕ) (d : Bar × ℕ) (top : ℕ) → own ≡ walks → i < length own
+pub walks_more : (page : Page) (lane : LaneBand) (old new : List ℕ) (walks own : List (Bar × ℕ)) (i : ℕ) (d : Bar × ℕ)
+    (top : ℕ) → own ≡ walks → i < length own
     → top ≡ pixels (bar_bottom lane (get_or own i d).1 + 2) → Keeps old new → All (WalkIsDrawn page lane old) (take i walks) → IsDrawnAt page new top (get_or own i d).0
     → All (WalkIsDrawn page lane new) (take (i + 1) walks)
 walks_more page lane old new walks own i d top e lt at keeps h drawn =

@@ -126,15 +126,18 @@ slice_get-last [] x = refl
 slice_get-last (z ∷ xs) x = slice_get-last xs x
 
 -- what is in its lane is there still
-pub of_still : {X : Type 0} (Has : LaneBand → X → Type 0) (old new : List LaneBand) (lane : LaneBand) → new ≡ old ++ lane ∷ [] → (t : ℕ) (x : X) → IsOf Has old t x → IsOf Has new t x
+pub of_still : {X : Type 0} (Has : LaneBand → X → Type 0) (old new : List LaneBand) (lane : LaneBand)
+    → new ≡ old ++ lane ∷ [] → (t : ℕ) (x : X) → IsOf Has old t x → IsOf Has new t x
 of_still Has old new lane e t x h = record { lane = h.lane; is = ap (λ xs. slice_get xs t) e ∙ slice_get-front old lane t h.lane h.is; has = h.has }
 
 -- what the last lane has is in it
-pub of_last : {X : Type 0} (Has : LaneBand → X → Type 0) (old new : List LaneBand) (lane : LaneBand) → new ≡ old ++ lane ∷ [] → (t : ℕ) → length old ≡ t → (x : X) → Has lane x → IsOf Has new t x
+pub of_last : {X : Type 0} (Has : LaneBand → X → Type 0) (old new : List LaneBand) (lane : LaneBand)
+    → new ≡ old ++ lane ∷ [] → (t : ℕ) → length old ≡ t → (x : X) → Has lane x → IsOf Has new t x
 of_last Has old new lane e t at x h = record { lane = lane; is = ap (λ xs. slice_get xs t) e ∙ ap (λ n. slice_get (old ++ lane ∷ []) n) (sym at) ∙ slice_get-last old lane; has = h }
 
 -- what is in the lists of the first threads is in their lanes
-pub of_more : {X : Type 0} (Has : LaneBand → X → Type 0) (old new : List LaneBand) (lane : LaneBand) → new ≡ old ++ lane ∷ [] → (t : ℕ) → length old ≡ t
+pub of_more : {X : Type 0} (Has : LaneBand → X → Type 0) (old new : List LaneBand) (lane : LaneBand)
+    → new ≡ old ++ lane ∷ [] → (t : ℕ) → length old ≡ t
     → (lists : List (Vec X)) (own : Vec X) → own ≡ get_or lists t own → All (Has lane) own.items
     → ((k : ℕ) (x : X) → k < t → IsAt lists k x → IsOf Has old k x) → (k : ℕ) (x : X) → k < t + 1 → IsAt lists k x → IsOf Has new k x
 of_more {X} Has old new lane e t at lists own is has was =
@@ -144,7 +147,8 @@ of_more {X} Has old new lane e t at lists own is has was =
     (λ k x lt in_list. of_still Has old new lane e k x (was k x lt in_list))
 
 -- a lane more of a chart
-pub lanes_more : (old new : List LaneBand) (lane : LaneBand) → new ≡ old ++ lane ∷ [] → (t : ℕ) → length old ≡ t → (lanes : List ChartLane) (d : ChartLane)
+pub lanes_more : (old new : List LaneBand) (lane : LaneBand) → new ≡ old ++ lane ∷ [] → (t : ℕ) → length old ≡ t
+    → (lanes : List ChartLane) (d : ChartLane)
     → lane.thread ≡ (get_or lanes t d).thread → t < length lanes
     → ((k : ℕ) (named : ChartLane) → k < t → slice_get lanes k ≡ Some named → IsOf (λ own other. own.thread ≡ other.thread) old k named)
     → (k : ℕ) (named : ChartLane) → k < t + 1 → slice_get lanes k ≡ Some named → IsOf (λ own other. own.thread ≡ other.thread) new k named

@@ -18,11 +18,13 @@ use Rattle.chart_svg.specs.declared.page.Page.{Page}
 pub among : (lanes : List LaneBand) (t : ℕ) (lane : LaneBand) → slice_get lanes t ≡ Some lane → Contains lanes lane
 among lanes t lane is = (t, slice_get_within lanes t lane is, get_or_from_slice_get lanes t lane lane is)
 
-lane_begins : (page : Page) (t : ℕ) (lane : LaneBand) → slice_get page.lanes.items t ≡ Some lane → lane_top page t ≡ lane.top.0
+lane_begins : (page : Page) (t : ℕ) (lane : LaneBand) → slice_get page.lanes.items t ≡ Some lane
+    → lane_top page t ≡ lane.top.0
 lane_begins page t lane is = ap (top_of page.bottom.0) is
 
 -- what stands between the top and the bottom of a lane
-pub in_lane : (page : Page) (t : ℕ) (lane : LaneBand) (y : ℕ) → HasRoom page → slice_get page.lanes.items t ≡ Some lane → lane.top.0 ≤ y → pixels (y + 1) ≤ lane.bottom.0
+pub in_lane : (page : Page) (t : ℕ) (lane : LaneBand) (y : ℕ) → HasRoom page → slice_get page.lanes.items t ≡ Some lane
+    → lane.top.0 ≤ y → pixels (y + 1) ≤ lane.bottom.0
     → IsInLane (scale_of page) t y
 in_lane page t lane y room is top bottom = record {
   begins = omega (arith, lane_begins page t lane is);
@@ -57,7 +59,8 @@ low (bars.Woken q) = omega arith
 low bars.Walks = omega arith
 
 -- what stands there with room for a bar
-bar_drawn : (page : Page) (picture : List ℕ) (lane : LaneBand) (bar : Bar) (top : ℕ) → HasRoom page → slice_get page.lanes.items bar.thread.0 ≡ Some lane
+bar_drawn : (page : Page) (picture : List ℕ) (lane : LaneBand) (bar : Bar) (top : ℕ) → HasRoom page
+    → slice_get page.lanes.items bar.thread.0 ≡ Some lane
     → lane.top.0 ≤ top → pixels (top + 18) ≤ lane.bottom.0 → IsDrawnAt page picture top bar → BarIsDrawn page.plan.now page.chart.now (scale_of page) picture bar
 bar_drawn page picture lane bar top room is begins ends stands = record {
   top = top;
@@ -84,7 +87,8 @@ bars_drawn page picture room has drawn bar in_chart lt =
 -- 3. Loans
 
 pub loans_drawn : (page : Page) (picture : List ℕ) → HasRoom page → HasSteps page page.chart.now → All (LoansAreDrawn page picture) page.lanes.items
-    → (step : PrioSpan) → Contains page.chart.now.steps step → HasLane page.chart.now step.thread.0 → step.effective ≢ step.base
+    → (step : PrioSpan) → Contains page.chart.now.steps step → HasLane page.chart.now step.thread.0
+    → step.effective ≢ step.base
     → LoanIsDrawn page.chart.now (scale_of page) picture step
 loans_drawn page picture room has drawn step in_chart lt lent =
     let of = has step in_chart lt in

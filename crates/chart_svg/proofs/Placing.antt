@@ -24,7 +24,8 @@ pub head_told : (page : Page) (arrow : Arrow) (from to : LaneBand) → slice_get
     → slice_get page.lanes.items arrow.to.0 ≡ Some to → (if nat_lt to.top.0 from.top.0 then Up else Down) ≡ head_figure (scale_of page) arrow
 head_told page arrow from to is_from is_to =
     ap (λ (o : Option LaneBand). if nat_lt (top_of page.bottom.0 o) from.top.0 then Up else Down) (sym is_to)
-    ∙ ap (λ (o : Option LaneBand). if nat_lt (top_of page.bottom.0 (slice_get page.lanes.items arrow.to.0)) (top_of page.bottom.0 o) then Up else Down) (sym is_from)
+    ∙ ap (λ (o : Option LaneBand). if nat_lt (top_of page.bottom.0 (slice_get page.lanes.items arrow.to.0))
+    (top_of page.bottom.0 o) then Up else Down) (sym is_from)
 
 -- an arrow more is placed
 pub placed_more : (page : Page) (arrows ys : List Arrow) (i : ℕ) (d : Arrow) (old new : List Placed) (one : Placed) → ys ≡ arrows → i < length ys

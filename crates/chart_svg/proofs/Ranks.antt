@@ -39,7 +39,8 @@ pub same_prio : (x y : Prio) → nat_eq x.0 y.0 ≡ true → x ≡ y
 same_prio x y e = let prio : ℕ → Prio = λ n. record { 0 = n } in ap prio ((Decides-eqb x.0 y.0).0 e)
 
 -- the priorities of a step more
-pub prios_more : (steps : List PrioSpan) (i : ℕ) (d : PrioSpan) (old mid new : List Prio) → i < length steps → mid ≡ old ++ (get_or steps i d).effective ∷ []
+pub prios_more : (steps : List PrioSpan) (i : ℕ) (d : PrioSpan) (old mid new : List Prio) → i < length steps
+    → mid ≡ old ++ (get_or steps i d).effective ∷ []
     → new ≡ mid ++ (get_or steps i d).base ∷ [] → HasPrios old (take i steps) → HasPrios new (take (i + 1) steps)
 prios_more steps i d old mid new lt effective base h =
     let Old : PrioSpan → Type 0 = λ step. Contains old step.effective × Contains old step.base in

@@ -82,7 +82,8 @@ top_more (l ∷ lanes) lane old new (suc t) is le = top_more lanes lane old new 
 top_past : (lanes : List LaneBand) (t new : ℕ) → length lanes ≤ t → top_of new (slice_get lanes t) ≡ new
 top_past lanes t new le = ap (λ o. top_of new o) (slice_get_past lanes t le)
 
-pub room_more : (old new : Page) (lane : LaneBand) → new.lanes.items ≡ old.lanes.items ++ lane ∷ [] → new.prios ≡ old.prios → new.bottom.0 ≡ lane.bottom.0
+pub room_more : (old new : Page) (lane : LaneBand) → new.lanes.items ≡ old.lanes.items ++ lane ∷ []
+    → new.prios ≡ old.prios → new.bottom.0 ≡ lane.bottom.0
     → lane.top.0 ≡ old.bottom.0 → Fits old lane → HasRoom old → HasRoom new
 room_more old new lane pushed prios bottom top fit h =
     let read : (t : ℕ) (own : LaneBand) → slice_get new.lanes.items t ≡ Some own

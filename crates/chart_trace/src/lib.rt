@@ -1,6 +1,6 @@
-//! A chart as a trace for a viewer that zooms: the JSON that Chrome's tracing and Perfetto read, one millisecond a turn.
-//! Each thread of the plan is a process there, with a track for its turns, one for its waits, one for its walks, and one
-//! for each lock that it held; a counter is its priority, and arrows go from slice to slice.
+//! A chart as a trace for a viewer that zooms: the JSON that Chrome's tracing and Perfetto read, one millisecond a
+//! turn. Each thread of the plan is a process there, with a track for its turns, one for its waits, one for its walks,
+//! and one for each lock that it held; a counter is its priority, and arrows go from slice to slice.
 //!
 //! - `tracing`: the whole trace.
 //! - `tracks`: where slices lie, and what the tracks are called.

@@ -36,7 +36,8 @@ fn hold_word(kind: Kind, mode: Mode) -> &'static [u8]
     }
 }
 
-/// Pushes what an arrow says: `lends 10`, or `lends` where the owner ran so already, `wakes`, `blocks on`, `waits behind`.
+/// Pushes what an arrow says: `lends 10`, or `lends` where the owner ran so already, `wakes`, `blocks on`, `waits
+/// behind`.
 #[tactic(auto, unfolding(crate::specs::Words::arrow_words))]
 pub fn push_arrow(out: &mut Vec<u8>, arrow: Arrow) -> Result<(), AllocError>
     ensures { OnOk result (out.new.items ≡ out.old.items ++ arrow_words arrow) }

@@ -9,8 +9,8 @@ use crate::text::{queue_of, word_at};
 use script_read::{meaning_of, number_of, split_line};
 use std::alloc::{AllocError, Global};
 
-/// The sentence that belongs to a status and to the text that was written, as a line with its end, and in front of it who
-/// speaks; nothing where all went well. It takes memory for that line alone.
+/// The sentence that belongs to a status and to the text that was written, as a line with its end, and in front of it
+/// who speaks; nothing where all went well. It takes memory for that line alone.
 ///
 /// ```
 /// let line = complaint(alloc, LOCKRUN, Status::BadScript, b"line 5 code 11\n")?;

@@ -47,9 +47,11 @@ module _ (c : Config) (s : State) (l : Lawful c s) (h : Counted c s) (f : ℕ) (
       ]
 
       by_named : (o : Option QueueName) → s.blocked_on u ≡ o → StandsOnQueue s u
-      by_named None i = absurd (let z = ap one (h.resting_stands u rests alive i) in let y = (h.finder_is_alone f u e lt).0 in omega arith)
+      by_named None i = absurd
+          (let z = ap one (h.resting_stands u rests alive i) in let y = (h.finder_is_alone f u e lt).0 in omega arith)
       by_named (Some q) i =
-          let z = sum_below-zero c.threads (λ v. times_marked u q (s.marked v)) (λ v k. ap (times_marked u q) (no_marks v k)) in
+          let z = sum_below-zero c.threads (λ v. times_marked u q (s.marked v))
+          (λ v k. ap (times_marked u q) (no_marks v k)) in
           let y = ap (at_queue q) i in
           let o = ap one (is_queue_same q) in
           record { queue = q; named = i; stands = omega (arith, l.waits.stands_once u q) }
@@ -59,7 +61,8 @@ module _ (c : Config) (s : State) (l : Lawful c s) (h : Counted c s) (t : ℕ) w
   first_queued : (v : ℕ) → v < c.threads → (ms : List Mark) → s.marked v ≡ ms → IsFirst t ms → s.wait t ≡ Queued
   unfolding StandingIsQueued
   first_queued v lt [] e f = absurd f
-  first_queued v lt (m ∷ ms) e f = rw (← f) (l.waits.standing_is_queued m.thread m.queue (marked_named c s v m ms l lt e))
+  first_queued v lt (m ∷ ms) e f =
+      rw (← f) (l.waits.standing_is_queued m.thread m.queue (marked_named c s v m ms l lt e))
 
   its_record : (v : ℕ) → 1 ≤ at_option t (s.counting v) → s.record_with t ≡ Some v
   unfolding CountedInIsNextMarked
@@ -67,7 +70,8 @@ module _ (c : Config) (s : State) (l : Lawful c s) (h : Counted c s) (t : ℕ) w
 
   counter_queued : (v : ℕ) → v < c.threads → 1 ≤ at_option t (s.counting v) → s.wait t ≡ Queued
   unfolding CountedInIsNextMarked
-  counter_queued v lt i = first_queued v lt (s.marked v) refl (h.counted_in_is_next_marked v t (at_option_one t (s.counting v) i)).0
+  counter_queued v lt i =
+      first_queued v lt (s.marked v) refl (h.counted_in_is_next_marked v t (at_option_one t (s.counting v) i)).0
 
   at_most : (o : Option ℕ) → at_option t o ≤ 1
   at_most None = omega arith
@@ -78,10 +82,13 @@ module _ (c : Config) (s : State) (l : Lawful c s) (h : Counted c s) (t : ℕ) w
     where
       single : (v : ℕ) → 1 ≤ at_option t (s.counting v) → sum_below c.threads (λ w. at_option t (s.counting w)) ≤ 1
       single v i =
-          let a = sum_below-single c.threads (λ w. at_option t (s.counting w)) v (λ w ne. zero_unless (at_option t (s.counting w)) (λ j. ne (same_Some v w (sym (its_record v i) ∙ its_record w j)))) in
+          let a = sum_below-single c.threads (λ w. at_option t (s.counting w)) v
+          (λ w ne. zero_unless (at_option t (s.counting w))
+          (λ j. ne (same_Some v w (sym (its_record v i) ∙ its_record w j)))) in
           omega (arith, at_most (s.counting v))
 
-      go : (k : ℕ) → sum_below c.threads (λ v. at_option t (s.counting v)) ≡ k → sum_below c.threads (λ v. at_option t (s.counting v)) ≤ 1
+      go : (k : ℕ) → sum_below c.threads (λ v. at_option t (s.counting v)) ≡ k
+          → sum_below c.threads (λ v. at_option t (s.counting v)) ≤ 1
       go zero e = omega arith
       go (suc k) e = let r = sum_below-some c.threads (λ v. at_option t (s.counting v)) (omega arith) in single r.0 r.2
 
@@ -90,14 +97,18 @@ module _ (c : Config) (s : State) (l : Lawful c s) (h : Counted c s) (t : ℕ) w
   one_wake = go (s.wait t) refl
     where
       woken_none : is_woken (s.wait t) ≡ true → sum_below c.threads (λ v. at_option t (s.counting v)) ≡ 0
-      woken_none e = sum_below-zero c.threads (λ v. at_option t (s.counting v)) (λ v lt. zero_unless (at_option t (s.counting v)) (λ i. let z = sym e ∙ ap is_woken (counter_queued v lt i) in cc))
+      woken_none e = sum_below-zero c.threads (λ v. at_option t (s.counting v))
+          (λ v lt. zero_unless (at_option t (s.counting v))
+          (λ i. let z = sym e ∙ ap is_woken (counter_queued v lt i) in cc))
 
-      go : (w : Wait) → s.wait t ≡ w → one (is_woken (s.wait t)) + sum_below c.threads (λ v. at_option t (s.counting v)) ≤ 1
+      go : (w : Wait) → s.wait t ≡ w
+          → one (is_woken (s.wait t)) + sum_below c.threads (λ v. at_option t (s.counting v)) ≤ 1
       go Running e = let z = ap one (ap is_woken e) in omega (arith, counters)
       go Queued e = let z = ap one (ap is_woken e) in omega (arith, counters)
       go (Woken q cause) e = let z = ap one (ap is_woken e) in omega (arith, woken_none (ap is_woken e))
 
   -- the term, as the countings give it
-  pub term_is : suc (times_counted_in c s.counted_in t) ≡ s.counted_out t + own_term (s.phase t) + wakes_under_way c s.wait s.counting t
+  pub term_is : suc (times_counted_in c s.counted_in t) ≡ s.counted_out t + own_term (s.phase t) + wakes_under_way c
+      s.wait s.counting t
   unfolding TermsFitParking
   term_is = h.terms_fit_parking t

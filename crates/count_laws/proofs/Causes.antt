@@ -39,7 +39,8 @@ module _ {at_work : ℕ → Option ℕ} {c : Config} {s : State} (p : SleepersFi
   unaborted : (u : ℕ) → off c s u ≡ 0
   unfolding aborted MarksAreSignals WokenBySignal NoSleepIsHalted
   unaborted u =
-      let a = sum_below-zero c.threads (λ v. aborts u (s.marked v)) (λ v lt. no_aborts u (s.marked v) (p.marks_are_signals i v)) in
+      let a = sum_below-zero c.threads (λ v. aborts u (s.marked v))
+      (λ v lt. no_aborts u (s.marked v) (p.marks_are_signals i v)) in
       let b = by_wait (s.wait u) refl in
       let d = by_note (s.noted u) refl in
       omega arith
@@ -58,7 +59,8 @@ module _ {at_work : ℕ → Option ℕ} {c : Config} {s : State} (p : SleepersFi
 
 -- 1. An entry
 
-module _ {at_work : ℕ → Option ℕ} {c : Config} {s : State} (l : Lawful c s) (p : SleepersFit at_work c s) (x : Explained c s)
+module _ {at_work : ℕ → Option ℕ} {c : Config} {s : State} (l : Lawful c s) (p : SleepersFit at_work c s)
+    (x : Explained c s)
     (t : ℕ) (e : Event) (g : MayStamp c s t e) where
   abbrev new : Entry
   new = entry_of s t e
@@ -73,7 +75,8 @@ module _ {at_work : ℕ → Option ℕ} {c : Config} {s : State} (l : Lawful c s
   no_halt i other g = refl
 
   -- the thread of a waking doesn't sleep
-  awake : (is_taking_back (s.log t) ≡ true → ends_sleep e ≡ true) → ends_sleep e ≡ false → (d : ℕ) → is_asleep s.history d t ≡ false
+  awake : (is_taking_back (s.log t) ≡ true → ends_sleep e ≡ true) → ends_sleep e ≡ false → (d : ℕ)
+      → is_asleep s.history d t ≡ false
   unfolding LogsAreParts
   awake ends ne d = elim (cases_Bool (is_asleep s.history d t)) [
     | inl a ↦ absurd (
@@ -83,7 +86,8 @@ module _ {at_work : ℕ → Option ℕ} {c : Config} {s : State} (l : Lawful c s
     | inr a ↦ a
   ]
 
-  own_passes : (e : Event) → (ends_sleep e ≡ false → (d : ℕ) → is_asleep s.history d t ≡ false) → passes_over c s.history e t ≡ false
+  own_passes : (e : Event) → (ends_sleep e ≡ false → (d : ℕ) → is_asleep s.history d t ≡ false)
+      → passes_over c s.history e t ≡ false
   own_passes (WokeOne d woken) f = rw (f refl d.0) refl
   own_passes (WokeAll d woken) f = rw (f refl d.0) refl
   own_passes other f = refl
@@ -118,7 +122,9 @@ module _ {at_work : ℕ → Option ℕ} {c : Config} {s : State} (l : Lawful c s
 
       unnamed : (b : Bool) → is_named s.history t ≡ b → is_named s.history t ≡ false
       unnamed false i = i
-      unnamed true i = absurd (let z = ap one i in let y = ap one (ap (λ b. b) i) in let o = one_most (is_taking_back (s.log t)) in omega (arith, p.aborted_sleep t, halt))
+      unnamed true i = absurd
+          (let z = ap one i in let y = ap one (ap (λ b. b) i) in let o = one_most (is_taking_back (s.log t)) in
+          omega (arith, p.aborted_sleep t, halt))
         where
           one_most : (b : Bool) → one b ≤ 1
           one_most true = omega arith
@@ -133,9 +139,11 @@ module _ {at_work : ℕ → Option ℕ} {c : Config} {s : State} (l : Lawful c s
 
   abbrev caused : List Entry → List Entry → ℕ → Bool → Option ℕ → Bool
   caused past own u ended taking =
-      is_empty own && (ended || waits_for_another c past u taking) || (is_sleeping past u || first_was_awaited c past u own)
+      is_empty own && (ended || waits_for_another c past u taking) ||
+      (is_sleeping past u || first_was_awaited c past u own)
 
-  own_cause : s.has_ended t ≡ false → EndsItsTake c s t e → (own : List Entry) → entries_of (entries_since s.halted_at s.history) t ≡ own
+  own_cause : s.has_ended t ≡ false → EndsItsTake c s t e → (own : List Entry)
+      → entries_of (entries_since s.halted_at s.history) t ≡ own
       → caused (entries_below s.halted_at s.history) own t (s.has_ended t) (s.taking t) ≡ true
       → (y : Option ℕ) → caused (entries_below s.halted_at s.history) (new ∷ own) t (s.has_ended t) y ≡ true
   own_cause alive ends (a ∷ own) i h y = h
@@ -144,7 +152,8 @@ module _ {at_work : ℕ → Option ℕ} {c : Config} {s : State} (l : Lawful c s
       past : List Entry
       past = entries_below s.halted_at s.history
 
-      by_taking : (o : Option ℕ) → s.taking t ≡ o → (b : Bool) → is_sleeping past t ≡ b → (waits_for_another c past t o || (b || false)) ≡ true
+      by_taking : (o : Option ℕ) → s.taking t ≡ o → (b : Bool) → is_sleeping past t ≡ b
+          → (waits_for_another c past t o || (b || false)) ≡ true
           → (b || waits_for_another c past t (awaited_by c e)) ≡ true
       by_taking o j true k h = refl
       by_taking None j false k h = absurd cc
@@ -165,9 +174,13 @@ module _ {at_work : ℕ → Option ℕ} {c : Config} {s : State} (l : Lawful c s
       let own : List Entry = entries_of (entries_since s.halted_at s.history) u in
       rw (below, later) (elim (cases_eq t u) [
         | inl j ↦
-            let here = own_cause alive ends (entries_of (entries_since s.halted_at s.history) t) refl (subst (λ v. has_cause c (s.has_ended v) (s.taking v) s.halted_at s.history v ≡ true) (sym j) old)
+            let here = own_cause alive ends (entries_of (entries_since s.halted_at s.history) t) refl
+            (subst (λ v. has_cause c (s.has_ended v) (s.taking v) s.halted_at s.history v ≡ true) (sym j) old)
             (put s.taking t (taking_after e (s.taking t)) t) in
-            subst (λ v. caused past (cond (eqb t v) (new ∷ entries_of (entries_since s.halted_at s.history) v) (entries_of (entries_since s.halted_at s.history) v)) v (s.has_ended v) (put s.taking t (taking_after e (s.taking t)) v) ≡ true) j (rw (eq-eqb t t refl) here)
+            subst (λ v. caused past
+            (cond (eqb t v) (new ∷ entries_of (entries_since s.halted_at s.history) v)
+            (entries_of (entries_since s.halted_at s.history) v)) v (s.has_ended v)
+            (put s.taking t (taking_after e (s.taking t)) v) ≡ true) j (rw (eq-eqb t t refl) here)
         | inr j ↦ rw (ne_eqb t u j, put_other s.taking t (taking_after e (s.taking t)) u j) old
       ])
 
@@ -181,14 +194,16 @@ module _ (c : Config) (s : State) (x : Explained c s) (t : ℕ) where
   causes_taking o f i u lt =
       cause_kept c (s.has_ended u) (s.has_ended u) (s.taking u) (put s.taking t o u) s.halted_at s.history u (λ z. z)
       (elim (cases_eq t u) [
-        | inl j ↦ subst (λ v. waits_for_another c past v (s.taking v) ≡ true → waits_for_another c past v (put s.taking t o v) ≡ true) j (λ z. rw (put_same s.taking t o) (f past z))
+        | inl j ↦ subst (λ v. waits_for_another c past v (s.taking v) ≡ true
+            → waits_for_another c past v (put s.taking t o v) ≡ true) j (λ z. rw (put_same s.taking t o) (f past z))
         | inr j ↦ λ z. rw (put_other s.taking t o u j) z
       ]) (x.halts_have_causes i u lt)
     where
       past : List Entry
       past = entries_below s.halted_at s.history
 
-  pub none_waits : (o y : Option ℕ) → o ≡ None → (past : List Entry) → waits_for_another c past t o ≡ true → waits_for_another c past t y ≡ true
+  pub none_waits : (o y : Option ℕ) → o ≡ None → (past : List Entry) → waits_for_another c past t o ≡ true
+      → waits_for_another c past t y ≡ true
   none_waits None y e past z = absurd cc
   none_waits (Some k) y e past z = absurd cc
 
@@ -209,13 +224,15 @@ module _ (c : Config) (s : State) (x : Explained c s) (t : ℕ) where
 
 -- 3. The halt word is set
 
-module _ {at_work : ℕ → Option ℕ} {c : Config} {s : State} (l : Lawful c s) (h : Counted c s) (o : Ordered c s) (p : SleepersFit at_work c s)
+module _ {at_work : ℕ → Option ℕ} {c : Config} {s : State} (l : Lawful c s) (h : Counted c s) (o : Ordered c s)
+    (p : SleepersFit at_work c s)
     (x : Explained c s) (t : ℕ) (g : MayHalt c s t) where
   pub halt_since : HaltedSince c true (moment_of s.halted s.halted_at s.next) s.next s.history
   unfolding HaltedSince UnhaltedBefore
   halt_since i = go s.halted refl
     where
-      go : (b : Bool) → s.halted ≡ b → (moment_of b s.halted_at s.next ≤ s.next) × HaltsComeSince c (moment_of b s.halted_at s.next) s.history
+      go : (b : Bool) → s.halted ≡ b → (moment_of b s.halted_at s.next ≤ s.next)
+          × HaltsComeSince c (moment_of b s.halted_at s.next) s.history
       go true j = x.halted_since j
       go false j = (omega arith, halts_to_come c s.next s.history (x.unhalted_before j))
 
@@ -223,7 +240,8 @@ module _ {at_work : ℕ → Option ℕ} {c : Config} {s : State} (l : Lawful c s
   unfolding HaltsHaveCauses NextIsNew
   halt_causes i u lt = go s.halted refl
     where
-      go : (b : Bool) → s.halted ≡ b → has_cause c (s.has_ended u) (s.taking u) (moment_of b s.halted_at s.next) s.history u ≡ true
+      go : (b : Bool) → s.halted ≡ b
+          → has_cause c (s.has_ended u) (s.taking u) (moment_of b s.halted_at s.next) s.history u ≡ true
       go true j = x.halts_have_causes j u lt
       go false j =
           let few : length s.history ≤ s.next = omega (arith, l.books.next_is_new) in

@@ -60,7 +60,8 @@ module _ (c : Config) (s : State) (t : ℕ) (a : IsRunnable s t) (h : Counted c 
   unfolding EndedIsBare
   bare l x w u f = elim (cases_eq t u) [
     | inl y ↦ absurd (let z = sym a.unended ∙ ap s.has_ended y ∙ f in cc)
-    | inr y ↦ let z = h.ended_is_bare u f in ((λ k. put_at_other s.held t l x u k y ∙ z.0 k), put_other s.wanted t w u y ∙ z.1)
+    | inr y ↦ let z = h.ended_is_bare u f in
+        ((λ k. put_at_other s.held t l x u k y ∙ z.0 k), put_other s.wanted t w u y ∙ z.1)
   ]
 
   bare_held : (l : ℕ) (x : Hold) → EndedIsBare s.has_ended (put_at s.held t l x) s.wanted
@@ -112,7 +113,8 @@ module _ (c : Config) (s : State) (t : ℕ) (a : IsRunnable s t) (h : Counted c 
 module _ (c : Config) (s : State) (t : ℕ) (a : IsRunnable s t) (h : Counted c s) where
   pub enter : (l : ℕ) (mode : Mode) (x : ℕ) → Counted c (after_enter s t l mode x)
   unfolding after_enter
-  enter l mode x = let w : ParkedHasNoWalk s.phase (after_enter s t l mode x).walk = walked c s t a h _ in assumption (w, named_rest c s t a h (Some (lock_queue l)), bare_wanted c s t a h (Some l), h)
+  enter l mode x = let w : ParkedHasNoWalk s.phase (after_enter s t l mode x).walk = walked c s t a h _ in
+      assumption (w, named_rest c s t a h (Some (lock_queue l)), bare_wanted c s t a h (Some l), h)
 
   pub lend : (l o x : ℕ) → Counted c (after_lend c s t l o x)
   unfolding after_lend
@@ -128,7 +130,8 @@ module _ (c : Config) (s : State) (t : ℕ) (a : IsRunnable s t) (h : Counted c 
 
 -- 3. The own wait word
 
-module _ (c : Config) (s : State) (t : ℕ) (lt : t < c.threads) (a : IsRunnable s t) (h : Counted c s) (w : Wait) (same : is_woken w ≡ is_woken (s.wait t)) where
+module _ (c : Config) (s : State) (t : ℕ) (lt : t < c.threads) (a : IsRunnable s t) (h : Counted c s) (w : Wait)
+    (same : is_woken w ≡ is_woken (s.wait t)) where
   waits_terms : TermsFitParking c s.counted_out s.counted_in s.phase (put s.wait t w) s.counting
   unfolding TermsFitParking wakes_under_way
   waits_terms u = grind (arith, columns, h.terms_fit_parking u)
@@ -154,13 +157,30 @@ module _ (c : Config) (s : State) (t : ℕ) (a : IsRunnable s t) (h : Counted c 
   unfolding after_ready
   ready g =
       let w = sym (ap is_woken g.running) in
-      assumption (waits_terms c s t g.thread a h Queued w, waits_waits c s t g.thread a h Queued w, waits_self_aborted c s t g.thread a h Queued w, waits_ended c s t g.thread a h Queued w, waits_alone c s t g.thread a h Queued w, h)
+      assumption (
+        waits_terms c s t g.thread a h Queued w,
+        waits_waits c s t g.thread a h Queued w,
+        waits_self_aborted c
+            s t g.thread a h Queued w,
+        waits_ended c s t g.thread a h Queued w,
+        waits_alone c s t g.thread a h Queued w,
+        h,
+      )
 
   pub unready : MayUnready c s t → Counted c (after_unready s t)
   unfolding after_unready
   unready g =
       let w = sym (ap is_woken g.queued) in
-      assumption (waits_terms c s t g.thread a h Running w, waits_waits c s t g.thread a h Running w, waits_self_aborted c s t g.thread a h Running w, waits_ended c s t g.thread a h Running w, waits_alone c s t g.thread a h Running w, h)
+      assumption (
+        waits_terms c s t g.thread a h Running w,
+        waits_waits c s t g.thread a h Running w,
+        waits_self_aborted
+            c s t g.thread a h Running w,
+        waits_ended c s t g.thread a h Running w,
+        waits_alone c s t g.thread a h Running
+            w,
+        h,
+      )
 
 -- 4. The marked list of an acting thread
 
@@ -189,27 +209,33 @@ module _ (c : Config) (s : State) (t : ℕ) (a : IsRunnable s t) (h : Counted c 
   pub opens : (l : ℕ) (mode : Mode) → MayOpen c s t l mode → Counted c (after_open c s t l)
   unfolding after_open
   opens l mode g =
-      let x : CountedInIsNextMarked s.counting (after_open c s t l).marked s.record_with = marks_next c s t h g.releases.unmarked _ in
-      let y : RestingHasNoMarks s.phase (after_open c s t l).marked = marks_rest c s t h g.releases.unmarked a.phase _ in
+      let x : CountedInIsNextMarked s.counting (after_open c s t l).marked s.record_with =
+      marks_next c s t h g.releases.unmarked _ in
+      let y : RestingHasNoMarks s.phase (after_open c s t l).marked =
+      marks_rest c s t h g.releases.unmarked a.phase _ in
       assumption (x, y, bare_held c s t a h l NotHeld, h)
 
   pub open_sleep : (l : ℕ) (mode : Mode) → MayOpenSleep c s t l mode → Counted c (after_open_sleep c s t l)
   unfolding after_open_sleep
   open_sleep l mode g =
-      let x : CountedInIsNextMarked s.counting (after_open_sleep c s t l).marked s.record_with = marks_next c s t h g.releases.unmarked _ in
-      let y : RestingHasNoMarks s.phase (after_open_sleep c s t l).marked = marks_rest c s t h g.releases.unmarked a.phase _ in
+      let x : CountedInIsNextMarked s.counting (after_open_sleep c s t l).marked s.record_with =
+      marks_next c s t h g.releases.unmarked _ in
+      let y : RestingHasNoMarks s.phase (after_open_sleep c s t l).marked =
+      marks_rest c s t h g.releases.unmarked a.phase _ in
       assumption (x, y, bare_held c s t a h l NotHeld, h)
 
   pub wake : (d : ℕ) (all : Bool) → MayWake c s t d all → Counted c (after_wake s t d all)
   unfolding after_wake
   wake d all g =
-      let x : CountedInIsNextMarked s.counting (after_wake s t d all).marked s.record_with = marks_next c s t h g.unmarked _ in
+      let x : CountedInIsNextMarked s.counting (after_wake s t d all).marked s.record_with =
+      marks_next c s t h g.unmarked _ in
       let y : RestingHasNoMarks s.phase (after_wake s t d all).marked = marks_rest c s t h g.unmarked a.phase _ in
       assumption (x, y, h)
 
 -- 5. A mark
 
-module _ (c : Config) (s : State) (t : ℕ) (m : Mark) (ms : List Mark) (g : MayMark c s t m ms) (p : is_parked (s.phase t) ≡ false) (b : IsCountedIn s t m.thread) (l : Lawful c s) (h : Counted c s) where
+module _ (c : Config) (s : State) (t : ℕ) (m : Mark) (ms : List Mark) (g : MayMark c s t m ms)
+    (p : is_parked (s.phase t) ≡ false) (b : IsCountedIn s t m.thread) (l : Lawful c s) (h : Counted c s) where
   abbrev n : State
   n = after_mark c s t m ms
 
@@ -230,11 +256,14 @@ module _ (c : Config) (s : State) (t : ℕ) (m : Mark) (ms : List Mark) (g : May
     where
       go : (o : Option ℕ) → s.counting t ≡ o → o ≡ None
       go None i = refl
-      go (Some v) i = absurd (let z = h.counted_in_is_next_marked t v i in let y : IsFirst v (m ∷ ms) = subst (IsFirst v) g.marked z.0 in z.1 (e ∙ y))
+      go (Some v) i = absurd
+          (let z = h.counted_in_is_next_marked t v i in let y : IsFirst v (m ∷ ms) = subst (IsFirst v) g.marked z.0 in
+          z.1 (e ∙ y))
 
   own_weight : t ≡ u → own_term (s.phase t) ≡ 1
   unfolding SelfAbortedIsWoken
-  own_weight e = own_one (s.phase t) p (λ i. let z = ap is_woken (ap s.wait e ∙ queued) in let y = h.self_aborted_is_woken t i in cc)
+  own_weight e = own_one (s.phase t) p
+      (λ i. let z = ap is_woken (ap s.wait e ∙ queued) in let y = h.self_aborted_is_woken t i in cc)
 
   abbrev woken : ℕ → Wait
   woken = put s.wait u (Woken m.queue m.cause)
@@ -242,7 +271,8 @@ module _ (c : Config) (s : State) (t : ℕ) (m : Mark) (ms : List Mark) (g : May
   abbrev uncounted : ℕ → Option ℕ
   uncounted = put s.counting t None
 
-  self_here : t ≡ u → suc (times_counted_in c s.counted_in u) ≡ s.counted_out u + own_term (put s.phase t SelfAborted u) + (one (is_woken (woken u)) + sum_below c.threads (λ w. at_option u (uncounted w)))
+  self_here : t ≡ u → suc (times_counted_in c s.counted_in u) ≡ s.counted_out u + own_term (put s.phase t SelfAborted u)
+      + (one (is_woken (woken u)) + sum_below c.threads (λ w. at_option u (uncounted w)))
   unfolding TermsFitParking wakes_under_way
   self_here e =
       let a = sum_below-put c.threads (at_option u) s.counting t None g.thread in
@@ -250,21 +280,32 @@ module _ (c : Config) (s : State) (t : ℕ) (m : Mark) (ms : List Mark) (g : May
       let w = ap one (ap is_woken queued) in
       let o = own_weight e in
       let o2 : own_term (s.phase u) ≡ 1 = ap (λ k. own_term (s.phase k)) (sym e) ∙ o in
-      let x : own_term (put s.phase t SelfAborted u) ≡ 0 = ap (λ k. own_term (put s.phase t SelfAborted k)) (sym e) ∙ ap own_term (put_same s.phase t SelfAborted) in
+      let x : own_term (put s.phase t SelfAborted u) ≡ 0 = ap (λ k. own_term (put s.phase t SelfAborted k)) (sym e)
+      ∙ ap own_term (put_same s.phase t SelfAborted) in
       let y : one (is_woken (woken u)) ≡ 1 = ap one (ap is_woken (put_same s.wait u (Woken m.queue m.cause))) in
       omega (arith, h.terms_fit_parking u)
 
-  by_self : (v : ℕ) → t ≡ u → suc (times_counted_in c s.counted_in v) ≡ s.counted_out v + own_term (put s.phase t SelfAborted v) + (one (is_woken (woken v)) + sum_below c.threads (λ w. at_option v (uncounted w)))
+  by_self : (v : ℕ) → t ≡ u
+      → suc (times_counted_in c s.counted_in v) ≡ s.counted_out v + own_term (put s.phase t SelfAborted v) +
+      (one (is_woken (woken v)) + sum_below c.threads (λ w. at_option v (uncounted w)))
   unfolding TermsFitParking wakes_under_way
   by_self v e =
       let a = sum_below-put c.threads (at_option v) s.counting t None g.thread in
       let d = ap (at_option v) (mine e) in
       elim (cases_eq u v) [
-        | inl i ↦ subst (λ k. suc (times_counted_in c s.counted_in k) ≡ s.counted_out k + own_term (put s.phase t SelfAborted k) + (one (is_woken (woken k)) + sum_below c.threads (λ w. at_option k (uncounted w)))) i (self_here e)
-        | inr i ↦ rw (put_other s.wait u (Woken m.queue m.cause) v i, put_other s.phase t SelfAborted v (λ x. i (sym e ∙ x))) (omega (arith, h.terms_fit_parking v))
+        | inl i ↦ subst (λ k. suc (times_counted_in c s.counted_in k) ≡ s.counted_out k + own_term
+            (put s.phase t SelfAborted k) +
+            (one (is_woken (woken k)) + sum_below c.threads (λ w. at_option k (uncounted w)))) i (self_here e)
+        | inr i ↦ rw (
+          put_other s.wait u (Woken m.queue m.cause) v i,
+          put_other s.phase t SelfAborted v
+              (λ x. i (sym e ∙ x)),
+        ) (omega (arith, h.terms_fit_parking v))
       ]
 
-  by_other : (v : ℕ) → s.counting t ≡ Some u → suc (times_counted_in c s.counted_in v) ≡ s.counted_out v + own_term (s.phase v) + (one (is_woken (woken v)) + sum_below c.threads (λ w. at_option v (uncounted w)))
+  by_other : (v : ℕ) → s.counting t ≡ Some u
+      → suc (times_counted_in c s.counted_in v) ≡ s.counted_out v + own_term (s.phase v) +
+      (one (is_woken (woken v)) + sum_below c.threads (λ w. at_option v (uncounted w)))
   unfolding TermsFitParking wakes_under_way
   by_other v e =
       let a = sum_below-put c.threads (at_option v) s.counting t None g.thread in
@@ -277,7 +318,12 @@ module _ (c : Config) (s : State) (t : ℕ) (m : Mark) (ms : List Mark) (g : May
   unfolding CountedInIsNextMarked
   phase_at e v =
       elim (cases_eq t v) [
-        | inl x ↦ rw (← x, put_same s.phase t (phase_marked t u (s.phase t)), ne_eqb t u (h.counted_in_is_next_marked t u e).1) refl
+        | inl x ↦ rw (
+          ← x,
+          put_same s.phase t (phase_marked t u (s.phase t)),
+          ne_eqb t u
+              (h.counted_in_is_next_marked t u e).1,
+        ) refl
         | inr x ↦ put_other s.phase t (phase_marked t u (s.phase t)) v x
       ]
 
@@ -299,7 +345,8 @@ module _ (c : Config) (s : State) (t : ℕ) (m : Mark) (ms : List Mark) (g : May
   unfolding after_mark CountedInIsNextMarked
   mark_next v w e = elim (cases_eq t v) [
     | inl x ↦ absurd (let z : None ≡ Some w = sym (put_same s.counting t None) ∙ ap uncounted x ∙ e in cc)
-    | inr x ↦ rw (put_other s.marked t ms v x) (h.counted_in_is_next_marked v w (sym (put_other s.counting t None v x) ∙ e))
+    | inr x ↦ rw (put_other s.marked t ms v x)
+        (h.counted_in_is_next_marked v w (sym (put_other s.counting t None v x) ∙ e))
   ]
 
   marked_phase : (v : ℕ) → n.phase v ≡ s.phase v ⊎ ((u ≡ v) × (n.phase v ≡ SelfAborted))
@@ -308,35 +355,50 @@ module _ (c : Config) (s : State) (t : ℕ) (m : Mark) (ms : List Mark) (g : May
       elim b [
         | inl e ↦ inl (λ i. phase_other e i v)
         | inr e ↦ elim (cases_eq t v) [
-          | inl x ↦ inr (sym e ∙ x, (λ i. phase_self e i v) ∙ ap (put s.phase t SelfAborted) (sym x) ∙ put_same s.phase t SelfAborted)
+          | inl x ↦ inr (
+            sym e ∙ x,
+            (λ i. phase_self e i v) ∙ ap (put s.phase t SelfAborted) (sym x)
+                ∙ put_same s.phase t SelfAborted,
+          )
           | inr x ↦ inl (put_other s.phase t (phase_marked t u (s.phase t)) v x)
         ]
       ]
 
   mark_no_walk : ParkedHasNoWalk n.phase n.walk
   unfolding after_mark ParkedHasNoWalk
-  mark_no_walk v q = elim (marked_phase v) [ inl x ↦ h.parked_has_no_walk v (ap is_parked (sym x) ∙ q) | inr x ↦ absurd (let z = ap is_parked (sym x.1) ∙ q in cc) ]
+  mark_no_walk v q = elim (marked_phase v) [
+    | inl x ↦ h.parked_has_no_walk v (ap is_parked (sym x) ∙ q)
+    | inr x ↦
+        absurd (let z = ap is_parked (sym x.1) ∙ q in cc)
+  ]
 
   mark_no_marks : RestingHasNoMarks n.phase n.marked
   unfolding after_mark RestingHasNoMarks
   mark_no_marks v q = elim (marked_phase v) [
     | inl x ↦ elim (cases_eq t v) [
-      | inl y ↦ absurd (let z = h.resting_has_no_marks v (ap is_at_rest (sym x) ∙ q) in let w : [] ≡ m ∷ ms = sym z ∙ ap s.marked (sym y) ∙ g.marked in cc)
+      | inl y ↦ absurd (let z = h.resting_has_no_marks v (ap is_at_rest (sym x) ∙ q) in let w : [] ≡ m ∷ ms = sym z
+          ∙ ap s.marked (sym y) ∙ g.marked in cc)
       | inr y ↦ rw (put_other s.marked t ms v y) (h.resting_has_no_marks v (ap is_at_rest (sym x) ∙ q))
     ]
     | inr x ↦ absurd (let z = ap is_at_rest (sym x.1) ∙ q in cc)
   ]
 
-  mark_nothing : ParkedHasNothingOut n.phase n.turnstile_chain_with n.sleep_chain_with n.record_with n.cell_with n.graph_with
+  mark_nothing : ParkedHasNothingOut n.phase n.turnstile_chain_with n.sleep_chain_with n.record_with n.cell_with
+      n.graph_with
   unfolding after_mark ParkedHasNothingOut
-  mark_nothing v i q = elim (marked_phase v) [ inl x ↦ h.parked_has_nothing_out v i (ap is_parked (sym x) ∙ q) | inr x ↦ absurd (let z = ap is_parked (sym x.1) ∙ q in cc) ]
+  mark_nothing v i q = elim (marked_phase v) [
+    | inl x ↦ h.parked_has_nothing_out v i (ap is_parked (sym x) ∙ q)
+    | inr x ↦
+        absurd (let z = ap is_parked (sym x.1) ∙ q in cc)
+  ]
 
   mark_waits : RestingStands n.phase n.has_ended n.blocked_on n.wait
   unfolding after_mark RestingStands
   mark_waits v q f e = elim (cases_eq u v) [
     | inl y ↦ rw (← y, put_same s.wait u (Woken m.queue m.cause)) refl
     | inr y ↦ elim (marked_phase v) [
-      | inl x ↦ rw (put_other s.wait u (Woken m.queue m.cause) v y) (h.resting_stands v (ap is_at_rest (sym x) ∙ q) f (sym (put_other s.blocked_on u None v y) ∙ e))
+      | inl x ↦ rw (put_other s.wait u (Woken m.queue m.cause) v y)
+          (h.resting_stands v (ap is_at_rest (sym x) ∙ q) f (sym (put_other s.blocked_on u None v y) ∙ e))
       | inr x ↦ absurd (y x.0)
     ]
   ]
@@ -372,19 +434,32 @@ module _ (c : Config) (s : State) (t : ℕ) (m : Mark) (ms : List Mark) (g : May
 
   pub mark : Counted c n
   unfolding after_mark
-  mark = assumption (mark_terms, mark_next, mark_no_walk, mark_no_marks, mark_nothing, mark_waits, mark_self_aborted, mark_ended, mark_alone, h)
+  mark = assumption (
+    mark_terms,
+    mark_next,
+    mark_no_walk,
+    mark_no_marks,
+    mark_nothing,
+    mark_waits,
+    mark_self_aborted,
+    mark_ended,
+    mark_alone,
+    h,
+  )
 
 -- 6. A resume
 
 at_resume : (p : Phase) → IsAtResume p → own_term p ≡ 0
-at_resume Awake e = absurd (elim e [ inl x ↦ cc | inr x ↦ let z = ap is_parked (sym x) in let y = ap own_term x in omega arith ])
+at_resume Awake e = absurd
+    (elim e [ inl x ↦ cc | inr x ↦ let z = ap is_parked (sym x) in let y = ap own_term x in omega arith ])
 at_resume Asleep e = refl
 at_resume Last e = refl
 at_resume Halting e = absurd (elim e [ inl x ↦ cc | inr x ↦ let y = ap own_term x in omega arith ])
 at_resume Aborting e = absurd (elim e [ inl x ↦ cc | inr x ↦ let y = ap own_term x in omega arith ])
 at_resume SelfAborted e = refl
 
-module _ (c : Config) (s : State) (t : ℕ) (q : QueueName) (cause : Cause) (g : MayResume c s t q cause) (r : IsAtResume (s.phase t)) (h : Counted c s) where
+module _ (c : Config) (s : State) (t : ℕ) (q : QueueName) (cause : Cause) (g : MayResume c s t q cause)
+    (r : IsAtResume (s.phase t)) (h : Counted c s) where
   abbrev o : State
   o = after_resume c s t q cause
 
@@ -403,7 +478,8 @@ module _ (c : Config) (s : State) (t : ℕ) (q : QueueName) (cause : Cause) (g :
   unfolding after_resume RestingHasNoMarks
   resume_no_marks u = grind (arith, columns, h.resting_has_no_marks u)
 
-  resume_nothing : ParkedHasNothingOut o.phase o.turnstile_chain_with o.sleep_chain_with o.record_with o.cell_with o.graph_with
+  resume_nothing : ParkedHasNothingOut o.phase o.turnstile_chain_with o.sleep_chain_with o.record_with o.cell_with
+      o.graph_with
   unfolding after_resume ParkedHasNothingOut
   resume_nothing u j p = elim (cases_eq t u) [
     | inl e ↦ absurd (let z = ap is_parked (sym (put_same s.phase t Awake) ∙ ap (put s.phase t Awake) e) in cc)
@@ -427,7 +503,9 @@ module _ (c : Config) (s : State) (t : ℕ) (q : QueueName) (cause : Cause) (g :
   resume_alone f u e lt =
       elim (cases_eq t f) [
         | inl x ↦ absurd (let z = ap is_finder (sym (put_same s.phase t Awake) ∙ ap (put s.phase t Awake) x) ∙ e in cc)
-        | inr x ↦ absurd (let z = (h.finder_is_alone f t (ap is_finder (sym (put_other s.phase t Awake f x)) ∙ e) g.thread).0 in let y = ap one was_woken in omega arith)
+        | inr x ↦ absurd (let
+            z = (h.finder_is_alone f t (ap is_finder (sym (put_other s.phase t Awake f x)) ∙ e) g.thread).0 in let y =
+            ap one was_woken in omega arith)
       ]
 
   resume_bare : EndedIsBare o.has_ended o.held o.wanted
@@ -439,19 +517,32 @@ module _ (c : Config) (s : State) (t : ℕ) (q : QueueName) (cause : Cause) (g :
 
   pub resume : Counted c o
   unfolding after_resume
-  resume = assumption (resume_bare, resume_terms, resume_no_walk, resume_no_marks, resume_nothing, resume_waits, resume_self_aborted, resume_ended, resume_alone, h)
+  resume = assumption (
+    resume_bare,
+    resume_terms,
+    resume_no_walk,
+    resume_no_marks,
+    resume_nothing,
+    resume_waits,
+    resume_self_aborted,
+    resume_ended,
+    resume_alone,
+    h,
+  )
 
 -- 7. Takes and gives by a thread that isn't parked
 
 -- what a thread has out once an item went to a thread, or home, is that item, or was out before
 module _ (c : Config) (s : State) (t : ℕ) (p : is_parked (s.phase t) ≡ false) (h : Counted c s) where
   abbrev NothingOutIn : State → Type 0
-  NothingOutIn n = ParkedHasNothingOut s.phase n.turnstile_chain_with n.sleep_chain_with n.record_with n.cell_with n.graph_with
+  NothingOutIn n = ParkedHasNothingOut s.phase n.turnstile_chain_with n.sleep_chain_with n.record_with n.cell_with
+      n.graph_with
 
   taken_nothing : (i : Item) → MayTake c s t i → NothingOutIn (after_take s t i)
   unfolding ParkedHasNothingOut after_take
   taken_nothing i g u j q e = elim (beside s i (Some t) j) [
-    | inl x ↦ absurd (let z : is_parked (s.phase t) ≡ true = ap (λ k. is_parked (s.phase k)) (same_Some t u (its x)) ∙ q in let y : true ≡ false = sym z ∙ p in cc)
+    | inl x ↦ absurd (let z : is_parked (s.phase t) ≡ true = ap (λ k. is_parked (s.phase k)) (same_Some t u (its x))
+        ∙ q in let y : true ≡ false = sym z ∙ p in cc)
     | inr x ↦ h.parked_has_nothing_out u j q (sym x ∙ e)
   ]
     where
@@ -465,7 +556,8 @@ module _ (c : Config) (s : State) (t : ℕ) (p : is_parked (s.phase t) ≡ false
     | inr x ↦ h.parked_has_nothing_out u j q (sym x ∙ e)
   ]
 
-  take_next : (v : ℕ) → s.record_with v ≡ None → CountedInIsNextMarked s.counting s.marked (put s.record_with v (Some t))
+  take_next : (v : ℕ) → s.record_with v ≡ None
+      → CountedInIsNextMarked s.counting s.marked (put s.record_with v (Some t))
   unfolding CountedInIsNextMarked
   take_next v e u w f =
       let z = h.counted_in_is_next_marked u w f in
@@ -475,12 +567,14 @@ module _ (c : Config) (s : State) (t : ℕ) (p : is_parked (s.phase t) ≡ false
       ]
 
   -- the record of a thread that is counted in stays out until its mark
-  give_next : (v : ℕ) → s.record_with v ≡ Some t → (s.counting t ≡ Some v → ⊥) → CountedInIsNextMarked s.counting s.marked (put s.record_with v None)
+  give_next : (v : ℕ) → s.record_with v ≡ Some t → (s.counting t ≡ Some v → ⊥)
+      → CountedInIsNextMarked s.counting s.marked (put s.record_with v None)
   unfolding CountedInIsNextMarked
   give_next v e n u w f =
       let z = h.counted_in_is_next_marked u w f in
       elim (cases_eq v w) [
-        | inl x ↦ absurd (let y : Some t ≡ Some u = sym e ∙ ap s.record_with x ∙ z.2 in n (ap s.counting (same_Some t u y) ∙ f ∙ ap Some (sym x)))
+        | inl x ↦ absurd (let y : Some t ≡ Some u = sym e ∙ ap s.record_with x
+            ∙ z.2 in n (ap s.counting (same_Some t u y) ∙ f ∙ ap Some (sym x)))
         | inr x ↦ (z.0, z.1, put_other s.record_with v None w x ∙ z.2)
       ]
 
@@ -511,7 +605,8 @@ aborting_weight Aborting = refl
 aborting_weight SelfAborted = refl
 
 -- after an abort its thread neither rests nor is parked nor a finder
-aborts : (p : Phase) → found_nobody_awake p ≡ true → is_parked p ≡ false → (is_parked (phase_aborting p) ≡ false) × (is_at_rest (phase_aborting p) ≡ false) × (is_finder (phase_aborting p) ≡ false)
+aborts : (p : Phase) → found_nobody_awake p ≡ true → is_parked p ≡ false → (is_parked (phase_aborting p) ≡ false)
+    × (is_at_rest (phase_aborting p) ≡ false) × (is_finder (phase_aborting p) ≡ false)
 aborts Awake e p = absurd cc
 aborts Asleep e p = absurd cc
 aborts Last e p = absurd cc
@@ -527,7 +622,8 @@ still_self Halting e = absurd (let z = ap own_term e in omega arith)
 still_self Aborting e = e
 still_self SelfAborted e = refl
 
-module _ (c : Config) (s : State) (t : ℕ) (q : QueueName) (side : Side) (w : ℕ) (g : MayAbort c s t q side w) (h : Counted c s) where
+module _ (c : Config) (s : State) (t : ℕ) (q : QueueName) (side : Side) (w : ℕ) (g : MayAbort c s t q side w)
+    (h : Counted c s) where
   abbrev a : State
   a = after_abort s t q side w
 
@@ -547,11 +643,15 @@ module _ (c : Config) (s : State) (t : ℕ) (q : QueueName) (side : Side) (w : �
   unfolding after_abort RestingHasNoMarks
   abort_no_marks u = grind (arith, columns, h.resting_has_no_marks u, (aborts (s.phase t) g.found g.unparked).1)
 
-  abort_nothing : ParkedHasNothingOut a.phase a.turnstile_chain_with a.sleep_chain_with a.record_with a.cell_with a.graph_with
+  abort_nothing : ParkedHasNothingOut a.phase a.turnstile_chain_with a.sleep_chain_with a.record_with a.cell_with
+      a.graph_with
   unfolding after_abort ParkedHasNothingOut
   abort_nothing u j p = elim (cases_eq t u) [
-    | inl e ↦ absurd (let z = ap is_parked (sym (put_same s.phase t (phase_aborting (s.phase t))) ∙ ap (put s.phase t (phase_aborting (s.phase t))) e) in let y = (aborts (s.phase t) g.found g.unparked).0 in cc)
-    | inr e ↦ h.parked_has_nothing_out u j (ap is_parked (sym (put_other s.phase t (phase_aborting (s.phase t)) u e)) ∙ p)
+    | inl e ↦ absurd (let z = ap is_parked
+        (sym (put_same s.phase t (phase_aborting (s.phase t))) ∙ ap (put s.phase t (phase_aborting (s.phase t))) e) in
+        let y = (aborts (s.phase t) g.found g.unparked).0 in cc)
+    | inr e ↦ h.parked_has_nothing_out u j
+        (ap is_parked (sym (put_other s.phase t (phase_aborting (s.phase t)) u e)) ∙ p)
   ]
 
   abort_waits : RestingStands a.phase a.has_ended a.blocked_on a.wait
@@ -565,10 +665,24 @@ module _ (c : Config) (s : State) (t : ℕ) (q : QueueName) (side : Side) (w : �
   abort_alone : FinderIsAlone c a.phase a.wait a.counting
   unfolding after_abort FinderIsAlone
   abort_alone f u e lt = elim (cases_eq t f) [
-    | inl x ↦ absurd (let z = ap is_finder (sym (put_same s.phase t (phase_aborting (s.phase t))) ∙ ap (put s.phase t (phase_aborting (s.phase t))) x) ∙ e in let y = (aborts (s.phase t) g.found g.unparked).2 in cc)
-    | inr x ↦ absurd (x (sym (only_finder c s h f t (ap is_finder (sym (put_other s.phase t (phase_aborting (s.phase t)) f x)) ∙ e) g.thread g.unparked)))
+    | inl x ↦ absurd (let z = ap is_finder
+        (sym (put_same s.phase t (phase_aborting (s.phase t))) ∙ ap (put s.phase t (phase_aborting (s.phase t))) x)
+        ∙ e in let y = (aborts (s.phase t) g.found g.unparked).2 in cc)
+    | inr x ↦ absurd (x (sym
+        (only_finder c s h f t (ap is_finder (sym (put_other s.phase t (phase_aborting (s.phase t)) f x)) ∙ e) g.thread
+        g.unparked)))
   ]
 
   pub abort : Counted c a
   unfolding after_abort
-  abort = assumption (abort_terms, abort_next, abort_no_walk, abort_no_marks, abort_nothing, abort_waits, abort_self_aborted, abort_alone, h)
+  abort = assumption (
+    abort_terms,
+    abort_next,
+    abort_no_walk,
+    abort_no_marks,
+    abort_nothing,
+    abort_waits,
+    abort_self_aborted,
+    abort_alone,
+    h,
+  )

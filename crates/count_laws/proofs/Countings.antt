@@ -50,18 +50,21 @@ module _ (c : Config) (s : State) (h : Counted c s) where
   unfolding AwakeIsCounted TermsFitParking
   awake_sum =
       let a = sum_below-suc c.threads (times_counted_in c s.counted_in) in
-      let b = sum_below-same c.threads (λ t. suc (times_counted_in c s.counted_in t)) (λ t. s.counted_out t + term t) (λ t l. omega (arith, h.terms_fit_parking t)) in
+      let b = sum_below-same c.threads (λ t. suc (times_counted_in c s.counted_in t)) (λ t. s.counted_out t + term t)
+      (λ t l. omega (arith, h.terms_fit_parking t)) in
       let d = sum_below-add c.threads s.counted_out term in
       omega (arith, h.awake_is_counted)
 
   -- a thread that is not parked while there is a finder is the finder
   pub only_finder : (f t : ℕ) → is_finder (s.phase f) ≡ true → t < c.threads → is_parked (s.phase t) ≡ false → f ≡ t
   unfolding FinderIsAlone
-  only_finder f t e lt p = elim (cases_eq f t) [ inl i ↦ i | inr i ↦ absurd (let z = ap is_parked ((h.finder_is_alone f t e lt).1 i) in cc) ]
+  only_finder f t e lt p =
+      elim (cases_eq f t) [ inl i ↦ i | inr i ↦ absurd (let z = ap is_parked ((h.finder_is_alone f t e lt).1 i) in cc) ]
 
   -- so there is none while another thread acts
   pub no_finder : (t : ℕ) → t < c.threads → s.phase t ≡ Awake → (f : ℕ) → is_finder (s.phase f) ≡ true → ⊥
-  no_finder t lt p f e = let i = only_finder f t e lt (ap is_parked p) in let z : is_finder (s.phase t) ≡ true = rw (← i) e in let y = ap is_finder p in cc
+  no_finder t lt p f e = let i = only_finder f t e lt (ap is_parked p) in let z : is_finder (s.phase t) ≡ true =
+      rw (← i) e in let y = ap is_finder p in cc
 
 -- 2. Counting out
 
@@ -81,7 +84,8 @@ out_finder n e = go (eqb n 1) refl e
 out_unaborted : (n : ℕ) → phase_out n ≡ SelfAborted → ⊥
 out_unaborted n e = let z = ap is_parked e in let y = out_parked n in cc
 
-module _ (c : Config) (s : State) (t : ℕ) (g : MayCountOut c s t) (nothing_out : (i : Item) → item_with s i ≡ Some t → ⊥) (l : LawfulFloor c s) (h : Counted c s) where
+module _ (c : Config) (s : State) (t : ℕ) (g : MayCountOut c s t)
+    (nothing_out : (i : Item) → item_with s i ≡ Some t → ⊥) (l : LawfulFloor c s) (h : Counted c s) where
   abbrev n : State
   n = after_count_out s t
 
@@ -108,7 +112,8 @@ module _ (c : Config) (s : State) (t : ℕ) (g : MayCountOut c s t) (nothing_out
   unfolding after_count_out RestingHasNoMarks
   out_no_marks u = grind (arith, columns, h.resting_has_no_marks u, g.unmarked)
 
-  out_nothing : ParkedHasNothingOut n.phase n.turnstile_chain_with n.sleep_chain_with n.record_with n.cell_with n.graph_with
+  out_nothing : ParkedHasNothingOut n.phase n.turnstile_chain_with n.sleep_chain_with n.record_with n.cell_with
+      n.graph_with
   unfolding after_count_out ParkedHasNothingOut
   out_nothing u i p = elim (cases_eq t u) [
     | inl e ↦ λ x. nothing_out i (x ∙ ap Some (sym e))
@@ -136,7 +141,8 @@ module _ (c : Config) (s : State) (t : ℕ) (g : MayCountOut c s t) (nothing_out
   out_self_aborted u = grind (arith, columns, h.self_aborted_is_woken u, out_unaborted s.awake)
 
   -- where the last one counts itself out, no other is awake or about to be
-  others_rest : s.awake ≡ 1 → (u : ℕ) → u < c.threads → (wakes_under_way c s.wait s.counting u ≡ 0) × (t ≢ u → s.phase u ≡ Asleep)
+  others_rest : s.awake ≡ 1 → (u : ℕ) → u < c.threads → (wakes_under_way c s.wait s.counting u ≡ 0)
+      × (t ≢ u → s.phase u ≡ Asleep)
   unfolding FinderIsAlone SelfAbortedIsWoken wakes_under_way
   others_rest e u lt =
       elim (cases_eq t u) [
@@ -153,7 +159,9 @@ module _ (c : Config) (s : State) (t : ℕ) (g : MayCountOut c s t) (nothing_out
     where
       asleep : (p : Phase) → s.phase u ≡ p → own_term p ≡ 0 → wakes_under_way c s.wait s.counting u ≡ 0 → p ≡ Asleep
       asleep Asleep i w z = refl
-      asleep Last i w z = absurd (let x = only_finder c s h u t (ap is_finder i) g.thread g.unparked in let y : own_term (s.phase t) ≡ 0 = rw (← x) (ap own_term i) in omega (arith, own_term_of c s t g))
+      asleep Last i w z = absurd
+          (let x = only_finder c s h u t (ap is_finder i) g.thread g.unparked in
+          let y : own_term (s.phase t) ≡ 0 = rw (← x) (ap own_term i) in omega (arith, own_term_of c s t g))
       asleep SelfAborted i w z = absurd (let x = ap one (h.self_aborted_is_woken u i) in omega arith)
       asleep Awake i w z = absurd (omega arith)
       asleep Halting i w z = absurd (omega arith)
@@ -164,16 +172,20 @@ module _ (c : Config) (s : State) (t : ℕ) (g : MayCountOut c s t) (nothing_out
   out_alone f u e lt =
       elim (cases_eq t f) [
         | inl i ↦
-            let one_left : s.awake ≡ 1 = out_finder s.awake (ap is_finder (sym (put_same s.phase t (phase_out s.awake)) ∙ ap (put s.phase t (phase_out s.awake)) i) ∙ e) in
+            let one_left : s.awake ≡ 1 =
+            out_finder s.awake (ap is_finder
+            (sym (put_same s.phase t (phase_out s.awake)) ∙ ap (put s.phase t (phase_out s.awake)) i) ∙ e) in
             let r = others_rest one_left u lt in
             (r.0, λ ne. put_other s.phase t (phase_out s.awake) u (λ x. ne (sym i ∙ x)) ∙ r.1 (λ x. ne (sym i ∙ x)))
         | inr i ↦ absurd (
-            let x = only_finder c s h f t (ap is_finder (sym (put_other s.phase t (phase_out s.awake) f i)) ∙ e) g.thread g.unparked in i (sym x))
+            let x = only_finder c s h f t (ap is_finder (sym (put_other s.phase t (phase_out s.awake) f i)) ∙ e)
+            g.thread g.unparked in i (sym x))
       ]
 
   pub out_counted : Counted c n
   unfolding after_count_out
-  out_counted = assumption (out_awake, out_terms, out_no_walk, out_no_marks, out_nothing, out_waits, out_self_aborted, out_alone, h)
+  out_counted = assumption
+      (out_awake, out_terms, out_no_walk, out_no_marks, out_nothing, out_waits, out_self_aborted, out_alone, h)
 
 -- 3. Counting in
 
@@ -187,10 +199,18 @@ module _ (c : Config) (f : ℕ → ℕ → ℕ) (t u : ℕ) (lt : t < c.threads)
   unfolding times_counted_in
   same_of v ne = sum_below-put_beside c.threads (λ x. x) f t u (suc (f t u)) v ne
 
-  more_in_all : u < c.threads → sum_below c.threads (times_counted_in c (put_at f t u (suc (f t u)))) ≡ suc (sum_below c.threads (times_counted_in c f))
-  more_in_all l = omega (arith, more_of_it, sum_below-change c.threads (times_counted_in c (put_at f t u (suc (f t u)))) (times_counted_in c f) u l same_of)
+  more_in_all : u < c.threads
+      → sum_below c.threads (times_counted_in c (put_at f t u (suc (f t u)))) ≡ suc
+      (sum_below c.threads (times_counted_in c f))
+  more_in_all l = omega (
+    arith,
+    more_of_it,
+    sum_below-change c.threads (times_counted_in c (put_at f t u (suc (f t u))))
+        (times_counted_in c f) u l same_of,
+  )
 
-module _ (c : Config) (s : State) (t u : ℕ) (g : MayCountIn c s t u) (record_out : s.record_with u ≡ Some t) (l : Lawful c s) (h : Counted c s) where
+module _ (c : Config) (s : State) (t u : ℕ) (g : MayCountIn c s t u) (record_out : s.record_with u ≡ Some t)
+    (l : Lawful c s) (h : Counted c s) where
   abbrev i : State
   i = after_count_in s t u
 
@@ -211,18 +231,24 @@ module _ (c : Config) (s : State) (t u : ℕ) (g : MayCountIn c s t u) (record_o
       let a = sum_below-put c.threads (at_option v) s.counting t (Some u) g.thread in
       let b = ap (at_option v) g.once in
       elim (cases_eq u v) [
-        | inl e ↦ let z : one (eqb v u) ≡ 1 = ap one (eq-eqb v u (sym e)) in let y = subst (λ k. times_counted_in c (put_at s.counted_in t u (suc (s.counted_in t u))) k ≡ suc (times_counted_in c s.counted_in k)) e (more_of_it c s.counted_in t u g.thread) in omega (arith, h.terms_fit_parking v)
-        | inr e ↦ let z : one (eqb v u) ≡ 0 = ap one (ne_eqb v u (λ x. e (sym x))) in let y = same_of c s.counted_in t u g.thread v e in omega (arith, h.terms_fit_parking v)
+        | inl e ↦ let z : one (eqb v u) ≡ 1 = ap one (eq-eqb v u (sym e)) in let y =
+            subst (λ k. times_counted_in c (put_at s.counted_in t u (suc (s.counted_in t u))) k ≡ suc
+            (times_counted_in c s.counted_in k)) e (more_of_it c s.counted_in t u g.thread) in
+            omega (arith, h.terms_fit_parking v)
+        | inr e ↦ let z : one (eqb v u) ≡ 0 = ap one (ne_eqb v u (λ x. e (sym x))) in let y =
+            same_of c s.counted_in t u g.thread v e in omega (arith, h.terms_fit_parking v)
       ]
 
   in_next : CountedInIsNextMarked i.counting i.marked i.record_with
   unfolding after_count_in CountedInIsNextMarked
   in_next v w e = elim (cases_eq t v) [
-    | inl x ↦ let z : Some u ≡ Some w = sym (put_same s.counting t (Some u)) ∙ ap (put s.counting t (Some u)) x ∙ e in go w z v x
+    | inl x ↦ let z : Some u ≡ Some w = sym (put_same s.counting t (Some u)) ∙ ap (put s.counting t (Some u)) x
+        ∙ e in go w z v x
     | inr x ↦ h.counted_in_is_next_marked v w (sym (put_other s.counting t (Some u) v x) ∙ e)
   ]
     where
-      go : (w : ℕ) → ◌≡◌ {A = Option ℕ} (Some u) (Some w) → (v : ℕ) → t ≡ v → IsFirst w (s.marked v) × (v ≢ w) × (s.record_with w ≡ Some v)
+      go : (w : ℕ) → ◌≡◌ {A = Option ℕ} (Some u) (Some w) → (v : ℕ) → t ≡ v → IsFirst w (s.marked v) × (v ≢ w)
+          × (s.record_with w ≡ Some v)
       go w z v x = let y : u ≡ w = ap (number_or 0) z in rw (← y, ← x) (g.first, g.other, record_out)
         where
           number_or : ℕ → Option ℕ → ℕ
@@ -254,8 +280,10 @@ module _ (c : Config) (s : State) (t : ℕ) (g : MayCountSelfIn c s t) (h : Coun
   unfolding after_count_self_in TermsFitParking
   back_terms v =
       elim (cases_eq t v) [
-        | inl e ↦ rw (← e, put_same s.phase t Halting) (let x = ap own_term g.last in omega (arith, h.terms_fit_parking t, more_of_it c s.counted_in t t g.thread))
-        | inr e ↦ rw (put_other s.phase t Halting v e) (omega (arith, h.terms_fit_parking v, same_of c s.counted_in t t g.thread v e))
+        | inl e ↦ rw (← e, put_same s.phase t Halting)
+            (let x = ap own_term g.last in omega (arith, h.terms_fit_parking t, more_of_it c s.counted_in t t g.thread))
+        | inr e ↦ rw (put_other s.phase t Halting v e)
+            (omega (arith, h.terms_fit_parking v, same_of c s.counted_in t t g.thread v e))
       ]
 
   back_no_walk : ParkedHasNoWalk b.phase b.walk
@@ -266,7 +294,8 @@ module _ (c : Config) (s : State) (t : ℕ) (g : MayCountSelfIn c s t) (h : Coun
   unfolding after_count_self_in RestingHasNoMarks
   back_no_marks u = grind (arith, columns, h.resting_has_no_marks u, ap is_at_rest g.last)
 
-  back_nothing : ParkedHasNothingOut b.phase b.turnstile_chain_with b.sleep_chain_with b.record_with b.cell_with b.graph_with
+  back_nothing : ParkedHasNothingOut b.phase b.turnstile_chain_with b.sleep_chain_with b.record_with b.cell_with
+      b.graph_with
   unfolding after_count_self_in ParkedHasNothingOut
   back_nothing u j p = elim (cases_eq t u) [
     | inl e ↦ absurd (let z = ap is_parked (sym (put_same s.phase t Halting) ∙ ap (put s.phase t Halting) e) in cc)
@@ -287,12 +316,15 @@ module _ (c : Config) (s : State) (t : ℕ) (g : MayCountSelfIn c s t) (h : Coun
       let mine = h.finder_is_alone t u (ap is_finder g.last) lt in
       elim (cases_eq t f) [
         | inl x ↦ (mine.0, λ ne. put_other s.phase t Halting u (λ y. ne (sym x ∙ y)) ∙ mine.1 (λ y. ne (sym x ∙ y)))
-        | inr x ↦ absurd (let z = (h.finder_is_alone f t (ap is_finder (sym (put_other s.phase t Halting f x)) ∙ e) g.thread).1 (λ y. x (sym y)) in let w = ap is_finder (sym g.last ∙ z) in cc)
+        | inr x ↦ absurd (let
+            z = (h.finder_is_alone f t (ap is_finder (sym (put_other s.phase t Halting f x)) ∙ e) g.thread).1
+            (λ y. x (sym y)) in let w = ap is_finder (sym g.last ∙ z) in cc)
       ]
 
   pub back_counted : Counted c b
   unfolding after_count_self_in
-  back_counted = assumption (back_awake, back_terms, back_no_walk, back_no_marks, back_nothing, back_waits, back_self_aborted, back_alone, h)
+  back_counted = assumption
+      (back_awake, back_terms, back_no_walk, back_no_marks, back_nothing, back_waits, back_self_aborted, back_alone, h)
 
 -- 5. An end, and a halt
 

@@ -24,7 +24,8 @@ use Rattle.lock_laws.proofs.Kit.{columns, put_same, put_other, put_at_same, put_
 use Rattle.lock_laws.proofs.OwnEntries.{other_sections}
 
 -- a thread doesn't want what it holds
-pub unheld : (c : Config) (s : State) → Ordered c s → (t k : ℕ) (mode : Mode) → s.wanted t ≡ Some k → s.held t k ≡ Holds mode → ⊥
+pub unheld : (c : Config) (s : State) → Ordered c s → (t k : ℕ) (mode : Mode) → s.wanted t ≡ Some k
+    → s.held t k ≡ Holds mode → ⊥
 unfolding WantsAreOrdered HasNoCycle
 unheld c s o t k mode a b = o.no_cycle (c.class k) (edge (o.wants_are_ordered t k a k mode b))
 
@@ -35,18 +36,22 @@ module _ (c : Config) (s : State) (x : Explained c s) (t : ℕ) where
 
   -- 1. A gain by a thread that stands on no queue, and a release
 
-  pub gain_open : (l : ℕ) (h : Hold) → s.blocked_on t ≡ None → StandersAreOpen c s.blocked_on (put_at s.held t l h) s.history
+  pub gain_open : (l : ℕ) (h : Hold) → s.blocked_on t ≡ None
+      → StandersAreOpen c s.blocked_on (put_at s.held t l h) s.history
   unfolding StandersAreOpen
   gain_open l h n u q e k m f = x.standers_are_open u q e k m (sym (put_at_other s.held t l h u k (apart n u q e)) ∙ f)
 
-  pub gain_released : (l : ℕ) (h : Hold) → s.blocked_on t ≡ None → RestingHasReleased c s.phase s.blocked_on (put_at s.held t l h)
+  pub gain_released : (l : ℕ) (h : Hold) → s.blocked_on t ≡ None
+      → RestingHasReleased c s.phase s.blocked_on (put_at s.held t l h)
   unfolding RestingHasReleased
-  gain_released l h n u d p e = put_at_other s.held t l h u (c.chan_lock d) (apart n u (chan_queue d) e) ∙ x.resting_has_released u d p e
+  gain_released l h n u d p e = put_at_other s.held t l h u (c.chan_lock d) (apart n u (chan_queue d) e)
+      ∙ x.resting_has_released u d p e
 
   was_held : (l u k : ℕ) (m : Mode) → put_at s.held t l NotHeld u k ≡ Holds m → s.held u k ≡ Holds m
   was_held l u k m e = elim (cases_eq t u) [
     | inl i ↦ elim (cases_eq l k) [
-      | inl j ↦ absurd (let z : NotHeld ≡ Holds m = sym (put_at_same s.held t l NotHeld) ∙ (λ v. put_at s.held t l NotHeld (i v) (j v)) ∙ e in cc)
+      | inl j ↦ absurd (let z : NotHeld ≡ Holds m = sym (put_at_same s.held t l NotHeld)
+          ∙ (λ v. put_at s.held t l NotHeld (i v) (j v)) ∙ e in cc)
       | inr j ↦ sym (put_at_beside s.held t l NotHeld u k j) ∙ e
     ]
     | inr i ↦ sym (put_at_other s.held t l NotHeld u k i) ∙ e
@@ -62,7 +67,8 @@ module _ (c : Config) (s : State) (x : Explained c s) (t : ℕ) where
     where
       go : (h : Hold) → put_at s.held t l NotHeld u (c.chan_lock d) ≡ h → h ≡ NotHeld
       go NotHeld i = refl
-      go (Holds m) i = absurd (let z : NotHeld ≡ Holds m = sym (x.resting_has_released u d p e) ∙ was_held l u (c.chan_lock d) m i in cc)
+      go (Holds m) i = absurd
+          (let z : NotHeld ≡ Holds m = sym (x.resting_has_released u d p e) ∙ was_held l u (c.chan_lock d) m i in cc)
 
   pub gain_taken : WantedIsTaken (put s.wanted t None) s.taking
   unfolding WantedIsTaken
@@ -74,7 +80,8 @@ module _ (c : Config) (s : State) (x : Explained c s) (t : ℕ) where
 
   -- 2. An entry: the thread stands on no queue
 
-  pub stamp_open : (e : Event) → s.blocked_on t ≡ None → StandersAreOpen c s.blocked_on s.held (entry_of s t e ∷ s.history)
+  pub stamp_open : (e : Event) → s.blocked_on t ≡ None
+      → StandersAreOpen c s.blocked_on s.held (entry_of s t e ∷ s.history)
   unfolding StandersAreOpen after_stamp
   stamp_open e n u q f k m g =
       let ne = apart n u q f in
@@ -82,7 +89,8 @@ module _ (c : Config) (s : State) (x : Explained c s) (t : ℕ) where
       λ away. same ∙ x.standers_are_open u q f k m g away
 
   -- one that ends a take is of a lock that isn't wanted
-  ended_unwanted : (o : Ordered c s) (e : Event) → MayStamp c s t e → EndsItsTake c s t e → (k : ℕ) → s.wanted t ≡ Some k
+  ended_unwanted : (o : Ordered c s) (e : Event) → MayStamp c s t e → EndsItsTake c s t e → (k : ℕ)
+      → s.wanted t ≡ Some k
       → taking_after e (s.taking t) ≡ Some k
   unfolding WantedIsTaken HaltedWantNothing
   ended_unwanted o (Locked l mode) g i k w =
@@ -106,7 +114,8 @@ module _ (c : Config) (s : State) (x : Explained c s) (t : ℕ) where
       → WantedIsTaken s.wanted (put s.taking t (taking_after e (s.taking t)))
   unfolding WantedIsTaken
   stamp_taken o e g i u k w = elim (cases_eq t u) [
-    | inl j ↦ ap (put s.taking t (taking_after e (s.taking t))) (sym j) ∙ put_same s.taking t (taking_after e (s.taking t)) ∙ ended_unwanted o e g i k (ap s.wanted j ∙ w)
+    | inl j ↦ ap (put s.taking t (taking_after e (s.taking t))) (sym j)
+        ∙ put_same s.taking t (taking_after e (s.taking t)) ∙ ended_unwanted o e g i k (ap s.wanted j ∙ w)
     | inr j ↦ put_other s.taking t (taking_after e (s.taking t)) u j ∙ x.wanted_is_taken u k w
   ]
 
@@ -117,7 +126,8 @@ module _ (c : Config) (s : State) (x : Explained c s) (t : ℕ) where
   ended_or_none (HaltedChan d) o i = refl
   ended_or_none other o i = i
 
-  pub stamp_sleepers : (e : Event) → SleepersTakeNothing s.blocked_on s.wait (put s.taking t (taking_after e (s.taking t)))
+  pub stamp_sleepers : (e : Event)
+      → SleepersTakeNothing s.blocked_on s.wait (put s.taking t (taking_after e (s.taking t)))
   unfolding SleepersTakeNothing
   stamp_sleepers e u d y = grind (arith, columns, x.sleepers_take_nothing u d y, ended_or_none e (s.taking t))
 
@@ -143,10 +153,12 @@ module _ (c : Config) (s : State) (x : Explained c s) (t : ℕ) where
   pub all_open : (l : ℕ) → AllOpen c s t → StandersAreOpen c (put s.blocked_on t (Some (lock_queue l))) s.held s.history
   all_open l o = stand_open (lock_queue l) (λ k m f away. o k m f)
 
-  pub others_open : (d : ℕ) → OthersOpen c s t (c.chan_lock d) → StandersAreOpen c (put s.blocked_on t (Some (chan_queue d))) s.held s.history
+  pub others_open : (d : ℕ) → OthersOpen c s t (c.chan_lock d)
+      → StandersAreOpen c (put s.blocked_on t (Some (chan_queue d))) s.held s.history
   others_open d o = stand_open (chan_queue d) o
 
-  pub stand_released : (q : QueueName) → s.phase t ≡ Awake → RestingHasReleased c s.phase (put s.blocked_on t (Some q)) s.held
+  pub stand_released : (q : QueueName) → s.phase t ≡ Awake
+      → RestingHasReleased c s.phase (put s.blocked_on t (Some q)) s.held
   unfolding RestingHasReleased
   stand_released q a u d p e = elim (cases_eq t u) [
     | inl i ↦ absurd (let z : false ≡ true = ap is_at_rest (sym a) ∙ ap (λ v. is_at_rest (s.phase v)) i ∙ p in cc)
@@ -162,14 +174,16 @@ module _ (c : Config) (s : State) (x : Explained c s) (t : ℕ) where
   enter_sleepers l u d (inl e) = x.sleepers_take_nothing u d (inl (grind (arith, columns, e)))
   enter_sleepers l u d (inr y) = x.sleepers_take_nothing u d (inr y)
 
-  pub enter_halted : (l : ℕ) → s.wanted t ≡ Some l → HaltedWantNothing s.noted (put s.wanted t (Some l)) (put s.blocked_on t (Some (lock_queue l))) s.wait
+  pub enter_halted : (l : ℕ) → s.wanted t ≡ Some l
+      → HaltedWantNothing s.noted (put s.wanted t (Some l)) (put s.blocked_on t (Some (lock_queue l))) s.wait
   unfolding HaltedWantNothing
   enter_halted l w u k e =
       let z = x.halted_want_nothing u k e in
       let ne : t ≡ u → ⊥ = λ i. (let y : Some l ≡ None = sym w ∙ ap s.wanted i ∙ z.0 in cc) in
       (put_other s.wanted t (Some l) u ne ∙ z.0, put_other s.blocked_on t (Some (lock_queue l)) u ne ∙ z.1, z.2)
 
-  pub add_sleepers : (d : ℕ) → s.taking t ≡ None → SleepersTakeNothing (put s.blocked_on t (Some (chan_queue d))) s.wait s.taking
+  pub add_sleepers : (d : ℕ) → s.taking t ≡ None
+      → SleepersTakeNothing (put s.blocked_on t (Some (chan_queue d))) s.wait s.taking
   unfolding SleepersTakeNothing
   add_sleepers d n u k (inl e) = elim (cases_eq t u) [
     | inl i ↦ ap s.taking (sym i) ∙ n
@@ -177,7 +191,8 @@ module _ (c : Config) (s : State) (x : Explained c s) (t : ℕ) where
   ]
   add_sleepers d n u k (inr y) = x.sleepers_take_nothing u k (inr y)
 
-  pub add_halted : (d : ℕ) → s.noted t ≡ None → HaltedWantNothing s.noted s.wanted (put s.blocked_on t (Some (chan_queue d))) s.wait
+  pub add_halted : (d : ℕ) → s.noted t ≡ None
+      → HaltedWantNothing s.noted s.wanted (put s.blocked_on t (Some (chan_queue d))) s.wait
   unfolding HaltedWantNothing
   add_halted d n u k e =
       let z = x.halted_want_nothing u k e in
@@ -191,21 +206,26 @@ module _ (c : Config) (s : State) (x : Explained c s) (t : ℕ) where
   from_same false None l o k e = absurd cc
   from_same false (Some j) l o k e = refl
 
-  pub seek_taken : (by_try : Bool) (l : ℕ) → WantedIsTaken s.wanted (put s.taking t (taking_from by_try (s.wanted t) l (s.taking t)))
+  pub seek_taken : (by_try : Bool) (l : ℕ)
+      → WantedIsTaken s.wanted (put s.taking t (taking_from by_try (s.wanted t) l (s.taking t)))
   unfolding WantedIsTaken
   seek_taken by_try l u k w = elim (cases_eq t u) [
     | inl i ↦
         let new = taking_from by_try (s.wanted t) l (s.taking t) in
-        ap (put s.taking t new) (sym i) ∙ put_same s.taking t new ∙ from_same by_try (s.wanted t) l (s.taking t) k (ap s.wanted i ∙ w) ∙ ap s.taking i ∙ x.wanted_is_taken u k w
+        ap (put s.taking t new) (sym i) ∙ put_same s.taking t new
+        ∙ from_same by_try (s.wanted t) l (s.taking t) k (ap s.wanted i ∙ w) ∙ ap s.taking i
+        ∙ x.wanted_is_taken u k w
     | inr i ↦ put_other s.taking t _ u i ∙ x.wanted_is_taken u k w
   ]
 
   -- the taking of a thread that neither stands on a queue nor is woken
-  pub acting_sleepers : (o : Option ℕ) → s.blocked_on t ≡ None → is_woken (s.wait t) ≡ false → SleepersTakeNothing s.blocked_on s.wait (put s.taking t o)
+  pub acting_sleepers : (o : Option ℕ) → s.blocked_on t ≡ None → is_woken (s.wait t) ≡ false
+      → SleepersTakeNothing s.blocked_on s.wait (put s.taking t o)
   unfolding SleepersTakeNothing
   acting_sleepers o n w u d y = put_other s.taking t o u (ne y) ∙ x.sleepers_take_nothing u d y
     where
-      ne : (s.blocked_on u ≡ Some (chan_queue d)) ⊎ ((cause : Cause) × (s.wait u ≡ Woken (chan_queue d) cause)) → t ≡ u → ⊥
+      ne : (s.blocked_on u ≡ Some (chan_queue d)) ⊎ ((cause : Cause) × (s.wait u ≡ Woken (chan_queue d) cause)) → t ≡ u
+          → ⊥
       ne (inl e) i = apart n u (chan_queue d) e i
       ne (inr e) i = let z : false ≡ true = sym w ∙ ap (λ v. is_woken (s.wait v)) i ∙ ap is_woken e.1 in cc
 
@@ -213,14 +233,16 @@ module _ (c : Config) (s : State) (x : Explained c s) (t : ℕ) where
   unfolding WantedIsTaken
   admit_taken l u k = grind (arith, columns, x.wanted_is_taken u k)
 
-  pub admit_halted : (l : ℕ) → s.noted t ≡ None → HaltedWantNothing s.noted (put s.wanted t (Some l)) s.blocked_on s.wait
+  pub admit_halted : (l : ℕ) → s.noted t ≡ None
+      → HaltedWantNothing s.noted (put s.wanted t (Some l)) s.blocked_on s.wait
   unfolding HaltedWantNothing
   admit_halted l n u k e =
       let z = x.halted_want_nothing u k e in
       let ne : t ≡ u → ⊥ = λ i. (let y : None ≡ Some (SleepHalted (lock_queue k)) = sym n ∙ ap s.noted i ∙ e in cc) in
       (put_other s.wanted t (Some l) u ne ∙ z.0, z.1, z.2)
 
-  pub refuse_halted : (l j : ℕ) → HaltedWantNothing (put s.noted t (Some (OrderRefused l j))) s.wanted s.blocked_on s.wait
+  pub refuse_halted : (l j : ℕ)
+      → HaltedWantNothing (put s.noted t (Some (OrderRefused l j))) s.wanted s.blocked_on s.wait
   unfolding HaltedWantNothing
   refuse_halted l j u k e = x.halted_want_nothing u k (grind (arith, columns, e))
 
@@ -228,7 +250,8 @@ module _ (c : Config) (s : State) (x : Explained c s) (t : ℕ) where
   unfolding SleepersTakeNothing
   wait_sleepers w n u d (inl e) = x.sleepers_take_nothing u d (inl e)
   wait_sleepers w n u d (inr y) = elim (cases_eq t u) [
-    | inl i ↦ absurd (let z : false ≡ true = sym n ∙ ap is_woken (sym (put_same s.wait t w) ∙ ap (put s.wait t w) i ∙ y.1) in cc)
+    | inl i ↦ absurd (let z : false ≡ true = sym n
+        ∙ ap is_woken (sym (put_same s.wait t w) ∙ ap (put s.wait t w) i ∙ y.1) in cc)
     | inr i ↦ x.sleepers_take_nothing u d (inr (y.0, sym (put_other s.wait t w u i) ∙ y.1))
   ]
 
@@ -246,55 +269,69 @@ module _ (c : Config) (s : State) (x : Explained c s) (t : ℕ) where
 
 -- 5. A mark
 
-module _ (c : Config) (s : State) (x : Explained c s) (t : ℕ) (m : Mark) (stood : s.blocked_on m.thread ≡ Some m.queue) where
-  abbrev blocked_on : ℕ → Option QueueName
-  blocked_on = put s.blocked_on m.thread None
+module _ (c : Config) (s : State) (x : Explained c s) (t : ℕ) (m : Mark) (stood : s.blocked_on m.thread ≡ Some m.queue)
+  where
+    abbrev blocked_on : ℕ → Option QueueName
+    blocked_on = put s.blocked_on m.thread None
 
-  abbrev wait : ℕ → Wait
-  wait = put s.wait m.thread (Woken m.queue m.cause)
+    abbrev wait : ℕ → Wait
+    wait = put s.wait m.thread (Woken m.queue m.cause)
 
-  still : (u : ℕ) (q : QueueName) → blocked_on u ≡ Some q → s.blocked_on u ≡ Some q
-  still u q = grind (arith, columns)
+    still : (u : ℕ) (q : QueueName) → blocked_on u ≡ Some q → s.blocked_on u ≡ Some q
+    still u q = grind (arith, columns)
 
-  pub mark_open : StandersAreOpen c blocked_on s.held s.history
-  unfolding StandersAreOpen
-  mark_open u q e = x.standers_are_open u q (still u q e)
+    pub mark_open : StandersAreOpen c blocked_on s.held s.history
+    unfolding StandersAreOpen
+    mark_open u q e = x.standers_are_open u q (still u q e)
 
-  rested : (u : ℕ) → is_at_rest (put s.phase t (phase_marked t m.thread (s.phase t)) u) ≡ true → is_at_rest (s.phase u) ≡ true
-  rested u p = elim (cases_eq t u) [
-    | inl i ↦ ap (λ v. is_at_rest (s.phase v)) (sym i) ∙ by_self (eqb t m.thread) (ap is_at_rest (sym (put_same s.phase t (phase_marked t m.thread (s.phase t))) ∙ ap (put s.phase t (phase_marked t m.thread (s.phase t))) i) ∙ p)
-    | inr i ↦ ap is_at_rest (sym (put_other s.phase t (phase_marked t m.thread (s.phase t)) u i)) ∙ p
-  ]
-    where
-      by_self : (b : Bool) → is_at_rest (cond b SelfAborted (s.phase t)) ≡ true → is_at_rest (s.phase t) ≡ true
-      by_self true i = absurd cc
-      by_self false i = i
+    rested : (u : ℕ) → is_at_rest (put s.phase t (phase_marked t m.thread (s.phase t)) u) ≡ true
+        → is_at_rest (s.phase u) ≡ true
+    rested u p = elim (cases_eq t u) [
+      | inl i ↦ ap (λ v. is_at_rest (s.phase v)) (sym i)
+          ∙ by_self (eqb t m.thread)
+          (ap is_at_rest (sym (put_same s.phase t (phase_marked t m.thread (s.phase t)))
+          ∙ ap (put s.phase t (phase_marked t m.thread (s.phase t))) i) ∙ p)
+      | inr i ↦ ap is_at_rest (sym (put_other s.phase t (phase_marked t m.thread (s.phase t)) u i)) ∙ p
+    ]
+      where
+        by_self : (b : Bool) → is_at_rest (cond b SelfAborted (s.phase t)) ≡ true → is_at_rest (s.phase t) ≡ true
+        by_self true i = absurd cc
+        by_self false i = i
 
-  pub mark_released : RestingHasReleased c (put s.phase t (phase_marked t m.thread (s.phase t))) blocked_on s.held
-  unfolding RestingHasReleased
-  mark_released u d p e = x.resting_has_released u d (rested u p) (still u (chan_queue d) e)
+    pub mark_released : RestingHasReleased c (put s.phase t (phase_marked t m.thread (s.phase t))) blocked_on s.held
+    unfolding RestingHasReleased
+    mark_released u d p e = x.resting_has_released u d (rested u p) (still u (chan_queue d) e)
 
-  pub mark_sleepers : SleepersTakeNothing blocked_on wait s.taking
-  unfolding SleepersTakeNothing
-  mark_sleepers u d (inl e) = x.sleepers_take_nothing u d (inl (still u (chan_queue d) e))
-  mark_sleepers u d (inr y) = elim (cases_eq m.thread u) [
-    | inl i ↦
-        let z : Woken m.queue m.cause ≡ Woken (chan_queue d) y.0 = sym (put_same s.wait m.thread (Woken m.queue m.cause)) ∙ ap wait i ∙ y.1 in
-        let q : m.queue ≡ chan_queue d = cc in
-        x.sleepers_take_nothing u d (inl (ap s.blocked_on (sym i) ∙ stood ∙ ap Some q))
-    | inr i ↦ x.sleepers_take_nothing u d (inr (y.0, sym (put_other s.wait m.thread (Woken m.queue m.cause) u i) ∙ y.1))
-  ]
+    pub mark_sleepers : SleepersTakeNothing blocked_on wait s.taking
+    unfolding SleepersTakeNothing
+    mark_sleepers u d (inl e) = x.sleepers_take_nothing u d (inl (still u (chan_queue d) e))
+    mark_sleepers u d (inr y) = elim (cases_eq m.thread u) [
+      | inl i ↦
+          let z : Woken m.queue m.cause ≡ Woken (chan_queue d) y.0 =
+          sym (put_same s.wait m.thread (Woken m.queue m.cause)) ∙ ap wait i ∙ y.1 in
+          let q : m.queue ≡ chan_queue d = cc in
+          x.sleepers_take_nothing u d (inl (ap s.blocked_on (sym i) ∙ stood ∙ ap Some q))
+      | inr i ↦ x.sleepers_take_nothing u d (inr (
+        y.0,
+        sym (put_other s.wait m.thread (Woken m.queue m.cause) u i) ∙ y.1,
+      ))
+    ]
 
-  pub mark_halted : HaltedWantNothing s.noted s.wanted blocked_on wait
-  unfolding HaltedWantNothing
-  mark_halted u k e =
-      let z = x.halted_want_nothing u k e in
-      let ne : m.thread ≡ u → ⊥ = λ i. (let y : Some m.queue ≡ None = sym stood ∙ ap s.blocked_on i ∙ z.1 in cc) in
-      (z.0, put_other s.blocked_on m.thread None u ne ∙ z.1, ap is_woken (put_other s.wait m.thread (Woken m.queue m.cause) u ne) ∙ z.2)
+    pub mark_halted : HaltedWantNothing s.noted s.wanted blocked_on wait
+    unfolding HaltedWantNothing
+    mark_halted u k e =
+        let z = x.halted_want_nothing u k e in
+        let ne : m.thread ≡ u → ⊥ = λ i. (let y : Some m.queue ≡ None = sym stood ∙ ap s.blocked_on i ∙ z.1 in cc) in (
+          z.0,
+          put_other s.blocked_on m.thread None u ne
+              ∙ z.1,
+          ap is_woken (put_other s.wait m.thread (Woken m.queue m.cause) u ne) ∙ z.2,
+        )
 
 -- 6. A resume
 
-module _ (c : Config) (s : State) (x : Explained c s) (t : ℕ) (q : QueueName) (cause : Cause) (g : MayResume c s t q cause)
+module _ (c : Config) (s : State) (x : Explained c s) (t : ℕ) (q : QueueName) (cause : Cause)
+    (g : MayResume c s t q cause)
     (unnamed : (r : QueueName) → s.blocked_on t ≡ Some r → ⊥) where
   abbrev back : Bool
   back = is_taking_back (s.log t)
@@ -312,10 +349,12 @@ module _ (c : Config) (s : State) (x : Explained c s) (t : ℕ) (q : QueueName) 
       go None i = refl
       go (Some r) i = absurd (unnamed r i)
 
-  takes : (q : QueueName) (cause : Cause) (k : ℕ) → wanted_after c q cause back (s.wanted t) ≡ Some k → taking_by c q (s.taking t) ≡ Some k
+  takes : (q : QueueName) (cause : Cause) (k : ℕ) → wanted_after c q cause back (s.wanted t) ≡ Some k
+      → taking_by c q (s.taking t) ≡ Some k
   unfolding WantedIsTaken
   takes (Lock l) BySignal k e = x.wanted_is_taken t k e
-  takes (Chan d) cause k e = e
+  takes (Chan d) BySignal k e = e
+  takes (Chan d) ByAbort k e = e
   takes (Lock l) ByAbort k e = by_back back e
     where
       by_back : (b : Bool) → cond b (s.wanted t) None ≡ Some k → s.taking t ≡ Some k
@@ -325,7 +364,8 @@ module _ (c : Config) (s : State) (x : Explained c s) (t : ℕ) (q : QueueName) 
   pub resume_taken : WantedIsTaken wanted taking
   unfolding WantedIsTaken
   resume_taken u k e = elim (cases_eq t u) [
-    | inl i ↦ ap taking (sym i) ∙ put_same s.taking t _ ∙ takes q cause k (sym (put_same s.wanted t _) ∙ ap wanted i ∙ e)
+    | inl i ↦ ap taking (sym i) ∙ put_same s.taking t _
+        ∙ takes q cause k (sym (put_same s.wanted t _) ∙ ap wanted i ∙ e)
     | inr i ↦ put_other s.taking t _ u i ∙ x.wanted_is_taken u k (sym (put_other s.wanted t _ u i) ∙ e)
   ]
 
@@ -336,11 +376,14 @@ module _ (c : Config) (s : State) (x : Explained c s) (t : ℕ) (q : QueueName) 
     | inr i ↦ put_other s.taking t _ u i ∙ x.sleepers_take_nothing u d (theirs y i)
   ]
     where
-      mine : (s.blocked_on u ≡ Some (chan_queue d)) ⊎ ((cause : Cause) × (put s.wait t Running u ≡ Woken (chan_queue d) cause)) → t ≡ u → ⊥
+      mine : (s.blocked_on u ≡ Some (chan_queue d)) ⊎
+          ((cause : Cause) × (put s.wait t Running u ≡ Woken (chan_queue d) cause)) → t ≡ u → ⊥
       mine (inl e) i = unnamed (chan_queue d) (ap s.blocked_on i ∙ e)
-      mine (inr e) i = let z : Running ≡ Woken (chan_queue d) e.0 = sym (put_same s.wait t Running) ∙ ap (put s.wait t Running) i ∙ e.1 in cc
+      mine (inr e) i = let z : Running ≡ Woken (chan_queue d) e.0 = sym (put_same s.wait t Running)
+          ∙ ap (put s.wait t Running) i ∙ e.1 in cc
 
-      theirs : (s.blocked_on u ≡ Some (chan_queue d)) ⊎ ((cause : Cause) × (put s.wait t Running u ≡ Woken (chan_queue d) cause)) → (t ≡ u → ⊥)
+      theirs : (s.blocked_on u ≡ Some (chan_queue d)) ⊎
+          ((cause : Cause) × (put s.wait t Running u ≡ Woken (chan_queue d) cause)) → (t ≡ u → ⊥)
           → (s.blocked_on u ≡ Some (chan_queue d)) ⊎ ((cause : Cause) × (s.wait u ≡ Woken (chan_queue d) cause))
       theirs (inl e) i = inl e
       theirs (inr e) i = inr (e.0, sym (put_other s.wait t Running u i) ∙ e.1)
@@ -350,23 +393,30 @@ module _ (c : Config) (s : State) (x : Explained c s) (t : ℕ) (q : QueueName) 
   unfolding SleepersTakeNothing
   took_nothing d i = x.sleepers_take_nothing t d (inr (cause, g.woken ∙ ap (λ y. Woken y cause) i))
 
-  wants_none : (q : QueueName) (cause : Cause) (k : ℕ) → s.wait t ≡ Woken q cause → noted_after q cause back (s.noted t) ≡ Some (SleepHalted (lock_queue k))
+  wants_none : (q : QueueName) (cause : Cause) (k : ℕ) → s.wait t ≡ Woken q cause
+      → noted_after q cause back (s.noted t) ≡ Some (SleepHalted (lock_queue k))
       → wanted_after c q cause back (s.wanted t) ≡ None
   unfolding HaltedWantNothing
-  wants_none (Lock l) BySignal k w e = absurd (let z : true ≡ false = ap is_woken (sym w) ∙ (x.halted_want_nothing t k e).2 in cc)
-  wants_none (Chan d) BySignal k w e = absurd (let z : true ≡ false = ap is_woken (sym w) ∙ (x.halted_want_nothing t k e).2 in cc)
+  wants_none (Lock l) BySignal k w e =
+      absurd (let z : true ≡ false = ap is_woken (sym w) ∙ (x.halted_want_nothing t k e).2 in cc)
+  wants_none (Chan d) BySignal k w e =
+      absurd (let z : true ≡ false = ap is_woken (sym w) ∙ (x.halted_want_nothing t k e).2 in cc)
   wants_none (Chan d) ByAbort k w e = absurd cc
   wants_none (Lock l) ByAbort k w e = by_back back e
     where
-      by_back : (b : Bool) → cond b (s.noted t) (Some (SleepHalted (Lock l))) ≡ Some (SleepHalted (lock_queue k)) → cond b (s.wanted t) None ≡ None
+      by_back : (b : Bool) → cond b (s.noted t) (Some (SleepHalted (Lock l))) ≡ Some (SleepHalted (lock_queue k))
+          → cond b (s.wanted t) None ≡ None
       by_back true i = absurd (let z : true ≡ false = ap is_woken (sym w) ∙ (x.halted_want_nothing t k i).2 in cc)
       by_back false i = refl
 
-  pub resume_halted : HaltedWantNothing (put s.noted t (noted_after q cause back (s.noted t))) wanted s.blocked_on (put s.wait t Running)
+  pub resume_halted : HaltedWantNothing (put s.noted t (noted_after q cause back (s.noted t))) wanted s.blocked_on
+      (put s.wait t Running)
   unfolding HaltedWantNothing
   resume_halted u k e = elim (cases_eq t u) [
     | inl i ↦ (
-      ap wanted (sym i) ∙ put_same s.wanted t _ ∙ wants_none q cause k g.woken (sym (put_same s.noted t _) ∙ ap (put s.noted t (noted_after q cause back (s.noted t))) i ∙ e),
+      ap wanted (sym i) ∙ put_same s.wanted t _
+          ∙ wants_none q cause k g.woken
+          (sym (put_same s.noted t _) ∙ ap (put s.noted t (noted_after q cause back (s.noted t))) i ∙ e),
       ap s.blocked_on (sym i) ∙ nowhere,
       ap (λ v. is_woken (put s.wait t Running v)) (sym i) ∙ ap is_woken (put_same s.wait t Running),
     )
@@ -379,15 +429,19 @@ module _ (c : Config) (s : State) (x : Explained c s) (t : ℕ) (q : QueueName) 
 
 module _ (c : Config) (s : State) (x : Explained c s) (t : ℕ) where
   -- one that rests no more than before
-  pub rests_less : (p : Phase) → (is_at_rest p ≡ true → is_at_rest (s.phase t) ≡ true) → RestingHasReleased c (put s.phase t p) s.blocked_on s.held
+  pub rests_less : (p : Phase) → (is_at_rest p ≡ true → is_at_rest (s.phase t) ≡ true)
+      → RestingHasReleased c (put s.phase t p) s.blocked_on s.held
   unfolding RestingHasReleased
   rests_less p f u d i e = elim (cases_eq t u) [
-    | inl j ↦ x.resting_has_released u d (ap (λ v. is_at_rest (s.phase v)) (sym j) ∙ f (ap is_at_rest (sym (put_same s.phase t p) ∙ ap (put s.phase t p) j) ∙ i)) e
+    | inl j ↦ x.resting_has_released u d
+        (ap (λ v. is_at_rest (s.phase v)) (sym j)
+        ∙ f (ap is_at_rest (sym (put_same s.phase t p) ∙ ap (put s.phase t p) j) ∙ i)) e
     | inr j ↦ x.resting_has_released u d (ap is_at_rest (sym (put_other s.phase t p u j)) ∙ i) e
   ]
 
   -- a counting out asks that the lock of the wait is released
-  pub out_released : ((q : QueueName) → s.blocked_on t ≡ Some q → HasReleased c s t q) → RestingHasReleased c (put s.phase t (phase_out s.awake)) s.blocked_on s.held
+  pub out_released : ((q : QueueName) → s.blocked_on t ≡ Some q → HasReleased c s t q)
+      → RestingHasReleased c (put s.phase t (phase_out s.awake)) s.blocked_on s.held
   unfolding RestingHasReleased
   out_released r u d i e = elim (cases_eq t u) [
     | inl j ↦ subst (λ v. s.held v (c.chan_lock d) ≡ NotHeld) j (r (chan_queue d) (ap s.blocked_on j ∙ e))

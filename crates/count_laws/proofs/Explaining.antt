@@ -51,19 +51,37 @@ module _ {at_work : ℕ → Option ℕ} (c : Config) (s : State) (w : LawfulFloo
   resume_waits t (Lock j) f past z = z
   resume_waits t (Chan d) f past z = causes.none_waits c s x t (s.taking t) (Some (c.chan_lock d.0)) (f d.0 refl) past z
 
-  pub keeps : (chains : ℕ) (step : Step) → FitsFloor chains c s step → KeepsToOrder c s step → Explained c (after c s step)
-  unfolding after_seek after_look after_gain after_drop after_stamp after_ready after_unready after_enter after_open after_mark after_resume after_enter_sleep after_open_sleep after_add after_wake after_claim after_lend after_shift after_end_walk after_admit after_refuse after_take after_give after_count_out after_count_in after_count_self_in after_count_end after_halt after_abort
+  pub keeps : (chains : ℕ) (step : Step) → FitsFloor chains c s step → KeepsToOrder c s step
+      → Explained c (after c s step)
+  unfolding after_seek after_look after_gain after_drop after_stamp after_ready after_unready after_enter after_open
+      after_mark after_resume after_enter_sleep after_open_sleep after_add after_wake after_claim after_lend after_shift
+      after_end_walk after_admit after_refuse after_take after_give after_count_out after_count_in after_count_self_in
+      after_count_end after_halt after_abort
   keeps chains (Seeks t j by_try) f k =
       let a = facts.seek_taken c s x t by_try j in
-      let b = facts.acting_sleepers c s x t (taking_from by_try (s.wanted t) j (s.taking t)) f.may.acting.unnamed f.may.acting.unwoken in
-      let d = causes.causes_taking c s x t (taking_from by_try (s.wanted t) j (s.taking t)) (causes.seek_waits c s x t by_try (s.wanted t) j (s.taking t) f.has_seen) in
+      let b = facts.acting_sleepers c s x t (taking_from by_try (s.wanted t) j (s.taking t)) f.may.acting.unnamed
+      f.may.acting.unwoken in
+      let d = causes.causes_taking c s x t (taking_from by_try (s.wanted t) j (s.taking t))
+      (causes.seek_waits c s x t by_try (s.wanted t) j (s.taking t) f.has_seen) in
       assumption (x, a, b, d)
   keeps chains (Gains t j mode by_try) f k =
       let n = f.may.acting.unnamed in
-      assumption (x, facts.gain_open c s x t j (Holds mode) n, facts.gain_released c s x t j (Holds mode) n, facts.gain_taken c s x t, facts.gain_halted c s x t)
+      assumption (
+        x,
+        facts.gain_open c s x t j (Holds mode) n,
+        facts.gain_released c s x t j (Holds mode) n,
+        facts.gain_taken c s x t,
+        facts.gain_halted c s x t,
+      )
   keeps chains (Claims t j y by_try) f k =
       let n = f.may.acting.unnamed in
-      assumption (x, facts.gain_open c s x t j (Holds Excl) n, facts.gain_released c s x t j (Holds Excl) n, facts.gain_taken c s x t, facts.gain_halted c s x t)
+      assumption (
+        x,
+        facts.gain_open c s x t j (Holds Excl) n,
+        facts.gain_released c s x t j (Holds Excl) n,
+        facts.gain_taken c s x t,
+        facts.gain_halted c s x t,
+      )
   keeps chains (Drops t j mode) f k = assumption (x, facts.left_open c s x t j, facts.left_released c s x t j)
   keeps chains (Opens t j mode) f k = assumption (x, facts.left_open c s x t j, facts.left_released c s x t j)
   keeps chains (OpensSleepQueue t j mode) f k = assumption (x, facts.left_open c s x t j, facts.left_released c s x t j)
@@ -81,26 +99,63 @@ module _ {at_work : ℕ → Option ℕ} (c : Config) (s : State) (w : LawfulFloo
         causes.since l p x t e g,
         causes.causes l p x t e g alive ends,
       )
-  keeps chains (Readies t q) f k = assumption (x, facts.wait_sleepers c s x t Queued refl, facts.wait_halted c s x t Queued refl)
-  keeps chains (Unreadies t q) f k = assumption (x, facts.wait_sleepers c s x t Running refl, facts.wait_halted c s x t Running refl)
+  keeps chains (Readies t q) f k =
+      assumption (x, facts.wait_sleepers c s x t Queued refl, facts.wait_halted c s x t Queued refl)
+  keeps chains (Unreadies t q) f k =
+      assumption (x, facts.wait_sleepers c s x t Running refl, facts.wait_halted c s x t Running refl)
   keeps chains (Enters t j mode y) f k =
       let a = f.asks_of_thread.runs.phase in
-      assumption (x, facts.all_open c s x t j f.may.waits.sections, facts.stand_released c s x t (lock_queue j) a, facts.enter_taken c s x t j k, facts.enter_sleepers c s x t j, facts.enter_halted c s x t j k)
+      assumption (
+        x,
+        facts.all_open c s x t j f.may.waits.sections,
+        facts.stand_released c s x t (lock_queue j) a,
+        facts.enter_taken c s x t j k,
+        facts.enter_sleepers c s x t j,
+        facts.enter_halted c s x t j k,
+      )
   keeps chains (EntersSleepQueue t j mode y) f k =
       let a = f.asks_of_thread.runs.phase in
-      assumption (x, facts.all_open c s x t j f.may.waits.sections, facts.stand_released c s x t (lock_queue j) a, facts.enter_taken c s x t j k, facts.enter_sleepers c s x t j, facts.enter_halted c s x t j k)
+      assumption (
+        x,
+        facts.all_open c s x t j f.may.waits.sections,
+        facts.stand_released c s x t (lock_queue j) a,
+        facts.enter_taken c s x t j k,
+        facts.enter_sleepers c s x t j,
+        facts.enter_halted c s x t j k,
+      )
   keeps chains (Adds t d y) f k =
       let a = f.asks_of_thread.phase in
-      assumption (x, facts.others_open c s x t d f.may.sections, facts.stand_released c s x t (chan_queue d) a, facts.add_sleepers c s x t d k.takes, facts.add_halted c s x t d f.has_seen.unnoted)
+      assumption (
+        x,
+        facts.others_open c s x t d f.may.sections,
+        facts.stand_released c s x t (chan_queue d) a,
+        facts.add_sleepers c s x t d k.takes,
+        facts.add_halted c s x t d f.has_seen.unnoted,
+      )
   keeps chains (Marks t m ms) f k =
       let stood = marked_named c s t m ms l f.may.thread f.may.marked in
-      assumption (x, facts.mark_open c s x t m stood, facts.mark_released c s x t m stood, facts.mark_sleepers c s x t m stood, facts.mark_halted c s x t m stood)
+      assumption (
+        x,
+        facts.mark_open c s x t m stood,
+        facts.mark_released c s x t m stood,
+        facts.mark_sleepers c s x t m
+            stood,
+        facts.mark_halted c s x t m stood,
+      )
   keeps chains (Resumes t q cause) f k =
       let g = f.may in
       let n = unnamed c s t q cause g l in
       let rests = facts.rests_less c s x t Awake (λ i. absurd cc) in
-      let d = causes.causes_taking c s x t (taking_by c q (s.taking t)) (resume_waits t q (λ d i. facts.took_nothing c s x t q cause g n d i)) in
-      assumption (x, rests, facts.resume_taken c s x t q cause g n, facts.resume_sleepers c s x t q cause g n, facts.resume_halted c s x t q cause g n, d)
+      let d = causes.causes_taking c s x t (taking_by c q (s.taking t))
+      (resume_waits t q (λ d i. facts.took_nothing c s x t q cause g n d i)) in
+      assumption (
+        x,
+        rests,
+        facts.resume_taken c s x t q cause g n,
+        facts.resume_sleepers c s x t q cause g n,
+        facts.resume_halted c s x t q cause g n,
+        d,
+      )
   keeps chains (Admits t j) f k =
       let free = f.may.free in
       let n = runs_nowhere c s t l free.running in
@@ -113,7 +168,8 @@ module _ {at_work : ℕ → Option ℕ} (c : Config) (s : State) (w : LawfulFloo
       let rests = facts.rests_less c s x t Halting (λ i. ap is_at_rest f.may.last) in
       assumption (x, rests)
   keeps chains (CountsEnd t) f k = assumption (x, causes.causes_end c s x t)
-  keeps chains (Halts t) f k = assumption (x, unhalted_no_more, causes.halt_since l h o p x t f.may, causes.halt_causes l h o p x t f.may)
+  keeps chains (Halts t) f k =
+      assumption (x, unhalted_no_more, causes.halt_since l h o p x t f.may, causes.halt_causes l h o p x t f.may)
   keeps chains (Aborts t q side u) f k =
       let rests = facts.rests_less c s x t _ (facts.aborting_rests (s.phase t)) in
       assumption (x, rests)
@@ -139,7 +195,8 @@ honest c s l x = go s.halted refl
         }
 
 pub begins : (c : Config) → Explained c (start_state c)
-unfolding start_state StandersAreOpen RestingHasReleased WantedIsTaken SleepersTakeNothing HaltedWantNothing UnhaltedBefore HaltedSince HaltsHaveCauses NobodyIsHalted
+unfolding start_state StandersAreOpen RestingHasReleased WantedIsTaken SleepersTakeNothing HaltedWantNothing
+    UnhaltedBefore HaltedSince HaltsHaveCauses NobodyIsHalted
 begins c = record {
   standers_are_open = λ t q e. absurd cc;
   resting_has_released = λ t d e. absurd cc;

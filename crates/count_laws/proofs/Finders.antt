@@ -55,13 +55,16 @@ shared_hold NotHeld e = absurd (omega arith)
 shared_hold (Holds Excl) e = absurd (omega arith)
 shared_hold (Holds Shared) e = refl
 
-module _ (c : Config) (s : State) (l : Lawful c s) (h : Counted c s) (o : Ordered c s) (w : Explained c s) (f : ℕ) (e : is_finder (s.phase f) ≡ true) where
+module _ (c : Config) (s : State) (l : Lawful c s) (h : Counted c s) (o : Ordered c s) (w : Explained c s) (f : ℕ)
+    (e : is_finder (s.phase f) ≡ true) where
   -- a word that shows waiters is held
   shown_busy : (k : ℕ) → shows_waiters (s.word k) ≡ true → 1 ≤ busy (s.word k).holder
   unfolding FreeWordHasCalled callers StandingIsUncalled CalledWants EndedIsBare FinderIsAlone wakes_under_way
   shown_busy k shown =
-      let a = sum_below-zero c.threads (λ t. calls_marked k (s.marked t)) (λ t lt. ap (calls_marked k) (no_marks c s l h f e t lt)) in
-      let b = sum_below-zero c.threads (λ t. calls_woken k (s.wait t)) (λ t lt. unwoken (s.wait t) (let z = (h.finder_is_alone f t e lt).0 in omega arith)) in
+      let a = sum_below-zero c.threads (λ t. calls_marked k (s.marked t))
+      (λ t lt. ap (calls_marked k) (no_marks c s l h f e t lt)) in
+      let b = sum_below-zero c.threads (λ t. calls_woken k (s.wait t))
+      (λ t lt. unwoken (s.wait t) (let z = (h.finder_is_alone f t e lt).0 in omega arith)) in
       let d = sum_below-zero c.threads (λ t. at_option k (s.called t)) (λ t lt. ap (at_option k) (uncalled t lt)) in
       let x = ap one shown in
       omega (arith, l.waits.free_word_has_called k)
@@ -80,16 +83,23 @@ module _ (c : Config) (s : State) (l : Lawful c s) (h : Counted c s) (o : Ordere
             where
               by_called : (x : Option ℕ) → s.called t ≡ x → x ≡ None
               by_called None j = refl
-              by_called (Some m) j = absurd (let z : None ≡ Some m = sym (h.ended_is_bare t i).1 ∙ l.waits.called_wants t m j in cc)
+              by_called (Some m) j =
+                  absurd (let z : None ≡ Some m = sym (h.ended_is_bare t i).1 ∙ l.waits.called_wants t m j in cc)
 
   -- so some thread holds its lock
   some_holder : (k : ℕ) → shows_waiters (s.word k) ≡ true → (u : ℕ) × (mode : Mode) × (s.held u k ≡ Holds mode)
   unfolding WordsMatchHolders
   some_holder k shown = by_holder (s.word k).holder refl (shown_busy k shown)
     where
-      by_holder : (x : Holder) → (s.word k).holder ≡ x → 1 ≤ busy x → (u : ℕ) × (mode : Mode) × (s.held u k ≡ Holds mode)
+      by_holder : (x : Holder) → (s.word k).holder ≡ x → 1 ≤ busy x → (u : ℕ) × (mode : Mode)
+          × (s.held u k ≡ Holds mode)
       by_holder Free i b = absurd (omega arith)
-      by_holder (HeldBy u) i b = (u, Excl, exclusive_hold (s.held u k) ((l.words.words_match_holders k).owner u ∙ ap (owns u) i ∙ eq-eqb u u refl))
+      by_holder (HeldBy u) i b = (
+        u,
+        Excl,
+        exclusive_hold (s.held u k)
+            ((l.words.words_match_holders k).owner u ∙ ap (owns u) i ∙ eq-eqb u u refl),
+      )
       by_holder (SharedBy zero) i b = absurd ((l.words.words_match_holders k).some_sharer i)
       by_holder (SharedBy (suc n)) i b =
           let m = (l.words.words_match_holders k).sharers_are_counted ∙ ap sharers i in
@@ -111,13 +121,17 @@ module _ (c : Config) (s : State) (l : Lawful c s) (h : Counted c s) (o : Ordere
           by_queue : (q : QueueName) → s.blocked_on u ≡ Some q → open_in c s.history u k ≡ Holds mode
           by_queue (Lock a) x = w.standers_are_open u (Lock a) x k mode i (λ y. y)
           by_queue (Chan d) x = w.standers_are_open u (Chan d) x k mode i
-              (λ y. let z : NotHeld ≡ Holds mode = sym (w.resting_has_released u d.0 (resting c s l h f e u lt) x) ∙ ap (s.held u) (sym y) ∙ i in cc)
+              (λ y. let z : NotHeld ≡ Holds mode = sym (w.resting_has_released u d.0 (resting c s l h f e u lt) x)
+              ∙ ap (s.held u) (sym y) ∙ i in cc)
 
   shown_of : (t k : ℕ) → stands t (s.lists (lock_queue k)) ≡ 1 → shows_waiters (s.word k) ≡ true
   unfolding BitsShowWaiters
-  shown_of t k a = go (s.lists (lock_queue k)).exclusive (s.lists (lock_queue k)).shared (l.queues.bits_show_waiters k).exclusive (l.queues.bits_show_waiters k).shared a
+  shown_of t k a = go (s.lists (lock_queue k)).exclusive (s.lists (lock_queue k)).shared
+      (l.queues.bits_show_waiters k).exclusive (l.queues.bits_show_waiters k).shared a
     where
-      go : (x y : List Waiter) → (s.word k).exclusive_waiters ≡ not (is_empty x) → (s.word k).shared_waiters ≡ not (is_empty y) → times_waiting t x + times_waiting t y ≡ 1 → shows_waiters (s.word k) ≡ true
+      go : (x y : List Waiter) → (s.word k).exclusive_waiters ≡ not (is_empty x)
+          → (s.word k).shared_waiters ≡ not (is_empty y) → times_waiting t x + times_waiting t y ≡ 1
+          → shows_waiters (s.word k) ≡ true
       go [] [] e f i = absurd (omega arith)
       go (v ∷ x) y e f i = rw e refl
       go [] (v ∷ y) e f i = rw (e, f) refl
@@ -133,7 +147,8 @@ module _ (c : Config) (s : State) (l : Lawful c s) (h : Counted c s) (o : Ordere
 
   -- what each thread is at
   pub all_halted : {at_work : ℕ → Option ℕ} → SleepersFit at_work c s → (t : ℕ) → t < c.threads
-      → (s.has_ended t ≡ true) ⊎ ((is_sleeping s.history t ≡ true) ⊎ (waits_for_another c s.history t (s.taking t) ≡ true))
+      → (s.has_ended t ≡ true) ⊎
+      ((is_sleeping s.history t ≡ true) ⊎ (waits_for_another c s.history t (s.taking t) ≡ true))
   unfolding StandingWants WantedIsTaken
   all_halted p t lt = by_end (s.has_ended t) refl
     where
@@ -147,10 +162,13 @@ module _ (c : Config) (s : State) (l : Lawful c s) (h : Counted c s) (o : Ordere
           let v = r.0 in
           let opened = holder_open v k.0 r.1 r.2 in
           let differs : v ≡ t → ⊥ = λ i. unheld t k.0 r.1 wants (ap (λ u. s.held u k.0) (sym i) ∙ r.2) in
-          let its : (not (eqb v t) && not (is_unheld (open_in c s.history v k.0))) ≡ true = rw (ne_eqb v t differs, opened) refl in
-          inr (rw takes (true-any_below c.threads (λ u. not (eqb u t) && not (is_unheld (open_in c s.history u k.0))) v (thread_of v k.0 r.1 r.2) its))
+          let its : (not (eqb v t) && not (is_unheld (open_in c s.history v k.0))) ≡ true =
+          rw (ne_eqb v t differs, opened) refl in
+          inr (rw takes (true-any_below c.threads (λ u. not (eqb u t) && not (is_unheld (open_in c s.history u k.0))) v
+          (thread_of v k.0 r.1 r.2) its))
 
       by_end : (b : Bool) → s.has_ended t ≡ b
-          → (s.has_ended t ≡ true) ⊎ ((is_sleeping s.history t ≡ true) ⊎ (waits_for_another c s.history t (s.taking t) ≡ true))
+          → (s.has_ended t ≡ true) ⊎
+          ((is_sleeping s.history t ≡ true) ⊎ (waits_for_another c s.history t (s.taking t) ≡ true))
       by_end true i = inl i
       by_end false i = let z = all_stand c s l h f e t lt i in inr (by_queue z.queue z.named z.stands)

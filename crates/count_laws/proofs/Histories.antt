@@ -24,7 +24,15 @@ abbrev chan : ChanNo
 chan = record { 0 = 0 }
 
 two : Config
-two = record { threads = 2; locks = 1; chans = 1; kind = λ l. Mtx; class = λ l. l; chan_lock = λ d. 0; declared_base = λ t. 100 }
+two = record {
+  threads = 2;
+  locks = 1;
+  chans = 1;
+  kind = λ l. Mtx;
+  class = λ l. l;
+  chan_lock = λ d. 0;
+  declared_base = λ t. 100;
+}
 
 -- p takes the mutex and sleeps with it
 slept : List Entry
@@ -41,7 +49,11 @@ lone_halt : HaltsAreHonest two (entry 2 0 (HaltedChan chan) ∷ slept)
 unfolding HaltsComeSince entries_below entries_since is_named has_bit is_asleep any_below sections_in two slept
 lone_halt = record {
   moment = 2;
-  comes_first = ((λ e. omega arith), (λ t e. absurd cc), ((λ e. absurd cc), (λ t e. absurd cc), ((λ e. absurd cc), (λ t e. absurd cc), tt)));
+  comes_first = (
+    (λ e. omega arith),
+    (λ t e. absurd cc),
+    ((λ e. absurd cc), (λ t e. absurd cc), ((λ e. absurd cc), (λ t e. absurd cc), tt)),
+  );
   honest = λ t lt. by_thread t lt;
 }
   where
@@ -72,7 +84,8 @@ free_halt = entry 3 1 (Locked mutex Excl) ∷ entry 2 0 (HaltedChan chan) ∷ sl
 
 refuses_unheld : HaltsAreHonest two free_halt → ⊥
 unfolding HaltsComeSince entries_below entries_since is_named has_bit any_below sections_in two slept free_halt
-refuses_unheld h = go h.moment (since_halt two h.moment slept h.comes_first.2) (h.honest 0 (omega arith)) (h.honest 1 (omega arith))
+refuses_unheld h = go h.moment (since_halt two h.moment slept h.comes_first.2) (h.honest 0 (omega arith))
+    (h.honest 1 (omega arith))
   where
     go : (p : ℕ) → p ≤ 2 → is_honest_to two p free_halt 0 ≡ true → is_honest_to two p free_halt 1 ≡ true → ⊥
     go zero le e f = cc

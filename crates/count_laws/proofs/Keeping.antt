@@ -20,11 +20,13 @@ unparked : (s : State) (t : ℕ) → IsRunnable s t ⊎ IsHalting s t → is_par
 unparked s t (inl a) = ap is_parked a.phase
 unparked s t (inr e) = halting_unparked (s.phase t) e
 
-taking_unparked : (s : State) (t : ℕ) (b : Bool) → IsRunnable s t ⊎ (IsHalting s t × (b ≡ true)) → is_parked (s.phase t) ≡ false
+taking_unparked : (s : State) (t : ℕ) (b : Bool) → IsRunnable s t ⊎ (IsHalting s t × (b ≡ true))
+    → is_parked (s.phase t) ≡ false
 taking_unparked s t b (inl a) = ap is_parked a.phase
 taking_unparked s t b (inr e) = halting_unparked (s.phase t) e.0
 
-pub keeps : (chains : ℕ) (c : Config) (s : State) (step : Step) → FitsFloor chains c s step → KeepsCount s step → LawfulFloor c s
+pub keeps : (chains : ℕ) (c : Config) (s : State) (step : Step) → FitsFloor chains c s step → KeepsCount s step
+    → LawfulFloor c s
     → Counted c s → Counted c (after c s step)
 keeps chains c s (Seeks t l by_try) f k w h = counted.seek c s h t l by_try
 keeps chains c s (Looks t l in_round) f k w h = counted.look c s h t l in_round
@@ -41,7 +43,8 @@ keeps chains c s (EntersSleepQueue t l mode x) f k w h = counted.enter_sleep c s
 keeps chains c s (OpensSleepQueue t l mode) f k w h = counted.open_sleep c s t f.asks_of_thread.runs h l mode f.may
 keeps chains c s (Adds t d x) f k w h = counted.add c s t f.asks_of_thread h d x
 keeps chains c s (Wakes t d all) f k w h = counted.wake c s t f.asks_of_thread.runs h d all f.may
-keeps chains c s (Marks t m ms) f k w h = counted.mark c s t m ms f.may (unparked s t f.asks_of_thread.runs) k w.lawful h
+keeps chains c s (Marks t m ms) f k w h =
+    counted.mark c s t m ms f.may (unparked s t f.asks_of_thread.runs) k w.lawful h
 keeps chains c s (Resumes t q cause) f k w h = counted.resume c s t q cause f.may k h
 keeps chains c s (Claims t l x by_try) f k w h = counted.claim c s t f.asks_of_thread.runs h l x by_try
 keeps chains c s (Lends t l o x) f k w h = counted.lend c s t f.asks_of_thread.runs h l o x

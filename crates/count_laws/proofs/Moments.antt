@@ -1,5 +1,5 @@
--- The entries below a ticket and those from it on, where tickets run: behind a new entry, at the end of the history, and
--- of a thread that has made none since.
+-- The entries below a ticket and those from it on, where tickets run: behind a new entry, at the end of the history,
+-- and of a thread that has made none since.
 use Rattle.std.proofs.Common.{◌≡◌, ℕ, ◌<◌, ◌≤◌, Bool, true, false, cond, eqb, List, [], ◌∷◌, length, Option, refl, sym, ap, inl, inr, arith, ◌∙◌}
 use Rattle.std.proofs.lemmas.Bool.{cases_eq, cases_lt, ne_eqb}
 use Rattle.std.proofs.lemmas.Bool.Decides.{nat_tests}
@@ -43,7 +43,8 @@ none_from p = refl
 pub all_below : (p : ℕ) (es : List Entry) → TicketsRun es → length es ≤ p → entries_below p es ≡ es
 unfolding TicketsRun
 all_below p [] r le = none_below p
-all_below p (e ∷ es) r le = below-old p e es (omega (arith, r.0, le)) ∙ ap (λ xs. e ∷ xs) (all_below p es r.1 (omega (arith, le)))
+all_below p (e ∷ es) r le = below-old p e es (omega (arith, r.0, le))
+    ∙ ap (λ xs. e ∷ xs) (all_below p es r.1 (omega (arith, le)))
 
 pub none_since : (p : ℕ) (es : List Entry) → TicketsRun es → length es ≤ p → entries_since p es ≡ []
 unfolding TicketsRun
@@ -80,12 +81,14 @@ module _ (p t : ℕ) where
     | inr new ↦
         let a = below-new p e es new in
         let b = since-new p e es new in
-        let s : is_empty (cond (eqb e.thread.0 t) (e ∷ entries_of (entries_since p es) t) (entries_of (entries_since p es) t)) ≡ true = ap (λ xs. is_empty (entries_of xs t)) (sym b) ∙ none in
+        let s : is_empty (cond (eqb e.thread.0 t) (e ∷ entries_of (entries_since p es) t)
+        (entries_of (entries_since p es) t)) ≡ true = ap (λ xs. is_empty (entries_of xs t)) (sym b) ∙ none in
         elim (cases_eq e.thread.0 t) [
           | inl x ↦ absurd (grind (arith, nat_tests, s, x))
           | inr x ↦
               let rest = own_below es (rw (ne_eqb e.thread.0 t x) at s) in
-              ap (λ xs. entries_of xs t) a ∙ rest ∙ sym (ap (λ b. cond b (e ∷ entries_of es t) (entries_of es t)) (ne_eqb e.thread.0 t x))
+              ap (λ xs. entries_of xs t) a ∙ rest
+              ∙ sym (ap (λ b. cond b (e ∷ entries_of es t) (entries_of es t)) (ne_eqb e.thread.0 t x))
         ]
   ]
 
@@ -101,7 +104,8 @@ module _ (p t : ℕ) where
         rw (below-old p e es old) (grind (arith, n, rest))
     | inr new ↦
         let b = since-new p e es new in
-        let s : is_empty (cond (eqb e.thread.0 t) (e ∷ entries_of (entries_since p es) t) (entries_of (entries_since p es) t)) ≡ true = ap (λ xs. is_empty (entries_of xs t)) (sym b) ∙ none in
+        let s : is_empty (cond (eqb e.thread.0 t) (e ∷ entries_of (entries_since p es) t)
+        (entries_of (entries_since p es) t)) ≡ true = ap (λ xs. is_empty (entries_of xs t)) (sym b) ∙ none in
         elim (cases_eq e.thread.0 t) [
           | inl x ↦ absurd (grind (arith, nat_tests, s, x))
           | inr x ↦
@@ -124,7 +128,8 @@ module _ (p t : ℕ) where
 
 -- a cause that doesn't rest on what is taken, or on the end, stays
 pub cause_kept : (c : Config) (a b : Bool) (x y : Option ℕ) (p : ℕ) (es : List Entry) (t : ℕ)
-    → (a ≡ true → b ≡ true) → (waits_for_another c (entries_below p es) t x ≡ true → waits_for_another c (entries_below p es) t y ≡ true)
+    → (a ≡ true → b ≡ true)
+    → (waits_for_another c (entries_below p es) t x ≡ true → waits_for_another c (entries_below p es) t y ≡ true)
     → has_cause c a x p es t ≡ true → has_cause c b y p es t ≡ true
 cause_kept c a b x y p es t f g h = grind (arith, f, g, h)
 

@@ -25,9 +25,11 @@ nobody c [] = hlevel
 nobody c (e ∷ es) = hlevel (props, nobody c es)
 
 pub Counted-prop : (c : Config) (s : State) → IsProp (Counted c s)
-unfolding AwakeIsCounted TermsFitParking CountedInIsNextMarked ParkedHasNoWalk RestingHasNoMarks ParkedHasNothingOut RestingStands SelfAbortedIsWoken EndedRuns EndedIsBare EndedIsCounted FinderIsAlone
+unfolding AwakeIsCounted TermsFitParking CountedInIsNextMarked ParkedHasNoWalk RestingHasNoMarks ParkedHasNothingOut
+    RestingStands SelfAbortedIsWoken EndedRuns EndedIsBare EndedIsCounted FinderIsAlone
 Counted-prop c s = hlevel (props, IsFirst-prop)
 
 pub Explained-prop : (c : Config) (s : State) → IsProp (Explained c s)
-unfolding StandersAreOpen RestingHasReleased WantedIsTaken SleepersTakeNothing HaltedWantNothing UnhaltedBefore HaltedSince HaltsHaveCauses
+unfolding StandersAreOpen RestingHasReleased WantedIsTaken SleepersTakeNothing HaltedWantNothing UnhaltedBefore
+    HaltedSince HaltsHaveCauses
 Explained-prop c s = hlevel (props, since, nobody)

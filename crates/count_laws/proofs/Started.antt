@@ -11,9 +11,12 @@ nothing : (n : ℕ) → sum_below n (λ j. 0) ≡ 0
 nothing n = sum_below-zero n (λ j. 0) (λ j l. refl)
 
 pub counted : (c : Config) → Counted c (start_state c)
-unfolding start_state AwakeIsCounted TermsFitParking CountedInIsNextMarked ParkedHasNoWalk RestingHasNoMarks ParkedHasNothingOut RestingStands SelfAbortedIsWoken EndedRuns EndedIsBare EndedIsCounted FinderIsAlone times_counted_in wakes_under_way
+unfolding start_state AwakeIsCounted TermsFitParking CountedInIsNextMarked ParkedHasNoWalk RestingHasNoMarks
+    ParkedHasNothingOut RestingStands SelfAbortedIsWoken EndedRuns EndedIsBare EndedIsCounted FinderIsAlone
+    times_counted_in wakes_under_way
 counted c = record {
-  awake_is_counted = let a = nothing c.threads in let b = sum_below-zero c.threads (λ t. sum_below c.threads (λ u. 0)) (λ j l. nothing c.threads) in omega (arith, a, b);
+  awake_is_counted = let a = nothing c.threads in let b =
+      sum_below-zero c.threads (λ t. sum_below c.threads (λ u. 0)) (λ j l. nothing c.threads) in omega (arith, a, b);
   terms_fit_parking = λ t. let a = nothing c.threads in omega (arith, a);
   counted_in_is_next_marked = λ t u e. absurd cc;
   parked_has_no_walk = λ t e. refl;

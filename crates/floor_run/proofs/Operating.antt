@@ -63,8 +63,10 @@ at_first plan f given t = record {
 }
 
 -- behind its last
-pub at_last : (plan : Plan) (f : Floor Description) (t n : ℕ) (x : Pass Knowledge) → IsBefore plan f t n x → length (operations_of plan t) ≤ n → IsWhole plan f.description t x.view.share.log
-at_last plan f t n x b over = record { point = Before n; leads = b.leads; at_end = omega (arith, b.within, over); stamped = b.stamped }
+pub at_last : (plan : Plan) (f : Floor Description) (t n : ℕ) (x : Pass Knowledge) → IsBefore plan f t n x
+    → length (operations_of plan t) ≤ n → IsWhole plan f.description t x.view.share.log
+at_last plan f t n x b over =
+    record { point = Before n; leads = b.leads; at_end = omega (arith, b.within, over); stamped = b.stamped }
 
 -- 2. Kinds and keys
 
@@ -76,7 +78,8 @@ mutex_kind plan m l = ap (λ k. unwrap_or k Mtx) (slice_get-map (λ (d : LockDec
     go (Some d) e = ap (λ (x : LockDecl). x.kind) (sym (get_or_from_slice_get plan.locks l d d e)) ∙ m.locks l d (slice_get_within plan.locks l d e)
 
 -- an operation of the thread that names a key
-plan_named : (plan : Plan) (t n l key : ℕ) (op : Op) → slice_get (operations_of plan t) n ≡ Some op → op_names l key op ≡ true → IsTrue (plan_names plan l key)
+plan_named : (plan : Plan) (t n l key : ℕ) (op : Op) → slice_get (operations_of plan t) n ≡ Some op
+    → op_names l key op ≡ true → IsTrue (plan_names plan l key)
 plan_named plan t n l key op e i = go (slice_get plan.threads t) refl
   where
     test : ThreadDecl → Bool
@@ -119,7 +122,8 @@ exclusive_is x e = grind arith
 
 -- 3. What the next operation finds
 
-module _ (plan : Plan) (f : Floor Description) (given : IsFor plan f.description) (p : IsProper plan) (m : HasOnlyMutexes plan) (t n : ℕ) (x : Pass Knowledge) (b : IsBefore plan f t n x) where
+module _ (plan : Plan) (f : Floor Description) (given : IsFor plan f.description) (p : IsProper plan)
+    (m : HasOnlyMutexes plan) (t n : ℕ) (x : Pass Knowledge) (b : IsBefore plan f t n x) where
   abbrev ops : List Op
   ops = operations_of plan t
 
@@ -133,7 +137,8 @@ module _ (plan : Plan) (f : Floor Description) (given : IsFor plan f.description
   holds_so : (l : ℕ) → hold_in x.view.share.held l ≡ hold_in held l
   holds_so l = ap (λ hs. hold_in hs l) b.held
 
-  may_acquire : (op : Op) (l : LockNo) (mode : Mode) → slice_get ops n ≡ Some op → Passes (acquiring_tests plan.locks l mode held) → MayAcquire f.description l.0 x.view
+  may_acquire : (op : Op) (l : LockNo) (mode : Mode) → slice_get ops n ≡ Some op
+      → Passes (acquiring_tests plan.locks l mode held) → MayAcquire f.description l.0 x.view
   may_acquire op l mode e tests =
       let g = gain_passes plan l mode false held _ tests refl in
       record {
@@ -146,7 +151,8 @@ module _ (plan : Plan) (f : Floor Description) (given : IsFor plan f.description
   pub may_take : (l : LockNo) (mode : Mode) → slice_get ops n ≡ Some (Take l mode) → MayAcquire f.description l.0 x.view
   may_take l mode e = may_acquire (Take l mode) l mode e (next_leads plan p t n (Take l mode) e).passes
 
-  pub may_try : (l : LockNo) (mode : Mode) (past : ℕ) → slice_get ops n ≡ Some (Try l mode past) → MayAcquire f.description l.0 x.view
+  pub may_try : (l : LockNo) (mode : Mode) (past : ℕ) → slice_get ops n ≡ Some (Try l mode past)
+      → MayAcquire f.description l.0 x.view
   may_try l mode past e = may_acquire (Try l mode past) l mode e (next_leads plan p t n (Try l mode past) e).passes
 
   -- a lock that is held is one of the plan's, and held exclusively
@@ -162,12 +168,18 @@ module _ (plan : Plan) (f : Floor Description) (given : IsFor plan f.description
   pub may_release : (l : LockNo) → slice_get ops n ≡ Some (Release l) → MayRelease f.description l.0 x.view
   may_release l e =
       let so = held_so l.0 (release_fits plan l held _ (next_leads plan p t n (Release l) e)).0 in
-      record { mutex = is_mutex plan f.description given m l.0 so.0; held = holds_so l.0 ∙ so.1; room = room_for_one (Release l) e }
+      record {
+        mutex = is_mutex plan f.description given m l.0 so.0;
+        held = holds_so l.0 ∙ so.1;
+        room = room_for_one (Release l) e;
+      }
 
   -- 4. Where its entry leads
 
-  pub entry_leads : (y : Pass Knowledge) (op : Op) (e : Event) (hs : List Held) (next : ℕ) → slice_get ops n ≡ Some op → Gives (config_of plan).kind held n op e (Before next)
-      → hs ≡ held_of ops next → n < next → next ≤ length ops → IsReady f y → MakesEntry f.description e hs x.view y.view → IsBefore plan f t next y
+  pub entry_leads : (y : Pass Knowledge) (op : Op) (e : Event) (hs : List Held) (next : ℕ) → slice_get ops n ≡ Some op
+      → Gives (config_of plan).kind held n op e (Before next)
+      → hs ≡ held_of ops next → n < next → next ≤ length ops → IsReady f y → MakesEntry f.description e hs x.view y.view
+      → IsBefore plan f t next y
   entry_leads y op e hs next at gives holds further within ready made =
       let entry : Entry = entry_by x.view.thread made.ticket e in
       let stamped : WasStamped f.description t entry x.view.share.log = record {
@@ -183,40 +195,56 @@ module _ (plan : Plan) (f : Floor Description) (given : IsFor plan f.description
         thread = made.thread ∙ b.thread;
         within = within;
         held = made.held ∙ holds;
-        leads = subst (λ (es : List Entry). LeadsTo (config_of plan).kind ops es (Before next)) (sym made.log) (law.goes_on entry b.leads at gives);
+        leads = subst (λ (es : List Entry). LeadsTo (config_of plan).kind ops es (Before next)) (sym made.log)
+            (law.goes_on entry b.leads at gives);
         stamped = subst (λ (es : List Entry). WereStamped f.description t es) (sym made.log) (stamped, b.stamped);
         room = omega (arith, b.room, made.spare, further);
       }
 
   -- one that leaves what is held
-  keeps : (y : Pass Knowledge) (op : Op) (e : Event) → slice_get ops n ≡ Some op → held_behind op held ≡ held → Gives (config_of plan).kind held n op e (Before (suc n)) → IsReady f y
+  keeps : (y : Pass Knowledge) (op : Op) (e : Event) → slice_get ops n ≡ Some op → held_behind op held ≡ held
+      → Gives (config_of plan).kind held n op e (Before (suc n)) → IsReady f y
       → MakesEntry f.description e x.view.share.held x.view y.view → IsBefore plan f t (suc n) y
-  keeps y op e at still gives ready made = entry_leads y op e x.view.share.held (suc n) at gives (b.held ∙ sym still ∙ (next_leads plan p t n op at).behind) (omega arith) (omega (arith, slice_get_within ops n op at)) ready made
+  keeps y op e at still gives ready made =
+      entry_leads y op e x.view.share.held (suc n) at gives (b.held ∙ sym still ∙ (next_leads plan p t n op at).behind)
+      (omega arith) (omega (arith, slice_get_within ops n op at)) ready made
 
   -- 5. Operation by operation
 
   its_mode : (l : LockNo) (mode : Mode) → Passes (acquiring_tests plan.locks l mode held) → mode ≡ Excl
   its_mode l mode tests = (gain_passes plan l mode false held _ tests refl).mutex (mutex_kind plan m l.0)
 
-  pub took : (y : Pass Knowledge) (l : LockNo) (mode : Mode) → slice_get ops n ≡ Some (Take l mode) → IsReady f y → MakesEntry f.description (event.Locked l Excl) (x.view.share.held ++ as_held l false ∷ []) x.view y.view → IsBefore plan f t (suc n) y
+  pub took : (y : Pass Knowledge) (l : LockNo) (mode : Mode) → slice_get ops n ≡ Some (Take l mode) → IsReady f y
+      → MakesEntry f.description (event.Locked l Excl) (x.view.share.held ++ as_held l false ∷ []) x.view y.view
+      → IsBefore plan f t (suc n) y
   took y l mode e ready made =
-      let at : slice_get ops n ≡ Some (Take l Excl) = e ∙ ap (λ k. Some (Take l k)) (its_mode l mode (next_leads plan p t n (Take l mode) e).passes) in
-      entry_leads y (Take l Excl) (event.Locked l Excl) _ (suc n) at (law.locks l Excl) (ap (λ hs. hs ++ as_held l false ∷ []) b.held ∙ (next_leads plan p t n (Take l Excl) at).behind) (omega arith)
+      let at : slice_get ops n ≡ Some (Take l Excl) = e
+      ∙ ap (λ k. Some (Take l k)) (its_mode l mode (next_leads plan p t n (Take l mode) e).passes) in
+      entry_leads y (Take l Excl) (event.Locked l Excl) _ (suc n) at (law.locks l Excl)
+      (ap (λ hs. hs ++ as_held l false ∷ []) b.held ∙ (next_leads plan p t n (Take l Excl) at).behind) (omega arith)
       (omega (arith, slice_get_within ops n (Take l Excl) at)) ready made
 
   try_at : (l : LockNo) (mode : Mode) (past : ℕ) → slice_get ops n ≡ Some (Try l mode past) → slice_get ops n ≡ Some (Try l Excl past)
-  try_at l mode past e = e ∙ ap (λ k. Some (Try l k past)) (its_mode l mode (next_leads plan p t n (Try l mode past) e).passes)
+  try_at l mode past e = e
+      ∙ ap (λ k. Some (Try l k past)) (its_mode l mode (next_leads plan p t n (Try l mode past) e).passes)
 
-  pub tried : (y : Pass Knowledge) (l : LockNo) (mode : Mode) (past : ℕ) → slice_get ops n ≡ Some (Try l mode past) → IsReady f y → MakesEntry f.description (event.Tried l Excl) (x.view.share.held ++ as_held l true ∷ []) x.view y.view → IsBefore plan f t (suc n) y
+  pub tried : (y : Pass Knowledge) (l : LockNo) (mode : Mode) (past : ℕ) → slice_get ops n ≡ Some (Try l mode past)
+      → IsReady f y → MakesEntry f.description (event.Tried l Excl) (x.view.share.held ++ as_held l true ∷ []) x.view
+      y.view → IsBefore plan f t (suc n) y
   tried y l mode past e ready made =
       let at = try_at l mode past e in
-      entry_leads y (Try l Excl past) (event.Tried l Excl) _ (suc n) at (law.tries l Excl past) (ap (λ hs. hs ++ as_held l true ∷ []) b.held ∙ (next_leads plan p t n (Try l Excl past) at).behind) (omega arith)
+      entry_leads y (Try l Excl past) (event.Tried l Excl) _ (suc n) at (law.tries l Excl past)
+      (ap (λ hs. hs ++ as_held l true ∷ []) b.held ∙ (next_leads plan p t n (Try l Excl past) at).behind)
+      (omega arith)
       (omega (arith, slice_get_within ops n (Try l Excl past) at)) ready made
 
   pub further_on : (l : LockNo) (mode : Mode) (past : ℕ) → slice_get ops n ≡ Some (Try l mode past) → n < past
   further_on l mode past e = (try_passes plan p t n l mode past e).further
 
-  pub found_busy : (y : Pass Knowledge) (l : LockNo) (mode : Mode) (past seen : ℕ) → slice_get ops n ≡ Some (Try l mode past) → IsReady f y → WasBusy f.description x.view.thread l seen x.view y.view → MakesEntry f.description (event.Busy l seen) x.view.share.held x.view y.view
+  pub found_busy : (y : Pass Knowledge) (l : LockNo) (mode : Mode) (past seen : ℕ)
+      → slice_get ops n ≡ Some (Try l mode past) → IsReady f y
+      → WasBusy f.description x.view.thread l seen x.view y.view
+      → MakesEntry f.description (event.Busy l seen) x.view.share.held x.view y.view
       → IsBefore plan f t past y
   found_busy y l mode past seen e ready was made =
       let on = try_passes plan p t n l mode past e in
@@ -233,7 +261,9 @@ module _ (plan : Plan) (f : Floor Description) (given : IsFor plan f.description
     room = omega (arith, b.room);
   }
 
-  pub released : (y : Pass Knowledge) (l : LockNo) → slice_get ops n ≡ Some (Release l) → IsReady f y → MakesEntry f.description (event.Unlocked l Excl) (without_lock l.0 x.view.share.held) x.view y.view → IsBefore plan f t (suc n) y
+  pub released : (y : Pass Knowledge) (l : LockNo) → slice_get ops n ≡ Some (Release l) → IsReady f y
+      → MakesEntry f.description (event.Unlocked l Excl) (without_lock l.0 x.view.share.held) x.view y.view
+      → IsBefore plan f t (suc n) y
   released y l e ready made =
       let leads = next_leads plan p t n (Release l) e in
       let so = held_so l.0 (release_fits plan l held _ leads).0 in
@@ -244,32 +274,51 @@ module _ (plan : Plan) (f : Floor Description) (given : IsFor plan f.description
   MayEdit l key = (hold_in x.view.share.held l ≡ Holds Excl) × Contains f.description.keys (l, key) × (1 ≤ x.view.spare)
 
   may_edit : (op : Op) (l : LockNo) (key : ℕ) → slice_get ops n ≡ Some op → op_names l.0 key op ≡ true → Passes (edit_tests l held) → MayEdit l.0 key
-  may_edit op l key e names tests = (holds_so l.0 ∙ exclusive_is (hold_in held l.0) (passed _ _ (passed _ _ tests).1).0, named plan f.description given t n l.0 key op e names, room_for_one op e)
+  may_edit op l key e names tests = (
+    holds_so l.0 ∙ exclusive_is (hold_in held l.0) (passed _ _ (passed _ _ tests).1).0,
+    named plan f.description
+        given t n l.0 key op e names,
+    room_for_one op e,
+  )
 
   pub may_set : (l : LockNo) (key value : ℕ) → slice_get ops n ≡ Some (Set l key value) → MayEdit l.0 key
-  may_set l key value e = may_edit (Set l key value) l key e (both_same l.0 key) (next_leads plan p t n (Set l key value) e).passes
+  may_set l key value e =
+      may_edit (Set l key value) l key e (both_same l.0 key) (next_leads plan p t n (Set l key value) e).passes
 
   pub may_add : (l : LockNo) (key amount : ℕ) → slice_get ops n ≡ Some (Add l key amount) → MayEdit l.0 key
-  may_add l key amount e = may_edit (Add l key amount) l key e (both_same l.0 key) (next_leads plan p t n (Add l key amount) e).passes
+  may_add l key amount e =
+      may_edit (Add l key amount) l key e (both_same l.0 key) (next_leads plan p t n (Add l key amount) e).passes
 
-  pub may_get : (l : LockNo) (key : ℕ) → slice_get ops n ≡ Some (Get l key) → (hold_in x.view.share.held l.0 ≢ NotHeld) × Contains f.description.keys (l.0, key) × (1 ≤ x.view.spare)
+  pub may_get : (l : LockNo) (key : ℕ) → slice_get ops n ≡ Some (Get l key) → (hold_in x.view.share.held l.0 ≢ NotHeld)
+      × Contains f.description.keys (l.0, key) × (1 ≤ x.view.spare)
   may_get l key e =
-      let tests = (next_leads plan p t n (Get l key) e).passes in
-      (λ z. held_is (hold_in held l.0) (not-true _ (passed _ _ tests).0) (sym (holds_so l.0) ∙ z), named plan f.description given t n l.0 key (Get l key) e (both_same l.0 key), room_for_one (Get l key) e)
+      let tests = (next_leads plan p t n (Get l key) e).passes in (
+        λ z. held_is (hold_in held l.0) (not-true _ (passed _ _ tests).0) (sym (holds_so l.0) ∙ z),
+        named plan
+            f.description given t n l.0 key (Get l key) e (both_same l.0 key),
+        room_for_one (Get l key) e,
+      )
 
-  pub set : (y : Pass Knowledge) (l : LockNo) (key value : ℕ) → slice_get ops n ≡ Some (Set l key value) → IsReady f y → MakesEntry f.description (event.Set l key value) x.view.share.held x.view y.view → IsBefore plan f t (suc n) y
+  pub set : (y : Pass Knowledge) (l : LockNo) (key value : ℕ) → slice_get ops n ≡ Some (Set l key value) → IsReady f y
+      → MakesEntry f.description (event.Set l key value) x.view.share.held x.view y.view → IsBefore plan f t (suc n) y
   set y l key value e = keeps y (Set l key value) (event.Set l key value) e refl (law.sets l key value)
 
-  pub added : (y : Pass Knowledge) (l : LockNo) (key amount : ℕ) → slice_get ops n ≡ Some (Add l key amount) → IsReady f y → MakesEntry f.description (event.Added l key amount) x.view.share.held x.view y.view → IsBefore plan f t (suc n) y
+  pub added : (y : Pass Knowledge) (l : LockNo) (key amount : ℕ) → slice_get ops n ≡ Some (Add l key amount)
+      → IsReady f y → MakesEntry f.description (event.Added l key amount) x.view.share.held x.view y.view
+      → IsBefore plan f t (suc n) y
   added y l key amount e = keeps y (Add l key amount) (event.Added l key amount) e refl (law.adds l key amount)
 
-  pub got : (y : Pass Knowledge) (l : LockNo) (key : ℕ) (found : Option ℕ) → slice_get ops n ≡ Some (Get l key) → IsReady f y → MakesEntry f.description (event.Got l key found) x.view.share.held x.view y.view → IsBefore plan f t (suc n) y
+  pub got : (y : Pass Knowledge) (l : LockNo) (key : ℕ) (found : Option ℕ) → slice_get ops n ≡ Some (Get l key)
+      → IsReady f y → MakesEntry f.description (event.Got l key found) x.view.share.held x.view y.view
+      → IsBefore plan f t (suc n) y
   got y l key found e = keeps y (Get l key) (event.Got l key found) e refl (law.gets l key found)
 
-  pub based : (y : Pass Knowledge) (prio : Prio) → slice_get ops n ≡ Some (Base prio) → IsReady f y → MakesEntry f.description (event.Base prio) x.view.share.held x.view y.view → IsBefore plan f t (suc n) y
+  pub based : (y : Pass Knowledge) (prio : Prio) → slice_get ops n ≡ Some (Base prio) → IsReady f y
+      → MakesEntry f.description (event.Base prio) x.view.share.held x.view y.view → IsBefore plan f t (suc n) y
   based y prio e = keeps y (Base prio) (event.Base prio) e refl (law.changes_base prio)
 
-  pub shown : (y : Pass Knowledge) (base eff : Prio) → slice_get ops n ≡ Some Show → IsReady f y → MakesEntry f.description (event.Shown base eff) x.view.share.held x.view y.view → IsBefore plan f t (suc n) y
+  pub shown : (y : Pass Knowledge) (base eff : Prio) → slice_get ops n ≡ Some Show → IsReady f y
+      → MakesEntry f.description (event.Shown base eff) x.view.share.held x.view y.view → IsBefore plan f t (suc n) y
   shown y base eff e = keeps y Show (event.Shown base eff) e refl (law.shows base eff)
 
   -- a plan of mutexes alone has no channels

@@ -82,7 +82,8 @@ fused : (passes : List (Pass Knowledge)) → map (λ g. g.0) (parts passes) ≡ 
 fused [] = refl
 fused (p ∷ ps) = ap (λ ts. p.view.thread ∷ ts) (fused ps)
 
-pub threads_in_order : (plan : Plan) (f : Floor Description) (passes : List (Pass Knowledge)) → length passes ≡ length plan.threads → AreDone plan f passes → map (λ g. g.0) (parts passes) ≡ threads_of plan
+pub threads_in_order : (plan : Plan) (f : Floor Description) (passes : List (Pass Knowledge))
+    → length passes ≡ length plan.threads → AreDone plan f passes → map (λ g. g.0) (parts passes) ≡ threads_of plan
 threads_in_order plan f passes count done =
     fused passes
     ∙ map_same passes (λ p. p.view.thread) (λ t. t) 0 (λ k d lt. omega (arith, (done k d lt).thread))
@@ -120,7 +121,9 @@ module _ (plan : Plan) (chains : ℕ) (x : Closing)
       ∙ get_or-map-range_with_len (λ u. reverse (entries_of history u)) 0 (length plan.threads) t t [] lt (omega arith) in
       sym (reverse-reverse (get_or logs t [])) ∙ ap reverse at ∙ reverse-reverse (entries_of history t)
 
-  follows : (logs : List (List Entry)) → map (λ b. b.entries) x.logs.items ≡ map reverse logs → ((t : ℕ) → t < length plan.threads → IsWhole plan floor t (get_or logs t [])) → (t : ℕ) → FollowsOperations plan false history t
+  follows : (logs : List (List Entry)) → map (λ b. b.entries) x.logs.items ≡ map reverse logs
+      → ((t : ℕ) → t < length plan.threads → IsWhole plan floor t (get_or logs t [])) → (t : ℕ)
+      → FollowsOperations plan false history t
   follows logs same whole t = elim (cases_lt t (length plan.threads)) [
     | inl lt ↦
         let w : IsWhole plan floor t (entries_of history t) =
@@ -136,15 +139,23 @@ module _ (plan : Plan) (chains : ℕ) (x : Closing)
         }
   ]
 
-  pub is_legal : (logs : List (List Entry)) → map (λ b. b.entries) x.logs.items ≡ map reverse logs → ((t : ℕ) → t < length plan.threads → IsWhole plan floor t (get_or logs t [])) → IsLegal plan true false history
+  pub is_legal : (logs : List (List Entry)) → map (λ b. b.entries) x.logs.items ≡ map reverse logs
+      → ((t : ℕ) → t < length plan.threads → IsWhole plan floor t (get_or logs t [])) → IsLegal plan true false history
   unfolding EntriesFollowOperations
-  is_legal logs same whole = record { so_far = subst (λ c. IsLegalSoFar c true history) same_plan closing.legal; entries_follow_operations = follows logs same whole; orders_are_legal = λ e. absurd cc }
+  is_legal logs same whole =
+      record {
+        so_far = subst (λ c. IsLegalSoFar c true history) same_plan closing.legal;
+        entries_follow_operations = follows logs same whole;
+        orders_are_legal = λ e. absurd cc;
+      }
 
   -- 3. What is printed
 
   bases : map its_base x.recs.items ≡ map (base_behind plan history) (threads_of plan)
   bases =
-      map_same x.recs.items its_base (base_behind plan history) 0 (λ k d lt. let its = (closing.home k d (omega (arith, lt, closing.count))).base ∙ ap (λ c. base_in c history k) same_plan in
+      map_same x.recs.items its_base (base_behind plan history) 0
+      (λ k d lt. let its = (closing.home k d (omega (arith, lt, closing.count))).base
+      ∙ ap (λ c. base_in c history k) same_plan in
       let same : its_base (get_or x.recs.items k d) ≡ base_behind plan history k = λ j. (its j, its j) in
       same ∙ ap (base_behind plan history) (omega arith))
       ∙ ap (λ n. map (base_behind plan history) (range_with_len 0 n)) count
@@ -194,22 +205,29 @@ logs_in [] = refl
 logs_in (p ∷ ps) = ap (λ ls. reverse p.view.share.log ∷ ls) (logs_in ps)
 
 -- the passes that the workers leave are taken in as they are
-pub all_done : (plan : Plan) (f : Floor Description) (items changed : List (Pass Knowledge)) (n : ℕ) → length changed ≡ length items → n ≡ length items → AreDone plan f changed → AreDone plan f (take n (changed ++ drop (length changed) items))
+pub all_done : (plan : Plan) (f : Floor Description) (items changed : List (Pass Knowledge)) (n : ℕ)
+    → length changed ≡ length items → n ≡ length items → AreDone plan f changed
+    → AreDone plan f (take n (changed ++ drop (length changed) items))
 all_done plan f items changed n same count done =
     subst (AreDone plan f) (sym (written_back items changed n same count)) done
 
-module _ (plan : Plan) (chains : ℕ) (f : Floor Description) (given : f.description ≡ description_of plan chains) (passes : List (Pass Knowledge)) (count : length passes ≡ length plan.threads) (done : AreDone plan f passes) (gathered : List (ℕ × Share)) (are : gathered ≡ parts passes) (x : Closing) where
+module _ (plan : Plan) (chains : ℕ) (f : Floor Description) (given : f.description ≡ description_of plan chains)
+    (passes : List (Pass Knowledge)) (count : length passes ≡ length plan.threads) (done : AreDone plan f passes)
+    (gathered : List (ℕ × Share)) (are : gathered ≡ parts passes) (x : Closing) where
   pub is_closing : IsClosing f.description (map (λ g. g.0) gathered) x
       → IsClosing (description_of plan chains) (threads_of plan) x
   is_closing closing =
-      let threads : map (λ g. g.0) gathered ≡ threads_of plan = ap (map (λ g. g.0)) are ∙ threads_in_order plan f passes count done in
+      let threads : map (λ g. g.0) gathered ≡ threads_of plan = ap (map (λ g. g.0)) are
+      ∙ threads_in_order plan f passes count done in
       subst (λ (z : Description × List ℕ). IsClosing z.0 z.1 x) (λ i. (given i, threads i)) closing
 
-  pub left_legal : map (λ b. b.entries) x.logs.items ≡ map (λ g. reverse g.1.log) gathered → (closing : IsClosing (description_of plan chains) (threads_of plan) x) → IsLegal plan true false closing.history
+  pub left_legal : map (λ b. b.entries) x.logs.items ≡ map (λ g. reverse g.1.log) gathered
+      → (closing : IsClosing (description_of plan chains) (threads_of plan) x) → IsLegal plan true false closing.history
   left_legal logs closing =
       let own : Pass Knowledge → List Entry = λ p. p.view.share.log in
       is_legal plan chains x closing (map own passes)
       (logs ∙ ap (map (λ g. reverse g.1.log)) are ∙ logs_in passes) (λ t lt.
       let d : Pass Knowledge = first_pass f.table f.description t in
       let within : t < length passes = omega (arith, lt, count) in
-      subst (λ (z : Description × List Entry). IsWhole plan z.0 t z.1) (λ i. (given i, sym (get_or-map own passes t d [] within) i)) (done t d within).whole)
+      subst (λ (z : Description × List Entry). IsWhole plan z.0 t z.1)
+      (λ i. (given i, sym (get_or-map own passes t d [] within) i)) (done t d within).whole)

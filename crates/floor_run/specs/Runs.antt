@@ -19,12 +19,13 @@ use Rattle.lock_floor.specs.declared.closing.Closing.{Closing}
 abbrev pub has_halt : List Entry → Bool
 has_halt history = list_any (λ e. is_halt e.event) history
 
--- how a run of threads ended, by its history: stuck where somebody was halted, or else reversed where a take was refused
+-- how a run of threads ended, by its history: stuck where somebody was halted, or else reversed where a take was
+-- refused
 abbrev pub ending_of_run : List Entry → Ending
 ending_of_run history = if has_halt history then IsStuck else whole_ending history
 
--- what is printed of a run of threads that has a history, whose newest entry is first: no queue, and for each thread its
--- last base twice
+-- what is printed of a run of threads that has a history, whose newest entry is first: no queue, and for each thread
+-- its last base twice
 abbrev pub outcome_of : Plan → List Entry → Outcome
 outcome_of plan history = record {
   history = reverse history;

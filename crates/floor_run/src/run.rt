@@ -22,9 +22,9 @@ use std::thread;
 use std::thread::Threads;
 use thread_records::ThreadRec;
 
-/// Runs the plan: one worker for each of its threads, all beside each other, on one floor, which is closed when all have
-/// come to their end. Gives what is to be printed of the run, and what is left of the floor. It takes no memory between
-/// the start of the first worker and the end of the last.
+/// Runs the plan: one worker for each of its threads, all beside each other, on one floor, which is closed when all
+/// have come to their end. Gives what is to be printed of the run, and what is left of the floor. It takes no memory
+/// between the start of the first worker and the end of the last.
 ///
 /// The plan is one that some script gives, of mutexes alone, and the floor has so many chains of each sort. Where no
 /// thread can be started, the workers run one after another, and the call may then not return.

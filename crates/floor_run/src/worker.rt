@@ -15,8 +15,8 @@ use std::sync::Wait;
 
 /// Makes the operations of a pass's thread, in order, and finishes the pass. It takes no memory.
 ///
-/// It asks the gate before each operation, with its place from 0, and so before an `endtry` that it comes to, which makes
-/// no entry. Of the operations in the block of a try that failed it makes none, and asks before none.
+/// It asks the gate before each operation, with its place from 0, and so before an `endtry` that it comes to, which
+/// makes no entry. Of the operations in the block of a try that failed it makes none, and asks before none.
 pub fn work<R: Wait, G: Gate>(rt: &R, floor: &Floor, pass: &mut Pass, plan: &Plan, gate: &G)
     requires given { IsFor plan.now floor.now.description }
     requires proper { IsProper plan.now }

@@ -70,7 +70,8 @@ pub is_sized : (plan : Plan) (chains : ℕ) → IsProper plan → 1 ≤ chains �
 is_sized plan chains proper some few = record {
   threads = omega (arith, length-map plan.threads thread_part, proper.threads);
   locks = omega (arith, length-map plan.locks lock_part, proper.locks);
-  classes = All-map (λ (x : LockPart). x.class.0 < most_classes) lock_part plan.locks (λ i d low. omega (arith, proper.lock_classes i d low, proper.classes));
+  classes = All-map (λ (x : LockPart). x.class.0 < most_classes) lock_part plan.locks
+      (λ i d low. omega (arith, proper.lock_classes i d low, proper.classes));
   keys = omega (arith, few_keys plan, proper.operations);
   rising = keys_rise plan.threads;
   room = omega (arith, rooms plan.threads, proper.operations);

@@ -42,7 +42,10 @@ module _ (c : Config) (held : ℕ → ℕ → Hold) (h : OnlyLocksAreHeld c held
   ]
 
 kept : (c : Config) (s : State) (step : Step) → May c s step → OnlyLocksAreHeld c s.held → OnlyLocksAreHeld c (after c s step).held
-unfolding after_seek after_look after_gain after_drop after_stamp after_ready after_unready after_enter after_open after_mark after_resume after_enter_sleep after_open_sleep after_add after_wake after_claim after_lend after_shift after_end_walk after_admit after_refuse after_take after_give after_count_out after_count_in after_count_self_in after_count_end after_halt after_abort
+unfolding after_seek after_look after_gain after_drop after_stamp after_ready after_unready after_enter after_open
+    after_mark after_resume after_enter_sleep after_open_sleep after_add after_wake after_claim after_lend after_shift
+    after_end_walk after_admit after_refuse after_take after_give after_count_out after_count_in after_count_self_in
+    after_count_end after_halt after_abort
 kept c s (Gains t l mode by_try) g h = gained c s.held h t l mode g.lock
 kept c s (Drops t l mode) g h = left c s.held h t l
 kept c s (Opens t l mode) g h = left c s.held h t l
@@ -59,6 +62,7 @@ reached : (floor : Description) {past : List Step} (s : State) → LeadsTo floor
 reached floor s none = at_start (config_in floor)
 reached floor n (more {s} step r p) = kept (config_in floor) s step p.may (reached floor s r)
 
-pub only_locks : (floor : Description) {past : List Step} (s : State) (t l : ℕ) (mode : Mode) → LeadsTo floor past s → s.held t l ≡ Holds mode → l < length floor.locks
+pub only_locks : (floor : Description) {past : List Step} (s : State) (t l : ℕ) (mode : Mode) → LeadsTo floor past s
+    → s.held t l ≡ Holds mode → l < length floor.locks
 unfolding OnlyLocksAreHeld
 only_locks floor s t l mode r e = reached floor s r t l mode e

@@ -1,5 +1,5 @@
--- A step of a thread, on whatever table its seat is at: what is asked of the step on a table that represents a sound state,
--- and what it tells then.
+-- A step of a thread, on whatever table its seat is at: what is asked of the step on a table that represents a sound
+-- state, and what it tells then.
 use Rattle.std.proofs.Common.{◌≡◌, ◌≢◌, ℕ, suc, ◌<◌, eqb, Option, Some, None, List, [], ◌∷◌, length, set, refl, sym, ap, ◌∙◌, subst, inl, inr, arith, length-set, get_or-set_same}
 use Rattle.std.proofs.lemmas.Bool.{cases_lt}
 use Rattle.std.proofs.lemmas.List.{set-get_or}

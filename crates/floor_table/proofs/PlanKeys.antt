@@ -236,7 +236,8 @@ few_all (d ∷ ds) =
 few_marked : (ks : List (ℕ × ℕ)) → len (named ks) ≤ length ks
 unfolding named
 few_marked [] = omega (arith, len-empty place_cmp (Unit {0}))
-few_marked (k ∷ ks) = let p = few_marked ks in let q = len-insert place_total (named ks) k tt in more (contains_key (named ks) k) (len (named ks)) _ q (omega (arith, p))
+few_marked (k ∷ ks) = let p = few_marked ks in let q = len-insert place_total (named ks) k tt in
+    more (contains_key (named ks) k) (len (named ks)) _ q (omega (arith, p))
   where
     more : (b : Bool) (n m : ℕ) → m ≡ cond b n (n + 1) → n ≤ length ks → m ≤ suc (length ks)
     more true n m e h = omega (arith, e, h)

@@ -1,5 +1,5 @@
--- Where a seat knows that its thread stands on no queue, the thread's record names none, and its turnstile and its sleep
--- queue are at home. What the seat knows and the wait word tell how the thread waits.
+-- Where a seat knows that its thread stands on no queue, the thread's record names none, and its turnstile and its
+-- sleep queue are at home. What the seat knows and the wait word tell how the thread waits.
 use Rattle.std.proofs.Common.{◌≡◌, ◌⊎◌, ◌+◌, ℕ, true, Option, Some, None, refl, sym, ap, inl, inr, ◌∙◌, arith}
 use Rattle.std.specs.Option.{IsSome}
 use Rattle.lock_model.specs.Config.{Config}
@@ -11,7 +11,8 @@ use Rattle.lock_state.specs.Facts.{Lawful, StandingIsQueued, TurnstileIsLent, Sl
 use Rattle.floor_table.specs.Views.{Pose, Runs, IsReady, StandsOn, is_off_queues}
 use Rattle.floor_table.specs.Represents.{wait_number, IsPosed}
 
-off : (p : Pose) (wait : Wait) (o : Option QueueName) → is_off_queues p ≡ true → IsPosed p wait o → ((q : QueueName) → o ≡ Some q → wait ≡ Queued) → o ≡ None
+off : (p : Pose) (wait : Wait) (o : Option QueueName) → is_off_queues p ≡ true → IsPosed p wait o
+    → ((q : QueueName) → o ≡ Some q → wait ≡ Queued) → o ≡ None
 off Runs wait None is h standing = refl
 off Runs wait (Some q) is h standing = absurd (let z : Running ≡ Queued = sym h ∙ standing q refl in cc)
 off IsReady wait o is h standing = h.1
@@ -22,17 +23,22 @@ one_there None e = absurd (omega (arith, e))
 one_there (Some n) e = refl
 
 module _ (c : Config) (s : State) (h : Lawful c s) (t : ℕ) where
-  pub stands_nowhere : (p : Pose) → is_off_queues p ≡ true → IsPosed p (s.wait t) (s.blocked_on t) → s.blocked_on t ≡ None
+  pub stands_nowhere : (p : Pose) → is_off_queues p ≡ true → IsPosed p (s.wait t) (s.blocked_on t)
+      → s.blocked_on t ≡ None
   unfolding StandingIsQueued
   stands_nowhere p is posed = off p (s.wait t) (s.blocked_on t) is posed (h.waits.standing_is_queued t)
 
   pub has_turnstile : s.blocked_on t ≡ None → IsSome (s.turnstile t)
   unfolding TurnstileIsLent
-  has_turnstile nowhere = one_there (s.turnstile t) (ap (λ o. count (s.turnstile t) + one (names_turnstile c o)) (sym nowhere) ∙ h.queues.turnstile_is_lent t)
+  has_turnstile nowhere =
+      one_there (s.turnstile t)
+      (ap (λ o. count (s.turnstile t) + one (names_turnstile c o)) (sym nowhere) ∙ h.queues.turnstile_is_lent t)
 
   pub has_sleep_queue : s.blocked_on t ≡ None → IsSome (s.sleep_queue t)
   unfolding SleepQueueIsLent
-  has_sleep_queue nowhere = one_there (s.sleep_queue t) (ap (λ o. count (s.sleep_queue t) + one (names_sleep_queue c o)) (sym nowhere) ∙ h.queues.sleep_queue_is_lent t)
+  has_sleep_queue nowhere =
+      one_there (s.sleep_queue t)
+      (ap (λ o. count (s.sleep_queue t) + one (names_sleep_queue c o)) (sym nowhere) ∙ h.queues.sleep_queue_is_lent t)
 
 -- the words of wakings by signal and by abort differ, and that of neither is a Queued thread's
 one_cause : (q : QueueName) (x y : Cause) → wait_number (Woken q x) ≡ wait_number (Woken q y) → x ≡ y
@@ -45,7 +51,8 @@ not_queued : (q : QueueName) (x : Cause) → wait_number (Woken q x) ≡ wait_nu
 not_queued q BySignal e = absurd (omega (arith, e))
 not_queued q ByAbort e = absurd (omega (arith, e))
 
-pub one_wait : (p : Pose) (a b : Wait) (on other : Option QueueName) → IsPosed p a on → IsPosed p b other → wait_number a ≡ wait_number b → a ≡ b
+pub one_wait : (p : Pose) (a b : Wait) (on other : Option QueueName) → IsPosed p a on → IsPosed p b other
+    → wait_number a ≡ wait_number b → a ≡ b
 one_wait Runs a b on other here there e = here ∙ sym there
 one_wait IsReady a b on other here there e = here.0 ∙ sym there.0
 one_wait (StandsOn q) a b on other here there e = go here there

@@ -32,7 +32,8 @@ same_share e h = record { columns = h.columns ∙ sym e; held_once = h.held_once
 
 module _ (floor : Description) (vs : List Knowledge) (a : State) (r : RepresentsSeats floor vs a) where
   -- a thread's seat stands behind the keeper's, at the thread's number
-  pub seat_of : (i : ℕ) (v : Knowledge) → get_elem? vs i ≡ some v → v.role ≡ OfThread → (i ≡ suc v.thread) × (v.thread < length floor.threads) × RepresentsShare v.share a v.thread
+  pub seat_of : (i : ℕ) (v : Knowledge) → get_elem? vs i ≡ some v → v.role ≡ OfThread → (i ≡ suc v.thread)
+      × (v.thread < length floor.threads) × RepresentsShare v.share a v.thread
   seat_of zero v at is = absurd (let e : OfKeeper ≡ OfThread = sym r.keeper ∙ ap (λ (w : Knowledge). w.role) (at_or vs 0 v nothing at) ∙ is in cc)
   seat_of (suc t) v at is =
       let here : thread_in vs t ≡ v = at_or vs (suc t) v nothing at in
@@ -47,8 +48,11 @@ module _ (floor : Description) (vs : List Knowledge) (a : State) (r : Represents
   -- 3. A step of a thread changes what its seat knows, and no share but its own. What others' seats know of where their
   -- threads are stays so
 
-  module _ (b : State) (t : ℕ) (v w : Knowledge) (at : get_elem? vs (suc t) ≡ some v) (was : v.role ≡ OfThread) (is : w.role ≡ OfThread) (mine : IsSeatOf w b t) (others : (u : ℕ) → u ≢ t → share_in b u ≡ share_in a u)
-      (pose : IsPosed w.pose (b.wait t) (b.blocked_on t)) (other_poses : (u : ℕ) → u ≢ t → (p : Pose) → IsPosed p (a.wait u) (a.blocked_on u) → IsPosed p (b.wait u) (b.blocked_on u)) where
+  module _ (b : State) (t : ℕ) (v w : Knowledge) (at : get_elem? vs (suc t) ≡ some v) (was : v.role ≡ OfThread)
+      (is : w.role ≡ OfThread) (mine : IsSeatOf w b t) (others : (u : ℕ) → u ≢ t → share_in b u ≡ share_in a u)
+      (pose : IsPosed w.pose (b.wait t) (b.blocked_on t))
+      (other_poses : (u : ℕ) → u ≢ t → (p : Pose) → IsPosed p (a.wait u) (a.blocked_on u)
+      → IsPosed p (b.wait u) (b.blocked_on u)) where
     abbrev new : List Knowledge
     new = set vs (suc t) w
 
@@ -121,6 +125,7 @@ module _ (floor : Description) (vs : List Knowledge) (a : State) (r : Represents
       poses = poses_are;
       runs = λ u gone. elim (cases_eq u t) [
         | inl e ↦ absurd (gone (ap (λ j. (thread_in new j).role) e ∙ ap (λ (k : Knowledge). k.role) mine_is ∙ is))
-        | inr ne ↦ ap (λ (k : Knowledge). k.pose) (others_are u ne) ∙ r.runs u (λ e. gone (ap (λ (k : Knowledge). k.role) (others_are u ne) ∙ e))
+        | inr ne ↦ ap (λ (k : Knowledge). k.pose) (others_are u ne)
+            ∙ r.runs u (λ e. gone (ap (λ (k : Knowledge). k.role) (others_are u ne) ∙ e))
       ];
     }

@@ -45,7 +45,8 @@ module _ (t u : ℕ) (ne : u ≢ t) where
   }
 
 -- what was seen of what was seen
-pub seen_on : (t : ℕ) (first then last : List Step) → IsSeenBy t first then → IsSeenBy t then last → IsSeenBy t first last
+pub seen_on : (t : ℕ) (first then last : List Step) → IsSeenBy t first then → IsSeenBy t then last
+    → IsSeenBy t first last
 seen_on t first then last h k = record {
   later = k.later ++ h.later;
   is = k.is ∙ ap (λ xs. k.later ++ xs) h.is ∙ sym (append_assoc k.later h.later first);

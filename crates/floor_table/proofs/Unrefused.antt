@@ -65,7 +65,10 @@ unrefused_begins c = record { to_note = λ t l k e. absurd cc; in_history = refl
 
 pub unrefused_kept : (c : Config) (s : State) (step : Step) → May c s step → IsNoRefusal step → Unrefused s
     → Unrefused (after c s step)
-unfolding after_seek after_look after_gain after_drop after_stamp after_ready after_unready after_enter after_open after_mark after_resume after_enter_sleep after_open_sleep after_add after_wake after_claim after_lend after_shift after_end_walk after_admit after_refuse after_take after_give after_count_out after_count_in after_count_self_in after_count_end after_halt after_abort
+unfolding after_seek after_look after_gain after_drop after_stamp after_ready after_unready after_enter after_open
+    after_mark after_resume after_enter_sleep after_open_sleep after_add after_wake after_claim after_lend after_shift
+    after_end_walk after_admit after_refuse after_take after_give after_count_out after_count_in after_count_self_in
+    after_count_end after_halt after_abort
 unrefused_kept c s (Stamps t e) g other h = record {
   to_note = noted s.noted t None (λ l k z. absurd cc) h.to_note;
   in_history = ap (λ b. b || has_reversal s.history) (stamped c s t e g (h.to_note t)) ∙ h.in_history;

@@ -8,7 +8,8 @@ use Rattle.floor_table.specs.declared.description.Description.{Description}
 use Rattle.floor_table.specs.Represents.{keeper_in, thread_in}
 use Rattle.floor_table.specs.Views.{Knowledge, OfThread}
 
--- The steps of threads of a floor that lead from the start to a state, the newest first. Each might be made where it came.
+-- The steps of threads of a floor that lead from the start to a state, the newest first. Each might be made where it
+-- came.
 pub data LeadsTo (floor : Description) : List Step → State → Type 0 where
   none : LeadsTo floor [] (start_state (config_in floor))
   more : {past : List Step} {s : State} (step : Step) → LeadsTo floor past s

@@ -58,8 +58,8 @@ latch_word words j = word_at words (latch_line j)
 abbrev pub words_for : ℕ → ℕ
 words_for slots = spot (latch_line slots)
 
--- 2. Values behind latches: the records of threads, then a cell for each key of a lock's table, then the chains of turnstiles,
--- those of sleep queues, and the class graph
+-- 2. Values behind latches: the records of threads, then a cell for each key of a lock's table, then the chains of
+--    turnstiles, those of sleep queues, and the class graph
 
 -- where each sort but the records begins
 abbrev pub first_cell : Description → ℕ

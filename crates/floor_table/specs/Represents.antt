@@ -1,5 +1,5 @@
--- Which state of `lock_state` a floor's table represents: its words, what is at home and what is out, and what its seats
--- know. Each column of the state is pinned: `state_from` shows that a state has no others.
+-- Which state of `lock_state` a floor's table represents: its words, what is at home and what is out, and what its
+-- seats know. Each column of the state is pinned: `state_from` shows that a state has no others.
 use Rattle.std.specs.Prelude.{◌≡◌, ◌≢◌, ◌⊎◌, ℕ, suc, ◌+◌, ◌^◌, ◌<◌, ◌≤◌, Bool, true, ◌==◌, List, [], ◌∷◌, length, slice_index_or, Option, Some, None}
 use Rattle.std.specs.List.{All, IsDistinct, list_any}
 use Rattle.std.specs.Map.{keys_of}
@@ -218,8 +218,8 @@ IsPosed IsReady wait blocked_on = (wait ≡ Queued) × (blocked_on ≡ None)
 IsPosed (StandsOn q) wait blocked_on =
     ((wait ≡ Queued) × (blocked_on ≡ Some q)) ⊎ ((cause : Cause) × (wait ≡ Woken q cause))
 
--- Each thread's share is with its seat, or with the keeper, or as it began where its pass isn't made yet. A seat that is
--- no thread's has nothing out. Each seat knows where its thread is; a thread without one runs.
+-- Each thread's share is with its seat, or with the keeper, or as it began where its pass isn't made yet. A seat that
+-- is no thread's has nothing out. Each seat knows where its thread is; a thread without one runs.
 pub record RepresentsSeats (floor : Description) (views : List Knowledge) (s : State) : Type 0 where
   pub keeper : (keeper_in views).role ≡ OfKeeper
   pub made : length views ≡ suc (keeper_in views).made
@@ -237,8 +237,8 @@ pub record RepresentsSeats (floor : Description) (views : List Knowledge) (s : S
 -- 4. The columns that are told
 
 -- The state with the columns that words, values, latches and seats tell; with a history, of which the logs are the
--- parts; and with the moment of the first halt, which the steps tell that were made. Each column stands here, so that who
--- adds one decides what tells it
+-- parts; and with the moment of the first halt, which the steps tell that were made. Each column stands here, so that
+-- who adds one decides what tells it
 abbrev pub state_from : WordColumns → (Item → Option ℕ) → Objects → (ℕ → ShareColumns) → List Entry
     → ℕ → State
 state_from told out x share history halted_at = record {

@@ -1,5 +1,5 @@
--- The rule of a floor's table: between any two steps it represents a state that is lawful on a running floor, to which the
--- steps that were made so far led. What each seat has seen of them is of that one list.
+-- The rule of a floor's table: between any two steps it represents a state that is lawful on a running floor, to
+-- which the steps that were made so far led. What each seat has seen of them is of that one list.
 use Rattle.std.specs.Prelude.{List}
 use Rattle.floor_table.specs.declared.description.Description.{Description}
 use Rattle.lock_state.specs.State.{State}

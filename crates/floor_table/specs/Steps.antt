@@ -65,9 +65,10 @@ MayMake floor v premise steps =
 
 -- 2. What it did
 
--- The thread made the steps, all its own, on the one table, of which all steps so far are `past`: the ones that its seat
--- had seen, and then others' steps. The table represented the state to which these lead, in which the thread may make
--- its steps, and then it represented the state behind them; the seat has seen them, and nobody made one in between.
+-- The thread made the steps, all its own, on the one table, of which all steps so far are `past`: the ones that its
+-- seat had seen, and then others' steps. The table represented the state to which these lead, in which the thread may
+-- make its steps, and then it represented the state behind them; the seat has seen them, and nobody made one in
+-- between.
 pub record Makes (floor : Description) (steps : List Step) (old new : Knowledge) : Type 0 where
   pub role : old.role ≡ OfThread
   pub role_behind : new.role ≡ OfThread

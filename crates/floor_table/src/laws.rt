@@ -37,8 +37,8 @@ pub fn columns_are_told()
         s.history s.halted_at ≡ s }
 {}
 
-/// Where a seat knows that its thread stands on no queue, the thread's record names none, and its turnstile and its sleep
-/// queue are at home.
+/// Where a seat knows that its thread stands on no queue, the thread's record names none, and its turnstile and its
+/// sleep queue are at home.
 pub fn poses_tell_of_records()
     ensures nowhere { (floor : Description) (v : Knowledge) (s : State) → Fits floor v s
         → is_off_queues v.pose ≡ true → s.blocked_on v.thread ≡ None }
@@ -48,8 +48,8 @@ pub fn poses_tell_of_records()
         → is_off_queues v.pose ≡ true → IsSome (s.sleep_queue v.thread) }
 {}
 
-/// Where a seat knows that its thread is, and what the thread's wait word says, tell how the thread waits: whether it runs,
-/// is Queued, or was woken, off which queue and how.
+/// Where a seat knows that its thread is, and what the thread's wait word says, tell how the thread waits: whether it
+/// runs, is Queued, or was woken, off which queue and how.
 pub fn waits_are_told()
     ensures { (pose : Pose) (a b : Wait) (on other : Option QueueName) → IsPosed pose a on
         → IsPosed pose b other → wait_number a ≡ wait_number b → a ≡ b }

@@ -6,8 +6,8 @@
 //! state (`view`).
 //!
 //! The rule (`specs/Rule.antt`) is that the table represents a lawful state of `lock_state`: its words, what is at home
-//! and what is out, and what the seats know say what the columns say (`specs/Represents.antt`). So each atomic step of a
-//! thread has to be a step of `lock_state`, and `lock_laws` shows that this keeps the state lawful.
+//! and what is out, and what the seats know say what the columns say (`specs/Represents.antt`). So each atomic step of
+//! a thread has to be a step of `lock_state`, and `lock_laws` shows that this keeps the state lawful.
 //!
 //! - `description`: what a floor is made for, and what a plan gives.
 //! - `board`: the table and its rule. What it is told once is a description.

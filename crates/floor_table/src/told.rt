@@ -1,5 +1,5 @@
-//! The atomic steps of a floor's table. Each never waits and takes no memory; it asks that whatever the table is when the
-//! word changes, the seat may step so that the rule holds again, and tells what the call that makes it picks.
+//! The atomic steps of a floor's table. Each never waits and takes no memory; it asks that whatever the table is when
+//! the word changes, the seat may step so that the rule holds again, and tells what the call that makes it picks.
 ghost use Rattle.std.specs.Prelude.{◌≡◌, ◌+◌, ◌%◌, ◌^◌, ◌<◌, ◌==◌};
 ghost use prog.Atomic.{either};
 ghost use Rattle.atomic_table.specs.Table.{Allows};

@@ -1,7 +1,7 @@
 //! `lock_bench [time]` times the mutexes of running floors. With `time` it prints lines `name value` as
-//! `bench/mutex_baseline.c` does, whose names and shapes of runs it shares: nanoseconds of an operation, which is a lock,
-//! an edit or an unlock with its entry, best and median of 15 runs. Without it, it makes a short run of each, and prints
-//! the names alone.
+//! `bench/mutex_baseline.c` does, whose names and shapes of runs it shares: nanoseconds of an operation, which is a
+//! lock, an edit or an unlock with its entry, best and median of 15 runs. Without it, it makes a short run of each, and
+//! prints the names alone.
 #![tactic(auto)]
 
 mod scripts;

@@ -6,8 +6,8 @@ use std::alloc::{AllocError, Global};
 // The keys that the edits go round.
 const KEYS: usize = 16;
 
-/// A run that is timed: its name, how many threads it has, whether each has a mutex of its own, and whether it edits the
-/// table of the mutex while it holds it.
+/// A run that is timed: its name, how many threads it has, whether each has a mutex of its own, and whether it edits
+/// the table of the mutex while it holds it.
 #[derive(Clone, Copy, Debug)]
 pub struct Case {
     pub name: &'static str,

@@ -1,5 +1,5 @@
--- An entry that changes the value that was taken last: the value is changed first, and the step of the ticket word commits
--- it together with the entry.
+-- An entry that changes the value that was taken last: the value is changed first, and the step of the ticket word
+-- commits it together with the entry.
 use Rattle.std.proofs.Common.{◌≡◌, ◌≢◌, ℕ, suc, ◌+◌, ◌%◌, ◌≤◌, Option, Some, None, List, [], ◌∷◌, refl, sym, ap, ◌∙◌, subst, inl, inr}
 use Rattle.std.proofs.lemmas.Bool.{cases_eq}
 use Rattle.std.proofs.lemmas.Option.{same_Some}
@@ -42,19 +42,24 @@ record OnlyChanges (floor : Description) (x y : Objects) (i : Item) : Type 0 whe
   others : (k : Item) → k ≢ i → SaySame floor x y k
   tables : (l key : ℕ) → CellOf l key ≢ i → y.table l key ≡ x.table l key
 
-object_changed : (floor : Description) (content : ℕ → Slot) (x y : Objects) (i : Item) (j : ℕ) (z : Slot) → slot_of floor i ≡ Some j → OnlyChanges floor x y i → IsOf floor y i z → RepresentsObjects floor content x → RepresentsObjects floor (put content j z) y
+object_changed : (floor : Description) (content : ℕ → Slot) (x y : Objects) (i : Item) (j : ℕ) (z : Slot)
+    → slot_of floor i ≡ Some j → OnlyChanges floor x y i → IsOf floor y i z → RepresentsObjects floor content x
+    → RepresentsObjects floor (put content j z) y
 object_changed floor content x y i j z place only is h = record {
   each = λ k m at.
       elim (cases_eq j m) [
         | inl e ↦
             let same : i ≡ k = one_place floor i k j place (at ∙ ap Some (sym e)) in
-            subst (λ n. IsOf floor y k (put content j z n)) e (subst (λ w. IsOf floor y k w) (sym (put_same content j z)) (subst (λ q. IsOf floor y q z) same is))
+            subst (λ n. IsOf floor y k (put content j z n)) e
+            (subst (λ w. IsOf floor y k w) (sym (put_same content j z)) (subst (λ q. IsOf floor y q z) same is))
         | inr ne ↦
             let other : k ≢ i = λ q. ne (same_Some j m (sym place ∙ ap (slot_of floor) (sym q) ∙ at)) in
-            subst (λ w. IsOf floor y k w) (sym (put_other content j z m ne)) (still_of floor x y k (content m) (only.others k other) (h.each k m at))
+            subst (λ w. IsOf floor y k w) (sym (put_other content j z m ne))
+            (still_of floor x y k (content m) (only.others k other) (h.each k m at))
       ];
   unnamed = λ l key none.
-      only.tables l key (λ q. absurd (let e : None ≡ Some j = sym none ∙ ap (slot_of floor) q ∙ place in cc)) ∙ h.unnamed l key none;
+      only.tables l key (λ q. absurd (let e : None ≡ Some j = sym none ∙ ap (slot_of floor) q ∙ place in cc))
+      ∙ h.unnamed l key none;
 }
 
 -- a key of a lock's table gets a value
@@ -80,7 +85,8 @@ module _ (floor : Description) (x : Objects) (a b : ℕ) (v : Option ℕ) where
       go ClassGraph ne = refl
 
 -- a thread's record changes
-record_changes : (floor : Description) (x : Objects) (f : ℕ → RecordColumns) (t : ℕ) → ((u : ℕ) → t ≢ u → f u ≡ x.record_of u) → OnlyChanges floor x (record x { record_of = f }) (RecordOf t)
+record_changes : (floor : Description) (x : Objects) (f : ℕ → RecordColumns) (t : ℕ)
+    → ((u : ℕ) → t ≢ u → f u ≡ x.record_of u) → OnlyChanges floor x (record x { record_of = f }) (RecordOf t)
 record_changes floor x f t same = record { others = go; tables = λ l key ne. refl }
   where
     go : (k : Item) → k ≢ RecordOf t → SaySame floor x (record x { record_of = f }) k
@@ -97,18 +103,22 @@ module _ (floor : Description) (s : State) (t : ℕ) (lawful : Lawful (config_in
   c = config_in floor
 
   abbrev ItsObject : Event → Item → Slot → Type 0
-  ItsObject e i x = OnlyChanges floor (objects_in s) (objects_in (after_stamp c s t e)) i × IsOf floor (objects_in (after_stamp c s t e)) i (changed e x)
+  ItsObject e i x = OnlyChanges floor (objects_in s) (objects_in (after_stamp c s t e)) i
+      × IsOf floor (objects_in (after_stamp c s t e)) i (changed e x)
 
-  cell_is : (l key : ℕ) (x : Slot) (e : Event) (v : Option ℕ) → IsOf floor (objects_in s) (CellOf l key) x → ((before : Option ℕ) → x ≡ Cell before → before ≡ s.table l key → changed e x ≡ Cell v)
+  cell_is : (l key : ℕ) (x : Slot) (e : Event) (v : Option ℕ) → IsOf floor (objects_in s) (CellOf l key) x
+      → ((before : Option ℕ) → x ≡ Cell before → before ≡ s.table l key → changed e x ≡ Cell v)
       → IsOf floor (record (objects_in s) { table = put_at s.table l key v }) (CellOf l key) (changed e x)
   cell_is l key (Cell before) e v h is =
-      subst (IsOf floor (record (objects_in s) { table = put_at s.table l key v }) (CellOf l key)) (sym (is before refl h)) (sym (put_at_same s.table l key v))
+      subst (IsOf floor (record (objects_in s) { table = put_at s.table l key v }) (CellOf l key))
+      (sym (is before refl h)) (sym (put_at_same s.table l key v))
   cell_is l key (Record b) e v h is = absurd h
   cell_is l key (Turnstiles chain) e v h is = absurd h
   cell_is l key (SleepQueues chain) e v h is = absurd h
   cell_is l key (Graph b) e v h is = absurd h
 
-  base_is : (p : Prio) (x : Slot) → IsOf floor (objects_in s) (RecordOf t) x → IsOf floor (objects_in (after_stamp c s t (Base p))) (RecordOf t) (changed (Base p) x)
+  base_is : (p : Prio) (x : Slot) → IsOf floor (objects_in s) (RecordOf t) x
+      → IsOf floor (objects_in (after_stamp c s t (Base p))) (RecordOf t) (changed (Base p) x)
   unfolding after_stamp
   base_is p (Record b) h =
       subst (RepresentsRecord _) (sym (λ i. record (record_in s t) { base = put_same s.base t p.0 i; effective = put_same s.effective t (effective_of c (s.loan t) p.0) i }))
@@ -124,31 +134,45 @@ module _ (floor : Description) (s : State) (t : ℕ) (lawful : Lawful (config_in
   its_object : (e : Event) (i : Item) (x : Slot) → IsChangeOf t e i → IsOf floor (objects_in s) i x → ItsObject e i x
   unfolding after_stamp
   its_object (Set l key v) i x is h =
-      subst (λ q. ItsObject (Set l key v) q x) (the_one i _ is)
-      (key_changes floor (objects_in s) l.0 key (Some v), cell_is l.0 key x (Set l key v) (Some v) (subst (λ q. IsOf floor (objects_in s) q x) (sym (the_one i _ is)) h) (λ before e same. ap (changed (Set l key v)) e))
+      subst (λ q. ItsObject (Set l key v) q x) (the_one i _ is) (
+        key_changes floor (objects_in s) l.0 key (Some v),
+        cell_is l.0 key x (Set l key v) (Some v)
+            (subst (λ q. IsOf floor (objects_in s) q x) (sym (the_one i _ is)) h)
+            (λ before e same. ap (changed (Set l key v)) e),
+      )
   its_object (Added l key n) i x is h =
       subst (λ q. ItsObject (Added l key n) q x) (the_one i _ is) (
         key_changes floor (objects_in s) l.0 key (Some (added (s.table l.0 key) n)),
-        cell_is l.0 key x (Added l key n) (Some (added (s.table l.0 key) n)) (subst (λ q. IsOf floor (objects_in s) q x) (sym (the_one i _ is)) h)
+        cell_is l.0 key x (Added l key n) (Some (added (s.table l.0 key) n))
+            (subst (λ q. IsOf floor (objects_in s) q x) (sym (the_one i _ is)) h)
             (λ before e same. ap (changed (Added l key n)) e ∙ ap (λ o. Cell (Some (added o n))) same),
       )
   its_object (Base p) i x is h =
       subst (λ q. ItsObject (Base p) q x) (the_one i _ is) (
         record_changes floor (objects_in s) (record_in (after_stamp c s t (Base p))) t
-            (λ u ne k. record (record_in s u) { base = put_other s.base t p.0 u ne k; effective = put_other s.effective t (effective_of c (s.loan t) p.0) u ne k }),
+            (λ u ne k. record (record_in s u) {
+              base = put_other s.base t p.0 u ne k;
+              effective = put_other s.effective t (effective_of c (s.loan t) p.0) u ne k;
+            }),
         base_is p x (subst (λ q. IsOf floor (objects_in s) q x) (sym (the_one i _ is)) h),
       )
   its_object other i x is h = absurd cc
 
 -- 3. So it is stamped with the value changed
 
-pub change_allowed : (floor : Description) (me : Me Slot Knowledge) (event : Event) (slots id : ℕ) (i : Item) (j : ℕ) (x : Slot) → me.0.role ≡ OfThread → 1 ≤ me.0.spare → IsChangeOf me.0.thread event i → slot_of floor i ≡ Some j
-    → me.0.out ≡ (j, x) ∷ rest me.0.out → me.1 ≡ last_changed event me.0.out → MayMake floor me.0 (λ s. Unit {0}) (Stamps me.0.thread event ∷ [])
-    → Allows (FloorHolds floor) slots id me (spot ticket_line) (λ n. (n + 1) % 18446744073709551616) (StampedWith floor event (λ me. me.1) me)
+pub change_allowed : (floor : Description) (me : Me Slot Knowledge) (event : Event) (slots id : ℕ) (i : Item) (j : ℕ)
+    (x : Slot) → me.0.role ≡ OfThread → 1 ≤ me.0.spare → IsChangeOf me.0.thread event i → slot_of floor i ≡ Some j
+    → me.0.out ≡ (j, x) ∷ rest me.0.out → me.1 ≡ last_changed event me.0.out
+    → MayMake floor me.0 (λ s. Unit {0}) (Stamps me.0.thread event ∷ [])
+    → Allows (FloorHolds floor) slots id me (spot ticket_line) (λ n. (n + 1) % 18446744073709551616)
+    (StampedWith floor event (λ me. me.1) me)
 change_allowed floor me event slots id i j x was room about place last changes may =
-    allows floor slots id me (spot ticket_line) (λ n. (n + 1) % 18446744073709551616) (StampedWith floor event (λ me. me.1) me) was (λ b h small. step b h)
+    allows floor slots id me (spot ticket_line) (λ n. (n + 1) % 18446744073709551616)
+    (StampedWith floor event (λ me. me.1) me) was (λ b h small. step b h)
   where
-    step : (b : Board) (h : Finds floor me.0 b) → Steps floor me (spot ticket_line) (word_at b.words ticket_line) ((word_at b.words ticket_line + 1) % 18446744073709551616) (StampedWith floor event (λ me. me.1) me) b
+    step : (b : Board) (h : Finds floor me.0 b)
+        → Steps floor me (spot ticket_line) (word_at b.words ticket_line)
+        ((word_at b.words ticket_line + 1) % 18446744073709551616) (StampedWith floor event (λ me. me.1) me) b
     step b h =
         let r = h.represents in
         let t : ℕ = me.0.thread in
@@ -159,6 +183,9 @@ change_allowed floor me event slots id i j x was room about place last changes m
         let is_its = (h.fits.out.each i j x place (ap (found j) last ∙ found_first j x (rest me.0.out))).1 in
         let its = its_object floor h.state t h.sound.facts.lawful event i x about is_its in
         stamps floor me was room event (λ me. me.1) b h (put r.content j y) (may h.state h.fits tt)
-        (subst (λ o. Shelves (slots_for floor) (latch_word b.words) (home_at b.homes) (put outs t o) (put r.content j y)) (sym now)
-        (shelf_changed (slots_for floor) (latch_word b.words) (home_at b.homes) outs r.content r.shelves j t x y (rest me.0.out) mine))
-        (object_changed floor r.content (objects_in h.state) (objects_in (after_stamp (config_in floor) h.state t event)) i j y place its.0 its.1 r.objects)
+        (subst (λ o. Shelves (slots_for floor) (latch_word b.words) (home_at b.homes) (put outs t o)
+        (put r.content j y)) (sym now)
+        (shelf_changed (slots_for floor) (latch_word b.words) (home_at b.homes) outs r.content r.shelves j t x y
+        (rest me.0.out) mine))
+        (object_changed floor r.content (objects_in h.state)
+        (objects_in (after_stamp (config_in floor) h.state t event)) i j y place its.0 its.1 r.objects)

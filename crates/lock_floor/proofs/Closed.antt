@@ -60,11 +60,13 @@ none_waits (w ∷ ws) h =
     let here : one (w.thread == w.thread) ≡ 1 = ap one (eq-eqb w.thread w.thread refl) in
     absurd (let none = h w.thread in omega (arith, here, none))
 
-unlent : (head : Option ℕ) (o : Option Loan) → count head ≡ 0 → ((x : Loan) → o ≡ Some x → head ≡ Some x.number) → o ≡ None
+unlent : (head : Option ℕ) (o : Option Loan) → count head ≡ 0 → ((x : Loan) → o ≡ Some x → head ≡ Some x.number)
+    → o ≡ None
 unlent head None e h = refl
 unlent head (Some x) e h = absurd (let z : count head ≡ 1 = ap count (h x refl) in omega (arith, e, z))
 
-module _ (floor : Description) {past : List Step} (s : State) (sound : IsSound floor past s) (running : (t : ℕ) → s.wait t ≡ Running) where
+module _ (floor : Description) {past : List Step} (s : State) (sound : IsSound floor past s)
+    (running : (t : ℕ) → s.wait t ≡ Running) where
   nowhere_at : (t : ℕ) → s.blocked_on t ≡ None
   nowhere_at t = stands_nowhere (config_in floor) s sound.facts.lawful t Runs refl (running t)
 
@@ -74,7 +76,9 @@ module _ (floor : Description) {past : List Step} (s : State) (sound : IsSound f
     where
       go : (n : ℕ) → stands t (s.lists q) ≡ n → n ≡ 0
       go zero e = refl
-      go (suc n) e = absurd (let z : None ≡ Some q = sym (nowhere_at t) ∙ standing_named (config_in floor) s t q sound.facts.lawful (omega (arith, e)) in cc)
+      go (suc n) e = absurd
+          (let z : None ≡ Some q = sym (nowhere_at t)
+          ∙ standing_named (config_in floor) s t q sound.facts.lawful (omega (arith, e)) in cc)
 
   no_head : (q : QueueName) → count (s.head q) ≡ 0
   unfolding HeadsFitWaiters
@@ -86,7 +90,8 @@ module _ (floor : Description) {past : List Step} (s : State) (sound : IsSound f
 
   lends_nothing : (t l : ℕ) → s.loan t l ≡ None
   unfolding LoansAreOnHeads
-  lends_nothing t l = unlent (s.head (lock_queue l)) (s.loan t l) (no_head (lock_queue l)) (sound.facts.lawful.loans.loans_are_on_heads t l)
+  lends_nothing t l = unlent (s.head (lock_queue l)) (s.loan t l) (no_head (lock_queue l))
+      (sound.facts.lawful.loans.loans_are_on_heads t l)
 
   turnstile_at : (t : ℕ) → IsSome (s.turnstile t)
   turnstile_at t = has_turnstile (config_in floor) s sound.facts.lawful t (nowhere_at t)
@@ -107,7 +112,9 @@ module _ (floor : Description) {past : List Step} (s : State) (sound : IsSound f
 
   -- 2. No two threads have one turnstile, or one sleep queue
 
-  differ : (column : ℕ → Option ℕ) → ((n : ℕ) → sum_below (length floor.threads) (λ t. at_option n (column t)) ≤ 1) → ((t : ℕ) → IsSome (column t)) → (t u : ℕ) → t < length floor.threads → u < length floor.threads → column t ≡ column u → t ≡ u
+  differ : (column : ℕ → Option ℕ) → ((n : ℕ) → sum_below (length floor.threads) (λ t. at_option n (column t)) ≤ 1)
+      → ((t : ℕ) → IsSome (column t)) → (t u : ℕ) → t < length floor.threads → u < length floor.threads
+      → column t ≡ column u → t ≡ u
   differ column once there t u i j same = go (column t) refl (there t)
     where
       go : (o : Option ℕ) → column t ≡ o → IsSome o → t ≡ u
@@ -117,20 +124,27 @@ module _ (floor : Description) {past : List Step} (s : State) (sound : IsSound f
         | inr ne ↦
             let first : at_option n (column t) ≡ 1 = ap (at_option n) e ∙ one_same n in
             let second : at_option n (column u) ≡ 1 = ap (at_option n) (sym same) ∙ first in
-            absurd (let both = sum_below-two (length floor.threads) (λ k. at_option n (column k)) t u i j ne in let most = once n in omega (arith, first, second, both, most))
+            absurd (let both = sum_below-two (length floor.threads) (λ k. at_option n (column k)) t u i j ne in
+            let most = once n in omega (arith, first, second, both, most))
       ]
 
   most_one : (b : Bool) → one b ≤ 1
   most_one true = omega arith
   most_one false = omega arith
 
-  pub turnstiles_differ : (t u : ℕ) → t < length floor.threads → u < length floor.threads → s.turnstile t ≡ s.turnstile u → t ≡ u
+  pub turnstiles_differ : (t u : ℕ) → t < length floor.threads → u < length floor.threads
+      → s.turnstile t ≡ s.turnstile u → t ≡ u
   unfolding OneTurnstileEach turnstile_places
-  turnstiles_differ = differ s.turnstile (λ n. let p = sound.facts.lawful.queues.one_turnstile_each n in let m = most_one (nat_lt n (length floor.threads)) in omega (arith, p, m)) turnstile_at
+  turnstiles_differ = differ s.turnstile
+      (λ n. let p = sound.facts.lawful.queues.one_turnstile_each n in
+      let m = most_one (nat_lt n (length floor.threads)) in omega (arith, p, m)) turnstile_at
 
-  pub sleep_queues_differ : (t u : ℕ) → t < length floor.threads → u < length floor.threads → s.sleep_queue t ≡ s.sleep_queue u → t ≡ u
+  pub sleep_queues_differ : (t u : ℕ) → t < length floor.threads → u < length floor.threads
+      → s.sleep_queue t ≡ s.sleep_queue u → t ≡ u
   unfolding OneSleepQueueEach sleep_queue_places
-  sleep_queues_differ = differ s.sleep_queue (λ n. let p = sound.facts.lawful.queues.one_sleep_queue_each n in let m = most_one (nat_lt n (length floor.threads)) in omega (arith, p, m)) sleep_queue_at
+  sleep_queues_differ =
+      differ s.sleep_queue (λ n. let p = sound.facts.lawful.queues.one_sleep_queue_each n in
+      let m = most_one (nat_lt n (length floor.threads)) in omega (arith, p, m)) sleep_queue_at
 
 -- 3. All passes are taken in
 
@@ -139,21 +153,24 @@ live_at [] i = omega arith
 live_at (v ∷ vs) zero = omega arith
 live_at (v ∷ vs) (suc i) = let p = live_at vs i in omega (arith, p)
 
-record_there : (floor : Description) (s : State) (t : ℕ) (x : Slot) → IsOf floor (objects_in s) (RecordOf t) x → (b : Box ThreadRec Global) × (x ≡ Recorded b) × RepresentsRecord b.value (record_in s t)
+record_there : (floor : Description) (s : State) (t : ℕ) (x : Slot) → IsOf floor (objects_in s) (RecordOf t) x
+    → (b : Box ThreadRec Global) × (x ≡ Recorded b) × RepresentsRecord b.value (record_in s t)
 record_there floor s t (Recorded b) h = (b, refl, h)
 record_there floor s t (Cell value) h = absurd h
 record_there floor s t (Turnstiles chain) h = absurd h
 record_there floor s t (SleepQueues chain) h = absurd h
 record_there floor s t (Graph b) h = absurd h
 
-cell_there : (floor : Description) (s : State) (l key : ℕ) (x : Slot) → IsOf floor (objects_in s) (CellOf l key) x → x ≡ Cell (s.table l key)
+cell_there : (floor : Description) (s : State) (l key : ℕ) (x : Slot) → IsOf floor (objects_in s) (CellOf l key) x
+    → x ≡ Cell (s.table l key)
 cell_there floor s l key (Recorded b) h = absurd h
 cell_there floor s l key (Cell value) h = ap Cell h
 cell_there floor s l key (Turnstiles chain) h = absurd h
 cell_there floor s l key (SleepQueues chain) h = absurd h
 cell_there floor s l key (Graph b) h = absurd h
 
-module _ (floor : Description) (v : Knowledge) (ws : List ℕ) (xs : List Slot) (final : Final (Seen (FloorHolds floor) 0 v) ws xs) (all : length v.gathered ≡ length floor.threads) where
+module _ (floor : Description) (v : Knowledge) (ws : List ℕ) (xs : List Slot)
+    (final : Final (Seen (FloorHolds floor) 0 v) ws xs) (all : length v.gathered ≡ length floor.threads) where
   abbrev b : Board
   b = final.0
 
@@ -180,7 +197,8 @@ module _ (floor : Description) (v : Knowledge) (ws : List ℕ) (xs : List Slot) 
 
   -- so all threads run
   pub running : (t : ℕ) → left.wait t ≡ Running
-  running t = subst (λ p. IsPosed p (left.wait t) (left.blocked_on t)) (represents.seats.runs t (nobody t)) (represents.seats.poses t)
+  running t = subst (λ p. IsPosed p (left.wait t) (left.blocked_on t)) (represents.seats.runs t (nobody t))
+      (represents.seats.poses t)
 
   free : (j : ℕ) → j < slots_for floor → latch_word b.words j ≡ 0
   free j low = go (latch_word b.words j) refl
@@ -192,18 +210,23 @@ module _ (floor : Description) (v : Knowledge) (ws : List ℕ) (xs : List Slot) 
   in_place : (j : ℕ) → j < slots_for floor → get_elem? xs j ≡ some (represents.content j)
   in_place j low = final.4 j (represents.content j) (or_at b.homes j none (omega (arith, low, represents.sizes.slots)) ∙ ap some (represents.shelves.at_home j low (free j low)))
 
-  pub record_home : (t : ℕ) → t < length floor.threads → (b : Box ThreadRec Global) × (get_elem? xs t ≡ some (Recorded b)) × RepresentsRecord b.value (record_in left t)
+  pub record_home : (t : ℕ) → t < length floor.threads → (b : Box ThreadRec Global)
+      × (get_elem? xs t ≡ some (Recorded b)) × RepresentsRecord b.value (record_in left t)
   record_home t low =
       let place = record_at floor t low in
       let p = record_there floor left t (represents.content t) (represents.objects.each (RecordOf t) t place) in
       (p.0, in_place t (place_low floor (RecordOf t) t place) ∙ ap some p.1, p.2)
 
-  pub cell_home : (i : ℕ) (d : ℕ × ℕ) → i < length floor.keys → get_elem? xs (length floor.threads + i) ≡ some (Cell (left.table (get_or floor.keys i d).0 (get_or floor.keys i d).1))
+  pub cell_home : (i : ℕ) (d : ℕ × ℕ) → i < length floor.keys
+      → get_elem? xs (length floor.threads + i) ≡ some
+      (Cell (left.table (get_or floor.keys i d).0 (get_or floor.keys i d).1))
   cell_home i d low =
       let x : ℕ × ℕ = get_or floor.keys i d in
       let j : ℕ = length floor.threads + i in
       let place = cell_at floor represents.sizes.sized i d low in
-      in_place j (place_low floor (CellOf x.0 x.1) j place) ∙ ap some (cell_there floor left x.0 x.1 (represents.content j) (represents.objects.each (CellOf x.0 x.1) j place))
+      in_place j (place_low floor (CellOf x.0 x.1) j place)
+      ∙ ap some (cell_there floor left x.0 x.1 (represents.content j)
+      (represents.objects.each (CellOf x.0 x.1) j place))
 
   pub places : length xs ≡ slots_for floor
   places = sym final.3 ∙ represents.sizes.slots
@@ -230,7 +253,9 @@ module _ (floor : Description) (v : Knowledge) (ws : List ℕ) (xs : List Slot) 
   unfolding LogsAreParts
   no_other t some_entry = elim (cases_lt t (length floor.threads)) [
     | inl low ↦ stands_there (λ (g : ℕ × Share). g.0) (length floor.threads) v.gathered all below named t low
-    | inr past ↦ absurd (some_entry (sym (sound.facts.lawful.books.logs_are_parts t) ∙ ap (λ (y : ShareColumns). y.log) (represents.seats.unmade t (subst (λ n. n ≤ t) (sym all_made.0) past))))
+    | inr past ↦ absurd (some_entry
+        (sym (sound.facts.lawful.books.logs_are_parts t)
+        ∙ ap (λ (y : ShareColumns). y.log) (represents.seats.unmade t (subst (λ n. n ≤ t) (sym all_made.0) past))))
   ]
 
   pub parts : map (λ g. reverse g.1.log) v.gathered ≡ map (λ t. reverse (entries_of left.history t)) (map (λ g. g.0) v.gathered)

@@ -1,4 +1,5 @@
--- Numbers of a list that has as many as there are below a bound: where each below it stands there, each stands there once.
+-- Numbers of a list that has as many as there are below a bound: where each below it stands there, each stands there
+-- once.
 use Rattle.std.proofs.Common.{◌≡◌, ℕ, zero, suc, ◌<◌, ◌≤◌, eqb, Bool, true, false, ◌||◌, List, [], ◌∷◌, length, map, refl, sym, ap, ◌∙◌, subst, inl, inr, arith}
 use Rattle.std.proofs.lemmas.Bool.{cases_eq, cases_lt, eqb-true}
 use Rattle.std.proofs.lemmas.List.{length-map}

@@ -39,15 +39,18 @@ unfolding recorded
 same_record b c e = ap (λ x. recorded x b) (some-injective (Recorded b) (Recorded c) e)
 
 -- the last table, of which the keeper's seat, the first, tells
-pub last : (floor : Description) (v : Knowledge) (i : ℕ) (ws : List ℕ) (xs : List Slot) → i ≡ 0 → Final (Seen (FloorHolds floor) i v) ws xs → Final (Seen (FloorHolds floor) 0 v) ws xs
+pub last : (floor : Description) (v : Knowledge) (i : ℕ) (ws : List ℕ) (xs : List Slot) → i ≡ 0
+    → Final (Seen (FloorHolds floor) i v) ws xs → Final (Seen (FloorHolds floor) 0 v) ws xs
 last floor v i ws xs first final = subst (λ k. Final (Seen (FloorHolds floor) k v) ws xs) first final
 
-module _ (floor : Description) (v : Knowledge) (ws : List ℕ) (xs : List Slot) (final : Final (Seen (FloorHolds floor) 0 v) ws xs) (all : length v.gathered ≡ length floor.threads) where
+module _ (floor : Description) (v : Knowledge) (ws : List ℕ) (xs : List Slot)
+    (final : Final (Seen (FloorHolds floor) 0 v) ws xs) (all : length v.gathered ≡ length floor.threads) where
   abbrev s : State
   s = closed.left floor v ws xs final all
 
   -- the cells are in their places, however these are written
-  pub cells_out : (threads : ℕ) (keys : List (ℕ × ℕ)) (ys : List Slot) → threads ≡ length floor.threads → keys ≡ floor.keys → ys ≡ xs
+  pub cells_out : (threads : ℕ) (keys : List (ℕ × ℕ)) (ys : List Slot) → threads ≡ length floor.threads
+      → keys ≡ floor.keys → ys ≡ xs
       → (i : ℕ) (d : ℕ × ℕ) → i < length keys → get_elem? ys (threads + i) ≡ some (Cell (s.table (get_or keys i d).0 (get_or keys i d).1))
   cells_out threads keys ys same_threads same_keys same_items =
       subst (λ (z : ℕ × List (ℕ × ℕ) × List Slot). (i : ℕ) (d : ℕ × ℕ) → i < length z.1 → get_elem? z.2 (z.0 + i) ≡ some (Cell (s.table (get_or z.1 i d).0 (get_or z.1 i d).1)))
@@ -57,31 +60,42 @@ module _ (floor : Description) (v : Knowledge) (ws : List ℕ) (xs : List Slot) 
   pub record HasAll (x : Closing) : Type 0 where
     pub logs : map (λ b. b.entries) x.logs.items ≡ map (λ g. reverse g.1.log) v.gathered
     pub count : length x.recs.items ≡ length floor.threads
-    pub records : (t : ℕ) (d : Box ThreadRec Global) → t < length floor.threads → get_elem? xs t ≡ some (Recorded (get_or x.recs.items t d))
-    pub values : (l key : ℕ) → get x.tables.present (l, key) ≡ cond (list_any (is_cell l key) floor.keys) (s.table l key) None
+    pub records : (t : ℕ) (d : Box ThreadRec Global) → t < length floor.threads
+        → get_elem? xs t ≡ some (Recorded (get_or x.recs.items t d))
+    pub values : (l key : ℕ)
+        → get x.tables.present (l, key) ≡ cond (list_any (is_cell l key) floor.keys) (s.table l key) None
     pub going : x.halted ≡ false
 
   module _ (x : Closing) (h : HasAll x) where
-    its_record : (t : ℕ) (d : Box ThreadRec Global) → t < length floor.threads → RepresentsRecord (get_or x.recs.items t d).value (record_in s t)
+    its_record : (t : ℕ) (d : Box ThreadRec Global) → t < length floor.threads
+        → RepresentsRecord (get_or x.recs.items t d).value (record_in s t)
     its_record t d low =
         let p = closed.record_home floor v ws xs final all t low in
         let same : p.0 ≡ get_or x.recs.items t d = same_record p.0 (get_or x.recs.items t d) (sym p.1 ∙ h.records t d low) in
         subst (λ (b : Box ThreadRec Global). RepresentsRecord b.value (record_in s t)) same p.2
 
-    value : (l key : ℕ) (b : Bool) → list_any (is_cell l key) floor.keys ≡ b → cond b (s.table l key) None ≡ s.table l key
+    value : (l key : ℕ) (b : Bool) → list_any (is_cell l key) floor.keys ≡ b
+        → cond b (s.table l key) None ≡ s.table l key
     value l key true e = refl
     value l key false e =
         sym ((closed.represents floor v ws xs final all).objects.unnamed l key (no_cell floor l key e))
 
     replayed : (q : ℕ × ℕ) → get x.tables.present q ≡ get (tables_of s.history) q
     unfolding TablesReplay value_at
-    replayed q = h.values q.0 q.1 ∙ value q.0 q.1 (list_any (is_cell q.0 q.1) floor.keys) refl ∙ (closed.sound floor v ws xs final all).facts.lawful.books.tables_replay_logs q.0 q.1
+    replayed q = h.values q.0 q.1 ∙ value q.0 q.1 (list_any (is_cell q.0 q.1) floor.keys) refl
+        ∙ (closed.sound floor v ws xs final all).facts.lawful.books.tables_replay_logs q.0 q.1
 
     few_entries : length s.history < 4294967296
     unfolding NextIsNew
-    few_entries = omega (arith, (closed.sound floor v ws xs final all).facts.lawful.books.next_is_new, (closed.represents floor v ws xs final all).room)
+    few_entries = omega (
+      arith,
+      (closed.sound floor v ws xs final all).facts.lawful.books.next_is_new,
+      (closed.represents floor v ws xs final all).room,
+    )
 
-    part_differs : {A : Type 0} (part : RecordColumns → A) → ((t u : ℕ) → t < length floor.threads → u < length floor.threads → part (record_in s t) ≡ part (record_in s u) → t ≡ u)
+    part_differs : {A : Type 0} (part : RecordColumns → A)
+        → ((t u : ℕ) → t < length floor.threads → u < length floor.threads → part (record_in s t) ≡ part (record_in s u)
+        → t ≡ u)
         → (t u : ℕ) (d : Box ThreadRec Global) → t < length x.recs.items → u < length x.recs.items → part (columns_of (get_or x.recs.items t d).value) ≡ part (columns_of (get_or x.recs.items u d).value) → t ≡ u
     part_differs part apart t u d i j e =
         let i' : t < length floor.threads = omega (arith, i, h.count) in
@@ -99,7 +113,8 @@ module _ (floor : Description) (v : Knowledge) (ws : List ℕ) (xs : List Slot) 
             once = closed.once floor v ws xs final all;
             no_other = closed.no_other floor v ws xs final all;
           };
-          legal = legal_so_far (by_chain floor.chains s) (config_in floor) s true sound.facts.lawful sound.sleepers (may_halt s.history);
+          legal = legal_so_far (by_chain floor.chains s) (config_in floor) s true sound.facts.lawful sound.sleepers
+              (may_halt s.history);
           no_refusal = sound.no_refusal.in_history;
           few = few_entries;
           count = h.count;

@@ -19,12 +19,15 @@ one_state : (floor : Description) {past : List Step} {s n : State} → LeadsTo f
 one_state floor none none = refl
 one_state floor (more step r p) (more again q k) = ap (λ x. after (config_in floor) x step) (one_state floor r q)
 
-pub same_state : (floor : Description) (steps others : List Step) (u v x y : Knowledge) (m : Makes floor steps u v) (k : Makes floor others x y) → m.past ≡ k.past → m.state ≡ k.state
-same_state floor steps others u v x y m k e = one_state floor (subst (λ past. LeadsTo floor past m.state) e m.sound.reached) k.sound.reached
+pub same_state : (floor : Description) (steps others : List Step) (u v x y : Knowledge) (m : Makes floor steps u v)
+    (k : Makes floor others x y) → m.past ≡ k.past → m.state ≡ k.state
+same_state floor steps others u v x y m k e =
+    one_state floor (subst (λ past. LeadsTo floor past m.state) e m.sound.reached) k.sound.reached
 
 -- 2. What a look finds
 
-module _ (floor : Description) (l : ℕ) (counts : Bool) (old new : Knowledge) (m : Makes floor (Looks old.thread l counts ∷ []) old new) where
+module _ (floor : Description) (l : ℕ) (counts : Bool) (old new : Knowledge)
+    (m : Makes floor (Looks old.thread l counts ∷ []) old new) where
   abbrev n : State
   n = after_look m.state old.thread l counts
 
@@ -41,12 +44,18 @@ module _ (floor : Description) (l : ℕ) (counts : Bool) (old new : Knowledge) (
       sound_kept floor m.state steps (λ u k j e. absurd cc, tt) m.may m.sound
 
   -- a look leaves the words, so one right behind it finds the same
-  pub finds_it_again : (again : Bool) (last : Knowledge) (k : Makes floor (Looks new.thread l again ∷ []) new last) → k.past ≡ new.seen → k.state.word l ≡ m.state.word l
+  pub finds_it_again : (again : Bool) (last : Knowledge) (k : Makes floor (Looks new.thread l again ∷ []) new last)
+      → k.past ≡ new.seen → k.state.word l ≡ m.state.word l
   unfolding after_look
   finds_it_again again last k e =
-      let reached : LeadsTo floor (Looks old.thread l counts ∷ m.past) k.state = subst (λ past. LeadsTo floor past k.state) (e ∙ m.seen) k.sound.reached in
+      let reached : LeadsTo floor (Looks old.thread l counts ∷ m.past) k.state =
+      subst (λ past. LeadsTo floor past k.state) (e ∙ m.seen) k.sound.reached in
       ap (λ (s : State). s.word l) (one_state floor reached behind.reached)
 
-pub same_look : (floor : Description) (l : ℕ) (first second : Bool) (u v w : Knowledge) (m : Makes floor (Looks u.thread l first ∷ []) u v) (k : Makes floor (Looks v.thread l second ∷ []) v w) → k.past ≡ v.seen → w.share.doing.last_look ≡ v.share.doing.last_look
+pub same_look : (floor : Description) (l : ℕ) (first second : Bool) (u v w : Knowledge)
+    (m : Makes floor (Looks u.thread l first ∷ []) u v) (k : Makes floor (Looks v.thread l second ∷ []) v w)
+    → k.past ≡ v.seen → w.share.doing.last_look ≡ v.share.doing.last_look
 same_look floor l first second u v w m k e =
-    finds_word floor l second v w k ∙ ap (λ y. Some (record { lock = l; word = y })) (finds_it_again floor l first u v m second w k e) ∙ sym (finds_word floor l first u v m)
+    finds_word floor l second v w k
+    ∙ ap (λ y. Some (record { lock = l; word = y })) (finds_it_again floor l first u v m second w k e)
+    ∙ sym (finds_word floor l first u v m)

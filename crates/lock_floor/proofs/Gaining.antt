@@ -27,7 +27,8 @@ use Rattle.lock_floor.proofs.Looking.{Looked, looks, found_word}
 use Rattle.lock_floor.proofs.Shares.{gain_own, gain_others, drop_own, drop_others}
 
 -- where the seen word was found the seat knows v then, behind the steps, and else what it knows after a look
-abbrev pub Changed : Description → ℕ → ℕ → (Me Slot Knowledge → Knowledge) → (Me Slot Knowledge → List Step) → Me Slot Knowledge → ℕ → Me Slot Knowledge → Type 0
+abbrev pub Changed : Description → ℕ → ℕ → (Me Slot Knowledge → Knowledge) → (Me Slot Knowledge → List Step)
+    → Me Slot Knowledge → ℕ → Me Slot Knowledge → Type 0
 Changed floor l seen v steps me found behind =
     (found ≡ seen → (behind ≡ (seeing behind.0.seen (v me), me.1)) × Makes floor (steps me) me.0 behind.0)
     × (found ≢ seen → Looked floor l me found behind)
@@ -49,14 +50,19 @@ module _ (floor : Description) (me : Me Slot Knowledge) (was : me.0.role ≡ OfT
   v = me.0
 
   -- a look where it misses
-  missed : (l : ℕ) (w : Me Slot Knowledge → Knowledge) (steps : Me Slot Knowledge → List Step) → l < length floor.locks → MayMake floor v (λ s. Unit {0}) (Looks v.thread l (counts v l) ∷ [])
-      → (b : Board) (h : Finds floor v b) → lock_word b.words l ≢ seen → Steps floor me (spot (lock_line l)) (lock_word b.words l) (lock_word b.words l) (Changed floor l seen w steps me) b
+  missed : (l : ℕ) (w : Me Slot Knowledge → Knowledge) (steps : Me Slot Knowledge → List Step) → l < length floor.locks
+      → MayMake floor v (λ s. Unit {0}) (Looks v.thread l (counts v l) ∷ [])
+      → (b : Board) (h : Finds floor v b) → lock_word b.words l ≢ seen
+      → Steps floor me (spot (lock_line l)) (lock_word b.words l) (lock_word b.words l)
+      (Changed floor l seen w steps me) b
   missed l w steps low may b h ne =
       let look = looks floor me l was low b h (may h.state h.fits tt) in
       (look.0, look.1, look.2, look.3, (λ e. absurd (ne e), λ _. look.4))
 
-  gains : (x : Held) → x.l.0 < length floor.locks → word_of new ≡ words.gained (word_of seen) v.thread x.mode → MayMake floor v (λ s. s.word x.l.0 ≡ word_of seen) (gain_step x me)
-      → (b : Board) (h : Finds floor v b) → lock_word b.words x.l.0 ≡ seen → Steps floor me (spot (lock_line x.l.0)) (lock_word b.words x.l.0) new (Gained floor x seen me) b
+  gains : (x : Held) → x.l.0 < length floor.locks → word_of new ≡ words.gained (word_of seen) v.thread x.mode
+      → MayMake floor v (λ s. s.word x.l.0 ≡ word_of seen) (gain_step x me)
+      → (b : Board) (h : Finds floor v b) → lock_word b.words x.l.0 ≡ seen
+      → Steps floor me (spot (lock_line x.l.0)) (lock_word b.words x.l.0) new (Gained floor x seen me) b
   unfolding after_gain
   gains x low says may b h same =
       let l : ℕ = x.l.0 in
@@ -76,16 +82,24 @@ module _ (floor : Description) (me : Me Slot Knowledge) (was : me.0.role ≡ OfT
         other_poses = λ u ne p k. k;
       } in
       let says_now : word_of new ≡ words.gained (h.state.word l) v.thread x.mode = says ∙ ap (λ y. words.gained y v.thread x.mode) (sym its_word) in
-      let made = lock_made floor (gain_step x me) b v w h was allowed own me.1 l new (words.gained (h.state.word l) v.thread x.mode) low says_now refl (record { items = refl; objects = refl }) refl refl in
+      let made = lock_made floor (gain_step x me) b v w h was allowed own me.1 l new
+      (words.gained (h.state.word l) v.thread x.mode) low says_now refl (record { items = refl; objects = refl })
+      refl refl in
       (w, keeps, tt, made.0, (λ e. (refl, made.1), λ ne. absurd (ne same)))
 
-  pub gain_allowed : (x : Held) → x.l.0 < length floor.locks → word_of new ≡ words.gained (word_of seen) v.thread x.mode → MayMake floor v (λ s. s.word x.l.0 ≡ word_of seen) (gain_step x me)
-      → MayMake floor v (λ s. Unit {0}) (Looks v.thread x.l.0 (counts v x.l.0) ∷ []) → Allows (FloorHolds floor) slots id me (spot (lock_line x.l.0)) (λ n. either (eqb n seen) new n) (Gained floor x seen me)
+  pub gain_allowed : (x : Held) → x.l.0 < length floor.locks → word_of new ≡ words.gained (word_of seen) v.thread x.mode
+      → MayMake floor v (λ s. s.word x.l.0 ≡ word_of seen) (gain_step x me)
+      → MayMake floor v (λ s. Unit {0}) (Looks v.thread x.l.0 (counts v x.l.0) ∷ [])
+      → Allows (FloorHolds floor) slots id me (spot (lock_line x.l.0)) (λ n. either (eqb n seen) new n)
+      (Gained floor x seen me)
   gain_allowed x low says may may_look =
-      exchange_allows floor slots id me (spot (lock_line x.l.0)) seen new (Gained floor x seen me) was (gains x low says may) (λ b h ne small. missed x.l.0 (λ me. gained me.0 x) (gain_step x) low may_look b h ne)
+      exchange_allows floor slots id me (spot (lock_line x.l.0)) seen new (Gained floor x seen me) was
+      (gains x low says may) (λ b h ne small. missed x.l.0 (λ me. gained me.0 x) (gain_step x) low may_look b h ne)
 
-  drops : (l : ℕ) (mode : Mode) → l < length floor.locks → word_of new ≡ words.dropped (word_of seen) → MayMake floor v (λ s. s.word l ≡ word_of seen) (drop_step l mode me)
-      → (b : Board) (h : Finds floor v b) → lock_word b.words l ≡ seen → Steps floor me (spot (lock_line l)) (lock_word b.words l) new (Dropped floor l mode seen me) b
+  drops : (l : ℕ) (mode : Mode) → l < length floor.locks → word_of new ≡ words.dropped (word_of seen)
+      → MayMake floor v (λ s. s.word l ≡ word_of seen) (drop_step l mode me)
+      → (b : Board) (h : Finds floor v b) → lock_word b.words l ≡ seen
+      → Steps floor me (spot (lock_line l)) (lock_word b.words l) new (Dropped floor l mode seen me) b
   unfolding after_drop
   drops l mode low says may b h same =
       let step : Step = Drops v.thread l mode in
@@ -104,16 +118,23 @@ module _ (floor : Description) (me : Me Slot Knowledge) (was : me.0.role ≡ OfT
         other_poses = λ u ne p k. k;
       } in
       let says_now : word_of new ≡ words.dropped (h.state.word l) = says ∙ ap (λ y. words.dropped y) (sym its_word) in
-      let made = lock_made floor (drop_step l mode me) b v w h was allowed own me.1 l new (words.dropped (h.state.word l)) low says_now refl (record { items = refl; objects = refl }) refl refl in
+      let made = lock_made floor (drop_step l mode me) b v w h was allowed own me.1 l new
+      (words.dropped (h.state.word l)) low says_now refl (record { items = refl; objects = refl }) refl refl in
       (w, keeps, tt, made.0, (λ e. (refl, made.1), λ ne. absurd (ne same)))
 
-  pub drop_allowed : (l : ℕ) (mode : Mode) → l < length floor.locks → word_of new ≡ words.dropped (word_of seen) → MayMake floor v (λ s. s.word l ≡ word_of seen) (drop_step l mode me)
-      → MayMake floor v (λ s. Unit {0}) (Looks v.thread l (counts v l) ∷ []) → Allows (FloorHolds floor) slots id me (spot (lock_line l)) (λ n. either (eqb n seen) new n) (Dropped floor l mode seen me)
+  pub drop_allowed : (l : ℕ) (mode : Mode) → l < length floor.locks → word_of new ≡ words.dropped (word_of seen)
+      → MayMake floor v (λ s. s.word l ≡ word_of seen) (drop_step l mode me)
+      → MayMake floor v (λ s. Unit {0}) (Looks v.thread l (counts v l) ∷ [])
+      → Allows (FloorHolds floor) slots id me (spot (lock_line l)) (λ n. either (eqb n seen) new n)
+      (Dropped floor l mode seen me)
   drop_allowed l mode low says may may_look =
-      exchange_allows floor slots id me (spot (lock_line l)) seen new (Dropped floor l mode seen me) was (drops l mode low says may) (λ b h ne small. missed l (λ me. put_down me.0 l) (drop_step l mode) low may_look b h ne)
+      exchange_allows floor slots id me (spot (lock_line l)) seen new (Dropped floor l mode seen me) was
+      (drops l mode low says may)
+      (λ b h ne small. missed l (λ me. put_down me.0 l) (drop_step l mode) low may_look b h ne)
 
 -- behind a drop the thread doesn't hold the lock
-pub dropped_unheld : (floor : Description) (v w : Knowledge) (l : ℕ) (mode : Mode) → Makes floor (Drops v.thread l mode ∷ []) v w → hold_in w.share.held l ≡ NotHeld
+pub dropped_unheld : (floor : Description) (v w : Knowledge) (l : ℕ) (mode : Mode)
+    → Makes floor (Drops v.thread l mode ∷ []) v w → hold_in w.share.held l ≡ NotHeld
 unfolding after_drop
 dropped_unheld floor v w l mode m =
     let n : State = after_drop m.state v.thread l in

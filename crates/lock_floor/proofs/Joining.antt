@@ -26,7 +26,9 @@ use Rattle.lock_floor.specs.Views.{longer, with_pass_taken}
 
 -- 1. A pass fewer
 
-module _ (floor : Description) (b : Board) (s : State) (r : Represents floor b s) (v w : Knowledge) (t : ℕ) (at : get_elem? b.views 0 ≡ some v) (there : get_elem? (set b.views 0 (with_pass_taken v w)) (suc t) ≡ some w) (was : w.role ≡ OfThread) (rest : w.out ≡ []) (runs : w.pose ≡ Runs) where
+module _ (floor : Description) (b : Board) (s : State) (r : Represents floor b s) (v w : Knowledge) (t : ℕ)
+    (at : get_elem? b.views 0 ≡ some v) (there : get_elem? (set b.views 0 (with_pass_taken v w)) (suc t) ≡ some w)
+    (was : w.role ≡ OfThread) (rest : w.out ≡ []) (runs : w.pose ≡ Runs) where
   abbrev vs : List Knowledge
   vs = b.views
 
@@ -131,10 +133,12 @@ module _ (floor : Description) (b : Board) (s : State) (r : Represents floor b s
         let one : live w ≡ 1 = ap one_thread was in
         let n = ap length more ∙ length-append (keeper_in vs).gathered ((w.thread, w.share) ∷ []) in
         omega (arith, first, second, one, n, same_made, r.seats.counted);
-    poses = λ u. subst (λ p. IsPosed p (s.wait u) (s.blocked_on u)) (sym (field_stays (λ (k : Knowledge). k.pose) (sym runs) u)) (r.seats.poses u);
+    poses = λ u. subst (λ p. IsPosed p (s.wait u) (s.blocked_on u))
+        (sym (field_stays (λ (k : Knowledge). k.pose) (sym runs) u)) (r.seats.poses u);
     runs = λ u none. elim (cases_eq u t) [
       | inl e ↦ ap (λ j. (thread_in new j).pose) e ∙ ap (λ (k : Knowledge). k.pose) new_thread
-      | inr ne ↦ ap (λ (k : Knowledge). k.pose) (others_stay u ne) ∙ r.seats.runs u (λ e. none (ap (λ (k : Knowledge). k.role) (others_stay u ne) ∙ e))
+      | inr ne ↦ ap (λ (k : Knowledge). k.pose) (others_stay u ne)
+          ∙ r.seats.runs u (λ e. none (ap (λ (k : Knowledge). k.role) (others_stay u ne) ∙ e))
     ];
   }
 
@@ -148,7 +152,8 @@ module _ (floor : Description) (b : Board) (s : State) (r : Represents floor b s
         omega (arith, first, second, r.room);
     latches = r.latches;
     content = r.content;
-    shelves = subst (λ o. Shelves (slots_for floor) (latch_word b.words) (home_at b.homes) o r.content) (λ i u. sym (field_stays (λ (k : Knowledge). k.out) (sym rest) u) i) r.shelves;
+    shelves = subst (λ o. Shelves (slots_for floor) (latch_word b.words) (home_at b.homes) o r.content)
+        (λ i u. sym (field_stays (λ (k : Knowledge). k.out) (sym rest) u) i) r.shelves;
     objects = r.objects;
     seats = seats_joined;
   }
@@ -171,7 +176,8 @@ module _ (floor : Description) (b : Board) (s : State) (r : Represents floor b s
         unmade = λ u after. h.unmade u (subst (λ n. n ≤ u) same_made after);
       }
 
-pub joins : (floor : Description) (v : Knowledge) (i : ℕ) (w : Knowledge) → w.role ≡ OfThread → w.out ≡ [] → w.pose ≡ Runs → Joins (FloorHolds floor) 0 v i w (with_pass_taken v w) nothing
+pub joins : (floor : Description) (v : Knowledge) (i : ℕ) (w : Knowledge) → w.role ≡ OfThread → w.out ≡ []
+    → w.pose ≡ Runs → Joins (FloorHolds floor) 0 v i w (with_pass_taken v w) nothing
 joins floor v zero w was rest runs b holds at apart there = absurd (apart refl)
 joins floor v (suc t) w was rest runs b holds at apart there = record {
   past = holds.past;
@@ -189,14 +195,17 @@ view_again [] i x e = refl
 view_again (y ∷ ys) zero x e = ap (λ z. z ∷ ys) (sym (some-injective y x e))
 view_again (y ∷ ys) (suc i) x e = ap (λ zs. y ∷ zs) (view_again ys i x e)
 
-nothing_stepped : (b : Board) (i id : ℕ) (cs : List (ℕ × Slot)) (v : Knowledge) → get_elem? b.views id ≡ some v → stepped b i (slice_index b.words i) id cs v keeps ≡ b
-nothing_stepped b i id cs v at = λ k. record { words = set-get_or b.words i 0 k; homes = b.homes; views = view_again b.views id v at k }
+nothing_stepped : (b : Board) (i id : ℕ) (cs : List (ℕ × Slot)) (v : Knowledge) → get_elem? b.views id ≡ some v
+    → stepped b i (slice_index b.words i) id cs v keeps ≡ b
+nothing_stepped b i id cs v at =
+    λ k. record { words = set-get_or b.words i 0 k; homes = b.homes; views = view_again b.views id v at k }
 
 -- what a read tells
 abbrev pub Asked : Description → Me Slot Knowledge → ℕ → Me Slot Knowledge → Type 0
 Asked floor me found behind = (behind ≡ me) × (length me.0.gathered ≤ length floor.threads)
 
-pub ask_allowed : (floor : Description) (slots : ℕ) (me : Me Slot Knowledge) → Allows (FloorHolds floor) slots 0 me (spot ticket_line) (λ n. n) (Asked floor me)
+pub ask_allowed : (floor : Description) (slots : ℕ) (me : Me Slot Knowledge)
+    → Allows (FloorHolds floor) slots 0 me (spot ticket_line) (λ n. n) (Asked floor me)
 ask_allowed floor slots me b holds deep at small = (
   me.0,
   keeps,

@@ -47,7 +47,8 @@ total_snoc : (f : Knowledge → ℕ) (vs : List Knowledge) (x : Knowledge) → t
 total_snoc f [] x = omega arith
 total_snoc f (v ∷ vs) x = let p = total_snoc f vs x in omega arith
 
-module _ (floor : Description) (b : Board) (s : State) (r : Represents floor b s) (v : Knowledge) (at : get_elem? b.views 0 ≡ some v) (few : v.made < length floor.threads) (mine : v.description ≡ floor) where
+module _ (floor : Description) (b : Board) (s : State) (r : Represents floor b s) (v : Knowledge)
+    (at : get_elem? b.views 0 ≡ some v) (few : v.made < length floor.threads) (mine : v.description ≡ floor) where
   abbrev vs : List Knowledge
   vs = b.views
 
@@ -144,14 +145,17 @@ module _ (floor : Description) (b : Board) (s : State) (r : Represents floor b s
         let snoc = total_snoc live (set vs 0 left) right in
         let n = ap length same_gathered in
         omega (arith, sums, snoc, n, old_made, new_made, r.seats.counted);
-    poses = λ t. subst (λ p. IsPosed p (s.wait t) (s.blocked_on t)) (sym (field_stays (λ (k : Knowledge). k.pose) refl t)) (r.seats.poses t);
+    poses = λ t. subst (λ p. IsPosed p (s.wait t) (s.blocked_on t))
+        (sym (field_stays (λ (k : Knowledge). k.pose) refl t)) (r.seats.poses t);
     runs = λ t gone. elim (cases_eq t v.made) [
       | inl e ↦ absurd (gone (ap (λ u. (thread_in new u).role) e ∙ ap (λ (k : Knowledge). k.role) new_thread))
-      | inr ne ↦ ap (λ (k : Knowledge). k.pose) (others_stay t ne) ∙ r.seats.runs t (λ e. gone (ap (λ (k : Knowledge). k.role) (others_stay t ne) ∙ e))
+      | inr ne ↦ ap (λ (k : Knowledge). k.pose) (others_stay t ne)
+          ∙ r.seats.runs t (λ e. gone (ap (λ (k : Knowledge). k.role) (others_stay t ne) ∙ e))
     ];
   }
 
-  represents_with : room_for v.description v.made ≤ v.spare → Represents floor (record { words = b.words; homes = b.homes; views = new }) s
+  represents_with : room_for v.description v.made ≤ v.spare
+      → Represents floor (record { words = b.words; homes = b.homes; views = new }) s
   represents_with fits = record {
     sizes = record { words = r.sizes.words; slots = r.sizes.slots; sized = r.sizes.sized };
     words = r.words;
@@ -161,7 +165,8 @@ module _ (floor : Description) (b : Board) (s : State) (r : Represents floor b s
         omega (arith, sums, snoc, r.room, fits);
     latches = r.latches;
     content = r.content;
-    shelves = subst (λ o. Shelves (slots_for floor) (latch_word b.words) (home_at b.homes) o r.content) (λ i t. sym (field_stays (λ (k : Knowledge). k.out) refl t) i) r.shelves;
+    shelves = subst (λ o. Shelves (slots_for floor) (latch_word b.words) (home_at b.homes) o r.content)
+        (λ i t. sym (field_stays (λ (k : Knowledge). k.out) refl t) i) r.shelves;
     objects = r.objects;
     seats = seats_with;
   }
@@ -180,7 +185,8 @@ module _ (floor : Description) (b : Board) (s : State) (r : Represents floor b s
     unmade = λ t after. h.unmade t (omega (arith, after, old_made, new_made));
   }
 
-pub forks : (floor : Description) (v : Knowledge) → v.description ≡ floor → v.made < length floor.threads → room_for v.description v.made ≤ v.spare → Splits (FloorHolds floor) 0 v (with_pass_made v) (new_pass v)
+pub forks : (floor : Description) (v : Knowledge) → v.description ≡ floor → v.made < length floor.threads
+    → room_for v.description v.made ≤ v.spare → Splits (FloorHolds floor) 0 v (with_pass_made v) (new_pass v)
 forks floor v mine few fits b holds at = record {
   past = holds.past;
   state = holds.state;
@@ -197,7 +203,8 @@ all_zero (suc n) zero = refl
 all_zero (suc n) (suc i) = all_zero n i
 
 -- zeros, with the number of threads in the awake word
-pub words_at_first : (threads slots : ℕ) → AreFirstWords threads slots (set (replicate (words_for slots) 0) (spot awake_line) threads)
+pub words_at_first : (threads slots : ℕ)
+    → AreFirstWords threads slots (set (replicate (words_for slots) 0) (spot awake_line) threads)
 words_at_first threads slots =
     let ws : List ℕ = replicate (words_for slots) 0 in
     let long : length ws ≡ words_for slots = length-replicate {A = ℕ} (words_for slots) 0 in
@@ -228,7 +235,8 @@ module _ (floor : Description) where
   abbrev start : State
   start = start_state (config_in floor)
 
-  first_record : (t : ℕ) (r : Record) → r ≡ made t ((config_in floor).declared_base t) → RepresentsRecord r ((objects_in start).record_of t)
+  first_record : (t : ℕ) (r : Record) → r ≡ made t ((config_in floor).declared_base t)
+      → RepresentsRecord r ((objects_in start).record_of t)
   unfolding start_state
   first_record t r e = subst (λ r. RepresentsRecord r ((objects_in start).record_of t)) (sym e) record { columns = refl; one_loan_each = λ l. omega arith }
 
@@ -245,40 +253,65 @@ module _ (floor : Description) where
   unfolding start_state
   first_sleep_queues k = record { names = no_names SleepQueue (SleepChain k); queue = λ q there. refl }
 
-  first_graph : (g : orders.Graph) → ((l : ℕ) → l < length floor.locks → (config_in floor).class l < g.classes) → g.edges ≡ [] → RepresentsGraph floor g (objects_in start).edges
+  first_graph : (g : orders.Graph) → ((l : ℕ) → l < length floor.locks → (config_in floor).class l < g.classes)
+      → g.edges ≡ [] → RepresentsGraph floor g (objects_in start).edges
   unfolding start_state
-  first_graph g classes none = record { classes = classes; same = subst (λ es. HaveSameEdges es []) (sym none) (λ a b. refl) }
+  first_graph g classes none =
+      record { classes = classes; same = subst (λ es. HaveSameEdges es []) (sym none) (λ a b. refl) }
 
   -- each sort of value is where its sort of item is
-  first_value : (i : Item) (j : ℕ) (x : Slot) → slot_of floor i ≡ Some j → IsFirst floor j x → IsOf floor (objects_in start) i x
+  first_value : (i : Item) (j : ℕ) (x : Slot) → slot_of floor i ≡ Some j → IsFirst floor j x
+      → IsOf floor (objects_in start) i x
   unfolding start_state
   first_value (RecordOf t) j (Recorded b) e h =
       let p = record_place floor t j e in
       first_record t b.value (subst (λ u. b.value ≡ made u ((config_in floor).declared_base u)) (sym p.1) h.1)
   first_value (CellOf l key) j (Cell value) e h = h.2
-  first_value (TurnstileChain k) j (Turnstiles chain) e h = subst (λ ch. RepresentsTurnstiles floor k ch (objects_in start)) (sym h.2) (first_turnstiles k)
-  first_value (SleepChain k) j (SleepQueues chain) e h = subst (λ ch. RepresentsSleepChain floor k ch (objects_in start)) (sym h.2) (first_sleep_queues k)
+  first_value (TurnstileChain k) j (Turnstiles chain) e h =
+      subst (λ ch. RepresentsTurnstiles floor k ch (objects_in start)) (sym h.2) (first_turnstiles k)
+  first_value (SleepChain k) j (SleepQueues chain) e h =
+      subst (λ ch. RepresentsSleepChain floor k ch (objects_in start)) (sym h.2) (first_sleep_queues k)
   first_value ClassGraph j (Graph b) e h = first_graph b.value h.2 h.1
-  first_value (RecordOf t) j (Cell value) e h = absurd (let p = its_part floor (RecordOf t) j e in omega (arith, p.0, p.1, h.0, h.1))
-  first_value (RecordOf t) j (Turnstiles chain) e h = absurd (let p = its_part floor (RecordOf t) j e in omega (arith, p.0, p.1, h.0, h.1))
-  first_value (RecordOf t) j (SleepQueues chain) e h = absurd (let p = its_part floor (RecordOf t) j e in omega (arith, p.0, p.1, h.0, h.1))
-  first_value (RecordOf t) j (Graph b) e h = absurd (let p = its_part floor (RecordOf t) j e in omega (arith, p.0, p.1, h.0))
-  first_value (CellOf l key) j (Recorded b) e h = absurd (let p = its_part floor (CellOf l key) j e in omega (arith, p.0, p.1, h.0))
-  first_value (CellOf l key) j (Turnstiles chain) e h = absurd (let p = its_part floor (CellOf l key) j e in omega (arith, p.0, p.1, h.0, h.1))
-  first_value (CellOf l key) j (SleepQueues chain) e h = absurd (let p = its_part floor (CellOf l key) j e in omega (arith, p.0, p.1, h.0, h.1))
-  first_value (CellOf l key) j (Graph b) e h = absurd (let p = its_part floor (CellOf l key) j e in omega (arith, p.0, p.1, h.0))
-  first_value (TurnstileChain k) j (Recorded b) e h = absurd (let p = its_part floor (TurnstileChain k) j e in omega (arith, p.0, p.1, h.0))
-  first_value (TurnstileChain k) j (Cell value) e h = absurd (let p = its_part floor (TurnstileChain k) j e in omega (arith, p.0, p.1, h.0, h.1))
-  first_value (TurnstileChain k) j (SleepQueues chain) e h = absurd (let p = its_part floor (TurnstileChain k) j e in omega (arith, p.0, p.1, h.0, h.1))
-  first_value (TurnstileChain k) j (Graph b) e h = absurd (let p = its_part floor (TurnstileChain k) j e in omega (arith, p.0, p.1, h.0))
-  first_value (SleepChain k) j (Recorded b) e h = absurd (let p = its_part floor (SleepChain k) j e in omega (arith, p.0, p.1, h.0))
-  first_value (SleepChain k) j (Cell value) e h = absurd (let p = its_part floor (SleepChain k) j e in omega (arith, p.0, p.1, h.0, h.1))
-  first_value (SleepChain k) j (Turnstiles chain) e h = absurd (let p = its_part floor (SleepChain k) j e in omega (arith, p.0, p.1, h.0, h.1))
-  first_value (SleepChain k) j (Graph b) e h = absurd (let p = its_part floor (SleepChain k) j e in omega (arith, p.0, p.1, h.0))
-  first_value ClassGraph j (Recorded b) e h = absurd (let p = its_part floor ClassGraph j e in omega (arith, p.0, p.1, h.0))
-  first_value ClassGraph j (Cell value) e h = absurd (let p = its_part floor ClassGraph j e in omega (arith, p.0, p.1, h.0, h.1))
-  first_value ClassGraph j (Turnstiles chain) e h = absurd (let p = its_part floor ClassGraph j e in omega (arith, p.0, p.1, h.0, h.1))
-  first_value ClassGraph j (SleepQueues chain) e h = absurd (let p = its_part floor ClassGraph j e in omega (arith, p.0, p.1, h.0, h.1))
+  first_value (RecordOf t) j (Cell value) e h =
+      absurd (let p = its_part floor (RecordOf t) j e in omega (arith, p.0, p.1, h.0, h.1))
+  first_value (RecordOf t) j (Turnstiles chain) e h =
+      absurd (let p = its_part floor (RecordOf t) j e in omega (arith, p.0, p.1, h.0, h.1))
+  first_value (RecordOf t) j (SleepQueues chain) e h =
+      absurd (let p = its_part floor (RecordOf t) j e in omega (arith, p.0, p.1, h.0, h.1))
+  first_value (RecordOf t) j (Graph b) e h =
+      absurd (let p = its_part floor (RecordOf t) j e in omega (arith, p.0, p.1, h.0))
+  first_value (CellOf l key) j (Recorded b) e h =
+      absurd (let p = its_part floor (CellOf l key) j e in omega (arith, p.0, p.1, h.0))
+  first_value (CellOf l key) j (Turnstiles chain) e h =
+      absurd (let p = its_part floor (CellOf l key) j e in omega (arith, p.0, p.1, h.0, h.1))
+  first_value (CellOf l key) j (SleepQueues chain) e h =
+      absurd (let p = its_part floor (CellOf l key) j e in omega (arith, p.0, p.1, h.0, h.1))
+  first_value (CellOf l key) j (Graph b) e h =
+      absurd (let p = its_part floor (CellOf l key) j e in omega (arith, p.0, p.1, h.0))
+  first_value (TurnstileChain k) j (Recorded b) e h =
+      absurd (let p = its_part floor (TurnstileChain k) j e in omega (arith, p.0, p.1, h.0))
+  first_value (TurnstileChain k) j (Cell value) e h =
+      absurd (let p = its_part floor (TurnstileChain k) j e in omega (arith, p.0, p.1, h.0, h.1))
+  first_value (TurnstileChain k) j (SleepQueues chain) e h =
+      absurd (let p = its_part floor (TurnstileChain k) j e in omega (arith, p.0, p.1, h.0, h.1))
+  first_value (TurnstileChain k) j (Graph b) e h =
+      absurd (let p = its_part floor (TurnstileChain k) j e in omega (arith, p.0, p.1, h.0))
+  first_value (SleepChain k) j (Recorded b) e h =
+      absurd (let p = its_part floor (SleepChain k) j e in omega (arith, p.0, p.1, h.0))
+  first_value (SleepChain k) j (Cell value) e h =
+      absurd (let p = its_part floor (SleepChain k) j e in omega (arith, p.0, p.1, h.0, h.1))
+  first_value (SleepChain k) j (Turnstiles chain) e h =
+      absurd (let p = its_part floor (SleepChain k) j e in omega (arith, p.0, p.1, h.0, h.1))
+  first_value (SleepChain k) j (Graph b) e h =
+      absurd (let p = its_part floor (SleepChain k) j e in omega (arith, p.0, p.1, h.0))
+  first_value ClassGraph j (Recorded b) e h =
+      absurd (let p = its_part floor ClassGraph j e in omega (arith, p.0, p.1, h.0))
+  first_value ClassGraph j (Cell value) e h =
+      absurd (let p = its_part floor ClassGraph j e in omega (arith, p.0, p.1, h.0, h.1))
+  first_value ClassGraph j (Turnstiles chain) e h =
+      absurd (let p = its_part floor ClassGraph j e in omega (arith, p.0, p.1, h.0, h.1))
+  first_value ClassGraph j (SleepQueues chain) e h =
+      absurd (let p = its_part floor ClassGraph j e in omega (arith, p.0, p.1, h.0, h.1))
 
   first_seats : RepresentsSeats floor (keeper floor ∷ []) start
   unfolding start_state
@@ -296,7 +329,9 @@ module _ (floor : Description) where
     runs = λ t gone. refl;
   }
 
-  module _ (ws : List ℕ) (xs : List Slot) (sized : IsSized floor) (long : length xs ≡ slots_for floor) (words : AreFirstWords (length floor.threads) (slots_for floor) ws) (first : (j : ℕ) (d : Slot) → j < length xs → IsFirst floor j (get_or xs j d)) where
+  module _ (ws : List ℕ) (xs : List Slot) (sized : IsSized floor) (long : length xs ≡ slots_for floor)
+      (words : AreFirstWords (length floor.threads) (slots_for floor) ws)
+      (first : (j : ℕ) (d : Slot) → j < length xs → IsFirst floor j (get_or xs j d)) where
     abbrev opened : Board
     opened = opening ws xs (keeper floor)
 
@@ -321,7 +356,8 @@ module _ (floor : Description) where
     unfolding RepresentsLatches
     free_latches = λ i. none_out floor i ∙ sym (none_taken (latch_word ws) free_turn (slot_of floor i))
 
-    first_shelves : Shelves (slots_for floor) (latch_word ws) (home_at (map some xs)) (λ t. (thread_in (keeper floor ∷ []) t).out) (λ j. get_or xs j (Cell None))
+    first_shelves : Shelves (slots_for floor) (latch_word ws) (home_at (map some xs))
+        (λ t. (thread_in (keeper floor ∷ []) t).out) (λ j. get_or xs j (Cell None))
     first_shelves = record {
       at_home = λ j low free. all_home xs j (Cell None) (omega (arith, long, low));
       away = λ j t low out. absurd (let z = free_turn j in omega (arith, z, out));
@@ -332,7 +368,8 @@ module _ (floor : Description) where
     first_objects : RepresentsObjects floor (λ j. get_or xs j (Cell None)) (objects_in start)
     unfolding start_state
     first_objects = record {
-      each = λ i j place. first_value i j (get_or xs j (Cell None)) place (first j (Cell None) (omega (arith, long, place_low floor i j place)));
+      each = λ i j place. first_value i j (get_or xs j (Cell None)) place
+          (first j (Cell None) (omega (arith, long, place_low floor i j place)));
       unnamed = λ l key e. refl;
     }
 
@@ -361,7 +398,13 @@ module _ (floor : Description) where
     }
 
     pub opens : FloorHolds floor opened
-    opens = record { past = []; state = start; sound = sound_begins floor; represents = represents_first; seen = none_seen }
+    opens = record {
+      past = [];
+      state = start;
+      sound = sound_begins floor;
+      represents = represents_first;
+      seen = none_seen;
+    }
 
 -- 3. The values, as they are laid out
 
@@ -371,7 +414,8 @@ pub record LaidOut (floor : Description) (m : ℕ) (xs : List Slot) : Type 0 whe
   pub each : (j : ℕ) (d : Slot) → j < length xs → IsFirst floor j (get_or xs j d)
 
 -- and more of one sort behind them
-pub laid_more : (floor : Description) {n : ℕ} (m k : ℕ) (xs zs : List Slot) (y : Slot) → zs ≡ xs ++ replicate n y → n ≡ k → ((j : ℕ) → m ≤ j → j < m + k → IsFirst floor j y) → LaidOut floor m xs → LaidOut floor (m + k) zs
+pub laid_more : (floor : Description) {n : ℕ} (m k : ℕ) (xs zs : List Slot) (y : Slot) → zs ≡ xs ++ replicate n y
+    → n ≡ k → ((j : ℕ) → m ≤ j → j < m + k → IsFirst floor j y) → LaidOut floor m xs → LaidOut floor (m + k) zs
 laid_more floor {n} m k xs zs y is same fits h =
     subst (LaidOut floor (m + k)) (sym is) record { count = omega (arith, long, many, same, h.count); each = each }
   where
@@ -383,27 +427,34 @@ laid_more floor {n} m k xs zs y is same fits h =
 
     each : (j : ℕ) (d : Slot) → j < length (xs ++ replicate n y) → IsFirst floor j (get_or (xs ++ replicate n y) j d)
     each j d low = elim (cases_lt j (length xs)) [
-      | inl before ↦ subst (IsFirst floor j) (sym (get_or_append_left xs (replicate n y) d j before)) (h.each j d before)
+      | inl before ↦ subst (IsFirst floor j) (sym (get_or_append_left xs (replicate n y) d j before))
+          (h.each j d before)
       | inr past ↦
           let i : ℕ = j - length xs in
           let there : length xs + i ≡ j = omega (arith, past) in
           let small : i < n = omega (arith, low, long, many, there) in
           subst (λ q. IsFirst floor q (get_or (xs ++ replicate n y) q d)) there
-          (subst (IsFirst floor (length xs + i)) (sym (get_or-append-add xs (replicate n y) i d ∙ get_or-replicate n i y d small))
+          (subst (IsFirst floor (length xs + i))
+          (sym (get_or-append-add xs (replicate n y) i d ∙ get_or-replicate n i y d small))
           (fits (length xs + i) (omega (arith, h.count)) (omega (arith, h.count, small, same))))
     ]
 
 -- and one
-pub laid_one : (floor : Description) (m : ℕ) (xs zs : List Slot) (y : Slot) → zs ≡ xs ++ y ∷ [] → IsFirst floor m y → LaidOut floor m xs → LaidOut floor (suc m) zs
+pub laid_one : (floor : Description) (m : ℕ) (xs zs : List Slot) (y : Slot) → zs ≡ xs ++ y ∷ [] → IsFirst floor m y
+    → LaidOut floor m xs → LaidOut floor (suc m) zs
 laid_one floor m xs zs y is first h =
-    let done = laid_more floor {n = 1} m 1 xs zs y is refl (λ j past low. subst (λ q. IsFirst floor q y) (omega (arith, past, low)) first) h in
+    let done = laid_more floor {n = 1} m 1 xs zs y is refl
+    (λ j past low. subst (λ q. IsFirst floor q y) (omega (arith, past, low)) first) h in
     record { count = done.count ∙ omega arith; each = done.each }
 
 -- the class of each lock is one of as many classes as there may be
-pub classes_fit : (floor : Description) → IsSized floor → (n : ℕ) → n ≡ most_classes → (l : ℕ) → l < length floor.locks → (config_in floor).class l < n
-classes_fit floor sized n all l low = subst (λ k. (config_in floor).class l < k) (sym all) (go floor.locks l sized.classes low)
+pub classes_fit : (floor : Description) → IsSized floor → (n : ℕ) → n ≡ most_classes → (l : ℕ) → l < length floor.locks
+    → (config_in floor).class l < n
+classes_fit floor sized n all l low =
+    subst (λ k. (config_in floor).class l < k) (sym all) (go floor.locks l sized.classes low)
   where
-    go : (xs : List LockPart) (i : ℕ) → All (λ x. x.class.0 < most_classes) xs → i < length xs → unwrap_or (slice_get (map (λ (x : LockPart). x.class.0) xs) i) 0 < most_classes
+    go : (xs : List LockPart) (i : ℕ) → All (λ x. x.class.0 < most_classes) xs → i < length xs
+        → unwrap_or (slice_get (map (λ (x : LockPart). x.class.0) xs) i) 0 < most_classes
     go [] i h low = absurd (omega arith)
     go (x ∷ xs) zero h low = All-head (λ (y : LockPart). y.class.0 < most_classes) x xs h
     go (x ∷ xs) (suc i) h low = go xs i (All-tail (λ (y : LockPart). y.class.0 < most_classes) x xs h) (omega arith)
@@ -414,18 +465,22 @@ classes_fit floor sized n all l low = subst (λ k. (config_in floor).class l < k
 abbrev pub rooms_from : Description → ℕ → ℕ
 rooms_from floor t = room_in_all (drop t floor.threads)
 
-one_room : (xs : List ThreadPart) (t : ℕ) (d : ThreadPart) → t < length xs → room_in_all (drop t xs) ≡ (get_or xs t d).room + room_in_all (drop (suc t) xs)
+one_room : (xs : List ThreadPart) (t : ℕ) (d : ThreadPart) → t < length xs
+    → room_in_all (drop t xs) ≡ (get_or xs t d).room + room_in_all (drop (suc t) xs)
 one_room [] t d h = absurd (omega arith)
 one_room (x ∷ xs) zero d h = sum_by-cons (λ (n : ℕ). n) x.room (map (λ (y : ThreadPart). y.room) xs)
 one_room (x ∷ xs) (suc t) d h = one_room xs t d (omega arith)
 
-its_room : (xs : List ThreadPart) (t : ℕ) (d : ThreadPart) → t < length xs → unwrap_or (slice_get (map (λ (y : ThreadPart). y.room) xs) t) 0 ≡ (get_or xs t d).room
+its_room : (xs : List ThreadPart) (t : ℕ) (d : ThreadPart) → t < length xs
+    → unwrap_or (slice_get (map (λ (y : ThreadPart). y.room) xs) t) 0 ≡ (get_or xs t d).room
 its_room [] t d h = absurd (omega arith)
 its_room (x ∷ xs) zero d h = refl
 its_room (x ∷ xs) (suc t) d h = its_room xs t d (omega arith)
 
 -- what a pass more takes of it
-pub next_room : (floor : Description) (t : ℕ) (d : ThreadPart) → t < length floor.threads → (rooms_from floor t ≡ room_for floor t + rooms_from floor (suc t)) × (room_for floor t ≡ (get_or floor.threads t d).room)
+pub next_room : (floor : Description) (t : ℕ) (d : ThreadPart) → t < length floor.threads
+    → (rooms_from floor t ≡ room_for floor t + rooms_from floor (suc t))
+    × (room_for floor t ≡ (get_or floor.threads t d).room)
 next_room floor t d h =
     let room : room_for floor t ≡ (get_or floor.threads t d).room = its_room floor.threads t d h in
     (one_room floor.threads t d h ∙ ap (λ n. n + rooms_from floor (suc t)) (sym room), room)

@@ -27,7 +27,8 @@ use Rattle.lock_floor.proofs.Shares.{look_own, look_others, seek_own, seek_other
 -- what it tells
 abbrev pub Looked : Description → ℕ → Me Slot Knowledge → ℕ → Me Slot Knowledge → Type 0
 Looked floor l me found behind =
-    IsWellFormed (word_of found) × (behind ≡ (seeing behind.0.seen (looked me.0 l (word_of found)), me.1)) × Makes floor (Looks me.0.thread l (counts me.0 l) ∷ []) me.0 behind.0
+    IsWellFormed (word_of found) × (behind ≡ (seeing behind.0.seen (looked me.0 l (word_of found)), me.1))
+    × Makes floor (Looks me.0.thread l (counts me.0 l) ∷ []) me.0 behind.0
 
 abbrev pub Sought : Description → ℕ → Bool → Me Slot Knowledge → ℕ → Me Slot Knowledge → Type 0
 Sought floor l by_try me found behind =
@@ -35,10 +36,16 @@ Sought floor l by_try me found behind =
     × Makes floor (Seeks me.0.thread l by_try ∷ Looks me.0.thread l true ∷ []) me.0 behind.0
 
 -- the word that is found says the lock's column, and is well formed
-pub found_word : (floor : Description) (b : Board) (v : Knowledge) (h : Finds floor v b) (l : ℕ) → l < length floor.locks → (word_of (lock_word b.words l) ≡ h.state.word l) × IsWellFormed (word_of (lock_word b.words l))
+pub found_word : (floor : Description) (b : Board) (v : Knowledge) (h : Finds floor v b) (l : ℕ)
+    → l < length floor.locks → (word_of (lock_word b.words l) ≡ h.state.word l)
+    × IsWellFormed (word_of (lock_word b.words l))
 found_word floor b v h l low =
-    let says : word_of (lock_word b.words l) ≡ h.state.word l = h.represents.words.locks l low in
-    (says, subst IsWellFormed (sym says) (well_formed (config_in floor) h.state l h.sound.facts.lawful (omega (arith, h.represents.sizes.sized.threads))))
+    let says : word_of (lock_word b.words l) ≡ h.state.word l = h.represents.words.locks l low in (
+      says,
+      subst IsWellFormed (sym says)
+          (well_formed (config_in floor) h.state l h.sound.facts.lawful
+          (omega (arith, h.represents.sizes.sized.threads))),
+    )
 
 module _ (floor : Description) (me : Me Slot Knowledge) (l : ℕ) (was : me.0.role ≡ OfThread)
     (low : l < length floor.locks) where
@@ -46,7 +53,8 @@ module _ (floor : Description) (me : Me Slot Knowledge) (l : ℕ) (was : me.0.ro
   v = me.0
 
   -- on a table where it may be made
-  pub looks : (b : Board) (h : Finds floor v b) → FitAll floor h.state (Looks v.thread l (counts v l) ∷ []) → Steps floor me (spot (lock_line l)) (lock_word b.words l) (lock_word b.words l) (Looked floor l me) b
+  pub looks : (b : Board) (h : Finds floor v b) → FitAll floor h.state (Looks v.thread l (counts v l) ∷ [])
+      → Steps floor me (spot (lock_line l)) (lock_word b.words l) (lock_word b.words l) (Looked floor l me) b
   unfolding after_look
   looks b h may =
       let word : Word = word_of (lock_word b.words l) in
@@ -63,11 +71,15 @@ module _ (floor : Description) (me : Me Slot Knowledge) (l : ℕ) (was : me.0.ro
         pose = h.fits.pose;
         other_poses = λ u ne p k. k;
       } in
-      let made = lock_seen floor (step ∷ []) b v w h was may own me.1 l low refl (record { items = refl; objects = refl }) refl refl in
+      let made = lock_seen floor (step ∷ []) b v w h was may own me.1 l low refl
+      (record { items = refl; objects = refl }) refl refl in
       (w, keeps, tt, made.0, (found.1, refl, made.1))
 
-  pub look_allowed : (slots id : ℕ) → MayMake floor v (λ s. Unit {0}) (Looks v.thread l (counts v l) ∷ []) → Allows (FloorHolds floor) slots id me (spot (lock_line l)) (λ n. n) (Looked floor l me)
-  look_allowed slots id may = allows floor slots id me (spot (lock_line l)) (λ n. n) (Looked floor l me) was (λ b h small. looks b h (may h.state h.fits tt))
+  pub look_allowed : (slots id : ℕ) → MayMake floor v (λ s. Unit {0}) (Looks v.thread l (counts v l) ∷ [])
+      → Allows (FloorHolds floor) slots id me (spot (lock_line l)) (λ n. n) (Looked floor l me)
+  look_allowed slots id may =
+      allows floor slots id me (spot (lock_line l)) (λ n. n) (Looked floor l me) was
+      (λ b h small. looks b h (may h.state h.fits tt))
 
   -- 2. The first look of an acquiring round
 
@@ -76,16 +88,19 @@ module _ (floor : Description) (me : Me Slot Knowledge) (l : ℕ) (was : me.0.ro
     both = Seeks v.thread l by_try ∷ Looks v.thread l true ∷ []
 
     -- the thread doesn't have the lock's chain out
-    no_chain : (b : Board) (h : Finds floor v b) → FitAll floor h.state both → has_item v (chain_of v.description.chains (config_in v.description) l) ≡ false
+    no_chain : (b : Board) (h : Finds floor v b) → FitAll floor h.state both
+        → has_item v (chain_of v.description.chains (config_in v.description) l) ≡ false
     no_chain b h may =
         subst (λ (d : Description). has_item v (chain_of d.chains (config_in d) l) ≡ false) (sym mine)
-        (its_item floor v h.state h.fits mine (chain_of floor.chains (config_in floor) l) ∙ go (item_with h.state (chain_of floor.chains (config_in floor) l)) may.0.has_out)
+        (its_item floor v h.state h.fits mine (chain_of floor.chains (config_in floor) l)
+        ∙ go (item_with h.state (chain_of floor.chains (config_in floor) l)) may.0.has_out)
       where
         go : (o : Option ℕ) → (o ≡ Some v.thread → ⊥) → is_with v.thread o ≡ false
         go None gone = refl
         go (Some u) gone = ne_eqb u v.thread (λ e. gone (ap Some e))
 
-    pub first_looks : (b : Board) (h : Finds floor v b) → FitAll floor h.state both → Steps floor me (spot (lock_line l)) (lock_word b.words l) (lock_word b.words l) (Sought floor l by_try me) b
+    pub first_looks : (b : Board) (h : Finds floor v b) → FitAll floor h.state both
+        → Steps floor me (spot (lock_line l)) (lock_word b.words l) (lock_word b.words l) (Sought floor l by_try me) b
     unfolding after_look after_seek
     first_looks b h may =
         let word : Word = word_of (lock_word b.words l) in
@@ -109,8 +124,12 @@ module _ (floor : Description) (me : Me Slot Knowledge) (l : ℕ) (was : me.0.ro
           pose = h.fits.pose;
           other_poses = λ u ne p k. k;
         } in
-        let made = lock_seen floor both b v w h was may own me.1 l low refl (record { items = refl; objects = refl }) refl refl in
+        let made = lock_seen floor both b v w h was may own me.1 l low refl (record { items = refl; objects = refl })
+        refl refl in
         (w, keeps, tt, made.0, (found.1, refl, made.1))
 
-    pub seek_allowed : (slots id : ℕ) → MayMake floor v (λ s. Unit {0}) both → Allows (FloorHolds floor) slots id me (spot (lock_line l)) (λ n. n) (Sought floor l by_try me)
-    seek_allowed slots id may = allows floor slots id me (spot (lock_line l)) (λ n. n) (Sought floor l by_try me) was (λ b h small. first_looks b h (may h.state h.fits tt))
+    pub seek_allowed : (slots id : ℕ) → MayMake floor v (λ s. Unit {0}) both
+        → Allows (FloorHolds floor) slots id me (spot (lock_line l)) (λ n. n) (Sought floor l by_try me)
+    seek_allowed slots id may =
+        allows floor slots id me (spot (lock_line l)) (λ n. n) (Sought floor l by_try me) was
+        (λ b h small. first_looks b h (may h.state h.fits tt))

@@ -21,7 +21,9 @@ use Rattle.floor_table.proofs.Shelved.{found_first}
 use Rattle.lock_floor.specs.Latches.{Takes}
 use Rattle.lock_floor.proofs.Taking.{record_at}
 
-module _ (floor : Description) (old new : Knowledge) (b : Box ThreadRec Global) (k : Takes floor (RecordOf old.thread) old.thread old new) (is : k.value ≡ Record b) (off : is_off_queues old.pose ≡ true) where
+module _ (floor : Description) (old new : Knowledge) (b : Box ThreadRec Global)
+    (k : Takes floor (RecordOf old.thread) old.thread old new) (is : k.value ≡ Record b)
+    (off : is_off_queues old.pose ≡ true) where
   abbrev t : ℕ
   t = old.thread
 
@@ -34,7 +36,8 @@ module _ (floor : Description) (old new : Knowledge) (b : Box ThreadRec Global) 
   low : t < length floor.threads
   low = elim (cases_lt (suc t) (length k.step.before.views)) [
     | inl fits ↦ let seats = k.step.represents.seats in omega (arith, fits, seats.made, seats.few)
-    | inr past ↦ absurd (let z : OfNobody ≡ OfThread = ap (λ (v : Knowledge). v.role) (sym (or_past k.step.before.views (suc t) nothing past) ∙ k.step.was) ∙ k.step.role in cc)
+    | inr past ↦ absurd (let z : OfNobody ≡ OfThread = ap (λ (v : Knowledge). v.role)
+        (sym (or_past k.step.before.views (suc t) nothing past) ∙ k.step.was) ∙ k.step.role in cc)
   ]
 
   -- the record says what the columns say
@@ -49,14 +52,17 @@ module _ (floor : Description) (old new : Knowledge) (b : Box ThreadRec Global) 
 
   stands_off : s.blocked_on t ≡ None
   stands_off =
-      let pose = subst (λ (v : Knowledge). IsPosed v.pose (s.wait t) (s.blocked_on t)) k.step.was (k.step.represents.seats.poses t) in
+      let pose = subst (λ (v : Knowledge). IsPosed v.pose (s.wait t) (s.blocked_on t)) k.step.was
+      (k.step.represents.seats.poses t) in
       stands_nowhere (config_in floor) s k.step.sound.facts.lawful t old.pose off pose
 
   pub own_turnstile : IsSome b.value.turnstile
-  own_turnstile = subst IsSome (sym (ap (λ (x : RecordColumns). x.turnstile) its_columns.columns)) (has_turnstile (config_in floor) s k.step.sound.facts.lawful t stands_off)
+  own_turnstile = subst IsSome (sym (ap (λ (x : RecordColumns). x.turnstile) its_columns.columns))
+      (has_turnstile (config_in floor) s k.step.sound.facts.lawful t stands_off)
 
   pub own_sleep_queue : IsSome b.value.sleep_queue
-  own_sleep_queue = subst IsSome (sym (ap (λ (x : RecordColumns). x.sleep_queue) its_columns.columns)) (has_sleep_queue (config_in floor) s k.step.sound.facts.lawful t stands_off)
+  own_sleep_queue = subst IsSome (sym (ap (λ (x : RecordColumns). x.sleep_queue) its_columns.columns))
+      (has_sleep_queue (config_in floor) s k.step.sound.facts.lawful t stands_off)
 
   pub names_none : b.value.on ≡ None
   names_none = ap (λ (x : RecordColumns). x.blocked_on) its_columns.columns ∙ stands_off

@@ -1,5 +1,5 @@
--- A thread at rest is at rest again behind its calls: behind an entry, behind the use of an item, behind looks, behind a
--- gain with its entry, and behind a release with its entry.
+-- A thread at rest is at rest again behind its calls: behind an entry, behind the use of an item, behind looks,
+-- behind a gain with its entry, and behind a release with its entry.
 use Rattle.std.proofs.Common.{◌≡◌, ◌≢◌, ℕ, suc, ◌+◌, ◌≤◌, Bool, true, false, not, ◌||◌, ◌&&◌, cond, eqb, Option, None, List, [], ◌∷◌, ◌++◌, refl, sym, ap, ◌∙◌, subst, inl, inr, arith, eq-eqb}
 use Rattle.std.proofs.lemmas.Bool.{cases_eq, ne_eqb}
 use Rattle.atomic_table.specs.Table.{rest}
@@ -168,12 +168,17 @@ module _ (floor : Description) (v : Knowledge) where
     no_round = round_gone e v.share.doing.round i.no_round;
     no_looks = looks_gone e v.share.doing.looks i.no_looks;
     unnoted = refl;
-    going = record { awake = i.going.awake; unended = i.going.unended; stamped = wake_gone e v.share.doing.unstamped i.going.stamped };
+    going = record {
+      awake = i.going.awake;
+      unended = i.going.unended;
+      stamped = wake_gone e v.share.doing.unstamped i.going.stamped;
+    };
     no_wait = wakeful;
   }
 
   -- of an event that begins and ends no section
-  pub rest_stamped : (ticket : ℕ) (e : Event) → changes_sections e ≡ false → IsAtRest floor v → IsAtRest floor (stamped c v (entry_by t ticket e))
+  pub rest_stamped : (ticket : ℕ) (e : Event) → changes_sections e ≡ false → IsAtRest floor v
+      → IsAtRest floor (stamped c v (entry_by t ticket e))
   rest_stamped ticket e quiet r =
       at_rest floor (stamped c v (entry_by t ticket e)) (idle_stamped ticket e (no_sleep e quiet) (idle floor v r))
       (λ l. same_section c v.share.log t ticket l e quiet ∙ r.sections l)
@@ -182,7 +187,8 @@ module _ (floor : Description) (v : Knowledge) where
   -- 3. Behind looks: none counts, since no round is under way
 
   pub uncounted : (l : ℕ) → IsIdle v → counts v l ≡ false
-  uncounted l i = ap (λ o. seeks l o && not (has_item v (chain_of v.description.chains (config_in v.description) l))) i.no_round
+  uncounted l i = ap (λ o. seeks l o && not (has_item v (chain_of v.description.chains (config_in v.description) l)))
+      i.no_round
 
   idle_looked : (l : ℕ) (word : Word) → IsIdle v → IsIdle (looked v l word)
   idle_looked l word i = record {
@@ -206,17 +212,21 @@ module _ (floor : Description) (v : Knowledge) where
 
 module _ (floor : Description) (a : Knowledge) (r : IsAtRest floor (record a { out = [] })) where
   -- the sections that it has open are of what it holds
-  pub open_as_held : (s : State) → Fits floor a s → (l : ℕ) → open_in (config_in floor) s.history a.thread l ≡ s.held a.thread l
+  pub open_as_held : (s : State) → Fits floor a s → (l : ℕ)
+      → open_in (config_in floor) s.history a.thread l ≡ s.held a.thread l
   open_as_held s f l = own_log floor a s f l ∙ r.sections l ∙ ap (λ (x : ShareColumns). x.held l) f.share.columns
 
-  pub may_note : (e : Event) → ((s : State) → Fits floor a s → Asks (config_in floor) s a.thread e × HasOutForEntry floor.chains s a.thread e) → MayMake floor a (λ s. Unit {0}) (Stamps a.thread e ∷ [])
+  pub may_note : (e : Event)
+      → ((s : State) → Fits floor a s → Asks (config_in floor) s a.thread e × HasOutForEntry floor.chains s a.thread e)
+      → MayMake floor a (λ s. Unit {0}) (Stamps a.thread e ∷ [])
   may_note e asks =
       may_stamp floor a e asks (subst (λ o. NotesInRound o e) (sym r.no_round) tt)
       (λ q. absurd (let z : true ≡ false = sym q ∙ r.no_wait in cc))
       r.runs r.going r.takes_nothing
 
 -- with an item that it took
-pub rest_with : (floor : Description) (v a : Knowledge) (i : Item) (j : ℕ) → is_chain i ≡ false → IsAtRest floor v → Takes floor i j v a → IsAtRest floor (record a { out = [] })
+pub rest_with : (floor : Description) (v a : Knowledge) (i : Item) (j : ℕ) → is_chain i ≡ false → IsAtRest floor v
+    → Takes floor i j v a → IsAtRest floor (record a { out = [] })
 rest_with floor v a i j plain r taken =
     subst (λ (w : Knowledge). IsAtRest floor (record w { out = [] })) (sym taken.view)
     (at_rest floor (record (seeing a.seen (took v i j taken.value)) { out = [] }) record {
@@ -250,7 +260,8 @@ used_is c v entry i j k x y plain =
     }) plain
 
 -- what it took last
-pub taken_out : (floor : Description) (v a : Knowledge) (i : Item) (j : ℕ) (taken : Takes floor i j v a) → a.out ≡ (j, taken.value) ∷ rest a.out
+pub taken_out : (floor : Description) (v a : Knowledge) (i : Item) (j : ℕ) (taken : Takes floor i j v a)
+    → a.out ≡ (j, taken.value) ∷ rest a.out
 taken_out floor v a i j taken = subst (λ (w : Knowledge). w.out ≡ (j, taken.value) ∷ rest w.out) (sym taken.view) refl
 
 -- a call that did that, on a pass that was ready, leaves it ready
@@ -261,25 +272,40 @@ pub record Used (f : Floor Description) (i : Item) (e : Event) (p q : Pass Knowl
 
 -- what the thread knows behind the entry: the value of the item may be another then
 abbrev pub Noted : Description → ℕ → Event → ℕ → Slot → Knowledge → Knowledge → Type 0
-Noted floor ticket e j y old new = new ≡ seeing new.seen (record (stamped (config_in floor) old (entry_by old.thread ticket e)) { out = (j, y) ∷ rest old.out })
+Noted floor ticket e j y old new =
+    new ≡ seeing new.seen
+    (record (stamped (config_in floor) old (entry_by old.thread ticket e)) { out = (j, y) ∷ rest old.out })
 
-module _ (f : Floor Description) (i : Item) (j : ℕ) (e : Event) (plain : is_chain i ≡ false) (quiet : changes_sections e ≡ false) where
+module _ (f : Floor Description) (i : Item) (j : ℕ) (e : Event) (plain : is_chain i ≡ false)
+    (quiet : changes_sections e ≡ false) where
   pub uses_changed : (p a b q : Pass Knowledge) (ticket : ℕ) (y : Slot) → IsReady f p → 1 ≤ p.view.spare → Takes f.description i j p.view a.view
       → Noted f.description ticket e j y a.view b.view → Makes f.description (Stamps a.view.thread e ∷ []) a.view b.view
-      → IsOf f q → q.view ≡ seeing q.view.seen (gave b.view i) → Makes f.description (GivesItem b.view.thread i ∷ []) b.view q.view → Used f i e p q
+      → IsOf f q → q.view ≡ seeing q.view.seen (gave b.view i)
+      → Makes f.description (GivesItem b.view.thread i ∷ []) b.view q.view → Used f i e p q
   uses_changed p a b q ticket y ready room taken noted stamps own given gives =
       let v : Knowledge = p.view in
       let made : Entry = entry_by v.thread ticket e in
-      let with_it : b.view ≡ seeing b.view.seen (record (stamped (config_in f.description) (took v i j taken.value) made) { out = (j, y) ∷ v.out }) =
-      noted ∙ ap (λ (w : Knowledge). seeing b.view.seen (record (stamped (config_in f.description) w (entry_by w.thread ticket e)) { out = (j, y) ∷ rest w.out })) taken.view in
+      let with_it : b.view ≡ seeing b.view.seen
+      (record (stamped (config_in f.description) (took v i j taken.value) made) { out = (j, y) ∷ v.out }) =
+      noted ∙ ap (λ (w : Knowledge). seeing b.view.seen
+      (record (stamped (config_in f.description) w (entry_by w.thread ticket e)) { out = (j, y) ∷ rest w.out }))
+      taken.view in
       let is : q.view ≡ seeing q.view.seen (stamped (config_in f.description) v made) =
-      given ∙ ap (λ (w : Knowledge). seeing q.view.seen (gave w i)) with_it ∙ ap (seeing q.view.seen) (used_is (config_in f.description) v made i j j taken.value y plain) in
+      given ∙ ap (λ (w : Knowledge). seeing q.view.seen (gave w i)) with_it
+      ∙ ap (seeing q.view.seen) (used_is (config_in f.description) v made i j j taken.value y plain) in
       let its : a.view.thread ≡ v.thread = ap (λ (w : Knowledge). w.thread) taken.view in
       let its_then : b.view.thread ≡ v.thread = ap (λ (w : Knowledge). w.thread) with_it in
-      let step : Makes f.description (Stamps v.thread e ∷ []) a.view b.view = subst (λ t. Makes f.description (Stamps t e ∷ []) a.view b.view) its stamps in
-      let back : Makes f.description (GivesItem v.thread i ∷ []) b.view q.view = subst (λ t. Makes f.description (GivesItem t i ∷ []) b.view q.view) its_then gives in
+      let step : Makes f.description (Stamps v.thread e ∷ []) a.view b.view =
+      subst (λ t. Makes f.description (Stamps t e ∷ []) a.view b.view) its stamps in
+      let back : Makes f.description (GivesItem v.thread i ∷ []) b.view q.view =
+      subst (λ t. Makes f.description (GivesItem t i ∷ []) b.view q.view) its_then gives in
       record {
-        ready = record { own = own; rest = subst (IsAtRest f.description) (sym is) (rest_seeing f.description (stamped (config_in f.description) v made) q.view.seen (rest_stamped f.description v ticket e quiet ready.rest)) };
+        ready = record {
+          own = own;
+          rest = subst (IsAtRest f.description) (sym is)
+              (rest_seeing f.description (stamped (config_in f.description) v made) q.view.seen
+              (rest_stamped f.description v ticket e quiet ready.rest));
+        };
         entry = record {
           ticket = ticket;
           log = ap (λ (w : Knowledge). w.share.log) is;
@@ -298,25 +324,38 @@ module _ (f : Floor Description) (i : Item) (j : ℕ) (e : Event) (plain : is_ch
 
   pub uses : (p a b q : Pass Knowledge) (ticket : ℕ) → IsReady f p → 1 ≤ p.view.spare
       → Takes f.description i j p.view a.view
-      → b.view ≡ seeing b.view.seen (stamped (config_in f.description) a.view (entry_by a.view.thread ticket e)) → Makes f.description (Stamps a.view.thread e ∷ []) a.view b.view
-      → IsOf f q → q.view ≡ seeing q.view.seen (gave b.view i) → Makes f.description (GivesItem b.view.thread i ∷ []) b.view q.view → Used f i e p q
+      → b.view ≡ seeing b.view.seen (stamped (config_in f.description) a.view (entry_by a.view.thread ticket e))
+      → Makes f.description (Stamps a.view.thread e ∷ []) a.view b.view
+      → IsOf f q → q.view ≡ seeing q.view.seen (gave b.view i)
+      → Makes f.description (GivesItem b.view.thread i ∷ []) b.view q.view → Used f i e p q
   uses p a b q ticket ready room taken noted =
       let same : Noted f.description ticket e j taken.value a.view b.view =
-      noted ∙ ap (λ o. seeing b.view.seen (record (stamped (config_in f.description) a.view (entry_by a.view.thread ticket e)) { out = o })) (taken_out f.description p.view a.view i j taken) in
+      noted ∙ ap (λ o. seeing b.view.seen
+      (record (stamped (config_in f.description) a.view (entry_by a.view.thread ticket e)) { out = o }))
+      (taken_out f.description p.view a.view i j taken) in
       uses_changed p a b q ticket taken.value ready room taken same
 
   -- the same where the entry changed the value
   pub uses_change : (p a b q : Pass Knowledge) (ticket : ℕ) → IsReady f p → 1 ≤ p.view.spare → Takes f.description i j p.view a.view → b.view ≡ seeing b.view.seen (stamped_change (config_in f.description) a.view (entry_by a.view.thread ticket e))
-      → Makes f.description (Stamps a.view.thread e ∷ []) a.view b.view → IsOf f q → q.view ≡ seeing q.view.seen (gave b.view i) → Makes f.description (GivesItem b.view.thread i ∷ []) b.view q.view → Used f i e p q
+      → Makes f.description (Stamps a.view.thread e ∷ []) a.view b.view → IsOf f q
+      → q.view ≡ seeing q.view.seen (gave b.view i)
+      → Makes f.description (GivesItem b.view.thread i ∷ []) b.view q.view → Used f i e p q
   uses_change p a b q ticket ready room taken noted =
       let same : Noted f.description ticket e j (changed e taken.value) a.view b.view =
-      noted ∙ ap (λ o. seeing b.view.seen (record (stamped (config_in f.description) a.view (entry_by a.view.thread ticket e)) { out = last_changed e o })) (taken_out f.description p.view a.view i j taken) in
+      noted ∙ ap (λ o. seeing b.view.seen
+      (record (stamped (config_in f.description) a.view (entry_by a.view.thread ticket e)) {
+        out = last_changed e
+            o;
+      })) (taken_out f.description p.view a.view i j taken) in
       uses_changed p a b q ticket (changed e taken.value) ready room taken same
 
 -- what is out once an entry has changed it
-pub changed_out : (c : Config) (floor : Description) (v a b : Knowledge) (i : Item) (j : ℕ) (entry : Entry) (taken : Takes floor i j v a) → b ≡ seeing b.seen (stamped_change c a entry) → b.out ≡ (j, changed entry.event taken.value) ∷ rest b.out
+pub changed_out : (c : Config) (floor : Description) (v a b : Knowledge) (i : Item) (j : ℕ) (entry : Entry)
+    (taken : Takes floor i j v a) → b ≡ seeing b.seen (stamped_change c a entry)
+    → b.out ≡ (j, changed entry.event taken.value) ∷ rest b.out
 changed_out c floor v a b i j entry taken is =
-    let same : b.out ≡ (j, changed entry.event taken.value) ∷ rest a.out = ap (λ (w : Knowledge). w.out) is ∙ ap (last_changed entry.event) (taken_out floor v a i j taken) in
+    let same : b.out ≡ (j, changed entry.event taken.value) ∷ rest a.out = ap (λ (w : Knowledge). w.out) is
+    ∙ ap (last_changed entry.event) (taken_out floor v a i j taken) in
     subst (λ o. o ≡ (j, changed entry.event taken.value) ∷ rest o) (sym same) refl
 
 -- 6. Behind a gain with its entry
@@ -380,9 +419,11 @@ module _ (floor : Description) (v : Knowledge) (h : Held) where
       go true = refl
       go false = refl
 
-  pub rest_gained : (ticket : ℕ) → IsAtRest floor v → hold_in v.share.held h.l.0 ≡ NotHeld → IsAtRest floor (stamped (config_in floor) (gained v h) (entry_by v.thread ticket (gain_event h)))
+  pub rest_gained : (ticket : ℕ) → IsAtRest floor v → hold_in v.share.held h.l.0 ≡ NotHeld
+      → IsAtRest floor (stamped (config_in floor) (gained v h) (entry_by v.thread ticket (gain_event h)))
   rest_gained ticket r unheld =
-      at_rest floor (stamped gc (gained v h) (entry_by v.thread ticket (gain_event h))) (idle_stamped floor (gained v h) ticket (gain_event h) no_sleep_gained (idle_gained v h (idle floor v r)))
+      at_rest floor (stamped gc (gained v h) (entry_by v.thread ticket (gain_event h)))
+      (idle_stamped floor (gained v h) ticket (gain_event h) no_sleep_gained (idle_gained v h (idle floor v r)))
       (λ k. gain_section ticket k ∙ ap (cond (eqb h.l.0 k) (Holds h.mode)) (r.sections k) ∙ sym (hold_in-push v.share.held h k unheld))
       (λ k held. ap (is_among k) (begun_gained (others h.l.0 v.share.begun)) ∙ gain_begun r.begun unheld k held)
 
@@ -413,7 +454,8 @@ module _ (floor : Description) (v : Knowledge) (l : LockNo) (mode : Mode) where
   unfolding after_stamp
   release_section ticket k = own_section lc (behind lc v.share.log ticket) v.thread (Unlocked l mode) k
 
-  pub leaves : (ticket : ℕ) → IsAtRest floor v → hold_in v.share.held l.0 ≡ Holds mode → IsLeaving floor l.0 mode (stamped (config_in floor) v (entry_by v.thread ticket (Unlocked l mode)))
+  pub leaves : (ticket : ℕ) → IsAtRest floor v → hold_in v.share.held l.0 ≡ Holds mode
+      → IsLeaving floor l.0 mode (stamped (config_in floor) v (entry_by v.thread ticket (Unlocked l mode)))
   leaves ticket r held = record {
     about = idle_stamped floor v ticket (Unlocked l mode) refl (idle floor v r);
     held = held;
@@ -460,7 +502,8 @@ module _ (floor : Description) (l : ℕ) (mode : Mode) (v : Knowledge) (h : IsLe
         sections : Sectioned floor left
         sections k =
             elim (cases_eq l k) [
-              | inl e ↦ subst (λ m. open_in (config_in floor) v.share.log v.thread m ≡ hold_in (without_lock l v.share.held) m) e (h.closed ∙ sym unheld)
+              | inl e ↦ subst (λ m. open_in (config_in floor) v.share.log v.thread m ≡ hold_in
+                  (without_lock l v.share.held) m) e (h.closed ∙ sym unheld)
               | inr ne ↦ h.beside k ne ∙ sym (held_beside l v.share.held k ne)
             ]
 

@@ -42,7 +42,9 @@ module _ (floor : Description) (sized : IsSized floor) (l key : ℕ) where
       let is : get_or ks i d ≡ q = place_exact (get_or ks i d) q (equal d) in
       let hit : is_cell l key (get_or ks i d) ≡ true = ap (is_cell l key) is ∙ ap (λ f. f q) (cell_test l key) ∙ ap is_eq (tied_itself place_total q) in
       let before : (k : ℕ) → k < i → is_cell l key (get_or ks k d) ≡ false =
-      λ k lt. is_not (get_or ks k d) Less (subst (λ x. place_cmp (get_or ks k d) x ≡ Less) is (Less-from_sorted place_cmp ks k i d sized.rising lt low)) refl in
+      λ k lt. is_not (get_or ks k d) Less
+      (subst (λ x. place_cmp (get_or ks k d) x ≡ Less) is (Less-from_sorted place_cmp ks k i d sized.rising lt low))
+      refl in
       let first : position_or_len (is_cell l key) ks ≡ i = position_or_len_is (is_cell l key) ks i d (omega (arith, low)) before (λ _. hit) in
       ap (λ n. cond (nat_lt n (length ks)) (Some n) None) first ∙ ap (λ b. cond b (Some i) None) (lt-ltb i (length ks) low)
 
@@ -54,7 +56,8 @@ module _ (floor : Description) (sized : IsSized floor) (l key : ℕ) where
         | inr le ↦ is_not (get_or ks k d) Greater (parted.1 k d le low) refl
       ])
 
-  pub searched : (r : Result ℕ ℕ) → Contains floor.keys (l, key) → IsSearchInRange r (length ks) → IsBinarySearchResult (λ y. place_cmp y q) ks r
+  pub searched : (r : Result ℕ ℕ) → Contains floor.keys (l, key) → IsSearchInRange r (length ks)
+      → IsBinarySearchResult (λ y. place_cmp y q) ks r
       → MatchResult r (λ i. slot_of floor (CellOf l key) ≡ Some (length floor.threads + i)) (λ i. ⊥)
   searched (Ok i) there low equal = ap (option_map (λ n. length floor.threads + n)) (at_place i low equal)
   searched (Err i) there low parted =

@@ -100,7 +100,8 @@ module _ (s : State) (v : Knowledge) (fit : RepresentsShare v.share s v.thread) 
   seek_own l by_try = record {
     columns = λ i. record (e i) {
       doing = record (e i).doing {
-        taking = (ap (λ (x : ShareColumns). taking_from by_try x.doing.wanted l x.doing.taking) e ∙ sym (put_same s.taking t (taking_from by_try (s.wanted t) l (s.taking t)))) i;
+        taking = (ap (λ (x : ShareColumns). taking_from by_try x.doing.wanted l x.doing.taking) e
+            ∙ sym (put_same s.taking t (taking_from by_try (s.wanted t) l (s.taking t)))) i;
         looks = sym (put_same s.looks t 0) i;
         round = sym (put_same s.round t (Some (round_of l by_try))) i;
       };

@@ -26,15 +26,21 @@ use Rattle.lock_floor.specs.Views.{entry_by, stamped}
 use Rattle.lock_floor.proofs.Shares.{stamp_own, stamp_others}
 
 -- what it tells, where out is what the thread has out then
-abbrev pub StampedWith : Description → Event → (Me Slot Knowledge → List (ℕ × Slot)) → Me Slot Knowledge → ℕ → Me Slot Knowledge → Type 0
+abbrev pub StampedWith : Description → Event → (Me Slot Knowledge → List (ℕ × Slot)) → Me Slot Knowledge → ℕ
+    → Me Slot Knowledge → Type 0
 StampedWith floor event out me found behind =
-    (found < 2 ^ 32) × (behind ≡ (seeing behind.0.seen (record (stamped (config_in floor) me.0 (entry_by me.0.thread found event)) { out = out me }), me.1))
+    (found < 2 ^ 32) × (behind ≡ (
+      seeing behind.0.seen
+          (record (stamped (config_in floor) me.0 (entry_by me.0.thread found event)) { out = out me }),
+      me.1,
+    ))
     × Makes floor (Stamps me.0.thread event ∷ []) me.0 behind.0
 
 abbrev pub Stamped : Description → Event → Me Slot Knowledge → ℕ → Me Slot Knowledge → Type 0
 Stamped floor event = StampedWith floor event (λ me. me.0.out)
 
-module _ (floor : Description) (me : Me Slot Knowledge) (was : me.0.role ≡ OfThread) (room : 1 ≤ me.0.spare) (event : Event) (out : Me Slot Knowledge → List (ℕ × Slot)) where
+module _ (floor : Description) (me : Me Slot Knowledge) (was : me.0.role ≡ OfThread) (room : 1 ≤ me.0.spare)
+    (event : Event) (out : Me Slot Knowledge → List (ℕ × Slot)) where
   abbrev v : Knowledge
   v = me.0
 
@@ -43,9 +49,11 @@ module _ (floor : Description) (me : Me Slot Knowledge) (was : me.0.role ≡ OfT
 
   -- on a table where it may be made, with what lies behind the latches then
   pub stamps : (b : Board) (h : Finds floor v b) (content : ℕ → Slot) → FitAll floor h.state step
-      → Shelves (slots_for floor) (latch_word b.words) (home_at b.homes) (put (λ u. (thread_in b.views u).out) v.thread (out me)) content
+      → Shelves (slots_for floor) (latch_word b.words) (home_at b.homes)
+      (put (λ u. (thread_in b.views u).out) v.thread (out me)) content
       → RepresentsObjects floor content (objects_in (after_stamp (config_in floor) h.state v.thread event))
-      → Steps floor me (spot ticket_line) (word_at b.words ticket_line) ((word_at b.words ticket_line + 1) % 18446744073709551616) (StampedWith floor event out me) b
+      → Steps floor me (spot ticket_line) (word_at b.words ticket_line)
+      ((word_at b.words ticket_line + 1) % 18446744073709551616) (StampedWith floor event out me) b
   unfolding after_stamp
   stamps b h content may shelves objects =
       let c : Config = config_in floor in
@@ -68,7 +76,8 @@ module _ (floor : Description) (me : Me Slot Knowledge) (was : me.0.role ≡ OfT
       } in
       let more : (ticket + 1) % 18446744073709551616 ≡ suc ticket = omega (arith, small) in
       let spares : suc w.spare ≡ v.spare = omega (arith, room) in
-      let made = ticket_made floor step b v w h was may own me.1 ((ticket + 1) % 18446744073709551616) content more refl refl spares shelves objects in
+      let made = ticket_made floor step b v w h was may own me.1 ((ticket + 1) % 18446744073709551616) content more refl
+      refl spares shelves objects in
       (w, keeps, tt, made.0, (small, refl, made.1))
 
 -- an event that changes no priority and no lock's table leaves the objects
@@ -80,16 +89,24 @@ quiet_objects c s t e base table = λ i. record (objects_in s) {
 }
 
 -- so it is stamped with what is out as it is
-pub stamp_allowed : (floor : Description) (me : Me Slot Knowledge) (event : Event) (slots id : ℕ) → me.0.role ≡ OfThread → 1 ≤ me.0.spare → changes_base event ≡ false → changes_table event ≡ false
-    → MayMake floor me.0 (λ s. Unit {0}) (Stamps me.0.thread event ∷ []) → Allows (FloorHolds floor) slots id me (spot ticket_line) (λ n. (n + 1) % 18446744073709551616) (Stamped floor event me)
+pub stamp_allowed : (floor : Description) (me : Me Slot Knowledge) (event : Event) (slots id : ℕ) → me.0.role ≡ OfThread
+    → 1 ≤ me.0.spare → changes_base event ≡ false → changes_table event ≡ false
+    → MayMake floor me.0 (λ s. Unit {0}) (Stamps me.0.thread event ∷ [])
+    → Allows (FloorHolds floor) slots id me (spot ticket_line) (λ n. (n + 1) % 18446744073709551616)
+    (Stamped floor event me)
 stamp_allowed floor me event slots id was room base table may =
-    allows floor slots id me (spot ticket_line) (λ n. (n + 1) % 18446744073709551616) (Stamped floor event me) was (λ b h small. step b h)
+    allows floor slots id me (spot ticket_line) (λ n. (n + 1) % 18446744073709551616) (Stamped floor event me) was
+    (λ b h small. step b h)
   where
-    step : (b : Board) (h : Finds floor me.0 b) → Steps floor me (spot ticket_line) (word_at b.words ticket_line) ((word_at b.words ticket_line + 1) % 18446744073709551616) (Stamped floor event me) b
+    step : (b : Board) (h : Finds floor me.0 b)
+        → Steps floor me (spot ticket_line) (word_at b.words ticket_line)
+        ((word_at b.words ticket_line + 1) % 18446744073709551616) (Stamped floor event me) b
     step b h =
         let r = h.represents in
         let outs : ℕ → List (ℕ × Slot) = λ u. (thread_in b.views u).out in
         let mine : outs me.0.thread ≡ me.0.out = ap (λ (k : Knowledge). k.out) (at_or b.views (suc me.0.thread) me.0 nothing h.there) in
         stamps floor me was room event (λ me. me.0.out) b h r.content (may h.state h.fits tt)
-        (subst (λ o. Shelves (slots_for floor) (latch_word b.words) (home_at b.homes) o r.content) (sym (put_back outs me.0.thread me.0.out mine)) r.shelves)
-        (subst (RepresentsObjects floor r.content) (sym (quiet_objects (config_in floor) h.state me.0.thread event base table)) r.objects)
+        (subst (λ o. Shelves (slots_for floor) (latch_word b.words) (home_at b.homes) o r.content)
+        (sym (put_back outs me.0.thread me.0.out mine)) r.shelves)
+        (subst (RepresentsObjects floor r.content)
+        (sym (quiet_objects (config_in floor) h.state me.0.thread event base table)) r.objects)

@@ -24,8 +24,8 @@ pub record IsLaid (floor : Description) (table : TableId) (own : Description) : 
   pub slots : table.slots ≡ slots_for floor
   pub sized : IsSized floor
 
--- the pass has the locks and the entries that its seat knows of, room for as many as its thread may hold, and just those
--- values out that its seat has out: none where it is finished, and then its thread runs
+-- the pass has the locks and the entries that its seat knows of, room for as many as its thread may hold, and just
+-- those values out that its seat has out: none where it is finished, and then its thread runs
 pub record IsTied (who : ℕ) (locks : Vec Held) (book : Book) (finished : Bool)
     (me : Me Slot Knowledge) : Type 0 where
   pub role : me.0.role ≡ OfThread

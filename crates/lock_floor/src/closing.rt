@@ -200,8 +200,8 @@ fn cell_from(value: Slot) -> Option<u64>
     }
 }
 
-// Takes the cells out of their places, which are behind those of so many threads, and puts the value of each at its key.
-// What stands behind them stays in its place.
+// Takes the cells out of their places, which are behind those of so many threads, and puts the value of each at its
+// key. What stands behind them stays in its place.
 fn take_cells(
     closed: &mut Closed<Slot, Global>,
     threads: usize,

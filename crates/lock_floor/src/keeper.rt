@@ -61,8 +61,8 @@ impl Split<View> for HandOut {
 }
 
 impl FloorOf<Slot, View, Description, Law> {
-    /// A floor for a plan, which is one that some script gives, with so many chains of each sort, and a pass for each of
-    /// the plan's threads, in order: that of the description that the plan gives. There is room for every entry that
+    /// A floor for a plan, which is one that some script gives, with so many chains of each sort, and a pass for each
+    /// of the plan's threads, in order: that of the description that the plan gives. There is room for every entry that
     /// the plan can make.
     pub fn make(
         alloc: Global,

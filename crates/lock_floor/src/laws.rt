@@ -29,9 +29,9 @@ pub fn steps_lead_to_one_state()
         → m.past ≡ k.past → m.state ≡ k.state }
 {}
 
-/// A look finds the word that the lock has at that very moment: in the state to which all steps lead that were made before
-/// it. Behind it the thread has seen these and its look, and where it looks again before anybody makes another step, it
-/// finds the same word.
+/// A look finds the word that the lock has at that very moment: in the state to which all steps lead that were made
+/// before it. Behind it the thread has seen these and its look, and where it looks again before anybody makes another
+/// step, it finds the same word.
 pub fn looks_find_words()
     ensures word { (floor : Description) (l : ℕ) (counts : Bool) (old new : Knowledge)
         (m : Makes floor (Looks old.thread l counts ∷ []) old new)
@@ -54,8 +54,8 @@ pub fn tries_find_takers()
         (f : FindsOut floor i old new) → old.out ≡ [] → f.taker ≢ old.thread }
 {}
 
-/// A thread that stands on no queue, as its seat knows, finds in its own record its turnstile and its sleep queue, and no
-/// queue named.
+/// A thread that stands on no queue, as its seat knows, finds in its own record its turnstile and its sleep queue, and
+/// no queue named.
 pub fn own_records_are_whole()
     ensures turnstile { (floor : Description) (old new : Knowledge) (b : Box ThreadRec Global)
         (k : Takes floor (RecordOf old.thread) old.thread old new) → k.value ≡ Record b
@@ -68,8 +68,8 @@ pub fn own_records_are_whole()
         → is_off_queues old.pose ≡ true → b.value.on ≡ None }
 {}
 
-/// An entry of a thread gets as its ticket the number of those before it: it stands behind them in the history, and behind
-/// the thread's own in its log.
+/// An entry of a thread gets as its ticket the number of those before it: it stands behind them in the history, and
+/// behind the thread's own in its log.
 pub fn entries_are_next()
     ensures history { (floor : Description) (e : Event) (old new : Knowledge)
         (m : Makes floor (Stamps old.thread e ∷ []) old new)

@@ -1,5 +1,5 @@
-//! The priorities of a thread at rest, and its end. A call about priorities takes the thread's record out of its home, makes
-//! one entry, and gives the record back. None takes memory.
+//! The priorities of a thread at rest, and its end. A call about priorities takes the thread's record out of its home,
+//! makes one entry, and gives the record back. None takes memory.
 ghost use Rattle.std.specs.Prelude.{◌≡◌, ◌≤◌, true, Some, [], ◌∷◌};
 ghost use Rattle.atomic_table.specs.Table.{rest};
 ghost use Rattle.lock_model.specs.declared.event.Event.TheVariants.{Base, Shown};

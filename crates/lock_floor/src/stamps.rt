@@ -42,8 +42,8 @@ impl FloorOf<Slot, View, Description, Law> {
         entry.ticket
     }
 
-    // Changes the value that was taken last, which is that of the event's item, as the event says, and makes the entry of
-    // the event, by one atomic step. Answers its ticket.
+    // Changes the value that was taken last, which is that of the event's item, as the event says, and makes the entry
+    // of the event, by one atomic step. Answers its ticket.
     pub(crate) fn stamp_change(&self, pass: &mut Pass, slot: usize, event: Event) -> u32
         requires own { IsOf self.now pass.old }
         requires room { 1 ≤ pass.old.view.spare }

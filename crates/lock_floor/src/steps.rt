@@ -55,8 +55,8 @@ impl FloorOf<Slot, View, Description, Law> {
         read_first::<Brand>(&self.board, &mut pass.seat, l, by_try)
     }
 
-    /// Gains a lock in a mode, where its word is still the one that was seen. `Err` has the word that stands there else,
-    /// and then the call was a look.
+    /// Gains a lock in a mode, where its word is still the one that was seen. `Err` has the word that stands there
+    /// else, and then the call was a look.
     pub fn gain(&self, pass: &mut Pass, hold: Held, seen: u64) -> Result<(), u64>
         requires own { IsOf self.now pass.old }
         requires lock { hold.l.0 < length self.now.description.locks }

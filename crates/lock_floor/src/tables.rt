@@ -1,5 +1,5 @@
-//! Changes and reads of the locks' tables by a thread at rest. Each call takes the value at a key out of its home, makes
-//! one entry, and gives the value back. None takes memory.
+//! Changes and reads of the locks' tables by a thread at rest. Each call takes the value at a key out of its home,
+//! makes one entry, and gives the value back. None takes memory.
 ghost use Rattle.std.specs.Prelude.{◌≡◌, ◌≢◌, ◌≤◌, Some, ◌∷◌};
 ghost use Rattle.std.specs.List.{Contains};
 ghost use Rattle.atomic_table.specs.Table.{rest};
@@ -62,8 +62,8 @@ impl FloorOf<Slot, View, Description, Law> {
         self.give(pass, slot);
     }
 
-    /// The value at a key of the table of a lock that is held. The key is one of the floor's. `None` comes exactly where
-    /// the key is absent. It waits while another thread has the value out.
+    /// The value at a key of the table of a lock that is held. The key is one of the floor's. `None` comes exactly
+    /// where the key is absent. It waits while another thread has the value out.
     pub fn read<R: Wait>(&self, rt: &R, pass: &mut Pass, l: LockNo, key: u64) -> Option<u64>
         requires ready { IsReady self.now pass.old }
         requires held { hold_in pass.old.view.share.held l.0 ≢ NotHeld }

@@ -1,5 +1,5 @@
-//! What is true of each floor and of each pass, as members of the rule of the table: so both are found to cross threads,
-//! whatever lies in the slots.
+//! What is true of each floor and of each pass, as members of the rule of the table: so both are found to cross
+//! threads, whatever lies in the slots.
 
 use floor_table::{Description, Law, Slot, View};
 

@@ -3,8 +3,8 @@
 
 use lock_model::ThreadNo;
 
-/// What a thread of a run passes before each of its operations. It promises nothing, and nothing of a run is promised by
-/// it. It always returns: one that holds a thread back does so for a bounded number of looks.
+/// What a thread of a run passes before each of its operations. It promises nothing, and nothing of a run is promised
+/// by it. It always returns: one that holds a thread back does so for a bounded number of looks.
 ///
 /// ```
 /// gate.at(ThreadNo(2), 0); // thread 2 is about to make its first operation

@@ -6,8 +6,8 @@
 //! - `mem_source`, `mem_sink`: ends in memory for tests, over `calls`, which lets chosen calls fail.
 //! - `std_source`, `std_sink`: a reader and a writer of std as ends of the program.
 //! - `copied_sink`: a sink with a copy of what it took.
-//! - `gate`: what a thread passes before each of its operations; `meeting`: one for tests, at which two threads wait for each
-//!   other.
+//! - `gate`: what a thread passes before each of its operations; `meeting`: one for tests, at which two threads wait
+//!   for each other.
 #![tactic(auto)]
 
 mod calls;

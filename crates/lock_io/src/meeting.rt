@@ -9,8 +9,8 @@ use std::thread;
 // How often a thread looks whether the other has come.
 const LOOKS: u32 = 1_000_000;
 
-/// A gate for the threads 0 and 1, each of which is held at one of its operations until the other has come to its second.
-/// A thread looks at most 1,000,000 times, and then goes on.
+/// A gate for the threads 0 and 1, each of which is held at one of its operations until the other has come to its
+/// second. A thread looks at most 1,000,000 times, and then goes on.
 ///
 /// ```
 /// let gate = Meeting::new(1, 1);
@@ -44,8 +44,8 @@ impl Side {
 }
 
 impl Meeting {
-    /// A gate that holds thread 0 at one operation and thread 1 at another, each counted from 0. A number that no operation
-    /// has holds nobody.
+    /// A gate that holds thread 0 at one operation and thread 1 at another, each counted from 0. A number that no
+    /// operation has holds nobody.
     pub fn new(first: u32, second: u32) -> Meeting {
         Meeting {
             first: Side::new(first),

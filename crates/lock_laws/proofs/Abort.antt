@@ -24,7 +24,8 @@ use Rattle.lock_laws.proofs.SleepQueues.{unowned, loans_stay, sx_word, bits_stay
 
 -- 1. Marks by abort: as those of a signal, but that they call for no lock
 
-object_same : (c : Config) (sort : Bool) (n : ℕ) (ms : List Mark) → times_object c sort n (by_abort ms) ≡ times_object c sort n ms
+object_same : (c : Config) (sort : Bool) (n : ℕ) (ms : List Mark)
+    → times_object c sort n (by_abort ms) ≡ times_object c sort n ms
 object_same c true n [] = refl
 object_same c false n [] = refl
 object_same c true n (m ∷ ms) = omega (arith, object_same c true n ms)
@@ -44,7 +45,8 @@ there : (c : Config) (q : QueueName) → IsQueueOf c q → IsThere c q
 there c (Lock l) i = i
 there c (Chan d) i = i
 
-module _ (c : Config) (s : State) (t : ℕ) (q : QueueName) (side : Side) (u : ℕ) (g : MayAbort c s t q side u) (h : Lawful c s) where
+module _ (c : Config) (s : State) (t : ℕ) (q : QueueName) (side : Side) (u : ℕ) (g : MayAbort c s t q side u)
+    (h : Lawful c s) where
   abbrev pub taken : List Waiter
   taken = sleeper s u ∷ []
 
@@ -67,7 +69,11 @@ module _ (c : Config) (s : State) (t : ℕ) (q : QueueName) (side : Side) (u : �
   marks = by_abort dealt_marks
 
   pub may_take_off : MayTakeOff c s t q side taken left
-  may_take_off = record { thread = g.thread; queue = there c q g.queue; parts = one_taken (sleeper s u) (list_of side (s.lists q)) g.stands }
+  may_take_off = record {
+    thread = g.thread;
+    queue = there c q g.queue;
+    parts = one_taken (sleeper s u) (list_of side (s.lists q)) g.stands;
+  }
 
   deals : Deals c s t q taken marks free head
   deals =
@@ -110,7 +116,8 @@ holder_same : (side : Side) (b : Bool) (w : Word) → (with_bit w side b).holder
 holder_same X b w = refl
 holder_same S b w = refl
 
-module _ (c : Config) (s : State) (t l : ℕ) (side : Side) (u : ℕ) (g : MayAbort c s t (lock_queue l) side u) (h : Lawful c s) where
+module _ (c : Config) (s : State) (t l : ℕ) (side : Side) (u : ℕ) (g : MayAbort c s t (lock_queue l) side u)
+    (h : Lawful c s) where
   abbrev shown : Bool
   shown = not (is_empty (left c s t (lock_queue l) side u g h))
 
@@ -127,17 +134,20 @@ module _ (c : Config) (s : State) (t l : ℕ) (side : Side) (u : ℕ) (g : MayAb
   })
   unfolding BitsShowWaiters FreeWordHasCalled FreeMutexShowsNone WordsMatchHolders
   words = record {
-    bits = bits_put s h.queues.bits_show_waiters l w _ (bits_less side (s.word l) _ (s.lists (lock_queue l)) (h.queues.bits_show_waiters l));
+    bits = bits_put s h.queues.bits_show_waiters l w _
+        (bits_less side (s.word l) _ (s.lists (lock_queue l)) (h.queues.bits_show_waiters l));
     called = λ k.
         let same = same_calls c s t (lock_queue l) side u g h k in
         let here = holder_same side shown (s.word l) in
-        let less = shows_less side shown (s.word l) (s.lists (lock_queue l)) (h.queues.bits_show_waiters l) (some_stands u _ g.stands) in
+        let less = shows_less side shown (s.word l) (s.lists (lock_queue l)) (h.queues.bits_show_waiters l)
+        (some_stands u _ g.stands) in
         elim (cases_eq l k) [
           | inl i ↦ rw (← i, put_same s.word l w, here) (let same2 = rw (← i) at same in omega (arith, same2, less))
           | inr i ↦ rw (put_other s.word l w k i) same
         ];
     free_mutex = λ k e.
-        rw (put_other s.word l w k (λ i. let z = rw (← i) at e in let y = rw z at g.sleeps in cc)) (h.waits.free_mutex_shows_none k e);
+        rw (put_other s.word l w k (λ i. let z = rw (← i) at e in let y = rw z at g.sleeps in cc))
+        (h.waits.free_mutex_shows_none k e);
     holders = at_put (λ k v. WordMatchesHolders c v k s.held) s.word l w
         (matches_same c (s.word l) w l s.held (holder_same side shown (s.word l)) (h.words.words_match_holders l))
         (λ k ne. h.words.words_match_holders k);
@@ -145,21 +155,25 @@ module _ (c : Config) (s : State) (t l : ℕ) (side : Side) (u : ℕ) (g : MayAb
 
 -- 4. Each fact
 
-pub lawful : (c : Config) (s : State) (t : ℕ) (q : QueueName) (side : Side) (u : ℕ) → MayAbort c s t q side u → Lawful c s
+pub lawful : (c : Config) (s : State) (t : ℕ) (q : QueueName) (side : Side) (u : ℕ) → MayAbort c s t q side u
+    → Lawful c s
     → Lawful c (after_abort s t q side u)
 unfolding after_abort
 lawful c s t (Lock l) side u g h =
     let q = Lock l in
     assumption (
-      taking_off (may_take_off c s t q side u g h) h (deals c s t q side u g h) s.owner (λ r e. refl) (λ e. unowned h q g.sleeps),
+      taking_off (may_take_off c s t q side u g h) h (deals c s t q side u g h) s.owner (λ r e. refl)
+          (λ e. unowned h q g.sleeps),
       words c s t l.0 side u g h,
-      loans_stay h q g.sleeps (lists c s t q side u g h) (head c s t q side u g h) (put s.word l.0 (w c s t l.0 side u g h))
+      loans_stay h q g.sleeps (lists c s t q side u g h) (head c s t q side u g h)
+          (put s.word l.0 (w c s t l.0 side u g h))
           (sx_word c s.word l.0 (w c s t l.0 side u g h) g.sleeps),
     )
 lawful c s t (Chan d) side u g h =
     let q = Chan d in
     assumption (
-      taking_off (may_take_off c s t q side u g h) h (deals c s t q side u g h) s.owner (λ r e. refl) (λ e. unowned h q g.sleeps),
+      taking_off (may_take_off c s t q side u g h) h (deals c s t q side u g h) s.owner (λ r e. refl)
+          (λ e. unowned h q g.sleeps),
       same_calls c s t q side u g h,
       bits_stay h d.0 (lists c s t q side u g h),
       loans_stay h q g.sleeps (lists c s t q side u g h) (head c s t q side u g h) s.word (λ l e. refl),

@@ -1,4 +1,5 @@
--- Nobody waits at a turnstile of a lock that isn't one of the plan's: the plan's threads have a turnstile each, and these are all in its own places.
+-- Nobody waits at a turnstile of a lock that isn't one of the plan's: the plan's threads have a turnstile each, and
+-- these are all in its own places.
 use Rattle.std.proofs.Common.{◌≡◌, ℕ, suc, ◌+◌, ◌<◌, ◌≤◌, Bool, true, false, cond, eqb, ltb, ◌&&◌, List, [], ◌∷◌, length, Option, Some, None, refl, sym, ap, inl, inr, arith, eq-eqb, ◌∙◌}
 use Rattle.std.proofs.lemmas.Bool.{ne_eqb, cases_eq, lt-ltb}
 use Rattle.lock_model.specs.Counts.{sum_below, one, some, at_option, times}

@@ -44,7 +44,10 @@ module _ (s : State) (h : QueuedHasRecord s.wait s.blocked_on s.record_with) whe
 
 record_kept : (chains : ℕ) (c : Config) (s : State) (step : Step) → May c s step → HasOut chains c s step → QueuedHasRecord s.wait s.blocked_on s.record_with
     → QueuedHasRecord (after c s step).wait (after c s step).blocked_on (after c s step).record_with
-unfolding after_seek after_look after_gain after_drop after_stamp after_ready after_unready after_enter after_open after_mark after_resume after_enter_sleep after_open_sleep after_add after_wake after_claim after_lend after_shift after_end_walk after_admit after_refuse after_count_out after_count_in after_count_self_in after_count_end after_halt after_abort after_take after_give
+unfolding after_seek after_look after_gain after_drop after_stamp after_ready after_unready after_enter after_open
+    after_mark after_resume after_enter_sleep after_open_sleep after_add after_wake after_claim after_lend after_shift
+    after_end_walk after_admit after_refuse after_count_out after_count_in after_count_self_in after_count_end
+    after_halt after_abort after_take after_give
 record_kept chains c s (TakesItem t (RecordOf v)) g o h = taken s h t v g.home
 record_kept chains c s (GivesItem t (RecordOf v)) g o h = given s h t v g.out g.done
 record_kept chains c s (Readies t q) g o h = ready s h t o.1
@@ -62,5 +65,9 @@ begins c = record { lawful = start.lawful c; queued_has_record = λ t e f. absur
 
 pub floor_keeps : (chains : ℕ) (c : Config) (s n : State) → IsFloorStep chains c s n → LawfulFloor c s → LawfulFloor c n
 floor_keeps chains c s n p h =
-    let there : LawfulFloor c (after c s p.0) = record { lawful = keeps c s p.0 p.1.may h.lawful; queued_has_record = record_kept chains c s p.0 p.1.may p.1.has_out h.queued_has_record } in
+    let there : LawfulFloor c (after c s p.0) =
+    record {
+      lawful = keeps c s p.0 p.1.may h.lawful;
+      queued_has_record = record_kept chains c s p.0 p.1.may p.1.has_out h.queued_has_record;
+    } in
     subst (LawfulFloor c) (sym p.2) there

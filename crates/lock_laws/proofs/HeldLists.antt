@@ -208,8 +208,8 @@ pub record Leads (plan : Plan) (op : Op) (hs xs : List Held) : Type 0 where
   pub passes : Passes (operation_tests plan.locks plan.chans op hs)
   pub behind : held_behind op hs ≡ xs
 
--- What a take or a try of a lock finds. Its lock is one of the plan's and not held, there is room for it, and it is held behind the others. A mutex is
--- gained exclusively.
+-- What a take or a try of a lock finds. Its lock is one of the plan's and not held, there is room for it, and it is
+-- held behind the others. A mutex is gained exclusively.
 pub record GainFits (plan : Plan) (l : LockNo) (mode : Mode) (by_try : Bool) (hs xs : List Held) : Type 0 where
   pub lock : l.0 < length plan.locks
   pub mutex : lock_kind plan l.0 ≡ Mtx → mode ≡ Excl
@@ -247,7 +247,8 @@ module _ (plan : Plan) where
             absurd (let z : (false || false) ≡ true = rw k at f in cc),
       )
 
-  pub gain_passes : (l : LockNo) (mode : Mode) (by_try : Bool) (hs xs : List Held) → Passes (acquiring_tests plan.locks l mode hs) → hs ++ (record { l = l; mode = mode; by_try = by_try }) ∷ [] ≡ xs
+  pub gain_passes : (l : LockNo) (mode : Mode) (by_try : Bool) (hs xs : List Held)
+      → Passes (acquiring_tests plan.locks l mode hs) → hs ++ (record { l = l; mode = mode; by_try = by_try }) ∷ [] ≡ xs
       → GainFits plan l mode by_try hs xs
   gain_passes l mode by_try hs xs e behind =
       let room = passed _ _ e in

@@ -30,7 +30,10 @@ noted (Busy l seen) n h = omega arith
 noted other n h = h
 
 kept : (c : Config) (s : State) (step : Step) → May c s step → AreFew s.looks → AreFew (after c s step).looks
-unfolding AreFew after_seek after_look after_gain after_drop after_stamp after_ready after_unready after_enter after_open after_mark after_resume after_enter_sleep after_open_sleep after_add after_wake after_claim after_lend after_shift after_end_walk after_admit after_refuse after_count_out after_count_in after_count_self_in after_count_end after_halt after_abort after_take after_give
+unfolding AreFew after_seek after_look after_gain after_drop after_stamp after_ready after_unready after_enter
+    after_open after_mark after_resume after_enter_sleep after_open_sleep after_add after_wake after_claim after_lend
+    after_shift after_end_walk after_admit after_refuse after_count_out after_count_in after_count_self_in
+    after_count_end after_halt after_abort after_take after_give
 kept c s (Seeks t l by_try) g h = changed s.looks t 0 (omega arith) h
 kept c s (Looks t l in_round) g h = changed s.looks t _ (one_more in_round (s.looks t) g.room (h t)) h
 kept c s (Gains t l mode by_try) g h = changed s.looks t 0 (omega arith) h

@@ -1,4 +1,5 @@
--- The sections behind a history are those behind the thread's own entries, and an event changes only what its class says.
+-- The sections behind a history are those behind the thread's own entries, and an event changes only what its class
+-- says.
 use Rattle.std.proofs.Common.{◌≡◌, ℕ, Bool, true, false, cond, eqb, Option, List, [], ◌∷◌, refl, ap}
 use Rattle.std.proofs.lemmas.Bool.{ne_eqb}
 use Rattle.lock_model.specs.Config.{Config}

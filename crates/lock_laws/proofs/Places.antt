@@ -1,6 +1,6 @@
 -- Where turnstiles and sleep queues are, for both sorts in one: a sort is `true` for turnstiles and `false` for sleep
--- queues, as in `times_object`. A thread lends its own object to a queue, marks take objects off it, and a marked thread
--- takes its object back.
+-- queues, as in `times_object`. A thread lends its own object to a queue, marks take objects off it, and a marked
+-- thread takes its object back.
 use Rattle.std.proofs.Common.{cond, ◌≡◌, ℕ, ◌+◌, ◌<◌, Bool, true, false, not, eqb, List, [], ◌∷◌, Option, Some, None, refl, ap, arith}
 use Rattle.lock_model.specs.Counts.{sum_below, one, some, at_option, times}
 use Rattle.lock_model.specs.Config.{Config}

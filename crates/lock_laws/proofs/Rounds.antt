@@ -1,4 +1,5 @@
--- Acquiring rounds on a running floor: who took a lock's chain in a blocking call keeps it until it gains, claims or enters.
+-- Acquiring rounds on a running floor: who took a lock's chain in a blocking call keeps it until it gains, claims or
+-- enters.
 use Rattle.std.proofs.Common.{◌≡◌, ◌⊎◌, ℕ, ◌%◌, Bool, true, false, cond, Option, Some, None, refl, sym, ap, inl, inr, arith, ◌∙◌, subst}
 use Rattle.std.proofs.lemmas.Bool.{cases_eq}
 use Rattle.lock_model.specs.Config.{Config}
@@ -128,7 +129,10 @@ no_bound_noted (Some r) other l f e = f
 
 chain_kept : (chains : ℕ) (c : Config) (s : State) (step : Step) → May c s step → HasOut chains c s step → HasSeen chains c s step → BoundHasChain chains c s.round (item_with s)
     → BoundHasChain chains c (after c s step).round (item_with (after c s step))
-unfolding after_seek after_look after_gain after_drop after_stamp after_ready after_unready after_enter after_open after_mark after_resume after_enter_sleep after_open_sleep after_add after_wake after_claim after_lend after_shift after_end_walk after_admit after_refuse after_count_out after_count_in after_count_self_in after_count_end after_halt after_abort after_take after_give
+unfolding after_seek after_look after_gain after_drop after_stamp after_ready after_unready after_enter after_open
+    after_mark after_resume after_enter_sleep after_open_sleep after_add after_wake after_claim after_lend after_shift
+    after_end_walk after_admit after_refuse after_count_out after_count_in after_count_self_in after_count_end
+    after_halt after_abort after_take after_give
 chain_kept chains c s (Seeks t l by_try) g o x h = round_put chains c s h t (Some (round_of l by_try)) (λ k. no_bound_sought k l by_try)
 chain_kept chains c s (TakesItem t i) g o x h = taken chains c s h t i g o.1 (is_chain i) refl
 chain_kept chains c s (GivesItem t i) g o x h = given chains c s h t i g
@@ -207,7 +211,10 @@ module _ (s : State) (h : RoundsAreActing s.round s.blocked_on s.wait) where
 
 acting_kept : (chains : ℕ) (c : Config) (s : State) (step : Step) → May c s step → HasSeen chains c s step → Lawful c s → RoundsAreActing s.round s.blocked_on s.wait
     → RoundsAreActing (after c s step).round (after c s step).blocked_on (after c s step).wait
-unfolding RoundsAreActing after_seek after_look after_gain after_drop after_stamp after_ready after_unready after_enter after_open after_mark after_resume after_enter_sleep after_open_sleep after_add after_wake after_claim after_lend after_shift after_end_walk after_admit after_refuse after_count_out after_count_in after_count_self_in after_count_end after_halt after_abort after_take after_give
+unfolding RoundsAreActing after_seek after_look after_gain after_drop after_stamp after_ready after_unready after_enter
+    after_open after_mark after_resume after_enter_sleep after_open_sleep after_add after_wake after_claim after_lend
+    after_shift after_end_walk after_admit after_refuse after_count_out after_count_in after_count_self_in
+    after_count_end after_halt after_abort after_take after_give
 acting_kept chains c s (Seeks t l by_try) g x w h = acting_put s h t (Some (round_of l by_try)) (λ r e. (g.acting.unnamed, g.acting.unwoken))
 acting_kept chains c s (TakesItem t i) g x w h = acting_put s h t _ (λ r e. let p = in_chain_of (is_chain i) (s.round t) r e in h t p.0 p.1)
 acting_kept chains c s (Gains t l mode by_try) g x w h = acting_put s h t None (λ r e. absurd cc)
@@ -234,7 +241,11 @@ begins chains c = record { bound_has_chain = λ t l e. absurd cc; rounds_are_act
 
 pub rounds_keep : (chains : ℕ) (c : Config) (s n : State) → IsFloorStep chains c s n → Lawful c s → LawfulRounds chains c s → LawfulRounds chains c n
 rounds_keep chains c s n p w h =
-    let there : LawfulRounds chains c (after c s p.0) = record { bound_has_chain = chain_kept chains c s p.0 p.1.may p.1.has_out p.1.has_seen h.bound_has_chain; rounds_are_acting = acting_kept chains c s p.0 p.1.may p.1.has_seen w h.rounds_are_acting } in
+    let there : LawfulRounds chains c (after c s p.0) =
+    record {
+      bound_has_chain = chain_kept chains c s p.0 p.1.may p.1.has_out p.1.has_seen h.bound_has_chain;
+      rounds_are_acting = acting_kept chains c s p.0 p.1.may p.1.has_seen w h.rounds_are_acting;
+    } in
     subst (LawfulRounds chains c) (sym p.2) there
 
 -- 4. How a round ends
@@ -261,7 +272,10 @@ entered_bound None l k e f = absurd cc
 entered_bound (Some r) l k e f = sym (ap lock_of f) ∙ ap lock_of e
 
 pub ends : (chains : ℕ) (c : Config) (s : State) (step : Step) (t l : ℕ) → May c s step → HasSeen chains c s step → LawfulRounds chains c s → IsBoundTo s t l → IsBoundTo (after c s step) t l ⊎ EndsRound step t l
-unfolding RoundsAreActing after_seek after_look after_gain after_drop after_stamp after_ready after_unready after_enter after_open after_mark after_resume after_enter_sleep after_open_sleep after_add after_wake after_claim after_lend after_shift after_end_walk after_admit after_refuse after_count_out after_count_in after_count_self_in after_count_end after_halt after_abort after_take after_give
+unfolding RoundsAreActing after_seek after_look after_gain after_drop after_stamp after_ready after_unready after_enter
+    after_open after_mark after_resume after_enter_sleep after_open_sleep after_add after_wake after_claim after_lend
+    after_shift after_end_walk after_admit after_refuse after_count_out after_count_in after_count_self_in
+    after_count_end after_halt after_abort after_take after_give
 ends chains c s (Seeks u k by_try) t l g x h e = left s u t l _ ⊥ e (λ i. let z : None ≡ Some (bound_to l) = sym g.no_round ∙ ap s.round i ∙ e in cc)
 ends chains c s (TakesItem u i) t l g x h e =
     inl (elim (cases_eq u t) [

@@ -69,9 +69,12 @@ module _ (c : Config) (s : State) (h : Lawful c s) where
   asks_replayed t other a = tt
 
 -- its own sections behind an entry of a thread, and that which is open
-pub own_sections_by : (c : Config) (s : State) (t : ℕ) (e : Event) (l : ℕ) → sections_in c (after_stamp c s t e).history t l ≡ sections_by c e l (sections_in c s.history t l)
+pub own_sections_by : (c : Config) (s : State) (t : ℕ) (e : Event) (l : ℕ)
+    → sections_in c (after_stamp c s t e).history t l ≡ sections_by c e l (sections_in c s.history t l)
 unfolding after_stamp sections_in
-own_sections_by c s t e l = ap (λ b. cond b (sections_by c e l (sections_in c s.history t l)) (sections_in c s.history t l)) (eq-eqb t t refl)
+own_sections_by c s t e l =
+    ap (λ b. cond b (sections_by c e l (sections_in c s.history t l)) (sections_in c s.history t l)) (eq-eqb t t refl)
 
-pub own_section : (c : Config) (s : State) (t : ℕ) (e : Event) (l : ℕ) → open_in c (after_stamp c s t e).history t l ≡ (sections_by c e l (sections_in c s.history t l)).now
+pub own_section : (c : Config) (s : State) (t : ℕ) (e : Event) (l : ℕ)
+    → open_in c (after_stamp c s t e).history t l ≡ (sections_by c e l (sections_in c s.history t l)).now
 own_section c s t e l = ap (λ (x : Sections). x.now) (own_sections_by c s t e l)

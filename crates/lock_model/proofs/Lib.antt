@@ -4,3 +4,4 @@ pub mod Lists
 pub mod LeastCodes
 pub mod HeldLocks
 pub mod Orders
+pub mod Facets

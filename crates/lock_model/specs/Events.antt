@@ -2,9 +2,12 @@
 -- event ends, and of sleepers. What stands elsewhere of events reads these facets; which operation gives an event
 -- (`Law`) and the words of events (`Text`) are tables of their own. What code asks of a facet is declared beside
 -- `Event`.
-use Rattle.std.specs.Prelude.{ℕ, Bool, true, false, ◌==◌, Option, Some, None, is_some}
+use Rattle.std.specs.Prelude.{ℕ, ◌+◌, Bool, true, false, ◌==◌, if◌then◌else◌, Option, Some, None, is_some}
+use Rattle.lock_model.specs.Counts.{one}
 use Rattle.lock_model.specs.declared.plan.Mode.{Mode}
 use Rattle.lock_model.specs.declared.event.Event.{Event}
+use Rattle.lock_model.specs.declared.event.LockFacet.{LockFacet}
+use Rattle.lock_model.specs.declared.event.LockFacet.TheVariants as lock
 use Rattle.lock_model.specs.declared.event.OfTable.{OfTable}
 use Rattle.lock_model.specs.declared.event.OfTable.TheVariants.{NoTable, SetsTo, AddsTo, Reads}
 use Rattle.lock_model.specs.declared.event.Event.TheVariants.{Locked, Tried, Busy, Unlocked, Set, Added, Got, Base, Shown, Sleeps, Woke, HaltedChan, HaltedLock, WokeOne, WokeAll, Reversed}
@@ -202,3 +205,119 @@ is_for_nobody (WakesAll d woken) = woken == 0
 
 abbrev pub wakes_nobody : Event → Bool
 wakes_nobody e = is_for_nobody (of_sleep e)
+
+-- what a take or a try says of its lock where it gained nothing. A gain is told by the section that begins with it
+abbrev pub lock_missed : OfTake → LockFacet
+lock_missed NoTake = lock.NoLock
+lock_missed (GainedBy l by_try) = lock.NoLock
+lock_missed (FoundBusy l seen) = lock.FindsBusy (record { 0 = l }) seen
+lock_missed (HaltedFor l) = lock.IsHalted (record { 0 = l })
+lock_missed (RefusedBy l class) = lock.IsRefused (record { 0 = l }) (record { 0 = class })
+
+-- what it says of a lock: which section of it begins or ends, or how a take of it failed
+abbrev pub lock_facet : OfSection → OfTake → LockFacet
+lock_facet NoSection take = lock_missed take
+lock_facet (BeginsIn l mode) take = lock.Begins (record { 0 = l }) mode
+lock_facet (EndsFrom l mode) take = lock.Ends (record { 0 = l }) mode
+lock_facet (LeftFor d) take = lock.Leaves (record { 0 = d })
+lock_facet (TakenBack d) take = lock.TakesBack (record { 0 = d })
+
+-- 4. What facets tell of each other
+
+-- the lock that a take or a try gained, and that of a section that begins with a gain
+abbrev pub lock_gained : OfTake → Option ℕ
+lock_gained NoTake = None
+lock_gained (GainedBy l by_try) = Some l
+lock_gained (FoundBusy l seen) = None
+lock_gained (HaltedFor l) = None
+lock_gained (RefusedBy l class) = None
+
+abbrev pub section_gained : OfSection → Option ℕ
+section_gained NoSection = None
+section_gained (BeginsIn l mode) = Some l
+section_gained (EndsFrom l mode) = None
+section_gained (LeftFor d) = None
+section_gained (TakenBack d) = None
+
+-- what ends where a section begins: the wait behind which it is taken back
+abbrev pub wait_ended : OfSection → OfEnd
+wait_ended NoSection = NoEnd
+wait_ended (BeginsIn l mode) = NoEnd
+wait_ended (EndsFrom l mode) = NoEnd
+wait_ended (LeftFor d) = NoEnd
+wait_ended (TakenBack d) = EndsWaitOn d
+
+-- what ends: a take that gained its lock, by no try, or that was halted; or such a wait
+abbrev pub end_of : OfTake → OfSection → OfEnd
+end_of NoTake of = wait_ended of
+end_of (GainedBy l by_try) of = if by_try then wait_ended of else EndsTakeOf l
+end_of (FoundBusy l seen) of = wait_ended of
+end_of (HaltedFor l) of = EndsTakeOf l
+end_of (RefusedBy l class) of = wait_ended of
+
+-- the section that a sleep on a channel leaves, or that its end takes back,
+abbrev pub section_slept : OfSleep → OfSection
+section_slept NoSleep = NoSection
+section_slept (FallsAsleep d) = LeftFor d
+section_slept (WakesUp d) = TakenBack d
+section_slept (IsHalted d) = TakenBack d
+section_slept (IsHaltedAtLock l) = NoSection
+section_slept (WakesOne d woken) = NoSection
+section_slept (WakesAll d woken) = NoSection
+
+-- and a section, if it is such a one
+abbrev pub of_channel : OfSection → OfSection
+of_channel NoSection = NoSection
+of_channel (BeginsIn l mode) = NoSection
+of_channel (EndsFrom l mode) = NoSection
+of_channel (LeftFor d) = LeftFor d
+of_channel (TakenBack d) = TakenBack d
+
+-- the lock of which a halt ended a take, and the one on whose queue it ended a sleep
+abbrev pub take_halted : OfTake → Option ℕ
+take_halted NoTake = None
+take_halted (GainedBy l by_try) = None
+take_halted (FoundBusy l seen) = None
+take_halted (HaltedFor l) = Some l
+take_halted (RefusedBy l class) = None
+
+abbrev pub sleep_halted : OfSleep → Option ℕ
+sleep_halted NoSleep = None
+sleep_halted (FallsAsleep d) = None
+sleep_halted (WakesUp d) = None
+sleep_halted (IsHalted d) = None
+sleep_halted (IsHaltedAtLock l) = Some l
+sleep_halted (WakesOne d woken) = None
+sleep_halted (WakesAll d woken) = None
+
+-- whether it is about a table, about priorities, about a section, or about a take that gained nothing
+abbrev pub is_of_table : OfTable → Bool
+is_of_table NoTable = false
+is_of_table (SetsTo l k v) = true
+is_of_table (AddsTo l k n) = true
+is_of_table (Reads l k found) = true
+
+abbrev pub is_of_prio : OfPrio → Bool
+is_of_prio NoPrio = false
+is_of_prio (NewBase p) = true
+is_of_prio (ShowsPrios b e) = true
+
+abbrev pub is_of_section : OfSection → Bool
+is_of_section NoSection = false
+is_of_section (BeginsIn l mode) = true
+is_of_section (EndsFrom l mode) = true
+is_of_section (LeftFor d) = true
+is_of_section (TakenBack d) = true
+
+abbrev pub is_in_vain : OfTake → Bool
+is_in_vain NoTake = false
+is_in_vain (GainedBy l by_try) = false
+is_in_vain (FoundBusy l seen) = true
+is_in_vain (HaltedFor l) = true
+is_in_vain (RefusedBy l class) = true
+
+-- of how many matters it speaks: these, and whether its thread wakes others
+abbrev pub matters : Facets → ℕ
+matters row =
+    one (is_of_table row.table) + (one (is_of_prio row.prio) + (one (is_of_section row.section)
+    + (one (is_in_vain row.take) + one (is_waking_of row.sleep))))

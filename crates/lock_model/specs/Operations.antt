@@ -202,8 +202,8 @@ pub record Fit (locks : List LockDecl) (chans : List ChanDecl) (ops : List Op) :
 
 -- 5. Plans
 
--- the operations of all threads. A wait makes two entries and every other operation one at most; and each lock that a cut
--- thread gives back was gained by an operation that made one
+-- the operations of all threads. A wait makes two entries and every other operation one at most; and each lock that a
+-- cut thread gives back was gained by an operation that made one
 abbrev pub operations_in_all : Plan → ℕ
 operations_in_all plan = sum (map (λ d. length d.ops) plan.threads)
 

@@ -3,7 +3,7 @@
 
 ghost use Rattle.std.specs.Prelude.{◌≡◌, ◌==◌, option_map};
 ghost use Rattle.std.specs.List.{position};
-ghost use Rattle.lock_model.specs.Events.{facets, new_base, of_sleep, fell_asleep, woken_chan, wakes_nobody};
+ghost use Rattle.lock_model.specs.Events.{facets, lock_facet, new_base, of_sleep, fell_asleep, woken_chan, wakes_nobody};
 ghost use Rattle.lock_model.specs.Law.{is_halt};
 ghost use Rattle.lock_model.specs.Takes.{is_reversal, refused};
 
@@ -132,6 +132,31 @@ pub enum OfTable {
     },
 }
 
+/// What an event says of a lock: which section of its thread begins or ends, or how a take of it failed.
+///
+/// ```
+/// let said = LockFacet::Begins { l: LockNo(0), mode: Mode::Excl };
+/// ```
+#[derive(Clone, Copy, Debug, PartialEq, Eq, Hash)]
+pub enum LockFacet {
+    /// Nothing.
+    NoLock,
+    /// The thread gained the lock, and its section begins.
+    Begins { l: LockNo, mode: Mode },
+    /// The thread released the lock, and its section ends.
+    Ends { l: LockNo, mode: Mode },
+    /// The section of the lock of the condition variable or channel ends, and the thread sleeps.
+    Leaves { c: ChanNo },
+    /// The thread has slept, and a section of that one's lock begins, in the mode of the one that it left.
+    TakesBack { c: ChanNo },
+    /// A try found the lock busy, with that lock word.
+    FindsBusy { l: LockNo, seen: u64 },
+    /// A halt ended the take of the lock.
+    IsHalted { l: LockNo },
+    /// The take of the lock was refused, for a held lock of that class.
+    IsRefused { l: LockNo, held: ClassNo },
+}
+
 impl Event {
     /// What it does at a key of a lock's table.
     pub fn at_table(self) -> OfTable
@@ -154,6 +179,28 @@ impl Event {
             | Event::WokeOne { .. }
             | Event::WokeAll { .. }
             | Event::Reversed { .. } => OfTable::NoTable,
+        }
+    }
+
+    /// What it says of a lock.
+    pub fn at_lock(self) -> LockFacet
+        ensures { result ≡ lock_facet (facets self).section (facets self).take }
+    {
+        match self {
+            Event::Locked { l, mode } | Event::Tried { l, mode } => LockFacet::Begins { l, mode },
+            Event::Busy { l, seen } => LockFacet::FindsBusy { l, seen },
+            Event::Unlocked { l, mode } => LockFacet::Ends { l, mode },
+            Event::Sleeps { c } => LockFacet::Leaves { c },
+            Event::Woke { c } | Event::HaltedChan { c } => LockFacet::TakesBack { c },
+            Event::HaltedLock { l } => LockFacet::IsHalted { l },
+            Event::Reversed { l, held } => LockFacet::IsRefused { l, held },
+            Event::Set { .. }
+            | Event::Added { .. }
+            | Event::Got { .. }
+            | Event::Base { .. }
+            | Event::Shown { .. }
+            | Event::WokeOne { .. }
+            | Event::WokeAll { .. } => LockFacet::NoLock,
         }
     }
 

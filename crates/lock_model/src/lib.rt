@@ -6,12 +6,14 @@
 //! - `sequence`: a list, as it stands in the types below.
 //! - `plan`: what a script says: locks, channels, threads with their operations, and a schedule.
 //! - `event`: what happened in a run, and why something was refused.
+//! - `laws`: what the facets of an event tell of each other.
 //! - `turn`: what a turn of the scheduled run answers.
 //! - `words`: words and numbers, as they are pushed onto a text.
 //! - `limits`: the most of each.
 #![tactic(auto)]
 
 mod event;
+mod laws;
 pub mod limits;
 mod name;
 mod numbers;
@@ -20,7 +22,10 @@ mod sequence;
 mod turn;
 mod words;
 
-pub use event::{Busy, Entry, Event, Halted, Held, OfTable, Refused, Reversal, place_held};
+pub use event::{
+    Busy, Entry, Event, Halted, Held, LockFacet, OfTable, Refused, Reversal, place_held,
+};
+pub use laws::facets_agree;
 pub use name::Name;
 pub use numbers::{ChanNo, ClassNo, LockNo, Prio, ThreadNo};
 pub use plan::{

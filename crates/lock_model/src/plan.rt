@@ -6,7 +6,7 @@ ghost use Rattle.std.specs.List.Sorted.{IsStrictlyIncreasing};
 ghost use Rattle.lock_model.specs.Keys.{place_of, op_names, plan_names};
 ghost use Rattle.lock_model.specs.Operations.{operations_in_all, of_locks};
 ghost use Rattle.lock_model.specs.declared.plan.OfLocks.TheVariants.{Acquires};
-ghost use Rattle.lock_model.specs.Plans.{operations_of, thread_name, lock_name, lock_kind, chan_name, is_cond, class_name};
+ghost use Rattle.lock_model.specs.Plans.{operations_of, thread_name, lock_name, lock_kind, chan_name, is_cond, class_name, lock_class, chan_lock};
 
 use crate::event::Held;
 use crate::name::Name;
@@ -331,6 +331,16 @@ impl Plan {
         }
     }
 
+    /// The class of a lock, and class 0 where the plan has no lock of that number.
+    pub fn lock_class(&self, l: LockNo) -> ClassNo
+        ensures { result.0 ≡ lock_class self.now l.0 }
+    {
+        match self.locks.as_slice().get(usize::from(l.0)) {
+            Some(lock) => lock.class,
+            None => ClassNo(0),
+        }
+    }
+
     /// The name of a condition variable or channel, and no bytes where the plan has none of that number.
     pub fn chan_name(&self, c: ChanNo) -> &[u8]
         ensures { result.now ≡ chan_name self.now c.0 }
@@ -348,6 +358,16 @@ impl Plan {
         match self.chans.as_slice().get(usize::from(c.0)) {
             Some(chan) => chan.cond,
             None => true,
+        }
+    }
+
+    /// The lock of a condition variable or channel, and lock 0 where the plan has none of that number.
+    pub fn chan_lock(&self, c: ChanNo) -> LockNo
+        ensures { result.0 ≡ chan_lock self.now c.0 }
+    {
+        match self.chans.as_slice().get(usize::from(c.0)) {
+            Some(chan) => chan.lock,
+            None => LockNo(0),
         }
     }
 

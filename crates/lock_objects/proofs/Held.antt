@@ -1,4 +1,5 @@
--- The list of the locks that a thread holds, with one lock more or without one: each lock once, and what the column of a state says of it.
+-- The list of the locks that a thread holds, with one lock more or without one: each lock once, and what the column
+-- of a state says of it.
 use Rattle.std.proofs.Common.{◌≡◌, ◌≢◌, ℕ, ◌+◌, ◌≤◌, true, false, cond, List, [], ◌∷◌, ◌++◌, refl, sym, ap, ◌∙◌, arith, inl, inr, eq-eqb}
 use Rattle.std.specs.Prelude.{◌==◌}
 use Rattle.std.proofs.lemmas.Bool.{cases_eq, ne_eqb}

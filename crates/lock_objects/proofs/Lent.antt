@@ -1,4 +1,5 @@
--- What those who wait for a lock lend to a thread: chain and record show the columns with that loan. A lend makes it for the owner, and a claim for the thread that becomes the owner.
+-- What those who wait for a lock lend to a thread: chain and record show the columns with that loan. A lend makes it
+-- for the owner, and a claim for the thread that becomes the owner.
 use Rattle.std.proofs.Common.{◌≡◌, ◌≢◌, ℕ, ◌+◌, ◌<◌, ◌≤◌, Bool, true, false, cond, List, ◌∷◌, length, length-append, Option, Some, None, IfSome, option_map, inl, inr, refl, sym, ap, subst, ◌∙◌, arith}
 use Rattle.std.proofs.lemmas.Bool.{cases_eq}
 use Rattle.std.proofs.lemmas.Option.{same_Some}

@@ -73,7 +73,8 @@ least_with-above base m (t ∷ ts) one each le =
 
 -- 4. The least of a base and a column
 
--- The least of a base and the loans is that of a column with what is lent for each lock below n, where nothing is lent for others
+-- The least of a base and the loans is that of a column with what is lent for each lock below n, where nothing is
+-- lent for others
 pub least_with-by_lock : (n base : ℕ) (loans : List Terms) (f : ℕ → Option ℕ)
     → ((l : ℕ) → option_map (λ t. t.prio) (loan_for l loans) ≡ f l) → ((l : ℕ) → n ≤ l → f l ≡ None) → ((l : ℕ) → loans_for l loans ≤ 1)
     → least_with base (prios loans) ≡ least n f base

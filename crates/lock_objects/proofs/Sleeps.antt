@@ -1,4 +1,5 @@
--- A thread stands on a sleep queue, and sleepers are taken off one: the chain shows the columns behind both, and those taken their marks.
+-- A thread stands on a sleep queue, and sleepers are taken off one: the chain shows the columns behind both, and
+-- those taken their marks.
 use Rattle.std.proofs.Common.{◌≡◌, ◌≢◌, ℕ, ◌+◌, Bool, true, false, cond, List, [], ◌∷◌, length, map, Option, Some, None, IsSome, refl, sym, ap, subst, arith, ◌∙◌}
 use Rattle.std.specs.List.{All}
 use Rattle.std.proofs.lemmas.List.Elements.{All-nil}

@@ -1,4 +1,5 @@
--- Waiters of a side are taken off a turnstile or a sleep queue, the best or all: what the rest shows of its queue, and those taken of their marks.
+-- Waiters of a side are taken off a turnstile or a sleep queue, the best or all: what the rest shows of its queue,
+-- and those taken of their marks.
 use Rattle.std.proofs.Common.{◌≡◌, ◌≢◌, suc, ◌+◌, ◌≤◌, Bool, true, false, cond, List, [], ◌∷◌, length, map, Some, None, IsSome, refl, sym, ap, arith, length-append, ◌∙◌}
 use Rattle.std.specs.List.{All}
 use Rattle.lock_model.specs.Counts.{is_empty}

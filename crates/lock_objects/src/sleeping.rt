@@ -20,9 +20,9 @@ use lock_model::{Prio, QueueName, Side};
 use sleep_queues::{SleepQueue, SleepTaken, Sleeper};
 use thread_records::ThreadRec;
 
-/// A thread stands at the tail of a side of a sleep queue, by its base priority, and its record names the queue. Its own
-/// sleep queue becomes that of the lock or channel where this has none, and goes to the free list of it where it has
-/// one.
+/// A thread stands at the tail of a side of a sleep queue, by its base priority, and its record names the queue. Its
+/// own sleep queue becomes that of the lock or channel where this has none, and goes to the free list of it where it
+/// has one.
 pub fn fall_asleep(chain: &mut Chain<SleepQueue>, rec: &mut ThreadRec, q: QueueName, side: Side)
     requires own { IsSome rec.old.sleep_queue }
     requires may { CanStand rec.old.thread (head_of q chain.old) }

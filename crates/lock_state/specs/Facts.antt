@@ -22,8 +22,30 @@ unfoldable pub use Rattle.lock_model.specs.Orders.{HasNoCycle}
 unfoldable pub use Rattle.lock_state.specs.Facts.Orders.{WantsAreOrdered, HoldsAreOrdered, SleepersAreOrdered, WokenAreOrdered, AbortedWant, HaltsAreOrdered, TakesAreInGraph}
 unfoldable pub use Rattle.lock_model.specs.Takes.{ReversalsHaveCause}
 unfoldable pub use Rattle.lock_state.specs.Facts.Takes.{OnlyLocksAreHeld, EdgesAreOfTakes, TakersAreOpen, RefusalsHaveCause}
-unfoldable pub use Rattle.lock_state.specs.Facts.Counts.{AwakeIsCounted, TermsFitParking, CountedInIsNextMarked, ParkedHasNoWalk, RestingHasNoMarks, ParkedHasNothingOut, RestingStands, SelfAbortedIsWoken, EndedRuns, EndedIsBare, EndedIsCounted, FinderIsAlone}
-unfoldable pub use Rattle.lock_state.specs.Facts.Halts.{StandersAreOpen, RestingHasReleased, WantedIsTaken, SleepersTakeNothing, HaltedWantNothing, UnhaltedBefore, HaltedSince, HaltsHaveCauses}
+unfoldable pub use Rattle.lock_state.specs.Facts.Counts.{
+  AwakeIsCounted,
+  TermsFitParking,
+  CountedInIsNextMarked,
+  ParkedHasNoWalk,
+  RestingHasNoMarks,
+  ParkedHasNothingOut,
+  RestingStands,
+  SelfAbortedIsWoken,
+  EndedRuns,
+  EndedIsBare,
+  EndedIsCounted,
+  FinderIsAlone,
+}
+unfoldable pub use Rattle.lock_state.specs.Facts.Halts.{
+  StandersAreOpen,
+  RestingHasReleased,
+  WantedIsTaken,
+  SleepersTakeNothing,
+  HaltedWantNothing,
+  UnhaltedBefore,
+  HaltedSince,
+  HaltsHaveCauses,
+}
 
 -- where objects are, who stands in which order, and what a word shows of it
 pub record QueueFacts (c : Config) (s : State) : Type 0 where

@@ -171,8 +171,8 @@ takes c r t l mode noted =
     else blocks c r t l mode
 
 -- A take's first turn checks the order of its lock behind those that the thread holds. Where the class of one of them
--- forbids that of the lock, the refusal is noted with the first class that does, and the thread is cut. Else the lock is
--- admitted, and taken from that turn on.
+-- forbids that of the lock, the refusal is noted with the first class that does, and the thread is cut. Else the lock
+-- is admitted, and taken from that turn on.
 abbrev pub begins_take : Config → Run → ℕ → LockNo → Mode → Option ℕ → Action
 begins_take c r t l mode (Some k) =
     does Note (Refuses t l.0 k ∷ Stamps t (event.Reversed l (record { 0 = k })) ∷ [])
@@ -222,7 +222,8 @@ releases c r t l mode =
     let back = gives_back c r t l.0 mode in
     ends r t back.0 (Stamps t (event.Unlocked l mode) ∷ back.1 ∷ [])
 
--- A thread that was cut gives back the lock that it gained last, and notes it. One that holds nothing any more has ended.
+-- A thread that was cut gives back the lock that it gained last, and notes it. One that holds nothing any more has
+-- ended.
 abbrev pub gives_last_back : Config → Run → ℕ → List HeldLock → Action
 gives_last_back c r t [] = nothing Idle
 gives_last_back c r t (h ∷ hs) =
@@ -236,8 +237,9 @@ gives_up c r t l =
     let back = gives_back c r t l (mode_held (r.state.held t l)) in
     does back.0 (back.1 ∷ [])
 
--- A wait's first turn: the thread is made ready, notes it, and stands on the channel's queue. Once it has been woken and
--- runs again, it takes the lock back in the mode in which it held it, without a check of its order, and notes that.
+-- A wait's first turn: the thread is made ready, notes it, and stands on the channel's queue. Once it has been woken
+-- and runs again, it takes the lock back in the mode in which it held it, without a check of its order, and notes
+-- that.
 abbrev pub sleeps : Config → Run → ℕ → ChanNo → Option ℕ → Action
 sleeps c r t d None =
     does Add (Readies t (Chan d) ∷ Stamps t (event.Sleeps d)

@@ -62,7 +62,8 @@ unfolding IsOutputSaid IsAccepted
 accepted_output said bytes plan pair accepted made = subst (λ r. IsOutputOfReading said r pair) (sym accepted) made
 
 -- and that of other bytes the line of their first fault
-pub refused_output : (said : LockrunArgs) (bytes : List ℕ) (fault : ScriptFault) (text : List ℕ) → Refuses bytes (Script fault) → text ≡ fault_text fault.line fault.code
+pub refused_output : (said : LockrunArgs) (bytes : List ℕ) (fault : ScriptFault) (text : List ℕ)
+    → Refuses bytes (Script fault) → text ≡ fault_text fault.line fault.code
     → IsOutputSaid said bytes (BadScript, text)
 unfolding IsOutputSaid IsFaulty
 refused_output said bytes fault text refused is =
@@ -70,7 +71,8 @@ refused_output said bytes fault text refused is =
     subst (λ r. IsOutputOfReading said r (BadScript, text)) (sym refused) (ap (λ (t : List ℕ). pair BadScript t) is)
 
 -- an answer for a script's plan is one for the bytes
-pub accepted_answer : {V E : Type 0} (items : V → List ℕ) (said : LockrunArgs) (bytes : List ℕ) (plan : Plan) (r : Result (Status × V) E) → IsAccepted bytes plan
+pub accepted_answer : {V E : Type 0} (items : V → List ℕ) (said : LockrunArgs) (bytes : List ℕ) (plan : Plan)
+    (r : Result (Status × V) E) → IsAccepted bytes plan
     → IfOk r (λ a. IsOutputOfPlan said.command said.chains said.turns plan (a.0, items a.1)) → IfOk r (λ a. IsOutputSaid said bytes (a.0, items a.1))
 accepted_answer items said bytes plan (Ok a) accepted made = accepted_output said bytes plan (a.0, items a.1) accepted made
 accepted_answer items said bytes plan (Err e) accepted made = tt

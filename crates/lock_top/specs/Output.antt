@@ -38,8 +38,8 @@ pub record IsOutputOfThreads (plan : Plan) (pair : Status × List ℕ) : Type 0 
   pub ran : HasOnlyMutexes plan → (o : Outcome) × IsOutcome plan o × (pair ≡ output_of plan o)
   pub refused : (HasOnlyMutexes plan → ⊥) → pair ≡ (BadScript, fault_text 0 0)
 
--- They belong to a plan, with so many chains of each sort and at most so many turns: check counts and runs nothing, step
--- makes the scheduled run, and run runs the threads.
+-- They belong to a plan, with so many chains of each sort and at most so many turns: check counts and runs nothing,
+-- step makes the scheduled run, and run runs the threads.
 abbrev pub IsOutputOfPlan : Command → ℕ → ℕ → Plan → Status × List ℕ → Type 0
 IsOutputOfPlan Check chains turns plan pair = pair ≡ (Done, counts_text plan)
 IsOutputOfPlan Step chains turns plan pair = pair ≡ output_of plan (scheduled_run plan chains turns)

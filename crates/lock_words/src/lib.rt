@@ -135,7 +135,8 @@ pub fn is_plain(kind: Kind, w: u64, mode: Mode) -> bool
     }
 }
 
-/// The word with one holder more, and the same waiters' bits. It is free, or the mode is shared and 1 to 63 threads share it.
+/// The word with one holder more, and the same waiters' bits. It is free, or the mode is shared and 1 to 63 threads
+/// share it.
 pub fn gained(w: u64, t: ThreadNo, mode: Mode) -> u64
     requires well_formed { IsWellFormed (word_of w) }
     requires thread { t.0 ≤ 63 }
@@ -149,7 +150,8 @@ pub fn gained(w: u64, t: ThreadNo, mode: Mode) -> u64
     }
 }
 
-/// The word with one holder less, and the same waiters' bits. It is held in that mode, and another shared holder stays or no waiter is shown.
+/// The word with one holder less, and the same waiters' bits. It is held in that mode, and another shared holder stays
+/// or no waiter is shown.
 pub fn dropped(w: u64, mode: Mode) -> u64
     requires well_formed { IsWellFormed (word_of w) }
     requires held { IsHeldIn (word_of w).holder mode }
@@ -188,8 +190,8 @@ pub fn unshown(w: u64, side: Side) -> u64
     }
 }
 
-/// The free word that the last holder leaves, and the side that it wakes, whose bit is cleared; the other side's bit stays. The
-/// side is `None` exactly where no waiter is shown. One holder is left.
+/// The free word that the last holder leaves, and the side that it wakes, whose bit is cleared; the other side's bit
+/// stays. The side is `None` exactly where no waiter is shown. One holder is left.
 pub fn opened(kind: Kind, w: u64) -> (u64, Option<Side>)
     requires well_formed { IsWellFormed (word_of w) }
     requires last { is_free (without_one (word_of w).holder) ≡ true }

@@ -1,7 +1,8 @@
 //! `lockchart [--turns N] [--chains N] [--from A] [--to B] [--title TEXT] [--form svg|html|trace]` reads a script from
-//! standard input, makes its scheduled run, and writes a picture of that to standard output. The exit code is the status,
-//! and where there is something to say, standard error gets one sentence. What it does, and what is promised of it,
-//! stands in the library `chart_top`, and the sentence in `complaints`; here the words and the streams are picked up.
+//! standard input, makes its scheduled run, and writes a picture of that to standard output. The exit code is the
+//! status, and where there is something to say, standard error gets one sentence. What it does, and what is promised of
+//! it, stands in the library `chart_top`, and the sentence in `complaints`; here the words and the streams are picked
+//! up.
 #![tactic(auto)]
 
 use chart_top::{Ended, LOCKCHART, lockchart};

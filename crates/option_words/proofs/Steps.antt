@@ -373,11 +373,13 @@ module _ (s : Synopsis) where
       (bad_long s p.0 p.1 (held rows (pended o)) (unfinished o st.0 rows)))
   awaits_by rows given told word o st false None short r =
       elim (bundle s (option o.name.now) word short rows (pended o)) [
-        | no_letter none same met ↦ subst to_be (sym none) (text_pends w word x (option_slot s o st.0) rows given told false
+        | no_letter none same met ↦
+            subst to_be (sym none) (text_pends w word x (option_slot s o st.0) rows given told false
             st.1.is st.1.taken (still_told o word given told st.0 st.1.tells)
             (r.turn ∙ ap₂ (λ k m. or_else k (fault_at s told m)) same (met ∙ plain_is o st.0 rows word))
             (r.next ∙ ap (λ m. after_step (rules s) word w m.0 m.1) (met ∙ plain_is o st.0 rows word)))
-        | help_letter c is asks rest fault ↦ subst to_be (sym is) (λ words. fails_now s w word words (ap is_mistake r.turn
+        | help_letter c is asks rest fault ↦
+            subst to_be (sym is) (λ words. fails_now s w word words (ap is_mistake r.turn
             ∙ looks_bad s (Some o.name.now) told word h false None short
             (ap is_mistake fault ∙ bad_help s h rest (unfinished o st.0 rows))))
         | other_letter c is other fault ↦ subst to_be (sym is) (λ words. fails_now s w word words (ap is_mistake r.turn

@@ -10,8 +10,8 @@ use crate::synopsis::Synopsis;
 use clap::error::ErrorKind;
 use std::alloc::Global;
 
-/// What the words ask for, without the program's name. `Usage` comes exactly where they are no form of the synopsis, and
-/// `Memory` only for want of memory.
+/// What the words ask for, without the program's name. `Usage` comes exactly where they are no form of the synopsis,
+/// and `Memory` only for want of memory.
 pub fn read<'a>(
     alloc: Global,
     synopsis: &Synopsis<'a>,

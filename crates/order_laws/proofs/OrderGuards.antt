@@ -1,5 +1,5 @@
--- The guards of lock orders can be met on a running floor: p takes the class graph, and its mutex is admitted and gained. It
--- takes the graph again, is refused the other mutex, which is of the same class, and gives the first back.
+-- The guards of lock orders can be met on a running floor: p takes the class graph, and its mutex is admitted and
+-- gained. It takes the graph again, is refused the other mutex, which is of the same class, and gives the first back.
 use Rattle.std.proofs.Common.{◌≡◌, Bool, true, false, cond, eqb, List, [], ◌∷◌, None, refl, inl, arith}
 use Rattle.lock_model.specs.Config.{Config}
 use Rattle.lock_model.specs.History.{replaced, sections_in}

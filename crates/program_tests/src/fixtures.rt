@@ -1,5 +1,5 @@
-//! Command lines, scripts and ends as tests write them. In a command line `_` stands for a blank in a word, and in a script
-//! `;` for the end of a line.
+//! Command lines, scripts and ends as tests write them. In a command line `_` stands for a blank in a word, and in a
+//! script `;` for the end of a line.
 ghost use Rattle.std.specs.Prelude.{IfOk};
 ghost use Rattle.floor_run.specs.Runs.{HasOnlyMutexes};
 ghost use Rattle.lock_model.specs.Operations.{IsProper};
@@ -29,8 +29,8 @@ pub(crate) fn bytes_of(alloc: Global, script: &str, more: usize) -> Result<Vec<u
     Ok(bytes)
 }
 
-/// A call of a program: the words; the script, and how many bytes `a` stand before it; at which call, from 0, the source
-/// and the sink fail. And what it is to give: the status and the text.
+/// A call of a program: the words; the script, and how many bytes `a` stand before it; at which call, from 0, the
+/// source and the sink fail. And what it is to give: the status and the text.
 pub(crate) type Case = (
     &'static str,
     &'static str,

@@ -1,5 +1,5 @@
-//! Calls of `lockchart`: titles and windows as a user sees them, ends that fail, a source that is too big, words that are
-//! no form, and how what is written in each form begins and ends.
+//! Calls of `lockchart`: titles and windows as a user sees them, ends that fail, a source that is too big, words that
+//! are no form, and how what is written in each form begins and ends.
 use crate::fixtures::{Case, FIRST, NEVER, REVERSED, bytes_of, ends, words_of};
 use chart_command::Form;
 use chart_layout::Chart;
@@ -90,8 +90,8 @@ fn what_a_renderer_is_given(rt: HostRuntime) -> Result<(), Fail> {
 // A script that ends its thread with a lock held.
 const FAULTY: &str = "lockrun 1;mutex m a;thread t 1;lock m;end;";
 
-// FIRST has 68 bytes: seventeen calls of the source, and one that finds its end. Its picture has 28 bytes: seven calls of
-// the sink, and the flush. The text of a case is what the sink holds in the end, or what is told of a faulty script.
+// FIRST has 68 bytes: seventeen calls of the source, and one that finds its end. Its picture has 28 bytes: seven calls
+// of the sink, and the flush. The text of a case is what the sink holds in the end, or what is told of a faulty script.
 const CASES: &[Case] = &[
     ("", FIRST, 0, 0, NEVER, ReadFault, ""),
     ("", FIRST, 0, 8, NEVER, ReadFault, ""),

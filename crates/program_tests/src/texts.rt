@@ -15,8 +15,8 @@ const TWO_QUEUES: &str = "lockrun 1;mutex m k;sx s j;cond c m;\
     thread a 100;xlock s;lock m;wait c;unlock m;xunlock s;end;\
     thread b 50;xlock s;xunlock s;end;done;";
 
-// FIRST has 68 bytes: seventeen calls of the source, and one that finds its end. Behind the pieces of a text the sink is
-// flushed: at `ok` that is call 1. The text of a case is what the sink holds in the end.
+// FIRST has 68 bytes: seventeen calls of the source, and one that finds its end. Behind the pieces of a text the sink
+// is flushed: at `ok` that is call 1. The text of a case is what the sink holds in the end.
 const CASES: &[Case] = &[
     (
         "step",

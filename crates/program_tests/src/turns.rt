@@ -25,10 +25,10 @@ const WOKEN: &str = "lockrun 1;sx s k;chan z s;\
 // A script, and who has the turn with its answer, turn after turn.
 type Answers = (&'static str, &'static [(u8, Turn)]);
 
-// A hand-over with an idle and an ended turn; a claim behind a release that woke the other side; a second walk that sorts
-// a thread anew whose priority is kept already; a walk to a thread that is taken off its queue, and so ends; a wait that
-// gives its lock back in a turn of its own, is woken, and blocks before it has the lock again; a refused take, and what its
-// thread gives back.
+// A hand-over with an idle and an ended turn; a claim behind a release that woke the other side; a second walk that
+// sorts a thread anew whose priority is kept already; a walk to a thread that is taken off its queue, and so ends; a
+// wait that gives its lock back in a turn of its own, is woken, and blocks before it has the lock again; a refused
+// take, and what its thread gives back.
 const TURNS: &[Answers] = &[
     (
         LENT,

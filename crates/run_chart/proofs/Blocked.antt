@@ -205,5 +205,6 @@ module _ (plan : Plan) (rows : Rows) (h : IsRunOf plan rows) (n who : ℕ) (l : 
           let it = went_behind (owner_of ((run_in plan n).state.word w.lock).holder) (waiters_in plan (n + 1) w.lock) f t e in
           absurd (w.behind_none t (record { lock = w.lock; blocked = w.blocked; unowned = it.unowned; shares = it.shares; first = it.first }))
 
-  pub gains_blocks : (old new : List Arrow) → new ≡ old ++ block_arrows plan n who rows.threads (lock_in plan n who) → AddsArrows plan n old new
+  pub gains_blocks : (old new : List Arrow) → new ≡ old ++ block_arrows plan n who rows.threads (lock_in plan n who)
+      → AddsArrows plan n old new
   gains_blocks old new is = gains_added plan n old new (block_arrows plan n who rows.threads (lock_in plan n who)) is (block_said (lock_in plan n who) refl) block_stands

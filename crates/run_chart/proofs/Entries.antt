@@ -70,7 +70,8 @@ module _ (plan : Plan) (t : ℕ) where
   unfolding after_gain after_claim after_stamp after_ready
   acquired r _ (actions.gains by i a p) = grew_by _
   acquired r _ (actions.claims by i a p) = grew_by _
-  acquired r _ (actions.enters {l = l} {mode = mode} {step = step} by i a e) = same (entering c (after_ready r.state t) plan r t l.0 mode step e)
+  acquired r _ (actions.enters {l = l} {mode = mode} {step = step} by i a e) =
+      same (entering c (after_ready r.state t) plan r t l.0 mode step e)
 
   action_grew : (r : Run) (action : Action) → Fits plan r t action → Grew r.state.history (behind_action r action)
   unfolding after_lend after_end_walk after_shift after_mark after_resume after_admit after_refuse after_look after_stamp after_ready after_add after_wake
@@ -80,7 +81,8 @@ module _ (plan : Plan) (t : ℕ) where
   action_grew r _ (actions.shifts o l w e f) = stayed
   action_grew r _ (actions.ends_at_thread o w e) = stayed
   action_grew r _ (actions.marks m ms w e) = stayed
-  action_grew r _ (actions.gives_up {l = l} {kind = kind} {step = step} w e f g) = same (giving_back c r.state plan r t l (mode_held (r.state.held t l)) kind step g)
+  action_grew r _ (actions.gives_up {l = l} {kind = kind} {step = step} w e f g) =
+      same (giving_back c r.state plan r t l (mode_held (r.state.held t l)) kind step g)
   action_grew r _ (actions.is_queued e f w) = stayed
   action_grew r _ (actions.resumes q cause f w) = stayed
   action_grew r action (actions.acquires a) = acquired r action a

@@ -61,9 +61,12 @@ module _ (plan : Plan) (n who : ℕ) (a : Turn) (made : next_turn plan (course_a
       go Idle i f = subst (IsDone plan n who) (same_Some marked.Idle what f) (made ∙ ap (λ (b : Turn). Some (who, b)) i)
       go (Did kind) i f = did kind (made ∙ ap (λ (b : Turn). Some (who, b)) i) (history_in plan (n + 1)) (grew plan n) refl f
 
-  mark_said : (o : Option MarkKind) → what_is ≡ o → (x : TurnMark) → Contains (marks_of n who o) x → (x.turn ≡ n) × IsMarked plan x
+  mark_said : (o : Option MarkKind) → what_is ≡ o → (x : TurnMark) → Contains (marks_of n who o) x → (x.turn ≡ n)
+      × IsMarked plan x
   mark_said None e x c = absurd (contains_none x c)
-  mark_said (Some what) e x c = subst (λ (y : TurnMark). (y.turn ≡ n) × IsMarked plan y) (contains_one (mark n who what) x c) (refl, was_done what e)
+  mark_said (Some what) e x c =
+      subst (λ (y : TurnMark). (y.turn ≡ n) × IsMarked plan y) (contains_one (mark n who what) x c)
+      (refl, was_done what e)
 
   mark_stands : (x : TurnMark) → x.turn ≡ n → IsMarked plan x → Contains (marks_of n who what_is) x
   mark_stands x turn d =
@@ -71,8 +74,11 @@ module _ (plan : Plan) (n who : ℕ) (a : Turn) (made : next_turn plan (course_a
       subst (λ o. Contains (marks_of n who o) x) (sym it.1) (subst (λ (t : ℕ). Contains (mark n t x.what ∷ []) x) (sym it.0)
       (subst (λ (m : ℕ). Contains (mark m x.thread.0 x.what ∷ []) x) turn (Contains-push [] x)))
 
-  pub gains_mark : (old new : List TurnMark) → new ≡ old ++ marks_of n who what_is → (x : TurnMark) → Contains new x ↔ (Contains old x ⊎ ((x.turn ≡ n) × IsMarked plan x))
-  gains_mark old new is = adds (λ (x : TurnMark). x.turn) (IsMarked plan) n old new (marks_of n who what_is) is (mark_said what_is refl) mark_stands
+  pub gains_mark : (old new : List TurnMark) → new ≡ old ++ marks_of n who what_is → (x : TurnMark)
+      → Contains new x ↔ (Contains old x ⊎ ((x.turn ≡ n) × IsMarked plan x))
+  gains_mark old new is =
+      adds (λ (x : TurnMark). x.turn) (IsMarked plan) n old new (marks_of n who what_is) is (mark_said what_is refl)
+      mark_stands
 
 -- the event of a turn's entry was noted
 pub noted : (plan : Plan) (n who : ℕ) (kind : StepKind) → Made plan n who kind → (e : Event) → Some e ≡ option_map (λ x. x.event) (entry_in plan n) → HasNoted plan n who e

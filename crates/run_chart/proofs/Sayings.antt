@@ -150,7 +150,8 @@ module _ (plan : Plan) (n who : ℕ) (made : Made plan n who Lend) where
       let some : ◌≡◌ {A = Option Hop} None (Some (to, x.lock, before, prio)) = none
       ∙ loan_of_hops (run_in plan n) (run_in plan (n + 1)) ((run_in plan n).state.walk who) to x.lock before prio (record { walk = x.walk; owner = x.owner; ran_as = x.ran_as; runs_as = x.runs_as }) in cc
 
-  pub is_lending : (v : HopLoan) → Some (hop_of v) ≡ loan_in plan n who → (w : Walk) → walk_of w ≡ (run_in plan (n + 1)).state.walk who → (goes_on : Bool) → ((goes_on ≡ true) ↔ (w ≢ walks.None))
+  pub is_lending : (v : HopLoan) → Some (hop_of v) ≡ loan_in plan n who → (w : Walk)
+      → walk_of w ≡ (run_in plan (n + 1)).state.walk who → (goes_on : Bool) → ((goes_on ≡ true) ↔ (w ≢ walks.None))
       → IsLending plan n who v.to.0 v.lock.0 v.before.0 v.prio.0 goes_on
   is_lending v is w walk goes_on told =
       let hop = hops (run_in plan n) (run_in plan (n + 1)) ((run_in plan n).state.walk who) v.to.0 v.lock.0 v.before.0 v.prio.0 (sym is) in

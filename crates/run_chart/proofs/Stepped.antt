@@ -19,7 +19,8 @@ prios-append t n xs ys =
 abbrev step_of : ℕ → Span (Prio × Prio) → PrioSpan
 step_of thread s = record { thread = record { 0 = thread }; first = s.first; last = s.last; effective = s.value.0; base = s.value.1 }
 
-one_step : (e c : Bool) (step : PrioSpan) (v : Prio × Prio) (before : List (ℕ × ℕ)) (values : List (Prio × Prio)) → numbers_of v ≡ (step.effective.0, step.base.0)
+one_step : (e c : Bool) (step : PrioSpan) (v : Prio × Prio) (before : List (ℕ × ℕ)) (values : List (Prio × Prio))
+    → numbers_of v ≡ (step.effective.0, step.base.0)
     → (before ++ cond e (map numbers_of values) []) ++ map (λ s. (s.effective.0, s.base.0)) (cond (e && c) (step ∷ []) []) ≡ before ++ cond e (map numbers_of (values ++ cond c (v ∷ []) [])) []
 one_step false c step v before values is = append-nil (before ++ [])
 one_step true true step v before values is =
@@ -28,7 +29,8 @@ one_step true true step v before values is =
 one_step true false step v before values is =
     append-nil (before ++ map numbers_of values) ∙ ap (λ xs. before ++ map numbers_of xs) (sym (append-nil values))
 
-pub prios_more : (thread : ℕ) (init old new : List PrioSpan) (ss : List (Span (Prio × Prio))) (i : ℕ) (d : Span (Prio × Prio)) → i < length ss → new ≡ old ++ step_of thread (get_or ss i d) ∷ []
+pub prios_more : (thread : ℕ) (init old new : List PrioSpan) (ss : List (Span (Prio × Prio))) (i : ℕ)
+    (d : Span (Prio × Prio)) → i < length ss → new ≡ old ++ step_of thread (get_or ss i d) ∷ []
     → ((t n : ℕ) → prios_at t n old ≡ prios_at t n init ++ cond (t == thread) (map numbers_of (values_at n (take i ss))) [])
     → (t n : ℕ) → prios_at t n new ≡ prios_at t n init ++ cond (t == thread) (map numbers_of (values_at n (take (i + 1) ss))) []
 prios_more thread init old new ss i d l pushed before t n =
@@ -37,7 +39,8 @@ prios_more thread init old new ss i d l pushed before t n =
     ∙ one_step (t == thread) (covers n s) (step_of thread s) s.value (prios_at t n init) (values_at n (take i ss)) refl
     ∙ ap (λ vs. prios_at t n init ++ cond (t == thread) (map numbers_of vs) []) (sym (values_more n ss i d l))
 
-pub within_more : (threads thread from to : ℕ) (old new : List PrioSpan) (s : Span (Prio × Prio)) → new ≡ old ++ step_of thread s ∷ [] → thread < threads → IsWithin from to s
+pub within_more : (threads thread from to : ℕ) (old new : List PrioSpan) (s : Span (Prio × Prio))
+    → new ≡ old ++ step_of thread s ∷ [] → thread < threads → IsWithin from to s
     → All (IsStepOf threads from to) old → All (IsStepOf threads from to) new
 within_more threads thread from to old new s pushed l w all =
     let step : IsStepOf threads from to (step_of thread s) = record { thread = l; begins = w.begins; goes_on = w.goes_on; ends = w.ends } in

@@ -99,7 +99,9 @@ module _ (plan : Plan) (n who : ℕ) (a : Turn) (made : next_turn plan (course_a
 pub made_by : (plan : Plan) (rows : Rows) → IsRunOf plan rows → (n : ℕ) (row : TurnRow) (a : Turn) → slice_get rows.turns n ≡ Some row → row.answer ≡ a → next_turn plan (course_after plan n) ≡ Some (row.who.0, a)
 made_by plan rows h n row a at is = (h.told.each n row at).made ∙ ap (λ (b : Turn). Some (row.who.0, b)) is
 
-pub no_arrows : (plan : Plan) (rows : Rows) → IsRunOf plan rows → (n : ℕ) (row : TurnRow) (a : Turn) → slice_get rows.turns n ≡ Some row → row.answer ≡ a → may_draw a ≡ false → (arrows : List Arrow) → AddsArrows plan n arrows arrows
+pub no_arrows : (plan : Plan) (rows : Rows) → IsRunOf plan rows → (n : ℕ) (row : TurnRow) (a : Turn)
+    → slice_get rows.turns n ≡ Some row → row.answer ≡ a → may_draw a ≡ false → (arrows : List Arrow)
+    → AddsArrows plan n arrows arrows
 no_arrows plan rows h n row a at is none arrows = gains_none plan n row.who.0 a (made_by plan rows h n row a at is) none arrows
 
 -- what is added is just so
@@ -160,7 +162,8 @@ module _ (plan : Plan) (n who : ℕ) (made : Made plan n who Lend) where
   loan_stands f to BlockedOn h = let other = (maker plan n who (Did Lend) made f Enter h.blocked.made).1 in absurd cc
   loan_stands f to Behind h = let other = (maker plan n who (Did Lend) made f Enter h.blocked.made).1 in absurd cc
 
-  pub gains_loan : (old new : List Arrow) → new ≡ old ++ loan_arrows n who (loan_in plan n who) → AddsArrows plan n old new
+  pub gains_loan : (old new : List Arrow) → new ≡ old ++ loan_arrows n who (loan_in plan n who)
+      → AddsArrows plan n old new
   gains_loan old new is = gains_added plan n old new (loan_arrows n who (loan_in plan n who)) is (loan_said (loan_in plan n who) refl) loan_stands
 
 -- 4. A turn that wakes

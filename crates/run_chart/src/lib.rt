@@ -1,5 +1,5 @@
-//! The chart of a scheduled run: from the rows of the run to the bars, steps, arrows, marks and sentences that stand in a
-//! drawing of it.
+//! The chart of a scheduled run: from the rows of the run to the bars, steps, arrows, marks and sentences that stand in
+//! a drawing of it.
 //!
 //! - `spans`: the rows over which a value stays the same, the one mechanism of bars and steps.
 //! - `lookup`: what the rows say of a turn: whom it lent to, on which lock its thread blocked, and behind whom.

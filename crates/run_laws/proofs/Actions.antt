@@ -116,7 +116,8 @@ pub data Fits (plan : Plan) (r : Run) (t : ℕ) : Action → Type 0 where
   resumes : (q : QueueName) (cause : Cause) → OwesNothing plan r t → r.state.wait t ≡ Woken q cause → Fits plan r t (does kind.Resume (Resumes t q cause ∷ []))
   acquires : {action : Action} → Acquires plan r t action → Fits plan r t action
   -- a take's first turn: its lock is admitted, and the turn goes on as a later one,
-  is_admitted : {l : LockNo} {mode : Mode} {action : Action} → BeginsTake plan r t l mode → first_against plan r t l ≡ None → Acquires plan (admitted plan r t l) t action
+  is_admitted : {l : LockNo} {mode : Mode} {action : Action} → BeginsTake plan r t l mode
+      → first_against plan r t l ≡ None → Acquires plan (admitted plan r t l) t action
       → Fits plan r t (record action { steps = Admits t l.0 ∷ action.steps })
   -- or it is refused
   is_refused : {l : LockNo} {mode : Mode} (k : ℕ) → BeginsTake plan r t l mode → first_against plan r t l ≡ Some k

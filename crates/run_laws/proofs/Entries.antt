@@ -1,7 +1,7 @@
--- An operation makes one entry at most and leaves one lock more, or it is a wait, which makes two and leaves what was held.
--- Where a lock is given back that is one entry, and one lock less. So behind n operations a thread's entries and the locks
--- that it holds are 2 * n at most. While an operation is left, or a thread that was cut holds a lock, the entries of a run
--- are fewer than twice the operations.
+-- An operation makes one entry at most and leaves one lock more, or it is a wait, which makes two and leaves what was
+-- held. Where a lock is given back that is one entry, and one lock less. So behind n operations a thread's entries
+-- and the locks that it holds are 2 * n at most. While an operation is left, or a thread that was cut holds a lock,
+-- the entries of a run are fewer than twice the operations.
 use Rattle.std.proofs.Common.{◌≡◌, ◌≢◌, ℕ, zero, suc, ◌+◌, ◌*◌, ◌<◌, ◌≤◌, Bool, true, false, cond, eqb, Option, Some, None, List, [], ◌∷◌, length, length-append, slice_get, reverse, refl, sym, ap, inl, inr, eq-eqb, arith, ◌∙◌, subst, map}
 use Rattle.std.specs.Prelude.{unwrap_or}
 use Rattle.std.specs.List.{sum_by}
@@ -106,7 +106,8 @@ module _ (plan : Plan) (p : IsProper plan) (t : ℕ) where
       omega (arith, ap length (next_leads plan p t n op e).behind, gains_one (of_locks op) (held_of ops n))
 
   -- the first entry of an operation leads on
-  gives_few : (n : ℕ) (op : Op) (e : Event) (point : Point) (m : ℕ) → Gives (config_of plan).kind (held_of ops n) n op e point → slice_get ops n ≡ Some op → m + held n ≤ 2 * n
+  gives_few : (n : ℕ) (op : Op) (e : Event) (point : Point) (m : ℕ)
+      → Gives (config_of plan).kind (held_of ops n) n op e point → slice_get ops n ≡ Some op → m + held n ≤ 2 * n
       → suc m + held_at ops point ≤ most_at ops point
   gives_few n _ _ _ m (law.is_reversed l mode class) e h =
       omega (arith, length-reverse (held_of ops n), slice_get_within ops n _ e)
@@ -119,9 +120,11 @@ module _ (plan : Plan) (p : IsProper plan) (t : ℕ) where
   gives_few n op event point m gives e h = omega (arith, next_held n op e)
 
   -- so do all of them
-  leads_few : (es : List Entry) (point : Point) → LeadsTo (config_of plan).kind ops es point → length es + held_at ops point ≤ most_at ops point
+  leads_few : (es : List Entry) (point : Point) → LeadsTo (config_of plan).kind ops es point
+      → length es + held_at ops point ≤ most_at ops point
   leads_few _ _ law.begins = omega arith
-  leads_few _ _ (law.goes_on {es} {n} {o = op} {p = point} e l next gives) = gives_few n op e.event point (length es) gives next (leads_few es (Before n) l)
+  leads_few _ _ (law.goes_on {es} {n} {o = op} {p = point} e l next gives) =
+      gives_few n op e.event point (length es) gives next (leads_few es (Before n) l)
   leads_few es _ (law.skips_endtry {n = n} l next) = omega (arith, next_held n EndTry next, leads_few es (Before n) l)
   leads_few _ _ (law.wakes_up {es} {n} {d} e l next its) = omega (arith, ap length (next_leads plan p t n (Sleep d) next).behind, leads_few es (Asleep n) l)
   leads_few _ _ (law.is_woken_by_a_halt {es} {n} {d} e l next its) = omega (arith, length-reverse (held_of ops n), slice_get_within ops n (Sleep d) next, leads_few es (Asleep n) l)
@@ -173,7 +176,8 @@ module _ (plan : Plan) (r : Run) (p : IsProper plan) (k : IsOnTrack plan r) wher
   within : (u : ℕ) → most_at (its_ops u) (point_in plan r u) ≤ 2 * length (its_ops u)
   within u = go (was_cut r.state u) (waits_on (r.state.log u)) refl
     where
-      go : (b : Bool) (o : Option ℕ) → waits_on (r.state.log u) ≡ o → most_at (its_ops u) (point_by b (held_now plan r u) (r.next_op u) o) ≤ 2 * length (its_ops u)
+      go : (b : Bool) (o : Option ℕ) → waits_on (r.state.log u) ≡ o
+          → most_at (its_ops u) (point_by b (held_now plan r u) (r.next_op u) o) ≤ 2 * length (its_ops u)
       go true o e = omega arith
       go false None e = omega (arith, k.within u)
       go false (Some d) e = omega (arith, slice_get_within (its_ops u) (r.next_op u) _ (k.waiting u d e))

@@ -1,7 +1,7 @@
--- A turn of the scheduled run makes no entry and leaves its thread where it was; or it makes one entry, and its thread
--- goes on where that leads. The entry of a wait that begins leads into the wait, its Woke entry and that of each other
--- operation behind the operation and the endtrys there. A refusal cuts the thread, and each entry behind that gives back a
--- lock. So a thread's entries follow its operations behind its turn as before.
+-- A turn of the scheduled run makes no entry and leaves its thread where it was; or it makes one entry, and its
+-- thread goes on where that leads. The entry of a wait that begins leads into the wait, its Woke entry and that of
+-- each other operation behind the operation and the endtrys there. A refusal cuts the thread, and each entry behind
+-- that gives back a lock. So a thread's entries follow its operations behind its turn as before.
 use Rattle.std.proofs.Common.{◌≡◌, ℕ, suc, ◌<◌, Bool, true, false, arith, List, [], ◌∷◌, length, take, Option, Some, None, refl, sym, ap, ◌∙◌, subst}
 use Rattle.std.specs.Prelude.{reverse}
 use Rattle.std.proofs.lemmas.List.{reverse-append}
@@ -60,9 +60,11 @@ uncut_point false hs xs n None e = refl
 uncut_point false hs xs n (Some d) e = refl
 
 -- where it is led, by its log and its point
-led_to : (plan : Plan) (n : Run) (t : ℕ) (es : List Entry) (point : Point) → n.state.log t ≡ es → point_in plan n t ≡ point → LeadsTo (config_of plan).kind (operations_of plan t) es point → IsLed plan n t
+led_to : (plan : Plan) (n : Run) (t : ℕ) (es : List Entry) (point : Point) → n.state.log t ≡ es
+    → point_in plan n t ≡ point → LeadsTo (config_of plan).kind (operations_of plan t) es point → IsLed plan n t
 led_to plan n t es point log at leads =
-    subst (λ (xs : List Entry). LeadsTo (config_of plan).kind (operations_of plan t) xs (point_in plan n t)) (sym log) (subst (LeadsTo (config_of plan).kind (operations_of plan t) es) (sym at) leads)
+    subst (λ (xs : List Entry). LeadsTo (config_of plan).kind (operations_of plan t) xs (point_in plan n t)) (sym log)
+    (subst (LeadsTo (config_of plan).kind (operations_of plan t) es) (sym at) leads)
 
 -- 2. Action by action
 
@@ -97,14 +99,21 @@ module _ (plan : Plan) (r : Run) (t : ℕ) (p : IsProper plan) (k : IsOnTrack pl
   noting (actions.adds l key amount) i = ends i refl (law.adds l key amount) (lets_go_on refl refl refl)
   noting (actions.gets l key) i = ends i refl (law.gets l key (s.table l.0 key)) (lets_go_on refl refl refl)
   noting (actions.changes_base prio) i = ends i refl (law.changes_base prio) (lets_go_on refl refl refl)
-  noting actions.shows i = ends i refl (law.shows (record { 0 = s.base t }) (record { 0 = s.effective t })) (lets_go_on refl refl refl)
+  noting actions.shows i =
+      ends i refl (law.shows (record { 0 = s.base t }) (record { 0 = s.effective t })) (lets_go_on refl refl refl)
 
   -- of a take or a try that gains its lock, and the second entry of a wait,
-  taking : {l : LockNo} {mode : Mode} {o : Op} {e : Event} → actions.Taking plan r t l mode o e → IsAtOperation plan r t (Some o) → GivesNext plan r t e (suc now)
+  taking : {l : LockNo} {mode : Mode} {o : Op} {e : Event} → actions.Taking plan r t l mode o e
+      → IsAtOperation plan r t (Some o) → GivesNext plan r t e (suc now)
   taking (actions.anew l mode j w) i = ends i refl (law.locks l mode) (lets_go_on refl refl refl)
-  taking (actions.back d e w) i = record { leads = law.wakes_up (entry_of s t (event.Woke d)) (asleep_follows e w) i.next refl; lets = lets_go_on refl refl refl }
+  taking (actions.back d e w) i =
+      record {
+        leads = law.wakes_up (entry_of s t (event.Woke d)) (asleep_follows e w) i.next refl;
+        lets = lets_go_on refl refl refl;
+      }
 
-  gaining : {l : LockNo} {mode : Mode} {o : Op} {by_try : Bool} {e : Event} → actions.Gaining plan r t l mode o by_try e → IsAtOperation plan r t (Some o) → GivesNext plan r t e (suc now)
+  gaining : {l : LockNo} {mode : Mode} {o : Op} {by_try : Bool} {e : Event} → actions.Gaining plan r t l mode o by_try e
+      → IsAtOperation plan r t (Some o) → GivesNext plan r t e (suc now)
   gaining (actions.by_taking by) i = taking by i
   gaining (actions.by_trying l mode past) i = ends i refl (law.tries l mode past) (lets_go_on refl refl refl)
 
@@ -126,16 +135,20 @@ module _ (plan : Plan) (r : Run) (t : ℕ) (p : IsProper plan) (k : IsOnTrack pl
   releasing l i =
       let same = holds_all plan r t k (is_awake plan r t k (Release l) i refl) l.0 in
       let found = release_fits plan l _ _ (fit plan r t p (Release l) i.next) in
-      ends i refl (law.unlocks l (mode_held (s.held t l.0)) (sym same ∙ actions.its_mode (s.held t l.0) (λ z. found.0 (sym same ∙ z)))) (lets_go_on refl refl refl)
+      ends i refl (law.unlocks l (mode_held (s.held t l.0))
+      (sym same ∙ actions.its_mode (s.held t l.0) (λ z. found.0 (sym same ∙ z)))) (lets_go_on refl refl refl)
 
   -- and of a wake
-  waking : {o : Op} {all : Bool} {noted : ℕ → Event} (d : ChanNo) (woken : ℕ) → actions.Waking d o all noted → IsAtOperation plan r t (Some o) → GivesNext plan r t (noted woken) (suc now)
+  waking : {o : Op} {all : Bool} {noted : ℕ → Event} (d : ChanNo) (woken : ℕ) → actions.Waking d o all noted
+      → IsAtOperation plan r t (Some o) → GivesNext plan r t (noted woken) (suc now)
   waking d woken actions.of_one i = ends i refl (law.wakes_one d woken) (lets_go_on refl refl refl)
   waking d woken actions.of_all i = ends i refl (law.wakes_all d woken) (lets_go_on refl refl refl)
 
   -- the action of an operation's end
-  ended : (action : Action) {o : Op} {e : Event} {next : ℕ} → IsAtOperation plan r t (Some o) → GivesNext plan r t e next → action.next ≡ Some next
-      → (run_after plan r t action).state.log ≡ put s.log t (entry_of s t e ∷ s.log t) → IsLed plan (run_after plan r t action) t
+  ended : (action : Action) {o : Op} {e : Event} {next : ℕ} → IsAtOperation plan r t (Some o)
+      → GivesNext plan r t e next → action.next ≡ Some next
+      → (run_after plan r t action).state.log ≡ put s.log t (entry_of s t e ∷ s.log t)
+      → IsLed plan (run_after plan r t action) t
   ended action {o} {e} {next} i w ends log =
       let n : Run = run_after plan r t action in
       let up = awake_behind r t e n.state w.lets i.uncut log in
@@ -144,8 +157,10 @@ module _ (plan : Plan) (r : Run) (t : ℕ) (p : IsProper plan) (k : IsOnTrack pl
       (behind_endtrys _ _ _ next w.leads)
 
   -- a wait that begins
-  slept : (d : ChanNo) → IsAtOperation plan r t (Some (Sleep d)) → waits_on (s.log t) ≡ None → (action : Action) → action.next ≡ None
-      → (run_after plan r t action).state.log ≡ put s.log t (entry_of s t (event.Sleeps d) ∷ s.log t) → IsLed plan (run_after plan r t action) t
+  slept : (d : ChanNo) → IsAtOperation plan r t (Some (Sleep d)) → waits_on (s.log t) ≡ None → (action : Action)
+      → action.next ≡ None
+      → (run_after plan r t action).state.log ≡ put s.log t (entry_of s t (event.Sleeps d) ∷ s.log t)
+      → IsLed plan (run_after plan r t action) t
   slept d i e action still log =
       let n : Run = run_after plan r t action in
       let own : n.state.log t ≡ entry_of s t (event.Sleeps d) ∷ s.log t = ap (λ f. f t) log ∙ put_same s.log t _ in
@@ -154,17 +169,23 @@ module _ (plan : Plan) (r : Run) (t : ℕ) (p : IsProper plan) (k : IsOnTrack pl
       (law.goes_on (entry_of s t (event.Sleeps d)) (awake_follows (record { no_wait = e; uncut = i.uncut })) i.next (law.sleeps d))
 
   -- the release of a wait's lock
-  gave_up : {l : ℕ} {kind : StepKind} {step : Step} → s.marked t ≡ [] → owed_release (config_of plan) s t ≡ Some l → actions.GivingBack plan r t l (mode_held (s.held t l)) kind step → IsLed plan (run_after plan r t (does kind (step ∷ []))) t
+  gave_up : {l : ℕ} {kind : StepKind} {step : Step} → s.marked t ≡ [] → owed_release (config_of plan) s t ≡ Some l
+      → actions.GivingBack plan r t l (mode_held (s.held t l)) kind step
+      → IsLed plan (run_after plan r t (does kind (step ∷ []))) t
   gave_up {l} {kind} {step} unmarked owed g =
       let gave = releases.gave_back plan r t p k lt s l (mode_held (s.held t l)) g in
       let n : Run = run_after plan r t (does kind (step ∷ [])) in
       led_to plan n t (s.log t) (point_in plan r t) (ap (λ f. f t) gave.log)
-      (ap (λ (f : ℕ → List Entry). point_by (has_reversal (f t)) (held_now plan n t) now (waits_on (f t))) gave.log ∙ uncut_point _ _ _ now _ (releases.uncut plan r t p k lt l unmarked owed))
+      (ap (λ (f : ℕ → List Entry). point_by (has_reversal (f t)) (held_now plan n t) now (waits_on (f t))) gave.log
+      ∙ uncut_point _ _ _ now _ (releases.uncut plan r t p k lt l unmarked owed))
       (is_led plan r t k)
 
   -- a refusal
-  refused : {l : LockNo} {mode : Mode} (class : ℕ) (b : BeginsTake plan r t l mode) → first_against plan r t l ≡ Some class → (action : Action) → action.next ≡ None
-      → (run_after plan r t action).state.log ≡ put s.log t (entry_of s t (event.Reversed l (record { 0 = class })) ∷ s.log t) → (run_after plan r t action).state.held_locks ≡ s.held_locks → IsLed plan (run_after plan r t action) t
+  refused : {l : LockNo} {mode : Mode} (class : ℕ) (b : BeginsTake plan r t l mode)
+      → first_against plan r t l ≡ Some class → (action : Action) → action.next ≡ None
+      → (run_after plan r t action).state.log ≡ put s.log t
+      (entry_of s t (event.Reversed l (record { 0 = class })) ∷ s.log t)
+      → (run_after plan r t action).state.held_locks ≡ s.held_locks → IsLed plan (run_after plan r t action) t
   refused {l} {mode} class b e action still log listed =
       let n : Run = run_after plan r t action in
       let noted : Entry = entry_of s t (event.Reversed l (record { 0 = class })) in
@@ -176,7 +197,8 @@ module _ (plan : Plan) (r : Run) (t : ℕ) (p : IsProper plan) (k : IsOnTrack pl
       (law.goes_on noted (awake_follows (is_awake plan r t k (Take l mode) b.at refl)) b.at.next (law.is_reversed l mode (record { 0 = class })))
 
   -- a lock that a cut thread gives back
-  gave_last : {kind : StepKind} {step : Step} (h : HeldLock) (rest : List HeldLock) → IsCutShort plan r t → s.held_locks t ≡ h ∷ rest → actions.GivingBack plan r t h.lock (mode_held (s.held t h.lock)) kind step
+  gave_last : {kind : StepKind} {step : Step} (h : HeldLock) (rest : List HeldLock) → IsCutShort plan r t
+      → s.held_locks t ≡ h ∷ rest → actions.GivingBack plan r t h.lock (mode_held (s.held t h.lock)) kind step
       → IsLed plan (run_after plan r t (does kind (Stamps t (event.Unlocked (record { 0 = h.lock }) (mode_held (s.held t h.lock))) ∷ step ∷ []))) t
   unfolding after_stamp
   gave_last {kind} {step} h rest i e g =
@@ -202,7 +224,8 @@ module _ (plan : Plan) (r : Run) (t : ℕ) (p : IsProper plan) (k : IsOnTrack pl
   acquired _ (actions.enters by i e (actions.on_turnstile x)) = is_led plan r t k
   acquired _ (actions.enters by i e (actions.on_sleep_queue x)) = is_led plan r t k
 
-pub led : (plan : Plan) (r : Run) (t : ℕ) (action : Action) → IsProper plan → IsOnTrack plan r → t < length plan.threads → actions.Fits plan r t action → IsLed plan (run_after plan r t action) t
+pub led : (plan : Plan) (r : Run) (t : ℕ) (action : Action) → IsProper plan → IsOnTrack plan r → t < length plan.threads
+    → actions.Fits plan r t action → IsLed plan (run_after plan r t action) t
 unfolding after_look after_stamp after_drop after_ready after_open after_mark after_resume after_open_sleep after_add after_wake after_lend after_shift after_end_walk after_refuse
 led plan r t _ p k lt (actions.is_over e) = is_led plan r t k
 led plan r t _ p k lt (actions.lends l o h w e f) = is_led plan r t k
@@ -214,12 +237,18 @@ led plan r t _ p k lt (actions.gives_up w u e back) = gave_up plan r t p k lt u 
 led plan r t _ p k lt (actions.is_queued e f i) = is_led plan r t k
 led plan r t _ p k lt (actions.resumes q cause f e) = is_led plan r t k
 led plan r t action p k lt (actions.acquires a) = acquired plan r t p k lt action a
-led plan r t _ p k lt (actions.is_admitted {l} {mode} {action} b e a) = acquired plan (admitted plan r t l) t p (admitted_on_track plan r t l mode p k lt b (found_admitted plan r t l mode p k lt b e)) lt action a
+led plan r t _ p k lt (actions.is_admitted {l} {mode} {action} b e a) =
+    acquired plan (admitted plan r t l) t p
+    (admitted_on_track plan r t l mode p k lt b (found_admitted plan r t l mode p k lt b e)) lt action a
 led plan r t action p k lt (actions.is_refused class b e) = refused plan r t p k lt class b e action refl refl refl
-led plan r t action p k lt (actions.finds_busy l mode past i e) = ended plan r t p k lt action i (busy plan r t p k lt l mode past i e) refl refl
-led plan r t action p k lt (actions.releases l i (actions.drops x)) = ended plan r t p k lt action i (releasing plan r t p k lt l i) refl refl
-led plan r t action p k lt (actions.releases l i (actions.opens x y)) = ended plan r t p k lt action i (releasing plan r t p k lt l i) refl refl
-led plan r t action p k lt (actions.releases l i (actions.opens_sleep_queue x y)) = ended plan r t p k lt action i (releasing plan r t p k lt l i) refl refl
+led plan r t action p k lt (actions.finds_busy l mode past i e) =
+    ended plan r t p k lt action i (busy plan r t p k lt l mode past i e) refl refl
+led plan r t action p k lt (actions.releases l i (actions.drops x)) =
+    ended plan r t p k lt action i (releasing plan r t p k lt l i) refl refl
+led plan r t action p k lt (actions.releases l i (actions.opens x y)) =
+    ended plan r t p k lt action i (releasing plan r t p k lt l i) refl refl
+led plan r t action p k lt (actions.releases l i (actions.opens_sleep_queue x y)) =
+    ended plan r t p k lt action i (releasing plan r t p k lt l i) refl refl
 led plan r t action p k lt (actions.sleeps d i e) = slept plan r t p k lt d i e action refl refl
 led plan r t action p k lt (actions.wakes d by i) =
     ended plan r t p k lt action i (waking plan r t p k lt d _ by i) refl refl

@@ -1,5 +1,6 @@
--- Worked histories, held against the law of a history: what it lets through and what it refuses. A law that is turned so
--- that it asks for less is proved all the same, and no scheduled run has halts: nothing else here notices such turns.
+-- Worked histories, held against the law of a history: what it lets through and what it refuses. A law that is turned
+-- so that it asks for less is proved all the same, and no scheduled run has halts: nothing else here notices such
+-- turns.
 use Rattle.std.proofs.Common.{◌≡◌, ℕ, zero, suc, true, false, List, [], ◌∷◌, slice_get, Some, refl, sym, ap, subst, arith, ◌∙◌}
 use Rattle.std.proofs.lemmas.Option.{same_Some}
 use Rattle.lock_model.specs.Config.{Config}
@@ -62,7 +63,8 @@ begins_at p (law.skips_endtry {n = n} w e) =
     let f : slice_get tries 0 ≡ Some EndTry = subst (λ m. slice_get tries m ≡ Some EndTry) z e in
     absurd cc
 
-given_busy : (held : List Held) (n : ℕ) (o : Op) (p : Point) → Gives kind held n o (Busy (lock 0) 12) p → p ≡ Before (past_of o)
+given_busy : (held : List Held) (n : ℕ) (o : Op) (p : Point) → Gives kind held n o (Busy (lock 0) 12) p
+    → p ≡ Before (past_of o)
 given_busy held n o p (law.finds_busy l mode past seen well_formed is_held refused) = refl
 
 busy_goes_only_on : (p : Point) → LeadsTo kind tries (busy ∷ []) p → p ≡ Before 3
@@ -135,7 +137,8 @@ was_refused = law.goes_on (entry 2 0 (Reversed (lock 2) (record { 0 = 0 }))) hol
 gives_back : LeadsTo kind three_locks (entry 4 0 (Unlocked (lock 0) Excl) ∷ entry 3 0 (Unlocked (lock 1) Excl) ∷ refused) (Cut [])
 gives_back = law.gives_back (entry 4 0 (Unlocked (lock 0) Excl)) (law.gives_back (entry 3 0 (Unlocked (lock 1) Excl)) was_refused refl) refl
 
--- 2. Sleepers. Thread 0, of base 100, sleeps first, then thread 1, of base 50, then thread 2, of base 50; thread 3 wakes them
+-- 2. Sleepers. Thread 0, of base 100, sleeps first, then thread 1, of base 50, then thread 2, of base 50; thread 3
+--    wakes them
 
 bases : ℕ → ℕ
 bases zero = 100

@@ -1,5 +1,5 @@
--- A turn is idle exactly where its thread sleeps, and ended exactly where the thread has ended; both change nothing. So a
--- round that was idle throughout leaves each thread that hasn't ended on a queue.
+-- A turn is idle exactly where its thread sleeps, and ended exactly where the thread has ended; both change nothing.
+-- So a round that was idle throughout leaves each thread that hasn't ended on a queue.
 use Rattle.std.proofs.Common.{◌≡◌, ◌⊎◌, ◌↔◌, ℕ, zero, suc, ◌+◌, ◌<◌, ◌≤◌, Bool, true, false, not, cond, ◌&&◌, ◌||◌, nat_le, List, [], ◌∷◌, length, filter, slice_get, Option, Some, None, refl, sym, ap, inl, inr, arith, ◌∙◌, subst}
 use Rattle.std.specs.List.{range_with_len}
 use Rattle.std.proofs.lemmas.Bool.{cases_eq, and_parts, or_left, or_right, le-leb}
@@ -87,7 +87,8 @@ data Answers (plan : Plan) (r : Run) (t : ℕ) (action : Action) : Type 0 where
   acts : (kind : StepKind) → action.answer ≡ Did kind → Answers plan r t action
 
 -- a thread that gains a lock, or blocks, does something
-acquiring : (plan : Plan) (r : Run) (t : ℕ) (action : Action) → actions.Acquires plan r t action → (kind : StepKind) × (action.answer ≡ Did kind)
+acquiring : (plan : Plan) (r : Run) (t : ℕ) (action : Action) → actions.Acquires plan r t action → (kind : StepKind)
+    × (action.answer ≡ Did kind)
 acquiring plan r t _ (actions.gains by i a f) = (_, refl)
 acquiring plan r t _ (actions.claims by i a f) = (_, refl)
 acquiring plan r t _ (actions.enters by i a stands) = (_, refl)
@@ -104,7 +105,8 @@ module _ (plan : Plan) (r : Run) (t : ℕ) where
   answered _ (actions.is_queued e f q) = idles refl (λ p k. record { going = e; queued = q; free = f })
   answered _ (actions.resumes q cause f e) = acts _ refl
   answered action (actions.acquires a) = let z = acquiring plan r t action a in acts z.0 z.1
-  answered _ (actions.is_admitted {l} {action = action} b e a) = let z = acquiring plan (admitted plan r t l) t action a in acts z.0 z.1
+  answered _ (actions.is_admitted {l} {action = action} b e a) = let z =
+      acquiring plan (admitted plan r t l) t action a in acts z.0 z.1
   answered _ (actions.is_refused k b e) = acts _ refl
   answered _ (actions.finds_busy l mode past i e) = acts _ refl
   answered _ (actions.releases l i back) = acts _ refl
@@ -112,14 +114,17 @@ module _ (plan : Plan) (r : Run) (t : ℕ) where
   answered _ (actions.wakes d by i) = acts _ refl
   answered _ (actions.makes_entry op e i n) = acts _ refl
   answered _ (actions.gives_last_back h hs i e back) = acts _ refl
-  answered _ (actions.has_nothing_left e i f) = idles refl (λ p k. absurd (let z = sym e ∙ nothing_left plan r t k i f in cc))
-  answered _ (actions.has_no_operation e i) = idles refl (λ p k. absurd (let z = sym e ∙ no_operation_left plan r t p k i in cc))
+  answered _ (actions.has_nothing_left e i f) =
+      idles refl (λ p k. absurd (let z = sym e ∙ nothing_left plan r t k i f in cc))
+  answered _ (actions.has_no_operation e i) =
+      idles refl (λ p k. absurd (let z = sym e ∙ no_operation_left plan r t p k i in cc))
   answered _ (actions.is_at_endtry i) = idles refl (λ p k. absurd (k.no_endtry t i.next))
 
   answer : Answers plan r t (turn_of plan r t)
   answer = answered (turn_of plan r t) (actions.fits plan r t)
 
-  where_idle : (action : Action) → Answers plan r t action → IsProper plan → IsOnTrack plan r → action.answer ≡ Idle → IsSleeping plan r t
+  where_idle : (action : Action) → Answers plan r t action → IsProper plan → IsOnTrack plan r → action.answer ≡ Idle
+      → IsSleeping plan r t
   where_idle action (ended f e) p k i = absurd (let z = ap (λ (x : Action). x.answer) (sym f) ∙ i in cc)
   where_idle action (idles f sleeps) p k i = sleeps p k
   where_idle action (acts kind e) p k i = absurd (let z = sym e ∙ i in cc)
@@ -137,7 +142,8 @@ module _ (plan : Plan) (r : Run) (t : ℕ) where
   unfolding turn_of
   over_answer e = rw e refl
 
-  same_run : (action : Action) → Answers plan r t action → (action.answer ≡ Idle) ⊎ (action.answer ≡ Ended) → run_after plan r t action ≡ r
+  same_run : (action : Action) → Answers plan r t action → (action.answer ≡ Idle) ⊎ (action.answer ≡ Ended)
+      → run_after plan r t action ≡ r
   same_run action (ended f e) i = ap (run_after plan r t) f
   same_run action (idles f sleeps) i = ap (run_after plan r t) f
   same_run action (acts kind e) (inl i) = absurd (let z = sym e ∙ i in cc)

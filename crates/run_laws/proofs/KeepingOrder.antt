@@ -1,5 +1,5 @@
--- The steps of a turn keep to the order of locks: a thread takes just the lock that it wants, which was admitted or is that
--- of its wait; it gives no lock back while it takes one, and the entry that it makes then ends the take.
+-- The steps of a turn keep to the order of locks: a thread takes just the lock that it wants, which was admitted or
+-- is that of its wait; it gives no lock back while it takes one, and the entry that it makes then ends the take.
 use Rattle.std.proofs.Common.{◌≡◌, ℕ, ◌<◌, Bool, true, false, [], ◌∷◌, length, Option, Some, None, refl, sym, ap, subst, ◌∙◌}
 use Rattle.std.specs.Prelude.{is_some}
 use Rattle.std.proofs.lemmas.Option.{none-some, same_Some}
@@ -39,16 +39,20 @@ none_taken : {P : Type 0} (r : Run) (t l : ℕ) → TakesNothing r.state t → r
 none_taken r t l none f = absurd (none-some l (sym none ∙ f))
 
 -- it gives one back, or first notes that
-gives_quietly : (plan : Plan) (r : Run) (t l : ℕ) (mode : Mode) {kind : StepKind} {step : Step} (s : State) → actions.GivingBack plan r t l mode kind step → TakesNothing s t → KeepToOrder (config_of plan) s (step ∷ [])
+gives_quietly : (plan : Plan) (r : Run) (t l : ℕ) (mode : Mode) {kind : StepKind} {step : Step} (s : State)
+    → actions.GivingBack plan r t l mode kind step → TakesNothing s t → KeepToOrder (config_of plan) s (step ∷ [])
 gives_quietly plan r t l mode s (actions.drops e) none = (none, tt)
 gives_quietly plan r t l mode s (actions.opens e f) none = (none, tt)
 gives_quietly plan r t l mode s (actions.opens_sleep_queue e f) none = (none, tt)
 
-gives_back : (plan : Plan) (r : Run) (t l : ℕ) (mode : Mode) (k : LockNo) (noted : Mode) {kind : StepKind} {step : Step} → actions.GivingBack plan r t l mode kind step → TakesNothing r.state t
+gives_back : (plan : Plan) (r : Run) (t l : ℕ) (mode : Mode) (k : LockNo) (noted : Mode) {kind : StepKind} {step : Step}
+    → actions.GivingBack plan r t l mode kind step → TakesNothing r.state t
     → KeepToOrder (config_of plan) r.state (Stamps t (event.Unlocked k noted) ∷ step ∷ [])
 unfolding after_stamp
-gives_back plan r t l mode k noted back none =
-    (λ j. none_taken r t j none, gives_quietly plan r t l mode _ back (put_same r.state.taking t (r.state.taking t) ∙ none))
+gives_back plan r t l mode k noted back none = (
+  λ j. none_taken r t j none,
+  gives_quietly plan r t l mode _ back (put_same r.state.taking t (r.state.taking t) ∙ none),
+)
 
 -- an operation that only makes an entry is no take and no wait, nor is a wake
 is_quiet : (r : Run) (t : ℕ) (op : Op) (e : Event) → actions.Notes r t op e
@@ -59,7 +63,8 @@ is_quiet r t _ _ (actions.gets l key) = (refl, refl)
 is_quiet r t _ _ (actions.changes_base prio) = (refl, refl)
 is_quiet r t _ _ actions.shows = (refl, refl)
 
-wake_is_quiet : (d : ChanNo) {op : Op} {all : Bool} {noted : ℕ → Event} → actions.Waking d op all noted → (is_take op ≡ false) × (is_wait op ≡ false)
+wake_is_quiet : (d : ChanNo) {op : Op} {all : Bool} {noted : ℕ → Event} → actions.Waking d op all noted
+    → (is_take op ≡ false) × (is_wait op ≡ false)
 wake_is_quiet d actions.of_one = (refl, refl)
 wake_is_quiet d actions.of_all = (refl, refl)
 
@@ -77,7 +82,8 @@ module _ (plan : Plan) (r : Run) (t : ℕ) (p : IsProper plan) (k : IsOnTrack pl
   quiet e = k.taking t ∙ e
 
   -- as at an operation that is no take and no wait,
-  at_operation : (op : Op) → IsAtOperation plan r t (Some op) → is_take op ≡ false → is_wait op ≡ false → TakesNothing s t
+  at_operation : (op : Op) → IsAtOperation plan r t (Some op) → is_take op ≡ false → is_wait op ≡ false
+      → TakesNothing s t
   at_operation op i a b = quiet (wants_none plan r t k (awake plan r t k op i.next b) op i.next a)
 
   -- or one that owes the release of its wait's lock
@@ -94,7 +100,8 @@ module _ (plan : Plan) (r : Run) (t : ℕ) (p : IsProper plan) (k : IsOnTrack pl
 
   -- 2. Gains, and their entries: they are of what the thread takes, if anything
 
-  in_order : {l : LockNo} {mode : Mode} {op : Op} {by_try : Bool} {e : Event} → actions.Gaining plan r t l mode op by_try e → IsAtOperation plan r t (Some op) → GainsInOrder s t l.0 by_try
+  in_order : {l : LockNo} {mode : Mode} {op : Op} {by_try : Bool} {e : Event}
+      → actions.Gaining plan r t l mode op by_try e → IsAtOperation plan r t (Some op) → GainsInOrder s t l.0 by_try
   in_order {l} (actions.by_taking by) i = record {
     wants = λ x. wants_it plan r t k by i;
     takes = λ j f. same_Some j l.0 (sym f ∙ k.taking t ∙ wants_it plan r t k by i);
@@ -106,13 +113,18 @@ module _ (plan : Plan) (r : Run) (t : ℕ) (p : IsProper plan) (k : IsOnTrack pl
     unhalted = λ j f. none-some _ (sym (k.unnoted t) ∙ f);
   }
 
-  ends_take : {l : LockNo} {mode : Mode} {op : Op} {e : Event} → actions.Taking plan r t l mode op e → IsAtOperation plan r t (Some op) → EndsTake c (is_taking_back (s.log t)) e l.0
-  ends_take (actions.anew l mode j e) i = (refl, waits_back (s.log t) ∙ ap is_some (awake plan r t k (Take l mode) i.next refl))
+  ends_take : {l : LockNo} {mode : Mode} {op : Op} {e : Event} → actions.Taking plan r t l mode op e
+      → IsAtOperation plan r t (Some op) → EndsTake c (is_taking_back (s.log t)) e l.0
+  ends_take (actions.anew l mode j e) i =
+      (refl, waits_back (s.log t) ∙ ap is_some (awake plan r t k (Take l mode) i.next refl))
   ends_take (actions.back d e w) i = (refl, waits_back (s.log t) ∙ ap is_some w)
 
-  notes_gain : {l : LockNo} {mode : Mode} {op : Op} {by_try : Bool} {e : Event} → actions.Gaining plan r t l mode op by_try e → IsAtOperation plan r t (Some op)
+  notes_gain : {l : LockNo} {mode : Mode} {op : Op} {by_try : Bool} {e : Event}
+      → actions.Gaining plan r t l mode op by_try e → IsAtOperation plan r t (Some op)
       → (j : ℕ) → s.taking t ≡ Some j → EndsTake c (is_taking_back (s.log t)) e j
-  notes_gain {l} {e = e} (actions.by_taking by) i j f = subst (EndsTake c (is_taking_back (s.log t)) e) (same_Some l.0 j (sym (wants_it plan r t k by i) ∙ sym (k.taking t) ∙ f)) (ends_take by i)
+  notes_gain {l} {e = e} (actions.by_taking by) i j f =
+      subst (EndsTake c (is_taking_back (s.log t)) e)
+      (same_Some l.0 j (sym (wants_it plan r t k by i) ∙ sym (k.taking t) ∙ f)) (ends_take by i)
   notes_gain (actions.by_trying l mode past) i j f = none_taken r t j (at_operation (Try l mode past) i refl refl) f
 
   -- 3. A thread that runs again
@@ -123,14 +135,16 @@ module _ (plan : Plan) (r : Run) (t : ℕ) (p : IsProper plan) (k : IsOnTrack pl
 
 -- 4. Action by action
 
-acquired : (plan : Plan) (r : Run) (t : ℕ) (action : Action) → IsProper plan → IsOnTrack plan r → actions.Acquires plan r t action → KeepToOrder (config_of plan) r.state action.steps
+acquired : (plan : Plan) (r : Run) (t : ℕ) (action : Action) → IsProper plan → IsOnTrack plan r
+    → actions.Acquires plan r t action → KeepToOrder (config_of plan) r.state action.steps
 unfolding after_gain after_claim after_ready
 acquired plan r t _ p k (actions.gains by i a f) = (in_order plan r t p k by i, (notes_gain plan r t p k by i, tt))
 acquired plan r t _ p k (actions.claims by i a f) = (in_order plan r t p k by i, (notes_gain plan r t p k by i, tt))
 acquired plan r t _ p k (actions.enters by i a (actions.on_turnstile x)) = (tt, (wants_it plan r t k by i, tt))
 acquired plan r t _ p k (actions.enters by i a (actions.on_sleep_queue x)) = (tt, (wants_it plan r t k by i, tt))
 
-pub action_keeps_order : (plan : Plan) (r : Run) (t : ℕ) (action : Action) → IsProper plan → IsOnTrack plan r → t < length plan.threads → actions.Fits plan r t action → KeepToOrder (config_of plan) r.state action.steps
+pub action_keeps_order : (plan : Plan) (r : Run) (t : ℕ) (action : Action) → IsProper plan → IsOnTrack plan r
+    → t < length plan.threads → actions.Fits plan r t action → KeepToOrder (config_of plan) r.state action.steps
 unfolding after_look after_stamp after_ready after_wake after_admit after_refuse WokenSlept
 action_keeps_order plan r t _ p k lt (actions.is_over e) = tt
 action_keeps_order plan r t _ p k lt (actions.lends l o h w e f) = (tt, tt)
@@ -138,25 +152,42 @@ action_keeps_order plan r t _ p k lt (actions.ends_at_lock l w e) = (tt, tt)
 action_keeps_order plan r t _ p k lt (actions.shifts o l w e f) = (tt, tt)
 action_keeps_order plan r t _ p k lt (actions.ends_at_thread o w f) = (tt, tt)
 action_keeps_order plan r t _ p k lt (actions.marks m ms w e) = (tt, tt)
-action_keeps_order plan r t _ p k lt (actions.gives_up {l} w u e back) = gives_quietly plan r t l _ r.state back (releasing plan r t p k l e)
+action_keeps_order plan r t _ p k lt (actions.gives_up {l} w u e back) =
+    gives_quietly plan r t l _ r.state back (releasing plan r t p k l e)
 action_keeps_order plan r t _ p k lt (actions.is_queued e f i) = tt
-action_keeps_order plan r t _ p k lt (actions.resumes q cause f e) =
-    (back_from plan r t p k q (λ d i. slept_back d.0 (r.state.log t) (k.sleepers.woken_slept t d.0 cause (e ∙ ap (λ (x : QueueName). Woken x cause) i))), tt)
+action_keeps_order plan r t _ p k lt (actions.resumes q cause f e) = (
+  back_from plan r t p k q (λ d i. slept_back d.0 (r.state.log t)
+      (k.sleepers.woken_slept t d.0 cause (e ∙ ap (λ (x : QueueName). Woken x cause) i))),
+  tt,
+)
 action_keeps_order plan r t action p k lt (actions.acquires a) = acquired plan r t action p k a
-action_keeps_order plan r t _ p k lt (actions.is_admitted {l} {mode} {action} b e a) =
-    (tt, acquired plan (admitted plan r t l) t action p (admitted_on_track plan r t l mode p k lt b (found_admitted plan r t l mode p k lt b e)) a)
-action_keeps_order plan r t _ p k lt (actions.is_refused j b e) = (tt, (λ j. none_taken r t j (quiet plan r t p k b.wants), tt))
+action_keeps_order plan r t _ p k lt (actions.is_admitted {l} {mode} {action} b e a) = (
+  tt,
+  acquired plan (admitted plan r t l) t action p
+      (admitted_on_track plan r t l mode p k lt b (found_admitted plan r t l mode p k lt b e)) a,
+)
+action_keeps_order plan r t _ p k lt (actions.is_refused j b e) =
+    (tt, (λ j. none_taken r t j (quiet plan r t p k b.wants), tt))
 action_keeps_order plan r t _ p k lt (actions.finds_busy l mode past i e) =
     let none = at_operation plan r t p k (Try l mode past) i refl refl in
     (none_taken r t l.0 none, (λ j. none_taken r t j none, tt))
-action_keeps_order plan r t _ p k lt (actions.releases l i back) = gives_back plan r t l.0 _ l _ back (at_operation plan r t p k (Release l) i refl refl)
+action_keeps_order plan r t _ p k lt (actions.releases l i back) =
+    gives_back plan r t l.0 _ l _ back (at_operation plan r t p k (Release l) i refl refl)
 action_keeps_order plan r t _ p k lt (actions.sleeps d i e) =
     let none = quiet plan r t p k (wants_none plan r t k e (Sleep d) i.next refl) in
-    let still = put_same r.state.taking t (r.state.taking t) ∙ none in
-    (tt, (λ j. none_taken r t j none, (record { takes = still; last = record { others = _; last = gained_last plan r t p k lt d i e } }, tt)))
-action_keeps_order plan r t _ p k lt (actions.wakes {op} d by i) = let q = wake_is_quiet d by in (tt, (λ j. none_taken r t j (at_operation plan r t p k op i q.0 q.1), tt))
-action_keeps_order plan r t _ p k lt (actions.makes_entry op e i n) = let q = is_quiet r t op e n in (λ j. none_taken r t j (at_operation plan r t p k op i q.0 q.1), tt)
-action_keeps_order plan r t _ p k lt (actions.gives_last_back h hs i e back) = gives_back plan r t h.lock _ (record { 0 = h.lock }) _ back (quiet plan r t p k (k.cut_wants_nothing t i.cut))
+    let still = put_same r.state.taking t (r.state.taking t) ∙ none in (
+      tt,
+      (
+        λ j. none_taken r t j none,
+        (record { takes = still; last = record { others = _; last = gained_last plan r t p k lt d i e } }, tt),
+      ),
+    )
+action_keeps_order plan r t _ p k lt (actions.wakes {op} d by i) = let q = wake_is_quiet d by in
+    (tt, (λ j. none_taken r t j (at_operation plan r t p k op i q.0 q.1), tt))
+action_keeps_order plan r t _ p k lt (actions.makes_entry op e i n) = let q = is_quiet r t op e n in
+    (λ j. none_taken r t j (at_operation plan r t p k op i q.0 q.1), tt)
+action_keeps_order plan r t _ p k lt (actions.gives_last_back h hs i e back) =
+    gives_back plan r t h.lock _ (record { 0 = h.lock }) _ back (quiet plan r t p k (k.cut_wants_nothing t i.cut))
 action_keeps_order plan r t _ p k lt (actions.has_nothing_left e i f) = tt
 action_keeps_order plan r t _ p k lt (actions.has_no_operation e i) = tt
 action_keeps_order plan r t _ p k lt (actions.is_at_endtry i) = tt

@@ -1,4 +1,5 @@
--- The first of the locks that a thread holds: those that a cut thread has left. It gives back the one that it gained last.
+-- The first of the locks that a thread holds: those that a cut thread has left. It gives back the one that it gained
+-- last.
 use Rattle.std.proofs.Common.{◌≡◌, ℕ, zero, suc, Bool, true, false, cond, eqb, List, [], ◌∷◌, ◌++◌, length, map, take, refl, sym, ap, inl, inr, eq-eqb, ◌∙◌, subst}
 use Rattle.std.specs.Prelude.{reverse}
 use Rattle.std.proofs.lemmas.Bool.{ne_eqb, cases_eq}

@@ -80,7 +80,8 @@ module _ (plan : Plan) (r : Run) (k : IsOnTrack plan r) (ended : all_ended plan 
   at_end : (t : ℕ) → IsAtEnd (operations_of plan t) (point_in plan r t)
   at_end t = go (was_cut r.state t) refl
     where
-      go : (b : Bool) → was_cut r.state t ≡ b → IsAtEnd (operations_of plan t) (point_by b (held_now plan r t) (r.next_op t) (waits_on (r.state.log t)))
+      go : (b : Bool) → was_cut r.state t ≡ b
+          → IsAtEnd (operations_of plan t) (point_by b (held_now plan r t) (r.next_op t) (waits_on (r.state.log t)))
       go true e = ap (λ (hs : List Held). reverse hs) (nothing_now t)
       go false e = let made = all_made t e in rw (done_awake plan r t k made) (omega (arith, k.within t, made))
 

@@ -56,7 +56,8 @@ unfolding put_at
 put_at_own f i k v l = ap (λ b. cond (b && eqb k l) v (f i l)) (eq-eqb i i refl)
 
 -- an entry that changes no section begins none
-begun_stays : (c : Config) (x : OfSection) (t : ℕ) (has_begun : ℕ → ℕ → Bool) → is_of_section x ≡ false → begun_with c x t has_begun ≡ has_begun
+begun_stays : (c : Config) (x : OfSection) (t : ℕ) (has_begun : ℕ → ℕ → Bool) → is_of_section x ≡ false
+    → begun_with c x t has_begun ≡ has_begun
 begun_stays c NoSection t has_begun x = refl
 begun_stays c (BeginsIn l mode) t has_begun x = absurd cc
 begun_stays c (EndsFrom l mode) t has_begun x = refl
@@ -190,9 +191,13 @@ none_unnoted plan r t k = go (r.state.unstamped t) refl
 -- each thread's entries lead it to where it is
 pub is_led : (plan : Plan) (r : Run) (t : ℕ) → IsOnTrack plan r → IsLed plan r t
 unfolding LogsAreParts
-is_led plan r t k = subst (λ (es : List Entry). LeadsTo (config_of plan).kind (operations_of plan t) es (point_in plan r t)) (sym (k.lawful.lawful.books.logs_are_parts t)) (k.follows t)
+is_led plan r t k = subst
+    (λ (es : List Entry). LeadsTo (config_of plan).kind (operations_of plan t) es (point_in plan r t))
+    (sym (k.lawful.lawful.books.logs_are_parts t)) (k.follows t)
 
-module _ (plan : Plan) (r : Run) (t : ℕ) (action : Action) (k : IsOnTrack plan r) (may : MayAll (config_of plan) r.state action.steps) (orders : KeepToOrder (config_of plan) r.state action.steps) (own : AllBy t action.steps)
+module _ (plan : Plan) (r : Run) (t : ℕ) (action : Action) (k : IsOnTrack plan r)
+    (may : MayAll (config_of plan) r.state action.steps) (orders : KeepToOrder (config_of plan) r.state action.steps)
+    (own : AllBy t action.steps)
     (w : KeepsTrack plan r t action) (led : IsLed plan (run_after plan r t action) t) where
   abbrev n : Run
   n = run_after plan r t action
@@ -227,20 +232,25 @@ module _ (plan : Plan) (r : Run) (t : ℕ) (action : Action) (k : IsOnTrack plan
   lawful : Lawful (config_of plan) n.state
   lawful = all_keep (config_of plan) r.state action.steps may k.lawful.lawful
 
-  follows : (u : ℕ) → LeadsTo (config_of plan).kind (operations_of plan u) (entries_of n.state.history u) (point_in plan n u)
+  follows : (u : ℕ) → LeadsTo (config_of plan).kind (operations_of plan u) (entries_of n.state.history u)
+      (point_in plan n u)
   unfolding LogsAreParts
-  follows u = subst (λ (es : List Entry). LeadsTo (config_of plan).kind (operations_of plan u) es (point_in plan n u)) (lawful.books.logs_are_parts u)
+  follows u = subst (λ (es : List Entry). LeadsTo (config_of plan).kind (operations_of plan u) es (point_in plan n u))
+      (lawful.books.logs_are_parts u)
       (each_place t (IsLed plan n) led (λ v ne.
       let log = sym (share v ne).log in
       let same = same_share v ne in
       subst (λ (es : List Entry). LeadsTo (config_of plan).kind (operations_of plan v) es (point_in plan n v)) log
-      (subst (λ x. LeadsTo (config_of plan).kind (operations_of plan v) (r.state.log v) (point_at plan v x)) same (is_led plan r v k))) u)
+      (subst (λ x. LeadsTo (config_of plan).kind (operations_of plan v) (r.state.log v) (point_at plan v x)) same
+      (is_led plan r v k))) u)
 
   sleepers : SleepersFit nobody (config_of plan) n.state
   unfolding QueuedStands AsleepAreOnTheirWay
   sleepers =
-      let fit = turn_keeps (config_of plan) r.state t action.steps may w.asks (halt_nobody t action.steps own) k.halted k.lawful.lawful k.sleepers in
-      turn_ends (config_of plan) n.state t (λ d a z none. w.stands t (fit.asleep_are_on_their_way t d a z none).0 none) w.noted fit
+      let fit = turn_keeps (config_of plan) r.state t action.steps may w.asks (halt_nobody t action.steps own) k.halted
+      k.lawful.lawful k.sleepers in
+      turn_ends (config_of plan) n.state t (λ d a z none. w.stands t (fit.asleep_are_on_their_way t d a z none).0 none)
+      w.noted fit
 
   -- so the run stays on track
   pub stays_on_track : IsOnTrack plan n
@@ -291,8 +301,8 @@ awake_behind r t e s q uncut log =
     let own = ap (λ (f : ℕ → List Entry). f t) log ∙ put_same r.state.log t (entry_of r.state t e ∷ r.state.log t) in
     record { no_wait = ap waits_on own ∙ q.awake; uncut = ap has_reversal own ∙ rw (q.no_reversal, uncut) refl }
 
--- What the end of an operation of t leaves in the columns of s. It made the one entry, and t goes on at the operation n, or
--- behind the endtrys that stand there, and neither waits nor takes a lock.
+-- What the end of an operation of t leaves in the columns of s. It made the one entry, and t goes on at the operation
+-- n, or behind the endtrys that stand there, and neither waits nor takes a lock.
 pub record EndsWell (plan : Plan) (r : Run) (t n : ℕ) (e : Event) (s : State) : Type 0 where
   pub awake : IsAwake s t
   pub no_halt : is_halt e ≡ false
@@ -400,12 +410,14 @@ is_cut (Before n) = false
 is_cut (Asleep n) = false
 is_cut (Cut hs) = true
 
-cut_by : (kind : ℕ → Kind) (held : List Held) (n : ℕ) (op : Op) (e : Event) (p : Point) → Gives kind held n op e p → is_cut p ≡ true → fell_asleep (of_sleep e) ≡ None
+cut_by : (kind : ℕ → Kind) (held : List Held) (n : ℕ) (op : Op) (e : Event) (p : Point) → Gives kind held n op e p
+    → is_cut p ≡ true → fell_asleep (of_sleep e) ≡ None
 cut_by kind held n _ _ _ (law.is_reversed l mode class) f = refl
 cut_by kind held n _ _ _ (law.is_halted l mode x) f = refl
 cut_by kind held n op e p g f = absurd cc
 
-cut_awake : (kind : ℕ → Kind) (ops : List Op) (es : List Entry) (p : Point) → LeadsTo kind ops es p → is_cut p ≡ true → waits_on es ≡ None
+cut_awake : (kind : ℕ → Kind) (ops : List Op) (es : List Entry) (p : Point) → LeadsTo kind ops es p → is_cut p ≡ true
+    → waits_on es ≡ None
 cut_awake kind ops _ _ law.begins f = absurd cc
 cut_awake kind ops _ p (law.goes_on {n = n} {o = o} e h next g) f = cut_by kind (held_of ops n) n o e.event p g f
 cut_awake kind ops _ _ (law.skips_endtry h next) f = absurd cc
@@ -480,7 +492,9 @@ module _ (plan : Plan) (r : Run) (t : ℕ) (k : IsOnTrack plan r) where
   -- one that was cut doesn't wait
   pub cut_no_wait : was_cut r.state t ≡ true → waits_on (r.state.log t) ≡ None
   cut_no_wait e =
-      cut_awake _ _ _ _ (subst (λ b. LeadsTo (config_of plan).kind (operations_of plan t) (r.state.log t) (point_by b (held_now plan r t) (r.next_op t) (waits_on (r.state.log t)))) e (is_led plan r t k)) refl
+      cut_awake _ _ _ _ (subst
+      (λ b. LeadsTo (config_of plan).kind (operations_of plan t) (r.state.log t)
+      (point_by b (held_now plan r t) (r.next_op t) (waits_on (r.state.log t)))) e (is_led plan r t k)) refl
 
   pub waits_uncut : (d : ℕ) → waits_on (r.state.log t) ≡ Some d → was_cut r.state t ≡ false
   waits_uncut d e = go (was_cut r.state t) refl
@@ -515,13 +529,16 @@ module _ (plan : Plan) (r : Run) (t : ℕ) (k : IsOnTrack plan r) where
     wants_this l mode e j i = same_Some l.0 j (rw (no, e) at (k.wants t j i))
 
   -- a take that was admitted, or a taking back after a wait, wants its lock
-  pub wants_it : {l : LockNo} {mode : Mode} {op : Op} {e : Event} → actions.Taking plan r t l mode op e → IsAtOperation plan r t (Some op) → r.state.wanted t ≡ Some l.0
-  wants_it (actions.anew l mode j e) i = e ∙ ap Some (sym (wants_this (awake (Take l mode) i.next refl) l mode i.next j e))
+  pub wants_it : {l : LockNo} {mode : Mode} {op : Op} {e : Event} → actions.Taking plan r t l mode op e
+      → IsAtOperation plan r t (Some op) → r.state.wanted t ≡ Some l.0
+  wants_it (actions.anew l mode j e) i = e
+      ∙ ap Some (sym (wants_this (awake (Take l mode) i.next refl) l mode i.next j e))
   wants_it (actions.back d e w) i =
       let same : e ≡ d.0 = let at = sym (k.waiting t e w) ∙ i.next in cc in
       k.back_wants t e w i.running ∙ ap (λ n. Some ((config_of plan).chan_lock n)) same
 
--- an operation that leaves what is held, is no take and no wait, and whose entry changes no section and lets its thread go on
+-- an operation that leaves what is held, is no take and no wait, and whose entry changes no section and lets its
+-- thread go on
 pub record EndsQuietly (plan : Plan) (r : Run) (t n : ℕ) (op : Op) (e : Event) : Type 0 where
   pub no_take : is_take op ≡ false
   pub no_wait : is_wait op ≡ false
@@ -546,7 +563,8 @@ ends_quietly plan r t n op e s k i q log history held listed begun wanted taking
   sections = λ l.
       ap (λ es. open_in c es t l) history ∙ ap (λ (x : Sections). x.now) (sections_stay c r.state t e t l q.quiet) ∙ all_open plan r t k up.no_wait l ∙ ap (λ (f : ℕ → ℕ → Hold). f t l) (sym held);
   begun = λ l x.
-      ap (λ (f : ℕ → ℕ → Bool). f t l) (begun ∙ begun_stays c (facets e).section t r.state.has_begun q.quiet) ∙ k.begun t l (λ z. x (ap (λ (f : ℕ → ℕ → Hold). f t l) held ∙ z));
+      ap (λ (f : ℕ → ℕ → Bool). f t l) (begun ∙ begun_stays c (facets e).section t r.state.has_begun q.quiet)
+      ∙ k.begun t l (λ z. x (ap (λ (f : ℕ → ℕ → Hold). f t l) held ∙ z));
   wants = ap (λ (f : ℕ → Option ℕ). f t) wanted ∙ wants;
   taking = ap (λ (f : ℕ → Option ℕ). f t) taking ∙ put_same r.state.taking t _ ∙ none_taken e (r.state.taking t) (k.taking t ∙ wants);
   unnoted = ap (λ (f : ℕ → Option Note). f t) noted ∙ put_same r.state.noted t None;

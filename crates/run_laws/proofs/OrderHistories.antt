@@ -179,8 +179,8 @@ first_turn t l = Admits t l ∷ takes t l Excl
 unfoldable drops : ℕ → ℕ → List Step
 drops t l = Stamps t (unlocks l) ∷ Drops t l Excl ∷ []
 
--- 4. A refusal. Lock a has the class 2, b the class 0, and c the class 1. p takes a behind c, and then b behind c. q takes
--- b, then a, and then it wants c
+-- 4. A refusal. Lock a has the class 2, b the class 0, and c the class 1. p takes a behind c, and then b behind c. q
+--    takes b, then a, and then it wants c
 
 reversal : Plan
 reversal = of_classes (2 ∷ 0 ∷ 1 ∷ []) ((take 2 ∷ take 0 ∷ give 0 ∷ take 1 ∷ give 1 ∷ give 2 ∷ []) ∷ (take 1 ∷ take 0 ∷ take 2 ∷ give 2 ∷ give 0 ∷ give 1 ∷ []) ∷ []) (0 ∷ 0 ∷ 0 ∷ 0 ∷ 0 ∷ 0 ∷ [])
@@ -206,7 +206,8 @@ reversed_run : (k : Course) → k ≡ course_after reversal 11
 unfolding reversal of_classes course_after turn_of run_behind has_ended start_state after_admit after_refuse after_gain after_drop after_stamp put put_at forbids any_below sum_below least
 reversed_run k e = rw e (refl, refl)
 
--- locks of one class, which none of them is the number of: the second is refused for it, though no take has given an edge
+-- locks of one class, which none of them is the number of: the second is refused for it, though no take has given an
+-- edge
 twins : Plan
 twins = of_classes (2 ∷ 2 ∷ 0 ∷ []) ((take 0 ∷ take 1 ∷ give 1 ∷ give 0 ∷ []) ∷ []) []
 
@@ -242,8 +243,8 @@ crossing_run : (k : Course) → k ≡ course_after crossing 12 → (k.run.state.
 unfolding crossing of_classes later_path course_after turn_of run_behind has_ended start_state after_admit after_refuse after_gain after_drop after_stamp after_ready after_enter after_open after_mark after_resume after_lend after_shift after_end_walk put put_at put_queue forbids any_below sum_below least
 crossing_run k e = rw e (refl, refl)
 
--- 6. A refusal in a run that doesn't come to its end: p sleeps on a channel, and nobody wakes it; q takes two locks of one
--- class
+-- 6. A refusal in a run that doesn't come to its end: p sleeps on a channel, and nobody wakes it; q takes two locks
+--    of one class
 
 sleeping : Plan
 sleeping = record (of_classes (0 ∷ 1 ∷ 1 ∷ []) ((take 0 ∷ Sleep chan ∷ give 0 ∷ []) ∷ (take 1 ∷ take 2 ∷ give 2 ∷ give 1 ∷ []) ∷ []) []) { chans = record { name = []; cond = true; lock = lock 0 } ∷ [] }

@@ -1,5 +1,5 @@
--- The run of an ordered plan: each edge of the class graph leads from the class of a lock to that of one declared behind
--- it, so no take is refused. And no thread waits on a channel, so the run isn't stuck.
+-- The run of an ordered plan: each edge of the class graph leads from the class of a lock to that of one declared
+-- behind it, so no take is refused. And no thread waits on a channel, so the run isn't stuck.
 use Rattle.std.proofs.Common.{◌≡◌, ◌≢◌, ℕ, zero, suc, ◌+◌, ◌<◌, Bool, true, false, ◌&&◌, cond, List, [], ◌∷◌, length, Option, Some, None, All, refl, sym, ap, inl, inr, arith, ◌∙◌, subst}
 use Rattle.std.specs.List.{list_all, range_with_len}
 use Rattle.std.proofs.lemmas.Bool.{cases_eq, ne_eqb}
@@ -138,18 +138,22 @@ module _ (plan : Plan) (o : IsOrdered plan) where
 
 -- the state behind the steps of an action
 abbrev IsUpBehind : Plan → Run → Action → Type 0
-IsUpBehind plan r action = IsUpward plan (after_all (config_of plan) r.state action.steps).edges (after_all (config_of plan) r.state action.steps).history
+IsUpBehind plan r action =
+    IsUpward plan (after_all (config_of plan) r.state action.steps).edges
+    (after_all (config_of plan) r.state action.steps).history
 
 -- an entry that is no refusal
 one_more : {plan : Plan} {edges : List (ℕ × ℕ)} {history : List Entry} (e : Entry) → is_reversal e.event ≡ false → IsUpward plan edges history → IsUpward plan edges (e ∷ history)
 one_more e i u = record { up = u.up; unrefused = rw (i, u.unrefused) refl }
 
 -- as that of a wake is none
-no_refusal : (d : ChanNo) {op : Op} {all : Bool} {noted : ℕ → Event} (woken : ℕ) → actions.Waking d op all noted → is_reversal (noted woken) ≡ false
+no_refusal : (d : ChanNo) {op : Op} {all : Bool} {noted : ℕ → Event} (woken : ℕ) → actions.Waking d op all noted
+    → is_reversal (noted woken) ≡ false
 no_refusal d woken actions.of_one = refl
 no_refusal d woken actions.of_all = refl
 
-acquired : (plan : Plan) (r : Run) (t : ℕ) (action : Action) → actions.Acquires plan r t action → IsUpward plan r.state.edges r.state.history → IsUpBehind plan r action
+acquired : (plan : Plan) (r : Run) (t : ℕ) (action : Action) → actions.Acquires plan r t action
+    → IsUpward plan r.state.edges r.state.history → IsUpBehind plan r action
 unfolding after_gain after_stamp after_ready after_enter after_enter_sleep after_claim
 acquired plan r t _ (actions.gains (actions.by_taking (actions.anew l mode j w)) i a f) u = one_more _ refl u
 acquired plan r t _ (actions.gains (actions.by_taking (actions.back d e w)) i a f) u = one_more _ refl u
@@ -175,7 +179,8 @@ module _ (plan : Plan) (o : IsOrdered plan) (p : IsProper plan) (r : Run) (k : I
   made _ (actions.is_queued e f i) = u
   made _ (actions.resumes q cause f e) = u
   made action (actions.acquires by) = acquired plan r t action by u
-  made _ (actions.is_admitted {l} {action = action} g e by) = acquired plan (admitted plan r t l) t action by (admits_up plan o p r k t g u)
+  made _ (actions.is_admitted {l} {action = action} g e by) =
+      acquired plan (admitted plan r t l) t action by (admits_up plan o p r k t g u)
   made _ (actions.is_refused i g e) = absurd (none_forbids plan o p r k t g u i e)
   made _ (actions.finds_busy l mode past i e) = one_more _ refl u
   made _ (actions.releases l i (actions.drops x)) = one_more _ refl u

@@ -53,29 +53,35 @@ own_steps plan r t _ (actions.has_nothing_left g i e) = tt
 own_steps plan r t _ (actions.has_no_operation e i) = tt
 own_steps plan r t _ (actions.is_at_endtry i) = tt
 
-pub other_next : (plan : Plan) (r : Run) (t u : ℕ) → (t ≡ u → ⊥) → (next : Option ℕ) → next_ops (operations_of plan t) r.next_op t next u ≡ r.next_op u
+pub other_next : (plan : Plan) (r : Run) (t u : ℕ) → (t ≡ u → ⊥) → (next : Option ℕ)
+    → next_ops (operations_of plan t) r.next_op t next u ≡ r.next_op u
 other_next plan r t u ne None = refl
 other_next plan r t u ne (Some i) = put_other r.next_op t _ u ne
 
 abbrev ended_at : Config → ℕ → ℕ → Walk → List Mark → (ℕ → Hold) → List Entry → Bool
 ended_at c count next walk marked held log =
     (nat_le count next || has_reversal log)
-    && not (is_walking walk || not (is_empty marked) || is_some (to_release held (option_map c.chan_lock (waits_on log))))
+    && not (is_walking walk || not (is_empty marked) || is_some
+    (to_release held (option_map c.chan_lock (waits_on log))))
     && not (any_below c.locks (λ l. not (is_unheld (held l))))
 
-same_end : (plan : Plan) (u : ℕ) (r n : Run) → n.next_op u ≡ r.next_op u → SameShare (config_of plan) u r.state n.state → has_ended plan n u ≡ has_ended plan r u
+same_end : (plan : Plan) (u : ℕ) (r n : Run) → n.next_op u ≡ r.next_op u → SameShare (config_of plan) u r.state n.state
+    → has_ended plan n u ≡ has_ended plan r u
 unfolding has_ended
 same_end plan u r n e share =
-    let f : ℕ → Walk → List Mark → (ℕ → Hold) → List Entry → Bool = ended_at (config_of plan) (length (operations_of plan u)) in
+    let f : ℕ → Walk → List Mark → (ℕ → Hold) → List Entry
+    → Bool = ended_at (config_of plan) (length (operations_of plan u)) in
     ap (λ x. f x (n.state.walk u) (n.state.marked u) (n.state.held u) (n.state.log u)) e
     ∙ ap (λ x. f (r.next_op u) x (n.state.marked u) (n.state.held u) (n.state.log u)) share.walk
     ∙ ap (λ x. f (r.next_op u) (r.state.walk u) x (n.state.held u) (n.state.log u)) share.marked
     ∙ ap (λ x. f (r.next_op u) (r.state.walk u) (r.state.marked u) x (n.state.log u)) share.held
     ∙ ap (f (r.next_op u) (r.state.walk u) (r.state.marked u) (r.state.held u)) share.log
 
-pub ends_no_other : (plan : Plan) (r : Run) (t u : ℕ) → u ≢ t → has_ended plan (run_behind plan r t) u ≡ has_ended plan r u
+pub ends_no_other : (plan : Plan) (r : Run) (t u : ℕ) → u ≢ t
+    → has_ended plan (run_behind plan r t) u ≡ has_ended plan r u
 unfolding run_behind
 ends_no_other plan r t u n =
     let ne : t ≡ u → ⊥ = λ e. n (sym e) in
     let action = turn_of plan r t in
-    same_end plan u r (run_after plan r t action) (other_next plan r t u ne action.next) (all_leave (config_of plan) u t r.state action.steps ne (own_steps plan r t action (actions.fits plan r t)))
+    same_end plan u r (run_after plan r t action) (other_next plan r t u ne action.next)
+    (all_leave (config_of plan) u t r.state action.steps ne (own_steps plan r t action (actions.fits plan r t)))

@@ -1,5 +1,5 @@
--- Going on along the edges of a graph of lock orders that has no cycle comes to an end: with each edge fewer classes are
--- left ahead.
+-- Going on along the edges of a graph of lock orders that has no cycle comes to an end: with each edge fewer classes
+-- are left ahead.
 use Rattle.std.proofs.Common.{◌≡◌, ℕ, zero, suc, ◌<◌, ◌≤◌, Bool, true, false, List, refl, ap, inl, inr, arith}
 use Rattle.std.proofs.lemmas.Bool.{cases_eq, cases_Bool}
 use Rattle.lock_model.specs.Counts.{sum_below, one}

@@ -1,5 +1,6 @@
--- Worked runs, replayed on the definitions: what queues, records and words hold after the steps is what the runs print.
--- Locks, threads and turnstiles are numbered in the order of their declaration, and a turnstile has the number of its thread.
+-- Worked runs, replayed on the definitions: what queues, records and words hold after the steps is what the runs
+-- print. Locks, threads and turnstiles are numbered in the order of their declaration, and a turnstile has the number
+-- of its thread.
 use Rattle.std.proofs.Common.{◌≡◌, ℕ, zero, suc, true, false, List, [], ◌∷◌, ◌++◌, length, Some, None, refl}
 use Rattle.lock_model.specs.Counts.{sum_below, least}
 use Rattle.lock_model.specs.Words.{word_of, bits_of}
@@ -238,8 +239,8 @@ names_longest : (r : Run) → r.state ≡ after_all signals (start_state signals
 unfolding signals goes_to_sleep start_state after_look after_gain after_stamp after_drop after_take after_give after_ready after_enter after_open after_mark after_resume after_claim after_lend after_shift after_end_walk after_enter_sleep after_open_sleep after_add after_wake put put_at put_queue least sum_below at plan takes blocks opens mark
 names_longest r e = rw e (refl, refl)
 
--- 9. A sleeper with a loan: o of 100 owns a mutex, for which w of 50 waits; v owns an sx lock, on which o sleeps, and then
--- n of 60
+-- 9. A sleeper with a loan: o of 100 owns a mutex, for which w of 50 waits; v owns an sx lock, on which o sleeps, and
+--    then n of 60
 
 mixed : Config
 mixed = record (plan Mtx 2 (100 ∷ 50 ∷ 90 ∷ 60 ∷ [])) { kind = at (Mtx ∷ Sx ∷ []) Sx }

@@ -49,7 +49,8 @@ pub record SameShare (c : Config) (u : ℕ) (s n : State) : Type 0 where
   pub marked : n.marked u ≡ s.marked u
   pub running : n.wait u ≡ Running → s.wait u ≡ Running
 
-begun_other : (c : Config) (x : OfSection) (t : ℕ) (f : ℕ → ℕ → Bool) (u l : ℕ) → (t ≡ u → ⊥) → begun_with c x t f u l ≡ f u l
+begun_other : (c : Config) (x : OfSection) (t : ℕ) (f : ℕ → ℕ → Bool) (u l : ℕ) → (t ≡ u → ⊥)
+    → begun_with c x t f u l ≡ f u l
 begun_other c NoSection t f u l ne = refl
 begun_other c (BeginsIn k mode) t f u l ne = put_at_other f t k true u l ne
 begun_other c (EndsFrom k mode) t f u l ne = refl
@@ -62,11 +63,40 @@ module _ (c : Config) (u : ℕ) where
 
   -- one step, of another thread
   pub leaves : (s : State) (step : Step) → (maker step ≡ u → ⊥) → SameShare c u s (after c s step)
-  unfolding after_seek after_look after_take after_give after_gain after_drop after_stamp after_ready after_unready after_enter after_open after_mark after_resume after_enter_sleep after_open_sleep after_add after_wake after_claim after_lend after_shift after_end_walk after_admit after_refuse after_count_out after_count_in after_count_self_in after_count_end after_halt after_abort
-  leaves s (Seeks t l by_try) ne = record { held = refl; held_locks = refl; log = refl; sections = λ l. refl; has_begun = refl; wanted = refl; taking = put_other s.taking t _ u ne; noted = refl; walk = refl; marked = refl; running = λ e. e }
+  unfolding after_seek after_look after_take after_give after_gain after_drop after_stamp after_ready after_unready
+      after_enter after_open after_mark after_resume after_enter_sleep after_open_sleep after_add after_wake after_claim
+      after_lend after_shift after_end_walk after_admit after_refuse after_count_out after_count_in after_count_self_in
+      after_count_end after_halt after_abort
+  leaves s (Seeks t l by_try) ne =
+      record {
+        held = refl;
+        held_locks = refl;
+        log = refl;
+        sections = λ l. refl;
+        has_begun = refl;
+        wanted = refl;
+        taking = put_other s.taking t _ u ne;
+        noted = refl;
+        walk = refl;
+        marked = refl;
+        running = λ e. e;
+      }
   leaves s (Gains t l mode by_try) ne = record { held = put_at_row s.held t l _ u ne; held_locks = put_other s.held_locks t _ u ne; log = refl; sections = λ l. refl; has_begun = put_at_row s.has_begun t l _ u ne; wanted = put_other s.wanted t _ u ne; taking = refl; noted = refl; walk = refl; marked = refl; running = λ e. e }
   leaves s (Drops t l mode) ne = record { held = put_at_row s.held t l _ u ne; held_locks = put_other s.held_locks t _ u ne; log = refl; sections = λ l. refl; has_begun = refl; wanted = refl; taking = refl; noted = refl; walk = refl; marked = refl; running = λ e. e }
-  leaves s (Stamps t e) ne = record { held = refl; held_locks = refl; log = put_other s.log t _ u ne; sections = λ l. other_sections c s t e u l ne; has_begun = λ i l. begun_other c (facets e).section t s.has_begun u l ne i; wanted = refl; taking = put_other s.taking t _ u ne; noted = put_other s.noted t _ u ne; walk = refl; marked = refl; running = λ e. e }
+  leaves s (Stamps t e) ne =
+      record {
+        held = refl;
+        held_locks = refl;
+        log = put_other s.log t _ u ne;
+        sections = λ l. other_sections c s t e u l ne;
+        has_begun = λ i l. begun_other c (facets e).section t s.has_begun u l ne i;
+        wanted = refl;
+        taking = put_other s.taking t _ u ne;
+        noted = put_other s.noted t _ u ne;
+        walk = refl;
+        marked = refl;
+        running = λ e. e;
+      }
   leaves s (Readies t q) ne = record { held = refl; held_locks = refl; log = refl; sections = λ l. refl; has_begun = refl; wanted = refl; taking = refl; noted = refl; walk = refl; marked = refl; running = λ e. sym (put_other s.wait t _ u ne) ∙ e }
   leaves s (Unreadies t q) ne = record { held = refl; held_locks = refl; log = refl; sections = λ l. refl; has_begun = refl; wanted = refl; taking = refl; noted = refl; walk = refl; marked = refl; running = λ e. sym (put_other s.wait t _ u ne) ∙ e }
   leaves s (Enters t l mode x) ne = record { held = refl; held_locks = refl; log = refl; sections = λ l. refl; has_begun = refl; wanted = put_other s.wanted t _ u ne; taking = refl; noted = refl; walk = put_other s.walk t _ u ne; marked = refl; running = λ e. e }
@@ -82,7 +112,20 @@ module _ (c : Config) (u : ℕ) where
   leaves s (EndsWalk t) ne = record { held = refl; held_locks = refl; log = refl; sections = λ l. refl; has_begun = refl; wanted = refl; taking = refl; noted = refl; walk = put_other s.walk t _ u ne; marked = refl; running = λ e. e }
   leaves s (Admits t l) ne = record { held = refl; held_locks = refl; log = refl; sections = λ l. refl; has_begun = refl; wanted = put_other s.wanted t _ u ne; taking = put_other s.taking t _ u ne; noted = refl; walk = refl; marked = refl; running = λ e. e }
   leaves s (Refuses t l k) ne = record { held = refl; held_locks = refl; log = refl; sections = λ l. refl; has_begun = refl; wanted = refl; taking = refl; noted = put_other s.noted t _ u ne; walk = refl; marked = refl; running = λ e. e }
-  leaves s (Aborts t q side w) ne = record { held = refl; held_locks = refl; log = refl; sections = λ l. refl; has_begun = refl; wanted = refl; taking = refl; noted = refl; walk = refl; marked = put_other s.marked t _ u ne; running = λ e. e }
+  leaves s (Aborts t q side w) ne =
+      record {
+        held = refl;
+        held_locks = refl;
+        log = refl;
+        sections = λ l. refl;
+        has_begun = refl;
+        wanted = refl;
+        taking = refl;
+        noted = refl;
+        walk = refl;
+        marked = put_other s.marked t _ u ne;
+        running = λ e. e;
+      }
   leaves s other ne = assumption (same s)
 
   behind : {s m n : State} → SameShare c u s m → SameShare c u m n → SameShare c u s n
@@ -103,4 +146,5 @@ module _ (c : Config) (u : ℕ) where
   -- and a list of steps of another thread
   pub all_leave : (t : ℕ) (s : State) (steps : List Step) → (t ≡ u → ⊥) → AllBy t steps → SameShare c u s (after_all c s steps)
   all_leave t s [] ne by = same s
-  all_leave t s (step ∷ steps) ne by = behind (leaves s step (λ e. ne (sym (ap (λ p. p.0) by.0) ∙ e))) (all_leave t (after c s step) steps ne by.1)
+  all_leave t s (step ∷ steps) ne by =
+      behind (leaves s step (λ e. ne (sym (ap (λ p. p.0) by.0) ∙ e))) (all_leave t (after c s step) steps ne by.1)

@@ -1,5 +1,6 @@
--- A run is never stuck on locks alone. A lock on whose queue a thread stands is held, by a thread that sleeps on too: on
--- the queue of a lock to whose class an edge leads from that of the first, or on a channel's. Edges come to an end.
+-- A run is never stuck on locks alone. A lock on whose queue a thread stands is held, by a thread that sleeps on too:
+-- on the queue of a lock to whose class an edge leads from that of the first, or on a channel's. Edges come to an
+-- end.
 use Rattle.std.proofs.Common.{◌≡◌, ◌≢◌, ℕ, zero, suc, ◌<◌, ◌≤◌, Bool, true, false, nat_le, ◌||◌, ◌&&◌, [], length, slice_get, Option, Some, None, refl, sym, ap, inl, inr, arith, eq-eqb, ◌∙◌, subst, not}
 use Rattle.std.proofs.lemmas.Bool.{cases_Bool, and_parts, or_cases, leb-true, not-true}
 use Rattle.std.proofs.lemmas.Option.{none-some, slice_get_past}

@@ -89,13 +89,22 @@ unmoved plan r t answer k = record {
   keeps = record { asks = tt; out = k.lawful.nothing_out; stands = k.lawful.queued_stands; noted = none_unnoted plan r t k; no_halts = k.no_halts; there = is_there plan r t k; back = k.back_wants t };
 }
 
-acquired : (plan : Plan) (r : Run) (t : ℕ) (action : Action) → IsProper plan → IsOnTrack plan r → t < length plan.threads → actions.Acquires plan r t action → IsMade plan r t action
-acquired plan r t _ p k lt (actions.gains by i a f) = record { may = gains.may_gain_all plan r t p k lt by i a f; keeps = gains.gained_keeps plan r t p k lt by i }
-acquired plan r t _ p k lt (actions.claims by i a f) = record { may = gains.may_claim_all plan r t p k lt by i a f; keeps = gains.claimed_keeps plan r t p k lt by i a f }
-acquired plan r t _ p k lt (actions.enters by i a stands) = record { may = gains.may_enter_all plan r t p k lt by i a stands; keeps = gains.entered_keeps plan r t p k lt by i stands }
+acquired : (plan : Plan) (r : Run) (t : ℕ) (action : Action) → IsProper plan → IsOnTrack plan r
+    → t < length plan.threads → actions.Acquires plan r t action → IsMade plan r t action
+acquired plan r t _ p k lt (actions.gains by i a f) =
+    record { may = gains.may_gain_all plan r t p k lt by i a f; keeps = gains.gained_keeps plan r t p k lt by i }
+acquired plan r t _ p k lt (actions.claims by i a f) =
+    record { may = gains.may_claim_all plan r t p k lt by i a f; keeps = gains.claimed_keeps plan r t p k lt by i a f }
+acquired plan r t _ p k lt (actions.enters by i a stands) =
+    record {
+      may = gains.may_enter_all plan r t p k lt by i a stands;
+      keeps = gains.entered_keeps plan r t p k lt by i stands;
+    }
 
 -- an action behind an admission
-admitted_first : (plan : Plan) (r : Run) (t : ℕ) (l : LockNo) (action : Action) → MayAdmit (config_of plan) r.state t l.0 → IsMade plan (admitted plan r t l) t action → IsMade plan r t (record action { steps = Admits t l.0 ∷ action.steps })
+admitted_first : (plan : Plan) (r : Run) (t : ℕ) (l : LockNo) (action : Action)
+    → MayAdmit (config_of plan) r.state t l.0 → IsMade plan (admitted plan r t l) t action
+    → IsMade plan r t (record action { steps = Admits t l.0 ∷ action.steps })
 admitted_first plan r t l action may m = record {
   may = (may, m.may);
   keeps = record { asks = (tt, m.keeps.asks); out = m.keeps.out; stands = m.keeps.stands; noted = m.keeps.noted; no_halts = m.keeps.no_halts; there = m.keeps.there; back = m.keeps.back };
@@ -110,27 +119,57 @@ module _ (plan : Plan) (r : Run) (t : ℕ) (p : IsProper plan) (k : IsOnTrack pl
 
   made : (action : Action) → actions.Fits plan r t action → IsMade plan r t action
   made _ (actions.is_over e) = unmoved plan r t Ended k
-  made _ (actions.lends l o h w e f) = record { may = (walks.may_lend plan r t p k lt l o h w e f, tt); keeps = walks.lent plan r t p k lt l o h }
-  made _ (actions.ends_at_lock l w e) = record { may = (walks.may_end_at_lock plan r t p k lt l w e, tt); keeps = walks.walk_ended plan r t p k lt }
-  made _ (actions.shifts o l w e f) = record { may = (walks.may_shift plan r t p k lt o l w e f, tt); keeps = walks.shifted plan r t p k lt o l.0 }
-  made _ (actions.ends_at_thread o w f) = record { may = (walks.may_end_at_thread plan r t p k lt o w f, tt); keeps = walks.walk_ended plan r t p k lt }
-  made _ (actions.marks m ms w e) = record { may = (waits.may_mark plan r t k lt m ms e, tt); keeps = waits.marked plan r t k lt m ms }
-  made _ (actions.gives_up {l} w u e back) = record { may = releases.may_give_up_all plan r t p k lt l u e back; keeps = releases.gave_up_keeps plan r t p k lt l u e back }
+  made _ (actions.lends l o h w e f) =
+      record { may = (walks.may_lend plan r t p k lt l o h w e f, tt); keeps = walks.lent plan r t p k lt l o h }
+  made _ (actions.ends_at_lock l w e) =
+      record { may = (walks.may_end_at_lock plan r t p k lt l w e, tt); keeps = walks.walk_ended plan r t p k lt }
+  made _ (actions.shifts o l w e f) =
+      record { may = (walks.may_shift plan r t p k lt o l w e f, tt); keeps = walks.shifted plan r t p k lt o l.0 }
+  made _ (actions.ends_at_thread o w f) =
+      record { may = (walks.may_end_at_thread plan r t p k lt o w f, tt); keeps = walks.walk_ended plan r t p k lt }
+  made _ (actions.marks m ms w e) =
+      record { may = (waits.may_mark plan r t k lt m ms e, tt); keeps = waits.marked plan r t k lt m ms }
+  made _ (actions.gives_up {l} w u e back) =
+      record {
+        may = releases.may_give_up_all plan r t p k lt l u e back;
+        keeps = releases.gave_up_keeps plan r t p k lt l u e back;
+      }
   made _ (actions.is_queued e f i) = unmoved plan r t Idle k
-  made _ (actions.resumes q cause f e) = record { may = (waits.may_resume plan r t k lt q cause f e, tt); keeps = waits.resumed plan r t k lt q cause f e }
+  made _ (actions.resumes q cause f e) =
+      record { may = (waits.may_resume plan r t k lt q cause f e, tt); keeps = waits.resumed plan r t k lt q cause f e }
   made action (actions.acquires a) = acquired plan r t action p k lt a
   made _ (actions.is_admitted {l} {mode} {action} b e a) =
       let found = orders.found_admitted plan r t l mode p k lt b e in
-      admitted_first plan r t l action (orders.may_admit plan r t l mode p k lt b found) (acquired plan (admitted plan r t l) t action p (orders.admitted_on_track plan r t l mode p k lt b found) lt a)
-  made _ (actions.is_refused {l} {mode} class b e) = record { may = orders.may_refuse_all plan r t l mode p k lt b class e; keeps = orders.refused_keeps plan r t l mode p k lt b class e }
-  made _ (actions.finds_busy l mode past i e) = record { may = gains.may_find_busy_all plan r t p k lt l mode past i e; keeps = gains.found_busy_keeps plan r t p k lt l mode past i }
-  made _ (actions.releases l i back) = record { may = releases.may_release_all plan r t p k lt l i back; keeps = releases.released_keeps plan r t p k lt l i back }
-  made _ (actions.sleeps d i e) = record { may = sleeping.may_sleep_all plan r t p k lt d i e; keeps = sleeping.slept_keeps plan r t p k lt d i e }
-  made _ (actions.wakes d by i) = record { may = sleeping.may_wake_all plan r t p k lt d by i; keeps = sleeping.woke_keeps plan r t p k lt d by i }
+      admitted_first plan r t l action (orders.may_admit plan r t l mode p k lt b found)
+      (acquired plan (admitted plan r t l) t action p (orders.admitted_on_track plan r t l mode p k lt b found) lt
+      a)
+  made _ (actions.is_refused {l} {mode} class b e) =
+      record {
+        may = orders.may_refuse_all plan r t l mode p k lt b class e;
+        keeps = orders.refused_keeps plan r t l mode p k lt b class e;
+      }
+  made _ (actions.finds_busy l mode past i e) =
+      record {
+        may = gains.may_find_busy_all plan r t p k lt l mode past i e;
+        keeps = gains.found_busy_keeps plan r t p k lt l mode past i;
+      }
+  made _ (actions.releases l i back) =
+      record {
+        may = releases.may_release_all plan r t p k lt l i back;
+        keeps = releases.released_keeps plan r t p k lt l i back;
+      }
+  made _ (actions.sleeps d i e) =
+      record { may = sleeping.may_sleep_all plan r t p k lt d i e; keeps = sleeping.slept_keeps plan r t p k lt d i e }
+  made _ (actions.wakes d by i) =
+      record { may = sleeping.may_wake_all plan r t p k lt d by i; keeps = sleeping.woke_keeps plan r t p k lt d by i }
   made _ (actions.makes_entry op e i n) =
       let noted = noting.is_noted plan r t p k lt op e n i in
       record { may = noting.may_note_all plan r t p k lt i.running noted; keeps = noting.noted_keeps plan r t p k lt i noted }
-  made _ (actions.gives_last_back h hs i e back) = record { may = releases.may_give_last_all plan r t p k lt h hs i e back; keeps = releases.gave_last_keeps plan r t p k lt h hs i e back }
+  made _ (actions.gives_last_back h hs i e back) =
+      record {
+        may = releases.may_give_last_all plan r t p k lt h hs i e back;
+        keeps = releases.gave_last_keeps plan r t p k lt h hs i e back;
+      }
   made _ (actions.has_nothing_left e i f) = unmoved plan r t Idle k
   made _ (actions.has_no_operation e i) = unmoved plan r t Idle k
   made _ (actions.is_at_endtry i) = unmoved plan r t Idle k
@@ -146,14 +185,17 @@ module _ (plan : Plan) (r : Run) (t : ℕ) (p : IsProper plan) (k : IsOnTrack pl
   turned =
       let action = turn_of plan r t in
       let fits = actions.fits plan r t in
-      stays_on_track plan r t action k may_all (action_keeps_order plan r t action p k lt fits) (own_steps plan r t action fits) turn_made.keeps (led plan r t action p k lt fits)
+      stays_on_track plan r t action k may_all (action_keeps_order plan r t action p k lt fits)
+      (own_steps plan r t action fits) turn_made.keeps (led plan r t action p k lt fits)
 
 pub turns_may : (plan : Plan) (r : Run) (t : ℕ) → IsProper plan → IsOnTrack plan r → t < length plan.threads → MayAll (config_of plan) r.state (turn_of plan r t).steps
 turns_may plan r t p k lt = may_all plan r t p k lt
 
 -- so may those of the action that it is
-pub action_may : (plan : Plan) (r : Run) (t : ℕ) (action : Action) → IsProper plan → IsOnTrack plan r → t < length plan.threads → turn_of plan r t ≡ action → MayAll (config_of plan) r.state action.steps
-action_may plan r t action p k lt e = subst (λ (x : Action). MayAll (config_of plan) r.state x.steps) e (turns_may plan r t p k lt)
+pub action_may : (plan : Plan) (r : Run) (t : ℕ) (action : Action) → IsProper plan → IsOnTrack plan r
+    → t < length plan.threads → turn_of plan r t ≡ action → MayAll (config_of plan) r.state action.steps
+action_may plan r t action p k lt e =
+    subst (λ (x : Action). MayAll (config_of plan) r.state x.steps) e (turns_may plan r t p k lt)
 
 pub stays : (plan : Plan) (r : Run) (t : ℕ) → IsProper plan → IsOnTrack plan r → t < length plan.threads → IsOnTrack plan (run_behind plan r t)
 stays plan r t p k lt = turned plan r t p k lt

@@ -1,5 +1,5 @@
--- The turns of a thread that takes or tries a lock, or takes one back after a wait: it gains or claims it, blocks, or finds
--- it busy. Their steps may be made, and they leave the run on track.
+-- The turns of a thread that takes or tries a lock, or takes one back after a wait: it gains or claims it, blocks, or
+-- finds it busy. Their steps may be made, and they leave the run on track.
 use Rattle.std.proofs.Common.{◌≡◌, ◌≢◌, ◌⊎◌, ℕ, suc, ◌<◌, ◌≤◌, Bool, true, false, cond, eqb, List, [], ◌∷◌, ◌++◌, length, Option, Some, None, option_map, refl, sym, ap, inl, inr, arith, eq-eqb, ◌∙◌, subst}
 use Rattle.std.specs.Prelude.{unwrap_or, is_some}
 use Rattle.std.proofs.lemmas.Bool.{not-false, eqb-true}
@@ -173,7 +173,8 @@ module _ (plan : Plan) (r : Run) (t : ℕ) (p : IsProper plan) (k : IsOnTrack pl
         go None f =
             let a = asleep k.lawful.lawful k.sleepers t d.0 slept none (ap is_signalled i.running) f in
             let here = unnamed plan r t k i.running in
-            let z = off_acting c s t k.lawful.lawful here (ap is_woken i.running) ∙ unnoted_unhalted (s.noted t) (k.unnoted t) in
+            let z = off_acting c s t k.lawful.lawful here (ap is_woken i.running)
+            ∙ unnoted_unhalted (s.noted t) (k.unnoted t) in
             absurd (none-some t (k.sleepers.asleep_are_on_their_way t d.0 a z here).2)
         go (Some x) f = ap Some (one_channel x d.0 (s.log t) (k.sleepers.resumed_slept t x f) slept)
 

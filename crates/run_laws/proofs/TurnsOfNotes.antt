@@ -23,8 +23,8 @@ use Rattle.lock_laws.proofs.HeldLists.{held_is}
 use Rattle.run_laws.proofs.OnTrack.{KeepsTrack, LetsGoOn, lets_go_on, goes_on, ends_quietly, noted_behind, acting, awake, is_awake, all_open, holds_all, before, behind, left, fit, is_take, is_wait}
 use Rattle.run_laws.proofs.Actions.{Notes, sets, adds, gets, changes_base, shows}
 
--- an operation that leaves what is held, is no take and no wait, and whose entry the sections allow; the entry changes no
--- section and lets its thread go on
+-- an operation that leaves what is held, is no take and no wait, and whose entry the sections allow; the entry
+-- changes no section and lets its thread go on
 pub record IsNoted (plan : Plan) (r : Run) (t : ℕ) (op : Op) (e : Event) : Type 0 where
   pub same : before plan r t ≡ behind plan r t
   pub asks : Asks (config_of plan) r.state t e

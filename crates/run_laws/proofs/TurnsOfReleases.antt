@@ -1,5 +1,5 @@
--- The turns of a thread that gives a lock back, by an operation, after it went to sleep with it or after it was cut: their
--- steps may be made, and they leave the run on track.
+-- The turns of a thread that gives a lock back, by an operation, after it went to sleep with it or after it was cut:
+-- their steps may be made, and they leave the run on track.
 use Rattle.std.proofs.Common.{◌≡◌, ◌≢◌, ℕ, suc, ◌<◌, Bool, true, false, not, cond, eqb, ◌||◌, List, [], ◌∷◌, length, take, slice_get, Option, Some, None, option_map, refl, sym, ap, eq-eqb, ◌∙◌, subst}
 use Rattle.std.proofs.lemmas.Option.{none-some, same_Some}
 use Rattle.lock_model.specs.Words.{Word, is_free, is_drop, is_turnstile, without_one, shows_waiters}
@@ -74,8 +74,17 @@ module _ (plan : Plan) (r : Run) (t : ℕ) (p : IsProper plan) (k : IsOnTrack pl
       record { thread = lt; lock = f.lock; held = f.held; last = finds.0; shown = finds.1; unmarked = f.unmarked; closed = f.closed; begun = f.begun }
 
   may_give_back : {kind : StepKind} {step : Step} (n : State) (l : ℕ) (mode : Mode) → GivingBack plan r t l mode kind step → CanGive n l mode → May c n step
-  may_give_back n l mode (actions.drops e) f = record { thread = lt; lock = f.lock; held = f.held; stays = ap (λ w. is_drop (w l)) f.word ∙ e; closed = f.closed; begun = f.begun }
-  may_give_back n l mode (actions.opens e i) f = record { releases = releases n l mode e f; turnstile = i; off_turnstiles = f.off_turnstiles }
+  may_give_back n l mode (actions.drops e) f =
+      record {
+        thread = lt;
+        lock = f.lock;
+        held = f.held;
+        stays = ap (λ w. is_drop (w l)) f.word ∙ e;
+        closed = f.closed;
+        begun = f.begun;
+      }
+  may_give_back n l mode (actions.opens e i) f =
+      record { releases = releases n l mode e f; turnstile = i; off_turnstiles = f.off_turnstiles }
   may_give_back n l mode (actions.opens_sleep_queue e i) f = record { releases = releases n l mode e f; sleeps = i }
 
   -- what it makes of it, by the columns that the run's track is of

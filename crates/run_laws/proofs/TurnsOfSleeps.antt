@@ -1,5 +1,5 @@
--- The turns of a thread that goes to sleep on a channel, or wakes sleepers: their steps may be made, and they leave the run
--- on track.
+-- The turns of a thread that goes to sleep on a channel, or wakes sleepers: their steps may be made, and they leave
+-- the run on track.
 use Rattle.std.proofs.Common.{◌≡◌, ◌≢◌, ℕ, suc, ◌<◌, Bool, false, cond, eqb, List, [], ◌∷◌, length, map, Option, Some, None, refl, sym, ap, eq-eqb, ◌∙◌, subst}
 use Rattle.std.specs.Prelude.{unwrap_or}
 use Rattle.std.proofs.lemmas.Bool.{ne_eqb}
@@ -106,7 +106,8 @@ module _ (plan : Plan) (r : Run) (t : ℕ) (p : IsProper plan) (k : IsOnTrack pl
       wants = wants_nothing;
       slept = ap (has_slept d.0) (put_same s.log t _) ∙ eq-eqb d.0 d.0 refl;
       unwoken = put_same s.woken_from t None;
-      sections = λ j mode h ne. ap (λ (y : Sections). y.now) (own_sections_by c (after_ready s t) t (event.Sleeps d) j) ∙ ap (λ b. cond b NotHeld (open_in c s.history t j)) (ne_eqb l j (λ e. ne (sym e)))
+      sections = λ j mode h ne. ap (λ (y : Sections). y.now) (own_sections_by c (after_ready s t) t (event.Sleeps d) j)
+          ∙ ap (λ b. cond b NotHeld (open_in c s.history t j)) (ne_eqb l j (λ e. ne (sym e)))
           ∙ all_open plan r t k no j ∙ h;
     }
 
@@ -154,7 +155,20 @@ module _ (plan : Plan) (r : Run) (t : ℕ) (p : IsProper plan) (k : IsOnTrack pl
     pub slept_keeps : KeepsTrack plan r t (does kind.Add (Readies t (Chan d) ∷ Stamps t (event.Sleeps d) ∷ Adds t d.0 x ∷ []))
     unfolding after_ready after_stamp after_add HaltsOnlyWhenRunning
     slept_keeps = record {
-      asks = (tt, ((λ e f. refl), (record { works = refl; stamped = noted_behind plan r t (event.Sleeps d) k; unnoted = put_same s.noted t None }, tt)));
+      asks = (
+        tt,
+        (
+          (λ e f. refl),
+          (
+            record {
+              works = refl;
+              stamped = noted_behind plan r t (event.Sleeps d) k;
+              unnoted = put_same s.noted t None;
+            },
+            tt,
+          ),
+        ),
+      );
       out = k.lawful.nothing_out;
       stands = now_stands s.wait s.blocked_on t (chan_queue d.0) k.lawful.queued_stands;
       noted = noted_behind plan r t (event.Sleeps d) k;

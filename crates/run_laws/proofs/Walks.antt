@@ -29,7 +29,10 @@ module _ (c : Config) (s : State) (h : WalksAtTurnstiles c s.walk) where
   to o false l i = absurd cc
 
   keeps : (step : Step) → May c s step → WalksAtTurnstiles c (after c s step).walk
-  unfolding after_seek after_look after_take after_give after_gain after_drop after_stamp after_ready after_unready after_enter after_open after_mark after_resume after_enter_sleep after_open_sleep after_add after_wake after_claim after_lend after_shift after_end_walk after_admit after_refuse after_count_out after_count_in after_count_self_in after_count_end after_halt after_abort
+  unfolding after_seek after_look after_take after_give after_gain after_drop after_stamp after_ready after_unready
+      after_enter after_open after_mark after_resume after_enter_sleep after_open_sleep after_add after_wake after_claim
+      after_lend after_shift after_end_walk after_admit after_refuse after_count_out after_count_in after_count_self_in
+      after_count_end after_halt after_abort
   keeps (Enters t l mode x) g = moved t _ (up l (owner_of (s.word l).holder) g.turnstile)
   keeps (Lends t l o x) g = moved t _ (to o _)
   keeps (Shifts t o l) g = moved t _ (up l (s.owner (lock_queue l)) g.turnstile)

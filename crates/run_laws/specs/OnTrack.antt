@@ -24,8 +24,8 @@ use Rattle.lock_model.specs.declared.plan.Mode.{Mode}
 use Rattle.lock_model.specs.declared.numbers.LockNo.{LockNo}
 use Rattle.sleep_laws.specs.Sleepers.{SleepersFit, nobody}
 
--- where a thread is in its operations: before its next one, or asleep in that, a wait; or it was cut, and gives back what
--- it holds
+-- where a thread is in its operations: before its next one, or asleep in that, a wait; or it was cut, and gives back
+-- what it holds
 abbrev pub point_by : Bool → List Held → ℕ → Option ℕ → Point
 point_by true held n w = Cut (reverse held)
 point_by false held n None = Before n
@@ -88,8 +88,8 @@ pub record IsOnTrack (plan : Plan) (r : Run) : Type 0 where
       (entries_of r.state.history t) (point_in plan r t)
   pub waiting : (t d : ℕ) → waits_on (r.state.log t) ≡ Some d
       → slice_get (operations_of plan t) (r.next_op t) ≡ Some (Sleep (record { 0 = d }))
-  -- each thread holds what its operations so far lead to, but for the lock of its wait and what it gave back when it was
-  -- cut,
+  -- each thread holds what its operations so far lead to, but for the lock of its wait and what it gave back when it
+  -- was cut,
   pub holds : (t l : ℕ) → r.state.held t l ≡ hold_in (held_now plan r t) l
   pub listed : (t : ℕ) → r.state.held_locks t ≡ gained_order (held_now plan r t)
   -- which it held as it will take it back,

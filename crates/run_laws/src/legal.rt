@@ -1,4 +1,5 @@
-//! The law of a history, in the words of its entries: each run of a proper plan keeps it, whatever turns its threads have had.
+//! The law of a history, in the words of its entries: each run of a proper plan keeps it, whatever turns its threads
+//! have had.
 
 ghost use Rattle.std.specs.Prelude.{ℕ, ◌<◌, true, false, List, length};
 ghost use Rattle.std.specs.List.{All};

@@ -95,9 +95,9 @@ pub fn turns_end_no_other()
         → has_ended plan (run_behind plan r t) u ≡ has_ended plan r u }
 {}
 
-/// A wait makes two entries, and every other operation one at most; and a lock that a cut thread gives back was taken by
-/// one that made one. So where a thread has an operation left, or was cut and holds a lock, the history is shorter than
-/// twice the operations of all threads: there is room for the one entry that the thread's turn may make.
+/// A wait makes two entries, and every other operation one at most; and a lock that a cut thread gives back was taken
+/// by one that made one. So where a thread has an operation left, or was cut and holds a lock, the history is shorter
+/// than twice the operations of all threads: there is room for the one entry that the thread's turn may make.
 pub fn histories_have_room()
     ensures operation { (plan : plans.Plan) (r : Run) (t : ℕ) → IsProper plan → IsOnTrack plan r
         → t < length plan.threads → was_cut r.state t ≡ false
@@ -108,8 +108,8 @@ pub fn histories_have_room()
         → length r.state.history < 2 * operations_in_all plan }
 {}
 
-/// Where the lock of a take is admitted in its first turn, that may be, and leaves the run on track; from there the turn
-/// goes on as each later one.
+/// Where the lock of a take is admitted in its first turn, that may be, and leaves the run on track; from there the
+/// turn goes on as each later one.
 pub fn admissions_stay_on_track()
     ensures may { (plan : plans.Plan) (r : Run) (t : ℕ) (l : LockNo) (mode : Mode)
         → IsProper plan → IsOnTrack plan r → t < length plan.threads → BeginsTake plan r t l mode
@@ -135,8 +135,8 @@ pub fn runs_have_best()
         → r.state.effective t ≡ best_behind (config_of plan) r.state t }
 {}
 
-/// So a run is never stuck on locks alone: where a whole round was idle and a thread hasn't ended, some thread sleeps on a
-/// channel.
+/// So a run is never stuck on locks alone: where a whole round was idle and a thread hasn't ended, some thread sleeps
+/// on a channel.
 pub fn stuck_runs_sleep_on_channels()
     ensures { (plan : plans.Plan) (n t : ℕ) → IsProper plan → is_stuck (course_after plan n) ≡ true
         → t < length plan.threads → has_ended plan (course_after plan n).run t ≡ false

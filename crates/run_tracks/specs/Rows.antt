@@ -17,8 +17,8 @@ use Rattle.run_tracks.specs.declared.rows.TurnRow.{TurnRow}
 
 -- 1. Turns
 
--- The n-th turn of a run, from 0: the run wasn't over, the thread that comes next had the turn, with that answer, and so
--- many entries stand behind it.
+-- The n-th turn of a run, from 0: the run wasn't over, the thread that comes next had the turn, with that answer, and
+-- so many entries stand behind it.
 pub record IsTurn (plan : Plan) (n : ℕ) (turn : TurnRow) : Type 0 where
   pub going : is_over plan (course_after plan n) ≡ false
   pub made : next_turn plan (course_after plan n) ≡ Some (turn.who.0, turn.answer)

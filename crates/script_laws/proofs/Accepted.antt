@@ -1,5 +1,5 @@
--- An accepted script's plan is proper: it keeps the limits, its schedule names its threads, and the operations of each thread fit what the
--- thread holds. Each line that has no fault keeps what is known sound.
+-- An accepted script's plan is proper: it keeps the limits, its schedule names its threads, and the operations of
+-- each thread fit what the thread holds. Each line that has no fault keeps what is known sound.
 use Rattle.std.proofs.Common.{◌≡◌, ℕ, suc, ◌+◌, ◌<◌, ◌≤◌, max, Bool, true, false, not, ◌||◌, cond, List, [], ◌∷◌, ◌++◌, length, Option, Some, None, refl, sym, ap, subst, ◌∙◌, arith, length-append}
 use Rattle.std.specs.Prelude.{map, sum, codes, option_and_then, option_map, option_to_list, is_none, is_some, unwrap_or, if◌then◌else◌}
 use Rattle.std.specs.List.{All, list_any, prefix_len}

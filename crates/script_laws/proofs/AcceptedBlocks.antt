@@ -1,5 +1,6 @@
--- The operations of a thread whose `end` hasn't come: each passes its tests on what those before it lead to, and each try's block is closed by its
--- endtry, or is one of those that are open. One operation more keeps that, and so does an endtry, which closes the innermost block.
+-- The operations of a thread whose `end` hasn't come: each passes its tests on what those before it lead to, and each
+-- try's block is closed by its endtry, or is one of those that are open. One operation more keeps that, and so does
+-- an endtry, which closes the innermost block.
 use Rattle.std.proofs.Common.{◌≡◌, ◌≢◌, ℕ, zero, suc, ◌+◌, ◌<◌, ◌≤◌, Bool, true, false, List, [], ◌∷◌, ◌++◌, length, take, slice_get, slice_set, Some, None, refl, sym, ap, subst, ◌∙◌, inl, inr, arith, length-append}
 use Rattle.std.specs.Prelude.{◌==◌}
 use Rattle.std.specs.List.{list_any}

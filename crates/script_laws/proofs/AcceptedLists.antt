@@ -1,4 +1,5 @@
--- Lists and options as the judging of a script's lines uses them, and what one operation more does to what operations lead to.
+-- Lists and options as the judging of a script's lines uses them, and what one operation more does to what operations
+-- lead to.
 use Rattle.std.proofs.Common.{◌≡◌, ◌≢◌, ℕ, zero, suc, ◌+◌, Bool, true, false, List, [], ◌∷◌, ◌++◌, length, slice_get, slice_set, Option, Some, None, refl, sym, ap, arith}
 use Rattle.std.specs.Prelude.{not, if◌then◌else◌, is_none, unwrap_or, map, sum}
 use Rattle.std.specs.List.{All}

@@ -1,4 +1,5 @@
--- What each line of a script keeps of what is known, so that it can be written again: names and what they stand for, the classes of locks by their first uses, and threads that their own lines lead to.
+-- What each line of a script keeps of what is known, so that it can be written again: names and what they stand for,
+-- the classes of locks by their first uses, and threads that their own lines lead to.
 use Rattle.std.proofs.Common.{◌≡◌, ℕ, suc, ◌≤◌, Bool, true, false, not, ◌&&◌, nat_le, nat_lt, cond, List, [], ◌∷◌, ◌++◌, length, Option, Some, None, refl, sym, ap, subst, ◌∙◌, append-nil}
 use Rattle.std.specs.Prelude.{map, codes, is_some, option_map, unwrap_or}
 use Rattle.std.specs.List.{All}

@@ -1,4 +1,5 @@
--- Bytes that lead from what is known to what is known behind them, whatever stands behind: a line of words that passes its tests does, and so do texts that do one behind the other.
+-- Bytes that lead from what is known to what is known behind them, whatever stands behind: a line of words that
+-- passes its tests does, and so do texts that do one behind the other.
 use Rattle.std.proofs.Common.{◌≡◌, ℕ, suc, ◌≤◌, true, false, List, [], ◌∷◌, ◌++◌, length, Some, None, refl, ap, ◌∙◌, append_assoc}
 use Rattle.std.specs.List.{list_all}
 use Rattle.std.proofs.lemmas.Bool.{le-leb}

@@ -274,9 +274,38 @@ module _ (k : Known) (h : IsKept k) (proper : IsProper (plan_of k)) where
   unfolding IsAccepted reading_of reading_of_lines canonical
   text_reads = let b = body_leads in body_reads body b.0 b.1 b.2
 
--- reading the canonical text of a script's plan gives the plan
+-- reading the canonical text of a script's plan with another schedule of its threads gives that plan,
+pub read_rescheduled : (bytes : List ℕ) (read : Plan) (ts : List ThreadNo) → IsAccepted bytes read
+    → All (λ t. t.0 < length read.threads) ts → length ts ≤ most_scheduled
+    → IsAccepted (canonical (record read { schedule = ts })) (record read { schedule = ts })
+read_rescheduled bytes read ts e within few =
+    let w = accepted_written bytes read e in
+    let k : Known = record w.last { schedule = ts } in
+    let kept : IsKept k =
+    record {
+      named = w.kept.named;
+      classes = w.kept.classes;
+      threads = w.kept.threads;
+      open_thread = w.kept.open_thread;
+    } in
+    let its : plan_of k ≡ record read { schedule = ts } = ap (λ (p : Plan). record p { schedule = ts }) w.its in
+    let old = accepted_proper bytes read e in
+    let proper : IsProper (record read { schedule = ts }) = record {
+      threads = old.threads;
+      locks = old.locks;
+      chans = old.chans;
+      classes = old.classes;
+      operations = old.operations;
+      scheduled = few;
+      schedule = within;
+      lock_classes = old.lock_classes;
+      chan_locks = old.chan_locks;
+      fits = old.fits;
+    } in
+    subst (λ (x : Plan). IsAccepted (canonical x) x) its (text_reads k kept (subst IsProper (sym its) proper))
+
+-- and so with its own
 pub read_again : (bytes : List ℕ) (plan : Plan) → IsAccepted bytes plan → IsAccepted (canonical plan) plan
 read_again bytes plan e =
-    let w = accepted_written bytes plan e in
-    let p : IsProper (plan_of w.last) = subst IsProper (sym w.its) (accepted_proper bytes plan e) in
-    subst (λ (x : Plan). IsAccepted (canonical x) x) w.its (text_reads w.last w.kept p)
+    let proper = accepted_proper bytes plan e in
+    read_rescheduled bytes plan plan.schedule e proper.schedule proper.scheduled

@@ -1,4 +1,5 @@
--- The lines of an open thread's operations lead, wherever its locks and channels are known, to that thread. Each line that the thread adds keeps this.
+-- The lines of an open thread's operations lead, wherever its locks and channels are known, to that thread. Each line
+-- that the thread adds keeps this.
 use Rattle.std.proofs.Common.{◌≡◌, ℕ, zero, suc, ◌+◌, ◌≤◌, Bool, true, false, ◌==◌, cond, List, [], ◌∷◌, ◌++◌, length, slice_get, slice_set, Some, refl, sym, ap, subst, ◌∙◌, arith, length-append, append_assoc, append-nil}
 use Rattle.std.specs.Prelude.{codes}
 use Rattle.std.specs.List.{All}

@@ -1,4 +1,5 @@
--- How a line of words is read: it is one line, its words are those, and each of its bytes may stand in a script. Names and decimal numbers are such words.
+-- How a line of words is read: it is one line, its words are those, and each of its bytes may stand in a script.
+-- Names and decimal numbers are such words.
 use Rattle.std.proofs.Common.{◌≡◌, ℕ, ◌+◌, ◌-◌, ◌*◌, ◌^◌, ◌<◌, ◌≤◌, Bool, true, false, not, ◌&&◌, ◌==◌, nat_le, List, [], ◌∷◌, ◌++◌, length, Some, decimal, refl, sym, ap, ◌∙◌, arith, append_assoc, append-nil, get_or, inl, inr}
 use Rattle.std.specs.Prelude.{fold}
 use Rattle.std.specs.List.{list_all, list_any}

@@ -8,4 +8,4 @@ mod CanonicalOperations
 mod CanonicalThreads
 mod CanonicalKept
 mod CanonicalDeclarations
-mod CanonicalTexts
+pub mod CanonicalTexts

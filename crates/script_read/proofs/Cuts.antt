@@ -102,10 +102,13 @@ all_twice : (bs : List ℕ) → list_all (λ b. not (not (is_printable b))) bs �
 all_twice [] = refl
 all_twice (b ∷ bs) = rw (twice (is_printable b), all_twice bs) refl
 
-pub printable-before : (bs : List ℕ) (i : ℕ) → position (λ b. not (is_printable b)) bs ≡ Some i → list_all is_printable (take i bs) ≡ true
+pub printable-before : (bs : List ℕ) (i : ℕ) → position (λ b. not (is_printable b)) bs ≡ Some i
+    → list_all is_printable (take i bs) ≡ true
 printable-before bs i h =
     let p = cond_some (nat_lt (prefix_len (λ b. not (not (is_printable b))) bs) (length bs)) _ i h in
-    sym (all_twice (take i bs)) ∙ subst (λ (n : ℕ). list_all (λ b. not (not (is_printable b))) (take n bs) ≡ true) p.1 (all_before (λ b. not (not (is_printable b))) bs)
+    sym (all_twice (take i bs))
+    ∙ subst (λ (n : ℕ). list_all (λ b. not (not (is_printable b))) (take n bs) ≡ true) p.1
+    (all_before (λ b. not (not (is_printable b))) bs)
 
 -- 2. Words
 
@@ -156,29 +159,36 @@ alone_more s bs = let w = words_are bs in none_either (list_any is_empty (words_
 
 pub one_more : (f : List ℕ → Statement) (w bs : List ℕ) → None ≡ said_by_words (WithOne f) (w ∷ words_of bs)
 unfolding said_by_words
-one_more f w bs = let v = words_are bs in none_either (list_any is_empty (w ∷ words_of bs)) _ (ap (λ (ws : List (List ℕ)). said (WithOne f) (w ∷ ws)) v.2)
+one_more f w bs = let v = words_are bs in
+    none_either (list_any is_empty (w ∷ words_of bs)) _ (ap (λ (ws : List (List ℕ)). said (WithOne f) (w ∷ ws)) v.2)
 
 -- where none of them is empty
-pub some_filled : (f : List (List ℕ) → Statement) (bs : List ℕ) → list_any is_empty (words_of bs) ≡ false → Some (f (words_of bs)) ≡ said_by_words (WithSome f) (words_of bs)
+pub some_filled : (f : List (List ℕ) → Statement) (bs : List ℕ) → list_any is_empty (words_of bs) ≡ false
+    → Some (f (words_of bs)) ≡ said_by_words (WithSome f) (words_of bs)
 unfolding said_by_words
 some_filled f bs e = let w = words_are bs in rw (e, w.2) refl
 
 -- the first of two words, and of three
-two_more : (f : List ℕ → List ℕ → Statement) (w : List ℕ) (ws : List (List ℕ)) → said (WithOne (f w)) ws ≡ said (WithTwo f) (w ∷ ws)
+two_more : (f : List ℕ → List ℕ → Statement) (w : List ℕ) (ws : List (List ℕ))
+    → said (WithOne (f w)) ws ≡ said (WithTwo f) (w ∷ ws)
 two_more f w [] = refl
 two_more f w (a ∷ []) = refl
 two_more f w (a ∷ b ∷ ws) = refl
 
-three_more : (f : List ℕ → List ℕ → List ℕ → Statement) (w : List ℕ) (ws : List (List ℕ)) → said (WithTwo (f w)) ws ≡ said (WithThree f) (w ∷ ws)
+three_more : (f : List ℕ → List ℕ → List ℕ → Statement) (w : List ℕ) (ws : List (List ℕ))
+    → said (WithTwo (f w)) ws ≡ said (WithThree f) (w ∷ ws)
 three_more f w [] = refl
 three_more f w (a ∷ []) = refl
 three_more f w (a ∷ b ∷ []) = refl
 three_more f w (a ∷ b ∷ c ∷ ws) = refl
 
-pub two_filled : (f : List ℕ → List ℕ → Statement) (w : List ℕ) (ws : List (List ℕ)) → is_empty w ≡ false → said_by_words (WithOne (f w)) ws ≡ said_by_words (WithTwo f) (w ∷ ws)
+pub two_filled : (f : List ℕ → List ℕ → Statement) (w : List ℕ) (ws : List (List ℕ)) → is_empty w ≡ false
+    → said_by_words (WithOne (f w)) ws ≡ said_by_words (WithTwo f) (w ∷ ws)
 unfolding said_by_words
 two_filled f w ws e = rw e (ap (λ (s : Option Statement). if list_any is_empty ws then None else s) (two_more f w ws))
 
-pub three_filled : (f : List ℕ → List ℕ → List ℕ → Statement) (w : List ℕ) (ws : List (List ℕ)) → is_empty w ≡ false → said_by_words (WithTwo (f w)) ws ≡ said_by_words (WithThree f) (w ∷ ws)
+pub three_filled : (f : List ℕ → List ℕ → List ℕ → Statement) (w : List ℕ) (ws : List (List ℕ)) → is_empty w ≡ false
+    → said_by_words (WithTwo (f w)) ws ≡ said_by_words (WithThree f) (w ∷ ws)
 unfolding said_by_words
-three_filled f w ws e = rw e (ap (λ (s : Option Statement). if list_any is_empty ws then None else s) (three_more f w ws))
+three_filled f w ws e =
+    rw e (ap (λ (s : Option Statement). if list_any is_empty ws then None else s) (three_more f w ws))

@@ -8,7 +8,8 @@ use Rattle.lock_state.specs.State.{State}
 use Rattle.sleep_laws.specs.Sleepers.{SleepersFit}
 
 -- as far as each lawful state keeps it
-pub legal_so_far : (at_work : ℕ → Option ℕ) (c : Config) (s : State) (is_run : Bool) → Lawful c s → SleepersFit at_work c s → HaltsOnlyWhenRunning is_run s.history → IsLegalSoFar c is_run s.history
+pub legal_so_far : (at_work : ℕ → Option ℕ) (c : Config) (s : State) (is_run : Bool) → Lawful c s
+    → SleepersFit at_work c s → HaltsOnlyWhenRunning is_run s.history → IsLegalSoFar c is_run s.history
 legal_so_far at_work c s is_run h k halts = record {
   tickets_run = h.books.tickets_run;
   sections_exclude = h.books.sections_exclude;

@@ -29,7 +29,10 @@ use Rattle.lock_state.specs.Facts.Sleeps.{aborted}
 use Rattle.lock_laws.proofs.Kit.{sum_below-zero}
 
 pub begins : (at_work : ℕ → Option ℕ) (c : Config) → SleepersFit at_work c (start_state c)
-unfolding start_state NamedAreWoken MarksAreSignals WokenBySignal NoSleepIsHalted SleepersSlept WokenSlept ResumedSlept SleepersWantNothing SleepersAreUnwoken AsleepStandThere AsleepAreOnTheirWay SleepersInOrder LatecomersAreLater SleepersKeepBase SleepersAreExclusive UnnotedAreMarked UnnotedIsAtWork UnnotedIsFair WakingsNameSleepers AbortedSleep SleepersAreUnhalted PassedOverAreAborted aborted is_asleep is_named is_passed_over
+unfolding start_state NamedAreWoken MarksAreSignals WokenBySignal NoSleepIsHalted SleepersSlept WokenSlept ResumedSlept
+    SleepersWantNothing SleepersAreUnwoken AsleepStandThere AsleepAreOnTheirWay SleepersInOrder LatecomersAreLater
+    SleepersKeepBase SleepersAreExclusive UnnotedAreMarked UnnotedIsAtWork UnnotedIsFair WakingsNameSleepers
+    AbortedSleep SleepersAreUnhalted PassedOverAreAborted aborted is_asleep is_named is_passed_over
 begins at_work c = record {
   named_are_woken = λ t. let z = sum_below-zero c.threads (λ u. 0) (λ u l. refl) in omega (arith);
   aborted_sleep = λ t. let z = sum_below-zero c.threads (λ u. 0) (λ u l. refl) in omega (arith);

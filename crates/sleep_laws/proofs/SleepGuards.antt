@@ -1,6 +1,6 @@
--- The guards of sleeps can be met: p takes a mutex and sleeps on a channel with it, q wakes it, and p takes the mutex back.
--- And they refuse a sleeper with a closed section, a gain before the add, and a look at another lock in a round or in a
--- release's section.
+-- The guards of sleeps can be met: p takes a mutex and sleeps on a channel with it, q wakes it, and p takes the mutex
+-- back. And they refuse a sleeper with a closed section, a gain before the add, and a look at another lock in a round
+-- or in a release's section.
 use Rattle.std.proofs.Common.{◌≡◌, ℕ, Bool, true, false, cond, eqb, List, [], ◌∷◌, ◌++◌, Option, Some, None, refl, sym, ◌∙◌, inl, inr, arith}
 use Rattle.lock_model.specs.Config.{Config}
 use Rattle.lock_model.specs.Counts.{sum_below, least}
@@ -286,10 +286,12 @@ waking_may = (
                       counts = refl;
                       of_round = λ e. refl;
                       in_chain = λ i x e. absurd
-                          (none_out (put (put there 0 (Some 1)) 0 None) (put (put there 0 (Some 1)) 0 None) again again i 0
+                          (none_out (put (put there 0 (Some 1)) 0 None) (put (put there 0 (Some 1)) 0 None) again again
+                          i 0
                           e);
                       outside = λ i n x e. absurd
-                          (none_out (put (put there 0 (Some 1)) 0 None) (put (put there 0 (Some 1)) 0 None) again again i 0
+                          (none_out (put (put there 0 (Some 1)) 0 None) (put (put there 0 (Some 1)) 0 None) again again
+                          i 0
                           e);
                       halting = λ e. absurd cc;
                     };

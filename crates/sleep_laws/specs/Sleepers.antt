@@ -7,7 +7,29 @@ use Rattle.lock_model.specs.Queues.{chan_queue, stands}
 use Rattle.lock_state.specs.State.{State, Wake}
 use Rattle.lock_state.specs.Steps.{Step, Halts, EachStep, AsksOfSleepers}
 use Rattle.lock_state.specs.Facts.Waits.{times_marked}
-unfoldable pub use Rattle.lock_state.specs.Facts.Sleeps.{NamedAreWoken, MarksAreSignals, WokenBySignal, NoSleepIsHalted, AbortedSleep, SleepersSlept, WokenSlept, ResumedSlept, SleepersWantNothing, SleepersAreUnwoken, SleepersAreUnhalted, AsleepStandThere, AsleepAreOnTheirWay, SleepersInOrder, LatecomersAreLater, SleepersKeepBase, SleepersAreExclusive, UnnotedAreMarked, UnnotedIsAtWork, UnnotedIsFair, PassedOverAreAborted}
+unfoldable pub use Rattle.lock_state.specs.Facts.Sleeps.{
+  NamedAreWoken,
+  MarksAreSignals,
+  WokenBySignal,
+  NoSleepIsHalted,
+  AbortedSleep,
+  SleepersSlept,
+  WokenSlept,
+  ResumedSlept,
+  SleepersWantNothing,
+  SleepersAreUnwoken,
+  SleepersAreUnhalted,
+  AsleepStandThere,
+  AsleepAreOnTheirWay,
+  SleepersInOrder,
+  LatecomersAreLater,
+  SleepersKeepBase,
+  SleepersAreExclusive,
+  UnnotedAreMarked,
+  UnnotedIsAtWork,
+  UnnotedIsFair,
+  PassedOverAreAborted,
+}
 use Rattle.lock_state.specs.Facts.Sleeps.{aborted}
 
 -- who is at work on each channel of a running floor: the thread that has its chain out

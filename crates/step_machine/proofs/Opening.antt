@@ -1,5 +1,5 @@
--- Those who stand on a queue are taken off it: waiters of a lock by its last holder's release, and sleepers of a channel
--- by a wake.
+-- Those who stand on a queue are taken off it: waiters of a lock by its last holder's release, and sleepers of a
+-- channel by a wake.
 use Rattle.std.proofs.Common.{◌≡◌, ℕ, ◌≤◌, ◌<◌, ◌^◌, Bool, true, false, cond, List, map, slice_get, Option, Some, None, IsSome, refl, sym, ap, subst, ◌∙◌, arith}
 use Rattle.std.specs.List.{All}
 use Rattle.std.specs.Vec.{with_item, vec_capacity}

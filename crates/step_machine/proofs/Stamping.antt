@@ -1,4 +1,5 @@
--- An entry of the history is made, with what it says of a table, of a thread's base priority, of its wait, or of its being cut.
+-- An entry of the history is made, with what it says of a table, of a thread's base priority, of its wait, or of its
+-- being cut.
 use Rattle.std.proofs.Common.{◌≡◌, ℕ, ◌<◌, ◌≤◌, Bool, ◌||◌, List, [], ◌∷◌, ◌++◌, length, reverse, slice_get, slice_set, Option, Some, None, option_map, refl, sym, ap, subst, ◌∙◌}
 use Rattle.std.proofs.lemmas.List.{reverse-append, length-reverse}
 use Rattle.std.specs.Box.{with_value}
@@ -34,7 +35,9 @@ use Rattle.step_machine.proofs.Kit.{OthersStay, thread_changed, record_of, aside
 abbrev pub noted : Thread → Option ChanNo → Bool → Record → Thread
 noted th waits_on cut r = record th { «record» = with_value th.record r; waits_on = waits_on; cut = cut }
 
-pub is_noted : (e : Event) (t i : ℕ) (ths : List Thread) (th : Thread) (w : Option ChanNo) (b : Bool) (r : Record) → i ≡ t → slice_get ths t ≡ Some th → option_map (λ d. d.0) w ≡ fell_asleep (of_sleep e) → b ≡ (is_reversal e || th.cut) → r ≡ with_given_base (new_base e) th.record.value
+pub is_noted : (e : Event) (t i : ℕ) (ths : List Thread) (th : Thread) (w : Option ChanNo) (b : Bool) (r : Record)
+    → i ≡ t → slice_get ths t ≡ Some th → option_map (λ d. d.0) w ≡ fell_asleep (of_sleep e)
+    → b ≡ (is_reversal e || th.cut) → r ≡ with_given_base (new_base e) th.record.value
     → IsNoted e t ths (slice_set ths i (noted th w b r))
 is_noted e t i ths th w b r at was waits cut new = record {
   before = th;
@@ -48,10 +51,12 @@ is_noted e t i ths th w b r at was waits cut new = record {
 }
 
 -- an event that gives a base sets that of the record, and any other event leaves the record as it is
-pub base_set : (e : Event) (o : Option Prio) (p : Prio) (r : Record) → option_map (λ q. q.0) o ≡ new_base e → o ≡ Some p → with_base p.0 r ≡ with_given_base (new_base e) r
+pub base_set : (e : Event) (o : Option Prio) (p : Prio) (r : Record) → option_map (λ q. q.0) o ≡ new_base e → o ≡ Some p
+    → with_base p.0 r ≡ with_given_base (new_base e) r
 base_set e o p r given is = ap (λ b. with_given_base b r) (sym (ap (option_map (λ q. q.0)) is) ∙ given)
 
-pub no_base_set : (e : Event) (o : Option Prio) (r : Record) → option_map (λ q. q.0) o ≡ new_base e → ((p : Prio) → o ≡ Some p → ⊥) → r ≡ with_given_base (new_base e) r
+pub no_base_set : (e : Event) (o : Option Prio) (r : Record) → option_map (λ q. q.0) o ≡ new_base e
+    → ((p : Prio) → o ≡ Some p → ⊥) → r ≡ with_given_base (new_base e) r
 no_base_set e None r given none = ap (λ b. with_given_base b r) given
 no_base_set e (Some p) r given none = absurd (none p refl)
 
@@ -66,7 +71,8 @@ module _ (c : Config) (s : State) (t : ℕ) where
   others e u ne = λ i. record (thread_in s u) { chan = waits_on (put_other s.log t (entry_of s t e ∷ s.log t) u (λ e. ne (sym e)) i); cut = has_reversal (put_other s.log t (entry_of s t e ∷ s.log t) u (λ e. ne (sym e)) i) }
 
   -- the record behind an event shows the columns behind it
-  record_noted : (e : Event) (b r : Record) → Lawful c s → RepresentsRecord b (record_in s t) → r ≡ with_given_base (new_base e) b → RepresentsRecord r (record_in (after_stamp c s t e) t)
+  record_noted : (e : Event) (b r : Record) → Lawful c s → RepresentsRecord b (record_in s t)
+      → r ≡ with_given_base (new_base e) b → RepresentsRecord r (record_in (after_stamp c s t e) t)
   unfolding after_stamp
   record_noted (Base p) b r lawful old is =
       let rec = with_other_base c p.0 (none_beyond c s t lawful) old in

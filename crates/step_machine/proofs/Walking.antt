@@ -1,4 +1,5 @@
--- The hops of a lending walk: the owner of a lock is lent the best priority of those who wait, and one who waits is sorted anew.
+-- The hops of a lending walk: the owner of a lock is lent the best priority of those who wait, and one who waits is
+-- sorted anew.
 use Rattle.std.proofs.Common.{◌≡◌, ℕ, ◌<◌, List, get_or, slice_get, slice_set, Option, Some, refl, sym, ap, ◌∙◌}
 use Rattle.std.specs.Prelude.{◌==◌, not, ◌&&◌}
 use Rattle.std.specs.Box.{with_value}

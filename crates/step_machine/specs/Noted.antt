@@ -6,8 +6,8 @@ use Rattle.lock_model.specs.declared.event.Event.{Event}
 use Rattle.thread_records.specs.Records.{with_given_base}
 use Rattle.step_machine.specs.declared.thread.Thread.{Thread}
 
--- One thread changes: its record is the one behind the event, it waits exactly where the event is that it goes to sleep,
--- and it was cut where it was before or the event is the refusal of a take.
+-- One thread changes: its record is the one behind the event, it waits exactly where the event is that it goes to
+-- sleep, and it was cut where it was before or the event is the refusal of a take.
 pub record IsNoted (event : Event) (t : ℕ) (old new : List Thread) : Type 0 where
   pub before : Thread
   pub behind : Thread

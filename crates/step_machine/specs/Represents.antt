@@ -34,8 +34,8 @@ pub record RepresentsWords (words : List ℕ) (c : Config) (column : ℕ → Wor
 
 -- 2. Threads
 
--- what the columns say of a thread, whether it has a lock to gain, and by its log on which channel it waits, and whether
--- it was cut
+-- what the columns say of a thread, whether it has a lock to gain, and by its log on which channel it waits, and
+-- whether it was cut
 pub record ThreadColumns : Type 0 where
   pub its_record : RecordColumns
   pub wait : state.Wait

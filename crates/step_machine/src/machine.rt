@@ -47,7 +47,8 @@ pub struct Machine {
 }
 
 impl Machine {
-    /// All objects at home, all locks free, no order of locks, and memory for every entry that the plan's operations can make.
+    /// All objects at home, all locks free, no order of locks, and memory for every entry that the plan's operations
+    /// can make.
     pub fn make(alloc: Global, plan: &Plan) -> Result<Machine, AllocError>
         requires { IsProper plan.now }
         ensures { IfOk result (λ m. RepresentsRun plan.now m (start_run (config_of plan.now))) }

@@ -232,9 +232,18 @@ module _ {plan : Plan} {m : Machine} {t : ℕ} {r : Run} (p : IsProper plan) (lt
   pub is_take : {l : LockNo} {mode : Mode} {op : Op} {e : Event} → Taking plan r t l mode op e → IsAtOperation plan r t (Some op) → IsTake plan r t l mode e
   is_take {l} {mode} {op} {e} by at =
       let f = its (by_taking by) at in
-      record { op = op; at = at; taken = action by; lock = f.lock; kind = f.mutex; few = few_so _ f.adds; holds_more = f.adds }
+      record {
+        op = op;
+        at = at;
+        taken = action by;
+        lock = f.lock;
+        kind = f.mutex;
+        few = few_so _ f.adds;
+        holds_more = f.adds;
+      }
     where
-      action : {k : LockNo} {x : Mode} {o : Op} {v : Event} → Taking plan r t k x o v → operates c r t (Some o) ≡ takes c r t k x v
+      action : {k : LockNo} {x : Mode} {o : Op} {v : Event} → Taking plan r t k x o v
+          → operates c r t (Some o) ≡ takes c r t k x v
       action (anew k x n w) = rw w refl
       action (back d b w) = rw w refl
 
@@ -262,11 +271,13 @@ module _ {plan : Plan} {m : Machine} {t : ℕ} {r : Run} (p : IsProper plan) (lt
         go (Some a) f = subst (λ (hs : List Held). length hs < 8) (sym f.held) g.few
 
     -- plainly,
-    pub gains_action : is_plain (c.kind l.0) (s.word l.0) mode ≡ true → Begins plan r t m (ends r t kinds.Gain (Gains t l.0 mode by_try ∷ Stamps t e ∷ []))
+    pub gains_action : is_plain (c.kind l.0) (s.word l.0) mode ≡ true
+        → Begins plan r t m (ends r t kinds.Gain (Gains t l.0 mode by_try ∷ Stamps t e ∷ []))
     gains_action i = begins p lt h (makes_operation plan r t g.op g.at ∙ g.gained ∙ rw i refl)
 
     pub gained : {n : Machine} (i : is_plain (c.kind l.0) (s.word l.0) mode ≡ true)
-        → IsTurning plan r t n (after_all c s (Gains t l.0 mode by_try ∷ Stamps t e ∷ [])) (holding l mode by_try (gains_action i).at) [] → IsMade plan r t n (Ends kinds.Gain)
+        → IsTurning plan r t n (after_all c s (Gains t l.0 mode by_try ∷ Stamps t e ∷ []))
+        (holding l mode by_try (gains_action i).at) [] → IsMade plan r t n (Ends kinds.Gain)
     unfolding after_gain
     gained i now =
         let b = gains_action i in
@@ -277,11 +288,13 @@ module _ {plan : Plan} {m : Machine} {t : ℕ} {r : Run} (p : IsProper plan) (lt
     abbrev head : ℕ
     head = unwrap_or (s.head (lock_queue l.0)) t
 
-    pub claims_action : is_plain (c.kind l.0) (s.word l.0) mode ≡ false → Begins plan r t m (ends r t kinds.Claim (Claims t l.0 head by_try ∷ Stamps t e ∷ []))
+    pub claims_action : is_plain (c.kind l.0) (s.word l.0) mode ≡ false
+        → Begins plan r t m (ends r t kinds.Claim (Claims t l.0 head by_try ∷ Stamps t e ∷ []))
     claims_action i = begins p lt h (makes_operation plan r t g.op g.at ∙ g.gained ∙ rw i refl)
 
     pub claimed : {n : Machine} (i : is_plain (c.kind l.0) (s.word l.0) mode ≡ false)
-        → IsTurning plan r t n (after_all c s (Claims t l.0 head by_try ∷ Stamps t e ∷ [])) (holding l Excl by_try (claims_action i).at) [] → IsMade plan r t n (Ends kinds.Claim)
+        → IsTurning plan r t n (after_all c s (Claims t l.0 head by_try ∷ Stamps t e ∷ []))
+        (holding l Excl by_try (claims_action i).at) [] → IsMade plan r t n (Ends kinds.Claim)
     unfolding after_claim
     claimed i now =
         let b = claims_action i in
@@ -313,7 +326,8 @@ module _ {plan : Plan} {m : Machine} {t : ℕ} {r : Run} (p : IsProper plan) (lt
     pub blocks_action : Begins plan r t m (does kinds.Enter blocking)
     blocks_action = begins p lt h (makes_operation plan r t g.op g.at ∙ g.taken ∙ rw a blocks_by)
 
-    pub blocked : {n : Machine} → IsTurning plan r t n (after_all c s blocking) blocks_action.at [] → IsMade plan r t n (Does (Did kinds.Enter))
+    pub blocked : {n : Machine} → IsTurning plan r t n (after_all c s blocking) blocks_action.at []
+        → IsMade plan r t n (Does (Did kinds.Enter))
     unfolding after_ready after_enter after_enter_sleep
     blocked now = made_still blocks_action now (ap (λ f. f t) stays.0) (ap (λ f. f t) stays.1) (ap (λ f. f t) stays.2)
       where
@@ -333,7 +347,8 @@ module _ {plan : Plan} {m : Machine} {t : ℕ} {r : Run} (p : IsProper plan) (lt
     pub busy_action : Begins plan r t m (record { answer = Did kinds.Note; steps = busy; next = Some past })
     busy_action = begins p lt h (makes_operation plan r t (Try l mode past) at ∙ rw (a, ← e, bits_again w) refl)
 
-    pub found_busy : {n : Machine} → IsTurning plan r t n (after_all c s busy) busy_action.at [] → IsMade plan r t n (Skips past)
+    pub found_busy : {n : Machine} → IsTurning plan r t n (after_all c s busy) busy_action.at []
+        → IsMade plan r t n (Skips past)
     unfolding after_look
     found_busy now =
         let b = busy_action in
@@ -423,8 +438,10 @@ module _ {plan : Plan} {m : Machine} {t : ℕ} {r : Run} (p : IsProper plan) (lt
       pub some_left : s.held_locks t ≢ []
       some_left z = absurd (let e : [] ≡ listed x ∷ gained_order hs = sym z ∙ listed_last in cc)
 
-      pub gives_last_action : Begins plan r t m (does (back_in c s t x.l.0 mode_of_last).0 (unlocks c s t x.l mode_of_last))
-      gives_last_action = begins p lt h (goes_by_wait plan r t g.going g.cut.free ∙ rw (g.cut.running, g.cut.cut, listed_last) refl)
+      pub gives_last_action : Begins plan r t m
+          (does (back_in c s t x.l.0 mode_of_last).0 (unlocks c s t x.l mode_of_last))
+      gives_last_action = begins p lt h
+          (goes_by_wait plan r t g.going g.cut.free ∙ rw (g.cut.running, g.cut.cut, listed_last) refl)
 
       pub gave_last : {n : Machine} {kind : StepKind} → Unlocks plan m n t x.l kind → ChangesProgress m n t (with_released x.l.0) → SameRoom m n → IsTurn plan r t n (Did kind)
       gave_last {n} gave moves room =

@@ -101,5 +101,6 @@ module _ {plan : Plan} {m : Machine} {r : Run} {t : ℕ} {op : Op} (p : IsProper
 
 -- 4. The action of an operation that only makes an entry
 
-pub notes_action : {plan : Plan} {m : Machine} {r : Run} {t : ℕ} {e : Event} → IsProper plan → t < length plan.threads → IsRunOf plan m r → IsNote plan r t e → Begins plan r t m (notes r t e)
+pub notes_action : {plan : Plan} {m : Machine} {r : Run} {t : ℕ} {e : Event} → IsProper plan → t < length plan.threads
+    → IsRunOf plan m r → IsNote plan r t e → Begins plan r t m (notes r t e)
 notes_action {plan} {r = r} {t = t} p lt h n = begins p lt h (makes_operation plan r t n.op n.at ∙ n.noted)

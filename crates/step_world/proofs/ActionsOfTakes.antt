@@ -246,7 +246,8 @@ module _ {plan : Plan} {t : ℕ} {r : Run} {l : LockNo} {mode : Mode} (p : IsPro
   module _ {m : Machine} (result : Made) (none : first_against plan r t l ≡ None) (g : IsMade plan then t m result) where
     action_is : turn_of plan r t ≡ action_of result (r.next_op t) (Admits t l.0 ∷ g.steps)
     unfolding after_admit
-    action_is = makes_operation plan r t (Take l mode) b.at ∙ rw (b.wants, none) refl ∙ ap (λ (x : Action). record x { steps = Admits t l.0 ∷ x.steps }) (sym turn_then ∙ g.action)
+    action_is = makes_operation plan r t (Take l mode) b.at ∙ rw (b.wants, none) refl
+        ∙ ap (λ (x : Action). record x { steps = Admits t l.0 ∷ x.steps }) (sym turn_then ∙ g.action)
 
     same_behind : run_behind plan then t ≡ run_behind plan r t
     unfolding run_behind after_admit
@@ -272,7 +273,9 @@ module _ {plan : Plan} {m : Machine} {t : ℕ} {r : Run} {l : LockNo} {mode : Mo
   pub refused_action : Begins plan r t m (does kinds.Note (refuses t l class))
   refused_action = begins p lt h (makes_operation plan r t (Take l mode) b.at ∙ rw (b.wants, against) refl)
 
-  refused_then : {n : Machine} → IsTurning plan r t n (after_all (config_of plan) r.state (refuses t l class)) refused_action.at [] → IsMade plan r t n (Does (Did kinds.Note))
+  refused_then : {n : Machine}
+      → IsTurning plan r t n (after_all (config_of plan) r.state (refuses t l class)) refused_action.at []
+      → IsMade plan r t n (Does (Did kinds.Note))
   unfolding after_stamp after_refuse
   refused_then now =
       let x = refused_action in
@@ -284,11 +287,14 @@ module _ {plan : Plan} {m : Machine} {t : ℕ} {r : Run} {l : LockNo} {mode : Mo
   -- by a machine that is the same
   module _ {old : Machine} (same : old ≡ m) where
     pub may_refuse : May old (λ d s. MayAll d s (refuses t l class))
-    may_refuse = subst (λ x. May x (λ d s. MayAll d s (refuses t l class))) (sym same) (may_by refused_action.turning _ refused_action.turning.may)
+    may_refuse = subst (λ x. May x (λ d s. MayAll d s (refuses t l class))) (sym same)
+        (may_by refused_action.turning _ refused_action.turning.may)
 
     pub room_for_refusal : 1 ≤ old.log.spare
     room_for_refusal = subst (λ (x : Machine). 1 ≤ x.log.spare) (sym same) (has_room p lt h b.at)
 
     pub refused : {n : Machine} → MakesAllWhere (λ d. Unit {0}) old n (refuses t l class) → KeepsProgress old n → SameRoom old n → IsMade plan r t n (Does (Did kinds.Note))
     refused {n} makes kept room =
-        refused_then (made_all refused_action.turning tt (subst (λ (x : Machine). MakesAllWhere (λ d. Unit {0}) x n (refuses t l class)) same makes) (subst (λ (x : Machine). KeepsProgress x n) same kept) (subst (λ (x : Machine). SameRoom x n) same room))
+        refused_then (made_all refused_action.turning tt
+        (subst (λ (x : Machine). MakesAllWhere (λ d. Unit {0}) x n (refuses t l class)) same makes)
+        (subst (λ (x : Machine). KeepsProgress x n) same kept) (subst (λ (x : Machine). SameRoom x n) same room))

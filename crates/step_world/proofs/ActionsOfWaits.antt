@@ -223,7 +223,8 @@ module _ {plan : Plan} {m : Machine} {t : ℕ} {r : Run} (p : IsProper plan) (lt
           };
         }
 
-        pub fallen_asleep : {x : Machine} → IsTurning plan r t x asleep sleeps_action.at [] → IsMade plan r t x (Does (Did kinds.Add))
+        pub fallen_asleep : {x : Machine} → IsTurning plan r t x asleep sleeps_action.at []
+            → IsMade plan r t x (Does (Did kinds.Add))
         fallen_asleep now =
             made (Does (Did kinds.Add)) sleeps_action now (gone_to_sleep sleeps_action.at sleeps_action.as_far)
 
@@ -244,7 +245,9 @@ module _ {plan : Plan} {m : Machine} {t : ℕ} {r : Run} (p : IsProper plan) (lt
     waking = Wakes t d.0 all ∷ Stamps t noted ∷ []
 
     pub wakes_action : Begins plan r t m (ends r t kinds.Wake waking)
-    wakes_action = begins p lt h (go all w ∙ ap (λ x. ends r t kinds.Wake (Wakes t d.0 all ∷ Stamps t x ∷ [])) (ap (noting d all) (sym bits) ∙ sym e))
+    wakes_action = begins p lt h
+        (go all w ∙ ap (λ x. ends r t kinds.Wake (Wakes t d.0 all ∷ Stamps t x ∷ []))
+        (ap (noting d all) (sym bits) ∙ sym e))
       where
         go : (b : Bool) → IsWake plan r t d b → turn_of plan r t ≡ ends r t kinds.Wake (Wakes t d.0 b ∷ Stamps t (noting d b (bits_of_threads (map (λ (x : Waiter). x.thread) (taken_off b (s.lists (chan_queue d.0)).exclusive)))) ∷ [])
         go true at = makes_operation plan r t (WakeAll d) at
@@ -258,7 +261,8 @@ module _ {plan : Plan} {m : Machine} {t : ℕ} {r : Run} (p : IsProper plan) (lt
         go true at = (at.running, is_awake plan r t h.on_track (WakeAll d) at refl, (fit plan r t p (WakeAll d) at.next).behind)
         go false at = (at.running, is_awake plan r t h.on_track (WakeOne d) at refl, (fit plan r t p (WakeOne d) at.next).behind)
 
-    pub woke : {x : Machine} → IsTurning plan r t x (after_all c s waking) wakes_action.at [] → IsMade plan r t x (Ends kinds.Wake)
+    pub woke : {x : Machine} → IsTurning plan r t x (after_all c s waking) wakes_action.at []
+        → IsMade plan r t x (Ends kinds.Wake)
     unfolding after_wake
     woke now =
         let b = wakes_action in

@@ -67,7 +67,8 @@ pub others_still : (plan : Plan) (r : Run) (t u : ℕ) → u ≢ t → SameFar r
 unfolding run_behind
 others_still plan r t u n =
     let ne : t ≡ u → ⊥ = λ e. n (sym e) in
-    let share = all_leave (config_of plan) u t r.state (turn_of plan r t).steps ne (own_steps plan r t (turn_of plan r t) (actions.fits plan r t)) in
+    let share = all_leave (config_of plan) u t r.state (turn_of plan r t).steps ne
+    (own_steps plan r t (turn_of plan r t) (actions.fits plan r t)) in
     record { next_op = other_next plan r t u ne (turn_of plan r t).next; held = share.held; listed = share.held_locks; log = share.log }
 
 -- 3. Entries

@@ -51,12 +51,12 @@ none_where_empty plan (h ∷ hs) a =
 
 -- 2. What is owed
 
-no_walk : (w : walks.Walk) → has_no_walk w ≡ not (is_walking (walk_of w))
+pub no_walk : (w : walks.Walk) → has_no_walk w ≡ not (is_walking (walk_of w))
 no_walk walk.None = refl
 no_walk (walk.AtLock l) = refl
 no_walk (walk.AtThread t) = refl
 
-same_empty : {A B : Type 0} (f : A → B) (xs : List A) → is_empty xs ≡ is_empty (map f xs)
+pub same_empty : {A B : Type 0} (f : A → B) (xs : List A) → is_empty xs ≡ is_empty (map f xs)
 same_empty f [] = refl
 same_empty f (x ∷ xs) = refl
 

@@ -14,3 +14,4 @@ pub mod Outcomes
 pub mod OneTurn
 pub mod Printed
 pub mod Telling
+pub mod Owing

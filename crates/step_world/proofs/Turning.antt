@@ -140,7 +140,8 @@ pub record Begins (plan : Plan) (r : Run) (t : ℕ) (m : Machine) (action : Acti
   pub as_far : IsAsFar plan r t at
   pub turning : IsTurning plan r t m r.state at action.steps
 
-pub begins : {plan : Plan} {m : Machine} {r : Run} {t : ℕ} {action : Action} → IsProper plan → t < length plan.threads → IsRunOf plan m r → turn_of plan r t ≡ action → Begins plan r t m action
+pub begins : {plan : Plan} {m : Machine} {r : Run} {t : ℕ} {action : Action} → IsProper plan → t < length plan.threads
+    → IsRunOf plan m r → turn_of plan r t ≡ action → Begins plan r t m action
 begins {plan} {m} {r} {t} {action} p lt h e =
     let own = that_is (progress m t) (h.shows.progress t lt) in
     record {
@@ -209,18 +210,25 @@ has_room_cut {plan} {r} {t} {m} p lt h cut some =
 -- a turn that does nothing
 pub still : (plan : Plan) (r : Run) (t : ℕ) {m : Machine} (answer : Turn) → turn_of plan r t ≡ nothing answer → RepresentsRun plan m r → IsTurn plan r t m answer
 unfolding run_behind
-still plan r t {m} answer e h = (sym (ap (λ (x : Action). x.answer) e), subst (λ (x : Action). RepresentsRun plan m (run_after plan r t x)) (sym e) h)
+still plan r t {m} answer e h = (
+  sym (ap (λ (x : Action). x.answer) e),
+  subst (λ (x : Action). RepresentsRun plan m (run_after plan r t x)) (sym e)
+      h,
+)
 
 -- the action is made, and the thread is as far as the run behind it says, before it goes on
-pub made : {plan : Plan} {r : Run} {t : ℕ} {m n : Machine} {steps : List Step} {a : Progress} (result : Made) → Begins plan r t m (action_of result (r.next_op t) steps)
-    → IsTurning plan r t n (after_all (config_of plan) r.state steps) a [] → IsBehind plan r (run_after plan r t (action_of result (r.next_op t) steps)) t a → IsMade plan r t n result
+pub made : {plan : Plan} {r : Run} {t : ℕ} {m n : Machine} {steps : List Step} {a : Progress} (result : Made)
+    → Begins plan r t m (action_of result (r.next_op t) steps)
+    → IsTurning plan r t n (after_all (config_of plan) r.state steps) a []
+    → IsBehind plan r (run_after plan r t (action_of result (r.next_op t) steps)) t a → IsMade plan r t n result
 unfolding run_behind
 made {plan} {r} {t} {n = n} {steps = steps} {a = a} result b h far = record {
   steps = steps;
   action = b.is;
   shows = h.shows;
   aside = record {
-    own = is_such (IsBehind plan r (run_behind plan r t) t) a h.aside.own (subst (λ (x : Action). IsBehind plan r (run_after plan r t x) t a) (sym b.is) far);
+    own = is_such (IsBehind plan r (run_behind plan r t) t) a h.aside.own
+        (subst (λ (x : Action). IsBehind plan r (run_after plan r t x) t a) (sym b.is) far);
     others = h.aside.others;
     room = h.aside.room;
     keys = h.aside.keys;
@@ -228,14 +236,17 @@ made {plan} {r} {t} {n = n} {steps = steps} {a = a} result b h far = record {
 }
 
 -- an action that leaves the operation to make, and what says how far the thread is,
-pub made_still : {plan : Plan} {r : Run} {t : ℕ} {m n : Machine} {steps : List Step} {answer : Turn} (b : Begins plan r t m (action_of (Does answer) (r.next_op t) steps))
+pub made_still : {plan : Plan} {r : Run} {t : ℕ} {m n : Machine} {steps : List Step} {answer : Turn}
+    (b : Begins plan r t m (action_of (Does answer) (r.next_op t) steps))
     → IsTurning plan r t n (after_all (config_of plan) r.state steps) b.at [] → (after_all (config_of plan) r.state steps).held t ≡ r.state.held t
     → (after_all (config_of plan) r.state steps).held_locks t ≡ r.state.held_locks t → (after_all (config_of plan) r.state steps).log t ≡ r.state.log t → IsMade plan r t n (Does answer)
 made_still {answer = answer} b h held listed log = made (Does answer) b h (behind_still (record { next_op = refl; held = held; listed = listed; log = log }) b.as_far)
 
 -- and one that ends it, where the thread holds what it is to go on with
 pub made_behind : {plan : Plan} {r : Run} {t : ℕ} {m n : Machine} {steps : List Step} {a : Progress} (result : Made) (k : ℕ) → next_of result (r.next_op t) ≡ Some k
-    → Begins plan r t m (action_of result (r.next_op t) steps) → IsTurning plan r t n (after_all (config_of plan) r.state steps) a [] → IsAwake (after_all (config_of plan) r.state steps) t
+    → Begins plan r t m (action_of result (r.next_op t) steps)
+    → IsTurning plan r t n (after_all (config_of plan) r.state steps) a []
+    → IsAwake (after_all (config_of plan) r.state steps) t
     → a.next_op ≡ r.next_op t → a.held ≡ held_at plan t k → IsMade plan r t n result
 made_behind {plan} {r} {t} {a = a} result k next b h up same held =
     made result b h (behind_made up same (held ∙ sym (next_holds (operations_of plan t) k)
@@ -256,7 +267,8 @@ module _ (plan : Plan) (r : Run) (t : ℕ) (m : Machine) (result : Made) (h : Is
   -- what represents the state behind it
   shown : (w : Machine) → Represents (config_of plan) w (after_all (config_of plan) r.state h.steps) → Represents (config_of plan) w n.state
   unfolding run_behind
-  shown w x = subst (λ (action : Action). Represents (config_of plan) w (after_all (config_of plan) r.state action.steps)) (sym h.action) x
+  shown w x = subst (λ (action : Action). Represents (config_of plan) w
+      (after_all (config_of plan) r.state action.steps)) (sym h.action) x
 
   -- the other threads are as far as the run behind it says
   others : (u : ℕ) → u < length plan.threads → u ≢ t → IsSomeAnd (progress m u) (IsAsFar plan n u)
@@ -303,7 +315,9 @@ pub within : {plan : Plan} {r : Run} {t : ℕ} {m n : Machine} (result : Made) (
 unfolding run_behind
 within {plan} {r} {t} result k p h lt its next =
     let ops = operations_of plan t in
-    let there : (run_behind plan r t).next_op t ≡ next_at ops k = ap (λ (x : Action). next_ops ops r.next_op t x.next t) its.action ∙ ap (λ (o : Option ℕ). next_ops ops r.next_op t o t) next ∙ put_same r.next_op t (next_at ops k) in
+    let there : (run_behind plan r t).next_op t ≡ next_at ops k =
+    ap (λ (x : Action). next_ops ops r.next_op t x.next t) its.action
+    ∙ ap (λ (o : Option ℕ). next_ops ops r.next_op t o t) next ∙ put_same r.next_op t (next_at ops k) in
     omega (arith, (turned plan r t p h.on_track lt).within t, there)
 
 -- 7. A turn of one step, behind which the operation is still to make

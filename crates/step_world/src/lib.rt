@@ -7,8 +7,8 @@
 //! next operation. `run_laws` shows that each step may be made and keeps the state lawful. `step_machine` shows
 //! that each method of the machine is a step, and this crate that a turn calls the methods of its action.
 //!
-//! A take's first turn checks the order of its lock in the graph of `witness_orders`. Where it is refused, its thread is
-//! cut: it makes no other operation, gives back what it holds, the lock gained last first, and ends.
+//! A take's first turn checks the order of its lock in the graph of `witness_orders`. Where it is refused, its thread
+//! is cut: it makes no other operation, gives back what it holds, the lock gained last first, and ends.
 //!
 //! - `world`: the world and its turns. After `World::make` no turn takes memory.
 //! - `schedule`: the run by a plan's schedule and then in rounds, to its outcome.

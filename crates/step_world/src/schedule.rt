@@ -19,10 +19,10 @@ use std::alloc::{AllocError, Global};
 use std::marker::Model;
 
 /// The scheduled run of a plan: the turns of its schedule, and then rounds over the threads that haven't ended, by
-/// number. Where all threads have ended it ends `Reversed` if a take was refused for its order, and else `Done`; it ends
-/// `Stuck` where a whole round was idle, and else `TooLong` where the allowed turns were made. Its history is legal, and
-/// whole unless it ended `Stuck` or `TooLong`. There are 1 to 64 chains of each sort, of which only the printed slots
-/// tell, and 1 to 1,000,000 turns. The plan is one that some script gives.
+/// number. Where all threads have ended it ends `Reversed` if a take was refused for its order, and else `Done`; it
+/// ends `Stuck` where a whole round was idle, and else `TooLong` where the allowed turns were made. Its history is
+/// legal, and whole unless it ended `Stuck` or `TooLong`. There are 1 to 64 chains of each sort, of which only the
+/// printed slots tell, and 1 to 1,000,000 turns. The plan is one that some script gives.
 pub fn run_schedule(
     alloc: Global,
     plan: &Plan,
@@ -42,8 +42,8 @@ pub fn run_schedule(
     course.into_outcome(alloc)
 }
 
-/// A run under way, turn by turn: the turns of the plan's schedule, and then rounds over the threads that haven't ended,
-/// by number. It is over where all threads have ended, or a whole round was idle.
+/// A run under way, turn by turn: the turns of the plan's schedule, and then rounds over the threads that haven't
+/// ended, by number. It is over where all threads have ended, or a whole round was idle.
 ///
 /// ```
 /// let mut course = Course::make(alloc, &plan, 16)?;
@@ -84,8 +84,8 @@ impl<'p> Model for Course<'p> {
 }
 
 impl<'p> Course<'p> {
-    /// The begin of a run, with all memory that its turns will need. There are 1 to 64 chains of each sort, of which only
-    /// the slots of queues tell, and the plan is one that some script gives.
+    /// The begin of a run, with all memory that its turns will need. There are 1 to 64 chains of each sort, of which
+    /// only the slots of queues tell, and the plan is one that some script gives.
     pub fn make(alloc: Global, plan: &'p Plan, chains: u32) -> Result<Course<'p>, AllocError>
         requires proper { IsProper plan.now }
         requires some_chains { 1 ≤ chains }

@@ -15,6 +15,7 @@ use lock_objects::Wait;
 use locks::{give_last_back, release, take_in_order, try_lock};
 use prio_lending::Walk;
 use step_machine::Machine;
+pub use waits::owes;
 use waits::{by_release, sleep, wake};
 use walks::{walk_at_lock, walk_at_thread};
 
@@ -59,8 +60,8 @@ pub fn turn(machine: &mut Machine, plan: &Plan, t: ThreadNo) -> Turn
     }
 }
 
-// A queued thread is idle, a woken one runs again, and a running one makes its operation, or was cut and gives back what
-// it holds.
+// A queued thread is idle, a woken one runs again, and a running one makes its operation, or was cut and gives back
+// what it holds.
 pub fn by_wait(machine: &mut Machine, plan: &Plan, t: ThreadNo) -> Turn
     requires proper { IsProper plan.now }
     requires thread { t.0 < length plan.now.threads }

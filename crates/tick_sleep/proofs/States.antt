@@ -83,7 +83,8 @@ none_wake_all s key h = none_due_filter s.tick _ s.sleepers h
 
 pub none_post : (s : TickState) (t : ℕ) → NoneIsDue s → NoneIsDue (behind_post s t)
 none_post s t h = elim (is_interruptible t s.sleepers) as
-    (λ b. NoneIsDue (cond b (record s { sleepers = without t s.sleepers }) (record s { posted = set s.posted t true }))) [
+    (λ b. NoneIsDue (cond b (record s { sleepers = without t s.sleepers })
+    (record s { posted = set s.posted t true }))) [
       | true ↦ none_due_without s.tick t s.sleepers h
       | false ↦ h
     ]

@@ -1,4 +1,5 @@
--- The sleep queues of threads, lent to keys or at home: who lies where, and that nothing is lost and nothing there twice.
+-- The sleep queues of threads, lent to keys or at home: who lies where, and that nothing is lost and nothing there
+-- twice.
 use Rattle.std.specs.Prelude.{◌≡◌, ◌≢◌, ℕ, zero, suc, ◌+◌, Bool, true, false, ◌||◌, ◌==◌, nat_lt, is_some, if◌then◌else◌, List, [], ◌∷◌, ◌++◌, length, slice_get, slice_set, unwrap_or, option_map, Option, None, Some, IsSome, ⊤}
 use Rattle.lock_model.specs.Counts.{one, some, times, at_option, is_empty}
 use Rattle.lock_model.specs.Queues.{Waiter, chan_queue, times_waiting, taken_off, left_on, one_or_none, entry_of, without, free_after}

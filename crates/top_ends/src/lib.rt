@@ -1,5 +1,5 @@
-//! What the top calls of all programs share: the words of a command line are picked up, a source is read to its end, and
-//! a text is written to a sink. What went wrong there is told as a status.
+//! What the top calls of all programs share: the words of a command line are picked up, a source is read to its end,
+//! and a text is written to a sink. What went wrong there is told as a status.
 //!
 //! - `words`: the words, as the system gives them.
 //! - `reading`: all bytes of a source.

@@ -190,7 +190,8 @@ called_after (Chan d) ByAbort called = called
 abbrev pub wanted_after : Config → QueueName → Cause → Bool → Option ℕ → Option ℕ
 wanted_after c (Lock l) BySignal back wanted = wanted
 wanted_after c (Lock l) ByAbort back wanted = if back then wanted else None
-wanted_after c (Chan d) cause back wanted = Some (c.chan_lock d.0)
+wanted_after c (Chan d) BySignal back wanted = Some (c.chan_lock d.0)
+wanted_after c (Chan d) ByAbort back wanted = Some (c.chan_lock d.0)
 
 -- the lock whose take, or whose taking back after a wait, is still to be noted
 abbrev pub taking_by : Config → QueueName → Option ℕ → Option ℕ
@@ -211,7 +212,8 @@ noted_after (Chan d) ByAbort back noted = Some (SleepHalted (Chan d))
 
 -- the channel from which the thread was woken by a signal since its last entry, after the resume
 abbrev pub woken_from_by : QueueName → Cause → Option ℕ → Option ℕ
-woken_from_by (Lock l) cause woken_from = woken_from
+woken_from_by (Lock l) BySignal woken_from = woken_from
+woken_from_by (Lock l) ByAbort woken_from = woken_from
 woken_from_by (Chan d) BySignal woken_from = Some d.0
 woken_from_by (Chan d) ByAbort woken_from = woken_from
 

@@ -17,7 +17,8 @@ use Rattle.order_laws.proofs.OrderFacts.Release as release
 use Rattle.order_laws.proofs.OrderFacts.Wait as wait
 
 pub keeps : (c : Config) (s : State) (step : Step) → May c s step → KeepsToOrder c s step → Lawful c s → Ordered c s → Ordered c (after c s step)
-unfolding after_seek after_look after_take after_give after_wake after_lend after_shift after_end_walk after_count_out after_count_in after_count_self_in after_count_end after_halt after_abort
+unfolding after_seek after_look after_take after_give after_wake after_lend after_shift after_end_walk after_count_out
+    after_count_in after_count_self_in after_count_end after_halt after_abort
 keeps c s (Gains t l mode by_try) g k f h = gain.gains c s t l mode by_try g.acting k f h
 keeps c s (Drops t l mode) g k f h = release.drops c s t l h
 keeps c s (Stamps t e) g k f h = entries.stamps c s t e g f h

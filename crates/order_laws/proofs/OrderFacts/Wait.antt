@@ -13,6 +13,7 @@ use Rattle.lock_state.specs.Steps.SleepQueues.{after_enter_sleep, after_add}
 use Rattle.lock_state.specs.Facts.{Lawful, Ordered, HeldAreListed, StandingWants, WantsAreOrdered, HoldsAreOrdered, SleepersAreOrdered, WokenAreOrdered, AbortedWant, HaltsAreOrdered}
 use Rattle.lock_state.specs.Facts.Words.{is_listed}
 use Rattle.lock_state.specs.Facts.Orders.{LeadTo, OthersLeadTo, AreOrdered}
+use Rattle.lock_model.specs.declared.numbers.ChanNo.{ChanNo}
 use Rattle.lock_model.specs.declared.plan.Mode.{Mode}
 use Rattle.lock_model.specs.declared.plan.QueueName.{QueueName}
 use Rattle.lock_model.specs.declared.plan.QueueName.TheVariants.{Lock, Chan}
@@ -190,14 +191,21 @@ module _ (c : Config) (s : State) (t : ℕ) (q : QueueName) (cause : Cause) (g :
   kept_or_none true k o e = e
   kept_or_none false k o e = absurd cc
 
+  from_channel : (d : ChanNo) (cause : Cause) → s.wait t ≡ Woken (Chan d) cause → HasReleased c s t (Chan d) → (k : ℕ)
+      → Some (c.chan_lock d.0) ≡ Some k → LeadTo c s.edges (s.held t) k
+  unfolding WokenAreOrdered
+  from_channel d cause w r k e = λ j m f.
+      subst (λ x. IsEdge s.edges (c.class j) (c.class x)) (same_Some (c.chan_lock d.0) k e)
+      (h.woken_are_ordered t d.0 cause w j m f
+      (λ x. let z : NotHeld ≡ Holds m = sym r ∙ ap (s.held t) (sym x) ∙ f in cc))
+
   by_queue : (q : QueueName) (cause : Cause) → s.wait t ≡ Woken q cause → HasReleased c s t q → (k : ℕ)
       → wanted_after c q cause back (s.wanted t) ≡ Some k → LeadTo c s.edges (s.held t) k
-  unfolding WantsAreOrdered WokenAreOrdered
+  unfolding WantsAreOrdered
   by_queue (Lock l) BySignal w r k e = h.wants_are_ordered t k e
   by_queue (Lock l) ByAbort w r k e = h.wants_are_ordered t k (kept_or_none back k (s.wanted t) e)
-  by_queue (Chan d) cause w r k e = λ j m f.
-      subst (λ x. IsEdge s.edges (c.class j) (c.class x)) (same_Some (c.chan_lock d.0) k e)
-      (h.woken_are_ordered t d.0 cause w j m f (λ x. let z : NotHeld ≡ Holds m = sym r ∙ ap (s.held t) (sym x) ∙ f in cc))
+  by_queue (Chan d) BySignal w r k e = from_channel d BySignal w r k e
+  by_queue (Chan d) ByAbort w r k e = from_channel d ByAbort w r k e
 
   resume_wants : WantsAreOrdered c (put s.wanted t wants_now) s.held s.edges
   unfolding WantsAreOrdered

@@ -25,30 +25,34 @@ use Rattle.order_laws.proofs.TakeFacts.Holds.{carried}
 
 -- 1. The begin of a round. In order a blocking call seeks the lock that it wants, and so takes already
 
-sought_before : (by_try : Bool) (wanted : Option ℕ) (l : ℕ) (taking : Option ℕ) → (by_try ≡ false → wanted ≡ Some l) → taking_from by_try wanted l taking ≡ taking
+sought_before : (by_try : Bool) (wanted : Option ℕ) (l : ℕ) (taking : Option ℕ) → (by_try ≡ false → wanted ≡ Some l)
+    → taking_from by_try wanted l taking ≡ taking
 sought_before true wanted l taking k = refl
 sought_before false None l taking k = absurd (let z : None ≡ Some l = k refl in cc)
 sought_before false (Some j) l taking k = refl
 
-module _ (c : Config) (s : State) (t l : ℕ) (by_try : Bool) (k : by_try ≡ false → s.wanted t ≡ Some l) (h : Taken c s) where
-  abbrev sought : ℕ → Option ℕ
-  sought = put s.taking t (taking_from by_try (s.wanted t) l (s.taking t))
+module _ (c : Config) (s : State) (t l : ℕ) (by_try : Bool) (k : by_try ≡ false → s.wanted t ≡ Some l) (h : Taken c s)
+  where
+    abbrev sought : ℕ → Option ℕ
+    sought = put s.taking t (taking_from by_try (s.wanted t) l (s.taking t))
 
-  takes_as_before : (u : ℕ) → s.taking u ≡ sought u
-  takes_as_before u = elim (cases_eq t u) [
-    | inl x ↦ sym (ap sought (sym x) ∙ put_same s.taking t _ ∙ sought_before by_try (s.wanted t) l (s.taking t) k ∙ ap s.taking x)
-    | inr x ↦ sym (put_other s.taking t _ u x)
-  ]
+    takes_as_before : (u : ℕ) → s.taking u ≡ sought u
+    takes_as_before u = elim (cases_eq t u) [
+      | inl x ↦ sym (ap sought (sym x) ∙ put_same s.taking t _ ∙ sought_before by_try (s.wanted t) l (s.taking t) k
+          ∙ ap s.taking x)
+      | inr x ↦ sym (put_other s.taking t _ u x)
+    ]
 
-  seek_edges : EdgesAreOfTakes c s.edges sought s.log s.held s.history
-  seek_edges = subst (λ f. EdgesAreOfTakes c s.edges f s.log s.held s.history) (λ i u. takes_as_before u i) h.edges_are_of_takes
+    seek_edges : EdgesAreOfTakes c s.edges sought s.log s.held s.history
+    seek_edges = subst (λ f. EdgesAreOfTakes c s.edges f s.log s.held s.history) (λ i u. takes_as_before u i)
+        h.edges_are_of_takes
 
-  seek_open : TakersAreOpen c sought s.log s.held s.history
-  seek_open = subst (λ f. TakersAreOpen c f s.log s.held s.history) (λ i u. takes_as_before u i) h.takers_are_open
+    seek_open : TakersAreOpen c sought s.log s.held s.history
+    seek_open = subst (λ f. TakersAreOpen c f s.log s.held s.history) (λ i u. takes_as_before u i) h.takers_are_open
 
-  pub seeks : Taken c (after_seek s t l by_try)
-  unfolding after_seek
-  seeks = assumption (h, seek_edges, seek_open)
+    pub seeks : Taken c (after_seek s t l by_try)
+    unfolding after_seek
+    seeks = assumption (h, seek_edges, seek_open)
 
 -- 2. A resume
 

@@ -16,7 +16,9 @@ use Rattle.order_laws.proofs.TakeFacts.Holds as holds
 use Rattle.order_laws.proofs.TakeFacts.Notes as notes
 
 pub keeps : (c : Config) (s : State) (step : Step) → May c s step → KeepsToOrder c s step → Lawful c s → Taken c s → Taken c (after c s step)
-unfolding after_look after_ready after_unready after_enter after_mark after_enter_sleep after_add after_wake after_lend after_shift after_end_walk after_take after_give after_count_out after_count_in after_count_self_in after_count_end after_halt after_abort
+unfolding after_look after_ready after_unready after_enter after_mark after_enter_sleep after_add after_wake after_lend
+    after_shift after_end_walk after_take after_give after_count_out after_count_in after_count_self_in after_count_end
+    after_halt after_abort
 keeps c s (Seeks t l by_try) g k f h = notes.seeks c s t l by_try k h
 keeps c s (Gains t l mode by_try) g k f h = holds.gains c s t l mode by_try g.lock g.unheld k.takes h
 keeps c s (Drops t l mode) g k f h = holds.drops c s t l k h

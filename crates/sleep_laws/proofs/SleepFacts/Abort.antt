@@ -34,14 +34,16 @@ no_signals : (v : ℕ) (ms : List Mark) → signals v (by_abort ms) ≡ 0
 no_signals v [] = refl
 no_signals v (m ∷ ms) = grind (arith, no_signals v ms)
 
-no_aborts_of_lock : (v l : ℕ) (ws : List Waiter) (xs : List ℕ) (h : Option ℕ) → aborts v (by_abort (dealt (lock_queue l) ws xs h)) ≡ 0
+no_aborts_of_lock : (v l : ℕ) (ws : List Waiter) (xs : List ℕ) (h : Option ℕ)
+    → aborts v (by_abort (dealt (lock_queue l) ws xs h)) ≡ 0
 no_aborts_of_lock v l [] xs h = refl
 no_aborts_of_lock v l (w ∷ ws) [] None = refl
 no_aborts_of_lock v l (w ∷ ws) [] (Some h) = omega (arith, no_aborts_of_lock v l ws [] None)
 no_aborts_of_lock v l (w ∷ ws) (x ∷ xs) h = omega (arith, no_aborts_of_lock v l ws xs h)
 
 -- on a channel the sleeper's mark is one
-aborts-dealt : (v d : ℕ) (w : Waiter) (xs : List ℕ) (h : Option ℕ) → 1 ≤ times_marked w.thread (chan_queue d) (dealt (chan_queue d) (w ∷ []) xs h)
+aborts-dealt : (v d : ℕ) (w : Waiter) (xs : List ℕ) (h : Option ℕ)
+    → 1 ≤ times_marked w.thread (chan_queue d) (dealt (chan_queue d) (w ∷ []) xs h)
     → aborts v (by_abort (dealt (chan_queue d) (w ∷ []) xs h)) ≡ times_waiting v (w ∷ [])
 aborts-dealt v d w [] None i = absurd (omega (arith, i))
 aborts-dealt v d w [] (Some h) i = refl
@@ -92,7 +94,8 @@ module _ {at_work : ℕ → Option ℕ} {c : Config} {s : State} (l : Lawful c s
 
   same : behind ≡ off c s
   same = off_marked c s t its_marks g.thread
-      (λ v. ap (aborts v) g.unmarked ∙ sym (no_aborts_of_lock v k (sleeper s u ∷ []) (s.free_list (lock_queue k)) (s.head (lock_queue k))))
+      (λ v. ap (aborts v) g.unmarked
+      ∙ sym (no_aborts_of_lock v k (sleeper s u ∷ []) (s.free_list (lock_queue k)) (s.head (lock_queue k))))
 
   slept_on : AbortedSleep s.history behind s.log
   slept_on = rw same h.aborted_sleep
@@ -159,8 +162,10 @@ module _ {at_work : ℕ → Option ℕ} {c : Config} {s : State} (l : Lawful c s
   its_mark : (v : ℕ) → aborts v chan_marks ≡ times_waiting v (sleeper s u ∷ [])
   its_mark v =
       let few = fits (may_take_off c s t (chan_queue d) X u g l) l in
-      let one_mark = times_marked-dealt u (chan_queue d) (sleeper s u ∷ []) (s.free_list (chan_queue d)) (s.head (chan_queue d)) few in
-      aborts-dealt v d (sleeper s u) (s.free_list (chan_queue d)) (s.head (chan_queue d)) (grind (arith, nat_tests, one_mark))
+      let one_mark = times_marked-dealt u (chan_queue d) (sleeper s u ∷ []) (s.free_list (chan_queue d))
+      (s.head (chan_queue d)) few in
+      aborts-dealt v d (sleeper s u) (s.free_list (chan_queue d)) (s.head (chan_queue d))
+      (grind (arith, nat_tests, one_mark))
 
   abbrev now : ℕ → ℕ
   now = aborted c (put s.marked t chan_marks) s.wait s.noted
@@ -217,7 +222,8 @@ module _ {at_work : ℕ → Option ℕ} {c : Config} {s : State} (l : Lawful c s
   unfolding SleepersAreExclusive
   sides = at_put_chan (λ k q. q.shared ≡ []) s.lists d queue (h.sleepers_are_exclusive d) h.sleepers_are_exclusive
 
-  fewer : (all : Bool) (us : List ℕ) → LeavesNobodyBefore c s.history all us ws → LeavesNobodyBefore c s.history all us (without u ws)
+  fewer : (all : Bool) (us : List ℕ) → LeavesNobodyBefore c s.history all us ws
+      → LeavesNobodyBefore c s.history all us (without u ws)
   fewer true us p = none_without u ws p
   fewer false [] p = none_without u ws p
   fewer false (x ∷ us) p = (p.0, each-without (λ w. goes_before c s.history w.thread x ≡ false) u ws p.1)
@@ -226,8 +232,11 @@ module _ {at_work : ℕ → Option ℕ} {c : Config} {s : State} (l : Lawful c s
   unfolding UnnotedIsFair
   fair v w lt e =
       at_put_chan (λ k q. k ≡ w.chan → LeavesNobodyBefore c s.history w.all w.taken q.exclusive) s.lists d queue
-      (λ i. fewer w.all w.taken (subst (λ k. LeavesNobodyBefore c s.history w.all w.taken (s.lists (chan_queue k)).exclusive) (sym i) (h.unnoted_is_fair v w lt e)))
-      (λ k i. subst (λ k. LeavesNobodyBefore c s.history w.all w.taken (s.lists (chan_queue k)).exclusive) (sym i) (h.unnoted_is_fair v w lt e)) w.chan refl
+      (λ i. fewer w.all w.taken
+      (subst (λ k. LeavesNobodyBefore c s.history w.all w.taken (s.lists (chan_queue k)).exclusive) (sym i)
+      (h.unnoted_is_fair v w lt e)))
+      (λ k i. subst (λ k. LeavesNobodyBefore c s.history w.all w.taken (s.lists (chan_queue k)).exclusive) (sym i)
+      (h.unnoted_is_fair v w lt e)) w.chan refl
 
   aborts_off_channel : SleepersFit at_work c (after_abort s t (chan_queue d) X u)
   unfolding after_abort
@@ -238,15 +247,18 @@ module _ {at_work : ℕ → Option ℕ} {c : Config} {s : State} (l : Lawful c s
       assumption (h, a, b, e, sleeps_on, stand_there, on_way, passed, order, later_on, bases, sides, fair)
 
 pub aborts_it : {at_work : ℕ → Option ℕ} {c : Config} {s : State} → Lawful c s → SleepersFit at_work c s
-    → (t : ℕ) (q : QueueName) (side : Side) (u : ℕ) → MayAbort c s t q side u → SleepersFit at_work c (after_abort s t q side u)
+    → (t : ℕ) (q : QueueName) (side : Side) (u : ℕ) → MayAbort c s t q side u
+    → SleepersFit at_work c (after_abort s t q side u)
 unfolding SleepersAreExclusive
 aborts_it l h t (Lock k) side u g = aborts_at_lock l h t k.0 side u g
 aborts_it l h t (Chan d) X u g = aborts_off_channel l h t d.0 u g
-aborts_it {s = s} l h t (Chan d) S u g = absurd (no_sharer u (s.lists (Chan d)).shared (h.sleepers_are_exclusive d.0) (let i = g.stands in omega (arith, i)))
+aborts_it {s = s} l h t (Chan d) S u g =
+    absurd (no_sharer u (s.lists (Chan d)).shared (h.sleepers_are_exclusive d.0) (let i = g.stands in omega (arith, i)))
 
 -- 5. The halt word is set
 
-pub halts : {at_work : ℕ → Option ℕ} {c : Config} {s : State} → SleepersFit at_work c s → SleepersFit at_work c (after_halt s)
+pub halts : {at_work : ℕ → Option ℕ} {c : Config} {s : State} → SleepersFit at_work c s
+    → SleepersFit at_work c (after_halt s)
 unfolding after_halt MarksAreSignals WokenBySignal NoSleepIsHalted
 halts {s = s} h =
     let a : MarksAreSignals true s.marked = (λ i. absurd cc) in

@@ -65,7 +65,8 @@ module _ (chains : ℕ) (c : Config) (s : State) where
     tells (HaltedChan d) g i = refl
     tells other g i = absurd cc
 
-  notes : SleepersFit (by_chain chains s) c s → (step : Step) → May c s step → HasSeen chains c s step → core.NotesHalts s step
+  notes : SleepersFit (by_chain chains s) c s → (step : Step) → May c s step → HasSeen chains c s step
+      → core.NotesHalts s step
   notes h (Stamps t e) g x = λ k. tells h t k e g (x.asleep (back h t k (is_taking_back (s.log t)) refl))
   notes h other g x = tt
 
@@ -96,7 +97,10 @@ module _ (chains : ℕ) (c : Config) (s : State) where
 
   moved : (step : Step) → May c s step → SleepersFit (by_chain chains s) c (after c s step)
       → SleepersFit (by_chain chains (after c s step)) c (after c s step)
-  unfolding AsleepAreOnTheirWay after_seek after_look after_gain after_drop after_stamp after_ready after_unready after_enter after_open after_mark after_resume after_enter_sleep after_open_sleep after_add after_wake after_claim after_lend after_shift after_end_walk after_admit after_refuse after_take after_give after_count_out after_count_in after_count_self_in after_count_end after_halt after_abort
+  unfolding AsleepAreOnTheirWay after_seek after_look after_gain after_drop after_stamp after_ready after_unready
+      after_enter after_open after_mark after_resume after_enter_sleep after_open_sleep after_add after_wake after_claim
+      after_lend after_shift after_end_walk after_admit after_refuse after_take after_give after_count_out
+      after_count_in after_count_self_in after_count_end after_halt after_abort
   moved (TakesItem t i) g n =
       let after = after_take s t i in
       moves (by_chain chains s) (by_chain chains after) c after n

@@ -140,4 +140,20 @@ module _ {at_work : ℕ → Option ℕ} {c : Config} {s : State} (l : Lawful c s
   pub marks : SleepersFit at_work c (after_mark c s t m ms)
   unfolding after_mark
   marks =
-      assumption (h, named, listed, causes, took, slept_on, over, slept, woken, wants, unwoken, unhalted, there, way, later)
+      assumption (
+        h,
+        named,
+        listed,
+        causes,
+        took,
+        slept_on,
+        over,
+        slept,
+        woken,
+        wants,
+        unwoken,
+        unhalted,
+        there,
+        way,
+        later,
+      )

@@ -19,7 +19,8 @@ use Rattle.lock_laws.proofs.Dealt.{marked_once, marked_nowhere_else}
 -- 1. Marks
 
 -- a signal's marks are no aborts
-pub no_aborts-dealt : (u : ℕ) (q : QueueName) (ws : List Waiter) (xs : List ℕ) (h : Option ℕ) → aborts u (dealt q ws xs h) ≡ 0
+pub no_aborts-dealt : (u : ℕ) (q : QueueName) (ws : List Waiter) (xs : List ℕ) (h : Option ℕ)
+    → aborts u (dealt q ws xs h) ≡ 0
 no_aborts-dealt u q [] xs h = refl
 no_aborts-dealt u q (w ∷ ws) [] None = refl
 no_aborts-dealt u q (w ∷ ws) [] (Some h) = grind (arith, no_aborts-dealt u q ws [] None)
@@ -32,7 +33,8 @@ marks_split u d (m ∷ ms) = go m.queue (is_signal m.cause) (marks_split u d ms)
   where
     go : (q : QueueName) (b : Bool) → times_marked u (chan_queue d) ms ≤ signals u ms + aborts u ms
         → one (is_queue (chan_queue d) q && eqb u m.thread) + times_marked u (chan_queue d) ms
-        ≤ (one (is_chan q && (b && eqb u m.thread)) + signals u ms) + (one (is_chan q && (not b && eqb u m.thread)) + aborts u ms)
+        ≤ (one (is_chan q && (b && eqb u m.thread)) + signals u ms) +
+        (one (is_chan q && (not b && eqb u m.thread)) + aborts u ms)
     go (Lock l) b i = omega arith
     go (Chan k) true i = grind (arith, nat_tests)
     go (Chan k) false i = grind (arith, nat_tests)
@@ -85,7 +87,8 @@ module _ (c : Config) (s : State) where
   unfolding aborted
   off_marked t ms lt same i u = here u i
     where
-      here : (u : ℕ) → sum_below c.threads (λ v. aborts u (put s.marked t ms v)) + is_aborted (s.wait u) + is_chan_halt (s.noted u)
+      here : (u : ℕ) → sum_below c.threads (λ v. aborts u (put s.marked t ms v)) + is_aborted (s.wait u) + is_chan_halt
+          (s.noted u)
           ≡ sum_below c.threads (λ v. aborts u (s.marked v)) + is_aborted (s.wait u) + is_chan_halt (s.noted u)
       here u = let a = sum_below-put c.threads (aborts u) s.marked t ms lt in omega (arith, same u)
 
@@ -95,7 +98,8 @@ module _ (c : Config) (s : State) where
   unfolding aborted
   off_waits t w was is i u = here u i
     where
-      here : (u : ℕ) → sum_below c.threads (λ v. aborts u (s.marked v)) + is_aborted (put s.wait t w u) + is_chan_halt (s.noted u)
+      here : (u : ℕ) → sum_below c.threads (λ v. aborts u (s.marked v)) + is_aborted (put s.wait t w u) + is_chan_halt
+          (s.noted u)
           ≡ sum_below c.threads (λ v. aborts u (s.marked v)) + is_aborted (s.wait u) + is_chan_halt (s.noted u)
       here u = grind (arith, columns, unwoken_unaborted (s.wait t) was, unwoken_unaborted w is)
 
@@ -105,7 +109,8 @@ module _ (c : Config) (s : State) where
   unfolding aborted
   off_noted t o same i u = here u i
     where
-      here : (u : ℕ) → sum_below c.threads (λ v. aborts u (s.marked v)) + is_aborted (s.wait u) + is_chan_halt (put s.noted t o u)
+      here : (u : ℕ) → sum_below c.threads (λ v. aborts u (s.marked v)) + is_aborted (s.wait u) + is_chan_halt
+          (put s.noted t o u)
           ≡ sum_below c.threads (λ v. aborts u (s.marked v)) + is_aborted (s.wait u) + is_chan_halt (s.noted u)
       here u = grind (arith, columns, same)
 

@@ -145,7 +145,16 @@ module _ {at_work : ℕ → Option ℕ} {c : Config} {s : State} (h : SleepersFi
 
     pub refuses : SleepersFit at_work c (after_refuse s t l k)
     unfolding after_refuse
-    refuses = assumption (h, refused, refused_sleep, refused_there, refused_way, refused_later, refused_over, refused_unhalted)
+    refuses = assumption (
+      h,
+      refused,
+      refused_sleep,
+      refused_there,
+      refused_way,
+      refused_later,
+      refused_over,
+      refused_unhalted,
+    )
 
 pub admits : {at_work : ℕ → Option ℕ} {c : Config} {s : State} → Lawful c s → SleepersFit at_work c s
     → (t l : ℕ) → IsFreeToTake c s t l → SleepersFit at_work c (after_admit c s t l)

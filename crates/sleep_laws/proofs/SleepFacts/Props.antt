@@ -38,5 +38,8 @@ wakings c [] = hlevel
 wakings c (e ∷ es) = hlevel (props, FitsSleepers-prop e.event es e.thread.0, wakings c es)
 
 pub SleepersFit-prop : (at_work : ℕ → Option ℕ) (c : Config) (s : State) → IsProp (SleepersFit at_work c s)
-unfolding NamedAreWoken MarksAreSignals WokenBySignal NoSleepIsHalted SleepersSlept WokenSlept ResumedSlept SleepersWantNothing SleepersAreUnwoken AsleepStandThere AsleepAreOnTheirWay SleepersInOrder LatecomersAreLater SleepersKeepBase SleepersAreExclusive UnnotedAreMarked UnnotedIsAtWork UnnotedIsFair AbortedSleep SleepersAreUnhalted PassedOverAreAborted
+unfolding NamedAreWoken MarksAreSignals WokenBySignal NoSleepIsHalted SleepersSlept WokenSlept ResumedSlept
+    SleepersWantNothing SleepersAreUnwoken AsleepStandThere AsleepAreOnTheirWay SleepersInOrder LatecomersAreLater
+    SleepersKeepBase SleepersAreExclusive UnnotedAreMarked UnnotedIsAtWork UnnotedIsFair AbortedSleep
+    SleepersAreUnhalted PassedOverAreAborted
 SleepersFit-prop at_work c s = hlevel (props, AreSignals-prop, InOrder-prop, Each-prop, LeavesNobodyBefore-prop, wakings)

@@ -37,7 +37,8 @@ module _ {at_work : ℕ → Option ℕ} {c : Config} {s : State} (l : Lawful c s
       by_queue : (q : QueueName) (cause : Cause) → s.wait t ≡ Woken q cause
           → some (woken_from_by q cause (s.woken_from t))
           ≡ is_signalled (Woken q cause) + some (s.woken_from t)
-      by_queue (Lock k) a e = omega arith
+      by_queue (Lock k) BySignal e = omega arith
+      by_queue (Lock k) ByAbort e = omega arith
       by_queue (Chan d) ByAbort e = omega arith
       by_queue (Chan d) BySignal e = grind (arith, h.named_are_woken t, ap is_signalled e)
 
@@ -56,7 +57,8 @@ module _ {at_work : ℕ → Option ℕ} {c : Config} {s : State} (l : Lawful c s
   once = let a = h.aborted_sleep t in omega arith
 
   moved : (q : QueueName) (cause : Cause) → s.wait t ≡ Woken q cause
-      → is_chan_halt (noted_after q cause (is_taking_back (s.log t)) (s.noted t)) ≡ is_aborted (s.wait t) + is_chan_halt (s.noted t)
+      → is_chan_halt (noted_after q cause (is_taking_back (s.log t)) (s.noted t)) ≡ is_aborted (s.wait t) + is_chan_halt
+      (s.noted t)
   moved (Lock k) BySignal e = let a = ap is_aborted e in omega arith
   moved (Chan k) BySignal e = let a = ap is_aborted e in omega arith
   moved (Chan k) ByAbort e =
@@ -70,7 +72,8 @@ module _ {at_work : ℕ → Option ℕ} {c : Config} {s : State} (l : Lawful c s
   moved (Lock k) ByAbort e = go (is_taking_back (s.log t)) refl
     where
       go : (b : Bool) → is_taking_back (s.log t) ≡ b
-          → is_chan_halt (cond b (s.noted t) (Some (SleepHalted (Lock k)))) ≡ is_aborted (s.wait t) + is_chan_halt (s.noted t)
+          → is_chan_halt (cond b (s.noted t) (Some (SleepHalted (Lock k)))) ≡ is_aborted (s.wait t) + is_chan_halt
+          (s.noted t)
       go true i = let a = ap is_aborted e in omega arith
       go false i = let b = ap one i in omega (arith, once)
 
@@ -78,7 +81,8 @@ module _ {at_work : ℕ → Option ℕ} {c : Config} {s : State} (l : Lawful c s
   unfolding aborted
   same i u = here u i
     where
-      here : (u : ℕ) → sum_below c.threads (λ v. aborts u (s.marked v)) + is_aborted (put s.wait t Running u) + is_chan_halt (noted u)
+      here : (u : ℕ) → sum_below c.threads (λ v. aborts u (s.marked v)) + is_aborted (put s.wait t Running u) +
+          is_chan_halt (noted u)
           ≡ sum_below c.threads (λ v. aborts u (s.marked v)) + is_aborted (s.wait u) + is_chan_halt (s.noted u)
       here u = grind (arith, columns, moved q cause g.woken)
 
@@ -121,7 +125,8 @@ module _ {at_work : ℕ → Option ℕ} {c : Config} {s : State} (l : Lawful c s
     where
       by_queue : (q : QueueName) (cause : Cause) → s.wait t ≡ Woken q cause
           → woken_from_by q cause (s.woken_from t) ≡ Some d → has_slept d (s.log t) ≡ true
-      by_queue (Lock k) a w e = h.resumed_slept t d e
+      by_queue (Lock k) BySignal w e = h.resumed_slept t d e
+      by_queue (Lock k) ByAbort w e = h.resumed_slept t d e
       by_queue (Chan k) ByAbort w e = h.resumed_slept t d e
       by_queue (Chan k) BySignal w e =
           let x : k.0 ≡ d = cc in
@@ -132,4 +137,19 @@ module _ {at_work : ℕ → Option ℕ} {c : Config} {s : State} (l : Lawful c s
   resumes =
       let causes = by_signal h t Running refl in
       let still_slept = woken_slept h t Running refl in
-      assumption (h, causes, still_slept, named, unhalted, slept_on, over, there, later, stands_unhalted, wants, unwoken, way, resumed_slept)
+      assumption (
+        h,
+        causes,
+        still_slept,
+        named,
+        unhalted,
+        slept_on,
+        over,
+        there,
+        later,
+        stands_unhalted,
+        wants,
+        unwoken,
+        way,
+        resumed_slept,
+      )

@@ -94,7 +94,8 @@ module _ {at_work : ℕ → Option ℕ} {c : Config} {s : State} (l : Lawful c s
     unfolding UnnotedAreMarked
     taken_unaborted b =
         let i = in_wake b in
-        off_signalled l h u w.chan (taken_named l h t g.thread w f u i) t g.thread (omega (arith, (h.unnoted_are_marked t w u f).0))
+        off_signalled l h u w.chan (taken_named l h t g.thread w f u i) t g.thread
+        (omega (arith, (h.unnoted_are_marked t w u f).0))
 
   by_event : (e : Event) → MayStamp c s t e → (u : ℕ)
       → one (wakes e u || is_named s.history u) + signals_noted u (s.unstamped t) (s.marked t)
@@ -128,7 +129,8 @@ module _ {at_work : ℕ → Option ℕ} {c : Config} {s : State} (l : Lawful c s
 
   others_off : (u : ℕ) → t ≢ u → behind u ≡ off c s u
   unfolding aborted
-  others_off u ne = ap (λ x. sum_below c.threads (λ v. aborts u (s.marked v)) + is_aborted (s.wait u) + is_chan_halt x) (put_other s.noted t None u ne)
+  others_off u ne = ap (λ x. sum_below c.threads (λ v. aborts u (s.marked v)) + is_aborted (s.wait u) + is_chan_halt x)
+      (put_other s.noted t None u ne)
 
   own_off : off c s t ≡ is_chan_halt (s.noted t)
   own_off = off_acting c s t l g.acting.unnamed g.acting.unwoken
@@ -165,10 +167,12 @@ module _ {at_work : ℕ → Option ℕ} {c : Config} {s : State} (l : Lawful c s
   unfolding SleepersSlept
   named_slept (WokeOne d woken) g u b =
       let p = the_wake (s.unstamped t) d.0 woken false g.asks in
-      ap one (slept_back p.0.chan (s.log u) (h.sleepers_slept u p.0.chan (taken_named l h t g.thread p.0 p.1 u (in_wake p.0 p.1 woken p.4 u b))))
+      ap one (slept_back p.0.chan (s.log u)
+      (h.sleepers_slept u p.0.chan (taken_named l h t g.thread p.0 p.1 u (in_wake p.0 p.1 woken p.4 u b))))
   named_slept (WokeAll d woken) g u b =
       let p = the_wake (s.unstamped t) d.0 woken true g.asks in
-      ap one (slept_back p.0.chan (s.log u) (h.sleepers_slept u p.0.chan (taken_named l h t g.thread p.0 p.1 u (in_wake p.0 p.1 woken p.4 u b))))
+      ap one (slept_back p.0.chan (s.log u)
+      (h.sleepers_slept u p.0.chan (taken_named l h t g.thread p.0 p.1 u (in_wake p.0 p.1 woken p.4 u b))))
   named_slept other g u b = absurd cc
 
   others_slept : (u : ℕ) → t ≢ u → behind u + one (is_named history u) ≤ one (is_taking_back (log u))
@@ -303,7 +307,11 @@ module _ {at_work : ℕ → Option ℕ} {c : Config} {s : State} (l : Lawful c s
 
   law : (1 ≤ is_chan_halt (s.noted t) → is_halted_chan e ≡ true) → WakingsNameSleepers c history
   unfolding WakingsNameSleepers PassedOverAreAborted
-  law notes = (fits l h t g.thread e g, λ x. notes (let z = h.passed_over_are_aborted t x in omega (arith, own_off)), h.wakings_name_sleepers)
+  law notes = (
+    fits l h t g.thread e g,
+    λ x. notes (let z = h.passed_over_are_aborted t x in omega (arith, own_off)),
+    h.wakings_name_sleepers,
+  )
 
   pub stamps : ((d : ℕ) → sleeps_on e d ≡ true → at_work d ≡ Some t)
       → (1 ≤ is_chan_halt (s.noted t) → is_halted_chan e ≡ true)
@@ -312,4 +320,24 @@ module _ {at_work : ℕ → Option ℕ} {c : Config} {s : State} (l : Lawful c s
   stamps works notes =
       let on_way = way works in
       let legal = law notes in
-      assumption (h, named, noted, slept_on, unhalted, slept, woken_slept, resumed_slept, unwoken, there, on_way, order, later, bases, marked, works_there, fair, over, legal)
+      assumption (
+        h,
+        named,
+        noted,
+        slept_on,
+        unhalted,
+        slept,
+        woken_slept,
+        resumed_slept,
+        unwoken,
+        there,
+        on_way,
+        order,
+        later,
+        bases,
+        marked,
+        works_there,
+        fair,
+        over,
+        legal,
+      )

@@ -1,5 +1,5 @@
--- Each step that asks of sleepers what it must keeps the facts of sleepers, and so does each list of such steps in which
--- none sets the halt word.
+-- Each step that asks of sleepers what it must keeps the facts of sleepers, and so does each list of such steps in
+-- which none sets the halt word.
 use Rattle.std.proofs.Common.{◌≡◌, ℕ, ◌≤◌, true, false, List, [], ◌∷◌, Option, Some, None, refl, arith, ◌∙◌}
 use Rattle.std.specs.Prelude.{⊤}
 use Rattle.lock_model.specs.Config.{Config}
@@ -38,7 +38,9 @@ NotesHalts s other = ⊤
 pub keeps : (at_work : ℕ → Option ℕ) (c : Config) (s : State) (step : Step) → May c s step
     → AsksOfSleepers at_work s step → NotesHalts s step → Lawful c s → SleepersFit at_work c s
     → SleepersFit at_work c (after c s step)
-unfolding after_seek after_look after_drop after_lend after_shift after_end_walk after_take after_give after_count_out after_count_in after_count_self_in after_count_end put_queue SleepersInOrder LatecomersAreLater SleepersKeepBase SleepersAreExclusive UnnotedIsFair
+unfolding after_seek after_look after_drop after_lend after_shift after_end_walk after_take after_give after_count_out
+    after_count_in after_count_self_in after_count_end put_queue SleepersInOrder LatecomersAreLater SleepersKeepBase
+    SleepersAreExclusive UnnotedIsFair
 keeps at_work c s (Seeks t l by_try) g a n f h = assumption h
 keeps at_work c s (Looks t l in_round) g a n f h = assumption h
 keeps at_work c s (TakesItem t i) g a n f h = assumption h
@@ -73,12 +75,16 @@ keeps at_work c s (Aborts t q side u) g a n f h = abort.aborts_it f h t q side u
 
 -- a step that doesn't set the halt word leaves it
 pub halted_stays : (c : Config) (s : State) (step : Step) → IsNoHalt step → (after c s step).halted ≡ s.halted
-unfolding after_seek after_look after_gain after_drop after_stamp after_ready after_unready after_enter after_open after_mark after_resume after_enter_sleep after_open_sleep after_add after_wake after_claim after_lend after_shift after_end_walk after_admit after_refuse after_take after_give after_count_out after_count_in after_count_self_in after_count_end after_halt after_abort
+unfolding after_seek after_look after_gain after_drop after_stamp after_ready after_unready after_enter after_open
+    after_mark after_resume after_enter_sleep after_open_sleep after_add after_wake after_claim after_lend after_shift
+    after_end_walk after_admit after_refuse after_take after_give after_count_out after_count_in after_count_self_in
+    after_count_end after_halt after_abort
 halted_stays c s (Halts t) n = absurd (n t refl)
 halted_stays c s other n = refl
 
 -- where it isn't set no halt is to be noted
-no_halt : (at_work : ℕ → Option ℕ) (c : Config) (s : State) (step : Step) → s.halted ≡ false → SleepersFit at_work c s → NotesHalts s step
+no_halt : (at_work : ℕ → Option ℕ) (c : Config) (s : State) (step : Step) → s.halted ≡ false → SleepersFit at_work c s
+    → NotesHalts s step
 unfolding NoSleepIsHalted
 no_halt at_work c s (Stamps t e) x h = go (s.noted t) refl
   where

@@ -10,7 +10,8 @@ use Rattle.sleep_laws.proofs.SleepFacts.Moves.{moves}
 use Rattle.sleep_laws.proofs.SleepFacts.Steps.{all_keep}
 
 pub turn_keeps : (c : Config) (s : State) (t : ℕ) (steps : List Step) → MayAll c s steps
-    → AsksOfSleepersAll (by_turn t) c s steps → HaltNobody steps → s.halted ≡ false → Lawful c s → SleepersFit nobody c s
+    → AsksOfSleepersAll (by_turn t) c s steps → HaltNobody steps → s.halted ≡ false → Lawful c s
+    → SleepersFit nobody c s
     → SleepersFit (by_turn t) c (after_all c s steps)
 turn_keeps c s t steps g a k x l h =
     let begins = moves nobody (by_turn t) c s h (λ u d a z n e. absurd cc) (λ u w f e. absurd cc) in

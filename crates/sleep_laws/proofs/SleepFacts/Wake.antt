@@ -75,7 +75,8 @@ module _ {at_work : ℕ → Option ℕ} {c : Config} {s : State} (l : Lawful c s
   behind = aborted c marked s.wait s.noted
 
   same : behind ≡ off c s
-  same = off_marked c s t ms g.thread (λ u. ap (aborts u) g.unmarked ∙ sym (no_aborts-dealt u (chan_queue d) taken free head))
+  same = off_marked c s t ms g.thread
+      (λ u. ap (aborts u) g.unmarked ∙ sym (no_aborts-dealt u (chan_queue d) taken free head))
 
   slept_on : AbortedSleep s.history behind s.log
   slept_on = rw same h.aborted_sleep
@@ -169,4 +170,19 @@ module _ {at_work : ℕ → Option ℕ} {c : Config} {s : State} (l : Lawful c s
 
   pub wakes : SleepersFit at_work c (after_wake s t d all)
   unfolding after_wake
-  wakes = assumption (h, named, listed, unnoted, works_there, slept_on, there, way, over, order, later_behind, bases, sides, fair)
+  wakes = assumption (
+    h,
+    named,
+    listed,
+    unnoted,
+    works_there,
+    slept_on,
+    there,
+    way,
+    over,
+    order,
+    later_behind,
+    bases,
+    sides,
+    fair,
+  )

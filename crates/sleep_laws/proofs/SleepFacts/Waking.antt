@@ -140,7 +140,8 @@ module _ {at_work : ℕ → Option ℕ} {c : Config} {s : State} (l : Lawful c s
       let n = ap is_chan_halt g.asks.1 in
       unnamed (is_named s.history t) refl (is_taking_back (s.log t)) (omega (arith, h.aborted_sleep t))
     where
-      unnamed : (b : Bool) → is_named s.history t ≡ b → (k : Bool) → 1 + one (is_named s.history t) ≤ one k → is_named s.history t ≡ false
+      unnamed : (b : Bool) → is_named s.history t ≡ b → (k : Bool) → 1 + one (is_named s.history t) ≤ one k
+          → is_named s.history t ≡ false
       unnamed false e k i = e
       unnamed true e true i = absurd (let z = ap one e in omega arith)
       unnamed true e false i = absurd (omega arith)

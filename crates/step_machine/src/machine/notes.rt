@@ -11,8 +11,8 @@ use super::Machine;
 use lock_model::{Entry, Event, ThreadNo};
 
 impl Machine {
-    /// Makes an entry with the next ticket, and what the entry says of a table, of the thread's base priority, of a wait of
-    /// the thread, or of its being cut.
+    /// Makes an entry with the next ticket, and what the entry says of a table, of the thread's base priority, of a
+    /// wait of the thread, or of its being cut.
     pub fn stamp(&mut self, t: ThreadNo, event: Event)
         requires may { May self.old (λ c s. MayStamp c s t.0 event) }
         requires room { 1 ≤ self.old.log.spare }

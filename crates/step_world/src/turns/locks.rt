@@ -100,8 +100,8 @@ fn class_of(plan: &Plan, l: LockNo) -> ClassNo
     }
 }
 
-/// A thread gains a lock where its word admits the mode, and notes that by the event; else it blocks. So it takes a lock,
-/// and takes it back after a wait.
+/// A thread gains a lock where its word admits the mode, and notes that by the event; else it blocks. So it takes a
+/// lock, and takes it back after a wait.
 pub fn take(
     machine: &mut Machine,
     plan: &Plan,
@@ -126,8 +126,8 @@ pub fn take(
     }
 }
 
-/// A try gains the lock where its word admits the mode. Else it notes the word, and the thread goes on behind its block,
-/// at the operation of that number.
+/// A try gains the lock where its word admits the mode. Else it notes the word, and the thread goes on behind its
+/// block, at the operation of that number.
 pub fn try_lock(
     machine: &mut Machine,
     plan: &Plan,
@@ -153,8 +153,8 @@ pub fn try_lock(
     }
 }
 
-// A thread gains a lock whose word admits the mode, and notes it. Where the gain isn't plain, it claims the turnstile of
-// those who wait.
+// A thread gains a lock whose word admits the mode, and notes it. Where the gain isn't plain, it claims the turnstile
+// of those who wait.
 fn gain_or_claim(
     machine: &mut Machine,
     plan: &Plan,

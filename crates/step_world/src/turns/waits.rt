@@ -1,16 +1,20 @@
 //! The actions of a thread that waits on a channel or wakes others from it.
-ghost use Rattle.std.specs.Prelude.{◌≡◌, ◌<◌, length, Some, option_map};
+ghost use Rattle.std.specs.Prelude.{◌≡◌, ◌<◌, ◌||◌, not, length, Some, option_map};
+ghost use Rattle.lock_model.specs.Counts.{is_empty};
 ghost use Rattle.lock_model.specs.Operations.{IsProper};
 ghost use Rattle.lock_model.specs.Plans.{config_of};
 ghost use Rattle.lock_model.specs.declared.plan.Op.TheVariants.{Sleep};
-ghost use Rattle.lock_state.specs.Run.{Run, owed_release};
+ghost use Rattle.lock_objects.specs.Marked.{places_of};
+ghost use Rattle.lock_state.specs.Run.{Run, owed_release, owes};
 ghost use Rattle.run_laws.specs.OnTrack.{IsAtOperation};
+ghost use Rattle.step_machine.specs.Threads.{has_no_walk};
 ghost use Rattle.step_world.specs.Runs.{HasRun, IsRunOf, Follows, MakesAction, KeepsWhereIdle, IsDoneWaking, IsWake, answer_of};
 
 use crate::turns::locks::{give_back, take};
 use crate::turns::{Made, by_wait};
 use lock_model::{ChanNo, Event, LockNo, Plan, StepKind, ThreadNo, Turn};
-use step_machine::Machine;
+use prio_lending::Walk;
+use step_machine::{Machine, Thread};
 
 /// A thread that has gone to sleep gives the lock of its wait back first, without an entry.
 pub fn by_release(machine: &mut Machine, plan: &Plan, t: ThreadNo) -> Turn
@@ -39,8 +43,29 @@ fn owed_release(machine: &Machine, plan: &Plan, t: ThreadNo) -> Option<LockNo>
     thread.holds(l).then_some(l)
 }
 
-/// A wait's first turn: the thread is made ready, notes it, and stands on the channel's queue. Once it has been woken and
-/// runs again it takes the lock back, in the mode in which it held that.
+/// Whether a thread has a walk, somebody to wake, or a release after a wait to make.
+pub fn owes(machine: &Machine, plan: &Plan, t: ThreadNo) -> bool
+    requires thread { t.0 < length plan.now.threads }
+    requires run { HasRun plan.now machine.now (λ r. Unit) }
+    ensures { (r : Run) → IsRunOf plan.now machine.now r
+        → result ≡ owes (config_of plan.now) r.state t.0 }
+{
+    let thread = &machine.threads[usize::from(t.0)];
+    if is_busy(thread) {
+        return true;
+    }
+    owed_release(machine, plan, t).is_some()
+}
+
+// Whether it has a walk, or somebody to wake.
+fn is_busy(thread: &Thread) -> bool
+    ensures { result ≡ (not (has_no_walk thread.now.walk) || not (is_empty (places_of thread.now.marked))) }
+{
+    thread.walk != Walk::None || !thread.marked.is_empty()
+}
+
+/// A wait's first turn: the thread is made ready, notes it, and stands on the channel's queue. Once it has been woken
+/// and runs again it takes the lock back, in the mode in which it held that.
 pub fn sleep(machine: &mut Machine, plan: &Plan, t: ThreadNo, c: ChanNo) -> Made
     requires proper { IsProper plan.now }
     requires thread { t.0 < length plan.now.threads }

@@ -12,13 +12,14 @@ ghost use Rattle.lock_model.specs.Words.{word_of};
 ghost use Rattle.lock_model.specs.declared.plan.QueueName as names;
 ghost use Rattle.lock_objects.specs.Represents.{walk_of, hold_of, wait_of};
 ghost use Rattle.lock_state.specs.Facts.{Lawful};
-ghost use Rattle.lock_state.specs.Run.{Run, queue_lines};
+ghost use Rattle.lock_state.specs.Run.{Run, owes, queue_lines};
 ghost use Rattle.step_machine.specs.Represents as objects;
 ghost use Rattle.step_world.specs.Worlds.{Represents};
 ghost use Rattle.wait_objects.specs.Changes.{waits};
 
 use super::World;
 use crate::outcome::queue_lines;
+use crate::turns::owes;
 use chain_table::Chain;
 use lock_history::QueueLine;
 use lock_model::{Entry, Held, Kind, LockNo, Mode, Plan, Prio, QueueName, ThreadNo};
@@ -71,8 +72,8 @@ impl<'p> World<'p> {
         self.thread(t).wait
     }
 
-    /// The queue that the record of a thread, which the plan declares, names: the one on which the thread stands, or off
-    /// which it was taken and from which it has yet to get its object back.
+    /// The queue that the record of a thread, which the plan declares, names: the one on which the thread stands, or
+    /// off which it was taken and from which it has yet to get its object back.
     ///
     /// ```
     /// let on_first_lock = world.blocked_on(ThreadNo(0)) == Some(QueueName::Lock(LockNo(0)));
@@ -108,6 +109,20 @@ impl<'p> World<'p> {
         ensures { (r : Run) → Represents self.now r → walk_of result ≡ r.state.walk t.0 }
     {
         self.thread(t).walk
+    }
+
+    /// Whether a thread, which the plan declares, owes something: it has a walk, somebody to wake, or a release after a
+    /// wait to make.
+    ///
+    /// ```
+    /// let sleeps = world.wait(ThreadNo(0)) == Wait::Queued && !world.owes(ThreadNo(0));
+    /// ```
+    pub fn owes(&self, t: ThreadNo) -> bool
+        requires { t.0 < length self.now.plan.threads }
+        ensures { (r : Run) → Represents self.now r
+            → result ≡ owes (config_of self.now.plan) r.state t.0 }
+    {
+        owes(&self.machine, self.plan, t)
     }
 
     /// The locks that a thread, which the plan declares, holds, in order of acquisition.

@@ -6,22 +6,31 @@ use Rattle.adaptive_mutex.proofs.mutex.try_lock.Goals as goal
 use Rattle.adaptive_mutex.proofs.mutex.try_lock.Goals.{In-Err}
 
 pub gain-requires-clause-may : goal.gain-requires-clause-may
-gain-requires-clause-may c = may_gain_free c.args.floor.now.description c.args.l.0 true c.args.pass.now.view c.requires.may.mutex (acquires c.args.floor.now.description c.args.l.0 c.args.pass.now.view c.requires.ready.rest c.requires.may)
+gain-requires-clause-may c =
+    may_gain_free c.args.floor.now.description c.args.l.0 true c.args.pass.now.view c.requires.may.mutex
+    (acquires c.args.floor.now.description c.args.l.0 c.args.pass.now.view c.requires.ready.rest c.requires.may)
 
 pub gain-requires-clause-may_look : goal.gain-requires-clause-may_look
-gain-requires-clause-may_look c = may_look_on c.args.floor.now.description c.args.pass.now.view c.args.l.0 c.requires.ready.own.description c.requires.may.mutex.lock (rest_looks c.args.floor.now.description c.args.pass.now.view c.requires.ready.rest)
+gain-requires-clause-may_look c =
+    may_look_on c.args.floor.now.description c.args.pass.now.view c.args.l.0 c.requires.ready.own.description
+    c.requires.may.mutex.lock (rest_looks c.args.floor.now.description c.args.pass.now.view c.requires.ready.rest)
 
 -- 1. It gained the mutex
 
 pub stamp-requires-clause-may : goal.stamp-requires-clause-may
 stamp-requires-clause-may c =
-    let gained = gains_at_once c.args.floor.now.description c.args.l c.args.pass.now.view c.gain.new.pass.view c.in-Ok.ensures.view c.in-Ok.ensures.step in
-    may_note c.args.floor.now.description c.args.l true 0 c.args.pass.now.view c.gain.new.pass.view c.requires.ready.rest c.requires.may gained
+    let gained = gains_at_once c.args.floor.now.description c.args.l c.args.pass.now.view c.gain.new.pass.view
+    c.in-Ok.ensures.view c.in-Ok.ensures.step in
+    may_note c.args.floor.now.description c.args.l true 0 c.args.pass.now.view c.gain.new.pass.view
+    c.requires.ready.rest c.requires.may gained
 
 pub returns-in-Ok : goal.returns-in-Ok
 returns-in-Ok c =
-    let gained = gains_at_once c.args.floor.now.description c.args.l c.args.pass.now.view c.gain.new.pass.view c.in-Ok.ensures.view c.in-Ok.ensures.step in
-    let done = acquired c.args.floor.now.description c.args.l true 0 c.args.pass.now.view c.gain.new.pass.view c.requires.ready.rest c.requires.may gained c.stamp.new.pass.view c.stamp.result c.stamp.ensures.view c.stamp.ensures.step in
+    let gained = gains_at_once c.args.floor.now.description c.args.l c.args.pass.now.view c.gain.new.pass.view
+    c.in-Ok.ensures.view c.in-Ok.ensures.step in
+    let done = acquired c.args.floor.now.description c.args.l true 0 c.args.pass.now.view c.gain.new.pass.view
+    c.requires.ready.rest c.requires.may gained c.stamp.new.pass.view c.stamp.result c.stamp.ensures.view
+    c.stamp.ensures.step in
     record {
       ready = record { own = c.stamp.ensures.own; rest = done.rest };
       gained = done.entry;
@@ -33,16 +42,19 @@ returns-in-Ok c =
 -- 2. It found it held
 
 held : (c : In-Err) → is_free (word_of c.in-Err.seen).holder ≡ false
-held c = saw_held c.args.floor.now.description c.args.l.0 c.in-Err.seen c.args.pass.now.view c.gain.new.pass.view c.requires.may.mutex.kind c.in-Err.ensures.found.0 c.in-Err.ensures.looked c.in-Err.ensures.look
+held c = saw_held c.args.floor.now.description c.args.l.0 c.in-Err.seen c.args.pass.now.view c.gain.new.pass.view
+    c.requires.may.mutex.kind c.in-Err.ensures.found.0 c.in-Err.ensures.looked c.in-Err.ensures.look
 
 pub stamp-requires-in-Err-clause-may : goal.stamp-requires-in-Err-clause-may
 stamp-requires-in-Err-clause-may c =
-    may_note_busy c.args.floor.now.description c.args.l c.in-Err.seen c.args.pass.now.view c.gain.new.pass.view c.requires.ready.rest c.requires.may
+    may_note_busy c.args.floor.now.description c.args.l c.in-Err.seen c.args.pass.now.view c.gain.new.pass.view
+    c.requires.ready.rest c.requires.may
     (held (goal.at.stamp-requires-in-Err-clause-may c).In-Err) c.in-Err.ensures.looked
 
 pub returns-in-Err : goal.returns-in-Err
 returns-in-Err c =
-    let done = found_busy c.args.floor.now.description c.args.l c.in-Err.seen c.args.pass.now.view c.gain.new.pass.view c.requires.ready.rest c.requires.may
+    let done = found_busy c.args.floor.now.description c.args.l c.in-Err.seen c.args.pass.now.view c.gain.new.pass.view
+    c.requires.ready.rest c.requires.may
     (held (goal.at.returns-in-Err c).In-Err) c.in-Err.ensures.looked c.in-Err.ensures.found.1 c.in-Err.ensures.look
     c.stamp-in-Err.new.pass.view c.stamp-in-Err.result c.stamp-in-Err.ensures.view c.stamp-in-Err.ensures.step in
     record {

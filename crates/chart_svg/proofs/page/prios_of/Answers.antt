@@ -16,8 +16,10 @@ loop-step-preserved c = prios_more c.args.steps.now c.loop-step.step-index _ c.l
 
 pub returns : goal.returns
 returns c =
-    let Old : PrioSpan → Type 0 = λ step. Contains c.loop-step.prios.items step.effective × Contains c.loop-step.prios.items step.base in
-    let New : PrioSpan → Type 0 = λ step. Contains c.dedup.new.self.items step.effective × Contains c.dedup.new.self.items step.base in
+    let Old : PrioSpan → Type 0 = λ step. Contains c.loop-step.prios.items step.effective
+    × Contains c.loop-step.prios.items step.base in
+    let New : PrioSpan → Type 0 = λ step. Contains c.dedup.new.self.items step.effective
+    × Contains c.dedup.new.self.items step.base in
     let is = dedup_is _ _ _ c.dedup.ensures.filtered in
     let kept : (p : Prio) → Contains c.loop-step.prios.items p → Contains c.dedup.new.self.items p =
     λ p has. rw is (Contains-dedup (on_equiv (λ (prio : Prio). prio.0) nat_eq_equiv) same_prio _ p (Contains-permutation _ _ p c.sort_unstable.ensures.permutation has)) in

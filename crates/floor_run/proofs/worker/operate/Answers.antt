@@ -10,46 +10,74 @@ use Rattle.floor_run.proofs.worker.operate.Goals as goal
 use Rattle.floor_run.proofs.worker.operate.Goals.{in-Take, in-Try+in-Ok, in-EndTry, in-Release, in-Set, in-Add, in-Get, in-Base, in-Show}
 
 pub lock-requires-clause-may : goal.lock-requires-clause-may
-lock-requires-clause-may g c = lemma.may_take _ _ c.requires.given c.requires.proper c.requires.mutexes _ _ _ c.requires.before c.in-Take.l c.in-Take.mode (c.requires.op ∙ ap Some c.in-Take.is)
+lock-requires-clause-may g c =
+    lemma.may_take _ _ c.requires.given c.requires.proper c.requires.mutexes _ _ _ c.requires.before c.in-Take.l
+    c.in-Take.mode (c.requires.op ∙ ap Some c.in-Take.is)
 
 pub try_lock-requires-clause-may : goal.try_lock-requires-clause-may
-try_lock-requires-clause-may g c = lemma.may_try _ _ c.requires.given c.requires.proper c.requires.mutexes _ _ _ c.requires.before c.in-Try.l c.in-Try.mode c.in-Try.past (c.requires.op ∙ ap Some c.in-Try.is)
+try_lock-requires-clause-may g c =
+    lemma.may_try _ _ c.requires.given c.requires.proper c.requires.mutexes _ _ _ c.requires.before c.in-Try.l
+    c.in-Try.mode c.in-Try.past (c.requires.op ∙ ap Some c.in-Try.is)
 
 pub unlock-requires-clause-may : goal.unlock-requires-clause-may
-unlock-requires-clause-may g c = lemma.may_release _ _ c.requires.given c.requires.proper c.requires.mutexes _ _ _ c.requires.before c.in-Release.l (c.requires.op ∙ ap Some c.in-Release.is)
+unlock-requires-clause-may g c =
+    lemma.may_release _ _ c.requires.given c.requires.proper c.requires.mutexes _ _ _ c.requires.before c.in-Release.l
+    (c.requires.op ∙ ap Some c.in-Release.is)
 
 pub edit-requires-clause-held : goal.edit-requires-clause-held
-edit-requires-clause-held g c = (lemma.may_set _ _ c.requires.given c.requires.proper c.requires.mutexes _ _ _ c.requires.before c.in-Set.l c.in-Set.key c.in-Set.value (c.requires.op ∙ ap Some c.in-Set.is)).0
+edit-requires-clause-held g c =
+    (lemma.may_set _ _ c.requires.given c.requires.proper c.requires.mutexes _ _ _ c.requires.before c.in-Set.l
+    c.in-Set.key c.in-Set.value (c.requires.op ∙ ap Some c.in-Set.is)).0
 
 pub edit-requires-clause-named : goal.edit-requires-clause-named
-edit-requires-clause-named g c = (lemma.may_set _ _ c.requires.given c.requires.proper c.requires.mutexes _ _ _ c.requires.before c.in-Set.l c.in-Set.key c.in-Set.value (c.requires.op ∙ ap Some c.in-Set.is)).1
+edit-requires-clause-named g c =
+    (lemma.may_set _ _ c.requires.given c.requires.proper c.requires.mutexes _ _ _ c.requires.before c.in-Set.l
+    c.in-Set.key c.in-Set.value (c.requires.op ∙ ap Some c.in-Set.is)).1
 
 pub edit-requires-clause-room : goal.edit-requires-clause-room
-edit-requires-clause-room g c = lemma.room_for_one _ _ c.requires.given c.requires.proper c.requires.mutexes _ _ _ c.requires.before c.args.op c.requires.op
+edit-requires-clause-room g c =
+    lemma.room_for_one _ _ c.requires.given c.requires.proper c.requires.mutexes _ _ _ c.requires.before c.args.op
+    c.requires.op
 
 pub edit-requires-in-Add-clause-held : goal.edit-requires-in-Add-clause-held
-edit-requires-in-Add-clause-held g c = (lemma.may_add _ _ c.requires.given c.requires.proper c.requires.mutexes _ _ _ c.requires.before c.in-Add.l c.in-Add.key c.in-Add.amount (c.requires.op ∙ ap Some c.in-Add.is)).0
+edit-requires-in-Add-clause-held g c =
+    (lemma.may_add _ _ c.requires.given c.requires.proper c.requires.mutexes _ _ _ c.requires.before c.in-Add.l
+    c.in-Add.key c.in-Add.amount (c.requires.op ∙ ap Some c.in-Add.is)).0
 
 pub edit-requires-in-Add-clause-named : goal.edit-requires-in-Add-clause-named
-edit-requires-in-Add-clause-named g c = (lemma.may_add _ _ c.requires.given c.requires.proper c.requires.mutexes _ _ _ c.requires.before c.in-Add.l c.in-Add.key c.in-Add.amount (c.requires.op ∙ ap Some c.in-Add.is)).1
+edit-requires-in-Add-clause-named g c =
+    (lemma.may_add _ _ c.requires.given c.requires.proper c.requires.mutexes _ _ _ c.requires.before c.in-Add.l
+    c.in-Add.key c.in-Add.amount (c.requires.op ∙ ap Some c.in-Add.is)).1
 
 pub edit-requires-in-Add-clause-room : goal.edit-requires-in-Add-clause-room
-edit-requires-in-Add-clause-room g c = lemma.room_for_one _ _ c.requires.given c.requires.proper c.requires.mutexes _ _ _ c.requires.before c.args.op c.requires.op
+edit-requires-in-Add-clause-room g c =
+    lemma.room_for_one _ _ c.requires.given c.requires.proper c.requires.mutexes _ _ _ c.requires.before c.args.op
+    c.requires.op
 
 pub read-requires-clause-held : goal.read-requires-clause-held
-read-requires-clause-held g c = (lemma.may_get _ _ c.requires.given c.requires.proper c.requires.mutexes _ _ _ c.requires.before c.in-Get.l c.in-Get.key (c.requires.op ∙ ap Some c.in-Get.is)).0
+read-requires-clause-held g c =
+    (lemma.may_get _ _ c.requires.given c.requires.proper c.requires.mutexes _ _ _ c.requires.before c.in-Get.l
+    c.in-Get.key (c.requires.op ∙ ap Some c.in-Get.is)).0
 
 pub read-requires-clause-named : goal.read-requires-clause-named
-read-requires-clause-named g c = (lemma.may_get _ _ c.requires.given c.requires.proper c.requires.mutexes _ _ _ c.requires.before c.in-Get.l c.in-Get.key (c.requires.op ∙ ap Some c.in-Get.is)).1
+read-requires-clause-named g c =
+    (lemma.may_get _ _ c.requires.given c.requires.proper c.requires.mutexes _ _ _ c.requires.before c.in-Get.l
+    c.in-Get.key (c.requires.op ∙ ap Some c.in-Get.is)).1
 
 pub read-requires-clause-room : goal.read-requires-clause-room
-read-requires-clause-room g c = lemma.room_for_one _ _ c.requires.given c.requires.proper c.requires.mutexes _ _ _ c.requires.before c.args.op c.requires.op
+read-requires-clause-room g c =
+    lemma.room_for_one _ _ c.requires.given c.requires.proper c.requires.mutexes _ _ _ c.requires.before c.args.op
+    c.requires.op
 
 pub set_base-requires-clause-room : goal.set_base-requires-clause-room
-set_base-requires-clause-room g c = lemma.room_for_one _ _ c.requires.given c.requires.proper c.requires.mutexes _ _ _ c.requires.before c.args.op c.requires.op
+set_base-requires-clause-room g c =
+    lemma.room_for_one _ _ c.requires.given c.requires.proper c.requires.mutexes _ _ _ c.requires.before c.args.op
+    c.requires.op
 
 pub show-requires-clause-room : goal.show-requires-clause-room
-show-requires-clause-room g c = lemma.room_for_one _ _ c.requires.given c.requires.proper c.requires.mutexes _ _ _ c.requires.before c.args.op c.requires.op
+show-requires-clause-room g c =
+    lemma.room_for_one _ _ c.requires.given c.requires.proper c.requires.mutexes _ _ _ c.requires.before c.args.op
+    c.requires.op
 
 pub unreachable-requires : goal.unreachable-requires
 unreachable-requires g c =
@@ -67,7 +95,12 @@ unreachable-requires g c =
 
 pub overflow_add-result : goal.overflow_add-result
 overflow_add-result g c =
-    omega (arith, lemma.few_operations c.args.plan.now c.args.pass.now.view.thread c.requires.proper, slice_get_within (operations_of c.args.plan.now c.args.pass.now.view.thread) c.args.n c.args.op c.requires.op)
+    omega (
+      arith,
+      lemma.few_operations c.args.plan.now c.args.pass.now.view.thread c.requires.proper,
+      slice_get_within
+          (operations_of c.args.plan.now c.args.pass.now.view.thread) c.args.n c.args.op c.requires.op,
+    )
 
 pub returns-clause-before : goal.returns-clause-before
 returns-clause-before g c =
@@ -79,24 +112,47 @@ returns-clause-before g c =
     let t = c.args.pass.now.view.thread in
     let b = c.requires.before in
     let next : suc c.args.n ≡ c.args.n + 1 = omega arith in
-    let at : (x : Op) → c.args.op ≡ x → slice_get (operations_of plan t) c.args.n ≡ Some x = λ x is. c.requires.op ∙ ap Some is in
-    let leads : (y : Pass Knowledge) → c.match-op.pass ≡ y → IsBefore plan f t (suc c.args.n) y → IsBefore plan f t (c.args.n + 1) c.match-op.pass =
+    let at : (x : Op) → c.args.op ≡ x → slice_get (operations_of plan t) c.args.n ≡ Some x = λ x is. c.requires.op
+    ∙ ap Some is in
+    let leads : (y : Pass Knowledge) → c.match-op.pass ≡ y → IsBefore plan f t (suc c.args.n) y
+    → IsBefore plan f t (c.args.n + 1) c.match-op.pass =
     λ y same h. subst (λ (z : ℕ × Pass Knowledge). IsBefore plan f t z.0 z.1) (λ i. (next i, sym same i)) h in
     elim c.match-op.branch [
-      | in-Take w ↦ leads w.lock.new.pass w.pass-is (lemma.took plan f q p m t c.args.n c.args.pass.now b w.lock.new.pass w.in-Take.l w.in-Take.mode (at _ w.in-Take.is) w.lock.ensures.ready w.lock.ensures.entry)
-      | in-Try+in-Ok w ↦ leads w.try_lock.new.pass w.pass-is (lemma.tried plan f q p m t c.args.n c.args.pass.now b w.try_lock.new.pass w.in-Try.l w.in-Try.mode w.in-Try.past (at _ w.in-Try.is) w.try_lock.ensures.ready w.in-Ok.ensures.gained)
-      | in-EndTry w ↦ leads c.args.pass.now w.pass-is (lemma.passed_endtry plan f q p m t c.args.n c.args.pass.now b (at _ w.in-EndTry.is))
-      | in-Release w ↦ leads w.unlock.new.pass w.pass-is (lemma.released plan f q p m t c.args.n c.args.pass.now b w.unlock.new.pass w.in-Release.l (at _ w.in-Release.is) w.unlock.ensures.ready w.unlock.ensures.entry)
-      | in-Set w ↦ leads w.edit.new.pass w.pass-is (lemma.set plan f q p m t c.args.n c.args.pass.now b w.edit.new.pass w.in-Set.l w.in-Set.key w.in-Set.value (at _ w.in-Set.is) w.edit.ensures.ready w.edit.ensures.entry)
-      | in-Add w ↦ leads w.edit-in-Add.new.pass w.pass-is (lemma.added plan f q p m t c.args.n c.args.pass.now b w.edit-in-Add.new.pass w.in-Add.l w.in-Add.key w.in-Add.amount (at _ w.in-Add.is) w.edit-in-Add.ensures.ready w.edit-in-Add.ensures.entry)
-      | in-Get w ↦ leads w.read.new.pass w.pass-is (lemma.got plan f q p m t c.args.n c.args.pass.now b w.read.new.pass w.in-Get.l w.in-Get.key w.read.result (at _ w.in-Get.is) w.read.ensures.ready w.read.ensures.entry)
-      | in-Base w ↦ leads w.set_base.new.pass w.pass-is (lemma.based plan f q p m t c.args.n c.args.pass.now b w.set_base.new.pass w.in-Base.prio (at _ w.in-Base.is) w.set_base.ensures.ready w.set_base.ensures.entry)
-      | in-Show w ↦ leads w.show.new.pass w.pass-is (lemma.shown plan f q p m t c.args.n c.args.pass.now b w.show.new.pass w.show.result.0 w.show.result.1 (at _ w.in-Show.is) w.show.ensures.ready w.show.ensures.entry)
+      | in-Take w ↦ leads w.lock.new.pass w.pass-is
+          (lemma.took plan f q p m t c.args.n c.args.pass.now b w.lock.new.pass w.in-Take.l w.in-Take.mode
+          (at _ w.in-Take.is) w.lock.ensures.ready w.lock.ensures.entry)
+      | in-Try+in-Ok w ↦ leads w.try_lock.new.pass w.pass-is
+          (lemma.tried plan f q p m t c.args.n c.args.pass.now b w.try_lock.new.pass w.in-Try.l w.in-Try.mode
+          w.in-Try.past (at _ w.in-Try.is) w.try_lock.ensures.ready w.in-Ok.ensures.gained)
+      | in-EndTry w ↦ leads c.args.pass.now w.pass-is
+          (lemma.passed_endtry plan f q p m t c.args.n c.args.pass.now b (at _ w.in-EndTry.is))
+      | in-Release w ↦ leads w.unlock.new.pass w.pass-is
+          (lemma.released plan f q p m t c.args.n c.args.pass.now b w.unlock.new.pass w.in-Release.l
+          (at _ w.in-Release.is) w.unlock.ensures.ready w.unlock.ensures.entry)
+      | in-Set w ↦ leads w.edit.new.pass w.pass-is
+          (lemma.set plan f q p m t c.args.n c.args.pass.now b w.edit.new.pass w.in-Set.l w.in-Set.key w.in-Set.value
+          (at _ w.in-Set.is) w.edit.ensures.ready w.edit.ensures.entry)
+      | in-Add w ↦ leads w.edit-in-Add.new.pass w.pass-is
+          (lemma.added plan f q p m t c.args.n c.args.pass.now b w.edit-in-Add.new.pass w.in-Add.l w.in-Add.key
+          w.in-Add.amount (at _ w.in-Add.is) w.edit-in-Add.ensures.ready w.edit-in-Add.ensures.entry)
+      | in-Get w ↦ leads w.read.new.pass w.pass-is
+          (lemma.got plan f q p m t c.args.n c.args.pass.now b w.read.new.pass w.in-Get.l w.in-Get.key w.read.result
+          (at _ w.in-Get.is) w.read.ensures.ready w.read.ensures.entry)
+      | in-Base w ↦ leads w.set_base.new.pass w.pass-is
+          (lemma.based plan f q p m t c.args.n c.args.pass.now b w.set_base.new.pass w.in-Base.prio (at _ w.in-Base.is)
+          w.set_base.ensures.ready w.set_base.ensures.entry)
+      | in-Show w ↦ leads w.show.new.pass w.pass-is
+          (lemma.shown plan f q p m t c.args.n c.args.pass.now b w.show.new.pass w.show.result.0 w.show.result.1
+          (at _ w.in-Show.is) w.show.ensures.ready w.show.ensures.entry)
     ]
 
 pub returns-in-Err-clause-before : goal.returns-in-Err-clause-before
 returns-in-Err-clause-before g c =
-    lemma.found_busy _ _ c.requires.given c.requires.proper c.requires.mutexes _ _ _ c.requires.before c.try_lock.new.pass c.in-Try.l c.in-Try.mode c.in-Try.past _ (c.requires.op ∙ ap Some c.in-Try.is) c.try_lock.ensures.ready c.in-Err.ensures.busy c.in-Err.ensures.noted
+    lemma.found_busy _ _ c.requires.given c.requires.proper c.requires.mutexes _ _ _ c.requires.before
+    c.try_lock.new.pass c.in-Try.l c.in-Try.mode c.in-Try.past _ (c.requires.op ∙ ap Some c.in-Try.is)
+    c.try_lock.ensures.ready c.in-Err.ensures.busy c.in-Err.ensures.noted
 
 pub returns-in-Err-clause-further : goal.returns-in-Err-clause-further
-returns-in-Err-clause-further g c = lemma.further_on _ _ c.requires.given c.requires.proper c.requires.mutexes _ _ _ c.requires.before c.in-Try.l c.in-Try.mode c.in-Try.past (c.requires.op ∙ ap Some c.in-Try.is)
+returns-in-Err-clause-further g c =
+    lemma.further_on _ _ c.requires.given c.requires.proper c.requires.mutexes _ _ _ c.requires.before c.in-Try.l
+    c.in-Try.mode c.in-Try.past (c.requires.op ∙ ap Some c.in-Try.is)

@@ -13,7 +13,13 @@ loop-next-init g c =
     subst (IsBefore plan f t 0) (sym c.requires.first) (at_first plan f c.requires.given t)
 
 pub overflow_cast-next : goal.overflow_cast-next
-overflow_cast-next g c = omega (arith, c.loop-next.invariant.within, few_operations c.args.plan.now c.args.pass.now.view.thread c.requires.proper)
+overflow_cast-next g c =
+    omega (
+      arith,
+      c.loop-next.invariant.within,
+      few_operations c.args.plan.now c.args.pass.now.view.thread
+          c.requires.proper,
+    )
 
 pub operate-next-requires-clause-op : goal.operate-next-requires-clause-op
 operate-next-requires-clause-op g c =

@@ -24,13 +24,19 @@ pub put-requires : goal.put-requires
 put-requires c =
     let keys = c.args.keys.now in
     let i = c.loop-i.i in
-    record { room = subst (λ ps. Contains ps (get_or keys i (0, 0))) (sym c.loop-i.invariant.room) (c.requires.room _ _ (Contains-get_or keys i (0, 0) c.loop-i-test.true)) }
+    record {
+      room = subst (λ ps. Contains ps (get_or keys i (0, 0))) (sym c.loop-i.invariant.room)
+          (c.requires.room _ _ (Contains-get_or keys i (0, 0) c.loop-i-test.true));
+    }
 
 pub cell_from-value-requires : goal.cell_from-value-requires
 cell_from-value-requires c =
     let i = c.loop-i.i in
-    let known = c.requires.cells i c.loop-i-test.true in
-    (known.0, some-injective _ _ (sym c.take.ensures.value ∙ ap (λ xs. get_elem? xs (c.args.threads + i)) c.loop-i.invariant.items ∙ known.1))
+    let known = c.requires.cells i c.loop-i-test.true in (
+      known.0,
+      some-injective _ _
+          (sym c.take.ensures.value ∙ ap (λ xs. get_elem? xs (c.args.threads + i)) c.loop-i.invariant.items ∙ known.1),
+    )
 
 pub loop-i-preserved : goal.loop-i-preserved
 loop-i-preserved c =
@@ -43,8 +49,12 @@ loop-i-preserved c =
     let low = c.loop-i-test.true in
     record {
       values = λ column is.
-          let here = same_value (column cell.0 cell.1) c.cell_from-value.result (sym (is c.loop-i.i (0, 0) low) ∙ ap (λ xs. get_elem? xs t) (sym i.items) ∙ c.take.ensures.value ∙ ap some c.cell_from-value.ensures) in
-          shows_more keys c.loop-i.i column c.loop-i.tables.present low (i.values column is) cell (get_or_default keys c.loop-i.i (0, 0) cell low) c.cell_from-value.result c.put.new.tables.present here c.put.ensures.some c.put.ensures.none;
+          let here = same_value (column cell.0 cell.1) c.cell_from-value.result
+          (sym (is c.loop-i.i (0, 0) low) ∙ ap (λ xs. get_elem? xs t) (sym i.items) ∙ c.take.ensures.value
+          ∙ ap some c.cell_from-value.ensures) in
+          shows_more keys c.loop-i.i column c.loop-i.tables.present low (i.values column is) cell
+          (get_or_default keys c.loop-i.i (0, 0) cell low) c.cell_from-value.result c.put.new.tables.present here
+          c.put.ensures.some c.put.ensures.none;
       room = c.put.ensures.places ∙ i.room;
       items = others.0 ∙ i.items;
       places = others.2 ∙ i.places;

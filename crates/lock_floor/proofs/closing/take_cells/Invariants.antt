@@ -10,7 +10,9 @@ use Rattle.lock_floor.proofs.closing.take_cells.Given as goal
 abbrev pub invariant-loop-i : goal.invariant-loop-i
 invariant-loop-i l = record {
   values : (column : ℕ → ℕ → Option ℕ)
-      → ((i : ℕ) (d : ℕ × ℕ) → i < length l.keys → get_elem? (slots_items l.initial.closed.slots) (l.threads + i) ≡ some (Cell (column (get_or l.keys i d).0 (get_or l.keys i d).1)))
+      → ((i : ℕ) (d : ℕ × ℕ) → i < length l.keys
+      → get_elem? (slots_items l.initial.closed.slots) (l.threads + i) ≡ some
+      (Cell (column (get_or l.keys i d).0 (get_or l.keys i d).1)))
       → Shows l.keys l.i column l.tables.present;
   room : l.tables.places ≡ l.initial.tables.places;
   items : slots_items l.closed.slots ≡ slots_items l.initial.closed.slots;

@@ -11,6 +11,8 @@ loop-i-preserved c =
     let flags = slots_filled c.loop-i.closed.slots in
     record {
       places = others.2 ∙ kept.places;
-      taken = λ k below. ap (λ fs. get_or fs k false) others.1 ∙ still_empty flags i k (omega (arith, below)) kept.taken;
-      left = λ k past low. ap (λ fs. get_or fs k false) others.1 ∙ still_full flags i k (omega (arith, past)) ∙ kept.left k (omega (arith, past)) (subst (λ n. k < n) others.2 low);
+      taken = λ k below. ap (λ fs. get_or fs k false) others.1
+          ∙ still_empty flags i k (omega (arith, below)) kept.taken;
+      left = λ k past low. ap (λ fs. get_or fs k false) others.1 ∙ still_full flags i k (omega (arith, past))
+          ∙ kept.left k (omega (arith, past)) (subst (λ n. k < n) others.2 low);
     }

@@ -12,5 +12,6 @@ invariant-loop-t l = record {
   me : l.seat.me ≡ (record (keeper l.description) { made = l.t; spare = rooms_from l.description l.t }, []);
   count : length l.passes.items ≡ l.t;
   room : length l.description.threads ≤ vec_capacity l.passes;
-  each : (k : ℕ) (d : Pass Knowledge) → k < l.t → get_or l.passes.items k d ≡ first_pass l.board.shared.table_id l.description k;
+  each : (k : ℕ) (d : Pass Knowledge) → k < l.t
+      → get_or l.passes.items k d ≡ first_pass l.board.shared.table_id l.description k;
 }

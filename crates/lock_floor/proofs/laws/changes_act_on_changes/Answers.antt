@@ -5,7 +5,8 @@ use Rattle.lock_floor.proofs.Replaying as law
 use Rattle.lock_floor.proofs.laws.changes_act_on_changes.Goals as goal
 
 pub returns-clause-tables : goal.returns-clause-tables
-returns-clause-tables c floor l key change old new m = law.tables_changed (config_in floor) m.state old.thread l key change
+returns-clause-tables c floor l key change old new m =
+    law.tables_changed (config_in floor) m.state old.thread l key change
 
 pub returns-clause-value : goal.returns-clause-value
 returns-clause-value c floor l key change old new m =
@@ -15,7 +16,9 @@ returns-clause-value c floor l key change old new m =
 
 pub returns-clause-others : goal.returns-clause-others
 returns-clause-others c floor l key change old new m k other apart =
-    ap (λ f. f k other) (law.tables_changed (config_in floor) m.state old.thread l key change) ∙ law.others_stay m.state.table l key change k other apart
+    ap (λ f. f k other) (law.tables_changed (config_in floor) m.state old.thread l key change)
+    ∙ law.others_stay m.state.table l key change k other apart
 
 pub returns-clause-replay : goal.returns-clause-replay
-returns-clause-replay c floor l key change old new m k other = law.replayed_behind floor (event_of l key change) old new m k other
+returns-clause-replay c floor l key change old new m k other =
+    law.replayed_behind floor (event_of l key change) old new m k other

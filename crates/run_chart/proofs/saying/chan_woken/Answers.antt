@@ -10,7 +10,8 @@ use Rattle.run_chart.proofs.saying.chan_woken.Goals as goal
 same : (c d : ChanNo) → Some c.0 ≡ Some d.0 → d ≡ c
 same c d e = let at : d.0 ≡ c.0 = cc in λ i. record { 0 = at i }
 
-wakes : (r : Option ChanNo) (e : Event) → option_map (λ c. c.0) r ≡ woken_chan (of_sleep e) → IfSome r (λ c. WakesSleepers c (Some e))
+wakes : (r : Option ChanNo) (e : Event) → option_map (λ c. c.0) r ≡ woken_chan (of_sleep e)
+    → IfSome r (λ c. WakesSleepers c (Some e))
 wakes None e h = tt
 wakes (Some c) (WokeOne d woken) h = (woken, inl (ap (λ (x : ChanNo). Some (WokeOne x woken)) (same c d h)))
 wakes (Some c) (WokeAll d woken) h = (woken, inr (ap (λ (x : ChanNo). Some (WokeAll x woken)) (same c d h)))

@@ -19,10 +19,16 @@ returns-in_err-lock c plan h made =
     let who = c.args.row.who.0 in
     subst (TellsTurn plan c.args.turn who) (sym c.from_residual-in_err-lock.ensures)
     (tells_none plan c.args.turn who (Did Note) made
-    (λ has. c.in_err-lock.ensures.none has.0 has.1 (one_event plan c.args.turn who (Reversed has.0 has.1) has.2.noted c.in_ok-event.event (c.in_ok-event.ensures plan h c.requires))))
+    (λ has. c.in_err-lock.ensures.none has.0 has.1
+    (one_event plan c.args.turn who (Reversed has.0 has.1) has.2.noted c.in_ok-event.event
+    (c.in_ok-event.ensures plan h c.requires))))
 
 pub returns : goal.returns
 returns c plan h made =
     let who = c.args.row.who.0 in
     let event = ap Some (sym c.in_ok-lock.ensures.some) ∙ c.in_ok-event.ensures plan h c.requires in
-    tells plan c.args.turn who _ (record { made = made; noted = noted plan c.args.turn who Note made (Reversed c.in_ok-lock.lock c.in_ok-lock.held) event })
+    tells plan c.args.turn who _
+    (record {
+      made = made;
+      noted = noted plan c.args.turn who Note made (Reversed c.in_ok-lock.lock c.in_ok-lock.held) event;
+    })

@@ -12,5 +12,7 @@ loop-t-preserved c =
     let more = c.in_ok-push.ensures.items in
     record {
       number = ap length more ∙ length_push old thread ∙ ap (λ (n : ℕ). n + 1) i.number;
-      told = λ runs h. rw more (each_push (TellsThread c.args.world.now.plan runs 1) old thread (i.told runs h) (rw i.number (c.in_ok-begin_thread.ensures runs h)));
+      told = λ runs h. rw more
+          (each_push (TellsThread c.args.world.now.plan runs 1) old thread (i.told runs h)
+          (rw i.number (c.in_ok-begin_thread.ensures runs h)));
     }

@@ -14,7 +14,9 @@ loop-t-preserved c =
     let now = next before threads t c.from.result c.threads-t-end.result c.index_mut.result.now i.left c.from.ensures c.loop-t-test.true (c.threads-t-end.ensures.number ∙ sym c.requires.number) c.index_mut.ensures.value in
     record {
       left = left_more before threads t c.from.result c.note_thread.new.tracks c.from.ensures i.left;
-      done = λ runs h each. rw c.from.ensures (done_more (TellsThread plan runs (row + 1)) threads t c.note_thread.new.tracks now.within (i.done runs h each) (c.in_ok-note_thread.ensures runs h (each t c.index_mut.result.now now.there)));
+      done = λ runs h each. rw c.from.ensures
+          (done_more (TellsThread plan runs (row + 1)) threads t c.note_thread.new.tracks now.within
+          (i.done runs h each) (c.in_ok-note_thread.ensures runs h (each t c.index_mut.result.now now.there)));
     }
 
 pub note_thread-requires-clause-told : goal.note_thread-requires-clause-told

@@ -9,7 +9,9 @@ pub returns-in_err-number : goal.returns-in_err-number
 returns-in_err-number c =
     let w = c.args.word.now in
     let i = c.loop-b.b-index in
-    c.from_residual.ensures ∙ sym (too_large w (omega (arith, value-take w (i + 1), value-next w i c.loop-b-test.true, c.in_err-number.ensures)))
+    c.from_residual.ensures
+    ∙ sym (too_large w (omega
+    (arith, value-take w (i + 1), value-next w i c.loop-b-test.true, c.in_err-number.ensures)))
 
 pub returns : goal.returns
 returns c =

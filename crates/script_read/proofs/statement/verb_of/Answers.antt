@@ -10,10 +10,12 @@ pub returns-then-is_word : goal.returns-then-is_word
 returns-then-is_word c =
     let w = c.args.word.now in
     let v = c.in_ok-verb.verb in
-    known_word w v (sym c.in_ok-verb.ensures) (sym (ap (is_same w) c.word.ensures) ∙ sym c.is_word.ensures ∙ c.if-is_word.true)
+    known_word w v (sym c.in_ok-verb.ensures)
+    (sym (ap (is_same w) c.word.ensures) ∙ sym c.is_word.ensures ∙ c.if-is_word.true)
 
 pub returns-else-is_word : goal.returns-else-is_word
 returns-else-is_word c =
     let w = c.args.word.now in
     let v = c.in_ok-verb.verb in
-    other_word w v (sym c.in_ok-verb.ensures) (sym (ap (is_same w) c.word.ensures) ∙ sym c.is_word.ensures ∙ c.if-is_word.false)
+    other_word w v (sym c.in_ok-verb.ensures)
+    (sym (ap (is_same w) c.word.ensures) ∙ sym c.is_word.ensures ∙ c.if-is_word.false)

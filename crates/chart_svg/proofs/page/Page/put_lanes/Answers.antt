@@ -51,6 +51,8 @@ returns-clause-bars c = of_all (λ (bar : Bar). bar.thread.0) (IsOf (λ lane. Is
     (ap length c.as_slice-lanes.ensures) c.loop-t-test.false c.in_ok-bars.ensures.has c.loop-t.invariant.bars
 
 pub returns-clause-steps : goal.returns-clause-steps
-returns-clause-steps c = of_all (λ (step : PrioSpan). step.thread.0) (IsOf HasStep c.loop-t.self.lanes.items) c.as_slice-2.result.now c.args.self.now.chart.now.steps
+returns-clause-steps c =
+    of_all (λ (step : PrioSpan). step.thread.0) (IsOf HasStep c.loop-t.self.lanes.items) c.as_slice-2.result.now
+    c.args.self.now.chart.now.steps
     c.as_slice-2.ensures c.in_ok-steps.steps.items (length c.as_slice-lanes.result.now) (length c.args.self.now.chart.now.lanes) c.loop-t.t
     (ap length c.as_slice-lanes.ensures) c.loop-t-test.false c.in_ok-steps.ensures.has c.loop-t.invariant.steps

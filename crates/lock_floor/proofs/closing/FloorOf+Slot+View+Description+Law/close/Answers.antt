@@ -23,8 +23,11 @@ take_records-requires-clause-records c t low =
     let key : Description = c.self.inside.board.shared.key in
     let v : Knowledge = c.keeper.inside.seat.me.0 in
     let final = last key v _ _ _ c.keeper.invariant.first c.close_with-closed.ensures.values.2 in
-    let all = ap (λ (k : Keeper). length k.view.gathered) c.keeper.view_is ∙ c.requires.all ∙ sym (ap (λ (f : Floor Description). length f.description.threads) c.self.view_is) in
-    let p = record_home key v _ _ final all t (subst (λ n. t < n) (count c.self.inside.description key c.as_slice-threads.result.now c.self.invariant.kept c.as_slice-threads.ensures) low) in
+    let all = ap (λ (k : Keeper). length k.view.gathered) c.keeper.view_is ∙ c.requires.all
+    ∙ sym (ap (λ (f : Floor Description). length f.description.threads) c.self.view_is) in
+    let p = record_home key v _ _ final all t
+    (subst (λ n. t < n) (count c.self.inside.description key c.as_slice-threads.result.now c.self.invariant.kept
+    c.as_slice-threads.ensures) low) in
     (p.0, p.1)
 
 pub take_cells-requires-clause-cells : goal.take_cells-requires-clause-cells
@@ -32,10 +35,13 @@ take_cells-requires-clause-cells c i low =
     let key : Description = c.self.inside.board.shared.key in
     let v : Knowledge = c.keeper.inside.seat.me.0 in
     let final = last key v _ _ _ c.keeper.invariant.first c.close_with-closed.ensures.values.2 in
-    let all = ap (λ (k : Keeper). length k.view.gathered) c.keeper.view_is ∙ c.requires.all ∙ sym (ap (λ (f : Floor Description). length f.description.threads) c.self.view_is) in
-    let same = count c.self.inside.description key c.as_slice-threads.result.now c.self.invariant.kept c.as_slice-threads.ensures in
+    let all = ap (λ (k : Keeper). length k.view.gathered) c.keeper.view_is ∙ c.requires.all
+    ∙ sym (ap (λ (f : Floor Description). length f.description.threads) c.self.view_is) in
+    let same = count c.self.inside.description key c.as_slice-threads.result.now c.self.invariant.kept
+    c.as_slice-threads.ensures in
     let keys = c.as_slice.ensures ∙ ap (λ (d : Description). d.keys) c.self.invariant.kept in
-    let p = cells_out key v _ _ final all (length c.as_slice-threads.result.now) c.as_slice.result.now (slots_items c.take_records.new.closed.slots) same keys c.take_records.ensures.items i (0, 0) low in
+    let p = cells_out key v _ _ final all (length c.as_slice-threads.result.now) c.as_slice.result.now
+    (slots_items c.take_records.new.closed.slots) same keys c.take_records.ensures.items i (0, 0) low in
     (_, p)
 
 pub returns-clause-closing : goal.returns-clause-closing
@@ -43,11 +49,19 @@ returns-clause-closing c =
     let key : Description = c.self.inside.board.shared.key in
     let v : Knowledge = c.keeper.inside.seat.me.0 in
     let final = last key v _ _ _ c.keeper.invariant.first c.close_with-closed.ensures.values.2 in
-    let all = ap (λ (k : Keeper). length k.view.gathered) c.keeper.view_is ∙ c.requires.all ∙ sym (ap (λ (f : Floor Description). length f.description.threads) c.self.view_is) in
-    let same = count c.self.inside.description key c.as_slice-threads.result.now c.self.invariant.kept c.as_slice-threads.ensures in
+    let all = ap (λ (k : Keeper). length k.view.gathered) c.keeper.view_is ∙ c.requires.all
+    ∙ sym (ap (λ (f : Floor Description). length f.description.threads) c.self.view_is) in
+    let same = count c.self.inside.description key c.as_slice-threads.result.now c.self.invariant.kept
+    c.as_slice-threads.ensures in
     let keys = c.as_slice.ensures ∙ ap (λ (d : Description). d.keys) c.self.invariant.kept in
-    let out = cells_out key v _ _ final all (length c.as_slice-threads.result.now) c.as_slice.result.now (slots_items c.take_records.new.closed.slots) same keys c.take_records.ensures.items in
-    let x : Closing = record { recs = c.take_records.new.recs; logs = c.keeper.inside.logs; tables = c.take_cells.new.tables; halted = false } in
+    let out = cells_out key v _ _ final all (length c.as_slice-threads.result.now) c.as_slice.result.now
+    (slots_items c.take_records.new.closed.slots) same keys c.take_records.ensures.items in
+    let x : Closing = record {
+      recs = c.take_records.new.recs;
+      logs = c.keeper.inside.logs;
+      tables = c.take_cells.new.tables;
+      halted = false;
+    } in
     let column : ℕ → ℕ → Option ℕ = (left key v _ _ final all).table in
     let values = c.take_cells.ensures.values column out in
     subst (λ (z : Description × List (ℕ × Share)). IsClosing z.0 (map (λ g. g.0) z.1) x)

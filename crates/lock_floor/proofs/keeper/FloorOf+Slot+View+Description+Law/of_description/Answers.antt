@@ -18,14 +18,16 @@ new-requires c =
     let count : c.len.result ≡ slots_for floor = omega (arith, long, c.len.ensures) in
     let same : c.as_slice-2.result.now ≡ c.in_ok-words.words.items = search rules in
     let threads = ap length c.as_slice-count.ensures in
-    let first = subst (λ (z : ℕ × ℕ). AreFirstWords z.0 z.1 c.in_ok-words.words.items) (λ i. (threads i, count i)) c.in_ok-words.ensures in
+    let first = subst (λ (z : ℕ × ℕ). AreFirstWords z.0 z.1 c.in_ok-words.words.items) (λ i. (threads i, count i))
+    c.in_ok-words.ensures in
     subst (λ (ws : List ℕ). FloorHolds floor (opening ws c.in_ok-slots.slots.items (keeper floor))) (sym same)
     (opens floor c.in_ok-words.words.items c.in_ok-slots.slots.items c.requires long first c.in_ok-slots.ensures.each)
 
 pub invariant_of-keeper : goal.invariant_of-keeper
 invariant_of-keeper c =
     let hand = c.in_ok-hand_out.ensures in
-    subst (λ (m : Me Slot Knowledge). IsKept c.in_ok-logs.logs c.in_ok-recs.recs c.in_ok-tables.tables c.hand_out.new.seat.id m) (sym hand.keeper) record {
+    subst (λ (m : Me Slot Knowledge). IsKept c.in_ok-logs.logs c.in_ok-recs.recs c.in_ok-tables.tables
+    c.hand_out.new.seat.id m) (sym hand.keeper) record {
       first = hand.first;
       role = refl;
       none_out = refl;
@@ -45,5 +47,7 @@ invariant_of-result c =
     let count : c.len.result ≡ slots_for floor = omega (arith, long, c.len.ensures) in
     let ok = c.in-Ok.ensures.ok in
     let same : c.as_slice-2.result.now ≡ c.in_ok-words.words.items = search rules in
-    let words : c.in-Ok.board.shared.table_id.words ≡ words_for (slots_for floor) = ok.0 ∙ ap length same ∙ c.in_ok-words.ensures.count ∙ ap words_for count in
-    subst (λ (d : Description). IsLaid d c.in-Ok.board.shared.table_id floor) (sym ok.5) record { kept = refl; words = words; slots = ok.1 ∙ long; sized = c.requires }
+    let words : c.in-Ok.board.shared.table_id.words ≡ words_for (slots_for floor) = ok.0 ∙ ap length same
+    ∙ c.in_ok-words.ensures.count ∙ ap words_for count in
+    subst (λ (d : Description). IsLaid d c.in-Ok.board.shared.table_id floor) (sym ok.5)
+    record { kept = refl; words = words; slots = ok.1 ∙ long; sized = c.requires }

@@ -20,14 +20,17 @@ join_seat-requires c =
     let key : Description = c.floor.inside.board.shared.key in
     let v : Knowledge = c.self.inside.seat.me.0 in
     let w : Knowledge = c.pass.inside.seat.me.0 in
-    let floor : c.floor.inside.board.shared.table_id ≡ c.args.floor.now.table = ap (λ (f : Floor Description). f.table) c.floor.view_is in
+    let floor : c.floor.inside.board.shared.table_id ≡ c.args.floor.now.table =
+    ap (λ (f : Floor Description). f.table) c.floor.view_is in
     let over = ap (λ (p : Pass Knowledge). p.finished) c.pass.view_is ∙ c.requires.finished.finished in
     let rest : w.out ≡ [] = c.pass.invariant.done over in (
       ap (λ (k : Keeper). k.table) c.self.view_is ∙ c.requires.mine.table ∙ sym floor,
       ap (λ (p : Pass Knowledge). p.table) c.pass.view_is ∙ c.requires.finished.table ∙ sym floor,
       c.pass.invariant.out ∙ rest,
       omega (arith, c.floor.invariant.words),
-      subst (λ i. Joins (FloorHolds key) i v c.pass.inside.seat.id w (with_pass_taken v w) nothing) (sym c.self.invariant.first) (joins key v c.pass.inside.seat.id w c.pass.invariant.role rest (c.pass.invariant.runs over)),
+      subst (λ i. Joins (FloorHolds key) i v c.pass.inside.seat.id w (with_pass_taken v w) nothing)
+          (sym c.self.invariant.first)
+          (joins key v c.pass.inside.seat.id w c.pass.invariant.role rest (c.pass.invariant.runs over)),
     )
 
 pub ask-requires-clause-within : goal.ask-requires-clause-within
@@ -38,7 +41,8 @@ ask-requires-clause-may c =
     let key : Description = c.floor.inside.board.shared.key in
     let slots = c.floor.inside.board.shared.table_id.slots in
     let me : Me Slot Knowledge = c.join_seat.new.seat.me in
-    subst (λ i. Allows (FloorHolds key) slots i me (spot ticket_line) (λ n. n) (Asked key me)) (sym (c.join_seat.ensures.1 ∙ c.self.invariant.first)) (ask_allowed key slots me)
+    subst (λ i. Allows (FloorHolds key) slots i me (spot ticket_line) (λ n. n) (Asked key me))
+    (sym (c.join_seat.ensures.1 ∙ c.self.invariant.first)) (ask_allowed key slots me)
 
 -- what the keeper's seat knows at the end
 behind : (c : After-drop-pass-inside) → c.ask.new.seat.me ≡ (with_pass_taken c.self.inside.seat.me.0 c.pass.inside.seat.me.0, c.self.inside.seat.me.1)
@@ -46,7 +50,8 @@ behind c = c.ask.ensures.told.0 ∙ c.join_seat.ensures.2
 
 -- its description is the floor's
 its_floor : (c : After-push_reserved-arg-1) → c.self.inside.seat.me.0.description ≡ c.floor.inside.board.shared.key
-its_floor c = ap (λ (k : Keeper). k.view.description) c.self.view_is ∙ c.requires.mine.description ∙ sym (ap (λ (f : Floor Description). f.description) c.floor.view_is)
+its_floor c = ap (λ (k : Keeper). k.view.description) c.self.view_is ∙ c.requires.mine.description
+    ∙ sym (ap (λ (f : Floor Description). f.description) c.floor.view_is)
 
 pub push_reserved-requires : goal.push_reserved-requires
 push_reserved-requires c =
@@ -84,7 +89,8 @@ invariant_of-self c =
 pub returns-clause-mine : goal.returns-clause-mine
 returns-clause-mine c = record {
   table = c.ask.ensures.own ∙ c.join_seat.ensures.0 ∙ ap (λ (k : Keeper). k.table) c.self.view_is ∙ c.requires.mine.table;
-  description = ap (λ (m : Me Slot Knowledge). m.0.description) (behind c) ∙ ap (λ (k : Keeper). k.view.description) c.self.view_is ∙ c.requires.mine.description;
+  description = ap (λ (m : Me Slot Knowledge). m.0.description) (behind c)
+      ∙ ap (λ (k : Keeper). k.view.description) c.self.view_is ∙ c.requires.mine.description;
 }
 
 pub returns-clause-gathered : goal.returns-clause-gathered

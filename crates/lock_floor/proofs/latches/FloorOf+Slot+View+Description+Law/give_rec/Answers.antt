@@ -5,7 +5,12 @@ use Rattle.lock_floor.proofs.Taking.{record_at}
 use Rattle.lock_floor.proofs.latches.FloorOf+Slot+View+Description+Law.give_rec.Goals as goal
 
 pub give-requires-clause-may : goal.give-requires-clause-may
-give-requires-clause-may c = (RecordOf c.args.t.0, record_at c.args.self.now.description c.args.t.0 c.requires.thread ∙ ap Some (sym c.from.ensures), c.requires.may)
+give-requires-clause-may c = (
+  RecordOf c.args.t.0,
+  record_at c.args.self.now.description c.args.t.0 c.requires.thread
+      ∙ ap Some (sym c.from.ensures),
+  c.requires.may,
+)
 
 at : (c : goal.After-give) → slot_of c.args.self.now.description (RecordOf c.args.t.0) ≡ Some c.from.result
 at c = record_at c.args.self.now.description c.args.t.0 c.requires.thread ∙ ap Some (sym c.from.ensures)

@@ -11,7 +11,12 @@ use Rattle.lock_floor.proofs.prios.FloorOf+Slot+View+Description+Law.set_base.Gi
 use Rattle.lock_floor.proofs.prios.FloorOf+Slot+View+Description+Law.set_base.Goals as goal
 
 pub take-requires-clause-may : goal.take-requires-clause-may
-take-requires-clause-may g c = (RecordOf c.args.pass.now.view.thread, c.record_slot-slot.ensures, may_take_own c.args.self.now.description c.args.pass.now.view c.requires.ready.rest)
+take-requires-clause-may g c = (
+  RecordOf c.args.pass.now.view.thread,
+  c.record_slot-slot.ensures,
+  may_take_own c.args.self.now.description
+      c.args.pass.now.view c.requires.ready.rest,
+)
 
 pub stamp_change-requires-clause-room : goal.stamp_change-requires-clause-room
 stamp_change-requires-clause-room g c =
@@ -50,7 +55,8 @@ give-requires-clause-last g c =
     let j = c.record_slot-slot.result in
     let taken = c.take.ensures.out (RecordOf v.thread) c.record_slot-slot.ensures in
     let entry = entry_by c.take.new.pass.view.thread c.stamp_change.result (Base c.args.prio) in
-    let out = changed_out (config_in floor) floor v c.take.new.pass.view c.stamp_change.new.pass.view (RecordOf v.thread) j entry taken c.stamp_change.ensures.view in
+    let out = changed_out (config_in floor) floor v c.take.new.pass.view c.stamp_change.new.pass.view
+    (RecordOf v.thread) j entry taken c.stamp_change.ensures.view in
     (_, out)
 
 pub give-requires-clause-may : goal.give-requires-clause-may
@@ -61,13 +67,18 @@ give-requires-clause-may g c =
     let place = c.record_slot-slot.ensures in
     let taken = c.take.ensures.out (RecordOf v.thread) place in
     let entry = entry_by c.take.new.pass.view.thread c.stamp_change.result (Base c.args.prio) in
-    let out = changed_out (config_in floor) floor v c.take.new.pass.view c.stamp_change.new.pass.view (RecordOf v.thread) j entry taken c.stamp_change.ensures.view in (
+    let out = changed_out (config_in floor) floor v c.take.new.pass.view c.stamp_change.new.pass.view
+    (RecordOf v.thread) j entry taken c.stamp_change.ensures.view in (
       RecordOf v.thread,
       place,
       may_give floor c.stamp_change.new.pass.view (RecordOf v.thread) j _ place out refl
-          (ap (λ (w : Knowledge). w.pose) c.stamp_change.ensures.view ∙ ap (λ (w : Knowledge). w.pose) taken.view ∙ c.requires.ready.rest.runs)
-          (ap (λ (w : Knowledge). w.share.doing.phase) c.stamp_change.ensures.view ∙ ap (λ (w : Knowledge). w.share.doing.phase) taken.view ∙ c.requires.ready.rest.going.awake)
-          (ap (λ (w : Knowledge). w.share.doing.unstamped) c.stamp_change.ensures.view ∙ wake_gone (Base c.args.prio) _ (ap (λ (w : Knowledge). w.share.doing.unstamped) taken.view ∙ c.requires.ready.rest.going.stamped)),
+          (ap (λ (w : Knowledge). w.pose) c.stamp_change.ensures.view ∙ ap (λ (w : Knowledge). w.pose) taken.view
+          ∙ c.requires.ready.rest.runs)
+          (ap (λ (w : Knowledge). w.share.doing.phase) c.stamp_change.ensures.view
+          ∙ ap (λ (w : Knowledge). w.share.doing.phase) taken.view ∙ c.requires.ready.rest.going.awake)
+          (ap (λ (w : Knowledge). w.share.doing.unstamped) c.stamp_change.ensures.view
+          ∙ wake_gone (Base c.args.prio) _
+          (ap (λ (w : Knowledge). w.share.doing.unstamped) taken.view ∙ c.requires.ready.rest.going.stamped)),
     )
 
 used : (g : given.Over) (c : goal.After-give g) → Used c.args.self.now (RecordOf c.args.pass.now.view.thread) (Base c.args.prio) c.args.pass.now c.give.new.pass

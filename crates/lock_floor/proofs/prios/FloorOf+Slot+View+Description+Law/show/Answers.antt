@@ -14,12 +14,18 @@ use Rattle.lock_floor.proofs.prios.FloorOf+Slot+View+Description+Law.show.Given 
 use Rattle.lock_floor.proofs.prios.FloorOf+Slot+View+Description+Law.show.Goals as goal
 
 pub take-requires-clause-may : goal.take-requires-clause-may
-take-requires-clause-may g c = (RecordOf c.args.pass.now.view.thread, c.record_slot-slot.ensures, may_take_own c.args.self.now.description c.args.pass.now.view c.requires.ready.rest)
+take-requires-clause-may g c = (
+  RecordOf c.args.pass.now.view.thread,
+  c.record_slot-slot.ensures,
+  may_take_own c.args.self.now.description
+      c.args.pass.now.view c.requires.ready.rest,
+)
 
 pub priorities-requires-clause-last : goal.priorities-requires-clause-last
 priorities-requires-clause-last g c =
     let v : Knowledge = c.args.pass.now.view in
-    record_out c.args.self.now.description v.thread c.record_slot-slot.result v c.take.new.pass.view (c.take.ensures.out (RecordOf v.thread) c.record_slot-slot.ensures)
+    record_out c.args.self.now.description v.thread c.record_slot-slot.result v c.take.new.pass.view
+    (c.take.ensures.out (RecordOf v.thread) c.record_slot-slot.ensures)
 
 pub stamp-requires-clause-room : goal.stamp-requires-clause-room
 stamp-requires-clause-room g c =
@@ -38,8 +44,10 @@ stamp-requires-clause-may g c =
     let shown = c.priorities.ensures.shown out.0 out.1 in
     let base = c.priorities.result.0 in
     let effective = c.priorities.result.1 in
-    subst (λ (p : Pass Knowledge). MayMake floor p.view (λ s. Unit {0}) (Stamps p.view.thread (Shown base effective) ∷ [])) (sym c.priorities.ensures.same)
-    (may_show floor v c.take.new.pass.view j out.0 place c.requires.ready.rest taken out.1 base effective shown.0 shown.1)
+    subst (λ (p : Pass Knowledge). MayMake floor p.view (λ s. Unit {0})
+    (Stamps p.view.thread (Shown base effective) ∷ [])) (sym c.priorities.ensures.same)
+    (may_show floor v c.take.new.pass.view j out.0 place c.requires.ready.rest taken out.1 base effective shown.0
+    shown.1)
 
 pub give-requires-clause-last : goal.give-requires-clause-last
 give-requires-clause-last g c =
@@ -56,13 +64,23 @@ give-requires-clause-may g c =
     let j = c.record_slot-slot.result in
     let place = c.record_slot-slot.ensures in
     let taken = c.take.ensures.out (RecordOf v.thread) place in
-    let same = ap (λ (w : Knowledge). w.out) c.stamp.ensures.view ∙ ap (λ (p : Pass Knowledge). p.view.out) c.priorities.ensures.same ∙ ap (λ (w : Knowledge). w.out) taken.view in (
+    let same = ap (λ (w : Knowledge). w.out) c.stamp.ensures.view
+    ∙ ap (λ (p : Pass Knowledge). p.view.out) c.priorities.ensures.same
+    ∙ ap (λ (w : Knowledge). w.out) taken.view in (
       RecordOf v.thread,
       place,
-      may_give floor c.stamp.new.pass.view (RecordOf v.thread) j taken.value place (subst (λ o. o ≡ (j, taken.value) ∷ rest o) (sym same) refl) refl
-          (ap (λ (w : Knowledge). w.pose) c.stamp.ensures.view ∙ ap (λ (p : Pass Knowledge). p.view.pose) c.priorities.ensures.same ∙ ap (λ (w : Knowledge). w.pose) taken.view ∙ c.requires.ready.rest.runs)
-          (ap (λ (w : Knowledge). w.share.doing.phase) c.stamp.ensures.view ∙ ap (λ (p : Pass Knowledge). p.view.share.doing.phase) c.priorities.ensures.same ∙ ap (λ (w : Knowledge). w.share.doing.phase) taken.view ∙ c.requires.ready.rest.going.awake)
-          (ap (λ (w : Knowledge). w.share.doing.unstamped) c.stamp.ensures.view ∙ wake_gone (Shown c.priorities.result.0 c.priorities.result.1) _ (ap (λ (p : Pass Knowledge). p.view.share.doing.unstamped) c.priorities.ensures.same ∙ ap (λ (w : Knowledge). w.share.doing.unstamped) taken.view ∙ c.requires.ready.rest.going.stamped)),
+      may_give floor c.stamp.new.pass.view (RecordOf v.thread) j taken.value place
+          (subst (λ o. o ≡ (j, taken.value) ∷ rest o) (sym same) refl) refl
+          (ap (λ (w : Knowledge). w.pose) c.stamp.ensures.view
+          ∙ ap (λ (p : Pass Knowledge). p.view.pose) c.priorities.ensures.same
+          ∙ ap (λ (w : Knowledge). w.pose) taken.view ∙ c.requires.ready.rest.runs)
+          (ap (λ (w : Knowledge). w.share.doing.phase) c.stamp.ensures.view
+          ∙ ap (λ (p : Pass Knowledge). p.view.share.doing.phase) c.priorities.ensures.same
+          ∙ ap (λ (w : Knowledge). w.share.doing.phase) taken.view ∙ c.requires.ready.rest.going.awake)
+          (ap (λ (w : Knowledge). w.share.doing.unstamped) c.stamp.ensures.view
+          ∙ wake_gone (Shown c.priorities.result.0 c.priorities.result.1) _
+          (ap (λ (p : Pass Knowledge). p.view.share.doing.unstamped) c.priorities.ensures.same
+          ∙ ap (λ (w : Knowledge). w.share.doing.unstamped) taken.view ∙ c.requires.ready.rest.going.stamped)),
     )
 
 used : (g : given.Over) (c : goal.After-give g) → Used c.args.self.now (RecordOf c.args.pass.now.view.thread) (Shown c.priorities.result.0 c.priorities.result.1) c.args.pass.now c.give.new.pass
@@ -71,7 +89,8 @@ used g c =
     let i = RecordOf c.args.pass.now.view.thread in
     let j = c.record_slot-slot.result in
     let place = c.record_slot-slot.ensures in
-    let taken = subst (λ (p : Pass Knowledge). Takes f.description i j c.args.pass.now.view p.view) (sym c.priorities.ensures.same) (c.take.ensures.out i place) in
+    let taken = subst (λ (p : Pass Knowledge). Takes f.description i j c.args.pass.now.view p.view)
+    (sym c.priorities.ensures.same) (c.take.ensures.out i place) in
     uses f i j (Shown c.priorities.result.0 c.priorities.result.1) refl refl c.args.pass.now c.priorities.new.pass c.stamp.new.pass c.give.new.pass c.stamp.result c.requires.ready c.requires.room taken
     c.stamp.ensures.view c.stamp.ensures.step c.give.ensures.own (c.give.ensures.view i place) (c.give.ensures.step i place)
 

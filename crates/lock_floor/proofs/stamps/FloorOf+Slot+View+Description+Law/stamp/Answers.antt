@@ -15,9 +15,11 @@ use Rattle.lock_floor.proofs.stamps.FloorOf+Slot+View+Description+Law.stamp.Goal
 pub next_entry-entry-requires-clause-may : goal.next_entry-entry-requires-clause-may
 next_entry-entry-requires-clause-may c =
     let event = c.args.event in
-    let may = subst (λ (z : Floor Description × Pass Knowledge). MayMake z.0.description z.1.view (λ s. Unit {0}) (Stamps z.1.view.thread event ∷ [])) (λ i. (sym c.self.view_is i, sym c.pass.view_is i)) c.requires.may in
+    let may = subst (λ (z : Floor Description × Pass Knowledge). MayMake z.0.description z.1.view (λ s. Unit {0})
+    (Stamps z.1.view.thread event ∷ [])) (λ i. (sym c.self.view_is i, sym c.pass.view_is i)) c.requires.may in
     let room = subst (λ (p : Pass Knowledge). 1 ≤ p.view.spare) (sym c.pass.view_is) c.requires.room in
-    stamp_allowed c.self.inside.board.shared.key c.pass.inside.seat.me event c.self.inside.board.shared.table_id.slots c.pass.inside.seat.id c.pass.invariant.role room c.requires.base c.requires.table may
+    stamp_allowed c.self.inside.board.shared.key c.pass.inside.seat.me event c.self.inside.board.shared.table_id.slots
+    c.pass.inside.seat.id c.pass.invariant.role room c.requires.base c.requires.table may
 
 pub next_entry-entry-requires-clause-small : goal.next_entry-entry-requires-clause-small
 next_entry-entry-requires-clause-small c n behind told = told.0
@@ -27,6 +29,14 @@ invariant_of-pass c =
     let me : Me Slot Knowledge = c.pass.inside.seat.me in
     let behind : Me Slot Knowledge = c.next_entry-entry.new.seat.me in
     let going = ap (λ (p : Pass Knowledge). p.finished) c.pass.view_is ∙ c.requires.own.unfinished in
-    let entry = entry_made me.0.thread c.pass.inside.who c.next_entry-entry.result c.args.event c.pass.invariant.thread c.next_entry-entry.ensures.thread c.next_entry-entry.ensures.event in
-    let is = c.next_entry-entry.ensures.told.1 ∙ (λ i. (seeing behind.0.seen (record (stamped (config_in c.self.inside.board.shared.key) me.0 (entry i)) { out = me.0.out }), c.pass.invariant.out i)) in
-    tied_stamped c.pass.inside.who.0 c.pass.inside.held c.pass.inside.log c.put.new.self c.pass.inside.finished me behind (config_in c.self.inside.board.shared.key) c.next_entry-entry.result me.0.out going c.pass.invariant c.put.ensures is
+    let entry = entry_made me.0.thread c.pass.inside.who c.next_entry-entry.result c.args.event c.pass.invariant.thread
+    c.next_entry-entry.ensures.thread c.next_entry-entry.ensures.event in
+    let is = c.next_entry-entry.ensures.told.1
+    ∙ (λ i. (
+      seeing behind.0.seen
+          (record (stamped (config_in c.self.inside.board.shared.key) me.0 (entry i)) { out = me.0.out }),
+      c.pass.invariant.out i,
+    )) in
+    tied_stamped c.pass.inside.who.0 c.pass.inside.held c.pass.inside.log c.put.new.self c.pass.inside.finished me
+    behind (config_in c.self.inside.board.shared.key) c.next_entry-entry.result me.0.out going c.pass.invariant
+    c.put.ensures is

@@ -19,16 +19,22 @@ pub next_entry-entry-requires-clause-may : goal.next_entry-entry-requires-clause
 next_entry-entry-requires-clause-may c =
     let event = c.args.event in
     let me = c.change.new.seat.me in
-    let view : me.0 ≡ c.args.pass.now.view = c.change.ensures.view ∙ ap (λ (p : Pass Knowledge). p.view) c.pass.view_is in
+    let view : me.0 ≡ c.args.pass.now.view = c.change.ensures.view
+    ∙ ap (λ (p : Pass Knowledge). p.view) c.pass.view_is in
     let floor : c.self.inside.board.shared.key ≡ c.args.self.now.description =
     ap (λ (f : Floor Description). f.description) c.self.view_is in
-    let item = subst (λ (z : Description × Knowledge). (i : Item) × IsChangeOf z.1.thread event i × (slot_of z.0 i ≡ Some c.args.slot)) (λ i. (sym floor i, sym view i)) c.requires.item in
-    let last = subst (λ (v : Knowledge). (x : Slot) × (v.out ≡ (c.args.slot, x) ∷ rest v.out)) (sym view) c.requires.last in
-    let may = subst (λ (z : Description × Knowledge). MayMake z.0 z.1 (λ s. Unit {0}) (Stamps z.1.thread event ∷ [])) (λ i. (sym floor i, sym view i)) c.requires.may in
+    let item = subst (λ (z : Description × Knowledge). (i : Item) × IsChangeOf z.1.thread event i
+    × (slot_of z.0 i ≡ Some c.args.slot)) (λ i. (sym floor i, sym view i)) c.requires.item in
+    let last = subst (λ (v : Knowledge). (x : Slot) × (v.out ≡ (c.args.slot, x) ∷ rest v.out)) (sym view)
+    c.requires.last in
+    let may = subst (λ (z : Description × Knowledge). MayMake z.0 z.1 (λ s. Unit {0}) (Stamps z.1.thread event ∷ []))
+    (λ i. (sym floor i, sym view i)) c.requires.may in
     let room = subst (λ (v : Knowledge). 1 ≤ v.spare) (sym view) c.requires.room in
     let was : me.0.role ≡ OfThread = ap (λ (v : Knowledge). v.role) c.change.ensures.view ∙ c.pass.invariant.role in
-    let changes : me.1 ≡ last_changed event me.0.out = c.change.ensures.value ∙ ap (last_changed event) (c.pass.invariant.out ∙ ap (λ (v : Knowledge). v.out) (sym c.change.ensures.view)) in
-    change_allowed c.self.inside.board.shared.key me event c.self.inside.board.shared.table_id.slots c.change.new.seat.id item.0 c.args.slot last.0 was room item.1 item.2 last.1 changes may
+    let changes : me.1 ≡ last_changed event me.0.out = c.change.ensures.value
+    ∙ ap (last_changed event) (c.pass.invariant.out ∙ ap (λ (v : Knowledge). v.out) (sym c.change.ensures.view)) in
+    change_allowed c.self.inside.board.shared.key me event c.self.inside.board.shared.table_id.slots
+    c.change.new.seat.id item.0 c.args.slot last.0 was room item.1 item.2 last.1 changes may
 
 pub invariant_of-pass : goal.invariant_of-pass
 invariant_of-pass c =
@@ -36,10 +42,17 @@ invariant_of-pass c =
     let mid : Me Slot Knowledge = c.change.new.seat.me in
     let behind : Me Slot Knowledge = c.next_entry-entry.new.seat.me in
     let going = ap (λ (p : Pass Knowledge). p.finished) c.pass.view_is ∙ c.requires.own.unfinished in
-    let entry = entry_made me.0.thread c.pass.inside.who c.next_entry-entry.result c.args.event c.pass.invariant.thread c.next_entry-entry.ensures.thread c.next_entry-entry.ensures.event in
+    let entry = entry_made me.0.thread c.pass.inside.who c.next_entry-entry.result c.args.event c.pass.invariant.thread
+    c.next_entry-entry.ensures.thread c.next_entry-entry.ensures.event in
     let view : mid.0 ≡ me.0 = c.change.ensures.view in
     let config = config_in c.self.inside.board.shared.key in
     let is = c.next_entry-entry.ensures.told.1
-    ∙ (λ i. (seeing behind.0.seen (record (stamped config (view i) (entry_by (view i).thread c.next_entry-entry.result.ticket c.args.event)) { out = mid.1 }), mid.1))
+    ∙ (λ i. (
+      seeing behind.0.seen
+          (record (stamped config (view i)
+          (entry_by (view i).thread c.next_entry-entry.result.ticket c.args.event)) { out = mid.1 }),
+      mid.1,
+    ))
     ∙ (λ i. (seeing behind.0.seen (record (stamped config me.0 (entry i)) { out = mid.1 }), mid.1)) in
-    tied_stamped c.pass.inside.who.0 c.pass.inside.held c.pass.inside.log c.put.new.self c.pass.inside.finished me behind config c.next_entry-entry.result mid.1 going c.pass.invariant c.put.ensures is
+    tied_stamped c.pass.inside.who.0 c.pass.inside.held c.pass.inside.log c.put.new.self c.pass.inside.finished me
+    behind config c.next_entry-entry.result mid.1 going c.pass.invariant c.put.ensures is

@@ -18,8 +18,12 @@ drop_word-found-requires-clause-may c new says =
     let mode = c.args.mode in
     let seen = c.args.seen in
     let low = subst (λ (f : Floor Description). l < length f.description.locks) (sym c.self.view_is) c.requires.lock in
-    let may = subst (λ (z : Floor Description × Pass Knowledge). MayMake z.0.description z.1.view (λ s. s.word l ≡ word_of seen) (Drops z.1.view.thread l mode ∷ [])) (λ i. (sym c.self.view_is i, sym c.pass.view_is i)) c.requires.may in
-    let may_look = subst (λ (z : Floor Description × Pass Knowledge). MayMake z.0.description z.1.view (λ s. Unit {0}) (Looks z.1.view.thread l (counts z.1.view l) ∷ [])) (λ i. (sym c.self.view_is i, sym c.pass.view_is i)) c.requires.may_look in
+    let may = subst (λ (z : Floor Description × Pass Knowledge). MayMake z.0.description z.1.view
+    (λ s. s.word l ≡ word_of seen) (Drops z.1.view.thread l mode ∷ []))
+    (λ i. (sym c.self.view_is i, sym c.pass.view_is i)) c.requires.may in
+    let may_look = subst (λ (z : Floor Description × Pass Knowledge). MayMake z.0.description z.1.view (λ s. Unit {0})
+    (Looks z.1.view.thread l (counts z.1.view l) ∷ [])) (λ i. (sym c.self.view_is i, sym c.pass.view_is i))
+    c.requires.may_look in
     drop_allowed c.self.inside.board.shared.key c.pass.inside.seat.me c.pass.invariant.role c.self.inside.board.shared.table_id.slots c.pass.inside.seat.id seen new l mode low says may may_look
 
 pub invariant_of-pass-in-Some : goal.invariant_of-pass-in-Some

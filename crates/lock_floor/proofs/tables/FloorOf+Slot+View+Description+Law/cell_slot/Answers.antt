@@ -17,7 +17,8 @@ unreachable-requires c =
     let q : ℕ × ℕ = (c.args.l.0, c.args.key) in
     let told = ap (λ (f : Floor Description). f.description) c.self.view_is in
     let keys = c.as_slice.ensures ∙ ap (λ (d : Description). d.keys) (c.self.invariant.kept ∙ told) in
-    let at = subst (λ ks. Answers q ks (Err c.in-Err.field-0)) keys (c.in-Err.ensures.bound, c.in-Err.ensures.position) in
+    let at = subst (λ ks. Answers q ks (Err c.in-Err.field-0)) keys (c.in-Err.ensures.bound, c.in-Err.ensures.position)
+    in
     let sized = subst IsSized told c.self.invariant.sized in
     searched floor sized c.args.l.0 c.args.key (Err c.in-Err.field-0) c.requires at.0 at.1
 

@@ -16,13 +16,18 @@ use Rattle.lock_floor.proofs.tables.FloorOf+Slot+View+Description+Law.read.Goals
 
 pub take-requires-clause-may : goal.take-requires-clause-may
 take-requires-clause-may g c =
-    let place = c.cell_slot-slot.ensures in
-    (CellOf c.args.l.0 c.args.key, place, may_take_cell c.args.self.now.description c.args.pass.now.view c.requires.ready.rest c.args.l c.args.key c.cell_slot-slot.result place c.requires.held)
+    let place = c.cell_slot-slot.ensures in (
+      CellOf c.args.l.0 c.args.key,
+      place,
+      may_take_cell c.args.self.now.description c.args.pass.now.view
+          c.requires.ready.rest c.args.l c.args.key c.cell_slot-slot.result place c.requires.held,
+    )
 
 pub value-found-requires-clause-last : goal.value-found-requires-clause-last
 value-found-requires-clause-last g c =
     let place = c.cell_slot-slot.ensures in
-    cell_out c.args.self.now.description c.args.pass.now.view c.requires.ready.rest c.args.l c.args.key c.cell_slot-slot.result place c.take.new.pass.view (c.take.ensures.out (CellOf c.args.l.0 c.args.key) place)
+    cell_out c.args.self.now.description c.args.pass.now.view c.requires.ready.rest c.args.l c.args.key
+    c.cell_slot-slot.result place c.take.new.pass.view (c.take.ensures.out (CellOf c.args.l.0 c.args.key) place)
 
 pub stamp-requires-clause-room : goal.stamp-requires-clause-room
 stamp-requires-clause-room g c =
@@ -35,8 +40,10 @@ stamp-requires-clause-may g c =
     let place = c.cell_slot-slot.ensures in
     let found = c.value-found.result in
     let taken = c.take.ensures.out (CellOf c.args.l.0 c.args.key) place in
-    subst (λ (p : Pass Knowledge). MayMake floor p.view (λ s. Unit {0}) (Stamps p.view.thread (Got c.args.l c.args.key found) ∷ [])) (sym c.value-found.ensures.same)
-    (may_tell floor c.args.pass.now.view c.requires.ready.rest c.args.l c.args.key c.cell_slot-slot.result place c.take.new.pass.view taken found c.value-found.ensures.value c.requires.held)
+    subst (λ (p : Pass Knowledge). MayMake floor p.view (λ s. Unit {0})
+    (Stamps p.view.thread (Got c.args.l c.args.key found) ∷ [])) (sym c.value-found.ensures.same)
+    (may_tell floor c.args.pass.now.view c.requires.ready.rest c.args.l c.args.key c.cell_slot-slot.result place
+    c.take.new.pass.view taken found c.value-found.ensures.value c.requires.held)
 
 pub give-requires-clause-last : goal.give-requires-clause-last
 give-requires-clause-last g c =
@@ -51,13 +58,24 @@ give-requires-clause-may g c =
     let j = c.cell_slot-slot.result in
     let place = c.cell_slot-slot.ensures in
     let x = Cell c.value-found.result in
-    let same = ap (λ (w : Knowledge). w.out) c.stamp.ensures.view ∙ ap (λ (p : Pass Knowledge). p.view.out) c.value-found.ensures.same in (
+    let same = ap (λ (w : Knowledge). w.out) c.stamp.ensures.view
+    ∙ ap (λ (p : Pass Knowledge). p.view.out) c.value-found.ensures.same in (
       cell,
       place,
-      may_give c.args.self.now.description c.stamp.new.pass.view cell j x place (subst (λ o. o ≡ (j, x) ∷ rest o) (sym same) c.value-found.ensures.value) refl
-          (ap (λ (w : Knowledge). w.pose) c.stamp.ensures.view ∙ ap (λ (p : Pass Knowledge). p.view.pose) c.value-found.ensures.same ∙ ap (λ (w : Knowledge). w.pose) (c.take.ensures.out cell place).view ∙ c.requires.ready.rest.runs)
-          (ap (λ (w : Knowledge). w.share.doing.phase) c.stamp.ensures.view ∙ ap (λ (p : Pass Knowledge). p.view.share.doing.phase) c.value-found.ensures.same ∙ ap (λ (w : Knowledge). w.share.doing.phase) (c.take.ensures.out cell place).view ∙ c.requires.ready.rest.going.awake)
-          (ap (λ (w : Knowledge). w.share.doing.unstamped) c.stamp.ensures.view ∙ wake_gone (Got c.args.l c.args.key c.value-found.result) _ (ap (λ (p : Pass Knowledge). p.view.share.doing.unstamped) c.value-found.ensures.same ∙ ap (λ (w : Knowledge). w.share.doing.unstamped) (c.take.ensures.out cell place).view ∙ c.requires.ready.rest.going.stamped)),
+      may_give c.args.self.now.description c.stamp.new.pass.view cell j x place
+          (subst (λ o. o ≡ (j, x) ∷ rest o) (sym same) c.value-found.ensures.value) refl
+          (ap (λ (w : Knowledge). w.pose) c.stamp.ensures.view
+          ∙ ap (λ (p : Pass Knowledge). p.view.pose) c.value-found.ensures.same
+          ∙ ap (λ (w : Knowledge). w.pose) (c.take.ensures.out cell place).view ∙ c.requires.ready.rest.runs)
+          (ap (λ (w : Knowledge). w.share.doing.phase) c.stamp.ensures.view
+          ∙ ap (λ (p : Pass Knowledge). p.view.share.doing.phase) c.value-found.ensures.same
+          ∙ ap (λ (w : Knowledge). w.share.doing.phase) (c.take.ensures.out cell place).view
+          ∙ c.requires.ready.rest.going.awake)
+          (ap (λ (w : Knowledge). w.share.doing.unstamped) c.stamp.ensures.view
+          ∙ wake_gone (Got c.args.l c.args.key c.value-found.result) _
+          (ap (λ (p : Pass Knowledge). p.view.share.doing.unstamped) c.value-found.ensures.same
+          ∙ ap (λ (w : Knowledge). w.share.doing.unstamped) (c.take.ensures.out cell place).view
+          ∙ c.requires.ready.rest.going.stamped)),
     )
 
 used : (g : given.Over) (c : goal.After-give g) → Used c.args.self.now (CellOf c.args.l.0 c.args.key) (Got c.args.l c.args.key c.value-found.result) c.args.pass.now c.give.new.pass
@@ -66,7 +84,8 @@ used g c =
     let cell = CellOf c.args.l.0 c.args.key in
     let j = c.cell_slot-slot.result in
     let place = c.cell_slot-slot.ensures in
-    let taken = subst (λ (p : Pass Knowledge). Takes f.description cell j c.args.pass.now.view p.view) (sym c.value-found.ensures.same) (c.take.ensures.out cell place) in
+    let taken = subst (λ (p : Pass Knowledge). Takes f.description cell j c.args.pass.now.view p.view)
+    (sym c.value-found.ensures.same) (c.take.ensures.out cell place) in
     uses f cell j (Got c.args.l c.args.key c.value-found.result) refl refl c.args.pass.now c.value-found.new.pass c.stamp.new.pass c.give.new.pass c.stamp.result c.requires.ready c.requires.room taken
     c.stamp.ensures.view c.stamp.ensures.step c.give.ensures.own (c.give.ensures.view cell place) (c.give.ensures.step cell place)
 

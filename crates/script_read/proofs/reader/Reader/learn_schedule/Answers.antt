@@ -8,5 +8,7 @@ use Rattle.script_read.proofs.reader.Reader.learn_schedule.Goals as goal
 pub returns : goal.returns
 returns c = (
   grind (arith, least_is_first),
-  sym (rw c.in_default.is at c.loop-rest.invariant.learnt) ∙ ap (λ (s : List ThreadNo). record (known c.loop-rest.self) { schedule = s }) (append-nil c.loop-rest.self.schedule.items),
+  sym (rw c.in_default.is at c.loop-rest.invariant.learnt)
+      ∙ ap (λ (s : List ThreadNo). record (known c.loop-rest.self) { schedule = s })
+      (append-nil c.loop-rest.self.schedule.items),
 )

@@ -11,11 +11,16 @@ use Rattle.script_read.proofs.reader.Reader.learn_schedule.Given as goal
 
 abbrev pub invariant-loop-rest : goal.invariant-loop-rest
 invariant-loop-rest l = record {
-  spelled : (l.are_names && list_all is_name (words_behind (option_copied l.rest))) ≡ list_all is_name (words_of l.names);
-  named : (l.are_threads && list_all (λ name. is_some (thread_named (known l.fn.self) name)) (words_behind (option_copied l.rest)))
+  spelled : (l.are_names && list_all is_name (words_behind (option_copied l.rest))) ≡ list_all is_name
+      (words_of l.names);
+  named : (l.are_threads && list_all (λ name. is_some (thread_named (known l.fn.self) name))
+      (words_behind (option_copied l.rest)))
       ≡ list_all (λ name. is_some (thread_named (known l.fn.self) name)) (words_of l.names);
-  counted : l.are_threads ≡ true → length (known l.self).schedule + length (words_behind (option_copied l.rest)) ≡ length (known l.fn.self).schedule + length (words_of l.names);
-  learnt : learned (known l.self) (Schedules (words_behind (option_copied l.rest))) ≡ learned (known l.fn.self) (Schedules (words_of l.names));
+  counted : l.are_threads ≡ true
+      → length (known l.self).schedule + length (words_behind (option_copied l.rest)) ≡ length
+      (known l.fn.self).schedule + length (words_of l.names);
+  learnt : learned (known l.self) (Schedules (words_behind (option_copied l.rest))) ≡ learned (known l.fn.self)
+      (Schedules (words_of l.names));
 }
 
 abbrev pub decreases-loop-rest : goal.decreases-loop-rest

@@ -15,7 +15,10 @@ returns-in-Some-clause-threads c =
       | then-is_reversal w ↦ let e : (is_reversal c.args.event) ≡ true = sym c.is_reversal.ensures ∙ w.if-is_reversal.true in w.thread-is ∙ w.if-is_reversal.true ∙ sym (ap (λ b. b || th.cut) e)
       | else-is_reversal w ↦ let e : (is_reversal c.args.event) ≡ false = sym c.is_reversal.ensures ∙ w.if-is_reversal.false in w.thread-is ∙ sym (ap (λ b. b || th.cut) e)
     ] in
-    is_noted c.args.event c.args.t.0 c.from.result ths th c.fell_asleep-thread.result c.if-is_reversal.thread c.set_base.new.self c.from.ensures at c.fell_asleep-thread.ensures cut (c.set_base.ensures ∙ ap (with_base c.in-Some.prio.0) c.deref_mut.ensures.value ∙ base_set c.args.event c.new_base.result c.in-Some.prio th.record.value c.new_base.ensures c.in-Some.is)
+    is_noted c.args.event c.args.t.0 c.from.result ths th c.fell_asleep-thread.result c.if-is_reversal.thread
+    c.set_base.new.self c.from.ensures at c.fell_asleep-thread.ensures cut
+    (c.set_base.ensures ∙ ap (with_base c.in-Some.prio.0) c.deref_mut.ensures.value
+    ∙ base_set c.args.event c.new_base.result c.in-Some.prio th.record.value c.new_base.ensures c.in-Some.is)
 
 pub returns-in_default-clause-threads : goal.returns-in_default-clause-threads
 returns-in_default-clause-threads c =
@@ -26,4 +29,6 @@ returns-in_default-clause-threads c =
       | then-is_reversal w ↦ let e : (is_reversal c.args.event) ≡ true = sym c.is_reversal.ensures ∙ w.if-is_reversal.true in w.thread-is ∙ w.if-is_reversal.true ∙ sym (ap (λ b. b || th.cut) e)
       | else-is_reversal w ↦ let e : (is_reversal c.args.event) ≡ false = sym c.is_reversal.ensures ∙ w.if-is_reversal.false in w.thread-is ∙ sym (ap (λ b. b || th.cut) e)
     ] in
-    is_noted c.args.event c.args.t.0 c.from.result ths th c.fell_asleep-thread.result c.if-is_reversal.thread th.record.value c.from.ensures at c.fell_asleep-thread.ensures cut (no_base_set c.args.event c.new_base.result th.record.value c.new_base.ensures c.in_default.not-Some)
+    is_noted c.args.event c.args.t.0 c.from.result ths th c.fell_asleep-thread.result c.if-is_reversal.thread
+    th.record.value c.from.ensures at c.fell_asleep-thread.ensures cut
+    (no_base_set c.args.event c.new_base.result th.record.value c.new_base.ensures c.in_default.not-Some)

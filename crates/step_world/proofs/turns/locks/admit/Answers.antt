@@ -19,15 +19,19 @@ pub put_classes-requires : goal.put_classes-requires
 put_classes-requires c =
     let q = c.requires.run in
     let is = here q.1 c.requires.thread c.from.ensures c.index.ensures in
-    subst (λ (hs : List Held). length hs ≤ most_held) (sym c.deref.ensures.value) (actions.few_held c.requires.proper c.requires.thread q.1 q.2.1 is)
+    subst (λ (hs : List Held). length hs ≤ most_held) (sym c.deref.ensures.value)
+    (actions.few_held c.requires.proper c.requires.thread q.1 q.2.1 is)
 
 pub check-requires-clause-held : goal.check-requires-clause-held
 check-requires-clause-held c =
     let q = c.requires.run in
-    actions.within c.requires.proper c.requires.thread q.1 (here q.1 c.requires.thread c.from.ensures c.index.ensures) c.args.l _ _ (written c.args.plan.now _ c.len.ensures c.deref.ensures.len c.deref.ensures.value c.put_classes.ensures) c.class_of-class.ensures
+    actions.within c.requires.proper c.requires.thread q.1 (here q.1 c.requires.thread c.from.ensures c.index.ensures)
+    c.args.l _ _ (written c.args.plan.now _ c.len.ensures c.deref.ensures.len c.deref.ensures.value
+    c.put_classes.ensures) c.class_of-class.ensures
 
 pub check-requires-clause-wanted : goal.check-requires-clause-wanted
-check-requires-clause-wanted c = let q = c.requires.run in actions.class_within c.requires.proper c.requires.thread q.1 q.2.1 c.class_of-class.ensures
+check-requires-clause-wanted c = let q = c.requires.run in
+    actions.class_within c.requires.proper c.requires.thread q.1 q.2.1 c.class_of-class.ensures
 
 pub returns-in_err-check : goal.returns-in_err-check
 returns-in_err-check c =
@@ -35,25 +39,49 @@ returns-in_err-check c =
     rw (p.1, p.2) (
       refl,
       λ r h.
-          actions.refused_so c.requires.proper c.requires.thread h (here h c.requires.thread c.from.ensures c.index.ensures) c.args.l _ _ (written c.args.plan.now _ c.len.ensures c.deref.ensures.len c.deref.ensures.value c.put_classes.ensures) c.class_of-class.ensures _ c.in_err-check.ensures.0,
+          actions.refused_so c.requires.proper c.requires.thread h
+          (here h c.requires.thread c.from.ensures c.index.ensures) c.args.l _ _
+          (written c.args.plan.now _ c.len.ensures c.deref.ensures.len c.deref.ensures.value c.put_classes.ensures)
+          c.class_of-class.ensures _ c.in_err-check.ensures.0,
     )
 
 pub admit-requires-clause-may : goal.admit-requires-clause-may
 admit-requires-clause-may c =
     let q = c.requires.run in
     let is = here q.1 c.requires.thread c.from.ensures c.index.ensures in
-    let a = actions.admitted_so c.requires.proper c.requires.thread q.1 is c.args.l _ _ (written c.args.plan.now _ c.len.ensures c.deref.ensures.len c.deref.ensures.value c.put_classes.ensures) c.class_of-class.ensures c.in_ok-check.ensures in
-    (config_of c.args.plan.now, q.0.state, q.1.shows.shows, q.1.on_track.lawful.lawful, (c.args.l.0, actions.are_classes c.requires.proper c.requires.thread q.1 is c.args.l _ _ (written c.args.plan.now _ c.len.ensures c.deref.ensures.len c.deref.ensures.value c.put_classes.ensures) c.class_of-class.ensures, actions.may_admit c.requires.proper c.requires.thread q.1 q.2.1 a))
+    let a = actions.admitted_so c.requires.proper c.requires.thread q.1 is c.args.l _ _
+    (written c.args.plan.now _ c.len.ensures c.deref.ensures.len c.deref.ensures.value c.put_classes.ensures)
+    c.class_of-class.ensures c.in_ok-check.ensures in (
+      config_of c.args.plan.now,
+      q.0.state,
+      q.1.shows.shows,
+      q.1.on_track.lawful.lawful,
+      (
+        c.args.l.0,
+        actions.are_classes c.requires.proper c.requires.thread q.1 is c.args.l _ _
+            (written c.args.plan.now _ c.len.ensures c.deref.ensures.len c.deref.ensures.value c.put_classes.ensures)
+            c.class_of-class.ensures,
+        actions.may_admit c.requires.proper c.requires.thread q.1 q.2.1 a,
+      ),
+    )
 
 pub admit-requires-clause-classes : goal.admit-requires-clause-classes
 admit-requires-clause-classes c =
     let q = c.requires.run in
-    actions.within c.requires.proper c.requires.thread q.1 (here q.1 c.requires.thread c.from.ensures c.index.ensures) c.args.l _ _ (written c.args.plan.now _ c.len.ensures c.deref.ensures.len c.deref.ensures.value c.put_classes.ensures) c.class_of-class.ensures
+    actions.within c.requires.proper c.requires.thread q.1 (here q.1 c.requires.thread c.from.ensures c.index.ensures)
+    c.args.l _ _ (written c.args.plan.now _ c.len.ensures c.deref.ensures.len c.deref.ensures.value
+    c.put_classes.ensures) c.class_of-class.ensures
 
 pub returns : goal.returns
 returns c r mode h b =
     let is = here h c.requires.thread c.from.ensures c.index.ensures in
     let e = c.admit.ensures in
-    let same = actions.are_classes c.requires.proper c.requires.thread h is c.args.l _ _ (written c.args.plan.now _ c.len.ensures c.deref.ensures.len c.deref.ensures.value c.put_classes.ensures) c.class_of-class.ensures in
-    let a = actions.admitted_so c.requires.proper c.requires.thread h is c.args.l _ _ (written c.args.plan.now _ c.len.ensures c.deref.ensures.len c.deref.ensures.value c.put_classes.ensures) c.class_of-class.ensures c.in_ok-check.ensures in
-    actions.admission c.requires.proper c.requires.thread h b a (e.step c.args.l.0 (config_of c.args.plan.now) r.state same h.shows.shows h.on_track.lawful.lawful (actions.may_admit c.requires.proper c.requires.thread h b a)) e.progress e.books
+    let same = actions.are_classes c.requires.proper c.requires.thread h is c.args.l _ _
+    (written c.args.plan.now _ c.len.ensures c.deref.ensures.len c.deref.ensures.value c.put_classes.ensures)
+    c.class_of-class.ensures in
+    let a = actions.admitted_so c.requires.proper c.requires.thread h is c.args.l _ _
+    (written c.args.plan.now _ c.len.ensures c.deref.ensures.len c.deref.ensures.value c.put_classes.ensures)
+    c.class_of-class.ensures c.in_ok-check.ensures in
+    actions.admission c.requires.proper c.requires.thread h b a
+    (e.step c.args.l.0 (config_of c.args.plan.now) r.state same h.shows.shows h.on_track.lawful.lawful
+    (actions.may_admit c.requires.proper c.requires.thread h b a)) e.progress e.books

@@ -14,7 +14,8 @@ gains_plainly-requires-clause-run c = let q = c.requires.run in (q.0, q.1, tt)
 pub gain-requires-clause-may : goal.gain-requires-clause-may
 gain-requires-clause-may c =
     let q = c.requires.run in
-    may_next (actions.gains_action c.requires.proper c.requires.thread q.1 q.2 (sym (c.gains_plainly.ensures q.0 q.1) ∙ c.if-gains_plainly.true)).turning
+    may_next (actions.gains_action c.requires.proper c.requires.thread q.1 q.2
+    (sym (c.gains_plainly.ensures q.0 q.1) ∙ c.if-gains_plainly.true)).turning
 
 pub gain-requires-clause-room : goal.gain-requires-clause-room
 gain-requires-clause-room c = let q = c.requires.run in actions.few c.requires.proper c.requires.thread q.1 q.2
@@ -23,7 +24,8 @@ pub stamp-requires-clause-may : goal.stamp-requires-clause-may
 stamp-requires-clause-may c =
     let q = c.requires.run in
     let a = c.gain.ensures in
-    let action = actions.gains_action c.requires.proper c.requires.thread q.1 q.2 (sym (c.gains_plainly.ensures q.0 q.1) ∙ c.if-gains_plainly.true) in
+    let action = actions.gains_action c.requires.proper c.requires.thread q.1 q.2
+    (sym (c.gains_plainly.ensures q.0 q.1) ∙ c.if-gains_plainly.true) in
     may_next (goes action.turning (of_method (holding c.args.l c.args.mode c.args.by_try) a.step a.progress a.books))
 
 pub stamp-requires-clause-room : goal.stamp-requires-clause-room
@@ -37,12 +39,15 @@ returns-then-gains_plainly-clause-makes c r h g =
     let b = c.stamp.ensures in
     let plain = sym (c.gains_plainly.ensures r h) ∙ c.if-gains_plainly.true in
     let action = actions.gains_action c.requires.proper c.requires.thread h g plain in
-    actions.gained c.requires.proper c.requires.thread h g plain (goes (goes action.turning (of_method (holding c.args.l c.args.mode c.args.by_try) a.step a.progress a.books)) (of_entry b.step b.progress b.places b.room))
+    actions.gained c.requires.proper c.requires.thread h g plain
+    (goes (goes action.turning (of_method (holding c.args.l c.args.mode c.args.by_try) a.step a.progress a.books))
+    (of_entry b.step b.progress b.places b.room))
 
 pub claim-requires-clause-may : goal.claim-requires-clause-may
 claim-requires-clause-may c =
     let q = c.requires.run in
-    let action = actions.claims_action c.requires.proper c.requires.thread q.1 q.2 (sym (c.gains_plainly.ensures q.0 q.1) ∙ c.if-gains_plainly.false) in
+    let action = actions.claims_action c.requires.proper c.requires.thread q.1 q.2
+    (sym (c.gains_plainly.ensures q.0 q.1) ∙ c.if-gains_plainly.false) in
     may_by action.turning _ (_, action.turning.may.0)
 
 pub claim-requires-clause-room : goal.claim-requires-clause-room
@@ -52,7 +57,8 @@ pub stamp-requires-else-gains_plainly-clause-may : goal.stamp-requires-else-gain
 stamp-requires-else-gains_plainly-clause-may c =
     let q = c.requires.run in
     let a = c.claim.ensures in
-    let action = actions.claims_action c.requires.proper c.requires.thread q.1 q.2 (sym (c.gains_plainly.ensures q.0 q.1) ∙ c.if-gains_plainly.false) in
+    let action = actions.claims_action c.requires.proper c.requires.thread q.1 q.2
+    (sym (c.gains_plainly.ensures q.0 q.1) ∙ c.if-gains_plainly.false) in
     may_next (goes action.turning (of_method (holding c.args.l Excl c.args.by_try) (a.step _) a.progress a.books))
 
 pub stamp-requires-else-gains_plainly-clause-room : goal.stamp-requires-else-gains_plainly-clause-room
@@ -66,4 +72,6 @@ returns-else-gains_plainly-clause-makes c r h g =
     let b = c.stamp-else-gains_plainly.ensures in
     let claim = sym (c.gains_plainly.ensures r h) ∙ c.if-gains_plainly.false in
     let action = actions.claims_action c.requires.proper c.requires.thread h g claim in
-    actions.claimed c.requires.proper c.requires.thread h g claim (goes (goes action.turning (of_method (holding c.args.l Excl c.args.by_try) (a.step _) a.progress a.books)) (of_entry b.step b.progress b.places b.room))
+    actions.claimed c.requires.proper c.requires.thread h g claim
+    (goes (goes action.turning (of_method (holding c.args.l Excl c.args.by_try) (a.step _) a.progress a.books))
+    (of_entry b.step b.progress b.places b.room))

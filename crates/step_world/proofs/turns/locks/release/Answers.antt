@@ -5,8 +5,12 @@ use Rattle.step_world.proofs.turns.locks.release.Goals as goal
 pub unlock-requires-clause-may : goal.unlock-requires-clause-may
 unlock-requires-clause-may c =
     let q = c.requires.run in
-    let action = actions.releases_action c.requires.proper c.requires.thread q.1 q.2 in
-    (q.0.state, action.turning.shows, action.turning.lawful, (_, actions.may_unlock c.requires.proper c.requires.thread q.1 c.args.l _ action.turning.may))
+    let action = actions.releases_action c.requires.proper c.requires.thread q.1 q.2 in (
+      q.0.state,
+      action.turning.shows,
+      action.turning.lawful,
+      (_, actions.may_unlock c.requires.proper c.requires.thread q.1 c.args.l _ action.turning.may),
+    )
 
 pub unlock-requires-clause-room : goal.unlock-requires-clause-room
 unlock-requires-clause-room c = let q = c.requires.run in has_room c.requires.proper c.requires.thread q.1 q.2
@@ -14,4 +18,5 @@ unlock-requires-clause-room c = let q = c.requires.run in has_room c.requires.pr
 pub returns-clause-makes : goal.returns-clause-makes
 returns-clause-makes c r h at =
     let a = c.unlock.ensures in
-    actions.released c.requires.proper c.requires.thread h at a.steps a.progress (record { room = a.room; places = a.places })
+    actions.released c.requires.proper c.requires.thread h at a.steps a.progress
+    (record { room = a.room; places = a.places })

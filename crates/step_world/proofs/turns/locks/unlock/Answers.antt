@@ -21,4 +21,5 @@ give_back-requires c =
 pub returns-clause-steps : goal.returns-clause-steps
 returns-clause-steps c s mode h lawful may =
     let is = read c.args.t.0 c.from.result c.index.result.now h.threads may.may.0.thread c.from.ensures c.index.ensures in
-    actions.gave_then c.args.plan.now h lawful may is c.mode_held-mode.ensures c.stamp.ensures.step c.give_back.ensures.step
+    actions.gave_then c.args.plan.now h lawful may is c.mode_held-mode.ensures c.stamp.ensures.step
+    c.give_back.ensures.step

@@ -6,9 +6,12 @@ use Rattle.step_world.proofs.turns.waits.owed_release.Goals as goal
 
 pub returns-in_err-thread : goal.returns-in_err-thread
 returns-in_err-thread c r h =
-    ap (option_map (λ (l : LockNo). l.0)) c.from_residual.ensures ∙ sym (actions.owes_none c.args.t.0 h (here h c.requires.thread c.from.ensures c.index-thread.ensures) c.in_err-thread.was)
+    ap (option_map (λ (l : LockNo). l.0)) c.from_residual.ensures
+    ∙ sym (actions.owes_none c.args.t.0 h (here h c.requires.thread c.from.ensures c.index-thread.ensures)
+    c.in_err-thread.was)
 
 pub returns : goal.returns
 returns c r h =
     rw (c.then_some.ensures, c.holds.ensures)
-    (actions.owes_its c.args.t.0 h (here h c.requires.thread c.from.ensures c.index-thread.ensures) c.in_ok-thread.was c.lock_of-l.ensures)
+    (actions.owes_its c.args.t.0 h (here h c.requires.thread c.from.ensures c.index-thread.ensures) c.in_ok-thread.was
+    c.lock_of-l.ensures)
