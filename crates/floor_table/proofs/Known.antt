@@ -29,6 +29,7 @@ fits_of floor b {past} s i v sound r seen at is =
     v.thread r.latches r.shelves r.objects in (
       seat.0,
       record {
+        sized = r.sizes.sized;
         past = past;
         sound = sound;
         seen = seen_of b.views past v here seen is;

@@ -53,13 +53,14 @@ words_in s = record {
   halted = s.halted;
 }
 
--- a wait word says that its thread runs, that it is Queued, or that it was woken, by a signal or by an abort. Off which
--- queue it was woken, its own seat knows
+-- A wait word says that its thread runs, that it is Queued, or that it was woken, by a signal or by an abort. Off
+-- which queue it was woken, its own seat knows. Queued alone is odd, so that to keep the last bit of a word makes one
+-- that says woken say that its thread runs, and leaves the others
 abbrev pub wait_number : Wait → ℕ
 wait_number Running = 0
 wait_number Queued = 1
 wait_number (Woken q BySignal) = 2
-wait_number (Woken q ByAbort) = 3
+wait_number (Woken q ByAbort) = 4
 
 -- each word says what the columns say; the halt word is 1 where they say that there was a halt
 pub record RepresentsWords (floor : Description) (words : List ℕ) (x : WordColumns) : Type 0 where

@@ -2,7 +2,7 @@
 use Rattle.std.specs.Prelude.{◌≡◌, ◌≢◌, ℕ, ◌<◌, false, List, [], ◌∷◌, length, Option, Some}
 use Rattle.std.specs.List.{All}
 use mathlib.Core.Option.{some}
-use Rattle.floor_table.specs.Descriptions.{config_in}
+use Rattle.floor_table.specs.Descriptions.{config_in, IsSized}
 use Rattle.lock_model.specs.Takes.{has_reversal}
 use Rattle.lock_model.specs.declared.event.Entry.{Entry}
 use Rattle.floor_table.specs.declared.description.Description.{Description}
@@ -48,8 +48,9 @@ pub record HasJust (floor : Description) (out : List (ℕ × Slot)) (s : State) 
       → (j : ℕ) × (slot_of floor i ≡ Some j) × ((x : Slot) × (found j out ≡ some x))
 
 -- The state is one of which a thread's seat may know what it knows: others' steps led to it from the one behind all
--- steps that the seat has seen.
+-- steps that the seat has seen. The floor fits a table.
 pub record Fits (floor : Description) (v : Knowledge) (s : State) : Type 0 where
+  pub sized : IsSized floor
   pub past : List Step
   pub sound : IsSound floor past s
   pub seen : IsSeenBy v.thread v.seen past

@@ -31,5 +31,5 @@ pub use board::{Board, FloorSeat, Law};
 pub use description::{Description, LockPart, ThreadPart};
 pub use places::{awake_spot, latch_spot, lock_spot, ticket_spot, wait_spot, words_for};
 pub use slot::Slot;
-pub use told::{Tells, Told, add, exchange, load, store};
+pub use told::{Tells, Told, add, exchange, keep_bits, load, store};
 pub use view::View;

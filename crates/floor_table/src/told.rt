@@ -1,6 +1,6 @@
 //! The atomic steps of a floor's table. Each never waits and takes no memory; it asks that whatever the table is when
 //! the word changes, the seat may step so that the rule holds again, and tells what the call that makes it picks.
-ghost use Rattle.std.specs.Prelude.{◌≡◌, ◌+◌, ◌%◌, ◌^◌, ◌<◌, ◌==◌};
+ghost use Rattle.std.specs.Prelude.{◌≡◌, ◌+◌, ◌%◌, ◌^◌, ◌<◌, ◌==◌, bit_and};
 ghost use prog.Atomic.{either};
 ghost use Rattle.atomic_table.specs.Table.{Allows};
 ghost use Rattle.floor_table.specs.Rule.{FloorHolds};
@@ -79,6 +79,18 @@ pub fn add<J: Tells>(board: &Board, seat: &mut FloorSeat, word: usize, n: u64) -
     ensures told { J.told seat.old.me result seat.new.me }
 {
     board.shared.fetch_add::<Told<J>>(seat, word, n)
+}
+
+/// Keeps those bits of a word that `mask` has, and answers what it was.
+pub fn keep_bits<J: Tells>(board: &Board, seat: &mut FloorSeat, word: usize, mask: u64) -> u64
+    requires own { seat.old.table_id ≡ board.now.shared.table_id }
+    requires within { word < board.now.shared.table_id.words }
+    requires may { Allows (FloorHolds board.now.shared.key) board.now.shared.table_id.slots
+        seat.old.id seat.old.me word (λ found. bit_and found mask) (J.told seat.old.me) }
+    ensures own { seat.new.table_id ≡ seat.old.table_id }
+    ensures told { J.told seat.old.me result seat.new.me }
+{
+    board.shared.fetch_and::<Told<J>>(seat, word, mask)
 }
 
 /// Makes a word `new`.

@@ -38,11 +38,11 @@ use Rattle.lock_floor.proofs.Stamping.{StampedWith, stamps}
 -- 1. One object changes
 
 -- what the columns say of the other items stays
-record OnlyChanges (floor : Description) (x y : Objects) (i : Item) : Type 0 where
-  others : (k : Item) → k ≢ i → SaySame floor x y k
-  tables : (l key : ℕ) → CellOf l key ≢ i → y.table l key ≡ x.table l key
+pub record OnlyChanges (floor : Description) (x y : Objects) (i : Item) : Type 0 where
+  pub others : (k : Item) → k ≢ i → SaySame floor x y k
+  pub tables : (l key : ℕ) → CellOf l key ≢ i → y.table l key ≡ x.table l key
 
-object_changed : (floor : Description) (content : ℕ → Slot) (x y : Objects) (i : Item) (j : ℕ) (z : Slot)
+pub object_changed : (floor : Description) (content : ℕ → Slot) (x y : Objects) (i : Item) (j : ℕ) (z : Slot)
     → slot_of floor i ≡ Some j → OnlyChanges floor x y i → IsOf floor y i z → RepresentsObjects floor content x
     → RepresentsObjects floor (put content j z) y
 object_changed floor content x y i j z place only is h = record {
@@ -85,7 +85,7 @@ module _ (floor : Description) (x : Objects) (a b : ℕ) (v : Option ℕ) where
       go ClassGraph ne = refl
 
 -- a thread's record changes
-record_changes : (floor : Description) (x : Objects) (f : ℕ → RecordColumns) (t : ℕ)
+pub record_changes : (floor : Description) (x : Objects) (f : ℕ → RecordColumns) (t : ℕ)
     → ((u : ℕ) → t ≢ u → f u ≡ x.record_of u) → OnlyChanges floor x (record x { record_of = f }) (RecordOf t)
 record_changes floor x f t same = record { others = go; tables = λ l key ne. refl }
   where

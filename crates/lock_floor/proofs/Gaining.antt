@@ -50,8 +50,8 @@ module _ (floor : Description) (me : Me Slot Knowledge) (was : me.0.role ≡ OfT
   v = me.0
 
   -- a look where it misses
-  missed : (l : ℕ) (w : Me Slot Knowledge → Knowledge) (steps : Me Slot Knowledge → List Step) → l < length floor.locks
-      → MayMake floor v (λ s. Unit {0}) (Looks v.thread l (counts v l) ∷ [])
+  pub missed : (l : ℕ) (w : Me Slot Knowledge → Knowledge) (steps : Me Slot Knowledge → List Step)
+      → l < length floor.locks → MayMake floor v (λ s. Unit {0}) (Looks v.thread l (counts v l) ∷ [])
       → (b : Board) (h : Finds floor v b) → lock_word b.words l ≢ seen
       → Steps floor me (spot (lock_line l)) (lock_word b.words l) (lock_word b.words l)
       (Changed floor l seen w steps me) b

@@ -59,7 +59,7 @@ module _ (floor : Description) (v : Knowledge) where
   -- 1. What fits
 
   module _ (s : State) (f : Fits floor v s) where
-    column : {A : Type 0} (g : ShareColumns → A) → g (columns_of v.share) ≡ g (share_in s t)
+    pub column : {A : Type 0} (g : ShareColumns → A) → g (columns_of v.share) ≡ g (share_in s t)
     column g = ap g f.share.columns
 
     -- it has out what its seat has, and nothing else
@@ -84,7 +84,7 @@ module _ (floor : Description) (v : Knowledge) where
         go (Some j) e = there j e (found j v.out) refl
 
     -- where nothing is out
-    nothing_with : v.out ≡ [] → (i : Item) → HasItem s t i → ⊥
+    pub nothing_with : v.out ≡ [] → (i : Item) → HasItem s t i → ⊥
     nothing_with empty i out =
         let there = f.out.no_other i out in
         some-ne-none there.2.0 (sym there.2.1 ∙ ap (found there.0) empty)
@@ -99,11 +99,11 @@ module _ (floor : Description) (v : Knowledge) where
     pub holds_it : (l : ℕ) → s.held t l ≡ hold_in v.share.held l
     holds_it l = sym (column (λ x. x.held l))
 
-    doing_it : {A : Type 0} (g : Doing → A) → g (share_in s t).doing ≡ g v.share.doing
+    pub doing_it : {A : Type 0} (g : Doing → A) → g (share_in s t).doing ≡ g v.share.doing
     doing_it g = sym (column (λ x. g x.doing))
 
     -- whether a look counts, as the state has it
-    counts_it : v.description ≡ floor → (l : ℕ) → counts v l ≡ counts_as_look floor.chains c s t l
+    pub counts_it : v.description ≡ floor → (l : ℕ) → counts v l ≡ counts_as_look floor.chains c s t l
     counts_it mine l =
         let chain : chain_of v.description.chains (config_in v.description) l ≡ chain_of floor.chains c l =
         ap (λ (d : Description). chain_of d.chains (config_in d) l) mine in

@@ -21,6 +21,7 @@ use Rattle.floor_table.specs.Places.{slot_of}
 use Rattle.floor_table.specs.Steps.{Fits, MayMake}
 use Rattle.floor_table.specs.Views.{Knowledge}
 use Rattle.lock_floor.specs.Passes.{IsAtRest}
+use Rattle.lock_objects.specs.declared.marked.Marked.{Marked}
 use Rattle.lock_floor.specs.Ties.{IsTied}
 use Rattle.lock_floor.specs.Latches.{IsOfKind, Takes}
 use Rattle.lock_floor.proofs.May.{may_take, says_its}
@@ -29,9 +30,9 @@ use Rattle.lock_floor.proofs.Taking.{record_at}
 
 -- the place of a thread's own record
 pub own_place : (floor : Description) (v : Knowledge) (me : Me Slot Knowledge) (who : ℕ) (locks : Vec Held)
-    (book : Book) (fin : Bool) → IsTied who locks book fin me → me.0 ≡ v → v.description ≡ floor
-    → slot_of floor (RecordOf v.thread) ≡ Some who
-own_place floor v me who locks book fin tied is its =
+    (marked : Marked) (book : Book) (fin : Bool) → IsTied who locks marked book fin me → me.0 ≡ v
+    → v.description ≡ floor → slot_of floor (RecordOf v.thread) ≡ Some who
+own_place floor v me who locks marked book fin tied is its =
     let same : who ≡ v.thread = tied.thread ∙ ap (λ (w : Knowledge). w.thread) is in
     let low : who < length floor.threads =
     subst (λ (d : Description). who < length d.threads) (ap (λ (w : Knowledge). w.description) is ∙ its)
@@ -39,7 +40,7 @@ own_place floor v me who locks book fin tied is its =
     ap (λ t. slot_of floor (RecordOf t)) (sym same) ∙ record_at floor who low
 
 -- what was taken from a record's place is a record
-a_record : (t : ℕ) (x : Slot) → IsOfKind (RecordOf t) x → (b : Box ThreadRec Global) × (x ≡ Record b)
+pub a_record : (t : ℕ) (x : Slot) → IsOfKind (RecordOf t) x → (b : Box ThreadRec Global) × (x ≡ Record b)
 a_record t (Record b) its = (b, refl)
 a_record t (Cell value) its = absurd its
 a_record t (Turnstiles chain) its = absurd its

@@ -241,6 +241,7 @@ may_still floor i old new h may =
     there : MayMake floor (seeing new.seen old) (λ s. item_with s i ≡ None) (TakesItem old.thread i ∷ [])
     there s f home =
         may s (record {
+          sized = f.sized;
           past = f.past;
           sound = f.sound;
           seen = seen_on old.thread old.seen new.seen f.past h.since f.seen;

@@ -6,3 +6,7 @@ pub mod First
 pub mod Latches
 pub mod Closings
 pub mod Changes
+pub mod Waits
+pub mod Marks
+pub mod Resumes
+pub mod Opens

@@ -10,12 +10,14 @@ use Rattle.atomic_table.specs.Table.{Me}
 use Rattle.atomic_table.specs.Seated.{TableId}
 use Rattle.lock_history.specs.Books.{Book, Slots}
 use Rattle.lock_model.specs.declared.event.Held.{Held}
+use Rattle.lock_objects.specs.declared.marked.Marked.{Marked}
 use Rattle.floor_table.specs.Descriptions.{IsSized}
 use Rattle.floor_table.specs.declared.description.Description.{Description}
 use Rattle.floor_table.specs.declared.slot.Slot.{Slot}
 use Rattle.floor_table.specs.Places.{words_for, slots_for}
 use Rattle.floor_table.specs.Views.{Knowledge, OfKeeper, OfThread, Runs}
 use Rattle.thread_records.specs.declared.record.ThreadRec.{ThreadRec}
+use Rattle.lock_floor.specs.Marks.{AreMarked}
 
 -- the table has the words and values of what the floor was made for, which the floor keeps, and which fits a table
 pub record IsLaid (floor : Description) (table : TableId) (own : Description) : Type 0 where
@@ -24,9 +26,9 @@ pub record IsLaid (floor : Description) (table : TableId) (own : Description) : 
   pub slots : table.slots ≡ slots_for floor
   pub sized : IsSized floor
 
--- the pass has the locks and the entries that its seat knows of, room for as many as its thread may hold, and just
--- those values out that its seat has out: none where it is finished, and then its thread runs
-pub record IsTied (who : ℕ) (locks : Vec Held) (book : Book) (finished : Bool)
+-- the pass has the locks, those to be woken and the entries that its seat knows of, room for as many locks as its
+-- thread may hold, and just those values out that its seat has out: none where it is finished, and then its thread runs
+pub record IsTied (who : ℕ) (locks : Vec Held) (marked : Marked) (book : Book) (finished : Bool)
     (me : Me Slot Knowledge) : Type 0 where
   pub role : me.0.role ≡ OfThread
   pub thread : who ≡ me.0.thread
@@ -34,6 +36,7 @@ pub record IsTied (who : ℕ) (locks : Vec Held) (book : Book) (finished : Bool)
   pub few : who < 32
   pub held : locks.items ≡ me.0.share.held
   pub room : 8 ≤ vec_capacity locks
+  pub marks : AreMarked me.0.description marked me.0.share.doing.marked
   pub log : book.entries ≡ reverse me.0.share.log
   pub spare : book.spare ≡ me.0.spare
   pub out : me.1 ≡ me.0.out

@@ -87,6 +87,7 @@ impl Keeper {
             seat,
             who: _,
             held: _,
+            marked: _,
             log,
             finished: _,
             law: _,

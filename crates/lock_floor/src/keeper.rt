@@ -16,6 +16,7 @@ use floor_table::{Board, Description, FloorSeat, Law, Slot, View, awake_spot, wo
 use lock_history::{Log, Tables};
 use lock_model::limits::CLASSES;
 use lock_model::{Plan, ThreadNo};
+use lock_objects::Marked;
 use std::alloc::{AllocError, Global};
 use std::marker::{Model, PhantomData};
 use thread_records::ThreadRec;
@@ -232,6 +233,7 @@ fn hand_out(
             seat: mine,
             who: ThreadNo(t as u8),
             held,
+            marked: Marked::none(),
             log,
             finished: false,
             law: PhantomData,

@@ -16,11 +16,11 @@ ghost use Rattle.lock_floor.specs.Views.{gave};
 
 use crate::floor::FloorOf;
 use crate::pass::Pass;
+use crossbeam_utils::Backoff;
 use floor_table::{
     Board, Description, FloorSeat, Law, Slot, Tells, View, exchange, latch_spot, store,
 };
 use lock_model::ThreadNo;
-use std::hint;
 use std::marker::Brand;
 use std::sync::Wait;
 
@@ -99,11 +99,13 @@ impl FloorOf<Slot, View, Description, Law> {
         ensures out { (i : Item) → slot_of self.now.description i ≡ Some slot
             → Takes self.now.description i slot pass.old.view pass.new.view }
     {
+        let backoff = Backoff::new();
         for _ in rt.forever() {
             if self.try_take(pass, slot) {
                 return;
             }
-            hint::spin_loop();
+            // it spins for a while, and then lets the system run whoever has it
+            backoff.snooze();
         }
         unreachable!()
     }

@@ -8,17 +8,21 @@ ghost use Rattle.lock_model.specs.History.{value_at};
 ghost use Rattle.lock_model.specs.declared.event.Event.{Event};
 ghost use Rattle.lock_model.specs.declared.event.Event.TheVariants.{Got};
 ghost use Rattle.lock_model.specs.declared.numbers.LockNo.{LockNo};
-ghost use Rattle.lock_state.specs.Steps.{Step, Looks, Stamps, after_all};
+ghost use Rattle.lock_model.specs.Queues.{Mark};
+ghost use Rattle.lock_state.specs.State.{Queued};
+ghost use Rattle.lock_state.specs.Steps.{Step, Looks, Stamps, Marks, after_all};
 ghost use Rattle.lock_state.specs.Steps.Items.{Item, RecordOf};
 ghost use Rattle.lock_state.specs.Steps.LockWords.{table_after};
 ghost use Rattle.floor_table.specs.Descriptions.{config_in};
 ghost use Rattle.floor_table.specs.declared.description.Description.{Description};
 ghost use Rattle.floor_table.specs.Steps.{Makes};
-ghost use Rattle.floor_table.specs.Views.{Knowledge, is_off_queues};
+ghost use Rattle.floor_table.specs.Represents.{IsPosed};
+ghost use Rattle.floor_table.specs.Views.{Knowledge, Pose, is_off_queues};
 ghost use Rattle.floor_table.specs.declared.slot.Slot.TheVariants.{Record};
 ghost use Rattle.lock_floor.specs.declared.tables.Change.{Change};
 ghost use Rattle.lock_floor.specs.Changes.{event_of, cell_after};
 ghost use Rattle.lock_floor.specs.Latches.{FindsOut, Takes};
+ghost use Rattle.lock_floor.specs.Marks.{LacksObject};
 ghost use Rattle.lock_floor.specs.Views.{entry_by};
 ghost use Rattle.thread_records.specs.declared.record.ThreadRec.{ThreadRec};
 
@@ -66,6 +70,30 @@ pub fn own_records_are_whole()
     ensures nowhere { (floor : Description) (old new : Knowledge) (b : Box ThreadRec Global)
         (k : Takes floor (RecordOf old.thread) old.thread old new) → k.value ≡ Record b
         → is_off_queues old.pose ≡ true → b.value.on ≡ None }
+{}
+
+/// A thread finds in the record of the first of its marked list that it is that thread's, and that its object is away.
+pub fn marked_records_lack_objects()
+    ensures { (floor : Description) (old new : Knowledge) (m : Mark) (ms : List Mark)
+        (b : Box ThreadRec Global) (k : Takes floor (RecordOf m.thread) m.thread old new)
+        → old.share.doing.marked ≡ m ∷ ms → k.value ≡ Record b
+        → LacksObject (config_in floor) m b.value }
+{}
+
+/// Who is marked stood on that queue until then: its wait word said Queued, and its record named the queue.
+pub fn marks_wake_the_queued()
+    ensures { (floor : Description) (m : Mark) (ms : List Mark) (old new : Knowledge)
+        (k : Makes floor (Marks old.thread m ms ∷ []) old new)
+        → (k.state.wait m.thread ≡ Queued) × (k.state.blocked_on m.thread ≡ Some m.queue) }
+{}
+
+/// A mark leaves what every seat knows of where its thread is: that of the thread which is woken, and of each other.
+pub fn marks_leave_poses()
+    ensures { (floor : Description) (m : Mark) (ms : List Mark) (old new : Knowledge)
+        (k : Makes floor (Marks old.thread m ms ∷ []) old new) (u : ℕ) (p : Pose)
+        → IsPosed p (k.state.wait u) (k.state.blocked_on u)
+        → IsPosed p ((after_all (config_in floor) k.state (Marks old.thread m ms ∷ [])).wait u)
+        ((after_all (config_in floor) k.state (Marks old.thread m ms ∷ [])).blocked_on u) }
 {}
 
 /// An entry of a thread gets as its ticket the number of those before it: it stands behind them in the history, and

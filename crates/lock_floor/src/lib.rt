@@ -10,21 +10,30 @@
 //! - `keeper`: making a floor with its passes.
 //! - `prios`: the priorities of a thread, and its end.
 //! - `closing`: taking passes in, and what is left of a floor that is closed.
-//! - `latches`: those that take a record or a cell out and give it back.
+//! - `latches`: those that take a record or a cell out and give it back, and `chains`: those of chains.
+//! - `waits`: those by which a thread comes to stand on the queue of a lock.
+//! - `parking`: how a thread that stands on a queue sleeps, and runs again.
+//! - `opening`: a release that takes waiters off a lock's turnstile.
+//! - `marking`: how those are woken.
 //! - `ties`: what is true of each floor and pass.
 #![tactic(auto)]
 
+mod chains;
 mod closing;
 mod floor;
 mod keeper;
 mod latches;
 pub mod laws;
+mod marking;
+mod opening;
+mod parking;
 mod pass;
 mod prios;
 mod stamps;
 mod steps;
 mod tables;
 mod ties;
+mod waits;
 
 pub use closing::Closing;
 pub use floor::{Floor, FloorOf};

@@ -8,6 +8,7 @@ use atomic_table::Seat;
 use floor_table::{Description, Law, Slot, View};
 use lock_history::Log;
 use lock_model::{Held, LockNo, Mode, ThreadNo, place_held};
+use lock_objects::Marked;
 use std::marker::{Model, PhantomData};
 
 /// A pass to a table of any values, views and keys.
@@ -17,6 +18,8 @@ pub struct PassOf<S, V, K, P: Ties<S, V, K>> {
     pub(crate) who: ThreadNo,
     /// The locks that the thread holds, in order of acquisition. There is room for as many as a thread may hold.
     pub(crate) held: Vec<Held>,
+    /// Those whom it took off a queue and has yet to wake.
+    pub(crate) marked: Marked,
     pub(crate) log: Log,
     pub(crate) finished: bool,
     pub(crate) law: PhantomData<(K, P)>,
@@ -35,10 +38,10 @@ impl<S, V, K, P: Ties<S, V, K>> Model for PassOf<S, V, K, P> {
       finished = p.finished;
     } };
 
-    ghost invariant = { λ p. P.tied p.who.0 p.held p.log p.finished p.seat.me };
+    ghost invariant = { λ p. P.tied p.who.0 p.held p.marked p.log p.finished p.seat.me };
 }
 
-/// The pass of a thread: its seat at the floor's table, the locks that it holds, and its log.
+/// The pass of a thread: its seat at the floor's table, the locks that it holds, those whom it is to wake, and its log.
 pub type Pass = PassOf<Slot, View, Description, Law>;
 
 impl PassOf<Slot, View, Description, Law> {

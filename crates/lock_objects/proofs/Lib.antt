@@ -12,3 +12,4 @@ pub mod Sleeps
 pub mod Lent
 pub mod Hops
 pub mod StepsOfSleepers
+pub mod Crossing

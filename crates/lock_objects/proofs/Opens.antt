@@ -185,7 +185,8 @@ module _ (c : Config) (s : State) (t l : ℕ) where
     owner = put_lock_same s.owner l None i;
   }
 
-  others : CanRelease c s t l → (k : ℕ) → k ≢ l → is_turnstile (c.kind k) ≡ true → SameQueue (queue_in s) (queue_in n) s.loan_home n.loan_home (lock_queue k)
+  pub others : CanRelease c s t l → (k : ℕ) → k ≢ l → is_turnstile (c.kind k) ≡ true
+      → SameQueue (queue_in s) (queue_in n) s.loan_home n.loan_home (lock_queue k)
   unfolding after_open
   others can k d j = record {
     queue = λ i. record {
@@ -208,7 +209,8 @@ module _ (c : Config) (s : State) (t l : ℕ) where
     then_is = its_queue ∙ (λ i. without_side (sym e i) (old.queue i))
 
     -- the turnstile stays
-    stays : is_empty (all_waiters (left side d)) ≡ false → RepresentsHead (left side d) (queue_in n (lock_queue l)) n.loan_home
+    pub stays : is_empty (all_waiters (left side d)) ≡ false
+        → RepresentsHead (left side d) (queue_in n (lock_queue l)) n.loan_home
     unfolding after_open
     stays some_wait = record {
       queue = then_is ∙ left_queue side d fits some_wait refl;
@@ -216,7 +218,7 @@ module _ (c : Config) (s : State) (t l : ℕ) where
     }
 
     -- or is gone
-    gone : is_empty (all_waiters (left side d)) ≡ true → (queue_in n (lock_queue l)).head ≡ None
+    pub gone : is_empty (all_waiters (left side d)) ≡ true → (queue_in n (lock_queue l)).head ≡ None
     gone nobody = ap (λ v. v.head) then_is ∙ left_none side d fits nobody
 
     pub queues_shown : {chain new : List (QueueName × Turnstile)} → RepresentsQueues c chain (queue_in s) s.loan_home → new ≡ chain_opened l side r h chain → head_of (lock_queue l) (without (lock_queue l) chain) ≡ None
@@ -274,16 +276,21 @@ module _ (c : Config) (s : State) (t l : ℕ) (mode : Mode) (lawful : Lawful c s
 
   -- the loan and the turnstile's node
   module _ {r : Record} (rec : RepresentsRecord r (record_in s t)) where
+    pub can_open_there : (o : Option Turnstile) → RepresentsQueue o (queue_in s (lock_queue l)) s.loan_home
+        → IsSomeAnd o (CanOpen l side r)
+    can_open_there None none = let b = headless_bare c s (lock_queue l) lawful none in
+        absurd (let z = sym some_woken
+        ∙ ap (λ (ls : Lists). is_empty (list_of side ls))
+        (λ i. record { exclusive = b.no_exclusive i; shared = b.no_shared i }) ∙ none_listed side in cc)
+    can_open_there (Some h) old = record {
+      some_wait = λ e. let z = sym some_woken ∙ ap (λ v. is_empty (list_of side v.lists)) old.queue
+          ∙ ap is_empty e in cc;
+      carried = is_carried can_release rec old;
+      returns = returns_home can_release rec old;
+    }
+
     pub can_open : {chain : List (QueueName × Turnstile)} → RepresentsQueues c chain (queue_in s) s.loan_home → IsSomeAnd (head_of (lock_queue l) chain) (CanOpen l side r)
-    can_open {chain = chain} shows = go (head_of (lock_queue l) chain) (shows.lock l g.turnstile)
-      where
-        go : (o : Option Turnstile) → RepresentsQueue o (queue_in s (lock_queue l)) s.loan_home → IsSomeAnd o (CanOpen l side r)
-        go None none = let b = headless_bare c s (lock_queue l) lawful none in absurd (let z = sym some_woken ∙ ap (λ (ls : Lists). is_empty (list_of side ls)) (λ i. record { exclusive = b.no_exclusive i; shared = b.no_shared i }) ∙ none_listed side in cc)
-        go (Some h) old = record {
-          some_wait = λ e. let z = sym some_woken ∙ ap (λ v. is_empty (list_of side v.lists)) old.queue ∙ ap is_empty e in cc;
-          carried = is_carried can_release rec old;
-          returns = returns_home can_release rec old;
-        }
+    can_open {chain = chain} shows = can_open_there (head_of (lock_queue l) chain) (shows.lock l g.turnstile)
 
 -- 5. The objects of a release
 

@@ -1,14 +1,13 @@
 use denote.Param.Send.{sendable}
 use Rattle.std.proofs.Crossing.{crosses}
 use Rattle.lock_model.proofs.plan.Plan.TheSendSync as plan
-use Rattle.floor_table.proofs.Crossing.{slot_send}
-use Rattle.lock_floor.proofs.pass.PassOf.TheSendSync as pass
+use Rattle.lock_floor.proofs.Crossing.{pass_send}
 use Rattle.floor_run.proofs.Crossing.{floor_sync}
 use Rattle.lock_bench.proofs.timing.Meeting.TheSendSync as meeting
 use Rattle.lock_bench.proofs.timing.time_all.Goals as goal
 
 pub for_each_mut-requires-send-T : goal.for_each_mut-requires-send-T
-for_each_mut-requires-send-T g c κs within = search (sendable, crosses, slot_send, pass.the_send) depth 40 fits 100000
+for_each_mut-requires-send-T g c κs within = search (sendable, crosses, pass_send) depth 40 fits 100000
 
 pub for_each_mut-requires-sync-F : goal.for_each_mut-requires-sync-F
 for_each_mut-requires-sync-F g c κs within = record {

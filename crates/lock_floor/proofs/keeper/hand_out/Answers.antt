@@ -11,6 +11,7 @@ use Rattle.lock_floor.specs.Floors.{Pass}
 use Rattle.lock_floor.specs.Passes.{first_pass}
 use Rattle.lock_floor.specs.Ties.{IsTied}
 use Rattle.lock_floor.specs.Views.{with_pass_made, new_pass}
+use Rattle.lock_floor.proofs.Marked.{none_marked}
 use Rattle.lock_floor.proofs.Keeping.{forks, next_room, rooms_from, each_more}
 use Rattle.lock_floor.proofs.keeper.hand_out.Goals as goal
 
@@ -54,13 +55,15 @@ invariant_of-push_reserved c =
     let old = ap (λ (m : Me Slot Knowledge). m.0) c.loop-t.invariant.me in
     let me : c.split_seat-mine.result.me ≡ (first_view floor t, []) = c.split_seat-mine.ensures.4
     ∙ ap (λ v. (new_pass v, [])) old in
-    subst (λ (m : Me Slot Knowledge). IsTied t c.in_ok-held.held c.in_ok-log.log false m) (sym me) record {
+    subst (λ (m : Me Slot Knowledge). IsTied t c.in_ok-held.held c.none.result c.in_ok-log.log false m) (sym me)
+    record {
       role = refl;
       thread = refl;
       of_floor = h.0;
       few = omega (arith, h.0, c.requires.few);
       held = c.in_ok-held.ensures.items;
       room = omega (arith, c.in_ok-held.ensures.capacity);
+      marks = none_marked floor c.none.result c.none.ensures;
       log = ap (λ (b : Book). b.entries) c.in_ok-log.ensures;
       spare = ap (λ (b : Book). b.spare) c.in_ok-log.ensures ∙ h.1;
       out = refl;

@@ -13,7 +13,7 @@ use Rattle.lock_floor.specs.Views.{with_pass_taken}
 use Rattle.floor_table.specs.Places.{spot, ticket_line}
 use Rattle.lock_floor.proofs.Joining.{Asked, joins, ask_allowed}
 use Rattle.lock_floor.proofs.keeper.Keeper.gather.Goals as goal
-use Rattle.lock_floor.proofs.keeper.Keeper.gather.Goals.{After-push_reserved-arg-1, After-drop-pass-inside}
+use Rattle.lock_floor.proofs.keeper.Keeper.gather.Goals.{After-push_reserved-arg-1}
 
 pub join_seat-requires : goal.join_seat-requires
 join_seat-requires c =
@@ -45,7 +45,8 @@ ask-requires-clause-may c =
     (sym (c.join_seat.ensures.1 ∙ c.self.invariant.first)) (ask_allowed key slots me)
 
 -- what the keeper's seat knows at the end
-behind : (c : After-drop-pass-inside) → c.ask.new.seat.me ≡ (with_pass_taken c.self.inside.seat.me.0 c.pass.inside.seat.me.0, c.self.inside.seat.me.1)
+behind : (c : goal.Joined-pass)
+    → c.ask.new.seat.me ≡ (with_pass_taken c.self.inside.seat.me.0 c.pass.inside.seat.me.0, c.self.inside.seat.me.1)
 behind c = c.ask.ensures.told.0 ∙ c.join_seat.ensures.2
 
 -- its description is the floor's

@@ -40,8 +40,8 @@ behind_is c = (c.give_latch.ensures.told (item c).0 (item c).1).0
 
 pub invariant_of-pass : goal.invariant_of-pass
 invariant_of-pass c =
-    tied_given c.pass.inside.who.0 c.pass.inside.held c.pass.inside.log c.pass.inside.finished c.pass.inside.seat.me
-    c.give_latch.new.seat.me (item c).0
+    tied_given c.pass.inside.who.0 c.pass.inside.held c.pass.inside.marked c.pass.inside.log c.pass.inside.finished
+    c.pass.inside.seat.me c.give_latch.new.seat.me (item c).0
     (ap (λ (p : Pass Knowledge). p.finished) c.pass.view_is ∙ c.requires.own.unfinished) c.pass.invariant (behind_is c)
 
 pub returns-clause-own : goal.returns-clause-own

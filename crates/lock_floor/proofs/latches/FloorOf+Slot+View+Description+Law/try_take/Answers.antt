@@ -39,9 +39,9 @@ item c = (
 )
 
 tied : (c : goal.After-take_latch)
-    → IsTied c.pass.inside.who.0 c.pass.inside.held c.pass.inside.log c.pass.inside.finished c.take_latch.new.seat.me
-    × (c.take_latch.new.seat.me.0.description ≡ c.pass.inside.seat.me.0.description)
-tied c = tied_taken c.pass.inside.who.0 c.pass.inside.held c.pass.inside.log c.pass.inside.finished
+    → IsTied c.pass.inside.who.0 c.pass.inside.held c.pass.inside.marked c.pass.inside.log c.pass.inside.finished
+    c.take_latch.new.seat.me × (c.take_latch.new.seat.me.0.description ≡ c.pass.inside.seat.me.0.description)
+tied c = tied_taken c.pass.inside.who.0 c.pass.inside.held c.pass.inside.marked c.pass.inside.log c.pass.inside.finished
     c.pass.inside.seat.me c.take_latch.new.seat.me c.self.inside.board.shared.key (item c).0 c.args.slot
     c.take_latch.result (item c).1 (ap (λ (p : Pass Knowledge). p.finished) c.pass.view_is ∙ c.requires.own.unfinished)
     c.pass.invariant c.take_latch.ensures.told

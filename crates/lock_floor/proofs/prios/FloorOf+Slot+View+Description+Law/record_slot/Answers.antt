@@ -7,6 +7,6 @@ use Rattle.lock_floor.proofs.prios.FloorOf+Slot+View+Description+Law.record_slot
 pub returns : goal.returns
 returns c =
     let p = c.pass.inside in
-    own_place c.args.self.now.description c.args.pass.now.view p.seat.me p.who.0 p.held p.log p.finished
+    own_place c.args.self.now.description c.args.pass.now.view p.seat.me p.who.0 p.held p.marked p.log p.finished
     c.pass.invariant (ap (λ (q : Pass Knowledge). q.view) c.pass.view_is) c.requires.description
     ∙ ap Some (sym c.from.ensures)

@@ -37,6 +37,6 @@ invariant_of-pass c =
           (record (stamped (config_in c.self.inside.board.shared.key) me.0 (entry i)) { out = me.0.out }),
       c.pass.invariant.out i,
     )) in
-    tied_stamped c.pass.inside.who.0 c.pass.inside.held c.pass.inside.log c.put.new.self c.pass.inside.finished me
-    behind (config_in c.self.inside.board.shared.key) c.next_entry-entry.result me.0.out going c.pass.invariant
-    c.put.ensures is
+    tied_stamped c.pass.inside.who.0 c.pass.inside.held c.pass.inside.marked c.pass.inside.log c.put.new.self
+    c.pass.inside.finished me behind (config_in c.self.inside.board.shared.key) c.next_entry-entry.result me.0.out
+    going c.pass.invariant c.put.ensures is

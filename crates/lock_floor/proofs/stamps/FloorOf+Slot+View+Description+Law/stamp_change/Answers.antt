@@ -54,5 +54,5 @@ invariant_of-pass c =
       mid.1,
     ))
     ∙ (λ i. (seeing behind.0.seen (record (stamped config me.0 (entry i)) { out = mid.1 }), mid.1)) in
-    tied_stamped c.pass.inside.who.0 c.pass.inside.held c.pass.inside.log c.put.new.self c.pass.inside.finished me
-    behind config c.next_entry-entry.result mid.1 going c.pass.invariant c.put.ensures is
+    tied_stamped c.pass.inside.who.0 c.pass.inside.held c.pass.inside.marked c.pass.inside.log c.put.new.self
+    c.pass.inside.finished me behind config c.next_entry-entry.result mid.1 going c.pass.invariant c.put.ensures is

@@ -31,7 +31,8 @@ invariant_of-pass-in-Some c =
     let held = c.pass.inside.held in
     let there = ap (position (holds_lock c.args.l)) (sym c.deref.ensures.value) ∙ sym c.place_held.ensures ∙ c.in-Some.is in
     let told = c.drop_word-found.ensures.told.0 c.if-found-seen.false in
-    tied_without c.pass.inside.who.0 c.args.l.0 held c.remove.new.self c.pass.inside.log c.pass.inside.finished c.pass.inside.seat.me c.drop_word-found.new.seat.me c.pass.invariant told.0
+    tied_without c.pass.inside.who.0 c.args.l.0 held c.remove.new.self c.pass.inside.marked c.pass.inside.log
+    c.pass.inside.finished c.pass.inside.seat.me c.drop_word-found.new.seat.me c.pass.invariant told.0
     (c.remove.ensures.items ∙ taken_out c.args.l held.items c.in-Some.i there) (omega (arith, c.pass.invariant.room, c.remove.ensures.capacity))
 
 pub invariant_of-pass-in_default : goal.invariant_of-pass-in_default
@@ -39,4 +40,6 @@ invariant_of-pass-in_default c =
     let held = c.pass.inside.held in
     let nowhere = ap (position (holds_lock c.args.l)) (sym c.deref.ensures.value) ∙ sym c.place_held.ensures ∙ c.in_default.is in
     let told = c.drop_word-found.ensures.told.0 c.if-found-seen.false in
-    tied_without c.pass.inside.who.0 c.args.l.0 held held c.pass.inside.log c.pass.inside.finished c.pass.inside.seat.me c.drop_word-found.new.seat.me c.pass.invariant told.0 (none_taken c.args.l held.items nowhere) c.pass.invariant.room
+    tied_without c.pass.inside.who.0 c.args.l.0 held held c.pass.inside.marked c.pass.inside.log c.pass.inside.finished
+    c.pass.inside.seat.me c.drop_word-found.new.seat.me c.pass.invariant told.0
+    (none_taken c.args.l held.items nowhere) c.pass.invariant.room

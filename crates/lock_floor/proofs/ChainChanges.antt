@@ -1,0 +1,73 @@
+-- The chain of a lock's queue where the turnstile of the lock changes, and what the columns say of the other chains
+-- then: so it is in an enter, an open, a claim and each hop of a walk.
+use Rattle.std.proofs.Common.{◌≡◌, ◌≢◌, ℕ, ◌%◌, true, cond, Option, None, List, ◌∷◌, sym, ap, ◌∙◌}
+use Rattle.chain_table.specs.Chains.{head_of, without}
+use Rattle.chain_table.proofs.Lookups.{head_of-without_itself}
+use Rattle.lock_model.specs.Queues.{lock_queue}
+use Rattle.lock_model.specs.Words.{is_turnstile}
+use Rattle.lock_model.specs.declared.plan.QueueName.{QueueName}
+use Rattle.lock_objects.specs.Represents.{RepresentsHead, RepresentsQueue, queue_in}
+use Rattle.lock_objects.proofs.Chains.{all_placed, all_gone}
+use Rattle.lock_objects.proofs.Queues.{SameQueue, queue_stays}
+use Rattle.lock_state.specs.State.{State}
+use Rattle.lock_state.specs.Steps.Items.{Item, TurnstileChain, SleepChain}
+use Rattle.turnstile_core.specs.Seen.{Turnstile}
+use Rattle.floor_table.specs.Descriptions.{config_in}
+use Rattle.floor_table.specs.Represents.{StandsIn, RepresentsTurnstiles, objects_in, sleepers}
+use Rattle.floor_table.specs.declared.description.Description.{Description}
+use Rattle.floor_table.proofs.Objects.{SaySame}
+use Rattle.lock_floor.specs.Waits.{its_chain}
+use Rattle.lock_floor.proofs.ChainNames.{names_placed, names_without}
+
+module _ (floor : Description) (l : ℕ) (turnstile : is_turnstile ((config_in floor).kind l) ≡ true) where
+  abbrev pub chain_of_lock : Item
+  chain_of_lock = TurnstileChain (l % floor.chains)
+
+  -- it is one of turnstiles
+  pub its_own : its_chain floor (lock_queue l) ≡ chain_of_lock
+  its_own = ap (λ b. cond b (TurnstileChain (l % floor.chains)) (SleepChain (l % floor.chains))) turnstile
+
+  -- in another chain another queue stands
+  elsewhere : (i : Item) (q : QueueName) → i ≢ chain_of_lock → StandsIn floor i q → q ≢ lock_queue l
+  elsewhere i q ne there e = ne (sym there ∙ ap (its_chain floor) e ∙ its_own)
+
+  -- the columns of every other queue stay
+  module _ (s n : State)
+      (others : (q : QueueName) → q ≢ lock_queue l → SameQueue (queue_in s) (queue_in n) s.loan_home n.loan_home q)
+    where
+      -- so the other chains say what they said
+      pub turnstiles_same : (k : ℕ) → TurnstileChain k ≢ chain_of_lock
+          → SaySame floor (objects_in s) (objects_in n) (TurnstileChain k)
+      turnstiles_same k ne q there = others q (elsewhere (TurnstileChain k) q ne there)
+
+      pub sleepers_same : (k : ℕ) → SaySame floor (objects_in s) (objects_in n) (SleepChain k)
+      sleepers_same k q there = ap sleepers (others q (elsewhere (SleepChain k) q (λ e. cc) there)).queue
+
+      module _ (chain : List (QueueName × Turnstile))
+          (shows : RepresentsTurnstiles floor (l % floor.chains) chain (objects_in s)) where
+        abbrev Shown : QueueName → Option Turnstile → Type 0
+        Shown r o = StandsIn floor chain_of_lock r → RepresentsQueue o (queue_in n r) n.loan_home
+
+        others_shown : (r : QueueName) → r ≢ lock_queue l → Shown r (head_of r chain)
+        others_shown r ne there =
+            queue_stays (head_of r chain) {qs = queue_in s} {ns = queue_in
+            n} {homes = s.loan_home} {homes_then = n.loan_home}
+            {q = r} (others r ne) (shows.queue r there)
+
+        -- another turnstile is in the place of the lock's, or where it had none
+        pub chain_placed : (h : Turnstile) → RepresentsHead h.contents (queue_in n (lock_queue l)) n.loan_home
+            → RepresentsTurnstiles floor (l % floor.chains) ((lock_queue l, h) ∷ without (lock_queue l) chain)
+            (objects_in n)
+        chain_placed h new = record {
+          names = names_placed floor chain_of_lock (lock_queue l) chain shows.names h its_own;
+          queue = all_placed Shown (lock_queue l) chain others_shown h (λ _. new);
+        }
+
+        -- the lock has none any more
+        pub chain_gone : (queue_in n (lock_queue l)).head ≡ None
+            → RepresentsTurnstiles floor (l % floor.chains) (without (lock_queue l) chain) (objects_in n)
+        chain_gone none = record {
+          names = names_without floor chain_of_lock (lock_queue l) chain shows.names;
+          queue = all_gone Shown (lock_queue l) chain others_shown
+              (head_of-without_itself (lock_queue l) chain shows.names.distinct) (λ _. none);
+        }

@@ -1,0 +1,49 @@
+-- Where chains lie: each queue's chain has its place among the values.
+use Rattle.std.proofs.Common.{◌≡◌, ℕ, ◌+◌, ◌%◌, ◌<◌, ◌≤◌, Bool, true, false, Some, None, cond, lt-ltb, sym, ap, ◌∙◌, arith}
+use Rattle.std.specs.Prelude.{unwrap_or}
+use Rattle.std.proofs.Math.Nat.{mod-lt}
+use Rattle.lock_model.specs.Words.{is_turnstile}
+use Rattle.lock_model.specs.declared.numbers.LockNo.{LockNo}
+use Rattle.lock_model.specs.declared.plan.QueueName.{QueueName}
+use Rattle.lock_model.specs.declared.plan.QueueName.TheVariants.{Lock, Chan}
+use Rattle.lock_state.specs.Steps.Items.{TurnstileChain, SleepChain}
+use Rattle.floor_table.specs.Descriptions.{config_in}
+use Rattle.floor_table.specs.Places.{first_turnstile_chain, first_sleep_chain, slot_of}
+use Rattle.floor_table.specs.declared.description.Description.{Description}
+use Rattle.lock_floor.specs.Waits.{its_chain, chain_place}
+
+module _ (floor : Description) (some_chains : 1 ≤ floor.chains) where
+  abbrev low : (n : ℕ) → n % floor.chains < floor.chains
+  low n = mod-lt n (omega (arith, some_chains))
+
+  turnstiles_at : (n : ℕ)
+      → slot_of floor (TurnstileChain (n % floor.chains)) ≡ Some (first_turnstile_chain floor + n % floor.chains)
+  turnstiles_at n = ap (λ b. cond b (Some (first_turnstile_chain floor + n % floor.chains)) None)
+      (lt-ltb (n % floor.chains) floor.chains (low n))
+
+  sleepers_at : (n : ℕ)
+      → slot_of floor (SleepChain (n % floor.chains)) ≡ Some (first_sleep_chain floor + n % floor.chains)
+  sleepers_at n = ap (λ b. cond b (Some (first_sleep_chain floor + n % floor.chains)) None)
+      (lt-ltb (n % floor.chains) floor.chains (low n))
+
+  -- the chain of a lock, of a kind with turnstiles or not
+  lock_chain_at : (l : ℕ) (b : Bool)
+      → slot_of floor (cond b (TurnstileChain (l % floor.chains)) (SleepChain (l % floor.chains))) ≡ Some
+      (cond b (first_turnstile_chain floor) (first_sleep_chain floor) + l % floor.chains)
+  lock_chain_at l true = turnstiles_at l
+  lock_chain_at l false = sleepers_at l
+
+  place_is : (q : QueueName) (j : ℕ) → slot_of floor (its_chain floor q) ≡ Some j → chain_place floor q ≡ j
+  place_is q j e = ap (λ o. unwrap_or o 0) e
+
+  pub lock_place : (l : LockNo) (b : Bool) → is_turnstile ((config_in floor).kind l.0) ≡ b
+      → chain_place floor (Lock l) ≡ cond b (first_turnstile_chain floor) (first_sleep_chain floor) + l.0 % floor.chains
+  lock_place l b e = place_is (Lock l) _
+      (ap (λ k. slot_of floor (cond k (TurnstileChain (l.0 % floor.chains)) (SleepChain (l.0 % floor.chains)))) e
+      ∙ lock_chain_at l.0 b)
+
+  pub chain_at : (q : QueueName) → slot_of floor (its_chain floor q) ≡ Some (chain_place floor q)
+  chain_at (Lock l) =
+      let e = lock_chain_at l.0 (is_turnstile ((config_in floor).kind l.0)) in
+      e ∙ ap Some (sym (place_is (Lock l) _ e))
+  chain_at (Chan d) = let e = sleepers_at d.0 in e ∙ ap Some (sym (place_is (Chan d) _ e))

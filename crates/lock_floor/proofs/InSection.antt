@@ -1,0 +1,162 @@
+-- What a thread's seat knows of a blocking call in the section of the lock's chain, step by step: what allows the next
+-- step there stays, and what is out is the own record and the chain.
+use Rattle.std.proofs.Common.{◌≡◌, ◌⊎◌, ℕ, Bool, true, false, Option, Some, None, IsSome, List, [], ◌∷◌, inr, refl, sym, ap, ◌∙◌}
+use Rattle.std.specs.declared.alloc.Global.{Global}
+use Rattle.std.specs.declared.boxed.Box.{Box}
+use Rattle.std.proofs.lemmas.Option.{same_Some}
+use Rattle.lock_model.specs.History.{open_in}
+use Rattle.lock_model.specs.Holds.{NotHeld}
+use Rattle.lock_model.specs.Operations.{hold_in}
+use Rattle.lock_model.specs.Queues.{lock_queue}
+use Rattle.lock_model.specs.Words.{Word, is_turnstile}
+use Rattle.lock_model.specs.declared.plan.QueueName.{QueueName}
+use Rattle.lock_state.specs.State.{NoWalk, Round}
+use Rattle.lock_state.specs.Steps.{Step}
+use Rattle.lock_state.specs.Steps.Items.{RecordOf}
+use Rattle.lock_state.specs.Steps.LockWords.{round_of, bound_to, taking_from}
+use Rattle.thread_records.specs.declared.record.ThreadRec.{ThreadRec}
+use Rattle.turnstile_core.specs.Seen.{Turnstile}
+use Rattle.floor_table.specs.Descriptions.{config_in}
+use Rattle.floor_table.specs.declared.description.Description.{Description}
+use Rattle.floor_table.specs.declared.slot.Slot.{Slot}
+use Rattle.floor_table.specs.declared.slot.Slot.TheVariants.{Record, Cell, Turnstiles, SleepQueues, Graph}
+use Rattle.floor_table.specs.Views.{is_off_queues, Knowledge, seeing}
+use Rattle.lock_floor.specs.Latches.{IsOfKind, Takes}
+use Rattle.lock_floor.specs.Passes.{IsGoing, IsAtRest}
+use Rattle.lock_floor.specs.Views.{looked, sought, took}
+use Rattle.lock_floor.specs.Waits.{its_chain, chain_place, readied, both_out}
+use Rattle.lock_floor.proofs.MayWait.{IsNoSleeper, round_bound, turnstiles_taken}
+use Rattle.lock_floor.proofs.OwnRecords.{own_turnstile}
+
+-- 1. What stays from the begin of a round to its end
+
+pub record IsAcquiring (floor : Description) (l : ℕ) (r : Round) (v : Knowledge) : Type 0 where
+  pub description : v.description ≡ floor
+  pub going : IsGoing v
+  pub awake : IsNoSleeper v
+  pub round : v.share.doing.round ≡ Some r
+  pub wants : (v.share.doing.wanted ≡ Some l) ⊎ (v.share.doing.wanted ≡ None)
+  pub takes : (k : ℕ) → v.share.doing.taking ≡ Some k → k ≡ l
+  pub no_walk : v.share.doing.walk ≡ NoWalk
+  pub unheld : hold_in v.share.held l ≡ NotHeld
+  pub sections : (k : ℕ) → open_in (config_in floor) v.share.log v.thread k ≡ hold_in v.share.held k
+
+module _ (floor : Description) (l : ℕ) where
+  -- where the thread was at rest, a blocking call's round begins it
+  pub acquiring_begins : (seen : List Step) (v : Knowledge) → v.description ≡ floor → IsAtRest floor v
+      → hold_in v.share.held l ≡ NotHeld
+      → IsAcquiring floor l (round_of l false) (seeing seen (sought v l false))
+  acquiring_begins seen v mine rest unheld = record {
+    description = mine;
+    going = record { awake = rest.going.awake; unended = rest.going.unended; stamped = rest.going.stamped };
+    awake = λ back e f g. let z : true ≡ false = sym back ∙ rest.no_wait in cc;
+    round = refl;
+    wants = inr rest.wants_nothing;
+    takes = λ k e. same_Some k l (sym e ∙ taken);
+    no_walk = rest.no_walk;
+    unheld = unheld;
+    sections = rest.sections;
+  }
+    where
+      taken : (sought v l false).share.doing.taking ≡ Some l
+      taken = ap (λ w. taking_from false w l v.share.doing.taking) rest.wants_nothing
+
+  module _ (r : Round) (seen : List Step) (v : Knowledge) (h : IsAcquiring floor l r v) where
+    pub acquiring_looked : (word : Word) → IsAcquiring floor l r (seeing seen (looked v l word))
+    acquiring_looked word = record {
+      description = h.description;
+      going = record { awake = h.going.awake; unended = h.going.unended; stamped = h.going.stamped };
+      awake = h.awake;
+      round = h.round;
+      wants = h.wants;
+      takes = h.takes;
+      no_walk = h.no_walk;
+      unheld = h.unheld;
+      sections = h.sections;
+    }
+
+    pub acquiring_readied : (queued : Bool) → IsAcquiring floor l r (seeing seen (readied queued v))
+    acquiring_readied true = record {
+      description = h.description;
+      going = record { awake = h.going.awake; unended = h.going.unended; stamped = h.going.stamped };
+      awake = h.awake;
+      round = h.round;
+      wants = h.wants;
+      takes = h.takes;
+      no_walk = h.no_walk;
+      unheld = h.unheld;
+      sections = h.sections;
+    }
+    acquiring_readied false = record {
+      description = h.description;
+      going = record { awake = h.going.awake; unended = h.going.unended; stamped = h.going.stamped };
+      awake = h.awake;
+      round = h.round;
+      wants = h.wants;
+      takes = h.takes;
+      no_walk = h.no_walk;
+      unheld = h.unheld;
+      sections = h.sections;
+    }
+
+    pub acquiring_record : (u j : ℕ) (x : Slot) → IsAcquiring floor l r (seeing seen (took v (RecordOf u) j x))
+    acquiring_record u j x = record {
+      description = h.description;
+      going = record { awake = h.going.awake; unended = h.going.unended; stamped = h.going.stamped };
+      awake = h.awake;
+      round = h.round;
+      wants = h.wants;
+      takes = h.takes;
+      no_walk = h.no_walk;
+      unheld = h.unheld;
+      sections = h.sections;
+    }
+
+  pub acquiring_chain : (seen : List Step) (v : Knowledge) → IsAcquiring floor l (round_of l false) v
+      → (j : ℕ) (x : Slot)
+      → IsAcquiring floor l (bound_to l) (seeing seen (took v (its_chain floor (lock_queue l)) j x))
+  acquiring_chain seen v h j x = record {
+    description = h.description;
+    going = record { awake = h.going.awake; unended = h.going.unended; stamped = h.going.stamped };
+    awake = h.awake;
+    round = round_bound floor v l j x h.round;
+    wants = h.wants;
+    takes = h.takes;
+    no_walk = h.no_walk;
+    unheld = h.unheld;
+    sections = h.sections;
+  }
+
+  -- 2. What is out
+
+  pub chain_out : (old new : Knowledge)
+      → Takes floor (its_chain floor (lock_queue l)) (chain_place floor (lock_queue l)) old new
+      → is_turnstile ((config_in floor).kind l) ≡ true → old.out ≡ []
+      → (chain : List (QueueName × Turnstile)) × (new.out ≡ (chain_place floor (lock_queue l), Turnstiles chain) ∷ [])
+  chain_out old new k turnstile empty =
+      let is = turnstiles_taken floor l (chain_place floor (lock_queue l)) old new turnstile k in (
+        is.0,
+        ap (λ (v : Knowledge). v.out) k.view ∙ (λ i. (chain_place floor (lock_queue l), is.1 i) ∷ empty i),
+      )
+
+  -- the own record has its turnstile
+  pub record_out : (old new : Knowledge) (chain : List (QueueName × Turnstile))
+      → Takes floor (RecordOf old.thread) old.thread old new → is_off_queues old.pose ≡ true
+      → old.out ≡ (chain_place floor (lock_queue l), Turnstiles chain) ∷ []
+      → (x : ℕ) × (b : Box ThreadRec Global) × (new.out ≡ both_out floor old.thread l b chain)
+      × (b.value.turnstile ≡ Some x)
+  record_out old new chain k off out =
+      let b = boxed k.value k.kind in
+      let x = filled b.0.value.turnstile (own_turnstile floor old new b.0 k b.1 off) in
+      (x.0, b.0, ap (λ (v : Knowledge). v.out) k.view ∙ (λ i. (old.thread, b.1 i) ∷ out i), x.1)
+    where
+      boxed : (y : Slot) → IsOfKind (RecordOf old.thread) y → (b : Box ThreadRec Global) × (y ≡ Record b)
+      boxed (Record b) is = (b, refl)
+      boxed (Cell value) is = absurd is
+      boxed (Turnstiles c) is = absurd is
+      boxed (SleepQueues c) is = absurd is
+      boxed (Graph g) is = absurd is
+
+      filled : (o : Option ℕ) → IsSome o → (x : ℕ) × (o ≡ Some x)
+      filled (Some x) some = (x, refl)
+      filled None some = absurd (let z : false ≡ true = some in cc)

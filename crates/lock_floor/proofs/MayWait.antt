@@ -1,0 +1,471 @@
+-- What a thread's seat knows allows its steps on the way to a queue: it takes the chain of the queue and then its own
+-- record, says in its wait word that it is queued, looks at the lock's word, and gains the lock or stands on its queue;
+-- and then it gives both back.
+use Rattle.std.proofs.Common.{◌≡◌, ◌≢◌, ◌⊎◌, ℕ, ◌<◌, ◌≤◌, ◌%◌, Bool, true, false, not, ◌&&◌, cond, Option, Some, None, List, [], ◌∷◌, length, refl, sym, ap, ◌∙◌, subst, inl, inr, arith, eq-eqb}
+use Rattle.std.specs.declared.alloc.Global.{Global}
+use Rattle.std.specs.declared.boxed.Box.{Box}
+use Rattle.std.proofs.Math.Nat.{mod-lt}
+use Rattle.std.proofs.lemmas.Bool.{cases_eq}
+use mathlib.Core.Option.{some-ne-none}
+use Rattle.lock_model.specs.Config.{Config}
+use Rattle.lock_model.specs.History.{open_in}
+use Rattle.lock_model.specs.Holds.{NotHeld}
+use Rattle.lock_model.specs.Operations.{hold_in}
+use Rattle.lock_model.specs.Queues.{lock_queue, chan_queue}
+use Rattle.lock_model.specs.Words.{Word, admits, is_plain, is_free, is_turnstile}
+use Rattle.lock_model.specs.declared.plan.Kind.TheVariants.{Mtx}
+use Rattle.lock_model.specs.declared.plan.Mode.{Mode}
+use Rattle.lock_model.specs.declared.plan.Mode.TheVariants.{Excl}
+use Rattle.lock_model.specs.declared.plan.QueueName.{QueueName}
+use Rattle.lock_model.specs.declared.plan.QueueName.TheVariants.{Lock, Chan}
+use Rattle.lock_objects.specs.Represents.{RecordColumns}
+use Rattle.lock_state.specs.State.{State, Wait, Running, Queued, NoWalk, Round, SleepHalted, is_parked}
+use Rattle.lock_state.specs.Steps.{Looks, Gains, Readies, Unreadies, Enters, TakesItem, GivesItem, seeks, is_with, FitsRound, IsItem, IsOfRound, HasItem, is_halting, IsRunnable}
+use Rattle.lock_state.specs.Steps.Items.{Item, TurnstileChain, SleepChain, RecordOf, item_with, go_together, is_chain, is_bound, in_its_chain, IsOnItsWay, IsSettled, IsDoneWith, MayCheckOrders}
+use Rattle.lock_state.specs.Steps.LockWords.{IsActing, is_woken, is_taking_back, round_of, bound_to}
+use Rattle.thread_records.specs.declared.record.ThreadRec.{ThreadRec}
+use Rattle.turnstile_core.specs.Seen.{Turnstile}
+use Rattle.floor_table.specs.Descriptions.{config_in}
+use Rattle.floor_table.specs.declared.description.Description.{Description}
+use Rattle.floor_table.specs.declared.slot.Slot.{Slot}
+use Rattle.floor_table.specs.declared.slot.Slot.TheVariants.{Record, Cell, Turnstiles, SleepQueues, Graph}
+use Rattle.floor_table.specs.Represents.{IsOf, IsPosed, objects_in}
+use Rattle.floor_table.specs.Shelves.{found}
+use Rattle.floor_table.specs.Steps.{Fits, MayMake}
+use Rattle.floor_table.specs.Views.{Pose, Runs, IsReady, StandsOn, is_off_queues, Knowledge}
+use Rattle.floor_table.proofs.Items.{one_place}
+use Rattle.floor_table.proofs.Poses.{stands_nowhere}
+use Rattle.floor_table.proofs.Shelved.{found_first, found_later}
+use Rattle.lock_floor.specs.Passes.{IsGoing}
+use Rattle.lock_floor.specs.Latches.{IsOfKind, Takes}
+use Rattle.lock_floor.specs.Views.{counts, took}
+use Rattle.lock_floor.specs.Waits.{its_chain, chain_place}
+use Rattle.lock_floor.proofs.ChainPlaces.{chain_at}
+use Rattle.lock_floor.proofs.May.{holds_it, doing_it, counts_it, own_log, column}
+use Rattle.lock_floor.proofs.Taking.{record_at}
+
+-- 1. Chains
+
+-- what holds of each chain that there is holds of that of a queue
+each_chain : (floor : Description) (P : Item → Type 0) → ((k : ℕ) → k < floor.chains → P (TurnstileChain k))
+    → ((k : ℕ) → k < floor.chains → P (SleepChain k))
+    → 1 ≤ floor.chains → (q : QueueName) → P (its_chain floor q)
+each_chain floor P turnstiles sleepers some_chains (Lock l) = go (is_turnstile ((config_in floor).kind l.0))
+  where
+    go : (b : Bool) → P (cond b (TurnstileChain (l.0 % floor.chains)) (SleepChain (l.0 % floor.chains)))
+    go true = turnstiles (l.0 % floor.chains) (mod-lt l.0 (omega (arith, some_chains)))
+    go false = sleepers (l.0 % floor.chains) (mod-lt l.0 (omega (arith, some_chains)))
+each_chain floor P turnstiles sleepers some_chains (Chan d) =
+    sleepers (d.0 % floor.chains) (mod-lt d.0 (omega (arith, some_chains)))
+
+pub is_a_chain : (floor : Description) (q : QueueName) → is_chain (its_chain floor q) ≡ true
+is_a_chain floor (Lock l) = go (is_turnstile ((config_in floor).kind l.0))
+  where
+    go : (b : Bool) → is_chain (cond b (TurnstileChain (l.0 % floor.chains)) (SleepChain (l.0 % floor.chains))) ≡ true
+    go true = refl
+    go false = refl
+is_a_chain floor (Chan d) = refl
+
+-- that of a lock of a kind with turnstiles has turnstiles
+pub turnstiles_taken : (floor : Description) (l j : ℕ) (old new : Knowledge)
+    → is_turnstile ((config_in floor).kind l) ≡ true
+    → (k : Takes floor (its_chain floor (lock_queue l)) j old new) → (chain : List (QueueName × Turnstile))
+    × (k.value ≡ Turnstiles chain)
+turnstiles_taken floor l j old new turnstile k =
+    go k.value (subst (λ b. IsOfKind (cond b (TurnstileChain (l % floor.chains)) (SleepChain (l % floor.chains)))
+    k.value) turnstile k.kind)
+  where
+    go : (y : Slot) → IsOfKind (TurnstileChain (l % floor.chains)) y → (chain : List (QueueName × Turnstile))
+        × (y ≡ Turnstiles chain)
+    go (Turnstiles chain) is = (chain, refl)
+    go (Record b) is = absurd is
+    go (Cell value) is = absurd is
+    go (SleepQueues chain) is = absurd is
+    go (Graph b) is = absurd is
+
+-- a round takes the chain of its lock
+pub round_bound : (floor : Description) (v : Knowledge) (l j : ℕ) (x : Slot)
+    → v.share.doing.round ≡ Some (round_of l false)
+    → (took v (its_chain floor (lock_queue l)) j x).share.doing.round ≡ Some (bound_to l)
+round_bound floor v l j x round =
+    ap (λ b. cond b (in_its_chain v.share.doing.round) v.share.doing.round) (is_a_chain floor (lock_queue l))
+    ∙ ap in_its_chain round
+
+-- 2. Where the thread is
+
+unwoken_at : (p : Pose) (wait : Wait) (o : Option QueueName) → is_off_queues p ≡ true → IsPosed p wait o
+    → is_woken wait ≡ false
+unwoken_at Runs wait o is h = ap is_woken h
+unwoken_at IsReady wait o is h = ap is_woken h.0
+unwoken_at (StandsOn q) wait o is h = absurd cc
+
+-- it runs, or came to stand on a queue
+abbrev pub IsOffTheWay : Pose → Type 0
+IsOffTheWay p = (p ≡ Runs) ⊎ ((q : QueueName) × (p ≡ StandsOn q))
+
+settled_at : (p : Pose) (wait : Wait) (o : Option QueueName) → IsOffTheWay p → IsPosed p wait o → wait ≡ Queued
+    → o ≡ None → ⊥
+settled_at p wait o (inl e) h queued none = let z : Running ≡ Queued = sym (subst (λ k. IsPosed k wait o) e h)
+    ∙ queued in cc
+settled_at p wait o (inr (q, e)) h queued none = go (subst (λ k. IsPosed k wait o) e h)
+  where
+    go : IsPosed (StandsOn q) wait o → ⊥
+    go (inl there) = let z : None ≡ Some q = sym none ∙ there.1 in cc
+    go (inr woken) = let z : true ≡ false = sym (ap is_woken woken.1) ∙ ap is_woken queued in cc
+
+-- It isn't on its way to a channel: in a wait it wants the lock of the wait back, or was woken or halted
+abbrev pub IsNoSleeper : Knowledge → Type 0
+IsNoSleeper v =
+    is_taking_back v.share.log ≡ true → v.share.doing.wanted ≡ None → v.share.doing.woken_from ≡ None
+    → ((d : ℕ) → v.share.doing.noted ≡ Some (SleepHalted (chan_queue d)) → ⊥) → ⊥
+
+module _ (floor : Description) (v : Knowledge) where
+  abbrev c : Config
+  c = config_in floor
+
+  abbrev t : ℕ
+  t = v.thread
+
+  module _ (s : State) (f : Fits floor v s) where
+    awake_now : IsGoing v → IsRunnable s t
+    awake_now going = record {
+      phase = doing_it floor v s f (λ d. d.phase) ∙ going.awake;
+      unended = doing_it floor v s f (λ d. d.has_ended) ∙ going.unended;
+    }
+
+    stamped_now : IsGoing v → s.unstamped t ≡ None
+    stamped_now going = doing_it floor v s f (λ d. d.unstamped) ∙ going.stamped
+
+    -- it isn't on its way to a channel
+    not_away : IsNoSleeper v → IsOnItsWay s t → ⊥
+    not_away awake o =
+        awake (ap is_taking_back (column floor v s f (λ x. x.log)) ∙ o.slept)
+        (sym (doing_it floor v s f (λ d. d.wanted)) ∙ o.wants)
+        (sym (doing_it floor v s f (λ d. d.woken_from)) ∙ o.unwoken)
+        (λ d e. o.unhalted d (doing_it floor v s f (λ d. d.noted) ∙ e))
+
+    not_away_settled : IsOffTheWay v.pose → IsOnItsWay s t → ⊥
+    not_away_settled there o = settled_at v.pose (s.wait t) (s.blocked_on t) there f.pose o.queued o.nowhere
+
+    acting_now : is_off_queues v.pose ≡ true → IsActing s t
+    acting_now off = record {
+      unnamed = stands_nowhere c s f.sound.facts.lawful t v.pose off f.pose;
+      unwoken = unwoken_at v.pose (s.wait t) (s.blocked_on t) off f.pose;
+    }
+
+    posed_now : (p : Pose) → v.pose ≡ p → IsPosed p (s.wait t) (s.blocked_on t)
+    posed_now p e = subst (λ k. IsPosed k (s.wait t) (s.blocked_on t)) e f.pose
+
+    empty_now : v.out ≡ [] → (i : Item) → HasItem s t i → ⊥
+    empty_now empty i has = let p = f.out.no_other i has in some-ne-none p.2.0 (sym p.2.1 ∙ ap (found p.0) empty)
+
+  -- 3. A chain is taken where nothing is out
+
+  pub may_take_chain : (q : QueueName) → v.pose ≡ Runs → v.out ≡ [] → IsGoing v
+      → IsOfRound floor.chains c v.share.doing.round (its_chain floor q)
+      → MayMake floor v (λ s. item_with s (its_chain floor q) ≡ None) (TakesItem t (its_chain floor q) ∷ [])
+  may_take_chain q runs empty going of_round s f home = (
+    record {
+      may = record {
+        thread = f.thread;
+        home = home;
+        together = λ k has. absurd (empty_now s f empty k has);
+        orders = each_chain floor (MayCheckOrders s t) (λ k low. tt) (λ k low. tt) f.sized.some_chains q;
+      };
+      has_out = (
+        each_chain floor (IsItem floor.chains c) (λ k low. low) (λ k low. low) f.sized.some_chains q,
+        subst (λ r. IsOfRound floor.chains c r (its_chain floor q)) (sym (doing_it floor v s f (λ d. d.round)))
+            of_round,
+      );
+      has_seen = tt;
+      asks_of_thread = record {
+        runs = inl (awake_now s f going);
+        owes = record { added = not_away_settled s f (inl runs); stamped = stamped_now s f going };
+      };
+    },
+    tt,
+  )
+
+  -- 4. A record is taken under a chain
+
+  module _ (q : QueueName) (x : Slot) (out : v.out ≡ (chain_place floor q, x) ∷ []) where
+    its_only : (s : State) (f : Fits floor v s) (i : Item) → HasItem s t i → i ≡ its_chain floor q
+    its_only s f i has =
+        let p = f.out.no_other i has in
+        elim (cases_eq (chain_place floor q) p.0) [
+          | inl e ↦ one_place floor i (its_chain floor q) p.0 p.1 (chain_at floor f.sized.some_chains q ∙ ap Some e)
+          | inr ne ↦ absurd (some-ne-none p.2.0
+              (sym p.2.1 ∙ ap (found p.0) out ∙ found_later (chain_place floor q) p.0 x [] ne))
+        ]
+
+    its_chain_out : (s : State) (f : Fits floor v s) → HasItem s t (its_chain floor q)
+    its_chain_out s f = (f.out.each (its_chain floor q) (chain_place floor q) x (chain_at floor f.sized.some_chains q)
+        (ap (found (chain_place floor q)) out ∙ found_first (chain_place floor q) x [])).0
+
+    pub may_take_record : (u : ℕ) → u < length floor.threads → v.pose ≡ Runs → IsGoing v
+        → MayMake floor v (λ s. s.record_with u ≡ None) (TakesItem t (RecordOf u) ∷ [])
+    may_take_record u low runs going s f home = (
+      record {
+        may = record {
+          thread = f.thread;
+          home = home;
+          together = λ k has. subst (λ i. (go_together (RecordOf u) i ≡ true) × (go_together i (RecordOf u) ≡ true))
+              (sym (its_only s f k has))
+              (each_chain floor (λ i. (go_together (RecordOf u) i ≡ true) × (go_together i (RecordOf u) ≡ true))
+              (λ k low. (refl, refl)) (λ k low. (refl, refl)) f.sized.some_chains q);
+          orders = tt;
+        };
+        has_out = (low, no_chain (s.round t));
+        has_seen = tt;
+        asks_of_thread = record {
+          runs = inl (awake_now s f going);
+          owes = record { added = not_away_settled s f (inl runs); stamped = stamped_now s f going };
+        };
+      },
+      tt,
+    )
+      where
+        no_chain : (r : Option Round) → IsOfRound floor.chains c r (RecordOf u)
+        no_chain None = tt
+        no_chain (Some r) = λ is. absurd cc
+
+    -- and the chain is given back last
+    pub may_give_chain : is_bound v.share.doing.round ≡ false → IsOffTheWay v.pose → IsGoing v
+        → MayMake floor v (λ s. Unit {0}) (GivesItem t (its_chain floor q) ∷ [])
+    may_give_chain ended there going s f _ =
+        let unbound : is_bound (s.round t) ≡ false = ap is_bound (doing_it floor v s f (λ d. d.round)) ∙ ended in
+        let settled : IsSettled s t = settled_at v.pose (s.wait t) (s.blocked_on t) there f.pose in (
+          record {
+            may = record {
+              thread = f.thread;
+              out = its_chain_out s f;
+              done = each_chain floor (IsDoneWith s t) (λ k low. (unbound, settled))
+                  (λ k low. (unbound, stamped_now s f going, settled)) f.sized.some_chains q;
+            };
+            has_out = its_chain_out s f;
+            has_seen = tt;
+            asks_of_thread = record {
+              unparked = ap is_parked (doing_it floor v s f (λ d. d.phase) ∙ going.awake);
+              owes = record { added = not_away_settled s f there; stamped = stamped_now s f going };
+            };
+          },
+          tt,
+        )
+
+  -- 5. Steps with both out: the own record, which was taken last, and the chain
+
+  module _ (q : QueueName) (y x : Slot) (out : v.out ≡ (t, y) ∷ (chain_place floor q, x) ∷ []) where
+    module _ (s : State) (f : Fits floor v s) where
+      apart_now : t ≢ chain_place floor q
+      apart_now e = let z =
+          one_place floor (RecordOf t) (its_chain floor q) (chain_place floor q)
+          (record_at floor t f.thread ∙ ap Some e) (chain_at floor f.sized.some_chains q) in
+          each_chain floor (λ i. RecordOf t ≡ i → ⊥) (λ k low e. cc) (λ k low e. cc) f.sized.some_chains q z
+
+      own_out_now : HasItem s t (RecordOf t) × IsOf floor (objects_in s) (RecordOf t) y
+      own_out_now = f.out.each (RecordOf t) t y (record_at floor t f.thread)
+          (ap (found t) out ∙ found_first t y ((chain_place floor q, x) ∷ []))
+
+      chain_out_now : HasItem s t (its_chain floor q)
+      chain_out_now = (f.out.each (its_chain floor q) (chain_place floor q) x (chain_at floor f.sized.some_chains q)
+          (ap (found (chain_place floor q)) out
+          ∙ found_later t (chain_place floor q) y ((chain_place floor q, x) ∷ []) apart_now
+          ∙ found_first (chain_place floor q) x [])).0
+
+      only_both : (i : Item) → HasItem s t i → (i ≡ RecordOf t) ⊎ (i ≡ its_chain floor q)
+      only_both i has =
+          let p = f.out.no_other i has in
+          elim (cases_eq t p.0) [
+            | inl e ↦ inl (one_place floor i (RecordOf t) p.0 p.1 (record_at floor t f.thread ∙ ap Some e))
+            | inr na ↦ elim (cases_eq (chain_place floor q) p.0) [
+              | inl e ↦ inr (one_place floor i (its_chain floor q) p.0 p.1
+                  (chain_at floor f.sized.some_chains q ∙ ap Some e))
+              | inr ne ↦ absurd (some-ne-none p.2.0
+                  (sym p.2.1 ∙ ap (found p.0) out ∙ found_later t p.0 y ((chain_place floor q, x) ∷ []) na
+                  ∙ found_later (chain_place floor q) p.0 x [] ne))
+            ]
+          ]
+
+      only_chain : (i : Item) → is_chain i ≡ true → HasItem s t i → i ≡ its_chain floor q
+      only_chain i is has = elim (only_both i has) [
+        | inl e ↦ absurd (let z : true ≡ false = sym is ∙ ap is_chain e in cc)
+        | inr e ↦ e
+      ]
+
+    -- the own wait word
+
+    pub may_ready : v.pose ≡ Runs → IsGoing v → MayMake floor v (λ s. Unit {0}) (Readies t q ∷ [])
+    may_ready runs going s f _ = (
+      record {
+        may = record { thread = f.thread; running = posed_now s f Runs runs };
+        has_out = (chain_out_now s f, (own_out_now s f).0);
+        has_seen = tt;
+        asks_of_thread = record {
+          runs = awake_now s f going;
+          owes = record { added = not_away_settled s f (inl runs); stamped = stamped_now s f going };
+        };
+      },
+      tt,
+    )
+
+    pub may_unready : v.pose ≡ IsReady → IsGoing v → IsNoSleeper v
+        → MayMake floor v (λ s. Unit {0}) (Unreadies t q ∷ [])
+    may_unready ready going awake s f _ =
+        let p = posed_now s f IsReady ready in (
+          record {
+            may = record { thread = f.thread; queued = p.0; unnamed = p.1 };
+            has_out = (chain_out_now s f, (own_out_now s f).0);
+            has_seen = tt;
+            asks_of_thread = record {
+              runs = awake_now s f going;
+              owes = record { added = not_away s f awake; stamped = stamped_now s f going };
+            };
+          },
+          tt,
+        )
+
+    -- the own record goes home first
+
+    pub may_give_own : IsOffTheWay v.pose → IsGoing v → MayMake floor v (λ s. Unit {0}) (GivesItem t (RecordOf t) ∷ [])
+    may_give_own there going s f _ = (
+      record {
+        may = record {
+          thread = f.thread;
+          out = (own_out_now s f).0;
+          done = λ own. settled_at v.pose (s.wait t) (s.blocked_on t) there f.pose;
+        };
+        has_out = (own_out_now s f).0;
+        has_seen = tt;
+        asks_of_thread = record {
+          unparked = ap is_parked (doing_it floor v s f (λ d. d.phase) ∙ going.awake);
+          owes = record { added = not_away_settled s f there; stamped = stamped_now s f going };
+        };
+      },
+      tt,
+    )
+
+  -- 6. The lock's word, in a round of the lock
+
+  module _ (l : ℕ) (y x : Slot) (out : v.out ≡ (t, y) ∷ (chain_place floor (lock_queue l), x) ∷ [])
+      (low : l < length floor.locks) (going : IsGoing v) (awake : IsNoSleeper v) where
+    -- a look under the chain doesn't count
+    pub may_look_there : v.description ≡ floor → seeks l v.share.doing.round ≡ true
+        → MayMake floor v (λ s. Unit {0}) (Looks t l (counts v l) ∷ [])
+    may_look_there mine of_round s f _ =
+        let round : s.round t ≡ v.share.doing.round = doing_it floor v s f (λ d. d.round) in
+        let counted = counts_it floor v s f mine l in
+        let uncounted : counts v l ≡ false =
+        counted ∙ ap (λ o. seeks l (s.round t) && not (is_with t o)) (chain_out_now (lock_queue l) y x out s f)
+        ∙ ap (λ b. seeks l (s.round t) && not b) (eq-eqb t t refl) ∙ and_false (seeks l (s.round t)) in (
+          record {
+            may = record {
+              thread = f.thread;
+              lock = low;
+              room = λ e. absurd (let z : false ≡ true = sym uncounted ∙ e in cc);
+            };
+            has_out = tt;
+            has_seen = record {
+              counts = counted;
+              of_round = λ _. ap (seeks l) round ∙ of_round;
+              in_chain = λ i is has. only_chain (lock_queue l) y x out s f i is has;
+              outside = λ i none is has. absurd
+                  (let z : false ≡ true = sym (ap (seeks l) (sym round ∙ none)) ∙ of_round in cc);
+              halting = λ e. absurd (let z : false ≡ true = sym (ap is_halting (awake_now s f going).phase) ∙ e in cc);
+            };
+            asks_of_thread = record {
+              runs = inl (awake_now s f going);
+              owes = record { added = not_away s f awake; stamped = stamped_now s f going };
+            };
+          },
+          tt,
+        )
+      where
+        and_false : (b : Bool) → (b && false) ≡ false
+        and_false true = refl
+        and_false false = refl
+
+    -- a gain of the round's lock, of which what was seen last under the chain admits the mode
+    pub may_gain_there : (mode : Mode) (by_try : Bool) (word : Word) → admits (c.kind l) word mode ≡ true
+        → is_plain (c.kind l) word mode ≡ true → hold_in v.share.held l ≡ NotHeld
+        → (v.share.doing.wanted ≡ Some l) ⊎ (v.share.doing.wanted ≡ None) → seeks l v.share.doing.round ≡ true
+        → FitsRound v.share.doing.round l by_try
+        → ((w : Word) → v.share.doing.seen_in_section ≡ Some (record { lock = l; word = w })
+        → admits (c.kind l) w mode ≡ true)
+        → ((k : ℕ) → v.share.doing.taking ≡ Some k → k ≡ l) → is_off_queues v.pose ≡ true
+        → MayMake floor v (λ s. s.word l ≡ word) (Gains t l mode by_try ∷ [])
+    may_gain_there mode by_try word admitted plain unheld wants of_round fits saw others off s f its =
+        let round : s.round t ≡ v.share.doing.round = doing_it floor v s f (λ d. d.round) in
+        let wanted : s.wanted t ≡ v.share.doing.wanted = doing_it floor v s f (λ d. d.wanted) in (
+          record {
+            may = record {
+              thread = f.thread;
+              lock = low;
+              admitted = ap (λ w. admits (c.kind l) w mode) its ∙ admitted;
+              plainly = ap (λ w. is_plain (c.kind l) w mode) its ∙ plain;
+              unheld = holds_it floor v s f l ∙ unheld;
+              acting = acting_now s f off;
+              wants = subst (λ w. (w ≡ Some l) ⊎ (w ≡ None)) (sym wanted) wants;
+            };
+            has_out = tt;
+            has_seen = record {
+              fits = subst (λ r. FitsRound r l by_try) (sym round) fits;
+              in_round = λ none has. let z : false ≡ true = sym (ap (seeks l) (sym round ∙ none)) ∙ of_round in cc;
+              saw = λ w has seen. saw w (sym (doing_it floor v s f (λ d. d.seen_in_section)) ∙ seen);
+              others = λ k e. others k (sym (doing_it floor v s f (λ d. d.taking)) ∙ e);
+            };
+            asks_of_thread = record {
+              runs = awake_now s f going;
+              owes = record { added = not_away s f awake; stamped = stamped_now s f going };
+            };
+          },
+          tt,
+        )
+
+  -- an enter from the word that the last look saw, which is held and doesn't admit, in a blocking call's round that
+  -- took the chain; the sections of all held locks are open
+  module _ (l : ℕ) (b : Box ThreadRec Global) (x : Slot)
+      (out : v.out ≡ (t, Record b) ∷ (chain_place floor (lock_queue l), x) ∷ []) (low : l < length floor.locks)
+      (going : IsGoing v) (awake : IsNoSleeper v) where
+    pub may_enter_there : (mode : Mode) (own : ℕ) (word : Word) → is_free word.holder ≡ false
+        → admits (c.kind l) word mode ≡ false → is_turnstile (c.kind l) ≡ true → (c.kind l ≡ Mtx → mode ≡ Excl)
+        → b.value.turnstile ≡ Some own → v.pose ≡ IsReady
+        → (v.share.doing.wanted ≡ Some l) ⊎ (v.share.doing.wanted ≡ None) → v.share.doing.walk ≡ NoWalk
+        → ((k : ℕ) → open_in c v.share.log t k ≡ hold_in v.share.held k)
+        → v.share.doing.last_look ≡ Some (record { lock = l; word = word }) → v.share.doing.round ≡ Some (bound_to l)
+        → MayMake floor v (λ s. s.word l ≡ word) (Enters t l mode own ∷ [])
+    may_enter_there mode own word held refused turnstile mutex lent ready wants no_walk sections saw round s f its =
+        let p = posed_now s f IsReady ready in
+        let rec = (own_out_now (lock_queue l) (Record b) x out s f).1 in (
+          record {
+            may = record {
+              waits = record {
+                thread = f.thread;
+                lock = low;
+                held = ap (λ (w : Word). is_free w.holder) its ∙ held;
+                refused = ap (λ w. admits (c.kind l) w mode) its ∙ refused;
+                queued = p.0;
+                unnamed = p.1;
+                wants = subst (λ w. (w ≡ Some l) ⊎ (w ≡ None)) (sym (doing_it floor v s f (λ d. d.wanted))) wants;
+                no_walk = doing_it floor v s f (λ d. d.walk) ∙ no_walk;
+                sections = λ k m holds. own_log floor v s f k ∙ sections k ∙ sym (holds_it floor v s f k) ∙ holds;
+              };
+              turnstile = turnstile;
+              mutex = mutex;
+              own = sym (ap (λ (r : RecordColumns). r.turnstile) rec.columns) ∙ lent;
+            };
+            has_out = (
+              chain_out_now (lock_queue l) (Record b) x out s f,
+              (own_out_now (lock_queue l) (Record b) x out s f).0,
+            );
+            has_seen = record {
+              saw = doing_it floor v s f (λ d. d.last_look) ∙ saw
+                  ∙ ap (λ w. Some (record { lock = l; word = w })) (sym its);
+              round = doing_it floor v s f (λ d. d.round) ∙ round;
+            };
+            asks_of_thread = record {
+              runs = awake_now s f going;
+              owes = record { added = not_away s f awake; stamped = stamped_now s f going };
+            };
+          },
+          tt,
+        )

@@ -1,0 +1,371 @@
+-- An open: an exchange of a lock's word by which its last holder releases it and takes those of a side off its
+-- turnstile. The thread's record and the chain of the lock's queue, which it has out, are then what the work on them
+-- will make of them: what was lent goes home with it.
+use Rattle.std.proofs.Common.{◌≡◌, ◌≢◌, ℕ, zero, suc, ◌<◌, ◌≤◌, ◌%◌, eqb, eq-eqb, Bool, true, false, cond, Option, Some, None, List, [], ◌∷◌, length, get_or, refl, sym, ap, ◌∙◌, subst, arith}
+use Rattle.std.specs.Box.{with_value}
+use Rattle.std.specs.List.{All}
+use Rattle.std.specs.Prelude.{IsSome, IsSomeAnd}
+use Rattle.std.specs.declared.alloc.Global.{Global}
+use Rattle.std.specs.declared.boxed.Box.{Box}
+use prog.Atomic.{either}
+use Rattle.atomic_table.specs.Table.{Me, keeps, Allows}
+use Rattle.chain_table.specs.Chains.{head_of, without}
+use Rattle.chain_table.proofs.Lookups.{head_of-without_itself}
+use Rattle.lock_laws.proofs.Kit.{put_same, put_other, put_at_other, put_at_row, put_queue_other, is_queue_same}
+use Rattle.lock_laws.proofs.HeldLists.{gained_order-without}
+use Rattle.lock_laws.proofs.Standing.{times_named}
+use Rattle.lock_model.specs.Config.{Config}
+use Rattle.lock_model.specs.Counts.{is_empty}
+use Rattle.lock_model.specs.Holds.{NotHeld}
+use Rattle.lock_model.specs.Operations.{hold_in, without_lock}
+use Rattle.lock_model.specs.Queues.{Mark, lock_queue}
+use Rattle.lock_model.specs.Words as words
+use Rattle.lock_model.specs.Words.{word_of, side_woken, is_turnstile}
+use Rattle.lock_model.specs.declared.plan.Mode.{Mode}
+use Rattle.lock_model.specs.declared.plan.QueueName.{QueueName}
+use Rattle.lock_model.specs.declared.plan.QueueName.TheVariants.{Lock, Chan}
+use Rattle.lock_model.specs.declared.plan.Side.{Side}
+use Rattle.lock_objects.specs.Represents.{RepresentsRecord, RepresentsQueue, RepresentsHead, record_in, queue_in}
+use Rattle.lock_objects.specs.Opens.{CanOpen, CanRelease, record_opened, chain_opened, left_open, woken_of}
+use Rattle.lock_objects.proofs.Chains.{is_queue-other, all_placed, all_gone}
+use Rattle.lock_objects.proofs.Held.{apart_once, once_without, column_without}
+use Rattle.lock_objects.proofs.Opens.{can_release, can_open_there, record_shown, marks_shown, others, stays, gone}
+use Rattle.lock_objects.proofs.Queues.{SameQueue, queue_stays}
+use Rattle.lock_state.specs.Facts.{Lawful, OnlyThreadsStand}
+use Rattle.lock_state.specs.Facts.Waits.{times_marked}
+use Rattle.lock_state.specs.State.{State, gained_order, put}
+use Rattle.lock_state.specs.Steps.{Step, Looks, Opens}
+use Rattle.lock_state.specs.Steps.Items.{Item, TurnstileChain, SleepChain, RecordOf, CellOf, ClassGraph}
+use Rattle.lock_state.specs.Steps.LockWords.{without_held}
+use Rattle.lock_state.specs.Steps.Turnstiles.{after_open}
+use Rattle.thread_records.specs.declared.record.ThreadRec.{ThreadRec}
+use Rattle.turnstile_core.specs.Seen.{Turnstile}
+use Rattle.turnstile_core.specs.Changes.{all_waiters}
+use Rattle.floor_table.specs.Descriptions.{config_in}
+use Rattle.floor_table.specs.declared.description.Description.{Description}
+use Rattle.floor_table.specs.declared.slot.Slot.{Slot}
+use Rattle.floor_table.specs.declared.slot.Slot.TheVariants.{Record, Turnstiles}
+use Rattle.floor_table.specs.Places.{spot, lock_line, lock_word, latch_word, slots_for, slot_of, home_at}
+use Rattle.floor_table.specs.Represents.{Board, StandsIn, RepresentsTurnstiles, RepresentsObjects, RepresentsShare, objects_in, sleepers, thread_in}
+use Rattle.floor_table.specs.Rule.{FloorHolds}
+use Rattle.floor_table.specs.Shares.{ShareColumns, columns_of, share_in}
+use Rattle.floor_table.specs.Shelves.{Shelves, found}
+use Rattle.floor_table.specs.Steps.{IsSound, MayMake, Makes}
+use Rattle.floor_table.specs.Views.{Knowledge, OfThread, seeing}
+use Rattle.floor_table.proofs.Items.{one_place}
+use Rattle.floor_table.proofs.Made.{Finds, Steps, exchange_allows, lock_made_with, own_out, OwnSteps}
+use Rattle.floor_table.proofs.Objects.{SaySame, still_of}
+use Rattle.floor_table.proofs.Seen.{one_own}
+use Rattle.floor_table.proofs.Shelved.{found_first, found_later}
+use Rattle.floor_table.proofs.Sound.{sound_kept}
+use Rattle.lock_floor.specs.Opens.{HasBothOut, out_opened, marks_opened, opened_up}
+use Rattle.lock_floor.specs.Views.{counts}
+use Rattle.lock_floor.specs.Waits.{its_chain, chain_place}
+use Rattle.lock_floor.proofs.ChainNames.{names_placed, names_without}
+use Rattle.lock_floor.proofs.ChainPlaces.{chain_at}
+use Rattle.lock_floor.proofs.Looking.{Looked, looks, found_word}
+use Rattle.lock_floor.proofs.Taking.{record_at}
+use Rattle.lock_floor.proofs.TwoChanged.{shelf_both, two_changed}
+
+-- 1. The shares behind it
+
+module _ (s : State) (v : Knowledge) (fit : RepresentsShare v.share s v.thread) where
+  abbrev its : columns_of v.share ≡ share_in s v.thread
+  its = fit.columns
+
+  open_own : (c : Config) (l : ℕ) (ms : List Mark) (out : List (ℕ × Slot))
+      → ms ≡ (after_open c s v.thread l).marked v.thread
+      → RepresentsShare (opened_up v l ms out).share (after_open c s v.thread l) v.thread
+  unfolding after_open
+  open_own c l ms out marks =
+      let t : ℕ = v.thread in
+      let held : (k : ℕ) → hold_in v.share.held k ≡ s.held t k = λ k. ap (λ (x : ShareColumns). x.held k) its in
+      let listed : gained_order (without_lock l v.share.held) ≡ put s.held_locks t (without_held l (s.held_locks t)) t =
+      sym (gained_order-without l v.share.held (apart_once v.share.held fit.held_once))
+      ∙ ap (λ (x : ShareColumns). without_held l x.held_locks) its ∙ sym (put_same s.held_locks t _) in
+      record {
+        columns = λ i. record (its i) {
+          held = λ k. column_without s.held t l v.share.held fit.held_once held k i;
+          held_locks = listed i;
+          doing = record (its i).doing { marked = marks i; last_look = sym (put_same s.last_look t None) i };
+        };
+        held_once = once_without l v.share.held fit.held_once;
+      }
+
+open_others : (s : State) (t u : ℕ) → u ≢ t → (c : Config) (l : ℕ) → share_in (after_open c s t l) u ≡ share_in s u
+unfolding after_open
+open_others s t u other c l =
+    let ne : t ≡ u → ⊥ = λ q. other (sym q) in
+    let held_locks_is : (after_open c s t l).held_locks u ≡ s.held_locks u = put_other s.held_locks t _ u ne in
+    let marked_is : (after_open c s t l).marked u ≡ s.marked u = put_other s.marked t _ u ne in
+    λ i. record (share_in s u) {
+      held = put_at_row s.held t l NotHeld u ne i;
+      held_locks = held_locks_is i;
+      doing = record (share_in s u).doing { marked = marked_is i; last_look = put_other s.last_look t None u ne i };
+    }
+
+-- 2. The chain of the lock's queue
+
+module _ (floor : Description) (l : ℕ) (turnstile : is_turnstile ((config_in floor).kind l) ≡ true) where
+  abbrev c : Config
+  c = config_in floor
+
+  abbrev chain_of_lock : Item
+  chain_of_lock = TurnstileChain (l % floor.chains)
+
+  -- it is one of turnstiles
+  its_own : its_chain floor (lock_queue l) ≡ chain_of_lock
+  its_own = ap (λ b. cond b (TurnstileChain (l % floor.chains)) (SleepChain (l % floor.chains))) turnstile
+
+  -- no other queue than one that stands there
+  elsewhere : (i : Item) (q : QueueName) → i ≢ chain_of_lock → StandsIn floor i q → q ≢ lock_queue l
+  elsewhere i q ne there e = ne (sym there ∙ ap (its_chain floor) e ∙ its_own)
+
+  -- what stands in a chain of turnstiles is the queue of a lock with one
+  stands_by : (b : Bool) (k j : ℕ) → cond b (TurnstileChain k) (SleepChain k) ≡ TurnstileChain j → b ≡ true
+  stands_by true k j e = refl
+  stands_by false k j e = absurd (let z : SleepChain k ≡ TurnstileChain j = e in cc)
+
+  module _ (s : State) (t : ℕ) where
+    abbrev n : State
+    n = after_open c s t l
+
+    queue_other : (q : QueueName) → q ≢ lock_queue l → queue_in n q ≡ queue_in s q
+    unfolding after_open
+    queue_other q ne =
+        let other = is_queue-other (lock_queue l) q (λ e. ne (sym e)) in
+        let head_is : n.head q ≡ s.head q = put_queue_other s.head (lock_queue l) _ q other in
+        let lists_are : n.lists q ≡ s.lists q = put_queue_other s.lists (lock_queue l) _ q other in
+        let free_list_is : n.free_list q ≡ s.free_list q = put_queue_other s.free_list (lock_queue l) _ q other in
+        let owner_is : n.owner q ≡ s.owner q = put_queue_other s.owner (lock_queue l) _ q other in
+        λ i. record { head = head_is i; lists = lists_are i; free_list = free_list_is i; owner = owner_is i }
+
+    record_other : (u : ℕ) → u ≢ t → record_in n u ≡ record_in s u
+    unfolding after_open
+    record_other u ne =
+        let effective_is : n.effective u ≡ s.effective u = put_other s.effective t _ u (λ e. ne (sym e)) in
+        λ i. record (record_in s u) {
+          loan = λ k. put_at_other s.loan t l None u k (λ e. ne (sym e)) i;
+          effective = effective_is i;
+        }
+
+    module _ (can : CanRelease c s t l) where
+      -- another queue in a chain of turnstiles stays, with the node of its head
+      queue_same : (k : ℕ) (q : QueueName) → StandsIn floor (TurnstileChain k) q → q ≢ lock_queue l
+          → SameQueue (queue_in s) (queue_in n) s.loan_home n.loan_home q
+      queue_same k (Lock j) there ne =
+          others c s t l can j.0 (λ e. ne (ap lock_queue e))
+          (stands_by (is_turnstile (c.kind j.0)) (j.0 % floor.chains) k there)
+      queue_same k (Chan d) there ne = absurd (let z : SleepChain (d.0 % floor.chains) ≡ TurnstileChain k = there in cc)
+
+      says_same : (k : Item) → k ≢ RecordOf t → k ≢ chain_of_lock → SaySame floor (objects_in s) (objects_in n) k
+      unfolding after_open
+      says_same (TurnstileChain k) no_record no_chain =
+          λ q there. queue_same k q there (elsewhere (TurnstileChain k) q no_chain there)
+      says_same (SleepChain k) no_record no_chain =
+          λ q there. ap sleepers (queue_other q (elsewhere (SleepChain k) q no_chain there))
+      says_same (RecordOf u) no_record no_chain = record_other u (λ e. no_record (ap RecordOf e))
+      says_same (CellOf k key) no_record no_chain = refl
+      says_same ClassGraph no_record no_chain = refl
+
+      module _ (box : Box ThreadRec Global) (rec : RepresentsRecord box.value (record_in s t)) (side : Side)
+          (side_is : side ≡ side_woken (c.kind l) (s.word l)) (h : Turnstile) (chain : List (QueueName × Turnstile))
+          (shows : RepresentsTurnstiles floor (l % floor.chains) chain (objects_in s))
+          (there : head_of (lock_queue l) chain ≡ Some h) where
+        abbrev q : QueueName
+        q = lock_queue l
+
+        its_head : RepresentsHead h.contents (queue_in s q) s.loan_home
+        its_head = subst (λ o. RepresentsQueue o (queue_in s q) s.loan_home) there (shows.queue q its_own)
+
+        abbrev Shown : QueueName → Option Turnstile → Type 0
+        Shown r o = StandsIn floor chain_of_lock r → RepresentsQueue o (queue_in n r) n.loan_home
+
+        others_shown : (r : QueueName) → r ≢ q → Shown r (head_of r chain)
+        others_shown r ne at = queue_stays (head_of r chain) (queue_same (l % floor.chains) r at ne) (shows.queue r at)
+
+        absent : head_of q (without q chain) ≡ None
+        absent = head_of-without_itself q chain shows.names.distinct
+
+        abbrev chain_by : Bool → List (QueueName × Turnstile)
+        chain_by b = cond b (without q chain)
+            ((q, record h { contents = left_open l side box.value h.contents }) ∷ without q chain)
+
+        shown_by : (b : Bool) → is_empty (all_waiters (left_open l side box.value h.contents)) ≡ b
+            → RepresentsTurnstiles floor (l % floor.chains) (chain_by b) (objects_in n)
+        shown_by true nobody = record {
+          names = names_without floor chain_of_lock q chain shows.names;
+          queue = all_gone Shown q chain others_shown absent (λ _. gone c s t l can rec side side_is h its_head nobody);
+        }
+        shown_by false some_wait = record {
+          names = names_placed floor chain_of_lock q chain shows.names
+              (record h { contents = left_open l side box.value h.contents }) its_own;
+          queue = all_placed Shown q chain others_shown (record h { contents = left_open l side box.value h.contents })
+              (λ _. stays c s t l can rec side side_is h its_head some_wait);
+        }
+
+        chain_shown : RepresentsTurnstiles floor (l % floor.chains) (chain_opened l side box.value h chain)
+            (objects_in n)
+        chain_shown = shown_by (is_empty (all_waiters (left_open l side box.value h.contents))) refl
+
+-- 3. Those who are marked
+
+-- each of a marked list is counted there
+counted : (ms : List Mark) (i : ℕ) (d : Mark) → i < length ms
+    → 1 ≤ times_marked (get_or ms i d).thread (get_or ms i d).queue ms
+counted [] i d low = absurd (omega (arith, low))
+counted (m ∷ ms) zero d low = rw (is_queue_same m.queue, eq-eqb m.thread m.thread refl) (omega arith)
+counted (m ∷ ms) (suc i) d low = let more = counted ms i d (omega (arith, low)) in omega (arith, more)
+
+-- and is a thread of the floor
+marked_low : (floor : Description) (n : State) (t : ℕ) → Lawful (config_in floor) n → t < length floor.threads
+    → (ms : List Mark) → ms ≡ n.marked t → All (λ m. m.thread < length floor.threads) ms
+unfolding OnlyThreadsStand
+marked_low floor n t lawful low ms is i d inside =
+    let m : Mark = get_or ms i d in
+    let there : 1 ≤ times_marked m.thread m.queue (n.marked t) =
+    subst (λ ks. 1 ≤ times_marked m.thread m.queue ks) is (counted ms i d inside) in
+    lawful.waits.only_threads_stand m.thread m.queue
+    (times_named (config_in floor) n m.thread t m.queue lawful low there)
+
+-- 4. The step
+
+-- what it tells where the seen word was found: the thread released the lock, and its record and the chain are such
+-- that the work on them can be done
+pub record OpensWord (floor : Description) (l : ℕ) (side : Side) (me behind : Me Slot Knowledge) : Type 0 where
+  pub mode : Mode
+  pub both : HasBothOut floor l me.0
+  pub turnstile : Turnstile
+  pub there : head_of (lock_queue l) both.chain ≡ Some turnstile
+  pub can : CanOpen l side both.box.value turnstile
+  pub is : behind ≡ (
+    seeing behind.0.seen
+        (opened_up me.0 l (marks_opened l side both.box turnstile)
+        (out_opened floor me.0.thread l side both.box both.chain turnstile)),
+    me.1,
+  )
+  pub step : Makes floor (Opens me.0.thread l mode ∷ []) me.0 behind.0
+  pub held : All (λ p. IsSome p.object) (woken_of l side both.box.value turnstile.contents)
+  pub of_floor : All (λ m. m.thread < length floor.threads) (marks_opened l side both.box turnstile)
+
+abbrev pub Opened : Description → ℕ → Side → ℕ → Me Slot Knowledge → ℕ → Me Slot Knowledge → Type 0
+Opened floor l side seen me found behind =
+    (found ≡ seen → OpensWord floor l side me behind) × (found ≢ seen → Looked floor l me found behind)
+
+-- what is found in a chain of which something holds
+there_is : {A : Type 0} (o : Option A) (P : A → Type 0) → IsSomeAnd o P → (x : A) × (o ≡ Some x) × P x
+there_is None P h = absurd h
+there_is (Some x) P h = (x, refl, h)
+
+module _ (floor : Description) (me : Me Slot Knowledge) (was : me.0.role ≡ OfThread) (slots id seen new : ℕ) (l : ℕ)
+    (mode : Mode) (side : Side) (low : l < length floor.locks) (both : HasBothOut floor l me.0)
+    (turnstile : is_turnstile ((config_in floor).kind l) ≡ true)
+    (its_side : side ≡ side_woken ((config_in floor).kind l) (word_of seen)) where
+  abbrev v : Knowledge
+  v = me.0
+
+  abbrev box : Box ThreadRec Global
+  box = both.box
+
+  abbrev chain : List (QueueName × Turnstile)
+  chain = both.chain
+
+  opens : word_of new ≡ words.opened ((config_in floor).kind l) (word_of seen)
+      → MayMake floor v (λ s. s.word l ≡ word_of seen) (Opens v.thread l mode ∷ [])
+      → (b : Board) (f : Finds floor v b) → lock_word b.words l ≡ seen
+      → Steps floor me (spot (lock_line l)) (lock_word b.words l) new (Opened floor l side seen me) b
+  unfolding after_open
+  opens says may b f same =
+      let c : Config = config_in floor in
+      let s : State = f.state in
+      let t : ℕ = v.thread in
+      let n : State = after_open c s t l in
+      let step : Step = Opens t l mode in
+      let its_word : s.word l ≡ word_of seen = sym (found_word floor b v f l low).0 ∙ ap word_of same in
+      let allowed = may s f.fits its_word in
+      let g = allowed.0.may in
+      let lawful : Lawful c s = f.sound.facts.lawful in
+      let side_is : side ≡ side_woken (c.kind l) (s.word l) = its_side ∙ ap (side_woken (c.kind l)) (sym its_word) in
+      let m : ℕ = l % floor.chains in
+      let j : ℕ = chain_place floor (lock_queue l) in
+      let place : slot_of floor (RecordOf t) ≡ Some t = record_at floor t f.fits.thread in
+      let at : slot_of floor (TurnstileChain m) ≡ Some j = ap (slot_of floor) (sym (its_own floor l turnstile))
+      ∙ chain_at floor f.represents.sizes.sized.some_chains (lock_queue l) in
+      let apart : t ≢ j = λ e. let z : RecordOf t ≡ TurnstileChain m =
+      one_place floor (RecordOf t) (TurnstileChain m) j (place ∙ ap Some e) at in cc in
+      let rec : RepresentsRecord box.value (record_in s t) =
+      (f.fits.out.each (RecordOf t) t (Record box) place
+      (ap (found t) both.out ∙ found_first t (Record box) ((j, Turnstiles chain) ∷ []))).1 in
+      let shows : RepresentsTurnstiles floor m chain (objects_in s) =
+      (f.fits.out.each (TurnstileChain m) j (Turnstiles chain) at
+      (ap (found j) both.out ∙ found_later t j (Record box) ((j, Turnstiles chain) ∷ []) apart
+      ∙ found_first j (Turnstiles chain) [])).1 in
+      let can = can_release c s t l mode lawful g in
+      let its = there_is (head_of (lock_queue l) chain) (CanOpen l (side_woken (c.kind l) (s.word l)) box.value)
+      (can_open_there c s t l mode lawful g rec (head_of (lock_queue l) chain)
+      (shows.queue (lock_queue l) (its_own floor l turnstile))) in
+      let h : Turnstile = its.0 in
+      let old : RepresentsHead h.contents (queue_in s (lock_queue l)) s.loan_home =
+      subst (λ o. RepresentsQueue o (queue_in s (lock_queue l)) s.loan_home) its.1
+      (shows.queue (lock_queue l) (its_own floor l turnstile)) in
+      let after : List (ℕ × Slot) = out_opened floor t l side box chain h in
+      let ms : List Mark = marks_opened l side box h in
+      let w : Knowledge = seeing (step ∷ f.past) (opened_up v l ms after) in
+      let shown = marks_shown c s t l can rec side side_is h old {ps = woken_of l side box.value h.contents} refl in
+      let own : OwnSteps v w f.past (step ∷ []) s n = record {
+        role = was;
+        seen = refl;
+        makers = one_own t step refl;
+        no_refusal = (λ u k j e. absurd cc, tt);
+        seat = record { thread = refl; share = open_own s v f.fits.share c l ms after shown.0 };
+        others = λ u ne. open_others s t u ne c l;
+        pose = f.fits.pose;
+        other_poses = λ u ne p z. z;
+      } in
+      let says_now : word_of new ≡ words.opened (c.kind l) (s.word l) = says
+      ∙ ap (words.opened (c.kind l)) (sym its_word) in
+      let r = f.represents in
+      let outs : ℕ → List (ℕ × Slot) = λ u. (thread_in b.views u).out in
+      let first : Slot = Record (with_value box (record_opened l box.value)) in
+      let second : Slot = Turnstiles (chain_opened l side box.value h chain) in
+      let shelves : Shelves (slots_for floor) (latch_word b.words) (home_at b.homes) (put outs t after)
+      (put (put r.content t first) j second) =
+      shelf_both (slots_for floor) (latch_word b.words) (home_at b.homes) outs r.content r.shelves t j t (Record box)
+      first (Turnstiles chain) second apart (own_out floor (step ∷ []) b v w f was allowed own me.1 ∙ both.out) in
+      let objects : RepresentsObjects floor (put (put r.content t first) j second) (objects_in n) =
+      two_changed floor r.content (objects_in s) (objects_in n) (RecordOf t) (TurnstileChain m) t j first second place
+      at
+      (λ k z no_record no_chain. still_of floor (objects_in s) (objects_in n) k z
+      (says_same floor l turnstile s t can k no_record no_chain)) refl
+      (record_shown can rec) (chain_shown floor l turnstile s t can box rec side side_is h chain shows its.1) r.objects
+      in
+      let made = lock_made_with floor (step ∷ []) b v w f was allowed own me.1 l new
+      (words.opened (c.kind l) (s.word l)) _ low says_now refl refl refl shelves objects in
+      let behind : IsSound floor (step ∷ f.past) n = sound_kept floor s (step ∷ []) own.no_refusal allowed f.sound in
+      let told : OpensWord floor l side me (w, me.1) = record {
+        mode = mode;
+        both = both;
+        turnstile = h;
+        there = its.1;
+        can = subst (λ k. CanOpen l k box.value h) (sym side_is) its.2;
+        is = refl {a = (w, me.1)};
+        step = made.1;
+        held = shown.1;
+        of_floor = marked_low floor n t behind.facts.lawful f.fits.thread ms shown.0;
+      } in (
+        w,
+        keeps,
+        tt,
+        made.0,
+        (λ e. told, λ ne. absurd {A = Looked floor l me (lock_word b.words l) (w, me.1)} (ne same)),
+      )
+
+  pub open_allowed : word_of new ≡ words.opened ((config_in floor).kind l) (word_of seen)
+      → MayMake floor v (λ s. s.word l ≡ word_of seen) (Opens v.thread l mode ∷ [])
+      → MayMake floor v (λ s. Unit {0}) (Looks v.thread l (counts v l) ∷ [])
+      → Allows (FloorHolds floor) slots id me (spot (lock_line l)) (λ n. either (eqb n seen) new n)
+      (Opened floor l side seen me)
+  open_allowed says may may_look =
+      exchange_allows floor slots id me (spot (lock_line l)) seen new (Opened floor l side seen me) was (opens says may)
+      (λ b f ne small. let look = looks floor me l was low b f (may_look f.state f.fits tt) in
+      (look.0, look.1, look.2, look.3, (λ e. absurd (ne e), λ _. look.4)))

@@ -1,0 +1,18 @@
+use Rattle.std.proofs.Common.{sym, ap, ◌∙◌}
+use Rattle.lock_objects.specs.Marked.{places_of}
+use Rattle.lock_floor.proofs.marking.first_of.Goals as goal
+
+pub returns-in_ok-first-in-Waiters-clause-some : goal.returns-in_ok-first-in-Waiters-clause-some
+returns-in_ok-first-in-Waiters-clause-some c =
+    let n = c.in_ok-first-in-Waiters.field-0.now in
+    (n.place, n.next, ap places_of c.in-Waiters.is ∙ c.in_ok-first-in-Waiters.ensures.some, sym c.thread.ensures)
+
+pub returns-in_ok-first-in-Sleepers-clause-some : goal.returns-in_ok-first-in-Sleepers-clause-some
+returns-in_ok-first-in-Sleepers-clause-some c =
+    let n = c.in_ok-first-in-Sleepers.field-0.now in (
+      n.place,
+      n.next,
+      ap places_of c.in-Sleepers.is
+          ∙ c.in_ok-first-in-Sleepers.ensures.some,
+      sym c.thread-in-Sleepers.ensures,
+    )

@@ -1,0 +1,118 @@
+//! How a thread wakes those whom it took off a queue, as in `turnstile_unpend` of FreeBSD's subr_turnstile.c. For each
+//! it takes the record of that thread; by one atomic step it gives it its object back and says in its wait word that it
+//! was woken; then it gives the record back, and ends the sleep. No call takes memory.
+ghost use Rattle.std.specs.Prelude.{◌≡◌, ◌<◌, [], ◌∷◌, length, IfNone, IfSome, IsSome};
+ghost use Rattle.std.specs.Box.{with_value};
+ghost use Rattle.atomic_table.specs.Table.{Allows, rest};
+ghost use Rattle.lock_objects.specs.Marked.{IsAway, node_of, places_of, record_woken};
+ghost use Rattle.floor_table.specs.declared.slot.Slot.TheVariants.{Record};
+ghost use Rattle.floor_table.specs.Places.{spot, wait_line};
+ghost use Rattle.floor_table.specs.Rule.{FloorHolds};
+ghost use Rattle.floor_table.specs.Steps.{MakesEach};
+ghost use Rattle.floor_table.specs.Views.{seeing};
+ghost use Rattle.lock_floor.specs.Marks.{CanMark, MarksFirst, MayMark, marking, with_marks};
+ghost use Rattle.lock_floor.specs.Passes.{IsOf};
+
+use crate::floor::FloorOf;
+use crate::pass::{Pass, PassOf};
+use floor_table::{Board, Description, FloorSeat, Law, Slot, Tells, View, store, wait_spot};
+use lock_model::ThreadNo;
+use lock_objects::{Marked, Woken, wake};
+use std::marker::Brand;
+use std::sync::Wait;
+
+// What a wait word says of a thread that a signal woke.
+const SIGNALLED: u64 = 2;
+
+impl FloorOf<Slot, View, Description, Law> {
+    /// Wakes the first of the marked list, whose record was taken last, by one atomic step, and never waits. Answers
+    /// who that is; its sleep is still to be ended, by `unpark`.
+    pub fn mark(&self, pass: &mut Pass) -> ThreadNo
+        requires own { IsOf self.now pass.old }
+        requires may { MayMark self.now.description pass.old.view }
+        ensures own { IsOf self.now pass.new }
+        ensures marks { MarksFirst self.now.description result.0 pass.old.view pass.new.view }
+    {
+        let Some(woken) = pass.marked.pop() else {
+            unreachable!()
+        };
+        let u = woken.thread();
+        hand_back(&self.board, &mut pass.seat, usize::from(u.0), woken);
+        say_woken::<Brand>(&self.board, &mut pass.seat, u);
+        u
+    }
+
+    /// Wakes each of the marked list, the first one first. It waits while another thread has a record out.
+    pub fn mark_all<R: Wait>(&self, rt: &R, pass: &mut Pass)
+        requires own { IsOf self.now pass.old }
+        requires may { CanMark pass.old.view }
+        ensures own { IsOf self.now pass.new }
+        ensures view { pass.new.view ≡ seeing pass.new.view.seen (with_marks pass.old.view []) }
+        ensures steps { MakesEach self.now.description
+            (marking pass.old.view.thread pass.old.view.share.doing.marked)
+            pass.old.view pass.new.view }
+    {
+        while let Some(t) = pass.first_marked() {
+            self.take_rec(rt, pass, t);
+            self.mark(pass);
+            self.give_rec(pass, t);
+            self.unpark(t);
+        }
+    }
+}
+
+impl PassOf<Slot, View, Description, Law> {
+    /// The first thread of the marked list: the one to be woken next. `None` comes exactly where nobody is left.
+    pub fn first_marked(&self) -> Option<ThreadNo>
+        ensures none { IfNone result (self.now.view.share.doing.marked ≡ []) }
+        ensures some { IfSome result (λ t. (m : _) × (ms : _)
+            × (self.now.view.share.doing.marked ≡ m ∷ ms) × (m.thread ≡ t.0)) }
+        ensures of_floor { IfSome result (λ t. t.0 < length self.now.view.description.threads) }
+    {
+        first_of(&self.marked)
+    }
+}
+
+// The first thread of the objects of a marked list. `None` comes exactly where there is none.
+fn first_of(marked: &Marked) -> Option<ThreadNo>
+    ensures none { IfNone result (places_of marked.now ≡ []) }
+    ensures some { IfSome result (λ t. (p : _) × (ps : _) × (places_of marked.now ≡ p ∷ ps)
+        × (p.thread ≡ t.0)) }
+{
+    match marked {
+        Marked::Waiters(waiters) => Some(waiters.first()?.thread()),
+        Marked::Sleepers(sleepers) => Some(sleepers.first()?.thread()),
+    }
+}
+
+// Gives the object back to the record that was taken last, which is its thread's.
+fn hand_back(board: &Board, seat: &mut FloorSeat, slot: usize, woken: Woken)
+    requires own { seat.old.table_id ≡ board.now.shared.table_id }
+    requires last { (b : _) × (seat.old.me.1 ≡ (slot, Record b) ∷ rest seat.old.me.1)
+        × IsAway woken b.value × ((node_of woken).place.thread ≡ b.value.thread) }
+    requires holds { IsSome (node_of woken).place.object }
+    requires alone { (node_of woken).next ≡ [] }
+    ensures own { seat.new.table_id ≡ seat.old.table_id }
+    ensures view { seat.new.me.0 ≡ seat.old.me.0 }
+    ensures value { (b : _) → seat.old.me.1 ≡ (slot, Record b) ∷ rest seat.old.me.1
+        → seat.new.me.1 ≡ (slot, Record (with_value b (record_woken woken b.value)))
+        ∷ rest seat.old.me.1 }
+{
+    match seat.slot_mut(&board.shared, slot) {
+        Slot::Record(rec) => wake(rec, woken),
+        Slot::Cell(_) | Slot::Turnstiles(_) | Slot::SleepQueues(_) | Slot::Graph(_) =>
+            unreachable!(),
+    }
+}
+
+// Makes the wait word of a thread say that a signal woke it.
+fn say_woken<J: Tells>(board: &Board, seat: &mut FloorSeat, u: ThreadNo)
+    requires own { seat.old.table_id ≡ board.now.shared.table_id }
+    requires within { spot (wait_line u.0) < board.now.shared.table_id.words }
+    requires may { Allows (FloorHolds board.now.shared.key) board.now.shared.table_id.slots
+        seat.old.id seat.old.me (spot (wait_line u.0)) (λ _. 2) (λ _. J.told seat.old.me 2) }
+    ensures own { seat.new.table_id ≡ seat.old.table_id }
+    ensures told { J.told seat.old.me 2 seat.new.me }
+{
+    store::<J>(board, seat, wait_spot(u), SIGNALLED);
+}
