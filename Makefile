@@ -2,7 +2,7 @@
 SHELL := bash
 
 # The programs: of each there is a crate of that name, docs/NAME.1, and its words for shells in completions/.
-PROGRAMS := lockrun lockchart
+PROGRAMS := lockrun lockchart lockplan
 
 SCRIPT ?= examples/blocking.script
 FORM ?= svg
@@ -10,21 +10,24 @@ FROM ?=
 TO ?=
 TURNS ?=
 TITLE ?=
+BY ?= priority
 PREFIX ?= /usr/local
 DESTDIR ?=
 LOCKRUN ?=
-export SCRIPT FORM FROM TO TURNS TITLE PREFIX DESTDIR LOCKRUN PROGRAMS
+LOCKPLAN ?=
+export SCRIPT FORM FROM TO TURNS TITLE BY PREFIX DESTDIR LOCKRUN LOCKPLAN PROGRAMS
 
 .DEFAULT_GOAL := help
-.PHONY: help step run chart proved quick $(PROGRAMS) examples install uninstall dist words bench costs
+.PHONY: help step run plan chart proved quick $(PROGRAMS) examples install uninstall dist words bench costs
 
 # Says what there is to type.
 help:
 	@echo 'make step SCRIPT=PATH     makes the scheduled run of a script, as TURNS=N says; without SCRIPT, $(SCRIPT)'
 	@echo 'make run SCRIPT=PATH      runs it with a thread of its own for each thread of the script: mutexes alone so far'
+	@echo 'make plan SCRIPT=PATH     writes it with turns by priority behind its schedule; BY="chance SEED": by chance'
 	@echo 'make chart SCRIPT=PATH    draws its scheduled run into a file of out/; FORM=html or FORM=trace for another form;'
 	@echo '                          FROM=A, TO=B, TURNS=N and TITLE=TEXT as docs/lockchart.1 says'
-	@echo '                          These three take a proved program that is new enough, or a quick one, or build one'
+	@echo '                          These four take a proved program that is new enough, or a quick one, or build one'
 	@echo '                          without any proof'
 	@echo 'make PROGRAM              proves a program, and leaves it in out/: $(PROGRAMS)'
 	@echo 'make quick                builds them without any proof, and leaves them in out/quick/'
@@ -39,8 +42,8 @@ help:
 	@echo 'rt ci                     the gate: proves every crate, tries the edits that must fail, runs tests and programs'
 	@echo 'A script may end with a status other than 0; make then says Error and that number.'
 
-# One turn after another, the same way each time; the threads beside each other; a picture.
-step run chart:
+# One turn after another, the same way each time; the threads beside each other; a schedule by a policy; a picture.
+step run plan chart:
 	@tools/programs $@
 
 # Proves a program and all below it.
@@ -54,12 +57,14 @@ quick:
 proved: lockrun
 	@tools/programs step
 
-# Runs each example by the proved program, and stops at the first whose status, text or sentence isn't as written. Under
+# Runs each example by its proved program, and stops at the first whose status, text or sentence isn't as written. Under
 # run a file that begins with a thread line leaves out the history, whose order is open: the text is to end so.
 examples:
 	@lockrun=$${LOCKRUN:-$$(tools/programs find lockrun)} && [ -n "$$lockrun" ] || exit 1; \
+	lockplan=$${LOCKPLAN:-$$(tools/programs find lockplan)} && [ -n "$$lockplan" ] || exit 1; \
 	out=$$(mktemp -d) && trap 'rm -rf "$$out"' EXIT && while read -r name words; do \
-	  status=0; "$$lockrun" $$words < "examples/$${name%%.*}.script" > "$$out/text" 2> "$$out/said" || status=$$?; \
+	  case "$$words" in 'lockplan '*) call="$$lockplan $${words#* }" ;; *) call="$$lockrun $$words" ;; esac; \
+	  status=0; $$call < "examples/$${name%%.*}.script" > "$$out/text" 2> "$$out/said" || status=$$?; \
 	  from=+1; case "$$words,$$(head -c 7 "examples/$$name.out")" in \
 	    *run*,'thread ') from=$$(wc -l < "examples/$$name.out") ;; esac; \
 	  tail -n "$$from" "$$out/text" | diff "examples/$$name.out" - \

@@ -1,5 +1,5 @@
 #!/usr/bin/env bash
-# Draws five examples in each form, makes pictures of them with a headless Chromium, in light and in dark, drives the
+# Draws six examples in each form, makes pictures of them with a headless Chromium, in light and in dark, drives the
 # scrubber of each page by keys and clicks, holds what each page shows in each row to what lockrun prints, and checks
 # each trace.
 #
@@ -15,7 +15,7 @@ top=$(dirname "$tools")
 lockchart=${LOCKCHART:-$top/crates/lockchart/out/lockchart}
 lockrun=${LOCKRUN:-$top/crates/lockrun/out/lockrun}
 chromium=$(command -v "${CHROMIUM:-chromium}") || { echo 'no chromium: apt-get install chromium' >&2; exit 1; }
-names=${NAMES:-lending priority_inversion lost_signal three_philosophers writer_behind_readers}
+names=${NAMES:-lending priority_inversion inversion_without_loans lost_signal three_philosophers writer_behind_readers}
 folder=${1:-$(mktemp -d /tmp/charts.XXXXXX)}
 mkdir -p "$folder"
 for program in "$lockchart" "$lockrun"; do

@@ -1,15 +1,14 @@
 -- What a call of the program promises, by the words of the command line, by how it ended, and by what its source and
 -- its sink tell before and behind it. It is this project's own.
-use Rattle.std.specs.Prelude.{◌≡◌, ◌⊎◌, ◌≤◌, ℕ, Bool, true, false, List, [], Option, Some, None, IfSome, length}
-use Rattle.chart_command.specs.Forms.{Asking, AsksForHelp, AsksPicture, Wanted, asking_of}
+use Rattle.std.specs.Prelude.{◌≡◌, ◌⊎◌, ◌≤◌, ℕ, false, List, Some, None, IfSome, length}
+use Rattle.chart_command.specs.Forms.{AsksForHelp, AsksPicture, Wanted, asking_of}
 use Rattle.chart_top.specs.Pictures.{IsPicture, Rendering}
 use Rattle.complaints.specs.declared.status.Status.{Status}
-use Rattle.complaints.specs.declared.status.Status.TheVariants.{Done, BadScript, ReadFault, WriteFault, NoMemory, Stuck, Reversed, TooLong, TooBig, Usage}
+use Rattle.complaints.specs.declared.status.Status.TheVariants.{Done, BadScript, WriteFault, NoMemory, Usage}
 use Rattle.lock_io.specs.Whole.{AddsFront}
 use Rattle.lock_model.specs.Limits.{most_bytes}
-use Rattle.lock_model.specs.Script.{IsFaulty}
-use Rattle.lock_model.specs.Text.{fault_text}
 use Rattle.top_ends.specs.Calls.{ReadsBytes, Told, Wrote}
+use Rattle.top_ends.specs.Statuses.{writes_made}
 
 -- Usage comes exactly where the words are no form of the command line, save for want of memory. Only words that ask for
 -- a picture have the source read.
@@ -22,19 +21,6 @@ pub record TellsForms (words : List (List ℕ)) (status : Status) (old new : Tol
   pub help_reads_nothing : asking_of words ≡ Some AsksForHelp → new ≡ old
   pub picture_reads : (wanted : Wanted) → asking_of words ≡ Some (AsksPicture wanted)
       → ReadsBytes status old new
-
--- the status says that something may be written
-abbrev pub writes : Status → Bool
-writes Done = true
-writes BadScript = false
-writes ReadFault = false
-writes WriteFault = true
-writes NoMemory = false
-writes Stuck = false
-writes Reversed = false
-writes TooLong = false
-writes TooBig = false
-writes Usage = false
 
 -- What was written is a whole picture of the script that was read, and at WriteFault a front of one.
 pub record Draws (renders : Rendering) (wanted : Wanted) (status : Status)
@@ -52,14 +38,7 @@ pub record WritesPicture (renders : Rendering) (words : List (List ℕ)) (status
       → Draws renders wanted status source old new
   pub help : asking_of words ≡ Some AsksForHelp → status ≡ Done
       → (text : List ℕ) × Wrote old new text
-  pub nothing : writes status ≡ false → new ≡ old
-
--- BadScript comes only where the bytes are no script, and then the line tells of their first fault; at any other status
--- there is none
-pub record TellsFault (status : Status) (line : List ℕ) (source : Told) : Type 0 where
-  pub faulty : status ≡ BadScript → IfSome source (λ bytes. (n code : ℕ) × IsFaulty bytes n code
-      × (line ≡ fault_text n code))
-  pub none : (status ≡ BadScript → ⊥) → line ≡ []
+  pub nothing : writes_made status ≡ false → new ≡ old
 
 -- a source that isn't too big has its picture written, or its fault told, save for want of memory
 abbrev pub AnswersAll : Status → Told → Type 0

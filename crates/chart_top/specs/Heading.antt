@@ -1,5 +1,5 @@
 -- What stands above a picture. It is this project's own.
-use Rattle.std.specs.Prelude.{ℕ, Bool, ◌==◌, ◌++◌, List, [], ◌∷◌, drop, length, decimal, slice_get, Option, Some, None, codes, if◌then◌else◌, unwrap_or}
+use Rattle.std.specs.Prelude.{ℕ, Bool, ◌&&◌, ◌==◌, ◌++◌, List, [], ◌∷◌, drop, length, decimal, slice_get, Option, Some, None, codes, if◌then◌else◌, option_and_then, unwrap_or}
 use Rattle.std.specs.Option.{option_or}
 use Rattle.std.specs.Str.{is_utf8}
 use Rattle.lock_model.specs.Script.Lines.{lines_of}
@@ -36,6 +36,21 @@ comments_of (line ∷ lines) = with_comments (comment_of line) (comments_of line
 abbrev pub head_comments : Text → List Text
 head_comments bytes = comments_of (drop 1 (lines_of bytes))
 
+-- a full stop stands where a space or nothing is behind it
+abbrev pub is_at_stop : ℕ → Text → Bool
+is_at_stop b [] = b == 46
+is_at_stop b (c ∷ bs) = b == 46 && c == 32
+
+-- up to the first full stop, without that
+abbrev pub up_to_stop : Text → Text
+up_to_stop [] = []
+up_to_stop (b ∷ bs) = if is_at_stop b bs then [] else b ∷ up_to_stop bs
+
+-- the title that the first of these comments gives
+abbrev pub comment_title : Text → Option Text
+comment_title bytes =
+    option_and_then (λ c. text_of (up_to_stop c)) (slice_get (head_comments bytes) 0)
+
 -- where nobody gave a title
 abbrev pub threads_word : ℕ → Text
 threads_word n = if n == 1 then codes " thread" else codes " threads"
@@ -44,9 +59,9 @@ abbrev pub plain_title : Plan → Text
 plain_title plan =
     codes "A run of " ++ (decimal (length plan.threads) ++ threads_word (length plan.threads))
 
--- the title that was asked for, or else the script's first comment, or else the plain one
+-- the title that was asked for, or else that of the script's first comment, or else the plain one
 abbrev pub title_by : Option Text → Text → Text → Text
-title_by asked bytes plain = unwrap_or (option_or asked (slice_get (head_comments bytes) 0)) plain
+title_by asked bytes plain = unwrap_or (option_or asked (comment_title bytes)) plain
 
 abbrev pub title_of : Wanted → Text → Plan → Text
 title_of wanted bytes plan = title_by wanted.title bytes (plain_title plan)

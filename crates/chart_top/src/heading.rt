@@ -2,7 +2,7 @@
 //! the head of the script.
 ghost use Rattle.std.specs.Prelude.{◌≡◌, ◌∷◌, [], IfOk, MatchOption, option_map, slice_get};
 ghost use Rattle.std.specs.String.{string_bytes};
-ghost use Rattle.chart_top.specs.Heading.{comment_of, comments_of, head_comments, plain_title, subtitle_of, text_of, title_by, without_space};
+ghost use Rattle.chart_top.specs.Heading.{comment_of, comment_title, comments_of, head_comments, is_at_stop, plain_title, subtitle_of, text_of, title_by, up_to_stop, without_space};
 ghost use Rattle.lock_model.specs.Script.Lines.{lines_of};
 
 use lock_model::Plan;
@@ -19,24 +19,24 @@ pub struct Heading<'a> {
 }
 
 impl<'a> Heading<'a> {
-    /// Of a script, by its bytes: the title that is asked for, or else the first comment, or else the plain title; and
-    /// below it the second comment.
+    /// Of a script, by its bytes: the title that is asked for, or else the first comment up to its full stop, or else
+    /// the plain title; and below it the second comment.
     pub fn of(asked: Option<&'a str>, bytes: &'a [u8], plain: &'a str) -> Heading<'a>
         ensures title { result.title.now
             ≡ title_by (option_map (λ s. s.now) asked.entry) bytes.entry.now plain.entry.now }
         ensures subtitle { result.subtitle.now ≡ subtitle_of bytes.entry.now }
     {
-        let (first, second) = comments(bytes);
+        let (title, second) = comments(bytes);
         Heading {
-            title: asked.or(first).unwrap_or(plain),
+            title: asked.or(title).unwrap_or(plain),
             subtitle: second.unwrap_or(""),
         }
     }
 }
 
-// The comments of the lines right behind the first one, two at most.
+// Of the comments of the lines right behind the first one: the title that the first gives, and the second.
 fn comments(bytes: &[u8]) -> (Option<&str>, Option<&str>)
-    ensures first { option_map (λ s. s.now) result.0 ≡ slice_get (head_comments bytes.now) 0 }
+    ensures first { option_map (λ s. s.now) result.0 ≡ comment_title bytes.now }
     ensures second { option_map (λ s. s.now) result.1 ≡ slice_get (head_comments bytes.now) 1 }
 {
     let Some((_, behind)) = split_line(bytes) else {
@@ -45,7 +45,30 @@ fn comments(bytes: &[u8]) -> (Option<&str>, Option<&str>)
     let Some((first, others)) = split_comment(behind) else {
         return (None, None);
     };
-    (Some(first), split_comment(others).map(|(second, _)| second))
+    let title = text_of(up_to_stop(first.as_bytes()));
+    (title, split_comment(others).map(|(second, _)| second))
+}
+
+// A text up to its first full stop, without that.
+fn up_to_stop(text: &[u8]) -> &[u8]
+    ensures { result.now ≡ up_to_stop text.now }
+{
+    for n in 0..text.len() {
+        if is_at_stop(text[n], &text[n + 1..]) {
+            return &text[..n];
+        }
+    }
+    text
+}
+
+// Whether a byte with these behind it is a full stop.
+fn is_at_stop(byte: u8, behind: &[u8]) -> bool
+    ensures { result ≡ is_at_stop byte behind.now }
+{
+    match behind {
+        [] => byte == b'.',
+        [next, ..] => byte == b'.' && *next == b' ',
+    }
 }
 
 // The comment of the first line, where that is a comment line, and what stands behind the line.

@@ -3,29 +3,29 @@
 //!
 //! From the outside in:
 //! - `top`: the calls, with everything that is promised of them.
-//! - `ended`: how a call ends.
 //! - `drawing`: the picture of a plan.
 //! - `heading`: what stands above a picture.
 //! - `renderer`: what writes a chart down, and `forms`: the three forms in which it is written.
 #![tactic(auto)]
 
 mod drawing;
-mod ended;
 mod forms;
 mod heading;
 mod renderer;
 mod top;
 
-pub use crate::ended::Ended;
 pub use crate::forms::Forms;
 pub use crate::heading::Heading;
 pub use crate::renderer::Renderer;
 pub use crate::top::{lockchart, lockchart_by};
 use complaints::Program;
 pub use complaints::Status;
+pub use top_ends::Ended;
 
 /// The program, as its sentences name it.
 pub const LOCKCHART: Program = Program {
     name: "lockchart",
     form: chart_command::FORM,
+    // No picture ends so: one of a run whose turns were used up is drawn.
+    too_long: "the turns were used up before all threads had ended",
 };

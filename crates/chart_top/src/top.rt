@@ -11,13 +11,13 @@ ghost use Rattle.std.specs.Prelude.{◌≡◌, ◌≢◌, ◌≤◌, map, false,
 ghost use Rattle.std.specs.String.{string_bytes};
 ghost use Rattle.chart_command.specs.Forms.{AsksPicture, Wanted, asking_of};
 ghost use Rattle.chart_command.specs.Args.{HasRanges, wanted};
-ghost use Rattle.chart_top.specs.Calls.{AnswersAll, Draws, TellsFault, TellsForms, WritesPicture, writes};
+ghost use Rattle.chart_top.specs.Calls.{AnswersAll, Draws, TellsForms, WritesPicture};
 ghost use Rattle.chart_top.specs.Pictures.{in_forms};
 ghost use Rattle.lock_io.specs.Faults.{Rose};
-ghost use Rattle.top_ends.specs.Calls.{ReadsBytes, TellsFaults};
+ghost use Rattle.top_ends.specs.Calls.{ReadsBytes, TellsFaults, TellsScriptFault};
+ghost use Rattle.top_ends.specs.Statuses.{writes_made};
 
 use crate::drawing::draw;
-use crate::ended::Ended;
 use crate::forms::Forms;
 use crate::renderer::Renderer;
 use chart_command::{Asked, LockchartArgs, WordsError, read_words};
@@ -25,7 +25,7 @@ use complaints::Status;
 use lock_io::{Sink, Source};
 use script_read::{ReadError, read_script};
 use std::alloc::Global;
-use top_ends::{read_bytes, write_text};
+use top_ends::{Ended, read_bytes, write_text};
 
 /// What the program does: `lockchart_by` with the three forms of a chart.
 pub fn lockchart<S: Source, K: Sink>(
@@ -42,7 +42,7 @@ pub fn lockchart<S: Source, K: Sink>(
         (K.faults sink.old) (K.faults sink.new) }
     ensures writes { WritesPicture in_forms (map string_bytes words.now) result.status
         (S.remaining source.old) (K.contents sink.old) (K.contents sink.new) }
-    ensures fault { TellsFault result.status result.fault.items (S.remaining source.old) }
+    ensures fault { TellsScriptFault result.status result.fault.items (S.remaining source.old) }
     ensures complete { (wanted : Wanted)
         → asking_of (map string_bytes words.now) ≡ Some (AsksPicture wanted)
         → ¬ (Rose (S.faults source.old) (S.faults source.new))
@@ -70,7 +70,7 @@ pub fn lockchart_by<R: Renderer, S: Source, K: Sink>(
         (K.faults sink.old) (K.faults sink.new) }
     ensures writes { WritesPicture R.renders (map string_bytes words.now) result.status
         (S.remaining source.old) (K.contents sink.old) (K.contents sink.new) }
-    ensures fault { TellsFault result.status result.fault.items (S.remaining source.old) }
+    ensures fault { TellsScriptFault result.status result.fault.items (S.remaining source.old) }
     ensures complete { (wanted : Wanted)
         → asking_of (map string_bytes words.now) ≡ Some (AsksPicture wanted)
         → ¬ (Rose (S.faults source.old) (S.faults source.new))
@@ -105,8 +105,8 @@ fn show<R: Renderer, S: Source, K: Sink>(
         (K.faults sink.old) (K.faults sink.new) }
     ensures draws { Draws R.renders (wanted said.now) result.status
         (S.remaining source.old) (K.contents sink.old) (K.contents sink.new) }
-    ensures nothing { writes result.status ≡ false → K.contents sink.new ≡ K.contents sink.old }
-    ensures fault { TellsFault result.status result.fault.items (S.remaining source.old) }
+    ensures nothing { writes_made result.status ≡ false → K.contents sink.new ≡ K.contents sink.old }
+    ensures fault { TellsScriptFault result.status result.fault.items (S.remaining source.old) }
     ensures complete { ¬ (Rose (S.faults source.old) (S.faults source.new))
         → ¬ (Rose (K.faults sink.old) (K.faults sink.new))
         → AnswersAll result.status (S.remaining source.old) }

@@ -114,7 +114,7 @@ fixed_of program WriteFault = Some (codes "could not write standard output")
 fixed_of program NoMemory = Some (codes "out of memory")
 fixed_of program Stuck = None
 fixed_of program Reversed = None
-fixed_of program TooLong = Some (codes "the turns were used up before all threads had ended")
+fixed_of program TooLong = Some program.too_long.now
 fixed_of program TooBig = Some (codes "the source has more than 1,048,576 bytes")
 fixed_of program Usage = Some program.form.now
 

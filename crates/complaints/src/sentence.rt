@@ -62,7 +62,7 @@ pub fn fixed_complaint(program: Program, status: Status) -> Option<&'static str>
         Status::ReadFault => Some("could not read standard input"),
         Status::WriteFault => Some("could not write standard output"),
         Status::NoMemory => Some("out of memory"),
-        Status::TooLong => Some("the turns were used up before all threads had ended"),
+        Status::TooLong => Some(program.too_long),
         Status::TooBig => Some("the source has more than 1,048,576 bytes"),
         Status::Usage => Some(program.form),
     }

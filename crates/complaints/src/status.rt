@@ -17,7 +17,7 @@ pub enum Status {
     Stuck = 5,
     /// A lock order was refused.
     Reversed = 6,
-    /// The turns were used up.
+    /// Of a run: the turns were used up. Of a schedule that a policy made: the script would be too long with it.
     TooLong = 7,
     /// The source has more than 1,048,576 bytes.
     TooBig = 8,

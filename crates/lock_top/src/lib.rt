@@ -19,4 +19,5 @@ pub use complaints::Status;
 pub const LOCKRUN: Program = Program {
     name: "lockrun",
     form: "lockrun check|step|run [--chains N] [--turns N] < SCRIPT",
+    too_long: "the turns were used up before all threads had ended",
 };

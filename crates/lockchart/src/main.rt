@@ -5,12 +5,12 @@
 //! up.
 #![tactic(auto)]
 
-use chart_top::{Ended, LOCKCHART, lockchart};
+use chart_top::{LOCKCHART, lockchart};
 use complaints::say;
 use lock_io::{StdSink, StdSource};
 use std::io;
 use std::process::ExitCode;
-use top_ends::given_words;
+use top_ends::{Ended, given_words};
 
 fn main(rt: HostRuntime) -> ExitCode {
     let alloc = rt.alloc();

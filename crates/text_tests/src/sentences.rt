@@ -7,6 +7,7 @@ use std::test::Fail;
 const LOCKRUN: Program = Program {
     name: "lockrun",
     form: "lockrun check|step|run [--chains N] [--turns N] < SCRIPT",
+    too_long: "the turns were used up before all threads had ended",
 };
 
 const STUCK: &str = "0 t1 lock a

@@ -1,4 +1,4 @@
--- What a status says of the source of a call.
+-- What a status says of the source of a call, and of what was written.
 use Rattle.std.specs.Prelude.{Bool, true, false}
 use Rattle.complaints.specs.declared.status.Status.{Status}
 use Rattle.complaints.specs.declared.status.Status.TheVariants.{Done, BadScript, ReadFault, WriteFault, NoMemory, Stuck, Reversed, TooLong, TooBig, Usage}
@@ -28,3 +28,16 @@ tells_of_reading Reversed = false
 tells_of_reading TooLong = false
 tells_of_reading TooBig = true
 tells_of_reading Usage = false
+
+-- something may be written, by a program that writes nothing but what it made of a whole script
+abbrev pub writes_made : Status → Bool
+writes_made Done = true
+writes_made BadScript = false
+writes_made ReadFault = false
+writes_made WriteFault = true
+writes_made NoMemory = false
+writes_made Stuck = false
+writes_made Reversed = false
+writes_made TooLong = false
+writes_made TooBig = false
+writes_made Usage = false

@@ -1,4 +1,4 @@
-//! How a call ends.
+//! How a call ends that writes nothing of a source that is no script.
 ghost use Rattle.std.specs.Prelude.{◌≡◌, ◌≢◌, [], ◌⊎◌};
 ghost use Rattle.lock_model.specs.Text.{fault_text};
 
@@ -28,8 +28,8 @@ impl Ended {
         }
     }
 
-    // The end of a call whose source is no script, or `NoMemory`.
-    pub(crate) fn by(alloc: Global, fault: ScriptFault) -> Ended
+    /// The end of a call whose source is no script, which has this fault, or `NoMemory`.
+    pub fn by(alloc: Global, fault: ScriptFault) -> Ended
         ensures status { (result.status ≡ Status.BadScript) ⊎ (result.status ≡ Status.NoMemory) }
         ensures told { result.status ≡ Status.BadScript
             → result.fault.items ≡ fault_text fault.line fault.code }

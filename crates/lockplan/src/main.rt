@@ -1,0 +1,31 @@
+//! `lockplan --by priority [--without-loans]` or `lockplan --by chance SEED` reads a script from standard input, and
+//! writes it to standard output with a schedule that the policy made. The exit code is the status, and where there is
+//! something to say, standard error gets one sentence. What it does, and what is promised of it, stands in the library
+//! `plan_top`, and the sentence in `complaints`; here the words and the streams are picked up.
+#![tactic(auto)]
+
+use complaints::say;
+use lock_io::{StdSink, StdSource};
+use plan_top::{LOCKPLAN, lockplan};
+use std::io;
+use std::process::ExitCode;
+use top_ends::{Ended, given_words};
+
+fn main(rt: HostRuntime) -> ExitCode {
+    let alloc = rt.alloc();
+    let ended = match given_words(&rt) {
+        Ok(words) => {
+            let mut source = StdSource::new(rt.reader());
+            let mut sink = StdSink::new(io::writer(&rt));
+            lockplan(alloc, &words, &mut source, &mut sink)
+        }
+        Err(status) => Ended {
+            status,
+            fault: Vec::new(alloc),
+        },
+    };
+    // Nobody may listen there, which changes nothing.
+    let mut out = StdSink::new(rt.stderr());
+    let _ = say(alloc, &mut out, LOCKPLAN, ended.status, &ended.fault);
+    ExitCode::from(ended.status as u8)
+}

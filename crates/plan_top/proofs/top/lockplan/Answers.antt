@@ -1,0 +1,9 @@
+use Rattle.std.proofs.Common.{map}
+use Rattle.std.specs.String.{string_bytes}
+use Rattle.plan_top.proofs.Scripts.{no_memory}
+use Rattle.plan_top.proofs.top.lockplan.Goals as goal
+
+pub returns-in-Err-Memory-clause-forms : goal.returns-in-Err-Memory-clause-forms
+returns-in-Err-Memory-clause-forms g c =
+    no_memory (map string_bytes c.args.words.now) c.with-in-Err-Memory.result.status
+    (g.S.Source.remaining c.args.source.now) c.with-in-Err-Memory.ensures.status

@@ -1,0 +1,4 @@
+pub mod Chance
+pub mod Policies
+pub mod Schedules
+pub mod Choosing
