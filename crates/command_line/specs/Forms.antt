@@ -3,28 +3,36 @@
 -- The command is one word. `--chains` and `--turns` may stand before it and behind it, each at most once, with the
 -- number as the next word or behind a `=`. The word `--` ends the options. Nothing else may stand there. How words are
 -- read by a table of options is said in `option_words`.
-use Rattle.std.specs.Prelude.{◌∷◌, Bool, true, false, List, [], Option, Some, None, codes, is_some, option_map, option_and_then, if◌then◌else◌}
+use Rattle.std.specs.Prelude.{◌∷◌, Bool, true, false, List, [], Option, Some, None, codes, is_some, map, option_map, option_and_then}
+use Rattle.std.specs.Map.{lookup}
 use Rattle.std.specs.Option.{option_map_or}
 use Rattle.std.specs.Str.{bytes_eq}
 use Rattle.lock_model.specs.declared.limits.TheConstants.{CHAINS, DEFAULT_CHAINS, TURNS}
 use Rattle.option_words.specs.Forms.{Meaning, Table, Text, Texts, Gives, WantsHelp, meaning_of, number, number_or, operand, option}
 use Rattle.command_line.specs.declared.args.Command.{Command}
-use Rattle.command_line.specs.declared.args.Command.TheVariants.{Check, Run, Step}
+use Rattle.command_line.specs.declared.args.Command.TheVariants.{Check, Run, Step, Ticks}
 use Rattle.command_line.specs.declared.args.LockrunArgs.{LockrunArgs}
 
--- the commands and the options, which are this project's own
+-- the commands, which are this project's own
+abbrev pub commands : List (Text × Command)
+commands =
+    (codes "check", Check)
+    ∷ (codes "step", Step)
+    ∷ (codes "run", Run)
+    ∷ (codes "ticks", Ticks)
+    ∷ []
+
+-- with the options, which are its own too
 abbrev pub table : Table
 table = record {
-  operands = codes "check" ∷ codes "step" ∷ codes "run" ∷ [];
+  operands = map (λ c. c.0) commands;
   options = option (codes "chains") (number 1 CHAINS) ∷ option (codes "turns") (number 1 TURNS) ∷ [];
   has_help = false;
 }
 
 -- the command that a word names
 abbrev pub command_of : Text → Option Command
-command_of word = if bytes_eq (codes "check") word then Some Check
-    else (if bytes_eq (codes "step") word then Some Step
-    else (if bytes_eq (codes "run") word then Some Run else None))
+command_of word = lookup (λ name. bytes_eq name word) commands
 
 -- what the texts say that were given with a command; what wasn't said has its default
 abbrev pub words_with : Texts → Command → LockrunArgs
@@ -53,6 +61,7 @@ abbrev pub runs_threads : Command → Bool
 runs_threads Check = false
 runs_threads Step = false
 runs_threads Run = true
+runs_threads Ticks = false
 
 -- they are a form whose command is `run`
 abbrev pub is_run : List Text → Bool

@@ -11,6 +11,8 @@ pub enum Command {
     Step,
     /// Run the threads, each beside the others.
     Run,
+    /// Read a script of ticks, and run it.
+    Ticks,
 }
 
 impl Command {
@@ -22,6 +24,7 @@ impl Command {
             "check" => Some(Command::Check),
             "step" => Some(Command::Step),
             "run" => Some(Command::Run),
+            "ticks" => Some(Command::Ticks),
             _ => None,
         }
     }

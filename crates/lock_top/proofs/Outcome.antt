@@ -1,5 +1,5 @@
 -- What belongs to the bytes of a source, and that the states of a script's run are lawful.
-use Rattle.std.proofs.Common.{◌≡◌, ℕ, List, Result, Ok, Err, IfOk, refl, sym, ap, subst}
+use Rattle.std.proofs.Common.{◌≡◌, ℕ, List, refl, sym, ap, subst}
 use Rattle.std.proofs.lemmas.List.{reverse-reverse}
 use Rattle.std.specs.FinMap.{entries}
 use Rattle.lock_model.specs.Operations.{IsProper}
@@ -7,7 +7,7 @@ use Rattle.lock_model.specs.History.{tables_of, value_at}
 use Rattle.lock_state.specs.Facts.{Lawful}
 use Rattle.lock_state.specs.Run.{scheduled_run}
 use Rattle.lock_model.specs.Script.{IsAccepted, IsFaulty}
-use Rattle.lock_model.specs.Text.{fault_text}
+use Rattle.lock_model.specs.Text.{counts_text, fault_text}
 use Rattle.lock_model.specs.declared.plan.Plan.{Plan}
 use Rattle.lock_model.specs.declared.event.Entry.{Entry}
 use Rattle.script_laws.proofs.Accepted.{accepted_proper}
@@ -16,13 +16,16 @@ use Rattle.order_laws.proofs.OrderFacts.Cycle.{no_cycle}
 use Rattle.run_laws.proofs.LegalRuns.{outcomes_are_legal}
 use Rattle.run_laws.proofs.Turning.{behind_course}
 use Rattle.lock_model.specs.Plans.{config_of}
-use Rattle.script_read.specs.declared.fault.ScriptFault.{ScriptFault}
-use Rattle.script_read.specs.declared.fault.ReadError.TheVariants.{Script}
+use Rattle.script_read.specs.declared.fault.ReadError.{ReadError}
+use Rattle.script_read.specs.declared.fault.ReadError.TheVariants.{Memory, Script}
 use Rattle.script_read.specs.Reading.{Refuses}
 use Rattle.complaints.specs.declared.status.Status.{Status}
-use Rattle.complaints.specs.declared.status.Status.TheVariants.{BadScript}
-use Rattle.command_line.specs.declared.args.LockrunArgs.{LockrunArgs}
-use Rattle.lock_top.specs.Output.{IsLawfulRun, IsLawfulState, IsOutputOfPlan, IsOutputOfReading, IsOutputSaid, TellsTables, state_behind}
+use Rattle.complaints.specs.declared.status.Status.TheVariants.{BadScript, Done}
+use Rattle.tick_sleep.specs.Reading as reading
+use Rattle.tick_sleep.specs.Script as ticks
+use Rattle.tick_sleep.specs.Text.{tick_run}
+use Rattle.tick_sleep.specs.declared.plan.TickPlan.{TickPlan}
+use Rattle.lock_top.specs.Output.{IsFaultOf, IsLawfulRun, IsLawfulState, IsOutputOfCounts, IsOutputOfLocks, IsOutputOfReading, IsOutputOfTickReading, IsOutputOfTicks, TellsTables, state_behind}
 
 -- each state of the run of a proper plan is lawful
 lawful_state : (plan : Plan) (n : ℕ) → IsProper plan → IsLawfulState (config_of plan) (state_behind plan n)
@@ -54,25 +57,37 @@ lawful_run plan chains turns proper = record {
 pub accepted_lawful : (bytes : List ℕ) (plan : Plan) (chains turns : ℕ) → IsAccepted bytes plan → IsLawfulRun plan chains turns
 accepted_lawful bytes plan chains turns accepted = lawful_run plan chains turns (accepted_proper bytes plan accepted)
 
--- the output of a script is that of its plan
-pub accepted_output : (said : LockrunArgs) (bytes : List ℕ) (plan : Plan) (pair : Status × List ℕ)
-    → IsAccepted bytes plan
-    → IsOutputOfPlan said.command said.chains said.turns plan pair → IsOutputSaid said bytes pair
-unfolding IsOutputSaid IsAccepted
-accepted_output said bytes plan pair accepted made = subst (λ r. IsOutputOfReading said r pair) (sym accepted) made
+-- What belongs to a script of locks is what belongs to its plan.
+module _ (of : Plan → Status × List ℕ → Type 0) (bytes : List ℕ) where
+  pub accepted_output : (plan : Plan) (pair : Status × List ℕ) → IsAccepted bytes plan → of plan pair
+      → IsOutputOfLocks of bytes pair
+  unfolding IsOutputOfLocks IsAccepted
+  accepted_output plan pair accepted made = subst (λ r. IsOutputOfReading of r pair) (sym accepted) made
 
--- and that of other bytes the line of their first fault
-pub refused_output : (said : LockrunArgs) (bytes : List ℕ) (fault : ScriptFault) (text : List ℕ)
-    → Refuses bytes (Script fault) → text ≡ fault_text fault.line fault.code
-    → IsOutputSaid said bytes (BadScript, text)
-unfolding IsOutputSaid IsFaulty
-refused_output said bytes fault text refused is =
-    let pair : Status → List ℕ → Status × List ℕ = λ s t. (s, t) in
-    subst (λ r. IsOutputOfReading said r (BadScript, text)) (sym refused) (ap (λ (t : List ℕ). pair BadScript t) is)
+  -- and what belongs to other bytes is the line of their first fault
+  pub refused_output : (e : ReadError) → Refuses bytes e → IsFaultOf (IsOutputOfLocks of bytes) e
+  unfolding IsOutputOfLocks IsFaulty
+  refused_output (Script fault) refused =
+      subst (λ r. IsOutputOfReading of r (BadScript, fault_text fault.line fault.code)) (sym refused) refl
+  refused_output (Memory e) refused = tt
 
--- an answer for a script's plan is one for the bytes
-pub accepted_answer : {V E : Type 0} (items : V → List ℕ) (said : LockrunArgs) (bytes : List ℕ) (plan : Plan)
-    (r : Result (Status × V) E) → IsAccepted bytes plan
-    → IfOk r (λ a. IsOutputOfPlan said.command said.chains said.turns plan (a.0, items a.1)) → IfOk r (λ a. IsOutputSaid said bytes (a.0, items a.1))
-accepted_answer items said bytes plan (Ok a) accepted made = accepted_output said bytes plan (a.0, items a.1) accepted made
-accepted_answer items said bytes plan (Err e) accepted made = tt
+pub accepted_counts : (bytes : List ℕ) (plan : Plan) (text : List ℕ) → IsAccepted bytes plan → text ≡ counts_text plan
+    → IsOutputOfLocks IsOutputOfCounts bytes (Done, text)
+accepted_counts bytes plan text accepted is =
+    let pair : List ℕ → Status × List ℕ = λ t. (Done, t) in
+    accepted_output IsOutputOfCounts bytes plan (Done, text) accepted (ap pair is)
+
+-- The same of a script of ticks.
+pub accepted_ticks : (bytes : List ℕ) (plan : TickPlan) (text : List ℕ) → ticks.IsAccepted bytes plan
+    → text ≡ tick_run plan → IsOutputOfTicks bytes (Done, text)
+unfolding IsOutputOfTicks ticks.IsAccepted
+accepted_ticks bytes plan text accepted is =
+    let pair : List ℕ → Status × List ℕ = λ t. (Done, t) in
+    subst (λ r. IsOutputOfTickReading r (Done, text)) (sym accepted) (ap pair is)
+
+pub refused_ticks : (bytes : List ℕ) (e : ReadError) → reading.Refuses bytes e
+    → IsFaultOf (IsOutputOfTicks bytes) e
+unfolding IsOutputOfTicks ticks.IsFaulty
+refused_ticks bytes (Script fault) refused =
+    subst (λ r. IsOutputOfTickReading r (BadScript, fault_text fault.line fault.code)) (sym refused) refl
+refused_ticks bytes (Memory e) refused = tt

@@ -4,7 +4,7 @@ use Rattle.std.specs.Prelude.{◌≡◌, ℕ, Bool, false, true, List, [], rever
 use Rattle.std.specs.FinMap.{FinMap, entries, get}
 use Rattle.command_line.specs.Forms.{words_of}
 use Rattle.command_line.specs.declared.args.Command.{Command}
-use Rattle.command_line.specs.declared.args.Command.TheVariants.{Check, Run, Step}
+use Rattle.command_line.specs.declared.args.Command.TheVariants.{Check, Run, Step, Ticks}
 use Rattle.command_line.specs.declared.args.LockrunArgs.{LockrunArgs}
 use Rattle.complaints.specs.declared.status.Status.{Status}
 use Rattle.complaints.specs.declared.status.Status.TheVariants.{Done, BadScript, ReadFault, WriteFault, NoMemory, Stuck, Reversed, TooLong, TooBig, Usage}
@@ -19,6 +19,10 @@ use Rattle.lock_state.specs.Best.{HasBest, HasCycle}
 use Rattle.lock_state.specs.Facts.{LawfulTurn, Ordered, Taken}
 use Rattle.lock_state.specs.Run.{HasLegalHistory, course_after, scheduled_run}
 use Rattle.lock_state.specs.State.{State}
+use Rattle.script_read.specs.declared.fault.ReadError.{ReadError}
+use Rattle.script_read.specs.declared.fault.ReadError.TheVariants.{Memory, Script}
+use Rattle.tick_sleep.specs.Script as ticks
+use Rattle.tick_sleep.specs.Text.{tick_run}
 use Rattle.top_ends.specs.Statuses.{reads_all}
 
 abbrev pub status_of : Ending → Status
@@ -38,22 +42,52 @@ pub record IsOutputOfThreads (plan : Plan) (pair : Status × List ℕ) : Type 0 
   pub ran : HasOnlyMutexes plan → (o : Outcome) × IsOutcome plan o × (pair ≡ output_of plan o)
   pub refused : (HasOnlyMutexes plan → ⊥) → pair ≡ (BadScript, fault_text 0 0)
 
--- They belong to a plan, with so many chains of each sort and at most so many turns: check counts and runs nothing,
--- step makes the scheduled run, and run runs the threads.
-abbrev pub IsOutputOfPlan : Command → ℕ → ℕ → Plan → Status × List ℕ → Type 0
-IsOutputOfPlan Check chains turns plan pair = pair ≡ (Done, counts_text plan)
-IsOutputOfPlan Step chains turns plan pair = pair ≡ output_of plan (scheduled_run plan chains turns)
-IsOutputOfPlan Run chains turns plan pair = IsOutputOfThreads plan pair
+-- They belong to what a plan has: check counts it, and runs nothing.
+abbrev pub IsOutputOfCounts : Plan → Status × List ℕ → Type 0
+IsOutputOfCounts plan pair = pair ≡ (Done, counts_text plan)
 
--- to what a source comes to: to its plan, or to the line of its first fault, whatever the command is
-abbrev pub IsOutputOfReading : LockrunArgs → Reading → Status × List ℕ → Type 0
-IsOutputOfReading said (Reads plan) pair =
-    IsOutputOfPlan said.command said.chains said.turns plan pair
-IsOutputOfReading said (Faulty line code) pair = pair ≡ (BadScript, fault_text line code)
+-- to its scheduled run, with so many chains of each sort and at most so many turns
+abbrev pub IsOutputOfSchedule : ℕ → ℕ → Plan → Status × List ℕ → Type 0
+IsOutputOfSchedule chains turns plan pair = pair ≡ output_of plan (scheduled_run plan chains turns)
 
--- to the bytes of a source, by what the words of the command line say
-unfoldable pub IsOutputSaid : LockrunArgs → List ℕ → Status × List ℕ → Type 0
-IsOutputSaid said bytes pair = IsOutputOfReading said (reading_of bytes) pair
+-- to the line of a source's first fault
+abbrev pub IsOutputOfFault : ℕ → ℕ → Status × List ℕ → Type 0
+IsOutputOfFault line code pair = pair ≡ (BadScript, fault_text line code)
+
+-- to a script of threads and locks: to what its plan has or does, or to the line of its first fault
+abbrev pub IsOutputOfReading : (Plan → Status × List ℕ → Type 0) → Reading → Status × List ℕ
+    → Type 0
+IsOutputOfReading of_plan (Reads plan) pair = of_plan plan pair
+IsOutputOfReading of_plan (Faulty line code) pair = IsOutputOfFault line code pair
+
+unfoldable pub IsOutputOfLocks : (Plan → Status × List ℕ → Type 0) → List ℕ → Status × List ℕ
+    → Type 0
+IsOutputOfLocks of_plan bytes pair = IsOutputOfReading of_plan (reading_of bytes) pair
+
+-- to a script of ticks: to the text of its run, or to the line of its first fault
+abbrev pub IsOutputOfTickReading : ticks.Reading → Status × List ℕ → Type 0
+IsOutputOfTickReading (ticks.Reads plan) pair = pair ≡ (Done, tick_run plan)
+IsOutputOfTickReading (ticks.Faulty line code) pair = IsOutputOfFault line code pair
+
+unfoldable pub IsOutputOfTicks : List ℕ → Status × List ℕ → Type 0
+IsOutputOfTicks bytes pair = IsOutputOfTickReading (ticks.reading_of bytes) pair
+
+-- to the bytes of a source, by the command, and by the numbers of chains and turns, which some commands read
+abbrev pub IsOutputBy : Command → ℕ → ℕ → List ℕ → Status × List ℕ → Type 0
+IsOutputBy Check chains turns bytes pair = IsOutputOfLocks IsOutputOfCounts bytes pair
+IsOutputBy Step chains turns bytes pair =
+    IsOutputOfLocks (IsOutputOfSchedule chains turns) bytes pair
+IsOutputBy Run chains turns bytes pair = IsOutputOfLocks IsOutputOfThreads bytes pair
+IsOutputBy Ticks chains turns bytes pair = IsOutputOfTicks bytes pair
+
+abbrev pub IsOutputSaid : LockrunArgs → List ℕ → Status × List ℕ → Type 0
+IsOutputSaid said bytes pair = IsOutputBy said.command said.chains said.turns bytes pair
+
+-- Why no text was made of a source: the line of its first fault is what belongs to it, and want of memory says nothing
+-- of the source.
+abbrev pub IsFaultOf : (Status × List ℕ → Type 0) → ReadError → Type 0
+IsFaultOf is_output (Script fault) = is_output (BadScript, fault_text fault.line fault.code)
+IsFaultOf is_output (Memory e) = Unit {0}
 
 -- without words that are a form there is no text
 abbrev pub IsOutputWhereSaid : Option LockrunArgs → List ℕ → Status × List ℕ → Type 0

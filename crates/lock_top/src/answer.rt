@@ -1,11 +1,12 @@
-//! The status that a command answers for a plan, and the whole text, which is made before its first byte is written.
-ghost use Rattle.std.specs.Prelude.{◌≡◌, ◌≤◌, IfOk, true, false};
+//! The status that a command answers for the bytes of a source, and the whole text, which is made before its first byte
+//! is written. One function a command.
+ghost use Rattle.std.specs.Prelude.{◌≡◌, ◌≤◌, IfErr, IfOk, true, false};
 ghost use Rattle.command_line.specs.Forms.{runs_threads};
 ghost use Rattle.command_line.specs.Ranges.{HasRanges};
 ghost use Rattle.lock_model.specs.Operations.{IsProper};
 ghost use Rattle.lock_history.specs.Endings.{ending_of};
 ghost use Rattle.lock_history.specs.Outcomes.{outcome_seen};
-ghost use Rattle.lock_top.specs.Output.{has_text, IsOutputOfPlan, IsOutputOfThreads, output_of, status_of};
+ghost use Rattle.lock_top.specs.Output.{has_text, IsOutputOfCounts, IsOutputOfLocks, IsOutputOfSchedule, IsOutputOfThreads, IsOutputOfTicks, IsFaultOf, IsOutputSaid, output_of, status_of};
 
 use command_line::{Command, LockrunArgs};
 use complaints::Status;
@@ -13,39 +14,105 @@ use floor_run::{has_only_mutexes, run_plan};
 use lock_history::{Last, Outcome, print, print_counts, print_fault};
 use lock_io::Gate;
 use lock_model::Plan;
+use script_read::{ReadError, read_script};
 use std::alloc::{AllocError, Global};
 use std::sync::Wait;
 use std::thread::Threads;
 use step_world::run_schedule;
+use tick_sleep::{read_ticks, run_ticks};
 
-/// Those of a plan where no thread is started: `check` counts what it has, and `step` makes its scheduled run.
+/// Those of a command that starts no thread.
 pub fn plainly(
     alloc: Global,
     said: LockrunArgs,
-    plan: &Plan,
-) -> Result<(Status, Vec<u8>), AllocError>
+    bytes: &[u8],
+) -> Result<(Status, Vec<u8>), ReadError>
     requires command { runs_threads said.command ≡ false }
     requires ranges { HasRanges said }
-    requires proper { IsProper plan.now }
-    ensures pair { IfOk result (λ a.
-        IsOutputOfPlan said.command said.chains said.turns plan.now (a.0, a.1.items)) }
+    ensures pair { IfOk result (λ a. IsOutputSaid said bytes.now (a.0, a.1.items)) }
+    ensures refused { IfErr result (IsFaultOf (IsOutputSaid said bytes.now)) }
     ensures has_text { IfOk result (λ a. has_text a.0 ≡ true) }
 {
     match said.command {
-        Command::Check => {
-            let text = print_counts(alloc, plan)?;
-            Ok((Status::Done, text))
-        }
-        Command::Step => {
-            let outcome = run_schedule(alloc, plan, said.chains, said.turns)?;
-            of_outcome(alloc, plan, &outcome)
-        }
+        Command::Check => counts(alloc, bytes),
+        Command::Step => scheduled(alloc, bytes, said.chains, said.turns),
+        Command::Ticks => ticks(alloc, bytes),
         Command::Run => unreachable!(),
     }
 }
 
-/// Those of a run of a plan's threads, or of a plan whose threads can't run yet.
+// `check`: how much of each thing the script has.
+#[tactic(auto, using(crate::proofs::Outcome::refused_output))]
+fn counts(alloc: Global, bytes: &[u8]) -> Result<(Status, Vec<u8>), ReadError>
+    ensures pair { IfOk result (λ a.
+        IsOutputOfLocks IsOutputOfCounts bytes.now (a.0, a.1.items)) }
+    ensures refused { IfErr result (IsFaultOf (IsOutputOfLocks IsOutputOfCounts bytes.now)) }
+    ensures has_text { IfOk result (λ a. has_text a.0 ≡ true) }
+{
+    let plan = read_script(alloc, bytes)?;
+    let text = print_counts(alloc, &plan)?;
+    Ok((Status::Done, text))
+}
+
+// `step`: the scheduled run of the script's plan.
+#[tactic(auto, using(crate::proofs::Outcome::refused_output))]
+fn scheduled(
+    alloc: Global,
+    bytes: &[u8],
+    chains: u32,
+    turns: u32,
+) -> Result<(Status, Vec<u8>), ReadError>
+    requires some_chains { 1 ≤ chains }
+    requires few_chains { chains ≤ 64 }
+    requires some_turns { 1 ≤ turns }
+    requires few_turns { turns ≤ 1000000 }
+    ensures pair { IfOk result (λ a.
+        IsOutputOfLocks (IsOutputOfSchedule chains turns) bytes.now (a.0, a.1.items)) }
+    ensures refused { IfErr result
+        (IsFaultOf (IsOutputOfLocks (IsOutputOfSchedule chains turns) bytes.now)) }
+    ensures has_text { IfOk result (λ a. has_text a.0 ≡ true) }
+{
+    let plan = read_script(alloc, bytes)?;
+    let outcome = run_schedule(alloc, &plan, chains, turns)?;
+    let made = of_outcome(alloc, &plan, &outcome)?;
+    Ok(made)
+}
+
+// `ticks`: the run of a script of ticks.
+#[tactic(auto, using(crate::proofs::Outcome::refused_ticks))]
+fn ticks(alloc: Global, bytes: &[u8]) -> Result<(Status, Vec<u8>), ReadError>
+    ensures pair { IfOk result (λ a. IsOutputOfTicks bytes.now (a.0, a.1.items)) }
+    ensures refused { IfErr result (IsFaultOf (IsOutputOfTicks bytes.now)) }
+    ensures has_text { IfOk result (λ a. has_text a.0 ≡ true) }
+{
+    let plan = read_ticks(alloc, bytes)?;
+    let text = run_ticks(alloc, &plan)?;
+    Ok((Status::Done, text))
+}
+
+/// `run`: those of a run of the script's threads, or of a plan whose threads can't run yet.
+#[tactic(auto, using(crate::proofs::Outcome::refused_output))]
 pub fn by_threads<R: Threads + Wait + Sync, G: Gate>(
+    rt: &R,
+    alloc: Global,
+    bytes: &[u8],
+    chains: u32,
+    gate: &G,
+) -> Result<(Status, Vec<u8>), ReadError>
+    requires some_chains { 1 ≤ chains }
+    requires few_chains { chains ≤ 64 }
+    ensures pair { IfOk result (λ a.
+        IsOutputOfLocks IsOutputOfThreads bytes.now (a.0, a.1.items)) }
+    ensures refused { IfErr result (IsFaultOf (IsOutputOfLocks IsOutputOfThreads bytes.now)) }
+    ensures has_text { IfOk result (λ a. has_text a.0 ≡ true) }
+{
+    let plan = read_script(alloc, bytes)?;
+    let made = of_threads(rt, alloc, &plan, chains, gate)?;
+    Ok(made)
+}
+
+// Those of a run of a plan's threads.
+fn of_threads<R: Threads + Wait + Sync, G: Gate>(
     rt: &R,
     alloc: Global,
     plan: &Plan,

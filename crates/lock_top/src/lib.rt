@@ -3,8 +3,8 @@
 //!
 //! From the outside in:
 //! - `top`: the calls, with everything that is promised of them.
-//! - `serving`: what all commands share: reading the words, the bytes and the script, and writing the text.
-//! - `answer`: the status and the text that a command makes of a plan.
+//! - `serving`: what all commands share: reading the words and the bytes, and writing the text.
+//! - `answer`: the status and the text that a command makes of the bytes.
 #![tactic(auto)]
 
 mod answer;
@@ -18,6 +18,6 @@ pub use complaints::Status;
 /// The program, as its sentences name it.
 pub const LOCKRUN: Program = Program {
     name: "lockrun",
-    form: "lockrun check|step|run [--chains N] [--turns N] < SCRIPT",
+    form: "lockrun check|step|run|ticks [--chains N] [--turns N] < SCRIPT",
     too_long: "the turns were used up before all threads had ended",
 };

@@ -12,11 +12,11 @@ ghost use Rattle.std.specs.String.{string_bytes};
 ghost use Rattle.command_line.specs.Forms.{is_form, is_run};
 ghost use Rattle.command_line.specs.Ranges.{HasRanges};
 ghost use Rattle.lock_io.specs.Faults.{Rose};
-ghost use Rattle.lock_model.specs.Operations.{IsProper};
 ghost use Rattle.lock_model.specs.Script.{IsAccepted};
 ghost use Rattle.lock_model.specs.declared.plan.Plan.{Plan};
 ghost use Rattle.lock_top.specs.Calls.{TellsForms, WritesAll, WritesOutput};
 ghost use Rattle.lock_top.specs.Output.{IsLawfulRun};
+ghost use Rattle.tick_sleep.specs.Expiry.{TimesOutWhereDue};
 ghost use Rattle.top_ends.specs.Calls.{ReadsBytes, TellsFaults};
 
 use crate::answer::{by_threads, plainly};
@@ -49,6 +49,7 @@ pub fn lockrun<R: Threads + Wait + Sync, S: Source, K: Sink, G: Gate>(
         → WritesAll result (S.remaining source.old) }
     ensures lawful { (bytes : List ℕ) (plan : Plan) (chains turns : ℕ)
         → IsAccepted bytes plan → IsLawfulRun plan chains turns }
+    ensures timeouts { TimesOutWhereDue }
 {
     match is_run(alloc, words) {
         Ok(true) => lockrun_live(rt, alloc, words, source, sink, gate),
@@ -57,10 +58,11 @@ pub fn lockrun<R: Threads + Wait + Sync, S: Source, K: Sink, G: Gate>(
     }
 }
 
-/// What the program does where no thread is started: it reads a script from the source, counts what it has or makes its
-/// scheduled run, and writes the text to the sink. The words are any but a form with the command `run`. It always
-/// returns. It takes memory until the text is made, and none from then on. With whatever chains and turns, every state
-/// that the run of the script's plan goes through is lawful.
+/// What the program does where no thread is started: it reads a script from the source, counts what it has, makes its
+/// scheduled run or runs its ticks, and writes the text to the sink. The words are any but a form with the command
+/// `run`. It always returns. It takes memory until the text is made, and none from then on. With whatever chains and
+/// turns, every state that the run of a plan of locks goes through is lawful, and in a run of ticks a sleep times out
+/// exactly where its thread sleeps still and its due tick is reached.
 pub fn lockrun_plain<S: Source, K: Sink>(
     alloc: Global,
     words: &[String],
@@ -80,13 +82,14 @@ pub fn lockrun_plain<S: Source, K: Sink>(
         → WritesAll result (S.remaining source.old) }
     ensures lawful { (bytes : List ℕ) (plan : Plan) (chains turns : ℕ)
         → IsAccepted bytes plan → IsLawfulRun plan chains turns }
+    ensures timeouts { TimesOutWhereDue }
 {
     serve(
         alloc,
         words,
         source,
         sink,
-        |said, plan| plainly(alloc, said, &plan),
+        |said, bytes| plainly(alloc, said, &bytes),
     )
 }
 
@@ -119,10 +122,9 @@ pub fn lockrun_live<R: Threads + Wait + Sync, S: Source, K: Sink, G: Gate>(
         words,
         source,
         sink,
-        |said, plan|
+        |said, bytes|
             requires ranges { HasRanges said }
-            requires proper { IsProper plan }
-        { by_threads(rt, alloc, &plan, said.chains, gate) },
+        { by_threads(rt, alloc, &bytes, said.chains, gate) },
     )
 }
 
@@ -133,7 +135,7 @@ fn is_run(alloc: Global, words: &[String]) -> Result<bool, AllocError>
     match read_words(alloc, words) {
         Ok(said) => match said.command {
             Command::Run => Ok(true),
-            Command::Check | Command::Step => Ok(false),
+            Command::Check | Command::Step | Command::Ticks => Ok(false),
         },
         Err(WordsError::Usage) => Ok(false),
         Err(WordsError::Memory) => Err(AllocError),

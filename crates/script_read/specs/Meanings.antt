@@ -2,7 +2,8 @@
 use Rattle.std.specs.Prelude.{ℕ, ◌==◌, if◌then◌else◌, List, Option, Some, None, codes}
 
 unfoldable pub meaning : ℕ → Option (List ℕ)
-meaning code = if code == 1 then Some (codes "the first line isn't `lockrun 1`")
+meaning code = if code == 1 then Some (codes
+    "the first line isn't `lockrun 1`, or `ticks 1` under `ticks`")
     else (if code == 2 then Some (codes
     "it has an empty word, an unknown first word or a wrong number of words, or stands behind `done`")
     else (if code == 3 then Some (codes "it has a name or a class that isn't a NAME")
@@ -10,7 +11,7 @@ meaning code = if code == 1 then Some (codes "the first line isn't `lockrun 1`")
     else (if code == 5 then Some (codes
     "it uses a name that isn't declared, or is declared as another sort")
     else (if code == 6 then Some (codes
-    "it has a number that isn't a KEY, VALUE or AMOUNT, or a priority that isn't a PRIO")
+    "it has a number that isn't a KEY, VALUE, AMOUNT or TICKS, or a priority that isn't a PRIO")
     else (if code == 7 then Some (codes "it passes a limit of a script")
     else (if code == 8 then Some (codes
     "the lock is of another kind, or a channel is used for a condition or the reverse")
@@ -26,7 +27,7 @@ meaning code = if code == 1 then Some (codes "the first line isn't `lockrun 1`")
     else (if code == 15 then Some (codes
     "it stands outside a thread, or is an `endtry` with no block open")
     else (if code == 16 then Some (codes
-    "it declares a lock, a condition or a channel behind a `thread` line")
+    "it declares a lock, condition or channel behind a thread, or a sleeper behind events")
     else (if code == 17 then Some (codes
     "it stands inside a thread or an open block, or the source ends without `done`")
     else (if code == 18 then Some (codes "it is longer than 200 bytes")

@@ -23,9 +23,9 @@ pub enum ReadError {
     Memory(AllocError),
 }
 
-/// The rule that a line breaks, by its number.
+/// The rule that a line breaks, by its number. Each script has the codes of those rules that it can break.
 #[derive(Clone, Copy, Debug)]
-pub(crate) struct Code(pub u8);
+pub struct Code(pub u8);
 
 impl Code {
     /// The first line isn't the header.
@@ -58,7 +58,7 @@ impl Code {
     pub const STILL_HELD: Code = Code(14);
     /// An operation or `end` stands outside a thread, or `endtry` outside a block.
     pub const OUTSIDE: Code = Code(15);
-    /// A lock or a channel is declared behind the first thread.
+    /// A lock or a channel is declared behind the first thread, or a sleeper behind an event.
     pub const LATE: Code = Code(16);
     /// A thread, a schedule or `done` stands inside a thread, `end` inside a block, or `done` is missing.
     pub const INSIDE: Code = Code(17);
@@ -68,6 +68,13 @@ impl Code {
     pub const BYTE: Code = Code(19);
     /// A table is changed under a lock that is held shared.
     pub const SHARED: Code = Code(20);
+
+    /// The fault of the line with that number.
+    pub fn at(self, line: u32) -> ReadError
+        ensures { result ≡ Script (record { line = line; code = self.0 }) }
+    {
+        ReadError::Script(ScriptFault { line, code: self.0 })
+    }
 }
 
 /// Why a line wasn't read.
@@ -83,14 +90,14 @@ impl LineError {
         ensures { result ≡ told_at line self }
     {
         match self {
-            LineError::Fault(code) => ReadError::Script(ScriptFault { line, code: code.0 }),
+            LineError::Fault(code) => code.at(line),
             LineError::Memory(e) => ReadError::Memory(e),
         }
     }
 }
 
 /// A test that a line has to pass, with its code.
-pub(crate) fn test(code: Code, passes: bool) -> Result<(), Code>
+pub fn test(code: Code, passes: bool) -> Result<(), Code>
     ensures { result ≡ (if passes then Ok tt else Err code) }
 {
     if passes { Ok(()) } else { Err(code) }

@@ -6,7 +6,7 @@
 //! - `numbers` reads numbers and priorities.
 //! - `statement` finds out what a line says.
 //! - `reader` keeps what the lines so far have made known, and tests each line by it.
-//! - `fault` is the codes and the errors.
+//! - `fault` is the codes and the errors; other scripts, as those of ticks, have of them what they need.
 //! - `meaning` says what each code means.
 //! - `writer` writes a plan's canonical text.
 #![tactic(auto)]
@@ -25,14 +25,13 @@ mod statement;
 mod words;
 mod writer;
 
-use fault::{Code, LineError};
-pub use fault::{ReadError, ScriptFault};
-pub use lines::{split_at_byte, split_line};
+pub use fault::{Code, ReadError, ScriptFault, test};
+pub use lines::{split_at_byte, split_judged, split_line};
 use lock_model::Plan;
 pub use meaning::meaning_of;
 pub use numbers::{number_of, priority_of};
 use reader::Reader;
-pub use reader::has_meaning;
+pub use reader::{has_meaning, spelled, test_bytes};
 use std::alloc::Global;
 pub use words::{cut_word, has_empty_word, is_word};
 pub use writer::write_script;
@@ -46,7 +45,7 @@ pub fn read_script(alloc: Global, bytes: &[u8]) -> Result<Plan, ReadError>
 {
     match split_line(bytes) {
         Some((header, lines)) if is_word(header, "lockrun 1") => Reader::read(alloc, lines),
-        _ => Err(LineError::Fault(Code::HEADER).at(1)),
+        _ => Err(Code::HEADER.at(1)),
     }
 }
 

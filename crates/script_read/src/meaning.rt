@@ -12,7 +12,7 @@ pub fn meaning_of(code: u8) -> Option<&'static str>
     ensures { option_map (λ s. s.now) result ≡ meaning code }
 {
     match code {
-        1 => Some("the first line isn't `lockrun 1`"),
+        1 => Some("the first line isn't `lockrun 1`, or `ticks 1` under `ticks`"),
         2 => Some(
             "it has an empty word, an unknown first word or a wrong number of words, or stands behind `done`",
         ),
@@ -20,7 +20,7 @@ pub fn meaning_of(code: u8) -> Option<&'static str>
         4 => Some("it declares a name that is declared already"),
         5 => Some("it uses a name that isn't declared, or is declared as another sort"),
         6 => Some(
-            "it has a number that isn't a KEY, VALUE or AMOUNT, or a priority that isn't a PRIO",
+            "it has a number that isn't a KEY, VALUE, AMOUNT or TICKS, or a priority that isn't a PRIO",
         ),
         7 => Some("it passes a limit of a script"),
         8 => Some(
@@ -35,7 +35,9 @@ pub fn meaning_of(code: u8) -> Option<&'static str>
             "the thread ends with a lock held, or the block with other locks than it began with",
         ),
         15 => Some("it stands outside a thread, or is an `endtry` with no block open"),
-        16 => Some("it declares a lock, a condition or a channel behind a `thread` line"),
+        16 => Some(
+            "it declares a lock, condition or channel behind a thread, or a sleeper behind events",
+        ),
         17 => Some("it stands inside a thread or an open block, or the source ends without `done`"),
         18 => Some("it is longer than 200 bytes"),
         19 => Some("it holds a byte outside 32 to 126"),

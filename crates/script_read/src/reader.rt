@@ -20,7 +20,6 @@ use crate::fault::{Code, LineError, ReadError, ScriptFault, test};
 use crate::lines::split_judged;
 use crate::reader::names::{HINTS, hint_of};
 use crate::reader::open_thread::OpenThread;
-use crate::reader::stages::test_bytes;
 use crate::statement::{Operation, Statement};
 use crate::words::cut_word;
 use indexmap::{IndexMap, IndexSet};
@@ -35,7 +34,7 @@ mod names;
 mod open_thread;
 mod stages;
 
-pub use stages::has_meaning;
+pub use stages::{has_meaning, spelled, test_bytes};
 
 /// What is known behind some lines.
 #[derive(Drop)]
@@ -100,7 +99,7 @@ impl Reader {
         ensures { Tells (reading_from number (known self) []) result }
     {
         if !self.is_done {
-            return Err(LineError::Fault(Code::INSIDE).at(number));
+            return Err(Code::INSIDE.at(number));
         }
         Ok(Plan {
             classes: Sequence::from_vec(Vec::from_slice(alloc, self.classes.as_slice())?),

@@ -12,6 +12,8 @@ const STEP: Command = Command::Step;
 
 const RUN: Command = Command::Run;
 
+const TICKS: Command = Command::Ticks;
+
 // The most turns.
 const ALL: u32 = 1_000_000;
 
@@ -42,6 +44,8 @@ const RUNS: &[(&str, Command, u32, u32)] = &[
     ("run", RUN, 16, ALL),
     ("--chains=1 run", RUN, 1, ALL),
     ("run --turns 9 --chains 64", RUN, 64, 9),
+    ("ticks", TICKS, 16, ALL),
+    ("--turns 9 ticks --chains=1", TICKS, 1, 9),
 ];
 
 const NO_RUNS: &[&str] = &[
@@ -59,6 +63,10 @@ const NO_RUNS: &[&str] = &[
     "Run",
     "run 1",
     "run --turns 0",
+    "tick",
+    "ticks 1",
+    "ticks step",
+    "ticks --chains 0",
     "step ''",
     "step 1",
     "step -- --chains 4",

@@ -164,14 +164,16 @@ fn the_first_fault_of_a_script(rt: HostRuntime) -> Result<(), Fail> {
 
 const MEANINGS: &[Option<&str>] = &[
     None,
-    Some("the first line isn't `lockrun 1`"),
+    Some("the first line isn't `lockrun 1`, or `ticks 1` under `ticks`"),
     Some(
         "it has an empty word, an unknown first word or a wrong number of words, or stands behind `done`",
     ),
     Some("it has a name or a class that isn't a NAME"),
     Some("it declares a name that is declared already"),
     Some("it uses a name that isn't declared, or is declared as another sort"),
-    Some("it has a number that isn't a KEY, VALUE or AMOUNT, or a priority that isn't a PRIO"),
+    Some(
+        "it has a number that isn't a KEY, VALUE, AMOUNT or TICKS, or a priority that isn't a PRIO",
+    ),
     Some("it passes a limit of a script"),
     Some("the lock is of another kind, or a channel is used for a condition or the reverse"),
     Some("the lock is held here already"),
@@ -181,7 +183,7 @@ const MEANINGS: &[Option<&str>] = &[
     Some("the wait's lock wasn't gained last, or was gained by a try"),
     Some("the thread ends with a lock held, or the block with other locks than it began with"),
     Some("it stands outside a thread, or is an `endtry` with no block open"),
-    Some("it declares a lock, a condition or a channel behind a `thread` line"),
+    Some("it declares a lock, condition or channel behind a thread, or a sleeper behind events"),
     Some("it stands inside a thread or an open block, or the source ends without `done`"),
     Some("it is longer than 200 bytes"),
     Some("it holds a byte outside 32 to 126"),

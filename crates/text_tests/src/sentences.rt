@@ -6,7 +6,7 @@ use std::test::Fail;
 
 const LOCKRUN: Program = Program {
     name: "lockrun",
-    form: "lockrun check|step|run [--chains N] [--turns N] < SCRIPT",
+    form: "lockrun check|step|run|ticks [--chains N] [--turns N] < SCRIPT",
     too_long: "the turns were used up before all threads had ended",
 };
 
@@ -44,7 +44,7 @@ const SAID: &[(Status, &str, &str)] = &[
     (
         Status::BadScript,
         "line 1 code 1\n",
-        "lockrun: line 1: the first line isn't `lockrun 1` (code 1)\n",
+        "lockrun: line 1: the first line isn't `lockrun 1`, or `ticks 1` under `ticks` (code 1)\n",
     ),
     (
         Status::BadScript,
@@ -135,12 +135,12 @@ const SAID: &[(Status, &str, &str)] = &[
     (
         Status::Usage,
         "",
-        "usage: lockrun check|step|run [--chains N] [--turns N] < SCRIPT\n",
+        "usage: lockrun check|step|run|ticks [--chains N] [--turns N] < SCRIPT\n",
     ),
     (
         Status::Usage,
         STUCK,
-        "usage: lockrun check|step|run [--chains N] [--turns N] < SCRIPT\n",
+        "usage: lockrun check|step|run|ticks [--chains N] [--turns N] < SCRIPT\n",
     ),
 ];
 

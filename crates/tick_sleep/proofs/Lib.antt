@@ -13,7 +13,7 @@ mod Waking
 mod Standing
 mod Leaving
 mod Behind
-mod Orders
+pub mod Orders
 mod Rolling
 mod Taking
 mod States

@@ -3,8 +3,8 @@ use Rattle.std.proofs.Common.{◌≡◌, ℕ, ◌≤◌, Bool, true, false, ◌&
 use Rattle.std.specs.List.{list_any}
 use Rattle.std.proofs.lemmas.Bool.{cases_Bool}
 use Rattle.std.proofs.lemmas.Bool.Decides.{nat_tests}
-use Rattle.tick_sleep.specs.Ticks.{is_due, due_of, insert_by_due, by_due, expired}
-use Rattle.tick_sleep.specs.Expiry.{Ascends}
+use Rattle.tick_sleep.specs.Ticks.{is_due, is_of, due_of, insert_by_due, by_due, expired}
+use Rattle.tick_sleep.specs.Expiry.{Ascends, TimesOutWhereDue}
 use Rattle.tick_sleep.specs.declared.plan.TickSleeper.{TickSleeper}
 
 any_insert : (p : TickSleeper → Bool) (s : TickSleeper) (rs : List TickSleeper)
@@ -41,6 +41,9 @@ exactly p now (s ∷ ss) = elim (cases_Bool (is_due now s)) [
         ((b && false) || list_any (λ s. p s && is_due now s) ss)
     by_none true = refl
     by_none false = refl
+
+pub times_out_where_due : TimesOutWhereDue
+times_out_where_due = λ t tick ss. exactly (is_of t) tick ss
 
 below : TickSleeper → List TickSleeper → Type 0
 below s [] = Unit {0}

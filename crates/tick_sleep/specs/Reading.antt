@@ -1,6 +1,5 @@
--- Words of this crate's contracts on reading: what a test, a line and a source answer.
-use Rattle.std.specs.Prelude.{◌≡◌, ℕ, if◌then◌else◌, ok_or, List, Option, Some, None, Result, Ok, Err}
-use Rattle.lock_model.specs.Names.{is_name}
+-- Words of this crate's contracts on reading: what a statement and a source answer.
+use Rattle.std.specs.Prelude.{◌≡◌, ℕ, List, Option, Some, Result, Ok, Err}
 use Rattle.lock_model.specs.Tests.{first_fault}
 use Rattle.script_read.specs.declared.fault.ReadError.{ReadError}
 use Rattle.script_read.specs.declared.fault.ReadError.TheVariants.{Script, Memory}
@@ -22,15 +21,6 @@ Tells reading (Ok plan) = reading ≡ Reads plan
 Tells reading (Err (Script fault)) = reading ≡ Faulty fault.line fault.code
 Tells reading (Err (Memory e)) = Unit {0}
 
--- a test answers the code of the fault that there is
-abbrev pub Finds : {X : Type 0} → Option ℕ → Result X ℕ → Type 0
-Finds fault (Ok x) = fault ≡ None
-Finds fault (Err code) = fault ≡ Some code
-
 -- the fault of a statement, by its place and by what it names
 abbrev pub statement_fault : Known → Statement → Option ℕ
 statement_fault k s = first_fault (statement_stages k (Some s))
-
--- what a word names, or why it names nothing
-abbrev pub named : {X : Type 0} → List ℕ → Option X → Result X ℕ
-named word found = if is_name word then ok_or found 5 else Err 3

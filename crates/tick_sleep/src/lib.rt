@@ -5,7 +5,7 @@
 //! - `roll`: the sleepers in order of arrival, with `wheel`, the callouts by tick.
 //! - `table`: the sleep queues, lent to keys or at home; `who` of a key's sleepers gets up.
 //! - `plan`: what a script says. `limits` is the most of each thing.
-//! - `reader`, `statement`, `numbers`, `fault`: reading a script.
+//! - `reader`, `statement`, `numbers`: reading a script, with the codes and the tests of bytes of `script_read`.
 //! - `run`: a run of a plan, and its text.
 #![tactic(auto)]
 
@@ -14,7 +14,6 @@ ghost use Rattle.tick_sleep.specs.Plans.{IsProper};
 ghost use Rattle.tick_sleep.specs.Script.{IsAccepted};
 ghost use Rattle.tick_sleep.specs.Reading.{Refuses};
 
-mod fault;
 pub mod limits;
 mod numbers;
 mod plan;
@@ -29,9 +28,9 @@ mod who;
 
 pub use plan::{SleeperDecl, Slept, TickEvent, TickPlan, TickSleeper};
 pub use queue::{TickQueue, times_out_in_order};
-use reader::{Reader, fault_at};
+use reader::Reader;
 pub use run::run_ticks;
-use script_read::{ReadError, is_word, split_line};
+use script_read::{Code, ReadError, is_word, split_line};
 use std::alloc::Global;
 
 /// The plan of a script of ticks. `Script` tells the first faulty line and its code, exactly where the bytes are no
@@ -44,6 +43,6 @@ pub fn read_ticks(alloc: Global, bytes: &[u8]) -> Result<TickPlan, ReadError>
 {
     match split_line(bytes) {
         Some((header, lines)) if is_word(header, "ticks 1") => Reader::read(alloc, lines),
-        _ => Err(fault_at(1, fault::HEADER)),
+        _ => Err(Code::HEADER.at(1)),
     }
 }

@@ -5,7 +5,7 @@ ghost use Rattle.std.specs.Prelude.{◌≡◌, ◌≤◌, ◌<◌, ◌+◌, ◌^
 ghost use Rattle.std.specs.Prelude.{List, ◌==◌, ◌&&◌};
 ghost use Rattle.std.specs.List.{list_any};
 ghost use Rattle.lock_model.specs.Counts.{one};
-ghost use Rattle.tick_sleep.specs.Expiry.{Ascends};
+ghost use Rattle.tick_sleep.specs.Expiry.{Ascends, TimesOutWhereDue};
 ghost use Rattle.tick_sleep.specs.declared.plan.TickSleeper as sleeper;
 ghost use Rattle.tick_sleep.specs.Limits.{most_sleepers, greatest_key};
 ghost use Rattle.tick_sleep.specs.Plans.{can_time_out};
@@ -15,6 +15,7 @@ ghost use Rattle.tick_sleep.specs.Rolls.{first_at, IsOnce};
 ghost use Rattle.tick_sleep.specs.Tables.{times_home, times_lent, made_table, Wakes};
 ghost use Rattle.tick_sleep.specs.declared.who.Who.TheVariants.{Thread};
 
+use crate::limits;
 use crate::plan::{SleeperDecl, Slept, TickSleeper};
 use crate::roll::Roll;
 use crate::table::SleepTable;
@@ -198,8 +199,7 @@ impl TickQueue {
 /// Which sleeps time out where a tick is reached: exactly those of sleepers whose due tick is reached, in the order of
 /// their due ticks, and those of one tick in order of arrival.
 pub fn times_out_in_order()
-    ensures exactly { (t tick : ℕ) (ss : List sleeper.TickSleeper) →
-        sleeps t (expired tick ss) ≡ list_any (λ s. is_of t s && is_due tick s) ss }
+    ensures exactly { TimesOutWhereDue }
     ensures ascending { (tick : ℕ) (ss : List sleeper.TickSleeper) → Ascends (expired tick ss) }
     ensures by_arrival { (tick due : ℕ) (ss : List sleeper.TickSleeper) →
         filter (λ s. due_of s == due) (expired tick ss)
@@ -270,7 +270,7 @@ fn next_due(roll: &Roll, passed: u64, now: u64) -> (u64, Option<ThreadNo>)
     ensures some { IfSome result.1 (λ t. (result.0 < now)
         × (first_at (result.0 + 1) roll.now ≡ Some t)) }
 {
-    let mut passed = passed;
+    let mut passed = skipped(roll, passed, now);
     let _each_once = roll.len();
     while passed < now {
         if let Some(t) = roll.first_at(passed + 1) {
@@ -279,4 +279,25 @@ fn next_due(roll: &Roll, passed: u64, now: u64) -> (u64, Option<ThreadNo>)
         passed += 1;
     }
     (passed, None)
+}
+
+// From which tick on buckets are asked. Where more ticks pass than there may be sleepers, it costs less to ask each
+// sleeper when it is due, and to begin right before the first of them.
+fn skipped(roll: &Roll, passed: u64, now: u64) -> u64
+    requires within { passed ≤ now }
+    requires none_due { filter (is_due passed) roll.now ≡ [] }
+    ensures within { result ≤ now }
+    ensures none_due { filter (is_due result) roll.now ≡ [] }
+{
+    if now - passed <= limits::SLEEPERS as u64 {
+        return passed;
+    }
+    let soonest = roll.soonest();
+    if soonest > now {
+        return now;
+    }
+    if soonest == 0 {
+        return passed;
+    }
+    soonest - 1
 }

@@ -3,9 +3,7 @@
 #![tactic(auto, using(lock_model::proofs::LeastCodes::least_is_first))]
 
 ghost use Rattle.std.specs.Prelude.{◌≡◌, ◌<◌, ◌≤◌, true, false, Some, Ok, Err, [], ◌∷◌, length, nat_lt, option_copied, IfOk, OnOk, if◌then◌else◌};
-ghost use Rattle.lock_model.specs.Names.{is_name};
 ghost use Rattle.std.specs.List.{list_all};
-ghost use Rattle.lock_model.specs.Script.Faults.{byte_tests};
 ghost use Rattle.lock_model.specs.Script.Lines.{is_printable, lines_of, priority_of};
 ghost use Rattle.lock_model.specs.Tests.{least_code, test};
 ghost use Rattle.lock_model.specs.Counts.{is_empty};
@@ -15,18 +13,19 @@ ghost use Rattle.tick_sleep.specs.Script.{reading_from};
 ghost use Rattle.tick_sleep.specs.Faults.{line_fault, behind_line, name_tests, word_tests};
 ghost use Rattle.tick_sleep.specs.Learning.{nothing_known, is_declared, sleeper_named, learned};
 ghost use Rattle.tick_sleep.specs.Statements.{Declares, Sleeps, statement_of};
-ghost use Rattle.tick_sleep.specs.Reading.{Finds, Tells, named, statement_fault};
+ghost use Rattle.script_read.specs.Reading.{Finds, named};
+ghost use Rattle.tick_sleep.specs.Reading.{Tells, statement_fault};
 ghost use Rattle.tick_sleep.specs.Words.{meant};
-ghost use Rattle.script_read.specs.declared.fault.ReadError.TheVariants.{Script};
 
-use crate::fault::{self, test};
 use crate::limits;
 use crate::numbers::{key_of, sleep_ticks_of, ticks_of};
 use crate::plan::{SleeperDecl, TickEvent, TickPlan};
 use crate::statement::{Statement, statement_of};
 use indexmap::IndexSet;
 use lock_model::{Name, Sequence, ThreadNo};
-use script_read::{ReadError, ScriptFault, has_meaning, priority_of, split_line};
+use script_read::{
+    Code, ReadError, has_meaning, priority_of, spelled, split_judged, test, test_bytes,
+};
 use std::alloc::{AllocError, Global};
 
 /// What is known behind some lines.
@@ -73,9 +72,9 @@ impl Reader {
         let mut reader = Reader::new(alloc);
         let mut number: u32 = 2;
         let mut rest = lines;
-        while let Some((line, after)) = split_line(rest) {
-            match reader.judge(line) {
-                Err(code) => return Err(fault_at(number, code)),
+        while let Some((line, printable, after)) = split_judged(rest) {
+            match reader.judge(line, printable) {
+                Err(code) => return Err(code.at(number)),
                 Ok(lesson) => reader.learn(lesson)?,
             }
             number = number.saturating_add(1);
@@ -92,7 +91,7 @@ impl Reader {
         ensures proper { IfOk result IsProper }
     {
         if !self.is_done {
-            return Err(fault_at(number, fault::ENDLESS));
+            return Err(Code::INSIDE.at(number));
         }
         Ok(TickPlan {
             sleepers: Sequence::from_vec(self.sleepers),
@@ -100,14 +99,16 @@ impl Reader {
         })
     }
 
-    // What a line behind the header adds, or the code of its fault.
-    fn judge(&self, line: &[u8]) -> Result<Lesson, u8>
+    // What a line behind the header adds, or the code of its fault. Of the line is known whether each of its bytes may
+    // stand in a script.
+    fn judge(&self, line: &[u8], printable: bool) -> Result<Lesson, Code>
+        requires { printable ≡ list_all is_printable line.now }
         ensures fault { Finds (line_fault (known self.now) line.now) result }
         ensures taught { IfOk result (λ lesson.
             behind_line (known self.now) line.now ≡ taught lesson (known self.now)) }
         ensures fits { IfOk result (Teaches (known self.now)) }
     {
-        test_bytes(line)?;
+        test_bytes(line, printable)?;
         if !has_meaning(line) {
             return Ok(Lesson::Nothing);
         }
@@ -116,16 +117,16 @@ impl Reader {
     }
 
     // The stage of a line's words: what it says.
-    fn test_words<'a>(&self, line: &'a [u8]) -> Result<Statement<'a>, u8>
+    fn test_words<'a>(&self, line: &'a [u8]) -> Result<Statement<'a>, Code>
         ensures fault { Finds (least_code (word_tests (known self.now) line.now)) result }
         ensures said { IfOk result (λ s. statement_of line.now ≡ Some (meant s)) }
     {
-        test(fault::WORDS, !self.is_done)?;
-        statement_of(line).ok_or(fault::WORDS)
+        test(Code::WORDS, !self.is_done)?;
+        statement_of(line).ok_or(Code::WORDS)
     }
 
     // What a statement adds, by its place and by what it names.
-    fn judge_statement(&self, statement: Statement) -> Result<Lesson, u8>
+    fn judge_statement(&self, statement: Statement) -> Result<Lesson, Code>
         ensures fault { Finds (statement_fault (known self.now) (meant statement.entry)) result }
         ensures taught { IfOk result (λ lesson.
             learned (known self.now) (meant statement.entry) ≡ taught lesson (known self.now)) }
@@ -143,12 +144,12 @@ impl Reader {
                 ticks,
             } => self.judge_sleep(sig, name, key, ticks),
             Statement::WakeOne { key } => {
-                let key = key_of(key).ok_or(fault::NUMBER)?;
+                let key = key_of(key).ok_or(Code::NUMBER)?;
                 self.test_room()?;
                 Ok(Lesson::Event(TickEvent::WakeOne { key }))
             }
             Statement::WakeAll { key } => {
-                let key = key_of(key).ok_or(fault::NUMBER)?;
+                let key = key_of(key).ok_or(Code::NUMBER)?;
                 self.test_room()?;
                 Ok(Lesson::Event(TickEvent::WakeAll { key }))
             }
@@ -158,7 +159,7 @@ impl Reader {
                 Ok(Lesson::Event(TickEvent::Post { t }))
             }
             Statement::Tick { ticks } => {
-                let n = ticks_of(ticks).ok_or(fault::NUMBER)?;
+                let n = ticks_of(ticks).ok_or(Code::NUMBER)?;
                 self.test_room()?;
                 Ok(Lesson::Event(TickEvent::Tick { n }))
             }
@@ -167,14 +168,14 @@ impl Reader {
     }
 
     // A sleeper may be declared here: no event stands before it.
-    fn test_place(&self) -> Result<(), u8>
+    fn test_place(&self) -> Result<(), Code>
         ensures { Finds (least_code (test 16 (is_empty (known self.now).events) ∷ [])) result }
     {
-        test(fault::LATE, self.events.is_empty())
+        test(Code::LATE, self.events.is_empty())
     }
 
     // `sleeper NAME PRIO` declares a sleeper.
-    fn test_sleeper(&self, name: &[u8], prio: &[u8]) -> Result<SleeperDecl, u8>
+    fn test_sleeper(&self, name: &[u8], prio: &[u8]) -> Result<SleeperDecl, Code>
         ensures fault { Finds (least_code (name_tests (known self.now)
             (Declares name.now prio.now))) result }
         ensures says { IfOk result (λ d. (d.name ≡ name.now)
@@ -183,9 +184,9 @@ impl Reader {
         ensures few { IfOk result (λ d. length (known self.now).names < most_sleepers) }
     {
         let name = spelled(name)?;
-        test(fault::DECLARED, !self.names.contains(&name))?;
-        let prio = priority_of(prio).ok_or(fault::NUMBER)?;
-        test(fault::LIMIT, self.names.len() < limits::SLEEPERS)?;
+        test(Code::DECLARED, !self.names.contains(&name))?;
+        let prio = priority_of(prio).ok_or(Code::NUMBER)?;
+        test(Code::LIMIT, self.names.len() < limits::SLEEPERS)?;
         Ok(SleeperDecl { name, prio })
     }
 
@@ -196,7 +197,7 @@ impl Reader {
         name: &[u8],
         key: &[u8],
         ticks: Option<&[u8]>,
-    ) -> Result<Lesson, u8>
+    ) -> Result<Lesson, Code>
         ensures fault { Finds (statement_fault (known self.now)
             (Sleeps sig name.now key.now (option_copied ticks.entry))) result }
         ensures taught { IfOk result (λ lesson. learned (known self.now)
@@ -205,33 +206,33 @@ impl Reader {
         ensures fits { IfOk result (Teaches (known self.now)) }
     {
         let t = self.sleeper_named(name)?;
-        let key = key_of(key).ok_or(fault::NUMBER)?;
+        let key = key_of(key).ok_or(Code::NUMBER)?;
         let ticks = match ticks {
             None => None,
-            Some(word) => Some(sleep_ticks_of(word).ok_or(fault::NUMBER)?),
+            Some(word) => Some(sleep_ticks_of(word).ok_or(Code::NUMBER)?),
         };
         self.test_room()?;
         Ok(Lesson::Event(TickEvent::Sleep { t, key, ticks, sig }))
     }
 
     // The sleeper that a word names.
-    fn sleeper_named(&self, word: &[u8]) -> Result<ThreadNo, u8>
+    fn sleeper_named(&self, word: &[u8]) -> Result<ThreadNo, Code>
         ensures named { result ≡ named word.now (sleeper_named (known self.now) word.now) }
         ensures declared { IfOk result (λ t. t.0 < length (known self.now).names) }
     {
         let name = spelled(word)?;
         match self.names.get_index_of(&name) {
             Some(t) => Ok(ThreadNo(t as u8)),
-            None => Err(fault::UNDECLARED),
+            None => Err(Code::UNDECLARED),
         }
     }
 
     // There is room for an event more.
-    fn test_room(&self) -> Result<(), u8>
+    fn test_room(&self) -> Result<(), Code>
         ensures { result ≡ (if nat_lt (length (known self.now).events) most_events
-            then Ok tt else Err 7) }
+            then Ok tt else Err (record { 0 = 7 })) }
     {
-        test(fault::LIMIT, self.events.len() < limits::EVENTS)
+        test(Code::LIMIT, self.events.len() < limits::EVENTS)
     }
 
     // Adds what a line adds.
@@ -250,33 +251,4 @@ impl Reader {
         }
         Ok(())
     }
-}
-
-// The stage of a line's bytes.
-fn test_bytes(line: &[u8]) -> Result<(), u8>
-    ensures { Finds (least_code (byte_tests line.now)) result }
-{
-    test(fault::LENGTH, line.len() <= lock_model::limits::LINE_BYTES)?;
-    test(fault::BYTE, are_printable(line))
-}
-
-// From a space to `~`.
-fn are_printable(bytes: &[u8]) -> bool
-    ensures { result ≡ list_all is_printable bytes.now }
-{
-    bytes.iter().all(|b| *b == b' ' || b.is_ascii_graphic())
-}
-
-// The name that a word spells.
-fn spelled(word: &[u8]) -> Result<Name, u8>
-    ensures { result ≡ (if is_name word.now then Ok word.now else Err 3) }
-{
-    Name::of(word).ok_or(fault::SPELLING)
-}
-
-/// The fault of the line with that number.
-pub(crate) fn fault_at(line: u32, code: u8) -> ReadError
-    ensures { result ≡ Script (record { line = line; code = code }) }
-{
-    ReadError::Script(ScriptFault { line, code })
 }

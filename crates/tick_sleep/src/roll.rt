@@ -1,8 +1,8 @@
 //! Who sleeps, in order of arrival, with the wheel of their callouts.
-ghost use Rattle.std.specs.Prelude.{◌≡◌, ◌<◌, ◌≤◌, ◌++◌, ◌∷◌, [], ℕ, true, false, length, map, option_map, find, position, vec_capacity, IfOk};
+ghost use Rattle.std.specs.Prelude.{◌≡◌, ◌<◌, ◌≤◌, ◌++◌, ◌∷◌, [], ℕ, true, false, length, map, option_map, find, position, filter, vec_capacity, IfOk};
 ghost use Rattle.lock_state.specs.Steps.LockWords.{bits_of_threads};
 ghost use Rattle.tick_sleep.specs.Limits.{most_sleepers};
-ghost use Rattle.tick_sleep.specs.Ticks.{is_of, is_on, on_key, off_key, sleeps, without};
+ghost use Rattle.tick_sleep.specs.Ticks.{is_due, is_of, is_on, is_reached, on_key, off_key, sleeps, without};
 ghost use Rattle.tick_sleep.specs.Rolls.{first_at, IsOnce};
 
 use crate::limits;
@@ -122,6 +122,13 @@ impl Roll {
     {
         self.wheel.first(tick)
     }
+
+    /// The least due tick, or the greatest number where nobody has one.
+    pub(crate) fn soonest(&self) -> u64
+        ensures { (tick : ℕ) → tick < result → filter (is_due tick) self.now ≡ [] }
+    {
+        soonest_of(&self.sleepers)
+    }
 }
 
 // Adds a sleeper, for which there is memory.
@@ -156,4 +163,25 @@ fn remove_first(sleepers: &mut Vec<TickSleeper>, t: ThreadNo) -> Option<TickSlee
 {
     let place = place_of(sleepers, t)?;
     Some(sleepers.remove(place))
+}
+
+// The least due tick of sleepers, or the greatest number where none has one.
+fn soonest_of(sleepers: &[TickSleeper]) -> u64
+    ensures { (tick : ℕ) → tick < result → filter (is_due tick) sleepers.now ≡ [] }
+{
+    let mut soonest = u64::MAX;
+    for sleeper in sleepers {
+        soonest = sooner(soonest, sleeper.due);
+    }
+    soonest
+}
+
+// The lesser of two ticks, where there are two.
+fn sooner(tick: u64, due: Option<u64>) -> u64
+    ensures { (n : ℕ) → n < result → (n < tick) × (is_reached n due ≡ false) }
+{
+    match due {
+        Some(due) => tick.min(due),
+        None => tick,
+    }
 }

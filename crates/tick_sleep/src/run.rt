@@ -1,6 +1,7 @@
 //! A run of a script of ticks, and its text.
 ghost use Rattle.std.specs.Prelude.{◌≡◌, ◌≤◌, ◌<◌, ◌+◌, ◌^◌, ◌++◌, ◌∷◌, [], true, codes, decimal, flat_map, length, map, option_map, IfOk, OnOk};
 ghost use Rattle.lock_model.specs.Text.{line_of, spaced, names_at_bits, or_dash};
+ghost use Rattle.tick_sleep.specs.Expiry.{TimesOutWhereDue};
 ghost use Rattle.tick_sleep.specs.Plans.{IsProper, can_happen, sleeper_name, sleeper_names};
 ghost use Rattle.tick_sleep.specs.Ticks.{NoneIsDue, behind, expired, unexpired};
 ghost use Rattle.tick_sleep.specs.Text.{event_words, event_lines, slept_words, posted_words, name_or_dash, timeout_line, sleeping_line, sleeping_lines, tick_run};
@@ -11,11 +12,13 @@ use lock_model::{ThreadNo, push_digits, push_number, push_word};
 use std::alloc::{AllocError, Global};
 
 /// The text of a run of a plan that a script gives: a line for each event, one for each sleep that times out, one for
-/// each thread that still sleeps, and `ok`. It fails where memory runs out.
-#[tactic(auto, unfolding(crate::specs::Text::tick_run))]
+/// each thread that still sleeps, and `ok`. A sleep times out exactly where its thread sleeps still and its due tick is
+/// reached. It fails where memory runs out.
+#[tactic(auto, unfolding(crate::specs::Text::tick_run), using(crate::proofs::Orders::times_out_where_due))]
 pub fn run_ticks(alloc: Global, plan: &TickPlan) -> Result<Vec<u8>, AllocError>
     requires { IsProper plan.now }
-    ensures { IfOk result (λ text. text.items ≡ tick_run plan.now) }
+    ensures text { IfOk result (λ text. text.items ≡ tick_run plan.now) }
+    ensures timeouts { TimesOutWhereDue }
 {
     let sleepers = plan.sleepers.as_slice();
     let mut queue = TickQueue::make(alloc, sleepers)?;

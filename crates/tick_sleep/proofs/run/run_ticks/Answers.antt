@@ -20,8 +20,8 @@ loop-e-preserved c =
       none_due = c.in_ok-push_event.ensures.none_due;
     }
 
-pub returns : goal.returns
-returns c =
+pub returns-clause-text : goal.returns-clause-text
+returns-clause-text c =
     let ended : length c.args.plan.now.events ≤ c.loop-e.e =
     omega (arith, c.loop-e-test.false, ap length c.as_slice-event-items.ensures) in
     last_lines c.args.plan.now c.loop-e.e c.loop-e.queue.ticks c.loop-e.text.items c.push_sleepers.new.out.items

@@ -6,9 +6,9 @@ use Rattle.tick_sleep.proofs.reader.Reader.read.Goals as goal
 
 pub returns-in-Err-clause-told : goal.returns-in-Err-clause-told
 returns-in-Err-clause-told c =
-    rw c.fault_at.ensures (sym c.loop-line.invariant.reads
+    rw c.at.ensures (sym c.loop-line.invariant.reads
     ∙ faulty_reading c.loop-line.number (known c.loop-line.reader) c.in-Some.line.now (lines_of c.in-Some.after.now)
-    (lines_of c.loop-line.rest.now) c.in-Err.code c.in-Some.ensures.lines c.in-Err.ensures.fault
+    (lines_of c.loop-line.rest.now) c.in-Err.code.0 c.in-Some.ensures.lines c.in-Err.ensures.fault
     c.loop-line.invariant.small)
 
 pub loop-line-preserved : goal.loop-line-preserved
