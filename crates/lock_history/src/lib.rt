@@ -23,4 +23,4 @@ pub use merging::merge;
 pub use outcome::{Last, Outcome, QueueLine};
 pub use replaying::replay;
 pub use tables::Tables;
-pub use text::{print, print_counts, print_fault};
+pub use text::{last_word, print, print_counts, print_fault};

@@ -104,7 +104,8 @@ fn push_count(out: &mut Vec<u8>, word: &[u8], n: u64) -> Result<(), AllocError>
     push_number(out, n)
 }
 
-fn last_word(last: Last) -> &'static [u8]
+/// The last line of a text, without its end: how the run ended.
+pub fn last_word(last: Last) -> &'static [u8]
     ensures { result.now ≡ ending_word (ending_of last) }
 {
     match last {

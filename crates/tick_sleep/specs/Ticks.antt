@@ -1,6 +1,6 @@
 -- Sleeps with callouts and signals, over ticks that are handed in: who sleeps, in order of arrival, and what each event
 -- makes of it. Sleeping and waking are after sleep(9), and timing out after callout(9); the order of those that time
--- out, and what a signal does, are this project's profile.
+-- out, and what a signal does, are this project's own.
 use Rattle.std.specs.Prelude.{◌≡◌, ℕ, ◌+◌, Bool, true, false, not, ◌&&◌, ◌==◌, nat_le, nat_lt, if◌then◌else◌, List, [], ◌∷◌, ◌++◌, length, map, filter, find, replicate, slice_get, slice_set, unwrap_or, option_map, Option, None, Some}
 use Rattle.std.specs.List.{list_any}
 use Rattle.lock_model.specs.Queues.{Waiter, best_of}

@@ -6,6 +6,7 @@ use Rattle.lock_model.specs.Words.{Word, word_of, admits, is_plain, gained, drop
 use Rattle.lock_model.specs.History.{added, open_in, left_in}
 use Rattle.lock_model.specs.Config.{Config}
 use Rattle.lock_model.specs.Queues.{lock_queue, chan_queue}
+pub use Rattle.lock_model.specs.Events.{is_of_section}
 use Rattle.lock_model.specs.Events.{OfEnd, NoEnd, EndsTakeOf, EndsWaitOn, OfSection, NoSection, BeginsIn, EndsFrom, LeftFor, TakenBack, OfPrio, NoPrio, NewBase, ShowsPrios, OfTake, NoTake, GainedBy, FoundBusy, HaltedFor, RefusedBy, OfSleep, NoSleep, FallsAsleep, WakesUp, IsHalted, IsHaltedAtLock, WakesOne, WakesAll, facets, new_base, of_sleep, is_falling, is_waking_of}
 use Rattle.lock_state.specs.State.{State, Wait, Running, Queued, Woken, OrderRefused, SleepHalted, Loan, Wake, Round, HeldLock, put, put_at}
 use Rattle.lock_model.specs.Holds.{Hold, NotHeld, Holds}
@@ -323,13 +324,6 @@ abbrev pub changes_table : Event → Bool
 changes_table e = is_edit (facets e).table
 
 -- whether it begins or ends a section of a lock
-abbrev pub is_of_section : OfSection → Bool
-is_of_section NoSection = false
-is_of_section (BeginsIn l mode) = true
-is_of_section (EndsFrom l mode) = true
-is_of_section (LeftFor d) = true
-is_of_section (TakenBack d) = true
-
 abbrev pub changes_sections : Event → Bool
 changes_sections e = is_of_section (facets e).section
 

@@ -1,0 +1,7 @@
+use Rattle.std.proofs.Common.{refl}
+use Rattle.hold_profile.proofs.LockSteps.{add_more}
+use Rattle.hold_profile.proofs.tally.Tally.finish.Goals as goal
+
+pub loop-o-preserved : goal.loop-o-preserved
+loop-o-preserved c = add_more _ _ _ (record { thread = record { 0 = 0 }; since = 0 }) _ _ _ _ c.loop-o-test.true
+    c.loop-o.invariant c.add_length.ensures refl
