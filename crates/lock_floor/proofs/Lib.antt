@@ -40,3 +40,17 @@ pub mod MarkedRecords
 pub mod MarkCall
 pub mod MarkingAll
 pub mod Crossing
+pub mod TwoOut
+pub mod WalkShares
+pub mod WalkChains
+pub mod WalkMay
+pub mod WalkStep
+pub mod WalkLend
+pub mod WalkSort
+pub mod WalkEnd
+pub mod WalkRecords
+pub mod WalkHops
+pub mod WalkAtLock
+pub mod WalkCall
+pub mod WalkWork
+pub mod WalkAll

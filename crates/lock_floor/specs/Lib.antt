@@ -10,3 +10,4 @@ pub mod Waits
 pub mod Marks
 pub mod Resumes
 pub mod Opens
+pub mod Walks

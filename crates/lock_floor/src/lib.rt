@@ -15,6 +15,7 @@
 //! - `parking`: how a thread that stands on a queue sleeps, and runs again.
 //! - `opening`: a release that takes waiters off a lock's turnstile.
 //! - `marking`: how those are woken.
+//! - `walking`: how a thread that stands on a turnstile lends its priority along the chain of owners.
 //! - `ties`: what is true of each floor and pass.
 #![tactic(auto)]
 
@@ -34,6 +35,7 @@ mod steps;
 mod tables;
 mod ties;
 mod waits;
+mod walking;
 
 pub use closing::Closing;
 pub use floor::{Floor, FloorOf};

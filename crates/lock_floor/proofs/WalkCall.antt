@@ -1,0 +1,50 @@
+-- What the calls of single steps of a walk leave of the pass and tell.
+use Rattle.std.proofs.Common.{◌≡◌, ℕ, Bool, false, List, [], ◌∷◌, sym, ap, ◌∙◌, subst}
+use Rattle.std.specs.Global.{Vec}
+use Rattle.std.specs.declared.alloc.Global.{Global}
+use Rattle.std.specs.declared.boxed.Box.{Box}
+use Rattle.atomic_table.specs.Table.{Me}
+use Rattle.lock_history.specs.Books.{Book}
+use Rattle.lock_model.specs.declared.event.Held.{Held}
+use Rattle.lock_model.specs.declared.plan.QueueName.{QueueName}
+use Rattle.lock_objects.specs.declared.marked.Marked.{Marked}
+use Rattle.lock_state.specs.State.{Walk}
+use Rattle.lock_state.specs.Steps.{Step}
+use Rattle.thread_records.specs.declared.record.ThreadRec.{ThreadRec}
+use Rattle.turnstile_core.specs.Seen.{Turnstile}
+use Rattle.floor_table.specs.Steps.{Makes}
+use Rattle.floor_table.specs.Views.{Knowledge, seeing}
+use Rattle.floor_table.specs.declared.description.Description.{Description}
+use Rattle.floor_table.specs.declared.slot.Slot.{Slot}
+use Rattle.lock_floor.specs.Ties.{IsTied}
+use Rattle.lock_floor.specs.Walks.{StepsInHop, hopped, record_and_chain}
+use Rattle.lock_floor.proofs.Tied.{tied_on}
+use Rattle.lock_floor.proofs.WalkStep.{Hopped}
+
+-- the pass was worked on, by which its seat knows what it knew, and then made the step
+module _ (floor : Description) (me worked behind : Me Slot Knowledge) (step : ℕ → Step) (w : Walk)
+    (view : worked.0 ≡ me.0)
+    (told : Hopped floor (step worked.0.thread) w worked behind) where
+  pub call_view : behind.0 ≡ seeing behind.0.seen (hopped me.0 w worked.1)
+  call_view = ap (λ (m : Me Slot Knowledge). m.0) told.is ∙ ap (λ k. seeing behind.0.seen (hopped k w worked.1)) view
+
+  pub call_step : Makes floor (step me.0.thread ∷ []) me.0 behind.0
+  call_step = subst (λ (k : Knowledge). Makes floor (step k.thread ∷ []) k behind.0) view told.made
+
+  pub call_tied : (who : ℕ) (locks : Vec Held) (marked : Marked) (book : Book) (fin : Bool) → fin ≡ false
+      → IsTied who locks marked book fin me → IsTied who locks marked book fin behind
+  call_tied who locks marked book fin going h =
+      let v = call_view in
+      tied_on who locks marked book fin me behind going h (ap (λ k. k.role) v) (ap (λ k. k.description) v)
+      (ap (λ k. k.thread) v) (ap (λ k. k.share.held) v) (ap (λ k. k.share.doing.marked) v) (ap (λ k. k.share.log) v)
+      (ap (λ k. k.spare) v) (ap (λ (m : Me Slot Knowledge). m.1) told.is ∙ sym (ap (λ k. k.out) v))
+
+  pub call_in_hop : (o : ℕ) (box : Box ThreadRec Global) (chain : List (QueueName × Turnstile))
+      → worked.1 ≡ record_and_chain floor o box chain → StepsInHop floor o (step me.0.thread) w me.0 behind.0
+  call_in_hop o box chain out = record {
+    box = box;
+    chain = chain;
+    view = call_view ∙ ap (λ xs. seeing behind.0.seen (hopped me.0 w xs)) out;
+    made = call_step;
+    on_floor = told.on_floor;
+  }
