@@ -2,7 +2,8 @@
 //! of their atomic steps is a step of `lock_state`, so that the table represents a lawful state between any two.
 //!
 //! - `floor`: the floor, which all threads share.
-//! - `pass`: what a thread steps with: its seat at the table, the locks that it holds, and its log.
+//! - `pass`: what a thread steps with: its seat at the table, the locks that it holds, its log, and those whom it took
+//!   off a queue and has yet to wake.
 //! - `steps`: the atomic steps of a thread on lock words.
 //! - `stamps`: those that make an entry.
 //! - `tables`: changes and reads of the locks' tables.
