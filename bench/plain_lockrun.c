@@ -1,4 +1,4 @@
-// `plain_lockrun check|step [--chains N] [--turns N] < SCRIPT`: what `lockrun` writes and answers under those commands,
+// `plain_lockrun check|step|profile [--chains N] [--turns N] < SCRIPT`: what `lockrun` writes and answers under those commands,
 // without a proof, written for speed: arrays and bit masks, the text made while the run goes on, and one write at the
 // end. It is what `bench/race` holds the proved program to. Standard error gets nothing.
 //
@@ -632,6 +632,40 @@ static inline void entry(int t, const Piece *word, const Piece *of) {
 
 static inline void end_entry(void) { *at++ = '\n'; }
 
+// What a profile counts of a lock, and which locks a thread has from its last entries on: under `profile` alone. The
+// entry that begins or ends a hold is made right before.
+typedef struct { uint32_t holds, longest, together, busy, waits, open; uint64_t total, since[THREADS]; } Count;
+
+static Count counts[LOCKS];
+static uint32_t pair_counts[CLASSES][CLASSES];
+static byte open_locks[THREADS][HELD + 1], open_count[THREADS];
+static int profiles;
+
+static void begin_hold(int t, unsigned l) {
+  Count *c = &counts[l];
+  for (int i = 0; i < open_count[t]; i++) pair_counts[locks[open_locks[t][i]].class][locks[l].class]++;
+  open_locks[t][open_count[t]++] = (byte)l;
+  c->since[t] = ticket - 1;
+  c->holds++;
+  if (++c->open > c->together) c->together = c->open;
+}
+
+static void add_length(int t, unsigned l, uint64_t end) {
+  Count *c = &counts[l];
+  uint64_t length = end - c->since[t];
+  c->total += length;
+  if (length > c->longest) c->longest = (uint32_t)length;
+}
+
+static void end_hold(int t, unsigned l) {
+  int place = 0;
+  while (open_locks[t][place] != l) place++;
+  open_count[t]--;
+  for (int i = place; i < open_count[t]; i++) open_locks[t][i] = open_locks[t][i + 1];
+  counts[l].open--;
+  add_length(t, l, ticket - 1);
+}
+
 static inline int admits(int kind, uint32_t w, int mode) {
   if (mode == EXCL) return w < 4;
   return !(w & 4) && (kind == SX || w < 4 || !(w & 1));
@@ -724,6 +758,7 @@ static void take(int t, const Op *op) {
   gains(t, l, op->mode, 0);
   entry(t, &take_words[locks[l].kind][op->mode], &locks[l].name);
   end_entry();
+  if (profiles) begin_hold(t, l);
   next_op[t]++;
 }
 
@@ -732,11 +767,13 @@ static void try(int t, const Op *op) {
   if (admits(locks[l].kind, words[l], op->mode)) {
     gains(t, l, op->mode, 1);
     entry(t, &try_words[locks[l].kind][op->mode], &locks[l].name);
+    if (profiles) begin_hold(t, l);
     next_op[t]++;
   } else {
     entry(t, &busy_word, &locks[l].name);
     *at++ = ' ';
     put_number(words[l]);
+    counts[l].busy++;
     next_op[t] = op->cell_or_past;
   }
   end_entry();
@@ -745,6 +782,7 @@ static void try(int t, const Op *op) {
 static void unlock(int t, unsigned l, int mode) {
   entry(t, &release_words[locks[l].kind][mode], &locks[l].name);
   end_entry();
+  if (profiles) end_hold(t, l);
   give_back(t, l);
 }
 
@@ -769,6 +807,8 @@ static void go_to_sleep(int t, const Op *op) {
   Queue *q = &queues[LOCKS + c];
   entry(t, &sleep_words[chans[c].cond], &chans[c].name);
   end_entry();
+  if (profiles) end_hold(t, chans[c].lock);
+  counts[chans[c].lock].waits++;
   wait_word[t] = QUEUED;
   blocked_on[t] = (byte)(LOCKS + c);
   sleeps_on[t] = (byte)c;
@@ -785,6 +825,7 @@ static void sleep_op(int t, const Op *op) {
   gains(t, l, op->mode, 0);
   entry(t, &woke_word, &chans[c].name);
   end_entry();
+  if (profiles) begin_hold(t, l);
   sleeps_on[t] = NONE;
   next_op[t]++;
 }
@@ -984,7 +1025,7 @@ static uint32_t sort_cells(const uint16_t **sorted) {
   return n;
 }
 
-static void put_rest(int ending, int chains) {
+static void put_rest(int chains) {
   for (int l = 0; l < lock_count; l++) put_queue(&queues[l], &locks[l].name, l, chains);
   for (int c = 0; c < chan_count; c++) put_queue(&queues[LOCKS + c], &chans[c].name, c, chains);
   for (int t = 0; t < thread_count; t++) {
@@ -1010,6 +1051,46 @@ static void put_rest(int ending, int chains) {
     put_number(c->value);
     end_entry();
   }
+}
+
+// In place of the entries.
+static void put_profile(void) {
+  for (int t = 0; t < thread_count; t++)
+    for (int i = 0; i < open_count[t]; i++) add_length(t, open_locks[t][i], ticket);
+  at = text;
+  for (int l = 0; l < lock_count; l++) {
+    const Count *c = &counts[l];
+    room();
+    PUT("lock");
+    put(&locks[l].name);
+    PUT(" class");
+    put(&class_names[locks[l].class]);
+    PUT(" holds ");
+    put_number(c->holds);
+    PUT(" total ");
+    put_number(c->total);
+    PUT(" longest ");
+    put_number(c->longest);
+    PUT(" together ");
+    put_number(c->together);
+    PUT(" busy ");
+    put_number(c->busy);
+    PUT(" waits ");
+    put_number(c->waits);
+    PUT(" halted 0\n");
+  }
+  for (int a = 0; a < class_count; a++) for (int b = 0; b < class_count; b++) if (pair_counts[a][b]) {
+    room();
+    PUT("order");
+    put(&class_names[a]);
+    put(&class_names[b]);
+    *at++ = ' ';
+    put_number(pair_counts[a][b]);
+    end_entry();
+  }
+}
+
+static void put_ending(int ending) {
   room();
   switch (ending) {
     case DONE: PUT("ok\n"); break;
@@ -1062,7 +1143,7 @@ int main(int argc, char **argv) {
       const char *behind = a + (to == &chains ? 8 : 7);
       if (*to || (*behind && *behind != '=') || (!*behind && i + 1 >= argc)) stop(USAGE);
       *to = count_of(*behind ? behind + 1 : argv[++i], to == &chains ? 64 : TURNS);
-    } else if (!command && (!strcmp(a, "check") || !strcmp(a, "step"))) command = a;
+    } else if (!command && (!strcmp(a, "check") || !strcmp(a, "step") || !strcmp(a, "profile"))) command = a;
     else stop(USAGE);
   }
   if (!command) stop(USAGE);
@@ -1082,9 +1163,11 @@ int main(int argc, char **argv) {
   make_bytes();
   read_script(source, source + n);
   if (*command == 'c') { put_counts(); write_text(DONE); }
+  profiles = *command == 'p';
   make_run();
   for (int k = 0; k < class_count; k++) class_names[k] = piece_of(classes[k]);
   int ending = run(turns);
-  put_rest(ending, (int)chains);
+  if (profiles) put_profile(); else put_rest((int)chains);
+  put_ending(ending);
   write_text(ending);
 }

@@ -1,7 +1,8 @@
 -- What the texts say that were given: in its range, and an error just where they say nothing.
-use Rattle.std.proofs.Common.{◌≡◌, true, codes, arith, subst, sym, Option, Some, None, option_map, Result, Err}
+use Rattle.std.proofs.Common.{◌≡◌, true, codes, arith, subst, sym, Option, Some, None, option_map, Result, Ok, Err}
 use Rattle.std.specs.Prelude.{IfOk, IfSome, option_and_then}
 use Rattle.std.specs.Option.{ok_or}
+use Rattle.std.specs.Result.{IsErrAnd}
 use Rattle.lock_model.specs.declared.limits.TheConstants.{CHAINS, DEFAULT_CHAINS, TURNS}
 use Rattle.option_words.proofs.Numbers.{in_range}
 use Rattle.option_words.specs.Forms.{Text, Texts, is_taken_by, operand}
@@ -38,3 +39,9 @@ answers given form r taken is answer = subst (Answers form) (sym answer) (go (wo
     go : (o : Option LockrunArgs) → form ≡ o → IfSome o HasRanges → Answers form (ok_or o Usage)
     go None same within = record { said = tt; ranges = tt; usage = λ _. same }
     go (Some said) same within = record { said = same; ranges = within; usage = λ e. absurd (cc) }
+
+-- what `?` passes on is what it was given
+pub passed_on : (r : Result LockrunArgs WordsError) (e : WordsError) → IsErrAnd r (λ passed. passed ≡ e) → r ≡ Err Usage
+    → e ≡ Usage
+passed_on (Ok said) e is same = absurd is
+passed_on (Err passed) e is same = cc

@@ -10,7 +10,7 @@ use Rattle.std.specs.Str.{bytes_eq}
 use Rattle.lock_model.specs.declared.limits.TheConstants.{CHAINS, DEFAULT_CHAINS, TURNS}
 use Rattle.option_words.specs.Forms.{Meaning, Table, Text, Texts, Gives, WantsHelp, meaning_of, number, number_or, operand, option}
 use Rattle.command_line.specs.declared.args.Command.{Command}
-use Rattle.command_line.specs.declared.args.Command.TheVariants.{Check, Run, Step, Ticks}
+use Rattle.command_line.specs.declared.args.Command.TheVariants.{Check, Profile, Run, Step, Ticks}
 use Rattle.command_line.specs.declared.args.LockrunArgs.{LockrunArgs}
 
 -- the commands, which are this project's own
@@ -20,6 +20,7 @@ commands =
     ∷ (codes "step", Step)
     ∷ (codes "run", Run)
     ∷ (codes "ticks", Ticks)
+    ∷ (codes "profile", Profile)
     ∷ []
 
 -- with the options, which are its own too
@@ -62,6 +63,7 @@ runs_threads Check = false
 runs_threads Step = false
 runs_threads Run = true
 runs_threads Ticks = false
+runs_threads Profile = false
 
 -- they are a form whose command is `run`
 abbrev pub is_run : List Text → Bool

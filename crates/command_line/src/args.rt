@@ -13,6 +13,8 @@ pub enum Command {
     Run,
     /// Read a script of ticks, and run it.
     Ticks,
+    /// Make the scheduled run, and print what its history shows of each lock.
+    Profile,
 }
 
 impl Command {
@@ -25,6 +27,7 @@ impl Command {
             "step" => Some(Command::Step),
             "run" => Some(Command::Run),
             "ticks" => Some(Command::Ticks),
+            "profile" => Some(Command::Profile),
             _ => None,
         }
     }

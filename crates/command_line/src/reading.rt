@@ -13,7 +13,7 @@ use std::alloc::Global;
 // What the words may be. There is no help.
 const SYNOPSIS: Synopsis<'static> = Synopsis {
     program: "lockrun",
-    operands: &["check", "step", "run", "ticks"],
+    operands: &["check", "step", "run", "ticks", "profile"],
     options: &[
         LongOption {
             name: "chains",

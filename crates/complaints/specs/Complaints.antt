@@ -1,5 +1,5 @@
 -- The sentence for standard error, by the status and the text that was written. It is this project's own.
-use Rattle.std.specs.Prelude.{ℕ, Bool, ◌||◌, ◌&&◌, ◌==◌, nat_lt, nat_eq, slice_index, if◌then◌else◌, List, [], ◌∷◌, ◌++◌, find, length, Option, Some, None, codes, option_and_then, option_map}
+use Rattle.std.specs.Prelude.{ℕ, Bool, not, ◌||◌, ◌&&◌, ◌==◌, nat_lt, nat_eq, slice_index, if◌then◌else◌, List, [], ◌∷◌, ◌++◌, find, length, Option, Some, None, codes, option_and_then, option_map}
 use Rattle.std.specs.Option.{option_map_or}
 use Rattle.std.specs.List.{list_any, slice_index_or, starts_with}
 use Rattle.lock_model.specs.Script.Lines.{is_same, lines_of, number_up_to, onto_first, words_of}
@@ -44,9 +44,10 @@ abbrev pub wait_of : Text → Text → Option (Text × Text)
 wait_of text line = if is_same (word_at 0 line) (codes "thread")
     then option_map (λ queue. (word_at 1 line, queue)) (queue_of text (word_at 1 line)) else None
 
--- the line is `TICKET NAME reversed LOCK CLASS`
+-- the line is `TICKET NAME reversed LOCK CLASS`, and not the `order CLASS CLASS N` of a profile
 abbrev pub is_reversal : Text → Bool
 is_reversal line = is_same (word_at 2 line) (codes "reversed")
+    && not (is_same (word_at 0 line) (codes "order"))
 
 -- 2. What is said
 

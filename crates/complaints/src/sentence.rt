@@ -1,7 +1,7 @@
 //! The sentence for standard error.
 ghost use Rattle.std.specs.Prelude.{◌≡◌, ◌++◌, [], IfOk, OnOk, option_map, unwrap_or};
 ghost use Rattle.lock_model.specs.Script.Lines.{lines_of};
-ghost use Rattle.complaints.specs.Complaints.{complaint_of, fault_said, first_line, fixed_of, meaning_by, reversal_said, reversed_said, sentence_of, speaker_of, stuck_said, wait_of};
+ghost use Rattle.complaints.specs.Complaints.{complaint_of, fault_said, first_line, fixed_of, is_reversal, meaning_by, reversal_said, reversed_said, sentence_of, speaker_of, stuck_said, wait_of};
 
 use crate::program::Program;
 use crate::status::Status;
@@ -184,7 +184,7 @@ fn push_reversed(out: &mut Vec<u8>, text: &[u8]) -> Result<(), AllocError>
     let mut between: &[u8] = b": ";
     let mut rest = text;
     while let Some((line, behind)) = split_line(rest) {
-        if word_at(line, 2) == "reversed".as_bytes() {
+        if is_reversal(line) {
             out.extend_from_slice(between)?;
             push_reversal(out, line)?;
             between = b", ";
@@ -192,6 +192,13 @@ fn push_reversed(out: &mut Vec<u8>, text: &[u8]) -> Result<(), AllocError>
         rest = behind;
     }
     Ok(())
+}
+
+// Whether a line is one of these, and not the `order CLASS CLASS N` of a profile.
+fn is_reversal(line: &[u8]) -> bool
+    ensures { result ≡ is_reversal line.now }
+{
+    word_at(line, 2) == "reversed".as_bytes() && word_at(line, 0) != "order".as_bytes()
 }
 
 fn push_reversal(out: &mut Vec<u8>, line: &[u8]) -> Result<(), AllocError>

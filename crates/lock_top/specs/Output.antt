@@ -4,11 +4,13 @@ use Rattle.std.specs.Prelude.{◌≡◌, ℕ, Bool, false, true, List, [], rever
 use Rattle.std.specs.FinMap.{FinMap, entries, get}
 use Rattle.command_line.specs.Forms.{words_of}
 use Rattle.command_line.specs.declared.args.Command.{Command}
-use Rattle.command_line.specs.declared.args.Command.TheVariants.{Check, Run, Step, Ticks}
+use Rattle.command_line.specs.declared.args.Command.TheVariants.{Check, Profile, Run, Step, Ticks}
 use Rattle.command_line.specs.declared.args.LockrunArgs.{LockrunArgs}
 use Rattle.complaints.specs.declared.status.Status.{Status}
 use Rattle.complaints.specs.declared.status.Status.TheVariants.{Done, BadScript, ReadFault, WriteFault, NoMemory, Stuck, Reversed, TooLong, TooBig, Usage}
 use Rattle.floor_run.specs.Runs.{HasOnlyMutexes, IsOutcome}
+use Rattle.hold_profile.specs.ProfileText.{profile_text}
+use Rattle.hold_profile.specs.Profiles.{profile_of}
 use Rattle.lock_model.specs.Config.{Config}
 use Rattle.lock_model.specs.Plans.{config_of}
 use Rattle.lock_model.specs.Script.{Reading, Reads, Faulty, reading_of}
@@ -35,6 +37,11 @@ status_of IsTooLong = TooLong
 abbrev pub output_of : Plan → Outcome → Status × List ℕ
 output_of plan o = (status_of o.ending, text_of plan o)
 
+-- and those of the profile of its history
+abbrev pub profile_output_of : Plan → Outcome → Status × List ℕ
+profile_output_of plan o =
+    (status_of o.ending, profile_text plan (profile_of plan o.history) o.ending)
+
 -- A status and a text belong to a run of a plan's threads. Which threads meet which is not said, so each outcome of
 -- such a run has its own; in none of them is a take refused. A plan that declares anything beside mutexes has one that
 -- tells that its threads can't run yet.
@@ -49,6 +56,11 @@ IsOutputOfCounts plan pair = pair ≡ (Done, counts_text plan)
 -- to its scheduled run, with so many chains of each sort and at most so many turns
 abbrev pub IsOutputOfSchedule : ℕ → ℕ → Plan → Status × List ℕ → Type 0
 IsOutputOfSchedule chains turns plan pair = pair ≡ output_of plan (scheduled_run plan chains turns)
+
+-- to the profile of that run
+abbrev pub IsOutputOfProfile : ℕ → ℕ → Plan → Status × List ℕ → Type 0
+IsOutputOfProfile chains turns plan pair =
+    pair ≡ profile_output_of plan (scheduled_run plan chains turns)
 
 -- to the line of a source's first fault
 abbrev pub IsOutputOfFault : ℕ → ℕ → Status × List ℕ → Type 0
@@ -79,6 +91,8 @@ IsOutputBy Step chains turns bytes pair =
     IsOutputOfLocks (IsOutputOfSchedule chains turns) bytes pair
 IsOutputBy Run chains turns bytes pair = IsOutputOfLocks IsOutputOfThreads bytes pair
 IsOutputBy Ticks chains turns bytes pair = IsOutputOfTicks bytes pair
+IsOutputBy Profile chains turns bytes pair =
+    IsOutputOfLocks (IsOutputOfProfile chains turns) bytes pair
 
 abbrev pub IsOutputSaid : LockrunArgs → List ℕ → Status × List ℕ → Type 0
 IsOutputSaid said bytes pair = IsOutputBy said.command said.chains said.turns bytes pair

@@ -3,14 +3,16 @@
 ghost use Rattle.std.specs.Prelude.{◌≡◌, ◌≤◌, IfErr, IfOk, true, false};
 ghost use Rattle.command_line.specs.Forms.{runs_threads};
 ghost use Rattle.command_line.specs.Ranges.{HasRanges};
+ghost use Rattle.hold_profile.specs.Histories.{IsHistoryOf};
 ghost use Rattle.lock_model.specs.Operations.{IsProper};
 ghost use Rattle.lock_history.specs.Endings.{ending_of};
 ghost use Rattle.lock_history.specs.Outcomes.{outcome_seen};
-ghost use Rattle.lock_top.specs.Output.{has_text, IsOutputOfCounts, IsOutputOfLocks, IsOutputOfSchedule, IsOutputOfThreads, IsOutputOfTicks, IsFaultOf, IsOutputSaid, output_of, status_of};
+ghost use Rattle.lock_top.specs.Output.{has_text, IsOutputOfCounts, IsOutputOfLocks, IsOutputOfProfile, IsOutputOfSchedule, IsOutputOfThreads, IsOutputOfTicks, IsFaultOf, IsOutputSaid, output_of, profile_output_of, status_of};
 
 use command_line::{Command, LockrunArgs};
 use complaints::Status;
 use floor_run::{has_only_mutexes, run_plan};
+use hold_profile::{print_profile, profile};
 use lock_history::{Last, Outcome, print, print_counts, print_fault};
 use lock_io::Gate;
 use lock_model::Plan;
@@ -37,6 +39,7 @@ pub fn plainly(
         Command::Check => counts(alloc, bytes),
         Command::Step => scheduled(alloc, bytes, said.chains, said.turns),
         Command::Ticks => ticks(alloc, bytes),
+        Command::Profile => profiled(alloc, bytes, said.chains, said.turns),
         Command::Run => unreachable!(),
     }
 }
@@ -75,6 +78,30 @@ fn scheduled(
     let plan = read_script(alloc, bytes)?;
     let outcome = run_schedule(alloc, &plan, chains, turns)?;
     let made = of_outcome(alloc, &plan, &outcome)?;
+    Ok(made)
+}
+
+// `profile`: the profile of that run.
+#[tactic(auto, using(crate::proofs::Outcome::refused_output))]
+fn profiled(
+    alloc: Global,
+    bytes: &[u8],
+    chains: u32,
+    turns: u32,
+) -> Result<(Status, Vec<u8>), ReadError>
+    requires some_chains { 1 ≤ chains }
+    requires few_chains { chains ≤ 64 }
+    requires some_turns { 1 ≤ turns }
+    requires few_turns { turns ≤ 1000000 }
+    ensures pair { IfOk result (λ a.
+        IsOutputOfLocks (IsOutputOfProfile chains turns) bytes.now (a.0, a.1.items)) }
+    ensures refused { IfErr result
+        (IsFaultOf (IsOutputOfLocks (IsOutputOfProfile chains turns) bytes.now)) }
+    ensures has_text { IfOk result (λ a. has_text a.0 ≡ true) }
+{
+    let plan = read_script(alloc, bytes)?;
+    let run = run_schedule(alloc, &plan, chains, turns)?;
+    let made = of_history(alloc, &plan, &run)?;
     Ok(made)
 }
 
@@ -143,6 +170,23 @@ fn of_outcome(
     ensures has_text { IfOk result (λ a. has_text a.0 ≡ true) }
 {
     let text = print(alloc, plan, outcome)?;
+    Ok((status_of(outcome.last), text))
+}
+
+// Those of the profile of what a run leaves.
+fn of_history(
+    alloc: Global,
+    plan: &Plan,
+    outcome: &Outcome,
+) -> Result<(Status, Vec<u8>), AllocError>
+    requires proper { IsProper plan.now }
+    requires legal { IsHistoryOf plan.now outcome.now.history }
+    ensures pair { IfOk result (λ a.
+        (a.0, a.1.items) ≡ profile_output_of plan.now (outcome_seen outcome.now)) }
+    ensures has_text { IfOk result (λ a. has_text a.0 ≡ true) }
+{
+    let counted = profile(alloc, plan, &outcome.history)?;
+    let text = print_profile(alloc, plan, &counted, outcome.last)?;
     Ok((status_of(outcome.last), text))
 }
 

@@ -18,6 +18,6 @@ pub use complaints::Status;
 /// The program, as its sentences name it.
 pub const LOCKRUN: Program = Program {
     name: "lockrun",
-    form: "lockrun check|step|run|ticks [--chains N] [--turns N] < SCRIPT",
+    form: "lockrun check|step|run|ticks|profile [--chains N] [--turns N] < SCRIPT",
     too_long: "the turns were used up before all threads had ended",
 };

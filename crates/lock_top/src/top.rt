@@ -59,10 +59,10 @@ pub fn lockrun<R: Threads + Wait + Sync, S: Source, K: Sink, G: Gate>(
 }
 
 /// What the program does where no thread is started: it reads a script from the source, counts what it has, makes its
-/// scheduled run or runs its ticks, and writes the text to the sink. The words are any but a form with the command
-/// `run`. It always returns. It takes memory until the text is made, and none from then on. With whatever chains and
-/// turns, every state that the run of a plan of locks goes through is lawful, and in a run of ticks a sleep times out
-/// exactly where its thread sleeps still and its due tick is reached.
+/// scheduled run or the profile of that, or runs its ticks, and writes the text to the sink. The words are any but a
+/// form with the command `run`. It always returns. It takes memory until the text is made, and none from then on. With
+/// whatever chains and turns, every state that the run of a plan of locks goes through is lawful, and in a run of ticks
+/// a sleep times out exactly where its thread sleeps still and its due tick is reached.
 pub fn lockrun_plain<S: Source, K: Sink>(
     alloc: Global,
     words: &[String],
@@ -135,7 +135,7 @@ fn is_run(alloc: Global, words: &[String]) -> Result<bool, AllocError>
     match read_words(alloc, words) {
         Ok(said) => match said.command {
             Command::Run => Ok(true),
-            Command::Check | Command::Step | Command::Ticks => Ok(false),
+            Command::Check | Command::Step | Command::Ticks | Command::Profile => Ok(false),
         },
         Err(WordsError::Usage) => Ok(false),
         Err(WordsError::Memory) => Err(AllocError),

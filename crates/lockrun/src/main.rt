@@ -1,6 +1,6 @@
-//! `lockrun check|step|run|ticks [--chains N] [--turns N]` reads a script from standard input, counts what it has,
-//! makes its scheduled run, runs its threads or runs its ticks, and writes the text to standard output. The exit code
-//! is the status, and where there is something to say, standard error gets one sentence. What it does, and what is
+//! `lockrun check|step|run|ticks|profile [--chains N] [--turns N]` reads a script from standard input, counts what it
+//! has, makes its scheduled run, runs its threads or runs its ticks, and writes the text to standard output. The exit
+//! code is the status, and where there is something to say, standard error gets one sentence. What it does, and what is
 //! promised of it, stands in the library `lock_top`, and the sentence in `complaints`; here the words and the streams
 //! are picked up.
 #![tactic(auto)]

@@ -14,6 +14,8 @@ const RUN: Command = Command::Run;
 
 const TICKS: Command = Command::Ticks;
 
+const PROFILE: Command = Command::Profile;
+
 // The most turns.
 const ALL: u32 = 1_000_000;
 
@@ -46,6 +48,8 @@ const RUNS: &[(&str, Command, u32, u32)] = &[
     ("run --turns 9 --chains 64", RUN, 64, 9),
     ("ticks", TICKS, 16, ALL),
     ("--turns 9 ticks --chains=1", TICKS, 1, 9),
+    ("profile", PROFILE, 16, ALL),
+    ("--turns=6 profile", PROFILE, 16, 6),
 ];
 
 const NO_RUNS: &[&str] = &[
@@ -67,6 +71,9 @@ const NO_RUNS: &[&str] = &[
     "ticks 1",
     "ticks step",
     "ticks --chains 0",
+    "profiles",
+    "profile step",
+    "profile --turns 0",
     "step ''",
     "step 1",
     "step -- --chains 4",

@@ -6,7 +6,7 @@ use std::test::Fail;
 
 const LOCKRUN: Program = Program {
     name: "lockrun",
-    form: "lockrun check|step|run|ticks [--chains N] [--turns N] < SCRIPT",
+    form: "lockrun check|step|run|ticks|profile [--chains N] [--turns N] < SCRIPT",
     too_long: "the turns were used up before all threads had ended",
 };
 
@@ -119,6 +119,12 @@ const SAID: &[(Status, &str, &str)] = &[
     (Status::Reversed, "reversed\n", "lockrun: reversed\n"),
     (
         Status::Reversed,
+        "lock reversed class k holds 1 total 1 longest 1 together 1 busy 0 waits 0 halted 0\n\
+        order k reversed 1\nreversed\n",
+        "lockrun: reversed\n",
+    ),
+    (
+        Status::Reversed,
         "1 p reversed d kd",
         "lockrun: reversed: p may not take d under class kd\n",
     ),
@@ -135,12 +141,12 @@ const SAID: &[(Status, &str, &str)] = &[
     (
         Status::Usage,
         "",
-        "usage: lockrun check|step|run|ticks [--chains N] [--turns N] < SCRIPT\n",
+        "usage: lockrun check|step|run|ticks|profile [--chains N] [--turns N] < SCRIPT\n",
     ),
     (
         Status::Usage,
         STUCK,
-        "usage: lockrun check|step|run|ticks [--chains N] [--turns N] < SCRIPT\n",
+        "usage: lockrun check|step|run|ticks|profile [--chains N] [--turns N] < SCRIPT\n",
     ),
 ];
 

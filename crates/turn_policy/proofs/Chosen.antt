@@ -350,7 +350,8 @@ module _ (plan : Plan) (r : Run) where
             h.0,
             lowest (is_gathered k.owing_only plan r) (has_least (priority_of heeds_loans r.state) (contenders plan r)) 0
                 (length plan.threads) t u
-                (subst (λ (ts : List ℕ). find (has_least (priority_of heeds_loans r.state) (contenders plan r)) ts ≡ Some t)
+                (subst (λ (ts : List ℕ). find (has_least (priority_of heeds_loans r.state) (contenders plan r)) ts ≡
+                Some t)
                 k.are h.1) (omega arith) (omega (arith, lt)) (gathered_too same)
                 (also_least (priority_of heeds_loans r.state) (contenders plan r) t u
                 (is_least (priority_of heeds_loans r.state) last (contenders plan r) t e) alike),
