@@ -56,6 +56,8 @@ const CASES: &[Case] = &[
     ("check", "", 1_048_577, NEVER, NEVER, TooBig, ""),
     ("run", "", 1_048_577, NEVER, NEVER, TooBig, ""),
     ("step", "", 1_048_577, NEVER, NEVER, TooBig, ""),
+    ("ticks", "", 1_048_577, NEVER, NEVER, TooBig, ""),
+    ("profile", "", 1_048_577, NEVER, NEVER, TooBig, ""),
     (
         "step",
         "",

@@ -48,6 +48,7 @@ const WORDS: &[&str] = &[
     "ticks 1;sleeper a\t1;done; => line 2 code 19",
     "ticks 1;done\r; => line 2 code 19",
     "ticks 1;done;\u{7f}; => line 3 code 19",
+    "ticks 1;#\u{1f};done; => line 2 code 19",
 ];
 
 const MEANINGS: &[&str] = &[
@@ -76,6 +77,9 @@ const MEANINGS: &[&str] = &[
     "ticks 1;sleeper a 1;sleep a x 1;done; => line 3 code 6",
     "ticks 1;sleeper a 1;sleep a 63 0;done; => line 3 code 6",
     "ticks 1;sleeper a 1;sleep a 63 1000001;done; => line 3 code 6",
+    "ticks 1;sleeper a 1;sleepsig a 64;done; => line 3 code 6",
+    "ticks 1;sleeper a 1;sleepsig a 63 0;done; => line 3 code 6",
+    "ticks 1;sleeper a 1;sleepsig a 63 1000001;done; => line 3 code 6",
     "ticks 1;sleeper a 1;sleepsig a 0 18446744073709551616;done; => line 3 code 6",
     "ticks 1;sleeper a 1;sleepsig a 0 18446744073709551615;done; => line 3 code 6",
     "ticks 1;wakeone 64;done; => line 2 code 6",
@@ -103,7 +107,8 @@ const SCRIPTS: &[&str] = &[
     "ticks 1;done",
     "ticks 1;#[199 x];done;",
     "ticks 1;[64 sleeper a# 1;]done;",
-    "ticks 1;sleeper abcdefghijklmnop 255;sleep abcdefghijklmnop 63 1000000;done;",
+    "ticks 1;# ~;sleeper abcdefghijklmnop 255;sleep abcdefghijklmnop 63 1000000;done;",
+    "ticks 1;sleeper a 0;sleepsig a 63 1000000;wakeone 63;sleep a 63 1;wakeup 63;done;",
     "ticks 1;sleeper sleep 0;sleepsig sleep 0 1;tick 1000;tick 1;done;",
     "ticks 1;[20000 wakeone 0;]done;",
 ];
