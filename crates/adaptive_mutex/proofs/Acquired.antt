@@ -1,20 +1,20 @@
--- A mutex is gained and noted, or found busy and that noted: each step may be made, and the thread is at rest again.
-use Rattle.std.proofs.Common.{◌≡◌, ◌≢◌, ℕ, suc, ◌+◌, ◌≤◌, Bool, true, false, cond, Option, Some, None, List, [], ◌∷◌, ◌++◌, replicate, refl, sym, ap, ◌∙◌, subst, inr, arith, eq-eqb}
+-- A mutex is gained by a try and noted, or found busy and that noted; or it is gained by a blocking call and noted:
+-- each step may be made, and the thread is at rest again.
+use Rattle.std.proofs.Common.{◌≡◌, ◌≢◌, ℕ, suc, ◌+◌, ◌≤◌, true, false, cond, Option, Some, None, [], ◌∷◌, ◌++◌, refl, sym, ap, ◌∙◌, subst, inr, arith, eq-eqb}
 use Rattle.lock_laws.proofs.HeldLists.{gained_order-push, hold_in-push}
 use Rattle.lock_state.specs.State.{gained_order, State, Look}
 use Rattle.lock_model.specs.Config.{Config}
-use Rattle.lock_model.specs.Holds.{NotHeld, Holds}
+use Rattle.lock_model.specs.Holds.{Holds}
 use Rattle.lock_model.specs.Operations.{hold_in}
 use Rattle.lock_model.specs.Words.{Word, word_of, IsWellFormed, is_free, is_plain}
 use Rattle.lock_model.specs.declared.event.Event.{Event}
-use Rattle.lock_model.specs.declared.event.Event.TheVariants.{Busy}
+use Rattle.lock_model.specs.declared.event.Event.TheVariants.{Locked, Tried, Busy}
 use Rattle.lock_model.specs.declared.event.Held.{Held}
 use Rattle.lock_model.specs.declared.numbers.LockNo.{LockNo}
 use Rattle.lock_model.specs.declared.plan.Kind.{Kind}
 use Rattle.lock_model.specs.declared.plan.Kind.TheVariants.{Mtx}
 use Rattle.lock_model.specs.declared.plan.Mode.TheVariants.{Excl}
-use Rattle.lock_state.specs.Steps as steps
-use Rattle.lock_state.specs.Steps.{Looks, Stamps, FitsRound, NotesInRound, HasOutForEntry}
+use Rattle.lock_state.specs.Steps.{Looks, Gains, Stamps, FitsRound, NotesInRound, HasOutForEntry}
 use Rattle.lock_state.specs.Steps.LockWords.{Asks, Begins, IsGainedLast}
 use Rattle.floor_table.specs.Descriptions.{config_in}
 use Rattle.floor_table.specs.declared.description.Description.{Description}
@@ -23,15 +23,17 @@ use Rattle.floor_table.specs.Steps.{Fits, Makes, MakesEach, MayMake}
 use Rattle.floor_table.specs.Views.{Knowledge, seeing}
 use Rattle.lock_floor.specs.Passes.{IsAtRest, MakesEntry}
 use Rattle.lock_floor.specs.Views.{counts, looked, gained, entry_by, stamped}
+use Rattle.lock_floor.proofs.Calling as floor_calling
+use Rattle.lock_floor.proofs.Calling.{may_note_locked, rest_locked}
 use Rattle.lock_floor.proofs.Finding.{finds_word}
-use Rattle.lock_floor.proofs.May.{own_log, may_gain, may_stamp}
-use Rattle.lock_floor.proofs.Resting.{gain_event, rest_seeing, rest_gained, rest_stamped}
-use Rattle.adaptive_mutex.specs.Mutexes.{IsMutex, MayAcquire, as_held, after_looks, WasBusy}
-use Rattle.adaptive_mutex.specs.Waiting.{with_looks, HasLooked, MayGain, LooksThenGains}
+use Rattle.lock_floor.proofs.May.{BeginsCall, own_log, may_gain, may_stamp}
+use Rattle.lock_floor.proofs.Resting.{idle, idle_looked, rest_seeing, rest_gained, rest_noted}
+use Rattle.adaptive_mutex.specs.Mutexes.{IsMutex, MayAcquire, Locks, as_held, tries, WasBusy}
+use Rattle.adaptive_mutex.specs.Waiting.{Kept, kept_of, IsCalling, MayGain, HasGained}
 use Rattle.adaptive_mutex.proofs.Words.{mutex_is_held}
-use Rattle.adaptive_mutex.proofs.Looks.{each_append, uncounted, look_knows, no_look, looks_still, rest_looks, looks_rest}
+use Rattle.adaptive_mutex.proofs.Looks.{uncounted, rest_looks}
 
--- 1. The gain
+-- 1. A thread at rest may gain a mutex that it doesn't hold
 
 pub acquires : (floor : Description) (l : ℕ) (v : Knowledge) → IsAtRest floor v → MayAcquire floor l v
     → MayGain floor l v
@@ -40,130 +42,86 @@ acquires floor l v r m =
       unheld = m.unheld;
       few = m.few;
       wants_nothing = r.wants_nothing;
-      takes_nothing = r.takes_nothing;
+      unseen = r.no_last_look;
+      no_walk = r.no_walk;
       looks = rest_looks floor v r;
     }
 
--- a gain without a look before
-pub gains_at_once : (floor : Description) (l : LockNo) (v w : Knowledge) → w ≡ seeing w.seen (gained v (as_held l true))
-    → Makes floor (steps.Gains v.thread l.0 Excl true ∷ []) v w → LooksThenGains floor (as_held l true) 0 v w
-gains_at_once floor l v w view step = record { between = v; looked = no_look floor l.0 v; view = view; step = step }
+pub begins_call : (floor : Description) (l : ℕ) (v : Knowledge) → MayGain floor l v → BeginsCall v
+begins_call floor l v m = record { wants = m.wants_nothing; takes = m.looks.takes_nothing; unseen = m.unseen }
 
--- behind looks too
-pub may_gain_on : (floor : Description) (l n : ℕ) (u v : Knowledge) → MayGain floor l u → HasLooked floor l n u v
-    → MayGain floor l v
-may_gain_on floor l n u v m x = subst (MayGain floor l) (sym x.knows) record {
-  unheld = m.unheld;
-  few = m.few;
-  wants_nothing = m.wants_nothing;
-  takes_nothing = m.takes_nothing;
-  looks = looks_still u x.all x.last x.seen v.seen m.looks;
-}
-
-plainly : (k : Kind) → k ≡ Mtx → is_plain k (word_of 0) Excl ≡ true
+pub plainly : (k : Kind) → k ≡ Mtx → is_plain k (word_of 0) Excl ≡ true
 plainly k e = ap (λ (x : Kind). is_plain x (word_of 0) Excl) e
 
-pub may_gain_free : (floor : Description) (l : ℕ) (by_try : Bool) (v : Knowledge) → IsMutex floor l → MayGain floor l v
-    → MayMake floor v (λ s. s.word l ≡ word_of 0) (steps.Gains v.thread l Excl by_try ∷ [])
-may_gain_free floor l by_try v mutex m =
-    may_gain floor v l Excl by_try (word_of 0) mutex.lock refl (plainly ((config_in floor).kind l) mutex.kind) m.unheld
-    (inr m.wants_nothing)
-    (subst (λ r. FitsRound r l by_try) (sym m.looks.no_round) tt)
-    (λ k e. absurd (let z : None ≡ Some k = sym m.takes_nothing ∙ e in cc)) m.looks.runs m.looks.nothing_out
-    m.looks.going
+-- by the exchange of a try
+pub may_gain_free : (floor : Description) (l : ℕ) (v : Knowledge) → IsMutex floor l → MayGain floor l v
+    → MayMake floor v (λ s. s.word l ≡ word_of 0) (Gains v.thread l Excl true ∷ [])
+may_gain_free floor l v mutex m =
+    may_gain floor v l Excl true (word_of 0) mutex.lock refl (plainly ((config_in floor).kind l) mutex.kind) m.unheld
+    (inr m.wants_nothing) (subst (λ r. FitsRound r l true) (sym m.looks.no_round) refl)
+    (λ none. begins_call floor l v m)
+    (λ k e. absurd (let z : None ≡ Some k = sym m.looks.takes_nothing ∙ e in cc)) (λ e. absurd cc) m.looks.runs
+    m.looks.nothing_out m.looks.going
 
--- 2. Its entry
+-- 2. The entry of a try that gained
 
-module _ (floor : Description) (v : Knowledge) (l : LockNo) (by_try : Bool) (r : IsAtRest floor v)
-    (unheld : hold_in v.share.held l.0 ≡ NotHeld) (seen : List steps.Step) where
+-- a call that gained the mutex by a try and noted it
+pub record Tries (floor : Description) (l : LockNo) (old new : Knowledge) : Type 0 where
+  pub rest : IsAtRest floor new
+  pub entry : MakesEntry floor (Tried l Excl) (old.share.held ++ as_held l true ∷ []) old new
+  pub steps : MakesEach floor (tries old.thread l) old new
+
+module _ (floor : Description) (l : LockNo) (old v : Knowledge) (r : IsAtRest floor old) (m : MayAcquire floor l.0 old)
+    (view : v ≡ seeing v.seen (gained old (as_held l true))) where
   abbrev c : Config
   c = config_in floor
 
   abbrev h : Held
-  h = as_held l by_try
-
-  abbrev w : Knowledge
-  w = seeing seen (gained v h)
-
-  pushed : hold_in (v.share.held ++ h ∷ []) l.0 ≡ Holds Excl
-  pushed = hold_in-push v.share.held h l.0 unheld ∙ ap (λ b. cond b (Holds Excl) (hold_in v.share.held l.0)) (eq-eqb l.0 l.0 refl)
-
-  module _ (s : State) (f : Fits floor w s) where
-    begins : Begins c s v.thread l.0 (Holds Excl)
-    begins = record {
-      held = sym (ap (λ (x : ShareColumns). x.held l.0) f.share.columns) ∙ pushed;
-      closed = own_log floor w s f l.0 ∙ r.sections l.0 ∙ unheld;
-    }
-
-    last : IsGainedLast s v.thread l.0 by_try
-    last = record {
-      others = gained_order v.share.held;
-      last = sym (ap (λ (x : ShareColumns). x.held_locks) f.share.columns) ∙ gained_order-push v.share.held h;
-    }
-
-    asks : Asks c s v.thread (gain_event h) × HasOutForEntry floor.chains s v.thread (gain_event h)
-    asks = go by_try last
-      where
-        go : (b : Bool) → IsGainedLast s v.thread l.0 b → Asks c s v.thread (gain_event (as_held l b))
-            × HasOutForEntry floor.chains s v.thread (gain_event (as_held l b))
-        go true g = ((begins, g), tt)
-        go false g = ((begins, g), tt)
-
-  pub may_note_gain : MayMake floor w (λ s. Unit {0}) (Stamps v.thread (gain_event h) ∷ [])
-  may_note_gain =
-      may_stamp floor w (gain_event h) asks tt
-      (λ e. absurd (let z : false ≡ true = sym r.no_wait ∙ e in cc))
-      r.runs r.going r.takes_nothing
-
--- 3. Both
-
--- a call that gained the mutex, behind looks, and noted it
-pub record Acquires (floor : Description) (l : LockNo) (by_try : Bool) (n : ℕ) (old new : Knowledge) : Type 0 where
-  pub rest : IsAtRest floor new
-  pub entry : MakesEntry floor (gain_event (as_held l by_try)) (old.share.held ++ as_held l by_try ∷ []) old new
-  pub steps : MakesEach floor
-      (after_looks old.thread l.0 n (steps.Gains old.thread l.0 Excl by_try) ++
-      (Stamps old.thread (gain_event (as_held l by_try)) ∷ []) ∷ []) old new
-
-module _ (floor : Description) (l : LockNo) (by_try : Bool) (n : ℕ) (old v : Knowledge) (r : IsAtRest floor old)
-    (m : MayAcquire floor l.0 old) (g : LooksThenGains floor (as_held l by_try) n old v) where
-  abbrev hold : Held
-  hold = as_held l by_try
+  h = as_held l true
 
   abbrev e : Event
-  e = gain_event hold
+  e = Tried l Excl
 
-  -- what the thread knew before the gain
-  abbrev u : Knowledge
-  u = with_looks old g.looked.all g.looked.last g.looked.seen
+  abbrev w : Knowledge
+  w = seeing v.seen (gained old h)
 
-  knew : v ≡ seeing v.seen (gained u hold)
-  knew = g.view ∙ ap (λ k. seeing v.seen (gained k hold)) g.looked.knows
+  pushed : hold_in (old.share.held ++ h ∷ []) l.0 ≡ Holds Excl
+  pushed = hold_in-push old.share.held h l.0 m.unheld
+      ∙ ap (λ b. cond b (Holds Excl) (hold_in old.share.held l.0)) (eq-eqb l.0 l.0 refl)
 
-  rested : IsAtRest floor u
-  rested = looks_rest floor old g.looked.all g.looked.last g.looked.seen old.seen r
+  asks : (s : State) → Fits floor w s → Asks c s old.thread e × HasOutForEntry floor.chains s old.thread e
+  asks s f =
+      let begins : Begins c s old.thread l.0 (Holds Excl) = record {
+        held = sym (ap (λ (x : ShareColumns). x.held l.0) f.share.columns) ∙ pushed;
+        closed = own_log floor w s f l.0 ∙ r.sections l.0 ∙ m.unheld;
+      } in
+      let last : IsGainedLast s old.thread l.0 true = record {
+        others = gained_order old.share.held;
+        last = sym (ap (λ (x : ShareColumns). x.held_locks) f.share.columns) ∙ gained_order-push old.share.held h;
+      } in
+      ((begins, last), tt)
 
   pub may_note : MayMake floor v (λ s. Unit {0}) (Stamps v.thread e ∷ [])
-  may_note = subst (λ (k : Knowledge). MayMake floor k (λ s. Unit {0}) (Stamps k.thread e ∷ [])) (sym knew)
-      (may_note_gain floor u l by_try rested m.unheld v.seen)
+  may_note =
+      subst (λ (k : Knowledge). MayMake floor k (λ s. Unit {0}) (Stamps k.thread e ∷ [])) (sym view)
+      (may_stamp floor w e asks tt (λ q. absurd (let z : false ≡ true = sym r.no_wait ∙ q in cc)) r.runs r.going
+      r.takes_nothing)
 
   pub room_to_note : 1 ≤ v.spare
-  room_to_note = subst (λ (k : Knowledge). 1 ≤ k.spare) (sym knew) m.room
+  room_to_note = subst (λ (k : Knowledge). 1 ≤ k.spare) (sym view) m.room
 
-  pub acquired : (new : Knowledge) (ticket : ℕ)
+  pub tried : Makes floor (Gains old.thread l.0 Excl true ∷ []) old v → (new : Knowledge) (ticket : ℕ)
       → new ≡ seeing new.seen (stamped (config_in floor) v (entry_by v.thread ticket e))
-      → Makes floor (Stamps v.thread e ∷ []) v new → Acquires floor l by_try n old new
-  acquired new ticket view step =
-      let is : new ≡ seeing new.seen (stamped (config_in floor) (gained u hold) (entry_by old.thread ticket e)) =
-      view ∙ ap (λ (k : Knowledge). seeing new.seen (stamped (config_in floor) k (entry_by k.thread ticket e))) knew in
+      → Makes floor (Stamps v.thread e ∷ []) v new → Tries floor l old new
+  tried gain new ticket says step =
+      let is : new ≡ seeing new.seen (stamped (config_in floor) (gained old h) (entry_by old.thread ticket e)) =
+      says ∙ ap (λ (k : Knowledge). seeing new.seen (stamped (config_in floor) k (entry_by k.thread ticket e))) view in
       let noted : Makes floor (Stamps old.thread e ∷ []) v new =
-      subst (λ t. Makes floor (Stamps t e ∷ []) v new) (ap (λ (k : Knowledge). k.thread) knew) step in
-      let look : List steps.Step = Looks old.thread l.0 false ∷ [] in
-      let gain : List steps.Step = steps.Gains old.thread l.0 Excl by_try ∷ [] in
+      subst (λ t. Makes floor (Stamps t e ∷ []) v new) (ap (λ (k : Knowledge). k.thread) view) step in
       record {
         rest = subst (IsAtRest floor) (sym is)
-            (rest_seeing floor (stamped (config_in floor) (gained u hold) (entry_by old.thread ticket e)) new.seen
-            (rest_gained floor u hold ticket rested m.unheld));
+            (rest_seeing floor (stamped (config_in floor) (gained old h) (entry_by old.thread ticket e)) new.seen
+            (rest_gained floor old h ticket r m.unheld));
         entry = record {
           ticket = ticket;
           log = ap (λ (k : Knowledge). k.share.log) is;
@@ -172,22 +130,99 @@ module _ (floor : Description) (l : LockNo) (by_try : Bool) (n : ℕ) (old v : K
           thread = ap (λ (k : Knowledge). k.thread) is;
           before = v;
           behind = new;
-          of = ap (λ (k : Knowledge). k.thread) knew;
+          of = ap (λ (k : Knowledge). k.thread) view;
           step = noted;
-          log_before = ap (λ (k : Knowledge). k.share.log) knew;
+          log_before = ap (λ (k : Knowledge). k.share.log) view;
           log_behind = refl;
         };
-        steps = each_append floor (replicate n look ++ gain ∷ []) ((Stamps old.thread e ∷ []) ∷ []) old v new
-            (each_append floor (replicate n look) (gain ∷ []) old g.between v g.looked.steps (v, g.step, refl))
-            (new, noted, refl);
+        steps = (v, gain, (new, noted, refl));
+      }
+
+-- 3. The entry of a blocking call that gained
+
+-- a call that gained the mutex and noted it
+pub record LocksIt (floor : Description) (l : LockNo) (old new : Knowledge) : Type 0 where
+  pub rest : IsAtRest floor new
+  pub entry : MakesEntry floor (Locked l Excl) (old.share.held ++ as_held l false ∷ []) old new
+  pub steps : Locks floor l old new
+
+module _ (floor : Description) (l : LockNo) (old v : Knowledge) (k : IsCalling floor (kept_of old))
+    (m : MayAcquire floor l.0 old) (g : HasGained floor l old v) where
+  abbrev hold : Held
+  hold = as_held l false
+
+  abbrev locked : Event
+  locked = Locked l Excl
+
+  -- what the thread knew before the gain
+  abbrev u : Knowledge
+  u = g.before
+
+  calling : floor_calling.IsCalling floor u
+  calling =
+      let there : IsCalling floor (kept_of u) = subst (IsCalling floor) (sym g.kept) k in
+      record {
+        runs = g.gaining.runs;
+        nothing_out = g.gaining.nothing_out;
+        no_walk = g.gaining.no_walk;
+        unmarked = there.unmarked;
+        uncounted = there.uncounted;
+        unnoted = there.unnoted;
+        going = there.going;
+        no_wait = there.no_wait;
+        sections = there.sections;
+        begun = there.begun;
+      }
+
+  its_thread : v.thread ≡ old.thread
+  its_thread = ap (λ (x : Knowledge). x.thread) g.view ∙ ap (λ (x : Kept). x.thread) g.kept
+
+  pub may_note_lock : MayMake floor v (λ s. Unit {0}) (Stamps v.thread locked ∷ [])
+  may_note_lock =
+      subst (λ (x : Knowledge). MayMake floor x (λ s. Unit {0}) (Stamps x.thread locked ∷ [])) (sym g.view)
+      (may_note_locked floor u l Excl calling g.gaining.takes g.gaining.unheld v.seen)
+
+  pub room_to_note_lock : 1 ≤ v.spare
+  room_to_note_lock =
+      omega (arith, m.room, ap (λ (x : Knowledge). x.spare) g.view, ap (λ (x : Kept). x.spare) g.kept)
+
+  pub acquired : (new : Knowledge) (ticket : ℕ)
+      → new ≡ seeing new.seen (stamped (config_in floor) v (entry_by v.thread ticket locked))
+      → Makes floor (Stamps v.thread locked ∷ []) v new → LocksIt floor l old new
+  acquired new ticket says step =
+      let is : new ≡ seeing new.seen (stamped (config_in floor) (gained u hold) (entry_by u.thread ticket locked)) =
+      says ∙ ap (λ (x : Knowledge). seeing new.seen (stamped (config_in floor) x (entry_by x.thread ticket locked)))
+      g.view in
+      let noted : Makes floor (Stamps old.thread locked ∷ []) v new =
+      subst (λ t. Makes floor (Stamps t locked ∷ []) v new) its_thread step in
+      record {
+        rest = subst (IsAtRest floor) (sym is)
+            (rest_seeing floor (stamped (config_in floor) (gained u hold) (entry_by u.thread ticket locked)) new.seen
+            (rest_locked floor u l Excl calling g.gaining.takes g.gaining.unheld ticket));
+        entry = record {
+          ticket = ticket;
+          log = ap (λ (x : Knowledge). x.share.log) is
+              ∙ ap (λ (x : Kept). entry_by x.thread ticket locked ∷ x.log) g.kept;
+          held = ap (λ (x : Knowledge). x.share.held) is ∙ ap (λ (x : Kept). x.held ++ hold ∷ []) g.kept;
+          spare = ap (λ (x : Knowledge). x.spare + 1) is
+              ∙ omega (arith, m.room, ap (λ (x : Kept). x.spare) g.kept);
+          thread = ap (λ (x : Knowledge). x.thread) is ∙ ap (λ (x : Kept). x.thread) g.kept;
+          before = v;
+          behind = new;
+          of = its_thread;
+          step = noted;
+          log_before = ap (λ (x : Knowledge). x.share.log) g.view ∙ ap (λ (x : Kept). x.log) g.kept;
+          log_behind = refl;
+        };
+        steps = record { gained = v; gains = g.steps; notes = noted };
       }
 
 -- 4. A mutex that is found busy
 
-abbrev look_at : ℕ → Word → Look
+abbrev pub look_at : ℕ → Word → Look
 look_at l word = record { lock = l; word = word }
 
-word_seen : (l : ℕ) (a b : Word) → Some (look_at l a) ≡ Some (look_at l b) → b ≡ a
+pub word_seen : (l : ℕ) (a b : Word) → Some (look_at l a) ≡ Some (look_at l b) → b ≡ a
 word_seen l a b same = ap seen (sym same)
   where
     seen : Option Look → Word
@@ -218,17 +253,8 @@ module _ (floor : Description) (l : LockNo) (seen : ℕ) (old v : Knowledge) (r 
   abbrev note : Event
   note = Busy l seen
 
-  abbrev look : Look
-  look = record { lock = l.0; word = word_of seen }
-
   abbrev q : Knowledge
-  q = seeing v.seen (with_looks old (suc old.share.doing.looks_in_all) (Some look) (Some look))
-
-  saw : v ≡ q
-  saw = view ∙ ap (seeing v.seen) (look_knows floor old l.0 r.no_round (word_of seen))
-
-  resting : IsAtRest floor q
-  resting = looks_rest floor old (suc old.share.doing.looks_in_all) (Some look) (Some look) v.seen r
+  q = seeing v.seen (looked old l.0 (word_of seen))
 
   asks_busy : (s : State) → Fits floor q s → Asks bc s old.thread note × HasOutForEntry floor.chains s old.thread note
   asks_busy s f = (
@@ -246,34 +272,37 @@ module _ (floor : Description) (l : LockNo) (seen : ℕ) (old v : Knowledge) (r 
 
   pub may_note_busy : MayMake floor v (λ s. Unit {0}) (Stamps v.thread note ∷ [])
   may_note_busy =
-      subst (λ (k : Knowledge). MayMake floor k (λ s. Unit {0}) (Stamps k.thread note ∷ [])) (sym saw)
+      subst (λ (k : Knowledge). MayMake floor k (λ s. Unit {0}) (Stamps k.thread note ∷ [])) (sym view)
       (may_stamp floor q note asks_busy (subst (λ o. NotesInRound o note) (sym r.no_round) tt)
       (λ e. absurd (let z : false ≡ true = sym r.no_wait ∙ e in cc))
-      r.runs r.going r.takes_nothing)
+      r.runs (record { awake = r.going.awake; unended = r.going.unended; stamped = r.going.stamped }) r.takes_nothing)
 
   pub room_for_busy : 1 ≤ v.spare
-  room_for_busy = subst (λ (k : Knowledge). 1 ≤ k.spare) (sym saw) m.room
+  room_for_busy = subst (λ (k : Knowledge). 1 ≤ k.spare) (sym view) m.room
 
   pub found_busy : IsWellFormed (word_of seen) → Makes floor (Looks old.thread l.0 (counts old l.0) ∷ []) old v
       → (new : Knowledge) (ticket : ℕ)
       → new ≡ seeing new.seen (stamped (config_in floor) v (entry_by v.thread ticket note))
       → Makes floor (Stamps v.thread note ∷ []) v new → FindsBusy floor l seen old new
   found_busy formed looks new ticket says step =
-      let is : new ≡ seeing new.seen (stamped (config_in floor) q (entry_by old.thread ticket note)) = says
-      ∙ ap (λ (k : Knowledge). seeing new.seen (stamped (config_in floor) k (entry_by k.thread ticket note))) saw in
+      let x : Knowledge = looked old l.0 (word_of seen) in
+      let is : new ≡ seeing new.seen (stamped (config_in floor) x (entry_by old.thread ticket note)) = says
+      ∙ ap (λ (k : Knowledge). seeing new.seen (stamped (config_in floor) k (entry_by k.thread ticket note))) view
+      in
       let noted : Makes floor (Stamps old.thread note ∷ []) v new =
-      subst (λ t. Makes floor (Stamps t note ∷ []) v new) (ap (λ (k : Knowledge). k.thread) saw) step in
+      subst (λ t. Makes floor (Stamps t note ∷ []) v new) (ap (λ (k : Knowledge). k.thread) view) step in
       let uncounted_look : Makes floor (Looks old.thread l.0 false ∷ []) old v =
       subst (λ b. Makes floor (Looks old.thread l.0 b ∷ []) old v) (uncounted floor old l.0 r.no_round) looks in
       let more : suc old.share.doing.looks_in_all ≡ new.share.doing.looks_in_all = sym (ap (λ (k : Knowledge). k.share.doing.looks_in_all) is) in
       record {
         rest = subst (IsAtRest floor) (sym is)
-            (rest_seeing floor (stamped (config_in floor) q (entry_by old.thread ticket note)) new.seen
-            (rest_stamped floor q ticket note refl resting));
+            (rest_seeing floor (stamped (config_in floor) x (entry_by old.thread ticket note)) new.seen
+            (rest_noted floor x ticket note refl (idle_looked floor old l.0 (word_of seen) (idle floor old r))
+            r.sections r.begun));
         busy = record {
           between = v;
           look = uncounted_look;
-          saw = ap (λ (k : Knowledge). k.share.doing.last_look) saw;
+          saw = ap (λ (k : Knowledge). k.share.doing.last_look) view;
           note = noted;
           well_formed = formed;
           held = held;
@@ -288,9 +317,9 @@ module _ (floor : Description) (l : LockNo) (seen : ℕ) (old v : Knowledge) (r 
           thread = ap (λ (k : Knowledge). k.thread) is;
           before = v;
           behind = new;
-          of = ap (λ (k : Knowledge). k.thread) saw;
+          of = ap (λ (k : Knowledge). k.thread) view;
           step = noted;
-          log_before = ap (λ (k : Knowledge). k.share.log) saw;
+          log_before = ap (λ (k : Knowledge). k.share.log) view;
           log_behind = refl;
         };
       }

@@ -14,10 +14,12 @@ ready_first f t = record {
     nothing_out = refl;
     no_walk = refl;
     unmarked = refl;
+    uncounted = refl;
     wants_nothing = refl;
     takes_nothing = refl;
     no_round = refl;
     no_looks = refl;
+    no_last_look = refl;
     unnoted = refl;
     going = record { awake = refl; unended = refl; stamped = refl };
     no_wait = refl;

@@ -1,5 +1,11 @@
 pub mod Looks
 pub mod Words
 pub mod Acquired
+pub mod Attempts
 pub mod Released
+pub mod Both
+pub mod Given
+pub mod Owned
+pub mod There
+pub mod Blocked
 pub mod First

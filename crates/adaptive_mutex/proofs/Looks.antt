@@ -1,6 +1,9 @@
--- Looks at a lock outside acquiring rounds: they may always be made, and change only what the thread saw last.
+-- Looks at a lock outside acquiring rounds, which change only what the thread saw last: those of a release, and the
+-- first exchange of a call, which missed.
 use Rattle.std.proofs.Common.{◌≡◌, ℕ, suc, ◌+◌, ◌<◌, false, true, not, ◌&&◌, cond, Option, Some, None, List, [], ◌∷◌, ◌++◌, length, replicate, refl, sym, ap, ◌∙◌, subst}
 use Rattle.std.proofs.lemmas.List.{replicate-append-replicate}
+use Rattle.lock_model.specs.Holds.{NotHeld}
+use Rattle.lock_model.specs.Operations.{hold_in}
 use Rattle.lock_model.specs.Words.{Word}
 use Rattle.lock_state.specs.State.{Look}
 use Rattle.lock_state.specs.Steps.{Step, Looks, chain_of, seeks}
@@ -10,7 +13,7 @@ use Rattle.floor_table.specs.Steps.{Makes, MakesEach, MayMake}
 use Rattle.floor_table.specs.Views.{Knowledge, seeing}
 use Rattle.lock_floor.specs.Passes.{IsAtRest}
 use Rattle.lock_floor.specs.Views.{has_item, counts, looked}
-use Rattle.lock_floor.proofs.May.{may_look}
+use Rattle.lock_floor.proofs.May.{BeginsCall, may_look}
 use Rattle.adaptive_mutex.specs.Waiting.{CanLook, with_looks, HasLooked}
 
 -- 1. Steps one behind the other
@@ -20,13 +23,14 @@ pub each_append : (floor : Description) (xs ys : List (List Step)) (u v w : Know
 each_append floor [] ys u v w e m = subst (λ x. MakesEach floor ys x w) (sym e) m
 each_append floor (x ∷ xs) ys u v w m k = (m.0, m.1, each_append floor xs ys m.0 v w m.2 k)
 
--- 2. One look
+-- 2. One look, which doesn't count
 
-module _ (floor : Description) (v : Knowledge) (l : ℕ) (no_round : v.share.doing.round ≡ None) where
-  pub uncounted : counts v l ≡ false
-  uncounted = ap (λ r. seeks l r && not (has_item v (chain_of v.description.chains (config_in v.description) l)))
-      no_round
+-- outside rounds none does
+pub uncounted : (floor : Description) (v : Knowledge) (l : ℕ) → v.share.doing.round ≡ None → counts v l ≡ false
+uncounted floor v l no_round =
+    ap (λ r. seeks l r && not (has_item v (chain_of v.description.chains (config_in v.description) l))) no_round
 
+module _ (floor : Description) (v : Knowledge) (l : ℕ) (quiet : counts v l ≡ false) where
   pub look_knows : (word : Word) → looked v l word ≡ with_looks v (suc v.share.doing.looks_in_all) (Some (record { lock = l; word = word })) (Some (record { lock = l; word = word }))
   look_knows word =
       let look : Look = record { lock = l; word = word } in
@@ -39,7 +43,7 @@ module _ (floor : Description) (v : Knowledge) (l : ℕ) (no_round : v.share.doi
             seen_in_section = Some look;
           };
         };
-      }) uncounted
+      }) quiet
 
   pub look_once : (word : Word) (new : Knowledge) → new ≡ seeing new.seen (looked v l word)
       → Makes floor (Looks v.thread l (counts v l) ∷ []) v new → HasLooked floor l 1 v new
@@ -48,15 +52,17 @@ module _ (floor : Description) (v : Knowledge) (l : ℕ) (no_round : v.share.doi
     last = Some (record { lock = l; word = word });
     seen = Some (record { lock = l; word = word });
     knows = is ∙ ap (seeing new.seen) (look_knows word);
-    steps = (new, subst (λ b. Makes floor (Looks v.thread l b ∷ []) v new) uncounted m, refl);
+    steps = (new, subst (λ b. Makes floor (Looks v.thread l b ∷ []) v new) quiet m, refl);
   }
 
+-- at a lock that it holds, or by the first exchange of a call
 pub may_look_on : (floor : Description) (v : Knowledge) (l : ℕ) → v.description ≡ floor → l < length floor.locks
-    → CanLook v → MayMake floor v (λ s. Unit {0}) (Looks v.thread l (counts v l) ∷ [])
-may_look_on floor v l mine low k =
+    → CanLook v → (hold_in v.share.held l ≡ NotHeld → BeginsCall v)
+    → MayMake floor v (λ s. Unit {0}) (Looks v.thread l (counts v l) ∷ [])
+may_look_on floor v l mine low k first =
     may_look floor v l mine low k.runs k.nothing_out k.going
     (λ e. absurd (let z : false ≡ true = sym (uncounted floor v l k.no_round) ∙ e in cc))
-    (λ ne. absurd (ne k.no_round))
+    (λ ne. absurd (ne k.no_round)) (λ none. k.takes_nothing) (λ none. first)
 
 -- 3. Several
 
@@ -93,43 +99,33 @@ still_no_round floor l n u v no_round x = ap (λ (k : Knowledge). k.share.doing.
 pub looks_still : (v : Knowledge) (all : ℕ) (last seen : Option Look) (steps : List Step) → CanLook v
     → CanLook (seeing steps (with_looks v all last seen))
 looks_still v all last seen steps k =
-    record { runs = k.runs; nothing_out = k.nothing_out; no_round = k.no_round; going = k.going }
+    record {
+      runs = k.runs;
+      nothing_out = k.nothing_out;
+      takes_nothing = k.takes_nothing;
+      no_round = k.no_round;
+      going = k.going;
+    }
 
 pub can_look_on : (floor : Description) (l n : ℕ) (u v : Knowledge) → CanLook u → HasLooked floor l n u v → CanLook v
 can_look_on floor l n u v k x = subst CanLook (sym x.knows) (looks_still u x.all x.last x.seen v.seen k)
 
-pub look_again : (floor : Description) (l : ℕ) (u v w : Knowledge) (word : Word) → u.share.doing.round ≡ None → (n : ℕ)
+pub look_again : (floor : Description) (l : ℕ) (u v w : Knowledge) (word : Word) → counts v l ≡ false → (n : ℕ)
     × HasLooked floor l n u v → w ≡ seeing w.seen (looked v l word)
     → Makes floor (Looks v.thread l (counts v l) ∷ []) v w → (n : ℕ) × HasLooked floor l n u w
-look_again floor l u v w word no_round x view step = (
+look_again floor l u v w word quiet x view step = (
   x.0 + 1,
-  look_more floor l x.0 1 u v w x.1
-      (look_once floor v l (still_no_round floor l x.0 u v no_round x.1) word w view step),
+  look_more floor l x.0 1 u v w x.1 (look_once floor v l quiet word w view step),
 )
 
-pub look_on : (floor : Description) (l : ℕ) (u v w : Knowledge) → (n : ℕ) × HasLooked floor l n u v → (n : ℕ)
-    × HasLooked floor l n v w → (n : ℕ) × HasLooked floor l n u w
-look_on floor l u v w x y = (x.0 + y.0, look_more floor l x.0 y.0 u v w x.1 y.1)
-
--- 4. A thread at rest can look, and stays at rest, whatever steps its seat has seen
+-- 4. A thread at rest can look
 
 pub rest_looks : (floor : Description) (v : Knowledge) → IsAtRest floor v → CanLook v
-rest_looks floor v r = record { runs = r.runs; nothing_out = r.nothing_out; no_round = r.no_round; going = r.going }
-
-pub looks_rest : (floor : Description) (v : Knowledge) (all : ℕ) (last seen : Option Look) (steps : List Step)
-    → IsAtRest floor v → IsAtRest floor (seeing steps (with_looks v all last seen))
-looks_rest floor v all last seen steps r = record {
-  runs = r.runs;
-  nothing_out = r.nothing_out;
-  no_walk = r.no_walk;
-  unmarked = r.unmarked;
-  wants_nothing = r.wants_nothing;
-  takes_nothing = r.takes_nothing;
-  no_round = r.no_round;
-  no_looks = r.no_looks;
-  unnoted = r.unnoted;
-  going = r.going;
-  no_wait = r.no_wait;
-  sections = r.sections;
-  begun = r.begun;
-}
+rest_looks floor v r =
+    record {
+      runs = r.runs;
+      nothing_out = r.nothing_out;
+      takes_nothing = r.takes_nothing;
+      no_round = r.no_round;
+      going = r.going;
+    }

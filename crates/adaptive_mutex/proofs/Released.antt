@@ -1,5 +1,5 @@
 -- A release is noted, and then the mutex is put down: each step may be made, and the thread is at rest again.
-use Rattle.std.proofs.Common.{◌≡◌, ℕ, ◌+◌, ◌<◌, ◌≤◌, true, false, Option, List, [], ◌∷◌, ◌++◌, length, replicate, refl, sym, ap, ◌∙◌, subst, arith}
+use Rattle.std.proofs.Common.{◌≡◌, ℕ, ◌+◌, ◌<◌, ◌≤◌, true, false, Option, [], ◌∷◌, length, refl, sym, ap, ◌∙◌, subst, arith}
 use Rattle.lock_model.specs.Holds.{NotHeld, Holds}
 use Rattle.lock_model.specs.Operations.{hold_in, without_lock}
 use Rattle.lock_model.specs.Words.{Word, word_of, gained, is_drop}
@@ -8,20 +8,20 @@ use Rattle.lock_model.specs.declared.event.Event.TheVariants.{Unlocked}
 use Rattle.lock_model.specs.declared.numbers.LockNo.{LockNo}
 use Rattle.lock_model.specs.declared.plan.Mode.TheVariants.{Excl}
 use Rattle.lock_state.specs.State.{State, Look}
-use Rattle.lock_state.specs.Steps.{Step, Looks, Drops, Stamps, HasOutForEntry, NotesInRound}
+use Rattle.lock_state.specs.Steps.{Looks, Drops, Stamps, HasOutForEntry, NotesInRound}
 use Rattle.lock_state.specs.Steps.LockWords.{Asks}
 use Rattle.floor_table.specs.Descriptions.{config_in}
 use Rattle.floor_table.specs.declared.description.Description.{Description}
 use Rattle.floor_table.specs.Steps.{Fits, Makes, MakesEach, MayMake}
 use Rattle.floor_table.specs.Views.{Knowledge, seeing}
 use Rattle.lock_floor.specs.Passes.{IsAtRest, MakesEntry}
-use Rattle.lock_floor.specs.Views.{entry_by, stamped, put_down}
+use Rattle.lock_floor.specs.Views.{counts, entry_by, stamped, put_down}
 use Rattle.lock_floor.proofs.May.{own_log, may_drop, may_stamp}
 use Rattle.lock_floor.proofs.Resting.{IsLeaving, leaves, rest_left}
 use Rattle.lock_words.specs.Views.{IsHeldIn}
-use Rattle.adaptive_mutex.specs.Mutexes.{MayRelease, unlocks}
-use Rattle.adaptive_mutex.specs.Waiting.{with_looks, HasLooked, MayPutDown, LooksThenPutsDown}
-use Rattle.adaptive_mutex.proofs.Looks.{each_append, looks_still}
+use Rattle.adaptive_mutex.specs.Mutexes.{MayRelease, Release, releases_by, unlocks}
+use Rattle.adaptive_mutex.specs.Waiting.{with_looks, HasLooked, MayPutDown, PutsDown}
+use Rattle.adaptive_mutex.proofs.Looks.{may_look_on, looks_still}
 
 -- 1. The entry
 
@@ -47,7 +47,16 @@ module _ (floor : Description) (v : Knowledge) (l : LockNo) (r : IsAtRest floor 
         held = held;
         closed = x.closed;
         begun = r.begun l.0 (λ q. absurd (let z : Holds Excl ≡ NotHeld = sym held ∙ q in cc));
-        looks = record { runs = r.runs; nothing_out = r.nothing_out; no_round = r.no_round; going = r.going };
+        unmarked = r.unmarked;
+        uncounted = r.uncounted;
+        no_wait = refl;
+        looks = record {
+          runs = r.runs;
+          nothing_out = r.nothing_out;
+          takes_nothing = r.takes_nothing;
+          no_round = r.no_round;
+          going = r.going;
+        };
       }
 
 -- the thread's number is one of the floor's, which are few
@@ -65,8 +74,17 @@ may_put_on floor l n u v m x = subst (MayPutDown floor l) (sym x.knows) record {
   held = m.held;
   closed = m.closed;
   begun = m.begun;
+  unmarked = m.unmarked;
+  uncounted = m.uncounted;
+  no_wait = m.no_wait;
   looks = looks_still u x.all x.last x.seen v.seen m.looks;
 }
+
+-- where its exchange misses, that is a look at a lock that the thread holds
+pub may_look_held : (floor : Description) (v : Knowledge) (l : ℕ) → v.description ≡ floor → l < length floor.locks
+    → MayPutDown floor l v → MayMake floor v (λ s. Unit {0}) (Looks v.thread l (counts v l) ∷ [])
+may_look_held floor v l mine low m =
+    may_look_on floor v l mine low m.looks (λ u. absurd (let z : Holds Excl ≡ NotHeld = sym m.held ∙ u in cc))
 
 -- the word of a mutex that the thread holds
 pub own_drops : (own t : ℕ) → word_of own ≡ gained (word_of 0) t Excl → is_drop (word_of own) ≡ true
@@ -84,12 +102,13 @@ may_drop_own floor l own t v low is m =
 -- 3. Both
 
 -- a call that noted the release and put the mutex down
-pub record Releases (floor : Description) (l : LockNo) (n : ℕ) (old new : Knowledge) : Type 0 where
+pub record Releases (floor : Description) (l : LockNo) (old new : Knowledge) : Type 0 where
   pub rest : IsAtRest floor new
   pub entry : MakesEntry floor (Unlocked l Excl) (without_lock l.0 old.share.held) old new
-  pub steps : MakesEach floor (unlocks old.thread l n) old new
+  pub how : Release
+  pub steps : MakesEach floor (unlocks floor old.thread l how) old new
 
-module _ (floor : Description) (l : LockNo) (n ticket : ℕ) (old v new : Knowledge) (r : IsAtRest floor old)
+module _ (floor : Description) (l : LockNo) (ticket : ℕ) (old v new : Knowledge) (r : IsAtRest floor old)
     (m : MayRelease floor l.0 old) where
   abbrev e : Event
   e = Unlocked l Excl
@@ -97,9 +116,8 @@ module _ (floor : Description) (l : LockNo) (n ticket : ℕ) (old v new : Knowle
   abbrev noted : Knowledge
   noted = stamped (config_in floor) old (entry_by old.thread ticket e)
 
-  leaves_on : (all : ℕ) (last seen : Option Look) (steps : List Step)
-      → IsLeaving floor l.0 Excl (seeing steps (with_looks noted all last seen))
-  leaves_on all last seen steps =
+  leaves_on : (all : ℕ) (last seen : Option Look) → IsLeaving floor l.0 Excl (with_looks noted all last seen)
+  leaves_on all last seen =
       let x = leaves floor old l Excl ticket r m.held in
       record {
         about = record {
@@ -107,6 +125,7 @@ module _ (floor : Description) (l : LockNo) (n ticket : ℕ) (old v new : Knowle
           nothing_out = x.about.nothing_out;
           no_walk = x.about.no_walk;
           unmarked = x.about.unmarked;
+          uncounted = x.about.uncounted;
           wants_nothing = x.about.wants_nothing;
           takes_nothing = x.about.takes_nothing;
           no_round = x.about.no_round;
@@ -122,21 +141,17 @@ module _ (floor : Description) (l : LockNo) (n ticket : ℕ) (old v new : Knowle
       }
 
   pub released : v ≡ seeing v.seen noted → Makes floor (Stamps old.thread e ∷ []) old v
-      → LooksThenPutsDown floor l.0 n v new → Releases floor l n old new
+      → PutsDown floor l.0 v new → Releases floor l old new
   released says step d =
-      let look = λ (t : ℕ). Looks t l.0 false ∷ [] in
-      let drop = λ (t : ℕ). Drops t l.0 Excl ∷ [] in
-      let left : Knowledge = seeing d.between.seen (with_looks noted d.looked.all d.looked.last d.looked.seen) in
-      let between : d.between ≡ left = d.looked.knows ∙ ap (λ k. seeing d.between.seen (with_looks k d.looked.all d.looked.last d.looked.seen)) says in
-      let is : new ≡ seeing new.seen (put_down left l.0) = d.view ∙ ap (λ k. seeing new.seen (put_down k l.0)) between in
+      let left : Knowledge = with_looks noted d.all d.last d.seen in
+      let is : new ≡ seeing new.seen (put_down left l.0) =
+      d.view ∙ ap (λ k. seeing new.seen (put_down (with_looks k d.all d.last d.seen) l.0)) says in
       let its : v.thread ≡ old.thread = ap (λ (k : Knowledge). k.thread) says in
-      let drops : Makes floor (drop old.thread) left (seeing new.seen (put_down left l.0)) =
-      subst (λ (z : Knowledge × Knowledge × ℕ). Makes floor (drop z.2) z.0 z.1)
-      (λ i. (between i, is i, its i)) d.step in
       record {
         rest = subst (IsAtRest floor) (sym is)
-            (rest_left floor l.0 Excl left (leaves_on d.looked.all d.looked.last d.looked.seen d.between.seen) new.seen
-            drops);
+            (rest_left floor l.0 Excl left (leaves_on d.all d.last d.seen) new.seen
+            (subst (λ hs. hold_in (without_lock l.0 hs) l.0 ≡ NotHeld) (ap (λ (k : Knowledge). k.share.held) says)
+            d.unheld));
         entry = record {
           ticket = ticket;
           log = ap (λ (k : Knowledge). k.share.log) is;
@@ -150,11 +165,6 @@ module _ (floor : Description) (l : LockNo) (n ticket : ℕ) (old v new : Knowle
           log_before = refl;
           log_behind = ap (λ (k : Knowledge). k.share.log) says ∙ sym (ap (λ (k : Knowledge). k.share.log) is);
         };
-        steps = (
-          v,
-          step,
-          subst (λ t. MakesEach floor (replicate n (look t) ++ drop t ∷ []) v new) its
-              (each_append floor (replicate n (look v.thread)) (drop v.thread ∷ []) v d.between new d.looked.steps
-              (new, d.step, refl)),
-        );
+        how = d.how;
+        steps = (v, step, subst (λ t. MakesEach floor (releases_by floor t l.0 d.how) v new) its d.steps);
       }

@@ -1,32 +1,33 @@
 //! The calls of mutexes.
-ghost use Rattle.std.specs.Prelude.{ℕ, ◌≡◌, ◌<◌, ◌≤◌, ◌++◌, [], ◌∷◌, true, false, length, IsOk, IfOk, IfErr};
+ghost use Rattle.std.specs.Prelude.{◌≡◌, ◌++◌, [], ◌∷◌, true, false, IsOk, IfOk, IfErr};
 ghost use Rattle.lock_model.specs.Operations.{without_lock};
 ghost use Rattle.lock_model.specs.declared.event.Event.TheVariants as event;
 ghost use Rattle.lock_model.specs.declared.plan.Mode.TheVariants.{Excl};
 ghost use Rattle.floor_table.specs.Steps.{MakesEach};
 ghost use Rattle.lock_floor.specs.Passes.{IsOf, IsReady, MakesEntry};
-ghost use Rattle.adaptive_mutex.specs.Mutexes.{IsMutex, MayAcquire, MayRelease, as_held, locks, tries, unlocks, WasBusy};
-ghost use Rattle.adaptive_mutex.specs.Waiting.{CanLook, HasLooked, MayGain, LooksThenGains, MayPutDown, LooksThenPutsDown};
+ghost use Rattle.adaptive_mutex.specs.Mutexes.{IsMutex, MayAcquire, MayRelease, Locks, Release, as_held, tries, unlocks, WasBusy};
+ghost use Rattle.adaptive_mutex.specs.Waiting.{kept_of, IsCalling, MayGain, HasGained};
 
-use crossbeam_utils::Backoff;
+use crate::blocking::block;
+use crate::releasing::put_down;
+use crate::spinning::{FREE, begin, spin};
 use lock_floor::{Floor, Pass};
 use lock_model::{Busy, Event, Held, LockNo, Mode, Reversal};
 use std::sync::Wait;
 
-// The word of a free mutex.
-const FREE: u64 = 0;
-
-/// Takes a mutex. Where it is held, the thread looks at it until it is free. No order of locks is checked yet, so the
-/// mutex is never refused.
+/// Takes a mutex. It makes one exchange, outside an acquiring round where the thread holds nothing, and then looks and
+/// tries in a round, at most 100 times in all, and only while the mutex's owner isn't queued. Then it takes the lock's
+/// chain, and gains the mutex there, or stands on its turnstile, sleeps until it is woken, and begins another round.
+/// The floor has one chain of turnstiles. No order of locks is checked yet, so the mutex is never refused.
 pub fn lock<R: Wait>(floor: &Floor, rt: &R, pass: &mut Pass, l: LockNo) -> Result<(), Reversal>
     requires ready { IsReady floor.now pass.old }
     requires may { MayAcquire floor.now.description l.0 pass.old.view }
+    requires one_chain { floor.now.description.chains ≡ 1 }
     ensures never_refused { IsOk result }
     ensures ready { IsReady floor.now pass.new }
     ensures entry { MakesEntry floor.now.description (event.Locked l Excl)
         (pass.old.view.share.held ++ as_held l false ∷ []) pass.old.view pass.new.view }
-    ensures steps { (n : ℕ) × MakesEach floor.now.description (locks pass.old.view.thread l n)
-        pass.old.view pass.new.view }
+    ensures steps { Locks floor.now.description l pass.old.view pass.new.view }
 {
     gain(floor, rt, pass, l);
     floor.stamp(
@@ -77,15 +78,15 @@ pub fn try_lock(floor: &Floor, pass: &mut Pass, l: LockNo) -> Result<(), Busy>
     }
 }
 
-/// Releases a mutex.
+/// Releases a mutex, and wakes those who wait for it.
 pub fn unlock<R: Wait>(floor: &Floor, rt: &R, pass: &mut Pass, l: LockNo)
     requires ready { IsReady floor.now pass.old }
     requires may { MayRelease floor.now.description l.0 pass.old.view }
     ensures ready { IsReady floor.now pass.new }
     ensures entry { MakesEntry floor.now.description (event.Unlocked l Excl)
         (without_lock l.0 pass.old.view.share.held) pass.old.view pass.new.view }
-    ensures steps { (n : ℕ) × MakesEach floor.now.description (unlocks pass.old.view.thread l n)
-        pass.old.view pass.new.view }
+    ensures steps { (how : Release) × MakesEach floor.now.description
+        (unlocks floor.now.description pass.old.view.thread l how) pass.old.view pass.new.view }
 {
     floor.stamp(
         pass,
@@ -97,64 +98,25 @@ pub fn unlock<R: Wait>(floor: &Floor, rt: &R, pass: &mut Pass, l: LockNo)
     put_down(floor, rt, pass, l);
 }
 
-// Gains a mutex: an exchange from the free word that misses is a look, and then the thread looks until it sees that
-// word.
+// Gains a mutex: by one exchange, in a round, or in the section of the lock's chain, maybe behind sleeps.
 fn gain<R: Wait>(floor: &Floor, rt: &R, pass: &mut Pass, l: LockNo)
     requires own { IsOf floor.now pass.old }
     requires mutex { IsMutex floor.now.description l.0 }
+    requires one_chain { floor.now.description.chains ≡ 1 }
     requires may { MayGain floor.now.description l.0 pass.old.view }
+    requires calling { IsCalling floor.now.description (kept_of pass.old.view) }
     ensures own { IsOf floor.now pass.new }
-    ensures gained { (n : ℕ)
-        × LooksThenGains floor.now.description (as_held l false) n pass.old.view pass.new.view }
+    ensures gained { HasGained floor.now.description l pass.old.view pass.new.view }
 {
-    let hold = Held {
-        l,
-        mode: Mode::Excl,
-        by_try: false,
-    };
-    let backoff = Backoff::new();
-    for _ in rt.forever() {
-        match floor.gain(pass, hold, FREE) {
-            Ok(()) => return,
-            Err(_) => watch(floor, rt, pass, l, &backoff),
-        }
+    if begin(floor, pass, l) {
+        return;
     }
-    unreachable!()
-}
-
-// Looks at a lock until its word is free.
-fn watch<R: Wait>(floor: &Floor, rt: &R, pass: &mut Pass, l: LockNo, backoff: &Backoff)
-    requires own { IsOf floor.now pass.old }
-    requires lock { l.0 < length floor.now.description.locks }
-    requires looks { CanLook pass.old.view }
-    ensures own { IsOf floor.now pass.new }
-    ensures looked { (n : ℕ) × HasLooked floor.now.description l.0 n pass.old.view pass.new.view }
-{
     for _ in rt.forever() {
-        backoff.spin();
-        if floor.look(pass, l) == FREE {
+        if spin(floor, pass, l) {
             return;
         }
-    }
-    unreachable!()
-}
-
-// Puts a mutex down, whose word is that of its holder.
-fn put_down<R: Wait>(floor: &Floor, rt: &R, pass: &mut Pass, l: LockNo)
-    requires own { IsOf floor.now pass.old }
-    requires mutex { IsMutex floor.now.description l.0 }
-    requires thread { pass.old.view.thread ≤ 63 }
-    requires may { MayPutDown floor.now.description l.0 pass.old.view }
-    ensures own { IsOf floor.now pass.new }
-    ensures dropped { (n : ℕ)
-        × LooksThenPutsDown floor.now.description l.0 n pass.old.view pass.new.view }
-{
-    let own = lock_words::gained(FREE, pass.thread(), Mode::Excl);
-    let backoff = Backoff::new();
-    for _ in rt.forever() {
-        match floor.put_down(pass, l, Mode::Excl, own) {
-            Ok(()) => return,
-            Err(_) => backoff.spin(),
+        if block(floor, rt, pass, l) {
+            return;
         }
     }
     unreachable!()

@@ -331,6 +331,8 @@ halting_may =
                                             (home (put (put there 1 (Some 1)) 1 None)
                                             (home there back 1 (Some 1)) 0 (Some 0))
                                             i 0 e);
+                                        outside_takes = λ e. absurd cc;
+                                        outside_first = λ e. absurd cc;
                                         halting = λ e. absurd cc;
                                       };
                                     },
@@ -355,7 +357,9 @@ halting_may =
                                               fits = (refl, refl);
                                               in_round = λ e i. absurd cc;
                                               saw = λ w i e. absurd cc;
+                                              outside_first = λ e. absurd cc;
                                               others = λ k e. cc;
+                                              takes = λ e. refl;
                                             };
                                       },
                                       tt,

@@ -62,7 +62,7 @@ module _ {at_work : ℕ → Option ℕ} (c : Config) (s : State) (w : LawfulFloo
       let b = facts.acting_sleepers c s x t (taking_from by_try (s.wanted t) j (s.taking t)) f.may.acting.unnamed
       f.may.acting.unwoken in
       let d = causes.causes_taking c s x t (taking_from by_try (s.wanted t) j (s.taking t))
-      (causes.seek_waits c s x t by_try (s.wanted t) j (s.taking t) f.has_seen) in
+      (causes.seek_waits c s x t by_try (s.wanted t) j (s.taking t) f.has_seen.takes) in
       assumption (x, a, b, d)
   keeps chains (Gains t j mode by_try) f k =
       let n = f.may.acting.unnamed in

@@ -26,8 +26,9 @@ use thread_records::ThreadRec;
 /// have come to their end. Gives what is to be printed of the run, and what is left of the floor. It takes no memory
 /// between the start of the first worker and the end of the last.
 ///
-/// The plan is one that some script gives, of mutexes alone, and the floor has so many chains of each sort. Where no
-/// thread can be started, the workers run one after another, and the call may then not return.
+/// The plan is one that some script gives, of mutexes alone, and the floor has so many chains of each sort: one, as
+/// `adaptive_mutex::lock` asks it. Where no thread can be started, the workers run one after another, and the call may
+/// then not return.
 pub fn run_plan<R: Threads + Wait + Sync, G: Gate>(
     rt: &R,
     alloc: Global,
@@ -37,8 +38,7 @@ pub fn run_plan<R: Threads + Wait + Sync, G: Gate>(
 ) -> Result<(Outcome, Closing), AllocError>
     requires proper { IsProper plan.now }
     requires mutexes { HasOnlyMutexes plan.now }
-    requires some_chains { 1 ≤ chains }
-    requires few_chains { chains ≤ 64 }
+    requires one_chain { chains ≡ 1 }
     ensures { IfOk result (λ r. IsRunOf plan.now chains (outcome_seen r.0) r.1) }
 {
     let (floor, mut keeper, mut passes) = Floor::make(alloc, plan, chains)?;
@@ -60,6 +60,7 @@ fn work_all<R: Threads + Wait + Sync, G: Gate>(
     requires given { IsFor plan.now floor.now.description }
     requires proper { IsProper plan.now }
     requires mutexes { HasOnlyMutexes plan.now }
+    requires one_chain { floor.now.description.chains ≡ 1 }
     requires new { (t : ℕ) (d : _) → t < length passes.old
         → IsNew floor.now t (slice_index_or passes.old t d) }
     ensures done { (t : ℕ) (d : _) → t < length passes.old
@@ -72,7 +73,8 @@ fn work_all<R: Threads + Wait + Sync, G: Gate>(
         workers,
         &|t, pass: &mut Pass|
             requires { IsFor plan.now floor.now.description × IsProper plan.now
-                × HasOnlyMutexes plan.now × IsNew floor.now t pass.now }
+                × HasOnlyMutexes plan.now × (floor.now.description.chains ≡ 1)
+                × IsNew floor.now t pass.now }
             ensures { IsDone plan.entry.now floor.entry.now t pass.exit.now }
         { work(rt, floor, pass, plan, gate) },
     );

@@ -21,6 +21,7 @@ pub fn work<R: Wait, G: Gate>(rt: &R, floor: &Floor, pass: &mut Pass, plan: &Pla
     requires given { IsFor plan.now floor.now.description }
     requires proper { IsProper plan.now }
     requires mutexes { HasOnlyMutexes plan.now }
+    requires one_chain { floor.now.description.chains ≡ 1 }
     requires thread { pass.old.view.thread < length plan.now.threads }
     requires first { pass.old
         ≡ first_pass floor.now.table floor.now.description pass.old.view.thread }
@@ -44,6 +45,7 @@ fn operate<R: Wait>(rt: &R, floor: &Floor, pass: &mut Pass, plan: &Plan, op: Op,
     requires given { IsFor plan.now floor.now.description }
     requires proper { IsProper plan.now }
     requires mutexes { HasOnlyMutexes plan.now }
+    requires one_chain { floor.now.description.chains ≡ 1 }
     requires before { IsBefore plan.now floor.now pass.old.view.thread n pass.old }
     requires op { slice_get (operations_of plan.now pass.old.view.thread) n ≡ Some op }
     ensures before { IsBefore plan.now floor.now pass.old.view.thread result pass.new }

@@ -5,6 +5,7 @@ use Rattle.lock_state.specs.State.{State, start_state}
 use Rattle.lock_state.specs.Steps.{Step, IsFloorStep, after, after_all, FitsFloor}
 use Rattle.lock_laws.proofs.FloorSteps as facts
 use Rattle.lock_laws.proofs.Rounds as rounds
+use Rattle.lock_laws.proofs.Signals as signals
 use Rattle.sleep_laws.proofs.SleepFacts as sleep_facts
 use Rattle.sleep_laws.proofs.SleepFacts.Floor as sleepers
 use Rattle.floor_table.specs.Descriptions.{config_in}
@@ -21,6 +22,7 @@ sound_begins floor =
       facts = facts.begins c;
       rounds = rounds.begins floor.chains c;
       sleepers = sleep_facts.begins _ c;
+      turnstiles = signals.begins c;
       no_refusal = unrefused_begins c;
     }
 
@@ -35,6 +37,7 @@ one_keeps floor s step other may h =
       facts = facts.floor_keeps floor.chains c s (after c s step) made h.facts;
       rounds = rounds.rounds_keep floor.chains c s (after c s step) made h.facts.lawful h.rounds;
       sleepers = sleepers.keeps floor.chains c s (after c s step) made h.facts.lawful h.sleepers;
+      turnstiles = signals.keeps floor.chains c s (after c s step) made h.turnstiles;
       no_refusal = unrefused_kept c s step may.may other h.no_refusal;
     }
 

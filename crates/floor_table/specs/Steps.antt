@@ -11,6 +11,7 @@ use Rattle.lock_state.specs.Facts.{LawfulFloor}
 use Rattle.lock_state.specs.Steps.{Step, EachStep, after_all, FitsFloor, maker}
 use Rattle.lock_state.specs.Steps.Items.{Item, item_with}
 use Rattle.lock_laws.specs.Rounds.{LawfulRounds}
+use Rattle.lock_laws.specs.Signals.{TurnstilesSignal}
 use Rattle.sleep_laws.specs.Sleepers.{SleepersFit, by_chain}
 use Rattle.floor_table.specs.declared.slot.Slot.{Slot}
 use Rattle.floor_table.specs.Past.{LeadsTo, IsSeenBy, past_with}
@@ -31,6 +32,7 @@ pub record IsSound (floor : Description) (past : List Step) (s : State) : Type 0
   pub facts : LawfulFloor (config_in floor) s
   pub rounds : LawfulRounds floor.chains (config_in floor) s
   pub sleepers : SleepersFit (by_chain floor.chains s) (config_in floor) s
+  pub turnstiles : TurnstilesSignal (config_in floor) s
   pub no_refusal : NothingIsRefused s.noted s.history
 
 -- each of the steps may be made by a thread of a floor, where it comes

@@ -20,8 +20,8 @@ use std::thread;
 use std::thread::Threads;
 use std::time::{Duration, Instant};
 
-// The chains of each sort of queue. Mutexes whose threads look have no use for them yet.
-const CHAINS: u32 = 16;
+// The chains of each sort of queue: one, as a mutex's `lock` asks it.
+const CHAINS: u32 = 1;
 
 // How often a worker looks at most for the others. They don't come where no thread can be started.
 const MOST_LOOKS: u32 = 1_000_000;
@@ -64,6 +64,7 @@ fn time_all<R: Threads + Wait + Clock + Sync>(
     requires given { IsFor plan.now floor.now.description }
     requires proper { IsProper plan.now }
     requires mutexes { HasOnlyMutexes plan.now }
+    requires one_chain { floor.now.description.chains ≡ 1 }
     requires new { (t : ℕ) (d : _) → t < length passes.old
         → IsNew floor.now t (slice_index_or passes.old t d) }
 {
@@ -74,7 +75,8 @@ fn time_all<R: Threads + Wait + Clock + Sync>(
         workers,
         &|t, pass: &mut Pass|
             requires { IsFor plan.now floor.now.description × IsProper plan.now
-                × HasOnlyMutexes plan.now × IsNew floor.now t pass.now }
+                × HasOnlyMutexes plan.now × (floor.now.description.chains ≡ 1)
+                × IsNew floor.now t pass.now }
         { time_work(rt, floor, pass, plan, meeting) },
     );
 }
@@ -90,6 +92,7 @@ fn time_work<R: Wait + Clock>(
     requires given { IsFor plan.now floor.now.description }
     requires proper { IsProper plan.now }
     requires mutexes { HasOnlyMutexes plan.now }
+    requires one_chain { floor.now.description.chains ≡ 1 }
     requires new { IsNew floor.now pass.old.view.thread pass.old }
 {
     meeting.wait();

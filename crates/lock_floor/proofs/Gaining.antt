@@ -10,8 +10,10 @@ use Rattle.lock_model.specs.Words.{word_of}
 use Rattle.lock_model.specs.declared.event.Held.{Held}
 use Rattle.lock_model.specs.declared.plan.Mode.{Mode}
 use Rattle.lock_state.specs.State.{State}
-use Rattle.lock_state.specs.Steps.{Step, Looks, Gains, Drops}
+use Rattle.lock_state.specs.Steps.{Step, Looks, Gains, Drops, Opens, after}
 use Rattle.lock_state.specs.Steps.LockWords.{after_gain, after_drop}
+use Rattle.lock_state.specs.Steps.Turnstiles.{after_open}
+use Rattle.floor_table.specs.Descriptions.{config_in}
 use Rattle.floor_table.specs.declared.description.Description.{Description}
 use Rattle.floor_table.specs.declared.slot.Slot.{Slot}
 use Rattle.floor_table.specs.Places.{spot, lock_line, lock_word}
@@ -132,12 +134,26 @@ module _ (floor : Description) (me : Me Slot Knowledge) (was : me.0.role ≡ OfT
       (drops l mode low says may)
       (λ b h ne small. missed l (λ me. put_down me.0 l) (drop_step l mode) low may_look b h ne)
 
--- behind a drop the thread doesn't hold the lock
+-- behind a release the thread doesn't hold the lock
+
+left_unheld : (floor : Description) (v w : Knowledge) (l : ℕ) (step : Step) (m : Makes floor (step ∷ []) v w)
+    → (after (config_in floor) m.state step).held v.thread l ≡ NotHeld → hold_in w.share.held l ≡ NotHeld
+left_unheld floor v w l step m unheld =
+    let n : State = after (config_in floor) m.state step in
+    let its : IsSeatOf (thread_in m.behind.views v.thread) n v.thread =
+    m.represents_behind.seats.thread v.thread (ap (λ (k : Knowledge). k.role) m.is ∙ m.role_behind) in
+    let share : RepresentsShare w.share n v.thread =
+    subst (λ (k : Knowledge). RepresentsShare k.share n v.thread) m.is its.share in
+    ap (λ (x : ShareColumns). x.held l) share.columns ∙ unheld
+
 pub dropped_unheld : (floor : Description) (v w : Knowledge) (l : ℕ) (mode : Mode)
     → Makes floor (Drops v.thread l mode ∷ []) v w → hold_in w.share.held l ≡ NotHeld
 unfolding after_drop
 dropped_unheld floor v w l mode m =
-    let n : State = after_drop m.state v.thread l in
-    let its : IsSeatOf (thread_in m.behind.views v.thread) n v.thread = m.represents_behind.seats.thread v.thread (ap (λ (k : Knowledge). k.role) m.is ∙ m.role_behind) in
-    let share : RepresentsShare w.share n v.thread = subst (λ (k : Knowledge). RepresentsShare k.share n v.thread) m.is its.share in
-    ap (λ (x : ShareColumns). x.held l) share.columns ∙ put_at_same m.state.held v.thread l NotHeld
+    left_unheld floor v w l (Drops v.thread l mode) m (put_at_same m.state.held v.thread l NotHeld)
+
+pub opened_unheld : (floor : Description) (v w : Knowledge) (l : ℕ) (mode : Mode)
+    → Makes floor (Opens v.thread l mode ∷ []) v w → hold_in w.share.held l ≡ NotHeld
+unfolding after_open
+opened_unheld floor v w l mode m =
+    left_unheld floor v w l (Opens v.thread l mode) m (put_at_same m.state.held v.thread l NotHeld)

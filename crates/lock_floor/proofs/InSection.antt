@@ -3,7 +3,6 @@
 use Rattle.std.proofs.Common.{◌≡◌, ◌⊎◌, ℕ, Bool, true, false, Option, Some, None, IsSome, List, [], ◌∷◌, inr, refl, sym, ap, ◌∙◌}
 use Rattle.std.specs.declared.alloc.Global.{Global}
 use Rattle.std.specs.declared.boxed.Box.{Box}
-use Rattle.std.proofs.lemmas.Option.{same_Some}
 use Rattle.lock_model.specs.History.{open_in}
 use Rattle.lock_model.specs.Holds.{NotHeld}
 use Rattle.lock_model.specs.Operations.{hold_in}
@@ -36,7 +35,7 @@ pub record IsAcquiring (floor : Description) (l : ℕ) (r : Round) (v : Knowledg
   pub awake : IsNoSleeper v
   pub round : v.share.doing.round ≡ Some r
   pub wants : (v.share.doing.wanted ≡ Some l) ⊎ (v.share.doing.wanted ≡ None)
-  pub takes : (k : ℕ) → v.share.doing.taking ≡ Some k → k ≡ l
+  pub takes : v.share.doing.taking ≡ Some l
   pub no_walk : v.share.doing.walk ≡ NoWalk
   pub unheld : hold_in v.share.held l ≡ NotHeld
   pub sections : (k : ℕ) → open_in (config_in floor) v.share.log v.thread k ≡ hold_in v.share.held k
@@ -52,14 +51,11 @@ module _ (floor : Description) (l : ℕ) where
     awake = λ back e f g. let z : true ≡ false = sym back ∙ rest.no_wait in cc;
     round = refl;
     wants = inr rest.wants_nothing;
-    takes = λ k e. same_Some k l (sym e ∙ taken);
+    takes = ap (λ w. taking_from false w l v.share.doing.taking) rest.wants_nothing;
     no_walk = rest.no_walk;
     unheld = unheld;
     sections = rest.sections;
   }
-    where
-      taken : (sought v l false).share.doing.taking ≡ Some l
-      taken = ap (λ w. taking_from false w l v.share.doing.taking) rest.wants_nothing
 
   module _ (r : Round) (seen : List Step) (v : Knowledge) (h : IsAcquiring floor l r v) where
     pub acquiring_looked : (word : Word) → IsAcquiring floor l r (seeing seen (looked v l word))

@@ -54,3 +54,5 @@ pub mod WalkAtLock
 pub mod WalkCall
 pub mod WalkWork
 pub mod WalkAll
+pub mod Beginning
+pub mod Calling

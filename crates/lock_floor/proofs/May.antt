@@ -1,5 +1,5 @@
 -- What a thread's seat knows allows its steps: they may be made in whatever state fits it.
-use Rattle.std.proofs.Common.{◌≡◌, ◌≢◌, ◌⊎◌, ℕ, ◌<◌, Bool, true, false, not, ◌&&◌, Option, Some, None, [], ◌∷◌, length, refl, sym, ap, ◌∙◌, subst, inl, arith, eq-eqb}
+use Rattle.std.proofs.Common.{◌≡◌, ◌≢◌, ◌⊎◌, ℕ, ◌<◌, Bool, true, false, not, ◌&&◌, Option, Some, None, [], ◌∷◌, length, refl, sym, ap, ◌∙◌, subst, inl, inr, arith, eq-eqb}
 use Rattle.std.proofs.lemmas.Bool.{ne_eqb}
 use Rattle.std.proofs.lemmas.Option.{same_Some}
 use mathlib.Core.Option as slots
@@ -15,10 +15,10 @@ use Rattle.lock_model.specs.Words.{Word, admits, is_plain, is_drop}
 use Rattle.lock_model.specs.declared.event.Event.{Event}
 use Rattle.lock_model.specs.declared.plan.Mode.{Mode}
 use Rattle.lock_state.specs.Facts.{LogsAreParts}
-use Rattle.lock_state.specs.State.{State, Running, Queued, Awake, is_parked}
-use Rattle.lock_state.specs.Steps.{Looks, Seeks, Gains, Drops, TakesItem, GivesItem, chain_of, seeks, is_with, counts_as_look, Stamps, FitsRound, IsItem, IsOfRound, HasItem, HasOutForEntry, NotesInRound, ends_sleep, is_halting, IsHalting, IsRunnable, OwesNoStep, GoesOn}
+use Rattle.lock_state.specs.State.{State, Look, Running, Queued, Awake, is_parked, gained_order}
+use Rattle.lock_state.specs.Steps.{Looks, Seeks, Gains, Drops, TakesItem, GivesItem, chain_of, seeks, is_with, counts_as_look, Stamps, FitsRound, IsItem, IsOfRound, HasItem, HasOutForEntry, NotesInRound, EndsTake, ends_sleep, is_halting, IsHalting, IsFirstExchange, IsRunnable, OwesNoStep, GoesOn, FitsFloor}
 use Rattle.lock_state.specs.Steps.Items.{Item, TurnstileChain, SleepChain, RecordOf, CellOf, ClassGraph, item_with, IsOnItsWay, MayCheckOrders, IsDoneWith}
-use Rattle.lock_state.specs.Steps.LockWords.{Asks, IsActing, is_woken, is_taking_back, round_of, after_seek}
+use Rattle.lock_state.specs.Steps.LockWords.{Asks, IsActing, is_woken, is_taking_back, round_of, taking_from, after_seek}
 use Rattle.floor_table.specs.Descriptions.{config_in}
 use Rattle.floor_table.specs.declared.description.Description.{Description}
 use Rattle.floor_table.specs.declared.slot.Slot.{Slot}
@@ -48,6 +48,26 @@ is_record_or_cell ClassGraph = false
 and_true : (b : Bool) → (b && true) ≡ b
 and_true true = refl
 and_true false = refl
+
+-- a thread that makes the first exchange of a call wants and takes nothing, and remembers no look
+pub record BeginsCall (v : Knowledge) : Type 0 where
+  pub wants : v.share.doing.wanted ≡ None
+  pub takes : v.share.doing.taking ≡ None
+  pub unseen : v.share.doing.last_look ≡ None
+
+-- A round begins by a call: the thread wants the lock or none, takes none where it wants none, and is in no round.
+-- Where it remembers a look, that is the first exchange of a blocking call, which missed, and it holds nothing
+pub record BeginsRound (l : ℕ) (by_try : Bool) (v : Knowledge) : Type 0 where
+  pub unheld : hold_in v.share.held l ≡ NotHeld
+  pub wants : (v.share.doing.wanted ≡ Some l) ⊎ (v.share.doing.wanted ≡ None)
+  pub tries : by_try ≡ true → v.share.doing.wanted ≡ None
+  pub anew : v.share.doing.wanted ≡ None → v.share.doing.taking ≡ None
+  pub unseen : by_try ≡ true → v.share.doing.last_look ≡ None
+  pub missed : (look : Look) → v.share.doing.last_look ≡ Some look → (look.lock ≡ l) × (v.share.held ≡ [])
+  pub no_round : v.share.doing.round ≡ None
+  pub runs : v.pose ≡ Runs
+  pub nothing_out : v.out ≡ []
+  pub going : IsGoing v
 
 module _ (floor : Description) (v : Knowledge) where
   abbrev c : Config
@@ -149,20 +169,36 @@ module _ (floor : Description) (v : Knowledge) where
       not_halting : IsHalting s t → ⊥
       not_halting e = let z : false ≡ true = sym (ap is_halting is_awake.phase) ∙ e in cc
 
+      first_exchange : BeginsCall v → IsFirstExchange s t
+      first_exchange b = record {
+        acting = is_acting runs;
+        wants = doing_it (λ d. d.wanted) ∙ b.wants;
+        takes = doing_it (λ d. d.taking) ∙ b.takes;
+        unseen = doing_it (λ d. d.last_look) ∙ b.unseen;
+      }
+
   -- 2. Steps on lock words
 
   -- with nothing out, a look counts where a round of the lock is under way
-  none_has : v.out ≡ [] → (i : Item) → has_item v i ≡ false
+  pub none_has : v.out ≡ [] → (i : Item) → has_item v i ≡ false
   none_has empty i = ap (λ xs. is_out xs (slot_of v.description i)) empty ∙ go (slot_of v.description i)
     where
       go : (o : Option ℕ) → is_out [] o ≡ false
       go None = refl
       go (Some j) = refl
 
+  pub counts_there : (l : ℕ) (by_try : Bool) → v.out ≡ [] → v.share.doing.round ≡ Some (round_of l by_try)
+      → counts v l ≡ true
+  counts_there l by_try empty round =
+      (λ i. seeks l (round i) && not (none_has empty (chain_of v.description.chains (config_in v.description) l) i))
+      ∙ and_true (seeks l (Some (round_of l by_try))) ∙ eq-eqb l l refl
+
   pub may_look : (l : ℕ) → v.description ≡ floor → l < length floor.locks → v.pose ≡ Runs → v.out ≡ [] → IsGoing v
       → (counts v l ≡ true → v.share.doing.looks < 100) → (v.share.doing.round ≢ None → counts v l ≡ true)
+      → (v.share.doing.round ≡ None → v.share.doing.taking ≡ None)
+      → (v.share.doing.round ≡ None → hold_in v.share.held l ≡ NotHeld → BeginsCall v)
       → MayMake floor v (λ s. Unit {0}) (Looks t l (counts v l) ∷ [])
-  may_look l mine low runs empty going few of_round s f _ =
+  may_look l mine low runs empty going few of_round takes first s f _ =
       let round : s.round t ≡ v.share.doing.round = doing_it s f (λ d. d.round) in
       let looks : s.looks t ≡ v.share.doing.looks = doing_it s f (λ d. d.looks) in
       let counted = counts_it s f mine l in (
@@ -174,6 +210,9 @@ module _ (floor : Description) (v : Knowledge) where
             of_round = λ ne. ap (seeks l) round ∙ seeks_it l (of_round (λ e. ne (round ∙ e)));
             in_chain = λ i x out. absurd (nothing_with s f empty i out);
             outside = λ i n x out. absurd (nothing_with s f empty i out);
+            outside_takes = λ none. inl (doing_it s f (λ d. d.taking) ∙ takes (sym round ∙ none));
+            outside_first = λ none unheld. inl (first_exchange s f runs going
+                (first (sym round ∙ none) (sym (holds_it s f l) ∙ unheld)));
             halting = λ e. absurd (not_halting s f runs going e);
           };
           asks_of_thread = record { runs = inl (is_awake s f runs going); owes = owes_none s f runs going };
@@ -184,76 +223,158 @@ module _ (floor : Description) (v : Knowledge) where
       seeks_it : (l : ℕ) → counts v l ≡ true → seeks l v.share.doing.round ≡ true
       seeks_it l e = (both_true (seeks l v.share.doing.round) _ e).0
 
-  pub may_seek : (l : ℕ) (by_try : Bool) → l < length floor.locks → hold_in v.share.held l ≡ NotHeld
-      → (v.share.doing.wanted ≡ Some l) ⊎ (v.share.doing.wanted ≡ None) → (by_try ≡ true → v.share.doing.wanted ≡ None)
-      → (v.share.doing.wanted ≡ None → v.share.doing.taking ≡ None) → v.share.doing.round ≡ None
-      → v.pose ≡ Runs → v.out ≡ [] → IsGoing v
-      → MayMake floor v (λ s. Unit {0}) (Seeks t l by_try ∷ Looks t l true ∷ [])
-  unfolding after_seek
-  may_seek l by_try low unheld wants tries anew none runs empty going s f _ =
-      let round : s.round t ≡ v.share.doing.round = doing_it s f (λ d. d.round) in
-      let wanted : s.wanted t ≡ v.share.doing.wanted = doing_it s f (λ d. d.wanted) in
-      let looks : (after_seek s t l by_try).looks t ≡ 0 = put_same s.looks t 0 in
-      let begun : (after_seek s t l by_try).round t ≡ Some (round_of l by_try) =
-      put_same s.round t (Some (round_of l by_try)) in
-      let sought : seeks l (Some (round_of l by_try)) ≡ true = eq-eqb l l refl in
-      let acting = is_acting s f runs in
-      let awake = is_awake s f runs going in
-      let owes = owes_none s f runs going in (
+  -- the begin of a round, with a first look or with a gain
+
+  module _ (l : ℕ) (by_try : Bool) (low : l < length floor.locks) (b : BeginsRound l by_try v) (s : State)
+      (f : Fits floor v s) where
+    abbrev sought : State
+    sought = after_seek s t l by_try
+
+    seek_fits : FitsFloor floor.chains c s (Seeks t l by_try)
+    seek_fits = record {
+      may = record {
+        thread = f.thread;
+        lock = low;
+        unheld = holds_it s f l ∙ b.unheld;
+        acting = is_acting s f b.runs;
+        wants = subst (λ w. (w ≡ Some l) ⊎ (w ≡ None)) (sym (doing_it s f (λ d. d.wanted))) b.wants;
+        tries_want_nothing = λ e. doing_it s f (λ d. d.wanted) ∙ b.tries e;
+        no_round = doing_it s f (λ d. d.round) ∙ b.no_round;
+      };
+      has_out = nothing_with s f b.nothing_out (chain_of floor.chains c l);
+      has_seen = record {
+        takes = λ e. doing_it s f (λ d. d.taking) ∙ b.anew (sym (doing_it s f (λ d. d.wanted)) ∙ e);
+        tries = λ e. doing_it s f (λ d. d.last_look) ∙ b.unseen e;
+        blocks = λ look e.
+            let m = b.missed look (sym (doing_it s f (λ d. d.last_look)) ∙ e) in
+            (m.0, sym (column s f (λ x. x.held_locks)) ∙ ap gained_order m.1);
+      };
+      asks_of_thread = goes_on s f b.runs b.going;
+    }
+
+    begun : sought.round t ≡ Some (round_of l by_try)
+    unfolding after_seek
+    begun = put_same s.round t (Some (round_of l by_try))
+
+    in_round : sought.round t ≡ None → ⊥
+    in_round none = let z : Some (round_of l by_try) ≡ None = sym begun ∙ none in cc
+
+    runs_on : IsRunnable sought t
+    unfolding after_seek
+    runs_on = let a = is_awake s f b.runs b.going in record { phase = a.phase; unended = a.unended }
+
+    owes_on : OwesNoStep sought t
+    unfolding after_seek
+    owes_on = record {
+      added = λ o. off s f b.runs
+          record {
+            queued = o.queued;
+            nowhere = o.nowhere;
+            wants = o.wants;
+            slept = o.slept;
+            unwoken = o.unwoken;
+            unhalted = o.unhalted;
+          };
+      stamped = (owes_none s f b.runs b.going).stamped;
+    }
+
+    look_fits : FitsFloor floor.chains c sought (Looks t l true)
+    unfolding after_seek
+    look_fits =
+        let looks : sought.looks t ≡ 0 = put_same s.looks t 0 in
+        let of_round : seeks l (Some (round_of l by_try)) ≡ true = eq-eqb l l refl in
+        record {
+          may = record { thread = f.thread; lock = low; room = λ _. subst (λ n. n < 100) (sym looks) (omega arith) };
+          has_out = tt;
+          has_seen = record {
+            counts = sym (ap (λ r. seeks l r && not (is_with t (item_with s (chain_of floor.chains c l)))) begun
+                ∙ ap (λ x. seeks l (Some (round_of l by_try)) && not x)
+                (no_item s f b.nothing_out (chain_of floor.chains c l)) ∙ and_true (seeks l (Some (round_of l by_try)))
+                ∙ of_round);
+            of_round = λ _. ap (seeks l) begun ∙ of_round;
+            in_chain = λ i x out. absurd (nothing_with s f b.nothing_out i out);
+            outside = λ i n x out. absurd (nothing_with s f b.nothing_out i out);
+            outside_takes = λ none. absurd (in_round none);
+            outside_first = λ none. absurd (in_round none);
+            halting = λ e. absurd (not_halting s f b.runs b.going e);
+          };
+          asks_of_thread = record { runs = inl runs_on; owes = owes_on };
+        }
+
+    -- then the lock is taken by a blocking call: also where it was wanted, and so taken already
+    taken : by_try ≡ false → (v.share.doing.wanted ≡ Some l → v.share.doing.taking ≡ Some l)
+        → sought.taking t ≡ Some l
+    unfolding after_seek
+    taken blocks already = put_same s.taking t (taking_from by_try (s.wanted t) l (s.taking t)) ∙ elim b.wants [
+      | inl w ↦ (λ i. taking_from (blocks i) ((doing_it s f (λ d. d.wanted) ∙ w) i) l (s.taking t))
+          ∙ doing_it s f (λ d. d.taking) ∙ already w
+      | inr w ↦ (λ i. taking_from (blocks i) ((doing_it s f (λ d. d.wanted) ∙ w) i) l (s.taking t))
+    ]
+
+    -- what a try takes it took before: nothing
+    taken_by_try : by_try ≡ true → sought.taking t ≡ None
+    unfolding after_seek
+    taken_by_try tries =
+        put_same s.taking t (taking_from by_try (s.wanted t) l (s.taking t))
+        ∙ (λ i. taking_from (tries i) (s.wanted t) l (s.taking t))
+        ∙ doing_it s f (λ d. d.taking) ∙ b.anew (b.tries tries)
+
+    gain_fits : (mode : Mode) → admits (c.kind l) (s.word l) mode ≡ true → is_plain (c.kind l) (s.word l) mode ≡ true
+        → (v.share.doing.wanted ≡ Some l → v.share.doing.taking ≡ Some l)
+        → FitsFloor floor.chains c sought (Gains t l mode by_try)
+    unfolding after_seek
+    gain_fits mode admitted plain already =
+        let acting = is_acting s f b.runs in
         record {
           may = record {
             thread = f.thread;
             lock = low;
-            unheld = holds_it s f l ∙ unheld;
-            acting = acting;
-            wants = subst (λ w. (w ≡ Some l) ⊎ (w ≡ None)) (sym wanted) wants;
-            tries_want_nothing = λ e. wanted ∙ tries e;
-            no_round = round ∙ none;
+            admitted = admitted;
+            plainly = plain;
+            unheld = holds_it s f l ∙ b.unheld;
+            acting = record { unnamed = acting.unnamed; unwoken = acting.unwoken };
+            wants = subst (λ w. (w ≡ Some l) ⊎ (w ≡ None)) (sym (doing_it s f (λ d. d.wanted))) b.wants;
           };
-          has_out = nothing_with s f empty (chain_of floor.chains c l);
-          has_seen = λ e. doing_it s f (λ d. d.taking) ∙ anew (sym wanted ∙ e);
-          asks_of_thread = goes_on s f runs going;
-        },
-        (
-          record {
-            may = record { thread = f.thread; lock = low; room = λ _. subst (λ n. n < 100) (sym looks) (omega arith) };
-            has_out = tt;
-            has_seen = record {
-              counts = sym (ap (λ r. seeks l r && not (is_with t (item_with s (chain_of floor.chains c l)))) begun
-                  ∙ ap (λ b. seeks l (Some (round_of l by_try)) && not b)
-                  (no_item s f empty (chain_of floor.chains c l)) ∙ and_true (seeks l (Some (round_of l by_try)))
-                  ∙ sought);
-              of_round = λ _. ap (seeks l) begun ∙ sought;
-              in_chain = λ i x out. absurd (nothing_with s f empty i out);
-              outside = λ i n x out. absurd (nothing_with s f empty i out);
-              halting = λ e. absurd (not_halting s f runs going e);
-            };
-            asks_of_thread = record {
-              runs = inl (record { phase = awake.phase; unended = awake.unended });
-              owes = record {
-                added = λ o. off s f runs
-                    record {
-                      queued = o.queued;
-                      nowhere = o.nowhere;
-                      wants = o.wants;
-                      slept = o.slept;
-                      unwoken = o.unwoken;
-                      unhalted = o.unhalted;
-                    };
-                stamped = owes.stamped;
-              };
-            };
-          },
-          tt,
-        ),
-      )
+          has_out = tt;
+          has_seen = record {
+            fits = subst (λ r. FitsRound r l by_try) (sym begun) (refl, refl);
+            in_round = λ none. absurd (in_round none);
+            saw = λ w out _. absurd (nothing_with s f b.nothing_out (chain_of floor.chains c l) out);
+            outside_first = λ none. absurd (in_round none);
+            others = of_it by_try refl;
+            takes = λ blocks. taken blocks already;
+          };
+          asks_of_thread = record { runs = runs_on; owes = owes_on };
+        }
+      where
+        of_it : (x : Bool) → by_try ≡ x → (k : ℕ) → sought.taking t ≡ Some k → k ≡ l
+        of_it true tries k e = absurd (let z : None ≡ Some k = sym (taken_by_try tries) ∙ e in cc)
+        of_it false blocks k e = same_Some k l (sym e ∙ taken blocks already)
+
+  pub may_seek : (l : ℕ) (by_try : Bool) → l < length floor.locks → BeginsRound l by_try v
+      → MayMake floor v (λ s. Unit {0}) (Seeks t l by_try ∷ Looks t l true ∷ [])
+  may_seek l by_try low b s f _ = (seek_fits l by_try low b s f, (look_fits l by_try low b s f, tt))
+
+  pub may_seek_gain : (l : ℕ) (mode : Mode) (by_try : Bool) (word : Word) → l < length floor.locks
+      → admits (c.kind l) word mode ≡ true → is_plain (c.kind l) word mode ≡ true
+      → (v.share.doing.wanted ≡ Some l → v.share.doing.taking ≡ Some l) → BeginsRound l by_try v
+      → MayMake floor v (λ s. s.word l ≡ word) (Seeks t l by_try ∷ Gains t l mode by_try ∷ [])
+  may_seek_gain l mode by_try word low admitted plain already b s f its = (
+    seek_fits l by_try low b s f,
+    (
+      gain_fits l by_try low b s f mode (ap (λ w. admits (c.kind l) w mode) its ∙ admitted)
+          (ap (λ w. is_plain (c.kind l) w mode) its ∙ plain) already,
+      tt,
+    ),
+  )
 
   pub may_gain : (l : ℕ) (mode : Mode) (by_try : Bool) (word : Word) → l < length floor.locks
       → admits (c.kind l) word mode ≡ true → is_plain (c.kind l) word mode ≡ true → hold_in v.share.held l ≡ NotHeld
       → (v.share.doing.wanted ≡ Some l) ⊎ (v.share.doing.wanted ≡ None) → FitsRound v.share.doing.round l by_try
-      → ((k : ℕ) → v.share.doing.taking ≡ Some k → k ≡ l) → v.pose ≡ Runs → v.out ≡ [] → IsGoing v
+      → (v.share.doing.round ≡ None → BeginsCall v) → ((k : ℕ) → v.share.doing.taking ≡ Some k → k ≡ l)
+      → (by_try ≡ false → v.share.doing.taking ≡ Some l) → v.pose ≡ Runs → v.out ≡ [] → IsGoing v
       → MayMake floor v (λ s. s.word l ≡ word) (Gains t l mode by_try ∷ [])
-  may_gain l mode by_try word low admitted plain unheld wants fits others runs empty going s f its =
+  may_gain l mode by_try word low admitted plain unheld wants fits first others takes runs empty going s f its =
       let round : s.round t ≡ v.share.doing.round = doing_it s f (λ d. d.round) in
       let wanted : s.wanted t ≡ v.share.doing.wanted = doing_it s f (λ d. d.wanted) in (
         record {
@@ -271,7 +392,9 @@ module _ (floor : Description) (v : Knowledge) where
             fits = subst (λ r. FitsRound r l by_try) (sym round) fits;
             in_round = λ _. nothing_with s f empty (chain_of floor.chains c l);
             saw = λ w out _. absurd (nothing_with s f empty (chain_of floor.chains c l) out);
+            outside_first = λ none. first_exchange s f runs going (first (sym round ∙ none));
             others = λ k e. others k (sym (doing_it s f (λ d. d.taking)) ∙ e);
+            takes = λ e. doing_it s f (λ d. d.taking) ∙ takes e;
           };
           asks_of_thread = goes_on s f runs going;
         },
@@ -301,11 +424,12 @@ module _ (floor : Description) (v : Knowledge) where
 
   -- 3. Entries
 
-  pub may_stamp : (e : Event) → ((s : State) → Fits floor v s → Asks c s t e × HasOutForEntry floor.chains s t e)
+  pub may_stamp_end : (e : Event) → ((s : State) → Fits floor v s → Asks c s t e × HasOutForEntry floor.chains s t e)
       → NotesInRound v.share.doing.round e → (is_taking_back v.share.log ≡ true → ends_sleep e ≡ true) → v.pose ≡ Runs
-      → IsGoing v → v.share.doing.taking ≡ None
+      → IsGoing v
+      → ((k : ℕ) → v.share.doing.taking ≡ Some k → EndsTake c (is_taking_back v.share.log) e k)
       → MayMake floor v (λ s. Unit {0}) (Stamps t e ∷ [])
-  may_stamp e asks in_round asleep runs going takes_nothing s f _ =
+  may_stamp_end e asks in_round asleep runs going ends s f _ =
       let a = asks s f in
       let round : s.round t ≡ v.share.doing.round = doing_it s f (λ d. d.round) in
       let unstamped : s.unstamped t ≡ v.share.doing.unstamped = doing_it s f (λ d. d.unstamped) in
@@ -317,13 +441,22 @@ module _ (floor : Description) (v : Knowledge) where
             in_round = subst (λ r. NotesInRound r e) (sym round) in_round;
             asleep = λ q. asleep (ap is_taking_back (sym log) ∙ q);
             wakes = λ ne. absurd (ne (unstamped ∙ going.stamped));
-            takes = λ l q. absurd
-                (let z : None ≡ Some l = sym takes_nothing ∙ sym (doing_it s f (λ d. d.taking)) ∙ q in cc);
+            takes = λ l q. subst (λ es. EndsTake c (is_taking_back es) e l) (sym log)
+                (ends l (sym (doing_it s f (λ d. d.taking)) ∙ q));
           };
           asks_of_thread = record { runs = is_awake s f runs going; added = off s f runs };
         },
         tt,
       )
+
+  -- of a thread that takes nothing
+  pub may_stamp : (e : Event) → ((s : State) → Fits floor v s → Asks c s t e × HasOutForEntry floor.chains s t e)
+      → NotesInRound v.share.doing.round e → (is_taking_back v.share.log ≡ true → ends_sleep e ≡ true) → v.pose ≡ Runs
+      → IsGoing v → v.share.doing.taking ≡ None
+      → MayMake floor v (λ s. Unit {0}) (Stamps t e ∷ [])
+  may_stamp e asks in_round asleep runs going takes_nothing =
+      may_stamp_end e asks in_round asleep runs going
+      (λ k q. absurd (let z : None ≡ Some k = sym takes_nothing ∙ q in cc))
 
   -- 4. Items
 

@@ -348,15 +348,24 @@ module _ (floor : Description) (v : Knowledge) where
 
   module _ (l : ℕ) (y x : Slot) (out : v.out ≡ (t, y) ∷ (chain_place floor (lock_queue l), x) ∷ [])
       (low : l < length floor.locks) (going : IsGoing v) (awake : IsNoSleeper v) where
-    -- a look under the chain doesn't count
-    pub may_look_there : v.description ≡ floor → seeks l v.share.doing.round ≡ true
+    -- a round that seeks the lock is under way
+    under_way : (s : State) → Fits floor v s → seeks l v.share.doing.round ≡ true → s.round t ≡ None → ⊥
+    under_way s f of_round none =
+        let z : false ≡ true = sym (ap (seeks l) (sym (doing_it floor v s f (λ d. d.round)) ∙ none)) ∙ of_round in cc
+
+    -- A look under the chain doesn't count. It is in a round of the lock, or at a lock that the thread holds and
+    -- releases
+    look_there : v.description ≡ floor → (v.share.doing.round ≢ None → seeks l v.share.doing.round ≡ true)
+        → (v.share.doing.round ≡ None → (hold_in v.share.held l ≢ NotHeld) × (v.share.doing.taking ≡ None))
         → MayMake floor v (λ s. Unit {0}) (Looks t l (counts v l) ∷ [])
-    may_look_there mine of_round s f _ =
+    look_there mine of_round releases s f _ =
         let round : s.round t ≡ v.share.doing.round = doing_it floor v s f (λ d. d.round) in
         let counted = counts_it floor v s f mine l in
         let uncounted : counts v l ≡ false =
         counted ∙ ap (λ o. seeks l (s.round t) && not (is_with t o)) (chain_out_now (lock_queue l) y x out s f)
-        ∙ ap (λ b. seeks l (s.round t) && not b) (eq-eqb t t refl) ∙ and_false (seeks l (s.round t)) in (
+        ∙ ap (λ b. seeks l (s.round t) && not b) (eq-eqb t t refl) ∙ and_false (seeks l (s.round t)) in
+        let held : s.round t ≡ None → s.held t l ≢ NotHeld = λ none e.
+        (releases (sym round ∙ none)).0 (sym (holds_it floor v s f l) ∙ e) in (
           record {
             may = record {
               thread = f.thread;
@@ -366,10 +375,11 @@ module _ (floor : Description) (v : Knowledge) where
             has_out = tt;
             has_seen = record {
               counts = counted;
-              of_round = λ _. ap (seeks l) round ∙ of_round;
+              of_round = λ ne. ap (seeks l) round ∙ of_round (λ e. ne (round ∙ e));
               in_chain = λ i is has. only_chain (lock_queue l) y x out s f i is has;
-              outside = λ i none is has. absurd
-                  (let z : false ≡ true = sym (ap (seeks l) (sym round ∙ none)) ∙ of_round in cc);
+              outside = λ i none is has. inl (held none);
+              outside_takes = λ none. inl (doing_it floor v s f (λ d. d.taking) ∙ (releases (sym round ∙ none)).1);
+              outside_first = λ none unheld. absurd (held none unheld);
               halting = λ e. absurd (let z : false ≡ true = sym (ap is_halting (awake_now s f going).phase) ∙ e in cc);
             };
             asks_of_thread = record {
@@ -384,6 +394,15 @@ module _ (floor : Description) (v : Knowledge) where
         and_false true = refl
         and_false false = refl
 
+    pub may_look_there : v.description ≡ floor → seeks l v.share.doing.round ≡ true
+        → MayMake floor v (λ s. Unit {0}) (Looks t l (counts v l) ∷ [])
+    may_look_there mine of_round = look_there mine (λ _. of_round)
+        (λ none. absurd (let z : false ≡ true = sym (ap (seeks l) none) ∙ of_round in cc))
+
+    pub may_look_held : v.description ≡ floor → v.share.doing.round ≡ None → hold_in v.share.held l ≢ NotHeld
+        → v.share.doing.taking ≡ None → MayMake floor v (λ s. Unit {0}) (Looks t l (counts v l) ∷ [])
+    may_look_held mine none held takes = look_there mine (λ ne. absurd (ne none)) (λ _. (held, takes))
+
     -- a gain of the round's lock, of which what was seen last under the chain admits the mode
     pub may_gain_there : (mode : Mode) (by_try : Bool) (word : Word) → admits (c.kind l) word mode ≡ true
         → is_plain (c.kind l) word mode ≡ true → hold_in v.share.held l ≡ NotHeld
@@ -391,9 +410,10 @@ module _ (floor : Description) (v : Knowledge) where
         → FitsRound v.share.doing.round l by_try
         → ((w : Word) → v.share.doing.seen_in_section ≡ Some (record { lock = l; word = w })
         → admits (c.kind l) w mode ≡ true)
-        → ((k : ℕ) → v.share.doing.taking ≡ Some k → k ≡ l) → is_off_queues v.pose ≡ true
+        → ((k : ℕ) → v.share.doing.taking ≡ Some k → k ≡ l) → (by_try ≡ false → v.share.doing.taking ≡ Some l)
+        → is_off_queues v.pose ≡ true
         → MayMake floor v (λ s. s.word l ≡ word) (Gains t l mode by_try ∷ [])
-    may_gain_there mode by_try word admitted plain unheld wants of_round fits saw others off s f its =
+    may_gain_there mode by_try word admitted plain unheld wants of_round fits saw others takes off s f its =
         let round : s.round t ≡ v.share.doing.round = doing_it floor v s f (λ d. d.round) in
         let wanted : s.wanted t ≡ v.share.doing.wanted = doing_it floor v s f (λ d. d.wanted) in (
           record {
@@ -409,9 +429,11 @@ module _ (floor : Description) (v : Knowledge) where
             has_out = tt;
             has_seen = record {
               fits = subst (λ r. FitsRound r l by_try) (sym round) fits;
-              in_round = λ none has. let z : false ≡ true = sym (ap (seeks l) (sym round ∙ none)) ∙ of_round in cc;
+              in_round = λ none has. under_way s f of_round none;
               saw = λ w has seen. saw w (sym (doing_it floor v s f (λ d. d.seen_in_section)) ∙ seen);
+              outside_first = λ none. absurd (under_way s f of_round none);
               others = λ k e. others k (sym (doing_it floor v s f (λ d. d.taking)) ∙ e);
+              takes = λ e. doing_it floor v s f (λ d. d.taking) ∙ takes e;
             };
             asks_of_thread = record {
               runs = awake_now s f going;

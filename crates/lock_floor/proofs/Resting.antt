@@ -18,7 +18,7 @@ use Rattle.lock_model.specs.declared.event.Held.{Held}
 use Rattle.lock_model.specs.declared.numbers.LockNo.{LockNo}
 use Rattle.lock_model.specs.declared.plan.Mode.{Mode}
 use Rattle.lock_state.specs.State.{State, NoWalk, Round, Wake, start_state}
-use Rattle.lock_state.specs.Steps.{Step, Stamps, Drops, GivesItem, chain_of, seeks, NotesInRound, HasOutForEntry}
+use Rattle.lock_state.specs.Steps.{Step, Stamps, GivesItem, chain_of, seeks, NotesInRound, HasOutForEntry}
 use Rattle.lock_state.specs.Steps.Items.{Item, is_chain, in_its_chain, seen_after}
 use Rattle.lock_state.specs.Steps.LockWords.{Asks, is_sleep, is_taking_back, changes_sections, looks_after, round_after, taking_after, unstamped_after, after_stamp}
 use Rattle.floor_table.specs.Descriptions.{config_in}
@@ -32,7 +32,6 @@ use Rattle.lock_floor.specs.Floors.{Floor, Pass}
 use Rattle.lock_floor.specs.Passes.{IsOf, IsGoing, IsAtRest, IsReady, MakesEntry, with_item}
 use Rattle.lock_floor.specs.Latches.{Takes}
 use Rattle.lock_floor.specs.Views.{has_item, counts, looked, others, gained, put_down, begun_by, took, gave, entry_by, stamped}
-use Rattle.lock_floor.proofs.Gaining.{dropped_unheld}
 use Rattle.lock_floor.proofs.May.{own_log, may_stamp}
 use Rattle.lock_floor.proofs.Shares.{among_stays}
 
@@ -43,6 +42,7 @@ pub record IsIdle (v : Knowledge) : Type 0 where
   pub nothing_out : v.out ≡ []
   pub no_walk : v.share.doing.walk ≡ NoWalk
   pub unmarked : v.share.doing.marked ≡ []
+  pub uncounted : v.share.doing.counting ≡ None
   pub wants_nothing : v.share.doing.wanted ≡ None
   pub takes_nothing : v.share.doing.taking ≡ None
   pub no_round : v.share.doing.round ≡ None
@@ -57,6 +57,7 @@ idle floor v r = record {
   nothing_out = r.nothing_out;
   no_walk = r.no_walk;
   unmarked = r.unmarked;
+  uncounted = r.uncounted;
   wants_nothing = r.wants_nothing;
   takes_nothing = r.takes_nothing;
   no_round = r.no_round;
@@ -73,16 +74,19 @@ Sectioned floor v = (l : ℕ) → open_in (config_in floor) v.share.log v.thread
 abbrev pub Begun : Knowledge → Type 0
 Begun v = (l : ℕ) → hold_in v.share.held l ≢ NotHeld → is_among l v.share.begun ≡ true
 
-at_rest : (floor : Description) (v : Knowledge) → IsIdle v → Sectioned floor v → Begun v → IsAtRest floor v
-at_rest floor v i sections begun = record {
+pub at_rest : (floor : Description) (v : Knowledge) → IsIdle v → v.share.doing.last_look ≡ None → Sectioned floor v
+    → Begun v → IsAtRest floor v
+at_rest floor v i unseen sections begun = record {
   runs = i.runs;
   nothing_out = i.nothing_out;
   no_walk = i.no_walk;
   unmarked = i.unmarked;
+  uncounted = i.uncounted;
   wants_nothing = i.wants_nothing;
   takes_nothing = i.takes_nothing;
   no_round = i.no_round;
   no_looks = i.no_looks;
+  no_last_look = unseen;
   unnoted = i.unnoted;
   going = i.going;
   no_wait = i.no_wait;
@@ -98,10 +102,12 @@ rest_seeing floor v steps r = record {
   nothing_out = r.nothing_out;
   no_walk = r.no_walk;
   unmarked = r.unmarked;
+  uncounted = r.uncounted;
   wants_nothing = r.wants_nothing;
   takes_nothing = r.takes_nothing;
   no_round = r.no_round;
   no_looks = r.no_looks;
+  no_last_look = r.no_last_look;
   unnoted = r.unnoted;
   going = r.going;
   no_wait = r.no_wait;
@@ -157,12 +163,14 @@ module _ (floor : Description) (v : Knowledge) where
   abbrev t : ℕ
   t = v.thread
 
-  idle_stamped : (ticket : ℕ) (e : Event) → is_sleep e ≡ false → IsIdle v → IsIdle (stamped c v (entry_by t ticket e))
+  pub idle_stamped : (ticket : ℕ) (e : Event) → is_sleep e ≡ false → IsIdle v
+      → IsIdle (stamped c v (entry_by t ticket e))
   idle_stamped ticket e wakeful i = record {
     runs = i.runs;
     nothing_out = i.nothing_out;
     no_walk = i.no_walk;
     unmarked = i.unmarked;
+    uncounted = i.uncounted;
     wants_nothing = i.wants_nothing;
     takes_nothing = taking_gone e v.share.doing.taking i.takes_nothing;
     no_round = round_gone e v.share.doing.round i.no_round;
@@ -176,13 +184,17 @@ module _ (floor : Description) (v : Knowledge) where
     no_wait = wakeful;
   }
 
-  -- of an event that begins and ends no section
+  -- of an event that begins and ends no section, also behind a look
+  pub rest_noted : (ticket : ℕ) (e : Event) → changes_sections e ≡ false → IsIdle v → Sectioned floor v → Begun v
+      → IsAtRest floor (stamped c v (entry_by t ticket e))
+  rest_noted ticket e quiet i sections begun =
+      at_rest floor (stamped c v (entry_by t ticket e)) (idle_stamped ticket e (no_sleep e quiet) i) refl
+      (λ l. same_section c v.share.log t ticket l e quiet ∙ sections l)
+      (λ l held. ap (is_among l) (begun_kept c e v.share.begun quiet) ∙ begun l held)
+
   pub rest_stamped : (ticket : ℕ) (e : Event) → changes_sections e ≡ false → IsAtRest floor v
       → IsAtRest floor (stamped c v (entry_by t ticket e))
-  rest_stamped ticket e quiet r =
-      at_rest floor (stamped c v (entry_by t ticket e)) (idle_stamped ticket e (no_sleep e quiet) (idle floor v r))
-      (λ l. same_section c v.share.log t ticket l e quiet ∙ r.sections l)
-      (λ l held. ap (is_among l) (begun_kept c e v.share.begun quiet) ∙ r.begun l held)
+  rest_stamped ticket e quiet r = rest_noted ticket e quiet (idle floor v r) r.sections r.begun
 
   -- 3. Behind looks: none counts, since no round is under way
 
@@ -190,12 +202,13 @@ module _ (floor : Description) (v : Knowledge) where
   uncounted l i = ap (λ o. seeks l o && not (has_item v (chain_of v.description.chains (config_in v.description) l)))
       i.no_round
 
-  idle_looked : (l : ℕ) (word : Word) → IsIdle v → IsIdle (looked v l word)
+  pub idle_looked : (l : ℕ) (word : Word) → IsIdle v → IsIdle (looked v l word)
   idle_looked l word i = record {
     runs = i.runs;
     nothing_out = i.nothing_out;
     no_walk = i.no_walk;
     unmarked = i.unmarked;
+    uncounted = i.uncounted;
     wants_nothing = i.wants_nothing;
     takes_nothing = i.takes_nothing;
     no_round = i.no_round;
@@ -204,9 +217,6 @@ module _ (floor : Description) (v : Knowledge) where
     going = i.going;
     no_wait = i.no_wait;
   }
-
-  pub rest_looked : (l : ℕ) (word : Word) → IsAtRest floor v → IsAtRest floor (looked v l word)
-  rest_looked l word r = at_rest floor (looked v l word) (idle_looked l word (idle floor v r)) r.sections r.begun
 
 -- 4. What it may note, whatever it has out: with nothing out it is at rest
 
@@ -234,6 +244,7 @@ rest_with floor v a i j plain r taken =
       nothing_out = refl;
       no_walk = r.no_walk;
       unmarked = r.unmarked;
+      uncounted = r.uncounted;
       wants_nothing = r.wants_nothing;
       takes_nothing = r.takes_nothing;
       no_round = ap (λ b. cond b (in_its_chain v.share.doing.round) v.share.doing.round) plain ∙ r.no_round;
@@ -241,7 +252,7 @@ rest_with floor v a i j plain r taken =
       unnoted = r.unnoted;
       going = r.going;
       no_wait = r.no_wait;
-    } r.sections r.begun)
+    } r.no_last_look r.sections r.begun)
 
 -- 5. Behind the use of an item: it is taken, an entry is made, and it is given back
 
@@ -370,6 +381,7 @@ idle_gained v h i = record {
   nothing_out = i.nothing_out;
   no_walk = i.no_walk;
   unmarked = i.unmarked;
+  uncounted = i.uncounted;
   wants_nothing = refl;
   takes_nothing = i.takes_nothing;
   no_round = refl;
@@ -388,7 +400,9 @@ module _ (floor : Description) (v : Knowledge) (h : Held) where
   abbrev gc : Config
   gc = config_in floor
 
-  gain_section : (ticket k : ℕ) → open_in gc (entry_by v.thread ticket (gain_event h) ∷ v.share.log) v.thread k ≡ cond (eqb h.l.0 k) (Holds h.mode) (open_in gc v.share.log v.thread k)
+  pub gain_section : (ticket k : ℕ)
+      → open_in gc (entry_by v.thread ticket (gain_event h) ∷ v.share.log) v.thread k ≡ cond (eqb h.l.0 k)
+      (Holds h.mode) (open_in gc v.share.log v.thread k)
   unfolding after_stamp
   gain_section ticket k = own_section gc (behind gc v.share.log ticket) v.thread (gain_event h) k ∙ go h.by_try
     where
@@ -396,7 +410,8 @@ module _ (floor : Description) (v : Knowledge) (h : Held) where
       go true = begins_or (eqb h.l.0 k) h.mode (open_in gc v.share.log v.thread k)
       go false = begins_or (eqb h.l.0 k) h.mode (open_in gc v.share.log v.thread k)
 
-  gain_begun : Begun v → hold_in v.share.held h.l.0 ≡ NotHeld → (k : ℕ) → hold_in (v.share.held ++ h ∷ []) k ≢ NotHeld → is_among k (h.l.0 ∷ others h.l.0 v.share.begun) ≡ true
+  pub gain_begun : Begun v → hold_in v.share.held h.l.0 ≡ NotHeld → (k : ℕ)
+      → hold_in (v.share.held ++ h ∷ []) k ≢ NotHeld → is_among k (h.l.0 ∷ others h.l.0 v.share.begun) ≡ true
   gain_begun begun unheld k held =
       elim (cases_eq h.l.0 k) [
         | inl e ↦ ap (λ b. b || is_among k (others h.l.0 v.share.begun)) (eq-eqb h.l.0 k e)
@@ -405,7 +420,7 @@ module _ (floor : Description) (v : Knowledge) (h : Held) where
             ap (λ b. b || is_among k (others h.l.0 v.share.begun)) (ne_eqb h.l.0 k ne) ∙ among_stays h.l.0 k v.share.begun ne ∙ begun k (λ q. held (before ∙ q))
       ]
 
-  begun_gained : (ks : List ℕ) → begun_by gc (gain_event h) ks ≡ h.l.0 ∷ ks
+  pub begun_gained : (ks : List ℕ) → begun_by gc (gain_event h) ks ≡ h.l.0 ∷ ks
   begun_gained ks = go h.by_try
     where
       go : (b : Bool) → begun_by gc (cond b (Tried h.l h.mode) (Locked h.l h.mode)) ks ≡ h.l.0 ∷ ks
@@ -424,6 +439,7 @@ module _ (floor : Description) (v : Knowledge) (h : Held) where
   rest_gained ticket r unheld =
       at_rest floor (stamped gc (gained v h) (entry_by v.thread ticket (gain_event h)))
       (idle_stamped floor (gained v h) ticket (gain_event h) no_sleep_gained (idle_gained v h (idle floor v r)))
+      refl
       (λ k. gain_section ticket k ∙ ap (cond (eqb h.l.0 k) (Holds h.mode)) (r.sections k) ∙ sym (hold_in-push v.share.held h k unheld))
       (λ k held. ap (is_among k) (begun_gained (others h.l.0 v.share.begun)) ∙ gain_begun r.begun unheld k held)
 
@@ -479,14 +495,15 @@ module _ (floor : Description) (l : ℕ) (mode : Mode) (v : Knowledge) (h : IsLe
     abbrev left : Knowledge
     left = seeing steps (put_down v l)
 
-    pub rest_left : Makes floor (Drops v.thread l mode ∷ []) v left → IsAtRest floor left
-    rest_left made =
+    pub rest_left : hold_in (without_lock l v.share.held) l ≡ NotHeld → IsAtRest floor left
+    rest_left unheld =
         let i = h.about in
         at_rest floor left record {
           runs = i.runs;
           nothing_out = i.nothing_out;
           no_walk = i.no_walk;
           unmarked = i.unmarked;
+          uncounted = i.uncounted;
           wants_nothing = i.wants_nothing;
           takes_nothing = i.takes_nothing;
           no_round = i.no_round;
@@ -494,11 +511,8 @@ module _ (floor : Description) (l : ℕ) (mode : Mode) (v : Knowledge) (h : IsLe
           unnoted = i.unnoted;
           going = i.going;
           no_wait = i.no_wait;
-        } sections begun
+        } refl sections begun
       where
-        unheld : hold_in (without_lock l v.share.held) l ≡ NotHeld
-        unheld = dropped_unheld floor v left l mode made
-
         sections : Sectioned floor left
         sections k =
             elim (cases_eq l k) [

@@ -10,4 +10,5 @@ pub mod Waits
 pub mod Marks
 pub mod Resumes
 pub mod Opens
+pub mod Rounds
 pub mod Walks

@@ -50,18 +50,20 @@ pub record CanStep (phase : Phase) (has_ended : Bool) (unstamped : Option Wake) 
 abbrev pub IsGoing : Knowledge → Type 0
 IsGoing v = CanStep v.share.doing.phase v.share.doing.has_ended v.share.doing.unstamped
 
--- A thread at rest: it runs, is awake and has nothing out, no walk and nobody to mark, wants no lock and seeks none,
--- has nothing to note and doesn't sleep in its log; the sections open in its log are of just the locks that it holds,
--- in their modes, and each began since its lock was gained.
+-- A thread at rest: it runs, is awake and has nothing out, no walk and nobody to mark or counted in, wants no lock and
+-- seeks none, remembers no look, has nothing to note and doesn't sleep in its log; the sections open in its log are of
+-- just the locks that it holds, in their modes, and each began since its lock was gained.
 pub record IsAtRest (floor : Description) (v : Knowledge) : Type 0 where
   pub runs : v.pose ≡ Runs
   pub nothing_out : v.out ≡ []
   pub no_walk : v.share.doing.walk ≡ NoWalk
   pub unmarked : v.share.doing.marked ≡ []
+  pub uncounted : v.share.doing.counting ≡ None
   pub wants_nothing : v.share.doing.wanted ≡ None
   pub takes_nothing : v.share.doing.taking ≡ None
   pub no_round : v.share.doing.round ≡ None
   pub no_looks : v.share.doing.looks ≡ 0
+  pub no_last_look : v.share.doing.last_look ≡ None
   pub unnoted : v.share.doing.noted ≡ None
   pub going : IsGoing v
   pub no_wait : is_taking_back v.share.log ≡ false

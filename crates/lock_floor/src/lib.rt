@@ -4,7 +4,8 @@
 //! - `floor`: the floor, which all threads share.
 //! - `pass`: what a thread steps with: its seat at the table, the locks that it holds, its log, and those whom it took
 //!   off a queue and has yet to wake.
-//! - `steps`: the atomic steps of a thread on lock words.
+//! - `steps`: the atomic steps of a thread on lock words, and `rounds`: those by which a call begins its round and
+//!   gains.
 //! - `stamps`: those that make an entry.
 //! - `tables`: changes and reads of the locks' tables.
 //! - `laws`: what a look finds, what a read finds, and what a change leaves.
@@ -31,6 +32,7 @@ mod opening;
 mod parking;
 mod pass;
 mod prios;
+mod rounds;
 mod stamps;
 mod steps;
 mod tables;

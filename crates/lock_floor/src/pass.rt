@@ -1,5 +1,5 @@
 //! What a thread of a floor steps with.
-ghost use Rattle.std.specs.Prelude.{◌≡◌};
+ghost use Rattle.std.specs.Prelude.{◌≡◌, ◌<◌, length};
 ghost use Rattle.lock_model.specs.Operations.{hold_in};
 ghost use Rattle.lock_objects.specs.Represents.{hold_of};
 
@@ -45,9 +45,10 @@ impl<S, V, K, P: Ties<S, V, K>> Model for PassOf<S, V, K, P> {
 pub type Pass = PassOf<Slot, View, Description, Law>;
 
 impl PassOf<Slot, View, Description, Law> {
-    /// The thread.
+    /// The thread, which is one of the floor's.
     pub fn thread(&self) -> ThreadNo
-        ensures { result.0 ≡ self.now.view.thread }
+        ensures same { result.0 ≡ self.now.view.thread }
+        ensures of_floor { result.0 < length self.now.view.description.threads }
     {
         self.who
     }

@@ -149,7 +149,7 @@ fn read_first<J: Tells>(board: &Board, seat: &mut FloorSeat, l: LockNo, _by_try:
 }
 
 // Makes a word that is the seen one another with a holder more. Answers the word that it found.
-fn gain_word<J: Tells>(
+pub(crate) fn gain_word<J: Tells>(
     board: &Board,
     seat: &mut FloorSeat,
     who: ThreadNo,

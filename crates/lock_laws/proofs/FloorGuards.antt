@@ -1,5 +1,7 @@
--- The guards of a running floor can be met: p takes a free mutex, and q seeks it, looks, takes its chain and enters.
-use Rattle.std.proofs.Common.{◌≡◌, ℕ, true, false, List, [], ◌∷◌, ◌++◌, Option, Some, None, refl, sym, ap, ◌∙◌, inl, inr, arith}
+-- The guards of a running floor can be met: p takes a free mutex by its first exchange, and q, whose first exchange
+-- misses, seeks it, looks, takes its chain and enters. And they refuse exchanges outside a round that are no first
+-- ones.
+use Rattle.std.proofs.Common.{◌≡◌, ℕ, Bool, true, false, List, [], ◌∷◌, ◌++◌, Option, Some, None, refl, sym, ap, ◌∙◌, inl, inr, arith}
 use Rattle.std.proofs.lemmas.Bool.{cases_eq}
 use Rattle.lock_laws.proofs.Kit.{put_other}
 use Rattle.lock_model.specs.Counts.{sum_below, least}
@@ -66,9 +68,9 @@ none_out chains records a b (RecordOf k) t e = let z = b k in cc
 none_out chains records a b (CellOf l k) t e = cc
 none_out chains records a b ClassGraph t e = cc
 
--- p seeks the free mutex, looks, gains it and notes that
+-- p gains the free mutex by its first exchange, and notes that
 unfoldable pub taking : List Step
-taking = Seeks 0 0 false ∷ Looks 0 0 true ∷ Gains 0 0 Excl false ∷ Stamps 0 (Locked (record { 0 = 0 }) Excl) ∷ []
+taking = Seeks 0 0 false ∷ Gains 0 0 Excl false ∷ Stamps 0 (Locked (record { 0 = 0 }) Excl) ∷ []
 
 pub takes_first : (steps : List Step)
     → FloorAll 16 floor_plan (after_all floor_plan (start_state floor_plan) taking) steps
@@ -88,67 +90,56 @@ takes_first steps then = (
       no_round = refl;
     };
     has_out = (λ e. absurd cc);
-    has_seen = λ e. refl;
+    has_seen = record { takes = λ e. refl; tries = λ e. absurd cc; blocks = λ look e. absurd cc };
   },
   (
     record {
-      asks_of_thread = looks_on _ _ refl refl refl (unslept _ _ refl);
-      may = record { thread = omega arith; lock = omega arith; room = λ e. omega arith };
+      asks_of_thread = goes _ _ refl refl refl (unslept _ _ refl);
+      may = record {
+        thread = omega arith;
+        lock = omega arith;
+        admitted = refl;
+        plainly = refl;
+        unheld = refl;
+        acting = record { unnamed = refl; unwoken = refl };
+        wants = inr refl;
+      };
       has_out = tt;
       has_seen = record {
-        counts = refl;
-        of_round = λ e. refl;
-        in_chain = λ i x e. absurd (none_out (λ k. None) (λ k. None) (λ k. refl) (λ k. refl) i 0 e);
-        outside = λ i n x e. absurd (none_out (λ k. None) (λ k. None) (λ k. refl) (λ k. refl) i 0 e);
-        halting = λ e. absurd cc;
+        fits = (refl, refl);
+        in_round = λ e i. absurd cc;
+        saw = λ w i e. absurd cc;
+        outside_first = λ e. absurd cc;
+        others = λ k e. cc;
+        takes = λ e. refl;
       };
     },
     (
       record {
-        asks_of_thread = goes _ _ refl refl refl (unslept _ _ refl);
+        asks_of_thread = record { runs = record { phase = refl; unended = refl }; added = unslept _ _ refl };
         may = record {
           thread = omega arith;
-          lock = omega arith;
-          admitted = refl;
-          plainly = refl;
-          unheld = refl;
           acting = record { unnamed = refl; unwoken = refl };
-          wants = inr refl;
+          asks = (record { held = refl; closed = refl }, record { others = []; last = refl });
         };
         has_out = tt;
         has_seen = record {
-          fits = (refl, refl);
-          in_round = λ e i. absurd cc;
-          saw = λ w i e. absurd cc;
-          others = λ k e. cc;
+          in_round = tt;
+          asleep = λ e. absurd cc;
+          wakes = λ e. absurd (e refl);
+          takes = λ l e. (cc, refl);
         };
       },
-      (
-        record {
-          asks_of_thread = record { runs = record { phase = refl; unended = refl }; added = unslept _ _ refl };
-          may = record {
-            thread = omega arith;
-            acting = record { unnamed = refl; unwoken = refl };
-            asks = (record { held = refl; closed = refl }, record { others = []; last = refl });
-          };
-          has_out = tt;
-          has_seen = record {
-            in_round = tt;
-            asleep = λ e. absurd cc;
-            wakes = λ e. absurd (e refl);
-            takes = λ l e. (cc, refl);
-          };
-        },
-        then,
-      ),
+      then,
     ),
   ),
 )
 
--- q blocks on it
+-- q's first exchange misses, and it blocks on the mutex
 unfoldable entering : List Step
 entering =
-    Seeks 1 0 false ∷ Looks 1 0 true ∷ TakesItem 1 (TurnstileChain 0) ∷ TakesItem 1 (RecordOf 1) ∷ Looks 1 0 false
+    Looks 1 0 false ∷ Seeks 1 0 false ∷ Looks 1 0 true ∷ TakesItem 1 (TurnstileChain 0) ∷ TakesItem 1 (RecordOf 1) ∷
+    Looks 1 0 false
     ∷ Readies 1 (lock_queue 0) ∷ Enters 1 0 Excl 1 ∷ GivesItem 1 (RecordOf 1) ∷ GivesItem 1 (TurnstileChain 0) ∷ []
 
 -- a record goes together with each item that is out where only chains are
@@ -178,37 +169,74 @@ one_chain ClassGraph x e = absurd cc
 entering_may : FloorAll 16 floor_plan (start_state floor_plan) (taking ++ entering)
 unfolding floor_plan taking entering start_state after_seek after_look after_gain after_stamp after_take after_give
     after_ready after_enter put put_at put_queue least sum_below sections_in
-entering_may = takes_first entering
-    -- q seeks it and looks outside its chain
+entering_may = takes_first entering (
+  -- q looks at it outside a round,
+  record {
+    asks_of_thread = looks_on _ _ refl refl refl (unslept _ _ refl);
+    may = record { thread = omega arith; lock = omega arith; room = λ e. absurd cc };
+    has_out = tt;
+    has_seen = record {
+      counts = refl;
+      of_round = λ e. absurd (e refl);
+      in_chain = λ i x e. absurd (none_out (λ k. None) (λ k. None) (λ k. refl) (λ k. refl) i 1 e);
+      outside = λ i n x e. absurd (none_out (λ k. None) (λ k. None) (λ k. refl) (λ k. refl) i 1 e);
+      outside_takes = λ e. inl refl;
+      outside_first = λ e x. inl record {
+        acting = record { unnamed = refl; unwoken = refl };
+        wants = refl;
+        takes = refl;
+        unseen = refl;
+      };
+      halting = λ e. absurd cc;
+    };
+  },
+  -- seeks it and looks outside its chain
+  (
+    record {
+      asks_of_thread = goes _ _ refl refl refl (unslept _ _ refl);
+      may = record {
+        thread = omega arith;
+        lock = omega arith;
+        unheld = refl;
+        acting = record { unnamed = refl; unwoken = refl };
+        wants = inr refl;
+        tries_want_nothing = λ e. absurd cc;
+        no_round = refl;
+      };
+      has_out = (λ e. absurd cc);
+      has_seen = record { takes = λ e. refl; tries = λ e. absurd cc; blocks = λ look e. (cc, refl) };
+    },
     (
       record {
-        asks_of_thread = goes _ _ refl refl refl (unslept _ _ refl);
-        may = record {
-          thread = omega arith;
-          lock = omega arith;
-          unheld = refl;
-          acting = record { unnamed = refl; unwoken = refl };
-          wants = inr refl;
-          tries_want_nothing = λ e. absurd cc;
-          no_round = refl;
+        asks_of_thread = looks_on _ _ refl refl refl (unslept _ _ refl);
+        may = record { thread = omega arith; lock = omega arith; room = λ e. omega arith };
+        has_out = tt;
+        has_seen = record {
+          counts = refl;
+          of_round = λ e. refl;
+          in_chain = λ i x e. absurd (none_out (λ k. None) (λ k. None) (λ k. refl) (λ k. refl) i 1 e);
+          outside = λ i n x e. absurd (none_out (λ k. None) (λ k. None) (λ k. refl) (λ k. refl) i 1 e);
+          outside_takes = λ e. absurd cc;
+          outside_first = λ e. absurd cc;
+          halting = λ e. absurd cc;
         };
-        has_out = (λ e. absurd cc);
-        has_seen = λ e. refl;
       },
+      -- it takes the chain and its own record, looks again and enters
       (
         record {
-          asks_of_thread = looks_on _ _ refl refl refl (unslept _ _ refl);
-          may = record { thread = omega arith; lock = omega arith; room = λ e. omega arith };
-          has_out = tt;
-          has_seen = record {
-            counts = refl;
-            of_round = λ e. refl;
-            in_chain = λ i x e. absurd (none_out (λ k. None) (λ k. None) (λ k. refl) (λ k. refl) i 1 e);
-            outside = λ i n x e. absurd (none_out (λ k. None) (λ k. None) (λ k. refl) (λ k. refl) i 1 e);
-            halting = λ e. absurd cc;
+          asks_of_thread = record {
+            runs = inl (record { phase = refl; unended = refl });
+            owes = owes _ _ refl (unslept _ _ refl);
           };
+          may = record {
+            thread = omega arith;
+            home = refl;
+            together = λ j e. absurd (none_out (λ k. None) (λ k. None) (λ k. refl) (λ k. refl) j 1 e);
+            orders = tt;
+          };
+          has_out = (omega arith, λ e. refl);
+          has_seen = tt;
         },
-        -- it takes the chain and its own record, looks again and enters
         (
           record {
             asks_of_thread = record {
@@ -218,86 +246,72 @@ entering_may = takes_first entering
             may = record {
               thread = omega arith;
               home = refl;
-              together = λ j e. absurd (none_out (λ k. None) (λ k. None) (λ k. refl) (λ k. refl) j 1 e);
+              together = λ j e. chain_out _ _ j 1 1 e;
               orders = tt;
             };
-            has_out = (omega arith, λ e. refl);
+            has_out = (omega arith, λ e. absurd cc);
             has_seen = tt;
           },
           (
             record {
-              asks_of_thread = record {
-                runs = inl (record { phase = refl; unended = refl });
-                owes = owes _ _ refl (unslept _ _ refl);
+              asks_of_thread = looks_on _ _ refl refl refl (unslept _ _ refl);
+              may = record { thread = omega arith; lock = omega arith; room = λ e. absurd cc };
+              has_out = tt;
+              has_seen = record {
+                counts = refl;
+                of_round = λ e. refl;
+                in_chain = one_chain;
+                outside = λ i e. absurd cc;
+                outside_takes = λ e. absurd cc;
+                outside_first = λ e. absurd cc;
+                halting = λ e. absurd cc;
               };
-              may = record {
-                thread = omega arith;
-                home = refl;
-                together = λ j e. chain_out _ _ j 1 1 e;
-                orders = tt;
-              };
-              has_out = (omega arith, λ e. absurd cc);
-              has_seen = tt;
             },
             (
               record {
-                asks_of_thread = looks_on _ _ refl refl refl (unslept _ _ refl);
-                may = record { thread = omega arith; lock = omega arith; room = λ e. absurd cc };
-                has_out = tt;
-                has_seen = record {
-                  counts = refl;
-                  of_round = λ e. refl;
-                  in_chain = one_chain;
-                  outside = λ i e. absurd cc;
-                  halting = λ e. absurd cc;
-                };
+                asks_of_thread = goes _ _ refl refl refl (unslept _ _ refl);
+                may = record { thread = omega arith; running = refl };
+                has_out = (refl, refl);
+                has_seen = tt;
               },
               (
                 record {
                   asks_of_thread = goes _ _ refl refl refl (unslept _ _ refl);
-                  may = record { thread = omega arith; running = refl };
+                  may = record {
+                    waits = record {
+                      thread = omega arith;
+                      lock = omega arith;
+                      held = refl;
+                      refused = refl;
+                      queued = refl;
+                      unnamed = refl;
+                      wants = inr refl;
+                      no_walk = refl;
+                      sections = λ l mode e. absurd cc;
+                    };
+                    turnstile = refl;
+                    mutex = λ e. refl;
+                    own = refl;
+                  };
                   has_out = (refl, refl);
-                  has_seen = tt;
+                  has_seen = record { saw = refl; round = refl };
                 },
+                -- both go home
                 (
                   record {
-                    asks_of_thread = goes _ _ refl refl refl (unslept _ _ refl);
-                    may = record {
-                      waits = record {
-                        thread = omega arith;
-                        lock = omega arith;
-                        held = refl;
-                        refused = refl;
-                        queued = refl;
-                        unnamed = refl;
-                        wants = inr refl;
-                        no_walk = refl;
-                        sections = λ l mode e. absurd cc;
-                      };
-                      turnstile = refl;
-                      mutex = λ e. refl;
-                      own = refl;
-                    };
-                    has_out = (refl, refl);
-                    has_seen = record { saw = refl; round = refl };
+                    asks_of_thread = record { unparked = refl; owes = owes _ _ refl (unslept _ _ refl) };
+                    may = record { thread = omega arith; out = refl; done = λ e w n. cc };
+                    has_out = refl;
+                    has_seen = tt;
                   },
-                  -- both go home
                   (
                     record {
                       asks_of_thread = record { unparked = refl; owes = owes _ _ refl (unslept _ _ refl) };
-                      may = record { thread = omega arith; out = refl; done = λ e w n. cc };
+                      may = record { thread = omega arith; out = refl; done = (refl, λ w n. cc) };
                       has_out = refl;
                       has_seen = tt;
                     },
-                    (
-                      record {
-                        asks_of_thread = record { unparked = refl; owes = owes _ _ refl (unslept _ _ refl) };
-                        may = record { thread = omega arith; out = refl; done = (refl, λ w n. cc) };
-                        has_out = refl;
-                        has_seen = tt;
-                      },
-                      tt,
-                    ),
+                    tt,
                   ),
                 ),
               ),
@@ -305,4 +319,38 @@ entering_may = takes_first entering
           ),
         ),
       ),
-    )
+    ),
+  ),
+)
+
+-- A blocking call doesn't gain outside a round,
+blocking_gain_refused : FitsFloor 16 floor_plan (start_state floor_plan) (Gains 0 0 Excl false) → ⊥
+unfolding floor_plan start_state
+blocking_gain_refused f = let x : false ≡ true = f.has_seen.fits in cc
+
+-- nor does a call make a second exchange there: q's first one missed,
+unfoldable missing : List Step
+missing = taking ++ Looks 1 0 false ∷ []
+
+second_exchange_refused : (in_round : Bool)
+    → FitsFloor 16 floor_plan (after_all floor_plan (start_state floor_plan) missing) (Looks 1 0 in_round) → ⊥
+unfolding floor_plan taking missing start_state after_seek after_look after_gain after_stamp put put_at put_queue least
+    sum_below sections_in
+second_exchange_refused in_round f = elim (f.has_seen.outside_first refl refl) [
+  | inl first ↦ (let x = first.unseen in cc)
+  | inr e ↦ cc
+]
+
+-- and who holds a lock doesn't go on behind one: p holds the mutex 1 and missed the mutex 0
+unfoldable two_mutexes : Config
+two_mutexes = record floor_plan { locks = 2 }
+
+unfoldable missing_with : List Step
+missing_with =
+    Seeks 0 1 false ∷ Gains 0 1 Excl false ∷ Stamps 0 (Locked (record { 0 = 1 }) Excl) ∷ Looks 0 0 false ∷ []
+
+call_with_lock_refused : FitsFloor 16 two_mutexes (after_all two_mutexes (start_state two_mutexes) missing_with)
+    (Seeks 0 0 false) → ⊥
+unfolding floor_plan two_mutexes missing_with start_state after_seek after_look after_gain after_stamp put put_at
+    put_queue least sum_below sections_in
+call_with_lock_refused f = let x = (f.has_seen.blocks _ refl).1 in cc

@@ -47,6 +47,7 @@ pub mod FloorSteps
 pub mod Looks
 pub mod OwnEntries
 pub mod Rounds
+pub mod Signals
 pub mod OneQueue
 pub mod ComingToStand
 pub mod TakingOff

@@ -7,6 +7,7 @@ ghost use Rattle.lock_state.specs.State.{State, start_state};
 ghost use Rattle.lock_state.specs.Facts.{Lawful, LawfulFloor};
 ghost use Rattle.lock_state.specs.Steps.{Step, May, HasSeen, after, IsReachable, IsFloorStep, EndsRound};
 ghost use Rattle.lock_laws.specs.Rounds.{IsBoundTo, LawfulRounds};
+ghost use Rattle.lock_laws.specs.Signals.{TurnstilesSignal};
 
 /// The state at the start of a plan is one of a running floor,
 pub fn floors_begin()
@@ -38,6 +39,17 @@ pub fn rounds_end_with_their_lock()
     ensures { (chains : ℕ) (c : Config) (s : State) (step : Step) (t l : ℕ)
         → May c s step → HasSeen chains c s step → LawfulRounds chains c s
         → IsBoundTo s t l → IsBoundTo (after c s step) t l ⊎ EndsRound step t l }
+{}
+
+/// Who waits on a turnstile is taken off and woken by a signal alone: at the start nobody was,
+pub fn signals_begin()
+    ensures { (c : Config) → TurnstilesSignal c (start_state c) }
+{}
+
+/// and each step of the floor keeps it so.
+pub fn signals_alone_wake()
+    ensures { (chains : ℕ) (c : Config) (s n : State)
+        → IsFloorStep chains c s n → TurnstilesSignal c s → TurnstilesSignal c n }
 {}
 
 /// In an acquiring round a thread makes at most 100 looks.

@@ -10,10 +10,10 @@ pub mod Counting
 use Rattle.std.specs.Prelude.{◌≡◌, ◌≢◌, ◌⊎◌, ℕ, ◌%◌, Bool, true, false, not, ◌&&◌, ◌==◌, if◌then◌else◌, List, [], ◌∷◌, ◌++◌, Option, Some, None, ⊤, ◌<◌}
 use Rattle.lock_model.specs.Config.{Config}
 use Rattle.lock_model.specs.Events.{OfEnd, NoEnd, EndsTakeOf, EndsWaitOn, OfPrio, NoPrio, NewBase, ShowsPrios, OfTake, NoTake, GainedBy, FoundBusy, HaltedFor, RefusedBy, OfSleep, NoSleep, FallsAsleep, WakesUp, IsHalted, IsHaltedAtLock, WakesOne, WakesAll, facets, of_sleep, is_waking_of, is_end, sleeps_on}
-use Rattle.lock_state.specs.State.{State, Walk, NoWalk, AtLock, AtThread, Round, SleepHalted, Phase, Awake, Asleep, Last, Halting, Aborting, SelfAborted, is_parked, start_state}
+use Rattle.lock_state.specs.State.{State, Walk, NoWalk, AtLock, AtThread, Look, Round, SleepHalted, Phase, Awake, Asleep, Last, Halting, Aborting, SelfAborted, is_parked, start_state}
 use Rattle.lock_model.specs.Queues.{Cause, Mark, lock_queue}
 use Rattle.lock_model.specs.Words.{Word, is_turnstile, admits}
-use Rattle.lock_state.specs.Steps.LockWords.{bound_to, AllHold, is_taking_back, MaySeek, MayLook, MayGain, MayDrop, MayStamp, MayReady, MayUnready, IsGainedLast, after_seek, after_look, after_gain, after_drop, after_stamp, after_ready, after_unready}
+use Rattle.lock_state.specs.Steps.LockWords.{bound_to, AllHold, IsActing, is_taking_back, MaySeek, MayLook, MayGain, MayDrop, MayStamp, MayReady, MayUnready, IsGainedLast, after_seek, after_look, after_gain, after_drop, after_stamp, after_ready, after_unready}
 use Rattle.lock_state.specs.Steps.Turnstiles.{MayEnter, MayOpen, MayMark, MayResume, after_enter, after_open, after_mark, after_resume}
 use Rattle.lock_state.specs.Steps.SleepQueues.{MayEnterSleep, MayOpenSleep, MayAdd, MayWake, MayAbort, after_enter_sleep, after_open_sleep, after_add, after_wake, after_abort}
 use Rattle.lock_state.specs.Steps.Lending.{MayClaim, MayLend, MayShift, MayEndWalk, after_claim, after_lend, after_shift, after_end_walk}
@@ -192,11 +192,10 @@ abbrev pub counts_as_look : ℕ → Config → State → ℕ → ℕ → Bool
 counts_as_look chains c s t l =
     seeks l (s.round t) && not (is_with t (item_with s (chain_of chains c l)))
 
--- A gain in a round is of the round's lock and in its way. Outside a round it is the single exchange of a try, or
--- that of a blocking call which looks until it gains, and whose looks are not counted. Once blocking calls begin a
--- round before their first exchange, the first line is `FitsRound None l by_try = by_try ≡ true`.
+-- A gain in a round is of the round's lock and in its way. Outside a round it is a try's: a blocking call begins its
+-- round in the same atomic step, also where it gains by its first exchange.
 abbrev pub FitsRound : Option Round → ℕ → Bool → Type 0
-FitsRound None l by_try = ⊤
+FitsRound None l by_try = by_try ≡ true
 FitsRound (Some r) l by_try = (r.lock ≡ l) × (r.by_try ≡ by_try)
 
 -- in an acquiring round the one entry is that of a try which found the round's lock busy
@@ -239,19 +238,39 @@ TakesNothing s t = s.taking t ≡ None
 
 -- The next entry behind Sleeps ends that sleep, the next one behind a wake is its waking, and the next one of a take
 -- ends it: so that behind a gain the section of its lock begins, also where no orders are checked. Admits and the round
--- of a blocking call set what is taken; a gain that no round comes before, as a mutex makes it today, takes nothing
--- yet.
+-- of a blocking call set what is taken.
 pub record IsNextEntry (c : Config) (s : State) (t : ℕ) (e : Event) : Type 0 where
   pub in_round : NotesInRound (s.round t) e
   pub asleep : is_taking_back (s.log t) ≡ true → ends_sleep e ≡ true
   pub wakes : s.unstamped t ≢ None → is_waking e ≡ true
   pub takes : EndsItsTake c s t e
 
--- A round of a thread that wants nothing begins where no take is under way. That a look, or a taking of a chain, in a
--- blocking call's round is of the wanted lock can't be said of the begin of the round. Once orders run on a floor,
--- Looks and TakesItem ask it: `(r : Round) → s.round t ≡ Some r → r.by_try ≡ false → s.wanted t ≡ Some r.lock`
-abbrev pub SeeksAnew : State → ℕ → Type 0
-SeeksAnew s t = s.wanted t ≡ None → TakesNothing s t
+-- A thread makes the first exchange of a call, outside a round: it acts, wants and takes nothing, and has looked at no
+-- lock since its last entry, gain or release. It is the one exchange of a try, or the first of a blocking call of a
+-- thread that holds nothing.
+pub record IsFirstExchange (s : State) (t : ℕ) : Type 0 where
+  pub acting : IsActing s t
+  pub wants : s.wanted t ≡ None
+  pub takes : TakesNothing s t
+  pub unseen : s.last_look t ≡ None
+
+-- Behind a first exchange that missed, a blocking call of the same lock goes on where its thread holds nothing. A try
+-- doesn't go on: its entry is next.
+abbrev pub MayHaveMissed : State → ℕ → ℕ → Type 0
+MayHaveMissed s t l =
+    (look : Look) → s.last_look t ≡ Some look → (look.lock ≡ l) × (s.held_locks t ≡ [])
+
+-- A round of a thread that wants nothing begins where no take is under way. A try's round begins with its first look,
+-- and so does that of a blocking call of a thread that holds a lock.
+pub record SeeksAnew (s : State) (t l : ℕ) (by_try : Bool) : Type 0 where
+  pub takes : s.wanted t ≡ None → TakesNothing s t
+  pub tries : by_try ≡ true → s.last_look t ≡ None
+  pub blocks : MayHaveMissed s t l
+
+-- the order of a lock is checked outside the thread's rounds, and by a blocking call
+pub record ChecksOutsideRounds (s : State) (t l : ℕ) : Type 0 where
+  pub no_round : s.round t ≡ None
+  pub blocks : MayHaveMissed s t l
 
 -- what the thread saw last at the lock under the chain that it has out admits the mode
 abbrev pub SawAdmitting : ℕ → Config → State → ℕ → ℕ → Mode → Type 0
@@ -263,22 +282,23 @@ SawAdmitting chains c s t l mode =
 abbrev pub IsInRound : ℕ → Config → State → ℕ → ℕ → Type 0
 IsInRound chains c s t l = s.round t ≡ None → HasItem s t (chain_of chains c l) → ⊥
 
--- What a gain needs to have seen, and its round; a thread in the middle of a take gains no other lock. That a blocking
--- call's gain is of the lock that is being taken isn't asked here yet: a mutex gains by an exchange that no round comes
--- before. Once that exchange begins a round in the same step, it is one more line beside `others`, `takes : by_try ≡
--- false → s.taking t ≡ Some l`, and then the entry of each blocking call's gain comes next.
+-- What a gain needs to have seen, and its round. Outside a round it is a try's one exchange. A thread in the middle of
+-- a take gains no other lock, and a blocking call gains the lock that is being taken, so that the entry of its gain
+-- comes next.
 pub record GainsFromLook (chains : ℕ) (c : Config) (s : State) (t l : ℕ) (mode : Mode)
     (by_try : Bool) : Type 0 where
   pub fits : FitsRound (s.round t) l by_try
   pub in_round : IsInRound chains c s t l
   pub saw : SawAdmitting chains c s t l mode
+  pub outside_first : s.round t ≡ None → IsFirstExchange s t
   pub others : (k : ℕ) → s.taking t ≡ Some k → k ≡ l
+  pub takes : by_try ≡ false → s.taking t ≡ Some l
 
 -- A look in a round is at the round's lock, and one under a chain at a lock whose queue stands in that chain: no
 -- procedure looks elsewhere, and what was seen of the round's lock stays (this project's rule). Outside a round a
--- thread looks under a chain only at a lock that it holds, to release it, or at halting others: there at the lock whose
--- sleeper it aborts, under that lock's chain. Once blocking calls begin a round before their first exchange, it is one
--- more line, `outside_takes : s.round t ≡ None → TakesNothing s t ⊎ IsHalting s t`
+-- thread looks under a chain only at a lock that it holds, to release it, or at halting others: there at the lock
+-- whose sleeper it aborts, under that lock's chain. But for that it takes nothing outside a round, and looks at a
+-- lock that it doesn't hold only by a call's first exchange, which missed.
 pub record LooksInRound (chains : ℕ) (c : Config) (s : State) (t l : ℕ) (in_round : Bool) : Type 0
   where
     pub counts : in_round ≡ counts_as_look chains c s t l
@@ -286,6 +306,9 @@ pub record LooksInRound (chains : ℕ) (c : Config) (s : State) (t l : ℕ) (in_
     pub in_chain : (i : Item) → is_chain i ≡ true → HasItem s t i → i ≡ chain_of chains c l
     pub outside : (i : Item) → s.round t ≡ None → is_chain i ≡ true → HasItem s t i
         → (s.held t l ≢ NotHeld) ⊎ IsHalting s t
+    pub outside_takes : s.round t ≡ None → TakesNothing s t ⊎ IsHalting s t
+    pub outside_first : s.round t ≡ None → s.held t l ≡ NotHeld
+        → IsFirstExchange s t ⊎ IsHalting s t
     pub halting : IsHalting s t → HasItem s t (chain_of chains c l)
 
 -- a sleep on a channel begins outside the thread's rounds, with no wake to note and no halt
@@ -355,12 +378,34 @@ pub record HaltsOthers (s : State) (t : ℕ) : Type 0 where
   pub owes : OwesNoStep s t
 
 -- 3. What each step asks once lock orders are checked, in the scheduled run and on a floor: a take is admitted before
--- its lock is sought
+-- its lock is sought. But a thread that holds nothing can't be refused, and teaches no edge: it may gain a lock by its
+-- first exchange before it takes the class graph.
 
--- a blocking call gains the lock that it wants, and a thread that takes a lock gains no other; nor does one gain a lock
--- that has the halt of a take to note
+-- the thread's take needs no admission: it holds nothing, has nothing to note, and isn't in a wait
+pub record NeedsNoAdmission (s : State) (t : ℕ) : Type 0 where
+  pub bare : s.held_locks t ≡ []
+  pub unnoted : s.noted t ≡ None
+  pub awake : is_taking_back (s.log t) ≡ false
+
+-- a blocking call is of the lock that the thread wants, or needs no admission
+abbrev pub IsTakenInOrder : State → ℕ → ℕ → Bool → Type 0
+IsTakenInOrder s t l by_try =
+    by_try ≡ false → (s.wanted t ≡ Some l) ⊎ NeedsNoAdmission s t
+
+-- the round under way is a try's, or of the lock that the thread wants
+abbrev pub IsRoundOfWanted : State → ℕ → Type 0
+IsRoundOfWanted s t = (r : Round) → s.round t ≡ Some r → r.by_try ≡ false → s.wanted t ≡ Some r.lock
+
+-- a look at the lock that is being taken is in its round, and one that counts in a blocking call's round is at the lock
+-- that the thread wants: who needs no admission gains at once, or asks for one
+pub record LooksInOrder (s : State) (t l : ℕ) (in_round : Bool) : Type 0 where
+  pub taken : s.taking t ≡ Some l → seeks l (s.round t) ≡ true
+  pub wants : in_round ≡ true → IsRoundOfWanted s t
+
+-- a blocking call gains such a lock, and a thread that takes a lock gains no other; nor does one gain a lock that has
+-- the halt of a take to note
 pub record GainsInOrder (s : State) (t l : ℕ) (by_try : Bool) : Type 0 where
-  pub wants : by_try ≡ false → s.wanted t ≡ Some l
+  pub wants : IsTakenInOrder s t l by_try
   pub takes : (k : ℕ) → s.taking t ≡ Some k → k ≡ l
   pub unhalted : (k : ℕ) → s.noted t ≡ Some (SleepHalted (lock_queue k)) → ⊥
 
@@ -407,15 +452,16 @@ pub record KindOfStep : Type 1 where
   -- under the chain of the queue that it goes to, and resumes with nothing out
   pub has_out : ℕ → Config → State → Type 0
   -- What the thread must have seen there, and in which round it acts. Where a look in the lock's chain saw a word
-  -- that doesn't admit, the thread enters and does not gain, until it looks again. A thread sleeps on a channel
-  -- outside its rounds, where it has no wake to note. The order of locks is checked outside a thread's rounds.
+  -- that doesn't admit, the thread enters and does not gain, until it looks again. Outside a round a thread makes one
+  -- exchange, of a try or of a blocking call where it holds nothing. It sleeps on a channel outside its rounds, where
+  -- it has no wake to note. The order of locks is checked outside a thread's rounds.
   pub has_seen : ℕ → Config → State → Type 0
   -- What it asks of its thread there: that it is awake, hasn't ended, and owes no other step; or else where the thread
   -- is, where it has ended, is at halting others or is parked
   pub asks_of_thread : State → Type 0
-  -- How it keeps to the order that was admitted. A blocking call seeks the lock that it takes, and looks at it in
-  -- its round alone; an enter is of the wanted lock; a release isn't of a thread that takes; and the next entry of
-  -- one that takes ends its take.
+  -- How it keeps to the order that was admitted. A blocking call seeks the lock that it wants, or one that it gains
+  -- at once while it holds nothing; it looks at the lock that it takes in its round alone; an enter is of the wanted
+  -- lock; a release isn't of a thread that takes; and the next entry of one that takes ends its take.
   pub keeps_order : Config → State → Type 0
   -- How it keeps the count of those that are awake: whom it wakes was counted in, and a thread resumes from where it
   -- was parked
@@ -447,18 +493,19 @@ abbrev pub kind_of : Step → KindOfStep
 kind_of (Seeks t l by_try) =
     record (plain t (λ c s. MaySeek c s t l by_try) (λ c s. after_seek s t l by_try)) {
       has_out = λ chains c s. HasItem s t (chain_of chains c l) → ⊥;
-      has_seen = λ chains c s. SeeksAnew s t;
-      keeps_order = λ c s. by_try ≡ false → s.wanted t ≡ Some l;
+      has_seen = λ chains c s. SeeksAnew s t l by_try;
+      keeps_order = λ c s. IsTakenInOrder s t l by_try;
     }
 kind_of (Looks t l in_round) =
     record (plain t (λ c s. MayLook c s t l in_round) (λ c s. after_look s t l in_round)) {
       has_seen = λ chains c s. LooksInRound chains c s t l in_round;
       asks_of_thread = λ s. GoesOnOrHalts s t;
-      keeps_order = λ c s. s.taking t ≡ Some l → seeks l (s.round t) ≡ true;
+      keeps_order = λ c s. LooksInOrder s t l in_round;
     }
 kind_of (TakesItem t i) = record (plain t (λ c s. MayTake c s t i) (λ c s. after_take s t i)) {
   has_out = λ chains c s. IsItem chains c i × IsOfRound chains c (s.round t) i;
   asks_of_thread = λ s. GoesOnTaking s t i;
+  keeps_order = λ c s. is_chain i ≡ true → IsRoundOfWanted s t;
 }
 kind_of (GivesItem t i) = record (plain t (λ c s. MayGive c s t i) (λ c s. after_give s t i)) {
   has_out = λ chains c s. HasItem s t i;
@@ -559,12 +606,12 @@ kind_of (EndsWalk t) = record (plain t (λ c s. MayEndWalk c s t) (λ c s. after
 }
 kind_of (Admits t l) = record (plain t (λ c s. MayAdmit c s t l) (λ c s. after_admit c s t l)) {
   has_out = λ chains c s. HasItem s t ClassGraph;
-  has_seen = λ chains c s. s.round t ≡ None;
+  has_seen = λ chains c s. ChecksOutsideRounds s t l;
 }
 kind_of (Refuses t l k) =
     record (plain t (λ c s. MayRefuse c s t l k) (λ c s. after_refuse s t l k)) {
       has_out = λ chains c s. HasItem s t ClassGraph;
-      has_seen = λ chains c s. s.round t ≡ None;
+      has_seen = λ chains c s. ChecksOutsideRounds s t l;
     }
 kind_of (CountsOut t) =
     record (plain t (λ c s. MayCountOut c s t) (λ c s. after_count_out s t)) {

@@ -123,32 +123,26 @@ pub fn by_threads<R: Threads + Wait + Sync, G: Gate>(
     rt: &R,
     alloc: Global,
     bytes: &[u8],
-    chains: u32,
     gate: &G,
 ) -> Result<(Status, Vec<u8>), ReadError>
-    requires some_chains { 1 ≤ chains }
-    requires few_chains { chains ≤ 64 }
     ensures pair { IfOk result (λ a.
         IsOutputOfLocks IsOutputOfThreads bytes.now (a.0, a.1.items)) }
     ensures refused { IfErr result (IsFaultOf (IsOutputOfLocks IsOutputOfThreads bytes.now)) }
     ensures has_text { IfOk result (λ a. has_text a.0 ≡ true) }
 {
     let plan = read_script(alloc, bytes)?;
-    let made = of_threads(rt, alloc, &plan, chains, gate)?;
+    let made = of_threads(rt, alloc, &plan, gate)?;
     Ok(made)
 }
 
-// Those of a run of a plan's threads.
+// Those of a run of a plan's threads, on a floor with one chain of each sort of queue, whatever the words say.
 fn of_threads<R: Threads + Wait + Sync, G: Gate>(
     rt: &R,
     alloc: Global,
     plan: &Plan,
-    chains: u32,
     gate: &G,
 ) -> Result<(Status, Vec<u8>), AllocError>
     requires proper { IsProper plan.now }
-    requires some_chains { 1 ≤ chains }
-    requires few_chains { chains ≤ 64 }
     ensures pair { IfOk result (λ a. IsOutputOfThreads plan.now (a.0, a.1.items)) }
     ensures has_text { IfOk result (λ a. has_text a.0 ≡ true) }
 {
@@ -156,7 +150,7 @@ fn of_threads<R: Threads + Wait + Sync, G: Gate>(
         let text = print_fault(alloc, 0, 0)?;
         return Ok((Status::BadScript, text));
     }
-    let (outcome, _) = run_plan(rt, alloc, plan, chains, gate)?;
+    let (outcome, _) = run_plan(rt, alloc, plan, 1, gate)?;
     of_outcome(alloc, plan, &outcome)
 }
 

@@ -10,7 +10,6 @@
 ghost use Rattle.std.specs.Prelude.{◌≡◌, true, false, map, IfOk, List, ℕ};
 ghost use Rattle.std.specs.String.{string_bytes};
 ghost use Rattle.command_line.specs.Forms.{is_form, is_run};
-ghost use Rattle.command_line.specs.Ranges.{HasRanges};
 ghost use Rattle.lock_io.specs.Faults.{Rose};
 ghost use Rattle.lock_model.specs.Script.{IsAccepted};
 ghost use Rattle.lock_model.specs.declared.plan.Plan.{Plan};
@@ -122,9 +121,7 @@ pub fn lockrun_live<R: Threads + Wait + Sync, S: Source, K: Sink, G: Gate>(
         words,
         source,
         sink,
-        |said, bytes|
-            requires ranges { HasRanges said }
-        { by_threads(rt, alloc, &bytes, said.chains, gate) },
+        |_, bytes| by_threads(rt, alloc, &bytes, gate),
     )
 }
 

@@ -1,14 +1,15 @@
 -- The guards of lock orders can be met on a running floor: p takes the class graph, and its mutex is admitted and
 -- gained. It takes the graph again, is refused the other mutex, which is of the same class, and gives the first back.
-use Rattle.std.proofs.Common.{◌≡◌, Bool, true, false, cond, eqb, List, [], ◌∷◌, None, refl, inl, arith}
+-- Or it gains the mutex by its first exchange, without the graph.
+use Rattle.std.proofs.Common.{◌≡◌, ℕ, Bool, true, false, cond, eqb, List, [], ◌∷◌, Option, Some, None, refl, ap, inl, inr, arith}
 use Rattle.lock_model.specs.Config.{Config}
 use Rattle.lock_model.specs.History.{replaced, sections_in}
 use Rattle.lock_model.specs.Holds.{NotHeld, Holds}
 use Rattle.lock_model.specs.declared.plan.Mode.TheVariants.{Excl}
 use Rattle.lock_model.specs.declared.event.Event.TheVariants.{Locked, Unlocked, Reversed}
-use Rattle.lock_state.specs.State.{start_state, put, put_at}
+use Rattle.lock_state.specs.State.{Round, start_state, put, put_at}
 use Rattle.lock_state.specs.Steps.LockWords.{AllOpen, after_seek, after_look, after_gain, after_drop, after_stamp}
-use Rattle.lock_state.specs.Steps.Items.{ClassGraph, after_take}
+use Rattle.lock_state.specs.Steps.Items.{TurnstileChain, ClassGraph, after_take}
 use Rattle.lock_state.specs.Steps.Orders.{after_admit, after_refuse}
 use Rattle.lock_state.specs.Steps.{Step, Seeks, Looks, TakesItem, Gains, Stamps, Drops, Admits, Refuses, KeepToOrder, after_all}
 use Rattle.lock_laws.proofs.FloorGuards.{FloorAll, floor_plan, none_out, running, owes, goes, looks_on}
@@ -62,7 +63,7 @@ admitted_may = (
         admitted = tt;
       };
       has_out = refl;
-      has_seen = refl;
+      has_seen = record { no_round = refl; blocks = λ look e. absurd cc };
     },
     (
       record {
@@ -77,7 +78,7 @@ admitted_may = (
           no_round = refl;
         };
         has_out = (λ e. absurd cc);
-        has_seen = λ e. absurd cc;
+        has_seen = record { takes = λ e. absurd cc; tries = λ e. absurd cc; blocks = λ look e. absurd cc };
       },
       (
         record {
@@ -89,6 +90,8 @@ admitted_may = (
             of_round = λ e. refl;
             in_chain = λ i x e. absurd (none_out (λ k. None) (λ k. None) (λ k. refl) (λ k. refl) i 0 e);
             outside = λ i n x e. absurd (none_out (λ k. None) (λ k. None) (λ k. refl) (λ k. refl) i 0 e);
+            outside_takes = λ e. absurd cc;
+            outside_first = λ e. absurd cc;
             halting = λ e. absurd cc;
           };
         },
@@ -109,7 +112,9 @@ admitted_may = (
               fits = (refl, refl);
               in_round = λ e i. absurd cc;
               saw = λ w i e. absurd cc;
+              outside_first = λ e. absurd cc;
               others = λ k e. cc;
+              takes = λ e. refl;
             };
           },
           (
@@ -143,18 +148,50 @@ admitted_keep : KeepToOrder one_class (start_state one_class) is_admitted
 unfolding floor_plan one_class is_admitted start_state after_take after_admit after_seek after_look after_gain
     after_stamp put put_at sections_in
 admitted_keep = (
-  tt,
+  (λ e. absurd cc),
   (
     tt,
     (
-      (λ e. refl),
+      (λ e. inl refl),
       (
-        (λ e. refl),
-        (record { wants = λ e. refl; takes = λ k e. cc; unhalted = λ k e. cc }, ((λ l e. (cc, refl)), tt)),
+        record { taken = λ e. refl; wants = λ e r i b. ap lock_wanted i },
+        (record { wants = λ e. inl refl; takes = λ k e. cc; unhalted = λ k e. cc }, ((λ l e. (cc, refl)), tt)),
       ),
     ),
   ),
 )
+  where
+    lock_wanted : Option Round → Option ℕ
+    lock_wanted None = None
+    lock_wanted (Some r) = Some r.lock
+
+-- and so can those of a first exchange that hits: p, which holds nothing, needs no admission
+unfoldable is_first : List Step
+is_first = Seeks 0 0 false ∷ Gains 0 0 Excl false ∷ Stamps 0 (Locked (record { 0 = 0 }) Excl) ∷ []
+
+first_keep : KeepToOrder one_class (start_state one_class) is_first
+unfolding floor_plan one_class is_first start_state after_seek after_gain after_stamp put put_at sections_in
+first_keep = (
+  (λ e. inr record { bare = refl; unnoted = refl; awake = refl }),
+  (
+    record {
+      wants = λ e. inr record { bare = refl; unnoted = refl; awake = refl };
+      takes = λ k e. cc;
+      unhalted = λ k e. cc;
+    },
+    ((λ l e. (cc, refl)), tt),
+  ),
+)
+
+-- But a look in a round, or a taking of the lock's chain there, needs one
+unadmitted_look_refused : KeepToOrder one_class (start_state one_class) (Seeks 0 0 false ∷ Looks 0 0 true ∷ []) → ⊥
+unfolding floor_plan one_class start_state after_seek put
+unadmitted_look_refused k = let x : ◌≡◌ {A = Option ℕ} None (Some 0) = k.1.0.wants refl _ refl refl in cc
+
+unadmitted_section_refused : KeepToOrder one_class (start_state one_class)
+    (Seeks 0 0 false ∷ TakesItem 0 (TurnstileChain 0) ∷ []) → ⊥
+unfolding floor_plan one_class start_state after_seek put
+unadmitted_section_refused k = let x : ◌≡◌ {A = Option ℕ} None (Some 0) = k.1.0 refl _ refl refl in cc
 
 -- the section of the mutex that p holds is open
 is_open : AllOpen one_class (after_all one_class (start_state one_class) is_admitted) 0
@@ -202,7 +239,7 @@ refused_may = (
         refused = inl (inl refl, refl);
       };
       has_out = refl;
-      has_seen = refl;
+      has_seen = record { no_round = refl; blocks = λ look e. absurd cc };
     },
     (
       record {
@@ -244,4 +281,4 @@ refused_may = (
 refused_keep : KeepToOrder one_class (after_all one_class (start_state one_class) is_admitted) is_refused
 unfolding floor_plan one_class is_admitted is_refused start_state after_take after_admit after_refuse after_seek
     after_look after_gain after_drop after_stamp put put_at sections_in
-refused_keep = (tt, (tt, ((λ l e. absurd cc), ((λ l e. absurd cc), (refl, tt)))))
+refused_keep = ((λ e. absurd cc), (tt, ((λ l e. absurd cc), ((λ l e. absurd cc), (refl, tt)))))

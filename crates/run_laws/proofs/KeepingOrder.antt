@@ -1,6 +1,6 @@
 -- The steps of a turn keep to the order of locks: a thread takes just the lock that it wants, which was admitted or
 -- is that of its wait; it gives no lock back while it takes one, and the entry that it makes then ends the take.
-use Rattle.std.proofs.Common.{◌≡◌, ℕ, ◌<◌, Bool, true, false, [], ◌∷◌, length, Option, Some, None, refl, sym, ap, subst, ◌∙◌}
+use Rattle.std.proofs.Common.{◌≡◌, ℕ, ◌<◌, Bool, true, false, [], ◌∷◌, length, Option, Some, None, refl, sym, ap, subst, inl, ◌∙◌}
 use Rattle.std.specs.Prelude.{is_some}
 use Rattle.std.proofs.lemmas.Option.{none-some, same_Some}
 use Rattle.lock_model.specs.Plans.{config_of}
@@ -103,7 +103,7 @@ module _ (plan : Plan) (r : Run) (t : ℕ) (p : IsProper plan) (k : IsOnTrack pl
   in_order : {l : LockNo} {mode : Mode} {op : Op} {by_try : Bool} {e : Event}
       → actions.Gaining plan r t l mode op by_try e → IsAtOperation plan r t (Some op) → GainsInOrder s t l.0 by_try
   in_order {l} (actions.by_taking by) i = record {
-    wants = λ x. wants_it plan r t k by i;
+    wants = λ x. inl (wants_it plan r t k by i);
     takes = λ j f. same_Some j l.0 (sym f ∙ k.taking t ∙ wants_it plan r t k by i);
     unhalted = λ j f. none-some _ (sym (k.unnoted t) ∙ f);
   }
@@ -170,7 +170,7 @@ action_keeps_order plan r t _ p k lt (actions.is_refused j b e) =
     (tt, (λ j. none_taken r t j (quiet plan r t p k b.wants), tt))
 action_keeps_order plan r t _ p k lt (actions.finds_busy l mode past i e) =
     let none = at_operation plan r t p k (Try l mode past) i refl refl in
-    (none_taken r t l.0 none, (λ j. none_taken r t j none, tt))
+    (record { taken = none_taken r t l.0 none; wants = λ x. absurd cc }, (λ j. none_taken r t j none, tt))
 action_keeps_order plan r t _ p k lt (actions.releases l i back) =
     gives_back plan r t l.0 _ l _ back (at_operation plan r t p k (Release l) i refl refl)
 action_keeps_order plan r t _ p k lt (actions.sleeps d i e) =

@@ -293,6 +293,8 @@ waking_may = (
                           (none_out (put (put there 0 (Some 1)) 0 None) (put (put there 0 (Some 1)) 0 None) again again
                           i 0
                           e);
+                      outside_takes = λ e. absurd cc;
+                      outside_first = λ e. absurd cc;
                       halting = λ e. absurd cc;
                     };
                   },
@@ -314,7 +316,9 @@ waking_may = (
                             fits = (refl, refl);
                             in_round = λ e i. absurd cc;
                             saw = λ w i e. absurd cc;
+                            outside_first = λ e. absurd cc;
                             others = λ k e. cc;
+                            takes = λ e. refl;
                           };
                     },
                     (
@@ -356,21 +360,23 @@ two_locks = record floor_plan { locks = 2; chan_lock = λ d. 1 }
 -- p gains s, notes that, and is made ready to sleep with it
 unfoldable going : List Step
 going =
-    Gains 0 1 Excl false ∷ Stamps 0 (Locked (record { 0 = 1 }) Excl) ∷ TakesItem 0 (SleepChain 0) ∷ TakesItem 0
+    Seeks 0 1 false ∷ Gains 0 1 Excl false ∷ Stamps 0 (Locked (record { 0 = 1 }) Excl) ∷ TakesItem 0 (SleepChain 0) ∷
+    TakesItem 0
     (RecordOf 0) ∷ Readies 0 (chan_queue 0) ∷ []
 
 -- 1. A sleeper with a closed section: p gains m, notes that, does the same with s, notes the release of m and keeps m's
 -- word
 unfoldable closing : List Step
 closing =
-    Gains 0 0 Excl false ∷ Stamps 0 (Locked (record { 0 = 0 }) Excl) ∷ Gains 0 1 Excl false ∷ Stamps 0
-    (Locked (record { 0 = 1 }) Excl)
+    Seeks 0 0 false ∷ Gains 0 0 Excl false ∷ Stamps 0 (Locked (record { 0 = 0 }) Excl) ∷ Seeks 0 1 false ∷
+    Gains 0 1 Excl false ∷ Stamps 0 (Locked (record { 0 = 1 }) Excl)
     ∷ Stamps 0 (Unlocked (record { 0 = 0 }) Excl) ∷ TakesItem 0 (SleepChain 0) ∷ TakesItem 0 (RecordOf 0) ∷ Readies 0
     (chan_queue 0) ∷ []
 
 -- each step of this may be made,
 closing_may : FloorAll 16 two_locks (start_state two_locks) closing
-unfolding floor_plan two_locks closing start_state after_gain after_stamp after_take after_ready put put_at put_queue
+unfolding floor_plan two_locks closing start_state after_seek after_gain after_stamp after_take after_ready put put_at
+    put_queue
     least sum_below sections_in
 closing_may = (
   record {
@@ -378,126 +384,162 @@ closing_may = (
     may = record {
       thread = omega arith;
       lock = omega arith;
-      admitted = refl;
-      plainly = refl;
       unheld = refl;
       acting = record { unnamed = refl; unwoken = refl };
       wants = inr refl;
+      tries_want_nothing = λ e. absurd cc;
+      no_round = refl;
     };
-    has_out = tt;
-    has_seen = record {
-      fits = tt;
-      in_round = λ e i. absurd cc;
-      saw = λ w i e. absurd cc;
-      others = λ k e. absurd cc;
-    };
+    has_out = (λ e. absurd cc);
+    has_seen = record { takes = λ e. refl; tries = λ e. absurd cc; blocks = λ look e. absurd cc };
   },
   (
     record {
-      asks_of_thread = record { runs = record { phase = refl; unended = refl }; added = unslept _ _ refl };
+      asks_of_thread = goes _ _ refl refl refl (unslept _ _ refl);
       may = record {
         thread = omega arith;
+        lock = omega arith;
+        admitted = refl;
+        plainly = refl;
+        unheld = refl;
         acting = record { unnamed = refl; unwoken = refl };
-        asks = (record { held = refl; closed = refl }, record { others = []; last = refl });
+        wants = inr refl;
       };
       has_out = tt;
       has_seen = record {
-        in_round = tt;
-        asleep = λ e. absurd cc;
-        wakes = λ e. absurd (e refl);
-        takes = λ l e. absurd cc;
+        fits = (refl, refl);
+        in_round = λ e i. absurd cc;
+        saw = λ w i e. absurd cc;
+        outside_first = λ e. absurd cc;
+        others = λ k e. cc;
+        takes = λ e. refl;
       };
     },
     (
       record {
-        asks_of_thread = goes _ _ refl refl refl (unslept _ _ refl);
+        asks_of_thread = record { runs = record { phase = refl; unended = refl }; added = unslept _ _ refl };
         may = record {
           thread = omega arith;
-          lock = omega arith;
-          admitted = refl;
-          plainly = refl;
-          unheld = refl;
           acting = record { unnamed = refl; unwoken = refl };
-          wants = inr refl;
+          asks = (record { held = refl; closed = refl }, record { others = []; last = refl });
         };
         has_out = tt;
         has_seen = record {
-          fits = tt;
-          in_round = λ e i. absurd cc;
-          saw = λ w i e. absurd cc;
-          others = λ k e. absurd cc;
+          in_round = tt;
+          asleep = λ e. absurd cc;
+          wakes = λ e. absurd (e refl);
+          takes = λ l e. (cc, refl);
         };
       },
       (
         record {
-          asks_of_thread = record { runs = record { phase = refl; unended = refl }; added = unslept _ _ refl };
+          asks_of_thread = goes _ _ refl refl refl (unslept _ _ refl);
           may = record {
             thread = omega arith;
+            lock = omega arith;
+            unheld = refl;
             acting = record { unnamed = refl; unwoken = refl };
-            asks = (
-              record { held = refl; closed = refl },
-              record { others = record { lock = 0; by_try = false } ∷ []; last = refl },
-            );
+            wants = inr refl;
+            tries_want_nothing = λ e. absurd cc;
+            no_round = refl;
           };
-          has_out = tt;
-          has_seen = record {
-            in_round = tt;
-            asleep = λ e. absurd cc;
-            wakes = λ e. absurd (e refl);
-            takes = λ l e. absurd cc;
-          };
+          has_out = (λ e. absurd cc);
+          has_seen = record { takes = λ e. refl; tries = λ e. absurd cc; blocks = λ look e. absurd cc };
         },
         (
           record {
-            asks_of_thread = record { runs = record { phase = refl; unended = refl }; added = unslept _ _ refl };
-            may = record { thread = omega arith; acting = record { unnamed = refl; unwoken = refl }; asks = refl };
+            asks_of_thread = goes _ _ refl refl refl (unslept _ _ refl);
+            may = record {
+              thread = omega arith;
+              lock = omega arith;
+              admitted = refl;
+              plainly = refl;
+              unheld = refl;
+              acting = record { unnamed = refl; unwoken = refl };
+              wants = inr refl;
+            };
             has_out = tt;
-            has_seen =
-                record {
-                  in_round = tt;
-                  asleep = λ e. absurd cc;
-                  wakes = λ e. absurd (e refl);
-                  takes = λ l e. absurd cc;
-                };
+            has_seen = record {
+              fits = (refl, refl);
+              in_round = λ e i. absurd cc;
+              saw = λ w i e. absurd cc;
+              outside_first = λ e. absurd cc;
+              others = λ k e. cc;
+              takes = λ e. refl;
+            };
           },
           (
             record {
-              asks_of_thread = record {
-                runs = inl (record { phase = refl; unended = refl });
-                owes = owes _ _ refl (unslept _ _ refl);
-              };
+              asks_of_thread = record { runs = record { phase = refl; unended = refl }; added = unslept _ _ refl };
               may = record {
                 thread = omega arith;
-                home = refl;
-                together = λ j e. absurd (none_out (λ k. None) (λ k. None) (λ k. refl) (λ k. refl) j 0 e);
-                orders = tt;
+                acting = record { unnamed = refl; unwoken = refl };
+                asks = (
+                  record { held = refl; closed = refl },
+                  record { others = record { lock = 0; by_try = false } ∷ []; last = refl },
+                );
               };
-              has_out = (omega arith, tt);
-              has_seen = tt;
+              has_out = tt;
+              has_seen = record {
+                in_round = tt;
+                asleep = λ e. absurd cc;
+                wakes = λ e. absurd (e refl);
+                takes = λ l e. (cc, refl);
+              };
             },
             (
               record {
-                asks_of_thread = record {
-                  runs = inl (record { phase = refl; unended = refl });
-                  owes = owes _ _ refl (unslept _ _ refl);
-                };
-                may = record {
-                  thread = omega arith;
-                  home = refl;
-                  together = λ j e. chain_out (λ k. None) (put (λ k. None) 0 (Some 0)) j 0 0 e;
-                  orders = tt;
-                };
-                has_out = (omega arith, tt);
-                has_seen = tt;
+                asks_of_thread = record { runs = record { phase = refl; unended = refl }; added = unslept _ _ refl };
+                may = record { thread = omega arith; acting = record { unnamed = refl; unwoken = refl }; asks = refl };
+                has_out = tt;
+                has_seen =
+                    record {
+                      in_round = tt;
+                      asleep = λ e. absurd cc;
+                      wakes = λ e. absurd (e refl);
+                      takes = λ l e. absurd cc;
+                    };
               },
               (
                 record {
-                  asks_of_thread = goes _ _ refl refl refl (unslept _ _ refl);
-                  may = record { thread = omega arith; running = refl };
-                  has_out = (refl, refl);
+                  asks_of_thread = record {
+                    runs = inl (record { phase = refl; unended = refl });
+                    owes = owes _ _ refl (unslept _ _ refl);
+                  };
+                  may = record {
+                    thread = omega arith;
+                    home = refl;
+                    together = λ j e. absurd (none_out (λ k. None) (λ k. None) (λ k. refl) (λ k. refl) j 0 e);
+                    orders = tt;
+                  };
+                  has_out = (omega arith, tt);
                   has_seen = tt;
                 },
-                tt,
+                (
+                  record {
+                    asks_of_thread = record {
+                      runs = inl (record { phase = refl; unended = refl });
+                      owes = owes _ _ refl (unslept _ _ refl);
+                    };
+                    may = record {
+                      thread = omega arith;
+                      home = refl;
+                      together = λ j e. chain_out (λ k. None) (put (λ k. None) 0 (Some 0)) j 0 0 e;
+                      orders = tt;
+                    };
+                    has_out = (omega arith, tt);
+                    has_seen = tt;
+                  },
+                  (
+                    record {
+                      asks_of_thread = goes _ _ refl refl refl (unslept _ _ refl);
+                      may = record { thread = omega arith; running = refl };
+                      has_out = (refl, refl);
+                      has_seen = tt;
+                    },
+                    tt,
+                  ),
+                ),
               ),
             ),
           ),
@@ -510,7 +552,8 @@ closing_may = (
 -- but then p can't go to sleep
 closed_sleeper_refused : FitsFloor 16 two_locks (after_all two_locks (start_state two_locks) closing)
     (Stamps 0 (Sleeps (record { 0 = 0 }))) → ⊥
-unfolding floor_plan two_locks closing start_state after_gain after_stamp after_take after_ready put put_at put_queue
+unfolding floor_plan two_locks closing start_state after_seek after_gain after_stamp after_take after_ready put put_at
+    put_queue
     least sum_below sections_in
 closed_sleeper_refused f = let x : NotHeld ≡ Holds Excl = f.may.asks.sections 0 Excl refl (λ e. cc) in cc
 
@@ -519,7 +562,8 @@ closed_sleeper_refused f = let x : NotHeld ≡ Holds Excl = f.may.asks.sections 
 gain_before_add_refused : FitsFloor 16 two_locks
     (after_all two_locks (start_state two_locks) (going ++ Stamps 0 (Sleeps (record { 0 = 0 })) ∷ []))
     (Gains 0 0 Excl false) → ⊥
-unfolding floor_plan two_locks going start_state after_gain after_stamp after_take after_ready put put_at put_queue
+unfolding floor_plan two_locks going start_state after_seek after_gain after_stamp after_take after_ready put put_at
+    put_queue
     least sum_below sections_in
 gain_before_add_refused f =
     f.asks_of_thread.owes.added
@@ -536,12 +580,14 @@ other_look_refused in_round f = let x : false ≡ true = f.has_seen.of_round (λ
 -- look at s, also where s has the same chain
 unfoldable releasing : List Step
 releasing =
-    Gains 0 0 Excl false ∷ Stamps 0 (Locked (record { 0 = 0 }) Excl) ∷ Stamps 0 (Unlocked (record { 0 = 0 }) Excl) ∷
+    Seeks 0 0 false ∷ Gains 0 0 Excl false ∷ Stamps 0 (Locked (record { 0 = 0 }) Excl) ∷ Stamps 0
+    (Unlocked (record { 0 = 0 }) Excl) ∷
     TakesItem 0 (TurnstileChain 0) ∷ []
 
 other_look_in_release_refused : (chains : ℕ) (in_round : Bool)
     → FitsFloor chains two_locks (after_all two_locks (start_state two_locks) releasing) (Looks 0 1 in_round) → ⊥
-unfolding floor_plan two_locks releasing start_state after_gain after_stamp after_take put put_at put_queue least
+unfolding floor_plan two_locks releasing start_state after_seek after_gain after_stamp after_take put put_at put_queue
+    least
     sum_below sections_in
 other_look_in_release_refused chains in_round f = elim (f.has_seen.outside (TurnstileChain 0) refl refl refl) [
   | inl unheld ↦ unheld refl

@@ -55,4 +55,5 @@ returns c =
         kind = subst HasMutex locks refl;
       };
       key = subst (λ (xs : List (ℕ × ℕ)). Contains xs (0, 7)) keys (0, omega arith, refl);
+      one_chain = refl;
     }

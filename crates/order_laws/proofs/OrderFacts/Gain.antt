@@ -1,5 +1,5 @@
 -- A gain and a claim that keep to the order keep the facts of orders.
-use Rattle.std.proofs.Common.{◌≡◌, ℕ, Bool, false, List, ◌∷◌, Option, Some, None, sym, ap, inl, inr, ◌∙◌}
+use Rattle.std.proofs.Common.{◌≡◌, ℕ, Bool, false, List, ◌∷◌, Option, Some, None, sym, ap, subst, inl, inr, ◌∙◌}
 use Rattle.std.proofs.lemmas.Bool.{cases_eq}
 use Rattle.lock_model.specs.Config.{Config}
 use Rattle.lock_model.specs.Holds.{Hold, Holds}
@@ -45,9 +45,12 @@ module _ (c : Config) (s : State) (t l : ℕ) (mode : Mode) (by_try : Bool) (a :
 
   first : by_try ≡ false → EachLeads c s.edges (s.held_locks t) (c.class l)
   unfolding WantsAreOrdered HeldAreListed
-  first e = each_from c s.edges (s.held_locks t) (c.class l) (λ j i.
-      let m = is_held (s.held t j) (sym (f.words.held_are_listed t j) ∙ i) in
-      h.wants_are_ordered t l (k.wants e) j m.0 m.1)
+  first e = elim (k.wants e) [
+    | inl w ↦ each_from c s.edges (s.held_locks t) (c.class l) (λ j i.
+        let m = is_held (s.held t j) (sym (f.words.held_are_listed t j) ∙ i) in
+        h.wants_are_ordered t l w j m.0 m.1)
+    | inr free ↦ subst (λ hs. EachLeads c s.edges hs (c.class l)) (sym free.bare) tt
+  ]
 
   holds : HoldsAreOrdered c listed s.edges
   unfolding HoldsAreOrdered

@@ -1,5 +1,5 @@
 -- The begin of a round, a resume and an entry that keep to the order keep the facts of takes.
-use Rattle.std.proofs.Common.{◌≡◌, ◌⊎◌, ℕ, Bool, true, false, not, ◌&&◌, eqb, List, ◌∷◌, Option, Some, None, refl, sym, ap, inl, inr, subst, ◌∙◌}
+use Rattle.std.proofs.Common.{◌≡◌, ◌⊎◌, ℕ, Bool, true, false, not, ◌&&◌, eqb, List, [], ◌∷◌, Option, Some, None, refl, sym, ap, inl, inr, subst, ◌∙◌}
 use Rattle.std.proofs.lemmas.Bool.{cases_eq}
 use Rattle.lock_model.specs.Config.{Config}
 use Rattle.lock_model.specs.Counts.{any_below}
@@ -9,50 +9,93 @@ use Rattle.lock_model.specs.Orders.{IsEdge}
 use Rattle.lock_model.specs.Takes.{taken_by, take_edges, has_open, ReversalHasCause}
 use Rattle.lock_model.specs.Queues.{Cause, BySignal, ByAbort}
 use Rattle.lock_state.specs.State.{State, Note, OrderRefused, put}
-use Rattle.lock_state.specs.Steps.{EndsTake, IsBackFrom}
+use Rattle.lock_state.specs.Steps.{EndsTake, IsBackFrom, IsTakenInOrder}
 use Rattle.lock_state.specs.Steps.LockWords.{MayStamp, is_taking_back, taking_from, taking_after, entry_of, after_seek, after_stamp}
 use Rattle.lock_state.specs.Steps.Turnstiles.{taking_by, noted_after, after_resume}
-use Rattle.lock_state.specs.Facts.{Taken, EdgesAreOfTakes, TakersAreOpen, RefusalsHaveCause, ReversalsHaveCause}
+use Rattle.lock_state.specs.Facts.{Lawful, Taken, HeldAreListed, EdgesAreOfTakes, TakersAreOpen, RefusalsHaveCause, ReversalsHaveCause}
 use Rattle.lock_model.specs.declared.plan.QueueName.{QueueName}
 use Rattle.lock_model.specs.declared.plan.QueueName.TheVariants.{Lock, Chan}
 use Rattle.lock_model.specs.declared.event.Event.{Event}
 use Rattle.lock_model.specs.declared.event.Event.TheVariants.{Locked, Woke, HaltedChan, HaltedLock, Reversed}
 use Rattle.lock_model.specs.declared.event.Entry.{Entry}
+use Rattle.lock_state.specs.Facts.Words.{is_listed}
+use Rattle.lock_model.specs.declared.plan.Mode.{Mode}
 use Rattle.lock_laws.proofs.Kit.{put_same, put_other}
+use Rattle.order_laws.proofs.OrderFacts.Lists.{listed_held}
 use Rattle.lock_laws.proofs.OwnEntries.{other_sections}
 use Rattle.order_laws.proofs.TakeFacts.Tests.{InProgress, take_stays, take_gives}
 use Rattle.order_laws.proofs.TakeFacts.Holds.{carried}
 
--- 1. The begin of a round. In order a blocking call seeks the lock that it wants, and so takes already
+-- 1. The begin of a round. In order a blocking call seeks the lock that it wants, and so takes already; or its thread
+-- holds nothing, so that its take gives no edge
 
-sought_before : (by_try : Bool) (wanted : Option ℕ) (l : ℕ) (taking : Option ℕ) → (by_try ≡ false → wanted ≡ Some l)
+sought_before : (by_try : Bool) (wanted : Option ℕ) (l : ℕ) (taking : Option ℕ) → (by_try ≡ true) ⊎ (wanted ≡ Some l)
     → taking_from by_try wanted l taking ≡ taking
 sought_before true wanted l taking k = refl
-sought_before false None l taking k = absurd (let z : None ≡ Some l = k refl in cc)
+sought_before false None l taking (inl e) = absurd cc
+sought_before false None l taking (inr e) = absurd cc
 sought_before false (Some j) l taking k = refl
 
-module _ (c : Config) (s : State) (t l : ℕ) (by_try : Bool) (k : by_try ≡ false → s.wanted t ≡ Some l) (h : Taken c s)
-  where
-    abbrev sought : ℕ → Option ℕ
-    sought = put s.taking t (taking_from by_try (s.wanted t) l (s.taking t))
+module _ (c : Config) (s : State) (t l : ℕ) (by_try : Bool) (k : IsTakenInOrder s t l by_try) (f : Lawful c s)
+    (h : Taken c s) where
+  abbrev sought : ℕ → Option ℕ
+  sought = put s.taking t (taking_from by_try (s.wanted t) l (s.taking t))
 
-    takes_as_before : (u : ℕ) → s.taking u ≡ sought u
-    takes_as_before u = elim (cases_eq t u) [
-      | inl x ↦ sym (ap sought (sym x) ∙ put_same s.taking t _ ∙ sought_before by_try (s.wanted t) l (s.taking t) k
-          ∙ ap s.taking x)
-      | inr x ↦ sym (put_other s.taking t _ u x)
-    ]
+  abbrev HoldsNothing : ℕ → Type 0
+  HoldsNothing u = (j : ℕ) (mode : Mode) → s.held u j ≡ Holds mode → ⊥
 
-    seek_edges : EdgesAreOfTakes c s.edges sought s.log s.held s.history
-    seek_edges = subst (λ f. EdgesAreOfTakes c s.edges f s.log s.held s.history) (λ i u. takes_as_before u i)
-        h.edges_are_of_takes
+  no_hold : s.held_locks t ≡ [] → HoldsNothing t
+  unfolding HeldAreListed
+  no_hold none j mode e =
+      let z : false ≡ true = ap (is_listed j) (sym none) ∙ f.words.held_are_listed t j
+      ∙ listed_held (s.held t j) mode e in
+      cc
 
-    seek_open : TakersAreOpen c sought s.log s.held s.history
-    seek_open = subst (λ f. TakersAreOpen c f s.log s.held s.history) (λ i u. takes_as_before u i) h.takers_are_open
+  -- each thread takes what it took, or holds nothing
+  takes_or_free : (u : ℕ) → (s.taking u ≡ sought u) ⊎ HoldsNothing u
+  takes_or_free u = elim (cases_eq t u) [
+    | inl x ↦ subst (λ j. (s.taking j ≡ sought j) ⊎ HoldsNothing j) x (own by_try refl)
+    | inr x ↦ inl (sym (put_other s.taking t _ u x))
+  ]
+    where
+      as_before : (by_try ≡ true) ⊎ (s.wanted t ≡ Some l) → s.taking t ≡ sought t
+      as_before w = sym (put_same s.taking t _ ∙ sought_before by_try (s.wanted t) l (s.taking t) w)
 
-    pub seeks : Taken c (after_seek s t l by_try)
-    unfolding after_seek
-    seeks = assumption (h, seek_edges, seek_open)
+      own : (b : Bool) → by_try ≡ b → (s.taking t ≡ sought t) ⊎ HoldsNothing t
+      own true e = inl (as_before (inl e))
+      own false e = elim (k e) [ inl w ↦ inl (as_before (inr w)) | inr free ↦ inr (no_hold free.bare) ]
+
+  seek_edges : EdgesAreOfTakes c s.edges sought s.log s.held s.history
+  seek_edges = carried c s.edges s.taking sought s.log s.log s.held s.held s.history s.history
+      (λ a b p. elim (takes_or_free p.thread) [
+        | inl e ↦ inr (record {
+          thread = p.thread;
+          its = p.its;
+          lock = p.lock;
+          other = p.other;
+          below = p.below;
+          mode = p.mode;
+          takes = sym e ∙ p.takes;
+          not_back = p.not_back;
+          holds = p.holds;
+          apart = p.apart;
+          from = p.from;
+          to = p.to;
+        })
+        | inr none ↦ absurd (none p.other p.mode p.holds)
+      ])
+      (λ a b x. x) h.edges_are_of_takes
+
+  seek_open : TakersAreOpen c sought s.log s.held s.history
+  unfolding TakersAreOpen
+  seek_open u j takes back i mode held ne = elim (takes_or_free u) [
+    | inl e ↦ h.takers_are_open u j (e ∙ takes) back i mode held ne
+    | inr none ↦ absurd (none i mode held)
+  ]
+
+  pub seeks : Taken c (after_seek s t l by_try)
+  unfolding after_seek
+  seeks = assumption (h, seek_edges, seek_open)
 
 -- 2. A resume
 

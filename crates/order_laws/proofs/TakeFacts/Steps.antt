@@ -19,7 +19,7 @@ pub keeps : (c : Config) (s : State) (step : Step) → May c s step → KeepsToO
 unfolding after_look after_ready after_unready after_enter after_mark after_enter_sleep after_add after_wake after_lend
     after_shift after_end_walk after_take after_give after_count_out after_count_in after_count_self_in after_count_end
     after_halt after_abort
-keeps c s (Seeks t l by_try) g k f h = notes.seeks c s t l by_try k h
+keeps c s (Seeks t l by_try) g k f h = notes.seeks c s t l by_try k f h
 keeps c s (Gains t l mode by_try) g k f h = holds.gains c s t l mode by_try g.lock g.unheld k.takes h
 keeps c s (Drops t l mode) g k f h = holds.drops c s t l k h
 keeps c s (Stamps t e) g k f h = notes.stamps c s t e g k h

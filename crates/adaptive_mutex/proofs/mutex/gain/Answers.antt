@@ -1,46 +1,72 @@
-use Rattle.std.proofs.Common.{false, sym, subst}
-use Rattle.lock_model.specs.Words.{word_of}
-use Rattle.adaptive_mutex.specs.Waiting.{CanLook}
-use Rattle.adaptive_mutex.proofs.Acquired.{may_gain_on, may_gain_free}
-use Rattle.adaptive_mutex.proofs.Looks.{may_look_on, no_look, look_again, look_on, can_look_on}
+use Rattle.std.proofs.Common.{arith, sym, subst}
+use Rattle.adaptive_mutex.specs.Waiting.{IsCalling}
+use Rattle.adaptive_mutex.proofs.Attempts.{seeks_it, looked_once, comes_begun, kept_begun, gained_at_once, gained_in_round, gained_there, seeking_on, kept_spun, comes_slept, kept_slept}
 use Rattle.adaptive_mutex.proofs.mutex.gain.Goals as goal
 
+pub returns-then-begin-clause-gained : goal.returns-then-begin-clause-gained
+returns-then-begin-clause-gained g c =
+    gained_at_once c.args.floor.now.description c.args.l c.args.pass.now.view c.requires.may c.begin.new.pass.view
+    (c.begin.ensures.gained c.if-begin.true)
+
 pub loop-init : goal.loop-init
-loop-init g c = record {
-  own = c.requires.own;
-  looked = (0, no_look c.args.floor.now.description c.args.l.0 c.args.pass.now.view);
-}
+loop-init g c =
+    let floor = c.args.floor.now.description in
+    let b = c.begin.ensures.begun c.if-begin.false in
+    let once = looked_once floor c.args.l.0 c.args.pass.now.view c.requires.may c.begin.new.pass.view b in
+    record {
+      own = c.begin.ensures.own;
+      seeking = seeks_it floor c.args.l.0 c.args.pass.now.view c.requires.may c.begin.new.pass.view b;
+      looked = omega (arith, once);
+      kept = kept_begun floor c.args.l c.args.pass.now.view c.begin.new.pass.view b;
+      comes = comes_begun floor c.args.l c.args.pass.now.view c.begin.new.pass.view b;
+    }
 
-pub gain-requires-clause-may : goal.gain-requires-clause-may
-gain-requires-clause-may g c =
-    let x = c.loop.invariant.looked in
-    may_gain_free c.args.floor.now.description c.args.l.0 false c.loop.pass.view c.requires.mutex
-    (may_gain_on c.args.floor.now.description c.args.l.0 x.0 c.args.pass.now.view c.loop.pass.view c.requires.may
-    x.1)
+pub returns-then-spin-clause-gained : goal.returns-then-spin-clause-gained
+returns-then-spin-clause-gained g c =
+    let s = c.spin.ensures.gained c.if-spin.true in
+    let i = c.loop.invariant in
+    gained_in_round c.args.floor.now.description c.args.l c.args.pass.now.view c.loop.pass.view i.comes.0 i.comes.1
+    i.comes.2 i.kept i.seeking c.spin.new.pass.view s.0 s.1 s.2
 
-pub gain-requires-clause-may_look : goal.gain-requires-clause-may_look
-gain-requires-clause-may_look g c =
-    let x = c.loop.invariant.looked in
-    may_look_on c.args.floor.now.description c.loop.pass.view c.args.l.0 c.loop.invariant.own.description
-    c.requires.mutex.lock
-    (can_look_on c.args.floor.now.description c.args.l.0 x.0 c.args.pass.now.view c.loop.pass.view
-    c.requires.may.looks x.1)
+pub block-requires-clause-may : goal.block-requires-clause-may
+block-requires-clause-may g c =
+    let s = c.spin.ensures.spun c.if-spin.false in
+    seeking_on c.args.floor.now.description c.args.l.0 s.0 c.loop.pass.view c.spin.new.pass.view s.2
+    c.loop.invariant.seeking
 
-pub watch-requires-clause-looks : goal.watch-requires-clause-looks
-watch-requires-clause-looks g c =
-    let x = c.loop.invariant.looked in
-    let k = can_look_on c.args.floor.now.description c.args.l.0 x.0 c.args.pass.now.view c.loop.pass.view
-    c.requires.may.looks x.1 in
-    subst CanLook (sym c.in-Err.ensures.looked)
-    (record { runs = k.runs; nothing_out = k.nothing_out; no_round = k.no_round; going = k.going })
+pub block-requires-clause-calling : goal.block-requires-clause-calling
+block-requires-clause-calling g c =
+    let s = c.spin.ensures.spun c.if-spin.false in
+    let i = c.loop.invariant in
+    subst (IsCalling c.args.floor.now.description)
+    (sym (kept_spun c.args.floor.now.description c.args.l c.args.pass.now.view c.loop.pass.view i.comes.0 i.comes.1
+    i.comes.2 i.kept i.seeking c.spin.new.pass.view s.0 s.1 s.2))
+    c.requires.calling
+
+pub returns-then-block-clause-gained : goal.returns-then-block-clause-gained
+returns-then-block-clause-gained g c =
+    let s = c.spin.ensures.spun c.if-spin.false in
+    let i = c.loop.invariant in
+    gained_there c.args.floor.now.description c.args.l c.args.pass.now.view c.loop.pass.view i.comes.0 i.comes.1
+    i.comes.2 i.kept i.seeking c.spin.new.pass.view s.0 s.1 s.2 c.block.new.pass.view
+    (c.block.ensures.gained c.if-block.true)
 
 pub loop-preserved : goal.loop-preserved
-loop-preserved g c = record {
-  own = c.watch.ensures.own;
-  looked = look_on c.args.floor.now.description c.args.l.0 c.args.pass.now.view c.gain.new.pass.view
-      c.watch.new.pass.view
-      (look_again c.args.floor.now.description c.args.l.0 c.args.pass.now.view c.loop.pass.view c.gain.new.pass.view
-      (word_of c.in-Err.field-0) c.requires.may.looks.no_round c.loop.invariant.looked c.in-Err.ensures.looked
-      c.in-Err.ensures.look)
-      c.watch.ensures.looked;
-}
+loop-preserved g c =
+    let s = c.spin.ensures.spun c.if-spin.false in
+    let i = c.loop.invariant in
+    let b = c.block.ensures.slept c.if-block.false in
+    let floor = c.args.floor.now.description in
+    record {
+      own = c.block.ensures.own;
+      seeking = b.seeking;
+      looked = omega (arith, b.no_looks);
+      kept = kept_slept floor c.args.l c.args.pass.now.view c.loop.pass.view i.comes.0 i.comes.1 i.comes.2 i.kept
+          i.seeking c.spin.new.pass.view s.0 s.1 s.2 c.block.new.pass.view b;
+      comes = (
+        0,
+        omega arith,
+        comes_slept floor c.args.l c.args.pass.now.view c.loop.pass.view i.comes.0 i.comes.1 i.comes.2 i.kept i.seeking
+            c.spin.new.pass.view s.0 s.1 s.2 c.block.new.pass.view b,
+      );
+    }

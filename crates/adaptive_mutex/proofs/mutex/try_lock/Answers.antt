@@ -1,35 +1,34 @@
-use Rattle.std.proofs.Common.{◌≡◌, true, false}
+use Rattle.std.proofs.Common.{◌≡◌, false}
 use Rattle.lock_model.specs.Words.{word_of, is_free}
-use Rattle.adaptive_mutex.proofs.Acquired.{may_gain_free, acquires, gains_at_once, may_note, acquired, saw_held, may_note_busy, found_busy}
+use Rattle.adaptive_mutex.proofs.Acquired.{may_gain_free, acquires, begins_call, may_note, tried, saw_held, may_note_busy, found_busy}
 use Rattle.adaptive_mutex.proofs.Looks.{may_look_on, rest_looks}
 use Rattle.adaptive_mutex.proofs.mutex.try_lock.Goals as goal
 use Rattle.adaptive_mutex.proofs.mutex.try_lock.Goals.{In-Err}
 
 pub gain-requires-clause-may : goal.gain-requires-clause-may
 gain-requires-clause-may c =
-    may_gain_free c.args.floor.now.description c.args.l.0 true c.args.pass.now.view c.requires.may.mutex
+    may_gain_free c.args.floor.now.description c.args.l.0 c.args.pass.now.view c.requires.may.mutex
     (acquires c.args.floor.now.description c.args.l.0 c.args.pass.now.view c.requires.ready.rest c.requires.may)
 
 pub gain-requires-clause-may_look : goal.gain-requires-clause-may_look
 gain-requires-clause-may_look c =
     may_look_on c.args.floor.now.description c.args.pass.now.view c.args.l.0 c.requires.ready.own.description
     c.requires.may.mutex.lock (rest_looks c.args.floor.now.description c.args.pass.now.view c.requires.ready.rest)
+    (λ unheld. begins_call c.args.floor.now.description c.args.l.0 c.args.pass.now.view
+    (acquires c.args.floor.now.description c.args.l.0 c.args.pass.now.view c.requires.ready.rest c.requires.may))
 
 -- 1. It gained the mutex
 
 pub stamp-requires-clause-may : goal.stamp-requires-clause-may
 stamp-requires-clause-may c =
-    let gained = gains_at_once c.args.floor.now.description c.args.l c.args.pass.now.view c.gain.new.pass.view
-    c.in-Ok.ensures.view c.in-Ok.ensures.step in
-    may_note c.args.floor.now.description c.args.l true 0 c.args.pass.now.view c.gain.new.pass.view
-    c.requires.ready.rest c.requires.may gained
+    may_note c.args.floor.now.description c.args.l c.args.pass.now.view c.gain.new.pass.view c.requires.ready.rest
+    c.requires.may c.in-Ok.ensures.view
 
 pub returns-in-Ok : goal.returns-in-Ok
 returns-in-Ok c =
-    let gained = gains_at_once c.args.floor.now.description c.args.l c.args.pass.now.view c.gain.new.pass.view
-    c.in-Ok.ensures.view c.in-Ok.ensures.step in
-    let done = acquired c.args.floor.now.description c.args.l true 0 c.args.pass.now.view c.gain.new.pass.view
-    c.requires.ready.rest c.requires.may gained c.stamp.new.pass.view c.stamp.result c.stamp.ensures.view
+    let done =
+    tried c.args.floor.now.description c.args.l c.args.pass.now.view c.gain.new.pass.view c.requires.ready.rest
+    c.requires.may c.in-Ok.ensures.view c.in-Ok.ensures.step c.stamp.new.pass.view c.stamp.result c.stamp.ensures.view
     c.stamp.ensures.step in
     record {
       ready = record { own = c.stamp.ensures.own; rest = done.rest };

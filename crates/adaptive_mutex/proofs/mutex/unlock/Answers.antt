@@ -18,12 +18,11 @@ put_down-requires-clause-may g c =
 
 pub returns : goal.returns
 returns g c =
-    let dropped = c.put_down.ensures.dropped in
-    let done = released c.args.floor.now.description c.args.l dropped.0 c.stamp.result c.args.pass.now.view
+    let done = released c.args.floor.now.description c.args.l c.stamp.result c.args.pass.now.view
     c.stamp.new.pass.view c.put_down.new.pass.view c.requires.ready.rest c.requires.may c.stamp.ensures.view
-    c.stamp.ensures.step dropped.1 in
+    c.stamp.ensures.step c.put_down.ensures.dropped in
     record {
       ready = record { own = c.put_down.ensures.own; rest = done.rest };
       entry = done.entry;
-      steps = (dropped.0, done.steps);
+      steps = (done.how, done.steps);
     }

@@ -6,6 +6,10 @@ use Rattle.lock_history.specs.Outcomes.{outcome_seen}
 use Rattle.floor_run.proofs.Running.{parts, written_back, all_done, is_closing, left_legal, is_run}
 use Rattle.floor_run.proofs.run.run_plan.Goals as goal
 
+pub work_all-requires-clause-one_chain : goal.work_all-requires-clause-one_chain
+work_all-requires-clause-one_chain g c = λ κs lives.
+    ap (λ d. d.chains) c.in_ok-floor.ensures.description ∙ c.requires.one_chain
+
 pub gather_all-requires-clause-finished : goal.gather_all-requires-clause-finished
 gather_all-requires-clause-finished g c t d lt =
     let value = ap length c.as_mut_slice.ensures.value in

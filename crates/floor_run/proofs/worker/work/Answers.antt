@@ -24,6 +24,6 @@ overflow_cast-next g c =
 pub operate-next-requires-clause-op : goal.operate-next-requires-clause-op
 operate-next-requires-clause-op g c =
     let same : operations_of c.args.plan.now c.loop-next.pass.view.thread ≡ c.operations_of-ops.result.now =
-    ap (operations_of c.args.plan.now) (c.loop-next.invariant.thread ∙ sym c.thread.ensures)
+    ap (operations_of c.args.plan.now) (c.loop-next.invariant.thread ∙ sym c.thread.ensures.same)
     ∙ sym c.operations_of-ops.ensures in
     ap (λ ops. slice_get ops c.loop-next.next) same ∙ slice_get-get_or c.operations_of-ops.result.now c.loop-next.next _ c.loop-next-test.true

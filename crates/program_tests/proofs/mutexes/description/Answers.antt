@@ -1,9 +1,11 @@
-use Rattle.std.proofs.Common.{ℕ, ◌<◌, ◌≤◌, ◌^◌, List, [], length, subst, sym, ◌∙◌, arith}
+use Rattle.std.proofs.Common.{◌≡◌, ℕ, zero, suc, ◌<◌, ◌≤◌, ◌^◌, List, [], ◌∷◌, length, map, slice_get, refl, subst, sym, ◌∙◌, arith}
+use Rattle.std.specs.Prelude.{unwrap_or}
 use Rattle.std.proofs.lemmas.List.Elements.{All-nil, All-cons}
 use Rattle.std.specs.List.{All}
 use Rattle.std.specs.List.Sorted.{IsStrictlySortedBy}
 use Rattle.lock_model.specs.History.{place_cmp}
 use Rattle.lock_model.specs.Limits.{most_threads, most_locks, most_classes}
+use Rattle.lock_model.specs.declared.plan.Kind.TheVariants.{Mtx}
 use Rattle.floor_table.specs.declared.description.LockPart.{LockPart}
 use Rattle.floor_table.specs.declared.description.ThreadPart.{ThreadPart}
 use Rattle.floor_table.specs.Descriptions.{room_in_all}
@@ -16,6 +18,26 @@ none_rise = tt
 abbrev IsFew : LockPart → Type 0
 IsFew x = x.class.0 < most_classes
 
+abbrev the_lock : LockPart
+the_lock = record { kind = Mtx; class = record { 0 = 0 } }
+
+few_locks : All IsFew (the_lock ∷ the_lock ∷ [])
+few_locks =
+    All-cons IsFew the_lock (the_lock ∷ []) (omega arith)
+    (All-cons IsFew the_lock [] (omega arith) (All-nil IsFew))
+
+abbrev HasRooms : List ThreadPart → Type 0
+HasRooms xs = (t : ℕ) → t < 3 → unwrap_or (slice_get (map (λ x. x.room) xs) t) 0 ≡ 1003
+
+abbrev with_base : ℕ → ThreadPart
+with_base n = record { base = record { 0 = n }; room = 1003 }
+
+three_rooms : HasRooms (with_base 200 ∷ with_base 100 ∷ with_base 50 ∷ [])
+three_rooms zero lt = refl
+three_rooms (suc zero) lt = refl
+three_rooms (suc (suc zero)) lt = refl
+three_rooms (suc (suc (suc t))) lt = absurd (omega (arith, lt))
+
 pub returns-clause-sized : goal.returns-clause-sized
 returns-clause-sized c =
     let threads = sym (c.from_vec.ensures ∙ c.in_ok-vec.ensures.items) in
@@ -24,10 +46,15 @@ returns-clause-sized c =
     record {
       threads = subst (λ (xs : List ThreadPart). length xs ≤ most_threads) threads (omega arith);
       locks = subst (λ (xs : List LockPart). length xs ≤ most_locks) locks (omega arith);
-      classes = subst (All IsFew) locks (All-cons IsFew _ [] (omega arith) (All-nil IsFew));
+      classes = subst (All IsFew) locks few_locks;
       keys = subst (λ (xs : List (ℕ × ℕ)). length xs < 2 ^ 16) keys (omega arith);
       rising = subst (IsStrictlySortedBy place_cmp) keys none_rise;
       room = subst (λ (xs : List ThreadPart). room_in_all xs < 2 ^ 32) threads (omega arith);
       some_chains = omega arith;
       few_chains = omega arith;
     }
+
+pub returns-clause-room : goal.returns-clause-room
+returns-clause-room c =
+    let threads = sym (c.from_vec.ensures ∙ c.in_ok-vec.ensures.items) in
+    subst HasRooms threads three_rooms

@@ -1,0 +1,149 @@
+-- A thread at rest makes a blocking call that gains its lock outside the lock's chain: what stays through the call's
+-- looks and the begin of its round, and that the entry of its gain leaves the thread at rest again.
+use Rattle.std.proofs.Common.{◌≡◌, ℕ, false, true, cond, eqb, Some, None, List, [], ◌∷◌, refl, sym, ap, ◌∙◌, eq-eqb}
+use Rattle.std.proofs.lemmas.Option.{same_Some}
+use Rattle.lock_laws.proofs.HeldLists.{gained_order-push, hold_in-push}
+use Rattle.lock_model.specs.Config.{Config}
+use Rattle.lock_model.specs.Holds.{NotHeld, Holds}
+use Rattle.lock_model.specs.Operations.{hold_in}
+use Rattle.lock_model.specs.Words.{Word}
+use Rattle.lock_model.specs.declared.event.Event.{Event}
+use Rattle.lock_model.specs.declared.event.Event.TheVariants.{Locked}
+use Rattle.lock_model.specs.declared.event.Held.{Held}
+use Rattle.lock_model.specs.declared.numbers.LockNo.{LockNo}
+use Rattle.lock_model.specs.declared.plan.Mode.{Mode}
+use Rattle.lock_state.specs.State.{State, NoWalk, gained_order}
+use Rattle.lock_state.specs.Steps.{Step, Stamps, HasOutForEntry}
+use Rattle.lock_state.specs.Steps.LockWords.{Asks, Begins, IsGainedLast, is_taking_back}
+use Rattle.floor_table.specs.Descriptions.{config_in}
+use Rattle.floor_table.specs.declared.description.Description.{Description}
+use Rattle.floor_table.specs.Shares.{ShareColumns, is_among}
+use Rattle.floor_table.specs.Steps.{Fits, MayMake}
+use Rattle.floor_table.specs.Views.{Runs, Knowledge, seeing}
+use Rattle.lock_floor.specs.Passes.{IsGoing, IsAtRest}
+use Rattle.lock_floor.specs.Views.{looked, sought, gained, others, entry_by, stamped}
+use Rattle.lock_floor.proofs.May.{own_log, may_stamp_end}
+use Rattle.lock_floor.proofs.Resting.{Sectioned, Begun, at_rest, gain_section, gain_begun, begun_gained}
+
+-- 1. What stays: the thread runs, is awake and has nothing out, no walk and nobody to mark, has nothing to note and
+-- doesn't sleep in its log; the sections open there are of just its locks
+
+pub record IsCalling (floor : Description) (v : Knowledge) : Type 0 where
+  pub runs : v.pose ≡ Runs
+  pub nothing_out : v.out ≡ []
+  pub no_walk : v.share.doing.walk ≡ NoWalk
+  pub unmarked : v.share.doing.marked ≡ []
+  pub uncounted : v.share.doing.counting ≡ None
+  pub unnoted : v.share.doing.noted ≡ None
+  pub going : IsGoing v
+  pub no_wait : is_taking_back v.share.log ≡ false
+  pub sections : Sectioned floor v
+  pub begun : Begun v
+
+pub calls : (floor : Description) (v : Knowledge) → IsAtRest floor v → IsCalling floor v
+calls floor v r = record {
+  runs = r.runs;
+  nothing_out = r.nothing_out;
+  no_walk = r.no_walk;
+  unmarked = r.unmarked;
+  uncounted = r.uncounted;
+  unnoted = r.unnoted;
+  going = r.going;
+  no_wait = r.no_wait;
+  sections = r.sections;
+  begun = r.begun;
+}
+
+module _ (floor : Description) (seen : List Step) (v : Knowledge) (k : IsCalling floor v) where
+  pub calling_looked : (l : ℕ) (word : Word) → IsCalling floor (seeing seen (looked v l word))
+  calling_looked l word = record {
+    runs = k.runs;
+    nothing_out = k.nothing_out;
+    no_walk = k.no_walk;
+    unmarked = k.unmarked;
+    uncounted = k.uncounted;
+    unnoted = k.unnoted;
+    going = record { awake = k.going.awake; unended = k.going.unended; stamped = k.going.stamped };
+    no_wait = k.no_wait;
+    sections = k.sections;
+    begun = k.begun;
+  }
+
+  pub calling_sought : (l : ℕ) → IsCalling floor (seeing seen (sought v l false))
+  calling_sought l = record {
+    runs = k.runs;
+    nothing_out = k.nothing_out;
+    no_walk = k.no_walk;
+    unmarked = k.unmarked;
+    uncounted = k.uncounted;
+    unnoted = k.unnoted;
+    going = record { awake = k.going.awake; unended = k.going.unended; stamped = k.going.stamped };
+    no_wait = k.no_wait;
+    sections = k.sections;
+    begun = k.begun;
+  }
+
+-- 2. The gain of the lock that is being taken, and its entry
+
+module _ (floor : Description) (v : Knowledge) (l : LockNo) (mode : Mode) (k : IsCalling floor v)
+    (takes : v.share.doing.taking ≡ Some l.0) (unheld : hold_in v.share.held l.0 ≡ NotHeld) where
+  abbrev c : Config
+  c = config_in floor
+
+  abbrev t : ℕ
+  t = v.thread
+
+  abbrev h : Held
+  h = record { l = l; mode = mode; by_try = false }
+
+  abbrev e : Event
+  e = Locked l mode
+
+  module _ (seen : List Step) where
+    abbrev w : Knowledge
+    w = seeing seen (gained v h)
+
+    pushed : hold_in w.share.held l.0 ≡ Holds mode
+    pushed = hold_in-push v.share.held h l.0 unheld
+        ∙ ap (λ b. cond b (Holds mode) (hold_in v.share.held l.0)) (eq-eqb l.0 l.0 refl)
+
+    asks : (s : State) → Fits floor w s → Asks c s t e × HasOutForEntry floor.chains s t e
+    asks s f =
+        let begins : Begins c s t l.0 (Holds mode) = record {
+          held = sym (ap (λ (x : ShareColumns). x.held l.0) f.share.columns) ∙ pushed;
+          closed = own_log floor w s f l.0 ∙ k.sections l.0 ∙ unheld;
+        } in
+        let last : IsGainedLast s t l.0 false = record {
+          others = gained_order v.share.held;
+          last = sym (ap (λ (x : ShareColumns). x.held_locks) f.share.columns) ∙ gained_order-push v.share.held h;
+        } in
+        ((begins, last), tt)
+
+    pub may_note_locked : MayMake floor w (λ s. Unit {0}) (Stamps t e ∷ [])
+    may_note_locked =
+        may_stamp_end floor w e asks tt
+        (λ q. absurd (let z : false ≡ true = sym k.no_wait ∙ q in cc))
+        k.runs (record { awake = k.going.awake; unended = k.going.unended; stamped = k.going.stamped })
+        (λ j q. (same_Some l.0 j (sym takes ∙ q), k.no_wait))
+
+  pub rest_locked : (ticket : ℕ)
+      → IsAtRest floor (stamped (config_in floor) (gained v h) (entry_by v.thread ticket (Locked l mode)))
+  rest_locked ticket =
+      at_rest floor (stamped c (gained v h) (entry_by t ticket e)) (record {
+        runs = k.runs;
+        nothing_out = k.nothing_out;
+        no_walk = k.no_walk;
+        unmarked = k.unmarked;
+        uncounted = k.uncounted;
+        wants_nothing = refl;
+        takes_nothing = refl;
+        no_round = refl;
+        no_looks = refl;
+        unnoted = refl;
+        going = record { awake = k.going.awake; unended = k.going.unended; stamped = k.going.stamped };
+        no_wait = refl;
+      }) refl
+      (λ j. gain_section floor v h ticket j ∙ ap (cond (eqb l.0 j) (Holds mode)) (k.sections j)
+      ∙ sym (hold_in-push v.share.held h j unheld))
+      (λ j held. ap (is_among j) (begun_gained floor v h (others l.0 v.share.begun))
+      ∙ gain_begun floor v h k.begun unheld j held)
