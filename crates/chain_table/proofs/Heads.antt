@@ -1,5 +1,6 @@
 -- The first head of a chain and those behind it, as entries: what a look-up and a removal make of them.
-use Rattle.std.proofs.Common.{◌≡◌, Bool, true, false, List, [], ◌∷◌, Option, Some, None, Bor, MatchOption, unwrap_or, ap, sym, ◌∙◌, refl}
+use Rattle.std.proofs.Common.{◌≡◌, Bool, true, false, List, [], ◌∷◌, Option, Some, None, IfSome, option_map, Box, Global, Bor, MatchOption, unwrap_or, ap, sym, ◌∙◌, inl, inr, refl}
+use Rattle.std.proofs.lemmas.Bool.{cases_Bool}
 use Rattle.std.proofs.lemmas.List.Elements.{All-head, All-tail}
 use Rattle.std.proofs.lemmas.Map.Entries.{lookup_head, lookup_tail}
 use Rattle.lock_model.specs.declared.plan.QueueName.{QueueName}
@@ -56,3 +57,18 @@ module _ {H : Type 0} (name_of : H → Option QueueName) where
   -- a head and another that differs from it in the link have one name
   pub same_name : (unlinked : H → H) → ((h : H) → name_of (unlinked h) ≡ name_of h) → (h k : H) → unlinked h ≡ unlinked k → name_of h ≡ name_of (unlinked k)
   same_name unlinked keeps h k e = sym (keeps h) ∙ ap name_of e
+
+  -- what is found has the name
+  named_found : (q : QueueName) (v : H) (es : List (QueueName × H)) → IsNamed name_of es → Some v ≡ head_of q es → name_of v ≡ Some q
+  named_found q v [] n e = absurd cc
+  named_found q v (x ∷ xs) n e = elim (cases_Bool (is_queue q x.0)) [
+    | inl y ↦
+        let here : Some v ≡ Some x.1 = e ∙ lookup_head (is_queue q) x xs y in
+        let same : v ≡ x.1 = cc in
+        ap name_of same ∙ All-head (λ e. name_of e.1 ≡ Some e.0) x xs n ∙ ap Some (sym ((Decides-is_queue q x.0).0 y))
+    | inr o ↦ named_found q v xs (All-tail (λ e. name_of e.1 ≡ Some e.0) x xs n) (e ∙ lookup_tail (is_queue q) x xs o)
+  ]
+
+  pub taken_named : (q : QueueName) (es : List (QueueName × H)) → IsNamed name_of es → (r : Option (Box H Global)) → option_map (λ b. b.value) r ≡ head_of q es → IfSome r (λ b. name_of b.value ≡ Some q)
+  taken_named q es n None e = tt
+  taken_named q es n (Some b) e = named_found q b.value es n e

@@ -2,3 +2,4 @@ pub mod Heads
 pub mod Kept
 pub mod Lookups
 pub mod Names
+pub mod Behind

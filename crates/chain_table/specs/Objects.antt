@@ -3,10 +3,7 @@ use Rattle.std.specs.Prelude.{◌≡◌, List, [], map}
 use Rattle.std.proofs.Common.{ap, sym}
 use Rattle.wait_objects.specs.Seen.{Contents, Object}
 use Rattle.chain_table.specs.Links.{map_is_empty}
-
--- an object with no link
-abbrev pub bare : {E : Type 0} → Contents E → Object E
-bare c = record { contents = c; next = [] }
+pub use Rattle.wait_objects.specs.Named.{bare}
 
 -- the object without its link
 abbrev pub unlinked : {E : Type 0} → Object E → Object E

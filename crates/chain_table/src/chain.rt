@@ -106,10 +106,10 @@ fn take_out<H: Head>(first: Option<Box<H>>, q: QueueName) -> (Option<Box<H>>, Op
     let Some(mut head) = first else {
         return (None, None);
     };
-    let behind = head.swap_next(None);
     if is_named(&*head, q) {
+        let behind = head.swap_next(None);
         return (behind, Some(head));
     }
-    let (rest, found) = take_out(behind, q);
-    (Some(link(head, rest)), found)
+    let found = head.take_behind(q);
+    (Some(head), found)
 }

@@ -1,7 +1,7 @@
 //! What is linked into a chain: the head of a queue, with a link of its own to the next head.
-ghost use Rattle.std.specs.Prelude.{◌≡◌, List, [], ◌∷◌, Option, MatchOption};
+ghost use Rattle.std.specs.Prelude.{◌≡◌, List, [], ◌∷◌, Option, MatchOption, option_map, IfSome};
 ghost use Rattle.lock_model.specs.declared.plan.QueueName.{QueueName};
-ghost use Rattle.chain_table.specs.Chains.{heads_of};
+ghost use Rattle.chain_table.specs.Chains.{head_of, without, heads_of, entries_of, IsNamed};
 
 use lock_model::QueueName;
 
@@ -31,6 +31,17 @@ pub trait Head: Drop {
         ensures same { unlinked self.new ≡ unlinked self.old }
         ensures linked { behind self.new ≡ heads_of unlinked behind next }
         ensures former { heads_of unlinked behind result ≡ behind self.old };
+
+    /// Takes the head of that name out of those behind this one, which stay linked. `None` comes exactly where the name
+    /// is absent there.
+    fn take_behind(&mut self, q: QueueName) -> Option<Box<Self>>
+        requires { IsNamed name_of (entries_of name_of (behind self.old)) }
+        ensures same { unlinked self.new ≡ unlinked self.old }
+        ensures taken { option_map (λ b. b.value) result
+            ≡ head_of q (entries_of name_of (behind self.old)) }
+        ensures bare { IfSome result (λ b. behind b.value ≡ []) }
+        ensures others { entries_of name_of (behind self.new)
+            ≡ without q (entries_of name_of (behind self.old)) };
 
     // A head without a link has its name,
     ghost keeps_name: { (h : Self) → name_of (unlinked h) ≡ name_of h };

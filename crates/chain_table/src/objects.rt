@@ -36,4 +36,8 @@ impl<E: Own> Head for Object<E> {
     {
         self.swap_next(next)
     }
+
+    fn take_behind(&mut self, q: QueueName) -> Option<Box<Object<E>>> {
+        self.take_behind(q)
+    }
 }

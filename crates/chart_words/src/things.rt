@@ -135,21 +135,9 @@ fn push_mode(
         ++ 32 ∷ lock_name plan.now l.0) }
 {
     out.extend_from_slice(before)?;
-    out.extend_from_slice(mode_letter(plan.lock_kind(l), mode))?;
+    out.extend_from_slice(mode.letter(plan.lock_kind(l)))?;
     out.extend_from_slice(behind)?;
     push_word(out, plan.lock_name(l))
-}
-
-fn mode_letter(kind: Kind, mode: Mode) -> &'static [u8]
-    ensures { result.now ≡ mode_letter kind mode }
-{
-    match (kind, mode) {
-        (Kind::Mtx, _) => b"",
-        (Kind::Rw, Mode::Excl) => b"w",
-        (Kind::Rw, Mode::Shared) => b"r",
-        (Kind::Sx, Mode::Excl) => b"x",
-        (Kind::Sx, Mode::Shared) => b"s",
-    }
 }
 
 /// Pushes what an event tells beside its word: keys, values, priorities, and under which class a take was

@@ -6,19 +6,23 @@ ghost use Rattle.std.specs.List.{zip};
 ghost use Rattle.std.specs.FinMap.{entries};
 ghost use Rattle.lock_model.specs.Limits.{most_operations};
 ghost use Rattle.lock_model.specs.Operations.{operations_in_all};
-ghost use Rattle.lock_model.specs.Text.{text_of, counts_text, count_words, fault_text, line_of, spaced, entry_line, thread_line, table_line, ending_word};
+ghost use Rattle.lock_model.specs.Text.{text_of, counts_text, count_words, fault_text, line_of, spaced, entry_line, thread_line, table_line, lock_name, ending_word};
 ghost use Rattle.lock_history.specs.Endings.{ending_of, numbers_of};
 ghost use Rattle.lock_history.specs.Outcomes.{outcome_seen};
 
 use crate::outcome::{Last, Outcome};
 use crate::tables::Tables;
-use lock_model::{Entry, LockNo, Plan, Prio, ThreadDecl, push_digits, push_number, push_word};
+use lock_model::{
+    Entry, LockNo, Name, Plan, Prio, ThreadDecl, push_digits, push_name, push_number, push_word,
+};
 use std::alloc::{AllocError, Global};
 
 mod events;
+mod names;
 mod queues;
 
 use events::push_event;
+use names::{push_lock_name, push_thread_name};
 use queues::push_queues;
 
 /// The text of a run: its history in order, the queues that aren't empty, each thread's base and effective
@@ -28,7 +32,8 @@ use queues::push_queues;
 pub fn print(alloc: Global, plan: &Plan, out: &Outcome) -> Result<Vec<u8>, AllocError>
     ensures { IfOk result (λ text. text.items ≡ text_of plan.now (outcome_seen out.now)) }
 {
-    let mut text = Vec::new(alloc);
+    // An entry's line is hardly ever longer.
+    let mut text = Vec::with_capacity(alloc, 32 * out.history.len() as usize)?;
     push_entries(&mut text, plan, out.history.as_slice())?;
     push_queues(&mut text, plan, out.queues.as_slice())?;
     push_threads(&mut text, plan.threads.as_slice(), out.finals.as_slice())?;
@@ -130,7 +135,7 @@ fn push_entry(out: &mut Vec<u8>, plan: &Plan, entry: &Entry) -> Result<(), Alloc
     ensures { OnOk result (out.new.items ≡ out.old.items ++ entry_line plan.now entry.now) }
 {
     push_digits(out, u64::from(entry.ticket))?;
-    push_word(out, plan.thread_name(entry.thread))?;
+    push_thread_name(out, plan, entry.thread)?;
     push_event(out, plan, entry.event)?;
     out.push(b'\n')?;
     Ok(())
@@ -146,17 +151,17 @@ fn push_threads(
         ++ flat_map thread_line (zip (map (λ d. d.name) threads.now) (numbers_of finals.now))) }
 {
     for (thread, (base, eff)) in threads.iter().zip(finals) {
-        push_thread(out, thread.name.as_bytes(), *base, *eff)?;
+        push_thread(out, &thread.name, *base, *eff)?;
     }
     Ok(())
 }
 
-fn push_thread(out: &mut Vec<u8>, name: &[u8], base: Prio, eff: Prio) -> Result<(), AllocError>
+fn push_thread(out: &mut Vec<u8>, name: &Name, base: Prio, eff: Prio) -> Result<(), AllocError>
     ensures { OnOk result (out.new.items
         ≡ out.old.items ++ thread_line (name.now, (base.0, eff.0))) }
 {
     out.extend_from_slice(b"thread")?;
-    push_word(out, name)?;
+    push_name(out, name)?;
     push_word(out, b"base")?;
     push_number(out, u64::from(base.0))?;
     push_word(out, b"eff")?;
@@ -171,18 +176,24 @@ fn push_tables(out: &mut Vec<u8>, plan: &Plan, tables: &Tables) -> Result<(), Al
 {
     for ((l, key), slot) in tables.slots() {
         if let Some(value) = slot {
-            push_row(out, plan.lock_name(LockNo(*l)), *key, *value)?;
+            push_row(out, plan, LockNo(*l), *key, *value)?;
         }
     }
     Ok(())
 }
 
-fn push_row(out: &mut Vec<u8>, lock: &[u8], key: u64, value: u64) -> Result<(), AllocError>
+fn push_row(
+    out: &mut Vec<u8>,
+    plan: &Plan,
+    l: LockNo,
+    key: u64,
+    value: u64,
+) -> Result<(), AllocError>
     ensures { OnOk result (out.new.items ≡ out.old.items
-        ++ line_of (codes "table") (lock.now ∷ decimal key ∷ decimal value ∷ [])) }
+        ++ line_of (codes "table") (lock_name plan.now l.0 ∷ decimal key ∷ decimal value ∷ [])) }
 {
     out.extend_from_slice(b"table")?;
-    push_word(out, lock)?;
+    push_lock_name(out, plan, l)?;
     push_number(out, key)?;
     push_number(out, value)?;
     out.push(b'\n')?;

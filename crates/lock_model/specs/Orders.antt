@@ -1,5 +1,5 @@
 -- The graph of lock orders: which class of locks was wanted behind which held one, and which acquisitions it refuses,
--- as witness(4) keeps and checks it. That a refused acquisition isn't made is this project's profile.
+-- as witness(4) keeps and checks it. That a refused acquisition isn't made is this library's own rule.
 use Rattle.std.specs.Prelude.{◌≡◌, ◌⊎◌, ℕ, zero, suc, ◌+◌, Bool, true, false, ◌&&◌, ◌||◌, ◌==◌, if◌then◌else◌, List, [], ◌∷◌, ◌++◌, map, Option, Some, None}
 
 -- 1. Edges and paths, between numbers of classes

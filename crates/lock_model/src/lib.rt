@@ -33,4 +33,4 @@ pub use plan::{
 };
 pub use sequence::Sequence;
 pub use turn::{StepKind, Turn};
-pub use words::{push_digits, push_number, push_word};
+pub use words::{push_digits, push_name, push_number, push_word};

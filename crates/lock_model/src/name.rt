@@ -1,5 +1,5 @@
 //! Names of locks, channels, threads and classes, seen by contracts as their spelling.
-ghost use Rattle.std.specs.Prelude.{◌≡◌, if◌then◌else◌, Some, None, nat_eq, IsTrue};
+ghost use Rattle.std.specs.Prelude.{◌≡◌, ◌++◌, if◌then◌else◌, Some, None, nat_eq, IsTrue, OnOk};
 ghost use Rattle.std.specs.Hash as fed;
 ghost use Rattle.std.specs.Cmp.Lexicographic.{pointwise, nat_list_eq_equiv};
 ghost use Rattle.std.specs.Cmp.{partial_equiv_from_equiv};
@@ -9,6 +9,8 @@ ghost use Rattle.std.specs.List.{list_all};
 ghost use Rattle.lock_model.specs.Names.{is_name, is_name_byte};
 
 use crate::limits::NAME_BYTES;
+use crate::words::push_front;
+use std::alloc::AllocError;
 use std::hash::{Hash, Hasher};
 use std::marker::Model;
 
@@ -62,6 +64,13 @@ impl Name {
         ensures named { IsTrue (is_name result.now) }
     {
         &self.bytes[..self.len as usize]
+    }
+
+    // Pushes the spelling.
+    pub(crate) fn push_onto(&self, out: &mut Vec<u8>) -> Result<(), AllocError>
+        ensures { OnOk result (out.new.items ≡ out.old.items ++ self.now) }
+    {
+        push_front(out, &self.bytes, self.len as usize)
     }
 }
 

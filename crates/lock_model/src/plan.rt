@@ -7,6 +7,7 @@ ghost use Rattle.lock_model.specs.Keys.{place_of, op_names, plan_names};
 ghost use Rattle.lock_model.specs.Operations.{operations_in_all, of_locks};
 ghost use Rattle.lock_model.specs.declared.plan.OfLocks.TheVariants.{Acquires};
 ghost use Rattle.lock_model.specs.Plans.{operations_of, thread_name, lock_name, lock_kind, chan_name, is_cond, class_name, lock_class, chan_lock};
+ghost use Rattle.lock_model.specs.Text.{mode_letter};
 
 use crate::event::Held;
 use crate::name::Name;
@@ -45,6 +46,22 @@ pub enum Mode {
     /// Together with others that share it: the read lock of a reader-writer lock, the shared lock of sx(9). A
     /// mutex is never shared.
     Shared,
+}
+
+impl Mode {
+    /// The letter by which operations and entries of a lock of that kind name the mode, as the `w` of `wlock`. There is
+    /// none for a mutex.
+    pub fn letter(self, kind: Kind) -> &'static [u8]
+        ensures { result.now ≡ mode_letter kind self }
+    {
+        match (kind, self) {
+            (Kind::Mtx, Mode::Excl | Mode::Shared) => b"",
+            (Kind::Rw, Mode::Excl) => b"w",
+            (Kind::Rw, Mode::Shared) => b"r",
+            (Kind::Sx, Mode::Excl) => b"x",
+            (Kind::Sx, Mode::Shared) => b"s",
+        }
+    }
 }
 
 /// A side of a lock's queue: waiters for either mode stand in a list of their own, and a bit of the lock word

@@ -2,6 +2,7 @@ pub mod Seen
 pub mod Lists
 pub mod Changes
 pub mod Linked
+pub mod Named
 pub mod Inside
 pub mod Homes
 pub mod Sizes

@@ -2,7 +2,9 @@
 //! which objects they bring and take back.
 ghost use Rattle.std.specs.Prelude.{◌≡◌, ◌≢◌, ◌↔◌, false, [], ◌∷◌, length, map, IsTrue, IfNone, IfSome, option_map, slice_get};
 ghost use Rattle.wait_objects.specs.Seen.{idle_object, IsEmpty};
+ghost use Rattle.lock_model.specs.Queues.{is_queue};
 ghost use Rattle.wait_objects.specs.Linked.{linked_contents};
+ghost use Rattle.wait_objects.specs.Named.{is_named, head_for, without_head, bare};
 ghost use Rattle.wait_objects.specs.Lists.{LastHasNone, AllButLastHold};
 ghost use Rattle.wait_objects.specs.Changes.{waiters, with_waiters, named, unnamed, all_waiters, waits, joined, woken, left, InOrder, IsWellFormed};
 
@@ -197,6 +199,36 @@ impl<E: Own> Object<E> {
         mem::replace(&mut self.next, next)
     }
 
+    /// Takes the head of that queue out of those that the link leads to, which stay linked in order. `None` comes
+    /// exactly where none of them is its head.
+    pub fn take_behind(&mut self, q: QueueName) -> Option<Box<Object<E>>>
+        ensures contents { self.new.contents ≡ self.old.contents }
+        ensures taken { option_map (λ b. b.value) result
+            ≡ option_map bare (head_for E.name_of q self.old.next) }
+        ensures others { self.new.next ≡ without_head E.name_of q self.old.next }
+    {
+        let Some(behind) = &mut self.next else {
+            return None;
+        };
+        let behind: &mut Object<E> = behind;
+        if !behind.is_head_for(q) {
+            return behind.take_behind(q);
+        }
+        let mut found = self.next.take()?;
+        self.next = found.swap_next(None);
+        Some(found)
+    }
+
+    // Whether the object is the head of that queue.
+    fn is_head_for(&self, q: QueueName) -> bool
+        ensures { result ≡ is_named q (E.name_of self.now.contents.own) }
+    {
+        match self.own.name() {
+            Some(name) => is_queue(q, name),
+            None => false,
+        }
+    }
+
     /// The number at a place of the list that begins with this object.
     pub(crate) fn number_at(&self, i: u32) -> Option<ThreadNo>
         ensures { option_map (λ t. t.0) result
@@ -207,5 +239,17 @@ impl<E: Own> Object<E> {
         } else {
             self.next()?.number_at(i - 1)
         }
+    }
+}
+
+// Whether two names are of the same queue.
+fn is_queue(a: QueueName, b: QueueName) -> bool
+    ensures { result ≡ is_queue a b }
+{
+    match (a, b) {
+        (QueueName::Lock(k), QueueName::Lock(l)) => k.0 == l.0,
+        (QueueName::Chan(c), QueueName::Chan(d)) => c.0 == d.0,
+        (QueueName::Lock(_), QueueName::Chan(_)) | (QueueName::Chan(_), QueueName::Lock(_)) =>
+            false,
     }
 }

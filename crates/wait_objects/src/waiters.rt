@@ -77,15 +77,14 @@ impl<E: Own> Waiters<E> {
         ensures kept { AreWaiting E.RANKED self.old → AreWaiting E.RANKED self.new }
     {
         let new: &mut Node<E> = &mut node;
-        match self.first.take() {
+        match &mut self.first {
             None => self.first = Some(node),
-            Some(mut first) => {
-                let other: &mut Node<E> = &mut first;
+            Some(first) => {
+                let other: &mut Node<E> = first;
                 if !E::RANKED || other.kept <= new.kept {
                     other.next.insert(node);
-                    self.first = Some(first);
                 } else {
-                    new.next.first = Some(first);
+                    new.next.first = self.first.take();
                     self.first = Some(node);
                 }
             }
@@ -112,15 +111,17 @@ impl<E: Own> Waiters<E> {
         ensures empty { AreWaiting E.RANKED self.old → IfSome result (λ b. IsEmpty b.value) }
         ensures kept { AreWaiting E.RANKED self.old → AreWaiting E.RANKED self.new }
     {
-        let mut first = self.first.take()?;
-        let node: &mut Node<E> = &mut first;
-        if t == node.thread {
-            *self = mem::replace(&mut node.next, Waiters::empty());
-            return Some(first);
+        let Some(first) = &mut self.first else {
+            return None;
+        };
+        let node: &mut Node<E> = first;
+        if t != node.thread {
+            return node.next.remove(t);
         }
-        let found = node.next.remove(t);
-        self.first = Some(first);
-        found
+        let mut found = self.first.take()?;
+        let node: &mut Node<E> = &mut found;
+        *self = mem::replace(&mut node.next, Waiters::empty());
+        Some(found)
     }
 
     /// Takes some nodes off.

@@ -2,7 +2,10 @@
 ghost use Rattle.std.specs.Prelude.{◌≡◌, ◌++◌, ◌∷◌, [], decimal, map, OnOk};
 ghost use Rattle.lock_model.specs.Text.{spaced, event_words, mode_letter, chan_word, woken_words, or_dash, names_at_bits, found_word, lock_name, lock_kind, chan_name};
 
-use lock_model::{ChanNo, Event, Kind, LockNo, Mode, Plan, ThreadDecl, push_number, push_word};
+use super::names::{push_chan_name, push_class_name, push_lock_name};
+use lock_model::{
+    ChanNo, Event, LockNo, Mode, Plan, ThreadDecl, push_name, push_number, push_word,
+};
 use std::alloc::AllocError;
 
 pub(super) fn push_event(out: &mut Vec<u8>, plan: &Plan, event: Event) -> Result<(), AllocError>
@@ -14,13 +17,13 @@ pub(super) fn push_event(out: &mut Vec<u8>, plan: &Plan, event: Event) -> Result
         Event::Tried { l, mode } => push_mode(out, plan, b"try", l, mode, b"lock"),
         Event::Unlocked { l, mode } => push_mode(out, plan, b"", l, mode, b"unlock"),
         Event::Busy { l, seen } => {
-            push_call(out, b"busy", plan.lock_name(l))?;
+            push_on_lock(out, plan, b"busy", l)?;
             push_number(out, seen)
         }
-        Event::Set { l, key, value } => push_edit(out, b"set", plan.lock_name(l), key, value),
-        Event::Added { l, key, amount } => push_edit(out, b"add", plan.lock_name(l), key, amount),
+        Event::Set { l, key, value } => push_edit(out, plan, b"set", l, key, value),
+        Event::Added { l, key, amount } => push_edit(out, plan, b"add", l, key, amount),
         Event::Got { l, key, found } => {
-            push_call(out, b"get", plan.lock_name(l))?;
+            push_on_lock(out, plan, b"get", l)?;
             push_number(out, key)?;
             push_found(out, found)
         }
@@ -34,38 +37,49 @@ pub(super) fn push_event(out: &mut Vec<u8>, plan: &Plan, event: Event) -> Result
             push_number(out, u64::from(eff.0))
         }
         Event::Sleeps { c } => push_chan(out, plan, c, b"wait", b"msleep"),
-        Event::Woke { c } => push_call(out, b"woke", plan.chan_name(c)),
-        Event::HaltedChan { c } => push_call(out, b"halted", plan.chan_name(c)),
-        Event::HaltedLock { l } => push_call(out, b"halted", plan.lock_name(l)),
+        Event::Woke { c } => push_on_chan(out, plan, b"woke", c),
+        Event::HaltedChan { c } => push_on_chan(out, plan, b"halted", c),
+        Event::HaltedLock { l } => push_on_lock(out, plan, b"halted", l),
         Event::WokeOne { c, woken } => push_waking(out, plan, c, b"signal", b"wakeup_one", woken),
         Event::WokeAll { c, woken } => push_waking(out, plan, c, b"broadcast", b"wakeup", woken),
         Event::Reversed { l, held } => {
-            push_call(out, b"reversed", plan.lock_name(l))?;
-            push_word(out, plan.class_name(held))
+            push_on_lock(out, plan, b"reversed", l)?;
+            push_class_name(out, plan, held)
         }
     }
 }
 
-// A call's word, and the name of what it is made on.
-fn push_call(out: &mut Vec<u8>, word: &[u8], name: &[u8]) -> Result<(), AllocError>
-    ensures { OnOk result (out.new.items ≡ out.old.items ++ spaced (word.now ∷ name.now ∷ [])) }
+// A call's word, and the name of the lock on which it is made,
+fn push_on_lock(out: &mut Vec<u8>, plan: &Plan, word: &[u8], l: LockNo) -> Result<(), AllocError>
+    ensures { OnOk result (out.new.items
+        ≡ out.old.items ++ spaced (word.now ∷ lock_name plan.now l.0 ∷ [])) }
 {
     push_word(out, word)?;
-    push_word(out, name)
+    push_lock_name(out, plan, l)
+}
+
+// or that of the condition variable or channel.
+fn push_on_chan(out: &mut Vec<u8>, plan: &Plan, word: &[u8], c: ChanNo) -> Result<(), AllocError>
+    ensures { OnOk result (out.new.items
+        ≡ out.old.items ++ spaced (word.now ∷ chan_name plan.now c.0 ∷ [])) }
+{
+    push_word(out, word)?;
+    push_chan_name(out, plan, c)
 }
 
 // A change at a key of a lock's table.
 fn push_edit(
     out: &mut Vec<u8>,
+    plan: &Plan,
     word: &[u8],
-    lock: &[u8],
+    l: LockNo,
     key: u64,
     amount: u64,
 ) -> Result<(), AllocError>
     ensures { OnOk result (out.new.items ≡ out.old.items
-        ++ spaced (word.now ∷ lock.now ∷ decimal key ∷ decimal amount ∷ [])) }
+        ++ spaced (word.now ∷ lock_name plan.now l.0 ∷ decimal key ∷ decimal amount ∷ [])) }
 {
-    push_call(out, word, lock)?;
+    push_on_lock(out, plan, word, l)?;
     push_number(out, key)?;
     push_number(out, amount)
 }
@@ -84,21 +98,9 @@ fn push_mode(
         ∷ lock_name plan.now l.0 ∷ [])) }
 {
     push_word(out, before)?;
-    out.extend_from_slice(mode_letter(plan.lock_kind(l), mode))?;
+    out.extend_from_slice(mode.letter(plan.lock_kind(l)))?;
     out.extend_from_slice(behind)?;
-    push_word(out, plan.lock_name(l))
-}
-
-fn mode_letter(kind: Kind, mode: Mode) -> &'static [u8]
-    ensures { result.now ≡ mode_letter kind mode }
-{
-    match (kind, mode) {
-        (Kind::Mtx, _) => b"",
-        (Kind::Rw, Mode::Excl) => b"w",
-        (Kind::Rw, Mode::Shared) => b"r",
-        (Kind::Sx, Mode::Excl) => b"x",
-        (Kind::Sx, Mode::Shared) => b"s",
-    }
+    push_lock_name(out, plan, l)
 }
 
 // The word for a condition variable, or else for a channel, and its name.
@@ -113,7 +115,7 @@ fn push_chan(
         chan_word plan.now c.0 on_cond.now on_chan.now ∷ chan_name plan.now c.0 ∷ [])) }
 {
     let word = if plan.is_cond(c) { on_cond } else { on_chan };
-    push_call(out, word, plan.chan_name(c))
+    push_on_chan(out, plan, word, c)
 }
 
 // A waking of a condition variable or a channel, and the threads that it took.
@@ -166,7 +168,7 @@ fn push_names_at_bits(
     let mut bits = woken;
     for thread in threads {
         if bits % 2 == 1 {
-            push_word(out, thread.name.as_bytes())?;
+            push_name(out, &thread.name)?;
         }
         bits /= 2;
     }
