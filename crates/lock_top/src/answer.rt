@@ -23,6 +23,27 @@ use std::thread::Threads;
 use step_world::run_schedule;
 use tick_sleep::{read_ticks, run_ticks};
 
+/// Those of any command.
+pub fn of_command<R: Threads + Wait + Sync, G: Gate>(
+    rt: &R,
+    alloc: Global,
+    said: LockrunArgs,
+    bytes: &[u8],
+    gate: &G,
+) -> Result<(Status, Vec<u8>), ReadError>
+    requires { HasRanges said }
+    ensures pair { IfOk result (λ a. IsOutputSaid said bytes.now (a.0, a.1.items)) }
+    ensures refused { IfErr result (IsFaultOf (IsOutputSaid said bytes.now)) }
+    ensures has_text { IfOk result (λ a. has_text a.0 ≡ true) }
+{
+    match said.command {
+        Command::Check | Command::Step | Command::Ticks | Command::Profile => {
+            plainly(alloc, said, bytes)
+        }
+        Command::Run => by_threads(rt, alloc, bytes, gate),
+    }
+}
+
 /// Those of a command that starts no thread.
 pub fn plainly(
     alloc: Global,

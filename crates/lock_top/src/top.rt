@@ -7,9 +7,10 @@
 //! - `read_fault`, `write_fault`: at which status which end has failed.
 //! - `writes`: the status and the text that was written belong to the words and the bytes of the source.
 //! - `complete`: where nothing fails, there is such a text, save for want of memory.
-ghost use Rattle.std.specs.Prelude.{◌≡◌, true, false, map, IfOk, List, ℕ};
+ghost use Rattle.std.specs.Prelude.{◌≡◌, true, false, map, List, ℕ};
 ghost use Rattle.std.specs.String.{string_bytes};
 ghost use Rattle.command_line.specs.Forms.{is_form, is_run};
+ghost use Rattle.command_line.specs.Ranges.{HasRanges};
 ghost use Rattle.lock_io.specs.Faults.{Rose};
 ghost use Rattle.lock_model.specs.Script.{IsAccepted};
 ghost use Rattle.lock_model.specs.declared.plan.Plan.{Plan};
@@ -18,16 +19,16 @@ ghost use Rattle.lock_top.specs.Output.{IsLawfulRun};
 ghost use Rattle.tick_sleep.specs.Expiry.{TimesOutWhereDue};
 ghost use Rattle.top_ends.specs.Calls.{ReadsBytes, TellsFaults};
 
-use crate::answer::{by_threads, plainly};
+use crate::answer::{by_threads, of_command, plainly};
 use crate::serving::serve;
-use command_line::{Command, WordsError, read_words};
 use complaints::Status;
 use lock_io::{Gate, Sink, Source};
-use std::alloc::{AllocError, Global};
+use std::alloc::Global;
 use std::sync::Wait;
 use std::thread::Threads;
 
-/// What the program does: `lockrun_live` where the words are a form with the command `run`, and else `lockrun_plain`.
+/// What the program does: what `lockrun_live` does where the words are a form with the command `run`, and else what
+/// `lockrun_plain` does.
 pub fn lockrun<R: Threads + Wait + Sync, S: Source, K: Sink, G: Gate>(
     rt: &R,
     alloc: Global,
@@ -50,11 +51,15 @@ pub fn lockrun<R: Threads + Wait + Sync, S: Source, K: Sink, G: Gate>(
         → IsAccepted bytes plan → IsLawfulRun plan chains turns }
     ensures timeouts { TimesOutWhereDue }
 {
-    match is_run(alloc, words) {
-        Ok(true) => lockrun_live(rt, alloc, words, source, sink, gate),
-        Ok(false) => lockrun_plain(alloc, words, source, sink),
-        Err(_) => Status::NoMemory,
-    }
+    serve(
+        alloc,
+        words,
+        source,
+        sink,
+        |said, bytes|
+            requires { HasRanges said }
+        { of_command(rt, alloc, said, &bytes, gate) },
+    )
 }
 
 /// What the program does where no thread is started: it reads a script from the source, counts what it has, makes its
@@ -123,18 +128,4 @@ pub fn lockrun_live<R: Threads + Wait + Sync, S: Source, K: Sink, G: Gate>(
         sink,
         |_, bytes| by_threads(rt, alloc, &bytes, gate),
     )
-}
-
-// Whether the words are a form with the command `run`.
-fn is_run(alloc: Global, words: &[String]) -> Result<bool, AllocError>
-    ensures { IfOk result (λ b. b ≡ is_run (map string_bytes words.now)) }
-{
-    match read_words(alloc, words) {
-        Ok(said) => match said.command {
-            Command::Run => Ok(true),
-            Command::Check | Command::Step | Command::Ticks | Command::Profile => Ok(false),
-        },
-        Err(WordsError::Usage) => Ok(false),
-        Err(WordsError::Memory) => Err(AllocError),
-    }
 }

@@ -8,6 +8,8 @@ pub mod ActionsOfOperations
 pub mod WorldsAreSound
 pub mod ActionsOfWalks
 pub mod ActionsOfTurns
+pub mod Sets
+pub mod Sleeping
 pub mod Scheduling
 pub mod Readings
 pub mod Outcomes

@@ -1,140 +1,186 @@
 -- The course of a run: when it is over, and how it goes on.
-use Rattle.std.proofs.Common.{◌≡◌, ℕ, zero, suc, ◌+◌, ◌<◌, ◌≤◌, Bool, true, false, ◌&&◌, nat_eq, cond, not, List, [], ◌∷◌, ◌++◌, length, map, filter, drop, Option, Some, None, refl, sym, ap, ◌∙◌, inl, inr, arith}
-use Rattle.std.proofs.lemmas.Bool.{cases_Bool, cases_eq, eq-eqb, ne_eqb, or_parts}
+use Rattle.std.proofs.Common.{◌≡◌, ◌⊎◌, ℕ, suc, ◌+◌, ◌-◌, ◌<◌, ◌≤◌, Bool, true, false, ◌&&◌, ◌||◌, cond, not, eqb, ltb, List, [], ◌∷◌, ◌++◌, length, map, filter, All, Option, Some, None, IfNone, IfSome, refl, sym, ap, ap₂, subst, ◌∙◌, inl, inr, arith, append-nil}
+use Rattle.std.proofs.lemmas.Bool.{and_parts, and_right, or_parts, lt-ltb, le-ltb, ltb-true, cases_eq, cases_lt, eq-eqb, ne_eqb}
 use Rattle.std.specs.List.{list_all, range_with_len}
-use Rattle.std.proofs.lemmas.List.{length-map, length-drop, append-nil, drop_all}
-use Rattle.std.proofs.lemmas.List.Elements.{All-from_get_or, filter-append}
+use Rattle.std.specs.Option.{is_none}
+use Rattle.std.proofs.lemmas.List.Elements.{All-head, All-tail, All-nil, All-weaker}
 use Rattle.std.proofs.lemmas.List.Folds.{list_all_at}
 use Rattle.std.proofs.lemmas.List.FromFn.{length-range_with_len, get_or-range_with_len}
-use Rattle.std.proofs.lemmas.List.Sums.{list_all-from_AllPass}
-use Rattle.lock_model.specs.Counts.{is_empty, one, sum_below}
-use Rattle.lock_laws.proofs.Kit.{sum_below-change}
-use Rattle.lock_laws.proofs.Sums.{sum_below-most}
-use Rattle.run_laws.proofs.OtherThreads.{ends_no_other}
-use Rattle.step_world.specs.Courses.{Course, IsCourse, ended_in, turn_seen}
-use Rattle.lock_state.specs.Run.{first_turn, Run, run_behind, is_stuck, is_over, go_on, course_after, all_ended, has_ended, threads_of, round_of, with_turn, after_turn}
+use Rattle.lock_model.specs.Counts.{has_bit, is_empty}
+use Rattle.lock_model.specs.Operations.{IsProper}
+use Rattle.lock_model.specs.Plans.{config_of}
+use Rattle.lock_state.specs.Run.{first_turn, start_run, start_course, Run, run_behind, turn_of, is_stuck, is_over, is_idle, go_on, course_after, all_ended, has_ended, threads_of, round_of, with_turn, after_turn}
 use Rattle.lock_state.specs.Run as run
 use Rattle.lock_model.specs.declared.plan.Plan.{Plan}
 use Rattle.lock_model.specs.declared.numbers.ThreadNo.{ThreadNo}
 use Rattle.lock_model.specs.declared.turn.Turn.{Turn}
-use Rattle.std.specs.Option.{is_none}
+use Rattle.lock_model.specs.declared.turn.Turn.TheVariants.{Idle}
+use Rattle.run_laws.specs.OnTrack.{IsOnTrack, IsSleeping}
+use Rattle.run_laws.proofs.Idle.{idle_exactly, changes_nothing}
+use Rattle.run_laws.proofs.TurnsOfCourses.{one_more}
+use Rattle.step_world.specs.Courses.{Course, IsCourse, IsSound, is_going, turn_seen}
+use Rattle.step_world.specs.Sets.{members, Passes}
+use Rattle.step_world.specs.Worlds.{World, Represents}
+use Rattle.step_world.specs.declared.threads.ThreadSet.{ThreadSet}
+use Rattle.step_world.proofs.Sets.{keep_alike, keeps_none, apart, no_members, All-members, All-behind}
 
--- 1. Who still comes
+-- 1. Who has ended
 
-empty_is : {A : Type 0} (xs : List A) → is_empty xs ≡ nat_eq (length xs) 0
-empty_is [] = refl
-empty_is (x ∷ xs) = sym (ne_eqb (length (x ∷ xs)) 0 (λ e. omega (arith, e)))
-
--- nobody comes exactly where all have had their turn
-pub none_left : (ts : List ThreadNo) (n : ℕ) → n ≤ length ts → is_empty (map {B = ℕ} (λ t. t.0) (drop n ts)) ≡ nat_eq n (length ts)
-none_left ts n l =
-    let rest = length-map (drop n ts) (λ (t : ThreadNo). t.0) ∙ length-drop n ts in
-    empty_is (map {B = ℕ} (λ t. t.0) (drop n ts))
-    ∙ elim (cases_eq n (length ts)) [
-      | inl e ↦ eq-eqb (length (map {B = ℕ} (λ t. t.0) (drop n ts))) 0 (omega (arith, rest, e)) ∙ sym (eq-eqb n (length ts) e)
-      | inr e ↦ ne_eqb (length (map {B = ℕ} (λ t. t.0) (drop n ts))) 0 (λ z. omega (arith, rest, e, z, l)) ∙ sym (ne_eqb n (length ts) e)
-    ]
-
--- so a course is stuck where all of an idle round have had their turn
-pub stuck_is : (k : run.Course) (ts : List ThreadNo) (n : ℕ) (idle : Bool) → k.coming ≡ map (λ t. t.0) (drop n ts) → n ≤ length ts → k.idle ≡ idle → is_stuck k ≡ (nat_eq n (length ts) && idle)
-stuck_is k ts n idle coming within same = ap (λ (xs : List ℕ). is_empty xs && k.idle) coming ∙ ap (λ (b : Bool). b && k.idle) (none_left ts n within) ∙ ap (λ (b : Bool). nat_eq n (length ts) && b) same
-
--- 2. Who has ended
-
--- no more than there are
-pub few_ended : (plan : Plan) (r : Run) → ended_in plan r ≤ length plan.threads
-few_ended plan r = sum_below-most (length plan.threads) (λ t. one (has_ended plan r t)) (λ t. go (has_ended plan r t))
-  where
-    go : (b : Bool) → one b ≤ 1
-    go true = omega arith
-    go false = omega arith
-
--- one that hasn't ended settles it,
-one_runs : (plan : Plan) (r : Run) (t : ℕ) → t < length plan.threads → has_ended plan r t ≡ false → all_ended plan r ≡ false
+-- one that hasn't ended settles it
+pub one_runs : (plan : Plan) (r : Run) (t : ℕ) → t < length plan.threads → has_ended plan r t ≡ false → all_ended plan r ≡ false
 one_runs plan r t l e =
     let n = length plan.threads in
     list_all_at (has_ended plan r) (threads_of plan) t 0 (omega (arith, l, length-range_with_len 0 n)) (ap (has_ended plan r) (get_or-range_with_len 0 n t 0 l ∙ omega arith) ∙ e)
 
--- and else all have
-none_runs : (plan : Plan) (r : Run) → ((t : ℕ) → t < length plan.threads → has_ended plan r t ≡ true) → all_ended plan r ≡ true
-none_runs plan r each =
+-- all have ended exactly where a round would have nobody
+none_left : (p : ℕ → Bool) (ts : List ℕ) → is_empty (filter (λ t. not (p t)) ts) ≡ list_all p ts
+none_left p [] = refl
+none_left p (t ∷ ts) = elim (p t) as (λ b. is_empty (cond (not b) (t ∷ filter (λ u. not (p u)) ts) (filter (λ u. not (p u)) ts)) ≡ (b && list_all p ts)) [
+  | true ↦ none_left p ts
+  | false ↦ refl
+]
+
+pub round_of_none : (plan : Plan) (r : Run) → is_empty (round_of plan r) ≡ all_ended plan r
+round_of_none plan r = none_left (has_ended plan r) (threads_of plan)
+
+-- 2. Rounds
+
+-- a set that has who hasn't ended has a round's threads
+pub round_is : (plan : Plan) (r : Run) (bits : ℕ) → length plan.threads ≤ 32 → ((t : ℕ) → has_bit t bits ≡ is_going plan r t) → members bits ≡ round_of plan r
+unfolding members
+round_is plan r bits few same =
     let n = length plan.threads in
-    list_all-from_AllPass (has_ended plan r) (threads_of plan) (All-from_get_or (λ t. has_ended plan r t ≡ true) (threads_of plan) 0 (λ i l.
-    let below : i < n = omega (arith, l, length-range_with_len 0 n) in
-    ap (has_ended plan r) (get_or-range_with_len 0 n i 0 below ∙ omega arith) ∙ each i below))
+    let rest : ℕ = 32 - n in
+    let p : ℕ → Bool = is_going plan r in
+    let q : ℕ → Bool = λ t. not (has_ended plan r t) in
+    keep_alike (λ t. has_bit t bits) p 0 32 (λ t i l. same t)
+    ∙ apart p n rest 32 (let e : n + rest ≡ 32 = omega (arith, few) in e)
+    ∙ ap₂ (λ (xs ys : List ℕ). xs ++ ys) (keep_alike p q 0 n (λ t i l. ap (λ (b : Bool). b && q t) (lt-ltb t n (omega (arith, l)))))
+    (keeps_none p n rest (λ t i l. ap (λ (b : Bool). b && q t) (le-ltb t n i)))
+    ∙ append-nil (filter q (range_with_len 0 n))
 
--- where less than all places are counted, one isn't
-one_uncounted : (n : ℕ) (f : ℕ → Bool) → sum_below n (λ t. one (f t)) < n → (t : ℕ) × (t < n) × (f t ≡ false)
-unfolding sum_below
-one_uncounted zero f l = absurd (omega arith)
-one_uncounted (suc n) f l = elim (cases_Bool (f n)) [
-  | inl e ↦ let here : one (f n) ≡ 1 = ap one e in let x = one_uncounted n f (omega arith) in (x.0, omega (arith, x.1), x.2)
-  | inr e ↦ (n, omega arith, e)
+as_before : (t u : ℕ) → (t ≡ u → ⊥) → ltb u t ≡ ltb u (t + 1)
+as_before t u ne = elim (cases_lt u t) [
+  | inl l ↦ lt-ltb u t l ∙ sym (lt-ltb u (t + 1) (omega (arith, l)))
+  | inr l ↦ le-ltb u t l ∙ sym (le-ltb u (t + 1) (omega (arith, l, ne)))
 ]
 
--- where all are, each is
-all_counted : (n : ℕ) (f : ℕ → Bool) → sum_below n (λ t. one (f t)) ≡ n → (t : ℕ) → t < n → f t ≡ true
-unfolding sum_below
-all_counted zero f e t l = absurd (omega arith)
-all_counted (suc n) f e t l =
-    let below = sum_below-most n (λ u. one (f u)) (λ u. at_most_one (f u)) in
-    let here = at_most_one (f n) in
-    elim (cases_eq t n) [ inl i ↦ rw i (is_one (f n) (omega arith)) | inr i ↦ all_counted n f (omega arith) t (omega (arith, i)) ]
+-- one more thread is in the set of those who haven't ended, or not
+pub goes_more : (ended : ℕ → Bool) (t u : ℕ) → ended t ≡ false → (eqb t u || (ltb u t && not (ended u))) ≡ (ltb u (t + 1) && not (ended u))
+goes_more ended t u runs = elim (cases_eq t u) [
+  | inl e ↦
+      let here : not (ended u) ≡ true = ap (λ (v : ℕ). not (ended v)) (sym e) ∙ ap not runs in
+      ap (λ (b : Bool). b || (ltb u t && not (ended u))) (eq-eqb t u e) ∙ sym (ap₂ (λ (a b : Bool). a && b) (lt-ltb u (t + 1) (omega (arith, e))) here)
+  | inr ne ↦ ap (λ (b : Bool). b || (ltb u t && not (ended u))) (ne_eqb t u ne) ∙ ap (λ (b : Bool). b && not (ended u)) (as_before t u ne)
+]
+
+pub goes_no_more : (ended : ℕ → Bool) (t u : ℕ) → ended t ≡ true → (ltb u t && not (ended u)) ≡ (ltb u (t + 1) && not (ended u))
+goes_no_more ended t u over = elim (cases_eq t u) [
+  | inl e ↦
+      let gone : not (ended u) ≡ false = ap (λ (v : ℕ). not (ended v)) (sym e) ∙ ap not over in
+      and_right (ltb u t) (not (ended u)) gone ∙ sym (and_right (ltb u (t + 1)) (not (ended u)) gone)
+  | inr ne ↦ ap (λ (b : Bool). b && not (ended u)) (as_before t u ne)
+]
+
+-- 3. Who still comes
+
+-- a round is stuck where nobody comes any more
+pub stuck_as : {course : Course} {k : run.Course} (idle : Bool) → IsCourse course k → course.idle ≡ idle → (idle && is_empty course.coming) ≡ is_stuck k
+stuck_as {course} {k} idle h e =
+    turned idle (is_empty course.coming) ∙ ap₂ (λ (ts : List ℕ) (b : Bool). is_empty ts && b) (sym h.coming) (sym e ∙ sym h.idle)
   where
-    at_most_one : (b : Bool) → one b ≤ 1
-    at_most_one true = omega arith
-    at_most_one false = omega arith
+    turned : (a b : Bool) → (a && b) ≡ (b && a)
+    turned true true = refl
+    turned true false = refl
+    turned false true = refl
+    turned false false = refl
 
-    is_one : (b : Bool) → one b ≡ 1 → b ≡ true
-    is_one true i = refl
-    is_one false i = absurd (omega arith)
+module _ {world : World} {schedule : List ThreadNo} {round going asleep : ℕ} (h : IsSound world schedule round going asleep) where
+  -- those who haven't ended are a round's threads
+  pub members_are : (r : Run) → Represents world r → members going ≡ round_of world.plan r
+  members_are r shows = round_is world.plan r going h.proper.threads (λ t. h.going_are r t shows)
 
--- all threads have ended exactly where as many have as there are
-pub all_ended_is : (plan : Plan) (r : Run) → nat_eq (ended_in plan r) (length plan.threads) ≡ all_ended plan r
-all_ended_is plan r = elim (cases_eq (ended_in plan r) (length plan.threads)) [
-  | inl e ↦ eq-eqb (ended_in plan r) (length plan.threads) e ∙ sym (none_runs plan r (all_counted (length plan.threads) (has_ended plan r) e))
-  | inr e ↦
-      let few = few_ended plan r in
-      let x = one_uncounted (length plan.threads) (has_ended plan r) (omega (arith, e, few)) in
-      ne_eqb (ended_in plan r) (length plan.threads) e ∙ sym (one_runs plan r x.0 x.1 x.2)
-]
+  -- so a round may begin
+  pub sound_round : IsSound world [] going going asleep
+  sound_round = record {
+    proper = h.proper;
+    run = h.run;
+    going_are = h.going_are;
+    sleep = h.sleep;
+    scheduled = All-nil (λ (t : ThreadNo). t.0 < length world.plan.threads);
+    threads = All-members (λ t. t < length world.plan.threads) going (λ t e.
+        let there : is_going world.plan h.run.0 t ≡ true = sym (h.going_are h.run.0 t h.run.1) ∙ e in
+        ltb-true t (length world.plan.threads) (and_parts (ltb t (length world.plan.threads)) (not (has_ended world.plan h.run.0 t)) there).0);
+    in_turn = inr refl;
+  }
 
--- behind a turn its thread may have ended, and no other
-pub ended_behind : (plan : Plan) (r : Run) (t : ℕ) → t < length plan.threads → ended_in plan (run_behind plan r t) + one (has_ended plan r t) ≡ ended_in plan r + one (has_ended plan (run_behind plan r t) t)
-ended_behind plan r t lt = sum_below-change (length plan.threads) (λ u. one (has_ended plan (run_behind plan r t) u)) (λ u. one (has_ended plan r u)) t lt (λ u ne. ap one (ends_no_other plan r t u (λ e. ne (sym e))))
+  -- the first of the schedule doesn't come any more,
+  pub sound_rest : {t : ThreadNo} {rest : List ThreadNo} → schedule ≡ t ∷ rest → IsSound world rest round going asleep
+  sound_rest {t} {rest} e = record {
+    proper = h.proper;
+    run = h.run;
+    going_are = h.going_are;
+    sleep = h.sleep;
+    scheduled = All-tail (λ (u : ThreadNo). u.0 < length world.plan.threads) t rest (subst (All (λ (u : ThreadNo). u.0 < length world.plan.threads)) e h.scheduled);
+    threads = h.threads;
+    in_turn = elim h.in_turn [ inl i ↦ inl i | inr i ↦ absurd (let z = sym i ∙ e in cc) ];
+  }
 
--- 3. Rounds
+  -- or some of the first of a round
+  pub sound_left : (front : List ℕ) (new : ℕ) → members round ≡ front ++ members new → IsSound world schedule new going asleep
+  sound_left front new e = record {
+    proper = h.proper;
+    run = h.run;
+    going_are = h.going_are;
+    sleep = h.sleep;
+    scheduled = h.scheduled;
+    threads = All-behind (λ t. t < length world.plan.threads) front (members new) (subst (All (λ t. t < length world.plan.threads)) e h.threads);
+    in_turn = elim h.in_turn [ inl i ↦ inl (none_behind front (members new) (sym e ∙ i)) | inr i ↦ inr i ];
+  }
+    where
+      none_behind : (xs ys : List ℕ) → xs ++ ys ≡ [] → ys ≡ []
+      none_behind [] ys i = i
+      none_behind (x ∷ xs) ys i = absurd cc
 
-range_more : (a n : ℕ) → range_with_len a (suc n) ≡ range_with_len a n ++ (a + n) ∷ []
-range_more a zero = ap (λ (b : ℕ). b ∷ []) (omega arith)
-range_more a (suc n) = ap (λ (xs : List ℕ). a ∷ xs) (range_more (a + 1) n ∙ ap (λ (b : ℕ). range_with_len (a + 1) n ++ b ∷ []) (omega arith))
+pub sound_taken : {world : World} {schedule : List ThreadNo} {old new : ThreadSet} {going asleep : ℕ} (o : Option ThreadNo) → IsSound world schedule old.bits going asleep
+    → IfNone o ((members old.bits ≡ []) × (new ≡ old)) → IfSome o (λ t. members old.bits ≡ t.0 ∷ members new.bits) → IsSound world schedule new.bits going asleep
+sound_taken {world} {schedule} {going = going} {asleep = asleep} None h none some = subst (λ (x : ThreadSet). IsSound world schedule x.bits going asleep) (sym none.1) h
+sound_taken {new = new} (Some t) h none some = sound_left h (t.0 ∷ []) new.bits some
 
--- those of the first threads that haven't ended
-abbrev pub round_below : Plan → Run → ℕ → List ℕ
-round_below plan r n = filter (λ t. not (has_ended plan r t)) (range_with_len 0 n)
+pub sound_passed : {world : World} {schedule : List ThreadNo} {old new going asleep number : ℕ} → IsSound world schedule old going asleep → Passes asleep old new number
+    → IsSound world schedule new going asleep
+sound_passed {new = new} h p = sound_left h p.front new p.are
 
-round_more : (plan : Plan) (r : Run) (n : ℕ) (b : Bool) → has_ended plan r n ≡ b → round_below plan r (n + 1) ≡ round_below plan r n ++ cond (not b) (n ∷ []) []
-round_more plan r n b e =
-    let p : ℕ → Bool = λ t. not (has_ended plan r t) in
-    let next : n + 1 ≡ suc n = omega arith in
-    let here : 0 + n ≡ n = omega arith in
-    ap (λ (m : ℕ). filter p (range_with_len 0 m)) next ∙ ap (filter p) (range_more 0 n)
-    ∙ filter-append p (range_with_len 0 n) ((0 + n) ∷ []) ∙ ap (λ (m : ℕ). round_below plan r n ++ cond (p m) (m ∷ []) []) here
-    ∙ ap (λ (c : Bool). round_below plan r n ++ cond (not c) (n ∷ []) []) e
+-- the begin of a course
+module _ {world : World} {schedule : List ThreadNo} (plan : Plan) (round : ℕ) where
+  pub sound_start : {going asleep : ℕ} → IsProper plan → world.plan ≡ plan → Represents world (start_run (config_of plan)) → schedule ≡ plan.schedule
+      → ((t : ℕ) → has_bit t round ≡ false) → ((t : ℕ) → has_bit t asleep ≡ false)
+      → ((r : Run) (t : ℕ) → Represents world r → has_bit t going ≡ is_going world.plan r t) → IsSound world schedule round going asleep
+  sound_start proper same begins scheduled nobody awake going_are = record {
+    proper = subst IsProper (sym same) proper;
+    run = (start_run (config_of plan), begins);
+    going_are = going_are;
+    sleep = λ t e. absurd (let z = sym e ∙ awake t in cc);
+    scheduled = subst (λ (ts : List ThreadNo). All (λ t. t.0 < length world.plan.threads) ts) (sym scheduled)
+        (subst (λ (p : Plan). All (λ t. t.0 < length p.threads) plan.schedule) (sym same) proper.schedule);
+    threads = All-members (λ t. t < length world.plan.threads) round (λ t e. absurd (let z = sym e ∙ nobody t in cc));
+    in_turn = inl (no_members round nobody);
+  }
 
--- a thread that has ended isn't of the round,
-pub round_stays : (plan : Plan) (r : Run) (n : ℕ) → has_ended plan r n ≡ true → round_below plan r (n + 1) ≡ round_below plan r n
-round_stays plan r n e = round_more plan r n true e ∙ append-nil (round_below plan r n)
-
--- and another is
-pub round_grows : (plan : Plan) (r : Run) (n : ℕ) → has_ended plan r n ≡ false → round_below plan r (n + 1) ≡ round_below plan r n ++ n ∷ []
-round_grows plan r n e = round_more plan r n false e
+  pub course_start : Represents world (start_run (config_of plan)) → schedule ≡ plan.schedule → ((t : ℕ) → has_bit t round ≡ false)
+      → IsCourse (record { world = world; coming = map (λ t. t.0) schedule ++ members round; idle = false }) (start_course plan)
+  course_start begins scheduled nobody = record {
+    shows = begins;
+    coming = sym (ap₂ (λ (s : List ThreadNo) (ts : List ℕ). map (λ t. t.0) s ++ ts) scheduled (no_members round nobody) ∙ append-nil (map (λ (t : ThreadNo). t.0) plan.schedule));
+    idle = refl;
+  }
 
 -- 4. Turns
 
 -- nobody comes any more
-pub none_comes : (ts : List ThreadNo) (n : ℕ) → n ≡ length ts → map {B = ℕ} (λ t. t.0) (drop n ts) ≡ []
-none_comes ts n e = ap (map {B = ℕ} (λ (t : ThreadNo). t.0)) (drop_all n ts (omega (arith, e)))
+pub none_comes : (ts : List ℕ) → is_empty ts ≡ true → ts ≡ []
+none_comes [] e = refl
+none_comes (t ∷ ts) e = absurd cc
 
 -- then the first of a round has its turn,
 pub round_begins : (plan : Plan) (k : run.Course) → k.coming ≡ [] → with_turn plan k.run (round_of plan k.run) true ≡ after_turn plan k k.coming
@@ -149,16 +195,8 @@ one_comes plan k e = go k.coming e
     go (t ∷ ts) e = refl
 
 -- where not all have ended, somebody comes
-round_of_some : (p : ℕ → Bool) (ts : List ℕ) → list_all p ts ≡ false → is_empty (filter (λ t. not (p t)) ts) ≡ false
-round_of_some p [] e = absurd cc
-round_of_some p (t ∷ ts) e = one_comes_first (p t) refl (round_of_some p ts)
-  where
-    one_comes_first : (b : Bool) → p t ≡ b → (list_all p ts ≡ false → is_empty (filter (λ u. not (p u)) ts) ≡ false) → is_empty (filter (λ u. not (p u)) (t ∷ ts)) ≡ false
-    one_comes_first true i others = let rest : list_all p ts ≡ false = rw i at e in rw i (others rest)
-    one_comes_first false i others = rw i refl
-
 pub somebody_comes : (plan : Plan) (k : run.Course) → is_over plan k ≡ false → is_empty (k.coming ++ round_of plan k.run) ≡ false
-somebody_comes plan k e = go k.coming (round_of_some (has_ended plan k.run) (threads_of plan) (or_parts (all_ended plan k.run) (is_stuck k) e).0)
+somebody_comes plan k e = go k.coming (round_of_none plan k.run ∙ (or_parts (all_ended plan k.run) (is_stuck k) e).0)
   where
     go : (ts : List ℕ) → is_empty (round_of plan k.run) ≡ false → is_empty (ts ++ round_of plan k.run) ≡ false
     go [] i = i
@@ -203,3 +241,55 @@ pub one_made : (plan : Plan) (r : Run) (ts : List ℕ) (made : Option (ThreadNo 
 one_made plan r [] made some e = absurd cc
 one_made plan r (t ∷ ts) None some e = absurd cc
 one_made plan r (t ∷ ts) (Some m) some e = refl
+
+-- 6. Turns of those who sleep
+
+and_true : (b : Bool) → (b && true) ≡ b
+and_true true = refl
+and_true false = refl
+
+module _ (plan : Plan) (proper : IsProper plan) where
+  -- such a turn changes nothing but who comes
+  idles : (k : run.Course) (t : ℕ) (ts : List ℕ) → IsOnTrack plan k.run → k.coming ≡ t ∷ ts → t < length plan.threads → IsSleeping plan k.run t → go_on plan k ≡ record k { coming = ts }
+  idles k t ts track comes lt asleep =
+      let answer : (turn_of plan k.run t).answer ≡ Idle = (idle_exactly plan k.run t proper track).1 asleep in
+      let on : is_over plan k ≡ false = ap₂ (λ (a b : Bool). a || b) (one_runs plan k.run t lt asleep.going) (ap (λ (xs : List ℕ). is_empty xs && k.idle) comes) in
+      ap (λ (b : Bool). cond b k (after_turn plan k k.coming)) on ∙ ap (after_turn plan k) comes
+      ∙ ap₂ (λ (r : Run) (i : Bool). record { run = r; coming = ts; idle = i }) (changes_nothing plan k.run t (inl answer)) (ap (λ (a : Turn). k.idle && is_idle a) answer ∙ and_true k.idle)
+
+  -- so the turns of as many that stand in front leave those behind
+  pub passed : (front rest : List ℕ) (n : ℕ) (k : run.Course) → course_after plan n ≡ k → IsOnTrack plan k.run → k.coming ≡ front ++ rest → All (λ t. (t < length plan.threads) × IsSleeping plan k.run t) front
+      → course_after plan (n + length front) ≡ record k { coming = rest }
+  passed [] rest n k e track comes each = ap (course_after plan) (let z : n + 0 ≡ n = omega arith in z) ∙ e ∙ ap (λ (ts : List ℕ). record k { coming = ts }) comes
+  passed (t ∷ front) rest n k e track comes each =
+      let P : ℕ → Type 0 = λ u. (u < length plan.threads) × IsSleeping plan k.run u in
+      let first : P t = All-head P t front each in
+      let one = one_more plan n ∙ ap (go_on plan) e ∙ idles k t (front ++ rest) track comes first.0 first.1 in
+      ap (course_after plan) (let z : n + suc (length front) ≡ n + 1 + length front = omega arith in z)
+      ∙ passed front rest (n + 1) (record k { coming = front ++ rest }) one track refl (All-tail P t front each)
+
+-- Those who stand in front of a round come before the others: nobody of a schedule does then.
+front_first : (scheduled old front new : List ℕ) → old ≡ front ++ new → (old ≡ []) ⊎ (scheduled ≡ []) → scheduled ++ old ≡ front ++ (scheduled ++ new)
+front_first scheduled old front new e (inr none) = subst (λ (ts : List ℕ). ts ++ old ≡ front ++ (ts ++ new)) (sym none) e
+front_first scheduled old [] new e (inl none) = ap (λ (ts : List ℕ). scheduled ++ ts) e
+front_first scheduled old (t ∷ front) new e (inl none) = absurd (let z = sym none ∙ e in cc)
+
+no_schedule : (schedule : List ThreadNo) → schedule ≡ [] → map {B = ℕ} (λ t. t.0) schedule ≡ []
+no_schedule schedule e = ap (map (λ (t : ThreadNo). t.0)) e
+
+-- so many at the front of a round who sleep have had their turns
+pub course_passed : {world : World} {schedule : List ThreadNo} {old new going asleep number : ℕ} → IsSound world schedule old going asleep → Passes asleep old new number
+    → (idle : Bool) (n : ℕ) → IsCourse (record { world = world; coming = map (λ t. t.0) schedule ++ members old; idle = idle }) (course_after world.plan n)
+    → IsCourse (record { world = world; coming = map (λ t. t.0) schedule ++ members new; idle = idle }) (course_after world.plan (n + number))
+course_passed {world} {schedule} {old} {new} {going} {asleep} {number} h p idle n shows =
+    let k : run.Course = course_after world.plan n in
+    let scheduled : List ℕ = map (λ (t : ThreadNo). t.0) schedule in
+    let in_turn : (members old ≡ []) ⊎ (scheduled ≡ []) = elim h.in_turn [ inl i ↦ inl i | inr i ↦ inr (no_schedule schedule i) ] in
+    let comes = shows.coming ∙ front_first scheduled (members old) p.front (members new) p.are in_turn in
+    let each : All (λ t. (t < length world.plan.threads) × IsSleeping world.plan k.run t) p.front =
+    All-weaker (λ t. has_bit t asleep ≡ true) (λ t. (t < length world.plan.threads) × IsSleeping world.plan k.run t)
+    (λ t e. let it = h.sleep t e in (it.thread, it.sleeping k.run shows.shows)) p.front p.each in
+    let behind = passed world.plan h.proper p.front (scheduled ++ members new) n k refl shows.shows.on_track comes each in
+    let same : n + length p.front ≡ n + number = ap (λ (i : ℕ). n + i) p.number_is in
+    subst (IsCourse (record { world = world; coming = scheduled ++ members new; idle = idle })) (sym behind ∙ ap (course_after world.plan) same)
+    (record { shows = shows.shows; coming = refl; idle = shows.idle })

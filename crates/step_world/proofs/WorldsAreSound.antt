@@ -1,8 +1,8 @@
 -- A world shows a run on track from its begin on, and each turn of it is the run's.
-use Rattle.std.proofs.Common.{ℕ, ◌<◌, length}
+use Rattle.std.proofs.Common.{◌≡◌, ℕ, ◌<◌, false, length}
 use Rattle.lock_model.specs.Operations.{IsProper}
 use Rattle.lock_model.specs.Plans.{config_of}
-use Rattle.lock_state.specs.Run.{Run, start_run, run_behind}
+use Rattle.lock_state.specs.Run.{Run, start_run, run_behind, has_ended}
 use Rattle.lock_model.specs.declared.plan.Plan.{Plan}
 use Rattle.lock_model.specs.declared.turn.Turn.{Turn}
 use Rattle.run_laws.proofs.Turning.{begins_on_track, turned}
@@ -18,3 +18,8 @@ at_begin plan m p h = record { shows = h; on_track = begins_on_track plan p }
 pub behind_turn : (plan : Plan) (old new : Machine) (answer : Turn) (t : ℕ) → IsProper plan → t < length plan.threads
     → Follows plan t old new answer (λ r. Unit {0}) → (r : Run) → IsRunOf plan old r → IsRunOf plan new (run_behind plan r t)
 behind_turn plan old new answer t p l follows r h = record { shows = (follows r h tt).1; on_track = turned plan r t p h.on_track l }
+
+-- and behind one of a thread that hasn't ended
+pub behind_going : (plan : Plan) (old new : Machine) (answer : Turn) (t : ℕ) → IsProper plan → t < length plan.threads
+    → Follows plan t old new answer (λ r. has_ended plan r t ≡ false) → (r : Run) → IsRunOf plan old r → has_ended plan r t ≡ false → IsRunOf plan new (run_behind plan r t)
+behind_going plan old new answer t p l follows r h runs = record { shows = (follows r h runs).1; on_track = turned plan r t p h.on_track l }

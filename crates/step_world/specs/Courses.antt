@@ -1,16 +1,16 @@
 -- A run under way, as the schedule keeps it.
-use Rattle.std.specs.Prelude.{◌≡◌, ◌⊎◌, ℕ, ◌≤◌, ◌<◌, Bool, List, length, option_map, Option}
-use Rattle.std.specs.Global.{Vec}
+use Rattle.std.specs.Prelude.{◌≡◌, ◌⊎◌, ℕ, ◌<◌, Bool, true, not, ◌&&◌, nat_lt, List, [], length, option_map, Option}
 use Rattle.std.specs.List.{All}
-use Rattle.std.specs.Vec.{vec_capacity}
-use Rattle.lock_model.specs.Counts.{one, sum_below}
+use Rattle.lock_model.specs.Counts.{has_bit}
 use Rattle.lock_model.specs.Operations.{IsProper}
 use Rattle.lock_state.specs.Run as run
 use Rattle.lock_state.specs.Run.{Run, has_ended}
 use Rattle.lock_model.specs.declared.numbers.ThreadNo.{ThreadNo}
 use Rattle.lock_model.specs.declared.plan.Plan.{Plan}
 use Rattle.lock_model.specs.declared.turn.Turn.{Turn}
-use Rattle.lock_model.specs.declared.turn.Turn.TheVariants.{Did, Idle, Ended}
+use Rattle.lock_model.specs.declared.turn.Turn.TheVariants.{Idle, Ended}
+use Rattle.run_laws.specs.OnTrack.{IsSleeping}
+use Rattle.step_world.specs.Sets.{members}
 use Rattle.step_world.specs.Worlds.{World, Represents}
 
 -- 1. What a course is seen as
@@ -28,27 +28,28 @@ pub record IsCourse (course : Course) (k : run.Course) : Type 0 where
   pub coming : k.coming ≡ course.coming
   pub idle : k.idle ≡ course.idle
 
--- how many of the plan's threads have ended
-abbrev pub ended_in : Plan → Run → ℕ
-ended_in plan r = sum_below (length plan.threads) (λ t. one (has_ended plan r t))
+-- whether it is a thread of the plan that hasn't ended
+abbrev pub is_going : Plan → Run → ℕ → Bool
+is_going plan r t = nat_lt t (length plan.threads) && not (has_ended plan r t)
 
--- What is true of each course: it is of some run of a proper plan, so many threads of which have ended; so many of the
--- plan's threads that come have had their turn; and there is room for a round of all.
-pub record IsSound (world : World) (coming : Vec ThreadNo) (gone counted : ℕ) : Type 0 where
+-- a thread of the plan that sleeps, in whatever run the world represents
+pub record Sleeps (world : World) (t : ℕ) : Type 0 where
+  pub thread : t < length world.plan.threads
+  pub sleeping : (r : Run) → Represents world r → IsSleeping world.plan r t
+
+-- What is true of each course: it is of some run of a proper plan; one set has who hasn't ended, and each of another
+-- sleeps; the plan's threads come, and those of a round only once the schedule is through.
+pub record IsSound (world : World) (schedule : List ThreadNo) (round going asleep : ℕ) : Type 0 where
   pub proper : IsProper world.plan
   pub run : (r : Run) × Represents world r
-  pub ended : (r : Run) → Represents world r → counted ≡ ended_in world.plan r
-  pub threads : All (λ t. t.0 < length world.plan.threads) coming.items
-  pub within : gone ≤ length coming.items
-  pub room : length world.plan.threads ≤ vec_capacity coming
+  pub going_are : (r : Run) (t : ℕ) → Represents world r
+      → has_bit t going ≡ is_going world.plan r t
+  pub sleep : (t : ℕ) → has_bit t asleep ≡ true → Sleeps world t
+  pub scheduled : All (λ t. t.0 < length world.plan.threads) schedule
+  pub threads : All (λ t. t < length world.plan.threads) (members round)
+  pub in_turn : (members round ≡ []) ⊎ (schedule ≡ [])
 
 -- 2. Turns
-
--- one where a thread has ended in its turn, by the turn's answer and whether it has ended behind it
-abbrev pub newly_ended : Turn → Bool → ℕ
-newly_ended Ended has_ended = 0
-newly_ended Idle has_ended = one has_ended
-newly_ended (Did kind) has_ended = one has_ended
 
 -- a turn that was made, as the definition has it
 abbrev pub turn_seen : Option (ThreadNo × Turn) → Option (ℕ × Turn)

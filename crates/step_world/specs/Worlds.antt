@@ -1,9 +1,11 @@
 -- What a world is seen as, and which run of its plan it represents.
-use Rattle.std.specs.Prelude.{ℕ, ◌≤◌}
+use Rattle.std.specs.Prelude.{ℕ, ◌≤◌, List, [], ◌∷◌, Option, Some, None}
 use Rattle.lock_model.specs.Operations.{IsProper}
+use Rattle.lock_model.specs.Queues.{Mark}
 use Rattle.lock_state.specs.Run.{Run}
 use Rattle.lock_model.specs.declared.plan.Plan.{Plan}
 use Rattle.step_machine.specs.declared.machine.Machine.{Machine}
+use Rattle.wait_objects.specs.Seen.{Place}
 use Rattle.step_world.specs.Runs.{IsRunOf}
 
 -- the plan that it runs, the number of chains, and its objects
@@ -22,3 +24,13 @@ pub record IsSound (w : World) : Type 0 where
   pub some_chains : 1 ≤ w.chains
   pub few_chains : w.chains ≤ 64
   pub run : (r : Run) × Represents w r
+
+-- the thread that is the first of a marked list
+abbrev pub first_marked : List Mark → Option ℕ
+first_marked [] = None
+first_marked (m ∷ ms) = Some m.thread
+
+-- and that of the first place
+abbrev pub first_thread : List Place → Option ℕ
+first_thread [] = None
+first_thread (p ∷ ps) = Some p.thread

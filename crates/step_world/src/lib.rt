@@ -13,11 +13,13 @@
 //! - `world`: the world and its turns. After `World::make` no turn takes memory.
 //! - `schedule`: the run by a plan's schedule and then in rounds, to its outcome.
 //! - `turns`: one function an action: which steps a thread makes in its turn.
+//! - `threads`: sets of threads, as who is known to sleep.
 //! - `outcome`: what is printed of a run.
 #![tactic(auto)]
 
 mod outcome;
 mod schedule;
+mod threads;
 mod turns;
 mod world;
 

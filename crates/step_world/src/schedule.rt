@@ -1,17 +1,17 @@
 //! The run by a plan's schedule and then in rounds.
-ghost use Rattle.std.specs.Prelude.{◌≡◌, ◌⊎◌, ◌≤◌, ◌<◌, false, true, length, map, Some, IfOk, IfNone, IfSome, IsTrue};
-ghost use Rattle.std.specs.List.{All};
+ghost use Rattle.std.specs.Prelude.{◌≡◌, ◌≢◌, ◌⊎◌, ℕ, ◌+◌, ◌≤◌, ◌<◌, ◌&&◌, [], ◌∷◌, false, true, length, Some, IfOk, IfNone, IfSome};
 ghost use Rattle.std.specs.Option.{is_none};
-ghost use Rattle.std.specs.Vec.{vec_capacity};
 ghost use Rattle.lock_history.specs.Endings.{ending_of};
 ghost use Rattle.lock_history.specs.Outcomes.{outcome_seen};
+ghost use Rattle.lock_model.specs.Counts.{has_bit, is_empty};
 ghost use Rattle.lock_model.specs.Operations.{IsProper};
 ghost use Rattle.lock_state.specs.Run as run;
-ghost use Rattle.lock_state.specs.Run.{start_course, course_after, go_on, with_turn, is_over, is_stuck, all_ended, round_of, scheduled_run, outcome_of, whole_ending, HasLegalHistory, ending_of as ending_of_course, first_turn, next_turn};
-ghost use Rattle.step_world.specs.Courses.{IsCourse, Tells, GoesTo, KeepsWhereIdle, ended_in, newly_ended, turn_seen};
+ghost use Rattle.lock_state.specs.Run.{start_course, course_after, go_on, with_turn, is_over, is_stuck, all_ended, has_ended, is_idle, turn_of, run_behind, round_of, scheduled_run, outcome_of, whole_ending, HasLegalHistory, ending_of as ending_of_course, first_turn, next_turn};
+ghost use Rattle.step_world.specs.Courses.{IsCourse, Tells, GoesTo, KeepsWhereIdle, is_going, turn_seen};
 ghost use Rattle.step_world.specs.Worlds.{Represents};
 
 use crate::outcome::finals;
+use crate::threads::ThreadSet;
 use crate::world::World;
 use lock_history::{History, Last, Outcome};
 use lock_model::{Plan, Sequence, ThreadNo, Turn};
@@ -55,19 +55,22 @@ pub fn run_schedule(
 #[derive(Drop)]
 pub struct Course<'p> {
     world: World<'p>,
-    // The schedule or the present round, and how many of it have had their turn. There is room for a round of all.
-    coming: Vec<ThreadNo>,
-    gone: usize,
+    // Who still comes in the schedule, and behind that in the present round.
+    schedule: &'p [ThreadNo],
+    round: ThreadSet,
     // Whether this is a round whose turns were all idle so far.
     idle: bool,
-    // How many threads have ended. A turn ends no other thread than its own.
-    ended: u8,
+    // Who hasn't ended. A turn ends no other thread than its own.
+    going: ThreadSet,
+    // Who is known to sleep: each turn of such a thread is idle until somebody wakes it.
+    asleep: ThreadSet,
 }
 
 impl<'p> Model for Course<'p> {
-    ghost use Rattle.std.specs.Prelude.{map, drop};
+    ghost use Rattle.std.specs.Prelude.{map, ◌++◌};
     ghost use Rattle.std.specs.Coded.{codes};
     ghost use Rattle.step_world.specs.Courses.{Course as Seen, IsSound};
+    ghost use Rattle.step_world.specs.Sets.{members};
     ghost use Rattle.step_machine.specs.contracts.machine.Machine as machines;
 
     ghost Value = { Seen };
@@ -76,11 +79,12 @@ impl<'p> Model for Course<'p> {
 
     ghost view = { λ k. record {
       world = k.world;
-      coming = map (λ t. t.0) (drop k.gone k.coming.items);
+      coming = map (λ t. t.0) k.schedule.now ++ members k.round.bits;
       idle = k.idle;
     } };
 
-    ghost invariant = { λ k. IsSound k.world k.coming k.gone k.ended };
+    ghost invariant = { λ k.
+        IsSound k.world k.schedule.now k.round.bits k.going.bits k.asleep.bits };
 }
 
 impl<'p> Course<'p> {
@@ -95,13 +99,14 @@ impl<'p> Course<'p> {
         ensures begins { IfOk result (λ course. IsCourse course (start_course plan.now)) }
     {
         let world = World::make(alloc, plan, chains)?;
-        let ended = count_ended(&world);
+        let going = going_in(&world);
         Ok(Course {
-            coming: schedule_of(alloc, plan)?,
             world,
-            gone: 0,
+            schedule: plan.schedule.as_slice(),
+            round: ThreadSet::none(),
             idle: false,
-            ended,
+            going,
+            asleep: ThreadSet::none(),
         })
     }
 
@@ -127,7 +132,7 @@ impl<'p> Course<'p> {
         if self.is_over() {
             return None;
         }
-        if self.gone == self.coming.len() {
+        if self.is_through() {
             self.begin_round();
         }
         self.make_turn()
@@ -158,17 +163,24 @@ impl<'p> Course<'p> {
         })
     }
 
-    #[tactic(auto, using(crate::proofs::Scheduling::all_ended_is))]
     fn all_ended(&self) -> bool
         ensures { Tells self.now result (λ plan k. all_ended plan k.run) }
     {
-        self.ended == self.world.threads()
+        self.going.is_empty()
     }
 
     fn is_stuck(&self) -> bool
         ensures { Tells self.now result (λ plan k. is_stuck k) }
     {
-        self.gone == self.coming.len() && self.idle
+        self.idle && self.is_through()
+    }
+
+    // Whether nobody of the schedule or of the present round comes any more. Some run is under way.
+    fn is_through(&self) -> bool
+        ensures through { result ≡ is_empty self.now.coming }
+        ensures run { (r : run.Run) × Represents self.now.world r }
+    {
+        self.schedule.is_empty() && self.round.is_empty()
     }
 
     // Nobody of the schedule or of the round before comes any more.
@@ -177,9 +189,9 @@ impl<'p> Course<'p> {
         ensures course { GoesTo self.old self.new
             (λ plan k. record k { coming = round_of plan k.run; idle = true }) }
     {
-        self.gone = 0;
+        self.schedule = &[];
+        self.round = self.going;
         self.idle = true;
-        put_round(&self.world, &mut self.coming);
     }
 
     // The first that comes has its turn.
@@ -191,13 +203,93 @@ impl<'p> Course<'p> {
         ensures thread { IfSome result (λ made. made.0.0 < length self.old.world.plan.threads) }
         ensures still { IfSome result (λ made. KeepsWhereIdle made.1 self.old self.new) }
     {
-        let t = *self.coming.get(self.gone)?;
-        let turn = self.world.turn(t);
-        self.gone += 1;
-        self.idle = self.idle && turn == Turn::Idle;
-        let has_ended = self.world.has_ended(t);
-        self.ended += newly_ended(turn, has_ended);
+        let t = self.take_first()?;
+        let turn = self.turn(t);
+        self.note(turn);
         Some((t, turn))
+    }
+
+    // The first that comes, who doesn't come any more. There is none exactly where nobody comes.
+    fn take_first(&mut self) -> Option<ThreadNo>
+        ensures world { self.new.world ≡ self.old.world }
+        ensures idle { self.new.idle ≡ self.old.idle }
+        ensures none { IfNone result ((self.old.coming ≡ []) × (self.new ≡ self.old)) }
+        ensures some { IfSome result (λ t. self.old.coming ≡ t.0 ∷ self.new.coming) }
+        ensures thread { IfSome result (λ t. t.0 < length self.old.world.plan.threads) }
+    {
+        match self.schedule.split_first() {
+            Some((t, rest)) => {
+                self.schedule = rest;
+                Some(*t)
+            }
+            None => self.round.take_first(),
+        }
+    }
+
+    // A turn of a thread.
+    fn turn(&mut self, t: ThreadNo) -> Turn
+        requires { t.0 < length self.old.world.plan.threads }
+        ensures plan { self.new.world.plan ≡ self.old.world.plan }
+        ensures chains { self.new.world.chains ≡ self.old.world.chains }
+        ensures coming { self.new.coming ≡ self.old.coming }
+        ensures idle { self.new.idle ≡ self.old.idle }
+        ensures answer { (r : run.Run) → Represents self.old.world r
+            → result ≡ (turn_of self.old.world.plan r t.0).answer }
+        ensures turn { (r : run.Run) → Represents self.old.world r
+            → Represents self.new.world (run_behind self.old.world.plan r t.0) }
+        ensures still { KeepsWhereIdle result self.old self.new }
+    {
+        if !self.going.has(t) {
+            Turn::Ended
+        } else if self.asleep.has(t) {
+            Turn::Idle
+        } else {
+            self.act(t)
+        }
+    }
+
+    // The same for one that hasn't ended. It is known then whether it has, and whether it sleeps.
+    fn act(&mut self, t: ThreadNo) -> Turn
+        requires thread { t.0 < length self.old.world.plan.threads }
+        requires going { (r : run.Run) → Represents self.old.world r
+            → has_ended self.old.world.plan r t.0 ≡ false }
+        ensures plan { self.new.world.plan ≡ self.old.world.plan }
+        ensures chains { self.new.world.chains ≡ self.old.world.chains }
+        ensures coming { self.new.coming ≡ self.old.coming }
+        ensures idle { self.new.idle ≡ self.old.idle }
+        ensures answer { (r : run.Run) → Represents self.old.world r
+            → result ≡ (turn_of self.old.world.plan r t.0).answer }
+        ensures turn { (r : run.Run) → Represents self.old.world r
+            → Represents self.new.world (run_behind self.old.world.plan r t.0) }
+        ensures still { KeepsWhereIdle result self.old self.new }
+    {
+        let woken = self.world.wakes_next(t);
+        let turn = self.world.act(t);
+        self.asleep = asleep_behind(self.asleep, t, turn, woken);
+        if self.world.has_ended(t) {
+            self.going.take_out(t);
+        }
+        turn
+    }
+
+    // A turn was made. A round isn't idle any more where it did something.
+    fn note(&mut self, turn: Turn)
+        ensures { self.new ≡ record self.old { idle = self.old.idle && is_idle turn } }
+    {
+        self.idle = self.idle && turn == Turn::Idle;
+    }
+
+    // Those at the front of a round who are known to sleep have their turns, where they are no more than so many.
+    // Nothing comes of these turns, so none is made.
+    fn pass_sleepers(&mut self, most: u32) -> u32
+        ensures plan { self.new.world.plan ≡ self.old.world.plan }
+        ensures chains { self.new.world.chains ≡ self.old.world.chains }
+        ensures few { result ≤ most }
+        ensures turns { (n : ℕ) → IsCourse self.old (course_after self.old.world.plan n)
+            → IsCourse self.new (course_after self.old.world.plan (n + result)) }
+    {
+        let asleep = self.asleep;
+        self.round.pass(asleep, most)
     }
 
     // How the run ended.
@@ -233,55 +325,41 @@ fn make_turns(course: &mut Course<'_>, turns: u32)
     ensures turns { IsCourse course.old (start_course course.old.world.plan)
         → IsCourse course.new (course_after course.old.world.plan turns) }
 {
-    let mut made = 0;
-    while made < turns && course.go_on().is_some() {
-        made += 1;
+    let mut left = turns;
+    while 0 < left && course.go_on().is_some() {
+        left -= 1;
+        left -= course.pass_sleepers(left);
     }
 }
 
-// The schedule of a plan, with room for a round of all its threads.
-fn schedule_of(alloc: Global, plan: &Plan) -> Result<Vec<ThreadNo>, AllocError>
-    ensures items { IfOk result (λ coming. coming.items ≡ plan.now.schedule) }
-    ensures room { IfOk result (λ coming. length plan.now.threads ≤ vec_capacity coming) }
+// Who hasn't ended.
+fn going_in(world: &World<'_>) -> ThreadSet
+    ensures { (r : run.Run) (t : ℕ) → Represents world.now r
+        → has_bit t result.bits ≡ is_going world.now.plan r t }
 {
-    let mut coming = Vec::from_slice(alloc, plan.schedule.as_slice())?;
-    coming.reserve(plan.threads.as_slice().len())?;
-    Ok(coming)
-}
-
-// How many threads have ended.
-fn count_ended(world: &World<'_>) -> u8
-    ensures { (r : run.Run) → Represents world.now r → result ≡ ended_in world.now.plan r }
-{
-    let mut ended = 0;
-    for t in 0..world.threads() {
-        ended += u8::from(world.has_ended(ThreadNo(t)));
-    }
-    ended
-}
-
-// One for a thread that has ended in its turn, as it hadn't before.
-fn newly_ended(turn: Turn, has_ended: bool) -> u8
-    ensures { result ≡ newly_ended turn has_ended }
-{
-    match turn {
-        Turn::Ended => 0,
-        Turn::Idle | Turn::Did(_) => u8::from(has_ended),
-    }
-}
-
-// A round goes over the threads that haven't ended, by number.
-fn put_round(world: &World<'_>, coming: &mut Vec<ThreadNo>)
-    requires { length world.now.plan.threads ≤ vec_capacity coming.old }
-    ensures round { (r : run.Run) → Represents world.now r
-        → map (λ t. t.0) coming.new.items ≡ round_of world.now.plan r }
-    ensures threads { All (λ t. t.0 < length world.now.plan.threads) coming.new.items }
-    ensures room { vec_capacity coming.new ≡ vec_capacity coming.old }
-{
-    coming.clear();
+    let mut going = ThreadSet::none();
     for t in 0..world.threads() {
         if !world.has_ended(ThreadNo(t)) {
-            coming.push_reserved(ThreadNo(t));
+            going.put(ThreadNo(t));
         }
     }
+    going
+}
+
+// Who is known to sleep behind a turn, which may have woken another.
+fn asleep_behind(asleep: ThreadSet, t: ThreadNo, turn: Turn, woken: Option<ThreadNo>) -> ThreadSet
+    requires thread { t.0 < 32 }
+    requires woken { IfSome woken (λ u. u.0 < 32) }
+    ensures own { has_bit t.0 result.bits ≡ true → has_bit t.0 asleep.bits ≡ true ⊎ (turn ≡ Turn.Idle) }
+    ensures others { (u : ℕ) → u ≢ t.0 → has_bit u result.bits ≡ true
+        → (has_bit u asleep.bits ≡ true) × IfSome woken (λ w. w.0 ≢ u) }
+{
+    let mut behind = asleep;
+    if turn == Turn::Idle {
+        behind.put(t);
+    }
+    if let Some(u) = woken {
+        behind.take_out(u);
+    }
+    behind
 }

@@ -4,8 +4,9 @@
 //! - `walks`: the hops of a lending walk.
 //! - `locks`: the operations that gain and release locks.
 //! - `waits`: the operations that wait and wake, and the release after a wait's first turn.
-ghost use Rattle.std.specs.Prelude.{◌<◌, length, Some};
+ghost use Rattle.std.specs.Prelude.{◌≡◌, ◌<◌, false, length, Some};
 ghost use Rattle.lock_model.specs.Operations.{IsProper};
+ghost use Rattle.lock_state.specs.Run.{has_ended};
 ghost use Rattle.run_laws.specs.OnTrack.{IsAtOperation};
 ghost use Rattle.step_machine.specs.Steps.{HasKey};
 ghost use Rattle.step_world.specs.Runs.{HasRun, Follows, MakesAction, KeepsWhereIdle, IsFree, IsNote, answer_of};
@@ -33,8 +34,7 @@ pub enum Made {
     Skips(u32),
 }
 
-/// One turn of a thread: a walk first, then the marked list, then a release after a wait's first turn, then the wait
-/// word, and then its operation.
+/// One turn of a thread, which may have ended.
 pub fn turn(machine: &mut Machine, plan: &Plan, t: ThreadNo) -> Turn
     requires proper { IsProper plan.now }
     requires thread { t.0 < length plan.now.threads }
@@ -44,8 +44,23 @@ pub fn turn(machine: &mut Machine, plan: &Plan, t: ThreadNo) -> Turn
 {
     let thread = &machine.threads[usize::from(t.0)];
     if thread.has_ended(plan.operations_of(t)) {
-        return Turn::Ended;
+        Turn::Ended
+    } else {
+        act(machine, plan, t)
     }
+}
+
+/// A turn of one that hasn't ended: a walk first, then the marked list, then a release after a wait's first turn, then
+/// the wait word, and then its operation.
+pub fn act(machine: &mut Machine, plan: &Plan, t: ThreadNo) -> Turn
+    requires proper { IsProper plan.now }
+    requires thread { t.0 < length plan.now.threads }
+    requires run { HasRun plan.now machine.old (λ r. has_ended plan.now r t.0 ≡ false) }
+    ensures follows { Follows plan.now t.0 machine.old machine.new result
+        (λ r. has_ended plan.now r t.0 ≡ false) }
+    ensures unchanged { KeepsWhereIdle result machine.old machine.new }
+{
+    let thread = &machine.threads[usize::from(t.0)];
     match thread.walk {
         Walk::AtLock(l) => walk_at_lock(machine, plan, t, l),
         Walk::AtThread(o) => walk_at_thread(machine, plan, t, o),

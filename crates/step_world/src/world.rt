@@ -1,15 +1,17 @@
 //! The world of a scheduled run, and its turns.
-ghost use Rattle.std.specs.Prelude.{◌≡◌, ◌⊎◌, ◌↔◌, ◌≤◌, ◌<◌, true, length, IfOk};
+ghost use Rattle.std.specs.Prelude.{◌≡◌, ◌⊎◌, ◌↔◌, ◌≤◌, ◌<◌, true, false, length, option_map, IfOk, IfSome};
 ghost use Rattle.lock_state.specs.Facts.{LawfulTurn, Ordered};
 ghost use Rattle.lock_model.specs.Operations.{IsProper};
 ghost use Rattle.lock_model.specs.Plans.{config_of};
 ghost use Rattle.lock_state.specs.Run.{Run, start_run, turn_of, run_behind, has_ended};
 ghost use Rattle.run_laws.specs.OnTrack.{IsSleeping};
 ghost use Rattle.lock_state.specs.Best.{HasBest, HasCycle};
-ghost use Rattle.step_world.specs.Worlds.{Represents};
+ghost use Rattle.lock_objects.specs.Marked.{places_of};
+ghost use Rattle.step_world.specs.Worlds.{Represents, first_marked, first_thread};
 
-use crate::turns::turn;
+use crate::turns::{act, turn};
 use lock_model::{Plan, ThreadNo, Turn};
+use lock_objects::Marked;
 use std::alloc::{AllocError, Global};
 use std::marker::Model;
 use step_machine::Machine;
@@ -94,6 +96,33 @@ impl<'p> World<'p> {
         turn(&mut world.machine, world.plan, t)
     }
 
+    /// The same for one that hasn't ended.
+    pub(crate) fn act(&mut self, t: ThreadNo) -> Turn
+        requires thread { t.0 < length self.old.plan.threads }
+        requires going { (r : Run) → Represents self.old r
+            → has_ended self.old.plan r t.0 ≡ false }
+        ensures plan { self.new.plan ≡ self.old.plan }
+        ensures chains { self.new.chains ≡ self.old.chains }
+        ensures answer { (r : Run) → Represents self.old r
+            → result ≡ (turn_of self.old.plan r t.0).answer }
+        ensures turn { (r : Run) → Represents self.old r
+            → Represents self.new (run_behind self.old.plan r t.0) }
+        ensures unchanged { (result ≡ Turn.Idle) ⊎ (result ≡ Turn.Ended) → self.new ≡ self.old }
+    {
+        let world: &mut World<'p> = self;
+        act(&mut world.machine, world.plan, t)
+    }
+
+    /// Whom a thread, which the plan declares, wakes next: the first of those that it took off a queue.
+    pub(crate) fn wakes_next(&self, t: ThreadNo) -> Option<ThreadNo>
+        requires { t.0 < length self.now.plan.threads }
+        ensures next { (r : Run) → Represents self.now r
+            → option_map (λ u. u.0) result ≡ first_marked (r.state.marked t.0) }
+        ensures thread { IfSome result (λ u. u.0 < length self.now.plan.threads) }
+    {
+        first_of(&self.machine.threads[usize::from(t.0)].marked)
+    }
+
     /// Whether a thread, which the plan declares, has ended: its operations are done or cut, it owes nothing and holds
     /// nothing.
     pub fn has_ended(&self, t: ThreadNo) -> bool
@@ -106,6 +135,7 @@ impl<'p> World<'p> {
     /// The number of threads.
     pub fn threads(&self) -> u8
         ensures number { result ≡ length self.now.plan.threads }
+        ensures few { result ≤ 32 }
     {
         self.machine.threads.len() as u8
     }
@@ -129,5 +159,15 @@ impl<'p> World<'p> {
         ensures { result ≡ self.entry.machine }
     {
         self.machine
+    }
+}
+
+// Who is the first of a marked list.
+fn first_of(marked: &Marked) -> Option<ThreadNo>
+    ensures { option_map (λ u. u.0) result ≡ first_thread (places_of marked.now) }
+{
+    match marked {
+        Marked::Waiters(waiters) => Some(waiters.first()?.thread()),
+        Marked::Sleepers(sleepers) => Some(sleepers.first()?.thread()),
     }
 }

@@ -1,16 +1,16 @@
-use Rattle.std.proofs.Common.{◌≡◌, ◌≤◌, ◌-◌}
+use Rattle.std.proofs.Common.{◌≡◌, ℕ, ◌+◌, ◌≤◌}
 use Rattle.lock_state.specs.Run.{start_course, course_after}
 use Rattle.step_world.specs.Courses.{IsCourse}
 use Rattle.step_world.proofs.schedule.make_turns.Given as goal
 
 -- the course is the definition's behind as many turns as were made
-abbrev pub invariant-loop-made : goal.invariant-loop-made
-invariant-loop-made l = record {
-  within : l.made ≤ l.turns;
+abbrev pub invariant-loop-left : goal.invariant-loop-left
+invariant-loop-left l = record {
+  within : l.left ≤ l.turns;
   plan : l.course.world.plan ≡ l.initial.course.world.plan;
   chains : l.course.world.chains ≡ l.initial.course.world.chains;
-  turns : IsCourse l.initial.course (start_course l.initial.course.world.plan) → IsCourse l.course (course_after l.initial.course.world.plan l.made);
+  turns : (n : ℕ) → n + l.left ≡ l.turns → IsCourse l.initial.course (start_course l.initial.course.world.plan) → IsCourse l.course (course_after l.initial.course.world.plan n);
 }
 
-abbrev pub decreases-loop-made : goal.decreases-loop-made
-decreases-loop-made l = l.turns - l.made
+abbrev pub decreases-loop-left : goal.decreases-loop-left
+decreases-loop-left l = l.left
