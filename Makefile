@@ -15,7 +15,8 @@ PREFIX ?= /usr/local
 DESTDIR ?=
 LOCKRUN ?=
 LOCKPLAN ?=
-export SCRIPT FORM FROM TO TURNS TITLE BY PREFIX DESTDIR LOCKRUN LOCKPLAN PROGRAMS
+LOCKCHART ?=
+export SCRIPT FORM FROM TO TURNS TITLE BY PREFIX DESTDIR LOCKRUN LOCKPLAN LOCKCHART PROGRAMS
 
 .DEFAULT_GOAL := help
 .PHONY: help step run plan chart proved quick $(PROGRAMS) examples install uninstall dist words bench costs
@@ -26,7 +27,7 @@ help:
 	@echo 'make run SCRIPT=PATH      runs it with a thread of its own for each thread of the script: mutexes alone so far'
 	@echo 'make plan SCRIPT=PATH     writes it with turns by priority behind its schedule; BY="chance SEED": by chance;'
 	@echo '                          BY="priority --without-loans": by base priorities'
-	@echo 'make chart SCRIPT=PATH    draws its scheduled run into a file of out/; FORM=html or FORM=trace for another;'
+	@echo 'make chart SCRIPT=PATH    draws its scheduled run into a file of out/; FORM=html, trace, text, json for another;'
 	@echo '                          FROM=A, TO=B, TURNS=N and TITLE=TEXT as docs/lockchart.1 says'
 	@echo '                          These four take a proved program that is new enough, or a quick one, or build one'
 	@echo '                          without any proof'
@@ -63,8 +64,11 @@ proved: lockrun
 examples:
 	@lockrun=$${LOCKRUN:-$$(tools/programs find lockrun)} && [ -n "$$lockrun" ] || exit 1; \
 	lockplan=$${LOCKPLAN:-$$(tools/programs find lockplan)} && [ -n "$$lockplan" ] || exit 1; \
+	lockchart=$${LOCKCHART:-$$(tools/programs find lockchart)} && [ -n "$$lockchart" ] || exit 1; \
 	out=$$(mktemp -d) && trap 'rm -rf "$$out"' EXIT && while read -r name words; do \
-	  case "$$words" in 'lockplan '*) call="$$lockplan $${words#* }" ;; *) call="$$lockrun $$words" ;; esac; \
+	  case "$$words" in \
+	    'lockplan '*) call="$$lockplan $${words#* }" ;; 'lockchart '*) call="$$lockchart $${words#* }" ;; \
+	    *) call="$$lockrun $$words" ;; esac; \
 	  status=0; $$call < "examples/$${name%%.*}.script" > "$$out/text" 2> "$$out/said" || status=$$?; \
 	  from=+1; case "$$words,$$(head -c 7 "examples/$$name.out")" in \
 	    *run*,'thread ') from=$$(wc -l < "examples/$$name.out") ;; esac; \

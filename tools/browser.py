@@ -3,6 +3,7 @@ look_at_charts.py."""
 import base64
 import json
 import os
+import re
 import select
 import subprocess
 import tempfile
@@ -109,6 +110,13 @@ class Browser:
         picture = self.call("Page.captureScreenshot", format="png")
         with open(path, "wb") as file:
             file.write(base64.b64decode(picture["data"]))
+
+    def print_to(self, path):
+        """The page on paper, as a PDF file; how many sheets it takes."""
+        paper = base64.b64decode(self.call("Page.printToPDF", preferCSSPageSize=True)["data"])
+        with open(path, "wb") as file:
+            file.write(paper)
+        return len(re.findall(rb"/Type\s*/Page\b", paper))
 
     def press(self, key, code):
         """A key of the keyboard, down and up."""

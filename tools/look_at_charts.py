@@ -12,7 +12,7 @@ import xml.etree.ElementTree as xml
 
 from browser import Browser
 
-LEFT, RIGHT, HOME, END = 37, 39, 36, 35
+LEFT, RIGHT, HOME, END, PAGE_UP, PAGE_DOWN = 37, 39, 36, 35, 33, 34
 
 # the most that a browser makes a picture of, and the rows that are gone through one by one
 WIDEST = 8000
@@ -162,6 +162,9 @@ def drive_page(browser, lockrun, script, path):
     browser.open(path, 1400, 1000)
     last = int(browser.value("document.getElementById('row').max"))
     want(row_of(browser) == 0, f"{path} doesn't begin at row 0")
+    drive_keys(browser, path, last)
+    choose_turn(browser, path, min(last, 1))
+    browser.press("Home", HOME)
     for row in range(1, min(last, ROWS) + 1):
         browser.press("ArrowRight", RIGHT)
         want(row_of(browser) == row, f"{path}: the right arrow leads to row {row_of(browser)}, not {row}")
@@ -177,6 +180,8 @@ def drive_page(browser, lockrun, script, path):
     drive_controls(browser, path, last)
     for width in (2200, 1200, 700):
         check_width(browser, path, width)
+    check_narrow(browser, path)
+    check_paper(browser, path)
     middle = last // 2
     browser.open(path, 1400, 1000, fragment=f"#row={middle}")
     want(row_of(browser) == middle, f"{path}: the fragment leads to row {row_of(browser)}, not {middle}")
@@ -186,6 +191,48 @@ def drive_page(browser, lockrun, script, path):
     want(not browser.messages, f"{path}: {browser.messages}")
     want(all(a.startswith(("file:", "about:", "data:")) for a in browser.asked), f"{path} asks for {browser.asked}")
     return last
+
+
+def drive_keys(browser, path, last):
+    """Keys, where nothing has the focus; and the address keeps the row."""
+    for key, code, row in (("End", END, last), ("PageUp", PAGE_UP, max(last - 10, 0)), ("Home", HOME, 0),
+                           ("PageDown", PAGE_DOWN, min(10, last))):
+        browser.press(key, code)
+        want(row_of(browser) == row, f"{path}: {key} leads to row {row_of(browser)}, not {row}")
+    wait(browser, 400)
+    address = browser.value("location.hash")
+    want(address == f"#row={row}", f"{path}: at row {row} the address ends in {address}")
+    browser.press("Home", HOME)
+
+
+def choose_turn(browser, path, row):
+    """A click in the picture's column of a turn."""
+    if row == 0:
+        return
+    x, y = browser.value(f"""(() => {{ const svg = document.querySelector('#picture svg');
+      const r = svg.getBoundingClientRect(), by = r.width / svg.getAttribute('width');
+      return [r.left + (+svg.dataset.left + ({row} - 0.5) * svg.dataset.column) * by, r.top + 30 * by]; }})()""")
+    browser.click(x, y)
+    want(row_of(browser) == row, f"{path}: a click on turn {row - 1} leads to row {row_of(browser)}")
+
+
+def check_narrow(browser, path):
+    """In a narrow window the page doesn't scroll sideways, and the names stay in view while the picture does."""
+    browser.open(path, 400, 800)
+    width = browser.value("document.documentElement.scrollWidth")
+    want(width <= 400, f"{path}: in 400 pixels the page is {width} wide")
+    away = browser.value("""(() => { const box = document.getElementById('picture'); box.scrollLeft = 150;
+      return document.getElementById('names').getBoundingClientRect().left - box.getBoundingClientRect().left; })()""")
+    want(abs(away) < 2, f"{path}: the names are {away} pixels away from the edge")
+    browser.shoot(f"{path}.narrow.png")
+
+
+def check_paper(browser, path):
+    """On paper there are enough sheets for the whole picture."""
+    browser.open(path, 1200, 1000, dark=True)
+    wide = browser.value("+document.querySelector('#picture svg').getAttribute('width')")
+    sheets = browser.print_to(f"{path}.pdf")
+    want(sheets * 960 >= wide, f"{path}: {sheets} sheets for a picture of {wide} pixels")
 
 
 def slide(browser, row):

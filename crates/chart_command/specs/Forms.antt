@@ -9,7 +9,7 @@ use Rattle.std.specs.Str.{bytes_eq}
 use Rattle.lock_model.specs.declared.limits.TheConstants.{CHAINS, DEFAULT_CHAINS, TURNS}
 use Rattle.option_words.specs.Forms.{Meaning, Table, Text, Texts, Gives, WantsHelp, any_text, meaning_of, number, number_or, one_of, option}
 use Rattle.chart_command.specs.declared.args.Form.{Form}
-use Rattle.chart_command.specs.declared.args.Form.TheVariants.{Html, Svg, Trace}
+use Rattle.chart_command.specs.declared.args.Form.TheVariants as written
 
 -- the options, which are this project's own
 abbrev pub table : Table
@@ -20,16 +20,19 @@ table = record {
       ∷ option (codes "from") (number 0 TURNS)
       ∷ option (codes "to") (number 0 TURNS)
       ∷ option (codes "title") any_text
-      ∷ option (codes "form") (one_of (codes "svg" ∷ codes "html" ∷ codes "trace" ∷ []))
+      ∷ option (codes "form") (one_of (codes "svg" ∷ codes "html" ∷ codes "trace"
+      ∷ codes "text" ∷ codes "json" ∷ []))
       ∷ [];
   has_help = true;
 }
 
 -- the form of a picture that a word names
 abbrev pub form_of : Text → Option Form
-form_of word = if bytes_eq (codes "svg") word then Some Svg
-    else (if bytes_eq (codes "html") word then Some Html
-    else (if bytes_eq (codes "trace") word then Some Trace else None))
+form_of word = if bytes_eq (codes "svg") word then Some written.Svg
+    else (if bytes_eq (codes "html") word then Some written.Html
+    else (if bytes_eq (codes "trace") word then Some written.Trace
+    else (if bytes_eq (codes "text") word then Some written.Text
+    else (if bytes_eq (codes "json") word then Some written.Json else None))))
 
 -- what the words say of a picture
 pub record Wanted : Type 0 where
@@ -52,7 +55,7 @@ wanted_by given = record {
   from = number_or 0 (given (codes "from"));
   to = number_or TURNS (given (codes "to"));
   title = given (codes "title");
-  form = unwrap_or (option_and_then form_of (given (codes "form"))) Svg;
+  form = unwrap_or (option_and_then form_of (given (codes "form"))) written.Svg;
 }
 
 -- the first row isn't behind the last one

@@ -32,6 +32,8 @@ pub enum Form {
     Svg,
     Html,
     Trace,
+    Text,
+    Json,
 }
 
 impl Form {
@@ -43,6 +45,8 @@ impl Form {
             "svg" => Some(Form::Svg),
             "html" => Some(Form::Html),
             "trace" => Some(Form::Trace),
+            "text" => Some(Form::Text),
+            "json" => Some(Form::Json),
             _ => None,
         }
     }

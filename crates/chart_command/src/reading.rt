@@ -12,7 +12,7 @@ use std::alloc::Global;
 
 /// The form of the command line.
 pub const FORM: &str = "lockchart [--turns N] [--chains N] [--from A] [--to B] [--title TEXT] \
-    [--form svg|html|trace] < SCRIPT";
+    [--form svg|html|trace|text|json] < SCRIPT";
 
 // What the words may be.
 const SYNOPSIS: Synopsis<'static> = Synopsis {
@@ -51,7 +51,7 @@ const SYNOPSIS: Synopsis<'static> = Synopsis {
         },
         LongOption {
             name: "form",
-            kind: ValueKind::OneOf(&["svg", "html", "trace"]),
+            kind: ValueKind::OneOf(&["svg", "html", "trace", "text", "json"]),
             value_name: "FORM",
             help: "What the picture is written as",
         },

@@ -16,7 +16,11 @@ use lock_model::{Kind, LockDecl, Plan};
 use run_tracks::Rows;
 use std::alloc::{AllocError, Global};
 
-/// The data of a page.
+/// The data of a page: JSON, which may also stand alone. It fails where memory runs out.
+///
+/// ```
+/// let data = data_of(alloc, &plan, &rows, &chart)?;
+/// ```
 pub fn data_of(
     alloc: Global,
     plan: &Plan,

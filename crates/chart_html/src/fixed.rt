@@ -15,15 +15,24 @@ pub const STYLE: &str = "</title>
 :root{color-scheme:light dark}
 body{margin:0;font-family:system-ui,-apple-system,'Segoe UI',Roboto,'Noto Sans','DejaVu Sans',sans-serif;font-size:13px;color:#1a202c;background:#fff}
 :focus-visible{outline:2px solid #2563eb;outline-offset:1px}
-#picture{overflow:auto;max-height:62vh;border-bottom:1px solid #cbd5e1}
-#picture svg{display:block}
+header{display:flex;flex-wrap:wrap;gap:2px 24px;align-items:baseline;padding:10px 24px 6px}
+h1{font-size:20px;margin:0;flex:1 1 18em}
+header p{margin:0;flex:1 1 100%;color:#64748b}
+#ended{font-size:14px;font-weight:700}
+#picture{position:relative;display:grid;justify-content:start;justify-items:start;align-items:start;overflow:auto;max-height:calc(100vh - 11em);border-bottom:1px solid #cbd5e1}
+#picture svg{display:block;grid-area:1/1}#picture svg:first-child{grid-row:1/3}
+#names{position:sticky;left:0;z-index:2}
+#numbers{position:sticky;bottom:0;align-self:end;z-index:1}
+#corner{position:sticky;bottom:0;left:0;align-self:end;z-index:3}
+@media screen{#picture .title,#picture .sub,#picture .right,#picture .good,#picture .fair,#picture .bad{visibility:hidden}}
 #cursor{stroke:#2563eb;fill:#2563eb;stroke-width:1.5;opacity:.8}
-#controls{display:flex;gap:8px;align-items:center;padding:10px 24px 4px}
+#controls{position:sticky;top:0;bottom:0;z-index:4;display:flex;flex-wrap:wrap;gap:8px;align-items:center;padding:8px 24px 4px;background:#fff}
 #controls button{font-size:15px;width:34px;height:30px;border:1px solid #94a3b8;border-radius:5px;background:none;color:inherit;cursor:pointer}
 #row{flex:1;min-width:6em;accent-color:#2563eb}
-#turn{min-width:17em;font-weight:600}
+#turn{flex:0 1 17em;min-width:12em;font-weight:600}
 #said{min-height:1.4em;padding:0 24px;color:#8a4b00;font-weight:600}
 #state{display:flex;flex-wrap:wrap;gap:6px 36px;padding:0 24px 24px}
+#state section{max-width:100%;overflow-x:auto}
 #state h2{font-size:13px;color:#64748b;margin:12px 0 4px}
 table{border-collapse:collapse}
 th,td{text-align:left;padding:2px 14px 2px 0;border-bottom:1px solid #e2e8f0;font-weight:400;white-space:nowrap;font-variant-numeric:tabular-nums}
@@ -34,12 +43,23 @@ th{color:#64748b;font-size:11px}
 #words dd{margin:0}
 td.changed,tr.gone td{background:#fdf0d8}
 tr.gone td{color:#64748b}
-@media(prefers-color-scheme:dark){
+.sheet{display:none}
+@media(max-width:600px){header,#controls,#said,#state,#words{padding-left:10px;padding-right:10px}#words dl{display:block}}
+@media screen and (prefers-color-scheme:dark){
 :focus-visible{outline-color:#60a5fa}
-body{color:#e2e8f0;background:#0f141c}
-#picture{border-color:#334155}#state h2,th,tr.gone td,#words summary{color:#94a3b8}th,td{border-color:#233044}
+body,#controls{color:#e2e8f0;background:#0f141c}
+#picture{border-color:#334155}header p,#state h2,th,tr.gone td,#words summary{color:#94a3b8}th,td{border-color:#233044}
 #row{accent-color:#60a5fa}
 #said{color:#f6ad55}td.changed,tr.gone td{background:#3a2c12}#cursor{stroke:#60a5fa;fill:#60a5fa}
+}
+@page{size:landscape;margin:10mm}
+@media print{
+:root{color-scheme:light}
+header,#controls,#said,#state,#words,#cursor,#names,#numbers,#corner{display:none}
+#picture{display:block;max-height:none;overflow:visible;border:0}
+#picture.cut>svg{position:absolute;width:0!important;height:0!important}
+.sheet{display:flex;align-items:start;break-after:page}.sheet svg{flex:none}
+.sheet:last-child{break-after:auto}
 }
 </style>
 </head>
@@ -119,7 +139,8 @@ function stateOf(t, row) {
   if (at(t.stands, row)) return at(t.stands, row);
   if (at(t.wait, row) === 'woken') return 'woken';
   if (on) return 'taken off ' + on;
-  return row >= t.done ? 'done' : 'runs';
+  if (row >= t.done) return 'done';
+  return t === data.threads[(ofTurn(data.marks, row - 1) || [])[1]] ? 'runs' : 'ready';
 }
 function holdsOf(t, row) {
   return names(t.held.map((track, l) => [at(track, row), data.locks[l].name])
@@ -194,15 +215,87 @@ function fill(id, rows, rowsBefore) {
   document.getElementById(id).replaceChildren(...lines);
 }
 
+// A picture of a part of the picture: a paper of that size, at that place.
+function part(x, y, width, height, contents) {
+  const svg = document.createElementNS(picture.namespaceURI, 'svg');
+  svg.setAttribute('viewBox', [x, y, width, height].join(' '));
+  const paper = svg.appendChild(document.createElementNS(svg.namespaceURI, 'rect'));
+  paper.setAttribute('class', 'paper');
+  for (const [name, value] of Object.entries({x, y, width, height})) paper.setAttribute(name, value);
+  svg.append(...contents);
+  return svg;
+}
+const wide = Number(picture.getAttribute('width')), high = Number(picture.getAttribute('height'));
+const left = place('left'), lanes = {top: place('top') - 20, bottom: place('bottom') + 4};
+const numbersHigh = 18;
+const placeOf = (text, axis) => Number(text.getAttribute(axis));
+const texts = [...picture.querySelectorAll('text')];
+// Names, and the numbers of turns, stay in view: copies of them lie before the picture.
+const copies = (x, y) => texts.filter(t => x(placeOf(t, 'x')) && y(placeOf(t, 'y'))).map(t => t.cloneNode(true));
+const inLanes = y => y > lanes.top && y <= lanes.bottom;
+const below = y => y > lanes.bottom && y <= lanes.bottom + numbersHigh;
+const inNames = x => x < left;
+const kept = {
+  names: part(0, lanes.top, left - 5, lanes.bottom - lanes.top, copies(inNames, inLanes)),
+  numbers: part(0, lanes.bottom, wide, numbersHigh, copies(x => !inNames(x), below)),
+  corner: part(0, lanes.bottom, left, numbersHigh, copies(inNames, below)),
+};
+for (const [id, svg] of Object.entries(kept)) {
+  svg.id = id;
+  svg.setAttribute('aria-hidden', 'true');
+  box.append(svg);
+}
+
+// What stands above the lanes in the picture stands above the page, which wraps it.
+function begin() {
+  const header = document.createElement('header');
+  const words = found => [...picture.querySelectorAll(found)].map(t => t.textContent).join(' ');
+  const add = (tag, text) => text && Object.assign(header.appendChild(document.createElement(tag)), {textContent: text});
+  add('h1', document.title);
+  const ended = add('span', words('.good,.fair,.bad'));
+  ended.id = 'ended';
+  ended.style.color = getComputedStyle(picture.querySelector('.good,.fair,.bad')).fill;
+  add('span', words('.right'));
+  add('p', words('.sub'));
+  box.before(header);
+  picture.setAttribute('viewBox', [0, lanes.top, wide, high - lanes.top].join(' '));
+}
+
 // Fits the picture into the window where its words stay readable; else it scrolls.
+function scale() {
+  const all = box.clientWidth / wide;
+  return all < 0.6 || all > 1 ? 1 : all;
+}
 function fit() {
-  const width = Number(picture.getAttribute('width')), part = box.clientWidth / width;
-  picture.style.width = (part < 0.6 || part > 1 ? width : Math.floor(box.clientWidth)) + 'px';
-  picture.style.height = 'auto';
+  const by = scale();
+  const size = (svg, width, height) => {
+    svg.style.width = width * by + 'px';
+    svg.style.height = height * by + 'px';
+  };
+  size(picture, wide, high - lanes.top);
+  size(kept.names, left - 5, lanes.bottom - lanes.top);
+  size(kept.numbers, wide, numbersHigh);
+  size(kept.corner, left, numbersHigh);
+  box.style.gridTemplateRows = (lanes.bottom - lanes.top + numbersHigh) * by + 'px auto';
 }
 function keepInView(x) {
-  const at = x * picture.clientWidth / Number(picture.getAttribute('width'));
-  if (at < box.scrollLeft + 40 || at > box.scrollLeft + box.clientWidth - 60) box.scrollLeft = at - box.clientWidth / 3;
+  const at = x * scale(), names = left * scale();
+  if (at < box.scrollLeft + names + 20 || at > box.scrollLeft + box.clientWidth - 60) {
+    box.scrollLeft = at - names - (box.clientWidth - names) / 3;
+  }
+}
+// The row is kept in the address, so that a link shows it.
+let noted = null;
+function note(row) {
+  clearTimeout(noted);
+  noted = setTimeout(() => {
+    const address = '#row=' + row;
+    try {
+      history.replaceState(null, '', address);
+    } catch {
+      location.replace(address);
+    }
+  }, 200);
 }
 function show() {
   const row = Number(slider.value), turn = row - 1, isFirst = row === data.first;
@@ -214,7 +307,7 @@ function show() {
   document.getElementById('turn').textContent = text;
   slider.setAttribute('aria-valuetext', text);
   document.getElementById('said').textContent = said && !isFirst ? said[1] : '';
-  const x = place('left') + (isFirst ? 0 : (turn - data.first) * place('column') + Math.floor(place('column') / 2));
+  const x = left + (isFirst ? 0 : (turn - data.first) * place('column') + Math.floor(place('column') / 2));
   const top = place('top');
   cursor.setAttribute('d', 'M' + (x - 5) + ' ' + (top - 9) + 'h10l-5 8zM' + x + ' ' + top + 'V' + place('bottom'));
   keepInView(x);
@@ -222,6 +315,7 @@ function show() {
 function move(by) {
   slider.value = Number(slider.value) + by;
   show();
+  note(slider.value);
 }
 let playing = null;
 function play() {
@@ -242,21 +336,65 @@ function openRow() {
   slider.value = /^[0-9]+$/.test(row) ? row : data.first;
   show();
 }
-slider.addEventListener('input', show);
+// A click in a column chooses its turn.
+function choose(event) {
+  const shown = picture.getBoundingClientRect();
+  const x = (event.clientX - shown.left) / scale(), y = (event.clientY - shown.top) / scale() + lanes.top;
+  const column = Math.floor((x - left) / place('column'));
+  const isOutside = column < 0 || column >= data.last - data.first || y > lanes.bottom + numbersHigh;
+  if (isOutside || event.target.closest('#names, #corner')) return;
+  move(data.first + column + 1 - slider.value);
+}
+// On paper the picture is cut into sheets: the first has all that stands below the lanes, and the others have the
+// names of the lanes before their columns.
+const sheetWide = 960;
+function cut() {
+  const drawn = document.createElementNS(picture.namespaceURI, 'g');
+  drawn.id = 'drawn';
+  drawn.append(...[...picture.childNodes].filter(n => n !== cursor));
+  picture.prepend(drawn);
+  const use = () => {
+    const copy = document.createElementNS(picture.namespaceURI, 'use');
+    copy.setAttribute('href', '#drawn');
+    return copy;
+  };
+  for (let x = 0; x < wide;) {
+    const room = x ? sheetWide - left : sheetWide, width = Math.min(room, wide - x);
+    const [y, height] = x ? [lanes.top, lanes.bottom + numbersHigh - lanes.top] : [0, high];
+    const sheet = box.appendChild(document.createElement('div'));
+    sheet.className = 'sheet';
+    if (x) sheet.append(part(0, y, left, height, [use()]));
+    sheet.append(part(x, y, width, height, [use()]));
+    for (const svg of sheet.children) svg.style.width = svg.viewBox.baseVal.width + 'px';
+    x += width;
+  }
+  box.classList.add('cut');
+}
+function join() {
+  const drawn = document.getElementById('drawn');
+  if (!drawn) return;
+  drawn.replaceWith(...drawn.childNodes);
+  for (const sheet of box.querySelectorAll('.sheet')) sheet.remove();
+  box.classList.remove('cut');
+}
+const moves = {ArrowLeft: -1, ArrowRight: 1, PageUp: -10, PageDown: 10, Home: data.first - data.last, End: data.last - data.first};
+slider.addEventListener('input', () => { show(); note(slider.value); });
+box.addEventListener('click', choose);
 document.getElementById('play').addEventListener('click', play);
 document.getElementById('back').addEventListener('click', () => move(-1));
 document.getElementById('on').addEventListener('click', () => move(1));
 document.addEventListener('keydown', event => {
   if (event.altKey || event.ctrlKey || event.metaKey) return;
-  if (event.target === slider && event.key.startsWith('Arrow')) return;
-  if (event.key === 'ArrowLeft') move(-1);
-  else if (event.key === 'ArrowRight') move(1);
+  if (event.key in moves) move(moves[event.key]);
   else if (event.key === ' ' && !['BUTTON', 'SUMMARY'].includes(event.target.tagName)) play();
   else return;
   event.preventDefault();
 });
 window.addEventListener('resize', () => { fit(); show(); });
 window.addEventListener('hashchange', openRow);
+window.addEventListener('beforeprint', cut);
+window.addEventListener('afterprint', join);
+begin();
 fit();
 openRow();
 </script>

@@ -15,4 +15,5 @@ mod queues;
 mod threads;
 mod tracks;
 
+pub use data::data_of;
 pub use document::html;

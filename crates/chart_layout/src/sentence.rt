@@ -70,10 +70,11 @@ pub enum Saying {
         chan: ChanNo,
         takes_off: Sequence<ThreadNo>,
     },
-    /// It may not take the lock: it holds one of class `held`.
+    /// It may not take the lock, by the class `held`, of which it holds `holds`.
     Refused {
         lock: LockNo,
         held: ClassNo,
+        holds: Option<LockNo>,
     },
 }
 

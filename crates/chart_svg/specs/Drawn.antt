@@ -1,5 +1,5 @@
 -- Where the names of threads and their ends, bars, loans, arrows and marks of a chart stand in its picture.
-use Rattle.std.specs.Prelude.{◌≡◌, ◌≢◌, ◌⊎◌, ℕ, ◌+◌, ◌-◌, ◌*◌, ◌/◌, ◌<◌, ◌≤◌, nat_lt, min, max, if◌then◌else◌, Any, List, [], ◌∷◌, ◌++◌, length, slice_get, Some, codes, decimal, Contains}
+use Rattle.std.specs.Prelude.{◌≡◌, ◌≢◌, ◌⊎◌, ℕ, ◌+◌, ◌-◌, ◌*◌, ◌/◌, ◌<◌, ◌≤◌, ◌==◌, nat_lt, min, max, if◌then◌else◌, Any, List, [], ◌∷◌, ◌++◌, length, slice_get, Some, codes, decimal, Contains}
 use Rattle.chart_escape.specs.Markup.{escaped}
 use Rattle.chart_escape.specs.Pieces.{piece_bytes}
 use Rattle.chart_escape.specs.declared.piece.Piece.TheVariants.{Optional}
@@ -232,14 +232,15 @@ pub record LoanIsDrawn (chart : Chart) (scale : Scale) (picture : List ℕ) (ste
 
 -- 7. Arrows
 
+-- a loan that changes nothing is pale
 abbrev pub line_class : ArrowKind → List ℕ
-line_class (Lends before prio) = codes "lends"
+line_class (Lends before prio) = if before.0 == prio.0 then codes "pale" else codes "lends"
 line_class Wakes = codes "wakes"
 line_class BlockedOn = codes "block"
 line_class Behind = codes "block"
 
 abbrev pub head_class : ArrowKind → List ℕ
-head_class (Lends before prio) = codes "lendhead"
+head_class (Lends before prio) = if before.0 == prio.0 then codes "palehead" else codes "lendhead"
 head_class Wakes = codes "wakehead"
 head_class BlockedOn = codes "blockhead"
 head_class Behind = codes "blockhead"

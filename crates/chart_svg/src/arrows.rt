@@ -142,6 +142,7 @@ fn line_class(kind: ArrowKind) -> Class
     ensures { class_bytes result ≡ line_class kind }
 {
     match kind {
+        ArrowKind::Lends { before, prio } if before == prio => Class::of("pale"),
         ArrowKind::Lends { .. } => Class::of("lends"),
         ArrowKind::Wakes => Class::of("wakes"),
         ArrowKind::BlockedOn | ArrowKind::Behind => Class::of("block"),
@@ -152,6 +153,7 @@ fn head_class(kind: ArrowKind) -> Class
     ensures { class_bytes result ≡ head_class kind }
 {
     match kind {
+        ArrowKind::Lends { before, prio } if before == prio => Class::of("palehead"),
         ArrowKind::Lends { .. } => Class::of("lendhead"),
         ArrowKind::Wakes => Class::of("wakehead"),
         ArrowKind::BlockedOn | ArrowKind::Behind => Class::of("blockhead"),
@@ -195,6 +197,7 @@ fn push_own_words(
         return Ok(());
     }
     let class = match placed.arrow.kind {
+        ArrowKind::Lends { before, prio } if before == prio => return Ok(()),
         ArrowKind::Lends { .. } => Class::of("lend"),
         ArrowKind::Wakes => Class::of("wake"),
         ArrowKind::BlockedOn | ArrowKind::Behind => return Ok(()),
@@ -243,7 +246,8 @@ fn tip_of(page: &Page<'_>, arrow: Arrow, to: &LaneBand, goes_up: bool) -> Px
     }
 }
 
-// The lock on which a thread blocked in the turn, or at which its walk stood.
+// The lock on which a thread blocked in the turn, or at which its walk stood, where a sentence tells of it: of a loan
+// that changes nothing none does.
 fn lock_of(page: &Page<'_>, turn: u32) -> Option<LockNo> {
     match &page.sentence_at(turn)?.saying {
         Saying::Waits { lock, .. } | Saying::Lends { lock, .. } => Some(*lock),
@@ -256,7 +260,7 @@ fn lock_of(page: &Page<'_>, turn: u32) -> Option<LockNo> {
     }
 }
 
-// A bar at which an arrow begins or ends: that of a hold of the lock, or that of a wait.
+// A bar at which an arrow begins or ends: that of a hold, of the lock where that is known, or that of a wait.
 #[derive(Clone, Copy)]
 enum Sought {
     Hold(Option<LockNo>),
@@ -276,7 +280,7 @@ fn level_of(lane: &LaneBand, row: u32, sought: Sought) -> u32
 
 fn is_sought(what: BarKind, sought: Sought) -> bool {
     match (what, sought) {
-        (BarKind::Holds { l, .. }, Sought::Hold(lock)) => lock == Some(l),
+        (BarKind::Holds { l, .. }, Sought::Hold(lock)) => lock.unwrap_or(l) == l,
         (
             BarKind::Waits { .. }
             | BarKind::TakenOff { .. }

@@ -17,7 +17,7 @@ pub struct Line {
     words: Vec<u8>,
 }
 
-/// Puts text behind the lines, in lines of at most so many bytes. A longer word has a line of its own.
+/// Puts text behind the lines, in lines of at most so many bytes. A longer word is cut.
 pub fn wrap(
     alloc: Global,
     lines: &mut Vec<Line>,
@@ -28,6 +28,7 @@ pub fn wrap(
 ) -> Result<(), AllocError> {
     let mut number = number;
     let mut words = Vec::new(alloc);
+    let text = with_blanks(alloc, text, most)?;
     for word in text.split(|byte| *byte == b' ') {
         if !words.is_empty() && words.len().saturating_add(word.len()) >= most {
             lines.push(Line {
@@ -48,6 +49,30 @@ pub fn wrap(
         words,
     })?;
     Ok(())
+}
+
+// The text with blanks in words of more bytes than so many. No letter is cut.
+fn with_blanks(alloc: Global, text: &[u8], most: usize) -> Result<Vec<u8>, AllocError> {
+    let mut out = Vec::new(alloc);
+    let mut bytes: usize = 0;
+    for byte in text {
+        if bytes >= most && *byte != b' ' && !is_inside(*byte) {
+            out.push(b' ')?;
+            bytes = 0;
+        }
+        out.push(*byte)?;
+        bytes = if *byte == b' ' {
+            0
+        } else {
+            bytes.saturating_add(1)
+        };
+    }
+    Ok(out)
+}
+
+// Whether a byte isn't the first of its letter.
+fn is_inside(byte: u8) -> bool {
+    byte & 0xc0 == 0x80
 }
 
 /// About how wide the widest line is, where a letter takes so many tenths of a pixel.

@@ -5,14 +5,18 @@ ghost use Rattle.chart_svg.specs.Drawn.{class_bytes, dot_class, mark_bytes, mark
 ghost use Rattle.chart_svg.specs.Lanes.{scale_of, HasRoom};
 ghost use Rattle.chart_svg.specs.Pages.{MarkIsOn};
 
+use crate::lines::{Line, push_lines, wrap};
 use crate::page::{LaneBand, Page};
-use crate::pixels::{Px, width_of};
+use crate::pixels::{Px, count, width_of};
 use crate::shapes::{Figure, push_dot, push_figure, push_words};
 use crate::tags::Class;
 use chart_layout::{MarkKind, TurnMark};
-use chart_words::{push_mark, push_note};
+use chart_words::{push_lost, push_mark, push_note, push_refusal};
 use lock_model::push_digits;
 use std::alloc::{AllocError, Global};
+
+/// From one line of a reason to the next.
+const LINE_HEIGHT: u32 = 12;
 
 /// Pushes all marks.
 pub fn push_marks(alloc: Global, out: &mut Vec<u8>, page: &Page<'_>) -> Result<(), AllocError>
@@ -169,38 +173,44 @@ pub fn push_reasons(alloc: Global, out: &mut Vec<u8>, page: &Page<'_>) -> Result
 {
     for mark in &page.reasons {
         if let Some(lane) = page.lane_of(mark.thread) {
-            let (x, y) = (page.turn_at(mark.turn), lane.begin.minus(1));
-            push_words(
-                out,
-                Class::of("no"),
-                x,
-                y,
-                &reason_words(alloc, page, *mark)?,
-            )?;
+            let lines = reason_lines(alloc, page, *mark)?;
+            let first = lane.begin.minus(height_of(&lines)).plus(11);
+            push_lines(out, &lines, page.turn_at(mark.turn), first, LINE_HEIGHT)?;
         }
     }
     Ok(())
 }
 
-// What was refused, and why: `refused fork1: it would close a circle`.
-fn reason_words(alloc: Global, page: &Page<'_>, mark: TurnMark) -> Result<Vec<u8>, AllocError> {
-    let mut words = Vec::new(alloc);
-    push_mark(&mut words, page.plan, mark.what)?;
-    words.extend_from_slice(reason(mark.what))?;
-    Ok(words)
+/// How high lines of reasons are.
+pub fn height_of(lines: &[Line]) -> u32 {
+    count(lines.len()).saturating_mul(LINE_HEIGHT)
 }
 
-// Why a mark's take was refused, or its wake was lost.
-fn reason(what: MarkKind) -> &'static [u8] {
-    let event = match what {
-        MarkKind::Noted(event) => event,
-        MarkKind::Did(_) | MarkKind::Idle => return b"",
-    };
-    if event.is_reversal() {
-        b": it would close a circle"
-    } else if event.wakes_nobody() {
-        b": lost, nobody sleeps there"
-    } else {
-        b""
+/// What was refused, and why: `refused fork1: its class must come before that of fork3, which is held`. The lines are
+/// narrower than the columns from the turn before to the turn behind, so no arrow of another turn goes through them.
+pub fn reason_lines(
+    alloc: Global,
+    page: &Page<'_>,
+    mark: TurnMark,
+) -> Result<Vec<Line>, AllocError> {
+    let mut words = Vec::new(alloc);
+    push_mark(&mut words, page.plan, mark.what)?;
+    if let Some((lock, class, held)) = page.refusal_at(mark.turn) {
+        push_refusal(&mut words, page.plan, lock, class, held)?;
     }
+    if let MarkKind::Noted(event) = mark.what {
+        push_lost(&mut words, event)?;
+    }
+    let room = page.column.saturating_mul(2).saturating_sub(12);
+    let most = room.saturating_mul(10) / 58;
+    let mut lines = Vec::new(alloc);
+    wrap(
+        alloc,
+        &mut lines,
+        Class::of("no"),
+        None,
+        &words,
+        most as usize,
+    )?;
+    Ok(lines)
 }

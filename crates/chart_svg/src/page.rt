@@ -5,11 +5,12 @@ ghost use Rattle.chart_svg.specs.Drawn.{pixels, right_edge, row_begin, row_end, 
 ghost use Rattle.chart_svg.specs.Lanes.{bar_bottom, bar_top, pitch_of, rank_in, scale_of, Fits, HasBars, HasLaneMore, HasLanes, HasPrios, HasRoom, HasStep, HasSteps, IsLaid};
 
 use crate::grouping::by_thread;
+use crate::marks::{height_of, reason_lines};
 use crate::packing::{Packed, pack};
 use crate::pixels::{Px, count, width_of};
-use chart_layout::{Arrow, ArrowKind, Bar, Chart, PrioSpan, Sentence, TurnMark};
+use chart_layout::{Arrow, ArrowKind, Bar, Chart, PrioSpan, Saying, Sentence, TurnMark};
 use chart_words::{push_arrow, push_mark};
-use lock_model::{Plan, Prio, ThreadNo};
+use lock_model::{ClassNo, LockNo, Plan, Prio, ThreadNo};
 use std::alloc::{AllocError, Global};
 
 /// The greatest number of turns whose marks carry words.
@@ -143,7 +144,7 @@ impl<'c> Page<'c> {
         let has_words = columns <= MOST_WORDS;
         let column = column_of(alloc, plan, chart, columns)?;
         let reasons = if has_words {
-            reasons_of(alloc, chart.marks.as_slice(), column)?
+            reasons_of(alloc, chart.marks.as_slice())?
         } else {
             Vec::new(alloc)
         };
@@ -198,14 +199,24 @@ impl<'c> Page<'c> {
         ensures more { OnOk result
             (HasLaneMore self.old.lanes.items self.new.lanes.items thread bars.now steps.now) }
     {
-        let has_reason = self.reasons.iter().any(|mark| mark.thread == thread);
-        let begin = self.bottom.plus(if has_reason { 12 } else { 0 });
+        let begin = self.bottom.plus(self.reasons_height(alloc, thread)?);
         let mut lane = lane_at(alloc, thread, begin, bars, steps)?;
         lane.top = self.bottom;
         lane.put_strip(self);
         self.bottom = lane.bottom;
         self.lanes.push(lane)?;
         Ok(())
+    }
+
+    // How high the reasons of its refusals are.
+    fn reasons_height(&self, alloc: Global, thread: ThreadNo) -> Result<u32, AllocError> {
+        let mut height = 0;
+        for mark in &self.reasons {
+            if mark.thread == thread {
+                height = height_of(&reason_lines(alloc, self, *mark)?).max(height);
+            }
+        }
+        Ok(height)
     }
 
     /// The lane of a thread, if it has one.
@@ -229,6 +240,20 @@ impl<'c> Page<'c> {
             Some(sentence)
         } else {
             None
+        }
+    }
+
+    /// The lock that was refused in a turn, the class by which, and the held lock of that, if one was refused.
+    pub fn refusal_at(&self, turn: u32) -> Option<(LockNo, ClassNo, Option<LockNo>)> {
+        match &self.sentence_at(turn)?.saying {
+            Saying::Refused { lock, held, holds } => Some((*lock, *held, *holds)),
+            Saying::Waits { .. }
+            | Saying::Lends { .. }
+            | Saying::Sorts { .. }
+            | Saying::Claims { .. }
+            | Saying::Frees { .. }
+            | Saying::Sleeps { .. }
+            | Saying::Wakes { .. } => None,
         }
     }
 
@@ -383,21 +408,20 @@ fn widest_loan(alloc: Global, arrows: &[Arrow]) -> Result<u32, AllocError> {
     Ok(widest)
 }
 
-// The refusals, but those of a thread that stand too near to an earlier one of it.
-fn reasons_of(alloc: Global, marks: &[TurnMark], column: u32) -> Result<Vec<TurnMark>, AllocError> {
+// The refusals, but those of a thread that stand beside an earlier one of it.
+fn reasons_of(alloc: Global, marks: &[TurnMark]) -> Result<Vec<TurnMark>, AllocError> {
     let mut reasons: Vec<TurnMark> = Vec::new(alloc);
     for mark in marks {
-        if mark.what.is_refusal() && !is_near(&reasons, *mark, column) {
+        if mark.what.is_refusal() && !is_near(&reasons, *mark) {
             reasons.push(*mark)?;
         }
     }
     Ok(reasons)
 }
 
-fn is_near(reasons: &[TurnMark], mark: TurnMark, column: u32) -> bool {
+fn is_near(reasons: &[TurnMark], mark: TurnMark) -> bool {
     reasons.iter().any(|other| {
-        let turns = mark.turn.saturating_sub(other.turn);
-        other.thread == mark.thread && turns.saturating_mul(column) < 250
+        other.thread == mark.thread && mark.turn.saturating_sub(other.turn) < 2
     })
 }
 

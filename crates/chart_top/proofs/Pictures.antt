@@ -1,5 +1,5 @@
 -- Which texts are pictures, and what a call promises that reads nothing.
-use Rattle.std.proofs.Common.{◌≡◌, ℕ, ◌≤◌, List, Option, Some, None, Result, Ok, Err, IfOk, length, min, inr, refl, sym, ap, subst}
+use Rattle.std.proofs.Common.{◌≡◌, ℕ, ◌≤◌, List, Option, Some, None, length, min, inr, refl, sym, ap, subst}
 use Rattle.chart_command.specs.Forms.{Wanted}
 use Rattle.chart_layout.specs.declared.layout.Chart.{Chart}
 use Rattle.chart_top.specs.Calls.{TellsForms}
@@ -15,23 +15,21 @@ use Rattle.top_ends.proofs.Takes.{unread}
 use Rattle.top_ends.specs.Calls.{Told}
 
 -- what was rendered of a chart of the run is a picture of the plan
-pub drawn : {V E : Type 0} (items : V → Text) (renders : Rendering) (wanted : Wanted) (bytes : Text) (plan : Plan) (rows : Rows) (chart : Chart) (title subtitle : Text) (r : Result V E)
+pub drawn : (renders : Rendering) (wanted : Wanted) (bytes : Text) (plan : Plan) (rows : Rows) (chart : Chart) (title subtitle text : Text)
     → TellsRun plan wanted.chains wanted.turns rows → IsChartOf plan chart
     → chart.first ≡ min wanted.from (length rows.turns) → chart.last ≡ min wanted.to (length rows.turns)
     → title ≡ title_of wanted bytes plan → subtitle ≡ subtitle_of bytes
-    → IfOk r (λ v. renders wanted.form plan rows chart title subtitle (items v))
-    → IfOk r (λ v. IsPictureOfPlan renders wanted bytes plan (items v))
-drawn items renders wanted bytes plan rows chart title subtitle (Ok v) run shows first last named below made = record {
+    → renders wanted.form plan rows chart title subtitle text → IsPictureOfPlan renders wanted bytes plan text
+drawn renders wanted bytes plan rows chart title subtitle text run shows first last named below made = record {
   rows = rows;
   run = run;
   chart = chart;
   shows = shows;
   first = first;
   last = last;
-  rendered = subst (λ (t : Text). renders wanted.form plan rows chart t (subtitle_of bytes) (items v)) named
-      (subst (λ (t : Text). renders wanted.form plan rows chart title t (items v)) below made);
+  rendered = subst (λ (t : Text). renders wanted.form plan rows chart t (subtitle_of bytes) text) named
+      (subst (λ (t : Text). renders wanted.form plan rows chart title t text) below made);
 }
-drawn items renders wanted bytes plan rows chart title subtitle (Err e) run shows first last named below made = tt
 
 -- where memory was wanting for the words, nothing was read
 pub no_memory : (words : List Text) (status : Status) (old : Told) → status ≡ NoMemory → TellsForms words status old old

@@ -1,8 +1,8 @@
 -- What a call of the program promises, by the words of the command line, by how it ended, and by what its source and
 -- its sink tell before and behind it. It is this project's own.
-use Rattle.std.specs.Prelude.{◌≡◌, ◌⊎◌, ◌≤◌, ℕ, false, List, Some, None, IfSome, length}
+use Rattle.std.specs.Prelude.{◌≡◌, ◌≢◌, ◌⊎◌, ◌≤◌, ℕ, Bool, false, List, Some, None, IfSome, length}
 use Rattle.chart_command.specs.Forms.{AsksForHelp, AsksPicture, Wanted, asking_of}
-use Rattle.chart_top.specs.Pictures.{IsPicture, Rendering}
+use Rattle.chart_top.specs.Pictures.{IsPicture, Rendering, TellsLength}
 use Rattle.complaints.specs.declared.status.Status.{Status}
 use Rattle.complaints.specs.declared.status.Status.TheVariants.{Done, BadScript, WriteFault, NoMemory, Usage}
 use Rattle.lock_io.specs.Whole.{AddsFront}
@@ -44,3 +44,11 @@ pub record WritesPicture (renders : Rendering) (words : List (List ℕ)) (status
 abbrev pub AnswersAll : Status → Told → Type 0
 AnswersAll status source = IfSome source (λ bytes. length bytes ≤ most_bytes
     → (status ≡ Done) ⊎ ((status ≡ BadScript) ⊎ (status ≡ NoMemory)))
+
+-- It is told that a picture is long exactly where a long one was written.
+pub record TellsLong (words : List (List ℕ)) (status : Status) (source : Told) (long : Bool) : Type 0
+  where
+    pub picture : (wanted : Wanted) → asking_of words ≡ Some (AsksPicture wanted) → status ≡ Done
+        → IfSome source (λ bytes. TellsLength wanted bytes long)
+    pub help : asking_of words ≡ Some AsksForHelp → long ≡ false
+    pub none : status ≢ Done → long ≡ false

@@ -1,13 +1,15 @@
 -- Which text is a picture of a plan, and which belongs to the bytes of a source.
-use Rattle.std.specs.Prelude.{◌≡◌, ℕ, List, length, min}
+use Rattle.std.specs.Prelude.{◌≡◌, ℕ, ◌-◌, Bool, false, nat_lt, List, length, min}
 use Rattle.chart_command.specs.Forms.{Wanted}
 use Rattle.chart_command.specs.declared.args.Form.{Form}
-use Rattle.chart_command.specs.declared.args.Form.TheVariants.{Html, Svg, Trace}
+use Rattle.chart_command.specs.declared.args.Form.TheVariants as written
 use Rattle.chart_escape.specs.JsonReader.{IsJson}
 use Rattle.chart_escape.specs.Reader.{IsWellFormed}
+use Rattle.chart_html.specs.Data.{data_bytes}
 use Rattle.chart_html.specs.Page.{IsPage}
 use Rattle.chart_layout.specs.declared.layout.Chart.{Chart}
 use Rattle.chart_svg.specs.Drawn.{Draws}
+use Rattle.chart_text.specs.Lines.{text_bytes}
 use Rattle.chart_trace.specs.Events.{trace_bytes}
 use Rattle.chart_top.specs.Heading.{Text, subtitle_of, title_of}
 use Rattle.lock_model.specs.Script.{IsAccepted}
@@ -22,12 +24,15 @@ Rendering = Form → Plan → Rows → Chart → Text → Text → Text → Type
 
 -- What is known of a text under a title, by its form: a picture is well-formed markup in which each bar of the chart
 -- stands; a page is whole round one, and has the data of just these rows and this chart; a trace is JSON, and just that
--- of the chart.
+-- of the chart; a text has just the lines of these rows and this chart; and the data that a page has may stand alone.
 abbrev pub IsInForm : Form → Plan → Rows → Chart → Text → Text → Type 0
-IsInForm Svg plan rows chart title text = IsWellFormed text × Draws plan chart text
-IsInForm Html plan rows chart title text = IsPage plan rows chart title text
-IsInForm Trace plan rows chart title text =
+IsInForm written.Svg plan rows chart title text = IsWellFormed text × Draws plan chart text
+IsInForm written.Html plan rows chart title text = IsPage plan rows chart title text
+IsInForm written.Trace plan rows chart title text =
     IsJson text × (text ≡ trace_bytes plan chart title)
+IsInForm written.Text plan rows chart title text = text ≡ text_bytes plan rows chart title
+IsInForm written.Json plan rows chart title text =
+    IsJson text × (text ≡ data_bytes plan rows chart)
 
 abbrev pub in_forms : Rendering
 in_forms form plan rows chart title subtitle text = IsInForm form plan rows chart title text
@@ -51,3 +56,27 @@ pub record IsPicture (renders : Rendering) (wanted : Wanted) (bytes : Text) (tex
     pub plan : Plan
     pub script : IsAccepted bytes plan
     pub picture : IsPictureOfPlan renders wanted bytes plan text
+
+-- how many turns are drawn of a run that has so many
+abbrev pub turns_drawn : Wanted → ℕ → ℕ
+turns_drawn wanted turns = min wanted.to turns - min wanted.from turns
+
+-- whether a picture of so many turns is long: one of more than 300. Other forms serve any number.
+abbrev pub is_long : Form → ℕ → Bool
+is_long written.Svg turns = nat_lt 300 turns
+is_long written.Html turns = false
+is_long written.Trace turns = false
+is_long written.Text turns = false
+is_long written.Json turns = false
+
+-- whether the picture is long that is wanted of a plan
+pub record IsLength (wanted : Wanted) (plan : Plan) (long : Bool) : Type 0 where
+  pub rows : Rows
+  pub run : TellsRun plan wanted.chains wanted.turns rows
+  pub is : long ≡ is_long wanted.form (turns_drawn wanted (length rows.turns))
+
+-- and of bytes that are a script
+pub record TellsLength (wanted : Wanted) (bytes : Text) (long : Bool) : Type 0 where
+  pub plan : Plan
+  pub script : IsAccepted bytes plan
+  pub length : IsLength wanted plan long

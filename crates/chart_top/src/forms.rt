@@ -1,19 +1,20 @@
-//! The three forms in which a chart is written.
+//! The forms in which a chart is written.
 ghost use Rattle.std.specs.Prelude.{IfOk};
 ghost use Rattle.chart_top.specs.Pictures.{in_forms};
 
 use crate::heading::Heading;
 use crate::renderer::Renderer;
 use chart_command::Form;
-use chart_html::html;
+use chart_html::{data_of, html};
 use chart_layout::Chart;
 use chart_svg::svg;
+use chart_text::text;
 use chart_trace::trace;
 use lock_model::Plan;
 use run_tracks::Rows;
 use std::alloc::{AllocError, Global};
 
-/// A picture, a page with a slider, and a trace for a viewer that zooms.
+/// A picture, a page with a slider, a trace for a viewer that zooms, lines of text, and the data of the page alone.
 #[derive(Clone, Copy, Debug, PartialEq, Eq)]
 pub struct Forms;
 
@@ -33,6 +34,8 @@ impl Renderer for Forms {
             Form::Svg => svg(alloc, plan, chart, heading.title, heading.subtitle),
             Form::Html => html(alloc, plan, rows, chart, heading.title, heading.subtitle),
             Form::Trace => trace(alloc, plan, chart, heading.title),
+            Form::Text => text(alloc, plan, rows, chart, heading.title),
+            Form::Json => data_of(alloc, plan, rows, chart),
         }
     }
 }

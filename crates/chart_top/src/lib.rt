@@ -3,24 +3,26 @@
 //!
 //! From the outside in:
 //! - `top`: the calls, with everything that is promised of them.
+//! - `drawn`: how a call ends.
 //! - `drawing`: the picture of a plan.
 //! - `heading`: what stands above a picture.
-//! - `renderer`: what writes a chart down, and `forms`: the three forms in which it is written.
+//! - `renderer`: what writes a chart down, and `forms`: the forms in which it is written.
 #![tactic(auto)]
 
 mod drawing;
+mod drawn;
 mod forms;
 mod heading;
 mod renderer;
 mod top;
 
+pub use crate::drawn::Drawn;
 pub use crate::forms::Forms;
 pub use crate::heading::Heading;
 pub use crate::renderer::Renderer;
 pub use crate::top::{lockchart, lockchart_by};
 use complaints::Program;
 pub use complaints::Status;
-pub use top_ends::Ended;
 
 /// The program, as its sentences name it.
 pub const LOCKCHART: Program = Program {
@@ -29,3 +31,8 @@ pub const LOCKCHART: Program = Program {
     // No picture ends so: one of a run whose turns were used up is drawn.
     too_long: "the turns were used up before all threads had ended",
 };
+
+/// What is said on standard error where a picture is long.
+pub const LONG: &str =
+    "lockchart: a picture of more than 300 turns is wide: --from and --to, or --form html, \
+    trace or text, serve better\n";

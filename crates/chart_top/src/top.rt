@@ -5,19 +5,21 @@
 //! - `forms`: whether the words were a form, and how much of the source was read.
 //! - `read_fault`, `write_fault`: at which status which end has failed.
 //! - `writes`: what was written is a picture of the script that the source has, and nothing where there is none.
+//! - `long`: where a picture was written that is long, and so told to be.
 //! - `fault`: at which status the bytes are no script, and what is told of them.
 //! - `complete`: where nothing fails, there is a picture or a fault, save for want of memory.
-ghost use Rattle.std.specs.Prelude.{◌≡◌, ◌≢◌, ◌≤◌, map, false, Some};
+ghost use Rattle.std.specs.Prelude.{◌≡◌, ◌≢◌, ◌≤◌, map, false, IfSome, Some};
 ghost use Rattle.std.specs.String.{string_bytes};
 ghost use Rattle.chart_command.specs.Forms.{AsksPicture, Wanted, asking_of};
 ghost use Rattle.chart_command.specs.Args.{HasRanges, wanted};
-ghost use Rattle.chart_top.specs.Calls.{AnswersAll, Draws, TellsForms, WritesPicture};
-ghost use Rattle.chart_top.specs.Pictures.{in_forms};
+ghost use Rattle.chart_top.specs.Calls.{AnswersAll, Draws, TellsForms, TellsLong, WritesPicture};
+ghost use Rattle.chart_top.specs.Pictures.{in_forms, TellsLength};
 ghost use Rattle.lock_io.specs.Faults.{Rose};
 ghost use Rattle.top_ends.specs.Calls.{ReadsBytes, TellsFaults, TellsScriptFault};
 ghost use Rattle.top_ends.specs.Statuses.{writes_made};
 
 use crate::drawing::draw;
+use crate::drawn::Drawn;
 use crate::forms::Forms;
 use crate::renderer::Renderer;
 use chart_command::{Asked, LockchartArgs, WordsError, read_words};
@@ -27,13 +29,13 @@ use script_read::{ReadError, read_script};
 use std::alloc::Global;
 use top_ends::{Ended, read_bytes, write_text};
 
-/// What the program does: `lockchart_by` with the three forms of a chart.
+/// What the program does: `lockchart_by` with the forms of a chart.
 pub fn lockchart<S: Source, K: Sink>(
     alloc: Global,
     words: &[String],
     source: &mut S,
     sink: &mut K,
-) -> Ended
+) -> Drawn
     ensures forms { TellsForms (map string_bytes words.now) result.status
         (S.remaining source.old) (S.remaining source.new) }
     ensures read_fault { TellsFaults result.status Status.ReadFault
@@ -42,6 +44,8 @@ pub fn lockchart<S: Source, K: Sink>(
         (K.faults sink.old) (K.faults sink.new) }
     ensures writes { WritesPicture in_forms (map string_bytes words.now) result.status
         (S.remaining source.old) (K.contents sink.old) (K.contents sink.new) }
+    ensures long { TellsLong (map string_bytes words.now) result.status
+        (S.remaining source.old) result.is_long }
     ensures fault { TellsScriptFault result.status result.fault.items (S.remaining source.old) }
     ensures complete { (wanted : Wanted)
         → asking_of (map string_bytes words.now) ≡ Some (AsksPicture wanted)
@@ -61,7 +65,7 @@ pub fn lockchart_by<R: Renderer, S: Source, K: Sink>(
     words: &[String],
     source: &mut S,
     sink: &mut K,
-) -> Ended
+) -> Drawn
     ensures forms { TellsForms (map string_bytes words.now) result.status
         (S.remaining source.old) (S.remaining source.new) }
     ensures read_fault { TellsFaults result.status Status.ReadFault
@@ -70,6 +74,8 @@ pub fn lockchart_by<R: Renderer, S: Source, K: Sink>(
         (K.faults sink.old) (K.faults sink.new) }
     ensures writes { WritesPicture R.renders (map string_bytes words.now) result.status
         (S.remaining source.old) (K.contents sink.old) (K.contents sink.new) }
+    ensures long { TellsLong (map string_bytes words.now) result.status
+        (S.remaining source.old) result.is_long }
     ensures fault { TellsScriptFault result.status result.fault.items (S.remaining source.old) }
     ensures complete { (wanted : Wanted)
         → asking_of (map string_bytes words.now) ≡ Some (AsksPicture wanted)
@@ -80,10 +86,10 @@ pub fn lockchart_by<R: Renderer, S: Source, K: Sink>(
     match read_words(alloc, words) {
         Ok(Asked::Picture(said)) => show(renderer, alloc, &said, source, sink),
         Ok(Asked::Help(text)) => {
-            Ended::with(alloc, write_text(sink, Status::Done, text.as_bytes()))
+            Drawn::short(Ended::with(alloc, write_text(sink, Status::Done, text.as_bytes())))
         }
-        Err(WordsError::Usage) => Ended::with(alloc, Status::Usage),
-        Err(WordsError::Memory) => Ended::with(alloc, Status::NoMemory),
+        Err(WordsError::Usage) => Drawn::short(Ended::with(alloc, Status::Usage)),
+        Err(WordsError::Memory) => Drawn::short(Ended::with(alloc, Status::NoMemory)),
     }
 }
 
@@ -94,7 +100,7 @@ fn show<R: Renderer, S: Source, K: Sink>(
     said: &LockchartArgs<'_>,
     source: &mut S,
     sink: &mut K,
-) -> Ended
+) -> Drawn
     requires ranges { HasRanges said.now }
     requires in_order { said.now.from ≤ said.now.to }
     ensures form { result.status ≢ Status.Usage }
@@ -106,6 +112,9 @@ fn show<R: Renderer, S: Source, K: Sink>(
     ensures draws { Draws R.renders (wanted said.now) result.status
         (S.remaining source.old) (K.contents sink.old) (K.contents sink.new) }
     ensures nothing { writes_made result.status ≡ false → K.contents sink.new ≡ K.contents sink.old }
+    ensures long { result.status ≡ Status.Done → IfSome (S.remaining source.old) (λ bytes.
+        TellsLength (wanted said.now) bytes result.is_long) }
+    ensures short { result.status ≢ Status.Done → result.is_long ≡ false }
     ensures fault { TellsScriptFault result.status result.fault.items (S.remaining source.old) }
     ensures complete { ¬ (Rose (S.faults source.old) (S.faults source.new))
         → ¬ (Rose (K.faults sink.old) (K.faults sink.new))
@@ -113,15 +122,18 @@ fn show<R: Renderer, S: Source, K: Sink>(
 {
     let bytes = match read_bytes(alloc, source) {
         Ok(bytes) => bytes,
-        Err(status) => return Ended::with(alloc, status),
+        Err(status) => return Drawn::short(Ended::with(alloc, status)),
     };
     let plan = match read_script(alloc, &bytes) {
         Ok(plan) => plan,
-        Err(ReadError::Script(fault)) => return Ended::by(alloc, fault),
-        Err(ReadError::Memory(_)) => return Ended::with(alloc, Status::NoMemory),
+        Err(ReadError::Script(fault)) => return Drawn::short(Ended::by(alloc, fault)),
+        Err(ReadError::Memory(_)) => return Drawn::short(Ended::with(alloc, Status::NoMemory)),
     };
     match draw(renderer, alloc, said, &bytes, &plan) {
-        Ok(text) => Ended::with(alloc, write_text(sink, Status::Done, &text)),
-        Err(_) => Ended::with(alloc, Status::NoMemory),
+        Ok(drawing) => {
+            let status = write_text(sink, Status::Done, &drawing.text);
+            Drawn::of(alloc, status, drawing.is_long)
+        }
+        Err(_) => Drawn::short(Ended::with(alloc, Status::NoMemory)),
     }
 }

@@ -22,8 +22,8 @@ use Rattle.chart_layout.specs.declared.layout.TurnMark.{TurnMark}
 use Rattle.chart_layout.specs.declared.sentence.Saying.{Saying}
 use Rattle.chart_layout.specs.declared.sentence.Saying.TheVariants as saying
 use Rattle.chart_layout.specs.declared.sentence.Sentence.{Sentence}
-use Rattle.chart_words.specs.Sentences.{headline}
-use Rattle.chart_words.specs.Words.{arrow_words, bar_words, mark_words, note_words}
+use Rattle.chart_words.specs.Sentences.{headline, sentence_words}
+use Rattle.chart_words.specs.Words.{arrow_words, bar_words, lost_words, mark_words, note_words}
 
 -- 1. Events, and how each is written
 
@@ -35,10 +35,12 @@ pub data Event : Type 0 where
   Track : (pid tid : ℕ) (name : List ℕ) → Event
   -- something on a track that begins and lasts
   Slice : (pid tid : ℕ) (name : List ℕ) (begin lasts : ℕ) → Event
-  -- the priority by which a process runs from a time on
-  Counter : (pid time prio : ℕ) → Event
+  -- how important a process is from a time on
+  Counter : (pid time height : ℕ) → Event
   -- an arrow from the turns of one process to a track of another
   Flow : (id : ℕ) (name : List ℕ) (from to tid time : ℕ) → Event
+  -- something that is said of a turn of a process
+  Said : (pid : ℕ) (name : List ℕ) (time : ℕ) → Event
   -- something that is said of the whole run
   Instant : (name : List ℕ) (time : ℕ) → Event
 
@@ -65,10 +67,10 @@ event_bytes (Slice pid tid name begin lasts) = in_a_row (
     codes "{\"ph\":\"X\",\"name\":" ∷ json_string name
     ∷ codes ",\"pid\":" ∷ decimal pid ∷ codes ",\"tid\":" ∷ decimal tid
     ∷ codes ",\"ts\":" ∷ decimal begin ∷ codes ",\"dur\":" ∷ decimal lasts ∷ codes "}" ∷ [])
-event_bytes (Counter pid time prio) = in_a_row (
+event_bytes (Counter pid time height) = in_a_row (
     codes "{\"ph\":\"C\",\"name\":\"priority\",\"pid\":" ∷ decimal pid
     ∷ codes ",\"ts\":" ∷ decimal time
-    ∷ codes ",\"args\":{\"runs as\":" ∷ decimal prio ∷ codes "}}" ∷ [])
+    ∷ codes ",\"args\":{\"255 - runs as\":" ∷ decimal height ∷ codes "}}" ∷ [])
 event_bytes (Flow id name from to tid time) = in_a_row (
     codes "{\"ph\":\"s\",\"name\":" ∷ json_string name
     ∷ codes ",\"cat\":\"lock\",\"id\":" ∷ decimal id
@@ -77,6 +79,10 @@ event_bytes (Flow id name from to tid time) = in_a_row (
     ∷ codes "},\n{\"ph\":\"f\",\"bp\":\"e\",\"name\":" ∷ json_string name
     ∷ codes ",\"cat\":\"lock\",\"id\":" ∷ decimal id
     ∷ codes ",\"pid\":" ∷ decimal to ∷ codes ",\"tid\":" ∷ decimal tid
+    ∷ codes ",\"ts\":" ∷ decimal time ∷ codes "}" ∷ [])
+event_bytes (Said pid name time) = in_a_row (
+    codes "{\"ph\":\"i\",\"s\":\"t\",\"name\":" ∷ json_string name
+    ∷ codes ",\"pid\":" ∷ decimal pid ∷ codes ",\"tid\":" ∷ decimal turns_track
     ∷ codes ",\"ts\":" ∷ decimal time ∷ codes "}" ∷ [])
 event_bytes (Instant name time) = in_a_row (
     codes "{\"ph\":\"i\",\"s\":\"g\",\"name\":" ∷ json_string name
@@ -172,10 +178,10 @@ bar_event plan bar = Slice (process_of bar.thread) (track_of bar.what) (bar_word
 abbrev pub turn_slice : TurnMark → List ℕ → Event
 turn_slice m name = Slice (process_of m.thread) turns_track name (time_of m.turn) 1000
 
--- its name is its word and what its event tells; an idle turn has no slice
+-- its name is its word and what its event tells, with a lost wake; an idle turn has no slice
 abbrev pub turn_events : Plan → TurnMark → MarkKind → List Event
-turn_events plan m (mark.Noted event) =
-    turn_slice m (mark_words plan (mark.Noted event) ++ note_words plan event) ∷ []
+turn_events plan m (mark.Noted event) = turn_slice m
+    (mark_words plan (mark.Noted event) ++ note_words plan event ++ lost_words event) ∷ []
 turn_events plan m (mark.Did kind) = turn_slice m (mark_words plan (mark.Did kind)) ∷ []
 turn_events plan m mark.Idle = []
 
@@ -183,9 +189,15 @@ turn_events plan m mark.Idle = []
 abbrev pub mark_events : Plan → TurnMark → List Event
 mark_events plan m = turn_events plan m m.what
 
--- a step of priorities is the priority by which its thread runs from then on
+-- a sentence is said at its turn, of the thread whose turn it was
+abbrev pub sentence_event : Plan → Sentence → Event
+sentence_event plan s = Said (process_of s.thread) (sentence_words plan s) (time_of s.turn)
+
+-- A step of priorities is how important its thread is from then on: the smaller the priority by which it runs, the
+-- higher.
 abbrev pub step_event : PrioSpan → Event
-step_event step = Counter (process_of step.thread) (begin_of step.first) step.effective.0
+step_event step =
+    Counter (process_of step.thread) (begin_of step.first) (255 - step.effective.0)
 
 -- the lock for which a sentence says that its thread lent
 abbrev pub lock_lent : Saying → Option LockNo
@@ -196,7 +208,7 @@ lock_lent (saying.Claims l before prio) = None
 lock_lent (saying.Frees l before prio takes_off) = None
 lock_lent (saying.Sleeps c l) = None
 lock_lent (saying.Wakes c takes_off) = None
-lock_lent (saying.Refused l held) = None
+lock_lent (saying.Refused l class held) = None
 
 -- that of a sentence of the turn
 abbrev pub lent_in : Sentence → ℕ → Option LockNo
@@ -231,12 +243,13 @@ arrow_events sentences id (arrow ∷ arrows) =
 abbrev pub end_event : Chart → Event
 end_event chart = Instant (headline chart.end) (time_of chart.last)
 
--- the others: names of processes and tracks, and then bars, turns, priorities and arrows
+-- the others: names of processes and tracks, and then bars, turns, sentences, priorities and arrows
 unfoldable pub other_events : Plan → Chart → List Event
 other_events plan chart =
     flat_map (lane_events plan) chart.lanes ++ lock_tracks plan None chart.bars
     ++ map (bar_event plan) chart.bars ++ flat_map (mark_events plan) chart.marks
-    ++ map step_event chart.steps ++ arrow_events chart.sentences 0 chart.arrows
+    ++ map (sentence_event plan) chart.sentences ++ map step_event chart.steps
+    ++ arrow_events chart.sentences 0 chart.arrows
 
 -- 4. The whole trace: a title and the events
 

@@ -4,7 +4,7 @@
 //!
 //! - `tracing`: the whole trace.
 //! - `tracks`: where slices lie, and what the tracks are called.
-//! - `slices`: bars and turns as slices, and priorities as counters.
+//! - `slices`: bars and turns as slices, what is said of turns as instants, and priorities as counters.
 //! - `flows`: wakes and loans as arrows.
 #![tactic(auto)]
 

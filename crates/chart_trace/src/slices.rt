@@ -1,13 +1,13 @@
-//! Bars and turns as slices, and priorities as counters.
+//! Bars and turns as slices, what is said of turns as instants, and priorities as counters.
 
 ghost use Rattle.std.specs.Prelude.{◌≡◌, ◌++◌, flat_map, map, OnOk};
 ghost use Rattle.chart_escape.specs.JsonReader.{AddsItems, IsBehindItem};
-ghost use Rattle.chart_trace.specs.Events.{Counter, Slice, bar_event, begin_of, mark_events, next_line, next_lines, step_event, turn_slice};
+ghost use Rattle.chart_trace.specs.Events.{Counter, Said, Slice, bar_event, begin_of, mark_events, next_line, next_lines, sentence_event, step_event, turn_slice};
 
 use crate::tracks::{TURNS, process_of, time_of, track_of};
 use chart_escape::{Piece, push_items};
-use chart_layout::{Bar, MarkKind, PrioSpan, TurnMark};
-use chart_words::{push_bar, push_mark, push_note};
+use chart_layout::{Bar, MarkKind, PrioSpan, Sentence, TurnMark};
+use chart_words::{push_bar, push_lost, push_mark, push_note, push_sentence};
 use lock_model::Plan;
 use std::alloc::{AllocError, Global};
 
@@ -90,6 +90,7 @@ fn push_turn(
         MarkKind::Noted(event) => {
             push_mark(&mut name, plan, mark.what)?;
             push_note(&mut name, plan, event)?;
+            push_lost(&mut name, event)?;
             push_named_turn(out, mark, &name)
         }
         MarkKind::Did(_) => {
@@ -141,7 +142,54 @@ fn push_slice(
     )
 }
 
-/// Pushes the priorities by which threads run, as counters.
+/// Pushes what is said of turns, as instants.
+pub fn push_sentences(
+    alloc: Global,
+    out: &mut Vec<u8>,
+    plan: &Plan,
+    sentences: &[Sentence],
+) -> Result<(), AllocError>
+    requires { IsBehindItem out.old.items }
+    ensures pushed { OnOk result (out.new.items
+        ≡ out.old.items ++ next_lines (map (sentence_event plan.now) sentences.now)) }
+    ensures reads { OnOk result (AddsItems out.old.items out.new.items) }
+{
+    for sentence in sentences {
+        let mut words = Vec::new(alloc);
+        push_sentence(&mut words, plan, sentence)?;
+        push_said(
+            out,
+            process_of(sentence.thread),
+            &words,
+            time_of(sentence.turn),
+        )?;
+    }
+    Ok(())
+}
+
+fn push_said(out: &mut Vec<u8>, pid: u64, words: &[u8], time: u64) -> Result<(), AllocError>
+    requires { IsBehindItem out.old.items }
+    ensures pushed { OnOk result (out.new.items
+        ≡ out.old.items ++ next_line (Said pid words.now time)) }
+    ensures reads { OnOk result (AddsItems out.old.items out.new.items) }
+{
+    push_items(
+        out,
+        &[
+            Piece::Own(",\n{\"ph\":\"i\",\"s\":\"t\",\"name\":"),
+            Piece::Json(words),
+            Piece::Own(",\"pid\":"),
+            Piece::Number(pid),
+            Piece::Own(",\"tid\":"),
+            Piece::Number(TURNS),
+            Piece::Own(",\"ts\":"),
+            Piece::Number(time),
+            Piece::Own("}"),
+        ],
+    )
+}
+
+/// Pushes the priorities by which threads run, as counters: the more important, the higher.
 pub fn push_steps(out: &mut Vec<u8>, steps: &[PrioSpan]) -> Result<(), AllocError>
     requires { IsBehindItem out.old.items }
     ensures pushed { OnOk result (out.new.items
@@ -161,13 +209,14 @@ fn push_step(out: &mut Vec<u8>, step: PrioSpan) -> Result<(), AllocError>
     ensures reads { OnOk result (AddsItems out.old.items out.new.items) }
 {
     let pid = process_of(step.thread);
-    push_counter(out, pid, begin_of(step.first), u64::from(step.effective.0))
+    let height = 255 - u64::from(step.effective.0);
+    push_counter(out, pid, begin_of(step.first), height)
 }
 
-fn push_counter(out: &mut Vec<u8>, pid: u64, time: u64, prio: u64) -> Result<(), AllocError>
+fn push_counter(out: &mut Vec<u8>, pid: u64, time: u64, height: u64) -> Result<(), AllocError>
     requires { IsBehindItem out.old.items }
     ensures pushed { OnOk result (out.new.items
-        ≡ out.old.items ++ next_line (Counter pid time prio)) }
+        ≡ out.old.items ++ next_line (Counter pid time height)) }
     ensures reads { OnOk result (AddsItems out.old.items out.new.items) }
 {
     push_items(
@@ -177,8 +226,8 @@ fn push_counter(out: &mut Vec<u8>, pid: u64, time: u64, prio: u64) -> Result<(),
             Piece::Number(pid),
             Piece::Own(",\"ts\":"),
             Piece::Number(time),
-            Piece::Own(",\"args\":{\"runs as\":"),
-            Piece::Number(prio),
+            Piece::Own(",\"args\":{\"255 - runs as\":"),
+            Piece::Number(height),
             Piece::Own("}}"),
         ],
     )

@@ -4,7 +4,7 @@ ghost use Rattle.chart_escape.specs.JsonReader.{at, behind_items, read, AddsItem
 ghost use Rattle.chart_trace.specs.Events.{Instant, beginning, end_event, event_bytes, next_lines, other_events, trace_bytes};
 
 use crate::flows::push_flows;
-use crate::slices::{push_bars, push_steps, push_turns};
+use crate::slices::{push_bars, push_sentences, push_steps, push_turns};
 use crate::tracks::{push_locks, push_names, time_of};
 use chart_escape::{Piece, begin_array, begin_object, end_array, end_object, push_item};
 use chart_layout::Chart;
@@ -48,6 +48,7 @@ fn push_others(
     push_locks(out, plan, bars)?;
     push_bars(alloc, out, plan, bars)?;
     push_turns(alloc, out, plan, chart.marks.as_slice())?;
+    push_sentences(alloc, out, plan, chart.sentences.as_slice())?;
     push_steps(out, chart.steps.as_slice())?;
     push_flows(
         alloc,

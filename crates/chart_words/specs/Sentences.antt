@@ -1,6 +1,6 @@
 -- What a chart says of a turn, and of the end of the run.
 use Rattle.std.specs.Prelude.{ℕ, Bool, ◌==◌, if◌then◌else◌, List, [], ◌∷◌, ◌++◌, length, codes, Option, Some, None, decimal}
-use Rattle.lock_model.specs.Text.{thread_name, lock_name, chan_name, class_name}
+use Rattle.lock_model.specs.Text.{thread_name, lock_name, chan_name}
 use Rattle.lock_model.specs.declared.numbers.LockNo.{LockNo}
 use Rattle.lock_model.specs.declared.numbers.Prio.{Prio}
 use Rattle.lock_model.specs.declared.numbers.ThreadNo.{ThreadNo}
@@ -11,7 +11,7 @@ use Rattle.chart_layout.specs.declared.sentence.End.TheVariants as end
 use Rattle.chart_layout.specs.declared.sentence.Saying.{Saying}
 use Rattle.chart_layout.specs.declared.sentence.Saying.TheVariants.{Waits, Lends, Sorts, Claims, Frees, Sleeps, Wakes, Refused}
 use Rattle.chart_layout.specs.declared.sentence.Sentence.{Sentence}
-use Rattle.chart_words.specs.Words.{queue_words, thread_names}
+use Rattle.chart_words.specs.Words.{queue_words, refusal_words, thread_names}
 
 -- 1. What is said of a thread's turn, behind its name
 
@@ -35,10 +35,7 @@ waiting_words plan l holders (Some writer) =
 -- to whom it lends, for which lock, and what that changes of the owner's priority
 unfoldable pub loan_words : Plan → ThreadNo → LockNo → Prio → Prio → List ℕ
 loan_words plan to l before prio =
-    if before.0 == prio.0
-    then codes " lends to " ++ thread_name plan to.0 ++ codes ", the owner of "
-    ++ lock_name plan l.0 ++ codes ", which runs as " ++ decimal prio.0 ++ codes " already"
-    else codes " lends " ++ decimal prio.0 ++ codes " to " ++ thread_name plan to.0
+    codes " lends " ++ decimal prio.0 ++ codes " to " ++ thread_name plan to.0
     ++ codes ", the owner of " ++ lock_name plan l.0 ++ change_words before prio
 
 -- whether the walk goes on behind a loan
@@ -84,9 +81,8 @@ saying_words plan (Sleeps c l) =
     ++ codes " up"
 saying_words plan (Wakes c takes_off) =
     codes " signals " ++ chan_name plan c.0 ++ heard_words plan takes_off
-saying_words plan (Refused l held) =
-    codes " may not take " ++ lock_name plan l.0 ++ codes " under class "
-    ++ class_name plan held.0 ++ codes ": reversed, it would close a circle"
+saying_words plan (Refused l class held) =
+    codes " may not take " ++ lock_name plan l.0 ++ refusal_words plan l class held
 
 -- 2. Sentences: a thread's name, and what is said of its turn
 

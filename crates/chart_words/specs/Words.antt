@@ -1,9 +1,13 @@
 -- What a chart says of its bars, arrows and marks, and of the queues and threads that it names.
-use Rattle.std.specs.Prelude.{ℕ, ◌==◌, if◌then◌else◌, List, [], ◌∷◌, ◌++◌, map, codes, decimal}
+use Rattle.std.specs.Prelude.{ℕ, Bool, ◌==◌, if◌then◌else◌, List, [], ◌∷◌, ◌++◌, map, codes, decimal, Option, Some, None}
 use Rattle.lock_model.specs.Counts.{is_empty}
 use Rattle.lock_model.specs.Text.{spaced, mode_letter, found_word, queue_word, thread_name, lock_name, lock_kind, chan_name, class_name}
+use Rattle.lock_model.specs.Events.{wakes_nobody}
+use Rattle.lock_model.specs.Plans.{lock_class}
 use Rattle.lock_model.specs.declared.event.Event.{Event}
 use Rattle.lock_model.specs.declared.event.Event.TheVariants.{Locked, Tried, Busy, Unlocked, Set, Added, Got, Base, Shown, Sleeps, Woke, HaltedChan, HaltedLock, WokeOne, WokeAll, Reversed}
+use Rattle.lock_model.specs.declared.numbers.ClassNo.{ClassNo}
+use Rattle.lock_model.specs.declared.numbers.LockNo.{LockNo}
 use Rattle.lock_model.specs.declared.numbers.ThreadNo.{ThreadNo}
 use Rattle.lock_model.specs.declared.plan.Kind.{Kind}
 use Rattle.lock_model.specs.declared.plan.Kind.TheVariants.{Mtx, Rw, Sx}
@@ -147,3 +151,19 @@ note_words plan (HaltedLock l) = spaced (lock_name plan l.0 ∷ [])
 note_words plan (WokeOne c woken) = spaced (chan_name plan c.0 ∷ [])
 note_words plan (WokeAll c woken) = spaced (chan_name plan c.0 ∷ [])
 note_words plan (Reversed l held) = codes " under class " ++ class_name plan held.0
+
+-- why a take was refused, by a class: the thread holds a lock of that, which is the lock's own, or one behind which the
+-- lock's own may not come
+abbrev pub order_words : Bool → List ℕ
+order_words is_same =
+    if is_same then codes ": its class is that of " else codes ": its class must come before that of "
+
+abbrev pub refusal_words : Plan → LockNo → ClassNo → Option LockNo → List ℕ
+refusal_words plan l class None = codes " under class " ++ class_name plan class.0
+refusal_words plan l class (Some held) =
+    order_words (lock_class plan l.0 == class.0) ++ lock_name plan held.0
+    ++ codes ", which is held"
+
+-- what is said where a wake found nobody asleep
+unfoldable pub lost_words : Event → List ℕ
+lost_words event = if wakes_nobody event then codes ": lost, nobody sleeps there" else []

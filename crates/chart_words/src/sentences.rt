@@ -1,11 +1,12 @@
 //! What is said of turns, and of the end.
 
 ghost use Rattle.std.specs.Prelude.{◌≡◌, ◌++◌, codes, decimal, length, OnOk};
-ghost use Rattle.lock_model.specs.Text.{chan_name, class_name, lock_name, thread_name};
-ghost use Rattle.chart_words.specs.Sentences.{change_words, claim_words, end_words, given_back_words, headline, heard_words, loan_words, reading_words, saying_words, sentence_words, to_wake_words, waiting_words, walk_words};
-ghost use Rattle.chart_words.specs.Words.{thread_names};
+ghost use Rattle.lock_model.specs.Text.{chan_name, lock_name, thread_name};
+ghost use Rattle.chart_words.specs.Sentences.{change_words, claim_words, end_words, given_back_words, headline, heard_words, reading_words, saying_words, sentence_words, to_wake_words, waiting_words, walk_words};
+ghost use Rattle.chart_words.specs.Words.{refusal_words, thread_names};
 
-use crate::names::{push_class, push_named, push_queue, push_threads};
+use crate::names::{push_named, push_queue, push_threads};
+use crate::things::push_refusal;
 use chart_layout::{End, Saying, Sentence};
 use lock_model::{ChanNo, ClassNo, LockNo, Plan, Prio, ThreadNo, push_digits};
 use std::alloc::AllocError;
@@ -20,8 +21,9 @@ pub fn push_sentence(out: &mut Vec<u8>, plan: &Plan, sentence: &Sentence) -> Res
     push_saying(out, plan, &sentence.saying)
 }
 
-#[tactic(auto, unfolding(crate::specs::Sentences::saying_words))]
-fn push_saying(out: &mut Vec<u8>, plan: &Plan, saying: &Saying) -> Result<(), AllocError>
+/// The same without the name of the thread: ` waits for bus, held by low`.
+#[tactic(auto, unfolding(crate::specs::Sentences::saying_words, crate::specs::Sentences::loan_words))]
+pub fn push_saying(out: &mut Vec<u8>, plan: &Plan, saying: &Saying) -> Result<(), AllocError>
     ensures { OnOk result (out.new.items ≡ out.old.items ++ saying_words plan.now saying.now) }
 {
     match saying {
@@ -60,7 +62,7 @@ fn push_saying(out: &mut Vec<u8>, plan: &Plan, saying: &Saying) -> Result<(), Al
             push_named(out, b" signals ", plan.chan_name(*chan))?;
             push_heard(out, plan, takes_off.as_slice())
         }
-        Saying::Refused { lock, held } => push_refused(out, plan, *lock, *held),
+        Saying::Refused { lock, held, holds } => push_refused(out, plan, *lock, *held, *holds),
     }
 }
 
@@ -126,44 +128,7 @@ fn reading(readers: usize) -> &'static [u8]
 }
 
 // The owner ran as one priority, and runs as the other now.
-#[tactic(auto, unfolding(crate::specs::Sentences::loan_words))]
 fn push_lends(
-    out: &mut Vec<u8>,
-    plan: &Plan,
-    to: ThreadNo,
-    lock: LockNo,
-    before: Prio,
-    prio: Prio,
-) -> Result<(), AllocError>
-    ensures { OnOk result (out.new.items
-        ≡ out.old.items ++ loan_words plan.now to lock before prio) }
-{
-    if before == prio {
-        push_idle_loan(out, plan, to, lock, prio)
-    } else {
-        push_loan(out, plan, to, lock, before, prio)
-    }
-}
-
-fn push_idle_loan(
-    out: &mut Vec<u8>,
-    plan: &Plan,
-    to: ThreadNo,
-    lock: LockNo,
-    prio: Prio,
-) -> Result<(), AllocError>
-    ensures { OnOk result (out.new.items
-        ≡ out.old.items ++ codes " lends to " ++ thread_name plan.now to.0
-        ++ codes ", the owner of " ++ lock_name plan.now lock.0
-        ++ codes ", which runs as " ++ decimal prio.0 ++ codes " already") }
-{
-    push_named(out, b" lends to ", plan.thread_name(to))?;
-    push_named(out, b", the owner of ", plan.lock_name(lock))?;
-    push_prio(out, b", which runs as ", prio)?;
-    out.extend_from_slice(b" already")
-}
-
-fn push_loan(
     out: &mut Vec<u8>,
     plan: &Plan,
     to: ThreadNo,
@@ -243,16 +208,15 @@ fn push_refused(
     out: &mut Vec<u8>,
     plan: &Plan,
     lock: LockNo,
-    held: ClassNo,
+    class: ClassNo,
+    held: Option<LockNo>,
 ) -> Result<(), AllocError>
     ensures { OnOk result (out.new.items
         ≡ out.old.items ++ codes " may not take " ++ lock_name plan.now lock.0
-        ++ codes " under class " ++ class_name plan.now held.0
-        ++ codes ": reversed, it would close a circle") }
+        ++ refusal_words plan.now lock class held) }
 {
     push_named(out, b" may not take ", plan.lock_name(lock))?;
-    push_class(out, plan, held)?;
-    out.extend_from_slice(b": reversed, it would close a circle")
+    push_refusal(out, plan, lock, class, held)
 }
 
 #[tactic(auto, unfolding(crate::specs::Sentences::given_back_words, crate::specs::Sentences::change_words))]

@@ -2,11 +2,11 @@
 
 ghost use Rattle.std.specs.Prelude.{◌≡◌, ◌++◌, ◌∷◌, [], decimal, OnOk};
 ghost use Rattle.lock_model.specs.Text.{spaced, mode_letter, lock_kind, lock_name};
-ghost use Rattle.chart_words.specs.Words.{arrow_words, bar_words, event_word, hold_word, mark_words, note_words, verb};
+ghost use Rattle.chart_words.specs.Words.{arrow_words, bar_words, event_word, hold_word, lost_words, mark_words, note_words, order_words, refusal_words, verb};
 
-use crate::names::{push_class, push_queue};
+use crate::names::{push_class, push_named, push_queue};
 use chart_layout::{Arrow, ArrowKind, BarKind, MarkKind};
-use lock_model::{Event, Kind, LockNo, Mode, Plan, StepKind, push_number, push_word};
+use lock_model::{ClassNo, Event, Kind, LockNo, Mode, Plan, StepKind, push_number, push_word};
 use std::alloc::AllocError;
 
 /// Pushes what a bar says: `holds bus`, `reads data`, `waits for bus`, `taken off`, `woken`, `walks`.
@@ -181,4 +181,48 @@ fn push_edit(out: &mut Vec<u8>, lock: &[u8], key: u64, amount: u64) -> Result<()
     push_word(out, lock)?;
     push_number(out, key)?;
     push_number(out, amount)
+}
+
+/// Pushes why a take was refused, by the class of a lock that the thread holds: `: its class must come before that of
+/// fork3, which is held`.
+pub fn push_refusal(
+    out: &mut Vec<u8>,
+    plan: &Plan,
+    lock: LockNo,
+    class: ClassNo,
+    held: Option<LockNo>,
+) -> Result<(), AllocError>
+    ensures { OnOk result (out.new.items
+        ≡ out.old.items ++ refusal_words plan.now lock class held) }
+{
+    match held {
+        None => push_class(out, plan, class),
+        Some(held) => {
+            let is_same = plan.lock_class(lock).0 == class.0;
+            push_named(out, order_words(is_same), plan.lock_name(held))?;
+            out.extend_from_slice(b", which is held")
+        }
+    }
+}
+
+fn order_words(is_same: bool) -> &'static [u8]
+    ensures { result.now ≡ order_words is_same }
+{
+    if is_same {
+        b": its class is that of "
+    } else {
+        b": its class must come before that of "
+    }
+}
+
+/// Pushes what is said where a wake found nobody asleep.
+#[tactic(auto, unfolding(crate::specs::Words::lost_words))]
+pub fn push_lost(out: &mut Vec<u8>, event: Event) -> Result<(), AllocError>
+    ensures { OnOk result (out.new.items ≡ out.old.items ++ lost_words event) }
+{
+    if event.wakes_nobody() {
+        out.extend_from_slice(b": lost, nobody sleeps there")
+    } else {
+        Ok(())
+    }
 }

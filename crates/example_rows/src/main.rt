@@ -6,6 +6,7 @@
 //! there a file that begins with a `thread` line leaves the history out, and the text is as written where it ends so.
 #![tactic(auto)]
 
+use chart_top::{LOCKCHART, lockchart};
 use complaints::{Status, complaint};
 use lock_io::{MemSink, MemSource, OpenGate};
 use lock_top::{LOCKRUN, lockrun};
@@ -31,8 +32,8 @@ fn main(rt: HostRuntime) -> anyhow::Result<()> {
 }
 
 // The line is the name of an example and the words of its command line: those of lockrun, or behind the word `lockplan`
-// those of that program. `NAME.out` is the text, and the source is `NAME.script`; examples `NAME.THIS` and `NAME.THAT`
-// share it.
+// or `lockchart` those of that program. `NAME.out` is the text, and the source is `NAME.script`; examples `NAME.THIS`
+// and `NAME.THAT` share it.
 fn run_example<R: AllocGlobal + Files + Print + Threads + Wait + Sync>(
     rt: &R,
     line: &str,
@@ -74,6 +75,11 @@ fn call<R: AllocGlobal + Threads + Wait + Sync>(
     if let Some(("lockplan", words)) = command.split_once(' ') {
         let ended = lockplan(alloc, &words_of(alloc, words)?, source, sink);
         let said = complaint(alloc, LOCKPLAN, ended.status, &ended.fault)?;
+        return Ok((ended.status, said));
+    }
+    if let Some(("lockchart", words)) = command.split_once(' ') {
+        let ended = lockchart(alloc, &words_of(alloc, words)?, source, sink);
+        let said = complaint(alloc, LOCKCHART, ended.status, &ended.fault)?;
         return Ok((ended.status, said));
     }
     let words = words_of(alloc, command)?;

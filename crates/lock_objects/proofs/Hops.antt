@@ -20,17 +20,18 @@ use Rattle.lock_laws.proofs.HeadsOfWaiters.{standing_head}
 use Rattle.lock_laws.proofs.Words.{owner_is}
 use Rattle.lock_laws.proofs.Derived as laws
 use Rattle.turnstile_core.specs.Seen.{Contents, Turnstile}
-use Rattle.turnstile_core.specs.Changes.{lists_of, waits, with_owner, with_loan_home, moved}
+use Rattle.turnstile_core.specs.Changes.{lists_of, waits, with_loan_home, moved}
 use Rattle.thread_records.specs.Records.{Record, with_loans, IsWellFormed}
 use Rattle.thread_records.specs.Loans.{loan_for}
 use Rattle.chain_table.specs.Chains.{head_of, without}
 use Rattle.prio_lending.specs.Hops.{loan_by, with_contents}
 use Rattle.prio_lending.specs.Hops as hops
+use Rattle.prio_lending.proofs.Carried.{lent_for, lent_others, lent_one_each}
 use Rattle.prio_lending.specs.declared.walk.Walk.{Walk}
 use Rattle.lock_objects.specs.Represents.{RepresentsHead, RepresentsQueues, RepresentsRecord, queue_in, record_in, walk_of}
-use Rattle.lock_objects.specs.Hops.{CanBeLent, CanHop}
+use Rattle.lock_objects.specs.Hops.{CanBeLent, CanHop, record_claimed, head_claimed, chain_claimed}
 use Rattle.lock_objects.proofs.Lent as lent
-use Rattle.lock_objects.proofs.Lent.{can_be_lent, queues_lent, record_lent}
+use Rattle.lock_objects.proofs.Lent.{can_be_lent, node_out, queues_lent, record_lent}
 use Rattle.lock_objects.proofs.Queues.{SameQueue, IsHead, there, queues_placed}
 
 -- 1. A lend
@@ -64,7 +65,8 @@ module _ (c : Config) (s : State) (t l o h : ℕ) (lawful : Lawful c s) (g : May
 
     pub can_hop : {r : Record} → RepresentsRecord r (record_in s o) → IsSomeAnd (head_of q chain) (CanHop l r)
     can_hop {r = r} rec = subst (λ (x : Option Turnstile). IsSomeAnd x (CanHop l r)) (sym found.1) (record {
-      lends = can_be_lent c s l o h lawful g.lock turnstile g.head shows rec (node_carries c s l o h lawful g.lock turnstile g.head g.owned);
+      lends = can_be_lent c s l o h lawful g.lock turnstile g.head found.0 found.2 rec
+          (node_carries c s l o h lawful g.lock turnstile g.head g.owned);
       owned = sym its_owner ∙ g.owned ∙ ap Some (sym (ap (λ v. v.thread) rec.columns));
     })
 
@@ -75,7 +77,12 @@ module _ (c : Config) (s : State) (t l o h : ℕ) (lawful : Lawful c s) (g : May
     module _ {r m : Record} (rec : RepresentsRecord r (record_in s o)) (other : m ≡ with_loans m.loans r) (fits : IsWellFormed m) (lent : IfSome (head_of q chain) (λ d. loan_for l m.loans ≡ loan_by l d.contents)) (same : (k : ℕ) → k ≢ l → loan_for k m.loans ≡ loan_for k r.loans) where
       pub lend_record : RepresentsRecord m (record_in n o)
       unfolding after_lend
-      lend_record = record_lent c s l o h lawful g.lock turnstile g.head shows rec other fits lent same s.owner
+      lend_record = record_lent c s l o h lawful g.lock turnstile g.head found.0 found.2 rec other fits.one_loan_each
+          its_loan same s.owner
+        where
+          its_loan : loan_for l m.loans ≡ loan_by l found.0.contents
+          its_loan = subst (λ (x : Option Turnstile). IfSome x (λ d. loan_for l m.loans ≡ loan_by l d.contents)) found.1
+              lent
 
       pub lend_walk : {w : Walk} {on : Bool} → w ≡ hops.walk_to r.thread (not (m.effective == r.effective) && on) → on ≡ names_turnstile c r.on → walk_of w ≡ n.walk t
       unfolding after_lend
@@ -117,21 +124,58 @@ module _ (c : Config) (s : State) (t l h : ℕ) (by_try : Bool) (lawful : Lawful
   carries : number_of (s.loan t l) ≡ out_of (s.loan_home h) h
   carries = ap number_of unlent ∙ sym (ap (λ b. out_of b h) (unowned_home c s l h lawful g.lock of_turnstile g.head unowned))
 
-  module _ {chain : List (QueueName × Turnstile)} (shows : RepresentsQueues c chain (queue_in s) s.loan_home) {r : Record} (rec : RepresentsRecord r (record_in s t)) where
-    pub can_claim : IsSomeAnd (head_of (lock_queue l) chain) (CanBeLent l r)
-    can_claim = subst (λ (x : Option Turnstile). IsSomeAnd x (CanBeLent l r)) (sym (lent.its_head c s l t h lawful g.lock of_turnstile g.head shows).1) (can_be_lent c s l t h lawful g.lock of_turnstile g.head shows rec carries)
+  -- the other queues stay,
+  pub claimed_others : (k : ℕ) → k ≢ l → is_turnstile (c.kind k) ≡ true
+      → SameQueue (queue_in s) (queue_in behind_claim) s.loan_home behind_claim.loan_home (lock_queue k)
+  unfolding after_claim
+  claimed_others = lent.others c s l t h lawful g.lock of_turnstile g.head (put_queue s.owner (lock_queue l) (Some t))
+      (λ k d. put_lock_other s.owner l (Some t) k (λ e. d (sym e)))
 
-    pub claim_queues : {new : List (QueueName × Turnstile)} → IfSome (head_of (lock_queue l) chain) (λ d. new ≡ (lock_queue l, with_contents (with_loan_home false (with_owner (Some r.thread) d.contents)) d) ∷ without (lock_queue l) chain)
+  module _ {r : Record} (rec : RepresentsRecord r (record_in s t)) where
+    its_owner_then : put_queue s.owner (lock_queue l) (Some t) (lock_queue l) ≡ Some r.thread
+    its_owner_then = put_lock_same s.owner l (Some t) ∙ ap Some (sym (ap (λ v. v.thread) rec.columns))
+
+    -- and the turnstile that is there can be claimed; it and the record then show the columns
+    module _ (d : Turnstile) (old : RepresentsHead d.contents (queue_in s (lock_queue l)) s.loan_home) where
+      pub can_claim_it : CanBeLent l r d
+      can_claim_it = can_be_lent c s l t h lawful g.lock of_turnstile g.head d old rec carries
+
+      pub claimed_head : RepresentsHead (head_claimed r.thread d).contents (queue_in behind_claim (lock_queue l))
+          behind_claim.loan_home
+      unfolding after_claim
+      claimed_head = node_out c s l t h lawful g.lock of_turnstile g.head d old
+          (put_queue s.owner (lock_queue l) (Some t)) (Some r.thread) its_owner_then
+
+      pub claimed_record : RepresentsRecord (record_claimed l d r) (record_in behind_claim t)
+      unfolding after_claim
+      claimed_record =
+          record_lent c s l t h lawful g.lock of_turnstile g.head d old rec refl
+          (lent_one_each l d.contents r.loans rec.one_loan_each)
+          (lent_for l d.contents r.loans can_claim_it.carried can_claim_it.some_wait)
+          (lent_others l d.contents r.loans) (put_queue s.owner (lock_queue l) (Some t))
+
+  module _ {chain : List (QueueName × Turnstile)} (shows : RepresentsQueues c chain (queue_in s) s.loan_home) {r : Record} (rec : RepresentsRecord r (record_in s t)) where
+    abbrev there_before : IsHead (queue_in s (lock_queue l)) s.loan_home (head_of (lock_queue l) chain)
+    there_before = lent.its_head c s l t h lawful g.lock of_turnstile g.head shows
+
+    pub can_claim : IsSomeAnd (head_of (lock_queue l) chain) (CanBeLent l r)
+    can_claim = subst (λ (x : Option Turnstile). IsSomeAnd x (CanBeLent l r)) (sym there_before.1)
+        (can_claim_it rec there_before.0 there_before.2)
+
+    pub claim_queues : {new : List (QueueName × Turnstile)}
+        → IfSome (head_of (lock_queue l) chain) (λ d. new ≡ chain_claimed l r.thread d chain)
         → RepresentsQueues c new (queue_in behind_claim) behind_claim.loan_home
     unfolding after_claim
     claim_queues made =
-        queues_lent c s l t h lawful g.lock of_turnstile g.head shows (put_queue s.owner (lock_queue l) (Some t)) (λ _. Some r.thread) (put_lock_same s.owner l (Some t) ∙ ap Some (sym (ap (λ v. v.thread) rec.columns)))
-        (λ k d. put_lock_other s.owner l (Some t) k (λ e. d (sym e))) made
+        queues_lent c s l t h lawful g.lock of_turnstile g.head shows (put_queue s.owner (lock_queue l) (Some t))
+        (λ _. Some r.thread) (its_owner_then rec) (λ k d. put_lock_other s.owner l (Some t) k (λ e. d (sym e))) made
 
-    pub claim_record : {m : Record} → m ≡ with_loans m.loans r → IsWellFormed m → IfSome (head_of (lock_queue l) chain) (λ d. loan_for l m.loans ≡ loan_by l d.contents) → ((k : ℕ) → k ≢ l → loan_for k m.loans ≡ loan_for k r.loans)
+    pub claim_record : {m : Record} → IfSome (head_of (lock_queue l) chain) (λ d. m ≡ record_claimed l d r)
         → RepresentsRecord m (record_in behind_claim t)
-    unfolding after_claim
-    claim_record other fits lent same = record_lent c s l t h lawful g.lock of_turnstile g.head shows rec other fits lent same (put_queue s.owner (lock_queue l) (Some t))
+    claim_record {m = m} made =
+        let is = subst (λ (x : Option Turnstile). IfSome x (λ d. m ≡ record_claimed l d r)) there_before.1 made in
+        subst (λ v. RepresentsRecord v (record_in behind_claim t)) (sym is)
+        (claimed_record rec there_before.0 there_before.2)
 
 -- 3. A shift
 

@@ -6,14 +6,14 @@ ghost use Rattle.lock_model.specs.Queues.{lock_queue, names_turnstile};
 ghost use Rattle.lock_state.specs.State.{State};
 ghost use Rattle.lock_state.specs.Facts.{Lawful};
 ghost use Rattle.lock_state.specs.Steps.Lending.{MayClaim, after_claim, MayLend, after_lend, MayShift, after_shift};
-ghost use Rattle.turnstile_core.specs.Changes.{name_of, waits, with_owner, with_loan_home, moved};
+ghost use Rattle.turnstile_core.specs.Changes.{name_of, waits, with_loan_home, moved};
 ghost use Rattle.chain_table.specs.Chains.{head_of, without};
 ghost use Rattle.chain_table.specs.Objects.{behind};
 ghost use Rattle.thread_records.specs.Loans.{loan_for};
 ghost use Rattle.thread_records.specs.Records.{with_loans, IsWellFormed};
-ghost use Rattle.prio_lending.specs.Hops.{with_contents, walk_up, walk_to, loan_by};
+ghost use Rattle.prio_lending.specs.Hops.{with_contents, walk_up, walk_to, loan_by, with_lent};
 ghost use Rattle.lock_objects.specs.Represents.{RepresentsQueues, RepresentsRecord, queue_in, record_in, walk_of};
-ghost use Rattle.lock_objects.specs.Hops.{CanBeLent, CanHop};
+ghost use Rattle.lock_objects.specs.Hops.{CanBeLent, CanHop, record_claimed, chain_claimed};
 
 use chain_table::Chain;
 use lock_model::{LockNo, QueueName};
@@ -25,12 +25,10 @@ use turnstile_core::Turnstile;
 /// priority of those who wait.
 pub fn claim(chain: &mut Chain<Turnstile>, rec: &mut ThreadRec, l: LockNo)
     requires { IsSomeAnd (head_of (lock_queue l.0) chain.old) (CanBeLent l.0 rec.old) }
-    ensures chain { IfSome (head_of (lock_queue l.0) chain.old) (λ h. chain.new ≡ (
-      lock_queue l.0,
-      with_contents (with_loan_home false (with_owner (Some rec.old.thread) h.contents)) h,
-    )
-        ∷ without (lock_queue l.0) chain.old) }
-    ensures record { rec.new ≡ with_loans rec.new.loans rec.old }
+    ensures chain { IfSome (head_of (lock_queue l.0) chain.old) (λ h.
+        chain.new ≡ chain_claimed l.0 rec.old.thread h chain.old) }
+    ensures record { IfSome (head_of (lock_queue l.0) chain.old) (λ h.
+        rec.new ≡ record_claimed l.0 h rec.old) }
     ensures lent { IfSome (head_of (lock_queue l.0) chain.old) (λ h.
         loan_for l.0 rec.new.loans ≡ loan_by l.0 h.contents) }
     ensures others { (k : ℕ) → k ≢ l.0 → loan_for k rec.new.loans ≡ loan_for k rec.old.loans }
@@ -103,6 +101,8 @@ fn put_lent(
         ∷ chain.old) }
     ensures owner { owner.new ≡ with_loans owner.new.loans owner.old }
     ensures well_formed { IsWellFormed owner.new }
+    ensures loans { IfSome head.value.contents.own.lock (λ l.
+        owner.new.loans ≡ with_lent (loan_by l head.value.contents) owner.old.loans) }
     ensures lent { IfSome head.value.contents.own.lock (λ l.
         loan_for l owner.new.loans ≡ loan_by l head.value.contents) }
     ensures others { (k : ℕ) → head.value.contents.own.lock ≢ Some k

@@ -1,5 +1,5 @@
 -- The loan that an owner has for a lock, before and after a hop.
-use Rattle.std.proofs.Common.{◌≡◌, ◌≢◌, ℕ, nat_eq, true, false, cond, List, [], ◌∷◌, ◌++◌, Option, Some, None, IfSome, option_map, refl, sym, ap, ◌∙◌}
+use Rattle.std.proofs.Common.{◌≡◌, ◌≢◌, ℕ, ◌≤◌, nat_eq, eq-eqb, Bool, true, false, cond, List, [], ◌∷◌, ◌++◌, Option, Some, None, IfSome, option_map, refl, sym, ap, ◌∙◌}
 use Rattle.std.specs.Option.{is_some}
 use Rattle.std.proofs.lemmas.Bool.{eqb-true, ne_eqb}
 use Rattle.lock_model.specs.Queues.{Waiter as Waiting, least_kept, least_of_two, lock_queue}
@@ -7,9 +7,10 @@ use Rattle.lock_model.specs.declared.numbers.LockNo.{LockNo}
 use Rattle.lock_model.specs.declared.plan.QueueName.TheVariants.{Lock}
 use Rattle.turnstile_core.specs.Seen.{Contents, Terms, Loan}
 use Rattle.turnstile_core.specs.Changes.{all_waiters, name_of, best}
-use Rattle.thread_records.specs.Loans.{has_loan, loan_for, alone, with_prio}
+use Rattle.thread_records.specs.Loans.{has_loan, loan_for, loans_for, alone, with_prio}
 use Rattle.thread_records.proofs.ByLock.{has_is_some, loan_set, others_set}
-use Rattle.prio_lending.specs.Hops.{carrier_for, node_out}
+use Rattle.thread_records.proofs.OneEach.{one_each_with_prio, one_each_more}
+use Rattle.prio_lending.specs.Hops.{loan_by, with_lent, carrier_for, node_out}
 
 -- ---- the head
 some_least : (xs ys : List Waiting) → None ≡ least_of_two (least_kept xs) (least_kept ys) → xs ++ ys ≡ []
@@ -70,10 +71,74 @@ set_terms : (o : Option Terms) (l n k : ℕ) → ((t : Terms) → o ≡ Some t �
 set_terms None l n k lock e = cc
 set_terms (Some t) l n k lock e = let same : t.number ≡ n = cc in rw (same, lock t refl) refl
 
--- the loan for the lock has the head's number and the priority
-pub set_for : (l k : ℕ) (ts : List Terms) (c : Contents) → c.own.lock ≡ Some l → IfSome c.own.lock (λ j. carrier_for j ts ≡ node_out c) → c.own.loan_home ≡ false → loan_for l (with_prio l k ts) ≡ Some (record { number = c.number; lock = l; prio = k })
-set_for l k ts c e h out = loan_set l k ts ∙ set_terms (loan_for l ts) l c.number k (lock_of_loan l ts) (carried_out l ts c e h out)
+-- the loan for the lock has the number that it had, and the priority
+set_for : (l k n : ℕ) (ts : List Terms) → carrier_for l ts ≡ Some n
+    → loan_for l (with_prio l k ts) ≡ Some (record { number = n; lock = l; prio = k })
+set_for l k n ts e = loan_set l k ts ∙ set_terms (loan_for l ts) l n k (lock_of_loan l ts) e
 
--- those for other locks stay
-pub set_others : (l j k : ℕ) (ts : List Terms) (c : Contents) → c.own.lock ≡ Some l → c.own.lock ≢ Some j → loan_for j (with_prio l k ts) ≡ loan_for j ts
-set_others l j k ts c e ne = others_set j l k ts (ne_eqb l j (λ same. ne (e ∙ ap Some same)))
+-- ---- the loans with that of a turnstile for its lock
+carried_by : (o : Option Terms) (home : Bool) (n : ℕ) → is_some o ≡ true
+    → option_map (λ t. t.number) o ≡ cond home None (Some n) → option_map (λ t. t.number) o ≡ Some n
+carried_by None home n some e = cc
+carried_by (Some t) true n some e = cc
+carried_by (Some t) false n some e = e
+
+module _ (l : ℕ) (c : Contents) (ts : List Terms) where
+  abbrev by : Option ℕ → Option Terms
+  by = option_map (λ p. record { number = c.number; lock = l; prio = p })
+
+  -- it comes first where none stood
+  pub lent_first : (p : ℕ) → has_loan l ts ≡ false → best c ≡ Some p
+      → with_lent (loan_by l c) ts ≡ record { number = c.number; lock = l; prio = p } ∷ ts
+  lent_first p none is = ap (λ o. with_lent (by o) ts) is
+      ∙ ap (λ b. cond b (with_prio l p ts) (record { number = c.number; lock = l; prio = p } ∷ ts)) none
+
+  -- and else the one that stands has its priority
+  pub lent_there : (p : ℕ) → has_loan l ts ≡ true → best c ≡ Some p → with_lent (loan_by l c) ts ≡ with_prio l p ts
+  lent_there p there is = ap (λ o. with_lent (by o) ts) is
+      ∙ ap (λ b. cond b (with_prio l p ts) (record { number = c.number; lock = l; prio = p } ∷ ts)) there
+
+  -- so it is the loan for the lock
+  pub lent_for : carrier_for l ts ≡ node_out c → all_waiters c ≢ []
+      → loan_for l (with_lent (loan_by l c) ts) ≡ loan_by l c
+  lent_for e some = go (best c) refl
+    where
+      go : (o : Option ℕ) → best c ≡ o → loan_for l (with_lent (by o) ts) ≡ by o
+      go None b = absurd (has_best c some (sym b))
+      go (Some p) b = elim (has_loan l ts) as
+          (λ x. has_loan l ts ≡ x
+          → loan_for l (cond x (with_prio l p ts) (record { number = c.number; lock = l; prio = p } ∷ ts)) ≡ by
+          (Some p)) [
+            | true ↦ λ h. set_for l p c.number ts
+                (carried_by (loan_for l ts) c.own.loan_home c.number (sym (has_is_some l ts) ∙ h) e)
+            | false ↦ λ h. ap (λ x. cond x (by (Some p)) (loan_for l ts)) (eq-eqb l l refl)
+          ] refl
+
+  -- those for other locks stay,
+  pub lent_others : (k : ℕ) → k ≢ l → loan_for k (with_lent (loan_by l c) ts) ≡ loan_for k ts
+  lent_others k ne = go (best c)
+    where
+      other : nat_eq l k ≡ false
+      other = ne_eqb l k (λ e. ne (sym e))
+
+      go : (o : Option ℕ) → loan_for k (with_lent (by o) ts) ≡ loan_for k ts
+      go None = refl
+      go (Some p) = elim (has_loan l ts) as
+          (λ x. loan_for k (cond x (with_prio l p ts) (record { number = c.number; lock = l; prio = p } ∷ ts)) ≡
+          loan_for k ts) [
+            | true ↦ others_set k l p ts other
+            | false ↦ ap (λ x. cond x (by (Some p)) (loan_for k ts)) other
+          ]
+
+  -- and there is one for each lock at most
+  pub lent_one_each : ((j : ℕ) → loans_for j ts ≤ 1) → (j : ℕ) → loans_for j (with_lent (loan_by l c) ts) ≤ 1
+  lent_one_each one j = go (best c)
+    where
+      go : (o : Option ℕ) → loans_for j (with_lent (by o) ts) ≤ 1
+      go None = one j
+      go (Some p) = elim (has_loan l ts) as
+          (λ x. has_loan l ts ≡ x
+          → loans_for j (cond x (with_prio l p ts) (record { number = c.number; lock = l; prio = p } ∷ ts)) ≤ 1) [
+            | true ↦ λ h. one_each_with_prio l p ts (with_prio l p ts) refl one j
+            | false ↦ λ h. one_each_more (record { number = c.number; lock = l; prio = p }) ts h one j
+          ] refl

@@ -4,7 +4,7 @@ ghost use Rattle.turnstile_core.specs.Changes.{all_waiters, waits, with_owner, w
 ghost use Rattle.chain_table.specs.Chains.{head_of, without};
 ghost use Rattle.thread_records.specs.Records.{with_loans, IsWellFormed};
 ghost use Rattle.thread_records.specs.Loans.{loan_for, without_loan};
-ghost use Rattle.prio_lending.specs.Hops.{loan_by, carrier_for, node_out, with_contents, walk_to, walk_up};
+ghost use Rattle.prio_lending.specs.Hops.{loan_by, with_lent, carrier_for, node_out, with_contents, walk_to, walk_up};
 
 use crate::walk::Walk;
 use chain_table::Chain;
@@ -24,6 +24,8 @@ pub fn lend(head: &mut Turnstile, owner: &mut ThreadRec, owner_on_turnstile: boo
     ensures contents { head.new.contents ≡ with_loan_home false head.old.contents }
     ensures next { head.new.next ≡ head.old.next }
     ensures owner { owner.new ≡ with_loans owner.new.loans owner.old }
+    ensures loans { IfSome head.old.contents.own.lock (λ l.
+        owner.new.loans ≡ with_lent (loan_by l head.old.contents) owner.old.loans) }
     ensures lent { IfSome head.old.contents.own.lock (λ l. loan_for l owner.new.loans ≡ loan_by l head.old.contents) }
     ensures others { (k : ℕ) → head.old.contents.own.lock ≢ Some k → loan_for k owner.new.loans ≡ loan_for k owner.old.loans }
     ensures well_formed { IsWellFormed owner.new }
@@ -47,6 +49,8 @@ fn set_lent(head: &mut Turnstile, owner: &mut ThreadRec)
     ensures contents { head.new.contents ≡ with_loan_home false head.old.contents }
     ensures next { head.new.next ≡ head.old.next }
     ensures owner { owner.new ≡ with_loans owner.new.loans owner.old }
+    ensures loans { IfSome head.old.contents.own.lock (λ l.
+        owner.new.loans ≡ with_lent (loan_by l head.old.contents) owner.old.loans) }
     ensures lent { IfSome head.old.contents.own.lock (λ l. loan_for l owner.new.loans ≡ loan_by l head.old.contents) }
     ensures others { (k : ℕ) → head.old.contents.own.lock ≢ Some k → loan_for k owner.new.loans ≡ loan_for k owner.old.loans }
 {

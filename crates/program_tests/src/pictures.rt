@@ -3,7 +3,7 @@
 use crate::fixtures::{Case, FIRST, NEVER, REVERSED, bytes_of, ends, words_of};
 use chart_command::Form;
 use chart_layout::Chart;
-use chart_top::{Ended, Heading, Renderer, lockchart, lockchart_by};
+use chart_top::{Drawn, Heading, Renderer, lockchart, lockchart_by};
 use complaints::Status;
 use complaints::Status::{BadScript, Done, ReadFault, TooBig, Usage, WriteFault};
 use lock_io::{MemSink, MemSource};
@@ -183,7 +183,7 @@ fn call(
     bytes: Vec<u8>,
     source_fails: u32,
     sink_fails: u32,
-) -> Result<(Ended, MemSink), Fail> {
+) -> Result<(Drawn, MemSink), Fail> {
     let words = words_of(alloc, line)?;
     let (mut source, mut sink) = ends(alloc, bytes, source_fails, sink_fails)?;
     let ended = lockchart_by(&Spelled, alloc, &words, &mut source, &mut sink);
@@ -197,6 +197,8 @@ const WRITTEN: &[(&str, &str, &str, &str)] = &[
     ("--form svg", TITLED, "<svg ", "</svg>\n"),
     ("--form html", TITLED, "<!doctype html>\n", "</html>\n"),
     ("--form trace", TITLED, "{", "]}\n"),
+    ("--form text", TITLED, "# A bus\n# turn ", " end\n"),
+    ("--form json", TITLED, "{\"first\":0,", "]}\n"),
     ("", STUCK, "<svg ", "</svg>\n"),
     ("", REVERSED, "<svg ", "</svg>\n"),
     ("--turns 1", FIRST, "<svg ", "</svg>\n"),

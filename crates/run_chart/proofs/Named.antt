@@ -1,6 +1,6 @@
 -- Who is named by what threads' rows say: who holds a lock, and who was taken off a queue.
 use Rattle.std.proofs.Common.{◌≡◌, ℕ, ◌+◌, ◌<◌, ◌≤◌, Bool, true, false, not, ◌&&◌, List, [], ◌∷◌, ◌++◌, length, flat_map, get_or, take, Option, Some, None, refl, sym, ap, subst, inl, inr, arith, ◌∙◌}
-use Rattle.std.specs.Prelude.{slice_get, All, AllPairs, Contains}
+use Rattle.std.specs.Prelude.{◌≢◌, slice_get, All, AllPairs, Contains, IfNone, IfSome}
 use Rattle.std.specs.List.{enumerate_from}
 use Rattle.std.proofs.lemmas.Bool.{and_parts, cases_Bool, cases_lt}
 use Rattle.std.proofs.lemmas.List.Elements.{All-cons, All-nil, All-weaker, Contains-push}
@@ -10,13 +10,15 @@ use Rattle.lock_laws.proofs.Kit.{is_queue_same, is_queue_true}
 use Rattle.lock_laws.proofs.Standing.{standing_thread}
 use Rattle.run_laws.proofs.Turning.{behind_course}
 use Rattle.lock_model.specs.Holds.{Hold, Holds, NotHeld}
-use Rattle.lock_model.specs.Plans.{config_of}
+use Rattle.lock_model.specs.Plans.{config_of, lock_class}
 use Rattle.lock_model.specs.Queues.{stands}
+use Rattle.lock_model.specs.declared.numbers.ClassNo.{ClassNo}
+use Rattle.lock_model.specs.declared.numbers.LockNo.{LockNo}
 use Rattle.lock_model.specs.declared.numbers.ThreadNo.{ThreadNo}
 use Rattle.lock_model.specs.declared.plan.Plan.{Plan}
 use Rattle.lock_model.specs.declared.plan.QueueName.{QueueName}
 use Rattle.run_chart.specs.Arrows.{holds_in}
-use Rattle.run_chart.specs.Charts.{AreThose, HasLock, LacksLock, WasTakenOff}
+use Rattle.run_chart.specs.Charts.{AreThose, HasLock, IsHeldOf, LacksLock, WasTakenOff}
 use Rattle.run_chart.specs.Runs.{IsRunOf}
 use Rattle.run_chart.specs.Sentences.{is_on, leaves, one_if, stands_in, those}
 use Rattle.run_chart.proofs.Blocked.{holder, holds_it}
@@ -105,6 +107,14 @@ module _ (plan : Plan) (rows : Rows) (h : IsRunOf plan rows) (n : ℕ) (l : n �
       let it = holds_it plan rows h n l k t has.mode has.held in
       let there = holder plan rows h m within k t thread at (more k (ap (holds_in n k) (same_Some thread it.0 (sym at ∙ it.1)) ∙ it.2)) in
       let both : Holds there.0 ≡ NotHeld = sym there.1 ∙ lacks in cc
+
+  -- a lock of the class that its rows say it holds
+  pub held_is : (t : ℕ) (thread : ThreadRows) → slice_get rows.threads t ≡ Some thread → (class : ClassNo) (held : Option LockNo)
+      → IfSome held (λ k. holds_in n k.0 thread ≡ true) → IfSome held (λ k. lock_class plan k.0 ≡ class.0)
+      → IfNone held ((k : ℕ) → holds_in n k thread ≡ true → lock_class plan k ≢ class.0) → IsHeldOf plan n t class held
+  held_is t thread at class None holds of_class none = λ k has.
+      let it = holds_it plan rows h n l k t has.mode has.held in none k (ap (holds_in n k) (same_Some thread it.0 (sym at ∙ it.1)) ∙ it.2)
+  held_is t thread at class (Some k) holds of_class none = (has_lock k.0 t thread at holds, of_class)
 
   pub holders_are : (k : ℕ) → AreThose (those (holds_in n k) rows.threads) (λ t. HasLock plan n t k)
   holders_are k = those_are (holds_in n k) rows.threads (λ t. HasLock plan n t k) (has_lock k) (λ t has. holds_it plan rows h n l k t has.mode has.held)

@@ -6,7 +6,7 @@ use Rattle.chart_layout.specs.declared.sentence.Saying.{Saying}
 use Rattle.chart_layout.specs.declared.sentence.Saying.TheVariants as said
 use Rattle.run_laws.proofs.Turning.{behind_course}
 use Rattle.lock_model.specs.declared.event.Event.{Event}
-use Rattle.lock_model.specs.declared.event.Event.TheVariants.{Sleeps, WokeAll, WokeOne}
+use Rattle.lock_model.specs.declared.event.Event.TheVariants.{Reversed, Sleeps, WokeAll, WokeOne}
 use Rattle.lock_model.specs.declared.numbers.ChanNo.{ChanNo}
 use Rattle.lock_model.specs.declared.numbers.ClassNo.{ClassNo}
 use Rattle.lock_model.specs.declared.numbers.LockNo.{LockNo}
@@ -28,7 +28,7 @@ use Rattle.lock_state.specs.State.{NoWalk}
 use Rattle.prio_lending.specs.declared.walk.Walk.{Walk}
 use Rattle.prio_lending.specs.declared.walk.Walk.TheVariants as walks
 use Rattle.run_chart.specs.Arrows.{behind_in, holds_in, hop_of, loan_in, lock_in, lock_named, Hop}
-use Rattle.run_chart.specs.Charts.{AreThose, Blocked, HasLock, HasNoted, HasSignalled, IsLending, IsRefused, IsSaid, IsSleeping, IsSorting, IsWaiting, Lent, Made, RanAs, WentBehind}
+use Rattle.run_chart.specs.Charts.{AreThose, Blocked, HasLock, HasNoted, HasSignalled, IsLending, IsSaid, IsSleeping, IsSorting, IsWaiting, Lent, Made, RanAs, WentBehind}
 use Rattle.run_chart.specs.Marks.{entry_in}
 use Rattle.run_chart.specs.Runs.{IsRunOf}
 use Rattle.run_chart.specs.Sentences.{those, MustBeTold, TellsTurn, WakesSleepers}
@@ -54,31 +54,31 @@ step_said (said.Claims l before prio) = Claim
 step_said (said.Frees l before prio takes_off) = OpenUp
 step_said (said.Sleeps c l) = Add
 step_said (said.Wakes c takes_off) = Wake
-step_said (said.Refused l held) = Note
+step_said (said.Refused l class held) = Note
 
 -- what is so of a thread's turn with the answer where something is said of it
 abbrev pub HasSaying : Plan → ℕ → ℕ → Turn → Type 0
 HasSaying plan n t Idle = ⊥
 HasSaying plan n t Ended = ⊥
 HasSaying plan n t (Did Enter) = (lock : ℕ) × Blocked plan n t lock
-HasSaying plan n t (Did Lend) = (to before prio : ℕ) × Lent plan n t to before prio
+HasSaying plan n t (Did Lend) = (to before prio : ℕ) × Lent plan n t to before prio × (before ≢ prio)
 HasSaying plan n t (Did Shift) = (other lock : ℕ) × IsSorting plan n t other lock
 HasSaying plan n t (Did Claim) = HoldsOnlyIn plan (n + 1) n t
 HasSaying plan n t (Did OpenUp) = HoldsOnlyIn plan n (n + 1) t
 HasSaying plan n t (Did Add) = (c : ChanNo) × (lock : LockNo) × IsSleeping plan n t c lock
 HasSaying plan n t (Did Wake) = (c : ChanNo) × (woken : ℕ) × HasSignalled plan n t c woken
-HasSaying plan n t (Did Note) = (l : LockNo) × (class : ClassNo) × IsRefused plan n t l class
+HasSaying plan n t (Did Note) = (l : LockNo) × (class : ClassNo) × HasNoted plan n t (Reversed l class)
 HasSaying plan n t (Did other) = ⊥
 
 has_saying : (plan : Plan) (n t : ℕ) (saying : Saying) → IsSaid plan n t saying → Made plan n t (step_said saying) × HasSaying plan n t (Did (step_said saying))
 has_saying plan n t (said.Waits l holders behind) h = (h.blocked.made, (l.0, h.blocked))
-has_saying plan n t (said.Lends to l before prio goes_on) h = (h.lent.made, (to.0, before.0, prio.0, h.lent))
+has_saying plan n t (said.Lends to l before prio goes_on) h = (h.lent.made, (to.0, before.0, prio.0, h.lent, h.changes))
 has_saying plan n t (said.Sorts other l) h = (h.made, (other.0, l.0, h))
 has_saying plan n t (said.Claims l before prio) h = (h.made, (l.0, h.has, h.lacked))
 has_saying plan n t (said.Frees l before prio takes_off) h = (h.made, (l.0, h.had, h.lacks))
 has_saying plan n t (said.Sleeps c l) h = (h.made, (c, l, h))
 has_saying plan n t (said.Wakes c takes_off) h = (h.made, (c, h.woken, h.noted))
-has_saying plan n t (said.Refused l held) h = (h.made, (l, held, h))
+has_saying plan n t (said.Refused l class held) h = (h.made, (l, class, h.noted))
 
 module _ (plan : Plan) (n who : ℕ) where
   pub tells : (saying : Saying) → IsSaid plan n who saying → TellsTurn plan n who (Some saying)
@@ -145,18 +145,30 @@ walk_back (walks.AtLock k) e = absurd cc
 walk_back (walks.AtThread t) e = absurd cc
 
 module _ (plan : Plan) (n who : ℕ) (made : Made plan n who Lend) where
-  pub lends_none : None ≡ loan_in plan n who → (to before prio : ℕ) × Lent plan n who to before prio → ⊥
-  lends_none none (to, before, prio, x) =
-      let some : ◌≡◌ {A = Option Hop} None (Some (to, x.lock, before, prio)) = none
-      ∙ loan_of_hops (run_in plan n) (run_in plan (n + 1)) ((run_in plan n).state.walk who) to x.lock before prio (record { walk = x.walk; owner = x.owner; ran_as = x.ran_as; runs_as = x.runs_as }) in cc
+  -- the hop that lent is the turn's
+  lent_hop : (to before prio : ℕ) (x : Lent plan n who to before prio) → loan_in plan n who ≡ Some (to, x.lock, before, prio)
+  lent_hop to before prio x =
+      loan_of_hops (run_in plan n) (run_in plan (n + 1)) ((run_in plan n).state.walk who) to x.lock before prio (record { walk = x.walk; owner = x.owner; ran_as = x.ran_as; runs_as = x.runs_as })
 
-  pub is_lending : (v : HopLoan) → Some (hop_of v) ≡ loan_in plan n who → (w : Walk)
+  pub lends_none : None ≡ loan_in plan n who → (to before prio : ℕ) × Lent plan n who to before prio × (before ≢ prio) → ⊥
+  lends_none none (to, before, prio, x, changes) =
+      let some : ◌≡◌ {A = Option Hop} None (Some (to, x.lock, before, prio)) = none ∙ lent_hop to before prio x in cc
+
+  -- a loan that changes nothing isn't told
+  pub lends_idly : (v : HopLoan) → Some (hop_of v) ≡ loan_in plan n who → v.before.0 ≡ v.prio.0
+      → (to before prio : ℕ) × Lent plan n who to before prio × (before ≢ prio) → ⊥
+  lends_idly v is same (to, before, prio, x, changes) =
+      let hop : hop_of v ≡ (to, x.lock, before, prio) = same_Some (hop_of v) (to, x.lock, before, prio) (is ∙ lent_hop to before prio x) in
+      changes (sym (ap (λ (k : Hop). k.2) hop) ∙ same ∙ ap (λ (k : Hop). k.3) hop)
+
+  pub is_lending : (v : HopLoan) → Some (hop_of v) ≡ loan_in plan n who → v.before.0 ≢ v.prio.0 → (w : Walk)
       → walk_of w ≡ (run_in plan (n + 1)).state.walk who → (goes_on : Bool) → ((goes_on ≡ true) ↔ (w ≢ walks.None))
       → IsLending plan n who v.to.0 v.lock.0 v.before.0 v.prio.0 goes_on
-  is_lending v is w walk goes_on told =
+  is_lending v is changes w walk goes_on told =
       let hop = hops (run_in plan n) (run_in plan (n + 1)) ((run_in plan n).state.walk who) v.to.0 v.lock.0 v.before.0 v.prio.0 (sym is) in
       record {
         lent = record { made = made; lock = v.lock.0; walk = hop.walk; owner = hop.owner; ran_as = hop.ran_as; runs_as = hop.runs_as };
+        changes = changes;
         walk = hop.walk;
         walks_on = (λ e none. told.0 e (walk_back w (walk ∙ none)), λ on. told.1 (λ e. on (sym walk ∙ ap walk_of e)));
       }

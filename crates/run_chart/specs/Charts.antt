@@ -18,6 +18,7 @@ use Rattle.chart_layout.specs.declared.sentence.Saying.{Saying}
 use Rattle.chart_layout.specs.declared.sentence.Saying.TheVariants as said
 use Rattle.chart_layout.specs.declared.sentence.Sentence.{Sentence}
 use Rattle.lock_model.specs.Holds.{Holds, NotHeld}
+use Rattle.lock_model.specs.Plans.{lock_class}
 use Rattle.lock_model.specs.Queues.{Lists, Waiter, BySignal, lock_queue, stands}
 use Rattle.lock_model.specs.Text as text
 use Rattle.lock_model.specs.Words.{owner_of}
@@ -208,9 +209,10 @@ pub record IsWaiting (plan : Plan) (n t lock : ℕ) (holders : List ThreadNo)
   pub held_by : AreThose holders (λ h. HasLock plan n h lock)
   pub went_behind : (w : ThreadNo) → (behind ≡ Some w) ↔ WentBehind plan n t w.0
 
--- the turn's walk lent to the owner of the lock, and goes on or is over
+-- the turn's walk lent to the owner of the lock, which runs by another priority now, and goes on or is over
 pub record IsLending (plan : Plan) (n t to lock before prio : ℕ) (goes_on : Bool) : Type 0 where
   pub lent : Lent plan n t to before prio
+  pub changes : before ≢ prio
   pub walk : (run_in plan n).state.walk t ≡ AtLock lock
   pub walks_on : (goes_on ≡ true) ↔ ((run_in plan (n + 1)).state.walk t ≢ NoWalk)
 
@@ -256,10 +258,17 @@ pub record IsWaking (plan : Plan) (n t : ℕ) (c : ChanNo) (takes_off : List Thr
   pub noted : HasSignalled plan n t c woken
   pub taken : AreThose takes_off (WasTakenOff plan n (queue.Chan c))
 
+-- this is a lock of the class that the thread holds in the row; it holds none where there is none
+abbrev pub IsHeldOf : Plan → ℕ → ℕ → ClassNo → Option LockNo → Type 0
+IsHeldOf plan n t class None = (l : ℕ) → HasLock plan n t l → lock_class plan l ≢ class.0
+IsHeldOf plan n t class (Some l) = HasLock plan n t l.0 × (lock_class plan l.0 ≡ class.0)
+
 -- the turn noted that the thread may not take the lock, by the class of one that it holds
-pub record IsRefused (plan : Plan) (n t : ℕ) (l : LockNo) (class : ClassNo) : Type 0 where
+pub record IsRefused (plan : Plan) (n t : ℕ) (l : LockNo) (class : ClassNo)
+    (held : Option LockNo) : Type 0 where
   pub made : Made plan n t step.Note
   pub noted : HasNoted plan n t (Reversed l class)
+  pub of_class : IsHeldOf plan n t class held
 
 -- what a sentence says of a thread's turn is so
 abbrev pub IsSaid : Plan → ℕ → ℕ → Saying → Type 0
@@ -272,7 +281,7 @@ IsSaid plan n t (said.Frees l before prio takes_off) =
     IsFreeing plan n t l.0 before.0 prio.0 takes_off
 IsSaid plan n t (said.Sleeps c l) = IsSleeping plan n t c l
 IsSaid plan n t (said.Wakes c takes_off) = IsWaking plan n t c takes_off
-IsSaid plan n t (said.Refused l held) = IsRefused plan n t l held
+IsSaid plan n t (said.Refused l class held) = IsRefused plan n t l class held
 
 -- the sentence is that of the turn
 abbrev pub IsOfTurn : ℕ → Sentence → Type 0

@@ -1,5 +1,6 @@
 //! The sentence of a turn that changes who waits or who has lent.
 ghost use Rattle.std.specs.Prelude.{◌≡◌, ◌≢◌, ◌≤◌, ◌<◌, ◌++◌, ℕ, true, false, length, option_map, slice_get, Some, IfNone, IfOk, IfSome, OnOk};
+ghost use Rattle.lock_model.specs.Plans.{lock_class};
 ghost use Rattle.lock_model.specs.declared.event.Event.TheVariants.{Reversed, Sleeps};
 ghost use Rattle.lock_model.specs.declared.numbers.ChanNo.{ChanNo};
 ghost use Rattle.lock_model.specs.declared.numbers.ClassNo.{ClassNo};
@@ -7,7 +8,7 @@ ghost use Rattle.lock_model.specs.declared.numbers.LockNo.{LockNo};
 ghost use Rattle.lock_model.specs.declared.plan.Plan as plans;
 ghost use Rattle.lock_model.specs.declared.turn.StepKind.TheVariants as step;
 ghost use Rattle.run_chart.specs.Arrows.{holds_in};
-ghost use Rattle.run_chart.specs.Charts.{Made};
+ghost use Rattle.run_chart.specs.Charts.{IsHeldOf, Made};
 ghost use Rattle.run_chart.specs.Runs.{IsRunOf};
 ghost use Rattle.run_chart.specs.Sentences.{leaves, one_if, sentences_of, stands_in, those, HasSentences, TellsTurn, WakesSleepers};
 
@@ -83,7 +84,7 @@ fn saying(
         StepKind::OpenUp => frees(alloc, rows, turn, row.who),
         StepKind::Add => Ok(sleeps(plan, rows, turn, row)),
         StepKind::Wake => wakes(alloc, rows, turn, row),
-        StepKind::Note => Ok(refused(rows, turn, row)),
+        StepKind::Note => Ok(refused(plan, rows, turn, row)),
         StepKind::Gain | StepKind::Drop | StepKind::Mark | StepKind::Resume | StepKind::WalkEnd => {
             Ok(None)
         }
@@ -141,6 +142,9 @@ fn lends(rows: &Rows, turn: u32, who: ThreadNo) -> Option<Saying>
         → Made plan turn who.0 step.Lend → TellsTurn plan turn who.0 result }
 {
     let loan = loan_of(rows, turn, who)?;
+    if loan.before == loan.prio {
+        return None;
+    }
     let walk = thread_rows(rows, who)?.walk.at(turn + 1);
     Some(Saying::Lends {
         to: loan.to,
@@ -303,14 +307,46 @@ fn chan_woken(event: Option<Event>) -> Option<ChanNo>
     event?.woken_chan()
 }
 
-fn refused(rows: &Rows, turn: u32, row: TurnRow) -> Option<Saying>
-    requires { slice_get rows.now.turns turn ≡ Some row }
-    ensures { (plan : plans.Plan) → IsRunOf plan rows.now
-        → Made plan turn row.who.0 step.Note → TellsTurn plan turn row.who.0 result }
+fn refused(plan: &Plan, rows: &Rows, turn: u32, row: TurnRow) -> Option<Saying>
+    requires run { IsRunOf plan.now rows.now }
+    requires turn { slice_get rows.now.turns turn ≡ Some row }
+    ensures { Made plan.now turn row.who.0 step.Note → TellsTurn plan.now turn row.who.0 result }
 {
     let event = event_of(rows, turn, row)?;
     let (lock, held) = refusal_in(event)?;
-    Some(Saying::Refused { lock, held })
+    Some(Saying::Refused {
+        lock,
+        held,
+        holds: held_of(plan, rows, turn, row.who, held),
+    })
+}
+
+// A lock of the class that the thread holds in a row, if it holds one.
+fn held_of(plan: &Plan, rows: &Rows, row: u32, t: ThreadNo, class: ClassNo) -> Option<LockNo>
+    requires run { IsRunOf plan.now rows.now }
+    requires row { row ≤ length rows.now.turns }
+    requires thread { t.0 < length rows.now.threads }
+    ensures { IsHeldOf plan.now row t.0 class result }
+{
+    let thread = thread_rows(rows, t)?;
+    first_of_class(plan, thread, row, class)
+}
+
+// The first lock of the class that a thread holds in a row.
+fn first_of_class(plan: &Plan, thread: &ThreadRows, row: u32, class: ClassNo) -> Option<LockNo>
+    requires { length thread.now.held ≤ 256 }
+    ensures held { IfSome result (λ lock. holds_in row lock.0 thread.now ≡ true) }
+    ensures of_class { IfSome result (λ lock. lock_class plan.now lock.0 ≡ class.0) }
+    ensures none { IfNone result ((l : ℕ) → holds_in row l thread.now ≡ true
+        → lock_class plan.now l ≢ class.0) }
+{
+    for l in 0..thread.held.as_slice().len() {
+        let lock = LockNo(l as u8);
+        if holds(thread, lock, row) && plan.lock_class(lock) == class {
+            return Some(lock);
+        }
+    }
+    None
 }
 
 // The lock that an event says was refused, and the class of the held one that forbids it.

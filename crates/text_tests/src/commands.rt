@@ -186,6 +186,8 @@ const PICTURES: &[(&str, Said)] = &[
     ("--form svg", (ALL, 16, 0, ALL, None, SVG)),
     ("--form html", (ALL, 16, 0, ALL, None, HTML)),
     ("--form=trace", (ALL, 16, 0, ALL, None, TRACE)),
+    ("--form text", (ALL, 16, 0, ALL, None, Form::Text)),
+    ("--form json", (ALL, 16, 0, ALL, None, Form::Json)),
     (
         "--form html --title t --to 9 --from 2 --chains 4 --turns 10",
         (10, 4, 2, 9, Some("t"), HTML),
@@ -270,7 +272,7 @@ const HELPS: &[&str] = &[
 const HELP: &str = "\
 Draws the scheduled run of a script of threads and blocking locks.
 
-Usage: lockchart [--turns N] [--chains N] [--from A] [--to B] [--title TEXT] [--form svg|html|trace] < SCRIPT
+Usage: lockchart [--turns N] [--chains N] [--from A] [--to B] [--title TEXT] [--form svg|html|trace|text|json] < SCRIPT
 
 Options:
       --turns <N>     The run has at most N turns, from 1 to 1000000
@@ -278,7 +280,7 @@ Options:
       --from <A>      The first state that is drawn is the one behind A turns
       --to <B>        The last state that is drawn is the one behind B turns
       --title <TEXT>  The title, in place of the script's first comment
-      --form <FORM>   What the picture is written as [possible values: svg, html, trace]
+      --form <FORM>   What the picture is written as [possible values: svg, html, trace, text, json]
   -h, --help          Print help
 ";
 

@@ -19,4 +19,4 @@ returns-in-Some-clause-queues c k s t h by_try lawful g shows rec = claim_queues
 
 pub returns-in-Some-clause-its_record : goal.returns-in-Some-clause-its_record
 returns-in-Some-clause-its_record c k s t h by_try lawful g shows rec =
-    claim_record k s t c.args.l.0 h by_try lawful g shows rec (returns-in-Some-clause-record c) c.put_lent.ensures.well_formed (returns-in-Some-clause-lent c) (returns-in-Some-clause-others c)
+    claim_record k s t c.args.l.0 h by_try lawful g shows rec (returns-in-Some-clause-record c)

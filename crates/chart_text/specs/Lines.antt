@@ -1,0 +1,168 @@
+-- A chart as lines of text, one for each turn. Lines that begin with `#` are of no turn: the title, the heads of the
+-- columns, and how the run ended.
+use Rattle.std.specs.Prelude.{ℕ, ◌-◌, ◌==◌, nat_lt, ◌||◌, if◌then◌else◌, max, List, [], ◌∷◌, ◌++◌, length, map, flat_map, fold, nat_eq, replicate, slice_get, codes, decimal, Option, Some, None, option_map, unwrap_or}
+use Rattle.std.specs.List.{range_with_len}
+use Rattle.std.specs.Global.{Vec}
+use Rattle.std.specs.HashMap.{HashMap, get}
+use Rattle.std.specs.declared.hash.BuildHasherDefault.{BuildHasherDefault}
+use Rattle.std.specs.declared.hash.FoldHasher.{FoldHasher}
+use Rattle.lock_model.specs.Text.{thread_name}
+use Rattle.lock_model.specs.declared.event.Entry.{Entry}
+use Rattle.lock_model.specs.declared.numbers.Prio.{Prio}
+use Rattle.lock_model.specs.declared.numbers.ThreadNo.{ThreadNo}
+use Rattle.lock_model.specs.declared.plan.Plan.{Plan}
+use Rattle.lock_model.specs.declared.plan.ThreadDecl.{ThreadDecl}
+use Rattle.lock_model.specs.declared.turn.Turn.{Turn}
+use Rattle.lock_model.specs.declared.turn.Turn.TheVariants.{Did, Idle, Ended}
+use Rattle.chart_layout.specs.declared.layout.Arrow.{Arrow}
+use Rattle.chart_layout.specs.declared.layout.ArrowKind.{ArrowKind}
+use Rattle.chart_layout.specs.declared.layout.ArrowKind.TheVariants.{Lends, Wakes, BlockedOn, Behind}
+use Rattle.chart_layout.specs.declared.layout.Chart.{Chart}
+use Rattle.chart_layout.specs.declared.layout.MarkKind.TheVariants as mark
+use Rattle.chart_layout.specs.declared.sentence.End.{End}
+use Rattle.chart_layout.specs.declared.sentence.Sentence.{Sentence}
+use Rattle.chart_words.specs.Sentences.{end_words, saying_words}
+use Rattle.chart_words.specs.Words.{mark_words, note_words}
+use Rattle.run_tracks.specs.declared.rows.Rows.{Rows}
+use Rattle.run_tracks.specs.declared.rows.TurnRow.{TurnRow}
+
+-- 1. Columns
+
+-- so many spaces
+abbrev pub spaces : ℕ → List ℕ
+spaces n = replicate n 32
+
+-- a word at the right of a column so wide, and at the left of one
+abbrev pub at_right : ℕ → List ℕ → List ℕ
+at_right width word = spaces (width - length word) ++ word
+
+abbrev pub at_left : ℕ → List ℕ → List ℕ
+at_left width word = word ++ spaces (width - length word)
+
+-- the column of names is as wide as the longest name of a thread, and not narrower than its head
+abbrev pub wider : ℕ → ThreadDecl → ℕ
+wider width thread = max width (length thread.name)
+
+abbrev pub name_width : List ThreadDecl → ℕ
+name_width threads = fold wider 6 threads
+
+-- 2. What a turn did, and its entry
+
+-- how many entries the history has in a row, behind so many turns
+abbrev pub entries_in : Rows → ℕ → ℕ
+entries_in rows n =
+    if n == 0 then 0
+    else unwrap_or (option_map (λ turn. turn.entries) (slice_get rows.turns (n - 1))) 0
+
+-- the entry of the n-th turn, if it made one
+abbrev pub entry_of : Rows → ℕ → TurnRow → Option Entry
+entry_of rows n turn =
+    if nat_lt (entries_in rows n) turn.entries
+    then slice_get rows.outcome.history (entries_in rows n) else None
+
+-- the number of an entry, as it is printed before it, or a dash
+abbrev pub ticket_word : Option Entry → List ℕ
+ticket_word None = codes "-"
+ticket_word (Some entry) = decimal entry.ticket
+
+-- what a turn did: what a picture says at the mark of its entry, with all that this tells, or of its step
+abbrev pub did_words : Plan → Turn → Option Entry → List ℕ
+did_words plan Ended entry = codes "has ended"
+did_words plan Idle entry = codes "idle"
+did_words plan (Did kind) None = mark_words plan (mark.Did kind)
+did_words plan (Did kind) (Some entry) =
+    mark_words plan (mark.Noted entry.event) ++ note_words plan entry.event
+
+-- 3. What is said of a turn
+
+-- of the n-th turn by a sentence: that, without the name of the thread
+abbrev pub said_by : Plan → ℕ → Sentence → List ℕ
+said_by plan n s = if s.turn == n then 58 ∷ saying_words plan s.saying else []
+
+-- of a loan that changed nothing: to whom; of another the sentence of its turn tells
+abbrev pub idle_words : Plan → Prio → ThreadNo → List ℕ
+idle_words plan prio to =
+    codes ": lends to " ++ thread_name plan to.0 ++ codes ", which runs as " ++ decimal prio.0
+    ++ codes " already"
+
+abbrev pub idle_loan : Plan → Prio → Prio → ThreadNo → List ℕ
+idle_loan plan before prio to = if before.0 == prio.0 then idle_words plan prio to else []
+
+-- by an arrow: such a loan, and whom a turn woke; on whom a thread blocked the sentence of its turn tells
+abbrev pub told_words : Plan → ArrowKind → ThreadNo → List ℕ
+told_words plan (Lends before prio) to = idle_loan plan before prio to
+told_words plan Wakes to = codes ": wakes " ++ thread_name plan to.0
+told_words plan BlockedOn to = []
+told_words plan Behind to = []
+
+abbrev pub told_by : Plan → ℕ → Arrow → List ℕ
+told_by plan n arrow = if arrow.turn == n then told_words plan arrow.kind arrow.to else []
+
+-- what is said of turns, each under its number
+abbrev pub Said : Type 0
+Said = HashMap ℕ (Vec ℕ) (BuildHasherDefault FoldHasher)
+
+abbrev pub words_in : Option (Vec ℕ) → List ℕ
+words_in None = []
+words_in (Some words) = words.items
+
+-- what is said of the n-th turn there, and nothing where its number doesn't stand there
+abbrev pub words_at : Said → ℕ → List ℕ
+words_at said n = words_in (get nat_eq said n)
+
+-- all that a chart says of the n-th turn
+abbrev pub said_of : Plan → Chart → ℕ → List ℕ
+said_of plan chart n =
+    flat_map (said_by plan n) chart.sentences ++ flat_map (told_by plan n) chart.arrows
+
+-- 4. Lines
+
+-- the columns of a turn: its number, that of its entry, and its thread
+abbrev pub columns_of : Plan → ℕ → ℕ → ThreadNo → Option Entry → List ℕ
+columns_of plan width n who entry =
+    at_right 6 (decimal n) ++ 32 ∷ at_right 5 (ticket_word entry)
+    ++ 32 ∷ at_left width (thread_name plan who.0) ++ 32 ∷ []
+
+-- its line: these, what it did, and what is said of it
+abbrev pub turn_line : Plan → ℕ → ℕ → TurnRow → Option Entry → List ℕ → List ℕ
+turn_line plan width n turn entry said =
+    columns_of plan width n turn.who entry ++ did_words plan turn.answer entry ++ said ++ 10 ∷ []
+
+-- that of the n-th turn of a run, if it has one
+abbrev pub line_of : Plan → ℕ → Rows → ℕ → Option TurnRow → List ℕ → List ℕ
+line_of plan width rows n None said = []
+line_of plan width rows n (Some turn) said =
+    turn_line plan width n turn (entry_of rows n turn) said
+
+abbrev pub line_in : Plan → ℕ → Rows → Chart → ℕ → List ℕ
+line_in plan width rows chart n =
+    line_of plan width rows n (slice_get rows.turns n) (said_of plan chart n)
+
+-- those of so many turns from one on
+abbrev pub lines_from : Plan → ℕ → Rows → Chart → ℕ → ℕ → List ℕ
+lines_from plan width rows chart n turns =
+    flat_map (line_in plan width rows chart) (range_with_len n turns)
+
+-- a byte of a title: a space in place of one that moves a terminal's cursor
+abbrev pub shown_byte : ℕ → ℕ
+shown_byte b = if nat_lt b 32 || b == 127 then 32 else b
+
+-- the title, and the heads of the columns
+abbrev pub head_lines : ℕ → List ℕ → List ℕ
+head_lines width title =
+    codes "# " ++ map shown_byte title ++ codes "\n# turn entry "
+    ++ at_left width (codes "thread") ++ codes " what the turn did\n"
+
+-- how the whole run ended
+abbrev pub end_line : Plan → End → List ℕ
+end_line plan end = codes "# " ++ end_words plan end ++ codes "\n"
+
+-- the text under a title, with a column of names so wide: the turns between the rows of the chart's window
+abbrev pub text_in : Plan → ℕ → Rows → Chart → List ℕ → List ℕ
+text_in plan width rows chart title =
+    head_lines width title ++ lines_from plan width rows chart chart.first (chart.last - chart.first)
+    ++ end_line plan chart.end
+
+-- the text of a chart and of its rows
+abbrev pub text_bytes : Plan → Rows → Chart → List ℕ → List ℕ
+text_bytes plan rows chart title = text_in plan (name_width plan.threads) rows chart title
