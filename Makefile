@@ -60,12 +60,16 @@ proved: lockrun
 	@tools/programs step
 
 # Runs each example by its proved program, and stops at the first whose status, text or sentence isn't as written. Under
-# run a file that begins with a thread line leaves out the history, whose order is open: the text is to end so.
+# run a file that begins with a thread line leaves out the history, whose order is open: the text is to end so. A table
+# is many sources, each with what is said of it.
 examples:
 	@lockrun=$${LOCKRUN:-$$(tools/programs find lockrun)} && [ -n "$$lockrun" ] || exit 1; \
 	lockplan=$${LOCKPLAN:-$$(tools/programs find lockplan)} && [ -n "$$lockplan" ] || exit 1; \
 	lockchart=$${LOCKCHART:-$$(tools/programs find lockchart)} && [ -n "$$lockchart" ] || exit 1; \
 	out=$$(mktemp -d) && trap 'rm -rf "$$out"' EXIT && while read -r name words; do \
+	  case "$$name" in *.table) \
+	    tools/try_table "$$lockrun" "$$lockplan" "examples/$$name" | tee -a "$$out/all"; \
+	    head -n "$$(wc -l < "$$out/all")" crates/example_rows/stdout | diff - "$$out/all" || exit 1; continue ;; esac; \
 	  case "$$words" in \
 	    'lockplan '*) call="$$lockplan $${words#* }" ;; 'lockchart '*) call="$$lockchart $${words#* }" ;; \
 	    *) call="$$lockrun $$words" ;; esac; \

@@ -3,8 +3,9 @@
 -- Six options may stand there in any order, each at most once, with the text as the next word or behind a `=`. A text
 -- that is the next word doesn't begin with a hyphen, or is a hyphen alone. The word `--` may stand last. Words ask
 -- for help by `--help`, or a word that begins with `-h`, where those before are a form so far. How words are read by
--- a table of options is said in `option_words`.
-use Rattle.std.specs.Prelude.{◌∷◌, ℕ, true, List, [], Option, Some, None, codes, nat_le, option_and_then, if◌then◌else◌, unwrap_or}
+-- a table of options is said in `option_words`. The one word `--version` asks for the version, which is a text like the
+-- help.
+use Rattle.std.specs.Prelude.{◌∷◌, ℕ, Bool, true, false, List, [], Option, Some, None, codes, nat_le, option_and_then, if◌then◌else◌, unwrap_or}
 use Rattle.std.specs.Str.{bytes_eq}
 use Rattle.lock_model.specs.declared.limits.TheConstants.{CHAINS, DEFAULT_CHAINS, TURNS}
 use Rattle.option_words.specs.Forms.{Meaning, Table, Text, Texts, Gives, WantsHelp, any_text, meaning_of, number, number_or, one_of, option}
@@ -66,6 +67,16 @@ abbrev pub asking_in : Meaning → Option Asking
 asking_in (Gives given) = in_order (wanted_by given)
 asking_in WantsHelp = Some AsksForHelp
 
+-- what the options ask for
+abbrev pub asked_by_options : List Text → Option Asking
+asked_by_options words = option_and_then asking_in (meaning_of table words)
+
+-- the one word is `--version`
+abbrev pub asks_version : List Text → Bool
+asks_version [] = false
+asks_version (word ∷ []) = bytes_eq word (codes "--version")
+asks_version (word ∷ next ∷ words) = false
+
 -- what the words of a command line ask for, where they are a form
 abbrev pub asking_of : List Text → Option Asking
-asking_of words = option_and_then asking_in (meaning_of table words)
+asking_of words = if asks_version words then Some AsksForHelp else asked_by_options words

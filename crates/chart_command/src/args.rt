@@ -7,7 +7,7 @@ ghost use Rattle.chart_command.specs.Forms.{form_of};
 pub enum Asked<'a> {
     /// A picture.
     Picture(LockchartArgs<'a>),
-    /// The help, which is this text.
+    /// The help or the version, which is this text.
     Help(String),
 }
 

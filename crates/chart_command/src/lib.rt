@@ -9,5 +9,5 @@ mod args;
 mod reading;
 
 pub use args::{Asked, Form, LockchartArgs};
-pub use option_words::WordsError;
-pub use reading::{FORM, read_words};
+pub use option_words::{WordsError, no_text};
+pub use reading::{FORM, HELP, VERSION, mistake, read_words};

@@ -2,19 +2,33 @@
 ghost use Rattle.std.specs.Prelude.{◌≡◌, map, Err, IfOk, None, Some};
 ghost use Rattle.std.specs.String.{string_bytes};
 ghost use Rattle.option_words.specs.Words.{text_in};
-ghost use Rattle.chart_command.specs.Forms.{asking_of, wanted_by};
+ghost use Rattle.chart_command.specs.Forms.{asked_by_options, asking_of, asks_version, wanted_by};
 ghost use Rattle.chart_command.specs.Args.{CanBeDrawn, asking, wanted};
 
 use crate::args::{Asked, Form, LockchartArgs};
 use lock_model::limits::{CHAINS, DEFAULT_CHAINS, TURNS};
 use option_words::{GivenTexts, Help, LongOption, Request, Synopsis, ValueKind, WordsError, read};
-use std::alloc::Global;
+use std::alloc::{AllocError, Global};
 
 /// The form of the command line.
 pub const FORM: &str = "lockchart [--turns N] [--chains N] [--from A] [--to B] [--title TEXT] \
     [--form svg|html|trace|text|json] < SCRIPT";
 
-// What the words may be.
+/// What each word of the command line does.
+pub const HELP: &[&str] = &[
+    "--turns N        The run has at most N turns, from 1 to 1000000",
+    "--chains N       There are N chains of each sort of queue, from 1 to 64",
+    "--from A --to B  The first state that is drawn is the one behind A turns, the last the one behind B",
+    "--title TEXT     The title, in place of the script's first comment",
+    "--form FORM      What the picture is written as: svg, html, trace, text or json",
+    "--version        Print the version; no other word stands beside it",
+    "-h, --help       Print help",
+];
+
+/// The version, which is the date of the newest change in `CHANGELOG.md`.
+pub const VERSION: &str = "2026.11.29";
+
+// What the words may be, but for `--version`.
 const SYNOPSIS: Synopsis<'static> = Synopsis {
     program: "lockchart",
     operands: &[],
@@ -23,39 +37,34 @@ const SYNOPSIS: Synopsis<'static> = Synopsis {
             name: "turns",
             kind: ValueKind::Number(1, TURNS),
             value_name: "N",
-            help: "The run has at most N turns, from 1 to 1000000",
         },
         LongOption {
             name: "chains",
             kind: ValueKind::Number(1, CHAINS),
             value_name: "N",
-            help: "There are N chains of each sort of queue, from 1 to 64",
         },
         LongOption {
             name: "from",
             kind: ValueKind::Number(0, TURNS),
             value_name: "A",
-            help: "The first state that is drawn is the one behind A turns",
         },
         LongOption {
             name: "to",
             kind: ValueKind::Number(0, TURNS),
             value_name: "B",
-            help: "The last state that is drawn is the one behind B turns",
         },
         LongOption {
             name: "title",
             kind: ValueKind::AnyText,
             value_name: "TEXT",
-            help: "The title, in place of the script's first comment",
         },
         LongOption {
             name: "form",
             kind: ValueKind::OneOf(&["svg", "html", "trace", "text", "json"]),
             value_name: "FORM",
-            help: "What the picture is written as",
         },
     ],
+    lines: HELP,
     help: Some(Help {
         about: "Draws the scheduled run of a script of threads and blocking locks.",
         usage: FORM,
@@ -74,6 +83,20 @@ pub fn read_words<'a>(alloc: Global, words: &'a [String]) -> Result<Asked<'a>, W
     ensures ranges { IfOk result CanBeDrawn }
     ensures usage { result ≡ Err WordsError.Usage → asking_of (map string_bytes words.entry.now) ≡ None }
 {
+    if asks_version(words) {
+        return Ok(Asked::Help(format!(in alloc; "lockchart {VERSION}\n")?));
+    }
+    read_options(alloc, words)
+}
+
+// What the options ask for.
+fn read_options<'a>(alloc: Global, words: &'a [String]) -> Result<Asked<'a>, WordsError>
+    ensures asked { IfOk result (λ a.
+        asked_by_options (map string_bytes words.entry.now) ≡ Some (asking a)) }
+    ensures ranges { IfOk result CanBeDrawn }
+    ensures usage { result ≡ Err WordsError.Usage
+        → asked_by_options (map string_bytes words.entry.now) ≡ None }
+{
     match read(alloc, &SYNOPSIS, words)? {
         Request::Texts(given) => {
             let said = said_by(&given);
@@ -83,6 +106,37 @@ pub fn read_words<'a>(alloc: Global, words: &'a [String]) -> Result<Asked<'a>, W
             Ok(Asked::Picture(said))
         }
         Request::Help(text) => Ok(Asked::Help(text)),
+    }
+}
+
+// Whether the one word is `--version`.
+fn asks_version(words: &[String]) -> bool
+    ensures { result ≡ asks_version (map string_bytes words.now) }
+{
+    match words {
+        [word] => word.as_str() == "--version",
+        _ => false,
+    }
+}
+
+/// What is wrong with words that are no form, in a sentence.
+pub fn mistake(alloc: Global, words: &[String]) -> Result<Option<String>, AllocError> {
+    if let Some(said) = option_words::mistake(alloc, &SYNOPSIS, words)? {
+        // The table of options doesn't know that word.
+        if said.as_str() == "lockchart has no option `--version`" {
+            return Ok(Some(format!(in alloc; "`--version` stands alone")?));
+        }
+        return Ok(Some(said));
+    }
+    match read(alloc, &SYNOPSIS, words) {
+        Ok(Request::Texts(given)) => {
+            let LockchartArgs { from, to, .. } = said_by(&given);
+            let said = format!(in alloc;
+                "`--from` is {from} and `--to` is {to}: the first state is behind the last"
+            )?;
+            Ok(Some(said))
+        }
+        Ok(Request::Help(_)) | Err(_) => Ok(None),
     }
 }
 

@@ -8,5 +8,5 @@ mod args;
 mod reading;
 
 pub use args::{Command, LockrunArgs};
-pub use option_words::WordsError;
-pub use reading::read_words;
+pub use option_words::{WordsError, no_text};
+pub use reading::{HELP, mistake, read_words};

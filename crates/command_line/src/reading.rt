@@ -8,9 +8,20 @@ ghost use Rattle.command_line.specs.Ranges.{HasRanges};
 use crate::args::{Command, LockrunArgs};
 use lock_model::limits::{CHAINS, DEFAULT_CHAINS, TURNS};
 use option_words::{GivenTexts, LongOption, Request, Synopsis, ValueKind, WordsError, read};
-use std::alloc::Global;
+use std::alloc::{AllocError, Global};
 
-// What the words may be. There is no help.
+/// What each word of the command line does. Nothing asks for it: it is said where the words are no form.
+pub const HELP: &[&str] = &[
+    "check         reads the script, runs nothing, and prints how much of each thing it has",
+    "step          runs it turn by turn, the same way each time, and prints what happened",
+    "run           runs its threads beside each other: on mutexes alone so far",
+    "ticks         runs a script of ticks: timed sleeps, wake-ups and signals",
+    "profile       makes the run of `step`, and prints how often and how long each lock was held",
+    "--turns N     the run has N turns at most: from 1 to 1000000, which is what there is without it",
+    "--chains N    N chains of each sort of queue, from 1 to 64: 16 without it",
+];
+
+// What the words may be. There is no help that they could ask for.
 const SYNOPSIS: Synopsis<'static> = Synopsis {
     program: "lockrun",
     operands: &["check", "step", "run", "ticks", "profile"],
@@ -19,17 +30,21 @@ const SYNOPSIS: Synopsis<'static> = Synopsis {
             name: "chains",
             kind: ValueKind::Number(1, CHAINS),
             value_name: "N",
-            help: "There are N chains of each sort of queue, from 1 to 64",
         },
         LongOption {
             name: "turns",
             kind: ValueKind::Number(1, TURNS),
             value_name: "N",
-            help: "The run has at most N turns, from 1 to 1000000",
         },
     ],
+    lines: HELP,
     help: None,
 };
+
+/// What is wrong with words that are no form, in a sentence.
+pub fn mistake(alloc: Global, words: &[String]) -> Result<Option<String>, AllocError> {
+    option_words::mistake(alloc, &SYNOPSIS, words)
+}
 
 /// What the words of the command line say, without the program's name. `Usage` comes exactly where they are no form,
 /// and `Memory` only for want of memory.

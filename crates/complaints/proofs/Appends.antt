@@ -1,5 +1,5 @@
 -- What is pushed piece by piece.
-use Rattle.std.proofs.Common.{◌≡◌, ◌∙◌, ◌++◌, ap, List, [], ℕ, refl, sym, append-nil, append_assoc}
+use Rattle.std.proofs.Common.{◌≡◌, ◌∙◌, ◌++◌, ap, List, [], ℕ, sym, append-nil, append_assoc}
 
 -- a piece, and the rest behind it
 onto : (o x y a rest : List ℕ) → x ≡ o ++ a → y ≡ x ++ rest → y ≡ o ++ (a ++ rest)

@@ -1,3 +1,3 @@
 mod Items
 mod Appends
-mod Fronts
+pub mod Fronts

@@ -51,9 +51,13 @@ is_reversal line = is_same (word_at 2 line) (codes "reversed")
 
 -- 2. What is said
 
+-- where the written text isn't known, which of the two it is isn't either
+abbrev pub unknown_said : Text
+unknown_said = codes "the source is no script, or its threads can't run yet"
+
 -- of the line `line L code C`
 abbrev pub fault_by : Text → Option Text → Text
-fault_by line None = codes "the source is no script"
+fault_by line None = unknown_said
 fault_by line (Some sentence) = codes "line " ++ (word_at 1 line ++ (codes ": "
     ++ (sentence ++ (codes " (code " ++ (word_at 3 line ++ codes ")")))))
 

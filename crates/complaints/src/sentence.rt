@@ -111,7 +111,7 @@ fn push_fault(out: &mut Vec<u8>, text: &[u8]) -> Result<(), AllocError>
     }
     let code = word_at(line, 3);
     let Some(meaning) = meaning_by(code) else {
-        out.extend_from_slice(b"the source is no script")?;
+        out.extend_from_slice(b"the source is no script, or its threads can't run yet")?;
         return Ok(());
     };
     out.extend_from_slice(b"line ")?;

@@ -5,6 +5,7 @@ ghost use Rattle.option_words.specs.Forms.{meaning_of};
 ghost use Rattle.option_words.specs.Words.{AreTaken, meaning, table_of};
 
 use crate::given::{GivenTexts, Request, WordsError};
+use crate::help::help_text;
 use crate::rule::rule;
 use crate::synopsis::Synopsis;
 use clap::error::ErrorKind;
@@ -26,7 +27,7 @@ pub fn read<'a>(
     match rule(alloc, synopsis)?.try_get_matches_from(words) {
         Ok(matches) => Ok(Request::Texts(GivenTexts { matches })),
         Err(e) => match e.kind() {
-            ErrorKind::DisplayHelp => Ok(Request::Help(format!(in alloc; "{e}")?)),
+            ErrorKind::DisplayHelp => Ok(Request::Help(help_text(alloc, synopsis)?)),
             ErrorKind::OutOfMemory => Err(WordsError::Memory),
             _ => Err(WordsError::Usage),
         },

@@ -38,7 +38,7 @@ fn empty<'a>(alloc: Global, synopsis: &Synopsis<'a>) -> Command<'a>
 {
     let command = Command::new(alloc, synopsis.program).no_binary_name(true);
     match synopsis.help {
-        Some(help) => command.about(help.about).override_usage(help.usage),
+        Some(_) => command,
         None => command.disable_help_flag(true),
     }
 }
@@ -62,7 +62,6 @@ fn option<'a>(alloc: Global, long: &LongOption<'a>) -> Arg<'a>
     Arg::new(alloc, long.name)
         .long(long.name)
         .value_name(long.value_name)
-        .help(long.help)
         .value_parser(parser(long.kind))
 }
 

@@ -17,10 +17,8 @@ pub struct LongOption<'a> {
     /// The name, without its hyphens.
     pub name: &'a str,
     pub kind: ValueKind<'a>,
-    /// What help calls the text.
+    /// What the text is called.
     pub value_name: &'a str,
-    /// What help says of the option.
-    pub help: &'a str,
 }
 
 /// What stands above the options in the help of a program.
@@ -41,6 +39,8 @@ pub struct Synopsis<'a> {
     pub operands: &'a [&'a str],
     /// The options, each of which may stand once.
     pub options: &'a [LongOption<'a>],
+    /// What each word does that a user may write, a line each, as help has them.
+    pub lines: &'a [&'a str],
     /// Where this is `Some`, `--help` and `-h` ask for a help.
     pub help: Option<Help<'a>>,
 }

@@ -10,6 +10,6 @@ mod reading;
 mod spelling;
 mod words;
 
-pub use option_words::WordsError;
-pub use reading::{FORM, read_words};
+pub use option_words::{WordsError, no_text};
+pub use reading::{FORM, HELP, mistake, read_words};
 pub use words::Asked;

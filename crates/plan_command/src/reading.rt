@@ -8,12 +8,20 @@ ghost use Rattle.plan_command.specs.Words.{asking};
 use crate::spelling::spelled_out;
 use crate::words::Asked;
 use option_words::{GivenTexts, Help, LongOption, Request, Synopsis, ValueKind, WordsError, read};
-use std::alloc::Global;
+use std::alloc::{AllocError, Global};
 use turn_policy::Policy;
 
 /// The form of the command line.
 pub const FORM: &str = "lockplan --by priority [--without-loans] < SCRIPT, \
     or lockplan --by chance SEED < SCRIPT";
+
+/// What each word of the command line does, as it is written.
+pub const HELP: &[&str] = &[
+    "--by priority      The next turn is that of the most important thread that has something to do",
+    "--without-loans    Beside that: importance is asked by base priorities, as if nothing were lent",
+    "--by chance SEED   The next turn is drawn by chance, which begins with SEED, from 0 to 4294967295",
+    "-h, --help         Print help",
+];
 
 // What the words may be, once they are spelled out.
 const SYNOPSIS: Synopsis<'static> = Synopsis {
@@ -24,21 +32,19 @@ const SYNOPSIS: Synopsis<'static> = Synopsis {
             name: "by",
             kind: ValueKind::OneOf(&["priority", "chance"]),
             value_name: "POLICY",
-            help: "Who has the next turn: the most important, or one by chance",
         },
         LongOption {
             name: "seed",
             kind: ValueKind::Number(0, u32::MAX),
             value_name: "SEED",
-            help: "Said by --by chance SEED: where chance begins, from 0 to 4294967295",
         },
         LongOption {
             name: "without-loans",
             kind: ValueKind::OneOf(&["yes"]),
             value_name: "yes",
-            help: "By priority: look at base priorities, as if nothing were lent",
         },
     ],
+    lines: HELP,
     help: Some(Help {
         about: "Gives a script of threads and blocking locks a schedule that a policy made.",
         usage: FORM,
@@ -67,6 +73,44 @@ pub fn read_words(alloc: Global, words: &[String]) -> Result<Asked, WordsError>
             None => Err(WordsError::Usage),
         },
         Request::Help(text) => Ok(Asked::Help(text)),
+    }
+}
+
+/// What is wrong with words that are no form, in a sentence.
+pub fn mistake(alloc: Global, words: &[String]) -> Result<Option<String>, AllocError> {
+    let spelled = spelled_out(alloc, words)?;
+    spelled_mistake(alloc, &spelled)
+}
+
+// Of words that are spelled out.
+fn spelled_mistake(alloc: Global, words: &[String]) -> Result<Option<String>, AllocError> {
+    match option_words::mistake(alloc, &SYNOPSIS, words)? {
+        Some(said) => {
+            // A seed is written behind that.
+            let said = said.replace(alloc, "`--seed`", "`--by chance`")?;
+            Ok(Some(said))
+        }
+        None => no_policy(alloc, words),
+    }
+}
+
+// Of words that fit the table.
+fn no_policy(alloc: Global, words: &[String]) -> Result<Option<String>, AllocError> {
+    match read(alloc, &SYNOPSIS, words) {
+        Ok(Request::Texts(given)) => {
+            let said = String::from_str(alloc, misfit(&given))?;
+            Ok(Some(said))
+        }
+        Ok(Request::Help(_)) | Err(_) => Ok(None),
+    }
+}
+
+// Why texts that fit the table say no policy.
+fn misfit(given: &GivenTexts<'_>) -> &'static str {
+    match given.text("by") {
+        None => "`--by priority` or `--by chance SEED` is lacking",
+        Some("chance") => "`--without-loans` stands beside `--by priority` alone",
+        Some(_) => "a seed stands beside `--by chance` alone",
     }
 }
 

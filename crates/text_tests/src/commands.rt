@@ -254,7 +254,11 @@ const NO_PICTURES: &[&str] = &[
     "--help=svg",
     "-x",
     "-t 3",
-    "--version",
+    "--version 1",
+    "--version --version",
+    "--turns 3 --version",
+    "--version --help",
+    "--version=1",
     "-V",
 ];
 
@@ -274,14 +278,13 @@ Draws the scheduled run of a script of threads and blocking locks.
 
 Usage: lockchart [--turns N] [--chains N] [--from A] [--to B] [--title TEXT] [--form svg|html|trace|text|json] < SCRIPT
 
-Options:
-      --turns <N>     The run has at most N turns, from 1 to 1000000
-      --chains <N>    There are N chains of each sort of queue, from 1 to 64
-      --from <A>      The first state that is drawn is the one behind A turns
-      --to <B>        The last state that is drawn is the one behind B turns
-      --title <TEXT>  The title, in place of the script's first comment
-      --form <FORM>   What the picture is written as [possible values: svg, html, trace, text, json]
-  -h, --help          Print help
+  --turns N        The run has at most N turns, from 1 to 1000000
+  --chains N       There are N chains of each sort of queue, from 1 to 64
+  --from A --to B  The first state that is drawn is the one behind A turns, the last the one behind B
+  --title TEXT     The title, in place of the script's first comment
+  --form FORM      What the picture is written as: svg, html, trace, text or json
+  --version        Print the version; no other word stands beside it
+  -h, --help       Print help
 ";
 
 #[test]
@@ -315,6 +318,89 @@ fn words_of_lockchart(rt: HostRuntime) -> Result<(), Fail> {
             Ok(Asked::Picture(_)) | Err(_) => false,
         };
         assert!(rt; is_helped, "{line}");
+    }
+    let version = format!(in rt.alloc(); "lockchart {}\n", chart_command::VERSION)?;
+    let words = words_of(rt.alloc(), "--version")?;
+    let is_told = match chart_command::read_words(rt.alloc(), &words) {
+        Ok(Asked::Help(text)) => text == version,
+        Ok(Asked::Picture(_)) | Err(_) => false,
+    };
+    assert!(rt; is_told);
+    Ok(())
+}
+
+// Words that are no form, and what is said of them. First those of lockrun,
+const RUN_MISTAKES: &[(&str, &str)] = &[
+    ("", "one of check, step, run, ticks, profile is lacking"),
+    (
+        "--turns 5",
+        "one of check, step, run, ticks, profile is lacking",
+    ),
+    (
+        "stepp",
+        "`stepp` is none of check, step, run, ticks, profile",
+    ),
+    (
+        "step 1",
+        "`1` stands behind `step`, and one of them is enough",
+    ),
+    ("--help", "lockrun has no option `--help`"),
+    ("step --help", "lockrun has no option `--help`"),
+    ("-h", "lockrun has no option `-h`"),
+    ("--version", "lockrun has no option `--version`"),
+    ("step --turn=5", "lockrun has no option `--turn=5`"),
+    ("step --turns", "behind `--turns` its N is lacking"),
+    (
+        "step --turns --chains 3",
+        "behind `--turns` its N is lacking",
+    ),
+    (
+        "step --turns 0",
+        "`0` isn't a number from 1 to 1000000, behind `--turns`",
+    ),
+    (
+        "step --chains=x",
+        "`x` isn't a number from 1 to 64, behind `--chains`",
+    ),
+    ("step --turns 1 --turns 2", "`--turns` stands twice"),
+    (
+        "-- --turns step",
+        "`--turns` is none of check, step, run, ticks, profile",
+    ),
+];
+
+// and those of lockchart.
+const CHART_MISTAKES: &[(&str, &str)] = &[
+    ("step", "`step` belongs to no option of lockchart"),
+    (
+        "--form png",
+        "`png` is none of svg, html, trace, text, json, behind `--form`",
+    ),
+    (
+        "--title -x",
+        "`-x` begins with a hyphen; as the TEXT of `--title` it is written `--title=-x`",
+    ),
+    ("--title", "behind `--title` its TEXT is lacking"),
+    (
+        "--from 4 --to 3",
+        "`--from` is 4 and `--to` is 3: the first state is behind the last",
+    ),
+    ("--turns 3 --version", "`--version` stands alone"),
+    ("--version --help", "`--version` stands alone"),
+    ("-V", "lockchart has no option `-V`"),
+];
+
+#[test]
+fn mistakes(rt: HostRuntime) -> Result<(), Fail> {
+    for (line, mistake) in RUN_MISTAKES {
+        let said = command_line::mistake(rt.alloc(), &words_of(rt.alloc(), line)?)?;
+        let is_said = said.is_some_and(|said| said.as_str() == *mistake);
+        assert!(rt; is_said, "{line}");
+    }
+    for (line, mistake) in CHART_MISTAKES {
+        let said = chart_command::mistake(rt.alloc(), &words_of(rt.alloc(), line)?)?;
+        let is_said = said.is_some_and(|said| said.as_str() == *mistake);
+        assert!(rt; is_said, "{line}");
     }
     Ok(())
 }

@@ -59,24 +59,28 @@ const SAID: &[(Status, &str, &str)] = &[
     (
         Status::BadScript,
         "line 5 code 21\n",
-        "lockrun: the source is no script\n",
+        "lockrun: the source is no script, or its threads can't run yet\n",
     ),
     (
         Status::BadScript,
         "line 5 code 267\n",
-        "lockrun: the source is no script\n",
+        "lockrun: the source is no script, or its threads can't run yet\n",
     ),
     (
         Status::BadScript,
         "line 5 code x\n",
-        "lockrun: the source is no script\n",
+        "lockrun: the source is no script, or its threads can't run yet\n",
     ),
     (
         Status::BadScript,
         "line 5\n",
-        "lockrun: the source is no script\n",
+        "lockrun: the source is no script, or its threads can't run yet\n",
     ),
-    (Status::BadScript, "", "lockrun: the source is no script\n"),
+    (
+        Status::BadScript,
+        "",
+        "lockrun: the source is no script, or its threads can't run yet\n",
+    ),
     (
         Status::BadScript,
         "line 0 code 0\n",
@@ -86,7 +90,7 @@ const SAID: &[(Status, &str, &str)] = &[
     (
         Status::BadScript,
         "line 1 code 0\n",
-        "lockrun: the source is no script\n",
+        "lockrun: the source is no script, or its threads can't run yet\n",
     ),
     (
         Status::ReadFault,

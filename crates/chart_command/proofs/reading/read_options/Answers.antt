@@ -4,10 +4,10 @@ use Rattle.std.specs.String.{string_bytes}
 use Rattle.std.proofs.lemmas.Bool.{le-leb, lt-leb}
 use Rattle.option_words.specs.Forms.{Text, Gives, is_taken_by, meaning_of}
 use Rattle.option_words.specs.Words.{AreTaken, meaning, text_in}
-use Rattle.chart_command.specs.Forms.{AsksPicture, asking_in, asking_of, in_order, table}
+use Rattle.chart_command.specs.Forms.{AsksPicture, asking_in, in_order, table}
 use Rattle.chart_command.specs.Args.{wanted}
 use Rattle.chart_command.proofs.Read.{ranges}
-use Rattle.chart_command.proofs.reading.read_words.Goals as goal
+use Rattle.chart_command.proofs.reading.read_options.Goals as goal
 
 pub returns-then-said-clause-usage : goal.returns-then-said-clause-usage
 returns-then-said-clause-usage c = λ is.

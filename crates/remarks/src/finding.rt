@@ -1,0 +1,73 @@
+//! What was found at a fault: its cause in a sentence, the place of it in the line, and another line that the sentence
+//! speaks of.
+
+use crate::book::Book;
+use crate::places::{Span, place_of, word_at};
+use crate::verbs::{Role, Verb};
+use std::alloc::Global;
+
+/// The faulty line, and what the lines above it have made known.
+#[derive(Drop)]
+pub struct Fault<'a> {
+    pub alloc: Global,
+    pub source: &'a [u8],
+    pub number: u32,
+    pub bytes: &'a [u8],
+    /// The bytes as text, where they are text.
+    pub line: &'a str,
+    pub book: Book<'a>,
+    /// Its first word, where that is known.
+    pub verb: Option<Verb>,
+}
+
+impl<'a> Fault<'a> {
+    /// A word of the line, counted from 0.
+    pub fn word(&self, n: usize) -> &'a str {
+        word_at(self.line, n)
+    }
+
+    /// Where it stands.
+    pub fn place(&self, n: usize) -> Span {
+        place_of(self.line, n)
+    }
+
+    /// What the line does, where its first word is known.
+    pub fn role(&self) -> Option<Role> {
+        let verb = self.verb?;
+        Some(verb.role)
+    }
+
+    /// The name of the open thread.
+    pub fn thread(&self) -> &'a str {
+        match self.book.open {
+            Some(thread) => thread.name,
+            None => "",
+        }
+    }
+}
+
+/// The cause of a fault.
+#[derive(Drop)]
+pub struct Finding {
+    pub sentence: String,
+    pub place: Span,
+    pub other: Option<u32>,
+}
+
+/// A cause that no other line has to do with.
+pub fn alone(sentence: String, place: Span) -> Option<Finding> {
+    Some(Finding {
+        sentence,
+        place,
+        other: None,
+    })
+}
+
+/// A cause, and the line that it speaks of.
+pub fn with_line(sentence: String, place: Span, line: u32) -> Option<Finding> {
+    Some(Finding {
+        sentence,
+        place,
+        other: Some(line),
+    })
+}
