@@ -1,11 +1,3 @@
-pub mod Looks
-pub mod Words
-pub mod Acquired
-pub mod Attempts
-pub mod Released
-pub mod Both
-pub mod Given
-pub mod Owned
-pub mod There
-pub mod Blocked
+pub mod Tried
 pub mod First
+pub mod Parts

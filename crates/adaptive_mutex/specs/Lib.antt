@@ -1,2 +1,1 @@
 pub mod Mutexes
-pub mod Waiting

@@ -1,17 +1,13 @@
-//! Mutexes on a running floor. A thread that finds one held looks at it in an acquiring round, and tries where it is
-//! free; where its owner sleeps, or it stays held, the thread sleeps on the mutex's turnstile until it is woken.
+//! Mutexes on a running floor: the calls of locks that block (`lock_calls`), for mutexes, which are held exclusively; and
+//! a try, which never blocks.
 //!
-//! - `mutex`: the calls.
-//! - `spinning`: a blocking call before it takes the lock's chain, and `blocking`: in the section of the chain.
-//! - `releasing`: how a release puts a mutex down.
+//! `lock` and `unlock` wait. Threads of a runtime of one's own drive the same calls part by part, and no part waits:
+//! `begin_lock` and `begin_unlock` begin one, and `go_on_taking` and `go_on_releasing` go on with it until it is done.
 //!
-//! Each call needs a pass at rest and leaves it at rest. It makes its steps through those of `lock_floor`, and tells
-//! which they are. The thread waits in `lock` and `unlock` alone, and no call takes memory.
+//! Each call needs a pass at rest and leaves it at rest, and tells which atomic steps it made. No call takes memory.
 #![tactic(auto)]
 
-mod blocking;
 mod mutex;
-mod releasing;
-mod spinning;
 
-pub use mutex::{lock, try_lock, unlock};
+pub use lock_calls::{Next, go_on_releasing, go_on_taking};
+pub use mutex::{begin_lock, begin_unlock, lock, try_lock, unlock};

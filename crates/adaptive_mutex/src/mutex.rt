@@ -5,15 +5,18 @@ ghost use Rattle.lock_model.specs.declared.event.Event.TheVariants as event;
 ghost use Rattle.lock_model.specs.declared.plan.Mode.TheVariants.{Excl};
 ghost use Rattle.floor_table.specs.Steps.{MakesEach};
 ghost use Rattle.lock_floor.specs.Passes.{IsOf, IsReady, MakesEntry};
-ghost use Rattle.adaptive_mutex.specs.Mutexes.{IsMutex, MayAcquire, MayRelease, Locks, Release, as_held, tries, unlocks, WasBusy};
-ghost use Rattle.adaptive_mutex.specs.Waiting.{kept_of, IsCalling, MayGain, HasGained};
+ghost use Rattle.lock_calls.specs.Releases.{HasBegunRelease};
+ghost use Rattle.lock_calls.specs.Steps.{Locks, Release, unlocks};
+ghost use Rattle.lock_calls.specs.Takes.{HasBegunTake};
+ghost use Rattle.adaptive_mutex.specs.Mutexes.{MayAcquire, MayRelease, as_held, tries, WasBusy};
 
-use crate::blocking::block;
-use crate::releasing::put_down;
-use crate::spinning::{FREE, begin, spin};
+use lock_calls::{Next, begin_release, begin_take, release, take};
 use lock_floor::{Floor, Pass};
 use lock_model::{Busy, Event, Held, LockNo, Mode, Reversal};
 use std::sync::Wait;
+
+// The word of a free mutex.
+const FREE: u64 = 0;
 
 /// Takes a mutex. It makes one exchange, outside an acquiring round where the thread holds nothing, and then looks and
 /// tries in a round, at most 100 times in all, and only while the mutex's owner isn't queued. Then it takes the lock's
@@ -27,17 +30,21 @@ pub fn lock<R: Wait>(floor: &Floor, rt: &R, pass: &mut Pass, l: LockNo) -> Resul
     ensures ready { IsReady floor.now pass.new }
     ensures entry { MakesEntry floor.now.description (event.Locked l Excl)
         (pass.old.view.share.held ++ as_held l false ∷ []) pass.old.view pass.new.view }
-    ensures steps { Locks floor.now.description l pass.old.view pass.new.view }
+    ensures steps { Locks floor.now.description l Excl pass.old.view pass.new.view }
 {
-    gain(floor, rt, pass, l);
-    floor.stamp(
-        pass,
-        Event::Locked {
-            l,
-            mode: Mode::Excl,
-        },
-    );
+    take(floor, rt, pass, l, Mode::Excl);
     Ok(())
+}
+
+/// Begins to take a mutex, and never waits: `Done` comes where the first exchange gained it. Else the take is under
+/// way, and is gone on with by `go_on_taking`.
+pub fn begin_lock(floor: &Floor, pass: &mut Pass, l: LockNo) -> Next
+    requires ready { IsReady floor.now pass.old }
+    requires may { MayAcquire floor.now.description l.0 pass.old.view }
+    ensures own { IsOf floor.now pass.new }
+    ensures begun { HasBegunTake floor.now.description l Excl result pass.old pass.new }
+{
+    begin_take(floor, pass, l, Mode::Excl)
 }
 
 /// Takes a mutex, if it is free. `Busy` comes only where this call's own exchange saw the word of a held mutex, and has
@@ -86,38 +93,18 @@ pub fn unlock<R: Wait>(floor: &Floor, rt: &R, pass: &mut Pass, l: LockNo)
     ensures entry { MakesEntry floor.now.description (event.Unlocked l Excl)
         (without_lock l.0 pass.old.view.share.held) pass.old.view pass.new.view }
     ensures steps { (how : Release) × MakesEach floor.now.description
-        (unlocks floor.now.description pass.old.view.thread l how) pass.old.view pass.new.view }
+        (unlocks floor.now.description pass.old.view.thread l Excl how) pass.old.view pass.new.view }
 {
-    floor.stamp(
-        pass,
-        Event::Unlocked {
-            l,
-            mode: Mode::Excl,
-        },
-    );
-    put_down(floor, rt, pass, l);
+    release(floor, rt, pass, l, Mode::Excl);
 }
 
-// Gains a mutex: by one exchange, in a round, or in the section of the lock's chain, maybe behind sleeps.
-fn gain<R: Wait>(floor: &Floor, rt: &R, pass: &mut Pass, l: LockNo)
-    requires own { IsOf floor.now pass.old }
-    requires mutex { IsMutex floor.now.description l.0 }
-    requires one_chain { floor.now.description.chains ≡ 1 }
-    requires may { MayGain floor.now.description l.0 pass.old.view }
-    requires calling { IsCalling floor.now.description (kept_of pass.old.view) }
+/// Begins to release a mutex, and never waits: `Done` comes where the first exchange put it down. Else the release is
+/// under way, and is gone on with by `go_on_releasing`.
+pub fn begin_unlock(floor: &Floor, pass: &mut Pass, l: LockNo) -> Next
+    requires ready { IsReady floor.now pass.old }
+    requires may { MayRelease floor.now.description l.0 pass.old.view }
     ensures own { IsOf floor.now pass.new }
-    ensures gained { HasGained floor.now.description l pass.old.view pass.new.view }
+    ensures begun { HasBegunRelease floor.now.description l Excl result pass.old pass.new }
 {
-    if begin(floor, pass, l) {
-        return;
-    }
-    for _ in rt.forever() {
-        if spin(floor, pass, l) {
-            return;
-        }
-        if block(floor, rt, pass, l) {
-            return;
-        }
-    }
-    unreachable!()
+    begin_release(floor, pass, l, Mode::Excl)
 }

@@ -38,7 +38,7 @@ pub mod OpenCall
 pub mod MayWake
 pub mod MarkedRecords
 pub mod MarkCall
-pub mod MarkingAll
+pub mod Waking
 pub mod Crossing
 pub mod TwoOut
 pub mod WalkShares
@@ -53,6 +53,5 @@ pub mod WalkHops
 pub mod WalkAtLock
 pub mod WalkCall
 pub mod WalkWork
-pub mod WalkAll
 pub mod Beginning
 pub mod Calling

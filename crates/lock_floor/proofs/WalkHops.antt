@@ -1,12 +1,11 @@
 -- A hop of a walk, from its atomic steps: the chain of turnstiles is taken and then a record, the walk makes its step,
 -- and both are given back.
-use Rattle.std.proofs.Common.{◌≡◌, ◌≢◌, ℕ, ◌<◌, Option, Some, None, List, [], ◌∷◌, length, refl, sym, ap, ◌∙◌, subst, inl, inr}
+use Rattle.std.proofs.Common.{◌≡◌, ◌≢◌, ℕ, ◌<◌, Option, Some, None, List, [], ◌∷◌, ◌++◌, length, refl, sym, ap, ◌∙◌, subst, inl, inr}
 use Rattle.std.specs.declared.alloc.Global.{Global}
 use Rattle.std.specs.declared.boxed.Box.{Box}
 use Rattle.atomic_table.specs.Table.{rest}
 use Rattle.chain_table.specs.Chains.{head_of}
 use Rattle.lock_model.specs.Queues.{lock_queue}
-use Rattle.lock_model.specs.declared.plan.QueueName.{QueueName}
 use Rattle.lock_state.specs.State.{Walk, NoWalk, AtLock, AtThread}
 use Rattle.lock_state.specs.Steps.{Step, TakesItem, GivesItem, Lends, EndsWalk}
 use Rattle.lock_state.specs.Steps.Items.{Item, RecordOf, in_its_chain, item_with}
@@ -20,8 +19,8 @@ use Rattle.floor_table.specs.declared.slot.Slot.{Slot}
 use Rattle.floor_table.specs.declared.slot.Slot.TheVariants.{Record, Turnstiles}
 use Rattle.lock_floor.specs.Latches.{Takes}
 use Rattle.lock_floor.specs.Passes.{IsGoing}
-use Rattle.lock_floor.specs.Views.{took, gave}
-use Rattle.lock_floor.specs.Walks.{IsOnFloor, CanWalk, IsHop, IsStepAtThread, in_chain, with_record, Hops, InHop, MayLendTo, MaySort, StepsInHop, hopped, owner_of_head, record_and_chain, turnstiles, turnstiles_place}
+use Rattle.lock_floor.specs.Views.{gave}
+use Rattle.lock_floor.specs.Walks.{IsOnFloor, CanWalk, IsHop, IsStepAtThread, in_chain, with_record, Hops, HopsOn, HasTurnstilesOut, InHop, MayLendTo, MaySort, StepsInHop, hopped, walked, owner_of_head, record_and_chain, turnstiles, turnstiles_place}
 use Rattle.lock_floor.proofs.Priorities.{a_record}
 use Rattle.lock_floor.proofs.WalkChains.{turnstiles_at}
 use Rattle.lock_floor.proofs.WalkMay.{may_take_turnstiles, may_take_under, may_give_record, may_give_turnstiles, may_end_at_lock}
@@ -49,94 +48,79 @@ last_at out j x xs is e = e ∙ (λ i. (sym is i, x) ∷ sym (ap rest e) i)
 
 -- 2. The chain is out
 
-module _ (floor : Description) (v a : Knowledge) (can : CanWalk floor v)
-    (taken : Takes floor turnstiles (turnstiles_place floor) v a) where
-  abbrev pub its_chain : (chain : List (QueueName × Turnstile)) × (taken.value ≡ Turnstiles chain)
-  its_chain = a_chain taken.value taken.kind
+-- it was taken
+pub has_turnstiles : (floor : Description) (v a : Knowledge) → CanWalk floor v
+    → Takes floor turnstiles (turnstiles_place floor) v a → HasTurnstilesOut floor a
+has_turnstiles floor v a can taken =
+    let chain = a_chain taken.value taken.kind in
+    record {
+      one_chain = can.one_chain;
+      on_floor = subst (IsOnFloor floor) (sym (ap (λ (k : Knowledge). k.share.doing.walk) taken.view)) can.on_floor;
+      settled = λ e. can.settled (sym (ap (λ (k : Knowledge). k.pose) taken.view) ∙ e);
+      no_round = ap (λ (k : Knowledge). k.share.doing.round) taken.view ∙ ap in_its_chain can.no_round;
+      going = subst IsGoing (sym taken.view)
+          record { awake = can.going.awake; unended = can.going.unended; stamped = can.going.stamped };
+      chain = chain.0;
+      out = ap (λ (k : Knowledge). k.out) taken.view
+          ∙ (λ i. (turnstiles_place floor, chain.1 i) ∷ can.nothing_out i);
+      owners = λ l o turnstile owned. owner_low floor can.one_chain v a taken chain.0 chain.1 l o turnstile owned;
+    }
 
-  pub chain_out : a.out ≡ (turnstiles_place floor, Turnstiles its_chain.0) ∷ []
-  chain_out = ap (λ (k : Knowledge). k.out) taken.view
-      ∙ (λ i. (turnstiles_place floor, its_chain.1 i) ∷ can.nothing_out i)
-
+module _ (floor : Description) (a : Knowledge) (m : HasTurnstilesOut floor a) where
   -- at its place
-  pub chain_last_out : (j : ℕ) → j ≡ turnstiles_place floor → a.out ≡ (j, Turnstiles its_chain.0) ∷ rest a.out
-  chain_last_out j is = last_at a.out j (Turnstiles its_chain.0) [] is chain_out
-
-  a_thread : a.thread ≡ v.thread
-  a_thread = ap (λ (k : Knowledge). k.thread) taken.view
-
-  a_walk : a.share.doing.walk ≡ v.share.doing.walk
-  a_walk = ap (λ (k : Knowledge). k.share.doing.walk) taken.view
-
-  a_settled : a.pose ≢ IsReady
-  a_settled e = can.settled (sym (ap (λ (k : Knowledge). k.pose) taken.view) ∙ e)
-
-  a_going : IsGoing a
-  a_going = subst IsGoing (sym taken.view)
-      record { awake = can.going.awake; unended = can.going.unended; stamped = can.going.stamped }
-
-  a_round : a.share.doing.round ≡ None
-  a_round = ap (λ (k : Knowledge). k.share.doing.round) taken.view ∙ ap in_its_chain can.no_round
-
-  -- a round that isn't there takes no chain
-  round_stays : in_its_chain v.share.doing.round ≡ v.share.doing.round
-  round_stays = ap in_its_chain can.no_round ∙ sym can.no_round
+  pub chain_last_out : (j : ℕ) → j ≡ turnstiles_place floor → a.out ≡ (j, Turnstiles m.chain) ∷ rest a.out
+  chain_last_out j is = last_at a.out j (Turnstiles m.chain) [] is m.out
 
   pub may_take_it : (o : ℕ) → o < length floor.threads
       → MayMake floor a (λ s. s.record_with o ≡ None) (TakesItem a.thread (RecordOf o) ∷ [])
-  may_take_it o low = may_take_under floor a can.one_chain a_settled a_going o (Turnstiles its_chain.0) low a_round
-      chain_out
+  may_take_it o low = may_take_under floor a m.one_chain m.settled m.going o (Turnstiles m.chain) low m.no_round m.out
 
   -- 3. At a lock without an owner
 
-  module _ (l : ℕ) (there : v.share.doing.walk ≡ AtLock l) where
+  module _ (l : ℕ) (there : a.share.doing.walk ≡ AtLock l) where
     at_lock : IsOnFloor floor (AtLock l)
-    at_lock = subst (IsOnFloor floor) there can.on_floor
+    at_lock = subst (IsOnFloor floor) there m.on_floor
 
-    pub owner_of_floor : (o : ℕ) → owner_of_head (head_of (lock_queue l) its_chain.0) ≡ Some o
+    pub owner_of_floor : (o : ℕ) → owner_of_head (head_of (lock_queue l) m.chain) ≡ Some o
         → o < length floor.threads
-    owner_of_floor o owned = owner_low floor can.one_chain v a taken its_chain.0 its_chain.1 l o at_lock.1 owned
+    owner_of_floor o owned = m.owners l o at_lock.1 owned
 
-    pub may_end : owner_of_head (head_of (lock_queue l) its_chain.0) ≡ None
+    pub may_end : owner_of_head (head_of (lock_queue l) m.chain) ≡ None
         → MayMake floor a (λ s. Unit {0}) (EndsWalk a.thread ∷ [])
-    may_end unowned = may_end_at_lock floor a can.one_chain a_settled a_going l at_lock.1 (a_walk ∙ there) its_chain.0
-        chain_out unowned
+    may_end unowned = may_end_at_lock floor a m.one_chain m.settled m.going l at_lock.1 there m.chain m.out unowned
 
     module _ (b : Knowledge) (view : b ≡ seeing b.seen (hopped a NoWalk a.out))
         (step : Makes floor (EndsWalk a.thread ∷ []) a b) where
-      ended_out : b.out ≡ (turnstiles_place floor, Turnstiles its_chain.0) ∷ []
-      ended_out = ap (λ (k : Knowledge). k.out) view ∙ chain_out
+      ended_out : b.out ≡ (turnstiles_place floor, Turnstiles m.chain) ∷ []
+      ended_out = ap (λ (k : Knowledge). k.out) view ∙ m.out
 
       pub ended_last : (j : ℕ) → j ≡ turnstiles_place floor → (x : Slot) × (b.out ≡ (j, x) ∷ rest b.out)
-      ended_last j is = (Turnstiles its_chain.0, last_at b.out j (Turnstiles its_chain.0) [] is ended_out)
+      ended_last j is = (Turnstiles m.chain, last_at b.out j (Turnstiles m.chain) [] is ended_out)
 
       pub ended_may_give : MayMake floor b (λ s. Unit {0}) (GivesItem b.thread turnstiles ∷ [])
-      ended_may_give = may_give_turnstiles floor b can.one_chain
-          (λ e. a_settled (sym (ap (λ (k : Knowledge). k.pose) view) ∙ e))
+      ended_may_give = may_give_turnstiles floor b m.one_chain
+          (λ e. m.settled (sym (ap (λ (k : Knowledge). k.pose) view) ∙ e))
           (subst IsGoing (sym view)
-          record { awake = a_going.awake; unended = a_going.unended; stamped = a_going.stamped })
-          (Turnstiles its_chain.0) (ap (λ (k : Knowledge). k.share.doing.round) view ∙ a_round) ended_out
+          record { awake = m.going.awake; unended = m.going.unended; stamped = m.going.stamped })
+          (Turnstiles m.chain) (ap (λ (k : Knowledge). k.share.doing.round) view ∙ m.no_round) ended_out
 
       pub ended_hop : (e : Knowledge) → e ≡ seeing e.seen (gave b turnstiles)
-          → Makes floor (GivesItem b.thread turnstiles ∷ []) b e → Hops floor NoWalk v e
+          → Makes floor (GivesItem b.thread turnstiles ∷ []) b e → HopsOn floor NoWalk a e
       ended_hop e gives gave_step =
-          let b_thread : b.thread ≡ v.thread = ap (λ (k : Knowledge). k.thread) view ∙ a_thread in
-          let ends : Makes floor (EndsWalk v.thread ∷ []) a b =
-          subst (λ t. Makes floor (EndsWalk t ∷ []) a b) a_thread step in
-          let back : Makes floor (GivesItem v.thread turnstiles ∷ []) b e =
-          subst (λ t. Makes floor (GivesItem t turnstiles ∷ []) b e) b_thread gave_step in
+          let same : b.thread ≡ a.thread = ap (λ (k : Knowledge). k.thread) view in
+          let back : Makes floor (GivesItem a.thread turnstiles ∷ []) b e =
+          subst (λ t. Makes floor (GivesItem t turnstiles ∷ []) b e) same gave_step in
           record {
-            steps = in_chain v.thread ((EndsWalk v.thread ∷ []) ∷ []);
-            hop = subst (λ w. IsHop v.thread w (in_chain v.thread ((EndsWalk v.thread ∷ []) ∷ []))) (sym there)
+            steps = (EndsWalk a.thread ∷ []) ∷ (GivesItem a.thread turnstiles ∷ []) ∷ [];
+            hop = subst (λ w. IsHop a.thread w (in_chain a.thread ((EndsWalk a.thread ∷ []) ∷ []))) (sym there)
                 (inr refl);
-            each = (a, taken.step, (b, ends, (e, back, refl)));
+            each = (b, step, (e, back, refl));
             view = gives
                 ∙ ap (λ k. seeing e.seen (gave k turnstiles)) view
-                ∙ ap (λ k. seeing e.seen (gave (hopped k NoWalk a.out) turnstiles)) taken.view
-                ∙ (λ i. record (seeing e.seen v) {
-                  out = (ap rest chain_out ∙ sym can.nothing_out) i;
-                  share = record v.share {
-                    doing = record v.share.doing { walk = NoWalk; seen_in_section = None; round = round_stays i };
+                ∙ (λ i. record (seeing e.seen a) {
+                  out = ap rest m.out i;
+                  share = record a.share {
+                    doing = record a.share.doing { walk = NoWalk; seen_in_section = None };
                   };
                 });
             on_floor = tt;
@@ -148,42 +132,42 @@ module _ (floor : Description) (v a : Knowledge) (can : CanWalk floor v)
     abbrev pub its_box : (box : Box ThreadRec Global) × (has.value ≡ Record box)
     its_box = a_record o has.value has.kind
 
-    both_out : b.out ≡ record_and_chain floor o its_box.0 its_chain.0
-    both_out = ap (λ (k : Knowledge). k.out) has.view ∙ (λ i. (o, its_box.1 i) ∷ chain_out i)
+    both_out : b.out ≡ record_and_chain floor o its_box.0 m.chain
+    both_out = ap (λ (k : Knowledge). k.out) has.view ∙ (λ i. (o, its_box.1 i) ∷ m.out i)
 
-    pub b_thread : b.thread ≡ v.thread
-    b_thread = ap (λ (k : Knowledge). k.thread) has.view ∙ a_thread
+    pub b_thread : b.thread ≡ a.thread
+    b_thread = ap (λ (k : Knowledge). k.thread) has.view
 
-    b_walk : b.share.doing.walk ≡ v.share.doing.walk
-    b_walk = ap (λ (k : Knowledge). k.share.doing.walk) has.view ∙ a_walk
+    b_walk : b.share.doing.walk ≡ a.share.doing.walk
+    b_walk = ap (λ (k : Knowledge). k.share.doing.walk) has.view
 
     b_settled : b.pose ≢ IsReady
-    b_settled e = a_settled (sym (ap (λ (k : Knowledge). k.pose) has.view) ∙ e)
+    b_settled e = m.settled (sym (ap (λ (k : Knowledge). k.pose) has.view) ∙ e)
 
     b_going : IsGoing b
     b_going = subst IsGoing (sym has.view)
-        record { awake = a_going.awake; unended = a_going.unended; stamped = a_going.stamped }
+        record { awake = m.going.awake; unended = m.going.unended; stamped = m.going.stamped }
 
     b_round : b.share.doing.round ≡ None
-    b_round = ap (λ (k : Knowledge). k.share.doing.round) has.view ∙ a_round
+    b_round = ap (λ (k : Knowledge). k.share.doing.round) has.view ∙ m.no_round
 
     abbrev in_hop : InHop floor o b
     in_hop = record {
-      one_chain = can.one_chain;
+      one_chain = m.one_chain;
       settled = b_settled;
       going = b_going;
       box = its_box.0;
-      chain = its_chain.0;
+      chain = m.chain;
       out = both_out;
     }
 
-    pub may_sort_it : v.share.doing.walk ≡ AtThread o → MaySort floor o b
+    pub may_sort_it : a.share.doing.walk ≡ AtThread o → MaySort floor o b
     may_sort_it there = record { hop = in_hop; there = b_walk ∙ there; of_floor = low }
 
-    pub may_lend_it : (l : ℕ) → v.share.doing.walk ≡ AtLock l
-        → owner_of_head (head_of (lock_queue l) its_chain.0) ≡ Some o → MayLendTo floor l o b
+    pub may_lend_it : (l : ℕ) → a.share.doing.walk ≡ AtLock l
+        → owner_of_head (head_of (lock_queue l) m.chain) ≡ Some o → MayLendTo floor l o b
     may_lend_it l there owned =
-        let d = owner_there (head_of (lock_queue l) its_chain.0) owned in
+        let d = owner_there (head_of (lock_queue l) m.chain) owned in
         let at = at_lock l there in
         record {
           hop = in_hop;
@@ -193,9 +177,7 @@ module _ (floor : Description) (v a : Knowledge) (can : CanWalk floor v)
           turnstile = d.0;
           head = d.1;
           owned = d.2;
-          can = can_lend_to floor can.one_chain a b o l low at has its_box.0 its_box.1 its_chain.0 chain_out
-              (a_walk ∙ there)
-              d.0 d.1 d.2;
+          can = can_lend_to floor m.one_chain a b o l low at has its_box.0 its_box.1 m.chain m.out there d.0 d.1 d.2;
         }
       where
         owner_there : (x : Option Turnstile) → owner_of_head x ≡ Some o
@@ -222,7 +204,7 @@ module _ (floor : Description) (v a : Knowledge) (can : CanWalk floor v)
           record { awake = b_going.awake; unended = b_going.unended; stamped = b_going.stamped }
 
       pub may_give_it : MayMake floor k (λ s. Unit {0}) (GivesItem k.thread (RecordOf o) ∷ [])
-      may_give_it = may_give_record floor k can.one_chain k_settled k_going o (Record its.box) _ low k_out
+      may_give_it = may_give_record floor k m.one_chain k_settled k_going o (Record its.box) _ low k_out
 
       -- and the record was given back
       module _ (d : Knowledge) (gave_one : d ≡ seeing d.seen (gave k (RecordOf o))) where
@@ -233,7 +215,7 @@ module _ (floor : Description) (v a : Knowledge) (can : CanWalk floor v)
         chain_last j is = (Turnstiles its.chain, last_at d.out j (Turnstiles its.chain) [] is d_out)
 
         pub may_give_back : MayMake floor d (λ s. Unit {0}) (GivesItem d.thread turnstiles ∷ [])
-        may_give_back = may_give_turnstiles floor d can.one_chain
+        may_give_back = may_give_turnstiles floor d m.one_chain
             (λ e. k_settled (sym (ap (λ (x : Knowledge). x.pose) gave_one) ∙ e))
             (subst IsGoing (sym gave_one)
             record { awake = k_going.awake; unended = k_going.unended; stamped = k_going.stamped })
@@ -243,45 +225,61 @@ module _ (floor : Description) (v a : Knowledge) (can : CanWalk floor v)
 
         pub hop_of : Makes floor (GivesItem k.thread (RecordOf o) ∷ []) k d → (e : Knowledge)
             → e ≡ seeing e.seen (gave d turnstiles) → Makes floor (GivesItem d.thread turnstiles ∷ []) d e
-            → IsHop v.thread v.share.doing.walk (in_chain v.thread (with_record v.thread o step)) → Hops floor w v e
+            → IsHop a.thread a.share.doing.walk (in_chain a.thread (with_record a.thread o step)) → HopsOn floor w a e
         hop_of gives e gave_both gives_chain is_hop =
-            let k_thread : k.thread ≡ v.thread = ap (λ (x : Knowledge). x.thread) its.view ∙ b_thread in
-            let d_thread : d.thread ≡ v.thread = ap (λ (x : Knowledge). x.thread) gave_one ∙ k_thread in
-            let takes_record : Makes floor (TakesItem v.thread (RecordOf o) ∷ []) a b =
-            subst (λ t. Makes floor (TakesItem t (RecordOf o) ∷ []) a b) a_thread has.step in
-            let gives_record : Makes floor (GivesItem v.thread (RecordOf o) ∷ []) k d =
+            let k_thread : k.thread ≡ a.thread = ap (λ (x : Knowledge). x.thread) its.view ∙ b_thread in
+            let d_thread : d.thread ≡ a.thread = ap (λ (x : Knowledge). x.thread) gave_one ∙ k_thread in
+            let gives_record : Makes floor (GivesItem a.thread (RecordOf o) ∷ []) k d =
             subst (λ t. Makes floor (GivesItem t (RecordOf o) ∷ []) k d) k_thread gives in
-            let back : Makes floor (GivesItem v.thread turnstiles ∷ []) d e =
+            let back : Makes floor (GivesItem a.thread turnstiles ∷ []) d e =
             subst (λ t. Makes floor (GivesItem t turnstiles ∷ []) d e) d_thread gives_chain in
             record {
-              steps = in_chain v.thread (with_record v.thread o step);
+              steps = with_record a.thread o step ++ (GivesItem a.thread turnstiles ∷ []) ∷ [];
               hop = is_hop;
-              each = (a, taken.step, (b, takes_record, (k, its.made, (d, gives_record, (e, back, refl)))));
+              each = (b, has.step, (k, its.made, (d, gives_record, (e, back, refl))));
               view = gave_both
                   ∙ ap (λ x. seeing e.seen (gave x turnstiles)) gave_one
                   ∙ ap (λ x. seeing e.seen (gave (gave x (RecordOf o)) turnstiles)) its.view
-                  ∙ ap (λ x. seeing e.seen (gave (gave (hopped x w after_out) (RecordOf o)) turnstiles)) has.view
-                  ∙ ap (λ x. seeing e.seen
-                  (gave (gave (hopped (took x (RecordOf o) o has.value) w after_out) (RecordOf o)) turnstiles))
-                  taken.view
-                  ∙ (λ i. record (seeing e.seen v) {
-                    out = sym can.nothing_out i;
-                    share = record v.share {
-                      doing = record v.share.doing { walk = w; seen_in_section = None; round = round_stays i };
-                    };
-                  });
+                  ∙ ap (λ x. seeing e.seen (gave (gave (hopped x w after_out) (RecordOf o)) turnstiles)) has.view;
               on_floor = its.on_floor;
             }
 
         -- at a lock it was a lend
-        pub lend_hop : (l h : ℕ) → v.share.doing.walk ≡ AtLock l → step ≡ Lends v.thread l o h
-            → IsHop v.thread v.share.doing.walk (in_chain v.thread (with_record v.thread o step))
+        pub lend_hop : (l h : ℕ) → a.share.doing.walk ≡ AtLock l → step ≡ Lends a.thread l o h
+            → IsHop a.thread a.share.doing.walk (in_chain a.thread (with_record a.thread o step))
         lend_hop l h there is =
-            subst (λ x. IsHop v.thread x (in_chain v.thread (with_record v.thread o step))) (sym there)
-            (inl (o, (h, ap (λ x. in_chain v.thread (with_record v.thread o x)) is)))
+            subst (λ x. IsHop a.thread x (in_chain a.thread (with_record a.thread o step))) (sym there)
+            (inl (o, (h, ap (λ x. in_chain a.thread (with_record a.thread o x)) is)))
 
         -- at a thread a sorting anew, or the end
-        pub sort_hop : v.share.doing.walk ≡ AtThread o → IsStepAtThread v.thread o step
-            → IsHop v.thread v.share.doing.walk (in_chain v.thread (with_record v.thread o step))
+        pub sort_hop : a.share.doing.walk ≡ AtThread o → IsStepAtThread a.thread o step
+            → IsHop a.thread a.share.doing.walk (in_chain a.thread (with_record a.thread o step))
         sort_hop there is =
-            subst (λ x. IsHop v.thread x (in_chain v.thread (with_record v.thread o step))) (sym there) (step, is, refl)
+            subst (λ x. IsHop a.thread x (in_chain a.thread (with_record a.thread o step))) (sym there) (step, is, refl)
+
+-- 5. The hop as a whole, from the taking of the chain on
+
+pub hops_all : (floor : Description) (w : Walk) (v a e : Knowledge) → CanWalk floor v
+    → Takes floor turnstiles (turnstiles_place floor) v a → HopsOn floor w a e → Hops floor w v e
+hops_all floor w v a e can taken h =
+    let same : a.thread ≡ v.thread = ap (λ (k : Knowledge). k.thread) taken.view in
+    let there : a.share.doing.walk ≡ v.share.doing.walk = ap (λ (k : Knowledge). k.share.doing.walk) taken.view in
+    record {
+      steps = (TakesItem v.thread turnstiles ∷ []) ∷ h.steps;
+      hop = subst (λ (z : ℕ × Walk). IsHop z.0 z.1 ((TakesItem z.0 turnstiles ∷ []) ∷ h.steps))
+          (λ i. (same i, there i)) h.hop;
+      each = (a, taken.step, h.each);
+      view = h.view
+          ∙ ap (λ (k : Knowledge). seeing e.seen (record (walked k w) { out = [] })) taken.view
+          ∙ (λ i. record (seeing e.seen v) {
+            out = sym can.nothing_out i;
+            share = record v.share {
+              doing = record v.share.doing {
+                walk = w;
+                seen_in_section = None;
+                round = (ap in_its_chain can.no_round ∙ sym can.no_round) i;
+              };
+            };
+          });
+      on_floor = h.on_floor;
+    }

@@ -1,5 +1,5 @@
 -- Those whom a thread took off a queue and has yet to wake, and how it wakes the first of them.
-use Rattle.std.specs.Prelude.{◌≡◌, ℕ, ◌<◌, List, [], ◌∷◌, length, map, if◌then◌else◌, IsSome, None, Some}
+use Rattle.std.specs.Prelude.{◌≡◌, ℕ, ◌<◌, List, [], ◌∷◌, ◌++◌, length, map, if◌then◌else◌, IsSome, None, Some}
 use Rattle.std.specs.Box.{with_value}
 use Rattle.std.specs.List.{All}
 use Rattle.std.specs.declared.alloc.Global.{Global}
@@ -18,7 +18,7 @@ use Rattle.thread_records.specs.Records.{Record as RecordSeen}
 use Rattle.thread_records.specs.declared.record.ThreadRec.{ThreadRec}
 use Rattle.floor_table.specs.Descriptions.{config_in}
 use Rattle.floor_table.specs.Shares.{Doing}
-use Rattle.floor_table.specs.Steps.{MayMake, Makes}
+use Rattle.floor_table.specs.Steps.{MayMake, Makes, MakesEach}
 use Rattle.floor_table.specs.Views.{Knowledge, Runs, StandsOn, seeing}
 use Rattle.floor_table.specs.declared.description.Description.{Description}
 use Rattle.floor_table.specs.declared.slot.Slot.{Slot}
@@ -95,12 +95,16 @@ with_marks v ms =
     let after : Doing = record v.share.doing { marked = ms } in
     record v { share = record v.share { doing = after } }
 
--- for each in turn its record is taken, it is woken, and the record is given back
+-- the first one's record is taken, it is woken, and the record is given back
+abbrev pub wakes : ℕ → Mark → List Mark → List (List Step)
+wakes t m ms =
+    (TakesItem t (RecordOf m.thread) ∷ []) ∷ (Marks t m ms ∷ [])
+    ∷ (GivesItem t (RecordOf m.thread) ∷ []) ∷ []
+
+-- each in turn
 abbrev pub marking : ℕ → List Mark → List (List Step)
 marking t [] = []
-marking t (m ∷ ms) =
-    (TakesItem t (RecordOf m.thread) ∷ []) ∷ (Marks t m ms ∷ [])
-    ∷ (GivesItem t (RecordOf m.thread) ∷ []) ∷ marking t ms
+marking t (m ∷ ms) = wakes t m ms ++ marking t ms
 
 -- a thread that runs, goes on, has nothing out and counted in nobody yet may wake those of its marked list
 pub record CanMark (v : Knowledge) : Type 0 where
@@ -108,3 +112,12 @@ pub record CanMark (v : Knowledge) : Type 0 where
   pub nothing_out : v.out ≡ []
   pub going : IsGoing v
   pub uncounted : v.share.doing.counting ≡ None
+
+-- it woke the first of them, which is that thread
+pub record WakesFirst (floor : Description) (t : ℕ) (old new : Knowledge) : Type 0 where
+  pub mark : Mark
+  pub others : List Mark
+  pub marked : old.share.doing.marked ≡ mark ∷ others
+  pub thread : mark.thread ≡ t
+  pub view : new ≡ seeing new.seen (with_marks old others)
+  pub steps : MakesEach floor (wakes old.thread mark others) old new

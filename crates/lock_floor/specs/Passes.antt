@@ -15,6 +15,7 @@ use Rattle.floor_table.specs.declared.description.Description.{Description}
 use Rattle.floor_table.specs.Shares.{is_among}
 use Rattle.floor_table.specs.Steps.{Makes}
 use Rattle.floor_table.specs.Views.{Runs, Knowledge, first_view}
+use Rattle.lock_floor.specs.declared.calls.Call.TheVariants as call
 use Rattle.lock_floor.specs.Floors.{Floor, Pass, Keeper}
 use Rattle.lock_floor.specs.Views.{entry_by}
 
@@ -38,7 +39,7 @@ pub record IsKeeperOf (f : Floor Description) (k : Keeper) : Type 0 where
 -- the pass of a thread as it is made: the thread holds nothing and is about nothing, and has room for its entries
 abbrev pub first_pass : TableId → Description → ℕ → Pass Knowledge
 first_pass table floor t =
-    record { table = table; view = first_view floor t; finished = false }
+    record { table = table; view = first_view floor t; finished = false; call = call.None }
 
 -- awake, not ended, and with no wake to note
 pub record CanStep (phase : Phase) (has_ended : Bool) (unstamped : Option Wake) : Type 0 where

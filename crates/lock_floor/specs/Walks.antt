@@ -107,24 +107,40 @@ pub data Walks (floor : Description) : Knowledge → Knowledge → Type 0 where
   one_more : {u v new : Knowledge} (w : Walk) → Walks floor u v → Hops floor w v new
       → Walks floor u new
 
--- after all hops of a walk that was there: no walk is under way
-abbrev pub walked_off : Walk → Knowledge → Knowledge
-walked_off NoWalk v = v
-walked_off (AtLock l) v = walked v NoWalk
-walked_off (AtThread o) v = walked v NoWalk
-
 -- 4. Inside a hop
+
+-- the owner of a turnstile, where one is lent to the lock
+abbrev pub owner_of_head : Option Turnstile → Option ℕ
+owner_of_head None = None
+owner_of_head (Some h) = h.contents.own.owner
+
+-- The thread is in a hop, where its walk is, and has the chain of turnstiles out, and nothing else.
+-- Whoever owns a turnstile there is a thread of the floor
+pub record HasTurnstilesOut (floor : Description) (v : Knowledge) : Type 0 where
+  pub one_chain : floor.chains ≡ 1
+  pub on_floor : IsOnFloor floor v.share.doing.walk
+  pub settled : v.pose ≢ IsReady
+  pub no_round : v.share.doing.round ≡ None
+  pub going : IsGoing v
+  pub chain : List (QueueName × Turnstile)
+  pub out : v.out ≡ (turnstiles_place floor, Turnstiles chain) ∷ []
+  pub owners : (l o : ℕ) → is_turnstile ((config_in floor).kind l) ≡ true
+      → owner_of_head (head_of (lock_queue l) chain) ≡ Some o → o < length floor.threads
+
+-- it made the rest of that hop: the walk is there then, and the thread has nothing out
+pub record HopsOn (floor : Description) (w : Walk) (old new : Knowledge) : Type 0 where
+  pub steps : List (List Step)
+  pub hop : IsHop old.thread old.share.doing.walk
+      ((TakesItem old.thread turnstiles ∷ []) ∷ steps)
+  pub each : MakesEach floor steps old new
+  pub view : new ≡ seeing new.seen (record (walked old w) { out = [] })
+  pub on_floor : IsOnFloor floor w
 
 -- the record of a thread was taken last, and before it the chain of turnstiles
 abbrev pub record_and_chain : Description → ℕ → Box ThreadRec Global
     → List (QueueName × Turnstile) → List (ℕ × Slot)
 record_and_chain floor o b chain =
     (o, Record b) ∷ (turnstiles_place floor, Turnstiles chain) ∷ []
-
--- the owner of a turnstile, where one is lent to the lock
-abbrev pub owner_of_head : Option Turnstile → Option ℕ
-owner_of_head None = None
-owner_of_head (Some h) = h.contents.own.owner
 
 -- the thread is in a hop, where its walk is, and has both out
 pub record InHop (floor : Description) (o : ℕ) (v : Knowledge) : Type 0 where

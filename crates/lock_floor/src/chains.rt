@@ -17,7 +17,6 @@ use crate::floor::FloorOf;
 use crate::pass::Pass;
 use floor_table::{Description, Law, Slot, View};
 use lock_model::{Kind, QueueName};
-use std::sync::Wait;
 
 impl FloorOf<Slot, View, Description, Law> {
     /// Takes the chain in which a queue stands, if it is at home. The thread has nothing out yet: it takes a chain
@@ -40,22 +39,6 @@ impl FloorOf<Slot, View, Description, Law> {
     {
         let slot = self.chain_slot(q);
         self.try_take(pass, slot)
-    }
-
-    /// Takes the chain in which a queue stands, when it is at home. The thread has nothing out yet.
-    pub fn take_chain<R: Wait>(&self, rt: &R, pass: &mut Pass, q: QueueName)
-        requires own { IsOf self.now pass.old }
-        requires queue { IsQueueOf self.now.description q }
-        requires first { pass.old.view.out ≡ [] }
-        requires may { MayMake self.now.description pass.old.view
-            (λ s. item_with s (its_chain self.now.description q) ≡ None)
-            (TakesItem pass.old.view.thread (its_chain self.now.description q) ∷ []) }
-        ensures own { IsOf self.now pass.new }
-        ensures out { Takes self.now.description (its_chain self.now.description q)
-            (chain_place self.now.description q) pass.old.view pass.new.view }
-    {
-        let slot = self.chain_slot(q);
-        self.take(rt, pass, slot);
     }
 
     /// Gives back the chain in which a queue stands, which was taken last.

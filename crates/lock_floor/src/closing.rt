@@ -91,6 +91,7 @@ impl Keeper {
             log,
             finished: _,
             law: _,
+            call: _,
             apart: _,
         } = pass;
         floor

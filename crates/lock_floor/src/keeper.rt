@@ -8,6 +8,7 @@ ghost use Rattle.floor_table.specs.declared.slot.Slot.TheVariants.{Cell, Turnsti
 ghost use Rattle.lock_floor.specs.First.{AreFirstWords, IsFirst};
 ghost use Rattle.lock_floor.specs.Passes.{IsKeeperOf, first_pass};
 
+use crate::calls::Call;
 use crate::floor::{Floor, FloorOf};
 use crate::pass::{Pass, PassOf};
 use atomic_table::Split;
@@ -236,6 +237,7 @@ fn hand_out(
             marked: Marked::none(),
             log,
             finished: false,
+            call: Call::None,
             law: PhantomData,
             apart: [0; 16],
         });

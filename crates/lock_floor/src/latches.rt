@@ -43,18 +43,6 @@ impl FloorOf<Slot, View, Description, Law> {
         self.try_take(pass, usize::from(t.0))
     }
 
-    /// Takes the record of a thread, when it is at home.
-    pub fn take_rec<R: Wait>(&self, rt: &R, pass: &mut Pass, t: ThreadNo)
-        requires own { IsOf self.now pass.old }
-        requires thread { t.0 < length self.now.description.threads }
-        requires may { MayMake self.now.description pass.old.view (λ s. s.record_with t.0 ≡ None)
-            (TakesItem pass.old.view.thread (RecordOf t.0) ∷ []) }
-        ensures own { IsOf self.now pass.new }
-        ensures out { Takes self.now.description (RecordOf t.0) t.0 pass.old.view pass.new.view }
-    {
-        self.take(rt, pass, usize::from(t.0));
-    }
-
     /// Gives back the record of a thread, which was taken last.
     pub fn give_rec(&self, pass: &mut Pass, t: ThreadNo)
         requires own { IsOf self.now pass.old }

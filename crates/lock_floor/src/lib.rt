@@ -2,8 +2,8 @@
 //! of their atomic steps is a step of `lock_state`, so that the table represents a lawful state between any two.
 //!
 //! - `floor`: the floor, which all threads share.
-//! - `pass`: what a thread steps with: its seat at the table, the locks that it holds, its log, and those whom it took
-//!   off a queue and has yet to wake.
+//! - `pass`: what a thread steps with: its seat at the table, the locks that it holds, its log, those whom it took off
+//!   a queue and has yet to wake, and the call that it is in the middle of (`calls`).
 //! - `steps`: the atomic steps of a thread on lock words, and `rounds`: those by which a call begins its round and
 //!   gains.
 //! - `stamps`: those that make an entry.
@@ -21,6 +21,7 @@
 //! - `ties`: what is true of each floor and pass.
 #![tactic(auto)]
 
+mod calls;
 mod chains;
 mod closing;
 mod floor;
@@ -40,6 +41,7 @@ mod ties;
 mod waits;
 mod walking;
 
+pub use calls::{Call, ReleaseAt, TakeAt};
 pub use closing::Closing;
 pub use floor::{Floor, FloorOf};
 pub use keeper::Keeper;

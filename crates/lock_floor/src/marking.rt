@@ -1,16 +1,17 @@
 //! How a thread wakes those whom it took off a queue, as in `turnstile_unpend` of FreeBSD's subr_turnstile.c. For each
 //! it takes the record of that thread; by one atomic step it gives it its object back and says in its wait word that it
-//! was woken; then it gives the record back, and ends the sleep. No call takes memory.
-ghost use Rattle.std.specs.Prelude.{◌≡◌, ◌<◌, [], ◌∷◌, length, IfNone, IfSome, IsSome};
+//! was woken; then it gives the record back, and ends the sleep. No call waits, and none takes memory.
+ghost use Rattle.std.specs.Prelude.{◌≡◌, ◌<◌, true, false, [], ◌∷◌, length, IfNone, IfSome, IsSome};
 ghost use Rattle.std.specs.Box.{with_value};
 ghost use Rattle.atomic_table.specs.Table.{Allows, rest};
 ghost use Rattle.lock_objects.specs.Marked.{IsAway, node_of, places_of, record_woken};
+ghost use Rattle.lock_state.specs.Steps.Items.{RecordOf};
 ghost use Rattle.floor_table.specs.declared.slot.Slot.TheVariants.{Record};
 ghost use Rattle.floor_table.specs.Places.{spot, wait_line};
 ghost use Rattle.floor_table.specs.Rule.{FloorHolds};
-ghost use Rattle.floor_table.specs.Steps.{MakesEach};
 ghost use Rattle.floor_table.specs.Views.{seeing};
-ghost use Rattle.lock_floor.specs.Marks.{CanMark, MarksFirst, MayMark, marking, with_marks};
+ghost use Rattle.lock_floor.specs.Latches.{FindsOut};
+ghost use Rattle.lock_floor.specs.Marks.{CanMark, MarksFirst, MayMark, WakesFirst};
 ghost use Rattle.lock_floor.specs.Passes.{IsOf};
 
 use crate::floor::FloorOf;
@@ -19,7 +20,6 @@ use floor_table::{Board, Description, FloorSeat, Law, Slot, Tells, View, store, 
 use lock_model::ThreadNo;
 use lock_objects::{Marked, Woken, wake};
 use std::marker::Brand;
-use std::sync::Wait;
 
 // What a wait word says of a thread that a signal woke.
 const SIGNALLED: u64 = 2;
@@ -42,22 +42,30 @@ impl FloorOf<Slot, View, Description, Law> {
         u
     }
 
-    /// Wakes each of the marked list, the first one first. It waits while another thread has a record out.
-    pub fn mark_all<R: Wait>(&self, rt: &R, pass: &mut Pass)
+    /// Wakes the first of the marked list, who is that thread, if its record is at home: it takes the record, marks the
+    /// thread, and gives the record back. Its sleep is still to be ended, by `unpark`. `false` comes only where another
+    /// thread had the record out at a moment between the pass's last step and this call's return, or the pass itself
+    /// has it. It never waits.
+    pub fn try_wake(&self, pass: &mut Pass, t: ThreadNo) -> bool
         requires own { IsOf self.now pass.old }
         requires may { CanMark pass.old.view }
+        requires first { (m : _) × (ms : _) × (pass.old.view.share.doing.marked ≡ m ∷ ms)
+            × (m.thread ≡ t.0) }
+        requires thread { t.0 < length self.now.description.threads }
         ensures own { IsOf self.now pass.new }
-        ensures view { pass.new.view ≡ seeing pass.new.view.seen (with_marks pass.old.view []) }
-        ensures steps { MakesEach self.now.description
-            (marking pass.old.view.thread pass.old.view.share.doing.marked)
-            pass.old.view pass.new.view }
+        ensures woken { result ≡ true
+            → WakesFirst self.now.description t.0 pass.old.view pass.new.view }
+        ensures left { result ≡ false → pass.new.view
+            ≡ seeing pass.new.view.seen pass.old.view }
+        ensures elsewhere { result ≡ false
+            → FindsOut self.now.description (RecordOf t.0) pass.old.view pass.new.view }
     {
-        while let Some(t) = pass.first_marked() {
-            self.take_rec(rt, pass, t);
-            self.mark(pass);
-            self.give_rec(pass, t);
-            self.unpark(t);
+        if !self.try_take_rec(pass, t) {
+            return false;
         }
+        self.mark(pass);
+        self.give_rec(pass, t);
+        true
     }
 }
 

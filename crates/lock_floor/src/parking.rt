@@ -45,25 +45,13 @@ impl FloorOf<Slot, View, Description, Law> {
         Some(found == ABORTED)
     }
 
-    /// Sleeps until the thread was woken off the queue on which it stands, and runs again. Answers whether an abort
-    /// woke it.
-    pub fn park<R: Wait>(&self, rt: &R, pass: &mut Pass) -> bool
-        requires own { IsOf self.now pass.old }
-        requires may { MayRunAgain self.now.description pass.old.view }
-        ensures own { IsOf self.now pass.new }
-        ensures woken { RunsAgain self.now.description (cause_of result)
-            pass.old.view pass.new.view }
+    /// Sleeps while the thread's wait word says that it is queued. It is no step, and may end for no reason.
+    pub fn sleep<R: Wait>(&self, rt: &R, pass: &Pass)
+        requires { IsOf self.now pass.now }
     {
-        for _ in rt.forever() {
-            match self.try_resume(pass) {
-                Some(aborted) => return aborted,
-                None => self
-                    .board
-                    .shared
-                    .park(rt, wait_spot(pass.who), QUEUED as u32),
-            }
-        }
-        unreachable!()
+        self.board
+            .shared
+            .park(rt, wait_spot(pass.who), QUEUED as u32);
     }
 
     /// Ends the sleep of a thread on its wait word. It is no step, and a thread that doesn't sleep there takes no

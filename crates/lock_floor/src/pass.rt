@@ -3,6 +3,7 @@ ghost use Rattle.std.specs.Prelude.{◌≡◌, ◌<◌, length};
 ghost use Rattle.lock_model.specs.Operations.{hold_in};
 ghost use Rattle.lock_objects.specs.Represents.{hold_of};
 
+use crate::calls::Call;
 use crate::ties::Ties;
 use atomic_table::Seat;
 use floor_table::{Description, Law, Slot, View};
@@ -22,6 +23,8 @@ pub struct PassOf<S, V, K, P: Ties<S, V, K>> {
     pub(crate) marked: Marked,
     pub(crate) log: Log,
     pub(crate) finished: bool,
+    /// The call of a lock that the thread is in the middle of.
+    pub(crate) call: Call,
     pub(crate) law: PhantomData<(K, P)>,
     /// Nothing: it keeps what another pass of a list writes off the cache lines of this one.
     pub(crate) apart: [u64; 16],
@@ -36,12 +39,14 @@ impl<S, V, K, P: Ties<S, V, K>> Model for PassOf<S, V, K, P> {
       table = p.seat.table_id;
       view = p.seat.me.0;
       finished = p.finished;
+      call = p.call;
     } };
 
     ghost invariant = { λ p. P.tied p.who.0 p.held p.marked p.log p.finished p.seat.me };
 }
 
-/// The pass of a thread: its seat at the floor's table, the locks that it holds, those whom it is to wake, and its log.
+/// The pass of a thread: its seat at the floor's table, the locks that it holds, those whom it is to wake, its log, and
+/// the call of a lock that it is in the middle of.
 pub type Pass = PassOf<Slot, View, Description, Law>;
 
 impl PassOf<Slot, View, Description, Law> {
@@ -65,6 +70,20 @@ impl PassOf<Slot, View, Description, Law> {
         ensures { result.now ≡ self.now.view.share.held }
     {
         &self.held
+    }
+
+    /// The call of a lock that it is in the middle of.
+    pub fn call(&self) -> Call
+        ensures { result ≡ self.now.call }
+    {
+        self.call
+    }
+
+    /// Makes this the call that it is in the middle of. It is no step.
+    pub fn set_call(&mut self, call: Call)
+        ensures { self.new ≡ record self.old { call = call } }
+    {
+        self.call = call;
     }
 
     /// The mode in which it holds the lock. `None` comes exactly where it doesn't hold it.

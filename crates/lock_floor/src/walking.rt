@@ -2,7 +2,7 @@
 //! of FreeBSD's subr_turnstile.c does. It goes hop by hop: from a lock to the owner of its turnstile, which is lent the
 //! best priority of those who wait, and from an owner that stands on a turnstile itself to the lock for which that one
 //! waits, where it is sorted anew. A hop takes the chain of turnstiles and then one record, works on both where nobody
-//! else can see them, commits the work by one atomic step, and gives both back. No call takes memory.
+//! else can see them, commits the work by one atomic step, and gives both back. No call waits, and none takes memory.
 ghost use Rattle.std.specs.Prelude.{◌≡◌, ◌≢◌, ℕ, ◌<◌, ◌^◌, ⊤, true, false, None, Some, [], ◌∷◌, option_map, is_some, IfNone, IfSome, IsSomeAnd};
 ghost use Rattle.std.specs.Box.{with_value};
 ghost use Rattle.atomic_table.specs.Table.{Allows, rest};
@@ -13,6 +13,7 @@ ghost use Rattle.lock_objects.specs.Hops.{CanHop};
 ghost use Rattle.lock_objects.specs.Represents.{walk_of};
 ghost use Rattle.lock_state.specs.State.{NoWalk, AtLock, AtThread};
 ghost use Rattle.lock_state.specs.Steps.{Step, Lends, EndsWalk};
+ghost use Rattle.lock_state.specs.Steps.Items.{RecordOf};
 ghost use Rattle.turnstile_core.specs.Changes.{waits};
 ghost use Rattle.floor_table.specs.Descriptions.{config_in};
 ghost use Rattle.floor_table.specs.declared.slot.Slot.TheVariants.{Record, Turnstiles};
@@ -20,8 +21,9 @@ ghost use Rattle.floor_table.specs.Places.{spot, latch_line};
 ghost use Rattle.floor_table.specs.Rule.{FloorHolds};
 ghost use Rattle.floor_table.specs.Steps.{MayMake, Makes};
 ghost use Rattle.floor_table.specs.Views.{seeing};
+ghost use Rattle.lock_floor.specs.Latches.{FindsOut, Takes};
 ghost use Rattle.lock_floor.specs.Passes.{IsOf};
-ghost use Rattle.lock_floor.specs.Walks.{CanWalk, Hops, Walks, walked_off, turnstiles_place, owner_of_head, IsStepAtThread, MayLendTo, MaySort, StepsInHop, hopped, IsLentTo, StandsNowhere, IsSorted};
+ghost use Rattle.lock_floor.specs.Walks.{CanWalk, HasTurnstilesOut, HopsOn, turnstiles, turnstiles_place, owner_of_head, IsStepAtThread, MayLendTo, MaySort, StepsInHop, hopped, IsLentTo, StandsNowhere, IsSorted};
 
 use crate::floor::FloorOf;
 use crate::pass::Pass;
@@ -31,92 +33,107 @@ use lock_model::{Kind, LockNo, QueueName, ThreadNo};
 use lock_objects::{lend_to_owner, sort_anew};
 use prio_lending::Walk;
 use std::marker::Brand;
-use std::sync::Wait;
 use thread_records::ThreadRec;
 use turnstile_core::Turnstile;
 
 impl FloorOf<Slot, View, Description, Law> {
-    /// Makes the hops of the thread's walk until it has ended. Where the walk is, `there` tells. It waits while another
-    /// thread has the chain of turnstiles or a record out.
-    pub fn walk<R: Wait>(&self, rt: &R, pass: &mut Pass, there: Walk)
+    /// Takes the chain of turnstiles for a hop of the thread's walk, if it is at home. The thread has nothing out yet.
+    /// `false` comes only where another thread had the chain out at a moment between the pass's last step and this
+    /// call's return.
+    pub fn try_take_turnstiles(&self, pass: &mut Pass) -> bool
         requires own { IsOf self.now pass.old }
         requires may { CanWalk self.now.description pass.old.view }
-        requires there { walk_of there ≡ pass.old.view.share.doing.walk }
         ensures own { IsOf self.now pass.new }
-        ensures ended { pass.new.view.share.doing.walk ≡ NoWalk }
-        ensures view { pass.new.view ≡ seeing pass.new.view.seen
-            (walked_off pass.old.view.share.doing.walk pass.old.view) }
-        ensures steps { Walks self.now.description pass.old.view pass.new.view }
+        ensures out { result ≡ true → Takes self.now.description turnstiles
+            (turnstiles_place self.now.description) pass.old.view pass.new.view }
+        ensures in_hop { result ≡ true
+            → HasTurnstilesOut self.now.description pass.new.view }
+        ensures left { result ≡ false → pass.new.view
+            ≡ seeing pass.new.view.seen pass.old.view }
+        ensures elsewhere { result ≡ false
+            → FindsOut self.now.description turnstiles pass.old.view pass.new.view }
     {
-        let mut at = there;
-        for _ in rt.forever() {
-            match at {
-                Walk::None => return,
-                Walk::AtLock(_) | Walk::AtThread(_) => at = self.hop(rt, pass, at),
-            }
-        }
-        unreachable!()
+        let chain = self.turnstiles_slot();
+        self.try_take(pass, chain)
     }
 
-    /// Makes one hop of the thread's walk, which is under way. Where the walk is, `there` tells, and the answer tells
-    /// where it is then: nowhere, if it has ended. Between two hops the thread has nothing out. It waits while another
-    /// thread has the chain of turnstiles or a record out.
-    pub fn hop<R: Wait>(&self, rt: &R, pass: &mut Pass, there: Walk) -> Walk
+    /// Makes the rest of a hop of the thread's walk, for which it has the chain of turnstiles out. Where the walk is,
+    /// `there` tells, and the answer tells where it is then: nowhere, if it has ended; the thread has nothing out then.
+    /// `None` comes only where another thread had a record out at a moment between the pass's last step and this call's
+    /// return, or the pass itself has it. It never waits.
+    pub fn try_hop(&self, pass: &mut Pass, there: Walk) -> Option<Walk>
         requires own { IsOf self.now pass.old }
-        requires may { CanWalk self.now.description pass.old.view }
+        requires in_hop { HasTurnstilesOut self.now.description pass.old.view }
         requires there { walk_of there ≡ pass.old.view.share.doing.walk }
         requires under_way { pass.old.view.share.doing.walk ≢ NoWalk }
         ensures own { IsOf self.now pass.new }
-        ensures hop { Hops self.now.description (walk_of result) pass.old.view pass.new.view }
+        ensures hop { IfSome result (λ walk.
+            HopsOn self.now.description (walk_of walk) pass.old.view pass.new.view) }
+        ensures left { IfNone result (pass.new.view
+            ≡ seeing pass.new.view.seen pass.old.view) }
+        ensures elsewhere { IfNone result ((o : ℕ)
+            × FindsOut self.now.description (RecordOf o) pass.old.view pass.new.view) }
     {
         match there {
             Walk::None => unreachable!(),
-            Walk::AtLock(l) => self.hop_at_lock(rt, pass, l),
-            Walk::AtThread(o) => self.hop_at_thread(rt, pass, o),
+            Walk::AtLock(l) => self.hop_at_lock(pass, l),
+            Walk::AtThread(o) => self.hop_at_thread(pass, o),
         }
     }
 
-    // A hop at a lock: the owner of its turnstile is lent to, or the walk ends where there is none.
-    fn hop_at_lock<R: Wait>(&self, rt: &R, pass: &mut Pass, l: LockNo) -> Walk
+    // The same at a lock: the owner of its turnstile is lent to, or the walk ends where there is none.
+    fn hop_at_lock(&self, pass: &mut Pass, l: LockNo) -> Option<Walk>
         requires own { IsOf self.now pass.old }
-        requires may { CanWalk self.now.description pass.old.view }
+        requires in_hop { HasTurnstilesOut self.now.description pass.old.view }
         requires there { pass.old.view.share.doing.walk ≡ AtLock l.0 }
         ensures own { IsOf self.now pass.new }
-        ensures hop { Hops self.now.description (walk_of result) pass.old.view pass.new.view }
+        ensures hop { IfSome result (λ walk.
+            HopsOn self.now.description (walk_of walk) pass.old.view pass.new.view) }
+        ensures left { IfNone result (pass.new.view
+            ≡ seeing pass.new.view.seen pass.old.view) }
+        ensures elsewhere { IfNone result ((o : ℕ)
+            × FindsOut self.now.description (RecordOf o) pass.old.view pass.new.view) }
     {
         let chain = self.turnstiles_slot();
-        self.take(rt, pass, chain);
         match self.owner_at(pass, chain, l) {
             Some(o) => {
-                self.take_rec(rt, pass, o);
+                if !self.try_take_rec(pass, o) {
+                    return None;
+                }
                 let walk = self.lend(pass, l, o);
                 self.give_rec(pass, o);
                 self.give(pass, chain);
-                walk
+                Some(walk)
             }
             None => {
                 self.end_walk(pass);
                 self.give(pass, chain);
-                Walk::None
+                Some(Walk::None)
             }
         }
     }
 
-    // A hop at a thread: it is sorted anew where it stands on a turnstile, or else the walk ends.
-    fn hop_at_thread<R: Wait>(&self, rt: &R, pass: &mut Pass, o: ThreadNo) -> Walk
+    // The same at a thread: it is sorted anew where it stands on a turnstile, or else the walk ends.
+    fn hop_at_thread(&self, pass: &mut Pass, o: ThreadNo) -> Option<Walk>
         requires own { IsOf self.now pass.old }
-        requires may { CanWalk self.now.description pass.old.view }
+        requires in_hop { HasTurnstilesOut self.now.description pass.old.view }
         requires there { pass.old.view.share.doing.walk ≡ AtThread o.0 }
         ensures own { IsOf self.now pass.new }
-        ensures hop { Hops self.now.description (walk_of result) pass.old.view pass.new.view }
+        ensures hop { IfSome result (λ walk.
+            HopsOn self.now.description (walk_of walk) pass.old.view pass.new.view) }
+        ensures left { IfNone result (pass.new.view
+            ≡ seeing pass.new.view.seen pass.old.view) }
+        ensures elsewhere { IfNone result ((o : ℕ)
+            × FindsOut self.now.description (RecordOf o) pass.old.view pass.new.view) }
     {
+        if !self.try_take_rec(pass, o) {
+            return None;
+        }
         let chain = self.turnstiles_slot();
-        self.take(rt, pass, chain);
-        self.take_rec(rt, pass, o);
         let walk = self.sort(pass, o);
         self.give_rec(pass, o);
         self.give(pass, chain);
-        walk
+        Some(walk)
     }
 
     // Lends to the owner of a lock's turnstile, whose record was taken last, and before it the chain. It is one atomic

@@ -1,21 +1,25 @@
 use Rattle.std.proofs.Common.{◌≡◌, false}
 use Rattle.lock_model.specs.Words.{word_of, is_free}
-use Rattle.adaptive_mutex.proofs.Acquired.{may_gain_free, acquires, begins_call, may_note, tried, saw_held, may_note_busy, found_busy}
-use Rattle.adaptive_mutex.proofs.Looks.{may_look_on, rest_looks}
+use Rattle.lock_calls.proofs.Attempts.{acquires, begins_call}
+use Rattle.lock_calls.proofs.Looks.{may_look_on, rest_looks}
+use Rattle.lock_calls.proofs.Words.{saw_held}
+use Rattle.adaptive_mutex.proofs.Tried.{may_gain_free, may_note, tried, may_note_busy, found_busy}
 use Rattle.adaptive_mutex.proofs.mutex.try_lock.Goals as goal
 use Rattle.adaptive_mutex.proofs.mutex.try_lock.Goals.{In-Err}
 
 pub gain-requires-clause-may : goal.gain-requires-clause-may
 gain-requires-clause-may c =
     may_gain_free c.args.floor.now.description c.args.l.0 c.args.pass.now.view c.requires.may.mutex
-    (acquires c.args.floor.now.description c.args.l.0 c.args.pass.now.view c.requires.ready.rest c.requires.may)
+    (acquires c.args.floor.now.description c.args.l.0 c.args.pass.now.view c.requires.ready.rest
+    c.requires.may.unheld c.requires.may.few)
 
 pub gain-requires-clause-may_look : goal.gain-requires-clause-may_look
 gain-requires-clause-may_look c =
     may_look_on c.args.floor.now.description c.args.pass.now.view c.args.l.0 c.requires.ready.own.description
     c.requires.may.mutex.lock (rest_looks c.args.floor.now.description c.args.pass.now.view c.requires.ready.rest)
     (λ unheld. begins_call c.args.floor.now.description c.args.l.0 c.args.pass.now.view
-    (acquires c.args.floor.now.description c.args.l.0 c.args.pass.now.view c.requires.ready.rest c.requires.may))
+    (acquires c.args.floor.now.description c.args.l.0 c.args.pass.now.view c.requires.ready.rest
+    c.requires.may.unheld c.requires.may.few))
 
 -- 1. It gained the mutex
 

@@ -7,6 +7,7 @@ use Rattle.floor_table.specs.declared.description.ThreadPart.{ThreadPart}
 use Rattle.floor_table.specs.declared.slot.Slot.{Slot}
 use Rattle.floor_table.specs.Rule.{FloorHolds}
 use Rattle.floor_table.specs.Views.{Knowledge, first_view, keeper}
+use Rattle.lock_floor.specs.declared.calls.Call.TheVariants as call
 use Rattle.lock_floor.specs.Floors.{Pass}
 use Rattle.lock_floor.specs.Passes.{first_pass}
 use Rattle.lock_floor.specs.Ties.{IsTied}
@@ -90,8 +91,15 @@ loop-t-preserved c =
       table = c.split_seat-mine.result.table_id;
       view = c.split_seat-mine.result.me.0;
       finished = false;
+      call = call.None;
     } ≡ first_pass c.args.board.now.shared.table_id floor t =
-    λ j. record { table = (split.3 ∙ i.table) j; view = (ap (λ (m : Me Slot Knowledge). m.0) split.4 ∙ ap new_pass old) j; finished = false } in
+    λ j. record {
+      table = (split.3 ∙ i.table) j;
+      view = (ap (λ (m : Me Slot Knowledge). m.0) split.4 ∙ ap new_pass old) j;
+      finished = false;
+      call = call.None;
+    }
+    in
     record {
       table = split.0 ∙ i.table;
       first = split.1 ∙ i.first;

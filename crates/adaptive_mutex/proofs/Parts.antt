@@ -1,0 +1,74 @@
+-- A take or a release that has begun, or was gone on with, and isn't done: it is under way, so it can be gone on with.
+use Rattle.std.proofs.Common.{◌≡◌, refl}
+use Rattle.lock_model.specs.declared.numbers.LockNo.{LockNo}
+use Rattle.lock_model.specs.declared.plan.Mode.{Mode}
+use Rattle.floor_table.specs.declared.description.Description.{Description}
+use Rattle.floor_table.specs.Views.{Knowledge}
+use Rattle.lock_floor.specs.declared.calls.Call.TheVariants as calls
+use Rattle.lock_floor.specs.declared.calls.ReleaseAt.{ReleaseAt}
+use Rattle.lock_floor.specs.declared.calls.ReleaseAt.TheVariants.{ComesTo, Wakes}
+use Rattle.lock_floor.specs.declared.calls.TakeAt.{TakeAt}
+use Rattle.lock_floor.specs.declared.calls.TakeAt.TheVariants.{Spins}
+use Rattle.lock_floor.specs.Floors.{Pass}
+use Rattle.lock_calls.specs.declared.answers.Next.{Next}
+use Rattle.lock_calls.specs.declared.answers.Next.TheVariants.{Done, Again, Sleep, Wake}
+use Rattle.lock_calls.specs.Releases.{HasBegunRelease, IsInRelease, GoesOnReleasing}
+use Rattle.lock_calls.specs.Takes.{HasBegunTake, IsInTake, StandsInTake, GoesOnTaking}
+use Rattle.lock_calls.proofs.Taken.{under_take_on}
+
+-- 1. A take
+
+pub take_begun : (floor : Description) (l : LockNo) (mode : Mode) (p q : Pass Knowledge)
+    → HasBegunTake floor l mode Again p q → IsInTake floor q
+take_begun floor l mode p q b = record { l = l; mode = mode; at = Spins b.left; call = b.call; there = b.there }
+
+module _ (floor : Description) (p q : Pass Knowledge) (m : IsInTake floor p) where
+  stands : (next : Next) → StandsInTake floor m.l m.mode m.at next p q → IsInTake floor q
+  stands next s = record {
+    l = m.l;
+    mode = m.mode;
+    at = s.to;
+    call = s.call;
+    there = under_take_on floor m.l m.mode m.at s.to p.view q.view m.there s.on;
+  }
+
+  pub take_goes_on : (next : Next) → (next ≡ Done → ⊥)
+      → ((l : LockNo) (mode : Mode) (at : TakeAt) → p.call ≡ calls.Take l mode at
+      → GoesOnTaking floor l mode at next p q)
+      → IsInTake floor q
+  take_goes_on Done undone went = absurd (undone refl)
+  take_goes_on Again undone went = stands Again (went m.l m.mode m.at m.call)
+  take_goes_on Sleep undone went = stands Sleep (went m.l m.mode m.at m.call)
+  take_goes_on (Wake t) undone went = absurd (went m.l m.mode m.at m.call)
+
+-- 2. A release
+
+pub release_begun : (floor : Description) (l : LockNo) (mode : Mode) (p q : Pass Knowledge)
+    → HasBegunRelease floor l mode Again p q → IsInRelease floor q
+release_begun floor l mode p q b = record { l = l; mode = mode; at = ComesTo; call = b.call; there = b.there }
+
+module _ (floor : Description) (p q : Pass Knowledge) (m : IsInRelease floor p) where
+  pub release_goes_on : (next : Next) → (next ≡ Done → ⊥)
+      → ((l : LockNo) (mode : Mode) (at : ReleaseAt) → p.call ≡ calls.Release l mode at
+      → GoesOnReleasing floor l mode at next p q)
+      → IsInRelease floor q
+  release_goes_on Done undone went = absurd (undone refl)
+  release_goes_on Again undone went =
+      let s = went m.l m.mode m.at m.call in
+      record {
+        l = m.l;
+        mode = m.mode;
+        at = s.to;
+        call = s.call;
+        there = record { covered = m.there.covered; there = s.on.there };
+      }
+  release_goes_on Sleep undone went = absurd (went m.l m.mode m.at m.call)
+  release_goes_on (Wake t) undone went =
+      let s = went m.l m.mode m.at m.call in
+      record {
+        l = m.l;
+        mode = m.mode;
+        at = Wakes;
+        call = s.call;
+        there = record { covered = m.there.covered; there = s.there };
+      }

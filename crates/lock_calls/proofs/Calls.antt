@@ -1,0 +1,122 @@
+-- The call that a pass is in the middle of: which one it is, and that it is noted in the pass where it stands.
+use Rattle.std.proofs.Common.{◌≡◌, sym, ap, ◌∙◌, subst}
+use Rattle.lock_model.specs.declared.numbers.LockNo.{LockNo}
+use Rattle.lock_model.specs.declared.numbers.ThreadNo.{ThreadNo}
+use Rattle.lock_model.specs.declared.plan.Mode.{Mode}
+use Rattle.floor_table.specs.declared.description.Description.{Description}
+use Rattle.floor_table.specs.Views.{Knowledge}
+use Rattle.prio_lending.specs.declared.walk.Walk.TheVariants as walk
+use Rattle.lock_floor.specs.declared.calls.Call.{Call}
+use Rattle.lock_floor.specs.declared.calls.Call.TheVariants as calls
+use Rattle.lock_floor.specs.declared.calls.ReleaseAt.{ReleaseAt}
+use Rattle.lock_floor.specs.declared.calls.TakeAt.{TakeAt}
+use Rattle.lock_floor.specs.declared.calls.TakeAt.TheVariants.{Spins, ComesIn, Contends, Walks, Hops}
+use Rattle.lock_floor.specs.Floors.{Floor, Pass}
+use Rattle.lock_floor.specs.Passes.{IsOf}
+use Rattle.lock_calls.specs.declared.answers.Next.{Next}
+use Rattle.lock_calls.specs.declared.answers.Next.TheVariants.{Done, Again, Sleep, Wake}
+use Rattle.lock_calls.specs.Releases.{IsInRelease, IsUnderRelease, GoesOnReleasing}
+use Rattle.lock_calls.specs.Takes.{IsInTake, IsUnderTake, TakesOn, GoesOnTaking, next_at}
+
+-- 1. Where the pass notes it
+
+pub own_noted : (f : Floor Description) (p q : Pass Knowledge) (call : Call) → q ≡ record p { call = call } → IsOf f p
+    → IsOf f q
+own_noted f p q call is own = subst (IsOf f) (sym is)
+    record { table = own.table; description = own.description; unfinished = own.unfinished }
+
+pub view_noted : (p q : Pass Knowledge) (call : Call) → q ≡ record p { call = call } → q.view ≡ p.view
+view_noted p q call is = ap (λ (r : Pass Knowledge). r.view) is
+
+pub call_noted : (p q : Pass Knowledge) (call : Call) → q ≡ record p { call = call } → q.call ≡ call
+call_noted p q call is = ap (λ (r : Pass Knowledge). r.call) is
+
+-- 2. A take
+
+module _ (l m : LockNo) (x y : Mode) (a b : TakeAt) where
+  pub same_take : calls.Take l x a ≡ calls.Take m y b → (l ≡ m) × (x ≡ y) × (a ≡ b)
+  same_take e = (ap lock e, ap mode e, ap at e)
+    where
+      lock : Call → LockNo
+      lock calls.None = l
+      lock (calls.Take k z c) = k
+      lock (calls.Release k z c) = l
+
+      mode : Call → Mode
+      mode calls.None = x
+      mode (calls.Take k z c) = z
+      mode (calls.Release k z c) = x
+
+      at : Call → TakeAt
+      at calls.None = a
+      at (calls.Take k z c) = c
+      at (calls.Release k z c) = a
+
+module _ (floor : Description) (p : Pass Knowledge) (l : LockNo) (mode : Mode) (at : TakeAt)
+    (is : p.call ≡ calls.Take l mode at) where
+  pub take_there : IsInTake floor p → IsUnderTake floor l mode at p.view
+  take_there m =
+      let same = same_take m.l l m.mode mode m.at at (sym m.call ∙ is) in
+      subst (λ (z : LockNo × Mode × TakeAt). IsUnderTake floor z.0 z.1 z.2 p.view)
+      (λ i. (same.0 i, same.1 i, same.2 i)) m.there
+
+  pub take_went : (next : Next) (q : Pass Knowledge) → GoesOnTaking floor l mode at next p q → (k : LockNo) (x : Mode)
+      (a : TakeAt) → p.call ≡ calls.Take k x a → GoesOnTaking floor k x a next p q
+  take_went next q went k x a e =
+      let same = same_take l k mode x at a (sym is ∙ e) in
+      subst (λ (z : LockNo × Mode × TakeAt). GoesOnTaking floor z.0 z.1 z.2 next p q)
+      (λ i. (same.0 i, same.1 i, same.2 i)) went
+
+-- what is to be done next, where a take stands somewhere, is to go on or to sleep
+stands_next : (to : TakeAt) → (next_at to ≡ Done → ⊥) × ((t : ThreadNo) → next_at to ≡ Wake t → ⊥)
+stands_next (Spins left) = (λ e. let z : Again ≡ Done = e in cc, λ t e. let z : Again ≡ Wake t = e in cc)
+stands_next ComesIn = (λ e. let z : Again ≡ Done = e in cc, λ t e. let z : Again ≡ Wake t = e in cc)
+stands_next (Contends seen) = (λ e. let z : Again ≡ Done = e in cc, λ t e. let z : Again ≡ Wake t = e in cc)
+stands_next (Walks walk.None) = (λ e. let z : Sleep ≡ Done = e in cc, λ t e. let z : Sleep ≡ Wake t = e in cc)
+stands_next (Walks (walk.AtLock l)) = (λ e. let z : Again ≡ Done = e in cc, λ t e. let z : Again ≡ Wake t = e in cc)
+stands_next (Walks (walk.AtThread o)) = (λ e. let z : Again ≡ Done = e in cc, λ t e. let z : Again ≡ Wake t = e in cc)
+stands_next (Hops there) = (λ e. let z : Again ≡ Done = e in cc, λ t e. let z : Again ≡ Wake t = e in cc)
+
+pub take_stands : (floor : Description) (l : LockNo) (mode : Mode) (at to : TakeAt) (p q : Pass Knowledge) (next : Next)
+    → next ≡ next_at to → q.call ≡ calls.Take l mode to → TakesOn floor l mode at to p.view q.view
+    → GoesOnTaking floor l mode at next p q
+take_stands floor l mode at to p q Done is call on = absurd ((stands_next to).0 (sym is))
+take_stands floor l mode at to p q Again is call on = record { to = to; call = call; next_is = sym is; on = on }
+take_stands floor l mode at to p q Sleep is call on = record { to = to; call = call; next_is = sym is; on = on }
+take_stands floor l mode at to p q (Wake t) is call on = absurd ((stands_next to).1 t (sym is))
+
+-- 3. A release
+
+module _ (l m : LockNo) (x y : Mode) (a b : ReleaseAt) where
+  pub same_release : calls.Release l x a ≡ calls.Release m y b → (l ≡ m) × (x ≡ y) × (a ≡ b)
+  same_release e = (ap lock e, ap mode e, ap at e)
+    where
+      lock : Call → LockNo
+      lock calls.None = l
+      lock (calls.Take k z c) = l
+      lock (calls.Release k z c) = k
+
+      mode : Call → Mode
+      mode calls.None = x
+      mode (calls.Take k z c) = x
+      mode (calls.Release k z c) = z
+
+      at : Call → ReleaseAt
+      at calls.None = a
+      at (calls.Take k z c) = a
+      at (calls.Release k z c) = c
+
+module _ (floor : Description) (p : Pass Knowledge) (l : LockNo) (mode : Mode) (at : ReleaseAt)
+    (is : p.call ≡ calls.Release l mode at) where
+  pub release_there : IsInRelease floor p → IsUnderRelease floor l mode at p.view
+  release_there m =
+      let same = same_release m.l l m.mode mode m.at at (sym m.call ∙ is) in
+      subst (λ (z : LockNo × Mode × ReleaseAt). IsUnderRelease floor z.0 z.1 z.2 p.view)
+      (λ i. (same.0 i, same.1 i, same.2 i)) m.there
+
+  pub release_went : (next : Next) (q : Pass Knowledge) → GoesOnReleasing floor l mode at next p q → (k : LockNo)
+      (x : Mode) (a : ReleaseAt) → p.call ≡ calls.Release k x a → GoesOnReleasing floor k x a next p q
+  release_went next q went k x a e =
+      let same = same_release l k mode x at a (sym is ∙ e) in
+      subst (λ (z : LockNo × Mode × ReleaseAt). GoesOnReleasing floor z.0 z.1 z.2 next p q)
+      (λ i. (same.0 i, same.1 i, same.2 i)) went

@@ -1,0 +1,216 @@
+-- A take and a release that wait, part after part.
+use Rattle.std.proofs.Common.{◌≡◌, ◌⊎◌, inl, inr, ◌<◌, [], ◌∷◌, length, refl, sym, ap, ◌∙◌, subst}
+use Rattle.lock_model.specs.declared.event.Event.{Event}
+use Rattle.lock_model.specs.declared.numbers.LockNo.{LockNo}
+use Rattle.lock_model.specs.declared.numbers.ThreadNo.{ThreadNo}
+use Rattle.lock_model.specs.declared.plan.Mode.{Mode}
+use Rattle.lock_model.specs.Operations.{without_lock}
+use Rattle.lock_state.specs.Steps.{Stamps}
+use Rattle.floor_table.specs.declared.description.Description.{Description}
+use Rattle.floor_table.specs.Steps.{Makes, MakesEach}
+use Rattle.floor_table.specs.Views.{Knowledge}
+use Rattle.lock_floor.specs.declared.calls.Call.TheVariants as calls
+use Rattle.lock_floor.specs.declared.calls.ReleaseAt.{ReleaseAt}
+use Rattle.lock_floor.specs.declared.calls.ReleaseAt.TheVariants.{ComesTo, Wakes}
+use Rattle.lock_floor.specs.declared.calls.TakeAt.{TakeAt}
+use Rattle.lock_floor.specs.declared.calls.TakeAt.TheVariants.{Spins}
+use Rattle.lock_floor.specs.Floors.{Pass}
+use Rattle.lock_floor.specs.Passes.{IsAtRest, MakesEntry}
+use Rattle.lock_floor.proofs.Taking.{waits_none}
+use Rattle.lock_calls.specs.declared.answers.Next.{Next}
+use Rattle.lock_calls.specs.declared.answers.Next.TheVariants.{Done, Again, Sleep, Wake}
+use Rattle.lock_calls.specs.Releases as released
+use Rattle.lock_calls.specs.Releases.{IsUnderRelease, HasBegunRelease, StandsInRelease, ReleasesAtOnce, EndsRelease, WakesOne, GoesOnReleasing, noted_of}
+use Rattle.lock_calls.specs.Steps.{Locks, Release, AtOnce, unlocks, at_once}
+use Rattle.lock_calls.specs.Takes.{IsUnderTake, HasTaken, HasBegunTake, BeginsTake, StandsInTake, GoesOnTaking}
+use Rattle.lock_calls.specs.Waiting.{Kept, kept_of}
+use Rattle.lock_calls.proofs.Let as let_go
+use Rattle.lock_calls.proofs.Let.{HasNoted}
+use Rattle.lock_calls.proofs.Taken as taken
+use Rattle.lock_calls.proofs.Taken.{begins_at, goes_on, ends, entry_since, under_take_on}
+
+-- 1. A take
+
+-- what it is and has made
+pub record HasLocked (floor : Description) (l : LockNo) (mode : Mode) (begun new : Knowledge) : Type 0 where
+  pub taken : HasTaken floor l mode begun new
+  pub locks : Locks floor l mode begun new
+
+-- where it stands
+abbrev pub StandsSince : Description → LockNo → Mode → Knowledge → Pass Knowledge → Type 0
+StandsSince floor l mode begun p =
+    (at : TakeAt) × (p.call ≡ calls.Take l mode at) × IsUnderTake floor l mode at p.view
+    × (kept_of p.view ≡ kept_of begun) × taken.IsAt floor l.0 mode begun at p.view
+
+module _ (floor : Description) (l : LockNo) (mode : Mode) (next : Next) (p q : Pass Knowledge)
+    (b : HasBegunTake floor l mode next p q) where
+  pub locked_at_once : next ≡ Done → HasLocked floor l mode p.view q.view
+  locked_at_once is =
+      let d = subst (λ n. HasBegunTake floor l mode n p q) is b in
+      let m = d.2 in
+      record {
+        taken = d.1;
+        locks = record {
+          gained = m.0;
+          gains = at_once (m.0, m.1, refl);
+          notes = subst (λ k. Makes floor (Stamps p.view.thread (Event.Locked l mode) ∷ []) m.0 k) m.2.2 m.2.1;
+        };
+      }
+
+  pub stands_begun : next ≡ Again → StandsSince floor l mode p.view q
+  stands_begun is =
+      let d : BeginsTake floor l mode p q = subst (λ n. HasBegunTake floor l mode n p q) is b in (
+        Spins d.left,
+        d.call,
+        d.there,
+        d.kept,
+        begins_at floor l.0 mode p.view q.view d.left d.missed d.few d.once d.bare d.steps,
+      )
+
+  pub begins_on : (next ≡ Sleep) ⊎ ((t : ThreadNo) × (next ≡ Wake t)) → ⊥
+  begins_on (inl is) = subst (λ n. HasBegunTake floor l mode n p q) is b
+  begins_on (inr is) = subst (λ n. HasBegunTake floor l mode n p q) is.1 b
+
+module _ (floor : Description) (l : LockNo) (mode : Mode) (begun : Knowledge) (p : Pass Knowledge)
+    (s : StandsSince floor l mode begun p) (next : Next) (q : Pass Knowledge)
+    (w : GoesOnTaking floor l mode s.0 next p q) where
+  its : p.view.thread ≡ begun.thread
+  its = ap (λ (k : Kept). k.thread) s.3
+
+  pub locked : next ≡ Done → HasLocked floor l mode begun q.view
+  locked is =
+      let d = subst (λ n. GoesOnTaking floor l mode s.0 n p q) is w in
+      record {
+        taken = record {
+          rest = d.1.rest;
+          entry = entry_since floor l mode begun p.view q.view s.3 d.1.entry;
+        };
+        locks = ends floor l mode begun p.view q.view its (d.1.entry.thread ∙ its) s.0 s.4 d.2;
+      }
+
+  stands : (n : Next) → StandsInTake floor l mode s.0 n p q → StandsSince floor l mode begun q
+  stands n d = (
+    d.to,
+    d.call,
+    under_take_on floor l mode s.0 d.to p.view q.view s.2 d.on,
+    d.on.kept ∙ s.3,
+    goes_on floor l mode begun p.view q.view its (ap (λ (k : Kept). k.thread) d.on.kept ∙ its) s.0 d.to s.2.there s.4
+        d.on.leg,
+  )
+
+  pub stands_on : next ≡ Again → StandsSince floor l mode begun q
+  stands_on is = stands Again (subst (λ n. GoesOnTaking floor l mode s.0 n p q) is w)
+
+  pub stands_asleep : next ≡ Sleep → StandsSince floor l mode begun q
+  stands_asleep is = stands Sleep (subst (λ n. GoesOnTaking floor l mode s.0 n p q) is w)
+
+  pub wakes_nobody : (t : ThreadNo) → next ≡ Wake t → ⊥
+  wakes_nobody t is = subst (λ n. GoesOnTaking floor l mode s.0 n p q) is w
+
+-- 2. A release
+
+-- what it is and has made
+pub record HasUnlocked (floor : Description) (l : LockNo) (mode : Mode) (begun new : Knowledge) : Type 0 where
+  pub rest : IsAtRest floor new
+  pub entry : MakesEntry floor (Event.Unlocked l mode) (without_lock l.0 begun.share.held) begun new
+  pub how : Release
+  pub steps : MakesEach floor (unlocks floor begun.thread l mode how) begun new
+
+-- where it stands
+pub record ReleasesSince (floor : Description) (l : LockNo) (mode : Mode) (begun : Knowledge) (p : Pass Knowledge) :
+    Type 0 where
+  pub at : ReleaseAt
+  pub call : p.call ≡ calls.Release l mode at
+  pub under : IsUnderRelease floor l mode at p.view
+  pub noted : HasNoted floor l mode begun p.view
+  pub is_at : let_go.IsAt floor l mode begun at p.view
+
+noted_thread : (floor : Description) (l : LockNo) (mode : Mode) (begun now : Knowledge)
+    → HasNoted floor l mode begun now → now.thread ≡ begun.thread
+noted_thread floor l mode begun now n = ap (λ (k : released.Noted). k.thread) n.still ∙ n.entry.thread
+
+module _ (floor : Description) (l : LockNo) (mode : Mode) (next : Next) (p q : Pass Knowledge)
+    (b : HasBegunRelease floor l mode next p q) where
+  pub unlocked_at_once : next ≡ Done → HasUnlocked floor l mode p.view q.view
+  unlocked_at_once is =
+      let d = (subst (λ n. HasBegunRelease floor l mode n p q) is b).1 in
+      record { rest = d.rest; entry = d.entry; how = AtOnce; steps = d.steps }
+
+  pub releases_begun : next ≡ Again → ReleasesSince floor l mode p.view q
+  releases_begun is =
+      let d : released.BeginsRelease floor l mode p q = subst (λ n. HasBegunRelease floor l mode n p q) is b in
+      record {
+        at = ComesTo;
+        call = d.call;
+        under = d.there;
+        noted = record { first = q.view; entry = d.entry; still = refl };
+        is_at = record {
+          came = q.view;
+          has_let = d.steps;
+          waited = waits_none q.view;
+          held = d.entry.held;
+          settled = λ e nobody. refl;
+        };
+      }
+
+  pub release_begins_on : (next ≡ Sleep) ⊎ ((t : ThreadNo) × (next ≡ Wake t)) → ⊥
+  release_begins_on (inl is) = subst (λ n. HasBegunRelease floor l mode n p q) is b
+  release_begins_on (inr is) = subst (λ n. HasBegunRelease floor l mode n p q) is.1 b
+
+module _ (floor : Description) (l : LockNo) (mode : Mode) (begun : Knowledge) (p : Pass Knowledge)
+    (s : ReleasesSince floor l mode begun p) (next : Next) (q : Pass Knowledge)
+    (w : GoesOnReleasing floor l mode s.at next p q) where
+  its_own : p.view.thread ≡ begun.thread
+  its_own = noted_thread floor l mode begun p.view s.noted
+
+  pub unlocked : next ≡ Done → HasUnlocked floor l mode begun q.view
+  unlocked is =
+      let d : EndsRelease floor s.at p q = subst (λ n. GoesOnReleasing floor l mode s.at n p q) is w in
+      let h : let_go.IsAt floor l mode begun Wakes p.view =
+      subst (λ a. let_go.IsAt floor l mode begun a p.view) d.at_end s.is_at in
+      record {
+        rest = d.rest;
+        entry = subst (λ k. MakesEntry floor (Event.Unlocked l mode) (without_lock l.0 begun.share.held) begun k)
+            (sym d.same)
+            (let_go.entry_since floor l mode begun s.noted.first p.view s.noted.entry s.noted.still h.held);
+        how = h.has_let.how;
+        steps = subst (λ k. MakesEach floor (unlocks floor begun.thread l mode h.has_let.how) begun k) (sym d.same)
+            (let_go.ends floor l mode begun p.view h d.nobody);
+      }
+
+  pub releases_on : next ≡ Again → ReleasesSince floor l mode begun q
+  releases_on is =
+      let d : StandsInRelease floor l mode s.at p q = subst (λ n. GoesOnReleasing floor l mode s.at n p q) is w in
+      record {
+        at = d.to;
+        call = d.call;
+        under = record { covered = s.under.covered; there = d.on.there };
+        noted = record { first = s.noted.first; entry = s.noted.entry; still = d.on.noted ∙ s.noted.still };
+        is_at = let_go.goes_on floor l mode begun p.view q.view its_own s.at d.to s.is_at d.on.leg;
+      }
+
+  pub releases_awake : next ≡ Sleep → ⊥
+  releases_awake is = subst (λ n. GoesOnReleasing floor l mode s.at n p q) is w
+
+  module _ (t : ThreadNo) (is : next ≡ Wake t) where
+    one : WakesOne floor l mode s.at t.0 p q
+    one = subst (λ n. GoesOnReleasing floor l mode s.at n p q) is w
+
+    pub wakes_low : t.0 < length floor.threads
+    wakes_low = one.of_floor
+
+    pub releases_waking : ReleasesSince floor l mode begun q
+    releases_waking =
+        let h : let_go.IsAt floor l mode begun Wakes p.view =
+        subst (λ a. let_go.IsAt floor l mode begun a p.view) one.at_end s.is_at in
+        record {
+          at = Wakes;
+          call = one.call;
+          under = record { covered = s.under.covered; there = one.there };
+          noted = record {
+            first = s.noted.first;
+            entry = s.noted.entry;
+            still = ap noted_of one.wakes.view ∙ s.noted.still;
+          };
+          is_at = let_go.wakes_on floor l mode begun p.view q.view its_own t.0 h one.wakes;
+        }

@@ -1,0 +1,258 @@
+-- A release from its begin on: what the thread has made so far where the release stands, and that its parts together
+-- are a release.
+use Rattle.std.proofs.Common.{◌≡◌, ℕ, ◌+◌, false, List, [], ◌∷◌, ◌++◌, replicate, refl, sym, ap, ◌∙◌, subst}
+use Rattle.std.proofs.lemmas.List.{replicate-append-replicate}
+use Rattle.lock_model.specs.Operations.{without_lock}
+use Rattle.lock_model.specs.Queues.{Mark, lock_queue}
+use Rattle.lock_model.specs.declared.event.Event.{Event}
+use Rattle.lock_model.specs.declared.event.Held.{Held}
+use Rattle.lock_model.specs.declared.numbers.LockNo.{LockNo}
+use Rattle.lock_model.specs.declared.plan.Mode.{Mode}
+use Rattle.lock_state.specs.Steps.{Step, Looks, Stamps, TakesItem, GivesItem, Marks}
+use Rattle.lock_state.specs.Steps.Items.{Item, RecordOf}
+use Rattle.floor_table.specs.declared.description.Description.{Description}
+use Rattle.floor_table.specs.Steps.{Makes, MakesEach}
+use Rattle.floor_table.specs.Views.{Knowledge, seeing}
+use Rattle.lock_floor.specs.declared.calls.ReleaseAt.{ReleaseAt}
+use Rattle.lock_floor.specs.declared.calls.ReleaseAt.TheVariants.{ComesTo, ComesIn, Frees, Wakes}
+use Rattle.lock_floor.specs.Marks.{WakesFirst, wakes, marking}
+use Rattle.lock_floor.specs.Passes.{MakesEntry}
+use Rattle.lock_floor.specs.Waits.{its_chain}
+use Rattle.lock_floor.proofs.Taking.{HasWaited, waits_none, waits_on}
+use Rattle.lock_calls.specs.Releases.{Noted, noted_of, AwaitsInRelease, ReleaseLeg, takes_chain, comes_in, looks, makes_free, finds_out}
+use Rattle.lock_calls.specs.Steps.{Release, InSection, frees, gives_both, unlocks}
+use Rattle.lock_calls.proofs.Looks.{each_append}
+use Rattle.lock_calls.proofs.Waited.{makes_sooner, each_sooner}
+
+-- 1. So far
+
+-- the release is noted, and its exchange missed
+abbrev pub begins_release : ℕ → LockNo → Mode → List (List Step)
+begins_release t l mode = (Stamps t (Event.Unlocked l mode) ∷ []) ∷ (Looks t l.0 false ∷ []) ∷ []
+
+-- then it took the lock's chain
+pub record HasTakenChain (floor : Description) (l : LockNo) (mode : Mode) (begun now : Knowledge) : Type 0 where
+  pub missed : Knowledge
+  pub begins : MakesEach floor (begins_release begun.thread l mode) begun missed
+  pub took : Makes floor (TakesItem begun.thread (its_chain floor (lock_queue l.0)) ∷ []) missed now
+
+-- and its own record, and looked so often
+pub record HasComeIn (floor : Description) (l : LockNo) (mode : Mode) (begun now : Knowledge) : Type 0 where
+  pub chain : Knowledge
+  pub has_chain : HasTakenChain floor l mode begun chain
+  pub there : Knowledge
+  pub took : Makes floor (TakesItem begun.thread (RecordOf begun.thread) ∷ []) chain there
+  pub n : ℕ
+  pub each : MakesEach floor (replicate n (Looks begun.thread l.0 false ∷ [])) there now
+
+-- the lock is free, and once it has woken those who are left it has made a whole release
+pub record HasFreed (floor : Description) (l : LockNo) (mode : Mode) (begun now : Knowledge) : Type 0 where
+  pub how : Release
+  pub whole : (z : Knowledge) → MakesEach floor (marking begun.thread now.share.doing.marked) now z
+      → MakesEach floor (unlocks floor begun.thread l mode how) begun z
+
+-- so wherever it stands
+abbrev pub HasLet : Description → LockNo → Mode → Knowledge → ReleaseAt → Knowledge → Type 0
+HasLet floor l mode begun ComesTo now = MakesEach floor (begins_release begun.thread l mode) begun now
+HasLet floor l mode begun ComesIn now = HasTakenChain floor l mode begun now
+HasLet floor l mode begun (Frees seen) now = HasComeIn floor l mode begun now
+HasLet floor l mode begun Wakes now = HasFreed floor l mode begun now
+
+-- the locks that it holds then
+abbrev pub held_at : LockNo → List Held → ReleaseAt → List Held
+held_at l hs ComesTo = hs
+held_at l hs ComesIn = hs
+held_at l hs (Frees seen) = hs
+held_at l hs Wakes = without_lock l.0 hs
+
+-- and it may have found out since what it needs
+pub record IsAt (floor : Description) (l : LockNo) (mode : Mode) (begun : Knowledge) (at : ReleaseAt)
+    (now : Knowledge) :
+    Type 0 where
+  pub came : Knowledge
+  pub has_let : HasLet floor l mode begun at came
+  pub waited : HasWaited came now
+  pub held : now.share.held ≡ held_at l begun.share.held at
+  pub settled : at ≡ Wakes → now.share.doing.marked ≡ [] → now ≡ came
+
+-- who found out what it needs to wake somebody has somebody to wake
+nobody_waits : (floor : Description) (l : ℕ) (at : ReleaseAt) (i : Item) (old new : Knowledge)
+    → AwaitsInRelease floor l at old i → new ≡ seeing new.seen old → at ≡ Wakes → new.share.doing.marked ≡ [] → ⊥
+nobody_waits floor l ComesTo i old new needs view is nobody = let z : ComesTo ≡ Wakes = is in cc
+nobody_waits floor l ComesIn i old new needs view is nobody = let z : ComesIn ≡ Wakes = is in cc
+nobody_waits floor l (Frees seen) i old new needs view is nobody = needs
+nobody_waits floor l Wakes i old new needs view is nobody =
+    let z : needs.0 ∷ needs.1 ≡ [] =
+    sym needs.2 ∙ sym (ap (λ (k : Knowledge). k.share.doing.marked) view) ∙ nobody in
+    cc
+
+-- 2. From there to where it stands next
+
+module _ (floor : Description) (l : LockNo) (mode : Mode) (begun : Knowledge) where
+  abbrev t : ℕ
+  t = begun.thread
+
+  abbrev look : List Step
+  look = Looks begun.thread l.0 false ∷ []
+
+  more_looks : (now w : Knowledge) → HasComeIn floor l mode begun now → Makes floor look now w
+      → HasComeIn floor l mode begun w
+  more_looks now w h step = record {
+    chain = h.chain;
+    has_chain = h.has_chain;
+    there = h.there;
+    took = h.took;
+    n = h.n + 1;
+    each = subst (λ xs. MakesEach floor xs h.there w) (replicate-append-replicate h.n 1 look)
+        (each_append floor (replicate h.n look) (replicate 1 look) h.there now w h.each (w, step, refl));
+  }
+
+  module _ (now new : Knowledge) (its : now.thread ≡ begun.thread) where
+    pub goes_on : (at to : ReleaseAt) → IsAt floor l mode begun at now → ReleaseLeg floor l mode at to now new
+        → IsAt floor l mode begun to new
+    goes_on at to h (takes_chain held step) = record {
+      came = new;
+      has_let = record {
+        missed = h.came;
+        begins = h.has_let;
+        took = makes_sooner floor (TakesItem t (its_chain floor (lock_queue l.0)) ∷ []) h.came now new h.waited
+            (subst (λ u. Makes floor (TakesItem u (its_chain floor (lock_queue l.0)) ∷ []) now new) its step);
+      };
+      waited = waits_none new;
+      held = held ∙ h.held;
+      settled = λ e nobody. refl;
+    }
+    goes_on at to h (comes_in seen held each) =
+        let made : MakesEach floor ((TakesItem t (RecordOf t) ∷ []) ∷ look ∷ []) h.came new =
+        each_sooner floor (TakesItem t (RecordOf t) ∷ []) (look ∷ []) h.came now new h.waited
+        (subst (λ u. MakesEach floor ((TakesItem u (RecordOf u) ∷ []) ∷ (Looks u l.0 false ∷ []) ∷ []) now new) its
+        each)
+        in
+        record {
+          came = new;
+          has_let = record {
+            chain = h.came;
+            has_chain = h.has_let;
+            there = made.0;
+            took = made.1;
+            n = 1;
+            each = made.2;
+          };
+          waited = waits_none new;
+          held = held ∙ h.held;
+          settled = λ e nobody. refl;
+        }
+    goes_on at to h (looks seen found held step) = record {
+      came = new;
+      has_let = more_looks h.came new h.has_let
+          (makes_sooner floor look h.came now new h.waited
+          (subst (λ u. Makes floor (Looks u l.0 false ∷ []) now new) its step));
+      waited = waits_none new;
+      held = held ∙ h.held;
+      settled = λ e nobody. refl;
+    }
+    goes_on at to h (makes_free seen opens held each) =
+        let made : MakesEach floor ((frees t l.0 mode opens ∷ []) ∷ gives_both floor t l.0) h.came new =
+        each_sooner floor (frees t l.0 mode opens ∷ []) (gives_both floor t l.0) h.came now new h.waited
+        (subst (λ u. MakesEach floor ((frees u l.0 mode opens ∷ []) ∷ gives_both floor u l.0) now new) its each) in
+        let c = h.has_let in
+        let k = c.has_chain in
+        let marks : List Mark = new.share.doing.marked in
+        record {
+          came = new;
+          has_let = record {
+            how = InSection c.n opens marks;
+            whole = λ z woken.
+                each_append floor (begins_release t l mode)
+                ((TakesItem t (its_chain floor (lock_queue l.0)) ∷ []) ∷ (TakesItem t (RecordOf t) ∷ [])
+                ∷ ((replicate c.n look ++ (frees t l.0 mode opens ∷ []) ∷ [])
+                ++ (gives_both floor t l.0 ++ marking t marks))) begun k.missed z k.begins (
+                  c.chain,
+                  k.took,
+                  (
+                    c.there,
+                    c.took,
+                    each_append floor (replicate c.n look ++ (frees t l.0 mode opens ∷ []) ∷ [])
+                        (gives_both floor t l.0 ++ marking t marks) c.there made.0 z
+                        (each_append floor (replicate c.n look) ((frees t l.0 mode opens ∷ []) ∷ []) c.there h.came
+                        made.0
+                        c.each (made.0, made.1, refl))
+                        (each_append floor (gives_both floor t l.0) (marking t marks) made.0 new z made.2 woken),
+                  ),
+                );
+          };
+          waited = waits_none new;
+          held = held ∙ ap (without_lock l.0) h.held;
+          settled = λ e nobody. refl;
+        }
+    goes_on at to h (finds_out a i needs view finds) = record {
+      came = h.came;
+      has_let = h.has_let;
+      waited = waits_on floor i h.came now new h.waited view finds;
+      held = ap (λ (k : Knowledge). k.share.held) view ∙ h.held;
+      settled = λ e nobody. absurd (nobody_waits floor l.0 a i now new needs view e nobody);
+    }
+
+    -- one more was woken
+    pub wakes_on : (u : ℕ) → IsAt floor l mode begun Wakes now → WakesFirst floor u now new
+        → IsAt floor l mode begun Wakes new
+    wakes_on u h x =
+        let left : new.share.doing.marked ≡ x.others = ap (λ (k : Knowledge). k.share.doing.marked) x.view in
+        let all : h.came.share.doing.marked ≡ x.mark ∷ x.others =
+        sym (ap (λ (k : Knowledge). k.share.doing.marked) h.waited.view) ∙ x.marked in
+        let made : MakesEach floor (wakes t x.mark x.others) h.came new =
+        each_sooner floor (TakesItem t (RecordOf x.mark.thread) ∷ [])
+        ((Marks t x.mark x.others ∷ []) ∷ (GivesItem t (RecordOf x.mark.thread) ∷ []) ∷ []) h.came now new h.waited
+        (subst (λ n. MakesEach floor (wakes n x.mark x.others) now new) its x.steps) in
+        record {
+          came = new;
+          has_let = record {
+            how = h.has_let.how;
+            whole = λ z woken. h.has_let.whole z
+                (subst (λ ms. MakesEach floor (marking t ms) h.came z) (sym all)
+                (each_append floor (wakes t x.mark x.others) (marking t x.others) h.came new z made
+                (subst (λ ms. MakesEach floor (marking t ms) new z) left woken)));
+          };
+          waited = waits_none new;
+          held = ap (λ (k : Knowledge). k.share.held) x.view ∙ h.held;
+          settled = λ e nobody. refl;
+        }
+
+-- 3. The end
+
+module _ (floor : Description) (l : LockNo) (mode : Mode) (begun now : Knowledge)
+    (h : IsAt floor l mode begun Wakes now)
+    (nobody : now.share.doing.marked ≡ []) where
+  none_left : h.came.share.doing.marked ≡ []
+  none_left = sym (ap (λ (k : Knowledge). k.share.doing.marked) h.waited.view) ∙ nobody
+
+  pub ends : MakesEach floor (unlocks floor begun.thread l mode h.has_let.how) begun now
+  ends = subst (λ k. MakesEach floor (unlocks floor begun.thread l mode h.has_let.how) begun k)
+      (sym (h.settled refl nobody))
+      (h.has_let.whole h.came
+      (subst (λ ms. MakesEach floor (marking begun.thread ms) h.came h.came) (sym none_left) refl))
+
+-- the release is noted since then
+pub record HasNoted (floor : Description) (l : LockNo) (mode : Mode) (begun now : Knowledge) : Type 0 where
+  pub first : Knowledge
+  pub entry : MakesEntry floor (Event.Unlocked l mode) begun.share.held begun first
+  pub still : noted_of now ≡ noted_of first
+
+-- the entry of the release is one since the begin
+pub entry_since : (floor : Description) (l : LockNo) (mode : Mode) (begun first now : Knowledge)
+    → MakesEntry floor (Event.Unlocked l mode) begun.share.held begun first → noted_of now ≡ noted_of first
+    → now.share.held ≡ without_lock l.0 begun.share.held
+    → MakesEntry floor (Event.Unlocked l mode) (without_lock l.0 begun.share.held) begun now
+entry_since floor l mode begun first now e noted held = record {
+  ticket = e.ticket;
+  log = ap (λ (k : Noted). k.log) noted ∙ e.log;
+  held = held;
+  spare = ap (λ (k : Noted). k.spare + 1) noted ∙ e.spare;
+  thread = ap (λ (k : Noted). k.thread) noted ∙ e.thread;
+  before = e.before;
+  behind = e.behind;
+  of = e.of;
+  step = e.step;
+  log_before = e.log_before;
+  log_behind = e.log_behind ∙ sym (ap (λ (k : Noted). k.log) noted);
+}

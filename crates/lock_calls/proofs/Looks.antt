@@ -1,0 +1,133 @@
+-- Looks at a lock outside acquiring rounds, which change only what the thread saw last: those of a release, and the
+-- first exchange of a call, which missed.
+use Rattle.std.proofs.Common.{◌≡◌, ℕ, suc, ◌+◌, ◌<◌, false, true, not, ◌&&◌, cond, Option, Some, None, List, [], ◌∷◌, ◌++◌, length, replicate, refl, sym, ap, ◌∙◌, subst}
+use Rattle.std.proofs.lemmas.List.{replicate-append-replicate}
+use Rattle.lock_model.specs.Holds.{NotHeld}
+use Rattle.lock_model.specs.Operations.{hold_in}
+use Rattle.lock_model.specs.Words.{Word}
+use Rattle.lock_state.specs.State.{Look}
+use Rattle.lock_state.specs.Steps.{Step, Looks, chain_of, seeks}
+use Rattle.floor_table.specs.Descriptions.{config_in}
+use Rattle.floor_table.specs.declared.description.Description.{Description}
+use Rattle.floor_table.specs.Steps.{Makes, MakesEach, MayMake}
+use Rattle.floor_table.specs.Views.{Knowledge, seeing}
+use Rattle.lock_floor.specs.Passes.{IsAtRest}
+use Rattle.lock_floor.specs.Views.{has_item, counts, looked}
+use Rattle.lock_floor.proofs.May.{BeginsCall, may_look}
+use Rattle.lock_calls.specs.Waiting.{CanLook, with_looks, HasLooked}
+
+-- 1. Steps one behind the other
+
+pub each_append : (floor : Description) (xs ys : List (List Step)) (u v w : Knowledge) → MakesEach floor xs u v
+    → MakesEach floor ys v w → MakesEach floor (xs ++ ys) u w
+each_append floor [] ys u v w e m = subst (λ x. MakesEach floor ys x w) (sym e) m
+each_append floor (x ∷ xs) ys u v w m k = (m.0, m.1, each_append floor xs ys m.0 v w m.2 k)
+
+-- 2. One look, which doesn't count
+
+-- outside rounds none does
+pub uncounted : (floor : Description) (v : Knowledge) (l : ℕ) → v.share.doing.round ≡ None → counts v l ≡ false
+uncounted floor v l no_round =
+    ap (λ r. seeks l r && not (has_item v (chain_of v.description.chains (config_in v.description) l))) no_round
+
+module _ (floor : Description) (v : Knowledge) (l : ℕ) (quiet : counts v l ≡ false) where
+  pub look_knows : (word : Word)
+      → looked v l word ≡ with_looks v (suc v.share.doing.looks_in_all) (Some (record { lock = l; word = word }))
+      (Some (record { lock = l; word = word }))
+  look_knows word =
+      let look : Look = record { lock = l; word = word } in
+      ap (λ b. record v {
+        share = record v.share {
+          doing = record v.share.doing {
+            looks = cond b (suc v.share.doing.looks) v.share.doing.looks;
+            looks_in_all = suc v.share.doing.looks_in_all;
+            last_look = Some look;
+            seen_in_section = Some look;
+          };
+        };
+      }) quiet
+
+  pub look_once : (word : Word) (new : Knowledge) → new ≡ seeing new.seen (looked v l word)
+      → Makes floor (Looks v.thread l (counts v l) ∷ []) v new → HasLooked floor l 1 v new
+  look_once word new is m = record {
+    all = suc v.share.doing.looks_in_all;
+    last = Some (record { lock = l; word = word });
+    seen = Some (record { lock = l; word = word });
+    knows = is ∙ ap (seeing new.seen) (look_knows word);
+    steps = (new, subst (λ b. Makes floor (Looks v.thread l b ∷ []) v new) quiet m, refl);
+  }
+
+-- at a lock that it holds, or by the first exchange of a call
+pub may_look_on : (floor : Description) (v : Knowledge) (l : ℕ) → v.description ≡ floor → l < length floor.locks
+    → CanLook v → (hold_in v.share.held l ≡ NotHeld → BeginsCall v)
+    → MayMake floor v (λ s. Unit {0}) (Looks v.thread l (counts v l) ∷ [])
+may_look_on floor v l mine low k first =
+    may_look floor v l mine low k.runs k.nothing_out k.going
+    (λ e. absurd (let z : false ≡ true = sym (uncounted floor v l k.no_round) ∙ e in cc))
+    (λ ne. absurd (ne k.no_round)) (λ none. k.takes_nothing) (λ none. first)
+
+-- 3. Several
+
+pub no_look : (floor : Description) (l : ℕ) (v : Knowledge) → HasLooked floor l 0 v v
+no_look floor l v = record {
+  all = v.share.doing.looks_in_all;
+  last = v.share.doing.last_look;
+  seen = v.share.doing.seen_in_section;
+  knows = refl;
+  steps = refl;
+}
+
+pub look_more : (floor : Description) (l n m : ℕ) (u v w : Knowledge) → HasLooked floor l n u v
+    → HasLooked floor l m v w → HasLooked floor l (n + m) u w
+look_more floor l n m u v w x y =
+    let look : List Step = Looks u.thread l false ∷ [] in
+    let more : MakesEach floor (replicate m look) v w =
+    subst (λ t. MakesEach floor (replicate m (Looks t l false ∷ [])) v w) (ap (λ (k : Knowledge). k.thread) x.knows)
+    y.steps in
+    record {
+      all = y.all;
+      last = y.last;
+      seen = y.seen;
+      knows = y.knows ∙ ap (λ k. seeing w.seen (with_looks k y.all y.last y.seen)) x.knows;
+      steps = subst (λ xs. MakesEach floor xs u w) (replicate-append-replicate n m look)
+          (each_append floor (replicate n look) (replicate m look) u v w x.steps more);
+    }
+
+pub still_no_round : (floor : Description) (l n : ℕ) (u v : Knowledge) → u.share.doing.round ≡ None
+    → HasLooked floor l n u v → v.share.doing.round ≡ None
+still_no_round floor l n u v no_round x = ap (λ (k : Knowledge). k.share.doing.round) x.knows ∙ no_round
+
+-- looks leave a thread that can look so
+pub looks_still : (v : Knowledge) (all : ℕ) (last seen : Option Look) (steps : List Step) → CanLook v
+    → CanLook (seeing steps (with_looks v all last seen))
+looks_still v all last seen steps k =
+    record {
+      runs = k.runs;
+      nothing_out = k.nothing_out;
+      takes_nothing = k.takes_nothing;
+      no_round = k.no_round;
+      going = k.going;
+    }
+
+pub can_look_on : (floor : Description) (l n : ℕ) (u v : Knowledge) → CanLook u → HasLooked floor l n u v → CanLook v
+can_look_on floor l n u v k x = subst CanLook (sym x.knows) (looks_still u x.all x.last x.seen v.seen k)
+
+pub look_again : (floor : Description) (l : ℕ) (u v w : Knowledge) (word : Word) → counts v l ≡ false → (n : ℕ)
+    × HasLooked floor l n u v → w ≡ seeing w.seen (looked v l word)
+    → Makes floor (Looks v.thread l (counts v l) ∷ []) v w → (n : ℕ) × HasLooked floor l n u w
+look_again floor l u v w word quiet x view step = (
+  x.0 + 1,
+  look_more floor l x.0 1 u v w x.1 (look_once floor v l quiet word w view step),
+)
+
+-- 4. A thread at rest can look
+
+pub rest_looks : (floor : Description) (v : Knowledge) → IsAtRest floor v → CanLook v
+rest_looks floor v r =
+    record {
+      runs = r.runs;
+      nothing_out = r.nothing_out;
+      takes_nothing = r.takes_nothing;
+      no_round = r.no_round;
+      going = r.going;
+    }

@@ -1,0 +1,91 @@
+-- A take notes that it gained the lock: the entry may be made, and the thread is at rest again.
+use Rattle.std.proofs.Common.{◌≡◌, ℕ, ◌+◌, ◌≤◌, [], ◌∷◌, ◌++◌, refl, sym, ap, ◌∙◌, subst, arith}
+use Rattle.lock_model.specs.declared.event.Event.{Event}
+use Rattle.lock_model.specs.declared.event.Event.TheVariants.{Locked}
+use Rattle.lock_model.specs.declared.event.Held.{Held}
+use Rattle.lock_model.specs.declared.numbers.LockNo.{LockNo}
+use Rattle.lock_model.specs.declared.plan.Mode.TheVariants.{Excl}
+use Rattle.lock_state.specs.Steps.{Stamps}
+use Rattle.floor_table.specs.Descriptions.{config_in}
+use Rattle.floor_table.specs.declared.description.Description.{Description}
+use Rattle.floor_table.specs.Steps.{Makes, MayMake}
+use Rattle.floor_table.specs.Views.{Knowledge, seeing}
+use Rattle.lock_floor.specs.Passes.{IsAtRest}
+use Rattle.lock_floor.specs.Views.{gained, entry_by, stamped}
+use Rattle.lock_floor.proofs.Calling as floor_calling
+use Rattle.lock_floor.proofs.Calling.{may_note_locked, rest_locked}
+use Rattle.lock_floor.proofs.Resting.{rest_seeing}
+use Rattle.lock_calls.specs.Steps.{as_taken}
+use Rattle.lock_calls.specs.Takes.{HasTaken}
+use Rattle.lock_calls.specs.Waiting.{Kept, kept_of, IsCalling, HasGained}
+
+module _ (floor : Description) (l : LockNo) (old v : Knowledge) (k : IsCalling floor (kept_of old))
+    (room : 1 ≤ old.spare) (g : HasGained l old v) where
+  abbrev hold : Held
+  hold = as_taken l Excl
+
+  abbrev locked : Event
+  locked = Locked l Excl
+
+  -- what the thread knew before the gain
+  abbrev u : Knowledge
+  u = g.before
+
+  calling : floor_calling.IsCalling floor u
+  calling =
+      let there : IsCalling floor (kept_of u) = subst (IsCalling floor) (sym g.kept) k in
+      record {
+        runs = g.gaining.runs;
+        nothing_out = g.gaining.nothing_out;
+        no_walk = g.gaining.no_walk;
+        unmarked = there.unmarked;
+        uncounted = there.uncounted;
+        unnoted = there.unnoted;
+        going = there.going;
+        no_wait = there.no_wait;
+        sections = there.sections;
+        begun = there.begun;
+      }
+
+  pub its_thread : v.thread ≡ old.thread
+  its_thread = ap (λ (x : Knowledge). x.thread) g.view ∙ ap (λ (x : Kept). x.thread) g.kept
+
+  pub may_note_lock : MayMake floor v (λ s. Unit {0}) (Stamps v.thread locked ∷ [])
+  may_note_lock =
+      subst (λ (x : Knowledge). MayMake floor x (λ s. Unit {0}) (Stamps x.thread locked ∷ [])) (sym g.view)
+      (may_note_locked floor u l Excl calling g.gaining.takes g.gaining.unheld v.seen)
+
+  pub room_to_note : 1 ≤ v.spare
+  room_to_note = omega (arith, room, ap (λ (x : Knowledge). x.spare) g.view, ap (λ (x : Kept). x.spare) g.kept)
+
+  module _ (new : Knowledge) (ticket : ℕ)
+      (says : new ≡ seeing new.seen (stamped (config_in floor) v (entry_by v.thread ticket locked)))
+      (step : Makes floor (Stamps v.thread locked ∷ []) v new) where
+    pub note_step : Makes floor (Stamps old.thread locked ∷ []) v new
+    note_step = subst (λ t. Makes floor (Stamps t locked ∷ []) v new) its_thread step
+
+    pub taken : HasTaken floor l Excl old new
+    taken =
+        let is : new ≡ seeing new.seen (stamped (config_in floor) (gained u hold) (entry_by u.thread ticket locked)) =
+        says ∙ ap (λ (x : Knowledge). seeing new.seen (stamped (config_in floor) x (entry_by x.thread ticket locked)))
+        g.view in
+        record {
+          rest = subst (IsAtRest floor) (sym is)
+              (rest_seeing floor (stamped (config_in floor) (gained u hold) (entry_by u.thread ticket locked)) new.seen
+              (rest_locked floor u l Excl calling g.gaining.takes g.gaining.unheld ticket));
+          entry = record {
+            ticket = ticket;
+            log = ap (λ (x : Knowledge). x.share.log) is
+                ∙ ap (λ (x : Kept). entry_by x.thread ticket locked ∷ x.log) g.kept;
+            held = ap (λ (x : Knowledge). x.share.held) is ∙ ap (λ (x : Kept). x.held ++ hold ∷ []) g.kept;
+            spare = ap (λ (x : Knowledge). x.spare + 1) is
+                ∙ omega (arith, room, ap (λ (x : Kept). x.spare) g.kept);
+            thread = ap (λ (x : Knowledge). x.thread) is ∙ ap (λ (x : Kept). x.thread) g.kept;
+            before = v;
+            behind = new;
+            of = its_thread;
+            step = note_step;
+            log_before = ap (λ (x : Knowledge). x.share.log) g.view ∙ ap (λ (x : Kept). x.log) g.kept;
+            log_behind = refl;
+          };
+        }

@@ -1,0 +1,104 @@
+-- A take in its round, and as it takes the lock's chain and then its own record: where it stands behind each part.
+use Rattle.std.proofs.Common.{◌≡◌, ℕ, ◌+◌, ◌<◌, ◌≤◌, true, false, [], ◌∷◌, length, replicate, refl, ap, ◌∙◌, subst, arith}
+use Rattle.lock_model.specs.Queues.{lock_queue}
+use Rattle.lock_model.specs.Words.{word_of, IsWellFormed}
+use Rattle.lock_model.specs.declared.event.Event.TheVariants.{Locked}
+use Rattle.lock_model.specs.declared.numbers.LockNo.{LockNo}
+use Rattle.lock_model.specs.declared.plan.Mode.TheVariants.{Excl}
+use Rattle.lock_state.specs.Steps.{Looks, Gains, Readies, Stamps}
+use Rattle.lock_state.specs.Steps.Items.{RecordOf}
+use Rattle.floor_table.specs.declared.description.Description.{Description}
+use Rattle.floor_table.specs.Steps.{Makes}
+use Rattle.floor_table.specs.Views.{Knowledge, seeing}
+use Rattle.lock_floor.specs.declared.calls.TakeAt.TheVariants.{Spins, ComesIn, Contends}
+use Rattle.lock_floor.specs.Latches.{FindsOut, Takes}
+use Rattle.lock_floor.specs.Passes.{IsGoing}
+use Rattle.lock_floor.specs.Views.{counts, looked}
+use Rattle.lock_floor.specs.Waits.{its_chain, chain_place, readied}
+use Rattle.lock_calls.specs.Steps.{IsMutex, as_taken}
+use Rattle.lock_calls.specs.Takes.{HasChainOut, TakesOn, TakeEnd, looks, takes_chain, comes_in, finds_out, in_round}
+use Rattle.lock_calls.specs.Waiting.{kept_of, IsSeeking, HasSpun, SpinsThenGains, IsThere}
+use Rattle.lock_calls.proofs.Attempts.{seeking_on, looks_spun}
+use Rattle.lock_calls.proofs.Looks.{each_append}
+use Rattle.lock_calls.proofs.There.{seeking_still, chain_still, has_chain, come_kept, come_there, come_steps, quiet_there, contends}
+
+-- 1. Looks
+
+pub spins_on : (floor : Description) (l : LockNo) (left to n : ℕ) → to < left → 1 ≤ n → n ≤ 2 → (old new : Knowledge)
+    → IsSeeking l.0 old → old.share.doing.looks + (left + left) ≤ 99 → HasSpun floor l.0 n old new
+    → TakesOn floor l Excl (Spins left) (Spins to) old new
+spins_on floor l left to n less one two old new m room x =
+    let all : new.share.doing.looks ≡ n + old.share.doing.looks = looks_spun floor l.0 n old new x in
+    record {
+      there = (seeking_on floor l.0 n old new x m, omega (arith, all, less, two, room));
+      kept = ap kept_of x.knows;
+      leg = looks left to n less one two x.steps;
+    }
+
+-- the gain
+pub spun_end : (floor : Description) (l : LockNo) (left : ℕ) → 1 ≤ left → (old v new : Knowledge)
+    → SpinsThenGains floor (as_taken l Excl) 1 old v → Makes floor (Stamps old.thread (Locked l Excl) ∷ []) v new
+    → TakeEnd floor l Excl (Spins left) old new
+spun_end floor l left some old v new s notes =
+    in_round left some
+    (each_append floor (replicate 1 (Looks old.thread l.0 true ∷ []))
+    ((Gains old.thread l.0 Excl false ∷ []) ∷ (Stamps old.thread (Locked l Excl) ∷ []) ∷ []) old s.between new
+    s.spun.steps (v, s.step, (new, notes, refl)))
+
+-- 2. The chain
+
+module _ (floor : Description) (l : LockNo) (old new : Knowledge) (m : IsSeeking l.0 old)
+    (room : old.share.doing.looks + (0 + 0) ≤ 99) where
+  pub comes_on : IsMutex floor l.0
+      → Takes floor (its_chain floor (lock_queue l.0)) (chain_place floor (lock_queue l.0)) old new
+      → TakesOn floor l Excl (Spins 0) ComesIn old new
+  comes_on mutex one = record {
+    there = has_chain floor l.0 old m mutex new one;
+    kept = ap kept_of one.view;
+    leg = takes_chain one.step;
+  }
+
+  pub stays_spinning : new ≡ seeing new.seen old → FindsOut floor (its_chain floor (lock_queue l.0)) old new
+      → TakesOn floor l Excl (Spins 0) (Spins 0) old new
+  stays_spinning view finds = record {
+    there = (
+      seeking_still l.0 old new view m,
+      omega (arith, room, ap (λ (k : Knowledge). k.share.doing.looks) view),
+    );
+    kept = ap kept_of view;
+    leg = finds_out (Spins 0) (its_chain floor (lock_queue l.0)) (refl, refl) view finds;
+  }
+
+-- 3. The own record
+
+pub stays_coming : (floor : Description) (l : LockNo) (who : ℕ) (old new : Knowledge) → who ≡ old.thread
+    → HasChainOut floor l.0 old → new ≡ seeing new.seen old → FindsOut floor (RecordOf who) old new
+    → TakesOn floor l Excl ComesIn ComesIn old new
+stays_coming floor l who old new is m view finds = record {
+  there = chain_still floor l.0 old new view m;
+  kept = ap kept_of view;
+  leg = finds_out ComesIn (RecordOf who) (ap RecordOf is) view finds;
+}
+
+pub comes_there_on : (floor : Description) (l : LockNo) → IsMutex floor l.0 → floor.chains ≡ 1 → (a : Knowledge)
+    → (m : HasChainOut floor l.0 a) → (going : IsGoing a) → (who : ℕ) → who < length floor.threads
+    → (is : who ≡ a.thread) → a.description ≡ floor → (b : Knowledge) → (two : Takes floor (RecordOf who) who a b)
+    → (w : Knowledge) → (view : w ≡ seeing w.seen (readied true b))
+    → Makes floor (Readies b.thread (lock_queue l.0) ∷ []) b w → (seen : ℕ) (z : Knowledge)
+    → IsWellFormed (word_of seen)
+    → z ≡ seeing z.seen (looked w l.0 (word_of seen)) → Makes floor (Looks w.thread l.0 (counts w l.0) ∷ []) w z
+    → TakesOn floor l Excl ComesIn (Contends seen) a z
+comes_there_on floor l mutex one a m going who low is mine b two w view step seen z formed saw look =
+    let there : IsThere floor l.0 w = come_there floor l.0 a m going who is b two w view low in
+    let kept : kept_of w ≡ kept_of a = come_kept floor l.0 a m going who is b two w view in
+    let its : w.description ≡ floor =
+    ap (λ (k : Knowledge). k.description) view ∙ ap (λ (k : Knowledge). k.description) two.view ∙ mine in
+    let some_chains : 1 ≤ floor.chains = omega (arith, one) in
+    record {
+      there = contends floor l.0 seen w z mutex its some_chains there formed saw look;
+      kept = ap kept_of saw ∙ kept;
+      leg = comes_in seen
+          (come_steps floor l.0 a m going who is b two w view z step
+          (subst (λ c. Makes floor (Looks w.thread l.0 c ∷ []) w z)
+          (quiet_there floor l.0 w mutex there its some_chains) look));
+    }

@@ -1,0 +1,420 @@
+-- A take from its begin on: what the thread has made so far where the take stands, and that its parts together are a
+-- take.
+use Rattle.std.proofs.Common.{◌≡◌, ℕ, zero, suc, ◌+◌, ◌≤◌, true, false, List, [], ◌∷◌, ◌++◌, length, replicate, refl, sym, ap, ◌∙◌, subst, inl, inr, arith}
+use Rattle.std.proofs.lemmas.List.{replicate-append-replicate}
+use Rattle.lock_model.specs.Queues.{BySignal, lock_queue}
+use Rattle.lock_model.specs.declared.event.Event.{Event}
+use Rattle.lock_model.specs.declared.numbers.LockNo.{LockNo}
+use Rattle.lock_model.specs.declared.plan.Mode.{Mode}
+use Rattle.lock_objects.specs.Represents.{walk_of}
+use Rattle.lock_state.specs.State.{Walk, NoWalk, AtLock, AtThread}
+use Rattle.lock_state.specs.Steps.{Step, Looks, Gains, Enters, Readies, Resumes, Stamps, TakesItem}
+use Rattle.lock_state.specs.Steps.Items.{RecordOf}
+use Rattle.floor_table.specs.declared.description.Description.{Description}
+use Rattle.floor_table.specs.Steps.{Makes, MakesEach}
+use Rattle.floor_table.specs.Views.{Knowledge, seeing}
+use Rattle.lock_floor.specs.declared.calls.TakeAt.{TakeAt}
+use Rattle.lock_floor.specs.declared.calls.TakeAt.TheVariants.{Spins, ComesIn, Contends, Walks, Hops}
+use Rattle.lock_floor.specs.Latches.{Takes}
+use Rattle.lock_floor.specs.Passes.{MakesEntry}
+use Rattle.lock_floor.specs.Views.{entry_by}
+use Rattle.lock_floor.specs.Waits.{its_chain}
+use Rattle.lock_floor.specs.Walks as walks
+use Rattle.lock_floor.specs.Walks.{CanWalk, HopsOn, IsHop, turnstiles, turnstiles_place, walked, no_hop, one_more}
+use Rattle.lock_floor.proofs.Resuming.{waits_queued}
+use Rattle.lock_floor.proofs.Taking.{HasWaited, waits_none, waits_on}
+use Rattle.lock_floor.proofs.WalkHops.{hops_all}
+use Rattle.lock_calls.specs.Steps as steps
+use Rattle.lock_calls.specs.Steps.{as_taken, begins_round, comes_there, gives_both, runs_on, enters_there, gains_there, ComesToRound, Locks}
+use Rattle.lock_calls.specs.Takes.{IsTaking, IsUnderTake, TakesOn, TakeLeg, TakeEnd, looks, takes_chain, comes_in, looks_there, enters, takes_turnstiles, hops, resumes, finds_out, is_queued, in_round, in_section}
+use Rattle.lock_calls.specs.Waiting.{Kept, kept_of, IsCalling}
+use Rattle.lock_calls.proofs.Looks.{each_append}
+use Rattle.lock_calls.proofs.Standing.{walk_still}
+use Rattle.lock_calls.proofs.Waited.{makes_sooner, each_sooner, takes_sooner, before_waiting}
+
+-- 1. So far
+
+-- it came to a round with so many looks, and made so many more in it
+pub record HasLookedInRound (floor : Description) (l : ℕ) (mode : Mode) (begun now : Knowledge) : Type 0 where
+  pub before : ℕ
+  pub round : Knowledge
+  pub comes : ComesToRound floor l mode before begun round
+  pub n : ℕ
+  pub each : MakesEach floor (replicate n (Looks begun.thread l true ∷ [])) round now
+
+abbrev pub all_looks : {floor : Description} {l : ℕ} {mode : Mode} {begun now : Knowledge}
+    → HasLookedInRound floor l mode begun now → ℕ
+all_looks r = r.before + r.n
+
+-- it took the lock's chain behind at most 100
+pub record HasTakenChain (floor : Description) (l : ℕ) (mode : Mode) (begun now : Knowledge) : Type 0 where
+  pub looked : Knowledge
+  pub rounds : HasLookedInRound floor l mode begun looked
+  pub few : all_looks rounds ≤ 100
+  pub took : Makes floor (TakesItem begun.thread (its_chain floor (lock_queue l)) ∷ []) looked now
+
+-- it came to the section, and looked so often there
+pub record HasComeThere (floor : Description) (l : ℕ) (mode : Mode) (begun now : Knowledge) : Type 0 where
+  pub looked : Knowledge
+  pub rounds : HasLookedInRound floor l mode begun looked
+  pub few : all_looks rounds ≤ 100
+  pub there : Knowledge
+  pub come : MakesEach floor (comes_there floor begun.thread l) looked there
+  pub m : ℕ
+  pub each : MakesEach floor (replicate m (Looks begun.thread l false ∷ [])) there now
+
+-- it came to stand on the turnstile, and made hops
+pub record HasStood (floor : Description) (l : ℕ) (mode : Mode) (begun now : Knowledge) : Type 0 where
+  pub looked : Knowledge
+  pub rounds : HasLookedInRound floor l mode begun looked
+  pub few : all_looks rounds ≤ 100
+  pub stands : Knowledge
+  pub m : ℕ
+  pub x : ℕ
+  pub each : MakesEach floor (enters_there floor begun.thread l mode m x) looked stands
+  pub walked : walks.Walks floor stands now
+  pub thread : stands.thread ≡ begun.thread
+
+-- and it took the chain of turnstiles for another
+pub record HasBegunHop (floor : Description) (l : ℕ) (mode : Mode) (begun now : Knowledge) : Type 0 where
+  pub before : Knowledge
+  pub stood : HasStood floor l mode begun before
+  pub can : CanWalk floor before
+  pub taken : Takes floor turnstiles (turnstiles_place floor) before now
+
+-- so wherever it stands
+abbrev pub HasCome : Description → ℕ → Mode → Knowledge → TakeAt → Knowledge → Type 0
+HasCome floor l mode begun (Spins left) now =
+    (r : HasLookedInRound floor l mode begun now) × (all_looks r + (left + left) ≤ 100)
+HasCome floor l mode begun ComesIn now = HasTakenChain floor l mode begun now
+HasCome floor l mode begun (Contends seen) now = HasComeThere floor l mode begun now
+HasCome floor l mode begun (Walks there) now = HasStood floor l mode begun now
+HasCome floor l mode begun (Hops there) now = HasBegunHop floor l mode begun now
+
+-- and it may have found out since what it needs
+pub record IsAt (floor : Description) (l : ℕ) (mode : Mode) (begun : Knowledge) (at : TakeAt) (now : Knowledge) : Type 0
+  where
+    pub came : Knowledge
+    pub has_come : HasCome floor l mode begun at came
+    pub waited : HasWaited came now
+
+-- a hop's rest is never nothing
+hop_goes_on : (t : ℕ) (w : Walk) → IsHop t w ((TakesItem t turnstiles ∷ []) ∷ []) → ⊥
+hop_goes_on t NoWalk hop = hop
+hop_goes_on t (AtLock l) (inl x) = let z : 1 ≡ 5 = ap length x.1.1 in absurd (omega (arith, z))
+hop_goes_on t (AtLock l) (inr e) = let z : 1 ≡ 3 = ap length e in absurd (omega (arith, z))
+hop_goes_on t (AtThread o) x = let z : 1 ≡ 5 = ap length x.2 in absurd (omega (arith, z))
+
+-- so it leads on from what the thread knew before it waited
+hops_sooner : (floor : Description) (w : Walk) (old mid new : Knowledge) → HasWaited old mid → HopsOn floor w mid new
+    → HopsOn floor w old new
+hops_sooner floor w old mid new h x = record {
+  steps = x.steps;
+  hop = hop;
+  each = go x.steps x.each hop;
+  view = x.view ∙ ap (λ (k : Knowledge). seeing new.seen (record (walked k w) { out = [] })) h.view;
+  on_floor = x.on_floor;
+}
+  where
+    hop : IsHop old.thread old.share.doing.walk ((TakesItem old.thread turnstiles ∷ []) ∷ x.steps)
+    hop = subst (λ (k : Knowledge). IsHop k.thread k.share.doing.walk ((TakesItem k.thread turnstiles ∷ []) ∷ x.steps))
+        h.view x.hop
+
+    go : (xs : List (List Step)) → MakesEach floor xs mid new
+        → IsHop old.thread old.share.doing.walk ((TakesItem old.thread turnstiles ∷ []) ∷ xs)
+        → MakesEach floor xs old new
+    go [] each only = absurd (hop_goes_on old.thread old.share.doing.walk only)
+    go (s ∷ ss) each only = each_sooner floor s ss old mid new h each
+
+-- 2. The begin
+
+pub begins_at : (floor : Description) (l : ℕ) (mode : Mode) (begun now : Knowledge) (left missed : ℕ) → left ≤ 49
+    → missed ≤ 1 → (1 ≤ missed → begun.share.held ≡ []) → MakesEach floor (begins_round begun.thread l missed) begun now
+    → IsAt floor l mode begun (Spins left) now
+begins_at floor l mode begun now left missed few once bare each = record {
+  came = now;
+  has_come = (
+    record { before = missed + 1; round = now; comes = steps.begins missed once bare each; n = 0; each = refl },
+    omega (arith, few, once),
+  );
+  waited = waits_none now;
+}
+
+-- 3. From there to where it stands next
+
+module _ (floor : Description) (l : LockNo) (mode : Mode) (begun : Knowledge) where
+  abbrev look : List Step
+  look = Looks begun.thread l.0 true ∷ []
+
+  abbrev look_there : List Step
+  look_there = Looks begun.thread l.0 false ∷ []
+
+  -- looks behind looks
+  more_looks : (now w : Knowledge) (r : HasLookedInRound floor l.0 mode begun now) (n : ℕ)
+      → MakesEach floor (replicate n look) now w
+      → (s : HasLookedInRound floor l.0 mode begun w) × (all_looks s ≡ all_looks r + n)
+  more_looks now w r n each = (
+    record {
+      before = r.before;
+      round = r.round;
+      comes = r.comes;
+      n = r.n + n;
+      each = subst (λ xs. MakesEach floor xs r.round w) (replicate-append-replicate r.n n look)
+          (each_append floor (replicate r.n look) (replicate n look) r.round now w r.each each);
+    },
+    omega arith,
+  )
+
+  more_there : (now w : Knowledge) → HasComeThere floor l.0 mode begun now → Makes floor look_there now w
+      → HasComeThere floor l.0 mode begun w
+  more_there now w h step = record {
+    looked = h.looked;
+    rounds = h.rounds;
+    few = h.few;
+    there = h.there;
+    come = h.come;
+    m = h.m + 1;
+    each = subst (λ xs. MakesEach floor xs h.there w) (replicate-append-replicate h.m 1 look_there)
+        (each_append floor (replicate h.m look_there) (replicate 1 look_there) h.there now w h.each (w, step, refl));
+  }
+
+  -- the first look of several is made from what it knew before it waited
+  looks_sooner : (n : ℕ) (old mid new : Knowledge) → 1 ≤ n → HasWaited old mid
+      → MakesEach floor (replicate n look) mid new → MakesEach floor (replicate n look) old new
+  looks_sooner zero old mid new some h each = absurd (omega (arith, some))
+  looks_sooner (suc n) old mid new some h each = each_sooner floor look (replicate n look) old mid new h each
+
+  -- the last step of several
+  last_step : (step : List Step) (now w : Knowledge) → MakesEach floor (step ∷ []) now w → Makes floor step now w
+  last_step step now w m = subst (λ k. Makes floor step now k) m.2 m.1
+
+  module _ (now new : Knowledge) (its : now.thread ≡ begun.thread) (its_then : new.thread ≡ begun.thread) where
+    -- 4. Each leg
+
+    pub goes_on : (at to : TakeAt) → IsTaking floor l.0 at now → IsAt floor l.0 mode begun at now
+        → TakeLeg floor l mode at to now new → IsAt floor l.0 mode begun to new
+    goes_on at to there h (looks left t n less one two each) =
+        let made : MakesEach floor (replicate n look) h.came new =
+        looks_sooner n h.came now new one h.waited
+        (subst (λ t. MakesEach floor (replicate n (Looks t l.0 true ∷ [])) now new) its each) in
+        let s = more_looks h.came new h.has_come.0 n made in
+        record {
+          came = new;
+          has_come = (s.0, omega (arith, s.1, h.has_come.1, less, two));
+          waited = waits_none new;
+        }
+    goes_on at to there h (takes_chain step) = record {
+      came = new;
+      has_come = record {
+        looked = h.came;
+        rounds = h.has_come.0;
+        few = omega (arith, h.has_come.1);
+        took = makes_sooner floor (TakesItem begun.thread (its_chain floor (lock_queue l.0)) ∷ []) h.came now new
+            h.waited
+            (subst (λ t. Makes floor (TakesItem t (its_chain floor (lock_queue l.0)) ∷ []) now new) its step);
+      };
+      waited = waits_none new;
+    }
+    goes_on at to there h (comes_in seen each) =
+        let made : MakesEach floor ((TakesItem begun.thread (RecordOf begun.thread) ∷ [])
+        ∷ (Readies begun.thread (lock_queue l.0) ∷ []) ∷ look_there ∷ []) h.came new =
+        each_sooner floor (TakesItem begun.thread (RecordOf begun.thread) ∷ [])
+        ((Readies begun.thread (lock_queue l.0) ∷ []) ∷ look_there ∷ []) h.came now new h.waited
+        (subst (λ t. MakesEach floor ((TakesItem t (RecordOf t) ∷ []) ∷ (Readies t (lock_queue l.0) ∷ [])
+        ∷ (Looks t l.0 false ∷ []) ∷ []) now new) its each) in
+        record {
+          came = new;
+          has_come = record {
+            looked = h.has_come.looked;
+            rounds = h.has_come.rounds;
+            few = h.has_come.few;
+            there = made.2.0;
+            come = (h.came, h.has_come.took, (made.0, made.1, (made.2.0, made.2.1, refl)));
+            m = 1;
+            each = made.2.2;
+          };
+          waited = waits_none new;
+        }
+    goes_on at to there h (looks_there seen found step) = record {
+      came = new;
+      has_come = more_there h.came new h.has_come
+          (makes_sooner floor look_there h.came now new h.waited
+          (subst (λ t. Makes floor (Looks t l.0 false ∷ []) now new) its step));
+      waited = waits_none new;
+    }
+    goes_on at to there h (enters seen x w each) =
+        let made : MakesEach floor ((Enters begun.thread l.0 mode x ∷ []) ∷ gives_both floor begun.thread l.0) h.came
+        new =
+        each_sooner floor (Enters begun.thread l.0 mode x ∷ []) (gives_both floor begun.thread l.0) h.came now new
+        h.waited
+        (subst (λ t. MakesEach floor ((Enters t l.0 mode x ∷ []) ∷ gives_both floor t l.0) now new) its each) in
+        let c = h.has_come in
+        let behind_looks : MakesEach floor
+        (replicate c.m look_there ++ (Enters begun.thread l.0 mode x ∷ []) ∷ []) c.there made.0 =
+        each_append floor (replicate c.m look_there) ((Enters begun.thread l.0 mode x ∷ []) ∷ []) c.there h.came made.0
+        c.each (made.0, made.1, refl) in
+        record {
+          came = new;
+          has_come = record {
+            looked = c.looked;
+            rounds = c.rounds;
+            few = c.few;
+            stands = new;
+            m = c.m;
+            x = x;
+            each = each_append floor (comes_there floor begun.thread l.0)
+                ((replicate c.m look_there ++ (Enters begun.thread l.0 mode x ∷ []) ∷ [])
+                ++ gives_both floor begun.thread l.0) c.looked c.there new c.come
+                (each_append floor (replicate c.m look_there ++ (Enters begun.thread l.0 mode x ∷ []) ∷ [])
+                (gives_both floor begun.thread l.0) c.there made.0 new behind_looks made.2);
+            walked = no_hop;
+            thread = its_then;
+          };
+          waited = waits_none new;
+        }
+    goes_on at to there h (takes_turnstiles w taken) = record {
+      came = new;
+      has_come = record {
+        before = h.came;
+        stood = h.has_come;
+        can = walk_still floor now h.came (before_waiting h.came now h.waited) there.1;
+        taken = takes_sooner floor turnstiles (turnstiles_place floor) h.came now new h.waited taken;
+      };
+      waited = waits_none new;
+    }
+    goes_on at to there h (hops w t on) =
+        let c = h.has_come in
+        let hop = hops_all floor (walk_of t) c.before h.came new c.can c.taken
+        (hops_sooner floor (walk_of t) h.came now new h.waited on) in
+        record {
+          came = new;
+          has_come = record {
+            looked = c.stood.looked;
+            rounds = c.stood.rounds;
+            few = c.stood.few;
+            stands = c.stood.stands;
+            m = c.stood.m;
+            x = c.stood.x;
+            each = c.stood.each;
+            walked = one_more (walk_of t) c.stood.walked hop;
+            thread = c.stood.thread;
+          };
+          waited = waits_none new;
+        }
+    goes_on at to there h (resumes left few step) =
+        let c = h.has_come in
+        let r = c.rounds in
+        let resume : Makes floor (Resumes c.stands.thread (lock_queue l.0) BySignal ∷ []) h.came new =
+        makes_sooner floor (Resumes c.stands.thread (lock_queue l.0) BySignal ∷ []) h.came now new h.waited
+        (subst (λ t. Makes floor (Resumes t (lock_queue l.0) BySignal ∷ []) now new) (its ∙ sym c.thread) step) in
+        record {
+          came = new;
+          has_come = (
+            record {
+              before = 0;
+              round = new;
+              comes = steps.sleeps r.before r.n c.m c.x r.comes c.few
+                  (each_append floor (replicate r.n look) (enters_there floor begun.thread l.0 mode c.m c.x) r.round
+                  c.looked c.stands r.each c.each)
+                  (record { walked = h.came; walk = c.walked; resume = resume });
+              n = 0;
+              each = refl;
+            },
+            omega (arith, few),
+          );
+          waited = waits_none new;
+        }
+    goes_on at to there h (finds_out a i needs view finds) = record {
+      came = h.came;
+      has_come = h.has_come;
+      waited = waits_on floor i h.came now new h.waited view finds;
+    }
+    goes_on at to there h (is_queued view queued) = record {
+      came = h.came;
+      has_come = h.has_come;
+      waited = waits_queued floor h.came now new h.waited view queued;
+    }
+
+    -- 5. The end
+
+    pub ends : (at : TakeAt) → IsAt floor l.0 mode begun at now → TakeEnd floor l mode at now new
+        → Locks floor l mode begun new
+    ends at h (in_round left some each) =
+        let made : MakesEach floor (look ∷ (Gains begun.thread l.0 mode false ∷ [])
+        ∷ (Stamps begun.thread (Event.Locked l mode) ∷ []) ∷ []) h.came new =
+        each_sooner floor look ((Gains begun.thread l.0 mode false ∷ [])
+        ∷ (Stamps begun.thread (Event.Locked l mode) ∷ []) ∷ []) h.came now new h.waited
+        (subst (λ t. MakesEach floor ((Looks t l.0 true ∷ []) ∷ (Gains t l.0 mode false ∷ [])
+        ∷ (Stamps t (Event.Locked l mode) ∷ []) ∷ []) now new) its each) in
+        let s = more_looks h.came made.0 h.has_come.0 1 (made.0, made.1, refl) in
+        let gain = made.2 in
+        record {
+          gained = gain.0;
+          gains = steps.in_round s.0.before s.0.n s.0.comes (omega (arith, s.1, h.has_come.1, some))
+              (each_append floor (replicate s.0.n look) ((Gains begun.thread l.0 mode false ∷ []) ∷ []) s.0.round made.0
+              gain.0 s.0.each (gain.0, gain.1, refl));
+          notes = last_step (Stamps begun.thread (Event.Locked l mode) ∷ []) gain.0 new gain.2;
+        }
+    ends at h (in_section seen each) =
+        let c = h.has_come in
+        let r = c.rounds in
+        let made : MakesEach floor ((Gains begun.thread l.0 mode false ∷ []) ∷ (runs_on floor begun.thread l.0
+        ++ (Stamps begun.thread (Event.Locked l mode) ∷ []) ∷ [])) h.came new =
+        each_sooner floor (Gains begun.thread l.0 mode false ∷ []) (runs_on floor begun.thread l.0
+        ++ (Stamps begun.thread (Event.Locked l mode) ∷ []) ∷ []) h.came now new h.waited
+        (subst (λ t. MakesEach floor ((Gains t l.0 mode false ∷ []) ∷ (runs_on floor t l.0
+        ++ (Stamps t (Event.Locked l mode) ∷ []) ∷ [])) now new) its each) in
+        let ran = made.2 in
+        let record_back = ran.2 in
+        let chain_back = record_back.2 in
+        let on : MakesEach floor (runs_on floor begun.thread l.0) made.0 chain_back.0 =
+        (ran.0, ran.1, (record_back.0, record_back.1, (chain_back.0, chain_back.1, refl))) in
+        let gain : MakesEach floor (replicate c.m look_there ++ (Gains begun.thread l.0 mode false ∷ []) ∷ []) c.there
+        made.0 = each_append floor (replicate c.m look_there) ((Gains begun.thread l.0 mode false ∷ []) ∷ []) c.there
+        h.came
+        made.0 c.each (made.0, made.1, refl) in
+        let there : MakesEach floor (gains_there floor begun.thread l.0 mode c.m) c.looked chain_back.0 =
+        each_append floor (comes_there floor begun.thread l.0)
+        ((replicate c.m look_there ++ (Gains begun.thread l.0 mode false ∷ []) ∷ []) ++ runs_on floor begun.thread l.0)
+        c.looked c.there chain_back.0 c.come
+        (each_append floor (replicate c.m look_there ++ (Gains begun.thread l.0 mode false ∷ []) ∷ [])
+        (runs_on floor begun.thread l.0) c.there made.0 chain_back.0 gain on) in
+        record {
+          gained = chain_back.0;
+          gains = steps.in_section r.before r.n c.m r.comes c.few
+              (each_append floor (replicate r.n look) (gains_there floor begun.thread l.0 mode c.m) r.round c.looked
+              chain_back.0 r.each there);
+          notes = last_step (Stamps begun.thread (Event.Locked l mode) ∷ []) chain_back.0 new chain_back.2;
+        }
+
+-- 6. What the whole take leaves
+
+-- its entry is one since the begin
+pub entry_since : (floor : Description) (l : LockNo) (mode : Mode) (begun now new : Knowledge)
+    → kept_of now ≡ kept_of begun
+    → MakesEntry floor (Event.Locked l mode) (now.share.held ++ as_taken l mode ∷ []) now new
+    → MakesEntry floor (Event.Locked l mode) (begun.share.held ++ as_taken l mode ∷ []) begun new
+entry_since floor l mode begun now new kept e = record {
+  ticket = e.ticket;
+  log = e.log ∙ ap (λ (k : Kept). entry_by k.thread e.ticket (Event.Locked l mode) ∷ k.log) kept;
+  held = e.held ∙ ap (λ (k : Kept). k.held ++ as_taken l mode ∷ []) kept;
+  spare = e.spare ∙ ap (λ (k : Kept). k.spare) kept;
+  thread = e.thread ∙ ap (λ (k : Kept). k.thread) kept;
+  before = e.before;
+  behind = e.behind;
+  of = e.of ∙ ap (λ (k : Kept). k.thread) kept;
+  step = subst (λ t. Makes floor (Stamps t (Event.Locked l mode) ∷ []) e.before e.behind)
+      (ap (λ (k : Kept). k.thread) kept) e.step;
+  log_before = e.log_before ∙ ap (λ (k : Kept). k.log) kept;
+  log_behind = e.log_behind;
+}
+
+-- what is under way stays so
+pub under_take_on : (floor : Description) (l : LockNo) (mode : Mode) (at to : TakeAt) (old new : Knowledge)
+    → IsUnderTake floor l mode at old → TakesOn floor l mode at to old new → IsUnderTake floor l mode to new
+under_take_on floor l mode at to old new u on = record {
+  covered = u.covered;
+  calling = subst (IsCalling floor) (sym on.kept) u.calling;
+  room = omega (arith, u.room, ap (λ (k : Kept). k.spare) on.kept);
+  there = on.there;
+}

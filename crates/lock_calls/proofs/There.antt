@@ -1,0 +1,309 @@
+-- A blocking call in the section of the lock's chain: what allows its steps there, and what each leaves.
+use Rattle.std.proofs.Common.{◌≡◌, ◌≢◌, ◌⊎◌, ℕ, ◌<◌, ◌≤◌, Bool, true, false, cond, not, ◌&&◌, Option, Some, None, [], ◌∷◌, length, refl, sym, ap, ◌∙◌, subst, eq-eqb}
+use Rattle.std.proofs.lemmas.Option.{same_Some}
+use Rattle.lock_model.specs.Operations.{hold_in}
+use Rattle.lock_model.specs.Queues.{lock_queue}
+use Rattle.lock_model.specs.Words.{Word, word_of, IsWellFormed, is_free, admits}
+use Rattle.lock_model.specs.declared.plan.Mode.TheVariants.{Excl}
+use Rattle.lock_state.specs.State.{NoWalk, AtLock}
+use Rattle.lock_state.specs.Steps.{Looks, Gains, Enters, Readies, TakesItem, FitsRound, IsOfRound, seeks}
+use Rattle.lock_state.specs.Steps.Items.{RecordOf, item_with, in_its_chain, is_chain}
+use Rattle.lock_state.specs.Steps.Turnstiles.{walk_up}
+use Rattle.floor_table.specs.Descriptions.{config_in}
+use Rattle.floor_table.specs.declared.description.Description.{Description}
+use Rattle.floor_table.specs.declared.slot.Slot.TheVariants.{Record, Turnstiles}
+use Rattle.floor_table.specs.Places.{slot_of}
+use Rattle.floor_table.specs.Shelves.{found}
+use Rattle.floor_table.specs.Steps.{Makes, MakesEach, MayMake}
+use Rattle.floor_table.specs.Views.{is_off_queues, Knowledge, seeing}
+use Rattle.floor_table.proofs.Items.{one_place}
+use Rattle.floor_table.proofs.Shelved.{found_first, found_later}
+use Rattle.lock_floor.specs.Latches.{Takes}
+use Rattle.lock_floor.specs.Opens.{HasBothOut}
+use Rattle.lock_floor.specs.Passes.{IsGoing}
+use Rattle.lock_floor.specs.Views.{counts, looked, took, is_there, is_out}
+use Rattle.lock_floor.specs.Waits.{its_chain, chain_place, readied, both_out}
+use Rattle.lock_floor.proofs.ChainPlaces.{chain_at}
+use Rattle.lock_floor.proofs.InSection.{chain_out, record_out}
+use Rattle.lock_floor.proofs.MayWait as wait
+use Rattle.lock_floor.proofs.MayWait.{IsNoSleeper, is_a_chain}
+use Rattle.lock_floor.proofs.Taking.{record_at}
+use Rattle.lock_calls.specs.Steps.{IsMutex}
+use Rattle.lock_calls.specs.Takes.{HasChainOut, IsContending}
+use Rattle.lock_calls.specs.Waiting.{kept_of, IsCalling, IsSeeking, HasLooked, IsThere, Saw, MissesThere}
+use Rattle.lock_calls.proofs.Attempts.{plainly}
+use Rattle.lock_calls.proofs.Words.{word_seen, saw_held}
+use Rattle.lock_calls.proofs.Looks.{look_once}
+use Rattle.lock_calls.proofs.Owned.{chains_turnstile}
+
+-- 1. The way there
+
+-- the thread is so wherever the take stands, whatever others did
+pub seeking_still : (l : ℕ) (v w : Knowledge) → w ≡ seeing w.seen v → IsSeeking l v → IsSeeking l w
+seeking_still l v w view m = subst (IsSeeking l) (sym view) record {
+  unheld = m.unheld;
+  few = m.few;
+  wants = m.wants;
+  takes = m.takes;
+  round = m.round;
+  no_walk = m.no_walk;
+  runs = m.runs;
+  nothing_out = m.nothing_out;
+  going = record { awake = m.going.awake; unended = m.going.unended; stamped = m.going.stamped };
+}
+
+pub chain_still : (floor : Description) (l : ℕ) (v w : Knowledge) → w ≡ seeing w.seen v → HasChainOut floor l v
+    → HasChainOut floor l w
+chain_still floor l v w view m = subst (HasChainOut floor l) (sym view) record {
+  unheld = m.unheld;
+  few = m.few;
+  wants = m.wants;
+  takes = m.takes;
+  round = m.round;
+  no_walk = m.no_walk;
+  runs = m.runs;
+  chain = m.chain;
+  out = m.out;
+}
+
+module _ (floor : Description) (l : ℕ) (v : Knowledge) (m : IsSeeking l v) where
+  pub may_take_in_round : MayMake floor v (λ s. item_with s (its_chain floor (lock_queue l)) ≡ None)
+      (TakesItem v.thread (its_chain floor (lock_queue l)) ∷ [])
+  may_take_in_round =
+      wait.may_take_chain floor v (lock_queue l) m.runs m.nothing_out m.going
+      (subst (λ r. IsOfRound floor.chains (config_in floor) r (its_chain floor (lock_queue l))) (sym m.round)
+      (λ e. refl))
+
+  -- the chain was taken
+  pub has_chain : IsMutex floor l → (a : Knowledge)
+      → Takes floor (its_chain floor (lock_queue l)) (chain_place floor (lock_queue l)) v a → HasChainOut floor l a
+  has_chain mutex a one =
+      let chain = chain_out floor l v a one (chains_turnstile floor l mutex) m.nothing_out in
+      record {
+        unheld = ap (λ (k : Knowledge). hold_in k.share.held l) one.view ∙ m.unheld;
+        few = subst (λ hs. length hs < 8) (sym (ap (λ (k : Knowledge). k.share.held) one.view)) m.few;
+        wants = subst (λ o. (o ≡ Some l) ⊎ (o ≡ None)) (sym (ap (λ (k : Knowledge). k.share.doing.wanted) one.view))
+            m.wants;
+        takes = ap (λ (k : Knowledge). k.share.doing.taking) one.view ∙ m.takes;
+        round = ap (λ (k : Knowledge). k.share.doing.round) one.view
+            ∙ ap (λ x. cond x (in_its_chain v.share.doing.round) v.share.doing.round)
+            (is_a_chain floor (lock_queue l)) ∙ ap in_its_chain m.round;
+        no_walk = ap (λ (k : Knowledge). k.share.doing.walk) one.view ∙ m.no_walk;
+        runs = ap (λ (k : Knowledge). k.pose) one.view ∙ m.runs;
+        chain = chain.0;
+        out = chain.1;
+      }
+
+module _ (floor : Description) (l : ℕ) (a : Knowledge) (m : HasChainOut floor l a) (going : IsGoing a) (who : ℕ) where
+  pub may_take_own_there : who < length floor.threads
+      → MayMake floor a (λ s. s.record_with who ≡ None) (TakesItem a.thread (RecordOf who) ∷ [])
+  may_take_own_there low =
+      wait.may_take_record floor a (lock_queue l) (Turnstiles m.chain) m.out who low m.runs going
+
+  module _ (is : who ≡ a.thread) (b : Knowledge) (two : Takes floor (RecordOf who) who a b) where
+    own : Takes floor (RecordOf a.thread) a.thread a b
+    own = subst (λ t. Takes floor (RecordOf t) t a b) is two
+
+    its : b.thread ≡ a.thread
+    its = ap (λ (k : Knowledge). k.thread) own.view
+
+    -- the own record has its turnstile
+    out_now : (x : ℕ) × ((h : HasBothOut floor l b) × (h.box.value.turnstile ≡ Some x))
+    out_now =
+        let out = record_out floor l a b m.chain own (ap is_off_queues m.runs) m.out in (
+          out.0,
+          (
+            record {
+              box = out.1;
+              chain = m.chain;
+              out = out.2 ∙ ap (λ t. both_out floor t l out.1 m.chain) (sym its);
+            },
+            out.3,
+          ),
+        )
+
+    pub may_ready_there : MayMake floor b (λ s. Unit {0}) (Readies b.thread (lock_queue l) ∷ [])
+    may_ready_there =
+        wait.may_ready floor b (lock_queue l) (Record out_now.1.0.box) (Turnstiles out_now.1.0.chain) out_now.1.0.out
+        (ap (λ (k : Knowledge). k.pose) own.view ∙ m.runs)
+        (record {
+          awake = ap (λ (k : Knowledge). k.share.doing.phase) own.view ∙ going.awake;
+          unended = ap (λ (k : Knowledge). k.share.doing.has_ended) own.view ∙ going.unended;
+          stamped = ap (λ (k : Knowledge). k.share.doing.unstamped) own.view ∙ going.stamped;
+        })
+
+    module _ (w : Knowledge) (view : w ≡ seeing w.seen (readied true b)) where
+      ready_is : w ≡ seeing w.seen (readied true (took a (RecordOf a.thread) a.thread own.value))
+      ready_is = view ∙ ap (λ (k : Knowledge). seeing w.seen (readied true k)) own.view
+
+      pub come_kept : kept_of w ≡ kept_of a
+      come_kept = ap kept_of ready_is
+
+      pub come_there : who < length floor.threads → IsThere floor l w
+      come_there low =
+          let same : b.thread ≡ w.thread = sym (ap (λ (k : Knowledge). k.thread) view) in
+          record {
+            unheld = ap (λ (k : Knowledge). hold_in k.share.held l) ready_is ∙ m.unheld;
+            few = subst (λ hs. length hs < 8) (sym (ap (λ (k : Knowledge). k.share.held) ready_is)) m.few;
+            wants = subst (λ o. (o ≡ Some l) ⊎ (o ≡ None))
+                (sym (ap (λ (k : Knowledge). k.share.doing.wanted) ready_is)) m.wants;
+            takes = ap (λ (k : Knowledge). k.share.doing.taking) ready_is ∙ m.takes;
+            round = ap (λ (k : Knowledge). k.share.doing.round) ready_is ∙ m.round;
+            no_walk = ap (λ (k : Knowledge). k.share.doing.walk) ready_is ∙ m.no_walk;
+            ready = ap (λ (k : Knowledge). k.pose) ready_is;
+            of_floor = subst (λ t. t < length floor.threads)
+                (is ∙ sym (ap (λ (k : Knowledge). k.thread) ready_is)) low;
+            both = record {
+              box = out_now.1.0.box;
+              chain = out_now.1.0.chain;
+              out = ap (λ (k : Knowledge). k.out) view ∙ out_now.1.0.out
+                  ∙ ap (λ t. both_out floor t l out_now.1.0.box out_now.1.0.chain) same;
+            };
+            turnstile = out_now.0;
+            lent = out_now.1.1;
+          }
+
+      -- a look there is the last of these steps
+      pub come_steps : (z : Knowledge) → Makes floor (Readies b.thread (lock_queue l) ∷ []) b w
+          → Makes floor (Looks w.thread l false ∷ []) w z
+          → MakesEach floor ((TakesItem a.thread (RecordOf a.thread) ∷ []) ∷ (Readies a.thread (lock_queue l) ∷ [])
+          ∷ (Looks a.thread l false ∷ []) ∷ []) a z
+      come_steps z step look = (
+        b,
+        own.step,
+        (
+          w,
+          subst (λ t. Makes floor (Readies t (lock_queue l) ∷ []) b w) its step,
+          (
+            z,
+            subst (λ t. Makes floor (Looks t l false ∷ []) w z) (ap (λ (k : Knowledge). k.thread) view ∙ its) look,
+            refl,
+          ),
+        ),
+      )
+
+-- 2. Looks there
+
+module _ (floor : Description) (l : ℕ) (v : Knowledge) (mutex : IsMutex floor l) (m : IsThere floor l v) where
+  of_round : seeks l v.share.doing.round ≡ true
+  of_round = ap (seeks l) m.round ∙ eq-eqb l l refl
+
+  -- the chain is out, so they don't count
+  module _ (mine : v.description ≡ floor) (some_chains : 1 ≤ floor.chains) where
+    abbrev j : ℕ
+    j = chain_place floor (lock_queue l)
+
+    apart : v.thread ≢ j
+    apart e =
+        let same : RecordOf v.thread ≡ its_chain floor (lock_queue l) =
+        one_place floor (RecordOf v.thread) (its_chain floor (lock_queue l)) j
+        (record_at floor v.thread m.of_floor ∙ ap Some e) (chain_at floor some_chains (lock_queue l)) in
+        let z : false ≡ true = ap is_chain same ∙ is_a_chain floor (lock_queue l) in
+        cc
+
+    chain_is_out : is_out v.out (slot_of floor (its_chain floor (lock_queue l))) ≡ true
+    chain_is_out = ap (is_out v.out) (chain_at floor some_chains (lock_queue l))
+        ∙ ap (λ out. is_there (found j out)) m.both.out
+        ∙ ap is_there
+        (found_later v.thread j (Record m.both.box) ((j, Turnstiles m.both.chain) ∷ []) apart
+        ∙ found_first j (Turnstiles m.both.chain) [])
+
+    pub quiet_there : counts v l ≡ false
+    quiet_there =
+        (λ i. seeks l v.share.doing.round
+        && not (is_out v.out (slot_of (mine i) (its_chain (mine i) (lock_queue l)))))
+        ∙ ap (λ b. seeks l v.share.doing.round && not b) chain_is_out ∙ never (seeks l v.share.doing.round)
+      where
+        never : (b : Bool) → (b && false) ≡ false
+        never true = refl
+        never false = refl
+
+  module _ (k : IsCalling floor (kept_of v)) where
+    no_sleeper : IsNoSleeper v
+    no_sleeper = λ back e f g. let z : true ≡ false = sym back ∙ k.no_wait in cc
+
+    going : IsGoing v
+    going = k.going
+
+    pub may_look_in_section : MayMake floor v (λ s. Unit {0}) (Looks v.thread l (counts v l) ∷ [])
+    may_look_in_section =
+        wait.may_look_there floor v l (Record m.both.box) (Turnstiles m.both.chain) m.both.out mutex.lock going
+        no_sleeper
+        k.description of_round
+
+    -- 3. The gain
+
+    pub may_gain_in_section : Saw l (word_of 0) v
+        → MayMake floor v (λ s. s.word l ≡ word_of 0) (Gains v.thread l Excl false ∷ [])
+    may_gain_in_section saw =
+        wait.may_gain_there floor v l (Record m.both.box) (Turnstiles m.both.chain) m.both.out mutex.lock going
+        no_sleeper
+        Excl false (word_of 0) refl (plainly ((config_in floor).kind l) mutex.kind) m.unheld m.wants of_round
+        (subst (λ r. FitsRound r l false) (sym m.round) (refl, refl))
+        (λ w e. ap (λ (x : Word). admits ((config_in floor).kind l) x Excl)
+        (word_seen l (word_of 0) w (sym saw.there ∙ e)))
+        (λ j e. same_Some j l (sym e ∙ m.takes)) (λ e. m.takes) (ap is_off_queues m.ready)
+
+    -- 4. The enter
+
+    pub may_enter_in_section : (seen : ℕ) → Saw l (word_of seen) v → is_free (word_of seen).holder ≡ false
+        → MayMake floor v (λ s. s.word l ≡ word_of seen) (Enters v.thread l Excl m.turnstile ∷ [])
+    may_enter_in_section seen saw held =
+        wait.may_enter_there floor v l m.both.box (Turnstiles m.both.chain) m.both.out mutex.lock going no_sleeper Excl
+        m.turnstile (word_of seen) held held (chains_turnstile floor l mutex) (λ e. refl) m.lent m.ready m.wants
+        m.no_walk
+        k.sections saw.last m.round
+
+  pub missed_there : (found : ℕ) (w : Knowledge) → IsWellFormed (word_of found)
+      → w ≡ seeing w.seen (looked v l (word_of found)) → Makes floor (Looks v.thread l (counts v l) ∷ []) v w
+      → MissesThere floor l found v w
+  missed_there found w formed view step = record {
+    formed = formed;
+    held = λ ne. saw_held floor l found v w mutex.kind ne view step;
+    view = view;
+    step = step;
+  }
+
+-- looks stay there
+pub there_on : (floor : Description) (l n : ℕ) (u v : Knowledge) → IsThere floor l u → HasLooked floor l n u v
+    → IsThere floor l v
+there_on floor l n u v m x = subst (IsThere floor l) (sym x.knows) record {
+  unheld = m.unheld;
+  few = m.few;
+  wants = m.wants;
+  takes = m.takes;
+  round = m.round;
+  no_walk = m.no_walk;
+  ready = m.ready;
+  of_floor = m.of_floor;
+  both = record { box = m.both.box; chain = m.both.chain; out = m.both.out };
+  turnstile = m.turnstile;
+  lent = m.lent;
+}
+
+pub saw_word : (floor : Description) (l : ℕ) (v w : Knowledge) (word : Word) → w ≡ seeing w.seen (looked v l word)
+    → Saw l word w
+saw_word floor l v w word view = record {
+  last = ap (λ (k : Knowledge). k.share.doing.last_look) view;
+  there = ap (λ (k : Knowledge). k.share.doing.seen_in_section) view;
+}
+
+-- behind a look it contends there
+pub contends : (floor : Description) (l found : ℕ) (v w : Knowledge) → IsMutex floor l → v.description ≡ floor
+    → 1 ≤ floor.chains → IsThere floor l v → IsWellFormed (word_of found)
+    → w ≡ seeing w.seen (looked v l (word_of found))
+    → Makes floor (Looks v.thread l (counts v l) ∷ []) v w → IsContending floor l found w
+contends floor l found v w mutex mine some_chains m formed view step = record {
+  there = there_on floor l 1 v w m
+      (look_once floor v l (quiet_there floor l v mutex m mine some_chains) (word_of found) w view step);
+  saw = saw_word floor l v w (word_of found) view;
+  formed = formed;
+  held = λ ne. saw_held floor l found v w mutex.kind ne view step;
+}
+
+-- where a walk goes that begins at a lock with this owner
+pub owned_walk : (l t : ℕ) (o : Option ℕ) → o ≡ Some t → AtLock l ≡ walk_up l o
+owned_walk l t o e = sym (ap (walk_up l) e)
+
+pub ownerless_walk : (l : ℕ) (o : Option ℕ) → o ≡ None → NoWalk ≡ walk_up l o
+ownerless_walk l o e = sym (ap (walk_up l) e)

@@ -1,0 +1,53 @@
+use Rattle.std.proofs.Common.{option_map, sym, ap, ◌∙◌}
+use Rattle.lock_model.specs.Words.{word_of, owner_of}
+use Rattle.lock_model.specs.declared.numbers.ThreadNo.{ThreadNo}
+use Rattle.lock_calls.proofs.There.{may_look_in_section, may_enter_in_section, missed_there, owned_walk, ownerless_walk}
+use Rattle.lock_calls.proofs.blocking.enter_there.Goals as goal
+
+pub enter-requires-clause-out : goal.enter-requires-clause-out
+enter-requires-clause-out c =
+    let m = c.requires.there in (
+      m.turnstile,
+      m.both.box,
+      m.both.chain,
+      m.both.out,
+      m.lent,
+      may_enter_in_section c.args.floor.now.description c.args.l.0 c.args.pass.now.view c.requires.mutex m
+          c.requires.calling c.args.seen c.requires.saw c.requires.held,
+    )
+
+pub enter-requires-clause-may_look : goal.enter-requires-clause-may_look
+enter-requires-clause-may_look c =
+    may_look_in_section c.args.floor.now.description c.args.l.0 c.args.pass.now.view c.requires.mutex c.requires.there
+    c.requires.calling
+
+pub returns-in-Some-clause-entered : goal.returns-in-Some-clause-entered
+returns-in-Some-clause-entered c =
+    let s = c.in-Ok.ensures.step in
+    record {
+      both = record { box = s.1; chain = s.2; out = s.3 };
+      turnstile = s.0;
+      owner = owner_of (word_of c.args.seen).holder;
+      walk_is = owned_walk c.args.l.0 c.in-Some.field-0.0 (owner_of (word_of c.args.seen).holder)
+          (sym c.owner_of.ensures ∙ ap (option_map (λ (t : ThreadNo). t.0)) c.in-Some.is);
+      view = s.5;
+      step = s.6;
+    }
+
+pub returns-in-None-clause-entered : goal.returns-in-None-clause-entered
+returns-in-None-clause-entered c =
+    let s = c.in-Ok.ensures.step in
+    record {
+      both = record { box = s.1; chain = s.2; out = s.3 };
+      turnstile = s.0;
+      owner = owner_of (word_of c.args.seen).holder;
+      walk_is = ownerless_walk c.args.l.0 (owner_of (word_of c.args.seen).holder)
+          (sym c.owner_of.ensures ∙ ap (option_map (λ (t : ThreadNo). t.0)) c.in-None.is);
+      view = s.5;
+      step = s.6;
+    }
+
+pub returns-in-Err-clause-missed : goal.returns-in-Err-clause-missed
+returns-in-Err-clause-missed c =
+    missed_there c.args.floor.now.description c.args.l.0 c.args.pass.now.view c.requires.mutex c.requires.there
+    c.in-Err.found c.enter.new.pass.view c.in-Err.ensures.found.1 c.in-Err.ensures.looked c.in-Err.ensures.look

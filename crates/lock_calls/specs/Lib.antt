@@ -1,0 +1,4 @@
+pub mod Steps
+pub mod Waiting
+pub mod Takes
+pub mod Releases

@@ -1,0 +1,193 @@
+-- A release as a call that is begun and gone on with: what the thread knows wherever the release stands, what it does
+-- from there on, and how the release ends. It is noted at its begin.
+use Rattle.std.specs.Prelude.{◌≡◌, ℕ, ◌<◌, Bool, false, List, [], ◌∷◌, length}
+use Rattle.lock_model.specs.Holds.{NotHeld}
+use Rattle.lock_model.specs.Operations.{hold_in, without_lock}
+use Rattle.lock_model.specs.Queues.{Mark, lock_queue}
+use Rattle.lock_model.specs.declared.event.Entry.{Entry}
+use Rattle.lock_model.specs.declared.event.Event.{Event}
+use Rattle.lock_model.specs.declared.numbers.LockNo.{LockNo}
+use Rattle.lock_model.specs.declared.plan.Mode.{Mode}
+use Rattle.lock_model.specs.declared.plan.QueueName.{QueueName}
+use Rattle.lock_state.specs.Steps.{Looks, Stamps, TakesItem}
+use Rattle.lock_state.specs.Steps.Items.{Item, RecordOf}
+use Rattle.turnstile_core.specs.Seen.{Turnstile}
+use Rattle.floor_table.specs.declared.description.Description.{Description}
+use Rattle.floor_table.specs.declared.slot.Slot.TheVariants.{Turnstiles}
+use Rattle.floor_table.specs.Steps.{Makes, MakesEach}
+use Rattle.floor_table.specs.Views.{Knowledge, seeing}
+use Rattle.lock_floor.specs.declared.calls.Call.TheVariants as calls
+use Rattle.lock_floor.specs.declared.calls.ReleaseAt.{ReleaseAt}
+use Rattle.lock_floor.specs.declared.calls.ReleaseAt.TheVariants.{ComesTo, ComesIn, Frees, Wakes}
+use Rattle.lock_floor.specs.Floors.{Pass}
+use Rattle.lock_floor.specs.Latches.{FindsOut}
+use Rattle.lock_floor.specs.Marks.{WakesFirst, with_marks}
+use Rattle.lock_floor.specs.Opens.{HasBothOut}
+use Rattle.lock_floor.specs.Passes.{IsAtRest, MakesEntry}
+use Rattle.lock_floor.specs.Views.{put_down}
+use Rattle.lock_floor.specs.Waits.{its_chain, chain_place}
+use Rattle.lock_calls.specs.declared.answers.Next.{Next}
+use Rattle.lock_calls.specs.declared.answers.Next.TheVariants.{Done, Again, Sleep, Wake}
+use Rattle.lock_calls.specs.Steps.{IsCovered, AtOnce, frees, gives_both, unlocks}
+use Rattle.lock_calls.specs.Waiting.{MayPutDown, IsOwn, with_none_out}
+
+-- 1. What the thread knows, wherever the release stands
+
+-- it may put the lock down, and is at rest once it doesn't hold it
+pub record IsLeaving (floor : Description) (l : ℕ) (v : Knowledge) : Type 0 where
+  pub may : MayPutDown floor l v
+  pub rest_then : hold_in (without_lock l v.share.held) l ≡ NotHeld → IsAtRest floor (put_down v l)
+
+-- the same, but that it has the lock's chain out
+pub record LeavesWithChain (floor : Description) (l : ℕ) (v : Knowledge) : Type 0 where
+  pub leaving : IsLeaving floor l (with_none_out v)
+  pub chain : List (QueueName × Turnstile)
+  pub out : v.out ≡ (chain_place floor (lock_queue l), Turnstiles chain) ∷ []
+
+-- or that and its own record, and that it saw this word last, which is its own
+pub record LeavesWithBoth (floor : Description) (l seen : ℕ) (v : Knowledge) : Type 0 where
+  pub leaving : IsLeaving floor l (with_none_out v)
+  pub both : HasBothOut floor l v
+  pub own : IsOwn v.thread seen
+
+-- so wherever it stands; behind the release the thread is at rest, but for those whom it has yet to wake
+abbrev pub IsReleasing : Description → ℕ → ReleaseAt → Knowledge → Type 0
+IsReleasing floor l ComesTo v = IsLeaving floor l v
+IsReleasing floor l ComesIn v = LeavesWithChain floor l v
+IsReleasing floor l (Frees seen) v = LeavesWithBoth floor l seen v
+IsReleasing floor l Wakes v = IsAtRest floor (with_marks v [])
+
+-- a release of the lock, which was held in that mode, is under way, and stands there
+pub record IsUnderRelease (floor : Description) (l : LockNo) (mode : Mode) (at : ReleaseAt)
+    (v : Knowledge) : Type 0 where
+  pub covered : IsCovered floor l.0 mode
+  pub there : IsReleasing floor l.0 at v
+
+-- the call that the pass is in the middle of is a release
+pub record IsInRelease (floor : Description) (p : Pass Knowledge) : Type 0 where
+  pub l : LockNo
+  pub mode : Mode
+  pub at : ReleaseAt
+  pub call : p.call ≡ calls.Release l mode at
+  pub there : IsUnderRelease floor l mode at p.view
+
+-- 2. What it does from there to where the release stands next
+
+-- what stays once the release is noted
+pub record Noted : Type 0 where
+  pub thread : ℕ
+  pub spare : ℕ
+  pub log : List Entry
+
+abbrev pub noted_of : Knowledge → Noted
+noted_of v = record { thread = v.thread; spare = v.spare; log = v.share.log }
+
+-- the item that a release needs to go on from there: another thread may have it out
+abbrev pub AwaitsInRelease : Description → ℕ → ReleaseAt → Knowledge → Item → Type 0
+AwaitsInRelease floor l ComesTo v i = i ≡ its_chain floor (lock_queue l)
+AwaitsInRelease floor l ComesIn v i = i ≡ RecordOf v.thread
+AwaitsInRelease floor l (Frees seen) v i = ⊥
+AwaitsInRelease floor l Wakes v i =
+    (m : Mark) × (ms : List Mark) × (v.share.doing.marked ≡ m ∷ ms) × (i ≡ RecordOf m.thread)
+
+-- It takes the lock's chain, then its own record, and looks; there an exchange that misses is a look; or it makes the
+-- lock free, and gives both back. Or it found out what it needs
+pub data ReleaseLeg (floor : Description) (l : LockNo) (mode : Mode) : ReleaseAt → ReleaseAt
+    → Knowledge → Knowledge → Type 0 where
+  takes_chain : {old new : Knowledge} → new.share.held ≡ old.share.held
+      → Makes floor (TakesItem old.thread (its_chain floor (lock_queue l.0)) ∷ []) old new
+      → ReleaseLeg floor l mode ComesTo ComesIn old new
+  comes_in : {old new : Knowledge} (seen : ℕ) → new.share.held ≡ old.share.held
+      → MakesEach floor
+      ((TakesItem old.thread (RecordOf old.thread) ∷ []) ∷ (Looks old.thread l.0 false ∷ []) ∷ [])
+      old new
+      → ReleaseLeg floor l mode ComesIn (Frees seen) old new
+  looks : {old new : Knowledge} (seen found : ℕ) → new.share.held ≡ old.share.held
+      → Makes floor (Looks old.thread l.0 false ∷ []) old new
+      → ReleaseLeg floor l mode (Frees seen) (Frees found) old new
+  makes_free : {old new : Knowledge} (seen : ℕ) (opens : Bool)
+      → new.share.held ≡ without_lock l.0 old.share.held
+      → MakesEach floor
+      ((frees old.thread l.0 mode opens ∷ []) ∷ gives_both floor old.thread l.0) old new
+      → ReleaseLeg floor l mode (Frees seen) Wakes old new
+  finds_out : {old new : Knowledge} (at : ReleaseAt) (i : Item)
+      → AwaitsInRelease floor l.0 at old i → new ≡ seeing new.seen old
+      → FindsOut floor i old new → ReleaseLeg floor l mode at at old new
+
+-- the release went on, and stands there
+pub record ReleasesOn (floor : Description) (l : LockNo) (mode : Mode) (at to : ReleaseAt)
+    (old new : Knowledge) : Type 0 where
+  pub there : IsReleasing floor l.0 to new
+  pub noted : noted_of new ≡ noted_of old
+  pub leg : ReleaseLeg floor l mode at to old new
+
+-- 3. What the calls promise
+
+-- what the part that wakes made: nobody was left, and it did nothing; or the first of those who were left was woken;
+-- or it found that one's record out
+abbrev pub WakesNext : Description → Next → Knowledge → Knowledge → Type 0
+WakesNext floor Done old new = (old.share.doing.marked ≡ []) × (new ≡ old)
+WakesNext floor Again old new =
+    (m : Mark) × (ms : List Mark) × (old.share.doing.marked ≡ m ∷ ms)
+    × (new ≡ seeing new.seen old) × FindsOut floor (RecordOf m.thread) old new
+WakesNext floor Sleep old new = ⊥
+WakesNext floor (Wake t) old new = (t.0 < length floor.threads) × WakesFirst floor t.0 old new
+
+-- it is noted, and the lock was put down by one exchange
+pub record ReleasesAtOnce (floor : Description) (l : LockNo) (mode : Mode) (old new : Knowledge) :
+    Type 0 where
+  pub rest : IsAtRest floor new
+  pub entry : MakesEntry floor (Event.Unlocked l mode) (without_lock l.0 old.share.held) old new
+  pub steps : MakesEach floor (unlocks floor old.thread l mode AtOnce) old new
+
+-- it is noted; the exchange missed, and was a look
+pub record BeginsRelease (floor : Description) (l : LockNo) (mode : Mode) (p q : Pass Knowledge) :
+    Type 0 where
+  pub call : q.call ≡ calls.Release l mode ComesTo
+  pub there : IsUnderRelease floor l mode ComesTo q.view
+  pub entry : MakesEntry floor (Event.Unlocked l mode) p.view.share.held p.view q.view
+  pub steps : MakesEach floor
+      ((Stamps p.view.thread (Event.Unlocked l mode) ∷ [])
+      ∷ (Looks p.view.thread l.0 false ∷ []) ∷ [])
+      p.view q.view
+
+-- a release has begun: the lock is put down at once, or the release is under way
+abbrev pub HasBegunRelease : Description → LockNo → Mode → Next → Pass Knowledge → Pass Knowledge
+    → Type 0
+HasBegunRelease floor l mode Done p q =
+    (q.call ≡ calls.None) × ReleasesAtOnce floor l mode p.view q.view
+HasBegunRelease floor l mode Again p q = BeginsRelease floor l mode p q
+HasBegunRelease floor l mode Sleep p q = ⊥
+HasBegunRelease floor l mode (Wake t) p q = ⊥
+
+-- the release went on from there, and stands somewhere
+pub record StandsInRelease (floor : Description) (l : LockNo) (mode : Mode) (at : ReleaseAt)
+    (p q : Pass Knowledge) : Type 0 where
+  pub to : ReleaseAt
+  pub call : q.call ≡ calls.Release l mode to
+  pub on : ReleasesOn floor l mode at to p.view q.view
+
+-- nobody was left to be woken, and nothing was done
+pub record EndsRelease (floor : Description) (at : ReleaseAt) (p q : Pass Knowledge) : Type 0 where
+  pub call : q.call ≡ calls.None
+  pub at_end : at ≡ Wakes
+  pub nobody : p.view.share.doing.marked ≡ []
+  pub same : q.view ≡ p.view
+  pub rest : IsAtRest floor q.view
+
+-- the first of those who are left was woken
+pub record WakesOne (floor : Description) (l : LockNo) (mode : Mode) (at : ReleaseAt) (t : ℕ)
+    (p q : Pass Knowledge) : Type 0 where
+  pub call : q.call ≡ calls.Release l mode Wakes
+  pub at_end : at ≡ Wakes
+  pub of_floor : t < length floor.threads
+  pub wakes : WakesFirst floor t p.view q.view
+  pub there : IsReleasing floor l.0 Wakes q.view
+
+-- a release that stood there went on: it ended, or stands somewhere, or that thread's sleep is to be ended
+abbrev pub GoesOnReleasing : Description → LockNo → Mode → ReleaseAt → Next → Pass Knowledge
+    → Pass Knowledge → Type 0
+GoesOnReleasing floor l mode at Done p q = EndsRelease floor at p q
+GoesOnReleasing floor l mode at Again p q = StandsInRelease floor l mode at p q
+GoesOnReleasing floor l mode at Sleep p q = ⊥
+GoesOnReleasing floor l mode at (Wake t) p q = WakesOne floor l mode at t.0 p q

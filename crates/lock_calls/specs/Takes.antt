@@ -1,0 +1,232 @@
+-- A take as a call that is begun and gone on with: what the thread knows wherever the take stands, what it does from
+-- there on, and how the take ends.
+use Rattle.std.specs.Prelude.{◌≡◌, ◌≢◌, ◌⊎◌, ℕ, ◌+◌, ◌<◌, ◌≤◌, true, false, List, [], ◌∷◌, ◌++◌, length, replicate, Some, None}
+use Rattle.lock_model.specs.Holds.{NotHeld}
+use Rattle.lock_model.specs.Limits.{most_held}
+use Rattle.lock_model.specs.Operations.{hold_in}
+use Rattle.lock_model.specs.Queues.{BySignal, lock_queue}
+use Rattle.lock_model.specs.Words.{word_of, IsWellFormed, is_free}
+use Rattle.lock_model.specs.declared.event.Event.{Event}
+use Rattle.lock_model.specs.declared.numbers.LockNo.{LockNo}
+use Rattle.lock_model.specs.declared.plan.Mode.{Mode}
+use Rattle.lock_model.specs.declared.plan.QueueName.{QueueName}
+use Rattle.lock_objects.specs.Represents.{walk_of}
+use Rattle.lock_state.specs.State.{NoWalk}
+use Rattle.lock_state.specs.Steps.{Looks, Gains, Enters, Readies, Resumes, Stamps, TakesItem}
+use Rattle.lock_state.specs.Steps.Items.{Item, RecordOf}
+use Rattle.lock_state.specs.Steps.LockWords.{bound_to}
+use Rattle.prio_lending.specs.declared.walk.Walk.{Walk}
+use Rattle.prio_lending.specs.declared.walk.Walk.TheVariants as walk
+use Rattle.turnstile_core.specs.Seen.{Turnstile}
+use Rattle.floor_table.specs.declared.description.Description.{Description}
+use Rattle.floor_table.specs.declared.slot.Slot.TheVariants.{Turnstiles}
+use Rattle.floor_table.specs.Steps.{Makes, MakesEach}
+use Rattle.floor_table.specs.Views.{Runs, StandsOn, Knowledge, seeing}
+use Rattle.lock_floor.specs.declared.calls.Call.TheVariants as calls
+use Rattle.lock_floor.specs.declared.calls.TakeAt.{TakeAt}
+use Rattle.lock_floor.specs.declared.calls.TakeAt.TheVariants.{Spins, ComesIn, Contends, Walks, Hops}
+use Rattle.lock_floor.specs.Floors.{Pass}
+use Rattle.lock_floor.specs.Latches.{FindsOut, Takes}
+use Rattle.lock_floor.specs.Passes.{IsAtRest, MakesEntry}
+use Rattle.lock_floor.specs.Resumes.{FindsQueued}
+use Rattle.lock_floor.specs.Waits.{its_chain, chain_place}
+use Rattle.lock_floor.specs.Walks.{CanWalk, HasTurnstilesOut, HopsOn, turnstiles, turnstiles_place}
+use Rattle.lock_calls.specs.declared.answers.Next.{Next}
+use Rattle.lock_calls.specs.declared.answers.Next.TheVariants.{Done, Again, Sleep, Wake}
+use Rattle.lock_calls.specs.Steps.{IsCovered, as_taken, gains_at_once, begins_round, gives_both, runs_on}
+use Rattle.lock_calls.specs.Waiting.{kept_of, IsCalling, IsSeeking, IsThere, Saw}
+
+-- 1. What the thread knows, wherever the take stands
+
+-- it has the lock's chain out, in the round that took it
+pub record HasChainOut (floor : Description) (l : ℕ) (v : Knowledge) : Type 0 where
+  pub unheld : hold_in v.share.held l ≡ NotHeld
+  pub few : length v.share.held < most_held
+  pub wants : (v.share.doing.wanted ≡ Some l) ⊎ (v.share.doing.wanted ≡ None)
+  pub takes : v.share.doing.taking ≡ Some l
+  pub round : v.share.doing.round ≡ Some (bound_to l)
+  pub no_walk : v.share.doing.walk ≡ NoWalk
+  pub runs : v.pose ≡ Runs
+  pub chain : List (QueueName × Turnstile)
+  pub out : v.out ≡ (chain_place floor (lock_queue l), Turnstiles chain) ∷ []
+
+-- it is in the section of the chain, and saw that word last: the free one, or that of a held lock
+pub record IsContending (floor : Description) (l seen : ℕ) (v : Knowledge) : Type 0 where
+  pub there : IsThere floor l v
+  pub saw : Saw l (word_of seen) v
+  pub formed : IsWellFormed (word_of seen)
+  pub held : seen ≢ 0 → is_free (word_of seen).holder ≡ false
+
+-- it stands on the lock's turnstile, and its walk is there
+pub record IsStanding (l : ℕ) (there : Walk) (v : Knowledge) : Type 0 where
+  pub unheld : hold_in v.share.held l ≡ NotHeld
+  pub few : length v.share.held < most_held
+  pub wants : v.share.doing.wanted ≡ Some l
+  pub takes : v.share.doing.taking ≡ Some l
+  pub stands : v.pose ≡ StandsOn (lock_queue l)
+  pub walk_is : walk_of there ≡ v.share.doing.walk
+
+-- So wherever it stands. With twice as many looks as are still allowed, a round has at most 99
+abbrev pub IsTaking : Description → ℕ → TakeAt → Knowledge → Type 0
+IsTaking floor l (Spins left) v = IsSeeking l v × (v.share.doing.looks + (left + left) ≤ 99)
+IsTaking floor l ComesIn v = HasChainOut floor l v
+IsTaking floor l (Contends seen) v = IsContending floor l seen v
+IsTaking floor l (Walks there) v = IsStanding l there v × CanWalk floor v
+IsTaking floor l (Hops there) v =
+    IsStanding l there v × HasTurnstilesOut floor v × (walk_of there ≢ NoWalk)
+
+-- a take of the lock in that mode is under way, and stands there
+pub record IsUnderTake (floor : Description) (l : LockNo) (mode : Mode) (at : TakeAt)
+    (v : Knowledge) : Type 0 where
+  pub covered : IsCovered floor l.0 mode
+  pub calling : IsCalling floor (kept_of v)
+  pub room : 1 ≤ v.spare
+  pub there : IsTaking floor l.0 at v
+
+-- the call that the pass is in the middle of is a take
+pub record IsInTake (floor : Description) (p : Pass Knowledge) : Type 0 where
+  pub l : LockNo
+  pub mode : Mode
+  pub at : TakeAt
+  pub call : p.call ≡ calls.Take l mode at
+  pub there : IsUnderTake floor l mode at p.view
+
+-- 2. What it does from there to where the take stands next
+
+-- the item that a take needs to go on from there: another thread may have it out
+abbrev pub AwaitsInTake : Description → ℕ → ℕ → TakeAt → Item → Type 0
+AwaitsInTake floor t l (Spins left) i = (left ≡ 0) × (i ≡ its_chain floor (lock_queue l))
+AwaitsInTake floor t l ComesIn i = i ≡ RecordOf t
+AwaitsInTake floor t l (Contends seen) i = ⊥
+AwaitsInTake floor t l (Walks there) i = (there ≢ walk.None) × (i ≡ turnstiles)
+AwaitsInTake floor t l (Hops there) i = (o : ℕ) × (i ≡ RecordOf o)
+
+-- In the round it looks, and may have an exchange that misses; once no looks are left, it takes the chain, then its
+-- own record, is ready for the queue, and looks. There an exchange that misses is a look; or it comes to stand on the
+-- queue. It makes hop after hop of its walk, and where it was woken it begins another round. Or it found out what it
+-- needs, or that it is queued still
+pub data TakeLeg (floor : Description) (l : LockNo) (mode : Mode) : TakeAt → TakeAt → Knowledge
+    → Knowledge → Type 0 where
+  looks : {old new : Knowledge} (left to n : ℕ) → to < left → 1 ≤ n → n ≤ 2
+      → MakesEach floor (replicate n (Looks old.thread l.0 true ∷ [])) old new
+      → TakeLeg floor l mode (Spins left) (Spins to) old new
+  takes_chain : {old new : Knowledge}
+      → Makes floor (TakesItem old.thread (its_chain floor (lock_queue l.0)) ∷ []) old new
+      → TakeLeg floor l mode (Spins 0) ComesIn old new
+  comes_in : {old new : Knowledge} (seen : ℕ)
+      → MakesEach floor
+      ((TakesItem old.thread (RecordOf old.thread) ∷ [])
+      ∷ (Readies old.thread (lock_queue l.0) ∷ []) ∷ (Looks old.thread l.0 false ∷ []) ∷ [])
+      old new
+      → TakeLeg floor l mode ComesIn (Contends seen) old new
+  looks_there : {old new : Knowledge} (seen found : ℕ)
+      → Makes floor (Looks old.thread l.0 false ∷ []) old new
+      → TakeLeg floor l mode (Contends seen) (Contends found) old new
+  enters : {old new : Knowledge} (seen x : ℕ) (there : Walk)
+      → MakesEach floor
+      ((Enters old.thread l.0 mode x ∷ []) ∷ gives_both floor old.thread l.0) old new
+      → TakeLeg floor l mode (Contends seen) (Walks there) old new
+  takes_turnstiles : {old new : Knowledge} (there : Walk)
+      → Takes floor turnstiles (turnstiles_place floor) old new
+      → TakeLeg floor l mode (Walks there) (Hops there) old new
+  hops : {old new : Knowledge} (there to : Walk) → HopsOn floor (walk_of to) old new
+      → TakeLeg floor l mode (Hops there) (Walks to) old new
+  resumes : {old new : Knowledge} (left : ℕ) → left ≤ 49
+      → Makes floor (Resumes old.thread (lock_queue l.0) BySignal ∷ []) old new
+      → TakeLeg floor l mode (Walks walk.None) (Spins left) old new
+  finds_out : {old new : Knowledge} (at : TakeAt) (i : Item)
+      → AwaitsInTake floor old.thread l.0 at i → new ≡ seeing new.seen old
+      → FindsOut floor i old new → TakeLeg floor l mode at at old new
+  is_queued : {old new : Knowledge} → new ≡ seeing new.seen old → FindsQueued floor old new
+      → TakeLeg floor l mode (Walks walk.None) (Walks walk.None) old new
+
+-- the take went on, and stands there
+pub record TakesOn (floor : Description) (l : LockNo) (mode : Mode) (at to : TakeAt)
+    (old new : Knowledge) : Type 0 where
+  pub there : IsTaking floor l.0 to new
+  pub kept : kept_of new ≡ kept_of old
+  pub leg : TakeLeg floor l mode at to old new
+
+-- 3. How it ends
+
+-- the thread holds the lock, has noted that, and is at rest
+pub record HasTaken (floor : Description) (l : LockNo) (mode : Mode) (old new : Knowledge) : Type 0
+  where
+    pub rest : IsAtRest floor new
+    pub entry : MakesEntry floor (Event.Locked l mode)
+        (old.share.held ++ as_taken l mode ∷ []) old new
+
+-- it saw the lock free in its round, and gained it; or it gained it in the section of the chain, and ran on
+pub data TakeEnd (floor : Description) (l : LockNo) (mode : Mode) : TakeAt → Knowledge → Knowledge
+    → Type 0 where
+  in_round : {old new : Knowledge} (left : ℕ) → 1 ≤ left
+      → MakesEach floor
+      ((Looks old.thread l.0 true ∷ []) ∷ (Gains old.thread l.0 mode false ∷ [])
+      ∷ (Stamps old.thread (Event.Locked l mode) ∷ []) ∷ [])
+      old new
+      → TakeEnd floor l mode (Spins left) old new
+  in_section : {old new : Knowledge} (seen : ℕ)
+      → MakesEach floor
+      ((Gains old.thread l.0 mode false ∷ []) ∷ (runs_on floor old.thread l.0
+      ++ (Stamps old.thread (Event.Locked l mode) ∷ []) ∷ []))
+      old new
+      → TakeEnd floor l mode (Contends seen) old new
+
+-- 4. What the calls promise
+
+-- what is to be done next, where a take stands there: to sleep where its walk has ended, or else to go on
+abbrev pub next_in_walk : Walk → Next
+next_in_walk walk.None = Sleep
+next_in_walk (walk.AtLock l) = Again
+next_in_walk (walk.AtThread o) = Again
+
+abbrev pub next_at : TakeAt → Next
+next_at (Spins left) = Again
+next_at ComesIn = Again
+next_at (Contends seen) = Again
+next_at (Walks there) = next_in_walk there
+next_at (Hops there) = Again
+
+-- the first exchange missed, and a round has begun with a look; where the exchange was no begin of a round, it was one
+-- look outside, and the thread holds nothing
+pub record BeginsTake (floor : Description) (l : LockNo) (mode : Mode) (p q : Pass Knowledge) :
+    Type 0 where
+  pub left : ℕ
+  pub few : left ≤ 49
+  pub call : q.call ≡ calls.Take l mode (Spins left)
+  pub there : IsUnderTake floor l mode (Spins left) q.view
+  pub kept : kept_of q.view ≡ kept_of p.view
+  pub missed : ℕ
+  pub once : missed ≤ 1
+  pub bare : 1 ≤ missed → p.view.share.held ≡ []
+  pub steps : MakesEach floor (begins_round p.view.thread l.0 missed) p.view q.view
+
+-- a take has begun: it gained the lock at once, or is under way
+abbrev pub HasBegunTake : Description → LockNo → Mode → Next → Pass Knowledge → Pass Knowledge
+    → Type 0
+HasBegunTake floor l mode Done p q =
+    (q.call ≡ calls.None) × HasTaken floor l mode p.view q.view
+    × MakesEach floor
+    (gains_at_once p.view.thread l.0 mode ∷ (Stamps p.view.thread (Event.Locked l mode) ∷ []) ∷ [])
+    p.view q.view
+HasBegunTake floor l mode Again p q = BeginsTake floor l mode p q
+HasBegunTake floor l mode Sleep p q = ⊥
+HasBegunTake floor l mode (Wake t) p q = ⊥
+
+-- the take went on from there, and stands somewhere
+pub record StandsInTake (floor : Description) (l : LockNo) (mode : Mode) (at : TakeAt)
+    (next : Next) (p q : Pass Knowledge) : Type 0 where
+  pub to : TakeAt
+  pub call : q.call ≡ calls.Take l mode to
+  pub next_is : next_at to ≡ next
+  pub on : TakesOn floor l mode at to p.view q.view
+
+-- a take that stood there went on: it ended, or stands somewhere
+abbrev pub GoesOnTaking : Description → LockNo → Mode → TakeAt → Next → Pass Knowledge
+    → Pass Knowledge → Type 0
+GoesOnTaking floor l mode at Done p q =
+    (q.call ≡ calls.None) × HasTaken floor l mode p.view q.view
+    × TakeEnd floor l mode at p.view q.view
+GoesOnTaking floor l mode at Again p q = StandsInTake floor l mode at Again p q
+GoesOnTaking floor l mode at Sleep p q = StandsInTake floor l mode at Sleep p q
+GoesOnTaking floor l mode at (Wake t) p q = ⊥

@@ -1,0 +1,304 @@
+-- What a thread knows in the middle of a call. Looks of a release count nothing,
+-- nor do those under a lock's chain; those of a blocking call's round count there.
+use Rattle.std.specs.Prelude.{◌≡◌, ◌≢◌, ◌⊎◌, ℕ, ◌+◌, ◌<◌, ◌≤◌, Bool, true, false, List, [], ◌∷◌, length, replicate, Option, Some, None}
+use Rattle.lock_model.specs.Holds.{NotHeld, Holds}
+use Rattle.lock_model.specs.History.{open_in}
+use Rattle.lock_model.specs.Limits.{most_held}
+use Rattle.lock_model.specs.Operations.{hold_in, without_lock}
+use Rattle.lock_model.specs.Queues.{Mark}
+use Rattle.lock_model.specs.Words.{Word, word_of, IsWellFormed, HeldBy, is_free}
+use Rattle.lock_model.specs.declared.event.Entry.{Entry}
+use Rattle.lock_model.specs.declared.event.Held.{Held}
+use Rattle.lock_model.specs.declared.numbers.LockNo.{LockNo}
+use Rattle.lock_model.specs.declared.plan.Mode.TheVariants.{Excl}
+use Rattle.lock_state.specs.State.{Look, Note, Wake, Phase, Walk, NoWalk}
+use Rattle.lock_state.specs.Steps.{Looks, Gains, Enters}
+use Rattle.lock_state.specs.Steps.LockWords.{is_taking_back, round_of, bound_to}
+use Rattle.lock_state.specs.Steps.Turnstiles.{walk_up}
+use Rattle.floor_table.specs.Descriptions.{config_in}
+use Rattle.floor_table.specs.declared.description.Description.{Description}
+use Rattle.floor_table.specs.declared.slot.Slot.{Slot}
+use Rattle.floor_table.specs.Shares.{Doing, is_among}
+use Rattle.floor_table.specs.Steps.{Makes, MakesEach}
+use Rattle.floor_table.specs.Views.{Runs, IsReady, Knowledge, seeing}
+use Rattle.lock_floor.specs.Opens.{HasBothOut, opened_up}
+use Rattle.lock_floor.specs.Passes.{CanStep, IsGoing}
+use Rattle.lock_floor.specs.Rounds.{gained_first}
+use Rattle.lock_floor.specs.Views.{counts, looked, gained}
+use Rattle.lock_floor.specs.Waits.{out_entered, entered}
+use Rattle.lock_calls.specs.Steps.{as_taken, gains_at_once, begins_round, frees}
+
+-- 1. What stays
+
+-- what a thread knows that stays through a call, but for its gain or its release, and its entry
+pub record Kept : Type 0 where
+  pub description : Description
+  pub thread : ℕ
+  pub spare : ℕ
+  pub held : List Held
+  pub begun : List ℕ
+  pub log : List Entry
+  pub marked : List Mark
+  pub noted : Option Note
+  pub unstamped : Option Wake
+  pub counting : Option ℕ
+  pub phase : Phase
+  pub has_ended : Bool
+
+abbrev pub kept_of : Knowledge → Kept
+kept_of v = record {
+  description = v.description;
+  thread = v.thread;
+  spare = v.spare;
+  held = v.share.held;
+  begun = v.share.begun;
+  log = v.share.log;
+  marked = v.share.doing.marked;
+  noted = v.share.doing.noted;
+  unstamped = v.share.doing.unstamped;
+  counting = v.share.doing.counting;
+  phase = v.share.doing.phase;
+  has_ended = v.share.doing.has_ended;
+}
+
+-- A blocking call is made by a thread that was at rest: it is awake, has nobody to mark or counted in and nothing to
+-- note, and doesn't sleep in its log; the sections open there are of just the locks that it holds, in their modes, and
+-- each began since its lock was gained
+pub record IsCalling (floor : Description) (k : Kept) : Type 0 where
+  pub description : k.description ≡ floor
+  pub going : CanStep k.phase k.has_ended k.unstamped
+  pub unmarked : k.marked ≡ []
+  pub uncounted : k.counting ≡ None
+  pub unnoted : k.noted ≡ None
+  pub no_wait : is_taking_back k.log ≡ false
+  pub sections : (l : ℕ) → open_in (config_in floor) k.log k.thread l ≡ hold_in k.held l
+  pub begun : (l : ℕ) → hold_in k.held l ≢ NotHeld → is_among l k.begun ≡ true
+
+-- 2. Looks outside rounds, and under a chain
+
+-- the thread can look at a lock outside acquiring rounds: it runs and is awake, has nothing out, takes nothing and is
+-- in no round
+pub record CanLook (v : Knowledge) : Type 0 where
+  pub runs : v.pose ≡ Runs
+  pub nothing_out : v.out ≡ []
+  pub takes_nothing : v.share.doing.taking ≡ None
+  pub no_round : v.share.doing.round ≡ None
+  pub going : IsGoing v
+
+-- with so many looks in all, and with others seen last
+abbrev pub with_looks : Knowledge → ℕ → Option Look → Option Look → Knowledge
+with_looks v all last seen =
+    let after : Doing = record v.share.doing {
+      looks_in_all = all;
+      last_look = last;
+      seen_in_section = seen;
+    } in
+    record v { share = record v.share { doing = after } }
+
+-- the thread made so many looks at a lock, which don't count, and knows nothing else anew
+pub record HasLooked (floor : Description) (l n : ℕ) (old new : Knowledge) : Type 0 where
+  pub all : ℕ
+  pub last : Option Look
+  pub seen : Option Look
+  pub knows : new ≡ seeing new.seen (with_looks old all last seen)
+  pub steps : MakesEach floor (replicate n (Looks old.thread l false ∷ [])) old new
+
+-- 3. A blocking call before it takes the chain
+
+-- the thread may gain the lock by its first exchange, where its word is free: it can look and remembers no look,
+-- doesn't hold the lock, has room for it, and wants none
+pub record MayGain (floor : Description) (l : ℕ) (v : Knowledge) : Type 0 where
+  pub unheld : hold_in v.share.held l ≡ NotHeld
+  pub few : length v.share.held < most_held
+  pub wants_nothing : v.share.doing.wanted ≡ None
+  pub unseen : v.share.doing.last_look ≡ None
+  pub no_walk : v.share.doing.walk ≡ NoWalk
+  pub looks : CanLook v
+
+-- a blocking call gained it so
+pub record GainsAtOnce (floor : Description) (h : Held) (old new : Knowledge) : Type 0 where
+  pub view : new ≡ seeing new.seen (gained_first old h)
+  pub step : Makes floor (gains_at_once old.thread h.l.0 h.mode) old new
+
+-- with a round of the lock under way, so many looks in it, so many in all, and others seen last
+abbrev pub in_round : Knowledge → ℕ → ℕ → ℕ → Option Look → Option Look → Knowledge
+in_round v l looks all last seen =
+    let after : Doing = record v.share.doing {
+      taking = Some l;
+      looks = looks;
+      looks_in_all = all;
+      last_look = last;
+      seen_in_section = seen;
+      round = Some (round_of l false);
+    } in
+    record v { share = record v.share { doing = after } }
+
+-- The thread's first exchange missed, and a round of the lock has begun with a look. Where that exchange was no begin
+-- of a round, the thread holds nothing.
+pub record HasBegun (floor : Description) (l : ℕ) (old new : Knowledge) : Type 0 where
+  pub missed : ℕ
+  pub once : missed ≤ 1
+  pub bare : 1 ≤ missed → old.share.held ≡ []
+  pub all : ℕ
+  pub last : Option Look
+  pub seen : Option Look
+  pub knows : new ≡ seeing new.seen (in_round old l 1 all last seen)
+  pub steps : MakesEach floor (begins_round old.thread l missed) old new
+
+-- the thread is in a round of a blocking call: it runs and is awake, has nothing out and no walk, takes the lock, which
+-- it may want already, doesn't hold it, and has room for it
+pub record IsSeeking (l : ℕ) (v : Knowledge) : Type 0 where
+  pub unheld : hold_in v.share.held l ≡ NotHeld
+  pub few : length v.share.held < most_held
+  pub wants : (v.share.doing.wanted ≡ Some l) ⊎ (v.share.doing.wanted ≡ None)
+  pub takes : v.share.doing.taking ≡ Some l
+  pub round : v.share.doing.round ≡ Some (round_of l false)
+  pub no_walk : v.share.doing.walk ≡ NoWalk
+  pub runs : v.pose ≡ Runs
+  pub nothing_out : v.out ≡ []
+  pub going : IsGoing v
+
+-- with so many looks in the round, so many in all, and others seen last
+abbrev pub with_round_looks : Knowledge → ℕ → ℕ → Option Look → Option Look → Knowledge
+with_round_looks v looks all last seen =
+    let after : Doing = record v.share.doing {
+      looks = looks;
+      looks_in_all = all;
+      last_look = last;
+      seen_in_section = seen;
+    } in
+    record v { share = record v.share { doing = after } }
+
+-- the thread made so many looks at the lock in its round, and knows nothing else anew
+pub record HasSpun (floor : Description) (l n : ℕ) (old new : Knowledge) : Type 0 where
+  pub looks : ℕ
+  pub counted : looks ≡ n + old.share.doing.looks
+  pub all : ℕ
+  pub last : Option Look
+  pub seen : Option Look
+  pub knows : new ≡ seeing new.seen (with_round_looks old looks all last seen)
+  pub steps : MakesEach floor (replicate n (Looks old.thread l true ∷ [])) old new
+
+-- it gained the lock behind so many looks
+pub record SpinsThenGains (floor : Description) (h : Held) (n : ℕ) (old new : Knowledge) :
+    Type 0 where
+  pub between : Knowledge
+  pub spun : HasSpun floor h.l.0 n old between
+  pub view : new ≡ seeing new.seen (gained between h)
+  pub step : Makes floor (Gains old.thread h.l.0 h.mode h.by_try ∷ []) between new
+
+-- 4. A blocking call in the section of the lock's chain
+
+-- The thread is in that section, in the round that took the chain: its wait word says that it is queued, and it has the
+-- chain and its own record out, in which its turnstile is
+pub record IsThere (floor : Description) (l : ℕ) (v : Knowledge) : Type 0 where
+  pub unheld : hold_in v.share.held l ≡ NotHeld
+  pub few : length v.share.held < most_held
+  pub wants : (v.share.doing.wanted ≡ Some l) ⊎ (v.share.doing.wanted ≡ None)
+  pub takes : v.share.doing.taking ≡ Some l
+  pub round : v.share.doing.round ≡ Some (bound_to l)
+  pub no_walk : v.share.doing.walk ≡ NoWalk
+  pub ready : v.pose ≡ IsReady
+  pub of_floor : v.thread < length floor.threads
+  pub both : HasBothOut floor l v
+  pub turnstile : ℕ
+  pub lent : both.box.value.turnstile ≡ Some turnstile
+
+-- what it saw last there
+pub record Saw (l : ℕ) (word : Word) (v : Knowledge) : Type 0 where
+  pub last : v.share.doing.last_look ≡ Some (record { lock = l; word = word })
+  pub there : v.share.doing.seen_in_section ≡ Some (record { lock = l; word = word })
+
+-- it gained the mutex there
+pub record GainsStep (floor : Description) (l : LockNo) (old new : Knowledge) : Type 0 where
+  pub view : new ≡ seeing new.seen (gained old (as_taken l Excl))
+  pub step : Makes floor (Gains old.thread l.0 Excl false ∷ []) old new
+
+-- or it came to stand on its turnstile, and its walk is there
+pub record EntersStep (floor : Description) (l : ℕ) (walk : Walk) (old new : Knowledge) : Type 0
+  where
+    pub both : HasBothOut floor l old
+    pub turnstile : ℕ
+    pub owner : Option ℕ
+    pub walk_is : walk ≡ walk_up l owner
+    pub view : new
+        ≡ seeing new.seen (entered old l owner
+        (out_entered floor old.thread l Excl turnstile owner both.box both.chain))
+    pub step : Makes floor (Enters old.thread l Excl turnstile ∷ []) old new
+
+-- or its exchange missed, and was a look; the word that it found is another's, or free
+pub record MissesThere (floor : Description) (l found : ℕ) (old new : Knowledge) : Type 0 where
+  pub formed : IsWellFormed (word_of found)
+  pub held : found ≢ 0 → is_free (word_of found).holder ≡ false
+  pub view : new ≡ seeing new.seen (looked old l (word_of found))
+  pub step : Makes floor (Looks old.thread l (counts old l) ∷ []) old new
+
+-- with nothing out any more, and what was seen under the chain forgotten
+abbrev pub with_none_out : Knowledge → Knowledge
+with_none_out v =
+    let after : Doing = record v.share.doing { seen_in_section = None } in
+    record v { share = record v.share { doing = after }; out = [] }
+
+-- 5. A gain of a blocking call
+
+-- what the thread knew before it, but for what it had out in the section
+pub record IsGaining (l : ℕ) (v : Knowledge) : Type 0 where
+  pub unheld : hold_in v.share.held l ≡ NotHeld
+  pub takes : v.share.doing.taking ≡ Some l
+  pub no_walk : v.share.doing.walk ≡ NoWalk
+  pub runs : v.pose ≡ Runs
+  pub nothing_out : v.out ≡ []
+
+-- a blocking call gained the lock: what the thread knows then
+pub record HasGained (l : LockNo) (old new : Knowledge) : Type 0 where
+  pub before : Knowledge
+  pub kept : kept_of before ≡ kept_of old
+  pub gaining : IsGaining l.0 before
+  pub view : new ≡ seeing new.seen (gained before (as_taken l Excl))
+
+-- 6. A release
+
+-- the thread may put the lock down: it can look and holds it, and its section of it began and is closed; it has nobody
+-- to mark or counted in, and doesn't sleep in its log
+pub record MayPutDown (floor : Description) (l : ℕ) (v : Knowledge) : Type 0 where
+  pub held : hold_in v.share.held l ≡ Holds Excl
+  pub closed : open_in (config_in floor) v.share.log v.thread l ≡ NotHeld
+  pub begun : is_among l v.share.begun ≡ true
+  pub unmarked : v.share.doing.marked ≡ []
+  pub uncounted : v.share.doing.counting ≡ None
+  pub no_wait : is_taking_back v.share.log ≡ false
+  pub looks : CanLook v
+
+-- the same in the section of the lock's chain
+pub record MayLetGo (floor : Description) (l : ℕ) (v : Knowledge) : Type 0 where
+  pub held : hold_in v.share.held l ≡ Holds Excl
+  pub closed : open_in (config_in floor) v.share.log v.thread l ≡ NotHeld
+  pub begun : is_among l v.share.begun ≡ true
+  pub unmarked : v.share.doing.marked ≡ []
+  pub no_wait : is_taking_back v.share.log ≡ false
+  pub runs : v.pose ≡ Runs
+  pub takes_nothing : v.share.doing.taking ≡ None
+  pub no_round : v.share.doing.round ≡ None
+  pub going : IsGoing v
+  pub both : HasBothOut floor l v
+
+-- the word is that of a lock which the thread holds exclusively
+pub record IsOwn (t seen : ℕ) : Type 0 where
+  pub formed : IsWellFormed (word_of seen)
+  pub its : (word_of seen).holder ≡ HeldBy t
+
+-- the thread made the mutex free in the section: those who were taken off are marked, by a drop nobody is
+pub record LetsGo (floor : Description) (l : ℕ) (old new : Knowledge) : Type 0 where
+  pub opens : Bool
+  pub marks : List Mark
+  pub out : List (ℕ × Slot)
+  pub view : new ≡ seeing new.seen (opened_up old l marks out)
+  pub both : HasBothOut floor l new
+  pub unheld : hold_in (without_lock l old.share.held) l ≡ NotHeld
+  pub step : Makes floor (frees old.thread l Excl opens ∷ []) old new
+
+-- its exchange missed, and was a look
+pub record MissesOwn (floor : Description) (l found : ℕ) (old new : Knowledge) : Type 0 where
+  pub own : IsOwn old.thread found
+  pub view : new ≡ seeing new.seen (looked old l (word_of found))
+  pub step : Makes floor (Looks old.thread l (counts old l) ∷ []) old new

@@ -1,0 +1,16 @@
+//! What a part of a call answers.
+
+use lock_model::ThreadNo;
+
+/// What the caller is to do next.
+#[derive(Clone, Copy, Debug, PartialEq, Eq)]
+pub enum Next {
+    /// Nothing: the call is done, and the pass is at rest.
+    Done,
+    /// Go on with the call, maybe after a pause.
+    Again,
+    /// Sleep until the own wait word says that the thread was woken, or for a while, and then go on with the call.
+    Sleep,
+    /// End the sleep of that thread, which was marked, and then go on with the call.
+    Wake(ThreadNo),
+}

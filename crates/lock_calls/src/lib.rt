@@ -1,0 +1,30 @@
+//! The calls of locks whose threads block: a take and a release, over the kind of the lock and a mode. A crate for each
+//! kind of lock stands on this one.
+//!
+//! A call is begun, and then gone on with until it is done. Its parts never wait: each makes a few atomic steps, and
+//! answers what its caller is to do next (`Next`); where the call stands, the pass says. So threads of a runtime of
+//! one's own, or of a kernel, can drive the calls. `take` and `release` are loops over these parts that wait.
+//!
+//! - `answers`: what a part of a call answers.
+//! - `taking` and `releasing`: the parts of a take and of a release, and `waiting`: the loops over them.
+//! - `spinning`: a take before it has the lock's chain, `blocking`: in the section of the chain, and `sleeping`: on the
+//!   lock's turnstile.
+//! - `freeing`: a release in the section of the lock's chain, and `waking`: behind it.
+//!
+//! A call needs a pass at rest, and leaves it at rest once it is done. No call takes memory.
+#![tactic(auto)]
+
+mod answers;
+mod blocking;
+mod freeing;
+mod releasing;
+mod sleeping;
+mod spinning;
+mod taking;
+mod waiting;
+mod waking;
+
+pub use answers::Next;
+pub use releasing::{begin_release, go_on_releasing};
+pub use taking::{begin_take, go_on_taking};
+pub use waiting::{release, take};

@@ -1,0 +1,142 @@
+//! A release of a lock, part by part, as `__mtx_unlock_flags` and `__mtx_unlock_sleep` of FreeBSD's kern_mutex.c do it:
+//! it is noted first. No part waits.
+ghost use Rattle.std.specs.Prelude.{◌≡◌};
+ghost use Rattle.lock_model.specs.declared.numbers.LockNo.{LockNo as Lock};
+ghost use Rattle.lock_model.specs.declared.plan.Mode.{Mode as InMode};
+ghost use Rattle.lock_model.specs.declared.plan.Mode.TheVariants.{Excl};
+ghost use Rattle.lock_floor.specs.declared.calls.Call.TheVariants as calls;
+ghost use Rattle.lock_floor.specs.declared.calls.ReleaseAt.{ReleaseAt as At};
+ghost use Rattle.lock_floor.specs.declared.calls.ReleaseAt.TheVariants.{Wakes};
+ghost use Rattle.lock_floor.specs.Passes.{IsOf, IsReady};
+ghost use Rattle.lock_calls.specs.Releases.{HasBegunRelease, IsInRelease, GoesOnReleasing, IsUnderRelease};
+ghost use Rattle.lock_calls.specs.Steps.{MayRelease};
+
+use crate::answers::Next;
+use crate::freeing::{come_in, come_to, let_go};
+use crate::spinning::FREE;
+use crate::waking::wake_first;
+use lock_floor::{Call, Floor, Pass, ReleaseAt};
+use lock_model::{Event, LockNo, Mode};
+
+/// Begins a release of a lock that is held in a mode: it is noted, and makes one exchange from the word that shows no
+/// waiters. `Done` comes where that put the lock down, and `Again` only where another thread was faster.
+pub fn begin_release(floor: &Floor, pass: &mut Pass, l: LockNo, mode: Mode) -> Next
+    requires ready { IsReady floor.now pass.old }
+    requires may { MayRelease floor.now.description l.0 mode pass.old.view }
+    ensures own { IsOf floor.now pass.new }
+    ensures begun { HasBegunRelease floor.now.description l mode result pass.old pass.new }
+{
+    match mode {
+        Mode::Excl => begin_exclusively(floor, pass, l),
+        Mode::Shared => unreachable!(),
+    }
+}
+
+/// Goes on with the release that the pass is in the middle of. It takes the lock's chain and its own record, makes the
+/// lock free there, takes those who wait off its turnstile, and wakes them one by one: `Wake` tells whose sleep is to
+/// be ended. `Done` comes exactly where nobody is left to be woken.
+pub fn go_on_releasing(floor: &Floor, pass: &mut Pass) -> Next
+    requires own { IsOf floor.now pass.old }
+    requires under_way { IsInRelease floor.now.description pass.old }
+    ensures own { IsOf floor.now pass.new }
+    ensures went { (l : Lock) (mode : InMode) (at : At)
+        → pass.old.call ≡ calls.Release l mode at
+        → GoesOnReleasing floor.now.description l mode at result pass.old pass.new }
+{
+    match pass.call() {
+        Call::Release { l, mode, at } => match mode {
+            Mode::Excl => go_on_exclusively(floor, pass, l, at),
+            Mode::Shared => unreachable!(),
+        },
+        Call::None | Call::Take { .. } => unreachable!(),
+    }
+}
+
+// Begins a release of a mutex.
+fn begin_exclusively(floor: &Floor, pass: &mut Pass, l: LockNo) -> Next
+    requires ready { IsReady floor.now pass.old }
+    requires may { MayRelease floor.now.description l.0 Excl pass.old.view }
+    ensures own { IsOf floor.now pass.new }
+    ensures begun { HasBegunRelease floor.now.description l Excl result pass.old pass.new }
+{
+    floor.stamp(
+        pass,
+        Event::Unlocked {
+            l,
+            mode: Mode::Excl,
+        },
+    );
+    let own = lock_words::gained(FREE, pass.thread(), Mode::Excl);
+    match floor.put_down(pass, l, Mode::Excl, own) {
+        Ok(()) => {
+            pass.set_call(Call::None);
+            Next::Done
+        }
+        Err(_) => {
+            stand(pass, l, ReleaseAt::ComesTo);
+            Next::Again
+        }
+    }
+}
+
+// Goes on with a release of a mutex.
+fn go_on_exclusively(floor: &Floor, pass: &mut Pass, l: LockNo, at: ReleaseAt) -> Next
+    requires own { IsOf floor.now pass.old }
+    requires under_way { IsUnderRelease floor.now.description l Excl at pass.old.view }
+    ensures own { IsOf floor.now pass.new }
+    ensures went { GoesOnReleasing floor.now.description l Excl at result pass.old pass.new }
+{
+    match at {
+        ReleaseAt::ComesTo => {
+            let to = come_to(floor, pass, l);
+            stand(pass, l, to);
+            Next::Again
+        }
+        ReleaseAt::ComesIn => {
+            let to = come_in(floor, pass, l);
+            stand(pass, l, to);
+            Next::Again
+        }
+        ReleaseAt::Frees(seen) => {
+            let to = let_go(floor, pass, l, seen);
+            stand(pass, l, to);
+            Next::Again
+        }
+        ReleaseAt::Wakes => wake_on(floor, pass, l),
+    }
+}
+
+// Goes on where the mutex is free.
+fn wake_on(floor: &Floor, pass: &mut Pass, l: LockNo) -> Next
+    requires own { IsOf floor.now pass.old }
+    requires under_way { IsUnderRelease floor.now.description l Excl Wakes pass.old.view }
+    ensures own { IsOf floor.now pass.new }
+    ensures went { GoesOnReleasing floor.now.description l Excl Wakes result pass.old pass.new }
+{
+    match wake_first(floor, pass) {
+        Next::Done => {
+            pass.set_call(Call::None);
+            Next::Done
+        }
+        Next::Again => {
+            stand(pass, l, ReleaseAt::Wakes);
+            Next::Again
+        }
+        Next::Wake(t) => {
+            stand(pass, l, ReleaseAt::Wakes);
+            Next::Wake(t)
+        }
+        Next::Sleep => unreachable!(),
+    }
+}
+
+// The release of a mutex stands there.
+fn stand(pass: &mut Pass, l: LockNo, at: ReleaseAt)
+    ensures { pass.new ≡ record pass.old { call = calls.Release l Excl at } }
+{
+    pass.set_call(Call::Release {
+        l,
+        mode: Mode::Excl,
+        at,
+    });
+}

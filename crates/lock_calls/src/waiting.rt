@@ -1,0 +1,103 @@
+//! A take and a release that wait: loops over their parts, in which the thread pauses, sleeps, and ends others' sleeps.
+ghost use Rattle.std.specs.Prelude.{◌≡◌, ◌<◌, ◌++◌, [], ◌∷◌, length};
+ghost use Rattle.lock_model.specs.Operations.{without_lock};
+ghost use Rattle.lock_model.specs.declared.event.Event.TheVariants as event;
+ghost use Rattle.floor_table.specs.Steps.{MakesEach};
+ghost use Rattle.lock_floor.specs.Passes.{IsOf, IsReady, MakesEntry};
+ghost use Rattle.lock_calls.specs.Steps.{MayTake, MayRelease, Locks, Release, as_taken, unlocks};
+
+use crate::answers::Next;
+use crate::releasing::{begin_release, go_on_releasing};
+use crate::taking::{begin_take, go_on_taking};
+use crossbeam_utils::Backoff;
+use lock_floor::{Call, Floor, Pass, TakeAt};
+use lock_model::{LockNo, Mode};
+use std::sync::Wait;
+
+/// Takes a lock in a mode, and waits until it has it. The floor has one chain of turnstiles.
+pub fn take<R: Wait>(floor: &Floor, rt: &R, pass: &mut Pass, l: LockNo, mode: Mode)
+    requires ready { IsReady floor.now pass.old }
+    requires may { MayTake floor.now.description l.0 mode pass.old.view }
+    requires one_chain { floor.now.description.chains ≡ 1 }
+    ensures ready { IsReady floor.now pass.new }
+    ensures entry { MakesEntry floor.now.description (event.Locked l mode)
+        (pass.old.view.share.held ++ as_taken l mode ∷ []) pass.old.view pass.new.view }
+    ensures steps { Locks floor.now.description l mode pass.old.view pass.new.view }
+{
+    match begin_take(floor, pass, l, mode) {
+        Next::Done => return,
+        Next::Again => {}
+        Next::Sleep | Next::Wake(_) => unreachable!(),
+    }
+    let backoff = Backoff::new();
+    for _ in rt.forever() {
+        let before = pass.call();
+        match go_on_taking(floor, pass) {
+            Next::Done => return,
+            Next::Again => pause(&backoff, before, pass.call()),
+            Next::Sleep => {
+                floor.sleep(rt, pass);
+                backoff.reset();
+            }
+            Next::Wake(_) => unreachable!(),
+        }
+    }
+    unreachable!()
+}
+
+/// Releases a lock that is held in a mode, and wakes those who wait for it.
+pub fn release<R: Wait>(floor: &Floor, rt: &R, pass: &mut Pass, l: LockNo, mode: Mode)
+    requires ready { IsReady floor.now pass.old }
+    requires may { MayRelease floor.now.description l.0 mode pass.old.view }
+    ensures ready { IsReady floor.now pass.new }
+    ensures entry { MakesEntry floor.now.description (event.Unlocked l mode)
+        (without_lock l.0 pass.old.view.share.held) pass.old.view pass.new.view }
+    ensures steps { (how : Release) × MakesEach floor.now.description
+        (unlocks floor.now.description pass.old.view.thread l mode how)
+        pass.old.view pass.new.view }
+{
+    match begin_release(floor, pass, l, mode) {
+        Next::Done => return,
+        Next::Again => {}
+        Next::Sleep | Next::Wake(_) => unreachable!(),
+    }
+    let backoff = Backoff::new();
+    for _ in rt.forever() {
+        let before = pass.call();
+        match go_on_releasing(floor, pass) {
+            Next::Done => return,
+            Next::Again => pause(&backoff, before, pass.call()),
+            Next::Sleep => unreachable!(),
+            Next::Wake(t) => floor.unpark(t),
+        }
+    }
+    unreachable!()
+}
+
+// Pauses between two parts of a call. Between two looks at a lock's word it spins. Where the call stands as it stood
+// before, another thread has what it needs: it spins for a while, and then lets the system run that one. Else the call
+// goes on at once.
+fn pause(backoff: &Backoff, before: Call, now: Call) {
+    if spins(now) {
+        backoff.spin();
+    } else if before == now {
+        backoff.snooze();
+    } else {
+        backoff.reset();
+    }
+}
+
+// Whether the next part of the call is a look in its round.
+fn spins(call: Call) -> bool {
+    match call {
+        Call::Take {
+            at: TakeAt::Spins(left),
+            ..
+        } => left > 0,
+        Call::Take {
+            at: TakeAt::ComesIn | TakeAt::Contends(_) | TakeAt::Walks(_) | TakeAt::Hops(_),
+            ..
+        } => false,
+        Call::None | Call::Release { .. } => false,
+    }
+}

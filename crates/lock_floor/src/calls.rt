@@ -1,0 +1,55 @@
+//! The call of a lock that a thread is in the middle of. Its parts never wait: where one can't go on at once, the call
+//! stands where it is and is gone on with later, as a thread of a kernel that blocks leaves a continuation. What it
+//! needs then is here. The crate of those calls says what is so wherever a call stands.
+
+use lock_model::{LockNo, Mode};
+use prio_lending::Walk;
+
+/// Which call of a lock is under way, and where in it the thread is.
+#[derive(Clone, Copy, Debug, PartialEq, Eq)]
+pub enum Call {
+    /// None.
+    None,
+    /// A take of a lock in a mode.
+    Take {
+        l: LockNo,
+        mode: Mode,
+        at: TakeAt,
+    },
+    /// A release of a lock that was held in a mode.
+    Release {
+        l: LockNo,
+        mode: Mode,
+        at: ReleaseAt,
+    },
+}
+
+/// Where in a take the thread is.
+#[derive(Clone, Copy, Debug, PartialEq, Eq)]
+pub enum TakeAt {
+    /// In an acquiring round: so many more times it looks, and tries where it sees the lock admit it; then it takes the
+    /// lock's chain.
+    Spins(u32),
+    /// It has the lock's chain out, and takes its own record.
+    ComesIn,
+    /// It has both out and is ready for the lock's queue, and saw this word last: it gains the lock, or comes to stand
+    /// on the queue.
+    Contends(u64),
+    /// It stands on the queue, and its walk is there: it makes the next hop, or sleeps where the walk has ended.
+    Walks(Walk),
+    /// The same within that hop: it has the chain of turnstiles out.
+    Hops(Walk),
+}
+
+/// Where in a release, which is noted already, the thread is.
+#[derive(Clone, Copy, Debug, PartialEq, Eq)]
+pub enum ReleaseAt {
+    /// Its first exchange missed: it takes the lock's chain.
+    ComesTo,
+    /// It has the lock's chain out, and takes its own record.
+    ComesIn,
+    /// It has both out, and saw this word last: it makes the lock free.
+    Frees(u64),
+    /// The lock is free: it wakes those whom it took off the queue.
+    Wakes,
+}
