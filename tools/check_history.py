@@ -3,13 +3,12 @@
 by docs/SCRIPT.md, holds the printed history to the law of a history, part by part, and compares what is printed behind
 it with what the history leaves. It shares nothing with the program, so that each may find the other's mistakes.
 
-    check_history.py [--step] [--orders] SCRIPT TEXT        (- is standard input)
+    check_history.py [--step] SCRIPT TEXT        (- is standard input)
 
 Status 0 and no output where all holds. Status 1 and one line where something doesn't: the part of the law (or the place
 in the text), the ticket and the reason. Status 64 for other words, 2 where a file can't be read.
 The parts: 1 tickets, 2 entries follow operations, 3 sections, 4 edits in sections, 5 reads, 6 wakings, 7 halts in runs
-of threads alone, 8 shown priorities, 9 lock orders, 10 the moment of a halt, 11 busy tries. Part 9 is tried of
-scheduled runs, and of threads with --orders: as long as threads check no orders, it need not hold of them.
+of threads alone, 8 shown priorities, 9 lock orders, 10 the moment of a halt, 11 busy tries.
 """
 import argparse
 import sys
@@ -89,7 +88,7 @@ def last_word_is_right(plan, text, is_step):
         raise Refusal("last word", None, f"'{text.last}' where it is '{right}'")
 
 
-def check_outcome(plan, text, is_step=False, orders=False):
+def check_outcome(plan, text, is_step=False):
     """Raises a refusal at the first part that doesn't hold."""
     entries = text.entries
     whole = not is_step or text.last in ("ok", "reversed")
@@ -101,7 +100,7 @@ def check_outcome(plan, text, is_step=False, orders=False):
     law.wakings_name_sleepers(plan, entries)
     law.halts_stand_in_runs(plan, entries, not is_step)
     law.shown_is_explained(plan, entries)
-    if whole and (orders or is_step):
+    if whole:
         law.orders_are_kept(plan, entries)
     law.halts_have_a_moment(plan, entries)
     if not is_step:
@@ -112,7 +111,7 @@ def check_outcome(plan, text, is_step=False, orders=False):
     last_word_is_right(plan, text, is_step)
 
 
-def check(source, printed, is_step=False, orders=False):
+def check(source, printed, is_step=False):
     """Raises a refusal where the printed text isn't one of the script."""
     if len(source) > BYTES_OF_SCRIPT:
         if printed:
@@ -124,7 +123,7 @@ def check(source, printed, is_step=False, orders=False):
         if printed != f"{fault}\n".encode():
             raise Refusal("text", None, f"the script is faulty, and its one line is '{fault}'") from None
         return
-    check_outcome(plan, TextReader(plan).read(printed), is_step, orders)
+    check_outcome(plan, TextReader(plan).read(printed), is_step)
 
 
 def read_file(name):
@@ -143,7 +142,6 @@ class Words(argparse.ArgumentParser):
 def main():
     words = Words(description="Says whether a printed text is a legal one of a script.")
     words.add_argument("--step", action="store_true", help="the text is of a scheduled run")
-    words.add_argument("--orders", action="store_true", help="threads that run check lock orders: part 9 holds too")
     words.add_argument("script")
     words.add_argument("text")
     given = words.parse_args()
@@ -153,7 +151,7 @@ def main():
         print(f"check_history: {fault}", file=sys.stderr)
         return 2
     try:
-        check(source, printed, given.step, given.orders)
+        check(source, printed, given.step)
     except Refusal as refusal:
         print(refusal)
         return 1

@@ -1,9 +1,11 @@
 #!/usr/bin/env python3
 """Makes random scripts of mutexes that no run can get stuck in: 2 to 32 threads, 1 to 8 locks, each of a class of its
 own. A thread takes a lock by a blocking call only while every lock that it holds, by a take or a try, has a smaller
-number; a try may be of any lock that it doesn't hold. So under `run` and under `step` every thread comes to its end.
+number; a try may be of any lock that it doesn't hold. So under `run` and under `step` every thread comes to its end,
+and no take is refused. With --any-order some takes are of any lock that the thread doesn't hold, and locks may share a
+class: then takes are refused, and still no run gets stuck.
 
-    make_scripts.py [--program PATH] N SEED DIR
+    make_scripts.py [--any-order] [--program PATH] N SEED DIR
 
 writes DIR/0000.script and so on, the same for the same N and SEED. Each is read by scripts.py, and with --program by
 `PATH check` too, which must say the same counts. Status 1 where one isn't accepted.
@@ -29,6 +31,8 @@ class ThreadMaker:
         # what is held, in order: (lock, by a try)
         self.held = []
         self.blocks = 0
+        # what the next take may be of
+        self.free = []
 
     def write(self, line):
         self.lines.append(line)
@@ -56,7 +60,8 @@ class ThreadMaker:
         if len(self.held) > kept:
             choices[self.release] = self.style.releases
         # a take needs its release too, and a try its endtry besides
-        if room >= 2 and len(self.held) < MOST_HELD and self.may_take():
+        self.free = self.may_take()
+        if room >= 2 and len(self.held) < MOST_HELD and self.free:
             choices[self.take] = self.style.takes
         if room >= 3 and len(self.held) < min(MOST_HELD, self.locks) and self.blocks < MOST_BLOCKS:
             choices[self.try_one] = self.style.tries
@@ -64,12 +69,15 @@ class ThreadMaker:
         return True
 
     def may_take(self):
-        """The locks that a blocking call may take."""
+        """The locks that a blocking call may take: those above all that are held, or now and then any others."""
+        if self.style.against and self.draw.random() < self.style.against:
+            held = {lock for lock, _ in self.held}
+            return [lock for lock in range(self.locks) if lock not in held]
         return range(1 + max((lock for lock, _ in self.held), default=-1), self.locks)
 
     def take(self, kept):
         # a near lock leaves more for the takes behind
-        lock = min(self.draw.choices(self.may_take(), k=2))
+        lock = min(self.draw.choices(self.free, k=2))
         self.write(f"lock m{lock}")
         self.held.append((lock, False))
 
@@ -123,24 +131,27 @@ class ThreadMaker:
 class Style:
     """How often a script's threads do what."""
 
-    def __init__(self, draw):
+    def __init__(self, draw, any_order):
         self.takes = draw.choice((2, 4, 8))
         self.tries = draw.choice((0, 1, 2, 4))
         self.notes = draw.choice((0.2, 1))
         self.edits = draw.choice((1, 3, 6))
         self.releases = draw.choice((2, 4, 8))
         self.block = draw.choice((2, 6, 12))
+        # of how many takes, as a part of all, the lock is any that isn't held
+        self.against = draw.choice((0.003, 0.03, 0.3)) if any_order else 0
 
 
-def make_script(seed, number):
+def make_script(seed, number, any_order=False):
     draw = random.Random(f"{seed} {number}")
     threads = draw.choice((2, 2, 3, 4, 4, 6, 8, 12, 16, 24, 32))
     locks = draw.choice((1, 1, 2, 3, 4, 6, 8))
     # few operations in most scripts, as many as there may be in some
     most = int(min(MOST_OPERATIONS / threads, 4 * 300 ** draw.random() if draw.random() < 0.97 else MOST_OPERATIONS))
-    style = Style(draw)
+    style = Style(draw, any_order)
+    classes = draw.randrange(1, locks + 1) if any_order and draw.random() < 0.2 else locks
     lines = ["lockrun 1"]
-    lines += [f"mutex m{lock} c{lock}" for lock in range(locks)]
+    lines += [f"mutex m{lock} c{lock % classes}" for lock in range(locks)]
     for thread in range(threads):
         lines.append(f"thread t{thread} {draw.randrange(256)}")
         lines += ThreadMaker(draw, locks, draw.randrange(most // 2, most + 1), style).make()
@@ -166,13 +177,13 @@ def keeps_to_the_order(plan):
     return True
 
 
-def judge(source, program):
+def judge(source, program, any_order):
     """Why the script isn't what it should be, or None."""
     try:
         plan = read_script(source)
     except ScriptFault as fault:
         return str(fault)
-    if not keeps_to_the_order(plan):
+    if not any_order and not keeps_to_the_order(plan):
         return "a take out of order"
     if program is None:
         return None
@@ -186,6 +197,7 @@ def judge(source, program):
 
 def main():
     words = argparse.ArgumentParser(description="Makes random scripts of mutexes.")
+    words.add_argument("--any-order", action="store_true", help="takes are of any locks, so some are refused")
     words.add_argument("--program", help="a lockrun, whose check must accept each script")
     words.add_argument("count", type=int)
     words.add_argument("seed")
@@ -193,10 +205,10 @@ def main():
     given = words.parse_args()
     given.folder.mkdir(parents=True, exist_ok=True)
     for number in range(given.count):
-        source = make_script(given.seed, number)
+        source = make_script(given.seed, number, given.any_order)
         file = given.folder / f"{number:04}.script"
         file.write_bytes(source)
-        reason = judge(source, given.program)
+        reason = judge(source, given.program, given.any_order)
         if reason is not None:
             print(f"{file}: {reason}")
             return 1

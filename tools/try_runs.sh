@@ -3,17 +3,18 @@
 # text to the law of a history by check_history.py. A run that takes more than 20 seconds hangs; one whose status isn't
 # that of its last word has crashed.
 #
-#   tools/try_runs.sh [--step] [--orders] PROGRAM COUNT
+#   tools/try_runs.sh [--step] [--any-order] PROGRAM COUNT
 #
-# PROGRAM is a lockrun. With --step its scheduled runs are tried in place of `run`; --orders is for a program whose
-# threads check lock orders. SEED says which scripts are made (else the time does), JOBS how many run at a time.
+# PROGRAM is a lockrun. With --step its scheduled runs are tried in place of `run`; with --any-order the scripts' takes
+# keep to no order. SEED says which scripts are made (else the time does), JOBS how many run at a time.
 # The last line has the figures: how many were run, how many on one processor, how many texts were refused, how many
-# hung and crashed, and how many histories differ from that of `step`, so that one sees that threads interleave. Where
-# any was refused, hung or crashed, the status is 1 and the files are left to look at.
+# hung and crashed, how many runs ended reversed, and how many histories differ from that of `step`, so that one sees
+# that threads interleave. Where any text was refused, or a run hung or crashed, the status is 1 and the files are left
+# to look at.
 set -eu
 tools=$(cd "$(dirname "$0")" && pwd)
 
-usage() { echo 'usage: tools/try_runs.sh [--step] [--orders] PROGRAM COUNT' >&2; exit 64; }
+usage() { echo 'usage: tools/try_runs.sh [--step] [--any-order] PROGRAM COUNT' >&2; exit 64; }
 
 # The entries of a text.
 entries() { sed '/^[^0-9]/,$d' "$1"; }
@@ -42,6 +43,7 @@ try_one() {
     echo "refused: $(cat "$at.refused")" > "$at.came"
   else
     echo ran > "$at.came"
+    if [ "$(tail -n 1 "$at.text")" = reversed ]; then echo reversed >> "$at.came"; fi
     "$program" step < "$at.script" > "$at.step" 2> "$at.said" || true
     entries "$at.text" > "$at.entries"
     # a scheduled run that was cut off tells only how its history begins
@@ -61,10 +63,13 @@ if [ "${1-}" = --one ]; then
   exit
 fi
 
-command=run options=()
-while [ "${1-}" = --step ] || [ "${1-}" = --orders ]; do
-  options+=("$1")
-  if [ "$1" = --step ]; then command=step; fi
+command=run options=() made=()
+while true; do
+  case "${1-}" in
+    --step) command=step options+=("$1") ;;
+    --any-order) made+=("$1") ;;
+    *) break ;;
+  esac
   shift
 done
 if [ $# != 2 ] || ! [[ $2 =~ ^[1-9][0-9]*$ ]]; then usage; fi
@@ -72,7 +77,7 @@ program=$(realpath -e -- "$1") count=$2 seed=${SEED:-$(date +%s)}
 [ -x "$program" ] || { echo "$1 is no program" >&2; exit 1; }
 
 folder=$(mktemp -d)
-python3 "$tools/make_scripts.py" --program "$program" "$count" "$seed" "$folder"
+python3 "$tools/make_scripts.py" "${made[@]}" --program "$program" "$count" "$seed" "$folder"
 find "$folder" -name '*.script' -printf '%f\n' | sed 's/\.script$//' | sort \
   | xargs -n 1 -P "${JOBS:-4}" "$tools/try_runs.sh" --one "$folder" "$program" "$command" "${options[*]}" || true
 
@@ -87,6 +92,6 @@ for at in "$folder"/*.came; do
 done
 done_in_all=$(find "$folder" -name '*.came' | wc -l)
 echo "runs $done_in_all on one processor $(( (count + 2) / 3 )) refused $(came '^refused') hung $(came '^hung')" \
-  "crashed $(came '^crashed') differ from step $(came '^differs') seed $seed"
+  "crashed $(came '^crashed') reversed $(came '^reversed') differ from step $(came '^differs') seed $seed"
 if [ "$bad" != 0 ] || [ "$done_in_all" != "$count" ]; then exit 1; fi
 rm -r "$folder"

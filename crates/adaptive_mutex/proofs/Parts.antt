@@ -1,5 +1,6 @@
 -- A take or a release that has begun, or was gone on with, and isn't done: it is under way, so it can be gone on with.
 use Rattle.std.proofs.Common.{◌≡◌, refl}
+use Rattle.lock_model.specs.declared.event.Reversal.{Reversal}
 use Rattle.lock_model.specs.declared.numbers.LockNo.{LockNo}
 use Rattle.lock_model.specs.declared.plan.Mode.{Mode}
 use Rattle.floor_table.specs.declared.description.Description.{Description}
@@ -8,10 +9,10 @@ use Rattle.lock_floor.specs.declared.calls.Call.TheVariants as calls
 use Rattle.lock_floor.specs.declared.calls.ReleaseAt.{ReleaseAt}
 use Rattle.lock_floor.specs.declared.calls.ReleaseAt.TheVariants.{ComesTo, Wakes}
 use Rattle.lock_floor.specs.declared.calls.TakeAt.{TakeAt}
-use Rattle.lock_floor.specs.declared.calls.TakeAt.TheVariants.{Spins}
+use Rattle.lock_floor.specs.declared.calls.TakeAt.TheVariants.{Checks}
 use Rattle.lock_floor.specs.Floors.{Pass}
 use Rattle.lock_calls.specs.declared.answers.Next.{Next}
-use Rattle.lock_calls.specs.declared.answers.Next.TheVariants.{Done, Again, Sleep, Wake}
+use Rattle.lock_calls.specs.declared.answers.Next.TheVariants.{Done, Again, Sleep, Wake, Reversed}
 use Rattle.lock_calls.specs.Releases.{HasBegunRelease, IsInRelease, GoesOnReleasing}
 use Rattle.lock_calls.specs.Takes.{HasBegunTake, IsInTake, StandsInTake, GoesOnTaking}
 use Rattle.lock_calls.proofs.Taken.{under_take_on}
@@ -20,7 +21,7 @@ use Rattle.lock_calls.proofs.Taken.{under_take_on}
 
 pub take_begun : (floor : Description) (l : LockNo) (mode : Mode) (p q : Pass Knowledge)
     → HasBegunTake floor l mode Again p q → IsInTake floor q
-take_begun floor l mode p q b = record { l = l; mode = mode; at = Spins b.left; call = b.call; there = b.there }
+take_begun floor l mode p q b = record { l = l; mode = mode; at = Checks; call = b.call; there = b.there }
 
 module _ (floor : Description) (p q : Pass Knowledge) (m : IsInTake floor p) where
   stands : (next : Next) → StandsInTake floor m.l m.mode m.at next p q → IsInTake floor q
@@ -32,14 +33,15 @@ module _ (floor : Description) (p q : Pass Knowledge) (m : IsInTake floor p) whe
     there = under_take_on floor m.l m.mode m.at s.to p.view q.view m.there s.on;
   }
 
-  pub take_goes_on : (next : Next) → (next ≡ Done → ⊥)
+  pub take_goes_on : (next : Next) → (next ≡ Done → ⊥) → ((r : Reversal) → next ≡ Reversed r → ⊥)
       → ((l : LockNo) (mode : Mode) (at : TakeAt) → p.call ≡ calls.Take l mode at
       → GoesOnTaking floor l mode at next p q)
       → IsInTake floor q
-  take_goes_on Done undone went = absurd (undone refl)
-  take_goes_on Again undone went = stands Again (went m.l m.mode m.at m.call)
-  take_goes_on Sleep undone went = stands Sleep (went m.l m.mode m.at m.call)
-  take_goes_on (Wake t) undone went = absurd (went m.l m.mode m.at m.call)
+  take_goes_on Done undone unrefused went = absurd (undone refl)
+  take_goes_on Again undone unrefused went = stands Again (went m.l m.mode m.at m.call)
+  take_goes_on Sleep undone unrefused went = stands Sleep (went m.l m.mode m.at m.call)
+  take_goes_on (Wake t) undone unrefused went = absurd (went m.l m.mode m.at m.call)
+  take_goes_on (Reversed r) undone unrefused went = absurd (unrefused r refl)
 
 -- 2. A release
 
@@ -63,6 +65,7 @@ module _ (floor : Description) (p q : Pass Knowledge) (m : IsInRelease floor p) 
         there = record { covered = m.there.covered; there = s.on.there };
       }
   release_goes_on Sleep undone went = absurd (went m.l m.mode m.at m.call)
+  release_goes_on (Reversed r) undone went = absurd (went m.l m.mode m.at m.call)
   release_goes_on (Wake t) undone went =
       let s = went m.l m.mode m.at m.call in
       record {

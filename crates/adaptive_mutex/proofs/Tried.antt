@@ -24,7 +24,7 @@ use Rattle.lock_floor.specs.Views.{counts, looked, gained, entry_by, stamped}
 use Rattle.lock_floor.proofs.May.{own_log, may_gain, may_stamp}
 use Rattle.lock_floor.proofs.Resting.{idle, idle_looked, rest_seeing, rest_gained, rest_noted}
 use Rattle.lock_calls.specs.Waiting.{MayGain}
-use Rattle.lock_calls.proofs.Attempts.{begins_call, plainly}
+use Rattle.lock_calls.proofs.Attempts.{begins_call, plainly, unhalted}
 use Rattle.lock_calls.proofs.Looks.{uncounted}
 use Rattle.adaptive_mutex.specs.Mutexes.{IsMutex, MayAcquire, as_held, tries, WasBusy}
 
@@ -36,8 +36,8 @@ may_gain_free floor l v mutex m =
     may_gain floor v l Excl true (word_of 0) mutex.lock refl (plainly ((config_in floor).kind l) mutex.kind) m.unheld
     (inr m.wants_nothing) (subst (λ r. FitsRound r l true) (sym m.looks.no_round) refl)
     (λ none. begins_call floor l v m)
-    (λ k e. absurd (let z : None ≡ Some k = sym m.looks.takes_nothing ∙ e in cc)) (λ e. absurd cc) m.looks.runs
-    m.looks.nothing_out m.looks.going
+    (λ k e. absurd (let z : None ≡ Some k = sym m.looks.takes_nothing ∙ e in cc)) (λ e. absurd cc) (λ e. absurd cc)
+    (unhalted v m.unnoted) m.looks.runs m.looks.nothing_out m.looks.going
 
 -- 2. The entry of a try that gained
 

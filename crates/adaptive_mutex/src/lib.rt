@@ -1,5 +1,5 @@
-//! Mutexes on a running floor: the calls of locks that block (`lock_calls`), for mutexes, which are held exclusively; and
-//! a try, which never blocks.
+//! Mutexes on a running floor: the calls of locks that block (`lock_calls`), for mutexes, which are held exclusively;
+//! and a try, which never blocks.
 //!
 //! `lock` and `unlock` wait. Threads of a runtime of one's own drive the same calls part by part, and no part waits:
 //! `begin_lock` and `begin_unlock` begin one, and `go_on_taking` and `go_on_releasing` go on with it until it is done.

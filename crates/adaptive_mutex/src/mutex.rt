@@ -7,7 +7,7 @@ ghost use Rattle.floor_table.specs.Steps.{MakesEach};
 ghost use Rattle.lock_floor.specs.Passes.{IsOf, IsReady, MakesEntry};
 ghost use Rattle.lock_calls.specs.Releases.{HasBegunRelease};
 ghost use Rattle.lock_calls.specs.Steps.{Locks, Release, unlocks};
-ghost use Rattle.lock_calls.specs.Takes.{HasBegunTake};
+ghost use Rattle.lock_calls.specs.Takes.{HasBegunTake, IsRefused};
 ghost use Rattle.adaptive_mutex.specs.Mutexes.{MayAcquire, MayRelease, as_held, tries, WasBusy};
 
 use lock_calls::{Next, begin_release, begin_take, release, take};
@@ -18,26 +18,31 @@ use std::sync::Wait;
 // The word of a free mutex.
 const FREE: u64 = 0;
 
-/// Takes a mutex. It makes one exchange, outside an acquiring round where the thread holds nothing, and then looks and
-/// tries in a round, at most 100 times in all, and only while the mutex's owner isn't queued. Then it takes the lock's
-/// chain, and gains the mutex there, or stands on its turnstile, sleeps until it is woken, and begins another round.
-/// The floor has one chain of turnstiles. No order of locks is checked yet, so the mutex is never refused.
+/// Takes a mutex. Where the thread holds nothing it makes one exchange first. Then it has the mutex's order checked
+/// behind the locks that the thread holds, and looks and tries in a round, at most 100 times in all, and only while the
+/// mutex's owner isn't queued. Then it takes the lock's chain, and gains the mutex there, or stands on its turnstile,
+/// sleeps until it is woken, and begins another round. `Err` comes exactly where, by the class graph as this call's
+/// check found it, the class of a lock that the thread holds forbids that of the mutex: it has the first such class in
+/// order of acquisition, the refusal is noted, and nothing else of the thread is new. A thread that holds nothing is
+/// never refused. The floor has one chain of turnstiles.
 pub fn lock<R: Wait>(floor: &Floor, rt: &R, pass: &mut Pass, l: LockNo) -> Result<(), Reversal>
     requires ready { IsReady floor.now pass.old }
     requires may { MayAcquire floor.now.description l.0 pass.old.view }
     requires one_chain { floor.now.description.chains ≡ 1 }
-    ensures never_refused { IsOk result }
     ensures ready { IsReady floor.now pass.new }
-    ensures entry { MakesEntry floor.now.description (event.Locked l Excl)
-        (pass.old.view.share.held ++ as_held l false ∷ []) pass.old.view pass.new.view }
-    ensures steps { Locks floor.now.description l Excl pass.old.view pass.new.view }
+    ensures entry { IfOk result (λ _. MakesEntry floor.now.description (event.Locked l Excl)
+        (pass.old.view.share.held ++ as_held l false ∷ []) pass.old.view pass.new.view) }
+    ensures steps { IfOk result
+        (λ _. Locks floor.now.description l Excl pass.old.view pass.new.view) }
+    ensures reversed { IfErr result
+        (λ r. IsRefused floor.now.description l r pass.old.view pass.new.view) }
+    ensures bare { pass.old.view.share.held ≡ [] → IsOk result }
 {
-    take(floor, rt, pass, l, Mode::Excl);
-    Ok(())
+    take(floor, rt, pass, l, Mode::Excl)
 }
 
-/// Begins to take a mutex, and never waits: `Done` comes where the first exchange gained it. Else the take is under
-/// way, and is gone on with by `go_on_taking`.
+/// Begins to take a mutex, and never waits: `Done` comes where the first exchange gained it, which a thread makes that
+/// holds nothing. Else the take is under way, and is gone on with by `go_on_taking`.
 pub fn begin_lock(floor: &Floor, pass: &mut Pass, l: LockNo) -> Next
     requires ready { IsReady floor.now pass.old }
     requires may { MayAcquire floor.now.description l.0 pass.old.view }

@@ -1,4 +1,5 @@
 pub mod Operating
+pub mod Cutting
 pub mod Merging
 pub mod Running
 pub mod Crossing

@@ -70,7 +70,7 @@ at_last plan f t n x b over =
 
 -- 2. Kinds and keys
 
-mutex_kind : (plan : Plan) → HasOnlyMutexes plan → (l : ℕ) → lock_kind plan l ≡ Mtx
+pub mutex_kind : (plan : Plan) → HasOnlyMutexes plan → (l : ℕ) → lock_kind plan l ≡ Mtx
 mutex_kind plan m l = ap (λ k. unwrap_or k Mtx) (slice_get-map (λ (d : LockDecl). d.kind) plan.locks l) ∙ go (slice_get plan.locks l) refl
   where
     go : (o : Option LockDecl) → slice_get plan.locks l ≡ o → unwrap_or (option_map (λ d. d.kind) o) Mtx ≡ Mtx
@@ -99,7 +99,7 @@ named plan floor given t n l key op e i =
     (found_key l key (keys_in plan.threads) (keys_are_named plan l key ∙ plan_named plan t n l key op e i))
 
 -- a lock of the plan is one of the floor's, and a mutex there too
-is_mutex : (plan : Plan) (floor : Description) → IsFor plan floor → HasOnlyMutexes plan → (l : ℕ)
+pub is_mutex : (plan : Plan) (floor : Description) → IsFor plan floor → HasOnlyMutexes plan → (l : ℕ)
     → l < length plan.locks → IsMutex floor l
 is_mutex plan floor given m l low =
     let same : config_in floor ≡ config_of plan = ap config_in given ∙ same_config plan floor.chains in
@@ -119,6 +119,21 @@ both_same l key = rw (eq-eqb l l refl, eq-eqb key key refl)
 
 exclusive_is : (x : Hold) → is_exclusive x ≡ true → x ≡ Holds Excl
 exclusive_is x e = grind arith
+
+-- the entry of a call: a step of the floor made it, as those before it
+pub was_stamped : (floor : Description) (t : ℕ) (old new : Knowledge) (e : Event) (hs : List Held) → old.thread ≡ t
+    → WereStamped floor t old.share.log → MakesEntry floor e hs old new → WereStamped floor t new.share.log
+was_stamped floor t old new e hs its before made =
+    let entry : Entry = entry_by old.thread made.ticket e in
+    let stamped : WasStamped floor t entry old.share.log = record {
+      before = made.before;
+      behind = made.behind;
+      thread = made.of ∙ its;
+      step = subst (λ u. Makes floor (Stamps u e ∷ []) made.before made.behind) its made.step;
+      was = made.log_before;
+      is = made.log_behind ∙ made.log;
+    } in
+    subst (λ (es : List Entry). WereStamped floor t es) (sym made.log) (stamped, before)
 
 -- 3. What the next operation finds
 
@@ -182,14 +197,6 @@ module _ (plan : Plan) (f : Floor Description) (given : IsFor plan f.description
       → IsBefore plan f t next y
   entry_leads y op e hs next at gives holds further within ready made =
       let entry : Entry = entry_by x.view.thread made.ticket e in
-      let stamped : WasStamped f.description t entry x.view.share.log = record {
-        before = made.before;
-        behind = made.behind;
-        thread = made.of ∙ b.thread;
-        step = subst (λ u. Makes f.description (Stamps u e ∷ []) made.before made.behind) b.thread made.step;
-        was = made.log_before;
-        is = made.log_behind ∙ made.log;
-      } in
       record {
         ready = ready;
         thread = made.thread ∙ b.thread;
@@ -197,7 +204,7 @@ module _ (plan : Plan) (f : Floor Description) (given : IsFor plan f.description
         held = made.held ∙ holds;
         leads = subst (λ (es : List Entry). LeadsTo (config_of plan).kind ops es (Before next)) (sym made.log)
             (law.goes_on entry b.leads at gives);
-        stamped = subst (λ (es : List Entry). WereStamped f.description t es) (sym made.log) (stamped, b.stamped);
+        stamped = was_stamped f.description t x.view y.view e hs b.thread b.stamped made;
         room = omega (arith, b.room, made.spare, further);
       }
 

@@ -15,7 +15,7 @@ use Rattle.lock_model.specs.History.{base_in, entries_of, tables_of}
 use Rattle.lock_model.specs.Law.{LeadsTo, Before, is_halt, IsLegalSoFar, IsLegal, FollowsOperations, EntriesFollowOperations}
 use Rattle.lock_model.specs.Law as law
 use Rattle.lock_model.specs.Plans.{config_of, operations_of}
-use Rattle.lock_model.specs.Takes.{is_reversal, has_reversal}
+use Rattle.lock_model.specs.Takes.{OrdersAreLegal, is_reversal, has_reversal}
 use Rattle.lock_model.specs.Text as text
 use Rattle.lock_model.specs.declared.event.Entry.{Entry}
 use Rattle.lock_model.specs.declared.plan.Op.{Op}
@@ -176,7 +176,12 @@ module _ (plan : Plan) (chains : ℕ) (x : Closing)
   pub is_run : (o : text.Outcome) → IsLegal plan true false history → o ≡ outcome_of plan history
       → IsRunOf plan chains o x
   is_run o legal same = record {
-    run = record { history = history; legal = legal; no_refusal = closing.no_refusal; outcome = same };
+    run = record {
+      history = history;
+      legal = legal;
+      orders_are_legal = subst (λ c. OrdersAreLegal c history) same_plan closing.orders_are_legal;
+      outcome = same;
+    };
     closing = closing;
     same = refl;
   }

@@ -1,6 +1,6 @@
 -- How far a worker has come in its thread's operations.
-use Rattle.std.specs.Prelude.{◌≡◌, ℕ, ◌+◌, ◌*◌, ◌<◌, ◌≤◌, length}
-use Rattle.lock_model.specs.Law.{LeadsTo, Before}
+use Rattle.std.specs.Prelude.{◌≡◌, ℕ, ◌+◌, ◌*◌, ◌<◌, ◌≤◌, length, reverse, take}
+use Rattle.lock_model.specs.Law.{LeadsTo, Before, Cut}
 use Rattle.lock_model.specs.Operations.{held_of}
 use Rattle.lock_model.specs.Plans.{config_of, operations_of}
 use Rattle.lock_model.specs.declared.plan.Plan.{Plan}
@@ -22,6 +22,20 @@ pub record IsBefore (plan : Plan) (f : Floor Description) (t n : ℕ) (p : Pass 
     pub leads : LeadsTo (config_of plan).kind (operations_of plan t) p.view.share.log (Before n)
     pub stamped : WereStamped f.description t p.view.share.log
     pub room : 2 * length (operations_of plan t) ≤ p.view.spare + 2 * n
+
+-- A thread was cut short by a refusal, and gives back what it holds, the lock that it gained last first. Its pass is
+-- ready; of the locks to which the operations before n lead it holds so many of the first; its log leads there, and a
+-- step of the floor made each entry; and it has room for an entry for each lock that is left.
+pub record IsCut (plan : Plan) (f : Floor Description) (t : ℕ) (p : Pass Knowledge) : Type 0 where
+  pub ready : IsReady f p
+  pub thread : p.view.thread ≡ t
+  pub n : ℕ
+  pub left : ℕ
+  pub held : p.view.share.held ≡ take left (held_of (operations_of plan t) n)
+  pub leads : LeadsTo (config_of plan).kind (operations_of plan t) p.view.share.log
+      (Cut (reverse p.view.share.held))
+  pub stamped : WereStamped f.description t p.view.share.log
+  pub room : length p.view.share.held ≤ p.view.spare
 
 -- the pass of a thread as it is made
 pub record IsNew (f : Floor Description) (t : ℕ) (p : Pass Knowledge) : Type 0 where

@@ -1,10 +1,10 @@
 //! Making the operations of one thread.
-ghost use Rattle.std.specs.Prelude.{◌≡◌, ℕ, ◌<◌, [], length, slice_get, Some};
+ghost use Rattle.std.specs.Prelude.{◌≡◌, ℕ, ◌<◌, [], length, slice_get, Some, IfNone, IfSome};
 ghost use Rattle.lock_model.specs.Operations.{IsProper};
 ghost use Rattle.lock_model.specs.Plans.{operations_of};
 ghost use Rattle.floor_table.specs.Descriptions.{IsFor};
-ghost use Rattle.lock_floor.specs.Passes.{IsFinished, first_pass};
-ghost use Rattle.floor_run.specs.Progress.{IsBefore};
+ghost use Rattle.lock_floor.specs.Passes.{IsReady, IsFinished, first_pass};
+ghost use Rattle.floor_run.specs.Progress.{IsBefore, IsCut};
 ghost use Rattle.floor_run.specs.Runs.{HasOnlyMutexes};
 ghost use Rattle.floor_run.specs.Workers.{IsWhole};
 
@@ -16,7 +16,8 @@ use std::sync::Wait;
 /// Makes the operations of a pass's thread, in order, and finishes the pass. It takes no memory.
 ///
 /// It asks the gate before each operation, with its place from 0, and so before an `endtry` that it comes to, which
-/// makes no entry. Of the operations in the block of a try that failed it makes none, and asks before none.
+/// makes no entry. Of the operations in the block of a try that failed it makes none, and asks before none. A take that
+/// is refused by the order of locks cuts the thread short: it gives back what it holds, the lock gained last first.
 pub fn work<R: Wait, G: Gate>(rt: &R, floor: &Floor, pass: &mut Pass, plan: &Plan, gate: &G)
     requires given { IsFor plan.now floor.now.description }
     requires proper { IsProper plan.now }
@@ -31,31 +32,84 @@ pub fn work<R: Wait, G: Gate>(rt: &R, floor: &Floor, pass: &mut Pass, plan: &Pla
     ensures whole { IsWhole plan.now floor.now.description pass.new.view.thread
         pass.new.view.share.log }
 {
+    operate_all(rt, floor, pass, plan, gate);
+    floor.finish(rt, pass);
+}
+
+// Makes the operations of a pass's thread, in order, or those before a take that is refused: then it gives back what it
+// holds.
+fn operate_all<R: Wait, G: Gate>(rt: &R, floor: &Floor, pass: &mut Pass, plan: &Plan, gate: &G)
+    requires given { IsFor plan.now floor.now.description }
+    requires proper { IsProper plan.now }
+    requires mutexes { HasOnlyMutexes plan.now }
+    requires one_chain { floor.now.description.chains ≡ 1 }
+    requires thread { pass.old.view.thread < length plan.now.threads }
+    requires first { pass.old
+        ≡ first_pass floor.now.table floor.now.description pass.old.view.thread }
+    ensures ready { IsReady floor.now pass.new }
+    ensures thread { pass.new.view.thread ≡ pass.old.view.thread }
+    ensures unheld { pass.new.view.share.held ≡ [] }
+    ensures whole { IsWhole plan.now floor.now.description pass.new.view.thread
+        pass.new.view.share.log }
+{
     let ops = plan.operations_of(pass.thread());
     let mut next = 0;
     while next < ops.len() {
         gate.at(pass.thread(), next as u32);
-        next = operate(rt, floor, pass, plan, ops[next], next);
+        match operate(rt, floor, pass, plan, ops[next], next) {
+            Some(on) => next = on,
+            None => {
+                give_back(rt, floor, pass, plan);
+                return;
+            }
+        }
     }
-    floor.finish(rt, pass);
 }
 
-// Makes an operation that the plan has for the pass's thread, and answers which is its next.
-fn operate<R: Wait>(rt: &R, floor: &Floor, pass: &mut Pass, plan: &Plan, op: Op, n: usize) -> usize
+// Gives back what a thread holds that was cut short, the lock gained last first.
+fn give_back<R: Wait>(rt: &R, floor: &Floor, pass: &mut Pass, plan: &Plan)
+    requires given { IsFor plan.now floor.now.description }
+    requires proper { IsProper plan.now }
+    requires mutexes { HasOnlyMutexes plan.now }
+    requires cut { IsCut plan.now floor.now pass.old.view.thread pass.old }
+    ensures cut { IsCut plan.now floor.now pass.old.view.thread pass.new }
+    ensures unheld { pass.new.view.share.held ≡ [] }
+{
+    while let Some(last) = pass.held().last() {
+        let l = last.l;
+        adaptive_mutex::unlock(floor, rt, pass, l);
+    }
+}
+
+// Makes an operation that the plan has for the pass's thread, and answers which is its next. `None` comes where its
+// take was refused: then the thread is cut short.
+fn operate<R: Wait>(
+    rt: &R,
+    floor: &Floor,
+    pass: &mut Pass,
+    plan: &Plan,
+    op: Op,
+    n: usize,
+) -> Option<usize>
     requires given { IsFor plan.now floor.now.description }
     requires proper { IsProper plan.now }
     requires mutexes { HasOnlyMutexes plan.now }
     requires one_chain { floor.now.description.chains ≡ 1 }
     requires before { IsBefore plan.now floor.now pass.old.view.thread n pass.old }
     requires op { slice_get (operations_of plan.now pass.old.view.thread) n ≡ Some op }
-    ensures before { IsBefore plan.now floor.now pass.old.view.thread result pass.new }
-    ensures further { n < result }
+    ensures before { IfSome result
+        (λ next. IsBefore plan.now floor.now pass.old.view.thread next pass.new) }
+    ensures further { IfSome result (λ next. n < next) }
+    ensures cut { IfNone result (IsCut plan.now floor.now pass.old.view.thread pass.new) }
 {
     match op {
-        Op::Take { l, mode: _ } => adaptive_mutex::lock(floor, rt, pass, l).unwrap(),
+        Op::Take { l, mode: _ } => match adaptive_mutex::lock(floor, rt, pass, l) {
+            Ok(()) => {}
+            Err(_) => return None,
+        },
         Op::Try { l, mode: _, past } => match adaptive_mutex::try_lock(floor, pass, l) {
             Ok(()) => {}
-            Err(_) => return past as usize,
+            Err(_) => return Some(past as usize),
         },
         Op::EndTry => {}
         Op::Release { l } => adaptive_mutex::unlock(floor, rt, pass, l),
@@ -70,5 +124,5 @@ fn operate<R: Wait>(rt: &R, floor: &Floor, pass: &mut Pass, plan: &Plan, op: Op,
         }
         Op::Sleep { .. } | Op::WakeOne { .. } | Op::WakeAll { .. } => unreachable!(),
     }
-    n + 1
+    Some(n + 1)
 }

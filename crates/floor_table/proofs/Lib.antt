@@ -8,10 +8,8 @@ pub mod Objects
 pub mod Poses
 pub mod Known
 pub mod Stepped
-pub mod Unrefused
 pub mod Sound
 pub mod Seen
 pub mod Made
-pub mod HeldLocks
 pub mod PlanKeys
 pub mod Descriptions

@@ -14,7 +14,7 @@ use Rattle.atomic_table.proofs.Lists.{exchanged}
 use Rattle.lock_model.specs.Words.{Word, word_of}
 use Rattle.lock_state.specs.State.{State, Wait, put}
 use Rattle.lock_state.specs.Steps.Items.{Item, item_with}
-use Rattle.lock_laws.proofs.Kit.{put_back as put_again}
+use Rattle.lock_laws.proofs.Kit.{put_same, put_back as put_again}
 use Rattle.lock_laws.proofs.Items.{with_then}
 use Rattle.lock_state.specs.Steps.{Step, after_all, maker}
 use Rattle.floor_table.specs.Descriptions.{config_in}
@@ -23,7 +23,7 @@ use Rattle.floor_table.specs.declared.slot.Slot.{Slot}
 use Rattle.floor_table.specs.Views.{OfThread, OfNobody, Pose, Knowledge, nothing, seeing}
 use Rattle.floor_table.specs.Places.{spot, lock_line, wait_line, ticket_line, latch_line, word_at, lock_word, latch_word, slots_for, slot_of, home_at}
 use Rattle.floor_table.specs.Shares.{share_in}
-use Rattle.floor_table.specs.Shelves.{Shelves}
+use Rattle.floor_table.specs.Shelves.{found, Shelves}
 use Rattle.floor_table.specs.Past.{past_with, IsSeenBy, AreSeen}
 use Rattle.floor_table.specs.Represents.{Board, words_in, wait_number, RepresentsLatches, RepresentsObjects, objects_in, IsSeatOf, IsPosed, Represents, keeper_in, thread_in}
 use Rattle.floor_table.specs.Steps.{IsSound, FitAll, Fits, Makes}
@@ -32,9 +32,8 @@ use Rattle.floor_table.proofs.Lists.{inside, at_or, or_at, or_past, field_set}
 use Rattle.floor_table.proofs.Known.{fits_of, seen_of}
 use Rattle.floor_table.proofs.Seen.{AreOf, seen_on, seen_stepped}
 use Rattle.floor_table.proofs.Sound.{sound_kept}
-use Rattle.floor_table.proofs.Unrefused.{RefuseNothing}
 use Rattle.floor_table.proofs.Items.{place_low, latches_changed}
-use Rattle.floor_table.proofs.Shelved.{shelf_taken, shelf_given}
+use Rattle.floor_table.proofs.Shelved.{put_twice, found_first, shelf_taken, shelf_given, shelf_changed}
 use Rattle.floor_table.proofs.Stepped.{lock_stepped, wait_stepped, ticket_stepped, latch_stepped, seat_stepped}
 
 -- 1. What a step owes
@@ -109,7 +108,6 @@ pub record OwnSteps (v w : Knowledge) (past steps : List Step) (s n : State) : T
   pub role : w.role ≡ OfThread
   pub seen : w.seen ≡ past_with past steps
   pub makers : AreOf v.thread steps
-  pub no_refusal : RefuseNothing steps
   pub seat : IsSeatOf w n v.thread
   pub others : (u : ℕ) → u ≢ v.thread → share_in n u ≡ share_in s u
   pub pose : IsPosed w.pose (n.wait v.thread) (n.blocked_on v.thread)
@@ -130,7 +128,7 @@ made floor steps b behind v w h role may own views r =
       record {
         past = past_with h.past steps;
         state = after_all (config_in floor) h.state steps;
-        sound = sound_kept floor h.state steps own.no_refusal may h.sound;
+        sound = sound_kept floor h.state steps may h.sound;
         represents = r;
         seen = subst (λ vs. AreSeen vs (past_with h.past steps)) (sym views)
             (seen_stepped b.views v.thread v w h.past steps h.there low own.seen own.makers h.seen);
@@ -290,30 +288,48 @@ module _ (floor : Description) (steps : List Step) (b : Board) (v w : Knowledge)
       low free))
       (subst (RepresentsObjects floor r.content) (sym rest.objects) r.objects))
 
-  -- the value taken last comes home
+  -- the value taken last comes home, after it was changed where it was
+  pub give_made_with : (i : Item) (j : ℕ) (x y : Slot) (xs more : List (ℕ × Slot)) → slot_of floor i ≡ Some j
+      → cs ≡ (j, y) ∷ more → v.out ≡ (j, x) ∷ xs → words_in n ≡ words_in s → item_with n ≡ with_then s i None
+      → w.spare ≡ v.spare → w.out ≡ xs → RepresentsObjects floor (put h.represents.content j y) (objects_in n)
+      → FloorHolds floor (stepped b (spot (latch_line j)) 0 (suc v.thread) cs w gives) × Makes floor steps v w
+  give_made_with i j x y xs more place carried was_out words items spares out objects =
+      let r = h.represents in
+      let content : ℕ → Slot = put r.content j y in
+      let behind : Board = stepped b (spot (latch_line j)) 0 (suc v.thread) cs w gives in
+      let low = place_low floor i j place in
+      let fits : j < length b.homes = omega (arith, low, r.sizes.slots) in
+      let homes : homes_after b.homes cs gives ≡ set b.homes j (some y) = ap (put_back b.homes) carried in
+      let changed : Shelves (slots_for floor) (latch_word b.words) (home_at b.homes) (put outs v.thread ((j, y) ∷ xs))
+      content =
+      shelf_changed (slots_for floor) (latch_word b.words) (home_at b.homes) outs r.content r.shelves j v.thread x y xs
+      (own_out ∙ was_out) in
+      let given = shelf_given (slots_for floor) (latch_word b.words) (home_at b.homes)
+      (put outs v.thread ((j, y) ∷ xs)) content changed j v.thread y xs (put_same outs v.thread ((j, y) ∷ xs)) in
+      made floor steps b behind v w h was may own refl
+      (latch_stepped floor b s n r v.thread v w h.there was own.role own.seat own.others own.pose own.other_poses cs j 0
+      gives content low (ap (λ hs. length hs) homes ∙ length-set b.homes j (some y)) words spares
+      (subst (RepresentsLatches floor (put (latch_word b.words) j 0)) (sym items)
+      (latches_changed floor s (latch_word b.words) i j 0 None place refl r.latches))
+      (subst (λ (z : (ℕ → slots.Option Slot) × (ℕ → List (ℕ × Slot))). Shelves (slots_for floor)
+      (put (latch_word b.words) j 0) z.0 z.1 content)
+      (λ k. (
+        sym (ap home_at homes ∙ field_set (λ (o : slots.Option Slot). o) b.homes j (some y) slots.none fits) k,
+        (put_twice outs v.thread ((j, y) ∷ xs) xs ∙ ap (put outs v.thread) (sym out)) k,
+      ))
+      given)
+      objects)
+
+  -- or as it was
   pub give_made : (i : Item) (j : ℕ) (x : Slot) (xs more : List (ℕ × Slot)) → slot_of floor i ≡ Some j
       → cs ≡ (j, x) ∷ more → v.out ≡ (j, x) ∷ xs → SameButOut i None → w.spare ≡ v.spare → w.out ≡ xs
       → FloorHolds floor (stepped b (spot (latch_line j)) 0 (suc v.thread) cs w gives) × Makes floor steps v w
   give_made i j x xs more place carried was_out rest spares out =
       let r = h.represents in
-      let behind : Board = stepped b (spot (latch_line j)) 0 (suc v.thread) cs w gives in
-      let low = place_low floor i j place in
-      let fits : j < length b.homes = omega (arith, low, r.sizes.slots) in
-      let homes : homes_after b.homes cs gives ≡ set b.homes j (some x) = ap (put_back b.homes) carried in
-      made floor steps b behind v w h was may own refl
-      (latch_stepped floor b s n r v.thread v w h.there was own.role own.seat own.others own.pose own.other_poses cs j 0
-      gives r.content low (ap (λ hs. length hs) homes ∙ length-set b.homes j (some x)) rest.words spares
-      (subst (RepresentsLatches floor (put (latch_word b.words) j 0)) (sym rest.items)
-      (latches_changed floor s (latch_word b.words) i j 0 None place refl r.latches))
-      (subst (λ (z : (ℕ → slots.Option Slot) × List (ℕ × Slot)). Shelves (slots_for floor)
-      (put (latch_word b.words) j 0) z.0 (put outs v.thread z.1) r.content)
-      (λ k. (
-        sym (ap home_at homes ∙ field_set (λ (o : slots.Option Slot). o) b.homes j (some x) slots.none fits) k,
-        sym
-            out k,
-      ))
-      (shelf_given (slots_for floor) (latch_word b.words) (home_at b.homes) outs r.content r.shelves j v.thread x xs
-      (own_out ∙ was_out)))
+      let its : x ≡ r.content j =
+      (r.shelves.taken j v.thread x (ap (found j) (own_out ∙ was_out) ∙ found_first j x xs)).2 in
+      give_made_with i j x x xs more place carried was_out rest.words rest.items spares out
+      (subst (λ z. RepresentsObjects floor z (objects_in n)) (sym (put_again r.content j x (sym its)))
       (subst (RepresentsObjects floor r.content) (sym rest.objects) r.objects))
 
 -- 4. No step
@@ -335,7 +351,6 @@ none_made floor b v h was i cs =
       others = λ u ne. refl;
       pose = h.fits.pose;
       other_poses = λ u ne p k. k;
-      no_refusal = tt;
     } in
     let r : Represents floor (record { words = b.words; homes = b.homes; views = set b.views (suc v.thread) w })
     h.state = seat_stepped floor b h.state h.represents v.thread v w h.there was was own.seat refl refl refl in

@@ -7,6 +7,11 @@ use Rattle.lock_laws.proofs.Kit.{put_same, put_other, at_put, each_place}
 use Rattle.floor_table.specs.declared.slot.Slot.{Slot}
 use Rattle.floor_table.specs.Shelves.{found, AreApart, Shelves}
 
+-- of two values that are put in one place the second stays
+pub put_twice : {A : Type 0} (f : ℕ → A) (i : ℕ) (v w : A) → put (put f i v) i w ≡ put f i w
+put_twice f i v w = λ k j. at_put (λ m x. x ≡ put f i w m) (put f i v) i w (sym (put_same f i w))
+    (λ m ne. put_other f i v m ne ∙ sym (put_other f i w m ne)) j k
+
 pub found_first : (j : ℕ) (x : Slot) (xs : List (ℕ × Slot)) → found j ((j, x) ∷ xs) ≡ some x
 found_first j x xs = ap (λ b. cond b (some x) (found j xs)) (eq-eqb j j refl)
 

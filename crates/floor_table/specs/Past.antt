@@ -2,18 +2,24 @@
 use Rattle.std.specs.Prelude.{◌≡◌, ◌≢◌, ℕ, ◌≤◌, List, [], ◌∷◌, ◌++◌}
 use Rattle.std.specs.List.{All}
 use Rattle.lock_state.specs.State.{State, start_state}
-use Rattle.lock_state.specs.Steps.{Step, after, FitsFloor, maker}
+use Rattle.lock_state.specs.Steps.{Step, after, FitsFloor, KeepsToOrder, maker}
 use Rattle.floor_table.specs.Descriptions.{config_in}
 use Rattle.floor_table.specs.declared.description.Description.{Description}
 use Rattle.floor_table.specs.Represents.{keeper_in, thread_in}
 use Rattle.floor_table.specs.Views.{Knowledge, OfThread}
+
+-- what a floor asks of a step that one of its threads makes: what each running floor asks, and that the step keeps to
+-- the order that was admitted
+pub record IsAllowed (floor : Description) (s : State) (step : Step) : Type 0 where
+  pub fits : FitsFloor floor.chains (config_in floor) s step
+  pub keeps_order : KeepsToOrder (config_in floor) s step
 
 -- The steps of threads of a floor that lead from the start to a state, the newest first. Each might be made where it
 -- came.
 pub data LeadsTo (floor : Description) : List Step → State → Type 0 where
   none : LeadsTo floor [] (start_state (config_in floor))
   more : {past : List Step} {s : State} (step : Step) → LeadsTo floor past s
-      → FitsFloor floor.chains (config_in floor) s step
+      → IsAllowed floor s step
       → LeadsTo floor (step ∷ past) (after (config_in floor) s step)
 
 -- the steps, and then those of a list, made in order

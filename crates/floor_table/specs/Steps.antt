@@ -1,30 +1,22 @@
--- What the threads of a floor do: each makes steps of `lock_state`, under what a running floor asks beside.
-use Rattle.std.specs.Prelude.{◌≡◌, ◌≢◌, ℕ, ◌<◌, false, List, [], ◌∷◌, length, Option, Some}
+-- What the threads of a floor do: each makes steps of `lock_state`, under what the floor asks beside.
+use Rattle.std.specs.Prelude.{◌≡◌, ℕ, ◌<◌, List, [], ◌∷◌, length, Some}
 use Rattle.std.specs.List.{All}
 use mathlib.Core.Option.{some}
 use Rattle.floor_table.specs.Descriptions.{config_in, IsSized}
-use Rattle.lock_model.specs.Takes.{has_reversal}
-use Rattle.lock_model.specs.declared.event.Entry.{Entry}
 use Rattle.floor_table.specs.declared.description.Description.{Description}
-use Rattle.lock_state.specs.State.{State, Note, OrderRefused}
-use Rattle.lock_state.specs.Facts.{LawfulFloor}
-use Rattle.lock_state.specs.Steps.{Step, EachStep, after_all, FitsFloor, maker}
+use Rattle.lock_state.specs.State.{State}
+use Rattle.lock_state.specs.Facts.{LawfulFloor, Ordered, Taken}
+use Rattle.lock_state.specs.Steps.{Step, EachStep, after_all, maker}
 use Rattle.lock_state.specs.Steps.Items.{Item, item_with}
 use Rattle.lock_laws.specs.Rounds.{LawfulRounds}
 use Rattle.lock_laws.specs.Signals.{TurnstilesSignal}
 use Rattle.sleep_laws.specs.Sleepers.{SleepersFit, by_chain}
 use Rattle.floor_table.specs.declared.slot.Slot.{Slot}
-use Rattle.floor_table.specs.Past.{LeadsTo, IsSeenBy, past_with}
+use Rattle.floor_table.specs.Past.{LeadsTo, IsAllowed, IsSeenBy, past_with}
 use Rattle.floor_table.specs.Places.{slot_of}
 use Rattle.floor_table.specs.Shelves.{found}
 use Rattle.floor_table.specs.Views.{OfThread, Knowledge}
 use Rattle.floor_table.specs.Represents.{Board, RepresentsShare, IsPosed, IsOf, Represents, objects_in, thread_in}
-
--- Orders of locks aren't checked on a floor yet: no thread has the refusal of a take to note, and none stands in the
--- history
-pub record NothingIsRefused (noted : ℕ → Option Note) (history : List Entry) : Type 0 where
-  pub to_note : (t l k : ℕ) → noted t ≢ Some (OrderRefused l k)
-  pub in_history : has_reversal history ≡ false
 
 -- what holds of a state between two steps of threads of a floor, to which these steps led
 pub record IsSound (floor : Description) (past : List Step) (s : State) : Type 0 where
@@ -33,12 +25,12 @@ pub record IsSound (floor : Description) (past : List Step) (s : State) : Type 0
   pub rounds : LawfulRounds floor.chains (config_in floor) s
   pub sleepers : SleepersFit (by_chain floor.chains s) (config_in floor) s
   pub turnstiles : TurnstilesSignal (config_in floor) s
-  pub no_refusal : NothingIsRefused s.noted s.history
+  pub ordered : Ordered (config_in floor) s
+  pub taken : Taken (config_in floor) s
 
 -- each of the steps may be made by a thread of a floor, where it comes
 abbrev pub FitAll : Description → State → List Step → Type 0
-FitAll floor s steps =
-    EachStep (FitsFloor floor.chains (config_in floor)) (config_in floor) s steps
+FitAll floor s steps = EachStep (IsAllowed floor) (config_in floor) s steps
 
 -- 1. What a thread knows of the state
 

@@ -1,17 +1,19 @@
 //! What follows from the definitions alone.
-ghost use Rattle.std.specs.Prelude.{◌≡◌, ℕ, ◌≤◌, ◌↔◌, List, [], Option, IsTrue, IsSome, None, true};
+ghost use Rattle.std.specs.Prelude.{◌≡◌, ℕ, ◌≤◌, ◌<◌, ◌↔◌, List, [], length, Option, IsTrue, IsSome, None, true};
 ghost use Rattle.std.specs.List.{Contains};
 ghost use Rattle.lock_model.specs.Keys.{plan_names};
 ghost use Rattle.lock_model.specs.Operations.{IsProper};
 ghost use Rattle.lock_model.specs.Plans.{config_of, operations_of};
 ghost use Rattle.lock_model.specs.declared.plan.Plan.{Plan};
 ghost use Rattle.lock_model.specs.declared.plan.QueueName.{QueueName};
+ghost use Rattle.lock_state.specs.Best.{best_behind, HasCycle, NobodyWalks};
 ghost use Rattle.lock_state.specs.State.{State, Wait};
+ghost use Rattle.lock_state.specs.Steps.{Step};
 ghost use Rattle.lock_state.specs.Steps.Items.{TurnstileChain, SleepChain, item_with};
 ghost use Rattle.floor_table.specs.Descriptions.{config_in, room_for, IsSized, room_of, description_of};
 ghost use Rattle.floor_table.specs.Represents.{words_in, Objects, objects_in, state_from, wait_number, IsPosed, StandsIn, RepresentsTurnstiles, RepresentsSleepChain};
 ghost use Rattle.floor_table.specs.Shares.{share_in};
-ghost use Rattle.floor_table.specs.Steps.{Fits};
+ghost use Rattle.floor_table.specs.Steps.{Fits, IsSound};
 ghost use Rattle.floor_table.specs.Views.{Pose, Knowledge, is_off_queues};
 ghost use Rattle.floor_table.specs.declared.description.Description.{Description};
 ghost use Rattle.sleep_queues.specs.Seen.{SleepQueue};
@@ -63,4 +65,14 @@ pub fn chains_have_no_other()
     ensures sleep_queues { (floor : Description) (k : ℕ) (chain : List (QueueName × SleepQueue))
         (x : Objects) → RepresentsSleepChain floor k chain x → ((q : QueueName)
         → StandsIn floor (SleepChain k) q → (x.queues q).head ≡ None) → chain ≡ [] }
+{}
+
+/// Between any two steps of a floor's threads no threads wait in a cycle. So where no walk is under way, each thread's
+/// effective priority is the best behind it.
+pub fn nobody_waits_in_a_cycle()
+    ensures cycle { (floor : Description) (past : List Step) (s : State) → IsSound floor past s
+        → HasCycle s → ⊥ }
+    ensures best { (floor : Description) (past : List Step) (s : State) (t : ℕ)
+        → IsSound floor past s → NobodyWalks (config_in floor) s → t < length floor.threads
+        → s.effective t ≡ best_behind (config_in floor) s t }
 {}

@@ -1,29 +1,32 @@
--- A take has begun: by its first exchange it gained the lock, or its round is under way.
-use Rattle.std.proofs.Common.{◌≡◌, [], ◌∷◌, refl, sym, ap, ◌∙◌, subst, arith}
+-- A take has begun: by its first exchange it gained the lock, or the lock's order is to be checked.
+use Rattle.std.proofs.Common.{◌≡◌, false, [], ◌∷◌, replicate, refl, sym, ap, ◌∙◌, subst, arith}
 use Rattle.lock_model.specs.declared.event.Event.TheVariants.{Locked}
 use Rattle.lock_model.specs.declared.numbers.LockNo.{LockNo}
 use Rattle.lock_model.specs.declared.plan.Mode.TheVariants.{Excl}
-use Rattle.lock_state.specs.Steps.{Stamps}
+use Rattle.lock_state.specs.Steps.{Looks, Stamps}
 use Rattle.floor_table.specs.declared.description.Description.{Description}
 use Rattle.floor_table.specs.Steps.{Makes, MakesEach}
 use Rattle.floor_table.specs.Views.{Knowledge}
 use Rattle.lock_floor.specs.declared.calls.Call.TheVariants as calls
-use Rattle.lock_floor.specs.declared.calls.TakeAt.TheVariants.{Spins}
+use Rattle.lock_floor.specs.declared.calls.TakeAt.TheVariants.{Checks}
 use Rattle.lock_floor.specs.Floors.{Pass}
+use Rattle.lock_floor.specs.Passes.{IsAtRest}
 use Rattle.lock_calls.specs.declared.answers.Next.TheVariants.{Done, Again}
-use Rattle.lock_calls.specs.Steps.{MayTake, as_taken, gains_at_once, begins_round}
+use Rattle.lock_calls.specs.Steps.{MayTake, as_taken, gains_at_once}
 use Rattle.lock_calls.specs.Takes.{IsUnderTake, HasTaken, HasBegunTake}
-use Rattle.lock_calls.specs.Waiting.{Kept, kept_of, IsCalling, MayGain, GainsAtOnce, HasBegun}
-use Rattle.lock_calls.proofs.Attempts.{looked_once, seeks_it}
+use Rattle.lock_calls.specs.Waiting.{Kept, kept_of, IsCalling, GainsAtOnce, HasMissed}
+use Rattle.lock_calls.proofs.Attempts.{is_checking}
 use Rattle.lock_calls.proofs.Calls.{call_noted, view_noted}
 
 pub gains_first : (floor : Description) (l : LockNo) (old v new q : Pass Knowledge)
-    → GainsAtOnce floor (as_taken l Excl) old.view v.view → HasTaken floor l Excl old.view new.view
+    → old.view.share.held ≡ [] → GainsAtOnce floor (as_taken l Excl) old.view v.view
+    → HasTaken floor l Excl old.view new.view
     → Makes floor (Stamps old.view.thread (Locked l Excl) ∷ []) v.view new.view → q ≡ record new { call = calls.None }
     → HasBegunTake floor l Excl Done old q
-gains_first floor l old v new q gains taken notes is =
+gains_first floor l old v new q bare gains taken notes is =
     let same : new.view ≡ q.view = sym (view_noted new q calls.None is) in (
       call_noted new q calls.None is,
+      bare,
       subst (HasTaken floor l Excl old.view) same taken,
       subst (λ k. MakesEach floor (gains_at_once old.view.thread l.0 Excl
           ∷ (Stamps old.view.thread (Locked l Excl) ∷ []) ∷ []) old.view k) same
@@ -31,25 +34,23 @@ gains_first floor l old v new q gains taken notes is =
     )
 
 pub has_begun : (floor : Description) (l : LockNo) (old v q : Pass Knowledge) → MayTake floor l.0 Excl old.view
-    → IsCalling floor (kept_of old.view) → MayGain floor l.0 old.view → HasBegun floor l.0 old.view v.view
-    → q ≡ record v { call = calls.Take l Excl (Spins 49) } → HasBegunTake floor l Excl Again old q
-has_begun floor l old v q may calling gain b is =
-    let same : v.view ≡ q.view = sym (view_noted v q (calls.Take l Excl (Spins 49)) is) in
-    let kept : kept_of v.view ≡ kept_of old.view = ap kept_of b.knows in
-    let once : v.view.share.doing.looks ≡ 1 = looked_once floor l.0 old.view gain v.view b in
+    → IsCalling floor (kept_of old.view) → IsAtRest floor old.view → HasMissed floor l.0 old.view v.view
+    → q ≡ record v { call = calls.Take l Excl Checks } → HasBegunTake floor l Excl Again old q
+has_begun floor l old v q may calling r h is =
+    let same : v.view ≡ q.view = sym (view_noted v q (calls.Take l Excl Checks) is) in
+    let kept : kept_of v.view ≡ kept_of old.view = ap kept_of h.knows in
     record {
-      left = 49;
-      few = omega arith;
-      call = call_noted v q (calls.Take l Excl (Spins 49)) is;
-      there = subst (IsUnderTake floor l Excl (Spins 49)) same record {
+      call = call_noted v q (calls.Take l Excl Checks) is;
+      there = subst (IsUnderTake floor l Excl Checks) same record {
         covered = may.covered;
         calling = subst (IsCalling floor) (sym kept) calling;
         room = omega (arith, may.room, ap (λ (k : Kept). k.spare) kept);
-        there = (seeks_it floor l.0 old.view gain v.view b, omega (arith, once));
+        there = is_checking floor l.0 old.view v.view r may.unheld may.few h;
       };
       kept = ap kept_of (sym same) ∙ kept;
-      missed = b.missed;
-      once = b.once;
-      bare = b.bare;
-      steps = subst (λ k. MakesEach floor (begins_round old.view.thread l.0 b.missed) old.view k) same b.steps;
+      missed = h.missed;
+      once = h.once;
+      bare = h.bare;
+      steps = subst (λ k. MakesEach floor (replicate h.missed (Looks old.view.thread l.0 false ∷ [])) old.view k) same
+          h.steps;
     }

@@ -1,7 +1,6 @@
 -- The call that a pass is in the middle of: which one it is, and that it is noted in the pass where it stands.
-use Rattle.std.proofs.Common.{◌≡◌, sym, ap, ◌∙◌, subst}
+use Rattle.std.proofs.Common.{◌≡◌, sym, ap, ◌∙◌, subst, ◌⊎◌, inl, inr, refl}
 use Rattle.lock_model.specs.declared.numbers.LockNo.{LockNo}
-use Rattle.lock_model.specs.declared.numbers.ThreadNo.{ThreadNo}
 use Rattle.lock_model.specs.declared.plan.Mode.{Mode}
 use Rattle.floor_table.specs.declared.description.Description.{Description}
 use Rattle.floor_table.specs.Views.{Knowledge}
@@ -10,11 +9,11 @@ use Rattle.lock_floor.specs.declared.calls.Call.{Call}
 use Rattle.lock_floor.specs.declared.calls.Call.TheVariants as calls
 use Rattle.lock_floor.specs.declared.calls.ReleaseAt.{ReleaseAt}
 use Rattle.lock_floor.specs.declared.calls.TakeAt.{TakeAt}
-use Rattle.lock_floor.specs.declared.calls.TakeAt.TheVariants.{Spins, ComesIn, Contends, Walks, Hops}
+use Rattle.lock_floor.specs.declared.calls.TakeAt.TheVariants.{Checks, Spins, ComesIn, Contends, Walks, Hops}
 use Rattle.lock_floor.specs.Floors.{Floor, Pass}
 use Rattle.lock_floor.specs.Passes.{IsOf}
 use Rattle.lock_calls.specs.declared.answers.Next.{Next}
-use Rattle.lock_calls.specs.declared.answers.Next.TheVariants.{Done, Again, Sleep, Wake}
+use Rattle.lock_calls.specs.declared.answers.Next.TheVariants.{Done, Again, Sleep, Wake, Reversed}
 use Rattle.lock_calls.specs.Releases.{IsInRelease, IsUnderRelease, GoesOnReleasing}
 use Rattle.lock_calls.specs.Takes.{IsInTake, IsUnderTake, TakesOn, GoesOnTaking, next_at}
 
@@ -68,22 +67,31 @@ module _ (floor : Description) (p : Pass Knowledge) (l : LockNo) (mode : Mode) (
       (λ i. (same.0 i, same.1 i, same.2 i)) went
 
 -- what is to be done next, where a take stands somewhere, is to go on or to sleep
-stands_next : (to : TakeAt) → (next_at to ≡ Done → ⊥) × ((t : ThreadNo) → next_at to ≡ Wake t → ⊥)
-stands_next (Spins left) = (λ e. let z : Again ≡ Done = e in cc, λ t e. let z : Again ≡ Wake t = e in cc)
-stands_next ComesIn = (λ e. let z : Again ≡ Done = e in cc, λ t e. let z : Again ≡ Wake t = e in cc)
-stands_next (Contends seen) = (λ e. let z : Again ≡ Done = e in cc, λ t e. let z : Again ≡ Wake t = e in cc)
-stands_next (Walks walk.None) = (λ e. let z : Sleep ≡ Done = e in cc, λ t e. let z : Sleep ≡ Wake t = e in cc)
-stands_next (Walks (walk.AtLock l)) = (λ e. let z : Again ≡ Done = e in cc, λ t e. let z : Again ≡ Wake t = e in cc)
-stands_next (Walks (walk.AtThread o)) = (λ e. let z : Again ≡ Done = e in cc, λ t e. let z : Again ≡ Wake t = e in cc)
-stands_next (Hops there) = (λ e. let z : Again ≡ Done = e in cc, λ t e. let z : Again ≡ Wake t = e in cc)
+stands_next : (to : TakeAt) → (next_at to ≡ Again) ⊎ (next_at to ≡ Sleep)
+stands_next Checks = inl refl
+stands_next (Spins left) = inl refl
+stands_next ComesIn = inl refl
+stands_next (Contends seen) = inl refl
+stands_next (Walks walk.None) = inr refl
+stands_next (Walks (walk.AtLock l)) = inl refl
+stands_next (Walks (walk.AtThread o)) = inl refl
+stands_next (Hops there) = inl refl
+
+no_other_next : (to : TakeAt) (next : Next) → next ≡ next_at to → (next ≡ Again → ⊥) → (next ≡ Sleep → ⊥) → ⊥
+no_other_next to next is again sleep = elim (stands_next to) [ inl e ↦ again (is ∙ e) | inr e ↦ sleep (is ∙ e) ]
 
 pub take_stands : (floor : Description) (l : LockNo) (mode : Mode) (at to : TakeAt) (p q : Pass Knowledge) (next : Next)
     → next ≡ next_at to → q.call ≡ calls.Take l mode to → TakesOn floor l mode at to p.view q.view
     → GoesOnTaking floor l mode at next p q
-take_stands floor l mode at to p q Done is call on = absurd ((stands_next to).0 (sym is))
+take_stands floor l mode at to p q Done is call on =
+    absurd (no_other_next to Done is (λ e. let z : Done ≡ Again = e in cc) (λ e. let z : Done ≡ Sleep = e in cc))
 take_stands floor l mode at to p q Again is call on = record { to = to; call = call; next_is = sym is; on = on }
 take_stands floor l mode at to p q Sleep is call on = record { to = to; call = call; next_is = sym is; on = on }
-take_stands floor l mode at to p q (Wake t) is call on = absurd ((stands_next to).1 t (sym is))
+take_stands floor l mode at to p q (Wake t) is call on =
+    absurd (no_other_next to (Wake t) is (λ e. let z : Wake t ≡ Again = e in cc) (λ e. let z : Wake t ≡ Sleep = e in cc))
+take_stands floor l mode at to p q (Reversed r) is call on =
+    absurd (no_other_next to (Reversed r) is (λ e. let z : Reversed r ≡ Again = e in cc)
+    (λ e. let z : Reversed r ≡ Sleep = e in cc))
 
 -- 3. A release
 

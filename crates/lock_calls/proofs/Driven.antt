@@ -1,6 +1,7 @@
 -- A take and a release that wait, part after part.
 use Rattle.std.proofs.Common.{◌≡◌, ◌⊎◌, inl, inr, ◌<◌, [], ◌∷◌, length, refl, sym, ap, ◌∙◌, subst}
 use Rattle.lock_model.specs.declared.event.Event.{Event}
+use Rattle.lock_model.specs.declared.event.Reversal.{Reversal}
 use Rattle.lock_model.specs.declared.numbers.LockNo.{LockNo}
 use Rattle.lock_model.specs.declared.numbers.ThreadNo.{ThreadNo}
 use Rattle.lock_model.specs.declared.plan.Mode.{Mode}
@@ -13,21 +14,21 @@ use Rattle.lock_floor.specs.declared.calls.Call.TheVariants as calls
 use Rattle.lock_floor.specs.declared.calls.ReleaseAt.{ReleaseAt}
 use Rattle.lock_floor.specs.declared.calls.ReleaseAt.TheVariants.{ComesTo, Wakes}
 use Rattle.lock_floor.specs.declared.calls.TakeAt.{TakeAt}
-use Rattle.lock_floor.specs.declared.calls.TakeAt.TheVariants.{Spins}
+use Rattle.lock_floor.specs.declared.calls.TakeAt.TheVariants.{Checks}
 use Rattle.lock_floor.specs.Floors.{Pass}
 use Rattle.lock_floor.specs.Passes.{IsAtRest, MakesEntry}
 use Rattle.lock_floor.proofs.Taking.{waits_none}
 use Rattle.lock_calls.specs.declared.answers.Next.{Next}
-use Rattle.lock_calls.specs.declared.answers.Next.TheVariants.{Done, Again, Sleep, Wake}
+use Rattle.lock_calls.specs.declared.answers.Next.TheVariants.{Done, Again, Sleep, Wake, Reversed}
 use Rattle.lock_calls.specs.Releases as released
 use Rattle.lock_calls.specs.Releases.{IsUnderRelease, HasBegunRelease, StandsInRelease, ReleasesAtOnce, EndsRelease, WakesOne, GoesOnReleasing, noted_of}
 use Rattle.lock_calls.specs.Steps.{Locks, Release, AtOnce, unlocks, at_once}
-use Rattle.lock_calls.specs.Takes.{IsUnderTake, HasTaken, HasBegunTake, BeginsTake, StandsInTake, GoesOnTaking}
+use Rattle.lock_calls.specs.Takes.{IsUnderTake, HasTaken, IsRefused, HasBegunTake, BeginsTake, StandsInTake, EndsRefused, GoesOnTaking}
 use Rattle.lock_calls.specs.Waiting.{Kept, kept_of}
 use Rattle.lock_calls.proofs.Let as let_go
 use Rattle.lock_calls.proofs.Let.{HasNoted}
 use Rattle.lock_calls.proofs.Taken as taken
-use Rattle.lock_calls.proofs.Taken.{begins_at, goes_on, ends, entry_since, under_take_on}
+use Rattle.lock_calls.proofs.Taken.{begins_at, goes_on, ends, entry_since, refused_since, under_take_on}
 
 -- 1. A take
 
@@ -47,12 +48,12 @@ module _ (floor : Description) (l : LockNo) (mode : Mode) (next : Next) (p q : P
   pub locked_at_once : next ≡ Done → HasLocked floor l mode p.view q.view
   locked_at_once is =
       let d = subst (λ n. HasBegunTake floor l mode n p q) is b in
-      let m = d.2 in
+      let m = d.3 in
       record {
-        taken = d.1;
+        taken = d.2;
         locks = record {
           gained = m.0;
-          gains = at_once (m.0, m.1, refl);
+          gains = at_once d.1 (m.0, m.1, refl);
           notes = subst (λ k. Makes floor (Stamps p.view.thread (Event.Locked l mode) ∷ []) m.0 k) m.2.2 m.2.1;
         };
       }
@@ -60,16 +61,17 @@ module _ (floor : Description) (l : LockNo) (mode : Mode) (next : Next) (p q : P
   pub stands_begun : next ≡ Again → StandsSince floor l mode p.view q
   stands_begun is =
       let d : BeginsTake floor l mode p q = subst (λ n. HasBegunTake floor l mode n p q) is b in (
-        Spins d.left,
+        Checks,
         d.call,
         d.there,
         d.kept,
-        begins_at floor l.0 mode p.view q.view d.left d.missed d.few d.once d.bare d.steps,
+        begins_at floor l.0 mode p.view q.view d.missed d.once d.bare d.steps,
       )
 
-  pub begins_on : (next ≡ Sleep) ⊎ ((t : ThreadNo) × (next ≡ Wake t)) → ⊥
+  pub begins_on : (next ≡ Sleep) ⊎ (((t : ThreadNo) × (next ≡ Wake t)) ⊎ ((r : Reversal) × (next ≡ Reversed r))) → ⊥
   begins_on (inl is) = subst (λ n. HasBegunTake floor l mode n p q) is b
-  begins_on (inr is) = subst (λ n. HasBegunTake floor l mode n p q) is.1 b
+  begins_on (inr (inl is)) = subst (λ n. HasBegunTake floor l mode n p q) is.1 b
+  begins_on (inr (inr is)) = subst (λ n. HasBegunTake floor l mode n p q) is.1 b
 
 module _ (floor : Description) (l : LockNo) (mode : Mode) (begun : Knowledge) (p : Pass Knowledge)
     (s : StandsSince floor l mode begun p) (next : Next) (q : Pass Knowledge)
@@ -106,6 +108,12 @@ module _ (floor : Description) (l : LockNo) (mode : Mode) (begun : Knowledge) (p
 
   pub wakes_nobody : (t : ThreadNo) → next ≡ Wake t → ⊥
   wakes_nobody t is = subst (λ n. GoesOnTaking floor l mode s.0 n p q) is w
+
+  pub was_refused : (r : Reversal) → next ≡ Reversed r → IsRefused floor l r begun q.view
+  was_refused r is =
+      let d : EndsRefused floor l s.0 r p q = subst (λ n. GoesOnTaking floor l mode s.0 n p q) is w in
+      refused_since floor l mode begun p.view q.view r s.3
+      (subst (λ a. taken.IsAt floor l.0 mode begun a p.view) d.at_check s.4) d.refused
 
 -- 2. A release
 
@@ -153,9 +161,11 @@ module _ (floor : Description) (l : LockNo) (mode : Mode) (next : Next) (p q : P
         };
       }
 
-  pub release_begins_on : (next ≡ Sleep) ⊎ ((t : ThreadNo) × (next ≡ Wake t)) → ⊥
+  pub release_begins_on : (next ≡ Sleep) ⊎ (((t : ThreadNo) × (next ≡ Wake t)) ⊎ ((r : Reversal) × (next ≡ Reversed r)))
+      → ⊥
   release_begins_on (inl is) = subst (λ n. HasBegunRelease floor l mode n p q) is b
-  release_begins_on (inr is) = subst (λ n. HasBegunRelease floor l mode n p q) is.1 b
+  release_begins_on (inr (inl is)) = subst (λ n. HasBegunRelease floor l mode n p q) is.1 b
+  release_begins_on (inr (inr is)) = subst (λ n. HasBegunRelease floor l mode n p q) is.1 b
 
 module _ (floor : Description) (l : LockNo) (mode : Mode) (begun : Knowledge) (p : Pass Knowledge)
     (s : ReleasesSince floor l mode begun p) (next : Next) (q : Pass Knowledge)
@@ -189,8 +199,9 @@ module _ (floor : Description) (l : LockNo) (mode : Mode) (begun : Knowledge) (p
         is_at = let_go.goes_on floor l mode begun p.view q.view its_own s.at d.to s.is_at d.on.leg;
       }
 
-  pub releases_awake : next ≡ Sleep → ⊥
-  releases_awake is = subst (λ n. GoesOnReleasing floor l mode s.at n p q) is w
+  pub releases_awake : (next ≡ Sleep) ⊎ ((r : Reversal) × (next ≡ Reversed r)) → ⊥
+  releases_awake (inl is) = subst (λ n. GoesOnReleasing floor l mode s.at n p q) is w
+  releases_awake (inr is) = subst (λ n. GoesOnReleasing floor l mode s.at n p q) is.1 w
 
   module _ (t : ThreadNo) (is : next ≡ Wake t) where
     one : WakesOne floor l mode s.at t.0 p q

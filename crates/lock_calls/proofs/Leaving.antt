@@ -27,7 +27,7 @@ use Rattle.lock_floor.proofs.Resting.{rest_seeing}
 use Rattle.lock_calls.specs.Releases.{IsLeaving, LeavesWithChain, LeavesWithBoth, ReleasesOn, noted_of, takes_chain, comes_in, looks, makes_free, finds_out}
 use Rattle.lock_calls.specs.Steps.{IsMutex, gives_both}
 use Rattle.lock_calls.specs.Waiting.{with_looks, with_none_out, MayLetGo, IsOwn, LetsGo, MissesOwn}
-use Rattle.lock_calls.proofs.Looks.{uncounted, look_knows}
+use Rattle.lock_calls.proofs.Looks.{uncounted, look_knows, wants_none}
 use Rattle.lock_calls.proofs.Owned.{chains_turnstile, saw_own}
 
 -- 1. What stays
@@ -134,7 +134,7 @@ module _ (floor : Description) (l : LockNo) (v : Knowledge) (m : IsLeaving floor
   may_take_there =
       wait.may_take_chain floor v (lock_queue l.0) m.may.looks.runs m.may.looks.nothing_out m.may.looks.going
       (subst (λ r. IsOfRound floor.chains (config_in floor) r (its_chain floor (lock_queue l.0)))
-      (sym m.may.looks.no_round) tt)
+      (sym m.may.looks.no_round) tt) (wants_none v m.may.looks.no_round)
 
   pub comes_on : IsMutex floor l.0 → (a : Knowledge)
       → Takes floor (its_chain floor (lock_queue l.0)) (chain_place floor (lock_queue l.0)) v a

@@ -6,6 +6,8 @@ pub mod Owned
 pub mod Given
 pub mod There
 pub mod Noting
+pub mod Checked
+pub mod Refused
 pub mod Spun
 pub mod Contended
 pub mod Standing

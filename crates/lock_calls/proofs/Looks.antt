@@ -13,7 +13,7 @@ use Rattle.floor_table.specs.Steps.{Makes, MakesEach, MayMake}
 use Rattle.floor_table.specs.Views.{Knowledge, seeing}
 use Rattle.lock_floor.specs.Passes.{IsAtRest}
 use Rattle.lock_floor.specs.Views.{has_item, counts, looked}
-use Rattle.lock_floor.proofs.May.{BeginsCall, may_look}
+use Rattle.lock_floor.proofs.May.{BeginsCall, WantsItsRound, may_look}
 use Rattle.lock_calls.specs.Waiting.{CanLook, with_looks, HasLooked}
 
 -- 1. Steps one behind the other
@@ -31,9 +31,7 @@ uncounted floor v l no_round =
     ap (λ r. seeks l r && not (has_item v (chain_of v.description.chains (config_in v.description) l))) no_round
 
 module _ (floor : Description) (v : Knowledge) (l : ℕ) (quiet : counts v l ≡ false) where
-  pub look_knows : (word : Word)
-      → looked v l word ≡ with_looks v (suc v.share.doing.looks_in_all) (Some (record { lock = l; word = word }))
-      (Some (record { lock = l; word = word }))
+  pub look_knows : (word : Word) → looked v l word ≡ with_looks v (suc v.share.doing.looks_in_all) (Some (record { lock = l; word = word })) (Some (record { lock = l; word = word }))
   look_knows word =
       let look : Look = record { lock = l; word = word } in
       ap (λ b. record v {
@@ -57,6 +55,10 @@ module _ (floor : Description) (v : Knowledge) (l : ℕ) (quiet : counts v l ≡
     steps = (new, subst (λ b. Makes floor (Looks v.thread l b ∷ []) v new) quiet m, refl);
   }
 
+-- outside its rounds it is in none of another lock
+pub wants_none : (v : Knowledge) → v.share.doing.round ≡ None → WantsItsRound v
+wants_none v none r is blocks = absurd (let z : None ≡ Some r = sym none ∙ is in cc)
+
 -- at a lock that it holds, or by the first exchange of a call
 pub may_look_on : (floor : Description) (v : Knowledge) (l : ℕ) → v.description ≡ floor → l < length floor.locks
     → CanLook v → (hold_in v.share.held l ≡ NotHeld → BeginsCall v)
@@ -65,6 +67,7 @@ may_look_on floor v l mine low k first =
     may_look floor v l mine low k.runs k.nothing_out k.going
     (λ e. absurd (let z : false ≡ true = sym (uncounted floor v l k.no_round) ∙ e in cc))
     (λ ne. absurd (ne k.no_round)) (λ none. k.takes_nothing) (λ none. first)
+    (wants_none v k.no_round)
 
 -- 3. Several
 

@@ -96,13 +96,13 @@ module _ (floor : Description) (l : ℕ) (v : Knowledge) (mutex : IsMutex floor 
     pub may_drop_there : is_drop (word_of seen) ≡ true
         → MayMake floor v (λ s. s.word l ≡ word_of seen) (Drops v.thread l Excl ∷ [])
     may_drop_there stays =
-        may_drop floor v l Excl (word_of seen) mutex.lock m.held stays m.closed m.begun m.runs m.going
+        may_drop floor v l Excl (word_of seen) mutex.lock m.held stays m.closed m.begun m.takes_nothing m.runs m.going
 
     pub may_open_there : is_drop (word_of seen) ≡ false → MayOpenUp floor l (word_of seen) v
     may_open_there opens =
         let w = last_shown (word_of seen) opens in
         may_open_up floor v l Excl (word_of seen) mutex.lock (chains_turnstile floor l mutex) m.held w.0 w.1 m.unmarked
-        m.closed m.begun m.runs m.going m.both
+        m.takes_nothing m.closed m.begun m.runs m.going m.both
 
   -- 3. The mutex is free
 
@@ -123,7 +123,7 @@ module _ (floor : Description) (l : ℕ) (v : Knowledge) (mutex : IsMutex floor 
   pub opened_there : (seen : ℕ) (new : Knowledge) → OpensUp floor l (word_of seen) v new → LetsGo floor l v new
   opened_there seen new o =
       let held : Holds o.mode ≡ Holds Excl =
-      sym o.step.may.0.may.releases.held ∙ held_then floor (Opens v.thread l o.mode ∷ []) v new o.step l ∙ m.held in
+      sym o.step.may.0.fits.may.releases.held ∙ held_then floor (Opens v.thread l o.mode ∷ []) v new o.step l ∙ m.held in
       let same : o.mode ≡ Excl = cc in
       let step : Makes floor (Opens v.thread l Excl ∷ []) v new =
       subst (λ x. Makes floor (Opens v.thread l x ∷ []) v new) same o.step in

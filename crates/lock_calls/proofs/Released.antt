@@ -72,7 +72,7 @@ pub few_threads : (floor : Description) (l : LockNo) (v w : Knowledge) (ticket :
     → w ≡ seeing w.seen (stamped (config_in floor) v (entry_by v.thread ticket (Unlocked l Excl)))
     → Makes floor (Stamps v.thread (Unlocked l Excl) ∷ []) v w → w.thread ≤ 63
 few_threads floor l v w ticket is m =
-    omega (arith, ap (λ (k : Knowledge). k.thread) is, m.may.0.may.thread, m.represents.sizes.sized.threads)
+    omega (arith, ap (λ (k : Knowledge). k.thread) is, m.may.0.fits.may.thread, m.represents.sizes.sized.threads)
 
 -- 2. The exchange
 
@@ -93,7 +93,8 @@ pub may_drop_own : (floor : Description) (l own t : ℕ) (v : Knowledge) → l <
     → word_of own ≡ gained (word_of 0) t Excl → MayPutDown floor l v
     → MayMake floor v (λ s. s.word l ≡ word_of own) (Drops v.thread l Excl ∷ [])
 may_drop_own floor l own t v low is m =
-    may_drop floor v l Excl (word_of own) low m.held (own_drops own t is) m.closed m.begun m.looks.runs m.looks.going
+    may_drop floor v l Excl (word_of own) low m.held (own_drops own t is) m.closed m.begun m.looks.takes_nothing
+    m.looks.runs m.looks.going
 
 -- 3. Where the release stands then
 
@@ -200,13 +201,11 @@ begins floor l ticket old v r held room p u q may is says step word view look no
       call = call_noted u q (calls.Release l Excl ComesTo) noted;
       there = record {
         covered = may.covered;
-        there = subst (IsLeaving floor l.0) same
-            (leaving_missed floor l ticket old v u.view r held room says word view);
+        there = subst (IsLeaving floor l.0) same (leaving_missed floor l ticket old v u.view r held room says word view);
       };
       entry = subst (λ k. MakesEntry floor (Unlocked l Excl) old.share.held old k) same
           (noted_so_far floor l ticket old v u.view r held room says word view step);
-      steps = subst (λ k. MakesEach floor
-          ((Stamps old.thread (Unlocked l Excl) ∷ []) ∷ (Looks old.thread l.0 false ∷ [])
+      steps = subst (λ k. MakesEach floor ((Stamps old.thread (Unlocked l Excl) ∷ []) ∷ (Looks old.thread l.0 false ∷ [])
           ∷ []) old k) same (begin_steps floor l ticket old v u.view r held room says word view step look);
     }
   where

@@ -1,6 +1,6 @@
 -- A take whose thread stands on the lock's turnstile: it makes hop after hop of its walk, and runs again where it was
 -- woken.
-use Rattle.std.proofs.Common.{◌≡◌, ◌≢◌, ℕ, ◌<◌, ◌≤◌, Bool, [], ◌∷◌, length, refl, sym, ap, ◌∙◌, subst, inl, arith}
+use Rattle.std.proofs.Common.{◌≡◌, ◌≢◌, ℕ, ◌<◌, ◌≤◌, Bool, [], ◌∷◌, length, refl, sym, ap, ◌∙◌, subst, arith}
 use Rattle.lock_model.specs.Operations.{hold_in}
 use Rattle.lock_model.specs.Queues.{Cause, BySignal, lock_queue}
 use Rattle.lock_model.specs.declared.numbers.LockNo.{LockNo}
@@ -142,7 +142,7 @@ by_signal : (floor : Description) (l : ℕ) → IsMutex floor l → (old new : K
 unfolding WakesFitQueues
 by_signal floor l mutex old new q cause is m =
     m.sound.turnstiles.wakes_fit_queues old.thread (lock_queue l) cause
-    (subst (λ r. m.state.wait old.thread ≡ Woken r cause) is m.may.0.may.woken) (chains_turnstile floor l mutex)
+    (subst (λ r. m.state.wait old.thread ≡ Woken r cause) is m.may.0.fits.may.woken) (chains_turnstile floor l mutex)
 
 module _ (floor : Description) (l : LockNo) (mutex : IsMutex floor l.0) (z : Knowledge)
     (m : IsStanding l.0 walk.None z) (can : CanWalk floor z) (calls : IsCalling floor (kept_of z)) where
@@ -180,8 +180,9 @@ module _ (floor : Description) (l : LockNo) (mutex : IsMutex floor l.0) (z : Kno
         record {
           unheld = ap (λ (k : Knowledge). hold_in k.share.held l.0) resumed_is ∙ m.unheld;
           few = subst (λ hs. length hs < 8) (sym (ap (λ (k : Knowledge). k.share.held) resumed_is)) m.few;
-          wants = inl (ap (λ (k : Knowledge). k.share.doing.wanted) resumed_is ∙ m.wants);
+          wants = ap (λ (k : Knowledge). k.share.doing.wanted) resumed_is ∙ m.wants;
           takes = ap (λ (k : Knowledge). k.share.doing.taking) resumed_is ∙ m.takes;
+          unnoted = ap (λ (k : Knowledge). k.share.doing.noted) resumed_is ∙ calls.unnoted;
           round = ap (λ (k : Knowledge). k.share.doing.round) resumed_is ∙ ap round_for m.wants;
           no_walk = ap (λ (k : Knowledge). k.share.doing.walk) resumed_is ∙ sym m.walk_is;
           runs = ap (λ (k : Knowledge). k.pose) resumed_is;

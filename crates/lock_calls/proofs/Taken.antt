@@ -1,21 +1,23 @@
 -- A take from its begin on: what the thread has made so far where the take stands, and that its parts together are a
 -- take.
-use Rattle.std.proofs.Common.{◌≡◌, ℕ, zero, suc, ◌+◌, ◌≤◌, true, false, List, [], ◌∷◌, ◌++◌, length, replicate, refl, sym, ap, ◌∙◌, subst, inl, inr, arith}
+use Rattle.std.proofs.Common.{◌≡◌, ℕ, zero, suc, ◌+◌, ◌≤◌, true, false, List, [], ◌∷◌, ◌++◌, length, replicate, append_assoc, None, refl, sym, ap, ◌∙◌, subst, inl, inr, arith}
 use Rattle.std.proofs.lemmas.List.{replicate-append-replicate}
 use Rattle.lock_model.specs.Queues.{BySignal, lock_queue}
 use Rattle.lock_model.specs.declared.event.Event.{Event}
+use Rattle.lock_model.specs.declared.event.Reversal.{Reversal}
 use Rattle.lock_model.specs.declared.numbers.LockNo.{LockNo}
 use Rattle.lock_model.specs.declared.plan.Mode.{Mode}
 use Rattle.lock_objects.specs.Represents.{walk_of}
 use Rattle.lock_state.specs.State.{Walk, NoWalk, AtLock, AtThread}
-use Rattle.lock_state.specs.Steps.{Step, Looks, Gains, Enters, Readies, Resumes, Stamps, TakesItem}
-use Rattle.lock_state.specs.Steps.Items.{RecordOf}
+use Rattle.lock_state.specs.Steps.{Step, Seeks, Looks, Gains, Admits, Refuses, Enters, Readies, Resumes, Stamps, TakesItem}
+use Rattle.lock_state.specs.Steps.Items.{RecordOf, ClassGraph}
 use Rattle.floor_table.specs.declared.description.Description.{Description}
 use Rattle.floor_table.specs.Steps.{Makes, MakesEach}
 use Rattle.floor_table.specs.Views.{Knowledge, seeing}
 use Rattle.lock_floor.specs.declared.calls.TakeAt.{TakeAt}
-use Rattle.lock_floor.specs.declared.calls.TakeAt.TheVariants.{Spins, ComesIn, Contends, Walks, Hops}
+use Rattle.lock_floor.specs.declared.calls.TakeAt.TheVariants.{Checks, Spins, ComesIn, Contends, Walks, Hops}
 use Rattle.lock_floor.specs.Latches.{Takes}
+use Rattle.lock_floor.specs.Ordering.{checks}
 use Rattle.lock_floor.specs.Passes.{MakesEntry}
 use Rattle.lock_floor.specs.Views.{entry_by}
 use Rattle.lock_floor.specs.Waits.{its_chain}
@@ -25,10 +27,11 @@ use Rattle.lock_floor.proofs.Resuming.{waits_queued}
 use Rattle.lock_floor.proofs.Taking.{HasWaited, waits_none, waits_on}
 use Rattle.lock_floor.proofs.WalkHops.{hops_all}
 use Rattle.lock_calls.specs.Steps as steps
-use Rattle.lock_calls.specs.Steps.{as_taken, begins_round, comes_there, gives_both, runs_on, enters_there, gains_there, ComesToRound, Locks}
-use Rattle.lock_calls.specs.Takes.{IsTaking, IsUnderTake, TakesOn, TakeLeg, TakeEnd, looks, takes_chain, comes_in, looks_there, enters, takes_turnstiles, hops, resumes, finds_out, is_queued, in_round, in_section}
+use Rattle.lock_calls.specs.Steps.{as_taken, begins_round, gains_at_once, refuses, comes_there, gives_both, runs_on, enters_there, gains_there, ComesToRound, Locks}
+use Rattle.lock_calls.specs.Takes.{IsTaking, IsUnderTake, TakesOn, TakeLeg, TakeEnd, IsRefused, admitted, at_check, looks, takes_chain, comes_in, looks_there, enters, takes_turnstiles, hops, resumes, finds_out, is_queued, in_round, in_section}
 use Rattle.lock_calls.specs.Waiting.{Kept, kept_of, IsCalling}
 use Rattle.lock_calls.proofs.Looks.{each_append}
+use Rattle.lock_calls.proofs.Refused.{bare_admitted}
 use Rattle.lock_calls.proofs.Standing.{walk_still}
 use Rattle.lock_calls.proofs.Waited.{makes_sooner, each_sooner, takes_sooner, before_waiting}
 
@@ -82,8 +85,16 @@ pub record HasBegunHop (floor : Description) (l : ℕ) (mode : Mode) (begun now 
   pub can : CanWalk floor before
   pub taken : Takes floor turnstiles (turnstiles_place floor) before now
 
--- so wherever it stands
+-- its first exchange missed, where it holds nothing, or it made none
+pub record HasLookedFirst (floor : Description) (l : ℕ) (begun now : Knowledge) : Type 0 where
+  pub missed : ℕ
+  pub once : missed ≤ 1
+  pub bare : 1 ≤ missed → begun.share.held ≡ []
+  pub each : MakesEach floor (replicate missed (Looks begun.thread l false ∷ [])) begun now
+
+-- so at each place
 abbrev pub HasCome : Description → ℕ → Mode → Knowledge → TakeAt → Knowledge → Type 0
+HasCome floor l mode begun Checks now = HasLookedFirst floor l begun now
 HasCome floor l mode begun (Spins left) now =
     (r : HasLookedInRound floor l mode begun now) × (all_looks r + (left + left) ≤ 100)
 HasCome floor l mode begun ComesIn now = HasTakenChain floor l mode begun now
@@ -128,19 +139,16 @@ hops_sooner floor w old mid new h x = record {
 
 -- 2. The begin
 
-pub begins_at : (floor : Description) (l : ℕ) (mode : Mode) (begun now : Knowledge) (left missed : ℕ) → left ≤ 49
-    → missed ≤ 1 → (1 ≤ missed → begun.share.held ≡ []) → MakesEach floor (begins_round begun.thread l missed) begun now
-    → IsAt floor l mode begun (Spins left) now
-begins_at floor l mode begun now left missed few once bare each = record {
+pub begins_at : (floor : Description) (l : ℕ) (mode : Mode) (begun now : Knowledge) (missed : ℕ) → missed ≤ 1
+    → (1 ≤ missed → begun.share.held ≡ []) → MakesEach floor (replicate missed (Looks begun.thread l false ∷ [])) begun now
+    → IsAt floor l mode begun Checks now
+begins_at floor l mode begun now missed once bare each = record {
   came = now;
-  has_come = (
-    record { before = missed + 1; round = now; comes = steps.begins missed once bare each; n = 0; each = refl },
-    omega (arith, few, once),
-  );
+  has_come = record { missed = missed; once = once; bare = bare; each = each };
   waited = waits_none now;
 }
 
--- 3. From there to where it stands next
+-- 3. From one place to the next
 
 module _ (floor : Description) (l : LockNo) (mode : Mode) (begun : Knowledge) where
   abbrev look : List Step
@@ -193,6 +201,33 @@ module _ (floor : Description) (l : LockNo) (mode : Mode) (begun : Knowledge) wh
 
     pub goes_on : (at to : TakeAt) → IsTaking floor l.0 at now → IsAt floor l.0 mode begun at now
         → TakeLeg floor l mode at to now new → IsAt floor l.0 mode begun to new
+    goes_on at to there h (admitted left few each) =
+        let c = h.has_come in
+        let round : List (List Step) = (Seeks begun.thread l.0 false ∷ look) ∷ [] in
+        let made : MakesEach floor (checks begun.thread l.0 None ++ round) h.came new =
+        each_sooner floor (TakesItem begun.thread ClassGraph ∷ []) ((Admits begun.thread l.0 ∷ []) ∷ round) h.came now new
+        h.waited
+        (subst (λ t. MakesEach floor (checks t l.0 None ++ (Seeks t l.0 false ∷ Looks t l.0 true ∷ []) ∷ []) now new) its
+        each) in
+        let all : MakesEach floor (begins_round begun.thread l.0 c.missed) begun new =
+        subst (λ xs. MakesEach floor xs begun new)
+        (sym (append_assoc (replicate c.missed look_there) (checks begun.thread l.0 None) round))
+        (each_append floor (replicate c.missed look_there) (checks begun.thread l.0 None ++ round) begun h.came new c.each
+        made) in
+        record {
+          came = new;
+          has_come = (
+            record {
+              before = c.missed + 1;
+              round = new;
+              comes = steps.begins c.missed c.once c.bare all;
+              n = 0;
+              each = refl;
+            },
+            omega (arith, few, c.once),
+          );
+          waited = waits_none new;
+        }
     goes_on at to there h (looks left t n less one two each) =
         let made : MakesEach floor (replicate n look) h.came new =
         looks_sooner n h.came now new one h.waited
@@ -209,8 +244,7 @@ module _ (floor : Description) (l : LockNo) (mode : Mode) (begun : Knowledge) wh
         looked = h.came;
         rounds = h.has_come.0;
         few = omega (arith, h.has_come.1);
-        took = makes_sooner floor (TakesItem begun.thread (its_chain floor (lock_queue l.0)) ∷ []) h.came now new
-            h.waited
+        took = makes_sooner floor (TakesItem begun.thread (its_chain floor (lock_queue l.0)) ∷ []) h.came now new h.waited
             (subst (λ t. Makes floor (TakesItem t (its_chain floor (lock_queue l.0)) ∷ []) now new) its step);
       };
       waited = waits_none new;
@@ -243,10 +277,8 @@ module _ (floor : Description) (l : LockNo) (mode : Mode) (begun : Knowledge) wh
       waited = waits_none new;
     }
     goes_on at to there h (enters seen x w each) =
-        let made : MakesEach floor ((Enters begun.thread l.0 mode x ∷ []) ∷ gives_both floor begun.thread l.0) h.came
-        new =
-        each_sooner floor (Enters begun.thread l.0 mode x ∷ []) (gives_both floor begun.thread l.0) h.came now new
-        h.waited
+        let made : MakesEach floor ((Enters begun.thread l.0 mode x ∷ []) ∷ gives_both floor begun.thread l.0) h.came new =
+        each_sooner floor (Enters begun.thread l.0 mode x ∷ []) (gives_both floor begun.thread l.0) h.came now new h.waited
         (subst (λ t. MakesEach floor ((Enters t l.0 mode x ∷ []) ∷ gives_both floor t l.0) now new) its each) in
         let c = h.has_come in
         let behind_looks : MakesEach floor
@@ -337,8 +369,28 @@ module _ (floor : Description) (l : LockNo) (mode : Mode) (begun : Knowledge) wh
 
     -- 5. The end
 
-    pub ends : (at : TakeAt) → IsAt floor l.0 mode begun at now → TakeEnd floor l mode at now new
-        → Locks floor l mode begun new
+    pub ends : (at : TakeAt) → IsAt floor l.0 mode begun at now → TakeEnd floor l mode at now new → Locks floor l mode begun new
+    ends at h (at_check each) =
+        let c = h.has_come in
+        let gain : List Step = gains_at_once begun.thread l.0 mode in
+        let stamp : List Step = Stamps begun.thread (Event.Locked l mode) ∷ [] in
+        let made : MakesEach floor (checks begun.thread l.0 None ++ gain ∷ stamp ∷ []) h.came new =
+        each_sooner floor (TakesItem begun.thread ClassGraph ∷ []) ((Admits begun.thread l.0 ∷ []) ∷ gain ∷ stamp ∷ [])
+        h.came now new h.waited
+        (subst (λ t. MakesEach floor (checks t l.0 None ++ gains_at_once t l.0 mode
+        ∷ (Stamps t (Event.Locked l mode) ∷ []) ∷ []) now new) its each) in
+        let behind = made.2.2 in
+        let checked : MakesEach floor (checks begun.thread l.0 None ++ gain ∷ []) h.came behind.0 =
+        (made.0, made.1, (made.2.0, made.2.1, (behind.0, behind.1, refl))) in
+        record {
+          gained = behind.0;
+          gains = steps.checked c.missed c.once c.bare
+              (subst (λ xs. MakesEach floor xs begun behind.0)
+              (sym (append_assoc (replicate c.missed look_there) (checks begun.thread l.0 None) (gain ∷ [])))
+              (each_append floor (replicate c.missed look_there) (checks begun.thread l.0 None ++ gain ∷ []) begun h.came
+              behind.0 c.each checked));
+          notes = last_step stamp behind.0 new behind.2;
+        }
     ends at h (in_round left some each) =
         let made : MakesEach floor (look ∷ (Gains begun.thread l.0 mode false ∷ [])
         ∷ (Stamps begun.thread (Event.Locked l mode) ∷ []) ∷ []) h.came new =
@@ -370,8 +422,7 @@ module _ (floor : Description) (l : LockNo) (mode : Mode) (begun : Knowledge) wh
         let on : MakesEach floor (runs_on floor begun.thread l.0) made.0 chain_back.0 =
         (ran.0, ran.1, (record_back.0, record_back.1, (chain_back.0, chain_back.1, refl))) in
         let gain : MakesEach floor (replicate c.m look_there ++ (Gains begun.thread l.0 mode false ∷ []) ∷ []) c.there
-        made.0 = each_append floor (replicate c.m look_there) ((Gains begun.thread l.0 mode false ∷ []) ∷ []) c.there
-        h.came
+        made.0 = each_append floor (replicate c.m look_there) ((Gains begun.thread l.0 mode false ∷ []) ∷ []) c.there h.came
         made.0 c.each (made.0, made.1, refl) in
         let there : MakesEach floor (gains_there floor begun.thread l.0 mode c.m) c.looked chain_back.0 =
         each_append floor (comes_there floor begun.thread l.0)
@@ -418,3 +469,43 @@ under_take_on floor l mode at to old new u on = record {
   room = omega (arith, u.room, ap (λ (k : Kept). k.spare) on.kept);
   there = on.there;
 }
+
+-- so is that of a refusal, before which the thread made no exchange, since it holds a lock
+pub refused_since : (floor : Description) (l : LockNo) (mode : Mode) (begun now new : Knowledge) (r : Reversal)
+    → kept_of now ≡ kept_of begun → IsAt floor l.0 mode begun Checks now → IsRefused floor l r now new
+    → IsRefused floor l r begun new
+refused_since floor l mode begun now new r kept h x =
+    let e = x.entry in
+    record {
+      wanted = x.wanted;
+      rest = x.rest;
+      entry = record {
+        ticket = e.ticket;
+        log = e.log ∙ ap (λ (k : Kept). entry_by k.thread e.ticket (Event.Reversed l r.held) ∷ k.log) kept;
+        held = e.held ∙ ap (λ (k : Kept). k.held) kept;
+        spare = e.spare ∙ ap (λ (k : Kept). k.spare) kept;
+        thread = e.thread ∙ ap (λ (k : Kept). k.thread) kept;
+        before = e.before;
+        behind = e.behind;
+        of = e.of ∙ ap (λ (k : Kept). k.thread) kept;
+        step = subst (λ t. Makes floor (Stamps t (Event.Reversed l r.held) ∷ []) e.before e.behind)
+            (ap (λ (k : Kept). k.thread) kept) e.step;
+        log_before = e.log_before ∙ ap (λ (k : Kept). k.log) kept;
+        log_behind = e.log_behind;
+      };
+      steps = go h.has_come.missed h.has_come.bare h.has_come.each;
+    }
+  where
+    made : MakesEach floor (refuses begun.thread l r.held) h.came new
+    made =
+        each_sooner floor (TakesItem begun.thread ClassGraph ∷ [])
+        ((Refuses begun.thread l.0 r.held.0 ∷ []) ∷ (Stamps begun.thread (Event.Reversed l r.held) ∷ []) ∷ []) h.came now
+        new h.waited
+        (subst (λ t. MakesEach floor (refuses t l r.held) now new) (ap (λ (k : Kept). k.thread) kept) x.steps)
+
+    go : (n : ℕ) → (1 ≤ n → begun.share.held ≡ [])
+        → MakesEach floor (replicate n (Looks begun.thread l.0 false ∷ [])) begun h.came
+        → MakesEach floor (refuses begun.thread l r.held) begun new
+    go zero bare none = subst (λ k. MakesEach floor (refuses begun.thread l r.held) k new) (sym none) made
+    go (suc n) bare looked =
+        absurd (bare_admitted floor l r.held now new (ap (λ (k : Kept). k.held) kept ∙ bare (omega arith)) x.steps)

@@ -1,5 +1,5 @@
 -- A blocking call in the section of the lock's chain: what allows its steps there, and what each leaves.
-use Rattle.std.proofs.Common.{◌≡◌, ◌≢◌, ◌⊎◌, ℕ, ◌<◌, ◌≤◌, Bool, true, false, cond, not, ◌&&◌, Option, Some, None, [], ◌∷◌, length, refl, sym, ap, ◌∙◌, subst, eq-eqb}
+use Rattle.std.proofs.Common.{◌≡◌, ◌≢◌, ℕ, ◌<◌, ◌≤◌, Bool, true, false, cond, not, ◌&&◌, Option, Some, None, [], ◌∷◌, length, refl, sym, ap, ◌∙◌, subst, inl, eq-eqb}
 use Rattle.std.proofs.lemmas.Option.{same_Some}
 use Rattle.lock_model.specs.Operations.{hold_in}
 use Rattle.lock_model.specs.Queues.{lock_queue}
@@ -31,20 +31,21 @@ use Rattle.lock_floor.proofs.Taking.{record_at}
 use Rattle.lock_calls.specs.Steps.{IsMutex}
 use Rattle.lock_calls.specs.Takes.{HasChainOut, IsContending}
 use Rattle.lock_calls.specs.Waiting.{kept_of, IsCalling, IsSeeking, HasLooked, IsThere, Saw, MissesThere}
-use Rattle.lock_calls.proofs.Attempts.{plainly}
+use Rattle.lock_calls.proofs.Attempts.{plainly, unhalted, wants_it}
 use Rattle.lock_calls.proofs.Words.{word_seen, saw_held}
 use Rattle.lock_calls.proofs.Looks.{look_once}
 use Rattle.lock_calls.proofs.Owned.{chains_turnstile}
 
 -- 1. The way there
 
--- the thread is so wherever the take stands, whatever others did
+-- the thread is so at each place of a take, whatever others did
 pub seeking_still : (l : ℕ) (v w : Knowledge) → w ≡ seeing w.seen v → IsSeeking l v → IsSeeking l w
 seeking_still l v w view m = subst (IsSeeking l) (sym view) record {
   unheld = m.unheld;
   few = m.few;
   wants = m.wants;
   takes = m.takes;
+  unnoted = m.unnoted;
   round = m.round;
   no_walk = m.no_walk;
   runs = m.runs;
@@ -72,7 +73,7 @@ module _ (floor : Description) (l : ℕ) (v : Knowledge) (m : IsSeeking l v) whe
   may_take_in_round =
       wait.may_take_chain floor v (lock_queue l) m.runs m.nothing_out m.going
       (subst (λ r. IsOfRound floor.chains (config_in floor) r (its_chain floor (lock_queue l))) (sym m.round)
-      (λ e. refl))
+      (λ e. refl)) (wants_it floor l v m)
 
   -- the chain was taken
   pub has_chain : IsMutex floor l → (a : Knowledge)
@@ -82,8 +83,7 @@ module _ (floor : Description) (l : ℕ) (v : Knowledge) (m : IsSeeking l v) whe
       record {
         unheld = ap (λ (k : Knowledge). hold_in k.share.held l) one.view ∙ m.unheld;
         few = subst (λ hs. length hs < 8) (sym (ap (λ (k : Knowledge). k.share.held) one.view)) m.few;
-        wants = subst (λ o. (o ≡ Some l) ⊎ (o ≡ None)) (sym (ap (λ (k : Knowledge). k.share.doing.wanted) one.view))
-            m.wants;
+        wants = ap (λ (k : Knowledge). k.share.doing.wanted) one.view ∙ m.wants;
         takes = ap (λ (k : Knowledge). k.share.doing.taking) one.view ∙ m.takes;
         round = ap (λ (k : Knowledge). k.share.doing.round) one.view
             ∙ ap (λ x. cond x (in_its_chain v.share.doing.round) v.share.doing.round)
@@ -145,8 +145,7 @@ module _ (floor : Description) (l : ℕ) (a : Knowledge) (m : HasChainOut floor 
           record {
             unheld = ap (λ (k : Knowledge). hold_in k.share.held l) ready_is ∙ m.unheld;
             few = subst (λ hs. length hs < 8) (sym (ap (λ (k : Knowledge). k.share.held) ready_is)) m.few;
-            wants = subst (λ o. (o ≡ Some l) ⊎ (o ≡ None))
-                (sym (ap (λ (k : Knowledge). k.share.doing.wanted) ready_is)) m.wants;
+            wants = ap (λ (k : Knowledge). k.share.doing.wanted) ready_is ∙ m.wants;
             takes = ap (λ (k : Knowledge). k.share.doing.taking) ready_is ∙ m.takes;
             round = ap (λ (k : Knowledge). k.share.doing.round) ready_is ∙ m.round;
             no_walk = ap (λ (k : Knowledge). k.share.doing.walk) ready_is ∙ m.no_walk;
@@ -227,8 +226,7 @@ module _ (floor : Description) (l : ℕ) (v : Knowledge) (mutex : IsMutex floor 
 
     pub may_look_in_section : MayMake floor v (λ s. Unit {0}) (Looks v.thread l (counts v l) ∷ [])
     may_look_in_section =
-        wait.may_look_there floor v l (Record m.both.box) (Turnstiles m.both.chain) m.both.out mutex.lock going
-        no_sleeper
+        wait.may_look_there floor v l (Record m.both.box) (Turnstiles m.both.chain) m.both.out mutex.lock going no_sleeper
         k.description of_round
 
     -- 3. The gain
@@ -236,13 +234,13 @@ module _ (floor : Description) (l : ℕ) (v : Knowledge) (mutex : IsMutex floor 
     pub may_gain_in_section : Saw l (word_of 0) v
         → MayMake floor v (λ s. s.word l ≡ word_of 0) (Gains v.thread l Excl false ∷ [])
     may_gain_in_section saw =
-        wait.may_gain_there floor v l (Record m.both.box) (Turnstiles m.both.chain) m.both.out mutex.lock going
-        no_sleeper
-        Excl false (word_of 0) refl (plainly ((config_in floor).kind l) mutex.kind) m.unheld m.wants of_round
+        wait.may_gain_there floor v l (Record m.both.box) (Turnstiles m.both.chain) m.both.out mutex.lock going no_sleeper
+        Excl false (word_of 0) refl (plainly ((config_in floor).kind l) mutex.kind) m.unheld (inl m.wants) of_round
         (subst (λ r. FitsRound r l false) (sym m.round) (refl, refl))
         (λ w e. ap (λ (x : Word). admits ((config_in floor).kind l) x Excl)
         (word_seen l (word_of 0) w (sym saw.there ∙ e)))
-        (λ j e. same_Some j l (sym e ∙ m.takes)) (λ e. m.takes) (ap is_off_queues m.ready)
+        (λ j e. same_Some j l (sym e ∙ m.takes)) (λ e. m.takes) (λ e. inl m.wants) (unhalted v k.unnoted)
+        (ap is_off_queues m.ready)
 
     -- 4. The enter
 
@@ -250,8 +248,7 @@ module _ (floor : Description) (l : ℕ) (v : Knowledge) (mutex : IsMutex floor 
         → MayMake floor v (λ s. s.word l ≡ word_of seen) (Enters v.thread l Excl m.turnstile ∷ [])
     may_enter_in_section seen saw held =
         wait.may_enter_there floor v l m.both.box (Turnstiles m.both.chain) m.both.out mutex.lock going no_sleeper Excl
-        m.turnstile (word_of seen) held held (chains_turnstile floor l mutex) (λ e. refl) m.lent m.ready m.wants
-        m.no_walk
+        m.turnstile (word_of seen) held held (chains_turnstile floor l mutex) (λ e. refl) m.lent m.ready m.wants m.no_walk
         k.sections saw.last m.round
 
   pub missed_there : (found : ℕ) (w : Knowledge) → IsWellFormed (word_of found)
@@ -290,8 +287,7 @@ saw_word floor l v w word view = record {
 
 -- behind a look it contends there
 pub contends : (floor : Description) (l found : ℕ) (v w : Knowledge) → IsMutex floor l → v.description ≡ floor
-    → 1 ≤ floor.chains → IsThere floor l v → IsWellFormed (word_of found)
-    → w ≡ seeing w.seen (looked v l (word_of found))
+    → 1 ≤ floor.chains → IsThere floor l v → IsWellFormed (word_of found) → w ≡ seeing w.seen (looked v l (word_of found))
     → Makes floor (Looks v.thread l (counts v l) ∷ []) v w → IsContending floor l found w
 contends floor l found v w mutex mine some_chains m formed view step = record {
   there = there_on floor l 1 v w m

@@ -1,5 +1,5 @@
--- A release as a call that is begun and gone on with: what the thread knows wherever the release stands, what it does
--- from there on, and how the release ends. It is noted at its begin.
+-- A release as a call that stands at places: what the thread knows at each, what it does from one to the next, and how
+-- the release ends. It is noted at its begin.
 use Rattle.std.specs.Prelude.{◌≡◌, ℕ, ◌<◌, Bool, false, List, [], ◌∷◌, length}
 use Rattle.lock_model.specs.Holds.{NotHeld}
 use Rattle.lock_model.specs.Operations.{hold_in, without_lock}
@@ -27,11 +27,11 @@ use Rattle.lock_floor.specs.Passes.{IsAtRest, MakesEntry}
 use Rattle.lock_floor.specs.Views.{put_down}
 use Rattle.lock_floor.specs.Waits.{its_chain, chain_place}
 use Rattle.lock_calls.specs.declared.answers.Next.{Next}
-use Rattle.lock_calls.specs.declared.answers.Next.TheVariants.{Done, Again, Sleep, Wake}
+use Rattle.lock_calls.specs.declared.answers.Next.TheVariants.{Done, Again, Sleep, Wake, Reversed}
 use Rattle.lock_calls.specs.Steps.{IsCovered, AtOnce, frees, gives_both, unlocks}
 use Rattle.lock_calls.specs.Waiting.{MayPutDown, IsOwn, with_none_out}
 
--- 1. What the thread knows, wherever the release stands
+-- 1. What the thread knows at each place
 
 -- it may put the lock down, and is at rest once it doesn't hold it
 pub record IsLeaving (floor : Description) (l : ℕ) (v : Knowledge) : Type 0 where
@@ -50,7 +50,7 @@ pub record LeavesWithBoth (floor : Description) (l seen : ℕ) (v : Knowledge) :
   pub both : HasBothOut floor l v
   pub own : IsOwn v.thread seen
 
--- so wherever it stands; behind the release the thread is at rest, but for those whom it has yet to wake
+-- so at each place; behind the release it is at rest, but for those whom it has yet to wake
 abbrev pub IsReleasing : Description → ℕ → ReleaseAt → Knowledge → Type 0
 IsReleasing floor l ComesTo v = IsLeaving floor l v
 IsReleasing floor l ComesIn v = LeavesWithChain floor l v
@@ -71,7 +71,7 @@ pub record IsInRelease (floor : Description) (p : Pass Knowledge) : Type 0 where
   pub call : p.call ≡ calls.Release l mode at
   pub there : IsUnderRelease floor l mode at p.view
 
--- 2. What it does from there to where the release stands next
+-- 2. What it does from one place to the next
 
 -- what stays once the release is noted
 pub record Noted : Type 0 where
@@ -131,6 +131,7 @@ WakesNext floor Again old new =
     (m : Mark) × (ms : List Mark) × (old.share.doing.marked ≡ m ∷ ms)
     × (new ≡ seeing new.seen old) × FindsOut floor (RecordOf m.thread) old new
 WakesNext floor Sleep old new = ⊥
+WakesNext floor (Reversed r) old new = ⊥
 WakesNext floor (Wake t) old new = (t.0 < length floor.threads) × WakesFirst floor t.0 old new
 
 -- it is noted, and the lock was put down by one exchange
@@ -147,8 +148,7 @@ pub record BeginsRelease (floor : Description) (l : LockNo) (mode : Mode) (p q :
   pub there : IsUnderRelease floor l mode ComesTo q.view
   pub entry : MakesEntry floor (Event.Unlocked l mode) p.view.share.held p.view q.view
   pub steps : MakesEach floor
-      ((Stamps p.view.thread (Event.Unlocked l mode) ∷ [])
-      ∷ (Looks p.view.thread l.0 false ∷ []) ∷ [])
+      ((Stamps p.view.thread (Event.Unlocked l mode) ∷ []) ∷ (Looks p.view.thread l.0 false ∷ []) ∷ [])
       p.view q.view
 
 -- a release has begun: the lock is put down at once, or the release is under way
@@ -159,6 +159,7 @@ HasBegunRelease floor l mode Done p q =
 HasBegunRelease floor l mode Again p q = BeginsRelease floor l mode p q
 HasBegunRelease floor l mode Sleep p q = ⊥
 HasBegunRelease floor l mode (Wake t) p q = ⊥
+HasBegunRelease floor l mode (Reversed r) p q = ⊥
 
 -- the release went on from there, and stands somewhere
 pub record StandsInRelease (floor : Description) (l : LockNo) (mode : Mode) (at : ReleaseAt)
@@ -191,3 +192,4 @@ GoesOnReleasing floor l mode at Done p q = EndsRelease floor at p q
 GoesOnReleasing floor l mode at Again p q = StandsInRelease floor l mode at p q
 GoesOnReleasing floor l mode at Sleep p q = ⊥
 GoesOnReleasing floor l mode at (Wake t) p q = WakesOne floor l mode at t.0 p q
+GoesOnReleasing floor l mode at (Reversed r) p q = ⊥

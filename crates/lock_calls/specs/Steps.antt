@@ -1,11 +1,12 @@
 -- Which locks the calls of this crate are for, and the steps that a take and a release make.
-use Rattle.std.specs.Prelude.{◌≡◌, ℕ, ◌+◌, ◌<◌, ◌≤◌, Bool, true, false, List, [], ◌∷◌, ◌++◌, length, replicate}
+use Rattle.std.specs.Prelude.{◌≡◌, ℕ, ◌+◌, ◌<◌, ◌≤◌, Bool, true, false, List, [], ◌∷◌, ◌++◌, length, replicate, Some, None}
 use Rattle.lock_model.specs.Queues.{BySignal, Mark, lock_queue}
 use Rattle.lock_model.specs.Holds.{NotHeld, Holds}
 use Rattle.lock_model.specs.Limits.{most_held}
 use Rattle.lock_model.specs.Operations.{hold_in}
 use Rattle.lock_model.specs.declared.event.Event.{Event}
 use Rattle.lock_model.specs.declared.event.Held.{Held}
+use Rattle.lock_model.specs.declared.numbers.ClassNo.{ClassNo}
 use Rattle.lock_model.specs.declared.numbers.LockNo.{LockNo}
 use Rattle.lock_model.specs.declared.plan.Kind.TheVariants.{Mtx}
 use Rattle.lock_model.specs.declared.plan.Mode.{Mode}
@@ -17,6 +18,7 @@ use Rattle.floor_table.specs.declared.description.Description.{Description}
 use Rattle.floor_table.specs.Steps.{Makes, MakesEach}
 use Rattle.floor_table.specs.Views.{Knowledge}
 use Rattle.lock_floor.specs.Marks.{marking}
+use Rattle.lock_floor.specs.Ordering.{checks}
 use Rattle.lock_floor.specs.Waits.{its_chain}
 use Rattle.lock_floor.specs.Walks.{Walks}
 
@@ -55,10 +57,14 @@ as_taken l mode = record { l = l; mode = mode; by_try = false }
 abbrev pub gains_at_once : ℕ → ℕ → Mode → List Step
 gains_at_once t l mode = Seeks t l false ∷ Gains t l mode false ∷ []
 
--- behind so many first exchanges that missed outside a round, a round begins with a look
+-- behind so many first exchanges that missed outside a round, the lock's order is checked
+abbrev pub checks_behind : ℕ → ℕ → ℕ → List (List Step)
+checks_behind t l missed = replicate missed (Looks t l false ∷ []) ++ checks t l None
+
+-- then a round begins with a look
 abbrev pub begins_round : ℕ → ℕ → ℕ → List (List Step)
 begins_round t l missed =
-    replicate missed (Looks t l false ∷ []) ++ (Seeks t l false ∷ Looks t l true ∷ []) ∷ []
+    checks_behind t l missed ++ (Seeks t l false ∷ Looks t l true ∷ []) ∷ []
 
 -- in the round so many looks come, and then the gain
 abbrev pub in_its_round : ℕ → ℕ → Mode → ℕ → List (List Step)
@@ -101,10 +107,10 @@ pub record Sleeps (floor : Description) (l : ℕ) (old new : Knowledge) : Type 0
   pub walk : Walks floor old walked
   pub resume : Makes floor (Resumes old.thread (lock_queue l) BySignal ∷ []) walked new
 
--- How a take comes to be in an acquiring round, with so many looks so far: behind its first exchange, which missed;
--- where that one was made outside the round, it was the one look there, and the thread holds nothing. Or behind a
--- sleep, once a round has ended with an enter. From the begin or a sleep to the taking of the chain a round has at
--- most 100 looks, with the exchanges that missed
+-- How a take comes to be in an acquiring round, with so many looks so far: once its lock's order was checked. A thread
+-- that holds nothing makes its first exchange before that, outside the round, and it missed. Or behind a sleep, once a
+-- round has ended with an enter. From the begin or a sleep to the taking of the chain a take makes at most 100 looks,
+-- with the exchanges that missed
 pub data ComesToRound (floor : Description) (l : ℕ) (mode : Mode) : ℕ → Knowledge → Knowledge
     → Type 0 where
   begins : {old new : Knowledge} (missed : ℕ) → missed ≤ 1 → (1 ≤ missed → old.share.held ≡ [])
@@ -116,11 +122,17 @@ pub data ComesToRound (floor : Description) (l : ℕ) (mode : Mode) : ℕ → Kn
       (replicate n (Looks old.thread l true ∷ []) ++ enters_there floor old.thread l mode m x) u v
       → Sleeps floor l v new → ComesToRound floor l mode 0 old new
 
--- How a take gains: by its first exchange; in a round, behind at most 100 looks; or in the section of the lock's chain,
--- which it takes behind at most 100 looks. So a chain that it took goes home only behind a gain or an enter
+-- How a take gains: by the first exchange of a thread that holds nothing; by the first one of its round, once its
+-- lock's order was checked; in a round, behind at most 100 looks; or in the section of the lock's chain, which it takes
+-- behind at most 100 looks. So a chain that it took goes home only behind a gain or an enter
 pub data Acquires (floor : Description) (l : ℕ) (mode : Mode) : Knowledge → Knowledge → Type 0
   where
-    at_once : {old new : Knowledge} → MakesEach floor (gains_at_once old.thread l mode ∷ []) old new
+    at_once : {old new : Knowledge} → old.share.held ≡ []
+        → MakesEach floor (gains_at_once old.thread l mode ∷ []) old new
+        → Acquires floor l mode old new
+    checked : {old new : Knowledge} (missed : ℕ) → missed ≤ 1 → (1 ≤ missed → old.share.held ≡ [])
+        → MakesEach floor
+        (checks_behind old.thread l missed ++ gains_at_once old.thread l mode ∷ []) old new
         → Acquires floor l mode old new
     in_round : {old u new : Knowledge} (looks n : ℕ) → ComesToRound floor l mode looks old u
         → looks + n ≤ 100 → MakesEach floor (in_its_round old.thread l mode n) u new
@@ -137,6 +149,10 @@ pub record Locks (floor : Description) (l : LockNo) (mode : Mode) (old new : Kno
     pub gained : Knowledge
     pub gains : Acquires floor l.0 mode old gained
     pub notes : Makes floor (Stamps old.thread (Event.Locked l mode) ∷ []) gained new
+
+-- the atomic steps of a refusal: the lock's order is checked, this class forbids the lock's, and that is noted
+abbrev pub refuses : ℕ → LockNo → ClassNo → List (List Step)
+refuses t l class = checks t l.0 (Some class.0) ++ (Stamps t (Event.Reversed l class) ∷ []) ∷ []
 
 -- 3. A release
 

@@ -1,6 +1,6 @@
--- A take as a call that is begun and gone on with: what the thread knows wherever the take stands, what it does from
--- there on, and how the take ends.
-use Rattle.std.specs.Prelude.{◌≡◌, ◌≢◌, ◌⊎◌, ℕ, ◌+◌, ◌<◌, ◌≤◌, true, false, List, [], ◌∷◌, ◌++◌, length, replicate, Some, None}
+-- A take as a call that stands at places: what the thread knows at each, what it does from one to the next, and how the
+-- take ends.
+use Rattle.std.specs.Prelude.{◌≡◌, ◌≢◌, ℕ, ◌+◌, ◌<◌, ◌≤◌, true, false, List, [], ◌∷◌, ◌++◌, length, replicate, Some, None}
 use Rattle.lock_model.specs.Holds.{NotHeld}
 use Rattle.lock_model.specs.Limits.{most_held}
 use Rattle.lock_model.specs.Operations.{hold_in}
@@ -8,41 +8,44 @@ use Rattle.lock_model.specs.Queues.{BySignal, lock_queue}
 use Rattle.lock_model.specs.Words.{word_of, IsWellFormed, is_free}
 use Rattle.lock_model.specs.declared.event.Event.{Event}
 use Rattle.lock_model.specs.declared.numbers.LockNo.{LockNo}
+use Rattle.lock_model.specs.declared.event.Reversal.{Reversal}
 use Rattle.lock_model.specs.declared.plan.Mode.{Mode}
 use Rattle.lock_model.specs.declared.plan.QueueName.{QueueName}
 use Rattle.lock_objects.specs.Represents.{walk_of}
 use Rattle.lock_state.specs.State.{NoWalk}
-use Rattle.lock_state.specs.Steps.{Looks, Gains, Enters, Readies, Resumes, Stamps, TakesItem}
-use Rattle.lock_state.specs.Steps.Items.{Item, RecordOf}
+use Rattle.lock_state.specs.Steps.{Seeks, Looks, Gains, Enters, Readies, Resumes, Stamps, TakesItem}
+use Rattle.lock_state.specs.Steps.Items.{Item, RecordOf, ClassGraph}
 use Rattle.lock_state.specs.Steps.LockWords.{bound_to}
 use Rattle.prio_lending.specs.declared.walk.Walk.{Walk}
 use Rattle.prio_lending.specs.declared.walk.Walk.TheVariants as walk
 use Rattle.turnstile_core.specs.Seen.{Turnstile}
+use Rattle.floor_table.specs.Descriptions.{config_in}
 use Rattle.floor_table.specs.declared.description.Description.{Description}
 use Rattle.floor_table.specs.declared.slot.Slot.TheVariants.{Turnstiles}
 use Rattle.floor_table.specs.Steps.{Makes, MakesEach}
 use Rattle.floor_table.specs.Views.{Runs, StandsOn, Knowledge, seeing}
 use Rattle.lock_floor.specs.declared.calls.Call.TheVariants as calls
 use Rattle.lock_floor.specs.declared.calls.TakeAt.{TakeAt}
-use Rattle.lock_floor.specs.declared.calls.TakeAt.TheVariants.{Spins, ComesIn, Contends, Walks, Hops}
+use Rattle.lock_floor.specs.declared.calls.TakeAt.TheVariants.{Checks, Spins, ComesIn, Contends, Walks, Hops}
 use Rattle.lock_floor.specs.Floors.{Pass}
 use Rattle.lock_floor.specs.Latches.{FindsOut, Takes}
+use Rattle.lock_floor.specs.Ordering.{checks}
 use Rattle.lock_floor.specs.Passes.{IsAtRest, MakesEntry}
 use Rattle.lock_floor.specs.Resumes.{FindsQueued}
 use Rattle.lock_floor.specs.Waits.{its_chain, chain_place}
 use Rattle.lock_floor.specs.Walks.{CanWalk, HasTurnstilesOut, HopsOn, turnstiles, turnstiles_place}
 use Rattle.lock_calls.specs.declared.answers.Next.{Next}
-use Rattle.lock_calls.specs.declared.answers.Next.TheVariants.{Done, Again, Sleep, Wake}
-use Rattle.lock_calls.specs.Steps.{IsCovered, as_taken, gains_at_once, begins_round, gives_both, runs_on}
-use Rattle.lock_calls.specs.Waiting.{kept_of, IsCalling, IsSeeking, IsThere, Saw}
+use Rattle.lock_calls.specs.declared.answers.Next.TheVariants.{Done, Again, Sleep, Wake, Reversed}
+use Rattle.lock_calls.specs.Steps.{IsCovered, as_taken, gains_at_once, gives_both, refuses, runs_on}
+use Rattle.lock_calls.specs.Waiting.{kept_of, IsCalling, IsChecking, IsSeeking, IsThere, Saw}
 
--- 1. What the thread knows, wherever the take stands
+-- 1. What the thread knows at each place
 
 -- it has the lock's chain out, in the round that took it
 pub record HasChainOut (floor : Description) (l : ℕ) (v : Knowledge) : Type 0 where
   pub unheld : hold_in v.share.held l ≡ NotHeld
   pub few : length v.share.held < most_held
-  pub wants : (v.share.doing.wanted ≡ Some l) ⊎ (v.share.doing.wanted ≡ None)
+  pub wants : v.share.doing.wanted ≡ Some l
   pub takes : v.share.doing.taking ≡ Some l
   pub round : v.share.doing.round ≡ Some (bound_to l)
   pub no_walk : v.share.doing.walk ≡ NoWalk
@@ -66,8 +69,9 @@ pub record IsStanding (l : ℕ) (there : Walk) (v : Knowledge) : Type 0 where
   pub stands : v.pose ≡ StandsOn (lock_queue l)
   pub walk_is : walk_of there ≡ v.share.doing.walk
 
--- So wherever it stands. With twice as many looks as are still allowed, a round has at most 99
+-- So at each place. With twice as many looks as are still allowed, a round has at most 99
 abbrev pub IsTaking : Description → ℕ → TakeAt → Knowledge → Type 0
+IsTaking floor l Checks v = IsChecking floor l v
 IsTaking floor l (Spins left) v = IsSeeking l v × (v.share.doing.looks + (left + left) ≤ 99)
 IsTaking floor l ComesIn v = HasChainOut floor l v
 IsTaking floor l (Contends seen) v = IsContending floor l seen v
@@ -91,22 +95,29 @@ pub record IsInTake (floor : Description) (p : Pass Knowledge) : Type 0 where
   pub call : p.call ≡ calls.Take l mode at
   pub there : IsUnderTake floor l mode at p.view
 
--- 2. What it does from there to where the take stands next
+-- 2. What it does from one place to the next
 
 -- the item that a take needs to go on from there: another thread may have it out
 abbrev pub AwaitsInTake : Description → ℕ → ℕ → TakeAt → Item → Type 0
+AwaitsInTake floor t l Checks i = i ≡ ClassGraph
 AwaitsInTake floor t l (Spins left) i = (left ≡ 0) × (i ≡ its_chain floor (lock_queue l))
 AwaitsInTake floor t l ComesIn i = i ≡ RecordOf t
 AwaitsInTake floor t l (Contends seen) i = ⊥
 AwaitsInTake floor t l (Walks there) i = (there ≢ walk.None) × (i ≡ turnstiles)
 AwaitsInTake floor t l (Hops there) i = (o : ℕ) × (i ≡ RecordOf o)
 
--- In the round it looks, and may have an exchange that misses; once no looks are left, it takes the chain, then its
--- own record, is ready for the queue, and looks. There an exchange that misses is a look; or it comes to stand on the
--- queue. It makes hop after hop of its walk, and where it was woken it begins another round. Or it found out what it
--- needs, or that it is queued still
+-- Once its lock's order was checked, its round begins with a look. There it looks, and may have an exchange that
+-- misses; once no looks are left, it takes the chain, then its own record, is ready for the queue, and looks. There an
+-- exchange that misses is a look; or it comes to stand on the queue. It makes hop after hop of its walk, and where it
+-- was woken it begins another round. Or it found out what it needs, or that it is queued still
 pub data TakeLeg (floor : Description) (l : LockNo) (mode : Mode) : TakeAt → TakeAt → Knowledge
     → Knowledge → Type 0 where
+  admitted : {old new : Knowledge} (left : ℕ) → left ≤ 49
+      → MakesEach floor
+      (checks old.thread l.0 None
+      ++ (Seeks old.thread l.0 false ∷ Looks old.thread l.0 true ∷ []) ∷ [])
+      old new
+      → TakeLeg floor l mode Checks (Spins left) old new
   looks : {old new : Knowledge} (left to n : ℕ) → to < left → 1 ≤ n → n ≤ 2
       → MakesEach floor (replicate n (Looks old.thread l.0 true ∷ [])) old new
       → TakeLeg floor l mode (Spins left) (Spins to) old new
@@ -156,9 +167,16 @@ pub record HasTaken (floor : Description) (l : LockNo) (mode : Mode) (old new : 
     pub entry : MakesEntry floor (Event.Locked l mode)
         (old.share.held ++ as_taken l mode ∷ []) old new
 
--- it saw the lock free in its round, and gained it; or it gained it in the section of the chain, and ran on
+-- Its order was checked, and it gained the lock at once; or it saw it free in its round, and gained it; or it gained it
+-- in the section of the chain, and ran on
 pub data TakeEnd (floor : Description) (l : LockNo) (mode : Mode) : TakeAt → Knowledge → Knowledge
     → Type 0 where
+  at_check : {old new : Knowledge}
+      → MakesEach floor
+      (checks old.thread l.0 None ++ gains_at_once old.thread l.0 mode
+      ∷ (Stamps old.thread (Event.Locked l mode) ∷ []) ∷ [])
+      old new
+      → TakeEnd floor l mode Checks old new
   in_round : {old new : Knowledge} (left : ℕ) → 1 ≤ left
       → MakesEach floor
       ((Looks old.thread l.0 true ∷ []) ∷ (Gains old.thread l.0 mode false ∷ [])
@@ -172,6 +190,15 @@ pub data TakeEnd (floor : Description) (l : LockNo) (mode : Mode) : TakeAt → K
       old new
       → TakeEnd floor l mode (Contends seen) old new
 
+-- or it was refused: the lock's order was checked, and of the classes of the locks that the thread holds this is the
+-- first that forbids the lock's. That is noted, nothing else of the thread is new, and it is at rest
+pub record IsRefused (floor : Description) (l : LockNo) (r : Reversal) (old new : Knowledge) :
+    Type 0 where
+  pub wanted : r.wanted.0 ≡ (config_in floor).class l.0
+  pub rest : IsAtRest floor new
+  pub entry : MakesEntry floor (Event.Reversed l r.held) old.share.held old new
+  pub steps : MakesEach floor (refuses old.thread l r.held) old new
+
 -- 4. What the calls promise
 
 -- what is to be done next, where a take stands there: to sleep where its walk has ended, or else to go on
@@ -181,37 +208,36 @@ next_in_walk (walk.AtLock l) = Again
 next_in_walk (walk.AtThread o) = Again
 
 abbrev pub next_at : TakeAt → Next
+next_at Checks = Again
 next_at (Spins left) = Again
 next_at ComesIn = Again
 next_at (Contends seen) = Again
 next_at (Walks there) = next_in_walk there
 next_at (Hops there) = Again
 
--- the first exchange missed, and a round has begun with a look; where the exchange was no begin of a round, it was one
--- look outside, and the thread holds nothing
+-- the lock's order is to be checked; where an exchange came first, it missed, and the thread holds nothing
 pub record BeginsTake (floor : Description) (l : LockNo) (mode : Mode) (p q : Pass Knowledge) :
     Type 0 where
-  pub left : ℕ
-  pub few : left ≤ 49
-  pub call : q.call ≡ calls.Take l mode (Spins left)
-  pub there : IsUnderTake floor l mode (Spins left) q.view
+  pub call : q.call ≡ calls.Take l mode Checks
+  pub there : IsUnderTake floor l mode Checks q.view
   pub kept : kept_of q.view ≡ kept_of p.view
   pub missed : ℕ
   pub once : missed ≤ 1
   pub bare : 1 ≤ missed → p.view.share.held ≡ []
-  pub steps : MakesEach floor (begins_round p.view.thread l.0 missed) p.view q.view
+  pub steps : MakesEach floor (replicate missed (Looks p.view.thread l.0 false ∷ [])) p.view q.view
 
--- a take has begun: it gained the lock at once, or is under way
+-- a take has begun: it gained the lock at once, where its thread holds nothing, or is under way
 abbrev pub HasBegunTake : Description → LockNo → Mode → Next → Pass Knowledge → Pass Knowledge
     → Type 0
 HasBegunTake floor l mode Done p q =
-    (q.call ≡ calls.None) × HasTaken floor l mode p.view q.view
+    (q.call ≡ calls.None) × (p.view.share.held ≡ []) × HasTaken floor l mode p.view q.view
     × MakesEach floor
     (gains_at_once p.view.thread l.0 mode ∷ (Stamps p.view.thread (Event.Locked l mode) ∷ []) ∷ [])
     p.view q.view
 HasBegunTake floor l mode Again p q = BeginsTake floor l mode p q
 HasBegunTake floor l mode Sleep p q = ⊥
 HasBegunTake floor l mode (Wake t) p q = ⊥
+HasBegunTake floor l mode (Reversed r) p q = ⊥
 
 -- the take went on from there, and stands somewhere
 pub record StandsInTake (floor : Description) (l : LockNo) (mode : Mode) (at : TakeAt)
@@ -221,12 +247,19 @@ pub record StandsInTake (floor : Description) (l : LockNo) (mode : Mode) (at : T
   pub next_is : next_at to ≡ next
   pub on : TakesOn floor l mode at to p.view q.view
 
--- a take that stood there went on: it ended, or stands somewhere
+-- a take that stood there was refused, and ended
+pub record EndsRefused (floor : Description) (l : LockNo) (at : TakeAt) (r : Reversal)
+    (p q : Pass Knowledge) : Type 0 where
+  pub call : q.call ≡ calls.None
+  pub at_check : at ≡ Checks
+  pub refused : IsRefused floor l r p.view q.view
+
+-- a take that stood there went on: it ended, or stands somewhere, or was refused
 abbrev pub GoesOnTaking : Description → LockNo → Mode → TakeAt → Next → Pass Knowledge
     → Pass Knowledge → Type 0
 GoesOnTaking floor l mode at Done p q =
-    (q.call ≡ calls.None) × HasTaken floor l mode p.view q.view
-    × TakeEnd floor l mode at p.view q.view
+    (q.call ≡ calls.None) × HasTaken floor l mode p.view q.view × TakeEnd floor l mode at p.view q.view
 GoesOnTaking floor l mode at Again p q = StandsInTake floor l mode at Again p q
 GoesOnTaking floor l mode at Sleep p q = StandsInTake floor l mode at Sleep p q
 GoesOnTaking floor l mode at (Wake t) p q = ⊥
+GoesOnTaking floor l mode at (Reversed r) p q = EndsRefused floor l at r p q

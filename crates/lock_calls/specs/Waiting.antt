@@ -1,6 +1,6 @@
 -- What a thread knows in the middle of a call. Looks of a release count nothing,
 -- nor do those under a lock's chain; those of a blocking call's round count there.
-use Rattle.std.specs.Prelude.{◌≡◌, ◌≢◌, ◌⊎◌, ℕ, ◌+◌, ◌<◌, ◌≤◌, Bool, true, false, List, [], ◌∷◌, length, replicate, Option, Some, None}
+use Rattle.std.specs.Prelude.{◌≡◌, ◌≢◌, ℕ, ◌+◌, ◌<◌, ◌≤◌, Bool, true, false, List, [], ◌∷◌, length, replicate, Option, Some, None}
 use Rattle.lock_model.specs.Holds.{NotHeld, Holds}
 use Rattle.lock_model.specs.History.{open_in}
 use Rattle.lock_model.specs.Limits.{most_held}
@@ -12,7 +12,7 @@ use Rattle.lock_model.specs.declared.event.Held.{Held}
 use Rattle.lock_model.specs.declared.numbers.LockNo.{LockNo}
 use Rattle.lock_model.specs.declared.plan.Mode.TheVariants.{Excl}
 use Rattle.lock_state.specs.State.{Look, Note, Wake, Phase, Walk, NoWalk}
-use Rattle.lock_state.specs.Steps.{Looks, Gains, Enters}
+use Rattle.lock_state.specs.Steps.{Seeks, Looks, Gains, Enters}
 use Rattle.lock_state.specs.Steps.LockWords.{is_taking_back, round_of, bound_to}
 use Rattle.lock_state.specs.Steps.Turnstiles.{walk_up}
 use Rattle.floor_table.specs.Descriptions.{config_in}
@@ -22,11 +22,12 @@ use Rattle.floor_table.specs.Shares.{Doing, is_among}
 use Rattle.floor_table.specs.Steps.{Makes, MakesEach}
 use Rattle.floor_table.specs.Views.{Runs, IsReady, Knowledge, seeing}
 use Rattle.lock_floor.specs.Opens.{HasBothOut, opened_up}
+use Rattle.lock_floor.specs.Ordering.{MayOrder}
 use Rattle.lock_floor.specs.Passes.{CanStep, IsGoing}
 use Rattle.lock_floor.specs.Rounds.{gained_first}
 use Rattle.lock_floor.specs.Views.{counts, looked, gained}
 use Rattle.lock_floor.specs.Waits.{out_entered, entered}
-use Rattle.lock_calls.specs.Steps.{as_taken, gains_at_once, begins_round, frees}
+use Rattle.lock_calls.specs.Steps.{as_taken, gains_at_once, frees}
 
 -- 1. What stays
 
@@ -106,16 +107,18 @@ pub record HasLooked (floor : Description) (l n : ℕ) (old new : Knowledge) : T
 -- 3. A blocking call before it takes the chain
 
 -- the thread may gain the lock by its first exchange, where its word is free: it can look and remembers no look,
--- doesn't hold the lock, has room for it, and wants none
+-- doesn't hold the lock, has room for it, wants none, has nothing to note, and isn't in a wait
 pub record MayGain (floor : Description) (l : ℕ) (v : Knowledge) : Type 0 where
   pub unheld : hold_in v.share.held l ≡ NotHeld
   pub few : length v.share.held < most_held
   pub wants_nothing : v.share.doing.wanted ≡ None
   pub unseen : v.share.doing.last_look ≡ None
+  pub unnoted : v.share.doing.noted ≡ None
+  pub no_wait : is_taking_back v.share.log ≡ false
   pub no_walk : v.share.doing.walk ≡ NoWalk
   pub looks : CanLook v
 
--- a blocking call gained it so
+-- a blocking call gained it so, by an exchange that begins its round and ends it
 pub record GainsAtOnce (floor : Description) (h : Held) (old new : Knowledge) : Type 0 where
   pub view : new ≡ seeing new.seen (gained_first old h)
   pub step : Makes floor (gains_at_once old.thread h.l.0 h.mode) old new
@@ -133,25 +136,61 @@ in_round v l looks all last seen =
     } in
     record v { share = record v.share { doing = after } }
 
--- The thread's first exchange missed, and a round of the lock has begun with a look. Where that exchange was no begin
--- of a round, the thread holds nothing.
-pub record HasBegun (floor : Description) (l : ℕ) (old new : Knowledge) : Type 0 where
+-- A call has begun without a gain: the thread's first exchange missed, where it holds nothing; or it made none, where
+-- it holds a lock.
+pub record HasMissed (floor : Description) (l : ℕ) (old new : Knowledge) : Type 0 where
   pub missed : ℕ
   pub once : missed ≤ 1
   pub bare : 1 ≤ missed → old.share.held ≡ []
   pub all : ℕ
   pub last : Option Look
   pub seen : Option Look
-  pub knows : new ≡ seeing new.seen (in_round old l 1 all last seen)
-  pub steps : MakesEach floor (begins_round old.thread l missed) old new
+  pub its : (look : Look) → last ≡ Some look → (look.lock ≡ l) × (old.share.held ≡ [])
+  pub knows : new ≡ seeing new.seen (with_looks old all last seen)
+  pub steps : MakesEach floor (replicate missed (Looks old.thread l false ∷ [])) old new
 
--- the thread is in a round of a blocking call: it runs and is awake, has nothing out and no walk, takes the lock, which
--- it may want already, doesn't hold it, and has room for it
+-- The lock's order is to be checked: the thread doesn't hold the lock, has nothing out and no walk, looked in no round,
+-- and may check
+pub record IsChecking (floor : Description) (l : ℕ) (v : Knowledge) : Type 0 where
+  pub unheld : hold_in v.share.held l ≡ NotHeld
+  pub may : MayOrder floor l v
+  pub no_walk : v.share.doing.walk ≡ NoWalk
+  pub no_looks : v.share.doing.looks ≡ 0
+  pub nothing_out : v.out ≡ []
+
+-- The thread may begin a round of the lock, the order of which is checked: it runs and is awake, has nothing out and no
+-- walk, wants and takes the lock, doesn't hold it, has room for it, and has nothing to note. Where it remembers a look,
+-- that is its first exchange, which missed, and it holds nothing
+pub record MaySeek (l : ℕ) (v : Knowledge) : Type 0 where
+  pub unheld : hold_in v.share.held l ≡ NotHeld
+  pub few : length v.share.held < most_held
+  pub wants : v.share.doing.wanted ≡ Some l
+  pub takes : v.share.doing.taking ≡ Some l
+  pub unnoted : v.share.doing.noted ≡ None
+  pub no_round : v.share.doing.round ≡ None
+  pub missed : (look : Look) → v.share.doing.last_look ≡ Some look
+      → (look.lock ≡ l) × (v.share.held ≡ [])
+  pub no_walk : v.share.doing.walk ≡ NoWalk
+  pub runs : v.pose ≡ Runs
+  pub nothing_out : v.out ≡ []
+  pub going : IsGoing v
+
+-- a round of the lock has begun with a look
+pub record HasBegun (floor : Description) (l : ℕ) (old new : Knowledge) : Type 0 where
+  pub all : ℕ
+  pub last : Option Look
+  pub seen : Option Look
+  pub knows : new ≡ seeing new.seen (in_round old l 1 all last seen)
+  pub step : Makes floor (Seeks old.thread l false ∷ Looks old.thread l true ∷ []) old new
+
+-- the thread is in a round of a blocking call: it runs and is awake, has nothing out and no walk, wants and takes the
+-- lock, doesn't hold it, has room for it, and has nothing to note
 pub record IsSeeking (l : ℕ) (v : Knowledge) : Type 0 where
   pub unheld : hold_in v.share.held l ≡ NotHeld
   pub few : length v.share.held < most_held
-  pub wants : (v.share.doing.wanted ≡ Some l) ⊎ (v.share.doing.wanted ≡ None)
+  pub wants : v.share.doing.wanted ≡ Some l
   pub takes : v.share.doing.taking ≡ Some l
+  pub unnoted : v.share.doing.noted ≡ None
   pub round : v.share.doing.round ≡ Some (round_of l false)
   pub no_walk : v.share.doing.walk ≡ NoWalk
   pub runs : v.pose ≡ Runs
@@ -194,7 +233,7 @@ pub record SpinsThenGains (floor : Description) (h : Held) (n : ℕ) (old new : 
 pub record IsThere (floor : Description) (l : ℕ) (v : Knowledge) : Type 0 where
   pub unheld : hold_in v.share.held l ≡ NotHeld
   pub few : length v.share.held < most_held
-  pub wants : (v.share.doing.wanted ≡ Some l) ⊎ (v.share.doing.wanted ≡ None)
+  pub wants : v.share.doing.wanted ≡ Some l
   pub takes : v.share.doing.taking ≡ Some l
   pub round : v.share.doing.round ≡ Some (bound_to l)
   pub no_walk : v.share.doing.walk ≡ NoWalk

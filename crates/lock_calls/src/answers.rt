@@ -1,6 +1,6 @@
 //! What a part of a call answers.
 
-use lock_model::ThreadNo;
+use lock_model::{Reversal, ThreadNo};
 
 /// What the caller is to do next.
 #[derive(Clone, Copy, Debug, PartialEq, Eq)]
@@ -13,4 +13,6 @@ pub enum Next {
     Sleep,
     /// End the sleep of that thread, which was marked, and then go on with the call.
     Wake(ThreadNo),
+    /// Nothing: the order of locks refused the take. That is noted, the pass is at rest, and nothing is owed.
+    Reversed(Reversal),
 }

@@ -45,8 +45,7 @@ pub fn contend(floor: &Floor, pass: &mut Pass, l: LockNo, seen: u64) -> Option<T
     requires one_chain { floor.now.description.chains ≡ 1 }
     requires under_way { IsUnderTake floor.now.description l Excl (Contends seen) pass.old.view }
     ensures own { IsOf floor.now pass.new }
-    ensures taken { IfNone result
-        (HasTaken floor.now.description l Excl pass.old.view pass.new.view) }
+    ensures taken { IfNone result (HasTaken floor.now.description l Excl pass.old.view pass.new.view) }
     ensures end { IfNone result
         (TakeEnd floor.now.description l Excl (Contends seen) pass.old.view pass.new.view) }
     ensures on { IfSome result (λ to. TakesOn floor.now.description l Excl (Contends seen) to

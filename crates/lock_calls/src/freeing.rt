@@ -18,8 +18,7 @@ pub fn come_to(floor: &Floor, pass: &mut Pass, l: LockNo) -> ReleaseAt
     requires own { IsOf floor.now pass.old }
     requires under_way { IsUnderRelease floor.now.description l Excl ComesTo pass.old.view }
     ensures own { IsOf floor.now pass.new }
-    ensures on { ReleasesOn floor.now.description l Excl ComesTo result
-        pass.old.view pass.new.view }
+    ensures on { ReleasesOn floor.now.description l Excl ComesTo result pass.old.view pass.new.view }
 {
     if floor.try_take_chain(pass, QueueName::Lock(l)) {
         ReleaseAt::ComesIn
@@ -33,8 +32,7 @@ pub fn come_in(floor: &Floor, pass: &mut Pass, l: LockNo) -> ReleaseAt
     requires own { IsOf floor.now pass.old }
     requires under_way { IsUnderRelease floor.now.description l Excl ComesIn pass.old.view }
     ensures own { IsOf floor.now pass.new }
-    ensures on { ReleasesOn floor.now.description l Excl ComesIn result
-        pass.old.view pass.new.view }
+    ensures on { ReleasesOn floor.now.description l Excl ComesIn result pass.old.view pass.new.view }
 {
     let who = pass.thread();
     if !floor.try_take_rec(pass, who) {

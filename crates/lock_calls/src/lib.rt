@@ -7,15 +7,16 @@
 //!
 //! - `answers`: what a part of a call answers.
 //! - `taking` and `releasing`: the parts of a take and of a release, and `waiting`: the loops over them.
-//! - `spinning`: a take before it has the lock's chain, `blocking`: in the section of the chain, and `sleeping`: on the
-//!   lock's turnstile.
+//! - `checking`: how a take has the order of its lock checked, `spinning`: a take before it has the lock's chain,
+//!   `blocking`: in the section of the chain, and `sleeping`: on the lock's turnstile.
 //! - `freeing`: a release in the section of the lock's chain, and `waking`: behind it.
 //!
-//! A call needs a pass at rest, and leaves it at rest once it is done. No call takes memory.
+//! Each call needs a pass at rest and leaves it at rest. No call takes memory.
 #![tactic(auto)]
 
 mod answers;
 mod blocking;
+mod checking;
 mod freeing;
 mod releasing;
 mod sleeping;

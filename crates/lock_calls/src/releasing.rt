@@ -5,7 +5,7 @@ ghost use Rattle.lock_model.specs.declared.numbers.LockNo.{LockNo as Lock};
 ghost use Rattle.lock_model.specs.declared.plan.Mode.{Mode as InMode};
 ghost use Rattle.lock_model.specs.declared.plan.Mode.TheVariants.{Excl};
 ghost use Rattle.lock_floor.specs.declared.calls.Call.TheVariants as calls;
-ghost use Rattle.lock_floor.specs.declared.calls.ReleaseAt.{ReleaseAt as At};
+ghost use Rattle.lock_floor.specs.declared.calls.ReleaseAt.{ReleaseAt as Place};
 ghost use Rattle.lock_floor.specs.declared.calls.ReleaseAt.TheVariants.{Wakes};
 ghost use Rattle.lock_floor.specs.Passes.{IsOf, IsReady};
 ghost use Rattle.lock_calls.specs.Releases.{HasBegunRelease, IsInRelease, GoesOnReleasing, IsUnderRelease};
@@ -39,7 +39,7 @@ pub fn go_on_releasing(floor: &Floor, pass: &mut Pass) -> Next
     requires own { IsOf floor.now pass.old }
     requires under_way { IsInRelease floor.now.description pass.old }
     ensures own { IsOf floor.now pass.new }
-    ensures went { (l : Lock) (mode : InMode) (at : At)
+    ensures went { (l : Lock) (mode : InMode) (at : Place)
         → pass.old.call ≡ calls.Release l mode at
         → GoesOnReleasing floor.now.description l mode at result pass.old pass.new }
 {
@@ -126,7 +126,7 @@ fn wake_on(floor: &Floor, pass: &mut Pass, l: LockNo) -> Next
             stand(pass, l, ReleaseAt::Wakes);
             Next::Wake(t)
         }
-        Next::Sleep => unreachable!(),
+        Next::Sleep | Next::Reversed(_) => unreachable!(),
     }
 }
 

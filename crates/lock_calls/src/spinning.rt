@@ -1,6 +1,7 @@
 //! A take before it has the lock's chain, as the exchange of `__mtx_lock_flags` and the spinning at the head of
-//! `__mtx_lock_sleep` in FreeBSD's kern_mutex.c: it makes one exchange, and then looks in an acquiring round, and tries
-//! again where it sees the lock free; in the end it takes the chain. It never waits.
+//! `__mtx_lock_sleep` in FreeBSD's kern_mutex.c: it makes one exchange where it holds nothing, and behind the check of
+//! its lock's order it looks in an acquiring round, and tries again where it sees the lock free; in the end it takes
+//! the chain. It never waits.
 ghost use Rattle.std.specs.Prelude.{ℕ, ◌≡◌, ◌≤◌, ◌+◌, ⊤, [], ◌∷◌, true, false, IfNone, IfSome, IfOk, IfErr};
 ghost use Rattle.lock_model.specs.Words.{word_of, IsWellFormed};
 ghost use Rattle.lock_model.specs.declared.event.Event.TheVariants as event;
@@ -14,7 +15,7 @@ ghost use Rattle.lock_floor.specs.Passes.{IsOf};
 ghost use Rattle.lock_floor.specs.Views.{entry_by, stamped};
 ghost use Rattle.lock_calls.specs.Steps.{IsMutex, as_taken};
 ghost use Rattle.lock_calls.specs.Takes.{IsUnderTake, HasTaken, TakeEnd, TakesOn};
-ghost use Rattle.lock_calls.specs.Waiting.{MayGain, IsSeeking, GainsAtOnce, HasBegun, HasSpun, SpinsThenGains};
+ghost use Rattle.lock_calls.specs.Waiting.{MayGain, IsSeeking, GainsAtOnce, HasMissed, HasSpun, SpinsThenGains};
 
 use lock_floor::{Floor, Pass, TakeAt};
 use lock_model::{Event, Held, LockNo, Mode, QueueName};
@@ -27,8 +28,8 @@ pub const FREE: u64 = 0;
 /// at most 100 looks, with the exchange before its round.
 pub const LOOKS: u32 = 49;
 
-/// Gains a mutex by one exchange, which begins and ends a round. `false` comes only where another thread was faster:
-/// then a round is under way. Where the thread holds no lock, the exchange that missed was a look outside that round.
+/// Gains a mutex by one exchange, where the thread holds no lock. `false` comes only where it holds one, or another
+/// thread was faster: then the exchange was a look. The mutex's order is to be checked then.
 pub fn begin(floor: &Floor, pass: &mut Pass, l: LockNo) -> bool
     requires own { IsOf floor.now pass.old }
     requires mutex { IsMutex floor.now.description l.0 }
@@ -36,41 +37,16 @@ pub fn begin(floor: &Floor, pass: &mut Pass, l: LockNo) -> bool
     ensures own { IsOf floor.now pass.new }
     ensures gained { result ≡ true
         → GainsAtOnce floor.now.description (as_taken l Excl) pass.old.view pass.new.view }
-    ensures begun { result ≡ false
-        → HasBegun floor.now.description l.0 pass.old.view pass.new.view }
+    ensures bare { result ≡ true → pass.old.view.share.held ≡ [] }
+    ensures missed { result ≡ false
+        → HasMissed floor.now.description l.0 pass.old.view pass.new.view }
 {
-    if pass.held().is_empty() {
-        return begin_bare(floor, pass, l);
+    if !pass.held().is_empty() {
+        return false;
     }
-    let hold = Held {
-        l,
-        mode: Mode::Excl,
-        by_try: false,
-    };
-    match floor.seek_gain(pass, hold, FREE) {
-        Ok(()) => true,
-        Err(_) => false,
-    }
-}
-
-// The same of a thread that holds no lock.
-fn begin_bare(floor: &Floor, pass: &mut Pass, l: LockNo) -> bool
-    requires own { IsOf floor.now pass.old }
-    requires mutex { IsMutex floor.now.description l.0 }
-    requires may { MayGain floor.now.description l.0 pass.old.view }
-    requires bare { pass.old.view.share.held ≡ [] }
-    ensures own { IsOf floor.now pass.new }
-    ensures gained { result ≡ true
-        → GainsAtOnce floor.now.description (as_taken l Excl) pass.old.view pass.new.view }
-    ensures begun { result ≡ false
-        → HasBegun floor.now.description l.0 pass.old.view pass.new.view }
-{
     match floor.gain_first(pass, l, Mode::Excl, FREE) {
         Ok(()) => true,
-        Err(_) => {
-            floor.seek(pass, l, false);
-            false
-        }
+        Err(_) => false,
     }
 }
 
@@ -82,8 +58,7 @@ pub fn spin(floor: &Floor, pass: &mut Pass, l: LockNo, left: u32) -> Option<Take
     requires some_left { 1 ≤ left }
     requires under_way { IsUnderTake floor.now.description l Excl (Spins left) pass.old.view }
     ensures own { IsOf floor.now pass.new }
-    ensures taken { IfNone result
-        (HasTaken floor.now.description l Excl pass.old.view pass.new.view) }
+    ensures taken { IfNone result (HasTaken floor.now.description l Excl pass.old.view pass.new.view) }
     ensures end { IfNone result
         (TakeEnd floor.now.description l Excl (Spins left) pass.old.view pass.new.view) }
     ensures on { IfSome result (λ to. TakesOn floor.now.description l Excl (Spins left) to

@@ -1,26 +1,28 @@
 //! A take of a lock, part by part, as `__mtx_lock_flags` and `__mtx_lock_sleep` of FreeBSD's kern_mutex.c and
 //! `turnstile_wait` of its subr_turnstile.c do it. No part waits.
-ghost use Rattle.std.specs.Prelude.{◌≡◌, IfNone, IfSome};
+ghost use Rattle.std.specs.Prelude.{◌≡◌, IfNone, IfSome, IfOk, IfErr};
 ghost use Rattle.lock_model.specs.declared.numbers.LockNo.{LockNo as Lock};
 ghost use Rattle.lock_model.specs.declared.plan.Mode.{Mode as InMode};
 ghost use Rattle.lock_model.specs.declared.plan.Mode.TheVariants.{Excl};
 ghost use Rattle.lock_floor.specs.declared.calls.Call.TheVariants as calls;
-ghost use Rattle.lock_floor.specs.declared.calls.TakeAt.{TakeAt as At};
+ghost use Rattle.lock_floor.specs.declared.calls.TakeAt.TheVariants.{Checks};
+ghost use Rattle.lock_floor.specs.declared.calls.TakeAt.{TakeAt as Place};
 ghost use Rattle.lock_floor.specs.Passes.{IsOf, IsReady};
 ghost use Rattle.lock_calls.specs.Steps.{MayTake};
-ghost use Rattle.lock_calls.specs.Takes.{HasBegunTake, IsInTake, GoesOnTaking, IsUnderTake, HasTaken, TakeEnd, TakesOn, next_at};
+ghost use Rattle.lock_calls.specs.Takes.{HasBegunTake, IsInTake, GoesOnTaking, IsUnderTake, HasTaken, TakeEnd, TakesOn, IsRefused, next_at};
 
 use crate::answers::Next;
 use crate::blocking::{come_in, contend};
+use crate::checking::check;
 use crate::sleeping::{hop_on, walk_on};
-use crate::spinning::{LOOKS, begin, come, note_taken, spin};
+use crate::spinning::{begin, come, note_taken, spin};
 use lock_floor::{Call, Floor, Pass, TakeAt};
-use lock_model::{LockNo, Mode};
+use lock_model::{LockNo, Mode, Reversal};
 use prio_lending::Walk;
 
-/// Begins a take of a lock in a mode: it makes one exchange, outside an acquiring round where the thread holds nothing.
-/// `Done` comes where that gained the lock, and `Again` only where another thread was faster: then a round is under
-/// way. The floor has one chain of turnstiles. No order of locks is checked yet, so no take is refused.
+/// Begins a take of a lock in a mode. Where the thread holds nothing it makes one exchange: nothing can be refused it.
+/// `Done` comes where that gained the lock, and `Again` only where another thread was faster, or the thread holds a
+/// lock: then the lock's order is to be checked. The floor has one chain of turnstiles.
 pub fn begin_take(floor: &Floor, pass: &mut Pass, l: LockNo, mode: Mode) -> Next
     requires ready { IsReady floor.now pass.old }
     requires may { MayTake floor.now.description l.0 mode pass.old.view }
@@ -33,16 +35,18 @@ pub fn begin_take(floor: &Floor, pass: &mut Pass, l: LockNo, mode: Mode) -> Next
     }
 }
 
-/// Goes on with the take that the pass is in the middle of. It looks in its round, and tries where it sees the lock
-/// free, only while the owner isn't queued, and at most 100 times in all. Then it takes the lock's chain, and gains the
-/// lock there, or comes to stand on its turnstile, makes the hops of its walk, and once it was woken it begins another
-/// round. `Sleep` comes exactly where the walk has ended and the thread hasn't run again.
+/// Goes on with the take that the pass is in the middle of. It has the lock's order checked behind the locks that the
+/// thread holds: `Reversed` comes exactly where the class of one of these forbids that of the lock by the class graph
+/// as the check found it. Then it looks in its round, and tries where it sees the lock free, only while the owner isn't
+/// queued, and at most 100 times in all. Then it takes the lock's chain, and gains the lock there, or comes to stand on
+/// its turnstile, makes the hops of its walk, and once it was woken it begins another round. `Sleep` comes exactly
+/// where the walk has ended and the thread hasn't run again.
 pub fn go_on_taking(floor: &Floor, pass: &mut Pass) -> Next
     requires own { IsOf floor.now pass.old }
     requires one_chain { floor.now.description.chains ≡ 1 }
     requires under_way { IsInTake floor.now.description pass.old }
     ensures own { IsOf floor.now pass.new }
-    ensures went { (l : Lock) (mode : InMode) (at : At) → pass.old.call ≡ calls.Take l mode at
+    ensures went { (l : Lock) (mode : InMode) (at : Place) → pass.old.call ≡ calls.Take l mode at
         → GoesOnTaking floor.now.description l mode at result pass.old pass.new }
 {
     match pass.call() {
@@ -69,7 +73,7 @@ fn begin_exclusively(floor: &Floor, pass: &mut Pass, l: LockNo) -> Next
         pass.set_call(Call::Take {
             l,
             mode: Mode::Excl,
-            at: TakeAt::Spins(LOOKS),
+            at: TakeAt::Checks,
         });
         Next::Again
     }
@@ -84,7 +88,7 @@ fn go_on_exclusively(floor: &Floor, pass: &mut Pass, l: LockNo, at: TakeAt) -> N
     ensures went { GoesOnTaking floor.now.description l Excl at result pass.old pass.new }
 {
     match go_on_at(floor, pass, l, at) {
-        Some(to) => {
+        Ok(Some(to)) => {
             pass.set_call(Call::Take {
                 l,
                 mode: Mode::Excl,
@@ -92,38 +96,52 @@ fn go_on_exclusively(floor: &Floor, pass: &mut Pass, l: LockNo, at: TakeAt) -> N
             });
             next_at(to)
         }
-        None => {
+        Ok(None) => {
             pass.set_call(Call::None);
             Next::Done
+        }
+        Err(reversal) => {
+            pass.set_call(Call::None);
+            Next::Reversed(reversal)
         }
     }
 }
 
-// Goes on from where the take stands. Answers where it stands then: nowhere, if the mutex is taken.
-fn go_on_at(floor: &Floor, pass: &mut Pass, l: LockNo, at: TakeAt) -> Option<TakeAt>
+// From a place of the take on. Answers where the take stands then: nowhere, if the mutex is taken. `Err` comes where it
+// was refused.
+fn go_on_at(
+    floor: &Floor,
+    pass: &mut Pass,
+    l: LockNo,
+    at: TakeAt,
+) -> Result<Option<TakeAt>, Reversal>
     requires own { IsOf floor.now pass.old }
     requires one_chain { floor.now.description.chains ≡ 1 }
     requires under_way { IsUnderTake floor.now.description l Excl at pass.old.view }
     ensures own { IsOf floor.now pass.new }
-    ensures taken { IfNone result
-        (HasTaken floor.now.description l Excl pass.old.view pass.new.view) }
-    ensures end { IfNone result
-        (TakeEnd floor.now.description l Excl at pass.old.view pass.new.view) }
-    ensures on { IfSome result (λ to. TakesOn floor.now.description l Excl at to
-        pass.old.view pass.new.view) }
+    ensures taken { IfOk result (λ to. IfNone to
+        (HasTaken floor.now.description l Excl pass.old.view pass.new.view)) }
+    ensures end { IfOk result (λ to. IfNone to
+        (TakeEnd floor.now.description l Excl at pass.old.view pass.new.view)) }
+    ensures on { IfOk result (λ to. IfSome to
+        (λ next. TakesOn floor.now.description l Excl at next pass.old.view pass.new.view)) }
+    ensures at_check { IfErr result (λ _. at ≡ Checks) }
+    ensures refused { IfErr result
+        (λ r. IsRefused floor.now.description l r pass.old.view pass.new.view) }
 {
     match at {
+        TakeAt::Checks => check(floor, pass, l),
         TakeAt::Spins(left) => {
             if left == 0 {
-                Some(come(floor, pass, l))
+                Ok(Some(come(floor, pass, l)))
             } else {
-                spin(floor, pass, l, left)
+                Ok(spin(floor, pass, l, left))
             }
         }
-        TakeAt::ComesIn => Some(come_in(floor, pass, l)),
-        TakeAt::Contends(seen) => contend(floor, pass, l, seen),
-        TakeAt::Walks(there) => Some(walk_on(floor, pass, l, there)),
-        TakeAt::Hops(there) => Some(hop_on(floor, pass, l, there)),
+        TakeAt::ComesIn => Ok(Some(come_in(floor, pass, l))),
+        TakeAt::Contends(seen) => Ok(contend(floor, pass, l, seen)),
+        TakeAt::Walks(there) => Ok(Some(walk_on(floor, pass, l, there))),
+        TakeAt::Hops(there) => Ok(Some(hop_on(floor, pass, l, there))),
     }
 }
 
@@ -133,7 +151,8 @@ fn next_at(at: TakeAt) -> Next
 {
     match at {
         TakeAt::Walks(Walk::None) => Next::Sleep,
-        TakeAt::Spins(_)
+        TakeAt::Checks
+        | TakeAt::Spins(_)
         | TakeAt::ComesIn
         | TakeAt::Contends(_)
         | TakeAt::Walks(Walk::AtLock(_) | Walk::AtThread(_))

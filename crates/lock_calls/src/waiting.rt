@@ -1,45 +1,60 @@
 //! A take and a release that wait: loops over their parts, in which the thread pauses, sleeps, and ends others' sleeps.
-ghost use Rattle.std.specs.Prelude.{◌≡◌, ◌<◌, ◌++◌, [], ◌∷◌, length};
+ghost use Rattle.std.specs.Prelude.{◌≡◌, ◌<◌, ◌++◌, [], ◌∷◌, length, IsOk, IfOk, IfErr};
 ghost use Rattle.lock_model.specs.Operations.{without_lock};
 ghost use Rattle.lock_model.specs.declared.event.Event.TheVariants as event;
 ghost use Rattle.floor_table.specs.Steps.{MakesEach};
 ghost use Rattle.lock_floor.specs.Passes.{IsOf, IsReady, MakesEntry};
 ghost use Rattle.lock_calls.specs.Steps.{MayTake, MayRelease, Locks, Release, as_taken, unlocks};
+ghost use Rattle.lock_calls.specs.Takes.{IsRefused};
 
 use crate::answers::Next;
 use crate::releasing::{begin_release, go_on_releasing};
 use crate::taking::{begin_take, go_on_taking};
 use crossbeam_utils::Backoff;
 use lock_floor::{Call, Floor, Pass, TakeAt};
-use lock_model::{LockNo, Mode};
+use lock_model::{LockNo, Mode, Reversal};
 use std::sync::Wait;
 
-/// Takes a lock in a mode, and waits until it has it. The floor has one chain of turnstiles.
-pub fn take<R: Wait>(floor: &Floor, rt: &R, pass: &mut Pass, l: LockNo, mode: Mode)
+/// Takes a lock in a mode, and waits until it has it. `Err` comes exactly where, by the class graph as this call's
+/// check found it, the class of a lock that the thread holds forbids that of the lock; it has the first such class in
+/// order of acquisition, the refusal is noted, and nothing else of the thread is new. A thread that holds nothing is
+/// never refused. The floor has one chain of turnstiles.
+pub fn take<R: Wait>(
+    floor: &Floor,
+    rt: &R,
+    pass: &mut Pass,
+    l: LockNo,
+    mode: Mode,
+) -> Result<(), Reversal>
     requires ready { IsReady floor.now pass.old }
     requires may { MayTake floor.now.description l.0 mode pass.old.view }
     requires one_chain { floor.now.description.chains ≡ 1 }
     ensures ready { IsReady floor.now pass.new }
-    ensures entry { MakesEntry floor.now.description (event.Locked l mode)
-        (pass.old.view.share.held ++ as_taken l mode ∷ []) pass.old.view pass.new.view }
-    ensures steps { Locks floor.now.description l mode pass.old.view pass.new.view }
+    ensures entry { IfOk result (λ _. MakesEntry floor.now.description (event.Locked l mode)
+        (pass.old.view.share.held ++ as_taken l mode ∷ []) pass.old.view pass.new.view) }
+    ensures steps { IfOk result
+        (λ _. Locks floor.now.description l mode pass.old.view pass.new.view) }
+    ensures reversed { IfErr result
+        (λ r. IsRefused floor.now.description l r pass.old.view pass.new.view) }
+    ensures bare { pass.old.view.share.held ≡ [] → IsOk result }
 {
     match begin_take(floor, pass, l, mode) {
-        Next::Done => return,
+        Next::Done => return Ok(()),
         Next::Again => {}
-        Next::Sleep | Next::Wake(_) => unreachable!(),
+        Next::Sleep | Next::Wake(_) | Next::Reversed(_) => unreachable!(),
     }
     let backoff = Backoff::new();
     for _ in rt.forever() {
         let before = pass.call();
         match go_on_taking(floor, pass) {
-            Next::Done => return,
+            Next::Done => return Ok(()),
             Next::Again => pause(&backoff, before, pass.call()),
             Next::Sleep => {
                 floor.sleep(rt, pass);
                 backoff.reset();
             }
             Next::Wake(_) => unreachable!(),
+            Next::Reversed(reversal) => return Err(reversal),
         }
     }
     unreachable!()
@@ -53,13 +68,12 @@ pub fn release<R: Wait>(floor: &Floor, rt: &R, pass: &mut Pass, l: LockNo, mode:
     ensures entry { MakesEntry floor.now.description (event.Unlocked l mode)
         (without_lock l.0 pass.old.view.share.held) pass.old.view pass.new.view }
     ensures steps { (how : Release) × MakesEach floor.now.description
-        (unlocks floor.now.description pass.old.view.thread l mode how)
-        pass.old.view pass.new.view }
+        (unlocks floor.now.description pass.old.view.thread l mode how) pass.old.view pass.new.view }
 {
     match begin_release(floor, pass, l, mode) {
         Next::Done => return,
         Next::Again => {}
-        Next::Sleep | Next::Wake(_) => unreachable!(),
+        Next::Sleep | Next::Wake(_) | Next::Reversed(_) => unreachable!(),
     }
     let backoff = Backoff::new();
     for _ in rt.forever() {
@@ -67,7 +81,7 @@ pub fn release<R: Wait>(floor: &Floor, rt: &R, pass: &mut Pass, l: LockNo, mode:
         match go_on_releasing(floor, pass) {
             Next::Done => return,
             Next::Again => pause(&backoff, before, pass.call()),
-            Next::Sleep => unreachable!(),
+            Next::Sleep | Next::Reversed(_) => unreachable!(),
             Next::Wake(t) => floor.unpark(t),
         }
     }
@@ -95,7 +109,11 @@ fn spins(call: Call) -> bool {
             ..
         } => left > 0,
         Call::Take {
-            at: TakeAt::ComesIn | TakeAt::Contends(_) | TakeAt::Walks(_) | TakeAt::Hops(_),
+            at: TakeAt::Checks
+            | TakeAt::ComesIn
+            | TakeAt::Contends(_)
+            | TakeAt::Walks(_)
+            | TakeAt::Hops(_),
             ..
         } => false,
         Call::None | Call::Release { .. } => false,

@@ -20,13 +20,12 @@ use Rattle.floor_table.specs.Places.{slot_of}
 use Rattle.floor_table.specs.Represents.{IsOf, objects_in}
 use Rattle.floor_table.specs.Steps.{Fits, MayMake}
 use Rattle.floor_table.specs.Views.{Knowledge}
-use Rattle.floor_table.proofs.HeldLocks.{only_locks}
 use Rattle.lock_floor.specs.declared.tables.Change.{Change}
 use Rattle.lock_floor.specs.declared.tables.Change.TheVariants.{Set, Add}
 use Rattle.lock_floor.specs.Changes.{IsChangeOf, event_of}
 use Rattle.lock_floor.specs.Passes.{IsAtRest}
 use Rattle.lock_floor.specs.Latches.{IsOfKind, Takes}
-use Rattle.lock_floor.proofs.May.{may_take, says_its, holds_it, own_log}
+use Rattle.lock_floor.proofs.May.{may_take, says_its, its_lock, own_log}
 use Rattle.lock_floor.proofs.Resting.{may_note, rest_with, taken_out}
 
 -- what a change says is of the cell, and of no section
@@ -50,7 +49,7 @@ module _ (floor : Description) (v : Knowledge) (calm : IsAtRest floor v) (l : Lo
   is_lock : (x : Hold) → hold_in v.share.held l.0 ≡ x → hold_in v.share.held l.0 ≢ NotHeld → (s : State)
       → Fits floor v s → l.0 < length floor.locks
   is_lock NotHeld e held s f = absurd (held e)
-  is_lock (Holds mode) e held s f = only_locks floor s v.thread l.0 mode f.sound.reached (holds_it floor v s f l.0 ∙ e)
+  is_lock (Holds mode) e held s f = its_lock floor v s f l.0 mode e
 
   pub may_take_cell : hold_in v.share.held l.0 ≢ NotHeld
       → MayMake floor v (λ s. item_with s cell ≡ None) (TakesItem v.thread cell ∷ [])

@@ -65,11 +65,10 @@ module _ (floor : Description) (me : Me Slot Knowledge) (was : me.0.role ≡ OfT
           role = was;
           seen = refl;
           makers = two_own v.thread (Seeks v.thread l x.by_try) (Gains v.thread l x.mode x.by_try) refl refl;
-          no_refusal = (λ u k j e. absurd cc, (λ u k j e. absurd cc, tt));
           seat = record {
             thread = refl;
             share = gain_own s (sought v l x.by_try) (seek_own h.state v h.fits.share l x.by_try) x
-                allowed.0.may.unheld;
+                allowed.0.fits.may.unheld;
           };
           others = λ u ne. gain_others s v.thread u ne x ∙ seek_others h.state v.thread u ne l x.by_try;
           pose = h.fits.pose;

@@ -1,6 +1,6 @@
 -- A floor whose passes were all taken in: nobody has anything out, so that all values are in their places.
 use Rattle.std.proofs.Common.{◌≡◌, ◌≢◌, ℕ, zero, suc, ◌+◌, ◌<◌, ◌≤◌, Bool, true, false, cond, List, [], ◌∷◌, length, map, reverse, get_or, Option, Some, None, refl, sym, ap, ◌∙◌, subst, inl, inr, arith, eq-eqb}
-use Rattle.std.proofs.lemmas.Bool.{cases_eq, cases_lt}
+use Rattle.std.proofs.lemmas.Bool.{cases_eq, cases_lt, ne_eqb}
 use Rattle.std.specs.Prelude.{◌==◌, nat_lt, option_map}
 use Rattle.std.specs.Option.{IsSome}
 use Rattle.std.specs.List.{All, list_any}
@@ -241,6 +241,28 @@ module _ (floor : Description) (v : Knowledge) (ws : List ℕ) (xs : List Slot)
 
   named : (t : ℕ) → t < length floor.threads → list_any (λ (g : ℕ × Share). g.0 == t) v.gathered ≡ true
   named t low = subst (λ gs. list_any (λ (g : ℕ × Share). g.0 == t) gs ≡ true) gathered (represents.seats.each t (subst (λ n. t < n) (sym all_made.0) low) (nobody t))
+
+  -- no thread takes a lock
+  pub takes_nothing : All (λ g. g.1.doing.taking ≡ None) v.gathered → (t : ℕ) → left.taking t ≡ None
+  takes_nothing idle t = elim (cases_lt t (length floor.threads)) [
+    | inl low ↦ among v.gathered taken_in idle (named t low)
+    | inr past ↦ ap (λ (y : ShareColumns). y.doing.taking)
+        (represents.seats.unmade t (subst (λ n. n ≤ t) (sym all_made.0) past))
+  ]
+    where
+      among : (gs : List (ℕ × Share)) → All (λ g. IsTakenIn b.views left g.0 g.1) gs
+          → All (λ g. g.1.doing.taking ≡ None) gs → list_any (λ (g : ℕ × Share). g.0 == t) gs ≡ true
+          → left.taking t ≡ None
+      among [] h untaken there = absurd cc
+      among (g ∷ gs) h untaken there = elim (cases_eq g.0 t) [
+        | inl e ↦
+            let its = All-head (λ k. IsTakenIn b.views left k.0 k.1) g gs h in
+            ap left.taking (sym e) ∙ sym (ap (λ (y : ShareColumns). y.doing.taking) its.share.columns)
+            ∙ All-head (λ (k : ℕ × Share). k.1.doing.taking ≡ None) g gs untaken
+        | inr ne ↦ among gs (All-tail (λ k. IsTakenIn b.views left k.0 k.1) g gs h)
+            (All-tail (λ (k : ℕ × Share). k.1.doing.taking ≡ None) g gs untaken)
+            (let z = rw (ne_eqb g.0 t ne) at there in z)
+      ]
 
   pub once : (t : ℕ) → times t (map (λ g. g.0) v.gathered) ≤ 1
   once = stands_once (λ (g : ℕ × Share). g.0) (length floor.threads) v.gathered all below named

@@ -1,13 +1,14 @@
 -- What is left of a floor that is closed.
 use Rattle.std.proofs.Common.{◌≡◌, ℕ, ◌+◌, ◌<◌, Bool, true, false, cond, List, length, map, reverse, get_or, None, refl, sym, ap, ◌∙◌, subst, arith}
 use Rattle.std.specs.FinMap.{get, same_map}
-use Rattle.std.specs.List.{list_any}
+use Rattle.std.specs.List.{All, list_any}
 use mathlib.Core.Option.{some, some-injective}
 use lib.ListN.{get_elem?}
 use Rattle.std.specs.declared.alloc.Global.{Global}
 use Rattle.std.specs.declared.boxed.Box.{Box}
 use Rattle.atomic_table.specs.Table.{Final, Seen}
 use Rattle.lock_history.proofs.Places.{place_total, place_exact}
+use Rattle.order_laws.proofs.TakeFacts.Whole as whole
 use Rattle.sleep_laws.proofs.LegalSoFar.{legal_so_far, may_halt}
 use Rattle.sleep_laws.specs.Sleepers.{by_chain}
 use Rattle.lock_model.specs.History.{value_at, tables_of}
@@ -64,6 +65,7 @@ module _ (floor : Description) (v : Knowledge) (ws : List ℕ) (xs : List Slot)
         → get_elem? xs t ≡ some (Recorded (get_or x.recs.items t d))
     pub values : (l key : ℕ)
         → get x.tables.present (l, key) ≡ cond (list_any (is_cell l key) floor.keys) (s.table l key) None
+    pub none_taken : All (λ g. g.1.doing.taking ≡ None) v.gathered
     pub going : x.halted ≡ false
 
   module _ (x : Closing) (h : HasAll x) where
@@ -115,7 +117,8 @@ module _ (floor : Description) (v : Knowledge) (ws : List ℕ) (xs : List Slot)
           };
           legal = legal_so_far (by_chain floor.chains s) (config_in floor) s true sound.facts.lawful sound.sleepers
               (may_halt s.history);
-          no_refusal = sound.no_refusal.in_history;
+          orders_are_legal = whole.legal (config_in floor) s sound.ordered sound.taken
+              (closed.takes_nothing floor v ws xs final all h.none_taken);
           few = few_entries;
           count = h.count;
           home = λ t d low. closed.home_of floor s sound running t (get_or x.recs.items t d).value (its_record t d low);

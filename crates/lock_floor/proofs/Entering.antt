@@ -158,7 +158,7 @@ module _ (floor : Description) (me : Me Slot Knowledge) (was : me.0.role ≡ OfT
       let its_word : s.word l ≡ word_of seen = sym (found_word floor b v h l low).0 ∙ ap word_of same in
       let its_owner : owner ≡ owner_of (s.word l).holder = ap (λ y. owner_of y.holder) (sym its_word) in
       let allowed = may s h.fits its_word in
-      let g = allowed.0.may in
+      let g = allowed.0.fits.may in
       let m : ℕ = l % floor.chains in
       let j : ℕ = chain_place floor (lock_queue l) in
       let place : slot_of floor (RecordOf t) ≡ Some t = record_at floor t h.fits.thread in
@@ -178,7 +178,6 @@ module _ (floor : Description) (me : Me Slot Knowledge) (was : me.0.role ≡ OfT
         role = was;
         seen = refl;
         makers = one_own t step refl;
-        no_refusal = (λ u k j e. absurd cc, tt);
         seat = record { thread = refl; share = enter_own s v h.fits.share l mode x owner after its_owner };
         others = λ u ne. enter_others s t u ne l mode x;
         pose = inl (g.waits.queued, put_same s.blocked_on t (Some (lock_queue l)));

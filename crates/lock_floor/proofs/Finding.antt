@@ -1,13 +1,14 @@
 -- A look finds the word that the lock has in the state to which all steps before it lead.
 use Rattle.std.proofs.Common.{◌≡◌, ℕ, Bool, Some, List, [], ◌∷◌, refl, sym, ap, ◌∙◌, subst}
 use Rattle.lock_laws.proofs.Kit.{put_same}
+use Rattle.lock_model.specs.Operations.{hold_in}
 use Rattle.lock_state.specs.State.{State}
-use Rattle.lock_state.specs.Steps.{Step, Looks, after}
+use Rattle.lock_state.specs.Steps.{Step, Looks, after, after_all}
 use Rattle.lock_state.specs.Steps.LockWords.{after_look}
 use Rattle.floor_table.specs.Descriptions.{config_in}
 use Rattle.floor_table.specs.declared.description.Description.{Description}
 use Rattle.floor_table.specs.Past.{LeadsTo, none, more}
-use Rattle.floor_table.specs.Represents.{RepresentsShare}
+use Rattle.floor_table.specs.Represents.{IsSeatOf, RepresentsShare, thread_in}
 use Rattle.floor_table.specs.Shares.{ShareColumns}
 use Rattle.floor_table.specs.Steps.{IsSound, Makes}
 use Rattle.floor_table.specs.Views.{Knowledge}
@@ -24,7 +25,29 @@ pub same_state : (floor : Description) (steps others : List Step) (u v x y : Kno
 same_state floor steps others u v x y m k e =
     one_state floor (subst (λ past. LeadsTo floor past m.state) e m.sound.reached) k.sound.reached
 
--- 2. What a look finds
+-- 2. What a thread's seat knows is so in the state in which it makes steps, and behind them
+
+pub share_then : (floor : Description) (steps : List Step) (old new : Knowledge) (m : Makes floor steps old new)
+    → RepresentsShare old.share m.state old.thread
+share_then floor steps old new m =
+    let its : IsSeatOf (thread_in m.before.views old.thread) m.state old.thread =
+    m.represents.seats.thread old.thread (ap (λ (k : Knowledge). k.role) m.was ∙ m.role) in
+    subst (λ (k : Knowledge). RepresentsShare k.share m.state old.thread) m.was its.share
+
+pub share_behind : (floor : Description) (steps : List Step) (old new : Knowledge) (m : Makes floor steps old new)
+    → RepresentsShare new.share (after_all (config_in floor) m.state steps) old.thread
+share_behind floor steps old new m =
+    let n : State = after_all (config_in floor) m.state steps in
+    let its : IsSeatOf (thread_in m.behind.views old.thread) n old.thread =
+    m.represents_behind.seats.thread old.thread (ap (λ (k : Knowledge). k.role) m.is ∙ m.role_behind) in
+    subst (λ (k : Knowledge). RepresentsShare k.share n old.thread) m.is its.share
+
+pub held_then : (floor : Description) (steps : List Step) (old new : Knowledge) (m : Makes floor steps old new) (l : ℕ)
+    → m.state.held old.thread l ≡ hold_in old.share.held l
+held_then floor steps old new m l =
+    sym (ap (λ (x : ShareColumns). x.held l) (share_then floor steps old new m).columns)
+
+-- 3. What a look finds
 
 module _ (floor : Description) (l : ℕ) (counts : Bool) (old new : Knowledge)
     (m : Makes floor (Looks old.thread l counts ∷ []) old new) where
@@ -34,14 +57,14 @@ module _ (floor : Description) (l : ℕ) (counts : Bool) (old new : Knowledge)
   pub finds_word : new.share.doing.last_look ≡ Some (record { lock = l; word = m.state.word l })
   unfolding after_look
   finds_word =
-      let its = m.represents_behind.seats.thread old.thread (ap (λ (k : Knowledge). k.role) m.is ∙ m.role_behind) in
-      let share : RepresentsShare new.share n old.thread = subst (λ (k : Knowledge). RepresentsShare k.share n old.thread) m.is its.share in
-      ap (λ (x : ShareColumns). x.doing.last_look) share.columns ∙ put_same m.state.last_look old.thread (Some (record { lock = l; word = m.state.word l }))
+      ap (λ (x : ShareColumns). x.doing.last_look)
+      (share_behind floor (Looks old.thread l counts ∷ []) old new m).columns
+      ∙ put_same m.state.last_look old.thread (Some (record { lock = l; word = m.state.word l }))
 
   behind : IsSound floor (Looks old.thread l counts ∷ m.past) n
   behind =
       let steps : List Step = Looks old.thread l counts ∷ [] in
-      sound_kept floor m.state steps (λ u k j e. absurd cc, tt) m.may m.sound
+      sound_kept floor m.state steps m.may m.sound
 
   -- a look leaves the words, so one right behind it finds the same
   pub finds_it_again : (again : Bool) (last : Knowledge) (k : Makes floor (Looks new.thread l again ∷ []) new last)

@@ -77,8 +77,7 @@ module _ (floor : Description) (me : Me Slot Knowledge) (was : me.0.role ≡ OfT
         role = was;
         seen = refl;
         makers = one_own v.thread step refl;
-        no_refusal = (λ u k j e. absurd cc, tt);
-        seat = record { thread = refl; share = gain_own h.state v h.fits.share x allowed.0.may.unheld };
+        seat = record { thread = refl; share = gain_own h.state v h.fits.share x allowed.0.fits.may.unheld };
         others = λ u ne. gain_others h.state v.thread u ne x;
         pose = h.fits.pose;
         other_poses = λ u ne p k. k;
@@ -113,7 +112,6 @@ module _ (floor : Description) (me : Me Slot Knowledge) (was : me.0.role ≡ OfT
         role = was;
         seen = refl;
         makers = one_own v.thread step refl;
-        no_refusal = (λ u k j e. absurd cc, tt);
         seat = record { thread = refl; share = drop_own h.state v h.fits.share l };
         others = λ u ne. drop_others h.state v.thread u ne l;
         pose = h.fits.pose;

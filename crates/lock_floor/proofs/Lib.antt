@@ -54,4 +54,6 @@ pub mod WalkAtLock
 pub mod WalkCall
 pub mod WalkWork
 pub mod Beginning
+pub mod OrderStep
+pub mod OrderCall
 pub mod Calling

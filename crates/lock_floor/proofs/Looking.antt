@@ -65,7 +65,6 @@ module _ (floor : Description) (me : Me Slot Knowledge) (l : ℕ) (was : me.0.ro
         role = was;
         seen = refl;
         makers = one_own v.thread step refl;
-        no_refusal = (λ u k j e. absurd cc, tt);
         seat = record { thread = refl; share = subst (λ y. RepresentsShare (looked v l y).share (after_look h.state v.thread l (counts v l)) v.thread) (sym found.0) (look_own h.state v h.fits.share l) };
         others = λ u ne. look_others h.state v.thread u ne l (counts v l);
         pose = h.fits.pose;
@@ -93,7 +92,7 @@ module _ (floor : Description) (me : Me Slot Knowledge) (l : ℕ) (was : me.0.ro
     no_chain b h may =
         subst (λ (d : Description). has_item v (chain_of d.chains (config_in d) l) ≡ false) (sym mine)
         (its_item floor v h.state h.fits mine (chain_of floor.chains (config_in floor) l)
-        ∙ go (item_with h.state (chain_of floor.chains (config_in floor) l)) may.0.has_out)
+        ∙ go (item_with h.state (chain_of floor.chains (config_in floor) l)) may.0.fits.has_out)
       where
         go : (o : Option ℕ) → (o ≡ Some v.thread → ⊥) → is_with v.thread o ≡ false
         go None gone = refl
@@ -118,7 +117,6 @@ module _ (floor : Description) (me : Me Slot Knowledge) (l : ℕ) (was : me.0.ro
           role = was;
           seen = refl;
           makers = two_own v.thread (Seeks v.thread l by_try) (Looks v.thread l true) refl refl;
-          no_refusal = (λ u k j e. absurd cc, (λ u k j e. absurd cc, tt));
           seat = record { thread = refl; share = subst (λ y. RepresentsShare (looked x l y).share n v.thread) (sym found.0) share };
           others = λ u ne. look_others s v.thread u ne l true ∙ seek_others h.state v.thread u ne l by_try;
           pose = h.fits.pose;

@@ -135,4 +135,5 @@ module _ (floor : Description) (me : Me Slot Knowledge) (w : Woken) (old new : M
             out = ap (λ (k : Me Slot Knowledge). k.1) its.0 ∙ worked_here ∙ sym (ap (λ w. w.out) v);
             done = λ e. absurd (let z : false ≡ true = sym going ∙ e in cc);
             runs = λ e. absurd (let z : false ≡ true = sym going ∙ e in cc);
+            rests = λ e. absurd (let z : false ≡ true = sym going ∙ e in cc);
           }

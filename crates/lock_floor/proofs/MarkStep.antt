@@ -210,7 +210,7 @@ module _ (floor : Description) (me : Me Slot Knowledge) (was : me.0.role ≡ OfT
       let t : ℕ = v.thread in
       let n : State = after_mark c s t m ms in
       let lawful : Lawful c s = h.sound.facts.lawful in
-      let g = allowed.0.may in
+      let g = allowed.0.fits.may in
       let step : Step = Marks t m ms in
       let w : Knowledge = seeing (step ∷ h.past) (marked_first v m ms me.1) in
       let low : u < length floor.threads = marked_thread c s t m ms lawful g.thread g.marked in
@@ -225,7 +225,6 @@ module _ (floor : Description) (me : Me Slot Knowledge) (was : me.0.role ≡ OfT
         role = was;
         seen = refl;
         makers = one_own t step refl;
-        no_refusal = (λ u k j e. absurd cc, tt);
         seat = record { thread = refl; share = mark_own s v h.fits.share c m ms me.1 };
         others = λ k ne. mark_others s t k ne c m ms;
         pose = poses t v.pose h.fits.pose;

@@ -11,17 +11,19 @@ use Rattle.lock_model.specs.Config.{Config}
 use Rattle.lock_model.specs.History.{open_in}
 use Rattle.lock_model.specs.Holds.{NotHeld, Holds}
 use Rattle.lock_model.specs.Operations.{hold_in}
+use Rattle.lock_model.specs.Queues.{lock_queue}
 use Rattle.lock_model.specs.Words.{Word, admits, is_plain, is_drop}
 use Rattle.lock_model.specs.declared.event.Event.{Event}
 use Rattle.lock_model.specs.declared.plan.Mode.{Mode}
-use Rattle.lock_state.specs.Facts.{LogsAreParts}
-use Rattle.lock_state.specs.State.{State, Look, Running, Queued, Awake, is_parked, gained_order}
-use Rattle.lock_state.specs.Steps.{Looks, Seeks, Gains, Drops, TakesItem, GivesItem, chain_of, seeks, is_with, counts_as_look, Stamps, FitsRound, IsItem, IsOfRound, HasItem, HasOutForEntry, NotesInRound, EndsTake, ends_sleep, is_halting, IsHalting, IsFirstExchange, IsRunnable, OwesNoStep, GoesOn, FitsFloor}
+use Rattle.lock_state.specs.Facts.{LogsAreParts, OnlyLocksAreHeld}
+use Rattle.lock_state.specs.State.{State, Look, Round, Running, Queued, Awake, SleepHalted, is_parked, gained_order}
+use Rattle.lock_state.specs.Steps.{Looks, Seeks, Gains, Drops, TakesItem, GivesItem, chain_of, seeks, is_with, counts_as_look, Stamps, FitsRound, IsItem, IsOfRound, HasItem, HasOutForEntry, NotesInRound, EndsTake, ends_sleep, is_halting, IsHalting, IsFirstExchange, IsRunnable, OwesNoStep, GoesOn, NeedsNoAdmission, IsRoundOfWanted, GainsInOrder}
 use Rattle.lock_state.specs.Steps.Items.{Item, TurnstileChain, SleepChain, RecordOf, CellOf, ClassGraph, item_with, IsOnItsWay, MayCheckOrders, IsDoneWith}
 use Rattle.lock_state.specs.Steps.LockWords.{Asks, IsActing, is_woken, is_taking_back, round_of, taking_from, after_seek}
 use Rattle.floor_table.specs.Descriptions.{config_in}
 use Rattle.floor_table.specs.declared.description.Description.{Description}
 use Rattle.floor_table.specs.declared.slot.Slot.{Slot}
+use Rattle.floor_table.specs.Past.{IsAllowed}
 use Rattle.floor_table.specs.Places.{slot_of}
 use Rattle.floor_table.specs.Represents.{IsOf, IsPosed, objects_in}
 use Rattle.floor_table.specs.Shelves.{found}
@@ -55,6 +57,25 @@ pub record BeginsCall (v : Knowledge) : Type 0 where
   pub takes : v.share.doing.taking ≡ None
   pub unseen : v.share.doing.last_look ≡ None
 
+-- a take of the thread needs no admission: it holds nothing, has nothing to note, and isn't in a wait
+pub record TakesFreely (v : Knowledge) : Type 0 where
+  pub bare : v.share.held ≡ []
+  pub unnoted : v.share.doing.noted ≡ None
+  pub no_wait : is_taking_back v.share.log ≡ false
+
+-- a blocking call is of the lock that the thread wants, or needs no admission
+abbrev pub IsOrderedTake : ℕ → Knowledge → Type 0
+IsOrderedTake l v = (v.share.doing.wanted ≡ Some l) ⊎ TakesFreely v
+
+-- a blocking call's round that is under way is of the lock that the thread wants
+abbrev pub WantsItsRound : Knowledge → Type 0
+WantsItsRound v =
+    (r : Round) → v.share.doing.round ≡ Some r → r.by_try ≡ false → v.share.doing.wanted ≡ Some r.lock
+
+-- it has no halt of a take to note
+abbrev pub IsUnhalted : Knowledge → Type 0
+IsUnhalted v = (k : ℕ) → v.share.doing.noted ≡ Some (SleepHalted (lock_queue k)) → ⊥
+
 -- A round begins by a call: the thread wants the lock or none, takes none where it wants none, and is in no round.
 -- Where it remembers a look, that is the first exchange of a blocking call, which missed, and it holds nothing
 pub record BeginsRound (l : ℕ) (by_try : Bool) (v : Knowledge) : Type 0 where
@@ -64,6 +85,8 @@ pub record BeginsRound (l : ℕ) (by_try : Bool) (v : Knowledge) : Type 0 where
   pub anew : v.share.doing.wanted ≡ None → v.share.doing.taking ≡ None
   pub unseen : by_try ≡ true → v.share.doing.last_look ≡ None
   pub missed : (look : Look) → v.share.doing.last_look ≡ Some look → (look.lock ≡ l) × (v.share.held ≡ [])
+  pub ordered : by_try ≡ false → IsOrderedTake l v
+  pub unhalted : IsUnhalted v
   pub no_round : v.share.doing.round ≡ None
   pub runs : v.pose ≡ Runs
   pub nothing_out : v.out ≡ []
@@ -130,6 +153,11 @@ module _ (floor : Description) (v : Knowledge) where
         (λ i. seeks l (sym (doing_it (λ d. d.round)) i) && not (has_item v (chain i)))
         ∙ ap (λ b. seeks l (s.round t) && not b) (its_item mine (chain_of floor.chains c l))
 
+    -- a lock that it holds is one of the floor's
+    pub its_lock : (l : ℕ) (mode : Mode) → hold_in v.share.held l ≡ Holds mode → l < length floor.locks
+    unfolding OnlyLocksAreHeld
+    its_lock l mode e = f.sound.taken.only_locks_are_held t l mode (holds_it l ∙ e)
+
     -- with nothing out
     no_item : v.out ≡ [] → (i : Item) → is_with t (item_with s i) ≡ false
     no_item empty i = go (item_with s i) refl
@@ -177,6 +205,38 @@ module _ (floor : Description) (v : Knowledge) where
         unseen = doing_it (λ d. d.last_look) ∙ b.unseen;
       }
 
+    -- how it keeps to the order of locks
+
+    -- its take is of the lock that it wants, or needs no admission
+    pub in_order : (l : ℕ) → IsOrderedTake l v → (s.wanted t ≡ Some l) ⊎ NeedsNoAdmission s t
+    in_order l (inl wants) = inl (doing_it (λ d. d.wanted) ∙ wants)
+    in_order l (inr free) = inr record {
+      bare = sym (column (λ x. x.held_locks)) ∙ ap gained_order free.bare;
+      unnoted = doing_it (λ d. d.noted) ∙ free.unnoted;
+      awake = ap is_taking_back (sym (column (λ x. x.log))) ∙ free.no_wait;
+    }
+
+    -- the round under way is of the lock that it wants
+    pub in_wanted_round : WantsItsRound v → IsRoundOfWanted s t
+    in_wanted_round wants r is blocks =
+        doing_it (λ d. d.wanted) ∙ wants r (sym (doing_it (λ d. d.round)) ∙ is) blocks
+
+    pub not_halted : IsUnhalted v → (k : ℕ) → s.noted t ≡ Some (SleepHalted (lock_queue k)) → ⊥
+    not_halted unhalted k e = unhalted k (sym (doing_it (λ d. d.noted)) ∙ e)
+
+    pub gains_in_order : (l : ℕ) (by_try : Bool) → (by_try ≡ false → IsOrderedTake l v)
+        → ((k : ℕ) → v.share.doing.taking ≡ Some k → k ≡ l) → IsUnhalted v → GainsInOrder s t l by_try
+    gains_in_order l by_try ordered others unhalted = record {
+      wants = λ blocks. in_order l (ordered blocks);
+      takes = λ k e. others k (sym (doing_it (λ d. d.taking)) ∙ e);
+      unhalted = not_halted unhalted;
+    }
+
+    -- outside rounds
+    pub no_wanted_round : v.share.doing.round ≡ None → IsRoundOfWanted s t
+    no_wanted_round none r is blocks =
+        absurd (let z : None ≡ Some r = sym (doing_it (λ d. d.round) ∙ none) ∙ is in cc)
+
   -- 2. Steps on lock words
 
   -- with nothing out, a look counts where a round of the lock is under way
@@ -196,32 +256,45 @@ module _ (floor : Description) (v : Knowledge) where
   pub may_look : (l : ℕ) → v.description ≡ floor → l < length floor.locks → v.pose ≡ Runs → v.out ≡ [] → IsGoing v
       → (counts v l ≡ true → v.share.doing.looks < 100) → (v.share.doing.round ≢ None → counts v l ≡ true)
       → (v.share.doing.round ≡ None → v.share.doing.taking ≡ None)
-      → (v.share.doing.round ≡ None → hold_in v.share.held l ≡ NotHeld → BeginsCall v)
+      → (v.share.doing.round ≡ None → hold_in v.share.held l ≡ NotHeld → BeginsCall v) → WantsItsRound v
       → MayMake floor v (λ s. Unit {0}) (Looks t l (counts v l) ∷ [])
-  may_look l mine low runs empty going few of_round takes first s f _ =
+  may_look l mine low runs empty going few of_round takes first wants s f _ =
       let round : s.round t ≡ v.share.doing.round = doing_it s f (λ d. d.round) in
       let looks : s.looks t ≡ v.share.doing.looks = doing_it s f (λ d. d.looks) in
       let counted = counts_it s f mine l in (
         record {
-          may = record { thread = f.thread; lock = low; room = λ e. subst (λ n. n < 100) (sym looks) (few e) };
-          has_out = tt;
-          has_seen = record {
-            counts = counted;
-            of_round = λ ne. ap (seeks l) round ∙ seeks_it l (of_round (λ e. ne (round ∙ e)));
-            in_chain = λ i x out. absurd (nothing_with s f empty i out);
-            outside = λ i n x out. absurd (nothing_with s f empty i out);
-            outside_takes = λ none. inl (doing_it s f (λ d. d.taking) ∙ takes (sym round ∙ none));
-            outside_first = λ none unheld. inl (first_exchange s f runs going
-                (first (sym round ∙ none) (sym (holds_it s f l) ∙ unheld)));
-            halting = λ e. absurd (not_halting s f runs going e);
+          fits = record {
+            may = record { thread = f.thread; lock = low; room = λ e. subst (λ n. n < 100) (sym looks) (few e) };
+            has_out = tt;
+            has_seen = record {
+              counts = counted;
+              of_round = λ ne. ap (seeks l) round ∙ seeks_it l (of_round (λ e. ne (round ∙ e)));
+              in_chain = λ i x out. absurd (nothing_with s f empty i out);
+              outside = λ i n x out. absurd (nothing_with s f empty i out);
+              outside_takes = λ none. inl (doing_it s f (λ d. d.taking) ∙ takes (sym round ∙ none));
+              outside_first = λ none unheld. inl (first_exchange s f runs going
+                  (first (sym round ∙ none) (sym (holds_it s f l) ∙ unheld)));
+              halting = λ e. absurd (not_halting s f runs going e);
+            };
+            asks_of_thread = record { runs = inl (is_awake s f runs going); owes = owes_none s f runs going };
           };
-          asks_of_thread = record { runs = inl (is_awake s f runs going); owes = owes_none s f runs going };
+          keeps_order = record {
+            taken = λ e. of_the_round e v.share.doing.round refl;
+            wants = λ _. in_wanted_round s f wants;
+          };
         },
         tt,
       )
     where
       seeks_it : (l : ℕ) → counts v l ≡ true → seeks l v.share.doing.round ≡ true
       seeks_it l e = (both_true (seeks l v.share.doing.round) _ e).0
+
+      -- what is taken is looked at in its round alone
+      of_the_round : s.taking t ≡ Some l → (o : Option Round) → v.share.doing.round ≡ o → seeks l (s.round t) ≡ true
+      of_the_round e None none = absurd
+          (let z : None ≡ Some l = sym (doing_it s f (λ d. d.taking) ∙ takes none) ∙ e in cc)
+      of_the_round e (Some r) some = ap (seeks l) (doing_it s f (λ d. d.round))
+          ∙ seeks_it l (of_round (λ none. let z : Some r ≡ None = sym some ∙ none in cc))
 
   -- the begin of a round, with a first look or with a gain
 
@@ -230,26 +303,29 @@ module _ (floor : Description) (v : Knowledge) where
     abbrev sought : State
     sought = after_seek s t l by_try
 
-    seek_fits : FitsFloor floor.chains c s (Seeks t l by_try)
+    seek_fits : IsAllowed floor s (Seeks t l by_try)
     seek_fits = record {
-      may = record {
-        thread = f.thread;
-        lock = low;
-        unheld = holds_it s f l ∙ b.unheld;
-        acting = is_acting s f b.runs;
-        wants = subst (λ w. (w ≡ Some l) ⊎ (w ≡ None)) (sym (doing_it s f (λ d. d.wanted))) b.wants;
-        tries_want_nothing = λ e. doing_it s f (λ d. d.wanted) ∙ b.tries e;
-        no_round = doing_it s f (λ d. d.round) ∙ b.no_round;
+      fits = record {
+        may = record {
+          thread = f.thread;
+          lock = low;
+          unheld = holds_it s f l ∙ b.unheld;
+          acting = is_acting s f b.runs;
+          wants = subst (λ w. (w ≡ Some l) ⊎ (w ≡ None)) (sym (doing_it s f (λ d. d.wanted))) b.wants;
+          tries_want_nothing = λ e. doing_it s f (λ d. d.wanted) ∙ b.tries e;
+          no_round = doing_it s f (λ d. d.round) ∙ b.no_round;
+        };
+        has_out = nothing_with s f b.nothing_out (chain_of floor.chains c l);
+        has_seen = record {
+          takes = λ e. doing_it s f (λ d. d.taking) ∙ b.anew (sym (doing_it s f (λ d. d.wanted)) ∙ e);
+          tries = λ e. doing_it s f (λ d. d.last_look) ∙ b.unseen e;
+          blocks = λ look e.
+              let m = b.missed look (sym (doing_it s f (λ d. d.last_look)) ∙ e) in
+              (m.0, sym (column s f (λ x. x.held_locks)) ∙ ap gained_order m.1);
+        };
+        asks_of_thread = goes_on s f b.runs b.going;
       };
-      has_out = nothing_with s f b.nothing_out (chain_of floor.chains c l);
-      has_seen = record {
-        takes = λ e. doing_it s f (λ d. d.taking) ∙ b.anew (sym (doing_it s f (λ d. d.wanted)) ∙ e);
-        tries = λ e. doing_it s f (λ d. d.last_look) ∙ b.unseen e;
-        blocks = λ look e.
-            let m = b.missed look (sym (doing_it s f (λ d. d.last_look)) ∙ e) in
-            (m.0, sym (column s f (λ x. x.held_locks)) ∙ ap gained_order m.1);
-      };
-      asks_of_thread = goes_on s f b.runs b.going;
+      keeps_order = λ blocks. in_order s f l (b.ordered blocks);
     }
 
     begun : sought.round t ≡ Some (round_of l by_try)
@@ -278,28 +354,38 @@ module _ (floor : Description) (v : Knowledge) where
       stamped = (owes_none s f b.runs b.going).stamped;
     }
 
-    look_fits : FitsFloor floor.chains c sought (Looks t l true)
+    look_fits : (by_try ≡ false → v.share.doing.wanted ≡ Some l) → IsAllowed floor sought (Looks t l true)
     unfolding after_seek
-    look_fits =
+    look_fits wants =
         let looks : sought.looks t ≡ 0 = put_same s.looks t 0 in
         let of_round : seeks l (Some (round_of l by_try)) ≡ true = eq-eqb l l refl in
         record {
-          may = record { thread = f.thread; lock = low; room = λ _. subst (λ n. n < 100) (sym looks) (omega arith) };
-          has_out = tt;
-          has_seen = record {
-            counts = sym (ap (λ r. seeks l r && not (is_with t (item_with s (chain_of floor.chains c l)))) begun
-                ∙ ap (λ x. seeks l (Some (round_of l by_try)) && not x)
-                (no_item s f b.nothing_out (chain_of floor.chains c l)) ∙ and_true (seeks l (Some (round_of l by_try)))
-                ∙ of_round);
-            of_round = λ _. ap (seeks l) begun ∙ of_round;
-            in_chain = λ i x out. absurd (nothing_with s f b.nothing_out i out);
-            outside = λ i n x out. absurd (nothing_with s f b.nothing_out i out);
-            outside_takes = λ none. absurd (in_round none);
-            outside_first = λ none. absurd (in_round none);
-            halting = λ e. absurd (not_halting s f b.runs b.going e);
+          fits = record {
+            may = record { thread = f.thread; lock = low; room = λ _. subst (λ n. n < 100) (sym looks) (omega arith) };
+            has_out = tt;
+            has_seen = record {
+              counts = sym (ap (λ r. seeks l r && not (is_with t (item_with s (chain_of floor.chains c l)))) begun
+                  ∙ ap (λ x. seeks l (Some (round_of l by_try)) && not x)
+                  (no_item s f b.nothing_out (chain_of floor.chains c l)) ∙ and_true (seeks l (Some (round_of l by_try)))
+                  ∙ of_round);
+              of_round = λ _. ap (seeks l) begun ∙ of_round;
+              in_chain = λ i x out. absurd (nothing_with s f b.nothing_out i out);
+              outside = λ i n x out. absurd (nothing_with s f b.nothing_out i out);
+              outside_takes = λ none. absurd (in_round none);
+              outside_first = λ none. absurd (in_round none);
+              halting = λ e. absurd (not_halting s f b.runs b.going e);
+            };
+            asks_of_thread = record { runs = inl runs_on; owes = owes_on };
           };
-          asks_of_thread = record { runs = inl runs_on; owes = owes_on };
+          keeps_order = record { taken = λ _. ap (seeks l) begun ∙ of_round; wants = λ _. of_wanted };
         }
+      where
+        -- the round is of the lock that is wanted
+        of_wanted : IsRoundOfWanted sought t
+        of_wanted r is blocks =
+            let same : round_of l by_try ≡ r = same_Some (round_of l by_try) r (sym begun ∙ is) in
+            doing_it s f (λ d. d.wanted) ∙ wants (ap (λ (x : Round). x.by_try) same ∙ blocks)
+            ∙ ap (λ (x : Round). Some x.lock) same
 
     -- then the lock is taken by a blocking call: also where it was wanted, and so taken already
     taken : by_try ≡ false → (v.share.doing.wanted ≡ Some l → v.share.doing.taking ≡ Some l)
@@ -321,39 +407,53 @@ module _ (floor : Description) (v : Knowledge) where
 
     gain_fits : (mode : Mode) → admits (c.kind l) (s.word l) mode ≡ true → is_plain (c.kind l) (s.word l) mode ≡ true
         → (v.share.doing.wanted ≡ Some l → v.share.doing.taking ≡ Some l)
-        → FitsFloor floor.chains c sought (Gains t l mode by_try)
+        → IsAllowed floor sought (Gains t l mode by_try)
     unfolding after_seek
     gain_fits mode admitted plain already =
         let acting = is_acting s f b.runs in
         record {
-          may = record {
-            thread = f.thread;
-            lock = low;
-            admitted = admitted;
-            plainly = plain;
-            unheld = holds_it s f l ∙ b.unheld;
-            acting = record { unnamed = acting.unnamed; unwoken = acting.unwoken };
-            wants = subst (λ w. (w ≡ Some l) ⊎ (w ≡ None)) (sym (doing_it s f (λ d. d.wanted))) b.wants;
+          fits = record {
+            may = record {
+              thread = f.thread;
+              lock = low;
+              admitted = admitted;
+              plainly = plain;
+              unheld = holds_it s f l ∙ b.unheld;
+              acting = record { unnamed = acting.unnamed; unwoken = acting.unwoken };
+              wants = subst (λ w. (w ≡ Some l) ⊎ (w ≡ None)) (sym (doing_it s f (λ d. d.wanted))) b.wants;
+            };
+            has_out = tt;
+            has_seen = record {
+              fits = subst (λ r. FitsRound r l by_try) (sym begun) (refl, refl);
+              in_round = λ none. absurd (in_round none);
+              saw = λ w out _. absurd (nothing_with s f b.nothing_out (chain_of floor.chains c l) out);
+              outside_first = λ none. absurd (in_round none);
+              others = of_it by_try refl;
+              takes = λ blocks. taken blocks already;
+            };
+            asks_of_thread = record { runs = runs_on; owes = owes_on };
           };
-          has_out = tt;
-          has_seen = record {
-            fits = subst (λ r. FitsRound r l by_try) (sym begun) (refl, refl);
-            in_round = λ none. absurd (in_round none);
-            saw = λ w out _. absurd (nothing_with s f b.nothing_out (chain_of floor.chains c l) out);
-            outside_first = λ none. absurd (in_round none);
-            others = of_it by_try refl;
-            takes = λ blocks. taken blocks already;
+          keeps_order = record {
+            wants = λ blocks. still_in_order (b.ordered blocks);
+            takes = of_it by_try refl;
+            unhalted = not_halted s f b.unhalted;
           };
-          asks_of_thread = record { runs = runs_on; owes = owes_on };
         }
       where
         of_it : (x : Bool) → by_try ≡ x → (k : ℕ) → sought.taking t ≡ Some k → k ≡ l
         of_it true tries k e = absurd (let z : None ≡ Some k = sym (taken_by_try tries) ∙ e in cc)
         of_it false blocks k e = same_Some k l (sym e ∙ taken blocks already)
 
+        still_in_order : IsOrderedTake l v → (sought.wanted t ≡ Some l) ⊎ NeedsNoAdmission sought t
+        still_in_order o = elim (in_order s f l o) [
+          | inl wants ↦ inl wants
+          | inr free ↦ inr (record { bare = free.bare; unnoted = free.unnoted; awake = free.awake })
+        ]
+
   pub may_seek : (l : ℕ) (by_try : Bool) → l < length floor.locks → BeginsRound l by_try v
+      → (by_try ≡ false → v.share.doing.wanted ≡ Some l)
       → MayMake floor v (λ s. Unit {0}) (Seeks t l by_try ∷ Looks t l true ∷ [])
-  may_seek l by_try low b s f _ = (seek_fits l by_try low b s f, (look_fits l by_try low b s f, tt))
+  may_seek l by_try low b wants s f _ = (seek_fits l by_try low b s f, (look_fits l by_try low b s f wants, tt))
 
   pub may_seek_gain : (l : ℕ) (mode : Mode) (by_try : Bool) (word : Word) → l < length floor.locks
       → admits (c.kind l) word mode ≡ true → is_plain (c.kind l) word mode ≡ true
@@ -372,52 +472,60 @@ module _ (floor : Description) (v : Knowledge) where
       → admits (c.kind l) word mode ≡ true → is_plain (c.kind l) word mode ≡ true → hold_in v.share.held l ≡ NotHeld
       → (v.share.doing.wanted ≡ Some l) ⊎ (v.share.doing.wanted ≡ None) → FitsRound v.share.doing.round l by_try
       → (v.share.doing.round ≡ None → BeginsCall v) → ((k : ℕ) → v.share.doing.taking ≡ Some k → k ≡ l)
-      → (by_try ≡ false → v.share.doing.taking ≡ Some l) → v.pose ≡ Runs → v.out ≡ [] → IsGoing v
+      → (by_try ≡ false → v.share.doing.taking ≡ Some l) → (by_try ≡ false → IsOrderedTake l v) → IsUnhalted v
+      → v.pose ≡ Runs → v.out ≡ [] → IsGoing v
       → MayMake floor v (λ s. s.word l ≡ word) (Gains t l mode by_try ∷ [])
-  may_gain l mode by_try word low admitted plain unheld wants fits first others takes runs empty going s f its =
+  may_gain l mode by_try word low admitted plain unheld wants fits first others takes ordered unhalted runs empty going
+      s f its =
       let round : s.round t ≡ v.share.doing.round = doing_it s f (λ d. d.round) in
       let wanted : s.wanted t ≡ v.share.doing.wanted = doing_it s f (λ d. d.wanted) in (
         record {
-          may = record {
-            thread = f.thread;
-            lock = low;
-            admitted = ap (λ w. admits (c.kind l) w mode) its ∙ admitted;
-            plainly = ap (λ w. is_plain (c.kind l) w mode) its ∙ plain;
-            unheld = holds_it s f l ∙ unheld;
-            acting = is_acting s f runs;
-            wants = subst (λ w. (w ≡ Some l) ⊎ (w ≡ None)) (sym wanted) wants;
+          fits = record {
+            may = record {
+              thread = f.thread;
+              lock = low;
+              admitted = ap (λ w. admits (c.kind l) w mode) its ∙ admitted;
+              plainly = ap (λ w. is_plain (c.kind l) w mode) its ∙ plain;
+              unheld = holds_it s f l ∙ unheld;
+              acting = is_acting s f runs;
+              wants = subst (λ w. (w ≡ Some l) ⊎ (w ≡ None)) (sym wanted) wants;
+            };
+            has_out = tt;
+            has_seen = record {
+              fits = subst (λ r. FitsRound r l by_try) (sym round) fits;
+              in_round = λ _. nothing_with s f empty (chain_of floor.chains c l);
+              saw = λ w out _. absurd (nothing_with s f empty (chain_of floor.chains c l) out);
+              outside_first = λ none. first_exchange s f runs going (first (sym round ∙ none));
+              others = λ k e. others k (sym (doing_it s f (λ d. d.taking)) ∙ e);
+              takes = λ e. doing_it s f (λ d. d.taking) ∙ takes e;
+            };
+            asks_of_thread = goes_on s f runs going;
           };
-          has_out = tt;
-          has_seen = record {
-            fits = subst (λ r. FitsRound r l by_try) (sym round) fits;
-            in_round = λ _. nothing_with s f empty (chain_of floor.chains c l);
-            saw = λ w out _. absurd (nothing_with s f empty (chain_of floor.chains c l) out);
-            outside_first = λ none. first_exchange s f runs going (first (sym round ∙ none));
-            others = λ k e. others k (sym (doing_it s f (λ d. d.taking)) ∙ e);
-            takes = λ e. doing_it s f (λ d. d.taking) ∙ takes e;
-          };
-          asks_of_thread = goes_on s f runs going;
+          keeps_order = gains_in_order s f l by_try ordered others unhalted;
         },
         tt,
       )
 
   pub may_drop : (l : ℕ) (mode : Mode) (word : Word) → l < length floor.locks → hold_in v.share.held l ≡ Holds mode
-      → is_drop word ≡ true → open_in c v.share.log t l ≡ NotHeld → is_among l v.share.begun ≡ true → v.pose ≡ Runs
-      → IsGoing v
+      → is_drop word ≡ true → open_in c v.share.log t l ≡ NotHeld → is_among l v.share.begun ≡ true
+      → v.share.doing.taking ≡ None → v.pose ≡ Runs → IsGoing v
       → MayMake floor v (λ s. s.word l ≡ word) (Drops t l mode ∷ [])
-  may_drop l mode word low held stays closed begun runs going s f its = (
+  may_drop l mode word low held stays closed begun takes runs going s f its = (
     record {
-      may = record {
-        thread = f.thread;
-        lock = low;
-        held = holds_it s f l ∙ held;
-        stays = ap is_drop its ∙ stays;
-        closed = own_log s f l ∙ closed;
-        begun = sym (column s f (λ x. x.has_begun l)) ∙ begun;
+      fits = record {
+        may = record {
+          thread = f.thread;
+          lock = low;
+          held = holds_it s f l ∙ held;
+          stays = ap is_drop its ∙ stays;
+          closed = own_log s f l ∙ closed;
+          begun = sym (column s f (λ x. x.has_begun l)) ∙ begun;
+        };
+        has_out = tt;
+        has_seen = tt;
+        asks_of_thread = goes_on s f runs going;
       };
-      has_out = tt;
-      has_seen = tt;
-      asks_of_thread = goes_on s f runs going;
+      keeps_order = doing_it s f (λ d. d.taking) ∙ takes;
     },
     tt,
   )
@@ -435,16 +543,20 @@ module _ (floor : Description) (v : Knowledge) where
       let unstamped : s.unstamped t ≡ v.share.doing.unstamped = doing_it s f (λ d. d.unstamped) in
       let log : s.log t ≡ v.share.log = sym (column s f (λ x. x.log)) in (
         record {
-          may = record { thread = f.thread; acting = is_acting s f runs; asks = a.0 };
-          has_out = a.1;
-          has_seen = record {
-            in_round = subst (λ r. NotesInRound r e) (sym round) in_round;
-            asleep = λ q. asleep (ap is_taking_back (sym log) ∙ q);
-            wakes = λ ne. absurd (ne (unstamped ∙ going.stamped));
-            takes = λ l q. subst (λ es. EndsTake c (is_taking_back es) e l) (sym log)
-                (ends l (sym (doing_it s f (λ d. d.taking)) ∙ q));
+          fits = record {
+            may = record { thread = f.thread; acting = is_acting s f runs; asks = a.0 };
+            has_out = a.1;
+            has_seen = record {
+              in_round = subst (λ r. NotesInRound r e) (sym round) in_round;
+              asleep = λ q. asleep (ap is_taking_back (sym log) ∙ q);
+              wakes = λ ne. absurd (ne (unstamped ∙ going.stamped));
+              takes = λ l q. subst (λ es. EndsTake c (is_taking_back es) e l) (sym log)
+                  (ends l (sym (doing_it s f (λ d. d.taking)) ∙ q));
+            };
+            asks_of_thread = record { runs = is_awake s f runs going; added = off s f runs };
           };
-          asks_of_thread = record { runs = is_awake s f runs going; added = off s f runs };
+          keeps_order = λ l q. subst (λ es. EndsTake c (is_taking_back es) e l) (sym log)
+              (ends l (sym (doing_it s f (λ d. d.taking)) ∙ q));
         },
         tt,
       )
@@ -472,19 +584,22 @@ module _ (floor : Description) (v : Knowledge) where
       → MayMake floor v (λ s. item_with s i ≡ None) (TakesItem t i ∷ [])
   may_take i runs empty no_round going there s f home = (
     record {
-      may = record {
-        thread = f.thread;
-        home = home;
-        together = λ k out. absurd (nothing_with s f empty k out);
-        orders = may_check runs s f i;
+      fits = record {
+        may = record {
+          thread = f.thread;
+          home = home;
+          together = λ k out. absurd (nothing_with s f empty k out);
+          orders = may_check runs s f i;
+        };
+        has_out = (
+          there s f,
+          subst (λ r. IsOfRound floor.chains c r i) (sym (doing_it s f (λ d. d.round) ∙ no_round))
+              tt,
+        );
+        has_seen = tt;
+        asks_of_thread = record { runs = inl (is_awake s f runs going); owes = owes_none s f runs going };
       };
-      has_out = (
-        there s f,
-        subst (λ r. IsOfRound floor.chains c r i) (sym (doing_it s f (λ d. d.round) ∙ no_round))
-            tt,
-      );
-      has_seen = tt;
-      asks_of_thread = record { runs = inl (is_awake s f runs going); owes = owes_none s f runs going };
+      keeps_order = λ _. no_wanted_round s f no_round;
     },
     tt,
   )
@@ -499,13 +614,16 @@ module _ (floor : Description) (v : Knowledge) where
         → v.share.doing.unstamped ≡ None → MayMake floor v (λ s. Unit {0}) (GivesItem t i ∷ [])
     may_give plain runs awake noted s f _ = (
       record {
-        may = record { thread = f.thread; out = (says_its s f).0; done = done i plain };
-        has_out = (says_its s f).0;
-        has_seen = tt;
-        asks_of_thread = record {
-          unparked = ap is_parked (doing_it s f (λ d. d.phase) ∙ awake);
-          owes = record { added = off s f runs; stamped = doing_it s f (λ d. d.unstamped) ∙ noted };
+        fits = record {
+          may = record { thread = f.thread; out = (says_its s f).0; done = done i plain };
+          has_out = (says_its s f).0;
+          has_seen = tt;
+          asks_of_thread = record {
+            unparked = ap is_parked (doing_it s f (λ d. d.phase) ∙ awake);
+            owes = record { added = off s f runs; stamped = doing_it s f (λ d. d.unstamped) ∙ noted };
+          };
         };
+        keeps_order = tt;
       },
       tt,
     )

@@ -41,7 +41,7 @@ use Rattle.lock_floor.specs.Latches.{IsOfKind, Takes}
 use Rattle.lock_floor.specs.Views.{counts, took}
 use Rattle.lock_floor.specs.Waits.{its_chain, chain_place}
 use Rattle.lock_floor.proofs.ChainPlaces.{chain_at}
-use Rattle.lock_floor.proofs.May.{holds_it, doing_it, counts_it, own_log, column}
+use Rattle.lock_floor.proofs.May.{IsOrderedTake, IsUnhalted, WantsItsRound, holds_it, doing_it, counts_it, own_log, column, in_wanted_round, gains_in_order}
 use Rattle.lock_floor.proofs.Taking.{record_at}
 
 -- 1. Chains
@@ -162,26 +162,29 @@ module _ (floor : Description) (v : Knowledge) where
   -- 3. A chain is taken where nothing is out
 
   pub may_take_chain : (q : QueueName) → v.pose ≡ Runs → v.out ≡ [] → IsGoing v
-      → IsOfRound floor.chains c v.share.doing.round (its_chain floor q)
+      → IsOfRound floor.chains c v.share.doing.round (its_chain floor q) → WantsItsRound v
       → MayMake floor v (λ s. item_with s (its_chain floor q) ≡ None) (TakesItem t (its_chain floor q) ∷ [])
-  may_take_chain q runs empty going of_round s f home = (
+  may_take_chain q runs empty going of_round wants s f home = (
     record {
-      may = record {
-        thread = f.thread;
-        home = home;
-        together = λ k has. absurd (empty_now s f empty k has);
-        orders = each_chain floor (MayCheckOrders s t) (λ k low. tt) (λ k low. tt) f.sized.some_chains q;
+      fits = record {
+        may = record {
+          thread = f.thread;
+          home = home;
+          together = λ k has. absurd (empty_now s f empty k has);
+          orders = each_chain floor (MayCheckOrders s t) (λ k low. tt) (λ k low. tt) f.sized.some_chains q;
+        };
+        has_out = (
+          each_chain floor (IsItem floor.chains c) (λ k low. low) (λ k low. low) f.sized.some_chains q,
+          subst (λ r. IsOfRound floor.chains c r (its_chain floor q)) (sym (doing_it floor v s f (λ d. d.round)))
+              of_round,
+        );
+        has_seen = tt;
+        asks_of_thread = record {
+          runs = inl (awake_now s f going);
+          owes = record { added = not_away_settled s f (inl runs); stamped = stamped_now s f going };
+        };
       };
-      has_out = (
-        each_chain floor (IsItem floor.chains c) (λ k low. low) (λ k low. low) f.sized.some_chains q,
-        subst (λ r. IsOfRound floor.chains c r (its_chain floor q)) (sym (doing_it floor v s f (λ d. d.round)))
-            of_round,
-      );
-      has_seen = tt;
-      asks_of_thread = record {
-        runs = inl (awake_now s f going);
-        owes = record { added = not_away_settled s f (inl runs); stamped = stamped_now s f going };
-      };
+      keeps_order = λ _. in_wanted_round floor v s f wants;
     },
     tt,
   )
@@ -206,21 +209,24 @@ module _ (floor : Description) (v : Knowledge) where
         → MayMake floor v (λ s. s.record_with u ≡ None) (TakesItem t (RecordOf u) ∷ [])
     may_take_record u low runs going s f home = (
       record {
-        may = record {
-          thread = f.thread;
-          home = home;
-          together = λ k has. subst (λ i. (go_together (RecordOf u) i ≡ true) × (go_together i (RecordOf u) ≡ true))
-              (sym (its_only s f k has))
-              (each_chain floor (λ i. (go_together (RecordOf u) i ≡ true) × (go_together i (RecordOf u) ≡ true))
-              (λ k low. (refl, refl)) (λ k low. (refl, refl)) f.sized.some_chains q);
-          orders = tt;
+        fits = record {
+          may = record {
+            thread = f.thread;
+            home = home;
+            together = λ k has. subst (λ i. (go_together (RecordOf u) i ≡ true) × (go_together i (RecordOf u) ≡ true))
+                (sym (its_only s f k has))
+                (each_chain floor (λ i. (go_together (RecordOf u) i ≡ true) × (go_together i (RecordOf u) ≡ true))
+                (λ k low. (refl, refl)) (λ k low. (refl, refl)) f.sized.some_chains q);
+            orders = tt;
+          };
+          has_out = (low, no_chain (s.round t));
+          has_seen = tt;
+          asks_of_thread = record {
+            runs = inl (awake_now s f going);
+            owes = record { added = not_away_settled s f (inl runs); stamped = stamped_now s f going };
+          };
         };
-        has_out = (low, no_chain (s.round t));
-        has_seen = tt;
-        asks_of_thread = record {
-          runs = inl (awake_now s f going);
-          owes = record { added = not_away_settled s f (inl runs); stamped = stamped_now s f going };
-        };
+        keeps_order = λ is. absurd (let z : false ≡ true = is in cc);
       },
       tt,
     )
@@ -236,18 +242,21 @@ module _ (floor : Description) (v : Knowledge) where
         let unbound : is_bound (s.round t) ≡ false = ap is_bound (doing_it floor v s f (λ d. d.round)) ∙ ended in
         let settled : IsSettled s t = settled_at v.pose (s.wait t) (s.blocked_on t) there f.pose in (
           record {
-            may = record {
-              thread = f.thread;
-              out = its_chain_out s f;
-              done = each_chain floor (IsDoneWith s t) (λ k low. (unbound, settled))
-                  (λ k low. (unbound, stamped_now s f going, settled)) f.sized.some_chains q;
+            fits = record {
+              may = record {
+                thread = f.thread;
+                out = its_chain_out s f;
+                done = each_chain floor (IsDoneWith s t) (λ k low. (unbound, settled))
+                    (λ k low. (unbound, stamped_now s f going, settled)) f.sized.some_chains q;
+              };
+              has_out = its_chain_out s f;
+              has_seen = tt;
+              asks_of_thread = record {
+                unparked = ap is_parked (doing_it floor v s f (λ d. d.phase) ∙ going.awake);
+                owes = record { added = not_away_settled s f there; stamped = stamped_now s f going };
+              };
             };
-            has_out = its_chain_out s f;
-            has_seen = tt;
-            asks_of_thread = record {
-              unparked = ap is_parked (doing_it floor v s f (λ d. d.phase) ∙ going.awake);
-              owes = record { added = not_away_settled s f there; stamped = stamped_now s f going };
-            };
+            keeps_order = tt;
           },
           tt,
         )
@@ -297,13 +306,16 @@ module _ (floor : Description) (v : Knowledge) where
     pub may_ready : v.pose ≡ Runs → IsGoing v → MayMake floor v (λ s. Unit {0}) (Readies t q ∷ [])
     may_ready runs going s f _ = (
       record {
-        may = record { thread = f.thread; running = posed_now s f Runs runs };
-        has_out = (chain_out_now s f, (own_out_now s f).0);
-        has_seen = tt;
-        asks_of_thread = record {
-          runs = awake_now s f going;
-          owes = record { added = not_away_settled s f (inl runs); stamped = stamped_now s f going };
+        fits = record {
+          may = record { thread = f.thread; running = posed_now s f Runs runs };
+          has_out = (chain_out_now s f, (own_out_now s f).0);
+          has_seen = tt;
+          asks_of_thread = record {
+            runs = awake_now s f going;
+            owes = record { added = not_away_settled s f (inl runs); stamped = stamped_now s f going };
+          };
         };
+        keeps_order = tt;
       },
       tt,
     )
@@ -313,13 +325,16 @@ module _ (floor : Description) (v : Knowledge) where
     may_unready ready going awake s f _ =
         let p = posed_now s f IsReady ready in (
           record {
-            may = record { thread = f.thread; queued = p.0; unnamed = p.1 };
-            has_out = (chain_out_now s f, (own_out_now s f).0);
-            has_seen = tt;
-            asks_of_thread = record {
-              runs = awake_now s f going;
-              owes = record { added = not_away s f awake; stamped = stamped_now s f going };
+            fits = record {
+              may = record { thread = f.thread; queued = p.0; unnamed = p.1 };
+              has_out = (chain_out_now s f, (own_out_now s f).0);
+              has_seen = tt;
+              asks_of_thread = record {
+                runs = awake_now s f going;
+                owes = record { added = not_away s f awake; stamped = stamped_now s f going };
+              };
             };
+            keeps_order = tt;
           },
           tt,
         )
@@ -329,17 +344,20 @@ module _ (floor : Description) (v : Knowledge) where
     pub may_give_own : IsOffTheWay v.pose → IsGoing v → MayMake floor v (λ s. Unit {0}) (GivesItem t (RecordOf t) ∷ [])
     may_give_own there going s f _ = (
       record {
-        may = record {
-          thread = f.thread;
-          out = (own_out_now s f).0;
-          done = λ own. settled_at v.pose (s.wait t) (s.blocked_on t) there f.pose;
+        fits = record {
+          may = record {
+            thread = f.thread;
+            out = (own_out_now s f).0;
+            done = λ own. settled_at v.pose (s.wait t) (s.blocked_on t) there f.pose;
+          };
+          has_out = (own_out_now s f).0;
+          has_seen = tt;
+          asks_of_thread = record {
+            unparked = ap is_parked (doing_it floor v s f (λ d. d.phase) ∙ going.awake);
+            owes = record { added = not_away_settled s f there; stamped = stamped_now s f going };
+          };
         };
-        has_out = (own_out_now s f).0;
-        has_seen = tt;
-        asks_of_thread = record {
-          unparked = ap is_parked (doing_it floor v s f (λ d. d.phase) ∙ going.awake);
-          owes = record { added = not_away_settled s f there; stamped = stamped_now s f going };
-        };
+        keeps_order = tt;
       },
       tt,
     )
@@ -367,24 +385,30 @@ module _ (floor : Description) (v : Knowledge) where
         let held : s.round t ≡ None → s.held t l ≢ NotHeld = λ none e.
         (releases (sym round ∙ none)).0 (sym (holds_it floor v s f l) ∙ e) in (
           record {
-            may = record {
-              thread = f.thread;
-              lock = low;
-              room = λ e. absurd (let z : false ≡ true = sym uncounted ∙ e in cc);
+            fits = record {
+              may = record {
+                thread = f.thread;
+                lock = low;
+                room = λ e. absurd (let z : false ≡ true = sym uncounted ∙ e in cc);
+              };
+              has_out = tt;
+              has_seen = record {
+                counts = counted;
+                of_round = λ ne. ap (seeks l) round ∙ of_round (λ e. ne (round ∙ e));
+                in_chain = λ i is has. only_chain (lock_queue l) y x out s f i is has;
+                outside = λ i none is has. inl (held none);
+                outside_takes = λ none. inl (doing_it floor v s f (λ d. d.taking) ∙ (releases (sym round ∙ none)).1);
+                outside_first = λ none unheld. absurd (held none unheld);
+                halting = λ e. absurd (let z : false ≡ true = sym (ap is_halting (awake_now s f going).phase) ∙ e in cc);
+              };
+              asks_of_thread = record {
+                runs = inl (awake_now s f going);
+                owes = record { added = not_away s f awake; stamped = stamped_now s f going };
+              };
             };
-            has_out = tt;
-            has_seen = record {
-              counts = counted;
-              of_round = λ ne. ap (seeks l) round ∙ of_round (λ e. ne (round ∙ e));
-              in_chain = λ i is has. only_chain (lock_queue l) y x out s f i is has;
-              outside = λ i none is has. inl (held none);
-              outside_takes = λ none. inl (doing_it floor v s f (λ d. d.taking) ∙ (releases (sym round ∙ none)).1);
-              outside_first = λ none unheld. absurd (held none unheld);
-              halting = λ e. absurd (let z : false ≡ true = sym (ap is_halting (awake_now s f going).phase) ∙ e in cc);
-            };
-            asks_of_thread = record {
-              runs = inl (awake_now s f going);
-              owes = record { added = not_away s f awake; stamped = stamped_now s f going };
+            keeps_order = record {
+              taken = λ e. of_the_round e (s.round t) refl;
+              wants = λ e. absurd (let z : false ≡ true = sym uncounted ∙ e in cc);
             };
           },
           tt,
@@ -393,6 +417,16 @@ module _ (floor : Description) (v : Knowledge) where
         and_false : (b : Bool) → (b && false) ≡ false
         and_false true = refl
         and_false false = refl
+
+        -- what is taken is looked at in its round alone
+        of_the_round : s.taking t ≡ Some l → (o : Option Round) → s.round t ≡ o → seeks l (s.round t) ≡ true
+        of_the_round e None none = absurd
+            (let z : None ≡ Some l = sym (doing_it floor v s f (λ d. d.taking)
+            ∙ (releases (sym (doing_it floor v s f (λ d. d.round)) ∙ none)).1) ∙ e in cc)
+        of_the_round e (Some r) some =
+            let round : s.round t ≡ v.share.doing.round = doing_it floor v s f (λ d. d.round) in
+            ap (seeks l) round
+            ∙ of_round (λ none. let z : Some r ≡ None = sym some ∙ round ∙ none in cc)
 
     pub may_look_there : v.description ≡ floor → seeks l v.share.doing.round ≡ true
         → MayMake floor v (λ s. Unit {0}) (Looks t l (counts v l) ∷ [])
@@ -411,34 +445,38 @@ module _ (floor : Description) (v : Knowledge) where
         → ((w : Word) → v.share.doing.seen_in_section ≡ Some (record { lock = l; word = w })
         → admits (c.kind l) w mode ≡ true)
         → ((k : ℕ) → v.share.doing.taking ≡ Some k → k ≡ l) → (by_try ≡ false → v.share.doing.taking ≡ Some l)
-        → is_off_queues v.pose ≡ true
+        → (by_try ≡ false → IsOrderedTake l v) → IsUnhalted v → is_off_queues v.pose ≡ true
         → MayMake floor v (λ s. s.word l ≡ word) (Gains t l mode by_try ∷ [])
-    may_gain_there mode by_try word admitted plain unheld wants of_round fits saw others takes off s f its =
+    may_gain_there mode by_try word admitted plain unheld wants of_round fits saw others takes ordered unhalted off
+        s f its =
         let round : s.round t ≡ v.share.doing.round = doing_it floor v s f (λ d. d.round) in
         let wanted : s.wanted t ≡ v.share.doing.wanted = doing_it floor v s f (λ d. d.wanted) in (
           record {
-            may = record {
-              thread = f.thread;
-              lock = low;
-              admitted = ap (λ w. admits (c.kind l) w mode) its ∙ admitted;
-              plainly = ap (λ w. is_plain (c.kind l) w mode) its ∙ plain;
-              unheld = holds_it floor v s f l ∙ unheld;
-              acting = acting_now s f off;
-              wants = subst (λ w. (w ≡ Some l) ⊎ (w ≡ None)) (sym wanted) wants;
+            fits = record {
+              may = record {
+                thread = f.thread;
+                lock = low;
+                admitted = ap (λ w. admits (c.kind l) w mode) its ∙ admitted;
+                plainly = ap (λ w. is_plain (c.kind l) w mode) its ∙ plain;
+                unheld = holds_it floor v s f l ∙ unheld;
+                acting = acting_now s f off;
+                wants = subst (λ w. (w ≡ Some l) ⊎ (w ≡ None)) (sym wanted) wants;
+              };
+              has_out = tt;
+              has_seen = record {
+                fits = subst (λ r. FitsRound r l by_try) (sym round) fits;
+                in_round = λ none has. under_way s f of_round none;
+                saw = λ w has seen. saw w (sym (doing_it floor v s f (λ d. d.seen_in_section)) ∙ seen);
+                outside_first = λ none. absurd (under_way s f of_round none);
+                others = λ k e. others k (sym (doing_it floor v s f (λ d. d.taking)) ∙ e);
+                takes = λ e. doing_it floor v s f (λ d. d.taking) ∙ takes e;
+              };
+              asks_of_thread = record {
+                runs = awake_now s f going;
+                owes = record { added = not_away s f awake; stamped = stamped_now s f going };
+              };
             };
-            has_out = tt;
-            has_seen = record {
-              fits = subst (λ r. FitsRound r l by_try) (sym round) fits;
-              in_round = λ none has. under_way s f of_round none;
-              saw = λ w has seen. saw w (sym (doing_it floor v s f (λ d. d.seen_in_section)) ∙ seen);
-              outside_first = λ none. absurd (under_way s f of_round none);
-              others = λ k e. others k (sym (doing_it floor v s f (λ d. d.taking)) ∙ e);
-              takes = λ e. doing_it floor v s f (λ d. d.taking) ∙ takes e;
-            };
-            asks_of_thread = record {
-              runs = awake_now s f going;
-              owes = record { added = not_away s f awake; stamped = stamped_now s f going };
-            };
+            keeps_order = gains_in_order floor v s f l by_try ordered others unhalted;
           },
           tt,
         )
@@ -450,8 +488,8 @@ module _ (floor : Description) (v : Knowledge) where
       (going : IsGoing v) (awake : IsNoSleeper v) where
     pub may_enter_there : (mode : Mode) (own : ℕ) (word : Word) → is_free word.holder ≡ false
         → admits (c.kind l) word mode ≡ false → is_turnstile (c.kind l) ≡ true → (c.kind l ≡ Mtx → mode ≡ Excl)
-        → b.value.turnstile ≡ Some own → v.pose ≡ IsReady
-        → (v.share.doing.wanted ≡ Some l) ⊎ (v.share.doing.wanted ≡ None) → v.share.doing.walk ≡ NoWalk
+        → b.value.turnstile ≡ Some own → v.pose ≡ IsReady → v.share.doing.wanted ≡ Some l
+        → v.share.doing.walk ≡ NoWalk
         → ((k : ℕ) → open_in c v.share.log t k ≡ hold_in v.share.held k)
         → v.share.doing.last_look ≡ Some (record { lock = l; word = word }) → v.share.doing.round ≡ Some (bound_to l)
         → MayMake floor v (λ s. s.word l ≡ word) (Enters t l mode own ∷ [])
@@ -459,35 +497,38 @@ module _ (floor : Description) (v : Knowledge) where
         let p = posed_now s f IsReady ready in
         let rec = (own_out_now (lock_queue l) (Record b) x out s f).1 in (
           record {
-            may = record {
-              waits = record {
-                thread = f.thread;
-                lock = low;
-                held = ap (λ (w : Word). is_free w.holder) its ∙ held;
-                refused = ap (λ w. admits (c.kind l) w mode) its ∙ refused;
-                queued = p.0;
-                unnamed = p.1;
-                wants = subst (λ w. (w ≡ Some l) ⊎ (w ≡ None)) (sym (doing_it floor v s f (λ d. d.wanted))) wants;
-                no_walk = doing_it floor v s f (λ d. d.walk) ∙ no_walk;
-                sections = λ k m holds. own_log floor v s f k ∙ sections k ∙ sym (holds_it floor v s f k) ∙ holds;
+            fits = record {
+              may = record {
+                waits = record {
+                  thread = f.thread;
+                  lock = low;
+                  held = ap (λ (w : Word). is_free w.holder) its ∙ held;
+                  refused = ap (λ w. admits (c.kind l) w mode) its ∙ refused;
+                  queued = p.0;
+                  unnamed = p.1;
+                  wants = inl (doing_it floor v s f (λ d. d.wanted) ∙ wants);
+                  no_walk = doing_it floor v s f (λ d. d.walk) ∙ no_walk;
+                  sections = λ k m holds. own_log floor v s f k ∙ sections k ∙ sym (holds_it floor v s f k) ∙ holds;
+                };
+                turnstile = turnstile;
+                mutex = mutex;
+                own = sym (ap (λ (r : RecordColumns). r.turnstile) rec.columns) ∙ lent;
               };
-              turnstile = turnstile;
-              mutex = mutex;
-              own = sym (ap (λ (r : RecordColumns). r.turnstile) rec.columns) ∙ lent;
+              has_out = (
+                chain_out_now (lock_queue l) (Record b) x out s f,
+                (own_out_now (lock_queue l) (Record b) x out s f).0,
+              );
+              has_seen = record {
+                saw = doing_it floor v s f (λ d. d.last_look) ∙ saw
+                    ∙ ap (λ w. Some (record { lock = l; word = w })) (sym its);
+                round = doing_it floor v s f (λ d. d.round) ∙ round;
+              };
+              asks_of_thread = record {
+                runs = awake_now s f going;
+                owes = record { added = not_away s f awake; stamped = stamped_now s f going };
+              };
             };
-            has_out = (
-              chain_out_now (lock_queue l) (Record b) x out s f,
-              (own_out_now (lock_queue l) (Record b) x out s f).0,
-            );
-            has_seen = record {
-              saw = doing_it floor v s f (λ d. d.last_look) ∙ saw
-                  ∙ ap (λ w. Some (record { lock = l; word = w })) (sym its);
-              round = doing_it floor v s f (λ d. d.round) ∙ round;
-            };
-            asks_of_thread = record {
-              runs = awake_now s f going;
-              owes = record { added = not_away s f awake; stamped = stamped_now s f going };
-            };
+            keeps_order = doing_it floor v s f (λ d. d.wanted) ∙ wants;
           },
           tt,
         )

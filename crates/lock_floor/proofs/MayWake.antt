@@ -11,8 +11,9 @@ use Rattle.lock_model.specs.declared.plan.Mode.{Mode}
 use Rattle.lock_model.specs.declared.plan.QueueName.{QueueName}
 use Rattle.lock_model.specs.declared.plan.QueueName.TheVariants.{Lock, Chan}
 use Rattle.lock_state.specs.State.{State, Round, Queued, Woken, NoWalk}
-use Rattle.lock_state.specs.Steps.{Marks, TakesItem, IsOfRound}
+use Rattle.lock_state.specs.Steps.{Marks, TakesItem, IsOfRound, IsBackFrom}
 use Rattle.lock_state.specs.Steps.Items.{TurnstileChain, SleepChain, RecordOf}
+use Rattle.lock_state.specs.Steps.LockWords.{is_taking_back}
 use Rattle.lock_state.specs.Steps.Turnstiles.{HasReleased}
 use Rattle.floor_table.specs.Descriptions.{config_in}
 use Rattle.floor_table.specs.declared.description.Description.{Description}
@@ -32,15 +33,21 @@ use Rattle.lock_floor.proofs.ChainPlaces.{chain_at}
 use Rattle.lock_floor.proofs.May.{column, doing_it, holds_it, own_log, is_acting, goes_on, nothing_with, is_awake, owes_none}
 use Rattle.lock_floor.proofs.Taking.{record_at}
 
--- a thread that stands on a channel's queue has released the lock of its wait
+-- a thread that stands on a channel's queue is in a wait, and has released the lock of its wait
 abbrev pub HasLeft : Config → Knowledge → QueueName → Type 0
 HasLeft c v (Lock l) = Unit {0}
-HasLeft c v (Chan d) = hold_in v.share.held (c.chan_lock d.0) ≡ NotHeld
+HasLeft c v (Chan d) =
+    (hold_in v.share.held (c.chan_lock d.0) ≡ NotHeld) × (is_taking_back v.share.log ≡ true)
 
 has_released : (floor : Description) (v : Knowledge) (s : State) → Fits floor v s → (q : QueueName)
     → HasLeft (config_in floor) v q → HasReleased (config_in floor) s v.thread q
 has_released floor v s f (Lock l) left = tt
-has_released floor v s f (Chan d) left = holds_it floor v s f ((config_in floor).chan_lock d.0) ∙ left
+has_released floor v s f (Chan d) left = holds_it floor v s f ((config_in floor).chan_lock d.0) ∙ left.0
+
+is_back : (floor : Description) (v : Knowledge) (s : State) → Fits floor v s → (q : QueueName)
+    → HasLeft (config_in floor) v q → IsBackFrom s v.thread q
+is_back floor v s f (Lock l) left = tt
+is_back floor v s f (Chan d) left = ap is_taking_back (sym (column floor v s f (λ x. x.log))) ∙ left.1
 
 -- a thread that has nothing out, no walk and no wake to note may run again
 pub may_run_again : (floor : Description) (v : Knowledge) (q : QueueName) → v.pose ≡ StandsOn q → v.out ≡ []
@@ -53,13 +60,16 @@ may_run_again floor v q stands empty no_walk stamped left = record {
   no_walk = no_walk;
   may = λ cause s f woken. (
     record {
-      may = record { thread = f.thread; woken = woken; released = has_released floor v s f q left };
-      has_out = (nothing_with floor v s f empty, doing_it floor v s f (λ d. d.walk) ∙ no_walk);
-      has_seen = tt;
-      asks_of_thread = record {
-        added = λ o. let z : Woken q cause ≡ Queued = sym woken ∙ o.queued in cc;
-        stamped = doing_it floor v s f (λ d. d.unstamped) ∙ stamped;
+      fits = record {
+        may = record { thread = f.thread; woken = woken; released = has_released floor v s f q left };
+        has_out = (nothing_with floor v s f empty, doing_it floor v s f (λ d. d.walk) ∙ no_walk);
+        has_seen = tt;
+        asks_of_thread = record {
+          added = λ o. let z : Woken q cause ≡ Queued = sym woken ∙ o.queued in cc;
+          stamped = doing_it floor v s f (λ d. d.unstamped) ∙ stamped;
+        };
       };
+      keeps_order = is_back floor v s f q left;
     },
     tt,
   );
@@ -77,15 +87,18 @@ pub may_take_record : (floor : Description) (v : Knowledge) (u : ℕ) → v.pose
     → MayMake floor v (λ s. s.record_with u ≡ None) (TakesItem v.thread (RecordOf u) ∷ [])
 may_take_record floor v u runs empty going low s f home = (
   record {
-    may = record {
-      thread = f.thread;
-      home = home;
-      together = λ k out. absurd (nothing_with floor v s f empty k out);
-      orders = tt;
+    fits = record {
+      may = record {
+        thread = f.thread;
+        home = home;
+        together = λ k out. absurd (nothing_with floor v s f empty k out);
+        orders = tt;
+      };
+      has_out = (low, record_of_round floor u (s.round v.thread));
+      has_seen = tt;
+      asks_of_thread = record { runs = inl (is_awake floor v s f runs going); owes = owes_none floor v s f runs going };
     };
-    has_out = (low, record_of_round floor u (s.round v.thread));
-    has_seen = tt;
-    asks_of_thread = record { runs = inl (is_awake floor v s f runs going); owes = owes_none floor v s f runs going };
+    keeps_order = λ is. absurd (let z : false ≡ true = is in cc);
   },
   tt,
 )
@@ -97,18 +110,21 @@ pub may_mark : (floor : Description) (v : Knowledge) (first : HasFirstOut v) →
 may_mark floor v first runs going low s f _ =
     let u : ℕ = first.mark.thread in (
       record {
-        may = record {
-          thread = f.thread;
-          marked = doing_it floor v s f (λ d. d.marked) ∙ first.marked;
-          stamped = doing_it floor v s f (λ d. d.unstamped) ∙ going.stamped;
+        fits = record {
+          may = record {
+            thread = f.thread;
+            marked = doing_it floor v s f (λ d. d.marked) ∙ first.marked;
+            stamped = doing_it floor v s f (λ d. d.unstamped) ∙ going.stamped;
+          };
+          has_out = (f.out.each (RecordOf u) u (Record first.box) (record_at floor u low)
+              (ap (found u) first.last ∙ found_first u (Record first.box) (rest v.out))).0;
+          has_seen = tt;
+          asks_of_thread = record {
+            runs = inl (is_awake floor v s f runs going);
+            owes = owes_none floor v s f runs going;
+          };
         };
-        has_out = (f.out.each (RecordOf u) u (Record first.box) (record_at floor u low)
-            (ap (found u) first.last ∙ found_first u (Record first.box) (rest v.out))).0;
-        has_seen = tt;
-        asks_of_thread = record {
-          runs = inl (is_awake floor v s f runs going);
-          owes = owes_none floor v s f runs going;
-        };
+        keeps_order = tt;
       },
       tt,
     )
@@ -118,10 +134,10 @@ may_mark floor v first runs going low s f _ =
 pub may_open_up : (floor : Description) (v : Knowledge) (l : ℕ) (mode : Mode) (word : Word) → l < length floor.locks
     → is_turnstile ((config_in floor).kind l) ≡ true
     → hold_in v.share.held l ≡ Holds mode → is_free (without_one word.holder) ≡ true → shows_waiters word ≡ true
-    → v.share.doing.marked ≡ []
+    → v.share.doing.marked ≡ [] → v.share.doing.taking ≡ None
     → open_in (config_in floor) v.share.log v.thread l ≡ NotHeld → is_among l v.share.begun ≡ true → v.pose ≡ Runs
     → IsGoing v → HasBothOut floor l v → MayOpenUp floor l word v
-may_open_up floor v l mode word low turnstile held last shown unmarked closed begun runs going both = record {
+may_open_up floor v l mode word low turnstile held last shown unmarked takes closed begun runs going both = record {
   mode = mode;
   may = λ s f its.
       let t : ℕ = v.thread in
@@ -136,30 +152,33 @@ may_open_up floor v l mode word low turnstile held last shown unmarked closed be
       ∙ ap (λ b. cond b (TurnstileChain m) (SleepChain m)) turnstile in
       cc in (
         record {
-          may = record {
-            releases = record {
-              thread = f.thread;
-              lock = low;
-              held = holds_it floor v s f l ∙ held;
-              last = ap (λ (w : Word). is_free (without_one w.holder)) its ∙ last;
-              shown = ap (λ (w : Word). shows_waiters w) its ∙ shown;
-              unmarked = doing_it floor v s f (λ d. d.marked) ∙ unmarked;
-              closed = own_log floor v s f l ∙ closed;
-              begun = sym (column floor v s f (λ x. x.has_begun l)) ∙ begun;
+          fits = record {
+            may = record {
+              releases = record {
+                thread = f.thread;
+                lock = low;
+                held = holds_it floor v s f l ∙ held;
+                last = ap (λ (w : Word). is_free (without_one w.holder)) its ∙ last;
+                shown = ap (λ (w : Word). shows_waiters w) its ∙ shown;
+                unmarked = doing_it floor v s f (λ d. d.marked) ∙ unmarked;
+                closed = own_log floor v s f l ∙ closed;
+                begun = sym (column floor v s f (λ x. x.has_begun l)) ∙ begun;
+              };
+              turnstile = turnstile;
+              off_turnstiles = λ k e. absurd
+                  (let z : None ≡ Some (lock_queue k) = sym (is_acting floor v s f runs).unnamed ∙ e in cc);
             };
-            turnstile = turnstile;
-            off_turnstiles = λ k e. absurd
-                (let z : None ≡ Some (lock_queue k) = sym (is_acting floor v s f runs).unnamed ∙ e in cc);
+            has_out = (
+              (f.out.each (its_chain floor (lock_queue l)) j (Turnstiles both.chain) at
+                  (ap (found j) both.out ∙ found_later t j (Record both.box) ((j, Turnstiles both.chain) ∷ []) apart
+                  ∙ found_first j (Turnstiles both.chain) [])).0,
+              (f.out.each (RecordOf t) t (Record both.box) place
+                  (ap (found t) both.out ∙ found_first t (Record both.box) ((j, Turnstiles both.chain) ∷ []))).0,
+            );
+            has_seen = tt;
+            asks_of_thread = goes_on floor v s f runs going;
           };
-          has_out = (
-            (f.out.each (its_chain floor (lock_queue l)) j (Turnstiles both.chain) at
-                (ap (found j) both.out ∙ found_later t j (Record both.box) ((j, Turnstiles both.chain) ∷ []) apart
-                ∙ found_first j (Turnstiles both.chain) [])).0,
-            (f.out.each (RecordOf t) t (Record both.box) place
-                (ap (found t) both.out ∙ found_first t (Record both.box) ((j, Turnstiles both.chain) ∷ []))).0,
-          );
-          has_seen = tt;
-          asks_of_thread = goes_on floor v s f runs going;
+          keeps_order = doing_it floor v s f (λ d. d.taking) ∙ takes;
         },
         tt,
       );

@@ -283,7 +283,7 @@ module _ (floor : Description) (me : Me Slot Knowledge) (was : me.0.role ≡ OfT
       let step : Step = Opens t l mode in
       let its_word : s.word l ≡ word_of seen = sym (found_word floor b v f l low).0 ∙ ap word_of same in
       let allowed = may s f.fits its_word in
-      let g = allowed.0.may in
+      let g = allowed.0.fits.may in
       let lawful : Lawful c s = f.sound.facts.lawful in
       let side_is : side ≡ side_woken (c.kind l) (s.word l) = its_side ∙ ap (side_woken (c.kind l)) (sym its_word) in
       let m : ℕ = l % floor.chains in
@@ -316,7 +316,6 @@ module _ (floor : Description) (me : Me Slot Knowledge) (was : me.0.role ≡ OfT
         role = was;
         seen = refl;
         makers = one_own t step refl;
-        no_refusal = (λ u k j e. absurd cc, tt);
         seat = record { thread = refl; share = open_own s v f.fits.share c l ms after shown.0 };
         others = λ u ne. open_others s t u ne c l;
         pose = f.fits.pose;
@@ -341,7 +340,7 @@ module _ (floor : Description) (me : Me Slot Knowledge) (was : me.0.role ≡ OfT
       in
       let made = lock_made_with floor (step ∷ []) b v w f was allowed own me.1 l new
       (words.opened (c.kind l) (s.word l)) _ low says_now refl refl refl shelves objects in
-      let behind : IsSound floor (step ∷ f.past) n = sound_kept floor s (step ∷ []) own.no_refusal allowed f.sound in
+      let behind : IsSound floor (step ∷ f.past) n = sound_kept floor s (step ∷ []) allowed f.sound in
       let told : OpensWord floor l side me (w, me.1) = record {
         mode = mode;
         both = both;

@@ -73,6 +73,7 @@ module _ (floor : Description) (l : ℕ) (side : Side) (me behind new : Me Slot 
         out = out ∙ sym (ap (λ w. w.out) v);
         done = λ e. absurd (let z : false ≡ true = sym going ∙ e in cc);
         runs = λ e. absurd (let z : false ≡ true = sym going ∙ e in cc);
+        rests = λ e. absurd (let z : false ≡ true = sym going ∙ e in cc);
       }
 
   -- and this is what is told of it

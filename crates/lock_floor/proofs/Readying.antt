@@ -51,7 +51,6 @@ module _ (floor : Description) (me : Me Slot Knowledge) (was : me.0.role ≡ OfT
         role = was;
         seen = refl;
         makers = one_own t (readies true t q) refl;
-        no_refusal = (λ u k j e. absurd cc, tt);
         seat = record {
           thread = refl;
           share = record { columns = h.fits.share.columns; held_once = h.fits.share.held_once };
@@ -60,7 +59,7 @@ module _ (floor : Description) (me : Me Slot Knowledge) (was : me.0.role ≡ OfT
         pose = (
           put_same s.wait t Queued,
           stands_nowhere (config_in floor) s h.sound.facts.lawful t Runs refl
-              allowed.0.may.running,
+              allowed.0.fits.may.running,
         );
         other_poses = other_waits s t Queued;
       } in
@@ -79,7 +78,6 @@ module _ (floor : Description) (me : Me Slot Knowledge) (was : me.0.role ≡ OfT
         role = was;
         seen = refl;
         makers = one_own t (readies false t q) refl;
-        no_refusal = (λ u k j e. absurd cc, tt);
         seat = record {
           thread = refl;
           share = record { columns = h.fits.share.columns; held_once = h.fits.share.held_once };

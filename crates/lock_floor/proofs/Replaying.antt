@@ -59,12 +59,12 @@ module _ (floor : Description) (e : Event) (old new : Knowledge)
 
   pub replayed_behind : (l k : ℕ) → n.table l k ≡ value_at n.history l k
   replayed_behind l k =
-      let behind = sound_kept floor s (Stamps old.thread e ∷ []) (λ u k j e. absurd cc, tt) m.may m.sound in
+      let behind = sound_kept floor s (Stamps old.thread e ∷ []) m.may m.sound in
       tables c n l k behind.facts.lawful
 
 pub found_is : (floor : Description) (l : LockNo) (key : ℕ) (found : Option ℕ) (old new : Knowledge)
     (m : Makes floor (Stamps old.thread (Got l key found) ∷ []) old new) → found ≡ value_at m.state.history l.0 key
-found_is floor l key found old new m = m.may.0.may.asks.1 ∙ replayed floor (Got l key found) old new m l.0 key
+found_is floor l key found old new m = m.may.0.fits.may.asks.1 ∙ replayed floor (Got l key found) old new m l.0 key
 
 -- a change of a key changes that key alone
 pub tables_changed : (c : Config) (s : State) (t : ℕ) (l : LockNo) (key : ℕ) (change : Change) → (after_stamp c s t (event_of l key change)).table ≡ table_after (event_of l key change) s.table

@@ -146,7 +146,6 @@ module _ (floor : Description) (me : Me Slot Knowledge) (was : me.0.role ≡ OfT
         role = was;
         seen = refl;
         makers = one_own t step refl;
-        no_refusal = (λ u k j e. absurd cc, tt);
         seat = record { thread = refl; share = resume_own s v h.fits.share c q cause };
         others = λ u ne. resume_others s t u ne c q cause;
         pose = put_same s.wait t Running;

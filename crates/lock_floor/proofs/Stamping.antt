@@ -68,7 +68,6 @@ module _ (floor : Description) (me : Me Slot Knowledge) (was : me.0.role ≡ OfT
         role = was;
         seen = refl;
         makers = one_own v.thread (Stamps v.thread event) refl;
-        no_refusal = (λ u k j e. absurd cc, tt);
         seat = record { thread = refl; share = share };
         others = λ u ne. stamp_others s v.thread u ne c event;
         pose = h.fits.pose;

@@ -99,7 +99,6 @@ module _ (floor : Description) (me : Me Slot Knowledge) (was : me.0.role ≡ OfT
         role = was;
         seen = refl;
         makers = one_own v.thread step refl;
-        no_refusal = (λ u k j e. absurd cc, tt);
         seat = record { thread = refl; share = take_own s v h.fits.share i j x };
         others = λ u ne. take_others s v.thread u ne i;
         pose = h.fits.pose;
@@ -182,7 +181,6 @@ module _ (floor : Description) (me : Me Slot Knowledge) (was : me.0.role ≡ OfT
           role = was;
           seen = refl;
           makers = one_own v.thread step refl;
-          no_refusal = (λ u k j e. absurd cc, tt);
           seat = record { thread = refl; share = give_own s v h.fits.share i };
           others = λ u ne. give_others s v.thread u ne i;
           pose = h.fits.pose;

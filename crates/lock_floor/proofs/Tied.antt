@@ -42,6 +42,7 @@ tied_on who locks marked book fin me behind going h role floor thread held marks
   out = out;
   done = λ e. absurd (let z : false ≡ true = sym going ∙ e in cc);
   runs = λ e. absurd (let z : false ≡ true = sym going ∙ e in cc);
+  rests = λ e. absurd (let z : false ≡ true = sym going ∙ e in cc);
 }
 
 -- without a lock that was put down
@@ -63,6 +64,7 @@ tied_without who l locks left marked book fin me behind h e items room =
       out = h.out;
       done = h.done;
       runs = h.runs;
+      rests = h.rests;
     }
 
 -- after a try to take what a place has
@@ -128,4 +130,5 @@ tied_stamped who locks marked book after fin me behind c e out going h put is =
       out = refl;
       done = λ q. absurd (let z : false ≡ true = sym going ∙ q in cc);
       runs = λ q. absurd (let z : false ≡ true = sym going ∙ q in cc);
+      rests = λ q. absurd (let z : false ≡ true = sym going ∙ q in cc);
     }

@@ -13,7 +13,7 @@ use Rattle.floor_table.specs.Shelves.{found, AreApart, Shelves}
 use Rattle.floor_table.specs.declared.description.Description.{Description}
 use Rattle.floor_table.specs.declared.slot.Slot.{Slot}
 use Rattle.floor_table.proofs.Items.{one_place}
-use Rattle.floor_table.proofs.Shelved.{found_first, found_later, shelf_changed}
+use Rattle.floor_table.proofs.Shelved.{put_twice, found_first, found_later, shelf_changed}
 
 -- 1. Where they are
 
@@ -71,10 +71,6 @@ shelf_both n latch home out content k i j t x y z w ne is =
     found_again : (i j m : ℕ) (y z w : Slot) → j ≢ m → found m ((i, y) ∷ (j, w) ∷ []) ≡ found m ((i, y) ∷ (j, z) ∷ [])
     found_again i j m y z w apart =
         ap (λ o. cond (i == m) (some y) o) (found_later j m w [] apart ∙ sym (found_later j m z [] apart))
-
-    put_twice : {A : Type 0} (f : ℕ → A) (i : ℕ) (v w : A) → put (put f i v) i w ≡ put f i w
-    put_twice f i v w = λ k j. at_put (λ m x. x ≡ put f i w m) (put f i v) i w (sym (put_same f i w))
-        (λ m ne. put_other f i v m ne ∙ sym (put_other f i w m ne)) j k
 
 -- 2. What they say
 

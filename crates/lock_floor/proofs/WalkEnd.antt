@@ -44,7 +44,6 @@ module _ (floor : Description) (me : Me Slot Knowledge) (was : me.0.role ≡ OfT
         role = was;
         seen = refl;
         makers = one_own t step refl;
-        no_refusal = (λ u k j e. absurd cc, tt);
         seat = record { thread = refl; share = end_own s v f.fits.share me.1 };
         others = λ u ne. end_others s t u ne;
         pose = f.fits.pose;

@@ -69,7 +69,7 @@ module _ (floor : Description) (me : Me Slot Knowledge) (was : me.0.role ≡ OfT
       let n : State = after_lend c s t l o h in
       let one = may.hop.one_chain in
       let lawful : Lawful c s = f.sound.facts.lawful in
-      let g : MayLend c s t l o h = allowed.0.may in
+      let g : MayLend c s t l o h = allowed.0.fits.may in
       let step : Step = Lends t l o h in
       let w : Knowledge = seeing (step ∷ f.past) (hopped v (walk_of walk) me.1) in
       let box : Box ThreadRec Global = may.hop.box in
@@ -90,7 +90,6 @@ module _ (floor : Description) (me : Me Slot Knowledge) (was : me.0.role ≡ OfT
         role = was;
         seen = refl;
         makers = one_own t step refl;
-        no_refusal = (λ u k j e. absurd cc, tt);
         seat = record { thread = refl; share = lend_own s v f.fits.share c l o h (walk_of walk) me.1 goes };
         others = λ u ne. lend_others s t u ne c l o h;
         pose = f.fits.pose;

@@ -32,7 +32,7 @@ use Rattle.floor_table.proofs.Items.{one_place}
 use Rattle.floor_table.proofs.Shelved.{found_first, found_later}
 use Rattle.lock_floor.specs.Passes.{IsGoing}
 use Rattle.lock_floor.specs.Walks.{CanWalk, InHop, MayLendTo, MaySort, StandsThere, StandsNowhere, owner_of_head, turnstiles, turnstiles_place}
-use Rattle.lock_floor.proofs.May.{doing_it, nothing_with}
+use Rattle.lock_floor.proofs.May.{doing_it, nothing_with, no_wanted_round}
 use Rattle.lock_floor.proofs.Taking.{record_at}
 use Rattle.lock_floor.proofs.WalkChains.{turnstiles_at, apart_from, lock_chain}
 
@@ -111,21 +111,24 @@ module _ (floor : Description) (v : Knowledge) where
       → MayMake floor v (λ s. item_with s turnstiles ≡ None) (TakesItem t turnstiles ∷ [])
   may_take_turnstiles can s f home = (
     record {
-      may = record {
-        thread = f.thread;
-        home = home;
-        together = λ k has. absurd (nothing_with floor v s f can.nothing_out k has);
-        orders = tt;
+      fits = record {
+        may = record {
+          thread = f.thread;
+          home = home;
+          together = λ k has. absurd (nothing_with floor v s f can.nothing_out k has);
+          orders = tt;
+        };
+        has_out = (
+          let one = can.one_chain in omega (arith, one),
+          of_no_round turnstiles (s.round t) (no_round_of s f can.no_round),
+        );
+        has_seen = tt;
+        asks_of_thread = record {
+          runs = inl (awake can.settled s f can.going);
+          owes = owes can.settled s f can.going;
+        };
       };
-      has_out = (
-        let one = can.one_chain in omega (arith, one),
-        of_no_round turnstiles (s.round t) (no_round_of s f can.no_round),
-      );
-      has_seen = tt;
-      asks_of_thread = record {
-        runs = inl (awake can.settled s f can.going);
-        owes = owes can.settled s f can.going;
-      };
+      keeps_order = λ _. no_wanted_round floor v s f can.no_round;
     },
     tt,
   )
@@ -136,18 +139,21 @@ module _ (floor : Description) (v : Knowledge) where
         → MayMake floor v (λ s. s.record_with o ≡ None) (TakesItem t (RecordOf o) ∷ [])
     may_take_under o x low no_round out s f home = (
       record {
-        may = record {
-          thread = f.thread;
-          home = home;
-          together = λ k has.
-              subst (λ i. (go_together (RecordOf o) i ≡ true) × (go_together i (RecordOf o) ≡ true))
-              (sym (only_one s f turnstiles (turnstiles_place floor) x (turnstiles_at floor one) out k has))
-              (refl, refl);
-          orders = tt;
+        fits = record {
+          may = record {
+            thread = f.thread;
+            home = home;
+            together = λ k has.
+                subst (λ i. (go_together (RecordOf o) i ≡ true) × (go_together i (RecordOf o) ≡ true))
+                (sym (only_one s f turnstiles (turnstiles_place floor) x (turnstiles_at floor one) out k has))
+                (refl, refl);
+            orders = tt;
+          };
+          has_out = (low, of_no_round (RecordOf o) (s.round t) (no_round_of s f no_round));
+          has_seen = tt;
+          asks_of_thread = record { runs = inl (awake settled s f going); owes = owes settled s f going };
         };
-        has_out = (low, of_no_round (RecordOf o) (s.round t) (no_round_of s f no_round));
-        has_seen = tt;
-        asks_of_thread = record { runs = inl (awake settled s f going); owes = owes settled s f going };
+        keeps_order = λ is. absurd (let z : false ≡ true = is in cc);
       },
       tt,
     )
@@ -157,10 +163,13 @@ module _ (floor : Description) (v : Knowledge) where
     may_give_record o y xs low out s f _ =
         let has = (out_first s f (RecordOf o) o y xs (record_at floor o low) out).0 in (
           record {
-            may = record { thread = f.thread; out = has; done = λ own. stays settled s f };
-            has_out = has;
-            has_seen = tt;
-            asks_of_thread = record { unparked = unparked settled s f going; owes = owes settled s f going };
+            fits = record {
+              may = record { thread = f.thread; out = has; done = λ own. stays settled s f };
+              has_out = has;
+              has_seen = tt;
+              asks_of_thread = record { unparked = unparked settled s f going; owes = owes settled s f going };
+            };
+            keeps_order = tt;
           },
           tt,
         )
@@ -170,14 +179,17 @@ module _ (floor : Description) (v : Knowledge) where
     may_give_turnstiles x no_round out s f _ =
         let has = (out_first s f turnstiles (turnstiles_place floor) x [] (turnstiles_at floor one) out).0 in (
           record {
-            may = record {
-              thread = f.thread;
-              out = has;
-              done = (ap is_bound (no_round_of s f no_round), stays settled s f);
+            fits = record {
+              may = record {
+                thread = f.thread;
+                out = has;
+                done = (ap is_bound (no_round_of s f no_round), stays settled s f);
+              };
+              has_out = has;
+              has_seen = tt;
+              asks_of_thread = record { unparked = unparked settled s f going; owes = owes settled s f going };
             };
-            has_out = has;
-            has_seen = tt;
-            asks_of_thread = record { unparked = unparked settled s f going; owes = owes settled s f going };
+            keeps_order = tt;
           },
           tt,
         )
@@ -213,16 +225,19 @@ module _ (floor : Description) (v : Knowledge) where
       subst (λ x. RepresentsQueue x (queue_in s (lock_queue l)) s.loan_home) may.head
       (queue_seen one s hop.chain l turnstile its_chain.1) in (
         record {
-          may = record {
-            thread = f.thread;
-            lock = may.on_floor.0;
-            walks = doing_it floor v s f (λ d. d.walk) ∙ may.there;
-            head = head_seen s l may.turnstile shows;
-            owned = owner_seen s l (Some may.turnstile) f.sound.facts.lawful shows ∙ may.owned;
+          fits = record {
+            may = record {
+              thread = f.thread;
+              lock = may.on_floor.0;
+              walks = doing_it floor v s f (λ d. d.walk) ∙ may.there;
+              head = head_seen s l may.turnstile shows;
+              owned = owner_seen s l (Some may.turnstile) f.sound.facts.lawful shows ∙ may.owned;
+            };
+            has_out = (subst (HasItem s t) (sym (lock_chain floor one l turnstile)) its_chain.0, its_record);
+            has_seen = tt;
+            asks_of_thread = goes_on hop.settled s f hop.going;
           };
-          has_out = (subst (HasItem s t) (sym (lock_chain floor one l turnstile)) its_chain.0, its_record);
-          has_seen = tt;
-          asks_of_thread = goes_on hop.settled s f hop.going;
+          keeps_order = tt;
         },
         tt,
       )
@@ -241,11 +256,14 @@ module _ (floor : Description) (v : Knowledge) where
       (queue_seen one s chain l turnstile its_chain.1)
       ∙ unowned in (
         record {
-          may = record { thread = f.thread; there = subst (IsAtEnd c s) (sym walks) none };
-          has_out = subst (HasOutForEnd floor.chains c s t) (sym walks)
-              (subst (HasItem s t) (sym (lock_chain floor one l turnstile)) its_chain.0);
-          has_seen = tt;
-          asks_of_thread = goes_on settled s f going;
+          fits = record {
+            may = record { thread = f.thread; there = subst (IsAtEnd c s) (sym walks) none };
+            has_out = subst (HasOutForEnd floor.chains c s t) (sym walks)
+                (subst (HasItem s t) (sym (lock_chain floor one l turnstile)) its_chain.0);
+            has_seen = tt;
+            asks_of_thread = goes_on settled s f going;
+          };
+          keeps_order = tt;
         },
         tt,
       )
@@ -297,23 +315,26 @@ module _ (floor : Description) (v : Knowledge) where
     may_shift l stands s f _ =
         let one = hop.one_chain in (
           record {
-            may = record {
-              thread = f.thread;
-              turnstile = stands.turnstile;
-              walks = walks_now s f;
-              blocked_on = sym (names_now s f) ∙ stands.named;
-              stands = stands_seen s l (head_of (lock_queue l) hop.chain)
-                  (queue_seen one s hop.chain l stands.turnstile (chain_now s f).1)
-                  (subst (λ u. IsSomeAnd (head_of (lock_queue l) hop.chain) (λ h. waits u h.contents ≡ true))
-                  (is_it s f)
-                  stands.waits);
+            fits = record {
+              may = record {
+                thread = f.thread;
+                turnstile = stands.turnstile;
+                walks = walks_now s f;
+                blocked_on = sym (names_now s f) ∙ stands.named;
+                stands = stands_seen s l (head_of (lock_queue l) hop.chain)
+                    (queue_seen one s hop.chain l stands.turnstile (chain_now s f).1)
+                    (subst (λ u. IsSomeAnd (head_of (lock_queue l) hop.chain) (λ h. waits u h.contents ≡ true))
+                    (is_it s f)
+                    stands.waits);
+              };
+              has_out = (
+                subst (HasItem s t) (sym (lock_chain floor one l stands.turnstile)) (chain_now s f).0,
+                (record_now s f).0,
+              );
+              has_seen = tt;
+              asks_of_thread = goes_on hop.settled s f hop.going;
             };
-            has_out = (
-              subst (HasItem s t) (sym (lock_chain floor one l stands.turnstile)) (chain_now s f).0,
-              (record_now s f).0,
-            );
-            has_seen = tt;
-            asks_of_thread = goes_on hop.settled s f hop.going;
+            keeps_order = tt;
           },
           tt,
         )
@@ -332,10 +353,13 @@ module _ (floor : Description) (v : Knowledge) where
           λ l turnstile on. subst (HasItem s t) (sym (lock_chain floor one l turnstile)) (chain_now s f).0,
         ) in (
           record {
-            may = record { thread = f.thread; there = subst (IsAtEnd c s) (sym (walks_now s f)) at_end };
-            has_out = subst (HasOutForEnd floor.chains c s t) (sym (walks_now s f)) out;
-            has_seen = tt;
-            asks_of_thread = goes_on hop.settled s f hop.going;
+            fits = record {
+              may = record { thread = f.thread; there = subst (IsAtEnd c s) (sym (walks_now s f)) at_end };
+              has_out = subst (HasOutForEnd floor.chains c s t) (sym (walks_now s f)) out;
+              has_seen = tt;
+              asks_of_thread = goes_on hop.settled s f hop.going;
+            };
+            keeps_order = tt;
           },
           tt,
         )

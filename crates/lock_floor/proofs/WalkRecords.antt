@@ -124,7 +124,7 @@ module _ (floor : Description) (one : floor.chains ≡ 1) where
         subst (λ x. RepresentsQueue x (queue_in s (lock_queue l)) s.loan_home) head
         (chain_still.queue (lock_queue l) (lock_chain floor one l on_floor.1)) in
         record {
-          thread = k.step.may.0.may.thread;
+          thread = k.step.may.0.fits.may.thread;
           lock = on_floor.0;
           walks = walks;
           head = ap (λ (q : QueueColumns). q.head) shows.queue;

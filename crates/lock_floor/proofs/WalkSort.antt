@@ -66,7 +66,7 @@ module _ (floor : Description) (me : Me Slot Knowledge) (was : me.0.role ≡ OfT
       let n : State = after_shift s t o l in
       let one = may.hop.one_chain in
       let lawful : Lawful c s = f.sound.facts.lawful in
-      let g : MayShift c s t o l = allowed.0.may in
+      let g : MayShift c s t o l = allowed.0.fits.may in
       let step : Step = Shifts t o l in
       let w : Knowledge = seeing (step ∷ f.past) (hopped v (walk_of walk) me.1) in
       let box : Box ThreadRec Global = may.hop.box in
@@ -87,7 +87,6 @@ module _ (floor : Description) (me : Me Slot Knowledge) (was : me.0.role ≡ OfT
         role = was;
         seen = refl;
         makers = one_own t step refl;
-        no_refusal = (λ u k j e. absurd cc, tt);
         seat = record { thread = refl; share = shift_own s v f.fits.share l o (walk_of walk) me.1 goes };
         others = λ u ne. shift_others s t u ne o l;
         pose = f.fits.pose;

@@ -5,7 +5,7 @@ use Rattle.std.specs.declared.boxed.Box.{Box}
 use Rattle.lock_model.specs.Counts.{times}
 use Rattle.lock_model.specs.History.{base_in, entries_of, tables_of}
 use Rattle.lock_model.specs.Law.{IsLegalSoFar}
-use Rattle.lock_model.specs.Takes.{has_reversal}
+use Rattle.lock_model.specs.Takes.{OrdersAreLegal}
 use Rattle.lock_model.specs.declared.event.Entry.{Entry}
 use Rattle.thread_records.specs.Records.{Record}
 use Rattle.thread_records.specs.declared.record.ThreadRec.{ThreadRec}
@@ -42,13 +42,13 @@ Differ part recs =
     → part (record_at recs t d) ≡ part (record_at recs u d) → t ≡ u
 
 -- What is left of a floor, which took in the passes of these threads, in that order: the logs of a history
--- that keeps the law as far as it says nothing of operations, without a refused take, since orders of locks aren't
--- checked yet; each thread's record, in its place; and the tables that the history leaves. Nobody is halted yet.
+-- that keeps the law as far as it says nothing of operations, and its part on lock orders; each thread's record, in its
+-- place; and the tables that the history leaves. Nobody is halted yet.
 pub record IsClosing (floor : Description) (threads : List ℕ) (x : Closing) : Type 0 where
   pub history : List Entry
   pub logs : AreLogsOf threads (map (λ b. b.entries) x.logs.items) history
   pub legal : IsLegalSoFar (config_in floor) true history
-  pub no_refusal : has_reversal history ≡ false
+  pub orders_are_legal : OrdersAreLegal (config_in floor) history
   pub few : length history < 2 ^ 32
   pub count : length x.recs.items ≡ length floor.threads
   pub home : (t : ℕ) (d : Box ThreadRec Global) → t < length floor.threads

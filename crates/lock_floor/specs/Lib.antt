@@ -11,4 +11,5 @@ pub mod Marks
 pub mod Resumes
 pub mod Opens
 pub mod Rounds
+pub mod Ordering
 pub mod Walks

@@ -1,6 +1,6 @@
 //! The call of a lock that a thread is in the middle of. Its parts never wait: where one can't go on at once, the call
 //! stands where it is and is gone on with later, as a thread of a kernel that blocks leaves a continuation. What it
-//! needs then is here. The crate of those calls says what is so wherever a call stands.
+//! needs then is here. The crate of those calls says what each place of a call means.
 
 use lock_model::{LockNo, Mode};
 use prio_lending::Walk;
@@ -27,6 +27,9 @@ pub enum Call {
 /// Where in a take the thread is.
 #[derive(Clone, Copy, Debug, PartialEq, Eq)]
 pub enum TakeAt {
+    /// Its first exchange missed, or the thread holds a lock: it takes the class graph, checks its lock's order, and
+    /// gives the graph back.
+    Checks,
     /// In an acquiring round: so many more times it looks, and tries where it sees the lock admit it; then it takes the
     /// lock's chain.
     Spins(u32),

@@ -131,7 +131,7 @@ fn take_latch<J: Tells>(board: &Board, seat: &mut FloorSeat, who: ThreadNo, slot
 }
 
 // Makes a latch 0.
-fn give_latch<J: Tells>(board: &Board, seat: &mut FloorSeat, slot: usize)
+pub(crate) fn give_latch<J: Tells>(board: &Board, seat: &mut FloorSeat, slot: usize)
     requires own { seat.old.table_id ≡ board.now.shared.table_id }
     requires slot { slot < 2 ^ 32 }
     requires within { spot (latch_line slot) < board.now.shared.table_id.words }

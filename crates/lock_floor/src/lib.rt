@@ -13,6 +13,7 @@
 //! - `prios`: the priorities of a thread, and its end.
 //! - `closing`: taking passes in, and what is left of a floor that is closed.
 //! - `latches`: those that take a record or a cell out and give it back, and `chains`: those of chains.
+//! - `ordering`: how a blocking call checks the order of its lock.
 //! - `waits`: those by which a thread comes to stand on the queue of a lock.
 //! - `parking`: how a thread that stands on a queue sleeps, and runs again.
 //! - `opening`: a release that takes waiters off a lock's turnstile.
@@ -30,6 +31,7 @@ mod latches;
 pub mod laws;
 mod marking;
 mod opening;
+mod ordering;
 mod parking;
 mod pass;
 mod prios;

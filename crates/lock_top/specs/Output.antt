@@ -43,8 +43,8 @@ profile_output_of plan o =
     (status_of o.ending, profile_text plan (profile_of plan o.history) o.ending)
 
 -- A status and a text belong to a run of a plan's threads. Which threads meet which is not said, so each outcome of
--- such a run has its own; in none of them is a take refused. A plan that declares anything beside mutexes has one that
--- tells that its threads can't run yet.
+-- such a run has its own. A plan that declares anything beside mutexes has one that tells that its threads can't run
+-- yet.
 pub record IsOutputOfThreads (plan : Plan) (pair : Status × List ℕ) : Type 0 where
   pub ran : HasOnlyMutexes plan → (o : Outcome) × IsOutcome plan o × (pair ≡ output_of plan o)
   pub refused : (HasOnlyMutexes plan → ⊥) → pair ≡ (BadScript, fault_text 0 0)

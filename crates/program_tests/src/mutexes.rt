@@ -181,7 +181,10 @@ fn work_as_medium<R: Wait + Clock>(rt: &R, floor: &Floor, pass: &mut Pass, seen:
     lock(floor, rt, pass, N).unwrap();
     seen.medium_holds_n.store(true, Ordering::SeqCst);
     come_behind(rt, &seen.low_holds_m);
-    lock(floor, rt, pass, M).unwrap();
+    if lock(floor, rt, pass, M).is_err() {
+        unlock(floor, rt, pass, N);
+        return;
+    }
     let behind = seen.low_releases_m.load(Ordering::SeqCst);
     seen.medium_gains_behind_low.store(behind, Ordering::SeqCst);
     unlock(floor, rt, pass, M);
@@ -261,13 +264,17 @@ fn description(alloc: Global) -> Result<Description, Fail>
         base: HIGH,
         room: 1_003,
     };
-    let lock = LockPart {
+    let m = LockPart {
         kind: Kind::Mtx,
         class: ClassNo(0),
     };
+    let n = LockPart {
+        kind: Kind::Mtx,
+        class: ClassNo(1),
+    };
     Ok(Description {
         threads: Sequence::from_vec(vec![in alloc; low, medium, high]?),
-        locks: Sequence::from_vec(vec![in alloc; lock, lock]?),
+        locks: Sequence::from_vec(vec![in alloc; m, n]?),
         chans: Sequence::from_vec(Vec::new(alloc)),
         keys: Sequence::from_vec(Vec::new(alloc)),
         chains: 1,

@@ -5,9 +5,10 @@ use Rattle.lock_model.specs.declared.plan.Op.{Op}
 use Rattle.floor_table.specs.Views.{Knowledge}
 use Rattle.lock_floor.specs.Floors.{Pass}
 use Rattle.floor_run.specs.Progress.{IsBefore}
+use Rattle.floor_run.proofs.Cutting.{refused}
 use Rattle.floor_run.proofs.Operating as lemma
 use Rattle.floor_run.proofs.worker.operate.Goals as goal
-use Rattle.floor_run.proofs.worker.operate.Goals.{in-Take, in-Try+in-Ok, in-EndTry, in-Release, in-Set, in-Add, in-Get, in-Base, in-Show}
+use Rattle.floor_run.proofs.worker.operate.Goals.{in-Take+in-Ok, in-Try+in-Ok-try_lock, in-EndTry, in-Release, in-Set, in-Add, in-Get, in-Base, in-Show}
 
 pub lock-requires-clause-may : goal.lock-requires-clause-may
 lock-requires-clause-may g c =
@@ -118,12 +119,12 @@ returns-clause-before g c =
     → IsBefore plan f t (c.args.n + 1) c.match-op.pass =
     λ y same h. subst (λ (z : ℕ × Pass Knowledge). IsBefore plan f t z.0 z.1) (λ i. (next i, sym same i)) h in
     elim c.match-op.branch [
-      | in-Take w ↦ leads w.lock.new.pass w.pass-is
+      | in-Take+in-Ok w ↦ leads w.lock.new.pass w.pass-is
           (lemma.took plan f q p m t c.args.n c.args.pass.now b w.lock.new.pass w.in-Take.l w.in-Take.mode
-          (at _ w.in-Take.is) w.lock.ensures.ready w.lock.ensures.entry)
-      | in-Try+in-Ok w ↦ leads w.try_lock.new.pass w.pass-is
+          (at _ w.in-Take.is) w.lock.ensures.ready w.in-Ok.ensures.entry)
+      | in-Try+in-Ok-try_lock w ↦ leads w.try_lock.new.pass w.pass-is
           (lemma.tried plan f q p m t c.args.n c.args.pass.now b w.try_lock.new.pass w.in-Try.l w.in-Try.mode
-          w.in-Try.past (at _ w.in-Try.is) w.try_lock.ensures.ready w.in-Ok.ensures.gained)
+          w.in-Try.past (at _ w.in-Try.is) w.try_lock.ensures.ready w.in-Ok-try_lock.ensures.gained)
       | in-EndTry w ↦ leads c.args.pass.now w.pass-is
           (lemma.passed_endtry plan f q p m t c.args.n c.args.pass.now b (at _ w.in-EndTry.is))
       | in-Release w ↦ leads w.unlock.new.pass w.pass-is
@@ -146,13 +147,18 @@ returns-clause-before g c =
           (at _ w.in-Show.is) w.show.ensures.ready w.show.ensures.entry)
     ]
 
-pub returns-in-Err-clause-before : goal.returns-in-Err-clause-before
-returns-in-Err-clause-before g c =
+pub returns-in-Err-clause-cut : goal.returns-in-Err-clause-cut
+returns-in-Err-clause-cut g c =
+    refused _ _ c.requires.proper _ _ _ c.requires.before c.lock.new.pass c.in-Take.l c.in-Take.mode
+    c.in-Err.field-0.held (c.requires.op ∙ ap Some c.in-Take.is) c.lock.ensures.ready c.in-Err.ensures.reversed.entry
+
+pub returns-in-Err-try_lock-clause-before : goal.returns-in-Err-try_lock-clause-before
+returns-in-Err-try_lock-clause-before g c =
     lemma.found_busy _ _ c.requires.given c.requires.proper c.requires.mutexes _ _ _ c.requires.before
     c.try_lock.new.pass c.in-Try.l c.in-Try.mode c.in-Try.past _ (c.requires.op ∙ ap Some c.in-Try.is)
-    c.try_lock.ensures.ready c.in-Err.ensures.busy c.in-Err.ensures.noted
+    c.try_lock.ensures.ready c.in-Err-try_lock.ensures.busy c.in-Err-try_lock.ensures.noted
 
-pub returns-in-Err-clause-further : goal.returns-in-Err-clause-further
-returns-in-Err-clause-further g c =
+pub returns-in-Err-try_lock-clause-further : goal.returns-in-Err-try_lock-clause-further
+returns-in-Err-try_lock-clause-further g c =
     lemma.further_on _ _ c.requires.given c.requires.proper c.requires.mutexes _ _ _ c.requires.before c.in-Try.l
     c.in-Try.mode c.in-Try.past (c.requires.op ∙ ap Some c.in-Try.is)

@@ -70,6 +70,7 @@ invariant_of-push_reserved c =
       out = refl;
       done = λ e. absurd cc;
       runs = λ e. absurd cc;
+      rests = λ e. absurd cc;
     }
 
 pub loop-t-preserved : goal.loop-t-preserved
@@ -93,13 +94,7 @@ loop-t-preserved c =
       finished = false;
       call = call.None;
     } ≡ first_pass c.args.board.now.shared.table_id floor t =
-    λ j. record {
-      table = (split.3 ∙ i.table) j;
-      view = (ap (λ (m : Me Slot Knowledge). m.0) split.4 ∙ ap new_pass old) j;
-      finished = false;
-      call = call.None;
-    }
-    in
+    λ j. record { table = (split.3 ∙ i.table) j; view = (ap (λ (m : Me Slot Knowledge). m.0) split.4 ∙ ap new_pass old) j; finished = false; call = call.None } in
     record {
       table = split.0 ∙ i.table;
       first = split.1 ∙ i.first;

@@ -7,6 +7,6 @@ pub returns : goal.returns
 unfolding StandingIsQueued
 returns c floor m ms old new k =
     let lawful = k.sound.facts.lawful in
-    let g = k.may.0.may in
+    let g = k.may.0.fits.may in
     let named = marked_named (config_in floor) k.state old.thread m ms lawful g.thread g.marked in
     (lawful.waits.standing_is_queued m.thread m.queue named, named)

@@ -18,13 +18,13 @@ none_rise = tt
 abbrev IsFew : LockPart → Type 0
 IsFew x = x.class.0 < most_classes
 
-abbrev the_lock : LockPart
-the_lock = record { kind = Mtx; class = record { 0 = 0 } }
+abbrev of_class : ℕ → LockPart
+of_class k = record { kind = Mtx; class = record { 0 = k } }
 
-few_locks : All IsFew (the_lock ∷ the_lock ∷ [])
+few_locks : All IsFew (of_class 0 ∷ of_class 1 ∷ [])
 few_locks =
-    All-cons IsFew the_lock (the_lock ∷ []) (omega arith)
-    (All-cons IsFew the_lock [] (omega arith) (All-nil IsFew))
+    All-cons IsFew (of_class 0) (of_class 1 ∷ []) (omega arith)
+    (All-cons IsFew (of_class 1) [] (omega arith) (All-nil IsFew))
 
 abbrev HasRooms : List ThreadPart → Type 0
 HasRooms xs = (t : ℕ) → t < 3 → unwrap_or (slice_get (map (λ x. x.room) xs) t) 0 ≡ 1003

@@ -1,10 +1,12 @@
-use Rattle.std.proofs.Common.{rules, ◌≡◌, ℕ, List, refl, ap, sym, ◌∙◌, subst, length, map, arith}
+use Rattle.std.proofs.Common.{rules, ◌≡◌, ℕ, List, None, refl, ap, sym, ◌∙◌, subst, length, map, arith}
 use Rattle.std.specs.List.{Contains}
+use Rattle.std.proofs.lemmas.List.Elements.{All-nil}
 use Rattle.atomic_table.specs.Table.{Me, opening}
 use Rattle.floor_table.specs.declared.description.Description.{Description}
 use Rattle.floor_table.specs.declared.slot.Slot.{Slot}
 use Rattle.floor_table.specs.Places.{words_for, slots_for}
 use Rattle.floor_table.specs.Rule.{FloorHolds}
+use Rattle.floor_table.specs.Shares.{Share}
 use Rattle.floor_table.specs.Views.{Knowledge, keeper}
 use Rattle.lock_floor.specs.First.{AreFirstWords}
 use Rattle.lock_floor.specs.Ties.{IsLaid, IsKept}
@@ -32,6 +34,7 @@ invariant_of-keeper c =
       role = refl;
       none_out = refl;
       logs_are = ap (map (λ b. b.entries)) c.in_ok-logs.ensures.items;
+      none_taken = All-nil (λ (g : ℕ × Share). g.1.doing.taking ≡ None);
       room_for_logs = omega (arith, c.in_ok-logs.ensures.capacity, ap length c.as_slice-count.ensures);
       room_for_records = omega (arith, c.in_ok-recs.ensures.capacity, ap length c.as_slice-count.ensures);
       no_records = c.in_ok-recs.ensures.items;

@@ -1,5 +1,6 @@
-use Rattle.std.proofs.Common.{◌≡◌, ℕ, ◌+◌, [], ◌∷◌, ◌++◌, length, map, reverse, sym, ap, ◌∙◌, subst, arith, length-append}
+use Rattle.std.proofs.Common.{◌≡◌, ℕ, ◌+◌, None, [], ◌∷◌, ◌++◌, length, map, reverse, sym, ap, ◌∙◌, subst, arith, length-append}
 use Rattle.std.proofs.lemmas.List.{length-map, map_push}
+use Rattle.std.proofs.lemmas.List.Elements.{All-nil, All-cons, All-append}
 use Rattle.atomic_table.specs.Table.{Me, Joins, Allows}
 use Rattle.lock_history.specs.Books.{Book}
 use Rattle.floor_table.specs.declared.description.Description.{Description}
@@ -71,6 +72,8 @@ invariant_of-self c =
     let k = c.self.invariant in
     let v : Knowledge = c.self.inside.seat.me.0 in
     let w : Knowledge = c.pass.inside.seat.me.0 in
+    let over = ap (λ (p : Pass Knowledge). p.finished) c.pass.view_is ∙ c.requires.finished.finished in
+    let rests : ℕ × Share → Type 0 = λ g. g.1.doing.taking ≡ None in
     subst (λ (m : Me Slot Knowledge). IsKept c.push_reserved.new.self c.self.inside.recs c.self.inside.tables c.ask.new.seat.id m) (sym (behind c)) record {
       first = c.ask.ensures.id ∙ c.join_seat.ensures.1 ∙ k.first;
       role = k.role;
@@ -80,6 +83,8 @@ invariant_of-self c =
           ∙ map_push (λ (b : Book). b.entries) c.self.inside.logs.items c.pass.inside.log
           ∙ (λ i. k.logs_are i ++ c.pass.invariant.log i ∷ [])
           ∙ sym (map_push (λ (g : ℕ × Share). reverse g.1.log) v.gathered (w.thread, w.share));
+      none_taken = All-append rests v.gathered ((w.thread, w.share) ∷ []) k.none_taken
+          (All-cons rests (w.thread, w.share) [] (c.pass.invariant.rests over) (All-nil rests));
       room_for_logs = omega (arith, k.room_for_logs, c.push_reserved.ensures.capacity);
       room_for_records = k.room_for_records;
       no_records = k.no_records;

@@ -14,8 +14,7 @@ try_take_rec-requires-clause-may c =
     (subst (IsOnFloor c.args.self.now.description) c.requires.there c.requires.in_hop.on_floor)
 
 pub returns-then-not-try_take_rec-clause-elsewhere : goal.returns-then-not-try_take_rec-clause-elsewhere
-returns-then-not-try_take_rec-clause-elsewhere c =
-    (c.args.o.0, c.try_take_rec.ensures.elsewhere c.if-not-try_take_rec.true)
+returns-then-not-try_take_rec-clause-elsewhere c = (c.args.o.0, c.try_take_rec.ensures.elsewhere c.if-not-try_take_rec.true)
 
 pub sort-walk-requires-clause-may : goal.sort-walk-requires-clause-may
 sort-walk-requires-clause-may c =

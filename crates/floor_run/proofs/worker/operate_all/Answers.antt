@@ -2,8 +2,9 @@ use Rattle.std.proofs.Common.{◌≡◌, slice_get, arith, ap, sym, subst, ◌�
 use Rattle.std.proofs.lemmas.Option.{slice_get-get_or}
 use Rattle.lock_model.specs.Plans.{operations_of}
 use Rattle.floor_run.specs.Progress.{IsBefore}
+use Rattle.floor_run.proofs.Cutting.{cut_own}
 use Rattle.floor_run.proofs.Operating.{at_first, few_operations}
-use Rattle.floor_run.proofs.worker.work.Goals as goal
+use Rattle.floor_run.proofs.worker.operate_all.Goals as goal
 
 pub loop-next-init : goal.loop-next-init
 loop-next-init g c =
@@ -21,9 +22,13 @@ overflow_cast-next g c =
           c.requires.proper,
     )
 
-pub operate-next-requires-clause-op : goal.operate-next-requires-clause-op
-operate-next-requires-clause-op g c =
+pub operate-requires-clause-op : goal.operate-requires-clause-op
+operate-requires-clause-op g c =
     let same : operations_of c.args.plan.now c.loop-next.pass.view.thread ≡ c.operations_of-ops.result.now =
     ap (operations_of c.args.plan.now) (c.loop-next.invariant.thread ∙ sym c.thread.ensures.same)
     ∙ sym c.operations_of-ops.ensures in
     ap (λ ops. slice_get ops c.loop-next.next) same ∙ slice_get-get_or c.operations_of-ops.result.now c.loop-next.next _ c.loop-next-test.true
+
+pub give_back-requires-clause-cut : goal.give_back-requires-clause-cut
+give_back-requires-clause-cut g c =
+    cut_own c.args.plan.now c.args.floor.now c.loop-next.pass.view.thread c.operate.new.pass c.in-None.ensures.cut

@@ -1,6 +1,6 @@
 use Rattle.std.proofs.Common.{◌-◌, length}
 use Rattle.floor_run.specs.Progress.{IsBefore}
-use Rattle.floor_run.proofs.worker.work.Given as goal
+use Rattle.floor_run.proofs.worker.operate_all.Given as goal
 
 abbrev pub invariant-loop-next : goal.invariant-loop-next
 invariant-loop-next g l = IsBefore l.plan l.floor l.initial.pass.view.thread l.next l.pass

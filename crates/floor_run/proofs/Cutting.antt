@@ -1,0 +1,222 @@
+-- A take that is refused cuts its thread short: it gives back what it holds, the lock gained last first.
+use Rattle.std.proofs.Common.{◌≡◌, ℕ, zero, suc, ◌+◌, ◌-◌, ◌<◌, ◌≤◌, Bool, true, false, cond, eqb, arith, List, [], ◌∷◌, ◌++◌, length, length-append, reverse, slice_get, take, Option, Some, None, sym, ap, ◌∙◌, subst, refl}
+use Rattle.std.proofs.lemmas.List.{take_all, reverse-append}
+use Rattle.std.proofs.lemmas.Option.{slice_get_within}
+use Rattle.lock_model.specs.Holds.{NotHeld, Holds}
+use Rattle.lock_model.specs.Law.{LeadsTo, Cut}
+use Rattle.lock_model.specs.Law as law
+use Rattle.lock_model.specs.Operations.{IsProper, held_of, held_behind, held_after, of_locks, hold_in, without_lock}
+use Rattle.lock_model.specs.Plans.{config_of, operations_of}
+use Rattle.lock_model.specs.declared.numbers.ClassNo.{ClassNo}
+use Rattle.lock_model.specs.declared.numbers.LockNo.{LockNo}
+use Rattle.lock_model.specs.declared.event.Entry.{Entry}
+use Rattle.lock_model.specs.declared.event.Event.TheVariants as event
+use Rattle.lock_model.specs.declared.event.Held.{Held}
+use Rattle.lock_model.specs.declared.plan.Mode.{Mode}
+use Rattle.lock_model.specs.declared.plan.Mode.TheVariants.{Excl}
+use Rattle.lock_model.specs.declared.plan.Op.{Op}
+use Rattle.lock_model.specs.declared.plan.Op.TheVariants.{Take}
+use Rattle.lock_model.specs.declared.plan.OfLocks.{OfLocks}
+use Rattle.lock_model.specs.declared.plan.OfLocks.TheVariants.{NoLock, Acquires, ClosesBlock, Releases, EditsAt, ReadsAt, SleepsOn, WakesOn}
+use Rattle.lock_model.specs.declared.plan.Plan.{Plan}
+use Rattle.lock_laws.proofs.HeldLists.{gained_order-push, next_leads, held_none, held_are_locks}
+use Rattle.lock_state.specs.State.{HeldLock, gained_order}
+use Rattle.lock_state.specs.Steps.LockWords.{without_held}
+use Rattle.run_laws.proofs.LastHeld.{GivesLast, gives_last}
+use Rattle.floor_table.specs.Descriptions.{IsFor}
+use Rattle.floor_table.specs.Views.{Knowledge}
+use Rattle.floor_table.specs.declared.description.Description.{Description}
+use Rattle.lock_floor.specs.Floors.{Floor, Pass}
+use Rattle.lock_floor.specs.Passes.{IsReady, MakesEntry}
+use Rattle.lock_floor.specs.Views.{entry_by}
+use Rattle.adaptive_mutex.specs.Mutexes.{MayRelease}
+use Rattle.floor_run.specs.Progress.{IsBefore, IsCut}
+use Rattle.floor_run.specs.Runs.{HasOnlyMutexes}
+use Rattle.floor_run.specs.Workers.{IsWhole}
+use Rattle.floor_run.proofs.Operating.{was_stamped, is_mutex, mutex_kind}
+
+-- 1. A thread holds as many locks as it has operations left, or fewer
+
+without_one : (l : ℕ) (hs : List Held) → length hs ≤ suc (length (without_lock l hs))
+without_one l [] = omega arith
+without_one l (h ∷ hs) = go (eqb h.l.0 l) (without_one l hs)
+  where
+    go : (b : Bool) → length hs ≤ suc (length (without_lock l hs))
+        → suc (length hs) ≤ suc (length (cond b hs (h ∷ without_lock l hs)))
+    go true e = omega arith
+    go false e = omega (arith, e)
+
+-- an operation gives back one lock at most
+one_less : (op : Op) (hs : List Held) → length hs ≤ suc (length (held_behind op hs))
+one_less op hs = go (of_locks op)
+  where
+    go : (o : OfLocks) → length hs ≤ suc (length (held_after o hs))
+    go NoLock = omega arith
+    go (Acquires h) = omega (arith, length-append hs (h ∷ []))
+    go ClosesBlock = omega arith
+    go (Releases l) = without_one l.0 hs
+    go (EditsAt l key) = omega arith
+    go (ReadsAt l key) = omega arith
+    go (SleepsOn c) = omega arith
+    go (WakesOn c) = omega arith
+
+none_past : {A : Type 0} (xs : List A) (i : ℕ) → slice_get xs i ≡ None → length xs ≤ i
+none_past [] i e = omega arith
+none_past (x ∷ xs) zero e = absurd cc
+none_past (x ∷ xs) (suc i) e = omega (arith, none_past xs i e)
+
+few_held : (plan : Plan) (p : IsProper plan) (t k n : ℕ) → n + k ≡ length (operations_of plan t)
+    → length (held_of (operations_of plan t) n) ≤ k
+few_held plan p t zero n e = omega (arith, ap length (held_none plan p t n (omega (arith, e))))
+few_held plan p t (suc k) n e =
+    go (slice_get (operations_of plan t) n) refl (few_held plan p t k (suc n) (omega (arith, e)))
+  where
+    go : (o : Option Op) → slice_get (operations_of plan t) n ≡ o
+        → length (held_of (operations_of plan t) (suc n)) ≤ k → length (held_of (operations_of plan t) n) ≤ suc k
+    go None at less = absurd (omega (arith, none_past (operations_of plan t) n at, e))
+    go (Some op) at less =
+        omega (
+          arith,
+          less,
+          one_less op (held_of (operations_of plan t) n),
+          ap length (next_leads plan p t n op at).behind,
+        )
+
+-- what is held of a part is held of the whole
+held_in_all : (l k : ℕ) (hs : List Held) (mode : Mode) → hold_in (take k hs) l ≡ Holds mode → hold_in hs l ≡ Holds mode
+held_in_all l zero hs mode e = absurd cc
+held_in_all l (suc k) [] mode e = absurd cc
+held_in_all l (suc k) (h ∷ hs) mode e = go (eqb h.l.0 l) (held_in_all l k hs mode) e
+  where
+    go : (b : Bool) → (hold_in (take k hs) l ≡ Holds mode → hold_in hs l ≡ Holds mode)
+        → cond b (Holds h.mode) (hold_in (take k hs) l) ≡ Holds mode
+        → cond b (Holds h.mode) (hold_in hs l) ≡ Holds mode
+    go true on i = i
+    go false on i = on i
+
+-- 2. A take is refused
+
+module _ (plan : Plan) (f : Floor Description) (p : IsProper plan) (t n : ℕ) (x : Pass Knowledge)
+    (b : IsBefore plan f t n x) where
+  pub refused : (y : Pass Knowledge) (l : LockNo) (mode : Mode) (class : ClassNo)
+      → slice_get (operations_of plan t) n ≡ Some (Take l mode) → IsReady f y
+      → MakesEntry f.description (event.Reversed l class) x.view.share.held x.view y.view → IsCut plan f t y
+  refused y l mode class at ready made =
+      let ops : List Op = operations_of plan t in
+      let entry : Entry = entry_by x.view.thread made.ticket (event.Reversed l class) in
+      let holds : y.view.share.held ≡ held_of ops n = made.held ∙ b.held in
+      let low : n < length ops = slice_get_within ops n (Take l mode) at in
+      let few = few_held plan p t (length ops - n) n (omega (arith, low)) in
+      record {
+        ready = ready;
+        thread = made.thread ∙ b.thread;
+        n = n;
+        left = length (held_of ops n);
+        held = holds ∙ sym (take_all (length (held_of ops n)) (held_of ops n) (omega arith));
+        leads = subst (λ (z : List Entry × List Held). LeadsTo (config_of plan).kind ops z.0 (Cut (reverse z.1)))
+            (λ i. (sym made.log i, sym holds i))
+            (law.goes_on entry b.leads at (law.is_reversed l mode class));
+        stamped = was_stamped f.description t x.view y.view (event.Reversed l class) x.view.share.held b.thread
+            b.stamped made;
+        room = omega (arith, b.room, made.spare, few, low, ap length holds);
+      }
+
+-- 3. It gives back the lock that it gained last
+
+module _ (plan : Plan) (f : Floor Description) (given : IsFor plan f.description) (p : IsProper plan)
+    (m : HasOnlyMutexes plan) (t : ℕ) (x : Pass Knowledge) (b : IsCut plan f t x) (hs : List Held) (h : Held)
+    (last : x.view.share.held ≡ hs ++ h ∷ []) where
+  abbrev all : List Held
+  all = held_of (operations_of plan t) b.n
+
+  abbrev listed : HeldLock
+  listed = record { lock = h.l.0; by_try = h.by_try }
+
+  its_last : GivesLast all b.left listed
+  its_last =
+      gives_last all b.left listed (gained_order hs) (held_are_locks plan p t b.n).apart
+      (ap gained_order (sym b.held ∙ last) ∙ gained_order-push hs h)
+
+  holds_last : hold_in x.view.share.held h.l.0 ≡ Holds its_last.last.mode
+  holds_last = ap (λ xs. hold_in xs h.l.0) b.held ∙ its_last.held
+
+  -- it is one of the plan's, and held exclusively
+  among : hold_in all h.l.0 ≡ Holds its_last.last.mode
+  among = held_in_all h.l.0 b.left all its_last.last.mode its_last.held
+
+  exclusive : its_last.last.mode ≡ Excl
+  exclusive = (held_are_locks plan p t b.n).mutexes h.l.0 its_last.last.mode among (mutex_kind plan m h.l.0)
+
+  pub may_give_back : MayRelease f.description h.l.0 x.view
+  may_give_back = record {
+    mutex = is_mutex plan f.description given m h.l.0
+        ((held_are_locks plan p t b.n).within h.l.0
+        (λ none. let z : NotHeld ≡ Holds its_last.last.mode = sym none ∙ among in cc));
+    held = holds_last ∙ ap Holds exclusive;
+    room = omega (arith, b.room, ap length last, length-append hs (h ∷ []));
+  }
+
+  pub gives_back : (y : Pass Knowledge) → IsReady f y
+      → MakesEntry f.description (event.Unlocked h.l Excl) (without_lock h.l.0 x.view.share.held) x.view y.view
+      → IsCut plan f t y
+  gives_back y ready made =
+      let ops : List Op = operations_of plan t in
+      let g = its_last in
+      let entry : Entry = entry_by x.view.thread made.ticket (event.Unlocked h.l Excl) in
+      let without : y.view.share.held ≡ g.others =
+      made.held ∙ ap (without_lock h.l.0) b.held ∙ g.without in
+      let were : reverse x.view.share.held ≡ g.last ∷ reverse g.others =
+      ap reverse (b.held ∙ g.is) ∙ reverse-append g.others (g.last ∷ []) in
+      let noted : event.Unlocked h.l Excl ≡ event.Unlocked g.last.l g.last.mode =
+      λ i. event.Unlocked (record { 0 = sym g.lock i }) (sym exclusive i) in
+      record {
+        ready = ready;
+        thread = made.thread ∙ b.thread;
+        n = b.n;
+        left = length (without_held h.l.0 (gained_order (take b.left all)));
+        held = without ∙ sym g.left;
+        leads = subst (λ (z : List Entry × List Held). LeadsTo (config_of plan).kind ops z.0 (Cut (reverse z.1)))
+            (λ i. (sym made.log i, sym without i))
+            (law.gives_back entry
+            (subst (λ (xs : List Held). LeadsTo (config_of plan).kind ops x.view.share.log (Cut xs)) were b.leads) noted);
+        stamped = was_stamped f.description t x.view y.view (event.Unlocked h.l Excl)
+            (without_lock h.l.0 x.view.share.held) b.thread b.stamped made;
+        room = omega (
+          arith,
+          b.room,
+          made.spare,
+          ap length without,
+          ap length last,
+          ap length (sym last ∙ b.held ∙ g.is),
+          length-append hs (h ∷ []),
+          length-append g.others (g.last ∷ []),
+        );
+      }
+
+  pub fewer_left : (y : Pass Knowledge)
+      → MakesEntry f.description (event.Unlocked h.l Excl) (without_lock h.l.0 x.view.share.held) x.view y.view
+      → length y.view.share.held < length x.view.share.held
+  fewer_left y made =
+      let g = its_last in
+      omega (
+        arith,
+        ap length (made.held ∙ ap (without_lock h.l.0) b.held ∙ g.without),
+        ap length (b.held ∙ g.is),
+        length-append g.others (g.last ∷ []),
+      )
+
+-- 4. Nothing is left
+
+-- the thread that is cut short is the pass's own
+pub cut_own : (plan : Plan) (f : Floor Description) (t : ℕ) (x : Pass Knowledge) → IsCut plan f t x
+    → IsCut plan f x.view.thread x
+cut_own plan f t x b = subst (λ u. IsCut plan f u x) (sym b.thread) b
+
+pub cut_whole : (plan : Plan) (f : Floor Description) (t : ℕ) (x : Pass Knowledge) → IsCut plan f t x
+    → x.view.share.held ≡ [] → IsWhole plan f.description t x.view.share.log
+cut_whole plan f t x b none = record {
+  point = Cut (reverse x.view.share.held);
+  leads = b.leads;
+  at_end = ap reverse none;
+  stamped = b.stamped;
+}

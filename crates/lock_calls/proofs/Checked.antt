@@ -1,0 +1,197 @@
+-- A take has the order of its lock checked: admitted, a round of the lock begins; refused, that is noted, and the call
+-- is over. A thread that holds nothing is never refused.
+use Rattle.std.proofs.Common.{◌≡◌, ℕ, suc, true, false, cond, [], ◌∷◌, Some, None, refl, sym, ap, ◌∙◌, subst, inl, arith}
+use Rattle.lock_model.specs.Words.{Word, word_of}
+use Rattle.lock_model.specs.declared.event.Event.TheVariants.{Locked}
+use Rattle.lock_model.specs.declared.numbers.LockNo.{LockNo}
+use Rattle.lock_model.specs.declared.plan.Mode.TheVariants.{Excl}
+use Rattle.lock_state.specs.State.{Look}
+use Rattle.lock_state.specs.Steps.{Seeks, Looks, Gains, Stamps}
+use Rattle.lock_state.specs.Steps.Items.{ClassGraph}
+use Rattle.lock_state.specs.Steps.LockWords.{round_of, taking_from}
+use Rattle.floor_table.specs.Descriptions.{config_in}
+use Rattle.floor_table.specs.declared.description.Description.{Description}
+use Rattle.floor_table.specs.Steps.{Makes, MayMake}
+use Rattle.floor_table.specs.Views.{Knowledge, seeing}
+use Rattle.lock_floor.specs.declared.calls.TakeAt.TheVariants.{Checks, Spins}
+use Rattle.lock_floor.specs.Latches.{FindsOut}
+use Rattle.lock_floor.specs.Ordering.{ChecksOrder, checks}
+use Rattle.lock_floor.specs.Views.{counts, looked, sought}
+use Rattle.lock_floor.proofs.May.{BeginsRound, counts_there, may_seek, may_seek_gain}
+use Rattle.lock_calls.specs.Steps.{IsMutex, as_taken, gains_at_once}
+use Rattle.lock_calls.specs.Takes.{TakesOn, TakeEnd, admitted, at_check, finds_out}
+use Rattle.lock_calls.specs.Waiting.{kept_of, IsChecking, MaySeek, IsSeeking, HasBegun, GainsAtOnce, HasGained}
+use Rattle.lock_calls.proofs.Attempts.{plainly, unhalted}
+use Rattle.lock_calls.proofs.Looks.{each_append}
+
+-- 1. The begin of a round, the lock of which is admitted
+
+begins_it : (l : ℕ) (v : Knowledge) → MaySeek l v → BeginsRound l false v
+begins_it l v m = record {
+  unheld = m.unheld;
+  wants = inl m.wants;
+  tries = λ e. absurd cc;
+  anew = λ e. absurd (let z : Some l ≡ None = sym m.wants ∙ e in cc);
+  unseen = λ e. absurd cc;
+  missed = m.missed;
+  ordered = λ e. inl m.wants;
+  unhalted = unhalted v m.unnoted;
+  no_round = m.no_round;
+  runs = m.runs;
+  nothing_out = m.nothing_out;
+  going = m.going;
+}
+
+pub may_seek_and_gain : (floor : Description) (l : ℕ) (v : Knowledge) → IsMutex floor l → MaySeek l v
+    → MayMake floor v (λ s. s.word l ≡ word_of 0) (Seeks v.thread l false ∷ Gains v.thread l Excl false ∷ [])
+may_seek_and_gain floor l v mutex m =
+    may_seek_gain floor v l Excl false (word_of 0) mutex.lock refl (plainly ((config_in floor).kind l) mutex.kind)
+    (λ w. m.takes) (begins_it l v m)
+
+pub may_seek_and_look : (floor : Description) (l : ℕ) (v : Knowledge) → IsMutex floor l → MaySeek l v
+    → MayMake floor v (λ s. Unit {0}) (Seeks v.thread l false ∷ Looks v.thread l true ∷ [])
+may_seek_and_look floor l v mutex m = may_seek floor v l false mutex.lock (begins_it l v m) (λ e. m.wants)
+
+module _ (floor : Description) (l : ℕ) (v : Knowledge) (m : MaySeek l v) where
+  -- the lock is taken already
+  takes_it : taking_from false v.share.doing.wanted l v.share.doing.taking ≡ Some l
+  takes_it = ap (λ w. taking_from false w l v.share.doing.taking) m.wants ∙ m.takes
+
+  pub has_begun : (w : Knowledge) (word : Word) → w ≡ seeing w.seen (looked (sought v l false) l word)
+      → Makes floor (Seeks v.thread l false ∷ Looks v.thread l true ∷ []) v w → HasBegun floor l v w
+  has_begun w word view step =
+      let look : Look = record { lock = l; word = word } in
+      let counted : counts (sought v l false) l ≡ true = counts_there floor (sought v l false) l false m.nothing_out refl in
+      record {
+        all = suc v.share.doing.looks_in_all;
+        last = Some look;
+        seen = Some look;
+        knows = view ∙ (λ i. seeing w.seen (record v {
+          share = record v.share {
+            doing = record v.share.doing {
+              taking = takes_it i;
+              looks = cond (counted i) 1 0;
+              looks_in_all = suc v.share.doing.looks_in_all;
+              last_look = Some look;
+              seen_in_section = Some look;
+              round = Some (round_of l false);
+            };
+          };
+        }));
+        step = step;
+      }
+
+  pub seeks_it : (w : Knowledge) → HasBegun floor l v w → IsSeeking l w
+  seeks_it w b = subst (IsSeeking l) (sym b.knows) record {
+    unheld = m.unheld;
+    few = m.few;
+    wants = m.wants;
+    takes = refl;
+    unnoted = m.unnoted;
+    round = refl;
+    no_walk = m.no_walk;
+    runs = m.runs;
+    nothing_out = m.nothing_out;
+    going = record { awake = m.going.awake; unended = m.going.unended; stamped = m.going.stamped };
+  }
+
+-- 2. The check
+
+-- another thread has the class graph
+pub stays_checking : (floor : Description) (l : LockNo) (old new : Knowledge)
+    → IsChecking floor l.0 old → new ≡ seeing new.seen old → FindsOut floor ClassGraph old new
+    → TakesOn floor l Excl Checks Checks old new
+stays_checking floor l old new there is found = record {
+  there = subst (IsChecking floor l.0) (sym is) record {
+    unheld = there.unheld;
+    may = record {
+      runs = there.may.runs;
+      going = record {
+        awake = there.may.going.awake;
+        unended = there.may.going.unended;
+        stamped = there.may.going.stamped;
+      };
+      wants_nothing = there.may.wants_nothing;
+      takes_nothing = there.may.takes_nothing;
+      unnoted = there.may.unnoted;
+      no_wait = there.may.no_wait;
+      no_round = there.may.no_round;
+      few = there.may.few;
+      sections = there.may.sections;
+      missed = there.may.missed;
+    };
+    no_walk = there.no_walk;
+    no_looks = there.no_looks;
+    nothing_out = there.nothing_out;
+  };
+  kept = ap kept_of is;
+  leg = finds_out Checks ClassGraph refl is found;
+}
+
+module _ (floor : Description) (l : LockNo) (old mid : Knowledge) (there : IsChecking floor l.0 old)
+    (checked : ChecksOrder floor l.0 None old mid) where
+  same_thread : mid.thread ≡ old.thread
+  same_thread = ap (λ (k : Knowledge). k.thread) checked.view
+
+  same_kept : kept_of mid ≡ kept_of old
+  same_kept = ap kept_of checked.view
+
+  -- a round of the lock may begin
+  pub may_seek_on : MaySeek l.0 mid
+  may_seek_on = subst (MaySeek l.0) (sym checked.view) record {
+    unheld = there.unheld;
+    few = there.may.few;
+    wants = refl;
+    takes = refl;
+    unnoted = there.may.unnoted;
+    no_round = there.may.no_round;
+    missed = there.may.missed;
+    no_walk = there.no_walk;
+    runs = there.may.runs;
+    nothing_out = there.nothing_out;
+    going = record {
+      awake = there.may.going.awake;
+      unended = there.may.going.unended;
+      stamped = there.may.going.stamped;
+    };
+  }
+
+  -- it begins and ends with the gain
+  module _ (v : Knowledge) (g : GainsAtOnce floor (as_taken l Excl) mid v) where
+    pub gained_checked : HasGained l old v
+    gained_checked = record {
+      before = sought mid l.0 false;
+      kept = same_kept;
+      gaining = record {
+        unheld = may_seek_on.unheld;
+        takes = takes_it floor l.0 mid may_seek_on;
+        no_walk = may_seek_on.no_walk;
+        runs = may_seek_on.runs;
+        nothing_out = may_seek_on.nothing_out;
+      };
+      view = g.view;
+    }
+
+    pub ends_checked : (new : Knowledge) → Makes floor (Stamps old.thread (Locked l Excl) ∷ []) v new
+        → TakeEnd floor l Excl Checks old new
+    ends_checked new notes =
+        let gains : Makes floor (gains_at_once old.thread l.0 Excl) mid v =
+        subst (λ t. Makes floor (gains_at_once t l.0 Excl) mid v) same_thread g.step in
+        at_check (each_append floor (checks old.thread l.0 None)
+        (gains_at_once old.thread l.0 Excl ∷ (Stamps old.thread (Locked l Excl) ∷ []) ∷ []) old mid new checked.steps
+        (v, gains, (new, notes, refl)))
+
+  -- or it begins with a look
+  pub spins_checked : (new : Knowledge) → HasBegun floor l.0 mid new → TakesOn floor l Excl Checks (Spins 49) old new
+  spins_checked new b =
+      let looks : new.share.doing.looks ≡ 1 = ap (λ (k : Knowledge). k.share.doing.looks) b.knows in
+      let begins : Makes floor (Seeks old.thread l.0 false ∷ Looks old.thread l.0 true ∷ []) mid new =
+      subst (λ t. Makes floor (Seeks t l.0 false ∷ Looks t l.0 true ∷ []) mid new) same_thread b.step in
+      record {
+        there = (seeks_it floor l.0 mid may_seek_on new b, omega (arith, looks));
+        kept = ap kept_of b.knows ∙ same_kept;
+        leg = admitted 49 (omega arith)
+            (each_append floor (checks old.thread l.0 None)
+            ((Seeks old.thread l.0 false ∷ Looks old.thread l.0 true ∷ []) ∷ []) old mid new checked.steps
+            (new, begins, refl));
+      }

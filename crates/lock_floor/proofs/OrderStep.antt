@@ -1,0 +1,265 @@
+-- The class graph goes home with the lock of a blocking call admitted, or refused. The work on the graph is done first,
+-- where nobody else can see it.
+use Rattle.std.proofs.Common.{◌≡◌, ◌≢◌, ℕ, ◌<◌, List, [], ◌∷◌, ◌++◌, length, map, reverse, Option, Some, None, refl, sym, ap, ◌∙◌, subst}
+use Rattle.std.specs.Box.{with_value}
+use Rattle.std.proofs.lemmas.List.{reverse-append, reverse-reverse, map-append}
+use Rattle.atomic_table.specs.Table.{Me, gives, rest, Allows}
+use Rattle.lock_laws.proofs.Kit.{put_same, put_other}
+use Rattle.lock_model.specs.Config.{Config}
+use Rattle.lock_model.specs.Holds.{Holds}
+use Rattle.lock_model.specs.Orders.{is_edge, IsAdmitted, IsFirstToForbid, edges_behind}
+use Rattle.lock_model.proofs.Orders.{same_admitted, same_first, same_behind}
+use Rattle.lock_model.specs.declared.event.Held.{Held}
+use Rattle.lock_state.specs.State.{State, HeldLock, Note, OrderRefused, Look, Running, gained_order, put}
+use Rattle.lock_state.specs.Steps.{Step, Admits, Refuses, HasItem, ChecksOutsideRounds}
+use Rattle.lock_state.specs.Steps.Items.{Item, TurnstileChain, SleepChain, RecordOf, CellOf, ClassGraph}
+use Rattle.lock_state.specs.Steps.LockWords.{is_taking_back}
+use Rattle.lock_state.specs.Steps.Orders.{IsFreeToTake, held_classes, classes_held, after_admit, after_refuse}
+use Rattle.witness_orders.specs.Graph as orders
+use Rattle.floor_table.specs.Descriptions.{config_in}
+use Rattle.floor_table.specs.declared.description.Description.{Description}
+use Rattle.floor_table.specs.declared.slot.Slot.{Slot}
+use Rattle.floor_table.specs.declared.slot.Slot.TheVariants.{Graph}
+use Rattle.floor_table.specs.Past.{IsAllowed}
+use Rattle.floor_table.specs.Places.{spot, latch_line, latch_word, graph_place}
+use Rattle.floor_table.specs.Represents.{Board, Objects, IsPosed, RepresentsGraph, RepresentsObjects, RepresentsShare, objects_in}
+use Rattle.floor_table.specs.Rule.{FloorHolds}
+use Rattle.floor_table.specs.Shares.{columns_of, share_in}
+use Rattle.floor_table.specs.Shelves.{found}
+use Rattle.floor_table.specs.Steps.{Fits, Makes}
+use Rattle.floor_table.specs.Views.{Knowledge, OfThread, seeing}
+use Rattle.floor_table.proofs.Made.{Finds, Steps, allows, give_made_with, OwnSteps}
+use Rattle.floor_table.proofs.Objects.{SaySame}
+use Rattle.floor_table.proofs.Seen.{one_own}
+use Rattle.floor_table.proofs.Shelved.{found_first}
+use Rattle.lock_floor.specs.Ordering.{MayOrder, HasGraph, IsVerdict, settles, settled}
+use Rattle.lock_floor.proofs.Changing.{OnlyChanges, object_changed}
+use Rattle.lock_floor.proofs.May.{column, doing_it, holds_it, own_log, goes_on}
+
+-- 1. The classes of held locks
+
+reverse-map : {A B : Type 0} (f : A → B) (xs : List A) → reverse (map f xs) ≡ map f (reverse xs)
+reverse-map f [] = refl
+reverse-map f (x ∷ xs) =
+    reverse-append (f x ∷ []) (map f xs) ∙ ap (λ ys. ys ++ f x ∷ []) (reverse-map f xs)
+    ∙ sym (ap (map f) (reverse-append (x ∷ []) xs) ∙ map-append f (reverse xs) (x ∷ []))
+
+-- in order of acquisition
+classes_in_order : (f : ℕ → ℕ) (hs : List Held)
+    → map (λ h. f h.l.0) hs ≡ reverse (map (λ h. f h.lock) (gained_order hs))
+classes_in_order f hs =
+    let g : HeldLock → ℕ = λ h. f h.lock in
+    let listed : Held → HeldLock = λ x. record { lock = x.l.0; by_try = x.by_try } in
+    sym (reverse-map g (gained_order hs) ∙ ap (map g) (reverse-reverse (map listed hs)) ∙ go hs)
+  where
+    go : (xs : List Held)
+        → map (λ (h : HeldLock). f h.lock) (map (λ (x : Held). record { lock = x.l.0; by_try = x.by_try }) xs)
+        ≡ map (λ (h : Held). f h.l.0) xs
+    go [] = refl
+    go (x ∷ xs) = ap (λ ys. f x.l.0 ∷ ys) (go xs)
+
+-- 2. The graph alone changes
+
+graph_changes : (floor : Description) (x : Objects) (es : List (ℕ × ℕ))
+    → OnlyChanges floor x (record x { edges = es }) ClassGraph
+graph_changes floor x es = record { others = go; tables = λ l key ne. refl }
+  where
+    go : (k : Item) → k ≢ ClassGraph → SaySame floor x (record x { edges = es }) k
+    go (RecordOf u) ne = refl
+    go (CellOf l key) ne = refl
+    go (TurnstileChain k) ne = λ q there. record { queue = refl; loan_home = λ n e. refl }
+    go (SleepChain k) ne = λ q there. refl
+    go ClassGraph ne = absurd (ne refl)
+
+-- 3. The shares behind it
+
+module _ (s : State) (v : Knowledge) (fit : RepresentsShare v.share s v.thread) (l : ℕ) where
+  abbrev its : columns_of v.share ≡ share_in s v.thread
+  its = fit.columns
+
+  admit_own : (c : Config) → RepresentsShare (settled v l None).share (after_admit c s v.thread l) v.thread
+  unfolding after_admit
+  admit_own c = record {
+    columns = λ i. record (its i) {
+      doing = record (its i).doing {
+        wanted = sym (put_same s.wanted v.thread (Some l)) i;
+        taking = sym (put_same s.taking v.thread (Some l)) i;
+      };
+    };
+    held_once = fit.held_once;
+  }
+
+  refuse_own : (k : ℕ) → RepresentsShare (settled v l (Some k)).share (after_refuse s v.thread l k) v.thread
+  unfolding after_refuse
+  refuse_own k = record {
+    columns = λ i. record (its i) {
+      doing = record (its i).doing { noted = sym (put_same s.noted v.thread (Some (OrderRefused l k))) i };
+    };
+    held_once = fit.held_once;
+  }
+
+admit_others : (c : Config) (s : State) (t l u : ℕ) → u ≢ t → share_in (after_admit c s t l) u ≡ share_in s u
+unfolding after_admit
+admit_others c s t l u other =
+    let ne : t ≢ u = λ q. other (sym q) in
+    λ i. record (share_in s u) {
+      doing = record (share_in s u).doing {
+        wanted = put_other s.wanted t (Some l) u ne i;
+        taking = put_other s.taking t (Some l) u ne i;
+      };
+    }
+
+refuse_others : (s : State) (t l k u : ℕ) → u ≢ t → share_in (after_refuse s t l k) u ≡ share_in s u
+unfolding after_refuse
+refuse_others s t l k u other = λ i. record (share_in s u) {
+  doing = record (share_in s u).doing { noted = put_other s.noted t (Some (OrderRefused l k)) u (λ q. other (sym q)) i };
+}
+
+-- 4. The step
+
+-- what it tells: the graph is home so, and nothing is out
+abbrev pub SettledGraph : Description → ℕ → Option ℕ → Me Slot Knowledge → ℕ → Me Slot Knowledge → Type 0
+SettledGraph floor l against me found behind =
+    (behind ≡ (seeing behind.0.seen (record (settled me.0 l against) { out = [] }), rest me.1))
+    × Makes floor (settles me.0.thread l against ∷ []) me.0 behind.0
+
+module _ (floor : Description) (me : Me Slot Knowledge) (was : me.0.role ≡ OfThread) (l : ℕ)
+    (low : l < length floor.locks) (may : MayOrder floor l me.0) (has : HasGraph floor me.0) (new : orders.Graph)
+    (worked : me.1 ≡ (graph_place floor, Graph (with_value has.graph new)) ∷ []) where
+  abbrev c : Config
+  c = config_in floor
+
+  abbrev v : Knowledge
+  v = me.0
+
+  abbrev t : ℕ
+  t = v.thread
+
+  abbrev j : ℕ
+  j = graph_place floor
+
+  abbrev its_classes : List ℕ
+  its_classes = map (λ h. c.class h.l.0) v.share.held
+
+  abbrev Verdict : Option ℕ → Type 0
+  Verdict against = IsVerdict its_classes (c.class l) against has.graph.value new
+
+  module _ (s : State) (f : Fits floor v s) where
+    same_classes : its_classes ≡ classes_held c s t
+    same_classes = classes_in_order c.class v.share.held ∙ ap (held_classes c) (column floor v s f (λ x. x.held_locks))
+
+    graph_now : HasItem s t ClassGraph × RepresentsGraph floor has.graph.value s.edges
+    graph_now = f.out.each ClassGraph j (Graph has.graph) refl
+        (ap (found j) has.out ∙ found_first j (Graph has.graph) [])
+
+    free : IsFreeToTake c s t l
+    free = record {
+      thread = f.thread;
+      lock = low;
+      running = subst (λ p. IsPosed p (s.wait t) (s.blocked_on t)) may.runs f.pose;
+      wants = doing_it floor v s f (λ d. d.wanted) ∙ may.wants_nothing;
+      takes = doing_it floor v s f (λ d. d.taking) ∙ may.takes_nothing;
+      unnoted = doing_it floor v s f (λ d. d.noted) ∙ may.unnoted;
+      awake = ap is_taking_back (sym (column floor v s f (λ x. x.log))) ∙ may.no_wait;
+      sections = λ k mode holds. own_log floor v s f k ∙ may.sections k ∙ sym (holds_it floor v s f k) ∙ holds;
+    }
+
+    outside : ChecksOutsideRounds s t l
+    outside = record {
+      no_round = doing_it floor v s f (λ d. d.round) ∙ may.no_round;
+      blocks = λ look e.
+          let m = may.missed look (sym (doing_it floor v s f (λ d. d.last_look)) ∙ e) in
+          (m.0, sym (column floor v s f (λ x. x.held_locks)) ∙ ap gained_order m.1);
+    }
+
+    may_settle : (against : Option ℕ) → Verdict against → IsAllowed floor s (settles t l against)
+    may_settle None a = record {
+      fits = record {
+        may = record {
+          free = free;
+          admitted = subst (λ ks. IsAdmitted s.edges ks (c.class l)) same_classes
+              (same_admitted has.graph.value.edges s.edges graph_now.1.same its_classes (c.class l) a.0);
+        };
+        has_out = graph_now.0;
+        has_seen = outside;
+        asks_of_thread = goes_on floor v s f may.runs may.going;
+      };
+      keeps_order = tt;
+    }
+    may_settle (Some k) a = record {
+      fits = record {
+        may = record {
+          free = free;
+          refused = subst (λ ks. IsFirstToForbid s.edges ks (c.class l) k) same_classes
+              (same_first has.graph.value.edges s.edges graph_now.1.same its_classes (c.class l) k a.0);
+        };
+        has_out = graph_now.0;
+        has_seen = outside;
+        asks_of_thread = goes_on floor v s f may.runs may.going;
+      };
+      keeps_order = tt;
+    }
+
+    -- what the graph says behind it
+    learnt : Verdict None → RepresentsGraph floor new (edges_behind s.edges (classes_held c s t) (c.class l))
+    learnt a = record {
+      classes = λ k lt. subst (λ n. c.class k < n) (sym a.1) (graph_now.1.classes k lt);
+      same = λ x y. a.2 x y
+          ∙ same_behind has.graph.value.edges s.edges graph_now.1.same its_classes (c.class l) x y
+          ∙ (λ i. is_edge (edges_behind s.edges (same_classes i) (c.class l)) x y);
+    }
+
+    unlearnt : (k : ℕ) → Verdict (Some k) → RepresentsGraph floor new s.edges
+    unlearnt k a = subst (λ g. RepresentsGraph floor g s.edges) (sym a.1) graph_now.1
+
+  settle_step : (against : Option ℕ) → Verdict against → (b : Board) (h : Finds floor v b)
+      → Steps floor me (spot (latch_line j)) (latch_word b.words j) 0 (λ found. SettledGraph floor l against me 0) b
+  unfolding after_admit after_refuse
+  settle_step None a b h =
+      let s : State = h.state in
+      let n : State = after_admit c s t l in
+      let step : Step = Admits t l in
+      let w : Knowledge = seeing (step ∷ h.past) (record (settled v l None) { out = [] }) in
+      let own : OwnSteps v w h.past (step ∷ []) s n = record {
+        role = was;
+        seen = refl;
+        makers = one_own t step refl;
+        seat = record { thread = refl; share = admit_own s v h.fits.share l c };
+        others = λ u ne. admit_others c s t l u ne;
+        pose = h.fits.pose;
+        other_poses = λ u ne p k. k;
+      } in
+      let y : Slot = Graph (with_value has.graph new) in
+      let objects : RepresentsObjects floor (put h.represents.content j y) (objects_in n) =
+      object_changed floor h.represents.content (objects_in s) (objects_in n) ClassGraph j y refl
+      (graph_changes floor (objects_in s) n.edges) (learnt s h.fits a) h.represents.objects in
+      let made = give_made_with floor (step ∷ []) b v w h was (may_settle s h.fits None a, tt) own me.1 ClassGraph j
+      (Graph has.graph) y [] [] refl worked has.out refl refl refl refl objects in
+      (w, gives, tt, made.0, (refl, made.1))
+  settle_step (Some k) a b h =
+      let s : State = h.state in
+      let n : State = after_refuse s t l k in
+      let step : Step = Refuses t l k in
+      let w : Knowledge = seeing (step ∷ h.past) (record (settled v l (Some k)) { out = [] }) in
+      let own : OwnSteps v w h.past (step ∷ []) s n = record {
+        role = was;
+        seen = refl;
+        makers = one_own t step refl;
+        seat = record { thread = refl; share = refuse_own s v h.fits.share l k };
+        others = λ u ne. refuse_others s t l k u ne;
+        pose = h.fits.pose;
+        other_poses = λ u ne p z. z;
+      } in
+      let y : Slot = Graph (with_value has.graph new) in
+      let objects : RepresentsObjects floor (put h.represents.content j y) (objects_in n) =
+      object_changed floor h.represents.content (objects_in s) (objects_in n) ClassGraph j y refl
+      (graph_changes floor (objects_in s) s.edges) (unlearnt s h.fits k a) h.represents.objects in
+      let made = give_made_with floor (step ∷ []) b v w h was (may_settle s h.fits (Some k) a, tt) own me.1 ClassGraph j
+      (Graph has.graph) y [] [] refl worked has.out refl refl refl refl objects in
+      (w, gives, tt, made.0, (refl, made.1))
+
+  pub settle_allowed : (against : Option ℕ) → Verdict against → (slots id : ℕ)
+      → Allows (FloorHolds floor) slots id me (spot (latch_line j)) (λ n. 0) (λ n. SettledGraph floor l against me 0)
+  settle_allowed against a slots id =
+      allows floor slots id me (spot (latch_line j)) (λ n. 0) (λ n. SettledGraph floor l against me 0) was
+      (λ b h small. settle_step against a b h)

@@ -1,0 +1,8 @@
+use Rattle.std.proofs.Common.{◌≡◌, map, take}
+use Rattle.floor_table.specs.Descriptions.{config_in}
+use Rattle.witness_orders.specs.Graph.{numbers_of}
+use Rattle.lock_floor.proofs.ordering.FloorOf+Slot+View+Description+Law.put_classes.Given as goal
+
+abbrev pub invariant-loop-i : goal.invariant-loop-i
+invariant-loop-i l =
+    numbers_of (take l.i l.classes) ≡ map (λ h. (config_in l.self.description).class h.l.0) (take l.i l.held)
