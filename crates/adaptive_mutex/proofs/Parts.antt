@@ -1,5 +1,5 @@
 -- A take or a release that has begun, or was gone on with, and isn't done: it is under way, so it can be gone on with.
-use Rattle.std.proofs.Common.{◌≡◌, refl}
+use Rattle.std.proofs.Common.{◌≡◌, ℕ, refl}
 use Rattle.lock_model.specs.declared.event.Reversal.{Reversal}
 use Rattle.lock_model.specs.declared.numbers.LockNo.{LockNo}
 use Rattle.lock_model.specs.declared.plan.Mode.{Mode}
@@ -13,7 +13,7 @@ use Rattle.lock_floor.specs.declared.calls.TakeAt.TheVariants.{Checks}
 use Rattle.lock_floor.specs.Floors.{Pass}
 use Rattle.lock_calls.specs.declared.answers.Next.{Next}
 use Rattle.lock_calls.specs.declared.answers.Next.TheVariants.{Done, Again, Sleep, Wake, Reversed}
-use Rattle.lock_calls.specs.Releases.{HasBegunRelease, IsInRelease, GoesOnReleasing}
+use Rattle.lock_calls.specs.Releases.{HasBegunRelease, IsInRelease, StandsInRelease, WakesOne, GoesOnReleasing}
 use Rattle.lock_calls.specs.Takes.{HasBegunTake, IsInTake, StandsInTake, GoesOnTaking}
 use Rattle.lock_calls.proofs.Taken.{under_take_on}
 
@@ -24,8 +24,8 @@ pub take_begun : (floor : Description) (l : LockNo) (mode : Mode) (p q : Pass Kn
 take_begun floor l mode p q b = record { l = l; mode = mode; at = Checks; call = b.call; there = b.there }
 
 module _ (floor : Description) (p q : Pass Knowledge) (m : IsInTake floor p) where
-  stands : (next : Next) → StandsInTake floor m.l m.mode m.at next p q → IsInTake floor q
-  stands next s = record {
+  pub takes_still : (next : Next) → StandsInTake floor m.l m.mode m.at next p q → IsInTake floor q
+  takes_still next s = record {
     l = m.l;
     mode = m.mode;
     at = s.to;
@@ -38,8 +38,8 @@ module _ (floor : Description) (p q : Pass Knowledge) (m : IsInTake floor p) whe
       → GoesOnTaking floor l mode at next p q)
       → IsInTake floor q
   take_goes_on Done undone unrefused went = absurd (undone refl)
-  take_goes_on Again undone unrefused went = stands Again (went m.l m.mode m.at m.call)
-  take_goes_on Sleep undone unrefused went = stands Sleep (went m.l m.mode m.at m.call)
+  take_goes_on Again undone unrefused went = takes_still Again (went m.l m.mode m.at m.call)
+  take_goes_on Sleep undone unrefused went = takes_still Sleep (went m.l m.mode m.at m.call)
   take_goes_on (Wake t) undone unrefused went = absurd (went m.l m.mode m.at m.call)
   take_goes_on (Reversed r) undone unrefused went = absurd (unrefused r refl)
 
@@ -50,28 +50,30 @@ pub release_begun : (floor : Description) (l : LockNo) (mode : Mode) (p q : Pass
 release_begun floor l mode p q b = record { l = l; mode = mode; at = ComesTo; call = b.call; there = b.there }
 
 module _ (floor : Description) (p q : Pass Knowledge) (m : IsInRelease floor p) where
+  pub releases_still : StandsInRelease floor m.l m.mode m.at p q → IsInRelease floor q
+  releases_still s = record {
+    l = m.l;
+    mode = m.mode;
+    at = s.to;
+    call = s.call;
+    there = record { covered = m.there.covered; there = s.on.there };
+  }
+
+  pub wakes_still : (t : ℕ) → WakesOne floor m.l m.mode m.at t p q → IsInRelease floor q
+  wakes_still t s = record {
+    l = m.l;
+    mode = m.mode;
+    at = Wakes;
+    call = s.call;
+    there = record { covered = m.there.covered; there = s.there };
+  }
+
   pub release_goes_on : (next : Next) → (next ≡ Done → ⊥)
       → ((l : LockNo) (mode : Mode) (at : ReleaseAt) → p.call ≡ calls.Release l mode at
       → GoesOnReleasing floor l mode at next p q)
       → IsInRelease floor q
   release_goes_on Done undone went = absurd (undone refl)
-  release_goes_on Again undone went =
-      let s = went m.l m.mode m.at m.call in
-      record {
-        l = m.l;
-        mode = m.mode;
-        at = s.to;
-        call = s.call;
-        there = record { covered = m.there.covered; there = s.on.there };
-      }
+  release_goes_on Again undone went = releases_still (went m.l m.mode m.at m.call)
   release_goes_on Sleep undone went = absurd (went m.l m.mode m.at m.call)
   release_goes_on (Reversed r) undone went = absurd (went m.l m.mode m.at m.call)
-  release_goes_on (Wake t) undone went =
-      let s = went m.l m.mode m.at m.call in
-      record {
-        l = m.l;
-        mode = m.mode;
-        at = Wakes;
-        call = s.call;
-        there = record { covered = m.there.covered; there = s.there };
-      }
+  release_goes_on (Wake t) undone went = wakes_still t.0 (went m.l m.mode m.at m.call)

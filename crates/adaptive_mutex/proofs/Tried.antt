@@ -21,11 +21,10 @@ use Rattle.floor_table.specs.Steps.{Fits, Makes, MakesEach, MayMake}
 use Rattle.floor_table.specs.Views.{Knowledge, seeing}
 use Rattle.lock_floor.specs.Passes.{IsAtRest, MakesEntry}
 use Rattle.lock_floor.specs.Views.{counts, looked, gained, entry_by, stamped}
-use Rattle.lock_floor.proofs.May.{own_log, may_gain, may_stamp}
-use Rattle.lock_floor.proofs.Resting.{idle, idle_looked, rest_seeing, rest_gained, rest_noted}
+use Rattle.lock_floor.proofs.May.{own_log, counts_first, may_gain, may_stamp}
+use Rattle.lock_floor.proofs.Resting.{rest_seeing, rest_gained, rest_busy}
 use Rattle.lock_calls.specs.Waiting.{MayGain}
 use Rattle.lock_calls.proofs.Attempts.{begins_call, plainly, unhalted}
-use Rattle.lock_calls.proofs.Looks.{uncounted}
 use Rattle.adaptive_mutex.specs.Mutexes.{IsMutex, MayAcquire, as_held, tries, WasBusy}
 
 -- 1. The exchange of a try
@@ -169,17 +168,17 @@ module _ (floor : Description) (l : LockNo) (seen : ℕ) (old v : Knowledge) (r 
       in
       let noted : Makes floor (Stamps old.thread note ∷ []) v new =
       subst (λ t. Makes floor (Stamps t note ∷ []) v new) (ap (λ (k : Knowledge). k.thread) view) step in
-      let uncounted_look : Makes floor (Looks old.thread l.0 false ∷ []) old v =
-      subst (λ b. Makes floor (Looks old.thread l.0 b ∷ []) old v) (uncounted floor old l.0 r.no_round) looks in
+      let it_counts : Makes floor (Looks old.thread l.0 true ∷ []) old v =
+      subst (λ b. Makes floor (Looks old.thread l.0 b ∷ []) old v)
+      (counts_first floor old l.0 r.nothing_out r.no_round m.unheld) looks in
       let more : suc old.share.doing.looks_in_all ≡ new.share.doing.looks_in_all = sym (ap (λ (k : Knowledge). k.share.doing.looks_in_all) is) in
       record {
         rest = subst (IsAtRest floor) (sym is)
             (rest_seeing floor (stamped (config_in floor) x (entry_by old.thread ticket note)) new.seen
-            (rest_noted floor x ticket note refl (idle_looked floor old l.0 (word_of seen) (idle floor old r))
-            r.sections r.begun));
+            (rest_busy floor old ticket l seen (word_of seen) r));
         busy = record {
           between = v;
-          look = uncounted_look;
+          look = it_counts;
           saw = ap (λ (k : Knowledge). k.share.doing.last_look) view;
           note = noted;
           well_formed = formed;

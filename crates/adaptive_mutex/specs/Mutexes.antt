@@ -40,7 +40,7 @@ tries t l = (Gains t l.0 Excl true ∷ []) ∷ (Stamps t (Event.Tried l Excl) �
 pub record WasBusy (floor : Description) (t : ℕ) (l : LockNo) (seen : ℕ)
     (old new : Knowledge) : Type 0 where
   pub between : Knowledge
-  pub look : Makes floor (Looks t l.0 false ∷ []) old between
+  pub look : Makes floor (Looks t l.0 true ∷ []) old between
   pub saw : between.share.doing.last_look ≡ Some (record { lock = l.0; word = word_of seen })
   pub note : Makes floor (Stamps t (Event.Busy l seen) ∷ []) between new
   pub well_formed : IsWellFormed (word_of seen)

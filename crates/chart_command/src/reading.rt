@@ -1,5 +1,6 @@
 //! Reading the words of the command line.
-ghost use Rattle.std.specs.Prelude.{◌≡◌, map, Err, IfOk, None, Some};
+ghost use Rattle.std.specs.Prelude.{◌≡◌, codes, map, Err, IfOk, None, Some};
+ghost use Rattle.std.specs.Str.{bytes_eq};
 ghost use Rattle.std.specs.String.{string_bytes};
 ghost use Rattle.option_words.specs.Words.{text_in};
 ghost use Rattle.chart_command.specs.Forms.{asked_by_options, asking_of, asks_version, wanted_by};
@@ -114,18 +115,23 @@ fn asks_version(words: &[String]) -> bool
     ensures { result ≡ asks_version (map string_bytes words.now) }
 {
     match words {
-        [word] => word.as_str() == "--version",
-        _ => false,
+        [word] => is_version(word),
+        [] | [_, _, ..] => false,
     }
+}
+
+fn is_version(word: &String) -> bool
+    ensures { result ≡ bytes_eq (string_bytes word.now) (codes "--version") }
+{
+    word.as_str() == "--version"
 }
 
 /// What is wrong with words that are no form, in a sentence.
 pub fn mistake(alloc: Global, words: &[String]) -> Result<Option<String>, AllocError> {
+    if is_version_wrong(alloc, words)? {
+        return Ok(Some(format!(in alloc; "`--version` stands alone")?));
+    }
     if let Some(said) = option_words::mistake(alloc, &SYNOPSIS, words)? {
-        // The table of options doesn't know that word.
-        if said.as_str() == "lockchart has no option `--version`" {
-            return Ok(Some(format!(in alloc; "`--version` stands alone")?));
-        }
         return Ok(Some(said));
     }
     match read(alloc, &SYNOPSIS, words) {
@@ -137,6 +143,14 @@ pub fn mistake(alloc: Global, words: &[String]) -> Result<Option<String>, AllocE
             Ok(Some(said))
         }
         Ok(Request::Help(_)) | Err(_) => Ok(None),
+    }
+}
+
+// Whether `--version` stands behind words that are a form. The table of options doesn't know that word.
+fn is_version_wrong(alloc: Global, words: &[String]) -> Result<bool, AllocError> {
+    match words.iter().position(is_version) {
+        Some(n) => Ok(option_words::mistake(alloc, &SYNOPSIS, &words[..n])?.is_none()),
+        None => Ok(false),
     }
 }
 

@@ -198,8 +198,9 @@ pub fn reason_lines(
     if let Some((lock, class, held)) = page.refusal_at(mark.turn) {
         push_refusal(&mut words, page.plan, lock, class, held)?;
     }
-    if let MarkKind::Noted(event) = mark.what {
-        push_lost(&mut words, event)?;
+    match mark.what {
+        MarkKind::Noted(event) => push_lost(&mut words, event)?,
+        MarkKind::Did(_) | MarkKind::Idle => (),
     }
     let room = page.column.saturating_mul(2).saturating_sub(12);
     let most = room.saturating_mul(10) / 58;

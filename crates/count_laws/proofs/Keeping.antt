@@ -29,7 +29,7 @@ pub keeps : (chains : ℕ) (c : Config) (s : State) (step : Step) → FitsFloor 
     → LawfulFloor c s
     → Counted c s → Counted c (after c s step)
 keeps chains c s (Seeks t l by_try) f k w h = counted.seek c s h t l by_try
-keeps chains c s (Looks t l in_round) f k w h = counted.look c s h t l in_round
+keeps chains c s (Looks t l counts) f k w h = counted.look c s h t l counts
 keeps chains c s (TakesItem t i) f k w h = counted.take c s t (taking_unparked s t _ f.asks_of_thread.runs) h i f.may
 keeps chains c s (GivesItem t i) f k w h = counted.give c s t f.asks_of_thread.unparked h i f.may k
 keeps chains c s (Gains t l mode by_try) f k w h = counted.gain c s t f.asks_of_thread.runs h l mode by_try

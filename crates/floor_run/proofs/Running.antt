@@ -146,7 +146,7 @@ module _ (plan : Plan) (chains : ℕ) (x : Closing)
       record {
         so_far = subst (λ c. IsLegalSoFar c true history) same_plan closing.legal;
         entries_follow_operations = follows logs same whole;
-        orders_are_legal = λ e. absurd cc;
+        orders_are_legal = λ e. subst (λ c. OrdersAreLegal c history) same_plan closing.orders_are_legal;
       }
 
   -- 3. What is printed
@@ -176,12 +176,7 @@ module _ (plan : Plan) (chains : ℕ) (x : Closing)
   pub is_run : (o : text.Outcome) → IsLegal plan true false history → o ≡ outcome_of plan history
       → IsRunOf plan chains o x
   is_run o legal same = record {
-    run = record {
-      history = history;
-      legal = legal;
-      orders_are_legal = subst (λ c. OrdersAreLegal c history) same_plan closing.orders_are_legal;
-      outcome = same;
-    };
+    run = record { history = history; legal = legal; outcome = same };
     closing = closing;
     same = refl;
   }

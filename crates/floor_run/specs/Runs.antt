@@ -5,7 +5,6 @@ use Rattle.std.specs.List.{All, list_any}
 use Rattle.lock_model.specs.History.{base_in, tables_of}
 use Rattle.lock_model.specs.Law.{IsLegal, is_halt}
 use Rattle.lock_model.specs.Plans.{config_of}
-use Rattle.lock_model.specs.Takes.{OrdersAreLegal}
 use Rattle.lock_model.specs.Text.{Outcome, Ending, IsStuck}
 use Rattle.lock_model.specs.declared.event.Entry.{Entry}
 use Rattle.lock_model.specs.declared.plan.Kind.TheVariants.{Mtx}
@@ -35,12 +34,10 @@ outcome_of plan history = record {
   ending = ending_of_run history;
 }
 
--- an outcome of a run of a plan's threads: that of some legal history, in which each thread came to its end, and each
--- refused take has its cause in the order that earlier takes have taught, as each other take keeps to that
+-- an outcome of a run of a plan's threads: that of some legal history, in which each thread came to its end
 pub record IsOutcome (plan : Plan) (o : Outcome) : Type 0 where
   pub history : List Entry
   pub legal : IsLegal plan true false history
-  pub orders_are_legal : OrdersAreLegal (config_of plan) history
   pub outcome : o ≡ outcome_of plan history
 
 -- the run left its floor so, which the plan gave with so many chains, and its history is that of the floor

@@ -9,12 +9,14 @@ use Rattle.lock_state.specs.Steps.Items.{Item, TurnstileChain, SleepChain, Recor
 use Rattle.sleep_queues.specs.Seen.{SleepQueue}
 use Rattle.turnstile_core.specs.Seen.{Turnstile}
 use Rattle.chain_table.specs.Chains.{head_of}
+use Rattle.witness_orders.specs.Graph.{RepresentsGraph}
 use Rattle.lock_objects.specs.Represents.{QueueColumns, SleepColumns, sleepers_of, RepresentsRecord, RepresentsHead, RepresentsQueue, RepresentsSleepQueue}
 use Rattle.lock_objects.proofs.Queues.{SameQueue, queue_stays}
+use Rattle.floor_table.specs.Descriptions.{config_in}
 use Rattle.floor_table.specs.declared.description.Description.{Description}
 use Rattle.floor_table.specs.declared.slot.Slot.{Slot}
 use Rattle.floor_table.specs.declared.slot.Slot.TheVariants.{Record, Cell, Turnstiles, SleepQueues, Graph}
-use Rattle.floor_table.specs.Represents.{Objects, sleepers, StandsIn, IsOf, RepresentsTurnstiles, RepresentsSleepChain, RepresentsGraph}
+use Rattle.floor_table.specs.Represents.{Objects, sleepers, StandsIn, IsOf, RepresentsTurnstiles, RepresentsSleepChain}
 
 -- the columns say the same of an item
 abbrev pub SaySame : Description → Objects → Objects → Item → Type 0
@@ -42,7 +44,7 @@ still_of floor x y (SleepChain k) (SleepQueues chain) e h = record {
 }
 still_of floor x y (RecordOf t) (Record b) e h = subst (RepresentsRecord b.value) (sym e) h
 still_of floor x y (CellOf l key) (Cell value) e h = h ∙ sym e
-still_of floor x y ClassGraph (Graph b) e h = subst (RepresentsGraph floor b.value) (sym e) h
+still_of floor x y ClassGraph (Graph b) e h = subst (RepresentsGraph (config_in floor) b.value) (sym e) h
 still_of floor x y (TurnstileChain k) (Record b) e h = absurd h
 still_of floor x y (TurnstileChain k) (Cell value) e h = absurd h
 still_of floor x y (TurnstileChain k) (SleepQueues chain) e h = absurd h

@@ -6,7 +6,6 @@ use Rattle.std.specs.Map.{keys_of}
 use Rattle.atomic_table.specs.Table as table
 use Rattle.floor_table.specs.Descriptions.{config_in, IsSized}
 use Rattle.lock_model.specs.Counts.{one}
-use Rattle.lock_model.specs.Orders.{HaveSameEdges}
 use Rattle.lock_model.specs.Queues.{Cause, BySignal, ByAbort, is_queue}
 use Rattle.lock_model.specs.Words.{Word, word_of}
 use Rattle.floor_table.specs.declared.description.Description.{Description}
@@ -18,7 +17,7 @@ use Rattle.lock_state.specs.Steps.Items.{Item, TurnstileChain, SleepChain, Recor
 use Rattle.turnstile_core.specs.Seen.{Turnstile}
 use Rattle.sleep_queues.specs.Seen.{SleepQueue}
 use Rattle.chain_table.specs.Chains.{head_of}
-use Rattle.witness_orders.specs.Graph as orders
+use Rattle.witness_orders.specs.Graph.{RepresentsGraph}
 use Rattle.lock_objects.specs.Held.{holds_of}
 use Rattle.lock_objects.specs.Represents.{QueueColumns, queue_in, RepresentsQueue, SleepColumns, RepresentsSleepQueue, RecordColumns, RepresentsRecord, record_in}
 use Rattle.floor_table.specs.declared.slot.Slot.{Slot}
@@ -127,12 +126,6 @@ pub record RepresentsSleepChain (floor : Description) (k : ℕ)
   pub queue : (q : QueueName) → StandsIn floor (SleepChain k) q
       → RepresentsSleepQueue (head_of q chain) (sleepers (x.queues q))
 
--- the class graph has the class of each lock, and the edges of the column, in whatever order
-pub record RepresentsGraph (floor : Description) (graph : orders.Graph) (edges : List (ℕ × ℕ))
-    : Type 0 where
-  pub classes : (l : ℕ) → l < length floor.locks → (config_in floor).class l < graph.classes
-  pub same : HaveSameEdges graph.edges edges
-
 -- A value says of its item what the columns say. The cases are listed, so that a value of another sort must be decided
 -- here
 abbrev pub IsOf : Description → Objects → Item → Slot → Type 0
@@ -160,7 +153,7 @@ IsOf floor x ClassGraph (Record b) = ⊥
 IsOf floor x ClassGraph (Cell value) = ⊥
 IsOf floor x ClassGraph (Turnstiles chain) = ⊥
 IsOf floor x ClassGraph (SleepQueues chain) = ⊥
-IsOf floor x ClassGraph (Graph b) = RepresentsGraph floor b.value x.edges
+IsOf floor x ClassGraph (Graph b) = RepresentsGraph (config_in floor) b.value x.edges
 
 pub record RepresentsObjects (floor : Description) (content : ℕ → Slot) (x : Objects) : Type 0 where
   pub each : (i : Item) (j : ℕ) → slot_of floor i ≡ Some j → IsOf floor x i (content j)

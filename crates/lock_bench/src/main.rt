@@ -1,9 +1,12 @@
-//! `lock_bench [time]` times the mutexes of running floors. With `time` it prints lines `name value` as
-//! `bench/mutex_baseline.c` does, whose names and shapes of runs it shares: nanoseconds of an operation, which is a
-//! lock, an edit or an unlock with its entry, best and median of 15 runs. Without it, it makes a short run of each, and
+//! `lock_bench [time [CASE]]` times the mutexes of running floors. With `time` it prints lines `name value` as
+//! `bench/mutex_baseline.c` does, whose names and shapes of runs it shares, of all cases or of one: nanoseconds of an
+//! operation, which is a lock, an edit or an unlock with its entry, best and median of 9 runs, and of how many of 100
+//! sections of the median run the one before, of the same mutex, was another thread's. Of a chain it is the nanoseconds
+//! from a take at its end to the loan that is seen at its head. Without a word, it makes a short run of each case, and
 //! prints the names alone.
 #![tactic(auto)]
 
+mod gate;
 mod scripts;
 mod timing;
 
@@ -17,27 +20,34 @@ use std::thread::Threads;
 use timing::{plan_of, time_of};
 
 // How often each case is run where it is timed.
-const RUNS: usize = 15;
+const RUNS: usize = 9;
 
-// The most operations of a script, and those of a short run.
-const MOST_OPERATIONS: usize = 20_000;
+// The most operations of all rounds of a run: a script has 20,000 at most. And those of a short run.
+const MOST_OPERATIONS: usize = 19_900;
 
 const FEW_OPERATIONS: usize = 240;
 
 fn main(rt: HostRuntime) -> Result<()> {
     let alloc = rt.alloc();
-    let mut timed = false;
-    for word in env::args(&rt)?.skip(1) {
-        match word.as_str() {
-            "time" => timed = true,
-            _ => bail!("the one word that is known is `time`"),
+    let mut words = env::args(&rt)?.skip(1);
+    let timed = match words.next() {
+        Some(word) if word.as_str() == "time" => true,
+        Some(_) => bail!("the one word that is known is `time`"),
+        None => false,
+    };
+    let chosen = words.next();
+    for row in CASES.iter() {
+        let case = Case::of(row);
+        if chosen
+            .as_ref()
+            .is_some_and(|name| name.as_str() != case.name)
+        {
+            continue;
         }
-    }
-    for case in CASES.iter() {
         if timed {
-            print_times(&rt, alloc, case)?;
+            print_times(&rt, alloc, &case)?;
         } else {
-            run_briefly(&rt, alloc, case)?;
+            run_briefly(&rt, alloc, &case)?;
         }
     }
     Ok(())
@@ -49,35 +59,49 @@ fn run_briefly<R: Print + Threads + Wait + Clock + Sync>(
     alloc: Global,
     case: &Case,
 ) -> Result<()> {
-    let plan = plan_of(alloc, &script_of(alloc, case, FEW_OPERATIONS)?)?;
-    time_of(rt, alloc, &plan)?;
+    let rounds = case.rounds(FEW_OPERATIONS);
+    let plan = plan_of(alloc, &script_of(alloc, case, rounds)?)?;
+    time_of(rt, alloc, *case, &plan, rounds)?;
     let name = case.name;
     println!(rt; "{name} ok")?;
     Ok(())
 }
 
-// Prints the best and the median of the runs.
+// Prints what the runs told.
 fn print_times<R: Print + Threads + Wait + Clock + Sync>(
     rt: &R,
     alloc: Global,
     case: &Case,
 ) -> Result<()> {
-    let plan = plan_of(alloc, &script_of(alloc, case, MOST_OPERATIONS)?)?;
-    let operations = case.operations(MOST_OPERATIONS) as u64;
-    let mut times = Vec::new(alloc);
+    let rounds = case.rounds(MOST_OPERATIONS);
+    let plan = plan_of(alloc, &script_of(alloc, case, rounds)?)?;
+    let operations = case.operations(rounds);
+    let mut runs = Vec::new(alloc);
     for _ in 0..RUNS {
-        times.push(time_of(rt, alloc, &plan)?)?;
+        let figures = time_of(rt, alloc, *case, &plan, rounds)?;
+        // There is no time where the last owner of a chain saw no loan.
+        if figures.nanoseconds > 0 {
+            runs.push(figures)?;
+        }
     }
-    times.sort_unstable();
+    runs.sort_unstable_by_key(|figures| figures.nanoseconds);
     let name = case.name;
-    let best = tenths(times.first().copied(), operations);
-    println!(rt; "{name} {}.{}", best / 10, best % 10)?;
-    let median = tenths(times.get(RUNS / 2).copied(), operations);
-    println!(rt; "{name}_median {}.{}", median / 10, median % 10)?;
-    Ok(())
+    if let (Some(best), Some(median)) = (runs.first(), runs.get(runs.len() / 2)) {
+        print_tenths(rt, name, "", tenths(best.nanoseconds, operations))?;
+        print_tenths(rt, name, "_median", tenths(median.nanoseconds, operations))?;
+        print_tenths(rt, name, "_handovers", median.handovers)?;
+        Ok(())
+    } else {
+        bail!("no run told a time")
+    }
 }
 
 // Tenths of a nanosecond for each operation.
-fn tenths(time: Option<u64>, operations: u64) -> u64 {
-    time.unwrap_or(0).saturating_mul(10) / operations.max(1)
+fn tenths(nanoseconds: u64, operations: u64) -> u64 {
+    nanoseconds.saturating_mul(10) / operations.max(1)
+}
+
+fn print_tenths<R: Print>(rt: &R, name: &str, of: &str, tenths: u64) -> Result<()> {
+    println!(rt; "{name}{of} {}.{}", tenths / 10, tenths % 10)?;
+    Ok(())
 }

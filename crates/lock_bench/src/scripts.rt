@@ -1,4 +1,5 @@
-//! The runs that are timed, and their scripts: each thread takes a mutex and gives it back, again and again.
+//! The runs that are timed, and their scripts: each thread makes the same round again and again, and in the end a
+//! `show`, before which its clock is read.
 ghost use Rattle.std.specs.Prelude.{◌<◌};
 
 use std::alloc::{AllocError, Global};
@@ -6,108 +7,172 @@ use std::alloc::{AllocError, Global};
 // The keys that the edits go round.
 const KEYS: usize = 16;
 
-/// A run that is timed: its name, how many threads it has, whether each has a mutex of its own, and whether it edits
-/// the table of the mutex while it holds it.
+// The better priority of the thread that takes the first owner's mutex in a chain, and that of all others.
+const BETTER: u32 = 10;
+
+const USUAL: u32 = 100;
+
+/// What a thread does in each round. It has a first mutex and a second one.
+#[derive(Clone, Copy, Debug, PartialEq, Eq)]
+pub enum Round {
+    /// It takes the first, and gives it back.
+    Bare,
+    /// It edits the first one's table while it holds it.
+    Edit,
+    /// It works for a microsecond too, before it gives it back.
+    Long,
+    /// It takes the first and gives it back, and then takes and edits the second.
+    Apart,
+    /// It takes and edits the second while it holds the first.
+    Nested,
+    /// There are no rounds, but a chain of threads that each hold a mutex and wait for the next one's. The last of them
+    /// shows its priority again and again, and one with a better priority takes the first one's mutex.
+    Chain,
+}
+
+/// A run that is timed: how many threads it has, over how many mutexes they are spread, and what they do.
 #[derive(Clone, Copy, Debug)]
 pub struct Case {
     pub name: &'static str,
     pub threads: usize,
-    pub own_mutexes: bool,
-    pub edits: bool,
+    pub mutexes: usize,
+    pub round: Round,
 }
 
-/// The runs, as bench/mutex_baseline.c makes them.
-pub const CASES: [Case; 8] = [
-    Case {
-        name: "lock_unlock",
-        threads: 1,
-        own_mutexes: false,
-        edits: false,
-    },
-    Case {
-        name: "lock_add_unlock",
-        threads: 1,
-        own_mutexes: false,
-        edits: true,
-    },
-    Case {
-        name: "one_mutex_1_thread",
-        threads: 1,
-        own_mutexes: false,
-        edits: true,
-    },
-    Case {
-        name: "one_mutex_2_threads",
-        threads: 2,
-        own_mutexes: false,
-        edits: true,
-    },
-    Case {
-        name: "one_mutex_4_threads",
-        threads: 4,
-        own_mutexes: false,
-        edits: true,
-    },
-    Case {
-        name: "own_mutexes_1_thread",
-        threads: 1,
-        own_mutexes: true,
-        edits: true,
-    },
-    Case {
-        name: "own_mutexes_2_threads",
-        threads: 2,
-        own_mutexes: true,
-        edits: true,
-    },
-    Case {
-        name: "own_mutexes_4_threads",
-        threads: 4,
-        own_mutexes: true,
-        edits: true,
-    },
+/// The runs, as bench/mutex_baseline.c makes them, but for the last.
+pub const CASES: [(&str, usize, usize, Round); 18] = [
+    ("lock_unlock", 1, 1, Round::Bare),
+    ("one_mutex_1_thread", 1, 1, Round::Edit),
+    ("one_mutex_2_threads", 2, 1, Round::Edit),
+    ("one_mutex_4_threads", 4, 1, Round::Edit),
+    ("one_mutex_32_threads", 32, 1, Round::Edit),
+    ("two_mutexes_4_threads", 4, 2, Round::Edit),
+    ("own_mutexes_2_threads", 2, 2, Round::Edit),
+    ("own_mutexes_4_threads", 4, 4, Round::Edit),
+    ("long_sections_1_thread", 1, 1, Round::Long),
+    ("long_sections_2_threads", 2, 1, Round::Long),
+    ("long_sections_4_threads", 4, 1, Round::Long),
+    ("long_sections_32_threads", 32, 1, Round::Long),
+    ("long_sections_of_two_mutexes_4_threads", 4, 2, Round::Long),
+    ("takes_apart_1_thread", 1, 1, Round::Apart),
+    ("takes_apart_4_threads", 4, 4, Round::Apart),
+    ("nested_takes_1_thread", 1, 1, Round::Nested),
+    ("nested_takes_4_threads", 4, 4, Round::Nested),
+    ("chain_of_8_owners", 9, 8, Round::Chain),
 ];
 
-impl Case {
-    // How often each thread takes its mutex, where there are at most so many operations.
-    fn rounds(&self, most: usize) -> usize {
-        most / self.threads.max(1) / self.steps()
-    }
-
-    // The operations of a round.
-    fn steps(&self) -> usize
+impl Round {
+    /// How many operations it has.
+    pub fn operations(self) -> usize
         ensures { 0 < result }
     {
-        if self.edits { 3 } else { 2 }
-    }
-
-    /// How many operations its threads have together.
-    pub fn operations(&self, most: usize) -> usize {
-        self.rounds(most)
-            .saturating_mul(self.steps())
-            .saturating_mul(self.threads)
+        match self {
+            Round::Bare => 2,
+            Round::Edit | Round::Long => 3,
+            Round::Apart | Round::Nested => 5,
+            Round::Chain => 1,
+        }
     }
 }
 
-/// The script of a case, with at most so many operations.
-pub fn script_of(alloc: Global, case: &Case, most: usize) -> Result<String, AllocError> {
+impl Case {
+    /// The case that a row of the table names.
+    pub fn of(row: &(&'static str, usize, usize, Round)) -> Case {
+        let (name, threads, mutexes, round) = *row;
+        Case {
+            name,
+            threads,
+            mutexes,
+            round,
+        }
+    }
+
+    /// How many rounds each thread makes, where all threads together make so many operations at most; in a chain, how
+    /// often the last owner shows its priority.
+    pub fn rounds(&self, most: usize) -> usize {
+        most / self.threads.max(1) / self.round.operations()
+    }
+
+    /// How many operations its threads make together in so many rounds each. A chain is timed as one.
+    pub fn operations(&self, rounds: usize) -> u64 {
+        match self.round {
+            Round::Bare | Round::Edit | Round::Long | Round::Apart | Round::Nested => rounds
+                .saturating_mul(self.round.operations())
+                .saturating_mul(self.threads) as u64,
+            Round::Chain => 1,
+        }
+    }
+}
+
+/// The script of a case, in which each thread makes so many rounds.
+pub fn script_of(alloc: Global, case: &Case, rounds: usize) -> Result<String, AllocError> {
     let mut script = String::from_str(alloc, "lockrun 1\n")?;
-    for t in 0..case.threads {
-        script.push_str(&format!(in alloc; "mutex m{t} c{t}\n")?)?;
+    for m in 0..case.mutexes.saturating_mul(2) {
+        script.push_str(&format!(in alloc; "mutex m{m} c{m}\n")?)?;
     }
     for t in 0..case.threads {
-        let lock = if case.own_mutexes { t } else { 0 };
-        script.push_str(&format!(in alloc; "thread t{t} 100\n")?)?;
-        for round in 0..case.rounds(most) {
-            script.push_str(&format!(in alloc; "lock m{lock}\n")?)?;
-            if case.edits {
-                let key = round % KEYS;
-                script.push_str(&format!(in alloc; "add m{lock} {key} {round}\n")?)?;
+        match case.round {
+            Round::Bare | Round::Edit | Round::Long | Round::Apart | Round::Nested => {
+                push_rounds(alloc, &mut script, case, t, rounds)?;
             }
-            script.push_str(&format!(in alloc; "unlock m{lock}\n")?)?;
+            Round::Chain => push_link(alloc, &mut script, case, t, rounds)?,
         }
-        script.push_str("end\n")?;
     }
     script.push_str("done\n")?;
     Ok(script)
+}
+
+// A thread that makes so many rounds, with the mutex that is its own among so many, and with one behind all of these.
+fn push_rounds(
+    alloc: Global,
+    script: &mut String,
+    case: &Case,
+    t: usize,
+    rounds: usize,
+) -> Result<(), AllocError> {
+    let a = t % case.mutexes.max(1);
+    let b = a.saturating_add(case.mutexes);
+    script.push_str(&format!(in alloc; "thread t{t} {USUAL}\n")?)?;
+    for i in 0..rounds {
+        let key = i % KEYS;
+        let round = match case.round {
+            Round::Bare => format!(in alloc; "lock m{a}\nunlock m{a}\n")?,
+            Round::Edit | Round::Long => {
+                format!(in alloc; "lock m{a}\nadd m{a} {key} {i}\nunlock m{a}\n")?
+            }
+            Round::Apart => format!(in alloc;
+                "lock m{a}\nunlock m{a}\nlock m{b}\nadd m{b} {key} {i}\nunlock m{b}\n"
+            )?,
+            Round::Nested => format!(in alloc;
+                "lock m{a}\nlock m{b}\nadd m{b} {key} {i}\nunlock m{b}\nunlock m{a}\n"
+            )?,
+            Round::Chain => String::new(alloc),
+        };
+        script.push_str(&round)?;
+    }
+    script.push_str("show\nend\n")
+}
+
+// A thread of a chain: an owner, the last of them, or the one that takes the first one's mutex.
+fn push_link(
+    alloc: Global,
+    script: &mut String,
+    case: &Case,
+    t: usize,
+    shows: usize,
+) -> Result<(), AllocError> {
+    let next = t.saturating_add(1);
+    if next == case.threads {
+        let taken = format!(in alloc; "thread t{t} {BETTER}\nshow\nlock m0\nunlock m0\nend\n")?;
+        return script.push_str(&taken);
+    }
+    script.push_str(&format!(in alloc; "thread t{t} {USUAL}\nlock m{t}\n")?)?;
+    if next < case.mutexes {
+        script.push_str(&format!(in alloc; "lock m{next}\nunlock m{next}\n")?)?;
+    } else {
+        for _ in 0..shows {
+            script.push_str("show\n")?;
+        }
+    }
+    script.push_str(&format!(in alloc; "unlock m{t}\nend\n")?)
 }

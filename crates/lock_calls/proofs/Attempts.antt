@@ -1,8 +1,9 @@
 -- A blocking call before it takes the lock's chain: its exchanges and looks may be made, and what it knows behind them.
-use Rattle.std.proofs.Common.{◌≡◌, ℕ, suc, ◌+◌, ◌<◌, true, false, cond, Option, Some, None, List, [], ◌∷◌, length, replicate, refl, sym, ap, ◌∙◌, subst, inl, inr, arith}
+use Rattle.std.proofs.Common.{◌≡◌, ℕ, suc, ◌+◌, ◌<◌, ◌≤◌, true, false, cond, Option, Some, None, List, [], ◌∷◌, length, replicate, refl, sym, ap, ◌∙◌, subst, inl, inr, arith}
 use Rattle.std.proofs.lemmas.List.{replicate-append-replicate}
 use Rattle.std.proofs.lemmas.Option.{same_Some}
 use Rattle.lock_model.specs.Holds.{NotHeld}
+use Rattle.lock_model.specs.declared.event.Held.{Held}
 use Rattle.lock_model.specs.Limits.{most_held}
 use Rattle.lock_model.specs.Operations.{hold_in}
 use Rattle.lock_model.specs.Queues.{lock_queue}
@@ -19,11 +20,11 @@ use Rattle.floor_table.specs.declared.description.Description.{Description}
 use Rattle.floor_table.specs.Steps.{Makes, MakesEach, MayMake}
 use Rattle.floor_table.specs.Views.{Knowledge, seeing}
 use Rattle.lock_floor.specs.Views.{counts, looked, sought, gained}
-use Rattle.lock_floor.proofs.May.{BeginsCall, BeginsRound, IsUnhalted, WantsItsRound, counts_there, may_look, may_seek_gain, may_gain}
-use Rattle.lock_calls.specs.Steps.{IsMutex, as_taken}
-use Rattle.lock_calls.specs.Waiting.{kept_of, IsCalling, MayGain, IsChecking, IsSeeking, GainsAtOnce, HasMissed, HasSpun, SpinsThenGains, IsGaining, HasGained, with_round_looks}
+use Rattle.lock_floor.proofs.May.{BeginsCall, BeginsRound, IsUnhalted, WantsItsRound, counts_there, counts_first, may_look, may_seek_gain, may_gain}
+use Rattle.lock_calls.specs.Steps.{IsMutex, as_taken, first_misses}
+use Rattle.lock_calls.specs.Waiting.{kept_of, IsCalling, MayGain, IsChecking, IsSeeking, GainsAtOnce, HasMissed, HasSpun, SpinsThenGains, IsGaining, HasGained, with_looks_counted}
 use Rattle.lock_floor.specs.Passes.{IsAtRest}
-use Rattle.lock_calls.proofs.Looks.{each_append, uncounted, rest_looks}
+use Rattle.lock_calls.proofs.Looks.{each_append, rest_looks}
 
 -- 1. The first exchange
 
@@ -36,6 +37,7 @@ acquires floor l v r unheld few =
       few = few;
       wants_nothing = r.wants_nothing;
       unseen = r.no_last_look;
+      no_looks = r.no_looks;
       unnoted = r.unnoted;
       no_wait = r.no_wait;
       no_walk = r.no_walk;
@@ -43,7 +45,12 @@ acquires floor l v r unheld few =
     }
 
 pub begins_call : (floor : Description) (l : ℕ) (v : Knowledge) → MayGain floor l v → BeginsCall v
-begins_call floor l v m = record { wants = m.wants_nothing; takes = m.looks.takes_nothing; unseen = m.unseen }
+begins_call floor l v m = record {
+  wants = m.wants_nothing;
+  takes = m.looks.takes_nothing;
+  unseen = m.unseen;
+  no_looks = m.no_looks;
+}
 
 pub plainly : (k : Kind) → k ≡ Mtx → is_plain k (word_of 0) Excl ≡ true
 plainly k e = ap (λ (x : Kind). is_plain x (word_of 0) Excl) e
@@ -77,12 +84,23 @@ may_gain_first floor l v mutex m bare =
 
 -- 2. What the thread knows where its lock's order is to be checked
 
--- it made no exchange
-pub missed_none : (floor : Description) (l : ℕ) (v : Knowledge) → MayGain floor l v → HasMissed floor l v v
-missed_none floor l v m = record {
+-- who made one holds nothing, and it is one at most
+pub misses_bare : (held : List Held) (missed : ℕ) → missed ≡ first_misses held → 1 ≤ missed → held ≡ []
+misses_bare [] missed first some = refl
+misses_bare (h ∷ hs) missed first some = absurd (omega (arith, first, some))
+
+pub misses_few : (held : List Held) (missed : ℕ) → missed ≡ first_misses held → missed ≤ 1
+misses_few [] missed first = omega (arith, first)
+misses_few (h ∷ hs) missed first = omega (arith, first)
+
+-- it made no exchange, since it holds a lock
+pub missed_none : (floor : Description) (l : ℕ) (v : Knowledge) → MayGain floor l v → 0 ≡ first_misses v.share.held
+    → HasMissed floor l v v
+missed_none floor l v m holds = record {
   missed = 0;
-  once = omega arith;
-  bare = λ e. absurd (omega (arith, e));
+  first = holds;
+  looks = v.share.doing.looks;
+  counted = omega arith;
   all = v.share.doing.looks_in_all;
   last = v.share.doing.last_look;
   seen = v.share.doing.seen_in_section;
@@ -97,27 +115,20 @@ pub missed_once : (floor : Description) (l : ℕ) (v w : Knowledge) (word : Word
 missed_once floor l v w word m bare is miss =
     let x = v.share.doing in
     let look : Look = record { lock = l; word = word } in
-    let quiet : counts v l ≡ false = uncounted floor v l m.looks.no_round in
+    let it_counts : counts v l ≡ true = counts_first floor v l m.looks.nothing_out m.looks.no_round m.unheld in
     record {
       missed = 1;
-      once = omega arith;
-      bare = λ e. bare;
+      first = sym (ap first_misses bare);
+      looks = suc x.looks;
+      counted = omega arith;
       all = suc x.looks_in_all;
       last = Some look;
       seen = Some look;
       its = λ found e. (sym (ap lock_of e), bare);
       knows = is
-          ∙ (λ i. seeing w.seen (record v {
-            share = record v.share {
-              doing = record x {
-                looks = cond (quiet i) (suc x.looks) x.looks;
-                looks_in_all = suc x.looks_in_all;
-                last_look = Some look;
-                seen_in_section = Some look;
-              };
-            };
-          }));
-      steps = (w, subst (λ b. Makes floor (Looks v.thread l b ∷ []) v w) quiet miss, refl);
+          ∙ (λ i. seeing w.seen (with_looks_counted v (cond (it_counts i) (suc x.looks) x.looks) (suc x.looks_in_all)
+          (Some look) (Some look)));
+      steps = (w, subst (λ b. Makes floor (Looks v.thread l b ∷ []) v w) it_counts miss, refl);
     }
   where
     lock_of : Option Look → ℕ
@@ -141,7 +152,7 @@ is_checking floor l v w r unheld few h = subst (IsChecking floor l) (sym h.knows
     missed = h.its;
   };
   no_walk = r.no_walk;
-  no_looks = r.no_looks;
+  bare = λ some. misses_bare v.share.held h.missed h.first (omega (arith, h.counted, r.no_looks, some));
   nothing_out = r.nothing_out;
 }
 
@@ -186,7 +197,7 @@ module _ (floor : Description) (l : ℕ) (b : Knowledge) (m : IsSeeking l b) whe
         last = Some look;
         seen = Some look;
         knows = view
-            ∙ (λ i. seeing w.seen (with_round_looks b (cond (it_counts i) (suc x.looks) x.looks) (suc x.looks_in_all)
+            ∙ (λ i. seeing w.seen (with_looks_counted b (cond (it_counts i) (suc x.looks) x.looks) (suc x.looks_in_all)
             (Some look) (Some look)));
         steps = (w, subst (λ c. Makes floor (Looks b.thread l c ∷ []) b w) it_counts step, refl);
       }
@@ -237,7 +248,7 @@ module _ (floor : Description) (l n : ℕ) (a b : Knowledge) (x : HasSpun floor 
         all = y.all;
         last = y.last;
         seen = y.seen;
-        knows = y.knows ∙ ap (λ z. seeing w.seen (with_round_looks z y.looks y.all y.last y.seen)) x.knows;
+        knows = y.knows ∙ ap (λ z. seeing w.seen (with_looks_counted z y.looks y.all y.last y.seen)) x.knows;
         steps = subst (λ xs. MakesEach floor xs a w) (replicate-append-replicate n k look)
             (each_append floor (replicate n look) (replicate k look) a b w x.steps more);
       }

@@ -1,5 +1,5 @@
 -- A take has begun: by its first exchange it gained the lock, or the lock's order is to be checked.
-use Rattle.std.proofs.Common.{◌≡◌, false, [], ◌∷◌, replicate, refl, sym, ap, ◌∙◌, subst, arith}
+use Rattle.std.proofs.Common.{◌≡◌, true, [], ◌∷◌, replicate, refl, sym, ap, ◌∙◌, subst, arith}
 use Rattle.lock_model.specs.declared.event.Event.TheVariants.{Locked}
 use Rattle.lock_model.specs.declared.numbers.LockNo.{LockNo}
 use Rattle.lock_model.specs.declared.plan.Mode.TheVariants.{Excl}
@@ -49,8 +49,7 @@ has_begun floor l old v q may calling r h is =
       };
       kept = ap kept_of (sym same) ∙ kept;
       missed = h.missed;
-      once = h.once;
-      bare = h.bare;
-      steps = subst (λ k. MakesEach floor (replicate h.missed (Looks old.view.thread l.0 false ∷ [])) old.view k) same
+      first = h.first;
+      steps = subst (λ k. MakesEach floor (replicate h.missed (Looks old.view.thread l.0 true ∷ [])) old.view k) same
           h.steps;
     }

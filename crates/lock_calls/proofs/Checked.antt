@@ -121,7 +121,7 @@ stays_checking floor l old new there is found = record {
       missed = there.may.missed;
     };
     no_walk = there.no_walk;
-    no_looks = there.no_looks;
+    bare = there.bare;
     nothing_out = there.nothing_out;
   };
   kept = ap kept_of is;
@@ -182,7 +182,7 @@ module _ (floor : Description) (l : LockNo) (old mid : Knowledge) (there : IsChe
         (v, gains, (new, notes, refl)))
 
   -- or it begins with a look
-  pub spins_checked : (new : Knowledge) → HasBegun floor l.0 mid new → TakesOn floor l Excl Checks (Spins 49) old new
+  pub spins_checked : (new : Knowledge) → HasBegun floor l.0 mid new → TakesOn floor l Excl Checks (Spins 48) old new
   spins_checked new b =
       let looks : new.share.doing.looks ≡ 1 = ap (λ (k : Knowledge). k.share.doing.looks) b.knows in
       let begins : Makes floor (Seeks old.thread l.0 false ∷ Looks old.thread l.0 true ∷ []) mid new =
@@ -190,7 +190,7 @@ module _ (floor : Description) (l : LockNo) (old mid : Knowledge) (there : IsChe
       record {
         there = (seeks_it floor l.0 mid may_seek_on new b, omega (arith, looks));
         kept = ap kept_of b.knows ∙ same_kept;
-        leg = admitted 49 (omega arith)
+        leg = admitted 48 (omega arith)
             (each_append floor (checks old.thread l.0 None)
             ((Seeks old.thread l.0 false ∷ Looks old.thread l.0 true ∷ []) ∷ []) old mid new checked.steps
             (new, begins, refl));

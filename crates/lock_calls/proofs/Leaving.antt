@@ -23,11 +23,12 @@ use Rattle.lock_floor.specs.Waits.{its_chain, chain_place, both_out}
 use Rattle.lock_floor.proofs.InSection.{chain_out, record_out}
 use Rattle.lock_floor.proofs.MayWait as wait
 use Rattle.lock_floor.proofs.MayWait.{is_a_chain}
+use Rattle.lock_floor.proofs.May.{counts_not}
 use Rattle.lock_floor.proofs.Resting.{rest_seeing}
 use Rattle.lock_calls.specs.Releases.{IsLeaving, LeavesWithChain, LeavesWithBoth, ReleasesOn, noted_of, takes_chain, comes_in, looks, makes_free, finds_out}
 use Rattle.lock_calls.specs.Steps.{IsMutex, gives_both}
 use Rattle.lock_calls.specs.Waiting.{with_looks, with_none_out, MayLetGo, IsOwn, LetsGo, MissesOwn}
-use Rattle.lock_calls.proofs.Looks.{uncounted, look_knows, wants_none}
+use Rattle.lock_calls.proofs.Looks.{look_knows, wants_none}
 use Rattle.lock_calls.proofs.Owned.{chains_turnstile, saw_own}
 
 -- 1. What stays
@@ -233,7 +234,7 @@ module _ (floor : Description) (l : LockNo) (a : Knowledge) (m : LeavesWithChain
         → c ≡ seeing c.seen (looked b l.0 (word_of seen)) → Makes floor (Looks b.thread l.0 (counts b l.0) ∷ []) b c
         → ReleasesOn floor l Excl ComesIn (Frees seen) a c
     comes_in_on seen c formed view look =
-        let quiet : counts b l.0 ≡ false = uncounted floor b l.0 leaving_now.may.looks.no_round in
+        let quiet : counts b l.0 ≡ false = counts_not floor b l.0 Excl leaving_now.may.looks.no_round leaving_now.may.held in
         let saw : Option Look = Some (record { lock = l.0; word = word_of seen }) in
         let all : ℕ = suc b.share.doing.looks_in_all in
         let knows : c ≡ seeing c.seen (with_looks b all saw saw) =
@@ -267,7 +268,7 @@ module _ (floor : Description) (l : LockNo) (a : Knowledge) (m : LeavesWithChain
 module _ (floor : Description) (l : LockNo) (seen : ℕ) (v w : Knowledge) (m : LeavesWithBoth floor l.0 seen v) where
   pub misses_on : (found : ℕ) → MissesOwn floor l.0 found v w → ReleasesOn floor l Excl (Frees seen) (Frees found) v w
   misses_on found x =
-      let quiet : counts v l.0 ≡ false = uncounted floor v l.0 m.leaving.may.looks.no_round in
+      let quiet : counts v l.0 ≡ false = counts_not floor v l.0 Excl m.leaving.may.looks.no_round m.leaving.may.held in
       let saw : Option Look = Some (record { lock = l.0; word = word_of found }) in
       let all : ℕ = suc v.share.doing.looks_in_all in
       let knows : w ≡ seeing w.seen (with_looks v all saw saw) =

@@ -1,19 +1,18 @@
--- Looks at a lock outside acquiring rounds, which change only what the thread saw last: those of a release, and the
--- first exchange of a call, which missed.
-use Rattle.std.proofs.Common.{◌≡◌, ℕ, suc, ◌+◌, ◌<◌, false, true, not, ◌&&◌, cond, Option, Some, None, List, [], ◌∷◌, ◌++◌, length, replicate, refl, sym, ap, ◌∙◌, subst}
+-- Looks at a lock outside acquiring rounds, which change only what the thread saw last: those of a release. And the
+-- first exchange of a call, which missed, may be made.
+use Rattle.std.proofs.Common.{◌≡◌, ℕ, suc, ◌+◌, ◌<◌, false, true, cond, Option, Some, None, List, [], ◌∷◌, ◌++◌, length, replicate, refl, sym, ap, ◌∙◌, subst, inl, arith}
 use Rattle.std.proofs.lemmas.List.{replicate-append-replicate}
-use Rattle.lock_model.specs.Holds.{NotHeld}
+use Rattle.lock_model.specs.Holds.{Hold, NotHeld, Holds}
 use Rattle.lock_model.specs.Operations.{hold_in}
 use Rattle.lock_model.specs.Words.{Word}
 use Rattle.lock_state.specs.State.{Look}
-use Rattle.lock_state.specs.Steps.{Step, Looks, chain_of, seeks}
-use Rattle.floor_table.specs.Descriptions.{config_in}
+use Rattle.lock_state.specs.Steps.{Step, Looks}
 use Rattle.floor_table.specs.declared.description.Description.{Description}
 use Rattle.floor_table.specs.Steps.{Makes, MakesEach, MayMake}
 use Rattle.floor_table.specs.Views.{Knowledge, seeing}
 use Rattle.lock_floor.specs.Passes.{IsAtRest}
-use Rattle.lock_floor.specs.Views.{has_item, counts, looked}
-use Rattle.lock_floor.proofs.May.{BeginsCall, WantsItsRound, may_look}
+use Rattle.lock_floor.specs.Views.{counts, looked}
+use Rattle.lock_floor.proofs.May.{BeginsCall, WantsItsRound, counts_not, may_look}
 use Rattle.lock_calls.specs.Waiting.{CanLook, with_looks, HasLooked}
 
 -- 1. Steps one behind the other
@@ -24,11 +23,6 @@ each_append floor [] ys u v w e m = subst (λ x. MakesEach floor ys x w) (sym e)
 each_append floor (x ∷ xs) ys u v w m k = (m.0, m.1, each_append floor xs ys m.0 v w m.2 k)
 
 -- 2. One look, which doesn't count
-
--- outside rounds none does
-pub uncounted : (floor : Description) (v : Knowledge) (l : ℕ) → v.share.doing.round ≡ None → counts v l ≡ false
-uncounted floor v l no_round =
-    ap (λ r. seeks l r && not (has_item v (chain_of v.description.chains (config_in v.description) l))) no_round
 
 module _ (floor : Description) (v : Knowledge) (l : ℕ) (quiet : counts v l ≡ false) where
   pub look_knows : (word : Word) → looked v l word ≡ with_looks v (suc v.share.doing.looks_in_all) (Some (record { lock = l; word = word })) (Some (record { lock = l; word = word }))
@@ -64,10 +58,14 @@ pub may_look_on : (floor : Description) (v : Knowledge) (l : ℕ) → v.descript
     → CanLook v → (hold_in v.share.held l ≡ NotHeld → BeginsCall v)
     → MayMake floor v (λ s. Unit {0}) (Looks v.thread l (counts v l) ∷ [])
 may_look_on floor v l mine low k first =
-    may_look floor v l mine low k.runs k.nothing_out k.going
-    (λ e. absurd (let z : false ≡ true = sym (uncounted floor v l k.no_round) ∙ e in cc))
-    (λ ne. absurd (ne k.no_round)) (λ none. k.takes_nothing) (λ none. first)
+    may_look floor v l mine low k.runs k.nothing_out k.going (few (hold_in v.share.held l) refl)
+    (λ ne. absurd (ne k.no_round)) (λ none. k.takes_nothing) (λ none unheld. inl (first unheld))
     (wants_none v k.no_round)
+  where
+    few : (hold : Hold) → hold_in v.share.held l ≡ hold → counts v l ≡ true → v.share.doing.looks < 100
+    few NotHeld is e = let none = (first is).no_looks in omega (arith, none)
+    few (Holds mode) is e =
+        absurd (let z : false ≡ true = sym (counts_not floor v l mode k.no_round is) ∙ e in cc)
 
 -- 3. Several
 

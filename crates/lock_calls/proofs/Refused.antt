@@ -1,6 +1,6 @@
 -- A take that was refused by the order of locks: it notes that, and the thread is at rest again. A thread that holds
 -- nothing is never refused.
-use Rattle.std.proofs.Common.{◌≡◌, ℕ, ◌+◌, ◌≤◌, true, false, List, Some, None, [], ◌∷◌, refl, sym, ap, ◌∙◌, subst, arith}
+use Rattle.std.proofs.Common.{◌≡◌, ℕ, zero, suc, ◌+◌, ◌≤◌, true, false, List, Some, None, [], ◌∷◌, refl, sym, ap, ◌∙◌, subst, arith}
 use Rattle.std.proofs.lemmas.List.Elements.{All-head}
 use Rattle.lock_model.specs.Config.{Config}
 use Rattle.lock_model.specs.Orders.{IsFirstToForbid}
@@ -69,11 +69,15 @@ forgets v =
     let after : Doing = record v.share.doing { last_look = None } in
     record v { share = record v.share { doing = after } }
 
--- it is at rest but for that look
+none_counts : (n : ℕ) → (1 ≤ n → ⊥) → n ≡ 0
+none_counts zero none = refl
+none_counts (suc n) none = absurd (none (omega arith))
+
+-- where no look counts, it is at rest but for that look
 rests : (floor : Description) (l : ℕ) (v : Knowledge) → IsCalling floor (kept_of v) → IsChecking floor l v
-    → IsAtRest floor (forgets v)
+    → v.share.doing.looks ≡ 0 → IsAtRest floor (forgets v)
 unfolding forgets
-rests floor l v k there = record {
+rests floor l v k there no_looks = record {
   runs = there.may.runs;
   nothing_out = there.nothing_out;
   no_walk = there.no_walk;
@@ -82,7 +86,7 @@ rests floor l v k there = record {
   wants_nothing = there.may.wants_nothing;
   takes_nothing = there.may.takes_nothing;
   no_round = there.may.no_round;
-  no_looks = there.no_looks;
+  no_looks = no_looks;
   no_last_look = refl;
   unnoted = k.unnoted;
   going = record {
@@ -135,11 +139,16 @@ module _ (floor : Description) (l : LockNo) (r : Reversal) (old v : Knowledge) (
       says ∙ ap (λ (x : Knowledge). seeing new.seen (stamped c x (entry_by x.thread ticket e))) checked.view in
       let noted : Makes floor (Stamps old.thread e ∷ []) v new =
       subst (λ t. Makes floor (Stamps t e ∷ []) v new) its step in
+      let each : MakesEach floor (refuses old.thread l r.held) old new =
+      each_append floor (checks old.thread l.0 (Some r.held.0)) ((Stamps old.thread e ∷ []) ∷ []) old v new
+      checked.steps (new, noted, refl) in
+      let no_looks : old.share.doing.looks ≡ 0 =
+      none_counts old.share.doing.looks (λ some. bare_admitted floor l r.held old new (there.bare some) each) in
       record {
         wanted = wanted;
         rest = subst (IsAtRest floor) (sym is)
             (rest_seeing floor (stamped c (forgets old) (entry_by old.thread ticket e)) new.seen
-            (rest_stamped floor (forgets old) ticket e refl (rests floor l.0 old k there)));
+            (rest_stamped floor (forgets old) ticket e refl (rests floor l.0 old k there no_looks)));
         entry = record {
           ticket = ticket;
           log = ap (λ (x : Knowledge). x.share.log) is;
@@ -153,6 +162,5 @@ module _ (floor : Description) (l : LockNo) (r : Reversal) (old v : Knowledge) (
           log_before = ap (λ (x : Knowledge). x.share.log) checked.view;
           log_behind = refl;
         };
-        steps = each_append floor (checks old.thread l.0 (Some r.held.0)) ((Stamps old.thread e ∷ []) ∷ []) old v new
-            checked.steps (new, noted, refl);
+        steps = each;
       }

@@ -21,7 +21,7 @@ use Rattle.lock_floor.specs.Floors.{Pass}
 use Rattle.lock_floor.specs.Passes.{IsAtRest, MakesEntry}
 use Rattle.lock_floor.specs.Views.{counts, looked, entry_by, stamped, put_down}
 use Rattle.lock_floor.proofs.Gaining.{dropped_unheld}
-use Rattle.lock_floor.proofs.May.{own_log, may_drop, may_stamp}
+use Rattle.lock_floor.proofs.May.{own_log, counts_not, may_drop, may_stamp}
 use Rattle.lock_floor.proofs.Resting.{leaves, rest_left, rest_seeing}
 use Rattle.lock_words.specs.Views.{IsHeldIn}
 use Rattle.lock_calls.specs.Releases.{IsLeaving, BeginsRelease, ReleasesAtOnce}
@@ -29,7 +29,7 @@ use Rattle.lock_calls.specs.Steps.{MayRelease}
 use Rattle.lock_calls.specs.Waiting.{with_looks, MayPutDown}
 use Rattle.lock_calls.proofs.Calls.{call_noted, view_noted}
 use Rattle.lock_calls.proofs.Leaving.{leaving_looked, leaving_still}
-use Rattle.lock_calls.proofs.Looks.{uncounted, look_knows, may_look_on}
+use Rattle.lock_calls.proofs.Looks.{look_knows, may_look_on}
 
 -- 1. The entry
 
@@ -149,7 +149,7 @@ module _ (floor : Description) (l : LockNo) (ticket : ℕ) (old v new : Knowledg
     module _ (word : Word) (view : new ≡ seeing new.seen (looked v l.0 word)) where
       pub leaving_missed : IsLeaving floor l.0 new
       leaving_missed =
-          let quiet : counts v l.0 ≡ false = uncounted floor v l.0 leaving_noted.may.looks.no_round in
+          let quiet : counts v l.0 ≡ false = counts_not floor v l.0 Excl leaving_noted.may.looks.no_round leaving_noted.may.held in
           let saw : Option Look = Some (record { lock = l.0; word = word }) in
           let all : ℕ = suc v.share.doing.looks_in_all in
           leaving_still floor l.0 (with_looks v all saw saw) new
@@ -179,7 +179,7 @@ module _ (floor : Description) (l : LockNo) (ticket : ℕ) (old v new : Knowledg
           → Makes floor (Looks v.thread l.0 (counts v l.0) ∷ []) v new
           → MakesEach floor ((Stamps old.thread e ∷ []) ∷ (Looks old.thread l.0 false ∷ []) ∷ []) old new
       begin_steps step look =
-          let quiet : counts v l.0 ≡ false = uncounted floor v l.0 leaving_noted.may.looks.no_round in (
+          let quiet : counts v l.0 ≡ false = counts_not floor v l.0 Excl leaving_noted.may.looks.no_round leaving_noted.may.held in (
             v,
             step,
             (

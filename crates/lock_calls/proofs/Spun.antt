@@ -1,7 +1,7 @@
 -- A take in its round, and as it takes the lock's chain and then its own record: where it stands behind each part.
-use Rattle.std.proofs.Common.{◌≡◌, ℕ, ◌+◌, ◌<◌, ◌≤◌, true, false, [], ◌∷◌, length, replicate, refl, ap, ◌∙◌, subst, arith}
+use Rattle.std.proofs.Common.{◌≡◌, ℕ, ◌+◌, ◌<◌, ◌≤◌, Bool, true, false, [], ◌∷◌, length, replicate, refl, ap, ◌∙◌, subst, arith}
 use Rattle.lock_model.specs.Queues.{lock_queue}
-use Rattle.lock_model.specs.Words.{word_of, IsWellFormed}
+use Rattle.lock_model.specs.Words.{Word, word_of, IsWellFormed}
 use Rattle.lock_model.specs.declared.event.Event.TheVariants.{Locked}
 use Rattle.lock_model.specs.declared.numbers.LockNo.{LockNo}
 use Rattle.lock_model.specs.declared.plan.Mode.TheVariants.{Excl}
@@ -15,24 +15,44 @@ use Rattle.lock_floor.specs.Latches.{FindsOut, Takes}
 use Rattle.lock_floor.specs.Passes.{IsGoing}
 use Rattle.lock_floor.specs.Views.{counts, looked}
 use Rattle.lock_floor.specs.Waits.{its_chain, chain_place, readied}
+use Rattle.lock_floor.proofs.FoundQueued.{found_waits}
+use Rattle.lock_floor.proofs.Taking.{HasWaited, waits_none}
 use Rattle.lock_calls.specs.Steps.{IsMutex, as_taken}
-use Rattle.lock_calls.specs.Takes.{HasChainOut, TakesOn, TakeEnd, looks, takes_chain, comes_in, finds_out, in_round}
-use Rattle.lock_calls.specs.Waiting.{kept_of, IsSeeking, HasSpun, SpinsThenGains, IsThere}
+use Rattle.lock_calls.specs.Takes.{HasChainOut, AsksOwner, asks, nobody, looks_left, TakesOn, TakeEnd, looks, takes_chain, comes_in, finds_out, in_round}
+use Rattle.lock_calls.specs.Waiting.{kept_of, IsSeeking, HasSeen, HasSpun, SpinsThenGains, IsThere}
 use Rattle.lock_calls.proofs.Attempts.{seeking_on, looks_spun}
 use Rattle.lock_calls.proofs.Looks.{each_append}
 use Rattle.lock_calls.proofs.There.{seeking_still, chain_still, has_chain, come_kept, come_there, come_steps, quiet_there, contends}
 
 -- 1. Looks
 
-pub spins_on : (floor : Description) (l : LockNo) (left to n : ℕ) → to < left → 1 ≤ n → n ≤ 2 → (old new : Knowledge)
-    → IsSeeking l.0 old → old.share.doing.looks + (left + left) ≤ 99 → HasSpun floor l.0 n old new
-    → TakesOn floor l Excl (Spins left) (Spins to) old new
-spins_on floor l left to n less one two old new m room x =
-    let all : new.share.doing.looks ≡ n + old.share.doing.looks = looks_spun floor l.0 n old new x in
+-- who asks for the owner has waited
+pub asking_waits : (floor : Description) (word : Word) (queued : Bool) (old new : Knowledge)
+    → AsksOwner floor word queued old new → HasWaited old new
+asking_waits floor word queued old new (asks o owner view found) = found_waits floor o queued old new view found
+asking_waits floor word queued old new (nobody none) = waits_none new
+
+-- fewer looks are left then
+pub fewer_left : (left : ℕ) (queued : Bool) → 1 ≤ left → looks_left left queued < left
+fewer_left left true some = some
+fewer_left left false some = omega (arith, some)
+
+pub spins_on : (floor : Description) (l : LockNo) (left n : ℕ) (word : Word) (queued : Bool) → 1 ≤ left → 1 ≤ n → n ≤ 2
+    → (old seen new : Knowledge) → IsSeeking l.0 old → old.share.doing.looks + (left + left) ≤ 98
+    → HasSpun floor l.0 n old seen → HasSeen l.0 word seen → AsksOwner floor word queued seen new
+    → TakesOn floor l Excl (Spins left) (Spins (looks_left left queued)) old new
+spins_on floor l left n word queued some one two old seen new m room x saw asked =
+    let waited = asking_waits floor word queued seen new asked in
+    let all : seen.share.doing.looks ≡ n + old.share.doing.looks = looks_spun floor l.0 n old seen x in
+    let same : new.share.doing.looks ≡ seen.share.doing.looks =
+    ap (λ (k : Knowledge). k.share.doing.looks) waited.view in
     record {
-      there = (seeking_on floor l.0 n old new x m, omega (arith, all, less, two, room));
-      kept = ap kept_of x.knows;
-      leg = looks left to n less one two x.steps;
+      there = (
+        seeking_still l.0 seen new waited.view (seeking_on floor l.0 n old seen x m),
+        omega (arith, same, all, fewer_left left queued some, two, room),
+      );
+      kept = ap kept_of waited.view ∙ ap kept_of x.knows;
+      leg = looks seen left n word queued some one two x.steps saw asked;
     }
 
 -- the gain
@@ -48,7 +68,7 @@ spun_end floor l left some old v new s notes =
 -- 2. The chain
 
 module _ (floor : Description) (l : LockNo) (old new : Knowledge) (m : IsSeeking l.0 old)
-    (room : old.share.doing.looks + (0 + 0) ≤ 99) where
+    (room : old.share.doing.looks + (0 + 0) ≤ 98) where
   pub comes_on : IsMutex floor l.0
       → Takes floor (its_chain floor (lock_queue l.0)) (chain_place floor (lock_queue l.0)) old new
       → TakesOn floor l Excl (Spins 0) ComesIn old new

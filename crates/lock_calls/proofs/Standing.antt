@@ -21,7 +21,7 @@ use Rattle.floor_table.specs.Views.{StandsOn, Knowledge, seeing}
 use Rattle.lock_floor.specs.declared.calls.TakeAt.TheVariants.{Spins, Walks, Hops}
 use Rattle.lock_floor.specs.Latches.{FindsOut, Takes}
 use Rattle.lock_floor.specs.Resumes.{cause_of, resumed, FindsQueued, MayRunAgain, RunsAgain}
-use Rattle.lock_floor.specs.Walks.{CanWalk, HasTurnstilesOut, HopsOn, turnstiles, turnstiles_place}
+use Rattle.lock_floor.specs.Walks.{CanWalk, HasTurnstilesOut, HopsOn, NeedsRecord, turnstiles, turnstiles_place}
 use Rattle.lock_floor.proofs.MayWake.{may_run_again}
 use Rattle.lock_calls.specs.Steps.{IsMutex}
 use Rattle.lock_calls.specs.Takes.{IsStanding, TakesOn, takes_turnstiles, hops, resumes, finds_out, is_queued}
@@ -127,11 +127,12 @@ module _ (floor : Description) (l : LockNo) (there : run_time.Walk) (old new : K
   }
 
   pub stays_hopping : HasTurnstilesOut floor old → walk_of there ≢ NoWalk → new ≡ seeing new.seen old
-      → (o : ℕ) × FindsOut floor (RecordOf o) old new → TakesOn floor l Excl (Hops there) (Hops there) old new
+      → (o : ℕ) × NeedsRecord floor o old × FindsOut floor (RecordOf o) old new
+      → TakesOn floor l Excl (Hops there) (Hops there) old new
   stays_hopping has ne view finds = record {
     there = (standing_still l.0 there old new view m, turnstiles_still floor old new view has, ne);
     kept = ap kept_of view;
-    leg = finds_out (Hops there) (RecordOf finds.0) (finds.0, refl) view finds.1;
+    leg = finds_out (Hops there) (RecordOf finds.0) (finds.0, refl) view finds.2;
   }
 
 -- 3. It runs again
@@ -174,7 +175,7 @@ module _ (floor : Description) (l : LockNo) (mutex : IsMutex floor l.0) (z : Kno
     no_looks : new.share.doing.looks ≡ 0
     no_looks = ap (λ (k : Knowledge). k.share.doing.looks) resumed_is
 
-    pub wakes_up : (left : ℕ) → left ≤ 49 → TakesOn floor l Excl (Walks walk.None) (Spins left) z new
+    pub wakes_up : (left : ℕ) → left ≤ 48 → TakesOn floor l Excl (Walks walk.None) (Spins left) z new
     wakes_up left few = record {
       there = (
         record {

@@ -27,11 +27,13 @@ use Rattle.lock_floor.proofs.Resuming.{waits_queued}
 use Rattle.lock_floor.proofs.Taking.{HasWaited, waits_none, waits_on}
 use Rattle.lock_floor.proofs.WalkHops.{hops_all}
 use Rattle.lock_calls.specs.Steps as steps
-use Rattle.lock_calls.specs.Steps.{as_taken, begins_round, gains_at_once, refuses, comes_there, gives_both, runs_on, enters_there, gains_there, ComesToRound, Locks}
+use Rattle.lock_calls.specs.Steps.{as_taken, first_misses, begins_round, gains_at_once, refuses, comes_there, gives_both, runs_on, enters_there, gains_there, ComesToRound, Locks}
 use Rattle.lock_calls.specs.Takes.{IsTaking, IsUnderTake, TakesOn, TakeLeg, TakeEnd, IsRefused, admitted, at_check, looks, takes_chain, comes_in, looks_there, enters, takes_turnstiles, hops, resumes, finds_out, is_queued, in_round, in_section}
 use Rattle.lock_calls.specs.Waiting.{Kept, kept_of, IsCalling}
+use Rattle.lock_calls.proofs.Attempts.{misses_bare, misses_few}
 use Rattle.lock_calls.proofs.Looks.{each_append}
 use Rattle.lock_calls.proofs.Refused.{bare_admitted}
+use Rattle.lock_calls.proofs.Spun.{asking_waits, fewer_left}
 use Rattle.lock_calls.proofs.Standing.{walk_still}
 use Rattle.lock_calls.proofs.Waited.{makes_sooner, each_sooner, takes_sooner, before_waiting}
 
@@ -88,9 +90,8 @@ pub record HasBegunHop (floor : Description) (l : ℕ) (mode : Mode) (begun now 
 -- its first exchange missed, where it holds nothing, or it made none
 pub record HasLookedFirst (floor : Description) (l : ℕ) (begun now : Knowledge) : Type 0 where
   pub missed : ℕ
-  pub once : missed ≤ 1
-  pub bare : 1 ≤ missed → begun.share.held ≡ []
-  pub each : MakesEach floor (replicate missed (Looks begun.thread l false ∷ [])) begun now
+  pub first : missed ≡ first_misses begun.share.held
+  pub each : MakesEach floor (replicate missed (Looks begun.thread l true ∷ [])) begun now
 
 -- so at each place
 abbrev pub HasCome : Description → ℕ → Mode → Knowledge → TakeAt → Knowledge → Type 0
@@ -139,12 +140,12 @@ hops_sooner floor w old mid new h x = record {
 
 -- 2. The begin
 
-pub begins_at : (floor : Description) (l : ℕ) (mode : Mode) (begun now : Knowledge) (missed : ℕ) → missed ≤ 1
-    → (1 ≤ missed → begun.share.held ≡ []) → MakesEach floor (replicate missed (Looks begun.thread l false ∷ [])) begun now
+pub begins_at : (floor : Description) (l : ℕ) (mode : Mode) (begun now : Knowledge) (missed : ℕ)
+    → missed ≡ first_misses begun.share.held → MakesEach floor (replicate missed (Looks begun.thread l true ∷ [])) begun now
     → IsAt floor l mode begun Checks now
-begins_at floor l mode begun now missed once bare each = record {
+begins_at floor l mode begun now missed first each = record {
   came = now;
-  has_come = record { missed = missed; once = once; bare = bare; each = each };
+  has_come = record { missed = missed; first = first; each = each };
   waited = waits_none now;
 }
 
@@ -211,8 +212,8 @@ module _ (floor : Description) (l : LockNo) (mode : Mode) (begun : Knowledge) wh
         each) in
         let all : MakesEach floor (begins_round begun.thread l.0 c.missed) begun new =
         subst (λ xs. MakesEach floor xs begun new)
-        (sym (append_assoc (replicate c.missed look_there) (checks begun.thread l.0 None) round))
-        (each_append floor (replicate c.missed look_there) (checks begun.thread l.0 None ++ round) begun h.came new c.each
+        (sym (append_assoc (replicate c.missed look) (checks begun.thread l.0 None) round))
+        (each_append floor (replicate c.missed look) (checks begun.thread l.0 None ++ round) begun h.came new c.each
         made) in
         record {
           came = new;
@@ -220,23 +221,23 @@ module _ (floor : Description) (l : LockNo) (mode : Mode) (begun : Knowledge) wh
             record {
               before = c.missed + 1;
               round = new;
-              comes = steps.begins c.missed c.once c.bare all;
+              comes = steps.begins c.missed c.first all;
               n = 0;
               each = refl;
             },
-            omega (arith, few, c.once),
+            omega (arith, few, misses_few begun.share.held c.missed c.first),
           );
           waited = waits_none new;
         }
-    goes_on at to there h (looks left t n less one two each) =
-        let made : MakesEach floor (replicate n look) h.came new =
-        looks_sooner n h.came now new one h.waited
-        (subst (λ t. MakesEach floor (replicate n (Looks t l.0 true ∷ [])) now new) its each) in
-        let s = more_looks h.came new h.has_come.0 n made in
+    goes_on at to there h (looks seen left n word queued some one two each saw asked) =
+        let made : MakesEach floor (replicate n look) h.came seen =
+        looks_sooner n h.came now seen one h.waited
+        (subst (λ t. MakesEach floor (replicate n (Looks t l.0 true ∷ [])) now seen) its each) in
+        let s = more_looks h.came seen h.has_come.0 n made in
         record {
-          came = new;
-          has_come = (s.0, omega (arith, s.1, h.has_come.1, less, two));
-          waited = waits_none new;
+          came = seen;
+          has_come = (s.0, omega (arith, s.1, h.has_come.1, fewer_left left queued some, two));
+          waited = asking_waits floor word queued seen new asked;
         }
     goes_on at to there h (takes_chain step) = record {
       came = new;
@@ -384,10 +385,10 @@ module _ (floor : Description) (l : LockNo) (mode : Mode) (begun : Knowledge) wh
         (made.0, made.1, (made.2.0, made.2.1, (behind.0, behind.1, refl))) in
         record {
           gained = behind.0;
-          gains = steps.checked c.missed c.once c.bare
+          gains = steps.checked c.missed c.first
               (subst (λ xs. MakesEach floor xs begun behind.0)
-              (sym (append_assoc (replicate c.missed look_there) (checks begun.thread l.0 None) (gain ∷ [])))
-              (each_append floor (replicate c.missed look_there) (checks begun.thread l.0 None ++ gain ∷ []) begun h.came
+              (sym (append_assoc (replicate c.missed look) (checks begun.thread l.0 None) (gain ∷ [])))
+              (each_append floor (replicate c.missed look) (checks begun.thread l.0 None ++ gain ∷ []) begun h.came
               behind.0 c.each checked));
           notes = last_step stamp behind.0 new behind.2;
         }
@@ -493,7 +494,7 @@ refused_since floor l mode begun now new r kept h x =
         log_before = e.log_before ∙ ap (λ (k : Kept). k.log) kept;
         log_behind = e.log_behind;
       };
-      steps = go h.has_come.missed h.has_come.bare h.has_come.each;
+      steps = go h.has_come.missed (misses_bare begun.share.held h.has_come.missed h.has_come.first) h.has_come.each;
     }
   where
     made : MakesEach floor (refuses begun.thread l r.held) h.came new
@@ -504,7 +505,7 @@ refused_since floor l mode begun now new r kept h x =
         (subst (λ t. MakesEach floor (refuses t l r.held) now new) (ap (λ (k : Kept). k.thread) kept) x.steps)
 
     go : (n : ℕ) → (1 ≤ n → begun.share.held ≡ [])
-        → MakesEach floor (replicate n (Looks begun.thread l.0 false ∷ [])) begun h.came
+        → MakesEach floor (replicate n (Looks begun.thread l.0 true ∷ [])) begun h.came
         → MakesEach floor (refuses begun.thread l r.held) begun new
     go zero bare none = subst (λ k. MakesEach floor (refuses begun.thread l r.held) k new) (sym none) made
     go (suc n) bare looked =

@@ -1,12 +1,12 @@
 -- A blocking call in the section of the lock's chain: what allows its steps there, and what each leaves.
-use Rattle.std.proofs.Common.{◌≡◌, ◌≢◌, ℕ, ◌<◌, ◌≤◌, Bool, true, false, cond, not, ◌&&◌, Option, Some, None, [], ◌∷◌, length, refl, sym, ap, ◌∙◌, subst, inl, eq-eqb}
+use Rattle.std.proofs.Common.{◌≡◌, ◌≢◌, ℕ, ◌<◌, ◌≤◌, Bool, true, false, cond, not, ◌&&◌, ◌||◌, Option, Some, None, [], ◌∷◌, length, refl, sym, ap, ◌∙◌, subst, inl, eq-eqb}
 use Rattle.std.proofs.lemmas.Option.{same_Some}
 use Rattle.lock_model.specs.Operations.{hold_in}
 use Rattle.lock_model.specs.Queues.{lock_queue}
 use Rattle.lock_model.specs.Words.{Word, word_of, IsWellFormed, is_free, admits}
 use Rattle.lock_model.specs.declared.plan.Mode.TheVariants.{Excl}
 use Rattle.lock_state.specs.State.{NoWalk, AtLock}
-use Rattle.lock_state.specs.Steps.{Looks, Gains, Enters, Readies, TakesItem, FitsRound, IsOfRound, seeks}
+use Rattle.lock_state.specs.Steps.{Looks, Gains, Enters, Readies, TakesItem, FitsRound, IsOfRound, seeks, is_first}
 use Rattle.lock_state.specs.Steps.Items.{RecordOf, item_with, in_its_chain, is_chain}
 use Rattle.lock_state.specs.Steps.Turnstiles.{walk_up}
 use Rattle.floor_table.specs.Descriptions.{config_in}
@@ -209,10 +209,12 @@ module _ (floor : Description) (l : ℕ) (v : Knowledge) (mutex : IsMutex floor 
 
     pub quiet_there : counts v l ≡ false
     quiet_there =
-        (λ i. seeks l v.share.doing.round
-        && not (is_out v.out (slot_of (mine i) (its_chain (mine i) (lock_queue l)))))
-        ∙ ap (λ b. seeks l v.share.doing.round && not b) chain_is_out ∙ never (seeks l v.share.doing.round)
+        (λ i. asks && not (is_out v.out (slot_of (mine i) (its_chain (mine i) (lock_queue l)))))
+        ∙ ap (λ b. asks && not b) chain_is_out ∙ never asks
       where
+        asks : Bool
+        asks = seeks l v.share.doing.round || is_first v.share.doing.round (hold_in v.share.held l)
+
         never : (b : Bool) → (b && false) ≡ false
         never true = refl
         never false = refl

@@ -57,9 +57,15 @@ as_taken l mode = record { l = l; mode = mode; by_try = false }
 abbrev pub gains_at_once : ℕ → ℕ → Mode → List Step
 gains_at_once t l mode = Seeks t l false ∷ Gains t l mode false ∷ []
 
+-- So many first exchanges of a call missed before its lock's order is checked: one where its thread holds nothing, and
+-- none where it holds a lock
+abbrev pub first_misses : List Held → ℕ
+first_misses [] = 1
+first_misses (h ∷ hs) = 0
+
 -- behind so many first exchanges that missed outside a round, the lock's order is checked
 abbrev pub checks_behind : ℕ → ℕ → ℕ → List (List Step)
-checks_behind t l missed = replicate missed (Looks t l false ∷ []) ++ checks t l None
+checks_behind t l missed = replicate missed (Looks t l true ∷ []) ++ checks t l None
 
 -- then a round begins with a look
 abbrev pub begins_round : ℕ → ℕ → ℕ → List (List Step)
@@ -113,7 +119,7 @@ pub record Sleeps (floor : Description) (l : ℕ) (old new : Knowledge) : Type 0
 -- with the exchanges that missed
 pub data ComesToRound (floor : Description) (l : ℕ) (mode : Mode) : ℕ → Knowledge → Knowledge
     → Type 0 where
-  begins : {old new : Knowledge} (missed : ℕ) → missed ≤ 1 → (1 ≤ missed → old.share.held ≡ [])
+  begins : {old new : Knowledge} (missed : ℕ) → missed ≡ first_misses old.share.held
       → MakesEach floor (begins_round old.thread l missed) old new
       → ComesToRound floor l mode (missed + 1) old new
   sleeps : {old u v new : Knowledge} (looks n m x : ℕ) → ComesToRound floor l mode looks old u
@@ -130,7 +136,7 @@ pub data Acquires (floor : Description) (l : ℕ) (mode : Mode) : Knowledge → 
     at_once : {old new : Knowledge} → old.share.held ≡ []
         → MakesEach floor (gains_at_once old.thread l mode ∷ []) old new
         → Acquires floor l mode old new
-    checked : {old new : Knowledge} (missed : ℕ) → missed ≤ 1 → (1 ≤ missed → old.share.held ≡ [])
+    checked : {old new : Knowledge} (missed : ℕ) → missed ≡ first_misses old.share.held
         → MakesEach floor
         (checks_behind old.thread l missed ++ gains_at_once old.thread l mode ∷ []) old new
         → Acquires floor l mode old new

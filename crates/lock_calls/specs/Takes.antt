@@ -1,11 +1,11 @@
 -- A take as a call that stands at places: what the thread knows at each, what it does from one to the next, and how the
 -- take ends.
-use Rattle.std.specs.Prelude.{◌≡◌, ◌≢◌, ℕ, ◌+◌, ◌<◌, ◌≤◌, true, false, List, [], ◌∷◌, ◌++◌, length, replicate, Some, None}
+use Rattle.std.specs.Prelude.{◌≡◌, ◌≢◌, ℕ, ◌+◌, ◌-◌, ◌<◌, ◌≤◌, Bool, true, false, List, [], ◌∷◌, ◌++◌, length, replicate, Some, None}
 use Rattle.lock_model.specs.Holds.{NotHeld}
 use Rattle.lock_model.specs.Limits.{most_held}
 use Rattle.lock_model.specs.Operations.{hold_in}
 use Rattle.lock_model.specs.Queues.{BySignal, lock_queue}
-use Rattle.lock_model.specs.Words.{word_of, IsWellFormed, is_free}
+use Rattle.lock_model.specs.Words.{Word, word_of, IsWellFormed, is_free, owner_of}
 use Rattle.lock_model.specs.declared.event.Event.{Event}
 use Rattle.lock_model.specs.declared.numbers.LockNo.{LockNo}
 use Rattle.lock_model.specs.declared.event.Reversal.{Reversal}
@@ -31,13 +31,13 @@ use Rattle.lock_floor.specs.Floors.{Pass}
 use Rattle.lock_floor.specs.Latches.{FindsOut, Takes}
 use Rattle.lock_floor.specs.Ordering.{checks}
 use Rattle.lock_floor.specs.Passes.{IsAtRest, MakesEntry}
-use Rattle.lock_floor.specs.Resumes.{FindsQueued}
+use Rattle.lock_floor.specs.Resumes.{FindsQueued, FindsWhetherQueued}
 use Rattle.lock_floor.specs.Waits.{its_chain, chain_place}
 use Rattle.lock_floor.specs.Walks.{CanWalk, HasTurnstilesOut, HopsOn, turnstiles, turnstiles_place}
 use Rattle.lock_calls.specs.declared.answers.Next.{Next}
 use Rattle.lock_calls.specs.declared.answers.Next.TheVariants.{Done, Again, Sleep, Wake, Reversed}
-use Rattle.lock_calls.specs.Steps.{IsCovered, as_taken, gains_at_once, gives_both, refuses, runs_on}
-use Rattle.lock_calls.specs.Waiting.{kept_of, IsCalling, IsChecking, IsSeeking, IsThere, Saw}
+use Rattle.lock_calls.specs.Steps.{IsCovered, as_taken, first_misses, gains_at_once, gives_both, refuses, runs_on}
+use Rattle.lock_calls.specs.Waiting.{kept_of, IsCalling, IsChecking, IsSeeking, IsThere, HasSeen, Saw}
 
 -- 1. What the thread knows at each place
 
@@ -69,10 +69,11 @@ pub record IsStanding (l : ℕ) (there : Walk) (v : Knowledge) : Type 0 where
   pub stands : v.pose ≡ StandsOn (lock_queue l)
   pub walk_is : walk_of there ≡ v.share.doing.walk
 
--- So at each place. With twice as many looks as are still allowed, a round has at most 99
+-- So at each place. With twice as many looks as are still allowed, a round has at most 98: before it, two first
+-- exchanges may have missed
 abbrev pub IsTaking : Description → ℕ → TakeAt → Knowledge → Type 0
 IsTaking floor l Checks v = IsChecking floor l v
-IsTaking floor l (Spins left) v = IsSeeking l v × (v.share.doing.looks + (left + left) ≤ 99)
+IsTaking floor l (Spins left) v = IsSeeking l v × (v.share.doing.looks + (left + left) ≤ 98)
 IsTaking floor l ComesIn v = HasChainOut floor l v
 IsTaking floor l (Contends seen) v = IsContending floor l seen v
 IsTaking floor l (Walks there) v = IsStanding l there v × CanWalk floor v
@@ -97,6 +98,21 @@ pub record IsInTake (floor : Description) (p : Pass Knowledge) : Type 0 where
 
 -- 2. What it does from one place to the next
 
+-- Whether the owner that a lock's word names is Queued at that moment. Where it names none of the floor's threads,
+-- nobody is asked for
+pub data AsksOwner (floor : Description) (word : Word) : Bool → Knowledge → Knowledge → Type 0 where
+  asks : {queued : Bool} {old new : Knowledge} (o : ℕ) → owner_of word.holder ≡ Some o
+      → new ≡ seeing new.seen old → FindsWhetherQueued floor o queued old new
+      → AsksOwner floor word queued old new
+  nobody : {v : Knowledge}
+      → ((o : ℕ) → owner_of word.holder ≡ Some o → o < length floor.threads → ⊥)
+      → AsksOwner floor word false v v
+
+-- how many looks are left behind one: none, where the owner is Queued
+abbrev pub looks_left : ℕ → Bool → ℕ
+looks_left left true = 0
+looks_left left false = left - 1
+
 -- the item that a take needs to go on from there: another thread may have it out
 abbrev pub AwaitsInTake : Description → ℕ → ℕ → TakeAt → Item → Type 0
 AwaitsInTake floor t l Checks i = i ≡ ClassGraph
@@ -107,20 +123,23 @@ AwaitsInTake floor t l (Walks there) i = (there ≢ walk.None) × (i ≡ turnsti
 AwaitsInTake floor t l (Hops there) i = (o : ℕ) × (i ≡ RecordOf o)
 
 -- Once its lock's order was checked, its round begins with a look. There it looks, and may have an exchange that
--- misses; once no looks are left, it takes the chain, then its own record, is ready for the queue, and looks. There an
+-- misses, and asks whether the owner is queued whom the word named that it saw last; once no looks are left, it takes
+-- the chain, then its own record, is ready for the queue, and looks. There an
 -- exchange that misses is a look; or it comes to stand on the queue. It makes hop after hop of its walk, and where it
 -- was woken it begins another round. Or it found out what it needs, or that it is queued still
 pub data TakeLeg (floor : Description) (l : LockNo) (mode : Mode) : TakeAt → TakeAt → Knowledge
     → Knowledge → Type 0 where
-  admitted : {old new : Knowledge} (left : ℕ) → left ≤ 49
+  admitted : {old new : Knowledge} (left : ℕ) → left ≤ 48
       → MakesEach floor
       (checks old.thread l.0 None
       ++ (Seeks old.thread l.0 false ∷ Looks old.thread l.0 true ∷ []) ∷ [])
       old new
       → TakeLeg floor l mode Checks (Spins left) old new
-  looks : {old new : Knowledge} (left to n : ℕ) → to < left → 1 ≤ n → n ≤ 2
-      → MakesEach floor (replicate n (Looks old.thread l.0 true ∷ [])) old new
-      → TakeLeg floor l mode (Spins left) (Spins to) old new
+  looks : {old new : Knowledge} (seen : Knowledge) (left n : ℕ) (word : Word) (queued : Bool)
+      → 1 ≤ left → 1 ≤ n → n ≤ 2
+      → MakesEach floor (replicate n (Looks old.thread l.0 true ∷ [])) old seen
+      → HasSeen l.0 word seen → AsksOwner floor word queued seen new
+      → TakeLeg floor l mode (Spins left) (Spins (looks_left left queued)) old new
   takes_chain : {old new : Knowledge}
       → Makes floor (TakesItem old.thread (its_chain floor (lock_queue l.0)) ∷ []) old new
       → TakeLeg floor l mode (Spins 0) ComesIn old new
@@ -142,7 +161,7 @@ pub data TakeLeg (floor : Description) (l : LockNo) (mode : Mode) : TakeAt → T
       → TakeLeg floor l mode (Walks there) (Hops there) old new
   hops : {old new : Knowledge} (there to : Walk) → HopsOn floor (walk_of to) old new
       → TakeLeg floor l mode (Hops there) (Walks to) old new
-  resumes : {old new : Knowledge} (left : ℕ) → left ≤ 49
+  resumes : {old new : Knowledge} (left : ℕ) → left ≤ 48
       → Makes floor (Resumes old.thread (lock_queue l.0) BySignal ∷ []) old new
       → TakeLeg floor l mode (Walks walk.None) (Spins left) old new
   finds_out : {old new : Knowledge} (at : TakeAt) (i : Item)
@@ -215,16 +234,15 @@ next_at (Contends seen) = Again
 next_at (Walks there) = next_in_walk there
 next_at (Hops there) = Again
 
--- the lock's order is to be checked; where an exchange came first, it missed, and the thread holds nothing
+-- the lock's order is to be checked; where the thread holds nothing, its first exchange came before, and missed
 pub record BeginsTake (floor : Description) (l : LockNo) (mode : Mode) (p q : Pass Knowledge) :
     Type 0 where
   pub call : q.call ≡ calls.Take l mode Checks
   pub there : IsUnderTake floor l mode Checks q.view
   pub kept : kept_of q.view ≡ kept_of p.view
   pub missed : ℕ
-  pub once : missed ≤ 1
-  pub bare : 1 ≤ missed → p.view.share.held ≡ []
-  pub steps : MakesEach floor (replicate missed (Looks p.view.thread l.0 false ∷ [])) p.view q.view
+  pub first : missed ≡ first_misses p.view.share.held
+  pub steps : MakesEach floor (replicate missed (Looks p.view.thread l.0 true ∷ [])) p.view q.view
 
 -- a take has begun: it gained the lock at once, where its thread holds nothing, or is under way
 abbrev pub HasBegunTake : Description → LockNo → Mode → Next → Pass Knowledge → Pass Knowledge

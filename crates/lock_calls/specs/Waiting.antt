@@ -1,5 +1,5 @@
--- What a thread knows in the middle of a call. Looks of a release count nothing,
--- nor do those under a lock's chain; those of a blocking call's round count there.
+-- What a thread knows in the middle of a call. Looks of a release count nothing, nor do those under a lock's chain;
+-- those of a blocking call's round count, and so does its exchange before the round.
 use Rattle.std.specs.Prelude.{◌≡◌, ◌≢◌, ℕ, ◌+◌, ◌<◌, ◌≤◌, Bool, true, false, List, [], ◌∷◌, length, replicate, Option, Some, None}
 use Rattle.lock_model.specs.Holds.{NotHeld, Holds}
 use Rattle.lock_model.specs.History.{open_in}
@@ -27,7 +27,7 @@ use Rattle.lock_floor.specs.Passes.{CanStep, IsGoing}
 use Rattle.lock_floor.specs.Rounds.{gained_first}
 use Rattle.lock_floor.specs.Views.{counts, looked, gained}
 use Rattle.lock_floor.specs.Waits.{out_entered, entered}
-use Rattle.lock_calls.specs.Steps.{as_taken, gains_at_once, frees}
+use Rattle.lock_calls.specs.Steps.{as_taken, first_misses, gains_at_once, frees}
 
 -- 1. What stays
 
@@ -106,13 +106,14 @@ pub record HasLooked (floor : Description) (l n : ℕ) (old new : Knowledge) : T
 
 -- 3. A blocking call before it takes the chain
 
--- the thread may gain the lock by its first exchange, where its word is free: it can look and remembers no look,
--- doesn't hold the lock, has room for it, wants none, has nothing to note, and isn't in a wait
+-- the thread may gain the lock by its first exchange, where its word is free: it can look and remembers no look, none
+-- counts, it doesn't hold the lock, has room for it, wants none, has nothing to note, and isn't in a wait
 pub record MayGain (floor : Description) (l : ℕ) (v : Knowledge) : Type 0 where
   pub unheld : hold_in v.share.held l ≡ NotHeld
   pub few : length v.share.held < most_held
   pub wants_nothing : v.share.doing.wanted ≡ None
   pub unseen : v.share.doing.last_look ≡ None
+  pub no_looks : v.share.doing.looks ≡ 0
   pub unnoted : v.share.doing.noted ≡ None
   pub no_wait : is_taking_back v.share.log ≡ false
   pub no_walk : v.share.doing.walk ≡ NoWalk
@@ -136,26 +137,38 @@ in_round v l looks all last seen =
     } in
     record v { share = record v.share { doing = after } }
 
+-- with so many looks that count, so many in all, and others seen last
+abbrev pub with_looks_counted : Knowledge → ℕ → ℕ → Option Look → Option Look → Knowledge
+with_looks_counted v looks all last seen =
+    let after : Doing = record v.share.doing {
+      looks = looks;
+      looks_in_all = all;
+      last_look = last;
+      seen_in_section = seen;
+    } in
+    record v { share = record v.share { doing = after } }
+
 -- A call has begun without a gain: the thread's first exchange missed, where it holds nothing; or it made none, where
 -- it holds a lock.
 pub record HasMissed (floor : Description) (l : ℕ) (old new : Knowledge) : Type 0 where
   pub missed : ℕ
-  pub once : missed ≤ 1
-  pub bare : 1 ≤ missed → old.share.held ≡ []
+  pub first : missed ≡ first_misses old.share.held
+  pub looks : ℕ
+  pub counted : looks ≡ missed + old.share.doing.looks
   pub all : ℕ
   pub last : Option Look
   pub seen : Option Look
   pub its : (look : Look) → last ≡ Some look → (look.lock ≡ l) × (old.share.held ≡ [])
-  pub knows : new ≡ seeing new.seen (with_looks old all last seen)
-  pub steps : MakesEach floor (replicate missed (Looks old.thread l false ∷ [])) old new
+  pub knows : new ≡ seeing new.seen (with_looks_counted old looks all last seen)
+  pub steps : MakesEach floor (replicate missed (Looks old.thread l true ∷ [])) old new
 
--- The lock's order is to be checked: the thread doesn't hold the lock, has nothing out and no walk, looked in no round,
--- and may check
+-- The lock's order is to be checked: the thread doesn't hold the lock, has nothing out and no walk, and may check. Where
+-- looks count, they are its first exchanges, which missed, and it holds nothing
 pub record IsChecking (floor : Description) (l : ℕ) (v : Knowledge) : Type 0 where
   pub unheld : hold_in v.share.held l ≡ NotHeld
   pub may : MayOrder floor l v
   pub no_walk : v.share.doing.walk ≡ NoWalk
-  pub no_looks : v.share.doing.looks ≡ 0
+  pub bare : 1 ≤ v.share.doing.looks → v.share.held ≡ []
   pub nothing_out : v.out ≡ []
 
 -- The thread may begin a round of the lock, the order of which is checked: it runs and is awake, has nothing out and no
@@ -197,17 +210,6 @@ pub record IsSeeking (l : ℕ) (v : Knowledge) : Type 0 where
   pub nothing_out : v.out ≡ []
   pub going : IsGoing v
 
--- with so many looks in the round, so many in all, and others seen last
-abbrev pub with_round_looks : Knowledge → ℕ → ℕ → Option Look → Option Look → Knowledge
-with_round_looks v looks all last seen =
-    let after : Doing = record v.share.doing {
-      looks = looks;
-      looks_in_all = all;
-      last_look = last;
-      seen_in_section = seen;
-    } in
-    record v { share = record v.share { doing = after } }
-
 -- the thread made so many looks at the lock in its round, and knows nothing else anew
 pub record HasSpun (floor : Description) (l n : ℕ) (old new : Knowledge) : Type 0 where
   pub looks : ℕ
@@ -215,8 +217,12 @@ pub record HasSpun (floor : Description) (l n : ℕ) (old new : Knowledge) : Typ
   pub all : ℕ
   pub last : Option Look
   pub seen : Option Look
-  pub knows : new ≡ seeing new.seen (with_round_looks old looks all last seen)
+  pub knows : new ≡ seeing new.seen (with_looks_counted old looks all last seen)
   pub steps : MakesEach floor (replicate n (Looks old.thread l true ∷ [])) old new
+
+-- it saw that word of the lock last
+abbrev pub HasSeen : ℕ → Word → Knowledge → Type 0
+HasSeen l word v = v.share.doing.last_look ≡ Some (record { lock = l; word = word })
 
 -- it gained the lock behind so many looks
 pub record SpinsThenGains (floor : Description) (h : Held) (n : ℕ) (old new : Knowledge) :
@@ -245,7 +251,7 @@ pub record IsThere (floor : Description) (l : ℕ) (v : Knowledge) : Type 0 wher
 
 -- what it saw last there
 pub record Saw (l : ℕ) (word : Word) (v : Knowledge) : Type 0 where
-  pub last : v.share.doing.last_look ≡ Some (record { lock = l; word = word })
+  pub last : HasSeen l word v
   pub there : v.share.doing.seen_in_section ≡ Some (record { lock = l; word = word })
 
 -- it gained the mutex there

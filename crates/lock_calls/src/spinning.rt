@@ -14,8 +14,8 @@ ghost use Rattle.lock_floor.specs.declared.calls.TakeAt.TheVariants.{Spins};
 ghost use Rattle.lock_floor.specs.Passes.{IsOf};
 ghost use Rattle.lock_floor.specs.Views.{entry_by, stamped};
 ghost use Rattle.lock_calls.specs.Steps.{IsMutex, as_taken};
-ghost use Rattle.lock_calls.specs.Takes.{IsUnderTake, HasTaken, TakeEnd, TakesOn};
-ghost use Rattle.lock_calls.specs.Waiting.{MayGain, IsSeeking, GainsAtOnce, HasMissed, HasSpun, SpinsThenGains};
+ghost use Rattle.lock_calls.specs.Takes.{IsUnderTake, AsksOwner, HasTaken, TakeEnd, TakesOn};
+ghost use Rattle.lock_calls.specs.Waiting.{MayGain, IsSeeking, GainsAtOnce, HasMissed, HasSeen, HasSpun, SpinsThenGains};
 
 use lock_floor::{Floor, Pass, TakeAt};
 use lock_model::{Event, Held, LockNo, Mode, QueueName};
@@ -25,8 +25,8 @@ pub const FREE: u64 = 0;
 
 /// How often a thread looks after the first look of its round, or behind a sleep. Where it sees the lock free it tries,
 /// and an exchange that misses is a look as well: so from the begin or a sleep to the taking of the chain a take makes
-/// at most 100 looks, with the exchange before its round.
-pub const LOOKS: u32 = 49;
+/// at most 100 looks, with its first exchanges before the round, which are two at most.
+pub const LOOKS: u32 = 48;
 
 /// Gains a mutex by one exchange, where the thread holds no lock. `false` comes only where it holds one, or another
 /// thread was faster: then the exchange was a look. The mutex's order is to be checked then.
@@ -70,7 +70,7 @@ pub fn spin(floor: &Floor, pass: &mut Pass, l: LockNo, left: u32) -> Option<Take
             None
         }
         Err(seen) => {
-            if owner_is_queued(floor, seen) {
+            if owner_is_queued(floor, pass, seen) {
                 Some(TakeAt::Spins(0))
             } else {
                 Some(TakeAt::Spins(left - 1))
@@ -115,12 +115,16 @@ pub fn note_taken(floor: &Floor, pass: &mut Pass, l: LockNo) -> u32
     )
 }
 
-// Whether the owner that a word names is queued. It tells nothing.
-fn owner_is_queued(floor: &Floor, seen: u64) -> bool
-    requires { IsWellFormed (word_of seen) }
+// Finds out whether the owner that a word names is queued.
+fn owner_is_queued(floor: &Floor, pass: &mut Pass, seen: u64) -> bool
+    requires own { IsOf floor.now pass.old }
+    requires word { IsWellFormed (word_of seen) }
+    ensures own { IsOf floor.now pass.new }
+    ensures asks { AsksOwner floor.now.description (word_of seen) result
+        pass.old.view pass.new.view }
 {
     match lock_words::owner_of(seen) {
-        Some(owner) => floor.is_queued(owner),
+        Some(owner) => floor.find_queued(pass, owner),
         None => false,
     }
 }
@@ -135,6 +139,7 @@ fn attempt(floor: &Floor, pass: &mut Pass, l: LockNo) -> Result<(), u64>
     ensures gained { IfOk result (λ _. SpinsThenGains floor.now.description (as_taken l Excl) 1
         pass.old.view pass.new.view) }
     ensures word { IfErr result (λ seen. IsWellFormed (word_of seen)) }
+    ensures seen { IfErr result (λ seen. HasSeen l.0 (word_of seen) pass.new.view) }
     ensures spun { IfErr result (λ _. (n : ℕ) × (1 ≤ n) × (n ≤ 2)
         × HasSpun floor.now.description l.0 n pass.old.view pass.new.view) }
 {

@@ -1,11 +1,12 @@
 -- The chain of a lock's queue where the turnstile of the lock changes, and what the columns say of the other chains
 -- then: so it is in an enter, an open, a claim and each hop of a walk.
-use Rattle.std.proofs.Common.{◌≡◌, ◌≢◌, ℕ, ◌%◌, true, cond, Option, None, List, ◌∷◌, sym, ap, ◌∙◌}
+use Rattle.std.proofs.Common.{◌≡◌, ◌≢◌, ℕ, ◌%◌, Bool, true, false, cond, Option, None, List, ◌∷◌, refl, sym, ap, ◌∙◌}
 use Rattle.chain_table.specs.Chains.{head_of, without}
 use Rattle.chain_table.proofs.Lookups.{head_of-without_itself}
 use Rattle.lock_model.specs.Queues.{lock_queue}
 use Rattle.lock_model.specs.Words.{is_turnstile}
 use Rattle.lock_model.specs.declared.plan.QueueName.{QueueName}
+use Rattle.lock_model.specs.declared.plan.QueueName.TheVariants.{Lock, Chan}
 use Rattle.lock_objects.specs.Represents.{RepresentsHead, RepresentsQueue, queue_in}
 use Rattle.lock_objects.proofs.Chains.{all_placed, all_gone}
 use Rattle.lock_objects.proofs.Queues.{SameQueue, queue_stays}
@@ -19,6 +20,11 @@ use Rattle.floor_table.proofs.Objects.{SaySame}
 use Rattle.lock_floor.specs.Waits.{its_chain}
 use Rattle.lock_floor.proofs.ChainNames.{names_placed, names_without}
 
+-- what stands in a chain of turnstiles is the queue of a lock with one
+pub stands_by : (b : Bool) (k j : ℕ) → cond b (TurnstileChain k) (SleepChain k) ≡ TurnstileChain j → b ≡ true
+stands_by true k j e = refl
+stands_by false k j e = absurd (let z : SleepChain k ≡ TurnstileChain j = e in cc)
+
 module _ (floor : Description) (l : ℕ) (turnstile : is_turnstile ((config_in floor).kind l) ≡ true) where
   abbrev pub chain_of_lock : Item
   chain_of_lock = TurnstileChain (l % floor.chains)
@@ -31,17 +37,27 @@ module _ (floor : Description) (l : ℕ) (turnstile : is_turnstile ((config_in f
   elsewhere : (i : Item) (q : QueueName) → i ≢ chain_of_lock → StandsIn floor i q → q ≢ lock_queue l
   elsewhere i q ne there e = ne (sym there ∙ ap (its_chain floor) e ∙ its_own)
 
-  -- the columns of every other queue stay
-  module _ (s n : State)
-      (others : (q : QueueName) → q ≢ lock_queue l → SameQueue (queue_in s) (queue_in n) s.loan_home n.loan_home q)
-    where
+  module _ (s n : State) where
+    -- where the sleepers of every other queue stay, the chains of sleep queues say what they said
+    pub sleepers_same : ((q : QueueName) → q ≢ lock_queue l → sleepers (queue_in n q) ≡ sleepers (queue_in s q))
+        → (k : ℕ) → SaySame floor (objects_in s) (objects_in n) (SleepChain k)
+    sleepers_same others k q there = others q (elsewhere (SleepChain k) q (λ e. cc) there)
+
+    -- the columns of every other queue with a turnstile stay, and that of its node
+    module _ (others : (k : ℕ) → k ≢ l → is_turnstile ((config_in floor).kind k) ≡ true
+        → SameQueue (queue_in s) (queue_in n) s.loan_home n.loan_home (lock_queue k)) where
+      others_there : (k : ℕ) (q : QueueName) → StandsIn floor (TurnstileChain k) q → q ≢ lock_queue l
+          → SameQueue (queue_in s) (queue_in n) s.loan_home n.loan_home q
+      others_there k (Lock j) there ne =
+          others j.0 (λ e. ne (ap lock_queue e))
+          (stands_by (is_turnstile ((config_in floor).kind j.0)) (j.0 % floor.chains) k there)
+      others_there k (Chan d) there ne =
+          absurd (let z : SleepChain (d.0 % floor.chains) ≡ TurnstileChain k = there in cc)
+
       -- so the other chains say what they said
       pub turnstiles_same : (k : ℕ) → TurnstileChain k ≢ chain_of_lock
           → SaySame floor (objects_in s) (objects_in n) (TurnstileChain k)
-      turnstiles_same k ne q there = others q (elsewhere (TurnstileChain k) q ne there)
-
-      pub sleepers_same : (k : ℕ) → SaySame floor (objects_in s) (objects_in n) (SleepChain k)
-      sleepers_same k q there = ap sleepers (others q (elsewhere (SleepChain k) q (λ e. cc) there)).queue
+      turnstiles_same k ne q there = others_there k q there (elsewhere (TurnstileChain k) q ne there)
 
       module _ (chain : List (QueueName × Turnstile))
           (shows : RepresentsTurnstiles floor (l % floor.chains) chain (objects_in s)) where
@@ -52,7 +68,7 @@ module _ (floor : Description) (l : ℕ) (turnstile : is_turnstile ((config_in f
         others_shown r ne there =
             queue_stays (head_of r chain) {qs = queue_in s} {ns = queue_in
             n} {homes = s.loan_home} {homes_then = n.loan_home}
-            {q = r} (others r ne) (shows.queue r there)
+            {q = r} (others_there (l % floor.chains) r there ne) (shows.queue r there)
 
         -- another turnstile is in the place of the lock's, or where it had none
         pub chain_placed : (h : Turnstile) → RepresentsHead h.contents (queue_in n (lock_queue l)) n.loan_home

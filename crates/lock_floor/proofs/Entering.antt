@@ -16,6 +16,7 @@ use Rattle.lock_model.specs.Words as words
 use Rattle.lock_model.specs.Words.{word_of, owner_of}
 use Rattle.lock_model.specs.declared.plan.Mode.{Mode}
 use Rattle.lock_model.specs.declared.plan.QueueName.{QueueName}
+use Rattle.lock_model.specs.declared.plan.QueueName.TheVariants.{Lock, Chan}
 use Rattle.lock_objects.specs.Represents.{RepresentsRecord, RepresentsQueue, RecordColumns, QueueColumns, record_in, queue_in}
 use Rattle.lock_objects.specs.Enters.{CanStand, CanLend, waiter_of, record_entered, head_entered, chain_entered}
 use Rattle.lock_objects.proofs.Chains.{is_queue-other}
@@ -35,7 +36,7 @@ use Rattle.floor_table.specs.declared.description.Description.{Description}
 use Rattle.floor_table.specs.declared.slot.Slot.{Slot}
 use Rattle.floor_table.specs.declared.slot.Slot.TheVariants.{Record, Cell, Turnstiles, SleepQueues, Graph}
 use Rattle.floor_table.specs.Places.{spot, lock_line, lock_word, latch_word, slots_for, slot_of, home_at}
-use Rattle.floor_table.specs.Represents.{Board, RepresentsTurnstiles, IsPosed, RepresentsObjects, objects_in, thread_in}
+use Rattle.floor_table.specs.Represents.{Board, RepresentsTurnstiles, IsPosed, RepresentsObjects, objects_in, sleepers, thread_in}
 use Rattle.floor_table.specs.Rule.{FloorHolds}
 use Rattle.floor_table.specs.Shelves.{Shelves, found}
 use Rattle.floor_table.specs.Steps.{MayMake, Makes}
@@ -55,6 +56,11 @@ use Rattle.lock_floor.proofs.Taking.{record_at}
 use Rattle.lock_floor.proofs.TwoChanged.{shelf_both, two_changed}
 use Rattle.lock_floor.proofs.Waiting.{enter_own, enter_others}
 
+-- the number of what a queue is of
+abbrev number_of : QueueName → ℕ
+number_of (Lock l) = l.0
+number_of (Chan d) = d.0
+
 -- 1. What the columns say behind it
 
 module _ (floor : Description) (l : ℕ) (turnstile : words.is_turnstile ((config_in floor).kind l) ≡ true) where
@@ -63,7 +69,7 @@ module _ (floor : Description) (l : ℕ) (turnstile : words.is_turnstile ((confi
     n = after_enter s t l mode x
 
     -- the other queues and records stay
-    queue_other : (q : QueueName) → q ≢ lock_queue l → SameQueue (queue_in s) (queue_in n) s.loan_home n.loan_home q
+    queue_other : (q : QueueName) → q ≢ lock_queue l → queue_in n q ≡ queue_in s q
     unfolding after_enter
     queue_other q ne =
         let other = is_queue-other (lock_queue l) q (λ e. ne (sym e)) in
@@ -71,10 +77,12 @@ module _ (floor : Description) (l : ℕ) (turnstile : words.is_turnstile ((confi
         let lists_are : n.lists q ≡ s.lists q = put_queue_other s.lists (lock_queue l) _ q other in
         let free_list_is : n.free_list q ≡ s.free_list q = put_queue_other s.free_list (lock_queue l) _ q other in
         let owner_is : n.owner q ≡ s.owner q = put_queue_other s.owner (lock_queue l) _ q other in
-        record {
-          queue = λ i. record { head = head_is i; lists = lists_are i; free_list = free_list_is i; owner = owner_is i };
-          loan_home = λ y e. refl;
-        }
+        λ i. record { head = head_is i; lists = lists_are i; free_list = free_list_is i; owner = owner_is i }
+
+    others : (k : ℕ) → k ≢ l → words.is_turnstile ((config_in floor).kind k) ≡ true
+        → SameQueue (queue_in s) (queue_in n) s.loan_home n.loan_home (lock_queue k)
+    unfolding after_enter
+    others k ne its = record { queue = queue_other (lock_queue k) (λ e. ne (ap number_of e)); loan_home = λ y e. refl }
 
     record_other : (u : ℕ) → u ≢ t → record_in n u ≡ record_in s u
     unfolding after_enter
@@ -86,8 +94,9 @@ module _ (floor : Description) (l : ℕ) (turnstile : words.is_turnstile ((confi
     says_same : (k : Item) → k ≢ RecordOf t → k ≢ chain_of_lock floor l turnstile
         → SaySame floor (objects_in s) (objects_in n) k
     unfolding after_enter
-    says_same (TurnstileChain k) no_record no_chain = turnstiles_same floor l turnstile s n queue_other k no_chain
-    says_same (SleepChain k) no_record no_chain = sleepers_same floor l turnstile s n queue_other k
+    says_same (TurnstileChain k) no_record no_chain = turnstiles_same floor l turnstile s n others k no_chain
+    says_same (SleepChain k) no_record no_chain =
+        sleepers_same floor l turnstile s n (λ q ne. ap sleepers (queue_other q ne)) k
     says_same (RecordOf u) no_record no_chain = record_other u (λ e. no_record (ap RecordOf e))
     says_same (CellOf k key) no_record no_chain = refl
     says_same ClassGraph no_record no_chain = refl
@@ -105,7 +114,7 @@ module _ (floor : Description) (l : ℕ) (turnstile : words.is_turnstile ((confi
         let there : Option Turnstile = head_of (lock_queue l) chain in
         subst (λ (z : Option ℕ × Waiter). RepresentsTurnstiles floor (l % floor.chains)
         (chain_entered l (side_of mode) x z.0 z.1 chain) (objects_in n)) (λ i. (sym is i, sym w i))
-        (chain_placed floor l turnstile s n queue_other chain shows
+        (chain_placed floor l turnstile s n others chain shows
         (head_entered l (side_of mode) x (owner_of (s.word l).holder) (record { thread = t; kept = s.effective t })
         there)
         (head_shown s t l mode x there can (shows.queue (lock_queue l) (its_own floor l turnstile))))

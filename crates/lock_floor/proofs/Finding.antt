@@ -1,9 +1,12 @@
 -- A look finds the word that the lock has in the state to which all steps before it lead.
-use Rattle.std.proofs.Common.{◌≡◌, ℕ, Bool, Some, List, [], ◌∷◌, refl, sym, ap, ◌∙◌, subst}
+use Rattle.std.proofs.Common.{◌≡◌, ℕ, Bool, Some, List, [], ◌∷◌, refl, sym, ap, ◌∙◌, subst, arith}
+use Rattle.lock_laws.specs.Words.{CanBeSeen}
 use Rattle.lock_laws.proofs.Kit.{put_same}
+use Rattle.lock_laws.proofs.SeenWords.{can_be_seen}
+use Rattle.lock_model.specs.Holds.{NotHeld}
 use Rattle.lock_model.specs.Operations.{hold_in}
 use Rattle.lock_state.specs.State.{State}
-use Rattle.lock_state.specs.Steps.{Step, Looks, after, after_all}
+use Rattle.lock_state.specs.Steps.{Step, Looks, after, after_all, IsReachable, begins, goes_on}
 use Rattle.lock_state.specs.Steps.LockWords.{after_look}
 use Rattle.floor_table.specs.Descriptions.{config_in}
 use Rattle.floor_table.specs.declared.description.Description.{Description}
@@ -49,6 +52,12 @@ held_then floor steps old new m l =
 
 -- 3. What a look finds
 
+-- the state was reached by steps
+reachable : (floor : Description) {past : List Step} {s : State} → LeadsTo floor past s
+    → IsReachable (config_in floor) s
+reachable floor none = begins
+reachable floor (more step r allowed) = goes_on (reachable floor r) (step, allowed.fits.may, refl)
+
 module _ (floor : Description) (l : ℕ) (counts : Bool) (old new : Knowledge)
     (m : Makes floor (Looks old.thread l counts ∷ []) old new) where
   abbrev n : State
@@ -65,6 +74,14 @@ module _ (floor : Description) (l : ℕ) (counts : Bool) (old new : Knowledge)
   behind =
       let steps : List Step = Looks old.thread l counts ∷ [] in
       sound_kept floor m.state steps m.may m.sound
+
+  -- the word of a lock that the thread doesn't hold is one that such a thread can see
+  pub finds_of_others : hold_in old.share.held l ≡ NotHeld → CanBeSeen ((config_in floor).kind l) (m.state.word l)
+  finds_of_others unheld =
+      let g = m.may.0.fits.may in
+      can_be_seen (config_in floor) m.state old.thread l
+      (omega (arith, m.represents.sizes.sized.threads)) g.thread
+      (held_then floor (Looks old.thread l counts ∷ []) old new m l ∙ unheld) (reachable floor m.sound.reached)
 
   -- a look leaves the words, so one right behind it finds the same
   pub finds_it_again : (again : Bool) (last : Knowledge) (k : Makes floor (Looks new.thread l again ∷ []) new last)

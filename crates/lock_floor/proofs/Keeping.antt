@@ -16,6 +16,7 @@ use Rattle.lock_objects.specs.Represents.{RepresentsRecord}
 use Rattle.turnstile_core.specs.Seen.{Turnstile}
 use Rattle.sleep_queues.specs.Seen.{SleepQueue}
 use Rattle.witness_orders.specs.Graph as orders
+use Rattle.witness_orders.specs.Graph.{RepresentsGraph}
 use Rattle.lock_state.specs.State.{State, start_state}
 use Rattle.lock_state.specs.Steps.{Step}
 use Rattle.lock_state.specs.Steps.Items.{Item, TurnstileChain, SleepChain, RecordOf, CellOf, ClassGraph, item_with}
@@ -32,7 +33,7 @@ use Rattle.floor_table.specs.Places.{spot, lock_line, wait_line, latch_line, tic
 use Rattle.floor_table.specs.Shares.{Share}
 use Rattle.floor_table.specs.Shelves.{Shelves}
 use Rattle.floor_table.specs.Views.{OfThread, OfNobody, Knowledge, nothing, keeper}
-use Rattle.floor_table.specs.Represents.{Board, words_in, RepresentsWords, RepresentsLatches, taken_from, HasNames, RepresentsTurnstiles, RepresentsSleepChain, RepresentsGraph, RepresentsObjects, IsOf, objects_in, seat, keeper_in, thread_in, total, spare, live, IsSeatOf, IsTakenIn, IsPosed, RepresentsSeats, Represents}
+use Rattle.floor_table.specs.Represents.{Board, words_in, RepresentsWords, RepresentsLatches, taken_from, HasNames, RepresentsTurnstiles, RepresentsSleepChain, RepresentsObjects, IsOf, objects_in, seat, keeper_in, thread_in, total, spare, live, IsSeatOf, IsTakenIn, IsPosed, RepresentsSeats, Represents}
 use Rattle.floor_table.specs.Rule.{FloorHolds}
 use Rattle.floor_table.proofs.Items.{record_place, its_part, place_low}
 use Rattle.floor_table.proofs.Lists.{inside, at_or, or_past, snoc_before, snoc_there}
@@ -254,10 +255,10 @@ module _ (floor : Description) where
   first_sleep_queues k = record { names = no_names SleepQueue (SleepChain k); queue = λ q there. refl }
 
   first_graph : (g : orders.Graph) → ((l : ℕ) → l < length floor.locks → (config_in floor).class l < g.classes)
-      → g.edges ≡ [] → RepresentsGraph floor g (objects_in start).edges
+      → g.edges ≡ [] → RepresentsGraph (config_in floor) g (objects_in start).edges
   unfolding start_state
   first_graph g classes none =
-      record { classes = classes; same = subst (λ es. HaveSameEdges es []) (sym none) (λ a b. refl) }
+      record { classes = classes; edges = subst (λ es. HaveSameEdges es []) (sym none) (λ a b. refl) }
 
   -- each sort of value is where its sort of item is
   first_value : (i : Item) (j : ℕ) (x : Slot) → slot_of floor i ≡ Some j → IsFirst floor j x

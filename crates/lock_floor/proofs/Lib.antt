@@ -31,10 +31,13 @@ pub mod Entering
 pub mod MayWait
 pub mod InSection
 pub mod Resuming
+pub mod FoundQueued
 pub mod MarkStep
 pub mod OpenStep
 pub mod Opened
 pub mod OpenCall
+pub mod ClaimStep
+pub mod ClaimCall
 pub mod MayWake
 pub mod MarkedRecords
 pub mod MarkCall

@@ -1,6 +1,6 @@
 -- A look at a lock's word: a load of the word, or an exchange that misses. It may be made on each table, and tells what
 -- the thread's seat knows then.
-use Rattle.std.proofs.Common.{◌≡◌, ℕ, ◌<◌, Bool, true, false, not, ◌&&◌, List, [], ◌∷◌, length, Option, Some, None, refl, sym, ap, ◌∙◌, subst, arith, eq-eqb}
+use Rattle.std.proofs.Common.{◌≡◌, ℕ, ◌<◌, Bool, true, false, not, ◌&&◌, ◌||◌, List, [], ◌∷◌, length, Option, Some, None, refl, sym, ap, ◌∙◌, subst, arith, eq-eqb}
 use Rattle.std.proofs.lemmas.Bool.{ne_eqb}
 use Rattle.atomic_table.specs.Table.{Me, keeps, Allows}
 use Rattle.lock_laws.proofs.AtTurn.{well_formed}
@@ -110,7 +110,7 @@ module _ (floor : Description) (me : Me Slot Knowledge) (l : ℕ) (was : me.0.ro
         let found = found_word floor b v h l low in
         let chain = chain_of v.description.chains (config_in v.description) l in
         let away : has_item v chain ≡ false = no_chain b h may in
-        let counted : counts x l ≡ true = (λ i. eq-eqb l l refl i && not (away i)) in
+        let counted : counts x l ≡ true = (λ i. (eq-eqb l l refl i || false) && not (away i)) in
         let share : RepresentsShare (looked x l (s.word l)).share n v.thread =
         subst (λ c. RepresentsShare (looked x l (s.word l)).share (after_look s v.thread l c) v.thread) counted (look_own s x (seek_own h.state v h.fits.share l by_try) l) in
         let own : OwnSteps v w h.past both h.state n = record {

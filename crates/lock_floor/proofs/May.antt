@@ -1,5 +1,5 @@
 -- What a thread's seat knows allows its steps: they may be made in whatever state fits it.
-use Rattle.std.proofs.Common.{◌≡◌, ◌≢◌, ◌⊎◌, ℕ, ◌<◌, Bool, true, false, not, ◌&&◌, Option, Some, None, [], ◌∷◌, length, refl, sym, ap, ◌∙◌, subst, inl, inr, arith, eq-eqb}
+use Rattle.std.proofs.Common.{◌≡◌, ◌≢◌, ◌⊎◌, ℕ, ◌<◌, Bool, true, false, not, ◌&&◌, ◌||◌, Option, Some, None, [], ◌∷◌, length, refl, sym, ap, ◌∙◌, subst, inl, inr, arith, eq-eqb}
 use Rattle.std.proofs.lemmas.Bool.{ne_eqb}
 use Rattle.std.proofs.lemmas.Option.{same_Some}
 use mathlib.Core.Option as slots
@@ -9,15 +9,16 @@ use Rattle.lock_laws.proofs.Kit.{put_same}
 use Rattle.lock_laws.proofs.OwnEntries.{own_section}
 use Rattle.lock_model.specs.Config.{Config}
 use Rattle.lock_model.specs.History.{open_in}
-use Rattle.lock_model.specs.Holds.{NotHeld, Holds}
+use Rattle.lock_model.specs.Holds.{Hold, NotHeld, Holds}
 use Rattle.lock_model.specs.Operations.{hold_in}
 use Rattle.lock_model.specs.Queues.{lock_queue}
 use Rattle.lock_model.specs.Words.{Word, admits, is_plain, is_drop}
 use Rattle.lock_model.specs.declared.event.Event.{Event}
+use Rattle.lock_model.specs.declared.plan.Kind.TheVariants.{Mtx}
 use Rattle.lock_model.specs.declared.plan.Mode.{Mode}
 use Rattle.lock_state.specs.Facts.{LogsAreParts, OnlyLocksAreHeld}
 use Rattle.lock_state.specs.State.{State, Look, Round, Running, Queued, Awake, SleepHalted, is_parked, gained_order}
-use Rattle.lock_state.specs.Steps.{Looks, Seeks, Gains, Drops, TakesItem, GivesItem, chain_of, seeks, is_with, counts_as_look, Stamps, FitsRound, IsItem, IsOfRound, HasItem, HasOutForEntry, NotesInRound, EndsTake, ends_sleep, is_halting, IsHalting, IsFirstExchange, IsRunnable, OwesNoStep, GoesOn, NeedsNoAdmission, IsRoundOfWanted, GainsInOrder}
+use Rattle.lock_state.specs.Steps.{Looks, Seeks, Gains, Drops, TakesItem, GivesItem, chain_of, seeks, is_first, is_with, counts_as_look, Stamps, FitsRound, IsItem, IsOfRound, HasItem, HasOutForEntry, NotesInRound, EndsTake, ends_sleep, is_halting, IsHalting, IsFirstExchange, IsSecondExchange, IsRunnable, OwesNoStep, GoesOn, NeedsNoAdmission, IsRoundOfWanted, GainsInOrder}
 use Rattle.lock_state.specs.Steps.Items.{Item, TurnstileChain, SleepChain, RecordOf, CellOf, ClassGraph, item_with, IsOnItsWay, MayCheckOrders, IsDoneWith}
 use Rattle.lock_state.specs.Steps.LockWords.{Asks, IsActing, is_woken, is_taking_back, round_of, taking_from, after_seek}
 use Rattle.floor_table.specs.Descriptions.{config_in}
@@ -47,15 +48,32 @@ is_record_or_cell (RecordOf u) = true
 is_record_or_cell (CellOf l key) = true
 is_record_or_cell ClassGraph = false
 
-and_true : (b : Bool) → (b && true) ≡ b
-and_true true = refl
-and_true false = refl
+-- in a round, a look that counts is at the round's lock
+of_its_round : (o : Option Round) (h : Hold) (away : Bool) (l : ℕ) → o ≢ None
+    → ((seeks l o || is_first o h) && away) ≡ true → seeks l o ≡ true
+of_its_round None h away l ne e = absurd (ne refl)
+of_its_round (Some r) h away l ne e = go (seeks l (Some r)) (both_true (seeks l (Some r) || false) away e).0
+  where
+    go : (b : Bool) → (b || false) ≡ true → b ≡ true
+    go true e = refl
+    go false e = absurd cc
 
--- a thread that makes the first exchange of a call wants and takes nothing, and remembers no look
+-- a thread that makes the first exchange of a call wants and takes nothing, remembers no look, and none counts
 pub record BeginsCall (v : Knowledge) : Type 0 where
   pub wants : v.share.doing.wanted ≡ None
   pub takes : v.share.doing.taking ≡ None
   pub unseen : v.share.doing.last_look ≡ None
+  pub no_looks : v.share.doing.looks ≡ 0
+
+-- a thread that makes the second exchange of a call at that lock, which is no mutex: it wants, takes and holds nothing,
+-- its last look was at the lock, and is the one that counts
+pub record ExchangesAgain (floor : Description) (l : ℕ) (v : Knowledge) : Type 0 where
+  pub kind : (config_in floor).kind l ≢ Mtx
+  pub wants : v.share.doing.wanted ≡ None
+  pub takes : v.share.doing.taking ≡ None
+  pub bare : v.share.held ≡ []
+  pub behind : (look : Look) × (v.share.doing.last_look ≡ Some look) × (look.lock ≡ l)
+  pub once : v.share.doing.looks ≡ 1
 
 -- a take of the thread needs no admission: it holds nothing, has nothing to note, and isn't in a wait
 pub record TakesFreely (v : Knowledge) : Type 0 where
@@ -150,8 +168,10 @@ module _ (floor : Description) (v : Knowledge) where
     counts_it mine l =
         let chain : chain_of v.description.chains (config_in v.description) l ≡ chain_of floor.chains c l =
         ap (λ (d : Description). chain_of d.chains (config_in d) l) mine in
-        (λ i. seeks l (sym (doing_it (λ d. d.round)) i) && not (has_item v (chain i)))
-        ∙ ap (λ b. seeks l (s.round t) && not b) (its_item mine (chain_of floor.chains c l))
+        (λ i. (seeks l (sym (doing_it (λ d. d.round)) i)
+        || is_first (sym (doing_it (λ d. d.round)) i) (sym (holds_it l) i)) && not (has_item v (chain i)))
+        ∙ ap (λ b. (seeks l (s.round t) || is_first (s.round t) (s.held t l)) && not b)
+        (its_item mine (chain_of floor.chains c l))
 
     -- a lock that it holds is one of the floor's
     pub its_lock : (l : ℕ) (mode : Mode) → hold_in v.share.held l ≡ Holds mode → l < length floor.locks
@@ -203,7 +223,25 @@ module _ (floor : Description) (v : Knowledge) where
         wants = doing_it (λ d. d.wanted) ∙ b.wants;
         takes = doing_it (λ d. d.taking) ∙ b.takes;
         unseen = doing_it (λ d. d.last_look) ∙ b.unseen;
+        first = doing_it (λ d. d.looks) ∙ b.no_looks;
       }
+
+      second_exchange : (l : ℕ) → ExchangesAgain floor l v → IsSecondExchange c s t l
+      second_exchange l a = record {
+        kind = a.kind;
+        acting = is_acting runs;
+        wants = doing_it (λ d. d.wanted) ∙ a.wants;
+        takes = doing_it (λ d. d.taking) ∙ a.takes;
+        bare = sym (column (λ x. x.held_locks)) ∙ ap gained_order a.bare;
+        behind = (a.behind.0, doing_it (λ d. d.last_look) ∙ a.behind.1, a.behind.2);
+        once = doing_it (λ d. d.looks) ∙ a.once;
+      }
+
+      -- an exchange outside a round is one of these
+      call_exchange : (l : ℕ) → BeginsCall v ⊎ ExchangesAgain floor l v
+          → IsFirstExchange s t ⊎ (IsSecondExchange c s t l ⊎ IsHalting s t)
+      call_exchange l (inl b) = inl (first_exchange b)
+      call_exchange l (inr a) = inr (inl (second_exchange l a))
 
     -- how it keeps to the order of locks
 
@@ -250,13 +288,28 @@ module _ (floor : Description) (v : Knowledge) where
   pub counts_there : (l : ℕ) (by_try : Bool) → v.out ≡ [] → v.share.doing.round ≡ Some (round_of l by_try)
       → counts v l ≡ true
   counts_there l by_try empty round =
-      (λ i. seeks l (round i) && not (none_has empty (chain_of v.description.chains (config_in v.description) l) i))
-      ∙ and_true (seeks l (Some (round_of l by_try))) ∙ eq-eqb l l refl
+      (λ i. (seeks l (round i) || is_first (round i) (hold_in v.share.held l))
+      && not (none_has empty (chain_of v.description.chains (config_in v.description) l) i))
+      ∙ (λ i. (eq-eqb l l refl i || false) && true)
+
+  -- outside a round a look at a lock that it doesn't hold counts, and one at a lock that it holds doesn't
+  pub counts_first : (l : ℕ) → v.out ≡ [] → v.share.doing.round ≡ None → hold_in v.share.held l ≡ NotHeld
+      → counts v l ≡ true
+  counts_first l empty none unheld i =
+      (seeks l (none i) || is_first (none i) (unheld i))
+      && not (none_has empty (chain_of v.description.chains (config_in v.description) l) i)
+
+  pub counts_not : (l : ℕ) (mode : Mode) → v.share.doing.round ≡ None → hold_in v.share.held l ≡ Holds mode
+      → counts v l ≡ false
+  counts_not l mode none held i =
+      (seeks l (none i) || is_first (none i) (held i))
+      && not (has_item v (chain_of v.description.chains (config_in v.description) l))
 
   pub may_look : (l : ℕ) → v.description ≡ floor → l < length floor.locks → v.pose ≡ Runs → v.out ≡ [] → IsGoing v
       → (counts v l ≡ true → v.share.doing.looks < 100) → (v.share.doing.round ≢ None → counts v l ≡ true)
       → (v.share.doing.round ≡ None → v.share.doing.taking ≡ None)
-      → (v.share.doing.round ≡ None → hold_in v.share.held l ≡ NotHeld → BeginsCall v) → WantsItsRound v
+      → (v.share.doing.round ≡ None → hold_in v.share.held l ≡ NotHeld → BeginsCall v ⊎ ExchangesAgain floor l v)
+      → WantsItsRound v
       → MayMake floor v (λ s. Unit {0}) (Looks t l (counts v l) ∷ [])
   may_look l mine low runs empty going few of_round takes first wants s f _ =
       let round : s.round t ≡ v.share.doing.round = doing_it s f (λ d. d.round) in
@@ -268,12 +321,12 @@ module _ (floor : Description) (v : Knowledge) where
             has_out = tt;
             has_seen = record {
               counts = counted;
-              of_round = λ ne. ap (seeks l) round ∙ seeks_it l (of_round (λ e. ne (round ∙ e)));
+              of_round = λ ne. ap (seeks l) round ∙ seeks_it (λ e. ne (round ∙ e));
               in_chain = λ i x out. absurd (nothing_with s f empty i out);
               outside = λ i n x out. absurd (nothing_with s f empty i out);
               outside_takes = λ none. inl (doing_it s f (λ d. d.taking) ∙ takes (sym round ∙ none));
-              outside_first = λ none unheld. inl (first_exchange s f runs going
-                  (first (sym round ∙ none) (sym (holds_it s f l) ∙ unheld)));
+              outside_first = λ none unheld. call_exchange s f runs going l
+                  (first (sym round ∙ none) (sym (holds_it s f l) ∙ unheld));
               halting = λ e. absurd (not_halting s f runs going e);
             };
             asks_of_thread = record { runs = inl (is_awake s f runs going); owes = owes_none s f runs going };
@@ -286,15 +339,15 @@ module _ (floor : Description) (v : Knowledge) where
         tt,
       )
     where
-      seeks_it : (l : ℕ) → counts v l ≡ true → seeks l v.share.doing.round ≡ true
-      seeks_it l e = (both_true (seeks l v.share.doing.round) _ e).0
+      seeks_it : v.share.doing.round ≢ None → seeks l v.share.doing.round ≡ true
+      seeks_it ne = of_its_round v.share.doing.round (hold_in v.share.held l) _ l ne (of_round ne)
 
       -- what is taken is looked at in its round alone
       of_the_round : s.taking t ≡ Some l → (o : Option Round) → v.share.doing.round ≡ o → seeks l (s.round t) ≡ true
       of_the_round e None none = absurd
           (let z : None ≡ Some l = sym (doing_it s f (λ d. d.taking) ∙ takes none) ∙ e in cc)
       of_the_round e (Some r) some = ap (seeks l) (doing_it s f (λ d. d.round))
-          ∙ seeks_it l (of_round (λ none. let z : Some r ≡ None = sym some ∙ none in cc))
+          ∙ seeks_it (λ none. let z : Some r ≡ None = sym some ∙ none in cc)
 
   -- the begin of a round, with a first look or with a gain
 
@@ -364,10 +417,9 @@ module _ (floor : Description) (v : Knowledge) where
             may = record { thread = f.thread; lock = low; room = λ _. subst (λ n. n < 100) (sym looks) (omega arith) };
             has_out = tt;
             has_seen = record {
-              counts = sym (ap (λ r. seeks l r && not (is_with t (item_with s (chain_of floor.chains c l)))) begun
-                  ∙ ap (λ x. seeks l (Some (round_of l by_try)) && not x)
-                  (no_item s f b.nothing_out (chain_of floor.chains c l)) ∙ and_true (seeks l (Some (round_of l by_try)))
-                  ∙ of_round);
+              counts = sym (ap (λ r. (seeks l r || is_first r (s.held t l))
+                  && not (is_with t (item_with s (chain_of floor.chains c l)))) begun
+                  ∙ (λ i. (of_round i || false) && not (no_item s f b.nothing_out (chain_of floor.chains c l) i)));
               of_round = λ _. ap (seeks l) begun ∙ of_round;
               in_chain = λ i x out. absurd (nothing_with s f b.nothing_out i out);
               outside = λ i n x out. absurd (nothing_with s f b.nothing_out i out);

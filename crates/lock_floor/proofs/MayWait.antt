@@ -1,7 +1,7 @@
 -- What a thread's seat knows allows its steps on the way to a queue: it takes the chain of the queue and then its own
 -- record, says in its wait word that it is queued, looks at the lock's word, and gains the lock or stands on its queue;
 -- and then it gives both back.
-use Rattle.std.proofs.Common.{◌≡◌, ◌≢◌, ◌⊎◌, ℕ, ◌<◌, ◌≤◌, ◌%◌, Bool, true, false, not, ◌&&◌, cond, Option, Some, None, List, [], ◌∷◌, length, refl, sym, ap, ◌∙◌, subst, inl, inr, arith, eq-eqb}
+use Rattle.std.proofs.Common.{◌≡◌, ◌≢◌, ◌⊎◌, ℕ, ◌<◌, ◌≤◌, ◌%◌, Bool, true, false, not, ◌&&◌, ◌||◌, cond, Option, Some, None, List, [], ◌∷◌, length, refl, sym, ap, ◌∙◌, subst, inl, inr, arith, eq-eqb}
 use Rattle.std.specs.declared.alloc.Global.{Global}
 use Rattle.std.specs.declared.boxed.Box.{Box}
 use Rattle.std.proofs.Math.Nat.{mod-lt}
@@ -12,15 +12,15 @@ use Rattle.lock_model.specs.History.{open_in}
 use Rattle.lock_model.specs.Holds.{NotHeld}
 use Rattle.lock_model.specs.Operations.{hold_in}
 use Rattle.lock_model.specs.Queues.{lock_queue, chan_queue}
-use Rattle.lock_model.specs.Words.{Word, admits, is_plain, is_free, is_turnstile}
-use Rattle.lock_model.specs.declared.plan.Kind.TheVariants.{Mtx}
+use Rattle.lock_model.specs.Words.{Word, admits, is_plain, is_free, is_turnstile, shows_waiters}
+use Rattle.lock_model.specs.declared.plan.Kind.TheVariants.{Mtx, Rw}
 use Rattle.lock_model.specs.declared.plan.Mode.{Mode}
 use Rattle.lock_model.specs.declared.plan.Mode.TheVariants.{Excl}
 use Rattle.lock_model.specs.declared.plan.QueueName.{QueueName}
 use Rattle.lock_model.specs.declared.plan.QueueName.TheVariants.{Lock, Chan}
 use Rattle.lock_objects.specs.Represents.{RecordColumns}
 use Rattle.lock_state.specs.State.{State, Wait, Running, Queued, NoWalk, Round, SleepHalted, is_parked}
-use Rattle.lock_state.specs.Steps.{Looks, Gains, Readies, Unreadies, Enters, TakesItem, GivesItem, seeks, is_with, FitsRound, IsItem, IsOfRound, HasItem, is_halting, IsRunnable}
+use Rattle.lock_state.specs.Steps.{Looks, Gains, Claims, Readies, Unreadies, Enters, TakesItem, GivesItem, seeks, is_first, is_with, FitsRound, GainsFromLook, IsItem, IsOfRound, HasItem, is_halting, IsRunnable}
 use Rattle.lock_state.specs.Steps.Items.{Item, TurnstileChain, SleepChain, RecordOf, item_with, go_together, is_chain, is_bound, in_its_chain, IsOnItsWay, IsSettled, IsDoneWith, MayCheckOrders}
 use Rattle.lock_state.specs.Steps.LockWords.{IsActing, is_woken, is_taking_back, round_of, bound_to}
 use Rattle.thread_records.specs.declared.record.ThreadRec.{ThreadRec}
@@ -379,9 +379,10 @@ module _ (floor : Description) (v : Knowledge) where
     look_there mine of_round releases s f _ =
         let round : s.round t ≡ v.share.doing.round = doing_it floor v s f (λ d. d.round) in
         let counted = counts_it floor v s f mine l in
+        let asks : Bool = seeks l (s.round t) || is_first (s.round t) (s.held t l) in
         let uncounted : counts v l ≡ false =
-        counted ∙ ap (λ o. seeks l (s.round t) && not (is_with t o)) (chain_out_now (lock_queue l) y x out s f)
-        ∙ ap (λ b. seeks l (s.round t) && not b) (eq-eqb t t refl) ∙ and_false (seeks l (s.round t)) in
+        counted ∙ ap (λ o. asks && not (is_with t o)) (chain_out_now (lock_queue l) y x out s f)
+        ∙ ap (λ b. asks && not b) (eq-eqb t t refl) ∙ and_false asks in
         let held : s.round t ≡ None → s.held t l ≢ NotHeld = λ none e.
         (releases (sym round ∙ none)).0 (sym (holds_it floor v s f l) ∙ e) in (
           record {
@@ -437,7 +438,23 @@ module _ (floor : Description) (v : Knowledge) where
         → v.share.doing.taking ≡ None → MayMake floor v (λ s. Unit {0}) (Looks t l (counts v l) ∷ [])
     may_look_held mine none held takes = look_there mine (λ ne. absurd (ne none)) (λ _. (held, takes))
 
-    -- a gain of the round's lock, of which what was seen last under the chain admits the mode
+    -- what was seen last under the chain admits the mode in which the round's lock is gained
+    gain_seen : (mode : Mode) (by_try : Bool) → seeks l v.share.doing.round ≡ true
+        → FitsRound v.share.doing.round l by_try
+        → ((w : Word) → v.share.doing.seen_in_section ≡ Some (record { lock = l; word = w })
+        → admits (c.kind l) w mode ≡ true)
+        → ((k : ℕ) → v.share.doing.taking ≡ Some k → k ≡ l) → (by_try ≡ false → v.share.doing.taking ≡ Some l)
+        → (s : State) → Fits floor v s → GainsFromLook floor.chains c s t l mode by_try
+    gain_seen mode by_try of_round fits saw others takes s f = record {
+      fits = subst (λ r. FitsRound r l by_try) (sym (doing_it floor v s f (λ d. d.round))) fits;
+      in_round = λ none has. under_way s f of_round none;
+      saw = λ w has seen. saw w (sym (doing_it floor v s f (λ d. d.seen_in_section)) ∙ seen);
+      outside_first = λ none. absurd (under_way s f of_round none);
+      others = λ k e. others k (sym (doing_it floor v s f (λ d. d.taking)) ∙ e);
+      takes = λ e. doing_it floor v s f (λ d. d.taking) ∙ takes e;
+    }
+
+    -- a gain of that lock,
     pub may_gain_there : (mode : Mode) (by_try : Bool) (word : Word) → admits (c.kind l) word mode ≡ true
         → is_plain (c.kind l) word mode ≡ true → hold_in v.share.held l ≡ NotHeld
         → (v.share.doing.wanted ≡ Some l) ⊎ (v.share.doing.wanted ≡ None) → seeks l v.share.doing.round ≡ true
@@ -449,7 +466,6 @@ module _ (floor : Description) (v : Knowledge) where
         → MayMake floor v (λ s. s.word l ≡ word) (Gains t l mode by_try ∷ [])
     may_gain_there mode by_try word admitted plain unheld wants of_round fits saw others takes ordered unhalted off
         s f its =
-        let round : s.round t ≡ v.share.doing.round = doing_it floor v s f (λ d. d.round) in
         let wanted : s.wanted t ≡ v.share.doing.wanted = doing_it floor v s f (λ d. d.wanted) in (
           record {
             fits = record {
@@ -463,14 +479,45 @@ module _ (floor : Description) (v : Knowledge) where
                 wants = subst (λ w. (w ≡ Some l) ⊎ (w ≡ None)) (sym wanted) wants;
               };
               has_out = tt;
-              has_seen = record {
-                fits = subst (λ r. FitsRound r l by_try) (sym round) fits;
-                in_round = λ none has. under_way s f of_round none;
-                saw = λ w has seen. saw w (sym (doing_it floor v s f (λ d. d.seen_in_section)) ∙ seen);
-                outside_first = λ none. absurd (under_way s f of_round none);
-                others = λ k e. others k (sym (doing_it floor v s f (λ d. d.taking)) ∙ e);
-                takes = λ e. doing_it floor v s f (λ d. d.taking) ∙ takes e;
+              has_seen = gain_seen mode by_try of_round fits saw others takes s f;
+              asks_of_thread = record {
+                runs = awake_now s f going;
+                owes = record { added = not_away s f awake; stamped = stamped_now s f going };
               };
+            };
+            keeps_order = gains_in_order floor v s f l by_try ordered others unhalted;
+          },
+          tt,
+        )
+
+    -- and a claim, of whatever turnstile stands there
+    pub may_claim_there : (by_try : Bool) (word : Word) → c.kind l ≡ Rw → is_free word.holder ≡ true
+        → shows_waiters word ≡ true → hold_in v.share.held l ≡ NotHeld
+        → (v.share.doing.wanted ≡ Some l) ⊎ (v.share.doing.wanted ≡ None) → seeks l v.share.doing.round ≡ true
+        → FitsRound v.share.doing.round l by_try
+        → ((w : Word) → v.share.doing.seen_in_section ≡ Some (record { lock = l; word = w })
+        → admits (c.kind l) w Excl ≡ true)
+        → ((k : ℕ) → v.share.doing.taking ≡ Some k → k ≡ l) → (by_try ≡ false → v.share.doing.taking ≡ Some l)
+        → (by_try ≡ false → IsOrderedTake l v) → IsUnhalted v → is_off_queues v.pose ≡ true → (h : ℕ)
+        → MayMake floor v (λ s. (s.word l ≡ word) × (s.head (lock_queue l) ≡ Some h)) (Claims t l h by_try ∷ [])
+    may_claim_there by_try word kind free shown unheld wants of_round fits saw others takes ordered unhalted off h
+        s f its =
+        let wanted : s.wanted t ≡ v.share.doing.wanted = doing_it floor v s f (λ d. d.wanted) in (
+          record {
+            fits = record {
+              may = record {
+                thread = f.thread;
+                lock = low;
+                kind = kind;
+                free = ap (λ (w : Word). is_free w.holder) its.0 ∙ free;
+                shown = ap shows_waiters its.0 ∙ shown;
+                head = its.1;
+                unheld = holds_it floor v s f l ∙ unheld;
+                acting = acting_now s f off;
+                wants = subst (λ w. (w ≡ Some l) ⊎ (w ≡ None)) (sym wanted) wants;
+              };
+              has_out = (chain_out_now (lock_queue l) y x out s f, (own_out_now (lock_queue l) y x out s f).0);
+              has_seen = gain_seen Excl by_try of_round fits saw others takes s f;
               asks_of_thread = record {
                 runs = awake_now s f going;
                 owes = record { added = not_away s f awake; stamped = stamped_now s f going };

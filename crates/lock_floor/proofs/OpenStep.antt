@@ -10,7 +10,6 @@ use Rattle.std.specs.declared.boxed.Box.{Box}
 use prog.Atomic.{either}
 use Rattle.atomic_table.specs.Table.{Me, keeps, Allows}
 use Rattle.chain_table.specs.Chains.{head_of, without}
-use Rattle.chain_table.proofs.Lookups.{head_of-without_itself}
 use Rattle.lock_laws.proofs.Kit.{put_same, put_other, put_at_other, put_at_row, put_queue_other, is_queue_same}
 use Rattle.lock_laws.proofs.HeldLists.{gained_order-without}
 use Rattle.lock_laws.proofs.Standing.{times_named}
@@ -23,14 +22,12 @@ use Rattle.lock_model.specs.Words as words
 use Rattle.lock_model.specs.Words.{word_of, side_woken, is_turnstile}
 use Rattle.lock_model.specs.declared.plan.Mode.{Mode}
 use Rattle.lock_model.specs.declared.plan.QueueName.{QueueName}
-use Rattle.lock_model.specs.declared.plan.QueueName.TheVariants.{Lock, Chan}
 use Rattle.lock_model.specs.declared.plan.Side.{Side}
 use Rattle.lock_objects.specs.Represents.{RepresentsRecord, RepresentsQueue, RepresentsHead, record_in, queue_in}
 use Rattle.lock_objects.specs.Opens.{CanOpen, CanRelease, record_opened, chain_opened, left_open, woken_of}
-use Rattle.lock_objects.proofs.Chains.{is_queue-other, all_placed, all_gone}
+use Rattle.lock_objects.proofs.Chains.{is_queue-other}
 use Rattle.lock_objects.proofs.Held.{apart_once, once_without, column_without}
 use Rattle.lock_objects.proofs.Opens.{can_release, can_open_there, record_shown, marks_shown, others, stays, gone}
-use Rattle.lock_objects.proofs.Queues.{SameQueue, queue_stays}
 use Rattle.lock_state.specs.Facts.{Lawful, OnlyThreadsStand}
 use Rattle.lock_state.specs.Facts.Waits.{times_marked}
 use Rattle.lock_state.specs.State.{State, gained_order, put}
@@ -46,7 +43,7 @@ use Rattle.floor_table.specs.declared.description.Description.{Description}
 use Rattle.floor_table.specs.declared.slot.Slot.{Slot}
 use Rattle.floor_table.specs.declared.slot.Slot.TheVariants.{Record, Turnstiles}
 use Rattle.floor_table.specs.Places.{spot, lock_line, lock_word, latch_word, slots_for, slot_of, home_at}
-use Rattle.floor_table.specs.Represents.{Board, StandsIn, RepresentsTurnstiles, RepresentsObjects, RepresentsShare, objects_in, sleepers, thread_in}
+use Rattle.floor_table.specs.Represents.{Board, RepresentsTurnstiles, RepresentsObjects, RepresentsShare, objects_in, sleepers, thread_in}
 use Rattle.floor_table.specs.Rule.{FloorHolds}
 use Rattle.floor_table.specs.Shares.{ShareColumns, columns_of, share_in}
 use Rattle.floor_table.specs.Shelves.{Shelves, found}
@@ -60,8 +57,8 @@ use Rattle.floor_table.proofs.Shelved.{found_first, found_later}
 use Rattle.floor_table.proofs.Sound.{sound_kept}
 use Rattle.lock_floor.specs.Opens.{HasBothOut, out_opened, marks_opened, opened_up}
 use Rattle.lock_floor.specs.Views.{counts}
-use Rattle.lock_floor.specs.Waits.{its_chain, chain_place}
-use Rattle.lock_floor.proofs.ChainNames.{names_placed, names_without}
+use Rattle.lock_floor.specs.Waits.{chain_place}
+use Rattle.lock_floor.proofs.ChainChanges.{chain_of_lock, its_own, turnstiles_same, sleepers_same, chain_placed, chain_gone}
 use Rattle.lock_floor.proofs.ChainPlaces.{chain_at}
 use Rattle.lock_floor.proofs.Looking.{Looked, looks, found_word}
 use Rattle.lock_floor.proofs.Taking.{record_at}
@@ -106,39 +103,22 @@ open_others s t u other c l =
 
 -- 2. The chain of the lock's queue
 
-module _ (floor : Description) (l : ℕ) (turnstile : is_turnstile ((config_in floor).kind l) ≡ true) where
-  abbrev c : Config
-  c = config_in floor
+module _ (floor : Description) (l : ℕ) (turnstile : is_turnstile ((config_in floor).kind l) ≡ true) (s : State) (t : ℕ)
+  where
+    abbrev c : Config
+    c = config_in floor
 
-  abbrev chain_of_lock : Item
-  chain_of_lock = TurnstileChain (l % floor.chains)
-
-  -- it is one of turnstiles
-  its_own : its_chain floor (lock_queue l) ≡ chain_of_lock
-  its_own = ap (λ b. cond b (TurnstileChain (l % floor.chains)) (SleepChain (l % floor.chains))) turnstile
-
-  -- no other queue than one that stands there
-  elsewhere : (i : Item) (q : QueueName) → i ≢ chain_of_lock → StandsIn floor i q → q ≢ lock_queue l
-  elsewhere i q ne there e = ne (sym there ∙ ap (its_chain floor) e ∙ its_own)
-
-  -- what stands in a chain of turnstiles is the queue of a lock with one
-  stands_by : (b : Bool) (k j : ℕ) → cond b (TurnstileChain k) (SleepChain k) ≡ TurnstileChain j → b ≡ true
-  stands_by true k j e = refl
-  stands_by false k j e = absurd (let z : SleepChain k ≡ TurnstileChain j = e in cc)
-
-  module _ (s : State) (t : ℕ) where
     abbrev n : State
     n = after_open c s t l
 
-    queue_other : (q : QueueName) → q ≢ lock_queue l → queue_in n q ≡ queue_in s q
+    sleepers_stay : (q : QueueName) → q ≢ lock_queue l → sleepers (queue_in n q) ≡ sleepers (queue_in s q)
     unfolding after_open
-    queue_other q ne =
+    sleepers_stay q ne =
         let other = is_queue-other (lock_queue l) q (λ e. ne (sym e)) in
         let head_is : n.head q ≡ s.head q = put_queue_other s.head (lock_queue l) _ q other in
         let lists_are : n.lists q ≡ s.lists q = put_queue_other s.lists (lock_queue l) _ q other in
         let free_list_is : n.free_list q ≡ s.free_list q = put_queue_other s.free_list (lock_queue l) _ q other in
-        let owner_is : n.owner q ≡ s.owner q = put_queue_other s.owner (lock_queue l) _ q other in
-        λ i. record { head = head_is i; lists = lists_are i; free_list = free_list_is i; owner = owner_is i }
+        λ i. record { head = head_is i; lists = lists_are i; free_list = free_list_is i }
 
     record_other : (u : ℕ) → u ≢ t → record_in n u ≡ record_in s u
     unfolding after_open
@@ -150,20 +130,12 @@ module _ (floor : Description) (l : ℕ) (turnstile : is_turnstile ((config_in f
         }
 
     module _ (can : CanRelease c s t l) where
-      -- another queue in a chain of turnstiles stays, with the node of its head
-      queue_same : (k : ℕ) (q : QueueName) → StandsIn floor (TurnstileChain k) q → q ≢ lock_queue l
-          → SameQueue (queue_in s) (queue_in n) s.loan_home n.loan_home q
-      queue_same k (Lock j) there ne =
-          others c s t l can j.0 (λ e. ne (ap lock_queue e))
-          (stands_by (is_turnstile (c.kind j.0)) (j.0 % floor.chains) k there)
-      queue_same k (Chan d) there ne = absurd (let z : SleepChain (d.0 % floor.chains) ≡ TurnstileChain k = there in cc)
-
-      says_same : (k : Item) → k ≢ RecordOf t → k ≢ chain_of_lock → SaySame floor (objects_in s) (objects_in n) k
+      says_same : (k : Item) → k ≢ RecordOf t → k ≢ chain_of_lock floor l turnstile
+          → SaySame floor (objects_in s) (objects_in n) k
       unfolding after_open
       says_same (TurnstileChain k) no_record no_chain =
-          λ q there. queue_same k q there (elsewhere (TurnstileChain k) q no_chain there)
-      says_same (SleepChain k) no_record no_chain =
-          λ q there. ap sleepers (queue_other q (elsewhere (SleepChain k) q no_chain there))
+          turnstiles_same floor l turnstile s n (others c s t l can) k no_chain
+      says_same (SleepChain k) no_record no_chain = sleepers_same floor l turnstile s n sleepers_stay k
       says_same (RecordOf u) no_record no_chain = record_other u (λ e. no_record (ap RecordOf e))
       says_same (CellOf k key) no_record no_chain = refl
       says_same ClassGraph no_record no_chain = refl
@@ -172,41 +144,28 @@ module _ (floor : Description) (l : ℕ) (turnstile : is_turnstile ((config_in f
           (side_is : side ≡ side_woken (c.kind l) (s.word l)) (h : Turnstile) (chain : List (QueueName × Turnstile))
           (shows : RepresentsTurnstiles floor (l % floor.chains) chain (objects_in s))
           (there : head_of (lock_queue l) chain ≡ Some h) where
-        abbrev q : QueueName
-        q = lock_queue l
+        its_head : RepresentsHead h.contents (queue_in s (lock_queue l)) s.loan_home
+        its_head = subst (λ o. RepresentsQueue o (queue_in s (lock_queue l)) s.loan_home) there
+            (shows.queue (lock_queue l) (its_own floor l turnstile))
 
-        its_head : RepresentsHead h.contents (queue_in s q) s.loan_home
-        its_head = subst (λ o. RepresentsQueue o (queue_in s q) s.loan_home) there (shows.queue q its_own)
-
-        abbrev Shown : QueueName → Option Turnstile → Type 0
-        Shown r o = StandsIn floor chain_of_lock r → RepresentsQueue o (queue_in n r) n.loan_home
-
-        others_shown : (r : QueueName) → r ≢ q → Shown r (head_of r chain)
-        others_shown r ne at = queue_stays (head_of r chain) (queue_same (l % floor.chains) r at ne) (shows.queue r at)
-
-        absent : head_of q (without q chain) ≡ None
-        absent = head_of-without_itself q chain shows.names.distinct
+        abbrev left : Turnstile
+        left = record h { contents = left_open l side box.value h.contents }
 
         abbrev chain_by : Bool → List (QueueName × Turnstile)
-        chain_by b = cond b (without q chain)
-            ((q, record h { contents = left_open l side box.value h.contents }) ∷ without q chain)
+        chain_by b = cond b (without (lock_queue l) chain) ((lock_queue l, left) ∷ without (lock_queue l) chain)
 
-        shown_by : (b : Bool) → is_empty (all_waiters (left_open l side box.value h.contents)) ≡ b
+        shown_by : (b : Bool) → is_empty (all_waiters left.contents) ≡ b
             → RepresentsTurnstiles floor (l % floor.chains) (chain_by b) (objects_in n)
-        shown_by true nobody = record {
-          names = names_without floor chain_of_lock q chain shows.names;
-          queue = all_gone Shown q chain others_shown absent (λ _. gone c s t l can rec side side_is h its_head nobody);
-        }
-        shown_by false some_wait = record {
-          names = names_placed floor chain_of_lock q chain shows.names
-              (record h { contents = left_open l side box.value h.contents }) its_own;
-          queue = all_placed Shown q chain others_shown (record h { contents = left_open l side box.value h.contents })
-              (λ _. stays c s t l can rec side side_is h its_head some_wait);
-        }
+        shown_by true nobody =
+            chain_gone floor l turnstile s n (others c s t l can) chain shows
+            (gone c s t l can rec side side_is h its_head nobody)
+        shown_by false some_wait =
+            chain_placed floor l turnstile s n (others c s t l can) chain shows left
+            (stays c s t l can rec side side_is h its_head some_wait)
 
         chain_shown : RepresentsTurnstiles floor (l % floor.chains) (chain_opened l side box.value h chain)
             (objects_in n)
-        chain_shown = shown_by (is_empty (all_waiters (left_open l side box.value h.contents))) refl
+        chain_shown = shown_by (is_empty (all_waiters left.contents)) refl
 
 -- 3. Those who are marked
 

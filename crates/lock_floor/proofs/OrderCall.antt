@@ -1,5 +1,5 @@
 -- What the call that checks the order of a lock needs of its parts, and what it was told.
-use Rattle.std.proofs.Common.{◌≡◌, ℕ, ◌<◌, Bool, false, List, [], ◌∷◌, length, map, Option, Some, None, refl, sym, ap, ◌∙◌, subst, eqb, eq-eqb, cond, inl, inr}
+use Rattle.std.proofs.Common.{◌≡◌, ℕ, ◌<◌, Bool, false, List, [], ◌∷◌, length, map, Option, Some, None, refl, sym, ap, ◌∙◌, subst, eqb, eq-eqb, inl, inr}
 use Rattle.std.specs.Box.{with_value}
 use Rattle.std.specs.Global.{Vec}
 use Rattle.std.specs.List.{All}
@@ -9,7 +9,6 @@ use Rattle.std.proofs.lemmas.Bool.{cases_Bool}
 use Rattle.std.proofs.lemmas.List.Elements.{All-nil, All-cons, All-head, All-tail}
 use Rattle.atomic_table.specs.Table.{Me, rest, Allows}
 use Rattle.lock_history.specs.Books.{Book}
-use Rattle.lock_model.specs.Config.{Config}
 use Rattle.lock_model.specs.Holds.{Holds}
 use Rattle.lock_model.specs.Operations.{hold_in}
 use Rattle.lock_model.specs.declared.event.Held.{Held}
@@ -18,27 +17,26 @@ use Rattle.lock_model.specs.declared.plan.Mode.{Mode}
 use Rattle.lock_objects.specs.declared.marked.Marked.{Marked}
 use Rattle.lock_state.specs.Facts.{OnlyLocksAreHeld}
 use Rattle.lock_state.specs.State.{State}
-use Rattle.lock_state.specs.Steps.{Step, TakesItem}
-use Rattle.lock_state.specs.Steps.Items.{ClassGraph, item_with, after_take}
+use Rattle.lock_state.specs.Steps.{TakesItem}
+use Rattle.lock_state.specs.Steps.Items.{ClassGraph, after_take}
 use Rattle.witness_orders.specs.Graph as orders
-use Rattle.witness_orders.specs.Graph.{numbers_of}
+use Rattle.witness_orders.specs.Graph.{RepresentsGraph, numbers_of}
 use Rattle.witness_orders.specs.declared.orders.Orders.{Orders}
 use Rattle.floor_table.specs.Descriptions.{config_in}
 use Rattle.floor_table.specs.declared.description.Description.{Description}
 use Rattle.floor_table.specs.declared.slot.Slot.{Slot}
 use Rattle.floor_table.specs.declared.slot.Slot.TheVariants.{Record, Cell, Turnstiles, SleepQueues, Graph}
 use Rattle.floor_table.specs.Places.{spot, latch_line, latch_word, home_at, graph_place}
-use Rattle.floor_table.specs.Represents.{RepresentsGraph, RepresentsShare, IsOf, objects_in, thread_in}
+use Rattle.floor_table.specs.Represents.{thread_in}
 use Rattle.floor_table.specs.Rule.{FloorHolds}
 use Rattle.floor_table.specs.Shelves.{found}
-use Rattle.floor_table.specs.Steps.{HasJust, Makes, MakesEach, MayMake}
+use Rattle.floor_table.specs.Steps.{HasJust, Makes, MayMake}
 use Rattle.floor_table.specs.Views.{Knowledge, OfThread, seeing}
 use Rattle.floor_table.proofs.Items.{has_just}
 use Rattle.floor_table.proofs.Shelved.{found_first}
 use Rattle.lock_floor.specs.Latches.{IsOfKind, Takes}
 use Rattle.lock_floor.specs.Ordering.{MayOrder, HasGraph, IsVerdict, settles, settled, Settles, ChecksOrder}
 use Rattle.lock_floor.specs.Ties.{IsTied}
-use Rattle.lock_floor.specs.Views.{took}
 use Rattle.lock_floor.proofs.Finding.{held_then}
 use Rattle.lock_floor.proofs.May.{may_take}
 use Rattle.lock_floor.proofs.OrderStep.{SettledGraph, settle_allowed}
@@ -116,7 +114,7 @@ module _ (floor : Description) (l : ℕ) (old mid : Knowledge) (empty : old.out 
   m = taken.step
 
   -- it says what the columns of the state behind the taking say
-  graph_says : RepresentsGraph floor graph_is.0.value (after_take m.state old.thread ClassGraph).edges
+  graph_says : RepresentsGraph (config_in floor) graph_is.0.value (after_take m.state old.thread ClassGraph).edges
   graph_says =
       let r = m.represents_behind in
       let n : State = after_take m.state old.thread ClassGraph in

@@ -6,23 +6,24 @@ use Rattle.std.proofs.lemmas.List.{reverse-append, reverse-reverse, map-append}
 use Rattle.atomic_table.specs.Table.{Me, gives, rest, Allows}
 use Rattle.lock_laws.proofs.Kit.{put_same, put_other}
 use Rattle.lock_model.specs.Config.{Config}
-use Rattle.lock_model.specs.Holds.{Holds}
-use Rattle.lock_model.specs.Orders.{is_edge, IsAdmitted, IsFirstToForbid, edges_behind}
-use Rattle.lock_model.proofs.Orders.{same_admitted, same_first, same_behind}
+use Rattle.lock_model.specs.Orders.{IsAdmitted, IsFirstToForbid, edges_behind}
+use Rattle.lock_model.proofs.Orders.{same_admitted, same_first}
 use Rattle.lock_model.specs.declared.event.Held.{Held}
-use Rattle.lock_state.specs.State.{State, HeldLock, Note, OrderRefused, Look, Running, gained_order, put}
+use Rattle.lock_state.specs.State.{State, HeldLock, OrderRefused, gained_order, put}
 use Rattle.lock_state.specs.Steps.{Step, Admits, Refuses, HasItem, ChecksOutsideRounds}
 use Rattle.lock_state.specs.Steps.Items.{Item, TurnstileChain, SleepChain, RecordOf, CellOf, ClassGraph}
 use Rattle.lock_state.specs.Steps.LockWords.{is_taking_back}
 use Rattle.lock_state.specs.Steps.Orders.{IsFreeToTake, held_classes, classes_held, after_admit, after_refuse}
 use Rattle.witness_orders.specs.Graph as orders
+use Rattle.witness_orders.specs.Graph.{RepresentsGraph}
+use Rattle.witness_orders.proofs.Columns.{graph_behind}
 use Rattle.floor_table.specs.Descriptions.{config_in}
 use Rattle.floor_table.specs.declared.description.Description.{Description}
 use Rattle.floor_table.specs.declared.slot.Slot.{Slot}
 use Rattle.floor_table.specs.declared.slot.Slot.TheVariants.{Graph}
 use Rattle.floor_table.specs.Past.{IsAllowed}
 use Rattle.floor_table.specs.Places.{spot, latch_line, latch_word, graph_place}
-use Rattle.floor_table.specs.Represents.{Board, Objects, IsPosed, RepresentsGraph, RepresentsObjects, RepresentsShare, objects_in}
+use Rattle.floor_table.specs.Represents.{Board, Objects, IsPosed, RepresentsObjects, RepresentsShare, objects_in}
 use Rattle.floor_table.specs.Rule.{FloorHolds}
 use Rattle.floor_table.specs.Shares.{columns_of, share_in}
 use Rattle.floor_table.specs.Shelves.{found}
@@ -148,7 +149,7 @@ module _ (floor : Description) (me : Me Slot Knowledge) (was : me.0.role ≡ OfT
     same_classes : its_classes ≡ classes_held c s t
     same_classes = classes_in_order c.class v.share.held ∙ ap (held_classes c) (column floor v s f (λ x. x.held_locks))
 
-    graph_now : HasItem s t ClassGraph × RepresentsGraph floor has.graph.value s.edges
+    graph_now : HasItem s t ClassGraph × RepresentsGraph c has.graph.value s.edges
     graph_now = f.out.each ClassGraph j (Graph has.graph) refl
         (ap (found j) has.out ∙ found_first j (Graph has.graph) [])
 
@@ -178,7 +179,7 @@ module _ (floor : Description) (me : Me Slot Knowledge) (was : me.0.role ≡ OfT
         may = record {
           free = free;
           admitted = subst (λ ks. IsAdmitted s.edges ks (c.class l)) same_classes
-              (same_admitted has.graph.value.edges s.edges graph_now.1.same its_classes (c.class l) a.0);
+              (same_admitted has.graph.value.edges s.edges graph_now.1.edges its_classes (c.class l) a.0);
         };
         has_out = graph_now.0;
         has_seen = outside;
@@ -191,7 +192,7 @@ module _ (floor : Description) (me : Me Slot Knowledge) (was : me.0.role ≡ OfT
         may = record {
           free = free;
           refused = subst (λ ks. IsFirstToForbid s.edges ks (c.class l) k) same_classes
-              (same_first has.graph.value.edges s.edges graph_now.1.same its_classes (c.class l) k a.0);
+              (same_first has.graph.value.edges s.edges graph_now.1.edges its_classes (c.class l) k a.0);
         };
         has_out = graph_now.0;
         has_seen = outside;
@@ -201,16 +202,12 @@ module _ (floor : Description) (me : Me Slot Knowledge) (was : me.0.role ≡ OfT
     }
 
     -- what the graph says behind it
-    learnt : Verdict None → RepresentsGraph floor new (edges_behind s.edges (classes_held c s t) (c.class l))
-    learnt a = record {
-      classes = λ k lt. subst (λ n. c.class k < n) (sym a.1) (graph_now.1.classes k lt);
-      same = λ x y. a.2 x y
-          ∙ same_behind has.graph.value.edges s.edges graph_now.1.same its_classes (c.class l) x y
-          ∙ (λ i. is_edge (edges_behind s.edges (same_classes i) (c.class l)) x y);
-    }
+    learnt : Verdict None → RepresentsGraph c new (edges_behind s.edges (classes_held c s t) (c.class l))
+    learnt a = subst (λ ks. RepresentsGraph c new (edges_behind s.edges ks (c.class l))) same_classes
+        (graph_behind c has.graph.value new s.edges graph_now.1 its_classes (c.class l) a.1 a.2)
 
-    unlearnt : (k : ℕ) → Verdict (Some k) → RepresentsGraph floor new s.edges
-    unlearnt k a = subst (λ g. RepresentsGraph floor g s.edges) (sym a.1) graph_now.1
+    unlearnt : (k : ℕ) → Verdict (Some k) → RepresentsGraph c new s.edges
+    unlearnt k a = subst (λ g. RepresentsGraph c g s.edges) (sym a.1) graph_now.1
 
   settle_step : (against : Option ℕ) → Verdict against → (b : Board) (h : Finds floor v b)
       → Steps floor me (spot (latch_line j)) (latch_word b.words j) 0 (λ found. SettledGraph floor l against me 0) b

@@ -1,6 +1,6 @@
--- A thread at rest is at rest again behind its calls: behind an entry, behind the use of an item, behind looks,
+-- A thread at rest is at rest again behind its calls: behind an entry, behind the use of an item, behind a busy try,
 -- behind a gain with its entry, and behind a release with its entry.
-use Rattle.std.proofs.Common.{◌≡◌, ◌≢◌, ℕ, suc, ◌+◌, ◌≤◌, Bool, true, false, not, ◌||◌, ◌&&◌, cond, eqb, Option, None, List, [], ◌∷◌, ◌++◌, refl, sym, ap, ◌∙◌, subst, inl, inr, arith, eq-eqb}
+use Rattle.std.proofs.Common.{◌≡◌, ◌≢◌, ℕ, ◌+◌, ◌≤◌, Bool, true, false, ◌||◌, cond, eqb, Option, None, List, [], ◌∷◌, ◌++◌, refl, sym, ap, ◌∙◌, subst, inl, inr, arith, eq-eqb}
 use Rattle.std.proofs.lemmas.Bool.{cases_eq, ne_eqb}
 use Rattle.atomic_table.specs.Table.{rest}
 use Rattle.lock_laws.proofs.HeldLists.{hold_in-push}
@@ -18,7 +18,7 @@ use Rattle.lock_model.specs.declared.event.Held.{Held}
 use Rattle.lock_model.specs.declared.numbers.LockNo.{LockNo}
 use Rattle.lock_model.specs.declared.plan.Mode.{Mode}
 use Rattle.lock_state.specs.State.{State, NoWalk, Round, Wake, start_state}
-use Rattle.lock_state.specs.Steps.{Step, Stamps, GivesItem, chain_of, seeks, NotesInRound, HasOutForEntry}
+use Rattle.lock_state.specs.Steps.{Step, Stamps, GivesItem, NotesInRound, HasOutForEntry}
 use Rattle.lock_state.specs.Steps.Items.{Item, is_chain, in_its_chain, seen_after}
 use Rattle.lock_state.specs.Steps.LockWords.{Asks, is_sleep, is_taking_back, changes_sections, looks_after, round_after, taking_after, unstamped_after, after_stamp}
 use Rattle.floor_table.specs.Descriptions.{config_in}
@@ -31,7 +31,7 @@ use Rattle.lock_floor.specs.Changes.{changed, last_changed, stamped_change}
 use Rattle.lock_floor.specs.Floors.{Floor, Pass}
 use Rattle.lock_floor.specs.Passes.{IsOf, IsGoing, IsAtRest, IsReady, MakesEntry, with_item}
 use Rattle.lock_floor.specs.Latches.{Takes}
-use Rattle.lock_floor.specs.Views.{has_item, counts, looked, others, gained, put_down, begun_by, took, gave, entry_by, stamped}
+use Rattle.lock_floor.specs.Views.{looked, others, gained, put_down, begun_by, took, gave, entry_by, stamped}
 use Rattle.lock_floor.proofs.May.{own_log, may_stamp}
 use Rattle.lock_floor.proofs.Shares.{among_stays}
 
@@ -184,7 +184,7 @@ module _ (floor : Description) (v : Knowledge) where
     no_wait = wakeful;
   }
 
-  -- of an event that begins and ends no section, also behind a look
+  -- of an event that begins and ends no section
   pub rest_noted : (ticket : ℕ) (e : Event) → changes_sections e ≡ false → IsIdle v → Sectioned floor v → Begun v
       → IsAtRest floor (stamped c v (entry_by t ticket e))
   rest_noted ticket e quiet i sections begun =
@@ -196,27 +196,31 @@ module _ (floor : Description) (v : Knowledge) where
       → IsAtRest floor (stamped c v (entry_by t ticket e))
   rest_stamped ticket e quiet r = rest_noted ticket e quiet (idle floor v r) r.sections r.begun
 
-  -- 3. Behind looks: none counts, since no round is under way
+  -- 3. Behind a look, and the entry of a try that found its lock busy: it ends the looks that count
 
-  pub uncounted : (l : ℕ) → IsIdle v → counts v l ≡ false
-  uncounted l i = ap (λ o. seeks l o && not (has_item v (chain_of v.description.chains (config_in v.description) l)))
-      i.no_round
-
-  pub idle_looked : (l : ℕ) (word : Word) → IsIdle v → IsIdle (looked v l word)
-  idle_looked l word i = record {
-    runs = i.runs;
-    nothing_out = i.nothing_out;
-    no_walk = i.no_walk;
-    unmarked = i.unmarked;
-    uncounted = i.uncounted;
-    wants_nothing = i.wants_nothing;
-    takes_nothing = i.takes_nothing;
-    no_round = i.no_round;
-    no_looks = ap (λ b. cond b (suc v.share.doing.looks) v.share.doing.looks) (uncounted l i) ∙ i.no_looks;
-    unnoted = i.unnoted;
-    going = i.going;
-    no_wait = i.no_wait;
-  }
+  pub rest_busy : (ticket : ℕ) (l : LockNo) (seen : ℕ) (word : Word) → IsAtRest floor v
+      → IsAtRest floor (stamped c (looked v l.0 word) (entry_by t ticket (Busy l seen)))
+  rest_busy ticket l seen word r =
+      let e : Event = Busy l seen in
+      at_rest floor (stamped c (looked v l.0 word) (entry_by t ticket e)) record {
+        runs = r.runs;
+        nothing_out = r.nothing_out;
+        no_walk = r.no_walk;
+        unmarked = r.unmarked;
+        uncounted = r.uncounted;
+        wants_nothing = r.wants_nothing;
+        takes_nothing = taking_gone e v.share.doing.taking r.takes_nothing;
+        no_round = refl;
+        no_looks = refl;
+        unnoted = refl;
+        going = record {
+          awake = r.going.awake;
+          unended = r.going.unended;
+          stamped = wake_gone e v.share.doing.unstamped r.going.stamped;
+        };
+        no_wait = refl;
+      } refl (λ k. same_section c v.share.log t ticket k e refl ∙ r.sections k)
+      (λ k held. ap (is_among k) (begun_kept c e v.share.begun refl) ∙ r.begun k held)
 
 -- 4. What it may note, whatever it has out: with nothing out it is at rest
 
@@ -481,15 +485,6 @@ module _ (floor : Description) (v : Knowledge) (l : LockNo) (mode : Mode) where
   }
 
 module _ (floor : Description) (l : ℕ) (mode : Mode) (v : Knowledge) (h : IsLeaving floor l mode v) where
-  pub leaving_looked : (k : ℕ) (word : Word) → IsLeaving floor l mode (looked v k word)
-  leaving_looked k word = record {
-    about = idle_looked floor v k word h.about;
-    held = h.held;
-    closed = h.closed;
-    beside = h.beside;
-    begun = h.begun;
-  }
-
   -- once it has put the lock down it is at rest
   module _ (steps : List Step) where
     abbrev left : Knowledge

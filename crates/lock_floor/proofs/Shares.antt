@@ -198,13 +198,13 @@ module _ (s : State) (t u : ℕ) (other : u ≢ t) where
   ne : t ≡ u → ⊥
   ne q = other (sym q)
 
-  pub look_others : (l : ℕ) (in_round : Bool) → share_in (after_look s t l in_round) u ≡ share_in s u
+  pub look_others : (l : ℕ) (counts : Bool) → share_in (after_look s t l counts) u ≡ share_in s u
   unfolding after_look
-  look_others l in_round =
-      let looks_is : (after_look s t l in_round).looks u ≡ s.looks u = put_other s.looks t _ u ne in
-      let looks_in_all_is : (after_look s t l in_round).looks_in_all u ≡ s.looks_in_all u = put_other s.looks_in_all t _ u ne in
-      let last_look_is : (after_look s t l in_round).last_look u ≡ s.last_look u = put_other s.last_look t _ u ne in
-      let seen_in_section_is : (after_look s t l in_round).seen_in_section u ≡ s.seen_in_section u = put_other s.seen_in_section t _ u ne in
+  look_others l counts =
+      let looks_is : (after_look s t l counts).looks u ≡ s.looks u = put_other s.looks t _ u ne in
+      let looks_in_all_is : (after_look s t l counts).looks_in_all u ≡ s.looks_in_all u = put_other s.looks_in_all t _ u ne in
+      let last_look_is : (after_look s t l counts).last_look u ≡ s.last_look u = put_other s.last_look t _ u ne in
+      let seen_in_section_is : (after_look s t l counts).seen_in_section u ≡ s.seen_in_section u = put_other s.seen_in_section t _ u ne in
       λ i. record (share_in s u) {
         doing = record (share_in s u).doing {
           looks = looks_is i;

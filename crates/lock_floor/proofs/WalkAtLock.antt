@@ -21,7 +21,7 @@ use Rattle.floor_table.specs.declared.slot.Slot.TheVariants.{Record, Turnstiles}
 use Rattle.lock_floor.specs.Floors.{Pass}
 use Rattle.lock_floor.specs.Latches.{FindsOut, Takes}
 use Rattle.lock_floor.specs.Views.{gave}
-use Rattle.lock_floor.specs.Walks.{HasTurnstilesOut, HopsOn, MayLendTo, StepsInHop, hopped, owner_of_head, turnstiles, turnstiles_place}
+use Rattle.lock_floor.specs.Walks.{HasTurnstilesOut, HopsOn, IsHopTo, NeedsRecord, MayLendTo, StepsInHop, hopped, owner_of_head, turnstiles, turnstiles_place}
 use Rattle.lock_floor.proofs.WalkHops.{chain_at_slot, chain_last_out, may_take_it, owner_of_floor, may_end, ended_last, ended_may_give, ended_hop, may_lend_it, record_last, may_give_it, chain_last, may_give_back, hop_of, lend_hop, b_thread}
 
 -- the chain was looked at, which left the pass as it was
@@ -46,8 +46,12 @@ module _ (floor : Description) (j : ℕ) (at : j ≡ turnstiles_place floor) (p 
     not_taken b left = left ∙ ap (λ (r : Pass Knowledge). seeing b.seen r.view) same
 
     pub found_out : (b : Knowledge) → FindsOut floor (RecordOf o) q.view b
-        → (u : ℕ) × FindsOut floor (RecordOf u) p.view b
-    found_out b finds = (o, subst (λ (r : Pass Knowledge). FindsOut floor (RecordOf o) r.view b) same finds)
+        → (u : ℕ) × NeedsRecord floor u p.view × FindsOut floor (RecordOf u) p.view b
+    found_out b finds = (
+      o,
+      record { chain = m.chain; out = m.out; to = subst (λ w. IsHopTo w m.chain o) (sym there) owned },
+      subst (λ (r : Pass Knowledge). FindsOut floor (RecordOf o) r.view b) same finds,
+    )
 
     module _ (b : Knowledge) (takes : Takes floor (RecordOf o) o q.view b) where
       has : Takes floor (RecordOf o) o p.view b

@@ -1,6 +1,6 @@
 -- The one chain of turnstiles of a floor: every lock of a kind with turnstiles has its queue there, and no other chain
 -- of turnstiles has a queue.
-use Rattle.std.proofs.Common.{◌≡◌, ◌≢◌, ℕ, ◌+◌, ◌%◌, ◌<◌, Bool, true, false, cond, List, None, Some, length, lt-ltb, refl, sym, ap, ◌∙◌, arith}
+use Rattle.std.proofs.Common.{◌≡◌, ◌≢◌, ℕ, ◌+◌, ◌%◌, ◌<◌, true, cond, List, None, Some, length, lt-ltb, refl, sym, ap, ◌∙◌, arith}
 use Rattle.std.proofs.Math.Nat.{mod-lt}
 use Rattle.chain_table.specs.Chains.{head_of}
 use Rattle.lock_model.specs.Queues.{lock_queue}
@@ -18,7 +18,7 @@ use Rattle.floor_table.specs.declared.description.Description.{Description}
 use Rattle.floor_table.proofs.Items.{one_place}
 use Rattle.lock_floor.specs.Waits.{its_chain}
 use Rattle.lock_floor.specs.Walks.{turnstiles, turnstiles_place}
-use Rattle.lock_floor.proofs.ChainChanges.{its_own}
+use Rattle.lock_floor.proofs.ChainChanges.{stands_by, its_own}
 use Rattle.lock_floor.proofs.Taking.{record_at}
 
 module _ (floor : Description) (one : floor.chains ≡ 1) where
@@ -44,10 +44,6 @@ module _ (floor : Description) (one : floor.chains ≡ 1) where
       let small : l % floor.chains < floor.chains = mod-lt l (omega (arith, one)) in
       let none : l % floor.chains ≡ 0 = omega (arith, small, one) in
       its_own floor l turnstile ∙ ap TurnstileChain none
-
-  stands_by : (b : Bool) (k j : ℕ) → cond b (TurnstileChain k) (SleepChain k) ≡ TurnstileChain j → b ≡ true
-  stands_by true k j e = refl
-  stands_by false k j e = absurd (let z : SleepChain k ≡ TurnstileChain j = e in cc)
 
   -- what stands in a chain of turnstiles is the queue of such a lock
   standing_kind : (k : ℕ) (q : QueueName) → StandsIn floor (TurnstileChain k) q

@@ -10,6 +10,7 @@ pub mod Waits
 pub mod Marks
 pub mod Resumes
 pub mod Opens
+pub mod Claims
 pub mod Rounds
 pub mod Ordering
 pub mod Walks

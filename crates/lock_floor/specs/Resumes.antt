@@ -1,5 +1,5 @@
 -- How a thread that was woken off a queue runs again.
-use Rattle.std.specs.Prelude.{◌≡◌, Bool, true, false, [], ◌∷◌}
+use Rattle.std.specs.Prelude.{◌≡◌, ◌↔◌, ℕ, Bool, true, false, [], ◌∷◌}
 use Rattle.lock_model.specs.Config.{Config}
 use Rattle.lock_model.specs.Queues.{Cause, BySignal, ByAbort}
 use Rattle.lock_model.specs.declared.plan.QueueName.{QueueName}
@@ -57,3 +57,10 @@ pub record RunsAgain (floor : Description) (cause : Cause) (old new : Knowledge)
 pub record FindsQueued (floor : Description) (old new : Knowledge) : Type 0 where
   pub moment : Makes floor [] old new
   pub queued : moment.state.wait old.thread ≡ Queued
+
+-- The thread found out whether a thread is Queued. It made no step; at that moment, in the state to which all steps led
+-- that had been made by then, that one was Queued exactly where the answer says so, and the seat has seen these steps.
+pub record FindsWhetherQueued (floor : Description) (o : ℕ) (answer : Bool) (old new : Knowledge) :
+    Type 0 where
+  pub moment : Makes floor [] old new
+  pub queued : (answer ≡ true) ↔ (moment.state.wait o ≡ Queued)

@@ -1,16 +1,16 @@
 -- What seats know after steps, and after a pass is made or taken in.
-use Rattle.std.specs.Prelude.{ℕ, suc, ◌-◌, Bool, true, false, not, ◌&&◌, nat_lt, ◌==◌, if◌then◌else◌, List, [], ◌∷◌, ◌++◌, length, filter, Option, None, Some}
+use Rattle.std.specs.Prelude.{ℕ, suc, ◌-◌, Bool, true, false, not, ◌&&◌, ◌||◌, nat_lt, ◌==◌, if◌then◌else◌, List, [], ◌∷◌, ◌++◌, length, filter, Option, None, Some}
 use mathlib.Core.Option as slots
 use Rattle.atomic_table.specs.Table.{rest}
 use Rattle.lock_model.specs.Config.{Config}
 use Rattle.lock_model.specs.Events.{OfSection, NoSection, BeginsIn, EndsFrom, LeftFor, TakenBack, facets}
-use Rattle.lock_model.specs.Operations.{without_lock}
+use Rattle.lock_model.specs.Operations.{hold_in, without_lock}
 use Rattle.lock_model.specs.Words.{Word}
 use Rattle.lock_model.specs.declared.event.Entry.{Entry}
 use Rattle.lock_model.specs.declared.event.Event.{Event}
 use Rattle.lock_model.specs.declared.event.Held.{Held}
 use Rattle.lock_state.specs.State.{Look}
-use Rattle.lock_state.specs.Steps.{Step, seeks, chain_of}
+use Rattle.lock_state.specs.Steps.{Step, seeks, is_first, chain_of}
 use Rattle.lock_state.specs.Steps.LockWords.{taking_from, round_of, looks_after, round_after, taking_after, unstamped_after}
 use Rattle.lock_state.specs.Steps.Items.{Item, is_chain, in_its_chain, seen_after}
 use Rattle.floor_table.specs.Descriptions.{config_in, room_for}
@@ -56,9 +56,11 @@ is_out out (Some j) = is_there (found j out)
 abbrev pub has_item : Knowledge → Item → Bool
 has_item v i = is_out v.out (slot_of v.description i)
 
--- whether a look at a lock counts: it does in an acquiring round of the lock, outside the lock's chain
+-- whether a look at a lock counts: it does in an acquiring round of the lock, and where it is a call's first exchange
+-- that missed, outside the lock's chain
 abbrev pub counts : Knowledge → ℕ → Bool
-counts v l = seeks l v.share.doing.round
+counts v l =
+    (seeks l v.share.doing.round || is_first v.share.doing.round (hold_in v.share.held l))
     && not (has_item v (chain_of v.description.chains (config_in v.description) l))
 
 -- after a look at a lock, which saw the word

@@ -127,6 +127,18 @@ pub record HasTurnstilesOut (floor : Description) (v : Knowledge) : Type 0 where
   pub owners : (l o : ℕ) → is_turnstile ((config_in floor).kind l) ≡ true
       → owner_of_head (head_of (lock_queue l) chain) ≡ Some o → o < length floor.threads
 
+-- the thread whose record a hop takes: at a lock the owner of its turnstile, in the chain; at a thread that one's
+abbrev pub IsHopTo : Walk → List (QueueName × Turnstile) → ℕ → Type 0
+IsHopTo NoWalk chain o = ⊥
+IsHopTo (AtLock l) chain o = owner_of_head (head_of (lock_queue l) chain) ≡ Some o
+IsHopTo (AtThread u) chain o = u ≡ o
+
+-- the rest of that hop needs a thread's record
+pub record NeedsRecord (floor : Description) (o : ℕ) (v : Knowledge) : Type 0 where
+  pub chain : List (QueueName × Turnstile)
+  pub out : v.out ≡ (turnstiles_place floor, Turnstiles chain) ∷ []
+  pub to : IsHopTo v.share.doing.walk chain o
+
 -- it made the rest of that hop: the walk is there then, and the thread has nothing out
 pub record HopsOn (floor : Description) (w : Walk) (old new : Knowledge) : Type 0 where
   pub steps : List (List Step)

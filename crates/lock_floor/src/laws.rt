@@ -1,10 +1,13 @@
 //! What steps say of the state in which they are made, and of the one behind it: a look finds the word that the lock
-//! has then, a try that fails finds its item out then, and reads and changes of locks' tables act on what all entries
-//! with earlier tickets leave.
+//! has then (and what that can be, where the thread doesn't hold the lock), a try that fails finds its item out then,
+//! and reads and changes of locks' tables act on what all entries with earlier tickets leave.
 ghost use Rattle.std.specs.Prelude.{◌≡◌, ◌≢◌, ℕ, Bool, true, List, [], ◌∷◌, length, Option, None, Some, IsSome};
 ghost use Rattle.std.specs.declared.alloc.Global.{Global};
 ghost use Rattle.std.specs.declared.boxed.Box.{Box};
+ghost use Rattle.lock_laws.specs.Words.{CanBeSeen};
 ghost use Rattle.lock_model.specs.History.{value_at};
+ghost use Rattle.lock_model.specs.Holds.{NotHeld};
+ghost use Rattle.lock_model.specs.Operations.{hold_in};
 ghost use Rattle.lock_model.specs.declared.event.Event.{Event};
 ghost use Rattle.lock_model.specs.declared.event.Event.TheVariants.{Got};
 ghost use Rattle.lock_model.specs.declared.numbers.LockNo.{LockNo};
@@ -47,6 +50,15 @@ pub fn looks_find_words()
         (m : Makes floor (Looks u.thread l first ∷ []) u v)
         (k : Makes floor (Looks v.thread l second ∷ []) v w)
         → k.past ≡ v.seen → w.share.doing.last_look ≡ v.share.doing.last_look }
+{}
+
+/// A look at a lock that the thread doesn't hold finds a word which such a thread can see: it may share the lock beside
+/// those who do, a free mutex shows no waiters, and a mutex isn't shared.
+pub fn looks_find_words_of_others()
+    ensures { (floor : Description) (l : ℕ) (counts : Bool) (old new : Knowledge)
+        (m : Makes floor (Looks old.thread l counts ∷ []) old new)
+        → hold_in old.share.held l ≡ NotHeld
+        → CanBeSeen ((config_in floor).kind l) (m.state.word l) }
 {}
 
 /// A try that fails finds the item out at that very moment: in the state to which all steps lead that its seat has seen

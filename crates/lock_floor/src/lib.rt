@@ -16,7 +16,8 @@
 //! - `ordering`: how a blocking call checks the order of its lock.
 //! - `waits`: those by which a thread comes to stand on the queue of a lock.
 //! - `parking`: how a thread that stands on a queue sleeps, and runs again.
-//! - `opening`: a release that takes waiters off a lock's turnstile.
+//! - `opening`: a release that takes waiters off a lock's turnstile, and `claiming`: a gain of a free lock that shows
+//!   waiters, by which the thread owns its turnstile.
 //! - `marking`: how those are woken.
 //! - `walking`: how a thread that stands on a turnstile lends its priority along the chain of owners.
 //! - `ties`: what is true of each floor and pass.
@@ -24,6 +25,7 @@
 
 mod calls;
 mod chains;
+mod claiming;
 mod closing;
 mod floor;
 mod keeper;

@@ -2,17 +2,19 @@
 //! `sleepq_wait` of FreeBSD's subr_turnstile.c and subr_sleepqueue.c. It sleeps on its wait word: the system puts it to
 //! sleep only where the word still says that it is queued, and who wakes it ends the sleep once the word says
 //! otherwise.
-ghost use Rattle.std.specs.Prelude.{◌≡◌, ◌<◌, length, IfNone, IfSome, bit_and};
+ghost use Rattle.std.specs.Prelude.{◌≡◌, ◌<◌, ◌≤◌, false, length, IfNone, IfSome, bit_and};
 ghost use Rattle.atomic_table.specs.Table.{Allows};
 ghost use Rattle.floor_table.specs.Places.{spot, wait_line};
 ghost use Rattle.floor_table.specs.Rule.{FloorHolds};
 ghost use Rattle.floor_table.specs.Views.{seeing};
 ghost use Rattle.lock_floor.specs.Passes.{IsOf};
-ghost use Rattle.lock_floor.specs.Resumes.{cause_of, FindsQueued, MayRunAgain, RunsAgain};
+ghost use Rattle.lock_floor.specs.Resumes.{cause_of, FindsQueued, FindsWhetherQueued, MayRunAgain, RunsAgain};
 
 use crate::floor::FloorOf;
 use crate::pass::Pass;
-use floor_table::{Board, Description, FloorSeat, Law, Slot, Tells, View, keep_bits, wait_spot};
+use floor_table::{
+    Board, Description, FloorSeat, Law, Slot, Tells, View, keep_bits, load, wait_spot,
+};
 use lock_model::ThreadNo;
 use std::marker::Brand;
 use std::sync::Wait;
@@ -62,8 +64,25 @@ impl FloorOf<Slot, View, Description, Law> {
         self.board.shared.wake_one(wait_spot(t));
     }
 
-    /// Whether a thread's wait word says that it is queued. It is a plain load, and tells nothing. No wait word says so
-    /// of a thread that the floor doesn't have.
+    /// Finds out whether a thread is queued, as who spins for a lock asks of its owner. A thread that the floor doesn't
+    /// have never is. It is one atomic step, which is no step of the state, and never waits.
+    pub fn find_queued(&self, pass: &mut Pass, t: ThreadNo) -> bool
+        requires own { IsOf self.now pass.old }
+        ensures own { IsOf self.now pass.new }
+        ensures view { pass.new.view ≡ seeing pass.new.view.seen pass.old.view }
+        ensures found { t.0 < length self.now.description.threads
+            → FindsWhetherQueued self.now.description t.0 result pass.old.view pass.new.view }
+        ensures beyond { length self.now.description.threads ≤ t.0
+            → (result ≡ false) × (pass.new.view ≡ pass.old.view) }
+    {
+        if usize::from(t.0) >= self.description.threads.as_slice().len() {
+            return false;
+        }
+        read_wait::<Brand>(&self.board, &mut pass.seat, t) == QUEUED
+    }
+
+    /// Whether a thread's wait word says that it is queued, by a plain load, which tells nothing: for a scheduler, which
+    /// has no pass to step with.
     pub fn is_queued(&self, t: ThreadNo) -> bool {
         usize::from(t.0) < self.description.threads.as_slice().len()
             && self.board.shared.peek(wait_spot(t)) == QUEUED
@@ -82,4 +101,16 @@ fn run_again<J: Tells>(board: &Board, seat: &mut FloorSeat, who: ThreadNo) -> u6
     ensures told { J.told seat.old.me result seat.new.me }
 {
     keep_bits::<J>(board, seat, wait_spot(who), 1)
+}
+
+// Reads a thread's wait word.
+fn read_wait<J: Tells>(board: &Board, seat: &mut FloorSeat, t: ThreadNo) -> u64
+    requires own { seat.old.table_id ≡ board.now.shared.table_id }
+    requires within { spot (wait_line t.0) < board.now.shared.table_id.words }
+    requires may { Allows (FloorHolds board.now.shared.key) board.now.shared.table_id.slots
+        seat.old.id seat.old.me (spot (wait_line t.0)) (λ n. n) (J.told seat.old.me) }
+    ensures own { seat.new.table_id ≡ seat.old.table_id }
+    ensures told { J.told seat.old.me result seat.new.me }
+{
+    load::<J>(board, seat, wait_spot(t))
 }

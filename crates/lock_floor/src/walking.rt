@@ -23,7 +23,7 @@ ghost use Rattle.floor_table.specs.Steps.{MayMake, Makes};
 ghost use Rattle.floor_table.specs.Views.{seeing};
 ghost use Rattle.lock_floor.specs.Latches.{FindsOut, Takes};
 ghost use Rattle.lock_floor.specs.Passes.{IsOf};
-ghost use Rattle.lock_floor.specs.Walks.{CanWalk, HasTurnstilesOut, HopsOn, turnstiles, turnstiles_place, owner_of_head, IsStepAtThread, MayLendTo, MaySort, StepsInHop, hopped, IsLentTo, StandsNowhere, IsSorted};
+ghost use Rattle.lock_floor.specs.Walks.{CanWalk, HasTurnstilesOut, HopsOn, NeedsRecord, turnstiles, turnstiles_place, owner_of_head, IsStepAtThread, MayLendTo, MaySort, StepsInHop, hopped, IsLentTo, StandsNowhere, IsSorted};
 
 use crate::floor::FloorOf;
 use crate::pass::Pass;
@@ -59,8 +59,9 @@ impl FloorOf<Slot, View, Description, Law> {
 
     /// Makes the rest of a hop of the thread's walk, for which it has the chain of turnstiles out. Where the walk is,
     /// `there` tells, and the answer tells where it is then: nowhere, if it has ended; the thread has nothing out then.
-    /// `None` comes only where another thread had a record out at a moment between the pass's last step and this call's
-    /// return, or the pass itself has it. It never waits.
+    /// `None` comes only where another thread had the record out that the hop needs (at a lock that of the owner of its
+    /// turnstile, at a thread that one's), at a moment between the pass's last step and this call's return, or the pass
+    /// itself has it. It never waits.
     pub fn try_hop(&self, pass: &mut Pass, there: Walk) -> Option<Walk>
         requires own { IsOf self.now pass.old }
         requires in_hop { HasTurnstilesOut self.now.description pass.old.view }
@@ -72,6 +73,7 @@ impl FloorOf<Slot, View, Description, Law> {
         ensures left { IfNone result (pass.new.view
             ≡ seeing pass.new.view.seen pass.old.view) }
         ensures elsewhere { IfNone result ((o : ℕ)
+            × NeedsRecord self.now.description o pass.old.view
             × FindsOut self.now.description (RecordOf o) pass.old.view pass.new.view) }
     {
         match there {
@@ -92,6 +94,7 @@ impl FloorOf<Slot, View, Description, Law> {
         ensures left { IfNone result (pass.new.view
             ≡ seeing pass.new.view.seen pass.old.view) }
         ensures elsewhere { IfNone result ((o : ℕ)
+            × NeedsRecord self.now.description o pass.old.view
             × FindsOut self.now.description (RecordOf o) pass.old.view pass.new.view) }
     {
         let chain = self.turnstiles_slot();
@@ -124,6 +127,7 @@ impl FloorOf<Slot, View, Description, Law> {
         ensures left { IfNone result (pass.new.view
             ≡ seeing pass.new.view.seen pass.old.view) }
         ensures elsewhere { IfNone result ((o : ℕ)
+            × NeedsRecord self.now.description o pass.old.view
             × FindsOut self.now.description (RecordOf o) pass.old.view pass.new.view) }
     {
         if !self.try_take_rec(pass, o) {

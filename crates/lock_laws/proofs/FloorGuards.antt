@@ -1,6 +1,6 @@
 -- The guards of a running floor can be met: p takes a free mutex by its first exchange, and q, whose first exchange
 -- misses, seeks it, looks, takes its chain and enters. And they refuse exchanges outside a round that are no first
--- ones.
+-- ones, but for the second one of a call of an rw lock.
 use Rattle.std.proofs.Common.{◌≡◌, ℕ, Bool, true, false, List, [], ◌∷◌, ◌++◌, Option, Some, None, refl, sym, ap, ◌∙◌, inl, inr, arith}
 use Rattle.std.proofs.lemmas.Bool.{cases_eq}
 use Rattle.lock_laws.proofs.Kit.{put_other}
@@ -8,11 +8,11 @@ use Rattle.lock_model.specs.Counts.{sum_below, least}
 use Rattle.lock_model.specs.Config.{Config}
 use Rattle.lock_model.specs.History.{sections_in}
 use Rattle.lock_model.specs.Queues.{lock_queue}
-use Rattle.lock_model.specs.declared.plan.Kind.TheVariants.{Mtx}
-use Rattle.lock_model.specs.declared.plan.Mode.TheVariants.{Excl}
+use Rattle.lock_model.specs.declared.plan.Kind.TheVariants.{Mtx, Rw}
+use Rattle.lock_model.specs.declared.plan.Mode.TheVariants.{Shared, Excl}
 use Rattle.lock_model.specs.declared.plan.QueueName.{QueueName}
 use Rattle.lock_model.specs.declared.event.Event.TheVariants.{Locked}
-use Rattle.lock_state.specs.State.{State, Running, Queued, Awake, start_state, put, put_at, put_queue}
+use Rattle.lock_state.specs.State.{State, Look, Running, Queued, Awake, start_state, put, put_at, put_queue}
 use Rattle.lock_state.specs.Steps.LockWords.{is_taking_back, after_seek, after_look, after_gain, after_stamp, after_ready}
 use Rattle.lock_state.specs.Steps.Turnstiles.{after_enter}
 use Rattle.lock_state.specs.Steps.Items.{Item, out_with, go_together, TurnstileChain, SleepChain, RecordOf, CellOf, ClassGraph, IsOnItsWay, is_chain, after_take, after_give}
@@ -138,7 +138,7 @@ takes_first steps then = (
 -- q's first exchange misses, and it blocks on the mutex
 unfoldable entering : List Step
 entering =
-    Looks 1 0 false ∷ Seeks 1 0 false ∷ Looks 1 0 true ∷ TakesItem 1 (TurnstileChain 0) ∷ TakesItem 1 (RecordOf 1) ∷
+    Looks 1 0 true ∷ Seeks 1 0 false ∷ Looks 1 0 true ∷ TakesItem 1 (TurnstileChain 0) ∷ TakesItem 1 (RecordOf 1) ∷
     Looks 1 0 false
     ∷ Readies 1 (lock_queue 0) ∷ Enters 1 0 Excl 1 ∷ GivesItem 1 (RecordOf 1) ∷ GivesItem 1 (TurnstileChain 0) ∷ []
 
@@ -173,7 +173,7 @@ entering_may = takes_first entering (
   -- q looks at it outside a round,
   record {
     asks_of_thread = looks_on _ _ refl refl refl (unslept _ _ refl);
-    may = record { thread = omega arith; lock = omega arith; room = λ e. absurd cc };
+    may = record { thread = omega arith; lock = omega arith; room = λ e. omega arith };
     has_out = tt;
     has_seen = record {
       counts = refl;
@@ -186,6 +186,7 @@ entering_may = takes_first entering (
         wants = refl;
         takes = refl;
         unseen = refl;
+        first = refl;
       };
       halting = λ e. absurd cc;
     };
@@ -330,15 +331,16 @@ blocking_gain_refused f = let x : false ≡ true = f.has_seen.fits in cc
 
 -- nor does a call make a second exchange there: q's first one missed,
 unfoldable missing : List Step
-missing = taking ++ Looks 1 0 false ∷ []
+missing = taking ++ Looks 1 0 true ∷ []
 
-second_exchange_refused : (in_round : Bool)
-    → FitsFloor 16 floor_plan (after_all floor_plan (start_state floor_plan) missing) (Looks 1 0 in_round) → ⊥
+second_exchange_refused : (counts : Bool)
+    → FitsFloor 16 floor_plan (after_all floor_plan (start_state floor_plan) missing) (Looks 1 0 counts) → ⊥
 unfolding floor_plan taking missing start_state after_seek after_look after_gain after_stamp put put_at put_queue least
     sum_below sections_in
-second_exchange_refused in_round f = elim (f.has_seen.outside_first refl refl) [
+second_exchange_refused counts f = elim (f.has_seen.outside_first refl refl) [
   | inl first ↦ (let x = first.unseen in cc)
-  | inr e ↦ cc
+  | inr (inl second) ↦ second.kind refl
+  | inr (inr halts) ↦ cc
 ]
 
 -- and who holds a lock doesn't go on behind one: p holds the mutex 1 and missed the mutex 0
@@ -347,10 +349,112 @@ two_mutexes = record floor_plan { locks = 2 }
 
 unfoldable missing_with : List Step
 missing_with =
-    Seeks 0 1 false ∷ Gains 0 1 Excl false ∷ Stamps 0 (Locked (record { 0 = 1 }) Excl) ∷ Looks 0 0 false ∷ []
+    Seeks 0 1 false ∷ Gains 0 1 Excl false ∷ Stamps 0 (Locked (record { 0 = 1 }) Excl) ∷ Looks 0 0 true ∷ []
 
 call_with_lock_refused : FitsFloor 16 two_mutexes (after_all two_mutexes (start_state two_mutexes) missing_with)
     (Seeks 0 0 false) → ⊥
 unfolding floor_plan two_mutexes missing_with start_state after_seek after_look after_gain after_stamp put put_at
     put_queue least sum_below sections_in
 call_with_lock_refused f = let x = (f.has_seen.blocks _ refl).1 in cc
+
+-- But of an rw lock a second one may be made: p reads the first of two, q's first exchange missed, and so does the
+-- second, from the word that it found.
+unfoldable two_rw_locks : Config
+two_rw_locks = record two_mutexes { kind = λ l. Rw }
+
+unfoldable reading : List Step
+reading = Seeks 0 0 false ∷ Gains 0 0 Shared false ∷ Stamps 0 (Locked (record { 0 = 0 }) Shared) ∷ []
+
+unfoldable missing_twice : List Step
+missing_twice = Looks 1 0 true ∷ Looks 1 0 true ∷ []
+
+second_exchange_may : FloorAll 16 two_rw_locks (after_all two_rw_locks (start_state two_rw_locks) reading) missing_twice
+unfolding floor_plan two_mutexes two_rw_locks reading missing_twice start_state after_seek after_look after_gain
+    after_stamp put put_at put_queue least sum_below sections_in
+second_exchange_may = (
+  record {
+    asks_of_thread = looks_on _ _ refl refl refl (unslept _ _ refl);
+    may = record { thread = omega arith; lock = omega arith; room = λ e. omega arith };
+    has_out = tt;
+    has_seen = record {
+      counts = refl;
+      of_round = λ e. absurd (e refl);
+      in_chain = λ i x e. absurd (none_out (λ k. None) (λ k. None) (λ k. refl) (λ k. refl) i 1 e);
+      outside = λ i n x e. absurd (none_out (λ k. None) (λ k. None) (λ k. refl) (λ k. refl) i 1 e);
+      outside_takes = λ e. inl refl;
+      outside_first = λ e x. inl record {
+        acting = record { unnamed = refl; unwoken = refl };
+        wants = refl;
+        takes = refl;
+        unseen = refl;
+        first = refl;
+      };
+      halting = λ e. absurd cc;
+    };
+  },
+  (
+    record {
+      asks_of_thread = looks_on _ _ refl refl refl (unslept _ _ refl);
+      may = record { thread = omega arith; lock = omega arith; room = λ e. omega arith };
+      has_out = tt;
+      has_seen = record {
+        counts = refl;
+        of_round = λ e. absurd (e refl);
+        in_chain = λ i x e. absurd (none_out (λ k. None) (λ k. None) (λ k. refl) (λ k. refl) i 1 e);
+        outside = λ i n x e. absurd (none_out (λ k. None) (λ k. None) (λ k. refl) (λ k. refl) i 1 e);
+        outside_takes = λ e. inl refl;
+        outside_first = λ e x. inr (inl record {
+          kind = λ m. cc;
+          acting = record { unnamed = refl; unwoken = refl };
+          wants = refl;
+          takes = refl;
+          bare = refl;
+          behind = (_, refl, refl);
+          once = refl;
+        });
+        halting = λ e. absurd cc;
+      };
+    },
+    tt,
+  ),
+)
+
+-- no third one,
+third_exchange_refused : (counts : Bool) → FitsFloor 16 two_rw_locks
+    (after_all two_rw_locks (start_state two_rw_locks) (reading ++ missing_twice)) (Looks 1 0 counts) → ⊥
+unfolding floor_plan two_mutexes two_rw_locks reading missing_twice start_state after_seek after_look after_gain
+    after_stamp put put_at put_queue least sum_below sections_in
+third_exchange_refused counts f = elim (f.has_seen.outside_first refl refl) [
+  | inl first ↦ (let x = first.unseen in cc)
+  | inr (inl second) ↦ omega (arith, second.once)
+  | inr (inr halts) ↦ cc
+]
+
+-- none at another lock than the first,
+looked_at : Option Look → ℕ
+looked_at None = 0
+looked_at (Some look) = look.lock
+
+unfoldable missing_once : List Step
+missing_once = Looks 1 0 true ∷ []
+
+other_exchange_refused : (counts : Bool) → FitsFloor 16 two_rw_locks
+    (after_all two_rw_locks (start_state two_rw_locks) (reading ++ missing_once)) (Looks 1 1 counts) → ⊥
+unfolding floor_plan two_mutexes two_rw_locks reading missing_once start_state after_seek after_look after_gain
+    after_stamp put put_at put_queue least sum_below sections_in looked_at
+other_exchange_refused counts f = elim (f.has_seen.outside_first refl refl) [
+  | inl first ↦ (let x = first.unseen in cc)
+  | inr (inl second) ↦ omega (arith, ap looked_at second.behind.1 ∙ second.behind.2)
+  | inr (inr halts) ↦ cc
+]
+
+-- and none of a thread that holds a lock: p holds the lock 1 and missed the lock 0
+second_with_lock_refused : (counts : Bool) → FitsFloor 16 two_rw_locks
+    (after_all two_rw_locks (start_state two_rw_locks) missing_with) (Looks 0 0 counts) → ⊥
+unfolding floor_plan two_mutexes two_rw_locks missing_with start_state after_seek after_look after_gain after_stamp put
+    put_at put_queue least sum_below sections_in
+second_with_lock_refused counts f = elim (f.has_seen.outside_first refl refl) [
+  | inl first ↦ (let x = first.unseen in cc)
+  | inr (inl second) ↦ (let x = second.bare in cc)
+  | inr (inr halts) ↦ cc
+]

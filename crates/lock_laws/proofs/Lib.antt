@@ -57,3 +57,4 @@ pub mod Abort
 pub mod Bits
 pub mod Dealt
 pub mod Taken
+pub mod SeenWords

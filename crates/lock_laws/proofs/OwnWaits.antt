@@ -14,8 +14,8 @@ module _ (c : Config) (s : State) (t l : ℕ) (by_try : Bool) (g : MaySeek c s t
   unfolding after_seek
   seek_lawful = assumption h
 
-module _ (c : Config) (s : State) (t l : ℕ) (in_round : Bool) (g : MayLook c s t l in_round) (h : Lawful c s) where
-  pub look_lawful : Lawful c (after_look s t l in_round)
+module _ (c : Config) (s : State) (t l : ℕ) (counts : Bool) (g : MayLook c s t l counts) (h : Lawful c s) where
+  pub look_lawful : Lawful c (after_look s t l counts)
   unfolding after_look
   look_lawful = assumption h
 

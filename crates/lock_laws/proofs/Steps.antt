@@ -26,7 +26,7 @@ use Rattle.lock_laws.proofs.Abort as abort
 
 pub keeps : (c : Config) (s : State) (step : Step) → May c s step → Lawful c s → Lawful c (after c s step)
 keeps c s (Seeks t l by_try) g h = seek_lawful c s t l by_try g h
-keeps c s (Looks t l in_round) g h = look_lawful c s t l in_round g h
+keeps c s (Looks t l counts) g h = look_lawful c s t l counts g h
 keeps c s (TakesItem t i) g h = take_lawful c s t i g h
 keeps c s (GivesItem t i) g h = give_lawful c s t i g h
 keeps c s (Gains t l mode by_try) g h = gain.lawful c s t l mode by_try g h

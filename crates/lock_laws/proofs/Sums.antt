@@ -1,5 +1,5 @@
 -- Laws of sums of sums, and of how often the numbers below a bound stand in lists.
-use Rattle.std.proofs.Common.{◌≡◌, ℕ, zero, suc, ◌+◌, ◌<◌, ◌≤◌, Bool, true, false, cond, eqb, List, [], ◌∷◌, length, Option, Some, None, refl, sym, ap, inl, inr, arith}
+use Rattle.std.proofs.Common.{◌≡◌, ◌∙◌, ℕ, zero, suc, ◌+◌, ◌<◌, ◌≤◌, Bool, true, false, cond, eqb, List, [], ◌∷◌, length, Option, Some, None, refl, sym, ap, inl, inr, arith}
 use Rattle.std.proofs.lemmas.Bool.{ne_eqb, cases_eq, cases_lt}
 use Rattle.lock_model.specs.Counts.{sum_below, one, some, at_option, times}
 use Rattle.lock_model.specs.Config.{Config}
@@ -31,6 +31,19 @@ pub sum_below-most : (n : ℕ) (f : ℕ → ℕ) → ((j : ℕ) → f j ≤ 1) �
 unfolding sum_below
 sum_below-most zero f h = omega arith
 sum_below-most (suc n) f h = let here = h n in let rest = sum_below-most n f h in omega arith
+
+-- and of entries of which one is 0
+pub sum_below-less : (n : ℕ) (f : ℕ → ℕ) → ((j : ℕ) → f j ≤ 1) → (i : ℕ) → i < n → f i ≡ 0 → sum_below n f < n
+unfolding sum_below
+sum_below-less zero f h i low none = absurd (omega arith)
+sum_below-less (suc n) f h i low none =
+    elim (cases_eq i n) [
+      | inl e ↦
+          let here : f n ≡ 0 = ap f (sym e) ∙ none in
+          let rest = sum_below-most n f h in
+          omega arith
+      | inr ne ↦ let here = h n in let rest = sum_below-less n f h i (omega arith) none in omega arith
+    ]
 
 -- and of entries that are at least 1
 pub sum_below-all : (n : ℕ) (f : ℕ → ℕ) → ((j : ℕ) → j < n → 1 ≤ f j) → n ≤ sum_below n f

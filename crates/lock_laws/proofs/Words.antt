@@ -1,12 +1,13 @@
 -- Laws of lock words, and of the words and holders of one lock.
 use Rattle.std.proofs.Common.{◌≡◌, ◌≢◌, ℕ, ◌+◌, ◌<◌, ◌≤◌, Bool, true, false, eqb, refl, sym, ap, inl, inr, arith, ◌∙◌}
-use Rattle.std.proofs.lemmas.Bool.{ne_eqb, cases_eq, eqb-true}
-use Rattle.lock_model.specs.Counts.{sum_below}
-use Rattle.lock_model.specs.Words.{Word, Holder, Free, HeldBy, SharedBy, word_of, bits_of, sharers, is_free, is_owned, admits, gained, claimed, entered, without_one}
+use Rattle.std.proofs.lemmas.Bool.{ne_eqb, cases_eq, eqb-true, not-false}
+use Rattle.lock_model.specs.Counts.{one, sum_below}
+use Rattle.lock_model.specs.Words.{Word, Holder, Free, HeldBy, SharedBy, word_of, bits_of, sharers, is_free, is_owned, shows_waiters, admits, is_plain, gained, claimed, entered, without_one}
 use Rattle.lock_model.specs.Holds.{is_exclusive, Hold, NotHeld, Holds}
 use Rattle.lock_model.specs.Config.{Config}
 use Rattle.lock_state.specs.State.{State, put, put_at}
 use Rattle.lock_state.specs.Facts.{Lawful, WordsMatchHolders}
+use Rattle.lock_state.specs.Facts.Waits.{busy}
 use Rattle.lock_state.specs.Facts.Words.{WordMatchesHolders, owns, shares}
 use Rattle.lock_model.specs.declared.plan.Kind.{Kind}
 use Rattle.lock_model.specs.declared.plan.Kind.TheVariants.{Mtx, Rw, Sx}
@@ -33,6 +34,33 @@ refused_held kind w Excl m e = e
 refused_held Mtx w Shared m e = absurd (let z = m refl in cc)
 refused_held Rw w Shared m e = grind arith
 refused_held Sx w Shared m e = grind arith
+
+-- a free word shows no waiters, where it shows them only held
+pub free_shows_none : (w : Word) → one (shows_waiters w) ≤ busy w.holder → is_free w.holder ≡ true
+    → shows_waiters w ≡ false
+free_shows_none w few free = go w.holder (shows_waiters w) few free
+  where
+    go : (x : Holder) (b : Bool) → one b ≤ busy x → is_free x ≡ true → b ≡ false
+    go Free true few free = absurd (omega arith)
+    go Free false few free = refl
+    go (HeldBy t) b few free = absurd cc
+    go (SharedBy n) b few free = absurd cc
+
+-- a gain that isn't plain is an exclusive one, of a free rw lock that shows waiters
+pub record IsClaim (kind : Kind) (w : Word) (mode : Mode) : Type 0 where
+  pub exclusive : mode ≡ Excl
+  pub is_rw : kind ≡ Rw
+  pub free : is_free w.holder ≡ true
+  pub shown : shows_waiters w ≡ true
+
+pub is_claim : (kind : Kind) (w : Word) (mode : Mode)
+    → (kind ≡ Mtx → is_free w.holder ≡ true → shows_waiters w ≡ false) → admits kind w mode ≡ true
+    → is_plain kind w mode ≡ false → IsClaim kind w mode
+is_claim kind w Shared m e f = absurd cc
+is_claim Sx w Excl m e f = absurd cc
+is_claim Rw w Excl m e f =
+    record { exclusive = refl; is_rw = refl; free = e; shown = not-false (shows_waiters w) f }
+is_claim Mtx w Excl m e f = absurd (let z : true ≡ false = sym (not-false (shows_waiters w) f) ∙ m refl e in cc)
 
 -- the bits of a word that a lock can have say the word again
 pub word_again : (w : Word) → w.holder ≢ SharedBy 0 → word_of (bits_of w) ≡ w

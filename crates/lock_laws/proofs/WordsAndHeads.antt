@@ -22,7 +22,7 @@ use Rattle.lock_laws.proofs.Words.{owner_is}
 
 -- 1. Words
 
-shares_one : (h : Hold) → shares h ≤ 1
+pub shares_one : (h : Hold) → shares h ≤ 1
 shares_one NotHeld = omega arith
 shares_one (Holds Excl) = omega arith
 shares_one (Holds Shared) = omega arith

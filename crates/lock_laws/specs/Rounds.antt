@@ -1,6 +1,6 @@
 -- Acquiring rounds of a running floor: a blocking call that took its lock's chain keeps it until it gains, claims or
--- enters.
-use Rattle.std.specs.Prelude.{◌≡◌, ℕ, false, Option, Some, None}
+-- enters; and before the round few exchanges are made.
+use Rattle.std.specs.Prelude.{◌≡◌, ℕ, ◌≤◌, false, Option, Some, None}
 use Rattle.lock_model.specs.Config.{Config}
 use Rattle.lock_state.specs.State.{State, Wait, Round}
 use Rattle.lock_state.specs.Steps.LockWords.{is_woken, bound_to}
@@ -26,3 +26,8 @@ RoundsAreActing round blocked_on wait =
 pub record LawfulRounds (chains : ℕ) (c : Config) (s : State) : Type 0 where
   pub bound_has_chain : BoundHasChain chains c s.round (item_with s)
   pub rounds_are_acting : RoundsAreActing s.round s.blocked_on s.wait
+
+-- outside its rounds a thread that wants no lock has at most two looks that count: its call's first exchanges
+unfoldable pub FirstExchangesAreFew : (ℕ → Option Round) → (ℕ → Option ℕ) → (ℕ → ℕ) → Type 0
+FirstExchangesAreFew round wanted looks =
+    (t : ℕ) → round t ≡ None → wanted t ≡ None → looks t ≤ 2

@@ -6,7 +6,7 @@ ghost use Rattle.lock_model.specs.Config.{Config};
 ghost use Rattle.lock_state.specs.State.{State, start_state};
 ghost use Rattle.lock_state.specs.Facts.{Lawful, LawfulFloor};
 ghost use Rattle.lock_state.specs.Steps.{Step, May, HasSeen, after, IsReachable, IsFloorStep, EndsRound};
-ghost use Rattle.lock_laws.specs.Rounds.{IsBoundTo, LawfulRounds};
+ghost use Rattle.lock_laws.specs.Rounds.{IsBoundTo, LawfulRounds, FirstExchangesAreFew};
 ghost use Rattle.lock_laws.specs.Signals.{TurnstilesSignal};
 
 /// The state at the start of a plan is one of a running floor,
@@ -52,7 +52,20 @@ pub fn signals_alone_wake()
         → IsFloorStep chains c s n → TurnstilesSignal c s → TurnstilesSignal c n }
 {}
 
-/// In an acquiring round a thread makes at most 100 looks.
+/// Of a call at most two first exchanges miss before its acquiring round: at the start nobody has looked,
+pub fn first_exchanges_begin()
+    ensures { (c : Config) → FirstExchangesAreFew
+        (start_state c).round (start_state c).wanted (start_state c).looks }
+{}
+
+/// and each step of the floor keeps it so.
+pub fn first_exchanges_are_few()
+    ensures { (chains : ℕ) (c : Config) (s n : State)
+        → IsFloorStep chains c s n → FirstExchangesAreFew s.round s.wanted s.looks
+        → FirstExchangesAreFew n.round n.wanted n.looks }
+{}
+
+/// At most 100 looks of a thread count in an acquiring round.
 pub fn looks_are_few()
     ensures { (c : Config) (s : State) (t : ℕ) → IsReachable c s → s.looks t ≤ 100 }
 {}

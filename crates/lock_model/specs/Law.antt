@@ -212,9 +212,9 @@ HaltsOnlyWhenRunning is_run [] = ⊤
 HaltsOnlyWhenRunning is_run (e ∷ es) =
     (is_run ≡ false → is_halt e.event ≡ false) × HaltsOnlyWhenRunning is_run es
 
--- 4. The law, but for what it says of the causes of halts, of busy words, and of lock orders where threads ran. Is_run
--- says whether they ran, or the run was a scheduled one; cut_short whether a scheduled run ended stuck or too long.
--- Threads that ran come to their end. Of lock orders the law speaks where each take has come to its end
+-- 4. The law, but for what it says of the causes of halts and of busy words. Is_run says whether threads ran, or the run
+-- was a scheduled one; cut_short whether a scheduled run ended stuck or too long. Threads that ran come to their end. Of
+-- lock orders the law speaks where each take has come to its end
 
 -- the parts that hold behind each entry, whatever operations its threads have
 pub record IsLegalSoFar (c : Config) (is_run : Bool) (history : List Entry) : Type 0 where
@@ -229,5 +229,4 @@ pub record IsLegalSoFar (c : Config) (is_run : Bool) (history : List Entry) : Ty
 pub record IsLegal (plan : Plan) (is_run cut_short : Bool) (history : List Entry) : Type 0 where
   pub so_far : IsLegalSoFar (config_of plan) is_run history
   pub entries_follow_operations : EntriesFollowOperations plan (not is_run && cut_short) history
-  pub orders_are_legal : is_run ≡ false → cut_short ≡ false
-      → OrdersAreLegal (config_of plan) history
+  pub orders_are_legal : cut_short ≡ false → OrdersAreLegal (config_of plan) history

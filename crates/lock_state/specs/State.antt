@@ -131,6 +131,7 @@ pub record State : Type 0 where
   pub called : ℕ → Option ℕ
   pub walk : ℕ → Walk
   pub marked : ℕ → List Mark
+  -- the looks of its call, or of its round, that count
   pub looks : ℕ → ℕ
   pub looks_in_all : ℕ → ℕ
   pub last_look : ℕ → Option Look

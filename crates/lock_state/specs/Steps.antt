@@ -7,7 +7,7 @@ pub mod SleepQueues
 pub mod Lending
 pub mod Orders
 pub mod Counting
-use Rattle.std.specs.Prelude.{◌≡◌, ◌≢◌, ◌⊎◌, ℕ, ◌%◌, Bool, true, false, not, ◌&&◌, ◌==◌, if◌then◌else◌, List, [], ◌∷◌, ◌++◌, Option, Some, None, ⊤, ◌<◌}
+use Rattle.std.specs.Prelude.{◌≡◌, ◌≢◌, ◌⊎◌, ℕ, ◌%◌, Bool, true, false, not, ◌&&◌, ◌||◌, ◌==◌, if◌then◌else◌, List, [], ◌∷◌, ◌++◌, Option, Some, None, ⊤, ◌<◌}
 use Rattle.lock_model.specs.Config.{Config}
 use Rattle.lock_model.specs.Events.{OfEnd, NoEnd, EndsTakeOf, EndsWaitOn, OfPrio, NoPrio, NewBase, ShowsPrios, OfTake, NoTake, GainedBy, FoundBusy, HaltedFor, RefusedBy, OfSleep, NoSleep, FallsAsleep, WakesUp, IsHalted, IsHaltedAtLock, WakesOne, WakesAll, facets, of_sleep, is_waking_of, is_end, sleeps_on}
 use Rattle.lock_state.specs.State.{State, Walk, NoWalk, AtLock, AtThread, Look, Round, SleepHalted, Phase, Awake, Asleep, Last, Halting, Aborting, SelfAborted, is_parked, start_state}
@@ -20,7 +20,8 @@ use Rattle.lock_state.specs.Steps.Lending.{MayClaim, MayLend, MayShift, MayEndWa
 use Rattle.lock_state.specs.Steps.Orders.{MayAdmit, MayRefuse, after_admit, after_refuse}
 use Rattle.lock_state.specs.Steps.Counting.{MayCountOut, MayCountIn, MayCountSelfIn, MayCountEnd, MayHalt, after_count_out, after_count_in, after_count_self_in, after_count_end, after_halt}
 use Rattle.lock_state.specs.Steps.Items.{Item, TurnstileChain, SleepChain, RecordOf, CellOf, ClassGraph, item_with, is_chain, IsOnItsWay, MayTake, MayGive, after_take, after_give}
-use Rattle.lock_model.specs.Holds.{NotHeld}
+use Rattle.lock_model.specs.Holds.{Hold, NotHeld, Holds}
+use Rattle.lock_model.specs.declared.plan.Kind.TheVariants.{Mtx}
 use Rattle.lock_model.specs.declared.plan.Mode.{Mode}
 use Rattle.lock_model.specs.declared.plan.Mode.TheVariants.{Excl}
 use Rattle.lock_model.specs.declared.plan.Side.{Side}
@@ -36,7 +37,7 @@ use Rattle.lock_model.specs.declared.event.OfTable.TheVariants.{NoTable, SetsTo,
 pub data Step : Type 0 where
   -- the lock that is sought in an acquiring round, and whether by a try
   Seeks : ℕ → ℕ → Bool → Step
-  -- the lock, and whether it counts in an acquiring round
+  -- the lock, and whether it is one of those that count
   Looks : ℕ → ℕ → Bool → Step
   -- the item
   TakesItem : ℕ → Item → Step
@@ -187,10 +188,22 @@ abbrev pub seeks : ℕ → Option Round → Bool
 seeks l None = false
 seeks l (Some r) = r.lock == l
 
--- a look counts exactly in an acquiring round of the lock, outside the lock's chain
+-- whether the lock isn't held
+abbrev pub is_unheld : Hold → Bool
+is_unheld NotHeld = true
+is_unheld (Holds mode) = false
+
+-- whether a look is at a lock that the thread doesn't hold, outside a round
+abbrev pub is_first : Option Round → Hold → Bool
+is_first None held = is_unheld held
+is_first (Some r) held = false
+
+-- A look counts in an acquiring round of the lock, and where it is a call's first exchange that missed: both outside
+-- the lock's chain
 abbrev pub counts_as_look : ℕ → Config → State → ℕ → ℕ → Bool
 counts_as_look chains c s t l =
-    seeks l (s.round t) && not (is_with t (item_with s (chain_of chains c l)))
+    (seeks l (s.round t) || is_first (s.round t) (s.held t l))
+    && not (is_with t (item_with s (chain_of chains c l)))
 
 -- A gain in a round is of the round's lock and in its way. Outside a round it is a try's: a blocking call begins its
 -- round in the same atomic step, also where it gains by its first exchange.
@@ -245,16 +258,29 @@ pub record IsNextEntry (c : Config) (s : State) (t : ℕ) (e : Event) : Type 0 w
   pub wakes : s.unstamped t ≢ None → is_waking e ≡ true
   pub takes : EndsItsTake c s t e
 
--- A thread makes the first exchange of a call, outside a round: it acts, wants and takes nothing, and has looked at no
--- lock since its last entry, gain or release. It is the one exchange of a try, or the first of a blocking call of a
--- thread that holds nothing.
+-- A thread makes the first exchange of a call, outside a round: it acts, wants and takes nothing, has looked at no lock
+-- since its last entry, gain or release, and none of its looks counts yet. It is the one exchange of a try, or the
+-- first of a blocking call of a thread that holds nothing.
 pub record IsFirstExchange (s : State) (t : ℕ) : Type 0 where
   pub acting : IsActing s t
   pub wants : s.wanted t ≡ None
   pub takes : TakesNothing s t
   pub unseen : s.last_look t ≡ None
+  pub first : s.looks t ≡ 0
 
--- Behind a first exchange that missed, a blocking call of the same lock goes on where its thread holds nothing. A try
+-- A blocking call of a thread that holds nothing makes one exchange more outside a round, of a lock that is no mutex:
+-- behind its first one, which missed that lock and is the one look that counts yet. It goes from the word that was
+-- found: so readers gain a lock that others share.
+pub record IsSecondExchange (c : Config) (s : State) (t l : ℕ) : Type 0 where
+  pub kind : c.kind l ≢ Mtx
+  pub acting : IsActing s t
+  pub wants : s.wanted t ≡ None
+  pub takes : TakesNothing s t
+  pub bare : s.held_locks t ≡ []
+  pub behind : (look : Look) × (s.last_look t ≡ Some look) × (look.lock ≡ l)
+  pub once : s.looks t ≡ 1
+
+-- Behind first exchanges that missed, a blocking call of the same lock goes on where its thread holds nothing. A try
 -- doesn't go on: its entry is next.
 abbrev pub MayHaveMissed : State → ℕ → ℕ → Type 0
 MayHaveMissed s t l =
@@ -298,17 +324,17 @@ pub record GainsFromLook (chains : ℕ) (c : Config) (s : State) (t l : ℕ) (mo
 -- procedure looks elsewhere, and what was seen of the round's lock stays (this project's rule). Outside a round a
 -- thread looks under a chain only at a lock that it holds, to release it, or at halting others: there at the lock
 -- whose sleeper it aborts, under that lock's chain. But for that it takes nothing outside a round, and looks at a
--- lock that it doesn't hold only by a call's first exchange, which missed.
-pub record LooksInRound (chains : ℕ) (c : Config) (s : State) (t l : ℕ) (in_round : Bool) : Type 0
+-- lock that it doesn't hold only by a call's first exchange or the second one behind it, which missed.
+pub record LooksInRound (chains : ℕ) (c : Config) (s : State) (t l : ℕ) (counted : Bool) : Type 0
   where
-    pub counts : in_round ≡ counts_as_look chains c s t l
+    pub counts : counted ≡ counts_as_look chains c s t l
     pub of_round : s.round t ≢ None → seeks l (s.round t) ≡ true
     pub in_chain : (i : Item) → is_chain i ≡ true → HasItem s t i → i ≡ chain_of chains c l
     pub outside : (i : Item) → s.round t ≡ None → is_chain i ≡ true → HasItem s t i
         → (s.held t l ≢ NotHeld) ⊎ IsHalting s t
     pub outside_takes : s.round t ≡ None → TakesNothing s t ⊎ IsHalting s t
     pub outside_first : s.round t ≡ None → s.held t l ≡ NotHeld
-        → IsFirstExchange s t ⊎ IsHalting s t
+        → IsFirstExchange s t ⊎ (IsSecondExchange c s t l ⊎ IsHalting s t)
     pub halting : IsHalting s t → HasItem s t (chain_of chains c l)
 
 -- a sleep on a channel begins outside the thread's rounds, with no wake to note and no halt
@@ -398,9 +424,9 @@ IsRoundOfWanted s t = (r : Round) → s.round t ≡ Some r → r.by_try ≡ fals
 
 -- a look at the lock that is being taken is in its round, and one that counts in a blocking call's round is at the lock
 -- that the thread wants: who needs no admission gains at once, or asks for one
-pub record LooksInOrder (s : State) (t l : ℕ) (in_round : Bool) : Type 0 where
+pub record LooksInOrder (s : State) (t l : ℕ) (counts : Bool) : Type 0 where
   pub taken : s.taking t ≡ Some l → seeks l (s.round t) ≡ true
-  pub wants : in_round ≡ true → IsRoundOfWanted s t
+  pub wants : counts ≡ true → IsRoundOfWanted s t
 
 -- a blocking call gains such a lock, and a thread that takes a lock gains no other; nor does one gain a lock that has
 -- the halt of a take to note
@@ -496,11 +522,11 @@ kind_of (Seeks t l by_try) =
       has_seen = λ chains c s. SeeksAnew s t l by_try;
       keeps_order = λ c s. IsTakenInOrder s t l by_try;
     }
-kind_of (Looks t l in_round) =
-    record (plain t (λ c s. MayLook c s t l in_round) (λ c s. after_look s t l in_round)) {
-      has_seen = λ chains c s. LooksInRound chains c s t l in_round;
+kind_of (Looks t l counts) =
+    record (plain t (λ c s. MayLook c s t l counts) (λ c s. after_look s t l counts)) {
+      has_seen = λ chains c s. LooksInRound chains c s t l counts;
       asks_of_thread = λ s. GoesOnOrHalts s t;
-      keeps_order = λ c s. LooksInOrder s t l in_round;
+      keeps_order = λ c s. LooksInOrder s t l counts;
     }
 kind_of (TakesItem t i) = record (plain t (λ c s. MayTake c s t i) (λ c s. after_take s t i)) {
   has_out = λ chains c s. IsItem chains c i × IsOfRound chains c (s.round t) i;

@@ -1,8 +1,8 @@
 //! Calls of `lockrun`: what no file of `example_rows` can say. Ends that fail, a source that is too big, words that are
-//! no form, for which nothing is read, and threads that meet at a gate.
+//! no form, for which nothing is read, and threads that meet at a gate. And a thread that runs and is refused a take.
 use crate::fixtures::{Case, FIRST, MEETINGS, NEVER, bytes_of, ends, words_of};
 use complaints::Status;
-use complaints::Status::{BadScript, Done, ReadFault, TooBig, Usage, WriteFault};
+use complaints::Status::{BadScript, Done, ReadFault, Reversed, TooBig, Usage, WriteFault};
 use lock_io::{Gate, Meeting, MemSink, OpenGate};
 use lock_top::lockrun;
 use std::alloc::Global;
@@ -106,6 +106,25 @@ fn threads_meet(rt: HostRuntime) -> Result<(), Fail> {
         assert_eq!(rt; gate.came(), (2, 2));
         assert!(rt; sink.bytes().starts_with(begins.as_bytes()), "{begins}");
     }
+    Ok(())
+}
+
+// A thread takes a and then b, gives both back, and then takes b: an order is known though nobody holds its locks. So
+// it is refused a, gives b back, and never comes to its last two operations.
+const BOTH_ORDERS: &str = "lockrun 1;mutex a ka;mutex b kb;thread t 100;\
+    lock a;lock b;unlock b;unlock a;lock b;lock a;unlock a;unlock b;end;done;";
+
+const REFUSED: &str = "0 t lock a\n1 t lock b\n2 t unlock b\n3 t unlock a\n4 t lock b\n\
+    5 t reversed a kb\n6 t unlock b\nthread t base 100 eff 100\nreversed\n";
+
+#[test]
+fn a_thread_alone_in_both_orders(rt: HostRuntime) -> Result<(), Fail> {
+    let alloc = rt.alloc();
+    let bytes = bytes_of(alloc, BOTH_ORDERS, 0)?;
+    let (status, sink) = call(&rt, alloc, "run", bytes, NEVER, NEVER, &OpenGate)?;
+    assert_eq!(rt; status, Reversed);
+    assert_eq!(rt; status as u8, 6);
+    assert_eq!(rt; sink.bytes(), REFUSED.as_bytes());
     Ok(())
 }
 

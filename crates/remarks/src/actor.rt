@@ -100,7 +100,23 @@ impl<'a> Actor<'a> {
             match operation.role {
                 Role::Tries(_, _) => open = open.saturating_add(1),
                 Role::EndsTry => open = open.saturating_sub(1),
-                _ => {}
+                Role::Declares(_)
+                | Role::Begins
+                | Role::Ends
+                | Role::Schedules
+                | Role::Finishes
+                | Role::Takes(_, _)
+                | Role::Releases(_, _)
+                | Role::Edits
+                | Role::Reads
+                | Role::SetsPriority
+                | Role::Shows
+                | Role::Waits(_)
+                | Role::Wakes(_)
+                | Role::Sleeps
+                | Role::WakesKey
+                | Role::Posts
+                | Role::Passes => {}
             }
             if open == 0 {
                 return;

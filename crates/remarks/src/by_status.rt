@@ -54,11 +54,9 @@ fn of_no_script(alloc: Global, source: &[u8], text: &[u8]) -> Result<Vec<String>
     }
     let number = number_of(word_at(line, 1).as_bytes());
     let code = number_of(word_at(line, 3).as_bytes());
-    match (number, code) {
-        (Some(number), Some(code)) => {
-            let number = u32::try_from(number).unwrap_or(u32::MAX);
-            of_fault(alloc, source, number, code)
-        }
-        _ => Ok(Vec::new(alloc)),
-    }
+    let (Some(number), Some(code)) = (number, code) else {
+        return Ok(Vec::new(alloc));
+    };
+    let number = u32::try_from(number).unwrap_or(u32::MAX);
+    of_fault(alloc, source, number, code)
 }

@@ -111,7 +111,7 @@ legal_on_track plan r cut_short k whole = record {
     leads = k.follows t;
     whole = λ e. at_end plan r k (whole e) t;
   };
-  orders_are_legal = λ z e. orders_legal (config_of plan) r.state k.ordered k.taken (takes_nothing plan r k (whole e));
+  orders_are_legal = λ e. orders_legal (config_of plan) r.state k.ordered k.taken (takes_nothing plan r k (whole e));
 }
 
 pub runs_are_legal : (plan : Plan) (turns : List ℕ) → IsProper plan → All (λ t. t < length plan.threads) turns → IsLegal plan false true (after_turns plan turns).state.history

@@ -1,12 +1,11 @@
 -- The turns of a thread that takes or tries a lock, or takes one back after a wait: it gains or claims it, blocks, or
 -- finds it busy. Their steps may be made, and they leave the run on track.
-use Rattle.std.proofs.Common.{◌≡◌, ◌≢◌, ◌⊎◌, ℕ, suc, ◌<◌, ◌≤◌, Bool, true, false, cond, eqb, List, [], ◌∷◌, ◌++◌, length, Option, Some, None, option_map, refl, sym, ap, inl, inr, arith, eq-eqb, ◌∙◌, subst}
+use Rattle.std.proofs.Common.{◌≡◌, ◌≢◌, ◌⊎◌, ℕ, suc, ◌<◌, Bool, true, false, cond, eqb, List, [], ◌∷◌, ◌++◌, length, Option, Some, None, option_map, refl, sym, ap, inl, inr, arith, eq-eqb, ◌∙◌, subst}
 use Rattle.std.specs.Prelude.{unwrap_or, is_some}
-use Rattle.std.proofs.lemmas.Bool.{not-false, eqb-true}
+use Rattle.std.proofs.lemmas.Bool.{eqb-true}
 use Rattle.std.proofs.lemmas.Option.{none-some}
-use Rattle.lock_model.specs.Counts.{one}
 use Rattle.lock_model.specs.Events.{OfSleep, NoSleep, FallsAsleep, WakesUp, IsHalted, IsHaltedAtLock, WakesOne, WakesAll, of_sleep, fell_asleep, begins_sleep}
-use Rattle.lock_model.specs.Words.{Word, is_free, is_plain, shows_waiters, admits, bits_of}
+use Rattle.lock_model.specs.Words.{is_plain, admits, bits_of}
 use Rattle.lock_model.specs.Plans.{config_of, lock_kind, operations_of}
 use Rattle.lock_model.specs.Operations.{IsProper, hold_in}
 use Rattle.lock_model.specs.Config.{Config}
@@ -22,12 +21,10 @@ use Rattle.lock_state.specs.Steps.Turnstiles.{MustWait, after_enter}
 use Rattle.lock_state.specs.Steps.Lending.{MayClaim, after_claim}
 use Rattle.lock_state.specs.Facts.{FreeMutexShowsNone}
 use Rattle.lock_state.specs.Facts.Sleeps.{is_signalled, signals_noted}
-use Rattle.lock_state.specs.Facts.Waits.{busy}
 use Rattle.lock_state.specs.Run.{Run, ends, does, finds_busy, waits_on, to_release, lock_of_wait, held_now}
-use Rattle.lock_model.specs.declared.plan.Kind.{Kind}
-use Rattle.lock_model.specs.declared.plan.Kind.TheVariants.{Mtx, Rw, Sx}
+use Rattle.lock_model.specs.declared.plan.Kind.TheVariants.{Mtx}
 use Rattle.lock_model.specs.declared.plan.Mode.{Mode}
-use Rattle.lock_model.specs.declared.plan.Mode.TheVariants.{Excl, Shared}
+use Rattle.lock_model.specs.declared.plan.Mode.TheVariants.{Excl}
 use Rattle.lock_model.specs.declared.plan.Op.{Op}
 use Rattle.lock_model.specs.declared.plan.Op.TheVariants.{Take, Try, Sleep}
 use Rattle.lock_model.specs.declared.plan.Plan.{Plan}
@@ -42,7 +39,7 @@ use Rattle.lock_model.specs.declared.event.Held.{Held}
 use Rattle.run_laws.specs.OnTrack.{IsOnTrack, IsAtOperation}
 use Rattle.sleep_laws.specs.Sleepers.{AsleepAreOnTheirWay, ResumedSlept}
 use Rattle.lock_laws.proofs.Kit.{columns, put_same, put_at_same}
-use Rattle.lock_laws.proofs.Words.{free_is, refused_held}
+use Rattle.lock_laws.proofs.Words.{IsClaim, is_claim, free_shows_none, refused_held}
 use Rattle.lock_laws.proofs.HeldLists.{GainFits, gain_passes, PassesBlock, try_passes, WaitFits, wait_fits, last_is, hold_in-push, gained_order-push}
 use Rattle.lock_laws.proofs.AtTurn.{has_turnstile, has_sleep_queue, shown_head, seen_again}
 use Rattle.run_laws.proofs.TurnsOfWaits.{given_up}
@@ -53,22 +50,6 @@ use Rattle.lock_laws.proofs.Dealt.{signals_nowhere}
 use Rattle.run_laws.proofs.OnTrack.{KeepsTrack, EndsWell, LetsGoOn, lets_go_on, goes_on, IsWhere, share_in, is_there, now_stands, not_running, put_at_own, noted_behind, none_unnoted, unnamed, acting, acting_in, ends_quietly, IsAwake, awake, is_awake, waits_back, awake_behind, before, behind, left, fit, are_locks, holds_all, all_open, wants_none, wants_it}
 use Rattle.lock_laws.proofs.Sections.{own_section}
 use Rattle.run_laws.proofs.Actions.{Taking, anew, back, Gaining, by_taking, by_trying, Entering, on_turnstile, on_sleep_queue, lock_with, mode_left, its_mode}
-
--- a gain that isn't plain is an exclusive one, of a free rw lock that shows waiters
-pub record IsClaim (kind : Kind) (w : Word) (mode : Mode) : Type 0 where
-  pub exclusive : mode ≡ Excl
-  pub is_rw : kind ≡ Rw
-  pub free : is_free w.holder ≡ true
-  pub shown : shows_waiters w ≡ true
-
-is_claim : (kind : Kind) (w : Word) (mode : Mode) → (kind ≡ Mtx → one (shows_waiters w) ≤ busy w.holder) → admits kind w mode ≡ true → is_plain kind w mode ≡ false → IsClaim kind w mode
-is_claim kind w Shared m e f = absurd cc
-is_claim Sx w Excl m e f = absurd cc
-is_claim Rw w Excl m e f = record { exclusive = refl; is_rw = refl; free = e; shown = not-false (shows_waiters w) f }
-is_claim Mtx w Excl m e f =
-    let shown = ap one (not-false (shows_waiters w) f) in
-    let free = ap busy (free_is w.holder e) in
-    absurd (omega (arith, shown, free, m refl))
 
 -- the section that an entry begins, beside the hold that changes
 gained_section : (b : Bool) (m : Mode) (x y : Hold) → x ≡ y → replaced (cond b (Holds m) NotHeld) x ≡ cond b (Holds m) y
@@ -246,7 +227,9 @@ module _ (plan : Plan) (r : Run) (t : ℕ) (p : IsProper plan) (k : IsOnTrack pl
 
     claims : admits (c.kind l.0) (s.word l.0) mode ≡ true → is_plain (c.kind l.0) (s.word l.0) mode ≡ false → IsClaim (c.kind l.0) (s.word l.0) mode
     unfolding FreeMutexShowsNone
-    claims e f = is_claim (c.kind l.0) (s.word l.0) mode (k.lawful.lawful.waits.free_mutex_shows_none l.0) e f
+    claims e f =
+        is_claim (c.kind l.0) (s.word l.0) mode
+        (λ mutex. free_shows_none (s.word l.0) (k.lawful.lawful.waits.free_mutex_shows_none l.0 mutex)) e f
 
     abbrev pub head : ℕ
     head = unwrap_or (s.head (lock_queue l.0)) t

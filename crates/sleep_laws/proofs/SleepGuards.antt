@@ -570,11 +570,11 @@ gain_before_add_refused f =
     record { queued = refl; nowhere = refl; wants = refl; slept = refl; unwoken = refl; unhalted = λ q e. cc }
 
 -- 3. A look at another lock in a round: p seeks m, and can't look at s
-other_look_refused : (in_round : Bool)
-    → FitsFloor 16 two_locks (after_all two_locks (start_state two_locks) (Seeks 0 0 false ∷ [])) (Looks 0 1 in_round)
+other_look_refused : (counts : Bool)
+    → FitsFloor 16 two_locks (after_all two_locks (start_state two_locks) (Seeks 0 0 false ∷ [])) (Looks 0 1 counts)
     → ⊥
 unfolding floor_plan two_locks start_state after_seek put
-other_look_refused in_round f = let x : false ≡ true = f.has_seen.of_round (λ e. cc) in cc
+other_look_refused counts f = let x : false ≡ true = f.has_seen.of_round (λ e. cc) in cc
 
 -- 4. A look at another lock in a release's section: p gains m, notes that and the release, takes m's chain, and can't
 -- look at s, also where s has the same chain
@@ -584,12 +584,12 @@ releasing =
     (Unlocked (record { 0 = 0 }) Excl) ∷
     TakesItem 0 (TurnstileChain 0) ∷ []
 
-other_look_in_release_refused : (chains : ℕ) (in_round : Bool)
-    → FitsFloor chains two_locks (after_all two_locks (start_state two_locks) releasing) (Looks 0 1 in_round) → ⊥
+other_look_in_release_refused : (chains : ℕ) (counts : Bool)
+    → FitsFloor chains two_locks (after_all two_locks (start_state two_locks) releasing) (Looks 0 1 counts) → ⊥
 unfolding floor_plan two_locks releasing start_state after_seek after_gain after_stamp after_take put put_at put_queue
     least
     sum_below sections_in
-other_look_in_release_refused chains in_round f = elim (f.has_seen.outside (TurnstileChain 0) refl refl refl) [
+other_look_in_release_refused chains counts f = elim (f.has_seen.outside (TurnstileChain 0) refl refl refl) [
   | inl unheld ↦ unheld refl
   | inr e ↦ cc
 ]

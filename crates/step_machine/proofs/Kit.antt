@@ -19,7 +19,8 @@ use Rattle.sleep_queues.specs.Seen.{SleepQueue}
 use Rattle.step_machine.specs.declared.thread.Thread.{Thread}
 use Rattle.step_machine.specs.Steps.{Progress, progress_of}
 use Rattle.step_machine.specs.declared.machine.Machine.{Machine}
-use Rattle.step_machine.specs.Represents.{Represents, RepresentsWords, RepresentsThread, RepresentsThreads, RepresentsOrders, thread_in}
+use Rattle.witness_orders.specs.Graph.{RepresentsGraph}
+use Rattle.step_machine.specs.Represents.{Represents, RepresentsWords, RepresentsThread, RepresentsThreads, thread_in}
 
 -- 1. Lists
 
@@ -124,10 +125,10 @@ shown_by {m = m} {c = c} n h same edges words_seen queues_seen sleepers_seen thr
   threads = threads_seen;
   history = h.history ∙ ap (λ es. reverse es) (sym same);
   tables = h.tables ∙ ap tables_of (sym same);
-  orders = subst (RepresentsOrders c m.orders) (sym edges) h.orders;
+  orders = subst (RepresentsGraph c m.orders) (sym edges) h.orders;
 }
 
 -- no object tells of a look
-pub looked : {m : Machine} {c : Config} {s : State} (t l : ℕ) (in_round : Bool) → Represents c m s → Represents c m (after_look s t l in_round)
+pub looked : {m : Machine} {c : Config} {s : State} (t l : ℕ) (counts : Bool) → Represents c m s → Represents c m (after_look s t l counts)
 unfolding after_look
-looked {s = s} t l in_round h = shown_by (after_look s t l in_round) h refl refl h.words h.queues h.sleepers (threads_stay (after_look s t l in_round) h.threads (λ u. refl))
+looked {s = s} t l counts h = shown_by (after_look s t l counts) h refl refl h.words h.queues h.sleepers (threads_stay (after_look s t l counts) h.threads (λ u. refl))

@@ -1,24 +1,25 @@
 -- A lock is admitted to a thread behind those that it holds: the graph has their edges, and the thread has the lock to
 -- gain. Or it is refused, of which no object tells before that is noted.
-use Rattle.std.proofs.Common.{◌≡◌, ℕ, true, List, slice_get, Some, is_some, refl, sym, ap, ◌∙◌}
+use Rattle.std.proofs.Common.{◌≡◌, ℕ, true, List, slice_get, Some, is_some, refl, sym, ap, ◌∙◌, subst}
 use Rattle.std.specs.Vec.{with_item}
 use Rattle.lock_model.specs.Config.{Config}
-use Rattle.lock_model.specs.Orders.{HaveSameEdges, IsAdmitted, edges_behind, is_edge}
-use Rattle.lock_model.proofs.Orders.{same_admitted, same_behind, same_back}
+use Rattle.lock_model.specs.Orders.{HaveSameEdges, IsAdmitted, edges_behind}
+use Rattle.lock_model.proofs.Orders.{same_admitted, same_back}
 use Rattle.lock_state.specs.State.{State}
 use Rattle.lock_state.specs.Steps.Orders.{MayAdmit, classes_held, after_admit, after_refuse}
 use Rattle.lock_model.specs.declared.numbers.ClassNo.{ClassNo}
 use Rattle.lock_laws.proofs.Kit.{put_same, put_other}
-use Rattle.witness_orders.specs.Graph.{Graph, numbers_of}
+use Rattle.witness_orders.specs.Graph.{Graph, RepresentsGraph, numbers_of}
+use Rattle.witness_orders.proofs.Columns.{graph_behind}
 use Rattle.step_machine.specs.declared.machine.Machine.{Machine}
 use Rattle.step_machine.specs.declared.thread.Thread.{Thread}
-use Rattle.step_machine.specs.Represents.{Represents, RepresentsOrders, thread_in}
+use Rattle.step_machine.specs.Represents.{Represents, thread_in}
 use Rattle.step_machine.specs.Steps.{AreClasses}
 use Rattle.step_machine.proofs.Kit.{OthersStay, thread_changed, threads_stay, shown_by}
 
 -- 1. The graph
 
-module _ {c : Config} {graph : Graph} {s : State} {t l : ℕ} {held : List ClassNo} {class : ClassNo} (h : RepresentsOrders c graph s.edges) (same : AreClasses c held class s t l) where
+module _ {c : Config} {graph : Graph} {s : State} {t l : ℕ} {held : List ClassNo} {class : ClassNo} (h : RepresentsGraph c graph s.edges) (same : AreClasses c held class s t l) where
   -- what is admitted by the column is so by the graph,
   pub admitted_in_graph : IsAdmitted s.edges (classes_held c s t) (c.class l) → IsAdmitted graph.edges (numbers_of held) class.0
   admitted_in_graph a =
@@ -26,11 +27,11 @@ module _ {c : Config} {graph : Graph} {s : State} {t l : ℕ} {held : List Class
 
   -- and the graph behind it shows the column behind it
   pub orders_behind : {behind : Graph} → behind.classes ≡ graph.classes → HaveSameEdges behind.edges (edges_behind graph.edges (numbers_of held) class.0)
-      → RepresentsOrders c behind (edges_behind s.edges (classes_held c s t) (c.class l))
-  orders_behind {behind} classes edges = record {
-    classes = λ k lt. rw classes (h.classes k lt);
-    edges = λ a b. edges a b ∙ same_behind graph.edges s.edges h.edges (numbers_of held) class.0 a b ∙ (λ i. is_edge (edges_behind s.edges (same.held_are i) (same.class_is i)) a b);
-  }
+      → RepresentsGraph c behind (edges_behind s.edges (classes_held c s t) (c.class l))
+  orders_behind {behind} classes edges =
+      subst (λ (z : List ℕ × ℕ). RepresentsGraph c behind (edges_behind s.edges z.0 z.1))
+      (λ i. (same.held_are i, same.class_is i))
+      (graph_behind c graph behind s.edges h (numbers_of held) class.0 classes edges)
 
 -- 2. The thread
 
@@ -43,7 +44,7 @@ unfolding after_admit
 others c s t l u n = λ i. record (thread_in s u) { wants = is_some (put_other s.wanted t (Some l) u (λ e. n (sym e)) i) }
 
 pub admission_shown : {m : Machine} {c : Config} {s : State} {t l : ℕ} {graph : Graph} (th : Thread) → Represents c m s → MayAdmit c s t l → slice_get m.threads.items t ≡ Some th
-    → RepresentsOrders c graph (edges_behind s.edges (classes_held c s t) (c.class l))
+    → RepresentsGraph c graph (edges_behind s.edges (classes_held c s t) (c.class l))
     → Represents c (record m { orders = graph; threads = with_item m.threads t (wanting th) }) (after_admit c s t l)
 unfolding after_admit
 admission_shown {c = c} {s = s} {t = t} {l = l} th h g at orders =

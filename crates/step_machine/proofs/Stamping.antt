@@ -25,7 +25,8 @@ use Rattle.lock_objects.proofs.Records.{with_other_base, none_beyond}
 use Rattle.step_machine.specs.declared.machine.Machine.{Machine}
 use Rattle.step_machine.specs.declared.thread.Thread.{Thread}
 use Rattle.step_machine.specs.Noted.{IsNoted}
-use Rattle.step_machine.specs.Represents.{Represents, RepresentsWords, RepresentsThread, RepresentsThreads, RepresentsOrders, thread_in, thread_of}
+use Rattle.witness_orders.specs.Graph.{RepresentsGraph}
+use Rattle.step_machine.specs.Represents.{Represents, RepresentsWords, RepresentsThread, RepresentsThreads, thread_in, thread_of}
 use Rattle.step_machine.specs.Steps.{progress_of}
 use Rattle.step_machine.proofs.Kit.{OthersStay, thread_changed, record_of, aside_stays}
 
@@ -132,5 +133,5 @@ stamped m n c s t e ticket same threads tables log is h lawful g = record {
   threads = noted_all c s t.0 e m.threads.items n.threads.items threads g.thread lawful h.threads;
   history = log ∙ history_seen m.log.entries s t e ticket h.history is lawful.books.next_is_new;
   tables = tables ∙ ap (edited e) h.tables;
-  orders = subst (λ (k : Machine). RepresentsOrders c k.orders s.edges) (sym same) h.orders;
+  orders = subst (λ (k : Machine). RepresentsGraph c k.orders s.edges) (sym same) h.orders;
 }

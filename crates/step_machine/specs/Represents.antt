@@ -13,10 +13,9 @@ use Rattle.lock_state.specs.Run.{waits_on, was_cut}
 use Rattle.lock_model.specs.Queues.{Mark}
 use Rattle.lock_model.specs.History.{tables_of}
 use Rattle.lock_model.specs.Operations.{hold_in}
-use Rattle.lock_model.specs.Orders.{HaveSameEdges}
 use Rattle.lock_model.specs.declared.event.Held.{Held}
 use Rattle.lock_model.specs.declared.plan.QueueName.{QueueName}
-use Rattle.witness_orders.specs.Graph.{Graph}
+use Rattle.witness_orders.specs.Graph.{RepresentsGraph}
 use Rattle.thread_records.specs.Loans.{loans_for}
 use Rattle.lock_objects.specs.Held.{holds_of}
 use Rattle.lock_objects.specs.Marked.{places_of, AreOfKind}
@@ -94,14 +93,7 @@ pub record RepresentsThreads (ths : List Thread) (c : Config) (s : State) : Type
   pub threads : length ths ≡ c.threads
   pub thread : (t : ℕ) (th : Thread) → slice_get ths t ≡ Some th → RepresentsThread th c s t
 
--- 3. The order of locks
-
--- the graph has the class of each lock, and the edges of the column
-pub record RepresentsOrders (c : Config) (graph : Graph) (column : List (ℕ × ℕ)) : Type 0 where
-  pub classes : (l : ℕ) → l < c.locks → c.class l < graph.classes
-  pub edges : HaveSameEdges graph.edges column
-
--- 4. The machine
+-- 3. The machine
 
 -- what bounds the numbers of a run
 pub record IsWithin (c : Config) : Type 0 where
@@ -117,4 +109,4 @@ pub record Represents (c : Config) (m : Machine) (s : State) : Type 0 where
   pub threads : RepresentsThreads m.threads.items c s
   pub history : m.log.entries ≡ reverse s.history
   pub tables : m.tables.present ≡ tables_of s.history
-  pub orders : RepresentsOrders c m.orders s.edges
+  pub orders : RepresentsGraph c m.orders s.edges

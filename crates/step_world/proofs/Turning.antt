@@ -86,8 +86,8 @@ pub of_step_where : {c : Config} {m n : Machine} {t : ℕ} {step : Step} {premis
 of_step_where {c} {m} {n} {t} so makes kept books = record { makes = λ s shows lawful may. makes c s (so s shows lawful) shows lawful may; moves = unmoved m n t kept; room = of_books books }
 
 -- as behind a look, of which no object tells,
-pub of_look : {c : Config} {m : Machine} {t l : ℕ} {in_round : Bool} → StepMade c m m t (Looks t l in_round) (λ a. a)
-of_look {m = m} {t = t} {l = l} {in_round = b} =
+pub of_look : {c : Config} {m : Machine} {t l : ℕ} {counts : Bool} → StepMade c m m t (Looks t l counts) (λ a. a)
+of_look {m = m} {t = t} {l = l} {counts = b} =
     record { makes = λ s shows lawful may. looked t l b shows; moves = unmoved m m t (λ u. refl); room = record { room = refl; places = refl } }
 
 -- or behind an entry

@@ -1,11 +1,11 @@
 -- The edges that rows of bits say.
 use Rattle.std.proofs.Common.{◌≡◌, ℕ, zero, suc, ◌^◌, ◌<◌, ◌≤◌, nat_lt, bit_or, Bool, true, false, cond, ◌||◌, ◌&&◌, eqb, eq-eqb, List, [], ◌∷◌, ◌++◌, length, get_or, set, replicate, refl, sym, ap, subst, inl, inr, ◌∙◌, arith}
-use Rattle.std.specs.List.{All, list_any}
+use Rattle.std.specs.List.{All, list_all, list_any}
 use Rattle.std.proofs.lemmas.List.Folds.{list_any_none}
 use Rattle.std.proofs.lemmas.List.Elements.{All-weaker}
 use Rattle.std.proofs.lemmas.List.{get_or-set_same, get_or-set_other, get_or-replicate, length-replicate}
 use Rattle.std.proofs.Math.ListN.{get_or-eq_default}
-use Rattle.std.proofs.lemmas.Bool.{cases_lt, cases_eq, ne_eqb, lt-ltb, le-ltb, eqb-true}
+use Rattle.std.proofs.lemmas.Bool.{cases_lt, cases_eq, ne_eqb, lt-ltb, le-ltb, eqb-true, and_from, and_parts, or_cases, false≢true}
 use Rattle.std.proofs.lemmas.Bool.Decides.{nat_tests}
 use Rattle.lock_model.specs.Counts.{has_bit}
 use Rattle.lock_model.specs.Orders.{is_edge, edges_behind, HaveSameEdges}
@@ -165,6 +165,41 @@ rows_behind rows new held w same within inside says a b =
       | inr x ↦ let z = none_from held (length rows) a inside x in cc
     ]) (λ e. let x : b < 64 = subst (λ k. k < 64) (eqb-true w b e) within in lt-ltb b 64 x)
     ∙ ap (λ x. (among && eqb w b) || x) (sym (edge_in rows a b))
+    ∙ sym (held_edges (edges_in rows) held w a b)
+
+-- an acquisition whose edges are there already
+among_known : (rows : List ℕ) (held : List ClassNo) (w a : ℕ)
+    → list_all (λ h. has_bit w (get_or rows h.0 0)) held ≡ true → list_any (λ h. eqb h.0 a) held ≡ true
+    → has_bit w (get_or rows a 0) ≡ true
+among_known rows [] w a known e = absurd (false≢true e)
+among_known rows (h ∷ held) w a known e =
+    let parts = and_parts (has_bit w (get_or rows h.0 0)) (list_all (λ h. has_bit w (get_or rows h.0 0)) held) known in
+    elim (or_cases (eqb h.0 a) (list_any (λ h. eqb h.0 a) held) e) [
+      | inl x ↦ subst (λ k. has_bit w (get_or rows k 0) ≡ true) (eqb-true h.0 a x) parts.0
+      | inr x ↦ among_known rows held w a parts.1 x
+    ]
+
+absorbed : (x y : Bool) → (x ≡ true → y ≡ true) → y ≡ (x || y)
+absorbed true y f = f refl
+absorbed false y f = refl
+
+pub known_edges : (rows : List ℕ) (held : List ClassNo) (w : ℕ) → w < 64 → All (λ h. h.0 < length rows) held
+    → list_all (λ h. has_bit w (get_or rows h.0 0)) held ≡ true
+    → HaveSameEdges (edges_in rows) (edges_behind (edges_in rows) (numbers_of held) w)
+known_edges rows held w within inside known a b =
+    let among = list_any (λ h. eqb h.0 a) held in
+    absorbed (among && eqb w b) (is_edge (edges_in rows) a b) (λ e.
+    let parts = and_parts among (eqb w b) e in
+    let bit = subst (λ k. has_bit k (get_or rows a 0) ≡ true) (eqb-true w b parts.1)
+    (among_known rows held w a known parts.0) in
+    let column = lt-ltb b 64 (subst (λ k. k < 64) (eqb-true w b parts.1) within) in
+    let row = lt-ltb a (length rows) (elim (cases_lt a (length rows)) [
+      | inl x ↦ x
+      | inr x ↦ absurd (false≢true (sym (none_from held (length rows) a inside x) ∙ parts.0))
+    ]) in
+    edge_in rows a b
+    ∙ and_from (nat_lt a (length rows)) (nat_lt b 64 && has_bit b (get_or rows a 0)) row
+    (and_from (nat_lt b 64) (has_bit b (get_or rows a 0)) column bit))
     ∙ sym (held_edges (edges_in rows) held w a b)
 
 -- one edge more

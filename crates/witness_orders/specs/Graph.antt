@@ -1,14 +1,20 @@
 -- What a graph of lock orders is seen as, and the rows of bits that it is kept in.
 use Rattle.std.specs.Prelude.{◌≡◌, ℕ, zero, suc, ◌≤◌, ◌<◌, ◌↔◌, ◌^◌, ◌==◌, bit_and, bit_or, true, if◌then◌else◌, List, [], ◌∷◌, ◌++◌, length, map, slice_index}
+use Rattle.lock_model.specs.Config.{Config}
 use Rattle.lock_model.specs.Counts.{has_bit}
 use Rattle.lock_model.specs.Limits.{most_classes}
-use Rattle.lock_model.specs.Orders.{Reaches, HasNoCycle}
+use Rattle.lock_model.specs.Orders.{Reaches, HaveSameEdges, HasNoCycle}
 use Rattle.lock_model.specs.declared.numbers.ClassNo.{ClassNo}
 
 -- how many classes there are, and the edges between their numbers
 pub record Graph : Type 0 where
   pub classes : ℕ
   pub edges : List (ℕ × ℕ)
+
+-- it has the class of each lock, and the edges that a state has, in whatever order and however often
+pub record RepresentsGraph (c : Config) (graph : Graph) (column : List (ℕ × ℕ)) : Type 0 where
+  pub classes : (l : ℕ) → l < c.locks → c.class l < graph.classes
+  pub edges : HaveSameEdges graph.edges column
 
 -- the numbers of classes
 abbrev pub numbers_of : List ClassNo → List ℕ

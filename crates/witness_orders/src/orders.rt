@@ -1,6 +1,6 @@
 //! The graph of lock orders over at most 64 classes.
 ghost use Rattle.std.specs.Prelude.{◌≡◌, ℕ, ◌≤◌, ◌<◌, ◌↔◌, ◌||◌, ◌&&◌, ◌==◌, [], IsTrue, IfOk, MatchResult, length, slice_index};
-ghost use Rattle.std.specs.List.{All, list_any};
+ghost use Rattle.std.specs.List.{All, list_all, list_any};
 ghost use Rattle.lock_model.specs.Counts.{has_bit};
 ghost use Rattle.lock_model.specs.Limits.{most_classes};
 ghost use Rattle.lock_model.specs.Orders.{Forbids, Reaches, HasNoCycle, HaveSameEdges, IsAdmitted, IsFirstToForbid, edges_behind};
@@ -81,8 +81,8 @@ impl Orders {
     }
 
     /// Learns the order of an acquisition that `check` admits: an edge leads from each held class to the
-    /// wanted one, and all other edges stay. It takes no memory, and time in the numbers of classes and of
-    /// held ones.
+    /// wanted one, and all other edges stay. It takes no memory, and time in the number of held classes; where
+    /// an edge is new, in that of all classes too.
     ///
     /// ```
     /// orders.check(&[ClassNo(0), ClassNo(1)], ClassNo(2))?;
@@ -136,9 +136,26 @@ fn learn(edges: &mut [u64], reached: &mut [u64], held: &[ClassNo], wanted: Class
     ensures edges { HaveSameEdges (edges_in edges.new)
         (edges_behind (edges_in edges.old) (numbers_of held.now) wanted.0) }
 {
+    if are_known(edges, held, wanted) {
+        return;
+    }
     let gained = reached[usize::from(wanted.0)] | only(wanted);
     add_edges(edges, held, wanted);
     close(reached, set_of(held), gained);
+}
+
+// Whether there is an edge from each held class to the wanted one.
+fn are_known(edges: &[u64], held: &[ClassNo], wanted: ClassNo) -> bool
+    requires held { All (λ h. h.0 < length edges.now) held.now }
+    requires wanted { wanted.0 < 64 }
+    ensures { result ≡ list_all (λ h. has_bit wanted.0 (slice_index edges.now h.0)) held.now }
+{
+    for h in held {
+        if !has(edges[usize::from(h.0)], wanted) {
+            return false;
+        }
+    }
+    true
 }
 
 // Adds the edge from each held class to the wanted one.

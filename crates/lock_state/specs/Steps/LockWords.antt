@@ -90,18 +90,19 @@ after_seek s t l by_try = record s {
   round = put s.round t (Some (round_of l by_try));
 }
 
--- 2. A look at a lock word. In an acquiring round outside the lock's chain it counts as one of at most 100
+-- 2. A look at a lock word. Outside the lock's chain it counts as one of at most 100, in an acquiring round and where a
+-- call's first exchange missed
 
 -- what a look asks
-pub record MayLook (c : Config) (s : State) (t l : ℕ) (in_round : Bool) : Type 0 where
+pub record MayLook (c : Config) (s : State) (t l : ℕ) (counts : Bool) : Type 0 where
   pub thread : t < c.threads
   pub lock : l < c.locks
-  pub room : in_round ≡ true → s.looks t < 100
+  pub room : counts ≡ true → s.looks t < 100
 
 -- the share has the lock and the word as what its last look saw
 unfoldable pub after_look : State → ℕ → ℕ → Bool → State
-after_look s t l in_round = record s {
-  looks = put s.looks t (if in_round then suc (s.looks t) else s.looks t);
+after_look s t l counts = record s {
+  looks = put s.looks t (if counts then suc (s.looks t) else s.looks t);
   looks_in_all = put s.looks_in_all t (suc (s.looks_in_all t));
   last_look = put s.last_look t (Some (record { lock = l; word = s.word l }));
   seen_in_section = put s.seen_in_section t (Some (record { lock = l; word = s.word l }));

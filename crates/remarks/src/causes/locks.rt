@@ -68,13 +68,32 @@ fn word_instead(fault: &Fault<'_>, role: Role, named: Named<'_>) -> Option<&'sta
             word_for(Role::Releases(kind, mode))
         }
         (Role::Waits(_), sort) => word_for(Role::Waits(sort)),
-        (Role::Wakes(_), _) => match (fault.word(0), named.sort) {
-            ("broadcast", _) => Some("wakeup"),
-            ("wakeup", _) => Some("broadcast"),
-            ("signal", _) => Some("wakeup_one"),
+        (Role::Wakes(_), _) => match fault.word(0) {
+            "broadcast" => Some("wakeup"),
+            "wakeup" => Some("broadcast"),
+            "signal" => Some("wakeup_one"),
             _ => Some("signal"),
         },
-        _ => None,
+        (
+            Role::Declares(_)
+            | Role::Begins
+            | Role::Ends
+            | Role::Schedules
+            | Role::Finishes
+            | Role::Takes(_, _)
+            | Role::Tries(_, _)
+            | Role::Releases(_, _)
+            | Role::EndsTry
+            | Role::Edits
+            | Role::Reads
+            | Role::SetsPriority
+            | Role::Shows
+            | Role::Sleeps
+            | Role::WakesKey
+            | Role::Posts
+            | Role::Passes,
+            _,
+        ) => None,
     }
 }
 

@@ -130,7 +130,25 @@ fn wanted_at(role: Role, n: usize) -> Option<Wanted> {
         Role::Waits(_) | Role::Wakes(_) if n == 1 => Some(Wanted::Channel),
         Role::Schedules if n >= 1 => Some(Wanted::Thread),
         Role::Sleeps | Role::Posts if n == 1 => Some(Wanted::Sleeper),
-        _ => None,
+        Role::Declares(_)
+        | Role::Begins
+        | Role::Ends
+        | Role::Schedules
+        | Role::Finishes
+        | Role::Takes(_, _)
+        | Role::Tries(_, _)
+        | Role::Releases(_, _)
+        | Role::EndsTry
+        | Role::Edits
+        | Role::Reads
+        | Role::SetsPriority
+        | Role::Shows
+        | Role::Waits(_)
+        | Role::Wakes(_)
+        | Role::Sleeps
+        | Role::WakesKey
+        | Role::Posts
+        | Role::Passes => None,
     }
 }
 

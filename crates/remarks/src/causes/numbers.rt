@@ -55,7 +55,28 @@ fn bounds_at(role: Role, n: usize) -> Option<Bounds> {
         (Role::Sleeps, 2) | (Role::WakesKey, 1) => Some(KEY),
         (Role::Sleeps, 3) => Some(SLEEP),
         (Role::Passes, 1) => Some(TICK),
-        _ => None,
+        (
+            Role::Declares(_)
+            | Role::Begins
+            | Role::Ends
+            | Role::Schedules
+            | Role::Finishes
+            | Role::Takes(_, _)
+            | Role::Tries(_, _)
+            | Role::Releases(_, _)
+            | Role::EndsTry
+            | Role::Edits
+            | Role::Reads
+            | Role::SetsPriority
+            | Role::Shows
+            | Role::Waits(_)
+            | Role::Wakes(_)
+            | Role::Sleeps
+            | Role::WakesKey
+            | Role::Posts
+            | Role::Passes,
+            _,
+        ) => None,
     }
 }
 

@@ -42,7 +42,7 @@ unfolding after_seek after_look after_drop after_lend after_shift after_end_walk
     after_count_in after_count_self_in after_count_end put_queue SleepersInOrder LatecomersAreLater SleepersKeepBase
     SleepersAreExclusive UnnotedIsFair
 keeps at_work c s (Seeks t l by_try) g a n f h = assumption h
-keeps at_work c s (Looks t l in_round) g a n f h = assumption h
+keeps at_work c s (Looks t l counts) g a n f h = assumption h
 keeps at_work c s (TakesItem t i) g a n f h = assumption h
 keeps at_work c s (GivesItem t i) g a n f h = assumption h
 keeps at_work c s (Gains t l mode by_try) g a n f h = own.gains h t l mode by_try

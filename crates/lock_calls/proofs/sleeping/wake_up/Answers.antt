@@ -9,7 +9,7 @@ try_resume-requires-clause-may c =
 pub returns-in-Some-clause-on : goal.returns-in-Some-clause-on
 returns-in-Some-clause-on c =
     wakes_up c.args.floor.now.description c.args.l c.requires.under_way.covered.mutex c.args.pass.now.view c.requires.under_way.there.0 c.requires.under_way.there.1 c.requires.under_way.calling
-    c.try_resume.new.pass.view c.in-Some.field-0 c.in-Some.ensures.woken 49 (omega arith)
+    c.try_resume.new.pass.view c.in-Some.field-0 c.in-Some.ensures.woken 48 (omega arith)
 
 pub returns-in-None-clause-on : goal.returns-in-None-clause-on
 returns-in-None-clause-on c =

@@ -1,5 +1,6 @@
-use Rattle.std.proofs.Common.{refl, arith}
+use Rattle.std.proofs.Common.{refl, ap, arith}
 use Rattle.lock_model.specs.Words.{word_of}
+use Rattle.floor_table.specs.Views.{Knowledge}
 use Rattle.lock_calls.proofs.Attempts.{may_gain_there, spun_once, seeking_on, spun_more, spun_gains}
 use Rattle.lock_calls.proofs.spinning.attempt.Goals as goal
 
@@ -41,3 +42,10 @@ returns-in-Err-clause-spun c =
       omega arith,
       spun_more floor c.args.l.0 1 c.args.pass.now.view c.look-seen.new.pass.view x 1 c.gain.new.pass.view y,
     )
+
+-- the word that it saw last
+pub returns-then-seen-ne-FREE-clause-seen : goal.returns-then-seen-ne-FREE-clause-seen
+returns-then-seen-ne-FREE-clause-seen c = ap (λ (k : Knowledge). k.share.doing.last_look) c.look-seen.ensures.view
+
+pub returns-in-Err-clause-seen : goal.returns-in-Err-clause-seen
+returns-in-Err-clause-seen c = ap (λ (k : Knowledge). k.share.doing.last_look) c.in-Err.ensures.looked

@@ -1,8 +1,9 @@
-use Rattle.std.proofs.Common.{◌≡◌, true, List, [], ◌∷◌, length, refl, sym, ◌∙◌, arith}
+use Rattle.std.proofs.Common.{◌≡◌, true, false, List, [], ◌∷◌, length, refl, sym, ap, ◌∙◌, arith}
 use Rattle.std.proofs.lemmas.Bool.{eqb-true}
 use Rattle.std.specs.Prelude.{◌==◌}
 use Rattle.lock_model.specs.Words.{word_of}
 use Rattle.lock_model.specs.declared.event.Held.{Held}
+use Rattle.lock_calls.specs.Steps.{first_misses}
 use Rattle.lock_calls.proofs.Attempts.{begins_call, may_gain_first, missed_none, missed_once}
 use Rattle.lock_calls.proofs.Looks.{may_look_on}
 use Rattle.lock_calls.proofs.spinning.begin.Goals as goal
@@ -11,9 +12,14 @@ none_there : (hs : List Held) → (length hs == 0) ≡ true → hs ≡ []
 none_there [] e = refl
 none_there (h ∷ hs) e = absurd (omega (arith, eqb-true (length (h ∷ hs)) 0 e))
 
+some_there : (hs : List Held) → (length hs == 0) ≡ false → 0 ≡ first_misses hs
+some_there [] e = absurd cc
+some_there (h ∷ hs) e = refl
+
 pub returns-then-not-is_empty-clause-missed : goal.returns-then-not-is_empty-clause-missed
 returns-then-not-is_empty-clause-missed c = λ e.
     missed_none c.args.floor.now.description c.args.l.0 c.args.pass.now.view c.requires.may
+    (some_there c.held.result.now (sym c.is_empty.ensures ∙ c.if-not-is_empty.true) ∙ ap first_misses c.held.ensures)
 
 pub gain_first-requires-clause-may : goal.gain_first-requires-clause-may
 gain_first-requires-clause-may c =

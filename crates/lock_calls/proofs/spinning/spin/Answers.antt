@@ -1,4 +1,6 @@
-use Rattle.std.proofs.Common.{◌-◌, arith}
+use Rattle.std.proofs.Common.{true, false, subst, arith}
+use Rattle.lock_model.specs.Words.{word_of}
+use Rattle.lock_calls.specs.Takes.{AsksOwner}
 use Rattle.lock_calls.proofs.Attempts.{gained_in_round}
 use Rattle.lock_calls.proofs.Noting.{may_note_lock, room_to_note, note_step, taken}
 use Rattle.lock_calls.proofs.Spun.{spins_on, spun_end}
@@ -33,12 +35,22 @@ returns-in-Ok-clause-end c =
 
 pub returns-then-owner_is_queued-clause-on : goal.returns-then-owner_is_queued-clause-on
 returns-then-owner_is_queued-clause-on c =
+    let floor = c.args.floor.now.description in
+    let word = word_of c.in-Err.seen in
     let x = c.in-Err.ensures.spun in
-    spins_on c.args.floor.now.description c.args.l c.args.left 0 x.0 (omega (arith, c.requires.some_left)) x.1 x.2 c.args.pass.now.view
-    c.attempt.new.pass.view c.requires.under_way.there.0 c.requires.under_way.there.1 x.3
+    spins_on floor c.args.l c.args.left x.0 word true c.requires.some_left x.1 x.2 c.args.pass.now.view
+    c.attempt.new.pass.view c.owner_is_queued.new.pass.view c.requires.under_way.there.0
+    c.requires.under_way.there.1 x.3 c.in-Err.ensures.seen
+    (subst (λ b. AsksOwner floor word b c.attempt.new.pass.view c.owner_is_queued.new.pass.view)
+    c.if-owner_is_queued.true c.owner_is_queued.ensures.asks)
 
 pub returns-else-owner_is_queued-clause-on : goal.returns-else-owner_is_queued-clause-on
 returns-else-owner_is_queued-clause-on c =
+    let floor = c.args.floor.now.description in
+    let word = word_of c.in-Err.seen in
     let x = c.in-Err.ensures.spun in
-    spins_on c.args.floor.now.description c.args.l c.args.left (c.args.left - 1) x.0 (omega (arith, c.requires.some_left)) x.1 x.2 c.args.pass.now.view
-    c.attempt.new.pass.view c.requires.under_way.there.0 c.requires.under_way.there.1 x.3
+    spins_on floor c.args.l c.args.left x.0 word false c.requires.some_left x.1 x.2 c.args.pass.now.view
+    c.attempt.new.pass.view c.owner_is_queued.new.pass.view c.requires.under_way.there.0
+    c.requires.under_way.there.1 x.3 c.in-Err.ensures.seen
+    (subst (λ b. AsksOwner floor word b c.attempt.new.pass.view c.owner_is_queued.new.pass.view)
+    c.if-owner_is_queued.false c.owner_is_queued.ensures.asks)

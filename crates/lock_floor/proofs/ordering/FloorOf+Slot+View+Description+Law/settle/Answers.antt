@@ -1,4 +1,4 @@
-use Rattle.std.proofs.Common.{◌≡◌, ℕ, ◌<◌, false, List, ◌∷◌, Option, length, map, take, option_map, sym, ap, ◌∙◌, subst}
+use Rattle.std.proofs.Common.{◌≡◌, ℕ, ◌<◌, List, ◌∷◌, Option, length, map, take, option_map, sym, ap, ◌∙◌, subst}
 use Rattle.std.specs.List.{All}
 use Rattle.atomic_table.specs.Table.{Me, Allows, rest}
 use Rattle.lock_model.specs.declared.event.Held.{Held}
@@ -12,8 +12,8 @@ use Rattle.floor_table.specs.declared.description.Description.{Description}
 use Rattle.floor_table.specs.declared.slot.Slot.{Slot}
 use Rattle.floor_table.specs.declared.slot.Slot.TheVariants.{Graph}
 use Rattle.lock_floor.specs.Floors.{Floor, Pass}
-use Rattle.lock_floor.specs.Ordering.{MayOrder, HasGraph, Settles}
-use Rattle.lock_floor.proofs.OrderCall.{TellsVerdict, all_held, learns_graph, call_allowed, call_view, call_settles, call_tied}
+use Rattle.lock_floor.specs.Ordering.{MayOrder, HasGraph}
+use Rattle.lock_floor.proofs.OrderCall.{TellsVerdict, all_held, learns_graph, call_allowed}
 use Rattle.lock_floor.proofs.OrderStep.{SettledGraph}
 use Rattle.lock_floor.proofs.ordering.FloorOf+Slot+View+Description+Law.settle.Goals as goal
 

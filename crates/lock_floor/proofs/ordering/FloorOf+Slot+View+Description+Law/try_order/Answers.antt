@@ -1,5 +1,4 @@
-use Rattle.std.proofs.Common.{Some, None, sym, ap, subst}
-use Rattle.lock_floor.proofs.OrderCall.{may_take_graph, may_order_on, has_graph, checks_order}
+use Rattle.lock_floor.proofs.OrderCall.{may_take_graph, may_order_on, has_graph}
 use Rattle.lock_floor.proofs.ordering.FloorOf+Slot+View+Description+Law.try_order.Goals as goal
 
 pub try_take_graph-requires-clause-may : goal.try_take_graph-requires-clause-may

@@ -1,6 +1,6 @@
-use Rattle.std.proofs.Common.{◌≡◌, subst}
+use Rattle.std.proofs.Common.{◌≡◌, refl, sym, subst}
 use Rattle.lock_objects.specs.Represents.{walk_of}
-use Rattle.lock_floor.specs.Walks.{IsStepAtThread, IsOnFloor, turnstiles}
+use Rattle.lock_floor.specs.Walks.{IsHopTo, IsStepAtThread, IsOnFloor, turnstiles}
 use Rattle.lock_floor.proofs.WalkHops.{chain_at_slot, may_take_it, may_sort_it, record_last, may_give_it, chain_last, may_give_back, hop_of, sort_hop, b_thread}
 use Rattle.lock_floor.proofs.walking.FloorOf+Slot+View+Description+Law.hop_at_thread.Goals as goal
 
@@ -14,7 +14,13 @@ try_take_rec-requires-clause-may c =
     (subst (IsOnFloor c.args.self.now.description) c.requires.there c.requires.in_hop.on_floor)
 
 pub returns-then-not-try_take_rec-clause-elsewhere : goal.returns-then-not-try_take_rec-clause-elsewhere
-returns-then-not-try_take_rec-clause-elsewhere c = (c.args.o.0, c.try_take_rec.ensures.elsewhere c.if-not-try_take_rec.true)
+returns-then-not-try_take_rec-clause-elsewhere c =
+    let m = c.requires.in_hop in
+    let o = c.args.o.0 in (
+      o,
+      record { chain = m.chain; out = m.out; to = subst (λ w. IsHopTo w m.chain o) (sym c.requires.there) refl },
+      c.try_take_rec.ensures.elsewhere c.if-not-try_take_rec.true,
+    )
 
 pub sort-walk-requires-clause-may : goal.sort-walk-requires-clause-may
 sort-walk-requires-clause-may c =

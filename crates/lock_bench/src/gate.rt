@@ -1,0 +1,183 @@
+//! The gate of a run that is timed: it has the workers begin together, and reads the clock as they come to certain
+//! operations.
+
+use crate::scripts::{Case, Round};
+use anyhow::Result;
+use lock_io::Gate;
+use lock_model::{Entry, Event, ThreadNo};
+use std::alloc::Global;
+use std::rt::Clock;
+use std::sync::atomic::{AtomicU64, AtomicUsize, Ordering};
+use std::thread;
+use std::time::{Duration, Instant};
+
+// How long a worker works in a long section, in nanoseconds, and behind how many of a round's operations.
+const SECTION: u64 = 1_000;
+
+const BEHIND: u32 = 2;
+
+// How often a worker looks at most for others. They don't come where no thread can be started.
+const MOST_LOOKS: u32 = 1_000_000;
+
+// For how long the taker of a chain lets its owners fall asleep, in milliseconds.
+const FALL_ASLEEP: u64 = 20;
+
+// Where so many workers wait for each other.
+#[derive(Drop)]
+struct Meeting {
+    workers: usize,
+    there: AtomicUsize,
+}
+
+impl Meeting {
+    fn new(workers: usize) -> Meeting {
+        Meeting {
+            workers,
+            there: AtomicUsize::new(0),
+        }
+    }
+
+    // Waits until all workers are there, or for so many looks.
+    fn wait(&self) {
+        self.there.fetch_add(1, Ordering::SeqCst);
+        for _ in 0..MOST_LOOKS {
+            if self.there.load(Ordering::SeqCst) >= self.workers {
+                return;
+            }
+            thread::yield_now();
+        }
+    }
+}
+
+/// The gate of a run of a case.
+#[derive(Drop)]
+pub struct TimingGate<'a, R> {
+    rt: &'a R,
+    case: Case,
+    // The operation behind all rounds.
+    last: u32,
+    // Where all workers meet, and the two of a chain's ends.
+    all: Meeting,
+    ends: Meeting,
+    // Nanoseconds behind a moment: at the begin, at the end, and before each operation of a chain's last owner.
+    from: Instant,
+    began: AtomicU64,
+    ended: AtomicU64,
+    shown: Vec<AtomicU64>,
+}
+
+impl<'a, R: Clock> TimingGate<'a, R> {
+    /// The gate of a run in which each thread makes so many rounds.
+    pub fn new(rt: &'a R, alloc: Global, case: Case, rounds: usize) -> Result<TimingGate<'a, R>> {
+        let mut shown = Vec::new(alloc);
+        shown.resize_with(rounds.saturating_add(2), || AtomicU64::new(0))?;
+        Ok(TimingGate {
+            rt,
+            case,
+            last: u32::try_from(rounds.saturating_mul(case.round.operations())).unwrap_or(u32::MAX),
+            all: Meeting::new(case.threads),
+            ends: Meeting::new(2),
+            from: Instant::now(rt)?,
+            began: AtomicU64::new(u64::MAX),
+            ended: AtomicU64::new(0),
+            shown,
+        })
+    }
+
+    /// The time from the first worker's begin to the last one's end; of a chain, from the take to the loan that was
+    /// seen, and 0 where none was.
+    pub fn time(&self, history: &[Entry]) -> u64 {
+        let ended = match self.case.round {
+            Round::Bare | Round::Edit | Round::Long | Round::Apart | Round::Nested => {
+                self.ended.load(Ordering::SeqCst)
+            }
+            Round::Chain => self.loan_seen(history),
+        };
+        ended.saturating_sub(self.began.load(Ordering::SeqCst))
+    }
+
+    // When the last owner came to the operation behind the one that told of a loan: each of them made an entry.
+    fn loan_seen(&self, history: &[Entry]) -> u64 {
+        let mut entries = history.iter().filter(|e| self.is_last_owner(e.thread));
+        let told = entries.position(|e| tells_of_a_loan(e.event));
+        let next = told.and_then(|told| self.shown.get(told.saturating_add(1)));
+        next.map_or(0, |time| time.load(Ordering::SeqCst))
+    }
+
+    fn now(&self) -> u64 {
+        match self.from.elapsed(self.rt) {
+            Ok(time) => u64::try_from(time.as_nanos()).unwrap_or(u64::MAX),
+            Err(_) => 0,
+        }
+    }
+
+    fn is_taker(&self, t: ThreadNo) -> bool {
+        usize::from(t.0).saturating_add(1) == self.case.threads
+    }
+
+    fn is_last_owner(&self, t: ThreadNo) -> bool {
+        usize::from(t.0).saturating_add(2) == self.case.threads
+    }
+
+    // All workers begin together; their clocks are read then, and behind all rounds.
+    fn at_round(&self, operation: u32) {
+        if operation == 0 {
+            self.all.wait();
+            self.began.fetch_min(self.now(), Ordering::SeqCst);
+        }
+        if operation == self.last {
+            self.ended.fetch_max(self.now(), Ordering::SeqCst);
+        }
+    }
+
+    // Works for a while, before a mutex is given back.
+    fn at_long_round(&self, operation: u32) {
+        self.at_round(operation);
+        if operation % 3 == BEHIND {
+            let from = self.now();
+            for _ in 0..MOST_LOOKS {
+                if self.now().saturating_sub(from) >= SECTION {
+                    return;
+                }
+            }
+        }
+    }
+
+    // Each owner has its own mutex before any of them takes the next one's. When they are asleep, the clock is read
+    // before the taker's take, and from then on before each operation of the last owner.
+    fn at_link(&self, t: ThreadNo, operation: u32) {
+        if operation == 1 {
+            self.all.wait();
+            if self.is_taker(t) {
+                thread::sleep(self.rt, Duration::from_millis(FALL_ASLEEP));
+                self.ends.wait();
+                self.began.store(self.now(), Ordering::SeqCst);
+            } else if self.is_last_owner(t) {
+                self.ends.wait();
+            }
+        }
+        if self.is_last_owner(t) {
+            if let Some(time) = self.shown.get(operation as usize) {
+                time.store(self.now(), Ordering::SeqCst);
+            }
+        }
+    }
+}
+
+impl<R: Clock + Sync> Gate for TimingGate<'_, R> {
+    fn at(&self, t: ThreadNo, operation: u32) {
+        match self.case.round {
+            Round::Bare | Round::Edit | Round::Apart | Round::Nested => self.at_round(operation),
+            Round::Long => self.at_long_round(operation),
+            Round::Chain => self.at_link(t, operation),
+        }
+    }
+}
+
+fn tells_of_a_loan(event: Event) -> bool {
+    if let Event::Shown { base, eff } = event {
+        eff != base
+    } else {
+        false
+    }
+}

@@ -1,0 +1,254 @@
+-- A claim: an exchange of a lock's word by which a thread gains the free lock and owns its turnstile. Its record and
+-- the chain of the lock's queue, which it has out, are then what the work on them will make of them: what those who
+-- wait lend is its loan with the exchange.
+use Rattle.std.proofs.Common.{◌≡◌, ◌≢◌, ℕ, ◌<◌, ◌%◌, eqb, Bool, true, Some, List, [], ◌∷◌, length, refl, sym, ap, ◌∙◌, subst}
+use Rattle.std.proofs.lemmas.Option.{same_Some}
+use Rattle.std.specs.Box.{with_value}
+use Rattle.std.specs.declared.alloc.Global.{Global}
+use Rattle.std.specs.declared.boxed.Box.{Box}
+use prog.Atomic.{either}
+use Rattle.atomic_table.specs.Table.{Me, keeps, Allows}
+use Rattle.chain_table.specs.Chains.{head_of}
+use Rattle.lock_laws.proofs.AtTurn.{shown_head}
+use Rattle.lock_laws.proofs.Kit.{put_other, put_at_other}
+use Rattle.lock_model.specs.Config.{Config}
+use Rattle.lock_model.specs.Holds.{NotHeld}
+use Rattle.lock_model.specs.Queues.{lock_queue, least_of}
+use Rattle.lock_model.specs.Words as words
+use Rattle.lock_model.specs.Words.{word_of, is_turnstile, shows_waiters}
+use Rattle.lock_model.specs.declared.numbers.LockNo.{LockNo}
+use Rattle.lock_model.specs.declared.plan.QueueName.{QueueName}
+use Rattle.lock_objects.specs.Hops.{CanBeLent, record_claimed, head_claimed, chain_claimed}
+use Rattle.lock_objects.specs.Represents.{RepresentsRecord, QueueColumns, record_in, queue_in}
+use Rattle.lock_objects.proofs.Hops.{claimed_others, can_claim_it, claimed_head, claimed_record}
+use Rattle.lock_objects.proofs.Queues.{IsHead, there}
+use Rattle.lock_state.specs.Facts.{Lawful}
+use Rattle.lock_state.specs.State.{State, put}
+use Rattle.lock_state.specs.Steps.{Step, Looks, Claims}
+use Rattle.lock_state.specs.Steps.Items.{Item, TurnstileChain, SleepChain, RecordOf, CellOf, ClassGraph}
+use Rattle.lock_state.specs.Steps.Lending.{MayClaim, loan_of, after_claim}
+use Rattle.lock_state.specs.Steps.LockWords.{after_gain}
+use Rattle.thread_records.specs.declared.record.ThreadRec.{ThreadRec}
+use Rattle.turnstile_core.specs.Seen.{Turnstile}
+use Rattle.floor_table.specs.Descriptions.{config_in}
+use Rattle.floor_table.specs.declared.description.Description.{Description}
+use Rattle.floor_table.specs.declared.slot.Slot.{Slot}
+use Rattle.floor_table.specs.declared.slot.Slot.TheVariants.{Record, Turnstiles}
+use Rattle.floor_table.specs.Places.{spot, lock_line, lock_word, latch_word, slots_for, slot_of, home_at}
+use Rattle.floor_table.specs.Represents.{Board, RepresentsTurnstiles, RepresentsObjects, RepresentsShare, objects_in, sleepers, thread_in}
+use Rattle.floor_table.specs.Rule.{FloorHolds}
+use Rattle.floor_table.specs.Shares.{share_in}
+use Rattle.floor_table.specs.Shelves.{Shelves, found}
+use Rattle.floor_table.specs.Steps.{MayMake, Makes}
+use Rattle.floor_table.specs.Views.{Knowledge, OfThread, seeing}
+use Rattle.floor_table.proofs.Items.{one_place}
+use Rattle.floor_table.proofs.Made.{Finds, Steps, exchange_allows, lock_made_with, own_out, OwnSteps}
+use Rattle.floor_table.proofs.Objects.{SaySame, still_of}
+use Rattle.floor_table.proofs.Seen.{one_own}
+use Rattle.floor_table.proofs.Shelved.{found_first, found_later}
+use Rattle.lock_floor.specs.Claims.{MayClaimIt, as_claimed, claimed, out_claimed}
+use Rattle.lock_floor.specs.Opens.{HasBothOut}
+use Rattle.lock_floor.specs.Views.{counts}
+use Rattle.lock_floor.specs.Waits.{chain_place}
+use Rattle.lock_floor.proofs.ChainChanges.{chain_of_lock, its_own, turnstiles_same, sleepers_same, chain_placed}
+use Rattle.lock_floor.proofs.ChainPlaces.{chain_at}
+use Rattle.lock_floor.proofs.Looking.{Looked, looks, found_word}
+use Rattle.lock_floor.proofs.Shares.{gain_own, gain_others}
+use Rattle.lock_floor.proofs.Taking.{record_at}
+use Rattle.lock_floor.proofs.TwoChanged.{shelf_both, two_changed}
+
+-- 1. The shares behind it are those behind a gain
+
+module _ (c : Config) (l : LockNo) (h : ℕ) (by_try : Bool) (s : State) where
+  claim_own : (v : Knowledge) → RepresentsShare v.share s v.thread → (out : List (ℕ × Slot))
+      → s.held v.thread l.0 ≡ NotHeld
+      → RepresentsShare (claimed v (as_claimed l by_try) out).share (after_claim c s v.thread l.0 h by_try) v.thread
+  unfolding after_gain after_claim
+  claim_own v fit out unheld =
+      let gain = gain_own s v fit (as_claimed l by_try) unheld in
+      record { columns = gain.columns; held_once = gain.held_once }
+
+  claim_others : (t u : ℕ) → u ≢ t → share_in (after_claim c s t l.0 h by_try) u ≡ share_in s u
+  unfolding after_gain after_claim
+  claim_others t u other = gain_others s t u other (as_claimed l by_try)
+
+-- 2. What the columns say behind it
+
+module _ (floor : Description) (s : State) (t l h : ℕ) (by_try : Bool) (lawful : Lawful (config_in floor) s)
+    (g : MayClaim (config_in floor) s t l h) where
+  abbrev c : Config
+  c = config_in floor
+
+  abbrev n : State
+  n = after_claim c s t l h by_try
+
+  turnstile : is_turnstile (c.kind l) ≡ true
+  turnstile = ap is_turnstile g.kind
+
+  sleepers_stay : (q : QueueName) → q ≢ lock_queue l → sleepers (queue_in n q) ≡ sleepers (queue_in s q)
+  unfolding after_claim
+  sleepers_stay q ne = refl
+
+  record_other : (u : ℕ) → u ≢ t → record_in n u ≡ record_in s u
+  unfolding after_claim
+  record_other u ne =
+      let effective_is : n.effective u ≡ s.effective u = put_other s.effective t _ u (λ e. ne (sym e)) in
+      λ i. record (record_in s u) {
+        loan = λ k. put_at_other s.loan t l (loan_of h (least_of (s.lists (lock_queue l)))) u k (λ e. ne (sym e)) i;
+        effective = effective_is i;
+      }
+
+  says_same : (k : Item) → k ≢ RecordOf t → k ≢ chain_of_lock floor l turnstile
+      → SaySame floor (objects_in s) (objects_in n) k
+  unfolding after_claim
+  says_same (TurnstileChain k) no_record no_chain =
+      turnstiles_same floor l turnstile s n (claimed_others c s t l h by_try lawful g) k no_chain
+  says_same (SleepChain k) no_record no_chain = sleepers_same floor l turnstile s n sleepers_stay k
+  says_same (RecordOf u) no_record no_chain = record_other u (λ e. no_record (ap RecordOf e))
+  says_same (CellOf k key) no_record no_chain = refl
+  says_same ClassGraph no_record no_chain = refl
+
+  module _ (box : Box ThreadRec Global) (rec : RepresentsRecord box.value (record_in s t))
+      (chain : List (QueueName × Turnstile))
+      (shows : RepresentsTurnstiles floor (l % floor.chains) chain (objects_in s)) where
+    -- the lock has a turnstile there,
+    abbrev its_head : IsHead (queue_in s (lock_queue l)) s.loan_home (head_of (lock_queue l) chain)
+    its_head = there (head_of (lock_queue l) chain) (queue_in s (lock_queue l)) s.loan_home h
+        (shows.queue (lock_queue l) (its_own floor l turnstile)) g.head
+
+    -- which the thread can own, and owns then
+    can_own : CanBeLent l box.value its_head.0
+    can_own = can_claim_it c s t l h by_try lawful g rec its_head.0 its_head.2
+
+    chain_shown : RepresentsTurnstiles floor (l % floor.chains) (chain_claimed l box.value.thread its_head.0 chain)
+        (objects_in n)
+    chain_shown =
+        chain_placed floor l turnstile s n (claimed_others c s t l h by_try lawful g) chain shows
+        (head_claimed box.value.thread its_head.0)
+        (claimed_head c s t l h by_try lawful g rec its_head.0 its_head.2)
+
+    record_shown : RepresentsRecord (record_claimed l its_head.0 box.value) (record_in n t)
+    record_shown = claimed_record c s t l h by_try lawful g rec its_head.0 its_head.2
+
+-- 3. The step
+
+-- what it tells where the seen word was found: the thread gained the lock, and its record and the chain are such that
+-- the work on them can be done
+pub record ClaimsWord (floor : Description) (l : LockNo) (by_try : Bool) (me behind : Me Slot Knowledge) : Type 0 where
+  pub both : HasBothOut floor l.0 me.0
+  pub turnstile : Turnstile
+  pub there : head_of (lock_queue l.0) both.chain ≡ Some turnstile
+  pub can : CanBeLent l.0 both.box.value turnstile
+  pub is : behind ≡ (
+    seeing behind.0.seen
+        (claimed me.0 (as_claimed l by_try)
+        (out_claimed floor me.0.thread l.0 both.box both.chain turnstile)),
+    me.1,
+  )
+  pub step : Makes floor (Claims me.0.thread l.0 turnstile.contents.number by_try ∷ []) me.0 behind.0
+
+abbrev pub Claimed : Description → LockNo → Bool → ℕ → Me Slot Knowledge → ℕ → Me Slot Knowledge → Type 0
+Claimed floor l by_try seen me found behind =
+    (found ≡ seen → ClaimsWord floor l by_try me behind) × (found ≢ seen → Looked floor l.0 me found behind)
+
+module _ (floor : Description) (me : Me Slot Knowledge) (was : me.0.role ≡ OfThread) (slots id seen new : ℕ)
+    (l : LockNo) (by_try : Bool) (low : l.0 < length floor.locks) (shown : shows_waiters (word_of seen) ≡ true)
+    (may : MayClaimIt floor l.0 by_try (word_of seen) me.0) where
+  abbrev v : Knowledge
+  v = me.0
+
+  abbrev box : Box ThreadRec Global
+  box = may.both.box
+
+  abbrev chain : List (QueueName × Turnstile)
+  chain = may.both.chain
+
+  claims : word_of new ≡ words.claimed (word_of seen) v.thread
+      → (b : Board) (f : Finds floor v b) → lock_word b.words l.0 ≡ seen
+      → Steps floor me (spot (lock_line l.0)) (lock_word b.words l.0) new (Claimed floor l by_try seen me) b
+  unfolding after_claim
+  claims says b f same =
+      let c : Config = config_in floor in
+      let s : State = f.state in
+      let t : ℕ = v.thread in
+      let k : ℕ = l.0 in
+      let lawful : Lawful c s = f.sound.facts.lawful in
+      let its_word : s.word k ≡ word_of seen = sym (found_word floor b v f k low).0 ∙ ap word_of same in
+      let stands = shown_head c s k lawful (ap shows_waiters its_word ∙ shown) in
+      let number : ℕ = stands.0 in
+      let step : Step = Claims t k number by_try in
+      let n : State = after_claim c s t k number by_try in
+      let allowed = may.may number s f.fits (its_word, stands.1) in
+      let g = allowed.0.fits.may in
+      let kind = turnstile floor s t k number by_try lawful g in
+      let m : ℕ = k % floor.chains in
+      let j : ℕ = chain_place floor (lock_queue k) in
+      let place : slot_of floor (RecordOf t) ≡ Some t = record_at floor t f.fits.thread in
+      let at : slot_of floor (TurnstileChain m) ≡ Some j = ap (slot_of floor) (sym (its_own floor k kind))
+      ∙ chain_at floor f.represents.sizes.sized.some_chains (lock_queue k) in
+      let apart : t ≢ j = λ e. let z : RecordOf t ≡ TurnstileChain m =
+      one_place floor (RecordOf t) (TurnstileChain m) j (place ∙ ap Some e) at in cc in
+      let rec : RepresentsRecord box.value (record_in s t) =
+      (f.fits.out.each (RecordOf t) t (Record box) place
+      (ap (found t) may.both.out ∙ found_first t (Record box) ((j, Turnstiles chain) ∷ []))).1 in
+      let shows : RepresentsTurnstiles floor m chain (objects_in s) =
+      (f.fits.out.each (TurnstileChain m) j (Turnstiles chain) at
+      (ap (found j) may.both.out ∙ found_later t j (Record box) ((j, Turnstiles chain) ∷ []) apart
+      ∙ found_first j (Turnstiles chain) [])).1 in
+      let head = its_head floor s t k number by_try lawful g box rec chain shows in
+      let h : Turnstile = head.0 in
+      let after : List (ℕ × Slot) = out_claimed floor t k box chain h in
+      let w : Knowledge = seeing (step ∷ f.past) (claimed v (as_claimed l by_try) after) in
+      let own : OwnSteps v w f.past (step ∷ []) s n = record {
+        role = was;
+        seen = refl {a = step ∷ f.past};
+        makers = one_own t step refl;
+        seat = record { thread = refl; share = claim_own c l number by_try s v f.fits.share after g.unheld };
+        others = λ u ne. claim_others c l number by_try s t u ne;
+        pose = f.fits.pose;
+        other_poses = λ u ne p z. z;
+      } in
+      let says_now : word_of new ≡ words.claimed (s.word k) t = says ∙ ap (λ y. words.claimed y t) (sym its_word) in
+      let r = f.represents in
+      let outs : ℕ → List (ℕ × Slot) = λ u. (thread_in b.views u).out in
+      let first : Slot = Record (with_value box (record_claimed k h box.value)) in
+      let second : Slot = Turnstiles (chain_claimed k box.value.thread h chain) in
+      let shelves : Shelves (slots_for floor) (latch_word b.words) (home_at b.homes) (put outs t after)
+      (put (put r.content t first) j second) =
+      shelf_both (slots_for floor) (latch_word b.words) (home_at b.homes) outs r.content r.shelves t j t (Record box)
+      first (Turnstiles chain) second apart (own_out floor (step ∷ []) b v w f was allowed own me.1 ∙ may.both.out) in
+      let objects : RepresentsObjects floor (put (put r.content t first) j second) (objects_in n) =
+      two_changed floor r.content (objects_in s) (objects_in n) (RecordOf t) (TurnstileChain m) t j first second place
+      at
+      (λ i z no_record no_chain. still_of floor (objects_in s) (objects_in n) i z
+      (says_same floor s t k number by_try lawful g i no_record no_chain)) refl
+      (record_shown floor s t k number by_try lawful g box rec chain shows)
+      (chain_shown floor s t k number by_try lawful g box rec chain shows) r.objects in
+      let made = lock_made_with floor (step ∷ []) b v w f was allowed own me.1 k new
+      (words.claimed (s.word k) t) _ low says_now refl refl refl shelves objects in
+      let named : number ≡ h.contents.number =
+      same_Some number h.contents.number (sym g.head ∙ ap (λ (x : QueueColumns). x.head) head.2.queue) in
+      let told : ClaimsWord floor l by_try me (w, me.1) = record {
+        both = may.both;
+        turnstile = h;
+        there = head.1;
+        can = can_own floor s t k number by_try lawful g box rec chain shows;
+        is = refl {a = (w, me.1)};
+        step = subst (λ x. Makes floor (Claims t k x by_try ∷ []) v w) named made.1;
+      } in (
+        w,
+        keeps,
+        tt,
+        made.0,
+        (λ e. told, λ ne. absurd {A = Looked floor k me (lock_word b.words k) (w, me.1)} (ne same)),
+      )
+
+  pub claim_allowed : word_of new ≡ words.claimed (word_of seen) v.thread
+      → MayMake floor v (λ s. Unit {0}) (Looks v.thread l.0 (counts v l.0) ∷ [])
+      → Allows (FloorHolds floor) slots id me (spot (lock_line l.0)) (λ n. either (eqb n seen) new n)
+      (Claimed floor l by_try seen me)
+  claim_allowed says may_look =
+      exchange_allows floor slots id me (spot (lock_line l.0)) seen new (Claimed floor l by_try seen me) was
+      (claims says)
+      (λ b f ne small. let look = looks floor me l.0 was low b f (may_look f.state f.fits tt) in
+      (look.0, look.1, look.2, look.3, (λ e. absurd (ne e), λ _. look.4)))

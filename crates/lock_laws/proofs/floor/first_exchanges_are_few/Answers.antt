@@ -1,0 +1,5 @@
+use Rattle.lock_laws.proofs.Looks as law
+use Rattle.lock_laws.proofs.floor.first_exchanges_are_few.Goals as goal
+
+pub returns : goal.returns
+returns c = law.first_kept
