@@ -11,7 +11,8 @@ one_less : (n last : ℕ) → n < last → last - n ≡ suc (last - (n + 1))
 one_less n last h = omega (arith, h)
 
 -- behind the line of a turn come those of the turns behind it
-pub lines_more : (plan : Plan) (width : ℕ) (rows : Rows) (chart : Chart) (n last : ℕ) → n < last → (old new begun : List ℕ)
+pub lines_more : (plan : Plan) (width : ℕ) (rows : Rows) (chart : Chart) (n last : ℕ) → n < last
+    → (old new begun : List ℕ)
     → new ≡ old ++ line_in plan width rows chart n → old ++ lines_from plan width rows chart n (last - n) ≡ begun
     → new ++ lines_from plan width rows chart (n + 1) (last - (n + 1)) ≡ begun
 lines_more plan width rows chart n last h old new begun pushed so_far =
@@ -22,23 +23,28 @@ lines_more plan width rows chart n last h old new begun pushed so_far =
 
 -- what one more of a list adds
 pub adds_next : {T : Type 0} (f : T → List ℕ) (xs : List T) (i : ℕ) (d : T) → i < length xs → (old new begun : List ℕ)
-    → new ≡ old ++ f (get_or xs i d) → old ++ flat_map f (drop i xs) ≡ begun → new ++ flat_map f (drop (i + 1) xs) ≡ begun
+    → new ≡ old ++ f (get_or xs i d) → old ++ flat_map f (drop i xs) ≡ begun
+    → new ++ flat_map f (drop (i + 1) xs) ≡ begun
 adds_next f xs i d h old new begun added so_far =
     let behind = flat_map f (drop (i + 1) xs) in
     ap (λ w. w ++ behind) added ∙ append_assoc old (f (get_or xs i d)) behind
     ∙ ap (λ w. old ++ w) (sym (at_drop_more (flat_map f) xs i d h)) ∙ so_far
 
-pub adds_more : {T : Type 0} (f : T → List ℕ) (xs : List T) (i : ℕ) (x : T) → i < length xs → x ≡ get_or xs i x → (old new begun : List ℕ)
+pub adds_more : {T : Type 0} (f : T → List ℕ) (xs : List T) (i : ℕ) (x : T) → i < length xs → x ≡ get_or xs i x
+    → (old new begun : List ℕ)
     → new ≡ old ++ f x → old ++ flat_map f (drop i xs) ≡ begun → new ++ flat_map f (drop (i + 1) xs) ≡ begun
-adds_more f xs i x h is old new begun added so_far = adds_next f xs i x h old new begun (added ∙ ap (λ y. old ++ f y) is) so_far
+adds_more f xs i x h is old new begun added so_far =
+    adds_next f xs i x h old new begun (added ∙ ap (λ y. old ++ f y) is) so_far
 
 -- more behind what is behind the old
 grows : (old x a more : List ℕ) → x ≡ old ++ a → x ++ more ≡ old ++ (a ++ more)
 grows old x a more is = ap (λ w. w ++ more) is ∙ append_assoc old a more
 
 -- words, a name, words, a number and words, one behind the other
-pub joined : (old one two new words name others number last : List ℕ) → one ≡ old ++ words ++ name → two ≡ one ++ others ++ number → new ≡ two ++ last
+pub joined : (old one two new words name others number last : List ℕ) → one ≡ old ++ words ++ name
+    → two ≡ one ++ others ++ number → new ≡ two ++ last
     → new ≡ old ++ (words ++ name ++ others ++ number ++ last)
 joined old one two new words name others number last a b d =
     d ∙ grows old two (words ++ name ++ others ++ number) last
-    (b ∙ grows old (one ++ others) (words ++ name ++ others) number (grows old one (words ++ name) others (a ∙ append_assoc old words name)))
+    (b ∙ grows old (one ++ others) (words ++ name ++ others) number
+    (grows old one (words ++ name) others (a ∙ append_assoc old words name)))

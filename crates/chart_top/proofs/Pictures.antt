@@ -15,7 +15,8 @@ use Rattle.top_ends.proofs.Takes.{unread}
 use Rattle.top_ends.specs.Calls.{Told}
 
 -- what was rendered of a chart of the run is a picture of the plan
-pub drawn : (renders : Rendering) (wanted : Wanted) (bytes : Text) (plan : Plan) (rows : Rows) (chart : Chart) (title subtitle text : Text)
+pub drawn : (renders : Rendering) (wanted : Wanted) (bytes : Text) (plan : Plan) (rows : Rows) (chart : Chart)
+    (title subtitle text : Text)
     → TellsRun plan wanted.chains wanted.turns rows → IsChartOf plan chart
     → chart.first ≡ min wanted.from (length rows.turns) → chart.last ≡ min wanted.to (length rows.turns)
     → title ≡ title_of wanted bytes plan → subtitle ≡ subtitle_of bytes

@@ -178,7 +178,8 @@ module _ (plan : Plan) (f : Floor Description) (given : IsFor plan f.description
         leads = subst (λ (z : List Entry × List Held). LeadsTo (config_of plan).kind ops z.0 (Cut (reverse z.1)))
             (λ i. (sym made.log i, sym without i))
             (law.gives_back entry
-            (subst (λ (xs : List Held). LeadsTo (config_of plan).kind ops x.view.share.log (Cut xs)) were b.leads) noted);
+            (subst (λ (xs : List Held). LeadsTo (config_of plan).kind ops x.view.share.log (Cut xs)) were b.leads)
+            noted);
         stamped = was_stamped f.description t x.view y.view (event.Unlocked h.l Excl)
             (without_lock h.l.0 x.view.share.held) b.thread b.stamped made;
         room = omega (

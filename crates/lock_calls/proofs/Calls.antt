@@ -88,7 +88,8 @@ take_stands floor l mode at to p q Done is call on =
 take_stands floor l mode at to p q Again is call on = record { to = to; call = call; next_is = sym is; on = on }
 take_stands floor l mode at to p q Sleep is call on = record { to = to; call = call; next_is = sym is; on = on }
 take_stands floor l mode at to p q (Wake t) is call on =
-    absurd (no_other_next to (Wake t) is (λ e. let z : Wake t ≡ Again = e in cc) (λ e. let z : Wake t ≡ Sleep = e in cc))
+    absurd (no_other_next to (Wake t) is (λ e. let z : Wake t ≡ Again = e in cc)
+    (λ e. let z : Wake t ≡ Sleep = e in cc))
 take_stands floor l mode at to p q (Reversed r) is call on =
     absurd (no_other_next to (Reversed r) is (λ e. let z : Reversed r ≡ Again = e in cc)
     (λ e. let z : Reversed r ≡ Sleep = e in cc))

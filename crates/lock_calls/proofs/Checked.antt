@@ -61,7 +61,8 @@ module _ (floor : Description) (l : ℕ) (v : Knowledge) (m : MaySeek l v) where
       → Makes floor (Seeks v.thread l false ∷ Looks v.thread l true ∷ []) v w → HasBegun floor l v w
   has_begun w word view step =
       let look : Look = record { lock = l; word = word } in
-      let counted : counts (sought v l false) l ≡ true = counts_there floor (sought v l false) l false m.nothing_out refl in
+      let counted : counts (sought v l false) l ≡ true =
+      counts_there floor (sought v l false) l false m.nothing_out refl in
       record {
         all = suc v.share.doing.looks_in_all;
         last = Some look;

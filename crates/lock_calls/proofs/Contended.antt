@@ -205,11 +205,13 @@ module _ (floor : Description) (l : LockNo) (mutex : IsMutex floor l.0) (one_cha
 -- 3. Its exchange missed
 
 pub misses_on : (floor : Description) (l : LockNo) (seen found : ℕ) (v w : Knowledge) → IsMutex floor l.0
-    → v.description ≡ floor → floor.chains ≡ 1 → 1 ≤ floor.chains → IsThere floor l.0 v → MissesThere floor l.0 found v w
+    → v.description ≡ floor → floor.chains ≡ 1 → 1 ≤ floor.chains → IsThere floor l.0 v
+    → MissesThere floor l.0 found v w
     → TakesOn floor l Excl (Contends seen) (Contends found) v w
 misses_on floor l seen found v w mutex mine one some_chains m x = record {
   there = contends floor l.0 found v w mutex mine some_chains m x.formed x.view x.step;
   kept = ap kept_of x.view;
   leg = looks_there seen found
-      (subst (λ c. Makes floor (Looks v.thread l.0 c ∷ []) v w) (quiet_there floor l.0 v mutex m mine some_chains) x.step);
+      (subst (λ c. Makes floor (Looks v.thread l.0 c ∷ []) v w) (quiet_there floor l.0 v mutex m mine some_chains)
+      x.step);
 }

@@ -234,7 +234,8 @@ module _ (floor : Description) (l : LockNo) (a : Knowledge) (m : LeavesWithChain
         → c ≡ seeing c.seen (looked b l.0 (word_of seen)) → Makes floor (Looks b.thread l.0 (counts b l.0) ∷ []) b c
         → ReleasesOn floor l Excl ComesIn (Frees seen) a c
     comes_in_on seen c formed view look =
-        let quiet : counts b l.0 ≡ false = counts_not floor b l.0 Excl leaving_now.may.looks.no_round leaving_now.may.held in
+        let quiet : counts b l.0 ≡ false =
+        counts_not floor b l.0 Excl leaving_now.may.looks.no_round leaving_now.may.held in
         let saw : Option Look = Some (record { lock = l.0; word = word_of seen }) in
         let all : ℕ = suc b.share.doing.looks_in_all in
         let knows : c ≡ seeing c.seen (with_looks b all saw saw) =

@@ -66,7 +66,8 @@ held_at l hs (Frees seen) = hs
 held_at l hs Wakes = without_lock l.0 hs
 
 -- and it may have found out since what it needs
-pub record IsAt (floor : Description) (l : LockNo) (mode : Mode) (begun : Knowledge) (at : ReleaseAt) (now : Knowledge) :
+pub record IsAt (floor : Description) (l : LockNo) (mode : Mode) (begun : Knowledge) (at : ReleaseAt)
+    (now : Knowledge) :
     Type 0 where
   pub came : Knowledge
   pub has_let : HasLet floor l mode begun at came
@@ -124,7 +125,8 @@ module _ (floor : Description) (l : LockNo) (mode : Mode) (begun : Knowledge) wh
     goes_on at to h (comes_in seen held each) =
         let made : MakesEach floor ((TakesItem t (RecordOf t) ∷ []) ∷ look ∷ []) h.came new =
         each_sooner floor (TakesItem t (RecordOf t) ∷ []) (look ∷ []) h.came now new h.waited
-        (subst (λ u. MakesEach floor ((TakesItem u (RecordOf u) ∷ []) ∷ (Looks u l.0 false ∷ []) ∷ []) now new) its each)
+        (subst (λ u. MakesEach floor ((TakesItem u (RecordOf u) ∷ []) ∷ (Looks u l.0 false ∷ []) ∷ []) now new) its
+        each)
         in
         record {
           came = new;
@@ -172,7 +174,8 @@ module _ (floor : Description) (l : LockNo) (mode : Mode) (begun : Knowledge) wh
                     c.took,
                     each_append floor (replicate c.n look ++ (frees t l.0 mode opens ∷ []) ∷ [])
                         (gives_both floor t l.0 ++ marking t marks) c.there made.0 z
-                        (each_append floor (replicate c.n look) ((frees t l.0 mode opens ∷ []) ∷ []) c.there h.came made.0
+                        (each_append floor (replicate c.n look) ((frees t l.0 mode opens ∷ []) ∷ []) c.there h.came
+                        made.0
                         c.each (made.0, made.1, refl))
                         (each_append floor (gives_both floor t l.0) (marking t marks) made.0 new z made.2 woken),
                   ),
@@ -217,7 +220,8 @@ module _ (floor : Description) (l : LockNo) (mode : Mode) (begun : Knowledge) wh
 
 -- 3. The end
 
-module _ (floor : Description) (l : LockNo) (mode : Mode) (begun now : Knowledge) (h : IsAt floor l mode begun Wakes now)
+module _ (floor : Description) (l : LockNo) (mode : Mode) (begun now : Knowledge)
+    (h : IsAt floor l mode begun Wakes now)
     (nobody : now.share.doing.marked ≡ []) where
   none_left : h.came.share.doing.marked ≡ []
   none_left = sym (ap (λ (k : Knowledge). k.share.doing.marked) h.waited.view) ∙ nobody

@@ -123,7 +123,8 @@ module _ (floor : Description) (l : ℕ) (v : Knowledge) (mutex : IsMutex floor 
   pub opened_there : (seen : ℕ) (new : Knowledge) → OpensUp floor l (word_of seen) v new → LetsGo floor l v new
   opened_there seen new o =
       let held : Holds o.mode ≡ Holds Excl =
-      sym o.step.may.0.fits.may.releases.held ∙ held_then floor (Opens v.thread l o.mode ∷ []) v new o.step l ∙ m.held in
+      sym o.step.may.0.fits.may.releases.held ∙ held_then floor (Opens v.thread l o.mode ∷ []) v new o.step l
+      ∙ m.held in
       let same : o.mode ≡ Excl = cc in
       let step : Makes floor (Opens v.thread l Excl ∷ []) v new =
       subst (λ x. Makes floor (Opens v.thread l x ∷ []) v new) same o.step in

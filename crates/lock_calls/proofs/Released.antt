@@ -149,7 +149,8 @@ module _ (floor : Description) (l : LockNo) (ticket : ℕ) (old v new : Knowledg
     module _ (word : Word) (view : new ≡ seeing new.seen (looked v l.0 word)) where
       pub leaving_missed : IsLeaving floor l.0 new
       leaving_missed =
-          let quiet : counts v l.0 ≡ false = counts_not floor v l.0 Excl leaving_noted.may.looks.no_round leaving_noted.may.held in
+          let quiet : counts v l.0 ≡ false =
+          counts_not floor v l.0 Excl leaving_noted.may.looks.no_round leaving_noted.may.held in
           let saw : Option Look = Some (record { lock = l.0; word = word }) in
           let all : ℕ = suc v.share.doing.looks_in_all in
           leaving_still floor l.0 (with_looks v all saw saw) new
@@ -179,7 +180,8 @@ module _ (floor : Description) (l : LockNo) (ticket : ℕ) (old v new : Knowledg
           → Makes floor (Looks v.thread l.0 (counts v l.0) ∷ []) v new
           → MakesEach floor ((Stamps old.thread e ∷ []) ∷ (Looks old.thread l.0 false ∷ []) ∷ []) old new
       begin_steps step look =
-          let quiet : counts v l.0 ≡ false = counts_not floor v l.0 Excl leaving_noted.may.looks.no_round leaving_noted.may.held in (
+          let quiet : counts v l.0 ≡ false =
+          counts_not floor v l.0 Excl leaving_noted.may.looks.no_round leaving_noted.may.held in (
             v,
             step,
             (
@@ -201,11 +203,13 @@ begins floor l ticket old v r held room p u q may is says step word view look no
       call = call_noted u q (calls.Release l Excl ComesTo) noted;
       there = record {
         covered = may.covered;
-        there = subst (IsLeaving floor l.0) same (leaving_missed floor l ticket old v u.view r held room says word view);
+        there = subst (IsLeaving floor l.0) same
+            (leaving_missed floor l ticket old v u.view r held room says word view);
       };
       entry = subst (λ k. MakesEntry floor (Unlocked l Excl) old.share.held old k) same
           (noted_so_far floor l ticket old v u.view r held room says word view step);
-      steps = subst (λ k. MakesEach floor ((Stamps old.thread (Unlocked l Excl) ∷ []) ∷ (Looks old.thread l.0 false ∷ [])
+      steps = subst (λ k. MakesEach floor
+          ((Stamps old.thread (Unlocked l Excl) ∷ []) ∷ (Looks old.thread l.0 false ∷ [])
           ∷ []) old k) same (begin_steps floor l ticket old v u.view r held room says word view step look);
     }
   where

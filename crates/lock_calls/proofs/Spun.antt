@@ -104,7 +104,8 @@ pub comes_there_on : (floor : Description) (l : LockNo) → IsMutex floor l.0 �
     → (m : HasChainOut floor l.0 a) → (going : IsGoing a) → (who : ℕ) → who < length floor.threads
     → (is : who ≡ a.thread) → a.description ≡ floor → (b : Knowledge) → (two : Takes floor (RecordOf who) who a b)
     → (w : Knowledge) → (view : w ≡ seeing w.seen (readied true b))
-    → Makes floor (Readies b.thread (lock_queue l.0) ∷ []) b w → (seen : ℕ) (z : Knowledge) → IsWellFormed (word_of seen)
+    → Makes floor (Readies b.thread (lock_queue l.0) ∷ []) b w → (seen : ℕ) (z : Knowledge)
+    → IsWellFormed (word_of seen)
     → z ≡ seeing z.seen (looked w l.0 (word_of seen)) → Makes floor (Looks w.thread l.0 (counts w l.0) ∷ []) w z
     → TakesOn floor l Excl ComesIn (Contends seen) a z
 comes_there_on floor l mutex one a m going who low is mine b two w view step seen z formed saw look =

@@ -141,7 +141,8 @@ hops_sooner floor w old mid new h x = record {
 -- 2. The begin
 
 pub begins_at : (floor : Description) (l : ℕ) (mode : Mode) (begun now : Knowledge) (missed : ℕ)
-    → missed ≡ first_misses begun.share.held → MakesEach floor (replicate missed (Looks begun.thread l true ∷ [])) begun now
+    → missed ≡ first_misses begun.share.held
+    → MakesEach floor (replicate missed (Looks begun.thread l true ∷ [])) begun now
     → IsAt floor l mode begun Checks now
 begins_at floor l mode begun now missed first each = record {
   came = now;
@@ -206,9 +207,11 @@ module _ (floor : Description) (l : LockNo) (mode : Mode) (begun : Knowledge) wh
         let c = h.has_come in
         let round : List (List Step) = (Seeks begun.thread l.0 false ∷ look) ∷ [] in
         let made : MakesEach floor (checks begun.thread l.0 None ++ round) h.came new =
-        each_sooner floor (TakesItem begun.thread ClassGraph ∷ []) ((Admits begun.thread l.0 ∷ []) ∷ round) h.came now new
+        each_sooner floor (TakesItem begun.thread ClassGraph ∷ []) ((Admits begun.thread l.0 ∷ []) ∷ round) h.came now
+        new
         h.waited
-        (subst (λ t. MakesEach floor (checks t l.0 None ++ (Seeks t l.0 false ∷ Looks t l.0 true ∷ []) ∷ []) now new) its
+        (subst (λ t. MakesEach floor (checks t l.0 None ++ (Seeks t l.0 false ∷ Looks t l.0 true ∷ []) ∷ []) now new)
+        its
         each) in
         let all : MakesEach floor (begins_round begun.thread l.0 c.missed) begun new =
         subst (λ xs. MakesEach floor xs begun new)
@@ -245,7 +248,8 @@ module _ (floor : Description) (l : LockNo) (mode : Mode) (begun : Knowledge) wh
         looked = h.came;
         rounds = h.has_come.0;
         few = omega (arith, h.has_come.1);
-        took = makes_sooner floor (TakesItem begun.thread (its_chain floor (lock_queue l.0)) ∷ []) h.came now new h.waited
+        took = makes_sooner floor (TakesItem begun.thread (its_chain floor (lock_queue l.0)) ∷ []) h.came now new
+            h.waited
             (subst (λ t. Makes floor (TakesItem t (its_chain floor (lock_queue l.0)) ∷ []) now new) its step);
       };
       waited = waits_none new;
@@ -278,8 +282,10 @@ module _ (floor : Description) (l : LockNo) (mode : Mode) (begun : Knowledge) wh
       waited = waits_none new;
     }
     goes_on at to there h (enters seen x w each) =
-        let made : MakesEach floor ((Enters begun.thread l.0 mode x ∷ []) ∷ gives_both floor begun.thread l.0) h.came new =
-        each_sooner floor (Enters begun.thread l.0 mode x ∷ []) (gives_both floor begun.thread l.0) h.came now new h.waited
+        let made : MakesEach floor ((Enters begun.thread l.0 mode x ∷ []) ∷ gives_both floor begun.thread l.0) h.came
+        new =
+        each_sooner floor (Enters begun.thread l.0 mode x ∷ []) (gives_both floor begun.thread l.0) h.came now new
+        h.waited
         (subst (λ t. MakesEach floor ((Enters t l.0 mode x ∷ []) ∷ gives_both floor t l.0) now new) its each) in
         let c = h.has_come in
         let behind_looks : MakesEach floor
@@ -370,7 +376,8 @@ module _ (floor : Description) (l : LockNo) (mode : Mode) (begun : Knowledge) wh
 
     -- 5. The end
 
-    pub ends : (at : TakeAt) → IsAt floor l.0 mode begun at now → TakeEnd floor l mode at now new → Locks floor l mode begun new
+    pub ends : (at : TakeAt) → IsAt floor l.0 mode begun at now → TakeEnd floor l mode at now new
+        → Locks floor l mode begun new
     ends at h (at_check each) =
         let c = h.has_come in
         let gain : List Step = gains_at_once begun.thread l.0 mode in
@@ -423,7 +430,8 @@ module _ (floor : Description) (l : LockNo) (mode : Mode) (begun : Knowledge) wh
         let on : MakesEach floor (runs_on floor begun.thread l.0) made.0 chain_back.0 =
         (ran.0, ran.1, (record_back.0, record_back.1, (chain_back.0, chain_back.1, refl))) in
         let gain : MakesEach floor (replicate c.m look_there ++ (Gains begun.thread l.0 mode false ∷ []) ∷ []) c.there
-        made.0 = each_append floor (replicate c.m look_there) ((Gains begun.thread l.0 mode false ∷ []) ∷ []) c.there h.came
+        made.0 = each_append floor (replicate c.m look_there) ((Gains begun.thread l.0 mode false ∷ []) ∷ []) c.there
+        h.came
         made.0 c.each (made.0, made.1, refl) in
         let there : MakesEach floor (gains_there floor begun.thread l.0 mode c.m) c.looked chain_back.0 =
         each_append floor (comes_there floor begun.thread l.0)
@@ -500,7 +508,8 @@ refused_since floor l mode begun now new r kept h x =
     made : MakesEach floor (refuses begun.thread l r.held) h.came new
     made =
         each_sooner floor (TakesItem begun.thread ClassGraph ∷ [])
-        ((Refuses begun.thread l.0 r.held.0 ∷ []) ∷ (Stamps begun.thread (Event.Reversed l r.held) ∷ []) ∷ []) h.came now
+        ((Refuses begun.thread l.0 r.held.0 ∷ []) ∷ (Stamps begun.thread (Event.Reversed l r.held) ∷ []) ∷ []) h.came
+        now
         new h.waited
         (subst (λ t. MakesEach floor (refuses t l r.held) now new) (ap (λ (k : Kept). k.thread) kept) x.steps)
 

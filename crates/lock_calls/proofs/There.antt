@@ -228,7 +228,8 @@ module _ (floor : Description) (l : ℕ) (v : Knowledge) (mutex : IsMutex floor 
 
     pub may_look_in_section : MayMake floor v (λ s. Unit {0}) (Looks v.thread l (counts v l) ∷ [])
     may_look_in_section =
-        wait.may_look_there floor v l (Record m.both.box) (Turnstiles m.both.chain) m.both.out mutex.lock going no_sleeper
+        wait.may_look_there floor v l (Record m.both.box) (Turnstiles m.both.chain) m.both.out mutex.lock going
+        no_sleeper
         k.description of_round
 
     -- 3. The gain
@@ -236,7 +237,8 @@ module _ (floor : Description) (l : ℕ) (v : Knowledge) (mutex : IsMutex floor 
     pub may_gain_in_section : Saw l (word_of 0) v
         → MayMake floor v (λ s. s.word l ≡ word_of 0) (Gains v.thread l Excl false ∷ [])
     may_gain_in_section saw =
-        wait.may_gain_there floor v l (Record m.both.box) (Turnstiles m.both.chain) m.both.out mutex.lock going no_sleeper
+        wait.may_gain_there floor v l (Record m.both.box) (Turnstiles m.both.chain) m.both.out mutex.lock going
+        no_sleeper
         Excl false (word_of 0) refl (plainly ((config_in floor).kind l) mutex.kind) m.unheld (inl m.wants) of_round
         (subst (λ r. FitsRound r l false) (sym m.round) (refl, refl))
         (λ w e. ap (λ (x : Word). admits ((config_in floor).kind l) x Excl)
@@ -250,7 +252,8 @@ module _ (floor : Description) (l : ℕ) (v : Knowledge) (mutex : IsMutex floor 
         → MayMake floor v (λ s. s.word l ≡ word_of seen) (Enters v.thread l Excl m.turnstile ∷ [])
     may_enter_in_section seen saw held =
         wait.may_enter_there floor v l m.both.box (Turnstiles m.both.chain) m.both.out mutex.lock going no_sleeper Excl
-        m.turnstile (word_of seen) held held (chains_turnstile floor l mutex) (λ e. refl) m.lent m.ready m.wants m.no_walk
+        m.turnstile (word_of seen) held held (chains_turnstile floor l mutex) (λ e. refl) m.lent m.ready m.wants
+        m.no_walk
         k.sections saw.last m.round
 
   pub missed_there : (found : ℕ) (w : Knowledge) → IsWellFormed (word_of found)
@@ -289,7 +292,8 @@ saw_word floor l v w word view = record {
 
 -- behind a look it contends there
 pub contends : (floor : Description) (l found : ℕ) (v w : Knowledge) → IsMutex floor l → v.description ≡ floor
-    → 1 ≤ floor.chains → IsThere floor l v → IsWellFormed (word_of found) → w ≡ seeing w.seen (looked v l (word_of found))
+    → 1 ≤ floor.chains → IsThere floor l v → IsWellFormed (word_of found)
+    → w ≡ seeing w.seen (looked v l (word_of found))
     → Makes floor (Looks v.thread l (counts v l) ∷ []) v w → IsContending floor l found w
 contends floor l found v w mutex mine some_chains m formed view step = record {
   there = there_on floor l 1 v w m

@@ -162,8 +162,8 @@ pub record HasMissed (floor : Description) (l : ℕ) (old new : Knowledge) : Typ
   pub knows : new ≡ seeing new.seen (with_looks_counted old looks all last seen)
   pub steps : MakesEach floor (replicate missed (Looks old.thread l true ∷ [])) old new
 
--- The lock's order is to be checked: the thread doesn't hold the lock, has nothing out and no walk, and may check. Where
--- looks count, they are its first exchanges, which missed, and it holds nothing
+-- The lock's order is to be checked: the thread doesn't hold the lock, has nothing out and no walk, and may check.
+-- Where looks count, they are its first exchanges, which missed, and it holds nothing
 pub record IsChecking (floor : Description) (l : ℕ) (v : Knowledge) : Type 0 where
   pub unheld : hold_in v.share.held l ≡ NotHeld
   pub may : MayOrder floor l v

@@ -400,7 +400,8 @@ module _ (floor : Description) (v : Knowledge) where
                 outside = λ i none is has. inl (held none);
                 outside_takes = λ none. inl (doing_it floor v s f (λ d. d.taking) ∙ (releases (sym round ∙ none)).1);
                 outside_first = λ none unheld. absurd (held none unheld);
-                halting = λ e. absurd (let z : false ≡ true = sym (ap is_halting (awake_now s f going).phase) ∙ e in cc);
+                halting = λ e. absurd
+                    (let z : false ≡ true = sym (ap is_halting (awake_now s f going).phase) ∙ e in cc);
               };
               asks_of_thread = record {
                 runs = inl (awake_now s f going);

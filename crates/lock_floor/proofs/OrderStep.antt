@@ -113,7 +113,10 @@ admit_others c s t l u other =
 refuse_others : (s : State) (t l k u : ℕ) → u ≢ t → share_in (after_refuse s t l k) u ≡ share_in s u
 unfolding after_refuse
 refuse_others s t l k u other = λ i. record (share_in s u) {
-  doing = record (share_in s u).doing { noted = put_other s.noted t (Some (OrderRefused l k)) u (λ q. other (sym q)) i };
+  doing = record (share_in s u).doing {
+    noted = put_other s.noted t (Some (OrderRefused l k)) u (λ q. other (sym q))
+        i;
+  };
 }
 
 -- 4. The step

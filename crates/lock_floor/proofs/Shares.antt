@@ -202,9 +202,11 @@ module _ (s : State) (t u : ℕ) (other : u ≢ t) where
   unfolding after_look
   look_others l counts =
       let looks_is : (after_look s t l counts).looks u ≡ s.looks u = put_other s.looks t _ u ne in
-      let looks_in_all_is : (after_look s t l counts).looks_in_all u ≡ s.looks_in_all u = put_other s.looks_in_all t _ u ne in
+      let looks_in_all_is : (after_look s t l counts).looks_in_all u ≡ s.looks_in_all u =
+      put_other s.looks_in_all t _ u ne in
       let last_look_is : (after_look s t l counts).last_look u ≡ s.last_look u = put_other s.last_look t _ u ne in
-      let seen_in_section_is : (after_look s t l counts).seen_in_section u ≡ s.seen_in_section u = put_other s.seen_in_section t _ u ne in
+      let seen_in_section_is : (after_look s t l counts).seen_in_section u ≡ s.seen_in_section u =
+      put_other s.seen_in_section t _ u ne in
       λ i. record (share_in s u) {
         doing = record (share_in s u).doing {
           looks = looks_is i;

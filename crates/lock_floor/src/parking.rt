@@ -81,8 +81,8 @@ impl FloorOf<Slot, View, Description, Law> {
         read_wait::<Brand>(&self.board, &mut pass.seat, t) == QUEUED
     }
 
-    /// Whether a thread's wait word says that it is queued, by a plain load, which tells nothing: for a scheduler, which
-    /// has no pass to step with.
+    /// Whether a thread's wait word says that it is queued, by a plain load, which tells nothing: for a scheduler,
+    /// which has no pass to step with.
     pub fn is_queued(&self, t: ThreadNo) -> bool {
         usize::from(t.0) < self.description.threads.as_slice().len()
             && self.board.shared.peek(wait_spot(t)) == QUEUED

@@ -167,7 +167,8 @@ few_first chains c s (Claims t l y by_try) g x h = put_three s t h None None 0 (
 few_first chains c s (Admits t l) g x h = of_wanted s t h l
 few_first chains c s other g x h = h
 
-pub first_begins : (c : Config) → FirstExchangesAreFew (start_state c).round (start_state c).wanted (start_state c).looks
+pub first_begins : (c : Config)
+    → FirstExchangesAreFew (start_state c).round (start_state c).wanted (start_state c).looks
 unfolding FirstExchangesAreFew start_state
 first_begins c t r w = omega arith
 

@@ -212,9 +212,9 @@ HaltsOnlyWhenRunning is_run [] = ⊤
 HaltsOnlyWhenRunning is_run (e ∷ es) =
     (is_run ≡ false → is_halt e.event ≡ false) × HaltsOnlyWhenRunning is_run es
 
--- 4. The law, but for what it says of the causes of halts and of busy words. Is_run says whether threads ran, or the run
--- was a scheduled one; cut_short whether a scheduled run ended stuck or too long. Threads that ran come to their end. Of
--- lock orders the law speaks where each take has come to its end
+-- 4. The law, but for what it says of the causes of halts and of busy words. Is_run says whether threads ran, or the
+-- run was a scheduled one; cut_short whether a scheduled run ended stuck or too long. Threads that ran come to their
+-- end. Of lock orders the law speaks where each take has come to its end
 
 -- the parts that hold behind each entry, whatever operations its threads have
 pub record IsLegalSoFar (c : Config) (is_run : Bool) (history : List Entry) : Type 0 where

@@ -5,7 +5,8 @@ use complaints::Status;
 use complaints::Status::{BadScript, Done, ReadFault, Reversed, TooBig, Usage, WriteFault};
 use lock_io::{Gate, Meeting, MemSink, OpenGate};
 use lock_top::lockrun;
-use std::alloc::Global;
+use std::alloc::{AllocError, Global};
+use std::str;
 use std::sync::Wait;
 use std::test::Fail;
 use std::thread::Threads;
@@ -125,6 +126,57 @@ fn a_thread_alone_in_both_orders(rt: HostRuntime) -> Result<(), Fail> {
     assert_eq!(rt; status, Reversed);
     assert_eq!(rt; status as u8, 6);
     assert_eq!(rt; sink.bytes(), REFUSED.as_bytes());
+    Ok(())
+}
+
+// The script of so many philosophers, who each take the fork of their own number and the next one, the last of them the
+// first, and eat once. Each takes the one of his own number first, or, in order, the lesser one.
+fn philosophers(alloc: Global, count: u32, in_order: bool) -> Result<String, AllocError> {
+    let mut script = format!(in alloc; "lockrun 1;")?;
+    for k in 0..count {
+        script.push_str(&format!(in alloc; "mutex f{k} c{k};")?)?;
+    }
+    for k in 0..count {
+        let next = if k + 1 < count { k + 1 } else { 0 };
+        let (first, second) = if in_order && next < k {
+            (next, k)
+        } else {
+            (k, next)
+        };
+        script.push_str(&format!(in alloc;
+            "thread p{k} 100;lock f{first};lock f{second};add f{k} 1 1;unlock f{second};unlock f{first};end;"
+        )?)?;
+    }
+    script.push_str("done;")?;
+    Ok(script)
+}
+
+// Each asks once for a second fork while he holds his first, and what takes have taught stays. So where each takes his
+// own fork first, the last to ask would close the circle, whoever that is: he alone is refused, and the others eat. And
+// where all take them in order, nobody is.
+#[test]
+fn one_philosopher_is_refused(rt: HostRuntime) -> Result<(), Fail> {
+    let alloc = rt.alloc();
+    for &(count, in_order, status, refused, last) in &[
+        (5, false, Reversed, 1, "reversed"),
+        (32, false, Reversed, 1, "reversed"),
+        (5, true, Done, 0, "ok"),
+        (32, true, Done, 0, "ok"),
+    ] {
+        let script = philosophers(alloc, count, in_order)?;
+        let bytes = bytes_of(alloc, &script, 0)?;
+        let (answer, sink) = call(&rt, alloc, "run", bytes, NEVER, NEVER, &OpenGate)?;
+        assert_eq!(rt; answer, status);
+        let text = str::from_utf8(sink.bytes())?;
+        let (mut refusals, mut meals) = (0, 0);
+        for line in text.lines() {
+            refusals += u32::from(line.contains(" reversed "));
+            meals += u32::from(line.starts_with("table "));
+        }
+        assert_eq!(rt; refusals, refused);
+        assert_eq!(rt; meals, count - refused);
+        assert_eq!(rt; text.lines().last(), Some(last));
+    }
     Ok(())
 }
 

@@ -109,11 +109,13 @@ module _ (plan : Plan) (rows : Rows) (h : IsRunOf plan rows) (n : ℕ) (l : n �
       let both : Holds there.0 ≡ NotHeld = sym there.1 ∙ lacks in cc
 
   -- a lock of the class that its rows say it holds
-  pub held_is : (t : ℕ) (thread : ThreadRows) → slice_get rows.threads t ≡ Some thread → (class : ClassNo) (held : Option LockNo)
+  pub held_is : (t : ℕ) (thread : ThreadRows) → slice_get rows.threads t ≡ Some thread
+      → (class : ClassNo) (held : Option LockNo)
       → IfSome held (λ k. holds_in n k.0 thread ≡ true) → IfSome held (λ k. lock_class plan k.0 ≡ class.0)
       → IfNone held ((k : ℕ) → holds_in n k thread ≡ true → lock_class plan k ≢ class.0) → IsHeldOf plan n t class held
   held_is t thread at class None holds of_class none = λ k has.
-      let it = holds_it plan rows h n l k t has.mode has.held in none k (ap (holds_in n k) (same_Some thread it.0 (sym at ∙ it.1)) ∙ it.2)
+      let it = holds_it plan rows h n l k t has.mode has.held in
+      none k (ap (holds_in n k) (same_Some thread it.0 (sym at ∙ it.1)) ∙ it.2)
   held_is t thread at class (Some k) holds of_class none = (has_lock k.0 t thread at holds, of_class)
 
   pub holders_are : (k : ℕ) → AreThose (those (holds_in n k) rows.threads) (λ t. HasLock plan n t k)

@@ -146,11 +146,14 @@ walk_back (walks.AtThread t) e = absurd cc
 
 module _ (plan : Plan) (n who : ℕ) (made : Made plan n who Lend) where
   -- the hop that lent is the turn's
-  lent_hop : (to before prio : ℕ) (x : Lent plan n who to before prio) → loan_in plan n who ≡ Some (to, x.lock, before, prio)
+  lent_hop : (to before prio : ℕ) (x : Lent plan n who to before prio)
+      → loan_in plan n who ≡ Some (to, x.lock, before, prio)
   lent_hop to before prio x =
-      loan_of_hops (run_in plan n) (run_in plan (n + 1)) ((run_in plan n).state.walk who) to x.lock before prio (record { walk = x.walk; owner = x.owner; ran_as = x.ran_as; runs_as = x.runs_as })
+      loan_of_hops (run_in plan n) (run_in plan (n + 1)) ((run_in plan n).state.walk who) to x.lock before prio
+      (record { walk = x.walk; owner = x.owner; ran_as = x.ran_as; runs_as = x.runs_as })
 
-  pub lends_none : None ≡ loan_in plan n who → (to before prio : ℕ) × Lent plan n who to before prio × (before ≢ prio) → ⊥
+  pub lends_none : None ≡ loan_in plan n who → (to before prio : ℕ) × Lent plan n who to before prio × (before ≢ prio)
+      → ⊥
   lends_none none (to, before, prio, x, changes) =
       let some : ◌≡◌ {A = Option Hop} None (Some (to, x.lock, before, prio)) = none ∙ lent_hop to before prio x in cc
 
@@ -158,7 +161,8 @@ module _ (plan : Plan) (n who : ℕ) (made : Made plan n who Lend) where
   pub lends_idly : (v : HopLoan) → Some (hop_of v) ≡ loan_in plan n who → v.before.0 ≡ v.prio.0
       → (to before prio : ℕ) × Lent plan n who to before prio × (before ≢ prio) → ⊥
   lends_idly v is same (to, before, prio, x, changes) =
-      let hop : hop_of v ≡ (to, x.lock, before, prio) = same_Some (hop_of v) (to, x.lock, before, prio) (is ∙ lent_hop to before prio x) in
+      let hop : hop_of v ≡ (to, x.lock, before, prio) =
+      same_Some (hop_of v) (to, x.lock, before, prio) (is ∙ lent_hop to before prio x) in
       changes (sym (ap (λ (k : Hop). k.2) hop) ∙ same ∙ ap (λ (k : Hop). k.3) hop)
 
   pub is_lending : (v : HopLoan) → Some (hop_of v) ≡ loan_in plan n who → v.before.0 ≢ v.prio.0 → (w : Walk)

@@ -129,6 +129,9 @@ shown_by {m = m} {c = c} n h same edges words_seen queues_seen sleepers_seen thr
 }
 
 -- no object tells of a look
-pub looked : {m : Machine} {c : Config} {s : State} (t l : ℕ) (counts : Bool) → Represents c m s → Represents c m (after_look s t l counts)
+pub looked : {m : Machine} {c : Config} {s : State} (t l : ℕ) (counts : Bool) → Represents c m s
+    → Represents c m (after_look s t l counts)
 unfolding after_look
-looked {s = s} t l counts h = shown_by (after_look s t l counts) h refl refl h.words h.queues h.sleepers (threads_stay (after_look s t l counts) h.threads (λ u. refl))
+looked {s = s} t l counts h =
+    shown_by (after_look s t l counts) h refl refl h.words h.queues h.sleepers
+    (threads_stay (after_look s t l counts) h.threads (λ u. refl))

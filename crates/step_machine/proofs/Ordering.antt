@@ -19,7 +19,8 @@ use Rattle.step_machine.proofs.Kit.{OthersStay, thread_changed, threads_stay, sh
 
 -- 1. The graph
 
-module _ {c : Config} {graph : Graph} {s : State} {t l : ℕ} {held : List ClassNo} {class : ClassNo} (h : RepresentsGraph c graph s.edges) (same : AreClasses c held class s t l) where
+module _ {c : Config} {graph : Graph} {s : State} {t l : ℕ} {held : List ClassNo} {class : ClassNo}
+    (h : RepresentsGraph c graph s.edges) (same : AreClasses c held class s t l) where
   -- what is admitted by the column is so by the graph,
   pub admitted_in_graph : IsAdmitted s.edges (classes_held c s t) (c.class l) → IsAdmitted graph.edges (numbers_of held) class.0
   admitted_in_graph a =

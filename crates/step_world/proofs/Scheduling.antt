@@ -27,18 +27,22 @@ use Rattle.step_world.proofs.Sets.{keep_alike, keeps_none, apart, no_members, Al
 -- 1. Who has ended
 
 -- one that hasn't ended settles it
-pub one_runs : (plan : Plan) (r : Run) (t : ℕ) → t < length plan.threads → has_ended plan r t ≡ false → all_ended plan r ≡ false
+pub one_runs : (plan : Plan) (r : Run) (t : ℕ) → t < length plan.threads → has_ended plan r t ≡ false
+    → all_ended plan r ≡ false
 one_runs plan r t l e =
     let n = length plan.threads in
-    list_all_at (has_ended plan r) (threads_of plan) t 0 (omega (arith, l, length-range_with_len 0 n)) (ap (has_ended plan r) (get_or-range_with_len 0 n t 0 l ∙ omega arith) ∙ e)
+    list_all_at (has_ended plan r) (threads_of plan) t 0 (omega (arith, l, length-range_with_len 0 n))
+    (ap (has_ended plan r) (get_or-range_with_len 0 n t 0 l ∙ omega arith) ∙ e)
 
 -- all have ended exactly where a round would have nobody
 none_left : (p : ℕ → Bool) (ts : List ℕ) → is_empty (filter (λ t. not (p t)) ts) ≡ list_all p ts
 none_left p [] = refl
-none_left p (t ∷ ts) = elim (p t) as (λ b. is_empty (cond (not b) (t ∷ filter (λ u. not (p u)) ts) (filter (λ u. not (p u)) ts)) ≡ (b && list_all p ts)) [
-  | true ↦ none_left p ts
-  | false ↦ refl
-]
+none_left p (t ∷ ts) =
+    elim (p t) as (λ b. is_empty (cond (not b) (t ∷ filter (λ u. not (p u)) ts) (filter (λ u. not (p u)) ts)) ≡
+    (b && list_all p ts)) [
+      | true ↦ none_left p ts
+      | false ↦ refl
+    ]
 
 pub round_of_none : (plan : Plan) (r : Run) → is_empty (round_of plan r) ≡ all_ended plan r
 round_of_none plan r = none_left (has_ended plan r) (threads_of plan)
@@ -46,7 +50,8 @@ round_of_none plan r = none_left (has_ended plan r) (threads_of plan)
 -- 2. Rounds
 
 -- a set that has who hasn't ended has a round's threads
-pub round_is : (plan : Plan) (r : Run) (bits : ℕ) → length plan.threads ≤ 32 → ((t : ℕ) → has_bit t bits ≡ is_going plan r t) → members bits ≡ round_of plan r
+pub round_is : (plan : Plan) (r : Run) (bits : ℕ) → length plan.threads ≤ 32
+    → ((t : ℕ) → has_bit t bits ≡ is_going plan r t) → members bits ≡ round_of plan r
 unfolding members
 round_is plan r bits few same =
     let n = length plan.threads in
@@ -55,7 +60,8 @@ round_is plan r bits few same =
     let q : ℕ → Bool = λ t. not (has_ended plan r t) in
     keep_alike (λ t. has_bit t bits) p 0 32 (λ t i l. same t)
     ∙ apart p n rest 32 (let e : n + rest ≡ 32 = omega (arith, few) in e)
-    ∙ ap₂ (λ (xs ys : List ℕ). xs ++ ys) (keep_alike p q 0 n (λ t i l. ap (λ (b : Bool). b && q t) (lt-ltb t n (omega (arith, l)))))
+    ∙ ap₂ (λ (xs ys : List ℕ). xs ++ ys)
+    (keep_alike p q 0 n (λ t i l. ap (λ (b : Bool). b && q t) (lt-ltb t n (omega (arith, l)))))
     (keeps_none p n rest (λ t i l. ap (λ (b : Bool). b && q t) (le-ltb t n i)))
     ∙ append-nil (filter q (range_with_len 0 n))
 
@@ -66,15 +72,19 @@ as_before t u ne = elim (cases_lt u t) [
 ]
 
 -- one more thread is in the set of those who haven't ended, or not
-pub goes_more : (ended : ℕ → Bool) (t u : ℕ) → ended t ≡ false → (eqb t u || (ltb u t && not (ended u))) ≡ (ltb u (t + 1) && not (ended u))
+pub goes_more : (ended : ℕ → Bool) (t u : ℕ) → ended t ≡ false
+    → (eqb t u || (ltb u t && not (ended u))) ≡ (ltb u (t + 1) && not (ended u))
 goes_more ended t u runs = elim (cases_eq t u) [
   | inl e ↦
       let here : not (ended u) ≡ true = ap (λ (v : ℕ). not (ended v)) (sym e) ∙ ap not runs in
-      ap (λ (b : Bool). b || (ltb u t && not (ended u))) (eq-eqb t u e) ∙ sym (ap₂ (λ (a b : Bool). a && b) (lt-ltb u (t + 1) (omega (arith, e))) here)
-  | inr ne ↦ ap (λ (b : Bool). b || (ltb u t && not (ended u))) (ne_eqb t u ne) ∙ ap (λ (b : Bool). b && not (ended u)) (as_before t u ne)
+      ap (λ (b : Bool). b || (ltb u t && not (ended u))) (eq-eqb t u e)
+      ∙ sym (ap₂ (λ (a b : Bool). a && b) (lt-ltb u (t + 1) (omega (arith, e))) here)
+  | inr ne ↦ ap (λ (b : Bool). b || (ltb u t && not (ended u))) (ne_eqb t u ne)
+      ∙ ap (λ (b : Bool). b && not (ended u)) (as_before t u ne)
 ]
 
-pub goes_no_more : (ended : ℕ → Bool) (t u : ℕ) → ended t ≡ true → (ltb u t && not (ended u)) ≡ (ltb u (t + 1) && not (ended u))
+pub goes_no_more : (ended : ℕ → Bool) (t u : ℕ) → ended t ≡ true
+    → (ltb u t && not (ended u)) ≡ (ltb u (t + 1) && not (ended u))
 goes_no_more ended t u over = elim (cases_eq t u) [
   | inl e ↦
       let gone : not (ended u) ≡ false = ap (λ (v : ℕ). not (ended v)) (sym e) ∙ ap not over in
@@ -85,9 +95,11 @@ goes_no_more ended t u over = elim (cases_eq t u) [
 -- 3. Who still comes
 
 -- a round is stuck where nobody comes any more
-pub stuck_as : {course : Course} {k : run.Course} (idle : Bool) → IsCourse course k → course.idle ≡ idle → (idle && is_empty course.coming) ≡ is_stuck k
+pub stuck_as : {course : Course} {k : run.Course} (idle : Bool) → IsCourse course k → course.idle ≡ idle
+    → (idle && is_empty course.coming) ≡ is_stuck k
 stuck_as {course} {k} idle h e =
-    turned idle (is_empty course.coming) ∙ ap₂ (λ (ts : List ℕ) (b : Bool). is_empty ts && b) (sym h.coming) (sym e ∙ sym h.idle)
+    turned idle (is_empty course.coming)
+    ∙ ap₂ (λ (ts : List ℕ) (b : Bool). is_empty ts && b) (sym h.coming) (sym e ∙ sym h.idle)
   where
     turned : (a b : Bool) → (a && b) ≡ (b && a)
     turned true true = refl
@@ -95,7 +107,8 @@ stuck_as {course} {k} idle h e =
     turned false true = refl
     turned false false = refl
 
-module _ {world : World} {schedule : List ThreadNo} {round going asleep : ℕ} (h : IsSound world schedule round going asleep) where
+module _ {world : World} {schedule : List ThreadNo} {round going asleep : ℕ}
+    (h : IsSound world schedule round going asleep) where
   -- those who haven't ended are a round's threads
   pub members_are : (r : Run) → Represents world r → members going ≡ round_of world.plan r
   members_are r shows = round_is world.plan r going h.proper.threads (λ t. h.going_are r t shows)
@@ -110,7 +123,8 @@ module _ {world : World} {schedule : List ThreadNo} {round going asleep : ℕ} (
     scheduled = All-nil (λ (t : ThreadNo). t.0 < length world.plan.threads);
     threads = All-members (λ t. t < length world.plan.threads) going (λ t e.
         let there : is_going world.plan h.run.0 t ≡ true = sym (h.going_are h.run.0 t h.run.1) ∙ e in
-        ltb-true t (length world.plan.threads) (and_parts (ltb t (length world.plan.threads)) (not (has_ended world.plan h.run.0 t)) there).0);
+        ltb-true t (length world.plan.threads)
+        (and_parts (ltb t (length world.plan.threads)) (not (has_ended world.plan h.run.0 t)) there).0);
     in_turn = inr refl;
   }
 
@@ -121,20 +135,23 @@ module _ {world : World} {schedule : List ThreadNo} {round going asleep : ℕ} (
     run = h.run;
     going_are = h.going_are;
     sleep = h.sleep;
-    scheduled = All-tail (λ (u : ThreadNo). u.0 < length world.plan.threads) t rest (subst (All (λ (u : ThreadNo). u.0 < length world.plan.threads)) e h.scheduled);
+    scheduled = All-tail (λ (u : ThreadNo). u.0 < length world.plan.threads) t rest
+        (subst (All (λ (u : ThreadNo). u.0 < length world.plan.threads)) e h.scheduled);
     threads = h.threads;
     in_turn = elim h.in_turn [ inl i ↦ inl i | inr i ↦ absurd (let z = sym i ∙ e in cc) ];
   }
 
   -- or some of the first of a round
-  pub sound_left : (front : List ℕ) (new : ℕ) → members round ≡ front ++ members new → IsSound world schedule new going asleep
+  pub sound_left : (front : List ℕ) (new : ℕ) → members round ≡ front ++ members new
+      → IsSound world schedule new going asleep
   sound_left front new e = record {
     proper = h.proper;
     run = h.run;
     going_are = h.going_are;
     sleep = h.sleep;
     scheduled = h.scheduled;
-    threads = All-behind (λ t. t < length world.plan.threads) front (members new) (subst (All (λ t. t < length world.plan.threads)) e h.threads);
+    threads = All-behind (λ t. t < length world.plan.threads) front (members new)
+        (subst (All (λ t. t < length world.plan.threads)) e h.threads);
     in_turn = elim h.in_turn [ inl i ↦ inl (none_behind front (members new) (sym e ∙ i)) | inr i ↦ inr i ];
   }
     where
@@ -142,20 +159,26 @@ module _ {world : World} {schedule : List ThreadNo} {round going asleep : ℕ} (
       none_behind [] ys i = i
       none_behind (x ∷ xs) ys i = absurd cc
 
-pub sound_taken : {world : World} {schedule : List ThreadNo} {old new : ThreadSet} {going asleep : ℕ} (o : Option ThreadNo) → IsSound world schedule old.bits going asleep
-    → IfNone o ((members old.bits ≡ []) × (new ≡ old)) → IfSome o (λ t. members old.bits ≡ t.0 ∷ members new.bits) → IsSound world schedule new.bits going asleep
-sound_taken {world} {schedule} {going = going} {asleep = asleep} None h none some = subst (λ (x : ThreadSet). IsSound world schedule x.bits going asleep) (sym none.1) h
+pub sound_taken : {world : World} {schedule : List ThreadNo} {old new : ThreadSet} {going asleep : ℕ}
+    (o : Option ThreadNo) → IsSound world schedule old.bits going asleep
+    → IfNone o ((members old.bits ≡ []) × (new ≡ old)) → IfSome o (λ t. members old.bits ≡ t.0 ∷ members new.bits)
+    → IsSound world schedule new.bits going asleep
+sound_taken {world} {schedule} {going = going} {asleep = asleep} None h none some =
+    subst (λ (x : ThreadSet). IsSound world schedule x.bits going asleep) (sym none.1) h
 sound_taken {new = new} (Some t) h none some = sound_left h (t.0 ∷ []) new.bits some
 
-pub sound_passed : {world : World} {schedule : List ThreadNo} {old new going asleep number : ℕ} → IsSound world schedule old going asleep → Passes asleep old new number
+pub sound_passed : {world : World} {schedule : List ThreadNo} {old new going asleep number : ℕ}
+    → IsSound world schedule old going asleep → Passes asleep old new number
     → IsSound world schedule new going asleep
 sound_passed {new = new} h p = sound_left h p.front new p.are
 
 -- the begin of a course
 module _ {world : World} {schedule : List ThreadNo} (plan : Plan) (round : ℕ) where
-  pub sound_start : {going asleep : ℕ} → IsProper plan → world.plan ≡ plan → Represents world (start_run (config_of plan)) → schedule ≡ plan.schedule
+  pub sound_start : {going asleep : ℕ} → IsProper plan → world.plan ≡ plan
+      → Represents world (start_run (config_of plan)) → schedule ≡ plan.schedule
       → ((t : ℕ) → has_bit t round ≡ false) → ((t : ℕ) → has_bit t asleep ≡ false)
-      → ((r : Run) (t : ℕ) → Represents world r → has_bit t going ≡ is_going world.plan r t) → IsSound world schedule round going asleep
+      → ((r : Run) (t : ℕ) → Represents world r → has_bit t going ≡ is_going world.plan r t)
+      → IsSound world schedule round going asleep
   sound_start proper same begins scheduled nobody awake going_are = record {
     proper = subst IsProper (sym same) proper;
     run = (start_run (config_of plan), begins);
@@ -167,11 +190,14 @@ module _ {world : World} {schedule : List ThreadNo} (plan : Plan) (round : ℕ) 
     in_turn = inl (no_members round nobody);
   }
 
-  pub course_start : Represents world (start_run (config_of plan)) → schedule ≡ plan.schedule → ((t : ℕ) → has_bit t round ≡ false)
-      → IsCourse (record { world = world; coming = map (λ t. t.0) schedule ++ members round; idle = false }) (start_course plan)
+  pub course_start : Represents world (start_run (config_of plan)) → schedule ≡ plan.schedule
+      → ((t : ℕ) → has_bit t round ≡ false)
+      → IsCourse (record { world = world; coming = map (λ t. t.0) schedule ++ members round; idle = false })
+      (start_course plan)
   course_start begins scheduled nobody = record {
     shows = begins;
-    coming = sym (ap₂ (λ (s : List ThreadNo) (ts : List ℕ). map (λ t. t.0) s ++ ts) scheduled (no_members round nobody) ∙ append-nil (map (λ (t : ThreadNo). t.0) plan.schedule));
+    coming = sym (ap₂ (λ (s : List ThreadNo) (ts : List ℕ). map (λ t. t.0) s ++ ts) scheduled (no_members round nobody)
+        ∙ append-nil (map (λ (t : ThreadNo). t.0) plan.schedule));
     idle = refl;
   }
 
@@ -250,17 +276,23 @@ and_true false = refl
 
 module _ (plan : Plan) (proper : IsProper plan) where
   -- such a turn changes nothing but who comes
-  idles : (k : run.Course) (t : ℕ) (ts : List ℕ) → IsOnTrack plan k.run → k.coming ≡ t ∷ ts → t < length plan.threads → IsSleeping plan k.run t → go_on plan k ≡ record k { coming = ts }
+  idles : (k : run.Course) (t : ℕ) (ts : List ℕ) → IsOnTrack plan k.run → k.coming ≡ t ∷ ts → t < length plan.threads
+      → IsSleeping plan k.run t → go_on plan k ≡ record k { coming = ts }
   idles k t ts track comes lt asleep =
       let answer : (turn_of plan k.run t).answer ≡ Idle = (idle_exactly plan k.run t proper track).1 asleep in
-      let on : is_over plan k ≡ false = ap₂ (λ (a b : Bool). a || b) (one_runs plan k.run t lt asleep.going) (ap (λ (xs : List ℕ). is_empty xs && k.idle) comes) in
+      let on : is_over plan k ≡ false =
+      ap₂ (λ (a b : Bool). a || b) (one_runs plan k.run t lt asleep.going)
+      (ap (λ (xs : List ℕ). is_empty xs && k.idle) comes) in
       ap (λ (b : Bool). cond b k (after_turn plan k k.coming)) on ∙ ap (after_turn plan k) comes
-      ∙ ap₂ (λ (r : Run) (i : Bool). record { run = r; coming = ts; idle = i }) (changes_nothing plan k.run t (inl answer)) (ap (λ (a : Turn). k.idle && is_idle a) answer ∙ and_true k.idle)
+      ∙ ap₂ (λ (r : Run) (i : Bool). record { run = r; coming = ts; idle = i })
+      (changes_nothing plan k.run t (inl answer)) (ap (λ (a : Turn). k.idle && is_idle a) answer ∙ and_true k.idle)
 
   -- so the turns of as many that stand in front leave those behind
-  pub passed : (front rest : List ℕ) (n : ℕ) (k : run.Course) → course_after plan n ≡ k → IsOnTrack plan k.run → k.coming ≡ front ++ rest → All (λ t. (t < length plan.threads) × IsSleeping plan k.run t) front
+  pub passed : (front rest : List ℕ) (n : ℕ) (k : run.Course) → course_after plan n ≡ k → IsOnTrack plan k.run
+      → k.coming ≡ front ++ rest → All (λ t. (t < length plan.threads) × IsSleeping plan k.run t) front
       → course_after plan (n + length front) ≡ record k { coming = rest }
-  passed [] rest n k e track comes each = ap (course_after plan) (let z : n + 0 ≡ n = omega arith in z) ∙ e ∙ ap (λ (ts : List ℕ). record k { coming = ts }) comes
+  passed [] rest n k e track comes each = ap (course_after plan) (let z : n + 0 ≡ n = omega arith in z) ∙ e
+      ∙ ap (λ (ts : List ℕ). record k { coming = ts }) comes
   passed (t ∷ front) rest n k e track comes each =
       let P : ℕ → Type 0 = λ u. (u < length plan.threads) × IsSleeping plan k.run u in
       let first : P t = All-head P t front each in
@@ -269,8 +301,10 @@ module _ (plan : Plan) (proper : IsProper plan) where
       ∙ passed front rest (n + 1) (record k { coming = front ++ rest }) one track refl (All-tail P t front each)
 
 -- Those who stand in front of a round come before the others: nobody of a schedule does then.
-front_first : (scheduled old front new : List ℕ) → old ≡ front ++ new → (old ≡ []) ⊎ (scheduled ≡ []) → scheduled ++ old ≡ front ++ (scheduled ++ new)
-front_first scheduled old front new e (inr none) = subst (λ (ts : List ℕ). ts ++ old ≡ front ++ (ts ++ new)) (sym none) e
+front_first : (scheduled old front new : List ℕ) → old ≡ front ++ new → (old ≡ []) ⊎ (scheduled ≡ [])
+    → scheduled ++ old ≡ front ++ (scheduled ++ new)
+front_first scheduled old front new e (inr none) =
+    subst (λ (ts : List ℕ). ts ++ old ≡ front ++ (ts ++ new)) (sym none) e
 front_first scheduled old [] new e (inl none) = ap (λ (ts : List ℕ). scheduled ++ ts) e
 front_first scheduled old (t ∷ front) new e (inl none) = absurd (let z = sym none ∙ e in cc)
 
@@ -278,18 +312,25 @@ no_schedule : (schedule : List ThreadNo) → schedule ≡ [] → map {B = ℕ} (
 no_schedule schedule e = ap (map (λ (t : ThreadNo). t.0)) e
 
 -- so many at the front of a round who sleep have had their turns
-pub course_passed : {world : World} {schedule : List ThreadNo} {old new going asleep number : ℕ} → IsSound world schedule old going asleep → Passes asleep old new number
-    → (idle : Bool) (n : ℕ) → IsCourse (record { world = world; coming = map (λ t. t.0) schedule ++ members old; idle = idle }) (course_after world.plan n)
-    → IsCourse (record { world = world; coming = map (λ t. t.0) schedule ++ members new; idle = idle }) (course_after world.plan (n + number))
+pub course_passed : {world : World} {schedule : List ThreadNo} {old new going asleep number : ℕ}
+    → IsSound world schedule old going asleep → Passes asleep old new number
+    → (idle : Bool) (n : ℕ)
+    → IsCourse (record { world = world; coming = map (λ t. t.0) schedule ++ members old; idle = idle })
+    (course_after world.plan n)
+    → IsCourse (record { world = world; coming = map (λ t. t.0) schedule ++ members new; idle = idle })
+    (course_after world.plan (n + number))
 course_passed {world} {schedule} {old} {new} {going} {asleep} {number} h p idle n shows =
     let k : run.Course = course_after world.plan n in
     let scheduled : List ℕ = map (λ (t : ThreadNo). t.0) schedule in
-    let in_turn : (members old ≡ []) ⊎ (scheduled ≡ []) = elim h.in_turn [ inl i ↦ inl i | inr i ↦ inr (no_schedule schedule i) ] in
+    let in_turn : (members old ≡ []) ⊎ (scheduled ≡ []) =
+    elim h.in_turn [ inl i ↦ inl i | inr i ↦ inr (no_schedule schedule i) ] in
     let comes = shows.coming ∙ front_first scheduled (members old) p.front (members new) p.are in_turn in
     let each : All (λ t. (t < length world.plan.threads) × IsSleeping world.plan k.run t) p.front =
     All-weaker (λ t. has_bit t asleep ≡ true) (λ t. (t < length world.plan.threads) × IsSleeping world.plan k.run t)
     (λ t e. let it = h.sleep t e in (it.thread, it.sleeping k.run shows.shows)) p.front p.each in
-    let behind = passed world.plan h.proper p.front (scheduled ++ members new) n k refl shows.shows.on_track comes each in
+    let behind = passed world.plan h.proper p.front (scheduled ++ members new) n k refl shows.shows.on_track comes each
+    in
     let same : n + length p.front ≡ n + number = ap (λ (i : ℕ). n + i) p.number_is in
-    subst (IsCourse (record { world = world; coming = scheduled ++ members new; idle = idle })) (sym behind ∙ ap (course_after world.plan) same)
+    subst (IsCourse (record { world = world; coming = scheduled ++ members new; idle = idle }))
+    (sym behind ∙ ap (course_after world.plan) same)
     (record { shows = shows.shows; coming = refl; idle = shows.idle })

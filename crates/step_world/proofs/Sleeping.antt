@@ -1,5 +1,5 @@
--- Whoever sleeps does so until somebody wakes it: another thread's turn leaves it asleep, save the one that gives it its
--- object back. And a world's threads sleep alike in all runs that it represents.
+-- Whoever sleeps does so until somebody wakes it: another thread's turn leaves it asleep, save the one that gives it
+-- its object back. And a world's threads sleep alike in all runs that it represents.
 use Rattle.std.proofs.Common.{◌≡◌, ◌≢◌, ℕ, ◌<◌, length, List, [], ◌∷◌, option_map, slice_get, Option, Some, None, IsSomeAnd, refl, sym, ap, ap₂, ◌∙◌}
 use Rattle.std.specs.Prelude.{⊤}
 use Rattle.lock_model.specs.Config.{Config}
@@ -56,10 +56,12 @@ module _ (c : Config) (u : ℕ) where
   waits_still s other ne w = refl
 
   -- and so do such steps
-  all_wait_still : (t : ℕ) (s : State) (steps : List Step) → (t ≡ u → ⊥) → AllBy t steps → NoneWakes u steps → (after_all c s steps).wait u ≡ s.wait u
+  all_wait_still : (t : ℕ) (s : State) (steps : List Step) → (t ≡ u → ⊥) → AllBy t steps → NoneWakes u steps
+      → (after_all c s steps).wait u ≡ s.wait u
   all_wait_still t s [] ne by w = refl
   all_wait_still t s (step ∷ steps) ne by w =
-      all_wait_still t (after c s step) steps ne by.1 w.1 ∙ waits_still s step (λ e. ne (sym (ap (λ p. p.0) by.0) ∙ e)) w.0
+      all_wait_still t (after c s step) steps ne by.1 w.1
+      ∙ waits_still s step (λ e. ne (sym (ap (λ p. p.0) by.0) ∙ e)) w.0
 
 -- 2. Actions
 
@@ -67,13 +69,15 @@ module _ (c : Config) (u : ℕ) where
 abbrev pub WakesNotNext : Run → ℕ → ℕ → Type 0
 WakesNotNext r t u = (m : Mark) (ms : List Mark) → r.state.marked t ≡ m ∷ ms → m.thread ≡ u → ⊥
 
-acquiring : (plan : Plan) (r : Run) (t u : ℕ) (action : Action) → actions.Acquires plan r t action → NoneWakes u action.steps
+acquiring : (plan : Plan) (r : Run) (t u : ℕ) (action : Action) → actions.Acquires plan r t action
+    → NoneWakes u action.steps
 acquiring plan r t u _ (actions.gains by i a f) = (tt, (tt, tt))
 acquiring plan r t u _ (actions.claims by i a f) = (tt, (tt, tt))
 acquiring plan r t u _ (actions.enters by i e (actions.on_turnstile x)) = (tt, (tt, tt))
 acquiring plan r t u _ (actions.enters by i e (actions.on_sleep_queue x)) = (tt, (tt, tt))
 
-wakes_none : (plan : Plan) (r : Run) (t u : ℕ) (action : Action) → actions.Fits plan r t action → WakesNotNext r t u → NoneWakes u action.steps
+wakes_none : (plan : Plan) (r : Run) (t u : ℕ) (action : Action) → actions.Fits plan r t action → WakesNotNext r t u
+    → NoneWakes u action.steps
 wakes_none plan r t u _ (actions.is_over e) unwoken = tt
 wakes_none plan r t u _ (actions.lends l o h w e f) unwoken = (tt, tt)
 wakes_none plan r t u _ (actions.ends_at_lock l w e) unwoken = (tt, tt)
@@ -86,7 +90,8 @@ wakes_none plan r t u _ (actions.gives_up w e f (actions.opens_sleep_queue x y))
 wakes_none plan r t u _ (actions.is_queued e f i) unwoken = tt
 wakes_none plan r t u _ (actions.resumes q cause f e) unwoken = (tt, tt)
 wakes_none plan r t u action (actions.acquires a) unwoken = acquiring plan r t u action a
-wakes_none plan r t u _ (actions.is_admitted {l} {mode} {action} b f a) unwoken = (tt, acquiring plan (admitted plan r t l) t u action a)
+wakes_none plan r t u _ (actions.is_admitted {l} {mode} {action} b f a) unwoken =
+    (tt, acquiring plan (admitted plan r t l) t u action a)
 wakes_none plan r t u _ (actions.is_refused k b f) unwoken = (tt, (tt, tt))
 wakes_none plan r t u _ (actions.finds_busy l mode past i e) unwoken = (tt, (tt, tt))
 wakes_none plan r t u _ (actions.releases l i (actions.drops x)) unwoken = (tt, (tt, tt))
@@ -104,7 +109,8 @@ wakes_none plan r t u _ (actions.is_at_endtry i) unwoken = tt
 
 -- 3. Who sleeps
 
-pub sleeps_on : (plan : Plan) (r : Run) (t u : ℕ) → u ≢ t → WakesNotNext r t u → IsSleeping plan r u → IsSleeping plan (run_behind plan r t) u
+pub sleeps_on : (plan : Plan) (r : Run) (t u : ℕ) → u ≢ t → WakesNotNext r t u → IsSleeping plan r u
+    → IsSleeping plan (run_behind plan r t) u
 unfolding run_behind
 sleeps_on plan r t u n unwoken h =
     let c = config_of plan in
@@ -119,7 +125,8 @@ sleeps_on plan r t u n unwoken h =
       free = record {
         no_walk = share.walk ∙ h.free.no_walk;
         unmarked = share.marked ∙ h.free.unmarked;
-        released = ap₂ (λ (held : ℕ → Hold) (log : List Entry). to_release held (option_map c.chan_lock (waits_on log))) share.held share.log ∙ h.free.released;
+        released = ap₂ (λ (held : ℕ → Hold) (log : List Entry). to_release held (option_map c.chan_lock (waits_on log)))
+            share.held share.log ∙ h.free.released;
       };
     }
 
@@ -128,26 +135,31 @@ module _ (w : World) (proper : IsProper w.plan) (r n : Run) (h : Represents w r)
   its_thread : (t : ℕ) → t < length w.plan.threads → (th : Thread) × (slice_get w.machine.threads.items t ≡ Some th)
   its_thread t lt = go (slice_get w.machine.threads.items t) refl (h.shows.progress t lt)
     where
-      go : (o : Option Thread) → slice_get w.machine.threads.items t ≡ o → IsSomeAnd (option_map progress_of o) (IsAsFar w.plan r t) → (th : Thread) × (slice_get w.machine.threads.items t ≡ Some th)
+      go : (o : Option Thread) → slice_get w.machine.threads.items t ≡ o
+          → IsSomeAnd (option_map progress_of o) (IsAsFar w.plan r t) → (th : Thread)
+          × (slice_get w.machine.threads.items t ≡ Some th)
       go None e far = absurd far
       go (Some th) e far = (th, e)
 
   pub end_alike : (t : ℕ) → t < length w.plan.threads → has_ended w.plan n t ≡ has_ended w.plan r t
   end_alike t lt =
       let x = its_thread t lt in
-      sym (ends_as_said w.plan w.machine n t x.0 proper k lt x.1) ∙ ends_as_said w.plan w.machine r t x.0 proper h lt x.1
+      sym (ends_as_said w.plan w.machine n t x.0 proper k lt x.1)
+      ∙ ends_as_said w.plan w.machine r t x.0 proper h lt x.1
 
   pub sleep_alike : (t : ℕ) → t < length w.plan.threads → IsSleeping w.plan r t → IsSleeping w.plan n t
   sleep_alike t lt a =
       let c = config_of w.plan in
       let x = its_thread t lt in
-      let same : thread_in n.state t ≡ thread_in r.state t = sym (k.shows.shows.threads.thread t x.0 x.1).columns ∙ (h.shows.shows.threads.thread t x.0 x.1).columns in
+      let same : thread_in n.state t ≡ thread_in r.state t = sym (k.shows.shows.threads.thread t x.0 x.1).columns
+      ∙ (h.shows.shows.threads.thread t x.0 x.1).columns in
       record {
         going = end_alike t lt ∙ a.going;
         queued = ap (λ y. y.wait) same ∙ a.queued;
         free = record {
           no_walk = ap (λ y. y.walk) same ∙ a.free.no_walk;
           unmarked = ap (λ y. y.marked) same ∙ a.free.unmarked;
-          released = ap₂ (λ (held : ℕ → Hold) (chan : Option ℕ). to_release held (option_map c.chan_lock chan)) (ap (λ y. y.held) same) (ap (λ y. y.chan) same) ∙ a.free.released;
+          released = ap₂ (λ (held : ℕ → Hold) (chan : Option ℕ). to_release held (option_map c.chan_lock chan))
+              (ap (λ y. y.held) same) (ap (λ y. y.chan) same) ∙ a.free.released;
         };
       }

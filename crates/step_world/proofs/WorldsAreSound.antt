@@ -21,5 +21,7 @@ behind_turn plan old new answer t p l follows r h = record { shows = (follows r 
 
 -- and behind one of a thread that hasn't ended
 pub behind_going : (plan : Plan) (old new : Machine) (answer : Turn) (t : ℕ) → IsProper plan → t < length plan.threads
-    → Follows plan t old new answer (λ r. has_ended plan r t ≡ false) → (r : Run) → IsRunOf plan old r → has_ended plan r t ≡ false → IsRunOf plan new (run_behind plan r t)
-behind_going plan old new answer t p l follows r h runs = record { shows = (follows r h runs).1; on_track = turned plan r t p h.on_track l }
+    → Follows plan t old new answer (λ r. has_ended plan r t ≡ false) → (r : Run) → IsRunOf plan old r
+    → has_ended plan r t ≡ false → IsRunOf plan new (run_behind plan r t)
+behind_going plan old new answer t p l follows r h runs =
+    record { shows = (follows r h runs).1; on_track = turned plan r t p h.on_track l }

@@ -1,8 +1,11 @@
 -- What lies behind latches, and the steps that take it out of its home and give it back.
-use Rattle.std.specs.Prelude.{◌≡◌, ◌≢◌, ℕ, ◌<◌, Bool, true, false, not, ◌&&◌, ◌==◌, if◌then◌else◌, Option, Some, None, ⊤}
+use Rattle.std.specs.Prelude.{◌≡◌, ◌≢◌, ℕ, ◌<◌, ◌%◌, Bool, true, false, not, ◌&&◌, ◌==◌, if◌then◌else◌, Option, Some, None, ⊤}
 use Rattle.lock_model.specs.Config.{Config}
 use Rattle.lock_state.specs.State.{State, Queued, SleepHalted, Look, Round, put, put_at}
 use Rattle.lock_model.specs.Queues.{chan_queue}
+use Rattle.lock_model.specs.Words.{is_turnstile}
+use Rattle.lock_model.specs.declared.plan.QueueName.{QueueName}
+use Rattle.lock_model.specs.declared.plan.QueueName.TheVariants.{Lock, Chan}
 use Rattle.lock_state.specs.Steps.LockWords.{IsActing, is_taking_back}
 
 -- what a thread may have out: a chain of turnstiles or of sleep queues, a thread's record, a cell of a lock's table,
@@ -182,3 +185,27 @@ after_give s t i = record s {
   graph_with = graph_after i None s.graph_with;
   seen_in_section = put s.seen_in_section t (seen_after (is_chain i) (s.seen_in_section t));
 }
+
+-- Of a running floor, which has so many chains of each sort.
+
+-- the chain in which the lock's queue stands
+abbrev pub chain_of : ℕ → Config → ℕ → Item
+chain_of chains c l =
+    if is_turnstile (c.kind l) then TurnstileChain (l % chains) else SleepChain (l % chains)
+
+-- the chain of a queue
+abbrev pub chain_of_queue : ℕ → Config → QueueName → Item
+chain_of_queue chains c (Lock l) = chain_of chains c l.0
+chain_of_queue chains c (Chan d) = SleepChain (d.0 % chains)
+
+-- the items that there are
+abbrev pub IsItem : ℕ → Config → Item → Type 0
+IsItem chains c (TurnstileChain k) = k < chains
+IsItem chains c (SleepChain k) = k < chains
+IsItem chains c (RecordOf t) = t < c.threads
+IsItem chains c (CellOf l k) = l < c.locks
+IsItem chains c ClassGraph = ⊤
+
+-- the thread has the item out
+abbrev pub HasItem : State → ℕ → Item → Type 0
+HasItem s t i = item_with s i ≡ Some t

@@ -5,4 +5,5 @@ use Rattle.chart_text.proofs.said.add_arrows.Given as goal
 -- what is left to add
 abbrev pub invariant-loop-arrow : goal.invariant-loop-arrow
 invariant-loop-arrow l = (n : ℕ)
-    → words_at l.said n ++ flat_map (told_by l.plan n) (drop l.arrow-index l.arrows) ≡ words_at l.fn.said n ++ flat_map (told_by l.plan n) l.arrows
+    → words_at l.said n ++ flat_map (told_by l.plan n) (drop l.arrow-index l.arrows) ≡ words_at l.fn.said n ++ flat_map
+    (told_by l.plan n) l.arrows

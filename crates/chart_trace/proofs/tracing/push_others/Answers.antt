@@ -32,14 +32,18 @@ returns-clause-pushed c =
     (marks c.as_slice-2.result.now) (marks chart.marks) barred c.in_ok-push_turns.ensures.pushed (ap marks c.as_slice-2.ensures) in
     let sentenced = lines_more o c.push_turns.new.out.items c.push_sentences.new.out.items
     (lanes chart.lanes ++ tracks chart.bars ++ bars chart.bars ++ marks chart.marks)
-    (said c.as_slice-3.result.now) (said chart.sentences) marked c.in_ok-push_sentences.ensures.pushed (ap said c.as_slice-3.ensures) in
+    (said c.as_slice-3.result.now) (said chart.sentences) marked c.in_ok-push_sentences.ensures.pushed
+    (ap said c.as_slice-3.ensures) in
     let stepped = lines_more o c.push_sentences.new.out.items c.push_steps.new.out.items
     (lanes chart.lanes ++ tracks chart.bars ++ bars chart.bars ++ marks chart.marks ++ said chart.sentences)
-    (steps c.as_slice-4.result.now) (steps chart.steps) sentenced c.in_ok-push_steps.ensures.pushed (ap steps c.as_slice-4.ensures) in
+    (steps c.as_slice-4.result.now) (steps chart.steps) sentenced c.in_ok-push_steps.ensures.pushed
+    (ap steps c.as_slice-4.ensures) in
     let same = ap (λ (xs : List Arrow). arrow_events c.as_slice-6.result.now 0 xs) c.as_slice-5.ensures
     ∙ ap (λ (ss : List Sentence). arrow_events ss 0 chart.arrows) c.as_slice-6.ensures in
     on_ok_weaker c.push_flows.result
     (λ e. lines_more o c.push_steps.new.out.items c.push_flows.new.out.items
-    (lanes chart.lanes ++ tracks chart.bars ++ bars chart.bars ++ marks chart.marks ++ said chart.sentences ++ steps chart.steps)
-    (arrow_events c.as_slice-6.result.now 0 c.as_slice-5.result.now) (arrow_events chart.sentences 0 chart.arrows) stepped e same)
+    (lanes chart.lanes ++ tracks chart.bars ++ bars chart.bars ++ marks chart.marks ++ said chart.sentences ++ steps
+    chart.steps)
+    (arrow_events c.as_slice-6.result.now 0 c.as_slice-5.result.now) (arrow_events chart.sentences 0 chart.arrows)
+    stepped e same)
     c.push_flows.ensures.pushed

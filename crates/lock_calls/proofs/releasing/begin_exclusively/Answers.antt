@@ -10,7 +10,8 @@ use Rattle.lock_calls.proofs.releasing.begin_exclusively.Goals as goal
 
 pub stamp-requires-clause-may : goal.stamp-requires-clause-may
 stamp-requires-clause-may c =
-    may_note_release c.args.floor.now.description c.args.pass.now.view c.args.l c.requires.ready.rest c.requires.may.held
+    may_note_release c.args.floor.now.description c.args.pass.now.view c.args.l c.requires.ready.rest
+    c.requires.may.held
 
 pub gained-own-requires-clause-thread : goal.gained-own-requires-clause-thread
 gained-own-requires-clause-thread c =
@@ -31,36 +32,43 @@ pub put_down-requires-clause-may : goal.put_down-requires-clause-may
 put_down-requires-clause-may c =
     may_drop_own c.args.floor.now.description c.args.l.0 c.gained-own.result c.thread.result.0 c.stamp.new.pass.view
     c.requires.may.covered.mutex.lock c.gained-own.ensures.word
-    (leaving_noted c.args.floor.now.description c.args.l c.stamp.result c.args.pass.now.view c.stamp.new.pass.view c.args.pass.now.view
+    (leaving_noted c.args.floor.now.description c.args.l c.stamp.result c.args.pass.now.view c.stamp.new.pass.view
+    c.args.pass.now.view
     c.requires.ready.rest c.requires.may.held c.requires.may.room c.stamp.ensures.view).may
 
 pub put_down-requires-clause-may_look : goal.put_down-requires-clause-may_look
 put_down-requires-clause-may_look c =
     may_look_held c.args.floor.now.description c.stamp.new.pass.view c.args.l.0 c.stamp.ensures.own.description
     c.requires.may.covered.mutex.lock
-    (leaving_noted c.args.floor.now.description c.args.l c.stamp.result c.args.pass.now.view c.stamp.new.pass.view c.args.pass.now.view
+    (leaving_noted c.args.floor.now.description c.args.l c.stamp.result c.args.pass.now.view c.stamp.new.pass.view
+    c.args.pass.now.view
     c.requires.ready.rest c.requires.may.held c.requires.may.room c.stamp.ensures.view).may
 
 pub returns-in-Ok-clause-own : goal.returns-in-Ok-clause-own
 returns-in-Ok-clause-own c =
-    own_noted c.args.floor.now c.put_down.new.pass c.set_call.new.self calls.None c.set_call.ensures c.put_down.ensures.own
+    own_noted c.args.floor.now c.put_down.new.pass c.set_call.new.self calls.None c.set_call.ensures
+    c.put_down.ensures.own
 
 pub returns-in-Ok-clause-begun : goal.returns-in-Ok-clause-begun
 returns-in-Ok-clause-begun c = (
   call_noted c.put_down.new.pass c.set_call.new.self calls.None c.set_call.ensures,
   subst (ReleasesAtOnce c.args.floor.now.description c.args.l Excl c.args.pass.now.view)
       (sym (view_noted c.put_down.new.pass c.set_call.new.self calls.None c.set_call.ensures))
-      (at_once c.args.floor.now.description c.args.l c.stamp.result c.args.pass.now.view c.stamp.new.pass.view c.put_down.new.pass.view c.requires.ready.rest c.requires.may.held c.requires.may.room
+      (at_once c.args.floor.now.description c.args.l c.stamp.result c.args.pass.now.view c.stamp.new.pass.view
+      c.put_down.new.pass.view c.requires.ready.rest c.requires.may.held c.requires.may.room
       c.stamp.ensures.view c.stamp.ensures.step c.in-Ok.ensures.view c.in-Ok.ensures.step),
 )
 
 pub returns-in-Err-clause-own : goal.returns-in-Err-clause-own
 returns-in-Err-clause-own c =
-    own_noted c.args.floor.now c.put_down.new.pass c.stand.new.pass (calls.Release c.args.l Excl ComesTo) c.stand.ensures
+    own_noted c.args.floor.now c.put_down.new.pass c.stand.new.pass (calls.Release c.args.l Excl ComesTo)
+    c.stand.ensures
     c.put_down.ensures.own
 
 pub returns-in-Err-clause-begun : goal.returns-in-Err-clause-begun
 returns-in-Err-clause-begun c =
-    begins c.args.floor.now.description c.args.l c.stamp.result c.args.pass.now.view c.stamp.new.pass.view c.requires.ready.rest c.requires.may.held c.requires.may.room c.args.pass.now c.put_down.new.pass c.stand.new.pass c.requires.may refl
+    begins c.args.floor.now.description c.args.l c.stamp.result c.args.pass.now.view c.stamp.new.pass.view
+    c.requires.ready.rest c.requires.may.held c.requires.may.room c.args.pass.now c.put_down.new.pass
+    c.stand.new.pass c.requires.may refl
     c.stamp.ensures.view c.stamp.ensures.step (word_of c.in-Err.field-0) c.in-Err.ensures.looked c.in-Err.ensures.look
     c.stand.ensures

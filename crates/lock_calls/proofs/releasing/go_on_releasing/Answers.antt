@@ -7,7 +7,8 @@ use Rattle.lock_calls.proofs.releasing.go_on_releasing.Goals as goal
 pub go_on_exclusively-requires-clause-under_way : goal.go_on_exclusively-requires-clause-under_way
 go_on_exclusively-requires-clause-under_way c =
     release_there c.args.floor.now.description c.args.pass.now c.in-Release.l Excl c.in-Release.at
-    (sym c.call.ensures ∙ c.in-Release.is ∙ ap (λ x. calls.Release c.in-Release.l x c.in-Release.at) c.in-Excl.is) c.requires.under_way
+    (sym c.call.ensures ∙ c.in-Release.is ∙ ap (λ x. calls.Release c.in-Release.l x c.in-Release.at) c.in-Excl.is)
+    c.requires.under_way
 
 pub returns-clause-went : goal.returns-clause-went
 returns-clause-went c =
@@ -17,7 +18,8 @@ returns-clause-went c =
 
 pub unreachable-requires : goal.unreachable-requires
 unreachable-requires c =
-    let there = release_there c.args.floor.now.description c.args.pass.now c.in-Release.l c.in-Release.mode c.in-Release.at
+    let there = release_there c.args.floor.now.description c.args.pass.now c.in-Release.l c.in-Release.mode
+    c.in-Release.at
     (sym c.call.ensures ∙ c.in-Release.is) c.requires.under_way in
     let z : Shared ≡ Excl = sym c.in-Shared.is ∙ there.covered.exclusive in
     cc

@@ -15,7 +15,8 @@ returns-in-Done-clause-own c =
 
 pub returns-in-Done-clause-went : goal.returns-in-Done-clause-went
 returns-in-Done-clause-went c =
-    wakes_done c.args.floor.now.description c.args.l c.args.pass.now c.wake_first.new.pass c.set_call.new.self c.requires.under_way.there
+    wakes_done c.args.floor.now.description c.args.l c.args.pass.now c.wake_first.new.pass c.set_call.new.self
+    c.requires.under_way.there
     (subst (λ n. WakesNext c.args.floor.now.description n c.args.pass.now.view c.wake_first.new.pass.view)
     c.in-Done.is c.wake_first.ensures.wakes)
     c.set_call.ensures
@@ -27,7 +28,8 @@ returns-in-Again-clause-own c =
 
 pub returns-in-Again-clause-went : goal.returns-in-Again-clause-went
 returns-in-Again-clause-went c =
-    wakes_else c.args.floor.now.description c.args.l c.args.pass.now c.wake_first.new.pass c.stand.new.pass c.requires.under_way.there
+    wakes_else c.args.floor.now.description c.args.l c.args.pass.now c.wake_first.new.pass c.stand.new.pass
+    c.requires.under_way.there
     Again (λ e. let z : Again ≡ Done = e in cc)
     (subst (λ n. WakesNext c.args.floor.now.description n c.args.pass.now.view c.wake_first.new.pass.view)
     c.in-Again.is c.wake_first.ensures.wakes)
@@ -40,7 +42,8 @@ returns-in-Wake-clause-own c =
 
 pub returns-in-Wake-clause-went : goal.returns-in-Wake-clause-went
 returns-in-Wake-clause-went c =
-    wakes_else c.args.floor.now.description c.args.l c.args.pass.now c.wake_first.new.pass c.stand-in-Wake.new.pass c.requires.under_way.there
+    wakes_else c.args.floor.now.description c.args.l c.args.pass.now c.wake_first.new.pass c.stand-in-Wake.new.pass
+    c.requires.under_way.there
     (Wake c.in-Wake.t) (λ e. let z : Wake c.in-Wake.t ≡ Done = e in cc)
     (subst (λ n. WakesNext c.args.floor.now.description n c.args.pass.now.view c.wake_first.new.pass.view)
     c.in-Wake.is c.wake_first.ensures.wakes)

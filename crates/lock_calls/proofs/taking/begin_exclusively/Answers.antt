@@ -17,18 +17,24 @@ begin-requires-clause-may c =
 
 pub note_taken-requires-clause-room : goal.note_taken-requires-clause-room
 note_taken-requires-clause-room c =
-    room_to_note c.args.floor.now.description c.args.l c.args.pass.now.view c.begin.new.pass.view (calling_at_rest c.args.floor.now.description c.args.pass.now.view c.requires.ready.own.description c.requires.ready.rest)
+    room_to_note c.args.floor.now.description c.args.l c.args.pass.now.view c.begin.new.pass.view
+    (calling_at_rest c.args.floor.now.description c.args.pass.now.view c.requires.ready.own.description
+    c.requires.ready.rest)
     c.requires.may.room
     (gained_at_once c.args.floor.now.description c.args.l c.args.pass.now.view
-    (acquires c.args.floor.now.description c.args.l.0 c.args.pass.now.view c.requires.ready.rest c.requires.may.unheld c.requires.may.few)
+    (acquires c.args.floor.now.description c.args.l.0 c.args.pass.now.view c.requires.ready.rest c.requires.may.unheld
+    c.requires.may.few)
     c.begin.new.pass.view (c.begin.ensures.gained c.if-begin.true))
 
 pub note_taken-requires-clause-may : goal.note_taken-requires-clause-may
 note_taken-requires-clause-may c =
-    may_note_lock c.args.floor.now.description c.args.l c.args.pass.now.view c.begin.new.pass.view (calling_at_rest c.args.floor.now.description c.args.pass.now.view c.requires.ready.own.description c.requires.ready.rest)
+    may_note_lock c.args.floor.now.description c.args.l c.args.pass.now.view c.begin.new.pass.view
+    (calling_at_rest c.args.floor.now.description c.args.pass.now.view c.requires.ready.own.description
+    c.requires.ready.rest)
     c.requires.may.room
     (gained_at_once c.args.floor.now.description c.args.l c.args.pass.now.view
-    (acquires c.args.floor.now.description c.args.l.0 c.args.pass.now.view c.requires.ready.rest c.requires.may.unheld c.requires.may.few)
+    (acquires c.args.floor.now.description c.args.l.0 c.args.pass.now.view c.requires.ready.rest c.requires.may.unheld
+    c.requires.may.few)
     c.begin.new.pass.view (c.begin.ensures.gained c.if-begin.true))
 
 pub returns-then-begin-clause-own : goal.returns-then-begin-clause-own
@@ -38,18 +44,25 @@ returns-then-begin-clause-own c =
 
 pub returns-then-begin-clause-begun : goal.returns-then-begin-clause-begun
 returns-then-begin-clause-begun c =
-    gains_first c.args.floor.now.description c.args.l c.args.pass.now c.begin.new.pass c.note_taken.new.pass c.set_call.new.self
+    gains_first c.args.floor.now.description c.args.l c.args.pass.now c.begin.new.pass c.note_taken.new.pass
+    c.set_call.new.self
     (c.begin.ensures.bare c.if-begin.true) (c.begin.ensures.gained c.if-begin.true)
-    (taken c.args.floor.now.description c.args.l c.args.pass.now.view c.begin.new.pass.view (calling_at_rest c.args.floor.now.description c.args.pass.now.view c.requires.ready.own.description c.requires.ready.rest)
+    (taken c.args.floor.now.description c.args.l c.args.pass.now.view c.begin.new.pass.view
+    (calling_at_rest c.args.floor.now.description c.args.pass.now.view c.requires.ready.own.description
+    c.requires.ready.rest)
     c.requires.may.room
     (gained_at_once c.args.floor.now.description c.args.l c.args.pass.now.view
-    (acquires c.args.floor.now.description c.args.l.0 c.args.pass.now.view c.requires.ready.rest c.requires.may.unheld c.requires.may.few)
+    (acquires c.args.floor.now.description c.args.l.0 c.args.pass.now.view c.requires.ready.rest c.requires.may.unheld
+    c.requires.may.few)
     c.begin.new.pass.view (c.begin.ensures.gained c.if-begin.true))
     c.note_taken.new.pass.view c.note_taken.result c.note_taken.ensures.view c.note_taken.ensures.step)
-    (note_step c.args.floor.now.description c.args.l c.args.pass.now.view c.begin.new.pass.view (calling_at_rest c.args.floor.now.description c.args.pass.now.view c.requires.ready.own.description c.requires.ready.rest)
+    (note_step c.args.floor.now.description c.args.l c.args.pass.now.view c.begin.new.pass.view
+    (calling_at_rest c.args.floor.now.description c.args.pass.now.view c.requires.ready.own.description
+    c.requires.ready.rest)
     c.requires.may.room
     (gained_at_once c.args.floor.now.description c.args.l c.args.pass.now.view
-    (acquires c.args.floor.now.description c.args.l.0 c.args.pass.now.view c.requires.ready.rest c.requires.may.unheld c.requires.may.few)
+    (acquires c.args.floor.now.description c.args.l.0 c.args.pass.now.view c.requires.ready.rest c.requires.may.unheld
+    c.requires.may.few)
     c.begin.new.pass.view (c.begin.ensures.gained c.if-begin.true))
     c.note_taken.new.pass.view c.note_taken.result c.note_taken.ensures.view c.note_taken.ensures.step)
     c.set_call.ensures
@@ -61,6 +74,8 @@ returns-else-begin-clause-own c =
 
 pub returns-else-begin-clause-begun : goal.returns-else-begin-clause-begun
 returns-else-begin-clause-begun c =
-    has_begun c.args.floor.now.description c.args.l c.args.pass.now c.begin.new.pass c.set_call-else-begin.new.self c.requires.may
-    (calling_at_rest c.args.floor.now.description c.args.pass.now.view c.requires.ready.own.description c.requires.ready.rest)
+    has_begun c.args.floor.now.description c.args.l c.args.pass.now c.begin.new.pass c.set_call-else-begin.new.self
+    c.requires.may
+    (calling_at_rest c.args.floor.now.description c.args.pass.now.view c.requires.ready.own.description
+    c.requires.ready.rest)
     c.requires.ready.rest (c.begin.ensures.missed c.if-begin.false) c.set_call-else-begin.ensures

@@ -16,7 +16,8 @@ come-requires-clause-under_way c =
 
 pub returns-then-left-eq0-clause-on : goal.returns-then-left-eq0-clause-on
 returns-then-left-eq0-clause-on c =
-    subst (λ a. TakesOn c.args.floor.now.description c.args.l Excl a c.come.result c.args.pass.now.view c.come.new.pass.view)
+    subst (λ a. TakesOn c.args.floor.now.description c.args.l Excl a c.come.result c.args.pass.now.view
+    c.come.new.pass.view)
     (sym (c.in-Spins.is ∙ ap Spins c.if-left-eq0.true)) c.come.ensures.on
 
 pub spin-requires-clause-under_way : goal.spin-requires-clause-under_way
@@ -31,7 +32,8 @@ come_in-requires-clause-under_way c =
 
 pub returns-in-ComesIn-clause-on : goal.returns-in-ComesIn-clause-on
 returns-in-ComesIn-clause-on c =
-    subst (λ a. TakesOn c.args.floor.now.description c.args.l Excl a c.come_in.result c.args.pass.now.view c.come_in.new.pass.view)
+    subst (λ a. TakesOn c.args.floor.now.description c.args.l Excl a c.come_in.result c.args.pass.now.view
+    c.come_in.new.pass.view)
     (sym c.in-ComesIn.is) c.come_in.ensures.on
 
 pub contend-requires-clause-under_way : goal.contend-requires-clause-under_way
@@ -46,7 +48,8 @@ walk_on-requires-clause-under_way c =
 
 pub returns-in-Walks-clause-on : goal.returns-in-Walks-clause-on
 returns-in-Walks-clause-on c =
-    subst (λ a. TakesOn c.args.floor.now.description c.args.l Excl a c.walk_on.result c.args.pass.now.view c.walk_on.new.pass.view)
+    subst (λ a. TakesOn c.args.floor.now.description c.args.l Excl a c.walk_on.result c.args.pass.now.view
+    c.walk_on.new.pass.view)
     (sym c.in-Walks.is) c.walk_on.ensures.on
 
 pub hop_on-requires-clause-under_way : goal.hop_on-requires-clause-under_way
@@ -56,5 +59,6 @@ hop_on-requires-clause-under_way c =
 
 pub returns-in-Hops-clause-on : goal.returns-in-Hops-clause-on
 returns-in-Hops-clause-on c =
-    subst (λ a. TakesOn c.args.floor.now.description c.args.l Excl a c.hop_on.result c.args.pass.now.view c.hop_on.new.pass.view)
+    subst (λ a. TakesOn c.args.floor.now.description c.args.l Excl a c.hop_on.result c.args.pass.now.view
+    c.hop_on.new.pass.view)
     (sym c.in-Hops.is) c.hop_on.ensures.on

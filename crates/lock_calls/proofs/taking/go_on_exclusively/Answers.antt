@@ -13,7 +13,8 @@ returns-in-Ok-Some-clause-own c =
 
 pub returns-in-Ok-Some-clause-went : goal.returns-in-Ok-Some-clause-went
 returns-in-Ok-Some-clause-went c =
-    take_stands c.args.floor.now.description c.args.l Excl c.args.at c.in-Ok-Some.to c.args.pass.now c.set_call.new.self c.next_at.result
+    take_stands c.args.floor.now.description c.args.l Excl c.args.at c.in-Ok-Some.to c.args.pass.now c.set_call.new.self
+    c.next_at.result
     c.next_at.ensures
     (call_noted c.go_on_at.new.pass c.set_call.new.self
     (calls.Take c.args.l Excl c.in-Ok-Some.to) c.set_call.ensures)
@@ -36,7 +37,8 @@ returns-in-Ok-None-clause-went c =
       call_noted c.go_on_at.new.pass c.set_call-in-Ok-None.new.self calls.None
           c.set_call-in-Ok-None.ensures,
       subst (HasTaken c.args.floor.now.description c.args.l Excl c.args.pass.now.view) same
-          (subst (λ (o : Option TakeAt). IfNone o (HasTaken c.args.floor.now.description c.args.l Excl c.args.pass.now.view
+          (subst (λ (o : Option TakeAt). IfNone o
+          (HasTaken c.args.floor.now.description c.args.l Excl c.args.pass.now.view
           c.go_on_at.new.pass.view)) c.in-Ok-None.field-0-is c.in-Ok-None.ensures.taken),
       subst (TakeEnd c.args.floor.now.description c.args.l Excl c.args.at c.args.pass.now.view) same
           (subst (λ (o : Option TakeAt). IfNone o (TakeEnd c.args.floor.now.description c.args.l Excl c.args.at

@@ -7,7 +7,8 @@ use Rattle.lock_calls.proofs.taking.go_on_taking.Goals as goal
 pub go_on_exclusively-requires-clause-under_way : goal.go_on_exclusively-requires-clause-under_way
 go_on_exclusively-requires-clause-under_way c =
     take_there c.args.floor.now.description c.args.pass.now c.in-Take.l Excl c.in-Take.at
-    (sym c.call.ensures ∙ c.in-Take.is ∙ ap (λ x. calls.Take c.in-Take.l x c.in-Take.at) c.in-Excl.is) c.requires.under_way
+    (sym c.call.ensures ∙ c.in-Take.is ∙ ap (λ x. calls.Take c.in-Take.l x c.in-Take.at) c.in-Excl.is)
+    c.requires.under_way
 
 pub returns-clause-went : goal.returns-clause-went
 returns-clause-went c =

@@ -30,9 +30,11 @@ go_on_releasing-requires-clause-under_way g c =
 
 pub returns-in-Done-go_on_releasing : goal.returns-in-Done-go_on_releasing
 returns-in-Done-go_on_releasing g c =
-    let done = unlocked c.args.floor.now.description c.args.l c.args.mode c.args.pass.now.view c.loop.pass c.loop.invariant.stands
+    let done = unlocked c.args.floor.now.description c.args.l c.args.mode c.args.pass.now.view c.loop.pass
+    c.loop.invariant.stands
     c.go_on_releasing.result c.go_on_releasing.new.pass
-    (c.go_on_releasing.ensures.went c.args.l c.args.mode c.loop.invariant.stands.at c.loop.invariant.stands.call) c.in-Done-go_on_releasing.is in
+    (c.go_on_releasing.ensures.went c.args.l c.args.mode c.loop.invariant.stands.at c.loop.invariant.stands.call)
+    c.in-Done-go_on_releasing.is in
     record {
       ready = record { own = c.go_on_releasing.ensures.own; rest = done.rest };
       entry = done.entry;
@@ -42,20 +44,24 @@ returns-in-Done-go_on_releasing g c =
 pub loop-preserved-in-Again-go_on_releasing : goal.loop-preserved-in-Again-go_on_releasing
 loop-preserved-in-Again-go_on_releasing g c = record {
   own = c.go_on_releasing.ensures.own;
-  stands = releases_on c.args.floor.now.description c.args.l c.args.mode c.args.pass.now.view c.loop.pass c.loop.invariant.stands
+  stands = releases_on c.args.floor.now.description c.args.l c.args.mode c.args.pass.now.view c.loop.pass
+      c.loop.invariant.stands
       c.go_on_releasing.result c.go_on_releasing.new.pass
       (c.go_on_releasing.ensures.went c.args.l c.args.mode c.loop.invariant.stands.at c.loop.invariant.stands.call)
       c.in-Again-go_on_releasing.is;
 }
 
 pub unreachable-requires-in-Sleep-go_on_releasing : goal.unreachable-requires-in-Sleep-go_on_releasing
-unreachable-requires-in-Sleep-go_on_releasing g c = releases_awake c.args.floor.now.description c.args.l c.args.mode c.args.pass.now.view c.loop.pass c.loop.invariant.stands
+unreachable-requires-in-Sleep-go_on_releasing g c =
+    releases_awake c.args.floor.now.description c.args.l c.args.mode c.args.pass.now.view c.loop.pass
+    c.loop.invariant.stands
     c.go_on_releasing.result c.go_on_releasing.new.pass
     (c.go_on_releasing.ensures.went c.args.l c.args.mode c.loop.invariant.stands.at c.loop.invariant.stands.call)
     c.in-Sleep-go_on_releasing.is
 
 pub unpark-requires : goal.unpark-requires
-unpark-requires g c = wakes_low c.args.floor.now.description c.args.l c.args.mode c.args.pass.now.view c.loop.pass c.loop.invariant.stands
+unpark-requires g c =
+    wakes_low c.args.floor.now.description c.args.l c.args.mode c.args.pass.now.view c.loop.pass c.loop.invariant.stands
     c.go_on_releasing.result c.go_on_releasing.new.pass
     (c.go_on_releasing.ensures.went c.args.l c.args.mode c.loop.invariant.stands.at c.loop.invariant.stands.call)
     c.in-Wake.t c.in-Wake.is
@@ -63,7 +69,8 @@ unpark-requires g c = wakes_low c.args.floor.now.description c.args.l c.args.mod
 pub loop-preserved : goal.loop-preserved
 loop-preserved g c = record {
   own = c.go_on_releasing.ensures.own;
-  stands = releases_waking c.args.floor.now.description c.args.l c.args.mode c.args.pass.now.view c.loop.pass c.loop.invariant.stands
+  stands = releases_waking c.args.floor.now.description c.args.l c.args.mode c.args.pass.now.view c.loop.pass
+      c.loop.invariant.stands
       c.go_on_releasing.result c.go_on_releasing.new.pass
       (c.go_on_releasing.ensures.went c.args.l c.args.mode c.loop.invariant.stands.at c.loop.invariant.stands.call)
       c.in-Wake.t c.in-Wake.is;

@@ -5,7 +5,8 @@ use Rattle.lock_calls.proofs.waiting.take.Goals as goal
 
 pub returns-in-Done : goal.returns-in-Done
 returns-in-Done g c =
-    let done = locked_at_once c.args.floor.now.description c.args.l c.args.mode c.begin_take.result c.args.pass.now c.begin_take.new.pass
+    let done = locked_at_once c.args.floor.now.description c.args.l c.args.mode c.begin_take.result c.args.pass.now
+    c.begin_take.new.pass
     c.begin_take.ensures.begun c.in-Done.is in
     record {
       ready = record { own = c.begin_take.ensures.own; rest = done.taken.rest };
@@ -18,7 +19,8 @@ returns-in-Done g c =
 pub loop-init : goal.loop-init
 loop-init g c = record {
   own = c.begin_take.ensures.own;
-  stands = stands_begun c.args.floor.now.description c.args.l c.args.mode c.begin_take.result c.args.pass.now c.begin_take.new.pass
+  stands = stands_begun c.args.floor.now.description c.args.l c.args.mode c.begin_take.result c.args.pass.now
+      c.begin_take.new.pass
       c.begin_take.ensures.begun c.in-Again.is;
 }
 
@@ -34,9 +36,11 @@ go_on_taking-requires-clause-under_way g c =
 
 pub returns-in-Done-go_on_taking : goal.returns-in-Done-go_on_taking
 returns-in-Done-go_on_taking g c =
-    let done = locked c.args.floor.now.description c.args.l c.args.mode c.args.pass.now.view c.loop.pass c.loop.invariant.stands
+    let done = locked c.args.floor.now.description c.args.l c.args.mode c.args.pass.now.view c.loop.pass
+    c.loop.invariant.stands
     c.go_on_taking.result c.go_on_taking.new.pass
-    (c.go_on_taking.ensures.went c.args.l c.args.mode c.loop.invariant.stands.0 c.loop.invariant.stands.1) c.in-Done-go_on_taking.is in
+    (c.go_on_taking.ensures.went c.args.l c.args.mode c.loop.invariant.stands.0 c.loop.invariant.stands.1)
+    c.in-Done-go_on_taking.is in
     record {
       ready = record { own = c.go_on_taking.ensures.own; rest = done.taken.rest };
       entry = done.taken.entry;
@@ -48,7 +52,8 @@ returns-in-Done-go_on_taking g c =
 pub loop-preserved-in-Again-go_on_taking : goal.loop-preserved-in-Again-go_on_taking
 loop-preserved-in-Again-go_on_taking g c = record {
   own = c.go_on_taking.ensures.own;
-  stands = stands_on c.args.floor.now.description c.args.l c.args.mode c.args.pass.now.view c.loop.pass c.loop.invariant.stands
+  stands = stands_on c.args.floor.now.description c.args.l c.args.mode c.args.pass.now.view c.loop.pass
+      c.loop.invariant.stands
       c.go_on_taking.result c.go_on_taking.new.pass
       (c.go_on_taking.ensures.went c.args.l c.args.mode c.loop.invariant.stands.0 c.loop.invariant.stands.1)
       c.in-Again-go_on_taking.is;
@@ -57,21 +62,25 @@ loop-preserved-in-Again-go_on_taking g c = record {
 pub loop-preserved : goal.loop-preserved
 loop-preserved g c = record {
   own = c.go_on_taking.ensures.own;
-  stands = stands_asleep c.args.floor.now.description c.args.l c.args.mode c.args.pass.now.view c.loop.pass c.loop.invariant.stands
+  stands = stands_asleep c.args.floor.now.description c.args.l c.args.mode c.args.pass.now.view c.loop.pass
+      c.loop.invariant.stands
       c.go_on_taking.result c.go_on_taking.new.pass
       (c.go_on_taking.ensures.went c.args.l c.args.mode c.loop.invariant.stands.0 c.loop.invariant.stands.1)
       c.in-Sleep-go_on_taking.is;
 }
 
 pub unreachable-requires-in-Wake : goal.unreachable-requires-in-Wake
-unreachable-requires-in-Wake g c = wakes_nobody c.args.floor.now.description c.args.l c.args.mode c.args.pass.now.view c.loop.pass c.loop.invariant.stands
+unreachable-requires-in-Wake g c =
+    wakes_nobody c.args.floor.now.description c.args.l c.args.mode c.args.pass.now.view c.loop.pass
+    c.loop.invariant.stands
     c.go_on_taking.result c.go_on_taking.new.pass
     (c.go_on_taking.ensures.went c.args.l c.args.mode c.loop.invariant.stands.0 c.loop.invariant.stands.1)
     c.in-Wake.field-0 c.in-Wake.is
 
 pub returns-in-Reversed : goal.returns-in-Reversed
 returns-in-Reversed g c =
-    let refused = was_refused c.args.floor.now.description c.args.l c.args.mode c.args.pass.now.view c.loop.pass c.loop.invariant.stands
+    let refused = was_refused c.args.floor.now.description c.args.l c.args.mode c.args.pass.now.view c.loop.pass
+    c.loop.invariant.stands
     c.go_on_taking.result c.go_on_taking.new.pass
     (c.go_on_taking.ensures.went c.args.l c.args.mode c.loop.invariant.stands.0 c.loop.invariant.stands.1)
     c.in-Reversed.reversal c.in-Reversed.is in
@@ -80,6 +89,7 @@ returns-in-Reversed g c =
       entry = tt;
       steps = tt;
       reversed = refused;
-      bare = λ h. absurd (bare_admitted c.args.floor.now.description c.args.l c.in-Reversed.reversal.held c.args.pass.now.view
+      bare = λ h. absurd (bare_admitted c.args.floor.now.description c.args.l c.in-Reversed.reversal.held
+          c.args.pass.now.view
           c.go_on_taking.new.pass.view h refused.steps);
     }

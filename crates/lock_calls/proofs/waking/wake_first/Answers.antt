@@ -34,6 +34,7 @@ returns-else-try_wake-clause-wakes c =
       first.1,
       first.2,
       c.try_wake.ensures.left missed,
-      subst (λ u. FindsOut c.args.floor.now.description (RecordOf u) c.args.pass.now.view c.try_wake.new.pass.view) (sym first.3)
+      subst (λ u. FindsOut c.args.floor.now.description (RecordOf u) c.args.pass.now.view c.try_wake.new.pass.view)
+          (sym first.3)
           (c.try_wake.ensures.elsewhere missed),
     )

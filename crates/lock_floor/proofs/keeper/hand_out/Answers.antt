@@ -94,7 +94,13 @@ loop-t-preserved c =
       finished = false;
       call = call.None;
     } ≡ first_pass c.args.board.now.shared.table_id floor t =
-    λ j. record { table = (split.3 ∙ i.table) j; view = (ap (λ (m : Me Slot Knowledge). m.0) split.4 ∙ ap new_pass old) j; finished = false; call = call.None } in
+    λ j. record {
+      table = (split.3 ∙ i.table) j;
+      view = (ap (λ (m : Me Slot Knowledge). m.0) split.4 ∙ ap new_pass old) j;
+      finished = false;
+      call = call.None;
+    }
+    in
     record {
       table = split.0 ∙ i.table;
       first = split.1 ∙ i.first;

@@ -28,4 +28,6 @@ returns c plan h made =
     let walk = walk_told plan rows h c.args.who.0 c.in_ok-thread_rows.field-0.now (sym c.in_ok-thread_rows.ensures) (turn + 1) (omega (arith, c.requires.turn)) c.at-walk.result c.at-walk.ensures in
     let goes_on : (c.ne.result ≡ true) ↔ (c.at-walk.result ≢ walks.None) = search rules in
     let changes : c.in_ok-loan.loan.before.0 ≢ c.in_ok-loan.loan.prio.0 = search rules in
-    tells plan turn c.args.who.0 _ (is_lending plan turn c.args.who.0 made c.in_ok-loan.loan (c.in_ok-loan.ensures plan h) changes c.at-walk.result walk c.ne.result goes_on)
+    tells plan turn c.args.who.0 _
+    (is_lending plan turn c.args.who.0 made c.in_ok-loan.loan (c.in_ok-loan.ensures plan h) changes c.at-walk.result
+    walk c.ne.result goes_on)

@@ -13,7 +13,8 @@ returns-in_err-event c made =
     let who = c.args.row.who.0 in
     subst (TellsTurn plan c.args.turn who) (sym c.from_residual.ensures)
     (tells_none plan c.args.turn who (Did Note) made
-    (λ has. some_event plan c.args.turn who (Reversed has.0 has.1) has.2 (c.in_err-event.ensures plan c.requires.run c.requires.turn)))
+    (λ has. some_event plan c.args.turn who (Reversed has.0 has.1) has.2
+    (c.in_err-event.ensures plan c.requires.run c.requires.turn)))
 
 pub returns-in_err-lock : goal.returns-in_err-lock
 returns-in_err-lock c made =

@@ -46,7 +46,8 @@ returns-in-Wake c =
 
 pub returns-in-Note : goal.returns-in-Note
 returns-in-Note c =
-    c.refused.ensures (made_by c.args.plan.now c.args.rows.now c.requires.run c.args.turn c.args.row (Did Note) c.requires.turn (c.in-Did.is ∙ ap Did c.in-Note.is))
+    c.refused.ensures (made_by c.args.plan.now c.args.rows.now c.requires.run c.args.turn c.args.row (Did Note)
+    c.requires.turn (c.in-Did.is ∙ ap Did c.in-Note.is))
 
 pub returns-in-Gain : goal.returns-in-Gain
 returns-in-Gain c =

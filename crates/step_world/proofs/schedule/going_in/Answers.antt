@@ -6,7 +6,8 @@ use Rattle.step_world.proofs.schedule.going_in.Goals as goal
 use Rattle.step_world.proofs.schedule.going_in.Goals.{then-not-has_ended, else-not-has_ended}
 
 pub loop-t-init : goal.loop-t-init
-loop-t-init c = λ r u h. c.none-going.ensures u ∙ sym (ap (λ (b : Bool). b && not (has_ended c.args.world.now.plan r u)) (le-ltb u 0 (omega arith)))
+loop-t-init c = λ r u h. c.none-going.ensures u
+    ∙ sym (ap (λ (b : Bool). b && not (has_ended c.args.world.now.plan r u)) (le-ltb u 0 (omega arith)))
 
 pub loop-t-preserved : goal.loop-t-preserved
 loop-t-preserved c =
@@ -24,5 +25,6 @@ loop-t-preserved c =
 pub returns : goal.returns
 returns c =
     let plan = c.args.world.now.plan in
-    let all : c.loop-t.t ≡ length plan.threads = omega (arith, c.loop-t-test.false, c.loop-t.auto.t-end, c.threads-t-end.ensures.number) in
+    let all : c.loop-t.t ≡ length plan.threads =
+    omega (arith, c.loop-t-test.false, c.loop-t.auto.t-end, c.threads-t-end.ensures.number) in
     λ r u h. c.loop-t.invariant r u h ∙ ap (λ (n : ℕ). nat_lt u n && not (has_ended plan r u)) all

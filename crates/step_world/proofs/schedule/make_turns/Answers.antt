@@ -29,12 +29,16 @@ loop-left-preserved c =
           -- so many were made before
           let m : ℕ = n - (passed + 1) in
           let k : run.Course = course_after plan m in
-          let before : m + c.loop-left.left ≡ c.args.turns = omega (arith, e, i.within, c.pass_sleepers-left.ensures.few, c.loop-left-test.true) in
+          let before : m + c.loop-left.left ≡ c.args.turns =
+          omega (arith, e, i.within, c.pass_sleepers-left.ensures.few, c.loop-left-test.true) in
           let one : IsCourse c.go_on.new.self (course_after plan (m + 1)) =
-          subst (IsCourse c.go_on.new.self) (ap (λ (p : Plan). go_on p k) i.plan ∙ sym (one_more plan m)) (c.go_on.ensures.course k (i.turns m before h)) in
+          subst (IsCourse c.go_on.new.self) (ap (λ (p : Plan). go_on p k) i.plan ∙ sym (one_more plan m))
+          (c.go_on.ensures.course k (i.turns m before h)) in
           let same : c.go_on.new.self.world.plan ≡ plan = c.go_on.ensures.plan ∙ i.plan in
-          let all : m + 1 + passed ≡ n = omega (arith, e, i.within, c.pass_sleepers-left.ensures.few, c.loop-left-test.true) in
-          let behind = c.pass_sleepers-left.ensures.turns (m + 1) (subst (λ (p : Plan). IsCourse c.go_on.new.self (course_after p (m + 1))) (sym same) one) in
+          let all : m + 1 + passed ≡ n =
+          omega (arith, e, i.within, c.pass_sleepers-left.ensures.few, c.loop-left-test.true) in
+          let behind = c.pass_sleepers-left.ensures.turns (m + 1)
+          (subst (λ (p : Plan). IsCourse c.go_on.new.self (course_after p (m + 1))) (sym same) one) in
           subst (λ (j : ℕ). IsCourse c.pass_sleepers-left.new.self (course_after plan j)) all
           (subst (λ (p : Plan). IsCourse c.pass_sleepers-left.new.self (course_after p (m + 1 + passed))) same behind);
     }
@@ -47,8 +51,11 @@ returns-else-is_some-clause-turns c h =
     let plan = c.args.course.now.world.plan in
     let k : run.Course = course_after plan n in
     let over : is_over plan k ≡ true =
-    sym (ap (λ (p : Plan). is_over p k) i.plan) ∙ sym (c.go_on.ensures.over k (i.turns n made h)) ∙ ap not (sym c.is_some.ensures ∙ c.if-is_some.false) in
+    sym (ap (λ (p : Plan). is_over p k) i.plan) ∙ sym (c.go_on.ensures.over k (i.turns n made h))
+    ∙ ap not (sym c.is_some.ensures ∙ c.if-is_some.false) in
     let one : n ≤ n + 1 = omega arith in
     let all : n ≤ c.args.turns = omega (arith, made) in
-    subst (IsCourse c.go_on.new.self) (ap (λ (p : Plan). go_on p k) i.plan ∙ sym (one_more plan n) ∙ stays_over plan n (n + 1) one over ∙ sym (stays_over plan n c.args.turns all over))
+    subst (IsCourse c.go_on.new.self)
+    (ap (λ (p : Plan). go_on p k) i.plan ∙ sym (one_more plan n) ∙ stays_over plan n (n + 1) one over
+    ∙ sym (stays_over plan n c.args.turns all over))
     (c.go_on.ensures.course k (i.turns n made h))

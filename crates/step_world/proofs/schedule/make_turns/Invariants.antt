@@ -9,7 +9,8 @@ invariant-loop-left l = record {
   within : l.left ≤ l.turns;
   plan : l.course.world.plan ≡ l.initial.course.world.plan;
   chains : l.course.world.chains ≡ l.initial.course.world.chains;
-  turns : (n : ℕ) → n + l.left ≡ l.turns → IsCourse l.initial.course (start_course l.initial.course.world.plan) → IsCourse l.course (course_after l.initial.course.world.plan n);
+  turns : (n : ℕ) → n + l.left ≡ l.turns → IsCourse l.initial.course (start_course l.initial.course.world.plan)
+      → IsCourse l.course (course_after l.initial.course.world.plan n);
 }
 
 abbrev pub decreases-loop-left : goal.decreases-loop-left

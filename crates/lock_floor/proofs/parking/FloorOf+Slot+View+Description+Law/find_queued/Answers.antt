@@ -10,5 +10,6 @@ read_wait-requires-clause-may c =
     let kept = ap (λ (d : Description). length d.threads) c.self.invariant.kept in
     let low : c.args.t.0 < length key.threads =
     omega (arith, c.if-from-as_slice.false, c.from.ensures, few, kept) in
-    find_allowed key c.pass.inside.seat.me c.pass.invariant.role c.args.t.0 low c.self.inside.board.shared.table_id.slots
+    find_allowed key c.pass.inside.seat.me c.pass.invariant.role c.args.t.0 low
+    c.self.inside.board.shared.table_id.slots
     c.pass.inside.seat.id

@@ -29,17 +29,20 @@ pub returns-then-not-try_take_rec-clause-left : goal.returns-then-not-try_take_r
 returns-then-not-try_take_rec-clause-left c =
     not_taken c.args.self.now.description c.turnstiles_slot-chain.result c.turnstiles_slot-chain.ensures c.args.pass.now
     c.owner_at.new.pass c.requires.in_hop c.in-Some.ensures.same c.args.l.0 c.requires.there
-    c.in-Some.o.0 c.in-Some.ensures.owner c.try_take_rec.new.pass.view (c.try_take_rec.ensures.left c.if-not-try_take_rec.true)
+    c.in-Some.o.0 c.in-Some.ensures.owner c.try_take_rec.new.pass.view
+    (c.try_take_rec.ensures.left c.if-not-try_take_rec.true)
 
 pub returns-then-not-try_take_rec-clause-elsewhere : goal.returns-then-not-try_take_rec-clause-elsewhere
 returns-then-not-try_take_rec-clause-elsewhere c =
     found_out c.args.self.now.description c.turnstiles_slot-chain.result c.turnstiles_slot-chain.ensures c.args.pass.now
     c.owner_at.new.pass c.requires.in_hop c.in-Some.ensures.same c.args.l.0 c.requires.there
-    c.in-Some.o.0 c.in-Some.ensures.owner c.try_take_rec.new.pass.view (c.try_take_rec.ensures.elsewhere c.if-not-try_take_rec.true)
+    c.in-Some.o.0 c.in-Some.ensures.owner c.try_take_rec.new.pass.view
+    (c.try_take_rec.ensures.elsewhere c.if-not-try_take_rec.true)
 
 pub lend-walk-requires-clause-may : goal.lend-walk-requires-clause-may
 lend-walk-requires-clause-may c =
-    may_lend_to c.args.self.now.description c.turnstiles_slot-chain.result c.turnstiles_slot-chain.ensures c.args.pass.now
+    may_lend_to c.args.self.now.description c.turnstiles_slot-chain.result c.turnstiles_slot-chain.ensures
+    c.args.pass.now
     c.owner_at.new.pass c.requires.in_hop c.in-Some.ensures.same c.args.l.0 c.requires.there
     c.in-Some.o.0 c.in-Some.ensures.owner c.try_take_rec.new.pass.view
     (c.try_take_rec.ensures.out c.if-not-try_take_rec.false)
@@ -60,7 +63,8 @@ give_rec-requires-clause-last c =
 
 pub give_rec-requires-clause-may : goal.give_rec-requires-clause-may
 give_rec-requires-clause-may c =
-    lent_may_give c.args.self.now.description c.turnstiles_slot-chain.result c.turnstiles_slot-chain.ensures c.args.pass.now
+    lent_may_give c.args.self.now.description c.turnstiles_slot-chain.result c.turnstiles_slot-chain.ensures
+    c.args.pass.now
     c.owner_at.new.pass c.requires.in_hop c.in-Some.ensures.same c.args.l.0 c.requires.there
     c.in-Some.o.0 c.in-Some.ensures.owner c.try_take_rec.new.pass.view
     (c.try_take_rec.ensures.out c.if-not-try_take_rec.false)
@@ -72,15 +76,18 @@ give-requires-clause-last c =
     c.owner_at.new.pass c.requires.in_hop c.in-Some.ensures.same c.args.l.0 c.requires.there
     c.in-Some.o.0 c.in-Some.ensures.owner c.try_take_rec.new.pass.view
     (c.try_take_rec.ensures.out c.if-not-try_take_rec.false)
-    (walk_of c.lend-walk.result) c.lend-walk.new.pass.view c.lend-walk.ensures.step c.give_rec.new.pass.view c.give_rec.ensures.view
+    (walk_of c.lend-walk.result) c.lend-walk.new.pass.view c.lend-walk.ensures.step c.give_rec.new.pass.view
+    c.give_rec.ensures.view
 
 pub give-requires-clause-may : goal.give-requires-clause-may
 give-requires-clause-may c =
-    then_may_give c.args.self.now.description c.turnstiles_slot-chain.result c.turnstiles_slot-chain.ensures c.args.pass.now
+    then_may_give c.args.self.now.description c.turnstiles_slot-chain.result c.turnstiles_slot-chain.ensures
+    c.args.pass.now
     c.owner_at.new.pass c.requires.in_hop c.in-Some.ensures.same c.args.l.0 c.requires.there
     c.in-Some.o.0 c.in-Some.ensures.owner c.try_take_rec.new.pass.view
     (c.try_take_rec.ensures.out c.if-not-try_take_rec.false)
-    (walk_of c.lend-walk.result) c.lend-walk.new.pass.view c.lend-walk.ensures.step c.give_rec.new.pass.view c.give_rec.ensures.view
+    (walk_of c.lend-walk.result) c.lend-walk.new.pass.view c.lend-walk.ensures.step c.give_rec.new.pass.view
+    c.give_rec.ensures.view
 
 pub returns-else-not-try_take_rec-clause-hop : goal.returns-else-not-try_take_rec-clause-hop
 returns-else-not-try_take_rec-clause-hop c =
@@ -88,7 +95,8 @@ returns-else-not-try_take_rec-clause-hop c =
     c.owner_at.new.pass c.requires.in_hop c.in-Some.ensures.same c.args.l.0 c.requires.there
     c.in-Some.o.0 c.in-Some.ensures.owner c.try_take_rec.new.pass.view
     (c.try_take_rec.ensures.out c.if-not-try_take_rec.false)
-    (walk_of c.lend-walk.result) c.lend-walk.new.pass.view c.lend-walk.ensures.step c.give_rec.new.pass.view c.give_rec.ensures.view
+    (walk_of c.lend-walk.result) c.lend-walk.new.pass.view c.lend-walk.ensures.step c.give_rec.new.pass.view
+    c.give_rec.ensures.view
     c.give_rec.ensures.step c.give.new.pass.view c.give.ensures.view c.give.ensures.step
 
 -- 2. It has none
@@ -98,7 +106,8 @@ end_walk-requires-clause-one_chain c = c.requires.in_hop.one_chain
 
 pub end_walk-requires-clause-may : goal.end_walk-requires-clause-may
 end_walk-requires-clause-may c =
-    may_end_here c.args.self.now.description c.turnstiles_slot-chain.result c.turnstiles_slot-chain.ensures c.args.pass.now
+    may_end_here c.args.self.now.description c.turnstiles_slot-chain.result c.turnstiles_slot-chain.ensures
+    c.args.pass.now
     c.owner_at.new.pass c.requires.in_hop c.in-None.ensures.same c.args.l.0 c.requires.there
     c.in-None.ensures.owner
 
@@ -110,7 +119,8 @@ give-requires-in-None-clause-last c =
 
 pub give-requires-in-None-clause-may : goal.give-requires-in-None-clause-may
 give-requires-in-None-clause-may c =
-    end_may_give c.args.self.now.description c.turnstiles_slot-chain.result c.turnstiles_slot-chain.ensures c.args.pass.now
+    end_may_give c.args.self.now.description c.turnstiles_slot-chain.result c.turnstiles_slot-chain.ensures
+    c.args.pass.now
     c.owner_at.new.pass c.requires.in_hop c.in-None.ensures.same c.args.l.0 c.requires.there
     c.in-None.ensures.owner c.end_walk.new.pass.view c.end_walk.ensures.view c.end_walk.ensures.step
 

@@ -11,11 +11,14 @@ invariant_of-self c =
     let known = c.asleep_behind-self-inside.ensures in
     let lt = rw (← c.self.view_is) at c.requires.thread in
     let runs = rw (← c.self.view_is) at c.requires.going in
-    let turned : IsTurned i.world c.act-turn.new.self c.args.t.0 c.act-turn.result = record { answer_is = w.answer; turn = w.turn } in
-    let knows : IsKnown i.world c.act-turn.new.self c.args.t.0 c.act-turn.result i.going.bits i.asleep.bits c.take_out.new.self.bits c.asleep_behind-self-inside.result.bits = record {
+    let turned : IsTurned i.world c.act-turn.new.self c.args.t.0 c.act-turn.result =
+    record { answer_is = w.answer; turn = w.turn } in
+    let knows : IsKnown i.world c.act-turn.new.self c.args.t.0 c.act-turn.result i.going.bits i.asleep.bits
+    c.take_out.new.self.bits c.asleep_behind-self-inside.result.bits = record {
       over = c.has_ended.result;
       over_is = c.has_ended.ensures;
-      going_is = λ u. c.take_out.ensures u ∙ ap (λ (b : Bool). not (b && c.args.t.0 == u) && has_bit u i.going.bits) (sym c.if-has_ended.true);
+      going_is = λ u. c.take_out.ensures u
+          ∙ ap (λ (b : Bool). not (b && c.args.t.0 == u) && has_bit u i.going.bits) (sym c.if-has_ended.true);
       woken = c.wakes_next-woken.result;
       woken_is = c.wakes_next-woken.ensures.next;
       own = known.own;
@@ -31,11 +34,14 @@ invariant_of-self-else-has_ended c =
     let known = c.asleep_behind-self-inside.ensures in
     let lt = rw (← c.self.view_is) at c.requires.thread in
     let runs = rw (← c.self.view_is) at c.requires.going in
-    let turned : IsTurned i.world c.act-turn.new.self c.args.t.0 c.act-turn.result = record { answer_is = w.answer; turn = w.turn } in
-    let knows : IsKnown i.world c.act-turn.new.self c.args.t.0 c.act-turn.result i.going.bits i.asleep.bits i.going.bits c.asleep_behind-self-inside.result.bits = record {
+    let turned : IsTurned i.world c.act-turn.new.self c.args.t.0 c.act-turn.result =
+    record { answer_is = w.answer; turn = w.turn } in
+    let knows : IsKnown i.world c.act-turn.new.self c.args.t.0 c.act-turn.result i.going.bits i.asleep.bits i.going.bits
+    c.asleep_behind-self-inside.result.bits = record {
       over = c.has_ended.result;
       over_is = c.has_ended.ensures;
-      going_is = λ u. ap (λ (b : Bool). not (b && c.args.t.0 == u) && has_bit u i.going.bits) (sym c.if-has_ended.false);
+      going_is = λ u. ap (λ (b : Bool). not (b && c.args.t.0 == u) && has_bit u i.going.bits)
+          (sym c.if-has_ended.false);
       woken = c.wakes_next-woken.result;
       woken_is = c.wakes_next-woken.ensures.next;
       own = known.own;

@@ -7,4 +7,5 @@ invariant_of-self c = sound_round c.self.invariant
 
 pub returns-clause-course : goal.returns-clause-course
 returns-clause-course c =
-    rw (← c.self.view_is) (λ k h. record { shows = h.shows; coming = sym (members_are c.self.invariant k.run h.shows); idle = refl })
+    rw (← c.self.view_is)
+    (λ k h. record { shows = h.shows; coming = sym (members_are c.self.invariant k.run h.shows); idle = refl })

@@ -15,18 +15,23 @@ going : (c : After-make_turn) (k : run.Course) → IsCourse c.args.self.now k �
 going c k h = sym (c.is_over.ensures k h) ∙ c.if-is_over.false
 
 -- and somebody comes
-ready : (c : After-make_turn) (k : run.Course) → IsCourse c.args.self.now k → IsReady c.args.self.now.world.plan c.if-is_through.self k
+ready : (c : After-make_turn) (k : run.Course) → IsCourse c.args.self.now k
+    → IsReady c.args.self.now.world.plan c.if-is_through.self k
 ready c k h =
     let plan = c.args.self.now.world.plan in
     let through = ap is_empty h.coming ∙ sym c.is_through.ensures.through in
     elim c.if-is_through.branch [
-      | then-is_through b ↦ rw b.self-is (round_ready plan b.begin_round.new.self k (ap (λ w. w.plan) b.begin_round.ensures.world) (b.begin_round.ensures.course k h) (none_comes k.coming (through ∙ b.if-is_through.true)) (going c k h))
+      | then-is_through b ↦
+          rw b.self-is (round_ready plan b.begin_round.new.self k (ap (λ w. w.plan) b.begin_round.ensures.world)
+          (b.begin_round.ensures.course k h) (none_comes k.coming (through ∙ b.if-is_through.true)) (going c k h))
       | else-is_through b ↦ rw b.self-is (still_ready plan c.args.self.now k refl h (through ∙ b.if-is_through.false))
     ]
 
 -- so one has a turn
 made : (c : After-make_turn) (k : run.Course) → IsCourse c.args.self.now k → is_none c.make_turn.result ≡ false
-made c k h = let r = ready c k h in one_made c.if-is_through.self.world.plan r.from.run r.from.coming c.make_turn.result r.some (c.make_turn.ensures.turn r.from r.is_course)
+made c k h = let r = ready c k h in
+    one_made c.if-is_through.self.world.plan r.from.run r.from.coming c.make_turn.result r.some
+    (c.make_turn.ensures.turn r.from r.is_course)
 
 pub returns-clause-course : goal.returns-clause-course
 returns-clause-course c k h =

@@ -7,16 +7,19 @@ pub returns-clause-course : goal.returns-clause-course
 returns-clause-course c k h =
     let taken = c.in_ok-t.ensures in
     let w = c.turn-turn.ensures in
-    course_turned {first = c.take_first.new.self} {behind = c.turn-turn.new.self} taken.world taken.idle taken.some w.coming w.idle (record { answer_is = w.answer; turn = w.turn }) c.note.ensures h
+    course_turned {first = c.take_first.new.self} {behind = c.turn-turn.new.self} taken.world taken.idle taken.some
+    w.coming w.idle (record { answer_is = w.answer; turn = w.turn }) c.note.ensures h
 
 pub returns-clause-turn : goal.returns-clause-turn
 returns-clause-turn c k h =
     let taken = c.in_ok-t.ensures in
     let w = c.turn-turn.ensures in
-    course_told c.take_first.new.self {behind = c.turn-turn.new.self.world} taken.world taken.some (record { answer_is = w.answer; turn = w.turn }) h
+    course_told c.take_first.new.self {behind = c.turn-turn.new.self.world} taken.world taken.some
+    (record { answer_is = w.answer; turn = w.turn }) h
 
 pub returns-clause-still : goal.returns-clause-still
-returns-clause-still c i = ap (λ (x : Course). x.world) c.note.ensures ∙ c.turn-turn.ensures.still i ∙ c.in_ok-t.ensures.world
+returns-clause-still c i = ap (λ (x : Course). x.world) c.note.ensures ∙ c.turn-turn.ensures.still i
+    ∙ c.in_ok-t.ensures.world
 
 -- or nobody came
 pub returns-in_err-t-clause-course : goal.returns-in_err-t-clause-course

@@ -5,4 +5,6 @@ pub invariant_of-self : goal.invariant_of-self
 invariant_of-self c = sound_rest c.self.invariant c.in-Some.ensures.cases.0
 
 pub invariant_of-self-in-None : goal.invariant_of-self-in-None
-invariant_of-self-in-None c = sound_taken {old = c.self.inside.round} {new = c.take_first.new.self} c.take_first.result c.self.invariant c.take_first.ensures.none c.take_first.ensures.some
+invariant_of-self-in-None c =
+    sound_taken {old = c.self.inside.round} {new = c.take_first.new.self} c.take_first.result c.self.invariant
+    c.take_first.ensures.none c.take_first.ensures.some

@@ -6,18 +6,22 @@ use Rattle.step_world.proofs.schedule.Course.turn.Goals as goal
 pub returns-then-not-has-clause-answer : goal.returns-then-not-has-clause-answer
 returns-then-not-has-clause-answer c =
     let lt = rw (← c.self.view_is) at c.requires in
-    rw (← c.self.view_is) (λ r h. is_over_answer c.self.invariant c.args.t.0 lt (sym c.has.ensures ∙ c.if-not-has.true) r h)
+    rw (← c.self.view_is)
+    (λ r h. is_over_answer c.self.invariant c.args.t.0 lt (sym c.has.ensures ∙ c.if-not-has.true) r h)
 
 pub returns-then-not-has-clause-turn : goal.returns-then-not-has-clause-turn
 returns-then-not-has-clause-turn c =
     let lt = rw (← c.self.view_is) at c.requires in
-    rw (← c.self.view_is) (λ r h. is_over_turn c.self.invariant c.args.t.0 lt (sym c.has.ensures ∙ c.if-not-has.true) r h)
+    rw (← c.self.view_is)
+    (λ r h. is_over_turn c.self.invariant c.args.t.0 lt (sym c.has.ensures ∙ c.if-not-has.true) r h)
 
 -- one of those who sleep is idle
 pub returns-then-has-clause-answer : goal.returns-then-has-clause-answer
 returns-then-has-clause-answer c =
-    rw (← c.self.view_is) (λ r h. sleeps_answer c.self.invariant c.args.t.0 (sym c.has-else-not-has.ensures ∙ c.if-has.true) r h)
+    rw (← c.self.view_is)
+    (λ r h. sleeps_answer c.self.invariant c.args.t.0 (sym c.has-else-not-has.ensures ∙ c.if-has.true) r h)
 
 pub returns-then-has-clause-turn : goal.returns-then-has-clause-turn
 returns-then-has-clause-turn c =
-    rw (← c.self.view_is) (λ r h. sleeps_turn c.self.invariant c.args.t.0 (sym c.has-else-not-has.ensures ∙ c.if-has.true) r h)
+    rw (← c.self.view_is)
+    (λ r h. sleeps_turn c.self.invariant c.args.t.0 (sym c.has-else-not-has.ensures ∙ c.if-has.true) r h)

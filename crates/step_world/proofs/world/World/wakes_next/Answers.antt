@@ -21,12 +21,18 @@ firsts q (p ∷ ps) = refl
 within : (c : goal.After-first_of) → c.args.t.0 < length c.self.inside.plan.now.threads
 within c = subst (λ (w : World). c.args.t.0 < length w.plan.threads) (sym c.self.view_is) c.requires
 
-next : (c : goal.After-first_of) (r : Run) → Represents (record { plan = c.self.inside.plan.now; chains = c.self.inside.chains; machine = c.self.inside.machine }) r
+next : (c : goal.After-first_of) (r : Run)
+    → Represents (record {
+      plan = c.self.inside.plan.now;
+      chains = c.self.inside.chains;
+      machine = c.self.inside.machine;
+    }) r
     → option_map (λ u. u.0) c.first_of.result ≡ first_marked (r.state.marked c.args.t.0)
 next c r h =
     let th = c.index.result.now in
     let at = read c.args.t.0 c.from.result th h.shows.shows.threads (within c) c.from.ensures c.index.ensures in
-    c.first_of.ensures ∙ firsts th.marked_from (places_of th.marked) ∙ ap (λ x. first_marked x.marked) (h.shows.shows.threads.thread c.args.t.0 th at).columns
+    c.first_of.ensures ∙ firsts th.marked_from (places_of th.marked)
+    ∙ ap (λ x. first_marked x.marked) (h.shows.shows.threads.thread c.args.t.0 th at).columns
 
 pub returns-clause-next : goal.returns-clause-next
 returns-clause-next c = rw (← c.self.view_is) (next c)
@@ -37,10 +43,12 @@ returns-clause-thread c =
     let r = c.self.invariant.run in
     rw (← c.self.view_is) (go (r.0.state.marked c.args.t.0) refl c.first_of.result (next c r.0 r.1))
   where
-    go : (ms : List Mark) → c.self.invariant.run.0.state.marked c.args.t.0 ≡ ms → (o : Option ThreadNo) → option_map (λ u. u.0) o ≡ first_marked ms → IfSome o (λ u. u.0 < length c.self.inside.plan.now.threads)
+    go : (ms : List Mark) → c.self.invariant.run.0.state.marked c.args.t.0 ≡ ms → (o : Option ThreadNo)
+        → option_map (λ u. u.0) o ≡ first_marked ms → IfSome o (λ u. u.0 < length c.self.inside.plan.now.threads)
     go ms e None i = tt
     go [] e (Some u) i = absurd (none-some u.0 (sym i))
     go (m ∷ ms) e (Some u) i =
         let r = c.self.invariant.run in
         subst (λ n. n < length c.self.inside.plan.now.threads) (sym (same_Some u.0 m.thread i))
-        (marked_thread (config_of c.self.inside.plan.now) r.0.state c.args.t.0 m ms r.1.on_track.lawful.lawful (within c) e)
+        (marked_thread (config_of c.self.inside.plan.now) r.0.state c.args.t.0 m ms r.1.on_track.lawful.lawful
+        (within c) e)
