@@ -1,3 +1,4 @@
+pub mod Covered
 pub mod Tried
 pub mod First
 pub mod Parts

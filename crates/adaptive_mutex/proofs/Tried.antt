@@ -32,7 +32,7 @@ use Rattle.adaptive_mutex.specs.Mutexes.{IsMutex, MayAcquire, as_held, tries, Wa
 pub may_gain_free : (floor : Description) (l : ℕ) (v : Knowledge) → IsMutex floor l → MayGain floor l v
     → MayMake floor v (λ s. s.word l ≡ word_of 0) (Gains v.thread l Excl true ∷ [])
 may_gain_free floor l v mutex m =
-    may_gain floor v l Excl true (word_of 0) mutex.lock refl (plainly ((config_in floor).kind l) mutex.kind) m.unheld
+    may_gain floor v l Excl true (word_of 0) mutex.lock refl (plainly ((config_in floor).kind l) Excl) m.unheld
     (inr m.wants_nothing) (subst (λ r. FitsRound r l true) (sym m.looks.no_round) refl)
     (λ none. begins_call floor l v m)
     (λ k e. absurd (let z : None ≡ Some k = sym m.looks.takes_nothing ∙ e in cc)) (λ e. absurd cc) (λ e. absurd cc)
@@ -171,7 +171,8 @@ module _ (floor : Description) (l : LockNo) (seen : ℕ) (old v : Knowledge) (r 
       let it_counts : Makes floor (Looks old.thread l.0 true ∷ []) old v =
       subst (λ b. Makes floor (Looks old.thread l.0 b ∷ []) old v)
       (counts_first floor old l.0 r.nothing_out r.no_round m.unheld) looks in
-      let more : suc old.share.doing.looks_in_all ≡ new.share.doing.looks_in_all = sym (ap (λ (k : Knowledge). k.share.doing.looks_in_all) is) in
+      let more : suc old.share.doing.looks_in_all ≡ new.share.doing.looks_in_all =
+      sym (ap (λ (k : Knowledge). k.share.doing.looks_in_all) is) in
       record {
         rest = subst (IsAtRest floor) (sym is)
             (rest_seeing floor (stamped (config_in floor) x (entry_by old.thread ticket note)) new.seen

@@ -98,7 +98,8 @@ pub fn unlock<R: Wait>(floor: &Floor, rt: &R, pass: &mut Pass, l: LockNo)
     ensures entry { MakesEntry floor.now.description (event.Unlocked l Excl)
         (without_lock l.0 pass.old.view.share.held) pass.old.view pass.new.view }
     ensures steps { (how : Release) × MakesEach floor.now.description
-        (unlocks floor.now.description pass.old.view.thread l Excl how) pass.old.view pass.new.view }
+        (unlocks floor.now.description pass.old.view.thread l Excl how)
+        pass.old.view pass.new.view }
 {
     release(floor, rt, pass, l, Mode::Excl);
 }

@@ -4,6 +4,7 @@ use Rattle.lock_model.specs.Operations.{without_lock}
 use Rattle.lock_model.specs.declared.numbers.LockNo.{LockNo}
 use Rattle.lock_model.specs.declared.plan.Mode.{Mode}
 use Rattle.lock_model.specs.declared.plan.Mode.TheVariants.{Excl}
+use Rattle.floor_table.specs.Descriptions.{config_in}
 use Rattle.floor_table.specs.declared.description.Description.{Description}
 use Rattle.floor_table.specs.Views.{Knowledge}
 use Rattle.lock_floor.specs.declared.calls.Call.TheVariants as calls
@@ -46,7 +47,7 @@ holds_on floor l mode at to old new is_m (comes_in seen same steps) was = record
   alone = ap (without_lock 0) same ∙ was.alone;
   gone = λ e. let z : Frees seen ≡ Wakes = e in cc;
 }
-holds_on floor l mode at to old new is_m (looks seen found same step) was = record {
+holds_on floor l mode at to old new is_m (looks seen found other same step) was = record {
   alone = ap (without_lock 0) same ∙ was.alone;
   gone = λ e. let z : Frees found ≡ Wakes = e in cc;
 }
@@ -123,20 +124,22 @@ module _ (f : Floor Description) (p q : Pass Knowledge) (own : IsOf f q) where
       let m = was.under_way in
       bare_admitted f.description m.l r.held p.view q.view was.unheld (went m.l m.mode m.at m.call).refused.steps
 
-  pub take_goes_on : (next : Next) → IsTaking f p
+  pub take_goes_on : (next : Next) → IsForTwo f.description → IsTaking f p
       → ((l : LockNo) (mode : Mode) (at : TakeAt) → p.call ≡ calls.Take l mode at
       → GoesOnTaking f.description l mode at next p q)
       → Knows f (behind next Takes (Works 200)) q
-  take_goes_on Done was went =
+  take_goes_on Done two was went =
       let m = was.under_way in
-      has_taken m.l m.mode was.lock m.there.covered.exclusive was.unheld was.room (went m.l m.mode m.at m.call).1
-  take_goes_on Again was went =
+      has_taken m.l m.mode was.lock
+      (m.there.covered.mutex (ap (λ (k : LockNo). (config_in f.description).kind k.0) was.lock ∙ two.mutex.kind))
+      was.unheld was.room (went m.l m.mode m.at m.call).1
+  take_goes_on Again two was went =
       takes_still Again was (went was.under_way.l was.under_way.mode was.under_way.at was.under_way.call)
-  take_goes_on Sleep was went =
+  take_goes_on Sleep two was went =
       takes_still Sleep was (went was.under_way.l was.under_way.mode was.under_way.at was.under_way.call)
-  take_goes_on (Wake t) was went =
+  take_goes_on (Wake t) two was went =
       absurd (went was.under_way.l was.under_way.mode was.under_way.at was.under_way.call)
-  take_goes_on (Reversed r) was went = absurd (take_admitted (Reversed r) was went)
+  take_goes_on (Reversed r) two was went = absurd (take_admitted (Reversed r) was went)
 
   -- 3. A release
 

@@ -1,5 +1,5 @@
 -- A blocking call before it takes the lock's chain: its exchanges and looks may be made, and what it knows behind them.
-use Rattle.std.proofs.Common.{◌≡◌, ℕ, suc, ◌+◌, ◌<◌, ◌≤◌, true, false, cond, Option, Some, None, List, [], ◌∷◌, length, replicate, refl, sym, ap, ◌∙◌, subst, inl, inr, arith}
+use Rattle.std.proofs.Common.{◌≡◌, ◌≢◌, ◌⊎◌, ℕ, suc, ◌+◌, ◌<◌, ◌≤◌, true, false, cond, Option, Some, None, List, [], ◌∷◌, length, replicate, refl, sym, ap, ◌∙◌, subst, inl, inr, arith}
 use Rattle.std.proofs.lemmas.List.{replicate-append-replicate}
 use Rattle.std.proofs.lemmas.Option.{same_Some}
 use Rattle.lock_model.specs.Holds.{NotHeld}
@@ -7,11 +7,12 @@ use Rattle.lock_model.specs.declared.event.Held.{Held}
 use Rattle.lock_model.specs.Limits.{most_held}
 use Rattle.lock_model.specs.Operations.{hold_in}
 use Rattle.lock_model.specs.Queues.{lock_queue}
-use Rattle.lock_model.specs.Words.{Word, word_of, is_plain}
+use Rattle.lock_model.specs.Words.{Word, word_of, admits, is_plain}
 use Rattle.lock_model.specs.declared.numbers.LockNo.{LockNo}
 use Rattle.lock_model.specs.declared.plan.Kind.{Kind}
-use Rattle.lock_model.specs.declared.plan.Kind.TheVariants.{Mtx}
-use Rattle.lock_model.specs.declared.plan.Mode.TheVariants.{Excl}
+use Rattle.lock_model.specs.declared.plan.Kind.TheVariants.{Mtx, Rw, Sx}
+use Rattle.lock_model.specs.declared.plan.Mode.{Mode}
+use Rattle.lock_model.specs.declared.plan.Mode.TheVariants.{Excl, Shared}
 use Rattle.lock_state.specs.State.{Look, Round, SleepHalted}
 use Rattle.lock_state.specs.Steps.{Step, Seeks, Looks, Gains, FitsRound}
 use Rattle.lock_state.specs.Steps.LockWords.{round_of, taking_from}
@@ -21,10 +22,15 @@ use Rattle.floor_table.specs.Steps.{Makes, MakesEach, MayMake}
 use Rattle.floor_table.specs.Views.{Knowledge, seeing}
 use Rattle.lock_floor.specs.Views.{counts, looked, sought, gained}
 use Rattle.lock_floor.proofs.May.{BeginsCall, BeginsRound, IsUnhalted, WantsItsRound, counts_there, counts_first, may_look, may_seek_gain, may_gain}
-use Rattle.lock_calls.specs.Steps.{IsMutex, as_taken, first_misses}
-use Rattle.lock_calls.specs.Waiting.{kept_of, IsCalling, MayGain, IsChecking, IsSeeking, GainsAtOnce, HasMissed, HasSpun, SpinsThenGains, IsGaining, HasGained, with_looks_counted}
+use Rattle.lock_calls.specs.Choices.{course}
+use Rattle.lock_calls.specs.declared.courses.Course.{Course}
+use Rattle.lock_calls.specs.declared.courses.Course.TheVariants.{Plainly, ByClaim, MustWait}
+use Rattle.lock_calls.specs.Steps.{IsCovered, FirstMisses, none_missed, one_missed, most_missed, as_taken}
+use Rattle.lock_calls.specs.Takes.{LooksOn, looks_alone, tries_too}
+use Rattle.lock_calls.specs.Waiting.{kept_of, IsCalling, MayGain, IsChecking, IsSeeking, GainsAtOnce, HasMissed, HasSeen, HasSpun, SpinsThenGains, IsGaining, HasGained, with_looks_counted}
 use Rattle.lock_floor.specs.Passes.{IsAtRest}
-use Rattle.lock_calls.proofs.Looks.{each_append, rest_looks}
+use Rattle.lock_calls.proofs.Looks.{each_append, last_step, rest_looks}
+use Rattle.lock_calls.proofs.Words.{other_word}
 
 -- 1. The first exchange
 
@@ -52,8 +58,26 @@ begins_call floor l v m = record {
   no_looks = m.no_looks;
 }
 
-pub plainly : (k : Kind) → k ≡ Mtx → is_plain k (word_of 0) Excl ≡ true
-plainly k e = ap (λ (x : Kind). is_plain x (word_of 0) Excl) e
+-- the free word that shows nobody admits each mode in which a lock of the kind can be held, and plainly
+pub free_admits : (k : Kind) (mode : Mode) → (k ≡ Mtx → mode ≡ Excl) → admits k (word_of 0) mode ≡ true
+free_admits k Excl mutex = refl
+free_admits Mtx Shared mutex = absurd (let z : Shared ≡ Excl = mutex refl in cc)
+free_admits Rw Shared mutex = refl
+free_admits Sx Shared mutex = refl
+
+pub plainly : (k : Kind) (mode : Mode) → is_plain k (word_of 0) mode ≡ true
+plainly k Shared = refl
+plainly Mtx Excl = refl
+plainly Rw Excl = refl
+plainly Sx Excl = refl
+
+free_plainly : (k : Kind) (mode : Mode) → (k ≡ Mtx → mode ≡ Excl) → course k (word_of 0) mode ≡ Plainly
+free_plainly Mtx Excl mutex = refl
+free_plainly Rw Excl mutex = refl
+free_plainly Sx Excl mutex = refl
+free_plainly Mtx Shared mutex = absurd (let z : Shared ≡ Excl = mutex refl in cc)
+free_plainly Rw Shared mutex = refl
+free_plainly Sx Shared mutex = refl
 
 pub unhalted : (v : Knowledge) → v.share.doing.noted ≡ None → IsUnhalted v
 unhalted v none k e = absurd (let z : None ≡ Some (SleepHalted (lock_queue k)) = sym none ∙ e in cc)
@@ -75,30 +99,42 @@ begins_it floor l v m bare = record {
   going = m.looks.going;
 }
 
-pub may_gain_first : (floor : Description) (l : ℕ) (v : Knowledge) → IsMutex floor l → MayGain floor l v
-    → v.share.held ≡ []
-    → MayMake floor v (λ s. s.word l ≡ word_of 0) (Seeks v.thread l false ∷ Gains v.thread l Excl false ∷ [])
-may_gain_first floor l v mutex m bare =
-    may_seek_gain floor v l Excl false (word_of 0) mutex.lock refl (plainly ((config_in floor).kind l) mutex.kind)
+pub may_gain_first : (floor : Description) (l : ℕ) (mode : Mode) (v : Knowledge) → IsCovered floor l mode
+    → MayGain floor l v → v.share.held ≡ []
+    → MayMake floor v (λ s. s.word l ≡ word_of 0) (Seeks v.thread l false ∷ Gains v.thread l mode false ∷ [])
+may_gain_first floor l mode v covered m bare =
+    may_seek_gain floor v l mode false (word_of 0) covered.lock
+    (free_admits ((config_in floor).kind l) mode covered.mutex) (plainly ((config_in floor).kind l) mode)
     (λ w. absurd (let z : None ≡ Some l = sym m.wants_nothing ∙ w in cc)) (begins_it floor l v m bare)
 
 -- 2. What the thread knows where its lock's order is to be checked
 
--- who made one holds nothing, and it is one at most
-pub misses_bare : (held : List Held) (missed : ℕ) → missed ≡ first_misses held → 1 ≤ missed → held ≡ []
-misses_bare [] missed first some = refl
-misses_bare (h ∷ hs) missed first some = absurd (omega (arith, first, some))
+-- one may miss of each kind, and two at most
+one_may_miss : (k : Kind) → 1 ≤ most_missed k
+one_may_miss Mtx = omega arith
+one_may_miss Rw = omega arith
+one_may_miss Sx = omega arith
 
-pub misses_few : (held : List Held) (missed : ℕ) → missed ≡ first_misses held → missed ≤ 1
-misses_few [] missed first = omega (arith, first)
-misses_few (h ∷ hs) missed first = omega (arith, first)
+two_may_miss : (k : Kind) → most_missed k ≤ 2
+two_may_miss Mtx = omega arith
+two_may_miss Rw = omega arith
+two_may_miss Sx = omega arith
+
+-- who made one holds nothing, and they are two at most
+pub misses_bare : (k : Kind) (held : List Held) (missed : ℕ) → FirstMisses k held missed → 1 ≤ missed → held ≡ []
+misses_bare k [] missed first some = refl
+misses_bare k (h ∷ hs) missed first some = absurd (omega (arith, first, some))
+
+pub misses_few : (k : Kind) (held : List Held) (missed : ℕ) → FirstMisses k held missed → missed ≤ 2
+misses_few k [] missed first = omega (arith, first.1, two_may_miss k)
+misses_few k (h ∷ hs) missed first = omega (arith, first)
 
 -- it made no exchange, since it holds a lock
-pub missed_none : (floor : Description) (l : ℕ) (v : Knowledge) → MayGain floor l v → 0 ≡ first_misses v.share.held
-    → HasMissed floor l v v
-missed_none floor l v m holds = record {
+pub missed_none : (floor : Description) (l : ℕ) (mode : Mode) (v : Knowledge) → MayGain floor l v
+    → FirstMisses ((config_in floor).kind l) v.share.held 0 → HasMissed floor l mode v v
+missed_none floor l mode v m holds = record {
   missed = 0;
-  first = holds;
+  first = record { first = holds; next = word_of 0; misses = none_missed };
   looks = v.share.doing.looks;
   counted = omega arith;
   all = v.share.doing.looks_in_all;
@@ -106,38 +142,45 @@ missed_none floor l v m holds = record {
   seen = v.share.doing.seen_in_section;
   its = λ look e. absurd (let z : None ≡ Some look = sym m.unseen ∙ e in cc);
   knows = refl;
-  steps = refl;
 }
 
 -- its exchange missed
-pub missed_once : (floor : Description) (l : ℕ) (v w : Knowledge) (word : Word) → MayGain floor l v → v.share.held ≡ []
-    → w ≡ seeing w.seen (looked v l word) → Makes floor (Looks v.thread l (counts v l) ∷ []) v w → HasMissed floor l v w
-missed_once floor l v w word m bare is miss =
+pub missed_once : (floor : Description) (l : ℕ) (mode : Mode) (v w : Knowledge) (found : ℕ) → IsCovered floor l mode
+    → MayGain floor l v → v.share.held ≡ [] → found ≢ 0 → w ≡ seeing w.seen (looked v l (word_of found))
+    → Makes floor (Looks v.thread l (counts v l) ∷ []) v w → HasMissed floor l mode v w
+missed_once floor l mode v w found covered m bare other is miss =
     let x = v.share.doing in
-    let look : Look = record { lock = l; word = word } in
+    let kind : Kind = (config_in floor).kind l in
+    let look : Look = record { lock = l; word = word_of found } in
     let it_counts : counts v l ≡ true = counts_first floor v l m.looks.nothing_out m.looks.no_round m.unheld in
     record {
       missed = 1;
-      first = sym (ap first_misses bare);
+      first = record {
+        first = subst (λ hs. FirstMisses kind hs 1) (sym bare) (omega arith, one_may_miss kind);
+        next = word_of found;
+        misses = one_missed 0 (word_of 0) (word_of found) none_missed (free_plainly kind mode covered.mutex)
+            (subst (λ b. Makes floor (Looks v.thread l b ∷ []) v w) it_counts miss)
+            (ap (λ (k : Knowledge). k.share.doing.last_look) is) (other_word found 0 other);
+      };
       looks = suc x.looks;
       counted = omega arith;
       all = suc x.looks_in_all;
       last = Some look;
       seen = Some look;
-      its = λ found e. (sym (ap lock_of e), bare);
+      its = λ it e. (sym (ap lock_of e), bare);
       knows = is
           ∙ (λ i. seeing w.seen (with_looks_counted v (cond (it_counts i) (suc x.looks) x.looks) (suc x.looks_in_all)
           (Some look) (Some look)));
-      steps = (w, subst (λ b. Makes floor (Looks v.thread l b ∷ []) v w) it_counts miss, refl);
     }
   where
     lock_of : Option Look → ℕ
     lock_of None = l
-    lock_of (Some found) = found.lock
+    lock_of (Some it) = it.lock
 
-pub is_checking : (floor : Description) (l : ℕ) (v w : Knowledge) → IsAtRest floor v → hold_in v.share.held l ≡ NotHeld
-    → length v.share.held < most_held → HasMissed floor l v w → IsChecking floor l w
-is_checking floor l v w r unheld few h = subst (IsChecking floor l) (sym h.knows) record {
+pub is_checking : (floor : Description) (l : ℕ) (mode : Mode) (v w : Knowledge) → IsAtRest floor v
+    → hold_in v.share.held l ≡ NotHeld → length v.share.held < most_held → HasMissed floor l mode v w
+    → IsChecking floor l w
+is_checking floor l mode v w r unheld few h = subst (IsChecking floor l) (sym h.knows) record {
   unheld = unheld;
   may = record {
     runs = r.runs;
@@ -152,7 +195,8 @@ is_checking floor l v w r unheld few h = subst (IsChecking floor l) (sym h.knows
     missed = h.its;
   };
   no_walk = r.no_walk;
-  bare = λ some. misses_bare v.share.held h.missed h.first (omega (arith, h.counted, r.no_looks, some));
+  bare = λ some. misses_bare ((config_in floor).kind l) v.share.held h.missed h.first.first
+      (omega (arith, h.counted, r.no_looks, some));
   nothing_out = r.nothing_out;
 }
 
@@ -176,10 +220,11 @@ module _ (floor : Description) (l : ℕ) (b : Knowledge) (m : IsSeeking l b) whe
       may_look floor b l mine low m.runs m.nothing_out m.going (λ e. room) (λ e. it_counts)
       (λ none. absurd (not_outside none)) (λ none. absurd (not_outside none)) wants_it
 
-  pub may_gain_there : IsMutex floor l
-      → MayMake floor b (λ s. s.word l ≡ word_of 0) (Gains b.thread l Excl false ∷ [])
-  may_gain_there mutex =
-      may_gain floor b l Excl false (word_of 0) mutex.lock refl (plainly ((config_in floor).kind l) mutex.kind) m.unheld
+  pub may_gain_there : (mode : Mode) (word : Word) → l < length floor.locks
+      → admits ((config_in floor).kind l) word mode ≡ true → is_plain ((config_in floor).kind l) word mode ≡ true
+      → MayMake floor b (λ s. s.word l ≡ word) (Gains b.thread l mode false ∷ [])
+  may_gain_there mode word low admitted plain =
+      may_gain floor b l mode false word low admitted plain m.unheld
       (inl m.wants) (subst (λ r. FitsRound r l false) (sym m.round) (refl, refl)) (λ none. absurd (not_outside none))
       (λ k e. same_Some k l (sym e ∙ m.takes)) (λ e. m.takes) (λ e. inl m.wants) (unhalted b m.unnoted) m.runs
       m.nothing_out m.going
@@ -201,6 +246,29 @@ module _ (floor : Description) (l : ℕ) (b : Knowledge) (m : IsSeeking l b) whe
             (Some look) (Some look)));
         steps = (w, subst (λ c. Makes floor (Looks b.thread l c ∷ []) b w) it_counts step, refl);
       }
+
+module _ (floor : Description) (l : ℕ) (mode : Mode) where
+  -- it saw that it doesn't gain the lock plainly, and tried nothing
+  pub looked_alone : (word : Word) (a b : Knowledge) → HasSpun floor l 1 a b
+      → course ((config_in floor).kind l) word mode ≢ Plainly → HasSeen l word b → LooksOn floor l mode 1 word a b
+  looked_alone word a b x other saw =
+      looks_alone word other (last_step floor (Looks a.thread l true ∷ []) a b x.steps) saw
+
+  -- or that it does, and its exchange missed
+  pub tried_too : (from found : ℕ) (a mid b : Knowledge) → HasSpun floor l 1 a mid → HasSpun floor l 1 mid b
+      → course ((config_in floor).kind l) (word_of from) mode ≡ Plainly → HasSeen l (word_of from) mid
+      → HasSeen l (word_of found) b → found ≢ from → LooksOn floor l mode 2 (word_of found) a b
+  tried_too from found a mid b x y plainly saw last other =
+      tries_too mid (word_of from) (word_of found) plainly
+      (last_step floor (Looks a.thread l true ∷ []) a mid x.steps) saw
+      (last_step floor (Looks a.thread l true ∷ []) mid b
+      (subst (λ t. MakesEach floor ((Looks t l true ∷ []) ∷ []) mid b) (ap (λ (k : Knowledge). k.thread) x.knows)
+      y.steps)) last (other_word found from other)
+
+-- a claim or a wait is no plain gain
+pub no_plain : (c : Course) → c ≡ Plainly → (c ≡ ByClaim) ⊎ (c ≡ MustWait) → ⊥
+no_plain c plain (inl claim) = let z : Plainly ≡ ByClaim = sym plain ∙ claim in cc
+no_plain c plain (inr wait) = let z : Plainly ≡ MustWait = sym plain ∙ wait in cc
 
 -- none
 pub spun_none : (floor : Description) (l : ℕ) (a : Knowledge) → HasSpun floor l 0 a a
@@ -254,24 +322,25 @@ module _ (floor : Description) (l n : ℕ) (a b : Knowledge) (x : HasSpun floor 
       }
 
   -- or the gain
-  pub spun_gains : (h : LockNo) → h.0 ≡ l → (w : Knowledge) → w ≡ seeing w.seen (gained b (as_taken h Excl))
-      → Makes floor (Gains b.thread l Excl false ∷ []) b w → SpinsThenGains floor (as_taken h Excl) n a w
-  spun_gains h same w view step = record {
+  pub spun_gains : (h : LockNo) → h.0 ≡ l → (mode : Mode) (w : Knowledge)
+      → w ≡ seeing w.seen (gained b (as_taken h mode)) → Makes floor (Gains b.thread l mode false ∷ []) b w
+      → SpinsThenGains floor (as_taken h mode) n a w
+  spun_gains h same mode w view step = record {
     between = b;
     spun = subst (λ k. HasSpun floor k n a b) (sym same) x;
     view = view;
-    step = subst (λ (z : ℕ × ℕ). Makes floor (Gains z.0 z.1 Excl false ∷ []) b w) (λ i. (its_thread i, sym same i))
+    step = subst (λ (z : ℕ × ℕ). Makes floor (Gains z.0 z.1 mode false ∷ []) b w) (λ i. (its_thread i, sym same i))
         step;
   }
 
-  pub spun_gains_on : (h : LockNo) → h.0 ≡ l → (k : ℕ) (w : Knowledge) → SpinsThenGains floor (as_taken h Excl) k b w
-      → SpinsThenGains floor (as_taken h Excl) (n + k) a w
-  spun_gains_on h same k w g = record {
+  pub spun_gains_on : (h : LockNo) → h.0 ≡ l → (mode : Mode) (k : ℕ) (w : Knowledge)
+      → SpinsThenGains floor (as_taken h mode) k b w → SpinsThenGains floor (as_taken h mode) (n + k) a w
+  spun_gains_on h same mode k w g = record {
     between = g.between;
     spun = subst (λ j. HasSpun floor j (n + k) a g.between) (sym same)
         (spun_more k g.between (subst (λ j. HasSpun floor j k b g.between) same g.spun));
     view = g.view;
-    step = subst (λ t. Makes floor (Gains t h.0 Excl false ∷ []) g.between w) its_thread g.step;
+    step = subst (λ t. Makes floor (Gains t h.0 mode false ∷ []) g.between w) its_thread g.step;
   }
 
 -- 4. What a take keeps
@@ -285,10 +354,10 @@ gaining l v m = record {
   nothing_out = m.nothing_out;
 }
 
-module _ (floor : Description) (l : LockNo) (old : Knowledge) where
+module _ (floor : Description) (l : LockNo) (mode : Mode) (old : Knowledge) where
   -- it gained the lock at once
-  pub gained_at_once : MayGain floor l.0 old → (v : Knowledge) → GainsAtOnce floor (as_taken l Excl) old v
-      → HasGained l old v
+  pub gained_at_once : MayGain floor l.0 old → (v : Knowledge) → GainsAtOnce floor (as_taken l mode) old v
+      → HasGained l mode old v
   gained_at_once m v g = record {
     before = sought old l.0 false;
     kept = refl;
@@ -303,8 +372,8 @@ module _ (floor : Description) (l : LockNo) (old : Knowledge) where
   }
 
   -- or in its round
-  pub gained_in_round : (v : Knowledge) (n : ℕ) → IsSeeking l.0 old → SpinsThenGains floor (as_taken l Excl) n old v
-      → HasGained l old v
+  pub gained_in_round : (v : Knowledge) (n : ℕ) → IsSeeking l.0 old → SpinsThenGains floor (as_taken l mode) n old v
+      → HasGained l mode old v
   gained_in_round v n m s = record {
     before = s.between;
     kept = ap kept_of s.spun.knows;

@@ -1,9 +1,9 @@
 -- A take has begun: by its first exchange it gained the lock, or the lock's order is to be checked.
-use Rattle.std.proofs.Common.{◌≡◌, true, [], ◌∷◌, replicate, refl, sym, ap, ◌∙◌, subst, arith}
+use Rattle.std.proofs.Common.{◌≡◌, true, [], ◌∷◌, refl, sym, ap, ◌∙◌, subst, arith}
 use Rattle.lock_model.specs.declared.event.Event.TheVariants.{Locked}
 use Rattle.lock_model.specs.declared.numbers.LockNo.{LockNo}
-use Rattle.lock_model.specs.declared.plan.Mode.TheVariants.{Excl}
-use Rattle.lock_state.specs.Steps.{Looks, Stamps}
+use Rattle.lock_model.specs.declared.plan.Mode.{Mode}
+use Rattle.lock_state.specs.Steps.{Stamps}
 use Rattle.floor_table.specs.declared.description.Description.{Description}
 use Rattle.floor_table.specs.Steps.{Makes, MakesEach}
 use Rattle.floor_table.specs.Views.{Knowledge}
@@ -12,44 +12,43 @@ use Rattle.lock_floor.specs.declared.calls.TakeAt.TheVariants.{Checks}
 use Rattle.lock_floor.specs.Floors.{Pass}
 use Rattle.lock_floor.specs.Passes.{IsAtRest}
 use Rattle.lock_calls.specs.declared.answers.Next.TheVariants.{Done, Again}
-use Rattle.lock_calls.specs.Steps.{MayTake, as_taken, gains_at_once}
+use Rattle.lock_calls.specs.Steps.{MayTake, HasMissedFirst, as_taken, gains_at_once}
 use Rattle.lock_calls.specs.Takes.{IsUnderTake, HasTaken, HasBegunTake}
 use Rattle.lock_calls.specs.Waiting.{Kept, kept_of, IsCalling, GainsAtOnce, HasMissed}
 use Rattle.lock_calls.proofs.Attempts.{is_checking}
 use Rattle.lock_calls.proofs.Calls.{call_noted, view_noted}
 
-pub gains_first : (floor : Description) (l : LockNo) (old v new q : Pass Knowledge)
-    → old.view.share.held ≡ [] → GainsAtOnce floor (as_taken l Excl) old.view v.view
-    → HasTaken floor l Excl old.view new.view
-    → Makes floor (Stamps old.view.thread (Locked l Excl) ∷ []) v.view new.view → q ≡ record new { call = calls.None }
-    → HasBegunTake floor l Excl Done old q
-gains_first floor l old v new q bare gains taken notes is =
+pub gains_first : (floor : Description) (l : LockNo) (mode : Mode) (old v new q : Pass Knowledge)
+    → old.view.share.held ≡ [] → GainsAtOnce floor (as_taken l mode) old.view v.view
+    → HasTaken floor l mode old.view new.view
+    → Makes floor (Stamps old.view.thread (Locked l mode) ∷ []) v.view new.view → q ≡ record new { call = calls.None }
+    → HasBegunTake floor l mode Done old q
+gains_first floor l mode old v new q bare gains taken notes is =
     let same : new.view ≡ q.view = sym (view_noted new q calls.None is) in (
       call_noted new q calls.None is,
       bare,
-      subst (HasTaken floor l Excl old.view) same taken,
-      subst (λ k. MakesEach floor (gains_at_once old.view.thread l.0 Excl
-          ∷ (Stamps old.view.thread (Locked l Excl) ∷ []) ∷ []) old.view k) same
+      subst (HasTaken floor l mode old.view) same taken,
+      subst (λ k. MakesEach floor (gains_at_once old.view.thread l.0 mode
+          ∷ (Stamps old.view.thread (Locked l mode) ∷ []) ∷ []) old.view k) same
           (v.view, gains.step, (new.view, notes, refl)),
     )
 
-pub has_begun : (floor : Description) (l : LockNo) (old v q : Pass Knowledge) → MayTake floor l.0 Excl old.view
-    → IsCalling floor (kept_of old.view) → IsAtRest floor old.view → HasMissed floor l.0 old.view v.view
-    → q ≡ record v { call = calls.Take l Excl Checks } → HasBegunTake floor l Excl Again old q
-has_begun floor l old v q may calling r h is =
-    let same : v.view ≡ q.view = sym (view_noted v q (calls.Take l Excl Checks) is) in
+pub has_begun : (floor : Description) (l : LockNo) (mode : Mode) (old v q : Pass Knowledge)
+    → MayTake floor l.0 mode old.view
+    → IsCalling floor (kept_of old.view) → IsAtRest floor old.view → HasMissed floor l.0 mode old.view v.view
+    → q ≡ record v { call = calls.Take l mode Checks } → HasBegunTake floor l mode Again old q
+has_begun floor l mode old v q may calling r h is =
+    let same : v.view ≡ q.view = sym (view_noted v q (calls.Take l mode Checks) is) in
     let kept : kept_of v.view ≡ kept_of old.view = ap kept_of h.knows in
     record {
-      call = call_noted v q (calls.Take l Excl Checks) is;
-      there = subst (IsUnderTake floor l Excl Checks) same record {
+      call = call_noted v q (calls.Take l mode Checks) is;
+      there = subst (IsUnderTake floor l mode Checks) same record {
         covered = may.covered;
         calling = subst (IsCalling floor) (sym kept) calling;
         room = omega (arith, may.room, ap (λ (k : Kept). k.spare) kept);
-        there = is_checking floor l.0 old.view v.view r may.unheld may.few h;
+        there = is_checking floor l.0 mode old.view v.view r may.unheld may.few h;
       };
       kept = ap kept_of (sym same) ∙ kept;
       missed = h.missed;
-      first = h.first;
-      steps = subst (λ k. MakesEach floor (replicate h.missed (Looks old.view.thread l.0 true ∷ [])) old.view k) same
-          h.steps;
+      first = subst (HasMissedFirst floor l.0 mode h.missed old.view) same h.first;
     }

@@ -1,10 +1,10 @@
 -- A take has the order of its lock checked: admitted, a round of the lock begins; refused, that is noted, and the call
 -- is over. A thread that holds nothing is never refused.
-use Rattle.std.proofs.Common.{◌≡◌, ℕ, suc, true, false, cond, [], ◌∷◌, Some, None, refl, sym, ap, ◌∙◌, subst, inl, arith}
+use Rattle.std.proofs.Common.{◌≡◌, ◌≢◌, ℕ, suc, ◌<◌, length, true, false, cond, [], ◌∷◌, Some, None, refl, sym, ap, ◌∙◌, subst, inl, arith}
 use Rattle.lock_model.specs.Words.{Word, word_of}
 use Rattle.lock_model.specs.declared.event.Event.TheVariants.{Locked}
 use Rattle.lock_model.specs.declared.numbers.LockNo.{LockNo}
-use Rattle.lock_model.specs.declared.plan.Mode.TheVariants.{Excl}
+use Rattle.lock_model.specs.declared.plan.Mode.{Mode}
 use Rattle.lock_state.specs.State.{Look}
 use Rattle.lock_state.specs.Steps.{Seeks, Looks, Gains, Stamps}
 use Rattle.lock_state.specs.Steps.Items.{ClassGraph}
@@ -18,11 +18,12 @@ use Rattle.lock_floor.specs.Latches.{FindsOut}
 use Rattle.lock_floor.specs.Ordering.{ChecksOrder, checks}
 use Rattle.lock_floor.specs.Views.{counts, looked, sought}
 use Rattle.lock_floor.proofs.May.{BeginsRound, counts_there, may_seek, may_seek_gain}
-use Rattle.lock_calls.specs.Steps.{IsMutex, as_taken, gains_at_once}
+use Rattle.lock_calls.specs.Steps.{IsCovered, as_taken, gains_at_once}
 use Rattle.lock_calls.specs.Takes.{TakesOn, TakeEnd, admitted, at_check, finds_out}
 use Rattle.lock_calls.specs.Waiting.{kept_of, IsChecking, MaySeek, IsSeeking, HasBegun, GainsAtOnce, HasGained}
-use Rattle.lock_calls.proofs.Attempts.{plainly, unhalted}
+use Rattle.lock_calls.proofs.Attempts.{free_admits, plainly, unhalted}
 use Rattle.lock_calls.proofs.Looks.{each_append}
+use Rattle.lock_calls.proofs.Words.{other_word}
 
 -- 1. The begin of a round, the lock of which is admitted
 
@@ -42,30 +43,37 @@ begins_it l v m = record {
   going = m.going;
 }
 
-pub may_seek_and_gain : (floor : Description) (l : ℕ) (v : Knowledge) → IsMutex floor l → MaySeek l v
-    → MayMake floor v (λ s. s.word l ≡ word_of 0) (Seeks v.thread l false ∷ Gains v.thread l Excl false ∷ [])
-may_seek_and_gain floor l v mutex m =
-    may_seek_gain floor v l Excl false (word_of 0) mutex.lock refl (plainly ((config_in floor).kind l) mutex.kind)
-    (λ w. m.takes) (begins_it l v m)
+pub may_seek_and_gain : (floor : Description) (l : ℕ) (mode : Mode) (v : Knowledge) → IsCovered floor l mode
+    → MaySeek l v
+    → MayMake floor v (λ s. s.word l ≡ word_of 0) (Seeks v.thread l false ∷ Gains v.thread l mode false ∷ [])
+may_seek_and_gain floor l mode v covered m =
+    may_seek_gain floor v l mode false (word_of 0) covered.lock
+    (free_admits ((config_in floor).kind l) mode covered.mutex) (plainly ((config_in floor).kind l) mode) (λ w. m.takes)
+    (begins_it l v m)
 
-pub may_seek_and_look : (floor : Description) (l : ℕ) (v : Knowledge) → IsMutex floor l → MaySeek l v
+pub may_seek_and_look : (floor : Description) (l : ℕ) (v : Knowledge) → l < length floor.locks → MaySeek l v
     → MayMake floor v (λ s. Unit {0}) (Seeks v.thread l false ∷ Looks v.thread l true ∷ [])
-may_seek_and_look floor l v mutex m = may_seek floor v l false mutex.lock (begins_it l v m) (λ e. m.wants)
+may_seek_and_look floor l v low m = may_seek floor v l false low (begins_it l v m) (λ e. m.wants)
 
 module _ (floor : Description) (l : ℕ) (v : Knowledge) (m : MaySeek l v) where
   -- the lock is taken already
   takes_it : taking_from false v.share.doing.wanted l v.share.doing.taking ≡ Some l
   takes_it = ap (λ w. taking_from false w l v.share.doing.taking) m.wants ∙ m.takes
 
-  pub has_begun : (w : Knowledge) (word : Word) → w ≡ seeing w.seen (looked (sought v l false) l word)
+  pub has_begun : (w : Knowledge) (found : ℕ) → found ≢ 0
+      → w ≡ seeing w.seen (looked (sought v l false) l (word_of found))
       → Makes floor (Seeks v.thread l false ∷ Looks v.thread l true ∷ []) v w → HasBegun floor l v w
-  has_begun w word view step =
+  has_begun w found other view step =
+      let word : Word = word_of found in
       let look : Look = record { lock = l; word = word } in
       let counted : counts (sought v l false) l ≡ true =
       counts_there floor (sought v l false) l false m.nothing_out refl in
       record {
+        found = word;
+        other = other_word found 0 other;
         all = suc v.share.doing.looks_in_all;
         last = Some look;
+        is_last = refl;
         seen = Some look;
         knows = view ∙ (λ i. seeing w.seen (record v {
           share = record v.share {
@@ -99,10 +107,10 @@ module _ (floor : Description) (l : ℕ) (v : Knowledge) (m : MaySeek l v) where
 -- 2. The check
 
 -- another thread has the class graph
-pub stays_checking : (floor : Description) (l : LockNo) (old new : Knowledge)
+pub stays_checking : (floor : Description) (l : LockNo) (mode : Mode) (old new : Knowledge)
     → IsChecking floor l.0 old → new ≡ seeing new.seen old → FindsOut floor ClassGraph old new
-    → TakesOn floor l Excl Checks Checks old new
-stays_checking floor l old new there is found = record {
+    → TakesOn floor l mode Checks Checks old new
+stays_checking floor l mode old new there is found = record {
   there = subst (IsChecking floor l.0) (sym is) record {
     unheld = there.unheld;
     may = record {
@@ -129,7 +137,7 @@ stays_checking floor l old new there is found = record {
   leg = finds_out Checks ClassGraph refl is found;
 }
 
-module _ (floor : Description) (l : LockNo) (old mid : Knowledge) (there : IsChecking floor l.0 old)
+module _ (floor : Description) (l : LockNo) (mode : Mode) (old mid : Knowledge) (there : IsChecking floor l.0 old)
     (checked : ChecksOrder floor l.0 None old mid) where
   same_thread : mid.thread ≡ old.thread
   same_thread = ap (λ (k : Knowledge). k.thread) checked.view
@@ -158,8 +166,8 @@ module _ (floor : Description) (l : LockNo) (old mid : Knowledge) (there : IsChe
   }
 
   -- it begins and ends with the gain
-  module _ (v : Knowledge) (g : GainsAtOnce floor (as_taken l Excl) mid v) where
-    pub gained_checked : HasGained l old v
+  module _ (v : Knowledge) (g : GainsAtOnce floor (as_taken l mode) mid v) where
+    pub gained_checked : HasGained l mode old v
     gained_checked = record {
       before = sought mid l.0 false;
       kept = same_kept;
@@ -173,17 +181,17 @@ module _ (floor : Description) (l : LockNo) (old mid : Knowledge) (there : IsChe
       view = g.view;
     }
 
-    pub ends_checked : (new : Knowledge) → Makes floor (Stamps old.thread (Locked l Excl) ∷ []) v new
-        → TakeEnd floor l Excl Checks old new
+    pub ends_checked : (new : Knowledge) → Makes floor (Stamps old.thread (Locked l mode) ∷ []) v new
+        → TakeEnd floor l mode Checks old new
     ends_checked new notes =
-        let gains : Makes floor (gains_at_once old.thread l.0 Excl) mid v =
-        subst (λ t. Makes floor (gains_at_once t l.0 Excl) mid v) same_thread g.step in
+        let gains : Makes floor (gains_at_once old.thread l.0 mode) mid v =
+        subst (λ t. Makes floor (gains_at_once t l.0 mode) mid v) same_thread g.step in
         at_check (each_append floor (checks old.thread l.0 None)
-        (gains_at_once old.thread l.0 Excl ∷ (Stamps old.thread (Locked l Excl) ∷ []) ∷ []) old mid new checked.steps
+        (gains_at_once old.thread l.0 mode ∷ (Stamps old.thread (Locked l mode) ∷ []) ∷ []) old mid new checked.steps
         (v, gains, (new, notes, refl)))
 
   -- or it begins with a look
-  pub spins_checked : (new : Knowledge) → HasBegun floor l.0 mid new → TakesOn floor l Excl Checks (Spins 48) old new
+  pub spins_checked : (new : Knowledge) → HasBegun floor l.0 mid new → TakesOn floor l mode Checks (Spins 48) old new
   spins_checked new b =
       let looks : new.share.doing.looks ≡ 1 = ap (λ (k : Knowledge). k.share.doing.looks) b.knows in
       let begins : Makes floor (Seeks old.thread l.0 false ∷ Looks old.thread l.0 true ∷ []) mid new =
@@ -191,8 +199,9 @@ module _ (floor : Description) (l : LockNo) (old mid : Knowledge) (there : IsChe
       record {
         there = (seeks_it floor l.0 mid may_seek_on new b, omega (arith, looks));
         kept = ap kept_of b.knows ∙ same_kept;
-        leg = admitted 48 (omega arith)
+        leg = admitted 48 b.found (omega arith)
             (each_append floor (checks old.thread l.0 None)
             ((Seeks old.thread l.0 false ∷ Looks old.thread l.0 true ∷ []) ∷ []) old mid new checked.steps
-            (new, begins, refl));
+            (new, begins, refl))
+            (ap (λ (k : Knowledge). k.share.doing.last_look) b.knows ∙ b.is_last) b.other;
       }

@@ -6,7 +6,7 @@ use Rattle.lock_model.specs.Queues.{lock_queue, side_of}
 use Rattle.lock_model.specs.declared.event.Event.TheVariants.{Locked}
 use Rattle.lock_model.specs.declared.event.Held.{Held}
 use Rattle.lock_model.specs.declared.numbers.LockNo.{LockNo}
-use Rattle.lock_model.specs.declared.plan.Mode.TheVariants.{Excl}
+use Rattle.lock_model.specs.declared.plan.Mode.{Mode}
 use Rattle.lock_objects.specs.Enters.{waiter_of, record_entered, chain_entered}
 use Rattle.lock_objects.specs.Represents.{walk_of}
 use Rattle.lock_state.specs.Steps.{Looks, Unreadies, Stamps}
@@ -25,19 +25,18 @@ use Rattle.lock_floor.specs.Views.{gained}
 use Rattle.lock_floor.specs.Waits.{readied, both_out, out_entered, entered}
 use Rattle.lock_floor.specs.Walks.{IsOnFloor, CanWalk}
 use Rattle.lock_floor.proofs.MayWait as wait
-use Rattle.lock_calls.specs.Steps.{IsMutex, as_taken, gives_both}
+use Rattle.lock_calls.specs.Steps.{IsCovered, as_taken, gives_both}
 use Rattle.lock_calls.specs.Takes.{IsStanding, TakesOn, TakeEnd, in_section, enters, looks_there}
 use Rattle.lock_calls.specs.Waiting.{kept_of, IsCalling, IsThere, GainsStep, EntersStep, MissesThere, HasGained, with_none_out}
 use Rattle.lock_calls.proofs.Looks.{each_append}
-use Rattle.lock_calls.proofs.Owned.{chains_turnstile}
 use Rattle.lock_calls.proofs.There.{quiet_there, contends}
 
 -- 1. It gained the lock
 
-module _ (floor : Description) (l : LockNo) (a b : Knowledge) (calls : IsCalling floor (kept_of a))
-    (there : IsThere floor l.0 a) (g : GainsStep floor l a b) where
+module _ (floor : Description) (l : LockNo) (mode : Mode) (a b : Knowledge) (calls : IsCalling floor (kept_of a))
+    (there : IsThere floor l.0 a) (g : GainsStep floor l mode a b) where
   abbrev hold : Held
-  hold = as_taken l Excl
+  hold = as_taken l mode
 
   its_gained : b.thread ≡ a.thread
   its_gained = ap (λ (k : Knowledge). k.thread) g.view
@@ -49,30 +48,21 @@ module _ (floor : Description) (l : LockNo) (a b : Knowledge) (calls : IsCalling
     stamped = ap (λ (k : Knowledge). k.share.doing.unstamped) g.view ∙ calls.going.stamped;
   }
 
-  out_gained : b.out ≡ both_out floor b.thread l.0 there.both.box there.both.chain
-  out_gained = ap (λ (k : Knowledge). k.out) g.view ∙ there.both.out
-      ∙ ap (λ t. both_out floor t l.0 there.both.box there.both.chain) (sym its_gained)
-
   pub may_run_on : MayMake floor b (λ s. Unit {0}) (Unreadies b.thread (lock_queue l.0) ∷ [])
   may_run_on =
-      wait.may_unready floor b (lock_queue l.0) (Record there.both.box) (Turnstiles there.both.chain) out_gained
+      wait.may_unready floor b (lock_queue l.0) (Record g.both.box) (Turnstiles g.both.chain) g.both.out
       (ap (λ (k : Knowledge). k.pose) g.view ∙ there.ready) gained_going
       (λ back e f h.
       let z : true ≡ false = sym back ∙ ap (λ (k : Knowledge). is_taking_back k.share.log) g.view ∙ calls.no_wait in
       cc)
 
   module _ (w : Knowledge) (view : w ≡ seeing w.seen (readied false b)) where
-    ran_is : w ≡ seeing w.seen (readied false (gained a hold))
+    ran_is : w ≡ seeing w.seen (readied false (record (gained a hold) { out = g.out }))
     ran_is = view ∙ ap (λ (k : Knowledge). seeing w.seen (readied false k)) g.view
 
     pub both_ran : HasBothOut floor l.0 w
-    both_ran = record {
-      box = there.both.box;
-      chain = there.both.chain;
-      out = ap (λ (k : Knowledge). k.out) view ∙ out_gained
-          ∙ ap (λ t. both_out floor t l.0 there.both.box there.both.chain)
-          (sym (ap (λ (k : Knowledge). k.thread) view));
-    }
+    both_ran = subst (HasBothOut floor l.0) (sym view)
+        (record { box = g.both.box; chain = g.both.chain; out = g.both.out })
 
     pub runs_on : w.pose ≡ Runs
     runs_on = ap (λ (k : Knowledge). k.pose) view
@@ -88,7 +78,7 @@ module _ (floor : Description) (l : LockNo) (a b : Knowledge) (calls : IsCalling
     }
 
     module _ (z : Knowledge) (given : z ≡ seeing z.seen (with_none_out w)) where
-      pub gained_there : HasGained l a z
+      pub gained_there : HasGained l mode a z
       gained_there = record {
         before = with_none_out (readied false a);
         kept = refl;
@@ -104,34 +94,35 @@ module _ (floor : Description) (l : LockNo) (a b : Knowledge) (calls : IsCalling
 
       pub ends_there : (seen : ℕ) (new : Knowledge) → Makes floor (Unreadies b.thread (lock_queue l.0) ∷ []) b w
           → MakesEach floor (gives_both floor w.thread l.0) w z
-          → Makes floor (Stamps a.thread (Locked l Excl) ∷ []) z new → TakeEnd floor l Excl (Contends seen) a new
+          → Makes floor (Stamps a.thread (Locked l mode) ∷ []) z new → TakeEnd floor l mode (Contends seen) a new
       ends_there seen new runs gives notes =
           let run_step : Makes floor (Unreadies a.thread (lock_queue l.0) ∷ []) b w =
           subst (λ t. Makes floor (Unreadies t (lock_queue l.0) ∷ []) b w) its_gained runs in
           let give_steps : MakesEach floor (gives_both floor a.thread l.0) w z =
           subst (λ t. MakesEach floor (gives_both floor t l.0) w z) (ap (λ (k : Knowledge). k.thread) ran_is) gives in
-          in_section seen (
+          in_section seen g.gain g.is_gain (
             b,
             g.step,
             (
               w,
               run_step,
-              each_append floor (gives_both floor a.thread l.0) ((Stamps a.thread (Locked l Excl) ∷ []) ∷ []) w z new
+              each_append floor (gives_both floor a.thread l.0) ((Stamps a.thread (Locked l mode) ∷ []) ∷ []) w z new
                   give_steps (new, notes, refl),
             ),
           )
 
 -- 2. It stands on the lock's turnstile
 
-on_floor : (floor : Description) (l : ℕ) → IsMutex floor l → (o : Option ℕ) → IsOnFloor floor (walk_up l o)
-on_floor floor l mutex None = tt
-on_floor floor l mutex (Some t) = (mutex.lock, chains_turnstile floor l mutex)
+on_floor : (floor : Description) (l : ℕ) (mode : Mode) → IsCovered floor l mode → (o : Option ℕ)
+    → IsOnFloor floor (walk_up l o)
+on_floor floor l mode covered None = tt
+on_floor floor l mode covered (Some t) = (covered.lock, covered.turnstile)
 
-module _ (floor : Description) (l : LockNo) (mutex : IsMutex floor l.0) (one_chain : floor.chains ≡ 1) (a b : Knowledge)
-    (calls : IsCalling floor (kept_of a)) (there : IsThere floor l.0 a) (to : run_time.Walk)
-    (e : EntersStep floor l.0 (walk_of to) a b) where
+module _ (floor : Description) (l : LockNo) (mode : Mode) (covered : IsCovered floor l.0 mode)
+    (one_chain : floor.chains ≡ 1) (a b : Knowledge) (calls : IsCalling floor (kept_of a)) (there : IsThere floor l.0 a)
+    (to : run_time.Walk) (e : EntersStep floor l.0 mode (walk_of to) a b) where
   abbrev stands : Knowledge
-  stands = entered a l.0 e.owner (out_entered floor a.thread l.0 Excl e.turnstile e.owner e.both.box e.both.chain)
+  stands = entered a l.0 e.owner (out_entered floor a.thread l.0 mode e.turnstile e.owner e.both.box e.both.chain)
 
   its_stands : b.thread ≡ a.thread
   its_stands = ap (λ (k : Knowledge). k.thread) e.view
@@ -139,7 +130,7 @@ module _ (floor : Description) (l : LockNo) (mutex : IsMutex floor l.0) (one_cha
   pub both_stands : HasBothOut floor l.0 b
   both_stands =
       let box = with_value e.both.box (record_entered l.0 e.both.box.value) in
-      let chain = chain_entered l.0 (side_of Excl) e.turnstile e.owner (waiter_of e.both.box.value) e.both.chain in
+      let chain = chain_entered l.0 (side_of mode) e.turnstile e.owner (waiter_of e.both.box.value) e.both.chain in
       record {
         box = box;
         chain = chain;
@@ -179,7 +170,7 @@ module _ (floor : Description) (l : LockNo) (mutex : IsMutex floor l.0) (one_cha
     can_walk : CanWalk floor w
     can_walk = record {
       one_chain = one_chain;
-      on_floor = subst (IsOnFloor floor) (sym walk_there) (on_floor floor l.0 mutex e.owner);
+      on_floor = subst (IsOnFloor floor) (sym walk_there) (on_floor floor l.0 mode covered e.owner);
       settled = λ ready. let z : StandsOn (lock_queue l.0) ≡ IsReady = sym (ap (λ (k : Knowledge). k.pose) given_is)
           ∙ ready in cc;
       nothing_out = ap (λ (k : Knowledge). k.out) given_is;
@@ -192,7 +183,7 @@ module _ (floor : Description) (l : LockNo) (mutex : IsMutex floor l.0) (one_cha
     }
 
     pub enters_on : (seen : ℕ) → MakesEach floor (gives_both floor b.thread l.0) b w
-        → TakesOn floor l Excl (Contends seen) (Walks to) a w
+        → TakesOn floor l mode (Contends seen) (Walks to) a w
     enters_on seen gives =
         let give_steps : MakesEach floor (gives_both floor a.thread l.0) b w =
         subst (λ t. MakesEach floor (gives_both floor t l.0) b w) its_stands gives in
@@ -204,14 +195,14 @@ module _ (floor : Description) (l : LockNo) (mutex : IsMutex floor l.0) (one_cha
 
 -- 3. Its exchange missed
 
-pub misses_on : (floor : Description) (l : LockNo) (seen found : ℕ) (v w : Knowledge) → IsMutex floor l.0
-    → v.description ≡ floor → floor.chains ≡ 1 → 1 ≤ floor.chains → IsThere floor l.0 v
-    → MissesThere floor l.0 found v w
-    → TakesOn floor l Excl (Contends seen) (Contends found) v w
-misses_on floor l seen found v w mutex mine one some_chains m x = record {
-  there = contends floor l.0 found v w mutex mine some_chains m x.formed x.view x.step;
+pub misses_on : (floor : Description) (l : LockNo) (mode : Mode) (seen found : ℕ) (v w : Knowledge)
+    → IsCovered floor l.0 mode → v.description ≡ floor → floor.chains ≡ 1 → 1 ≤ floor.chains → IsThere floor l.0 v
+    → MissesThere floor l.0 seen found v w
+    → TakesOn floor l mode (Contends seen) (Contends found) v w
+misses_on floor l mode seen found v w covered mine one some_chains m x = record {
+  there = contends floor l.0 mode found v w covered mine some_chains m x.view x.step;
   kept = ap kept_of x.view;
-  leg = looks_there seen found
-      (subst (λ c. Makes floor (Looks v.thread l.0 c ∷ []) v w) (quiet_there floor l.0 v mutex m mine some_chains)
-      x.step);
+  leg = looks_there seen found x.other
+      (subst (λ c. Makes floor (Looks v.thread l.0 c ∷ []) v w)
+      (quiet_there floor l.0 mode v covered m mine some_chains) x.step);
 }

@@ -65,7 +65,7 @@ module _ (floor : Description) (l : LockNo) (mode : Mode) (next : Next) (p q : P
         d.call,
         d.there,
         d.kept,
-        begins_at floor l.0 mode p.view q.view d.missed d.first d.steps,
+        begins_at floor l.0 mode p.view q.view d.missed d.first,
       )
 
   pub begins_on : (next ≡ Sleep) ⊎ (((t : ThreadNo) × (next ≡ Wake t)) ⊎ ((r : Reversal) × (next ≡ Reversed r))) → ⊥

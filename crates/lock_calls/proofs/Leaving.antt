@@ -2,9 +2,9 @@
 -- both back, and wakes those whom it took off. Where it stands behind each part.
 use Rattle.std.proofs.Common.{◌≡◌, ℕ, ◌<◌, suc, Bool, true, false, cond, Option, Some, None, List, [], ◌∷◌, length, refl, sym, ap, ◌∙◌, subst}
 use Rattle.lock_model.specs.Queues.{lock_queue}
-use Rattle.lock_model.specs.Words.{word_of, IsWellFormed}
+use Rattle.lock_model.specs.Words.{word_of, IsWellFormed, is_turnstile}
 use Rattle.lock_model.specs.declared.numbers.LockNo.{LockNo}
-use Rattle.lock_model.specs.declared.plan.Mode.TheVariants.{Excl}
+use Rattle.lock_model.specs.declared.plan.Mode.{Mode}
 use Rattle.lock_state.specs.State.{Look}
 use Rattle.lock_state.specs.Steps.{Step, Looks, TakesItem, IsOfRound}
 use Rattle.lock_state.specs.Steps.Items.{RecordOf, item_with, in_its_chain, is_bound}
@@ -26,10 +26,10 @@ use Rattle.lock_floor.proofs.MayWait.{is_a_chain}
 use Rattle.lock_floor.proofs.May.{counts_not}
 use Rattle.lock_floor.proofs.Resting.{rest_seeing}
 use Rattle.lock_calls.specs.Releases.{IsLeaving, LeavesWithChain, LeavesWithBoth, ReleasesOn, noted_of, takes_chain, comes_in, looks, makes_free, finds_out}
-use Rattle.lock_calls.specs.Steps.{IsMutex, gives_both}
+use Rattle.lock_calls.specs.Steps.{gives_both}
 use Rattle.lock_calls.specs.Waiting.{with_looks, with_none_out, MayLetGo, IsOwn, LetsGo, MissesOwn}
 use Rattle.lock_calls.proofs.Looks.{look_knows, wants_none}
-use Rattle.lock_calls.proofs.Owned.{chains_turnstile, saw_own}
+use Rattle.lock_calls.proofs.Owned.{saw_own}
 
 -- 1. What stays
 
@@ -54,8 +54,8 @@ rest_looks_on floor v all seen r = record {
   begun = r.begun;
 }
 
-module _ (floor : Description) (l : ℕ) (v : Knowledge) (m : IsLeaving floor l v) where
-  leaving_seeing : (steps : List Step) → IsLeaving floor l (seeing steps v)
+module _ (floor : Description) (l : ℕ) (mode : Mode) (v : Knowledge) (m : IsLeaving floor l mode v) where
+  leaving_seeing : (steps : List Step) → IsLeaving floor l mode (seeing steps v)
   leaving_seeing steps = record {
     may = record {
       held = m.may.held;
@@ -79,7 +79,7 @@ module _ (floor : Description) (l : ℕ) (v : Knowledge) (m : IsLeaving floor l 
     rest_then = λ unheld. rest_seeing floor (put_down v l) steps (m.rest_then unheld);
   }
 
-  pub leaving_looked : (all : ℕ) (last seen : Option Look) → IsLeaving floor l (with_looks v all last seen)
+  pub leaving_looked : (all : ℕ) (last seen : Option Look) → IsLeaving floor l mode (with_looks v all last seen)
   leaving_looked all last seen = record {
     may = record {
       held = m.may.held;
@@ -103,14 +103,15 @@ module _ (floor : Description) (l : ℕ) (v : Knowledge) (m : IsLeaving floor l 
     rest_then = λ unheld. rest_looks_on floor (put_down v l) all seen (m.rest_then unheld);
   }
 
-pub leaving_still : (floor : Description) (l : ℕ) (v w : Knowledge) → w ≡ seeing w.seen v → IsLeaving floor l v
-    → IsLeaving floor l w
-leaving_still floor l v w view m = subst (IsLeaving floor l) (sym view) (leaving_seeing floor l v m w.seen)
+pub leaving_still : (floor : Description) (l : ℕ) (mode : Mode) (v w : Knowledge) → w ≡ seeing w.seen v
+    → IsLeaving floor l mode v → IsLeaving floor l mode w
+leaving_still floor l mode v w view m = subst (IsLeaving floor l mode) (sym view)
+    (leaving_seeing floor l mode v m w.seen)
 
 -- with both out it may let go
-pub may_let : (floor : Description) (l : ℕ) (v : Knowledge) → IsLeaving floor l (with_none_out v)
-    → HasBothOut floor l v → MayLetGo floor l v
-may_let floor l v m both = record {
+pub may_let : (floor : Description) (l : ℕ) (mode : Mode) (v : Knowledge) → IsLeaving floor l mode (with_none_out v)
+    → HasBothOut floor l v → MayLetGo floor l mode v
+may_let floor l mode v m both = record {
   held = m.may.held;
   closed = m.may.closed;
   begun = m.may.begun;
@@ -129,7 +130,7 @@ may_let floor l v m both = record {
 
 -- 2. The chain
 
-module _ (floor : Description) (l : LockNo) (v : Knowledge) (m : IsLeaving floor l.0 v) where
+module _ (floor : Description) (l : LockNo) (mode : Mode) (v : Knowledge) (m : IsLeaving floor l.0 mode v) where
   pub may_take_there : MayMake floor v (λ s. item_with s (its_chain floor (lock_queue l.0)) ≡ None)
       (TakesItem v.thread (its_chain floor (lock_queue l.0)) ∷ [])
   may_take_there =
@@ -137,11 +138,11 @@ module _ (floor : Description) (l : LockNo) (v : Knowledge) (m : IsLeaving floor
       (subst (λ r. IsOfRound floor.chains (config_in floor) r (its_chain floor (lock_queue l.0)))
       (sym m.may.looks.no_round) tt) (wants_none v m.may.looks.no_round)
 
-  pub comes_on : IsMutex floor l.0 → (a : Knowledge)
+  pub comes_on : is_turnstile ((config_in floor).kind l.0) ≡ true → (a : Knowledge)
       → Takes floor (its_chain floor (lock_queue l.0)) (chain_place floor (lock_queue l.0)) v a
-      → ReleasesOn floor l Excl ComesTo ComesIn v a
-  comes_on mutex a one =
-      let chain = chain_out floor l.0 v a one (chains_turnstile floor l.0 mutex) m.may.looks.nothing_out in
+      → ReleasesOn floor l mode ComesTo ComesIn v a
+  comes_on turnstile a one =
+      let chain = chain_out floor l.0 v a one turnstile m.may.looks.nothing_out in
       let round : cond true (in_its_chain v.share.doing.round) v.share.doing.round ≡ v.share.doing.round =
       ap in_its_chain m.may.looks.no_round ∙ sym m.may.looks.no_round in
       let bare : with_none_out a
@@ -163,9 +164,9 @@ module _ (floor : Description) (l : LockNo) (v : Knowledge) (m : IsLeaving floor
       })) in
       record {
         there = record {
-          leaving = subst (IsLeaving floor l.0) (sym bare)
-              (leaving_seeing floor l.0 (with_looks v v.share.doing.looks_in_all v.share.doing.last_look None)
-              (leaving_looked floor l.0 v m v.share.doing.looks_in_all v.share.doing.last_look None) a.seen);
+          leaving = subst (IsLeaving floor l.0 mode) (sym bare)
+              (leaving_seeing floor l.0 mode (with_looks v v.share.doing.looks_in_all v.share.doing.last_look None)
+              (leaving_looked floor l.0 mode v m v.share.doing.looks_in_all v.share.doing.last_look None) a.seen);
           chain = chain.0;
           out = chain.1;
         };
@@ -174,17 +175,17 @@ module _ (floor : Description) (l : LockNo) (v : Knowledge) (m : IsLeaving floor
       }
 
   pub stays_coming_to : (a : Knowledge) → a ≡ seeing a.seen v
-      → FindsOut floor (its_chain floor (lock_queue l.0)) v a → ReleasesOn floor l Excl ComesTo ComesTo v a
+      → FindsOut floor (its_chain floor (lock_queue l.0)) v a → ReleasesOn floor l mode ComesTo ComesTo v a
   stays_coming_to a view finds = record {
-    there = leaving_still floor l.0 v a view m;
+    there = leaving_still floor l.0 mode v a view m;
     noted = ap noted_of view;
     leg = finds_out ComesTo (its_chain floor (lock_queue l.0)) refl view finds;
   }
 
 -- 3. The own record
 
-module _ (floor : Description) (l : LockNo) (a : Knowledge) (m : LeavesWithChain floor l.0 a) (who : ℕ)
-    (is : who ≡ a.thread) where
+module _ (floor : Description) (l : LockNo) (mode : Mode) (a : Knowledge) (m : LeavesWithChain floor l.0 mode a)
+    (who : ℕ) (is : who ≡ a.thread) where
   pub may_take_own : who < length floor.threads
       → MayMake floor a (λ s. s.record_with who ≡ None) (TakesItem a.thread (RecordOf who) ∷ [])
   may_take_own low =
@@ -196,10 +197,10 @@ module _ (floor : Description) (l : LockNo) (a : Knowledge) (m : LeavesWithChain
       })
 
   pub stays_coming_in : (b : Knowledge) → b ≡ seeing b.seen a → FindsOut floor (RecordOf who) a b
-      → ReleasesOn floor l Excl ComesIn ComesIn a b
+      → ReleasesOn floor l mode ComesIn ComesIn a b
   stays_coming_in b view finds = record {
-    there = subst (LeavesWithChain floor l.0) (sym view) record {
-      leaving = leaving_seeing floor l.0 (with_none_out a) m.leaving b.seen;
+    there = subst (LeavesWithChain floor l.0 mode) (sym view) record {
+      leaving = leaving_seeing floor l.0 mode (with_none_out a) m.leaving b.seen;
       chain = m.chain;
       out = m.out;
     };
@@ -223,19 +224,19 @@ module _ (floor : Description) (l : LockNo) (a : Knowledge) (m : LeavesWithChain
           out = out.2 ∙ ap (λ t. both_out floor t l.0 out.1 m.chain) (sym its);
         }
 
-    leaving_now : IsLeaving floor l.0 (with_none_out b)
-    leaving_now = subst (IsLeaving floor l.0) (sym (ap with_none_out own.view))
-        (leaving_seeing floor l.0 (with_none_out a) m.leaving b.seen)
+    leaving_now : IsLeaving floor l.0 mode (with_none_out b)
+    leaving_now = subst (IsLeaving floor l.0 mode) (sym (ap with_none_out own.view))
+        (leaving_seeing floor l.0 mode (with_none_out a) m.leaving b.seen)
 
-    pub may_let_now : MayLetGo floor l.0 b
-    may_let_now = may_let floor l.0 b leaving_now both_now
+    pub may_let_now : MayLetGo floor l.0 mode b
+    may_let_now = may_let floor l.0 mode b leaving_now both_now
 
     pub comes_in_on : (seen : ℕ) (c : Knowledge) → IsWellFormed (word_of seen)
         → c ≡ seeing c.seen (looked b l.0 (word_of seen)) → Makes floor (Looks b.thread l.0 (counts b l.0) ∷ []) b c
-        → ReleasesOn floor l Excl ComesIn (Frees seen) a c
+        → ReleasesOn floor l mode ComesIn (Frees seen) a c
     comes_in_on seen c formed view look =
         let quiet : counts b l.0 ≡ false =
-        counts_not floor b l.0 Excl leaving_now.may.looks.no_round leaving_now.may.held in
+        counts_not floor b l.0 mode leaving_now.may.looks.no_round leaving_now.may.held in
         let saw : Option Look = Some (record { lock = l.0; word = word_of seen }) in
         let all : ℕ = suc b.share.doing.looks_in_all in
         let knows : c ≡ seeing c.seen (with_looks b all saw saw) =
@@ -243,13 +244,13 @@ module _ (floor : Description) (l : LockNo) (a : Knowledge) (m : LeavesWithChain
         let same : c.thread ≡ b.thread = ap (λ (k : Knowledge). k.thread) view in
         record {
           there = record {
-            leaving = subst (IsLeaving floor l.0) (sym (ap with_none_out knows))
-                (leaving_seeing floor l.0 (with_looks (with_none_out b) all saw None)
-                (leaving_looked floor l.0 (with_none_out b) leaving_now all saw None) c.seen);
+            leaving = subst (IsLeaving floor l.0 mode) (sym (ap with_none_out knows))
+                (leaving_seeing floor l.0 mode (with_looks (with_none_out b) all saw None)
+                (leaving_looked floor l.0 mode (with_none_out b) leaving_now all saw None) c.seen);
             both = subst (HasBothOut floor l.0) (sym view)
                 (record { box = both_now.box; chain = both_now.chain; out = both_now.out });
-            own = subst (λ t. IsOwn t seen) (sym same)
-                (saw_own floor l.0 seen (counts b l.0) b c leaving_now.may.held formed view look);
+            own = subst (λ t. IsOwn t mode seen) (sym same)
+                (saw_own floor l.0 mode seen (counts b l.0) b c leaving_now.may.held formed view look);
           };
           noted = ap noted_of view ∙ ap noted_of own.view;
           leg = comes_in seen
@@ -266,29 +267,31 @@ module _ (floor : Description) (l : LockNo) (a : Knowledge) (m : LeavesWithChain
 
 -- 4. The lock is free
 
-module _ (floor : Description) (l : LockNo) (seen : ℕ) (v w : Knowledge) (m : LeavesWithBoth floor l.0 seen v) where
-  pub misses_on : (found : ℕ) → MissesOwn floor l.0 found v w → ReleasesOn floor l Excl (Frees seen) (Frees found) v w
+module _ (floor : Description) (l : LockNo) (mode : Mode) (seen : ℕ) (v w : Knowledge)
+    (m : LeavesWithBoth floor l.0 mode seen v) where
+  pub misses_on : (found : ℕ) → MissesOwn floor l.0 mode seen found v w
+      → ReleasesOn floor l mode (Frees seen) (Frees found) v w
   misses_on found x =
-      let quiet : counts v l.0 ≡ false = counts_not floor v l.0 Excl m.leaving.may.looks.no_round m.leaving.may.held in
+      let quiet : counts v l.0 ≡ false = counts_not floor v l.0 mode m.leaving.may.looks.no_round m.leaving.may.held in
       let saw : Option Look = Some (record { lock = l.0; word = word_of found }) in
       let all : ℕ = suc v.share.doing.looks_in_all in
       let knows : w ≡ seeing w.seen (with_looks v all saw saw) =
       x.view ∙ ap (seeing w.seen) (look_knows floor v l.0 quiet (word_of found)) in
       record {
         there = record {
-          leaving = subst (IsLeaving floor l.0) (sym (ap with_none_out knows))
-              (leaving_seeing floor l.0 (with_looks (with_none_out v) all saw None)
-              (leaving_looked floor l.0 (with_none_out v) m.leaving all saw None) w.seen);
+          leaving = subst (IsLeaving floor l.0 mode) (sym (ap with_none_out knows))
+              (leaving_seeing floor l.0 mode (with_looks (with_none_out v) all saw None)
+              (leaving_looked floor l.0 mode (with_none_out v) m.leaving all saw None) w.seen);
           both = subst (HasBothOut floor l.0) (sym x.view)
               (record { box = m.both.box; chain = m.both.chain; out = m.both.out });
-          own = subst (λ t. IsOwn t found) (sym (ap (λ (k : Knowledge). k.thread) x.view)) x.own;
+          own = subst (λ t. IsOwn t mode found) (sym (ap (λ (k : Knowledge). k.thread) x.view)) x.own;
         };
         noted = ap noted_of x.view;
-        leg = looks seen found (ap (λ (k : Knowledge). k.share.held) x.view)
+        leg = looks seen found x.other (ap (λ (k : Knowledge). k.share.held) x.view)
             (subst (λ c. Makes floor (Looks v.thread l.0 c ∷ []) v w) quiet x.step);
       }
 
-  module _ (g : LetsGo floor l.0 v w) where
+  module _ (g : LetsGo floor l.0 mode v w) where
     pub runs_freed : w.pose ≡ Runs
     runs_freed = ap (λ (k : Knowledge). k.pose) g.view ∙ m.leaving.may.looks.runs
 
@@ -304,7 +307,7 @@ module _ (floor : Description) (l : LockNo) (seen : ℕ) (v w : Knowledge) (m : 
     }
 
     pub frees_on : (y : Knowledge) → y ≡ seeing y.seen (with_none_out w)
-        → MakesEach floor (gives_both floor w.thread l.0) w y → ReleasesOn floor l Excl (Frees seen) Wakes v y
+        → MakesEach floor (gives_both floor w.thread l.0) w y → ReleasesOn floor l mode (Frees seen) Wakes v y
     frees_on y given gives =
         let freed : y ≡ seeing y.seen (with_none_out (opened_up v l.0 g.marks g.out)) =
         given ∙ ap (λ (k : Knowledge). seeing y.seen (with_none_out k)) g.view in

@@ -142,7 +142,7 @@ module _ (floor : Description) (l : LockNo) (mode : Mode) (begun : Knowledge) wh
           held = held ∙ h.held;
           settled = λ e nobody. refl;
         }
-    goes_on at to h (looks seen found held step) = record {
+    goes_on at to h (looks seen found other held step) = record {
       came = new;
       has_let = more_looks h.came new h.has_let
           (makes_sooner floor look h.came now new h.waited

@@ -1,5 +1,6 @@
 pub mod Looks
 pub mod Words
+pub mod Chosen
 pub mod Waited
 pub mod Attempts
 pub mod Owned

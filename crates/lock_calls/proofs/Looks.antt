@@ -22,10 +22,17 @@ pub each_append : (floor : Description) (xs ys : List (List Step)) (u v w : Know
 each_append floor [] ys u v w e m = subst (λ x. MakesEach floor ys x w) (sym e) m
 each_append floor (x ∷ xs) ys u v w m k = (m.0, m.1, each_append floor xs ys m.0 v w m.2 k)
 
+-- the last step of several
+pub last_step : (floor : Description) (step : List Step) (u v : Knowledge) → MakesEach floor (step ∷ []) u v
+    → Makes floor step u v
+last_step floor step u v m = subst (λ k. Makes floor step u k) m.2 m.1
+
 -- 2. One look, which doesn't count
 
 module _ (floor : Description) (v : Knowledge) (l : ℕ) (quiet : counts v l ≡ false) where
-  pub look_knows : (word : Word) → looked v l word ≡ with_looks v (suc v.share.doing.looks_in_all) (Some (record { lock = l; word = word })) (Some (record { lock = l; word = word }))
+  pub look_knows : (word : Word) → looked v l word
+      ≡ with_looks v (suc v.share.doing.looks_in_all) (Some (record { lock = l; word = word }))
+      (Some (record { lock = l; word = word }))
   look_knows word =
       let look : Look = record { lock = l; word = word } in
       ap (λ b. record v {

@@ -4,7 +4,7 @@ use Rattle.lock_model.specs.declared.event.Event.{Event}
 use Rattle.lock_model.specs.declared.event.Event.TheVariants.{Locked}
 use Rattle.lock_model.specs.declared.event.Held.{Held}
 use Rattle.lock_model.specs.declared.numbers.LockNo.{LockNo}
-use Rattle.lock_model.specs.declared.plan.Mode.TheVariants.{Excl}
+use Rattle.lock_model.specs.declared.plan.Mode.{Mode}
 use Rattle.lock_state.specs.Steps.{Stamps}
 use Rattle.floor_table.specs.Descriptions.{config_in}
 use Rattle.floor_table.specs.declared.description.Description.{Description}
@@ -19,13 +19,13 @@ use Rattle.lock_calls.specs.Steps.{as_taken}
 use Rattle.lock_calls.specs.Takes.{HasTaken}
 use Rattle.lock_calls.specs.Waiting.{Kept, kept_of, IsCalling, HasGained}
 
-module _ (floor : Description) (l : LockNo) (old v : Knowledge) (k : IsCalling floor (kept_of old))
-    (room : 1 ≤ old.spare) (g : HasGained l old v) where
+module _ (floor : Description) (l : LockNo) (mode : Mode) (old v : Knowledge) (k : IsCalling floor (kept_of old))
+    (room : 1 ≤ old.spare) (g : HasGained l mode old v) where
   abbrev hold : Held
-  hold = as_taken l Excl
+  hold = as_taken l mode
 
   abbrev locked : Event
-  locked = Locked l Excl
+  locked = Locked l mode
 
   -- what the thread knew before the gain
   abbrev u : Knowledge
@@ -53,7 +53,7 @@ module _ (floor : Description) (l : LockNo) (old v : Knowledge) (k : IsCalling f
   pub may_note_lock : MayMake floor v (λ s. Unit {0}) (Stamps v.thread locked ∷ [])
   may_note_lock =
       subst (λ (x : Knowledge). MayMake floor x (λ s. Unit {0}) (Stamps x.thread locked ∷ [])) (sym g.view)
-      (may_note_locked floor u l Excl calling g.gaining.takes g.gaining.unheld v.seen)
+      (may_note_locked floor u l mode calling g.gaining.takes g.gaining.unheld v.seen)
 
   pub room_to_note : 1 ≤ v.spare
   room_to_note = omega (arith, room, ap (λ (x : Knowledge). x.spare) g.view, ap (λ (x : Kept). x.spare) g.kept)
@@ -64,7 +64,7 @@ module _ (floor : Description) (l : LockNo) (old v : Knowledge) (k : IsCalling f
     pub note_step : Makes floor (Stamps old.thread locked ∷ []) v new
     note_step = subst (λ t. Makes floor (Stamps t locked ∷ []) v new) its_thread step
 
-    pub taken : HasTaken floor l Excl old new
+    pub taken : HasTaken floor l mode old new
     taken =
         let is : new ≡ seeing new.seen (stamped (config_in floor) (gained u hold) (entry_by u.thread ticket locked)) =
         says ∙ ap (λ (x : Knowledge). seeing new.seen (stamped (config_in floor) x (entry_by x.thread ticket locked)))
@@ -72,7 +72,7 @@ module _ (floor : Description) (l : LockNo) (old v : Knowledge) (k : IsCalling f
         record {
           rest = subst (IsAtRest floor) (sym is)
               (rest_seeing floor (stamped (config_in floor) (gained u hold) (entry_by u.thread ticket locked)) new.seen
-              (rest_locked floor u l Excl calling g.gaining.takes g.gaining.unheld ticket));
+              (rest_locked floor u l mode calling g.gaining.takes g.gaining.unheld ticket));
           entry = record {
             ticket = ticket;
             log = ap (λ (x : Knowledge). x.share.log) is

@@ -1,13 +1,16 @@
 -- A release in the section of the lock's chain: what allows its steps there, and what each leaves.
-use Rattle.std.proofs.Common.{◌≡◌, ℕ, Bool, true, false, Some, List, [], ◌∷◌, refl, sym, ap, ◌∙◌, subst, inl, inr}
+use Rattle.std.proofs.Common.{◌≡◌, ◌≢◌, ℕ, ◌<◌, ◌≤◌, arith, Bool, true, false, Some, List, [], ◌∷◌, refl, sym, ap, ◌∙◌, subst, inl, inr}
 use Rattle.std.proofs.lemmas.Bool.{cases_eq, ne_eqb}
-use Rattle.lock_model.specs.Holds.{NotHeld, Holds, is_exclusive}
+use Rattle.lock_model.specs.Holds.{Hold, NotHeld, Holds, is_exclusive}
 use Rattle.lock_model.specs.Operations.{hold_in}
-use Rattle.lock_model.specs.Words.{Word, word_of, IsWellFormed, Holder, Free, HeldBy, SharedBy, is_free, is_drop, is_turnstile}
-use Rattle.lock_model.specs.declared.plan.Mode.TheVariants.{Excl}
+use Rattle.lock_model.specs.Words.{Word, word_of, IsWellFormed, Holder, Free, HeldBy, SharedBy, is_free, is_drop, sharers}
+use Rattle.lock_model.specs.declared.plan.Mode.{Mode}
+use Rattle.lock_model.specs.declared.plan.Mode.TheVariants.{Excl, Shared}
 use Rattle.lock_objects.specs.Opens.{record_opened, chain_opened}
-use Rattle.lock_state.specs.Facts.{WordsMatchHolders}
-use Rattle.lock_state.specs.Facts.Words.{owns}
+use Rattle.lock_laws.proofs.Kit.{sum_below-at}
+use Rattle.lock_state.specs.Facts.{WordsMatchHolders, OnlyThreadsHold}
+use Rattle.lock_state.specs.Facts.Words.{owns, shares}
+use Rattle.lock_state.specs.State.{State}
 use Rattle.lock_state.specs.Steps.{Step, Looks, Drops, Opens}
 use Rattle.lock_words.specs.Views.{IsHeldIn}
 use Rattle.std.specs.Box.{with_value}
@@ -16,7 +19,7 @@ use Rattle.floor_table.specs.declared.description.Description.{Description}
 use Rattle.floor_table.specs.declared.slot.Slot.TheVariants.{Record, Turnstiles}
 use Rattle.floor_table.specs.Represents.{IsSeatOf, RepresentsShare, thread_in}
 use Rattle.floor_table.specs.Shares.{ShareColumns}
-use Rattle.floor_table.specs.Steps.{Makes, MayMake}
+use Rattle.floor_table.specs.Steps.{IsSound, Makes, MayMake}
 use Rattle.floor_table.specs.Views.{Knowledge, seeing}
 use Rattle.lock_floor.specs.Opens.{HasBothOut, MayOpenUp, OpensUp, out_opened, marks_opened}
 use Rattle.lock_floor.specs.Views.{counts, looked, put_down}
@@ -27,7 +30,7 @@ use Rattle.lock_floor.proofs.MayWait as wait
 use Rattle.lock_floor.proofs.MayWait.{IsNoSleeper}
 use Rattle.lock_floor.proofs.MayWake.{may_open_up}
 use Rattle.lock_floor.proofs.Opened.{last_shown}
-use Rattle.lock_calls.specs.Steps.{IsMutex}
+use Rattle.lock_calls.specs.Steps.{IsCovered}
 use Rattle.lock_calls.specs.Waiting.{MayLetGo, IsOwn, LetsGo, MissesOwn}
 use Rattle.lock_calls.proofs.Words.{look_at, word_seen}
 
@@ -42,6 +45,19 @@ own_holder t (HeldBy u) e =
     ]
 own_holder t (SharedBy n) e = absurd cc
 
+-- what is held in a mode isn't free
+held_is_held : (h : Holder) (mode : Mode) → IsHeldIn h mode → is_free h ≡ false
+held_is_held Free mode held = absurd held
+held_is_held (HeldBy u) mode held = refl
+held_is_held (SharedBy n) mode held = refl
+
+pub same_mode : (a b : Mode) → Holds a ≡ Holds b → a ≡ b
+same_mode a b e = ap mode_of e
+  where
+    mode_of : Hold → Mode
+    mode_of NotHeld = a
+    mode_of (Holds m) = m
+
 -- in the state in which a step is made the thread holds what its seat says
 held_then : (floor : Description) (steps : List Step) (old new : Knowledge) (m : Makes floor steps old new) (l : ℕ)
     → m.state.held old.thread l ≡ hold_in old.share.held l
@@ -52,62 +68,79 @@ held_then floor steps old new m l =
     subst (λ (k : Knowledge). RepresentsShare k.share m.state old.thread) m.was its.share in
     sym (ap (λ (x : ShareColumns). x.held l) share.columns)
 
+-- a word with sharers is held shared
+shared_holder : (h : Holder) → 1 ≤ sharers h → IsHeldIn h Shared
+shared_holder Free some = absurd (omega (arith, some))
+shared_holder (HeldBy u) some = absurd (omega (arith, some))
+shared_holder (SharedBy n) some = tt
+
+-- so it is held in the mode in which the thread holds the lock
+held_as : (floor : Description) {past : List Step} (s : State) (t l : ℕ) (mode : Mode) → IsSound floor past s
+    → s.held t l ≡ Holds mode → IsHeldIn (s.word l).holder mode × (mode ≡ Excl → (s.word l).holder ≡ HeldBy t)
+unfolding WordsMatchHolders OnlyThreadsHold
+held_as floor s t l Excl sound held =
+    let mine : owns t (s.word l).holder ≡ true =
+    sym ((sound.facts.lawful.words.words_match_holders l).owner t) ∙ ap is_exclusive held in
+    let its : (s.word l).holder ≡ HeldBy t = own_holder t (s.word l).holder mine in
+    (subst (λ h. IsHeldIn h Excl) (sym its) tt, λ e. its)
+held_as floor s t l Shared sound held =
+    let few : t < (config_in floor).threads = sound.facts.lawful.words.only_threads_hold t l Shared held in
+    let one : shares (s.held t l) ≤ sharers (s.word l).holder =
+    subst (λ n. shares (s.held t l) ≤ n) (sound.facts.lawful.words.words_match_holders l).sharers_are_counted
+    (sum_below-at (config_in floor).threads (λ u. shares (s.held u l)) t few) in (
+      shared_holder (s.word l).holder (omega (arith, one, ap shares held)),
+      λ e. absurd (let z : Shared ≡ Excl = e in cc),
+    )
+
 -- a look at it finds the thread
-pub saw_own : (floor : Description) (l seen : ℕ) (counted : Bool) (old new : Knowledge)
-    → hold_in old.share.held l ≡ Holds Excl → IsWellFormed (word_of seen)
+pub saw_own : (floor : Description) (l : ℕ) (mode : Mode) (seen : ℕ) (counted : Bool) (old new : Knowledge)
+    → hold_in old.share.held l ≡ Holds mode → IsWellFormed (word_of seen)
     → new ≡ seeing new.seen (looked old l (word_of seen)) → Makes floor (Looks old.thread l counted ∷ []) old new
-    → IsOwn old.thread seen
-unfolding WordsMatchHolders
-saw_own floor l seen counted old new held formed view m =
+    → IsOwn old.thread mode seen
+saw_own floor l mode seen counted old new held formed view m =
     let saw : Some (look_at l (word_of seen)) ≡ Some (look_at l (m.state.word l)) =
     sym (ap (λ (w : Knowledge). w.share.doing.last_look) view) ∙ finds_word floor l counted old new m in
     let is : m.state.word l ≡ word_of seen = word_seen l (word_of seen) (m.state.word l) saw in
-    let owner : is_exclusive (m.state.held old.thread l) ≡ owns old.thread (m.state.word l).holder =
-    (m.sound.facts.lawful.words.words_match_holders l).owner old.thread in
-    let mine : owns old.thread (m.state.word l).holder ≡ true =
-    sym owner ∙ ap is_exclusive (held_then floor (Looks old.thread l counted ∷ []) old new m l ∙ held) in
+    let its = held_as floor m.state old.thread l mode m.sound
+    (held_then floor (Looks old.thread l counted ∷ []) old new m l ∙ held) in
     record {
       formed = formed;
-      its = ap (λ (w : Word). w.holder) (sym is) ∙ own_holder old.thread (m.state.word l).holder mine;
+      held = subst (λ (w : Word). IsHeldIn w.holder mode) is its.0;
+      its = λ e. ap (λ (w : Word). w.holder) (sym is) ∙ its.1 e;
     }
 
 -- 2. What is out in the section
 
-pub chains_turnstile : (floor : Description) (l : ℕ) → IsMutex floor l → is_turnstile ((config_in floor).kind l) ≡ true
-chains_turnstile floor l mutex = ap is_turnstile mutex.kind
+no_sleeper : (floor : Description) (l : ℕ) (mode : Mode) (v : Knowledge) → MayLetGo floor l mode v → IsNoSleeper v
+no_sleeper floor l mode v m = λ back e f g. let z : true ≡ false = sym back ∙ m.no_wait in cc
 
-no_sleeper : (floor : Description) (l : ℕ) (v : Knowledge) → MayLetGo floor l v → IsNoSleeper v
-no_sleeper floor l v m = λ back e f g. let z : true ≡ false = sym back ∙ m.no_wait in cc
-
-module _ (floor : Description) (l : ℕ) (v : Knowledge) (mutex : IsMutex floor l) (m : MayLetGo floor l v) where
+module _ (floor : Description) (l : ℕ) (mode : Mode) (v : Knowledge) (covered : IsCovered floor l mode)
+    (m : MayLetGo floor l mode v) where
   pub may_look_own : v.description ≡ floor → MayMake floor v (λ s. Unit {0}) (Looks v.thread l (counts v l) ∷ [])
   may_look_own mine =
-      wait.may_look_held floor v l (Record m.both.box) (Turnstiles m.both.chain) m.both.out mutex.lock m.going
-      (no_sleeper floor l v m) mine m.no_round
-      (λ q. let z : Holds Excl ≡ NotHeld = sym m.held ∙ q in cc) m.takes_nothing
+      wait.may_look_held floor v l (Record m.both.box) (Turnstiles m.both.chain) m.both.out covered.lock m.going
+      (no_sleeper floor l mode v m) mine m.no_round
+      (λ q. let z : Holds mode ≡ NotHeld = sym m.held ∙ q in cc) m.takes_nothing
 
-  module _ (seen : ℕ) (own : IsOwn v.thread seen) where
-    pub held_so : IsHeldIn (word_of seen).holder Excl
-    held_so = subst (λ h. IsHeldIn h Excl) (sym own.its) tt
-
+  module _ (seen : ℕ) (own : IsOwn v.thread mode seen) where
     pub held_at_all : is_free (word_of seen).holder ≡ false
-    held_at_all = ap is_free own.its
+    held_at_all = held_is_held (word_of seen).holder mode own.held
 
     pub may_drop_there : is_drop (word_of seen) ≡ true
-        → MayMake floor v (λ s. s.word l ≡ word_of seen) (Drops v.thread l Excl ∷ [])
+        → MayMake floor v (λ s. s.word l ≡ word_of seen) (Drops v.thread l mode ∷ [])
     may_drop_there stays =
-        may_drop floor v l Excl (word_of seen) mutex.lock m.held stays m.closed m.begun m.takes_nothing m.runs m.going
+        may_drop floor v l mode (word_of seen) covered.lock m.held stays m.closed m.begun m.takes_nothing m.runs m.going
 
     pub may_open_there : is_drop (word_of seen) ≡ false → MayOpenUp floor l (word_of seen) v
     may_open_there opens =
         let w = last_shown (word_of seen) opens in
-        may_open_up floor v l Excl (word_of seen) mutex.lock (chains_turnstile floor l mutex) m.held w.0 w.1 m.unmarked
+        may_open_up floor v l mode (word_of seen) covered.lock covered.turnstile m.held w.0 w.1 m.unmarked
         m.takes_nothing m.closed m.begun m.runs m.going m.both
 
-  -- 3. The mutex is free
+  -- 3. The lock is let go
 
   pub dropped_there : (new : Knowledge) → new ≡ seeing new.seen (put_down v l)
-      → Makes floor (Drops v.thread l Excl ∷ []) v new → LetsGo floor l v new
+      → Makes floor (Drops v.thread l mode ∷ []) v new → LetsGo floor l mode v new
   dropped_there new view step = record {
     opens = false;
     marks = v.share.doing.marked;
@@ -116,17 +149,17 @@ module _ (floor : Description) (l : ℕ) (v : Knowledge) (mutex : IsMutex floor 
     both = subst (HasBothOut floor l) (sym view)
         (record { box = m.both.box; chain = m.both.chain; out = m.both.out });
     unheld = subst (λ hs. hold_in hs l ≡ NotHeld) (ap (λ (k : Knowledge). k.share.held) view)
-        (dropped_unheld floor v new l Excl step);
+        (dropped_unheld floor v new l mode step);
     step = step;
   }
 
-  pub opened_there : (seen : ℕ) (new : Knowledge) → OpensUp floor l (word_of seen) v new → LetsGo floor l v new
+  pub opened_there : (seen : ℕ) (new : Knowledge) → OpensUp floor l (word_of seen) v new → LetsGo floor l mode v new
   opened_there seen new o =
-      let held : Holds o.mode ≡ Holds Excl =
+      let held : Holds o.mode ≡ Holds mode =
       sym o.step.may.0.fits.may.releases.held ∙ held_then floor (Opens v.thread l o.mode ∷ []) v new o.step l
       ∙ m.held in
-      let same : o.mode ≡ Excl = cc in
-      let step : Makes floor (Opens v.thread l Excl ∷ []) v new =
+      let same : o.mode ≡ mode = same_mode o.mode mode held in
+      let step : Makes floor (Opens v.thread l mode ∷ []) v new =
       subst (λ x. Makes floor (Opens v.thread l x ∷ []) v new) same o.step in
       record {
         opens = true;
@@ -140,12 +173,17 @@ module _ (floor : Description) (l : ℕ) (v : Knowledge) (mutex : IsMutex floor 
               out = refl;
             });
         unheld = subst (λ hs. hold_in hs l ≡ NotHeld) (ap (λ (k : Knowledge). k.share.held) o.view)
-            (opened_unheld floor v new l Excl step);
+            (opened_unheld floor v new l mode step);
         step = step;
       }
 
-  pub missed_own : (found : ℕ) (new : Knowledge) → IsWellFormed (word_of found)
+  pub missed_own : (seen found : ℕ) (new : Knowledge) → found ≢ seen → IsWellFormed (word_of found)
       → new ≡ seeing new.seen (looked v l (word_of found)) → Makes floor (Looks v.thread l (counts v l) ∷ []) v new
-      → MissesOwn floor l found v new
-  missed_own found new formed view step =
-      record { own = saw_own floor l found (counts v l) v new m.held formed view step; view = view; step = step }
+      → MissesOwn floor l mode seen found v new
+  missed_own seen found new other formed view step =
+      record {
+        other = other;
+        own = saw_own floor l mode found (counts v l) v new m.held formed view step;
+        view = view;
+        step = step;
+      }

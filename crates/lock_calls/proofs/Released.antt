@@ -1,13 +1,14 @@
 -- A release is noted, and then it makes one exchange: each step may be made. Where the exchange hits, the thread is at
 -- rest again; where it misses, the release is under way.
-use Rattle.std.proofs.Common.{◌≡◌, ℕ, suc, ◌+◌, ◌<◌, ◌≤◌, Bool, true, false, Option, Some, [], ◌∷◌, length, refl, sym, ap, ◌∙◌, subst, arith}
+use Rattle.std.proofs.Common.{◌≡◌, ◌≢◌, ℕ, suc, ◌+◌, ◌<◌, ◌≤◌, Bool, true, false, Option, Some, [], ◌∷◌, length, refl, sym, ap, ◌∙◌, subst, arith}
 use Rattle.lock_model.specs.Holds.{NotHeld, Holds}
 use Rattle.lock_model.specs.Operations.{hold_in, without_lock}
 use Rattle.lock_model.specs.Words.{Word, word_of, gained, is_drop}
 use Rattle.lock_model.specs.declared.event.Event.{Event}
 use Rattle.lock_model.specs.declared.event.Event.TheVariants.{Unlocked}
 use Rattle.lock_model.specs.declared.numbers.LockNo.{LockNo}
-use Rattle.lock_model.specs.declared.plan.Mode.TheVariants.{Excl}
+use Rattle.lock_model.specs.declared.plan.Mode.{Mode}
+use Rattle.lock_model.specs.declared.plan.Mode.TheVariants.{Excl, Shared}
 use Rattle.lock_state.specs.State.{State, Look}
 use Rattle.lock_state.specs.Steps.{Looks, Drops, Stamps, HasOutForEntry, NotesInRound}
 use Rattle.lock_state.specs.Steps.LockWords.{Asks}
@@ -30,31 +31,32 @@ use Rattle.lock_calls.specs.Waiting.{with_looks, MayPutDown}
 use Rattle.lock_calls.proofs.Calls.{call_noted, view_noted}
 use Rattle.lock_calls.proofs.Leaving.{leaving_looked, leaving_still}
 use Rattle.lock_calls.proofs.Looks.{look_knows, may_look_on}
+use Rattle.lock_calls.proofs.Words.{other_word}
 
 -- 1. The entry
 
-module _ (floor : Description) (v : Knowledge) (l : LockNo) (r : IsAtRest floor v)
-    (held : hold_in v.share.held l.0 ≡ Holds Excl) where
-  asks : (s : State) → Fits floor v s → Asks (config_in floor) s v.thread (Unlocked l Excl)
-      × HasOutForEntry floor.chains s v.thread (Unlocked l Excl)
+module _ (floor : Description) (v : Knowledge) (l : LockNo) (mode : Mode) (r : IsAtRest floor v)
+    (held : hold_in v.share.held l.0 ≡ Holds mode) where
+  asks : (s : State) → Fits floor v s → Asks (config_in floor) s v.thread (Unlocked l mode)
+      × HasOutForEntry floor.chains s v.thread (Unlocked l mode)
   asks s f = (own_log floor v s f l.0 ∙ r.sections l.0 ∙ held, tt)
 
-  pub may_note_release : MayMake floor v (λ s. Unit {0}) (Stamps v.thread (Unlocked l Excl) ∷ [])
+  pub may_note_release : MayMake floor v (λ s. Unit {0}) (Stamps v.thread (Unlocked l mode) ∷ [])
   may_note_release =
-      may_stamp floor v (Unlocked l Excl) asks (subst (λ o. NotesInRound o (Unlocked l Excl)) (sym r.no_round) tt)
+      may_stamp floor v (Unlocked l mode) asks (subst (λ o. NotesInRound o (Unlocked l mode)) (sym r.no_round) tt)
       (λ e. absurd (let z : false ≡ true = sym r.no_wait ∙ e in cc))
       r.runs r.going r.takes_nothing
 
   pub may_put_down : (ticket : ℕ) (w : Knowledge)
-      → w ≡ seeing w.seen (stamped (config_in floor) v (entry_by v.thread ticket (Unlocked l Excl)))
-      → MayPutDown floor l.0 w
+      → w ≡ seeing w.seen (stamped (config_in floor) v (entry_by v.thread ticket (Unlocked l mode)))
+      → MayPutDown floor l.0 mode w
   may_put_down ticket w is =
-      let x = leaves floor v l Excl ticket r held in
-      subst (MayPutDown floor l.0) (sym is)
+      let x = leaves floor v l mode ticket r held in
+      subst (MayPutDown floor l.0 mode) (sym is)
       record {
         held = held;
         closed = x.closed;
-        begun = r.begun l.0 (λ q. absurd (let z : Holds Excl ≡ NotHeld = sym held ∙ q in cc));
+        begun = r.begun l.0 (λ q. absurd (let z : Holds mode ≡ NotHeld = sym held ∙ q in cc));
         unmarked = r.unmarked;
         uncounted = r.uncounted;
         no_wait = refl;
@@ -68,40 +70,50 @@ module _ (floor : Description) (v : Knowledge) (l : LockNo) (r : IsAtRest floor 
       }
 
 -- the thread's number is one of the floor's, which are few
-pub few_threads : (floor : Description) (l : LockNo) (v w : Knowledge) (ticket : ℕ)
-    → w ≡ seeing w.seen (stamped (config_in floor) v (entry_by v.thread ticket (Unlocked l Excl)))
-    → Makes floor (Stamps v.thread (Unlocked l Excl) ∷ []) v w → w.thread ≤ 63
-few_threads floor l v w ticket is m =
+pub few_threads : (floor : Description) (l : LockNo) (mode : Mode) (v w : Knowledge) (ticket : ℕ)
+    → w ≡ seeing w.seen (stamped (config_in floor) v (entry_by v.thread ticket (Unlocked l mode)))
+    → Makes floor (Stamps v.thread (Unlocked l mode) ∷ []) v w → w.thread ≤ 63
+few_threads floor l mode v w ticket is m =
     omega (arith, ap (λ (k : Knowledge). k.thread) is, m.may.0.fits.may.thread, m.represents.sizes.sized.threads)
 
 -- 2. The exchange
 
 -- where it misses, that is a look at a lock that the thread holds
-pub may_look_held : (floor : Description) (v : Knowledge) (l : ℕ) → v.description ≡ floor → l < length floor.locks
-    → MayPutDown floor l v → MayMake floor v (λ s. Unit {0}) (Looks v.thread l (counts v l) ∷ [])
-may_look_held floor v l mine low m =
-    may_look_on floor v l mine low m.looks (λ u. absurd (let z : Holds Excl ≡ NotHeld = sym m.held ∙ u in cc))
+pub may_look_held : (floor : Description) (v : Knowledge) (l : ℕ) (mode : Mode) → v.description ≡ floor
+    → l < length floor.locks → MayPutDown floor l mode v
+    → MayMake floor v (λ s. Unit {0}) (Looks v.thread l (counts v l) ∷ [])
+may_look_held floor v l mode mine low m =
+    may_look_on floor v l mine low m.looks (λ u. absurd (let z : Holds mode ≡ NotHeld = sym m.held ∙ u in cc))
 
--- the word of a mutex that the thread holds
-pub own_drops : (own t : ℕ) → word_of own ≡ gained (word_of 0) t Excl → is_drop (word_of own) ≡ true
-own_drops own t is = ap (λ (w : Word). is_drop w) is
+-- the word of a lock that the thread alone holds, and for which nobody is shown
+pub own_drops : (own t : ℕ) (mode : Mode) → word_of own ≡ gained (word_of 0) t mode → is_drop (word_of own) ≡ true
+own_drops own t Excl is = ap (λ (w : Word). is_drop w) is
+own_drops own t Shared is = ap (λ (w : Word). is_drop w) is
 
-pub own_is_held : (own t : ℕ) → word_of own ≡ gained (word_of 0) t Excl → IsHeldIn (word_of own).holder Excl
-own_is_held own t is = subst (λ (w : Word). IsHeldIn w.holder Excl) (sym is) tt
+pub own_is_held : (own t : ℕ) (mode : Mode) → word_of own ≡ gained (word_of 0) t mode
+    → IsHeldIn (word_of own).holder mode
+own_is_held own t Excl is = subst (λ (w : Word). IsHeldIn w.holder Excl) (sym is) tt
+own_is_held own t Shared is = subst (λ (w : Word). IsHeldIn w.holder Shared) (sym is) tt
 
-pub may_drop_own : (floor : Description) (l own t : ℕ) (v : Knowledge) → l < length floor.locks
-    → word_of own ≡ gained (word_of 0) t Excl → MayPutDown floor l v
-    → MayMake floor v (λ s. s.word l ≡ word_of own) (Drops v.thread l Excl ∷ [])
-may_drop_own floor l own t v low is m =
-    may_drop floor v l Excl (word_of own) low m.held (own_drops own t is) m.closed m.begun m.looks.takes_nothing
+pub may_drop_own : (floor : Description) (l : ℕ) (mode : Mode) (own t : ℕ) (v : Knowledge) → l < length floor.locks
+    → word_of own ≡ gained (word_of 0) t mode → MayPutDown floor l mode v
+    → MayMake floor v (λ s. s.word l ≡ word_of own) (Drops v.thread l mode ∷ [])
+may_drop_own floor l mode own t v low is m =
+    may_drop floor v l mode (word_of own) low m.held (own_drops own t mode is) m.closed m.begun m.looks.takes_nothing
     m.looks.runs m.looks.going
+
+-- another word is another than that one
+pub other_own : (found own t s : ℕ) (mode : Mode) → found ≢ own → word_of own ≡ gained (word_of 0) t mode → t ≡ s
+    → word_of found ≢ gained (word_of 0) s mode
+other_own found own t s mode other is same e =
+    other_word found own other (e ∙ ap (λ n. gained (word_of 0) n mode) (sym same) ∙ sym is)
 
 -- 3. Where the release stands then
 
-module _ (floor : Description) (l : LockNo) (ticket : ℕ) (old v new : Knowledge) (r : IsAtRest floor old)
-    (held : hold_in old.share.held l.0 ≡ Holds Excl) (room : 1 ≤ old.spare) where
+module _ (floor : Description) (l : LockNo) (mode : Mode) (ticket : ℕ) (old v new : Knowledge) (r : IsAtRest floor old)
+    (held : hold_in old.share.held l.0 ≡ Holds mode) (room : 1 ≤ old.spare) where
   abbrev e : Event
-  e = Unlocked l Excl
+  e = Unlocked l mode
 
   abbrev noted : Knowledge
   noted = stamped (config_in floor) old (entry_by old.thread ticket e)
@@ -110,22 +122,22 @@ module _ (floor : Description) (l : LockNo) (ticket : ℕ) (old v new : Knowledg
     its : v.thread ≡ old.thread
     its = ap (λ (k : Knowledge). k.thread) says
 
-    pub leaving_noted : IsLeaving floor l.0 v
+    pub leaving_noted : IsLeaving floor l.0 mode v
     leaving_noted = record {
-      may = may_put_down floor old l r held ticket v says;
+      may = may_put_down floor old l mode r held ticket v says;
       rest_then = subst (λ k. hold_in (without_lock l.0 k.share.held) l.0 ≡ NotHeld → IsAtRest floor (put_down k l.0))
-          (sym says) (rest_left floor l.0 Excl noted (leaves floor old l Excl ticket r held) v.seen);
+          (sym says) (rest_left floor l.0 mode noted (leaves floor old l mode ticket r held) v.seen);
     }
 
     -- it put the lock down
     pub at_once : Makes floor (Stamps old.thread e ∷ []) old v → new ≡ seeing new.seen (put_down v l.0)
-        → Makes floor (Drops v.thread l.0 Excl ∷ []) v new → ReleasesAtOnce floor l Excl old new
+        → Makes floor (Drops v.thread l.0 mode ∷ []) v new → ReleasesAtOnce floor l mode old new
     at_once step view drops =
         let is : new ≡ seeing new.seen (put_down noted l.0) =
         view ∙ ap (λ (k : Knowledge). seeing new.seen (put_down k l.0)) says in
         let unheld : hold_in (without_lock l.0 v.share.held) l.0 ≡ NotHeld =
         subst (λ hs. hold_in hs l.0 ≡ NotHeld) (ap (λ (k : Knowledge). k.share.held) view)
-        (dropped_unheld floor v new l.0 Excl drops) in
+        (dropped_unheld floor v new l.0 mode drops) in
         record {
           rest = subst (IsAtRest floor) (sym view)
               (rest_seeing floor (put_down v l.0) new.seen (leaving_noted.rest_then unheld));
@@ -142,20 +154,20 @@ module _ (floor : Description) (l : LockNo) (ticket : ℕ) (old v new : Knowledg
             log_before = refl;
             log_behind = ap (λ (k : Knowledge). k.share.log) says ∙ sym (ap (λ (k : Knowledge). k.share.log) is);
           };
-          steps = (v, step, (new, subst (λ t. Makes floor (Drops t l.0 Excl ∷ []) v new) its drops, refl));
+          steps = (v, step, (new, subst (λ t. Makes floor (Drops t l.0 mode ∷ []) v new) its drops, refl));
         }
 
     -- or its exchange missed
     module _ (word : Word) (view : new ≡ seeing new.seen (looked v l.0 word)) where
-      pub leaving_missed : IsLeaving floor l.0 new
+      pub leaving_missed : IsLeaving floor l.0 mode new
       leaving_missed =
           let quiet : counts v l.0 ≡ false =
-          counts_not floor v l.0 Excl leaving_noted.may.looks.no_round leaving_noted.may.held in
+          counts_not floor v l.0 mode leaving_noted.may.looks.no_round leaving_noted.may.held in
           let saw : Option Look = Some (record { lock = l.0; word = word }) in
           let all : ℕ = suc v.share.doing.looks_in_all in
-          leaving_still floor l.0 (with_looks v all saw saw) new
+          leaving_still floor l.0 mode (with_looks v all saw saw) new
           (view ∙ ap (seeing new.seen) (look_knows floor v l.0 quiet word))
-          (leaving_looked floor l.0 v leaving_noted all saw saw)
+          (leaving_looked floor l.0 mode v leaving_noted all saw saw)
 
       pub noted_so_far : Makes floor (Stamps old.thread e ∷ []) old v
           → MakesEntry floor e old.share.held old new
@@ -181,7 +193,7 @@ module _ (floor : Description) (l : LockNo) (ticket : ℕ) (old v new : Knowledg
           → MakesEach floor ((Stamps old.thread e ∷ []) ∷ (Looks old.thread l.0 false ∷ []) ∷ []) old new
       begin_steps step look =
           let quiet : counts v l.0 ≡ false =
-          counts_not floor v l.0 Excl leaving_noted.may.looks.no_round leaving_noted.may.held in (
+          counts_not floor v l.0 mode leaving_noted.may.looks.no_round leaving_noted.may.held in (
             v,
             step,
             (
@@ -191,27 +203,31 @@ module _ (floor : Description) (l : LockNo) (ticket : ℕ) (old v new : Knowledg
             ),
           )
 
-pub begins : (floor : Description) (l : LockNo) (ticket : ℕ) (old v : Knowledge) (r : IsAtRest floor old)
-    (held : hold_in old.share.held l.0 ≡ Holds Excl) (room : 1 ≤ old.spare) (p u q : Pass Knowledge)
-    → MayRelease floor l.0 Excl p.view → p.view ≡ old
-    → (says : v ≡ seeing v.seen (stamped (config_in floor) old (entry_by old.thread ticket (Unlocked l Excl))))
-    → Makes floor (Stamps old.thread (Unlocked l Excl) ∷ []) old v → (word : Word)
-    → u.view ≡ seeing u.view.seen (looked v l.0 word) → Makes floor (Looks v.thread l.0 (counts v l.0) ∷ []) v u.view
-    → q ≡ record u { call = calls.Release l Excl ComesTo } → BeginsRelease floor l Excl p q
-begins floor l ticket old v r held room p u q may is says step word view look noted =
-    subst (λ k. BeginsRelease floor l Excl (record p { view = k }) q) (sym is) record {
-      call = call_noted u q (calls.Release l Excl ComesTo) noted;
+pub begins : (floor : Description) (l : LockNo) (mode : Mode) (ticket : ℕ) (old v : Knowledge) (r : IsAtRest floor old)
+    (held : hold_in old.share.held l.0 ≡ Holds mode) (room : 1 ≤ old.spare) (p u q : Pass Knowledge)
+    → MayRelease floor l.0 mode p.view → p.view ≡ old
+    → (says : v ≡ seeing v.seen (stamped (config_in floor) old (entry_by old.thread ticket (Unlocked l mode))))
+    → Makes floor (Stamps old.thread (Unlocked l mode) ∷ []) old v → (word : Word)
+    → word ≢ gained (word_of 0) old.thread mode → u.view ≡ seeing u.view.seen (looked v l.0 word)
+    → Makes floor (Looks v.thread l.0 (counts v l.0) ∷ []) v u.view
+    → q ≡ record u { call = calls.Release l mode ComesTo } → BeginsRelease floor l mode p q
+begins floor l mode ticket old v r held room p u q may is says step word other view look noted =
+    subst (λ k. BeginsRelease floor l mode (record p { view = k }) q) (sym is) record {
+      call = call_noted u q (calls.Release l mode ComesTo) noted;
       there = record {
         covered = may.covered;
-        there = subst (IsLeaving floor l.0) same
-            (leaving_missed floor l ticket old v u.view r held room says word view);
+        there = subst (IsLeaving floor l.0 mode) same
+            (leaving_missed floor l mode ticket old v u.view r held room says word view);
       };
-      entry = subst (λ k. MakesEntry floor (Unlocked l Excl) old.share.held old k) same
-          (noted_so_far floor l ticket old v u.view r held room says word view step);
+      found = word;
+      saw = ap (λ (k : Knowledge). k.share.doing.last_look) (sym same ∙ view);
+      other = other;
+      entry = subst (λ k. MakesEntry floor (Unlocked l mode) old.share.held old k) same
+          (noted_so_far floor l mode ticket old v u.view r held room says word view step);
       steps = subst (λ k. MakesEach floor
-          ((Stamps old.thread (Unlocked l Excl) ∷ []) ∷ (Looks old.thread l.0 false ∷ [])
-          ∷ []) old k) same (begin_steps floor l ticket old v u.view r held room says word view step look);
+          ((Stamps old.thread (Unlocked l mode) ∷ []) ∷ (Looks old.thread l.0 false ∷ [])
+          ∷ []) old k) same (begin_steps floor l mode ticket old v u.view r held room says word view step look);
     }
   where
     same : u.view ≡ q.view
-    same = sym (view_noted u q (calls.Release l Excl ComesTo) noted)
+    same = sym (view_noted u q (calls.Release l mode ComesTo) noted)

@@ -1,14 +1,16 @@
 -- A take in its round, and as it takes the lock's chain and then its own record: where it stands behind each part.
 use Rattle.std.proofs.Common.{◌≡◌, ℕ, ◌+◌, ◌<◌, ◌≤◌, Bool, true, false, [], ◌∷◌, length, replicate, refl, ap, ◌∙◌, subst, arith}
 use Rattle.lock_model.specs.Queues.{lock_queue}
-use Rattle.lock_model.specs.Words.{Word, word_of, IsWellFormed}
+use Rattle.lock_model.specs.Words.{Word, word_of, IsWellFormed, is_turnstile}
+use Rattle.lock_model.specs.declared.plan.Kind.{Kind}
 use Rattle.lock_model.specs.declared.event.Event.TheVariants.{Locked}
 use Rattle.lock_model.specs.declared.numbers.LockNo.{LockNo}
-use Rattle.lock_model.specs.declared.plan.Mode.TheVariants.{Excl}
+use Rattle.lock_model.specs.declared.plan.Mode.{Mode}
 use Rattle.lock_state.specs.Steps.{Looks, Gains, Readies, Stamps}
 use Rattle.lock_state.specs.Steps.Items.{RecordOf}
+use Rattle.floor_table.specs.Descriptions.{config_in}
 use Rattle.floor_table.specs.declared.description.Description.{Description}
-use Rattle.floor_table.specs.Steps.{Makes}
+use Rattle.floor_table.specs.Steps.{Makes, MakesEach}
 use Rattle.floor_table.specs.Views.{Knowledge, seeing}
 use Rattle.lock_floor.specs.declared.calls.TakeAt.TheVariants.{Spins, ComesIn, Contends}
 use Rattle.lock_floor.specs.Latches.{FindsOut, Takes}
@@ -17,9 +19,9 @@ use Rattle.lock_floor.specs.Views.{counts, looked}
 use Rattle.lock_floor.specs.Waits.{its_chain, chain_place, readied}
 use Rattle.lock_floor.proofs.FoundQueued.{found_waits}
 use Rattle.lock_floor.proofs.Taking.{HasWaited, waits_none}
-use Rattle.lock_calls.specs.Steps.{IsMutex, as_taken}
-use Rattle.lock_calls.specs.Takes.{HasChainOut, AsksOwner, asks, nobody, looks_left, TakesOn, TakeEnd, looks, takes_chain, comes_in, finds_out, in_round}
-use Rattle.lock_calls.specs.Waiting.{kept_of, IsSeeking, HasSeen, HasSpun, SpinsThenGains, IsThere}
+use Rattle.lock_calls.specs.Steps.{IsCovered, as_taken}
+use Rattle.lock_calls.specs.Takes.{HasChainOut, AsksOwner, asks, nobody, looks_left, LeavesLooks, for_claim, of_mutex, of_shared, LooksOn, looks_alone, tries_too, TakesOn, TakeEnd, looks, takes_chain, comes_in, finds_out, in_round}
+use Rattle.lock_calls.specs.Waiting.{kept_of, IsSeeking, HasSpun, SpinsThenGains, IsThere}
 use Rattle.lock_calls.proofs.Attempts.{seeking_on, looks_spun}
 use Rattle.lock_calls.proofs.Looks.{each_append}
 use Rattle.lock_calls.proofs.There.{seeking_still, chain_still, has_chain, come_kept, come_there, come_steps, quiet_there, contends}
@@ -27,59 +29,87 @@ use Rattle.lock_calls.proofs.There.{seeking_still, chain_still, has_chain, come_
 -- 1. Looks
 
 -- who asks for the owner has waited
-pub asking_waits : (floor : Description) (word : Word) (queued : Bool) (old new : Knowledge)
+asking_waits : (floor : Description) (word : Word) (queued : Bool) (old new : Knowledge)
     → AsksOwner floor word queued old new → HasWaited old new
 asking_waits floor word queued old new (asks o owner view found) = found_waits floor o queued old new view found
 asking_waits floor word queued old new (nobody none) = waits_none new
 
--- fewer looks are left then
-pub fewer_left : (left : ℕ) (queued : Bool) → 1 ≤ left → looks_left left queued < left
-fewer_left left true some = some
-fewer_left left false some = omega (arith, some)
+-- and who finds out how many looks are left
+pub leaving_waits : (floor : Description) (kind : Kind) (mode : Mode) (word : Word) (left rest : ℕ)
+    (old new : Knowledge)
+    → LeavesLooks floor kind mode word left rest old new → HasWaited old new
+leaving_waits floor kind mode word left rest old new (for_claim by_claim) = waits_none new
+leaving_waits floor kind mode word left rest old new (of_mutex queued mutex asked) =
+    asking_waits floor word queued old new asked
+leaving_waits floor kind mode word left rest old new (of_shared no_mutex others) = waits_none new
 
-pub spins_on : (floor : Description) (l : LockNo) (left n : ℕ) (word : Word) (queued : Bool) → 1 ≤ left → 1 ≤ n → n ≤ 2
+-- fewer looks are left then
+left_asked : (left : ℕ) (queued : Bool) → 1 ≤ left → looks_left left queued < left
+left_asked left true some = some
+left_asked left false some = omega (arith, some)
+
+pub fewer_left : (floor : Description) (kind : Kind) (mode : Mode) (word : Word) (left rest : ℕ) (old new : Knowledge)
+    → LeavesLooks floor kind mode word left rest old new → 1 ≤ left → rest < left
+fewer_left floor kind mode word left rest old new (for_claim by_claim) some = some
+fewer_left floor kind mode word left rest old new (of_mutex queued mutex asked) some = left_asked left queued some
+fewer_left floor kind mode word left rest old new (of_shared no_mutex others) some = omega (arith, some)
+
+-- looks in a round are one or two
+pub looks_in_it : (floor : Description) (l : ℕ) (mode : Mode) (n : ℕ) (word : Word) (old seen : Knowledge)
+    → LooksOn floor l mode n word old seen
+    → (1 ≤ n) × (n ≤ 2) × MakesEach floor (replicate n (Looks old.thread l true ∷ [])) old seen
+looks_in_it floor l mode n word old seen (looks_alone w course look saw) =
+    (omega arith, omega arith, (seen, look, refl))
+looks_in_it floor l mode n word old seen (tries_too mid from found course look saw miss found_it other) =
+    (omega arith, omega arith, (mid, look, (seen, miss, refl)))
+
+pub spins_on : (floor : Description) (l : LockNo) (mode : Mode) (left n rest : ℕ) (word : Word) → 1 ≤ left
     → (old seen new : Knowledge) → IsSeeking l.0 old → old.share.doing.looks + (left + left) ≤ 98
-    → HasSpun floor l.0 n old seen → HasSeen l.0 word seen → AsksOwner floor word queued seen new
-    → TakesOn floor l Excl (Spins left) (Spins (looks_left left queued)) old new
-spins_on floor l left n word queued some one two old seen new m room x saw asked =
-    let waited = asking_waits floor word queued seen new asked in
+    → LooksOn floor l.0 mode n word old seen → HasSpun floor l.0 n old seen
+    → LeavesLooks floor ((config_in floor).kind l.0) mode word left rest seen new
+    → TakesOn floor l mode (Spins left) (Spins rest) old new
+spins_on floor l mode left n rest word some old seen new m room on x leaves =
+    let two : n ≤ 2 = (looks_in_it floor l.0 mode n word old seen on).1 in
+    let kind = (config_in floor).kind l.0 in
+    let waited = leaving_waits floor kind mode word left rest seen new leaves in
+    let less : rest < left = fewer_left floor kind mode word left rest seen new leaves some in
     let all : seen.share.doing.looks ≡ n + old.share.doing.looks = looks_spun floor l.0 n old seen x in
     let same : new.share.doing.looks ≡ seen.share.doing.looks =
     ap (λ (k : Knowledge). k.share.doing.looks) waited.view in
     record {
       there = (
         seeking_still l.0 seen new waited.view (seeking_on floor l.0 n old seen x m),
-        omega (arith, same, all, fewer_left left queued some, two, room),
+        omega (arith, same, all, less, two, room),
       );
       kept = ap kept_of waited.view ∙ ap kept_of x.knows;
-      leg = looks seen left n word queued some one two x.steps saw asked;
+      leg = looks seen left n rest word some on leaves;
     }
 
 -- the gain
-pub spun_end : (floor : Description) (l : LockNo) (left : ℕ) → 1 ≤ left → (old v new : Knowledge)
-    → SpinsThenGains floor (as_taken l Excl) 1 old v → Makes floor (Stamps old.thread (Locked l Excl) ∷ []) v new
-    → TakeEnd floor l Excl (Spins left) old new
-spun_end floor l left some old v new s notes =
+pub spun_end : (floor : Description) (l : LockNo) (mode : Mode) (left : ℕ) → 1 ≤ left → (old v new : Knowledge)
+    → SpinsThenGains floor (as_taken l mode) 1 old v → Makes floor (Stamps old.thread (Locked l mode) ∷ []) v new
+    → TakeEnd floor l mode (Spins left) old new
+spun_end floor l mode left some old v new s notes =
     in_round left some
     (each_append floor (replicate 1 (Looks old.thread l.0 true ∷ []))
-    ((Gains old.thread l.0 Excl false ∷ []) ∷ (Stamps old.thread (Locked l Excl) ∷ []) ∷ []) old s.between new
+    ((Gains old.thread l.0 mode false ∷ []) ∷ (Stamps old.thread (Locked l mode) ∷ []) ∷ []) old s.between new
     s.spun.steps (v, s.step, (new, notes, refl)))
 
 -- 2. The chain
 
-module _ (floor : Description) (l : LockNo) (old new : Knowledge) (m : IsSeeking l.0 old)
+module _ (floor : Description) (l : LockNo) (mode : Mode) (old new : Knowledge) (m : IsSeeking l.0 old)
     (room : old.share.doing.looks + (0 + 0) ≤ 98) where
-  pub comes_on : IsMutex floor l.0
+  pub comes_on : is_turnstile ((config_in floor).kind l.0) ≡ true
       → Takes floor (its_chain floor (lock_queue l.0)) (chain_place floor (lock_queue l.0)) old new
-      → TakesOn floor l Excl (Spins 0) ComesIn old new
-  comes_on mutex one = record {
-    there = has_chain floor l.0 old m mutex new one;
+      → TakesOn floor l mode (Spins 0) ComesIn old new
+  comes_on turnstile one = record {
+    there = has_chain floor l.0 old m turnstile new one;
     kept = ap kept_of one.view;
     leg = takes_chain one.step;
   }
 
   pub stays_spinning : new ≡ seeing new.seen old → FindsOut floor (its_chain floor (lock_queue l.0)) old new
-      → TakesOn floor l Excl (Spins 0) (Spins 0) old new
+      → TakesOn floor l mode (Spins 0) (Spins 0) old new
   stays_spinning view finds = record {
     there = (
       seeking_still l.0 old new view m,
@@ -91,34 +121,34 @@ module _ (floor : Description) (l : LockNo) (old new : Knowledge) (m : IsSeeking
 
 -- 3. The own record
 
-pub stays_coming : (floor : Description) (l : LockNo) (who : ℕ) (old new : Knowledge) → who ≡ old.thread
+pub stays_coming : (floor : Description) (l : LockNo) (mode : Mode) (who : ℕ) (old new : Knowledge) → who ≡ old.thread
     → HasChainOut floor l.0 old → new ≡ seeing new.seen old → FindsOut floor (RecordOf who) old new
-    → TakesOn floor l Excl ComesIn ComesIn old new
-stays_coming floor l who old new is m view finds = record {
+    → TakesOn floor l mode ComesIn ComesIn old new
+stays_coming floor l mode who old new is m view finds = record {
   there = chain_still floor l.0 old new view m;
   kept = ap kept_of view;
   leg = finds_out ComesIn (RecordOf who) (ap RecordOf is) view finds;
 }
 
-pub comes_there_on : (floor : Description) (l : LockNo) → IsMutex floor l.0 → floor.chains ≡ 1 → (a : Knowledge)
+pub comes_there_on : (floor : Description) (l : LockNo) (mode : Mode) → IsCovered floor l.0 mode → floor.chains ≡ 1
+    → (a : Knowledge)
     → (m : HasChainOut floor l.0 a) → (going : IsGoing a) → (who : ℕ) → who < length floor.threads
     → (is : who ≡ a.thread) → a.description ≡ floor → (b : Knowledge) → (two : Takes floor (RecordOf who) who a b)
     → (w : Knowledge) → (view : w ≡ seeing w.seen (readied true b))
     → Makes floor (Readies b.thread (lock_queue l.0) ∷ []) b w → (seen : ℕ) (z : Knowledge)
-    → IsWellFormed (word_of seen)
     → z ≡ seeing z.seen (looked w l.0 (word_of seen)) → Makes floor (Looks w.thread l.0 (counts w l.0) ∷ []) w z
-    → TakesOn floor l Excl ComesIn (Contends seen) a z
-comes_there_on floor l mutex one a m going who low is mine b two w view step seen z formed saw look =
+    → TakesOn floor l mode ComesIn (Contends seen) a z
+comes_there_on floor l mode covered one a m going who low is mine b two w view step seen z saw look =
     let there : IsThere floor l.0 w = come_there floor l.0 a m going who is b two w view low in
     let kept : kept_of w ≡ kept_of a = come_kept floor l.0 a m going who is b two w view in
     let its : w.description ≡ floor =
     ap (λ (k : Knowledge). k.description) view ∙ ap (λ (k : Knowledge). k.description) two.view ∙ mine in
     let some_chains : 1 ≤ floor.chains = omega (arith, one) in
     record {
-      there = contends floor l.0 seen w z mutex its some_chains there formed saw look;
+      there = contends floor l.0 mode seen w z covered its some_chains there saw look;
       kept = ap kept_of saw ∙ kept;
       leg = comes_in seen
           (come_steps floor l.0 a m going who is b two w view z step
           (subst (λ c. Makes floor (Looks w.thread l.0 c ∷ []) w z)
-          (quiet_there floor l.0 w mutex there its some_chains) look));
+          (quiet_there floor l.0 mode w covered there its some_chains) look));
     }

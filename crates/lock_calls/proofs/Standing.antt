@@ -1,10 +1,11 @@
 -- A take whose thread stands on the lock's turnstile: it makes hop after hop of its walk, and runs again where it was
 -- woken.
-use Rattle.std.proofs.Common.{◌≡◌, ◌≢◌, ℕ, ◌<◌, ◌≤◌, Bool, [], ◌∷◌, length, refl, sym, ap, ◌∙◌, subst, arith}
+use Rattle.std.proofs.Common.{◌≡◌, ◌≢◌, ℕ, ◌<◌, ◌≤◌, Bool, true, [], ◌∷◌, length, refl, sym, ap, ◌∙◌, subst, arith}
 use Rattle.lock_model.specs.Operations.{hold_in}
 use Rattle.lock_model.specs.Queues.{Cause, BySignal, lock_queue}
+use Rattle.lock_model.specs.Words.{is_turnstile}
 use Rattle.lock_model.specs.declared.numbers.LockNo.{LockNo}
-use Rattle.lock_model.specs.declared.plan.Mode.TheVariants.{Excl}
+use Rattle.lock_model.specs.declared.plan.Mode.{Mode}
 use Rattle.lock_model.specs.declared.plan.QueueName.{QueueName}
 use Rattle.lock_objects.specs.Represents.{walk_of}
 use Rattle.lock_state.specs.State.{Woken, NoWalk, AtLock, AtThread}
@@ -23,10 +24,9 @@ use Rattle.lock_floor.specs.Latches.{FindsOut, Takes}
 use Rattle.lock_floor.specs.Resumes.{cause_of, resumed, FindsQueued, MayRunAgain, RunsAgain}
 use Rattle.lock_floor.specs.Walks.{CanWalk, HasTurnstilesOut, HopsOn, NeedsRecord, turnstiles, turnstiles_place}
 use Rattle.lock_floor.proofs.MayWake.{may_run_again}
-use Rattle.lock_calls.specs.Steps.{IsMutex}
+use Rattle.lock_calls.specs.Steps.{IsCovered}
 use Rattle.lock_calls.specs.Takes.{IsStanding, TakesOn, takes_turnstiles, hops, resumes, finds_out, is_queued}
 use Rattle.lock_calls.specs.Waiting.{kept_of, IsCalling}
-use Rattle.lock_calls.proofs.Owned.{chains_turnstile}
 
 -- 1. What stays
 
@@ -72,10 +72,10 @@ under_way walk.None ne e = ne refl
 under_way (walk.AtLock l) ne e = let z : AtLock l.0 ≡ NoWalk = e in cc
 under_way (walk.AtThread o) ne e = let z : AtThread o.0 ≡ NoWalk = e in cc
 
-module _ (floor : Description) (l : LockNo) (there : run_time.Walk) (old new : Knowledge)
+module _ (floor : Description) (l : LockNo) (mode : Mode) (there : run_time.Walk) (old new : Knowledge)
     (m : IsStanding l.0 there old) where
   pub begins_hop : there ≢ walk.None → Takes floor turnstiles (turnstiles_place floor) old new
-      → HasTurnstilesOut floor new → TakesOn floor l Excl (Walks there) (Hops there) old new
+      → HasTurnstilesOut floor new → TakesOn floor l mode (Walks there) (Hops there) old new
   begins_hop ne taken has = record {
     there = (
       subst (IsStanding l.0 there) (sym taken.view) record {
@@ -94,7 +94,7 @@ module _ (floor : Description) (l : LockNo) (there : run_time.Walk) (old new : K
   }
 
   pub stays_walking : there ≢ walk.None → CanWalk floor old → new ≡ seeing new.seen old
-      → FindsOut floor turnstiles old new → TakesOn floor l Excl (Walks there) (Walks there) old new
+      → FindsOut floor turnstiles old new → TakesOn floor l mode (Walks there) (Walks there) old new
   stays_walking ne can view finds = record {
     there = (standing_still l.0 there old new view m, walk_still floor old new view can);
     kept = ap kept_of view;
@@ -102,7 +102,7 @@ module _ (floor : Description) (l : LockNo) (there : run_time.Walk) (old new : K
   }
 
   pub goes_hopping : (to : run_time.Walk) → HasTurnstilesOut floor old → HopsOn floor (walk_of to) old new
-      → TakesOn floor l Excl (Hops there) (Walks to) old new
+      → TakesOn floor l mode (Hops there) (Walks to) old new
   goes_hopping to has h = record {
     there = (
       subst (IsStanding l.0 to) (sym h.view) record {
@@ -128,30 +128,31 @@ module _ (floor : Description) (l : LockNo) (there : run_time.Walk) (old new : K
 
   pub stays_hopping : HasTurnstilesOut floor old → walk_of there ≢ NoWalk → new ≡ seeing new.seen old
       → (o : ℕ) × NeedsRecord floor o old × FindsOut floor (RecordOf o) old new
-      → TakesOn floor l Excl (Hops there) (Hops there) old new
+      → TakesOn floor l mode (Hops there) (Hops there) old new
   stays_hopping has ne view finds = record {
     there = (standing_still l.0 there old new view m, turnstiles_still floor old new view has, ne);
     kept = ap kept_of view;
-    leg = finds_out (Hops there) (RecordOf finds.0) (finds.0, refl) view finds.2;
+    leg = finds_out (Hops there) (RecordOf finds.0) (finds.0, finds.1, refl) view finds.2;
   }
 
 -- 3. It runs again
 
--- who stands on a mutex's turnstile is woken by a signal
-by_signal : (floor : Description) (l : ℕ) → IsMutex floor l → (old new : Knowledge) (q : QueueName) (cause : Cause)
+-- who stands on a lock's turnstile is woken by a signal
+by_signal : (floor : Description) (l : ℕ) → is_turnstile ((config_in floor).kind l) ≡ true
+    → (old new : Knowledge) (q : QueueName) (cause : Cause)
     → q ≡ lock_queue l → Makes floor (Resumes old.thread q cause ∷ []) old new → cause ≡ BySignal
 unfolding WakesFitQueues
-by_signal floor l mutex old new q cause is m =
+by_signal floor l turnstile old new q cause is m =
     m.sound.turnstiles.wakes_fit_queues old.thread (lock_queue l) cause
-    (subst (λ r. m.state.wait old.thread ≡ Woken r cause) is m.may.0.fits.may.woken) (chains_turnstile floor l mutex)
+    (subst (λ r. m.state.wait old.thread ≡ Woken r cause) is m.may.0.fits.may.woken) turnstile
 
-module _ (floor : Description) (l : LockNo) (mutex : IsMutex floor l.0) (z : Knowledge)
+module _ (floor : Description) (l : LockNo) (mode : Mode) (covered : IsCovered floor l.0 mode) (z : Knowledge)
     (m : IsStanding l.0 walk.None z) (can : CanWalk floor z) (calls : IsCalling floor (kept_of z)) where
   pub may_wake_up : MayRunAgain floor z
   may_wake_up = may_run_again floor z (lock_queue l.0) m.stands can.nothing_out (sym m.walk_is) calls.going.stamped tt
 
   pub sleeps_on : (new : Knowledge) → new ≡ seeing new.seen z → FindsQueued floor z new
-      → TakesOn floor l Excl (Walks walk.None) (Walks walk.None) z new
+      → TakesOn floor l mode (Walks walk.None) (Walks walk.None) z new
   sleeps_on new view queued = record {
     there = (standing_still l.0 walk.None z new view m, walk_still floor z new view can);
     kept = ap kept_of view;
@@ -163,7 +164,7 @@ module _ (floor : Description) (l : LockNo) (mutex : IsMutex floor l.0) (z : Kno
     its_queue = let same : StandsOn r.queue ≡ StandsOn (lock_queue l.0) = sym r.stands ∙ m.stands in cc
 
     its_cause : cause_of aborted ≡ BySignal
-    its_cause = by_signal floor l.0 mutex z new r.queue (cause_of aborted) its_queue r.step
+    its_cause = by_signal floor l.0 covered.turnstile z new r.queue (cause_of aborted) its_queue r.step
 
     resumed_is : new ≡ seeing new.seen (resumed (config_in floor) z (lock_queue l.0) BySignal)
     resumed_is = r.view ∙ (λ i. seeing new.seen (resumed (config_in floor) z (its_queue i) (its_cause i)))
@@ -175,7 +176,7 @@ module _ (floor : Description) (l : LockNo) (mutex : IsMutex floor l.0) (z : Kno
     no_looks : new.share.doing.looks ≡ 0
     no_looks = ap (λ (k : Knowledge). k.share.doing.looks) resumed_is
 
-    pub wakes_up : (left : ℕ) → left ≤ 48 → TakesOn floor l Excl (Walks walk.None) (Spins left) z new
+    pub wakes_up : (left : ℕ) → left ≤ 48 → TakesOn floor l mode (Walks walk.None) (Spins left) z new
     wakes_up left few = record {
       there = (
         record {

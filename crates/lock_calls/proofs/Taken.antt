@@ -1,8 +1,9 @@
 -- A take from its begin on: what the thread has made so far where the take stands, and that its parts together are a
 -- take.
-use Rattle.std.proofs.Common.{◌≡◌, ℕ, zero, suc, ◌+◌, ◌≤◌, true, false, List, [], ◌∷◌, ◌++◌, length, replicate, append_assoc, None, refl, sym, ap, ◌∙◌, subst, inl, inr, arith}
+use Rattle.std.proofs.Common.{◌≡◌, ◌⊎◌, ℕ, zero, suc, ◌+◌, ◌<◌, ◌≤◌, true, false, List, [], ◌∷◌, ◌++◌, length, replicate, None, refl, sym, ap, ◌∙◌, subst, inl, inr, arith}
 use Rattle.std.proofs.lemmas.List.{replicate-append-replicate}
 use Rattle.lock_model.specs.Queues.{BySignal, lock_queue}
+use Rattle.lock_model.specs.Words.{Word}
 use Rattle.lock_model.specs.declared.event.Event.{Event}
 use Rattle.lock_model.specs.declared.event.Reversal.{Reversal}
 use Rattle.lock_model.specs.declared.numbers.LockNo.{LockNo}
@@ -11,6 +12,7 @@ use Rattle.lock_objects.specs.Represents.{walk_of}
 use Rattle.lock_state.specs.State.{Walk, NoWalk, AtLock, AtThread}
 use Rattle.lock_state.specs.Steps.{Step, Seeks, Looks, Gains, Admits, Refuses, Enters, Readies, Resumes, Stamps, TakesItem}
 use Rattle.lock_state.specs.Steps.Items.{RecordOf, ClassGraph}
+use Rattle.floor_table.specs.Descriptions.{config_in}
 use Rattle.floor_table.specs.declared.description.Description.{Description}
 use Rattle.floor_table.specs.Steps.{Makes, MakesEach}
 use Rattle.floor_table.specs.Views.{Knowledge, seeing}
@@ -27,13 +29,13 @@ use Rattle.lock_floor.proofs.Resuming.{waits_queued}
 use Rattle.lock_floor.proofs.Taking.{HasWaited, waits_none, waits_on}
 use Rattle.lock_floor.proofs.WalkHops.{hops_all}
 use Rattle.lock_calls.specs.Steps as steps
-use Rattle.lock_calls.specs.Steps.{as_taken, first_misses, begins_round, gains_at_once, refuses, comes_there, gives_both, runs_on, enters_there, gains_there, ComesToRound, Locks}
+use Rattle.lock_calls.specs.Steps.{IsGain, HasMissedFirst, MissesFirst, none_missed, one_missed, as_taken, begins_round, gains_checked, gains_at_once, refuses, comes_there, gives_both, runs_on, enters_there, gains_there, ComesToRound, Locks}
 use Rattle.lock_calls.specs.Takes.{IsTaking, IsUnderTake, TakesOn, TakeLeg, TakeEnd, IsRefused, admitted, at_check, looks, takes_chain, comes_in, looks_there, enters, takes_turnstiles, hops, resumes, finds_out, is_queued, in_round, in_section}
 use Rattle.lock_calls.specs.Waiting.{Kept, kept_of, IsCalling}
 use Rattle.lock_calls.proofs.Attempts.{misses_bare, misses_few}
-use Rattle.lock_calls.proofs.Looks.{each_append}
+use Rattle.lock_calls.proofs.Looks.{each_append, last_step}
 use Rattle.lock_calls.proofs.Refused.{bare_admitted}
-use Rattle.lock_calls.proofs.Spun.{asking_waits, fewer_left}
+use Rattle.lock_calls.proofs.Spun.{leaving_waits, fewer_left, looks_in_it}
 use Rattle.lock_calls.proofs.Standing.{walk_still}
 use Rattle.lock_calls.proofs.Waited.{makes_sooner, each_sooner, takes_sooner, before_waiting}
 
@@ -87,15 +89,9 @@ pub record HasBegunHop (floor : Description) (l : ℕ) (mode : Mode) (begun now 
   pub can : CanWalk floor before
   pub taken : Takes floor turnstiles (turnstiles_place floor) before now
 
--- its first exchange missed, where it holds nothing, or it made none
-pub record HasLookedFirst (floor : Description) (l : ℕ) (begun now : Knowledge) : Type 0 where
-  pub missed : ℕ
-  pub first : missed ≡ first_misses begun.share.held
-  pub each : MakesEach floor (replicate missed (Looks begun.thread l true ∷ [])) begun now
-
 -- so at each place
 abbrev pub HasCome : Description → ℕ → Mode → Knowledge → TakeAt → Knowledge → Type 0
-HasCome floor l mode begun Checks now = HasLookedFirst floor l begun now
+HasCome floor l mode begun Checks now = (missed : ℕ) × HasMissedFirst floor l mode missed begun now
 HasCome floor l mode begun (Spins left) now =
     (r : HasLookedInRound floor l mode begun now) × (all_looks r + (left + left) ≤ 100)
 HasCome floor l mode begun ComesIn now = HasTakenChain floor l mode begun now
@@ -141,14 +137,18 @@ hops_sooner floor w old mid new h x = record {
 -- 2. The begin
 
 pub begins_at : (floor : Description) (l : ℕ) (mode : Mode) (begun now : Knowledge) (missed : ℕ)
-    → missed ≡ first_misses begun.share.held
-    → MakesEach floor (replicate missed (Looks begun.thread l true ∷ [])) begun now
-    → IsAt floor l mode begun Checks now
-begins_at floor l mode begun now missed first each = record {
+    → HasMissedFirst floor l mode missed begun now → IsAt floor l mode begun Checks now
+begins_at floor l mode begun now missed first = record {
   came = now;
-  has_come = record { missed = missed; first = first; each = each };
+  has_come = (missed, first);
   waited = waits_none now;
 }
+
+-- who made none knows what it knew
+none_made : (floor : Description) (l : ℕ) (mode : Mode) (missed : ℕ) (next : Word) (old new : Knowledge)
+    → MissesFirst floor l mode missed next old new → (old ≡ new) ⊎ (1 ≤ missed)
+none_made floor l mode missed next old new none_missed = inl refl
+none_made floor l mode missed next old new (one_missed n from found before plain look saw other) = inr (omega arith)
 
 -- 3. From one place to the next
 
@@ -194,53 +194,47 @@ module _ (floor : Description) (l : LockNo) (mode : Mode) (begun : Knowledge) wh
   looks_sooner zero old mid new some h each = absurd (omega (arith, some))
   looks_sooner (suc n) old mid new some h each = each_sooner floor look (replicate n look) old mid new h each
 
-  -- the last step of several
-  last_step : (step : List Step) (now w : Knowledge) → MakesEach floor (step ∷ []) now w → Makes floor step now w
-  last_step step now w m = subst (λ k. Makes floor step now k) m.2 m.1
-
   module _ (now new : Knowledge) (its : now.thread ≡ begun.thread) (its_then : new.thread ≡ begun.thread) where
     -- 4. Each leg
 
     pub goes_on : (at to : TakeAt) → IsTaking floor l.0 at now → IsAt floor l.0 mode begun at now
         → TakeLeg floor l mode at to now new → IsAt floor l.0 mode begun to new
-    goes_on at to there h (admitted left few each) =
+    goes_on at to there h (admitted left found few each saw other) =
         let c = h.has_come in
         let round : List (List Step) = (Seeks begun.thread l.0 false ∷ look) ∷ [] in
-        let made : MakesEach floor (checks begun.thread l.0 None ++ round) h.came new =
+        let made : MakesEach floor (begins_round begun.thread l.0) h.came new =
         each_sooner floor (TakesItem begun.thread ClassGraph ∷ []) ((Admits begun.thread l.0 ∷ []) ∷ round) h.came now
         new
         h.waited
         (subst (λ t. MakesEach floor (checks t l.0 None ++ (Seeks t l.0 false ∷ Looks t l.0 true ∷ []) ∷ []) now new)
         its
         each) in
-        let all : MakesEach floor (begins_round begun.thread l.0 c.missed) begun new =
-        subst (λ xs. MakesEach floor xs begun new)
-        (sym (append_assoc (replicate c.missed look) (checks begun.thread l.0 None) round))
-        (each_append floor (replicate c.missed look) (checks begun.thread l.0 None ++ round) begun h.came new c.each
-        made) in
         record {
           came = new;
           has_come = (
             record {
-              before = c.missed + 1;
+              before = c.0 + 1;
               round = new;
-              comes = steps.begins c.missed c.first all;
+              comes = steps.begins c.0 c.1 made;
               n = 0;
               each = refl;
             },
-            omega (arith, few, misses_few begun.share.held c.missed c.first),
+            omega (arith, few, misses_few ((config_in floor).kind l.0) begun.share.held c.0 c.1.first),
           );
           waited = waits_none new;
         }
-    goes_on at to there h (looks seen left n word queued some one two each saw asked) =
+    goes_on at to there h (looks seen left n rest word some on leaves) =
+        let each = looks_in_it floor l.0 mode n word now seen on in
+        let kind = (config_in floor).kind l.0 in
+        let less : rest < left = fewer_left floor kind mode word left rest seen new leaves some in
         let made : MakesEach floor (replicate n look) h.came seen =
-        looks_sooner n h.came now seen one h.waited
-        (subst (λ t. MakesEach floor (replicate n (Looks t l.0 true ∷ [])) now seen) its each) in
+        looks_sooner n h.came now seen each.0 h.waited
+        (subst (λ t. MakesEach floor (replicate n (Looks t l.0 true ∷ [])) now seen) its each.2) in
         let s = more_looks h.came seen h.has_come.0 n made in
         record {
           came = seen;
-          has_come = (s.0, omega (arith, s.1, h.has_come.1, fewer_left left queued some, two));
-          waited = asking_waits floor word queued seen new asked;
+          has_come = (s.0, omega (arith, s.1, h.has_come.1, less, each.1));
+          waited = leaving_waits floor kind mode word left rest seen new leaves;
         }
     goes_on at to there h (takes_chain step) = record {
       came = new;
@@ -274,7 +268,7 @@ module _ (floor : Description) (l : LockNo) (mode : Mode) (begun : Knowledge) wh
           };
           waited = waits_none new;
         }
-    goes_on at to there h (looks_there seen found step) = record {
+    goes_on at to there h (looks_there seen found other step) = record {
       came = new;
       has_come = more_there h.came new h.has_come
           (makes_sooner floor look_there h.came now new h.waited
@@ -388,16 +382,12 @@ module _ (floor : Description) (l : LockNo) (mode : Mode) (begun : Knowledge) wh
         (subst (λ t. MakesEach floor (checks t l.0 None ++ gains_at_once t l.0 mode
         ∷ (Stamps t (Event.Locked l mode) ∷ []) ∷ []) now new) its each) in
         let behind = made.2.2 in
-        let checked : MakesEach floor (checks begun.thread l.0 None ++ gain ∷ []) h.came behind.0 =
+        let checked : MakesEach floor (gains_checked begun.thread l.0 mode) h.came behind.0 =
         (made.0, made.1, (made.2.0, made.2.1, (behind.0, behind.1, refl))) in
         record {
           gained = behind.0;
-          gains = steps.checked c.missed c.first
-              (subst (λ xs. MakesEach floor xs begun behind.0)
-              (sym (append_assoc (replicate c.missed look) (checks begun.thread l.0 None) (gain ∷ [])))
-              (each_append floor (replicate c.missed look) (checks begun.thread l.0 None ++ gain ∷ []) begun h.came
-              behind.0 c.each checked));
-          notes = last_step stamp behind.0 new behind.2;
+          gains = steps.checked c.0 c.1 checked;
+          notes = last_step floor stamp behind.0 new behind.2;
         }
     ends at h (in_round left some each) =
         let made : MakesEach floor (look ∷ (Gains begun.thread l.0 mode false ∷ [])
@@ -413,38 +403,39 @@ module _ (floor : Description) (l : LockNo) (mode : Mode) (begun : Knowledge) wh
           gains = steps.in_round s.0.before s.0.n s.0.comes (omega (arith, s.1, h.has_come.1, some))
               (each_append floor (replicate s.0.n look) ((Gains begun.thread l.0 mode false ∷ []) ∷ []) s.0.round made.0
               gain.0 s.0.each (gain.0, gain.1, refl));
-          notes = last_step (Stamps begun.thread (Event.Locked l mode) ∷ []) gain.0 new gain.2;
+          notes = last_step floor (Stamps begun.thread (Event.Locked l mode) ∷ []) gain.0 new gain.2;
         }
-    ends at h (in_section seen each) =
+    ends at h (in_section seen gain is each) =
         let c = h.has_come in
         let r = c.rounds in
-        let made : MakesEach floor ((Gains begun.thread l.0 mode false ∷ []) ∷ (runs_on floor begun.thread l.0
+        let made : MakesEach floor ((gain ∷ []) ∷ (runs_on floor begun.thread l.0
         ++ (Stamps begun.thread (Event.Locked l mode) ∷ []) ∷ [])) h.came new =
-        each_sooner floor (Gains begun.thread l.0 mode false ∷ []) (runs_on floor begun.thread l.0
+        each_sooner floor (gain ∷ []) (runs_on floor begun.thread l.0
         ++ (Stamps begun.thread (Event.Locked l mode) ∷ []) ∷ []) h.came now new h.waited
-        (subst (λ t. MakesEach floor ((Gains t l.0 mode false ∷ []) ∷ (runs_on floor t l.0
+        (subst (λ t. MakesEach floor ((gain ∷ []) ∷ (runs_on floor t l.0
         ++ (Stamps t (Event.Locked l mode) ∷ []) ∷ [])) now new) its each) in
         let ran = made.2 in
         let record_back = ran.2 in
         let chain_back = record_back.2 in
         let on : MakesEach floor (runs_on floor begun.thread l.0) made.0 chain_back.0 =
         (ran.0, ran.1, (record_back.0, record_back.1, (chain_back.0, chain_back.1, refl))) in
-        let gain : MakesEach floor (replicate c.m look_there ++ (Gains begun.thread l.0 mode false ∷ []) ∷ []) c.there
-        made.0 = each_append floor (replicate c.m look_there) ((Gains begun.thread l.0 mode false ∷ []) ∷ []) c.there
-        h.came
-        made.0 c.each (made.0, made.1, refl) in
-        let there : MakesEach floor (gains_there floor begun.thread l.0 mode c.m) c.looked chain_back.0 =
+        let gains : MakesEach floor (replicate c.m look_there ++ (gain ∷ []) ∷ []) c.there made.0 =
+        each_append floor (replicate c.m look_there) ((gain ∷ []) ∷ []) c.there h.came made.0 c.each
+        (made.0, made.1, refl) in
+        let there : MakesEach floor (gains_there floor begun.thread l.0 gain c.m) c.looked chain_back.0 =
         each_append floor (comes_there floor begun.thread l.0)
-        ((replicate c.m look_there ++ (Gains begun.thread l.0 mode false ∷ []) ∷ []) ++ runs_on floor begun.thread l.0)
-        c.looked c.there chain_back.0 c.come
-        (each_append floor (replicate c.m look_there ++ (Gains begun.thread l.0 mode false ∷ []) ∷ [])
-        (runs_on floor begun.thread l.0) c.there made.0 chain_back.0 gain on) in
+        ((replicate c.m look_there ++ (gain ∷ []) ∷ []) ++ runs_on floor begun.thread l.0) c.looked c.there chain_back.0
+        c.come
+        (each_append floor (replicate c.m look_there ++ (gain ∷ []) ∷ []) (runs_on floor begun.thread l.0) c.there
+        made.0
+        chain_back.0 gains on) in
         record {
           gained = chain_back.0;
-          gains = steps.in_section r.before r.n c.m r.comes c.few
-              (each_append floor (replicate r.n look) (gains_there floor begun.thread l.0 mode c.m) r.round c.looked
+          gains = steps.in_section r.before r.n c.m gain r.comes c.few
+              (subst (λ t. IsGain t l.0 mode false gain) its is)
+              (each_append floor (replicate r.n look) (gains_there floor begun.thread l.0 gain c.m) r.round c.looked
               chain_back.0 r.each there);
-          notes = last_step (Stamps begun.thread (Event.Locked l mode) ∷ []) chain_back.0 new chain_back.2;
+          notes = last_step floor (Stamps begun.thread (Event.Locked l mode) ∷ []) chain_back.0 new chain_back.2;
         }
 
 -- 6. What the whole take leaves
@@ -502,7 +493,12 @@ refused_since floor l mode begun now new r kept h x =
         log_before = e.log_before ∙ ap (λ (k : Kept). k.log) kept;
         log_behind = e.log_behind;
       };
-      steps = go h.has_come.missed (misses_bare begun.share.held h.has_come.missed h.has_come.first) h.has_come.each;
+      steps = elim (none_made floor l.0 mode h.has_come.0 h.has_come.1.next begun h.came h.has_come.1.misses) [
+        | inl none ↦ subst (λ k. MakesEach floor (refuses begun.thread l r.held) k new) (sym none) made
+        | inr some ↦ absurd (bare_admitted floor l r.held now new
+            (ap (λ (k : Kept). k.held) kept
+            ∙ misses_bare ((config_in floor).kind l.0) begun.share.held h.has_come.0 h.has_come.1.first some) x.steps)
+      ];
     }
   where
     made : MakesEach floor (refuses begun.thread l r.held) h.came new
@@ -512,10 +508,3 @@ refused_since floor l mode begun now new r kept h x =
         now
         new h.waited
         (subst (λ t. MakesEach floor (refuses t l r.held) now new) (ap (λ (k : Kept). k.thread) kept) x.steps)
-
-    go : (n : ℕ) → (1 ≤ n → begun.share.held ≡ [])
-        → MakesEach floor (replicate n (Looks begun.thread l.0 true ∷ [])) begun h.came
-        → MakesEach floor (refuses begun.thread l r.held) begun new
-    go zero bare none = subst (λ k. MakesEach floor (refuses begun.thread l r.held) k new) (sym none) made
-    go (suc n) bare looked =
-        absurd (bare_admitted floor l r.held now new (ap (λ (k : Kept). k.held) kept ∙ bare (omega arith)) x.steps)

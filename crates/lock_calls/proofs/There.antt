@@ -1,12 +1,17 @@
 -- A blocking call in the section of the lock's chain: what allows its steps there, and what each leaves.
-use Rattle.std.proofs.Common.{◌≡◌, ◌≢◌, ℕ, ◌<◌, ◌≤◌, Bool, true, false, cond, not, ◌&&◌, ◌||◌, Option, Some, None, [], ◌∷◌, length, refl, sym, ap, ◌∙◌, subst, inl, eq-eqb}
+use Rattle.std.proofs.Common.{◌≡◌, ◌≢◌, ℕ, ◌<◌, ◌≤◌, Bool, true, false, cond, not, ◌&&◌, ◌||◌, Option, Some, None, [], ◌∷◌, length, refl, sym, ap, ◌∙◌, subst, inl, inr, eq-eqb}
 use Rattle.std.proofs.lemmas.Option.{same_Some}
 use Rattle.lock_model.specs.Operations.{hold_in}
 use Rattle.lock_model.specs.Queues.{lock_queue}
-use Rattle.lock_model.specs.Words.{Word, word_of, IsWellFormed, is_free, admits}
+use Rattle.lock_model.specs.Words.{Word, word_of, is_free, is_plain, is_turnstile, admits}
+use Rattle.lock_model.specs.declared.numbers.LockNo.{LockNo}
+use Rattle.lock_model.specs.declared.plan.Mode.{Mode}
 use Rattle.lock_model.specs.declared.plan.Mode.TheVariants.{Excl}
+use Rattle.lock_objects.specs.Hops.{record_claimed, chain_claimed}
+use Rattle.std.specs.Box.{with_value}
+use Rattle.lock_laws.proofs.Words.{IsClaim}
 use Rattle.lock_state.specs.State.{NoWalk, AtLock}
-use Rattle.lock_state.specs.Steps.{Looks, Gains, Enters, Readies, TakesItem, FitsRound, IsOfRound, seeks, is_first}
+use Rattle.lock_state.specs.Steps.{Step, Looks, Gains, Claims, Enters, Readies, TakesItem, FitsRound, IsOfRound, seeks, is_first}
 use Rattle.lock_state.specs.Steps.Items.{RecordOf, item_with, in_its_chain, is_chain}
 use Rattle.lock_state.specs.Steps.Turnstiles.{walk_up}
 use Rattle.floor_table.specs.Descriptions.{config_in}
@@ -18,23 +23,23 @@ use Rattle.floor_table.specs.Steps.{Makes, MakesEach, MayMake}
 use Rattle.floor_table.specs.Views.{is_off_queues, Knowledge, seeing}
 use Rattle.floor_table.proofs.Items.{one_place}
 use Rattle.floor_table.proofs.Shelved.{found_first, found_later}
+use Rattle.lock_floor.specs.Claims.{MayClaimIt, ClaimsIt, out_claimed}
 use Rattle.lock_floor.specs.Latches.{Takes}
 use Rattle.lock_floor.specs.Opens.{HasBothOut}
 use Rattle.lock_floor.specs.Passes.{IsGoing}
-use Rattle.lock_floor.specs.Views.{counts, looked, took, is_there, is_out}
+use Rattle.lock_floor.specs.Views.{counts, looked, gained, took, is_there, is_out}
 use Rattle.lock_floor.specs.Waits.{its_chain, chain_place, readied, both_out}
 use Rattle.lock_floor.proofs.ChainPlaces.{chain_at}
 use Rattle.lock_floor.proofs.InSection.{chain_out, record_out}
 use Rattle.lock_floor.proofs.MayWait as wait
 use Rattle.lock_floor.proofs.MayWait.{IsNoSleeper, is_a_chain}
 use Rattle.lock_floor.proofs.Taking.{record_at}
-use Rattle.lock_calls.specs.Steps.{IsMutex}
+use Rattle.lock_calls.specs.Steps.{IsCovered, as_taken}
 use Rattle.lock_calls.specs.Takes.{HasChainOut, IsContending}
-use Rattle.lock_calls.specs.Waiting.{kept_of, IsCalling, IsSeeking, HasLooked, IsThere, Saw, MissesThere}
-use Rattle.lock_calls.proofs.Attempts.{plainly, unhalted, wants_it}
-use Rattle.lock_calls.proofs.Words.{word_seen, saw_held}
+use Rattle.lock_calls.specs.Waiting.{kept_of, IsCalling, IsSeeking, HasLooked, IsThere, Saw, GainsStep, MissesThere}
+use Rattle.lock_calls.proofs.Attempts.{unhalted, wants_it}
+use Rattle.lock_calls.proofs.Words.{word_seen, saw_others}
 use Rattle.lock_calls.proofs.Looks.{look_once}
-use Rattle.lock_calls.proofs.Owned.{chains_turnstile}
 
 -- 1. The way there
 
@@ -76,10 +81,10 @@ module _ (floor : Description) (l : ℕ) (v : Knowledge) (m : IsSeeking l v) whe
       (λ e. refl)) (wants_it floor l v m)
 
   -- the chain was taken
-  pub has_chain : IsMutex floor l → (a : Knowledge)
+  pub has_chain : is_turnstile ((config_in floor).kind l) ≡ true → (a : Knowledge)
       → Takes floor (its_chain floor (lock_queue l)) (chain_place floor (lock_queue l)) v a → HasChainOut floor l a
-  has_chain mutex a one =
-      let chain = chain_out floor l v a one (chains_turnstile floor l mutex) m.nothing_out in
+  has_chain turnstile a one =
+      let chain = chain_out floor l v a one turnstile m.nothing_out in
       record {
         unheld = ap (λ (k : Knowledge). hold_in k.share.held l) one.view ∙ m.unheld;
         few = subst (λ hs. length hs < 8) (sym (ap (λ (k : Knowledge). k.share.held) one.view)) m.few;
@@ -183,7 +188,8 @@ module _ (floor : Description) (l : ℕ) (a : Knowledge) (m : HasChainOut floor 
 
 -- 2. Looks there
 
-module _ (floor : Description) (l : ℕ) (v : Knowledge) (mutex : IsMutex floor l) (m : IsThere floor l v) where
+module _ (floor : Description) (l : ℕ) (mode : Mode) (v : Knowledge) (covered : IsCovered floor l mode)
+    (m : IsThere floor l v) where
   of_round : seeks l v.share.doing.round ≡ true
   of_round = ap (seeks l) m.round ∙ eq-eqb l l refl
 
@@ -228,43 +234,98 @@ module _ (floor : Description) (l : ℕ) (v : Knowledge) (mutex : IsMutex floor 
 
     pub may_look_in_section : MayMake floor v (λ s. Unit {0}) (Looks v.thread l (counts v l) ∷ [])
     may_look_in_section =
-        wait.may_look_there floor v l (Record m.both.box) (Turnstiles m.both.chain) m.both.out mutex.lock going
+        wait.may_look_there floor v l (Record m.both.box) (Turnstiles m.both.chain) m.both.out covered.lock going
         no_sleeper
         k.description of_round
 
     -- 3. The gain
 
-    pub may_gain_in_section : Saw l (word_of 0) v
-        → MayMake floor v (λ s. s.word l ≡ word_of 0) (Gains v.thread l Excl false ∷ [])
-    may_gain_in_section saw =
-        wait.may_gain_there floor v l (Record m.both.box) (Turnstiles m.both.chain) m.both.out mutex.lock going
+    -- what was seen last there is the word
+    last_seen : (in_mode : Mode) (word : Word) → Saw l word v
+        → admits ((config_in floor).kind l) word in_mode ≡ true → (w : Word)
+        → v.share.doing.seen_in_section ≡ Some (record { lock = l; word = w })
+        → admits ((config_in floor).kind l) w in_mode ≡ true
+    last_seen in_mode word saw admitted w e =
+        ap (λ (x : Word). admits ((config_in floor).kind l) x in_mode) (word_seen l word w (sym saw.there ∙ e))
+        ∙ admitted
+
+    pub may_gain_in_section : (word : Word) → Saw l word v → admits ((config_in floor).kind l) word mode ≡ true
+        → is_plain ((config_in floor).kind l) word mode ≡ true
+        → MayMake floor v (λ s. s.word l ≡ word) (Gains v.thread l mode false ∷ [])
+    may_gain_in_section word saw admitted plain =
+        wait.may_gain_there floor v l (Record m.both.box) (Turnstiles m.both.chain) m.both.out covered.lock going
         no_sleeper
-        Excl false (word_of 0) refl (plainly ((config_in floor).kind l) mutex.kind) m.unheld (inl m.wants) of_round
+        mode false word admitted plain m.unheld (inl m.wants) of_round
         (subst (λ r. FitsRound r l false) (sym m.round) (refl, refl))
-        (λ w e. ap (λ (x : Word). admits ((config_in floor).kind l) x Excl)
-        (word_seen l (word_of 0) w (sym saw.there ∙ e)))
-        (λ j e. same_Some j l (sym e ∙ m.takes)) (λ e. m.takes) (λ e. inl m.wants) (unhalted v k.unnoted)
-        (ap is_off_queues m.ready)
+        (last_seen mode word saw admitted) (λ j e. same_Some j l (sym e ∙ m.takes)) (λ e. m.takes) (λ e. inl m.wants)
+        (unhalted v k.unnoted) (ap is_off_queues m.ready)
+
+    -- it gains the lock by a claim, where the free word shows waiters
+    pub may_claim_in_section : (word : Word) → Saw l word v → IsClaim ((config_in floor).kind l) word mode
+        → MayClaimIt floor l false word v
+    may_claim_in_section word saw claim = record {
+      both = m.both;
+      may = wait.may_claim_there floor v l (Record m.both.box) (Turnstiles m.both.chain) m.both.out covered.lock going
+          no_sleeper false word claim.is_rw claim.free claim.shown m.unheld (inl m.wants) of_round
+          (subst (λ r. FitsRound r l false) (sym m.round) (refl, refl))
+          (last_seen Excl word saw claim.free) (λ j e. same_Some j l (sym e ∙ m.takes)) (λ e. m.takes)
+          (λ e. inl m.wants)
+          (unhalted v k.unnoted) (ap is_off_queues m.ready);
+    }
 
     -- 4. The enter
 
     pub may_enter_in_section : (seen : ℕ) → Saw l (word_of seen) v → is_free (word_of seen).holder ≡ false
-        → MayMake floor v (λ s. s.word l ≡ word_of seen) (Enters v.thread l Excl m.turnstile ∷ [])
-    may_enter_in_section seen saw held =
-        wait.may_enter_there floor v l m.both.box (Turnstiles m.both.chain) m.both.out mutex.lock going no_sleeper Excl
-        m.turnstile (word_of seen) held held (chains_turnstile floor l mutex) (λ e. refl) m.lent m.ready m.wants
-        m.no_walk
+        → admits ((config_in floor).kind l) (word_of seen) mode ≡ false
+        → MayMake floor v (λ s. s.word l ≡ word_of seen) (Enters v.thread l mode m.turnstile ∷ [])
+    may_enter_in_section seen saw held refused =
+        wait.may_enter_there floor v l m.both.box (Turnstiles m.both.chain) m.both.out covered.lock going no_sleeper
+        mode
+        m.turnstile (word_of seen) held refused covered.turnstile covered.mutex m.lent m.ready m.wants m.no_walk
         k.sections saw.last m.round
 
-  pub missed_there : (found : ℕ) (w : Knowledge) → IsWellFormed (word_of found)
+  pub missed_there : (seen found : ℕ) (w : Knowledge) → found ≢ seen
       → w ≡ seeing w.seen (looked v l (word_of found)) → Makes floor (Looks v.thread l (counts v l) ∷ []) v w
-      → MissesThere floor l found v w
-  missed_there found w formed view step = record {
-    formed = formed;
-    held = λ ne. saw_held floor l found v w mutex.kind ne view step;
+      → MissesThere floor l seen found v w
+  missed_there seen found w other view step = record {
+    other = other;
+    seen_so = saw_others floor l found v w m.unheld view step;
     view = view;
     step = step;
   }
+
+-- it gained the lock plainly,
+pub gained_plainly : (floor : Description) (l : LockNo) (mode : Mode) (v : Knowledge) → IsThere floor l.0 v
+    → (w : Knowledge) → w ≡ seeing w.seen (gained v (as_taken l mode))
+    → Makes floor (Gains v.thread l.0 mode false ∷ []) v w → GainsStep floor l mode v w
+gained_plainly floor l mode v m w view step = record {
+  gain = Gains v.thread l.0 mode false;
+  is_gain = inl refl;
+  out = v.out;
+  view = view;
+  both = subst (HasBothOut floor l.0) (sym view)
+      (record { box = m.both.box; chain = m.both.chain; out = m.both.out });
+  step = step;
+}
+
+-- or by a claim
+pub gained_by_claim : (floor : Description) (l : LockNo) (mode : Mode) (v w : Knowledge) → mode ≡ Excl
+    → ClaimsIt floor l false v w → GainsStep floor l mode v w
+gained_by_claim floor l mode v w exclusive x =
+    let h = x.turnstile in
+    let claim : Step = Claims v.thread l.0 h.contents.number false in
+    subst (λ m. GainsStep floor l m v w) (sym exclusive) record {
+      gain = claim;
+      is_gain = inr (refl, h.contents.number, refl);
+      out = out_claimed floor v.thread l.0 x.both.box x.both.chain h;
+      view = x.view;
+      both = subst (HasBothOut floor l.0) (sym x.view) record {
+        box = with_value x.both.box (record_claimed l.0 h x.both.box.value);
+        chain = chain_claimed l.0 x.both.box.value.thread h x.both.chain;
+        out = refl;
+      };
+      step = x.step;
+    }
 
 -- looks stay there
 pub there_on : (floor : Description) (l n : ℕ) (u v : Knowledge) → IsThere floor l u → HasLooked floor l n u v
@@ -291,16 +352,14 @@ saw_word floor l v w word view = record {
 }
 
 -- behind a look it contends there
-pub contends : (floor : Description) (l found : ℕ) (v w : Knowledge) → IsMutex floor l → v.description ≡ floor
-    → 1 ≤ floor.chains → IsThere floor l v → IsWellFormed (word_of found)
-    → w ≡ seeing w.seen (looked v l (word_of found))
+pub contends : (floor : Description) (l : ℕ) (mode : Mode) (found : ℕ) (v w : Knowledge) → IsCovered floor l mode
+    → v.description ≡ floor → 1 ≤ floor.chains → IsThere floor l v → w ≡ seeing w.seen (looked v l (word_of found))
     → Makes floor (Looks v.thread l (counts v l) ∷ []) v w → IsContending floor l found w
-contends floor l found v w mutex mine some_chains m formed view step = record {
+contends floor l mode found v w covered mine some_chains m view step = record {
   there = there_on floor l 1 v w m
-      (look_once floor v l (quiet_there floor l v mutex m mine some_chains) (word_of found) w view step);
+      (look_once floor v l (quiet_there floor l mode v covered m mine some_chains) (word_of found) w view step);
   saw = saw_word floor l v w (word_of found) view;
-  formed = formed;
-  held = λ ne. saw_held floor l found v w mutex.kind ne view step;
+  seen_so = saw_others floor l found v w m.unheld view step;
 }
 
 -- where a walk goes that begins at a lock with this owner

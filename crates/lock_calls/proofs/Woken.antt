@@ -1,7 +1,7 @@
 -- A release as it goes on: where it stands then is noted in the pass; and behind the lock's chain, whom it wakes.
 use Rattle.std.proofs.Common.{◌≡◌, [], refl, sym, ap, ◌∙◌, subst}
 use Rattle.lock_model.specs.declared.numbers.LockNo.{LockNo}
-use Rattle.lock_model.specs.declared.plan.Mode.TheVariants.{Excl}
+use Rattle.lock_model.specs.declared.plan.Mode.{Mode}
 use Rattle.lock_state.specs.Steps.Items.{RecordOf}
 use Rattle.floor_table.specs.declared.description.Description.{Description}
 use Rattle.floor_table.specs.Views.{Knowledge}
@@ -19,22 +19,24 @@ use Rattle.lock_calls.proofs.Leaving.{rests, rests_on, rests_woken}
 
 -- 1. Where it stands
 
-pub release_stands : (floor : Description) (l : LockNo) (old v q : Pass Knowledge) (at from to : ReleaseAt) → at ≡ from
-    → ReleasesOn floor l Excl from to old.view v.view → q ≡ record v { call = calls.Release l Excl to }
-    → GoesOnReleasing floor l Excl at Again old q
-release_stands floor l old v q at from to is on noted = record {
+pub release_stands : (floor : Description) (l : LockNo) (mode : Mode) (old v q : Pass Knowledge)
+    (at from to : ReleaseAt) → at ≡ from
+    → ReleasesOn floor l mode from to old.view v.view → q ≡ record v { call = calls.Release l mode to }
+    → GoesOnReleasing floor l mode at Again old q
+release_stands floor l mode old v q at from to is on noted = record {
   to = to;
-  call = call_noted v q (calls.Release l Excl to) noted;
-  on = subst (λ k. ReleasesOn floor l Excl at to old.view k) (sym (view_noted v q (calls.Release l Excl to) noted))
-      (subst (λ a. ReleasesOn floor l Excl a to old.view v.view) (sym is) on);
+  call = call_noted v q (calls.Release l mode to) noted;
+  on = subst (λ k. ReleasesOn floor l mode at to old.view k) (sym (view_noted v q (calls.Release l mode to) noted))
+      (subst (λ a. ReleasesOn floor l mode a to old.view v.view) (sym is) on);
 }
 
 -- 2. Whom it wakes
 
-module _ (floor : Description) (l : LockNo) (old v q : Pass Knowledge) (rest : IsAtRest floor (with_marks old.view []))
+module _ (floor : Description) (l : LockNo) (mode : Mode) (old v q : Pass Knowledge)
+    (rest : IsAtRest floor (with_marks old.view []))
   where
     pub wakes_done : WakesNext floor Done old.view v.view → q ≡ record v { call = calls.None }
-        → GoesOnReleasing floor l Excl Wakes Done old q
+        → GoesOnReleasing floor l mode Wakes Done old q
     wakes_done w is =
         let same : q.view ≡ old.view = view_noted v q calls.None is ∙ w.1 in
         record {
@@ -46,14 +48,14 @@ module _ (floor : Description) (l : LockNo) (old v q : Pass Knowledge) (rest : I
         }
 
     pub wakes_else : (next : Next) → (next ≡ Done → ⊥) → WakesNext floor next old.view v.view
-        → q ≡ record v { call = calls.Release l Excl Wakes } → GoesOnReleasing floor l Excl Wakes next old q
+        → q ≡ record v { call = calls.Release l mode Wakes } → GoesOnReleasing floor l mode Wakes next old q
     wakes_else Done undone w is = absurd (undone refl)
     wakes_else Again undone w is =
-        let same : v.view ≡ q.view = sym (view_noted v q (calls.Release l Excl Wakes) is) in
+        let same : v.view ≡ q.view = sym (view_noted v q (calls.Release l mode Wakes) is) in
         record {
           to = Wakes;
-          call = call_noted v q (calls.Release l Excl Wakes) is;
-          on = subst (λ k. ReleasesOn floor l Excl Wakes Wakes old.view k) same record {
+          call = call_noted v q (calls.Release l mode Wakes) is;
+          on = subst (λ k. ReleasesOn floor l mode Wakes Wakes old.view k) same record {
             there = rests_on floor old.view v.view rest w.3;
             noted = ap noted_of w.3;
             leg = finds_out Wakes (RecordOf w.0.thread) (w.0, w.1, w.2, refl) w.3 w.4;
@@ -62,9 +64,9 @@ module _ (floor : Description) (l : LockNo) (old v q : Pass Knowledge) (rest : I
     wakes_else Sleep undone w is = absurd w
     wakes_else (Reversed r) undone w is = absurd w
     wakes_else (Wake t) undone w is =
-        let same : v.view ≡ q.view = sym (view_noted v q (calls.Release l Excl Wakes) is) in
+        let same : v.view ≡ q.view = sym (view_noted v q (calls.Release l mode Wakes) is) in
         record {
-          call = call_noted v q (calls.Release l Excl Wakes) is;
+          call = call_noted v q (calls.Release l mode Wakes) is;
           at_end = refl;
           of_floor = w.0;
           wakes = subst (λ k. WakesFirst floor t.0 old.view k) same w.1;

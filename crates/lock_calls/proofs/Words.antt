@@ -1,19 +1,21 @@
--- The word of a mutex: whoever sees one that isn't the free one sees it held, since a free mutex shows no waiters.
-use Rattle.std.proofs.Common.{◌≡◌, ◌≢◌, ℕ, zero, suc, ◌/◌, ◌%◌, ◌≤◌, Bool, true, false, ◌||◌, Option, Some, None, List, [], ◌∷◌, refl, sym, ap, ◌∙◌, subst, arith, eq-eqb}
+-- The word of a lock that a thread doesn't hold, as a look saw it. Whoever sees that of a mutex, and not the free one,
+-- sees it held, since a free mutex shows no waiters.
+use Rattle.std.proofs.Common.{◌≡◌, ◌≢◌, ℕ, zero, suc, ◌/◌, ◌%◌, Bool, true, false, ◌||◌, Option, Some, None, [], ◌∷◌, refl, sym, ap, ◌∙◌, subst, arith, eq-eqb}
 use Rattle.std.specs.Prelude.{◌==◌}
-use Rattle.lock_model.specs.Counts.{one}
-use Rattle.lock_model.specs.Words.{Word, Holder, Free, HeldBy, SharedBy, holder_of, word_of, is_free, shows_waiters}
+use Rattle.lock_model.specs.Holds.{NotHeld}
+use Rattle.lock_model.specs.Operations.{hold_in}
+use Rattle.lock_model.specs.Words.{Word, holder_of, word_of, bits_of, is_free, shows_waiters}
+use Rattle.lock_model.specs.declared.plan.Kind.{Kind}
 use Rattle.lock_model.specs.declared.plan.Kind.TheVariants.{Mtx}
-use Rattle.lock_state.specs.Facts.{FreeMutexShowsNone}
-use Rattle.lock_state.specs.Facts.Waits.{busy}
-use Rattle.lock_state.specs.State.{State, Look}
-use Rattle.lock_state.specs.Steps.{Step, Looks}
+use Rattle.lock_laws.specs.Words.{CanBeSeen}
+use Rattle.lock_state.specs.State.{Look}
+use Rattle.lock_state.specs.Steps.{Looks}
 use Rattle.floor_table.specs.Descriptions.{config_in}
 use Rattle.floor_table.specs.declared.description.Description.{Description}
-use Rattle.floor_table.specs.Steps.{IsSound, Makes}
+use Rattle.floor_table.specs.Steps.{Makes}
 use Rattle.floor_table.specs.Views.{Knowledge, seeing}
 use Rattle.lock_floor.specs.Views.{counts, looked}
-use Rattle.lock_floor.proofs.Finding.{finds_word}
+use Rattle.lock_floor.proofs.Finding.{finds_word, finds_of_others}
 
 -- 1. Words that show neither a holder nor waiters
 
@@ -41,31 +43,14 @@ empty_word n free shown =
     let d : n / 8 ≡ 0 = h.1 in
     omega arith
 
--- 2. A mutex in a sound state
+-- the bits of a word are those that it was read from, so other bits are another word
+bits_again : (n : ℕ) → bits_of (word_of n) ≡ n
+bits_again n = grind arith
 
-shows_none : (w : Word) → one (shows_waiters w) ≤ busy w.holder → is_free w.holder ≡ true → shows_waiters w ≡ false
-shows_none w few free = go w.holder (shows_waiters w) few free
-  where
-    go : (h : Holder) (b : Bool) → one b ≤ busy h → is_free h ≡ true → b ≡ false
-    go Free true few free = absurd (omega arith)
-    go Free false few free = refl
-    go (HeldBy t) b few free = absurd (cc)
-    go (SharedBy n) b few free = absurd (cc)
+pub other_word : (n m : ℕ) → n ≢ m → word_of n ≢ word_of m
+other_word n m other same = other (sym (bits_again n) ∙ ap bits_of same ∙ bits_again m)
 
-pub mutex_is_held : (floor : Description) {past : List Step} (s : State) (l seen : ℕ) → IsSound floor past s
-    → (config_in floor).kind l ≡ Mtx → s.word l ≡ word_of seen → seen ≢ 0 → is_free (word_of seen).holder ≡ false
-unfolding FreeMutexShowsNone
-mutex_is_held floor s l seen sound mutex is other = go (is_free (word_of seen).holder) refl
-  where
-    few : one (shows_waiters (word_of seen)) ≤ busy (word_of seen).holder
-    few = subst (λ (w : Word). one (shows_waiters w) ≤ busy w.holder) is
-        (sound.facts.lawful.waits.free_mutex_shows_none l mutex)
-
-    go : (b : Bool) → is_free (word_of seen).holder ≡ b → b ≡ false
-    go false e = refl
-    go true e = absurd (other (empty_word seen e (shows_none (word_of seen) few e)))
-
--- 3. What a look saw
+-- 2. What a look saw
 
 abbrev pub look_at : ℕ → Word → Look
 look_at l word = record { lock = l; word = word }
@@ -77,11 +62,21 @@ word_seen l a b same = ap seen (sym same)
     seen None = a
     seen (Some x) = x.word
 
--- the word that a look saw, where it isn't the free one, is that of a held mutex
-pub saw_held : (floor : Description) (l seen : ℕ) (old v : Knowledge) → (config_in floor).kind l ≡ Mtx → seen ≢ 0
+-- a look at a lock that the thread doesn't hold saw the word of others' lock
+pub saw_others : (floor : Description) (l seen : ℕ) (old v : Knowledge) → hold_in old.share.held l ≡ NotHeld
     → v ≡ seeing v.seen (looked old l (word_of seen)) → Makes floor (Looks old.thread l (counts old l) ∷ []) old v
-    → is_free (word_of seen).holder ≡ false
-saw_held floor l seen old v mutex other view m =
+    → CanBeSeen ((config_in floor).kind l) (word_of seen)
+saw_others floor l seen old v unheld view m =
     let saw : Some (look_at l (word_of seen)) ≡ Some (look_at l (m.state.word l)) =
     sym (ap (λ (w : Knowledge). w.share.doing.last_look) view) ∙ finds_word floor l (counts old l) old v m in
-    mutex_is_held floor m.state l seen m.sound mutex (word_seen l (word_of seen) (m.state.word l) saw) other
+    subst (CanBeSeen ((config_in floor).kind l)) (word_seen l (word_of seen) (m.state.word l) saw)
+    (finds_of_others floor l (counts old l) old v m unheld)
+
+-- of a mutex that is a held one, where it isn't the word of the mutex that nobody holds or waits for
+pub saw_held : (kind : Kind) (seen : ℕ) → kind ≡ Mtx → seen ≢ 0 → CanBeSeen kind (word_of seen)
+    → is_free (word_of seen).holder ≡ false
+saw_held kind seen mutex other x = go (is_free (word_of seen).holder) refl
+  where
+    go : (b : Bool) → is_free (word_of seen).holder ≡ b → b ≡ false
+    go false e = refl
+    go true e = absurd (other (empty_word seen e (x.mutex mutex e)))

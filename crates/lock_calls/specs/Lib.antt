@@ -1,3 +1,4 @@
+pub mod Choices
 pub mod Steps
 pub mod Waiting
 pub mod Takes

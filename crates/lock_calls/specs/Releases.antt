@@ -1,9 +1,10 @@
 -- A release as a call that stands at places: what the thread knows at each, what it does from one to the next, and how
 -- the release ends. It is noted at its begin.
-use Rattle.std.specs.Prelude.{◌≡◌, ℕ, ◌<◌, Bool, false, List, [], ◌∷◌, length}
+use Rattle.std.specs.Prelude.{◌≡◌, ◌≢◌, ℕ, ◌<◌, Bool, false, List, [], ◌∷◌, length}
 use Rattle.lock_model.specs.Holds.{NotHeld}
 use Rattle.lock_model.specs.Operations.{hold_in, without_lock}
 use Rattle.lock_model.specs.Queues.{Mark, lock_queue}
+use Rattle.lock_model.specs.Words.{Word, word_of, gained}
 use Rattle.lock_model.specs.declared.event.Entry.{Entry}
 use Rattle.lock_model.specs.declared.event.Event.{Event}
 use Rattle.lock_model.specs.declared.numbers.LockNo.{LockNo}
@@ -29,39 +30,41 @@ use Rattle.lock_floor.specs.Waits.{its_chain, chain_place}
 use Rattle.lock_calls.specs.declared.answers.Next.{Next}
 use Rattle.lock_calls.specs.declared.answers.Next.TheVariants.{Done, Again, Sleep, Wake, Reversed}
 use Rattle.lock_calls.specs.Steps.{IsCovered, AtOnce, frees, gives_both, unlocks}
-use Rattle.lock_calls.specs.Waiting.{MayPutDown, IsOwn, with_none_out}
+use Rattle.lock_calls.specs.Waiting.{HasSeen, MayPutDown, IsOwn, with_none_out}
 
 -- 1. What the thread knows at each place
 
--- it may put the lock down, and is at rest once it doesn't hold it
-pub record IsLeaving (floor : Description) (l : ℕ) (v : Knowledge) : Type 0 where
-  pub may : MayPutDown floor l v
+-- it may put the lock down, which it holds in that mode, and is at rest once it doesn't hold it
+pub record IsLeaving (floor : Description) (l : ℕ) (mode : Mode) (v : Knowledge) : Type 0 where
+  pub may : MayPutDown floor l mode v
   pub rest_then : hold_in (without_lock l v.share.held) l ≡ NotHeld → IsAtRest floor (put_down v l)
 
 -- the same, but that it has the lock's chain out
-pub record LeavesWithChain (floor : Description) (l : ℕ) (v : Knowledge) : Type 0 where
-  pub leaving : IsLeaving floor l (with_none_out v)
-  pub chain : List (QueueName × Turnstile)
-  pub out : v.out ≡ (chain_place floor (lock_queue l), Turnstiles chain) ∷ []
+pub record LeavesWithChain (floor : Description) (l : ℕ) (mode : Mode) (v : Knowledge) : Type 0
+  where
+    pub leaving : IsLeaving floor l mode (with_none_out v)
+    pub chain : List (QueueName × Turnstile)
+    pub out : v.out ≡ (chain_place floor (lock_queue l), Turnstiles chain) ∷ []
 
 -- or that and its own record, and that it saw this word last, which is its own
-pub record LeavesWithBoth (floor : Description) (l seen : ℕ) (v : Knowledge) : Type 0 where
-  pub leaving : IsLeaving floor l (with_none_out v)
+pub record LeavesWithBoth (floor : Description) (l : ℕ) (mode : Mode) (seen : ℕ) (v : Knowledge) :
+    Type 0 where
+  pub leaving : IsLeaving floor l mode (with_none_out v)
   pub both : HasBothOut floor l v
-  pub own : IsOwn v.thread seen
+  pub own : IsOwn v.thread mode seen
 
 -- so at each place; behind the release it is at rest, but for those whom it has yet to wake
-abbrev pub IsReleasing : Description → ℕ → ReleaseAt → Knowledge → Type 0
-IsReleasing floor l ComesTo v = IsLeaving floor l v
-IsReleasing floor l ComesIn v = LeavesWithChain floor l v
-IsReleasing floor l (Frees seen) v = LeavesWithBoth floor l seen v
-IsReleasing floor l Wakes v = IsAtRest floor (with_marks v [])
+abbrev pub IsReleasing : Description → ℕ → Mode → ReleaseAt → Knowledge → Type 0
+IsReleasing floor l mode ComesTo v = IsLeaving floor l mode v
+IsReleasing floor l mode ComesIn v = LeavesWithChain floor l mode v
+IsReleasing floor l mode (Frees seen) v = LeavesWithBoth floor l mode seen v
+IsReleasing floor l mode Wakes v = IsAtRest floor (with_marks v [])
 
 -- a release of the lock, which was held in that mode, is under way, and stands there
 pub record IsUnderRelease (floor : Description) (l : LockNo) (mode : Mode) (at : ReleaseAt)
     (v : Knowledge) : Type 0 where
   pub covered : IsCovered floor l.0 mode
-  pub there : IsReleasing floor l.0 at v
+  pub there : IsReleasing floor l.0 mode at v
 
 -- the call that the pass is in the middle of is a release
 pub record IsInRelease (floor : Description) (p : Pass Knowledge) : Type 0 where
@@ -90,8 +93,8 @@ AwaitsInRelease floor l (Frees seen) v i = ⊥
 AwaitsInRelease floor l Wakes v i =
     (m : Mark) × (ms : List Mark) × (v.share.doing.marked ≡ m ∷ ms) × (i ≡ RecordOf m.thread)
 
--- It takes the lock's chain, then its own record, and looks; there an exchange that misses is a look; or it makes the
--- lock free, and gives both back. Or it found out what it needs
+-- It takes the lock's chain, then its own record, and looks; there an exchange that misses is a look, which saw another
+-- word; or it lets the lock go, and gives both back. Or it found out what it needs
 pub data ReleaseLeg (floor : Description) (l : LockNo) (mode : Mode) : ReleaseAt → ReleaseAt
     → Knowledge → Knowledge → Type 0 where
   takes_chain : {old new : Knowledge} → new.share.held ≡ old.share.held
@@ -102,7 +105,8 @@ pub data ReleaseLeg (floor : Description) (l : LockNo) (mode : Mode) : ReleaseAt
       ((TakesItem old.thread (RecordOf old.thread) ∷ []) ∷ (Looks old.thread l.0 false ∷ []) ∷ [])
       old new
       → ReleaseLeg floor l mode ComesIn (Frees seen) old new
-  looks : {old new : Knowledge} (seen found : ℕ) → new.share.held ≡ old.share.held
+  looks : {old new : Knowledge} (seen found : ℕ) → found ≢ seen
+      → new.share.held ≡ old.share.held
       → Makes floor (Looks old.thread l.0 false ∷ []) old new
       → ReleaseLeg floor l mode (Frees seen) (Frees found) old new
   makes_free : {old new : Knowledge} (seen : ℕ) (opens : Bool)
@@ -117,7 +121,7 @@ pub data ReleaseLeg (floor : Description) (l : LockNo) (mode : Mode) : ReleaseAt
 -- the release went on, and stands there
 pub record ReleasesOn (floor : Description) (l : LockNo) (mode : Mode) (at to : ReleaseAt)
     (old new : Knowledge) : Type 0 where
-  pub there : IsReleasing floor l.0 to new
+  pub there : IsReleasing floor l.0 mode to new
   pub noted : noted_of new ≡ noted_of old
   pub leg : ReleaseLeg floor l mode at to old new
 
@@ -141,14 +145,18 @@ pub record ReleasesAtOnce (floor : Description) (l : LockNo) (mode : Mode) (old 
   pub entry : MakesEntry floor (Event.Unlocked l mode) (without_lock l.0 old.share.held) old new
   pub steps : MakesEach floor (unlocks floor old.thread l mode AtOnce) old new
 
--- it is noted; the exchange missed, and was a look
+-- it is noted; the exchange missed, and was a look, which saw another word than the own one that shows no waiters
 pub record BeginsRelease (floor : Description) (l : LockNo) (mode : Mode) (p q : Pass Knowledge) :
     Type 0 where
   pub call : q.call ≡ calls.Release l mode ComesTo
   pub there : IsUnderRelease floor l mode ComesTo q.view
   pub entry : MakesEntry floor (Event.Unlocked l mode) p.view.share.held p.view q.view
+  pub found : Word
+  pub saw : HasSeen l.0 found q.view
+  pub other : found ≢ gained (word_of 0) p.view.thread mode
   pub steps : MakesEach floor
-      ((Stamps p.view.thread (Event.Unlocked l mode) ∷ []) ∷ (Looks p.view.thread l.0 false ∷ []) ∷ [])
+      ((Stamps p.view.thread (Event.Unlocked l mode) ∷ [])
+      ∷ (Looks p.view.thread l.0 false ∷ []) ∷ [])
       p.view q.view
 
 -- a release has begun: the lock is put down at once, or the release is under way
@@ -183,7 +191,7 @@ pub record WakesOne (floor : Description) (l : LockNo) (mode : Mode) (at : Relea
   pub at_end : at ≡ Wakes
   pub of_floor : t < length floor.threads
   pub wakes : WakesFirst floor t p.view q.view
-  pub there : IsReleasing floor l.0 Wakes q.view
+  pub there : IsReleasing floor l.0 mode Wakes q.view
 
 -- a release that stood there went on: it ended, or stands somewhere, or that thread's sleep is to be ended
 abbrev pub GoesOnReleasing : Description → LockNo → Mode → ReleaseAt → Next → Pass Knowledge

@@ -1,17 +1,19 @@
 -- Which locks the calls of this crate are for, and the steps that a take and a release make.
-use Rattle.std.specs.Prelude.{◌≡◌, ℕ, ◌+◌, ◌<◌, ◌≤◌, Bool, true, false, List, [], ◌∷◌, ◌++◌, length, replicate, Some, None}
+use Rattle.std.specs.Prelude.{◌≡◌, ◌≢◌, ◌⊎◌, ℕ, ◌+◌, ◌<◌, ◌≤◌, Bool, true, false, List, [], ◌∷◌, ◌++◌, length, replicate, Some, None}
 use Rattle.lock_model.specs.Queues.{BySignal, Mark, lock_queue}
 use Rattle.lock_model.specs.Holds.{NotHeld, Holds}
 use Rattle.lock_model.specs.Limits.{most_held}
 use Rattle.lock_model.specs.Operations.{hold_in}
+use Rattle.lock_model.specs.Words.{Word, word_of, is_turnstile}
 use Rattle.lock_model.specs.declared.event.Event.{Event}
 use Rattle.lock_model.specs.declared.event.Held.{Held}
 use Rattle.lock_model.specs.declared.numbers.ClassNo.{ClassNo}
 use Rattle.lock_model.specs.declared.numbers.LockNo.{LockNo}
-use Rattle.lock_model.specs.declared.plan.Kind.TheVariants.{Mtx}
+use Rattle.lock_model.specs.declared.plan.Kind.{Kind}
+use Rattle.lock_model.specs.declared.plan.Kind.TheVariants.{Mtx, Rw, Sx}
 use Rattle.lock_model.specs.declared.plan.Mode.{Mode}
 use Rattle.lock_model.specs.declared.plan.Mode.TheVariants.{Excl}
-use Rattle.lock_state.specs.Steps.{Step, Seeks, Looks, Gains, Drops, Stamps, TakesItem, GivesItem, Readies, Unreadies, Enters, Opens, Resumes}
+use Rattle.lock_state.specs.Steps.{Step, Seeks, Looks, Gains, Drops, Stamps, TakesItem, GivesItem, Readies, Unreadies, Enters, Opens, Claims, Resumes}
 use Rattle.lock_state.specs.Steps.Items.{RecordOf}
 use Rattle.floor_table.specs.Descriptions.{config_in}
 use Rattle.floor_table.specs.declared.description.Description.{Description}
@@ -21,6 +23,8 @@ use Rattle.lock_floor.specs.Marks.{marking}
 use Rattle.lock_floor.specs.Ordering.{checks}
 use Rattle.lock_floor.specs.Waits.{its_chain}
 use Rattle.lock_floor.specs.Walks.{Walks}
+use Rattle.lock_calls.specs.Choices.{course}
+use Rattle.lock_calls.specs.declared.courses.Course.TheVariants.{Plainly}
 
 -- 1. Which locks
 
@@ -29,10 +33,12 @@ pub record IsMutex (floor : Description) (l : ℕ) : Type 0 where
   pub lock : l < length floor.locks
   pub kind : (config_in floor).kind l ≡ Mtx
 
--- the calls are there for the lock in that mode: so far for a mutex, which is held exclusively
+-- the calls are there for the lock in that mode: it is one of the floor's locks whose threads block on turnstiles, and
+-- a mutex only exclusively
 pub record IsCovered (floor : Description) (l : ℕ) (mode : Mode) : Type 0 where
-  pub mutex : IsMutex floor l
-  pub exclusive : mode ≡ Excl
+  pub lock : l < length floor.locks
+  pub turnstile : is_turnstile ((config_in floor).kind l) ≡ true
+  pub mutex : (config_in floor).kind l ≡ Mtx → mode ≡ Excl
 
 -- the thread may take the lock in that mode: it doesn't hold it, may hold one more lock, and has room for an entry
 pub record MayTake (floor : Description) (l : ℕ) (mode : Mode) (v : Knowledge) : Type 0 where
@@ -53,24 +59,56 @@ pub record MayRelease (floor : Description) (l : ℕ) (mode : Mode) (v : Knowled
 abbrev pub as_taken : LockNo → Mode → Held
 as_taken l mode = record { l = l; mode = mode; by_try = false }
 
+-- The step by which a thread gains a lock in a mode, for a try or for a blocking call: it gains it plainly; or, where
+-- the mode is exclusive, it claims it, and owns the turnstile h that stands there
+abbrev pub IsGain : ℕ → ℕ → Mode → Bool → Step → Type 0
+IsGain t l mode by_try step =
+    (step ≡ Gains t l mode by_try) ⊎ ((mode ≡ Excl) × (h : ℕ) × (step ≡ Claims t l h by_try))
+
 -- it gains by one exchange, which begins its round and ends it
 abbrev pub gains_at_once : ℕ → ℕ → Mode → List Step
 gains_at_once t l mode = Seeks t l false ∷ Gains t l mode false ∷ []
 
--- So many first exchanges of a call missed before its lock's order is checked: one where its thread holds nothing, and
+-- So many first exchanges of a call that holds nothing may miss before its lock's order is checked: of a mutex one, and
+-- of a lock that can be shared a second
+abbrev pub most_missed : Kind → ℕ
+most_missed Mtx = 1
+most_missed Rw = 2
+most_missed Sx = 2
+
+-- so many first exchanges of a call of a lock of that kind missed: one at least where its thread holds nothing, and
 -- none where it holds a lock
-abbrev pub first_misses : List Held → ℕ
-first_misses [] = 1
-first_misses (h ∷ hs) = 0
+abbrev pub FirstMisses : Kind → List Held → ℕ → Type 0
+FirstMisses kind [] missed = (1 ≤ missed) × (missed ≤ most_missed kind)
+FirstMisses kind (h ∷ hs) missed = missed ≡ 0
 
--- behind so many first exchanges that missed outside a round, the lock's order is checked
-abbrev pub checks_behind : ℕ → ℕ → ℕ → List (List Step)
-checks_behind t l missed = replicate missed (Looks t l true ∷ []) ++ checks t l None
+-- So many first exchanges of a call missed, one behind the other, outside a round, and the next would go from that
+-- word: the first goes from the free word, and each other from the word that the one before it found, where that admits
+-- the mode plainly. One that missed was a look, which saw another word than the one that it went from
+pub data MissesFirst (floor : Description) (l : ℕ) (mode : Mode) : ℕ → Word → Knowledge → Knowledge
+    → Type 0 where
+  none_missed : {old : Knowledge} → MissesFirst floor l mode 0 (word_of 0) old old
+  one_missed : {old mid new : Knowledge} (missed : ℕ) (from found : Word)
+      → MissesFirst floor l mode missed from old mid
+      → course ((config_in floor).kind l) from mode ≡ Plainly
+      → Makes floor (Looks old.thread l true ∷ []) mid new
+      → new.share.doing.last_look ≡ Some (record { lock = l; word = found }) → found ≢ from
+      → MissesFirst floor l mode (missed + 1) found old new
 
--- then a round begins with a look
-abbrev pub begins_round : ℕ → ℕ → ℕ → List (List Step)
-begins_round t l missed =
-    checks_behind t l missed ++ (Seeks t l false ∷ Looks t l true ∷ []) ∷ []
+-- a call's first exchanges missed, where its thread holds nothing, or it made none
+pub record HasMissedFirst (floor : Description) (l : ℕ) (mode : Mode) (missed : ℕ)
+    (old new : Knowledge) : Type 0 where
+  pub first : FirstMisses ((config_in floor).kind l) old.share.held missed
+  pub next : Word
+  pub misses : MissesFirst floor l mode missed next old new
+
+-- its lock's order is checked, and then a round begins with a look
+abbrev pub begins_round : ℕ → ℕ → List (List Step)
+begins_round t l = checks t l None ++ (Seeks t l false ∷ Looks t l true ∷ []) ∷ []
+
+-- or with the gain, which ends it
+abbrev pub gains_checked : ℕ → ℕ → Mode → List (List Step)
+gains_checked t l mode = checks t l None ++ gains_at_once t l mode ∷ []
 
 -- in the round so many looks come, and then the gain
 abbrev pub in_its_round : ℕ → ℕ → Mode → ℕ → List (List Step)
@@ -93,12 +131,11 @@ gives_both floor t l =
 abbrev pub runs_on : Description → ℕ → ℕ → List (List Step)
 runs_on floor t l = (Unreadies t (lock_queue l) ∷ []) ∷ gives_both floor t l
 
--- behind so many looks there, with the exchanges that missed, it gains the lock, and runs on
-abbrev pub gains_there : Description → ℕ → ℕ → Mode → ℕ → List (List Step)
-gains_there floor t l mode n =
+-- behind so many looks there, with the exchanges that missed, it gains the lock by that step, and runs on
+abbrev pub gains_there : Description → ℕ → ℕ → Step → ℕ → List (List Step)
+gains_there floor t l gain n =
     comes_there floor t l
-    ++ ((replicate n (Looks t l false ∷ []) ++ (Gains t l mode false ∷ []) ∷ [])
-    ++ runs_on floor t l)
+    ++ ((replicate n (Looks t l false ∷ []) ++ (gain ∷ []) ∷ []) ++ runs_on floor t l)
 
 -- or it comes to stand on the lock's turnstile, to which it lends its own, x
 abbrev pub enters_there : Description → ℕ → ℕ → Mode → ℕ → ℕ → List (List Step)
@@ -114,13 +151,13 @@ pub record Sleeps (floor : Description) (l : ℕ) (old new : Knowledge) : Type 0
   pub resume : Makes floor (Resumes old.thread (lock_queue l) BySignal ∷ []) walked new
 
 -- How a take comes to be in an acquiring round, with so many looks so far: once its lock's order was checked. A thread
--- that holds nothing makes its first exchange before that, outside the round, and it missed. Or behind a sleep, once a
+-- that holds nothing makes first exchanges before that, outside the round, which missed. Or behind a sleep, once a
 -- round has ended with an enter. From the begin or a sleep to the taking of the chain a take makes at most 100 looks,
 -- with the exchanges that missed
 pub data ComesToRound (floor : Description) (l : ℕ) (mode : Mode) : ℕ → Knowledge → Knowledge
     → Type 0 where
-  begins : {old new : Knowledge} (missed : ℕ) → missed ≡ first_misses old.share.held
-      → MakesEach floor (begins_round old.thread l missed) old new
+  begins : {old u new : Knowledge} (missed : ℕ) → HasMissedFirst floor l mode missed old u
+      → MakesEach floor (begins_round old.thread l) u new
       → ComesToRound floor l mode (missed + 1) old new
   sleeps : {old u v new : Knowledge} (looks n m x : ℕ) → ComesToRound floor l mode looks old u
       → looks + n ≤ 100
@@ -136,17 +173,16 @@ pub data Acquires (floor : Description) (l : ℕ) (mode : Mode) : Knowledge → 
     at_once : {old new : Knowledge} → old.share.held ≡ []
         → MakesEach floor (gains_at_once old.thread l mode ∷ []) old new
         → Acquires floor l mode old new
-    checked : {old new : Knowledge} (missed : ℕ) → missed ≡ first_misses old.share.held
-        → MakesEach floor
-        (checks_behind old.thread l missed ++ gains_at_once old.thread l mode ∷ []) old new
-        → Acquires floor l mode old new
+    checked : {old u new : Knowledge} (missed : ℕ) → HasMissedFirst floor l mode missed old u
+        → MakesEach floor (gains_checked old.thread l mode) u new → Acquires floor l mode old new
     in_round : {old u new : Knowledge} (looks n : ℕ) → ComesToRound floor l mode looks old u
         → looks + n ≤ 100 → MakesEach floor (in_its_round old.thread l mode n) u new
         → Acquires floor l mode old new
-    in_section : {old u new : Knowledge} (looks n m : ℕ) → ComesToRound floor l mode looks old u
-        → looks + n ≤ 100
+    in_section : {old u new : Knowledge} (looks n m : ℕ) (gain : Step)
+        → ComesToRound floor l mode looks old u → looks + n ≤ 100
+        → IsGain old.thread l mode false gain
         → MakesEach floor
-        (replicate n (Looks old.thread l true ∷ []) ++ gains_there floor old.thread l mode m) u new
+        (replicate n (Looks old.thread l true ∷ []) ++ gains_there floor old.thread l gain m) u new
         → Acquires floor l mode old new
 
 -- a take gains the lock, and notes it
@@ -169,12 +205,12 @@ pub data Release : Type 0 where
   AtOnce : Release
   InSection : ℕ → Bool → List Mark → Release
 
--- the step by which the lock is free
+-- the step by which the thread lets the lock go
 abbrev pub frees : ℕ → ℕ → Mode → Bool → Step
 frees t l mode false = Drops t l mode
 frees t l mode true = Opens t l mode
 
--- the thread takes the chain and then its own record; behind the looks there it frees the lock, gives both back, and
+-- the thread takes the chain and then its own record; behind the looks there it lets the lock go, gives both back, and
 -- wakes those of a list
 abbrev pub releases_there : Description → ℕ → ℕ → Mode → ℕ → Bool → List Mark → List (List Step)
 releases_there floor t l mode n opens ms =

@@ -5,15 +5,18 @@ use Rattle.lock_model.specs.Holds.{NotHeld}
 use Rattle.lock_model.specs.Limits.{most_held}
 use Rattle.lock_model.specs.Operations.{hold_in}
 use Rattle.lock_model.specs.Queues.{BySignal, lock_queue}
-use Rattle.lock_model.specs.Words.{Word, word_of, IsWellFormed, is_free, owner_of}
+use Rattle.lock_model.specs.Words.{Word, word_of, owner_of}
 use Rattle.lock_model.specs.declared.event.Event.{Event}
 use Rattle.lock_model.specs.declared.numbers.LockNo.{LockNo}
 use Rattle.lock_model.specs.declared.event.Reversal.{Reversal}
+use Rattle.lock_model.specs.declared.plan.Kind.{Kind}
+use Rattle.lock_model.specs.declared.plan.Kind.TheVariants.{Mtx}
 use Rattle.lock_model.specs.declared.plan.Mode.{Mode}
 use Rattle.lock_model.specs.declared.plan.QueueName.{QueueName}
 use Rattle.lock_objects.specs.Represents.{walk_of}
+use Rattle.lock_laws.specs.Words.{CanBeSeen}
 use Rattle.lock_state.specs.State.{NoWalk}
-use Rattle.lock_state.specs.Steps.{Seeks, Looks, Gains, Enters, Readies, Resumes, Stamps, TakesItem}
+use Rattle.lock_state.specs.Steps.{Step, Seeks, Looks, Gains, Enters, Readies, Resumes, Stamps, TakesItem}
 use Rattle.lock_state.specs.Steps.Items.{Item, RecordOf, ClassGraph}
 use Rattle.lock_state.specs.Steps.LockWords.{bound_to}
 use Rattle.prio_lending.specs.declared.walk.Walk.{Walk}
@@ -33,10 +36,12 @@ use Rattle.lock_floor.specs.Ordering.{checks}
 use Rattle.lock_floor.specs.Passes.{IsAtRest, MakesEntry}
 use Rattle.lock_floor.specs.Resumes.{FindsQueued, FindsWhetherQueued}
 use Rattle.lock_floor.specs.Waits.{its_chain, chain_place}
-use Rattle.lock_floor.specs.Walks.{CanWalk, HasTurnstilesOut, HopsOn, turnstiles, turnstiles_place}
+use Rattle.lock_floor.specs.Walks.{CanWalk, NeedsRecord, HasTurnstilesOut, HopsOn, turnstiles, turnstiles_place}
 use Rattle.lock_calls.specs.declared.answers.Next.{Next}
 use Rattle.lock_calls.specs.declared.answers.Next.TheVariants.{Done, Again, Sleep, Wake, Reversed}
-use Rattle.lock_calls.specs.Steps.{IsCovered, as_taken, first_misses, gains_at_once, gives_both, refuses, runs_on}
+use Rattle.lock_calls.specs.Choices.{course}
+use Rattle.lock_calls.specs.declared.courses.Course.TheVariants.{Plainly, ByClaim}
+use Rattle.lock_calls.specs.Steps.{IsCovered, IsGain, HasMissedFirst, begins_round, as_taken, gains_at_once, gives_both, refuses, runs_on}
 use Rattle.lock_calls.specs.Waiting.{kept_of, IsCalling, IsChecking, IsSeeking, IsThere, HasSeen, Saw}
 
 -- 1. What the thread knows at each place
@@ -53,12 +58,11 @@ pub record HasChainOut (floor : Description) (l : ℕ) (v : Knowledge) : Type 0 
   pub chain : List (QueueName × Turnstile)
   pub out : v.out ≡ (chain_place floor (lock_queue l), Turnstiles chain) ∷ []
 
--- it is in the section of the chain, and saw that word last: the free one, or that of a held lock
+-- it is in the section of the chain, and saw that word last, as others' locks have it
 pub record IsContending (floor : Description) (l seen : ℕ) (v : Knowledge) : Type 0 where
   pub there : IsThere floor l v
   pub saw : Saw l (word_of seen) v
-  pub formed : IsWellFormed (word_of seen)
-  pub held : seen ≢ 0 → is_free (word_of seen).holder ≡ false
+  pub seen_so : CanBeSeen ((config_in floor).kind l) (word_of seen)
 
 -- it stands on the lock's turnstile, and its walk is there
 pub record IsStanding (l : ℕ) (there : Walk) (v : Knowledge) : Type 0 where
@@ -113,33 +117,57 @@ abbrev pub looks_left : ℕ → Bool → ℕ
 looks_left left true = 0
 looks_left left false = left - 1
 
--- the item that a take needs to go on from there: another thread may have it out
-abbrev pub AwaitsInTake : Description → ℕ → ℕ → TakeAt → Item → Type 0
-AwaitsInTake floor t l Checks i = i ≡ ClassGraph
-AwaitsInTake floor t l (Spins left) i = (left ≡ 0) × (i ≡ its_chain floor (lock_queue l))
-AwaitsInTake floor t l ComesIn i = i ≡ RecordOf t
-AwaitsInTake floor t l (Contends seen) i = ⊥
-AwaitsInTake floor t l (Walks there) i = (there ≢ walk.None) × (i ≡ turnstiles)
-AwaitsInTake floor t l (Hops there) i = (o : ℕ) × (i ≡ RecordOf o)
+-- So many looks are left of so many behind one that saw the word: none, where it lets the thread gain the lock by a
+-- claim alone; of a mutex none, where the owner is Queued whom the word names; and one less else
+pub data LeavesLooks (floor : Description) (kind : Kind) (mode : Mode) (word : Word) (left : ℕ) : ℕ
+    → Knowledge → Knowledge → Type 0 where
+  for_claim : {v : Knowledge} → course kind word mode ≡ ByClaim
+      → LeavesLooks floor kind mode word left 0 v v
+  of_mutex : {old new : Knowledge} (queued : Bool) → kind ≡ Mtx
+      → AsksOwner floor word queued old new
+      → LeavesLooks floor kind mode word left (looks_left left queued) old new
+  of_shared : {v : Knowledge} → kind ≢ Mtx → course kind word mode ≢ ByClaim
+      → LeavesLooks floor kind mode word left (left - 1) v v
 
--- Once its lock's order was checked, its round begins with a look. There it looks, and may have an exchange that
--- misses, and asks whether the owner is queued whom the word named that it saw last; once no looks are left, it takes
--- the chain, then its own record, is ready for the queue, and looks. There an
--- exchange that misses is a look; or it comes to stand on the queue. It makes hop after hop of its walk, and where it
--- was woken it begins another round. Or it found out what it needs, or that it is queued still
+-- the item that a take needs to go on from there: another thread may have it out
+abbrev pub AwaitsInTake : Description → Knowledge → ℕ → TakeAt → Item → Type 0
+AwaitsInTake floor v l Checks i = i ≡ ClassGraph
+AwaitsInTake floor v l (Spins left) i = (left ≡ 0) × (i ≡ its_chain floor (lock_queue l))
+AwaitsInTake floor v l ComesIn i = i ≡ RecordOf v.thread
+AwaitsInTake floor v l (Contends seen) i = ⊥
+AwaitsInTake floor v l (Walks there) i = (there ≢ walk.None) × (i ≡ turnstiles)
+AwaitsInTake floor v l (Hops there) i = (o : ℕ) × NeedsRecord floor o v × (i ≡ RecordOf o)
+
+-- Looks at a lock in its round, with the word that was seen last: one alone, which saw a word from which the thread
+-- doesn't gain the lock plainly; or one which saw a word from which it does, and the exchange from that word, which
+-- missed: it was a look, and saw another
+pub data LooksOn (floor : Description) (l : ℕ) (mode : Mode) : ℕ → Word → Knowledge → Knowledge
+    → Type 0 where
+  looks_alone : {old new : Knowledge} (word : Word)
+      → course ((config_in floor).kind l) word mode ≢ Plainly
+      → Makes floor (Looks old.thread l true ∷ []) old new → HasSeen l word new
+      → LooksOn floor l mode 1 word old new
+  tries_too : {old new : Knowledge} (mid : Knowledge) (from found : Word)
+      → course ((config_in floor).kind l) from mode ≡ Plainly
+      → Makes floor (Looks old.thread l true ∷ []) old mid → HasSeen l from mid
+      → Makes floor (Looks old.thread l true ∷ []) mid new → HasSeen l found new → found ≢ from
+      → LooksOn floor l mode 2 found old new
+
+-- Once its lock's order was checked, its round begins with an exchange from the free word, which missed. There it
+-- looks, tries where it saw that it can, and asks whether the owner is queued whom the word named that it saw last;
+-- once no looks are left, it takes the chain, then its own record, is ready for the queue, and looks. There an exchange
+-- that misses is a look, which saw another word; or it comes to stand on the queue. It makes hop after hop of its walk,
+-- and where it was woken it begins another round. Or it found out what it needs, or that it is queued still
 pub data TakeLeg (floor : Description) (l : LockNo) (mode : Mode) : TakeAt → TakeAt → Knowledge
     → Knowledge → Type 0 where
-  admitted : {old new : Knowledge} (left : ℕ) → left ≤ 48
-      → MakesEach floor
-      (checks old.thread l.0 None
-      ++ (Seeks old.thread l.0 false ∷ Looks old.thread l.0 true ∷ []) ∷ [])
-      old new
+  admitted : {old new : Knowledge} (left : ℕ) (found : Word) → left ≤ 48
+      → MakesEach floor (begins_round old.thread l.0) old new
+      → HasSeen l.0 found new → found ≢ word_of 0
       → TakeLeg floor l mode Checks (Spins left) old new
-  looks : {old new : Knowledge} (seen : Knowledge) (left n : ℕ) (word : Word) (queued : Bool)
-      → 1 ≤ left → 1 ≤ n → n ≤ 2
-      → MakesEach floor (replicate n (Looks old.thread l.0 true ∷ [])) old seen
-      → HasSeen l.0 word seen → AsksOwner floor word queued seen new
-      → TakeLeg floor l mode (Spins left) (Spins (looks_left left queued)) old new
+  looks : {old new : Knowledge} (seen : Knowledge) (left n rest : ℕ) (word : Word)
+      → 1 ≤ left → LooksOn floor l.0 mode n word old seen
+      → LeavesLooks floor ((config_in floor).kind l.0) mode word left rest seen new
+      → TakeLeg floor l mode (Spins left) (Spins rest) old new
   takes_chain : {old new : Knowledge}
       → Makes floor (TakesItem old.thread (its_chain floor (lock_queue l.0)) ∷ []) old new
       → TakeLeg floor l mode (Spins 0) ComesIn old new
@@ -149,7 +177,7 @@ pub data TakeLeg (floor : Description) (l : LockNo) (mode : Mode) : TakeAt → T
       ∷ (Readies old.thread (lock_queue l.0) ∷ []) ∷ (Looks old.thread l.0 false ∷ []) ∷ [])
       old new
       → TakeLeg floor l mode ComesIn (Contends seen) old new
-  looks_there : {old new : Knowledge} (seen found : ℕ)
+  looks_there : {old new : Knowledge} (seen found : ℕ) → found ≢ seen
       → Makes floor (Looks old.thread l.0 false ∷ []) old new
       → TakeLeg floor l mode (Contends seen) (Contends found) old new
   enters : {old new : Knowledge} (seen x : ℕ) (there : Walk)
@@ -165,7 +193,7 @@ pub data TakeLeg (floor : Description) (l : LockNo) (mode : Mode) : TakeAt → T
       → Makes floor (Resumes old.thread (lock_queue l.0) BySignal ∷ []) old new
       → TakeLeg floor l mode (Walks walk.None) (Spins left) old new
   finds_out : {old new : Knowledge} (at : TakeAt) (i : Item)
-      → AwaitsInTake floor old.thread l.0 at i → new ≡ seeing new.seen old
+      → AwaitsInTake floor old l.0 at i → new ≡ seeing new.seen old
       → FindsOut floor i old new → TakeLeg floor l mode at at old new
   is_queued : {old new : Knowledge} → new ≡ seeing new.seen old → FindsQueued floor old new
       → TakeLeg floor l mode (Walks walk.None) (Walks walk.None) old new
@@ -186,8 +214,8 @@ pub record HasTaken (floor : Description) (l : LockNo) (mode : Mode) (old new : 
     pub entry : MakesEntry floor (Event.Locked l mode)
         (old.share.held ++ as_taken l mode ∷ []) old new
 
--- Its order was checked, and it gained the lock at once; or it saw it free in its round, and gained it; or it gained it
--- in the section of the chain, and ran on
+-- Its order was checked, and it gained the lock at once; or it saw in its round that it can, and gained it; or it
+-- gained it in the section of the chain, and ran on
 pub data TakeEnd (floor : Description) (l : LockNo) (mode : Mode) : TakeAt → Knowledge → Knowledge
     → Type 0 where
   at_check : {old new : Knowledge}
@@ -202,9 +230,10 @@ pub data TakeEnd (floor : Description) (l : LockNo) (mode : Mode) : TakeAt → K
       ∷ (Stamps old.thread (Event.Locked l mode) ∷ []) ∷ [])
       old new
       → TakeEnd floor l mode (Spins left) old new
-  in_section : {old new : Knowledge} (seen : ℕ)
+  in_section : {old new : Knowledge} (seen : ℕ) (gain : Step)
+      → IsGain old.thread l.0 mode false gain
       → MakesEach floor
-      ((Gains old.thread l.0 mode false ∷ []) ∷ (runs_on floor old.thread l.0
+      ((gain ∷ []) ∷ (runs_on floor old.thread l.0
       ++ (Stamps old.thread (Event.Locked l mode) ∷ []) ∷ []))
       old new
       → TakeEnd floor l mode (Contends seen) old new
@@ -234,15 +263,14 @@ next_at (Contends seen) = Again
 next_at (Walks there) = next_in_walk there
 next_at (Hops there) = Again
 
--- the lock's order is to be checked; where the thread holds nothing, its first exchange came before, and missed
+-- the lock's order is to be checked; where the thread holds nothing, its first exchanges came before, and missed
 pub record BeginsTake (floor : Description) (l : LockNo) (mode : Mode) (p q : Pass Knowledge) :
     Type 0 where
   pub call : q.call ≡ calls.Take l mode Checks
   pub there : IsUnderTake floor l mode Checks q.view
   pub kept : kept_of q.view ≡ kept_of p.view
   pub missed : ℕ
-  pub first : missed ≡ first_misses p.view.share.held
-  pub steps : MakesEach floor (replicate missed (Looks p.view.thread l.0 true ∷ [])) p.view q.view
+  pub first : HasMissedFirst floor l.0 mode missed p.view q.view
 
 -- a take has begun: it gained the lock at once, where its thread holds nothing, or is under way
 abbrev pub HasBegunTake : Description → LockNo → Mode → Next → Pass Knowledge → Pass Knowledge
@@ -276,7 +304,8 @@ pub record EndsRefused (floor : Description) (l : LockNo) (at : TakeAt) (r : Rev
 abbrev pub GoesOnTaking : Description → LockNo → Mode → TakeAt → Next → Pass Knowledge
     → Pass Knowledge → Type 0
 GoesOnTaking floor l mode at Done p q =
-    (q.call ≡ calls.None) × HasTaken floor l mode p.view q.view × TakeEnd floor l mode at p.view q.view
+    (q.call ≡ calls.None) × HasTaken floor l mode p.view q.view
+    × TakeEnd floor l mode at p.view q.view
 GoesOnTaking floor l mode at Again p q = StandsInTake floor l mode at Again p q
 GoesOnTaking floor l mode at Sleep p q = StandsInTake floor l mode at Sleep p q
 GoesOnTaking floor l mode at (Wake t) p q = ⊥

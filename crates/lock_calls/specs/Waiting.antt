@@ -1,18 +1,19 @@
 -- What a thread knows in the middle of a call. Looks of a release count nothing, nor do those under a lock's chain;
--- those of a blocking call's round count, and so does its exchange before the round.
+-- those of a blocking call's round count, and so do its exchanges before the round.
 use Rattle.std.specs.Prelude.{◌≡◌, ◌≢◌, ℕ, ◌+◌, ◌<◌, ◌≤◌, Bool, true, false, List, [], ◌∷◌, length, replicate, Option, Some, None}
 use Rattle.lock_model.specs.Holds.{NotHeld, Holds}
 use Rattle.lock_model.specs.History.{open_in}
 use Rattle.lock_model.specs.Limits.{most_held}
 use Rattle.lock_model.specs.Operations.{hold_in, without_lock}
 use Rattle.lock_model.specs.Queues.{Mark}
-use Rattle.lock_model.specs.Words.{Word, word_of, IsWellFormed, HeldBy, is_free}
+use Rattle.lock_model.specs.Words.{Word, word_of, IsWellFormed, HeldBy}
 use Rattle.lock_model.specs.declared.event.Entry.{Entry}
 use Rattle.lock_model.specs.declared.event.Held.{Held}
 use Rattle.lock_model.specs.declared.numbers.LockNo.{LockNo}
+use Rattle.lock_model.specs.declared.plan.Mode.{Mode}
 use Rattle.lock_model.specs.declared.plan.Mode.TheVariants.{Excl}
 use Rattle.lock_state.specs.State.{Look, Note, Wake, Phase, Walk, NoWalk}
-use Rattle.lock_state.specs.Steps.{Seeks, Looks, Gains, Enters}
+use Rattle.lock_state.specs.Steps.{Step, Seeks, Looks, Gains, Enters}
 use Rattle.lock_state.specs.Steps.LockWords.{is_taking_back, round_of, bound_to}
 use Rattle.lock_state.specs.Steps.Turnstiles.{walk_up}
 use Rattle.floor_table.specs.Descriptions.{config_in}
@@ -27,7 +28,9 @@ use Rattle.lock_floor.specs.Passes.{CanStep, IsGoing}
 use Rattle.lock_floor.specs.Rounds.{gained_first}
 use Rattle.lock_floor.specs.Views.{counts, looked, gained}
 use Rattle.lock_floor.specs.Waits.{out_entered, entered}
-use Rattle.lock_calls.specs.Steps.{as_taken, first_misses, gains_at_once, frees}
+use Rattle.lock_laws.specs.Words.{CanBeSeen}
+use Rattle.lock_words.specs.Views.{IsHeldIn}
+use Rattle.lock_calls.specs.Steps.{IsGain, HasMissedFirst, as_taken, gains_at_once, frees}
 
 -- 1. What stays
 
@@ -148,19 +151,19 @@ with_looks_counted v looks all last seen =
     } in
     record v { share = record v.share { doing = after } }
 
--- A call has begun without a gain: the thread's first exchange missed, where it holds nothing; or it made none, where
+-- A call has begun without a gain: the thread's first exchanges missed, where it holds nothing; or it made none, where
 -- it holds a lock.
-pub record HasMissed (floor : Description) (l : ℕ) (old new : Knowledge) : Type 0 where
-  pub missed : ℕ
-  pub first : missed ≡ first_misses old.share.held
-  pub looks : ℕ
-  pub counted : looks ≡ missed + old.share.doing.looks
-  pub all : ℕ
-  pub last : Option Look
-  pub seen : Option Look
-  pub its : (look : Look) → last ≡ Some look → (look.lock ≡ l) × (old.share.held ≡ [])
-  pub knows : new ≡ seeing new.seen (with_looks_counted old looks all last seen)
-  pub steps : MakesEach floor (replicate missed (Looks old.thread l true ∷ [])) old new
+pub record HasMissed (floor : Description) (l : ℕ) (mode : Mode) (old new : Knowledge) : Type 0
+  where
+    pub missed : ℕ
+    pub first : HasMissedFirst floor l mode missed old new
+    pub looks : ℕ
+    pub counted : looks ≡ missed + old.share.doing.looks
+    pub all : ℕ
+    pub last : Option Look
+    pub seen : Option Look
+    pub its : (look : Look) → last ≡ Some look → (look.lock ≡ l) × (old.share.held ≡ [])
+    pub knows : new ≡ seeing new.seen (with_looks_counted old looks all last seen)
 
 -- The lock's order is to be checked: the thread doesn't hold the lock, has nothing out and no walk, and may check.
 -- Where looks count, they are its first exchanges, which missed, and it holds nothing
@@ -188,10 +191,13 @@ pub record MaySeek (l : ℕ) (v : Knowledge) : Type 0 where
   pub nothing_out : v.out ≡ []
   pub going : IsGoing v
 
--- a round of the lock has begun with a look
+-- a round of the lock has begun with an exchange from the free word, which missed: a look, which saw another word
 pub record HasBegun (floor : Description) (l : ℕ) (old new : Knowledge) : Type 0 where
+  pub found : Word
+  pub other : found ≢ word_of 0
   pub all : ℕ
   pub last : Option Look
+  pub is_last : last ≡ Some (record { lock = l; word = found })
   pub seen : Option Look
   pub knows : new ≡ seeing new.seen (in_round old l 1 all last seen)
   pub step : Makes floor (Seeks old.thread l false ∷ Looks old.thread l true ∷ []) old new
@@ -254,27 +260,32 @@ pub record Saw (l : ℕ) (word : Word) (v : Knowledge) : Type 0 where
   pub last : HasSeen l word v
   pub there : v.share.doing.seen_in_section ≡ Some (record { lock = l; word = word })
 
--- it gained the mutex there
-pub record GainsStep (floor : Description) (l : LockNo) (old new : Knowledge) : Type 0 where
-  pub view : new ≡ seeing new.seen (gained old (as_taken l Excl))
-  pub step : Makes floor (Gains old.thread l.0 Excl false ∷ []) old new
+-- it gained the lock there, plainly or by a claim, and has both out still, as the claim left them
+pub record GainsStep (floor : Description) (l : LockNo) (mode : Mode) (old new : Knowledge) :
+    Type 0 where
+  pub gain : Step
+  pub is_gain : IsGain old.thread l.0 mode false gain
+  pub out : List (ℕ × Slot)
+  pub view : new ≡ seeing new.seen (record (gained old (as_taken l mode)) { out = out })
+  pub both : HasBothOut floor l.0 new
+  pub step : Makes floor (gain ∷ []) old new
 
 -- or it came to stand on its turnstile, and its walk is there
-pub record EntersStep (floor : Description) (l : ℕ) (walk : Walk) (old new : Knowledge) : Type 0
-  where
-    pub both : HasBothOut floor l old
-    pub turnstile : ℕ
-    pub owner : Option ℕ
-    pub walk_is : walk ≡ walk_up l owner
-    pub view : new
-        ≡ seeing new.seen (entered old l owner
-        (out_entered floor old.thread l Excl turnstile owner both.box both.chain))
-    pub step : Makes floor (Enters old.thread l Excl turnstile ∷ []) old new
+pub record EntersStep (floor : Description) (l : ℕ) (mode : Mode) (walk : Walk)
+    (old new : Knowledge) : Type 0 where
+  pub both : HasBothOut floor l old
+  pub turnstile : ℕ
+  pub owner : Option ℕ
+  pub walk_is : walk ≡ walk_up l owner
+  pub view : new
+      ≡ seeing new.seen (entered old l owner
+      (out_entered floor old.thread l mode turnstile owner both.box both.chain))
+  pub step : Makes floor (Enters old.thread l mode turnstile ∷ []) old new
 
--- or its exchange missed, and was a look; the word that it found is another's, or free
-pub record MissesThere (floor : Description) (l found : ℕ) (old new : Knowledge) : Type 0 where
-  pub formed : IsWellFormed (word_of found)
-  pub held : found ≢ 0 → is_free (word_of found).holder ≡ false
+-- or its exchange missed, and was a look, which found that word, another than the one it went from
+pub record MissesThere (floor : Description) (l seen found : ℕ) (old new : Knowledge) : Type 0 where
+  pub other : found ≢ seen
+  pub seen_so : CanBeSeen ((config_in floor).kind l) (word_of found)
   pub view : new ≡ seeing new.seen (looked old l (word_of found))
   pub step : Makes floor (Looks old.thread l (counts old l) ∷ []) old new
 
@@ -295,18 +306,18 @@ pub record IsGaining (l : ℕ) (v : Knowledge) : Type 0 where
   pub nothing_out : v.out ≡ []
 
 -- a blocking call gained the lock: what the thread knows then
-pub record HasGained (l : LockNo) (old new : Knowledge) : Type 0 where
+pub record HasGained (l : LockNo) (mode : Mode) (old new : Knowledge) : Type 0 where
   pub before : Knowledge
   pub kept : kept_of before ≡ kept_of old
   pub gaining : IsGaining l.0 before
-  pub view : new ≡ seeing new.seen (gained before (as_taken l Excl))
+  pub view : new ≡ seeing new.seen (gained before (as_taken l mode))
 
 -- 6. A release
 
--- the thread may put the lock down: it can look and holds it, and its section of it began and is closed; it has nobody
--- to mark or counted in, and doesn't sleep in its log
-pub record MayPutDown (floor : Description) (l : ℕ) (v : Knowledge) : Type 0 where
-  pub held : hold_in v.share.held l ≡ Holds Excl
+-- the thread may put the lock down: it can look and holds it in that mode, and its section of it began and is closed;
+-- it has nobody to mark or counted in, and doesn't sleep in its log
+pub record MayPutDown (floor : Description) (l : ℕ) (mode : Mode) (v : Knowledge) : Type 0 where
+  pub held : hold_in v.share.held l ≡ Holds mode
   pub closed : open_in (config_in floor) v.share.log v.thread l ≡ NotHeld
   pub begun : is_among l v.share.begun ≡ true
   pub unmarked : v.share.doing.marked ≡ []
@@ -315,8 +326,8 @@ pub record MayPutDown (floor : Description) (l : ℕ) (v : Knowledge) : Type 0 w
   pub looks : CanLook v
 
 -- the same in the section of the lock's chain
-pub record MayLetGo (floor : Description) (l : ℕ) (v : Knowledge) : Type 0 where
-  pub held : hold_in v.share.held l ≡ Holds Excl
+pub record MayLetGo (floor : Description) (l : ℕ) (mode : Mode) (v : Knowledge) : Type 0 where
+  pub held : hold_in v.share.held l ≡ Holds mode
   pub closed : open_in (config_in floor) v.share.log v.thread l ≡ NotHeld
   pub begun : is_among l v.share.begun ≡ true
   pub unmarked : v.share.doing.marked ≡ []
@@ -327,23 +338,26 @@ pub record MayLetGo (floor : Description) (l : ℕ) (v : Knowledge) : Type 0 whe
   pub going : IsGoing v
   pub both : HasBothOut floor l v
 
--- the word is that of a lock which the thread holds exclusively
-pub record IsOwn (t seen : ℕ) : Type 0 where
+-- the word is that of a lock which the thread holds in that mode, by itself where that is exclusive
+pub record IsOwn (t : ℕ) (mode : Mode) (seen : ℕ) : Type 0 where
   pub formed : IsWellFormed (word_of seen)
-  pub its : (word_of seen).holder ≡ HeldBy t
+  pub held : IsHeldIn (word_of seen).holder mode
+  pub its : mode ≡ Excl → (word_of seen).holder ≡ HeldBy t
 
--- the thread made the mutex free in the section: those who were taken off are marked, by a drop nobody is
-pub record LetsGo (floor : Description) (l : ℕ) (old new : Knowledge) : Type 0 where
+-- the thread let the lock go in the section: those who were taken off are marked, by a drop nobody is
+pub record LetsGo (floor : Description) (l : ℕ) (mode : Mode) (old new : Knowledge) : Type 0 where
   pub opens : Bool
   pub marks : List Mark
   pub out : List (ℕ × Slot)
   pub view : new ≡ seeing new.seen (opened_up old l marks out)
   pub both : HasBothOut floor l new
   pub unheld : hold_in (without_lock l old.share.held) l ≡ NotHeld
-  pub step : Makes floor (frees old.thread l Excl opens ∷ []) old new
+  pub step : Makes floor (frees old.thread l mode opens ∷ []) old new
 
--- its exchange missed, and was a look
-pub record MissesOwn (floor : Description) (l found : ℕ) (old new : Knowledge) : Type 0 where
-  pub own : IsOwn old.thread found
+-- its exchange missed, and was a look, which found that word, another than the one it went from
+pub record MissesOwn (floor : Description) (l : ℕ) (mode : Mode) (seen found : ℕ)
+    (old new : Knowledge) : Type 0 where
+  pub other : found ≢ seen
+  pub own : IsOwn old.thread mode found
   pub view : new ≡ seeing new.seen (looked old l (word_of found))
   pub step : Makes floor (Looks old.thread l (counts old l) ∷ []) old new

@@ -2,10 +2,9 @@
 //! `witness_checkorder` of its subr_witness.c. A thread that holds nothing made its first exchange before that: nothing
 //! can be refused it. It never waits.
 ghost use Rattle.std.specs.Prelude.{◌≡◌, true, false, IfNone, IfSome, IfOk, IfErr};
-ghost use Rattle.lock_model.specs.declared.plan.Mode.TheVariants.{Excl};
 ghost use Rattle.lock_floor.specs.declared.calls.TakeAt.TheVariants.{Checks};
 ghost use Rattle.lock_floor.specs.Passes.{IsOf};
-ghost use Rattle.lock_calls.specs.Steps.{IsMutex, as_taken};
+ghost use Rattle.lock_calls.specs.Steps.{IsCovered, as_taken};
 ghost use Rattle.lock_calls.specs.Takes.{IsUnderTake, HasTaken, TakeEnd, TakesOn, IsRefused};
 ghost use Rattle.lock_calls.specs.Waiting.{MaySeek, GainsAtOnce, HasBegun};
 
@@ -13,27 +12,32 @@ use crate::spinning::{FREE, LOOKS, note_taken};
 use lock_floor::{Floor, Pass, TakeAt};
 use lock_model::{Event, Held, LockNo, Mode, Reversal};
 
-/// Has the order of a mutex checked, if the class graph is at home. Where it is admitted, a round of the mutex begins
+/// Has the order of a lock checked, if the class graph is at home. Where it is admitted, a round of the lock begins
 /// by an exchange, which gains it (`None`: then that is noted) or is the round's first look. Else it answers where the
-/// take stands then. `Err` comes exactly where the class of a held lock forbids that of the mutex: that is noted.
-pub fn check(floor: &Floor, pass: &mut Pass, l: LockNo) -> Result<Option<TakeAt>, Reversal>
+/// take stands then. `Err` comes exactly where the class of a held lock forbids that of the lock: that is noted.
+pub fn check(
+    floor: &Floor,
+    pass: &mut Pass,
+    l: LockNo,
+    mode: Mode,
+) -> Result<Option<TakeAt>, Reversal>
     requires own { IsOf floor.now pass.old }
-    requires under_way { IsUnderTake floor.now.description l Excl Checks pass.old.view }
+    requires under_way { IsUnderTake floor.now.description l mode Checks pass.old.view }
     ensures own { IsOf floor.now pass.new }
     ensures taken { IfOk result (λ to. IfNone to
-        (HasTaken floor.now.description l Excl pass.old.view pass.new.view)) }
+        (HasTaken floor.now.description l mode pass.old.view pass.new.view)) }
     ensures end { IfOk result (λ to. IfNone to
-        (TakeEnd floor.now.description l Excl Checks pass.old.view pass.new.view)) }
+        (TakeEnd floor.now.description l mode Checks pass.old.view pass.new.view)) }
     ensures on { IfOk result (λ to. IfSome to
-        (λ at. TakesOn floor.now.description l Excl Checks at pass.old.view pass.new.view)) }
+        (λ at. TakesOn floor.now.description l mode Checks at pass.old.view pass.new.view)) }
     ensures refused { IfErr result
         (λ r. IsRefused floor.now.description l r pass.old.view pass.new.view) }
 {
     match floor.try_order(pass, l) {
         None => Ok(Some(TakeAt::Checks)),
         Some(Ok(())) => {
-            if seek(floor, pass, l) {
-                note_taken(floor, pass, l);
+            if seek(floor, pass, l, mode) {
+                note_taken(floor, pass, l, mode);
                 Ok(None)
             } else {
                 Ok(Some(TakeAt::Spins(LOOKS)))
@@ -52,21 +56,21 @@ pub fn check(floor: &Floor, pass: &mut Pass, l: LockNo) -> Result<Option<TakeAt>
     }
 }
 
-// Begins a round of a mutex, the order of which is checked, by an exchange. `false` comes only where another thread was
+// Begins a round of a lock, the order of which is checked, by an exchange. `false` comes only where another thread was
 // faster: then it was the first look of the round.
-fn seek(floor: &Floor, pass: &mut Pass, l: LockNo) -> bool
+fn seek(floor: &Floor, pass: &mut Pass, l: LockNo, mode: Mode) -> bool
     requires own { IsOf floor.now pass.old }
-    requires mutex { IsMutex floor.now.description l.0 }
+    requires covered { IsCovered floor.now.description l.0 mode }
     requires may { MaySeek l.0 pass.old.view }
     ensures own { IsOf floor.now pass.new }
     ensures gained { result ≡ true
-        → GainsAtOnce floor.now.description (as_taken l Excl) pass.old.view pass.new.view }
+        → GainsAtOnce floor.now.description (as_taken l mode) pass.old.view pass.new.view }
     ensures begun { result ≡ false
         → HasBegun floor.now.description l.0 pass.old.view pass.new.view }
 {
     let hold = Held {
         l,
-        mode: Mode::Excl,
+        mode,
         by_try: false,
     };
     match floor.seek_gain(pass, hold, FREE) {

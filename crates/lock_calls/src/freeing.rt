@@ -2,23 +2,23 @@
 //! `turnstile_broadcast` of its subr_turnstile.c: those who wait are taken off the lock's turnstile. It never waits.
 ghost use Rattle.std.specs.Prelude.{◌≡◌, true, false, IfOk, IfErr};
 ghost use Rattle.lock_model.specs.Words.{word_of, is_drop};
-ghost use Rattle.lock_model.specs.declared.plan.Mode.TheVariants.{Excl};
 ghost use Rattle.lock_floor.specs.declared.calls.ReleaseAt.TheVariants.{ComesTo, ComesIn, Frees};
 ghost use Rattle.lock_floor.specs.Passes.{IsOf};
 ghost use Rattle.lock_calls.specs.Releases.{IsUnderRelease, ReleasesOn};
-ghost use Rattle.lock_calls.specs.Steps.{IsMutex};
+ghost use Rattle.lock_calls.specs.Steps.{IsCovered};
 ghost use Rattle.lock_calls.specs.Waiting.{MayLetGo, IsOwn, LetsGo, MissesOwn};
 
 use crate::blocking::give_both;
 use lock_floor::{Floor, Pass, ReleaseAt};
 use lock_model::{LockNo, Mode, QueueName};
 
-/// Takes the chain of a mutex, the release of which is noted, if it is at home. Answers where the release stands then.
-pub fn come_to(floor: &Floor, pass: &mut Pass, l: LockNo) -> ReleaseAt
+/// Takes the chain of a lock, the release of which is noted, if it is at home. Answers where the release stands then.
+pub fn come_to(floor: &Floor, pass: &mut Pass, l: LockNo, mode: Mode) -> ReleaseAt
     requires own { IsOf floor.now pass.old }
-    requires under_way { IsUnderRelease floor.now.description l Excl ComesTo pass.old.view }
+    requires under_way { IsUnderRelease floor.now.description l mode ComesTo pass.old.view }
     ensures own { IsOf floor.now pass.new }
-    ensures on { ReleasesOn floor.now.description l Excl ComesTo result pass.old.view pass.new.view }
+    ensures on { ReleasesOn floor.now.description l mode ComesTo result
+        pass.old.view pass.new.view }
 {
     if floor.try_take_chain(pass, QueueName::Lock(l)) {
         ReleaseAt::ComesIn
@@ -28,11 +28,12 @@ pub fn come_to(floor: &Floor, pass: &mut Pass, l: LockNo) -> ReleaseAt
 }
 
 /// With the chain out, takes the own record, if it is at home, and looks. Answers where the release stands then.
-pub fn come_in(floor: &Floor, pass: &mut Pass, l: LockNo) -> ReleaseAt
+pub fn come_in(floor: &Floor, pass: &mut Pass, l: LockNo, mode: Mode) -> ReleaseAt
     requires own { IsOf floor.now pass.old }
-    requires under_way { IsUnderRelease floor.now.description l Excl ComesIn pass.old.view }
+    requires under_way { IsUnderRelease floor.now.description l mode ComesIn pass.old.view }
     ensures own { IsOf floor.now pass.new }
-    ensures on { ReleasesOn floor.now.description l Excl ComesIn result pass.old.view pass.new.view }
+    ensures on { ReleasesOn floor.now.description l mode ComesIn result
+        pass.old.view pass.new.view }
 {
     let who = pass.thread();
     if !floor.try_take_rec(pass, who) {
@@ -41,16 +42,16 @@ pub fn come_in(floor: &Floor, pass: &mut Pass, l: LockNo) -> ReleaseAt
     ReleaseAt::Frees(floor.look(pass, l))
 }
 
-/// Makes the mutex free in that section, where its word is still the one that was seen, and gives the own record and
+/// Lets the lock go in that section, where its word is still the one that was seen, and gives the own record and
 /// the chain back. Answers where the release stands then.
-pub fn let_go(floor: &Floor, pass: &mut Pass, l: LockNo, seen: u64) -> ReleaseAt
+pub fn let_go(floor: &Floor, pass: &mut Pass, l: LockNo, mode: Mode, seen: u64) -> ReleaseAt
     requires own { IsOf floor.now pass.old }
-    requires under_way { IsUnderRelease floor.now.description l Excl (Frees seen) pass.old.view }
+    requires under_way { IsUnderRelease floor.now.description l mode (Frees seen) pass.old.view }
     ensures own { IsOf floor.now pass.new }
-    ensures on { ReleasesOn floor.now.description l Excl (Frees seen) result
+    ensures on { ReleasesOn floor.now.description l mode (Frees seen) result
         pass.old.view pass.new.view }
 {
-    match free(floor, pass, l, seen) {
+    match free(floor, pass, l, mode, seen) {
         Ok(()) => {
             give_both(floor, pass, l);
             ReleaseAt::Wakes
@@ -59,57 +60,60 @@ pub fn let_go(floor: &Floor, pass: &mut Pass, l: LockNo, seen: u64) -> ReleaseAt
     }
 }
 
-// Frees the mutex in that section, where its word is still the one that was seen. It is one exchange: an open where
+// Lets the lock go in that section, where its word is still the one that was seen. It is one exchange: an open where
 // waiters are shown, or else a drop.
-fn free(floor: &Floor, pass: &mut Pass, l: LockNo, seen: u64) -> Result<(), u64>
+fn free(floor: &Floor, pass: &mut Pass, l: LockNo, mode: Mode, seen: u64) -> Result<(), u64>
     requires own { IsOf floor.now pass.old }
-    requires mutex { IsMutex floor.now.description l.0 }
-    requires may { MayLetGo floor.now.description l.0 pass.old.view }
-    requires seen { IsOwn pass.old.view.thread seen }
+    requires covered { IsCovered floor.now.description l.0 mode }
+    requires may { MayLetGo floor.now.description l.0 mode pass.old.view }
+    requires seen { IsOwn pass.old.view.thread mode seen }
     ensures own { IsOf floor.now pass.new }
     ensures lets { IfOk result
-        (λ _. LetsGo floor.now.description l.0 pass.old.view pass.new.view) }
+        (λ _. LetsGo floor.now.description l.0 mode pass.old.view pass.new.view) }
     ensures missed { IfErr result
-        (λ found. MissesOwn floor.now.description l.0 found pass.old.view pass.new.view) }
+        (λ found. MissesOwn floor.now.description l.0 mode seen found
+        pass.old.view pass.new.view) }
 {
     if lock_words::is_drop(seen) {
-        free_by_drop(floor, pass, l, seen)
+        free_by_drop(floor, pass, l, mode, seen)
     } else {
-        free_by_open(floor, pass, l, seen)
+        free_by_open(floor, pass, l, mode, seen)
     }
 }
 
 // The same where no waiters are shown.
-fn free_by_drop(floor: &Floor, pass: &mut Pass, l: LockNo, seen: u64) -> Result<(), u64>
+fn free_by_drop(floor: &Floor, pass: &mut Pass, l: LockNo, mode: Mode, seen: u64) -> Result<(), u64>
     requires own { IsOf floor.now pass.old }
-    requires mutex { IsMutex floor.now.description l.0 }
-    requires may { MayLetGo floor.now.description l.0 pass.old.view }
-    requires seen { IsOwn pass.old.view.thread seen }
+    requires covered { IsCovered floor.now.description l.0 mode }
+    requires may { MayLetGo floor.now.description l.0 mode pass.old.view }
+    requires seen { IsOwn pass.old.view.thread mode seen }
     requires drop { is_drop (word_of seen) ≡ true }
     ensures own { IsOf floor.now pass.new }
     ensures lets { IfOk result
-        (λ _. LetsGo floor.now.description l.0 pass.old.view pass.new.view) }
+        (λ _. LetsGo floor.now.description l.0 mode pass.old.view pass.new.view) }
     ensures missed { IfErr result
-        (λ found. MissesOwn floor.now.description l.0 found pass.old.view pass.new.view) }
+        (λ found. MissesOwn floor.now.description l.0 mode seen found
+        pass.old.view pass.new.view) }
 {
-    match floor.put_down(pass, l, Mode::Excl, seen) {
+    match floor.put_down(pass, l, mode, seen) {
         Ok(()) => Ok(()),
         Err(found) => Err(found),
     }
 }
 
 // The same where waiters are shown, who are taken off.
-fn free_by_open(floor: &Floor, pass: &mut Pass, l: LockNo, seen: u64) -> Result<(), u64>
+fn free_by_open(floor: &Floor, pass: &mut Pass, l: LockNo, mode: Mode, seen: u64) -> Result<(), u64>
     requires own { IsOf floor.now pass.old }
-    requires mutex { IsMutex floor.now.description l.0 }
-    requires may { MayLetGo floor.now.description l.0 pass.old.view }
-    requires seen { IsOwn pass.old.view.thread seen }
+    requires covered { IsCovered floor.now.description l.0 mode }
+    requires may { MayLetGo floor.now.description l.0 mode pass.old.view }
+    requires seen { IsOwn pass.old.view.thread mode seen }
     requires opens { is_drop (word_of seen) ≡ false }
     ensures own { IsOf floor.now pass.new }
     ensures lets { IfOk result
-        (λ _. LetsGo floor.now.description l.0 pass.old.view pass.new.view) }
+        (λ _. LetsGo floor.now.description l.0 mode pass.old.view pass.new.view) }
     ensures missed { IfErr result
-        (λ found. MissesOwn floor.now.description l.0 found pass.old.view pass.new.view) }
+        (λ found. MissesOwn floor.now.description l.0 mode seen found
+        pass.old.view pass.new.view) }
 {
     match floor.open_up(pass, l, seen) {
         Ok(()) => Ok(()),

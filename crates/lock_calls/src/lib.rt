@@ -8,7 +8,8 @@
 //! - `answers`: what a part of a call answers.
 //! - `taking` and `releasing`: the parts of a take and of a release, and `waiting`: the loops over them.
 //! - `checking`: how a take has the order of its lock checked, `spinning`: a take before it has the lock's chain,
-//!   `blocking`: in the section of the chain, and `sleeping`: on the lock's turnstile.
+//!   `blocking`: in the section of the chain, and `sleeping`: on the lock's turnstile. `courses`: what it does with a
+//!   word that it saw.
 //! - `freeing`: a release in the section of the lock's chain, and `waking`: behind it.
 //!
 //! Each call needs a pass at rest and leaves it at rest. No call takes memory.
@@ -17,6 +18,7 @@
 mod answers;
 mod blocking;
 mod checking;
+mod courses;
 mod freeing;
 mod releasing;
 mod sleeping;

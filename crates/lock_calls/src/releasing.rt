@@ -3,7 +3,6 @@
 ghost use Rattle.std.specs.Prelude.{◌≡◌};
 ghost use Rattle.lock_model.specs.declared.numbers.LockNo.{LockNo as Lock};
 ghost use Rattle.lock_model.specs.declared.plan.Mode.{Mode as InMode};
-ghost use Rattle.lock_model.specs.declared.plan.Mode.TheVariants.{Excl};
 ghost use Rattle.lock_floor.specs.declared.calls.Call.TheVariants as calls;
 ghost use Rattle.lock_floor.specs.declared.calls.ReleaseAt.{ReleaseAt as Place};
 ghost use Rattle.lock_floor.specs.declared.calls.ReleaseAt.TheVariants.{Wakes};
@@ -26,9 +25,17 @@ pub fn begin_release(floor: &Floor, pass: &mut Pass, l: LockNo, mode: Mode) -> N
     ensures own { IsOf floor.now pass.new }
     ensures begun { HasBegunRelease floor.now.description l mode result pass.old pass.new }
 {
-    match mode {
-        Mode::Excl => begin_exclusively(floor, pass, l),
-        Mode::Shared => unreachable!(),
+    floor.stamp(pass, Event::Unlocked { l, mode });
+    let own = lock_words::gained(FREE, pass.thread(), mode);
+    match floor.put_down(pass, l, mode, own) {
+        Ok(()) => {
+            pass.set_call(Call::None);
+            Next::Done
+        }
+        Err(_) => {
+            stand(pass, l, mode, ReleaseAt::ComesTo);
+            Next::Again
+        }
     }
 }
 
@@ -44,74 +51,44 @@ pub fn go_on_releasing(floor: &Floor, pass: &mut Pass) -> Next
         → GoesOnReleasing floor.now.description l mode at result pass.old pass.new }
 {
     match pass.call() {
-        Call::Release { l, mode, at } => match mode {
-            Mode::Excl => go_on_exclusively(floor, pass, l, at),
-            Mode::Shared => unreachable!(),
-        },
+        Call::Release { l, mode, at } => go_on(floor, pass, l, mode, at),
         Call::None | Call::Take { .. } => unreachable!(),
     }
 }
 
-// Begins a release of a mutex.
-fn begin_exclusively(floor: &Floor, pass: &mut Pass, l: LockNo) -> Next
-    requires ready { IsReady floor.now pass.old }
-    requires may { MayRelease floor.now.description l.0 Excl pass.old.view }
-    ensures own { IsOf floor.now pass.new }
-    ensures begun { HasBegunRelease floor.now.description l Excl result pass.old pass.new }
-{
-    floor.stamp(
-        pass,
-        Event::Unlocked {
-            l,
-            mode: Mode::Excl,
-        },
-    );
-    let own = lock_words::gained(FREE, pass.thread(), Mode::Excl);
-    match floor.put_down(pass, l, Mode::Excl, own) {
-        Ok(()) => {
-            pass.set_call(Call::None);
-            Next::Done
-        }
-        Err(_) => {
-            stand(pass, l, ReleaseAt::ComesTo);
-            Next::Again
-        }
-    }
-}
-
-// Goes on with a release of a mutex.
-fn go_on_exclusively(floor: &Floor, pass: &mut Pass, l: LockNo, at: ReleaseAt) -> Next
+// Goes on with a release of that lock, which stands there.
+fn go_on(floor: &Floor, pass: &mut Pass, l: LockNo, mode: Mode, at: ReleaseAt) -> Next
     requires own { IsOf floor.now pass.old }
-    requires under_way { IsUnderRelease floor.now.description l Excl at pass.old.view }
+    requires under_way { IsUnderRelease floor.now.description l mode at pass.old.view }
     ensures own { IsOf floor.now pass.new }
-    ensures went { GoesOnReleasing floor.now.description l Excl at result pass.old pass.new }
+    ensures went { GoesOnReleasing floor.now.description l mode at result pass.old pass.new }
 {
     match at {
         ReleaseAt::ComesTo => {
-            let to = come_to(floor, pass, l);
-            stand(pass, l, to);
+            let to = come_to(floor, pass, l, mode);
+            stand(pass, l, mode, to);
             Next::Again
         }
         ReleaseAt::ComesIn => {
-            let to = come_in(floor, pass, l);
-            stand(pass, l, to);
+            let to = come_in(floor, pass, l, mode);
+            stand(pass, l, mode, to);
             Next::Again
         }
         ReleaseAt::Frees(seen) => {
-            let to = let_go(floor, pass, l, seen);
-            stand(pass, l, to);
+            let to = let_go(floor, pass, l, mode, seen);
+            stand(pass, l, mode, to);
             Next::Again
         }
-        ReleaseAt::Wakes => wake_on(floor, pass, l),
+        ReleaseAt::Wakes => wake_on(floor, pass, l, mode),
     }
 }
 
-// Goes on where the mutex is free.
-fn wake_on(floor: &Floor, pass: &mut Pass, l: LockNo) -> Next
+// Goes on where the lock is let go.
+fn wake_on(floor: &Floor, pass: &mut Pass, l: LockNo, mode: Mode) -> Next
     requires own { IsOf floor.now pass.old }
-    requires under_way { IsUnderRelease floor.now.description l Excl Wakes pass.old.view }
+    requires under_way { IsUnderRelease floor.now.description l mode Wakes pass.old.view }
     ensures own { IsOf floor.now pass.new }
-    ensures went { GoesOnReleasing floor.now.description l Excl Wakes result pass.old pass.new }
+    ensures went { GoesOnReleasing floor.now.description l mode Wakes result pass.old pass.new }
 {
     match wake_first(floor, pass) {
         Next::Done => {
@@ -119,24 +96,20 @@ fn wake_on(floor: &Floor, pass: &mut Pass, l: LockNo) -> Next
             Next::Done
         }
         Next::Again => {
-            stand(pass, l, ReleaseAt::Wakes);
+            stand(pass, l, mode, ReleaseAt::Wakes);
             Next::Again
         }
         Next::Wake(t) => {
-            stand(pass, l, ReleaseAt::Wakes);
+            stand(pass, l, mode, ReleaseAt::Wakes);
             Next::Wake(t)
         }
         Next::Sleep | Next::Reversed(_) => unreachable!(),
     }
 }
 
-// The release of a mutex stands there.
-fn stand(pass: &mut Pass, l: LockNo, at: ReleaseAt)
-    ensures { pass.new ≡ record pass.old { call = calls.Release l Excl at } }
+// The release of the lock stands there.
+fn stand(pass: &mut Pass, l: LockNo, mode: Mode, at: ReleaseAt)
+    ensures { pass.new ≡ record pass.old { call = calls.Release l mode at } }
 {
-    pass.set_call(Call::Release {
-        l,
-        mode: Mode::Excl,
-        at,
-    });
+    pass.set_call(Call::Release { l, mode, at });
 }

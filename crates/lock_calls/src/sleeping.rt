@@ -1,7 +1,6 @@
 //! A take whose thread stands on the lock's turnstile, as `propagate_priority` and the end of `turnstile_wait` of
 //! FreeBSD's subr_turnstile.c: it makes the hops of its walk, and runs again where it was woken. It never waits.
 ghost use Rattle.std.specs.Prelude.{◌≢◌};
-ghost use Rattle.lock_model.specs.declared.plan.Mode.TheVariants.{Excl};
 ghost use Rattle.prio_lending.specs.declared.walk.Walk.TheVariants as walk;
 ghost use Rattle.lock_floor.specs.declared.calls.TakeAt.TheVariants.{Walks, Hops};
 ghost use Rattle.lock_floor.specs.Passes.{IsOf};
@@ -9,31 +8,31 @@ ghost use Rattle.lock_calls.specs.Takes.{IsUnderTake, TakesOn};
 
 use crate::spinning::LOOKS;
 use lock_floor::{Floor, Pass, TakeAt};
-use lock_model::LockNo;
+use lock_model::{LockNo, Mode};
 use prio_lending::Walk;
 
-/// Goes on where the thread stands on the mutex's turnstile, and its walk is there: takes the chain of turnstiles for
+/// Goes on where the thread stands on the lock's turnstile, and its walk is there: takes the chain of turnstiles for
 /// the next hop, if it is at home; or where the walk has ended, it runs again, if it was woken. Answers where the take
 /// stands then.
-pub fn walk_on(floor: &Floor, pass: &mut Pass, l: LockNo, there: Walk) -> TakeAt
+pub fn walk_on(floor: &Floor, pass: &mut Pass, l: LockNo, mode: Mode, there: Walk) -> TakeAt
     requires own { IsOf floor.now pass.old }
-    requires under_way { IsUnderTake floor.now.description l Excl (Walks there) pass.old.view }
+    requires under_way { IsUnderTake floor.now.description l mode (Walks there) pass.old.view }
     ensures own { IsOf floor.now pass.new }
-    ensures on { TakesOn floor.now.description l Excl (Walks there) result
+    ensures on { TakesOn floor.now.description l mode (Walks there) result
         pass.old.view pass.new.view }
 {
     match there {
-        Walk::None => wake_up(floor, pass, l),
-        Walk::AtLock(_) | Walk::AtThread(_) => begin_hop(floor, pass, l, there),
+        Walk::None => wake_up(floor, pass, l, mode),
+        Walk::AtLock(_) | Walk::AtThread(_) => begin_hop(floor, pass, l, mode, there),
     }
 }
 
 // Where the walk has ended.
-fn wake_up(floor: &Floor, pass: &mut Pass, l: LockNo) -> TakeAt
+fn wake_up(floor: &Floor, pass: &mut Pass, l: LockNo, mode: Mode) -> TakeAt
     requires own { IsOf floor.now pass.old }
-    requires under_way { IsUnderTake floor.now.description l Excl (Walks walk.None) pass.old.view }
+    requires under_way { IsUnderTake floor.now.description l mode (Walks walk.None) pass.old.view }
     ensures own { IsOf floor.now pass.new }
-    ensures on { TakesOn floor.now.description l Excl (Walks walk.None) result
+    ensures on { TakesOn floor.now.description l mode (Walks walk.None) result
         pass.old.view pass.new.view }
 {
     match floor.try_resume(pass) {
@@ -43,12 +42,12 @@ fn wake_up(floor: &Floor, pass: &mut Pass, l: LockNo) -> TakeAt
 }
 
 // Where it has not.
-fn begin_hop(floor: &Floor, pass: &mut Pass, l: LockNo, there: Walk) -> TakeAt
+fn begin_hop(floor: &Floor, pass: &mut Pass, l: LockNo, mode: Mode, there: Walk) -> TakeAt
     requires own { IsOf floor.now pass.old }
-    requires under_way { IsUnderTake floor.now.description l Excl (Walks there) pass.old.view }
+    requires under_way { IsUnderTake floor.now.description l mode (Walks there) pass.old.view }
     requires not_ended { there ≢ walk.None }
     ensures own { IsOf floor.now pass.new }
-    ensures on { TakesOn floor.now.description l Excl (Walks there) result
+    ensures on { TakesOn floor.now.description l mode (Walks there) result
         pass.old.view pass.new.view }
 {
     if floor.try_take_turnstiles(pass) {
@@ -59,11 +58,11 @@ fn begin_hop(floor: &Floor, pass: &mut Pass, l: LockNo, there: Walk) -> TakeAt
 }
 
 /// Makes the rest of a hop, if the record that it needs is at home. Answers where the take stands then.
-pub fn hop_on(floor: &Floor, pass: &mut Pass, l: LockNo, there: Walk) -> TakeAt
+pub fn hop_on(floor: &Floor, pass: &mut Pass, l: LockNo, mode: Mode, there: Walk) -> TakeAt
     requires own { IsOf floor.now pass.old }
-    requires under_way { IsUnderTake floor.now.description l Excl (Hops there) pass.old.view }
+    requires under_way { IsUnderTake floor.now.description l mode (Hops there) pass.old.view }
     ensures own { IsOf floor.now pass.new }
-    ensures on { TakesOn floor.now.description l Excl (Hops there) result
+    ensures on { TakesOn floor.now.description l mode (Hops there) result
         pass.old.view pass.new.view }
 {
     match floor.try_hop(pass, there) {

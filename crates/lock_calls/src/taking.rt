@@ -3,7 +3,6 @@
 ghost use Rattle.std.specs.Prelude.{◌≡◌, IfNone, IfSome, IfOk, IfErr};
 ghost use Rattle.lock_model.specs.declared.numbers.LockNo.{LockNo as Lock};
 ghost use Rattle.lock_model.specs.declared.plan.Mode.{Mode as InMode};
-ghost use Rattle.lock_model.specs.declared.plan.Mode.TheVariants.{Excl};
 ghost use Rattle.lock_floor.specs.declared.calls.Call.TheVariants as calls;
 ghost use Rattle.lock_floor.specs.declared.calls.TakeAt.TheVariants.{Checks};
 ghost use Rattle.lock_floor.specs.declared.calls.TakeAt.{TakeAt as Place};
@@ -29,9 +28,17 @@ pub fn begin_take(floor: &Floor, pass: &mut Pass, l: LockNo, mode: Mode) -> Next
     ensures own { IsOf floor.now pass.new }
     ensures begun { HasBegunTake floor.now.description l mode result pass.old pass.new }
 {
-    match mode {
-        Mode::Excl => begin_exclusively(floor, pass, l),
-        Mode::Shared => unreachable!(),
+    if begin(floor, pass, l, mode) {
+        note_taken(floor, pass, l, mode);
+        pass.set_call(Call::None);
+        Next::Done
+    } else {
+        pass.set_call(Call::Take {
+            l,
+            mode,
+            at: TakeAt::Checks,
+        });
+        Next::Again
     }
 }
 
@@ -50,50 +57,22 @@ pub fn go_on_taking(floor: &Floor, pass: &mut Pass) -> Next
         → GoesOnTaking floor.now.description l mode at result pass.old pass.new }
 {
     match pass.call() {
-        Call::Take { l, mode, at } => match mode {
-            Mode::Excl => go_on_exclusively(floor, pass, l, at),
-            Mode::Shared => unreachable!(),
-        },
+        Call::Take { l, mode, at } => go_on(floor, pass, l, mode, at),
         Call::None | Call::Release { .. } => unreachable!(),
     }
 }
 
-// Begins a take of a mutex.
-fn begin_exclusively(floor: &Floor, pass: &mut Pass, l: LockNo) -> Next
-    requires ready { IsReady floor.now pass.old }
-    requires may { MayTake floor.now.description l.0 Excl pass.old.view }
-    ensures own { IsOf floor.now pass.new }
-    ensures begun { HasBegunTake floor.now.description l Excl result pass.old pass.new }
-{
-    if begin(floor, pass, l) {
-        note_taken(floor, pass, l);
-        pass.set_call(Call::None);
-        Next::Done
-    } else {
-        pass.set_call(Call::Take {
-            l,
-            mode: Mode::Excl,
-            at: TakeAt::Checks,
-        });
-        Next::Again
-    }
-}
-
-// Goes on with a take of a mutex.
-fn go_on_exclusively(floor: &Floor, pass: &mut Pass, l: LockNo, at: TakeAt) -> Next
+// Goes on with a take of that lock, which stands there.
+fn go_on(floor: &Floor, pass: &mut Pass, l: LockNo, mode: Mode, at: TakeAt) -> Next
     requires own { IsOf floor.now pass.old }
     requires one_chain { floor.now.description.chains ≡ 1 }
-    requires under_way { IsUnderTake floor.now.description l Excl at pass.old.view }
+    requires under_way { IsUnderTake floor.now.description l mode at pass.old.view }
     ensures own { IsOf floor.now pass.new }
-    ensures went { GoesOnTaking floor.now.description l Excl at result pass.old pass.new }
+    ensures went { GoesOnTaking floor.now.description l mode at result pass.old pass.new }
 {
-    match go_on_at(floor, pass, l, at) {
+    match go_on_at(floor, pass, l, mode, at) {
         Ok(Some(to)) => {
-            pass.set_call(Call::Take {
-                l,
-                mode: Mode::Excl,
-                at: to,
-            });
+            pass.set_call(Call::Take { l, mode, at: to });
             next_at(to)
         }
         Ok(None) => {
@@ -107,41 +86,42 @@ fn go_on_exclusively(floor: &Floor, pass: &mut Pass, l: LockNo, at: TakeAt) -> N
     }
 }
 
-// From a place of the take on. Answers where the take stands then: nowhere, if the mutex is taken. `Err` comes where it
+// From a place of the take on. Answers where the take stands then: nowhere, if the lock is taken. `Err` comes where it
 // was refused.
 fn go_on_at(
     floor: &Floor,
     pass: &mut Pass,
     l: LockNo,
+    mode: Mode,
     at: TakeAt,
 ) -> Result<Option<TakeAt>, Reversal>
     requires own { IsOf floor.now pass.old }
     requires one_chain { floor.now.description.chains ≡ 1 }
-    requires under_way { IsUnderTake floor.now.description l Excl at pass.old.view }
+    requires under_way { IsUnderTake floor.now.description l mode at pass.old.view }
     ensures own { IsOf floor.now pass.new }
     ensures taken { IfOk result (λ to. IfNone to
-        (HasTaken floor.now.description l Excl pass.old.view pass.new.view)) }
+        (HasTaken floor.now.description l mode pass.old.view pass.new.view)) }
     ensures end { IfOk result (λ to. IfNone to
-        (TakeEnd floor.now.description l Excl at pass.old.view pass.new.view)) }
+        (TakeEnd floor.now.description l mode at pass.old.view pass.new.view)) }
     ensures on { IfOk result (λ to. IfSome to
-        (λ next. TakesOn floor.now.description l Excl at next pass.old.view pass.new.view)) }
+        (λ next. TakesOn floor.now.description l mode at next pass.old.view pass.new.view)) }
     ensures at_check { IfErr result (λ _. at ≡ Checks) }
     ensures refused { IfErr result
         (λ r. IsRefused floor.now.description l r pass.old.view pass.new.view) }
 {
     match at {
-        TakeAt::Checks => check(floor, pass, l),
+        TakeAt::Checks => check(floor, pass, l, mode),
         TakeAt::Spins(left) => {
             if left == 0 {
-                Ok(Some(come(floor, pass, l)))
+                Ok(Some(come(floor, pass, l, mode)))
             } else {
-                Ok(spin(floor, pass, l, left))
+                Ok(spin(floor, pass, l, mode, left))
             }
         }
-        TakeAt::ComesIn => Ok(Some(come_in(floor, pass, l))),
-        TakeAt::Contends(seen) => Ok(contend(floor, pass, l, seen)),
-        TakeAt::Walks(there) => Ok(Some(walk_on(floor, pass, l, there))),
-        TakeAt::Hops(there) => Ok(Some(hop_on(floor, pass, l, there))),
+        TakeAt::ComesIn => Ok(Some(come_in(floor, pass, l, mode))),
+        TakeAt::Contends(seen) => Ok(contend(floor, pass, l, mode, seen)),
+        TakeAt::Walks(there) => Ok(Some(walk_on(floor, pass, l, mode, there))),
+        TakeAt::Hops(there) => Ok(Some(hop_on(floor, pass, l, mode, there))),
     }
 }
 

@@ -68,7 +68,8 @@ pub fn release<R: Wait>(floor: &Floor, rt: &R, pass: &mut Pass, l: LockNo, mode:
     ensures entry { MakesEntry floor.now.description (event.Unlocked l mode)
         (without_lock l.0 pass.old.view.share.held) pass.old.view pass.new.view }
     ensures steps { (how : Release) × MakesEach floor.now.description
-        (unlocks floor.now.description pass.old.view.thread l mode how) pass.old.view pass.new.view }
+        (unlocks floor.now.description pass.old.view.thread l mode how)
+        pass.old.view pass.new.view }
 {
     match begin_release(floor, pass, l, mode) {
         Next::Done => return,

@@ -1,9 +1,9 @@
-use Rattle.std.proofs.Common.{refl}
+use Rattle.adaptive_mutex.proofs.Covered.{mutex_is_covered}
 use Rattle.adaptive_mutex.proofs.mutex.lock.Goals as goal
 
 pub take-requires-clause-may : goal.take-requires-clause-may
 take-requires-clause-may g c = record {
-  covered = record { mutex = c.requires.may.mutex; exclusive = refl };
+  covered = mutex_is_covered c.args.floor.now.description c.args.l.0 c.requires.may.mutex;
   unheld = c.requires.may.unheld;
   few = c.requires.may.few;
   room = c.requires.may.room;

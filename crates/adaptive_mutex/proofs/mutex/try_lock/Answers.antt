@@ -2,7 +2,8 @@ use Rattle.std.proofs.Common.{◌≡◌, false}
 use Rattle.lock_model.specs.Words.{word_of, is_free}
 use Rattle.lock_calls.proofs.Attempts.{acquires, begins_call}
 use Rattle.lock_calls.proofs.Looks.{may_look_on, rest_looks}
-use Rattle.lock_calls.proofs.Words.{saw_held}
+use Rattle.floor_table.specs.Descriptions.{config_in}
+use Rattle.lock_calls.proofs.Words.{saw_held, saw_others}
 use Rattle.adaptive_mutex.proofs.Tried.{may_gain_free, may_note, tried, may_note_busy, found_busy}
 use Rattle.adaptive_mutex.proofs.mutex.try_lock.Goals as goal
 use Rattle.adaptive_mutex.proofs.mutex.try_lock.Goals.{In-Err}
@@ -45,8 +46,10 @@ returns-in-Ok c =
 -- 2. It found it held
 
 held : (c : In-Err) → is_free (word_of c.in-Err.seen).holder ≡ false
-held c = saw_held c.args.floor.now.description c.args.l.0 c.in-Err.seen c.args.pass.now.view c.gain.new.pass.view
-    c.requires.may.mutex.kind c.in-Err.ensures.found.0 c.in-Err.ensures.looked c.in-Err.ensures.look
+held c = saw_held ((config_in c.args.floor.now.description).kind c.args.l.0) c.in-Err.seen c.requires.may.mutex.kind
+    c.in-Err.ensures.found.0
+    (saw_others c.args.floor.now.description c.args.l.0 c.in-Err.seen c.args.pass.now.view c.gain.new.pass.view
+    c.requires.may.unheld c.in-Err.ensures.looked c.in-Err.ensures.look)
 
 pub stamp-requires-in-Err-clause-may : goal.stamp-requires-in-Err-clause-may
 stamp-requires-in-Err-clause-may c =

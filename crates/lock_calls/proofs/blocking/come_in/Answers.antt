@@ -19,7 +19,7 @@ try_take_rec-requires-clause-may c =
 
 pub returns-then-not-try_take_rec-clause-on : goal.returns-then-not-try_take_rec-clause-on
 returns-then-not-try_take_rec-clause-on c =
-    stays_coming c.args.floor.now.description c.args.l c.thread-who.result.0 c.args.pass.now.view
+    stays_coming c.args.floor.now.description c.args.l c.args.mode c.thread-who.result.0 c.args.pass.now.view
     c.try_take_rec.new.pass.view
     c.thread-who.ensures.same c.requires.under_way.there (c.try_take_rec.ensures.left c.if-not-try_take_rec.true)
     (c.try_take_rec.ensures.elsewhere c.if-not-try_take_rec.true)
@@ -32,7 +32,8 @@ ready-requires-clause-may c =
 
 pub look-requires-clause-may : goal.look-requires-clause-may
 look-requires-clause-may c =
-    may_look_in_section c.args.floor.now.description c.args.l.0 c.ready.new.pass.view c.requires.under_way.covered.mutex
+    may_look_in_section c.args.floor.now.description c.args.l.0 c.args.mode c.ready.new.pass.view
+    c.requires.under_way.covered
     (come_there c.args.floor.now.description c.args.l.0 c.args.pass.now.view c.requires.under_way.there
     c.requires.under_way.calling.going c.thread-who.result.0 c.thread-who.ensures.same
     c.try_take_rec.new.pass.view (c.try_take_rec.ensures.out c.if-not-try_take_rec.false) c.ready.new.pass.view
@@ -48,7 +49,7 @@ look-requires-clause-may c =
 
 pub returns-clause-on : goal.returns-clause-on
 returns-clause-on c =
-    comes_there_on c.args.floor.now.description c.args.l c.requires.under_way.covered.mutex c.requires.one_chain
+    comes_there_on c.args.floor.now.description c.args.l c.args.mode c.requires.under_way.covered c.requires.one_chain
     c.args.pass.now.view c.requires.under_way.there
     c.requires.under_way.calling.going c.thread-who.result.0
     (subst (λ (d : Description). c.thread-who.result.0 < length d.threads) c.requires.own.description
@@ -56,4 +57,4 @@ returns-clause-on c =
     c.thread-who.ensures.same c.requires.own.description c.try_take_rec.new.pass.view
     (c.try_take_rec.ensures.out c.if-not-try_take_rec.false)
     c.ready.new.pass.view c.ready.ensures.view c.ready.ensures.step c.look.result c.look.new.pass.view
-    c.look.ensures.word c.look.ensures.view c.look.ensures.step
+    c.look.ensures.view c.look.ensures.step

@@ -6,57 +6,57 @@ use Rattle.lock_calls.proofs.blocking.contend.Goals as goal
 
 pub ready-requires-clause-may : goal.ready-requires-clause-may
 ready-requires-clause-may c =
-    may_run_on c.args.floor.now.description c.args.l c.args.pass.now.view c.attempt_there.new.pass.view
+    may_run_on c.args.floor.now.description c.args.l c.args.mode c.args.pass.now.view c.attempt_there.new.pass.view
     c.requires.under_way.calling c.requires.under_way.there.there
     (rw c.in-Ok-None.field-0-is at c.in-Ok-None.ensures.gained)
 
 pub give_both-requires-clause-both : goal.give_both-requires-clause-both
 give_both-requires-clause-both c =
-    both_ran c.args.floor.now.description c.args.l c.args.pass.now.view c.attempt_there.new.pass.view
+    both_ran c.args.floor.now.description c.args.l c.args.mode c.args.pass.now.view c.attempt_there.new.pass.view
     c.requires.under_way.calling c.requires.under_way.there.there
     (rw c.in-Ok-None.field-0-is at c.in-Ok-None.ensures.gained) c.ready.new.pass.view c.ready.ensures.view
 
 pub give_both-requires-clause-settled : goal.give_both-requires-clause-settled
 give_both-requires-clause-settled c =
-    inl (runs_on c.args.floor.now.description c.args.l c.args.pass.now.view c.attempt_there.new.pass.view
+    inl (runs_on c.args.floor.now.description c.args.l c.args.mode c.args.pass.now.view c.attempt_there.new.pass.view
     c.requires.under_way.calling c.requires.under_way.there.there
     (rw c.in-Ok-None.field-0-is at c.in-Ok-None.ensures.gained) c.ready.new.pass.view c.ready.ensures.view)
 
 pub give_both-requires-clause-unbound : goal.give_both-requires-clause-unbound
 give_both-requires-clause-unbound c =
-    unbound_on c.args.floor.now.description c.args.l c.args.pass.now.view c.attempt_there.new.pass.view
+    unbound_on c.args.floor.now.description c.args.l c.args.mode c.args.pass.now.view c.attempt_there.new.pass.view
     c.requires.under_way.calling c.requires.under_way.there.there
     (rw c.in-Ok-None.field-0-is at c.in-Ok-None.ensures.gained) c.ready.new.pass.view c.ready.ensures.view
 
 pub give_both-requires-clause-going : goal.give_both-requires-clause-going
 give_both-requires-clause-going c =
-    going_on c.args.floor.now.description c.args.l c.args.pass.now.view c.attempt_there.new.pass.view
+    going_on c.args.floor.now.description c.args.l c.args.mode c.args.pass.now.view c.attempt_there.new.pass.view
     c.requires.under_way.calling c.requires.under_way.there.there
     (rw c.in-Ok-None.field-0-is at c.in-Ok-None.ensures.gained) c.ready.new.pass.view c.ready.ensures.view
 
 pub note_taken-requires-clause-room : goal.note_taken-requires-clause-room
 note_taken-requires-clause-room c =
-    room_to_note c.args.floor.now.description c.args.l c.args.pass.now.view c.give_both.new.pass.view
+    room_to_note c.args.floor.now.description c.args.l c.args.mode c.args.pass.now.view c.give_both.new.pass.view
     c.requires.under_way.calling c.requires.under_way.room
-    (gained_there c.args.floor.now.description c.args.l c.args.pass.now.view c.attempt_there.new.pass.view
+    (gained_there c.args.floor.now.description c.args.l c.args.mode c.args.pass.now.view c.attempt_there.new.pass.view
     c.requires.under_way.calling c.requires.under_way.there.there
     (rw c.in-Ok-None.field-0-is at c.in-Ok-None.ensures.gained) c.ready.new.pass.view c.ready.ensures.view
     c.give_both.new.pass.view c.give_both.ensures.view)
 
 pub note_taken-requires-clause-may : goal.note_taken-requires-clause-may
 note_taken-requires-clause-may c =
-    may_note_lock c.args.floor.now.description c.args.l c.args.pass.now.view c.give_both.new.pass.view
+    may_note_lock c.args.floor.now.description c.args.l c.args.mode c.args.pass.now.view c.give_both.new.pass.view
     c.requires.under_way.calling c.requires.under_way.room
-    (gained_there c.args.floor.now.description c.args.l c.args.pass.now.view c.attempt_there.new.pass.view
+    (gained_there c.args.floor.now.description c.args.l c.args.mode c.args.pass.now.view c.attempt_there.new.pass.view
     c.requires.under_way.calling c.requires.under_way.there.there
     (rw c.in-Ok-None.field-0-is at c.in-Ok-None.ensures.gained) c.ready.new.pass.view c.ready.ensures.view
     c.give_both.new.pass.view c.give_both.ensures.view)
 
 pub returns-in-Ok-None-clause-taken : goal.returns-in-Ok-None-clause-taken
 returns-in-Ok-None-clause-taken c =
-    taken c.args.floor.now.description c.args.l c.args.pass.now.view c.give_both.new.pass.view
+    taken c.args.floor.now.description c.args.l c.args.mode c.args.pass.now.view c.give_both.new.pass.view
     c.requires.under_way.calling c.requires.under_way.room
-    (gained_there c.args.floor.now.description c.args.l c.args.pass.now.view c.attempt_there.new.pass.view
+    (gained_there c.args.floor.now.description c.args.l c.args.mode c.args.pass.now.view c.attempt_there.new.pass.view
     c.requires.under_way.calling c.requires.under_way.there.there
     (rw c.in-Ok-None.field-0-is at c.in-Ok-None.ensures.gained) c.ready.new.pass.view c.ready.ensures.view
     c.give_both.new.pass.view c.give_both.ensures.view)
@@ -64,14 +64,14 @@ returns-in-Ok-None-clause-taken c =
 
 pub returns-in-Ok-None-clause-end : goal.returns-in-Ok-None-clause-end
 returns-in-Ok-None-clause-end c =
-    ends_there c.args.floor.now.description c.args.l c.args.pass.now.view c.attempt_there.new.pass.view
+    ends_there c.args.floor.now.description c.args.l c.args.mode c.args.pass.now.view c.attempt_there.new.pass.view
     c.requires.under_way.calling c.requires.under_way.there.there
     (rw c.in-Ok-None.field-0-is at c.in-Ok-None.ensures.gained) c.ready.new.pass.view c.ready.ensures.view
     c.give_both.new.pass.view c.give_both.ensures.view c.args.seen c.note_taken.new.pass.view c.ready.ensures.step
     c.give_both.ensures.steps
-    (note_step c.args.floor.now.description c.args.l c.args.pass.now.view c.give_both.new.pass.view
+    (note_step c.args.floor.now.description c.args.l c.args.mode c.args.pass.now.view c.give_both.new.pass.view
     c.requires.under_way.calling c.requires.under_way.room
-    (gained_there c.args.floor.now.description c.args.l c.args.pass.now.view c.attempt_there.new.pass.view
+    (gained_there c.args.floor.now.description c.args.l c.args.mode c.args.pass.now.view c.attempt_there.new.pass.view
     c.requires.under_way.calling c.requires.under_way.there.there
     (rw c.in-Ok-None.field-0-is at c.in-Ok-None.ensures.gained) c.ready.new.pass.view c.ready.ensures.view
     c.give_both.new.pass.view c.give_both.ensures.view)
@@ -79,7 +79,7 @@ returns-in-Ok-None-clause-end c =
 
 pub give_both-requires-in-Ok-Some-clause-both : goal.give_both-requires-in-Ok-Some-clause-both
 give_both-requires-in-Ok-Some-clause-both c =
-    both_stands c.args.floor.now.description c.args.l c.requires.under_way.covered.mutex c.requires.one_chain
+    both_stands c.args.floor.now.description c.args.l c.args.mode c.requires.under_way.covered c.requires.one_chain
     c.args.pass.now.view c.attempt_there.new.pass.view
     c.requires.under_way.calling c.requires.under_way.there.there c.in-Ok-Some.walk
     (rw c.in-Ok-Some.field-0-is at c.in-Ok-Some.ensures.entered)
@@ -87,7 +87,7 @@ give_both-requires-in-Ok-Some-clause-both c =
 pub give_both-requires-in-Ok-Some-clause-settled : goal.give_both-requires-in-Ok-Some-clause-settled
 give_both-requires-in-Ok-Some-clause-settled c = inr (
   lock_queue c.args.l.0,
-  stands_on c.args.floor.now.description c.args.l c.requires.under_way.covered.mutex c.requires.one_chain
+  stands_on c.args.floor.now.description c.args.l c.args.mode c.requires.under_way.covered c.requires.one_chain
       c.args.pass.now.view c.attempt_there.new.pass.view
       c.requires.under_way.calling c.requires.under_way.there.there c.in-Ok-Some.walk
       (rw c.in-Ok-Some.field-0-is at c.in-Ok-Some.ensures.entered),
@@ -95,21 +95,21 @@ give_both-requires-in-Ok-Some-clause-settled c = inr (
 
 pub give_both-requires-in-Ok-Some-clause-unbound : goal.give_both-requires-in-Ok-Some-clause-unbound
 give_both-requires-in-Ok-Some-clause-unbound c =
-    unbound_stands c.args.floor.now.description c.args.l c.requires.under_way.covered.mutex c.requires.one_chain
+    unbound_stands c.args.floor.now.description c.args.l c.args.mode c.requires.under_way.covered c.requires.one_chain
     c.args.pass.now.view c.attempt_there.new.pass.view
     c.requires.under_way.calling c.requires.under_way.there.there c.in-Ok-Some.walk
     (rw c.in-Ok-Some.field-0-is at c.in-Ok-Some.ensures.entered)
 
 pub give_both-requires-in-Ok-Some-clause-going : goal.give_both-requires-in-Ok-Some-clause-going
 give_both-requires-in-Ok-Some-clause-going c =
-    going_stands c.args.floor.now.description c.args.l c.requires.under_way.covered.mutex c.requires.one_chain
+    going_stands c.args.floor.now.description c.args.l c.args.mode c.requires.under_way.covered c.requires.one_chain
     c.args.pass.now.view c.attempt_there.new.pass.view
     c.requires.under_way.calling c.requires.under_way.there.there c.in-Ok-Some.walk
     (rw c.in-Ok-Some.field-0-is at c.in-Ok-Some.ensures.entered)
 
 pub returns-in-Ok-Some-clause-on : goal.returns-in-Ok-Some-clause-on
 returns-in-Ok-Some-clause-on c =
-    enters_on c.args.floor.now.description c.args.l c.requires.under_way.covered.mutex c.requires.one_chain
+    enters_on c.args.floor.now.description c.args.l c.args.mode c.requires.under_way.covered c.requires.one_chain
     c.args.pass.now.view c.attempt_there.new.pass.view
     c.requires.under_way.calling c.requires.under_way.there.there c.in-Ok-Some.walk
     (rw c.in-Ok-Some.field-0-is at c.in-Ok-Some.ensures.entered)
@@ -118,8 +118,7 @@ returns-in-Ok-Some-clause-on c =
 
 pub returns-in-Err-clause-on : goal.returns-in-Err-clause-on
 returns-in-Err-clause-on c =
-    misses_on c.args.floor.now.description c.args.l c.args.seen c.in-Err.found c.args.pass.now.view
+    misses_on c.args.floor.now.description c.args.l c.args.mode c.args.seen c.in-Err.found c.args.pass.now.view
     c.attempt_there.new.pass.view
-    c.requires.under_way.covered.mutex c.requires.own.description c.requires.one_chain
-    (omega (arith, c.requires.one_chain))
+    c.requires.under_way.covered c.requires.own.description c.requires.one_chain (omega (arith, c.requires.one_chain))
     c.requires.under_way.there.there c.in-Err.ensures.missed

@@ -1,8 +1,27 @@
 use Rattle.std.proofs.Common.{option_map, sym, ap, ◌∙◌}
 use Rattle.lock_model.specs.Words.{word_of, owner_of}
 use Rattle.lock_model.specs.declared.numbers.ThreadNo.{ThreadNo}
+use Rattle.lock_laws.proofs.Words.{refused_held}
+use Rattle.floor_table.specs.Descriptions.{config_in}
+use Rattle.lock_calls.proofs.Chosen.{must_wait}
 use Rattle.lock_calls.proofs.There.{may_look_in_section, may_enter_in_section, missed_there, owned_walk, ownerless_walk}
 use Rattle.lock_calls.proofs.blocking.enter_there.Goals as goal
+
+pub enter-requires-clause-lock : goal.enter-requires-clause-lock
+enter-requires-clause-lock c = c.requires.covered.lock
+
+pub enter-requires-clause-word : goal.enter-requires-clause-word
+enter-requires-clause-word c = c.requires.seen_so.formed
+
+pub enter-requires-clause-held : goal.enter-requires-clause-held
+enter-requires-clause-held c =
+    refused_held ((config_in c.args.floor.now.description).kind c.args.l.0) (word_of c.args.seen) c.args.mode
+    c.requires.covered.mutex
+    (must_wait ((config_in c.args.floor.now.description).kind c.args.l.0) (word_of c.args.seen) c.args.mode
+    c.requires.course)
+
+pub owner_of-requires : goal.owner_of-requires
+owner_of-requires c = c.requires.seen_so.formed
 
 pub enter-requires-clause-out : goal.enter-requires-clause-out
 enter-requires-clause-out c =
@@ -12,14 +31,20 @@ enter-requires-clause-out c =
       m.both.chain,
       m.both.out,
       m.lent,
-      may_enter_in_section c.args.floor.now.description c.args.l.0 c.args.pass.now.view c.requires.mutex m
-          c.requires.calling c.args.seen c.requires.saw c.requires.held,
+      may_enter_in_section c.args.floor.now.description c.args.l.0 c.args.mode c.args.pass.now.view c.requires.covered m
+          c.requires.calling c.args.seen c.requires.saw
+          (refused_held ((config_in c.args.floor.now.description).kind c.args.l.0) (word_of c.args.seen) c.args.mode
+          c.requires.covered.mutex
+          (must_wait ((config_in c.args.floor.now.description).kind c.args.l.0) (word_of c.args.seen) c.args.mode
+          c.requires.course))
+          (must_wait ((config_in c.args.floor.now.description).kind c.args.l.0) (word_of c.args.seen) c.args.mode
+          c.requires.course),
     )
 
 pub enter-requires-clause-may_look : goal.enter-requires-clause-may_look
 enter-requires-clause-may_look c =
-    may_look_in_section c.args.floor.now.description c.args.l.0 c.args.pass.now.view c.requires.mutex c.requires.there
-    c.requires.calling
+    may_look_in_section c.args.floor.now.description c.args.l.0 c.args.mode c.args.pass.now.view c.requires.covered
+    c.requires.there c.requires.calling
 
 pub returns-in-Some-clause-entered : goal.returns-in-Some-clause-entered
 returns-in-Some-clause-entered c =
@@ -49,5 +74,6 @@ returns-in-None-clause-entered c =
 
 pub returns-in-Err-clause-missed : goal.returns-in-Err-clause-missed
 returns-in-Err-clause-missed c =
-    missed_there c.args.floor.now.description c.args.l.0 c.args.pass.now.view c.requires.mutex c.requires.there
-    c.in-Err.found c.enter.new.pass.view c.in-Err.ensures.found.1 c.in-Err.ensures.looked c.in-Err.ensures.look
+    missed_there c.args.floor.now.description c.args.l.0 c.args.mode c.args.pass.now.view c.requires.covered
+    c.requires.there c.args.seen c.in-Err.found c.enter.new.pass.view c.in-Err.ensures.found.0
+    c.in-Err.ensures.looked c.in-Err.ensures.look

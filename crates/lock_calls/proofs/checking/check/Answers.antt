@@ -8,7 +8,7 @@ use Rattle.lock_calls.proofs.Refused.{may_note_refusal, is_refused}
 use Rattle.lock_calls.proofs.checking.check.Goals as goal
 
 pub try_order-requires-clause-lock : goal.try_order-requires-clause-lock
-try_order-requires-clause-lock c = c.requires.under_way.covered.mutex.lock
+try_order-requires-clause-lock c = c.requires.under_way.covered.lock
 
 pub try_order-requires-clause-first : goal.try_order-requires-clause-first
 try_order-requires-clause-first c = c.requires.under_way.there.nothing_out
@@ -18,7 +18,7 @@ try_order-requires-clause-may c = c.requires.under_way.there.may
 
 pub returns-in-None-clause-on : goal.returns-in-None-clause-on
 returns-in-None-clause-on c =
-    stays_checking c.args.floor.now.description c.args.l c.args.pass.now.view c.try_order.new.pass.view
+    stays_checking c.args.floor.now.description c.args.l c.args.mode c.args.pass.now.view c.try_order.new.pass.view
     c.requires.under_way.there c.in-None.ensures.left c.in-None.ensures.elsewhere
 
 -- 1. It was admitted
@@ -27,31 +27,34 @@ pub note_taken-requires-clause-may : goal.note_taken-requires-clause-may
 note_taken-requires-clause-may c =
     let floor = c.args.floor.now.description in
     let l = c.args.l in
+    let mode = c.args.mode in
     let old = c.args.pass.now.view in
     let mid = c.try_order.new.pass.view in
     let u = c.requires.under_way in
     let checked = subst (λ r. IfOk r (λ x. ChecksOrder floor l.0 None old mid)) c.in-Some-Ok.field-0-is
     c.in-Some-Ok.ensures.admitted in
-    may_note_lock floor l old c.seek.new.pass.view u.calling u.room
-    (gained_checked floor l old mid u.there checked c.seek.new.pass.view (c.seek.ensures.gained c.if-seek.true))
+    may_note_lock floor l mode old c.seek.new.pass.view u.calling u.room
+    (gained_checked floor l mode old mid u.there checked c.seek.new.pass.view (c.seek.ensures.gained c.if-seek.true))
 
 pub returns-then-seek-clause-taken : goal.returns-then-seek-clause-taken
 returns-then-seek-clause-taken c =
     let floor = c.args.floor.now.description in
     let l = c.args.l in
+    let mode = c.args.mode in
     let old = c.args.pass.now.view in
     let mid = c.try_order.new.pass.view in
     let u = c.requires.under_way in
     let checked = subst (λ r. IfOk r (λ x. ChecksOrder floor l.0 None old mid)) c.in-Some-Ok.field-0-is
     c.in-Some-Ok.ensures.admitted in
-    taken floor l old c.seek.new.pass.view u.calling u.room
-    (gained_checked floor l old mid u.there checked c.seek.new.pass.view (c.seek.ensures.gained c.if-seek.true))
+    taken floor l mode old c.seek.new.pass.view u.calling u.room
+    (gained_checked floor l mode old mid u.there checked c.seek.new.pass.view (c.seek.ensures.gained c.if-seek.true))
     c.note_taken.new.pass.view c.note_taken.result c.note_taken.ensures.view c.note_taken.ensures.step
 
 pub returns-then-seek-clause-end : goal.returns-then-seek-clause-end
 returns-then-seek-clause-end c =
     let floor = c.args.floor.now.description in
     let l = c.args.l in
+    let mode = c.args.mode in
     let old = c.args.pass.now.view in
     let mid = c.try_order.new.pass.view in
     let v = c.seek.new.pass.view in
@@ -59,8 +62,8 @@ returns-then-seek-clause-end c =
     let checked = subst (λ r. IfOk r (λ x. ChecksOrder floor l.0 None old mid)) c.in-Some-Ok.field-0-is
     c.in-Some-Ok.ensures.admitted in
     let gains = c.seek.ensures.gained c.if-seek.true in
-    ends_checked floor l old mid u.there checked v gains c.note_taken.new.pass.view
-    (note_step floor l old v u.calling u.room (gained_checked floor l old mid u.there checked v gains)
+    ends_checked floor l mode old mid u.there checked v gains c.note_taken.new.pass.view
+    (note_step floor l mode old v u.calling u.room (gained_checked floor l mode old mid u.there checked v gains)
     c.note_taken.new.pass.view c.note_taken.result c.note_taken.ensures.view c.note_taken.ensures.step)
 
 pub returns-else-seek-clause-on : goal.returns-else-seek-clause-on
@@ -70,7 +73,7 @@ returns-else-seek-clause-on c =
     let mid = c.try_order.new.pass.view in
     let checked = subst (λ r. IfOk r (λ x. ChecksOrder floor c.args.l.0 None old mid)) c.in-Some-Ok.field-0-is
     c.in-Some-Ok.ensures.admitted in
-    spins_checked floor c.args.l old mid c.requires.under_way.there checked c.seek.new.pass.view
+    spins_checked floor c.args.l c.args.mode old mid c.requires.under_way.there checked c.seek.new.pass.view
     (c.seek.ensures.begun c.if-seek.false)
 
 -- 2. It was refused

@@ -1,19 +1,82 @@
-use Rattle.std.proofs.Common.{◌≡◌, sym, ◌∙◌, subst}
-use Rattle.lock_model.specs.declared.plan.Mode.TheVariants.{Excl, Shared}
-use Rattle.lock_calls.specs.Steps.{MayRelease}
-use Rattle.lock_calls.specs.Releases.{HasBegunRelease}
+use Rattle.std.proofs.Common.{refl, sym, ap, ◌∙◌, subst, arith}
+use Rattle.lock_model.specs.Words.{word_of}
+use Rattle.floor_table.specs.Views.{Knowledge}
+use Rattle.lock_floor.specs.declared.calls.Call.TheVariants as calls
+use Rattle.lock_floor.specs.declared.calls.ReleaseAt.TheVariants.{ComesTo}
+use Rattle.lock_calls.specs.Releases.{ReleasesAtOnce}
+use Rattle.lock_calls.proofs.Calls.{own_noted, view_noted, call_noted}
+use Rattle.lock_calls.proofs.Released.{may_note_release, few_threads, own_drops, own_is_held, may_drop_own, may_look_held, leaving_noted, other_own, at_once, begins}
 use Rattle.lock_calls.proofs.releasing.begin_release.Goals as goal
 
-pub begin_exclusively-requires-clause-may : goal.begin_exclusively-requires-clause-may
-begin_exclusively-requires-clause-may c =
-    subst (λ m. MayRelease c.args.floor.now.description c.args.l.0 m c.args.pass.now.view) c.in-Excl.is c.requires.may
+pub stamp-requires-clause-may : goal.stamp-requires-clause-may
+stamp-requires-clause-may c =
+    may_note_release c.args.floor.now.description c.args.pass.now.view c.args.l c.args.mode c.requires.ready.rest
+    c.requires.may.held
 
-pub returns-clause-begun : goal.returns-clause-begun
-returns-clause-begun c =
-    subst (λ m. HasBegunRelease c.args.floor.now.description c.args.l m c.begin_exclusively.result c.args.pass.now
-    c.begin_exclusively.new.pass) (sym c.in-Excl.is) c.begin_exclusively.ensures.begun
+pub gained-own-requires-clause-thread : goal.gained-own-requires-clause-thread
+gained-own-requires-clause-thread c =
+    omega (
+      arith,
+      few_threads c.args.floor.now.description c.args.l c.args.mode c.args.pass.now.view c.stamp.new.pass.view
+          c.stamp.result
+          c.stamp.ensures.view c.stamp.ensures.step,
+      c.thread.ensures.same,
+    )
 
-pub unreachable-requires : goal.unreachable-requires
-unreachable-requires c =
-    let z : Shared ≡ Excl = sym c.in-Shared.is ∙ c.requires.may.covered.exclusive in
-    cc
+pub put_down-requires-clause-held : goal.put_down-requires-clause-held
+put_down-requires-clause-held c =
+    own_is_held c.gained-own.result c.thread.result.0 c.args.mode c.gained-own.ensures.word
+
+pub put_down-requires-clause-drop : goal.put_down-requires-clause-drop
+put_down-requires-clause-drop c = own_drops c.gained-own.result c.thread.result.0 c.args.mode c.gained-own.ensures.word
+
+pub put_down-requires-clause-may : goal.put_down-requires-clause-may
+put_down-requires-clause-may c =
+    may_drop_own c.args.floor.now.description c.args.l.0 c.args.mode c.gained-own.result c.thread.result.0
+    c.stamp.new.pass.view
+    c.requires.may.covered.lock c.gained-own.ensures.word
+    (leaving_noted c.args.floor.now.description c.args.l c.args.mode c.stamp.result c.args.pass.now.view
+    c.stamp.new.pass.view c.args.pass.now.view
+    c.requires.ready.rest c.requires.may.held c.requires.may.room c.stamp.ensures.view).may
+
+pub put_down-requires-clause-may_look : goal.put_down-requires-clause-may_look
+put_down-requires-clause-may_look c =
+    may_look_held c.args.floor.now.description c.stamp.new.pass.view c.args.l.0 c.args.mode
+    c.stamp.ensures.own.description
+    c.requires.may.covered.lock
+    (leaving_noted c.args.floor.now.description c.args.l c.args.mode c.stamp.result c.args.pass.now.view
+    c.stamp.new.pass.view c.args.pass.now.view
+    c.requires.ready.rest c.requires.may.held c.requires.may.room c.stamp.ensures.view).may
+
+pub returns-in-Ok-clause-own : goal.returns-in-Ok-clause-own
+returns-in-Ok-clause-own c =
+    own_noted c.args.floor.now c.put_down.new.pass c.set_call.new.self calls.None c.set_call.ensures
+    c.put_down.ensures.own
+
+pub returns-in-Ok-clause-begun : goal.returns-in-Ok-clause-begun
+returns-in-Ok-clause-begun c = (
+  call_noted c.put_down.new.pass c.set_call.new.self calls.None c.set_call.ensures,
+  subst (ReleasesAtOnce c.args.floor.now.description c.args.l c.args.mode c.args.pass.now.view)
+      (sym (view_noted c.put_down.new.pass c.set_call.new.self calls.None c.set_call.ensures))
+      (at_once c.args.floor.now.description c.args.l c.args.mode c.stamp.result c.args.pass.now.view
+      c.stamp.new.pass.view c.put_down.new.pass.view c.requires.ready.rest c.requires.may.held c.requires.may.room
+      c.stamp.ensures.view c.stamp.ensures.step c.in-Ok.ensures.view c.in-Ok.ensures.step),
+)
+
+pub returns-in-Err-clause-own : goal.returns-in-Err-clause-own
+returns-in-Err-clause-own c =
+    own_noted c.args.floor.now c.put_down.new.pass c.stand.new.pass (calls.Release c.args.l c.args.mode ComesTo)
+    c.stand.ensures
+    c.put_down.ensures.own
+
+pub returns-in-Err-clause-begun : goal.returns-in-Err-clause-begun
+returns-in-Err-clause-begun c =
+    begins c.args.floor.now.description c.args.l c.args.mode c.stamp.result c.args.pass.now.view c.stamp.new.pass.view
+    c.requires.ready.rest c.requires.may.held c.requires.may.room c.args.pass.now c.put_down.new.pass
+    c.stand.new.pass c.requires.may refl
+    c.stamp.ensures.view c.stamp.ensures.step (word_of c.in-Err.field-0)
+    (other_own c.in-Err.field-0 c.gained-own.result c.thread.result.0 c.args.pass.now.view.thread c.args.mode
+    c.in-Err.ensures.found.0 c.gained-own.ensures.word
+    (c.thread.ensures.same ∙ ap (λ (k : Knowledge). k.thread) c.stamp.ensures.view))
+    c.in-Err.ensures.looked c.in-Err.ensures.look
+    c.stand.ensures

@@ -4,17 +4,17 @@ use Rattle.lock_calls.proofs.sleeping.wake_up.Goals as goal
 
 pub try_resume-requires-clause-may : goal.try_resume-requires-clause-may
 try_resume-requires-clause-may c =
-    may_wake_up c.args.floor.now.description c.args.l c.requires.under_way.covered.mutex c.args.pass.now.view
+    may_wake_up c.args.floor.now.description c.args.l c.args.mode c.requires.under_way.covered c.args.pass.now.view
     c.requires.under_way.there.0 c.requires.under_way.there.1 c.requires.under_way.calling
 
 pub returns-in-Some-clause-on : goal.returns-in-Some-clause-on
 returns-in-Some-clause-on c =
-    wakes_up c.args.floor.now.description c.args.l c.requires.under_way.covered.mutex c.args.pass.now.view
+    wakes_up c.args.floor.now.description c.args.l c.args.mode c.requires.under_way.covered c.args.pass.now.view
     c.requires.under_way.there.0 c.requires.under_way.there.1 c.requires.under_way.calling
     c.try_resume.new.pass.view c.in-Some.field-0 c.in-Some.ensures.woken 48 (omega arith)
 
 pub returns-in-None-clause-on : goal.returns-in-None-clause-on
 returns-in-None-clause-on c =
-    sleeps_on c.args.floor.now.description c.args.l c.requires.under_way.covered.mutex c.args.pass.now.view
+    sleeps_on c.args.floor.now.description c.args.l c.args.mode c.requires.under_way.covered c.args.pass.now.view
     c.requires.under_way.there.0 c.requires.under_way.there.1 c.requires.under_way.calling
     c.try_resume.new.pass.view c.in-None.ensures.left c.in-None.ensures.queued

@@ -3,7 +3,7 @@ use Rattle.lock_calls.proofs.Spun.{comes_on, stays_spinning}
 use Rattle.lock_calls.proofs.spinning.come.Goals as goal
 
 pub try_take_chain-requires-clause-queue : goal.try_take_chain-requires-clause-queue
-try_take_chain-requires-clause-queue c = c.requires.under_way.covered.mutex.lock
+try_take_chain-requires-clause-queue c = c.requires.under_way.covered.lock
 
 pub try_take_chain-requires-clause-first : goal.try_take_chain-requires-clause-first
 try_take_chain-requires-clause-first c = c.requires.under_way.there.0.nothing_out
@@ -14,13 +14,13 @@ try_take_chain-requires-clause-may c =
 
 pub returns-then-try_take_chain-clause-on : goal.returns-then-try_take_chain-clause-on
 returns-then-try_take_chain-clause-on c =
-    comes_on c.args.floor.now.description c.args.l c.args.pass.now.view c.try_take_chain.new.pass.view
+    comes_on c.args.floor.now.description c.args.l c.args.mode c.args.pass.now.view c.try_take_chain.new.pass.view
     c.requires.under_way.there.0 c.requires.under_way.there.1
-    c.requires.under_way.covered.mutex (c.try_take_chain.ensures.out c.if-try_take_chain.true)
+    c.requires.under_way.covered.turnstile (c.try_take_chain.ensures.out c.if-try_take_chain.true)
 
 pub returns-else-try_take_chain-clause-on : goal.returns-else-try_take_chain-clause-on
 returns-else-try_take_chain-clause-on c =
-    stays_spinning c.args.floor.now.description c.args.l c.args.pass.now.view c.try_take_chain.new.pass.view
+    stays_spinning c.args.floor.now.description c.args.l c.args.mode c.args.pass.now.view c.try_take_chain.new.pass.view
     c.requires.under_way.there.0 c.requires.under_way.there.1
     (c.try_take_chain.ensures.left c.if-try_take_chain.false)
     (c.try_take_chain.ensures.elsewhere c.if-try_take_chain.false)

@@ -1,27 +1,27 @@
 use Rattle.std.proofs.Common.{Option, IfNone, IfSome, sym, subst}
-use Rattle.lock_model.specs.declared.plan.Mode.TheVariants.{Excl}
 use Rattle.lock_floor.specs.declared.calls.Call.TheVariants as calls
 use Rattle.lock_floor.specs.declared.calls.TakeAt.{TakeAt}
 use Rattle.lock_calls.specs.Takes.{HasTaken, TakeEnd, TakesOn, IsRefused}
 use Rattle.lock_calls.proofs.Calls.{own_noted, view_noted, call_noted, take_stands}
-use Rattle.lock_calls.proofs.taking.go_on_exclusively.Goals as goal
+use Rattle.lock_calls.proofs.taking.go_on.Goals as goal
 
 pub returns-in-Ok-Some-clause-own : goal.returns-in-Ok-Some-clause-own
 returns-in-Ok-Some-clause-own c =
     own_noted c.args.floor.now c.go_on_at.new.pass c.set_call.new.self
-    (calls.Take c.args.l Excl c.in-Ok-Some.to) c.set_call.ensures c.go_on_at.ensures.own
+    (calls.Take c.args.l c.args.mode c.in-Ok-Some.to) c.set_call.ensures c.go_on_at.ensures.own
 
 pub returns-in-Ok-Some-clause-went : goal.returns-in-Ok-Some-clause-went
 returns-in-Ok-Some-clause-went c =
-    take_stands c.args.floor.now.description c.args.l Excl c.args.at c.in-Ok-Some.to c.args.pass.now c.set_call.new.self
-    c.next_at.result
+    take_stands c.args.floor.now.description c.args.l c.args.mode c.args.at c.in-Ok-Some.to c.args.pass.now
+    c.set_call.new.self c.next_at.result
     c.next_at.ensures
     (call_noted c.go_on_at.new.pass c.set_call.new.self
-    (calls.Take c.args.l Excl c.in-Ok-Some.to) c.set_call.ensures)
-    (subst (TakesOn c.args.floor.now.description c.args.l Excl c.args.at c.in-Ok-Some.to c.args.pass.now.view)
+    (calls.Take c.args.l c.args.mode c.in-Ok-Some.to) c.set_call.ensures)
+    (subst (TakesOn c.args.floor.now.description c.args.l c.args.mode c.args.at c.in-Ok-Some.to c.args.pass.now.view)
     (sym (view_noted c.go_on_at.new.pass c.set_call.new.self
-    (calls.Take c.args.l Excl c.in-Ok-Some.to) c.set_call.ensures))
-    (subst (λ o. IfSome o (λ to. TakesOn c.args.floor.now.description c.args.l Excl c.args.at to c.args.pass.now.view
+    (calls.Take c.args.l c.args.mode c.in-Ok-Some.to) c.set_call.ensures))
+    (subst (λ o. IfSome o
+    (λ to. TakesOn c.args.floor.now.description c.args.l c.args.mode c.args.at to c.args.pass.now.view
     c.go_on_at.new.pass.view)) c.in-Ok-Some.field-0-is c.in-Ok-Some.ensures.on))
 
 pub returns-in-Ok-None-clause-own : goal.returns-in-Ok-None-clause-own
@@ -36,12 +36,12 @@ returns-in-Ok-None-clause-went c =
     c.set_call-in-Ok-None.ensures) in (
       call_noted c.go_on_at.new.pass c.set_call-in-Ok-None.new.self calls.None
           c.set_call-in-Ok-None.ensures,
-      subst (HasTaken c.args.floor.now.description c.args.l Excl c.args.pass.now.view) same
+      subst (HasTaken c.args.floor.now.description c.args.l c.args.mode c.args.pass.now.view) same
           (subst (λ (o : Option TakeAt). IfNone o
-          (HasTaken c.args.floor.now.description c.args.l Excl c.args.pass.now.view
+          (HasTaken c.args.floor.now.description c.args.l c.args.mode c.args.pass.now.view
           c.go_on_at.new.pass.view)) c.in-Ok-None.field-0-is c.in-Ok-None.ensures.taken),
-      subst (TakeEnd c.args.floor.now.description c.args.l Excl c.args.at c.args.pass.now.view) same
-          (subst (λ (o : Option TakeAt). IfNone o (TakeEnd c.args.floor.now.description c.args.l Excl c.args.at
+      subst (TakeEnd c.args.floor.now.description c.args.l c.args.mode c.args.at c.args.pass.now.view) same
+          (subst (λ (o : Option TakeAt). IfNone o (TakeEnd c.args.floor.now.description c.args.l c.args.mode c.args.at
           c.args.pass.now.view c.go_on_at.new.pass.view)) c.in-Ok-None.field-0-is c.in-Ok-None.ensures.end),
     )
 

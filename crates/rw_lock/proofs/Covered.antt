@@ -1,0 +1,36 @@
+-- A reader-writer lock is one of the locks for which the calls of locks are there, in both modes.
+use Rattle.std.proofs.Common.{◌≡◌, ℕ, sym, ap, ◌∙◌}
+use Rattle.lock_model.specs.Holds.{Holds}
+use Rattle.lock_model.specs.Operations.{hold_in}
+use Rattle.lock_model.specs.Words.{is_turnstile}
+use Rattle.lock_model.specs.declared.plan.Kind.TheVariants.{Mtx, Rw}
+use Rattle.lock_model.specs.declared.plan.Mode.{Mode}
+use Rattle.floor_table.specs.declared.description.Description.{Description}
+use Rattle.floor_table.specs.Views.{Knowledge}
+use Rattle.lock_calls.specs.Steps.{IsCovered}
+use Rattle.lock_calls.specs.Steps as calls
+use Rattle.rw_lock.specs.RwLocks.{IsRwLock, MayAcquire, MayRelease}
+
+covered : (floor : Description) (l : ℕ) (mode : Mode) → IsRwLock floor l → IsCovered floor l mode
+covered floor l mode m = record {
+  lock = m.lock;
+  turnstile = ap is_turnstile m.kind;
+  mutex = λ e. absurd (let z : Rw ≡ Mtx = sym m.kind ∙ e in cc);
+}
+
+pub may_take : (floor : Description) (l : ℕ) (mode : Mode) (v : Knowledge) → MayAcquire floor l v
+    → calls.MayTake floor l mode v
+may_take floor l mode v m = record {
+  covered = covered floor l mode m.rw_lock;
+  unheld = m.unheld;
+  few = m.few;
+  room = m.room;
+}
+
+pub may_release : (floor : Description) (l : ℕ) (mode : Mode) (v : Knowledge) → MayRelease floor l v
+    → Holds mode ≡ hold_in v.share.held l → calls.MayRelease floor l mode v
+may_release floor l mode v m is = record {
+  covered = covered floor l mode m.rw_lock;
+  held = sym is;
+  room = m.room;
+}

@@ -1,0 +1,117 @@
+//! The calls of reader-writer locks, as `rw_rlock`, `rw_wlock` and `rw_unlock` of FreeBSD's rwlock(9).
+ghost use Rattle.std.specs.Prelude.{◌≡◌, ◌++◌, [], ◌∷◌, IsOk, IfOk, IfErr};
+ghost use Rattle.lock_model.specs.Holds.{Holds};
+ghost use Rattle.lock_model.specs.Operations.{hold_in, without_lock};
+ghost use Rattle.lock_model.specs.declared.event.Event.TheVariants as event;
+ghost use Rattle.lock_model.specs.declared.plan.Mode.{Mode as InMode};
+ghost use Rattle.lock_model.specs.declared.plan.Mode.TheVariants.{Excl, Shared};
+ghost use Rattle.floor_table.specs.Steps.{MakesEach};
+ghost use Rattle.lock_floor.specs.Passes.{IsOf, IsReady, MakesEntry};
+ghost use Rattle.lock_calls.specs.Releases.{HasBegunRelease};
+ghost use Rattle.lock_calls.specs.Steps.{Locks, Release, as_taken, unlocks};
+ghost use Rattle.lock_calls.specs.Takes.{HasBegunTake, IsRefused};
+ghost use Rattle.rw_lock.specs.RwLocks.{MayAcquire, MayRelease};
+
+use lock_calls::{Next, begin_release, begin_take, release, take};
+use lock_floor::{Floor, Pass};
+use lock_model::{LockNo, Mode, Reversal};
+use std::sync::Wait;
+
+/// Takes a reader-writer lock for reading: others may read under it as well. Where the thread holds nothing it makes an
+/// exchange first. Then it has the lock's order checked behind the locks that the thread holds, and looks and tries in
+/// a round, at most 100 times in all. Then it takes the lock's chain, and gains the lock there, or stands on its
+/// turnstile, sleeps until it is woken, and begins another round. `Err` comes exactly where, by the class graph as this
+/// call's check found it, the class of a lock that the thread holds forbids that of the lock: it has the first such
+/// class in order of acquisition, the refusal is noted, and nothing else of the thread is new. A thread that holds
+/// nothing is never refused. The floor has one chain of turnstiles.
+pub fn read<R: Wait>(floor: &Floor, rt: &R, pass: &mut Pass, l: LockNo) -> Result<(), Reversal>
+    requires ready { IsReady floor.now pass.old }
+    requires may { MayAcquire floor.now.description l.0 pass.old.view }
+    requires one_chain { floor.now.description.chains ≡ 1 }
+    ensures ready { IsReady floor.now pass.new }
+    ensures entry { IfOk result (λ _. MakesEntry floor.now.description (event.Locked l Shared)
+        (pass.old.view.share.held ++ as_taken l Shared ∷ []) pass.old.view pass.new.view) }
+    ensures steps { IfOk result
+        (λ _. Locks floor.now.description l Shared pass.old.view pass.new.view) }
+    ensures reversed { IfErr result
+        (λ r. IsRefused floor.now.description l r pass.old.view pass.new.view) }
+    ensures bare { pass.old.view.share.held ≡ [] → IsOk result }
+{
+    take(floor, rt, pass, l, Mode::Shared)
+}
+
+/// Takes a reader-writer lock for writing: nobody else holds it then. It goes as `read`; where the lock is free and
+/// others wait for it, the thread goes to the lock's chain at once, and owns the lock's turnstile from the step on by
+/// which it gains the lock.
+pub fn write<R: Wait>(floor: &Floor, rt: &R, pass: &mut Pass, l: LockNo) -> Result<(), Reversal>
+    requires ready { IsReady floor.now pass.old }
+    requires may { MayAcquire floor.now.description l.0 pass.old.view }
+    requires one_chain { floor.now.description.chains ≡ 1 }
+    ensures ready { IsReady floor.now pass.new }
+    ensures entry { IfOk result (λ _. MakesEntry floor.now.description (event.Locked l Excl)
+        (pass.old.view.share.held ++ as_taken l Excl ∷ []) pass.old.view pass.new.view) }
+    ensures steps { IfOk result
+        (λ _. Locks floor.now.description l Excl pass.old.view pass.new.view) }
+    ensures reversed { IfErr result
+        (λ r. IsRefused floor.now.description l r pass.old.view pass.new.view) }
+    ensures bare { pass.old.view.share.held ≡ [] → IsOk result }
+{
+    take(floor, rt, pass, l, Mode::Excl)
+}
+
+/// Begins to take a reader-writer lock for reading, and never waits: `Done` comes where the first exchange gained it,
+/// which a thread makes that holds nothing. Else the take is under way, and is gone on with by `go_on_taking`.
+pub fn begin_read(floor: &Floor, pass: &mut Pass, l: LockNo) -> Next
+    requires ready { IsReady floor.now pass.old }
+    requires may { MayAcquire floor.now.description l.0 pass.old.view }
+    ensures own { IsOf floor.now pass.new }
+    ensures begun { HasBegunTake floor.now.description l Shared result pass.old pass.new }
+{
+    begin_take(floor, pass, l, Mode::Shared)
+}
+
+/// Begins to take a reader-writer lock for writing. It goes as `begin_read`.
+pub fn begin_write(floor: &Floor, pass: &mut Pass, l: LockNo) -> Next
+    requires ready { IsReady floor.now pass.old }
+    requires may { MayAcquire floor.now.description l.0 pass.old.view }
+    ensures own { IsOf floor.now pass.new }
+    ensures begun { HasBegunTake floor.now.description l Excl result pass.old pass.new }
+{
+    begin_take(floor, pass, l, Mode::Excl)
+}
+
+/// Releases a reader-writer lock in the mode in which the thread holds it, and wakes those who wait for it where it was
+/// the last holder: the writers, or else the readers. It makes one exchange first, from the word of a lock that the
+/// thread alone holds and nobody waits for; where that misses it takes the lock's chain, and drops or opens the lock.
+pub fn unlock<R: Wait>(floor: &Floor, rt: &R, pass: &mut Pass, l: LockNo)
+    requires ready { IsReady floor.now pass.old }
+    requires may { MayRelease floor.now.description l.0 pass.old.view }
+    ensures ready { IsReady floor.now pass.new }
+    ensures entry { (mode : InMode) → hold_in pass.old.view.share.held l.0 ≡ Holds mode
+        → MakesEntry floor.now.description (event.Unlocked l mode)
+        (without_lock l.0 pass.old.view.share.held) pass.old.view pass.new.view }
+    ensures steps { (mode : InMode) → hold_in pass.old.view.share.held l.0 ≡ Holds mode
+        → (how : Release) × MakesEach floor.now.description
+        (unlocks floor.now.description pass.old.view.thread l mode how)
+        pass.old.view pass.new.view }
+{
+    match pass.mode(l) {
+        Some(mode) => release(floor, rt, pass, l, mode),
+        None => unreachable!(),
+    }
+}
+
+/// Begins to release a reader-writer lock in the mode in which the thread holds it, and never waits: `Done` comes where
+/// the first exchange put it down. Else the release is under way, and is gone on with by `go_on_releasing`.
+pub fn begin_unlock(floor: &Floor, pass: &mut Pass, l: LockNo) -> Next
+    requires ready { IsReady floor.now pass.old }
+    requires may { MayRelease floor.now.description l.0 pass.old.view }
+    ensures own { IsOf floor.now pass.new }
+    ensures begun { (mode : InMode) → hold_in pass.old.view.share.held l.0 ≡ Holds mode
+        → HasBegunRelease floor.now.description l mode result pass.old pass.new }
+{
+    match pass.mode(l) {
+        Some(mode) => begin_release(floor, pass, l, mode),
+        None => unreachable!(),
+    }
+}
