@@ -1,9 +1,9 @@
 //! Reader-writer locks on a running floor: the calls of locks that block (`lock_calls`), for locks that many threads
 //! read under or one writes under.
 //!
-//! A reader gains the lock while nobody writes and no writer waits, and also where it is free: so readers share it, and
-//! a reader goes behind a writer that waits for one who reads. A writer gains it where it is free; where others wait
-//! for it, it owns the lock's turnstile from that step on, and they lend it their priorities. Readers are lent nothing.
+//! A reader gains the lock where it is free, and shares it with other readers while no writer waits: so who comes to
+//! read while others do goes behind a writer that waits. A writer gains it where it is free; where others wait for it,
+//! it owns the lock's turnstile from that step on, and they lend it their priorities. Readers are lent nothing.
 //!
 //! `read`, `write` and `unlock` wait. Threads of a runtime of one's own drive the same calls part by part, and no part
 //! waits: `begin_read`, `begin_write` and `begin_unlock` begin one, and `go_on_taking` and `go_on_releasing` go on with
