@@ -2,8 +2,7 @@
  * What the mutexes of lockrun's threads are compared with: pthread mutexes that lend priority (PTHREAD_PRIO_INHERIT),
  * one atomic ticket that all threads share, and per thread a log of 16-byte entries. Each round does what the lines of
  * a script of crates/lock_bench do, with an entry for each: the entry of a gain is stamped after it, that of a release
- * before it. The logs of a run are new memory, as those of a floor are: the first entry of each page pays for it.
- * bench/baseline compiles and runs it; it is no part of the gate.
+ * before it. bench/baseline compiles and runs it; it is no part of the gate.
  *
  * An operation is a lock, an edit or an unlock, with its entry. Printed are lines `name value`, of all cases or of the
  * one that is named: the nanoseconds of an operation, best of 9 runs, and behind NAME_median their median. That is the
@@ -16,7 +15,6 @@
  * can take less for an operation.
  */
 #define _GNU_SOURCE
-#include <errno.h>
 #include <pthread.h>
 #include <sched.h>
 #include <stdatomic.h>
@@ -24,7 +22,6 @@
 #include <stdio.h>
 #include <stdlib.h>
 #include <string.h>
-#include <sys/mman.h>
 #include <time.h>
 
 /* MOST_OPERATIONS is for all threads of a run together; a long section takes WORK nanoseconds. */
@@ -100,6 +97,7 @@ static struct {
 static _Alignas(128) _Atomic uint32_t next_ticket;
 /* How many threads are there: they wait for each other, so as to begin together. */
 static _Alignas(128) _Atomic int there;
+static struct entry *logs[MOST_THREADS];
 
 static void fail(const char *what)
 {
@@ -273,15 +271,6 @@ static double check(const struct worker *workers, int threads)
     return sections == 0 ? 0 : 100.0 * (double)handovers / (double)sections;
 }
 
-/* A log of so many entries, of which no page was touched yet. */
-static struct entry *new_log(size_t entries)
-{
-    void *log = mmap(NULL, entries * sizeof(struct entry), PROT_READ | PROT_WRITE, MAP_PRIVATE | MAP_ANONYMOUS, -1, 0);
-    if (log == MAP_FAILED)
-        fail("out of memory");
-    return log;
-}
-
 struct figures {
     double nanoseconds;
     double handovers;
@@ -298,12 +287,10 @@ static struct figures run(const struct test *test)
     for (int l = 0; l < MOST_LOCKS; l++)
         memset(locks[l].table, 0, sizeof locks[l].table);
     memset(graph.edges, 0, sizeof graph.edges);
-    size_t rounds = (size_t)(MOST_OPERATIONS / test->threads / operations_of[test->round]);
-    size_t room = rounds * (size_t)operations_of[test->round];
     for (int t = 0; t < test->threads; t++)
         workers[t] = (struct worker){
-            .log = new_log(room),
-            .rounds = rounds,
+            .log = logs[t],
+            .rounds = (size_t)(MOST_OPERATIONS / test->threads / operations_of[test->round]),
             .round = test->round,
             .thread = (uint8_t)t,
             .first = (uint8_t)(t % test->mutexes),
@@ -323,8 +310,6 @@ static struct figures run(const struct test *test)
         operations += workers[t].entries;
     }
     double handovers = check(workers, test->threads);
-    for (int t = 0; t < test->threads; t++)
-        must(munmap(workers[t].log, room * sizeof(struct entry)) == 0 ? 0 : errno, "a log");
     return (struct figures){(double)(ended - began) / (double)operations, handovers};
 }
 
@@ -354,6 +339,14 @@ int main(int argc, char **argv)
     must(pthread_mutex_init(&graph.mutex, &lends), "mutex");
     for (int l = 0; l < MOST_LOCKS; l++)
         must(pthread_mutex_init(&locks[l].mutex, &lends), "mutex");
+    for (int t = 0; t < MOST_THREADS; t++) {
+        size_t bytes = MOST_OPERATIONS * sizeof(struct entry);
+        logs[t] = malloc(bytes);
+        if (logs[t] == NULL)
+            fail("out of memory");
+        /* so that no page is new in a run, as none is in the logs of a floor (Log::touch) */
+        memset(logs[t], 1, bytes);
+    }
     for (size_t i = 0; i < sizeof tests / sizeof tests[0]; i++)
         if (argc < 2 || strcmp(argv[1], tests[i].name) == 0)
             measure(&tests[i]);

@@ -3,9 +3,10 @@
 own. A thread takes a lock by a blocking call only while every lock that it holds, by a take or a try, has a smaller
 number; a try may be of any lock that it doesn't hold. So under `run` and under `step` every thread comes to its end,
 and no take is refused. With --any-order some takes are of any lock that the thread doesn't hold, and locks may share a
-class: then takes are refused, and still no run gets stuck.
+class: then takes are refused, and still no run gets stuck. With --shared some locks are reader-writer locks, and no run
+gets stuck either.
 
-    make_scripts.py [--any-order] [--program PATH] N SEED DIR
+    make_scripts.py [--any-order] [--shared] [--program PATH] N SEED DIR
 
 writes DIR/0000.script and so on, the same for the same N and SEED. Each is read by scripts.py, and with --program by
 `PATH check` too, which must say the same counts. Status 1 where one isn't accepted.
@@ -15,20 +16,38 @@ import random
 import subprocess
 import sys
 from pathlib import Path
+from typing import NamedTuple
 
 from scripts import MODULUS, MOST_BLOCKS, MOST_HELD, MOST_OPERATIONS, ScriptFault, read_script
+
+
+# What a lock of each sort is taken, tried and released by: in each of its modes, the exclusive one last.
+WORDS = {
+    "mutex": [("lock", "trylock", "unlock")],
+    "rw": [("rlock", "tryrlock", "runlock"), ("wlock", "trywlock", "wunlock")],
+}
+
+
+class Held(NamedTuple):
+    """A lock that a thread holds, and the words by which it took or tried it and releases it."""
+
+    lock: int
+    by_try: bool
+    words: tuple
+    exclusive: bool
 
 
 class ThreadMaker:
     """Writes the operations of one thread, at most as many as it is given."""
 
-    def __init__(self, draw, locks, most, style):
+    def __init__(self, draw, sorts, most, style):
         self.draw = draw
-        self.locks = locks
+        self.sorts = sorts
+        self.locks = len(sorts)
         self.left = most
         self.style = style
         self.lines = []
-        # what is held, in order: (lock, by a try)
+        # what is held, in order
         self.held = []
         self.blocks = 0
         # what the next take may be of
@@ -71,31 +90,37 @@ class ThreadMaker:
     def may_take(self):
         """The locks that a blocking call may take: those above all that are held, or now and then any others."""
         if self.style.against and self.draw.random() < self.style.against:
-            held = {lock for lock, _ in self.held}
+            held = {hold.lock for hold in self.held}
             return [lock for lock in range(self.locks) if lock not in held]
-        return range(1 + max((lock for lock, _ in self.held), default=-1), self.locks)
+        return range(1 + max((hold.lock for hold in self.held), default=-1), self.locks)
+
+    def hold(self, lock, by_try):
+        """Takes or tries the lock, in one of its modes."""
+        modes = WORDS[self.sorts[lock]]
+        words = modes[0] if len(modes) > 1 and self.draw.random() < self.style.reads else modes[-1]
+        self.write(f"{words[1 if by_try else 0]} m{lock}")
+        self.held.append(Held(lock, by_try, words, words is modes[-1]))
 
     def take(self, kept):
         # a near lock leaves more for the takes behind
-        lock = min(self.draw.choices(self.free, k=2))
-        self.write(f"lock m{lock}")
-        self.held.append((lock, False))
+        self.hold(min(self.draw.choices(self.free, k=2)), False)
 
     def release(self, kept):
         place = self.draw.randrange(kept, len(self.held))
         if self.draw.random() < 0.6:
             place = len(self.held) - 1
-        lock, _ = self.held.pop(place)
-        self.write(f"unlock m{lock}")
+        hold = self.held.pop(place)
+        self.write(f"{hold.words[2]} m{hold.lock}")
 
     def give_back(self, kept):
         while len(self.held) > kept:
             self.release(kept)
 
     def edit(self, kept):
-        lock = self.draw.choice(self.held)[0]
+        hold = self.draw.choice(self.held)
+        lock = hold.lock
         key = self.draw.choice((0, 1, 1, 2, 3, 7, MODULUS - 1))
-        word = self.draw.choices(("add", "set", "get"), (5, 1, 3))[0]
+        word = self.draw.choices(("add", "set", "get"), (5, 1, 3))[0] if hold.exclusive else "get"
         amount = self.draw.choice((self.draw.randrange(100), self.draw.randrange(MODULUS), MODULUS - 1))
         self.write(f"get m{lock} {key}" if word == "get" else f"{word} m{lock} {key} {amount}")
 
@@ -106,10 +131,8 @@ class ThreadMaker:
         """A try and its block, behind which the held list is what it was before it. A lock that the block began with
         isn't given back in it, save at its end; the tried one may be."""
         before = len(self.held)
-        held = {lock for lock, _ in self.held}
-        lock = self.draw.choice([lock for lock in range(self.locks) if lock not in held])
-        self.write(f"trylock m{lock}")
-        self.held.append((lock, True))
+        held = {hold.lock for hold in self.held}
+        self.hold(self.draw.choice([lock for lock in range(self.locks) if lock not in held]), True)
         self.blocks += 1
         for _ in range(self.draw.randrange(self.style.block)):
             self.make_one(before)
@@ -122,16 +145,16 @@ class ThreadMaker:
         """At the end of a block, the lock taken last before it is sometimes given back and taken again."""
         if not self.held or self.left - self.owed() < 2 or self.draw.random() > 0.3:
             return
-        lock, by_try = self.held[-1]
-        if not by_try and all(lock > other for other, _ in self.held[:-1]):
-            self.write(f"unlock m{lock}")
-            self.write(f"lock m{lock}")
+        last = self.held[-1]
+        if not last.by_try and all(last.lock > hold.lock for hold in self.held[:-1]):
+            self.write(f"{last.words[2]} m{last.lock}")
+            self.write(f"{last.words[0]} m{last.lock}")
 
 
 class Style:
     """How often a script's threads do what."""
 
-    def __init__(self, draw, any_order):
+    def __init__(self, draw, any_order, shared):
         self.takes = draw.choice((2, 4, 8))
         self.tries = draw.choice((0, 1, 2, 4))
         self.notes = draw.choice((0.2, 1))
@@ -140,21 +163,25 @@ class Style:
         self.block = draw.choice((2, 6, 12))
         # of how many takes, as a part of all, the lock is any that isn't held
         self.against = draw.choice((0.003, 0.03, 0.3)) if any_order else 0
+        # how many of the locks are reader-writer locks, and how many of the takes and tries of these are reads
+        self.shared = draw.choice((0.3, 1)) if shared else 0
+        self.reads = draw.choice((0.2, 0.5, 0.9)) if shared else 0
 
 
-def make_script(seed, number, any_order=False):
+def make_script(seed, number, any_order=False, shared=False):
     draw = random.Random(f"{seed} {number}")
     threads = draw.choice((2, 2, 3, 4, 4, 6, 8, 12, 16, 24, 32))
     locks = draw.choice((1, 1, 2, 3, 4, 6, 8))
     # few operations in most scripts, as many as there may be in some
     most = int(min(MOST_OPERATIONS / threads, 4 * 300 ** draw.random() if draw.random() < 0.97 else MOST_OPERATIONS))
-    style = Style(draw, any_order)
+    style = Style(draw, any_order, shared)
+    sorts = ["rw" if style.shared and draw.random() < style.shared else "mutex" for _ in range(locks)]
     classes = draw.randrange(1, locks + 1) if any_order and draw.random() < 0.2 else locks
     lines = ["lockrun 1"]
-    lines += [f"mutex m{lock} c{lock % classes}" for lock in range(locks)]
+    lines += [f"{sort} m{lock} c{lock % classes}" for lock, sort in enumerate(sorts)]
     for thread in range(threads):
         lines.append(f"thread t{thread} {draw.randrange(256)}")
-        lines += ThreadMaker(draw, locks, draw.randrange(most // 2, most + 1), style).make()
+        lines += ThreadMaker(draw, sorts, draw.randrange(most // 2, most + 1), style).make()
         lines.append("end")
     if draw.random() < 0.5:
         for _ in range(draw.randrange(1, 30)):
@@ -163,16 +190,20 @@ def make_script(seed, number, any_order=False):
     return "".join(line + "\n" for line in lines).encode()
 
 
+TAKES, TRIES, RELEASES = ({words[n] for modes in WORDS.values() for words in modes} for n in range(3))
+
+
 def keeps_to_the_order(plan):
     """Whether each take's lock has a greater number than all that its thread holds there."""
     for thread in plan.threads:
         held = []
         for operation in thread.operations:
-            if operation.word == "lock" and any(other >= operation.lock for other in held):
+            word = operation.word
+            if word in TAKES and any(other >= operation.lock for other in held):
                 return False
-            if operation.word in ("lock", "trylock"):
+            if word in TAKES or word in TRIES:
                 held.append(operation.lock)
-            elif operation.word == "unlock":
+            elif word in RELEASES:
                 held.remove(operation.lock)
     return True
 
@@ -196,8 +227,9 @@ def judge(source, program, any_order):
 
 
 def main():
-    words = argparse.ArgumentParser(description="Makes random scripts of mutexes.")
+    words = argparse.ArgumentParser(description="Makes random scripts of locks.")
     words.add_argument("--any-order", action="store_true", help="takes are of any locks, so some are refused")
+    words.add_argument("--shared", action="store_true", help="some locks are reader-writer locks")
     words.add_argument("--program", help="a lockrun, whose check must accept each script")
     words.add_argument("count", type=int)
     words.add_argument("seed")
@@ -205,7 +237,7 @@ def main():
     given = words.parse_args()
     given.folder.mkdir(parents=True, exist_ok=True)
     for number in range(given.count):
-        source = make_script(given.seed, number, given.any_order)
+        source = make_script(given.seed, number, given.any_order, given.shared)
         file = given.folder / f"{number:04}.script"
         file.write_bytes(source)
         reason = judge(source, given.program, given.any_order)

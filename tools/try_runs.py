@@ -3,15 +3,16 @@
 text to the law of a history by check_history.py. A run that takes more than 20 seconds hangs; one whose status isn't
 that of its last word has crashed. It needs Python 3.9 or later.
 
-    tools/try_runs.py [--step] [--any-order] [--jobs N] [--seed SEED] PROGRAM COUNT
+    tools/try_runs.py [--step] [--any-order] [--shared] [--jobs N] [--seed SEED] PROGRAM COUNT
 
 PROGRAM is a lockrun. With --step its scheduled runs are tried in place of `run`; with --any-order the scripts' takes
-keep to no order. --seed says which scripts are made (else the time does), --jobs how many run at a time (4).
-The last line has the figures: how many were run, how many on one processor, and how many of the others with more
-threads than processors; how many texts were refused, how many hung and crashed, how many runs ended reversed, and how
-many histories differ from that of `step`, so that one sees that threads interleave; and by how many voluntary switches
-threads went to sleep, and in how many runs, one switch for each thread not counted, which its start or the wait for its
-end may take. Where any text was refused, or a run hung or crashed, the status is 1 and its files are left to look at.
+keep to no order, with --shared some of their locks are reader-writer locks. --seed says which scripts are made (else
+the time does), --jobs how many run at a time (4). The last line has the figures: how many were run, how many on one
+processor, and how many of the others with more threads than processors; how many texts were refused, how many hung and
+crashed, how many runs ended reversed, and how many histories differ from that of `step`, so that one sees that threads
+interleave; and by how many voluntary switches threads went to sleep, and in how many runs, one switch for each thread
+not counted, which its start or the wait for its end may take. Where any text was refused, or a run hung or crashed, the
+status is 1 and its files are left to look at.
 """
 import argparse
 import os
@@ -63,9 +64,9 @@ def entries(text):
     return lines[:next((n for n, line in enumerate(lines) if not line[:1].isdigit()), len(lines))]
 
 
-def try_one(program, seed, any_order, is_step, number):
+def try_one(program, seed, any_order, shared, is_step, number):
     """What came of the script of that number, with its source and text."""
-    source = make_script(seed, number, any_order)
+    source = make_script(seed, number, any_order, shared)
     pinned = number % 3 == 0
     command = "step" if is_step else "run"
     status, text, switches = run(program, command, source, pinned)
@@ -95,6 +96,7 @@ def main():
     words = argparse.ArgumentParser(description="Runs random scripts by threads, and judges each text.")
     words.add_argument("--step", action="store_true", help="scheduled runs are tried")
     words.add_argument("--any-order", action="store_true", help="takes are of any locks, so some are refused")
+    words.add_argument("--shared", action="store_true", help="some locks are reader-writer locks")
     words.add_argument("--jobs", type=int, default=4)
     words.add_argument("--seed", default=str(int(time.time())))
     words.add_argument("program")
@@ -104,7 +106,7 @@ def main():
     if not os.access(program, os.X_OK) or given.count < 1:
         words.error(f"{given.program} is no program, or {given.count} no number of runs")
     figures, folder, asleep = Counter(), None, 0
-    one = partial(try_one, program, given.seed, given.any_order, given.step)
+    one = partial(try_one, program, given.seed, given.any_order, given.shared, given.step)
     with ProcessPoolExecutor(given.jobs) as pool:
         for number, source, text, came in pool.map(one, range(given.count), chunksize=8):
             figures.update(word.partition(" ")[0].rstrip(":") for word in came)

@@ -1,4 +1,3 @@
 pub mod Covered
 pub mod Tried
-pub mod First
 pub mod Parts

@@ -7,10 +7,11 @@ use Rattle.floor_table.specs.declared.description.Description.{Description}
 use Rattle.floor_table.specs.Views.{Knowledge}
 use Rattle.lock_floor.specs.declared.calls.Call.TheVariants as calls
 use Rattle.lock_floor.specs.declared.calls.ReleaseAt.{ReleaseAt}
-use Rattle.lock_floor.specs.declared.calls.ReleaseAt.TheVariants.{ComesTo, Wakes}
+use Rattle.lock_floor.specs.declared.calls.ReleaseAt.TheVariants.{Wakes}
 use Rattle.lock_floor.specs.declared.calls.TakeAt.{TakeAt}
 use Rattle.lock_floor.specs.declared.calls.TakeAt.TheVariants.{Checks}
 use Rattle.lock_floor.specs.Floors.{Pass}
+use Rattle.lock_calls.specs.Choices.{outside}
 use Rattle.lock_calls.specs.declared.answers.Next.{Next}
 use Rattle.lock_calls.specs.declared.answers.Next.TheVariants.{Done, Again, Sleep, Wake, Reversed}
 use Rattle.lock_calls.specs.Releases.{HasBegunRelease, IsInRelease, StandsInRelease, WakesOne, GoesOnReleasing}
@@ -47,7 +48,8 @@ module _ (floor : Description) (p q : Pass Knowledge) (m : IsInTake floor p) whe
 
 pub release_begun : (floor : Description) (l : LockNo) (mode : Mode) (p q : Pass Knowledge)
     → HasBegunRelease floor l mode Again p q → IsInRelease floor q
-release_begun floor l mode p q b = record { l = l; mode = mode; at = ComesTo; call = b.call; there = b.there }
+release_begun floor l mode p q b =
+    record { l = l; mode = mode; at = outside mode b.found; call = b.call; there = b.there }
 
 module _ (floor : Description) (p q : Pass Knowledge) (m : IsInRelease floor p) where
   pub releases_still : StandsInRelease floor m.l m.mode m.at p q → IsInRelease floor q

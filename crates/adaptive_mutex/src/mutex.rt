@@ -6,7 +6,7 @@ ghost use Rattle.lock_model.specs.declared.plan.Mode.TheVariants.{Excl};
 ghost use Rattle.floor_table.specs.Steps.{MakesEach};
 ghost use Rattle.lock_floor.specs.Passes.{IsOf, IsReady, MakesEntry};
 ghost use Rattle.lock_calls.specs.Releases.{HasBegunRelease};
-ghost use Rattle.lock_calls.specs.Steps.{Locks, Release, unlocks};
+ghost use Rattle.lock_calls.specs.Steps.{Locks, Release, IsReleaseIn, unlocks};
 ghost use Rattle.lock_calls.specs.Takes.{HasBegunTake, IsRefused};
 ghost use Rattle.adaptive_mutex.specs.Mutexes.{MayAcquire, MayRelease, as_held, tries, WasBusy};
 
@@ -97,7 +97,7 @@ pub fn unlock<R: Wait>(floor: &Floor, rt: &R, pass: &mut Pass, l: LockNo)
     ensures ready { IsReady floor.now pass.new }
     ensures entry { MakesEntry floor.now.description (event.Unlocked l Excl)
         (without_lock l.0 pass.old.view.share.held) pass.old.view pass.new.view }
-    ensures steps { (how : Release) × MakesEach floor.now.description
+    ensures steps { (how : Release) × IsReleaseIn Excl how × MakesEach floor.now.description
         (unlocks floor.now.description pass.old.view.thread l Excl how)
         pass.old.view pass.new.view }
 {

@@ -137,6 +137,8 @@ pub enum ArrowKind {
     BlockedOn,
     /// `from` would share a lock that others share, and blocked behind `to`, a writer that waits for it and came first.
     Behind,
+    /// `from` was refused a lock that `to` held, for the order of its class.
+    Refused,
 }
 
 /// What a thread did in its turn. A turn of a thread that has ended has no mark.

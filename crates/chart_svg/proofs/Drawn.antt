@@ -65,6 +65,7 @@ stop_kept lane (Some x) old new keeps was = keeps _ was
 pub frame_kept : (page : Page) → IsKept (FrameIsOn page)
 frame_kept page old new lane keeps was = record {
   name = keeps _ was.name;
+  prio = λ step is. keeps _ (was.prio step is);
   stop = stop_kept lane (stop_at page lane.thread.0) old new keeps was.stop;
 }
 

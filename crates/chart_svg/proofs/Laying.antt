@@ -2,13 +2,15 @@
 use Rattle.std.proofs.Common.{ℕ, ◌+◌, ◌-◌, ◌<◌, ◌≤◌, ◌≡◌, ◌∙◌, ◌++◌, inl, inr, ap, subst, sym, refl, List, [], ◌∷◌, length, take, get_or, set, All, Contains, arith, Some, zero, suc, ◌⊎◌}
 use Rattle.std.specs.Global.{Vec}
 use Rattle.std.specs.Prelude.{slice_get}
+use Rattle.std.proofs.Math.Seq.{get_or-append_seam}
 use Rattle.std.proofs.lemmas.Bool.Decides.{eqb_tells}
 use Rattle.std.proofs.lemmas.Option.{none-some, same_Some, get_or_from_slice_get}
 use Rattle.std.proofs.lemmas.List.{get_or-set_same, get_or-set_other, length-set, length-append, get_or_append_left, get_or_default}
-use Rattle.std.proofs.lemmas.List.Elements.{All-contains, All-weaker, Contains-append_left, Contains-push}
+use Rattle.std.proofs.lemmas.List.Elements.{All-contains, All-weaker, Contains-append_left, Contains-get_or, Contains-push, Contains-push_cases}
 use Rattle.std.proofs.lemmas.Grind.{get_or_at_push}
 use Rattle.chart_layout.specs.declared.layout.Bar.{Bar}
 use Rattle.chart_layout.specs.declared.layout.Lane.{Lane as ChartLane}
+use Rattle.chart_layout.specs.declared.layout.PrioSpan.{PrioSpan}
 use Rattle.chart_svg.proofs.Standing.{all_more_item}
 use Rattle.chart_svg.specs.Lanes.{IsAt, IsLaid, IsOf}
 use Rattle.chart_svg.specs.declared.page.LaneBand.{LaneBand}
@@ -47,6 +49,30 @@ put_puts {X} lists place was more x lt items = record {
   has = subst (λ (xs : List X). Contains xs x) (sym items) (Contains-push was.items x);
 }
 
+pub put_only : {X : Type 0} (lists : List (Vec X)) (place : ℕ) (was more : Vec X) (x : X) → was ≡ get_or lists place was
+    → more.items ≡ was.items ++ x ∷ [] → (at : ℕ) (other : X) → IsAt (set lists place more) at other
+    → IsAt lists at other ⊎ ((at ≡ place) × (other ≡ x))
+put_only {X} lists place was more x is items at other h =
+    let in_range : at < length lists = subst (λ n. at < n) (length-set lists place more) h.within in
+    elim (eqb_tells at place) [
+      | inl (t, e) ↦ (let lt : place < length lists = subst (λ n. n < length lists) e in_range in
+          let same : h.list ≡ more =
+          sym h.is ∙ ap (λ n. get_or (set lists place more) n h.list) e ∙ get_or-set_same lists place more h.list lt in
+          let has : Contains (was.items ++ x ∷ []) other =
+          subst (λ (xs : List X). Contains xs other) (ap (λ (v : Vec X). v.items) same ∙ items) h.has in
+          let here : get_or lists at was ≡ was = ap (λ n. get_or lists n was) e ∙ sym is in
+          elim (Contains-push_cases was.items x other has) [
+            | inl had ↦ inl (record { list = was; within = in_range; is = here; has = had })
+            | inr new ↦ inr (e, sym new)
+          ])
+      | inr (f, ne) ↦ inl (record {
+        list = h.list;
+        within = in_range;
+        is = sym (get_or-set_other lists place at more h.list ne) ∙ h.is;
+        has = h.has;
+      })
+    ]
+
 -- a list more
 pub pushed_keeps : {X : Type 0} (lists new : List (Vec X)) (more : Vec X) → new ≡ lists ++ more ∷ []
     → (at : ℕ) (other : X) → IsAt lists at other → IsAt new at other
@@ -69,6 +95,27 @@ pushed_puts {X} lists new more was x e items =
       is = (get_or_at_push lists more).1;
       has = subst (λ (xs : List X). Contains xs x) (sym items) (Contains-push was x);
     })
+
+-- an empty list more
+pub pushed_none : {X : Type 0} (lists new : List (Vec X)) (more : Vec X) → new ≡ lists ++ more ∷ [] → more.items ≡ []
+    → ((at : ℕ) (x : X) → IsAt lists at x → ⊥) → (at : ℕ) (x : X) → IsAt new at x → ⊥
+pushed_none {X} lists new more e empty none at x h =
+    let there : IsAt (lists ++ more ∷ []) at x = subst (λ (xs : List (Vec X)). IsAt xs at x) e h in
+    elim (eqb_tells at (length lists)) [
+      | inl (t, here) ↦ (let same : there.list ≡ more =
+          sym there.is ∙ ap (λ n. get_or (lists ++ more ∷ []) n there.list) here
+          ∙ get_or-append_seam lists more [] there.list in
+          let has : Contains [] x =
+          subst (λ (xs : List X). Contains xs x) (ap (λ (v : Vec X). v.items) same ∙ empty) there.has in
+          omega (arith, has.1))
+      | inr (f, ne) ↦ (let lt : at < length lists = omega (arith, there.within, length-append lists (more ∷ [])) in
+          none at x (record {
+            list = there.list;
+            within = lt;
+            is = sym (get_or_append_left lists (more ∷ []) there.list at lt) ∙ there.is;
+            has = there.has;
+          }))
+    ]
 
 -- what holds of the things of the first lists holds of those of one list more
 pub lists_more : {X : Type 0} (P : ℕ → X → Type 0) (lists : List (Vec X)) (i : ℕ) (own : Vec X) → own ≡ get_or lists i own → All (P i) own.items
@@ -103,6 +150,21 @@ by_thread_more {X} number things i x old new threads place lt read is keeps puts
     all_more_item New things things i x refl lt read
     (All-weaker Old New (λ y was below. keeps (number y) y (was below)) (take i things) h)
     (subst At is puts)
+
+-- what the lists have is of the things, at its thread
+pub own_more : {X : Type 0} (number : X → ℕ) (things : List X) (i : ℕ) (x : X) (old new : List (Vec X)) (place : ℕ)
+    → i < length things
+    → x ≡ get_or things i x → place ≡ number x
+    → ((at : ℕ) (other : X) → IsAt new at other → IsAt old at other ⊎ ((at ≡ place) × (other ≡ x)))
+    → ((at : ℕ) (other : X) → IsAt old at other → Contains things other × (number other ≡ at))
+    → (at : ℕ) (other : X) → IsAt new at other → Contains things other × (number other ≡ at)
+own_more {X} number things i x old new place lt read is only was at other h = elim (only at other h) [
+  | inl had ↦ was at other had
+  | inr (here, same) ↦ (
+    subst (λ (y : X). Contains things y) (sym (same ∙ read)) (Contains-get_or things i x lt),
+    ap number same ∙ sym is ∙ sym here,
+  )
+]
 
 -- one lane more
 pub slice_get-push : {X : Type 0} (xs : List X) (x : X) (t : ℕ) (y : X) → slice_get (xs ++ x ∷ []) t ≡ Some y
@@ -159,6 +221,26 @@ lanes_more old new lane e t at lanes d same within was k named lt is =
           let P : ℕ → Type 0 = λ n. IsOf Has new n named in
           subst P (sym here) (of_last Has old new lane e t at named (same ∙ ap (λ l. l.thread) read)))
       | inr (f, other) ↦ (let below : k < t = omega arith in of_still Has old new lane e k named (was k named below is))
+    ]
+
+-- what is in the lanes is in the lists of their threads
+pub owned_more : (old new : List LaneBand) (lane : LaneBand) → new ≡ old ++ lane ∷ [] → (t : ℕ) → length old ≡ t
+    → (lists : List (Vec PrioSpan)) (own : Vec PrioSpan) → own ≡ get_or lists t own → t < length lists
+    → lane.steps.items ≡ own.items
+    → ((k : ℕ) (named : LaneBand) → slice_get old k ≡ Some named → (x : PrioSpan) → Contains named.steps.items x
+    → IsAt lists k x)
+    → (k : ℕ) (named : LaneBand) → slice_get new k ≡ Some named → (x : PrioSpan) → Contains named.steps.items x
+    → IsAt lists k x
+owned_more old new lane e t at lists own is within same was k named there x has =
+    elim (slice_get-push old lane k named (ap (λ xs. slice_get xs k) (sym e) ∙ there)) [
+      | inl (lt, had) ↦ was k named had x has
+      | inr (here, last) ↦ (let place : k ≡ t = here ∙ at in record {
+        list = own;
+        within = subst (λ n. n < length lists) (sym place) within;
+        is = ap (λ n. get_or lists n own) place ∙ sym is;
+        has = subst (λ (xs : List PrioSpan). Contains xs x) (ap (λ (l : LaneBand). l.steps.items) (sym last) ∙ same)
+            has;
+      })
     ]
 
 -- all that is of threads is in their lanes

@@ -1,12 +1,12 @@
 -- Where the names of threads and their ends, bars, loans, arrows and marks of a chart stand in its picture.
-use Rattle.std.specs.Prelude.{◌≡◌, ◌≢◌, ◌⊎◌, ℕ, ◌+◌, ◌-◌, ◌*◌, ◌/◌, ◌<◌, ◌≤◌, ◌==◌, nat_lt, min, max, if◌then◌else◌, Any, List, [], ◌∷◌, ◌++◌, length, slice_get, Some, codes, decimal, Contains}
+use Rattle.std.specs.Prelude.{◌≡◌, ◌≢◌, ◌⊎◌, ℕ, ◌+◌, ◌-◌, ◌*◌, ◌/◌, ◌<◌, ◌≤◌, ◌==◌, nat_lt, min, max, if◌then◌else◌, All, Any, List, [], ◌∷◌, ◌++◌, length, slice_get, Some, codes, decimal, Contains}
 use Rattle.chart_escape.specs.Markup.{escaped}
 use Rattle.chart_escape.specs.Pieces.{piece_bytes}
 use Rattle.chart_escape.specs.declared.piece.Piece.TheVariants.{Optional}
 use Rattle.chart_layout.specs.Marks.{is_refusal}
 use Rattle.chart_layout.specs.declared.layout.Arrow.{Arrow}
 use Rattle.chart_layout.specs.declared.layout.ArrowKind.{ArrowKind}
-use Rattle.chart_layout.specs.declared.layout.ArrowKind.TheVariants.{Lends, Wakes, BlockedOn, Behind}
+use Rattle.chart_layout.specs.declared.layout.ArrowKind.TheVariants.{Lends, Wakes, BlockedOn, Behind, Refused}
 use Rattle.chart_layout.specs.declared.layout.Bar.{Bar}
 use Rattle.chart_layout.specs.declared.layout.BarKind.{BarKind}
 use Rattle.chart_layout.specs.declared.layout.BarKind.TheVariants.{Holds, Waits, TakenOff, Woken, Walks}
@@ -230,6 +230,30 @@ pub record LoanIsDrawn (chart : Chart) (scale : Scale) (picture : List ℕ) (ste
   pub stands : Stands picture (rect_bytes (codes "loan") (loan_area scale chart step)
       (codes "runs as " ++ decimal step.effective.0))
 
+-- two steps say the same priorities
+abbrev pub SaysAs : PrioSpan → PrioSpan → Type 0
+SaysAs step other = (other.effective ≡ step.effective) × (other.base ≡ step.base)
+
+-- the priorities of the step's thread don't change in the window
+abbrev pub IsFlat : Chart → PrioSpan → Type 0
+IsFlat chart step = All (λ other. other.thread ≡ step.thread → SaysAs step other) chart.steps
+
+abbrev pub Changes : Chart → PrioSpan → Type 0
+Changes chart step = IsFlat chart step → ⊥
+
+-- the priority by which a thread runs as a number, and its own one where that is another
+abbrev pub prio_words : ℕ → ℕ → List ℕ
+prio_words prio base =
+    codes "priority " ++ decimal prio
+    ++ (if prio == base then [] else codes " (base " ++ decimal base ++ codes ")")
+
+-- the number stands in the thread's lane
+pub record PrioIsDrawn (scale : Scale) (picture : List ℕ) (step : PrioSpan) : Type 0 where
+  pub y : ℕ
+  pub in_lane : IsInLane scale step.thread.0 y
+  pub stands : Stands picture (words_bytes (codes "gray") 24 y
+      (prio_words step.effective.0 step.base.0))
+
 -- 7. Arrows
 
 -- a loan that changes nothing is pale
@@ -238,12 +262,14 @@ line_class (Lends before prio) = if before.0 == prio.0 then codes "pale" else co
 line_class Wakes = codes "wakes"
 line_class BlockedOn = codes "block"
 line_class Behind = codes "block"
+line_class Refused = codes "refused"
 
 abbrev pub head_class : ArrowKind → List ℕ
 head_class (Lends before prio) = if before.0 == prio.0 then codes "palehead" else codes "lendhead"
 head_class Wakes = codes "wakehead"
 head_class BlockedOn = codes "blockhead"
 head_class Behind = codes "blockhead"
+head_class Refused = codes "refusedhead"
 
 -- the head points to the lane to which the arrow goes
 abbrev pub head_figure : Scale → Arrow → Figure
@@ -256,6 +282,7 @@ to_word (Lends before prio) = codes " to "
 to_word Wakes = codes " "
 to_word BlockedOn = codes " "
 to_word Behind = codes " "
+to_word Refused = codes " "
 
 -- what an arrow says: from whom, what, and to whom
 abbrev pub arrow_title : Plan → Arrow → List ℕ
@@ -315,8 +342,9 @@ abbrev pub HasLane : Chart → ℕ → Type 0
 HasLane chart t = t < length chart.lanes
 
 -- By one scale each name, end, bar, loan, arrow and mark of a chart stands in its picture, if those whom it concerns
--- have lanes. A column is at least 9 wide; lanes lie one below the other, each at least 45 high; and the more important
--- of two priorities lies at least 2 above the other. What else stands there isn't said.
+-- have lanes; of a thread whose priorities don't change in the window a number stands there in place of its loans. A
+-- column is at least 9 wide; lanes lie one below the other, each at least 45 high; and the more important of two
+-- priorities lies at least 2 above the other. What else stands there isn't said.
 pub record Draws (plan : Plan) (chart : Chart) (picture : List ℕ) : Type 0 where
   pub scale : Scale
   pub has_width : 9 ≤ scale.column
@@ -330,8 +358,10 @@ pub record Draws (plan : Plan) (chart : Chart) (picture : List ℕ) : Type 0 whe
       → StopIsDrawn chart scale picture t row
   pub bars : (bar : Bar) → Contains chart.bars bar → HasLane chart bar.thread.0
       → BarIsDrawn plan chart scale picture bar
+  pub prios : (step : PrioSpan) → Contains chart.steps step → HasLane chart step.thread.0
+      → IsFlat chart step → PrioIsDrawn scale picture step
   pub loans : (step : PrioSpan) → Contains chart.steps step → HasLane chart step.thread.0
-      → step.effective ≢ step.base → LoanIsDrawn chart scale picture step
+      → Changes chart step → step.effective ≢ step.base → LoanIsDrawn chart scale picture step
   pub arrows : (arrow : Arrow) → Contains chart.arrows arrow
       → HasLane chart arrow.from.0 → HasLane chart arrow.to.0
       → ArrowIsDrawn plan chart scale picture arrow

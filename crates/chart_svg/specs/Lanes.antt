@@ -1,5 +1,5 @@
 -- Where the lanes of a page are, and what stands in them.
-use Rattle.std.specs.Prelude.{◌≡◌, ◌≢◌, ℕ, ◌+◌, ◌-◌, ◌*◌, ◌/◌, ◌<◌, ◌≤◌, ◌⊎◌, nat_lt, min, max, List, [], ◌∷◌, ◌++◌, length, slice_get, slice_index_or, codes, decimal, Contains, All, Option, Some, None}
+use Rattle.std.specs.Prelude.{◌≡◌, ◌≢◌, ◌↔◌, ℕ, ◌+◌, ◌-◌, ◌*◌, ◌/◌, ◌<◌, ◌≤◌, ◌⊎◌, nat_lt, min, max, List, [], ◌∷◌, ◌++◌, length, slice_get, slice_index_or, codes, decimal, Contains, All, Option, Some, None}
 use Rattle.std.specs.Global.{Vec}
 use Rattle.std.specs.List.{filter}
 use Rattle.chart_layout.specs.declared.layout.Bar.{Bar}
@@ -8,7 +8,7 @@ use Rattle.chart_layout.specs.declared.layout.Lane.{Lane as ChartLane}
 use Rattle.chart_layout.specs.declared.layout.PrioSpan.{PrioSpan}
 use Rattle.lock_model.specs.declared.numbers.Prio.{Prio}
 use Rattle.lock_model.specs.declared.numbers.ThreadNo.{ThreadNo}
-use Rattle.chart_svg.specs.Drawn.{bar_area, bar_class, bar_title, loan_area, pixels, rect_bytes, Scale, Stands}
+use Rattle.chart_svg.specs.Drawn.{bar_area, bar_class, bar_title, loan_area, pixels, rect_bytes, SaysAs, Scale, Stands}
 use Rattle.chart_svg.specs.declared.packing.Packed.{Packed}
 use Rattle.chart_svg.specs.declared.page.LaneBand.{LaneBand}
 use Rattle.chart_svg.specs.declared.page.Page.{Page}
@@ -136,10 +136,14 @@ pub record BarsAreDrawn (page : Page) (picture : List ℕ) (lane : LaneBand) : T
 abbrev pub HasPrios : List Prio → List PrioSpan → Type 0
 HasPrios prios steps = All (λ step. Contains prios step.effective × Contains prios step.base) steps
 
--- the step is among those of the lane, which has a strip if it is a loan
+-- all steps say the priorities of the first
+abbrev pub AreSame : List PrioSpan → Type 0
+AreSame steps = (first : PrioSpan) → slice_get steps 0 ≡ Some first → All (SaysAs first) steps
+
+-- the step is among those of the lane, which has no strip exactly where they are all the same
 pub record HasStep (lane : LaneBand) (step : PrioSpan) : Type 0 where
   pub among : Contains lane.steps.items step
-  pub has_strip : step.effective ≢ step.base → (y : Px) × (lane.strip ≡ Some y)
+  pub flat : lane.strip ≡ None ↔ AreSame lane.steps.items
 
 -- the lanes are one more, with the bars and the steps of its thread
 pub record HasLaneMore (old new : List LaneBand) (thread : ThreadNo) (bars : List Bar)
@@ -149,11 +153,18 @@ pub record HasLaneMore (old new : List LaneBand) (thread : ThreadNo) (bars : Lis
   pub named : lane.thread ≡ thread
   pub has_bars : All (IsLaid lane.bars) bars
   pub has_steps : All (HasStep lane) steps
+  pub own_steps : lane.steps.items ≡ steps
 
 -- each step of a chart whose thread has a lane is in that lane
 abbrev pub HasSteps : Page → Chart → Type 0
 HasSteps page chart = (step : PrioSpan) → Contains chart.steps step
     → step.thread.0 < length chart.lanes → IsOf HasStep page.lanes.items step.thread.0 step
+
+-- each step of a lane is one of the chart, of the thread that has the lane
+abbrev pub HasOwn : Page → Chart → Type 0
+HasOwn page chart = (t : ℕ) (lane : LaneBand) → slice_get page.lanes.items t ≡ Some lane
+    → (step : PrioSpan) → Contains lane.steps.items step
+    → Contains chart.steps step × (step.thread.0 ≡ t)
 
 -- a loan stands in the picture if the strip of its thread's lane begins there
 abbrev pub IsLentAt : Page → List ℕ → ℕ → PrioSpan → Type 0

@@ -3,13 +3,15 @@ use Rattle.std.specs.Prelude.{◌≡◌, ⊤, ℕ, ◌+◌, ◌<◌, ◌≤◌, 
 use Rattle.chart_layout.specs.declared.layout.Arrow.{Arrow}
 use Rattle.chart_layout.specs.declared.layout.Chart.{Chart}
 use Rattle.chart_layout.specs.declared.layout.Lane.{Lane as ChartLane}
+use Rattle.chart_layout.specs.declared.layout.PrioSpan.{PrioSpan}
 use Rattle.chart_layout.specs.declared.layout.TurnMark.{TurnMark}
 use Rattle.lock_model.specs.Plans.{thread_name}
-use Rattle.chart_svg.specs.Drawn.{arrow_title, figure_bytes, head_class, head_figure, line_bytes, line_class, pixels, row_begin, turn_at, words_bytes, ArrowIsDrawn, IsInLane, MarkIsDrawn, Scale, Stands}
+use Rattle.chart_svg.specs.Drawn.{arrow_title, figure_bytes, head_class, head_figure, line_bytes, line_class, pixels, prio_words, row_begin, turn_at, words_bytes, ArrowIsDrawn, IsInLane, MarkIsDrawn, Scale, Stands}
 use Rattle.chart_svg.specs.Lanes.{scale_of, BarsAreDrawn, Fits, LoansAreDrawn}
 use Rattle.chart_svg.specs.declared.arrows.Placed.{Placed}
 use Rattle.chart_svg.specs.declared.page.LaneBand.{LaneBand}
 use Rattle.chart_svg.specs.declared.page.Page.{Page}
+use Rattle.chart_svg.specs.declared.pixels.Px.{Px}
 
 -- 1. Arrows
 
@@ -77,6 +79,17 @@ abbrev pub NameIsOn : Page → List ℕ → LaneBand → Type 0
 NameIsOn page picture lane = Stands picture (words_bytes (codes "name") 24
     (pixels (pixels (lane.begin.0 + 36) + 4)) (thread_name page.plan.now lane.thread.0))
 
+-- the priority that the name of a thread has below it: where a strip shows the others its own one alone
+abbrev pub shown_words : Option Px → PrioSpan → List ℕ
+shown_words None step = prio_words step.effective.0 step.base.0
+shown_words (Some y) step = prio_words step.base.0 step.base.0
+
+-- that of the first step of a lane stands there
+abbrev pub PrioIsOn : List ℕ → LaneBand → Type 0
+PrioIsOn picture lane = (step : PrioSpan) → slice_get lane.steps.items 0 ≡ Some step
+    → Stands picture (words_bytes (codes "gray") 24 (pixels (pixels (lane.begin.0 + 36) + 20))
+    (shown_words lane.strip step))
+
 -- the row in which a lane of a chart ends, if it does
 abbrev pub row_of : Option ChartLane → Option ℕ
 row_of None = None
@@ -99,7 +112,8 @@ StopsAt picture lane None = ⊤
 StopsAt picture lane (Some x) = Stands picture
     (line_bytes (codes "stops") x (pixels (lane.begin.0 + 25)) (pixels (lane.begin.0 + 47)))
 
--- the name of a lane's thread and the end of its line
+-- the name of a lane's thread, its priority, and the end of its line
 pub record FrameIsOn (page : Page) (picture : List ℕ) (lane : LaneBand) : Type 0 where
   pub name : NameIsOn page picture lane
+  pub prio : PrioIsOn picture lane
   pub stop : StopsAt picture lane (stop_at page lane.thread.0)

@@ -146,6 +146,7 @@ fn line_class(kind: ArrowKind) -> Class
         ArrowKind::Lends { .. } => Class::of("lends"),
         ArrowKind::Wakes => Class::of("wakes"),
         ArrowKind::BlockedOn | ArrowKind::Behind => Class::of("block"),
+        ArrowKind::Refused => Class::of("refused"),
     }
 }
 
@@ -157,6 +158,7 @@ fn head_class(kind: ArrowKind) -> Class
         ArrowKind::Lends { .. } => Class::of("lendhead"),
         ArrowKind::Wakes => Class::of("wakehead"),
         ArrowKind::BlockedOn | ArrowKind::Behind => Class::of("blockhead"),
+        ArrowKind::Refused => Class::of("refusedhead"),
     }
 }
 
@@ -178,7 +180,7 @@ fn to_word(kind: ArrowKind) -> &'static [u8]
 {
     match kind {
         ArrowKind::Lends { .. } => b" to ",
-        ArrowKind::Wakes | ArrowKind::BlockedOn | ArrowKind::Behind => b" ",
+        ArrowKind::Wakes | ArrowKind::BlockedOn | ArrowKind::Behind | ArrowKind::Refused => b" ",
     }
 }
 
@@ -200,7 +202,7 @@ fn push_own_words(
         ArrowKind::Lends { before, prio } if before == prio => return Ok(()),
         ArrowKind::Lends { .. } => Class::of("lend"),
         ArrowKind::Wakes => Class::of("wake"),
-        ArrowKind::BlockedOn | ArrowKind::Behind => return Ok(()),
+        ArrowKind::BlockedOn | ArrowKind::Behind | ArrowKind::Refused => return Ok(()),
     };
     let x = page.turn_at(placed.arrow.turn).plus(5);
     let mut words = Vec::new(alloc);
@@ -208,25 +210,28 @@ fn push_own_words(
     push_words(out, class, x, placed.words, &words)
 }
 
-// Where an arrow begins. One that goes down begins below the wait of a thread that blocks or lends, and at the line of
-// one that wakes.
+// Where an arrow begins: one that goes up above the words of the lane's marks, and one of a refusal
+// above its reason too, at the top of the lane. One that goes down begins below the wait of a thread
+// that blocks or lends, and at the line of one that wakes or was refused a lock.
 fn begin_of(arrow: Arrow, from: &LaneBand, goes_up: bool) -> Px
     requires { HasPlaces from.now }
     ensures { IsWithin from.now result.0 }
 {
-    if goes_up {
-        return from.begin.plus(1);
-    }
-    match arrow.kind {
-        ArrowKind::Wakes => from.line(),
-        ArrowKind::Lends { .. } | ArrowKind::BlockedOn | ArrowKind::Behind => {
+    match (arrow.kind, goes_up) {
+        (ArrowKind::Refused, true) => from.top,
+        (
+            ArrowKind::Wakes | ArrowKind::Lends { .. } | ArrowKind::BlockedOn | ArrowKind::Behind,
+            true,
+        ) => from.begin.plus(1),
+        (ArrowKind::Wakes | ArrowKind::Refused, false) => from.line(),
+        (ArrowKind::Lends { .. } | ArrowKind::BlockedOn | ArrowKind::Behind, false) => {
             from.bar_bottom(level_of(from, arrow.turn.saturating_add(1), Sought::Wait))
         }
     }
 }
 
-// Where an arrow ends: a loan at the step of the priority, one that blocks at the bar of the lock, and one that wakes,
-// or that goes to a writer, at the wait.
+// Where an arrow ends: a loan at the step of the priority, one that blocks or was refused at the bar
+// of the lock, and one that wakes, or that goes to a writer, at the wait.
 fn tip_of(page: &Page<'_>, arrow: Arrow, to: &LaneBand, goes_up: bool) -> Px
     requires { Fits page.now to.now }
     ensures { IsWithin to.now result.0 }
@@ -235,7 +240,9 @@ fn tip_of(page: &Page<'_>, arrow: Arrow, to: &LaneBand, goes_up: bool) -> Px
         return page.prio_at(strip, prio);
     }
     let sought = match arrow.kind {
-        ArrowKind::Lends { .. } | ArrowKind::BlockedOn => Sought::Hold(lock_of(page, arrow.turn)),
+        ArrowKind::Lends { .. } | ArrowKind::BlockedOn | ArrowKind::Refused => {
+            Sought::Hold(lock_of(page, arrow.turn))
+        }
         ArrowKind::Wakes | ArrowKind::Behind => Sought::Wait,
     };
     let level = level_of(to, arrow.turn, sought);
@@ -246,17 +253,18 @@ fn tip_of(page: &Page<'_>, arrow: Arrow, to: &LaneBand, goes_up: bool) -> Px
     }
 }
 
-// The lock on which a thread blocked in the turn, or at which its walk stood, where a sentence tells of it: of a loan
-// that changes nothing none does.
+// The lock on which a thread blocked in the turn, which it was refused, or at which its walk stood,
+// where a sentence tells of it: of a loan that changes nothing none does.
 fn lock_of(page: &Page<'_>, turn: u32) -> Option<LockNo> {
     match &page.sentence_at(turn)?.saying {
-        Saying::Waits { lock, .. } | Saying::Lends { lock, .. } => Some(*lock),
+        Saying::Waits { lock, .. } | Saying::Lends { lock, .. } | Saying::Refused { lock, .. } => {
+            Some(*lock)
+        }
         Saying::Sorts { .. }
         | Saying::Claims { .. }
         | Saying::Frees { .. }
         | Saying::Sleeps { .. }
-        | Saying::Wakes { .. }
-        | Saying::Refused { .. } => None,
+        | Saying::Wakes { .. } => None,
     }
 }
 

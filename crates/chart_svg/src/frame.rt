@@ -1,8 +1,8 @@
 //! What stands round the lanes: the begin of the file, the names of the threads and the numbers of the turns.
-ghost use Rattle.std.specs.Prelude.{◌≡◌, ◌<◌, ◌∷◌, true, option_map, Some, All, OnOk};
+ghost use Rattle.std.specs.Prelude.{◌≡◌, ◌<◌, ◌∷◌, true, option_map, Some, All, IfOk, OnOk};
 ghost use Rattle.chart_escape.specs.Reader.{at, is_in_tag, read, AddsElements, Between, InText, IsBetweenTags};
-ghost use Rattle.chart_svg.specs.Drawn.{Keeps};
-ghost use Rattle.chart_svg.specs.Pages.{stop_at, FrameIsOn, NameIsOn, StopsAt};
+ghost use Rattle.chart_svg.specs.Drawn.{prio_words, Keeps};
+ghost use Rattle.chart_svg.specs.Pages.{shown_words, stop_at, FrameIsOn, NameIsOn, PrioIsOn, StopsAt};
 ghost use Rattle.chart_svg.specs.Tags.{picture};
 
 use crate::page::{LaneBand, Page};
@@ -10,8 +10,9 @@ use crate::pixels::{Px, width_of};
 use crate::shapes::{Area, push_label, push_line, push_rect, push_words};
 use crate::tags::{Attribute, Class, begin_picture, open_picture, push_attribute, push_view};
 use chart_escape::{Piece, push_elements};
+use chart_layout::PrioSpan;
 use chart_words::end_headline;
-use lock_model::{ThreadNo, push_number};
+use lock_model::{Prio, ThreadNo, push_number};
 use std::alloc::{AllocError, Global};
 
 /// Pushes the begin of the file: its size, and what is read aloud of it. Behind it the picture is open.
@@ -186,6 +187,7 @@ fn push_lane(
     ensures whole { OnOk result (AddsElements out.old.items out.new.items) }
     ensures keeps { OnOk result (Keeps out.old.items out.new.items) }
     ensures name { OnOk result (NameIsOn page.now out.new.items lane.now) }
+    ensures prio { OnOk result (PrioIsOn out.new.items lane.now) }
     ensures stop { OnOk result (StopsAt out.new.items lane.now (stop_at page.now lane.now.thread.0)) }
 {
     push_name(alloc, out, page, lane)?;
@@ -202,11 +204,11 @@ fn push_name(
     ensures whole { OnOk result (AddsElements out.old.items out.new.items) }
     ensures keeps { OnOk result (Keeps out.old.items out.new.items) }
     ensures name { OnOk result (NameIsOn page.now out.new.items lane.now) }
+    ensures prio { OnOk result (PrioIsOn out.new.items lane.now) }
 {
-    let t = lane.thread;
-    let name = page.plan.thread_name(t);
+    let name = page.plan.thread_name(lane.thread);
     push_words(out, Class::of("name"), Px(24), lane.line().plus(4), name)?;
-    push_priority(alloc, out, page, t, lane.line().plus(20))
+    push_priority(alloc, out, lane)
 }
 
 // The line of a lane's thread, to its end.
@@ -275,21 +277,39 @@ pub fn end_of(page: &Page<'_>, t: ThreadNo) -> Option<Px>
     }
 }
 
-fn push_priority(
-    alloc: Global,
-    out: &mut Vec<u8>,
-    page: &Page<'_>,
-    t: ThreadNo,
-    y: Px,
-) -> Result<(), AllocError>
+// Its priority, as the lane's first step says it.
+fn push_priority(alloc: Global, out: &mut Vec<u8>, lane: &LaneBand) -> Result<(), AllocError>
     requires { IsBetweenTags out.old.items }
     ensures whole { OnOk result (AddsElements out.old.items out.new.items) }
     ensures keeps { OnOk result (Keeps out.old.items out.new.items) }
+    ensures prio { OnOk result (PrioIsOn out.new.items lane.now) }
 {
-    let Some(thread) = page.plan.threads.as_slice().get(usize::from(t.0)) else {
+    let Some(step) = lane.steps.first() else {
         return Ok(());
     };
+    let words = prio_words(alloc, shown_prio(lane.strip, *step), step.base)?;
+    push_words(out, Class::of("gray"), Px(24), lane.line().plus(20), &words)
+}
+
+// The one by which it runs, or its own one where a strip shows the other.
+fn shown_prio(strip: Option<Px>, step: PrioSpan) -> Prio
+    ensures { prio_words result.0 step.base.0 ≡ shown_words strip step }
+{
+    match strip {
+        Some(_) => step.base,
+        None => step.effective,
+    }
+}
+
+fn prio_words(alloc: Global, prio: Prio, base: Prio) -> Result<Vec<u8>, AllocError>
+    ensures { IfOk result (λ words. words.items ≡ prio_words prio.0 base.0) }
+{
     let mut words = Vec::from_slice(alloc, b"priority")?;
-    push_number(&mut words, u64::from(thread.base.0))?;
-    push_words(out, Class::of("gray"), Px(24), y, &words)
+    push_number(&mut words, u64::from(prio.0))?;
+    if prio != base {
+        words.extend_from_slice(b" (base")?;
+        push_number(&mut words, u64::from(base.0))?;
+        words.push(b')')?;
+    }
+    Ok(words)
 }

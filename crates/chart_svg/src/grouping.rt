@@ -1,6 +1,6 @@
 //! What is of threads, in a list for each thread.
 
-ghost use Rattle.std.specs.Prelude.{◌≡◌, ◌<◌, ℕ, vec_len, All, IfOk, OnOk};
+ghost use Rattle.std.specs.Prelude.{◌≡◌, ◌<◌, ◌⊎◌, ℕ, vec_len, All, Contains, IfOk, OnOk};
 ghost use Rattle.chart_svg.specs.Lanes.{IsAt};
 
 use chart_layout::{Bar, PrioSpan};
@@ -40,6 +40,8 @@ pub fn by_thread<T: OfThread>(
     ensures len { IfOk result (λ lists. vec_len lists ≡ threads) }
     ensures has { IfOk result (λ lists. All (λ thing. T.number thing < threads
         → IsAt lists.items (T.number thing) thing) things.now) }
+    ensures own { IfOk result (λ lists. (at : ℕ) (thing : T) → IsAt lists.items at thing
+        → Contains things.now thing × (T.number thing ≡ at)) }
 {
     let mut lists = empty_lists(alloc, threads)?;
     for thing in things {
@@ -49,7 +51,8 @@ pub fn by_thread<T: OfThread>(
 }
 
 fn empty_lists<T: Copy>(alloc: Global, n: usize) -> Result<Vec<Vec<T>>, AllocError>
-    ensures { IfOk result (λ lists. vec_len lists ≡ n) }
+    ensures len { IfOk result (λ lists. vec_len lists ≡ n) }
+    ensures none { IfOk result (λ lists. (at : ℕ) (thing : T) → IsAt lists.items at thing → ⊥) }
 {
     let mut lists = Vec::new(alloc);
     for _ in 0..n {
@@ -64,6 +67,8 @@ pub fn put_at<T: Copy>(lists: &mut Vec<Vec<T>>, place: usize, thing: T) -> Resul
     ensures keeps { OnOk result ((at : ℕ) (other : T)
         → IsAt lists.old.items at other → IsAt lists.new.items at other) }
     ensures puts { OnOk result (place < vec_len lists.old → IsAt lists.new.items place thing) }
+    ensures only { OnOk result ((at : ℕ) (other : T) → IsAt lists.new.items at other
+        → IsAt lists.old.items at other ⊎ ((at ≡ place) × (other ≡ thing))) }
 {
     match lists.get_mut(place) {
         Some(list) => {

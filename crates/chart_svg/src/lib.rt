@@ -1,5 +1,5 @@
 //! A chart as one picture: an SVG file that needs nothing beside it. Each thread has a lane, with bars, a strip of
-//! priorities where it was lent to, and a dot with a word for each of its turns; arrows go from lane to lane, and below
+//! priorities where these change, and a dot with a word for each of its turns; arrows go from lane to lane, and below
 //! stand the sentences and the printed end. Each thing carries its word where it is, so there is no legend.
 //!
 //! - `pixels`: places on the page, and what text takes of it.

@@ -1,8 +1,8 @@
 //! Where all columns and lanes are. A column is a turn, and its mark stands in the middle of it; a row of the run goes
 //! from the middle of one column to the middle of the next.
-ghost use Rattle.std.specs.Prelude.{◌≡◌, false, ℕ, ◌+◌, ◌-◌, ◌*◌, ◌≤◌, length, All, IfOk, OnOk, slice_get, MatchOption, Some};
-ghost use Rattle.chart_svg.specs.Drawn.{pixels, right_edge, row_begin, row_end, turn_at};
-ghost use Rattle.chart_svg.specs.Lanes.{bar_bottom, bar_top, pitch_of, rank_in, scale_of, Fits, HasBars, HasLaneMore, HasLanes, HasPrios, HasRoom, HasStep, HasSteps, IsLaid};
+ghost use Rattle.std.specs.Prelude.{◌≡◌, ◌↔◌, false, ℕ, ◌+◌, ◌-◌, ◌*◌, ◌≤◌, length, All, IfOk, OnOk, slice_get, MatchOption, Some};
+ghost use Rattle.chart_svg.specs.Drawn.{pixels, right_edge, row_begin, row_end, turn_at, SaysAs};
+ghost use Rattle.chart_svg.specs.Lanes.{bar_bottom, bar_top, pitch_of, rank_in, scale_of, AreSame, Fits, HasBars, HasLaneMore, HasLanes, HasOwn, HasPrios, HasRoom, HasStep, HasSteps, IsLaid};
 
 use crate::grouping::by_thread;
 use crate::marks::{height_of, reason_lines};
@@ -47,7 +47,7 @@ pub struct LaneBand {
     pub bottom: Px,
     /// From one level of bars to the next.
     pitch: u32,
-    /// The top of its strip of priorities, where it was lent to.
+    /// The top of its strip of priorities, where these change.
     pub strip: Option<Px>,
     pub bars: Packed,
     /// Those of its strip.
@@ -87,7 +87,7 @@ impl LaneBand {
         self.bar_top(level).plus(18)
     }
 
-    // Its strip below its bars, where it was lent to, and the end of the lane.
+    // Its strip below its bars, where its priorities change, and the end of the lane.
     fn put_strip(&mut self, page: &Page<'_>)
         requires begins { self.old.top.0 ≤ self.old.begin.0 }
         requires begin_fits { self.old.begin.0 ≤ 4294967295 }
@@ -97,7 +97,7 @@ impl LaneBand {
         ensures steps { All (HasStep self.new) self.new.steps.items }
     {
         let end = self.bars_end();
-        if self.is_lent_to() {
+        if self.changes() {
             self.strip = Some(end.plus(5));
             self.bottom = end.plus(page.strip_height()).plus(27);
         } else {
@@ -116,10 +116,13 @@ impl LaneBand {
             .plus(room)
     }
 
-    fn is_lent_to(&self) -> bool
-        ensures { result ≡ false → All (λ step. step.effective ≡ step.base) self.now.steps.items }
+    fn changes(&self) -> bool
+        ensures { result ≡ false ↔ AreSame self.now.steps.items }
     {
-        self.steps.iter().any(|step| step.effective != step.base)
+        match self.steps.first() {
+            Some(first) => differ(&self.steps, *first),
+            None => false,
+        }
     }
 }
 
@@ -138,6 +141,7 @@ impl<'c> Page<'c> {
         ensures lanes { IfOk result (λ page. HasLanes page chart.now) }
         ensures bars { IfOk result (λ page. HasBars page chart.now) }
         ensures steps { IfOk result (λ page. HasSteps page chart.now) }
+        ensures own { IfOk result (λ page. HasOwn page chart.now) }
         ensures prios { IfOk result (λ page. HasPrios page.prios.items chart.now.steps) }
     {
         let columns = chart.last.saturating_sub(chart.first).max(1);
@@ -151,7 +155,7 @@ impl<'c> Page<'c> {
         let mut page = Page {
             plan,
             chart,
-            left: left_of(plan),
+            left: left_of(plan, chart),
             column,
             has_words,
             top,
@@ -174,6 +178,7 @@ impl<'c> Page<'c> {
         ensures lanes { OnOk result (HasLanes self.new self.old.chart.now) }
         ensures bars { OnOk result (HasBars self.new self.old.chart.now) }
         ensures steps { OnOk result (HasSteps self.new self.old.chart.now) }
+        ensures own { OnOk result (HasOwn self.new self.old.chart.now) }
     {
         let lanes = self.chart.lanes.as_slice();
         let bars = by_thread(alloc, lanes.len(), self.chart.bars.as_slice())?;
@@ -358,13 +363,19 @@ fn lane_at(
     })
 }
 
-// Beside the longest name.
-fn left_of(plan: &Plan) -> Px {
-    let mut widest = 80;
+// Beside the longest name, and the number of a loan with which the window begins, which may be there
+// all through.
+fn left_of(plan: &Plan, chart: &Chart) -> Px {
+    let mut widest = if begins_lent(chart) { 120 } else { 80 };
     for thread in plan.threads.as_slice() {
         widest = width_of(thread.name.as_bytes().len(), 95).max(widest);
     }
     Px(24).plus(widest).plus(46)
+}
+
+fn begins_lent(chart: &Chart) -> bool {
+    chart.steps.as_slice().iter().any(|step| step.first <= chart.first
+        && step.effective != step.base)
 }
 
 // Wide enough for the words of the marks and of the loans, where they stand there.
@@ -423,6 +434,13 @@ fn is_near(reasons: &[TurnMark], mark: TurnMark) -> bool {
     reasons.iter().any(|other| {
         other.thread == mark.thread && mark.turn.saturating_sub(other.turn) < 2
     })
+}
+
+// Whether a step says other priorities than the first.
+fn differ(steps: &[PrioSpan], first: PrioSpan) -> bool
+    ensures { result ≡ false ↔ All (SaysAs first) steps.now }
+{
+    steps.iter().any(|step| step.effective != first.effective || step.base != first.base)
 }
 
 /// The priorities that occur in steps, each once, the most important first.

@@ -1,4 +1,4 @@
-//! The strips of priorities, in the lanes that were lent to: a line where the thread runs, and the loan as a filled
+//! The strips of priorities, in the lanes whose priorities change: a line where the thread runs, and a loan as a filled
 //! step. More important is up.
 ghost use Rattle.std.specs.Prelude.{◌≡◌, ◌++◌, codes, decimal, All, IfOk, OnOk};
 ghost use Rattle.chart_escape.specs.Reader.{AddsElements, IsBetweenTags};

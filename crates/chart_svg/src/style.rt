@@ -43,10 +43,10 @@ const LIGHT: [&str; 43] = [
     ".runs,.lends{fill:none;stroke:#dd7a00;stroke-width:2}",
     ".base{fill:none;stroke:#b8a48a;stroke-dasharray:3 3}",
     ".wakes{fill:none;stroke:#2f855a;stroke-width:2}",
-    ".block{fill:none;stroke:#475569;stroke-width:1.5;stroke-dasharray:4 3}",
-    ".lendhead{fill:#dd7a00}.wakehead{fill:#2f855a}.blockhead{fill:#475569}",
+    ".block,.refused{fill:none;stroke:#475569;stroke-width:1.5;stroke-dasharray:4 3}.refused{stroke:#c53030}",
+    ".lendhead{fill:#dd7a00}.wakehead{fill:#2f855a}.blockhead{fill:#475569}.refusedhead{fill:#c53030}",
     ".pale{fill:none;stroke:#f3c78f}.palehead{fill:#f3c78f}",
-    ".lendhead,.wakehead,.blockhead,.palehead{paint-order:stroke;stroke:#fff;stroke-width:2px}",
+    ".lendhead,.wakehead,.blockhead,.palehead,.refusedhead{paint-order:stroke;stroke:#fff;stroke-width:2px}",
     ".chan{fill:url(#hq);stroke:#64748b;stroke-width:1.3}",
     ".taken{fill:none;stroke:#64748b;stroke-width:1.3;stroke-dasharray:8 4}",
     ".onchan{font-size:11.5px;font-weight:600;fill:#334155;paint-order:stroke;stroke:#fff;stroke-width:3px}",
@@ -58,12 +58,12 @@ const DARK: [&str; 9] = [
     "@media screen and (prefers-color-scheme:dark){",
     "text{fill:#e2e8f0}.sub,.right,.gray,.hint,.turn,.head,.nr{fill:#94a3b8}.verb{fill:#cbd5e1}.mono{fill:#a8b3c4}",
     ".good,.wake,.wok{fill:#68d391}.fair{fill:#f6ad55}.bad,.no,.never,.stop{fill:#fc8181}",
-    ".lend,.wake,.walk,.no,.onchan,.halo,.lendhead,.wakehead,.blockhead,.palehead{stroke:#0f141c}.lend,.walk{fill:#f6ad55}.onchan{fill:#cbd5e1}",
+    ".lend,.wake,.walk,.no,.onchan,.halo,.lendhead,.wakehead,.blockhead,.palehead,.refusedhead{stroke:#0f141c}.lend,.walk{fill:#f6ad55}.onchan{fill:#cbd5e1}",
     ".as{fill:#fbd38d;stroke:#5c3a10}.on{fill:#0f141c}.chan,.taken{stroke:#94a3b8}",
     ".paper{fill:#0f141c}.zebra{fill:#151c27}.dot{fill:#e2e8f0}.cross{stroke:#fc8181}",
     ".line,.axis{stroke:#334155}.stops{stroke:#94a3b8}.woken{fill:#12261c;stroke:#68d391}",
     ".wakes{stroke:#68d391}.wakehead{fill:#68d391}",
-    ".loan{fill:#5c3a10}.block{stroke:#94a3b8}.blockhead{fill:#94a3b8}.pale{stroke:#7a5220}.palehead{fill:#7a5220}",
+    ".loan{fill:#5c3a10}.block{stroke:#94a3b8}.blockhead{fill:#94a3b8}.refused{stroke:#fc8181}.refusedhead{fill:#fc8181}.pale{stroke:#7a5220}.palehead{fill:#7a5220}",
 ];
 
 // The hues of the locks, by day and by night: none is the green of waking, the orange of lending or the red of

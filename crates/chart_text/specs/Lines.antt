@@ -16,7 +16,7 @@ use Rattle.lock_model.specs.declared.turn.Turn.{Turn}
 use Rattle.lock_model.specs.declared.turn.Turn.TheVariants.{Did, Idle, Ended}
 use Rattle.chart_layout.specs.declared.layout.Arrow.{Arrow}
 use Rattle.chart_layout.specs.declared.layout.ArrowKind.{ArrowKind}
-use Rattle.chart_layout.specs.declared.layout.ArrowKind.TheVariants.{Lends, Wakes, BlockedOn, Behind}
+use Rattle.chart_layout.specs.declared.layout.ArrowKind.TheVariants.{Lends, Wakes, BlockedOn, Behind, Refused}
 use Rattle.chart_layout.specs.declared.layout.Chart.{Chart}
 use Rattle.chart_layout.specs.declared.layout.MarkKind.TheVariants as mark
 use Rattle.chart_layout.specs.declared.sentence.End.{End}
@@ -88,12 +88,14 @@ idle_words plan prio to =
 abbrev pub idle_loan : Plan → Prio → Prio → ThreadNo → List ℕ
 idle_loan plan before prio to = if before.0 == prio.0 then idle_words plan prio to else []
 
--- by an arrow: such a loan, and whom a turn woke; on whom a thread blocked the sentence of its turn tells
+-- by an arrow: such a loan, and whom a turn woke; on whom a thread blocked, and what it was refused, the sentence of
+-- its turn tells
 abbrev pub told_words : Plan → ArrowKind → ThreadNo → List ℕ
 told_words plan (Lends before prio) to = idle_loan plan before prio to
 told_words plan Wakes to = codes ": wakes " ++ thread_name plan to.0
 told_words plan BlockedOn to = []
 told_words plan Behind to = []
+told_words plan Refused to = []
 
 abbrev pub told_by : Plan → ℕ → Arrow → List ℕ
 told_by plan n arrow = if arrow.turn == n then told_words plan arrow.kind arrow.to else []

@@ -98,7 +98,7 @@ fn push_told(
     match kind {
         ArrowKind::Lends { before, prio } => push_idle_loan(out, plan, before, prio, to),
         ArrowKind::Wakes => push_named(out, b": wakes ", plan.thread_name(to)),
-        ArrowKind::BlockedOn | ArrowKind::Behind => Ok(()),
+        ArrowKind::BlockedOn | ArrowKind::Behind | ArrowKind::Refused => Ok(()),
     }
 }
 

@@ -225,6 +225,7 @@ end_of l (arrow.Lends before prio) = option_map holds_track l
 end_of l arrow.Wakes = Some waits_track
 end_of l arrow.BlockedOn = None
 end_of l arrow.Behind = None
+end_of l arrow.Refused = None
 
 -- an arrow that ends on a track is a flow
 abbrev pub flow_to : ℕ → Arrow → Option ℕ → List Event

@@ -84,7 +84,7 @@ fn end_of(lock: Option<LockNo>, kind: ArrowKind) -> Option<u64>
             Some(l) => Some(holds_of(l)),
             None => None,
         },
-        ArrowKind::BlockedOn | ArrowKind::Behind => None,
+        ArrowKind::BlockedOn | ArrowKind::Behind | ArrowKind::Refused => None,
     }
 }
 

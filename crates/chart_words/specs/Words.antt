@@ -79,6 +79,7 @@ arrow_kind_words (arrow.Lends before prio) =
 arrow_kind_words arrow.Wakes = codes "wakes"
 arrow_kind_words arrow.BlockedOn = codes "blocks on"
 arrow_kind_words arrow.Behind = codes "waits behind"
+arrow_kind_words arrow.Refused = codes "may not wait for"
 
 -- those of an arrow, by its kind
 unfoldable pub arrow_words : Arrow → List ℕ

@@ -36,8 +36,8 @@ fn hold_word(kind: Kind, mode: Mode) -> &'static [u8]
     }
 }
 
-/// Pushes what an arrow says: `lends 10`, or `lends` where the owner ran so already, `wakes`, `blocks on`, `waits
-/// behind`.
+/// Pushes what an arrow says: `lends 10`, or `lends` where the owner ran so already, `wakes`, `blocks on`,
+/// `waits behind`, `may not wait for`.
 #[tactic(auto, unfolding(crate::specs::Words::arrow_words))]
 pub fn push_arrow(out: &mut Vec<u8>, arrow: Arrow) -> Result<(), AllocError>
     ensures { OnOk result (out.new.items ≡ out.old.items ++ arrow_words arrow) }
@@ -53,6 +53,7 @@ pub fn push_arrow(out: &mut Vec<u8>, arrow: Arrow) -> Result<(), AllocError>
         ArrowKind::Wakes => out.extend_from_slice(b"wakes"),
         ArrowKind::BlockedOn => out.extend_from_slice(b"blocks on"),
         ArrowKind::Behind => out.extend_from_slice(b"waits behind"),
+        ArrowKind::Refused => out.extend_from_slice(b"may not wait for"),
     }
 }
 

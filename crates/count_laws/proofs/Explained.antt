@@ -1,33 +1,24 @@
 -- Each kind of step keeps the facts by which halts are explained.
-use Rattle.std.proofs.Common.{◌≡◌, ◌≢◌, ◌⊎◌, ℕ, Bool, true, false, cond, eqb, ◌∷◌, Option, Some, None, refl, sym, ap, inl, inr, arith, subst, ◌∙◌}
+use Rattle.std.proofs.Common.{◌≡◌, ◌⊎◌, ℕ, Bool, true, false, cond, eqb, ◌∷◌, Option, Some, None, refl, sym, ap, inl, inr, arith, subst, ◌∙◌}
 use Rattle.std.proofs.lemmas.Bool.{cases_eq}
 use Rattle.lock_model.specs.Config.{Config}
 use Rattle.lock_model.specs.Holds.{Hold, NotHeld, Holds}
 use Rattle.lock_model.specs.History.{open_in}
-use Rattle.lock_model.specs.Queues.{Cause, BySignal, ByAbort, Mark, lock_queue, chan_queue}
+use Rattle.lock_model.specs.Queues.{Cause, Mark, lock_queue, chan_queue}
 use Rattle.lock_model.specs.declared.plan.Mode.{Mode}
 use Rattle.lock_model.specs.declared.plan.QueueName.{QueueName}
-use Rattle.lock_model.specs.declared.plan.QueueName.TheVariants.{Lock, Chan}
 use Rattle.lock_model.specs.declared.event.Event.{Event}
 use Rattle.lock_model.specs.declared.event.Event.TheVariants.{Locked, HaltedLock, Woke, HaltedChan}
-use Rattle.lock_state.specs.State.{State, Wait, Running, Woken, OrderRefused, SleepHalted, Phase, Awake, Asleep, Last, Halting, Aborting, SelfAborted, put, put_at}
-use Rattle.lock_state.specs.Steps.{EndsItsTake}
-use Rattle.lock_state.specs.Steps.LockWords.{AllOpen, OthersOpen, MayStamp, is_woken, is_taking_back, taking_from, taking_after, entry_of, after_stamp}
-use Rattle.lock_state.specs.Steps.Turnstiles.{MayResume, HasReleased, phase_marked, wanted_after, taking_by, noted_after}
+use Rattle.lock_state.specs.State.{State, Wait, Running, Woken, Phase, Awake, Asleep, Last, Halting, Aborting, SelfAborted, put, put_at}
+use Rattle.lock_state.specs.Steps.LockWords.{AllOpen, OthersOpen, is_woken, taking_after, entry_of, after_stamp}
+use Rattle.lock_state.specs.Steps.Turnstiles.{MayResume, HasReleased, phase_marked, taking_by}
 use Rattle.lock_state.specs.Steps.SleepQueues.{phase_aborting}
 use Rattle.lock_state.specs.Steps.Counting.{phase_out}
-use Rattle.lock_state.specs.Facts.{Ordered, WantsAreOrdered, Explained, StandersAreOpen, RestingHasReleased, WantedIsTaken, SleepersTakeNothing, HaltedWantNothing}
+use Rattle.lock_state.specs.Facts.{Explained, StandersAreOpen, RestingHasReleased, SleepersTakeNothing}
 use Rattle.lock_state.specs.Facts.Counts.{is_at_rest}
 use Rattle.lock_state.specs.Facts.Halts.{IsLockOf}
-use Rattle.lock_model.specs.Orders.{HasNoCycle, edge}
 use Rattle.lock_laws.proofs.Kit.{columns, put_same, put_other, put_at_same, put_at_other, put_at_beside}
 use Rattle.lock_laws.proofs.OwnEntries.{other_sections}
-
--- a thread doesn't want what it holds
-pub unheld : (c : Config) (s : State) → Ordered c s → (t k : ℕ) (mode : Mode) → s.wanted t ≡ Some k
-    → s.held t k ≡ Holds mode → ⊥
-unfolding WantsAreOrdered HasNoCycle
-unheld c s o t k mode a b = o.no_cycle (c.class k) (edge (o.wants_are_ordered t k a k mode b))
 
 module _ (c : Config) (s : State) (x : Explained c s) (t : ℕ) where
   -- who stands on a queue is another thread, where this one stands on none
@@ -70,14 +61,6 @@ module _ (c : Config) (s : State) (x : Explained c s) (t : ℕ) where
       go (Holds m) i = absurd
           (let z : NotHeld ≡ Holds m = sym (x.resting_has_released u d p e) ∙ was_held l u (c.chan_lock d) m i in cc)
 
-  pub gain_taken : WantedIsTaken (put s.wanted t None) s.taking
-  unfolding WantedIsTaken
-  gain_taken u k = grind (arith, columns, x.wanted_is_taken u k)
-
-  pub gain_halted : HaltedWantNothing s.noted (put s.wanted t None) s.blocked_on s.wait
-  unfolding HaltedWantNothing
-  gain_halted u k e = let z = x.halted_want_nothing u k e in (grind (arith, columns, z.0), z.1, z.2)
-
   -- 2. An entry: the thread stands on no queue
 
   pub stamp_open : (e : Event) → s.blocked_on t ≡ None
@@ -87,37 +70,6 @@ module _ (c : Config) (s : State) (x : Explained c s) (t : ℕ) where
       let ne = apart n u q f in
       let same = ap (λ y. y.now) (other_sections c s t e u k ne) in
       λ away. same ∙ x.standers_are_open u q f k m g away
-
-  -- one that ends a take is of a lock that isn't wanted
-  ended_unwanted : (o : Ordered c s) (e : Event) → MayStamp c s t e → EndsItsTake c s t e → (k : ℕ)
-      → s.wanted t ≡ Some k
-      → taking_after e (s.taking t) ≡ Some k
-  unfolding WantedIsTaken HaltedWantNothing
-  ended_unwanted o (Locked l mode) g i k w =
-      let a = i k (x.wanted_is_taken t k w) in
-      absurd (unheld c s o t k mode w (ap (s.held t) (sym a.0) ∙ g.asks.0.held))
-  ended_unwanted o (HaltedLock l) g i k w =
-      absurd (let z : None ≡ Some k = sym ((x.halted_want_nothing t l.0 g.asks.0).0) ∙ w in cc)
-  ended_unwanted o (Woke d) g i k w = absurd (back (s.held t (c.chan_lock d.0)) refl g.asks.0.holds)
-    where
-      back : (h : Hold) → s.held t (c.chan_lock d.0) ≡ h → s.held t (c.chan_lock d.0) ≢ NotHeld → ⊥
-      back NotHeld j n = n j
-      back (Holds m) j n = let a = i k (x.wanted_is_taken t k w) in unheld c s o t k m w (ap (s.held t) (sym a.0) ∙ j)
-  ended_unwanted o (HaltedChan d) g i k w = absurd (back (s.held t (c.chan_lock d.0)) refl g.asks.0.holds)
-    where
-      back : (h : Hold) → s.held t (c.chan_lock d.0) ≡ h → s.held t (c.chan_lock d.0) ≢ NotHeld → ⊥
-      back NotHeld j n = n j
-      back (Holds m) j n = let a = i k (x.wanted_is_taken t k w) in unheld c s o t k m w (ap (s.held t) (sym a.0) ∙ j)
-  ended_unwanted o other g i k w = x.wanted_is_taken t k w
-
-  pub stamp_taken : (o : Ordered c s) (e : Event) → MayStamp c s t e → EndsItsTake c s t e
-      → WantedIsTaken s.wanted (put s.taking t (taking_after e (s.taking t)))
-  unfolding WantedIsTaken
-  stamp_taken o e g i u k w = elim (cases_eq t u) [
-    | inl j ↦ ap (put s.taking t (taking_after e (s.taking t))) (sym j)
-        ∙ put_same s.taking t (taking_after e (s.taking t)) ∙ ended_unwanted o e g i k (ap s.wanted j ∙ w)
-    | inr j ↦ put_other s.taking t (taking_after e (s.taking t)) u j ∙ x.wanted_is_taken u k w
-  ]
 
   ended_or_none : (e : Event) (o : Option ℕ) → o ≡ None → taking_after e o ≡ None
   ended_or_none (Locked l mode) o i = refl
@@ -130,10 +82,6 @@ module _ (c : Config) (s : State) (x : Explained c s) (t : ℕ) where
       → SleepersTakeNothing s.blocked_on s.wait (put s.taking t (taking_after e (s.taking t)))
   unfolding SleepersTakeNothing
   stamp_sleepers e u d y = grind (arith, columns, x.sleepers_take_nothing u d y, ended_or_none e (s.taking t))
-
-  pub stamp_halted : HaltedWantNothing (put s.noted t None) s.wanted s.blocked_on s.wait
-  unfolding HaltedWantNothing
-  stamp_halted u k e = x.halted_want_nothing u k (grind (arith, columns, e))
 
   -- 3. Standing on a queue
 
@@ -165,22 +113,10 @@ module _ (c : Config) (s : State) (x : Explained c s) (t : ℕ) where
     | inr i ↦ x.resting_has_released u d p (sym (put_other s.blocked_on t (Some q) u i) ∙ e)
   ]
 
-  pub enter_taken : (l : ℕ) → s.wanted t ≡ Some l → WantedIsTaken (put s.wanted t (Some l)) s.taking
-  unfolding WantedIsTaken
-  enter_taken l w u k = grind (arith, columns, x.wanted_is_taken u k, w)
-
   pub enter_sleepers : (l : ℕ) → SleepersTakeNothing (put s.blocked_on t (Some (lock_queue l))) s.wait s.taking
   unfolding SleepersTakeNothing
   enter_sleepers l u d (inl e) = x.sleepers_take_nothing u d (inl (grind (arith, columns, e)))
   enter_sleepers l u d (inr y) = x.sleepers_take_nothing u d (inr y)
-
-  pub enter_halted : (l : ℕ) → s.wanted t ≡ Some l
-      → HaltedWantNothing s.noted (put s.wanted t (Some l)) (put s.blocked_on t (Some (lock_queue l))) s.wait
-  unfolding HaltedWantNothing
-  enter_halted l w u k e =
-      let z = x.halted_want_nothing u k e in
-      let ne : t ≡ u → ⊥ = λ i. (let y : Some l ≡ None = sym w ∙ ap s.wanted i ∙ z.0 in cc) in
-      (put_other s.wanted t (Some l) u ne ∙ z.0, put_other s.blocked_on t (Some (lock_queue l)) u ne ∙ z.1, z.2)
 
   pub add_sleepers : (d : ℕ) → s.taking t ≡ None
       → SleepersTakeNothing (put s.blocked_on t (Some (chan_queue d))) s.wait s.taking
@@ -191,32 +127,7 @@ module _ (c : Config) (s : State) (x : Explained c s) (t : ℕ) where
   ]
   add_sleepers d n u k (inr y) = x.sleepers_take_nothing u k (inr y)
 
-  pub add_halted : (d : ℕ) → s.noted t ≡ None
-      → HaltedWantNothing s.noted s.wanted (put s.blocked_on t (Some (chan_queue d))) s.wait
-  unfolding HaltedWantNothing
-  add_halted d n u k e =
-      let z = x.halted_want_nothing u k e in
-      let ne : t ≡ u → ⊥ = λ i. (let y : None ≡ Some (SleepHalted (lock_queue k)) = sym n ∙ ap s.noted i ∙ e in cc) in
-      (z.0, put_other s.blocked_on t (Some (chan_queue d)) u ne ∙ z.1, z.2)
-
-  -- 4. The begin of a round, an admission and a refusal, and the own wait word
-
-  from_same : (by_try : Bool) (w : Option ℕ) (l : ℕ) (o : Option ℕ) (k : ℕ) → w ≡ Some k → taking_from by_try w l o ≡ o
-  from_same true w l o k e = refl
-  from_same false None l o k e = absurd cc
-  from_same false (Some j) l o k e = refl
-
-  pub seek_taken : (by_try : Bool) (l : ℕ)
-      → WantedIsTaken s.wanted (put s.taking t (taking_from by_try (s.wanted t) l (s.taking t)))
-  unfolding WantedIsTaken
-  seek_taken by_try l u k w = elim (cases_eq t u) [
-    | inl i ↦
-        let new = taking_from by_try (s.wanted t) l (s.taking t) in
-        ap (put s.taking t new) (sym i) ∙ put_same s.taking t new
-        ∙ from_same by_try (s.wanted t) l (s.taking t) k (ap s.wanted i ∙ w) ∙ ap s.taking i
-        ∙ x.wanted_is_taken u k w
-    | inr i ↦ put_other s.taking t _ u i ∙ x.wanted_is_taken u k w
-  ]
+  -- 4. The begin of a round, an admission, and the own wait word
 
   -- the taking of a thread that neither stands on a queue nor is woken
   pub acting_sleepers : (o : Option ℕ) → s.blocked_on t ≡ None → is_woken (s.wait t) ≡ false
@@ -229,23 +140,6 @@ module _ (c : Config) (s : State) (x : Explained c s) (t : ℕ) where
       ne (inl e) i = apart n u (chan_queue d) e i
       ne (inr e) i = let z : false ≡ true = sym w ∙ ap (λ v. is_woken (s.wait v)) i ∙ ap is_woken e.1 in cc
 
-  pub admit_taken : (l : ℕ) → WantedIsTaken (put s.wanted t (Some l)) (put s.taking t (Some l))
-  unfolding WantedIsTaken
-  admit_taken l u k = grind (arith, columns, x.wanted_is_taken u k)
-
-  pub admit_halted : (l : ℕ) → s.noted t ≡ None
-      → HaltedWantNothing s.noted (put s.wanted t (Some l)) s.blocked_on s.wait
-  unfolding HaltedWantNothing
-  admit_halted l n u k e =
-      let z = x.halted_want_nothing u k e in
-      let ne : t ≡ u → ⊥ = λ i. (let y : None ≡ Some (SleepHalted (lock_queue k)) = sym n ∙ ap s.noted i ∙ e in cc) in
-      (put_other s.wanted t (Some l) u ne ∙ z.0, z.1, z.2)
-
-  pub refuse_halted : (l j : ℕ)
-      → HaltedWantNothing (put s.noted t (Some (OrderRefused l j))) s.wanted s.blocked_on s.wait
-  unfolding HaltedWantNothing
-  refuse_halted l j u k e = x.halted_want_nothing u k (grind (arith, columns, e))
-
   pub wait_sleepers : (w : Wait) → is_woken w ≡ false → SleepersTakeNothing s.blocked_on (put s.wait t w) s.taking
   unfolding SleepersTakeNothing
   wait_sleepers w n u d (inl e) = x.sleepers_take_nothing u d (inl e)
@@ -254,18 +148,6 @@ module _ (c : Config) (s : State) (x : Explained c s) (t : ℕ) where
         ∙ ap is_woken (sym (put_same s.wait t w) ∙ ap (put s.wait t w) i ∙ y.1) in cc)
     | inr i ↦ x.sleepers_take_nothing u d (inr (y.0, sym (put_other s.wait t w u i) ∙ y.1))
   ]
-
-  pub wait_halted : (w : Wait) → is_woken w ≡ false → HaltedWantNothing s.noted s.wanted s.blocked_on (put s.wait t w)
-  unfolding HaltedWantNothing
-  wait_halted w n u k e =
-      let z = x.halted_want_nothing u k e in (
-        z.0,
-        z.1,
-        elim (cases_eq t u) [
-          | inl i ↦ ap (λ v. is_woken (put s.wait t w v)) (sym i) ∙ ap is_woken (put_same s.wait t w) ∙ n
-          | inr i ↦ ap is_woken (put_other s.wait t w u i) ∙ z.2
-        ],
-      )
 
 -- 5. A mark
 
@@ -317,57 +199,13 @@ module _ (c : Config) (s : State) (x : Explained c s) (t : ℕ) (m : Mark) (stoo
       ))
     ]
 
-    pub mark_halted : HaltedWantNothing s.noted s.wanted blocked_on wait
-    unfolding HaltedWantNothing
-    mark_halted u k e =
-        let z = x.halted_want_nothing u k e in
-        let ne : m.thread ≡ u → ⊥ = λ i. (let y : Some m.queue ≡ None = sym stood ∙ ap s.blocked_on i ∙ z.1 in cc) in (
-          z.0,
-          put_other s.blocked_on m.thread None u ne
-              ∙ z.1,
-          ap is_woken (put_other s.wait m.thread (Woken m.queue m.cause) u ne) ∙ z.2,
-        )
-
 -- 6. A resume
 
 module _ (c : Config) (s : State) (x : Explained c s) (t : ℕ) (q : QueueName) (cause : Cause)
     (g : MayResume c s t q cause)
     (unnamed : (r : QueueName) → s.blocked_on t ≡ Some r → ⊥) where
-  abbrev back : Bool
-  back = is_taking_back (s.log t)
-
-  abbrev wanted : ℕ → Option ℕ
-  wanted = put s.wanted t (wanted_after c q cause back (s.wanted t))
-
   abbrev taking : ℕ → Option ℕ
   taking = put s.taking t (taking_by c q (s.taking t))
-
-  nowhere : s.blocked_on t ≡ None
-  nowhere = go (s.blocked_on t) refl
-    where
-      go : (o : Option QueueName) → s.blocked_on t ≡ o → o ≡ None
-      go None i = refl
-      go (Some r) i = absurd (unnamed r i)
-
-  takes : (q : QueueName) (cause : Cause) (k : ℕ) → wanted_after c q cause back (s.wanted t) ≡ Some k
-      → taking_by c q (s.taking t) ≡ Some k
-  unfolding WantedIsTaken
-  takes (Lock l) BySignal k e = x.wanted_is_taken t k e
-  takes (Chan d) BySignal k e = e
-  takes (Chan d) ByAbort k e = e
-  takes (Lock l) ByAbort k e = by_back back e
-    where
-      by_back : (b : Bool) → cond b (s.wanted t) None ≡ Some k → s.taking t ≡ Some k
-      by_back true i = x.wanted_is_taken t k i
-      by_back false i = absurd cc
-
-  pub resume_taken : WantedIsTaken wanted taking
-  unfolding WantedIsTaken
-  resume_taken u k e = elim (cases_eq t u) [
-    | inl i ↦ ap taking (sym i) ∙ put_same s.taking t _
-        ∙ takes q cause k (sym (put_same s.wanted t _) ∙ ap wanted i ∙ e)
-    | inr i ↦ put_other s.taking t _ u i ∙ x.wanted_is_taken u k (sym (put_other s.wanted t _ u i) ∙ e)
-  ]
 
   pub resume_sleepers : SleepersTakeNothing s.blocked_on (put s.wait t Running) taking
   unfolding SleepersTakeNothing
@@ -392,38 +230,6 @@ module _ (c : Config) (s : State) (x : Explained c s) (t : ℕ) (q : QueueName) 
   pub took_nothing : (d : ℕ) → q ≡ chan_queue d → s.taking t ≡ None
   unfolding SleepersTakeNothing
   took_nothing d i = x.sleepers_take_nothing t d (inr (cause, g.woken ∙ ap (λ y. Woken y cause) i))
-
-  wants_none : (q : QueueName) (cause : Cause) (k : ℕ) → s.wait t ≡ Woken q cause
-      → noted_after q cause back (s.noted t) ≡ Some (SleepHalted (lock_queue k))
-      → wanted_after c q cause back (s.wanted t) ≡ None
-  unfolding HaltedWantNothing
-  wants_none (Lock l) BySignal k w e =
-      absurd (let z : true ≡ false = ap is_woken (sym w) ∙ (x.halted_want_nothing t k e).2 in cc)
-  wants_none (Chan d) BySignal k w e =
-      absurd (let z : true ≡ false = ap is_woken (sym w) ∙ (x.halted_want_nothing t k e).2 in cc)
-  wants_none (Chan d) ByAbort k w e = absurd cc
-  wants_none (Lock l) ByAbort k w e = by_back back e
-    where
-      by_back : (b : Bool) → cond b (s.noted t) (Some (SleepHalted (Lock l))) ≡ Some (SleepHalted (lock_queue k))
-          → cond b (s.wanted t) None ≡ None
-      by_back true i = absurd (let z : true ≡ false = ap is_woken (sym w) ∙ (x.halted_want_nothing t k i).2 in cc)
-      by_back false i = refl
-
-  pub resume_halted : HaltedWantNothing (put s.noted t (noted_after q cause back (s.noted t))) wanted s.blocked_on
-      (put s.wait t Running)
-  unfolding HaltedWantNothing
-  resume_halted u k e = elim (cases_eq t u) [
-    | inl i ↦ (
-      ap wanted (sym i) ∙ put_same s.wanted t _
-          ∙ wants_none q cause k g.woken
-          (sym (put_same s.noted t _) ∙ ap (put s.noted t (noted_after q cause back (s.noted t))) i ∙ e),
-      ap s.blocked_on (sym i) ∙ nowhere,
-      ap (λ v. is_woken (put s.wait t Running v)) (sym i) ∙ ap is_woken (put_same s.wait t Running),
-    )
-    | inr i ↦
-        let z = x.halted_want_nothing u k (sym (put_other s.noted t _ u i) ∙ e) in
-        (put_other s.wanted t _ u i ∙ z.0, z.1, ap is_woken (put_other s.wait t Running u i) ∙ z.2)
-  ]
 
 -- 7. Phases
 

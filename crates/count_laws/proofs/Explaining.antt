@@ -10,10 +10,10 @@ use Rattle.lock_model.specs.declared.plan.QueueName.{QueueName}
 use Rattle.lock_model.specs.declared.plan.QueueName.TheVariants.{Lock, Chan}
 use Rattle.lock_model.specs.declared.event.Entry.{Entry}
 use Rattle.lock_state.specs.State.{State, Running, Queued, Awake, Halting, start_state}
-use Rattle.lock_state.specs.Facts.{Lawful, LawfulFloor, StandingIsQueued, NextIsNew, Counted, Ordered, Explained, StandersAreOpen, RestingHasReleased, WantedIsTaken, SleepersTakeNothing, HaltedWantNothing, UnhaltedBefore, HaltedSince, HaltsHaveCauses}
+use Rattle.lock_state.specs.Facts.{Lawful, LawfulFloor, StandingIsQueued, NextIsNew, Counted, Ordered, Explained, StandersAreOpen, RestingHasReleased, WantsFitTakes, SleepersTakeNothing, UnhaltedBefore, HaltedSince, HaltsHaveCauses}
 use Rattle.lock_state.specs.Facts.Counts.{is_at_rest}
 use Rattle.lock_state.specs.Facts.Halts.{NobodyIsHalted}
-use Rattle.lock_state.specs.Steps.{Step, Seeks, Gains, Drops, Stamps, Readies, Unreadies, Enters, Opens, EntersSleepQueue, OpensSleepQueue, Adds, Marks, Resumes, Claims, Admits, Refuses, CountsOut, CountsSelfIn, CountsEnd, Halts, Aborts, FitsFloor, KeepsToOrder, after}
+use Rattle.lock_state.specs.Steps.{Step, Seeks, Gains, Drops, Stamps, Readies, Unreadies, Enters, Opens, EntersSleepQueue, OpensSleepQueue, Adds, Marks, Resumes, Claims, Admits, CountsOut, CountsSelfIn, CountsEnd, Halts, Aborts, FitsFloor, KeepsToOrder, after}
 use Rattle.lock_state.specs.Steps.LockWords.{is_woken, taking_from, after_seek, after_look, after_gain, after_drop, after_stamp, after_ready, after_unready}
 use Rattle.lock_state.specs.Steps.Turnstiles.{taking_by, after_enter, after_open, after_mark, after_resume}
 use Rattle.lock_state.specs.Steps.SleepQueues.{after_enter_sleep, after_open_sleep, after_add, after_wake, after_abort}
@@ -24,6 +24,8 @@ use Rattle.lock_state.specs.Steps.Counting.{after_count_out, after_count_in, aft
 use Rattle.sleep_laws.specs.Sleepers.{SleepersFit}
 use Rattle.lock_laws.proofs.Resume.{unnamed}
 use Rattle.lock_laws.proofs.Standing.{marked_named}
+use Rattle.order_laws.proofs.WantFacts as wants
+use Rattle.order_laws.proofs.WantFacts.Steps as wants_on
 use Rattle.count_laws.proofs.Explained as facts
 use Rattle.count_laws.proofs.Causes as causes
 use Rattle.count_laws.proofs.Moments.{none_since, halts_to_come, cause_honest}
@@ -51,6 +53,11 @@ module _ {at_work : ℕ → Option ℕ} (c : Config) (s : State) (w : LawfulFloo
   resume_waits t (Lock j) f past z = z
   resume_waits t (Chan d) f past z = causes.none_waits c s x t (s.taking t) (Some (c.chan_lock d.0)) (f d.0 refl) past z
 
+  -- wants fit takes behind it, by the laws of orders
+  fitting : (chains : ℕ) (step : Step) → FitsFloor chains c s step → KeepsToOrder c s step
+      → WantsFitTakes (after c s step)
+  fitting chains step f k = wants_on.keeps chains c s step f k l o x.wants
+
   pub keeps : (chains : ℕ) (step : Step) → FitsFloor chains c s step → KeepsToOrder c s step
       → Explained c (after c s step)
   unfolding after_seek after_look after_gain after_drop after_stamp after_ready after_unready after_enter after_open
@@ -58,89 +65,89 @@ module _ {at_work : ℕ → Option ℕ} (c : Config) (s : State) (w : LawfulFloo
       after_end_walk after_admit after_refuse after_take after_give after_count_out after_count_in after_count_self_in
       after_count_end after_halt after_abort
   keeps chains (Seeks t j by_try) f k =
-      let a = facts.seek_taken c s x t by_try j in
       let b = facts.acting_sleepers c s x t (taking_from by_try (s.wanted t) j (s.taking t)) f.may.acting.unnamed
       f.may.acting.unwoken in
       let d = causes.causes_taking c s x t (taking_from by_try (s.wanted t) j (s.taking t))
       (causes.seek_waits c s x t by_try (s.wanted t) j (s.taking t) f.has_seen.takes) in
-      assumption (x, a, b, d)
+      assumption (x, fitting chains (Seeks t j by_try) f k, b, d)
   keeps chains (Gains t j mode by_try) f k =
       let n = f.may.acting.unnamed in
       assumption (
         x,
+        fitting chains (Gains t j mode by_try) f k,
         facts.gain_open c s x t j (Holds mode) n,
         facts.gain_released c s x t j (Holds mode) n,
-        facts.gain_taken c s x t,
-        facts.gain_halted c s x t,
       )
   keeps chains (Claims t j y by_try) f k =
       let n = f.may.acting.unnamed in
       assumption (
         x,
+        fitting chains (Claims t j y by_try) f k,
         facts.gain_open c s x t j (Holds Excl) n,
         facts.gain_released c s x t j (Holds Excl) n,
-        facts.gain_taken c s x t,
-        facts.gain_halted c s x t,
       )
-  keeps chains (Drops t j mode) f k = assumption (x, facts.left_open c s x t j, facts.left_released c s x t j)
-  keeps chains (Opens t j mode) f k = assumption (x, facts.left_open c s x t j, facts.left_released c s x t j)
-  keeps chains (OpensSleepQueue t j mode) f k = assumption (x, facts.left_open c s x t j, facts.left_released c s x t j)
+  keeps chains (Drops t j mode) f k =
+      assumption (x, fitting chains (Drops t j mode) f k, facts.left_open c s x t j, facts.left_released c s x t j)
+  keeps chains (Opens t j mode) f k =
+      assumption (x, fitting chains (Opens t j mode) f k, facts.left_open c s x t j, facts.left_released c s x t j)
+  keeps chains (OpensSleepQueue t j mode) f k = assumption (
+    x,
+    fitting chains (OpensSleepQueue t j mode) f k,
+    facts.left_open c s x t j,
+    facts.left_released c s x t j,
+  )
   keeps chains (Stamps t e) f k =
       let g = f.may in
       let ends = f.has_seen.takes in
       let alive = f.asks_of_thread.runs.unended in
       assumption (
         x,
+        fitting chains (Stamps t e) f k,
         facts.stamp_open c s x t e g.acting.unnamed,
-        facts.stamp_taken c s x t o e g ends,
         facts.stamp_sleepers c s x t e,
-        facts.stamp_halted c s x t,
         causes.unhalted l p x t e g f.has_seen.asleep,
         causes.since l p x t e g,
         causes.causes l p x t e g alive ends,
       )
   keeps chains (Readies t q) f k =
-      assumption (x, facts.wait_sleepers c s x t Queued refl, facts.wait_halted c s x t Queued refl)
+      assumption (x, fitting chains (Readies t q) f k, facts.wait_sleepers c s x t Queued refl)
   keeps chains (Unreadies t q) f k =
-      assumption (x, facts.wait_sleepers c s x t Running refl, facts.wait_halted c s x t Running refl)
+      assumption (x, fitting chains (Unreadies t q) f k, facts.wait_sleepers c s x t Running refl)
   keeps chains (Enters t j mode y) f k =
       let a = f.asks_of_thread.runs.phase in
       assumption (
         x,
+        fitting chains (Enters t j mode y) f k,
         facts.all_open c s x t j f.may.waits.sections,
         facts.stand_released c s x t (lock_queue j) a,
-        facts.enter_taken c s x t j k,
         facts.enter_sleepers c s x t j,
-        facts.enter_halted c s x t j k,
       )
   keeps chains (EntersSleepQueue t j mode y) f k =
       let a = f.asks_of_thread.runs.phase in
       assumption (
         x,
+        fitting chains (EntersSleepQueue t j mode y) f k,
         facts.all_open c s x t j f.may.waits.sections,
         facts.stand_released c s x t (lock_queue j) a,
-        facts.enter_taken c s x t j k,
         facts.enter_sleepers c s x t j,
-        facts.enter_halted c s x t j k,
       )
   keeps chains (Adds t d y) f k =
       let a = f.asks_of_thread.phase in
       assumption (
         x,
+        fitting chains (Adds t d y) f k,
         facts.others_open c s x t d f.may.sections,
         facts.stand_released c s x t (chan_queue d) a,
         facts.add_sleepers c s x t d k.takes,
-        facts.add_halted c s x t d f.has_seen.unnoted,
       )
   keeps chains (Marks t m ms) f k =
       let stood = marked_named c s t m ms l f.may.thread f.may.marked in
       assumption (
         x,
+        fitting chains (Marks t m ms) f k,
         facts.mark_open c s x t m stood,
         facts.mark_released c s x t m stood,
-        facts.mark_sleepers c s x t m
-            stood,
-        facts.mark_halted c s x t m stood,
+        facts.mark_sleepers c s x t m stood,
       )
   keeps chains (Resumes t q cause) f k =
       let g = f.may in
@@ -150,10 +157,9 @@ module _ {at_work : ℕ → Option ℕ} (c : Config) (s : State) (w : LawfulFloo
       (resume_waits t q (λ d i. facts.took_nothing c s x t q cause g n d i)) in
       assumption (
         x,
+        fitting chains (Resumes t q cause) f k,
         rests,
-        facts.resume_taken c s x t q cause g n,
         facts.resume_sleepers c s x t q cause g n,
-        facts.resume_halted c s x t q cause g n,
         d,
       )
   keeps chains (Admits t j) f k =
@@ -161,19 +167,24 @@ module _ {at_work : ℕ → Option ℕ} (c : Config) (s : State) (w : LawfulFloo
       let n = runs_nowhere c s t l free.running in
       let b = facts.acting_sleepers c s x t (Some j) n (ap is_woken free.running) in
       let d = causes.causes_taking c s x t (Some j) (causes.none_waits c s x t (s.taking t) (Some j) free.takes) in
-      assumption (x, facts.admit_taken c s x t j, b, facts.admit_halted c s x t j free.unnoted, d)
-  keeps chains (Refuses t j class) f k = assumption (x, facts.refuse_halted c s x t j class)
-  keeps chains (CountsOut t) f k = assumption (x, facts.out_released c s x t f.may.released)
+      assumption (x, fitting chains (Admits t j) f k, b, d)
+  keeps chains (CountsOut t) f k =
+      assumption (x, fitting chains (CountsOut t) f k, facts.out_released c s x t f.may.released)
   keeps chains (CountsSelfIn t) f k =
       let rests = facts.rests_less c s x t Halting (λ i. ap is_at_rest f.may.last) in
-      assumption (x, rests)
-  keeps chains (CountsEnd t) f k = assumption (x, causes.causes_end c s x t)
-  keeps chains (Halts t) f k =
-      assumption (x, unhalted_no_more, causes.halt_since l h o p x t f.may, causes.halt_causes l h o p x t f.may)
+      assumption (x, fitting chains (CountsSelfIn t) f k, rests)
+  keeps chains (CountsEnd t) f k = assumption (x, fitting chains (CountsEnd t) f k, causes.causes_end c s x t)
+  keeps chains (Halts t) f k = assumption (
+    x,
+    fitting chains (Halts t) f k,
+    unhalted_no_more,
+    causes.halt_since l h o p x t f.may,
+    causes.halt_causes l h o p x t f.may,
+  )
   keeps chains (Aborts t q side u) f k =
       let rests = facts.rests_less c s x t _ (facts.aborting_rests (s.phase t)) in
-      assumption (x, rests)
-  keeps chains other f k = assumption x
+      assumption (x, fitting chains (Aborts t q side u) f k, rests)
+  keeps chains other f k = assumption (x, fitting chains other f k)
 
 -- so part 10 of the law holds of its history
 pub honest : (c : Config) (s : State) → Lawful c s → Explained c s → HaltsAreHonest c s.history
@@ -195,14 +206,13 @@ honest c s l x = go s.halted refl
         }
 
 pub begins : (c : Config) → Explained c (start_state c)
-unfolding start_state StandersAreOpen RestingHasReleased WantedIsTaken SleepersTakeNothing HaltedWantNothing
-    UnhaltedBefore HaltedSince HaltsHaveCauses NobodyIsHalted
+unfolding start_state StandersAreOpen RestingHasReleased SleepersTakeNothing UnhaltedBefore HaltedSince HaltsHaveCauses
+    NobodyIsHalted
 begins c = record {
   standers_are_open = λ t q e. absurd cc;
   resting_has_released = λ t d e. absurd cc;
-  wanted_is_taken = λ t k e. absurd cc;
+  wants = wants.begins c;
   sleepers_take_nothing = λ t d y. refl;
-  halted_want_nothing = λ t k e. absurd cc;
   unhalted_before = λ i. tt;
   halted_since = λ i. absurd cc;
   halts_have_causes = λ i. absurd cc;

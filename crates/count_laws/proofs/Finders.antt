@@ -1,6 +1,6 @@
 -- While there is a finder each thread has ended, or sleeps in the history, or takes a lock of which another has an open
 -- section. So a halt that it sets has its causes.
-use Rattle.std.proofs.Common.{◌≡◌, ◌⊎◌, ℕ, zero, suc, ◌+◌, ◌<◌, ◌≤◌, Bool, true, false, not, ◌&&◌, eqb, List, [], ◌∷◌, Option, Some, None, refl, sym, ap, inl, inr, arith, eq-eqb, ◌∙◌}
+use Rattle.std.proofs.Common.{◌≡◌, ◌≢◌, ◌⊎◌, ℕ, zero, suc, ◌+◌, ◌<◌, ◌≤◌, Bool, true, false, not, ◌&&◌, eqb, List, [], ◌∷◌, Option, Some, None, refl, sym, ap, inl, inr, arith, eq-eqb, subst, ◌∙◌}
 use Rattle.std.proofs.lemmas.Bool.{ne_eqb}
 use Rattle.lock_model.specs.Config.{Config}
 use Rattle.lock_model.specs.Counts.{one, at_option, is_empty}
@@ -9,7 +9,6 @@ use Rattle.lock_model.specs.Holds.{Hold, NotHeld, Holds, is_exclusive, is_unheld
 use Rattle.lock_model.specs.Halts.{ends_asleep, is_sleeping, waits_for_another}
 use Rattle.lock_model.specs.History.{open_in, entries_of}
 use Rattle.lock_model.specs.Law.{is_asleep}
-use Rattle.lock_model.specs.Orders.{HasNoCycle, edge}
 use Rattle.lock_model.specs.Queues.{Waiter, lock_queue, stands, times_waiting}
 use Rattle.lock_model.specs.declared.plan.Mode.{Mode}
 use Rattle.lock_model.specs.declared.plan.Mode.TheVariants.{Excl, Shared}
@@ -22,7 +21,7 @@ use Rattle.lock_model.specs.Events.{of_sleep, is_falling, sleeps_on}
 use Rattle.lock_state.specs.State.{State, Wait, Running, Queued, Woken, is_finder}
 use Rattle.lock_state.specs.Steps.LockWords.{is_woken}
 use Rattle.lock_state.specs.Steps.SleepQueues.{has_slept}
-use Rattle.lock_state.specs.Facts.{Lawful, BitsShowWaiters, StandingWants, StandingIsUncalled, CalledWants, FreeWordHasCalled, WordsMatchHolders, OnlyThreadsHold, Counted, FinderIsAlone, EndedIsBare, Ordered, WantsAreOrdered, Explained, StandersAreOpen, RestingHasReleased, WantedIsTaken}
+use Rattle.lock_state.specs.Facts.{Lawful, BitsShowWaiters, StandingWants, StandingIsUncalled, CalledWants, FreeWordHasCalled, WordsMatchHolders, OnlyThreadsHold, Counted, FinderIsAlone, EndedIsBare, Ordered, Explained, StandersAreOpen, RestingHasReleased, WantedIsTaken}
 use Rattle.lock_state.specs.Facts.Counts.{wakes_under_way}
 use Rattle.lock_state.specs.Facts.Waits.{callers, calls_marked, calls_woken, busy}
 use Rattle.lock_state.specs.Facts.Words.{owns, shares}
@@ -30,6 +29,7 @@ use Rattle.sleep_laws.specs.Sleepers.{SleepersFit}
 use Rattle.sleep_laws.proofs.SleepFacts.Entries.{asleep_slept, asleep_unnamed}
 use Rattle.sleep_laws.proofs.SleepFacts.Found.{sum_below-some, stander_asleep}
 use Rattle.lock_laws.proofs.Kit.{sum_below-zero}
+use Rattle.order_laws.proofs.OrderFacts.Cycle.{unheld}
 use Rattle.lock_laws.proofs.Shown.{true-any_below}
 use Rattle.count_laws.proofs.Alone.{all_stand, no_marks, resting}
 
@@ -140,11 +140,6 @@ module _ (c : Config) (s : State) (l : Lawful c s) (h : Counted c s) (o : Ordere
   unfolding OnlyThreadsHold
   thread_of u k mode i = l.words.only_threads_hold u k mode i
 
-  -- a thread does not want what it holds
-  unheld : (t k : ℕ) (mode : Mode) → s.wanted t ≡ Some k → s.held t k ≡ Holds mode → ⊥
-  unfolding WantsAreOrdered HasNoCycle
-  unheld t k mode a b = o.no_cycle (c.class k) (edge (o.wants_are_ordered t k a k mode b))
-
   -- what each thread is at
   pub all_halted : {at_work : ℕ → Option ℕ} → SleepersFit at_work c s → (t : ℕ) → t < c.threads
       → (s.has_ended t ≡ true) ⊎
@@ -157,11 +152,12 @@ module _ (c : Config) (s : State) (l : Lawful c s) (h : Counted c s) (o : Ordere
       by_queue (Chan d) x y = inl (asleep_sleeps s.history d.0 t (stander_asleep l p t d.0 (omega (arith, y))))
       by_queue (Lock k) x y =
           let wants = l.waits.standing_wants t k.0 x in
-          let takes = w.wanted_is_taken t k.0 wants in
+          let takes = w.wants.wanted_is_taken t k.0 wants in
           let r = some_holder k.0 (shown_of t k.0 y) in
           let v = r.0 in
           let opened = holder_open v k.0 r.1 r.2 in
-          let differs : v ≡ t → ⊥ = λ i. unheld t k.0 r.1 wants (ap (λ u. s.held u k.0) (sym i) ∙ r.2) in
+          let holds : s.held v k.0 ≢ NotHeld = λ n. (let z : NotHeld ≡ Holds r.1 = sym n ∙ r.2 in cc) in
+          let differs : v ≡ t → ⊥ = λ i. unheld c s o t k.0 (subst (λ u. s.held u k.0 ≢ NotHeld) i holds) wants in
           let its : (not (eqb v t) && not (is_unheld (open_in c s.history v k.0))) ≡ true =
           rw (ne_eqb v t differs, opened) refl in
           inr (rw takes (true-any_below c.threads (λ u. not (eqb u t) && not (is_unheld (open_in c s.history u k.0))) v

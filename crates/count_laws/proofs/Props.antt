@@ -7,8 +7,9 @@ use Rattle.lock_model.specs.Queues.{Mark}
 use Rattle.lock_model.specs.declared.event.Entry.{Entry}
 use Rattle.lock_state.specs.State.{State}
 use Rattle.lock_state.specs.Steps.Counting.{IsFirst}
-use Rattle.lock_state.specs.Facts.{Counted, AwakeIsCounted, TermsFitParking, CountedInIsNextMarked, ParkedHasNoWalk, RestingHasNoMarks, ParkedHasNothingOut, RestingStands, SelfAbortedIsWoken, EndedRuns, EndedIsBare, EndedIsCounted, FinderIsAlone, Explained, StandersAreOpen, RestingHasReleased, WantedIsTaken, SleepersTakeNothing, HaltedWantNothing, UnhaltedBefore, HaltedSince, HaltsHaveCauses}
+use Rattle.lock_state.specs.Facts.{Counted, AwakeIsCounted, TermsFitParking, CountedInIsNextMarked, ParkedHasNoWalk, RestingHasNoMarks, ParkedHasNothingOut, RestingStands, SelfAbortedIsWoken, EndedRuns, EndedIsBare, EndedIsCounted, FinderIsAlone, Explained, StandersAreOpen, RestingHasReleased, SleepersTakeNothing, UnhaltedBefore, HaltedSince, HaltsHaveCauses}
 use Rattle.lock_state.specs.Facts.Halts.{NobodyIsHalted}
+use Rattle.order_laws.proofs.WantFacts.{WantsFitTakes-prop}
 
 IsFirst-prop : (u : ℕ) (ms : List Mark) → IsProp (IsFirst u ms)
 IsFirst-prop u [] = hlevel
@@ -30,6 +31,5 @@ unfolding AwakeIsCounted TermsFitParking CountedInIsNextMarked ParkedHasNoWalk R
 Counted-prop c s = hlevel (props, IsFirst-prop)
 
 pub Explained-prop : (c : Config) (s : State) → IsProp (Explained c s)
-unfolding StandersAreOpen RestingHasReleased WantedIsTaken SleepersTakeNothing HaltedWantNothing UnhaltedBefore
-    HaltedSince HaltsHaveCauses
-Explained-prop c s = hlevel (props, since, nobody)
+unfolding StandersAreOpen RestingHasReleased SleepersTakeNothing UnhaltedBefore HaltedSince HaltsHaveCauses
+Explained-prop c s = hlevel (props, since, nobody, WantsFitTakes-prop)

@@ -3,7 +3,7 @@ use Rattle.std.proofs.Common.{ℕ, ◌<◌, refl, arith}
 use Rattle.lock_floor.specs.Floors.{Floor}
 use Rattle.lock_floor.specs.Passes.{first_pass}
 use Rattle.floor_table.specs.declared.description.Description.{Description}
-use Rattle.adaptive_mutex.proofs.First.{ready_first}
+use Rattle.lock_calls.proofs.First.{ready_first}
 use Rattle.example_floor.specs.Counter.{IsCounter, IsReadyFor}
 
 pub new_is_ready : (f : Floor Description) → IsCounter f.description → (t : ℕ) → t < 2

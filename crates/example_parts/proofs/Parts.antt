@@ -1,14 +1,17 @@
 -- What a thread knows behind each part of its calls.
-use Rattle.std.proofs.Common.{◌≡◌, ℕ, ◌<◌, ◌≤◌, [], ◌∷◌, ◌++◌, refl, ap, ◌∙◌, arith}
+use Rattle.std.specs.Prelude.{if◌then◌else◌}
+use Rattle.std.proofs.Common.{◌≡◌, ℕ, Bool, true, false, ◌<◌, ◌≤◌, [], ◌∷◌, ◌++◌, refl, ap, ◌∙◌, arith}
 use Rattle.lock_model.specs.Operations.{without_lock}
 use Rattle.lock_model.specs.declared.numbers.LockNo.{LockNo}
 use Rattle.lock_model.specs.declared.plan.Mode.{Mode}
-use Rattle.lock_model.specs.declared.plan.Mode.TheVariants.{Excl}
+use Rattle.lock_model.specs.Words.{word_of, is_drop}
+use Rattle.lock_model.specs.declared.plan.Mode.TheVariants.{Excl, Shared}
 use Rattle.floor_table.specs.Descriptions.{config_in}
 use Rattle.floor_table.specs.declared.description.Description.{Description}
 use Rattle.floor_table.specs.Views.{Knowledge}
 use Rattle.lock_floor.specs.declared.calls.Call.TheVariants as calls
 use Rattle.lock_floor.specs.declared.calls.ReleaseAt.{ReleaseAt}
+use Rattle.lock_floor.specs.declared.calls.ReleaseAt.TheVariants as places
 use Rattle.lock_floor.specs.declared.calls.ReleaseAt.TheVariants.{ComesTo, ComesIn, Frees, Wakes}
 use Rattle.lock_floor.specs.declared.calls.TakeAt.{TakeAt}
 use Rattle.lock_floor.specs.declared.calls.TakeAt.TheVariants.{Checks}
@@ -16,13 +19,14 @@ use Rattle.lock_floor.specs.Floors.{Floor, Pass}
 use Rattle.lock_floor.specs.Passes.{IsOf, first_pass}
 use Rattle.lock_calls.specs.declared.answers.Next.{Next}
 use Rattle.lock_calls.specs.declared.answers.Next.TheVariants.{Done, Again, Sleep, Wake, Reversed}
-use Rattle.lock_calls.specs.Releases.{ReleaseLeg, takes_chain, comes_in, looks, makes_free, finds_out, HasBegunRelease, StandsInRelease, GoesOnReleasing}
+use Rattle.lock_calls.specs.Choices.{outside}
+use Rattle.lock_calls.specs.Releases.{ReleaseEnd, puts_down, nobody_left, ReleaseLeg, misses, takes_chain, comes_in, looks, makes_free, finds_out, HasBegunRelease, StandsInRelease, GoesOnReleasing}
 use Rattle.lock_calls.specs.Steps.{as_taken}
 use Rattle.lock_calls.specs.Takes.{HasBegunTake, HasTaken, StandsInTake, GoesOnTaking}
 use Rattle.lock_calls.specs.Waiting.{Kept}
 use Rattle.lock_calls.proofs.Refused.{bare_admitted}
 use Rattle.lock_calls.proofs.Taken.{under_take_on}
-use Rattle.adaptive_mutex.proofs.First.{ready_first}
+use Rattle.lock_calls.proofs.First.{ready_first}
 use Rattle.example_parts.specs.declared.Stage.TheVariants.{Takes, Works, Releases, Rests}
 use Rattle.example_parts.specs.Threads.{IsAdmitted, IsForTwo, IsBeginning, IsTaking, IsWorking, IsReleasing, Knows, behind, the_mutex}
 
@@ -37,8 +41,28 @@ record HoldsIt (at : ReleaseAt) (v : Knowledge) : Type 0 where
   alone : without_lock 0 v.share.held ≡ []
   gone : at ≡ Wakes → v.share.held ≡ []
 
+-- an exchange that missed outside the section let nothing go
+not_let_yet : (mode : Mode) (found : ℕ) → outside mode found ≡ Wakes → ⊥
+not_let_yet Excl found e = let z : ComesTo ≡ Wakes = e in cc
+not_let_yet Shared found e = go (is_drop (word_of found)) e
+  where
+    go : (b : Bool) → (if b then places.Drops found else ComesTo) ≡ Wakes → ⊥
+    go true q = let z : places.Drops found ≡ Wakes = q in cc
+    go false q = let z : ComesTo ≡ Wakes = q in cc
+
+-- at its end it holds nothing
+holds_none : (floor : Description) (l : LockNo) (mode : Mode) (at : ReleaseAt) (old new : Knowledge) → l ≡ the_mutex
+    → ReleaseEnd floor l mode at old new → HoldsIt at old → new.share.held ≡ []
+holds_none floor l mode at old new is_m (puts_down seen shared freed step) was =
+    freed ∙ ap (λ (k : LockNo). without_lock k.0 old.share.held) is_m ∙ was.alone
+holds_none floor l mode at old new is_m (nobody_left nobody) was = was.gone refl
+
 holds_on : (floor : Description) (l : LockNo) (mode : Mode) (at to : ReleaseAt) (old new : Knowledge) → l ≡ the_mutex
     → ReleaseLeg floor l mode at to old new → HoldsIt at old → HoldsIt to new
+holds_on floor l mode at to old new is_m (misses seen found other shared same saw step) was = record {
+  alone = ap (without_lock 0) same ∙ was.alone;
+  gone = λ e. absurd (not_let_yet mode found e);
+}
 holds_on floor l mode at to old new is_m (takes_chain same step) was = record {
   alone = ap (without_lock 0) same ∙ was.alone;
   gone = λ e. let z : ComesIn ≡ Wakes = e in cc;
@@ -74,7 +98,7 @@ module _ (f : Floor Description) (p q : Pass Knowledge) (own : IsOf f q) where
 
   pub take_begins : (next : Next) → IsBeginning f p → HasBegunTake f.description the_mutex Excl next p q
       → Knows f (behind next Takes (Works 200)) q
-  take_begins Done was begun = has_taken the_mutex Excl refl refl was.unheld was.room begun.2
+  take_begins Done was begun = has_taken the_mutex Excl refl refl was.unheld was.room begun.taken
   take_begins Again was begun = record {
     own = own;
     under_way = record { l = the_mutex; mode = Excl; at = Checks; call = begun.call; there = begun.there };
@@ -193,10 +217,12 @@ module _ (f : Floor Description) (p q : Pass Knowledge) (own : IsOf f q) where
       → GoesOnReleasing f.description l mode at next p q)
       → Knows f (behind next Releases Rests) q
   release_goes_on Done was went =
-      let end = went was.under_way.l was.under_way.mode was.under_way.at was.under_way.call in
+      let m = was.under_way in
+      let end = (went m.l m.mode m.at m.call).released in
       record {
         ready = record { own = own; rest = end.rest };
-        unheld = ap (λ (k : Knowledge). k.share.held) end.same ∙ was.gone end.at_end;
+        unheld = holds_none f.description m.l m.mode m.at p.view q.view was.lock end.end
+            (record { alone = was.alone; gone = was.gone });
       }
   release_goes_on Again was went =
       releases_still was (went was.under_way.l was.under_way.mode was.under_way.at was.under_way.call)

@@ -13,7 +13,6 @@ use Rattle.lock_model.specs.declared.event.Entry.{Entry}
 use Rattle.lock_model.specs.declared.event.Event.TheVariants as event
 use Rattle.lock_model.specs.declared.event.Held.{Held}
 use Rattle.lock_model.specs.declared.plan.Mode.{Mode}
-use Rattle.lock_model.specs.declared.plan.Mode.TheVariants.{Excl}
 use Rattle.lock_model.specs.declared.plan.Op.{Op}
 use Rattle.lock_model.specs.declared.plan.Op.TheVariants.{Take}
 use Rattle.lock_model.specs.declared.plan.OfLocks.{OfLocks}
@@ -29,11 +28,11 @@ use Rattle.floor_table.specs.declared.description.Description.{Description}
 use Rattle.lock_floor.specs.Floors.{Floor, Pass}
 use Rattle.lock_floor.specs.Passes.{IsReady, MakesEntry}
 use Rattle.lock_floor.specs.Views.{entry_by}
-use Rattle.adaptive_mutex.specs.Mutexes.{MayRelease}
+use Rattle.lock_calls.specs.Steps.{MayRelease}
 use Rattle.floor_run.specs.Progress.{IsBefore, IsCut}
-use Rattle.floor_run.specs.Runs.{HasOnlyMutexes}
+use Rattle.floor_run.specs.Runs.{HasOnlyTurnstileLocks}
 use Rattle.floor_run.specs.Workers.{IsWhole}
-use Rattle.floor_run.proofs.Operating.{was_stamped, is_mutex, mutex_kind}
+use Rattle.floor_run.proofs.Operating.{was_stamped, is_covered}
 
 -- 1. A thread holds as many locks as it has operations left, or fewer
 
@@ -124,7 +123,7 @@ module _ (plan : Plan) (f : Floor Description) (p : IsProper plan) (t n : ℕ) (
 -- 3. It gives back the lock that it gained last
 
 module _ (plan : Plan) (f : Floor Description) (given : IsFor plan f.description) (p : IsProper plan)
-    (m : HasOnlyMutexes plan) (t : ℕ) (x : Pass Knowledge) (b : IsCut plan f t x) (hs : List Held) (h : Held)
+    (m : HasOnlyTurnstileLocks plan) (t : ℕ) (x : Pass Knowledge) (b : IsCut plan f t x) (hs : List Held) (h : Held)
     (last : x.view.share.held ≡ hs ++ h ∷ []) where
   abbrev all : List Held
   all = held_of (operations_of plan t) b.n
@@ -140,35 +139,40 @@ module _ (plan : Plan) (f : Floor Description) (given : IsFor plan f.description
   holds_last : hold_in x.view.share.held h.l.0 ≡ Holds its_last.last.mode
   holds_last = ap (λ xs. hold_in xs h.l.0) b.held ∙ its_last.held
 
-  -- it is one of the plan's, and held exclusively
+  -- it is one of the plan's
   among : hold_in all h.l.0 ≡ Holds its_last.last.mode
   among = held_in_all h.l.0 b.left all its_last.last.mode its_last.held
 
-  exclusive : its_last.last.mode ≡ Excl
-  exclusive = (held_are_locks plan p t b.n).mutexes h.l.0 its_last.last.mode among (mutex_kind plan m h.l.0)
+  pub may_give_back : (mode : Mode) × MayRelease f.description h.l.0 mode x.view
+  may_give_back =
+      let locks = held_are_locks plan p t b.n in (
+        its_last.last.mode,
+        record {
+          covered = is_covered plan f.description given m h.l.0 its_last.last.mode
+              (locks.within h.l.0 (λ none. let z : NotHeld ≡ Holds its_last.last.mode = sym none ∙ among in cc))
+              (locks.mutexes h.l.0 its_last.last.mode among);
+          held = holds_last;
+          room = omega (arith, b.room, ap length last, length-append hs (h ∷ []));
+        },
+      )
 
-  pub may_give_back : MayRelease f.description h.l.0 x.view
-  may_give_back = record {
-    mutex = is_mutex plan f.description given m h.l.0
-        ((held_are_locks plan p t b.n).within h.l.0
-        (λ none. let z : NotHeld ≡ Holds its_last.last.mode = sym none ∙ among in cc));
-    held = holds_last ∙ ap Holds exclusive;
-    room = omega (arith, b.room, ap length last, length-append hs (h ∷ []));
-  }
+  -- that it was released is noted, in the mode in which it was held
+  abbrev Noted : Pass Knowledge → Type 0
+  Noted y = (mode : Mode) → hold_in x.view.share.held h.l.0 ≡ Holds mode
+      → MakesEntry f.description (event.Unlocked h.l mode) (without_lock h.l.0 x.view.share.held) x.view y.view
 
-  pub gives_back : (y : Pass Knowledge) → IsReady f y
-      → MakesEntry f.description (event.Unlocked h.l Excl) (without_lock h.l.0 x.view.share.held) x.view y.view
-      → IsCut plan f t y
-  gives_back y ready made =
+  pub gives_back : (y : Pass Knowledge) → IsReady f y → Noted y → IsCut plan f t y
+  gives_back y ready notes =
       let ops : List Op = operations_of plan t in
       let g = its_last in
-      let entry : Entry = entry_by x.view.thread made.ticket (event.Unlocked h.l Excl) in
+      let made = notes g.last.mode holds_last in
+      let entry : Entry = entry_by x.view.thread made.ticket (event.Unlocked h.l g.last.mode) in
       let without : y.view.share.held ≡ g.others =
       made.held ∙ ap (without_lock h.l.0) b.held ∙ g.without in
       let were : reverse x.view.share.held ≡ g.last ∷ reverse g.others =
       ap reverse (b.held ∙ g.is) ∙ reverse-append g.others (g.last ∷ []) in
-      let noted : event.Unlocked h.l Excl ≡ event.Unlocked g.last.l g.last.mode =
-      λ i. event.Unlocked (record { 0 = sym g.lock i }) (sym exclusive i) in
+      let noted : event.Unlocked h.l g.last.mode ≡ event.Unlocked g.last.l g.last.mode =
+      λ i. event.Unlocked (record { 0 = sym g.lock i }) g.last.mode in
       record {
         ready = ready;
         thread = made.thread ∙ b.thread;
@@ -180,7 +184,7 @@ module _ (plan : Plan) (f : Floor Description) (given : IsFor plan f.description
             (law.gives_back entry
             (subst (λ (xs : List Held). LeadsTo (config_of plan).kind ops x.view.share.log (Cut xs)) were b.leads)
             noted);
-        stamped = was_stamped f.description t x.view y.view (event.Unlocked h.l Excl)
+        stamped = was_stamped f.description t x.view y.view (event.Unlocked h.l g.last.mode)
             (without_lock h.l.0 x.view.share.held) b.thread b.stamped made;
         room = omega (
           arith,
@@ -194,11 +198,10 @@ module _ (plan : Plan) (f : Floor Description) (given : IsFor plan f.description
         );
       }
 
-  pub fewer_left : (y : Pass Knowledge)
-      → MakesEntry f.description (event.Unlocked h.l Excl) (without_lock h.l.0 x.view.share.held) x.view y.view
-      → length y.view.share.held < length x.view.share.held
-  fewer_left y made =
+  pub fewer_left : (y : Pass Knowledge) → Noted y → length y.view.share.held < length x.view.share.held
+  fewer_left y notes =
       let g = its_last in
+      let made = notes g.last.mode holds_last in
       omega (
         arith,
         ap length (made.held ∙ ap (without_lock h.l.0) b.held ∙ g.without),

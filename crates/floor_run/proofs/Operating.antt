@@ -15,6 +15,7 @@ use Rattle.lock_model.specs.Limits.{most_held}
 use Rattle.lock_model.specs.Operations.{IsProper, held_of, held_behind, hold_in, without_lock, acquiring_tests, edit_tests, channel_test}
 use Rattle.lock_model.specs.Plans.{config_of, operations_of, lock_kind}
 use Rattle.lock_model.specs.Tests.{Test, Passes}
+use Rattle.lock_model.specs.Words.{is_turnstile, admits, word_of}
 use Rattle.lock_model.specs.declared.numbers.LockNo.{LockNo}
 use Rattle.lock_model.specs.declared.numbers.ChanNo.{ChanNo}
 use Rattle.lock_model.specs.declared.numbers.Prio.{Prio}
@@ -41,10 +42,11 @@ use Rattle.floor_table.proofs.PlanKeys.{keys_are_named, found_key}
 use Rattle.lock_floor.specs.Floors.{Floor, Pass}
 use Rattle.lock_floor.specs.Passes.{IsReady, MakesEntry, first_pass}
 use Rattle.lock_floor.specs.Views.{entry_by}
-use Rattle.adaptive_mutex.proofs.First.{ready_first}
-use Rattle.adaptive_mutex.specs.Mutexes.{IsMutex, MayAcquire, MayRelease, WasBusy, as_held}
+use Rattle.lock_calls.proofs.First.{ready_first}
+use Rattle.lock_calls.specs.Steps.{IsCovered, MayTake, MayRelease, as_taken}
+use Rattle.lock_calls.specs.Tries.{WasBusyFor, as_tried}
 use Rattle.floor_run.specs.Progress.{IsBefore}
-use Rattle.floor_run.specs.Runs.{HasOnlyMutexes}
+use Rattle.floor_run.specs.Runs.{HasOnlyTurnstileLocks}
 use Rattle.floor_run.specs.Workers.{WasStamped, WereStamped, IsWhole}
 
 -- 1. The begin and the end
@@ -70,12 +72,17 @@ at_last plan f t n x b over =
 
 -- 2. Kinds and keys
 
-pub mutex_kind : (plan : Plan) → HasOnlyMutexes plan → (l : ℕ) → lock_kind plan l ≡ Mtx
-mutex_kind plan m l = ap (λ k. unwrap_or k Mtx) (slice_get-map (λ (d : LockDecl). d.kind) plan.locks l) ∙ go (slice_get plan.locks l) refl
+its_turnstile : (plan : Plan) → HasOnlyTurnstileLocks plan → (l : ℕ) → is_turnstile (lock_kind plan l) ≡ true
+its_turnstile plan m l =
+    ap (λ k. is_turnstile (unwrap_or k Mtx)) (slice_get-map (λ (d : LockDecl). d.kind) plan.locks l)
+    ∙ go (slice_get plan.locks l) refl
   where
-    go : (o : Option LockDecl) → slice_get plan.locks l ≡ o → unwrap_or (option_map (λ d. d.kind) o) Mtx ≡ Mtx
+    go : (o : Option LockDecl) → slice_get plan.locks l ≡ o
+        → is_turnstile (unwrap_or (option_map (λ d. d.kind) o) Mtx) ≡ true
     go None e = refl
-    go (Some d) e = ap (λ (x : LockDecl). x.kind) (sym (get_or_from_slice_get plan.locks l d d e)) ∙ m.locks l d (slice_get_within plan.locks l d e)
+    go (Some d) e =
+        ap (λ (x : LockDecl). is_turnstile x.kind) (sym (get_or_from_slice_get plan.locks l d d e))
+        ∙ m.locks l d (slice_get_within plan.locks l d e)
 
 -- an operation of the thread that names a key
 plan_named : (plan : Plan) (t n l key : ℕ) (op : Op) → slice_get (operations_of plan t) n ≡ Some op
@@ -98,12 +105,19 @@ named plan floor given t n l key op e i =
     subst (λ ks. Contains ks (l, key)) (sym (ap (λ (d : Description). d.keys) given))
     (found_key l key (keys_in plan.threads) (keys_are_named plan l key ∙ plan_named plan t n l key op e i))
 
--- a lock of the plan is one of the floor's, and a mutex there too
-pub is_mutex : (plan : Plan) (floor : Description) → IsFor plan floor → HasOnlyMutexes plan → (l : ℕ)
-    → l < length plan.locks → IsMutex floor l
-is_mutex plan floor given m l low =
-    let same : config_in floor ≡ config_of plan = ap config_in given ∙ same_config plan floor.chains in
-    record { lock = subst (λ c. l < c.locks) (sym same) low; kind = ap (λ c. c.kind l) same ∙ mutex_kind plan m l }
+-- the floor's kinds are the plan's
+same_kind : (plan : Plan) (floor : Description) → IsFor plan floor → (l : ℕ)
+    → (config_in floor).kind l ≡ lock_kind plan l
+same_kind plan floor given l = ap (λ c. c.kind l) (ap config_in given ∙ same_config plan floor.chains)
+
+-- the calls are there for a lock of the plan, in a mode of its kind
+pub is_covered : (plan : Plan) (floor : Description) → IsFor plan floor → HasOnlyTurnstileLocks plan → (l : ℕ)
+    (mode : Mode) → l < length plan.locks → (lock_kind plan l ≡ Mtx → mode ≡ Excl) → IsCovered floor l mode
+is_covered plan floor given m l mode low of_mutex = record {
+  lock = subst (λ c. l < c.locks) (sym (ap config_in given ∙ same_config plan floor.chains)) low;
+  turnstile = ap is_turnstile (same_kind plan floor given l) ∙ its_turnstile plan m l;
+  mutex = λ e. of_mutex (sym (same_kind plan floor given l) ∙ e);
+}
 
 -- a thread has as many operations as all have together, or fewer
 few_ops : (threads : List ThreadDecl) (t : ℕ) → length (unwrap_or (slice_get (map (λ d. d.ops) threads) t) []) ≤ sum (map (λ d. length d.ops) threads)
@@ -138,7 +152,7 @@ was_stamped floor t old new e hs its before made =
 -- 3. What the next operation finds
 
 module _ (plan : Plan) (f : Floor Description) (given : IsFor plan f.description) (p : IsProper plan)
-    (m : HasOnlyMutexes plan) (t n : ℕ) (x : Pass Knowledge) (b : IsBefore plan f t n x) where
+    (m : HasOnlyTurnstileLocks plan) (t n : ℕ) (x : Pass Knowledge) (b : IsBefore plan f t n x) where
   abbrev ops : List Op
   ops = operations_of plan t
 
@@ -153,41 +167,49 @@ module _ (plan : Plan) (f : Floor Description) (given : IsFor plan f.description
   holds_so l = ap (λ hs. hold_in hs l) b.held
 
   may_acquire : (op : Op) (l : LockNo) (mode : Mode) → slice_get ops n ≡ Some op
-      → Passes (acquiring_tests plan.locks l mode held) → MayAcquire f.description l.0 x.view
+      → Passes (acquiring_tests plan.locks l mode held) → MayTake f.description l.0 mode x.view
   may_acquire op l mode e tests =
       let g = gain_passes plan l mode false held _ tests refl in
       record {
-        mutex = is_mutex plan f.description given m l.0 g.lock;
+        covered = is_covered plan f.description given m l.0 mode g.lock g.mutex;
         unheld = holds_so l.0 ∙ g.unheld;
         few = subst (λ (hs : List Held). length hs < most_held) (sym b.held) g.few;
         room = room_for_one op e;
       }
 
-  pub may_take : (l : LockNo) (mode : Mode) → slice_get ops n ≡ Some (Take l mode) → MayAcquire f.description l.0 x.view
+  pub may_take : (l : LockNo) (mode : Mode) → slice_get ops n ≡ Some (Take l mode)
+      → MayTake f.description l.0 mode x.view
   may_take l mode e = may_acquire (Take l mode) l mode e (next_leads plan p t n (Take l mode) e).passes
 
   pub may_try : (l : LockNo) (mode : Mode) (past : ℕ) → slice_get ops n ≡ Some (Try l mode past)
-      → MayAcquire f.description l.0 x.view
+      → MayTake f.description l.0 mode x.view
   may_try l mode past e = may_acquire (Try l mode past) l mode e (next_leads plan p t n (Try l mode past) e).passes
 
-  -- a lock that is held is one of the plan's, and held exclusively
-  held_so : (l : ℕ) → hold_in held l ≢ NotHeld → (l < length plan.locks) × (hold_in held l ≡ Holds Excl)
-  held_so l some =
-      let locks = held_are_locks plan p t n in
-      (locks.within l some, go (hold_in held l) refl some (λ mode e. locks.mutexes l mode e (mutex_kind plan m l)))
+  -- a lock that is held is held in some mode
+  its_hold : (l : ℕ) → hold_in held l ≢ NotHeld → (mode : Mode) × (hold_in held l ≡ Holds mode)
+  its_hold l some = go (hold_in held l) refl
     where
-      go : (h : Hold) → hold_in held l ≡ h → h ≢ NotHeld → ((mode : Mode) → hold_in held l ≡ Holds mode → mode ≡ Excl) → h ≡ Holds Excl
-      go NotHeld e other its = absurd (other refl)
-      go (Holds mode) e other its = ap Holds (its mode e)
+      go : (h : Hold) → hold_in held l ≡ h → (mode : Mode) × (hold_in held l ≡ Holds mode)
+      go NotHeld e = absurd (some e)
+      go (Holds mode) e = (mode, e)
 
-  pub may_release : (l : LockNo) → slice_get ops n ≡ Some (Release l) → MayRelease f.description l.0 x.view
+  held_so : (l : LockNo) → slice_get ops n ≡ Some (Release l) → (mode : Mode) × (hold_in held l.0 ≡ Holds mode)
+  held_so l e = its_hold l.0 (release_fits plan l held _ (next_leads plan p t n (Release l) e)).0
+
+  pub may_release : (l : LockNo) → slice_get ops n ≡ Some (Release l)
+      → (mode : Mode) × MayRelease f.description l.0 mode x.view
   may_release l e =
-      let so = held_so l.0 (release_fits plan l held _ (next_leads plan p t n (Release l) e)).0 in
-      record {
-        mutex = is_mutex plan f.description given m l.0 so.0;
-        held = holds_so l.0 ∙ so.1;
-        room = room_for_one (Release l) e;
-      }
+      let so = held_so l e in
+      let locks = held_are_locks plan p t n in (
+        so.0,
+        record {
+          covered = is_covered plan f.description given m l.0 so.0
+              (locks.within l.0 (release_fits plan l held _ (next_leads plan p t n (Release l) e)).0)
+              (locks.mutexes l.0 so.0 so.1);
+          held = holds_so l.0 ∙ so.1;
+          room = room_for_one (Release l) e;
+        },
+      )
 
   -- 4. Where its entry leads
 
@@ -218,44 +240,37 @@ module _ (plan : Plan) (f : Floor Description) (given : IsFor plan f.description
 
   -- 5. Operation by operation
 
-  its_mode : (l : LockNo) (mode : Mode) → Passes (acquiring_tests plan.locks l mode held) → mode ≡ Excl
-  its_mode l mode tests = (gain_passes plan l mode false held _ tests refl).mutex (mutex_kind plan m l.0)
-
   pub took : (y : Pass Knowledge) (l : LockNo) (mode : Mode) → slice_get ops n ≡ Some (Take l mode) → IsReady f y
-      → MakesEntry f.description (event.Locked l Excl) (x.view.share.held ++ as_held l false ∷ []) x.view y.view
+      → MakesEntry f.description (event.Locked l mode) (x.view.share.held ++ as_taken l mode ∷ []) x.view y.view
       → IsBefore plan f t (suc n) y
-  took y l mode e ready made =
-      let at : slice_get ops n ≡ Some (Take l Excl) = e
-      ∙ ap (λ k. Some (Take l k)) (its_mode l mode (next_leads plan p t n (Take l mode) e).passes) in
-      entry_leads y (Take l Excl) (event.Locked l Excl) _ (suc n) at (law.locks l Excl)
-      (ap (λ hs. hs ++ as_held l false ∷ []) b.held ∙ (next_leads plan p t n (Take l Excl) at).behind) (omega arith)
-      (omega (arith, slice_get_within ops n (Take l Excl) at)) ready made
-
-  try_at : (l : LockNo) (mode : Mode) (past : ℕ) → slice_get ops n ≡ Some (Try l mode past) → slice_get ops n ≡ Some (Try l Excl past)
-  try_at l mode past e = e
-      ∙ ap (λ k. Some (Try l k past)) (its_mode l mode (next_leads plan p t n (Try l mode past) e).passes)
+  took y l mode at ready made =
+      entry_leads y (Take l mode) (event.Locked l mode) _ (suc n) at (law.locks l mode)
+      (ap (λ hs. hs ++ as_taken l mode ∷ []) b.held ∙ (next_leads plan p t n (Take l mode) at).behind) (omega arith)
+      (omega (arith, slice_get_within ops n (Take l mode) at)) ready made
 
   pub tried : (y : Pass Knowledge) (l : LockNo) (mode : Mode) (past : ℕ) → slice_get ops n ≡ Some (Try l mode past)
-      → IsReady f y → MakesEntry f.description (event.Tried l Excl) (x.view.share.held ++ as_held l true ∷ []) x.view
+      → IsReady f y → MakesEntry f.description (event.Tried l mode) (x.view.share.held ++ as_tried l mode ∷ []) x.view
       y.view → IsBefore plan f t (suc n) y
-  tried y l mode past e ready made =
-      let at = try_at l mode past e in
-      entry_leads y (Try l Excl past) (event.Tried l Excl) _ (suc n) at (law.tries l Excl past)
-      (ap (λ hs. hs ++ as_held l true ∷ []) b.held ∙ (next_leads plan p t n (Try l Excl past) at).behind)
+  tried y l mode past at ready made =
+      entry_leads y (Try l mode past) (event.Tried l mode) _ (suc n) at (law.tries l mode past)
+      (ap (λ hs. hs ++ as_tried l mode ∷ []) b.held ∙ (next_leads plan p t n (Try l mode past) at).behind)
       (omega arith)
-      (omega (arith, slice_get_within ops n (Try l Excl past) at)) ready made
+      (omega (arith, slice_get_within ops n (Try l mode past) at)) ready made
 
   pub further_on : (l : LockNo) (mode : Mode) (past : ℕ) → slice_get ops n ≡ Some (Try l mode past) → n < past
   further_on l mode past e = (try_passes plan p t n l mode past e).further
 
   pub found_busy : (y : Pass Knowledge) (l : LockNo) (mode : Mode) (past seen : ℕ)
       → slice_get ops n ≡ Some (Try l mode past) → IsReady f y
-      → WasBusy f.description x.view.thread l seen x.view y.view
+      → WasBusyFor f.description l mode seen x.view y.view
       → MakesEntry f.description (event.Busy l seen) x.view.share.held x.view y.view
       → IsBefore plan f t past y
   found_busy y l mode past seen e ready was made =
       let on = try_passes plan p t n l mode past e in
-      entry_leads y (Try l Excl past) (event.Busy l seen) x.view.share.held past (try_at l mode past e) (law.finds_busy l Excl past seen was.well_formed was.held was.held) (b.held ∙ sym on.leaves) on.further on.within ready made
+      entry_leads y (Try l mode past) (event.Busy l seen) x.view.share.held past e
+      (law.finds_busy l mode past seen was.word.formed was.word.held
+      (ap (λ k. admits k (word_of seen) mode) (sym (same_kind plan f.description given l.0)) ∙ was.word.refused))
+      (b.held ∙ sym on.leaves) on.further on.within ready made
 
   pub passed_endtry : slice_get ops n ≡ Some EndTry → IsBefore plan f t (suc n) x
   passed_endtry e = record {
@@ -269,12 +284,14 @@ module _ (plan : Plan) (f : Floor Description) (given : IsFor plan f.description
   }
 
   pub released : (y : Pass Knowledge) (l : LockNo) → slice_get ops n ≡ Some (Release l) → IsReady f y
-      → MakesEntry f.description (event.Unlocked l Excl) (without_lock l.0 x.view.share.held) x.view y.view
+      → ((mode : Mode) → hold_in x.view.share.held l.0 ≡ Holds mode
+      → MakesEntry f.description (event.Unlocked l mode) (without_lock l.0 x.view.share.held) x.view y.view)
       → IsBefore plan f t (suc n) y
   released y l e ready made =
-      let leads = next_leads plan p t n (Release l) e in
-      let so = held_so l.0 (release_fits plan l held _ leads).0 in
-      entry_leads y (Release l) (event.Unlocked l Excl) _ (suc n) e (law.unlocks l Excl so.1) (ap (without_lock l.0) b.held ∙ leads.behind) (omega arith) (omega (arith, slice_get_within ops n (Release l) e)) ready made
+      let so = held_so l e in
+      entry_leads y (Release l) (event.Unlocked l so.0) _ (suc n) e (law.unlocks l so.0 so.1)
+      (ap (without_lock l.0) b.held ∙ (next_leads plan p t n (Release l) e).behind) (omega arith)
+      (omega (arith, slice_get_within ops n (Release l) e)) ready (made so.0 (holds_so l.0 ∙ so.1))
 
   -- a key is named for a lock that is held exclusively, and there is room for an entry
   abbrev pub MayEdit : ℕ → ℕ → Type 0
@@ -328,7 +345,7 @@ module _ (plan : Plan) (f : Floor Description) (given : IsFor plan f.description
       → MakesEntry f.description (event.Shown base eff) x.view.share.held x.view y.view → IsBefore plan f t (suc n) y
   shown y base eff e = keeps y Show (event.Shown base eff) e refl (law.shows base eff)
 
-  -- a plan of mutexes alone has no channels
+  -- such a plan has no channels
   no_channel : (d : ChanNo) (tests : List Test) → Passes (channel_test plan.chans d ∷ tests) → ⊥
   no_channel d tests e = absurd (omega (arith, wake_fits plan d tests e, ap (λ ds. length ds) m.chans))
 

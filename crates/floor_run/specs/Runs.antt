@@ -6,8 +6,8 @@ use Rattle.lock_model.specs.History.{base_in, tables_of}
 use Rattle.lock_model.specs.Law.{IsLegal, is_halt}
 use Rattle.lock_model.specs.Plans.{config_of}
 use Rattle.lock_model.specs.Text.{Outcome, Ending, IsStuck}
+use Rattle.lock_model.specs.Words.{is_turnstile}
 use Rattle.lock_model.specs.declared.event.Entry.{Entry}
-use Rattle.lock_model.specs.declared.plan.Kind.TheVariants.{Mtx}
 use Rattle.lock_model.specs.declared.plan.Plan.{Plan}
 use Rattle.lock_state.specs.Run.{threads_of, whole_ending}
 use Rattle.floor_table.specs.Descriptions.{description_of}
@@ -46,7 +46,8 @@ pub record IsRunOf (plan : Plan) (chains : ℕ) (o : Outcome) (x : Closing) : Ty
   pub closing : IsClosing (description_of plan chains) (threads_of plan) x
   pub same : closing.history ≡ run.history
 
--- a plan of mutexes alone, without condition variables and channels: the plans whose threads run so far
-pub record HasOnlyMutexes (plan : Plan) : Type 0 where
-  pub locks : All (λ d. d.kind ≡ Mtx) plan.locks
+-- A plan of locks whose threads block on turnstiles, which are mutexes and reader-writer locks, without condition
+-- variables and channels: the plans whose threads run so far
+pub record HasOnlyTurnstileLocks (plan : Plan) : Type 0 where
+  pub locks : All (λ d. is_turnstile d.kind ≡ true) plan.locks
   pub chans : plan.chans ≡ []

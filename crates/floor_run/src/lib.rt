@@ -10,6 +10,6 @@ mod plans;
 mod run;
 mod worker;
 
-pub use plans::has_only_mutexes;
+pub use plans::has_only_turnstile_locks;
 pub use run::run_plan;
 pub use worker::work;

@@ -5,7 +5,7 @@ ghost use Rattle.lock_model.specs.Plans.{operations_of};
 ghost use Rattle.floor_table.specs.Descriptions.{IsFor};
 ghost use Rattle.lock_floor.specs.Passes.{IsReady, IsFinished, first_pass};
 ghost use Rattle.floor_run.specs.Progress.{IsBefore, IsCut};
-ghost use Rattle.floor_run.specs.Runs.{HasOnlyMutexes};
+ghost use Rattle.floor_run.specs.Runs.{HasOnlyTurnstileLocks};
 ghost use Rattle.floor_run.specs.Workers.{IsWhole};
 
 use lock_floor::{Change, Floor, Pass};
@@ -21,7 +21,7 @@ use std::sync::Wait;
 pub fn work<R: Wait, G: Gate>(rt: &R, floor: &Floor, pass: &mut Pass, plan: &Plan, gate: &G)
     requires given { IsFor plan.now floor.now.description }
     requires proper { IsProper plan.now }
-    requires mutexes { HasOnlyMutexes plan.now }
+    requires locks { HasOnlyTurnstileLocks plan.now }
     requires one_chain { floor.now.description.chains ≡ 1 }
     requires thread { pass.old.view.thread < length plan.now.threads }
     requires first { pass.old
@@ -41,7 +41,7 @@ pub fn work<R: Wait, G: Gate>(rt: &R, floor: &Floor, pass: &mut Pass, plan: &Pla
 fn operate_all<R: Wait, G: Gate>(rt: &R, floor: &Floor, pass: &mut Pass, plan: &Plan, gate: &G)
     requires given { IsFor plan.now floor.now.description }
     requires proper { IsProper plan.now }
-    requires mutexes { HasOnlyMutexes plan.now }
+    requires locks { HasOnlyTurnstileLocks plan.now }
     requires one_chain { floor.now.description.chains ≡ 1 }
     requires thread { pass.old.view.thread < length plan.now.threads }
     requires first { pass.old
@@ -70,14 +70,14 @@ fn operate_all<R: Wait, G: Gate>(rt: &R, floor: &Floor, pass: &mut Pass, plan: &
 fn give_back<R: Wait>(rt: &R, floor: &Floor, pass: &mut Pass, plan: &Plan)
     requires given { IsFor plan.now floor.now.description }
     requires proper { IsProper plan.now }
-    requires mutexes { HasOnlyMutexes plan.now }
+    requires locks { HasOnlyTurnstileLocks plan.now }
     requires cut { IsCut plan.now floor.now pass.old.view.thread pass.old }
     ensures cut { IsCut plan.now floor.now pass.old.view.thread pass.new }
     ensures unheld { pass.new.view.share.held ≡ [] }
 {
     while let Some(last) = pass.held().last() {
         let l = last.l;
-        adaptive_mutex::unlock(floor, rt, pass, l);
+        lock_calls::release_held(floor, rt, pass, l);
     }
 }
 
@@ -93,7 +93,7 @@ fn operate<R: Wait>(
 ) -> Option<usize>
     requires given { IsFor plan.now floor.now.description }
     requires proper { IsProper plan.now }
-    requires mutexes { HasOnlyMutexes plan.now }
+    requires locks { HasOnlyTurnstileLocks plan.now }
     requires one_chain { floor.now.description.chains ≡ 1 }
     requires before { IsBefore plan.now floor.now pass.old.view.thread n pass.old }
     requires op { slice_get (operations_of plan.now pass.old.view.thread) n ≡ Some op }
@@ -103,16 +103,16 @@ fn operate<R: Wait>(
     ensures cut { IfNone result (IsCut plan.now floor.now pass.old.view.thread pass.new) }
 {
     match op {
-        Op::Take { l, mode: _ } => match adaptive_mutex::lock(floor, rt, pass, l) {
+        Op::Take { l, mode } => match lock_calls::take(floor, rt, pass, l, mode) {
             Ok(()) => {}
             Err(_) => return None,
         },
-        Op::Try { l, mode: _, past } => match adaptive_mutex::try_lock(floor, pass, l) {
+        Op::Try { l, mode, past } => match lock_calls::try_take(floor, rt, pass, l, mode) {
             Ok(()) => {}
             Err(_) => return Some(past as usize),
         },
         Op::EndTry => {}
-        Op::Release { l } => adaptive_mutex::unlock(floor, rt, pass, l),
+        Op::Release { l } => lock_calls::release_held(floor, rt, pass, l),
         Op::Set { l, key, value } => floor.edit(rt, pass, l, key, Change::Set(value)),
         Op::Add { l, key, amount } => floor.edit(rt, pass, l, key, Change::Add(amount)),
         Op::Get { l, key } => {

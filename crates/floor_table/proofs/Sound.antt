@@ -10,6 +10,8 @@ use Rattle.order_laws.proofs.OrderFacts as order_facts
 use Rattle.order_laws.proofs.OrderFacts.Steps as orders
 use Rattle.order_laws.proofs.TakeFacts as take_facts
 use Rattle.order_laws.proofs.TakeFacts.Steps as takes
+use Rattle.order_laws.proofs.WantFacts as want_facts
+use Rattle.order_laws.proofs.WantFacts.Steps as wants
 use Rattle.sleep_laws.proofs.SleepFacts as sleep_facts
 use Rattle.sleep_laws.proofs.SleepFacts.Floor as sleepers
 use Rattle.floor_table.specs.Descriptions.{config_in}
@@ -28,6 +30,7 @@ sound_begins floor =
       turnstiles = signals.begins c;
       ordered = order_facts.begins c;
       taken = take_facts.begins c;
+      wants = want_facts.begins c;
     }
 
 one_keeps : (floor : Description) {past : List Step} (s : State) (step : Step) → IsAllowed floor s step
@@ -43,6 +46,7 @@ one_keeps floor s step may h =
       turnstiles = signals.keeps floor.chains c s (after c s step) made h.turnstiles;
       ordered = orders.keeps c s step may.fits.may may.keeps_order h.facts.lawful h.ordered;
       taken = takes.keeps c s step may.fits.may may.keeps_order h.facts.lawful h.taken;
+      wants = wants.keeps floor.chains c s step may.fits may.keeps_order h.facts.lawful h.ordered h.wants;
     }
 
 pub sound_kept : (floor : Description) {past : List Step} (s : State) (steps : List Step) → FitAll floor s steps

@@ -5,7 +5,7 @@ use mathlib.Core.Option.{some}
 use Rattle.floor_table.specs.Descriptions.{config_in, IsSized}
 use Rattle.floor_table.specs.declared.description.Description.{Description}
 use Rattle.lock_state.specs.State.{State}
-use Rattle.lock_state.specs.Facts.{LawfulFloor, Ordered, Taken}
+use Rattle.lock_state.specs.Facts.{LawfulFloor, Ordered, Taken, WantsFitTakes}
 use Rattle.lock_state.specs.Steps.{Step, EachStep, after_all, maker}
 use Rattle.lock_state.specs.Steps.Items.{Item, item_with}
 use Rattle.lock_laws.specs.Rounds.{LawfulRounds}
@@ -27,6 +27,7 @@ pub record IsSound (floor : Description) (past : List Step) (s : State) : Type 0
   pub turnstiles : TurnstilesSignal (config_in floor) s
   pub ordered : Ordered (config_in floor) s
   pub taken : Taken (config_in floor) s
+  pub wants : WantsFitTakes s
 
 -- each of the steps may be made by a thread of a floor, where it comes
 abbrev pub FitAll : Description → State → List Step → Type 0

@@ -1,13 +1,14 @@
 //! What follows from the definitions alone.
-ghost use Rattle.std.specs.Prelude.{◌≡◌, ℕ, ◌≤◌, ◌<◌, ◌↔◌, List, [], length, Option, IsTrue, IsSome, None, true};
+ghost use Rattle.std.specs.Prelude.{◌≡◌, ℕ, ◌≤◌, ◌<◌, ◌↔◌, List, [], length, Option, IsTrue, IsSome, Some, None, true};
 ghost use Rattle.std.specs.List.{Contains};
 ghost use Rattle.lock_model.specs.Keys.{plan_names};
 ghost use Rattle.lock_model.specs.Operations.{IsProper};
 ghost use Rattle.lock_model.specs.Plans.{config_of, operations_of};
+ghost use Rattle.lock_model.specs.Queues.{lock_queue};
 ghost use Rattle.lock_model.specs.declared.plan.Plan.{Plan};
 ghost use Rattle.lock_model.specs.declared.plan.QueueName.{QueueName};
 ghost use Rattle.lock_state.specs.Best.{best_behind, HasCycle, NobodyWalks};
-ghost use Rattle.lock_state.specs.State.{State, Wait};
+ghost use Rattle.lock_state.specs.State.{State, Wait, SleepHalted};
 ghost use Rattle.lock_state.specs.Steps.{Step};
 ghost use Rattle.lock_state.specs.Steps.Items.{TurnstileChain, SleepChain, item_with};
 ghost use Rattle.floor_table.specs.Descriptions.{config_in, room_for, IsSized, room_of, description_of};
@@ -75,4 +76,13 @@ pub fn nobody_waits_in_a_cycle()
     ensures best { (floor : Description) (past : List Step) (s : State) (t : ℕ)
         → IsSound floor past s → NobodyWalks (config_in floor) s → t < length floor.threads
         → s.effective t ≡ best_behind (config_in floor) s t }
+{}
+
+/// Between any two steps of a floor's threads who wants a lock takes it, and who has the halt of a take to note wants
+/// none.
+pub fn who_wants_a_lock_takes_it()
+    ensures wanted { (floor : Description) (past : List Step) (s : State) (t l : ℕ)
+        → IsSound floor past s → s.wanted t ≡ Some l → s.taking t ≡ Some l }
+    ensures halted { (floor : Description) (past : List Step) (s : State) (t l : ℕ)
+        → IsSound floor past s → s.noted t ≡ Some (SleepHalted (lock_queue l)) → s.wanted t ≡ None }
 {}

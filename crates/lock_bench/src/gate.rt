@@ -59,28 +59,32 @@ pub struct TimingGate<'a, R> {
     // Where all workers meet, and the two of a chain's ends.
     all: Meeting,
     ends: Meeting,
-    // Nanoseconds behind a moment: at the begin, at the end, and before each operation of a chain's last owner.
+    // Nanoseconds behind a moment: at the begin, at the end, at the end of the first reader that came to it, and before
+    // each operation of a chain's last owner, or of a writer whose takes are timed.
     from: Instant,
     began: AtomicU64,
     ended: AtomicU64,
-    shown: Vec<AtomicU64>,
+    first_ended: AtomicU64,
+    times: Vec<AtomicU64>,
 }
 
 impl<'a, R: Clock> TimingGate<'a, R> {
     /// The gate of a run in which each thread makes so many rounds.
     pub fn new(rt: &'a R, alloc: Global, case: Case, rounds: usize) -> Result<TimingGate<'a, R>> {
-        let mut shown = Vec::new(alloc);
-        shown.resize_with(rounds.saturating_add(2), || AtomicU64::new(0))?;
+        let operations = rounds.saturating_mul(case.round.operations());
+        let mut times = Vec::new(alloc);
+        times.resize_with(operations.saturating_add(2), || AtomicU64::new(0))?;
         Ok(TimingGate {
             rt,
             case,
-            last: u32::try_from(rounds.saturating_mul(case.round.operations())).unwrap_or(u32::MAX),
+            last: u32::try_from(operations).unwrap_or(u32::MAX),
             all: Meeting::new(case.threads),
             ends: Meeting::new(2),
             from: Instant::now(rt)?,
             began: AtomicU64::new(u64::MAX),
             ended: AtomicU64::new(0),
-            shown,
+            first_ended: AtomicU64::new(u64::MAX),
+            times,
         })
     }
 
@@ -88,19 +92,42 @@ impl<'a, R: Clock> TimingGate<'a, R> {
     /// seen, and 0 where none was.
     pub fn time(&self, history: &[Entry]) -> u64 {
         let ended = match self.case.round {
-            Round::Bare | Round::Edit | Round::Long | Round::Apart | Round::Nested => {
-                self.ended.load(Ordering::SeqCst)
-            }
+            Round::Bare
+            | Round::Edit
+            | Round::Long
+            | Round::Apart
+            | Round::Nested
+            | Round::Read
+            | Round::Write
+            | Round::Get
+            | Round::Mixed
+            | Round::Waits => self.ended.load(Ordering::SeqCst),
             Round::Chain => self.loan_seen(history),
         };
         ended.saturating_sub(self.began.load(Ordering::SeqCst))
+    }
+
+    /// How long each take of the writer was that came to its end before any reader came to his: from before it to
+    /// behind its entry.
+    pub fn waits(&self, alloc: Global) -> Result<Vec<u64>> {
+        let mut waits = Vec::new(alloc);
+        let busy = self.first_ended.load(Ordering::SeqCst);
+        for round in self.times.chunks_exact(self.case.round.operations()) {
+            if let [asked, gained, ..] = round {
+                let gained = gained.load(Ordering::SeqCst);
+                if gained > 0 && gained <= busy {
+                    waits.push(gained.saturating_sub(asked.load(Ordering::SeqCst)))?;
+                }
+            }
+        }
+        Ok(waits)
     }
 
     // When the last owner came to the operation behind the one that told of a loan: each of them made an entry.
     fn loan_seen(&self, history: &[Entry]) -> u64 {
         let mut entries = history.iter().filter(|e| self.is_last_owner(e.thread));
         let told = entries.position(|e| tells_of_a_loan(e.event));
-        let next = told.and_then(|told| self.shown.get(told.saturating_add(1)));
+        let next = told.and_then(|told| self.times.get(told.saturating_add(1)));
         next.map_or(0, |time| time.load(Ordering::SeqCst))
     }
 
@@ -111,7 +138,8 @@ impl<'a, R: Clock> TimingGate<'a, R> {
         }
     }
 
-    fn is_taker(&self, t: ThreadNo) -> bool {
+    // Who takes at the end of a chain, or writes where others read.
+    fn is_last(&self, t: ThreadNo) -> bool {
         usize::from(t.0).saturating_add(1) == self.case.threads
     }
 
@@ -143,12 +171,28 @@ impl<'a, R: Clock> TimingGate<'a, R> {
         }
     }
 
+    // The clock is read before each operation of the writer.
+    fn at_wait(&self, t: ThreadNo, operation: u32) {
+        self.at_round(operation);
+        if self.is_last(t) {
+            self.note_time(operation);
+        } else if operation == self.last {
+            self.first_ended.fetch_min(self.now(), Ordering::SeqCst);
+        }
+    }
+
+    fn note_time(&self, operation: u32) {
+        if let Some(time) = self.times.get(operation as usize) {
+            time.store(self.now(), Ordering::SeqCst);
+        }
+    }
+
     // Each owner has its own mutex before any of them takes the next one's. When they are asleep, the clock is read
     // before the taker's take, and from then on before each operation of the last owner.
     fn at_link(&self, t: ThreadNo, operation: u32) {
         if operation == 1 {
             self.all.wait();
-            if self.is_taker(t) {
+            if self.is_last(t) {
                 thread::sleep(self.rt, Duration::from_millis(FALL_ASLEEP));
                 self.ends.wait();
                 self.began.store(self.now(), Ordering::SeqCst);
@@ -157,9 +201,7 @@ impl<'a, R: Clock> TimingGate<'a, R> {
             }
         }
         if self.is_last_owner(t) {
-            if let Some(time) = self.shown.get(operation as usize) {
-                time.store(self.now(), Ordering::SeqCst);
-            }
+            self.note_time(operation);
         }
     }
 }
@@ -167,8 +209,16 @@ impl<'a, R: Clock> TimingGate<'a, R> {
 impl<R: Clock + Sync> Gate for TimingGate<'_, R> {
     fn at(&self, t: ThreadNo, operation: u32) {
         match self.case.round {
-            Round::Bare | Round::Edit | Round::Apart | Round::Nested => self.at_round(operation),
+            Round::Bare
+            | Round::Edit
+            | Round::Apart
+            | Round::Nested
+            | Round::Read
+            | Round::Write
+            | Round::Get
+            | Round::Mixed => self.at_round(operation),
             Round::Long => self.at_long_round(operation),
+            Round::Waits => self.at_wait(t, operation),
             Round::Chain => self.at_link(t, operation),
         }
     }

@@ -1,8 +1,9 @@
-//! `lock_bench [time [CASE]]` times the mutexes of running floors. With `time` it prints lines `name value` as
-//! `bench/mutex_baseline.c` does, whose names and shapes of runs it shares, of all cases or of one: nanoseconds of an
-//! operation, which is a lock, an edit or an unlock with its entry, best and median of 9 runs, and of how many of 100
-//! sections of the median run the one before, of the same mutex, was another thread's. Of a chain it is the nanoseconds
-//! from a take at its end to the loan that is seen at its head. Without a word, it makes a short run of each case, and
+//! `lock_bench [time [CASE]]` times the locks of running floors. With `time` it prints lines `name value` as
+//! `bench/mutex_baseline.c` and `bench/rwlock_baseline.c` do, whose names and shapes of runs it shares, of all cases or
+//! of one: nanoseconds of an operation, which is a take, an edit, a `get` or a release with its entry, best and median
+//! of 9 runs, and of how many of 100 sections of the median run the one before, of the same lock, was another thread's.
+//! Of a chain it is the nanoseconds from a take at its end to the loan that is seen at its head. Of a writer's takes
+//! while others read it is the median and the longest of 1,000. Without a word, it makes a short run of each case, and
 //! prints the names alone.
 #![tactic(auto)]
 
@@ -11,7 +12,7 @@ mod scripts;
 mod timing;
 
 use anyhow::{Result, bail};
-use scripts::{CASES, Case, script_of};
+use scripts::{CASES, Case, Round, script_of};
 use std::alloc::Global;
 use std::env;
 use std::rt::Clock;
@@ -21,6 +22,11 @@ use timing::{plan_of, time_of};
 
 // How often each case is run where it is timed.
 const RUNS: usize = 9;
+
+// How many takes are timed, and in how many runs at most.
+const TAKES: usize = 1_000;
+
+const MOST_RUNS: usize = 10_000;
 
 // The most operations of all rounds of a run: a script has 20,000 at most. And those of a short run.
 const MOST_OPERATIONS: usize = 19_900;
@@ -44,7 +50,9 @@ fn main(rt: HostRuntime) -> Result<()> {
         {
             continue;
         }
-        if timed {
+        if timed && case.round == Round::Waits {
+            print_waits(&rt, alloc, &case)?;
+        } else if timed {
             print_times(&rt, alloc, &case)?;
         } else {
             run_briefly(&rt, alloc, &case)?;
@@ -90,6 +98,34 @@ fn print_times<R: Print + Threads + Wait + Clock + Sync>(
         print_tenths(rt, name, "", tenths(best.nanoseconds, operations))?;
         print_tenths(rt, name, "_median", tenths(median.nanoseconds, operations))?;
         print_tenths(rt, name, "_handovers", median.handovers)?;
+        Ok(())
+    } else {
+        bail!("no run told a time")
+    }
+}
+
+// Prints how long takes were, of so many runs as it takes to see enough of them.
+fn print_waits<R: Print + Threads + Wait + Clock + Sync>(
+    rt: &R,
+    alloc: Global,
+    case: &Case,
+) -> Result<()> {
+    let rounds = case.rounds(MOST_OPERATIONS);
+    let plan = plan_of(alloc, &script_of(alloc, case, rounds)?)?;
+    let mut waits = Vec::new(alloc);
+    for _ in 0..MOST_RUNS {
+        let figures = time_of(rt, alloc, *case, &plan, rounds)?;
+        waits.extend_from_slice(figures.waits.as_slice())?;
+        if waits.len() >= TAKES {
+            break;
+        }
+    }
+    waits.truncate(TAKES);
+    waits.sort_unstable();
+    let name = case.name;
+    if let (Some(median), Some(worst)) = (waits.get(waits.len() / 2), waits.last()) {
+        print_tenths(rt, name, "_median", tenths(*median, 1))?;
+        print_tenths(rt, name, "_worst", tenths(*worst, 1))?;
         Ok(())
     } else {
         bail!("no run told a time")

@@ -12,7 +12,8 @@ const BETTER: u32 = 10;
 
 const USUAL: u32 = 100;
 
-/// What a thread does in each round. It has a first mutex and a second one.
+/// What a thread does in each round. It has a first lock and a second one: mutexes, or reader-writer locks where it
+/// reads or writes.
 #[derive(Clone, Copy, Debug, PartialEq, Eq)]
 pub enum Round {
     /// It takes the first, and gives it back.
@@ -25,22 +26,32 @@ pub enum Round {
     Apart,
     /// It takes and edits the second while it holds the first.
     Nested,
+    /// It takes the first for reading, and gives it back.
+    Read,
+    /// It takes it for writing, and gives it back.
+    Write,
+    /// It gets a value of its table while it holds it for reading.
+    Get,
+    /// The last thread edits the table, for which it takes the lock for writing, and all others get a value.
+    Mixed,
+    /// So it goes here, and of the last thread's takes it is told how long they were while all others read.
+    Waits,
     /// There are no rounds, but a chain of threads that each hold a mutex and wait for the next one's. The last of them
     /// shows its priority again and again, and one with a better priority takes the first one's mutex.
     Chain,
 }
 
-/// A run that is timed: how many threads it has, over how many mutexes they are spread, and what they do.
+/// A run that is timed: how many threads it has, over how many locks they are spread, and what they do.
 #[derive(Clone, Copy, Debug)]
 pub struct Case {
     pub name: &'static str,
     pub threads: usize,
-    pub mutexes: usize,
+    pub locks: usize,
     pub round: Round,
 }
 
-/// The runs, as bench/mutex_baseline.c makes them, but for the last.
-pub const CASES: [(&str, usize, usize, Round); 18] = [
+/// The runs, as bench/mutex_baseline.c and bench/rwlock_baseline.c make them, but for the last.
+pub const CASES: [(&str, usize, usize, Round); 25] = [
     ("lock_unlock", 1, 1, Round::Bare),
     ("one_mutex_1_thread", 1, 1, Round::Edit),
     ("one_mutex_2_threads", 2, 1, Round::Edit),
@@ -58,6 +69,13 @@ pub const CASES: [(&str, usize, usize, Round); 18] = [
     ("takes_apart_4_threads", 4, 4, Round::Apart),
     ("nested_takes_1_thread", 1, 1, Round::Nested),
     ("nested_takes_4_threads", 4, 4, Round::Nested),
+    ("read_unlock", 1, 1, Round::Read),
+    ("write_unlock", 1, 1, Round::Write),
+    ("readers_1_thread", 1, 1, Round::Get),
+    ("readers_2_threads", 2, 1, Round::Get),
+    ("readers_4_threads", 4, 1, Round::Get),
+    ("readers_4_threads_and_a_writer", 5, 1, Round::Mixed),
+    ("write_under_4_readers", 5, 1, Round::Waits),
     ("chain_of_8_owners", 9, 8, Round::Chain),
 ];
 
@@ -67,10 +85,19 @@ impl Round {
         ensures { 0 < result }
     {
         match self {
-            Round::Bare => 2,
-            Round::Edit | Round::Long => 3,
+            Round::Bare | Round::Read | Round::Write => 2,
+            Round::Edit | Round::Long | Round::Get | Round::Mixed | Round::Waits => 3,
             Round::Apart | Round::Nested => 5,
             Round::Chain => 1,
+        }
+    }
+
+    // By which word a script declares its locks.
+    fn kind(self) -> &'static str {
+        match self {
+            Round::Bare | Round::Edit | Round::Long | Round::Apart | Round::Nested | Round::Chain =>
+                "mutex",
+            Round::Read | Round::Write | Round::Get | Round::Mixed | Round::Waits => "rw",
         }
     }
 }
@@ -78,11 +105,11 @@ impl Round {
 impl Case {
     /// The case that a row of the table names.
     pub fn of(row: &(&'static str, usize, usize, Round)) -> Case {
-        let (name, threads, mutexes, round) = *row;
+        let (name, threads, locks, round) = *row;
         Case {
             name,
             threads,
-            mutexes,
+            locks,
             round,
         }
     }
@@ -96,7 +123,16 @@ impl Case {
     /// How many operations its threads make together in so many rounds each. A chain is timed as one.
     pub fn operations(&self, rounds: usize) -> u64 {
         match self.round {
-            Round::Bare | Round::Edit | Round::Long | Round::Apart | Round::Nested => rounds
+            Round::Bare
+            | Round::Edit
+            | Round::Long
+            | Round::Apart
+            | Round::Nested
+            | Round::Read
+            | Round::Write
+            | Round::Get
+            | Round::Mixed
+            | Round::Waits => rounds
                 .saturating_mul(self.round.operations())
                 .saturating_mul(self.threads) as u64,
             Round::Chain => 1,
@@ -107,14 +143,22 @@ impl Case {
 /// The script of a case, in which each thread makes so many rounds.
 pub fn script_of(alloc: Global, case: &Case, rounds: usize) -> Result<String, AllocError> {
     let mut script = String::from_str(alloc, "lockrun 1\n")?;
-    for m in 0..case.mutexes.saturating_mul(2) {
-        script.push_str(&format!(in alloc; "mutex m{m} c{m}\n")?)?;
+    let kind = case.round.kind();
+    for m in 0..case.locks.saturating_mul(2) {
+        script.push_str(&format!(in alloc; "{kind} m{m} c{m}\n")?)?;
     }
     for t in 0..case.threads {
         match case.round {
-            Round::Bare | Round::Edit | Round::Long | Round::Apart | Round::Nested => {
-                push_rounds(alloc, &mut script, case, t, rounds)?;
-            }
+            Round::Bare
+            | Round::Edit
+            | Round::Long
+            | Round::Apart
+            | Round::Nested
+            | Round::Read
+            | Round::Write
+            | Round::Get
+            | Round::Mixed
+            | Round::Waits => push_rounds(alloc, &mut script, case, t, rounds)?,
             Round::Chain => push_link(alloc, &mut script, case, t, rounds)?,
         }
     }
@@ -122,7 +166,7 @@ pub fn script_of(alloc: Global, case: &Case, rounds: usize) -> Result<String, Al
     Ok(script)
 }
 
-// A thread that makes so many rounds, with the mutex that is its own among so many, and with one behind all of these.
+// A thread that makes so many rounds, with the lock that is its own among so many, and with one behind all of these.
 fn push_rounds(
     alloc: Global,
     script: &mut String,
@@ -130,8 +174,9 @@ fn push_rounds(
     t: usize,
     rounds: usize,
 ) -> Result<(), AllocError> {
-    let a = t % case.mutexes.max(1);
-    let b = a.saturating_add(case.mutexes);
+    let a = t % case.locks.max(1);
+    let b = a.saturating_add(case.locks);
+    let writes = t.saturating_add(1) == case.threads;
     script.push_str(&format!(in alloc; "thread t{t} {USUAL}\n")?)?;
     for i in 0..rounds {
         let key = i % KEYS;
@@ -146,6 +191,14 @@ fn push_rounds(
             Round::Nested => format!(in alloc;
                 "lock m{a}\nlock m{b}\nadd m{b} {key} {i}\nunlock m{b}\nunlock m{a}\n"
             )?,
+            Round::Read => format!(in alloc; "rlock m{a}\nrunlock m{a}\n")?,
+            Round::Write => format!(in alloc; "wlock m{a}\nwunlock m{a}\n")?,
+            Round::Mixed | Round::Waits if writes => {
+                format!(in alloc; "wlock m{a}\nadd m{a} {key} {i}\nwunlock m{a}\n")?
+            }
+            Round::Get | Round::Mixed | Round::Waits => {
+                format!(in alloc; "rlock m{a}\nget m{a} {key}\nrunlock m{a}\n")?
+            }
             Round::Chain => String::new(alloc),
         };
         script.push_str(&round)?;
@@ -167,7 +220,7 @@ fn push_link(
         return script.push_str(&taken);
     }
     script.push_str(&format!(in alloc; "thread t{t} {USUAL}\nlock m{t}\n")?)?;
-    if next < case.mutexes {
+    if next < case.locks {
         script.push_str(&format!(in alloc; "lock m{next}\nunlock m{next}\n")?)?;
     } else {
         for _ in 0..shows {

@@ -1,12 +1,12 @@
 //! Timing one run of a case.
 ghost use Rattle.std.specs.Prelude.{IfOk};
 ghost use Rattle.lock_model.specs.Operations.{IsProper};
-ghost use Rattle.floor_run.specs.Runs.{HasOnlyMutexes};
+ghost use Rattle.floor_run.specs.Runs.{HasOnlyTurnstileLocks};
 
 use crate::gate::TimingGate;
-use crate::scripts::Case;
+use crate::scripts::{Case, Round};
 use anyhow::{Result, bail};
-use floor_run::{has_only_mutexes, run_plan};
+use floor_run::{has_only_turnstile_locks, run_plan};
 use lock_model::limits::LOCKS;
 use lock_model::{Entry, Event, Plan, ThreadNo};
 use script_read::read_script;
@@ -18,22 +18,23 @@ use std::thread::Threads;
 // The chains of each sort of queue: one, as a mutex's `lock` asks it.
 const CHAINS: u32 = 1;
 
-/// What a run told: its nanoseconds, and of how many of 1,000 sections the one before, of the same mutex, was another
-/// thread's.
-#[derive(Clone, Copy, Debug)]
+/// What a run told: its nanoseconds, of how many of 1,000 sections the one before, of the same lock, was another
+/// thread's, and how long each take was that is timed.
+#[derive(Debug, Drop)]
 pub struct Figures {
     pub nanoseconds: u64,
     pub handovers: u64,
+    pub waits: Vec<u64>,
 }
 
-/// The plan of a script of mutexes.
+/// The plan of a script of mutexes or reader-writer locks.
 pub fn plan_of(alloc: Global, script: &str) -> Result<Plan>
     ensures proper { IfOk result IsProper }
-    ensures mutexes { IfOk result HasOnlyMutexes }
+    ensures locks { IfOk result HasOnlyTurnstileLocks }
 {
     let plan = read_script(alloc, script.as_bytes())?;
-    if !has_only_mutexes(&plan) {
-        bail!("a lock is no mutex");
+    if !has_only_turnstile_locks(&plan) {
+        bail!("the script has other locks than mutexes and reader-writer locks");
     }
     Ok(plan)
 }
@@ -47,7 +48,7 @@ pub fn time_of<R: Threads + Wait + Clock + Sync>(
     rounds: usize,
 ) -> Result<Figures>
     requires proper { IsProper plan.now }
-    requires mutexes { HasOnlyMutexes plan.now }
+    requires locks { HasOnlyTurnstileLocks plan.now }
 {
     let gate = TimingGate::new(rt, alloc, case, rounds)?;
     let (outcome, _closing) = run_plan(rt, alloc, plan, CHAINS, &gate)?;
@@ -55,10 +56,23 @@ pub fn time_of<R: Threads + Wait + Clock + Sync>(
     Ok(Figures {
         nanoseconds: gate.time(history),
         handovers: handovers(history),
+        waits: match case.round {
+            Round::Bare
+            | Round::Edit
+            | Round::Long
+            | Round::Apart
+            | Round::Nested
+            | Round::Read
+            | Round::Write
+            | Round::Get
+            | Round::Mixed
+            | Round::Chain => Vec::new(alloc),
+            Round::Waits => gate.waits(alloc)?,
+        },
     })
 }
 
-// Of how many of 1,000 sections the one before, of the same mutex, was another thread's.
+// Of how many of 1,000 sections the one before, of the same lock, was another thread's.
 fn handovers(history: &[Entry]) -> u64 {
     let mut holders: [Option<ThreadNo>; LOCKS] = [None; LOCKS];
     let mut sections: u64 = 0;

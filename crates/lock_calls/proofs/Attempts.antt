@@ -1,5 +1,5 @@
 -- A blocking call before it takes the lock's chain: its exchanges and looks may be made, and what it knows behind them.
-use Rattle.std.proofs.Common.{◌≡◌, ◌≢◌, ◌⊎◌, ℕ, suc, ◌+◌, ◌<◌, ◌≤◌, true, false, cond, Option, Some, None, List, [], ◌∷◌, length, replicate, refl, sym, ap, ◌∙◌, subst, inl, inr, arith}
+use Rattle.std.proofs.Common.{◌≡◌, ◌≢◌, ◌⊎◌, ℕ, suc, ◌+◌, ◌<◌, ◌≤◌, true, false, cond, Some, None, List, [], ◌∷◌, length, replicate, refl, sym, ap, ◌∙◌, subst, inl, inr, arith}
 use Rattle.std.proofs.lemmas.List.{replicate-append-replicate}
 use Rattle.std.proofs.lemmas.Option.{same_Some}
 use Rattle.lock_model.specs.Holds.{NotHeld}
@@ -15,19 +15,19 @@ use Rattle.lock_model.specs.declared.plan.Mode.{Mode}
 use Rattle.lock_model.specs.declared.plan.Mode.TheVariants.{Excl, Shared}
 use Rattle.lock_state.specs.State.{Look, Round, SleepHalted}
 use Rattle.lock_state.specs.Steps.{Step, Seeks, Looks, Gains, FitsRound}
-use Rattle.lock_state.specs.Steps.LockWords.{round_of, taking_from}
+use Rattle.lock_state.specs.Steps.LockWords.{round_of}
 use Rattle.floor_table.specs.Descriptions.{config_in}
 use Rattle.floor_table.specs.declared.description.Description.{Description}
 use Rattle.floor_table.specs.Steps.{Makes, MakesEach, MayMake}
 use Rattle.floor_table.specs.Views.{Knowledge, seeing}
-use Rattle.lock_floor.specs.Views.{counts, looked, sought, gained}
-use Rattle.lock_floor.proofs.May.{BeginsCall, BeginsRound, IsUnhalted, WantsItsRound, counts_there, counts_first, may_look, may_seek_gain, may_gain}
+use Rattle.lock_floor.specs.Views.{counts, looked, gained}
+use Rattle.lock_floor.proofs.May.{BeginsCall, BeginsRound, IsUnhalted, WantsItsRound, counts_there, may_look, may_seek_gain, may_gain}
 use Rattle.lock_calls.specs.Choices.{course}
 use Rattle.lock_calls.specs.declared.courses.Course.{Course}
 use Rattle.lock_calls.specs.declared.courses.Course.TheVariants.{Plainly, ByClaim, MustWait}
-use Rattle.lock_calls.specs.Steps.{IsCovered, FirstMisses, none_missed, one_missed, most_missed, as_taken}
+use Rattle.lock_calls.specs.Steps.{IsCovered, FirstMisses, most_missed, as_taken}
 use Rattle.lock_calls.specs.Takes.{LooksOn, looks_alone, tries_too}
-use Rattle.lock_calls.specs.Waiting.{kept_of, IsCalling, MayGain, IsChecking, IsSeeking, GainsAtOnce, HasMissed, HasSeen, HasSpun, SpinsThenGains, IsGaining, HasGained, with_looks_counted}
+use Rattle.lock_calls.specs.Waiting.{kept_of, IsCalling, MayGain, IsChecking, IsSeeking, HasMissed, HasSeen, HasSpun, SpinsThenGains, IsGaining, HasGained, with_looks_counted}
 use Rattle.lock_floor.specs.Passes.{IsAtRest}
 use Rattle.lock_calls.proofs.Looks.{each_append, last_step, rest_looks}
 use Rattle.lock_calls.proofs.Words.{other_word}
@@ -71,7 +71,7 @@ plainly Mtx Excl = refl
 plainly Rw Excl = refl
 plainly Sx Excl = refl
 
-free_plainly : (k : Kind) (mode : Mode) → (k ≡ Mtx → mode ≡ Excl) → course k (word_of 0) mode ≡ Plainly
+pub free_plainly : (k : Kind) (mode : Mode) → (k ≡ Mtx → mode ≡ Excl) → course k (word_of 0) mode ≡ Plainly
 free_plainly Mtx Excl mutex = refl
 free_plainly Rw Excl mutex = refl
 free_plainly Sx Excl mutex = refl
@@ -110,7 +110,7 @@ may_gain_first floor l mode v covered m bare =
 -- 2. What the thread knows where its lock's order is to be checked
 
 -- one may miss of each kind, and two at most
-one_may_miss : (k : Kind) → 1 ≤ most_missed k
+pub one_may_miss : (k : Kind) → 1 ≤ most_missed k
 one_may_miss Mtx = omega arith
 one_may_miss Rw = omega arith
 one_may_miss Sx = omega arith
@@ -128,54 +128,6 @@ misses_bare k (h ∷ hs) missed first some = absurd (omega (arith, first, some))
 pub misses_few : (k : Kind) (held : List Held) (missed : ℕ) → FirstMisses k held missed → missed ≤ 2
 misses_few k [] missed first = omega (arith, first.1, two_may_miss k)
 misses_few k (h ∷ hs) missed first = omega (arith, first)
-
--- it made no exchange, since it holds a lock
-pub missed_none : (floor : Description) (l : ℕ) (mode : Mode) (v : Knowledge) → MayGain floor l v
-    → FirstMisses ((config_in floor).kind l) v.share.held 0 → HasMissed floor l mode v v
-missed_none floor l mode v m holds = record {
-  missed = 0;
-  first = record { first = holds; next = word_of 0; misses = none_missed };
-  looks = v.share.doing.looks;
-  counted = omega arith;
-  all = v.share.doing.looks_in_all;
-  last = v.share.doing.last_look;
-  seen = v.share.doing.seen_in_section;
-  its = λ look e. absurd (let z : None ≡ Some look = sym m.unseen ∙ e in cc);
-  knows = refl;
-}
-
--- its exchange missed
-pub missed_once : (floor : Description) (l : ℕ) (mode : Mode) (v w : Knowledge) (found : ℕ) → IsCovered floor l mode
-    → MayGain floor l v → v.share.held ≡ [] → found ≢ 0 → w ≡ seeing w.seen (looked v l (word_of found))
-    → Makes floor (Looks v.thread l (counts v l) ∷ []) v w → HasMissed floor l mode v w
-missed_once floor l mode v w found covered m bare other is miss =
-    let x = v.share.doing in
-    let kind : Kind = (config_in floor).kind l in
-    let look : Look = record { lock = l; word = word_of found } in
-    let it_counts : counts v l ≡ true = counts_first floor v l m.looks.nothing_out m.looks.no_round m.unheld in
-    record {
-      missed = 1;
-      first = record {
-        first = subst (λ hs. FirstMisses kind hs 1) (sym bare) (omega arith, one_may_miss kind);
-        next = word_of found;
-        misses = one_missed 0 (word_of 0) (word_of found) none_missed (free_plainly kind mode covered.mutex)
-            (subst (λ b. Makes floor (Looks v.thread l b ∷ []) v w) it_counts miss)
-            (ap (λ (k : Knowledge). k.share.doing.last_look) is) (other_word found 0 other);
-      };
-      looks = suc x.looks;
-      counted = omega arith;
-      all = suc x.looks_in_all;
-      last = Some look;
-      seen = Some look;
-      its = λ it e. (sym (ap lock_of e), bare);
-      knows = is
-          ∙ (λ i. seeing w.seen (with_looks_counted v (cond (it_counts i) (suc x.looks) x.looks) (suc x.looks_in_all)
-          (Some look) (Some look)));
-    }
-  where
-    lock_of : Option Look → ℕ
-    lock_of None = l
-    lock_of (Some it) = it.lock
 
 pub is_checking : (floor : Description) (l : ℕ) (mode : Mode) (v w : Knowledge) → IsAtRest floor v
     → hold_in v.share.held l ≡ NotHeld → length v.share.held < most_held → HasMissed floor l mode v w
@@ -355,23 +307,7 @@ gaining l v m = record {
 }
 
 module _ (floor : Description) (l : LockNo) (mode : Mode) (old : Knowledge) where
-  -- it gained the lock at once
-  pub gained_at_once : MayGain floor l.0 old → (v : Knowledge) → GainsAtOnce floor (as_taken l mode) old v
-      → HasGained l mode old v
-  gained_at_once m v g = record {
-    before = sought old l.0 false;
-    kept = refl;
-    gaining = record {
-      unheld = m.unheld;
-      takes = ap (λ w. taking_from false w l.0 old.share.doing.taking) m.wants_nothing;
-      no_walk = m.no_walk;
-      runs = m.looks.runs;
-      nothing_out = m.looks.nothing_out;
-    };
-    view = g.view;
-  }
-
-  -- or in its round
+  -- it gained the lock in its round
   pub gained_in_round : (v : Knowledge) (n : ℕ) → IsSeeking l.0 old → SpinsThenGains floor (as_taken l mode) n old v
       → HasGained l mode old v
   gained_in_round v n m s = record {

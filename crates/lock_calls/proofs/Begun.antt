@@ -1,37 +1,38 @@
 -- A take has begun: by its first exchange it gained the lock, or the lock's order is to be checked.
-use Rattle.std.proofs.Common.{◌≡◌, true, [], ◌∷◌, refl, sym, ap, ◌∙◌, subst, arith}
+use Rattle.std.proofs.Common.{◌≡◌, [], ◌∷◌, sym, ap, ◌∙◌, subst, arith}
 use Rattle.lock_model.specs.declared.event.Event.TheVariants.{Locked}
 use Rattle.lock_model.specs.declared.numbers.LockNo.{LockNo}
 use Rattle.lock_model.specs.declared.plan.Mode.{Mode}
 use Rattle.lock_state.specs.Steps.{Stamps}
 use Rattle.floor_table.specs.declared.description.Description.{Description}
-use Rattle.floor_table.specs.Steps.{Makes, MakesEach}
+use Rattle.floor_table.specs.Steps.{Makes}
 use Rattle.floor_table.specs.Views.{Knowledge}
 use Rattle.lock_floor.specs.declared.calls.Call.TheVariants as calls
 use Rattle.lock_floor.specs.declared.calls.TakeAt.TheVariants.{Checks}
 use Rattle.lock_floor.specs.Floors.{Pass}
 use Rattle.lock_floor.specs.Passes.{IsAtRest}
 use Rattle.lock_calls.specs.declared.answers.Next.TheVariants.{Done, Again}
-use Rattle.lock_calls.specs.Steps.{MayTake, HasMissedFirst, as_taken, gains_at_once}
+use Rattle.lock_calls.specs.Steps.{MayTake, HasMissedFirst}
 use Rattle.lock_calls.specs.Takes.{IsUnderTake, HasTaken, HasBegunTake}
-use Rattle.lock_calls.specs.Waiting.{Kept, kept_of, IsCalling, GainsAtOnce, HasMissed}
+use Rattle.lock_calls.specs.Waiting.{Kept, kept_of, IsCalling, HasGainedFirst, HasMissed}
 use Rattle.lock_calls.proofs.Attempts.{is_checking}
 use Rattle.lock_calls.proofs.Calls.{call_noted, view_noted}
 
 pub gains_first : (floor : Description) (l : LockNo) (mode : Mode) (old v new q : Pass Knowledge)
-    → old.view.share.held ≡ [] → GainsAtOnce floor (as_taken l mode) old.view v.view
+    → old.view.share.held ≡ [] → HasGainedFirst floor l mode old.view v.view
     → HasTaken floor l mode old.view new.view
     → Makes floor (Stamps old.view.thread (Locked l mode) ∷ []) v.view new.view → q ≡ record new { call = calls.None }
     → HasBegunTake floor l mode Done old q
-gains_first floor l mode old v new q bare gains taken notes is =
-    let same : new.view ≡ q.view = sym (view_noted new q calls.None is) in (
-      call_noted new q calls.None is,
-      bare,
-      subst (HasTaken floor l mode old.view) same taken,
-      subst (λ k. MakesEach floor (gains_at_once old.view.thread l.0 mode
-          ∷ (Stamps old.view.thread (Locked l mode) ∷ []) ∷ []) old.view k) same
-          (v.view, gains.step, (new.view, notes, refl)),
-    )
+gains_first floor l mode old v new q bare gained taken notes is =
+    let same : new.view ≡ q.view = sym (view_noted new q calls.None is) in
+    record {
+      call = call_noted new q calls.None is;
+      bare = bare;
+      taken = subst (HasTaken floor l mode old.view) same taken;
+      gained = v.view;
+      gains = gained.gains;
+      notes = subst (Makes floor (Stamps old.view.thread (Locked l mode) ∷ []) v.view) same notes;
+    }
 
 pub has_begun : (floor : Description) (l : LockNo) (mode : Mode) (old v q : Pass Knowledge)
     → MayTake floor l.0 mode old.view

@@ -39,16 +39,19 @@ module _ (l m : LockNo) (x y : Mode) (a b : TakeAt) where
       lock : Call → LockNo
       lock calls.None = l
       lock (calls.Take k z c) = k
+      lock (calls.Try k z c) = l
       lock (calls.Release k z c) = l
 
       mode : Call → Mode
       mode calls.None = x
       mode (calls.Take k z c) = z
+      mode (calls.Try k z c) = x
       mode (calls.Release k z c) = x
 
       at : Call → TakeAt
       at calls.None = a
       at (calls.Take k z c) = c
+      at (calls.Try k z c) = a
       at (calls.Release k z c) = a
 
 module _ (floor : Description) (p : Pass Knowledge) (l : LockNo) (mode : Mode) (at : TakeAt)
@@ -103,16 +106,19 @@ module _ (l m : LockNo) (x y : Mode) (a b : ReleaseAt) where
       lock : Call → LockNo
       lock calls.None = l
       lock (calls.Take k z c) = l
+      lock (calls.Try k z c) = l
       lock (calls.Release k z c) = k
 
       mode : Call → Mode
       mode calls.None = x
       mode (calls.Take k z c) = x
+      mode (calls.Try k z c) = x
       mode (calls.Release k z c) = z
 
       at : Call → ReleaseAt
       at calls.None = a
       at (calls.Take k z c) = a
+      at (calls.Try k z c) = a
       at (calls.Release k z c) = c
 
 module _ (floor : Description) (p : Pass Knowledge) (l : LockNo) (mode : Mode) (at : ReleaseAt)

@@ -1,29 +1,29 @@
 -- A take and a release that wait, part after part.
-use Rattle.std.proofs.Common.{◌≡◌, ◌⊎◌, inl, inr, ◌<◌, [], ◌∷◌, length, refl, sym, ap, ◌∙◌, subst}
+use Rattle.std.proofs.Common.{◌≡◌, ◌⊎◌, inl, inr, ◌<◌, length, refl, ap, ◌∙◌, subst, arith}
 use Rattle.lock_model.specs.declared.event.Event.{Event}
 use Rattle.lock_model.specs.declared.event.Reversal.{Reversal}
 use Rattle.lock_model.specs.declared.numbers.LockNo.{LockNo}
 use Rattle.lock_model.specs.declared.numbers.ThreadNo.{ThreadNo}
 use Rattle.lock_model.specs.declared.plan.Mode.{Mode}
+use Rattle.lock_model.specs.declared.plan.Mode.TheVariants.{Excl, Shared}
 use Rattle.lock_model.specs.Operations.{without_lock}
-use Rattle.lock_state.specs.Steps.{Stamps}
 use Rattle.floor_table.specs.declared.description.Description.{Description}
-use Rattle.floor_table.specs.Steps.{Makes, MakesEach}
+use Rattle.floor_table.specs.Steps.{MakesEach}
 use Rattle.floor_table.specs.Views.{Knowledge}
 use Rattle.lock_floor.specs.declared.calls.Call.TheVariants as calls
 use Rattle.lock_floor.specs.declared.calls.ReleaseAt.{ReleaseAt}
-use Rattle.lock_floor.specs.declared.calls.ReleaseAt.TheVariants.{ComesTo, Wakes}
+use Rattle.lock_floor.specs.declared.calls.ReleaseAt.TheVariants.{Wakes}
 use Rattle.lock_floor.specs.declared.calls.TakeAt.{TakeAt}
 use Rattle.lock_floor.specs.declared.calls.TakeAt.TheVariants.{Checks}
 use Rattle.lock_floor.specs.Floors.{Pass}
 use Rattle.lock_floor.specs.Passes.{IsAtRest, MakesEntry}
-use Rattle.lock_floor.proofs.Taking.{waits_none}
 use Rattle.lock_calls.specs.declared.answers.Next.{Next}
 use Rattle.lock_calls.specs.declared.answers.Next.TheVariants.{Done, Again, Sleep, Wake, Reversed}
 use Rattle.lock_calls.specs.Releases as released
 use Rattle.lock_calls.specs.Releases.{IsUnderRelease, HasBegunRelease, StandsInRelease, ReleasesAtOnce, EndsRelease, WakesOne, GoesOnReleasing, noted_of}
-use Rattle.lock_calls.specs.Steps.{Locks, Release, AtOnce, unlocks, at_once}
-use Rattle.lock_calls.specs.Takes.{IsUnderTake, HasTaken, IsRefused, HasBegunTake, BeginsTake, StandsInTake, EndsRefused, GoesOnTaking}
+use Rattle.lock_calls.specs.Choices.{outside}
+use Rattle.lock_calls.specs.Steps.{Locks, Release, ByDrop, IsReleaseIn, unlocks, at_once}
+use Rattle.lock_calls.specs.Takes.{IsUnderTake, HasTaken, IsRefused, HasBegunTake, TakesAtOnce, BeginsTake, StandsInTake, EndsRefused, GoesOnTaking}
 use Rattle.lock_calls.specs.Waiting.{Kept, kept_of}
 use Rattle.lock_calls.proofs.Let as let_go
 use Rattle.lock_calls.proofs.Let.{HasNoted}
@@ -47,15 +47,10 @@ module _ (floor : Description) (l : LockNo) (mode : Mode) (next : Next) (p q : P
     (b : HasBegunTake floor l mode next p q) where
   pub locked_at_once : next ≡ Done → HasLocked floor l mode p.view q.view
   locked_at_once is =
-      let d = subst (λ n. HasBegunTake floor l mode n p q) is b in
-      let m = d.3 in
+      let d : TakesAtOnce floor l mode p q = subst (λ n. HasBegunTake floor l mode n p q) is b in
       record {
-        taken = d.2;
-        locks = record {
-          gained = m.0;
-          gains = at_once d.1 (m.0, m.1, refl);
-          notes = subst (λ k. Makes floor (Stamps p.view.thread (Event.Locked l mode) ∷ []) m.0 k) m.2.2 m.2.1;
-        };
+        taken = d.taken;
+        locks = record { gained = d.gained; gains = at_once d.bare d.gains; notes = d.notes };
       }
 
   pub stands_begun : next ≡ Again → StandsSince floor l mode p.view q
@@ -122,7 +117,13 @@ pub record HasUnlocked (floor : Description) (l : LockNo) (mode : Mode) (begun n
   pub rest : IsAtRest floor new
   pub entry : MakesEntry floor (Event.Unlocked l mode) (without_lock l.0 begun.share.held) begun new
   pub how : Release
+  pub is_so : IsReleaseIn mode how
   pub steps : MakesEach floor (unlocks floor begun.thread l mode how) begun new
+
+-- one exchange makes a release in each mode
+at_once_so : (mode : Mode) → IsReleaseIn mode (ByDrop 0)
+at_once_so Excl = refl
+at_once_so Shared = tt
 
 -- where it stands
 pub record ReleasesSince (floor : Description) (l : LockNo) (mode : Mode) (begun : Knowledge) (p : Pass Knowledge) :
@@ -142,23 +143,18 @@ module _ (floor : Description) (l : LockNo) (mode : Mode) (next : Next) (p q : P
   pub unlocked_at_once : next ≡ Done → HasUnlocked floor l mode p.view q.view
   unlocked_at_once is =
       let d = (subst (λ n. HasBegunRelease floor l mode n p q) is b).1 in
-      record { rest = d.rest; entry = d.entry; how = AtOnce; steps = d.steps }
+      record { rest = d.rest; entry = d.entry; how = ByDrop 0; is_so = at_once_so mode; steps = d.steps }
 
   pub releases_begun : next ≡ Again → ReleasesSince floor l mode p.view q
   releases_begun is =
       let d : released.BeginsRelease floor l mode p q = subst (λ n. HasBegunRelease floor l mode n p q) is b in
       record {
-        at = ComesTo;
+        at = outside mode d.found;
         call = d.call;
         under = d.there;
         noted = record { first = q.view; entry = d.entry; still = refl };
-        is_at = record {
-          came = q.view;
-          has_let = d.steps;
-          waited = waits_none q.view;
-          held = d.entry.held;
-          settled = λ e nobody. refl;
-        };
+        is_at = let_go.at_outside floor l mode p.view q.view d.found
+            (record { k = 1; some = omega arith; once = λ e. refl; each = d.steps }) d.entry.held;
       }
 
   pub release_begins_on : (next ≡ Sleep) ⊎ (((t : ThreadNo) × (next ≡ Wake t)) ⊎ ((r : Reversal) × (next ≡ Reversed r)))
@@ -175,17 +171,15 @@ module _ (floor : Description) (l : LockNo) (mode : Mode) (begun : Knowledge) (p
 
   pub unlocked : next ≡ Done → HasUnlocked floor l mode begun q.view
   unlocked is =
-      let d : EndsRelease floor s.at p q = subst (λ n. GoesOnReleasing floor l mode s.at n p q) is w in
-      let h : let_go.IsAt floor l mode begun Wakes p.view =
-      subst (λ a. let_go.IsAt floor l mode begun a p.view) d.at_end s.is_at in
+      let d : EndsRelease floor l mode s.at p q = subst (λ n. GoesOnReleasing floor l mode s.at n p q) is w in
+      let end = let_go.ends_at floor l mode begun p.view q.view s.at its_own s.is_at d.released.end in
       record {
-        rest = d.rest;
-        entry = subst (λ k. MakesEntry floor (Event.Unlocked l mode) (without_lock l.0 begun.share.held) begun k)
-            (sym d.same)
-            (let_go.entry_since floor l mode begun s.noted.first p.view s.noted.entry s.noted.still h.held);
-        how = h.has_let.how;
-        steps = subst (λ k. MakesEach floor (unlocks floor begun.thread l mode h.has_let.how) begun k) (sym d.same)
-            (let_go.ends floor l mode begun p.view h d.nobody);
+        rest = d.released.rest;
+        entry = let_go.entry_since floor l mode begun s.noted.first q.view s.noted.entry
+            (d.released.noted ∙ s.noted.still) end.held;
+        how = end.how;
+        is_so = end.is_so;
+        steps = end.steps;
       }
 
   pub releases_on : next ≡ Again → ReleasesSince floor l mode begun q

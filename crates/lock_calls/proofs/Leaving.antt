@@ -1,10 +1,12 @@
 -- A release from its first exchange on: it comes to the section of the lock's chain, makes the lock free there, gives
 -- both back, and wakes those whom it took off. Where it stands behind each part.
 use Rattle.std.proofs.Common.{◌≡◌, ℕ, ◌<◌, suc, Bool, true, false, cond, Option, Some, None, List, [], ◌∷◌, length, refl, sym, ap, ◌∙◌, subst}
+use Rattle.std.specs.Prelude.{if◌then◌else◌}
 use Rattle.lock_model.specs.Queues.{lock_queue}
-use Rattle.lock_model.specs.Words.{word_of, IsWellFormed, is_turnstile}
+use Rattle.lock_model.specs.Words.{Word, word_of, IsWellFormed, is_turnstile, is_drop}
 use Rattle.lock_model.specs.declared.numbers.LockNo.{LockNo}
 use Rattle.lock_model.specs.declared.plan.Mode.{Mode}
+use Rattle.lock_model.specs.declared.plan.Mode.TheVariants.{Excl, Shared}
 use Rattle.lock_state.specs.State.{Look}
 use Rattle.lock_state.specs.Steps.{Step, Looks, TakesItem, IsOfRound}
 use Rattle.lock_state.specs.Steps.Items.{RecordOf, item_with, in_its_chain, is_bound}
@@ -13,6 +15,7 @@ use Rattle.floor_table.specs.declared.description.Description.{Description}
 use Rattle.floor_table.specs.declared.slot.Slot.TheVariants.{Turnstiles}
 use Rattle.floor_table.specs.Steps.{Makes, MakesEach, MayMake}
 use Rattle.floor_table.specs.Views.{Runs, is_off_queues, Knowledge, seeing}
+use Rattle.lock_floor.specs.declared.calls.ReleaseAt.TheVariants as places
 use Rattle.lock_floor.specs.declared.calls.ReleaseAt.TheVariants.{ComesTo, ComesIn, Frees, Wakes}
 use Rattle.lock_floor.specs.Latches.{FindsOut, Takes}
 use Rattle.lock_floor.specs.Marks.{CanMark, WakesFirst, with_marks}
@@ -24,8 +27,10 @@ use Rattle.lock_floor.proofs.InSection.{chain_out, record_out}
 use Rattle.lock_floor.proofs.MayWait as wait
 use Rattle.lock_floor.proofs.MayWait.{is_a_chain}
 use Rattle.lock_floor.proofs.May.{counts_not}
+use Rattle.lock_floor.proofs.MayWake.{runners_mark}
 use Rattle.lock_floor.proofs.Resting.{rest_seeing}
-use Rattle.lock_calls.specs.Releases.{IsLeaving, LeavesWithChain, LeavesWithBoth, ReleasesOn, noted_of, takes_chain, comes_in, looks, makes_free, finds_out}
+use Rattle.lock_calls.specs.Choices.{outside}
+use Rattle.lock_calls.specs.Releases.{IsLeaving, LeavesWithChain, LeavesWithBoth, IsReleasing, ReleasesOn, noted_of, takes_chain, comes_in, looks, makes_free, finds_out}
 use Rattle.lock_calls.specs.Steps.{gives_both}
 use Rattle.lock_calls.specs.Waiting.{with_looks, with_none_out, MayLetGo, IsOwn, LetsGo, MissesOwn}
 use Rattle.lock_calls.proofs.Looks.{look_knows, wants_none}
@@ -107,6 +112,27 @@ pub leaving_still : (floor : Description) (l : ℕ) (mode : Mode) (v w : Knowled
     → IsLeaving floor l mode v → IsLeaving floor l mode w
 leaving_still floor l mode v w view m = subst (IsLeaving floor l mode) (sym view)
     (leaving_seeing floor l mode v m w.seen)
+
+-- behind a look too
+pub leaving_behind : (floor : Description) (l : ℕ) (mode : Mode) (v w : Knowledge) (word : Word)
+    → w ≡ seeing w.seen (looked v l word) → IsLeaving floor l mode v → IsLeaving floor l mode w
+leaving_behind floor l mode v w word view m =
+    let quiet : counts v l ≡ false = counts_not floor v l mode m.may.looks.no_round m.may.held in
+    let saw : Option Look = Some (record { lock = l; word = word }) in
+    let all : ℕ = suc v.share.doing.looks_in_all in
+    leaving_still floor l mode (with_looks v all saw saw) w
+    (view ∙ ap (seeing w.seen) (look_knows floor v l quiet word)) (leaving_looked floor l mode v m all saw saw)
+
+-- so it may drop the lock still, or goes to its chain
+pub stands_outside : (floor : Description) (l : ℕ) (mode : Mode) (found : ℕ) (v : Knowledge) → IsLeaving floor l mode v
+    → IsOwn v.thread mode found → IsReleasing floor l mode (outside mode found) v
+stands_outside floor l Excl found v m own = m
+stands_outside floor l Shared found v m own = go (is_drop (word_of found)) refl
+  where
+    go : (b : Bool) → is_drop (word_of found) ≡ b
+        → IsReleasing floor l Shared (if b then places.Drops found else ComesTo) v
+    go true e = record { leaving = m; own = own; shared = refl; may = e }
+    go false e = m
 
 -- with both out it may let go
 pub may_let : (floor : Description) (l : ℕ) (mode : Mode) (v : Knowledge) → IsLeaving floor l mode (with_none_out v)
@@ -330,12 +356,8 @@ module _ (floor : Description) (l : LockNo) (mode : Mode) (seen : ℕ) (v w : Kn
 -- 5. Those who are left are woken
 
 pub can_mark : (floor : Description) (v : Knowledge) → IsAtRest floor (with_marks v []) → CanMark v
-can_mark floor v r = record {
-  runs = r.runs;
-  nothing_out = r.nothing_out;
-  going = record { awake = r.going.awake; unended = r.going.unended; stamped = r.going.stamped };
-  uncounted = r.uncounted;
-}
+can_mark floor v r = runners_mark v r.runs r.nothing_out
+    (record { awake = r.going.awake; unended = r.going.unended; stamped = r.going.stamped }) r.uncounted
 
 pub rests_on : (floor : Description) (v w : Knowledge) → IsAtRest floor (with_marks v []) → w ≡ seeing w.seen v
     → IsAtRest floor (with_marks w [])

@@ -1,39 +1,51 @@
 -- A release from its begin on: what the thread has made so far where the release stands, and that its parts together
 -- are a release.
-use Rattle.std.proofs.Common.{◌≡◌, ℕ, ◌+◌, false, List, [], ◌∷◌, ◌++◌, replicate, refl, sym, ap, ◌∙◌, subst}
+use Rattle.std.proofs.Common.{◌≡◌, ℕ, ◌+◌, ◌≤◌, Bool, true, false, List, [], ◌∷◌, ◌++◌, replicate, refl, sym, ap, ◌∙◌, subst, arith}
+use Rattle.std.specs.Prelude.{if◌then◌else◌}
 use Rattle.std.proofs.lemmas.List.{replicate-append-replicate}
 use Rattle.lock_model.specs.Operations.{without_lock}
 use Rattle.lock_model.specs.Queues.{Mark, lock_queue}
+use Rattle.lock_model.specs.Words.{word_of, is_drop}
 use Rattle.lock_model.specs.declared.event.Event.{Event}
 use Rattle.lock_model.specs.declared.event.Held.{Held}
 use Rattle.lock_model.specs.declared.numbers.LockNo.{LockNo}
 use Rattle.lock_model.specs.declared.plan.Mode.{Mode}
-use Rattle.lock_state.specs.Steps.{Step, Looks, Stamps, TakesItem, GivesItem, Marks}
+use Rattle.lock_model.specs.declared.plan.Mode.TheVariants.{Excl, Shared}
+use Rattle.lock_state.specs.Steps.{Step, Looks, Drops, Stamps, TakesItem, GivesItem, Marks}
 use Rattle.lock_state.specs.Steps.Items.{Item, RecordOf}
 use Rattle.floor_table.specs.declared.description.Description.{Description}
 use Rattle.floor_table.specs.Steps.{Makes, MakesEach}
 use Rattle.floor_table.specs.Views.{Knowledge, seeing}
 use Rattle.lock_floor.specs.declared.calls.ReleaseAt.{ReleaseAt}
+use Rattle.lock_floor.specs.declared.calls.ReleaseAt.TheVariants as places
 use Rattle.lock_floor.specs.declared.calls.ReleaseAt.TheVariants.{ComesTo, ComesIn, Frees, Wakes}
 use Rattle.lock_floor.specs.Marks.{WakesFirst, wakes, marking}
 use Rattle.lock_floor.specs.Passes.{MakesEntry}
 use Rattle.lock_floor.specs.Waits.{its_chain}
 use Rattle.lock_floor.proofs.Taking.{HasWaited, waits_none, waits_on}
-use Rattle.lock_calls.specs.Releases.{Noted, noted_of, AwaitsInRelease, ReleaseLeg, takes_chain, comes_in, looks, makes_free, finds_out}
-use Rattle.lock_calls.specs.Steps.{Release, InSection, frees, gives_both, unlocks}
+use Rattle.lock_calls.specs.Choices.{outside}
+use Rattle.lock_calls.specs.Releases.{Noted, noted_of, AwaitsInRelease, ReleaseLeg, misses, takes_chain, comes_in, looks, makes_free, finds_out, ReleaseEnd, puts_down, nobody_left}
+use Rattle.lock_calls.specs.Steps.{Release, ByDrop, InSection, IsReleaseIn, frees, gives_both, unlocks}
 use Rattle.lock_calls.proofs.Looks.{each_append}
 use Rattle.lock_calls.proofs.Waited.{makes_sooner, each_sooner}
 
 -- 1. So far
 
--- the release is noted, and its exchange missed
-abbrev pub begins_release : ℕ → LockNo → Mode → List (List Step)
-begins_release t l mode = (Stamps t (Event.Unlocked l mode) ∷ []) ∷ (Looks t l.0 false ∷ []) ∷ []
+-- the release is noted, and behind that so many exchanges missed
+abbrev pub begins_release : ℕ → LockNo → Mode → ℕ → List (List Step)
+begins_release t l mode k = (Stamps t (Event.Unlocked l mode) ∷ []) ∷ replicate k (Looks t l.0 false ∷ [])
+
+-- one at least did, and of a lock that is held exclusively no more
+pub record HasMissed (floor : Description) (l : LockNo) (mode : Mode) (begun now : Knowledge) : Type 0 where
+  pub k : ℕ
+  pub some : 1 ≤ k
+  pub once : mode ≡ Excl → k ≡ 1
+  pub each : MakesEach floor (begins_release begun.thread l mode k) begun now
 
 -- then it took the lock's chain
 pub record HasTakenChain (floor : Description) (l : LockNo) (mode : Mode) (begun now : Knowledge) : Type 0 where
   pub missed : Knowledge
-  pub begins : MakesEach floor (begins_release begun.thread l mode) begun missed
+  pub begins : HasMissed floor l mode begun missed
   pub took : Makes floor (TakesItem begun.thread (its_chain floor (lock_queue l.0)) ∷ []) missed now
 
 -- and its own record, and looked so often
@@ -48,18 +60,21 @@ pub record HasComeIn (floor : Description) (l : LockNo) (mode : Mode) (begun now
 -- the lock is free, and once it has woken those who are left it has made a whole release
 pub record HasFreed (floor : Description) (l : LockNo) (mode : Mode) (begun now : Knowledge) : Type 0 where
   pub how : Release
+  pub is_so : IsReleaseIn mode how
   pub whole : (z : Knowledge) → MakesEach floor (marking begun.thread now.share.doing.marked) now z
       → MakesEach floor (unlocks floor begun.thread l mode how) begun z
 
 -- so at each place
 abbrev pub HasLet : Description → LockNo → Mode → Knowledge → ReleaseAt → Knowledge → Type 0
-HasLet floor l mode begun ComesTo now = MakesEach floor (begins_release begun.thread l mode) begun now
+HasLet floor l mode begun (places.Drops seen) now = HasMissed floor l mode begun now
+HasLet floor l mode begun ComesTo now = HasMissed floor l mode begun now
 HasLet floor l mode begun ComesIn now = HasTakenChain floor l mode begun now
 HasLet floor l mode begun (Frees seen) now = HasComeIn floor l mode begun now
 HasLet floor l mode begun Wakes now = HasFreed floor l mode begun now
 
 -- the locks that it holds then
 abbrev pub held_at : LockNo → List Held → ReleaseAt → List Held
+held_at l hs (places.Drops seen) = hs
 held_at l hs ComesTo = hs
 held_at l hs ComesIn = hs
 held_at l hs (Frees seen) = hs
@@ -78,6 +93,7 @@ pub record IsAt (floor : Description) (l : LockNo) (mode : Mode) (begun : Knowle
 -- who found out what it needs to wake somebody has somebody to wake
 nobody_waits : (floor : Description) (l : ℕ) (at : ReleaseAt) (i : Item) (old new : Knowledge)
     → AwaitsInRelease floor l at old i → new ≡ seeing new.seen old → at ≡ Wakes → new.share.doing.marked ≡ [] → ⊥
+nobody_waits floor l (places.Drops seen) i old new needs view is nobody = needs
 nobody_waits floor l ComesTo i old new needs view is nobody = let z : ComesTo ≡ Wakes = is in cc
 nobody_waits floor l ComesIn i old new needs view is nobody = let z : ComesIn ≡ Wakes = is in cc
 nobody_waits floor l (Frees seen) i old new needs view is nobody = needs
@@ -85,6 +101,29 @@ nobody_waits floor l Wakes i old new needs view is nobody =
     let z : needs.0 ∷ needs.1 ≡ [] =
     sym needs.2 ∙ sym (ap (λ (k : Knowledge). k.share.doing.marked) view) ∙ nobody in
     cc
+
+-- a release in the section is one of its mode
+in_section_so : (mode : Mode) (k n : ℕ) (opens : Bool) (ms : List Mark) → 1 ≤ k → (mode ≡ Excl → k ≡ 1)
+    → IsReleaseIn mode (InSection k n opens ms)
+in_section_so Excl k n opens ms some once = once refl
+in_section_so Shared k n opens ms some once = some
+
+-- where it stands behind an exchange that missed
+pub at_outside : (floor : Description) (l : LockNo) (mode : Mode) (begun new : Knowledge) (found : ℕ)
+    → HasMissed floor l mode begun new → new.share.held ≡ begun.share.held
+    → IsAt floor l mode begun (outside mode found) new
+at_outside floor l Excl begun new found h held = record {
+  came = new;
+  has_let = h;
+  waited = waits_none new;
+  held = held;
+  settled = λ e nobody. refl;
+}
+at_outside floor l Shared begun new found h held = go (is_drop (word_of found))
+  where
+    go : (b : Bool) → IsAt floor l Shared begun (if b then places.Drops found else ComesTo) new
+    go true = record { came = new; has_let = h; waited = waits_none new; held = held; settled = λ e nobody. refl }
+    go false = record { came = new; has_let = h; waited = waits_none new; held = held; settled = λ e nobody. refl }
 
 -- 2. From one place to the next
 
@@ -110,6 +149,27 @@ module _ (floor : Description) (l : LockNo) (mode : Mode) (begun : Knowledge) wh
   module _ (now new : Knowledge) (its : now.thread ≡ begun.thread) where
     pub goes_on : (at to : ReleaseAt) → IsAt floor l mode begun at now → ReleaseLeg floor l mode at to now new
         → IsAt floor l mode begun to new
+    goes_on at to h (misses seen found other shared held saw step) =
+        let m = h.has_let in
+        let e = m.each in
+        at_outside floor l mode begun new found
+        (record {
+          k = m.k + 1;
+          some = omega arith;
+          once = λ exclusive. absurd (let z : Shared ≡ Excl = sym shared ∙ exclusive in cc);
+          each = (
+            e.0,
+            e.1,
+            subst (λ xs. MakesEach floor xs e.0 new) (replicate-append-replicate m.k 1 look)
+                (each_append floor (replicate m.k look) (replicate 1 look) e.0 h.came new e.2 (
+                  new,
+                  makes_sooner floor look h.came now new h.waited
+                      (subst (λ u. Makes floor (Looks u l.0 false ∷ []) now new) its step),
+                  refl,
+                )),
+          );
+        })
+        (held ∙ h.held)
     goes_on at to h (takes_chain held step) = record {
       came = new;
       has_let = record {
@@ -161,12 +221,13 @@ module _ (floor : Description) (l : LockNo) (mode : Mode) (begun : Knowledge) wh
         record {
           came = new;
           has_let = record {
-            how = InSection c.n opens marks;
+            how = InSection k.begins.k c.n opens marks;
+            is_so = in_section_so mode k.begins.k c.n opens marks k.begins.some k.begins.once;
             whole = λ z woken.
-                each_append floor (begins_release t l mode)
+                each_append floor (begins_release t l mode k.begins.k)
                 ((TakesItem t (its_chain floor (lock_queue l.0)) ∷ []) ∷ (TakesItem t (RecordOf t) ∷ [])
                 ∷ ((replicate c.n look ++ (frees t l.0 mode opens ∷ []) ∷ [])
-                ++ (gives_both floor t l.0 ++ marking t marks))) begun k.missed z k.begins (
+                ++ (gives_both floor t l.0 ++ marking t marks))) begun k.missed z k.begins.each (
                   c.chain,
                   k.took,
                   (
@@ -208,6 +269,7 @@ module _ (floor : Description) (l : LockNo) (mode : Mode) (begun : Knowledge) wh
           came = new;
           has_let = record {
             how = h.has_let.how;
+            is_so = h.has_let.is_so;
             whole = λ z woken. h.has_let.whole z
                 (subst (λ ms. MakesEach floor (marking t ms) h.came z) (sym all)
                 (each_append floor (wakes t x.mark x.others) (marking t x.others) h.came new z made
@@ -226,11 +288,42 @@ module _ (floor : Description) (l : LockNo) (mode : Mode) (begun now : Knowledge
   none_left : h.came.share.doing.marked ≡ []
   none_left = sym (ap (λ (k : Knowledge). k.share.doing.marked) h.waited.view) ∙ nobody
 
-  pub ends : MakesEach floor (unlocks floor begun.thread l mode h.has_let.how) begun now
+  ends : MakesEach floor (unlocks floor begun.thread l mode h.has_let.how) begun now
   ends = subst (λ k. MakesEach floor (unlocks floor begun.thread l mode h.has_let.how) begun k)
       (sym (h.settled refl nobody))
       (h.has_let.whole h.came
       (subst (λ ms. MakesEach floor (marking begun.thread ms) h.came h.came) (sym none_left) refl))
+
+-- what it has made at its end, and which locks the thread holds then
+pub record HasEnded (floor : Description) (l : LockNo) (mode : Mode) (begun new : Knowledge) : Type 0 where
+  pub held : new.share.held ≡ without_lock l.0 begun.share.held
+  pub how : Release
+  pub is_so : IsReleaseIn mode how
+  pub steps : MakesEach floor (unlocks floor begun.thread l mode how) begun new
+
+pub ends_at : (floor : Description) (l : LockNo) (mode : Mode) (begun now new : Knowledge) (at : ReleaseAt)
+    → now.thread ≡ begun.thread → IsAt floor l mode begun at now → ReleaseEnd floor l mode at now new
+    → HasEnded floor l mode begun new
+ends_at floor l mode begun now new at its h (puts_down seen is_shared held step) =
+    let drop : List Step = Drops begun.thread l.0 mode ∷ [] in
+    let k = h.has_let.k in
+    record {
+      held = held ∙ ap (without_lock l.0) h.held;
+      how = ByDrop k;
+      is_so = subst (λ m. IsReleaseIn m (ByDrop k)) (sym is_shared) tt;
+      steps = each_append floor (begins_release begun.thread l mode k) (drop ∷ []) begun h.came new h.has_let.each (
+        new,
+        makes_sooner floor drop h.came now new h.waited
+            (subst (λ u. Makes floor (Drops u l.0 mode ∷ []) now new) its step),
+        refl,
+      );
+    }
+ends_at floor l mode begun now new at its h (nobody_left nobody) = record {
+  held = h.held;
+  how = h.has_let.how;
+  is_so = h.has_let.is_so;
+  steps = ends floor l mode begun now h nobody;
+}
 
 -- the release is noted since then
 pub record HasNoted (floor : Description) (l : LockNo) (mode : Mode) (begun now : Knowledge) : Type 0 where

@@ -1,8 +1,10 @@
+pub mod First
 pub mod Looks
 pub mod Words
 pub mod Chosen
 pub mod Waited
 pub mod Attempts
+pub mod FirstExchanges
 pub mod Owned
 pub mod Given
 pub mod There
@@ -13,6 +15,7 @@ pub mod Spun
 pub mod Contended
 pub mod Standing
 pub mod Leaving
+pub mod Outside
 pub mod Released
 pub mod Taken
 pub mod Let
@@ -20,3 +23,9 @@ pub mod Calls
 pub mod Begun
 pub mod Woken
 pub mod Driven
+pub mod TriedRound
+pub mod TriedThere
+pub mod TriedEnd
+pub mod TriedOn
+pub mod TriedSince
+pub mod TriedCalls

@@ -1,22 +1,21 @@
 -- A release is noted, and then it makes one exchange: each step may be made. Where the exchange hits, the thread is at
 -- rest again; where it misses, the release is under way.
-use Rattle.std.proofs.Common.{◌≡◌, ◌≢◌, ℕ, suc, ◌+◌, ◌<◌, ◌≤◌, Bool, true, false, Option, Some, [], ◌∷◌, length, refl, sym, ap, ◌∙◌, subst, arith}
+use Rattle.std.proofs.Common.{◌≡◌, ◌≢◌, ℕ, ◌+◌, ◌<◌, ◌≤◌, Bool, true, false, [], ◌∷◌, length, refl, sym, ap, ◌∙◌, subst, arith}
 use Rattle.lock_model.specs.Holds.{NotHeld, Holds}
 use Rattle.lock_model.specs.Operations.{hold_in, without_lock}
-use Rattle.lock_model.specs.Words.{Word, word_of, gained, is_drop}
+use Rattle.lock_model.specs.Words.{Word, word_of, IsWellFormed, gained, is_drop}
 use Rattle.lock_model.specs.declared.event.Event.{Event}
 use Rattle.lock_model.specs.declared.event.Event.TheVariants.{Unlocked}
 use Rattle.lock_model.specs.declared.numbers.LockNo.{LockNo}
 use Rattle.lock_model.specs.declared.plan.Mode.{Mode}
 use Rattle.lock_model.specs.declared.plan.Mode.TheVariants.{Excl, Shared}
-use Rattle.lock_state.specs.State.{State, Look}
+use Rattle.lock_state.specs.State.{State}
 use Rattle.lock_state.specs.Steps.{Looks, Drops, Stamps, HasOutForEntry, NotesInRound}
 use Rattle.lock_state.specs.Steps.LockWords.{Asks}
 use Rattle.floor_table.specs.Descriptions.{config_in}
 use Rattle.floor_table.specs.declared.description.Description.{Description}
 use Rattle.floor_table.specs.Steps.{Fits, Makes, MakesEach, MayMake}
 use Rattle.floor_table.specs.Views.{Knowledge, seeing}
-use Rattle.lock_floor.specs.declared.calls.ReleaseAt.TheVariants.{ComesTo}
 use Rattle.lock_floor.specs.declared.calls.Call.TheVariants as calls
 use Rattle.lock_floor.specs.Floors.{Pass}
 use Rattle.lock_floor.specs.Passes.{IsAtRest, MakesEntry}
@@ -25,12 +24,14 @@ use Rattle.lock_floor.proofs.Gaining.{dropped_unheld}
 use Rattle.lock_floor.proofs.May.{own_log, counts_not, may_drop, may_stamp}
 use Rattle.lock_floor.proofs.Resting.{leaves, rest_left, rest_seeing}
 use Rattle.lock_words.specs.Views.{IsHeldIn}
-use Rattle.lock_calls.specs.Releases.{IsLeaving, BeginsRelease, ReleasesAtOnce}
+use Rattle.lock_calls.specs.Choices.{outside}
+use Rattle.lock_calls.specs.Releases.{IsLeaving, IsReleasing, BeginsRelease, ReleasesAtOnce}
 use Rattle.lock_calls.specs.Steps.{MayRelease}
-use Rattle.lock_calls.specs.Waiting.{with_looks, MayPutDown}
+use Rattle.lock_calls.specs.Waiting.{IsOwn, MayPutDown}
 use Rattle.lock_calls.proofs.Calls.{call_noted, view_noted}
-use Rattle.lock_calls.proofs.Leaving.{leaving_looked, leaving_still}
-use Rattle.lock_calls.proofs.Looks.{look_knows, may_look_on}
+use Rattle.lock_calls.proofs.Leaving.{leaving_behind, stands_outside}
+use Rattle.lock_calls.proofs.Owned.{saw_own}
+use Rattle.lock_calls.proofs.Looks.{may_look_on}
 use Rattle.lock_calls.proofs.Words.{other_word}
 
 -- 1. The entry
@@ -159,16 +160,6 @@ module _ (floor : Description) (l : LockNo) (mode : Mode) (ticket : ℕ) (old v 
 
     -- or its exchange missed
     module _ (word : Word) (view : new ≡ seeing new.seen (looked v l.0 word)) where
-      pub leaving_missed : IsLeaving floor l.0 mode new
-      leaving_missed =
-          let quiet : counts v l.0 ≡ false =
-          counts_not floor v l.0 mode leaving_noted.may.looks.no_round leaving_noted.may.held in
-          let saw : Option Look = Some (record { lock = l.0; word = word }) in
-          let all : ℕ = suc v.share.doing.looks_in_all in
-          leaving_still floor l.0 mode (with_looks v all saw saw) new
-          (view ∙ ap (seeing new.seen) (look_knows floor v l.0 quiet word))
-          (leaving_looked floor l.0 mode v leaving_noted all saw saw)
-
       pub noted_so_far : Makes floor (Stamps old.thread e ∷ []) old v
           → MakesEntry floor e old.share.held old new
       noted_so_far step =
@@ -207,27 +198,34 @@ pub begins : (floor : Description) (l : LockNo) (mode : Mode) (ticket : ℕ) (ol
     (held : hold_in old.share.held l.0 ≡ Holds mode) (room : 1 ≤ old.spare) (p u q : Pass Knowledge)
     → MayRelease floor l.0 mode p.view → p.view ≡ old
     → (says : v ≡ seeing v.seen (stamped (config_in floor) old (entry_by old.thread ticket (Unlocked l mode))))
-    → Makes floor (Stamps old.thread (Unlocked l mode) ∷ []) old v → (word : Word)
-    → word ≢ gained (word_of 0) old.thread mode → u.view ≡ seeing u.view.seen (looked v l.0 word)
+    → Makes floor (Stamps old.thread (Unlocked l mode) ∷ []) old v → (found : ℕ) → IsWellFormed (word_of found)
+    → word_of found ≢ gained (word_of 0) old.thread mode → u.view ≡ seeing u.view.seen (looked v l.0 (word_of found))
     → Makes floor (Looks v.thread l.0 (counts v l.0) ∷ []) v u.view
-    → q ≡ record u { call = calls.Release l mode ComesTo } → BeginsRelease floor l mode p q
-begins floor l mode ticket old v r held room p u q may is says step word other view look noted =
+    → q ≡ record u { call = calls.Release l mode (outside mode found) } → BeginsRelease floor l mode p q
+begins floor l mode ticket old v r held room p u q may is says step found formed other view look noted =
     subst (λ k. BeginsRelease floor l mode (record p { view = k }) q) (sym is) record {
-      call = call_noted u q (calls.Release l mode ComesTo) noted;
+      found = found;
+      call = call_noted u q (calls.Release l mode (outside mode found)) noted;
       there = record {
         covered = may.covered;
-        there = subst (IsLeaving floor l.0 mode) same
-            (leaving_missed floor l mode ticket old v u.view r held room says word view);
+        there = subst (IsReleasing floor l.0 mode (outside mode found)) same
+            (stands_outside floor l.0 mode found u.view
+            (leaving_behind floor l.0 mode v u.view (word_of found) view leaving)
+            (subst (λ t. IsOwn t mode found) (sym (ap (λ (k : Knowledge). k.thread) view))
+            (saw_own floor l.0 mode found (counts v l.0) v u.view leaving.may.held formed view look)));
       };
-      found = word;
       saw = ap (λ (k : Knowledge). k.share.doing.last_look) (sym same ∙ view);
       other = other;
       entry = subst (λ k. MakesEntry floor (Unlocked l mode) old.share.held old k) same
-          (noted_so_far floor l mode ticket old v u.view r held room says word view step);
+          (noted_so_far floor l mode ticket old v u.view r held room says (word_of found) view step);
       steps = subst (λ k. MakesEach floor
           ((Stamps old.thread (Unlocked l mode) ∷ []) ∷ (Looks old.thread l.0 false ∷ [])
-          ∷ []) old k) same (begin_steps floor l mode ticket old v u.view r held room says word view step look);
+          ∷ []) old k) same (begin_steps floor l mode ticket old v u.view r held room says (word_of found) view step
+          look);
     }
   where
     same : u.view ≡ q.view
-    same = sym (view_noted u q (calls.Release l mode ComesTo) noted)
+    same = sym (view_noted u q (calls.Release l mode (outside mode found)) noted)
+
+    leaving : IsLeaving floor l.0 mode v
+    leaving = leaving_noted floor l mode ticket old v u.view r held room says

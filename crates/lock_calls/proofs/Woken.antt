@@ -13,7 +13,7 @@ use Rattle.lock_floor.specs.Marks.{WakesFirst, with_marks}
 use Rattle.lock_floor.specs.Passes.{IsAtRest}
 use Rattle.lock_calls.specs.declared.answers.Next.{Next}
 use Rattle.lock_calls.specs.declared.answers.Next.TheVariants.{Done, Again, Sleep, Wake, Reversed}
-use Rattle.lock_calls.specs.Releases.{ReleasesOn, GoesOnReleasing, WakesNext, noted_of, finds_out}
+use Rattle.lock_calls.specs.Releases.{IsReleased, ReleasesOn, GoesOnReleasing, WakesNext, noted_of, nobody_left, finds_out}
 use Rattle.lock_calls.proofs.Calls.{call_noted, view_noted}
 use Rattle.lock_calls.proofs.Leaving.{rests, rests_on, rests_woken}
 
@@ -41,10 +41,11 @@ module _ (floor : Description) (l : LockNo) (mode : Mode) (old v q : Pass Knowle
         let same : q.view ≡ old.view = view_noted v q calls.None is ∙ w.1 in
         record {
           call = call_noted v q calls.None is;
-          at_end = refl;
-          nobody = w.0;
-          same = same;
-          rest = subst (IsAtRest floor) (sym same) (rests floor old.view rest w.0);
+          released = subst (IsReleased floor l mode Wakes old.view) (sym same) record {
+            rest = rests floor old.view rest w.0;
+            noted = refl;
+            end = nobody_left w.0;
+          };
         }
 
     pub wakes_else : (next : Next) → (next ≡ Done → ⊥) → WakesNext floor next old.view v.view

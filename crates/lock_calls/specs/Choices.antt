@@ -1,8 +1,12 @@
--- What a thread that takes a lock does with the word that it saw.
-use Rattle.std.specs.Prelude.{if◌then◌else◌}
-use Rattle.lock_model.specs.Words.{Word, admits, is_plain}
+-- What a thread that takes or releases a lock does with the word that it saw.
+use Rattle.std.specs.Prelude.{ℕ, if◌then◌else◌}
+use Rattle.lock_model.specs.Words.{Word, word_of, admits, is_plain, is_drop}
 use Rattle.lock_model.specs.declared.plan.Kind.{Kind}
 use Rattle.lock_model.specs.declared.plan.Mode.{Mode}
+use Rattle.lock_model.specs.declared.plan.Mode.TheVariants.{Excl, Shared}
+use Rattle.lock_floor.specs.declared.calls.ReleaseAt.{ReleaseAt}
+use Rattle.lock_floor.specs.declared.calls.ReleaseAt.TheVariants as places
+use Rattle.lock_floor.specs.declared.calls.ReleaseAt.TheVariants.{ComesTo}
 use Rattle.lock_calls.specs.declared.courses.Course.{Course}
 use Rattle.lock_calls.specs.declared.courses.Course.TheVariants.{Plainly, ByClaim, MustWait}
 
@@ -10,3 +14,9 @@ use Rattle.lock_calls.specs.declared.courses.Course.TheVariants.{Plainly, ByClai
 abbrev pub course : Kind → Word → Mode → Course
 course kind w mode =
     if admits kind w mode then (if is_plain kind w mode then Plainly else ByClaim) else MustWait
+
+-- Where a release stands whose exchange outside the section of the lock's chain missed, and found that word. Who holds
+-- the lock shared may drop it still, where another holder stays or nobody waits; else it goes to the lock's chain
+abbrev pub outside : Mode → ℕ → ReleaseAt
+outside Excl found = ComesTo
+outside Shared found = if is_drop (word_of found) then places.Drops found else ComesTo

@@ -2,4 +2,5 @@ pub mod Choices
 pub mod Steps
 pub mod Waiting
 pub mod Takes
+pub mod Tries
 pub mod Releases

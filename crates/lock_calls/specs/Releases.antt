@@ -1,16 +1,17 @@
 -- A release as a call that stands at places: what the thread knows at each, what it does from one to the next, and how
 -- the release ends. It is noted at its begin.
-use Rattle.std.specs.Prelude.{◌≡◌, ◌≢◌, ℕ, ◌<◌, Bool, false, List, [], ◌∷◌, length}
+use Rattle.std.specs.Prelude.{◌≡◌, ◌≢◌, ℕ, ◌<◌, Bool, true, false, List, [], ◌∷◌, length}
 use Rattle.lock_model.specs.Holds.{NotHeld}
 use Rattle.lock_model.specs.Operations.{hold_in, without_lock}
 use Rattle.lock_model.specs.Queues.{Mark, lock_queue}
-use Rattle.lock_model.specs.Words.{Word, word_of, gained}
+use Rattle.lock_model.specs.Words.{word_of, gained, is_drop}
 use Rattle.lock_model.specs.declared.event.Entry.{Entry}
 use Rattle.lock_model.specs.declared.event.Event.{Event}
 use Rattle.lock_model.specs.declared.numbers.LockNo.{LockNo}
 use Rattle.lock_model.specs.declared.plan.Mode.{Mode}
+use Rattle.lock_model.specs.declared.plan.Mode.TheVariants.{Shared}
 use Rattle.lock_model.specs.declared.plan.QueueName.{QueueName}
-use Rattle.lock_state.specs.Steps.{Looks, Stamps, TakesItem}
+use Rattle.lock_state.specs.Steps.{Looks, Drops, Stamps, TakesItem}
 use Rattle.lock_state.specs.Steps.Items.{Item, RecordOf}
 use Rattle.turnstile_core.specs.Seen.{Turnstile}
 use Rattle.floor_table.specs.declared.description.Description.{Description}
@@ -19,6 +20,7 @@ use Rattle.floor_table.specs.Steps.{Makes, MakesEach}
 use Rattle.floor_table.specs.Views.{Knowledge, seeing}
 use Rattle.lock_floor.specs.declared.calls.Call.TheVariants as calls
 use Rattle.lock_floor.specs.declared.calls.ReleaseAt.{ReleaseAt}
+use Rattle.lock_floor.specs.declared.calls.ReleaseAt.TheVariants as places
 use Rattle.lock_floor.specs.declared.calls.ReleaseAt.TheVariants.{ComesTo, ComesIn, Frees, Wakes}
 use Rattle.lock_floor.specs.Floors.{Pass}
 use Rattle.lock_floor.specs.Latches.{FindsOut}
@@ -29,7 +31,8 @@ use Rattle.lock_floor.specs.Views.{put_down}
 use Rattle.lock_floor.specs.Waits.{its_chain, chain_place}
 use Rattle.lock_calls.specs.declared.answers.Next.{Next}
 use Rattle.lock_calls.specs.declared.answers.Next.TheVariants.{Done, Again, Sleep, Wake, Reversed}
-use Rattle.lock_calls.specs.Steps.{IsCovered, AtOnce, frees, gives_both, unlocks}
+use Rattle.lock_calls.specs.Choices.{outside}
+use Rattle.lock_calls.specs.Steps.{IsCovered, ByDrop, frees, gives_both, unlocks}
 use Rattle.lock_calls.specs.Waiting.{HasSeen, MayPutDown, IsOwn, with_none_out}
 
 -- 1. What the thread knows at each place
@@ -53,8 +56,17 @@ pub record LeavesWithBoth (floor : Description) (l : ℕ) (mode : Mode) (seen : 
   pub both : HasBothOut floor l v
   pub own : IsOwn v.thread mode seen
 
+-- it holds the lock shared, and may drop it from the word that it saw last, which is its own
+pub record LeavesByDrop (floor : Description) (l : ℕ) (mode : Mode) (seen : ℕ) (v : Knowledge) :
+    Type 0 where
+  pub leaving : IsLeaving floor l mode v
+  pub own : IsOwn v.thread mode seen
+  pub shared : mode ≡ Shared
+  pub may : is_drop (word_of seen) ≡ true
+
 -- so at each place; behind the release it is at rest, but for those whom it has yet to wake
 abbrev pub IsReleasing : Description → ℕ → Mode → ReleaseAt → Knowledge → Type 0
+IsReleasing floor l mode (places.Drops seen) v = LeavesByDrop floor l mode seen v
 IsReleasing floor l mode ComesTo v = IsLeaving floor l mode v
 IsReleasing floor l mode ComesIn v = LeavesWithChain floor l mode v
 IsReleasing floor l mode (Frees seen) v = LeavesWithBoth floor l mode seen v
@@ -87,16 +99,22 @@ noted_of v = record { thread = v.thread; spare = v.spare; log = v.share.log }
 
 -- the item that a release needs to go on from there: another thread may have it out
 abbrev pub AwaitsInRelease : Description → ℕ → ReleaseAt → Knowledge → Item → Type 0
+AwaitsInRelease floor l (places.Drops seen) v i = ⊥
 AwaitsInRelease floor l ComesTo v i = i ≡ its_chain floor (lock_queue l)
 AwaitsInRelease floor l ComesIn v i = i ≡ RecordOf v.thread
 AwaitsInRelease floor l (Frees seen) v i = ⊥
 AwaitsInRelease floor l Wakes v i =
     (m : Mark) × (ms : List Mark) × (v.share.doing.marked ≡ m ∷ ms) × (i ≡ RecordOf m.thread)
 
--- It takes the lock's chain, then its own record, and looks; there an exchange that misses is a look, which saw another
--- word; or it lets the lock go, and gives both back. Or it found out what it needs
+-- Outside the section an exchange that misses is a look, which saw another word. Else it takes the lock's chain, then
+-- its own record, and looks; there an exchange that misses is such a look too; or it lets the lock go, and gives both
+-- back. Or it found out what it needs
 pub data ReleaseLeg (floor : Description) (l : LockNo) (mode : Mode) : ReleaseAt → ReleaseAt
     → Knowledge → Knowledge → Type 0 where
+  misses : {old new : Knowledge} (seen found : ℕ) → found ≢ seen → mode ≡ Shared
+      → new.share.held ≡ old.share.held → HasSeen l.0 (word_of found) new
+      → Makes floor (Looks old.thread l.0 false ∷ []) old new
+      → ReleaseLeg floor l mode (places.Drops seen) (outside mode found) old new
   takes_chain : {old new : Knowledge} → new.share.held ≡ old.share.held
       → Makes floor (TakesItem old.thread (its_chain floor (lock_queue l.0)) ∷ []) old new
       → ReleaseLeg floor l mode ComesTo ComesIn old new
@@ -143,17 +161,17 @@ pub record ReleasesAtOnce (floor : Description) (l : LockNo) (mode : Mode) (old 
     Type 0 where
   pub rest : IsAtRest floor new
   pub entry : MakesEntry floor (Event.Unlocked l mode) (without_lock l.0 old.share.held) old new
-  pub steps : MakesEach floor (unlocks floor old.thread l mode AtOnce) old new
+  pub steps : MakesEach floor (unlocks floor old.thread l mode (ByDrop 0)) old new
 
 -- it is noted; the exchange missed, and was a look, which saw another word than the own one that shows no waiters
 pub record BeginsRelease (floor : Description) (l : LockNo) (mode : Mode) (p q : Pass Knowledge) :
     Type 0 where
-  pub call : q.call ≡ calls.Release l mode ComesTo
-  pub there : IsUnderRelease floor l mode ComesTo q.view
+  pub found : ℕ
+  pub call : q.call ≡ calls.Release l mode (outside mode found)
+  pub there : IsUnderRelease floor l mode (outside mode found) q.view
   pub entry : MakesEntry floor (Event.Unlocked l mode) p.view.share.held p.view q.view
-  pub found : Word
-  pub saw : HasSeen l.0 found q.view
-  pub other : found ≢ gained (word_of 0) p.view.thread mode
+  pub saw : HasSeen l.0 (word_of found) q.view
+  pub other : word_of found ≢ gained (word_of 0) p.view.thread mode
   pub steps : MakesEach floor
       ((Stamps p.view.thread (Event.Unlocked l mode) ∷ [])
       ∷ (Looks p.view.thread l.0 false ∷ []) ∷ [])
@@ -176,13 +194,27 @@ pub record StandsInRelease (floor : Description) (l : LockNo) (mode : Mode) (at 
   pub call : q.call ≡ calls.Release l mode to
   pub on : ReleasesOn floor l mode at to p.view q.view
 
--- nobody was left to be woken, and nothing was done
-pub record EndsRelease (floor : Description) (at : ReleaseAt) (p q : Pass Knowledge) : Type 0 where
+-- How it ends: outside the section by a drop; or nobody is left to be woken, and nothing is done
+pub data ReleaseEnd (floor : Description) (l : LockNo) (mode : Mode) : ReleaseAt → Knowledge
+    → Knowledge → Type 0 where
+  puts_down : {old new : Knowledge} (seen : ℕ) → mode ≡ Shared
+      → new.share.held ≡ without_lock l.0 old.share.held
+      → Makes floor (Drops old.thread l.0 mode ∷ []) old new
+      → ReleaseEnd floor l mode (places.Drops seen) old new
+  nobody_left : {v : Knowledge} → v.share.doing.marked ≡ [] → ReleaseEnd floor l mode Wakes v v
+
+-- it ended so from there, and the thread is at rest
+pub record IsReleased (floor : Description) (l : LockNo) (mode : Mode) (at : ReleaseAt)
+    (old new : Knowledge) : Type 0 where
+  pub rest : IsAtRest floor new
+  pub noted : noted_of new ≡ noted_of old
+  pub end : ReleaseEnd floor l mode at old new
+
+-- the release ended
+pub record EndsRelease (floor : Description) (l : LockNo) (mode : Mode) (at : ReleaseAt)
+    (p q : Pass Knowledge) : Type 0 where
   pub call : q.call ≡ calls.None
-  pub at_end : at ≡ Wakes
-  pub nobody : p.view.share.doing.marked ≡ []
-  pub same : q.view ≡ p.view
-  pub rest : IsAtRest floor q.view
+  pub released : IsReleased floor l mode at p.view q.view
 
 -- the first of those who are left was woken
 pub record WakesOne (floor : Description) (l : LockNo) (mode : Mode) (at : ReleaseAt) (t : ℕ)
@@ -196,7 +228,7 @@ pub record WakesOne (floor : Description) (l : LockNo) (mode : Mode) (at : Relea
 -- a release that stood there went on: it ended, or stands somewhere, or that thread's sleep is to be ended
 abbrev pub GoesOnReleasing : Description → LockNo → Mode → ReleaseAt → Next → Pass Knowledge
     → Pass Knowledge → Type 0
-GoesOnReleasing floor l mode at Done p q = EndsRelease floor at p q
+GoesOnReleasing floor l mode at Done p q = EndsRelease floor l mode at p q
 GoesOnReleasing floor l mode at Again p q = StandsInRelease floor l mode at p q
 GoesOnReleasing floor l mode at Sleep p q = ⊥
 GoesOnReleasing floor l mode at (Wake t) p q = WakesOne floor l mode at t.0 p q

@@ -1,5 +1,5 @@
 -- Which locks the calls of this crate are for, and the steps that a take and a release make.
-use Rattle.std.specs.Prelude.{◌≡◌, ◌≢◌, ◌⊎◌, ℕ, ◌+◌, ◌<◌, ◌≤◌, Bool, true, false, List, [], ◌∷◌, ◌++◌, length, replicate, Some, None}
+use Rattle.std.specs.Prelude.{◌≡◌, ◌≢◌, ◌⊎◌, ℕ, ◌+◌, ◌<◌, ◌≤◌, Bool, true, false, List, [], ◌∷◌, ◌++◌, length, replicate, Some, None, ⊤}
 use Rattle.lock_model.specs.Queues.{BySignal, Mark, lock_queue}
 use Rattle.lock_model.specs.Holds.{NotHeld, Holds}
 use Rattle.lock_model.specs.Limits.{most_held}
@@ -12,7 +12,7 @@ use Rattle.lock_model.specs.declared.numbers.LockNo.{LockNo}
 use Rattle.lock_model.specs.declared.plan.Kind.{Kind}
 use Rattle.lock_model.specs.declared.plan.Kind.TheVariants.{Mtx, Rw, Sx}
 use Rattle.lock_model.specs.declared.plan.Mode.{Mode}
-use Rattle.lock_model.specs.declared.plan.Mode.TheVariants.{Excl}
+use Rattle.lock_model.specs.declared.plan.Mode.TheVariants.{Excl, Shared}
 use Rattle.lock_state.specs.Steps.{Step, Seeks, Looks, Gains, Drops, Stamps, TakesItem, GivesItem, Readies, Unreadies, Enters, Opens, Claims, Resumes}
 use Rattle.lock_state.specs.Steps.Items.{RecordOf}
 use Rattle.floor_table.specs.Descriptions.{config_in}
@@ -95,12 +95,26 @@ pub data MissesFirst (floor : Description) (l : ℕ) (mode : Mode) : ℕ → Wor
       → new.share.doing.last_look ≡ Some (record { lock = l; word = found }) → found ≢ from
       → MissesFirst floor l mode (missed + 1) found old new
 
--- a call's first exchanges missed, where its thread holds nothing, or it made none
+-- A call's first exchanges missed, where its thread holds nothing, or it made none. It makes another where one more may
+-- miss, and the word that was found admits the mode plainly
 pub record HasMissedFirst (floor : Description) (l : ℕ) (mode : Mode) (missed : ℕ)
     (old new : Knowledge) : Type 0 where
   pub first : FirstMisses ((config_in floor).kind l) old.share.held missed
   pub next : Word
   pub misses : MissesFirst floor l mode missed next old new
+  pub all : 1 ≤ missed → missed < most_missed ((config_in floor).kind l)
+      → course ((config_in floor).kind l) next mode ≢ Plainly
+
+-- or one of them gained the lock, behind those that missed, from a word that admits the mode plainly
+pub record GainsFirst (floor : Description) (l : ℕ) (mode : Mode) (old new : Knowledge) : Type 0
+  where
+    pub missed : ℕ
+    pub fewer : missed < most_missed ((config_in floor).kind l)
+    pub next : Word
+    pub between : Knowledge
+    pub misses : MissesFirst floor l mode missed next old between
+    pub plainly : course ((config_in floor).kind l) next mode ≡ Plainly
+    pub gains : Makes floor (gains_at_once old.thread l mode) between new
 
 -- its lock's order is checked, and then a round begins with a look
 abbrev pub begins_round : ℕ → ℕ → List (List Step)
@@ -165,13 +179,12 @@ pub data ComesToRound (floor : Description) (l : ℕ) (mode : Mode) : ℕ → Kn
       (replicate n (Looks old.thread l true ∷ []) ++ enters_there floor old.thread l mode m x) u v
       → Sleeps floor l v new → ComesToRound floor l mode 0 old new
 
--- How a take gains: by the first exchange of a thread that holds nothing; by the first one of its round, once its
+-- How a take gains: by a first exchange of a thread that holds nothing; by the first one of its round, once its
 -- lock's order was checked; in a round, behind at most 100 looks; or in the section of the lock's chain, which it takes
 -- behind at most 100 looks. So a chain that it took goes home only behind a gain or an enter
 pub data Acquires (floor : Description) (l : ℕ) (mode : Mode) : Knowledge → Knowledge → Type 0
   where
-    at_once : {old new : Knowledge} → old.share.held ≡ []
-        → MakesEach floor (gains_at_once old.thread l mode ∷ []) old new
+    at_once : {old new : Knowledge} → old.share.held ≡ [] → GainsFirst floor l mode old new
         → Acquires floor l mode old new
     checked : {old u new : Knowledge} (missed : ℕ) → HasMissedFirst floor l mode missed old u
         → MakesEach floor (gains_checked old.thread l mode) u new → Acquires floor l mode old new
@@ -198,12 +211,20 @@ refuses t l class = checks t l.0 (Some class.0) ++ (Stamps t (Event.Reversed l c
 
 -- 3. A release
 
--- How it puts the lock down: by one exchange; or, where that one missed, in the section of the lock's chain behind so
--- many looks, with the exchanges that missed: by an open, which takes those who wait off the turnstile, or else by a
+-- How it puts the lock down, behind so many exchanges that missed: by one that hits, a drop; or in the section of the
+-- lock's chain behind so many looks there: by an open, which takes those who wait off the turnstile, or else by a
 -- drop. Then it wakes whom it took off.
 pub data Release : Type 0 where
-  AtOnce : Release
-  InSection : ℕ → Bool → List Mark → Release
+  ByDrop : ℕ → Release
+  InSection : ℕ → ℕ → Bool → List Mark → Release
+
+-- Of a lock that is held exclusively one exchange is made outside the section: where it missed, waiters are shown. Of
+-- one that is held shared others may come and go: it tries again from the word that it found, where that may be dropped
+abbrev pub IsReleaseIn : Mode → Release → Type 0
+IsReleaseIn Excl (ByDrop k) = k ≡ 0
+IsReleaseIn Excl (InSection k n opens ms) = k ≡ 1
+IsReleaseIn Shared (ByDrop k) = ⊤
+IsReleaseIn Shared (InSection k n opens ms) = 1 ≤ k
 
 -- the step by which the thread lets the lock go
 abbrev pub frees : ℕ → ℕ → Mode → Bool → Step
@@ -219,9 +240,10 @@ releases_there floor t l mode n opens ms =
     ++ (gives_both floor t l ++ marking t ms))
 
 abbrev pub releases_by : Description → ℕ → ℕ → Mode → Release → List (List Step)
-releases_by floor t l mode AtOnce = (Drops t l mode ∷ []) ∷ []
-releases_by floor t l mode (InSection n opens ms) =
-    (Looks t l false ∷ []) ∷ releases_there floor t l mode n opens ms
+releases_by floor t l mode (ByDrop k) =
+    replicate k (Looks t l false ∷ []) ++ (Drops t l mode ∷ []) ∷ []
+releases_by floor t l mode (InSection k n opens ms) =
+    replicate k (Looks t l false ∷ []) ++ releases_there floor t l mode n opens ms
 
 -- a release is noted first
 abbrev pub unlocks : Description → ℕ → LockNo → Mode → Release → List (List Step)

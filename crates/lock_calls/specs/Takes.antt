@@ -1,6 +1,6 @@
 -- A take as a call that stands at places: what the thread knows at each, what it does from one to the next, and how the
 -- take ends.
-use Rattle.std.specs.Prelude.{◌≡◌, ◌≢◌, ℕ, ◌+◌, ◌-◌, ◌<◌, ◌≤◌, Bool, true, false, List, [], ◌∷◌, ◌++◌, length, replicate, Some, None}
+use Rattle.std.specs.Prelude.{◌≡◌, ◌≢◌, ℕ, ◌+◌, ◌-◌, ◌<◌, ◌≤◌, Bool, true, false, List, [], ◌∷◌, ◌++◌, length, Some, None}
 use Rattle.lock_model.specs.Holds.{NotHeld}
 use Rattle.lock_model.specs.Limits.{most_held}
 use Rattle.lock_model.specs.Operations.{hold_in}
@@ -16,7 +16,7 @@ use Rattle.lock_model.specs.declared.plan.QueueName.{QueueName}
 use Rattle.lock_objects.specs.Represents.{walk_of}
 use Rattle.lock_laws.specs.Words.{CanBeSeen}
 use Rattle.lock_state.specs.State.{NoWalk}
-use Rattle.lock_state.specs.Steps.{Step, Seeks, Looks, Gains, Enters, Readies, Resumes, Stamps, TakesItem}
+use Rattle.lock_state.specs.Steps.{Step, Looks, Gains, Enters, Readies, Resumes, Stamps, TakesItem}
 use Rattle.lock_state.specs.Steps.Items.{Item, RecordOf, ClassGraph}
 use Rattle.lock_state.specs.Steps.LockWords.{bound_to}
 use Rattle.prio_lending.specs.declared.walk.Walk.{Walk}
@@ -41,7 +41,7 @@ use Rattle.lock_calls.specs.declared.answers.Next.{Next}
 use Rattle.lock_calls.specs.declared.answers.Next.TheVariants.{Done, Again, Sleep, Wake, Reversed}
 use Rattle.lock_calls.specs.Choices.{course}
 use Rattle.lock_calls.specs.declared.courses.Course.TheVariants.{Plainly, ByClaim}
-use Rattle.lock_calls.specs.Steps.{IsCovered, IsGain, HasMissedFirst, begins_round, as_taken, gains_at_once, gives_both, refuses, runs_on}
+use Rattle.lock_calls.specs.Steps.{IsCovered, IsGain, HasMissedFirst, GainsFirst, begins_round, as_taken, gains_at_once, gives_both, refuses, runs_on}
 use Rattle.lock_calls.specs.Waiting.{kept_of, IsCalling, IsChecking, IsSeeking, IsThere, HasSeen, Saw}
 
 -- 1. What the thread knows at each place
@@ -272,14 +272,20 @@ pub record BeginsTake (floor : Description) (l : LockNo) (mode : Mode) (p q : Pa
   pub missed : ℕ
   pub first : HasMissedFirst floor l.0 mode missed p.view q.view
 
+-- or one of these exchanges gained the lock, and that is noted
+pub record TakesAtOnce (floor : Description) (l : LockNo) (mode : Mode) (p q : Pass Knowledge) :
+    Type 0 where
+  pub call : q.call ≡ calls.None
+  pub bare : p.view.share.held ≡ []
+  pub taken : HasTaken floor l mode p.view q.view
+  pub gained : Knowledge
+  pub gains : GainsFirst floor l.0 mode p.view gained
+  pub notes : Makes floor (Stamps p.view.thread (Event.Locked l mode) ∷ []) gained q.view
+
 -- a take has begun: it gained the lock at once, where its thread holds nothing, or is under way
 abbrev pub HasBegunTake : Description → LockNo → Mode → Next → Pass Knowledge → Pass Knowledge
     → Type 0
-HasBegunTake floor l mode Done p q =
-    (q.call ≡ calls.None) × (p.view.share.held ≡ []) × HasTaken floor l mode p.view q.view
-    × MakesEach floor
-    (gains_at_once p.view.thread l.0 mode ∷ (Stamps p.view.thread (Event.Locked l mode) ∷ []) ∷ [])
-    p.view q.view
+HasBegunTake floor l mode Done p q = TakesAtOnce floor l mode p q
 HasBegunTake floor l mode Again p q = BeginsTake floor l mode p q
 HasBegunTake floor l mode Sleep p q = ⊥
 HasBegunTake floor l mode (Wake t) p q = ⊥

@@ -30,7 +30,7 @@ use Rattle.lock_floor.specs.Views.{counts, looked, gained}
 use Rattle.lock_floor.specs.Waits.{out_entered, entered}
 use Rattle.lock_laws.specs.Words.{CanBeSeen}
 use Rattle.lock_words.specs.Views.{IsHeldIn}
-use Rattle.lock_calls.specs.Steps.{IsGain, HasMissedFirst, as_taken, gains_at_once, frees}
+use Rattle.lock_calls.specs.Steps.{IsGain, HasMissedFirst, GainsFirst, as_taken, gains_at_once, frees}
 
 -- 1. What stays
 
@@ -150,6 +150,19 @@ with_looks_counted v looks all last seen =
       seen_in_section = seen;
     } in
     record v { share = record v.share { doing = after } }
+
+-- A call has gained the lock by a first exchange: behind those that missed the thread knows what it saw, and nothing
+-- else anew.
+pub record HasGainedFirst (floor : Description) (l : LockNo) (mode : Mode) (old new : Knowledge) :
+    Type 0 where
+  pub gains : GainsFirst floor l.0 mode old new
+  pub looks : ℕ
+  pub all : ℕ
+  pub last : Option Look
+  pub seen : Option Look
+  pub saw : gains.between
+      ≡ seeing gains.between.seen (with_looks_counted old looks all last seen)
+  pub view : new ≡ seeing new.seen (gained_first gains.between (as_taken l mode))
 
 -- A call has begun without a gain: the thread's first exchanges missed, where it holds nothing; or it made none, where
 -- it holds a lock.

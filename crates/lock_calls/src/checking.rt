@@ -1,6 +1,6 @@
 //! How a take has the order of its lock checked, as `__mtx_lock_flags` of FreeBSD's kern_mutex.c calls
-//! `witness_checkorder` of its subr_witness.c. A thread that holds nothing made its first exchange before that: nothing
-//! can be refused it. It never waits.
+//! `witness_checkorder` of its subr_witness.c. A thread that holds nothing made its first exchanges before that:
+//! nothing can be refused it. It never waits.
 ghost use Rattle.std.specs.Prelude.{◌≡◌, true, false, IfNone, IfSome, IfOk, IfErr};
 ghost use Rattle.lock_floor.specs.declared.calls.TakeAt.TheVariants.{Checks};
 ghost use Rattle.lock_floor.specs.Passes.{IsOf};

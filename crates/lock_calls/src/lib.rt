@@ -1,16 +1,18 @@
-//! The calls of locks whose threads block: a take and a release, over the kind of the lock and a mode. A crate for each
-//! kind of lock stands on this one.
+//! The calls of locks whose threads block: a take, a try and a release, over the kind of the lock and a mode. A crate
+//! for each kind of lock stands on this one.
 //!
 //! A call is begun, and then gone on with until it is done. Its parts never wait: each makes a few atomic steps, and
-//! answers what its caller is to do next (`Next`); where the call stands, the pass says. So threads of a runtime of
-//! one's own, or of a kernel, can drive the calls. `take` and `release` are loops over these parts that wait.
+//! answers what its caller is to do next (`Next`, or `TryNext`); where the call stands, the pass says. So threads of a
+//! runtime of one's own, or of a kernel, can drive the calls. `take`, `try_take`, `release` and `release_held` are
+//! loops over these parts that wait; a try never sleeps.
 //!
 //! - `answers`: what a part of a call answers.
-//! - `taking` and `releasing`: the parts of a take and of a release, and `waiting`: the loops over them.
+//! - `taking`, `trying` and `releasing`: the parts of a take, of a try and of a release, and `waiting`: the loops over
+//!   them.
 //! - `checking`: how a take has the order of its lock checked, `spinning`: a take before it has the lock's chain,
 //!   `blocking`: in the section of the chain, and `sleeping`: on the lock's turnstile. `courses`: what it does with a
-//!   word that it saw.
-//! - `freeing`: a release in the section of the lock's chain, and `waking`: behind it.
+//!   word that it saw; a try does the same with it.
+//! - `dropping`: a release outside the section of the lock's chain, `freeing`: in it, and `waking`: behind it.
 //!
 //! Each call needs a pass at rest and leaves it at rest. No call takes memory.
 #![tactic(auto)]
@@ -19,15 +21,18 @@ mod answers;
 mod blocking;
 mod checking;
 mod courses;
+mod dropping;
 mod freeing;
 mod releasing;
 mod sleeping;
 mod spinning;
 mod taking;
+mod trying;
 mod waiting;
 mod waking;
 
 pub use answers::Next;
 pub use releasing::{begin_release, go_on_releasing};
 pub use taking::{begin_take, go_on_taking};
-pub use waiting::{release, take};
+pub use trying::{TryNext, begin_try, go_on_trying};
+pub use waiting::{release, release_held, take, try_take};

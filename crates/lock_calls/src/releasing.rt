@@ -1,16 +1,17 @@
-//! A release of a lock, part by part, as `__mtx_unlock_flags` and `__mtx_unlock_sleep` of FreeBSD's kern_mutex.c do it:
-//! it is noted first. No part waits.
+//! A release of a lock, part by part, as `__mtx_unlock_flags` and `__mtx_unlock_sleep` of FreeBSD's kern_mutex.c, and
+//! `__rw_runlock_hard` of its kern_rwlock.c do it: it is noted first. No part waits.
 ghost use Rattle.std.specs.Prelude.{◌≡◌};
 ghost use Rattle.lock_model.specs.declared.numbers.LockNo.{LockNo as Lock};
 ghost use Rattle.lock_model.specs.declared.plan.Mode.{Mode as InMode};
 ghost use Rattle.lock_floor.specs.declared.calls.Call.TheVariants as calls;
 ghost use Rattle.lock_floor.specs.declared.calls.ReleaseAt.{ReleaseAt as Place};
-ghost use Rattle.lock_floor.specs.declared.calls.ReleaseAt.TheVariants.{Wakes};
+ghost use Rattle.lock_floor.specs.declared.calls.ReleaseAt.TheVariants.{Drops, Wakes};
 ghost use Rattle.lock_floor.specs.Passes.{IsOf, IsReady};
 ghost use Rattle.lock_calls.specs.Releases.{HasBegunRelease, IsInRelease, GoesOnReleasing, IsUnderRelease};
 ghost use Rattle.lock_calls.specs.Steps.{MayRelease};
 
 use crate::answers::Next;
+use crate::dropping::{drop_outside, outside};
 use crate::freeing::{come_in, come_to, let_go};
 use crate::spinning::FREE;
 use crate::waking::wake_first;
@@ -32,16 +33,17 @@ pub fn begin_release(floor: &Floor, pass: &mut Pass, l: LockNo, mode: Mode) -> N
             pass.set_call(Call::None);
             Next::Done
         }
-        Err(_) => {
-            stand(pass, l, mode, ReleaseAt::ComesTo);
+        Err(found) => {
+            stand(pass, l, mode, outside(mode, found));
             Next::Again
         }
     }
 }
 
-/// Goes on with the release that the pass is in the middle of. It takes the lock's chain and its own record, makes the
-/// lock free there, takes those who wait off its turnstile, and wakes them one by one: `Wake` tells whose sleep is to
-/// be ended. `Done` comes exactly where nobody is left to be woken.
+/// Goes on with the release that the pass is in the middle of. A lock that is held shared it drops where the word that
+/// it found allows that: then `Done` comes. Else it takes the lock's chain and its own record, lets the lock go there,
+/// takes those who wait off its turnstile, and wakes them one by one: `Wake` tells whose sleep is to be ended. `Done`
+/// comes then exactly where nobody is left to be woken.
 pub fn go_on_releasing(floor: &Floor, pass: &mut Pass) -> Next
     requires own { IsOf floor.now pass.old }
     requires under_way { IsInRelease floor.now.description pass.old }
@@ -52,7 +54,7 @@ pub fn go_on_releasing(floor: &Floor, pass: &mut Pass) -> Next
 {
     match pass.call() {
         Call::Release { l, mode, at } => go_on(floor, pass, l, mode, at),
-        Call::None | Call::Take { .. } => unreachable!(),
+        Call::None | Call::Take { .. } | Call::Try { .. } => unreachable!(),
     }
 }
 
@@ -64,6 +66,7 @@ fn go_on(floor: &Floor, pass: &mut Pass, l: LockNo, mode: Mode, at: ReleaseAt) -
     ensures went { GoesOnReleasing floor.now.description l mode at result pass.old pass.new }
 {
     match at {
+        ReleaseAt::Drops(seen) => drop_on(floor, pass, l, mode, seen),
         ReleaseAt::ComesTo => {
             let to = come_to(floor, pass, l, mode);
             stand(pass, l, mode, to);
@@ -80,6 +83,26 @@ fn go_on(floor: &Floor, pass: &mut Pass, l: LockNo, mode: Mode, at: ReleaseAt) -
             Next::Again
         }
         ReleaseAt::Wakes => wake_on(floor, pass, l, mode),
+    }
+}
+
+// Goes on outside the section of the lock's chain, where the lock may be dropped.
+fn drop_on(floor: &Floor, pass: &mut Pass, l: LockNo, mode: Mode, seen: u64) -> Next
+    requires own { IsOf floor.now pass.old }
+    requires under_way { IsUnderRelease floor.now.description l mode (Drops seen) pass.old.view }
+    ensures own { IsOf floor.now pass.new }
+    ensures went { GoesOnReleasing floor.now.description l mode (Drops seen) result
+        pass.old pass.new }
+{
+    match drop_outside(floor, pass, l, mode, seen) {
+        Some(to) => {
+            stand(pass, l, mode, to);
+            Next::Again
+        }
+        None => {
+            pass.set_call(Call::None);
+            Next::Done
+        }
     }
 }
 

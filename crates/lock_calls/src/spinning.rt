@@ -1,10 +1,12 @@
 //! A take before it has the lock's chain, as the exchange of `__mtx_lock_flags` and the spinning at the head of
-//! `__mtx_lock_sleep` in FreeBSD's kern_mutex.c: it makes one exchange where it holds nothing, and behind the check of
-//! its lock's order it looks in an acquiring round, and tries again where it sees that the lock can be gained; in the
-//! end it takes the chain. It never waits.
-ghost use Rattle.std.specs.Prelude.{ℕ, ◌≡◌, ◌≤◌, ◌+◌, ⊤, [], ◌∷◌, true, false, IfNone, IfSome, IfOk, IfErr};
+//! `__mtx_lock_sleep` in FreeBSD's kern_mutex.c: it makes one exchange where it holds nothing, or two of a lock that
+//! can be shared, and behind the check of its lock's order it looks in an acquiring round, and tries again where it
+//! sees that the lock can be gained; in the end it takes the chain. It never waits.
+ghost use Rattle.std.specs.Prelude.{ℕ, ◌≡◌, ◌≢◌, ◌≤◌, ◌+◌, ⊤, [], ◌∷◌, true, false, IfNone, IfSome, IfOk, IfErr};
 ghost use Rattle.lock_model.specs.Words.{word_of, IsWellFormed};
 ghost use Rattle.lock_model.specs.declared.event.Event.TheVariants as event;
+ghost use Rattle.lock_model.specs.declared.plan.Kind.TheVariants as kinds;
+ghost use Rattle.lock_model.specs.declared.plan.Mode.TheVariants.{Excl};
 ghost use Rattle.lock_state.specs.Steps.{Stamps};
 ghost use Rattle.floor_table.specs.Descriptions.{config_in};
 ghost use Rattle.floor_table.specs.Steps.{MayMake, Makes};
@@ -12,9 +14,11 @@ ghost use Rattle.floor_table.specs.Views.{seeing};
 ghost use Rattle.lock_floor.specs.declared.calls.TakeAt.TheVariants.{Spins};
 ghost use Rattle.lock_floor.specs.Passes.{IsOf};
 ghost use Rattle.lock_floor.specs.Views.{entry_by, stamped};
+ghost use Rattle.lock_calls.specs.Choices.{course};
+ghost use Rattle.lock_calls.specs.declared.courses.Course.TheVariants.{Plainly};
 ghost use Rattle.lock_calls.specs.Steps.{IsCovered, as_taken};
 ghost use Rattle.lock_calls.specs.Takes.{IsUnderTake, AsksOwner, LeavesLooks, LooksOn, HasTaken, TakeEnd, TakesOn};
-ghost use Rattle.lock_calls.specs.Waiting.{MayGain, IsSeeking, GainsAtOnce, HasMissed, HasSpun, SpinsThenGains};
+ghost use Rattle.lock_calls.specs.Waiting.{MayGain, IsSeeking, HasGainedFirst, HasMissed, HasSpun, SpinsThenGains};
 
 use crate::courses::{Course, course_of};
 use lock_floor::{Floor, Pass, TakeAt};
@@ -28,15 +32,17 @@ pub const FREE: u64 = 0;
 /// at most 100 looks, with its first exchanges before the round, which are two at most.
 pub const LOOKS: u32 = 48;
 
-/// Gains a lock by one exchange, where the thread holds no lock. `false` comes only where it holds one, or another
-/// thread was faster: then the exchange was a look. The lock's order is to be checked then.
+/// Gains a lock by an exchange from the free word, where the thread holds no lock; or, of a lock that can be shared, by
+/// a second one, from the word that the first found, where that admits the mode plainly: as a reader does where others
+/// read. `false` comes only where the thread holds a lock, or its exchanges missed: then they were looks. The lock's
+/// order is to be checked then.
 pub fn begin(floor: &Floor, pass: &mut Pass, l: LockNo, mode: Mode) -> bool
     requires own { IsOf floor.now pass.old }
     requires covered { IsCovered floor.now.description l.0 mode }
     requires may { MayGain floor.now.description l.0 pass.old.view }
     ensures own { IsOf floor.now pass.new }
     ensures gained { result ≡ true
-        → GainsAtOnce floor.now.description (as_taken l mode) pass.old.view pass.new.view }
+        → HasGainedFirst floor.now.description l mode pass.old.view pass.new.view }
     ensures bare { result ≡ true → pass.old.view.share.held ≡ [] }
     ensures missed { result ≡ false
         → HasMissed floor.now.description l.0 mode pass.old.view pass.new.view }
@@ -46,7 +52,34 @@ pub fn begin(floor: &Floor, pass: &mut Pass, l: LockNo, mode: Mode) -> bool
     }
     match floor.gain_first(pass, l, mode, FREE) {
         Ok(()) => true,
-        Err(_) => false,
+        Err(found) => {
+            if !exchanges_again(floor.kind(l), found, mode) {
+                return false;
+            }
+            match floor.gain_first(pass, l, mode, found) {
+                Ok(()) => true,
+                Err(_) => false,
+            }
+        }
+    }
+}
+
+// Whether a take whose first exchange found that word makes a second one: of a lock that can be shared, where the word
+// admits the mode plainly.
+fn exchanges_again(kind: Kind, found: u64, mode: Mode) -> bool
+    requires well_formed { IsWellFormed (word_of found) }
+    requires mutex { kind ≡ kinds.Mtx → mode ≡ Excl }
+    ensures again { result ≡ true
+        → (kind ≢ kinds.Mtx) × (course kind (word_of found) mode ≡ Plainly) }
+    ensures enough { result ≡ false → kind ≢ kinds.Mtx
+        → course kind (word_of found) mode ≢ Plainly }
+{
+    match kind {
+        Kind::Mtx => false,
+        Kind::Rw | Kind::Sx => match course_of(kind, found, mode) {
+            Course::Plainly => true,
+            Course::ByClaim | Course::MustWait => false,
+        },
     }
 }
 

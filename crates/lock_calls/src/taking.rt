@@ -19,9 +19,10 @@ use lock_floor::{Call, Floor, Pass, TakeAt};
 use lock_model::{LockNo, Mode, Reversal};
 use prio_lending::Walk;
 
-/// Begins a take of a lock in a mode. Where the thread holds nothing it makes one exchange: nothing can be refused it.
-/// `Done` comes where that gained the lock, and `Again` only where another thread was faster, or the thread holds a
-/// lock: then the lock's order is to be checked. The floor has one chain of turnstiles.
+/// Begins a take of a lock in a mode. Where the thread holds nothing it makes an exchange from the free word: nothing
+/// can be refused it; and where that found another word, of a lock that can be shared, which admits the mode plainly,
+/// one more, from that word. `Done` comes where either gained the lock, and `Again` only where another thread was
+/// faster, or the thread holds a lock: then the lock's order is to be checked. The floor has one chain of turnstiles.
 pub fn begin_take(floor: &Floor, pass: &mut Pass, l: LockNo, mode: Mode) -> Next
     requires ready { IsReady floor.now pass.old }
     requires may { MayTake floor.now.description l.0 mode pass.old.view }
@@ -58,7 +59,7 @@ pub fn go_on_taking(floor: &Floor, pass: &mut Pass) -> Next
 {
     match pass.call() {
         Call::Take { l, mode, at } => go_on(floor, pass, l, mode, at),
-        Call::None | Call::Release { .. } => unreachable!(),
+        Call::None | Call::Try { .. } | Call::Release { .. } => unreachable!(),
     }
 }
 

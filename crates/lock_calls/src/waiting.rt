@@ -1,18 +1,23 @@
-//! A take and a release that wait: loops over their parts, in which the thread pauses, sleeps, and ends others' sleeps.
+//! A take, a try and a release that wait: loops over their parts, in which the thread pauses, sleeps, and ends others'
+//! sleeps. A try waits only for a chain or a record that another thread has out.
 ghost use Rattle.std.specs.Prelude.{◌≡◌, ◌<◌, ◌++◌, [], ◌∷◌, length, IsOk, IfOk, IfErr};
-ghost use Rattle.lock_model.specs.Operations.{without_lock};
+ghost use Rattle.lock_model.specs.Holds.{Holds};
+ghost use Rattle.lock_model.specs.Operations.{hold_in, without_lock};
 ghost use Rattle.lock_model.specs.declared.event.Event.TheVariants as event;
+ghost use Rattle.lock_model.specs.declared.plan.Mode.{Mode as InMode};
 ghost use Rattle.floor_table.specs.Steps.{MakesEach};
 ghost use Rattle.lock_floor.specs.Passes.{IsOf, IsReady, MakesEntry};
-ghost use Rattle.lock_calls.specs.Steps.{MayTake, MayRelease, Locks, Release, as_taken, unlocks};
+ghost use Rattle.lock_calls.specs.Steps.{MayTake, MayRelease, Locks, Release, IsReleaseIn, as_taken, unlocks};
 ghost use Rattle.lock_calls.specs.Takes.{IsRefused};
+ghost use Rattle.lock_calls.specs.Tries.{GainsAndNotes, WasBusyFor, as_tried};
 
 use crate::answers::Next;
 use crate::releasing::{begin_release, go_on_releasing};
 use crate::taking::{begin_take, go_on_taking};
+use crate::trying::{TryNext, begin_try, go_on_trying};
 use crossbeam_utils::Backoff;
-use lock_floor::{Call, Floor, Pass, TakeAt};
-use lock_model::{LockNo, Mode, Reversal};
+use lock_floor::{Call, Floor, Pass, TakeAt, TryAt};
+use lock_model::{Busy, LockNo, Mode, Reversal};
 use std::sync::Wait;
 
 /// Takes a lock in a mode, and waits until it has it. `Err` comes exactly where, by the class graph as this call's
@@ -60,6 +65,46 @@ pub fn take<R: Wait>(
     unreachable!()
 }
 
+/// Gains a lock in a mode, if its word admits that. Where the word changed meanwhile and admits the mode still, that is
+/// tried again; and a free word that shows waiters is claimed under the lock's chain. `Busy` comes only where a look of
+/// this call, its last one, saw the word of a held lock that doesn't admit the mode, and has that word. It never
+/// sleeps.
+pub fn try_take<R: Wait>(
+    floor: &Floor,
+    rt: &R,
+    pass: &mut Pass,
+    l: LockNo,
+    mode: Mode,
+) -> Result<(), Busy>
+    requires ready { IsReady floor.now pass.old }
+    requires may { MayTake floor.now.description l.0 mode pass.old.view }
+    ensures ready { IsReady floor.now pass.new }
+    ensures gained { IfOk result (λ _. MakesEntry floor.now.description (event.Tried l mode)
+        (pass.old.view.share.held ++ as_tried l mode ∷ []) pass.old.view pass.new.view) }
+    ensures steps { IfOk result
+        (λ _. GainsAndNotes floor.now.description l mode pass.old.view pass.new.view) }
+    ensures busy { IfErr result
+        (λ b. WasBusyFor floor.now.description l mode b.seen pass.old.view pass.new.view) }
+    ensures noted { IfErr result (λ b. MakesEntry floor.now.description (event.Busy l b.seen)
+        pass.old.view.share.held pass.old.view pass.new.view) }
+{
+    match begin_try(floor, pass, l, mode) {
+        TryNext::Gained => return Ok(()),
+        TryNext::Busy(seen) => return Err(Busy { seen }),
+        TryNext::Again => {}
+    }
+    let backoff = Backoff::new();
+    for _ in rt.forever() {
+        let before = pass.call();
+        match go_on_trying(floor, pass) {
+            TryNext::Gained => return Ok(()),
+            TryNext::Busy(seen) => return Err(Busy { seen }),
+            TryNext::Again => pause(&backoff, before, pass.call()),
+        }
+    }
+    unreachable!()
+}
+
 /// Releases a lock that is held in a mode, and wakes those who wait for it.
 pub fn release<R: Wait>(floor: &Floor, rt: &R, pass: &mut Pass, l: LockNo, mode: Mode)
     requires ready { IsReady floor.now pass.old }
@@ -67,7 +112,7 @@ pub fn release<R: Wait>(floor: &Floor, rt: &R, pass: &mut Pass, l: LockNo, mode:
     ensures ready { IsReady floor.now pass.new }
     ensures entry { MakesEntry floor.now.description (event.Unlocked l mode)
         (without_lock l.0 pass.old.view.share.held) pass.old.view pass.new.view }
-    ensures steps { (how : Release) × MakesEach floor.now.description
+    ensures steps { (how : Release) × IsReleaseIn mode how × MakesEach floor.now.description
         (unlocks floor.now.description pass.old.view.thread l mode how)
         pass.old.view pass.new.view }
 {
@@ -87,6 +132,25 @@ pub fn release<R: Wait>(floor: &Floor, rt: &R, pass: &mut Pass, l: LockNo, mode:
         }
     }
     unreachable!()
+}
+
+/// Releases a lock in the mode in which the thread holds it, and wakes those who wait for it.
+pub fn release_held<R: Wait>(floor: &Floor, rt: &R, pass: &mut Pass, l: LockNo)
+    requires ready { IsReady floor.now pass.old }
+    requires may { (mode : InMode) × MayRelease floor.now.description l.0 mode pass.old.view }
+    ensures ready { IsReady floor.now pass.new }
+    ensures entry { (mode : InMode) → hold_in pass.old.view.share.held l.0 ≡ Holds mode
+        → MakesEntry floor.now.description (event.Unlocked l mode)
+        (without_lock l.0 pass.old.view.share.held) pass.old.view pass.new.view }
+    ensures steps { (mode : InMode) → hold_in pass.old.view.share.held l.0 ≡ Holds mode
+        → (how : Release) × IsReleaseIn mode how × MakesEach floor.now.description
+        (unlocks floor.now.description pass.old.view.thread l mode how)
+        pass.old.view pass.new.view }
+{
+    match pass.mode(l) {
+        Some(mode) => release(floor, rt, pass, l, mode),
+        None => unreachable!(),
+    }
 }
 
 // Pauses between two parts of a call. Between two looks at a lock's word it spins. Where the call stands as it stood
@@ -115,6 +179,14 @@ fn spins(call: Call) -> bool {
             | TakeAt::Contends(_)
             | TakeAt::Walks(_)
             | TakeAt::Hops(_),
+            ..
+        } => false,
+        Call::Try {
+            at: TryAt::Tries(left),
+            ..
+        } => left > 0,
+        Call::Try {
+            at: TryAt::ComesIn | TryAt::Decides(_),
             ..
         } => false,
         Call::None | Call::Release { .. } => false,

@@ -23,7 +23,7 @@ use Rattle.lock_objects.specs.Represents.{RepresentsRecord, QueueColumns, record
 use Rattle.lock_objects.proofs.Hops.{claimed_others, can_claim_it, claimed_head, claimed_record}
 use Rattle.lock_objects.proofs.Queues.{IsHead, there}
 use Rattle.lock_state.specs.Facts.{Lawful}
-use Rattle.lock_state.specs.State.{State, put}
+use Rattle.lock_state.specs.State.{State}
 use Rattle.lock_state.specs.Steps.{Step, Looks, Claims}
 use Rattle.lock_state.specs.Steps.Items.{Item, TurnstileChain, SleepChain, RecordOf, CellOf, ClassGraph}
 use Rattle.lock_state.specs.Steps.Lending.{MayClaim, loan_of, after_claim}
@@ -33,29 +33,24 @@ use Rattle.turnstile_core.specs.Seen.{Turnstile}
 use Rattle.floor_table.specs.Descriptions.{config_in}
 use Rattle.floor_table.specs.declared.description.Description.{Description}
 use Rattle.floor_table.specs.declared.slot.Slot.{Slot}
-use Rattle.floor_table.specs.declared.slot.Slot.TheVariants.{Record, Turnstiles}
-use Rattle.floor_table.specs.Places.{spot, lock_line, lock_word, latch_word, slots_for, slot_of, home_at}
-use Rattle.floor_table.specs.Represents.{Board, RepresentsTurnstiles, RepresentsObjects, RepresentsShare, objects_in, sleepers, thread_in}
+use Rattle.floor_table.specs.declared.slot.Slot.TheVariants.{Turnstiles}
+use Rattle.floor_table.specs.Places.{spot, lock_line, lock_word}
+use Rattle.floor_table.specs.Represents.{Board, RepresentsTurnstiles, RepresentsShare, objects_in, sleepers}
 use Rattle.floor_table.specs.Rule.{FloorHolds}
 use Rattle.floor_table.specs.Shares.{share_in}
-use Rattle.floor_table.specs.Shelves.{Shelves, found}
+use Rattle.floor_table.specs.Shelves.{found}
 use Rattle.floor_table.specs.Steps.{MayMake, Makes}
 use Rattle.floor_table.specs.Views.{Knowledge, OfThread, seeing}
-use Rattle.floor_table.proofs.Items.{one_place}
-use Rattle.floor_table.proofs.Made.{Finds, Steps, exchange_allows, lock_made_with, own_out, OwnSteps}
-use Rattle.floor_table.proofs.Objects.{SaySame, still_of}
+use Rattle.floor_table.proofs.Made.{Finds, Steps, exchange_allows, OwnSteps}
+use Rattle.floor_table.proofs.Objects.{SaySame}
 use Rattle.floor_table.proofs.Seen.{one_own}
-use Rattle.floor_table.proofs.Shelved.{found_first, found_later}
 use Rattle.lock_floor.specs.Claims.{MayClaimIt, as_claimed, claimed, out_claimed}
 use Rattle.lock_floor.specs.Opens.{HasBothOut}
 use Rattle.lock_floor.specs.Views.{counts}
-use Rattle.lock_floor.specs.Waits.{chain_place}
+use Rattle.lock_floor.proofs.BothChanged.{record_says, chain_says, both_made}
 use Rattle.lock_floor.proofs.ChainChanges.{chain_of_lock, its_own, turnstiles_same, sleepers_same, chain_placed}
-use Rattle.lock_floor.proofs.ChainPlaces.{chain_at}
 use Rattle.lock_floor.proofs.Looking.{Looked, looks, found_word}
 use Rattle.lock_floor.proofs.Shares.{gain_own, gain_others}
-use Rattle.lock_floor.proofs.Taking.{record_at}
-use Rattle.lock_floor.proofs.TwoChanged.{shelf_both, two_changed}
 
 -- 1. The shares behind it are those behind a gain
 
@@ -181,20 +176,11 @@ module _ (floor : Description) (me : Me Slot Knowledge) (was : me.0.role ≡ OfT
       let allowed = may.may number s f.fits (its_word, stands.1) in
       let g = allowed.0.fits.may in
       let kind = turnstile floor s t k number by_try lawful g in
-      let m : ℕ = k % floor.chains in
-      let j : ℕ = chain_place floor (lock_queue k) in
-      let place : slot_of floor (RecordOf t) ≡ Some t = record_at floor t f.fits.thread in
-      let at : slot_of floor (TurnstileChain m) ≡ Some j = ap (slot_of floor) (sym (its_own floor k kind))
-      ∙ chain_at floor f.represents.sizes.sized.some_chains (lock_queue k) in
-      let apart : t ≢ j = λ e. let z : RecordOf t ≡ TurnstileChain m =
-      one_place floor (RecordOf t) (TurnstileChain m) j (place ∙ ap Some e) at in cc in
-      let rec : RepresentsRecord box.value (record_in s t) =
-      (f.fits.out.each (RecordOf t) t (Record box) place
-      (ap (found t) may.both.out ∙ found_first t (Record box) ((j, Turnstiles chain) ∷ []))).1 in
-      let shows : RepresentsTurnstiles floor m chain (objects_in s) =
-      (f.fits.out.each (TurnstileChain m) j (Turnstiles chain) at
-      (ap (found j) may.both.out ∙ found_later t j (Record box) ((j, Turnstiles chain) ∷ []) apart
-      ∙ found_first j (Turnstiles chain) [])).1 in
+      let rec : RepresentsRecord box.value (record_in s t) = record_says floor b v f (lock_queue k)
+      (chain_of_lock floor k kind) (its_own floor k kind) box (Turnstiles chain) may.both.out in
+      let shows : RepresentsTurnstiles floor (k % floor.chains) chain (objects_in s) =
+      chain_says floor b v f (lock_queue k) (chain_of_lock floor k kind) (its_own floor k kind) box (Turnstiles chain)
+      may.both.out in
       let head = its_head floor s t k number by_try lawful g box rec chain shows in
       let h : Turnstile = head.0 in
       let after : List (ℕ × Slot) = out_claimed floor t k box chain h in
@@ -209,23 +195,12 @@ module _ (floor : Description) (me : Me Slot Knowledge) (was : me.0.role ≡ OfT
         other_poses = λ u ne p z. z;
       } in
       let says_now : word_of new ≡ words.claimed (s.word k) t = says ∙ ap (λ y. words.claimed y t) (sym its_word) in
-      let r = f.represents in
-      let outs : ℕ → List (ℕ × Slot) = λ u. (thread_in b.views u).out in
-      let first : Slot = Record (with_value box (record_claimed k h box.value)) in
-      let second : Slot = Turnstiles (chain_claimed k box.value.thread h chain) in
-      let shelves : Shelves (slots_for floor) (latch_word b.words) (home_at b.homes) (put outs t after)
-      (put (put r.content t first) j second) =
-      shelf_both (slots_for floor) (latch_word b.words) (home_at b.homes) outs r.content r.shelves t j t (Record box)
-      first (Turnstiles chain) second apart (own_out floor (step ∷ []) b v w f was allowed own me.1 ∙ may.both.out) in
-      let objects : RepresentsObjects floor (put (put r.content t first) j second) (objects_in n) =
-      two_changed floor r.content (objects_in s) (objects_in n) (RecordOf t) (TurnstileChain m) t j first second place
-      at
-      (λ i z no_record no_chain. still_of floor (objects_in s) (objects_in n) i z
-      (says_same floor s t k number by_try lawful g i no_record no_chain)) refl
+      let made = both_made floor b v f (lock_queue k) (chain_of_lock floor k kind) (its_own floor k kind) box
+      (Turnstiles chain) may.both.out step w was allowed own me.1 (with_value box (record_claimed k h box.value))
+      (Turnstiles (chain_claimed k box.value.thread h chain)) refl k new (words.claimed (s.word k) t) low says_now refl
+      refl refl (says_same floor s t k number by_try lawful g) refl
       (record_shown floor s t k number by_try lawful g box rec chain shows)
-      (chain_shown floor s t k number by_try lawful g box rec chain shows) r.objects in
-      let made = lock_made_with floor (step ∷ []) b v w f was allowed own me.1 k new
-      (words.claimed (s.word k) t) _ low says_now refl refl refl shelves objects in
+      (chain_shown floor s t k number by_try lawful g box rec chain shows) in
       let named : number ≡ h.contents.number =
       same_Some number h.contents.number (sym g.head ∙ ap (λ (x : QueueColumns). x.head) head.2.queue) in
       let told : ClaimsWord floor l by_try me (w, me.1) = record {

@@ -24,7 +24,7 @@ use Rattle.lock_objects.proofs.Enters.{can_lend, head_shown, entered_record}
 use Rattle.lock_objects.proofs.Queues.{SameQueue}
 use Rattle.lock_objects.proofs.StepsOfSleepers.{somebody_stands}
 use Rattle.lock_state.specs.Facts.{Lawful}
-use Rattle.lock_state.specs.State.{State, put}
+use Rattle.lock_state.specs.State.{State}
 use Rattle.lock_state.specs.Steps.{Step, Looks, Enters}
 use Rattle.lock_state.specs.Steps.Items.{Item, TurnstileChain, SleepChain, RecordOf, CellOf, ClassGraph}
 use Rattle.lock_state.specs.Steps.Turnstiles.{after_enter}
@@ -35,25 +35,21 @@ use Rattle.floor_table.specs.Descriptions.{config_in}
 use Rattle.floor_table.specs.declared.description.Description.{Description}
 use Rattle.floor_table.specs.declared.slot.Slot.{Slot}
 use Rattle.floor_table.specs.declared.slot.Slot.TheVariants.{Record, Cell, Turnstiles, SleepQueues, Graph}
-use Rattle.floor_table.specs.Places.{spot, lock_line, lock_word, latch_word, slots_for, slot_of, home_at}
-use Rattle.floor_table.specs.Represents.{Board, RepresentsTurnstiles, IsPosed, RepresentsObjects, objects_in, sleepers, thread_in}
+use Rattle.floor_table.specs.Places.{spot, lock_line, lock_word}
+use Rattle.floor_table.specs.Represents.{Board, RepresentsTurnstiles, IsPosed, objects_in, sleepers}
 use Rattle.floor_table.specs.Rule.{FloorHolds}
-use Rattle.floor_table.specs.Shelves.{Shelves, found}
+use Rattle.floor_table.specs.Shelves.{found}
 use Rattle.floor_table.specs.Steps.{MayMake, Makes}
 use Rattle.floor_table.specs.Views.{Knowledge, OfThread, seeing}
-use Rattle.floor_table.proofs.Items.{one_place}
-use Rattle.floor_table.proofs.Made.{Finds, Steps, exchange_allows, lock_made_with, own_out, OwnSteps}
-use Rattle.floor_table.proofs.Objects.{SaySame, still_of}
+use Rattle.floor_table.proofs.Made.{Finds, Steps, exchange_allows, OwnSteps}
+use Rattle.floor_table.proofs.Objects.{SaySame}
 use Rattle.floor_table.proofs.Seen.{one_own}
-use Rattle.floor_table.proofs.Shelved.{found_first, found_later}
 use Rattle.lock_floor.specs.Views.{counts}
-use Rattle.lock_floor.specs.Waits.{chain_place, both_out, out_entered, entered}
+use Rattle.lock_floor.specs.Waits.{both_out, out_entered, entered}
+use Rattle.lock_floor.proofs.BothChanged.{record_says, chain_says, both_made}
 use Rattle.lock_floor.proofs.ChainChanges.{chain_of_lock, its_own, turnstiles_same, sleepers_same, chain_placed}
-use Rattle.lock_floor.proofs.ChainPlaces.{chain_at}
 use Rattle.lock_floor.proofs.Gaining.{Changed, missed}
 use Rattle.lock_floor.proofs.Looking.{Looked, found_word}
-use Rattle.lock_floor.proofs.Taking.{record_at}
-use Rattle.lock_floor.proofs.TwoChanged.{shelf_both, two_changed}
 use Rattle.lock_floor.proofs.Waiting.{enter_own, enter_others}
 
 -- the number of what a queue is of
@@ -168,20 +164,11 @@ module _ (floor : Description) (me : Me Slot Knowledge) (was : me.0.role ≡ OfT
       let its_owner : owner ≡ owner_of (s.word l).holder = ap (λ y. owner_of y.holder) (sym its_word) in
       let allowed = may s h.fits its_word in
       let g = allowed.0.fits.may in
-      let m : ℕ = l % floor.chains in
-      let j : ℕ = chain_place floor (lock_queue l) in
-      let place : slot_of floor (RecordOf t) ≡ Some t = record_at floor t h.fits.thread in
-      let at : slot_of floor (TurnstileChain m) ≡ Some j = ap (slot_of floor) (sym (its_own floor l g.turnstile))
-      ∙ chain_at floor h.represents.sizes.sized.some_chains (lock_queue l) in
-      let apart : t ≢ j = λ e. let z : RecordOf t ≡ TurnstileChain m =
-      one_place floor (RecordOf t) (TurnstileChain m) j (place ∙ ap Some e) at in cc in
-      let rec : RepresentsRecord box.value (record_in s t) =
-      (h.fits.out.each (RecordOf t) t (Record box) place
-      (ap (found t) out ∙ found_first t (Record box) ((j, Turnstiles chain) ∷ []))).1 in
-      let shows : RepresentsTurnstiles floor m chain (objects_in s) =
-      (h.fits.out.each (TurnstileChain m) j (Turnstiles chain) at
-      (ap (found j) out ∙ found_later t j (Record box) ((j, Turnstiles chain) ∷ []) apart
-      ∙ found_first j (Turnstiles chain) [])).1 in
+      let rec : RepresentsRecord box.value (record_in s t) = record_says floor b v h (lock_queue l)
+      (chain_of_lock floor l g.turnstile) (its_own floor l g.turnstile) box (Turnstiles chain) out in
+      let shows : RepresentsTurnstiles floor (l % floor.chains) chain (objects_in s) =
+      chain_says floor b v h (lock_queue l) (chain_of_lock floor l g.turnstile) (its_own floor l g.turnstile) box
+      (Turnstiles chain) out in
       let lend = can_lend c s t l x h.sound.facts.lawful h.fits.thread g.turnstile g.own in
       let own : OwnSteps v w h.past (step ∷ []) s n = record {
         role = was;
@@ -195,23 +182,12 @@ module _ (floor : Description) (me : Me Slot Knowledge) (was : me.0.role ≡ OfT
       } in
       let says_now : word_of new ≡ words.entered (s.word l) (side_of mode) = says
       ∙ ap (λ y. words.entered y (side_of mode)) (sym its_word) in
-      let r = h.represents in
-      let outs : ℕ → List (ℕ × Slot) = λ u. (thread_in b.views u).out in
-      let shelves : Shelves (slots_for floor) (latch_word b.words) (home_at b.homes) (put outs t after) _ =
-      shelf_both (slots_for floor) (latch_word b.words) (home_at b.homes) outs r.content r.shelves t j t (Record box)
-      (Record (with_value box (record_entered l box.value))) (Turnstiles chain)
-      (Turnstiles (chain_entered l (side_of mode) x owner (waiter_of box.value) chain)) apart
-      (own_out floor (step ∷ []) b v w h was allowed own me.1 ∙ out) in
-      let objects : RepresentsObjects floor _ (objects_in n) =
-      two_changed floor r.content (objects_in s) (objects_in n) (RecordOf t) (TurnstileChain m) t j
-      (Record (with_value box (record_entered l box.value)))
-      (Turnstiles (chain_entered l (side_of mode) x owner (waiter_of box.value) chain)) place at
-      (λ k z no_record no_chain. still_of floor (objects_in s) (objects_in n) k z
-      (says_same floor l g.turnstile s t mode x k no_record no_chain)) refl
-      (entered_record s t l mode x refl rec)
-      (chain_shown floor l g.turnstile s t mode x owner its_owner lend box rec chain shows) r.objects in
-      let made = lock_made_with floor (step ∷ []) b v w h was allowed own me.1 l new
-      (words.entered (s.word l) (side_of mode)) _ low says_now refl refl refl shelves objects in (
+      let made = both_made floor b v h (lock_queue l) (chain_of_lock floor l g.turnstile) (its_own floor l g.turnstile)
+      box (Turnstiles chain) out step w was allowed own me.1 (with_value box (record_entered l box.value))
+      (Turnstiles (chain_entered l (side_of mode) x owner (waiter_of box.value) chain)) refl l new
+      (words.entered (s.word l) (side_of mode)) low says_now refl refl refl
+      (says_same floor l g.turnstile s t mode x) refl (entered_record s t l mode x refl rec)
+      (chain_shown floor l g.turnstile s t mode x owner its_owner lend box rec chain shows) in (
         w,
         keeps,
         tt,

@@ -1,5 +1,5 @@
 -- Whether a thread is Queued, as its wait word says it at the moment at which it is loaded.
-use Rattle.std.proofs.Common.{◌≡◌, ◌↔◌, ℕ, ◌<◌, eqb, Bool, true, List, [], ◌∷◌, length, refl, sym, ap, ◌∙◌, subst, arith, eq-eqb}
+use Rattle.std.proofs.Common.{◌≡◌, ℕ, ◌<◌, eqb, Bool, length, refl, sym, ap, ◌∙◌, subst, arith, eq-eqb}
 use Rattle.std.proofs.lemmas.Bool.{eqb-true}
 use Rattle.atomic_table.specs.Table.{Me, keeps, Allows}
 use Rattle.lock_model.specs.Queues.{BySignal, ByAbort}

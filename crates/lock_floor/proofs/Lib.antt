@@ -25,6 +25,7 @@ pub mod ChainPlaces
 pub mod ChainNames
 pub mod ChainChanges
 pub mod TwoChanged
+pub mod BothChanged
 pub mod Waiting
 pub mod Readying
 pub mod Entering
@@ -60,3 +61,16 @@ pub mod Beginning
 pub mod OrderStep
 pub mod OrderCall
 pub mod Calling
+pub mod SleepChanges
+pub mod WakeUpStep
+pub mod WakeUpCall
+pub mod AddStep
+pub mod AddCall
+pub mod BothOut
+pub mod MaySleep
+pub mod LieDownCall
+pub mod SleepEnterStep
+pub mod SleepEnterCall
+pub mod SleepOpenStep
+pub mod SleepOpenCall
+pub mod SleepingThreads

@@ -1,5 +1,5 @@
 -- What the call that wakes the first of a marked list needs of its parts, and what it was told.
-use Rattle.std.proofs.Common.{◌≡◌, ℕ, ◌<◌, Bool, true, false, List, [], ◌∷◌, length, sym, ap, ◌∙◌, subst, reverse}
+use Rattle.std.proofs.Common.{◌≡◌, ℕ, Bool, false, List, [], ◌∷◌, refl, sym, ap, ◌∙◌, subst}
 use Rattle.std.specs.Box.{with_value}
 use Rattle.std.specs.Global.{Vec}
 use Rattle.std.specs.declared.alloc.Global.{Global}
@@ -26,6 +26,7 @@ use Rattle.floor_table.specs.declared.slot.Slot.TheVariants.{Record}
 use Rattle.lock_floor.specs.Marks.{AreMarked, HasFirstOut, MarksFirst, MayMark, marked_first, out_marked}
 use Rattle.lock_floor.specs.Ties.{IsTied}
 use Rattle.lock_floor.proofs.MarkStep.{MarkedFirst, mark_allowed}
+use Rattle.lock_floor.proofs.Tied.{tied_then}
 use Rattle.lock_floor.proofs.Marked.{first_thread, first_cause, first_away, first_record, others_marked}
 
 module _ (floor : Description) (me : Me Slot Knowledge) (w : Woken) (old new : Marked) (slot u : ℕ)
@@ -118,22 +119,9 @@ module _ (floor : Description) (me : Me Slot Knowledge) (w : Woken) (old new : M
       pub call_tied : (who : ℕ) (locks : Vec Held) (book : Book) (fin : Bool) → fin ≡ false → me.0.description ≡ floor
           → IsTied who locks old book fin me → IsTied who locks new book fin behind
       call_tied who locks book fin going mine h =
-          let v = call_view in
           let left : AreMarked floor new ms =
           others_marked floor old new w me.0.share.doing.marked m ms are need.first.marked first in
-          record {
-            role = ap (λ w. w.role) v ∙ h.role;
-            thread = h.thread ∙ sym (ap (λ w. w.thread) v);
-            of_floor = subst (λ (d : Description). who < length d.threads) (sym (ap (λ w. w.description) v)) h.of_floor;
-            few = h.few;
-            held = h.held ∙ sym (ap (λ w. w.share.held) v);
-            room = h.room;
-            marks = subst (λ (z : Description × List Mark). AreMarked z.0 new z.1)
-                (λ i. (sym (ap (λ w. w.description) v ∙ mine) i, sym (ap (λ w. w.share.doing.marked) v) i)) left;
-            log = h.log ∙ ap reverse (sym (ap (λ w. w.share.log) v));
-            spare = h.spare ∙ sym (ap (λ w. w.spare) v);
-            out = ap (λ (k : Me Slot Knowledge). k.1) its.0 ∙ worked_here ∙ sym (ap (λ w. w.out) v);
-            done = λ e. absurd (let z : false ≡ true = sym going ∙ e in cc);
-            runs = λ e. absurd (let z : false ≡ true = sym going ∙ e in cc);
-            rests = λ e. absurd (let z : false ≡ true = sym going ∙ e in cc);
-          }
+          tied_then who locks locks old new book fin me behind
+          (marked_first me.0 m ms (out_marked (config_in floor) m box me.0.out)) going h call_view
+          (ap (λ (k : Me Slot Knowledge). k.1) its.0 ∙ worked_here ∙ sym (ap (λ k. k.out) call_view)) refl h.held h.room
+          (subst (λ (d : Description). AreMarked d new ms) (sym mine) left)

@@ -6,9 +6,9 @@ use mathlib.Core.Option as slots
 use mathlib.Core.Option.{some-ne-none}
 use Rattle.atomic_table.specs.Table.{rest}
 use Rattle.lock_laws.proofs.Kit.{put_same}
-use Rattle.lock_laws.proofs.OwnEntries.{own_section}
+use Rattle.lock_laws.proofs.OwnEntries.{own_section, own_sections}
 use Rattle.lock_model.specs.Config.{Config}
-use Rattle.lock_model.specs.History.{open_in}
+use Rattle.lock_model.specs.History.{open_in, left_in}
 use Rattle.lock_model.specs.Holds.{Hold, NotHeld, Holds}
 use Rattle.lock_model.specs.Operations.{hold_in}
 use Rattle.lock_model.specs.Queues.{lock_queue}
@@ -16,10 +16,11 @@ use Rattle.lock_model.specs.Words.{Word, admits, is_plain, is_drop}
 use Rattle.lock_model.specs.declared.event.Event.{Event}
 use Rattle.lock_model.specs.declared.plan.Kind.TheVariants.{Mtx}
 use Rattle.lock_model.specs.declared.plan.Mode.{Mode}
+use Rattle.lock_model.specs.declared.plan.QueueName.{QueueName}
 use Rattle.lock_state.specs.Facts.{LogsAreParts, OnlyLocksAreHeld}
-use Rattle.lock_state.specs.State.{State, Look, Round, Running, Queued, Awake, SleepHalted, is_parked, gained_order}
+use Rattle.lock_state.specs.State.{State, Wait, Look, Round, Running, Queued, Awake, SleepHalted, is_parked, gained_order}
 use Rattle.lock_state.specs.Steps.{Looks, Seeks, Gains, Drops, TakesItem, GivesItem, chain_of, seeks, is_first, is_with, counts_as_look, Stamps, FitsRound, IsItem, IsOfRound, HasItem, HasOutForEntry, NotesInRound, EndsTake, ends_sleep, is_halting, IsHalting, IsFirstExchange, IsSecondExchange, IsRunnable, OwesNoStep, GoesOn, NeedsNoAdmission, IsRoundOfWanted, GainsInOrder}
-use Rattle.lock_state.specs.Steps.Items.{Item, TurnstileChain, SleepChain, RecordOf, CellOf, ClassGraph, item_with, IsOnItsWay, MayCheckOrders, IsDoneWith}
+use Rattle.lock_state.specs.Steps.Items.{Item, TurnstileChain, SleepChain, RecordOf, CellOf, ClassGraph, item_with, IsOnItsWay, IsSettled, MayCheckOrders, IsDoneWith}
 use Rattle.lock_state.specs.Steps.LockWords.{Asks, IsActing, is_woken, is_taking_back, round_of, taking_from, after_seek}
 use Rattle.floor_table.specs.Descriptions.{config_in}
 use Rattle.floor_table.specs.declared.description.Description.{Description}
@@ -30,10 +31,10 @@ use Rattle.floor_table.specs.Represents.{IsOf, IsPosed, objects_in}
 use Rattle.floor_table.specs.Shelves.{found}
 use Rattle.floor_table.specs.Shares.{Doing, ShareColumns, columns_of, share_in, is_among}
 use Rattle.floor_table.specs.Steps.{Fits, MayMake}
-use Rattle.floor_table.specs.Views.{Runs, is_off_queues, Knowledge}
+use Rattle.floor_table.specs.Views.{Pose, Runs, StandsOn, is_off_queues, Knowledge}
 use Rattle.floor_table.proofs.Poses.{stands_nowhere}
 use Rattle.floor_table.proofs.Shelved.{found_first}
-use Rattle.lock_floor.specs.Passes.{IsGoing}
+use Rattle.lock_floor.specs.Passes.{IsGoing, IsOffTheWay}
 use Rattle.lock_floor.specs.Views.{is_there, is_out, has_item, counts}
 
 both_true : (x y : Bool) → (x && y) ≡ true → (x ≡ true) × (y ≡ true)
@@ -110,6 +111,17 @@ pub record BeginsRound (l : ℕ) (by_try : Bool) (v : Knowledge) : Type 0 where
   pub nothing_out : v.out ≡ []
   pub going : IsGoing v
 
+-- a thread that runs, or came to stand on a queue, isn't about to stand on one
+settled_at : (p : Pose) (wait : Wait) (o : Option QueueName) → IsOffTheWay p → IsPosed p wait o → wait ≡ Queued
+    → o ≢ None
+settled_at p wait o (inl e) h queued none = let z : Running ≡ Queued = sym (subst (λ k. IsPosed k wait o) e h)
+    ∙ queued in cc
+settled_at p wait o (inr (q, e)) h queued none = go (subst (λ k. IsPosed k wait o) e h)
+  where
+    go : IsPosed (StandsOn q) wait o → ⊥
+    go (inl there) = let z : None ≡ Some q = sym none ∙ there.1 in cc
+    go (inr woken) = let z : true ≡ false = sym (ap is_woken woken.1) ∙ ap is_woken queued in cc
+
 module _ (floor : Description) (v : Knowledge) where
   abbrev c : Config
   c = config_in floor
@@ -156,6 +168,12 @@ module _ (floor : Description) (v : Knowledge) where
     own_log l = own_section c s.history t l
         ∙ ap (λ es. open_in c es t l) (sym (f.sound.facts.lawful.books.logs_are_parts t) ∙ sym (column (λ x. x.log)))
 
+    -- and so are those that its waits ended
+    pub own_left : (l : ℕ) → left_in c v.share.log t l ≡ left_in c s.history t l
+    unfolding LogsAreParts
+    own_left l = sym (ap (λ x. x.left) (own_sections c s.history t l)
+        ∙ ap (λ es. left_in c es t l) (sym (f.sound.facts.lawful.books.logs_are_parts t) ∙ sym (column (λ x. x.log))))
+
     -- what it holds, wants, seeks and does
     pub holds_it : (l : ℕ) → s.held t l ≡ hold_in v.share.held l
     holds_it l = sym (column (λ x. x.held l))
@@ -186,6 +204,31 @@ module _ (floor : Description) (v : Knowledge) where
         go None e = refl
         go (Some u) e = ne_eqb u t (λ q. nothing_with empty i (e ∙ ap Some q))
 
+    pub settled_now : IsOffTheWay v.pose → IsSettled s t
+    settled_now there = settled_at v.pose (s.wait t) (s.blocked_on t) there f.pose
+
+    -- it isn't on its way to a channel
+    pub not_away_settled : IsOffTheWay v.pose → IsOnItsWay s t → ⊥
+    not_away_settled there o = settled_now there o.queued o.nowhere
+
+    pub awake_now : IsGoing v → IsRunnable s t
+    awake_now going = record {
+      phase = doing_it (λ d. d.phase) ∙ going.awake;
+      unended = doing_it (λ d. d.has_ended) ∙ going.unended;
+    }
+
+    not_halting : IsGoing v → IsHalting s t → ⊥
+    not_halting going e = let z : false ≡ true = sym (ap is_halting (awake_now going).phase) ∙ e in cc
+
+    pub stamped_now : IsGoing v → s.unstamped t ≡ None
+    stamped_now going = doing_it (λ d. d.unstamped) ∙ going.stamped
+
+    pub owes_settled : IsOffTheWay v.pose → IsGoing v → OwesNoStep s t
+    owes_settled there going = record { added = not_away_settled there; stamped = stamped_now going }
+
+    pub goes_on_settled : IsOffTheWay v.pose → IsGoing v → GoesOn s t
+    goes_on_settled there going = record { runs = awake_now going; owes = owes_settled there going }
+
     module _ (runs : v.pose ≡ Runs) where
       is_running : s.wait t ≡ Running
       is_running = subst (λ p. IsPosed p (s.wait t) (s.blocked_on t)) runs f.pose
@@ -199,23 +242,17 @@ module _ (floor : Description) (v : Knowledge) where
 
       -- a thread that runs isn't on its way to a channel
       off : IsOnItsWay s t → ⊥
-      off o = let z : Running ≡ Queued = sym is_running ∙ o.queued in cc
+      off = not_away_settled (inl runs)
 
     module _ (runs : v.pose ≡ Runs) (going : IsGoing v) where
       pub is_awake : IsRunnable s t
-      is_awake = record {
-        phase = doing_it (λ d. d.phase) ∙ going.awake;
-        unended = doing_it (λ d. d.has_ended) ∙ going.unended;
-      }
+      is_awake = awake_now going
 
       pub owes_none : OwesNoStep s t
-      owes_none = record { added = off runs; stamped = doing_it (λ d. d.unstamped) ∙ going.stamped }
+      owes_none = owes_settled (inl runs) going
 
       pub goes_on : GoesOn s t
-      goes_on = record { runs = is_awake; owes = owes_none }
-
-      not_halting : IsHalting s t → ⊥
-      not_halting e = let z : false ≡ true = sym (ap is_halting is_awake.phase) ∙ e in cc
+      goes_on = goes_on_settled (inl runs) going
 
       first_exchange : BeginsCall v → IsFirstExchange s t
       first_exchange b = record {
@@ -327,7 +364,7 @@ module _ (floor : Description) (v : Knowledge) where
               outside_takes = λ none. inl (doing_it s f (λ d. d.taking) ∙ takes (sym round ∙ none));
               outside_first = λ none unheld. call_exchange s f runs going l
                   (first (sym round ∙ none) (sym (holds_it s f l) ∙ unheld));
-              halting = λ e. absurd (not_halting s f runs going e);
+              halting = λ e. absurd (not_halting s f going e);
             };
             asks_of_thread = record { runs = inl (is_awake s f runs going); owes = owes_none s f runs going };
           };
@@ -348,6 +385,42 @@ module _ (floor : Description) (v : Knowledge) where
           (let z : None ≡ Some l = sym (doing_it s f (λ d. d.taking) ∙ takes none) ∙ e in cc)
       of_the_round e (Some r) some = ap (seeks l) (doing_it s f (λ d. d.round))
           ∙ seeks_it (λ none. let z : Some r ≡ None = sym some ∙ none in cc)
+
+  -- a look at a lock that it holds, to release it, of a thread that runs or stands on a queue
+  pub may_look_settled : (l : ℕ) (mode : Mode) → v.description ≡ floor → l < length floor.locks
+      → hold_in v.share.held l ≡ Holds mode → v.share.doing.round ≡ None → v.share.doing.taking ≡ None → v.out ≡ []
+      → IsOffTheWay v.pose → IsGoing v → MayMake floor v (λ s. Unit {0}) (Looks t l (counts v l) ∷ [])
+  may_look_settled l mode mine low held none takes empty there going s f _ =
+      let counted = counts_it s f mine l in
+      let uncounted : counts v l ≡ false = counts_not l mode none held in
+      let no_round : s.round t ≡ None = doing_it s f (λ d. d.round) ∙ none in
+      let holds : s.held t l ≡ Holds mode = holds_it s f l ∙ held in (
+        record {
+          fits = record {
+            may = record {
+              thread = f.thread;
+              lock = low;
+              room = λ e. absurd (let z : false ≡ true = sym uncounted ∙ e in cc);
+            };
+            has_out = tt;
+            has_seen = record {
+              counts = counted;
+              of_round = λ ne. absurd (ne no_round);
+              in_chain = λ i x out. absurd (nothing_with s f empty i out);
+              outside = λ i n x out. absurd (nothing_with s f empty i out);
+              outside_takes = λ _. inl (doing_it s f (λ d. d.taking) ∙ takes);
+              outside_first = λ _ unheld. absurd (let z : Holds mode ≡ NotHeld = sym holds ∙ unheld in cc);
+              halting = λ e. absurd (not_halting s f going e);
+            };
+            asks_of_thread = record { runs = inl (awake_now s f going); owes = owes_settled s f there going };
+          };
+          keeps_order = record {
+            taken = λ e. absurd (let z : None ≡ Some l = sym (doing_it s f (λ d. d.taking) ∙ takes) ∙ e in cc);
+            wants = λ _. no_wanted_round s f none;
+          };
+        },
+        tt,
+      )
 
   -- the begin of a round, with a first look or with a gain
 
@@ -425,7 +498,7 @@ module _ (floor : Description) (v : Knowledge) where
               outside = λ i n x out. absurd (nothing_with s f b.nothing_out i out);
               outside_takes = λ none. absurd (in_round none);
               outside_first = λ none. absurd (in_round none);
-              halting = λ e. absurd (not_halting s f b.runs b.going e);
+              halting = λ e. absurd (not_halting s f b.going e);
             };
             asks_of_thread = record { runs = inl runs_on; owes = owes_on };
           };
@@ -558,11 +631,12 @@ module _ (floor : Description) (v : Knowledge) where
         tt,
       )
 
-  pub may_drop : (l : ℕ) (mode : Mode) (word : Word) → l < length floor.locks → hold_in v.share.held l ≡ Holds mode
-      → is_drop word ≡ true → open_in c v.share.log t l ≡ NotHeld → is_among l v.share.begun ≡ true
-      → v.share.doing.taking ≡ None → v.pose ≡ Runs → IsGoing v
+  -- a release, of a thread that runs or stands on a queue
+  pub may_drop_settled : (l : ℕ) (mode : Mode) (word : Word) → l < length floor.locks
+      → hold_in v.share.held l ≡ Holds mode → is_drop word ≡ true → open_in c v.share.log t l ≡ NotHeld
+      → is_among l v.share.begun ≡ true → v.share.doing.taking ≡ None → IsOffTheWay v.pose → IsGoing v
       → MayMake floor v (λ s. s.word l ≡ word) (Drops t l mode ∷ [])
-  may_drop l mode word low held stays closed begun takes runs going s f its = (
+  may_drop_settled l mode word low held stays closed begun takes there going s f its = (
     record {
       fits = record {
         may = record {
@@ -575,12 +649,20 @@ module _ (floor : Description) (v : Knowledge) where
         };
         has_out = tt;
         has_seen = tt;
-        asks_of_thread = goes_on s f runs going;
+        asks_of_thread = goes_on_settled s f there going;
       };
       keeps_order = doing_it s f (λ d. d.taking) ∙ takes;
     },
     tt,
   )
+
+  -- the same of one that runs
+  pub may_drop : (l : ℕ) (mode : Mode) (word : Word) → l < length floor.locks → hold_in v.share.held l ≡ Holds mode
+      → is_drop word ≡ true → open_in c v.share.log t l ≡ NotHeld → is_among l v.share.begun ≡ true
+      → v.share.doing.taking ≡ None → v.pose ≡ Runs → IsGoing v
+      → MayMake floor v (λ s. s.word l ≡ word) (Drops t l mode ∷ [])
+  may_drop l mode word low held stays closed begun takes runs =
+      may_drop_settled l mode word low held stays closed begun takes (inl runs)
 
   -- 3. Entries
 
@@ -661,10 +743,10 @@ module _ (floor : Description) (v : Knowledge) where
     pub says_its : (s : State) → Fits floor v s → HasItem s t i × IsOf floor (objects_in s) i x
     says_its s f = f.out.each i j x place (ap (found j) last ∙ found_first j x (rest v.out))
 
-    -- a record or a cell goes home where the thread runs
-    pub may_give : is_record_or_cell i ≡ true → v.pose ≡ Runs → v.share.doing.phase ≡ Awake
+    -- a record or a cell goes home where the thread runs or stands on a queue
+    pub may_give_settled : is_record_or_cell i ≡ true → IsOffTheWay v.pose → v.share.doing.phase ≡ Awake
         → v.share.doing.unstamped ≡ None → MayMake floor v (λ s. Unit {0}) (GivesItem t i ∷ [])
-    may_give plain runs awake noted s f _ = (
+    may_give_settled plain there awake noted s f _ = (
       record {
         fits = record {
           may = record { thread = f.thread; out = (says_its s f).0; done = done i plain };
@@ -672,7 +754,10 @@ module _ (floor : Description) (v : Knowledge) where
           has_seen = tt;
           asks_of_thread = record {
             unparked = ap is_parked (doing_it s f (λ d. d.phase) ∙ awake);
-            owes = record { added = off s f runs; stamped = doing_it s f (λ d. d.unstamped) ∙ noted };
+            owes = record {
+              added = not_away_settled s f there;
+              stamped = doing_it s f (λ d. d.unstamped) ∙ noted;
+            };
           };
         };
         keeps_order = tt;
@@ -683,7 +768,11 @@ module _ (floor : Description) (v : Knowledge) where
         done : (k : Item) → is_record_or_cell k ≡ true → IsDoneWith s t k
         done (TurnstileChain k) it = absurd cc
         done (SleepChain k) it = absurd cc
-        done (RecordOf u) it =
-            λ own queued. absurd (let z : Running ≡ Queued = sym (is_running s f runs) ∙ queued in cc)
+        done (RecordOf u) it = λ own. settled_now s f there
         done (CellOf l key) it = tt
         done ClassGraph it = absurd cc
+
+    -- the same where it runs
+    pub may_give : is_record_or_cell i ≡ true → v.pose ≡ Runs → v.share.doing.phase ≡ Awake
+        → v.share.doing.unstamped ≡ None → MayMake floor v (λ s. Unit {0}) (GivesItem t i ∷ [])
+    may_give plain runs = may_give_settled plain (inl runs)

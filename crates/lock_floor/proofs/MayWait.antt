@@ -19,8 +19,9 @@ use Rattle.lock_model.specs.declared.plan.Mode.TheVariants.{Excl}
 use Rattle.lock_model.specs.declared.plan.QueueName.{QueueName}
 use Rattle.lock_model.specs.declared.plan.QueueName.TheVariants.{Lock, Chan}
 use Rattle.lock_objects.specs.Represents.{RecordColumns}
-use Rattle.lock_state.specs.State.{State, Wait, Running, Queued, NoWalk, Round, SleepHalted, is_parked}
-use Rattle.lock_state.specs.Steps.{Looks, Gains, Claims, Readies, Unreadies, Enters, TakesItem, GivesItem, seeks, is_first, is_with, FitsRound, GainsFromLook, IsItem, IsOfRound, HasItem, is_halting, IsRunnable}
+use Rattle.lock_state.specs.State.{State, Wait, NoWalk, Round, SleepHalted, is_parked}
+use Rattle.lock_state.specs.Steps.{Looks, Gains, Claims, Readies, Unreadies, Enters, TakesItem, GivesItem, seeks, is_first, is_with, FitsRound, GainsFromLook, EntersFromLook, IsItem, IsOfRound, HasItem, is_halting, GoesOn}
+use Rattle.lock_state.specs.Steps.Turnstiles.{MustWait}
 use Rattle.lock_state.specs.Steps.Items.{Item, TurnstileChain, SleepChain, RecordOf, item_with, go_together, is_chain, is_bound, in_its_chain, IsOnItsWay, IsSettled, IsDoneWith, MayCheckOrders}
 use Rattle.lock_state.specs.Steps.LockWords.{IsActing, is_woken, is_taking_back, round_of, bound_to}
 use Rattle.thread_records.specs.declared.record.ThreadRec.{ThreadRec}
@@ -36,12 +37,12 @@ use Rattle.floor_table.specs.Views.{Pose, Runs, IsReady, StandsOn, is_off_queues
 use Rattle.floor_table.proofs.Items.{one_place}
 use Rattle.floor_table.proofs.Poses.{stands_nowhere}
 use Rattle.floor_table.proofs.Shelved.{found_first, found_later}
-use Rattle.lock_floor.specs.Passes.{IsGoing}
+use Rattle.lock_floor.specs.Passes.{IsGoing, IsOffTheWay}
 use Rattle.lock_floor.specs.Latches.{IsOfKind, Takes}
 use Rattle.lock_floor.specs.Views.{counts, took}
 use Rattle.lock_floor.specs.Waits.{its_chain, chain_place}
 use Rattle.lock_floor.proofs.ChainPlaces.{chain_at}
-use Rattle.lock_floor.proofs.May.{IsOrderedTake, IsUnhalted, WantsItsRound, holds_it, doing_it, counts_it, own_log, column, in_wanted_round, gains_in_order}
+use Rattle.lock_floor.proofs.May.{IsOrderedTake, IsUnhalted, WantsItsRound, holds_it, doing_it, counts_it, own_log, column, in_wanted_round, gains_in_order, settled_now, not_away_settled, awake_now, stamped_now, owes_settled, goes_on}
 use Rattle.lock_floor.proofs.Taking.{record_at}
 
 -- 1. Chains
@@ -99,20 +100,6 @@ unwoken_at Runs wait o is h = ap is_woken h
 unwoken_at IsReady wait o is h = ap is_woken h.0
 unwoken_at (StandsOn q) wait o is h = absurd cc
 
--- it runs, or came to stand on a queue
-abbrev pub IsOffTheWay : Pose → Type 0
-IsOffTheWay p = (p ≡ Runs) ⊎ ((q : QueueName) × (p ≡ StandsOn q))
-
-settled_at : (p : Pose) (wait : Wait) (o : Option QueueName) → IsOffTheWay p → IsPosed p wait o → wait ≡ Queued
-    → o ≡ None → ⊥
-settled_at p wait o (inl e) h queued none = let z : Running ≡ Queued = sym (subst (λ k. IsPosed k wait o) e h)
-    ∙ queued in cc
-settled_at p wait o (inr (q, e)) h queued none = go (subst (λ k. IsPosed k wait o) e h)
-  where
-    go : IsPosed (StandsOn q) wait o → ⊥
-    go (inl there) = let z : None ≡ Some q = sym none ∙ there.1 in cc
-    go (inr woken) = let z : true ≡ false = sym (ap is_woken woken.1) ∙ ap is_woken queued in cc
-
 -- It isn't on its way to a channel: in a wait it wants the lock of the wait back, or was woken or halted
 abbrev pub IsNoSleeper : Knowledge → Type 0
 IsNoSleeper v =
@@ -127,15 +114,6 @@ module _ (floor : Description) (v : Knowledge) where
   t = v.thread
 
   module _ (s : State) (f : Fits floor v s) where
-    awake_now : IsGoing v → IsRunnable s t
-    awake_now going = record {
-      phase = doing_it floor v s f (λ d. d.phase) ∙ going.awake;
-      unended = doing_it floor v s f (λ d. d.has_ended) ∙ going.unended;
-    }
-
-    stamped_now : IsGoing v → s.unstamped t ≡ None
-    stamped_now going = doing_it floor v s f (λ d. d.unstamped) ∙ going.stamped
-
     -- it isn't on its way to a channel
     not_away : IsNoSleeper v → IsOnItsWay s t → ⊥
     not_away awake o =
@@ -143,9 +121,6 @@ module _ (floor : Description) (v : Knowledge) where
         (sym (doing_it floor v s f (λ d. d.wanted)) ∙ o.wants)
         (sym (doing_it floor v s f (λ d. d.woken_from)) ∙ o.unwoken)
         (λ d e. o.unhalted d (doing_it floor v s f (λ d. d.noted) ∙ e))
-
-    not_away_settled : IsOffTheWay v.pose → IsOnItsWay s t → ⊥
-    not_away_settled there o = settled_at v.pose (s.wait t) (s.blocked_on t) there f.pose o.queued o.nowhere
 
     acting_now : is_off_queues v.pose ≡ true → IsActing s t
     acting_now off = record {
@@ -161,10 +136,11 @@ module _ (floor : Description) (v : Knowledge) where
 
   -- 3. A chain is taken where nothing is out
 
-  pub may_take_chain : (q : QueueName) → v.pose ≡ Runs → v.out ≡ [] → IsGoing v
+  -- by a thread that runs, or stands on a queue
+  pub may_take_chain_settled : (q : QueueName) → IsOffTheWay v.pose → v.out ≡ [] → IsGoing v
       → IsOfRound floor.chains c v.share.doing.round (its_chain floor q) → WantsItsRound v
       → MayMake floor v (λ s. item_with s (its_chain floor q) ≡ None) (TakesItem t (its_chain floor q) ∷ [])
-  may_take_chain q runs empty going of_round wants s f home = (
+  may_take_chain_settled q there empty going of_round wants s f home = (
     record {
       fits = record {
         may = record {
@@ -180,14 +156,20 @@ module _ (floor : Description) (v : Knowledge) where
         );
         has_seen = tt;
         asks_of_thread = record {
-          runs = inl (awake_now s f going);
-          owes = record { added = not_away_settled s f (inl runs); stamped = stamped_now s f going };
+          runs = inl (awake_now floor v s f going);
+          owes = owes_settled floor v s f there going;
         };
       };
       keeps_order = λ _. in_wanted_round floor v s f wants;
     },
     tt,
   )
+
+  -- by one that runs
+  pub may_take_chain : (q : QueueName) → v.pose ≡ Runs → v.out ≡ [] → IsGoing v
+      → IsOfRound floor.chains c v.share.doing.round (its_chain floor q) → WantsItsRound v
+      → MayMake floor v (λ s. item_with s (its_chain floor q) ≡ None) (TakesItem t (its_chain floor q) ∷ [])
+  may_take_chain q runs = may_take_chain_settled q (inl runs)
 
   -- 4. A record is taken under a chain
 
@@ -205,9 +187,9 @@ module _ (floor : Description) (v : Knowledge) where
     its_chain_out s f = (f.out.each (its_chain floor q) (chain_place floor q) x (chain_at floor f.sized.some_chains q)
         (ap (found (chain_place floor q)) out ∙ found_first (chain_place floor q) x [])).0
 
-    pub may_take_record : (u : ℕ) → u < length floor.threads → v.pose ≡ Runs → IsGoing v
+    pub may_take_record_settled : (u : ℕ) → u < length floor.threads → IsOffTheWay v.pose → IsGoing v
         → MayMake floor v (λ s. s.record_with u ≡ None) (TakesItem t (RecordOf u) ∷ [])
-    may_take_record u low runs going s f home = (
+    may_take_record_settled u low there going s f home = (
       record {
         fits = record {
           may = record {
@@ -222,8 +204,8 @@ module _ (floor : Description) (v : Knowledge) where
           has_out = (low, no_chain (s.round t));
           has_seen = tt;
           asks_of_thread = record {
-            runs = inl (awake_now s f going);
-            owes = record { added = not_away_settled s f (inl runs); stamped = stamped_now s f going };
+            runs = inl (awake_now floor v s f going);
+            owes = owes_settled floor v s f there going;
           };
         };
         keeps_order = λ is. absurd (let z : false ≡ true = is in cc);
@@ -235,25 +217,29 @@ module _ (floor : Description) (v : Knowledge) where
         no_chain None = tt
         no_chain (Some r) = λ is. absurd cc
 
+    pub may_take_record : (u : ℕ) → u < length floor.threads → v.pose ≡ Runs → IsGoing v
+        → MayMake floor v (λ s. s.record_with u ≡ None) (TakesItem t (RecordOf u) ∷ [])
+    may_take_record u low runs = may_take_record_settled u low (inl runs)
+
     -- and the chain is given back last
     pub may_give_chain : is_bound v.share.doing.round ≡ false → IsOffTheWay v.pose → IsGoing v
         → MayMake floor v (λ s. Unit {0}) (GivesItem t (its_chain floor q) ∷ [])
     may_give_chain ended there going s f _ =
         let unbound : is_bound (s.round t) ≡ false = ap is_bound (doing_it floor v s f (λ d. d.round)) ∙ ended in
-        let settled : IsSettled s t = settled_at v.pose (s.wait t) (s.blocked_on t) there f.pose in (
+        let settled : IsSettled s t = settled_now floor v s f there in (
           record {
             fits = record {
               may = record {
                 thread = f.thread;
                 out = its_chain_out s f;
                 done = each_chain floor (IsDoneWith s t) (λ k low. (unbound, settled))
-                    (λ k low. (unbound, stamped_now s f going, settled)) f.sized.some_chains q;
+                    (λ k low. (unbound, stamped_now floor v s f going, settled)) f.sized.some_chains q;
               };
               has_out = its_chain_out s f;
               has_seen = tt;
               asks_of_thread = record {
                 unparked = ap is_parked (doing_it floor v s f (λ d. d.phase) ∙ going.awake);
-                owes = record { added = not_away_settled s f there; stamped = stamped_now s f going };
+                owes = owes_settled floor v s f there going;
               };
             };
             keeps_order = tt;
@@ -310,10 +296,7 @@ module _ (floor : Description) (v : Knowledge) where
           may = record { thread = f.thread; running = posed_now s f Runs runs };
           has_out = (chain_out_now s f, (own_out_now s f).0);
           has_seen = tt;
-          asks_of_thread = record {
-            runs = awake_now s f going;
-            owes = record { added = not_away_settled s f (inl runs); stamped = stamped_now s f going };
-          };
+          asks_of_thread = goes_on floor v s f runs going;
         };
         keeps_order = tt;
       },
@@ -330,8 +313,8 @@ module _ (floor : Description) (v : Knowledge) where
               has_out = (chain_out_now s f, (own_out_now s f).0);
               has_seen = tt;
               asks_of_thread = record {
-                runs = awake_now s f going;
-                owes = record { added = not_away s f awake; stamped = stamped_now s f going };
+                runs = awake_now floor v s f going;
+                owes = record { added = not_away s f awake; stamped = stamped_now floor v s f going };
               };
             };
             keeps_order = tt;
@@ -348,13 +331,13 @@ module _ (floor : Description) (v : Knowledge) where
           may = record {
             thread = f.thread;
             out = (own_out_now s f).0;
-            done = λ own. settled_at v.pose (s.wait t) (s.blocked_on t) there f.pose;
+            done = λ own. settled_now floor v s f there;
           };
           has_out = (own_out_now s f).0;
           has_seen = tt;
           asks_of_thread = record {
             unparked = ap is_parked (doing_it floor v s f (λ d. d.phase) ∙ going.awake);
-            owes = record { added = not_away_settled s f there; stamped = stamped_now s f going };
+            owes = owes_settled floor v s f there going;
           };
         };
         keeps_order = tt;
@@ -365,7 +348,7 @@ module _ (floor : Description) (v : Knowledge) where
   -- 6. The lock's word, in a round of the lock
 
   module _ (l : ℕ) (y x : Slot) (out : v.out ≡ (t, y) ∷ (chain_place floor (lock_queue l), x) ∷ [])
-      (low : l < length floor.locks) (going : IsGoing v) (awake : IsNoSleeper v) where
+      (low : l < length floor.locks) (going : IsGoing v) where
     -- a round that seeks the lock is under way
     under_way : (s : State) → Fits floor v s → seeks l v.share.doing.round ≡ true → s.round t ≡ None → ⊥
     under_way s f of_round none =
@@ -373,10 +356,11 @@ module _ (floor : Description) (v : Knowledge) where
 
     -- A look under the chain doesn't count. It is in a round of the lock, or at a lock that the thread holds and
     -- releases
-    look_there : v.description ≡ floor → (v.share.doing.round ≢ None → seeks l v.share.doing.round ≡ true)
+    look_there : ((s : State) → Fits floor v s → IsOnItsWay s t → ⊥) → v.description ≡ floor
+        → (v.share.doing.round ≢ None → seeks l v.share.doing.round ≡ true)
         → (v.share.doing.round ≡ None → (hold_in v.share.held l ≢ NotHeld) × (v.share.doing.taking ≡ None))
         → MayMake floor v (λ s. Unit {0}) (Looks t l (counts v l) ∷ [])
-    look_there mine of_round releases s f _ =
+    look_there away mine of_round releases s f _ =
         let round : s.round t ≡ v.share.doing.round = doing_it floor v s f (λ d. d.round) in
         let counted = counts_it floor v s f mine l in
         let asks : Bool = seeks l (s.round t) || is_first (s.round t) (s.held t l) in
@@ -401,11 +385,11 @@ module _ (floor : Description) (v : Knowledge) where
                 outside_takes = λ none. inl (doing_it floor v s f (λ d. d.taking) ∙ (releases (sym round ∙ none)).1);
                 outside_first = λ none unheld. absurd (held none unheld);
                 halting = λ e. absurd
-                    (let z : false ≡ true = sym (ap is_halting (awake_now s f going).phase) ∙ e in cc);
+                    (let z : false ≡ true = sym (ap is_halting (awake_now floor v s f going).phase) ∙ e in cc);
               };
               asks_of_thread = record {
-                runs = inl (awake_now s f going);
-                owes = record { added = not_away s f awake; stamped = stamped_now s f going };
+                runs = inl (awake_now floor v s f going);
+                owes = record { added = away s f; stamped = stamped_now floor v s f going };
               };
             };
             keeps_order = record {
@@ -430,14 +414,12 @@ module _ (floor : Description) (v : Knowledge) where
             ap (seeks l) round
             ∙ of_round (λ none. let z : Some r ≡ None = sym some ∙ round ∙ none in cc)
 
-    pub may_look_there : v.description ≡ floor → seeks l v.share.doing.round ≡ true
+    -- at a lock that it holds, of a thread that runs or stands on a queue
+    pub may_look_held_settled : IsOffTheWay v.pose → v.description ≡ floor → v.share.doing.round ≡ None
+        → hold_in v.share.held l ≢ NotHeld → v.share.doing.taking ≡ None
         → MayMake floor v (λ s. Unit {0}) (Looks t l (counts v l) ∷ [])
-    may_look_there mine of_round = look_there mine (λ _. of_round)
-        (λ none. absurd (let z : false ≡ true = sym (ap (seeks l) none) ∙ of_round in cc))
-
-    pub may_look_held : v.description ≡ floor → v.share.doing.round ≡ None → hold_in v.share.held l ≢ NotHeld
-        → v.share.doing.taking ≡ None → MayMake floor v (λ s. Unit {0}) (Looks t l (counts v l) ∷ [])
-    may_look_held mine none held takes = look_there mine (λ ne. absurd (ne none)) (λ _. (held, takes))
+    may_look_held_settled there mine none held takes =
+        look_there (λ s f. not_away_settled floor v s f there) mine (λ ne. absurd (ne none)) (λ _. (held, takes))
 
     -- what was seen last under the chain admits the mode in which the round's lock is gained
     gain_seen : (mode : Mode) (by_try : Bool) → seeks l v.share.doing.round ≡ true
@@ -455,85 +437,131 @@ module _ (floor : Description) (v : Knowledge) where
       takes = λ e. doing_it floor v s f (λ d. d.taking) ∙ takes e;
     }
 
-    -- a gain of that lock,
-    pub may_gain_there : (mode : Mode) (by_try : Bool) (word : Word) → admits (c.kind l) word mode ≡ true
-        → is_plain (c.kind l) word mode ≡ true → hold_in v.share.held l ≡ NotHeld
-        → (v.share.doing.wanted ≡ Some l) ⊎ (v.share.doing.wanted ≡ None) → seeks l v.share.doing.round ≡ true
-        → FitsRound v.share.doing.round l by_try
-        → ((w : Word) → v.share.doing.seen_in_section ≡ Some (record { lock = l; word = w })
-        → admits (c.kind l) w mode ≡ true)
-        → ((k : ℕ) → v.share.doing.taking ≡ Some k → k ≡ l) → (by_try ≡ false → v.share.doing.taking ≡ Some l)
-        → (by_try ≡ false → IsOrderedTake l v) → IsUnhalted v → is_off_queues v.pose ≡ true
-        → MayMake floor v (λ s. s.word l ≡ word) (Gains t l mode by_try ∷ [])
-    may_gain_there mode by_try word admitted plain unheld wants of_round fits saw others takes ordered unhalted off
-        s f its =
-        let wanted : s.wanted t ≡ v.share.doing.wanted = doing_it floor v s f (λ d. d.wanted) in (
-          record {
-            fits = record {
-              may = record {
-                thread = f.thread;
-                lock = low;
-                admitted = ap (λ w. admits (c.kind l) w mode) its ∙ admitted;
-                plainly = ap (λ w. is_plain (c.kind l) w mode) its ∙ plain;
-                unheld = holds_it floor v s f l ∙ unheld;
-                acting = acting_now s f off;
-                wants = subst (λ w. (w ≡ Some l) ⊎ (w ≡ None)) (sym wanted) wants;
-              };
-              has_out = tt;
-              has_seen = gain_seen mode by_try of_round fits saw others takes s f;
-              asks_of_thread = record {
-                runs = awake_now s f going;
-                owes = record { added = not_away s f awake; stamped = stamped_now s f going };
-              };
-            };
-            keeps_order = gains_in_order floor v s f l by_try ordered others unhalted;
-          },
-          tt,
-        )
+    module _ (awake : IsNoSleeper v) where
+      pub may_look_there : v.description ≡ floor → seeks l v.share.doing.round ≡ true
+          → MayMake floor v (λ s. Unit {0}) (Looks t l (counts v l) ∷ [])
+      may_look_there mine of_round = look_there (λ s f. not_away s f awake) mine (λ _. of_round)
+          (λ none. absurd (let z : false ≡ true = sym (ap (seeks l) none) ∙ of_round in cc))
 
-    -- and a claim, of whatever turnstile stands there
-    pub may_claim_there : (by_try : Bool) (word : Word) → c.kind l ≡ Rw → is_free word.holder ≡ true
-        → shows_waiters word ≡ true → hold_in v.share.held l ≡ NotHeld
-        → (v.share.doing.wanted ≡ Some l) ⊎ (v.share.doing.wanted ≡ None) → seeks l v.share.doing.round ≡ true
-        → FitsRound v.share.doing.round l by_try
-        → ((w : Word) → v.share.doing.seen_in_section ≡ Some (record { lock = l; word = w })
-        → admits (c.kind l) w Excl ≡ true)
-        → ((k : ℕ) → v.share.doing.taking ≡ Some k → k ≡ l) → (by_try ≡ false → v.share.doing.taking ≡ Some l)
-        → (by_try ≡ false → IsOrderedTake l v) → IsUnhalted v → is_off_queues v.pose ≡ true → (h : ℕ)
-        → MayMake floor v (λ s. (s.word l ≡ word) × (s.head (lock_queue l) ≡ Some h)) (Claims t l h by_try ∷ [])
-    may_claim_there by_try word kind free shown unheld wants of_round fits saw others takes ordered unhalted off h
-        s f its =
-        let wanted : s.wanted t ≡ v.share.doing.wanted = doing_it floor v s f (λ d. d.wanted) in (
-          record {
-            fits = record {
-              may = record {
-                thread = f.thread;
-                lock = low;
-                kind = kind;
-                free = ap (λ (w : Word). is_free w.holder) its.0 ∙ free;
-                shown = ap shows_waiters its.0 ∙ shown;
-                head = its.1;
-                unheld = holds_it floor v s f l ∙ unheld;
-                acting = acting_now s f off;
-                wants = subst (λ w. (w ≡ Some l) ⊎ (w ≡ None)) (sym wanted) wants;
+      pub may_look_held : v.description ≡ floor → v.share.doing.round ≡ None → hold_in v.share.held l ≢ NotHeld
+          → v.share.doing.taking ≡ None → MayMake floor v (λ s. Unit {0}) (Looks t l (counts v l) ∷ [])
+      may_look_held mine none held takes =
+          look_there (λ s f. not_away s f awake) mine (λ ne. absurd (ne none)) (λ _. (held, takes))
+
+      -- a gain of that lock,
+      pub may_gain_there : (mode : Mode) (by_try : Bool) (word : Word) → admits (c.kind l) word mode ≡ true
+          → is_plain (c.kind l) word mode ≡ true → hold_in v.share.held l ≡ NotHeld
+          → (v.share.doing.wanted ≡ Some l) ⊎ (v.share.doing.wanted ≡ None) → seeks l v.share.doing.round ≡ true
+          → FitsRound v.share.doing.round l by_try
+          → ((w : Word) → v.share.doing.seen_in_section ≡ Some (record { lock = l; word = w })
+          → admits (c.kind l) w mode ≡ true)
+          → ((k : ℕ) → v.share.doing.taking ≡ Some k → k ≡ l) → (by_try ≡ false → v.share.doing.taking ≡ Some l)
+          → (by_try ≡ false → IsOrderedTake l v) → IsUnhalted v → is_off_queues v.pose ≡ true
+          → MayMake floor v (λ s. s.word l ≡ word) (Gains t l mode by_try ∷ [])
+      may_gain_there mode by_try word admitted plain unheld wants of_round fits saw others takes ordered unhalted off
+          s f its =
+          let wanted : s.wanted t ≡ v.share.doing.wanted = doing_it floor v s f (λ d. d.wanted) in (
+            record {
+              fits = record {
+                may = record {
+                  thread = f.thread;
+                  lock = low;
+                  admitted = ap (λ w. admits (c.kind l) w mode) its ∙ admitted;
+                  plainly = ap (λ w. is_plain (c.kind l) w mode) its ∙ plain;
+                  unheld = holds_it floor v s f l ∙ unheld;
+                  acting = acting_now s f off;
+                  wants = subst (λ w. (w ≡ Some l) ⊎ (w ≡ None)) (sym wanted) wants;
+                };
+                has_out = tt;
+                has_seen = gain_seen mode by_try of_round fits saw others takes s f;
+                asks_of_thread = record {
+                  runs = awake_now floor v s f going;
+                  owes = record { added = not_away s f awake; stamped = stamped_now floor v s f going };
+                };
               };
-              has_out = (chain_out_now (lock_queue l) y x out s f, (own_out_now (lock_queue l) y x out s f).0);
-              has_seen = gain_seen Excl by_try of_round fits saw others takes s f;
-              asks_of_thread = record {
-                runs = awake_now s f going;
-                owes = record { added = not_away s f awake; stamped = stamped_now s f going };
+              keeps_order = gains_in_order floor v s f l by_try ordered others unhalted;
+            },
+            tt,
+          )
+
+      -- and a claim, of whatever turnstile stands there
+      pub may_claim_there : (by_try : Bool) (word : Word) → c.kind l ≡ Rw → is_free word.holder ≡ true
+          → shows_waiters word ≡ true → hold_in v.share.held l ≡ NotHeld
+          → (v.share.doing.wanted ≡ Some l) ⊎ (v.share.doing.wanted ≡ None) → seeks l v.share.doing.round ≡ true
+          → FitsRound v.share.doing.round l by_try
+          → ((w : Word) → v.share.doing.seen_in_section ≡ Some (record { lock = l; word = w })
+          → admits (c.kind l) w Excl ≡ true)
+          → ((k : ℕ) → v.share.doing.taking ≡ Some k → k ≡ l) → (by_try ≡ false → v.share.doing.taking ≡ Some l)
+          → (by_try ≡ false → IsOrderedTake l v) → IsUnhalted v → is_off_queues v.pose ≡ true → (h : ℕ)
+          → MayMake floor v (λ s. (s.word l ≡ word) × (s.head (lock_queue l) ≡ Some h)) (Claims t l h by_try ∷ [])
+      may_claim_there by_try word kind free shown unheld wants of_round fits saw others takes ordered unhalted off h
+          s f its =
+          let wanted : s.wanted t ≡ v.share.doing.wanted = doing_it floor v s f (λ d. d.wanted) in (
+            record {
+              fits = record {
+                may = record {
+                  thread = f.thread;
+                  lock = low;
+                  kind = kind;
+                  free = ap (λ (w : Word). is_free w.holder) its.0 ∙ free;
+                  shown = ap shows_waiters its.0 ∙ shown;
+                  head = its.1;
+                  unheld = holds_it floor v s f l ∙ unheld;
+                  acting = acting_now s f off;
+                  wants = subst (λ w. (w ≡ Some l) ⊎ (w ≡ None)) (sym wanted) wants;
+                };
+                has_out = (chain_out_now (lock_queue l) y x out s f, (own_out_now (lock_queue l) y x out s f).0);
+                has_seen = gain_seen Excl by_try of_round fits saw others takes s f;
+                asks_of_thread = record {
+                  runs = awake_now floor v s f going;
+                  owes = record { added = not_away s f awake; stamped = stamped_now floor v s f going };
+                };
               };
-            };
-            keeps_order = gains_in_order floor v s f l by_try ordered others unhalted;
-          },
-          tt,
-        )
+              keeps_order = gains_in_order floor v s f l by_try ordered others unhalted;
+            },
+            tt,
+          )
 
   -- an enter from the word that the last look saw, which is held and doesn't admit, in a blocking call's round that
   -- took the chain; the sections of all held locks are open
   module _ (l : ℕ) (b : Box ThreadRec Global) (x : Slot)
       (out : v.out ≡ (t, Record b) ∷ (chain_place floor (lock_queue l), x) ∷ []) (low : l < length floor.locks)
       (going : IsGoing v) (awake : IsNoSleeper v) where
+    -- it must wait
+    pub must_wait : (mode : Mode) (word : Word) → is_free word.holder ≡ false → admits (c.kind l) word mode ≡ false
+        → v.pose ≡ IsReady → v.share.doing.wanted ≡ Some l → v.share.doing.walk ≡ NoWalk
+        → ((k : ℕ) → open_in c v.share.log t k ≡ hold_in v.share.held k) → (s : State) → Fits floor v s
+        → s.word l ≡ word → MustWait c s t l mode
+    must_wait mode word held refused ready wants no_walk sections s f its =
+        let p = posed_now s f IsReady ready in
+        record {
+          thread = f.thread;
+          lock = low;
+          held = ap (λ (w : Word). is_free w.holder) its ∙ held;
+          refused = ap (λ w. admits (c.kind l) w mode) its ∙ refused;
+          queued = p.0;
+          unnamed = p.1;
+          wants = inl (doing_it floor v s f (λ d. d.wanted) ∙ wants);
+          no_walk = doing_it floor v s f (λ d. d.walk) ∙ no_walk;
+          sections = λ k m holds. own_log floor v s f k ∙ sections k ∙ sym (holds_it floor v s f k) ∙ holds;
+        }
+
+    -- and saw that last
+    pub saw_it : (word : Word) → v.share.doing.last_look ≡ Some (record { lock = l; word = word })
+        → v.share.doing.round ≡ Some (bound_to l) → (s : State) → Fits floor v s → s.word l ≡ word
+        → EntersFromLook s t l
+    saw_it word saw round s f its = record {
+      saw = doing_it floor v s f (λ d. d.last_look) ∙ saw
+          ∙ ap (λ w. Some (record { lock = l; word = w })) (sym its);
+      round = doing_it floor v s f (λ d. d.round) ∙ round;
+    }
+
+    pub goes_on_ready : (s : State) → Fits floor v s → GoesOn s t
+    goes_on_ready s f = record {
+      runs = awake_now floor v s f going;
+      owes = record { added = not_away s f awake; stamped = stamped_now floor v s f going };
+    }
+
     pub may_enter_there : (mode : Mode) (own : ℕ) (word : Word) → is_free word.holder ≡ false
         → admits (c.kind l) word mode ≡ false → is_turnstile (c.kind l) ≡ true → (c.kind l ≡ Mtx → mode ≡ Excl)
         → b.value.turnstile ≡ Some own → v.pose ≡ IsReady → v.share.doing.wanted ≡ Some l
@@ -542,22 +570,11 @@ module _ (floor : Description) (v : Knowledge) where
         → v.share.doing.last_look ≡ Some (record { lock = l; word = word }) → v.share.doing.round ≡ Some (bound_to l)
         → MayMake floor v (λ s. s.word l ≡ word) (Enters t l mode own ∷ [])
     may_enter_there mode own word held refused turnstile mutex lent ready wants no_walk sections saw round s f its =
-        let p = posed_now s f IsReady ready in
         let rec = (own_out_now (lock_queue l) (Record b) x out s f).1 in (
           record {
             fits = record {
               may = record {
-                waits = record {
-                  thread = f.thread;
-                  lock = low;
-                  held = ap (λ (w : Word). is_free w.holder) its ∙ held;
-                  refused = ap (λ w. admits (c.kind l) w mode) its ∙ refused;
-                  queued = p.0;
-                  unnamed = p.1;
-                  wants = inl (doing_it floor v s f (λ d. d.wanted) ∙ wants);
-                  no_walk = doing_it floor v s f (λ d. d.walk) ∙ no_walk;
-                  sections = λ k m holds. own_log floor v s f k ∙ sections k ∙ sym (holds_it floor v s f k) ∙ holds;
-                };
+                waits = must_wait mode word held refused ready wants no_walk sections s f its;
                 turnstile = turnstile;
                 mutex = mutex;
                 own = sym (ap (λ (r : RecordColumns). r.turnstile) rec.columns) ∙ lent;
@@ -566,15 +583,8 @@ module _ (floor : Description) (v : Knowledge) where
                 chain_out_now (lock_queue l) (Record b) x out s f,
                 (own_out_now (lock_queue l) (Record b) x out s f).0,
               );
-              has_seen = record {
-                saw = doing_it floor v s f (λ d. d.last_look) ∙ saw
-                    ∙ ap (λ w. Some (record { lock = l; word = w })) (sym its);
-                round = doing_it floor v s f (λ d. d.round) ∙ round;
-              };
-              asks_of_thread = record {
-                runs = awake_now s f going;
-                owes = record { added = not_away s f awake; stamped = stamped_now s f going };
-              };
+              has_seen = saw_it word saw round s f its;
+              asks_of_thread = goes_on_ready s f;
             };
             keeps_order = doing_it floor v s f (λ d. d.wanted) ∙ wants;
           },

@@ -1,5 +1,5 @@
 -- What the call that releases a lock with waiters needs of its parts, and what it was told.
-use Rattle.std.proofs.Common.{◌≡◌, ℕ, ◌≤◌, Bool, true, false, cond, Option, None, Some, List, [], ◌∷◌, sym, ap, ◌∙◌, subst, vec_capacity}
+use Rattle.std.proofs.Common.{◌≡◌, ℕ, ◌≤◌, Bool, true, false, cond, Option, None, Some, List, [], ◌∷◌, refl, sym, ap, ◌∙◌, subst, vec_capacity}
 use Rattle.std.proofs.lemmas.Option.{same_Some}
 use Rattle.std.specs.Box.{with_value}
 use Rattle.std.specs.Global.{Vec}
@@ -10,7 +10,7 @@ use Rattle.chain_table.specs.Chains.{head_of}
 use Rattle.lock_history.specs.Books.{Book}
 use Rattle.lock_model.specs.Operations.{without_lock}
 use Rattle.lock_model.specs.Queues.{lock_queue}
-use Rattle.lock_model.specs.Words.{Word, word_of, is_turnstile, shows_waiters, side_woken, side_opened}
+use Rattle.lock_model.specs.Words.{Word, word_of, is_drop, is_turnstile, side_woken, side_opened}
 use Rattle.lock_model.specs.declared.event.Held.{Held}
 use Rattle.lock_model.specs.declared.plan.Kind.{Kind}
 use Rattle.lock_model.specs.declared.plan.QueueName.{QueueName}
@@ -18,6 +18,7 @@ use Rattle.lock_model.specs.declared.plan.Side.{Side}
 use Rattle.lock_objects.specs.Opens.{CanOpen, record_opened, chain_opened, woken_of}
 use Rattle.lock_objects.specs.declared.marked.Marked.{Marked}
 use Rattle.lock_objects.specs.declared.marked.Marked.TheVariants.{Waiters}
+use Rattle.lock_state.specs.Steps.{Opens}
 use Rattle.thread_records.specs.declared.record.ThreadRec.{ThreadRec}
 use Rattle.turnstile_core.specs.Seen.{Place, Turnstile}
 use Rattle.floor_table.specs.Descriptions.{config_in}
@@ -25,17 +26,22 @@ use Rattle.floor_table.specs.Views.{Knowledge}
 use Rattle.floor_table.specs.declared.description.Description.{Description}
 use Rattle.floor_table.specs.declared.slot.Slot.{Slot}
 use Rattle.floor_table.specs.declared.slot.Slot.TheVariants.{Record, Turnstiles}
-use Rattle.lock_floor.specs.Opens.{OpensUp, out_opened}
+use Rattle.lock_floor.specs.Marks.{AreMarked}
+use Rattle.lock_floor.specs.Opens.{OpensUp, marks_opened, opened_up, out_opened}
 use Rattle.lock_floor.specs.Ties.{IsTied}
 use Rattle.lock_floor.specs.Waits.{chain_place}
+use Rattle.lock_floor.proofs.BothChanged.{out_before, worked}
 use Rattle.lock_floor.proofs.OpenStep.{Opened, OpensWord}
-use Rattle.lock_floor.proofs.Opened.{opened_view, tied_opened, opens_up}
+use Rattle.lock_floor.proofs.Opened.{last_shown}
+use Rattle.lock_floor.proofs.Tied.{tied_then}
 
--- the side that a word tells which shows waiters
-pub side_told : (kind : Kind) (w : Word) (o : Option Side) (side : Side) → o ≡ side_opened kind w → o ≡ Some side
-    → shows_waiters w ≡ true → side ≡ side_woken kind w
-side_told kind w o side e f shown =
-    same_Some side (side_woken kind w) (sym f ∙ e ∙ ap (λ b. cond b (Some (side_woken kind w)) None) shown)
+-- the side that the word of a lock tells where its release is an open
+pub side_told : (floor : Description) (l : ℕ) (kind : Kind) (w : Word) (o : Option Side) (side : Side)
+    → o ≡ side_opened kind w → o ≡ Some side → is_drop w ≡ false → kind ≡ (config_in floor).kind l
+    → side ≡ side_woken ((config_in floor).kind l) w
+side_told floor l kind w o side e f opens its =
+    same_Some side (side_woken kind w)
+    (sym f ∙ e ∙ ap (λ b. cond b (Some (side_woken kind w)) None) (last_shown w opens).1) ∙ ap (λ k. side_woken k w) its
 
 module _ (floor : Description) (me behind : Me Slot Knowledge) (l seen found : ℕ) (side : Side)
     (its_side : side ≡ side_woken ((config_in floor).kind l) (word_of seen))
@@ -45,9 +51,16 @@ module _ (floor : Description) (me behind : Me Slot Knowledge) (l seen found : �
   abbrev pub told : OpensWord floor l side me behind
   told = subst (λ k. OpensWord floor l k me behind) (sym its_side) (tells.0 hit)
 
-  pub before : behind.1 ≡ (own, Record told.both.box) ∷ (at, Turnstiles told.both.chain) ∷ []
-  before = ap (λ (m : Me Slot Knowledge). m.1) told.is ∙ out ∙ told.both.out
-      ∙ (λ i. (sym own_is i, Record told.both.box) ∷ (sym at_is i, Turnstiles told.both.chain) ∷ [])
+  abbrev woken : List Place
+  woken = woken_of l side told.both.box.value told.turnstile.contents
+
+  abbrev then : Knowledge
+  then = opened_up me.0 l (marks_opened l side told.both.box told.turnstile)
+      (out_opened floor me.0.thread l side told.both.box told.both.chain told.turnstile)
+
+  before : behind.1 ≡ (own, Record told.both.box) ∷ (at, Turnstiles told.both.chain) ∷ []
+  before = out_before floor (lock_queue l) me behind then told.is out told.both.box (Turnstiles told.both.chain)
+      told.both.out own at own_is at_is
 
   -- before the work on them
   pub side_out : (b : Box ThreadRec Global) × (chain : List (QueueName × Turnstile)) × (h : Turnstile)
@@ -56,7 +69,8 @@ module _ (floor : Description) (me behind : Me Slot Knowledge) (l seen found : �
   side_out = (told.both.box, told.both.chain, told.turnstile, before, told.there, told.can)
 
   -- behind it
-  module _ (new : Me Slot Knowledge) (ps : List Place) (view : new.0 ≡ behind.0)
+  module _ (turnstile : is_turnstile ((config_in floor).kind l) ≡ true) (new : Me Slot Knowledge) (ps : List Place)
+      (view : new.0 ≡ behind.0)
       (outs : (b : Box ThreadRec Global) (chain : List (QueueName × Turnstile)) (h : Turnstile)
       → head_of (lock_queue l) chain ≡ Some h → behind.1 ≡ (own, Record b) ∷ (at, Turnstiles chain) ∷ []
       → new.1 ≡ (own, Record (with_value b (record_opened l b.value))) ∷
@@ -64,24 +78,47 @@ module _ (floor : Description) (me behind : Me Slot Knowledge) (l seen found : �
       (wakes : (b : Box ThreadRec Global) (chain : List (QueueName × Turnstile)) (h : Turnstile)
       → head_of (lock_queue l) chain ≡ Some h → behind.1 ≡ (own, Record b) ∷ (at, Turnstiles chain) ∷ []
       → ps ≡ woken_of l side b.value h.contents) where
-    new_out : new.1 ≡ out_opened floor me.0.thread l side told.both.box told.both.chain told.turnstile
-    new_out =
-        outs told.both.box told.both.chain told.turnstile told.there before
-        ∙ (λ i. (own_is i, Record (with_value told.both.box (record_opened l told.both.box.value))) ∷
-        (at_is i, Turnstiles (chain_opened l side told.both.box.value told.turnstile told.both.chain)) ∷ [])
+    pub its_work : (o : OpensUp floor l (word_of seen) me.0 new.0) × (new.1 ≡ new.0.out)
+        × AreMarked floor (Waiters ps) (marks_opened l o.side o.both.box o.turnstile)
+    its_work =
+        let work = worked floor (lock_queue l) me behind then told.is out told.both.box
+        (Turnstiles told.both.chain) told.both.out own at own_is at_is (Opens me.0.thread l told.mode ∷ []) new
+        (with_value told.both.box (record_opened l told.both.box.value))
+        (Turnstiles (chain_opened l side told.both.box.value told.turnstile told.both.chain)) told.step view
+        (outs told.both.box told.both.chain told.turnstile told.there before) refl in
+        let are : AreMarked floor (Waiters woken) (marks_opened l side told.both.box told.turnstile) = record {
+          queue = lock_queue l;
+          same = refl;
+          kind = λ some. turnstile;
+          held = told.held;
+          of_floor = told.of_floor;
+        } in (
+          record {
+            mode = told.mode;
+            both = told.both;
+            turnstile = told.turnstile;
+            there = told.there;
+            side = side;
+            told = its_side;
+            view = work.view;
+            step = work.step;
+          },
+          work.out,
+          subst (λ qs. AreMarked floor (Waiters qs) (marks_opened l side told.both.box told.turnstile))
+              (sym (wakes told.both.box told.both.chain told.turnstile told.there before)) are,
+        )
 
-    pub call_description : new.0.description ≡ me.0.description
-    call_description = ap (λ (k : Knowledge). k.description) (opened_view floor l side me behind new told view new_out)
-
-    pub call_tied : (who : ℕ) (locks left : Vec Held) (marked : Marked) (book : Book) (fin : Bool) → fin ≡ false
-        → IsTied who locks marked book fin me → me.0.description ≡ floor
-        → is_turnstile ((config_in floor).kind l) ≡ true
-        → left.items ≡ without_lock l locks.items → 8 ≤ vec_capacity left → IsTied who left (Waiters ps) book fin new
-    call_tied who locks left marked book fin going h mine turnstile items room =
-        subst (λ qs. IsTied who left (Waiters qs) book fin new)
-        (sym (wakes told.both.box told.both.chain told.turnstile told.there before))
-        (tied_opened floor l side me behind new told view new_out who locks left marked book fin going h mine turnstile
-        items room)
-
-    pub call_opens : OpensUp floor l (word_of seen) me.0 new.0
-    call_opens = opens_up floor l side me behind new told view new_out (word_of seen) its_side
+-- the pass stays tied: without the lock, and with those who were taken off
+pub tied_opened : (floor : Description) (l : ℕ) (word : Word) (me new : Me Slot Knowledge) (ps : List Place)
+    (o : OpensUp floor l word me.0 new.0) → new.1 ≡ new.0.out
+    → AreMarked floor (Waiters ps) (marks_opened l o.side o.both.box o.turnstile) → (who : ℕ) (locks left : Vec Held)
+    (marked : Marked) (book : Book) (fin : Bool) → fin ≡ false → IsTied who locks marked book fin me
+    → me.0.description ≡ floor → left.items ≡ without_lock l locks.items → 8 ≤ vec_capacity left
+    → IsTied who left (Waiters ps) book fin new
+tied_opened floor l word me new ps o out are who locks left marked book fin going h mine items room =
+    let then : Knowledge = opened_up me.0 l (marks_opened l o.side o.both.box o.turnstile)
+    (out_opened floor me.0.thread l o.side o.both.box o.both.chain o.turnstile) in
+    tied_then who locks left marked (Waiters ps) book fin me new then going h o.view out refl
+    (items ∙ ap (without_lock l) h.held) room
+    (subst (λ (d : Description). AreMarked d (Waiters ps) (marks_opened l o.side o.both.box o.turnstile)) (sym mine)
+    are)

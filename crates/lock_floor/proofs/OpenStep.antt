@@ -2,9 +2,9 @@
 -- turnstile. The thread's record and the chain of the lock's queue, which it has out, are then what the work on them
 -- will make of them: what was lent goes home with it.
 use Rattle.std.proofs.Common.{◌≡◌, ◌≢◌, ℕ, zero, suc, ◌<◌, ◌≤◌, ◌%◌, eqb, eq-eqb, Bool, true, false, cond, Option, Some, None, List, [], ◌∷◌, length, get_or, refl, sym, ap, ◌∙◌, subst, arith}
-use Rattle.std.specs.Box.{with_value}
 use Rattle.std.specs.List.{All}
 use Rattle.std.specs.Prelude.{IsSome, IsSomeAnd}
+use Rattle.std.specs.Box.{with_value}
 use Rattle.std.specs.declared.alloc.Global.{Global}
 use Rattle.std.specs.declared.boxed.Box.{Box}
 use prog.Atomic.{either}
@@ -41,28 +41,23 @@ use Rattle.turnstile_core.specs.Changes.{all_waiters}
 use Rattle.floor_table.specs.Descriptions.{config_in}
 use Rattle.floor_table.specs.declared.description.Description.{Description}
 use Rattle.floor_table.specs.declared.slot.Slot.{Slot}
-use Rattle.floor_table.specs.declared.slot.Slot.TheVariants.{Record, Turnstiles}
-use Rattle.floor_table.specs.Places.{spot, lock_line, lock_word, latch_word, slots_for, slot_of, home_at}
-use Rattle.floor_table.specs.Represents.{Board, RepresentsTurnstiles, RepresentsObjects, RepresentsShare, objects_in, sleepers, thread_in}
+use Rattle.floor_table.specs.declared.slot.Slot.TheVariants.{Turnstiles}
+use Rattle.floor_table.specs.Places.{spot, lock_line, lock_word}
+use Rattle.floor_table.specs.Represents.{Board, RepresentsTurnstiles, RepresentsShare, objects_in, sleepers}
 use Rattle.floor_table.specs.Rule.{FloorHolds}
 use Rattle.floor_table.specs.Shares.{ShareColumns, columns_of, share_in}
-use Rattle.floor_table.specs.Shelves.{Shelves, found}
+use Rattle.floor_table.specs.Shelves.{found}
 use Rattle.floor_table.specs.Steps.{IsSound, MayMake, Makes}
 use Rattle.floor_table.specs.Views.{Knowledge, OfThread, seeing}
-use Rattle.floor_table.proofs.Items.{one_place}
-use Rattle.floor_table.proofs.Made.{Finds, Steps, exchange_allows, lock_made_with, own_out, OwnSteps}
-use Rattle.floor_table.proofs.Objects.{SaySame, still_of}
+use Rattle.floor_table.proofs.Made.{Finds, Steps, exchange_allows, OwnSteps}
+use Rattle.floor_table.proofs.Objects.{SaySame}
 use Rattle.floor_table.proofs.Seen.{one_own}
-use Rattle.floor_table.proofs.Shelved.{found_first, found_later}
 use Rattle.floor_table.proofs.Sound.{sound_kept}
 use Rattle.lock_floor.specs.Opens.{HasBothOut, out_opened, marks_opened, opened_up}
 use Rattle.lock_floor.specs.Views.{counts}
-use Rattle.lock_floor.specs.Waits.{chain_place}
+use Rattle.lock_floor.proofs.BothChanged.{record_says, chain_says, both_made}
 use Rattle.lock_floor.proofs.ChainChanges.{chain_of_lock, its_own, turnstiles_same, sleepers_same, chain_placed, chain_gone}
-use Rattle.lock_floor.proofs.ChainPlaces.{chain_at}
 use Rattle.lock_floor.proofs.Looking.{Looked, looks, found_word}
-use Rattle.lock_floor.proofs.Taking.{record_at}
-use Rattle.lock_floor.proofs.TwoChanged.{shelf_both, two_changed}
 
 -- 1. The shares behind it
 
@@ -177,7 +172,7 @@ counted (m ∷ ms) zero d low = rw (is_queue_same m.queue, eq-eqb m.thread m.thr
 counted (m ∷ ms) (suc i) d low = let more = counted ms i d (omega (arith, low)) in omega (arith, more)
 
 -- and is a thread of the floor
-marked_low : (floor : Description) (n : State) (t : ℕ) → Lawful (config_in floor) n → t < length floor.threads
+pub marked_low : (floor : Description) (n : State) (t : ℕ) → Lawful (config_in floor) n → t < length floor.threads
     → (ms : List Mark) → ms ≡ n.marked t → All (λ m. m.thread < length floor.threads) ms
 unfolding OnlyThreadsStand
 marked_low floor n t lawful low ms is i d inside =
@@ -245,20 +240,12 @@ module _ (floor : Description) (me : Me Slot Knowledge) (was : me.0.role ≡ OfT
       let g = allowed.0.fits.may in
       let lawful : Lawful c s = f.sound.facts.lawful in
       let side_is : side ≡ side_woken (c.kind l) (s.word l) = its_side ∙ ap (side_woken (c.kind l)) (sym its_word) in
-      let m : ℕ = l % floor.chains in
-      let j : ℕ = chain_place floor (lock_queue l) in
-      let place : slot_of floor (RecordOf t) ≡ Some t = record_at floor t f.fits.thread in
-      let at : slot_of floor (TurnstileChain m) ≡ Some j = ap (slot_of floor) (sym (its_own floor l turnstile))
-      ∙ chain_at floor f.represents.sizes.sized.some_chains (lock_queue l) in
-      let apart : t ≢ j = λ e. let z : RecordOf t ≡ TurnstileChain m =
-      one_place floor (RecordOf t) (TurnstileChain m) j (place ∙ ap Some e) at in cc in
       let rec : RepresentsRecord box.value (record_in s t) =
-      (f.fits.out.each (RecordOf t) t (Record box) place
-      (ap (found t) both.out ∙ found_first t (Record box) ((j, Turnstiles chain) ∷ []))).1 in
-      let shows : RepresentsTurnstiles floor m chain (objects_in s) =
-      (f.fits.out.each (TurnstileChain m) j (Turnstiles chain) at
-      (ap (found j) both.out ∙ found_later t j (Record box) ((j, Turnstiles chain) ∷ []) apart
-      ∙ found_first j (Turnstiles chain) [])).1 in
+      record_says floor b v f (lock_queue l) (chain_of_lock floor l turnstile) (its_own floor l turnstile) box
+      (Turnstiles chain) both.out in
+      let shows : RepresentsTurnstiles floor (l % floor.chains) chain (objects_in s) =
+      chain_says floor b v f (lock_queue l) (chain_of_lock floor l turnstile) (its_own floor l turnstile) box
+      (Turnstiles chain) both.out in
       let can = can_release c s t l mode lawful g in
       let its = there_is (head_of (lock_queue l) chain) (CanOpen l (side_woken (c.kind l) (s.word l)) box.value)
       (can_open_there c s t l mode lawful g rec (head_of (lock_queue l) chain)
@@ -282,23 +269,11 @@ module _ (floor : Description) (me : Me Slot Knowledge) (was : me.0.role ≡ OfT
       } in
       let says_now : word_of new ≡ words.opened (c.kind l) (s.word l) = says
       ∙ ap (words.opened (c.kind l)) (sym its_word) in
-      let r = f.represents in
-      let outs : ℕ → List (ℕ × Slot) = λ u. (thread_in b.views u).out in
-      let first : Slot = Record (with_value box (record_opened l box.value)) in
-      let second : Slot = Turnstiles (chain_opened l side box.value h chain) in
-      let shelves : Shelves (slots_for floor) (latch_word b.words) (home_at b.homes) (put outs t after)
-      (put (put r.content t first) j second) =
-      shelf_both (slots_for floor) (latch_word b.words) (home_at b.homes) outs r.content r.shelves t j t (Record box)
-      first (Turnstiles chain) second apart (own_out floor (step ∷ []) b v w f was allowed own me.1 ∙ both.out) in
-      let objects : RepresentsObjects floor (put (put r.content t first) j second) (objects_in n) =
-      two_changed floor r.content (objects_in s) (objects_in n) (RecordOf t) (TurnstileChain m) t j first second place
-      at
-      (λ k z no_record no_chain. still_of floor (objects_in s) (objects_in n) k z
-      (says_same floor l turnstile s t can k no_record no_chain)) refl
-      (record_shown can rec) (chain_shown floor l turnstile s t can box rec side side_is h chain shows its.1) r.objects
-      in
-      let made = lock_made_with floor (step ∷ []) b v w f was allowed own me.1 l new
-      (words.opened (c.kind l) (s.word l)) _ low says_now refl refl refl shelves objects in
+      let made = both_made floor b v f (lock_queue l) (chain_of_lock floor l turnstile) (its_own floor l turnstile) box
+      (Turnstiles chain) both.out step w was allowed own me.1 (with_value box (record_opened l box.value))
+      (Turnstiles (chain_opened l side box.value h chain)) refl l new (words.opened (c.kind l) (s.word l)) low
+      says_now refl refl refl (says_same floor l turnstile s t can) refl (record_shown can rec)
+      (chain_shown floor l turnstile s t can box rec side side_is h chain shows its.1) in
       let behind : IsSound floor (step ∷ f.past) n = sound_kept floor s (step ∷ []) allowed f.sound in
       let told : OpensWord floor l side me (w, me.1) = record {
         mode = mode;

@@ -246,10 +246,9 @@ module _ (floor : Description) (l : ℕ) (me me2 : Me Slot Knowledge) (cs : List
           → IsTied who locks marked book fin me → IsTied who locks marked book fin behind
       call_tied who locks marked book fin going h =
           let v = call_view in
-          tied_on who locks marked book fin me behind going h (ap (λ w. w.role) v) (ap (λ w. w.description) v)
-          (ap (λ w. w.thread) v) (ap (λ w. w.share.held) v)
-          (ap (λ w. w.share.doing.marked) v ∙ same_marked against) (ap (λ w. w.share.log) v) (ap (λ w. w.spare) v)
-          (ap (λ (k : Me Slot Knowledge). k.1) settles_so.0 ∙ ap rest worked ∙ sym (ap (λ w. w.out) v))
+          tied_on who locks marked book fin me behind (record (settled me.0 l against) { out = [] }) going h v
+          (ap (λ (k : Me Slot Knowledge). k.1) settles_so.0 ∙ ap rest worked ∙ sym (ap (λ w. w.out) v)) refl refl
+          (same_marked against)
         where
           same_marked : (o : Option ℕ) → (settled me.0 l o).share.doing.marked ≡ me.0.share.doing.marked
           same_marked None = refl

@@ -149,7 +149,7 @@ begun_kept c (HaltedChan d) ks quiet = absurd cc
 begun_kept c other ks quiet = refl
 
 -- a state with just that history
-abbrev behind : Config → List Entry → ℕ → State
+abbrev pub behind : Config → List Entry → ℕ → State
 behind c log ticket = record (start_state c) { history = log; next = ticket }
 
 same_section : (c : Config) (log : List Entry) (t ticket l : ℕ) (e : Event) → changes_sections e ≡ false → open_in c (entry_by t ticket e ∷ log) t l ≡ open_in c log t l

@@ -12,38 +12,67 @@ use Rattle.lock_model.specs.declared.event.Event.{Event}
 use Rattle.lock_model.specs.declared.numbers.ThreadNo.{ThreadNo}
 use Rattle.lock_model.specs.declared.event.Held.{Held}
 use Rattle.lock_model.specs.Queues.{Mark}
+use Rattle.lock_model.specs.Words.{word_of}
 use Rattle.lock_objects.specs.declared.marked.Marked.{Marked}
 use Rattle.lock_state.specs.Steps.Items.{Item}
 use Rattle.floor_table.specs.declared.description.Description.{Description}
 use Rattle.floor_table.specs.declared.slot.Slot.{Slot}
 use Rattle.floor_table.specs.Places.{slot_of}
-use Rattle.floor_table.specs.Views.{Knowledge, seeing}
+use Rattle.floor_table.specs.Views.{Role, Knowledge, seeing}
 use Rattle.lock_floor.specs.Marks.{AreMarked}
 use Rattle.lock_floor.specs.Ties.{IsTied}
-use Rattle.lock_floor.specs.Views.{put_down, took, gave, entry_by, stamped}
+use Rattle.lock_floor.specs.Views.{looked, put_down, took, gave, entry_by, stamped}
+use Rattle.lock_floor.proofs.Looking.{Looked}
 use Rattle.lock_floor.proofs.Taking.{Taken}
 
--- where its locks and its log stay
+-- what of a seat's knowledge an entry alone changes, or no step
+abbrev Lasting : Type 0
+Lasting = Role × Description × ℕ × List Entry × ℕ
+
+abbrev pub lasting : Knowledge → Lasting
+lasting v = (v.role, v.description, v.thread, v.share.log, v.spare)
+
+-- behind a step that makes no entry, with these locks and those who are to be woken
+pub tied_then : (who : ℕ) (locks left : Vec Held) (marked others : Marked) (book : Book) (fin : Bool)
+    (me behind : Me Slot Knowledge) (then : Knowledge) → fin ≡ false → IsTied who locks marked book fin me
+    → behind.0 ≡ seeing behind.0.seen then → behind.1 ≡ behind.0.out → lasting then ≡ lasting me.0
+    → left.items ≡ then.share.held → 8 ≤ vec_capacity left
+    → AreMarked then.description others then.share.doing.marked → IsTied who left others book fin behind
+tied_then who locks left marked others book fin me behind then going h v out same held room marks =
+    let s : lasting behind.0 ≡ lasting me.0 = ap lasting v ∙ same in
+    record {
+      role = ap (λ (z : Lasting). z.0) s ∙ h.role;
+      thread = h.thread ∙ sym (ap (λ (z : Lasting). z.2) s);
+      of_floor = subst (λ (z : Lasting). who < length z.1.threads) (sym s) h.of_floor;
+      few = h.few;
+      held = held ∙ sym (ap (λ (w : Knowledge). w.share.held) v);
+      room = room;
+      marks = subst (λ (w : Knowledge). AreMarked w.description others w.share.doing.marked) (sym v) marks;
+      log = h.log ∙ ap reverse (sym (ap (λ (z : Lasting). z.3) s));
+      spare = h.spare ∙ sym (ap (λ (z : Lasting). z.4) s);
+      out = out;
+      done = λ e. absurd (let z : false ≡ true = sym going ∙ e in cc);
+      runs = λ e. absurd (let z : false ≡ true = sym going ∙ e in cc);
+      rests = λ e. absurd (let z : false ≡ true = sym going ∙ e in cc);
+    }
+
+-- with its own
 pub tied_on : (who : ℕ) (locks : Vec Held) (marked : Marked) (book : Book) (fin : Bool) (me behind : Me Slot Knowledge)
-    → fin ≡ false → IsTied who locks marked book fin me → behind.0.role ≡ me.0.role
-    → behind.0.description ≡ me.0.description → behind.0.thread ≡ me.0.thread → behind.0.share.held ≡ me.0.share.held
-    → behind.0.share.doing.marked ≡ me.0.share.doing.marked → behind.0.share.log ≡ me.0.share.log
-    → behind.0.spare ≡ me.0.spare → behind.1 ≡ behind.0.out → IsTied who locks marked book fin behind
-tied_on who locks marked book fin me behind going h role floor thread held marks log spare out = record {
-  role = role ∙ h.role;
-  thread = h.thread ∙ sym thread;
-  of_floor = subst (λ (d : Description). who < length d.threads) (sym floor) h.of_floor;
-  few = h.few;
-  held = h.held ∙ sym held;
-  room = h.room;
-  marks = subst (λ (z : Description × List Mark). AreMarked z.0 marked z.1) (λ i. (sym floor i, sym marks i)) h.marks;
-  log = h.log ∙ ap reverse (sym log);
-  spare = h.spare ∙ sym spare;
-  out = out;
-  done = λ e. absurd (let z : false ≡ true = sym going ∙ e in cc);
-  runs = λ e. absurd (let z : false ≡ true = sym going ∙ e in cc);
-  rests = λ e. absurd (let z : false ≡ true = sym going ∙ e in cc);
-}
+    (then : Knowledge) → fin ≡ false → IsTied who locks marked book fin me → behind.0 ≡ seeing behind.0.seen then
+    → behind.1 ≡ behind.0.out → lasting then ≡ lasting me.0 → then.share.held ≡ me.0.share.held
+    → then.share.doing.marked ≡ me.0.share.doing.marked → IsTied who locks marked book fin behind
+tied_on who locks marked book fin me behind then going h v out same held marks =
+    tied_then who locks locks marked marked book fin me behind then going h v out same (h.held ∙ sym held) h.room
+    (subst (λ (z : Lasting × List Mark). AreMarked z.0.1 marked z.1) (λ i. (sym same i, sym marks i)) h.marks)
+
+-- after a look at a lock's word
+pub tied_looked : (who : ℕ) (locks : Vec Held) (marked : Marked) (book : Book) (fin : Bool)
+    (me behind : Me Slot Knowledge) (floor : Description) (l n : ℕ) → fin ≡ false → IsTied who locks marked book fin me
+    → Looked floor l me n behind → IsTied who locks marked book fin behind
+tied_looked who locks marked book fin me behind floor l n going h told =
+    let v : behind.0 ≡ seeing behind.0.seen (looked me.0 l (word_of n)) = ap (λ (m : Me Slot Knowledge). m.0) told.1 in
+    tied_on who locks marked book fin me behind (looked me.0 l (word_of n)) going h v
+    (ap (λ (m : Me Slot Knowledge). m.1) told.1 ∙ h.out ∙ sym (ap (λ w. w.out) v)) refl refl refl
 
 -- without a lock that was put down
 pub tied_without : (who l : ℕ) (locks left : Vec Held) (marked : Marked) (book : Book) (fin : Bool)
@@ -77,18 +106,15 @@ tied_taken who locks marked book fin me behind floor i j found place going h tol
       | inl e ↦
           let t = told.0 e i place in
           let v : behind.0 ≡ seeing behind.0.seen (took me.0 i j t.0.value) = t.0.view in (
-            tied_on who locks marked book fin me behind going h (ap (λ w. w.role) v) (ap (λ w. w.description) v)
-                (ap (λ w. w.thread) v) (ap (λ w. w.share.held) v) (ap (λ w. w.share.doing.marked) v)
-                (ap (λ w. w.share.log) v) (ap (λ w. w.spare) v)
-                (t.1 ∙ ap (λ xs. (j, t.0.value) ∷ xs) h.out ∙ sym (ap (λ w. w.out) v)),
+            tied_on who locks marked book fin me behind (took me.0 i j t.0.value) going h v
+                (t.1 ∙ ap (λ xs. (j, t.0.value) ∷ xs) h.out ∙ sym (ap (λ w. w.out) v)) refl refl refl,
             ap (λ w. w.description) v,
           )
       | inr ne ↦
           let v : behind.0 ≡ seeing behind.0.seen me.0 = ap (λ (m : Me Slot Knowledge). m.0) (told.1 ne).0 in
           let out : behind.1 ≡ me.1 = ap (λ (m : Me Slot Knowledge). m.1) (told.1 ne).0 in (
-            tied_on who locks marked book fin me behind going h (ap (λ w. w.role) v) (ap (λ w. w.description) v)
-                (ap (λ w. w.thread) v) (ap (λ w. w.share.held) v) (ap (λ w. w.share.doing.marked) v)
-                (ap (λ w. w.share.log) v) (ap (λ w. w.spare) v) (out ∙ h.out ∙ sym (ap (λ w. w.out) v)),
+            tied_on who locks marked book fin me behind me.0 going h v (out ∙ h.out ∙ sym (ap (λ w. w.out) v)) refl refl
+                refl,
             ap (λ w. w.description) v,
           )
     ]
@@ -99,9 +125,8 @@ pub tied_given : (who : ℕ) (locks : Vec Held) (marked : Marked) (book : Book) 
     → behind ≡ (seeing behind.0.seen (gave me.0 i), rest me.1) → IsTied who locks marked book fin behind
 tied_given who locks marked book fin me behind i going h is =
     let v : behind.0 ≡ seeing behind.0.seen (gave me.0 i) = ap (λ (m : Me Slot Knowledge). m.0) is in
-    tied_on who locks marked book fin me behind going h (ap (λ w. w.role) v) (ap (λ w. w.description) v)
-    (ap (λ w. w.thread) v) (ap (λ w. w.share.held) v) (ap (λ w. w.share.doing.marked) v) (ap (λ w. w.share.log) v)
-    (ap (λ w. w.spare) v) (ap (λ (m : Me Slot Knowledge). m.1) is ∙ ap rest h.out ∙ sym (ap (λ w. w.out) v))
+    tied_on who locks marked book fin me behind (gave me.0 i) going h v
+    (ap (λ (m : Me Slot Knowledge). m.1) is ∙ ap rest h.out ∙ sym (ap (λ w. w.out) v)) refl refl refl
 
 -- the entry that a call makes is that of its thread
 pub entry_made : (t : ℕ) (who : ThreadNo) (e : Entry) (event : Event) → who.0 ≡ t → e.thread ≡ who → e.event ≡ event

@@ -1,9 +1,11 @@
 -- The first of a marked list is woken: its record is taken, it is marked, and the record is given back.
 use Rattle.std.proofs.Common.{◌≡◌, ◌≢◌, ℕ, ◌<◌, cond, None, List, [], ◌∷◌, length, refl, sym, ap, ◌∙◌, subst}
 use Rattle.std.specs.Box.{with_value}
+use Rattle.std.specs.List.{All}
 use Rattle.std.specs.declared.alloc.Global.{Global}
 use Rattle.std.specs.declared.boxed.Box.{Box}
 use Rattle.std.proofs.lemmas.Bool.{ne_eqb}
+use Rattle.std.proofs.lemmas.List.Elements.{All-head}
 use Rattle.atomic_table.specs.Table.{rest}
 use Rattle.lock_model.specs.Queues.{Mark}
 use Rattle.lock_state.specs.State.{Awake, SelfAborted}
@@ -13,7 +15,7 @@ use Rattle.lock_state.specs.Steps.Turnstiles.{phase_marked}
 use Rattle.thread_records.specs.declared.record.ThreadRec.{ThreadRec}
 use Rattle.floor_table.specs.Descriptions.{config_in}
 use Rattle.floor_table.specs.Steps.{MayMake, Makes}
-use Rattle.floor_table.specs.Views.{Knowledge, Runs, StandsOn, seeing}
+use Rattle.floor_table.specs.Views.{Knowledge, StandsOn, seeing}
 use Rattle.floor_table.specs.declared.description.Description.{Description}
 use Rattle.floor_table.specs.declared.slot.Slot.TheVariants.{Record}
 use Rattle.lock_floor.specs.Latches.{Takes}
@@ -21,10 +23,10 @@ use Rattle.lock_floor.specs.Marks.{CanMark, HasFirstOut, MarksFirst, MayMark, Wa
 use Rattle.lock_floor.specs.Views.{gave}
 use Rattle.lock_floor.proofs.Marked.{head_or, tail_of}
 use Rattle.lock_floor.proofs.MarkedRecords.{lacks}
-use Rattle.lock_floor.proofs.May.{may_give}
+use Rattle.lock_floor.proofs.May.{may_give_settled}
 use Rattle.lock_floor.proofs.MayWake.{may_mark}
 use Rattle.lock_floor.proofs.Taking.{record_at}
-use Rattle.lock_floor.specs.Passes.{IsGoing}
+use Rattle.lock_floor.specs.Passes.{IsGoing, IsOffTheWay}
 use Rattle.lock_floor.proofs.Priorities.{a_record}
 
 -- 1. The first of it
@@ -55,7 +57,7 @@ module _ (floor : Description) (v a : Knowledge) (m : Mark) (ms : List Mark) (is
   may_mark_it can low = record {
     first = first_out;
     lacks = lacks floor v a m ms is box_is.0 taken box_is.1;
-    may = may_mark floor a first_out (ap (λ (k : Knowledge). k.pose) taken.view ∙ can.runs)
+    may = may_mark floor a first_out (subst IsOffTheWay (sym (ap (λ (k : Knowledge). k.pose) taken.view)) can.settled)
         (subst IsGoing (sym taken.view) can.going) low;
   }
 
@@ -76,13 +78,13 @@ module _ (floor : Description) (v a : Knowledge) (m : Mark) (ms : List Mark) (is
     b_thread : b.thread ≡ v.thread
     b_thread = ap (λ (k : Knowledge). k.thread) marks.view ∙ a_thread
 
-    -- it is another
+    -- it is another: who wakes itself stands on the queue off which it was taken
     another : v.thread ≢ u
     another e =
-        let stands : a.pose ≡ StandsOn marks.first.mark.queue = marks.itself (sym e ∙ sym a_thread) in
-        let runs : a.pose ≡ Runs = ap (λ (k : Knowledge). k.pose) taken.view ∙ can.runs in
-        let z : Runs ≡ StandsOn marks.first.mark.queue = sym runs ∙ stands in
-        cc
+        let stands : v.pose ≡ StandsOn m.queue = sym (ap (λ (k : Knowledge). k.pose) taken.view)
+        ∙ marks.itself (sym e ∙ sym a_thread) ∙ ap (λ (k : Mark). StandsOn k.queue) heads in
+        All-head (λ (k : Mark). k.queue ≢ m.queue) m ms
+        (subst (All (λ (k : Mark). k.queue ≢ m.queue)) is (can.elsewhere m.queue stands)) refl
 
     phase_is : phase_marked v.thread u v.share.doing.phase ≡ v.share.doing.phase
     phase_is = ap (λ q. cond q SelfAborted v.share.doing.phase) (ne_eqb v.thread u another)
@@ -97,15 +99,17 @@ module _ (floor : Description) (v a : Knowledge) (m : Mark) (ms : List Mark) (is
     -- and its record may be given back
     pub give_may : u < length floor.threads → MayMake floor b (λ s. Unit {0}) (GivesItem b.thread (RecordOf u) ∷ [])
     give_may low =
-        let runs : b.pose ≡ Runs = ap (λ (k : Knowledge). k.pose) marks.view ∙ ap (λ (k : Knowledge). k.pose) taken.view
-        ∙ can.runs in
+        let pose : b.pose ≡ v.pose = ap (λ (k : Knowledge). k.pose) marks.view
+        ∙ ap (λ (k : Knowledge). k.pose) taken.view in
+        let settled : IsOffTheWay b.pose = subst IsOffTheWay (sym pose) can.settled in
         let stamped : b.share.doing.unstamped ≡ None = ap (λ (k : Knowledge). k.share.doing.unstamped) marks.view
         ∙ ap (λ (k : Knowledge). k.share.doing.unstamped) taken.view ∙ can.going.stamped in
         let awake : b.share.doing.phase ≡ Awake =
         ap (λ (k : Knowledge). k.share.doing.phase) marks.view
         ∙ (λ i. phase_marked (a_thread i) ((ap (λ (k : Mark). k.thread) heads) i)
         ((taken.view i).share.doing.phase)) ∙ phase_is ∙ can.going.awake in
-        may_give floor b (RecordOf u) u (Record new_box) (record_at floor u low) give_last refl runs awake stamped
+        may_give_settled floor b (RecordOf u) u (Record new_box) (record_at floor u low) give_last refl settled awake
+        stamped
 
   -- and the record was given back
   module _ (b e : Knowledge) (can : CanMark v) (marks : MarksFirst floor u a b)

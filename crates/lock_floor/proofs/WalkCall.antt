@@ -1,5 +1,5 @@
 -- What the calls of single steps of a walk leave of the pass and tell.
-use Rattle.std.proofs.Common.{◌≡◌, ℕ, Bool, false, List, [], ◌∷◌, sym, ap, ◌∙◌, subst}
+use Rattle.std.proofs.Common.{◌≡◌, ℕ, Bool, false, List, [], ◌∷◌, refl, sym, ap, ◌∙◌, subst}
 use Rattle.std.specs.Global.{Vec}
 use Rattle.std.specs.declared.alloc.Global.{Global}
 use Rattle.std.specs.declared.boxed.Box.{Box}
@@ -34,10 +34,8 @@ module _ (floor : Description) (me worked behind : Me Slot Knowledge) (step : �
   pub call_tied : (who : ℕ) (locks : Vec Held) (marked : Marked) (book : Book) (fin : Bool) → fin ≡ false
       → IsTied who locks marked book fin me → IsTied who locks marked book fin behind
   call_tied who locks marked book fin going h =
-      let v = call_view in
-      tied_on who locks marked book fin me behind going h (ap (λ k. k.role) v) (ap (λ k. k.description) v)
-      (ap (λ k. k.thread) v) (ap (λ k. k.share.held) v) (ap (λ k. k.share.doing.marked) v) (ap (λ k. k.share.log) v)
-      (ap (λ k. k.spare) v) (ap (λ (m : Me Slot Knowledge). m.1) told.is ∙ sym (ap (λ k. k.out) v))
+      tied_on who locks marked book fin me behind (hopped me.0 w worked.1) going h call_view
+      (ap (λ (m : Me Slot Knowledge). m.1) told.is ∙ sym (ap (λ k. k.out) call_view)) refl refl refl
 
   pub call_in_hop : (o : ℕ) (box : Box ThreadRec Global) (chain : List (QueueName × Turnstile))
       → worked.1 ≡ record_and_chain floor o box chain → StepsInHop floor o (step me.0.thread) w me.0 behind.0

@@ -14,3 +14,6 @@ pub mod Claims
 pub mod Rounds
 pub mod Ordering
 pub mod Walks
+pub mod Sleeps
+pub mod SleepLocks
+pub mod Relocks

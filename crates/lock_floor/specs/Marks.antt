@@ -1,5 +1,5 @@
 -- Those whom a thread took off a queue and has yet to wake, and how it wakes the first of them.
-use Rattle.std.specs.Prelude.{◌≡◌, ℕ, ◌<◌, List, [], ◌∷◌, ◌++◌, length, map, if◌then◌else◌, IsSome, None, Some}
+use Rattle.std.specs.Prelude.{◌≡◌, ◌≢◌, ℕ, ◌<◌, List, [], ◌∷◌, ◌++◌, length, map, if◌then◌else◌, IsSome, None, Some}
 use Rattle.std.specs.Box.{with_value}
 use Rattle.std.specs.List.{All}
 use Rattle.std.specs.declared.alloc.Global.{Global}
@@ -19,11 +19,11 @@ use Rattle.thread_records.specs.declared.record.ThreadRec.{ThreadRec}
 use Rattle.floor_table.specs.Descriptions.{config_in}
 use Rattle.floor_table.specs.Shares.{Doing}
 use Rattle.floor_table.specs.Steps.{MayMake, Makes, MakesEach}
-use Rattle.floor_table.specs.Views.{Knowledge, Runs, StandsOn, seeing}
+use Rattle.floor_table.specs.Views.{Knowledge, StandsOn, seeing}
 use Rattle.floor_table.specs.declared.description.Description.{Description}
 use Rattle.floor_table.specs.declared.slot.Slot.{Slot}
 use Rattle.floor_table.specs.declared.slot.Slot.TheVariants.{Record}
-use Rattle.lock_floor.specs.Passes.{IsGoing}
+use Rattle.lock_floor.specs.Passes.{IsGoing, IsOffTheWay}
 
 -- 1. The marked list
 
@@ -106,9 +106,12 @@ abbrev pub marking : ℕ → List Mark → List (List Step)
 marking t [] = []
 marking t (m ∷ ms) = wakes t m ms ++ marking t ms
 
--- a thread that runs, goes on, has nothing out and counted in nobody yet may wake those of its marked list
+-- A thread that goes on, has nothing out and counted in nobody yet may wake those of its marked list. It runs, or
+-- stands on another queue than they did: so it wakes others
 pub record CanMark (v : Knowledge) : Type 0 where
-  pub runs : v.pose ≡ Runs
+  pub settled : IsOffTheWay v.pose
+  pub elsewhere : (q : QueueName) → v.pose ≡ StandsOn q
+      → All (λ m. m.queue ≢ q) v.share.doing.marked
   pub nothing_out : v.out ≡ []
   pub going : IsGoing v
   pub uncounted : v.share.doing.counting ≡ None

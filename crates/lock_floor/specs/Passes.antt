@@ -1,11 +1,12 @@
 -- Passes as calls need them and give them.
-use Rattle.std.specs.Prelude.{◌≡◌, ◌≢◌, ℕ, ◌+◌, Bool, true, false, List, [], ◌∷◌, Option, None}
+use Rattle.std.specs.Prelude.{◌≡◌, ◌≢◌, ◌⊎◌, ℕ, ◌+◌, Bool, true, false, List, [], ◌∷◌, Option, None}
 use Rattle.atomic_table.specs.Seated.{TableId}
 use Rattle.lock_model.specs.Holds.{NotHeld}
 use Rattle.lock_model.specs.History.{open_in}
 use Rattle.lock_model.specs.Operations.{hold_in}
 use Rattle.lock_model.specs.declared.event.Event.{Event}
 use Rattle.lock_model.specs.declared.event.Held.{Held}
+use Rattle.lock_model.specs.declared.plan.QueueName.{QueueName}
 use Rattle.lock_state.specs.State.{NoWalk, Phase, Awake, Wake}
 use Rattle.lock_state.specs.Steps.{Step, TakesItem, Stamps, GivesItem}
 use Rattle.lock_state.specs.Steps.Items.{Item}
@@ -14,7 +15,7 @@ use Rattle.floor_table.specs.Descriptions.{config_in}
 use Rattle.floor_table.specs.declared.description.Description.{Description}
 use Rattle.floor_table.specs.Shares.{is_among}
 use Rattle.floor_table.specs.Steps.{Makes}
-use Rattle.floor_table.specs.Views.{Runs, Knowledge, first_view}
+use Rattle.floor_table.specs.Views.{Pose, Runs, StandsOn, Knowledge, first_view}
 use Rattle.lock_floor.specs.declared.calls.Call.TheVariants as call
 use Rattle.lock_floor.specs.Floors.{Floor, Pass, Keeper}
 use Rattle.lock_floor.specs.Views.{entry_by}
@@ -50,6 +51,10 @@ pub record CanStep (phase : Phase) (has_ended : Bool) (unstamped : Option Wake) 
 -- the thread is so
 abbrev pub IsGoing : Knowledge → Type 0
 IsGoing v = CanStep v.share.doing.phase v.share.doing.has_ended v.share.doing.unstamped
+
+-- where a thread isn't on its way to a queue: it runs, or came to stand on one
+abbrev pub IsOffTheWay : Pose → Type 0
+IsOffTheWay p = (p ≡ Runs) ⊎ ((q : QueueName) × (p ≡ StandsOn q))
 
 -- A thread at rest: it runs, is awake and has nothing out, no walk and nobody to mark or counted in, wants no lock and
 -- seeks none, remembers no look, has nothing to note and doesn't sleep in its log; the sections open in its log are of

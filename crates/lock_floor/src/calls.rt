@@ -16,6 +16,12 @@ pub enum Call {
         mode: Mode,
         at: TakeAt,
     },
+    /// A try of a lock in a mode.
+    Try {
+        l: LockNo,
+        mode: Mode,
+        at: TryAt,
+    },
     /// A release of a lock that was held in a mode.
     Release {
         l: LockNo,
@@ -44,10 +50,24 @@ pub enum TakeAt {
     Hops(Walk),
 }
 
+/// Where in a try the thread is: its first exchange missed, and found a word that admits the mode.
+#[derive(Clone, Copy, Debug, PartialEq, Eq)]
+pub enum TryAt {
+    /// In its round: so many more times it looks, and tries where it sees the lock admit it; then it takes the lock's
+    /// chain.
+    Tries(u32),
+    /// It has the lock's chain out, and takes its own record.
+    ComesIn,
+    /// It has both out, and saw this word last: it gains the lock, or finds it busy.
+    Decides(u64),
+}
+
 /// Where in a release, which is noted already, the thread is.
 #[derive(Clone, Copy, Debug, PartialEq, Eq)]
 pub enum ReleaseAt {
-    /// Its first exchange missed: it takes the lock's chain.
+    /// Of a shared hold: an exchange missed, and found this word, from which it may still be put down by one.
+    Drops(u64),
+    /// An exchange missed, and the lock may have to be opened: it takes the lock's chain.
     ComesTo,
     /// It has the lock's chain out, and takes its own record.
     ComesIn,

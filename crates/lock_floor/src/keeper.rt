@@ -228,7 +228,8 @@ fn hand_out(
 {
     for (t, thread) in description.threads.as_slice().iter().enumerate() {
         let held = Vec::with_capacity(alloc, HELD_ROOM)?;
-        let log = Log::make(alloc, thread.room)?;
+        let mut log = Log::make(alloc, thread.room)?;
+        log.touch();
         let mine = board.shared.split_seat::<HandOut>(seat);
         passes.push_reserved(PassOf {
             seat: mine,

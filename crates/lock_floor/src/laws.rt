@@ -1,7 +1,7 @@
 //! What steps say of the state in which they are made, and of the one behind it: a look finds the word that the lock
 //! has then (and what that can be, where the thread doesn't hold the lock), a try that fails finds its item out then,
-//! and reads and changes of locks' tables act on what all entries with earlier tickets leave.
-ghost use Rattle.std.specs.Prelude.{◌≡◌, ◌≢◌, ℕ, Bool, true, List, [], ◌∷◌, length, Option, None, Some, IsSome};
+//! and reads and changes of locks' tables act on what all entries with earlier tickets leave. Sleepers fit the history.
+ghost use Rattle.std.specs.Prelude.{◌≡◌, ◌≢◌, ◌≤◌, ◌⊎◌, ℕ, Bool, true, List, [], ◌∷◌, length, Option, None, Some, IsSome};
 ghost use Rattle.std.specs.declared.alloc.Global.{Global};
 ghost use Rattle.std.specs.declared.boxed.Box.{Box};
 ghost use Rattle.lock_laws.specs.Words.{CanBeSeen};
@@ -11,13 +11,15 @@ ghost use Rattle.lock_model.specs.Operations.{hold_in};
 ghost use Rattle.lock_model.specs.declared.event.Event.{Event};
 ghost use Rattle.lock_model.specs.declared.event.Event.TheVariants.{Got};
 ghost use Rattle.lock_model.specs.declared.numbers.LockNo.{LockNo};
-ghost use Rattle.lock_model.specs.Queues.{Mark};
-ghost use Rattle.lock_state.specs.State.{Queued};
-ghost use Rattle.lock_state.specs.Steps.{Step, Looks, Stamps, Marks, after_all};
+ghost use Rattle.lock_model.specs.Law.{is_asleep, is_named};
+ghost use Rattle.lock_model.specs.Queues.{Mark, BySignal, chan_queue, stands};
+ghost use Rattle.lock_state.specs.State.{State, Queued};
+ghost use Rattle.lock_state.specs.Steps.{Step, Looks, Stamps, Marks, Resumes, after_all};
 ghost use Rattle.lock_state.specs.Steps.Items.{Item, RecordOf};
 ghost use Rattle.lock_state.specs.Steps.LockWords.{table_after};
 ghost use Rattle.floor_table.specs.Descriptions.{config_in};
 ghost use Rattle.floor_table.specs.declared.description.Description.{Description};
+ghost use Rattle.floor_table.specs.Past.{LeadsTo};
 ghost use Rattle.floor_table.specs.Steps.{Makes};
 ghost use Rattle.floor_table.specs.Represents.{IsPosed};
 ghost use Rattle.floor_table.specs.Views.{Knowledge, Pose, is_off_queues};
@@ -27,6 +29,7 @@ ghost use Rattle.lock_floor.specs.Changes.{event_of, cell_after};
 ghost use Rattle.lock_floor.specs.Latches.{FindsOut, Takes};
 ghost use Rattle.lock_floor.specs.Marks.{LacksObject};
 ghost use Rattle.lock_floor.specs.Views.{entry_by};
+ghost use Rattle.sleep_laws.specs.Sleepers.{IsWithChannel, WasAborted, by_chain};
 ghost use Rattle.thread_records.specs.declared.record.ThreadRec.{ThreadRec};
 
 /// Steps that were made behind the same steps were made in the same state.
@@ -157,4 +160,29 @@ pub fn changes_act_on_changes()
         (Stamps old.thread (event_of l key change) ∷ [])).table k other
         ≡ value_at (after_all (config_in floor) m.state
         (Stamps old.thread (event_of l key change) ∷ [])).history k other }
+{}
+
+/// Who stands on a channel's queue, in a state to which steps of a floor's threads lead, sleeps there in the history:
+/// its newest entry is that of the sleep, and no waking names it since. It wants no lock.
+pub fn standing_threads_sleep()
+    ensures asleep { (floor : Description) (past : List Step) (s : State) (t d : ℕ)
+        → LeadsTo floor past s → 1 ≤ stands t (s.lists (chan_queue d))
+        → is_asleep s.history d t ≡ true }
+    ensures wants { (floor : Description) (past : List Step) (s : State) (t d : ℕ)
+        → LeadsTo floor past s → 1 ≤ stands t (s.lists (chan_queue d)) → s.wanted t ≡ None }
+{}
+
+/// Conversely, who sleeps on a channel in the history stands on its queue, or has the chain out in which that stands,
+/// or is in the marked list of a thread that has it out, or was aborted, and has yet to note that.
+pub fn sleeping_threads_stand()
+    ensures { (floor : Description) (past : List Step) (s : State) (t d : ℕ)
+        → LeadsTo floor past s → is_asleep s.history d t ≡ true
+        → WasAborted (config_in floor) s t ⊎ IsWithChannel (by_chain floor.chains s) s t d }
+{}
+
+/// Who runs again that a signal woke off a channel was named by a waking since its newest entry, that of its sleep.
+pub fn woken_sleepers_were_named()
+    ensures { (floor : Description) (d : ℕ) (old new : Knowledge)
+        (m : Makes floor (Resumes old.thread (chan_queue d) BySignal ∷ []) old new)
+        → is_named m.state.history old.thread ≡ true }
 {}

@@ -18,6 +18,8 @@
 //! - `parking`: how a thread that stands on a queue sleeps, and runs again.
 //! - `opening`: a release that takes waiters off a lock's turnstile, and `claiming`: a gain of a free lock that shows
 //!   waiters, by which the thread owns its turnstile.
+//! - `sleeping`: the same of sx locks, with sleep queues; `relock`: how a wait gives its lock up and takes it back.
+//! - `channels`: how a thread goes to sleep on a channel, and how sleepers are taken off one.
 //! - `marking`: how those are woken.
 //! - `walking`: how a thread that stands on a turnstile lends its priority along the chain of owners.
 //! - `ties`: what is true of each floor and pass.
@@ -25,6 +27,7 @@
 
 mod calls;
 mod chains;
+mod channels;
 mod claiming;
 mod closing;
 mod floor;
@@ -37,7 +40,9 @@ mod ordering;
 mod parking;
 mod pass;
 mod prios;
+mod relock;
 mod rounds;
+mod sleeping;
 mod stamps;
 mod steps;
 mod tables;
@@ -45,10 +50,11 @@ mod ties;
 mod waits;
 mod walking;
 
-pub use calls::{Call, ReleaseAt, TakeAt};
+pub use calls::{Call, ReleaseAt, TakeAt, TryAt};
 pub use closing::Closing;
 pub use floor::{Floor, FloorOf};
 pub use keeper::Keeper;
 pub use pass::{Pass, PassOf};
+pub use relock::Relock;
 pub use tables::Change;
 pub use ties::Ties;

@@ -74,7 +74,13 @@ impl FloorOf<Slot, View, Description, Law> {
 }
 
 // Makes a word that is the seen one the free word that its last holder leaves. Answers the word that it found.
-fn open_word<J: Tells>(board: &Board, seat: &mut FloorSeat, l: LockNo, seen: u64, new: u64) -> u64
+pub(crate) fn open_word<J: Tells>(
+    board: &Board,
+    seat: &mut FloorSeat,
+    l: LockNo,
+    seen: u64,
+    new: u64,
+) -> u64
     requires own { seat.old.table_id ≡ board.now.shared.table_id }
     requires within { spot (lock_line l.0) < board.now.shared.table_id.words }
     requires may { Allows (FloorHolds board.now.shared.key) board.now.shared.table_id.slots

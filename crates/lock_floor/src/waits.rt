@@ -124,7 +124,7 @@ fn say_wait<J: Tells>(
 }
 
 // Makes a word that is the seen one show waiters of a side. Answers the word that it found.
-fn enter_word<J: Tells>(
+pub(crate) fn enter_word<J: Tells>(
     board: &Board,
     seat: &mut FloorSeat,
     l: LockNo,
@@ -191,7 +191,7 @@ fn stand(
 }
 
 // The side on which a thread waits that wants a lock in a mode.
-fn side_of(mode: Mode) -> Side
+pub(crate) fn side_of(mode: Mode) -> Side
     ensures { result ≡ side_of mode }
 {
     match mode {

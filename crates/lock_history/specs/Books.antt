@@ -1,8 +1,10 @@
 -- A log and tables, as contracts see them.
-use Rattle.std.specs.Prelude.{ℕ, List, [], ◌∷◌, Option, Some, None, IfSome, refl}
+use Rattle.std.specs.Prelude.{◌≡◌, ◌==◌, ◌&&◌, Bool, ℕ, List, [], ◌∷◌, Option, Some, None, IfSome, refl}
 use Rattle.std.specs.Coded.{Coded, code_by, coded×, coded_list, coded_ℕ}
 use Rattle.std.specs.FinMap.{FinMap, code, from_sorted}
 use Rattle.std.specs.List.{Contains}
+use Rattle.std.specs.Option.{option_flatten}
+use Rattle.indexmap.specs.IndexMap.{IndexMap, get}
 use Rattle.lock_model.specs.Events.{facets}
 use Rattle.lock_model.specs.History.{place_cmp}
 use Rattle.lock_model.specs.declared.event.Entry.{Entry}
@@ -40,6 +42,14 @@ filled (slot ∷ slots) = filled_on slot.0 slot.1 (filled slots)
 -- the map of the entries that have a value
 abbrev pub present_of : List ((ℕ × ℕ) × Option ℕ) → FinMap place_cmp ℕ
 present_of slots = from_sorted (filled slots)
+
+-- whether two places are the same
+abbrev pub place_eq : ℕ × ℕ → ℕ × ℕ → Bool
+place_eq p q = (p.0 == q.0) && (p.1 == q.1)
+
+-- a map that has no value at any place
+abbrev pub HasNoValue : {S : Type 0} → IndexMap (ℕ × ℕ) (Option ℕ) S → Type 0
+HasNoValue m = (p : ℕ × ℕ) → option_flatten (get place_eq m p) ≡ None
 
 -- a lock, a key and a value, as a map has them
 abbrev pub row_seen : LockNo × ℕ × ℕ → (ℕ × ℕ) × ℕ

@@ -1,9 +1,17 @@
 //! A log of entries whose memory was taken when it was made, so that an entry is added without taking any.
 ghost use Rattle.std.specs.Prelude.{◌≡◌, ◌+◌, ◌-◌, ◌^◌, ◌<◌, ◌≤◌, ◌==◌, ◌++◌, ◌∷◌, [], length, vec_len, IfOk};
 
-use lock_model::Entry;
+use lock_model::{Entry, Event, Prio, ThreadNo};
 use std::alloc::{AllocError, Global};
 use std::marker::Model;
+
+// What stands in a place that no entry was put in yet. It isn't all zeros: memory that is only to be zero, the system
+// gives when it is first used.
+const UNSEEN: Entry = Entry {
+    ticket: u32::MAX,
+    thread: ThreadNo(0),
+    event: Event::Base { prio: Prio(0) },
+};
 
 /// A log of entries, with room for so many more.
 ///
@@ -45,6 +53,18 @@ impl Log {
             entries: Vec::with_capacity(alloc, room as usize)?,
             spare: room,
         })
+    }
+
+    /// Writes to all places that it has room for, so that the system has given their memory before the first entry
+    /// comes: else the entry that is the first of a page pays for the page. No entry changes.
+    pub fn touch(&mut self)
+        ensures { self.new ≡ self.old }
+    {
+        let len = self.entries.len();
+        self.entries
+            .resize(len + self.spare as usize, UNSEEN)
+            .unwrap();
+        self.entries.truncate(len);
     }
 
     /// Adds an entry behind the others. It takes no memory, and needs room.

@@ -1,16 +1,16 @@
 //! Tables of locks: the value at each key of a lock's table, with room for fixed keys.
-ghost use Rattle.std.specs.Prelude.{◌≡◌, ℕ, ◌||◌, ◌↔◌, [], OnOk, IfOk, IsOk, IsTrue, is_some};
+ghost use Rattle.std.specs.Prelude.{◌≡◌, ℕ, ◌||◌, ◌↔◌, OnOk, IfOk, IsOk, IsTrue, is_some};
 ghost use Rattle.std.specs.Option.{option_map};
 ghost use Rattle.std.specs.List.{Contains, list_any, slice_get};
-ghost use Rattle.std.specs.BTreeMap as tree;
 ghost use Rattle.std.specs.FinMap.{empty, get, insert, entries};
-ghost use Rattle.lock_model.specs.History.{place_cmp, edited};
+ghost use Rattle.indexmap.specs.IndexMap as map;
+ghost use Rattle.lock_model.specs.History.{edited};
 ghost use Rattle.lock_model.specs.Keys.{op_names, plan_names};
-ghost use Rattle.lock_history.specs.Books.{filled, row_seen, HasRoom};
+ghost use Rattle.lock_history.specs.Books.{filled, place_eq, row_seen, HasNoValue, HasRoom};
 
+use indexmap::IndexMap;
 use lock_model::{Event, LockNo, OfTable, Op, Plan};
 use std::alloc::{AllocError, Global};
-use std::collections::BTreeMap;
 use std::marker::Model;
 
 /// The values at the keys of the locks' tables. A key is present where it has a value.
@@ -23,11 +23,12 @@ use std::marker::Model;
 #[derive(Drop, Debug)]
 pub struct Tables {
     // A value or none at each key that there is room for, by lock and then by key.
-    slots: BTreeMap<(u8, u64), Option<u64>>,
+    slots: IndexMap<(u8, u64), Option<u64>>,
 }
 
 impl Model for Tables {
-    ghost use Rattle.std.specs.BTreeMap.{IsOrdered, keys};
+    ghost use Rattle.indexmap.specs.IndexMap.{keys};
+    ghost use Rattle.std.specs.List.Sorted.{IsStrictlySortedBy};
     ghost use Rattle.lock_model.specs.History.{place_cmp};
     ghost use Rattle.lock_history.specs.Books.{Slots, slots_code, present_of};
 
@@ -40,7 +41,7 @@ impl Model for Tables {
       present = present_of t.slots.entries;
     } };
 
-    ghost invariant = { λ t. IsOrdered place_cmp t.slots };
+    ghost invariant = { λ t. IsStrictlySortedBy place_cmp (keys t.slots) };
 }
 
 impl Tables {
@@ -51,10 +52,11 @@ impl Tables {
         ensures room { IfOk result (λ t. (l key : ℕ) →
             Contains t.places (l, key) ↔ IsTrue (plan_names plan.now l key)) }
     {
-        let mut slots = BTreeMap::new(alloc);
+        let mut slots = IndexMap::new(alloc);
         for thread in plan.threads.as_slice() {
             add_slots(&mut slots, thread.ops.as_slice())?;
         }
+        slots.sort_keys()?;
         Ok(Tables { slots })
     }
 
@@ -65,15 +67,15 @@ impl Tables {
         ensures room { IfOk result (λ t. (l key : ℕ) →
             Contains t.places (l, key) ↔ Contains keys.now (l, key)) }
     {
-        let mut slots = BTreeMap::new(alloc);
+        let mut slots = IndexMap::new(alloc);
         for key in keys {
             slots.insert(*key, None)?;
         }
+        slots.sort_keys()?;
         Ok(Tables { slots })
     }
 
-    /// Sets a key that there is room for, and leaves the others. It takes no memory, and time in the
-    /// logarithm of the keys.
+    /// Sets a key that there is room for, and leaves the others. It takes no memory, and one look into a hash map.
     pub fn put(&mut self, l: LockNo, key: u64, value: u64)
         requires { Contains self.old.places (l.0, key) }
         ensures places { self.new.places ≡ self.old.places }
@@ -83,8 +85,8 @@ impl Tables {
     }
 
     /// Makes the change that an event says: it sets the key of a `Set`, adds to that of an `Added`, where an
-    /// absent key counts as 0, and changes nothing at any other event. It takes memory only for a key that
-    /// there is no room for, and fails only where that runs out. It takes time in the logarithm of the keys.
+    /// absent key counts as 0, and changes nothing at any other event. It takes memory, and time in the number
+    /// of the keys, only for a key that there is no room for, and fails only where memory runs out.
     pub fn edit(&mut self, event: Event) -> Result<(), AllocError>
         ensures present { OnOk result (self.new.present ≡ edited event self.old.present) }
         ensures succeeds { HasRoom self.old.places event → IsOk result }
@@ -100,8 +102,7 @@ impl Tables {
         }
     }
 
-    /// The value at a key, in time in the logarithm of the keys. There is none exactly where the key is
-    /// absent.
+    /// The value at a key. There is none exactly where the key is absent.
     pub fn get(&self, l: LockNo, key: u64) -> Option<u64>
         ensures { result ≡ get self.now.present (l.0, key) }
     {
@@ -133,7 +134,7 @@ impl Tables {
         ensures { result.present ≡ empty }
     {
         Tables {
-            slots: BTreeMap::new(alloc),
+            slots: IndexMap::new(alloc),
         }
     }
 
@@ -145,12 +146,18 @@ impl Tables {
         ensures places { Contains self.old.places (l.0, key)
             → self.new.places ≡ self.old.places }
     {
-        self.slots.insert((l.0, key), Some(value))?;
+        let place = (l.0, key);
+        match self.slots.get_mut(&place) {
+            Some(slot) => *slot = Some(value),
+            None => {
+                self.slots.insert_sorted(place, Some(value))?;
+            }
+        }
         Ok(())
     }
 
     // A value or none at each key that there is room for.
-    pub(crate) fn slots(&self) -> &BTreeMap<(u8, u64), Option<u64>>
+    pub(crate) fn slots(&self) -> &IndexMap<(u8, u64), Option<u64>>
         ensures { entries self.now.present ≡ filled result.now.entries }
     {
         &self.slots
@@ -158,13 +165,11 @@ impl Tables {
 }
 
 // Room for the keys that operations name, in a map that has no value yet.
-fn add_slots(slots: &mut BTreeMap<(u8, u64), Option<u64>>, ops: &[Op]) -> Result<(), AllocError>
-    requires empty { filled slots.old.entries ≡ [] }
-    requires ordered { tree.IsOrdered place_cmp slots.old }
-    ensures ordered { tree.IsOrdered place_cmp slots.new }
-    ensures empty { OnOk result (filled slots.new.entries ≡ []) }
-    ensures room { OnOk result ((l key : ℕ) → is_some (tree.get place_cmp slots.new (l, key))
-        ≡ (is_some (tree.get place_cmp slots.old (l, key)) || list_any (op_names l key) ops.now)) }
+fn add_slots(slots: &mut IndexMap<(u8, u64), Option<u64>>, ops: &[Op]) -> Result<(), AllocError>
+    requires empty { HasNoValue slots.old }
+    ensures empty { OnOk result (HasNoValue slots.new) }
+    ensures room { OnOk result ((l key : ℕ) → is_some (map.get place_eq slots.new (l, key))
+        ≡ (is_some (map.get place_eq slots.old (l, key)) || list_any (op_names l key) ops.now)) }
 {
     for op in ops {
         if let Some((l, key)) = op.place() {

@@ -9,6 +9,9 @@ pub mod Records
 pub mod Enters
 pub mod Opens
 pub mod Sleeps
+pub mod TakenOff
+pub mod SleepChains
+pub mod Aborts
 pub mod Lent
 pub mod Hops
 pub mod StepsOfSleepers

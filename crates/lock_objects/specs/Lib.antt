@@ -3,5 +3,6 @@ pub mod Held
 pub mod Enters
 pub mod Opens
 pub mod Sleeps
+pub mod Aborts
 pub mod Marked
 pub mod Hops

@@ -10,12 +10,14 @@
 //! - `blocking`: a thread goes to stand on a turnstile.
 //! - `waking`: waiters are taken off a turnstile.
 //! - `sleeping`: a thread goes to stand on a sleep queue, and sleepers are taken off it.
+//! - `aborting`: one sleeper is taken off a sleep queue without a signal.
 //! - `put_back`: what becomes of a turnstile or a sleep queue off which waiters were taken.
 //! - `marked`: those that were taken off a queue, and how they are woken.
 //! - `wait`: the wait word of a thread.
 //! - `walks`: priority is lent to an owner, by a claim and along a chain of owners.
 #![tactic(auto)]
 
+mod aborting;
 mod blocking;
 mod marked;
 mod put_back;
@@ -24,6 +26,7 @@ mod wait;
 mod waking;
 mod walks;
 
+pub use aborting::abort;
 pub use blocking::enter;
 pub use marked::{Marked, Woken, wake};
 pub use sleeping::{bits_of, fall_asleep, take_off};

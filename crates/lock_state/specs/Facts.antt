@@ -167,14 +167,19 @@ pub record Counted (c : Config) (s : State) : Type 0 where
   pub ended_is_counted : EndedIsCounted c s.ended s.has_ended
   pub finder_is_alone : FinderIsAlone c s.phase s.wait s.counting
 
+-- A state of a running floor whose wants fit its takes: who wants a lock takes it, and who has the halt of a take to
+-- note wants none. It holds beside an ordered one.
+pub record WantsFitTakes (s : State) : Type 0 where
+  pub wanted_is_taken : WantedIsTaken s.wanted s.taking
+  pub halted_want_nothing : HaltedWantNothing s.noted s.wanted s.blocked_on s.wait
+
 -- A state of a running floor whose halts are explained: beside one whose threads are counted, and whose steps kept to
 -- the order.
 pub record Explained (c : Config) (s : State) : Type 0 where
   pub standers_are_open : StandersAreOpen c s.blocked_on s.held s.history
   pub resting_has_released : RestingHasReleased c s.phase s.blocked_on s.held
-  pub wanted_is_taken : WantedIsTaken s.wanted s.taking
+  pub wants : WantsFitTakes s
   pub sleepers_take_nothing : SleepersTakeNothing s.blocked_on s.wait s.taking
-  pub halted_want_nothing : HaltedWantNothing s.noted s.wanted s.blocked_on s.wait
   pub unhalted_before : UnhaltedBefore c s.halted s.history
   pub halted_since : HaltedSince c s.halted s.halted_at s.next s.history
   pub halts_have_causes : HaltsHaveCauses c s.halted s.halted_at s.has_ended s.taking s.history

@@ -11,7 +11,8 @@ mod answer;
 mod serving;
 mod top;
 
-pub use crate::top::{lockrun, lockrun_live, lockrun_plain};
+pub use crate::serving::Served;
+pub use crate::top::{lockrun, lockrun_live, lockrun_plain, lockrun_served};
 use complaints::Program;
 pub use complaints::Status;
 

@@ -6,22 +6,23 @@
 #![tactic(auto)]
 
 use command_line::{HELP, mistake, no_text};
-use lock_io::{CopiedSink, OpenGate, StdSink, StdSource};
-use lock_top::{LOCKRUN, Status, lockrun};
-use remarks::{CopiedSource, tell, tell_usage};
+use lock_io::{OpenGate, StdSink, StdSource};
+use lock_top::{LOCKRUN, Served, Status, lockrun_served};
+use remarks::{tell, tell_usage};
 use std::io;
 use std::process::ExitCode;
 use top_ends::given_words;
 
 fn main(rt: HostRuntime) -> ExitCode {
     let alloc = rt.alloc();
-    let mut source = CopiedSource::new(alloc, StdSource::new(rt.reader()));
-    let mut sink = CopiedSink::new(alloc, StdSink::new(io::writer(&rt)));
+    let mut source = StdSource::new(rt.reader());
+    let mut sink = StdSink::new(io::writer(&rt));
     let words = given_words(&rt);
-    let status = match &words {
-        Ok(words) => lockrun(&rt, alloc, words, &mut source, &mut sink, &OpenGate),
-        Err(status) => *status,
+    let served = match &words {
+        Ok(words) => lockrun_served(&rt, alloc, words, &mut source, &mut sink, &OpenGate),
+        Err(status) => Served::unread(alloc, *status),
     };
+    let status = served.status;
     // Nobody may listen there, which changes nothing.
     let mut out = StdSink::new(rt.stderr());
     let _ = if status == Status::Usage {
@@ -31,7 +32,14 @@ fn main(rt: HostRuntime) -> ExitCode {
         };
         tell_usage(alloc, &mut out, LOCKRUN, mistake, HELP)
     } else {
-        tell(alloc, &mut out, LOCKRUN, status, source.copy(), sink.copy())
+        tell(
+            alloc,
+            &mut out,
+            LOCKRUN,
+            status,
+            served.source.as_deref(),
+            &served.text,
+        )
     };
     ExitCode::from(status as u8)
 }

@@ -5,8 +5,8 @@ ghost use Rattle.std.specs.Prelude.{◌≡◌, ℕ, ◌<◌, List, None};
 ghost use Rattle.lock_model.specs.Config.{Config};
 ghost use Rattle.lock_model.specs.Takes.{OrdersAreLegal};
 ghost use Rattle.lock_state.specs.State.{State, start_state};
-ghost use Rattle.lock_state.specs.Facts.{Lawful, Ordered, Taken};
-ghost use Rattle.lock_state.specs.Steps.{Step, May, MayAll, KeepsToOrder, KeepToOrder, after, after_all};
+ghost use Rattle.lock_state.specs.Facts.{Lawful, Ordered, Taken, WantsFitTakes};
+ghost use Rattle.lock_state.specs.Steps.{Step, May, MayAll, FitsFloor, KeepsToOrder, KeepToOrder, after, after_all};
 ghost use Rattle.lock_state.specs.Best.{best_behind, HasCycle, NobodyWalks};
 
 /// At the start of a plan the state is ordered,
@@ -63,4 +63,17 @@ pub fn whole_orders_are_legal()
     ensures { (c : Config) (s : State)
         → Ordered c s → Taken c s → ((t : ℕ) → s.taking t ≡ None)
         → OrdersAreLegal c s.history }
+{}
+
+/// On a running floor who wants a lock takes it, and who has the halt of a take to note wants none. So it is at the
+/// start,
+pub fn wants_begin()
+    ensures { (c : Config) → WantsFitTakes (start_state c) }
+{}
+
+/// and each step of a running floor that keeps to the order keeps it so.
+pub fn steps_keep_wants()
+    ensures { (chains : ℕ) (c : Config) (s : State) (step : Step)
+        → FitsFloor chains c s step → KeepsToOrder c s step → Lawful c s → Ordered c s
+        → WantsFitTakes s → WantsFitTakes (after c s step) }
 {}

@@ -1,9 +1,9 @@
 //! Profiles of worked scripts, with counts worked out by hand from their entries.
 ghost use Rattle.std.specs.Prelude.{IfOk};
-ghost use Rattle.floor_run.specs.Runs.{HasOnlyMutexes};
+ghost use Rattle.floor_run.specs.Runs.{HasOnlyTurnstileLocks};
 ghost use Rattle.lock_model.specs.Operations.{IsProper};
 
-use floor_run::{has_only_mutexes, run_plan};
+use floor_run::{has_only_turnstile_locks, run_plan};
 use hold_profile::{print_profile, profile};
 use lock_io::OpenGate;
 use lock_model::Plan;
@@ -112,7 +112,7 @@ fn profiles_of_threads(rt: HostRuntime) -> Result<(), Fail> {
         script.push_str("end;")?;
     }
     script.push_str("done;")?;
-    let plan = plan_of_mutexes(alloc, &script)?;
+    let plan = plan_to_run(alloc, &script)?;
     let (outcome, _closing) = run_plan(&rt, alloc, &plan, 1, &OpenGate)?;
     assert_eq!(rt; outcome.history.len(), 2400);
     let counted = profile(alloc, &plan, &outcome.history)?;
@@ -137,15 +137,15 @@ fn plan_of(alloc: Global, script: &str) -> Result<Plan, Fail>
     }
 }
 
-// The plan of a script of mutexes alone.
-fn plan_of_mutexes(alloc: Global, script: &str) -> Result<Plan, Fail>
+// The plan of a script of mutexes and reader-writer locks alone.
+fn plan_to_run(alloc: Global, script: &str) -> Result<Plan, Fail>
     ensures proper { IfOk result IsProper }
-    ensures mutexes { IfOk result HasOnlyMutexes }
+    ensures locks { IfOk result HasOnlyTurnstileLocks }
 {
     let plan = plan_of(alloc, script)?;
-    if has_only_mutexes(&plan) {
+    if has_only_turnstile_locks(&plan) {
         Ok(plan)
     } else {
-        Err("the script has mutexes alone".into())
+        Err("the script has mutexes and reader-writer locks alone".into())
     }
 }

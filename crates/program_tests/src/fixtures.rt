@@ -1,11 +1,11 @@
 //! Command lines, scripts and ends as tests write them. In a command line `_` stands for a blank in a word, and in a
 //! script `;` for the end of a line.
 ghost use Rattle.std.specs.Prelude.{IfOk};
-ghost use Rattle.floor_run.specs.Runs.{HasOnlyMutexes};
+ghost use Rattle.floor_run.specs.Runs.{HasOnlyTurnstileLocks};
 ghost use Rattle.lock_model.specs.Operations.{IsProper};
 
 use complaints::Status;
-use floor_run::has_only_mutexes;
+use floor_run::has_only_turnstile_locks;
 use lock_io::{MemSink, MemSource};
 use lock_model::Plan;
 use script_laws::scripts::scripts_have_proper_plans;
@@ -68,16 +68,16 @@ pub(crate) fn plan_of(alloc: Global, script: &str) -> Result<Plan, Fail>
     }
 }
 
-/// The plan of a script of mutexes alone.
-pub(crate) fn plan_of_mutexes(alloc: Global, script: &str) -> Result<Plan, Fail>
+/// The plan of a script of mutexes and reader-writer locks alone.
+pub(crate) fn plan_to_run(alloc: Global, script: &str) -> Result<Plan, Fail>
     ensures proper { IfOk result IsProper }
-    ensures mutexes { IfOk result HasOnlyMutexes }
+    ensures locks { IfOk result HasOnlyTurnstileLocks }
 {
     let plan = plan_of(alloc, script)?;
-    if has_only_mutexes(&plan) {
+    if has_only_turnstile_locks(&plan) {
         Ok(plan)
     } else {
-        Err("the script has mutexes alone".into())
+        Err("the script has mutexes and reader-writer locks alone".into())
     }
 }
 

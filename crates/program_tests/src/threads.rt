@@ -1,7 +1,7 @@
 //! Runs of plans on threads of the system: that these run beside each other, one for each thread of the plan, and ask
 //! the gate.
 use crate::barrier::Barrier;
-use crate::fixtures::{MEETINGS, plan_of_mutexes};
+use crate::fixtures::{MEETINGS, plan_to_run};
 use floor_run::run_plan;
 use lock_history::print;
 use lock_io::{Gate, Meeting};
@@ -46,7 +46,7 @@ fn run<R: Threads + Wait + Sync, G: Gate>(
     script: &str,
     gate: &G,
 ) -> Result<(u32, Vec<u8>), Fail> {
-    let plan = plan_of_mutexes(alloc, script)?;
+    let plan = plan_to_run(alloc, script)?;
     let (outcome, _closing) = run_plan(rt, alloc, &plan, 1, gate)?;
     let text = print(alloc, &plan, &outcome)?;
     Ok((outcome.history.len(), text))

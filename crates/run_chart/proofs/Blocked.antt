@@ -8,7 +8,7 @@ use Rattle.std.proofs.lemmas.List.Folds.{Any-from_list_any, list_any_at}
 use Rattle.std.proofs.lemmas.Option.{same_Some}
 use Rattle.chart_layout.specs.declared.layout.Arrow.{Arrow}
 use Rattle.chart_layout.specs.declared.layout.ArrowKind.{ArrowKind}
-use Rattle.chart_layout.specs.declared.layout.ArrowKind.TheVariants.{Lends, Wakes, BlockedOn, Behind}
+use Rattle.chart_layout.specs.declared.layout.ArrowKind.TheVariants.{Lends, Wakes, BlockedOn, Behind, Refused}
 use Rattle.lock_history.specs.Outcomes.{waiter_seen}
 use Rattle.lock_history.specs.declared.outcome.QueueLine.{QueueLine}
 use Rattle.lock_laws.proofs.Kit.{same_lock}
@@ -22,7 +22,7 @@ use Rattle.lock_model.specs.declared.plan.Mode.{Mode}
 use Rattle.lock_model.specs.declared.plan.Plan.{Plan}
 use Rattle.lock_model.specs.declared.plan.QueueName.{QueueName}
 use Rattle.lock_model.specs.declared.plan.QueueName.TheVariants.{Lock, Chan}
-use Rattle.lock_model.specs.declared.turn.StepKind.TheVariants.{Enter, Lend, Mark}
+use Rattle.lock_model.specs.declared.turn.StepKind.TheVariants.{Enter, Lend, Mark, Note}
 use Rattle.lock_model.specs.declared.turn.Turn.TheVariants.{Did}
 use Rattle.lock_state.specs.Facts.{OnlyLocksAreHeld, OnlyThreadsHold}
 use Rattle.run_chart.specs.Arrows.{behind_arrows, behind_in, behind_of, block_arrows, first_in, first_of, hold_arrows, holds_in, is_held, is_waiter, lists_of, lock_in, lock_named, track_holds, AddsArrows, IsSo, IsSoOf}
@@ -132,6 +132,32 @@ module _ (plan : Plan) (rows : Rows) (h : IsRunOf plan rows) (n : ℕ) (l : n �
       let value = value_at some.0 (length rows.turns + 1) (λ m mode. hold_of mode ≡ (run_in plan m).state.held to k) (told.held k some.0 some.1) n (omega (arith, l)) in
       (thread, found.1, ap (track_holds n) some.1 ∙ ap is_held value.is ∙ some_mode value.value mode (value.so ∙ e))
 
+  -- what the list has for a thread
+  one_hold : (kind : ArrowKind) (from : ℕ) (b : Bool) (place : ℕ) (x : Arrow)
+      → Contains (cond b (arrow n kind from place ∷ []) []) x → (b ≡ true) × (arrow n kind from place ≡ x)
+  one_hold kind from true place x c = (refl, contains_one (arrow n kind from place) x c)
+  one_hold kind from false place x c = absurd (contains_none x c)
+
+  -- an arrow of the list goes to one that holds it,
+  pub hold_said : (kind : ArrowKind) (from k : ℕ) (x : Arrow) → Contains (hold_arrows n kind from k rows.threads) x
+      → (to : ℕ) × (mode : Mode) × ((run_in plan n).state.held to k ≡ Holds mode) × (arrow n kind from to ≡ x)
+  hold_said kind from k x c =
+      let at = contained (λ j. cond (holds_in n k j.1) (arrow n kind from j.0 ∷ []) []) x rows.threads c in
+      let one = one_hold kind from (holds_in n k at.element) (0 + at.place) x at.so in
+      let held = holder k at.place at.element at.at one.0 in
+      let place : 0 + at.place ≡ at.place = omega arith in
+      (at.place, held.0, held.1, ap (λ (t : ℕ). arrow n kind from t) (sym place) ∙ one.1)
+
+  -- and one to each of these is there
+  pub hold_stands : (kind : ArrowKind) (from k to : ℕ) (mode : Mode) → (run_in plan n).state.held to k ≡ Holds mode
+      → Contains (hold_arrows n kind from k rows.threads) (arrow n kind from to)
+  hold_stands kind from k to mode e =
+      let it = holds_it k to mode e in
+      contains_at (λ j. cond (holds_in n k j.1) (arrow n kind from j.0 ∷ []) []) (arrow n kind from to) rows.threads to
+      it.0 it.1
+      (subst (λ b. Contains (cond b (arrow n kind from to ∷ []) []) (arrow n kind from to)) (sym it.2)
+      (Contains-push [] (arrow n kind from to)))
+
 -- 4. A turn that blocks
 
 module _ (plan : Plan) (rows : Rows) (h : IsRunOf plan rows) (n who : ℕ) (l : n < length rows.turns) (made : Made plan n who Enter) where
@@ -156,51 +182,50 @@ module _ (plan : Plan) (rows : Rows) (h : IsRunOf plan rows) (n who : ℕ) (l : 
       let same : w.lock ≡ k = one_lock f w.lock k w.blocked b in
       let some : Some t ≡ None = sym (behind_is f t w) ∙ ap (behind_in plan n f) same ∙ none in cc
 
-  -- what the list has for a thread
-  one_hold : (b : Bool) (place : ℕ) (x : Arrow) → Contains (cond b (arrow n BlockedOn who place ∷ []) []) x → (b ≡ true) × (arrow n BlockedOn who place ≡ x)
-  one_hold true place x c = (refl, contains_one (arrow n BlockedOn who place) x c)
-  one_hold false place x c = absurd (contains_none x c)
-
-  hold_said : (k : ℕ) → lock_in plan n who ≡ Some k → behind_in plan n who k ≡ None → (x : Arrow) → Contains (hold_arrows n who k rows.threads) x → (x.turn ≡ n) × IsSo plan x
-  hold_said k e none x c =
-      let at = contained (λ j. cond (holds_in n k j.1) (arrow n BlockedOn who j.0 ∷ []) []) x rows.threads c in
-      let one = one_hold (holds_in n k at.element) (0 + at.place) x at.so in
-      let held = holder plan rows h n (omega (arith, l)) k at.place at.element at.at one.0 in
-      let place : at.place ≡ 0 + at.place = omega arith in
-      let here : WentOn plan n who at.place = record { lock = k; blocked = blocked k e; mode = held.0; held = held.1; behind_none = went_nowhere who k (blocked k e) none } in
-      subst (λ (y : Arrow). (y.turn ≡ n) × IsSo plan y) one.1 (refl, subst (WentOn plan n who) place here)
+  holder_said : (k : ℕ) → lock_in plan n who ≡ Some k → behind_in plan n who k ≡ None → (x : Arrow)
+      → Contains (hold_arrows n BlockedOn who k rows.threads) x → (x.turn ≡ n) × IsSo plan x
+  holder_said k e none x c =
+      let (to, mode, held, is) = hold_said plan rows h n (omega (arith, l)) BlockedOn who k x c in
+      let here : WentOn plan n who to =
+      record {
+        lock = k;
+        blocked = blocked k e;
+        mode = mode;
+        held = held;
+        behind_none = went_nowhere who k (blocked k e) none;
+      } in
+      subst (λ (y : Arrow). (y.turn ≡ n) × IsSo plan y) is (refl, here)
 
   block_said : (o : Option ℕ) → lock_in plan n who ≡ o → (x : Arrow) → Contains (block_arrows plan n who rows.threads o) x → (x.turn ≡ n) × IsSo plan x
   block_said None e x c = absurd (contains_none x c)
   block_said (Some k) e x c = go (behind_in plan n who k) refl c
     where
-      go : (o : Option ℕ) → behind_in plan n who k ≡ o → Contains (behind_arrows n who o (hold_arrows n who k rows.threads)) x → (x.turn ≡ n) × IsSo plan x
-      go None f d = hold_said k e f x d
+      go : (o : Option ℕ) → behind_in plan n who k ≡ o
+          → Contains (behind_arrows n who o (hold_arrows n BlockedOn who k rows.threads)) x → (x.turn ≡ n) × IsSo plan x
+      go None f d = holder_said k e f x d
       go (Some to) f d = subst (λ (y : Arrow). (y.turn ≡ n) × IsSo plan y) (contains_one (arrow n Behind who to) x d) (refl, it_went_behind k to e f)
 
   -- the arrows of the thread that blocked, where its lock and whom it went behind are known
-  its_arrows : (f k : ℕ) (o : Option ℕ) (x : Arrow) → Blocked plan n f k → behind_in plan n f k ≡ o → Contains (behind_arrows n f o (hold_arrows n f k rows.threads)) x
+  its_arrows : (f k : ℕ) (o : Option ℕ) (x : Arrow) → Blocked plan n f k → behind_in plan n f k ≡ o
+      → Contains (behind_arrows n f o (hold_arrows n BlockedOn f k rows.threads)) x
       → Contains (block_arrows plan n who rows.threads (lock_in plan n who)) x
   its_arrows f k o x b behind c =
       let from : who ≡ f = (maker plan n who (Did Enter) made f Enter b.made).0 in
       let lock : lock_in plan n f ≡ Some k = ap lock_named b.on in
       subst (λ (j : ℕ). Contains (block_arrows plan n j rows.threads (lock_in plan n j)) x) (sym from)
-      (subst (λ p. Contains (block_arrows plan n f rows.threads p) x) (sym lock) (subst (λ p. Contains (behind_arrows n f p (hold_arrows n f k rows.threads)) x) (sym behind) c))
-
-  hold_stands : (f k to : ℕ) (mode : Mode) → (run_in plan n).state.held to k ≡ Holds mode → Contains (hold_arrows n f k rows.threads) (arrow n BlockedOn f to)
-  hold_stands f k to mode e =
-      let it = holds_it plan rows h n (omega (arith, l)) k to mode e in
-      contains_at (λ j. cond (holds_in n k j.1) (arrow n BlockedOn f j.0 ∷ []) []) (arrow n BlockedOn f to) rows.threads to it.0 it.1
-      (subst (λ b. Contains (cond b (arrow n BlockedOn f to ∷ []) []) (arrow n BlockedOn f to)) (sym it.2) (Contains-push [] (arrow n BlockedOn f to)))
+      (subst (λ p. Contains (block_arrows plan n f rows.threads p) x) (sym lock)
+      (subst (λ p. Contains (behind_arrows n f p (hold_arrows n BlockedOn f k rows.threads)) x) (sym behind) c))
 
   block_stands : (f to : ℕ) (k : ArrowKind) → IsSoOf plan n k f to → Contains (block_arrows plan n who rows.threads (lock_in plan n who)) (arrow n k f to)
   block_stands f to (Lends was prio) w = let other = (maker plan n who (Did Enter) made f Lend w.made).1 in absurd cc
   block_stands f to Wakes w = let other = (maker plan n who (Did Enter) made f Mark w.made).1 in absurd cc
+  block_stands f to Refused w = let other = (maker plan n who (Did Enter) made f Note w.made).1 in absurd cc
   block_stands f to Behind w = its_arrows f w.lock (Some to) (arrow n Behind f to) w.blocked (behind_is f to w) (Contains-push [] (arrow n Behind f to))
   block_stands f to BlockedOn w = go (behind_in plan n f w.lock) refl
     where
       go : (o : Option ℕ) → behind_in plan n f w.lock ≡ o → Contains (block_arrows plan n who rows.threads (lock_in plan n who)) (arrow n BlockedOn f to)
-      go None e = its_arrows f w.lock None (arrow n BlockedOn f to) w.blocked e (hold_stands f w.lock to w.mode w.held)
+      go None e = its_arrows f w.lock None (arrow n BlockedOn f to) w.blocked e
+          (hold_stands plan rows h n (omega (arith, l)) BlockedOn f w.lock to w.mode w.held)
       go (Some t) e =
           let it = went_behind (owner_of ((run_in plan n).state.word w.lock).holder) (waiters_in plan (n + 1) w.lock) f t e in
           absurd (w.behind_none t (record { lock = w.lock; blocked = w.blocked; unowned = it.unowned; shares = it.shares; first = it.first }))

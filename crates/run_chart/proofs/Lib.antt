@@ -5,6 +5,7 @@ mod Marked
 mod Named
 mod Numbered
 mod Queued
+mod Refusals
 mod Said
 mod Sayings
 mod Sentences

@@ -6,7 +6,7 @@ use Rattle.std.proofs.lemmas.List.Elements.{Contains-push}
 use Rattle.std.proofs.lemmas.Option.{same_Some, slice_get_within}
 use Rattle.chart_layout.specs.declared.layout.Arrow.{Arrow}
 use Rattle.chart_layout.specs.declared.layout.ArrowKind.{ArrowKind}
-use Rattle.chart_layout.specs.declared.layout.ArrowKind.TheVariants.{Lends, Wakes, BlockedOn, Behind}
+use Rattle.chart_layout.specs.declared.layout.ArrowKind.TheVariants.{Lends, Wakes, BlockedOn, Behind, Refused}
 use Rattle.lock_model.specs.Queues.{BySignal}
 use Rattle.lock_model.specs.Words.{owner_of}
 use Rattle.lock_model.specs.declared.plan.Plan.{Plan}
@@ -40,6 +40,7 @@ step_of (Lends before prio) = Lend
 step_of Wakes = Mark
 step_of BlockedOn = Enter
 step_of Behind = Enter
+step_of Refused = Note
 
 -- which made it
 pub made_so : (plan : Plan) (n f to : ℕ) (k : ArrowKind) → IsSoOf plan n k f to → Made plan n f (step_of k)
@@ -47,6 +48,7 @@ made_so plan n f to (Lends before prio) h = h.made
 made_so plan n f to Wakes h = h.made
 made_so plan n f to BlockedOn h = h.blocked.made
 made_so plan n f to Behind h = h.blocked.made
+made_so plan n f to Refused h = h.made
 
 -- whether arrows may stand at a turn with the answer
 abbrev pub may_draw : Turn → Bool
@@ -55,6 +57,7 @@ may_draw Ended = false
 may_draw (Did Lend) = true
 may_draw (Did Mark) = true
 may_draw (Did Enter) = true
+may_draw (Did Note) = true
 may_draw (Did other) = false
 
 draws : (k : ArrowKind) → may_draw (Did (step_of k)) ≡ true
@@ -62,10 +65,13 @@ draws (Lends before prio) = refl
 draws Wakes = refl
 draws BlockedOn = refl
 draws Behind = refl
+draws Refused = refl
 
 -- at other steps none stand
 abbrev pub IsOther : StepKind → Type 0
-IsOther k = (k ≡ Gain) ⊎ ((k ≡ Claim) ⊎ ((k ≡ Drop) ⊎ ((k ≡ OpenUp) ⊎ ((k ≡ Resume) ⊎ ((k ≡ Shift) ⊎ ((k ≡ WalkEnd) ⊎ ((k ≡ Add) ⊎ ((k ≡ Wake) ⊎ (k ≡ Note)))))))))
+IsOther k = (k ≡ Gain) ⊎
+    ((k ≡ Claim) ⊎ ((k ≡ Drop) ⊎
+    ((k ≡ OpenUp) ⊎ ((k ≡ Resume) ⊎ ((k ≡ Shift) ⊎ ((k ≡ WalkEnd) ⊎ ((k ≡ Add) ⊎ (k ≡ Wake))))))))
 
 pub draws_none : (k : StepKind) → IsOther k → may_draw (Did k) ≡ false
 draws_none k (inl e) = ap (λ (j : StepKind). may_draw (Did j)) e
@@ -76,8 +82,7 @@ draws_none k (inr (inr (inr (inr (inl e))))) = ap (λ (j : StepKind). may_draw (
 draws_none k (inr (inr (inr (inr (inr (inl e)))))) = ap (λ (j : StepKind). may_draw (Did j)) e
 draws_none k (inr (inr (inr (inr (inr (inr (inl e))))))) = ap (λ (j : StepKind). may_draw (Did j)) e
 draws_none k (inr (inr (inr (inr (inr (inr (inr (inl e)))))))) = ap (λ (j : StepKind). may_draw (Did j)) e
-draws_none k (inr (inr (inr (inr (inr (inr (inr (inr (inl e))))))))) = ap (λ (j : StepKind). may_draw (Did j)) e
-draws_none k (inr (inr (inr (inr (inr (inr (inr (inr (inr e))))))))) = ap (λ (j : StepKind). may_draw (Did j)) e
+draws_none k (inr (inr (inr (inr (inr (inr (inr (inr e)))))))) = ap (λ (j : StepKind). may_draw (Did j)) e
 
 module _ (plan : Plan) (n who : ℕ) (a : Turn) (made : next_turn plan (course_after plan n) ≡ Some (who, a)) where
   pub maker : (t : ℕ) (k : StepKind) → Made plan n t k → (who ≡ t) × (a ≡ Did k)
@@ -161,6 +166,7 @@ module _ (plan : Plan) (n who : ℕ) (made : Made plan n who Lend) where
   loan_stands f to Wakes h = let other = (maker plan n who (Did Lend) made f Mark h.made).1 in absurd cc
   loan_stands f to BlockedOn h = let other = (maker plan n who (Did Lend) made f Enter h.blocked.made).1 in absurd cc
   loan_stands f to Behind h = let other = (maker plan n who (Did Lend) made f Enter h.blocked.made).1 in absurd cc
+  loan_stands f to Refused h = let other = (maker plan n who (Did Lend) made f Note h.made).1 in absurd cc
 
   pub gains_loan : (old new : List Arrow) → new ≡ old ++ loan_arrows n who (loan_in plan n who)
       → AddsArrows plan n old new
@@ -238,6 +244,7 @@ module _ (plan : Plan) (rows : Rows) (h : IsRunOf plan rows) (n who : ℕ) (l : 
   wake_stands f to (Lends was prio) h = let other = (maker plan n who (Did Mark) made f Lend h.made).1 in absurd cc
   wake_stands f to BlockedOn h = let other = (maker plan n who (Did Mark) made f Enter h.blocked.made).1 in absurd cc
   wake_stands f to Behind h = let other = (maker plan n who (Did Mark) made f Enter h.blocked.made).1 in absurd cc
+  wake_stands f to Refused h = let other = (maker plan n who (Did Mark) made f Note h.made).1 in absurd cc
 
   pub gains_wakes : (old new : List Arrow) → new ≡ old ++ wake_arrows n who rows.threads → AddsArrows plan n old new
   gains_wakes old new is = gains_added plan n old new (wake_arrows n who rows.threads) is wake_said wake_stands

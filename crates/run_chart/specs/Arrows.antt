@@ -3,7 +3,7 @@ use Rattle.std.specs.Prelude.{◌≡◌, ◌↔◌, ◌⊎◌, ◌≤◌, ◌<�
 use Rattle.std.specs.List.{enumerate_from, flat_map, list_any}
 use Rattle.chart_layout.specs.declared.layout.Arrow.{Arrow}
 use Rattle.chart_layout.specs.declared.layout.ArrowKind.{ArrowKind}
-use Rattle.chart_layout.specs.declared.layout.ArrowKind.TheVariants.{Lends, Wakes, BlockedOn, Behind}
+use Rattle.chart_layout.specs.declared.layout.ArrowKind.TheVariants.{Lends, Wakes, BlockedOn, Behind, Refused}
 use Rattle.lock_history.specs.Outcomes.{waiter_seen}
 use Rattle.lock_history.specs.declared.outcome.QueueLine.{QueueLine}
 use Rattle.lock_model.specs.Queues.{Lists, Waiter, is_queue, lock_queue}
@@ -16,7 +16,7 @@ use Rattle.lock_model.specs.declared.plan.QueueName.{QueueName}
 use Rattle.lock_model.specs.declared.plan.QueueName.TheVariants as queue
 use Rattle.lock_state.specs.Run.{Run}
 use Rattle.lock_state.specs.State.{Walk, NoWalk, AtLock, AtThread}
-use Rattle.run_chart.specs.Charts.{arrow, loan, wake, waiters_in, Lent, WentBehind, WentOn, WokeUp}
+use Rattle.run_chart.specs.Charts.{arrow, loan, wake, waiters_in, Lent, WasRefused, WentBehind, WentOn, WokeUp}
 use Rattle.run_chart.specs.declared.lookup.HopLoan.{HopLoan}
 use Rattle.run_tracks.specs.Rows.{run_in}
 use Rattle.run_tracks.specs.Tracks.{value_in}
@@ -129,10 +129,10 @@ track_holds n (Some track) = is_held (value_in n track)
 abbrev pub holds_in : ℕ → ℕ → ThreadRows → Bool
 holds_in n l rows = track_holds n (slice_get rows.held l)
 
--- an arrow to each thread of a list that held the lock
-abbrev pub hold_arrows : ℕ → ℕ → ℕ → List ThreadRows → List Arrow
-hold_arrows n from l threads =
-    flat_map (λ k. if holds_in n l k.1 then arrow n BlockedOn from k.0 ∷ [] else [])
+-- an arrow of a kind to each thread of a list that held the lock
+abbrev pub hold_arrows : ℕ → ArrowKind → ℕ → ℕ → List ThreadRows → List Arrow
+hold_arrows n kind from l threads =
+    flat_map (λ k. if holds_in n l k.1 then arrow n kind from k.0 ∷ [] else [])
     (enumerate_from 0 threads)
 
 -- an arrow to whom the thread went behind, and else the others
@@ -144,7 +144,7 @@ behind_arrows n from (Some to) others = arrow n Behind from to ∷ []
 abbrev pub block_arrows : Plan → ℕ → ℕ → List ThreadRows → Option ℕ → List Arrow
 block_arrows plan n from threads None = []
 block_arrows plan n from threads (Some l) =
-    behind_arrows n from (behind_in plan n from l) (hold_arrows n from l threads)
+    behind_arrows n from (behind_in plan n from l) (hold_arrows n BlockedOn from l threads)
 
 -- the lock on which it blocked in the n-th turn, by its record behind that
 abbrev pub lock_in : Plan → ℕ → ℕ → Option ℕ
@@ -158,6 +158,7 @@ IsSoOf plan n (Lends before prio) from to = Lent plan n from to before.0 prio.0
 IsSoOf plan n Wakes from to = WokeUp plan n from to
 IsSoOf plan n BlockedOn from to = WentOn plan n from to
 IsSoOf plan n Behind from to = WentBehind plan n from to
+IsSoOf plan n Refused from to = WasRefused plan n from to
 
 abbrev pub IsSo : Plan → Arrow → Type 0
 IsSo plan a = IsSoOf plan a.turn a.kind a.from.0 a.to.0

@@ -3,7 +3,7 @@
 use Rattle.std.specs.Prelude.{◌≡◌, ◌≢◌, ◌↔◌, ◌⊎◌, ◌≤◌, ◌<◌, ◌+◌, ℕ, Bool, true, false, All, AllPairs, Any, Contains, List, [], ◌∷◌, length, slice_get, Option, Some, None}
 use Rattle.chart_layout.specs.declared.layout.Arrow.{Arrow}
 use Rattle.chart_layout.specs.declared.layout.ArrowKind.{ArrowKind}
-use Rattle.chart_layout.specs.declared.layout.ArrowKind.TheVariants.{Lends, Wakes, BlockedOn, Behind}
+use Rattle.chart_layout.specs.declared.layout.ArrowKind.TheVariants.{Lends, Wakes, BlockedOn, Behind, Refused}
 use Rattle.chart_layout.specs.declared.layout.Bar.{Bar}
 use Rattle.chart_layout.specs.declared.layout.BarKind.{BarKind}
 use Rattle.chart_layout.specs.declared.layout.BarKind.TheVariants as bar
@@ -169,6 +169,15 @@ pub record HasNoted (plan : Plan) (n t : ℕ) (event : Event) : Type 0 where
   pub of_event : entry.event ≡ event
   pub noted : history_in plan (n + 1) ≡ entry ∷ history_in plan n
 
+-- the turn noted that its thread was refused a lock, for the order of its class, and the other thread held that lock
+pub record WasRefused (plan : Plan) (n from to : ℕ) : Type 0 where
+  pub made : Made plan n from step.Note
+  pub lock : LockNo
+  pub class : ClassNo
+  pub noted : HasNoted plan n from (Reversed lock class)
+  pub mode : Mode
+  pub held : (run_in plan n).state.held to lock.0 ≡ Holds mode
+
 -- what a mark says of a turn is so: the thread noted this, or made this step and noted nothing, or was idle
 abbrev pub IsDone : Plan → ℕ → ℕ → MarkKind → Type 0
 IsDone plan n t (marked.Noted event) = HasNoted plan n t event
@@ -314,9 +323,10 @@ IsTurn chart n = (chart.first ≤ n) × (n < chart.last)
 -- Each thread has a lane, in order. Bars say what is so: a thread's bar at a lock covers a row exactly where the thread
 -- holds the lock, and one of a wait exactly where it stands on that queue. One step of the priorities covers each row,
 -- and is the effective priority there, beside the base. An arrow of a loan stands exactly at a turn that lent, one of a
--- wake exactly at a turn that woke, and one of blocking exactly at a turn that blocked on whom, or behind whom, it
--- says. A mark stands exactly at a turn that did what it says. What a sentence says of its turn is so, and each turn of
--- which such a thing is so has one, in order. The end is that of the whole run.
+-- wake exactly at a turn that woke, one of blocking exactly at a turn that blocked on whom, or behind whom, it says,
+-- and one of a refusal exactly at a turn that was refused a lock which that thread held. A mark stands exactly at a
+-- turn that did what it says. What a sentence says of its turn is so, and each turn of which such a thing is so has
+-- one, in order. The end is that of the whole run.
 pub record IsChartOf (plan : Plan) (chart : Chart) : Type 0 where
   pub lane_each : length chart.lanes ≡ length plan.threads
   pub lanes : (t : ℕ) (lane : Lane) → slice_get chart.lanes t ≡ Some lane
@@ -337,6 +347,8 @@ pub record IsChartOf (plan : Plan) (chart : Chart) : Type 0 where
       ↔ (IsTurn chart n × WentOn plan n from to)
   pub behinds : (n from to : ℕ) → Contains chart.arrows (arrow n Behind from to)
       ↔ (IsTurn chart n × WentBehind plan n from to)
+  pub refusals : (n from to : ℕ) → Contains chart.arrows (arrow n Refused from to)
+      ↔ (IsTurn chart n × WasRefused plan n from to)
   pub marks : (n t : ℕ) (what : MarkKind) → Contains chart.marks (mark n t what)
       ↔ (IsTurn chart n × IsDone plan n t what)
   pub sentences : All (λ s. IsTurn chart s.turn × IsSaid plan s.turn s.thread.0 s.saying)

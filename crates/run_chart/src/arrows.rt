@@ -1,11 +1,15 @@
-//! The arrows of a turn: whom its thread lent to, woke, blocked on, or blocked behind.
+//! The arrows of a turn: whom its thread lent to, woke, blocked on, or blocked behind, and who held
+//! what it was refused.
 ghost use Rattle.std.specs.Prelude.{◌≡◌, ◌≤◌, ◌<◌, ◌++◌, ◌∷◌, [], length, slice_get, IfOk, OnOk};
 ghost use Rattle.lock_model.specs.declared.plan.Plan as plans;
+ghost use Rattle.lock_model.specs.declared.turn.StepKind.TheVariants as step;
 ghost use Rattle.run_chart.specs.Arrows.{block_arrows, hold_arrows, loan_arrows, loan_in, lock_in, wake_arrows, wakes_up, AddsArrows, Has};
-ghost use Rattle.run_chart.specs.Charts.{arrow};
+ghost use Rattle.run_chart.specs.Charts.{arrow, Made};
 ghost use Rattle.run_chart.specs.Runs.{IsRunOf};
 
 use crate::lookup::{behind_whom, holds, loan_of, lock_of};
+use crate::marks::event_of;
+use crate::saying::refusal_in;
 use chart_layout::{Arrow, ArrowKind};
 use lock_model::{LockNo, StepKind, ThreadNo, Turn};
 use run_tracks::{Rows, ThreadRows, TurnRow, Wait};
@@ -49,6 +53,7 @@ fn push_arrows(
         StepKind::Lend => push_loan(arrows, rows, turn, row.who),
         StepKind::Mark => push_wakes(arrows, rows.threads.as_slice(), turn, row.who),
         StepKind::Enter => push_blocks(arrows, rows, turn, row.who),
+        StepKind::Note => push_refusals(arrows, rows, turn, row),
         StepKind::Gain
         | StepKind::Claim
         | StepKind::Drop
@@ -57,8 +62,7 @@ fn push_arrows(
         | StepKind::Shift
         | StepKind::WalkEnd
         | StepKind::Add
-        | StepKind::Wake
-        | StepKind::Note => Ok(()),
+        | StepKind::Wake => Ok(()),
     }
 }
 
@@ -140,8 +144,45 @@ fn push_blocks(
     };
     match behind_whom(rows, turn, from, l) {
         Some(to) => push_block(arrows, turn, ArrowKind::Behind, from, to),
-        None => push_holders(arrows, rows.threads.as_slice(), turn, from, l),
+        None => push_holders(
+            arrows,
+            rows.threads.as_slice(),
+            turn,
+            ArrowKind::BlockedOn,
+            from,
+            l,
+        ),
     }
+}
+
+// To each that holds the lock that its thread was refused.
+fn push_refusals(
+    arrows: &mut Vec<Arrow>,
+    rows: &Rows,
+    turn: u32,
+    row: TurnRow,
+) -> Result<(), AllocError>
+    requires run { (plan : plans.Plan) × IsRunOf plan rows.now }
+    requires turn { slice_get rows.now.turns turn ≡ Some row }
+    ensures { OnOk result ((plan : plans.Plan) → IsRunOf plan rows.now
+        → Made plan turn row.who.0 step.Note
+        → AddsArrows plan turn arrows.old.items arrows.new.items) }
+{
+    let Some(event) = event_of(rows, turn, row) else {
+        return Ok(());
+    };
+    let Some(refused) = refusal_in(event) else {
+        return Ok(());
+    };
+    let threads = rows.threads.as_slice();
+    push_holders(
+        arrows,
+        threads,
+        turn,
+        ArrowKind::Refused,
+        row.who,
+        refused.0,
+    )
 }
 
 // To each that holds the lock.
@@ -149,17 +190,18 @@ fn push_holders(
     arrows: &mut Vec<Arrow>,
     threads: &[ThreadRows],
     turn: u32,
+    kind: ArrowKind,
     from: ThreadNo,
     l: LockNo,
 ) -> Result<(), AllocError>
     requires { length threads.now ≤ 256 }
     ensures { OnOk result (arrows.new.items
-        ≡ arrows.old.items ++ hold_arrows turn from.0 l.0 threads.now) }
+        ≡ arrows.old.items ++ hold_arrows turn kind from.0 l.0 threads.now) }
 {
     for (to, thread) in threads.iter().enumerate() {
         if holds(thread, l, turn) {
             let to = ThreadNo(to as u8);
-            push_block(arrows, turn, ArrowKind::BlockedOn, from, to)?;
+            push_block(arrows, turn, kind, from, to)?;
         }
     }
     Ok(())

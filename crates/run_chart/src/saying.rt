@@ -349,8 +349,8 @@ fn first_of_class(plan: &Plan, thread: &ThreadRows, row: u32, class: ClassNo) ->
     None
 }
 
-// The lock that an event says was refused, and the class of the held one that forbids it.
-fn refusal_in(event: Event) -> Option<(LockNo, ClassNo)>
+/// The lock that an event says was refused, and the class of the held one that forbids it.
+pub fn refusal_in(event: Event) -> Option<(LockNo, ClassNo)>
     ensures some { IfSome result (λ r. event ≡ Reversed r.0 r.1) }
     ensures none { IfNone result ((l : LockNo) (held : ClassNo) → event ≢ Reversed l held) }
 {

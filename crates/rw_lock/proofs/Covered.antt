@@ -1,6 +1,6 @@
 -- A reader-writer lock is one of the locks for which the calls of locks are there, in both modes.
-use Rattle.std.proofs.Common.{◌≡◌, ℕ, sym, ap, ◌∙◌}
-use Rattle.lock_model.specs.Holds.{Holds}
+use Rattle.std.proofs.Common.{◌≡◌, ℕ, refl, sym, ap, ◌∙◌}
+use Rattle.lock_model.specs.Holds.{Hold, NotHeld, Holds}
 use Rattle.lock_model.specs.Operations.{hold_in}
 use Rattle.lock_model.specs.Words.{is_turnstile}
 use Rattle.lock_model.specs.declared.plan.Kind.TheVariants.{Mtx, Rw}
@@ -34,3 +34,12 @@ may_release floor l mode v m is = record {
   held = sym is;
   room = m.room;
 }
+
+-- so in some mode
+pub may_release_held : (floor : Description) (l : ℕ) (v : Knowledge) → MayRelease floor l v
+    → (mode : Mode) × calls.MayRelease floor l mode v
+may_release_held floor l v m = go (hold_in v.share.held l) refl
+  where
+    go : (h : Hold) → hold_in v.share.held l ≡ h → (mode : Mode) × calls.MayRelease floor l mode v
+    go NotHeld is = absurd (m.held is)
+    go (Holds mode) is = (mode, may_release floor l mode v m (sym is))

@@ -23,6 +23,11 @@ module _ (c : Config) (s : State) (h : Ordered c s) where
       go NotHeld f = absurd (n f)
       go (Holds mode) f = h.wants_are_ordered u l e k mode f
 
+  -- a thread doesn't want what it holds
+  pub unheld : (t l : ℕ) → s.held t l ≢ NotHeld → s.wanted t ≡ Some l → ⊥
+  unfolding HasNoCycle
+  unheld t l n e = h.no_cycle (c.class l) (edge (held_leads t l l n e))
+
   -- the last of a line of waiting threads holds the lock that the first wants, or one to whose class a path leads
   along : (t l : ℕ) (us : List ℕ) (v : ℕ) → s.wanted t ≡ Some l → WaitsAlong s t (us ++ v ∷ [])
       → (x : ℕ) × (s.held v x ≢ NotHeld) × ((l ≡ x) ⊎ Reaches s.edges (c.class l) (c.class x))

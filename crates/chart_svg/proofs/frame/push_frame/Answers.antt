@@ -10,7 +10,12 @@ loop-lane-preserved c = record {
   whole = c.in_ok-push_lane.ensures.whole ∙ c.loop-lane.invariant.whole;
   keeps = keeps_then _ _ _ c.loop-lane.invariant.keeps c.in_ok-push_lane.ensures.keeps;
   lanes = item_drawn (FrameIsOn c.args.page.now) (frame_kept c.args.page.now) _ _ c.args.page.now.lanes.items c.deref-lane-items.result.now c.loop-lane.lane-index c.lane-item.result c.deref-lane-items.ensures.value c.loop-lane-test.true c.lane-item.is
-      c.in_ok-push_lane.ensures.keeps c.loop-lane.invariant.lanes (record { name = c.in_ok-push_lane.ensures.name; stop = c.in_ok-push_lane.ensures.stop });
+      c.in_ok-push_lane.ensures.keeps c.loop-lane.invariant.lanes
+      (record {
+        name = c.in_ok-push_lane.ensures.name;
+        prio = c.in_ok-push_lane.ensures.prio;
+        stop = c.in_ok-push_lane.ensures.stop;
+      });
 }
 
 pub returns-clause-keeps : goal.returns-clause-keeps

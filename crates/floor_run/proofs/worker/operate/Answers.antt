@@ -8,83 +8,83 @@ use Rattle.floor_run.specs.Progress.{IsBefore}
 use Rattle.floor_run.proofs.Cutting.{refused}
 use Rattle.floor_run.proofs.Operating as lemma
 use Rattle.floor_run.proofs.worker.operate.Goals as goal
-use Rattle.floor_run.proofs.worker.operate.Goals.{in-Take+in-Ok, in-Try+in-Ok-try_lock, in-EndTry, in-Release, in-Set, in-Add, in-Get, in-Base, in-Show}
+use Rattle.floor_run.proofs.worker.operate.Goals.{in-Take+in-Ok, in-Try+in-Ok-try_take, in-EndTry, in-Release, in-Set, in-Add, in-Get, in-Base, in-Show}
 
-pub lock-requires-clause-may : goal.lock-requires-clause-may
-lock-requires-clause-may g c =
-    lemma.may_take _ _ c.requires.given c.requires.proper c.requires.mutexes _ _ _ c.requires.before c.in-Take.l
+pub take-requires-clause-may : goal.take-requires-clause-may
+take-requires-clause-may g c =
+    lemma.may_take _ _ c.requires.given c.requires.proper c.requires.locks _ _ _ c.requires.before c.in-Take.l
     c.in-Take.mode (c.requires.op ∙ ap Some c.in-Take.is)
 
-pub try_lock-requires-clause-may : goal.try_lock-requires-clause-may
-try_lock-requires-clause-may g c =
-    lemma.may_try _ _ c.requires.given c.requires.proper c.requires.mutexes _ _ _ c.requires.before c.in-Try.l
+pub try_take-requires-clause-may : goal.try_take-requires-clause-may
+try_take-requires-clause-may g c =
+    lemma.may_try _ _ c.requires.given c.requires.proper c.requires.locks _ _ _ c.requires.before c.in-Try.l
     c.in-Try.mode c.in-Try.past (c.requires.op ∙ ap Some c.in-Try.is)
 
-pub unlock-requires-clause-may : goal.unlock-requires-clause-may
-unlock-requires-clause-may g c =
-    lemma.may_release _ _ c.requires.given c.requires.proper c.requires.mutexes _ _ _ c.requires.before c.in-Release.l
+pub release_held-requires-clause-may : goal.release_held-requires-clause-may
+release_held-requires-clause-may g c =
+    lemma.may_release _ _ c.requires.given c.requires.proper c.requires.locks _ _ _ c.requires.before c.in-Release.l
     (c.requires.op ∙ ap Some c.in-Release.is)
 
 pub edit-requires-clause-held : goal.edit-requires-clause-held
 edit-requires-clause-held g c =
-    (lemma.may_set _ _ c.requires.given c.requires.proper c.requires.mutexes _ _ _ c.requires.before c.in-Set.l
+    (lemma.may_set _ _ c.requires.given c.requires.proper c.requires.locks _ _ _ c.requires.before c.in-Set.l
     c.in-Set.key c.in-Set.value (c.requires.op ∙ ap Some c.in-Set.is)).0
 
 pub edit-requires-clause-named : goal.edit-requires-clause-named
 edit-requires-clause-named g c =
-    (lemma.may_set _ _ c.requires.given c.requires.proper c.requires.mutexes _ _ _ c.requires.before c.in-Set.l
+    (lemma.may_set _ _ c.requires.given c.requires.proper c.requires.locks _ _ _ c.requires.before c.in-Set.l
     c.in-Set.key c.in-Set.value (c.requires.op ∙ ap Some c.in-Set.is)).1
 
 pub edit-requires-clause-room : goal.edit-requires-clause-room
 edit-requires-clause-room g c =
-    lemma.room_for_one _ _ c.requires.given c.requires.proper c.requires.mutexes _ _ _ c.requires.before c.args.op
+    lemma.room_for_one _ _ c.requires.given c.requires.proper c.requires.locks _ _ _ c.requires.before c.args.op
     c.requires.op
 
 pub edit-requires-in-Add-clause-held : goal.edit-requires-in-Add-clause-held
 edit-requires-in-Add-clause-held g c =
-    (lemma.may_add _ _ c.requires.given c.requires.proper c.requires.mutexes _ _ _ c.requires.before c.in-Add.l
+    (lemma.may_add _ _ c.requires.given c.requires.proper c.requires.locks _ _ _ c.requires.before c.in-Add.l
     c.in-Add.key c.in-Add.amount (c.requires.op ∙ ap Some c.in-Add.is)).0
 
 pub edit-requires-in-Add-clause-named : goal.edit-requires-in-Add-clause-named
 edit-requires-in-Add-clause-named g c =
-    (lemma.may_add _ _ c.requires.given c.requires.proper c.requires.mutexes _ _ _ c.requires.before c.in-Add.l
+    (lemma.may_add _ _ c.requires.given c.requires.proper c.requires.locks _ _ _ c.requires.before c.in-Add.l
     c.in-Add.key c.in-Add.amount (c.requires.op ∙ ap Some c.in-Add.is)).1
 
 pub edit-requires-in-Add-clause-room : goal.edit-requires-in-Add-clause-room
 edit-requires-in-Add-clause-room g c =
-    lemma.room_for_one _ _ c.requires.given c.requires.proper c.requires.mutexes _ _ _ c.requires.before c.args.op
+    lemma.room_for_one _ _ c.requires.given c.requires.proper c.requires.locks _ _ _ c.requires.before c.args.op
     c.requires.op
 
 pub read-requires-clause-held : goal.read-requires-clause-held
 read-requires-clause-held g c =
-    (lemma.may_get _ _ c.requires.given c.requires.proper c.requires.mutexes _ _ _ c.requires.before c.in-Get.l
+    (lemma.may_get _ _ c.requires.given c.requires.proper c.requires.locks _ _ _ c.requires.before c.in-Get.l
     c.in-Get.key (c.requires.op ∙ ap Some c.in-Get.is)).0
 
 pub read-requires-clause-named : goal.read-requires-clause-named
 read-requires-clause-named g c =
-    (lemma.may_get _ _ c.requires.given c.requires.proper c.requires.mutexes _ _ _ c.requires.before c.in-Get.l
+    (lemma.may_get _ _ c.requires.given c.requires.proper c.requires.locks _ _ _ c.requires.before c.in-Get.l
     c.in-Get.key (c.requires.op ∙ ap Some c.in-Get.is)).1
 
 pub read-requires-clause-room : goal.read-requires-clause-room
 read-requires-clause-room g c =
-    lemma.room_for_one _ _ c.requires.given c.requires.proper c.requires.mutexes _ _ _ c.requires.before c.args.op
+    lemma.room_for_one _ _ c.requires.given c.requires.proper c.requires.locks _ _ _ c.requires.before c.args.op
     c.requires.op
 
 pub set_base-requires-clause-room : goal.set_base-requires-clause-room
 set_base-requires-clause-room g c =
-    lemma.room_for_one _ _ c.requires.given c.requires.proper c.requires.mutexes _ _ _ c.requires.before c.args.op
+    lemma.room_for_one _ _ c.requires.given c.requires.proper c.requires.locks _ _ _ c.requires.before c.args.op
     c.requires.op
 
 pub show-requires-clause-room : goal.show-requires-clause-room
 show-requires-clause-room g c =
-    lemma.room_for_one _ _ c.requires.given c.requires.proper c.requires.mutexes _ _ _ c.requires.before c.args.op
+    lemma.room_for_one _ _ c.requires.given c.requires.proper c.requires.locks _ _ _ c.requires.before c.args.op
     c.requires.op
 
 pub unreachable-requires : goal.unreachable-requires
 unreachable-requires g c =
     let q = c.requires.given in
     let p = c.requires.proper in
-    let m = c.requires.mutexes in
+    let m = c.requires.locks in
     let no_sleep = lemma.no_sleep _ _ q p m _ _ _ c.requires.before in
     let no_wake_one = lemma.no_wake_one _ _ q p m _ _ _ c.requires.before in
     let no_wake_all = lemma.no_wake_all _ _ q p m _ _ _ c.requires.before in
@@ -109,7 +109,7 @@ returns-clause-before g c =
     let f = c.args.floor.now in
     let q = c.requires.given in
     let p = c.requires.proper in
-    let m = c.requires.mutexes in
+    let m = c.requires.locks in
     let t = c.args.pass.now.view.thread in
     let b = c.requires.before in
     let next : suc c.args.n ≡ c.args.n + 1 = omega arith in
@@ -119,17 +119,17 @@ returns-clause-before g c =
     → IsBefore plan f t (c.args.n + 1) c.match-op.pass =
     λ y same h. subst (λ (z : ℕ × Pass Knowledge). IsBefore plan f t z.0 z.1) (λ i. (next i, sym same i)) h in
     elim c.match-op.branch [
-      | in-Take+in-Ok w ↦ leads w.lock.new.pass w.pass-is
-          (lemma.took plan f q p m t c.args.n c.args.pass.now b w.lock.new.pass w.in-Take.l w.in-Take.mode
-          (at _ w.in-Take.is) w.lock.ensures.ready w.in-Ok.ensures.entry)
-      | in-Try+in-Ok-try_lock w ↦ leads w.try_lock.new.pass w.pass-is
-          (lemma.tried plan f q p m t c.args.n c.args.pass.now b w.try_lock.new.pass w.in-Try.l w.in-Try.mode
-          w.in-Try.past (at _ w.in-Try.is) w.try_lock.ensures.ready w.in-Ok-try_lock.ensures.gained)
+      | in-Take+in-Ok w ↦ leads w.take.new.pass w.pass-is
+          (lemma.took plan f q p m t c.args.n c.args.pass.now b w.take.new.pass w.in-Take.l w.in-Take.mode
+          (at _ w.in-Take.is) w.take.ensures.ready w.in-Ok.ensures.entry)
+      | in-Try+in-Ok-try_take w ↦ leads w.try_take.new.pass w.pass-is
+          (lemma.tried plan f q p m t c.args.n c.args.pass.now b w.try_take.new.pass w.in-Try.l w.in-Try.mode
+          w.in-Try.past (at _ w.in-Try.is) w.try_take.ensures.ready w.in-Ok-try_take.ensures.gained)
       | in-EndTry w ↦ leads c.args.pass.now w.pass-is
           (lemma.passed_endtry plan f q p m t c.args.n c.args.pass.now b (at _ w.in-EndTry.is))
-      | in-Release w ↦ leads w.unlock.new.pass w.pass-is
-          (lemma.released plan f q p m t c.args.n c.args.pass.now b w.unlock.new.pass w.in-Release.l
-          (at _ w.in-Release.is) w.unlock.ensures.ready w.unlock.ensures.entry)
+      | in-Release w ↦ leads w.release_held.new.pass w.pass-is
+          (lemma.released plan f q p m t c.args.n c.args.pass.now b w.release_held.new.pass w.in-Release.l
+          (at _ w.in-Release.is) w.release_held.ensures.ready w.release_held.ensures.entry)
       | in-Set w ↦ leads w.edit.new.pass w.pass-is
           (lemma.set plan f q p m t c.args.n c.args.pass.now b w.edit.new.pass w.in-Set.l w.in-Set.key w.in-Set.value
           (at _ w.in-Set.is) w.edit.ensures.ready w.edit.ensures.entry)
@@ -149,16 +149,16 @@ returns-clause-before g c =
 
 pub returns-in-Err-clause-cut : goal.returns-in-Err-clause-cut
 returns-in-Err-clause-cut g c =
-    refused _ _ c.requires.proper _ _ _ c.requires.before c.lock.new.pass c.in-Take.l c.in-Take.mode
-    c.in-Err.field-0.held (c.requires.op ∙ ap Some c.in-Take.is) c.lock.ensures.ready c.in-Err.ensures.reversed.entry
+    refused _ _ c.requires.proper _ _ _ c.requires.before c.take.new.pass c.in-Take.l c.in-Take.mode
+    c.in-Err.field-0.held (c.requires.op ∙ ap Some c.in-Take.is) c.take.ensures.ready c.in-Err.ensures.reversed.entry
 
-pub returns-in-Err-try_lock-clause-before : goal.returns-in-Err-try_lock-clause-before
-returns-in-Err-try_lock-clause-before g c =
-    lemma.found_busy _ _ c.requires.given c.requires.proper c.requires.mutexes _ _ _ c.requires.before
-    c.try_lock.new.pass c.in-Try.l c.in-Try.mode c.in-Try.past _ (c.requires.op ∙ ap Some c.in-Try.is)
-    c.try_lock.ensures.ready c.in-Err-try_lock.ensures.busy c.in-Err-try_lock.ensures.noted
+pub returns-in-Err-try_take-clause-before : goal.returns-in-Err-try_take-clause-before
+returns-in-Err-try_take-clause-before g c =
+    lemma.found_busy _ _ c.requires.given c.requires.proper c.requires.locks _ _ _ c.requires.before
+    c.try_take.new.pass c.in-Try.l c.in-Try.mode c.in-Try.past _ (c.requires.op ∙ ap Some c.in-Try.is)
+    c.try_take.ensures.ready c.in-Err-try_take.ensures.busy c.in-Err-try_take.ensures.noted
 
-pub returns-in-Err-try_lock-clause-further : goal.returns-in-Err-try_lock-clause-further
-returns-in-Err-try_lock-clause-further g c =
-    lemma.further_on _ _ c.requires.given c.requires.proper c.requires.mutexes _ _ _ c.requires.before c.in-Try.l
+pub returns-in-Err-try_take-clause-further : goal.returns-in-Err-try_take-clause-further
+returns-in-Err-try_take-clause-further g c =
+    lemma.further_on _ _ c.requires.given c.requires.proper c.requires.locks _ _ _ c.requires.before c.in-Try.l
     c.in-Try.mode c.in-Try.past (c.requires.op ∙ ap Some c.in-Try.is)

@@ -1,4 +1,3 @@
-use Rattle.std.proofs.Common.{inl, refl, sym, ap, ◌∙◌, subst}
 use Rattle.lock_model.specs.Words.{word_of}
 use Rattle.floor_table.specs.Descriptions.{config_in}
 use Rattle.lock_calls.proofs.Chosen.{gains_plainly, may_be_gained}

@@ -1,8 +1,6 @@
 use Rattle.std.proofs.Common.{refl, sym, ap, ◌∙◌, subst, arith}
-use Rattle.lock_model.specs.Words.{word_of}
 use Rattle.floor_table.specs.Views.{Knowledge}
 use Rattle.lock_floor.specs.declared.calls.Call.TheVariants as calls
-use Rattle.lock_floor.specs.declared.calls.ReleaseAt.TheVariants.{ComesTo}
 use Rattle.lock_calls.specs.Releases.{ReleasesAtOnce}
 use Rattle.lock_calls.proofs.Calls.{own_noted, view_noted, call_noted}
 use Rattle.lock_calls.proofs.Released.{may_note_release, few_threads, own_drops, own_is_held, may_drop_own, may_look_held, leaving_noted, other_own, at_once, begins}
@@ -65,18 +63,18 @@ returns-in-Ok-clause-begun c = (
 
 pub returns-in-Err-clause-own : goal.returns-in-Err-clause-own
 returns-in-Err-clause-own c =
-    own_noted c.args.floor.now c.put_down.new.pass c.stand.new.pass (calls.Release c.args.l c.args.mode ComesTo)
-    c.stand.ensures
-    c.put_down.ensures.own
+    own_noted c.args.floor.now c.put_down.new.pass c.stand.new.pass
+    (calls.Release c.args.l c.args.mode c.outside.result) c.stand.ensures c.put_down.ensures.own
 
 pub returns-in-Err-clause-begun : goal.returns-in-Err-clause-begun
 returns-in-Err-clause-begun c =
     begins c.args.floor.now.description c.args.l c.args.mode c.stamp.result c.args.pass.now.view c.stamp.new.pass.view
     c.requires.ready.rest c.requires.may.held c.requires.may.room c.args.pass.now c.put_down.new.pass
     c.stand.new.pass c.requires.may refl
-    c.stamp.ensures.view c.stamp.ensures.step (word_of c.in-Err.field-0)
-    (other_own c.in-Err.field-0 c.gained-own.result c.thread.result.0 c.args.pass.now.view.thread c.args.mode
+    c.stamp.ensures.view c.stamp.ensures.step c.in-Err.found c.in-Err.ensures.found.1
+    (other_own c.in-Err.found c.gained-own.result c.thread.result.0 c.args.pass.now.view.thread c.args.mode
     c.in-Err.ensures.found.0 c.gained-own.ensures.word
     (c.thread.ensures.same ∙ ap (λ (k : Knowledge). k.thread) c.stamp.ensures.view))
     c.in-Err.ensures.looked c.in-Err.ensures.look
-    c.stand.ensures
+    (c.stand.ensures ∙ ap (λ a. record c.put_down.new.pass { call = calls.Release c.args.l c.args.mode a })
+    c.outside.ensures)

@@ -6,6 +6,17 @@ use Rattle.lock_calls.proofs.Calls.{own_noted}
 use Rattle.lock_calls.proofs.Woken.{release_stands}
 use Rattle.lock_calls.proofs.releasing.go_on.Goals as goal
 
+pub drop_on-requires-clause-under_way : goal.drop_on-requires-clause-under_way
+drop_on-requires-clause-under_way c =
+    subst (λ a. IsUnderRelease c.args.floor.now.description c.args.l c.args.mode a c.args.pass.now.view) c.in-Drops.is
+    c.requires.under_way
+
+pub returns-in-Drops-clause-went : goal.returns-in-Drops-clause-went
+returns-in-Drops-clause-went c =
+    subst (λ a. GoesOnReleasing c.args.floor.now.description c.args.l c.args.mode a c.drop_on.result c.args.pass.now
+    c.drop_on.new.pass) (sym c.in-Drops.is)
+    c.drop_on.ensures.went
+
 pub come_to-to-requires-clause-under_way : goal.come_to-to-requires-clause-under_way
 come_to-to-requires-clause-under_way c =
     subst (λ a. IsUnderRelease c.args.floor.now.description c.args.l c.args.mode a c.args.pass.now.view) c.in-ComesTo.is

@@ -1,6 +1,7 @@
 use Rattle.lock_floor.specs.declared.calls.TakeAt.TheVariants.{Checks}
 use Rattle.lock_floor.specs.declared.calls.Call.TheVariants as calls
-use Rattle.lock_calls.proofs.Attempts.{acquires, gained_at_once, calling_at_rest}
+use Rattle.lock_calls.proofs.Attempts.{acquires, calling_at_rest}
+use Rattle.lock_calls.proofs.FirstExchanges.{has_gained_first}
 use Rattle.lock_calls.proofs.Calls.{own_noted}
 use Rattle.lock_calls.proofs.Begun.{has_begun, gains_first}
 use Rattle.lock_calls.proofs.Noting.{may_note_lock, room_to_note, note_step, taken}
@@ -20,10 +21,10 @@ note_taken-requires-clause-room c =
     (calling_at_rest c.args.floor.now.description c.args.pass.now.view c.requires.ready.own.description
     c.requires.ready.rest)
     c.requires.may.room
-    (gained_at_once c.args.floor.now.description c.args.l c.args.mode c.args.pass.now.view
+    (has_gained_first c.args.floor.now.description c.args.l c.args.mode c.args.pass.now.view c.begin.new.pass.view
     (acquires c.args.floor.now.description c.args.l.0 c.args.pass.now.view c.requires.ready.rest c.requires.may.unheld
     c.requires.may.few)
-    c.begin.new.pass.view (c.begin.ensures.gained c.if-begin.true))
+    (c.begin.ensures.gained c.if-begin.true))
 
 pub note_taken-requires-clause-may : goal.note_taken-requires-clause-may
 note_taken-requires-clause-may c =
@@ -31,10 +32,10 @@ note_taken-requires-clause-may c =
     (calling_at_rest c.args.floor.now.description c.args.pass.now.view c.requires.ready.own.description
     c.requires.ready.rest)
     c.requires.may.room
-    (gained_at_once c.args.floor.now.description c.args.l c.args.mode c.args.pass.now.view
+    (has_gained_first c.args.floor.now.description c.args.l c.args.mode c.args.pass.now.view c.begin.new.pass.view
     (acquires c.args.floor.now.description c.args.l.0 c.args.pass.now.view c.requires.ready.rest c.requires.may.unheld
     c.requires.may.few)
-    c.begin.new.pass.view (c.begin.ensures.gained c.if-begin.true))
+    (c.begin.ensures.gained c.if-begin.true))
 
 pub returns-then-begin-clause-own : goal.returns-then-begin-clause-own
 returns-then-begin-clause-own c =
@@ -50,19 +51,19 @@ returns-then-begin-clause-begun c =
     (calling_at_rest c.args.floor.now.description c.args.pass.now.view c.requires.ready.own.description
     c.requires.ready.rest)
     c.requires.may.room
-    (gained_at_once c.args.floor.now.description c.args.l c.args.mode c.args.pass.now.view
+    (has_gained_first c.args.floor.now.description c.args.l c.args.mode c.args.pass.now.view c.begin.new.pass.view
     (acquires c.args.floor.now.description c.args.l.0 c.args.pass.now.view c.requires.ready.rest c.requires.may.unheld
     c.requires.may.few)
-    c.begin.new.pass.view (c.begin.ensures.gained c.if-begin.true))
+    (c.begin.ensures.gained c.if-begin.true))
     c.note_taken.new.pass.view c.note_taken.result c.note_taken.ensures.view c.note_taken.ensures.step)
     (note_step c.args.floor.now.description c.args.l c.args.mode c.args.pass.now.view c.begin.new.pass.view
     (calling_at_rest c.args.floor.now.description c.args.pass.now.view c.requires.ready.own.description
     c.requires.ready.rest)
     c.requires.may.room
-    (gained_at_once c.args.floor.now.description c.args.l c.args.mode c.args.pass.now.view
+    (has_gained_first c.args.floor.now.description c.args.l c.args.mode c.args.pass.now.view c.begin.new.pass.view
     (acquires c.args.floor.now.description c.args.l.0 c.args.pass.now.view c.requires.ready.rest c.requires.may.unheld
     c.requires.may.few)
-    c.begin.new.pass.view (c.begin.ensures.gained c.if-begin.true))
+    (c.begin.ensures.gained c.if-begin.true))
     c.note_taken.new.pass.view c.note_taken.result c.note_taken.ensures.view c.note_taken.ensures.step)
     c.set_call.ensures
 

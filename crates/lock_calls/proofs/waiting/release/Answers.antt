@@ -8,7 +8,7 @@ returns-in-Done g c =
     record {
       ready = record { own = c.begin_release.ensures.own; rest = done.rest };
       entry = done.entry;
-      steps = (done.how, done.steps);
+      steps = (done.how, done.is_so, done.steps);
     }
 
 pub loop-init : goal.loop-init
@@ -38,7 +38,7 @@ returns-in-Done-go_on_releasing g c =
     record {
       ready = record { own = c.go_on_releasing.ensures.own; rest = done.rest };
       entry = done.entry;
-      steps = (done.how, done.steps);
+      steps = (done.how, done.is_so, done.steps);
     }
 
 pub loop-preserved-in-Again-go_on_releasing : goal.loop-preserved-in-Again-go_on_releasing

@@ -54,9 +54,10 @@ invariant_of-push_reserved c =
     let t = c.loop-t.t in
     let h = here floor t c.as_slice-thread-items.result.now c.as_slice-thread-items.ensures c.loop-t-test.true in
     let old = ap (λ (m : Me Slot Knowledge). m.0) c.loop-t.invariant.me in
+    let book = c.touch.ensures ∙ c.in_ok-log.ensures in
     let me : c.split_seat-mine.result.me ≡ (first_view floor t, []) = c.split_seat-mine.ensures.4
     ∙ ap (λ v. (new_pass v, [])) old in
-    subst (λ (m : Me Slot Knowledge). IsTied t c.in_ok-held.held c.none.result c.in_ok-log.log false m) (sym me)
+    subst (λ (m : Me Slot Knowledge). IsTied t c.in_ok-held.held c.none.result c.touch.new.self false m) (sym me)
     record {
       role = refl;
       thread = refl;
@@ -65,8 +66,8 @@ invariant_of-push_reserved c =
       held = c.in_ok-held.ensures.items;
       room = omega (arith, c.in_ok-held.ensures.capacity);
       marks = none_marked floor c.none.result c.none.ensures;
-      log = ap (λ (b : Book). b.entries) c.in_ok-log.ensures;
-      spare = ap (λ (b : Book). b.spare) c.in_ok-log.ensures ∙ h.1;
+      log = ap (λ (b : Book). b.entries) book;
+      spare = ap (λ (b : Book). b.spare) book ∙ h.1;
       out = refl;
       done = λ e. absurd cc;
       runs = λ e. absurd cc;

@@ -1,6 +1,6 @@
 use Rattle.std.proofs.Common.{sym, subst}
 use Rattle.lock_floor.specs.Passes.{IsReady}
-use Rattle.adaptive_mutex.proofs.First.{ready_first}
+use Rattle.lock_calls.proofs.First.{ready_first}
 use Rattle.program_tests.proofs.mutexes.a_try_tells_who_holds_the_mutex.Goals as goal
 
 pub lock-requires-clause-ready : goal.lock-requires-clause-ready

@@ -3,7 +3,7 @@ use Rattle.lock_floor.specs.Passes.{IsReady, first_pass}
 use Rattle.lock_floor.specs.Floors.{Pass}
 use Rattle.floor_table.specs.Views.{Knowledge}
 use Rattle.floor_table.specs.Descriptions.{room_for}
-use Rattle.adaptive_mutex.proofs.First.{ready_first}
+use Rattle.lock_calls.proofs.First.{ready_first}
 use Rattle.program_tests.proofs.mutexes.who_waits_lends_and_is_woken.Goals as goal
 
 pub work_all-requires-clause-each : goal.work_all-requires-clause-each

@@ -1,6 +1,6 @@
 use Rattle.std.proofs.Common.{◌≡◌, ℕ, ◌≤◌, ◌&&◌, length, ap, refl, subst, sym, arith, ◌∙◌}
 use Rattle.std.specs.List.{All}
-use Rattle.chart_layout.specs.declared.layout.ArrowKind.TheVariants.{BlockedOn, Behind}
+use Rattle.chart_layout.specs.declared.layout.ArrowKind.TheVariants.{BlockedOn, Behind, Refused}
 use Rattle.run_chart.specs.Arrows.{Has}
 use Rattle.run_chart.specs.Bars.{is_said, threads_tell}
 use Rattle.run_chart.specs.Charts.{arrow, loan, mark, wake, IsEnd, IsLane}
@@ -47,6 +47,7 @@ returns c =
         wakes = λ n f t. has (wake n f t);
         blocks = λ n f t. has (arrow n BlockedOn f t);
         behinds = λ n f t. has (arrow n Behind f t);
+        refusals = λ n f t. has (arrow n Refused f t);
         marks = λ n t what. marked (mark n t what);
         sentences = said.so;
         told_in_order = said.in_order;

@@ -18,6 +18,7 @@ returns-clause-more c = record {
       subst P (sym (ap (λ l. l.bars) c.put_strip.ensures.same)) c.in_ok-lane.ensures.bars);
   has_steps = All-same (HasStep c.put_strip.new.self) c.args.steps.now c.put_strip.new.self.steps.items
       (sym (ap (λ l. l.steps.items) c.put_strip.ensures.same ∙ c.in_ok-lane.ensures.steps)) c.put_strip.ensures.steps;
+  own_steps = ap (λ l. l.steps.items) c.put_strip.ensures.same ∙ c.in_ok-lane.ensures.steps;
 }
 
 pub returns-clause-room : goal.returns-clause-room

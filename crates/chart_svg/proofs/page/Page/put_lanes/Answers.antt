@@ -1,11 +1,11 @@
-use Rattle.std.proofs.Common.{◌∙◌, ◌<◌, List, [], ◌∷◌, length, ap, subst, refl, arith, All}
+use Rattle.std.proofs.Common.{◌∙◌, ◌<◌, List, [], ◌∷◌, length, ap, subst, refl, arith, All, Contains}
 use Rattle.std.proofs.lemmas.List.{length-append}
 use Rattle.chart_layout.specs.declared.layout.Bar.{Bar}
 use Rattle.chart_layout.specs.declared.layout.PrioSpan.{PrioSpan}
 use Rattle.std.proofs.lemmas.Option.{slice_get_within}
 use Rattle.std.specs.Prelude.{slice_get}
 use Rattle.chart_svg.specs.declared.page.Page.{Page}
-use Rattle.chart_svg.proofs.Laying.{lanes_more, of_all, of_more}
+use Rattle.chart_svg.proofs.Laying.{lanes_more, of_all, of_more, owned_more}
 use Rattle.chart_svg.proofs.Room.{room_none}
 use Rattle.chart_svg.specs.Lanes.{HasStep, IsLaid, IsOf}
 use Rattle.chart_svg.proofs.page.Page.put_lanes.Goals as goal
@@ -18,6 +18,7 @@ loop-t-init c = record {
   lanes = λ k lane lt. absurd (omega arith);
   bars = λ k bar lt. absurd (omega arith);
   steps = λ k step lt. absurd (omega arith);
+  own = λ k lane is. absurd (omega (arith, c.requires.none, slice_get_within c.args.self.now.lanes.items k lane is));
 }
 
 pub loop-t-preserved : goal.loop-t-preserved
@@ -37,6 +38,11 @@ loop-t-preserved c =
       steps = of_more HasStep c.loop-t.self.lanes.items c.put_lane.new.self.lanes.items more.lane more.pushed c.loop-t.t c.loop-t.invariant.long
           c.in_ok-steps.steps.items c.index-in-loop-t.result.now c.index-in-loop-t.ensures (subst Q c.deref-in-loop-t.ensures.value more.has_steps)
           c.loop-t.invariant.steps;
+      own = owned_more c.loop-t.self.lanes.items c.put_lane.new.self.lanes.items more.lane more.pushed c.loop-t.t
+          c.loop-t.invariant.long
+          c.in_ok-steps.steps.items c.index-in-loop-t.result.now c.index-in-loop-t.ensures
+          (omega (arith, c.in_ok-steps.ensures.len, c.loop-t-test.true))
+          (more.own_steps ∙ c.deref-in-loop-t.ensures.value) c.loop-t.invariant.own;
     }
 
 pub returns-clause-lanes : goal.returns-clause-lanes
@@ -56,3 +62,8 @@ returns-clause-steps c =
     c.args.self.now.chart.now.steps
     c.as_slice-2.ensures c.in_ok-steps.steps.items (length c.as_slice-lanes.result.now) (length c.args.self.now.chart.now.lanes) c.loop-t.t
     (ap length c.as_slice-lanes.ensures) c.loop-t-test.false c.in_ok-steps.ensures.has c.loop-t.invariant.steps
+
+pub returns-clause-own : goal.returns-clause-own
+returns-clause-own c = λ t lane is step has.
+    let own = c.in_ok-steps.ensures.own t step (c.loop-t.invariant.own t lane is step has) in
+    (subst (λ (xs : List PrioSpan). Contains xs step) c.as_slice-2.ensures own.0, own.1)

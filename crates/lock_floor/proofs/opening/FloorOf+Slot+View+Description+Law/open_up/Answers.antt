@@ -1,24 +1,22 @@
 use Rattle.std.proofs.Common.{◌≡◌, ℕ, ◌<◌, true, [], ◌∷◌, length, position, refl, sym, ap, ◌∙◌, subst, arith}
-use Rattle.atomic_table.specs.Table.{Me}
 use Rattle.lock_model.proofs.HeldLocks.{taken_out, none_taken}
 use Rattle.lock_model.specs.Operations.{holds_lock}
 use Rattle.lock_model.specs.Queues.{lock_queue}
 use Rattle.lock_model.specs.Words.{word_of, is_turnstile, opened, side_woken}
+use Rattle.lock_objects.specs.declared.marked.Marked.TheVariants.{Waiters}
 use Rattle.lock_state.specs.Steps.{Looks}
 use Rattle.floor_table.specs.Descriptions.{config_in}
-use Rattle.floor_table.specs.Steps.{MayMake, Makes}
-use Rattle.floor_table.specs.Views.{Knowledge, seeing}
+use Rattle.floor_table.specs.Steps.{MayMake}
+use Rattle.floor_table.specs.Views.{Knowledge}
 use Rattle.floor_table.specs.declared.description.Description.{Description}
-use Rattle.floor_table.specs.declared.slot.Slot.{Slot}
 use Rattle.lock_floor.specs.Floors.{Floor, Pass}
-use Rattle.lock_floor.specs.Opens.{HasBothOut, MayOpenUp, OpensUp}
-use Rattle.lock_floor.specs.Views.{counts, looked}
+use Rattle.lock_floor.specs.Marks.{AreMarked}
+use Rattle.lock_floor.specs.Opens.{HasBothOut, MayOpenUp, OpensUp, marks_opened}
+use Rattle.lock_floor.specs.Views.{counts}
 use Rattle.lock_floor.specs.Waits.{chain_place}
-use Rattle.lock_floor.proofs.Looking.{Looked}
-use Rattle.lock_floor.proofs.OpenCall.{side_told, side_out, call_description, call_tied, call_opens}
+use Rattle.lock_floor.proofs.OpenCall.{side_told, side_out, its_work, tied_opened}
 use Rattle.lock_floor.proofs.OpenStep.{open_allowed}
-use Rattle.lock_floor.proofs.Opened.{last_shown}
-use Rattle.lock_floor.proofs.Tied.{tied_on}
+use Rattle.lock_floor.proofs.Tied.{tied_looked}
 use Rattle.lock_floor.proofs.opening.FloorOf+Slot+View+Description+Law.open_up.Goals as goal
 
 pub open_word-found-requires-clause-may : goal.open_word-found-requires-clause-may
@@ -43,52 +41,14 @@ open_word-found-requires-clause-may c =
     low both turnstile refl says may.may may_look
 
 -- the word was another
-module _ (c : goal.Then-found-seen) where
-  abbrev me : Me Slot Knowledge
-  me = c.pass.inside.seat.me
-
-  abbrev behind : Me Slot Knowledge
-  behind = c.open_word-found.new.seat.me
-
-  its_look : Looked c.self.inside.board.shared.key c.args.l.0 me c.open_word-found.result behind
-  its_look = c.open_word-found.ensures.told.1 c.if-found-seen.true
-
-  its_view : behind.0 ≡ seeing behind.0.seen (looked me.0 c.args.l.0 (word_of c.open_word-found.result))
-  its_view = ap (λ (m : Me Slot Knowledge). m.0) its_look.1
-
 pub invariant_of-pass : goal.invariant_of-pass
 invariant_of-pass c =
-    let v = its_view c in
-    tied_on c.pass.inside.who.0 c.pass.inside.held c.pass.inside.marked c.pass.inside.log c.pass.inside.finished
-    c.pass.inside.seat.me c.open_word-found.new.seat.me
-    (ap (λ (p : Pass Knowledge). p.finished) c.pass.view_is ∙ c.requires.own.unfinished) c.pass.invariant
-    (ap (λ w. w.role) v) (ap (λ w. w.description) v) (ap (λ w. w.thread) v) (ap (λ w. w.share.held) v)
-    (ap (λ w. w.share.doing.marked) v) (ap (λ w. w.share.log) v) (ap (λ w. w.spare) v)
-    (ap (λ (m : Me Slot Knowledge). m.1) (its_look c).1 ∙ c.pass.invariant.out ∙ sym (ap (λ w. w.out) v))
+    tied_looked c.pass.inside.who.0 c.pass.inside.held c.pass.inside.marked c.pass.inside.log c.pass.inside.finished
+    c.pass.inside.seat.me c.open_word-found.new.seat.me c.self.inside.board.shared.key c.args.l.0
+    c.open_word-found.result (ap (λ (p : Pass Knowledge). p.finished) c.pass.view_is ∙ c.requires.own.unfinished)
+    c.pass.invariant (c.open_word-found.ensures.told.1 c.if-found-seen.true)
 
-pub returns-then-found-seen-clause-own : goal.returns-then-found-seen-clause-own
-returns-then-found-seen-clause-own c = record {
-  table = c.open_word-found.ensures.own ∙ ap (λ (p : Pass Knowledge). p.table) c.pass.view_is ∙ c.requires.own.table;
-  description = ap (λ (w : Knowledge). w.description) (its_view c)
-      ∙ ap (λ (p : Pass Knowledge). p.view.description) c.pass.view_is ∙ c.requires.own.description;
-  unfinished = ap (λ (p : Pass Knowledge). p.finished) c.pass.view_is ∙ c.requires.own.unfinished;
-}
-
-pub returns-then-found-seen-clause-found : goal.returns-then-found-seen-clause-found
-returns-then-found-seen-clause-found c = (c.if-found-seen.true, (its_look c).0)
-
-pub returns-then-found-seen-clause-looked : goal.returns-then-found-seen-clause-looked
-returns-then-found-seen-clause-looked c =
-    its_view c ∙ ap (λ (p : Pass Knowledge). seeing c.open_word-found.new.seat.me.0.seen
-    (looked p.view c.args.l.0 (word_of c.open_word-found.result))) c.pass.view_is
-
-pub returns-then-found-seen-clause-look : goal.returns-then-found-seen-clause-look
-returns-then-found-seen-clause-look c =
-    subst (λ (z : Floor Description × Pass Knowledge). Makes z.0.description
-    (Looks z.1.view.thread c.args.l.0 (counts z.1.view c.args.l.0) ∷ []) z.1.view c.open_word-found.new.seat.me.0)
-    (λ i. (c.self.view_is i, c.pass.view_is i)) (its_look c).2
-
--- the side is the one that the word tells
+-- it was the one that was seen
 module _ (f g : Floor Description) (same : f ≡ g) where
   kind_inside : (l : ℕ) → (config_in g.description).kind l ≡ (config_in f.description).kind l
   kind_inside l = ap (λ (k : Floor Description). (config_in k.description).kind l) (sym same)
@@ -98,140 +58,105 @@ module _ (f g : Floor Description) (same : f ≡ g) where
 
 pub take_side-woken-requires-clause-out : goal.take_side-woken-requires-clause-out
 take_side-woken-requires-clause-out c =
-    let l = c.args.l.0 in
     let key : Description = c.self.inside.board.shared.key in
-    let its_side = side_told c.kind.result (word_of c.args.seen) c.opened.result.1 c.in_default-Some.side
-    c.opened.ensures.side c.in_default-Some.is-1 (last_shown (word_of c.args.seen) c.requires.opens).1
-    ∙ ap (λ k. side_woken k (word_of c.args.seen)) (c.kind.ensures ∙ kind_inside _ _ c.self.view_is l) in
+    let l = c.args.l.0 in
     side_out key c.pass.inside.seat.me c.open_word-found.new.seat.me l c.args.seen c.open_word-found.result
-    c.in_default-Some.side its_side c.open_word-found.ensures.told c.if-found-seen.false c.from-own.result
-    c.chain_slot-chain.result
+    c.in_default-Some.side
+    (side_told key l c.kind.result (word_of c.args.seen) c.opened.result.1 c.in_default-Some.side c.opened.ensures.side
+    c.in_default-Some.is-1 c.requires.opens (c.kind.ensures ∙ kind_inside _ _ c.self.view_is l))
+    c.open_word-found.ensures.told c.if-found-seen.false c.from-own.result c.chain_slot-chain.result
     (c.from-own.ensures ∙ c.pass.invariant.thread)
     (c.chain_slot-chain.ensures.place ∙ place_inside _ _ c.self.view_is l) c.pass.invariant.out
+
+-- the lock was among those that the thread held
+module _ (c : goal.After-remove) where
+  its_with : (o : OpensUp c.self.inside.board.shared.key c.args.l.0 (word_of c.args.seen) c.pass.inside.seat.me.0
+      c.take_side-woken.new.seat.me.0) × (c.take_side-woken.new.seat.me.1 ≡ c.take_side-woken.new.seat.me.0.out)
+      × AreMarked c.self.inside.board.shared.key (Waiters c.take_side-woken.result)
+      (marks_opened c.args.l.0 o.side o.both.box o.turnstile)
+  its_with =
+      its_work c.self.inside.board.shared.key c.pass.inside.seat.me c.open_word-found.new.seat.me c.args.l.0 c.args.seen
+      c.open_word-found.result c.in_default-Some.side
+      (side_told c.self.inside.board.shared.key c.args.l.0 c.kind.result (word_of c.args.seen) c.opened.result.1
+      c.in_default-Some.side c.opened.ensures.side c.in_default-Some.is-1 c.requires.opens
+      (c.kind.ensures ∙ kind_inside _ _ c.self.view_is c.args.l.0)) c.open_word-found.ensures.told
+      c.if-found-seen.false c.from-own.result c.chain_slot-chain.result (c.from-own.ensures ∙ c.pass.invariant.thread)
+      (c.chain_slot-chain.ensures.place ∙ place_inside _ _ c.self.view_is c.args.l.0) c.pass.invariant.out
+      (subst (λ (f : Floor Description). is_turnstile ((config_in f.description).kind c.args.l.0) ≡ true)
+      (sym c.self.view_is) c.requires.turnstile) c.take_side-woken.new.seat.me c.take_side-woken.result
+      c.take_side-woken.ensures.view c.take_side-woken.ensures.out c.take_side-woken.ensures.woken
 
 pub invariant_of-pass-in-Some : goal.invariant_of-pass-in-Some
 invariant_of-pass-in-Some c =
-    let l = c.args.l.0 in
-    let key : Description = c.self.inside.board.shared.key in
-    let its_side = side_told c.kind.result (word_of c.args.seen) c.opened.result.1 c.in_default-Some.side
-    c.opened.ensures.side c.in_default-Some.is-1 (last_shown (word_of c.args.seen) c.requires.opens).1
-    ∙ ap (λ k. side_woken k (word_of c.args.seen)) (c.kind.ensures ∙ kind_inside _ _ c.self.view_is l) in
-    let turnstile = subst (λ (f : Floor Description). is_turnstile ((config_in f.description).kind l) ≡ true)
-    (sym c.self.view_is) c.requires.turnstile in
+    let its = its_with c in
     let held = c.pass.inside.held in
     let there = ap (position (holds_lock c.args.l)) (sym c.deref.ensures.value) ∙ sym c.place_held.ensures
     ∙ c.in-Some.is in
-    call_tied key c.pass.inside.seat.me c.open_word-found.new.seat.me l c.args.seen c.open_word-found.result
-    c.in_default-Some.side its_side c.open_word-found.ensures.told c.if-found-seen.false c.from-own.result
-    c.chain_slot-chain.result
-    (c.from-own.ensures ∙ c.pass.invariant.thread)
-    (c.chain_slot-chain.ensures.place ∙ place_inside _ _ c.self.view_is l) c.pass.invariant.out
-    c.take_side-woken.new.seat.me c.take_side-woken.result c.take_side-woken.ensures.view
-    c.take_side-woken.ensures.out c.take_side-woken.ensures.woken
-    c.pass.inside.who.0 c.pass.inside.held c.remove.new.self c.pass.inside.marked c.pass.inside.log
-    c.pass.inside.finished (ap (λ (p : Pass Knowledge). p.finished) c.pass.view_is ∙ c.requires.own.unfinished)
-    c.pass.invariant (ap (λ (p : Pass Knowledge). p.view.description) c.pass.view_is ∙ c.requires.own.description
-    ∙ sym (ap (λ (f : Floor Description). f.description) c.self.view_is)) turnstile
+    tied_opened c.self.inside.board.shared.key c.args.l.0 (word_of c.args.seen) c.pass.inside.seat.me
+    c.take_side-woken.new.seat.me c.take_side-woken.result its.0 its.1 its.2 c.pass.inside.who.0 held c.remove.new.self
+    c.pass.inside.marked c.pass.inside.log c.pass.inside.finished
+    (ap (λ (p : Pass Knowledge). p.finished) c.pass.view_is ∙ c.requires.own.unfinished) c.pass.invariant
+    (ap (λ (p : Pass Knowledge). p.view.description) c.pass.view_is ∙ c.requires.own.description
+    ∙ sym (ap (λ (f : Floor Description). f.description) c.self.view_is))
     (c.remove.ensures.items ∙ taken_out c.args.l held.items c.in-Some.i there)
     (omega (arith, c.pass.invariant.room, c.remove.ensures.capacity))
 
-pub invariant_of-pass-in_default-place_held : goal.invariant_of-pass-in_default-place_held
-invariant_of-pass-in_default-place_held c =
-    let l = c.args.l.0 in
-    let key : Description = c.self.inside.board.shared.key in
-    let its_side = side_told c.kind.result (word_of c.args.seen) c.opened.result.1 c.in_default-Some.side
-    c.opened.ensures.side c.in_default-Some.is-1 (last_shown (word_of c.args.seen) c.requires.opens).1
-    ∙ ap (λ k. side_woken k (word_of c.args.seen)) (c.kind.ensures ∙ kind_inside _ _ c.self.view_is l) in
-    let turnstile = subst (λ (f : Floor Description). is_turnstile ((config_in f.description).kind l) ≡ true)
-    (sym c.self.view_is) c.requires.turnstile in
-    let held = c.pass.inside.held in
-    let nowhere = ap (position (holds_lock c.args.l)) (sym c.deref.ensures.value) ∙ sym c.place_held.ensures
-    ∙ c.in_default-place_held.is in
-    call_tied key c.pass.inside.seat.me c.open_word-found.new.seat.me l c.args.seen c.open_word-found.result
-    c.in_default-Some.side its_side c.open_word-found.ensures.told c.if-found-seen.false c.from-own.result
-    c.chain_slot-chain.result
-    (c.from-own.ensures ∙ c.pass.invariant.thread)
-    (c.chain_slot-chain.ensures.place ∙ place_inside _ _ c.self.view_is l) c.pass.invariant.out
-    c.take_side-woken.new.seat.me c.take_side-woken.result c.take_side-woken.ensures.view
-    c.take_side-woken.ensures.out c.take_side-woken.ensures.woken
-    c.pass.inside.who.0 c.pass.inside.held c.pass.inside.held c.pass.inside.marked c.pass.inside.log
-    c.pass.inside.finished (ap (λ (p : Pass Knowledge). p.finished) c.pass.view_is ∙ c.requires.own.unfinished)
-    c.pass.invariant (ap (λ (p : Pass Knowledge). p.view.description) c.pass.view_is ∙ c.requires.own.description
-    ∙ sym (ap (λ (f : Floor Description). f.description) c.self.view_is)) turnstile
-    (none_taken c.args.l held.items nowhere) c.pass.invariant.room
-
 pub returns-in-Some-clause-own : goal.returns-in-Some-clause-own
-returns-in-Some-clause-own c =
-    let l = c.args.l.0 in
-    let key : Description = c.self.inside.board.shared.key in
-    let its_side = side_told c.kind.result (word_of c.args.seen) c.opened.result.1 c.in_default-Some.side
-    c.opened.ensures.side c.in_default-Some.is-1 (last_shown (word_of c.args.seen) c.requires.opens).1
-    ∙ ap (λ k. side_woken k (word_of c.args.seen)) (c.kind.ensures ∙ kind_inside _ _ c.self.view_is l) in
-    record {
-      table = c.take_side-woken.ensures.own ∙ c.open_word-found.ensures.own
-          ∙ ap (λ (p : Pass Knowledge). p.table) c.pass.view_is ∙ c.requires.own.table;
-      description = call_description key c.pass.inside.seat.me c.open_word-found.new.seat.me l c.args.seen
-          c.open_word-found.result c.in_default-Some.side its_side c.open_word-found.ensures.told c.if-found-seen.false
-          c.from-own.result c.chain_slot-chain.result
-          (c.from-own.ensures ∙ c.pass.invariant.thread)
-          (c.chain_slot-chain.ensures.place ∙ place_inside _ _ c.self.view_is l) c.pass.invariant.out
-          c.take_side-woken.new.seat.me c.take_side-woken.result c.take_side-woken.ensures.view
-          c.take_side-woken.ensures.out c.take_side-woken.ensures.woken
-          ∙ ap (λ (p : Pass Knowledge). p.view.description) c.pass.view_is ∙ c.requires.own.description;
-      unfinished = ap (λ (p : Pass Knowledge). p.finished) c.pass.view_is ∙ c.requires.own.unfinished;
-    }
+returns-in-Some-clause-own c = record {
+  table = c.take_side-woken.ensures.own ∙ c.open_word-found.ensures.own
+      ∙ ap (λ (p : Pass Knowledge). p.table) c.pass.view_is ∙ c.requires.own.table;
+  description = ap (λ (w : Knowledge). w.description) (its_with c).0.view
+      ∙ ap (λ (p : Pass Knowledge). p.view.description) c.pass.view_is ∙ c.requires.own.description;
+  unfinished = ap (λ (p : Pass Knowledge). p.finished) c.pass.view_is ∙ c.requires.own.unfinished;
+}
 
 pub returns-in-Some-clause-opens : goal.returns-in-Some-clause-opens
 returns-in-Some-clause-opens c =
-    let l = c.args.l.0 in
-    let key : Description = c.self.inside.board.shared.key in
-    let its_side = side_told c.kind.result (word_of c.args.seen) c.opened.result.1 c.in_default-Some.side
-    c.opened.ensures.side c.in_default-Some.is-1 (last_shown (word_of c.args.seen) c.requires.opens).1
-    ∙ ap (λ k. side_woken k (word_of c.args.seen)) (c.kind.ensures ∙ kind_inside _ _ c.self.view_is l) in
-    subst (λ (z : Floor Description × Pass Knowledge). OpensUp z.0.description l (word_of c.args.seen) z.1.view
-    c.take_side-woken.new.seat.me.0) (λ i. (c.self.view_is i, c.pass.view_is i))
-    (call_opens key c.pass.inside.seat.me c.open_word-found.new.seat.me l c.args.seen c.open_word-found.result
-    c.in_default-Some.side its_side c.open_word-found.ensures.told c.if-found-seen.false c.from-own.result
-    c.chain_slot-chain.result
-    (c.from-own.ensures ∙ c.pass.invariant.thread)
-    (c.chain_slot-chain.ensures.place ∙ place_inside _ _ c.self.view_is l) c.pass.invariant.out
-    c.take_side-woken.new.seat.me c.take_side-woken.result c.take_side-woken.ensures.view
-    c.take_side-woken.ensures.out c.take_side-woken.ensures.woken)
+    subst (λ (z : Floor Description × Pass Knowledge). OpensUp z.0.description c.args.l.0 (word_of c.args.seen) z.1.view
+    c.take_side-woken.new.seat.me.0) (λ i. (c.self.view_is i, c.pass.view_is i)) (its_with c).0
+
+-- it was not
+module _ (c : goal.In_default-place_held) where
+  its_without : (o : OpensUp c.self.inside.board.shared.key c.args.l.0 (word_of c.args.seen) c.pass.inside.seat.me.0
+      c.take_side-woken.new.seat.me.0) × (c.take_side-woken.new.seat.me.1 ≡ c.take_side-woken.new.seat.me.0.out)
+      × AreMarked c.self.inside.board.shared.key (Waiters c.take_side-woken.result)
+      (marks_opened c.args.l.0 o.side o.both.box o.turnstile)
+  its_without =
+      its_work c.self.inside.board.shared.key c.pass.inside.seat.me c.open_word-found.new.seat.me c.args.l.0 c.args.seen
+      c.open_word-found.result c.in_default-Some.side
+      (side_told c.self.inside.board.shared.key c.args.l.0 c.kind.result (word_of c.args.seen) c.opened.result.1
+      c.in_default-Some.side c.opened.ensures.side c.in_default-Some.is-1 c.requires.opens
+      (c.kind.ensures ∙ kind_inside _ _ c.self.view_is c.args.l.0)) c.open_word-found.ensures.told
+      c.if-found-seen.false c.from-own.result c.chain_slot-chain.result (c.from-own.ensures ∙ c.pass.invariant.thread)
+      (c.chain_slot-chain.ensures.place ∙ place_inside _ _ c.self.view_is c.args.l.0) c.pass.invariant.out
+      (subst (λ (f : Floor Description). is_turnstile ((config_in f.description).kind c.args.l.0) ≡ true)
+      (sym c.self.view_is) c.requires.turnstile) c.take_side-woken.new.seat.me c.take_side-woken.result
+      c.take_side-woken.ensures.view c.take_side-woken.ensures.out c.take_side-woken.ensures.woken
+
+pub invariant_of-pass-in_default-place_held : goal.invariant_of-pass-in_default-place_held
+invariant_of-pass-in_default-place_held c =
+    let its = its_without c in
+    let held = c.pass.inside.held in
+    let nowhere = ap (position (holds_lock c.args.l)) (sym c.deref.ensures.value) ∙ sym c.place_held.ensures
+    ∙ c.in_default-place_held.is in
+    tied_opened c.self.inside.board.shared.key c.args.l.0 (word_of c.args.seen) c.pass.inside.seat.me
+    c.take_side-woken.new.seat.me c.take_side-woken.result its.0 its.1 its.2 c.pass.inside.who.0 held held
+    c.pass.inside.marked c.pass.inside.log c.pass.inside.finished
+    (ap (λ (p : Pass Knowledge). p.finished) c.pass.view_is ∙ c.requires.own.unfinished) c.pass.invariant
+    (ap (λ (p : Pass Knowledge). p.view.description) c.pass.view_is ∙ c.requires.own.description
+    ∙ sym (ap (λ (f : Floor Description). f.description) c.self.view_is))
+    (none_taken c.args.l held.items nowhere) c.pass.invariant.room
 
 pub returns-in_default-place_held-clause-own : goal.returns-in_default-place_held-clause-own
-returns-in_default-place_held-clause-own c =
-    let l = c.args.l.0 in
-    let key : Description = c.self.inside.board.shared.key in
-    let its_side = side_told c.kind.result (word_of c.args.seen) c.opened.result.1 c.in_default-Some.side
-    c.opened.ensures.side c.in_default-Some.is-1 (last_shown (word_of c.args.seen) c.requires.opens).1
-    ∙ ap (λ k. side_woken k (word_of c.args.seen)) (c.kind.ensures ∙ kind_inside _ _ c.self.view_is l) in
-    record {
-      table = c.take_side-woken.ensures.own ∙ c.open_word-found.ensures.own
-          ∙ ap (λ (p : Pass Knowledge). p.table) c.pass.view_is ∙ c.requires.own.table;
-      description = call_description key c.pass.inside.seat.me c.open_word-found.new.seat.me l c.args.seen
-          c.open_word-found.result c.in_default-Some.side its_side c.open_word-found.ensures.told c.if-found-seen.false
-          c.from-own.result c.chain_slot-chain.result
-          (c.from-own.ensures ∙ c.pass.invariant.thread)
-          (c.chain_slot-chain.ensures.place ∙ place_inside _ _ c.self.view_is l) c.pass.invariant.out
-          c.take_side-woken.new.seat.me c.take_side-woken.result c.take_side-woken.ensures.view
-          c.take_side-woken.ensures.out c.take_side-woken.ensures.woken
-          ∙ ap (λ (p : Pass Knowledge). p.view.description) c.pass.view_is ∙ c.requires.own.description;
-      unfinished = ap (λ (p : Pass Knowledge). p.finished) c.pass.view_is ∙ c.requires.own.unfinished;
-    }
+returns-in_default-place_held-clause-own c = record {
+  table = c.take_side-woken.ensures.own ∙ c.open_word-found.ensures.own
+      ∙ ap (λ (p : Pass Knowledge). p.table) c.pass.view_is ∙ c.requires.own.table;
+  description = ap (λ (w : Knowledge). w.description) (its_without c).0.view
+      ∙ ap (λ (p : Pass Knowledge). p.view.description) c.pass.view_is ∙ c.requires.own.description;
+  unfinished = ap (λ (p : Pass Knowledge). p.finished) c.pass.view_is ∙ c.requires.own.unfinished;
+}
 
 pub returns-in_default-place_held-clause-opens : goal.returns-in_default-place_held-clause-opens
 returns-in_default-place_held-clause-opens c =
-    let l = c.args.l.0 in
-    let key : Description = c.self.inside.board.shared.key in
-    let its_side = side_told c.kind.result (word_of c.args.seen) c.opened.result.1 c.in_default-Some.side
-    c.opened.ensures.side c.in_default-Some.is-1 (last_shown (word_of c.args.seen) c.requires.opens).1
-    ∙ ap (λ k. side_woken k (word_of c.args.seen)) (c.kind.ensures ∙ kind_inside _ _ c.self.view_is l) in
-    subst (λ (z : Floor Description × Pass Knowledge). OpensUp z.0.description l (word_of c.args.seen) z.1.view
-    c.take_side-woken.new.seat.me.0) (λ i. (c.self.view_is i, c.pass.view_is i))
-    (call_opens key c.pass.inside.seat.me c.open_word-found.new.seat.me l c.args.seen c.open_word-found.result
-    c.in_default-Some.side its_side c.open_word-found.ensures.told c.if-found-seen.false c.from-own.result
-    c.chain_slot-chain.result
-    (c.from-own.ensures ∙ c.pass.invariant.thread)
-    (c.chain_slot-chain.ensures.place ∙ place_inside _ _ c.self.view_is l) c.pass.invariant.out
-    c.take_side-woken.new.seat.me c.take_side-woken.result c.take_side-woken.ensures.view
-    c.take_side-woken.ensures.out c.take_side-woken.ensures.woken)
+    subst (λ (z : Floor Description × Pass Knowledge). OpensUp z.0.description c.args.l.0 (word_of c.args.seen) z.1.view
+    c.take_side-woken.new.seat.me.0) (λ i. (c.self.view_is i, c.pass.view_is i)) (its_without c).0

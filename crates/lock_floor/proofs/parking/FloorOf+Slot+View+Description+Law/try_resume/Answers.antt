@@ -1,4 +1,4 @@
-use Rattle.std.proofs.Common.{◌≡◌, false, bit_and, inl, inr, sym, ap, ◌∙◌, subst}
+use Rattle.std.proofs.Common.{◌≡◌, false, bit_and, inl, inr, refl, sym, ap, ◌∙◌, subst}
 use Rattle.atomic_table.specs.Table.{Me, Allows}
 use Rattle.lock_model.specs.Queues.{Cause}
 use Rattle.lock_model.specs.declared.plan.QueueName.{QueueName}
@@ -57,10 +57,9 @@ module _ (c : goal.Then-found-eq-QUEUED) where
     | inl e ↦
         let v : behind.0 ≡ seeing behind.0.seen me.0 = ap (λ (m : Me Slot Knowledge). m.0) (told.1 e).0 in (
           tied_on c.pass.inside.who.0 c.pass.inside.held c.pass.inside.marked c.pass.inside.log c.pass.inside.finished
-              me behind going c.pass.invariant (ap (λ w. w.role) v) (ap (λ w. w.description) v) (ap (λ w. w.thread) v)
-              (ap (λ w. w.share.held) v)
-              (ap (λ w. w.share.doing.marked) v) (ap (λ w. w.share.log) v) (ap (λ w. w.spare) v)
-              (ap (λ (m : Me Slot Knowledge). m.1) (told.1 e).0 ∙ c.pass.invariant.out ∙ sym (ap (λ w. w.out) v)),
+              me behind me.0 going c.pass.invariant v
+              (ap (λ (m : Me Slot Knowledge). m.1) (told.1 e).0 ∙ c.pass.invariant.out ∙ sym (ap (λ w. w.out) v)) refl
+              refl refl,
           ap (λ w. w.description) v,
         )
     | inr z ↦
@@ -68,10 +67,8 @@ module _ (c : goal.Then-found-eq-QUEUED) where
         let v : behind.0 ≡ seeing behind.0.seen (resumed (config_in key) me.0 q z.0) =
         ap (λ (m : Me Slot Knowledge). m.0) h in (
           tied_on c.pass.inside.who.0 c.pass.inside.held c.pass.inside.marked c.pass.inside.log c.pass.inside.finished
-              me behind going c.pass.invariant (ap (λ w. w.role) v) (ap (λ w. w.description) v) (ap (λ w. w.thread) v)
-              (ap (λ w. w.share.held) v)
-              (ap (λ w. w.share.doing.marked) v) (ap (λ w. w.share.log) v) (ap (λ w. w.spare) v)
-              (ap (λ (m : Me Slot Knowledge). m.1) h ∙ c.pass.invariant.out ∙ sym (ap (λ w. w.out) v)),
+              me behind (resumed (config_in key) me.0 q z.0) going c.pass.invariant v
+              (ap (λ (m : Me Slot Knowledge). m.1) h ∙ c.pass.invariant.out ∙ sym (ap (λ w. w.out) v)) refl refl refl,
           ap (λ w. w.description) v,
         )
   ]

@@ -1,4 +1,4 @@
-use Rattle.std.proofs.Common.{◌≡◌, ℕ, ◌<◌, Option, Some, is_some, [], ◌∷◌, List, length, sym, ap, ◌∙◌, subst}
+use Rattle.std.proofs.Common.{◌≡◌, ℕ, ◌<◌, Option, Some, is_some, [], ◌∷◌, List, length, refl, sym, ap, ◌∙◌, subst}
 use Rattle.std.specs.Box.{with_value}
 use Rattle.std.specs.declared.alloc.Global.{Global}
 use Rattle.std.specs.declared.boxed.Box.{Box}
@@ -6,9 +6,8 @@ use Rattle.atomic_table.specs.Table.{Me}
 use Rattle.lock_model.specs.Words.{word_of, owner_of}
 use Rattle.floor_table.specs.declared.description.Description.{Description}
 use Rattle.lock_model.specs.declared.plan.QueueName.{QueueName}
-use Rattle.lock_model.specs.Queues.{lock_queue}
-use Rattle.lock_objects.specs.Enters.{CanStand, waiter_of, record_entered, chain_entered}
-use Rattle.chain_table.specs.Chains.{head_of}
+use Rattle.lock_model.specs.Queues.{lock_queue, side_of}
+use Rattle.lock_objects.specs.Enters.{waiter_of, record_entered, chain_entered}
 use Rattle.lock_state.specs.Steps.{Looks, Enters}
 use Rattle.thread_records.specs.declared.record.ThreadRec.{ThreadRec}
 use Rattle.turnstile_core.specs.Seen.{Turnstile}
@@ -20,9 +19,10 @@ use Rattle.lock_floor.specs.Views.{counts, looked}
 use Rattle.lock_floor.specs.Waits.{chain_place, both_out, out_entered, entered}
 use Rattle.lock_model.specs.declared.plan.Mode.{Mode}
 use Rattle.floor_table.specs.declared.slot.Slot.TheVariants.{Record, Turnstiles}
+use Rattle.lock_floor.proofs.BothChanged.{Worked, out_before, worked}
 use Rattle.lock_floor.proofs.Looking.{Looked}
 use Rattle.lock_floor.proofs.Entering.{Need, enter_any, told_missed, told_entered}
-use Rattle.lock_floor.proofs.Tied.{tied_on}
+use Rattle.lock_floor.proofs.Tied.{tied_on, tied_looked}
 use Rattle.lock_floor.proofs.waits.FloorOf+Slot+View+Description+Law.enter.Goals as goal
 
 -- what the call needs, on the floor and the pass as they are inside
@@ -45,35 +45,25 @@ enter_word-found-requires-clause-may c new says =
     c.self.inside.board.shared.table_id.slots c.pass.inside.seat.id c.args.seen new l c.args.mode need.0 need.1
     need.2 low need.3 need.4 says need.5 may_look
 
-looks_own : (floor : Description) (l n : ℕ) (me behind : Me Slot Knowledge) → Looked floor l me n behind
-    → behind.0 ≡ seeing behind.0.seen (looked me.0 l (word_of n))
-looks_own floor l n me behind h = ap (λ (m : Me Slot Knowledge). m.0) h.1
-
+-- the word was another
 module _ (c : goal.Then-found-seen) where
-  abbrev me : Me Slot Knowledge
-  me = c.pass.inside.seat.me
-
-  abbrev behind : Me Slot Knowledge
-  behind = c.enter_word-found.new.seat.me
-
-  its_look : Looked c.self.inside.board.shared.key c.args.l.0 me c.enter_word-found.result behind
-  its_look = told_missed c.self.inside.board.shared.key c.args.l.0 c.args.mode c.args.seen c.enter_word-found.result me
-      behind (need_inside _ _ _ _ c.self.view_is c.pass.view_is c.args.l.0 c.args.mode c.args.seen c.requires.out)
+  its_look : Looked c.self.inside.board.shared.key c.args.l.0 c.pass.inside.seat.me c.enter_word-found.result
+      c.enter_word-found.new.seat.me
+  its_look = told_missed c.self.inside.board.shared.key c.args.l.0 c.args.mode c.args.seen c.enter_word-found.result
+      c.pass.inside.seat.me c.enter_word-found.new.seat.me
+      (need_inside _ _ _ _ c.self.view_is c.pass.view_is c.args.l.0 c.args.mode c.args.seen c.requires.out)
       c.enter_word-found.ensures.told c.if-found-seen.true
 
-  its_view : behind.0 ≡ seeing behind.0.seen (looked me.0 c.args.l.0 (word_of c.enter_word-found.result))
-  its_view = looks_own c.self.inside.board.shared.key c.args.l.0 c.enter_word-found.result me behind its_look
+  its_view : c.enter_word-found.new.seat.me.0 ≡ seeing c.enter_word-found.new.seat.me.0.seen
+      (looked c.pass.inside.seat.me.0 c.args.l.0 (word_of c.enter_word-found.result))
+  its_view = ap (λ (m : Me Slot Knowledge). m.0) its_look.1
 
 pub invariant_of-pass : goal.invariant_of-pass
 invariant_of-pass c =
-    let v = its_view c in
-    tied_on c.pass.inside.who.0 c.pass.inside.held c.pass.inside.marked c.pass.inside.log
-    c.pass.inside.finished c.pass.inside.seat.me
-    c.enter_word-found.new.seat.me
-    (ap (λ (p : Pass Knowledge). p.finished) c.pass.view_is ∙ c.requires.own.unfinished) c.pass.invariant
-    (ap (λ w. w.role) v) (ap (λ w. w.description) v) (ap (λ w. w.thread) v) (ap (λ w. w.share.held) v)
-    (ap (λ w. w.share.doing.marked) v) (ap (λ w. w.share.log) v) (ap (λ w. w.spare) v)
-    (ap (λ (m : Me Slot Knowledge). m.1) (its_look c).1 ∙ c.pass.invariant.out ∙ sym (ap (λ w. w.out) v))
+    tied_looked c.pass.inside.who.0 c.pass.inside.held c.pass.inside.marked c.pass.inside.log c.pass.inside.finished
+    c.pass.inside.seat.me c.enter_word-found.new.seat.me c.self.inside.board.shared.key c.args.l.0
+    c.enter_word-found.result (ap (λ (p : Pass Knowledge). p.finished) c.pass.view_is ∙ c.requires.own.unfinished)
+    c.pass.invariant (its_look c)
 
 pub returns-then-found-seen-clause-own : goal.returns-then-found-seen-clause-own
 returns-then-found-seen-clause-own c = record {
@@ -116,65 +106,54 @@ module _ (c : goal.After-stand) where
   abbrev old : Me Slot Knowledge
   old = c.pass.inside.seat.me
 
-  abbrev new : Me Slot Knowledge
-  new = c.stand.new.seat.me
+  its_need : Need key old.0 c.args.l.0 c.args.mode c.args.seen
+  its_need = need_inside _ _ _ _ c.self.view_is c.pass.view_is c.args.l.0 c.args.mode c.args.seen c.requires.out
 
   abbrev owner : Option ℕ
   owner = owner_of (word_of c.args.seen).holder
-
-  its_need : Need key old.0 c.args.l.0 c.args.mode c.args.seen
-  its_need = need_inside _ _ _ _ c.self.view_is c.pass.view_is c.args.l.0 c.args.mode c.args.seen c.requires.out
 
   abbrev then : Knowledge
   then = entered old.0 c.args.l.0 owner
       (out_entered key old.0.thread c.args.l.0 c.args.mode its_need.0 owner its_need.1 its_need.2)
 
-  its_told : (c.enter_word-found.new.seat.me ≡ (seeing c.enter_word-found.new.seat.me.0.seen then, old.1))
-      × Makes key (Enters old.0.thread c.args.l.0 c.args.mode its_need.0 ∷ []) old.0 c.enter_word-found.new.seat.me.0
-      × CanStand its_need.1.value.thread (head_of (lock_queue c.args.l.0) its_need.2)
-  its_told = told_entered key c.args.l.0 c.args.mode c.args.seen c.enter_word-found.result old
-      c.enter_word-found.new.seat.me its_need c.enter_word-found.ensures.told c.if-found-seen.false
-
-  new_view : new.0 ≡ seeing c.enter_word-found.new.seat.me.0.seen then
-  new_view = c.stand.ensures.view ∙ ap (λ (m : Me Slot Knowledge). m.0) its_told.0
-
-  own_is : old.0.thread ≡ c.from-own.result
-  own_is = sym c.pass.invariant.thread ∙ sym c.from-own.ensures
-
-  at_is : chain_place key (lock_queue c.args.l.0) ≡ c.chain_slot-chain.result
-  at_is = ap (λ (f : Floor Description). chain_place f.description (lock_queue c.args.l.0)) c.self.view_is
-      ∙ sym c.chain_slot-chain.ensures.place
-
-  before : c.enter_word-found.new.seat.me.1 ≡ (c.from-own.result, Record its_need.1) ∷
-      (c.chain_slot-chain.result, Turnstiles its_need.2) ∷ []
-  before = ap (λ (m : Me Slot Knowledge). m.1) its_told.0 ∙ c.pass.invariant.out ∙ its_need.3
-      ∙ (λ i. (own_is i, Record its_need.1) ∷ (at_is i, Turnstiles its_need.2) ∷ [])
-
-  new_out : new.1 ≡ then.out
-  new_out = c.stand.ensures.out its_need.1 its_need.2 its_need.0 its_need.4 before
-      ∙ (λ i. (sym own_is i, Record (with_value its_need.1 (record_entered c.args.l.0 its_need.1.value))) ∷ (
-        sym at_is i,
+  its_work : Worked key (Enters old.0.thread c.args.l.0 c.args.mode its_need.0 ∷ []) old c.stand.new.seat.me then
+  its_work =
+      let told = told_entered key c.args.l.0 c.args.mode c.args.seen c.enter_word-found.result old
+      c.enter_word-found.new.seat.me its_need c.enter_word-found.ensures.told c.if-found-seen.false in
+      let at_is = c.chain_slot-chain.ensures.place
+      ∙ sym (ap (λ (f : Floor Description). chain_place f.description (lock_queue c.args.l.0)) c.self.view_is) in
+      let q : QueueName = lock_queue c.args.l.0 in
+      let before = out_before key q old c.enter_word-found.new.seat.me then told.0 c.pass.invariant.out its_need.1
+      (Turnstiles its_need.2) its_need.3 c.from-own.result c.chain_slot-chain.result
+      (c.from-own.ensures ∙ c.pass.invariant.thread) at_is in
+      worked key q old c.enter_word-found.new.seat.me then told.0 c.pass.invariant.out its_need.1
+      (Turnstiles its_need.2) its_need.3 c.from-own.result c.chain_slot-chain.result
+      (c.from-own.ensures ∙ c.pass.invariant.thread) at_is
+      (Enters old.0.thread c.args.l.0 c.args.mode its_need.0 ∷ []) c.stand.new.seat.me
+      (with_value its_need.1 (record_entered c.args.l.0 its_need.1.value))
+      (Turnstiles
+      (chain_entered c.args.l.0 (side_of c.args.mode) its_need.0 owner (waiter_of its_need.1.value) its_need.2)) told.1
+      c.stand.ensures.view
+      (c.stand.ensures.out its_need.1 its_need.2 its_need.0 its_need.4 before
+      ∙ (λ i. (c.from-own.result, Record (with_value its_need.1 (record_entered c.args.l.0 its_need.1.value))) ∷ (
+        c.chain_slot-chain.result,
         Turnstiles
             (chain_entered c.args.l.0 (c.side_of.ensures i) its_need.0 (c.owner_of-owner.ensures i)
             (waiter_of its_need.1.value) its_need.2),
-      ) ∷ [])
+      ) ∷ [])) refl
 
 pub invariant_of-pass-2 : goal.invariant_of-pass-2
 invariant_of-pass-2 c =
-    let v = new_view c in
-    tied_on c.pass.inside.who.0 c.pass.inside.held c.pass.inside.marked c.pass.inside.log
-    c.pass.inside.finished c.pass.inside.seat.me
-    c.stand.new.seat.me (ap (λ (p : Pass Knowledge). p.finished) c.pass.view_is ∙ c.requires.own.unfinished)
-    c.pass.invariant
-    (ap (λ w. w.role) v) (ap (λ w. w.description) v) (ap (λ w. w.thread) v) (ap (λ w. w.share.held) v)
-    (ap (λ w. w.share.doing.marked) v) (ap (λ w. w.share.log) v) (ap (λ w. w.spare) v)
-    (new_out c ∙ sym (ap (λ w. w.out) v))
+    tied_on c.pass.inside.who.0 c.pass.inside.held c.pass.inside.marked c.pass.inside.log c.pass.inside.finished
+    c.pass.inside.seat.me c.stand.new.seat.me (then c)
+    (ap (λ (p : Pass Knowledge). p.finished) c.pass.view_is ∙ c.requires.own.unfinished) c.pass.invariant
+    (its_work c).view (its_work c).out refl refl refl
 
 pub returns-clause-own : goal.returns-clause-own
 returns-clause-own c = record {
   table = c.stand.ensures.own ∙ c.enter_word-found.ensures.own ∙ ap (λ (p : Pass Knowledge). p.table) c.pass.view_is
       ∙ c.requires.own.table;
-  description = ap (λ (w : Knowledge). w.description) (new_view c)
+  description = ap (λ (w : Knowledge). w.description) (its_work c).view
       ∙ ap (λ (p : Pass Knowledge). p.view.description) c.pass.view_is ∙ c.requires.own.description;
   unfinished = ap (λ (p : Pass Knowledge). p.finished) c.pass.view_is ∙ c.requires.own.unfinished;
 }
@@ -191,20 +170,6 @@ Told floor v w l mode seen =
 pub returns-clause-step : goal.returns-clause-step
 returns-clause-step c =
     let need = its_need c in
-    let told = its_told c in
-    let seen : c.enter_word-found.new.seat.me.0.seen ≡ c.stand.new.seat.me.0.seen =
-    sym (ap (λ (w : Knowledge). w.seen) c.stand.ensures.view) in
     subst (λ (z : Floor Description × Pass Knowledge). Told z.0.description z.1.view c.stand.new.seat.me.0 c.args.l.0
-    c.args.mode c.args.seen) (λ i. (c.self.view_is i, c.pass.view_is i)) (
-      need.0,
-      need.1,
-      need.2,
-      need.3,
-      need.4,
-      new_view c
-          ∙ ap (λ xs. seeing xs (then c)) seen,
-      subst
-          (λ (w : Knowledge). Makes c.self.inside.board.shared.key
-          (Enters c.pass.inside.seat.me.0.thread c.args.l.0 c.args.mode need.0 ∷ []) c.pass.inside.seat.me.0 w)
-          (sym c.stand.ensures.view) told.1,
-    )
+    c.args.mode c.args.seen) (λ i. (c.self.view_is i, c.pass.view_is i))
+    (need.0, need.1, need.2, need.3, need.4, (its_work c).view, (its_work c).step)

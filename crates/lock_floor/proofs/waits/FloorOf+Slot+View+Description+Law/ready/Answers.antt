@@ -34,16 +34,12 @@ invariant_of-pass c =
     let k = ready_stays c.args.queued c.pass.inside.seat.me.0 in
     let v : c.say_wait.new.seat.me.0 ≡ seeing c.say_wait.new.seat.me.0.seen
     (readied c.args.queued c.pass.inside.seat.me.0) = ap (λ (m : Me Slot Knowledge). m.0) (behind_is c) in
-    tied_on c.pass.inside.who.0 c.pass.inside.held c.pass.inside.marked c.pass.inside.log
-    c.pass.inside.finished c.pass.inside.seat.me
-    c.say_wait.new.seat.me (ap (λ (p : Pass Knowledge). p.finished) c.pass.view_is ∙ c.requires.own.unfinished)
-    c.pass.invariant
-    (ap (λ w. w.role) v ∙ k.role) (ap (λ w. w.description) v ∙ k.description) (ap (λ w. w.thread) v ∙ k.thread)
-    (ap (λ w. w.share.held) v ∙ ap (λ x. x.held) k.share)
-    (ap (λ w. w.share.doing.marked) v ∙ ap (λ x. x.doing.marked) k.share)
-    (ap (λ w. w.share.log) v ∙ ap (λ x. x.log) k.share)
-    (ap (λ w. w.spare) v ∙ k.spare)
+    tied_on c.pass.inside.who.0 c.pass.inside.held c.pass.inside.marked c.pass.inside.log c.pass.inside.finished
+    c.pass.inside.seat.me c.say_wait.new.seat.me (readied c.args.queued c.pass.inside.seat.me.0)
+    (ap (λ (p : Pass Knowledge). p.finished) c.pass.view_is ∙ c.requires.own.unfinished) c.pass.invariant v
     (ap (λ (m : Me Slot Knowledge). m.1) (behind_is c) ∙ c.pass.invariant.out ∙ sym (ap (λ w. w.out) v ∙ k.out))
+    (λ i. (k.role i, k.description i, k.thread i, (k.share i).log, k.spare i)) (ap (λ x. x.held) k.share)
+    (ap (λ x. x.doing.marked) k.share)
 
 pub returns-clause-own : goal.returns-clause-own
 returns-clause-own c = record {

@@ -1,26 +1,48 @@
-use Rattle.std.proofs.Common.{is_some, refl, ap, sym, subst, ◌∙◌}
+use Rattle.std.proofs.Common.{ℕ, Contains, Some, is_some, sym, ap, subst, ◌∙◌}
 use Rattle.std.specs.FinMap.{insert}
-use Rattle.std.specs.List.{Contains}
-use Rattle.lock_history.proofs.Slots.{is_found, isnt_absent, put-present}
+use Rattle.std.specs.List.Sorted.{IsStrictlySortedBy}
+use Rattle.std.proofs.lemmas.Bool.{false≢true}
+use Rattle.indexmap.specs.IndexMap.{keys}
+use Rattle.lock_model.specs.History.{place_cmp}
+use Rattle.lock_history.specs.Books.{Slots, present_of}
+use Rattle.lock_history.proofs.Slots.{ascending, isnt_absent, is_sorted_by, put-present}
 use Rattle.lock_history.proofs.tables.Tables.set.Goals as goal
 
-pub returns-clause-present : goal.returns-clause-present
-returns-clause-present c =
-    put-present c.self.inside.slots c.insert.new.self _ _ c.in_ok-insert.ensures.was_ordered c.in_ok-insert.ensures.ordered c.in_ok-insert.ensures.updates
-    ∙ ap (λ s. insert s.present (c.args.l.0, c.args.key) c.args.value) c.self.view_is
+-- 1. A place that there is room for: the places stay
 
-pub returns-clause-succeeds : goal.returns-clause-succeeds
-returns-clause-succeeds c room = refl
+pub returns-in-Some-clause-present : goal.returns-in-Some-clause-present
+returns-in-Some-clause-present c =
+    let m = c.self.inside.slots in
+    let p : ℕ × ℕ = (c.args.l.0, c.args.key) in
+    let written = c.get_mut.follows.holds (Some c.args.value) in
+    put-present m (c.get_mut.follows.lender (Some c.args.value)) p c.args.value c.self.invariant
+    (subst (IsStrictlySortedBy place_cmp) (sym written.1) c.self.invariant) (written.3 (ap is_some (sym c.in-Some.ensures.value)))
+    ∙ ap (λ (s : Slots). insert s.present p c.args.value) c.self.view_is
 
-pub returns-clause-places : goal.returns-clause-places
-returns-clause-places c room =
-    let found = is_found c.self.inside.slots _ (subst (λ s. Contains s.places (c.args.l.0, c.args.key)) (sym c.self.view_is) room) in
-    c.in_ok-insert.ensures.keys_stay (ap is_some c.in_ok-insert.ensures.old ∙ found) ∙ ap (λ s. s.places) c.self.view_is
+-- 2. One that there is no room for: it goes where it belongs by its order
 
-pub returns-in_err-insert-clause-succeeds : goal.returns-in_err-insert-clause-succeeds
-returns-in_err-insert-clause-succeeds c room =
-    absurd (isnt_absent c.self.inside.slots _ (subst (λ s. Contains s.places (c.args.l.0, c.args.key)) (sym c.self.view_is) room) c.in_err-insert.ensures.absent)
+pub invariant_of-self-in_ok-insert_sorted-in-None : goal.invariant_of-self-in_ok-insert_sorted-in-None
+invariant_of-self-in_ok-insert_sorted-in-None c =
+    let made = c.in_ok-insert_sorted-in-None.ensures in
+    let kept = subst (λ m. IsStrictlySortedBy place_cmp (keys m)) (sym c.get_mut.follows.holds-at-none) c.self.invariant in
+    ascending (keys c.insert_sorted.new.self) (made.sorted (is_sorted_by (keys c.get_mut.follows.lender-at-none) kept)) made.unique
 
-pub returns-in_err-insert-clause-places : goal.returns-in_err-insert-clause-places
-returns-in_err-insert-clause-places c room =
-    absurd (isnt_absent c.self.inside.slots _ (subst (λ s. Contains s.places (c.args.l.0, c.args.key)) (sym c.self.view_is) room) c.in_err-insert.ensures.absent)
+pub returns-in_ok-insert_sorted-in-None-clause-present : goal.returns-in_ok-insert_sorted-in-None-clause-present
+returns-in_ok-insert_sorted-in-None-clause-present c =
+    let m = c.get_mut.follows.lender-at-none in
+    let p : ℕ × ℕ = (c.args.l.0, c.args.key) in
+    let made = c.in_ok-insert_sorted-in-None.ensures in
+    let kept = subst (λ n. IsStrictlySortedBy place_cmp (keys n)) (sym c.get_mut.follows.holds-at-none) c.self.invariant in
+    put-present m c.insert_sorted.new.self p c.args.value kept (ascending (keys c.insert_sorted.new.self) (made.sorted (is_sorted_by (keys m) kept)) made.unique) made.updates
+    ∙ ap (λ n. insert (present_of n.entries) p c.args.value) c.get_mut.follows.holds-at-none
+    ∙ ap (λ (s : Slots). insert s.present p c.args.value) c.self.view_is
+
+pub returns-in_ok-insert_sorted-in-None-clause-places : goal.returns-in_ok-insert_sorted-in-None-clause-places
+returns-in_ok-insert_sorted-in-None-clause-places c h =
+    let p : ℕ × ℕ = (c.args.l.0, c.args.key) in
+    absurd (isnt_absent c.self.inside.slots p (subst (λ (s : Slots). Contains s.places p) (sym c.self.view_is) h) (sym c.in-None.ensures.value))
+
+pub returns-in_err-insert_sorted-in-None-clause-succeeds : goal.returns-in_err-insert_sorted-in-None-clause-succeeds
+returns-in_err-insert_sorted-in-None-clause-succeeds c h =
+    let p : ℕ × ℕ = (c.args.l.0, c.args.key) in
+    absurd (isnt_absent c.self.inside.slots p (subst (λ (s : Slots). Contains s.places p) (sym c.self.view_is) h) (sym c.in-None.ensures.value))

@@ -1,0 +1,10 @@
+use Rattle.lock_model.specs.Words.{word_of, side_woken}
+use Rattle.floor_table.specs.Descriptions.{config_in}
+use Rattle.lock_floor.proofs.SleepOpenStep.{ToldOpened}
+use Rattle.lock_floor.proofs.sleeping.FloorOf+Slot+View+Description+Law.open_sleep.Given as goal
+
+abbrev pub ghosts-open_word : goal.ghosts-open_word
+ghosts-open_word a = record {
+  told = ToldOpened a.board.now.shared.key a.l.0
+      (side_woken ((config_in a.board.now.shared.key).kind a.l.0) (word_of a.seen)) a.seen;
+}
