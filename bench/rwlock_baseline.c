@@ -1,9 +1,9 @@
 /*
  * What the reader-writer locks of lockrun's threads are compared with: pthread's, of the sort that prefers writers
- * where the library has it, with the ticket and the logs of mutex_baseline.c. Each round does what the lines of a script
- * of crates/lock_bench do, with an entry for each: the entry of a gain is stamped after it, that of a release before it.
- * The logs of a run are new memory, as those of a floor are. bench/baseline compiles and runs it; it is no part of the
- * gate.
+ * where the library has it, with the ticket and the logs of mutex_baseline.c. Each round does what the lines of a
+ * script of crates/lock_bench do, with an entry for each: the entry of a gain is stamped after it, that of a release
+ * before it. The logs of a run are new, and each of their pages was touched before it, as those of a floor are.
+ * bench/baseline compiles and runs it; it is no part of the gate.
  *
  * An operation is a take, a look at a value, an edit or a release, with its entry. Printed are the lines of
  * mutex_baseline.c, of all cases or of the one that is named. Of the takes of a writer while all others read, from
@@ -238,12 +238,14 @@ static double check(const struct worker *workers, int threads)
     return sections == 0 ? 0 : 100.0 * (double)handovers / (double)sections;
 }
 
-/* A log of so many entries, of which no page was touched yet. */
+/* A log of so many entries, of which no page is new in the run, as none is in the logs of a floor (Log::touch). */
 static struct entry *new_log(size_t entries)
 {
-    void *log = mmap(NULL, entries * sizeof(struct entry), PROT_READ | PROT_WRITE, MAP_PRIVATE | MAP_ANONYMOUS, -1, 0);
+    size_t bytes = entries * sizeof(struct entry);
+    void *log = mmap(NULL, bytes, PROT_READ | PROT_WRITE, MAP_PRIVATE | MAP_ANONYMOUS, -1, 0);
     if (log == MAP_FAILED)
         fail("out of memory");
+    memset(log, 1, bytes);
     return log;
 }
 

@@ -115,11 +115,14 @@ ascending ks sorted distinct =
     sorted_from_all_adjacent place_total ks (0, 0) (λ k l.
     let x = get_or ks k (0, 0) in
     let y = get_or ks (k + 1) (0, 0) in
-    below_by (place_cmp x y) (place_cmp y x) (place_total.antisymm x y) (sorted k (0, 0) (omega arith) l) (sym (same_place x y) ∙ apart_from_distinct place_eq ks k (k + 1) (0, 0) distinct (omega arith) l))
+    below_by (place_cmp x y) (place_cmp y x) (place_total.antisymm x y) (sorted k (0, 0) (omega arith) l)
+    (sym (same_place x y) ∙ apart_from_distinct place_eq ks k (k + 1) (0, 0) distinct (omega arith) l))
 
 pub is_sorted_by : (ks : List (ℕ × ℕ)) → IsStrictlySortedBy place_cmp ks → IsSorted place_cmp ks
 is_sorted_by ks h k d low high =
-    not_below (place_cmp (get_or ks (k + 1) d) (get_or ks k d)) (place_cmp (get_or ks k d) (get_or ks (k + 1) d)) (Less-from_sorted place_cmp ks k (k + 1) d h (omega arith) high) (place_total.antisymm (get_or ks (k + 1) d) (get_or ks k d))
+    not_below (place_cmp (get_or ks (k + 1) d) (get_or ks k d)) (place_cmp (get_or ks k d) (get_or ks (k + 1) d))
+    (Less-from_sorted place_cmp ks k (k + 1) d h (omega arith) high)
+    (place_total.antisymm (get_or ks (k + 1) d) (get_or ks k d))
 
 abbrev pub SlotsIn : Type 0 → Type 0
 SlotsIn S = IndexMap (ℕ × ℕ) (Option ℕ) S
@@ -136,22 +139,26 @@ module _ {S : Type 0} where
   entries-present m h = entries-from_sorted place_cmp (filled m.entries) (filled_is_sorted m h)
 
   -- the value at a place
-  pub get-present : (m : SlotsIn S) → IsAscending m → (q : ℕ × ℕ) → get (present_of m.entries) q ≡ option_flatten (table.get place_eq m q)
+  pub get-present : (m : SlotsIn S) → IsAscending m → (q : ℕ × ℕ)
+      → get (present_of m.entries) q ≡ option_flatten (table.get place_eq m q)
   get-present m h q =
       get-from_sorted place_cmp (filled m.entries) q (filled_is_sorted m h) ∙ find_filled q m.entries h
       ∙ ap option_flatten (λ i. lookup (λ x. sym (same_place q x) i) m.entries)
 
   -- a value that is set at one place
-  pub put-present : (m n : SlotsIn S) (k : ℕ × ℕ) (v : ℕ) → IsAscending m → IsAscending n → Updates place_eq m n k (Some (Some v)) → present_of n.entries ≡ insert (present_of m.entries) k v
+  pub put-present : (m n : SlotsIn S) (k : ℕ × ℕ) (v : ℕ) → IsAscending m → IsAscending n
+      → Updates place_eq m n k (Some (Some v)) → present_of n.entries ≡ insert (present_of m.entries) k v
   put-present m n k v hm hn u =
       same_map place_total place_exact _ _ (λ q.
       get-present n hn q ∙ ap option_flatten (u.0 q)
-      ∙ flattened (place_eq k q) (eq_by_cmp place_cmp q k) v (get (present_of m.entries) q) (table.get place_eq m q) (same_place k q ∙ (eq_by_cmp_equiv place_total).symm k q) (get-present m hm q)
+      ∙ flattened (place_eq k q) (eq_by_cmp place_cmp q k) v (get (present_of m.entries) q) (table.get place_eq m q)
+      (same_place k q ∙ (eq_by_cmp_equiv place_total).symm k q) (get-present m hm q)
       ∙ sym (get-insert place_total (present_of m.entries) k v q))
 
   -- no value is present
   pub present-none : (m : SlotsIn S) → IsAscending m → HasNoValue m → present_of m.entries ≡ empty
-  present-none m h none = same_map place_total place_exact _ _ (λ q. get-present m h q ∙ none q ∙ sym (get-empty place_cmp q))
+  present-none m h none =
+      same_map place_total place_exact _ _ (λ q. get-present m h q ∙ none q ∙ sym (get-empty place_cmp q))
 
   -- room that is made brings no value
   pub room_none : (m n : SlotsIn S) (p : ℕ × ℕ) → HasNoValue m → Updates place_eq m n p (Some None) → HasNoValue n
@@ -168,18 +175,21 @@ module _ {S : Type 0} where
 
     -- one operation more, and room where it names a place
     pub room_more : (start m n : SlotsIn S) (p : ℕ × ℕ) (ops : List Op) (i : ℕ) (d : Op) → i < length ops
-        → has_room m ≡ (has_room start || list_any (op_names l key) (take i ops)) → Updates place_eq m n p (Some None) → Some p ≡ place_of (get_or ops i d)
+        → has_room m ≡ (has_room start || list_any (op_names l key) (take i ops)) → Updates place_eq m n p (Some None)
+        → Some p ≡ place_of (get_or ops i d)
         → has_room n ≡ (has_room start || list_any (op_names l key) (take (i + 1) ops))
     room_more start m n p ops i d lt before u named =
         let q = op_names l key in
         ap is_some (u.0 (l, key)) ∙ some_or _ (Some None) _ refl
         ∙ ap (λ b. naming.is_at l key (Some p) || b) before
-        ∙ or_step (naming.is_at l key (Some p)) (has_room start) (list_any q (take i ops)) (q (get_or ops i d)) (ap (naming.is_at l key) named)
+        ∙ or_step (naming.is_at l key (Some p)) (has_room start) (list_any q (take i ops)) (q (get_or ops i d))
+        (ap (naming.is_at l key) named)
         ∙ ap (λ b. has_room start || b) (sym (list_any_more q ops i d lt))
 
     -- the same where it names none
     pub room_same : (start m n : SlotsIn S) (ops : List Op) (i : ℕ) (d : Op) → i < length ops
-        → has_room m ≡ (has_room start || list_any (op_names l key) (take i ops)) → n ≡ m → None ≡ place_of (get_or ops i d)
+        → has_room m ≡ (has_room start || list_any (op_names l key) (take i ops)) → n ≡ m
+        → None ≡ place_of (get_or ops i d)
         → has_room n ≡ (has_room start || list_any (op_names l key) (take (i + 1) ops))
     room_same start m n ops i d lt before same named =
         let q = op_names l key in

@@ -17,5 +17,6 @@ pub mod OrderedPlans
 pub mod Events
 pub mod Law
 pub mod Halts
+pub mod BusyWords
 pub mod Text
 pub mod Keys

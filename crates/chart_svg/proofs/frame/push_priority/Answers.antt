@@ -14,7 +14,8 @@ returns-clause-prio c =
     let at : Some c.in-Some.step.now ≡ slice_get lane.steps.items 0 =
     c.in-Some.ensures.value ∙ ap (λ (xs : List PrioSpan). slice_get xs 0) c.deref.ensures.value in
     on_ok_weaker c.push_words.result
-    (λ stands step is. words_told _ _ _ 24 _ _ _ _ c.of.ensures (c.plus.ensures ∙ ap (λ y. pixels (y + 20)) c.line.ensures)
+    (λ stands step is. words_told _ _ _ 24 _ _ _ _ c.of.ensures
+    (c.plus.ensures ∙ ap (λ y. pixels (y + 20)) c.line.ensures)
     (c.deref-2.ensures.value ∙ c.in_ok-words.ensures ∙ c.shown_prio.ensures
     ∙ ap (λ (s : PrioSpan). shown_words lane.strip s) (same_Some c.in-Some.step.now step (at ∙ is))) stands)
     c.push_words.ensures.stands

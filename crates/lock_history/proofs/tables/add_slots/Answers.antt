@@ -12,11 +12,16 @@ loop-op-preserved c =
     let i = c.loop-op.op-index in
     elim c.match-place.branch [
       | in-Some+in_ok-insert w ↦ (
-        subst HasNoValue (sym w.slots-is) (room_none c.loop-op.slots w.insert.new.self (w.in-Some.l.0, w.in-Some.key) before.0 w.in_ok-insert.ensures.updates),
-        λ l key. ap (λ m. is_some (get place_eq m (l, key))) w.slots-is ∙ room_more l key c.args.slots.now c.loop-op.slots w.insert.new.self (w.in-Some.l.0, w.in-Some.key) ops i _ c.loop-op-test.true (before.1 l key) w.in_ok-insert.ensures.updates w.in-Some.ensures,
+        subst HasNoValue (sym w.slots-is)
+            (room_none c.loop-op.slots w.insert.new.self (w.in-Some.l.0, w.in-Some.key) before.0
+            w.in_ok-insert.ensures.updates),
+        λ l key. ap (λ m. is_some (get place_eq m (l, key))) w.slots-is
+            ∙ room_more l key c.args.slots.now c.loop-op.slots w.insert.new.self (w.in-Some.l.0, w.in-Some.key) ops i _
+            c.loop-op-test.true (before.1 l key) w.in_ok-insert.ensures.updates w.in-Some.ensures,
       )
       | in_default w ↦ (
         subst HasNoValue (sym w.slots-is) before.0,
-        λ l key. room_same l key c.args.slots.now c.loop-op.slots c.match-place.slots ops i _ c.loop-op-test.true (before.1 l key) w.slots-is w.in_default.ensures,
+        λ l key. room_same l key c.args.slots.now c.loop-op.slots c.match-place.slots ops i _ c.loop-op-test.true
+            (before.1 l key) w.slots-is w.in_default.ensures,
       )
     ]

@@ -8,4 +8,5 @@ use Rattle.lock_history.proofs.tables.add_slots.Given as goal
 -- the places of the operations so far have room
 abbrev pub invariant-loop-op : goal.invariant-loop-op
 invariant-loop-op l = HasNoValue l.slots
-    × ((i key : ℕ) → is_some (get place_eq l.slots (i, key)) ≡ (is_some (get place_eq l.initial.slots (i, key)) || list_any (op_names i key) (take l.op-index l.ops)))
+    × ((i key : ℕ) → is_some (get place_eq l.slots (i, key)) ≡
+    (is_some (get place_eq l.initial.slots (i, key)) || list_any (op_names i key) (take l.op-index l.ops)))

@@ -10,4 +10,5 @@ returns-in-Err-Usage-clause-reads g c = let bytes = g.S.Source.remaining c.args.
 
 pub returns-in-Err-Memory-clause-reads : goal.returns-in-Err-Memory-clause-reads
 returns-in-Err-Memory-clause-reads g c = let bytes = g.S.Source.remaining c.args.source.now in
-    subst (λ status. ReadsBytes status bytes bytes) (sym c.unread-in-Err-Memory.ensures.status) (unread NoMemory bytes refl (λ e. cc))
+    subst (λ status. ReadsBytes status bytes bytes) (sym c.unread-in-Err-Memory.ensures.status)
+    (unread NoMemory bytes refl (λ e. cc))

@@ -9,12 +9,14 @@ use Rattle.lock_history.proofs.Slots.{ascending, place_equiv, place_is, present-
 use Rattle.lock_history.proofs.tables.Tables.make.Goals as goal
 
 pub invariant_of-result : goal.invariant_of-result
-invariant_of-result c = ascending (keys c.sort_keys.new.self) c.in_ok-sort_keys.ensures.sorted c.in_ok-sort_keys.ensures.unique
+invariant_of-result c =
+    ascending (keys c.sort_keys.new.self) c.in_ok-sort_keys.ensures.sorted c.in_ok-sort_keys.ensures.unique
 
 pub returns-clause-empty : goal.returns-clause-empty
 returns-clause-empty c =
     let sorted = c.in_ok-sort_keys.ensures in
-    present-none c.sort_keys.new.self (ascending (keys c.sort_keys.new.self) sorted.sorted sorted.unique) (λ q. ap option_flatten (sorted.reordered.2 q) ∙ c.loop-thread.invariant.0 q)
+    present-none c.sort_keys.new.self (ascending (keys c.sort_keys.new.self) sorted.sorted sorted.unique)
+    (λ q. ap option_flatten (sorted.reordered.2 q) ∙ c.loop-thread.invariant.0 q)
 
 pub returns-clause-room : goal.returns-clause-room
 returns-clause-room c l key =

@@ -16,7 +16,8 @@ returns-in-Some-clause-present c =
     let p : ℕ × ℕ = (c.args.l.0, c.args.key) in
     let written = c.get_mut.follows.holds (Some c.args.value) in
     put-present m (c.get_mut.follows.lender (Some c.args.value)) p c.args.value c.self.invariant
-    (subst (IsStrictlySortedBy place_cmp) (sym written.1) c.self.invariant) (written.3 (ap is_some (sym c.in-Some.ensures.value)))
+    (subst (IsStrictlySortedBy place_cmp) (sym written.1) c.self.invariant)
+    (written.3 (ap is_some (sym c.in-Some.ensures.value)))
     ∙ ap (λ (s : Slots). insert s.present p c.args.value) c.self.view_is
 
 -- 2. One that there is no room for: it goes where it belongs by its order
@@ -24,25 +25,31 @@ returns-in-Some-clause-present c =
 pub invariant_of-self-in_ok-insert_sorted-in-None : goal.invariant_of-self-in_ok-insert_sorted-in-None
 invariant_of-self-in_ok-insert_sorted-in-None c =
     let made = c.in_ok-insert_sorted-in-None.ensures in
-    let kept = subst (λ m. IsStrictlySortedBy place_cmp (keys m)) (sym c.get_mut.follows.holds-at-none) c.self.invariant in
-    ascending (keys c.insert_sorted.new.self) (made.sorted (is_sorted_by (keys c.get_mut.follows.lender-at-none) kept)) made.unique
+    let kept = subst (λ m. IsStrictlySortedBy place_cmp (keys m)) (sym c.get_mut.follows.holds-at-none) c.self.invariant
+    in
+    ascending (keys c.insert_sorted.new.self) (made.sorted (is_sorted_by (keys c.get_mut.follows.lender-at-none) kept))
+    made.unique
 
 pub returns-in_ok-insert_sorted-in-None-clause-present : goal.returns-in_ok-insert_sorted-in-None-clause-present
 returns-in_ok-insert_sorted-in-None-clause-present c =
     let m = c.get_mut.follows.lender-at-none in
     let p : ℕ × ℕ = (c.args.l.0, c.args.key) in
     let made = c.in_ok-insert_sorted-in-None.ensures in
-    let kept = subst (λ n. IsStrictlySortedBy place_cmp (keys n)) (sym c.get_mut.follows.holds-at-none) c.self.invariant in
-    put-present m c.insert_sorted.new.self p c.args.value kept (ascending (keys c.insert_sorted.new.self) (made.sorted (is_sorted_by (keys m) kept)) made.unique) made.updates
+    let kept = subst (λ n. IsStrictlySortedBy place_cmp (keys n)) (sym c.get_mut.follows.holds-at-none) c.self.invariant
+    in
+    put-present m c.insert_sorted.new.self p c.args.value kept
+    (ascending (keys c.insert_sorted.new.self) (made.sorted (is_sorted_by (keys m) kept)) made.unique) made.updates
     ∙ ap (λ n. insert (present_of n.entries) p c.args.value) c.get_mut.follows.holds-at-none
     ∙ ap (λ (s : Slots). insert s.present p c.args.value) c.self.view_is
 
 pub returns-in_ok-insert_sorted-in-None-clause-places : goal.returns-in_ok-insert_sorted-in-None-clause-places
 returns-in_ok-insert_sorted-in-None-clause-places c h =
     let p : ℕ × ℕ = (c.args.l.0, c.args.key) in
-    absurd (isnt_absent c.self.inside.slots p (subst (λ (s : Slots). Contains s.places p) (sym c.self.view_is) h) (sym c.in-None.ensures.value))
+    absurd (isnt_absent c.self.inside.slots p (subst (λ (s : Slots). Contains s.places p) (sym c.self.view_is) h)
+    (sym c.in-None.ensures.value))
 
 pub returns-in_err-insert_sorted-in-None-clause-succeeds : goal.returns-in_err-insert_sorted-in-None-clause-succeeds
 returns-in_err-insert_sorted-in-None-clause-succeeds c h =
     let p : ℕ × ℕ = (c.args.l.0, c.args.key) in
-    absurd (isnt_absent c.self.inside.slots p (subst (λ (s : Slots). Contains s.places p) (sym c.self.view_is) h) (sym c.in-None.ensures.value))
+    absurd (isnt_absent c.self.inside.slots p (subst (λ (s : Slots). Contains s.places p) (sym c.self.view_is) h)
+    (sym c.in-None.ensures.value))

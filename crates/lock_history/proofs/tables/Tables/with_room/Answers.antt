@@ -20,12 +20,14 @@ loop-key-preserved c =
     )
 
 pub invariant_of-result : goal.invariant_of-result
-invariant_of-result c = ascending (keys c.sort_keys.new.self) c.in_ok-sort_keys.ensures.sorted c.in_ok-sort_keys.ensures.unique
+invariant_of-result c =
+    ascending (keys c.sort_keys.new.self) c.in_ok-sort_keys.ensures.sorted c.in_ok-sort_keys.ensures.unique
 
 pub returns-clause-empty : goal.returns-clause-empty
 returns-clause-empty c =
     let sorted = c.in_ok-sort_keys.ensures in
-    present-none c.sort_keys.new.self (ascending (keys c.sort_keys.new.self) sorted.sorted sorted.unique) (λ q. ap option_flatten (sorted.reordered.2 q) ∙ c.loop-key.invariant.0 q)
+    present-none c.sort_keys.new.self (ascending (keys c.sort_keys.new.self) sorted.sorted sorted.unique)
+    (λ q. ap option_flatten (sorted.reordered.2 q) ∙ c.loop-key.invariant.0 q)
 
 pub returns-clause-room : goal.returns-clause-room
 returns-clause-room c l key =
