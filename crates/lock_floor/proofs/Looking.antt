@@ -125,9 +125,3 @@ module _ (floor : Description) (me : Me Slot Knowledge) (l : ℕ) (was : me.0.ro
         let made = lock_seen floor both b v w h was may own me.1 l low refl (record { items = refl; objects = refl })
         refl refl in
         (w, keeps, tt, made.0, (found.1, refl, made.1))
-
-    pub seek_allowed : (slots id : ℕ) → MayMake floor v (λ s. Unit {0}) both
-        → Allows (FloorHolds floor) slots id me (spot (lock_line l)) (λ n. n) (Sought floor l by_try me)
-    seek_allowed slots id may =
-        allows floor slots id me (spot (lock_line l)) (λ n. n) (Sought floor l by_try me) was
-        (λ b h small. first_looks b h (may h.state h.fits tt))

@@ -4,13 +4,13 @@ ghost use prog.Atomic.{either};
 ghost use Rattle.atomic_table.specs.Table.{Allows};
 ghost use Rattle.lock_model.specs.Words.{word_of, IsWellFormed, is_drop, gained as with_holder, dropped};
 ghost use Rattle.lock_words.specs.Views.{MayGain, IsHeldIn};
-ghost use Rattle.lock_state.specs.Steps.{Seeks, Looks, Gains, Drops};
+ghost use Rattle.lock_state.specs.Steps.{Looks, Gains, Drops};
 ghost use Rattle.floor_table.specs.Places.{spot, lock_line};
 ghost use Rattle.floor_table.specs.Rule.{FloorHolds};
 ghost use Rattle.floor_table.specs.Steps.{MayMake, Makes};
 ghost use Rattle.floor_table.specs.Views.{seeing};
 ghost use Rattle.lock_floor.specs.Passes.{IsOf};
-ghost use Rattle.lock_floor.specs.Views.{counts, looked, sought, gained, put_down};
+ghost use Rattle.lock_floor.specs.Views.{counts, looked, gained, put_down};
 
 use crate::floor::FloorOf;
 use crate::pass::Pass;
@@ -36,23 +36,6 @@ impl FloorOf<Slot, View, Description, Law> {
             pass.old.view pass.new.view }
     {
         read_word::<Brand>(&self.board, &mut pass.seat, l)
-    }
-
-    /// Begins an acquiring round of a lock, for a try or for a blocking call, with a first look at its word.
-    pub fn seek(&self, pass: &mut Pass, l: LockNo, by_try: bool) -> u64
-        requires own { IsOf self.now pass.old }
-        requires lock { l.0 < length self.now.description.locks }
-        requires may { MayMake self.now.description pass.old.view (λ s. ⊤)
-            (Seeks pass.old.view.thread l.0 by_try ∷ Looks pass.old.view.thread l.0 true ∷ []) }
-        ensures own { IsOf self.now pass.new }
-        ensures word { IsWellFormed (word_of result) }
-        ensures view { pass.new.view ≡ seeing pass.new.view.seen
-            (looked (sought pass.old.view l.0 by_try) l.0 (word_of result)) }
-        ensures steps { Makes self.now.description
-            (Seeks pass.old.view.thread l.0 by_try ∷ Looks pass.old.view.thread l.0 true ∷ [])
-            pass.old.view pass.new.view }
-    {
-        read_first::<Brand>(&self.board, &mut pass.seat, l, by_try)
     }
 
     /// Gains a lock in a mode, where its word is still the one that was seen. `Err` has the word that stands there
@@ -126,18 +109,6 @@ impl FloorOf<Slot, View, Description, Law> {
 
 // Reads the word of a lock.
 fn read_word<J: Tells>(board: &Board, seat: &mut FloorSeat, l: LockNo) -> u64
-    requires own { seat.old.table_id ≡ board.now.shared.table_id }
-    requires within { spot (lock_line l.0) < board.now.shared.table_id.words }
-    requires may { Allows (FloorHolds board.now.shared.key) board.now.shared.table_id.slots
-        seat.old.id seat.old.me (spot (lock_line l.0)) (λ n. n) (J.told seat.old.me) }
-    ensures own { seat.new.table_id ≡ seat.old.table_id }
-    ensures told { J.told seat.old.me result seat.new.me }
-{
-    load::<J>(board, seat, lock_spot(l))
-}
-
-// The same, at the begin of a round.
-fn read_first<J: Tells>(board: &Board, seat: &mut FloorSeat, l: LockNo, _by_try: bool) -> u64
     requires own { seat.old.table_id ≡ board.now.shared.table_id }
     requires within { spot (lock_line l.0) < board.now.shared.table_id.words }
     requires may { Allows (FloorHolds board.now.shared.key) board.now.shared.table_id.slots
