@@ -13,7 +13,7 @@ use Rattle.lock_floor.specs.declared.calls.TakeAt.TheVariants.{Checks}
 use Rattle.lock_floor.specs.Floors.{Pass}
 use Rattle.lock_calls.specs.Choices.{outside}
 use Rattle.lock_calls.specs.declared.answers.Next.{Next}
-use Rattle.lock_calls.specs.declared.answers.Next.TheVariants.{Done, Again, Sleep, Wake, Reversed}
+use Rattle.lock_calls.specs.declared.answers.Next.TheVariants.{Done, Again, Sleep, Wake, Reversed, Halted}
 use Rattle.lock_calls.specs.Releases.{HasBegunRelease, IsInRelease, StandsInRelease, WakesOne, GoesOnReleasing}
 use Rattle.lock_calls.specs.Takes.{HasBegunTake, IsInTake, StandsInTake, GoesOnTaking}
 use Rattle.lock_calls.proofs.Taken.{under_take_on}
@@ -34,15 +34,16 @@ module _ (floor : Description) (p q : Pass Knowledge) (m : IsInTake floor p) whe
     there = under_take_on floor m.l m.mode m.at s.to p.view q.view m.there s.on;
   }
 
-  pub take_goes_on : (next : Next) → (next ≡ Done → ⊥) → ((r : Reversal) → next ≡ Reversed r → ⊥)
+  pub take_goes_on : (next : Next) → (next ≡ Done → ⊥) → ((r : Reversal) → next ≡ Reversed r → ⊥) → (next ≡ Halted → ⊥)
       → ((l : LockNo) (mode : Mode) (at : TakeAt) → p.call ≡ calls.Take l mode at
       → GoesOnTaking floor l mode at next p q)
       → IsInTake floor q
-  take_goes_on Done undone unrefused went = absurd (undone refl)
-  take_goes_on Again undone unrefused went = takes_still Again (went m.l m.mode m.at m.call)
-  take_goes_on Sleep undone unrefused went = takes_still Sleep (went m.l m.mode m.at m.call)
-  take_goes_on (Wake t) undone unrefused went = absurd (went m.l m.mode m.at m.call)
-  take_goes_on (Reversed r) undone unrefused went = absurd (unrefused r refl)
+  take_goes_on Done undone unrefused unhalted went = absurd (undone refl)
+  take_goes_on Again undone unrefused unhalted went = takes_still Again (went m.l m.mode m.at m.call)
+  take_goes_on Sleep undone unrefused unhalted went = takes_still Sleep (went m.l m.mode m.at m.call)
+  take_goes_on (Wake t) undone unrefused unhalted went = absurd (went m.l m.mode m.at m.call)
+  take_goes_on (Reversed r) undone unrefused unhalted went = absurd (unrefused r refl)
+  take_goes_on Halted undone unrefused unhalted went = absurd (unhalted refl)
 
 -- 2. A release
 
@@ -78,4 +79,5 @@ module _ (floor : Description) (p q : Pass Knowledge) (m : IsInRelease floor p) 
   release_goes_on Again undone went = releases_still (went m.l m.mode m.at m.call)
   release_goes_on Sleep undone went = absurd (went m.l m.mode m.at m.call)
   release_goes_on (Reversed r) undone went = absurd (went m.l m.mode m.at m.call)
+  release_goes_on Halted undone went = absurd (went m.l m.mode m.at m.call)
   release_goes_on (Wake t) undone went = wakes_still t.0 (went m.l m.mode m.at m.call)

@@ -70,8 +70,8 @@ is_of_threads line = is_same line (codes "line 0 code 0")
 
 -- what is said of that plan
 abbrev pub threads_said : Text
-threads_said = codes "threads run on mutexes and reader-writer locks alone so far, and the script "
-    ++ codes "declares an sx lock, a condition variable or a channel"
+threads_said = codes "threads run on locks alone so far, and the script declares "
+    ++ codes "a condition variable or a channel"
 
 abbrev pub fault_said : Text → Text
 fault_said line = if is_of_threads line then threads_said

@@ -97,8 +97,7 @@ fn push_sentence(
 
 // What is said where a plan's threads can't run yet.
 const THREADS: &str =
-    "threads run on mutexes and reader-writer locks alone so far, and the script declares \
-    an sx lock, a condition variable or a channel";
+    "threads run on locks alone so far, and the script declares a condition variable or a channel";
 
 // Of the line `line L code C`, or of the line that tells of a plan whose threads can't run yet.
 fn push_fault(out: &mut Vec<u8>, text: &[u8]) -> Result<(), AllocError>

@@ -1,10 +1,10 @@
 -- What a thread knows behind each part of its calls.
 use Rattle.std.specs.Prelude.{if◌then◌else◌}
-use Rattle.std.proofs.Common.{◌≡◌, ℕ, Bool, true, false, ◌<◌, ◌≤◌, [], ◌∷◌, ◌++◌, refl, ap, ◌∙◌, arith}
+use Rattle.std.proofs.Common.{◌≡◌, ℕ, Bool, true, false, ◌<◌, ◌≤◌, [], ◌∷◌, ◌++◌, refl, sym, ap, ◌∙◌, arith}
 use Rattle.lock_model.specs.Operations.{without_lock}
 use Rattle.lock_model.specs.declared.numbers.LockNo.{LockNo}
 use Rattle.lock_model.specs.declared.plan.Mode.{Mode}
-use Rattle.lock_model.specs.Words.{word_of, is_drop}
+use Rattle.lock_model.specs.Words.{word_of, is_drop, is_turnstile}
 use Rattle.lock_model.specs.declared.plan.Mode.TheVariants.{Excl, Shared}
 use Rattle.floor_table.specs.Descriptions.{config_in}
 use Rattle.floor_table.specs.declared.description.Description.{Description}
@@ -18,7 +18,7 @@ use Rattle.lock_floor.specs.declared.calls.TakeAt.TheVariants.{Checks}
 use Rattle.lock_floor.specs.Floors.{Floor, Pass}
 use Rattle.lock_floor.specs.Passes.{IsOf, first_pass}
 use Rattle.lock_calls.specs.declared.answers.Next.{Next}
-use Rattle.lock_calls.specs.declared.answers.Next.TheVariants.{Done, Again, Sleep, Wake, Reversed}
+use Rattle.lock_calls.specs.declared.answers.Next.TheVariants.{Done, Again, Sleep, Wake, Reversed, Halted}
 use Rattle.lock_calls.specs.Choices.{outside}
 use Rattle.lock_calls.specs.Releases.{ReleaseEnd, puts_down, nobody_left, ReleaseLeg, misses, takes_chain, comes_in, looks, makes_free, finds_out, HasBegunRelease, StandsInRelease, GoesOnReleasing}
 use Rattle.lock_calls.specs.Steps.{as_taken}
@@ -109,6 +109,7 @@ module _ (f : Floor Description) (p q : Pass Knowledge) (own : IsOf f q) where
   take_begins Sleep was begun = absurd begun
   take_begins (Wake t) was begun = absurd begun
   take_begins (Reversed r) was begun = absurd begun
+  take_begins Halted was begun = absurd begun
 
   pub take_begins_admitted : (next : Next) → HasBegunTake f.description the_mutex Excl next p q → IsAdmitted next
   take_begins_admitted Done begun = tt
@@ -116,6 +117,7 @@ module _ (f : Floor Description) (p q : Pass Knowledge) (own : IsOf f q) where
   take_begins_admitted Sleep begun = tt
   take_begins_admitted (Wake t) begun = tt
   take_begins_admitted (Reversed r) begun = begun
+  take_begins_admitted Halted begun = begun
 
   takes_still : (next : Next) (was : IsTaking f p)
       → StandsInTake f.description was.under_way.l was.under_way.mode was.under_way.at next p q → IsTaking f q
@@ -135,18 +137,28 @@ module _ (f : Floor Description) (p q : Pass Knowledge) (own : IsOf f q) where
         room = omega (arith, was.room, ap (λ (k : Kept). k.spare) s.on.kept);
       }
 
-  -- who holds nothing is never refused
-  pub take_admitted : (next : Next) → IsTaking f p
+  -- the mutex has a turnstile
+  on_turnstile : IsForTwo f.description → (was : IsTaking f p)
+      → is_turnstile ((config_in f.description).kind was.under_way.l.0) ≡ true
+  on_turnstile two was =
+      ap is_turnstile (ap (λ (k : LockNo). (config_in f.description).kind k.0) was.lock ∙ two.mutex.kind)
+
+  -- who holds nothing is never refused, and no sleep on a turnstile is halted
+  pub take_admitted : (next : Next) → IsForTwo f.description → IsTaking f p
       → ((l : LockNo) (mode : Mode) (at : TakeAt) → p.call ≡ calls.Take l mode at
       → GoesOnTaking f.description l mode at next p q)
       → IsAdmitted next
-  take_admitted Done was went = tt
-  take_admitted Again was went = tt
-  take_admitted Sleep was went = tt
-  take_admitted (Wake t) was went = tt
-  take_admitted (Reversed r) was went =
+  take_admitted Done two was went = tt
+  take_admitted Again two was went = tt
+  take_admitted Sleep two was went = tt
+  take_admitted (Wake t) two was went = tt
+  take_admitted (Reversed r) two was went =
       let m = was.under_way in
       bare_admitted f.description m.l r.held p.view q.view was.unheld (went m.l m.mode m.at m.call).refused.steps
+  take_admitted Halted two was went =
+      let m = was.under_way in
+      let z : true ≡ false = sym (on_turnstile two was) ∙ (went m.l m.mode m.at m.call).halted.sleeps in
+      absurd cc
 
   pub take_goes_on : (next : Next) → IsForTwo f.description → IsTaking f p
       → ((l : LockNo) (mode : Mode) (at : TakeAt) → p.call ≡ calls.Take l mode at
@@ -163,7 +175,8 @@ module _ (f : Floor Description) (p q : Pass Knowledge) (own : IsOf f q) where
       takes_still Sleep was (went was.under_way.l was.under_way.mode was.under_way.at was.under_way.call)
   take_goes_on (Wake t) two was went =
       absurd (went was.under_way.l was.under_way.mode was.under_way.at was.under_way.call)
-  take_goes_on (Reversed r) two was went = absurd (take_admitted (Reversed r) was went)
+  take_goes_on (Reversed r) two was went = absurd (take_admitted (Reversed r) two was went)
+  take_goes_on Halted two was went = absurd (take_admitted Halted two was went)
 
   -- 3. A release
 
@@ -183,6 +196,7 @@ module _ (f : Floor Description) (p q : Pass Knowledge) (own : IsOf f q) where
   release_begins Sleep was begun = absurd begun
   release_begins (Wake t) was begun = absurd begun
   release_begins (Reversed r) was begun = absurd begun
+  release_begins Halted was begun = absurd begun
 
   pub release_begins_admitted : (next : Next) → HasBegunRelease f.description the_mutex Excl next p q → IsAdmitted next
   release_begins_admitted Done begun = tt
@@ -190,6 +204,7 @@ module _ (f : Floor Description) (p q : Pass Knowledge) (own : IsOf f q) where
   release_begins_admitted Sleep begun = tt
   release_begins_admitted (Wake t) begun = tt
   release_begins_admitted (Reversed r) begun = begun
+  release_begins_admitted Halted begun = begun
 
   releases_still : (was : IsReleasing f p)
       → StandsInRelease f.description was.under_way.l was.under_way.mode was.under_way.at p q → IsReleasing f q
@@ -248,6 +263,8 @@ module _ (f : Floor Description) (p q : Pass Knowledge) (own : IsOf f q) where
       }
   release_goes_on (Reversed r) was went =
       absurd (went was.under_way.l was.under_way.mode was.under_way.at was.under_way.call)
+  release_goes_on Halted was went =
+      absurd (went was.under_way.l was.under_way.mode was.under_way.at was.under_way.call)
 
   pub release_admitted : (next : Next) → IsReleasing f p
       → ((l : LockNo) (mode : Mode) (at : ReleaseAt) → p.call ≡ calls.Release l mode at
@@ -259,3 +276,4 @@ module _ (f : Floor Description) (p q : Pass Knowledge) (own : IsOf f q) where
   release_admitted (Wake t) was went = tt
   release_admitted (Reversed r) was went =
       went was.under_way.l was.under_way.mode was.under_way.at was.under_way.call
+  release_admitted Halted was went = went was.under_way.l was.under_way.mode was.under_way.at was.under_way.call

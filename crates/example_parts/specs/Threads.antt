@@ -9,7 +9,7 @@ use Rattle.lock_floor.specs.declared.calls.ReleaseAt.TheVariants.{Wakes}
 use Rattle.lock_floor.specs.Floors.{Floor, Pass}
 use Rattle.lock_floor.specs.Passes.{IsOf, IsReady}
 use Rattle.lock_calls.specs.declared.answers.Next.{Next}
-use Rattle.lock_calls.specs.declared.answers.Next.TheVariants.{Done, Again, Sleep, Wake, Reversed}
+use Rattle.lock_calls.specs.declared.answers.Next.TheVariants.{Done, Again, Sleep, Wake, Reversed, Halted}
 use Rattle.lock_calls.specs.Releases.{IsInRelease}
 use Rattle.lock_calls.specs.Takes.{IsInTake}
 use Rattle.adaptive_mutex.specs.Mutexes.{IsMutex, as_held}
@@ -72,18 +72,20 @@ Knows f Rests p = IsResting f p
 abbrev pub IsThread : Floor Description → Thread → Type 0
 IsThread f thread = Knows f thread.stage thread.pass
 
--- an answer that refuses nothing: a thread that holds nothing gets no other
+-- an answer that refuses nothing: a thread that holds nothing gets no other of a mutex
 abbrev pub IsAdmitted : Next → Type 0
 IsAdmitted Done = Unit {0}
 IsAdmitted Again = Unit {0}
 IsAdmitted Sleep = Unit {0}
 IsAdmitted (Wake t) = Unit {0}
 IsAdmitted (Reversed r) = ⊥
+IsAdmitted Halted = ⊥
 
--- the stage behind a part: on, unless the call is done. A take that was refused would be done too
+-- the stage behind a part: on, unless the call is done. A take that was refused or halted would be done too
 abbrev pub behind : Next → Stage → Stage → Stage
 behind Done on done = done
 behind Again on done = on
 behind Sleep on done = on
 behind (Wake t) on done = on
 behind (Reversed r) on done = done
+behind Halted on done = done

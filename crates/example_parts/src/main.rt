@@ -141,7 +141,7 @@ fn give_part(floor: &Floor, thread: &mut Thread, other: &mut Thread) -> Next
             other.sleeps = false;
             Next::Wake(woken)
         }
-        Next::Reversed(_) => unreachable!(),
+        Next::Reversed(_) | Next::Halted => unreachable!(),
     }
 }
 
@@ -154,7 +154,7 @@ fn tell<R: Print>(rt: &R, t: u32, next: Next, stage: Stage) -> Result<()>
         Next::Again => {}
         Next::Sleep => println!(rt; "thread {t} sleeps")?,
         Next::Wake(woken) => println!(rt; "thread {t} wakes thread {}", woken.0)?,
-        Next::Reversed(_) => unreachable!(),
+        Next::Reversed(_) | Next::Halted => unreachable!(),
     }
     Ok(())
 }
@@ -211,6 +211,6 @@ fn behind(next: Next, on: Stage, done: Stage) -> Stage
     match next {
         Next::Done => done,
         Next::Again | Next::Sleep | Next::Wake(_) => on,
-        Next::Reversed(_) => unreachable!(),
+        Next::Reversed(_) | Next::Halted => unreachable!(),
     }
 }

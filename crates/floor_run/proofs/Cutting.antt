@@ -1,17 +1,22 @@
--- A take that is refused cuts its thread short: it gives back what it holds, the lock gained last first.
+-- A take that is refused or halted cuts its thread short: it gives back what it holds, the lock gained last first.
 use Rattle.std.proofs.Common.{◌≡◌, ℕ, zero, suc, ◌+◌, ◌-◌, ◌<◌, ◌≤◌, Bool, true, false, cond, eqb, arith, List, [], ◌∷◌, ◌++◌, length, length-append, reverse, slice_get, take, Option, Some, None, sym, ap, ◌∙◌, subst, refl}
 use Rattle.std.proofs.lemmas.List.{take_all, reverse-append}
 use Rattle.std.proofs.lemmas.Option.{slice_get_within}
 use Rattle.lock_model.specs.Holds.{NotHeld, Holds}
-use Rattle.lock_model.specs.Law.{LeadsTo, Cut}
+use Rattle.lock_model.specs.Law.{LeadsTo, Gives, Cut}
 use Rattle.lock_model.specs.Law as law
 use Rattle.lock_model.specs.Operations.{IsProper, held_of, held_behind, held_after, of_locks, hold_in, without_lock}
 use Rattle.lock_model.specs.Plans.{config_of, operations_of}
-use Rattle.lock_model.specs.declared.numbers.ClassNo.{ClassNo}
 use Rattle.lock_model.specs.declared.numbers.LockNo.{LockNo}
+use Rattle.lock_model.specs.Words.{is_turnstile}
 use Rattle.lock_model.specs.declared.event.Entry.{Entry}
+use Rattle.lock_model.specs.declared.event.Event.{Event}
 use Rattle.lock_model.specs.declared.event.Event.TheVariants as event
 use Rattle.lock_model.specs.declared.event.Held.{Held}
+use Rattle.lock_model.specs.declared.event.Refused.{Refused}
+use Rattle.lock_model.specs.declared.event.Refused.TheVariants as refused
+use Rattle.lock_model.specs.declared.plan.Kind.{Kind}
+use Rattle.lock_model.specs.declared.plan.Kind.TheVariants.{Mtx, Rw, Sx}
 use Rattle.lock_model.specs.declared.plan.Mode.{Mode}
 use Rattle.lock_model.specs.declared.plan.Op.{Op}
 use Rattle.lock_model.specs.declared.plan.Op.TheVariants.{Take}
@@ -29,10 +34,10 @@ use Rattle.lock_floor.specs.Floors.{Floor, Pass}
 use Rattle.lock_floor.specs.Passes.{IsReady, MakesEntry}
 use Rattle.lock_floor.specs.Views.{entry_by}
 use Rattle.lock_calls.specs.Steps.{MayRelease}
+use Rattle.lock_calls.specs.Takes.{WasNotTaken}
 use Rattle.floor_run.specs.Progress.{IsBefore, IsCut}
-use Rattle.floor_run.specs.Runs.{HasOnlyTurnstileLocks}
 use Rattle.floor_run.specs.Workers.{IsWhole}
-use Rattle.floor_run.proofs.Operating.{was_stamped, is_covered}
+use Rattle.floor_run.proofs.Operating.{was_stamped, is_covered, same_kind}
 
 -- 1. A thread holds as many locks as it has operations left, or fewer
 
@@ -93,18 +98,20 @@ held_in_all l (suc k) (h ∷ hs) mode e = go (eqb h.l.0 l) (held_in_all l k hs m
     go true on i = i
     go false on i = on i
 
--- 2. A take is refused
+-- 2. A take is refused or halted
 
-module _ (plan : Plan) (f : Floor Description) (p : IsProper plan) (t n : ℕ) (x : Pass Knowledge)
-    (b : IsBefore plan f t n x) where
-  pub refused : (y : Pass Knowledge) (l : LockNo) (mode : Mode) (class : ClassNo)
-      → slice_get (operations_of plan t) n ≡ Some (Take l mode) → IsReady f y
-      → MakesEntry f.description (event.Reversed l class) x.view.share.held x.view y.view → IsCut plan f t y
-  refused y l mode class at ready made =
+module _ (plan : Plan) (f : Floor Description) (given : IsFor plan f.description) (p : IsProper plan) (t n : ℕ)
+    (x : Pass Knowledge) (b : IsBefore plan f t n x) where
+  -- an operation's entry leaves what is held, and cuts its thread short
+  cuts : (y : Pass Knowledge) (op : Op) (e : Event) → slice_get (operations_of plan t) n ≡ Some op
+      → Gives (config_of plan).kind (held_of (operations_of plan t) n) n op e
+      (Cut (reverse (held_of (operations_of plan t) n)))
+      → IsReady f y → MakesEntry f.description e x.view.share.held x.view y.view → IsCut plan f t y
+  cuts y op e at gives ready made =
       let ops : List Op = operations_of plan t in
-      let entry : Entry = entry_by x.view.thread made.ticket (event.Reversed l class) in
+      let entry : Entry = entry_by x.view.thread made.ticket e in
       let holds : y.view.share.held ≡ held_of ops n = made.held ∙ b.held in
-      let low : n < length ops = slice_get_within ops n (Take l mode) at in
+      let low : n < length ops = slice_get_within ops n op at in
       let few = few_held plan p t (length ops - n) n (omega (arith, low)) in
       record {
         ready = ready;
@@ -113,17 +120,30 @@ module _ (plan : Plan) (f : Floor Description) (p : IsProper plan) (t n : ℕ) (
         left = length (held_of ops n);
         held = holds ∙ sym (take_all (length (held_of ops n)) (held_of ops n) (omega arith));
         leads = subst (λ (z : List Entry × List Held). LeadsTo (config_of plan).kind ops z.0 (Cut (reverse z.1)))
-            (λ i. (sym made.log i, sym holds i))
-            (law.goes_on entry b.leads at (law.is_reversed l mode class));
-        stamped = was_stamped f.description t x.view y.view (event.Reversed l class) x.view.share.held b.thread
-            b.stamped made;
+            (λ i. (sym made.log i, sym holds i)) (law.goes_on entry b.leads at gives);
+        stamped = was_stamped f.description t x.view y.view e x.view.share.held b.thread b.stamped made;
         room = omega (arith, b.room, made.spare, few, low, ap length holds);
       }
+
+  -- of a kind without turnstiles there is one
+  is_sx : (k : Kind) → is_turnstile k ≡ false → k ≡ Sx
+  is_sx Mtx e = absurd cc
+  is_sx Rw e = absurd cc
+  is_sx Sx e = refl
+
+  pub not_taken : (y : Pass Knowledge) (l : LockNo) (mode : Mode) (r : Refused)
+      → slice_get (operations_of plan t) n ≡ Some (Take l mode) → IsReady f y
+      → WasNotTaken f.description l mode r x.view y.view → IsCut plan f t y
+  not_taken y l mode (refused.Reversal r) at ready was =
+      cuts y (Take l mode) (event.Reversed l r.held) at (law.is_reversed l mode r.held) ready was.entry
+  not_taken y l mode (refused.Halted h) at ready was =
+      cuts y (Take l mode) (event.HaltedLock l) at
+      (law.is_halted l mode (sym (same_kind plan f.description given l.0) ∙ is_sx _ was.sleeps)) ready was.entry
 
 -- 3. It gives back the lock that it gained last
 
 module _ (plan : Plan) (f : Floor Description) (given : IsFor plan f.description) (p : IsProper plan)
-    (m : HasOnlyTurnstileLocks plan) (t : ℕ) (x : Pass Knowledge) (b : IsCut plan f t x) (hs : List Held) (h : Held)
+    (t : ℕ) (x : Pass Knowledge) (b : IsCut plan f t x) (hs : List Held) (h : Held)
     (last : x.view.share.held ≡ hs ++ h ∷ []) where
   abbrev all : List Held
   all = held_of (operations_of plan t) b.n
@@ -148,7 +168,7 @@ module _ (plan : Plan) (f : Floor Description) (given : IsFor plan f.description
       let locks = held_are_locks plan p t b.n in (
         its_last.last.mode,
         record {
-          covered = is_covered plan f.description given m h.l.0 its_last.last.mode
+          covered = is_covered plan f.description given h.l.0 its_last.last.mode
               (locks.within h.l.0 (λ none. let z : NotHeld ≡ Holds its_last.last.mode = sym none ∙ among in cc))
               (locks.mutexes h.l.0 its_last.last.mode among);
           held = holds_last;

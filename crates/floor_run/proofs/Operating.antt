@@ -5,7 +5,7 @@ use Rattle.std.specs.List.{Contains, list_any}
 use Rattle.std.proofs.lemmas.Bool.{not-true}
 use Rattle.std.proofs.lemmas.List.Sums.{sum_by-cons}
 use Rattle.std.proofs.lemmas.Map.Keys.{any_passes_from_place}
-use Rattle.std.proofs.lemmas.Option.{none-some, slice_get-map, slice_get_within, get_or_from_slice_get}
+use Rattle.std.proofs.lemmas.Option.{none-some, slice_get-map, slice_get_within}
 use Rattle.lock_model.proofs.LeastCodes.{passed}
 use Rattle.lock_model.specs.Holds.{Hold, NotHeld, Holds, is_exclusive}
 use Rattle.lock_model.specs.Keys.{op_names, plan_names}
@@ -15,7 +15,7 @@ use Rattle.lock_model.specs.Limits.{most_held}
 use Rattle.lock_model.specs.Operations.{IsProper, held_of, held_behind, hold_in, without_lock, acquiring_tests, edit_tests, channel_test}
 use Rattle.lock_model.specs.Plans.{config_of, operations_of, lock_kind}
 use Rattle.lock_model.specs.Tests.{Test, Passes}
-use Rattle.lock_model.specs.Words.{is_turnstile, admits, word_of}
+use Rattle.lock_model.specs.Words.{admits, word_of}
 use Rattle.lock_model.specs.declared.numbers.LockNo.{LockNo}
 use Rattle.lock_model.specs.declared.numbers.ChanNo.{ChanNo}
 use Rattle.lock_model.specs.declared.numbers.Prio.{Prio}
@@ -24,7 +24,6 @@ use Rattle.lock_model.specs.declared.event.Event.{Event}
 use Rattle.lock_model.specs.declared.event.Event.TheVariants as event
 use Rattle.lock_model.specs.declared.event.Held.{Held}
 use Rattle.lock_model.specs.declared.plan.Kind.TheVariants.{Mtx}
-use Rattle.lock_model.specs.declared.plan.LockDecl.{LockDecl}
 use Rattle.lock_model.specs.declared.plan.Mode.{Mode}
 use Rattle.lock_model.specs.declared.plan.Mode.TheVariants.{Excl}
 use Rattle.lock_model.specs.declared.plan.Op.{Op}
@@ -46,7 +45,7 @@ use Rattle.lock_calls.proofs.First.{ready_first}
 use Rattle.lock_calls.specs.Steps.{IsCovered, MayTake, MayRelease, as_taken}
 use Rattle.lock_calls.specs.Tries.{WasBusyFor, as_tried}
 use Rattle.floor_run.specs.Progress.{IsBefore}
-use Rattle.floor_run.specs.Runs.{HasOnlyTurnstileLocks}
+use Rattle.floor_run.specs.Runs.{HasNoChannels}
 use Rattle.floor_run.specs.Workers.{WasStamped, WereStamped, IsWhole}
 
 -- 1. The begin and the end
@@ -72,18 +71,6 @@ at_last plan f t n x b over =
 
 -- 2. Kinds and keys
 
-its_turnstile : (plan : Plan) → HasOnlyTurnstileLocks plan → (l : ℕ) → is_turnstile (lock_kind plan l) ≡ true
-its_turnstile plan m l =
-    ap (λ k. is_turnstile (unwrap_or k Mtx)) (slice_get-map (λ (d : LockDecl). d.kind) plan.locks l)
-    ∙ go (slice_get plan.locks l) refl
-  where
-    go : (o : Option LockDecl) → slice_get plan.locks l ≡ o
-        → is_turnstile (unwrap_or (option_map (λ d. d.kind) o) Mtx) ≡ true
-    go None e = refl
-    go (Some d) e =
-        ap (λ (x : LockDecl). is_turnstile x.kind) (sym (get_or_from_slice_get plan.locks l d d e))
-        ∙ m.locks l d (slice_get_within plan.locks l d e)
-
 -- an operation of the thread that names a key
 plan_named : (plan : Plan) (t n l key : ℕ) (op : Op) → slice_get (operations_of plan t) n ≡ Some op
     → op_names l key op ≡ true → IsTrue (plan_names plan l key)
@@ -106,16 +93,15 @@ named plan floor given t n l key op e i =
     (found_key l key (keys_in plan.threads) (keys_are_named plan l key ∙ plan_named plan t n l key op e i))
 
 -- the floor's kinds are the plan's
-same_kind : (plan : Plan) (floor : Description) → IsFor plan floor → (l : ℕ)
+pub same_kind : (plan : Plan) (floor : Description) → IsFor plan floor → (l : ℕ)
     → (config_in floor).kind l ≡ lock_kind plan l
 same_kind plan floor given l = ap (λ c. c.kind l) (ap config_in given ∙ same_config plan floor.chains)
 
 -- the calls are there for a lock of the plan, in a mode of its kind
-pub is_covered : (plan : Plan) (floor : Description) → IsFor plan floor → HasOnlyTurnstileLocks plan → (l : ℕ)
+pub is_covered : (plan : Plan) (floor : Description) → IsFor plan floor → (l : ℕ)
     (mode : Mode) → l < length plan.locks → (lock_kind plan l ≡ Mtx → mode ≡ Excl) → IsCovered floor l mode
-is_covered plan floor given m l mode low of_mutex = record {
+is_covered plan floor given l mode low of_mutex = record {
   lock = subst (λ c. l < c.locks) (sym (ap config_in given ∙ same_config plan floor.chains)) low;
-  turnstile = ap is_turnstile (same_kind plan floor given l) ∙ its_turnstile plan m l;
   mutex = λ e. of_mutex (sym (same_kind plan floor given l) ∙ e);
 }
 
@@ -151,8 +137,8 @@ was_stamped floor t old new e hs its before made =
 
 -- 3. What the next operation finds
 
-module _ (plan : Plan) (f : Floor Description) (given : IsFor plan f.description) (p : IsProper plan)
-    (m : HasOnlyTurnstileLocks plan) (t n : ℕ) (x : Pass Knowledge) (b : IsBefore plan f t n x) where
+module _ (plan : Plan) (f : Floor Description) (given : IsFor plan f.description) (p : IsProper plan) (t n : ℕ)
+    (x : Pass Knowledge) (b : IsBefore plan f t n x) where
   abbrev ops : List Op
   ops = operations_of plan t
 
@@ -171,7 +157,7 @@ module _ (plan : Plan) (f : Floor Description) (given : IsFor plan f.description
   may_acquire op l mode e tests =
       let g = gain_passes plan l mode false held _ tests refl in
       record {
-        covered = is_covered plan f.description given m l.0 mode g.lock g.mutex;
+        covered = is_covered plan f.description given l.0 mode g.lock g.mutex;
         unheld = holds_so l.0 ∙ g.unheld;
         few = subst (λ (hs : List Held). length hs < most_held) (sym b.held) g.few;
         room = room_for_one op e;
@@ -203,7 +189,7 @@ module _ (plan : Plan) (f : Floor Description) (given : IsFor plan f.description
       let locks = held_are_locks plan p t n in (
         so.0,
         record {
-          covered = is_covered plan f.description given m l.0 so.0
+          covered = is_covered plan f.description given l.0 so.0
               (locks.within l.0 (release_fits plan l held _ (next_leads plan p t n (Release l) e)).0)
               (locks.mutexes l.0 so.0 so.1);
           held = holds_so l.0 ∙ so.1;
@@ -345,15 +331,16 @@ module _ (plan : Plan) (f : Floor Description) (given : IsFor plan f.description
       → MakesEntry f.description (event.Shown base eff) x.view.share.held x.view y.view → IsBefore plan f t (suc n) y
   shown y base eff e = keeps y Show (event.Shown base eff) e refl (law.shows base eff)
 
-  -- such a plan has no channels
-  no_channel : (d : ChanNo) (tests : List Test) → Passes (channel_test plan.chans d ∷ tests) → ⊥
-  no_channel d tests e = absurd (omega (arith, wake_fits plan d tests e, ap (λ ds. length ds) m.chans))
+  -- a plan without channels has no wait and no waking
+  module _ (m : HasNoChannels plan) where
+    no_channel : (d : ChanNo) (tests : List Test) → Passes (channel_test plan.chans d ∷ tests) → ⊥
+    no_channel d tests e = absurd (omega (arith, wake_fits plan d tests e, ap (λ ds. length ds) m))
 
-  pub no_sleep : (d : ChanNo) → slice_get ops n ≡ Some (Sleep d) → ⊥
-  no_sleep d e = no_channel d _ (next_leads plan p t n (Sleep d) e).passes
+    pub no_sleep : (d : ChanNo) → slice_get ops n ≡ Some (Sleep d) → ⊥
+    no_sleep d e = no_channel d _ (next_leads plan p t n (Sleep d) e).passes
 
-  pub no_wake_one : (d : ChanNo) → slice_get ops n ≡ Some (WakeOne d) → ⊥
-  no_wake_one d e = no_channel d _ (next_leads plan p t n (WakeOne d) e).passes
+    pub no_wake_one : (d : ChanNo) → slice_get ops n ≡ Some (WakeOne d) → ⊥
+    no_wake_one d e = no_channel d _ (next_leads plan p t n (WakeOne d) e).passes
 
-  pub no_wake_all : (d : ChanNo) → slice_get ops n ≡ Some (WakeAll d) → ⊥
-  no_wake_all d e = no_channel d _ (next_leads plan p t n (WakeAll d) e).passes
+    pub no_wake_all : (d : ChanNo) → slice_get ops n ≡ Some (WakeAll d) → ⊥
+    no_wake_all d e = no_channel d _ (next_leads plan p t n (WakeAll d) e).passes

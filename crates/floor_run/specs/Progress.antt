@@ -23,9 +23,9 @@ pub record IsBefore (plan : Plan) (f : Floor Description) (t n : ℕ) (p : Pass 
     pub stamped : WereStamped f.description t p.view.share.log
     pub room : 2 * length (operations_of plan t) ≤ p.view.spare + 2 * n
 
--- A thread was cut short by a refusal, and gives back what it holds, the lock that it gained last first. Its pass is
--- ready; of the locks to which the operations before n lead it holds so many of the first; its log leads there, and a
--- step of the floor made each entry; and it has room for an entry for each lock that is left.
+-- A thread was cut short by a refusal or a halt, and gives back what it holds, the lock that it gained last first. Its
+-- pass is ready; of the locks to which the operations before n lead it holds so many of the first; its log leads there,
+-- and a step of the floor made each entry; and it has room for an entry for each lock that is left.
 pub record IsCut (plan : Plan) (f : Floor Description) (t : ℕ) (p : Pass Knowledge) : Type 0 where
   pub ready : IsReady f p
   pub thread : p.view.thread ≡ t

@@ -1,12 +1,11 @@
 -- What a run of a plan's threads leaves to be printed.
 use Rattle.std.specs.Prelude.{◌≡◌, ℕ, Bool, true, false, if◌then◌else◌, List, [], map, reverse}
 use Rattle.std.specs.FinMap.{entries}
-use Rattle.std.specs.List.{All, list_any}
+use Rattle.std.specs.List.{list_any}
 use Rattle.lock_model.specs.History.{base_in, tables_of}
 use Rattle.lock_model.specs.Law.{IsLegal, is_halt}
 use Rattle.lock_model.specs.Plans.{config_of}
 use Rattle.lock_model.specs.Text.{Outcome, Ending, IsStuck}
-use Rattle.lock_model.specs.Words.{is_turnstile}
 use Rattle.lock_model.specs.declared.event.Entry.{Entry}
 use Rattle.lock_model.specs.declared.plan.Plan.{Plan}
 use Rattle.lock_state.specs.Run.{threads_of, whole_ending}
@@ -46,8 +45,6 @@ pub record IsRunOf (plan : Plan) (chains : ℕ) (o : Outcome) (x : Closing) : Ty
   pub closing : IsClosing (description_of plan chains) (threads_of plan) x
   pub same : closing.history ≡ run.history
 
--- A plan of locks whose threads block on turnstiles, which are mutexes and reader-writer locks, without condition
--- variables and channels: the plans whose threads run so far
-pub record HasOnlyTurnstileLocks (plan : Plan) : Type 0 where
-  pub locks : All (λ d. is_turnstile d.kind ≡ true) plan.locks
-  pub chans : plan.chans ≡ []
+-- A plan that declares no condition variable and no channel: the plans whose threads run so far
+abbrev pub HasNoChannels : Plan → Type 0
+HasNoChannels plan = plan.chans ≡ []

@@ -10,6 +10,6 @@ mod plans;
 mod run;
 mod worker;
 
-pub use plans::has_only_turnstile_locks;
+pub use plans::has_no_channels;
 pub use run::run_plan;
 pub use worker::work;

@@ -9,7 +9,7 @@ ghost use Rattle.floor_table.specs.Descriptions.{IsFor, description_of};
 ghost use Rattle.lock_floor.specs.Closings.{IsClosing};
 ghost use Rattle.lock_floor.specs.Passes.{IsKeeperOf, IsFinished};
 ghost use Rattle.floor_run.specs.Progress.{IsNew, IsDone};
-ghost use Rattle.floor_run.specs.Runs.{IsRunOf, HasOnlyTurnstileLocks, has_halt, ending_of_run, outcome_of};
+ghost use Rattle.floor_run.specs.Runs.{IsRunOf, HasNoChannels, has_halt, ending_of_run, outcome_of};
 
 use crate::worker::work;
 use lock_floor::{Closing, Floor, Keeper, Pass};
@@ -26,9 +26,9 @@ use thread_records::ThreadRec;
 /// have come to their end. Gives what is to be printed of the run, and what is left of the floor. It takes no memory
 /// between the start of the first worker and the end of the last.
 ///
-/// The plan is one that some script gives, of mutexes and reader-writer locks alone, and the floor has so many chains
-/// of each sort: one, as `lock_calls::take` asks it. Where no thread can be started, the workers run one after another,
-/// and the call may then not return.
+/// The plan is one that some script gives, with locks of any kind, and without condition variables and channels. The
+/// floor has so many chains of each sort: one, as `lock_calls::take_or_halt` asks it. Where no thread can be started,
+/// the workers run one after another, and the call may then not return.
 pub fn run_plan<R: Threads + Wait + Sync, G: Gate>(
     rt: &R,
     alloc: Global,
@@ -37,7 +37,7 @@ pub fn run_plan<R: Threads + Wait + Sync, G: Gate>(
     gate: &G,
 ) -> Result<(Outcome, Closing), AllocError>
     requires proper { IsProper plan.now }
-    requires locks { HasOnlyTurnstileLocks plan.now }
+    requires channels { HasNoChannels plan.now }
     requires one_chain { chains ≡ 1 }
     ensures { IfOk result (λ r. IsRunOf plan.now chains (outcome_seen r.0) r.1) }
 {
@@ -59,7 +59,7 @@ fn work_all<R: Threads + Wait + Sync, G: Gate>(
 )
     requires given { IsFor plan.now floor.now.description }
     requires proper { IsProper plan.now }
-    requires locks { HasOnlyTurnstileLocks plan.now }
+    requires channels { HasNoChannels plan.now }
     requires one_chain { floor.now.description.chains ≡ 1 }
     requires new { (t : ℕ) (d : _) → t < length passes.old
         → IsNew floor.now t (slice_index_or passes.old t d) }
@@ -73,7 +73,7 @@ fn work_all<R: Threads + Wait + Sync, G: Gate>(
         workers,
         &|t, pass: &mut Pass|
             requires { IsFor plan.now floor.now.description × IsProper plan.now
-                × HasOnlyTurnstileLocks plan.now × (floor.now.description.chains ≡ 1)
+                × HasNoChannels plan.now × (floor.now.description.chains ≡ 1)
                 × IsNew floor.now t pass.now }
             ensures { IsDone plan.entry.now floor.entry.now t pass.exit.now }
         { work(rt, floor, pass, plan, gate) },

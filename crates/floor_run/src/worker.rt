@@ -5,7 +5,7 @@ ghost use Rattle.lock_model.specs.Plans.{operations_of};
 ghost use Rattle.floor_table.specs.Descriptions.{IsFor};
 ghost use Rattle.lock_floor.specs.Passes.{IsReady, IsFinished, first_pass};
 ghost use Rattle.floor_run.specs.Progress.{IsBefore, IsCut};
-ghost use Rattle.floor_run.specs.Runs.{HasOnlyTurnstileLocks};
+ghost use Rattle.floor_run.specs.Runs.{HasNoChannels};
 ghost use Rattle.floor_run.specs.Workers.{IsWhole};
 
 use lock_floor::{Change, Floor, Pass};
@@ -17,11 +17,12 @@ use std::sync::Wait;
 ///
 /// It asks the gate before each operation, with its place from 0, and so before an `endtry` that it comes to, which
 /// makes no entry. Of the operations in the block of a try that failed it makes none, and asks before none. A take that
-/// is refused by the order of locks cuts the thread short: it gives back what it holds, the lock gained last first.
+/// the order of locks refuses, or that is halted in its sleep, cuts the thread short: it gives back what it holds, the
+/// lock gained last first.
 pub fn work<R: Wait, G: Gate>(rt: &R, floor: &Floor, pass: &mut Pass, plan: &Plan, gate: &G)
     requires given { IsFor plan.now floor.now.description }
     requires proper { IsProper plan.now }
-    requires locks { HasOnlyTurnstileLocks plan.now }
+    requires channels { HasNoChannels plan.now }
     requires one_chain { floor.now.description.chains ≡ 1 }
     requires thread { pass.old.view.thread < length plan.now.threads }
     requires first { pass.old
@@ -36,12 +37,12 @@ pub fn work<R: Wait, G: Gate>(rt: &R, floor: &Floor, pass: &mut Pass, plan: &Pla
     floor.finish(rt, pass);
 }
 
-// Makes the operations of a pass's thread, in order, or those before a take that is refused: then it gives back what it
-// holds.
+// Makes the operations of a pass's thread, in order, or those before a take that is refused or halted: then it gives
+// back what it holds.
 fn operate_all<R: Wait, G: Gate>(rt: &R, floor: &Floor, pass: &mut Pass, plan: &Plan, gate: &G)
     requires given { IsFor plan.now floor.now.description }
     requires proper { IsProper plan.now }
-    requires locks { HasOnlyTurnstileLocks plan.now }
+    requires channels { HasNoChannels plan.now }
     requires one_chain { floor.now.description.chains ≡ 1 }
     requires thread { pass.old.view.thread < length plan.now.threads }
     requires first { pass.old
@@ -70,7 +71,6 @@ fn operate_all<R: Wait, G: Gate>(rt: &R, floor: &Floor, pass: &mut Pass, plan: &
 fn give_back<R: Wait>(rt: &R, floor: &Floor, pass: &mut Pass, plan: &Plan)
     requires given { IsFor plan.now floor.now.description }
     requires proper { IsProper plan.now }
-    requires locks { HasOnlyTurnstileLocks plan.now }
     requires cut { IsCut plan.now floor.now pass.old.view.thread pass.old }
     ensures cut { IsCut plan.now floor.now pass.old.view.thread pass.new }
     ensures unheld { pass.new.view.share.held ≡ [] }
@@ -82,7 +82,7 @@ fn give_back<R: Wait>(rt: &R, floor: &Floor, pass: &mut Pass, plan: &Plan)
 }
 
 // Makes an operation that the plan has for the pass's thread, and answers which is its next. `None` comes where its
-// take was refused: then the thread is cut short.
+// take was refused or halted: then the thread is cut short.
 fn operate<R: Wait>(
     rt: &R,
     floor: &Floor,
@@ -93,7 +93,7 @@ fn operate<R: Wait>(
 ) -> Option<usize>
     requires given { IsFor plan.now floor.now.description }
     requires proper { IsProper plan.now }
-    requires locks { HasOnlyTurnstileLocks plan.now }
+    requires channels { HasNoChannels plan.now }
     requires one_chain { floor.now.description.chains ≡ 1 }
     requires before { IsBefore plan.now floor.now pass.old.view.thread n pass.old }
     requires op { slice_get (operations_of plan.now pass.old.view.thread) n ≡ Some op }
@@ -103,7 +103,7 @@ fn operate<R: Wait>(
     ensures cut { IfNone result (IsCut plan.now floor.now pass.old.view.thread pass.new) }
 {
     match op {
-        Op::Take { l, mode } => match lock_calls::take(floor, rt, pass, l, mode) {
+        Op::Take { l, mode } => match lock_calls::take_or_halt(floor, rt, pass, l, mode) {
             Ok(()) => {}
             Err(_) => return None,
         },

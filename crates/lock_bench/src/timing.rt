@@ -1,12 +1,12 @@
 //! Timing one run of a case.
 ghost use Rattle.std.specs.Prelude.{IfOk};
 ghost use Rattle.lock_model.specs.Operations.{IsProper};
-ghost use Rattle.floor_run.specs.Runs.{HasOnlyTurnstileLocks};
+ghost use Rattle.floor_run.specs.Runs.{HasNoChannels};
 
 use crate::gate::TimingGate;
 use crate::scripts::{Case, Round};
 use anyhow::{Result, bail};
-use floor_run::{has_only_turnstile_locks, run_plan};
+use floor_run::{has_no_channels, run_plan};
 use lock_model::limits::LOCKS;
 use lock_model::{Entry, Event, Plan, ThreadNo};
 use script_read::read_script;
@@ -27,14 +27,14 @@ pub struct Figures {
     pub waits: Vec<u64>,
 }
 
-/// The plan of a script of mutexes or reader-writer locks.
+/// The plan of a script of locks alone.
 pub fn plan_of(alloc: Global, script: &str) -> Result<Plan>
     ensures proper { IfOk result IsProper }
-    ensures locks { IfOk result HasOnlyTurnstileLocks }
+    ensures channels { IfOk result HasNoChannels }
 {
     let plan = read_script(alloc, script.as_bytes())?;
-    if !has_only_turnstile_locks(&plan) {
-        bail!("the script has other locks than mutexes and reader-writer locks");
+    if !has_no_channels(&plan) {
+        bail!("the script has a condition or a channel");
     }
     Ok(plan)
 }
@@ -48,7 +48,7 @@ pub fn time_of<R: Threads + Wait + Clock + Sync>(
     rounds: usize,
 ) -> Result<Figures>
     requires proper { IsProper plan.now }
-    requires locks { HasOnlyTurnstileLocks plan.now }
+    requires channels { HasNoChannels plan.now }
 {
     let gate = TimingGate::new(rt, alloc, case, rounds)?;
     let (outcome, _closing) = run_plan(rt, alloc, plan, CHAINS, &gate)?;

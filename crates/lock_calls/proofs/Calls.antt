@@ -13,7 +13,7 @@ use Rattle.lock_floor.specs.declared.calls.TakeAt.TheVariants.{Checks, Spins, Co
 use Rattle.lock_floor.specs.Floors.{Floor, Pass}
 use Rattle.lock_floor.specs.Passes.{IsOf}
 use Rattle.lock_calls.specs.declared.answers.Next.{Next}
-use Rattle.lock_calls.specs.declared.answers.Next.TheVariants.{Done, Again, Sleep, Wake, Reversed}
+use Rattle.lock_calls.specs.declared.answers.Next.TheVariants.{Done, Again, Sleep, Wake, Reversed, Halted}
 use Rattle.lock_calls.specs.Releases.{IsInRelease, IsUnderRelease, GoesOnReleasing}
 use Rattle.lock_calls.specs.Takes.{IsInTake, IsUnderTake, TakesOn, GoesOnTaking, next_at}
 
@@ -96,6 +96,9 @@ take_stands floor l mode at to p q (Wake t) is call on =
 take_stands floor l mode at to p q (Reversed r) is call on =
     absurd (no_other_next to (Reversed r) is (λ e. let z : Reversed r ≡ Again = e in cc)
     (λ e. let z : Reversed r ≡ Sleep = e in cc))
+take_stands floor l mode at to p q Halted is call on =
+    absurd (no_other_next to Halted is (λ e. let z : Halted ≡ Again = e in cc)
+    (λ e. let z : Halted ≡ Sleep = e in cc))
 
 -- 3. A release
 

@@ -1,13 +1,12 @@
 -- A take as it leaves the section of the lock's chain: it gained the lock there, runs on and gives both back; or it
--- stands on the lock's turnstile, and gives both back.
-use Rattle.std.proofs.Common.{◌≡◌, ℕ, ◌≤◌, true, false, Option, Some, None, [], ◌∷◌, refl, sym, ap, ◌∙◌, subst}
-use Rattle.std.specs.Box.{with_value}
-use Rattle.lock_model.specs.Queues.{lock_queue, side_of}
+-- stands on the lock's queue, and gives both back.
+use Rattle.std.proofs.Common.{◌≡◌, ℕ, ◌<◌, ◌≤◌, Bool, true, false, Option, Some, None, [], ◌∷◌, length, refl, sym, ap, ◌∙◌, subst}
+use Rattle.lock_model.specs.Queues.{lock_queue}
+use Rattle.lock_model.specs.Words.{is_turnstile}
 use Rattle.lock_model.specs.declared.event.Event.TheVariants.{Locked}
 use Rattle.lock_model.specs.declared.event.Held.{Held}
 use Rattle.lock_model.specs.declared.numbers.LockNo.{LockNo}
 use Rattle.lock_model.specs.declared.plan.Mode.{Mode}
-use Rattle.lock_objects.specs.Enters.{waiter_of, record_entered, chain_entered}
 use Rattle.lock_objects.specs.Represents.{walk_of}
 use Rattle.lock_state.specs.Steps.{Looks, Unreadies, Stamps}
 use Rattle.lock_state.specs.Steps.Items.{is_bound}
@@ -15,16 +14,17 @@ use Rattle.lock_state.specs.Steps.LockWords.{is_taking_back}
 use Rattle.lock_state.specs.Steps.Turnstiles.{walk_up}
 use Rattle.prio_lending.specs.declared.walk.Walk as run_time
 use Rattle.floor_table.specs.declared.description.Description.{Description}
-use Rattle.floor_table.specs.declared.slot.Slot.TheVariants.{Record, Turnstiles}
+use Rattle.floor_table.specs.Descriptions.{config_in}
+use Rattle.floor_table.specs.declared.slot.Slot.TheVariants.{Record}
 use Rattle.floor_table.specs.Steps.{Makes, MakesEach, MayMake}
 use Rattle.floor_table.specs.Views.{Runs, IsReady, StandsOn, Knowledge, seeing}
 use Rattle.lock_floor.specs.declared.calls.TakeAt.TheVariants.{Contends, Walks}
-use Rattle.lock_floor.specs.Opens.{HasBothOut}
 use Rattle.lock_floor.specs.Passes.{IsGoing}
 use Rattle.lock_floor.specs.Views.{gained}
-use Rattle.lock_floor.specs.Waits.{readied, both_out, out_entered, entered}
+use Rattle.lock_floor.specs.Waits.{readied, entered}
 use Rattle.lock_floor.specs.Walks.{IsOnFloor, CanWalk}
 use Rattle.lock_floor.proofs.MayWait as wait
+use Rattle.lock_calls.specs.Sections.{HasRecordAndChain}
 use Rattle.lock_calls.specs.Steps.{IsCovered, as_taken, gives_both}
 use Rattle.lock_calls.specs.Takes.{IsStanding, TakesOn, TakeEnd, in_section, enters, looks_there}
 use Rattle.lock_calls.specs.Waiting.{kept_of, IsCalling, IsThere, GainsStep, EntersStep, MissesThere, HasGained, with_none_out}
@@ -50,7 +50,7 @@ module _ (floor : Description) (l : LockNo) (mode : Mode) (a b : Knowledge) (cal
 
   pub may_run_on : MayMake floor b (λ s. Unit {0}) (Unreadies b.thread (lock_queue l.0) ∷ [])
   may_run_on =
-      wait.may_unready floor b (lock_queue l.0) (Record g.both.box) (Turnstiles g.both.chain) g.both.out
+      wait.may_unready floor b (lock_queue l.0) (Record g.both.box) g.both.chain g.both.out
       (ap (λ (k : Knowledge). k.pose) g.view ∙ there.ready) gained_going
       (λ back e f h.
       let z : true ≡ false = sym back ∙ ap (λ (k : Knowledge). is_taking_back k.share.log) g.view ∙ calls.no_wait in
@@ -60,9 +60,9 @@ module _ (floor : Description) (l : LockNo) (mode : Mode) (a b : Knowledge) (cal
     ran_is : w ≡ seeing w.seen (readied false (record (gained a hold) { out = g.out }))
     ran_is = view ∙ ap (λ (k : Knowledge). seeing w.seen (readied false k)) g.view
 
-    pub both_ran : HasBothOut floor l.0 w
-    both_ran = subst (HasBothOut floor l.0) (sym view)
-        (record { box = g.both.box; chain = g.both.chain; out = g.both.out })
+    pub both_ran : HasRecordAndChain floor l.0 w
+    both_ran = subst (HasRecordAndChain floor l.0) (sym view)
+        (record { box = g.both.box; chain = g.both.chain; of_lock = g.both.of_lock; out = g.both.out })
 
     pub runs_on : w.pose ≡ Runs
     runs_on = ap (λ (k : Knowledge). k.pose) view
@@ -111,31 +111,29 @@ module _ (floor : Description) (l : LockNo) (mode : Mode) (a b : Knowledge) (cal
             ),
           )
 
--- 2. It stands on the lock's turnstile
+-- 2. It stands on the lock's queue
 
-on_floor : (floor : Description) (l : ℕ) (mode : Mode) → IsCovered floor l mode → (o : Option ℕ)
-    → IsOnFloor floor (walk_up l o)
-on_floor floor l mode covered None = tt
-on_floor floor l mode covered (Some t) = (covered.lock, covered.turnstile)
+-- where a walk begins at an owner, the lock has a turnstile
+on_floor : (floor : Description) (l : ℕ) → l < length floor.locks → (o : Option ℕ)
+    → (is_turnstile ((config_in floor).kind l) ≡ false → o ≡ None) → IsOnFloor floor (walk_up l o)
+on_floor floor l low None ownerless = tt
+on_floor floor l low (Some t) ownerless = (low, go (is_turnstile ((config_in floor).kind l)) refl)
+  where
+    go : (b : Bool) → is_turnstile ((config_in floor).kind l) ≡ b → is_turnstile ((config_in floor).kind l) ≡ true
+    go true e = e
+    go false e = absurd (let z : Some t ≡ None = ownerless e in cc)
 
 module _ (floor : Description) (l : LockNo) (mode : Mode) (covered : IsCovered floor l.0 mode)
     (one_chain : floor.chains ≡ 1) (a b : Knowledge) (calls : IsCalling floor (kept_of a)) (there : IsThere floor l.0 a)
     (to : run_time.Walk) (e : EntersStep floor l.0 mode (walk_of to) a b) where
   abbrev stands : Knowledge
-  stands = entered a l.0 e.owner (out_entered floor a.thread l.0 mode e.turnstile e.owner e.both.box e.both.chain)
+  stands = entered a l.0 e.owner e.out
 
   its_stands : b.thread ≡ a.thread
   its_stands = ap (λ (k : Knowledge). k.thread) e.view
 
-  pub both_stands : HasBothOut floor l.0 b
-  both_stands =
-      let box = with_value e.both.box (record_entered l.0 e.both.box.value) in
-      let chain = chain_entered l.0 (side_of mode) e.turnstile e.owner (waiter_of e.both.box.value) e.both.chain in
-      record {
-        box = box;
-        chain = chain;
-        out = ap (λ (k : Knowledge). k.out) e.view ∙ ap (λ t. both_out floor t l.0 box chain) (sym its_stands);
-      }
+  pub both_stands : HasRecordAndChain floor l.0 b
+  both_stands = e.both
 
   pub stands_on : b.pose ≡ StandsOn (lock_queue l.0)
   stands_on = ap (λ (k : Knowledge). k.pose) e.view
@@ -170,7 +168,7 @@ module _ (floor : Description) (l : LockNo) (mode : Mode) (covered : IsCovered f
     can_walk : CanWalk floor w
     can_walk = record {
       one_chain = one_chain;
-      on_floor = subst (IsOnFloor floor) (sym walk_there) (on_floor floor l.0 mode covered e.owner);
+      on_floor = subst (IsOnFloor floor) (sym walk_there) (on_floor floor l.0 covered.lock e.owner e.ownerless);
       settled = λ ready. let z : StandsOn (lock_queue l.0) ≡ IsReady = sym (ap (λ (k : Knowledge). k.pose) given_is)
           ∙ ready in cc;
       nothing_out = ap (λ (k : Knowledge). k.out) given_is;
@@ -190,7 +188,7 @@ module _ (floor : Description) (l : LockNo) (mode : Mode) (covered : IsCovered f
         record {
           there = (is_standing, can_walk);
           kept = ap kept_of given_is;
-          leg = enters seen e.turnstile to (b, e.step, give_steps);
+          leg = enters seen e.object to (b, e.step, give_steps);
         }
 
 -- 3. Its exchange missed

@@ -18,17 +18,17 @@ use Rattle.lock_floor.specs.declared.calls.TakeAt.TheVariants.{Checks}
 use Rattle.lock_floor.specs.Floors.{Pass}
 use Rattle.lock_floor.specs.Passes.{IsAtRest, MakesEntry}
 use Rattle.lock_calls.specs.declared.answers.Next.{Next}
-use Rattle.lock_calls.specs.declared.answers.Next.TheVariants.{Done, Again, Sleep, Wake, Reversed}
+use Rattle.lock_calls.specs.declared.answers.Next.TheVariants.{Done, Again, Sleep, Wake, Reversed, Halted}
 use Rattle.lock_calls.specs.Releases as released
 use Rattle.lock_calls.specs.Releases.{IsUnderRelease, HasBegunRelease, StandsInRelease, ReleasesAtOnce, EndsRelease, WakesOne, GoesOnReleasing, noted_of}
 use Rattle.lock_calls.specs.Choices.{outside}
 use Rattle.lock_calls.specs.Steps.{Locks, Release, ByDrop, IsReleaseIn, unlocks, at_once}
-use Rattle.lock_calls.specs.Takes.{IsUnderTake, HasTaken, IsRefused, HasBegunTake, TakesAtOnce, BeginsTake, StandsInTake, EndsRefused, GoesOnTaking}
+use Rattle.lock_calls.specs.Takes.{IsUnderTake, HasTaken, IsRefused, HasBegunTake, TakesAtOnce, BeginsTake, StandsInTake, EndsRefused, EndsHalted, WasHalted, GoesOnTaking}
 use Rattle.lock_calls.specs.Waiting.{Kept, kept_of}
 use Rattle.lock_calls.proofs.Let as let_go
 use Rattle.lock_calls.proofs.Let.{HasNoted}
 use Rattle.lock_calls.proofs.Taken as taken
-use Rattle.lock_calls.proofs.Taken.{begins_at, goes_on, ends, entry_since, refused_since, under_take_on}
+use Rattle.lock_calls.proofs.Taken.{begins_at, goes_on, ends, halts, entry_since, refused_since, under_take_on}
 
 -- 1. A take
 
@@ -63,10 +63,12 @@ module _ (floor : Description) (l : LockNo) (mode : Mode) (next : Next) (p q : P
         begins_at floor l.0 mode p.view q.view d.missed d.first,
       )
 
-  pub begins_on : (next ≡ Sleep) ⊎ (((t : ThreadNo) × (next ≡ Wake t)) ⊎ ((r : Reversal) × (next ≡ Reversed r))) → ⊥
+  pub begins_on : (next ≡ Sleep)
+      ⊎ (((t : ThreadNo) × (next ≡ Wake t)) ⊎ (((r : Reversal) × (next ≡ Reversed r)) ⊎ (next ≡ Halted))) → ⊥
   begins_on (inl is) = subst (λ n. HasBegunTake floor l mode n p q) is b
   begins_on (inr (inl is)) = subst (λ n. HasBegunTake floor l mode n p q) is.1 b
-  begins_on (inr (inr is)) = subst (λ n. HasBegunTake floor l mode n p q) is.1 b
+  begins_on (inr (inr (inl is))) = subst (λ n. HasBegunTake floor l mode n p q) is.1 b
+  begins_on (inr (inr (inr is))) = subst (λ n. HasBegunTake floor l mode n p q) is b
 
 module _ (floor : Description) (l : LockNo) (mode : Mode) (begun : Knowledge) (p : Pass Knowledge)
     (s : StandsSince floor l mode begun p) (next : Next) (q : Pass Knowledge)
@@ -109,6 +111,11 @@ module _ (floor : Description) (l : LockNo) (mode : Mode) (begun : Knowledge) (p
       let d : EndsRefused floor l s.0 r p q = subst (λ n. GoesOnTaking floor l mode s.0 n p q) is w in
       refused_since floor l mode begun p.view q.view r s.3
       (subst (λ a. taken.IsAt floor l.0 mode begun a p.view) d.at_check s.4) d.refused
+
+  pub was_halted : next ≡ Halted → WasHalted floor l mode begun q.view
+  was_halted is =
+      let d : EndsHalted floor l s.0 p q = subst (λ n. GoesOnTaking floor l mode s.0 n p q) is w in
+      halts floor l mode begun p.view q.view its (d.halted.entry.thread ∙ its) s.0 s.4 s.3 d.halted
 
 -- 2. A release
 
@@ -157,11 +164,12 @@ module _ (floor : Description) (l : LockNo) (mode : Mode) (next : Next) (p q : P
             (record { k = 1; some = omega arith; once = λ e. refl; each = d.steps }) d.entry.held;
       }
 
-  pub release_begins_on : (next ≡ Sleep) ⊎ (((t : ThreadNo) × (next ≡ Wake t)) ⊎ ((r : Reversal) × (next ≡ Reversed r)))
-      → ⊥
+  pub release_begins_on : (next ≡ Sleep)
+      ⊎ (((t : ThreadNo) × (next ≡ Wake t)) ⊎ (((r : Reversal) × (next ≡ Reversed r)) ⊎ (next ≡ Halted))) → ⊥
   release_begins_on (inl is) = subst (λ n. HasBegunRelease floor l mode n p q) is b
   release_begins_on (inr (inl is)) = subst (λ n. HasBegunRelease floor l mode n p q) is.1 b
-  release_begins_on (inr (inr is)) = subst (λ n. HasBegunRelease floor l mode n p q) is.1 b
+  release_begins_on (inr (inr (inl is))) = subst (λ n. HasBegunRelease floor l mode n p q) is.1 b
+  release_begins_on (inr (inr (inr is))) = subst (λ n. HasBegunRelease floor l mode n p q) is b
 
 module _ (floor : Description) (l : LockNo) (mode : Mode) (begun : Knowledge) (p : Pass Knowledge)
     (s : ReleasesSince floor l mode begun p) (next : Next) (q : Pass Knowledge)
@@ -193,9 +201,10 @@ module _ (floor : Description) (l : LockNo) (mode : Mode) (begun : Knowledge) (p
         is_at = let_go.goes_on floor l mode begun p.view q.view its_own s.at d.to s.is_at d.on.leg;
       }
 
-  pub releases_awake : (next ≡ Sleep) ⊎ ((r : Reversal) × (next ≡ Reversed r)) → ⊥
+  pub releases_awake : (next ≡ Sleep) ⊎ (((r : Reversal) × (next ≡ Reversed r)) ⊎ (next ≡ Halted)) → ⊥
   releases_awake (inl is) = subst (λ n. GoesOnReleasing floor l mode s.at n p q) is w
-  releases_awake (inr is) = subst (λ n. GoesOnReleasing floor l mode s.at n p q) is.1 w
+  releases_awake (inr (inl is)) = subst (λ n. GoesOnReleasing floor l mode s.at n p q) is.1 w
+  releases_awake (inr (inr is)) = subst (λ n. GoesOnReleasing floor l mode s.at n p q) is w
 
   module _ (t : ThreadNo) (is : next ≡ Wake t) where
     one : WakesOne floor l mode s.at t.0 p q

@@ -6,46 +6,46 @@ use Rattle.lock_model.specs.declared.plan.QueueName.{QueueName}
 use Rattle.lock_state.specs.Steps.{GivesItem}
 use Rattle.lock_state.specs.Steps.Items.{RecordOf, is_bound, seen_after}
 use Rattle.floor_table.specs.declared.description.Description.{Description}
-use Rattle.floor_table.specs.declared.slot.Slot.TheVariants.{Record, Turnstiles}
+use Rattle.floor_table.specs.declared.slot.Slot.TheVariants.{Record}
 use Rattle.floor_table.specs.Steps.{Makes, MakesEach, MayMake}
 use Rattle.floor_table.specs.Views.{Runs, StandsOn, Knowledge, seeing}
-use Rattle.lock_floor.specs.Opens.{HasBothOut}
 use Rattle.lock_floor.specs.Passes.{IsGoing}
 use Rattle.lock_floor.specs.Views.{gave}
 use Rattle.lock_floor.specs.Waits.{its_chain, chain_place}
 use Rattle.lock_floor.proofs.MayWait as wait
 use Rattle.lock_floor.proofs.MayWait.{is_a_chain}
+use Rattle.lock_calls.specs.Sections.{HasRecordAndChain}
 use Rattle.lock_calls.specs.Steps.{gives_both}
 use Rattle.lock_calls.specs.Waiting.{with_none_out}
 
-module _ (floor : Description) (l : ℕ) (v : Knowledge) (both : HasBothOut floor l v)
+module _ (floor : Description) (l : ℕ) (v : Knowledge) (both : HasRecordAndChain floor l v)
     (settled : (v.pose ≡ Runs) ⊎ ((q : QueueName) × (v.pose ≡ StandsOn q)))
     (unbound : is_bound v.share.doing.round ≡ false) (going : IsGoing v) (who : ℕ) (is : who ≡ v.thread) where
   pub record_last : (b : _) × (v.out ≡ (who, Record b) ∷ rest v.out)
   record_last = (
     both.box,
     subst (λ out. out ≡ (who, Record both.box) ∷ rest out) (sym both.out)
-        (λ i. (sym is i, Record both.box) ∷ (chain_place floor (lock_queue l), Turnstiles both.chain) ∷ []),
+        (λ i. (sym is i, Record both.box) ∷ (chain_place floor (lock_queue l), both.chain) ∷ []),
   )
 
   pub may_give_record : MayMake floor v (λ s. Unit {0}) (GivesItem v.thread (RecordOf who) ∷ [])
   may_give_record =
       subst (λ t. MayMake floor v (λ s. Unit {0}) (GivesItem v.thread (RecordOf t) ∷ [])) (sym is)
-      (wait.may_give_own floor v (lock_queue l) (Record both.box) (Turnstiles both.chain) both.out settled going)
+      (wait.may_give_own floor v (lock_queue l) (Record both.box) both.chain both.out settled going)
 
   module _ (w : Knowledge) (first : w ≡ seeing w.seen (gave v (RecordOf who))) where
-    chain_alone : w.out ≡ (chain_place floor (lock_queue l), Turnstiles both.chain) ∷ []
+    chain_alone : w.out ≡ (chain_place floor (lock_queue l), both.chain) ∷ []
     chain_alone = ap (λ (k : Knowledge). k.out) first ∙ ap (λ out. rest out) both.out
 
     pub chain_last : (x : _) × (w.out ≡ (chain_place floor (lock_queue l), x) ∷ rest w.out)
     chain_last = (
-      Turnstiles both.chain,
-      subst (λ out. out ≡ (chain_place floor (lock_queue l), Turnstiles both.chain) ∷ rest out) (sym chain_alone) refl,
+      both.chain,
+      subst (λ out. out ≡ (chain_place floor (lock_queue l), both.chain) ∷ rest out) (sym chain_alone) refl,
     )
 
     pub may_give_chain : MayMake floor w (λ s. Unit {0}) (GivesItem w.thread (its_chain floor (lock_queue l)) ∷ [])
     may_give_chain =
-        wait.may_give_chain floor w (lock_queue l) (Turnstiles both.chain) chain_alone
+        wait.may_give_chain floor w (lock_queue l) both.chain chain_alone
         (ap (λ (k : Knowledge). is_bound k.share.doing.round) first ∙ unbound)
         (subst (λ (k : Knowledge). (k.pose ≡ Runs) ⊎ ((q : QueueName) × (k.pose ≡ StandsOn q))) (sym first) settled)
         (record {

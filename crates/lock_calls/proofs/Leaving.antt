@@ -3,7 +3,7 @@
 use Rattle.std.proofs.Common.{◌≡◌, ℕ, ◌<◌, suc, Bool, true, false, cond, Option, Some, None, List, [], ◌∷◌, length, refl, sym, ap, ◌∙◌, subst}
 use Rattle.std.specs.Prelude.{if◌then◌else◌}
 use Rattle.lock_model.specs.Queues.{lock_queue}
-use Rattle.lock_model.specs.Words.{Word, word_of, IsWellFormed, is_turnstile, is_drop}
+use Rattle.lock_model.specs.Words.{Word, word_of, IsWellFormed, is_drop}
 use Rattle.lock_model.specs.declared.numbers.LockNo.{LockNo}
 use Rattle.lock_model.specs.declared.plan.Mode.{Mode}
 use Rattle.lock_model.specs.declared.plan.Mode.TheVariants.{Excl, Shared}
@@ -12,18 +12,16 @@ use Rattle.lock_state.specs.Steps.{Step, Looks, TakesItem, IsOfRound}
 use Rattle.lock_state.specs.Steps.Items.{RecordOf, item_with, in_its_chain, is_bound}
 use Rattle.floor_table.specs.Descriptions.{config_in}
 use Rattle.floor_table.specs.declared.description.Description.{Description}
-use Rattle.floor_table.specs.declared.slot.Slot.TheVariants.{Turnstiles}
 use Rattle.floor_table.specs.Steps.{Makes, MakesEach, MayMake}
 use Rattle.floor_table.specs.Views.{Runs, is_off_queues, Knowledge, seeing}
 use Rattle.lock_floor.specs.declared.calls.ReleaseAt.TheVariants as places
 use Rattle.lock_floor.specs.declared.calls.ReleaseAt.TheVariants.{ComesTo, ComesIn, Frees, Wakes}
 use Rattle.lock_floor.specs.Latches.{FindsOut, Takes}
 use Rattle.lock_floor.specs.Marks.{CanMark, WakesFirst, with_marks}
-use Rattle.lock_floor.specs.Opens.{HasBothOut, opened_up}
+use Rattle.lock_floor.specs.Opens.{opened_up}
 use Rattle.lock_floor.specs.Passes.{IsGoing, IsAtRest}
 use Rattle.lock_floor.specs.Views.{counts, looked, put_down}
-use Rattle.lock_floor.specs.Waits.{its_chain, chain_place, both_out}
-use Rattle.lock_floor.proofs.InSection.{chain_out, record_out}
+use Rattle.lock_floor.specs.Waits.{its_chain, chain_place}
 use Rattle.lock_floor.proofs.MayWait as wait
 use Rattle.lock_floor.proofs.MayWait.{is_a_chain}
 use Rattle.lock_floor.proofs.May.{counts_not}
@@ -31,10 +29,12 @@ use Rattle.lock_floor.proofs.MayWake.{runners_mark}
 use Rattle.lock_floor.proofs.Resting.{rest_seeing}
 use Rattle.lock_calls.specs.Choices.{outside}
 use Rattle.lock_calls.specs.Releases.{IsLeaving, LeavesWithChain, LeavesWithBoth, IsReleasing, ReleasesOn, noted_of, takes_chain, comes_in, looks, makes_free, finds_out}
+use Rattle.lock_calls.specs.Sections.{HasRecordAndChain}
 use Rattle.lock_calls.specs.Steps.{gives_both}
 use Rattle.lock_calls.specs.Waiting.{with_looks, with_none_out, MayLetGo, IsOwn, LetsGo, MissesOwn}
 use Rattle.lock_calls.proofs.Looks.{look_knows, wants_none}
 use Rattle.lock_calls.proofs.Owned.{saw_own}
+use Rattle.lock_calls.proofs.Sections.{chain_out, record_out}
 
 -- 1. What stays
 
@@ -136,7 +136,7 @@ stands_outside floor l Shared found v m own = go (is_drop (word_of found)) refl
 
 -- with both out it may let go
 pub may_let : (floor : Description) (l : ℕ) (mode : Mode) (v : Knowledge) → IsLeaving floor l mode (with_none_out v)
-    → HasBothOut floor l v → MayLetGo floor l mode v
+    → HasRecordAndChain floor l v → MayLetGo floor l mode v
 may_let floor l mode v m both = record {
   held = m.may.held;
   closed = m.may.closed;
@@ -164,11 +164,10 @@ module _ (floor : Description) (l : LockNo) (mode : Mode) (v : Knowledge) (m : I
       (subst (λ r. IsOfRound floor.chains (config_in floor) r (its_chain floor (lock_queue l.0)))
       (sym m.may.looks.no_round) tt) (wants_none v m.may.looks.no_round)
 
-  pub comes_on : is_turnstile ((config_in floor).kind l.0) ≡ true → (a : Knowledge)
+  pub comes_on : (a : Knowledge)
       → Takes floor (its_chain floor (lock_queue l.0)) (chain_place floor (lock_queue l.0)) v a
       → ReleasesOn floor l mode ComesTo ComesIn v a
-  comes_on turnstile a one =
-      let chain = chain_out floor l.0 v a one turnstile m.may.looks.nothing_out in
+  comes_on a one =
       let round : cond true (in_its_chain v.share.doing.round) v.share.doing.round ≡ v.share.doing.round =
       ap in_its_chain m.may.looks.no_round ∙ sym m.may.looks.no_round in
       let bare : with_none_out a
@@ -193,8 +192,9 @@ module _ (floor : Description) (l : LockNo) (mode : Mode) (v : Knowledge) (m : I
           leaving = subst (IsLeaving floor l.0 mode) (sym bare)
               (leaving_seeing floor l.0 mode (with_looks v v.share.doing.looks_in_all v.share.doing.last_look None)
               (leaving_looked floor l.0 mode v m v.share.doing.looks_in_all v.share.doing.last_look None) a.seen);
-          chain = chain.0;
-          out = chain.1;
+          chain = one.value;
+          of_lock = one.kind;
+          out = chain_out floor l.0 v a one m.may.looks.nothing_out;
         };
         noted = ap noted_of one.view;
         leg = takes_chain (ap (λ (k : Knowledge). k.share.held) one.view) one.step;
@@ -215,7 +215,7 @@ module _ (floor : Description) (l : LockNo) (mode : Mode) (a : Knowledge) (m : L
   pub may_take_own : who < length floor.threads
       → MayMake floor a (λ s. s.record_with who ≡ None) (TakesItem a.thread (RecordOf who) ∷ [])
   may_take_own low =
-      wait.may_take_record floor a (lock_queue l.0) (Turnstiles m.chain) m.out who low m.leaving.may.looks.runs
+      wait.may_take_record floor a (lock_queue l.0) m.chain m.out who low m.leaving.may.looks.runs
       (record {
         awake = m.leaving.may.looks.going.awake;
         unended = m.leaving.may.looks.going.unended;
@@ -228,6 +228,7 @@ module _ (floor : Description) (l : LockNo) (mode : Mode) (a : Knowledge) (m : L
     there = subst (LeavesWithChain floor l.0 mode) (sym view) record {
       leaving = leaving_seeing floor l.0 mode (with_none_out a) m.leaving b.seen;
       chain = m.chain;
+      of_lock = m.of_lock;
       out = m.out;
     };
     noted = ap noted_of view;
@@ -241,14 +242,9 @@ module _ (floor : Description) (l : LockNo) (mode : Mode) (a : Knowledge) (m : L
     its : b.thread ≡ a.thread
     its = ap (λ (k : Knowledge). k.thread) own.view
 
-    both_now : HasBothOut floor l.0 b
+    both_now : HasRecordAndChain floor l.0 b
     both_now =
-        let out = record_out floor l.0 a b m.chain own (ap is_off_queues m.leaving.may.looks.runs) m.out in
-        record {
-          box = out.1;
-          chain = m.chain;
-          out = out.2 ∙ ap (λ t. both_out floor t l.0 out.1 m.chain) (sym its);
-        }
+        (record_out floor l.0 a b m.chain m.of_lock own (ap is_off_queues m.leaving.may.looks.runs) m.out).0
 
     leaving_now : IsLeaving floor l.0 mode (with_none_out b)
     leaving_now = subst (IsLeaving floor l.0 mode) (sym (ap with_none_out own.view))
@@ -273,8 +269,13 @@ module _ (floor : Description) (l : LockNo) (mode : Mode) (a : Knowledge) (m : L
             leaving = subst (IsLeaving floor l.0 mode) (sym (ap with_none_out knows))
                 (leaving_seeing floor l.0 mode (with_looks (with_none_out b) all saw None)
                 (leaving_looked floor l.0 mode (with_none_out b) leaving_now all saw None) c.seen);
-            both = subst (HasBothOut floor l.0) (sym view)
-                (record { box = both_now.box; chain = both_now.chain; out = both_now.out });
+            both = subst (HasRecordAndChain floor l.0) (sym view)
+                (record {
+                  box = both_now.box;
+                  chain = both_now.chain;
+                  of_lock = both_now.of_lock;
+                  out = both_now.out;
+                });
             own = subst (λ t. IsOwn t mode seen) (sym same)
                 (saw_own floor l.0 mode seen (counts b l.0) b c leaving_now.may.held formed view look);
           };
@@ -308,8 +309,8 @@ module _ (floor : Description) (l : LockNo) (mode : Mode) (seen : ℕ) (v w : Kn
           leaving = subst (IsLeaving floor l.0 mode) (sym (ap with_none_out knows))
               (leaving_seeing floor l.0 mode (with_looks (with_none_out v) all saw None)
               (leaving_looked floor l.0 mode (with_none_out v) m.leaving all saw None) w.seen);
-          both = subst (HasBothOut floor l.0) (sym x.view)
-              (record { box = m.both.box; chain = m.both.chain; out = m.both.out });
+          both = subst (HasRecordAndChain floor l.0) (sym x.view)
+              (record { box = m.both.box; chain = m.both.chain; of_lock = m.both.of_lock; out = m.both.out });
           own = subst (λ t. IsOwn t mode found) (sym (ap (λ (k : Knowledge). k.thread) x.view)) x.own;
         };
         noted = ap noted_of x.view;

@@ -9,10 +9,12 @@ use Rattle.lock_model.specs.Words.{word_of, is_drop}
 use Rattle.lock_model.specs.declared.event.Event.{Event}
 use Rattle.lock_model.specs.declared.event.Held.{Held}
 use Rattle.lock_model.specs.declared.numbers.LockNo.{LockNo}
+use Rattle.lock_model.specs.declared.plan.Kind.{Kind}
 use Rattle.lock_model.specs.declared.plan.Mode.{Mode}
 use Rattle.lock_model.specs.declared.plan.Mode.TheVariants.{Excl, Shared}
 use Rattle.lock_state.specs.Steps.{Step, Looks, Drops, Stamps, TakesItem, GivesItem, Marks}
 use Rattle.lock_state.specs.Steps.Items.{Item, RecordOf}
+use Rattle.floor_table.specs.Descriptions.{config_in}
 use Rattle.floor_table.specs.declared.description.Description.{Description}
 use Rattle.floor_table.specs.Steps.{Makes, MakesEach}
 use Rattle.floor_table.specs.Views.{Knowledge, seeing}
@@ -131,6 +133,9 @@ module _ (floor : Description) (l : LockNo) (mode : Mode) (begun : Knowledge) wh
   abbrev t : ℕ
   t = begun.thread
 
+  abbrev kind : Kind
+  kind = (config_in floor).kind l.0
+
   abbrev look : List Step
   look = Looks begun.thread l.0 false ∷ []
 
@@ -212,9 +217,9 @@ module _ (floor : Description) (l : LockNo) (mode : Mode) (begun : Knowledge) wh
       settled = λ e nobody. refl;
     }
     goes_on at to h (makes_free seen opens held each) =
-        let made : MakesEach floor ((frees t l.0 mode opens ∷ []) ∷ gives_both floor t l.0) h.came new =
-        each_sooner floor (frees t l.0 mode opens ∷ []) (gives_both floor t l.0) h.came now new h.waited
-        (subst (λ u. MakesEach floor ((frees u l.0 mode opens ∷ []) ∷ gives_both floor u l.0) now new) its each) in
+        let made : MakesEach floor ((frees kind t l.0 mode opens ∷ []) ∷ gives_both floor t l.0) h.came new =
+        each_sooner floor (frees kind t l.0 mode opens ∷ []) (gives_both floor t l.0) h.came now new h.waited
+        (subst (λ u. MakesEach floor ((frees kind u l.0 mode opens ∷ []) ∷ gives_both floor u l.0) now new) its each) in
         let c = h.has_let in
         let k = c.has_chain in
         let marks : List Mark = new.share.doing.marked in
@@ -226,16 +231,16 @@ module _ (floor : Description) (l : LockNo) (mode : Mode) (begun : Knowledge) wh
             whole = λ z woken.
                 each_append floor (begins_release t l mode k.begins.k)
                 ((TakesItem t (its_chain floor (lock_queue l.0)) ∷ []) ∷ (TakesItem t (RecordOf t) ∷ [])
-                ∷ ((replicate c.n look ++ (frees t l.0 mode opens ∷ []) ∷ [])
+                ∷ ((replicate c.n look ++ (frees kind t l.0 mode opens ∷ []) ∷ [])
                 ++ (gives_both floor t l.0 ++ marking t marks))) begun k.missed z k.begins.each (
                   c.chain,
                   k.took,
                   (
                     c.there,
                     c.took,
-                    each_append floor (replicate c.n look ++ (frees t l.0 mode opens ∷ []) ∷ [])
+                    each_append floor (replicate c.n look ++ (frees kind t l.0 mode opens ∷ []) ∷ [])
                         (gives_both floor t l.0 ++ marking t marks) c.there made.0 z
-                        (each_append floor (replicate c.n look) ((frees t l.0 mode opens ∷ []) ∷ []) c.there h.came
+                        (each_append floor (replicate c.n look) ((frees kind t l.0 mode opens ∷ []) ∷ []) c.there h.came
                         made.0
                         c.each (made.0, made.1, refl))
                         (each_append floor (gives_both floor t l.0) (marking t marks) made.0 new z made.2 woken),

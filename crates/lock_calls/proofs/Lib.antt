@@ -5,6 +5,7 @@ pub mod Chosen
 pub mod Waited
 pub mod Attempts
 pub mod FirstExchanges
+pub mod Sections
 pub mod Owned
 pub mod Given
 pub mod There
@@ -14,6 +15,7 @@ pub mod Refused
 pub mod Spun
 pub mod Contended
 pub mod Standing
+pub mod Halted
 pub mod Leaving
 pub mod Outside
 pub mod Released

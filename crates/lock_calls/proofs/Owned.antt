@@ -1,37 +1,46 @@
 -- A release in the section of the lock's chain: what allows its steps there, and what each leaves.
-use Rattle.std.proofs.Common.{◌≡◌, ◌≢◌, ℕ, ◌<◌, ◌≤◌, arith, Bool, true, false, Some, List, [], ◌∷◌, refl, sym, ap, ◌∙◌, subst, inl, inr}
+use Rattle.std.proofs.Common.{◌≡◌, ◌≢◌, ℕ, ◌<◌, ◌≤◌, arith, Bool, true, false, Some, List, [], ◌∷◌, map, refl, sym, ap, ◌∙◌, subst, inl, inr}
 use Rattle.std.proofs.lemmas.Bool.{cases_eq, ne_eqb}
 use Rattle.lock_model.specs.Holds.{Hold, NotHeld, Holds, is_exclusive}
 use Rattle.lock_model.specs.Operations.{hold_in}
-use Rattle.lock_model.specs.Words.{Word, word_of, IsWellFormed, Holder, Free, HeldBy, SharedBy, is_free, is_drop, sharers}
+use Rattle.lock_model.specs.Queues.{lock_queue}
+use Rattle.lock_model.specs.Words.{Word, word_of, IsWellFormed, is_turnstile, Holder, Free, HeldBy, SharedBy, is_free, is_drop, sharers}
 use Rattle.lock_model.specs.declared.plan.Mode.{Mode}
 use Rattle.lock_model.specs.declared.plan.Mode.TheVariants.{Excl, Shared}
+use Rattle.chain_table.specs.Chains.{head_of}
 use Rattle.lock_objects.specs.Opens.{record_opened, chain_opened}
-use Rattle.lock_laws.proofs.Kit.{sum_below-at}
+use Rattle.lock_objects.specs.Represents.{mark_of}
+use Rattle.lock_objects.specs.Sleeps.{chain_woken}
+use Rattle.lock_laws.proofs.Kit.{sum_below-at, put_at_same}
 use Rattle.lock_state.specs.Facts.{WordsMatchHolders, OnlyThreadsHold}
 use Rattle.lock_state.specs.Facts.Words.{owns, shares}
 use Rattle.lock_state.specs.State.{State}
-use Rattle.lock_state.specs.Steps.{Step, Looks, Drops, Opens}
+use Rattle.lock_state.specs.Steps.{Step, Looks, Drops, Opens, OpensSleepQueue}
+use Rattle.lock_state.specs.Steps.SleepQueues.{after_open_sleep}
 use Rattle.lock_words.specs.Views.{IsHeldIn}
 use Rattle.std.specs.Box.{with_value}
 use Rattle.floor_table.specs.Descriptions.{config_in}
 use Rattle.floor_table.specs.declared.description.Description.{Description}
-use Rattle.floor_table.specs.declared.slot.Slot.TheVariants.{Record, Turnstiles}
+use Rattle.floor_table.specs.declared.slot.Slot.TheVariants.{Record}
 use Rattle.floor_table.specs.Represents.{IsSeatOf, RepresentsShare, thread_in}
 use Rattle.floor_table.specs.Shares.{ShareColumns}
 use Rattle.floor_table.specs.Steps.{IsSound, Makes, MayMake}
 use Rattle.floor_table.specs.Views.{Knowledge, seeing}
 use Rattle.lock_floor.specs.Opens.{HasBothOut, MayOpenUp, OpensUp, out_opened, marks_opened}
+use Rattle.lock_floor.specs.SleepLocks.{MayOpenSleepers, OpensSleepers, sleepers_opened}
+use Rattle.lock_floor.specs.Sleeps.{HasSleeperOut, sleeper_out}
 use Rattle.lock_floor.specs.Views.{counts, looked, put_down}
-use Rattle.lock_floor.proofs.Finding.{finds_word}
+use Rattle.lock_floor.proofs.Finding.{finds_word, share_behind}
 use Rattle.lock_floor.proofs.Gaining.{dropped_unheld, opened_unheld}
 use Rattle.lock_floor.proofs.May.{may_drop}
 use Rattle.lock_floor.proofs.MayWait as wait
 use Rattle.lock_floor.proofs.MayWait.{IsNoSleeper}
-use Rattle.lock_floor.proofs.MayWake.{may_open_up}
+use Rattle.lock_floor.proofs.MayWake.{may_open_up, may_open_sleepers}
 use Rattle.lock_floor.proofs.Opened.{last_shown}
+use Rattle.lock_calls.specs.Sections.{HasRecordAndChain}
 use Rattle.lock_calls.specs.Steps.{IsCovered}
 use Rattle.lock_calls.specs.Waiting.{MayLetGo, IsOwn, LetsGo, MissesOwn}
+use Rattle.lock_calls.proofs.Sections.{as_both, as_sleeper, from_both, from_sleeper, opens_turnstile, opens_asleep}
 use Rattle.lock_calls.proofs.Words.{look_at, word_seen}
 
 -- 1. The word of a lock that the thread holds
@@ -109,6 +118,14 @@ saw_own floor l mode seen counted old new held formed view m =
       its = λ e. ap (λ (w : Word). w.holder) (sym is) ∙ its.1 e;
     }
 
+-- behind the release of an sx lock the thread doesn't hold it
+asleep_unheld : (floor : Description) (v w : Knowledge) (l : ℕ) (mode : Mode)
+    → Makes floor (OpensSleepQueue v.thread l mode ∷ []) v w → hold_in w.share.held l ≡ NotHeld
+unfolding after_open_sleep
+asleep_unheld floor v w l mode m =
+    ap (λ (x : ShareColumns). x.held l) (share_behind floor (OpensSleepQueue v.thread l mode ∷ []) v w m).columns
+    ∙ put_at_same m.state.held v.thread l NotHeld
+
 -- 2. What is out in the section
 
 no_sleeper : (floor : Description) (l : ℕ) (mode : Mode) (v : Knowledge) → MayLetGo floor l mode v → IsNoSleeper v
@@ -118,7 +135,7 @@ module _ (floor : Description) (l : ℕ) (mode : Mode) (v : Knowledge) (covered 
     (m : MayLetGo floor l mode v) where
   pub may_look_own : v.description ≡ floor → MayMake floor v (λ s. Unit {0}) (Looks v.thread l (counts v l) ∷ [])
   may_look_own mine =
-      wait.may_look_held floor v l (Record m.both.box) (Turnstiles m.both.chain) m.both.out covered.lock m.going
+      wait.may_look_held floor v l (Record m.both.box) m.both.chain m.both.out covered.lock m.going
       (no_sleeper floor l mode v m) mine m.no_round
       (λ q. let z : Holds mode ≡ NotHeld = sym m.held ∙ q in cc) m.takes_nothing
 
@@ -131,11 +148,19 @@ module _ (floor : Description) (l : ℕ) (mode : Mode) (v : Knowledge) (covered 
     may_drop_there stays =
         may_drop floor v l mode (word_of seen) covered.lock m.held stays m.closed m.begun m.takes_nothing m.runs m.going
 
-    pub may_open_there : is_drop (word_of seen) ≡ false → MayOpenUp floor l (word_of seen) v
-    may_open_there opens =
+    pub may_open_there : is_turnstile ((config_in floor).kind l) ≡ true → is_drop (word_of seen) ≡ false
+        → MayOpenUp floor l (word_of seen) v
+    may_open_there turnstile opens =
         let w = last_shown (word_of seen) opens in
-        may_open_up floor v l mode (word_of seen) covered.lock covered.turnstile m.held w.0 w.1 m.unmarked
-        m.takes_nothing m.closed m.begun m.runs m.going m.both
+        may_open_up floor v l mode (word_of seen) covered.lock turnstile m.held w.0 w.1 m.unmarked
+        m.takes_nothing m.closed m.begun m.runs m.going (as_both floor l turnstile v m.both)
+
+    pub may_open_asleep : is_turnstile ((config_in floor).kind l) ≡ false → is_drop (word_of seen) ≡ false
+        → MayOpenSleepers floor l (word_of seen) v
+    may_open_asleep sleeps opens =
+        let w = last_shown (word_of seen) opens in
+        may_open_sleepers floor v l mode (word_of seen) covered.lock m.held w.0 w.1 m.unmarked m.closed m.begun sleeps
+        m.takes_nothing (inl m.runs) m.going (as_sleeper floor l sleeps v m.both)
 
   -- 3. The lock is let go
 
@@ -146,8 +171,8 @@ module _ (floor : Description) (l : ℕ) (mode : Mode) (v : Knowledge) (covered 
     marks = v.share.doing.marked;
     out = v.out;
     view = view;
-    both = subst (HasBothOut floor l) (sym view)
-        (record { box = m.both.box; chain = m.both.chain; out = m.both.out });
+    both = subst (HasRecordAndChain floor l) (sym view)
+        (record { box = m.both.box; chain = m.both.chain; of_lock = m.both.of_lock; out = m.both.out });
     unheld = subst (λ hs. hold_in hs l ≡ NotHeld) (ap (λ (k : Knowledge). k.share.held) view)
         (dropped_unheld floor v new l mode step);
     step = step;
@@ -159,6 +184,7 @@ module _ (floor : Description) (l : ℕ) (mode : Mode) (v : Knowledge) (covered 
       sym o.step.may.0.fits.may.releases.held ∙ held_then floor (Opens v.thread l o.mode ∷ []) v new o.step l
       ∙ m.held in
       let same : o.mode ≡ mode = same_mode o.mode mode held in
+      let turnstile : is_turnstile ((config_in floor).kind l) ≡ true = o.step.may.0.fits.may.turnstile in
       let step : Makes floor (Opens v.thread l mode ∷ []) v new =
       subst (λ x. Makes floor (Opens v.thread l x ∷ []) v new) same o.step in
       record {
@@ -166,15 +192,43 @@ module _ (floor : Description) (l : ℕ) (mode : Mode) (v : Knowledge) (covered 
         marks = marks_opened l o.side o.both.box o.turnstile;
         out = out_opened floor v.thread l o.side o.both.box o.both.chain o.turnstile;
         view = o.view;
-        both = subst (HasBothOut floor l) (sym o.view)
+        both = from_both floor l turnstile new
+            (subst (HasBothOut floor l) (sym o.view)
             (record {
               box = with_value o.both.box (record_opened l o.both.box.value);
               chain = chain_opened l o.side o.both.box.value o.turnstile o.both.chain;
               out = refl;
-            });
+            }));
         unheld = subst (λ hs. hold_in hs l ≡ NotHeld) (ap (λ (k : Knowledge). k.share.held) o.view)
             (opened_unheld floor v new l mode step);
-        step = step;
+        step = subst (λ s. Makes floor (s ∷ []) v new)
+            (opens_turnstile ((config_in floor).kind l) v.thread l mode turnstile) step;
+      }
+
+  -- the same of an sx lock
+  pub opened_asleep : (seen : ℕ) (new : Knowledge) → OpensSleepers floor l (word_of seen) v new
+      → LetsGo floor l mode v new
+  opened_asleep seen new o =
+      let held : Holds o.mode ≡ Holds mode =
+      sym o.step.may.0.fits.may.releases.held ∙ held_then floor (OpensSleepQueue v.thread l o.mode ∷ []) v new o.step l
+      ∙ m.held in
+      let same : o.mode ≡ mode = same_mode o.mode mode held in
+      let sleeps : is_turnstile ((config_in floor).kind l) ≡ false = o.step.may.0.fits.may.sleeps in
+      let step : Makes floor (OpensSleepQueue v.thread l mode ∷ []) v new =
+      subst (λ x. Makes floor (OpensSleepQueue v.thread l x ∷ []) v new) same o.step in
+      let left = chain_woken (lock_queue l) true o.side (head_of (lock_queue l) o.both.chain) o.both.chain in
+      record {
+        opens = true;
+        marks = map (mark_of (lock_queue l)) (sleepers_opened floor l o.side v o.both);
+        out = sleeper_out floor v.thread (lock_queue l) o.both.box left;
+        view = o.view;
+        both = from_sleeper floor l sleeps new
+            (subst (HasSleeperOut floor (lock_queue l)) (sym o.view)
+            (record { box = o.both.box; chain = left; out = refl }));
+        unheld = subst (λ hs. hold_in hs l ≡ NotHeld) (ap (λ (k : Knowledge). k.share.held) o.view)
+            (asleep_unheld floor v new l mode step);
+        step = subst (λ s. Makes floor (s ∷ []) v new)
+            (opens_asleep ((config_in floor).kind l) v.thread l mode sleeps) step;
       }
 
   pub missed_own : (seen found : ℕ) (new : Knowledge) → found ≢ seen → IsWellFormed (word_of found)

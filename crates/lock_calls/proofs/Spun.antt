@@ -1,7 +1,7 @@
 -- A take in its round, and as it takes the lock's chain and then its own record: where it stands behind each part.
 use Rattle.std.proofs.Common.{◌≡◌, ℕ, ◌+◌, ◌<◌, ◌≤◌, Bool, true, false, [], ◌∷◌, length, replicate, refl, ap, ◌∙◌, subst, arith}
 use Rattle.lock_model.specs.Queues.{lock_queue}
-use Rattle.lock_model.specs.Words.{Word, word_of, is_turnstile}
+use Rattle.lock_model.specs.Words.{Word, word_of}
 use Rattle.lock_model.specs.declared.plan.Kind.{Kind}
 use Rattle.lock_model.specs.declared.event.Event.TheVariants.{Locked}
 use Rattle.lock_model.specs.declared.numbers.LockNo.{LockNo}
@@ -99,11 +99,10 @@ spun_end floor l mode left some old v new s notes =
 
 module _ (floor : Description) (l : LockNo) (mode : Mode) (old new : Knowledge) (m : IsSeeking l.0 old)
     (room : old.share.doing.looks + (0 + 0) ≤ 98) where
-  pub comes_on : is_turnstile ((config_in floor).kind l.0) ≡ true
-      → Takes floor (its_chain floor (lock_queue l.0)) (chain_place floor (lock_queue l.0)) old new
+  pub comes_on : Takes floor (its_chain floor (lock_queue l.0)) (chain_place floor (lock_queue l.0)) old new
       → TakesOn floor l mode (Spins 0) ComesIn old new
-  comes_on turnstile one = record {
-    there = has_chain floor l.0 old m turnstile new one;
+  comes_on one = record {
+    there = has_chain floor l.0 old m new one;
     kept = ap kept_of one.view;
     leg = takes_chain one.step;
   }

@@ -1,6 +1,6 @@
--- A take whose thread stands on the lock's turnstile: it makes hop after hop of its walk, and runs again where it was
+-- A take whose thread stands on the lock's queue: it makes hop after hop of its walk, and runs again where it was
 -- woken.
-use Rattle.std.proofs.Common.{◌≡◌, ◌≢◌, ℕ, ◌<◌, ◌≤◌, Bool, true, [], ◌∷◌, length, refl, sym, ap, ◌∙◌, subst, arith}
+use Rattle.std.proofs.Common.{◌≡◌, ◌≢◌, ℕ, ◌<◌, ◌≤◌, Bool, true, false, [], ◌∷◌, length, refl, sym, ap, ◌∙◌, subst, arith}
 use Rattle.lock_model.specs.Operations.{hold_in}
 use Rattle.lock_model.specs.Queues.{Cause, BySignal, lock_queue}
 use Rattle.lock_model.specs.Words.{is_turnstile}
@@ -24,7 +24,6 @@ use Rattle.lock_floor.specs.Latches.{FindsOut, Takes}
 use Rattle.lock_floor.specs.Resumes.{cause_of, resumed, FindsQueued, MayRunAgain, RunsAgain}
 use Rattle.lock_floor.specs.Walks.{CanWalk, HasTurnstilesOut, HopsOn, NeedsRecord, turnstiles, turnstiles_place}
 use Rattle.lock_floor.proofs.MayWake.{may_run_again}
-use Rattle.lock_calls.specs.Steps.{IsCovered}
 use Rattle.lock_calls.specs.Takes.{IsStanding, TakesOn, takes_turnstiles, hops, resumes, finds_out, is_queued}
 use Rattle.lock_calls.specs.Waiting.{kept_of, IsCalling}
 
@@ -138,7 +137,7 @@ module _ (floor : Description) (l : LockNo) (mode : Mode) (there : run_time.Walk
 -- 3. It runs again
 
 -- who stands on a lock's turnstile is woken by a signal
-by_signal : (floor : Description) (l : ℕ) → is_turnstile ((config_in floor).kind l) ≡ true
+pub by_signal : (floor : Description) (l : ℕ) → is_turnstile ((config_in floor).kind l) ≡ true
     → (old new : Knowledge) (q : QueueName) (cause : Cause)
     → q ≡ lock_queue l → Makes floor (Resumes old.thread q cause ∷ []) old new → cause ≡ BySignal
 unfolding WakesFitQueues
@@ -146,7 +145,7 @@ by_signal floor l turnstile old new q cause is m =
     m.sound.turnstiles.wakes_fit_queues old.thread (lock_queue l) cause
     (subst (λ r. m.state.wait old.thread ≡ Woken r cause) is m.may.0.fits.may.woken) turnstile
 
-module _ (floor : Description) (l : LockNo) (mode : Mode) (covered : IsCovered floor l.0 mode) (z : Knowledge)
+module _ (floor : Description) (l : LockNo) (mode : Mode) (z : Knowledge)
     (m : IsStanding l.0 walk.None z) (can : CanWalk floor z) (calls : IsCalling floor (kept_of z)) where
   pub may_wake_up : MayRunAgain floor z
   may_wake_up = may_run_again floor z (lock_queue l.0) m.stands can.nothing_out (sym m.walk_is) calls.going.stamped tt
@@ -159,44 +158,45 @@ module _ (floor : Description) (l : LockNo) (mode : Mode) (covered : IsCovered f
     leg = is_queued view queued;
   }
 
-  module _ (new : Knowledge) (aborted : Bool) (r : RunsAgain floor (cause_of aborted) z new) where
-    its_queue : r.queue ≡ lock_queue l.0
-    its_queue = let same : StandsOn r.queue ≡ StandsOn (lock_queue l.0) = sym r.stands ∙ m.stands in cc
+  module _ (new : Knowledge) (aborted : Bool) (is : aborted ≡ false) (r : RunsAgain floor (cause_of aborted) z new)
+    where
+      its_queue : r.queue ≡ lock_queue l.0
+      its_queue = let same : StandsOn r.queue ≡ StandsOn (lock_queue l.0) = sym r.stands ∙ m.stands in cc
 
-    its_cause : cause_of aborted ≡ BySignal
-    its_cause = by_signal floor l.0 covered.turnstile z new r.queue (cause_of aborted) its_queue r.step
+      its_cause : cause_of aborted ≡ BySignal
+      its_cause = ap cause_of is
 
-    resumed_is : new ≡ seeing new.seen (resumed (config_in floor) z (lock_queue l.0) BySignal)
-    resumed_is = r.view ∙ (λ i. seeing new.seen (resumed (config_in floor) z (its_queue i) (its_cause i)))
+      resumed_is : new ≡ seeing new.seen (resumed (config_in floor) z (lock_queue l.0) BySignal)
+      resumed_is = r.view ∙ (λ i. seeing new.seen (resumed (config_in floor) z (its_queue i) (its_cause i)))
 
-    resume_step : Makes floor (Resumes z.thread (lock_queue l.0) BySignal ∷ []) z new
-    resume_step = subst (λ (p : QueueName × Cause). Makes floor (Resumes z.thread p.0 p.1 ∷ []) z new)
-        (λ i. (its_queue i, its_cause i)) r.step
+      resume_step : Makes floor (Resumes z.thread (lock_queue l.0) BySignal ∷ []) z new
+      resume_step = subst (λ (p : QueueName × Cause). Makes floor (Resumes z.thread p.0 p.1 ∷ []) z new)
+          (λ i. (its_queue i, its_cause i)) r.step
 
-    no_looks : new.share.doing.looks ≡ 0
-    no_looks = ap (λ (k : Knowledge). k.share.doing.looks) resumed_is
+      no_looks : new.share.doing.looks ≡ 0
+      no_looks = ap (λ (k : Knowledge). k.share.doing.looks) resumed_is
 
-    pub wakes_up : (left : ℕ) → left ≤ 48 → TakesOn floor l mode (Walks walk.None) (Spins left) z new
-    wakes_up left few = record {
-      there = (
-        record {
-          unheld = ap (λ (k : Knowledge). hold_in k.share.held l.0) resumed_is ∙ m.unheld;
-          few = subst (λ hs. length hs < 8) (sym (ap (λ (k : Knowledge). k.share.held) resumed_is)) m.few;
-          wants = ap (λ (k : Knowledge). k.share.doing.wanted) resumed_is ∙ m.wants;
-          takes = ap (λ (k : Knowledge). k.share.doing.taking) resumed_is ∙ m.takes;
-          unnoted = ap (λ (k : Knowledge). k.share.doing.noted) resumed_is ∙ calls.unnoted;
-          round = ap (λ (k : Knowledge). k.share.doing.round) resumed_is ∙ ap round_for m.wants;
-          no_walk = ap (λ (k : Knowledge). k.share.doing.walk) resumed_is ∙ sym m.walk_is;
-          runs = ap (λ (k : Knowledge). k.pose) resumed_is;
-          nothing_out = ap (λ (k : Knowledge). k.out) resumed_is ∙ can.nothing_out;
-          going = record {
-            awake = ap (λ (k : Knowledge). k.share.doing.phase) resumed_is;
-            unended = ap (λ (k : Knowledge). k.share.doing.has_ended) resumed_is ∙ calls.going.unended;
-            stamped = ap (λ (k : Knowledge). k.share.doing.unstamped) resumed_is ∙ calls.going.stamped;
-          };
-        },
-        omega (arith, few, no_looks),
-      );
-      kept = ap kept_of resumed_is ∙ (λ i. record (kept_of z) { phase = sym calls.going.awake i });
-      leg = resumes left few resume_step;
-    }
+      pub wakes_up : (left : ℕ) → left ≤ 48 → TakesOn floor l mode (Walks walk.None) (Spins left) z new
+      wakes_up left few = record {
+        there = (
+          record {
+            unheld = ap (λ (k : Knowledge). hold_in k.share.held l.0) resumed_is ∙ m.unheld;
+            few = subst (λ hs. length hs < 8) (sym (ap (λ (k : Knowledge). k.share.held) resumed_is)) m.few;
+            wants = ap (λ (k : Knowledge). k.share.doing.wanted) resumed_is ∙ m.wants;
+            takes = ap (λ (k : Knowledge). k.share.doing.taking) resumed_is ∙ m.takes;
+            unnoted = ap (λ (k : Knowledge). k.share.doing.noted) resumed_is ∙ calls.unnoted;
+            round = ap (λ (k : Knowledge). k.share.doing.round) resumed_is ∙ ap round_for m.wants;
+            no_walk = ap (λ (k : Knowledge). k.share.doing.walk) resumed_is ∙ sym m.walk_is;
+            runs = ap (λ (k : Knowledge). k.pose) resumed_is;
+            nothing_out = ap (λ (k : Knowledge). k.out) resumed_is ∙ can.nothing_out;
+            going = record {
+              awake = ap (λ (k : Knowledge). k.share.doing.phase) resumed_is;
+              unended = ap (λ (k : Knowledge). k.share.doing.has_ended) resumed_is ∙ calls.going.unended;
+              stamped = ap (λ (k : Knowledge). k.share.doing.unstamped) resumed_is ∙ calls.going.stamped;
+            };
+          },
+          omega (arith, few, no_looks),
+        );
+        kept = ap kept_of resumed_is ∙ (λ i. record (kept_of z) { phase = sym calls.going.awake i });
+        leg = resumes left few resume_step;
+      }

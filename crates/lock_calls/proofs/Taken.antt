@@ -2,15 +2,16 @@
 -- take.
 use Rattle.std.proofs.Common.{◌≡◌, ◌⊎◌, ℕ, zero, suc, ◌+◌, ◌<◌, ◌≤◌, true, false, List, [], ◌∷◌, ◌++◌, length, replicate, None, refl, sym, ap, ◌∙◌, subst, inl, inr, arith}
 use Rattle.std.proofs.lemmas.List.{replicate-append-replicate}
-use Rattle.lock_model.specs.Queues.{BySignal, lock_queue}
+use Rattle.lock_model.specs.Queues.{BySignal, ByAbort, lock_queue}
 use Rattle.lock_model.specs.Words.{Word}
 use Rattle.lock_model.specs.declared.event.Event.{Event}
 use Rattle.lock_model.specs.declared.event.Reversal.{Reversal}
 use Rattle.lock_model.specs.declared.numbers.LockNo.{LockNo}
+use Rattle.lock_model.specs.declared.plan.Kind.{Kind}
 use Rattle.lock_model.specs.declared.plan.Mode.{Mode}
 use Rattle.lock_objects.specs.Represents.{walk_of}
 use Rattle.lock_state.specs.State.{Walk, NoWalk, AtLock, AtThread}
-use Rattle.lock_state.specs.Steps.{Step, Seeks, Looks, Gains, Admits, Refuses, Enters, Readies, Resumes, Stamps, TakesItem}
+use Rattle.lock_state.specs.Steps.{Step, Seeks, Looks, Gains, Admits, Refuses, Readies, Resumes, Stamps, TakesItem}
 use Rattle.lock_state.specs.Steps.Items.{RecordOf, ClassGraph}
 use Rattle.floor_table.specs.Descriptions.{config_in}
 use Rattle.floor_table.specs.declared.description.Description.{Description}
@@ -29,10 +30,11 @@ use Rattle.lock_floor.proofs.Resuming.{waits_queued}
 use Rattle.lock_floor.proofs.Taking.{HasWaited, waits_none, waits_on}
 use Rattle.lock_floor.proofs.WalkHops.{hops_all}
 use Rattle.lock_calls.specs.Steps as steps
-use Rattle.lock_calls.specs.Steps.{IsGain, HasMissedFirst, MissesFirst, none_missed, one_missed, as_taken, begins_round, gains_checked, gains_at_once, refuses, comes_there, gives_both, runs_on, enters_there, gains_there, ComesToRound, Locks}
-use Rattle.lock_calls.specs.Takes.{IsTaking, IsUnderTake, TakesOn, TakeLeg, TakeEnd, IsRefused, admitted, at_check, looks, takes_chain, comes_in, looks_there, enters, takes_turnstiles, hops, resumes, finds_out, is_queued, in_round, in_section}
+use Rattle.lock_calls.specs.Steps.{IsGain, HasMissedFirst, MissesFirst, none_missed, one_missed, as_taken, begins_round, enters_by, gains_checked, gains_at_once, refuses, comes_there, gives_both, runs_on, enters_there, gains_there, ComesToRound, Locks}
+use Rattle.lock_calls.specs.Takes.{IsTaking, IsUnderTake, TakesOn, TakeLeg, TakeEnd, IsRefused, IsHalted, WasHalted, admitted, at_check, looks, takes_chain, comes_in, looks_there, enters, takes_turnstiles, hops, resumes, finds_out, is_queued, in_round, in_section}
 use Rattle.lock_calls.specs.Waiting.{Kept, kept_of, IsCalling}
 use Rattle.lock_calls.proofs.Attempts.{misses_bare, misses_few}
+use Rattle.lock_calls.proofs.Halted.{halt_is_set}
 use Rattle.lock_calls.proofs.Looks.{each_append, last_step}
 use Rattle.lock_calls.proofs.Refused.{bare_admitted}
 use Rattle.lock_calls.proofs.Spun.{leaving_waits, fewer_left, looks_in_it}
@@ -70,7 +72,7 @@ pub record HasComeThere (floor : Description) (l : ℕ) (mode : Mode) (begun now
   pub m : ℕ
   pub each : MakesEach floor (replicate m (Looks begun.thread l false ∷ [])) there now
 
--- it came to stand on the turnstile, and made hops
+-- it came to stand on the queue, and made hops
 pub record HasStood (floor : Description) (l : ℕ) (mode : Mode) (begun now : Knowledge) : Type 0 where
   pub looked : Knowledge
   pub rounds : HasLookedInRound floor l mode begun looked
@@ -134,6 +136,23 @@ hops_sooner floor w old mid new h x = record {
     go [] each only = absurd (hop_goes_on old.thread old.share.doing.walk only)
     go (s ∷ ss) each only = each_sooner floor s ss old mid new h each
 
+-- an entry that leaves the locks that the thread holds is one since the begin
+note_since : (floor : Description) (e : Event) (begun now new : Knowledge) → kept_of now ≡ kept_of begun
+    → MakesEntry floor e now.share.held now new → MakesEntry floor e begun.share.held begun new
+note_since floor e begun now new kept x = record {
+  ticket = x.ticket;
+  log = x.log ∙ ap (λ (k : Kept). entry_by k.thread x.ticket e ∷ k.log) kept;
+  held = x.held ∙ ap (λ (k : Kept). k.held) kept;
+  spare = x.spare ∙ ap (λ (k : Kept). k.spare) kept;
+  thread = x.thread ∙ ap (λ (k : Kept). k.thread) kept;
+  before = x.before;
+  behind = x.behind;
+  of = x.of ∙ ap (λ (k : Kept). k.thread) kept;
+  step = subst (λ t. Makes floor (Stamps t e ∷ []) x.before x.behind) (ap (λ (k : Kept). k.thread) kept) x.step;
+  log_before = x.log_before ∙ ap (λ (k : Kept). k.log) kept;
+  log_behind = x.log_behind;
+}
+
 -- 2. The begin
 
 pub begins_at : (floor : Description) (l : ℕ) (mode : Mode) (begun now : Knowledge) (missed : ℕ)
@@ -155,6 +174,9 @@ none_made floor l mode missed next old new (one_missed n from found before plain
 module _ (floor : Description) (l : LockNo) (mode : Mode) (begun : Knowledge) where
   abbrev look : List Step
   look = Looks begun.thread l.0 true ∷ []
+
+  abbrev kind : Kind
+  kind = (config_in floor).kind l.0
 
   abbrev look_there : List Step
   look_there = Looks begun.thread l.0 false ∷ []
@@ -225,7 +247,6 @@ module _ (floor : Description) (l : LockNo) (mode : Mode) (begun : Knowledge) wh
         }
     goes_on at to there h (looks seen left n rest word some on leaves) =
         let each = looks_in_it floor l.0 mode n word now seen on in
-        let kind = (config_in floor).kind l.0 in
         let less : rest < left = fewer_left floor kind mode word left rest seen new leaves some in
         let made : MakesEach floor (replicate n look) h.came seen =
         looks_sooner n h.came now seen each.0 h.waited
@@ -276,15 +297,13 @@ module _ (floor : Description) (l : LockNo) (mode : Mode) (begun : Knowledge) wh
       waited = waits_none new;
     }
     goes_on at to there h (enters seen x w each) =
-        let made : MakesEach floor ((Enters begun.thread l.0 mode x ∷ []) ∷ gives_both floor begun.thread l.0) h.came
-        new =
-        each_sooner floor (Enters begun.thread l.0 mode x ∷ []) (gives_both floor begun.thread l.0) h.came now new
-        h.waited
-        (subst (λ t. MakesEach floor ((Enters t l.0 mode x ∷ []) ∷ gives_both floor t l.0) now new) its each) in
+        let enter : List Step = enters_by kind begun.thread l.0 mode x ∷ [] in
+        let made : MakesEach floor (enter ∷ gives_both floor begun.thread l.0) h.came new =
+        each_sooner floor enter (gives_both floor begun.thread l.0) h.came now new h.waited
+        (subst (λ t. MakesEach floor ((enters_by kind t l.0 mode x ∷ []) ∷ gives_both floor t l.0) now new) its each) in
         let c = h.has_come in
-        let behind_looks : MakesEach floor
-        (replicate c.m look_there ++ (Enters begun.thread l.0 mode x ∷ []) ∷ []) c.there made.0 =
-        each_append floor (replicate c.m look_there) ((Enters begun.thread l.0 mode x ∷ []) ∷ []) c.there h.came made.0
+        let behind_looks : MakesEach floor (replicate c.m look_there ++ enter ∷ []) c.there made.0 =
+        each_append floor (replicate c.m look_there) (enter ∷ []) c.there h.came made.0
         c.each (made.0, made.1, refl) in
         record {
           came = new;
@@ -296,10 +315,10 @@ module _ (floor : Description) (l : LockNo) (mode : Mode) (begun : Knowledge) wh
             m = c.m;
             x = x;
             each = each_append floor (comes_there floor begun.thread l.0)
-                ((replicate c.m look_there ++ (Enters begun.thread l.0 mode x ∷ []) ∷ [])
-                ++ gives_both floor begun.thread l.0) c.looked c.there new c.come
-                (each_append floor (replicate c.m look_there ++ (Enters begun.thread l.0 mode x ∷ []) ∷ [])
-                (gives_both floor begun.thread l.0) c.there made.0 new behind_looks made.2);
+                ((replicate c.m look_there ++ enter ∷ []) ++ gives_both floor begun.thread l.0) c.looked c.there new
+                c.come
+                (each_append floor (replicate c.m look_there ++ enter ∷ []) (gives_both floor begun.thread l.0) c.there
+                made.0 new behind_looks made.2);
             walked = no_hop;
             thread = its_then;
           };
@@ -438,6 +457,46 @@ module _ (floor : Description) (l : LockNo) (mode : Mode) (begun : Knowledge) wh
           notes = last_step floor (Stamps begun.thread (Event.Locked l mode) ∷ []) chain_back.0 new chain_back.2;
         }
 
+    -- or its sleep was ended
+    pub halts : (at : TakeAt) → IsAt floor l.0 mode begun at now → kept_of now ≡ kept_of begun
+        → IsHalted floor l at now new → WasHalted floor l mode begun new
+    halts at h kept x =
+        let c : HasStood floor l.0 mode begun h.came =
+        subst (λ a. HasCome floor l.0 mode begun a h.came) x.stood h.has_come in
+        let r = c.rounds in
+        let note : List Step = Stamps begun.thread (Event.HaltedLock l) ∷ [] in
+        let made : MakesEach floor ((Resumes begun.thread (lock_queue l.0) ByAbort ∷ []) ∷ note ∷ []) h.came new =
+        each_sooner floor (Resumes begun.thread (lock_queue l.0) ByAbort ∷ []) (note ∷ []) h.came now new h.waited
+        (subst (λ t. MakesEach floor ((Resumes t (lock_queue l.0) ByAbort ∷ [])
+        ∷ (Stamps t (Event.HaltedLock l) ∷ []) ∷ []) now new) its x.steps) in
+        let noted : Makes floor note made.0 new = last_step floor note made.0 new made.2 in
+        record {
+          sleeps = x.sleeps;
+          rest = x.rest;
+          entry = note_since floor (Event.HaltedLock l) begun now new kept x.entry;
+          ends = record {
+            looks = r.before;
+            u = r.round;
+            comes = r.comes;
+            n = r.n;
+            few = c.few;
+            m = c.m;
+            x = c.x;
+            stands = c.stands;
+            enters = each_append floor (replicate r.n look) (enters_there floor begun.thread l.0 mode c.m c.x) r.round
+                c.looked c.stands r.each c.each;
+            runs = made.0;
+            sleeps = record {
+              walked = h.came;
+              walk = c.walked;
+              resume = subst (λ t. Makes floor (Resumes t (lock_queue l.0) ByAbort ∷ []) h.came made.0) (sym c.thread)
+                  made.1;
+            };
+            notes = noted;
+            halt_word = halt_is_set floor l begun.thread made.0 new noted;
+          };
+        }
+
 -- 6. What the whole take leaves
 
 -- its entry is one since the begin
@@ -475,24 +534,10 @@ pub refused_since : (floor : Description) (l : LockNo) (mode : Mode) (begun now 
     → kept_of now ≡ kept_of begun → IsAt floor l.0 mode begun Checks now → IsRefused floor l r now new
     → IsRefused floor l r begun new
 refused_since floor l mode begun now new r kept h x =
-    let e = x.entry in
     record {
       wanted = x.wanted;
       rest = x.rest;
-      entry = record {
-        ticket = e.ticket;
-        log = e.log ∙ ap (λ (k : Kept). entry_by k.thread e.ticket (Event.Reversed l r.held) ∷ k.log) kept;
-        held = e.held ∙ ap (λ (k : Kept). k.held) kept;
-        spare = e.spare ∙ ap (λ (k : Kept). k.spare) kept;
-        thread = e.thread ∙ ap (λ (k : Kept). k.thread) kept;
-        before = e.before;
-        behind = e.behind;
-        of = e.of ∙ ap (λ (k : Kept). k.thread) kept;
-        step = subst (λ t. Makes floor (Stamps t (Event.Reversed l r.held) ∷ []) e.before e.behind)
-            (ap (λ (k : Kept). k.thread) kept) e.step;
-        log_before = e.log_before ∙ ap (λ (k : Kept). k.log) kept;
-        log_behind = e.log_behind;
-      };
+      entry = note_since floor (Event.Reversed l r.held) begun now new kept x.entry;
       steps = elim (none_made floor l.0 mode h.has_come.0 h.has_come.1.next begun h.came h.has_come.1.misses) [
         | inl none ↦ subst (λ k. MakesEach floor (refuses begun.thread l r.held) k new) (sym none) made
         | inr some ↦ absurd (bare_admitted floor l r.held now new

@@ -1,22 +1,29 @@
 -- A blocking call in the section of the lock's chain: what allows its steps there, and what each leaves.
-use Rattle.std.proofs.Common.{◌≡◌, ◌≢◌, ℕ, ◌<◌, ◌≤◌, Bool, true, false, cond, not, ◌&&◌, ◌||◌, Option, Some, None, [], ◌∷◌, length, refl, sym, ap, ◌∙◌, subst, inl, inr, eq-eqb}
+use Rattle.std.proofs.Common.{◌≡◌, ◌≢◌, ℕ, ◌<◌, ◌≤◌, Bool, true, false, cond, not, ◌&&◌, ◌||◌, Option, Some, None, List, [], ◌∷◌, length, refl, sym, ap, ◌∙◌, subst, inl, inr, eq-eqb}
 use Rattle.std.proofs.lemmas.Option.{same_Some}
 use Rattle.lock_model.specs.Operations.{hold_in}
-use Rattle.lock_model.specs.Queues.{lock_queue}
+use Rattle.lock_model.specs.Queues.{lock_queue, side_of}
 use Rattle.lock_model.specs.Words.{Word, word_of, is_free, is_plain, is_turnstile, admits}
 use Rattle.lock_model.specs.declared.numbers.LockNo.{LockNo}
 use Rattle.lock_model.specs.declared.plan.Mode.{Mode}
 use Rattle.lock_model.specs.declared.plan.Mode.TheVariants.{Excl}
+use Rattle.lock_model.specs.declared.plan.QueueName.{QueueName}
+use Rattle.lock_objects.specs.Enters.{waiter_of, record_entered, chain_entered}
 use Rattle.lock_objects.specs.Hops.{record_claimed, chain_claimed}
+use Rattle.lock_objects.specs.Sleeps.{sleeper_of, record_asleep, chain_asleep}
 use Rattle.std.specs.Box.{with_value}
+use Rattle.std.specs.declared.alloc.Global.{Global}
+use Rattle.std.specs.declared.boxed.Box.{Box}
+use Rattle.thread_records.specs.declared.record.ThreadRec.{ThreadRec}
+use Rattle.turnstile_core.specs.Seen.{Turnstile}
 use Rattle.lock_laws.proofs.Words.{IsClaim}
-use Rattle.lock_state.specs.State.{NoWalk, AtLock}
+use Rattle.lock_state.specs.State.{Walk, NoWalk, AtLock}
 use Rattle.lock_state.specs.Steps.{Step, Looks, Gains, Claims, Enters, Readies, TakesItem, FitsRound, IsOfRound, seeks, is_first}
 use Rattle.lock_state.specs.Steps.Items.{RecordOf, item_with, in_its_chain, is_chain}
 use Rattle.lock_state.specs.Steps.Turnstiles.{walk_up}
 use Rattle.floor_table.specs.Descriptions.{config_in}
 use Rattle.floor_table.specs.declared.description.Description.{Description}
-use Rattle.floor_table.specs.declared.slot.Slot.TheVariants.{Record, Turnstiles}
+use Rattle.floor_table.specs.declared.slot.Slot.TheVariants.{Record}
 use Rattle.floor_table.specs.Places.{slot_of}
 use Rattle.floor_table.specs.Shelves.{found}
 use Rattle.floor_table.specs.Steps.{Makes, MakesEach, MayMake}
@@ -26,20 +33,24 @@ use Rattle.floor_table.proofs.Shelved.{found_first, found_later}
 use Rattle.lock_floor.specs.Claims.{MayClaimIt, ClaimsIt, out_claimed}
 use Rattle.lock_floor.specs.Latches.{Takes}
 use Rattle.lock_floor.specs.Opens.{HasBothOut}
+use Rattle.lock_floor.specs.SleepLocks.{MayEnterAsleep, EntersAsleep}
+use Rattle.lock_floor.specs.Sleeps.{HasSleeperOut, out_asleep}
 use Rattle.lock_floor.specs.Passes.{IsGoing}
 use Rattle.lock_floor.specs.Views.{counts, looked, gained, took, is_there, is_out}
-use Rattle.lock_floor.specs.Waits.{its_chain, chain_place, readied, both_out}
+use Rattle.lock_floor.specs.Waits.{its_chain, chain_place, readied, out_entered, entered}
 use Rattle.lock_floor.proofs.ChainPlaces.{chain_at}
-use Rattle.lock_floor.proofs.InSection.{chain_out, record_out}
+use Rattle.lock_floor.proofs.MaySleep.{may_enter_asleep}
 use Rattle.lock_floor.proofs.MayWait as wait
 use Rattle.lock_floor.proofs.MayWait.{IsNoSleeper, is_a_chain}
 use Rattle.lock_floor.proofs.Taking.{record_at}
+use Rattle.lock_calls.specs.Sections.{section_out, HasRecordAndChain}
 use Rattle.lock_calls.specs.Steps.{IsCovered, as_taken}
 use Rattle.lock_calls.specs.Takes.{HasChainOut, IsContending}
-use Rattle.lock_calls.specs.Waiting.{kept_of, IsCalling, IsSeeking, HasLooked, IsThere, Saw, GainsStep, MissesThere}
+use Rattle.lock_calls.specs.Waiting.{kept_of, IsCalling, IsSeeking, HasLooked, IsThere, Saw, GainsStep, EntersStep, MissesThere}
 use Rattle.lock_calls.proofs.Attempts.{unhalted, wants_it}
 use Rattle.lock_calls.proofs.Words.{word_seen, saw_others}
 use Rattle.lock_calls.proofs.Looks.{look_once}
+use Rattle.lock_calls.proofs.Sections.{HasItsObjects, chain_out, record_out, as_both, as_sleeper, from_both, from_sleeper, enters_turnstile, enters_asleep}
 
 -- 1. The way there
 
@@ -69,6 +80,7 @@ chain_still floor l v w view m = subst (HasChainOut floor l) (sym view) record {
   no_walk = m.no_walk;
   runs = m.runs;
   chain = m.chain;
+  of_lock = m.of_lock;
   out = m.out;
 }
 
@@ -81,10 +93,9 @@ module _ (floor : Description) (l : ℕ) (v : Knowledge) (m : IsSeeking l v) whe
       (λ e. refl)) (wants_it floor l v m)
 
   -- the chain was taken
-  pub has_chain : is_turnstile ((config_in floor).kind l) ≡ true → (a : Knowledge)
+  pub has_chain : (a : Knowledge)
       → Takes floor (its_chain floor (lock_queue l)) (chain_place floor (lock_queue l)) v a → HasChainOut floor l a
-  has_chain turnstile a one =
-      let chain = chain_out floor l v a one turnstile m.nothing_out in
+  has_chain a one =
       record {
         unheld = ap (λ (k : Knowledge). hold_in k.share.held l) one.view ∙ m.unheld;
         few = subst (λ hs. length hs < 8) (sym (ap (λ (k : Knowledge). k.share.held) one.view)) m.few;
@@ -95,15 +106,16 @@ module _ (floor : Description) (l : ℕ) (v : Knowledge) (m : IsSeeking l v) whe
             (is_a_chain floor (lock_queue l)) ∙ ap in_its_chain m.round;
         no_walk = ap (λ (k : Knowledge). k.share.doing.walk) one.view ∙ m.no_walk;
         runs = ap (λ (k : Knowledge). k.pose) one.view ∙ m.runs;
-        chain = chain.0;
-        out = chain.1;
+        chain = one.value;
+        of_lock = one.kind;
+        out = chain_out floor l v a one m.nothing_out;
       }
 
 module _ (floor : Description) (l : ℕ) (a : Knowledge) (m : HasChainOut floor l a) (going : IsGoing a) (who : ℕ) where
   pub may_take_own_there : who < length floor.threads
       → MayMake floor a (λ s. s.record_with who ≡ None) (TakesItem a.thread (RecordOf who) ∷ [])
   may_take_own_there low =
-      wait.may_take_record floor a (lock_queue l) (Turnstiles m.chain) m.out who low m.runs going
+      wait.may_take_record floor a (lock_queue l) m.chain m.out who low m.runs going
 
   module _ (is : who ≡ a.thread) (b : Knowledge) (two : Takes floor (RecordOf who) who a b) where
     own : Takes floor (RecordOf a.thread) a.thread a b
@@ -112,24 +124,13 @@ module _ (floor : Description) (l : ℕ) (a : Knowledge) (m : HasChainOut floor 
     its : b.thread ≡ a.thread
     its = ap (λ (k : Knowledge). k.thread) own.view
 
-    -- the own record has its turnstile
-    out_now : (x : ℕ) × ((h : HasBothOut floor l b) × (h.box.value.turnstile ≡ Some x))
-    out_now =
-        let out = record_out floor l a b m.chain own (ap is_off_queues m.runs) m.out in (
-          out.0,
-          (
-            record {
-              box = out.1;
-              chain = m.chain;
-              out = out.2 ∙ ap (λ t. both_out floor t l out.1 m.chain) (sym its);
-            },
-            out.3,
-          ),
-        )
+    -- the own record has its turnstile and its sleep queue
+    out_now : (both : HasRecordAndChain floor l b) × HasItsObjects both.box
+    out_now = record_out floor l a b m.chain m.of_lock own (ap is_off_queues m.runs) m.out
 
     pub may_ready_there : MayMake floor b (λ s. Unit {0}) (Readies b.thread (lock_queue l) ∷ [])
     may_ready_there =
-        wait.may_ready floor b (lock_queue l) (Record out_now.1.0.box) (Turnstiles out_now.1.0.chain) out_now.1.0.out
+        wait.may_ready floor b (lock_queue l) (Record out_now.0.box) out_now.0.chain out_now.0.out
         (ap (λ (k : Knowledge). k.pose) own.view ∙ m.runs)
         (record {
           awake = ap (λ (k : Knowledge). k.share.doing.phase) own.view ∙ going.awake;
@@ -158,13 +159,16 @@ module _ (floor : Description) (l : ℕ) (a : Knowledge) (m : HasChainOut floor 
             of_floor = subst (λ t. t < length floor.threads)
                 (is ∙ sym (ap (λ (k : Knowledge). k.thread) ready_is)) low;
             both = record {
-              box = out_now.1.0.box;
-              chain = out_now.1.0.chain;
-              out = ap (λ (k : Knowledge). k.out) view ∙ out_now.1.0.out
-                  ∙ ap (λ t. both_out floor t l out_now.1.0.box out_now.1.0.chain) same;
+              box = out_now.0.box;
+              chain = out_now.0.chain;
+              of_lock = out_now.0.of_lock;
+              out = ap (λ (k : Knowledge). k.out) view ∙ out_now.0.out
+                  ∙ ap (λ t. section_out floor t l out_now.0.box out_now.0.chain) same;
             };
-            turnstile = out_now.0;
-            lent = out_now.1.1;
+            turnstile = out_now.1.turnstile;
+            lent = out_now.1.lent;
+            sleep_queue = out_now.1.sleep_queue;
+            home = out_now.1.home;
           }
 
       -- a look there is the last of these steps
@@ -210,8 +214,8 @@ module _ (floor : Description) (l : ℕ) (mode : Mode) (v : Knowledge) (covered 
     chain_is_out = ap (is_out v.out) (chain_at floor some_chains (lock_queue l))
         ∙ ap (λ out. is_there (found j out)) m.both.out
         ∙ ap is_there
-        (found_later v.thread j (Record m.both.box) ((j, Turnstiles m.both.chain) ∷ []) apart
-        ∙ found_first j (Turnstiles m.both.chain) [])
+        (found_later v.thread j (Record m.both.box) ((j, m.both.chain) ∷ []) apart
+        ∙ found_first j m.both.chain [])
 
     pub quiet_there : counts v l ≡ false
     quiet_there =
@@ -234,7 +238,7 @@ module _ (floor : Description) (l : ℕ) (mode : Mode) (v : Knowledge) (covered 
 
     pub may_look_in_section : MayMake floor v (λ s. Unit {0}) (Looks v.thread l (counts v l) ∷ [])
     may_look_in_section =
-        wait.may_look_there floor v l (Record m.both.box) (Turnstiles m.both.chain) m.both.out covered.lock going
+        wait.may_look_there floor v l (Record m.both.box) m.both.chain m.both.out covered.lock going
         no_sleeper
         k.description of_round
 
@@ -253,7 +257,7 @@ module _ (floor : Description) (l : ℕ) (mode : Mode) (v : Knowledge) (covered 
         → is_plain ((config_in floor).kind l) word mode ≡ true
         → MayMake floor v (λ s. s.word l ≡ word) (Gains v.thread l mode false ∷ [])
     may_gain_in_section word saw admitted plain =
-        wait.may_gain_there floor v l (Record m.both.box) (Turnstiles m.both.chain) m.both.out covered.lock going
+        wait.may_gain_there floor v l (Record m.both.box) m.both.chain m.both.out covered.lock going
         no_sleeper
         mode false word admitted plain m.unheld (inl m.wants) of_round
         (subst (λ r. FitsRound r l false) (sym m.round) (refl, refl))
@@ -264,8 +268,8 @@ module _ (floor : Description) (l : ℕ) (mode : Mode) (v : Knowledge) (covered 
     pub may_claim_in_section : (word : Word) → Saw l word v → IsClaim ((config_in floor).kind l) word mode
         → MayClaimIt floor l false word v
     may_claim_in_section word saw claim = record {
-      both = m.both;
-      may = wait.may_claim_there floor v l (Record m.both.box) (Turnstiles m.both.chain) m.both.out covered.lock going
+      both = as_both floor l (ap is_turnstile claim.is_rw) v m.both;
+      may = wait.may_claim_there floor v l (Record m.both.box) m.both.chain m.both.out covered.lock going
           no_sleeper false word claim.is_rw claim.free claim.shown m.unheld (inl m.wants) of_round
           (subst (λ r. FitsRound r l false) (sym m.round) (refl, refl))
           (last_seen Excl word saw claim.free) (λ j e. same_Some j l (sym e ∙ m.takes)) (λ e. m.takes)
@@ -275,14 +279,23 @@ module _ (floor : Description) (l : ℕ) (mode : Mode) (v : Knowledge) (covered 
 
     -- 4. The enter
 
-    pub may_enter_in_section : (seen : ℕ) → Saw l (word_of seen) v → is_free (word_of seen).holder ≡ false
+    pub may_enter_in_section : is_turnstile ((config_in floor).kind l) ≡ true → (seen : ℕ) → Saw l (word_of seen) v
+        → is_free (word_of seen).holder ≡ false
         → admits ((config_in floor).kind l) (word_of seen) mode ≡ false
         → MayMake floor v (λ s. s.word l ≡ word_of seen) (Enters v.thread l mode m.turnstile ∷ [])
-    may_enter_in_section seen saw held refused =
-        wait.may_enter_there floor v l m.both.box (Turnstiles m.both.chain) m.both.out covered.lock going no_sleeper
+    may_enter_in_section turnstile seen saw held refused =
+        wait.may_enter_there floor v l m.both.box m.both.chain m.both.out covered.lock going no_sleeper
         mode
-        m.turnstile (word_of seen) held refused covered.turnstile covered.mutex m.lent m.ready m.wants m.no_walk
+        m.turnstile (word_of seen) held refused turnstile covered.mutex m.lent m.ready m.wants m.no_walk
         k.sections saw.last m.round
+
+    -- on a sleep queue
+    pub may_lie_in_section : is_turnstile ((config_in floor).kind l) ≡ false → (seen : ℕ) → Saw l (word_of seen) v
+        → is_free (word_of seen).holder ≡ false → admits ((config_in floor).kind l) (word_of seen) mode ≡ false
+        → MayEnterAsleep floor l mode (word_of seen) v
+    may_lie_in_section sleeps seen saw held refused =
+        may_enter_asleep floor v l m.sleep_queue mode (word_of seen) covered.lock (as_sleeper floor l sleeps v m.both)
+        m.home going no_sleeper held refused sleeps m.ready m.wants m.no_walk k.sections saw.last m.round
 
   pub missed_there : (seen found : ℕ) (w : Knowledge) → found ≢ seen
       → w ≡ seeing w.seen (looked v l (word_of found)) → Makes floor (Looks v.thread l (counts v l) ∷ []) v w
@@ -303,8 +316,8 @@ gained_plainly floor l mode v m w view step = record {
   is_gain = inl refl;
   out = v.out;
   view = view;
-  both = subst (HasBothOut floor l.0) (sym view)
-      (record { box = m.both.box; chain = m.both.chain; out = m.both.out });
+  both = subst (HasRecordAndChain floor l.0) (sym view)
+      (record { box = m.both.box; chain = m.both.chain; of_lock = m.both.of_lock; out = m.both.out });
   step = step;
 }
 
@@ -319,12 +332,65 @@ gained_by_claim floor l mode v w exclusive x =
       is_gain = inr (refl, h.contents.number, refl);
       out = out_claimed floor v.thread l.0 x.both.box x.both.chain h;
       view = x.view;
-      both = subst (HasBothOut floor l.0) (sym x.view) record {
-        box = with_value x.both.box (record_claimed l.0 h x.both.box.value);
-        chain = chain_claimed l.0 x.both.box.value.thread h x.both.chain;
-        out = refl;
-      };
+      both = from_both floor l.0 (ap is_turnstile x.step.may.0.fits.may.kind) w
+          (subst (HasBothOut floor l.0) (sym x.view) record {
+            box = with_value x.both.box (record_claimed l.0 h x.both.box.value);
+            chain = chain_claimed l.0 x.both.box.value.thread h x.both.chain;
+            out = refl;
+          });
       step = x.step;
+    }
+
+-- it came to stand on the lock's turnstile,
+pub stood_there : (floor : Description) (l : ℕ) (mode : Mode) (at : Walk) (v w : Knowledge)
+    → is_turnstile ((config_in floor).kind l) ≡ true → (x : ℕ) (b : Box ThreadRec Global)
+    → (chain : List (QueueName × Turnstile)) (owner : Option ℕ) → at ≡ walk_up l owner
+    → w ≡ seeing w.seen (entered v l owner (out_entered floor v.thread l mode x owner b chain))
+    → Makes floor (Enters v.thread l mode x ∷ []) v w → EntersStep floor l mode at v w
+stood_there floor l mode at v w turnstile x b chain owner walk_is view step = record {
+  object = x;
+  owner = owner;
+  walk_is = walk_is;
+  ownerless = λ sleeps. absurd (let z : true ≡ false = sym turnstile ∙ sleeps in cc);
+  out = out_entered floor v.thread l mode x owner b chain;
+  view = view;
+  both = from_both floor l turnstile w
+      (subst (HasBothOut floor l) (sym view) record {
+        box = with_value b (record_entered l b.value);
+        chain = chain_entered l (side_of mode) x owner (waiter_of b.value) chain;
+        out = refl;
+      });
+  step = subst (λ s. Makes floor (s ∷ []) v w)
+      (enters_turnstile ((config_in floor).kind l) v.thread l mode x turnstile) step;
+}
+
+-- or on its sleep queue, where no walk begins
+pub lay_there : (floor : Description) (l : ℕ) (mode : Mode) (v w : Knowledge)
+    → is_turnstile ((config_in floor).kind l) ≡ false → v.share.doing.walk ≡ NoWalk → EntersAsleep floor l mode v w
+    → EntersStep floor l mode NoWalk v w
+lay_there floor l mode v w sleeps no_walk x =
+    let out = out_asleep floor v.thread (lock_queue l) (side_of mode) x.own x.sleeper.box x.sleeper.chain in
+    let view : w ≡ seeing w.seen (entered v l None out) =
+    x.view ∙ (λ i. seeing w.seen (record (entered v l None out) {
+      share = record (entered v l None out).share {
+        doing = record (entered v l None out).share.doing { walk = no_walk i };
+      };
+    })) in
+    record {
+      object = x.own;
+      owner = None;
+      walk_is = refl;
+      ownerless = λ e. refl;
+      out = out;
+      view = view;
+      both = from_sleeper floor l sleeps w
+          (subst (HasSleeperOut floor (lock_queue l)) (sym x.view) record {
+            box = with_value x.sleeper.box (record_asleep (lock_queue l) x.sleeper.box.value);
+            chain = chain_asleep (lock_queue l) (side_of mode) x.own (sleeper_of x.sleeper.box.value) x.sleeper.chain;
+            out = refl;
+          });
+      step = subst (λ s. Makes floor (s ∷ []) v w)
+          (enters_asleep ((config_in floor).kind l) v.thread l mode x.own sleeps) x.step;
     }
 
 -- looks stay there
@@ -339,9 +405,11 @@ there_on floor l n u v m x = subst (IsThere floor l) (sym x.knows) record {
   no_walk = m.no_walk;
   ready = m.ready;
   of_floor = m.of_floor;
-  both = record { box = m.both.box; chain = m.both.chain; out = m.both.out };
+  both = record { box = m.both.box; chain = m.both.chain; of_lock = m.both.of_lock; out = m.both.out };
   turnstile = m.turnstile;
   lent = m.lent;
+  sleep_queue = m.sleep_queue;
+  home = m.home;
 }
 
 pub saw_word : (floor : Description) (l : ℕ) (v w : Knowledge) (word : Word) → w ≡ seeing w.seen (looked v l word)

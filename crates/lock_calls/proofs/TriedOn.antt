@@ -3,7 +3,7 @@ use Rattle.std.proofs.Common.{◌≡◌, ◌≢◌, ◌⊎◌, inl, inr, ℕ, �
 use Rattle.std.proofs.lemmas.Option.{same_Some}
 use Rattle.std.specs.Prelude.{◌-◌, if◌then◌else◌}
 use Rattle.lock_model.specs.Queues.{lock_queue}
-use Rattle.lock_model.specs.Words.{Word, word_of, is_turnstile, admits, is_plain}
+use Rattle.lock_model.specs.Words.{Word, word_of, admits, is_plain}
 use Rattle.lock_model.specs.declared.event.Event.TheVariants.{Tried, Busy}
 use Rattle.lock_model.specs.declared.numbers.LockNo.{LockNo}
 use Rattle.lock_model.specs.declared.plan.Kind.{Kind}
@@ -172,11 +172,10 @@ module _ (floor : Description) (l : LockNo) (mode : Mode) (left : ℕ) (some : 1
 
 module _ (floor : Description) (l : LockNo) (mode : Mode) (old new : Knowledge) (m : SeeksByTry l.0 old)
     (room : old.share.doing.looks + (0 + 0) ≤ 100) where
-  pub chain_on : is_turnstile ((config_in floor).kind l.0) ≡ true
-      → Takes floor (its_chain floor (lock_queue l.0)) (chain_place floor (lock_queue l.0)) old new
+  pub chain_on : Takes floor (its_chain floor (lock_queue l.0)) (chain_place floor (lock_queue l.0)) old new
       → TriesOn floor l mode (Tries 0) ComesIn old new
-  chain_on turnstile one = record {
-    there = has_chain_by_try floor l.0 old new m turnstile one;
+  chain_on one = record {
+    there = has_chain_by_try floor l.0 old new m one;
     kept = ap kept_of one.view;
     looked = omega (arith, ap (λ (x : Knowledge). x.share.doing.looks_in_all) one.view);
     leg = takes_chain one.step;

@@ -20,13 +20,13 @@ use Rattle.lock_floor.specs.Latches.{Takes}
 use Rattle.lock_floor.specs.Passes.{IsAtRest}
 use Rattle.lock_floor.specs.Views.{counts, looked, sought, gained}
 use Rattle.lock_floor.specs.Waits.{its_chain, chain_place}
-use Rattle.lock_floor.proofs.InSection.{chain_out}
 use Rattle.lock_floor.proofs.May.{BeginsRound, WantsItsRound, counts_there, may_look, may_seek, may_seek_gain, may_gain}
 use Rattle.lock_floor.proofs.MayWait as wait
 use Rattle.lock_floor.proofs.MayWait.{is_a_chain}
 use Rattle.lock_calls.specs.Steps.{IsCovered}
 use Rattle.lock_calls.specs.Tries.{About, about_of, nothing_else, as_tried, SeeksByTry, HasChainInTry}
 use Rattle.lock_calls.specs.Waiting.{kept_of, IsCalling, HasSpun, SpinsThenGains, with_looks_counted}
+use Rattle.lock_calls.proofs.Sections.{chain_out}
 use Rattle.lock_calls.proofs.Attempts.{free_admits, plainly, unhalted}
 
 -- 1. The first exchange
@@ -165,10 +165,8 @@ some_chain floor l there = go (is_turnstile ((config_in floor).kind l)) there
     go false low = omega (arith, low)
 
 pub has_chain_by_try : (floor : Description) (l : ℕ) (v a : Knowledge) → SeeksByTry l v
-    → is_turnstile ((config_in floor).kind l) ≡ true
     → Takes floor (its_chain floor (lock_queue l)) (chain_place floor (lock_queue l)) v a → HasChainInTry floor l a
-has_chain_by_try floor l v a m turnstile one =
-    let chain = chain_out floor l v a one turnstile m.nothing_out in
+has_chain_by_try floor l v a m one =
     record {
       unheld = ap (λ (k : Knowledge). hold_in k.share.held l) one.view ∙ m.unheld;
       few = subst (λ hs. length hs < 8) (sym (ap (λ (k : Knowledge). k.share.held) one.view)) m.few;
@@ -177,8 +175,9 @@ has_chain_by_try floor l v a m turnstile one =
           ∙ ap (λ x. cond x (in_its_chain v.share.doing.round) v.share.doing.round) (is_a_chain floor (lock_queue l))
           ∙ ap in_its_chain m.round;
       some_chains = some_chain floor l one.step.may.0.fits.has_out.0;
-      chain = chain.0;
-      out = chain.1;
+      chain = one.value;
+      of_lock = one.kind;
+      out = chain_out floor l v a one m.nothing_out;
     }
 
 -- 4. What stays
@@ -229,5 +228,6 @@ chain_still_by_try floor l v w view m = subst (HasChainInTry floor l) (sym view)
   round = m.round;
   some_chains = m.some_chains;
   chain = m.chain;
+  of_lock = m.of_lock;
   out = m.out;
 }

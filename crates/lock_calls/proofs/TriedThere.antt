@@ -3,7 +3,7 @@ use Rattle.std.proofs.Common.{◌≡◌, ◌≢◌, ℕ, ◌<◌, Bool, true, fa
 use Rattle.std.specs.Box.{with_value}
 use Rattle.lock_model.specs.Operations.{hold_in}
 use Rattle.lock_model.specs.Queues.{lock_queue}
-use Rattle.lock_model.specs.Words.{Word, word_of, is_plain, admits}
+use Rattle.lock_model.specs.Words.{Word, word_of, is_plain, is_turnstile, admits}
 use Rattle.lock_model.specs.declared.numbers.LockNo.{LockNo}
 use Rattle.lock_model.specs.declared.plan.Mode.{Mode}
 use Rattle.lock_model.specs.declared.plan.Mode.TheVariants.{Excl}
@@ -13,7 +13,7 @@ use Rattle.lock_state.specs.Steps.{Step, Looks, Gains, Claims, TakesItem, FitsRo
 use Rattle.lock_state.specs.Steps.Items.{RecordOf, is_chain}
 use Rattle.floor_table.specs.Descriptions.{config_in}
 use Rattle.floor_table.specs.declared.description.Description.{Description}
-use Rattle.floor_table.specs.declared.slot.Slot.TheVariants.{Record, Turnstiles}
+use Rattle.floor_table.specs.declared.slot.Slot.TheVariants.{Record}
 use Rattle.floor_table.specs.Places.{slot_of}
 use Rattle.floor_table.specs.Shelves.{found}
 use Rattle.floor_table.specs.Steps.{Makes, MayMake}
@@ -24,15 +24,16 @@ use Rattle.lock_floor.specs.Claims.{MayClaimIt, ClaimsIt, out_claimed}
 use Rattle.lock_floor.specs.Latches.{Takes}
 use Rattle.lock_floor.specs.Opens.{HasBothOut}
 use Rattle.lock_floor.specs.Views.{counts, looked, gained, is_there, is_out}
-use Rattle.lock_floor.specs.Waits.{its_chain, chain_place, both_out}
+use Rattle.lock_floor.specs.Waits.{its_chain, chain_place}
 use Rattle.lock_floor.proofs.ChainPlaces.{chain_at}
-use Rattle.lock_floor.proofs.InSection.{record_out}
 use Rattle.lock_floor.proofs.MayWait as wait
 use Rattle.lock_floor.proofs.MayWait.{IsNoSleeper, is_a_chain}
 use Rattle.lock_floor.proofs.Taking.{record_at}
+use Rattle.lock_calls.specs.Sections.{HasRecordAndChain}
 use Rattle.lock_calls.specs.Tries.{About, about_of, as_tried, HasChainInTry, IsThereByTry, IsDeciding, GainsThere}
 use Rattle.lock_calls.specs.Waiting.{kept_of, IsCalling, Saw, MissesThere}
 use Rattle.lock_calls.proofs.Attempts.{unhalted}
+use Rattle.lock_calls.proofs.Sections.{record_out, as_both, from_both}
 use Rattle.lock_calls.proofs.There.{saw_word}
 use Rattle.lock_calls.proofs.Words.{word_seen, saw_others}
 
@@ -44,7 +45,7 @@ module _ (floor : Description) (l : ℕ) (a : Knowledge) (m : HasChainInTry floo
   runs = ap (λ (x : About). x.pose) m.about
 
   pub may_take_own_by_try : MayMake floor a (λ s. s.record_with who ≡ None) (TakesItem a.thread (RecordOf who) ∷ [])
-  may_take_own_by_try = wait.may_take_record floor a (lock_queue l) (Turnstiles m.chain) m.out who low runs k.going
+  may_take_own_by_try = wait.may_take_record floor a (lock_queue l) m.chain m.out who low runs k.going
 
   module _ (is : who ≡ a.thread) (b : Knowledge) (two : Takes floor (RecordOf who) who a b) where
     own : Takes floor (RecordOf a.thread) a.thread a b
@@ -61,7 +62,6 @@ module _ (floor : Description) (l : ℕ) (a : Knowledge) (m : HasChainInTry floo
 
     pub come_by_try : IsThereByTry floor l b
     come_by_try =
-        let out = record_out floor l a b m.chain own (ap is_off_queues runs) m.out in
         record {
           unheld = ap (λ (x : Knowledge). hold_in x.share.held l) own.view ∙ m.unheld;
           few = subst (λ hs. length hs < 8) (sym (ap (λ (x : Knowledge). x.share.held) own.view)) m.few;
@@ -69,11 +69,7 @@ module _ (floor : Description) (l : ℕ) (a : Knowledge) (m : HasChainInTry floo
           round = ap (λ (x : Knowledge). x.share.doing.round) own.view ∙ m.round;
           some_chains = m.some_chains;
           of_floor = subst (λ t. t < length floor.threads) (is ∙ sym its) low;
-          both = record {
-            box = out.1;
-            chain = m.chain;
-            out = out.2 ∙ ap (λ t. both_out floor t l out.1 m.chain) (sym its);
-          };
+          both = (record_out floor l a b m.chain m.of_lock own (ap is_off_queues runs) m.out).0;
         }
 
 -- 2. Looks there
@@ -104,8 +100,8 @@ module _ (floor : Description) (l : ℕ) (v : Knowledge) (m : IsThereByTry floor
     chain_is_out = ap (is_out v.out) (chain_at floor m.some_chains (lock_queue l))
         ∙ ap (λ out. is_there (found j out)) m.both.out
         ∙ ap is_there
-        (found_later v.thread j (Record m.both.box) ((j, Turnstiles m.both.chain) ∷ []) apart
-        ∙ found_first j (Turnstiles m.both.chain) [])
+        (found_later v.thread j (Record m.both.box) ((j, m.both.chain) ∷ []) apart
+        ∙ found_first j m.both.chain [])
 
     -- the chain is out, so they don't count
     pub quiet_by_try : counts v l ≡ false
@@ -123,7 +119,7 @@ module _ (floor : Description) (l : ℕ) (v : Knowledge) (m : IsThereByTry floor
     module _ (low : l < length floor.locks) where
       pub may_look_there_by_try : MayMake floor v (λ s. Unit {0}) (Looks v.thread l (counts v l) ∷ [])
       may_look_there_by_try =
-          wait.may_look_there floor v l (Record m.both.box) (Turnstiles m.both.chain) m.both.out low k.going no_sleeper
+          wait.may_look_there floor v l (Record m.both.box) m.both.chain m.both.out low k.going no_sleeper
           k.description of_round
 
       -- what was seen last there is the word
@@ -141,7 +137,7 @@ module _ (floor : Description) (l : ℕ) (v : Knowledge) (m : IsThereByTry floor
           → admits ((config_in floor).kind l) word mode ≡ true → is_plain ((config_in floor).kind l) word mode ≡ true
           → MayMake floor v (λ s. s.word l ≡ word) (Gains v.thread l mode true ∷ [])
       may_gain_there_by_try mode word saw admitted plain =
-          wait.may_gain_there floor v l (Record m.both.box) (Turnstiles m.both.chain) m.both.out low k.going no_sleeper
+          wait.may_gain_there floor v l (Record m.both.box) m.both.chain m.both.out low k.going no_sleeper
           mode true word admitted plain m.unheld (inr (ap (λ (x : About). x.wanted) m.about)) of_round
           (subst (λ r. FitsRound r l true) (sym m.round) (refl, refl)) (last_seen mode word saw admitted) takes_none
           (λ e. absurd cc) (λ e. absurd cc) (unhalted v k.unnoted) (ap is_off_queues runs_there)
@@ -149,8 +145,8 @@ module _ (floor : Description) (l : ℕ) (v : Knowledge) (m : IsThereByTry floor
       pub may_claim_by_try : (mode : Mode) (word : Word) → Saw l word v → IsClaim ((config_in floor).kind l) word mode
           → MayClaimIt floor l true word v
       may_claim_by_try mode word saw claim = record {
-        both = m.both;
-        may = wait.may_claim_there floor v l (Record m.both.box) (Turnstiles m.both.chain) m.both.out low k.going
+        both = as_both floor l (ap is_turnstile claim.is_rw) v m.both;
+        may = wait.may_claim_there floor v l (Record m.both.box) m.both.chain m.both.out low k.going
             no_sleeper true word claim.is_rw claim.free claim.shown m.unheld
             (inr (ap (λ (x : About). x.wanted) m.about)) of_round
             (subst (λ r. FitsRound r l true) (sym m.round) (refl, refl)) (last_seen Excl word saw claim.free) takes_none
@@ -179,7 +175,7 @@ decides floor l found v w m view step = record {
     round = m.round;
     some_chains = m.some_chains;
     of_floor = m.of_floor;
-    both = record { box = m.both.box; chain = m.both.chain; out = m.both.out };
+    both = record { box = m.both.box; chain = m.both.chain; of_lock = m.both.of_lock; out = m.both.out };
   };
   saw = saw_word floor l v w (word_of found) view;
   seen_so = saw_others floor l found v w m.unheld view step;
@@ -196,8 +192,8 @@ tried_plainly floor l mode v w m view step = record {
   is_gain = inl refl;
   out = v.out;
   view = view;
-  both = subst (HasBothOut floor l.0) (sym view)
-      (record { box = m.both.box; chain = m.both.chain; out = m.both.out });
+  both = subst (HasRecordAndChain floor l.0) (sym view)
+      (record { box = m.both.box; chain = m.both.chain; of_lock = m.both.of_lock; out = m.both.out });
   step = step;
 }
 
@@ -212,10 +208,11 @@ tried_by_claim floor l mode v w exclusive x =
       is_gain = inr (refl, h.contents.number, refl);
       out = out_claimed floor v.thread l.0 x.both.box x.both.chain h;
       view = x.view;
-      both = subst (HasBothOut floor l.0) (sym x.view) record {
-        box = with_value x.both.box (record_claimed l.0 h x.both.box.value);
-        chain = chain_claimed l.0 x.both.box.value.thread h x.both.chain;
-        out = refl;
-      };
+      both = from_both floor l.0 (ap is_turnstile x.step.may.0.fits.may.kind) w
+          (subst (HasBothOut floor l.0) (sym x.view) record {
+            box = with_value x.both.box (record_claimed l.0 h x.both.box.value);
+            chain = chain_claimed l.0 x.both.box.value.thread h x.both.chain;
+            out = refl;
+          });
       step = x.step;
     }

@@ -12,7 +12,7 @@ use Rattle.lock_floor.specs.Floors.{Pass}
 use Rattle.lock_floor.specs.Marks.{WakesFirst, with_marks}
 use Rattle.lock_floor.specs.Passes.{IsAtRest}
 use Rattle.lock_calls.specs.declared.answers.Next.{Next}
-use Rattle.lock_calls.specs.declared.answers.Next.TheVariants.{Done, Again, Sleep, Wake, Reversed}
+use Rattle.lock_calls.specs.declared.answers.Next.TheVariants.{Done, Again, Sleep, Wake, Reversed, Halted}
 use Rattle.lock_calls.specs.Releases.{IsReleased, ReleasesOn, GoesOnReleasing, WakesNext, noted_of, nobody_left, finds_out}
 use Rattle.lock_calls.proofs.Calls.{call_noted, view_noted}
 use Rattle.lock_calls.proofs.Leaving.{rests, rests_on, rests_woken}
@@ -64,6 +64,7 @@ module _ (floor : Description) (l : LockNo) (mode : Mode) (old v q : Pass Knowle
         }
     wakes_else Sleep undone w is = absurd w
     wakes_else (Reversed r) undone w is = absurd w
+    wakes_else Halted undone w is = absurd w
     wakes_else (Wake t) undone w is =
         let same : v.view ≡ q.view = sym (view_noted v q (calls.Release l mode Wakes) is) in
         record {

@@ -1,5 +1,6 @@
 pub mod Choices
 pub mod Steps
+pub mod Sections
 pub mod Waiting
 pub mod Takes
 pub mod Tries

@@ -10,12 +10,11 @@ use Rattle.lock_model.specs.declared.event.Event.{Event}
 use Rattle.lock_model.specs.declared.numbers.LockNo.{LockNo}
 use Rattle.lock_model.specs.declared.plan.Mode.{Mode}
 use Rattle.lock_model.specs.declared.plan.Mode.TheVariants.{Shared}
-use Rattle.lock_model.specs.declared.plan.QueueName.{QueueName}
 use Rattle.lock_state.specs.Steps.{Looks, Drops, Stamps, TakesItem}
 use Rattle.lock_state.specs.Steps.Items.{Item, RecordOf}
-use Rattle.turnstile_core.specs.Seen.{Turnstile}
 use Rattle.floor_table.specs.declared.description.Description.{Description}
-use Rattle.floor_table.specs.declared.slot.Slot.TheVariants.{Turnstiles}
+use Rattle.floor_table.specs.declared.slot.Slot.{Slot}
+use Rattle.floor_table.specs.Descriptions.{config_in}
 use Rattle.floor_table.specs.Steps.{Makes, MakesEach}
 use Rattle.floor_table.specs.Views.{Knowledge, seeing}
 use Rattle.lock_floor.specs.declared.calls.Call.TheVariants as calls
@@ -25,13 +24,13 @@ use Rattle.lock_floor.specs.declared.calls.ReleaseAt.TheVariants.{ComesTo, Comes
 use Rattle.lock_floor.specs.Floors.{Pass}
 use Rattle.lock_floor.specs.Latches.{FindsOut}
 use Rattle.lock_floor.specs.Marks.{WakesFirst, with_marks}
-use Rattle.lock_floor.specs.Opens.{HasBothOut}
 use Rattle.lock_floor.specs.Passes.{IsAtRest, MakesEntry}
 use Rattle.lock_floor.specs.Views.{put_down}
 use Rattle.lock_floor.specs.Waits.{its_chain, chain_place}
 use Rattle.lock_calls.specs.declared.answers.Next.{Next}
-use Rattle.lock_calls.specs.declared.answers.Next.TheVariants.{Done, Again, Sleep, Wake, Reversed}
+use Rattle.lock_calls.specs.declared.answers.Next.TheVariants.{Done, Again, Sleep, Wake, Reversed, Halted}
 use Rattle.lock_calls.specs.Choices.{outside}
+use Rattle.lock_calls.specs.Sections.{IsItsChain, HasRecordAndChain}
 use Rattle.lock_calls.specs.Steps.{IsCovered, ByDrop, frees, gives_both, unlocks}
 use Rattle.lock_calls.specs.Waiting.{HasSeen, MayPutDown, IsOwn, with_none_out}
 
@@ -46,14 +45,15 @@ pub record IsLeaving (floor : Description) (l : ℕ) (mode : Mode) (v : Knowledg
 pub record LeavesWithChain (floor : Description) (l : ℕ) (mode : Mode) (v : Knowledge) : Type 0
   where
     pub leaving : IsLeaving floor l mode (with_none_out v)
-    pub chain : List (QueueName × Turnstile)
-    pub out : v.out ≡ (chain_place floor (lock_queue l), Turnstiles chain) ∷ []
+    pub chain : Slot
+    pub of_lock : IsItsChain floor l chain
+    pub out : v.out ≡ (chain_place floor (lock_queue l), chain) ∷ []
 
 -- or that and its own record, and that it saw this word last, which is its own
 pub record LeavesWithBoth (floor : Description) (l : ℕ) (mode : Mode) (seen : ℕ) (v : Knowledge) :
     Type 0 where
   pub leaving : IsLeaving floor l mode (with_none_out v)
-  pub both : HasBothOut floor l v
+  pub both : HasRecordAndChain floor l v
   pub own : IsOwn v.thread mode seen
 
 -- it holds the lock shared, and may drop it from the word that it saw last, which is its own
@@ -130,7 +130,8 @@ pub data ReleaseLeg (floor : Description) (l : LockNo) (mode : Mode) : ReleaseAt
   makes_free : {old new : Knowledge} (seen : ℕ) (opens : Bool)
       → new.share.held ≡ without_lock l.0 old.share.held
       → MakesEach floor
-      ((frees old.thread l.0 mode opens ∷ []) ∷ gives_both floor old.thread l.0) old new
+      ((frees ((config_in floor).kind l.0) old.thread l.0 mode opens ∷ [])
+      ∷ gives_both floor old.thread l.0) old new
       → ReleaseLeg floor l mode (Frees seen) Wakes old new
   finds_out : {old new : Knowledge} (at : ReleaseAt) (i : Item)
       → AwaitsInRelease floor l.0 at old i → new ≡ seeing new.seen old
@@ -154,6 +155,7 @@ WakesNext floor Again old new =
     × (new ≡ seeing new.seen old) × FindsOut floor (RecordOf m.thread) old new
 WakesNext floor Sleep old new = ⊥
 WakesNext floor (Reversed r) old new = ⊥
+WakesNext floor Halted old new = ⊥
 WakesNext floor (Wake t) old new = (t.0 < length floor.threads) × WakesFirst floor t.0 old new
 
 -- it is noted, and the lock was put down by one exchange
@@ -186,6 +188,7 @@ HasBegunRelease floor l mode Again p q = BeginsRelease floor l mode p q
 HasBegunRelease floor l mode Sleep p q = ⊥
 HasBegunRelease floor l mode (Wake t) p q = ⊥
 HasBegunRelease floor l mode (Reversed r) p q = ⊥
+HasBegunRelease floor l mode Halted p q = ⊥
 
 -- the release went on from there, and stands somewhere
 pub record StandsInRelease (floor : Description) (l : LockNo) (mode : Mode) (at : ReleaseAt)
@@ -233,3 +236,4 @@ GoesOnReleasing floor l mode at Again p q = StandsInRelease floor l mode at p q
 GoesOnReleasing floor l mode at Sleep p q = ⊥
 GoesOnReleasing floor l mode at (Wake t) p q = WakesOne floor l mode at t.0 p q
 GoesOnReleasing floor l mode at (Reversed r) p q = ⊥
+GoesOnReleasing floor l mode at Halted p q = ⊥

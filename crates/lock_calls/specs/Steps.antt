@@ -1,10 +1,10 @@
 -- Which locks the calls of this crate are for, and the steps that a take and a release make.
 use Rattle.std.specs.Prelude.{◌≡◌, ◌≢◌, ◌⊎◌, ℕ, ◌+◌, ◌<◌, ◌≤◌, Bool, true, false, List, [], ◌∷◌, ◌++◌, length, replicate, Some, None, ⊤}
-use Rattle.lock_model.specs.Queues.{BySignal, Mark, lock_queue}
+use Rattle.lock_model.specs.Queues.{Cause, BySignal, ByAbort, Mark, lock_queue}
 use Rattle.lock_model.specs.Holds.{NotHeld, Holds}
 use Rattle.lock_model.specs.Limits.{most_held}
 use Rattle.lock_model.specs.Operations.{hold_in}
-use Rattle.lock_model.specs.Words.{Word, word_of, is_turnstile}
+use Rattle.lock_model.specs.Words.{Word, word_of}
 use Rattle.lock_model.specs.declared.event.Event.{Event}
 use Rattle.lock_model.specs.declared.event.Held.{Held}
 use Rattle.lock_model.specs.declared.numbers.ClassNo.{ClassNo}
@@ -13,7 +13,7 @@ use Rattle.lock_model.specs.declared.plan.Kind.{Kind}
 use Rattle.lock_model.specs.declared.plan.Kind.TheVariants.{Mtx, Rw, Sx}
 use Rattle.lock_model.specs.declared.plan.Mode.{Mode}
 use Rattle.lock_model.specs.declared.plan.Mode.TheVariants.{Excl, Shared}
-use Rattle.lock_state.specs.Steps.{Step, Seeks, Looks, Gains, Drops, Stamps, TakesItem, GivesItem, Readies, Unreadies, Enters, Opens, Claims, Resumes}
+use Rattle.lock_state.specs.Steps.{Step, Seeks, Looks, Gains, Drops, Stamps, TakesItem, GivesItem, Readies, Unreadies, Enters, Opens, EntersSleepQueue, OpensSleepQueue, Claims, Resumes}
 use Rattle.lock_state.specs.Steps.Items.{RecordOf}
 use Rattle.floor_table.specs.Descriptions.{config_in}
 use Rattle.floor_table.specs.declared.description.Description.{Description}
@@ -33,11 +33,9 @@ pub record IsMutex (floor : Description) (l : ℕ) : Type 0 where
   pub lock : l < length floor.locks
   pub kind : (config_in floor).kind l ≡ Mtx
 
--- the calls are there for the lock in that mode: it is one of the floor's locks whose threads block on turnstiles, and
--- a mutex only exclusively
+-- the calls are there for the lock in that mode: it is one of the floor's locks, and a mutex only exclusively
 pub record IsCovered (floor : Description) (l : ℕ) (mode : Mode) : Type 0 where
   pub lock : l < length floor.locks
-  pub turnstile : is_turnstile ((config_in floor).kind l) ≡ true
   pub mutex : (config_in floor).kind l ≡ Mtx → mode ≡ Excl
 
 -- the thread may take the lock in that mode: it doesn't hold it, may hold one more lock, and has room for an entry
@@ -151,18 +149,27 @@ gains_there floor t l gain n =
     comes_there floor t l
     ++ ((replicate n (Looks t l false ∷ []) ++ (gain ∷ []) ∷ []) ++ runs_on floor t l)
 
--- or it comes to stand on the lock's turnstile, to which it lends its own, x
+-- The step by which it comes to stand on the queue of a lock of a kind, to which it lends x: that is its turnstile, or
+-- for an sx lock its sleep queue
+abbrev pub enters_by : Kind → ℕ → ℕ → Mode → ℕ → Step
+enters_by Mtx t l mode x = Enters t l mode x
+enters_by Rw t l mode x = Enters t l mode x
+enters_by Sx t l mode x = EntersSleepQueue t l mode x
+
+-- or it comes to stand on the lock's queue
 abbrev pub enters_there : Description → ℕ → ℕ → Mode → ℕ → ℕ → List (List Step)
 enters_there floor t l mode n x =
     comes_there floor t l
-    ++ ((replicate n (Looks t l false ∷ []) ++ (Enters t l mode x ∷ []) ∷ [])
+    ++ ((replicate n (Looks t l false ∷ [])
+    ++ (enters_by ((config_in floor).kind l) t l mode x ∷ []) ∷ [])
     ++ gives_both floor t l)
 
--- A thread that stands there makes the hops of its walk, sleeps until a signal wakes it, and runs again
-pub record Sleeps (floor : Description) (l : ℕ) (old new : Knowledge) : Type 0 where
+-- A thread that stands there makes the hops of its walk, sleeps until it is woken by that cause, and runs again. On a
+-- sleep queue its walk is over at once
+pub record Sleeps (floor : Description) (l : ℕ) (cause : Cause) (old new : Knowledge) : Type 0 where
   pub walked : Knowledge
   pub walk : Walks floor old walked
-  pub resume : Makes floor (Resumes old.thread (lock_queue l) BySignal ∷ []) walked new
+  pub resume : Makes floor (Resumes old.thread (lock_queue l) cause ∷ []) walked new
 
 -- How a take comes to be in an acquiring round, with so many looks so far: once its lock's order was checked. A thread
 -- that holds nothing makes first exchanges before that, outside the round, which missed. Or behind a sleep, once a
@@ -177,7 +184,7 @@ pub data ComesToRound (floor : Description) (l : ℕ) (mode : Mode) : ℕ → Kn
       → looks + n ≤ 100
       → MakesEach floor
       (replicate n (Looks old.thread l true ∷ []) ++ enters_there floor old.thread l mode m x) u v
-      → Sleeps floor l v new → ComesToRound floor l mode 0 old new
+      → Sleeps floor l BySignal v new → ComesToRound floor l mode 0 old new
 
 -- How a take gains: by a first exchange of a thread that holds nothing; by the first one of its round, once its
 -- lock's order was checked; in a round, behind at most 100 looks; or in the section of the lock's chain, which it takes
@@ -205,6 +212,25 @@ pub record Locks (floor : Description) (l : LockNo) (mode : Mode) (old new : Kno
     pub gains : Acquires floor l.0 mode old gained
     pub notes : Makes floor (Stamps old.thread (Event.Locked l mode) ∷ []) gained new
 
+-- Or it came to stand on the lock's queue, its sleep was ended by an abort, and it notes that, while the halt word is 1
+pub record EndsAsleep (floor : Description) (l : LockNo) (mode : Mode) (old new : Knowledge) :
+    Type 0 where
+  pub looks : ℕ
+  pub u : Knowledge
+  pub comes : ComesToRound floor l.0 mode looks old u
+  pub n : ℕ
+  pub few : looks + n ≤ 100
+  pub m : ℕ
+  pub x : ℕ
+  pub stands : Knowledge
+  pub enters : MakesEach floor
+      (replicate n (Looks old.thread l.0 true ∷ []) ++ enters_there floor old.thread l.0 mode m x)
+      u stands
+  pub runs : Knowledge
+  pub sleeps : Sleeps floor l.0 ByAbort stands runs
+  pub notes : Makes floor (Stamps old.thread (Event.HaltedLock l) ∷ []) runs new
+  pub halt_word : notes.state.halted ≡ true
+
 -- the atomic steps of a refusal: the lock's order is checked, this class forbids the lock's, and that is noted
 abbrev pub refuses : ℕ → LockNo → ClassNo → List (List Step)
 refuses t l class = checks t l.0 (Some class.0) ++ (Stamps t (Event.Reversed l class) ∷ []) ∷ []
@@ -212,7 +238,7 @@ refuses t l class = checks t l.0 (Some class.0) ++ (Stamps t (Event.Reversed l c
 -- 3. A release
 
 -- How it puts the lock down, behind so many exchanges that missed: by one that hits, a drop; or in the section of the
--- lock's chain behind so many looks there: by an open, which takes those who wait off the turnstile, or else by a
+-- lock's chain behind so many looks there: by an open, which takes those who wait off the queue, or else by a
 -- drop. Then it wakes whom it took off.
 pub data Release : Type 0 where
   ByDrop : ℕ → Release
@@ -226,17 +252,25 @@ IsReleaseIn Excl (InSection k n opens ms) = k ≡ 1
 IsReleaseIn Shared (ByDrop k) = ⊤
 IsReleaseIn Shared (InSection k n opens ms) = 1 ≤ k
 
+-- the step by which the last holder of a lock of a kind takes those who wait off its turnstile, or off the sleep queue
+-- of an sx lock
+abbrev pub opens_by : Kind → ℕ → ℕ → Mode → Step
+opens_by Mtx t l mode = Opens t l mode
+opens_by Rw t l mode = Opens t l mode
+opens_by Sx t l mode = OpensSleepQueue t l mode
+
 -- the step by which the thread lets the lock go
-abbrev pub frees : ℕ → ℕ → Mode → Bool → Step
-frees t l mode false = Drops t l mode
-frees t l mode true = Opens t l mode
+abbrev pub frees : Kind → ℕ → ℕ → Mode → Bool → Step
+frees kind t l mode false = Drops t l mode
+frees kind t l mode true = opens_by kind t l mode
 
 -- the thread takes the chain and then its own record; behind the looks there it lets the lock go, gives both back, and
 -- wakes those of a list
 abbrev pub releases_there : Description → ℕ → ℕ → Mode → ℕ → Bool → List Mark → List (List Step)
 releases_there floor t l mode n opens ms =
     (TakesItem t (its_chain floor (lock_queue l)) ∷ []) ∷ (TakesItem t (RecordOf t) ∷ [])
-    ∷ ((replicate n (Looks t l false ∷ []) ++ (frees t l mode opens ∷ []) ∷ [])
+    ∷ ((replicate n (Looks t l false ∷ [])
+    ++ (frees ((config_in floor).kind l) t l mode opens ∷ []) ∷ [])
     ++ (gives_both floor t l ++ marking t ms))
 
 abbrev pub releases_by : Description → ℕ → ℕ → Mode → Release → List (List Step)

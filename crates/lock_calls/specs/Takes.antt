@@ -1,30 +1,30 @@
 -- A take as a call that stands at places: what the thread knows at each, what it does from one to the next, and how the
 -- take ends.
-use Rattle.std.specs.Prelude.{◌≡◌, ◌≢◌, ℕ, ◌+◌, ◌-◌, ◌<◌, ◌≤◌, Bool, true, false, List, [], ◌∷◌, ◌++◌, length, Some, None}
+use Rattle.std.specs.Prelude.{◌≡◌, ◌≢◌, ℕ, ◌+◌, ◌-◌, ◌<◌, ◌≤◌, Bool, true, false, [], ◌∷◌, ◌++◌, length, Some, None, ⊤}
 use Rattle.lock_model.specs.Holds.{NotHeld}
 use Rattle.lock_model.specs.Limits.{most_held}
 use Rattle.lock_model.specs.Operations.{hold_in}
-use Rattle.lock_model.specs.Queues.{BySignal, lock_queue}
-use Rattle.lock_model.specs.Words.{Word, word_of, owner_of}
+use Rattle.lock_model.specs.Queues.{BySignal, ByAbort, lock_queue}
+use Rattle.lock_model.specs.Words.{Word, word_of, owner_of, is_turnstile}
 use Rattle.lock_model.specs.declared.event.Event.{Event}
 use Rattle.lock_model.specs.declared.numbers.LockNo.{LockNo}
 use Rattle.lock_model.specs.declared.event.Reversal.{Reversal}
+use Rattle.lock_model.specs.declared.event.Refused.{Refused}
+use Rattle.lock_model.specs.declared.event.Refused.TheVariants as refused
 use Rattle.lock_model.specs.declared.plan.Kind.{Kind}
 use Rattle.lock_model.specs.declared.plan.Kind.TheVariants.{Mtx}
 use Rattle.lock_model.specs.declared.plan.Mode.{Mode}
-use Rattle.lock_model.specs.declared.plan.QueueName.{QueueName}
 use Rattle.lock_objects.specs.Represents.{walk_of}
 use Rattle.lock_laws.specs.Words.{CanBeSeen}
 use Rattle.lock_state.specs.State.{NoWalk}
-use Rattle.lock_state.specs.Steps.{Step, Looks, Gains, Enters, Readies, Resumes, Stamps, TakesItem}
+use Rattle.lock_state.specs.Steps.{Step, Looks, Gains, Readies, Resumes, Stamps, TakesItem}
 use Rattle.lock_state.specs.Steps.Items.{Item, RecordOf, ClassGraph}
 use Rattle.lock_state.specs.Steps.LockWords.{bound_to}
 use Rattle.prio_lending.specs.declared.walk.Walk.{Walk}
 use Rattle.prio_lending.specs.declared.walk.Walk.TheVariants as walk
-use Rattle.turnstile_core.specs.Seen.{Turnstile}
 use Rattle.floor_table.specs.Descriptions.{config_in}
 use Rattle.floor_table.specs.declared.description.Description.{Description}
-use Rattle.floor_table.specs.declared.slot.Slot.TheVariants.{Turnstiles}
+use Rattle.floor_table.specs.declared.slot.Slot.{Slot}
 use Rattle.floor_table.specs.Steps.{Makes, MakesEach}
 use Rattle.floor_table.specs.Views.{Runs, StandsOn, Knowledge, seeing}
 use Rattle.lock_floor.specs.declared.calls.Call.TheVariants as calls
@@ -38,10 +38,11 @@ use Rattle.lock_floor.specs.Resumes.{FindsQueued, FindsWhetherQueued}
 use Rattle.lock_floor.specs.Waits.{its_chain, chain_place}
 use Rattle.lock_floor.specs.Walks.{CanWalk, NeedsRecord, HasTurnstilesOut, HopsOn, turnstiles, turnstiles_place}
 use Rattle.lock_calls.specs.declared.answers.Next.{Next}
-use Rattle.lock_calls.specs.declared.answers.Next.TheVariants.{Done, Again, Sleep, Wake, Reversed}
+use Rattle.lock_calls.specs.declared.answers.Next.TheVariants.{Done, Again, Sleep, Wake, Reversed, Halted}
 use Rattle.lock_calls.specs.Choices.{course}
 use Rattle.lock_calls.specs.declared.courses.Course.TheVariants.{Plainly, ByClaim}
-use Rattle.lock_calls.specs.Steps.{IsCovered, IsGain, HasMissedFirst, GainsFirst, begins_round, as_taken, gains_at_once, gives_both, refuses, runs_on}
+use Rattle.lock_calls.specs.Steps.{IsCovered, IsGain, HasMissedFirst, GainsFirst, EndsAsleep, begins_round, as_taken, enters_by, gains_at_once, gives_both, refuses, runs_on}
+use Rattle.lock_calls.specs.Sections.{IsItsChain}
 use Rattle.lock_calls.specs.Waiting.{kept_of, IsCalling, IsChecking, IsSeeking, IsThere, HasSeen, Saw}
 
 -- 1. What the thread knows at each place
@@ -55,8 +56,9 @@ pub record HasChainOut (floor : Description) (l : ℕ) (v : Knowledge) : Type 0 
   pub round : v.share.doing.round ≡ Some (bound_to l)
   pub no_walk : v.share.doing.walk ≡ NoWalk
   pub runs : v.pose ≡ Runs
-  pub chain : List (QueueName × Turnstile)
-  pub out : v.out ≡ (chain_place floor (lock_queue l), Turnstiles chain) ∷ []
+  pub chain : Slot
+  pub of_lock : IsItsChain floor l chain
+  pub out : v.out ≡ (chain_place floor (lock_queue l), chain) ∷ []
 
 -- it is in the section of the chain, and saw that word last, as others' locks have it
 pub record IsContending (floor : Description) (l seen : ℕ) (v : Knowledge) : Type 0 where
@@ -64,7 +66,7 @@ pub record IsContending (floor : Description) (l seen : ℕ) (v : Knowledge) : T
   pub saw : Saw l (word_of seen) v
   pub seen_so : CanBeSeen ((config_in floor).kind l) (word_of seen)
 
--- it stands on the lock's turnstile, and its walk is there
+-- it stands on the lock's queue, and its walk is there
 pub record IsStanding (l : ℕ) (there : Walk) (v : Knowledge) : Type 0 where
   pub unheld : hold_in v.share.held l ≡ NotHeld
   pub few : length v.share.held < most_held
@@ -182,7 +184,8 @@ pub data TakeLeg (floor : Description) (l : LockNo) (mode : Mode) : TakeAt → T
       → TakeLeg floor l mode (Contends seen) (Contends found) old new
   enters : {old new : Knowledge} (seen x : ℕ) (there : Walk)
       → MakesEach floor
-      ((Enters old.thread l.0 mode x ∷ []) ∷ gives_both floor old.thread l.0) old new
+      ((enters_by ((config_in floor).kind l.0) old.thread l.0 mode x ∷ [])
+      ∷ gives_both floor old.thread l.0) old new
       → TakeLeg floor l mode (Contends seen) (Walks there) old new
   takes_turnstiles : {old new : Knowledge} (there : Walk)
       → Takes floor turnstiles (turnstiles_place floor) old new
@@ -247,7 +250,42 @@ pub record IsRefused (floor : Description) (l : LockNo) (r : Reversal) (old new 
   pub entry : MakesEntry floor (Event.Reversed l r.held) old.share.held old new
   pub steps : MakesEach floor (refuses old.thread l r.held) old new
 
+-- Or its sleep was ended by an abort, as none on a turnstile is: the thread ran again, noted that, holds what it held,
+-- and is at rest
+pub record IsHalted (floor : Description) (l : LockNo) (at : TakeAt) (old new : Knowledge) : Type 0
+  where
+    pub sleeps : is_turnstile ((config_in floor).kind l.0) ≡ false
+    pub stood : at ≡ Walks walk.None
+    pub rest : IsAtRest floor new
+    pub entry : MakesEntry floor (Event.HaltedLock l) old.share.held old new
+    pub steps : MakesEach floor
+        ((Resumes old.thread (lock_queue l.0) ByAbort ∷ [])
+        ∷ (Stamps old.thread (Event.HaltedLock l) ∷ []) ∷ []) old new
+
+-- so a take that stood there wasn't granted
+abbrev pub IsNotTaken : Description → LockNo → TakeAt → Refused → Knowledge → Knowledge → Type 0
+IsNotTaken floor l at (refused.Reversal r) old new = (at ≡ Checks) × IsRefused floor l r old new
+IsNotTaken floor l at (refused.Halted h) old new = IsHalted floor l at old new
+
 -- 4. What the calls promise
+
+-- a take was ended in its sleep: it has noted that, holds what it held, and is at rest
+pub record WasHalted (floor : Description) (l : LockNo) (mode : Mode) (old new : Knowledge) : Type 0
+  where
+    pub sleeps : is_turnstile ((config_in floor).kind l.0) ≡ false
+    pub rest : IsAtRest floor new
+    pub entry : MakesEntry floor (Event.HaltedLock l) old.share.held old new
+    pub ends : EndsAsleep floor l mode old new
+
+-- it wasn't the order that refused it
+abbrev pub IsHalt : Refused → Type 0
+IsHalt (refused.Reversal r) = ⊥
+IsHalt (refused.Halted h) = ⊤
+
+-- a take wasn't granted: by the order of locks, or since its sleep was ended
+abbrev pub WasNotTaken : Description → LockNo → Mode → Refused → Knowledge → Knowledge → Type 0
+WasNotTaken floor l mode (refused.Reversal r) old new = IsRefused floor l r old new
+WasNotTaken floor l mode (refused.Halted h) old new = WasHalted floor l mode old new
 
 -- what is to be done next, where a take stands there: to sleep where its walk has ended, or else to go on
 abbrev pub next_in_walk : Walk → Next
@@ -290,6 +328,7 @@ HasBegunTake floor l mode Again p q = BeginsTake floor l mode p q
 HasBegunTake floor l mode Sleep p q = ⊥
 HasBegunTake floor l mode (Wake t) p q = ⊥
 HasBegunTake floor l mode (Reversed r) p q = ⊥
+HasBegunTake floor l mode Halted p q = ⊥
 
 -- the take went on from there, and stands somewhere
 pub record StandsInTake (floor : Description) (l : LockNo) (mode : Mode) (at : TakeAt)
@@ -306,6 +345,12 @@ pub record EndsRefused (floor : Description) (l : LockNo) (at : TakeAt) (r : Rev
   pub at_check : at ≡ Checks
   pub refused : IsRefused floor l r p.view q.view
 
+-- or was ended in its sleep
+pub record EndsHalted (floor : Description) (l : LockNo) (at : TakeAt) (p q : Pass Knowledge) :
+    Type 0 where
+  pub call : q.call ≡ calls.None
+  pub halted : IsHalted floor l at p.view q.view
+
 -- a take that stood there went on: it ended, or stands somewhere, or was refused
 abbrev pub GoesOnTaking : Description → LockNo → Mode → TakeAt → Next → Pass Knowledge
     → Pass Knowledge → Type 0
@@ -316,3 +361,4 @@ GoesOnTaking floor l mode at Again p q = StandsInTake floor l mode at Again p q
 GoesOnTaking floor l mode at Sleep p q = StandsInTake floor l mode at Sleep p q
 GoesOnTaking floor l mode at (Wake t) p q = ⊥
 GoesOnTaking floor l mode at (Reversed r) p q = EndsRefused floor l at r p q
+GoesOnTaking floor l mode at Halted p q = EndsHalted floor l at p q

@@ -12,17 +12,14 @@ use Rattle.lock_model.specs.declared.event.Held.{Held}
 use Rattle.lock_model.specs.declared.numbers.LockNo.{LockNo}
 use Rattle.lock_model.specs.declared.plan.Kind.{Kind}
 use Rattle.lock_model.specs.declared.plan.Mode.{Mode}
-use Rattle.lock_model.specs.declared.plan.QueueName.{QueueName}
 use Rattle.lock_laws.specs.Words.{CanBeSeen}
 use Rattle.lock_state.specs.State.{Round, Walk, NoWalk}
 use Rattle.lock_state.specs.Steps.{Step, Seeks, Looks, Gains, Stamps, TakesItem}
 use Rattle.lock_state.specs.Steps.Items.{Item, RecordOf}
 use Rattle.lock_state.specs.Steps.LockWords.{round_of}
-use Rattle.turnstile_core.specs.Seen.{Turnstile}
 use Rattle.floor_table.specs.Descriptions.{config_in}
 use Rattle.floor_table.specs.declared.description.Description.{Description}
 use Rattle.floor_table.specs.declared.slot.Slot.{Slot}
-use Rattle.floor_table.specs.declared.slot.Slot.TheVariants.{Turnstiles}
 use Rattle.floor_table.specs.Steps.{Makes, MakesEach}
 use Rattle.floor_table.specs.Views.{Pose, Runs, Knowledge, seeing}
 use Rattle.lock_floor.specs.declared.calls.Call.TheVariants as calls
@@ -30,7 +27,6 @@ use Rattle.lock_floor.specs.declared.calls.TryAt.{TryAt}
 use Rattle.lock_floor.specs.declared.calls.TryAt.TheVariants.{Tries, ComesIn, Decides}
 use Rattle.lock_floor.specs.Floors.{Pass}
 use Rattle.lock_floor.specs.Latches.{FindsOut}
-use Rattle.lock_floor.specs.Opens.{HasBothOut}
 use Rattle.lock_floor.specs.Passes.{IsAtRest, MakesEntry}
 use Rattle.lock_floor.specs.Views.{gained}
 use Rattle.lock_floor.specs.Waits.{its_chain, chain_place}
@@ -39,6 +35,7 @@ use Rattle.lock_calls.specs.declared.courses.Course.{Course}
 use Rattle.lock_calls.specs.declared.courses.Course.TheVariants.{Plainly, ByClaim, MustWait}
 use Rattle.lock_calls.specs.declared.trying.TryNext.{TryNext}
 use Rattle.lock_calls.specs.declared.trying.TryNext.TheVariants.{Gained, Busy, Again}
+use Rattle.lock_calls.specs.Sections.{IsItsChain, HasRecordAndChain}
 use Rattle.lock_calls.specs.Steps.{IsCovered, IsGain, gives_both}
 use Rattle.lock_calls.specs.Takes.{LooksOn}
 use Rattle.lock_calls.specs.Waiting.{kept_of, IsCalling, HasSeen, Saw}
@@ -154,8 +151,9 @@ pub record HasChainInTry (floor : Description) (l : ℕ) (v : Knowledge) : Type 
   pub about : about_of v ≡ nothing_else
   pub round : v.share.doing.round ≡ Some (tried_under l)
   pub some_chains : 1 ≤ floor.chains
-  pub chain : List (QueueName × Turnstile)
-  pub out : v.out ≡ (chain_place floor (lock_queue l), Turnstiles chain) ∷ []
+  pub chain : Slot
+  pub of_lock : IsItsChain floor l chain
+  pub out : v.out ≡ (chain_place floor (lock_queue l), chain) ∷ []
 
 -- or the chain and its own record
 pub record IsThereByTry (floor : Description) (l : ℕ) (v : Knowledge) : Type 0 where
@@ -165,7 +163,7 @@ pub record IsThereByTry (floor : Description) (l : ℕ) (v : Knowledge) : Type 0
   pub round : v.share.doing.round ≡ Some (tried_under l)
   pub some_chains : 1 ≤ floor.chains
   pub of_floor : v.thread < length floor.threads
-  pub both : HasBothOut floor l v
+  pub both : HasRecordAndChain floor l v
 
 -- it is so there, and saw that word last, as others' locks have it
 pub record IsDeciding (floor : Description) (l seen : ℕ) (v : Knowledge) : Type 0 where
@@ -251,7 +249,7 @@ pub record GainsThere (floor : Description) (l : LockNo) (mode : Mode) (old new 
   pub is_gain : IsGain old.thread l.0 mode true gain
   pub out : List (ℕ × Slot)
   pub view : new ≡ seeing new.seen (record (gained old (as_tried l mode)) { out = out })
-  pub both : HasBothOut floor l.0 new
+  pub both : HasRecordAndChain floor l.0 new
   pub step : Makes floor (gain ∷ []) old new
 
 -- 4. How it ends

@@ -6,14 +6,14 @@ use Rattle.lock_model.specs.History.{open_in}
 use Rattle.lock_model.specs.Limits.{most_held}
 use Rattle.lock_model.specs.Operations.{hold_in, without_lock}
 use Rattle.lock_model.specs.Queues.{Mark}
-use Rattle.lock_model.specs.Words.{Word, word_of, IsWellFormed, HeldBy}
+use Rattle.lock_model.specs.Words.{Word, word_of, IsWellFormed, HeldBy, is_turnstile}
 use Rattle.lock_model.specs.declared.event.Entry.{Entry}
 use Rattle.lock_model.specs.declared.event.Held.{Held}
 use Rattle.lock_model.specs.declared.numbers.LockNo.{LockNo}
 use Rattle.lock_model.specs.declared.plan.Mode.{Mode}
 use Rattle.lock_model.specs.declared.plan.Mode.TheVariants.{Excl}
 use Rattle.lock_state.specs.State.{Look, Note, Wake, Phase, Walk, NoWalk}
-use Rattle.lock_state.specs.Steps.{Step, Seeks, Looks, Gains, Enters}
+use Rattle.lock_state.specs.Steps.{Step, Seeks, Looks, Gains}
 use Rattle.lock_state.specs.Steps.LockWords.{is_taking_back, round_of, bound_to}
 use Rattle.lock_state.specs.Steps.Turnstiles.{walk_up}
 use Rattle.floor_table.specs.Descriptions.{config_in}
@@ -22,15 +22,16 @@ use Rattle.floor_table.specs.declared.slot.Slot.{Slot}
 use Rattle.floor_table.specs.Shares.{Doing, is_among}
 use Rattle.floor_table.specs.Steps.{Makes, MakesEach}
 use Rattle.floor_table.specs.Views.{Runs, IsReady, Knowledge, seeing}
-use Rattle.lock_floor.specs.Opens.{HasBothOut, opened_up}
+use Rattle.lock_floor.specs.Opens.{opened_up}
 use Rattle.lock_floor.specs.Ordering.{MayOrder}
 use Rattle.lock_floor.specs.Passes.{CanStep, IsGoing}
 use Rattle.lock_floor.specs.Rounds.{gained_first}
 use Rattle.lock_floor.specs.Views.{counts, looked, gained}
-use Rattle.lock_floor.specs.Waits.{out_entered, entered}
+use Rattle.lock_floor.specs.Waits.{entered}
 use Rattle.lock_laws.specs.Words.{CanBeSeen}
 use Rattle.lock_words.specs.Views.{IsHeldIn}
-use Rattle.lock_calls.specs.Steps.{IsGain, HasMissedFirst, GainsFirst, as_taken, gains_at_once, frees}
+use Rattle.lock_calls.specs.Steps.{IsGain, HasMissedFirst, GainsFirst, as_taken, gains_at_once, enters_by, frees}
+use Rattle.lock_calls.specs.Sections.{HasRecordAndChain}
 
 -- 1. What stays
 
@@ -254,7 +255,7 @@ pub record SpinsThenGains (floor : Description) (h : Held) (n : ℕ) (old new : 
 -- 4. A blocking call in the section of the lock's chain
 
 -- The thread is in that section, in the round that took the chain: its wait word says that it is queued, and it has the
--- chain and its own record out, in which its turnstile is
+-- chain and its own record out, in which its turnstile and its sleep queue are
 pub record IsThere (floor : Description) (l : ℕ) (v : Knowledge) : Type 0 where
   pub unheld : hold_in v.share.held l ≡ NotHeld
   pub few : length v.share.held < most_held
@@ -264,9 +265,11 @@ pub record IsThere (floor : Description) (l : ℕ) (v : Knowledge) : Type 0 wher
   pub no_walk : v.share.doing.walk ≡ NoWalk
   pub ready : v.pose ≡ IsReady
   pub of_floor : v.thread < length floor.threads
-  pub both : HasBothOut floor l v
+  pub both : HasRecordAndChain floor l v
   pub turnstile : ℕ
   pub lent : both.box.value.turnstile ≡ Some turnstile
+  pub sleep_queue : ℕ
+  pub home : both.box.value.sleep_queue ≡ Some sleep_queue
 
 -- what it saw last there
 pub record Saw (l : ℕ) (word : Word) (v : Knowledge) : Type 0 where
@@ -280,20 +283,22 @@ pub record GainsStep (floor : Description) (l : LockNo) (mode : Mode) (old new :
   pub is_gain : IsGain old.thread l.0 mode false gain
   pub out : List (ℕ × Slot)
   pub view : new ≡ seeing new.seen (record (gained old (as_taken l mode)) { out = out })
-  pub both : HasBothOut floor l.0 new
+  pub both : HasRecordAndChain floor l.0 new
   pub step : Makes floor (gain ∷ []) old new
 
--- or it came to stand on its turnstile, and its walk is there
+-- or it came to stand on its queue, to which it lent an object of its own, and its walk is there; who stands on a sleep
+-- queue walks to no owner. It has both out still, as the enter left them
 pub record EntersStep (floor : Description) (l : ℕ) (mode : Mode) (walk : Walk)
     (old new : Knowledge) : Type 0 where
-  pub both : HasBothOut floor l old
-  pub turnstile : ℕ
+  pub object : ℕ
   pub owner : Option ℕ
   pub walk_is : walk ≡ walk_up l owner
-  pub view : new
-      ≡ seeing new.seen (entered old l owner
-      (out_entered floor old.thread l mode turnstile owner both.box both.chain))
-  pub step : Makes floor (Enters old.thread l mode turnstile ∷ []) old new
+  pub ownerless : is_turnstile ((config_in floor).kind l) ≡ false → owner ≡ None
+  pub out : List (ℕ × Slot)
+  pub view : new ≡ seeing new.seen (entered old l owner out)
+  pub both : HasRecordAndChain floor l new
+  pub step : Makes floor (enters_by ((config_in floor).kind l) old.thread l mode object ∷ []) old
+      new
 
 -- or its exchange missed, and was a look, which found that word, another than the one it went from
 pub record MissesThere (floor : Description) (l seen found : ℕ) (old new : Knowledge) : Type 0 where
@@ -349,7 +354,7 @@ pub record MayLetGo (floor : Description) (l : ℕ) (mode : Mode) (v : Knowledge
   pub takes_nothing : v.share.doing.taking ≡ None
   pub no_round : v.share.doing.round ≡ None
   pub going : IsGoing v
-  pub both : HasBothOut floor l v
+  pub both : HasRecordAndChain floor l v
 
 -- the word is that of a lock which the thread holds in that mode, by itself where that is exclusive
 pub record IsOwn (t : ℕ) (mode : Mode) (seen : ℕ) : Type 0 where
@@ -363,9 +368,9 @@ pub record LetsGo (floor : Description) (l : ℕ) (mode : Mode) (old new : Knowl
   pub marks : List Mark
   pub out : List (ℕ × Slot)
   pub view : new ≡ seeing new.seen (opened_up old l marks out)
-  pub both : HasBothOut floor l new
+  pub both : HasRecordAndChain floor l new
   pub unheld : hold_in (without_lock l old.share.held) l ≡ NotHeld
-  pub step : Makes floor (frees old.thread l mode opens ∷ []) old new
+  pub step : Makes floor (frees ((config_in floor).kind l) old.thread l mode opens ∷ []) old new
 
 -- its exchange missed, and was a look, which found that word, another than the one it went from
 pub record MissesOwn (floor : Description) (l : ℕ) (mode : Mode) (seen found : ℕ)

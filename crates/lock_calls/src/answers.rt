@@ -15,4 +15,7 @@ pub enum Next {
     Wake(ThreadNo),
     /// Nothing: the order of locks refused the take. That is noted, the pass is at rest, and nothing is owed.
     Reversed(Reversal),
+    /// Nothing: the take's sleep was ended by an abort, and the lock wasn't gained. That is noted, the pass is at rest,
+    /// and nothing is owed. It comes of an sx lock alone.
+    Halted,
 }

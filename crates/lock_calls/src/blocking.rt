@@ -1,8 +1,10 @@
 //! A take in the section of the lock's chain, as the end of `__mtx_lock_sleep` in FreeBSD's kern_mutex.c with the begin
-//! of `turnstile_wait` of its subr_turnstile.c, and `__rw_wlock_hard` and `__rw_rlock_hard` of its kern_rwlock.c: it
-//! gains the lock there where its word admits that, or else it comes to stand on the lock's turnstile. It never waits.
-ghost use Rattle.std.specs.Prelude.{◌≡◌, ◌⊎◌, ◌<◌, length, false, IfNone, IfSome, IfOk, IfErr};
-ghost use Rattle.lock_model.specs.Words.{word_of};
+//! of `turnstile_wait` of its subr_turnstile.c, `__rw_wlock_hard` and `__rw_rlock_hard` of its kern_rwlock.c, and
+//! `_sx_xlock_hard` and `_sx_slock_hard` of its kern_sx.c: it gains the lock there where its word admits that, or else
+//! it comes to stand on the lock's queue. That is a turnstile, or the sleep queue of an sx lock. It never waits.
+ghost use Rattle.std.specs.Prelude.{◌≡◌, ◌⊎◌, ◌<◌, length, true, false, IfNone, IfSome, IfOk, IfErr};
+ghost use Rattle.lock_model.specs.Words.{word_of, is_turnstile};
+ghost use Rattle.lock_model.specs.declared.plan.Kind.TheVariants.{Sx};
 ghost use Rattle.lock_model.specs.declared.plan.QueueName.{QueueName as Queue};
 ghost use Rattle.lock_objects.specs.Represents.{walk_of};
 ghost use Rattle.lock_state.specs.Steps.Items.{is_bound};
@@ -11,9 +13,9 @@ ghost use Rattle.floor_table.specs.Descriptions.{config_in};
 ghost use Rattle.floor_table.specs.Steps.{MakesEach};
 ghost use Rattle.floor_table.specs.Views.{Runs, StandsOn, seeing};
 ghost use Rattle.lock_floor.specs.declared.calls.TakeAt.TheVariants.{ComesIn, Contends};
-ghost use Rattle.lock_floor.specs.Opens.{HasBothOut};
 ghost use Rattle.lock_floor.specs.Passes.{IsOf, IsGoing};
 ghost use Rattle.lock_calls.specs.Choices.{course};
+ghost use Rattle.lock_calls.specs.Sections.{HasRecordAndChain};
 ghost use Rattle.lock_calls.specs.declared.courses.Course.TheVariants.{Plainly, ByClaim, MustWait};
 ghost use Rattle.lock_calls.specs.Steps.{IsCovered, gives_both};
 ghost use Rattle.lock_calls.specs.Takes.{IsUnderTake, HasTaken, TakeEnd, TakesOn};
@@ -22,7 +24,7 @@ ghost use Rattle.lock_calls.specs.Waiting.{kept_of, IsCalling, IsThere, Saw, Gai
 use crate::courses::{Course, course_of};
 use crate::spinning::note_taken;
 use lock_floor::{Floor, Pass, TakeAt};
-use lock_model::{Held, LockNo, Mode, QueueName};
+use lock_model::{Held, Kind, LockNo, Mode, QueueName};
 use prio_lending::Walk;
 
 /// Comes to the section with the lock's chain out: takes the own record, if it is at home, is ready for the queue, and
@@ -43,7 +45,7 @@ pub fn come_in(floor: &Floor, pass: &mut Pass, l: LockNo, mode: Mode) -> TakeAt
 }
 
 /// Contends for the lock in that section, where it saw this word last: it gains it (`None`: then that is noted), or
-/// comes to stand on its turnstile, or its exchange misses. Else it answers where the take stands then.
+/// comes to stand on its queue, or its exchange misses. Else it answers where the take stands then.
 pub fn contend(floor: &Floor, pass: &mut Pass, l: LockNo, mode: Mode, seen: u64) -> Option<TakeAt>
     requires own { IsOf floor.now pass.old }
     requires one_chain { floor.now.description.chains ≡ 1 }
@@ -166,7 +168,7 @@ fn claim_there(
     }
 }
 
-// An enter from a word that doesn't admit the mode.
+// An enter from a word that doesn't admit the mode, on the queue that a lock of its kind has.
 fn enter_there(
     floor: &Floor,
     pass: &mut Pass,
@@ -190,6 +192,37 @@ fn enter_there(
     ensures missed { IfErr result
         (λ found. MissesThere floor.now.description l.0 seen found pass.old.view pass.new.view) }
 {
+    match floor.kind(l) {
+        Kind::Mtx | Kind::Rw => stand_there(floor, pass, l, mode, seen),
+        Kind::Sx => lie_there(floor, pass, l, mode, seen),
+    }
+}
+
+// The same on a turnstile: a walk begins where the lock has an owner.
+fn stand_there(
+    floor: &Floor,
+    pass: &mut Pass,
+    l: LockNo,
+    mode: Mode,
+    seen: u64,
+) -> Result<Option<Walk>, u64>
+    requires own { IsOf floor.now pass.old }
+    requires covered { IsCovered floor.now.description l.0 mode }
+    requires turnstile { is_turnstile ((config_in floor.now.description).kind l.0) ≡ true }
+    requires there { IsThere floor.now.description l.0 pass.old.view }
+    requires calling { IsCalling floor.now.description (kept_of pass.old.view) }
+    requires saw { Saw l.0 (word_of seen) pass.old.view }
+    requires seen_so { CanBeSeen ((config_in floor.now.description).kind l.0) (word_of seen) }
+    requires course { course ((config_in floor.now.description).kind l.0) (word_of seen) mode
+        ≡ MustWait }
+    ensures own { IsOf floor.now pass.new }
+    ensures gained { IfOk result (λ settled. IfNone settled
+        (GainsStep floor.now.description l mode pass.old.view pass.new.view)) }
+    ensures entered { IfOk result (λ settled. IfSome settled (λ walk.
+        EntersStep floor.now.description l.0 mode (walk_of walk) pass.old.view pass.new.view)) }
+    ensures missed { IfErr result
+        (λ found. MissesThere floor.now.description l.0 seen found pass.old.view pass.new.view) }
+{
     match floor.enter(pass, l, mode, seen) {
         Ok(()) => match lock_words::owner_of(seen) {
             Some(_) => Ok(Some(Walk::AtLock(l))),
@@ -199,11 +232,42 @@ fn enter_there(
     }
 }
 
+// The same on the sleep queue of an sx lock: nothing is lent, and no walk begins.
+fn lie_there(
+    floor: &Floor,
+    pass: &mut Pass,
+    l: LockNo,
+    mode: Mode,
+    seen: u64,
+) -> Result<Option<Walk>, u64>
+    requires own { IsOf floor.now pass.old }
+    requires covered { IsCovered floor.now.description l.0 mode }
+    requires sleeps { (config_in floor.now.description).kind l.0 ≡ Sx }
+    requires there { IsThere floor.now.description l.0 pass.old.view }
+    requires calling { IsCalling floor.now.description (kept_of pass.old.view) }
+    requires saw { Saw l.0 (word_of seen) pass.old.view }
+    requires seen_so { CanBeSeen ((config_in floor.now.description).kind l.0) (word_of seen) }
+    requires course { course ((config_in floor.now.description).kind l.0) (word_of seen) mode
+        ≡ MustWait }
+    ensures own { IsOf floor.now pass.new }
+    ensures gained { IfOk result (λ settled. IfNone settled
+        (GainsStep floor.now.description l mode pass.old.view pass.new.view)) }
+    ensures entered { IfOk result (λ settled. IfSome settled (λ walk.
+        EntersStep floor.now.description l.0 mode (walk_of walk) pass.old.view pass.new.view)) }
+    ensures missed { IfErr result
+        (λ found. MissesThere floor.now.description l.0 seen found pass.old.view pass.new.view) }
+{
+    match floor.enter_sleep(pass, l, mode, seen) {
+        Ok(()) => Ok(Some(Walk::None)),
+        Err(found) => Err(found),
+    }
+}
+
 /// Gives the own record back, which was taken last, and then the lock's chain.
 pub fn give_both(floor: &Floor, pass: &mut Pass, l: LockNo)
     requires own { IsOf floor.now pass.old }
     requires lock { l.0 < length floor.now.description.locks }
-    requires both { HasBothOut floor.now.description l.0 pass.old.view }
+    requires both { HasRecordAndChain floor.now.description l.0 pass.old.view }
     requires settled { (pass.old.view.pose ≡ Runs)
         ⊎ ((q : Queue) × (pass.old.view.pose ≡ StandsOn q)) }
     requires unbound { is_bound pass.old.view.share.doing.round ≡ false }

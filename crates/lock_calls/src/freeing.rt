@@ -1,7 +1,10 @@
 //! A release in the section of the lock's chain, as `__mtx_unlock_sleep` of FreeBSD's kern_mutex.c with
-//! `turnstile_broadcast` of its subr_turnstile.c: those who wait are taken off the lock's turnstile. It never waits.
+//! `turnstile_broadcast` of its subr_turnstile.c, and `_sx_xunlock_hard` and `_sx_sunlock_hard` of its kern_sx.c: those
+//! who wait are taken off the lock's queue, a turnstile or the sleep queue of an sx lock. It never waits.
 ghost use Rattle.std.specs.Prelude.{◌≡◌, true, false, IfOk, IfErr};
-ghost use Rattle.lock_model.specs.Words.{word_of, is_drop};
+ghost use Rattle.lock_model.specs.Words.{word_of, is_drop, is_turnstile};
+ghost use Rattle.lock_model.specs.declared.plan.Kind.TheVariants.{Sx};
+ghost use Rattle.floor_table.specs.Descriptions.{config_in};
 ghost use Rattle.lock_floor.specs.declared.calls.ReleaseAt.TheVariants.{ComesTo, ComesIn, Frees};
 ghost use Rattle.lock_floor.specs.Passes.{IsOf};
 ghost use Rattle.lock_calls.specs.Releases.{IsUnderRelease, ReleasesOn};
@@ -10,7 +13,7 @@ ghost use Rattle.lock_calls.specs.Waiting.{MayLetGo, IsOwn, LetsGo, MissesOwn};
 
 use crate::blocking::give_both;
 use lock_floor::{Floor, Pass, ReleaseAt};
-use lock_model::{LockNo, Mode, QueueName};
+use lock_model::{Kind, LockNo, Mode, QueueName};
 
 /// Takes the chain of a lock, the release of which is noted, if it is at home. Answers where the release stands then.
 pub fn come_to(floor: &Floor, pass: &mut Pass, l: LockNo, mode: Mode) -> ReleaseAt
@@ -115,7 +118,61 @@ fn free_by_open(floor: &Floor, pass: &mut Pass, l: LockNo, mode: Mode, seen: u64
         (λ found. MissesOwn floor.now.description l.0 mode seen found
         pass.old.view pass.new.view) }
 {
+    match floor.kind(l) {
+        Kind::Mtx | Kind::Rw => open_turnstile(floor, pass, l, mode, seen),
+        Kind::Sx => open_sleepers(floor, pass, l, mode, seen),
+    }
+}
+
+// The same off a turnstile: what they lent goes home.
+fn open_turnstile(
+    floor: &Floor,
+    pass: &mut Pass,
+    l: LockNo,
+    mode: Mode,
+    seen: u64,
+) -> Result<(), u64>
+    requires own { IsOf floor.now pass.old }
+    requires covered { IsCovered floor.now.description l.0 mode }
+    requires turnstile { is_turnstile ((config_in floor.now.description).kind l.0) ≡ true }
+    requires may { MayLetGo floor.now.description l.0 mode pass.old.view }
+    requires seen { IsOwn pass.old.view.thread mode seen }
+    requires opens { is_drop (word_of seen) ≡ false }
+    ensures own { IsOf floor.now pass.new }
+    ensures lets { IfOk result
+        (λ _. LetsGo floor.now.description l.0 mode pass.old.view pass.new.view) }
+    ensures missed { IfErr result
+        (λ found. MissesOwn floor.now.description l.0 mode seen found
+        pass.old.view pass.new.view) }
+{
     match floor.open_up(pass, l, seen) {
+        Ok(()) => Ok(()),
+        Err(found) => Err(found),
+    }
+}
+
+// The same off the sleep queue of an sx lock.
+fn open_sleepers(
+    floor: &Floor,
+    pass: &mut Pass,
+    l: LockNo,
+    mode: Mode,
+    seen: u64,
+) -> Result<(), u64>
+    requires own { IsOf floor.now pass.old }
+    requires covered { IsCovered floor.now.description l.0 mode }
+    requires sleeps { (config_in floor.now.description).kind l.0 ≡ Sx }
+    requires may { MayLetGo floor.now.description l.0 mode pass.old.view }
+    requires seen { IsOwn pass.old.view.thread mode seen }
+    requires opens { is_drop (word_of seen) ≡ false }
+    ensures own { IsOf floor.now pass.new }
+    ensures lets { IfOk result
+        (λ _. LetsGo floor.now.description l.0 mode pass.old.view pass.new.view) }
+    ensures missed { IfErr result
+        (λ found. MissesOwn floor.now.description l.0 mode seen found
+        pass.old.view pass.new.view) }
+{
+    match floor.open_sleep(pass, l, seen) {
         Ok(()) => Ok(()),
         Err(found) => Err(found),
     }

@@ -42,7 +42,7 @@ pub fn begin_release(floor: &Floor, pass: &mut Pass, l: LockNo, mode: Mode) -> N
 
 /// Goes on with the release that the pass is in the middle of. A lock that is held shared it drops where the word that
 /// it found allows that: then `Done` comes. Else it takes the lock's chain and its own record, lets the lock go there,
-/// takes those who wait off its turnstile, and wakes them one by one: `Wake` tells whose sleep is to be ended. `Done`
+/// takes those who wait off its queue, and wakes them one by one: `Wake` tells whose sleep is to be ended. `Done`
 /// comes then exactly where nobody is left to be woken.
 pub fn go_on_releasing(floor: &Floor, pass: &mut Pass) -> Next
     requires own { IsOf floor.now pass.old }
@@ -126,7 +126,7 @@ fn wake_on(floor: &Floor, pass: &mut Pass, l: LockNo, mode: Mode) -> Next
             stand(pass, l, mode, ReleaseAt::Wakes);
             Next::Wake(t)
         }
-        Next::Sleep | Next::Reversed(_) => unreachable!(),
+        Next::Sleep | Next::Reversed(_) | Next::Halted => unreachable!(),
     }
 }
 

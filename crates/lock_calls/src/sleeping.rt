@@ -1,43 +1,61 @@
-//! A take whose thread stands on the lock's turnstile, as `propagate_priority` and the end of `turnstile_wait` of
-//! FreeBSD's subr_turnstile.c: it makes the hops of its walk, and runs again where it was woken. It never waits.
-ghost use Rattle.std.specs.Prelude.{◌≢◌};
+//! A take whose thread stands on the lock's queue, as `propagate_priority` and the end of `turnstile_wait` of FreeBSD's
+//! subr_turnstile.c, and `sleepq_wait` of its subr_sleepqueue.c: on a turnstile it makes the hops of its walk, and it
+//! runs again where it was woken. It never waits.
+ghost use Rattle.std.specs.Prelude.{◌≢◌, IfOk, IfErr};
 ghost use Rattle.prio_lending.specs.declared.walk.Walk.TheVariants as walk;
 ghost use Rattle.lock_floor.specs.declared.calls.TakeAt.TheVariants.{Walks, Hops};
 ghost use Rattle.lock_floor.specs.Passes.{IsOf};
-ghost use Rattle.lock_calls.specs.Takes.{IsUnderTake, TakesOn};
+ghost use Rattle.lock_calls.specs.Takes.{IsUnderTake, TakesOn, IsHalted};
 
 use crate::spinning::LOOKS;
 use lock_floor::{Floor, Pass, TakeAt};
-use lock_model::{LockNo, Mode};
+use lock_model::{Event, Halted, LockNo, Mode};
 use prio_lending::Walk;
 
-/// Goes on where the thread stands on the lock's turnstile, and its walk is there: takes the chain of turnstiles for
-/// the next hop, if it is at home; or where the walk has ended, it runs again, if it was woken. Answers where the take
-/// stands then.
-pub fn walk_on(floor: &Floor, pass: &mut Pass, l: LockNo, mode: Mode, there: Walk) -> TakeAt
+/// Goes on where the thread stands on the lock's queue, and its walk is there: takes the chain of turnstiles for the
+/// next hop, if it is at home; or where the walk has ended, it runs again, if it was woken. Answers where the take
+/// stands then. `Err` comes where an abort ended its sleep, of an sx lock: that is noted.
+pub fn walk_on(
+    floor: &Floor,
+    pass: &mut Pass,
+    l: LockNo,
+    mode: Mode,
+    there: Walk,
+) -> Result<TakeAt, Halted>
     requires own { IsOf floor.now pass.old }
     requires under_way { IsUnderTake floor.now.description l mode (Walks there) pass.old.view }
     ensures own { IsOf floor.now pass.new }
-    ensures on { TakesOn floor.now.description l mode (Walks there) result
-        pass.old.view pass.new.view }
+    ensures on { IfOk result (λ to. TakesOn floor.now.description l mode (Walks there) to
+        pass.old.view pass.new.view) }
+    ensures halted { IfErr result (λ _. IsHalted floor.now.description l (Walks there)
+        pass.old.view pass.new.view) }
 {
     match there {
         Walk::None => wake_up(floor, pass, l, mode),
-        Walk::AtLock(_) | Walk::AtThread(_) => begin_hop(floor, pass, l, mode, there),
+        Walk::AtLock(_) | Walk::AtThread(_) => Ok(begin_hop(floor, pass, l, mode, there)),
     }
 }
 
 // Where the walk has ended.
-fn wake_up(floor: &Floor, pass: &mut Pass, l: LockNo, mode: Mode) -> TakeAt
+fn wake_up(floor: &Floor, pass: &mut Pass, l: LockNo, mode: Mode) -> Result<TakeAt, Halted>
     requires own { IsOf floor.now pass.old }
     requires under_way { IsUnderTake floor.now.description l mode (Walks walk.None) pass.old.view }
     ensures own { IsOf floor.now pass.new }
-    ensures on { TakesOn floor.now.description l mode (Walks walk.None) result
-        pass.old.view pass.new.view }
+    ensures on { IfOk result (λ to. TakesOn floor.now.description l mode (Walks walk.None) to
+        pass.old.view pass.new.view) }
+    ensures halted { IfErr result (λ _. IsHalted floor.now.description l (Walks walk.None)
+        pass.old.view pass.new.view) }
 {
     match floor.try_resume(pass) {
-        Some(_) => TakeAt::Spins(LOOKS),
-        None => TakeAt::Walks(Walk::None),
+        Some(aborted) => {
+            if aborted {
+                floor.stamp(pass, Event::HaltedLock { l });
+                Err(Halted)
+            } else {
+                Ok(TakeAt::Spins(LOOKS))
+            }
+        }
+        None => Ok(TakeAt::Walks(Walk::None)),
     }
 }
 

@@ -1,14 +1,14 @@
 //! A take of a lock, part by part, as `__mtx_lock_flags` and `__mtx_lock_sleep` of FreeBSD's kern_mutex.c and
-//! `turnstile_wait` of its subr_turnstile.c do it. No part waits.
+//! `turnstile_wait` of its subr_turnstile.c do it, and of an sx lock `_sx_xlock_hard` and `_sx_slock_hard` of its
+//! kern_sx.c and `sleepq_wait` of its subr_sleepqueue.c. No part waits.
 ghost use Rattle.std.specs.Prelude.{◌≡◌, IfNone, IfSome, IfOk, IfErr};
 ghost use Rattle.lock_model.specs.declared.numbers.LockNo.{LockNo as Lock};
 ghost use Rattle.lock_model.specs.declared.plan.Mode.{Mode as InMode};
 ghost use Rattle.lock_floor.specs.declared.calls.Call.TheVariants as calls;
-ghost use Rattle.lock_floor.specs.declared.calls.TakeAt.TheVariants.{Checks};
 ghost use Rattle.lock_floor.specs.declared.calls.TakeAt.{TakeAt as Place};
 ghost use Rattle.lock_floor.specs.Passes.{IsOf, IsReady};
 ghost use Rattle.lock_calls.specs.Steps.{MayTake};
-ghost use Rattle.lock_calls.specs.Takes.{HasBegunTake, IsInTake, GoesOnTaking, IsUnderTake, HasTaken, TakeEnd, TakesOn, IsRefused, next_at};
+ghost use Rattle.lock_calls.specs.Takes.{HasBegunTake, IsInTake, GoesOnTaking, IsUnderTake, HasTaken, TakeEnd, TakesOn, IsNotTaken, next_at};
 
 use crate::answers::Next;
 use crate::blocking::{come_in, contend};
@@ -16,7 +16,7 @@ use crate::checking::check;
 use crate::sleeping::{hop_on, walk_on};
 use crate::spinning::{begin, come, note_taken, spin};
 use lock_floor::{Call, Floor, Pass, TakeAt};
-use lock_model::{LockNo, Mode, Reversal};
+use lock_model::{LockNo, Mode, Refused};
 use prio_lending::Walk;
 
 /// Begins a take of a lock in a mode. Where the thread holds nothing it makes an exchange from the free word: nothing
@@ -47,8 +47,9 @@ pub fn begin_take(floor: &Floor, pass: &mut Pass, l: LockNo, mode: Mode) -> Next
 /// thread holds: `Reversed` comes exactly where the class of one of these forbids that of the lock by the class graph
 /// as the check found it. Then it looks in its round, and tries where it sees the lock free, only while the owner isn't
 /// queued, and at most 100 times in all. Then it takes the lock's chain, and gains the lock there, or comes to stand on
-/// its turnstile, makes the hops of its walk, and once it was woken it begins another round. `Sleep` comes exactly
-/// where the walk has ended and the thread hasn't run again.
+/// its queue: on a turnstile it makes the hops of its walk, on the sleep queue of an sx lock there are none. Once it
+/// was woken it begins another round. `Sleep` comes exactly where the walk has ended and the thread hasn't run again.
+/// `Halted` comes only of an sx lock, where an abort ended this take's own sleep.
 pub fn go_on_taking(floor: &Floor, pass: &mut Pass) -> Next
     requires own { IsOf floor.now pass.old }
     requires one_chain { floor.now.description.chains ≡ 1 }
@@ -80,22 +81,26 @@ fn go_on(floor: &Floor, pass: &mut Pass, l: LockNo, mode: Mode, at: TakeAt) -> N
             pass.set_call(Call::None);
             Next::Done
         }
-        Err(reversal) => {
+        Err(Refused::Reversal(reversal)) => {
             pass.set_call(Call::None);
             Next::Reversed(reversal)
+        }
+        Err(Refused::Halted(_)) => {
+            pass.set_call(Call::None);
+            Next::Halted
         }
     }
 }
 
 // From a place of the take on. Answers where the take stands then: nowhere, if the lock is taken. `Err` comes where it
-// was refused.
+// was refused, or was ended in its sleep.
 fn go_on_at(
     floor: &Floor,
     pass: &mut Pass,
     l: LockNo,
     mode: Mode,
     at: TakeAt,
-) -> Result<Option<TakeAt>, Reversal>
+) -> Result<Option<TakeAt>, Refused>
     requires own { IsOf floor.now pass.old }
     requires one_chain { floor.now.description.chains ≡ 1 }
     requires under_way { IsUnderTake floor.now.description l mode at pass.old.view }
@@ -106,12 +111,14 @@ fn go_on_at(
         (TakeEnd floor.now.description l mode at pass.old.view pass.new.view)) }
     ensures on { IfOk result (λ to. IfSome to
         (λ next. TakesOn floor.now.description l mode at next pass.old.view pass.new.view)) }
-    ensures at_check { IfErr result (λ _. at ≡ Checks) }
     ensures refused { IfErr result
-        (λ r. IsRefused floor.now.description l r pass.old.view pass.new.view) }
+        (λ r. IsNotTaken floor.now.description l at r pass.old.view pass.new.view) }
 {
     match at {
-        TakeAt::Checks => check(floor, pass, l, mode),
+        TakeAt::Checks => match check(floor, pass, l, mode) {
+            Ok(to) => Ok(to),
+            Err(reversal) => Err(Refused::Reversal(reversal)),
+        },
         TakeAt::Spins(left) => {
             if left == 0 {
                 Ok(Some(come(floor, pass, l, mode)))
@@ -121,7 +128,10 @@ fn go_on_at(
         }
         TakeAt::ComesIn => Ok(Some(come_in(floor, pass, l, mode))),
         TakeAt::Contends(seen) => Ok(contend(floor, pass, l, mode, seen)),
-        TakeAt::Walks(there) => Ok(Some(walk_on(floor, pass, l, mode, there))),
+        TakeAt::Walks(there) => match walk_on(floor, pass, l, mode, there) {
+            Ok(to) => Ok(Some(to)),
+            Err(halted) => Err(Refused::Halted(halted)),
+        },
         TakeAt::Hops(there) => Ok(Some(hop_on(floor, pass, l, mode, there))),
     }
 }

@@ -1,14 +1,16 @@
 //! A take, a try and a release that wait: loops over their parts, in which the thread pauses, sleeps, and ends others'
 //! sleeps. A try waits only for a chain or a record that another thread has out.
-ghost use Rattle.std.specs.Prelude.{◌≡◌, ◌<◌, ◌++◌, [], ◌∷◌, length, IsOk, IfOk, IfErr};
+ghost use Rattle.std.specs.Prelude.{◌≡◌, ◌<◌, ◌++◌, true, [], ◌∷◌, length, IsOk, IfOk, IfErr};
 ghost use Rattle.lock_model.specs.Holds.{Holds};
 ghost use Rattle.lock_model.specs.Operations.{hold_in, without_lock};
+ghost use Rattle.lock_model.specs.Words.{is_turnstile};
 ghost use Rattle.lock_model.specs.declared.event.Event.TheVariants as event;
 ghost use Rattle.lock_model.specs.declared.plan.Mode.{Mode as InMode};
+ghost use Rattle.floor_table.specs.Descriptions.{config_in};
 ghost use Rattle.floor_table.specs.Steps.{MakesEach};
 ghost use Rattle.lock_floor.specs.Passes.{IsOf, IsReady, MakesEntry};
 ghost use Rattle.lock_calls.specs.Steps.{MayTake, MayRelease, Locks, Release, IsReleaseIn, as_taken, unlocks};
-ghost use Rattle.lock_calls.specs.Takes.{IsRefused};
+ghost use Rattle.lock_calls.specs.Takes.{IsHalt, IsRefused, WasNotTaken};
 ghost use Rattle.lock_calls.specs.Tries.{GainsAndNotes, WasBusyFor, as_tried};
 
 use crate::answers::Next;
@@ -17,20 +19,21 @@ use crate::taking::{begin_take, go_on_taking};
 use crate::trying::{TryNext, begin_try, go_on_trying};
 use crossbeam_utils::Backoff;
 use lock_floor::{Call, Floor, Pass, TakeAt, TryAt};
-use lock_model::{Busy, LockNo, Mode, Reversal};
+use lock_model::{Busy, Halted, LockNo, Mode, Refused, Reversal};
 use std::sync::Wait;
 
-/// Takes a lock in a mode, and waits until it has it. `Err` comes exactly where, by the class graph as this call's
+/// Takes a lock in a mode, and waits until it has it. `Reversal` comes exactly where, by the class graph as this call's
 /// check found it, the class of a lock that the thread holds forbids that of the lock; it has the first such class in
 /// order of acquisition, the refusal is noted, and nothing else of the thread is new. A thread that holds nothing is
-/// never refused. The floor has one chain of turnstiles.
-pub fn take<R: Wait>(
+/// never refused so. `Halted` comes only of an sx lock, where an abort ended this call's own sleep: that is noted, and
+/// the lock isn't held then. The floor has one chain of turnstiles.
+pub fn take_or_halt<R: Wait>(
     floor: &Floor,
     rt: &R,
     pass: &mut Pass,
     l: LockNo,
     mode: Mode,
-) -> Result<(), Reversal>
+) -> Result<(), Refused>
     requires ready { IsReady floor.now pass.old }
     requires may { MayTake floor.now.description l.0 mode pass.old.view }
     requires one_chain { floor.now.description.chains ≡ 1 }
@@ -39,14 +42,14 @@ pub fn take<R: Wait>(
         (pass.old.view.share.held ++ as_taken l mode ∷ []) pass.old.view pass.new.view) }
     ensures steps { IfOk result
         (λ _. Locks floor.now.description l mode pass.old.view pass.new.view) }
-    ensures reversed { IfErr result
-        (λ r. IsRefused floor.now.description l r pass.old.view pass.new.view) }
-    ensures bare { pass.old.view.share.held ≡ [] → IsOk result }
+    ensures refused { IfErr result
+        (λ r. WasNotTaken floor.now.description l mode r pass.old.view pass.new.view) }
+    ensures bare { pass.old.view.share.held ≡ [] → IfErr result IsHalt }
 {
     match begin_take(floor, pass, l, mode) {
         Next::Done => return Ok(()),
         Next::Again => {}
-        Next::Sleep | Next::Wake(_) | Next::Reversed(_) => unreachable!(),
+        Next::Sleep | Next::Wake(_) | Next::Reversed(_) | Next::Halted => unreachable!(),
     }
     let backoff = Backoff::new();
     for _ in rt.forever() {
@@ -59,10 +62,42 @@ pub fn take<R: Wait>(
                 backoff.reset();
             }
             Next::Wake(_) => unreachable!(),
-            Next::Reversed(reversal) => return Err(reversal),
+            Next::Reversed(reversal) => return Err(Refused::Reversal(reversal)),
+            Next::Halted => return Err(Refused::Halted(Halted)),
         }
     }
     unreachable!()
+}
+
+/// Takes a lock of a kind with turnstiles in a mode, and waits until it has it. It is `take_or_halt` where no sleep is
+/// ended but by who releases the lock. `Err` comes exactly where, by the class graph as this call's check found it, the
+/// class of a lock that the thread holds forbids that of the lock; it has the first such class in order of acquisition,
+/// the refusal is noted, and nothing else of the thread is new. A thread that holds nothing is never refused.
+pub fn take<R: Wait>(
+    floor: &Floor,
+    rt: &R,
+    pass: &mut Pass,
+    l: LockNo,
+    mode: Mode,
+) -> Result<(), Reversal>
+    requires ready { IsReady floor.now pass.old }
+    requires may { MayTake floor.now.description l.0 mode pass.old.view }
+    requires turnstile { is_turnstile ((config_in floor.now.description).kind l.0) ≡ true }
+    requires one_chain { floor.now.description.chains ≡ 1 }
+    ensures ready { IsReady floor.now pass.new }
+    ensures entry { IfOk result (λ _. MakesEntry floor.now.description (event.Locked l mode)
+        (pass.old.view.share.held ++ as_taken l mode ∷ []) pass.old.view pass.new.view) }
+    ensures steps { IfOk result
+        (λ _. Locks floor.now.description l mode pass.old.view pass.new.view) }
+    ensures reversed { IfErr result
+        (λ r. IsRefused floor.now.description l r pass.old.view pass.new.view) }
+    ensures bare { pass.old.view.share.held ≡ [] → IsOk result }
+{
+    match take_or_halt(floor, rt, pass, l, mode) {
+        Ok(()) => Ok(()),
+        Err(Refused::Reversal(reversal)) => Err(reversal),
+        Err(Refused::Halted(_)) => unreachable!(),
+    }
 }
 
 /// Gains a lock in a mode, if its word admits that. Where the word changed meanwhile and admits the mode still, that is
@@ -119,7 +154,7 @@ pub fn release<R: Wait>(floor: &Floor, rt: &R, pass: &mut Pass, l: LockNo, mode:
     match begin_release(floor, pass, l, mode) {
         Next::Done => return,
         Next::Again => {}
-        Next::Sleep | Next::Wake(_) | Next::Reversed(_) => unreachable!(),
+        Next::Sleep | Next::Wake(_) | Next::Reversed(_) | Next::Halted => unreachable!(),
     }
     let backoff = Backoff::new();
     for _ in rt.forever() {
@@ -127,7 +162,7 @@ pub fn release<R: Wait>(floor: &Floor, rt: &R, pass: &mut Pass, l: LockNo, mode:
         match go_on_releasing(floor, pass) {
             Next::Done => return,
             Next::Again => pause(&backoff, before, pass.call()),
-            Next::Sleep | Next::Reversed(_) => unreachable!(),
+            Next::Sleep | Next::Reversed(_) | Next::Halted => unreachable!(),
             Next::Wake(t) => floor.unpark(t),
         }
     }

@@ -11,7 +11,7 @@ ghost use Rattle.lock_top.specs.Output.{has_text, IsOutputOfCounts, IsOutputOfLo
 
 use command_line::{Command, LockrunArgs};
 use complaints::Status;
-use floor_run::{has_only_turnstile_locks, run_plan};
+use floor_run::{has_no_channels, run_plan};
 use hold_profile::{print_profile, profile};
 use lock_history::{Last, Outcome, print, print_counts, print_fault};
 use lock_io::Gate;
@@ -167,7 +167,7 @@ fn of_threads<R: Threads + Wait + Sync, G: Gate>(
     ensures pair { IfOk result (λ a. IsOutputOfThreads plan.now (a.0, a.1.items)) }
     ensures has_text { IfOk result (λ a. has_text a.0 ≡ true) }
 {
-    if !has_only_turnstile_locks(plan) {
+    if !has_no_channels(plan) {
         let text = print_fault(alloc, 0, 0)?;
         return Ok((Status::BadScript, text));
     }

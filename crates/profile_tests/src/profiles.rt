@@ -1,9 +1,9 @@
 //! Profiles of worked scripts, with counts worked out by hand from their entries.
 ghost use Rattle.std.specs.Prelude.{IfOk};
-ghost use Rattle.floor_run.specs.Runs.{HasOnlyTurnstileLocks};
+ghost use Rattle.floor_run.specs.Runs.{HasNoChannels};
 ghost use Rattle.lock_model.specs.Operations.{IsProper};
 
-use floor_run::{has_only_turnstile_locks, run_plan};
+use floor_run::{has_no_channels, run_plan};
 use hold_profile::{print_profile, profile};
 use lock_io::OpenGate;
 use lock_model::Plan;
@@ -137,15 +137,15 @@ fn plan_of(alloc: Global, script: &str) -> Result<Plan, Fail>
     }
 }
 
-// The plan of a script of mutexes and reader-writer locks alone.
+// The plan of a script without conditions and channels.
 fn plan_to_run(alloc: Global, script: &str) -> Result<Plan, Fail>
     ensures proper { IfOk result IsProper }
-    ensures locks { IfOk result HasOnlyTurnstileLocks }
+    ensures channels { IfOk result HasNoChannels }
 {
     let plan = plan_of(alloc, script)?;
-    if has_only_turnstile_locks(&plan) {
+    if has_no_channels(&plan) {
         Ok(plan)
     } else {
-        Err("the script has mutexes and reader-writer locks alone".into())
+        Err("the script has no condition and no channel".into())
     }
 }

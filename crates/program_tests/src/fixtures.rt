@@ -1,11 +1,11 @@
 //! Command lines, scripts and ends as tests write them. In a command line `_` stands for a blank in a word, and in a
 //! script `;` for the end of a line.
 ghost use Rattle.std.specs.Prelude.{IfOk};
-ghost use Rattle.floor_run.specs.Runs.{HasOnlyTurnstileLocks};
+ghost use Rattle.floor_run.specs.Runs.{HasNoChannels};
 ghost use Rattle.lock_model.specs.Operations.{IsProper};
 
 use complaints::Status;
-use floor_run::has_only_turnstile_locks;
+use floor_run::has_no_channels;
 use lock_io::{MemSink, MemSource};
 use lock_model::Plan;
 use script_laws::scripts::scripts_have_proper_plans;
@@ -68,16 +68,16 @@ pub(crate) fn plan_of(alloc: Global, script: &str) -> Result<Plan, Fail>
     }
 }
 
-/// The plan of a script of mutexes and reader-writer locks alone.
+/// The plan of a script without conditions and channels.
 pub(crate) fn plan_to_run(alloc: Global, script: &str) -> Result<Plan, Fail>
     ensures proper { IfOk result IsProper }
-    ensures locks { IfOk result HasOnlyTurnstileLocks }
+    ensures channels { IfOk result HasNoChannels }
 {
     let plan = plan_of(alloc, script)?;
-    if has_only_turnstile_locks(&plan) {
+    if has_no_channels(&plan) {
         Ok(plan)
     } else {
-        Err("the script has mutexes and reader-writer locks alone".into())
+        Err("the script has no condition and no channel".into())
     }
 }
 

@@ -6,7 +6,7 @@
 //! - `pictures`: calls of `lockchart`, and what a renderer is given.
 //! - `turns`: what each turn of a scheduled run answers.
 //! - `rows`: what each thing of a scheduled run is between turns.
-//! - `mutexes`: the calls of mutexes on a floor.
+//! - `mutexes`: the calls of mutexes on a floor, and `sx_locks`: those of sx locks.
 //! - `threads`: running threads that meet, and `barrier`, a gate at which all of them do.
 #![tactic(auto)]
 
@@ -20,6 +20,8 @@ mod mutexes;
 mod pictures;
 #[cfg(test)]
 mod rows;
+#[cfg(test)]
+mod sx_locks;
 #[cfg(test)]
 mod texts;
 #[cfg(test)]

@@ -51,8 +51,8 @@ pub fn of_threads(alloc: Global, source: &[u8]) -> Result<Vec<String>, AllocErro
 // Whether threads run on it already.
 fn runs(sort: Sort) -> bool {
     match sort {
-        Sort::Lock(Kind::Mtx | Kind::Rw) | Sort::Thread => true,
-        Sort::Lock(Kind::Sx) | Sort::Condition | Sort::Channel | Sort::Sleeper => false,
+        Sort::Lock(Kind::Mtx | Kind::Rw | Kind::Sx) | Sort::Thread => true,
+        Sort::Condition | Sort::Channel | Sort::Sleeper => false,
     }
 }
 

@@ -1,8 +1,7 @@
 -- A reader-writer lock is one of the locks for which the calls of locks are there, in both modes.
-use Rattle.std.proofs.Common.{◌≡◌, ℕ, refl, sym, ap, ◌∙◌}
+use Rattle.std.proofs.Common.{◌≡◌, ℕ, refl, sym, ◌∙◌}
 use Rattle.lock_model.specs.Holds.{Hold, NotHeld, Holds}
 use Rattle.lock_model.specs.Operations.{hold_in}
-use Rattle.lock_model.specs.Words.{is_turnstile}
 use Rattle.lock_model.specs.declared.plan.Kind.TheVariants.{Mtx, Rw}
 use Rattle.lock_model.specs.declared.plan.Mode.{Mode}
 use Rattle.floor_table.specs.declared.description.Description.{Description}
@@ -14,7 +13,6 @@ use Rattle.rw_lock.specs.RwLocks.{IsRwLock, MayAcquire, MayRelease}
 covered : (floor : Description) (l : ℕ) (mode : Mode) → IsRwLock floor l → IsCovered floor l mode
 covered floor l mode m = record {
   lock = m.lock;
-  turnstile = ap is_turnstile m.kind;
   mutex = λ e. absurd (let z : Rw ≡ Mtx = sym m.kind ∙ e in cc);
 }
 

@@ -84,8 +84,8 @@ const SAID: &[(Status, &str, &str)] = &[
     (
         Status::BadScript,
         "line 0 code 0\n",
-        "lockrun: threads run on mutexes and reader-writer locks alone so far, and the script \
-        declares an sx lock, a condition variable or a channel\n",
+        "lockrun: threads run on locks alone so far, and the script declares a condition variable \
+        or a channel\n",
     ),
     (
         Status::BadScript,

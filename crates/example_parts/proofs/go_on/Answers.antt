@@ -23,7 +23,7 @@ behind-thread-requires-in-Takes c =
     let p = c.args.thread.now.pass in
     let q = c.go_on_taking-next.new.pass in
     record {
-      admitted = take_admitted f p q c.go_on_taking-next.ensures.own c.go_on_taking-next.result
+      admitted = take_admitted f p q c.go_on_taking-next.ensures.own c.go_on_taking-next.result c.requires.made
           (subst (λ (s : Stage). Knows f s p) c.in-Takes.is c.requires.thread) c.go_on_taking-next.ensures.went;
     }
 
@@ -36,7 +36,7 @@ returns-in-Takes c =
       thread = subst (λ (s : Stage). Knows f s q) (sym c.behind-thread-in-Takes.ensures)
           (take_goes_on f p q c.go_on_taking-next.ensures.own c.go_on_taking-next.result c.requires.made
           (subst (λ (s : Stage). Knows f s p) c.in-Takes.is c.requires.thread) c.go_on_taking-next.ensures.went);
-      admitted = take_admitted f p q c.go_on_taking-next.ensures.own c.go_on_taking-next.result
+      admitted = take_admitted f p q c.go_on_taking-next.ensures.own c.go_on_taking-next.result c.requires.made
           (subst (λ (s : Stage). Knows f s p) c.in-Takes.is c.requires.thread) c.go_on_taking-next.ensures.went;
     }
 

@@ -1,3 +1,5 @@
+use Rattle.std.proofs.Common.{ap}
+use Rattle.lock_model.specs.Words.{is_turnstile}
 use Rattle.adaptive_mutex.proofs.Covered.{mutex_is_covered}
 use Rattle.adaptive_mutex.proofs.mutex.lock.Goals as goal
 
@@ -8,3 +10,6 @@ take-requires-clause-may g c = record {
   few = c.requires.may.few;
   room = c.requires.may.room;
 }
+
+pub take-requires-clause-turnstile : goal.take-requires-clause-turnstile
+take-requires-clause-turnstile g c = ap is_turnstile c.requires.may.mutex.kind

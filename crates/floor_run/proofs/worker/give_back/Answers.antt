@@ -17,19 +17,19 @@ last_of (x ∷ y ∷ ys) h e =
 pub release_held-requires-clause-may : goal.release_held-requires-clause-may
 release_held-requires-clause-may g c =
     let r = last_of c.held.result.now c.in-Some.last.now (sym c.in-Some.ensures.value) in
-    may_give_back c.args.plan.now c.args.floor.now c.requires.given c.requires.proper c.requires.locks
+    may_give_back c.args.plan.now c.args.floor.now c.requires.given c.requires.proper
     c.args.pass.now.view.thread c.loop-last.pass c.loop-last.invariant r.0 c.in-Some.last.now (sym c.held.ensures ∙ r.1)
 
 pub loop-last-preserved : goal.loop-last-preserved
 loop-last-preserved g c =
     let r = last_of c.held.result.now c.in-Some.last.now (sym c.in-Some.ensures.value) in
-    gives_back c.args.plan.now c.args.floor.now c.requires.given c.requires.proper c.requires.locks
+    gives_back c.args.plan.now c.args.floor.now c.requires.given c.requires.proper
     c.args.pass.now.view.thread c.loop-last.pass c.loop-last.invariant r.0 c.in-Some.last.now (sym c.held.ensures ∙ r.1)
     c.release_held.new.pass c.release_held.ensures.ready c.release_held.ensures.entry
 
 pub loop-last-smaller : goal.loop-last-smaller
 loop-last-smaller g c =
     let r = last_of c.held.result.now c.in-Some.last.now (sym c.in-Some.ensures.value) in
-    fewer_left c.args.plan.now c.args.floor.now c.requires.given c.requires.proper c.requires.locks
+    fewer_left c.args.plan.now c.args.floor.now c.requires.given c.requires.proper
     c.args.pass.now.view.thread c.loop-last.pass c.loop-last.invariant r.0 c.in-Some.last.now (sym c.held.ensures ∙ r.1)
     c.release_held.new.pass c.release_held.ensures.entry

@@ -5,89 +5,89 @@ use Rattle.lock_model.specs.declared.plan.Op.{Op}
 use Rattle.floor_table.specs.Views.{Knowledge}
 use Rattle.lock_floor.specs.Floors.{Pass}
 use Rattle.floor_run.specs.Progress.{IsBefore}
-use Rattle.floor_run.proofs.Cutting.{refused}
+use Rattle.floor_run.proofs.Cutting.{not_taken}
 use Rattle.floor_run.proofs.Operating as lemma
 use Rattle.floor_run.proofs.worker.operate.Goals as goal
 use Rattle.floor_run.proofs.worker.operate.Goals.{in-Take+in-Ok, in-Try+in-Ok-try_take, in-EndTry, in-Release, in-Set, in-Add, in-Get, in-Base, in-Show}
 
-pub take-requires-clause-may : goal.take-requires-clause-may
-take-requires-clause-may g c =
-    lemma.may_take _ _ c.requires.given c.requires.proper c.requires.locks _ _ _ c.requires.before c.in-Take.l
+pub take_or_halt-requires-clause-may : goal.take_or_halt-requires-clause-may
+take_or_halt-requires-clause-may g c =
+    lemma.may_take _ _ c.requires.given c.requires.proper _ _ _ c.requires.before c.in-Take.l
     c.in-Take.mode (c.requires.op ∙ ap Some c.in-Take.is)
 
 pub try_take-requires-clause-may : goal.try_take-requires-clause-may
 try_take-requires-clause-may g c =
-    lemma.may_try _ _ c.requires.given c.requires.proper c.requires.locks _ _ _ c.requires.before c.in-Try.l
+    lemma.may_try _ _ c.requires.given c.requires.proper _ _ _ c.requires.before c.in-Try.l
     c.in-Try.mode c.in-Try.past (c.requires.op ∙ ap Some c.in-Try.is)
 
 pub release_held-requires-clause-may : goal.release_held-requires-clause-may
 release_held-requires-clause-may g c =
-    lemma.may_release _ _ c.requires.given c.requires.proper c.requires.locks _ _ _ c.requires.before c.in-Release.l
+    lemma.may_release _ _ c.requires.given c.requires.proper _ _ _ c.requires.before c.in-Release.l
     (c.requires.op ∙ ap Some c.in-Release.is)
 
 pub edit-requires-clause-held : goal.edit-requires-clause-held
 edit-requires-clause-held g c =
-    (lemma.may_set _ _ c.requires.given c.requires.proper c.requires.locks _ _ _ c.requires.before c.in-Set.l
+    (lemma.may_set _ _ c.requires.given c.requires.proper _ _ _ c.requires.before c.in-Set.l
     c.in-Set.key c.in-Set.value (c.requires.op ∙ ap Some c.in-Set.is)).0
 
 pub edit-requires-clause-named : goal.edit-requires-clause-named
 edit-requires-clause-named g c =
-    (lemma.may_set _ _ c.requires.given c.requires.proper c.requires.locks _ _ _ c.requires.before c.in-Set.l
+    (lemma.may_set _ _ c.requires.given c.requires.proper _ _ _ c.requires.before c.in-Set.l
     c.in-Set.key c.in-Set.value (c.requires.op ∙ ap Some c.in-Set.is)).1
 
 pub edit-requires-clause-room : goal.edit-requires-clause-room
 edit-requires-clause-room g c =
-    lemma.room_for_one _ _ c.requires.given c.requires.proper c.requires.locks _ _ _ c.requires.before c.args.op
+    lemma.room_for_one _ _ c.requires.given c.requires.proper _ _ _ c.requires.before c.args.op
     c.requires.op
 
 pub edit-requires-in-Add-clause-held : goal.edit-requires-in-Add-clause-held
 edit-requires-in-Add-clause-held g c =
-    (lemma.may_add _ _ c.requires.given c.requires.proper c.requires.locks _ _ _ c.requires.before c.in-Add.l
+    (lemma.may_add _ _ c.requires.given c.requires.proper _ _ _ c.requires.before c.in-Add.l
     c.in-Add.key c.in-Add.amount (c.requires.op ∙ ap Some c.in-Add.is)).0
 
 pub edit-requires-in-Add-clause-named : goal.edit-requires-in-Add-clause-named
 edit-requires-in-Add-clause-named g c =
-    (lemma.may_add _ _ c.requires.given c.requires.proper c.requires.locks _ _ _ c.requires.before c.in-Add.l
+    (lemma.may_add _ _ c.requires.given c.requires.proper _ _ _ c.requires.before c.in-Add.l
     c.in-Add.key c.in-Add.amount (c.requires.op ∙ ap Some c.in-Add.is)).1
 
 pub edit-requires-in-Add-clause-room : goal.edit-requires-in-Add-clause-room
 edit-requires-in-Add-clause-room g c =
-    lemma.room_for_one _ _ c.requires.given c.requires.proper c.requires.locks _ _ _ c.requires.before c.args.op
+    lemma.room_for_one _ _ c.requires.given c.requires.proper _ _ _ c.requires.before c.args.op
     c.requires.op
 
 pub read-requires-clause-held : goal.read-requires-clause-held
 read-requires-clause-held g c =
-    (lemma.may_get _ _ c.requires.given c.requires.proper c.requires.locks _ _ _ c.requires.before c.in-Get.l
+    (lemma.may_get _ _ c.requires.given c.requires.proper _ _ _ c.requires.before c.in-Get.l
     c.in-Get.key (c.requires.op ∙ ap Some c.in-Get.is)).0
 
 pub read-requires-clause-named : goal.read-requires-clause-named
 read-requires-clause-named g c =
-    (lemma.may_get _ _ c.requires.given c.requires.proper c.requires.locks _ _ _ c.requires.before c.in-Get.l
+    (lemma.may_get _ _ c.requires.given c.requires.proper _ _ _ c.requires.before c.in-Get.l
     c.in-Get.key (c.requires.op ∙ ap Some c.in-Get.is)).1
 
 pub read-requires-clause-room : goal.read-requires-clause-room
 read-requires-clause-room g c =
-    lemma.room_for_one _ _ c.requires.given c.requires.proper c.requires.locks _ _ _ c.requires.before c.args.op
+    lemma.room_for_one _ _ c.requires.given c.requires.proper _ _ _ c.requires.before c.args.op
     c.requires.op
 
 pub set_base-requires-clause-room : goal.set_base-requires-clause-room
 set_base-requires-clause-room g c =
-    lemma.room_for_one _ _ c.requires.given c.requires.proper c.requires.locks _ _ _ c.requires.before c.args.op
+    lemma.room_for_one _ _ c.requires.given c.requires.proper _ _ _ c.requires.before c.args.op
     c.requires.op
 
 pub show-requires-clause-room : goal.show-requires-clause-room
 show-requires-clause-room g c =
-    lemma.room_for_one _ _ c.requires.given c.requires.proper c.requires.locks _ _ _ c.requires.before c.args.op
+    lemma.room_for_one _ _ c.requires.given c.requires.proper _ _ _ c.requires.before c.args.op
     c.requires.op
 
 pub unreachable-requires : goal.unreachable-requires
 unreachable-requires g c =
     let q = c.requires.given in
     let p = c.requires.proper in
-    let m = c.requires.locks in
-    let no_sleep = lemma.no_sleep _ _ q p m _ _ _ c.requires.before in
-    let no_wake_one = lemma.no_wake_one _ _ q p m _ _ _ c.requires.before in
-    let no_wake_all = lemma.no_wake_all _ _ q p m _ _ _ c.requires.before in
+    let m = c.requires.channels in
+    let no_sleep = lemma.no_sleep _ _ q p _ _ _ c.requires.before m in
+    let no_wake_one = lemma.no_wake_one _ _ q p _ _ _ c.requires.before m in
+    let no_wake_all = lemma.no_wake_all _ _ q p _ _ _ c.requires.before m in
     elim c.in-Sleep.is [
       | inl x ↦ no_sleep x.0 (c.requires.op ∙ ap Some x.1)
       | inr (inl x) ↦ no_wake_one x.0 (c.requires.op ∙ ap Some x.1)
@@ -109,7 +109,6 @@ returns-clause-before g c =
     let f = c.args.floor.now in
     let q = c.requires.given in
     let p = c.requires.proper in
-    let m = c.requires.locks in
     let t = c.args.pass.now.view.thread in
     let b = c.requires.before in
     let next : suc c.args.n ≡ c.args.n + 1 = omega arith in
@@ -119,46 +118,47 @@ returns-clause-before g c =
     → IsBefore plan f t (c.args.n + 1) c.match-op.pass =
     λ y same h. subst (λ (z : ℕ × Pass Knowledge). IsBefore plan f t z.0 z.1) (λ i. (next i, sym same i)) h in
     elim c.match-op.branch [
-      | in-Take+in-Ok w ↦ leads w.take.new.pass w.pass-is
-          (lemma.took plan f q p m t c.args.n c.args.pass.now b w.take.new.pass w.in-Take.l w.in-Take.mode
-          (at _ w.in-Take.is) w.take.ensures.ready w.in-Ok.ensures.entry)
+      | in-Take+in-Ok w ↦ leads w.take_or_halt.new.pass w.pass-is
+          (lemma.took plan f q p t c.args.n c.args.pass.now b w.take_or_halt.new.pass w.in-Take.l w.in-Take.mode
+          (at _ w.in-Take.is) w.take_or_halt.ensures.ready w.in-Ok.ensures.entry)
       | in-Try+in-Ok-try_take w ↦ leads w.try_take.new.pass w.pass-is
-          (lemma.tried plan f q p m t c.args.n c.args.pass.now b w.try_take.new.pass w.in-Try.l w.in-Try.mode
+          (lemma.tried plan f q p t c.args.n c.args.pass.now b w.try_take.new.pass w.in-Try.l w.in-Try.mode
           w.in-Try.past (at _ w.in-Try.is) w.try_take.ensures.ready w.in-Ok-try_take.ensures.gained)
       | in-EndTry w ↦ leads c.args.pass.now w.pass-is
-          (lemma.passed_endtry plan f q p m t c.args.n c.args.pass.now b (at _ w.in-EndTry.is))
+          (lemma.passed_endtry plan f q p t c.args.n c.args.pass.now b (at _ w.in-EndTry.is))
       | in-Release w ↦ leads w.release_held.new.pass w.pass-is
-          (lemma.released plan f q p m t c.args.n c.args.pass.now b w.release_held.new.pass w.in-Release.l
+          (lemma.released plan f q p t c.args.n c.args.pass.now b w.release_held.new.pass w.in-Release.l
           (at _ w.in-Release.is) w.release_held.ensures.ready w.release_held.ensures.entry)
       | in-Set w ↦ leads w.edit.new.pass w.pass-is
-          (lemma.set plan f q p m t c.args.n c.args.pass.now b w.edit.new.pass w.in-Set.l w.in-Set.key w.in-Set.value
+          (lemma.set plan f q p t c.args.n c.args.pass.now b w.edit.new.pass w.in-Set.l w.in-Set.key w.in-Set.value
           (at _ w.in-Set.is) w.edit.ensures.ready w.edit.ensures.entry)
       | in-Add w ↦ leads w.edit-in-Add.new.pass w.pass-is
-          (lemma.added plan f q p m t c.args.n c.args.pass.now b w.edit-in-Add.new.pass w.in-Add.l w.in-Add.key
+          (lemma.added plan f q p t c.args.n c.args.pass.now b w.edit-in-Add.new.pass w.in-Add.l w.in-Add.key
           w.in-Add.amount (at _ w.in-Add.is) w.edit-in-Add.ensures.ready w.edit-in-Add.ensures.entry)
       | in-Get w ↦ leads w.read.new.pass w.pass-is
-          (lemma.got plan f q p m t c.args.n c.args.pass.now b w.read.new.pass w.in-Get.l w.in-Get.key w.read.result
+          (lemma.got plan f q p t c.args.n c.args.pass.now b w.read.new.pass w.in-Get.l w.in-Get.key w.read.result
           (at _ w.in-Get.is) w.read.ensures.ready w.read.ensures.entry)
       | in-Base w ↦ leads w.set_base.new.pass w.pass-is
-          (lemma.based plan f q p m t c.args.n c.args.pass.now b w.set_base.new.pass w.in-Base.prio (at _ w.in-Base.is)
+          (lemma.based plan f q p t c.args.n c.args.pass.now b w.set_base.new.pass w.in-Base.prio (at _ w.in-Base.is)
           w.set_base.ensures.ready w.set_base.ensures.entry)
       | in-Show w ↦ leads w.show.new.pass w.pass-is
-          (lemma.shown plan f q p m t c.args.n c.args.pass.now b w.show.new.pass w.show.result.0 w.show.result.1
+          (lemma.shown plan f q p t c.args.n c.args.pass.now b w.show.new.pass w.show.result.0 w.show.result.1
           (at _ w.in-Show.is) w.show.ensures.ready w.show.ensures.entry)
     ]
 
 pub returns-in-Err-clause-cut : goal.returns-in-Err-clause-cut
 returns-in-Err-clause-cut g c =
-    refused _ _ c.requires.proper _ _ _ c.requires.before c.take.new.pass c.in-Take.l c.in-Take.mode
-    c.in-Err.field-0.held (c.requires.op ∙ ap Some c.in-Take.is) c.take.ensures.ready c.in-Err.ensures.reversed.entry
+    not_taken _ _ c.requires.given c.requires.proper _ _ _ c.requires.before c.take_or_halt.new.pass c.in-Take.l
+    c.in-Take.mode c.in-Err.field-0 (c.requires.op ∙ ap Some c.in-Take.is) c.take_or_halt.ensures.ready
+    c.in-Err.ensures.refused
 
 pub returns-in-Err-try_take-clause-before : goal.returns-in-Err-try_take-clause-before
 returns-in-Err-try_take-clause-before g c =
-    lemma.found_busy _ _ c.requires.given c.requires.proper c.requires.locks _ _ _ c.requires.before
+    lemma.found_busy _ _ c.requires.given c.requires.proper _ _ _ c.requires.before
     c.try_take.new.pass c.in-Try.l c.in-Try.mode c.in-Try.past _ (c.requires.op ∙ ap Some c.in-Try.is)
     c.try_take.ensures.ready c.in-Err-try_take.ensures.busy c.in-Err-try_take.ensures.noted
 
 pub returns-in-Err-try_take-clause-further : goal.returns-in-Err-try_take-clause-further
 returns-in-Err-try_take-clause-further g c =
-    lemma.further_on _ _ c.requires.given c.requires.proper c.requires.locks _ _ _ c.requires.before c.in-Try.l
+    lemma.further_on _ _ c.requires.given c.requires.proper _ _ _ c.requires.before c.in-Try.l
     c.in-Try.mode c.in-Try.past (c.requires.op ∙ ap Some c.in-Try.is)

@@ -1,79 +1,12 @@
-use Rattle.std.proofs.Common.{option_map, sym, ap, ◌∙◌}
-use Rattle.lock_model.specs.Words.{word_of, owner_of}
-use Rattle.lock_model.specs.declared.numbers.ThreadNo.{ThreadNo}
-use Rattle.lock_laws.proofs.Words.{refused_held}
-use Rattle.floor_table.specs.Descriptions.{config_in}
-use Rattle.lock_calls.proofs.Chosen.{must_wait}
-use Rattle.lock_calls.proofs.There.{may_look_in_section, may_enter_in_section, missed_there, owned_walk, ownerless_walk}
+use Rattle.std.proofs.Common.{inl, inr, sym, ap, ◌∙◌}
+use Rattle.lock_model.specs.Words.{is_turnstile}
 use Rattle.lock_calls.proofs.blocking.enter_there.Goals as goal
 
-pub enter-requires-clause-lock : goal.enter-requires-clause-lock
-enter-requires-clause-lock c = c.requires.covered.lock
+pub stand_there-requires-clause-turnstile : goal.stand_there-requires-clause-turnstile
+stand_there-requires-clause-turnstile c = elim c.in-Mtx.is [
+  | inl e ↦ ap is_turnstile (sym c.kind.ensures ∙ e)
+  | inr e ↦ ap is_turnstile (sym c.kind.ensures ∙ e)
+]
 
-pub enter-requires-clause-word : goal.enter-requires-clause-word
-enter-requires-clause-word c = c.requires.seen_so.formed
-
-pub enter-requires-clause-held : goal.enter-requires-clause-held
-enter-requires-clause-held c =
-    refused_held ((config_in c.args.floor.now.description).kind c.args.l.0) (word_of c.args.seen) c.args.mode
-    c.requires.covered.mutex
-    (must_wait ((config_in c.args.floor.now.description).kind c.args.l.0) (word_of c.args.seen) c.args.mode
-    c.requires.course)
-
-pub owner_of-requires : goal.owner_of-requires
-owner_of-requires c = c.requires.seen_so.formed
-
-pub enter-requires-clause-out : goal.enter-requires-clause-out
-enter-requires-clause-out c =
-    let m = c.requires.there in (
-      m.turnstile,
-      m.both.box,
-      m.both.chain,
-      m.both.out,
-      m.lent,
-      may_enter_in_section c.args.floor.now.description c.args.l.0 c.args.mode c.args.pass.now.view c.requires.covered m
-          c.requires.calling c.args.seen c.requires.saw
-          (refused_held ((config_in c.args.floor.now.description).kind c.args.l.0) (word_of c.args.seen) c.args.mode
-          c.requires.covered.mutex
-          (must_wait ((config_in c.args.floor.now.description).kind c.args.l.0) (word_of c.args.seen) c.args.mode
-          c.requires.course))
-          (must_wait ((config_in c.args.floor.now.description).kind c.args.l.0) (word_of c.args.seen) c.args.mode
-          c.requires.course),
-    )
-
-pub enter-requires-clause-may_look : goal.enter-requires-clause-may_look
-enter-requires-clause-may_look c =
-    may_look_in_section c.args.floor.now.description c.args.l.0 c.args.mode c.args.pass.now.view c.requires.covered
-    c.requires.there c.requires.calling
-
-pub returns-in-Some-clause-entered : goal.returns-in-Some-clause-entered
-returns-in-Some-clause-entered c =
-    let s = c.in-Ok.ensures.step in
-    record {
-      both = record { box = s.1; chain = s.2; out = s.3 };
-      turnstile = s.0;
-      owner = owner_of (word_of c.args.seen).holder;
-      walk_is = owned_walk c.args.l.0 c.in-Some.field-0.0 (owner_of (word_of c.args.seen).holder)
-          (sym c.owner_of.ensures ∙ ap (option_map (λ (t : ThreadNo). t.0)) c.in-Some.is);
-      view = s.5;
-      step = s.6;
-    }
-
-pub returns-in-None-clause-entered : goal.returns-in-None-clause-entered
-returns-in-None-clause-entered c =
-    let s = c.in-Ok.ensures.step in
-    record {
-      both = record { box = s.1; chain = s.2; out = s.3 };
-      turnstile = s.0;
-      owner = owner_of (word_of c.args.seen).holder;
-      walk_is = ownerless_walk c.args.l.0 (owner_of (word_of c.args.seen).holder)
-          (sym c.owner_of.ensures ∙ ap (option_map (λ (t : ThreadNo). t.0)) c.in-None.is);
-      view = s.5;
-      step = s.6;
-    }
-
-pub returns-in-Err-clause-missed : goal.returns-in-Err-clause-missed
-returns-in-Err-clause-missed c =
-    missed_there c.args.floor.now.description c.args.l.0 c.args.mode c.args.pass.now.view c.requires.covered
-    c.requires.there c.args.seen c.in-Err.found c.enter.new.pass.view c.in-Err.ensures.found.0
-    c.in-Err.ensures.looked c.in-Err.ensures.look
+pub lie_there-requires-clause-sleeps : goal.lie_there-requires-clause-sleeps
+lie_there-requires-clause-sleeps c = sym c.kind.ensures ∙ c.in-Sx.is

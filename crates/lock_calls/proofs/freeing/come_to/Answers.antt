@@ -14,7 +14,6 @@ try_take_chain-requires-clause-may c =
 pub returns-then-try_take_chain-clause-on : goal.returns-then-try_take_chain-clause-on
 returns-then-try_take_chain-clause-on c =
     comes_on c.args.floor.now.description c.args.l c.args.mode c.args.pass.now.view c.requires.under_way.there
-    c.requires.under_way.covered.turnstile
     c.try_take_chain.new.pass.view (c.try_take_chain.ensures.out c.if-try_take_chain.true)
 
 pub returns-else-try_take_chain-clause-on : goal.returns-else-try_take_chain-clause-on

@@ -1,36 +1,12 @@
-use Rattle.lock_calls.proofs.Owned.{may_look_own, held_at_all, may_open_there, opened_there, missed_own}
+use Rattle.std.proofs.Common.{inl, inr, sym, ap, ◌∙◌}
+use Rattle.lock_model.specs.Words.{is_turnstile}
 use Rattle.lock_calls.proofs.freeing.free_by_open.Goals as goal
 
-pub open_up-requires-clause-turnstile : goal.open_up-requires-clause-turnstile
-open_up-requires-clause-turnstile c = c.requires.covered.turnstile
+pub open_turnstile-requires-clause-turnstile : goal.open_turnstile-requires-clause-turnstile
+open_turnstile-requires-clause-turnstile c = elim c.in-Mtx.is [
+  | inl e ↦ ap is_turnstile (sym c.kind.ensures ∙ e)
+  | inr e ↦ ap is_turnstile (sym c.kind.ensures ∙ e)
+]
 
-pub open_up-requires-clause-held : goal.open_up-requires-clause-held
-open_up-requires-clause-held c =
-    held_at_all c.args.floor.now.description c.args.l.0 c.args.mode c.args.pass.now.view c.requires.covered
-    c.requires.may
-    c.args.seen c.requires.seen
-
-pub open_up-requires-clause-may : goal.open_up-requires-clause-may
-open_up-requires-clause-may c =
-    may_open_there c.args.floor.now.description c.args.l.0 c.args.mode c.args.pass.now.view c.requires.covered
-    c.requires.may
-    c.args.seen c.requires.seen c.requires.opens
-
-pub open_up-requires-clause-may_look : goal.open_up-requires-clause-may_look
-open_up-requires-clause-may_look c =
-    may_look_own c.args.floor.now.description c.args.l.0 c.args.mode c.args.pass.now.view c.requires.covered
-    c.requires.may
-    c.requires.own.description
-
-pub returns-in-Ok-clause-lets : goal.returns-in-Ok-clause-lets
-returns-in-Ok-clause-lets c =
-    opened_there c.args.floor.now.description c.args.l.0 c.args.mode c.args.pass.now.view c.requires.covered
-    c.requires.may
-    c.args.seen c.open_up.new.pass.view c.in-Ok.ensures.opens
-
-pub returns-in-Err-clause-missed : goal.returns-in-Err-clause-missed
-returns-in-Err-clause-missed c =
-    missed_own c.args.floor.now.description c.args.l.0 c.args.mode c.args.pass.now.view c.requires.covered
-    c.requires.may
-    c.args.seen c.in-Err.found c.open_up.new.pass.view c.in-Err.ensures.found.0 c.in-Err.ensures.found.1
-    c.in-Err.ensures.looked c.in-Err.ensures.look
+pub open_sleepers-requires-clause-sleeps : goal.open_sleepers-requires-clause-sleeps
+open_sleepers-requires-clause-sleeps c = sym c.kind.ensures ∙ c.in-Sx.is

@@ -52,6 +52,10 @@ pub unreachable-requires : goal.unreachable-requires
 unreachable-requires c = elim c.in-Sleep.is [
   | inl is ↦ subst (λ n. WakesNext c.args.floor.now.description n c.args.pass.now.view c.wake_first.new.pass.view) is
       c.wake_first.ensures.wakes
-  | inr is ↦ subst (λ n. WakesNext c.args.floor.now.description n c.args.pass.now.view c.wake_first.new.pass.view) is.1
-      c.wake_first.ensures.wakes
+  | inr other ↦ elim other [
+    | inl is ↦ subst (λ n. WakesNext c.args.floor.now.description n c.args.pass.now.view c.wake_first.new.pass.view)
+        is.1 c.wake_first.ensures.wakes
+    | inr is ↦ subst (λ n. WakesNext c.args.floor.now.description n c.args.pass.now.view c.wake_first.new.pass.view) is
+        c.wake_first.ensures.wakes
+  ]
 ]

@@ -16,7 +16,7 @@ pub returns-then-try_take_chain-clause-on : goal.returns-then-try_take_chain-cla
 returns-then-try_take_chain-clause-on c =
     comes_on c.args.floor.now.description c.args.l c.args.mode c.args.pass.now.view c.try_take_chain.new.pass.view
     c.requires.under_way.there.0 c.requires.under_way.there.1
-    c.requires.under_way.covered.turnstile (c.try_take_chain.ensures.out c.if-try_take_chain.true)
+    (c.try_take_chain.ensures.out c.if-try_take_chain.true)
 
 pub returns-else-try_take_chain-clause-on : goal.returns-else-try_take_chain-clause-on
 returns-else-try_take_chain-clause-on c =

@@ -1,12 +1,15 @@
 use Rattle.std.proofs.Common.{sym, ap, ◌∙◌, subst}
 use Rattle.lock_floor.specs.declared.calls.TakeAt.TheVariants.{Spins}
-use Rattle.lock_calls.specs.Takes.{IsUnderTake, TakesOn}
+use Rattle.lock_calls.specs.Takes.{IsUnderTake, TakesOn, IsHalted}
 use Rattle.lock_calls.proofs.taking.go_on_at.Goals as goal
 
 pub check-requires-clause-under_way : goal.check-requires-clause-under_way
 check-requires-clause-under_way c =
     subst (λ a. IsUnderTake c.args.floor.now.description c.args.l c.args.mode a c.args.pass.now.view)
     c.in-Checks.is c.requires.under_way
+
+pub returns-in-Err-clause-refused : goal.returns-in-Err-clause-refused
+returns-in-Err-clause-refused c = (c.in-Checks.is, c.in-Err.ensures.refused)
 
 pub come-requires-clause-under_way : goal.come-requires-clause-under_way
 come-requires-clause-under_way c =
@@ -45,11 +48,16 @@ walk_on-requires-clause-under_way c =
     subst (λ a. IsUnderTake c.args.floor.now.description c.args.l c.args.mode a c.args.pass.now.view)
     c.in-Walks.is c.requires.under_way
 
-pub returns-in-Walks-clause-on : goal.returns-in-Walks-clause-on
-returns-in-Walks-clause-on c =
-    subst (λ a. TakesOn c.args.floor.now.description c.args.l c.args.mode a c.walk_on.result c.args.pass.now.view
+pub returns-in-Ok-walk_on-clause-on : goal.returns-in-Ok-walk_on-clause-on
+returns-in-Ok-walk_on-clause-on c =
+    subst (λ a. TakesOn c.args.floor.now.description c.args.l c.args.mode a c.in-Ok-walk_on.to c.args.pass.now.view
     c.walk_on.new.pass.view)
-    (sym c.in-Walks.is) c.walk_on.ensures.on
+    (sym c.in-Walks.is) c.in-Ok-walk_on.ensures.on
+
+pub returns-in-Err-walk_on-clause-refused : goal.returns-in-Err-walk_on-clause-refused
+returns-in-Err-walk_on-clause-refused c =
+    subst (λ a. IsHalted c.args.floor.now.description c.args.l a c.args.pass.now.view c.walk_on.new.pass.view)
+    (sym c.in-Walks.is) c.in-Err-walk_on.ensures.halted
 
 pub hop_on-requires-clause-under_way : goal.hop_on-requires-clause-under_way
 hop_on-requires-clause-under_way c =

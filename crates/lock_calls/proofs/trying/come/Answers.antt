@@ -16,7 +16,7 @@ try_take_chain-requires-clause-may c =
 pub returns-then-try_take_chain-clause-on : goal.returns-then-try_take_chain-clause-on
 returns-then-try_take_chain-clause-on c =
     chain_on c.args.floor.now.description c.args.l c.args.mode c.args.pass.now.view c.try_take_chain.new.pass.view
-    c.requires.under_way.there.0 c.requires.under_way.there.1 c.requires.under_way.covered.turnstile
+    c.requires.under_way.there.0 c.requires.under_way.there.1
     (c.try_take_chain.ensures.out c.if-try_take_chain.true)
 
 pub returns-else-try_take_chain-clause-on : goal.returns-else-try_take_chain-clause-on

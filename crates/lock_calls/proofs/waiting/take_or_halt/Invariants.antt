@@ -1,6 +1,6 @@
 use Rattle.lock_floor.specs.Passes.{IsOf}
 use Rattle.lock_calls.proofs.Driven.{StandsSince}
-use Rattle.lock_calls.proofs.waiting.take.Given as goal
+use Rattle.lock_calls.proofs.waiting.take_or_halt.Given as goal
 
 abbrev pub invariant-loop : goal.invariant-loop
 invariant-loop g l = record {

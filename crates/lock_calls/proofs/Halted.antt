@@ -1,0 +1,168 @@
+-- A take whose sleep an abort ended: it notes that, and the thread is at rest again. No sleep on a turnstile is ended
+-- so.
+use Rattle.std.proofs.Common.{◌≡◌, ℕ, ◌+◌, ◌≤◌, Bool, true, false, None, [], ◌∷◌, refl, sym, ap, ◌∙◌, subst, arith}
+use Rattle.std.proofs.lemmas.Option.{same_Some}
+use Rattle.lock_model.specs.Config.{Config}
+use Rattle.lock_model.specs.Queues.{Cause, BySignal, ByAbort, lock_queue}
+use Rattle.lock_model.specs.Words.{is_turnstile}
+use Rattle.lock_model.specs.declared.event.Event.{Event}
+use Rattle.lock_model.specs.declared.event.Event.TheVariants.{HaltedLock}
+use Rattle.lock_model.specs.declared.numbers.LockNo.{LockNo}
+use Rattle.lock_model.specs.declared.plan.QueueName.{QueueName}
+use Rattle.lock_state.specs.Facts.Sleeps.{NoSleepIsHalted}
+use Rattle.lock_state.specs.State.{State, Awake}
+use Rattle.lock_state.specs.Steps.{Stamps, Resumes, HasOutForEntry}
+use Rattle.lock_state.specs.Steps.LockWords.{Asks}
+use Rattle.lock_state.specs.Steps.Turnstiles.{called_after, wanted_after, noted_after, taking_by, woken_from_by, round_for}
+use Rattle.prio_lending.specs.declared.walk.Walk.TheVariants as walk
+use Rattle.floor_table.specs.Descriptions.{config_in}
+use Rattle.floor_table.specs.declared.description.Description.{Description}
+use Rattle.floor_table.specs.Shares.{Doing}
+use Rattle.floor_table.specs.Steps.{Fits, Makes, MayMake}
+use Rattle.floor_table.specs.Views.{Runs, StandsOn, Knowledge, seeing}
+use Rattle.lock_floor.specs.declared.calls.TakeAt.TheVariants.{Walks}
+use Rattle.lock_floor.specs.Passes.{IsAtRest}
+use Rattle.lock_floor.specs.Resumes.{cause_of, resumed, RunsAgain}
+use Rattle.lock_floor.specs.Views.{entry_by, stamped}
+use Rattle.lock_floor.specs.Walks.{CanWalk}
+use Rattle.lock_floor.proofs.May.{doing_it, holds_it, may_stamp_end}
+use Rattle.lock_floor.proofs.Resting.{rest_noted, rest_seeing}
+use Rattle.lock_calls.specs.Takes.{IsStanding, IsHalted}
+use Rattle.lock_calls.specs.Waiting.{kept_of, IsCalling}
+use Rattle.lock_calls.proofs.Standing.{by_signal}
+
+-- at the moment of such an entry the halt word is 1
+pub halt_is_set : (floor : Description) (l : LockNo) (t : ℕ) (v w : Knowledge)
+    (m : Makes floor (Stamps t (HaltedLock l) ∷ []) v w) → m.state.halted ≡ true
+unfolding NoSleepIsHalted
+halt_is_set floor l t v w m = go m.state.halted refl
+  where
+    go : (b : Bool) → m.state.halted ≡ b → m.state.halted ≡ true
+    go true e = e
+    go false e = absurd
+        (m.sound.sleepers.no_sleep_is_halted e t (lock_queue l.0) m.may.0.fits.may.asks.0)
+
+module _ (floor : Description) (l : LockNo) (z : Knowledge) (m : IsStanding l.0 walk.None z) (can : CanWalk floor z)
+    (calls : IsCalling floor (kept_of z)) (w : Knowledge) (aborted : Bool) (is : aborted ≡ true)
+    (r : RunsAgain floor (cause_of aborted) z w) where
+  abbrev c : Config
+  c = config_in floor
+
+  abbrev q : QueueName
+  q = lock_queue l.0
+
+  abbrev e : Event
+  e = HaltedLock l
+
+  its_queue : r.queue ≡ q
+  its_queue = let same : StandsOn r.queue ≡ StandsOn q = sym r.stands ∙ m.stands in cc
+
+  its_cause : cause_of aborted ≡ ByAbort
+  its_cause = ap cause_of is
+
+  sleeps : is_turnstile (c.kind l.0) ≡ false
+  sleeps = go (is_turnstile (c.kind l.0)) refl
+    where
+      go : (b : Bool) → is_turnstile (c.kind l.0) ≡ b → is_turnstile (c.kind l.0) ≡ false
+      go false out = out
+      go true turnstile = absurd
+          (let x : ByAbort ≡ BySignal = sym its_cause
+          ∙ by_signal floor l.0 turnstile z w r.queue (cause_of aborted) its_queue r.step in cc)
+
+  -- what it knows then, in a wait or not
+  abbrev aborted_in : Bool → Knowledge
+  aborted_in back =
+      let x : Doing = z.share.doing in
+      let after : Doing = record x {
+        called = called_after q ByAbort x.called;
+        wanted = wanted_after c q ByAbort back x.wanted;
+        noted = noted_after q ByAbort back x.noted;
+        taking = taking_by c q x.taking;
+        woken_from = woken_from_by q ByAbort x.woken_from;
+        looks = 0;
+        round = round_for (wanted_after c q ByAbort back x.wanted);
+        phase = Awake;
+      } in
+      record z { share = record z.share { doing = after }; pose = Runs }
+
+  -- the same with the take and its halt forgotten, which the entry does
+  abbrev forgotten : Knowledge
+  forgotten = record (aborted_in false) {
+    share = record (aborted_in false).share {
+      doing = record (aborted_in false).share.doing { taking = None; noted = None };
+    };
+  }
+
+  ran : w ≡ seeing w.seen (aborted_in false)
+  ran = r.view ∙ (λ i. seeing w.seen (resumed c z (its_queue i) (its_cause i)))
+      ∙ (λ i. seeing w.seen (aborted_in (calls.no_wait i)))
+
+  its : w.thread ≡ z.thread
+  its = ap (λ (x : Knowledge). x.thread) ran
+
+  abbrev v : Knowledge
+  v = seeing w.seen (aborted_in false)
+
+  asks : (s : State) → Fits floor v s → Asks c s z.thread e × HasOutForEntry floor.chains s z.thread e
+  asks s f = ((doing_it floor v s f (λ d. d.noted), holds_it floor v s f l.0 ∙ m.unheld), tt)
+
+  pub may_note_halt : MayMake floor w (λ s. Unit {0}) (Stamps w.thread e ∷ [])
+  may_note_halt =
+      subst (λ (x : Knowledge). MayMake floor x (λ s. Unit {0}) (Stamps x.thread e ∷ [])) (sym ran)
+      (may_stamp_end floor v e asks tt (λ back. absurd (let y : false ≡ true = sym calls.no_wait ∙ back in cc)) refl
+      (record { awake = refl; unended = calls.going.unended; stamped = calls.going.stamped })
+      (λ k takes. (same_Some l.0 k (sym m.takes ∙ takes), calls.no_wait)))
+
+  pub room_for_halt : 1 ≤ z.spare → 1 ≤ w.spare
+  room_for_halt room = subst (λ (x : Knowledge). 1 ≤ x.spare) (sym ran) room
+
+  rests : (ticket : ℕ) → IsAtRest floor (stamped c (aborted_in false) (entry_by z.thread ticket e))
+  rests ticket =
+      rest_noted floor forgotten ticket e refl (record {
+        runs = refl;
+        nothing_out = can.nothing_out;
+        no_walk = sym m.walk_is;
+        unmarked = calls.unmarked;
+        uncounted = calls.uncounted;
+        wants_nothing = refl;
+        takes_nothing = refl;
+        no_round = refl;
+        no_looks = refl;
+        unnoted = refl;
+        going = record { awake = refl; unended = calls.going.unended; stamped = calls.going.stamped };
+        no_wait = calls.no_wait;
+      }) calls.sections calls.begun
+
+  pub is_halted : 1 ≤ z.spare → (new : Knowledge) (ticket : ℕ)
+      → new ≡ seeing new.seen (stamped c w (entry_by w.thread ticket e))
+      → Makes floor (Stamps w.thread e ∷ []) w new → IsHalted floor l (Walks walk.None) z new
+  is_halted room new ticket says step =
+      let halted : new ≡ seeing new.seen (stamped c (aborted_in false) (entry_by z.thread ticket e)) =
+      says ∙ ap (λ (x : Knowledge). seeing new.seen (stamped c x (entry_by x.thread ticket e))) ran in
+      let noted : Makes floor (Stamps z.thread e ∷ []) w new =
+      subst (λ t. Makes floor (Stamps t e ∷ []) w new) its step in
+      record {
+        sleeps = sleeps;
+        stood = refl;
+        rest = subst (IsAtRest floor) (sym halted)
+            (rest_seeing floor (stamped c (aborted_in false) (entry_by z.thread ticket e)) new.seen (rests ticket));
+        entry = record {
+          ticket = ticket;
+          log = ap (λ (x : Knowledge). x.share.log) halted;
+          held = ap (λ (x : Knowledge). x.share.held) halted;
+          spare = ap (λ (x : Knowledge). x.spare + 1) halted ∙ omega (arith, room);
+          thread = ap (λ (x : Knowledge). x.thread) halted;
+          before = w;
+          behind = new;
+          of = its;
+          step = noted;
+          log_before = ap (λ (x : Knowledge). x.share.log) ran;
+          log_behind = refl;
+        };
+        steps = (
+          w,
+          subst (λ (p : QueueName × Cause). Makes floor (Resumes z.thread p.0 p.1 ∷ []) z w)
+              (λ i. (its_queue i, its_cause i)) r.step,
+          (new, noted, refl),
+        );
+      }
