@@ -28,7 +28,7 @@ use thread_records::ThreadRec;
 ///
 /// The plan is one that some script gives, with locks of any kind, and without condition variables and channels. The
 /// floor has so many chains of each sort: one, as `lock_calls::take_or_halt` asks it. Where no thread can be started,
-/// the workers run one after another, and the call may then not return.
+/// the workers run one after another, and the call may then not return where the gate holds one for another.
 pub fn run_plan<R: Threads + Wait + Sync, G: Gate>(
     rt: &R,
     alloc: Global,

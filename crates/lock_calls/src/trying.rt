@@ -42,9 +42,9 @@ pub enum TryNext {
 /// 100 looks before.
 const LOOKS: u32 = 50;
 
-/// Begins a try of a lock in a mode, which the lock may have. It makes one exchange: `Gained` comes
-/// where that gained the lock, `Busy` where it found a word that doesn't admit the mode, and
-/// `Again` where another thread was faster, and the word admits the mode still.
+/// Begins a try of a lock in a mode, which the lock may have. It makes one exchange: `Gained` comes where that gained
+/// the lock, `Busy` where it found a word that doesn't admit the mode, and `Again` where the word that it found admits
+/// the mode: others read, or another thread came and went.
 pub fn begin_try(floor: &Floor, pass: &mut Pass, l: LockNo, mode: Mode) -> TryNext
     requires ready { IsReady floor.now pass.old }
     requires may { MayTake floor.now.description l.0 mode pass.old.view }

@@ -20,9 +20,10 @@ use lock_model::{Busy, LockNo, Mode, Reversal};
 use std::sync::Wait;
 
 /// Takes a reader-writer lock for reading: others may read under it as well. Where the thread holds nothing it makes an
-/// exchange first, and one more where others read and no writer waits. Then it has the lock's order checked behind the
-/// locks that the thread holds, and looks and tries in a round, at most 100 times in all. Then it takes the lock's
-/// chain, and gains the lock there, or stands on its turnstile, sleeps until it is woken, and begins another round.
+/// exchange first, and one more where the word that it found admits a reader. Then it has the lock's order checked
+/// behind the locks that the thread holds, and looks and tries in a round, at most 100 times in all. Then it takes the
+/// lock's chain, and gains the lock there, or stands on its turnstile, sleeps until it is woken, and begins another
+/// round.
 /// `Err` comes exactly where, by the class graph as this call's check found it, the class of a lock that the thread
 /// holds forbids that of the lock: it has the first such class in order of acquisition, the refusal is noted, and
 /// nothing else of the thread is new. A thread that holds nothing is never refused. The floor has one chain of
@@ -103,8 +104,8 @@ pub fn try_write<R: Wait>(floor: &Floor, rt: &R, pass: &mut Pass, l: LockNo) -> 
 }
 
 /// Begins to take a reader-writer lock for reading, and never waits: `Done` comes where the first exchange gained it,
-/// which a thread makes that holds nothing, or a second one, where others read and no writer waits. Else the take is
-/// under way, and is gone on with by `go_on_taking`.
+/// which a thread makes that holds nothing, or a second one, where the word that it found admits a reader. Else the take
+/// is under way, and is gone on with by `go_on_taking`.
 pub fn begin_read(floor: &Floor, pass: &mut Pass, l: LockNo) -> Next
     requires ready { IsReady floor.now pass.old }
     requires may { MayAcquire floor.now.description l.0 pass.old.view }
