@@ -1,0 +1,4 @@
+pub mod Had
+pub mod Changes
+pub mod Keeping
+pub mod Histories

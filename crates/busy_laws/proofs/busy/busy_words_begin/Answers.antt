@@ -1,0 +1,5 @@
+use Rattle.busy_laws.proofs.Keeping as law
+use Rattle.busy_laws.proofs.busy.busy_words_begin.Goals as goal
+
+pub returns : goal.returns
+returns c = law.begins

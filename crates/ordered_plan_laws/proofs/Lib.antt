@@ -1,0 +1,7 @@
+pub mod Edges
+pub mod Keeping
+pub mod Finders
+pub mod Following
+pub mod Unrefused
+pub mod Unhalted
+pub mod UpwardSteps

@@ -1,0 +1,5 @@
+use Rattle.ordered_plan_laws.proofs.Keeping as law
+use Rattle.ordered_plan_laws.proofs.ordered.ordered_steps_keep.Goals as goal
+
+pub returns : goal.returns
+returns c = law.keeps

@@ -1,0 +1,26 @@
+//! Histories of ordered plans: where each thread's entries follow its operations, and takes, refusals and halts are as
+//! the law of a history says, no take is refused and nobody is halted.
+
+ghost use Rattle.std.specs.Prelude.{◌≡◌, List, false, true};
+ghost use Rattle.std.specs.List.{list_any};
+ghost use Rattle.lock_model.specs.Halts.{HaltsAreHonest};
+ghost use Rattle.lock_model.specs.Law.{IsLegal, is_halt};
+ghost use Rattle.lock_model.specs.Operations.{IsProper};
+ghost use Rattle.lock_model.specs.OrderedPlans.{IsOrdered};
+ghost use Rattle.lock_model.specs.Plans.{config_of};
+ghost use Rattle.lock_model.specs.Takes.{has_reversal};
+ghost use Rattle.lock_model.specs.declared.event.Entry.{Entry};
+ghost use Rattle.lock_model.specs.declared.plan.Plan as plans;
+
+/// No take of a legal history of an ordered plan's threads is refused,
+pub fn legal_histories_have_no_refusal()
+    ensures { (plan : plans.Plan) (history : List Entry) → IsProper plan → IsOrdered plan
+        → IsLegal plan true false history → has_reversal history ≡ false }
+{}
+
+/// and where its halts are honest nobody is halted.
+pub fn honest_histories_have_no_halt()
+    ensures { (plan : plans.Plan) (history : List Entry) → IsProper plan → IsOrdered plan
+        → IsLegal plan true false history → HaltsAreHonest (config_of plan) history
+        → list_any (λ e. is_halt e.event) history ≡ false }
+{}
