@@ -1,6 +1,7 @@
 //! What a thread of a floor steps with.
 ghost use Rattle.std.specs.Prelude.{◌≡◌, ◌<◌, length};
-ghost use Rattle.lock_model.specs.Operations.{hold_in};
+ghost use Rattle.std.specs.Vec.{vec_capacity};
+ghost use Rattle.lock_model.specs.Operations.{hold_in, without_lock};
 ghost use Rattle.lock_objects.specs.Represents.{hold_of};
 
 use crate::calls::Call;
@@ -94,5 +95,15 @@ impl PassOf<Slot, View, Description, Law> {
             Some(i) => Some(self.held[i].mode),
             None => None,
         }
+    }
+}
+
+// Takes a lock that a thread releases off those that it holds.
+pub(crate) fn leave(l: LockNo, held: &mut Vec<Held>)
+    ensures left { held.new.items ≡ without_lock l.0 held.old.items }
+    ensures room { vec_capacity held.new ≡ vec_capacity held.old }
+{
+    if let Some(i) = place_held(l, held) {
+        held.remove(i);
     }
 }
