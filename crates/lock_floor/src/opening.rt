@@ -22,9 +22,9 @@ ghost use Rattle.lock_floor.specs.Passes.{IsOf};
 ghost use Rattle.lock_floor.specs.Views.{counts, looked};
 
 use crate::floor::FloorOf;
-use crate::pass::Pass;
+use crate::pass::{Pass, leave};
 use floor_table::{Board, Description, FloorSeat, Law, Slot, Tells, View, exchange, lock_spot};
-use lock_model::{LockNo, QueueName, Side, place_held};
+use lock_model::{LockNo, QueueName, Side};
 use lock_objects::Marked;
 use std::marker::Brand;
 use turnstile_core::Taken;
@@ -66,9 +66,7 @@ impl FloorOf<Slot, View, Description, Law> {
         let own = usize::from(pass.who.0);
         let woken = take_side(&self.board, &mut pass.seat, own, chain, l, side);
         pass.marked = Marked::Waiters(woken);
-        if let Some(i) = place_held(l, &pass.held) {
-            pass.held.remove(i);
-        }
+        leave(l, &mut pass.held);
         Ok(())
     }
 }

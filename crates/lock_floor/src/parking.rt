@@ -82,8 +82,10 @@ impl FloorOf<Slot, View, Description, Law> {
     }
 
     /// Whether a thread's wait word says that it is queued, by a plain load, which tells nothing: for a scheduler,
-    /// which has no pass to step with.
-    pub fn is_queued(&self, t: ThreadNo) -> bool {
+    /// which has no pass to step with. A thread that the floor doesn't have never is.
+    pub fn is_queued(&self, t: ThreadNo) -> bool
+        ensures { length self.now.description.threads ≤ t.0 → result ≡ false }
+    {
         usize::from(t.0) < self.description.threads.as_slice().len()
             && self.board.shared.peek(wait_spot(t)) == QUEUED
     }

@@ -16,10 +16,10 @@ ghost use Rattle.lock_floor.specs.Views.{counts, looked};
 use crate::channels::{lie_down, take_sleepers};
 use crate::floor::FloorOf;
 use crate::opening::open_word;
-use crate::pass::Pass;
+use crate::pass::{Pass, leave};
 use crate::waits::{enter_word, side_of};
 use floor_table::{Description, Law, Slot, View};
-use lock_model::{LockNo, Mode, QueueName, place_held};
+use lock_model::{LockNo, Mode, QueueName};
 use lock_objects::Marked;
 use std::marker::Brand;
 
@@ -105,9 +105,7 @@ impl FloorOf<Slot, View, Description, Law> {
         );
         pass.seat.turn();
         pass.marked = Marked::Sleepers(woken);
-        if let Some(i) = place_held(l, &pass.held) {
-            pass.held.remove(i);
-        }
+        leave(l, &mut pass.held);
         Ok(())
     }
 }

@@ -13,11 +13,11 @@ ghost use Rattle.lock_floor.specs.Passes.{IsOf};
 ghost use Rattle.lock_floor.specs.Views.{counts, looked, sought, gained, put_down};
 
 use crate::floor::FloorOf;
-use crate::pass::Pass;
+use crate::pass::{Pass, leave};
 use floor_table::{
     Board, Description, FloorSeat, Law, Slot, Tells, View, exchange, load, lock_spot,
 };
-use lock_model::{Held, LockNo, Mode, ThreadNo, place_held};
+use lock_model::{Held, LockNo, Mode, ThreadNo};
 use std::marker::Brand;
 
 impl FloorOf<Slot, View, Description, Law> {
@@ -117,9 +117,7 @@ impl FloorOf<Slot, View, Description, Law> {
         if found != seen {
             return Err(found);
         }
-        if let Some(i) = place_held(l, &pass.held) {
-            pass.held.remove(i);
-        }
+        leave(l, &mut pass.held);
         Ok(())
     }
 }

@@ -1,6 +1,4 @@
-use Rattle.std.proofs.Common.{◌≡◌, ℕ, ◌<◌, true, [], ◌∷◌, length, position, refl, sym, ap, ◌∙◌, subst, arith}
-use Rattle.lock_model.proofs.HeldLocks.{taken_out, none_taken}
-use Rattle.lock_model.specs.Operations.{holds_lock}
+use Rattle.std.proofs.Common.{◌≡◌, ℕ, ◌<◌, true, [], ◌∷◌, length, refl, sym, ap, ◌∙◌, subst, arith}
 use Rattle.lock_model.specs.Queues.{lock_queue}
 use Rattle.lock_model.specs.Words.{word_of, is_turnstile, opened, side_woken}
 use Rattle.lock_objects.specs.declared.marked.Marked.TheVariants.{Waiters}
@@ -68,13 +66,12 @@ take_side-woken-requires-clause-out c =
     (c.from-own.ensures ∙ c.pass.invariant.thread)
     (c.chain_slot-chain.ensures.place ∙ place_inside _ _ c.self.view_is l) c.pass.invariant.out
 
--- the lock was among those that the thread held
-module _ (c : goal.After-remove) where
-  its_with : (o : OpensUp c.self.inside.board.shared.key c.args.l.0 (word_of c.args.seen) c.pass.inside.seat.me.0
+module _ (c : goal.After-leave) where
+  its_open : (o : OpensUp c.self.inside.board.shared.key c.args.l.0 (word_of c.args.seen) c.pass.inside.seat.me.0
       c.take_side-woken.new.seat.me.0) × (c.take_side-woken.new.seat.me.1 ≡ c.take_side-woken.new.seat.me.0.out)
       × AreMarked c.self.inside.board.shared.key (Waiters c.take_side-woken.result)
       (marks_opened c.args.l.0 o.side o.both.box o.turnstile)
-  its_with =
+  its_open =
       its_work c.self.inside.board.shared.key c.pass.inside.seat.me c.open_word-found.new.seat.me c.args.l.0 c.args.seen
       c.open_word-found.result c.in_default-Some.side
       (side_told c.self.inside.board.shared.key c.args.l.0 c.kind.result (word_of c.args.seen) c.opened.result.1
@@ -86,77 +83,27 @@ module _ (c : goal.After-remove) where
       (sym c.self.view_is) c.requires.turnstile) c.take_side-woken.new.seat.me c.take_side-woken.result
       c.take_side-woken.ensures.view c.take_side-woken.ensures.out c.take_side-woken.ensures.woken
 
-pub invariant_of-pass-in-Some : goal.invariant_of-pass-in-Some
-invariant_of-pass-in-Some c =
-    let its = its_with c in
-    let held = c.pass.inside.held in
-    let there = ap (position (holds_lock c.args.l)) (sym c.deref.ensures.value) ∙ sym c.place_held.ensures
-    ∙ c.in-Some.is in
+pub invariant_of-pass-2 : goal.invariant_of-pass-2
+invariant_of-pass-2 c =
+    let its = its_open c in
     tied_opened c.self.inside.board.shared.key c.args.l.0 (word_of c.args.seen) c.pass.inside.seat.me
-    c.take_side-woken.new.seat.me c.take_side-woken.result its.0 its.1 its.2 c.pass.inside.who.0 held c.remove.new.self
-    c.pass.inside.marked c.pass.inside.log c.pass.inside.finished
+    c.take_side-woken.new.seat.me c.take_side-woken.result its.0 its.1 its.2 c.pass.inside.who.0 c.pass.inside.held
+    c.leave.new.held c.pass.inside.marked c.pass.inside.log c.pass.inside.finished
     (ap (λ (p : Pass Knowledge). p.finished) c.pass.view_is ∙ c.requires.own.unfinished) c.pass.invariant
     (ap (λ (p : Pass Knowledge). p.view.description) c.pass.view_is ∙ c.requires.own.description
     ∙ sym (ap (λ (f : Floor Description). f.description) c.self.view_is))
-    (c.remove.ensures.items ∙ taken_out c.args.l held.items c.in-Some.i there)
-    (omega (arith, c.pass.invariant.room, c.remove.ensures.capacity))
+    c.leave.ensures.left (omega (arith, c.pass.invariant.room, c.leave.ensures.room))
 
-pub returns-in-Some-clause-own : goal.returns-in-Some-clause-own
-returns-in-Some-clause-own c = record {
+pub returns-clause-own : goal.returns-clause-own
+returns-clause-own c = record {
   table = c.take_side-woken.ensures.own ∙ c.open_word-found.ensures.own
       ∙ ap (λ (p : Pass Knowledge). p.table) c.pass.view_is ∙ c.requires.own.table;
-  description = ap (λ (w : Knowledge). w.description) (its_with c).0.view
+  description = ap (λ (w : Knowledge). w.description) (its_open c).0.view
       ∙ ap (λ (p : Pass Knowledge). p.view.description) c.pass.view_is ∙ c.requires.own.description;
   unfinished = ap (λ (p : Pass Knowledge). p.finished) c.pass.view_is ∙ c.requires.own.unfinished;
 }
 
-pub returns-in-Some-clause-opens : goal.returns-in-Some-clause-opens
-returns-in-Some-clause-opens c =
+pub returns-clause-opens : goal.returns-clause-opens
+returns-clause-opens c =
     subst (λ (z : Floor Description × Pass Knowledge). OpensUp z.0.description c.args.l.0 (word_of c.args.seen) z.1.view
-    c.take_side-woken.new.seat.me.0) (λ i. (c.self.view_is i, c.pass.view_is i)) (its_with c).0
-
--- it was not
-module _ (c : goal.In_default-place_held) where
-  its_without : (o : OpensUp c.self.inside.board.shared.key c.args.l.0 (word_of c.args.seen) c.pass.inside.seat.me.0
-      c.take_side-woken.new.seat.me.0) × (c.take_side-woken.new.seat.me.1 ≡ c.take_side-woken.new.seat.me.0.out)
-      × AreMarked c.self.inside.board.shared.key (Waiters c.take_side-woken.result)
-      (marks_opened c.args.l.0 o.side o.both.box o.turnstile)
-  its_without =
-      its_work c.self.inside.board.shared.key c.pass.inside.seat.me c.open_word-found.new.seat.me c.args.l.0 c.args.seen
-      c.open_word-found.result c.in_default-Some.side
-      (side_told c.self.inside.board.shared.key c.args.l.0 c.kind.result (word_of c.args.seen) c.opened.result.1
-      c.in_default-Some.side c.opened.ensures.side c.in_default-Some.is-1 c.requires.opens
-      (c.kind.ensures ∙ kind_inside _ _ c.self.view_is c.args.l.0)) c.open_word-found.ensures.told
-      c.if-found-seen.false c.from-own.result c.chain_slot-chain.result (c.from-own.ensures ∙ c.pass.invariant.thread)
-      (c.chain_slot-chain.ensures.place ∙ place_inside _ _ c.self.view_is c.args.l.0) c.pass.invariant.out
-      (subst (λ (f : Floor Description). is_turnstile ((config_in f.description).kind c.args.l.0) ≡ true)
-      (sym c.self.view_is) c.requires.turnstile) c.take_side-woken.new.seat.me c.take_side-woken.result
-      c.take_side-woken.ensures.view c.take_side-woken.ensures.out c.take_side-woken.ensures.woken
-
-pub invariant_of-pass-in_default-place_held : goal.invariant_of-pass-in_default-place_held
-invariant_of-pass-in_default-place_held c =
-    let its = its_without c in
-    let held = c.pass.inside.held in
-    let nowhere = ap (position (holds_lock c.args.l)) (sym c.deref.ensures.value) ∙ sym c.place_held.ensures
-    ∙ c.in_default-place_held.is in
-    tied_opened c.self.inside.board.shared.key c.args.l.0 (word_of c.args.seen) c.pass.inside.seat.me
-    c.take_side-woken.new.seat.me c.take_side-woken.result its.0 its.1 its.2 c.pass.inside.who.0 held held
-    c.pass.inside.marked c.pass.inside.log c.pass.inside.finished
-    (ap (λ (p : Pass Knowledge). p.finished) c.pass.view_is ∙ c.requires.own.unfinished) c.pass.invariant
-    (ap (λ (p : Pass Knowledge). p.view.description) c.pass.view_is ∙ c.requires.own.description
-    ∙ sym (ap (λ (f : Floor Description). f.description) c.self.view_is))
-    (none_taken c.args.l held.items nowhere) c.pass.invariant.room
-
-pub returns-in_default-place_held-clause-own : goal.returns-in_default-place_held-clause-own
-returns-in_default-place_held-clause-own c = record {
-  table = c.take_side-woken.ensures.own ∙ c.open_word-found.ensures.own
-      ∙ ap (λ (p : Pass Knowledge). p.table) c.pass.view_is ∙ c.requires.own.table;
-  description = ap (λ (w : Knowledge). w.description) (its_without c).0.view
-      ∙ ap (λ (p : Pass Knowledge). p.view.description) c.pass.view_is ∙ c.requires.own.description;
-  unfinished = ap (λ (p : Pass Knowledge). p.finished) c.pass.view_is ∙ c.requires.own.unfinished;
-}
-
-pub returns-in_default-place_held-clause-opens : goal.returns-in_default-place_held-clause-opens
-returns-in_default-place_held-clause-opens c =
-    subst (λ (z : Floor Description × Pass Knowledge). OpensUp z.0.description c.args.l.0 (word_of c.args.seen) z.1.view
-    c.take_side-woken.new.seat.me.0) (λ i. (c.self.view_is i, c.pass.view_is i)) (its_without c).0
+    c.take_side-woken.new.seat.me.0) (λ i. (c.self.view_is i, c.pass.view_is i)) (its_open c).0

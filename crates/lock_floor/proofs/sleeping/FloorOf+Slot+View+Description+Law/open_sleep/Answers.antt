@@ -1,7 +1,5 @@
-use Rattle.std.proofs.Common.{◌≡◌, ℕ, ◌<◌, false, [], ◌∷◌, length, position, refl, sym, ap, ◌∙◌, subst, arith}
+use Rattle.std.proofs.Common.{◌≡◌, ℕ, ◌<◌, false, [], ◌∷◌, length, refl, sym, ap, ◌∙◌, subst, arith}
 use Rattle.atomic_table.specs.Table.{Me}
-use Rattle.lock_model.proofs.HeldLocks.{taken_out, none_taken}
-use Rattle.lock_model.specs.Operations.{holds_lock}
 use Rattle.lock_model.specs.Queues.{lock_queue}
 use Rattle.lock_model.specs.Words.{Word, word_of, is_turnstile, opened, side_woken}
 use Rattle.lock_model.specs.declared.plan.Kind.TheVariants.{Sx}
@@ -115,11 +113,8 @@ take_sleepers-woken-requires-clause-out c =
     (c.chain_slot-at.ensures.place ∙ place_inside _ _ _ _ c.self.view_is c.pass.view_is c.args.l.0)
     c.pass.invariant.out c.turn.new.self.me c.turn.ensures.2
 
-pub invariant_of-pass-in-Some : goal.invariant_of-pass-in-Some
-invariant_of-pass-in-Some c =
-    let held = c.pass.inside.held in
-    let there = ap (position (holds_lock c.args.l)) (sym c.deref.ensures.value) ∙ sym c.place_held.ensures
-    ∙ c.in-Some.is in
+pub invariant_of-pass-2 : goal.invariant_of-pass-2
+invariant_of-pass-2 c =
     call_tied c.self.inside.board.shared.key c.pass.inside.seat.me c.open_word-found.new.seat.me c.args.l.0
     c.args.seen c.open_word-found.result c.in_default-Some.side
     (side_told c.self.inside.board.shared.key c.args.l.0 c.kind.result (word_of c.args.seen) c.opened.result.1
@@ -130,36 +125,15 @@ invariant_of-pass-in-Some c =
     c.pass.invariant.out c.turn.new.self.me c.turn.ensures.2
     c.take_sleepers-woken.new.seat.me c.take_sleepers-woken.result c.take_sleepers-woken.ensures.view
     c.take_sleepers-woken.ensures.out c.turn-2.new.self.me c.turn-2.ensures.2
-    c.pass.inside.who.0 held c.remove.new.self c.pass.inside.marked c.pass.inside.log c.pass.inside.finished
+    c.pass.inside.who.0 c.pass.inside.held c.leave.new.held c.pass.inside.marked c.pass.inside.log
+    c.pass.inside.finished
     (ap (λ (p : Pass Knowledge). p.finished) c.pass.view_is ∙ c.requires.own.unfinished)
     c.pass.invariant (mine _ _ _ _ c.self.view_is c.pass.view_is c.requires.own.description)
     (sleeps_inside _ _ _ _ c.self.view_is c.pass.view_is c.args.l.0 c.requires.kind)
-    (c.remove.ensures.items ∙ taken_out c.args.l held.items c.in-Some.i there)
-    (omega (arith, c.pass.invariant.room, c.remove.ensures.capacity))
+    c.leave.ensures.left (omega (arith, c.pass.invariant.room, c.leave.ensures.room))
 
-pub invariant_of-pass-in_default-place_held : goal.invariant_of-pass-in_default-place_held
-invariant_of-pass-in_default-place_held c =
-    let held = c.pass.inside.held in
-    let nowhere = ap (position (holds_lock c.args.l)) (sym c.deref.ensures.value) ∙ sym c.place_held.ensures
-    ∙ c.in_default-place_held.is in
-    call_tied c.self.inside.board.shared.key c.pass.inside.seat.me c.open_word-found.new.seat.me c.args.l.0
-    c.args.seen c.open_word-found.result c.in_default-Some.side
-    (side_told c.self.inside.board.shared.key c.args.l.0 c.kind.result (word_of c.args.seen) c.opened.result.1
-    c.in_default-Some.side c.opened.ensures.side c.in_default-Some.is-1 c.requires.opens
-    (c.kind.ensures ∙ kind_inside _ _ _ _ c.self.view_is c.pass.view_is c.args.l.0))
-    c.open_word-found.ensures.told c.if-found-seen.false c.chain_slot-at.result
-    (c.chain_slot-at.ensures.place ∙ place_inside _ _ _ _ c.self.view_is c.pass.view_is c.args.l.0)
-    c.pass.invariant.out c.turn.new.self.me c.turn.ensures.2
-    c.take_sleepers-woken.new.seat.me c.take_sleepers-woken.result c.take_sleepers-woken.ensures.view
-    c.take_sleepers-woken.ensures.out c.turn-2.new.self.me c.turn-2.ensures.2
-    c.pass.inside.who.0 held held c.pass.inside.marked c.pass.inside.log c.pass.inside.finished
-    (ap (λ (p : Pass Knowledge). p.finished) c.pass.view_is ∙ c.requires.own.unfinished)
-    c.pass.invariant (mine _ _ _ _ c.self.view_is c.pass.view_is c.requires.own.description)
-    (sleeps_inside _ _ _ _ c.self.view_is c.pass.view_is c.args.l.0 c.requires.kind)
-    (none_taken c.args.l held.items nowhere) c.pass.invariant.room
-
-pub returns-in-Some-clause-own : goal.returns-in-Some-clause-own
-returns-in-Some-clause-own c = record {
+pub returns-clause-own : goal.returns-clause-own
+returns-clause-own c = record {
   table = c.turn-2.ensures.0 ∙ c.take_sleepers-woken.ensures.own ∙ c.turn.ensures.0 ∙ c.open_word-found.ensures.own
       ∙ ap (λ (p : Pass Knowledge). p.table) c.pass.view_is ∙ c.requires.own.table;
   description = ap (λ (w : Knowledge). w.description)
@@ -177,42 +151,8 @@ returns-in-Some-clause-own c = record {
   unfinished = ap (λ (p : Pass Knowledge). p.finished) c.pass.view_is ∙ c.requires.own.unfinished;
 }
 
-pub returns-in-Some-clause-opens : goal.returns-in-Some-clause-opens
-returns-in-Some-clause-opens c =
-    subst (λ (z : Floor Description × Pass Knowledge). OpensSleepers z.0.description c.args.l.0 (word_of c.args.seen)
-    z.1.view c.turn-2.new.self.me.0) (λ i. (c.self.view_is i, c.pass.view_is i))
-    (call_opens c.self.inside.board.shared.key c.pass.inside.seat.me c.open_word-found.new.seat.me c.args.l.0
-    c.args.seen c.open_word-found.result c.in_default-Some.side
-    (side_told c.self.inside.board.shared.key c.args.l.0 c.kind.result (word_of c.args.seen) c.opened.result.1
-    c.in_default-Some.side c.opened.ensures.side c.in_default-Some.is-1 c.requires.opens
-    (c.kind.ensures ∙ kind_inside _ _ _ _ c.self.view_is c.pass.view_is c.args.l.0))
-    c.open_word-found.ensures.told c.if-found-seen.false c.chain_slot-at.result
-    (c.chain_slot-at.ensures.place ∙ place_inside _ _ _ _ c.self.view_is c.pass.view_is c.args.l.0)
-    c.pass.invariant.out c.turn.new.self.me c.turn.ensures.2
-    c.take_sleepers-woken.new.seat.me c.take_sleepers-woken.result c.take_sleepers-woken.ensures.view
-    c.take_sleepers-woken.ensures.out c.turn-2.new.self.me c.turn-2.ensures.2)
-
-pub returns-in_default-place_held-clause-own : goal.returns-in_default-place_held-clause-own
-returns-in_default-place_held-clause-own c = record {
-  table = c.turn-2.ensures.0 ∙ c.take_sleepers-woken.ensures.own ∙ c.turn.ensures.0 ∙ c.open_word-found.ensures.own
-      ∙ ap (λ (p : Pass Knowledge). p.table) c.pass.view_is ∙ c.requires.own.table;
-  description = ap (λ (w : Knowledge). w.description)
-      (call_view c.self.inside.board.shared.key c.pass.inside.seat.me c.open_word-found.new.seat.me c.args.l.0
-      c.args.seen c.open_word-found.result c.in_default-Some.side
-      (side_told c.self.inside.board.shared.key c.args.l.0 c.kind.result (word_of c.args.seen) c.opened.result.1
-      c.in_default-Some.side c.opened.ensures.side c.in_default-Some.is-1 c.requires.opens
-      (c.kind.ensures ∙ kind_inside _ _ _ _ c.self.view_is c.pass.view_is c.args.l.0))
-      c.open_word-found.ensures.told c.if-found-seen.false c.chain_slot-at.result
-      (c.chain_slot-at.ensures.place ∙ place_inside _ _ _ _ c.self.view_is c.pass.view_is c.args.l.0)
-      c.pass.invariant.out c.turn.new.self.me c.turn.ensures.2
-      c.take_sleepers-woken.new.seat.me c.take_sleepers-woken.result c.take_sleepers-woken.ensures.view
-      c.take_sleepers-woken.ensures.out c.turn-2.new.self.me c.turn-2.ensures.2)
-      ∙ ap (λ (p : Pass Knowledge). p.view.description) c.pass.view_is ∙ c.requires.own.description;
-  unfinished = ap (λ (p : Pass Knowledge). p.finished) c.pass.view_is ∙ c.requires.own.unfinished;
-}
-
-pub returns-in_default-place_held-clause-opens : goal.returns-in_default-place_held-clause-opens
-returns-in_default-place_held-clause-opens c =
+pub returns-clause-opens : goal.returns-clause-opens
+returns-clause-opens c =
     subst (λ (z : Floor Description × Pass Knowledge). OpensSleepers z.0.description c.args.l.0 (word_of c.args.seen)
     z.1.view c.turn-2.new.self.me.0) (λ i. (c.self.view_is i, c.pass.view_is i))
     (call_opens c.self.inside.board.shared.key c.pass.inside.seat.me c.open_word-found.new.seat.me c.args.l.0

@@ -1,6 +1,4 @@
-use Rattle.std.proofs.Common.{◌≡◌, ◌<◌, [], ◌∷◌, length, position, sym, ap, ◌∙◌, subst, arith}
-use Rattle.lock_model.proofs.HeldLocks.{taken_out, none_taken}
-use Rattle.lock_model.specs.Operations.{holds_lock}
+use Rattle.std.proofs.Common.{◌≡◌, ◌<◌, [], ◌∷◌, length, sym, subst, arith}
 use Rattle.lock_model.specs.Words.{word_of}
 use Rattle.lock_state.specs.Steps.{Looks, Drops}
 use Rattle.floor_table.specs.declared.description.Description.{Description}
@@ -24,22 +22,12 @@ drop_word-found-requires-clause-may c new says =
     let may_look = subst (λ (z : Floor Description × Pass Knowledge). MayMake z.0.description z.1.view (λ s. Unit {0})
     (Looks z.1.view.thread l (counts z.1.view l) ∷ [])) (λ i. (sym c.self.view_is i, sym c.pass.view_is i))
     c.requires.may_look in
-    drop_allowed c.self.inside.board.shared.key c.pass.inside.seat.me c.pass.invariant.role c.self.inside.board.shared.table_id.slots c.pass.inside.seat.id seen new l mode low says may may_look
+    drop_allowed c.self.inside.board.shared.key c.pass.inside.seat.me c.pass.invariant.role
+    c.self.inside.board.shared.table_id.slots c.pass.inside.seat.id seen new l mode low says may may_look
 
-pub invariant_of-pass-in-Some : goal.invariant_of-pass-in-Some
-invariant_of-pass-in-Some c =
-    let held = c.pass.inside.held in
-    let there = ap (position (holds_lock c.args.l)) (sym c.deref.ensures.value) ∙ sym c.place_held.ensures ∙ c.in-Some.is in
+pub invariant_of-pass-2 : goal.invariant_of-pass-2
+invariant_of-pass-2 c =
     let told = c.drop_word-found.ensures.told.0 c.if-found-seen.false in
-    tied_without c.pass.inside.who.0 c.args.l.0 held c.remove.new.self c.pass.inside.marked c.pass.inside.log
-    c.pass.inside.finished c.pass.inside.seat.me c.drop_word-found.new.seat.me c.pass.invariant told.0
-    (c.remove.ensures.items ∙ taken_out c.args.l held.items c.in-Some.i there) (omega (arith, c.pass.invariant.room, c.remove.ensures.capacity))
-
-pub invariant_of-pass-in_default : goal.invariant_of-pass-in_default
-invariant_of-pass-in_default c =
-    let held = c.pass.inside.held in
-    let nowhere = ap (position (holds_lock c.args.l)) (sym c.deref.ensures.value) ∙ sym c.place_held.ensures ∙ c.in_default.is in
-    let told = c.drop_word-found.ensures.told.0 c.if-found-seen.false in
-    tied_without c.pass.inside.who.0 c.args.l.0 held held c.pass.inside.marked c.pass.inside.log c.pass.inside.finished
-    c.pass.inside.seat.me c.drop_word-found.new.seat.me c.pass.invariant told.0
-    (none_taken c.args.l held.items nowhere) c.pass.invariant.room
+    tied_without c.pass.inside.who.0 c.args.l.0 c.pass.inside.held c.leave.new.held c.pass.inside.marked
+    c.pass.inside.log c.pass.inside.finished c.pass.inside.seat.me c.drop_word-found.new.seat.me c.pass.invariant told.0
+    c.leave.ensures.left (omega (arith, c.pass.invariant.room, c.leave.ensures.room))
