@@ -147,15 +147,28 @@ impl<'a, R: Clock> TimingGate<'a, R> {
         usize::from(t.0).saturating_add(2) == self.case.threads
     }
 
-    // All workers begin together; their clocks are read then, and behind all rounds.
+    // All workers begin together; their clocks are read then, and behind all rounds. Between these an operation pays
+    // for no more than two comparisons.
     fn at_round(&self, operation: u32) {
         if operation == 0 {
-            self.all.wait();
-            self.began.fetch_min(self.now(), Ordering::SeqCst);
+            self.begin();
         }
         if operation == self.last {
-            self.ended.fetch_max(self.now(), Ordering::SeqCst);
+            self.end();
         }
+    }
+
+    #[cold]
+    #[inline(never)]
+    fn begin(&self) {
+        self.all.wait();
+        self.began.fetch_min(self.now(), Ordering::SeqCst);
+    }
+
+    #[cold]
+    #[inline(never)]
+    fn end(&self) {
+        self.ended.fetch_max(self.now(), Ordering::SeqCst);
     }
 
     // Works for a while, before a mutex is given back.

@@ -1,8 +1,9 @@
 //! What a thread of a floor steps with.
-ghost use Rattle.std.specs.Prelude.{◌≡◌, ◌<◌, length};
+ghost use Rattle.std.specs.Prelude.{◌≡◌, ◌<◌, length, true};
 ghost use Rattle.std.specs.Vec.{vec_capacity};
 ghost use Rattle.lock_model.specs.Operations.{hold_in, without_lock};
 ghost use Rattle.lock_objects.specs.Represents.{hold_of};
+ghost use Rattle.lock_floor.specs.declared.calls.Call.TheVariants as calls;
 
 use crate::calls::Call;
 use crate::ties::Ties;
@@ -80,11 +81,14 @@ impl PassOf<Slot, View, Description, Law> {
         self.call
     }
 
-    /// Makes this the call that it is in the middle of. It is no step.
+    /// Makes this the call that it is in the middle of. It is no step. Where it is in the middle of none, and stays so,
+    /// nothing is written: the next atomic step would wait for it.
     pub fn set_call(&mut self, call: Call)
         ensures { self.new ≡ record self.old { call = call } }
     {
-        self.call = call;
+        if !(is_none(self.call) && is_none(call)) {
+            self.call = call;
+        }
     }
 
     /// The mode in which it holds the lock. `None` comes exactly where it doesn't hold it.
@@ -98,12 +102,26 @@ impl PassOf<Slot, View, Description, Law> {
     }
 }
 
-// Takes a lock that a thread releases off those that it holds.
+// Whether it is none.
+fn is_none(call: Call) -> bool
+    ensures { result ≡ true → call ≡ calls.None }
+{
+    match call {
+        Call::None => true,
+        Call::Take { .. } | Call::Try { .. } | Call::Release { .. } => false,
+    }
+}
+
+// Takes a lock that a thread releases off those that it holds. Mostly it is the last of them.
 pub(crate) fn leave(l: LockNo, held: &mut Vec<Held>)
     ensures left { held.new.items ≡ without_lock l.0 held.old.items }
     ensures room { vec_capacity held.new ≡ vec_capacity held.old }
 {
     if let Some(i) = place_held(l, held) {
-        held.remove(i);
+        if i + 1 == held.len() {
+            held.take_last();
+        } else {
+            held.remove(i);
+        }
     }
 }

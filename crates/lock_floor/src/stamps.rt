@@ -1,6 +1,6 @@
 //! Entries in the log of a thread. Each takes the next ticket by one atomic step, never waits and takes no memory. An
 //! entry that changes a priority or a table changes the value that was taken last first, and its step commits both.
-ghost use Rattle.std.specs.Prelude.{ℕ, ◌≡◌, ◌≤◌, ◌<◌, ◌+◌, ◌%◌, ◌^◌, ⊤, false, Some, [], ◌∷◌};
+ghost use Rattle.std.specs.Prelude.{ℕ, ◌≡◌, ◌≤◌, ◌<◌, ◌+◌, ◌-◌, ◌%◌, ◌^◌, ⊤, false, Some, [], ◌∷◌, ◌++◌};
 ghost use Rattle.atomic_table.specs.Table.{Allows, Me, rest};
 ghost use Rattle.lock_state.specs.Steps.{Stamps};
 ghost use Rattle.lock_state.specs.Steps.Items.{Item};
@@ -17,6 +17,7 @@ ghost use Rattle.lock_floor.specs.Views.{entry_by, stamped};
 use crate::floor::FloorOf;
 use crate::pass::Pass;
 use floor_table::{Board, Description, FloorSeat, Law, Slot, Tells, View, add, ticket_spot};
+use lock_history::Log;
 use lock_model::{Entry, Event, OfTable, ThreadNo};
 use std::marker::Brand;
 use thread_records::ThreadRec;
@@ -37,9 +38,9 @@ impl FloorOf<Slot, View, Description, Law> {
         ensures step { Makes self.now.description (Stamps pass.old.view.thread event ∷ [])
             pass.old.view pass.new.view }
     {
-        let entry = next_entry::<Brand>(&self.board, &mut pass.seat, pass.who, event);
-        pass.log.put(entry);
-        entry.ticket
+        let ticket = next_ticket::<Brand>(&self.board, &mut pass.seat, event);
+        put_entry(&mut pass.log, ticket, pass.who, event);
+        ticket
     }
 
     // Changes the value that was taken last, which is that of the event's item, as the event says, and makes the entry
@@ -60,9 +61,9 @@ impl FloorOf<Slot, View, Description, Law> {
             pass.old.view pass.new.view }
     {
         change(&self.board, &mut pass.seat, slot, event);
-        let entry = next_entry::<Brand>(&self.board, &mut pass.seat, pass.who, event);
-        pass.log.put(entry);
-        entry.ticket
+        let ticket = next_ticket::<Brand>(&self.board, &mut pass.seat, event);
+        put_entry(&mut pass.log, ticket, pass.who, event);
+        ticket
     }
 }
 
@@ -101,8 +102,8 @@ fn note(rec: &mut ThreadRec, event: Event)
     }
 }
 
-// The entry of an event with the next ticket.
-fn next_entry<J: Tells>(board: &Board, seat: &mut FloorSeat, who: ThreadNo, event: Event) -> Entry
+// The next ticket, for an event.
+fn next_ticket<J: Tells>(board: &Board, seat: &mut FloorSeat, _event: Event) -> u32
     requires own { seat.old.table_id ≡ board.now.shared.table_id }
     requires within { spot ticket_line < board.now.shared.table_id.words }
     requires may { Allows (FloorHolds board.now.shared.key) board.now.shared.table_id.slots
@@ -110,14 +111,23 @@ fn next_entry<J: Tells>(board: &Board, seat: &mut FloorSeat, who: ThreadNo, even
     requires small { (n : ℕ) (behind : Me Slot Knowledge) → J.told seat.old.me n behind
         → n < 2 ^ 32 }
     ensures own { seat.new.table_id ≡ seat.old.table_id }
-    ensures thread { result.thread ≡ who }
-    ensures event { result.event ≡ event }
-    ensures told { J.told seat.old.me result.ticket seat.new.me }
+    ensures told { J.told seat.old.me result seat.new.me }
 {
-    let ticket = add::<J>(board, seat, ticket_spot(), 1);
-    Entry {
-        ticket: ticket as u32,
+    add::<J>(board, seat, ticket_spot(), 1) as u32
+}
+
+// Makes the entry of an event that has its ticket, and puts it behind the others of a log. It isn't made before the
+// step that takes the ticket: an atomic step waits for what was written before it.
+fn put_entry(log: &mut Log, ticket: u32, who: ThreadNo, event: Event)
+    requires { 1 ≤ log.old.spare }
+    ensures { log.new ≡ record {
+      entries = log.old.entries ++ entry_by who.0 ticket event ∷ [];
+      spare = log.old.spare - 1;
+    } }
+{
+    log.put(Entry {
+        ticket,
         thread: who,
         event,
-    }
+    });
 }

@@ -1,4 +1,5 @@
-use Rattle.std.proofs.Common.{◌≤◌, [], ◌∷◌, sym, ap, ◌∙◌, subst}
+use Rattle.std.proofs.Common.{ℕ, ◌≤◌, [], ◌∷◌, sym, ap, ◌∙◌, subst}
+use Rattle.lock_model.specs.declared.event.Entry.{Entry}
 use Rattle.lock_state.specs.Steps.{Stamps}
 use Rattle.floor_table.specs.declared.description.Description.{Description}
 use Rattle.floor_table.specs.Steps.{MayMake}
@@ -6,14 +7,14 @@ use Rattle.atomic_table.specs.Table.{Me}
 use Rattle.floor_table.specs.Descriptions.{config_in}
 use Rattle.floor_table.specs.declared.slot.Slot.{Slot}
 use Rattle.floor_table.specs.Views.{Knowledge, seeing}
-use Rattle.lock_floor.specs.Views.{stamped}
-use Rattle.lock_floor.proofs.Tied.{entry_made, tied_stamped}
+use Rattle.lock_floor.specs.Views.{entry_by, stamped}
+use Rattle.lock_floor.proofs.Tied.{tied_stamped}
 use Rattle.lock_floor.specs.Floors.{Floor, Pass}
 use Rattle.lock_floor.proofs.Stamping.{stamp_allowed}
 use Rattle.lock_floor.proofs.stamps.FloorOf+Slot+View+Description+Law.stamp.Goals as goal
 
-pub next_entry-entry-requires-clause-may : goal.next_entry-entry-requires-clause-may
-next_entry-entry-requires-clause-may c =
+pub next_ticket-ticket-requires-clause-may : goal.next_ticket-ticket-requires-clause-may
+next_ticket-ticket-requires-clause-may c =
     let event = c.args.event in
     let may = subst (λ (z : Floor Description × Pass Knowledge). MayMake z.0.description z.1.view (λ s. Unit {0})
     (Stamps z.1.view.thread event ∷ [])) (λ i. (sym c.self.view_is i, sym c.pass.view_is i)) c.requires.may in
@@ -21,22 +22,22 @@ next_entry-entry-requires-clause-may c =
     stamp_allowed c.self.inside.board.shared.key c.pass.inside.seat.me event c.self.inside.board.shared.table_id.slots
     c.pass.inside.seat.id c.pass.invariant.role room c.requires.base c.requires.table may
 
-pub next_entry-entry-requires-clause-small : goal.next_entry-entry-requires-clause-small
-next_entry-entry-requires-clause-small c n behind told = told.0
+pub next_ticket-ticket-requires-clause-small : goal.next_ticket-ticket-requires-clause-small
+next_ticket-ticket-requires-clause-small c n behind told = told.0
 
 pub invariant_of-pass : goal.invariant_of-pass
 invariant_of-pass c =
     let me : Me Slot Knowledge = c.pass.inside.seat.me in
-    let behind : Me Slot Knowledge = c.next_entry-entry.new.seat.me in
+    let behind : Me Slot Knowledge = c.next_ticket-ticket.new.seat.me in
     let going = ap (λ (p : Pass Knowledge). p.finished) c.pass.view_is ∙ c.requires.own.unfinished in
-    let entry = entry_made me.0.thread c.pass.inside.who c.next_entry-entry.result c.args.event c.pass.invariant.thread
-    c.next_entry-entry.ensures.thread c.next_entry-entry.ensures.event in
-    let is = c.next_entry-entry.ensures.told.1
+    let by : ℕ → Entry = λ t. entry_by t c.next_ticket-ticket.result c.args.event in
+    let entry = ap by (sym c.pass.invariant.thread) in
+    let is = c.next_ticket-ticket.ensures.told.1
     ∙ (λ i. (
       seeing behind.0.seen
           (record (stamped (config_in c.self.inside.board.shared.key) me.0 (entry i)) { out = me.0.out }),
       c.pass.invariant.out i,
     )) in
-    tied_stamped c.pass.inside.who.0 c.pass.inside.held c.pass.inside.marked c.pass.inside.log c.put.new.self
-    c.pass.inside.finished me behind (config_in c.self.inside.board.shared.key) c.next_entry-entry.result me.0.out
-    going c.pass.invariant c.put.ensures is
+    tied_stamped c.pass.inside.who.0 c.pass.inside.held c.pass.inside.marked c.pass.inside.log c.put_entry.new.log
+    c.pass.inside.finished me behind (config_in c.self.inside.board.shared.key) (by c.pass.inside.who.0) me.0.out
+    going c.pass.invariant c.put_entry.ensures is

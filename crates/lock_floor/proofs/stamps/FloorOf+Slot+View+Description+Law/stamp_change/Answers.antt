@@ -1,5 +1,6 @@
-use Rattle.std.proofs.Common.{◌≡◌, ◌≤◌, Some, [], ◌∷◌, sym, ap, ◌∙◌, subst}
+use Rattle.std.proofs.Common.{ℕ, ◌≡◌, ◌≤◌, Some, [], ◌∷◌, sym, ap, ◌∙◌, subst}
 use Rattle.atomic_table.specs.Table.{Me, rest}
+use Rattle.lock_model.specs.declared.event.Entry.{Entry}
 use Rattle.lock_state.specs.Steps.{Stamps}
 use Rattle.lock_state.specs.Steps.Items.{Item}
 use Rattle.floor_table.specs.declared.description.Description.{Description}
@@ -9,14 +10,14 @@ use Rattle.floor_table.specs.Steps.{MayMake}
 use Rattle.floor_table.specs.Views.{Knowledge, OfThread, seeing}
 use Rattle.floor_table.specs.Descriptions.{config_in}
 use Rattle.lock_floor.specs.Views.{entry_by, stamped}
-use Rattle.lock_floor.proofs.Tied.{entry_made, tied_stamped}
+use Rattle.lock_floor.proofs.Tied.{tied_stamped}
 use Rattle.lock_floor.specs.Changes.{IsChangeOf, last_changed}
 use Rattle.lock_floor.specs.Floors.{Floor, Pass}
 use Rattle.lock_floor.proofs.Changing.{change_allowed}
 use Rattle.lock_floor.proofs.stamps.FloorOf+Slot+View+Description+Law.stamp_change.Goals as goal
 
-pub next_entry-entry-requires-clause-may : goal.next_entry-entry-requires-clause-may
-next_entry-entry-requires-clause-may c =
+pub next_ticket-ticket-requires-clause-may : goal.next_ticket-ticket-requires-clause-may
+next_ticket-ticket-requires-clause-may c =
     let event = c.args.event in
     let me = c.change.new.seat.me in
     let view : me.0 ≡ c.args.pass.now.view = c.change.ensures.view
@@ -40,19 +41,19 @@ pub invariant_of-pass : goal.invariant_of-pass
 invariant_of-pass c =
     let me : Me Slot Knowledge = c.pass.inside.seat.me in
     let mid : Me Slot Knowledge = c.change.new.seat.me in
-    let behind : Me Slot Knowledge = c.next_entry-entry.new.seat.me in
+    let behind : Me Slot Knowledge = c.next_ticket-ticket.new.seat.me in
     let going = ap (λ (p : Pass Knowledge). p.finished) c.pass.view_is ∙ c.requires.own.unfinished in
-    let entry = entry_made me.0.thread c.pass.inside.who c.next_entry-entry.result c.args.event c.pass.invariant.thread
-    c.next_entry-entry.ensures.thread c.next_entry-entry.ensures.event in
+    let by : ℕ → Entry = λ t. entry_by t c.next_ticket-ticket.result c.args.event in
+    let entry = ap by (sym c.pass.invariant.thread) in
     let view : mid.0 ≡ me.0 = c.change.ensures.view in
     let config = config_in c.self.inside.board.shared.key in
-    let is = c.next_entry-entry.ensures.told.1
+    let is = c.next_ticket-ticket.ensures.told.1
     ∙ (λ i. (
       seeing behind.0.seen
           (record (stamped config (view i)
-          (entry_by (view i).thread c.next_entry-entry.result.ticket c.args.event)) { out = mid.1 }),
+          (by (view i).thread)) { out = mid.1 }),
       mid.1,
     ))
     ∙ (λ i. (seeing behind.0.seen (record (stamped config me.0 (entry i)) { out = mid.1 }), mid.1)) in
-    tied_stamped c.pass.inside.who.0 c.pass.inside.held c.pass.inside.marked c.pass.inside.log c.put.new.self
-    c.pass.inside.finished me behind config c.next_entry-entry.result mid.1 going c.pass.invariant c.put.ensures is
+    tied_stamped c.pass.inside.who.0 c.pass.inside.held c.pass.inside.marked c.pass.inside.log c.put_entry.new.log
+    c.pass.inside.finished me behind config (by c.pass.inside.who.0) mid.1 going c.pass.invariant c.put_entry.ensures is
