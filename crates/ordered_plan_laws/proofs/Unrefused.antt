@@ -1,5 +1,5 @@
--- A legal history of an ordered plan's threads: the edges of its takes lead from the class of each lock to those of locks
--- declared behind it. So no take is refused.
+-- A legal history of an ordered plan's threads: the edges of its takes lead from the class of each lock to those of
+-- locks declared behind it. So no take is refused.
 use Rattle.std.proofs.Common.{◌≡◌, ℕ, ◌<◌, true, false, not, ◌&&◌, eqb, List, [], ◌∷◌, Option, Some, None, refl, sym, inl, inr, subst}
 use Rattle.std.proofs.lemmas.Bool.{or_from, and_parts, eqb-true}
 use Rattle.lock_model.specs.Config.{Config}

@@ -104,8 +104,8 @@ pub fn try_write<R: Wait>(floor: &Floor, rt: &R, pass: &mut Pass, l: LockNo) -> 
 }
 
 /// Begins to take a reader-writer lock for reading, and never waits: `Done` comes where the first exchange gained it,
-/// which a thread makes that holds nothing, or a second one, where the word that it found admits a reader. Else the take
-/// is under way, and is gone on with by `go_on_taking`.
+/// which a thread makes that holds nothing, or a second one, where the word that it found admits a reader. Else the
+/// take is under way, and is gone on with by `go_on_taking`.
 pub fn begin_read(floor: &Floor, pass: &mut Pass, l: LockNo) -> Next
     requires ready { IsReady floor.now pass.old }
     requires may { MayAcquire floor.now.description l.0 pass.old.view }
